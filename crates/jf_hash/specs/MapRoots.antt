@@ -1,0 +1,61 @@
+-- The root of a map, by its parts.
+use Rattle.std.specs.Prelude.{◌≡◌, ℕ, suc, ◌+◌, ◌<◌, ◌≤◌, Bool, true, false, not, cond, List, [], ◌∷◌, map, filter, length}
+use Rattle.std.proofs.Common.{refl, sym, ap, ap₂, ◌∙◌, arith}
+use Rattle.std.specs.FinMap as fin
+use Rattle.std.specs.FinMap.{entries, put}
+use Rattle.std.specs.Cmp.Lexicographic.{nat_list_cmp_total}
+use Rattle.jf_path.specs.Keys.{bit, key_cmp}
+use Rattle.jf_hash.specs.Hashes.{E, L, N, V}
+use Rattle.jf_hash.specs.Maps.{Map, same_map}
+use Rattle.jf_hash.specs.Roots.{root, leaf_of, leaves_root, leaves_root-none, leaves_root-one, leaves_root-split, zeros, ones}
+
+-- of entries of a map, with values
+unfoldable pub part_root : ℕ → List (List ℕ × List ℕ) → List ℕ
+part_root d es = leaves_root d (map leaf_of es)
+
+pub root-part_root : (m : Map) → root m ≡ part_root 0 (entries m)
+unfolding root part_root
+root-part_root m = refl
+
+length-leaves : (es : List (List ℕ × List ℕ)) → length (map leaf_of es) ≡ length es
+length-leaves [] = refl
+length-leaves (e ∷ es) = ap suc (length-leaves es)
+
+filter-leaves : (p : List ℕ → Bool) (es : List (List ℕ × List ℕ)) → filter (λ e. p e.0) (map leaf_of es) ≡ map leaf_of (filter (λ e. p e.0) es)
+filter-leaves p [] = refl
+filter-leaves p (e ∷ es) =
+    elim (p e.0) as (λ b. cond b (leaf_of e ∷ filter (λ e. p e.0) (map leaf_of es)) (filter (λ e. p e.0) (map leaf_of es)) ≡ map leaf_of (cond b (e ∷ filter (λ e. p e.0) es) (filter (λ e. p e.0) es))) [
+      | true ↦ ap (λ t. leaf_of e ∷ t) (filter-leaves p es)
+      | false ↦ filter-leaves p es
+    ]
+
+pub part_root-none : (d : ℕ) → part_root d [] ≡ E
+unfolding part_root
+part_root-none d = leaves_root-none d
+
+pub part_root-one : (d : ℕ) (k v : List ℕ) → part_root d ((k, v) ∷ []) ≡ L k (V v)
+unfolding part_root
+part_root-one d k v = leaves_root-one d (k, V v)
+
+pub part_root-split : (d : ℕ) (es : List (List ℕ × List ℕ)) → d < 256 → 2 ≤ length es → part_root d es ≡ N (part_root (d + 1) (zeros d es)) (part_root (d + 1) (ones d es))
+unfolding part_root
+part_root-split d es lt two =
+    leaves_root-split d (map leaf_of es) lt (rw (length-leaves es) two)
+    ∙ ap₂ (λ l r. N (leaves_root (d + 1) l) (leaves_root (d + 1) r)) (filter-leaves (λ k. not (bit k d)) es) (filter-leaves (λ k. bit k d) es)
+
+-- maps that answer alike have one root
+pub same_root : (m n : Map) → ((q : List ℕ) → fin.get m q ≡ fin.get n q) → root m ≡ root n
+same_root m n h = ap root (same_map m n h)
+
+no_entry : (es : List (List ℕ × List ℕ)) → length es ≡ 0 → es ≡ []
+no_entry [] e = refl
+no_entry (x ∷ es) e = absurd (omega arith)
+
+pub entries-empty : entries (fin.empty {X = List ℕ} {R = key_cmp}) ≡ []
+entries-empty = no_entry _ (sym (fin.len-entries fin.empty) ∙ fin.len-empty key_cmp (List ℕ))
+
+pub root-empty : root fin.empty ≡ E
+root-empty = root-part_root fin.empty ∙ ap (part_root 0) entries-empty ∙ part_root-none 0
+
+pub root-one : (k v : List ℕ) → root (fin.insert fin.empty k v) ≡ L k (V v)
+root-one k v = root-part_root _ ∙ ap (part_root 0) (fin.entries-insert nat_list_cmp_total fin.empty k v ∙ ap (put key_cmp k v) entries-empty) ∙ part_root-one 0 k v

@@ -1,0 +1,73 @@
+// The root of a map by the recursion that defines it.
+ghost use Rattle.std.specs.Prelude.{◌≡◌, ℕ, ◌+◌, ◌<◌, ◌≤◌, length, T, slice_index};
+ghost use Rattle.std.specs.List.{AllByRecursion};
+ghost use Rattle.std.specs.FinMap.{is_sorted};
+ghost use Rattle.jf_path.specs.Keys.{bit, key_cmp, IsKey};
+ghost use Rattle.jf_hash.specs.Roots.{leaves_root};
+ghost use Rattle.jf_hash.specs.Parts.{IsPart, IsFirstOne};
+
+use crate::tagged::{Hash, empty, inner, leaf};
+use jf_path::bit;
+
+/// Where the entries whose bit `depth` is 1 begin.
+fn first_one(entries: &[(Hash, Hash)], depth: usize) -> usize
+    requires { depth < 256 }
+    ensures { IsFirstOne depth result entries.now }
+{
+    for (i, entry) in entries.iter().enumerate() {
+        if bit(&entry.0, depth) {
+            return i;
+        }
+    }
+    entries.len()
+}
+
+// The root of a part of a map, of whose keys the first `depth` bits agree.
+fn part_root(entries: &[(Hash, Hash)], depth: usize) -> Hash
+    requires part { IsPart depth entries.now }
+    ensures { result ≡ leaves_root depth entries.now }
+{
+    match entries {
+        [] => empty(),
+        [(key, value_hash)] => leaf(key, value_hash),
+        _ => {
+            let ones = first_one(entries, depth);
+            let left = part_root(&entries[..ones], depth + 1);
+            let right = part_root(&entries[ones..], depth + 1);
+            inner(&left, &right)
+        }
+    }
+}
+
+// What the type of bytes says of them.
+fn know_bytes(bytes: &[u8])
+    requires { (i : ℕ) → slice_index bytes.now i < 256 }
+    ensures { (i : ℕ) → slice_index bytes.now i < 256 }
+{
+    let _ = bytes;
+}
+
+// What the type of a key says of it.
+fn know_key(key: &Hash)
+    ensures { IsKey key.now }
+{
+    know_bytes(key);
+}
+
+// What the type of entries says of them.
+fn know_keys(entries: &[(Hash, Hash)])
+    ensures { AllByRecursion (λ e. IsKey e.0) entries.now }
+{
+    for entry in entries {
+        know_key(&entry.0);
+    }
+}
+
+/// The root of entries, which are keys and hashes of values, and whose keys rise strictly.
+pub fn plain_root(entries: &[(Hash, Hash)]) -> Hash
+    requires { T (is_sorted key_cmp entries.now) }
+    ensures { result ≡ leaves_root 0 entries.now }
+{
+    know_keys(entries);
+    part_root(entries, 0)
+}

@@ -1,0 +1,58 @@
+// The tagged hashes.
+ghost use Rattle.std.specs.Prelude.{◌≡◌};
+ghost use Rattle.jf_hash.specs.Hashes.{E, L, N, V, K};
+
+use sha2::{Digest, Sha256};
+
+/// A SHA-256 hash (FIPS 180-4): 32 bytes.
+pub type Hash = [u8; 32];
+
+/// The hash of no entry.
+#[tactic(auto, unfolding(crate::specs::Hashes::E))]
+pub fn empty() -> Hash
+    ensures { result ≡ E }
+{
+    Sha256::digest(&[0u8])
+}
+
+/// The hash of a leaf.
+#[tactic(auto, unfolding(crate::specs::Hashes::L))]
+pub fn leaf(key: &Hash, value_hash: &Hash) -> Hash
+    ensures { result ≡ L key.now value_hash.now }
+{
+    let mut hasher = Sha256::new_with_prefix(&[1u8]);
+    hasher.update(key);
+    hasher.update(value_hash);
+    hasher.finalize()
+}
+
+/// The hash of a pair of parts.
+#[tactic(auto, unfolding(crate::specs::Hashes::N))]
+pub fn inner(left: &Hash, right: &Hash) -> Hash
+    ensures { result ≡ N left.now right.now }
+{
+    let mut hasher = Sha256::new_with_prefix(&[2u8]);
+    hasher.update(left);
+    hasher.update(right);
+    hasher.finalize()
+}
+
+/// The hash of a value.
+#[tactic(auto, unfolding(crate::specs::Hashes::V))]
+pub fn value(bytes: &[u8]) -> Hash
+    ensures { result ≡ V bytes.now }
+{
+    let mut hasher = Sha256::new_with_prefix(&[3u8]);
+    hasher.update(bytes);
+    hasher.finalize()
+}
+
+/// The key of a name.
+#[tactic(auto, unfolding(crate::specs::Hashes::K))]
+pub fn key_of(name: &[u8]) -> Hash
+    ensures { result ≡ K name.now }
+{
+    let mut hasher = Sha256::new_with_prefix(&[4u8]);
+    hasher.update(name);
+    hasher.finalize()
+}
