@@ -1,12 +1,14 @@
 -- Maps from keys to values, batches, and what a batch makes of a map.
-use Rattle.std.specs.Prelude.{◌≡◌, ℕ, Bool, cond, List, [], ◌∷◌, Option, Some, None}
+use Rattle.std.specs.Prelude.{◌≡◌, ℕ, Bool, cond, T, List, [], ◌∷◌, Option, Some, None, IfSome}
 use Rattle.std.proofs.Common.{refl, ap, ◌∙◌}
 use Rattle.std.specs.FinMap as map
-use Rattle.std.specs.FinMap.{FinMap}
+use Rattle.std.specs.FinMap.{FinMap, entries, is_sorted}
+use Rattle.std.specs.List.{AllByRecursion}
 use Rattle.std.specs.Ordering.{eq_by_cmp}
 use Rattle.std.specs.Cmp.Lexicographic.{nat_list_cmp_total}
-use Rattle.jf_path.specs.Keys.{key_cmp}
+use Rattle.jf_path.specs.Keys.{key_cmp, IsKey, IsBytes}
 
+-- a map from keys to values
 abbrev pub Map : Type 0
 Map = FinMap key_cmp (List ℕ)
 
@@ -14,10 +16,22 @@ Map = FinMap key_cmp (List ℕ)
 abbrev pub Batch : Type 0
 Batch = List (List ℕ × Option (List ℕ))
 
+-- each key has 32 bytes, each value is bytes
+abbrev pub IsMap : Map → Type 0
+IsMap m = AllByRecursion (λ e. IsKey e.0 × IsBytes e.1) (entries m)
+
+-- keys of 32 bytes, rising strictly, and values that are bytes
+pub record IsBatch (b : Batch) : Type 0 where
+  pub sorted : T (is_sorted key_cmp b)
+  pub keys : AllByRecursion (λ e. IsKey e.0) b
+  pub values : AllByRecursion (λ e. IfSome e.1 IsBytes) b
+
+-- one word of a batch
 abbrev pub change : List ℕ → Option (List ℕ) → Map → Map
 change key (Some value) m = map.insert m key value
 change key None m = map.remove m key
 
+-- what a batch makes of a map: its keys have the values it gives or are absent, and every other key is as before
 unfoldable pub apply : Map → Batch → Map
 apply m [] = m
 apply m (e ∷ es) = apply (change e.0 e.1 m) es
