@@ -1,0 +1,11 @@
+//! The device: two sides, A and B, each a file of at most 2^62 bytes, with what each call leaves
+//! on them, what a crash now may leave, and what a crash since some moment might have left.
+#![tactic(auto)]
+
+mod disk;
+mod laws;
+mod side;
+
+pub use disk::{Disk, DiskFailed};
+pub use laws::{know_bounded, know_counts, know_dated, know_readable};
+pub use side::Side;
