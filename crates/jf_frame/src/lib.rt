@@ -1,0 +1,10 @@
+//! One gated file of records on a side of the disk.
+#![tactic(auto)]
+
+mod fault;
+mod framed;
+mod log;
+
+pub use fault::{DiskFault, FrameFault};
+pub use framed::Framed;
+pub use log::Log;
