@@ -1,0 +1,96 @@
+-- The grammar of a script.
+use Rattle.std.specs.Prelude.{ℕ, if◌then◌else◌, ◌==◌, List, [], ◌∷◌, Option, Some, None, option_map, option_and_then, codes}
+use Rattle.jf_script.specs.Words.{words, is_word, number, number_from, name_of, value_of}
+use Rattle.jf_script.specs.declared.command.Base.{Base}
+use Rattle.jf_script.specs.declared.command.Base.TheVariants as base
+use Rattle.jf_script.specs.declared.command.Command.{Command}
+use Rattle.jf_script.specs.declared.command.Command.TheVariants as command
+
+abbrev pub both : {X Y Z : Type 0} → (X → Y → Z) → Option X → Option Y → Option Z
+both f (Some x) (Some y) = Some (f x y)
+both f (Some x) None = None
+both f None y = None
+
+abbrev pub numbered : ℕ → List ℕ → Option Base
+numbered letter digits =
+    if letter == 118 then option_map (λ n. base.Version n) (number digits)
+    else if letter == 102 then option_map (λ n. base.Fork n) (number digits)
+    else if letter == 112 then option_map (λ n. base.Place n) (number digits)
+    else None
+
+-- `head`, or `v`, `f` or `p` and a number
+unfoldable pub base_of : List ℕ → Option Base
+base_of [] = None
+base_of (letter ∷ digits) = if is_word (letter ∷ digits) (codes "head") then Some base.Head else numbered letter digits
+
+abbrev pub no_fork : Base → Option Base
+no_fork base.Head = Some base.Head
+no_fork (base.Version n) = Some (base.Version n)
+no_fork (base.Fork n) = None
+no_fork (base.Place n) = Some (base.Place n)
+
+abbrev pub head_or_fork : Base → Option Base
+head_or_fork base.Head = Some base.Head
+head_or_fork (base.Version n) = None
+head_or_fork (base.Fork n) = Some (base.Fork n)
+head_or_fork (base.Place n) = None
+
+abbrev pub fork_id : Base → Option ℕ
+fork_id base.Head = None
+fork_id (base.Version n) = None
+fork_id (base.Fork n) = Some n
+fork_id (base.Place n) = None
+
+-- a base that is no fork
+abbrev pub stored_of : List ℕ → Option Base
+stored_of w = option_and_then no_fork (base_of w)
+
+abbrev pub parent_of : List ℕ → Option Base
+parent_of w = option_and_then head_or_fork (base_of w)
+
+abbrev pub id_of : List ℕ → Option ℕ
+id_of w = option_and_then fork_id (base_of w)
+
+abbrev pub one_word : List ℕ → Option Command
+one_word w =
+    if is_word w (codes "commit") then Some command.Commit
+    else if is_word w (codes "compact") then Some command.Compact
+    else if is_word w (codes "status") then Some command.Status
+    else None
+
+abbrev pub two_words : List ℕ → List ℕ → Option Command
+two_words w a =
+    if is_word w (codes "del") then option_map (λ name. command.Del name) (name_of a)
+    else if is_word w (codes "fork") then option_map (λ on. command.Fork on) (parent_of a)
+    else if is_word w (codes "land") then option_map (λ id. command.Land id) (id_of a)
+    else if is_word w (codes "drop") then option_map (λ id. command.Drop id) (id_of a)
+    else if is_word w (codes "root") then option_map (λ b. command.Root b) (base_of a)
+    else if is_word w (codes "count") then option_map (λ b. command.Count b) (stored_of a)
+    else if is_word w (codes "pin") then option_map (λ n. command.Pin n) (number a)
+    else if is_word w (codes "unpin") then option_map (λ n. command.Unpin n) (number a)
+    else if is_word w (codes "prune") then option_map (λ n. command.Prune n) (number a)
+    else None
+
+abbrev pub three_words : List ℕ → List ℕ → List ℕ → Option Command
+three_words w a b =
+    if is_word w (codes "put") then both (λ name value. command.Put name value) (name_of a) (value_of b)
+    else if is_word w (codes "get") then both (λ on name. command.Get on name) (base_of a) (name_of b)
+    else if is_word w (codes "prove") then both (λ on name. command.Prove on name) (stored_of a) (name_of b)
+    else if is_word w (codes "nth") then both (λ on place. command.Nth on place) (stored_of a) (number b)
+    else None
+
+abbrev pub four_words : List ℕ → List ℕ → List ℕ → List ℕ → Option Command
+four_words w a b c =
+    if is_word w (codes "chunk") then option_and_then (λ on. both (λ start count. command.Chunk on start count) (number b) (number_from 1 1000 c)) (stored_of a) else None
+
+abbrev pub command_of_words : List (List ℕ) → Option Command
+command_of_words [] = None
+command_of_words (w ∷ []) = one_word w
+command_of_words (w ∷ a ∷ []) = two_words w a
+command_of_words (w ∷ a ∷ b ∷ []) = three_words w a b
+command_of_words (w ∷ a ∷ b ∷ c ∷ []) = four_words w a b c
+command_of_words (w ∷ a ∷ b ∷ c ∷ d ∷ ws) = None
+
+-- the command of a line, if it is in the grammar
+unfoldable pub command_of : List ℕ → Option Command
+command_of line = command_of_words (words line)

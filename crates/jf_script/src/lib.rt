@@ -1,0 +1,14 @@
+//! The text of a script: lines as commands, and replies as lines. `specs/` has the grammar.
+#![tactic(auto)]
+
+mod command;
+mod fault;
+mod reading;
+mod reply;
+mod writing;
+
+pub use command::{Base, Command};
+pub use fault::LineFault;
+pub use reading::read_line;
+pub use reply::{Refusal, Reply};
+pub use writing::write_reply;

@@ -1,0 +1,87 @@
+// Replies.
+use jf_path::Bytes;
+
+/// Why a command is refused.
+#[derive(Clone, Copy, Debug, PartialEq, Eq)]
+pub enum Refusal {
+    Syntax,
+    Long,
+    Pending,
+    Unknown,
+    Gone,
+    Keys(u64),
+    Future(u64),
+    Retired(u64),
+    PinsFull,
+    NoPin,
+    ForksFull,
+    Range(u64),
+    Last,
+}
+
+/// The reply to a line. Of `Proof` and `Chunk` it is the first line of a block.
+#[derive(Debug, Drop)]
+pub enum Reply {
+    Pending {
+        count: u64,
+    },
+    Commit {
+        version: u64,
+        root: [u8; 32],
+    },
+    Fork {
+        id: u64,
+        root: [u8; 32],
+    },
+    Land {
+        version: u64,
+        root: [u8; 32],
+    },
+    Drop {
+        count: u64,
+    },
+    Value {
+        value: Option<Bytes>,
+    },
+    Root {
+        root: [u8; 32],
+    },
+    Proof {
+        siblings: u64,
+    },
+    Chunk {
+        entries: u64,
+        depth: u64,
+        siblings: u64,
+    },
+    Count {
+        count: u64,
+    },
+    Nth {
+        key: [u8; 32],
+        value: Bytes,
+    },
+    Pin {
+        place: u64,
+    },
+    Unpin {
+        version: u64,
+    },
+    Prune {
+        bound: u64,
+        floor: u64,
+    },
+    Compact {
+        generation: u64,
+    },
+    Status {
+        base: u64,
+        floor: u64,
+        retired: u64,
+        head: u64,
+        kept: u64,
+        forks: u64,
+        generation: u64,
+    },
+    No(Refusal),
+}
