@@ -1,0 +1,76 @@
+-- What a line is answered.
+use Rattle.std.specs.Prelude.{ℕ, ◌+◌, Bool, true, false, cond, if◌then◌else◌, List, [], length, Option, Some, None}
+use Rattle.std.specs.FinMap.{put}
+use Rattle.jf_path.specs.Keys.{key_cmp}
+use Rattle.jf_hash.specs.Hashes.{K}
+use Rattle.jf_hash.specs.Maps.{apply}
+use Rattle.jf_hash.specs.Roots.{root}
+use Rattle.jf_model.specs.Versions.{newest}
+use Rattle.jf_model.specs.States.{State}
+use Rattle.jf_model.specs.Entries.{after}
+use Rattle.jf_model.specs.declared.entries.Landing.TheVariants as landing
+use Rattle.jf_model.specs.declared.entries.Entry.{Entry}
+use Rattle.jf_model.specs.declared.entries.Entry.TheVariants as entry
+use Rattle.jf_script.specs.Words.{is_long}
+use Rattle.jf_script.specs.Commands.{command_of}
+use Rattle.jf_script.specs.declared.command.Command.{Command}
+use Rattle.jf_script.specs.declared.command.Command.TheVariants as command
+use Rattle.jf_script.specs.declared.reply.Refusal.TheVariants as refusal
+use Rattle.jf_script.specs.declared.reply.Reply.{Reply}
+use Rattle.jf_script.specs.declared.reply.Reply.TheVariants as reply
+use Rattle.jf_answers.specs.Own.{Own, with_pending}
+use Rattle.jf_answers.specs.Refusals.{is_built, refused_by}
+
+-- the reply, the lines of its block, an entry or none, and what follows
+pub record Answer : Type 0 where
+  pub reply : Reply
+  pub block : List ℕ
+  pub entry : Option Entry
+  pub state : State
+  pub own : Own
+
+-- a reply that changes the own part alone
+abbrev pub replied : Reply → State → Own → Answer
+replied r s own = record { reply = r; block = []; entry = None; state = s; own = own }
+
+-- a reply with its entry, whose moment means nothing here
+abbrev pub entered : Reply → Entry → State → Own → Answer
+entered r e s own = record { reply = r; block = []; entry = Some e; state = after e s; own = own }
+
+-- a line that is no command, or none that is built
+abbrev pub not_read : State → Own → Answer
+not_read s own = replied (reply.No refusal.Syntax) s own
+
+-- ---- done commands
+
+-- the pending batch with a value, or none, at the key of a name
+abbrev pub changed : List ℕ → Option (List ℕ) → State → Own → Answer
+changed name value s own =
+    let batch = put key_cmp (K name) value own.pending in
+    replied (reply.Pending (length batch)) s (with_pending batch own)
+
+-- the pending batch is landed
+abbrev pub committed : State → Own → Answer
+committed s own =
+    let r = root (apply (newest s.all) own.pending) in
+    entered (reply.Commit (s.all.head + 1) r) (entry.Landed own.number (s.all.head + 1) (landing.Direct own.pending) r 0) s (with_pending [] own)
+
+-- what a command is answered that nothing refuses
+abbrev pub done : Command → State → Own → Answer
+done (command.Put name value) s own = changed name (Some value) s own
+done command.Commit s own = committed s own
+done (command.Root on) s own = replied (reply.Root (root (newest s.all))) s own
+done c s own = not_read s own
+
+-- the first refusal, which changes nothing, or else what the command does
+abbrev pub answer_command : State → Own → Command → Answer
+answer_command s own c = elim (refused_by s own c) [ Some why ↦ replied (reply.No why) s own | None ↦ done c s own ]
+
+-- a command that isn't built is answered as a line outside the grammar
+abbrev pub answer_to : Option Command → State → Own → Answer
+answer_to None s own = not_read s own
+answer_to (Some c) s own = if is_built c then answer_command s own c else not_read s own
+
+-- a line of more than 8,500 bytes is outside the grammar too
+unfoldable pub answer : State → Own → List ℕ → Answer
+answer s own line = if is_long line then not_read s own else answer_to (command_of line) s own

@@ -1,0 +1,54 @@
+-- What lines are answered, one behind another.
+use Rattle.std.specs.Prelude.{◌≡◌, ℕ, List, [], ◌∷◌, ◌++◌, map, flat_map, option_to_list}
+use Rattle.std.specs.List.{concat}
+use Rattle.std.proofs.Common.{refl, ap}
+use Rattle.jf_model.specs.States.{State}
+use Rattle.jf_model.specs.declared.entries.Entry.{Entry}
+use Rattle.jf_script.specs.Replies.{reply_text}
+use Rattle.jf_answers.specs.Own.{Own, begun}
+use Rattle.jf_answers.specs.Answers.{Answer, answer}
+
+-- the answers, and what follows
+pub record Run : Type 0 where
+  pub answers : List Answer
+  pub state : State
+  pub own : Own
+
+unfoldable pub answers_from : State → Own → List (List ℕ) → Run
+answers_from s own [] = record { answers = []; state = s; own = own }
+answers_from s own (line ∷ ls) =
+    let a = answer s own line in
+    let r = answers_from a.state a.own ls in
+    record { answers = a ∷ r.answers; state = r.state; own = r.own }
+
+-- of a session by itself
+abbrev pub answers : State → List (List ℕ) → Run
+answers s ls = answers_from s (begun 0) ls
+
+-- the reply's line, with a number, and its block
+abbrev pub answer_text : ℕ → Answer → List ℕ
+answer_text n a = reply_text n a.reply ++ a.block
+
+-- each with the number of entries so far
+abbrev pub texts_of : Run → List (List ℕ)
+texts_of r = map (λ a. answer_text a.state.count a) r.answers
+
+abbrev pub text_of : Run → List ℕ
+text_of r = concat (texts_of r)
+
+abbrev pub entries_of : Run → List Entry
+entries_of r = flat_map (λ a. option_to_list a.entry) r.answers
+
+-- ---- laws
+
+abbrev pub followed_by : Run → Run → Run
+followed_by r q = record { answers = r.answers ++ q.answers; state = q.state; own = q.own }
+
+abbrev pub with_first : Answer → Run → Run
+with_first a r = record { answers = a ∷ r.answers; state = r.state; own = r.own }
+
+-- lines behind lines
+pub answers_from-append : (s : State) (own : Own) (ls ms : List (List ℕ)) → answers_from s own (ls ++ ms) ≡ followed_by (answers_from s own ls) (answers_from (answers_from s own ls).state (answers_from s own ls).own ms)
+unfolding answers_from
+answers_from-append s own [] ms = refl
+answers_from-append s own (line ∷ ls) ms = ap (with_first (answer s own line)) (answers_from-append (answer s own line).state (answer s own line).own ls ms)
