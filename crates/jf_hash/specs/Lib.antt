@@ -4,3 +4,4 @@ pub mod Parts
 pub mod Roots
 pub mod MapRoots
 pub mod KeyFacts
+pub mod Codes

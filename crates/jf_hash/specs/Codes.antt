@@ -1,0 +1,14 @@
+-- The codes of maps and batches, by which a value that holds them is stored.
+use Rattle.std.specs.Prelude.{ℕ, List}
+use Rattle.std.specs.Coded.{Coded, coded×, coded_list, coded_option, coded_ℕ}
+use Rattle.std.specs.FinMap as map
+use Rattle.jf_hash.specs.Maps.{Map, Batch}
+
+abbrev pub bytes_code : Coded (List ℕ)
+bytes_code = coded_list coded_ℕ
+
+abbrev pub map_code : Coded Map
+map_code = map.code bytes_code bytes_code
+
+abbrev pub batch_code : Coded Batch
+batch_code = coded_list (coded× bytes_code (coded_option bytes_code))
