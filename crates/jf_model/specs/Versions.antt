@@ -1,5 +1,5 @@
 -- What the files of a store stand for.
-use Rattle.std.specs.Prelude.{◌≡◌, ℕ, ◌+◌, ◌-◌, ◌≤◌, List, [], ◌∷◌, map, take, length, slice_index_or}
+use Rattle.std.specs.Prelude.{◌≡◌, ℕ, ◌+◌, ◌-◌, ◌≤◌, List, [], ◌∷◌, map, take, drop, length, slice_index_or}
 use Rattle.std.specs.List.{AllByRecursion}
 use Rattle.std.specs.FinMap as fin
 use Rattle.jf_path.specs.Keys.{IsKey}
@@ -45,6 +45,10 @@ abbrev pub landed : Batch → Versions → Versions
 landed b v =
     let m = apply (newest v) b in
     record { base = v.base; floor = v.floor; head = v.head + 1; roots = root m ∷ v.roots; maps = m ∷ v.maps }
+
+-- without the newest version
+abbrev pub unlanded : Versions → Versions
+unlanded v = record { base = v.base; floor = v.floor; head = v.head - 1; roots = drop 1 v.roots; maps = drop 1 v.maps }
 
 -- a version for each batch, in turn
 abbrev pub land_all : List Batch → Versions → Versions
