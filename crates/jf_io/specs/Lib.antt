@@ -1,0 +1,5 @@
+pub mod Calls
+pub mod MemSink
+pub mod MemSource
+pub mod Sink
+pub mod StdSource

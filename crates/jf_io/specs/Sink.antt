@@ -1,0 +1,10 @@
+-- What a sink has taken where it didn't take all.
+use Rattle.std.specs.Prelude.{◌≡◌, ℕ, ◌<◌, List, ◌++◌, length, Option, option_map}
+
+-- a front of these bytes, and not all of them, was appended to a text, where it is told
+pub record IsCutShort (old new : Option (List ℕ)) (bytes : List ℕ) : Type 0 where
+  pub front : List ℕ
+  pub missing : List ℕ
+  pub whole : front ++ missing ≡ bytes
+  pub is_short : 0 < length missing
+  pub appended : new ≡ option_map (λ t. t ++ front) old

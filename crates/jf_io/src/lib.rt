@@ -1,0 +1,20 @@
+//! Where input comes from and where output goes: sources and sinks that count their faults, in memory and over std's readers and writers.
+#![tactic(auto)]
+
+mod attempts;
+mod calls;
+mod failed;
+mod mem_sink;
+mod mem_source;
+mod sink;
+mod source;
+mod std_sink;
+mod std_source;
+
+pub use failed::IoFailed;
+pub use mem_sink::MemSink;
+pub use mem_source::MemSource;
+pub use sink::{Sink, put_all};
+pub use source::Source;
+pub use std_sink::StdSink;
+pub use std_source::StdSource;

@@ -1,0 +1,140 @@
+// A sink that keeps its text in memory.
+ghost use Rattle.std.specs.Prelude.{◌≡◌, ◌⊎◌, ◌↔◌, ◌+◌, ◌-◌, ◌<◌, ◌≤◌, ◌^◌, [], ◌++◌, length, take, Some, IfOk, OnErr, IsErr, IsTrue, option_map};
+ghost use Rattle.jf_io.specs.MemSink.{Output, FailsNextPut, next_put_amount, after_put, after_failed_put};
+
+use crate::calls::Calls;
+use crate::failed::IoFailed;
+use crate::sink::Sink;
+use jf_path::Memory;
+use std::alloc::Global;
+use std::marker::Model;
+
+/// A sink that keeps its text in memory, takes a piece a call, and fails where it is told to or its room is used up.
+#[derive(Debug, Drop)]
+pub struct MemSink {
+    text: Vec<u8>,
+    room: u64,
+    piece: usize,
+    calls: Calls,
+}
+
+impl Model for MemSink {
+    ghost use Rattle.std.specs.Prelude.{◌+◌, ◌<◌, ◌≤◌, vec_len, vec_capacity};
+    ghost use Rattle.jf_io.specs.MemSink.{Output};
+
+    ghost Value = { Output };
+
+    ghost view = { λ s. record { text = s.text.items; room = s.room; piece = s.piece; calls = s.calls } };
+
+    ghost invariant = { λ s. (vec_len s.text + s.room ≤ vec_capacity s.text) × (0 < s.piece) };
+}
+
+impl MemSink {
+    /// A sink without text that has room for `room` bytes and takes at most `piece` of them a call. The calls to `put`
+    /// whose numbers, from 0, are listed in `failing` fail. From call number `u64::MAX` on each call has that number.
+    ///
+    /// All memory is taken here. `failing` is dropped where it is wanting.
+    pub fn new(alloc: Global, piece: usize, room: u64, failing: Vec<u64>) -> Result<MemSink, Memory>
+        requires { 0 < piece }
+        ensures { IfOk result (λ s. s ≡ record { text = []; room = room; piece = piece; calls = record { made = 0; failing = failing.items; faults = 0 } }) }
+    {
+        Ok(MemSink {
+            text: Vec::with_capacity(alloc, room as usize)?,
+            room,
+            piece,
+            calls: Calls::new(failing),
+        })
+    }
+
+    /// The text so far.
+    pub fn text(&self) -> &[u8]
+        ensures { result.now ≡ self.now.text }
+    {
+        &self.text
+    }
+
+    // Whether the next call fails.
+    fn is_next_failing(&self) -> bool
+        ensures { IsTrue result ↔ FailsNextPut self.now }
+    {
+        self.calls.is_next_listed() || self.room == 0
+    }
+}
+
+impl Sink for MemSink {
+    ghost text = { λ s. Some s.text };
+
+    ghost faults = { λ s. s.calls.faults };
+
+    fn put(&mut self, bytes: &[u8]) -> Result<usize, IoFailed>
+        requires { 0 < length bytes.now }
+
+        // What each sink does.
+        ensures count { IfOk result (λ n. (0 < n) × (n ≤ length bytes.now)) }
+        ensures text { IfOk result (λ n. Some self.new.text ≡ option_map (λ t. t ++ take n bytes.now) (Some self.old.text)) }
+        ensures same { OnErr result (Some self.new.text ≡ Some self.old.text) }
+        ensures grows { self.old.calls.faults ≤ self.new.calls.faults }
+        ensures cause { IsErr result → (self.old.calls.faults < self.new.calls.faults) ⊎ (self.old.calls.faults ≡ 2 ^ 64 - 1) }
+
+        // What this one does.
+        ensures fails { IsErr result ↔ FailsNextPut self.old }
+        ensures amount { IfOk result (λ n. n ≡ next_put_amount self.old bytes.now) }
+        ensures ok { IfOk result (λ n. self.new ≡ after_put self.old n bytes.now) }
+        ensures err { OnErr result (self.new ≡ after_failed_put self.old) }
+    {
+        if self.is_next_failing() {
+            return Err(self.calls.fail());
+        }
+        let count = bytes.len().min(self.piece.min(self.room as usize));
+        // The room is reserved, so this takes no memory.
+        let _ = self.text.extend_from_slice(&bytes[..count]);
+        self.room -= count as u64;
+        self.calls.succeed();
+        Ok(count)
+    }
+
+    fn faults(&self) -> u64 {
+        self.calls.faults()
+    }
+}
+
+#[cfg(test)]
+mod tests {
+    use super::*;
+    use crate::sink::put_all;
+    use std::test::Fail;
+
+    #[test]
+    fn takes_pieces_until_the_room_is_used_up(rt: HostRuntime) -> Result<(), Fail> {
+        let failing = [1].to_vec(rt.alloc())?;
+        let mut sink = MemSink::new(rt.alloc(), 3, 5, failing)?;
+        for (bytes, want, text, faults) in [
+            (b"abcd".as_slice(), Ok(3), b"abc".as_slice(), 0),
+            (b"d".as_slice(), Err(IoFailed), b"abc".as_slice(), 1),
+            (b"defg".as_slice(), Ok(2), b"abcde".as_slice(), 1),
+            (b"f".as_slice(), Err(IoFailed), b"abcde".as_slice(), 2),
+        ] {
+            assert!(rt; !bytes.is_empty());
+            assert_eq!(rt; sink.put(bytes), want);
+            assert_eq!(rt; sink.text(), text);
+            assert_eq!(rt; sink.faults(), faults);
+        }
+        Ok(())
+    }
+
+    #[test]
+    fn puts_all_or_a_front(rt: HostRuntime) -> Result<(), Fail> {
+        for (room, listed, want, text) in [
+            (7, 9, Ok(()), b"abcdefg".as_slice()),
+            (4, 9, Err(IoFailed), b"abcd".as_slice()),
+            (7, 0, Err(IoFailed), b"".as_slice()),
+            (7, 2, Err(IoFailed), b"abcdef".as_slice()),
+        ] {
+            let failing = [listed].to_vec(rt.alloc())?;
+            let mut sink = MemSink::new(rt.alloc(), 3, room, failing)?;
+            assert_eq!(rt; put_all(&mut sink, b"abcdefg"), want);
+            assert_eq!(rt; sink.text(), text);
+        }
+        Ok(())
+    }
+}

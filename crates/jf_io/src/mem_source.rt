@@ -1,0 +1,131 @@
+// A source of bytes in memory.
+ghost use Rattle.std.specs.Prelude.{◌≡◌, ◌⊎◌, ◌↔◌, ◌+◌, ◌-◌, ◌<◌, ◌≤◌, ◌^◌, [], ◌++◌, length, take, drop, Some, IfSome, IfOk, OnOk, OnErr, IsErr, IsTrue, option_map};
+ghost use Rattle.jf_io.specs.MemSource.{Input, FailsNextTake, next_take_amount, after_take, after_failed_take};
+
+use crate::calls::Calls;
+use crate::failed::IoFailed;
+use crate::source::Source;
+use jf_path::Bytes;
+use std::marker::Model;
+
+/// A source that gives bytes out of memory, a piece a call, and fails where it is told to.
+#[derive(Debug, Drop)]
+pub struct MemSource {
+    bytes: Bytes,
+    given: usize,
+    piece: usize,
+    calls: Calls,
+}
+
+impl Model for MemSource {
+    ghost use Rattle.std.specs.Prelude.{◌<◌, ◌≤◌, length, drop};
+    ghost use Rattle.jf_io.specs.MemSource.{Input};
+
+    ghost Value = { Input };
+
+    ghost view = { λ s. record { rest = drop s.given s.bytes; given = s.given; piece = s.piece; calls = s.calls } };
+
+    ghost invariant = { λ s. (s.given ≤ length s.bytes) × (0 < s.piece) };
+}
+
+impl MemSource {
+    /// A source of these bytes that gives at most `piece` of them a call. The calls to `take` whose numbers, from 0, are
+    /// listed in `failing` fail. From call number `u64::MAX` on each call has that number.
+    pub fn new(bytes: Bytes, piece: usize, failing: Vec<u64>) -> MemSource
+        requires { 0 < piece }
+        ensures { result ≡ record { rest = bytes; given = 0; piece = piece; calls = record { made = 0; failing = failing.items; faults = 0 } } }
+    {
+        MemSource {
+            bytes,
+            given: 0,
+            piece,
+            calls: Calls::new(failing),
+        }
+    }
+
+    // Whether the next call fails.
+    fn is_next_failing(&self) -> bool
+        ensures { IsTrue result ↔ FailsNextTake self.now }
+    {
+        self.calls.is_next_listed() || self.given as u64 == u64::MAX
+    }
+}
+
+impl Source for MemSource {
+    ghost rest = { λ s. Some s.rest };
+
+    ghost given = { λ s. s.given };
+
+    ghost faults = { λ s. s.calls.faults };
+
+    fn take(&mut self, buf: &mut [u8]) -> Result<usize, IoFailed>
+        requires { 0 < length buf.old }
+
+        // What each source does.
+        ensures bound { IfOk result (λ n. n ≤ length buf.old) }
+        ensures given { IfOk result (λ n. self.new.given ≡ self.old.given + n) }
+        ensures bounded { OnOk result (self.new.given < 2 ^ 64) }
+        ensures moved { IfOk result (λ n. Some self.new.rest ≡ option_map (drop n) (Some self.old.rest)) }
+        ensures bytes { IfSome (Some self.old.rest) (λ all. IfOk result (λ n. (n ≤ length all) × (buf.new ≡ take n all ++ drop n buf.old))) }
+        ensures end { IfSome (Some self.old.rest) (λ all. IfOk result (λ n. n ≡ 0 → all ≡ [])) }
+        ensures last { self.old.given ≡ 2 ^ 64 - 1 → IsErr result }
+        ensures same { OnErr result ((Some self.new.rest ≡ Some self.old.rest) × (self.new.given ≡ self.old.given)) }
+        ensures kept { IfSome (Some self.old.rest) (λ _. OnErr result (buf.new ≡ buf.old)) }
+        ensures grows { self.old.calls.faults ≤ self.new.calls.faults }
+        ensures cause { IsErr result → (self.old.calls.faults < self.new.calls.faults) ⊎ (self.old.calls.faults ≡ 2 ^ 64 - 1) }
+
+        // What this one does.
+        ensures fails { IsErr result ↔ FailsNextTake self.old }
+        ensures amount { IfOk result (λ n. n ≡ next_take_amount self.old (length buf.old)) }
+        ensures ok { IfOk result (λ n. self.new ≡ after_take self.old n) }
+        ensures err { OnErr result (self.new ≡ after_failed_take self.old) }
+    {
+        if self.is_next_failing() {
+            return Err(self.calls.fail());
+        }
+        let rest = &self.bytes.as_slice()[self.given..];
+        let count = rest.len().min(buf.len().min(self.piece));
+        buf[..count].copy_from_slice(&rest[..count]);
+        self.given += count;
+        self.calls.succeed();
+        Ok(count)
+    }
+
+    fn taken(&self) -> u64 {
+        self.given as u64
+    }
+
+    fn faults(&self) -> u64 {
+        self.calls.faults()
+    }
+}
+
+#[cfg(test)]
+mod tests {
+    use super::*;
+    use std::test::Fail;
+
+    #[test]
+    fn gives_pieces_and_goes_on_after_a_listed_call(rt: HostRuntime) -> Result<(), Fail> {
+        let bytes = Bytes::copy_of(rt.alloc(), b"abcdefg")?;
+        let failing = [1, 5].to_vec(rt.alloc())?;
+        let mut source = MemSource::new(bytes, 3, failing);
+        for (room, want, buffer, taken, faults) in [
+            (4, Ok(3), *b"abc\0", 3, 0),
+            (4, Err(IoFailed), [0; 4], 3, 1),
+            (2, Ok(2), *b"de\0\0", 5, 1),
+            (4, Ok(2), *b"fg\0\0", 7, 1),
+            (4, Ok(0), [0; 4], 7, 1),
+            (4, Err(IoFailed), [0; 4], 7, 2),
+            (4, Ok(0), [0; 4], 7, 2),
+        ] {
+            let mut buf = [0; 4];
+            assert!(rt; 0 < room && room <= buf.len());
+            assert_eq!(rt; source.take(&mut buf[..room]), want);
+            assert_eq!(rt; buf, buffer);
+            assert_eq!(rt; source.taken(), taken);
+            assert_eq!(rt; source.faults(), faults);
+        }
+        Ok(())
+    }
+}

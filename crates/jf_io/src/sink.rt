@@ -1,0 +1,46 @@
+// Where output goes.
+ghost use Rattle.std.specs.Prelude.{◌≡◌, ◌⊎◌, ℕ, ◌-◌, ◌<◌, ◌≤◌, ◌^◌, List, [], ◌++◌, length, take, Option, IfOk, OnOk, OnErr, IsOk, IsErr, option_map};
+ghost use Rattle.jf_io.specs.Sink.{IsCutShort};
+
+use crate::failed::IoFailed;
+
+/// A text that is taken piece by piece.
+pub trait Sink {
+    /// The text so far, where the sink tells it.
+    ghost text: { Self → Option (List ℕ) };
+
+    /// The number of faults so far, which stands still at `u64::MAX`.
+    ghost faults: { Self → ℕ };
+
+    /// Appends bytes from the front of these to the text, and answers how many, at least 1.
+    ///
+    /// After `IoFailed` a sink that tells its text has it as before; another may have taken any of the bytes.
+    fn put(&mut self, bytes: &[u8]) -> Result<usize, IoFailed>
+        requires { 0 < length bytes.now }
+        ensures count { IfOk result (λ n. (0 < n) × (n ≤ length bytes.now)) }
+        ensures text { IfOk result (λ n. text self.new ≡ option_map (λ t. t ++ take n bytes.now) (text self.old)) }
+        ensures same { OnErr result (text self.new ≡ text self.old) }
+        ensures grows { faults self.old ≤ faults self.new }
+        ensures cause { IsErr result → (faults self.old < faults self.new) ⊎ (faults self.old ≡ 2 ^ 64 - 1) };
+
+    /// The number of faults so far, which stands still at `u64::MAX`.
+    fn faults(&self) -> u64
+        ensures { result ≡ faults self.now };
+}
+
+/// Puts all these bytes into the sink, in as many calls as it takes, and in none where there is no byte.
+///
+/// After `IoFailed` a front of the bytes was put, and not all of them.
+pub fn put_all<K: Sink>(sink: &mut K, bytes: &[u8]) -> Result<(), IoFailed>
+    ensures ok { OnOk result (K.text sink.new ≡ option_map (λ t. t ++ bytes.now) (K.text sink.old)) }
+    ensures cut_short { OnErr result (IsCutShort (K.text sink.old) (K.text sink.new) bytes.now) }
+    ensures nothing_to_put { bytes.now ≡ [] → IsOk result × (sink.new ≡ sink.old) }
+    ensures grows { K.faults sink.old ≤ K.faults sink.new }
+    ensures cause { IsErr result → (K.faults sink.old < K.faults sink.new) ⊎ (K.faults sink.old ≡ 2 ^ 64 - 1) }
+{
+    let mut done = 0;
+    while done < bytes.len() {
+        done += sink.put(&bytes[done..])?;
+    }
+    Ok(())
+}

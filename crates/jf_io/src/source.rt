@@ -1,0 +1,46 @@
+// Where input comes from.
+ghost use Rattle.std.specs.Prelude.{◌≡◌, ◌⊎◌, ℕ, ◌+◌, ◌-◌, ◌<◌, ◌≤◌, ◌^◌, List, [], ◌++◌, length, take, drop, Option, IfSome, IfOk, OnOk, OnErr, IsErr, option_map};
+
+use crate::failed::IoFailed;
+
+/// An input that is given piece by piece.
+pub trait Source {
+    /// The bytes that are still to come, where the source tells them.
+    ghost rest: { Self → Option (List ℕ) };
+
+    /// The number of bytes given so far.
+    ghost given: { Self → ℕ };
+
+    /// The number of faults so far, which stands still at `u64::MAX`.
+    ghost faults: { Self → ℕ };
+
+    /// Moves the next bytes of the input into the front of `buf`, and answers how many. 0 is the end of the input.
+    ///
+    /// A call on a source that has given `u64::MAX` bytes fails. After `IoFailed` the same bytes are still to come.
+    /// A source that doesn't tell its bytes may have written anything into `buf` then, and behind the bytes that it gave.
+    fn take(&mut self, buf: &mut [u8]) -> Result<usize, IoFailed>
+        requires { 0 < length buf.old }
+
+        // What an answer gives.
+        ensures bound { IfOk result (λ n. n ≤ length buf.old) }
+        ensures given { IfOk result (λ n. given self.new ≡ given self.old + n) }
+        ensures bounded { OnOk result (given self.new < 2 ^ 64) }
+        ensures moved { IfOk result (λ n. rest self.new ≡ option_map (drop n) (rest self.old)) }
+        ensures bytes { IfSome (rest self.old) (λ all. IfOk result (λ n. (n ≤ length all) × (buf.new ≡ take n all ++ drop n buf.old))) }
+        ensures end { IfSome (rest self.old) (λ all. IfOk result (λ n. n ≡ 0 → all ≡ [])) }
+
+        // When it fails, and what stays.
+        ensures last { given self.old ≡ 2 ^ 64 - 1 → IsErr result }
+        ensures same { OnErr result ((rest self.new ≡ rest self.old) × (given self.new ≡ given self.old)) }
+        ensures kept { IfSome (rest self.old) (λ _. OnErr result (buf.new ≡ buf.old)) }
+        ensures grows { faults self.old ≤ faults self.new }
+        ensures cause { IsErr result → (faults self.old < faults self.new) ⊎ (faults self.old ≡ 2 ^ 64 - 1) };
+
+    /// The number of bytes given so far.
+    fn taken(&self) -> u64
+        ensures { result ≡ given self.now };
+
+    /// The number of faults so far, which stands still at `u64::MAX`.
+    fn faults(&self) -> u64
+        ensures { result ≡ faults self.now };
+}

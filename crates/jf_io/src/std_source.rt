@@ -1,0 +1,161 @@
+// A source over a reader of std.
+ghost use Rattle.std.specs.Prelude.{◌≡◌, ◌⊎◌, ℕ, ◌-◌, ◌<◌, ◌≤◌, ◌^◌, None, length, OnOk, IfOk};
+
+use crate::attempts::ATTEMPTS;
+use crate::failed::IoFailed;
+use crate::source::Source;
+use std::io::{self, ErrorKind, Read};
+use std::marker::Model;
+
+/// A source of the bytes that a reader gives, which it doesn't tell.
+#[derive(Drop)]
+pub struct StdSource<B> {
+    reader: B,
+    given: u64,
+    faults: u64,
+}
+
+impl<B> Model for StdSource<B> {
+    ghost use Rattle.jf_io.specs.StdSource.{SourceCounts};
+
+    ghost Value = { SourceCounts };
+
+    ghost view = { λ s. record { given = s.given; faults = s.faults } };
+}
+
+impl<B: Read> StdSource<B> {
+    /// A source of what this reader gives from here on.
+    pub fn new(reader: B) -> StdSource<B>
+        ensures { result ≡ record { given = 0; faults = 0 } }
+    {
+        StdSource {
+            reader,
+            given: 0,
+            faults: 0,
+        }
+    }
+
+    // Counts a fault.
+    fn fail(&mut self) -> IoFailed
+        ensures given { self.new.given ≡ self.old.given }
+        ensures grows { self.old.faults ≤ self.new.faults }
+        ensures rises { (self.old.faults < self.new.faults) ⊎ (self.old.faults ≡ 2 ^ 64 - 1) }
+    {
+        self.faults = self.faults.saturating_add(1);
+        IoFailed
+    }
+}
+
+impl<B: Read> Source for StdSource<B> {
+    ghost rest = { λ _. None };
+
+    ghost given = { λ s. s.given };
+
+    ghost faults = { λ s. s.faults };
+
+    fn take(&mut self, buf: &mut [u8]) -> Result<usize, IoFailed> {
+        let countable = (u64::MAX - self.given).min(buf.len() as u64) as usize;
+        if countable == 0 {
+            return Err(self.fail());
+        }
+        match read(&mut self.reader, &mut buf[..countable]) {
+            Ok(count) => {
+                self.given += count as u64;
+                Ok(count)
+            }
+            Err(_) => Err(self.fail()),
+        }
+    }
+
+    fn taken(&self) -> u64 {
+        self.given
+    }
+
+    fn faults(&self) -> u64 {
+        self.faults
+    }
+}
+
+// Reads once, and again where a signal interrupts it. It is a fault only where that is so in each attempt.
+fn read<B: Read>(reader: &mut B, buf: &mut [u8]) -> io::Result<usize>
+    ensures { IfOk result (λ n. n ≤ length buf.old) }
+{
+    for _ in 1..ATTEMPTS {
+        match reader.read(buf) {
+            Err(e) if e.kind() == ErrorKind::Interrupted => {}
+            result => return result,
+        }
+    }
+    reader.read(buf)
+}
+
+#[cfg(test)]
+mod tests {
+    use super::*;
+    use std::test::Fail;
+
+    // A reader whose reads are `abcd`, a fault and `abcd`, after so many that signals interrupt.
+    #[derive(Drop)]
+    struct Faulty {
+        interrupted: u32,
+        reads: u8,
+    }
+
+    impl Read for Faulty {
+        fn read(&mut self, buf: &mut [u8]) -> io::Result<usize> {
+            if self.interrupted > 0 {
+                self.interrupted -= 1;
+                return Err(io::Error::from(ErrorKind::Interrupted));
+            }
+            self.reads = self.reads.saturating_add(1);
+            if self.reads == 2 {
+                return Err(io::Error::from(ErrorKind::ConnectionReset));
+            }
+            let mut bytes: &[u8] = b"abcd";
+            bytes.read(buf)
+        }
+    }
+
+    #[test]
+    fn gives_what_the_reader_gives(rt: HostRuntime) {
+        let bytes: &[u8] = b"abcde";
+        let mut source = StdSource::new(bytes);
+        for (want, buffer, taken) in [
+            (Ok(3), *b"abc", 3),
+            (Ok(2), *b"de\0", 5),
+            (Ok(0), [0; 3], 5),
+            (Ok(0), [0; 3], 5),
+        ] {
+            let mut buf = [0; 3];
+            assert_eq!(rt; source.take(&mut buf), want);
+            assert_eq!(rt; buf, buffer);
+            assert_eq!(rt; source.taken(), taken);
+        }
+        assert_eq!(rt; source.faults(), 0);
+    }
+
+    #[test]
+    fn fails_in_mid_stream_and_goes_on(rt: HostRuntime) {
+        let mut source = StdSource::new(Faulty {
+            interrupted: 2,
+            reads: 0,
+        });
+        for (want, taken, faults) in [(Ok(3), 3, 0), (Err(IoFailed), 3, 1), (Ok(3), 6, 1)] {
+            let mut buf = [0; 3];
+            assert_eq!(rt; source.take(&mut buf), want);
+            assert_eq!(rt; source.taken(), taken);
+            assert_eq!(rt; source.faults(), faults);
+        }
+    }
+
+    #[test]
+    fn gives_up_where_signals_never_cease(rt: HostRuntime) {
+        for (interrupted, want) in [(ATTEMPTS - 1, Ok(3)), (ATTEMPTS, Err(IoFailed))] {
+            let mut source = StdSource::new(Faulty {
+                interrupted,
+                reads: 0,
+            });
+            assert_eq!(rt; source.take(&mut [0; 3]), want);
+        }
+    }
+}
