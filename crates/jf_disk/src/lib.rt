@@ -4,7 +4,9 @@
 
 mod disk;
 mod laws;
+mod log;
 mod side;
+mod sides;
 
 pub use disk::{Disk, DiskFailed};
 pub use laws::{know_bounded, know_counts, know_dated, know_readable};
