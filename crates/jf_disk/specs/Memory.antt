@@ -67,6 +67,15 @@ IsFailing d = Contains d.failing (length d.calls) ⊎ ((d.most_calls ≤ length 
 abbrev pub IsWriteFailing : InMemory → ℕ → ℕ → Type 0
 IsWriteFailing d at n = IsFailing d ⊎ ((d.most_bytes < bytes_written d.calls + n) ⊎ (2 ^ 62 < at + n))
 
+-- a disk that began with these files, and has made no call
+pub record IsNew (d : InMemory) (files : Files) (listed : List ℕ) (calls' bytes' : ℕ) : Type 0 where
+  pub first : d.first ≡ files
+  pub calls : d.calls ≡ []
+  pub failing : d.failing ≡ listed
+  pub faults : d.faults ≡ 0
+  pub most_calls : d.most_calls ≡ calls'
+  pub most_bytes : d.most_bytes ≡ bytes'
+
 -- what no call changes
 pub record KeepsRest (old new : InMemory) : Type 0 where
   pub first : new.first ≡ old.first
@@ -88,4 +97,5 @@ missed calls = if length calls == 2 ^ 64 - 1 then calls else calls ++ nothing �
 pub record Misses (old new : InMemory) : Type 0 where
   pub calls : new.calls ≡ missed old.calls
   pub faults : new.faults ≡ min (old.faults + 1) (2 ^ 64 - 1)
+  pub counted : old.faults < 2 ^ 64
   pub rest : KeepsRest old new

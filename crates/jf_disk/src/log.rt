@@ -1,5 +1,5 @@
 // The calls on a disk in memory, kept in room that is taken at once.
-ghost use Rattle.std.specs.Prelude.{◌≡◌, ◌+◌, ◌<◌, ◌≤◌, ◌↔◌, length, take, ◌++◌, ◌∷◌, [], IfOk, IsTrue};
+ghost use Rattle.std.specs.Prelude.{◌≡◌, ◌⊎◌, ◌-◌, ◌^◌, ◌+◌, ◌<◌, ◌≤◌, ◌↔◌, length, take, ◌++◌, ◌∷◌, [], IfOk, IsTrue};
 ghost use Rattle.jf_disk.specs.Memory.{writes, bytes_written, missed};
 ghost use Rattle.jf_disk.specs.Log.{takes, call_of};
 
@@ -71,6 +71,13 @@ impl Log {
         ensures { IsTrue result ↔ (length self.now.calls < self.now.most_calls) }
     {
         (self.entries.len() as u64) < self.most_calls
+    }
+
+    /// Whether no call can be kept any more: the room for calls is used up, or the moment stands at its end.
+    pub fn is_used_up(&self) -> bool
+        ensures { IsTrue result ↔ ((self.now.most_calls ≤ length self.now.calls) ⊎ (length self.now.calls ≡ 2 ^ 64 - 1)) }
+    {
+        !self.has_room() || self.moment() == u64::MAX
     }
 
     /// Whether there is room for so many written bytes more.
