@@ -1,2 +1,6 @@
 pub mod Disk
 pub mod Moments
+pub mod Memory
+pub mod Replay
+pub mod Log
+pub mod Sides

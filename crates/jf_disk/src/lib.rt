@@ -4,8 +4,12 @@
 
 mod disk;
 mod laws;
+mod log;
+mod memory;
 mod side;
+mod sides;
 
 pub use disk::{Disk, DiskFailed};
 pub use laws::{know_bounded, know_counts, know_dated, know_readable};
+pub use memory::MemDisk;
 pub use side::Side;
