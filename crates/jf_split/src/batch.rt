@@ -1,14 +1,18 @@
 // A batch of changes, in the order of their keys.
-ghost use Rattle.std.specs.Prelude.{◌≡◌, ◌≢◌, ◌⊎◌, [], ◌≤◌, length, OnOk, OnErr, IfOk, Some, None, Err, true, IsTrue};
-ghost use Rattle.std.specs.FinMap.{put};
-ghost use Rattle.jf_path.specs.Keys.{key_cmp};
+ghost use Rattle.std.specs.Prelude.{◌≡◌, ◌⊎◌, [], ◌≤◌, length, OnOk, OnErr, IfOk, IfErr, IfSome, IsSome, IsOk, Some, None, Err, IsTrue, T};
+ghost use Rattle.std.specs.FinMap.{put, find, is_sorted};
+ghost use Rattle.jf_path.specs.Keys.{key_cmp, IsBytes};
 ghost use Rattle.jf_hash.specs.Maps.{IsBatch};
 ghost use Rattle.jf_split.specs.Limits.{IsWithinLimits, is_full};
+ghost use Rattle.jf_split.specs.Places.{IsPlaceOf, IsGapFor};
 
 use crate::fault::BatchFault;
 use jf_path::{Bytes, Key, Memory};
 use std::alloc::Global;
 use std::marker::Model;
+
+// The most keys that a batch holds.
+const MAX_KEYS: usize = 10_000;
 
 /// What is to be changed: keys in their order, each once and at most 10,000, with a value of at most
 /// 4,096 bytes, or with none, which removes the key.
@@ -60,8 +64,11 @@ impl Batch {
     pub fn copy(&self, alloc: Global) -> Result<Batch, Memory>
         ensures { IfOk result (λ b. b ≡ self.now) }
     {
-        let _ = alloc;
-        Err(Memory)
+        let mut entries = Vec::with_capacity(alloc, self.entries.len())?;
+        for (key, value) in &self.entries {
+            entries.push((*key, copy_of(alloc, value)?))?;
+        }
+        Ok(Batch { entries })
     }
 
     /// Sets a key to a value of at most 4,096 bytes. A refusal leaves the batch as it was.
@@ -72,18 +79,64 @@ impl Batch {
         ensures room { IsTrue (is_full key.now self.old) → (result ≡ Err BatchFault.Full) ⊎ (result ≡ Err BatchFault.Memory) }
         ensures err { OnErr result (self.new ≡ self.old) }
     {
-        let _ = alloc;
-        Err(BatchFault::Memory)
+        let value = Bytes::copy_of(alloc, value)?;
+        self.set(key, Some(value))
     }
 
-    /// Lets a key be removed. A refusal leaves the batch as it was.
-    pub fn del(&mut self, alloc: Global, key: &Key) -> Result<(), BatchFault>
+    /// Lets a key be removed. A refusal leaves the batch as it was, and a key that is there is never refused.
+    pub fn del(&mut self, _alloc: Global, key: &Key) -> Result<(), BatchFault>
         ensures ok { OnOk result (self.new ≡ put key_cmp key.now None self.old) }
         ensures full { result ≡ Err BatchFault.Full → IsTrue (is_full key.now self.old) }
         ensures room { IsTrue (is_full key.now self.old) → (result ≡ Err BatchFault.Full) ⊎ (result ≡ Err BatchFault.Memory) }
+        ensures present { IsSome (find key_cmp key.now self.old) → IsOk result }
         ensures err { OnErr result (self.new ≡ self.old) }
     {
-        let _ = alloc;
-        Err(BatchFault::Memory)
+        self.set(key, None)
+    }
+
+    // Gives a key its value, or none.
+    fn set(&mut self, key: &Key, value: Option<Bytes>) -> Result<(), BatchFault>
+        requires bytes { IfSome value IsBytes }
+        requires limited { IfSome value (λ v. length v ≤ 4096) }
+        ensures ok { OnOk result (self.new ≡ put key_cmp key.now value self.old) }
+        ensures full { result ≡ Err BatchFault.Full → IsTrue (is_full key.now self.old) }
+        ensures room { IsTrue (is_full key.now self.old) → (result ≡ Err BatchFault.Full) ⊎ (result ≡ Err BatchFault.Memory) }
+        ensures present { IsSome (find key_cmp key.now self.old) → IsOk result }
+        ensures err { OnErr result (self.new ≡ self.old) }
+    {
+        match place_of(&self.entries, key) {
+            Ok(at) => {
+                self.entries[at].1 = value;
+                Ok(())
+            }
+            Err(_) if self.entries.len() >= MAX_KEYS => Err(BatchFault::Full),
+            Err(at) => Ok(self.entries.insert(at, (*key, value))?),
+        }
+    }
+}
+
+// Where the key stands, or where it would.
+fn place_of(entries: &[(Key, Option<Bytes>)], key: &Key) -> Result<usize, usize>
+    requires { T (is_sorted key_cmp entries.now) }
+    ensures found { IfOk result (IsPlaceOf key.now entries.now) }
+    ensures absent { IfErr result (IsGapFor key.now entries.now) }
+{
+    entries.binary_search_by_key(key, key_of)
+}
+
+// The key of an entry.
+fn key_of(entry: &(Key, Option<Bytes>)) -> Key
+    ensures { result ≡ entry.now.0 }
+{
+    entry.0
+}
+
+// A copy of a value, if there is one.
+fn copy_of(alloc: Global, value: &Option<Bytes>) -> Result<Option<Bytes>, Memory>
+    ensures { IfOk result (λ v. v ≡ value.now) }
+{
+    match value {
+        Some(bytes) => Ok(Some(Bytes::copy_of(alloc, bytes.as_slice())?)),
+        None => Ok(None),
     }
 }

@@ -1,8 +1,14 @@
-//! Batches: what is to be changed, sorted by key.
+//! Batches: what is to be changed, sorted by key. `specs/` says what a batch may hold, and what is known of one that
+//! takes another word.
 #![tactic(auto)]
 
 mod batch;
 mod fault;
+mod list;
 
 pub use batch::Batch;
 pub use fault::BatchFault;
+pub use list::BatchList;
+
+#[cfg(test)]
+mod tests;

@@ -1,0 +1,11 @@
+-- The closure gives an entry's key, and the keys of a batch rise.
+use Rattle.std.proofs.Common.{rules}
+use Rattle.std.proofs.lemmas.List.Sorted.{answers_always}
+use Rattle.jf_split.proofs.Searches.{searched}
+use Rattle.jf_split.proofs.batch.place_of.Goals as goal
+
+pub returns : goal.returns
+returns c =
+    let facts = c.binary_search_by_key.ensures in
+    let by_key = facts.position (λ e. e.0) (answers_always _ _ _ (λ f a r g called. search rules)) in
+    searched c.args.key.now c.args.entries.now c.requires c.binary_search_by_key.result facts.bound by_key

@@ -1,0 +1,55 @@
+// A list of batches.
+ghost use Rattle.std.specs.Prelude.{◌≡◌, [], ◌∷◌, ◌++◌, length, OnOk, OnErr};
+
+use crate::batch::Batch;
+use jf_path::Memory;
+use std::alloc::Global;
+use std::marker::Model;
+
+/// Batches, one after another.
+#[derive(Debug, Drop)]
+pub struct BatchList {
+    batches: Vec<Batch>,
+}
+
+impl Model for BatchList {
+    ghost use Rattle.std.specs.Prelude.{List, ℕ, Option};
+
+    ghost Value = { List (List (List ℕ × Option (List ℕ))) };
+
+    ghost view = { λ l. l.batches.items };
+}
+
+impl BatchList {
+    /// No batch.
+    pub fn new(alloc: Global) -> BatchList
+        ensures { result ≡ [] }
+    {
+        BatchList {
+            batches: Vec::new(alloc),
+        }
+    }
+
+    /// How many there are.
+    pub fn len(&self) -> u64
+        ensures { result ≡ length self.now }
+    {
+        self.batches.len() as u64
+    }
+
+    /// The batches in their order.
+    pub fn as_slice(&self) -> &[Batch]
+        ensures { result.now ≡ self.now }
+    {
+        &self.batches
+    }
+
+    /// Adds a batch at the end. A refused batch is dropped, and the list is as it was.
+    pub fn push(&mut self, batch: Batch) -> Result<(), Memory>
+        ensures ok { OnOk result (self.new ≡ self.old ++ batch ∷ []) }
+        ensures err { OnErr result (self.new ≡ self.old) }
+    {
+        self.batches.push(batch)?;
+        Ok(())
+    }
+}
