@@ -92,7 +92,6 @@ fn read<B: Read>(reader: &mut B, buf: &mut [u8]) -> io::Result<usize>
 #[cfg(test)]
 mod tests {
     use super::*;
-    use std::test::Fail;
 
     // A reader whose reads are `abcd`, a fault and `abcd`, after so many that signals interrupt.
     #[derive(Drop)]
