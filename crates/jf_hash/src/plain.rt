@@ -9,7 +9,7 @@ ghost use Rattle.jf_hash.specs.Parts.{IsPart, IsFirstOne};
 use crate::tagged::{Hash, empty, inner, leaf};
 use jf_path::bit;
 
-/// Where the entries whose bit `depth` is 1 begin.
+// Where the entries whose bit `depth` is 1 begin.
 fn first_one(entries: &[(Hash, Hash)], depth: usize) -> usize
     requires { depth < 256 }
     ensures { IsFirstOne depth result entries.now }

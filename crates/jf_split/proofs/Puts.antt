@@ -1,39 +1,17 @@
 -- What a put makes of a batch, by the place of its key.
-use Rattle.std.proofs.Common.{◌≡◌, ℕ, zero, suc, ◌<◌, ◌≤◌, Bool, true, false, cond, ◌&&◌, List, [], ◌∷◌, ◌++◌, length, get_or, set, take, drop, refl, sym, ap, ◌∙◌, subst, arith, T, Less, Equal, Greater, is_lt, is_eq, is_none, is_some, Ordering, Option, None, Some, IfSome, IsSome, true≢false, nat_le, IsTrue}
+use Rattle.std.proofs.Common.{◌≡◌, ℕ, zero, suc, ◌<◌, ◌≤◌, true, false, cond, ◌&&◌, List, [], ◌∷◌, length, set, refl, sym, ap, ◌∙◌, subst, arith, T, Less, Greater, is_eq, is_none, is_some, Option, None, Some, IfSome, IsSome, true≢false, nat_le}
 use Rattle.std.specs.List.{insert}
-use Rattle.std.specs.Ordering.{ordering_reverse}
 use Rattle.std.specs.FinMap.{put, find, is_sorted}
-use Rattle.std.specs.FinMap.Entries.{by_order, below_all}
+use Rattle.std.specs.FinMap.Entries.{by_order}
 use Rattle.std.specs.Cmp.{tied_itself}
 use Rattle.std.specs.Cmp.Lexicographic.{nat_list_cmp_total}
 use Rattle.std.proofs.lemmas.Bool.{lt-leb}
 use Rattle.jf_path.specs.Keys.{key_cmp, IsKey, IsBytes}
 use Rattle.jf_hash.specs.Maps.{Batch, IsBatch}
+use Rattle.jf_hash.specs.KeyOrder.{key_cmp-turned, below-rest, below-each, sorted-rest}
 use Rattle.jf_split.specs.Limits.{IsWithinLimits, is_full}
 use Rattle.jf_split.specs.Places.{IsPlaceOf, IsGapFor}
 use Rattle.jf_split.specs.PutLaws.{IsBatch-put, IsWithinLimits-put}
-
-less_so : (o : Ordering) → T (is_lt o) → o ≡ Less
-less_so Less h = refl
-less_so Equal h = absurd h
-less_so Greater h = absurd h
-
-pub left_so : (a b : Bool) → T (a && b) → T a
-left_so true b h = tt
-left_so false b h = absurd h
-
-pub right_so : (a b : Bool) → T (a && b) → T b
-right_so true b h = h
-right_so false b h = absurd h
-
-turned : (a b : List ℕ) (o : Ordering) → key_cmp a b ≡ o → key_cmp b a ≡ ordering_reverse o
-turned a b o is = nat_list_cmp_total.antisymm b a ∙ ap ordering_reverse is
-
--- what is below all keys is below each
-pub below_each : (k : List ℕ) (b : Batch) (i : ℕ) (d : List ℕ × Option (List ℕ)) → T (below_all key_cmp k b) → i < length b → key_cmp k (get_or b i d).0 ≡ Less
-below_each k [] i d below lt = absurd (omega arith)
-below_each k (e ∷ es) zero d below lt = less_so _ (left_so _ _ below)
-below_each k (e ∷ es) (suc i) d below lt = below_each k es i d (right_so _ _ below) (omega arith)
 
 -- ---- a key that is there
 
@@ -42,8 +20,8 @@ place_in_rest k e b i place = record { within = omega (arith, place.within); sam
 
 above_first : (k : List ℕ) (e : List ℕ × Option (List ℕ)) (b : Batch) (i : ℕ) → T (is_sorted key_cmp (e ∷ b)) → IsPlaceOf k (e ∷ b) (suc i) → key_cmp k e.0 ≡ Greater
 above_first k e b i sorted place =
-    let first_less = below_each e.0 b i e (left_so _ _ sorted) (omega (arith, place.within)) in
-    turned e.0 k Less (subst (λ q. key_cmp e.0 q ≡ Less) (place.same e) first_less)
+    let first_less = below-each e.0 b i e (below-rest e b sorted) (omega (arith, place.within)) in
+    key_cmp-turned e.0 k Less (subst (λ q. key_cmp e.0 q ≡ Less) (place.same e) first_less)
 
 -- the value at its place is changed
 pub put-place : (k : List ℕ) (v : Option (List ℕ)) (b : Batch) (i : ℕ) → T (is_sorted key_cmp b) → IsPlaceOf k b i → put key_cmp k v b ≡ set b i (k, v)
@@ -54,7 +32,7 @@ put-place k v (e ∷ es) zero sorted place =
     ∙ ap (λ q. (q, v) ∷ es) (place.same e)
 put-place k v (e ∷ es) (suc i) sorted place =
     ap (λ o. by_order o ((k, v) ∷ e ∷ es) ((e.0, v) ∷ es) (e ∷ put key_cmp k v es)) (above_first k e es i sorted place)
-    ∙ ap (λ t. e ∷ t) (put-place k v es i (right_so _ _ sorted) (place_in_rest k e es i place))
+    ∙ ap (λ t. e ∷ t) (put-place k v es i (sorted-rest e es sorted) (place_in_rest k e es i place))
 
 found : (k : List ℕ) (b : Batch) (i : ℕ) → IsPlaceOf k b i → is_none (find key_cmp k b) ≡ false
 found k [] i place = absurd (omega (arith, place.within))
@@ -83,14 +61,14 @@ pub put-gap : (k : List ℕ) (v : Option (List ℕ)) (b : Batch) (i : ℕ) → I
 put-gap k v [] zero gap = refl
 put-gap k v [] (suc i) gap = refl
 put-gap k v (e ∷ es) zero gap =
-    ap (λ o. by_order o ((k, v) ∷ e ∷ es) ((e.0, v) ∷ es) (e ∷ put key_cmp k v es)) (turned e.0 k Greater (gap.behind 0 e (omega arith) (omega arith)))
+    ap (λ o. by_order o ((k, v) ∷ e ∷ es) ((e.0, v) ∷ es) (e ∷ put key_cmp k v es)) (key_cmp-turned e.0 k Greater (gap.behind 0 e (omega arith) (omega arith)))
 put-gap k v (e ∷ es) (suc i) gap =
-    ap (λ o. by_order o ((k, v) ∷ e ∷ es) ((e.0, v) ∷ es) (e ∷ put key_cmp k v es)) (turned e.0 k Less (gap.before 0 e (omega arith)))
+    ap (λ o. by_order o ((k, v) ∷ e ∷ es) ((e.0, v) ∷ es) (e ∷ put key_cmp k v es)) (key_cmp-turned e.0 k Less (gap.before 0 e (omega arith)))
     ∙ ap (λ t. e ∷ t) (put-gap k v es i (gap_in_rest k e es i gap))
 
 first_differs : (k : List ℕ) (e : List ℕ × Option (List ℕ)) (b : Batch) (i : ℕ) → IsGapFor k (e ∷ b) i → is_eq (key_cmp k e.0) ≡ false
-first_differs k e b zero gap = ap is_eq (turned e.0 k Greater (gap.behind 0 e (omega arith) (omega arith)))
-first_differs k e b (suc i) gap = ap is_eq (turned e.0 k Less (gap.before 0 e (omega arith)))
+first_differs k e b zero gap = ap is_eq (key_cmp-turned e.0 k Greater (gap.behind 0 e (omega arith) (omega arith)))
+first_differs k e b (suc i) gap = ap is_eq (key_cmp-turned e.0 k Less (gap.before 0 e (omega arith)))
 
 none_behind : (k : List ℕ) (e : List ℕ × Option (List ℕ)) (b : Batch) → IsGapFor k (e ∷ b) 0 → IsGapFor k b 0
 none_behind k e b gap = record {
