@@ -11,10 +11,11 @@ use Rattle.jf_hash.specs.Maps.{Batch, IsBatch}
 use Rattle.jf_hash.specs.KeyOrder.{key_cmp-turned, below-rest, below-each, sorted-rest}
 use Rattle.jf_split.specs.Limits.{IsWithinLimits, is_full}
 use Rattle.jf_split.specs.Places.{IsPlaceOf, IsGapFor}
-use Rattle.jf_split.specs.PutLaws.{IsBatch-put, IsWithinLimits-put}
+use Rattle.jf_split.specs.BatchLaws.{IsBatch-put, IsWithinLimits-put}
 
 -- ---- a key that is there
 
+-- a place behind the first entry, seen from there
 place_in_rest : (k : List ℕ) (e : List ℕ × Option (List ℕ)) (b : Batch) (i : ℕ) → IsPlaceOf k (e ∷ b) (suc i) → IsPlaceOf k b i
 place_in_rest k e b i place = record { within = omega (arith, place.within); same = λ d. place.same d }
 
@@ -49,6 +50,7 @@ is_full-place k b i place = ap (λ t. nat_le 10000 (length b) && t) (found k b i
 
 -- ---- a key that is new
 
+-- a gap behind the first entry, seen from there
 gap_in_rest : (k : List ℕ) (e : List ℕ × Option (List ℕ)) (b : Batch) (i : ℕ) → IsGapFor k (e ∷ b) (suc i) → IsGapFor k b i
 gap_in_rest k e b i gap = record {
   within = omega (arith, gap.within);
@@ -77,12 +79,12 @@ none_behind k e b gap = record {
   behind = λ j d le lt. gap.behind (suc j) d (omega arith) (omega arith);
 }
 
+-- no entry has it
 pub find-gap : (k : List ℕ) (b : Batch) (i : ℕ) → IsGapFor k b i → find key_cmp k b ≡ None
 find-gap k [] i gap = refl
 find-gap k (e ∷ es) zero gap = ap (λ t. cond t (Some e.1) (find key_cmp k es)) (first_differs k e es 0 gap) ∙ find-gap k es 0 (none_behind k e es gap)
 find-gap k (e ∷ es) (suc i) gap = ap (λ t. cond t (Some e.1) (find key_cmp k es)) (first_differs k e es (suc i) gap) ∙ find-gap k es i (gap_in_rest k e es i gap)
 
--- it is not in the batch
 pub not_there : (k : List ℕ) (b : Batch) (i : ℕ) → IsGapFor k b i → IsSome (find key_cmp k b) → ⊥
 not_there k b i gap there = true≢false (sym there ∙ ap is_some (find-gap k b i gap))
 
@@ -93,14 +95,17 @@ is_full-gap k b i gap = ap (λ t. nat_le 10000 (length b) && t) (ap is_none (fin
 -- ---- what a batch keeps
 
 module _ (k q : List ℕ) (v : Option (List ℕ)) (b : Batch) (i : ℕ) (key : IsKey k) (bytes : IfSome v IsBytes) (short : IfSome v (λ w. length w ≤ 4096)) (batch : IsBatch b × IsWithinLimits b) where
+  -- where there is room
   put_batch : is_full k b ≡ false → IsBatch (put key_cmp k v b) × IsWithinLimits (put key_cmp k v b)
   put_batch room = (IsBatch-put k v b key bytes batch.0, IsWithinLimits-put k v b batch.0.sorted room short batch.1)
 
+  -- what the code does to a key that is there, q being the key that its entry has
   pub set-put : IsPlaceOf k b i → q ≡ k → set b i (q, v) ≡ put key_cmp k v b
   set-put place same = ap (λ x. set b i (x, v)) same ∙ sym (put-place k v b i batch.0.sorted place)
 
   pub set_batch : IsPlaceOf k b i → q ≡ k → IsBatch (set b i (q, v)) × IsWithinLimits (set b i (q, v))
   set_batch place same = subst (λ x. IsBatch x × IsWithinLimits x) (sym (set-put place same)) (put_batch (is_full-place k b i place))
 
+  -- and to one that is new
   pub insert_batch : IsGapFor k b i → length b < 10000 → IsBatch (insert b i (k, v)) × IsWithinLimits (insert b i (k, v))
   insert_batch gap room = subst (λ x. IsBatch x × IsWithinLimits x) (put-gap k v b i gap) (put_batch (is_full-gap k b i gap ∙ lt-leb 10000 (length b) room))

@@ -1,4 +1,4 @@
--- What is known of a batch, and of one that takes another word.
+-- What is known of a batch, and of one that takes one change more.
 use Rattle.std.proofs.Common.{◌≡◌, ℕ, ◌+◌, ◌≤◌, Bool, true, false, not, cond, ◌&&◌, List, [], ◌∷◌, length, refl, sym, ap, ◌∙◌, subst, arith, T, Less, Equal, Greater, Option, None, Some, IfSome, is_none, is_some, is_eq, map, nat_le, true≢false}
 use Rattle.std.proofs.lemmas.Bool.{leb-false}
 use Rattle.std.specs.List.{AllByRecursion, IsDistinct}
@@ -44,7 +44,7 @@ IsDistinct-keys (e ∷ es) sorted = (differs_from_all e.0 es (below-rest e es so
 pub IsWithinLimits-none : IsWithinLimits []
 IsWithinLimits-none = record { keys = omega arith; values = tt }
 
--- where fewer are there or the key is not new, one word more stays within the limit
+-- where fewer are there or the key is not new, one entry more stays within the limit
 room_for : (most n : ℕ) (absent : Bool) → (nat_le most n && absent) ≡ false → n ≤ most → cond (not absent) n (n + 1) ≤ most
 room_for most n false room within = within
 room_for most n true room within = elim (nat_le most n) as (λ b. nat_le most n ≡ b → (b && true) ≡ false → n + 1 ≤ most) [
