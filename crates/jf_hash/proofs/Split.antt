@@ -1,38 +1,26 @@
 -- A part falls into the entries whose next bit is 0 and, behind them, those where it is 1.
-use Rattle.std.proofs.Common.{◌≡◌, ℕ, zero, suc, ◌+◌, ◌<◌, ◌≤◌, Bool, true, false, not, cond, ◌&&◌, ◌==◌, ◌⊎◌, inl, inr, List, [], ◌∷◌, length, take, drop, filter, refl, sym, ap, ◌∙◌, arith, T, Less, is_lt, true≢false, eq-or-lt_of_le, Ordering, Equal, Greater}
+use Rattle.std.proofs.Common.{◌≡◌, ℕ, zero, suc, ◌+◌, ◌<◌, ◌≤◌, Bool, true, false, not, cond, ◌==◌, ◌⊎◌, inl, inr, List, [], ◌∷◌, length, take, drop, filter, refl, sym, ap, ◌∙◌, arith, T, Less, true≢false, eq-or-lt_of_le}
 use Rattle.std.specs.List.{AllByRecursion}
 use Rattle.std.specs.FinMap.{is_sorted}
 use Rattle.std.specs.FinMap.Entries.{below_all, is_sorted-where_key}
 use Rattle.jf_path.specs.Keys.{bit, key_cmp, IsKey}
+use Rattle.jf_hash.specs.KeyOrder.{below-first, below-later, below-rest, sorted-rest}
 use Rattle.jf_hash.specs.Parts.{IsPart, IsFirstOne}
 use Rattle.jf_hash.specs.Roots.{zeros, ones}
 use Rattle.jf_hash.proofs.Bits.{first_bit, FirstBit}
-
-less_so : (o : Ordering) → T (is_lt o) → o ≡ Less
-less_so Less h = refl
-less_so Equal h = absurd h
-less_so Greater h = absurd h
-
-left_so : (a b : Bool) → T (a && b) → T a
-left_so true b h = tt
-left_so false b h = absurd h
-
-right_so : (a b : Bool) → T (a && b) → T b
-right_so true b h = h
-right_so false b h = absurd h
 
 lt-or-le : (a b : ℕ) → (a < b) ⊎ (b ≤ a)
 lt-or-le a zero = inr (omega arith)
 lt-or-le zero (suc b) = inl (omega arith)
 lt-or-le (suc a) (suc b) = elim (lt-or-le a b) [ inl h ↦ inl (omega arith) | inr h ↦ inr (omega arith) ]
 
-pub apart_at : (d : ℕ) (a b : List ℕ) (path : ℕ → Bool) → IsKey a → IsKey b → T (is_lt (key_cmp a b)) → ((i : ℕ) → i < d → bit a i ≡ path i) → ((i : ℕ) → i < d → bit b i ≡ path i) → (i : ℕ) × (d ≤ i) × FirstBit a b i
+pub apart_at : (d : ℕ) (a b : List ℕ) (path : ℕ → Bool) → IsKey a → IsKey b → key_cmp a b ≡ Less → ((i : ℕ) → i < d → bit a i ≡ path i) → ((i : ℕ) → i < d → bit b i ≡ path i) → (i : ℕ) × (d ≤ i) × FirstBit a b i
 apart_at d a b path ka kb lt pa pb =
-    let f = first_bit a b (ka.long ∙ sym kb.long) kb.bytes (less_so _ lt) in
+    let f = first_bit a b (ka.long ∙ sym kb.long) kb.bytes lt in
     (f.0, elim (lt-or-le f.0 d) [ inr le ↦ le | inl early ↦ absurd (true≢false (sym f.1.one_there ∙ pb f.0 early ∙ sym (pa f.0 early) ∙ f.1.zero_there)) ], f.1)
 
 -- behind a key with the bit come keys with the bit
-stays_one : (d : ℕ) (a b : List ℕ) (path : ℕ → Bool) → IsKey a → IsKey b → T (is_lt (key_cmp a b)) → ((i : ℕ) → i < d → bit a i ≡ path i) → ((i : ℕ) → i < d → bit b i ≡ path i) → bit a d ≡ true → bit b d ≡ true
+stays_one : (d : ℕ) (a b : List ℕ) (path : ℕ → Bool) → IsKey a → IsKey b → key_cmp a b ≡ Less → ((i : ℕ) → i < d → bit a i ≡ path i) → ((i : ℕ) → i < d → bit b i ≡ path i) → bit a d ≡ true → bit b d ≡ true
 stays_one d a b path ka kb lt pa pb one =
     let f = apart_at d a b path ka kb lt pa pb in
     elim (eq-or-lt_of_le f.1) [
@@ -48,8 +36,8 @@ module _ {X : Type 0} where
       → T (below_all key_cmp a es) → AllByRecursion (λ e. IsKey e.0) es → AllByRecursion (λ e. (i : ℕ) → i < d → bit e.0 i ≡ path i) es → (zeros d es ≡ []) × (ones d es ≡ es)
   all_ones d path a [] ka pa one below keys agree = (refl, refl)
   all_ones d path a (e ∷ es) ka pa one below keys agree =
-      let here = stays_one d a e.0 path ka keys.0 (left_so _ _ below) pa agree.0 one in
-      let rest = all_ones d path a es ka pa one (right_so _ _ below) keys.1 agree.1 in
+      let here = stays_one d a e.0 path ka keys.0 (below-first a e es below) pa agree.0 one in
+      let rest = all_ones d path a es ka pa one (below-later a e es below) keys.1 agree.1 in
       (ap (λ b. cond (not b) (e ∷ zeros d es) (zeros d es)) here ∙ rest.0, ap (λ b. cond b (e ∷ ones d es) (ones d es)) here ∙ ap (λ t. e ∷ t) rest.1)
 
   cut_at : (d p : ℕ) (path : ℕ → Bool) (es : List (List ℕ × X)) → IsFirstOne d p es → T (is_sorted key_cmp es) → AllByRecursion (λ e. IsKey e.0) es → AllByRecursion (λ e. (i : ℕ) → i < d → bit e.0 i ≡ path i) es
@@ -58,12 +46,12 @@ module _ {X : Type 0} where
   cut_at d (suc p) path [] f sorted keys agree = absurd (let w = f.within in omega arith)
   cut_at d zero path (e ∷ es) f sorted keys agree =
       let here = f.at e (omega arith) in
-      let rest = all_ones d path e.0 es keys.0 agree.0 here (left_so _ _ sorted) keys.1 agree.1 in
+      let rest = all_ones d path e.0 es keys.0 agree.0 here (below-rest e es sorted) keys.1 agree.1 in
       (ap (λ b. cond (not b) (e ∷ zeros d es) (zeros d es)) here ∙ rest.0, ap (λ b. cond b (e ∷ ones d es) (ones d es)) here ∙ ap (λ t. e ∷ t) rest.1)
   cut_at d (suc p) path (e ∷ es) f sorted keys agree =
       let here = f.before 0 e (omega arith) in
       let w = f.within in
-      let rest = cut_at d p path es (record { within = omega arith; before = λ k x lt. f.before (suc k) x (omega arith); at = λ x lt. f.at x (omega arith) }) (right_so _ _ sorted) keys.1 agree.1 in
+      let rest = cut_at d p path es (record { within = omega arith; before = λ k x lt. f.before (suc k) x (omega arith); at = λ x lt. f.at x (omega arith) }) (sorted-rest e es sorted) keys.1 agree.1 in
       (ap (λ b. cond (not b) (e ∷ zeros d es) (zeros d es)) here ∙ ap (λ t. e ∷ t) rest.0, ap (λ b. cond b (e ∷ ones d es) (ones d es)) here ∙ rest.1)
 
   pub zeros_ones : (d p : ℕ) (es : List (List ℕ × X)) → IsPart d es → IsFirstOne d p es → (zeros d es ≡ take p es) × (ones d es ≡ drop p es)
@@ -74,7 +62,7 @@ module _ {X : Type 0} where
   deeper d [] part two = absurd (omega arith)
   deeper d (e ∷ []) part two = absurd (omega arith)
   deeper d (e ∷ f ∷ es) part two =
-      let found = apart_at d e.0 f.0 part.path part.keys.0 part.keys.1.0 (left_so _ _ (left_so _ _ part.sorted)) part.agree.0 part.agree.1.0 in
+      let found = apart_at d e.0 f.0 part.path part.keys.0 part.keys.1.0 (below-first e.0 f es (below-rest e (f ∷ es) part.sorted)) part.agree.0 part.agree.1.0 in
       let w = found.2.within in let long = part.keys.0.long in omega arith
 
   keeps : (P : List ℕ × X → Type 0) (p : List ℕ × X → Bool) (es : List (List ℕ × X)) → AllByRecursion P es → AllByRecursion P (filter p es)

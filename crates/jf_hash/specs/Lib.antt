@@ -1,7 +1,9 @@
 pub mod Hashes
+pub mod HashLaws
+pub mod KeyOrder
 pub mod Maps
+pub mod MapLaws
 pub mod Parts
 pub mod Roots
-pub mod MapRoots
-pub mod KeyFacts
+pub mod RootLaws
 pub mod Codes

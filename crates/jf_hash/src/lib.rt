@@ -1,4 +1,5 @@
-//! The tagged hashes, and the root of a map. `specs/` says what keys, maps and batches are, and defines the root.
+//! The tagged hashes, and the root of a map computed as it is defined. `specs/` says what keys, maps and batches are,
+//! what a batch makes of a map, and what the root of a map is, with the laws of each.
 #![tactic(auto)]
 
 mod plain;

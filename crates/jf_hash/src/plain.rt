@@ -9,7 +9,7 @@ ghost use Rattle.jf_hash.specs.Parts.{IsPart, IsFirstOne};
 use crate::tagged::{Hash, empty, inner, leaf};
 use jf_path::bit;
 
-/// Where the entries whose bit `depth` is 1 begin.
+// Where the entries whose bit `depth` is 1 begin.
 fn first_one(entries: &[(Hash, Hash)], depth: usize) -> usize
     requires { depth < 256 }
     ensures { IsFirstOne depth result entries.now }
@@ -63,7 +63,7 @@ fn know_keys(entries: &[(Hash, Hash)])
     }
 }
 
-/// The root of entries, which are keys and hashes of values, and whose keys rise strictly.
+/// The root of a map, of whose entries the keys, rising strictly, and the hashes of the values are given.
 pub fn plain_root(entries: &[(Hash, Hash)]) -> Hash
     requires { T (is_sorted key_cmp entries.now) }
     ensures { result ≡ leaves_root 0 entries.now }

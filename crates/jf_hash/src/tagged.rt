@@ -7,7 +7,7 @@ use sha2::{Digest, Sha256};
 /// A SHA-256 hash (FIPS 180-4): 32 bytes.
 pub type Hash = [u8; 32];
 
-/// The hash of no entry.
+/// The hash of no entry: of the byte 0 alone.
 #[tactic(auto, unfolding(crate::specs::Hashes::E))]
 pub fn empty() -> Hash
     ensures { result ≡ E }
@@ -15,7 +15,7 @@ pub fn empty() -> Hash
     Sha256::digest(&[0u8])
 }
 
-/// The hash of a leaf.
+/// The hash of a leaf: of the byte 1, a key and the hash of its value.
 #[tactic(auto, unfolding(crate::specs::Hashes::L))]
 pub fn leaf(key: &Hash, value_hash: &Hash) -> Hash
     ensures { result ≡ L key.now value_hash.now }
@@ -26,7 +26,7 @@ pub fn leaf(key: &Hash, value_hash: &Hash) -> Hash
     hasher.finalize()
 }
 
-/// The hash of a pair of parts.
+/// The hash of a pair of parts: of the byte 2, the hash of the keys whose next bit is 0, and that of the others.
 #[tactic(auto, unfolding(crate::specs::Hashes::N))]
 pub fn inner(left: &Hash, right: &Hash) -> Hash
     ensures { result ≡ N left.now right.now }
@@ -37,7 +37,7 @@ pub fn inner(left: &Hash, right: &Hash) -> Hash
     hasher.finalize()
 }
 
-/// The hash of a value.
+/// The hash of a value: of the byte 3 and the value.
 #[tactic(auto, unfolding(crate::specs::Hashes::V))]
 pub fn value(bytes: &[u8]) -> Hash
     ensures { result ≡ V bytes.now }
@@ -47,7 +47,7 @@ pub fn value(bytes: &[u8]) -> Hash
     hasher.finalize()
 }
 
-/// The key of a name.
+/// The key of a name: the hash of the byte 4 and the name.
 #[tactic(auto, unfolding(crate::specs::Hashes::K))]
 pub fn key_of(name: &[u8]) -> Hash
     ensures { result ≡ K name.now }

@@ -1,49 +1,28 @@
 -- What a put makes of a batch, by the place of its key.
-use Rattle.std.proofs.Common.{◌≡◌, ℕ, zero, suc, ◌<◌, ◌≤◌, Bool, true, false, cond, ◌&&◌, List, [], ◌∷◌, ◌++◌, length, get_or, set, take, drop, refl, sym, ap, ◌∙◌, subst, arith, T, Less, Equal, Greater, is_lt, is_eq, is_none, is_some, Ordering, Option, None, Some, IfSome, IsSome, true≢false, nat_le, IsTrue}
+use Rattle.std.proofs.Common.{◌≡◌, ℕ, zero, suc, ◌<◌, ◌≤◌, true, false, cond, ◌&&◌, List, [], ◌∷◌, length, set, refl, sym, ap, ◌∙◌, subst, arith, T, Less, Greater, is_eq, is_none, is_some, Option, None, Some, IfSome, IsSome, true≢false, nat_le}
 use Rattle.std.specs.List.{insert}
-use Rattle.std.specs.Ordering.{ordering_reverse}
 use Rattle.std.specs.FinMap.{put, find, is_sorted}
-use Rattle.std.specs.FinMap.Entries.{by_order, below_all}
+use Rattle.std.specs.FinMap.Entries.{by_order}
 use Rattle.std.specs.Cmp.{tied_itself}
 use Rattle.std.specs.Cmp.Lexicographic.{nat_list_cmp_total}
 use Rattle.std.proofs.lemmas.Bool.{lt-leb}
 use Rattle.jf_path.specs.Keys.{key_cmp, IsKey, IsBytes}
 use Rattle.jf_hash.specs.Maps.{Batch, IsBatch}
+use Rattle.jf_hash.specs.KeyOrder.{key_cmp-turned, below-rest, below-each, sorted-rest}
 use Rattle.jf_split.specs.Limits.{IsWithinLimits, is_full}
 use Rattle.jf_split.specs.Places.{IsPlaceOf, IsGapFor}
-use Rattle.jf_split.specs.PutLaws.{IsBatch-put, IsWithinLimits-put}
-
-less_so : (o : Ordering) → T (is_lt o) → o ≡ Less
-less_so Less h = refl
-less_so Equal h = absurd h
-less_so Greater h = absurd h
-
-pub left_so : (a b : Bool) → T (a && b) → T a
-left_so true b h = tt
-left_so false b h = absurd h
-
-pub right_so : (a b : Bool) → T (a && b) → T b
-right_so true b h = h
-right_so false b h = absurd h
-
-turned : (a b : List ℕ) (o : Ordering) → key_cmp a b ≡ o → key_cmp b a ≡ ordering_reverse o
-turned a b o is = nat_list_cmp_total.antisymm b a ∙ ap ordering_reverse is
-
--- what is below all keys is below each
-pub below_each : (k : List ℕ) (b : Batch) (i : ℕ) (d : List ℕ × Option (List ℕ)) → T (below_all key_cmp k b) → i < length b → key_cmp k (get_or b i d).0 ≡ Less
-below_each k [] i d below lt = absurd (omega arith)
-below_each k (e ∷ es) zero d below lt = less_so _ (left_so _ _ below)
-below_each k (e ∷ es) (suc i) d below lt = below_each k es i d (right_so _ _ below) (omega arith)
+use Rattle.jf_split.specs.BatchLaws.{IsBatch-put, IsWithinLimits-put}
 
 -- ---- a key that is there
 
+-- a place behind the first entry, seen from there
 place_in_rest : (k : List ℕ) (e : List ℕ × Option (List ℕ)) (b : Batch) (i : ℕ) → IsPlaceOf k (e ∷ b) (suc i) → IsPlaceOf k b i
 place_in_rest k e b i place = record { within = omega (arith, place.within); same = λ d. place.same d }
 
 above_first : (k : List ℕ) (e : List ℕ × Option (List ℕ)) (b : Batch) (i : ℕ) → T (is_sorted key_cmp (e ∷ b)) → IsPlaceOf k (e ∷ b) (suc i) → key_cmp k e.0 ≡ Greater
 above_first k e b i sorted place =
-    let first_less = below_each e.0 b i e (left_so _ _ sorted) (omega (arith, place.within)) in
-    turned e.0 k Less (subst (λ q. key_cmp e.0 q ≡ Less) (place.same e) first_less)
+    let first_less = below-each e.0 b i e (below-rest e b sorted) (omega (arith, place.within)) in
+    key_cmp-turned e.0 k Less (subst (λ q. key_cmp e.0 q ≡ Less) (place.same e) first_less)
 
 -- the value at its place is changed
 pub put-place : (k : List ℕ) (v : Option (List ℕ)) (b : Batch) (i : ℕ) → T (is_sorted key_cmp b) → IsPlaceOf k b i → put key_cmp k v b ≡ set b i (k, v)
@@ -54,7 +33,7 @@ put-place k v (e ∷ es) zero sorted place =
     ∙ ap (λ q. (q, v) ∷ es) (place.same e)
 put-place k v (e ∷ es) (suc i) sorted place =
     ap (λ o. by_order o ((k, v) ∷ e ∷ es) ((e.0, v) ∷ es) (e ∷ put key_cmp k v es)) (above_first k e es i sorted place)
-    ∙ ap (λ t. e ∷ t) (put-place k v es i (right_so _ _ sorted) (place_in_rest k e es i place))
+    ∙ ap (λ t. e ∷ t) (put-place k v es i (sorted-rest e es sorted) (place_in_rest k e es i place))
 
 found : (k : List ℕ) (b : Batch) (i : ℕ) → IsPlaceOf k b i → is_none (find key_cmp k b) ≡ false
 found k [] i place = absurd (omega (arith, place.within))
@@ -71,6 +50,7 @@ is_full-place k b i place = ap (λ t. nat_le 10000 (length b) && t) (found k b i
 
 -- ---- a key that is new
 
+-- a gap behind the first entry, seen from there
 gap_in_rest : (k : List ℕ) (e : List ℕ × Option (List ℕ)) (b : Batch) (i : ℕ) → IsGapFor k (e ∷ b) (suc i) → IsGapFor k b i
 gap_in_rest k e b i gap = record {
   within = omega (arith, gap.within);
@@ -83,14 +63,14 @@ pub put-gap : (k : List ℕ) (v : Option (List ℕ)) (b : Batch) (i : ℕ) → I
 put-gap k v [] zero gap = refl
 put-gap k v [] (suc i) gap = refl
 put-gap k v (e ∷ es) zero gap =
-    ap (λ o. by_order o ((k, v) ∷ e ∷ es) ((e.0, v) ∷ es) (e ∷ put key_cmp k v es)) (turned e.0 k Greater (gap.behind 0 e (omega arith) (omega arith)))
+    ap (λ o. by_order o ((k, v) ∷ e ∷ es) ((e.0, v) ∷ es) (e ∷ put key_cmp k v es)) (key_cmp-turned e.0 k Greater (gap.behind 0 e (omega arith) (omega arith)))
 put-gap k v (e ∷ es) (suc i) gap =
-    ap (λ o. by_order o ((k, v) ∷ e ∷ es) ((e.0, v) ∷ es) (e ∷ put key_cmp k v es)) (turned e.0 k Less (gap.before 0 e (omega arith)))
+    ap (λ o. by_order o ((k, v) ∷ e ∷ es) ((e.0, v) ∷ es) (e ∷ put key_cmp k v es)) (key_cmp-turned e.0 k Less (gap.before 0 e (omega arith)))
     ∙ ap (λ t. e ∷ t) (put-gap k v es i (gap_in_rest k e es i gap))
 
 first_differs : (k : List ℕ) (e : List ℕ × Option (List ℕ)) (b : Batch) (i : ℕ) → IsGapFor k (e ∷ b) i → is_eq (key_cmp k e.0) ≡ false
-first_differs k e b zero gap = ap is_eq (turned e.0 k Greater (gap.behind 0 e (omega arith) (omega arith)))
-first_differs k e b (suc i) gap = ap is_eq (turned e.0 k Less (gap.before 0 e (omega arith)))
+first_differs k e b zero gap = ap is_eq (key_cmp-turned e.0 k Greater (gap.behind 0 e (omega arith) (omega arith)))
+first_differs k e b (suc i) gap = ap is_eq (key_cmp-turned e.0 k Less (gap.before 0 e (omega arith)))
 
 none_behind : (k : List ℕ) (e : List ℕ × Option (List ℕ)) (b : Batch) → IsGapFor k (e ∷ b) 0 → IsGapFor k b 0
 none_behind k e b gap = record {
@@ -99,12 +79,12 @@ none_behind k e b gap = record {
   behind = λ j d le lt. gap.behind (suc j) d (omega arith) (omega arith);
 }
 
+-- no entry has it
 pub find-gap : (k : List ℕ) (b : Batch) (i : ℕ) → IsGapFor k b i → find key_cmp k b ≡ None
 find-gap k [] i gap = refl
 find-gap k (e ∷ es) zero gap = ap (λ t. cond t (Some e.1) (find key_cmp k es)) (first_differs k e es 0 gap) ∙ find-gap k es 0 (none_behind k e es gap)
 find-gap k (e ∷ es) (suc i) gap = ap (λ t. cond t (Some e.1) (find key_cmp k es)) (first_differs k e es (suc i) gap) ∙ find-gap k es i (gap_in_rest k e es i gap)
 
--- it is not in the batch
 pub not_there : (k : List ℕ) (b : Batch) (i : ℕ) → IsGapFor k b i → IsSome (find key_cmp k b) → ⊥
 not_there k b i gap there = true≢false (sym there ∙ ap is_some (find-gap k b i gap))
 
@@ -115,14 +95,17 @@ is_full-gap k b i gap = ap (λ t. nat_le 10000 (length b) && t) (ap is_none (fin
 -- ---- what a batch keeps
 
 module _ (k q : List ℕ) (v : Option (List ℕ)) (b : Batch) (i : ℕ) (key : IsKey k) (bytes : IfSome v IsBytes) (short : IfSome v (λ w. length w ≤ 4096)) (batch : IsBatch b × IsWithinLimits b) where
+  -- where there is room
   put_batch : is_full k b ≡ false → IsBatch (put key_cmp k v b) × IsWithinLimits (put key_cmp k v b)
   put_batch room = (IsBatch-put k v b key bytes batch.0, IsWithinLimits-put k v b batch.0.sorted room short batch.1)
 
+  -- what the code does to a key that is there, q being the key that its entry has
   pub set-put : IsPlaceOf k b i → q ≡ k → set b i (q, v) ≡ put key_cmp k v b
   set-put place same = ap (λ x. set b i (x, v)) same ∙ sym (put-place k v b i batch.0.sorted place)
 
   pub set_batch : IsPlaceOf k b i → q ≡ k → IsBatch (set b i (q, v)) × IsWithinLimits (set b i (q, v))
   set_batch place same = subst (λ x. IsBatch x × IsWithinLimits x) (sym (set-put place same)) (put_batch (is_full-place k b i place))
 
+  -- and to one that is new
   pub insert_batch : IsGapFor k b i → length b < 10000 → IsBatch (insert b i (k, v)) × IsWithinLimits (insert b i (k, v))
   insert_batch gap room = subst (λ x. IsBatch x × IsWithinLimits x) (put-gap k v b i gap) (put_batch (is_full-gap k b i gap ∙ lt-leb 10000 (length b) room))

@@ -1,49 +1,36 @@
 -- A binary search of a batch ends at the place of the key, or where it would stand.
-use Rattle.std.proofs.Common.{◌≡◌, ℕ, zero, suc, ◌<◌, ◌≤◌, Bool, true, false, ◌&&◌, List, [], ◌∷◌, length, get_or, sym, ap, ◌∙◌, subst, arith, T, Less, Equal, Greater, is_lt, Ordering, Option, Result, Ok, Err, refl, IfOk, IfErr, eq-or-lt_of_le, inl, inr}
+use Rattle.std.proofs.Common.{◌≡◌, ℕ, ◌<◌, ◌≤◌, List, length, get_or, sym, subst, arith, T, Less, Equal, Greater, Ordering, Option, Result, Ok, Err, refl, IfOk, IfErr, eq-or-lt_of_le, inl, inr}
 use Rattle.std.specs.Ordering.{ordering_index}
-use Rattle.std.specs.List.Sorted.{IsSearchInRange, IsBinarySearchResult, IsNonDecreasingBy}
-use Rattle.std.specs.FinMap as fin
+use Rattle.std.specs.List.Sorted.{IsSearchInRange, IsBinarySearchResult}
 use Rattle.std.specs.FinMap.{is_sorted}
-use Rattle.std.specs.FinMap.Entries.{below_all}
 use Rattle.std.specs.Cmp.Lexicographic.{nat_list_cmp_total}
-use Rattle.std.proofs.lemmas.List.{get_or_default}
 use Rattle.jf_path.specs.Keys.{key_cmp}
 use Rattle.jf_hash.specs.Maps.{Batch}
+use Rattle.jf_hash.specs.KeyOrder.{same_key-exact, sorted-rises}
 use Rattle.jf_split.specs.Places.{IsPlaceOf, IsGapFor}
-use Rattle.jf_split.proofs.Puts.{below_each, left_so, right_so}
-
-exact : fin.IsAntisymmetric key_cmp
-exact = fin.slice_cmp-IsAntisymmetric fin.nat_cmp-IsAntisymmetric
 
 highest : (o : Ordering) → ordering_index o ≤ 2
 highest Less = omega arith
 highest Equal = omega arith
 highest Greater = omega arith
 
--- of two entries the earlier has the lesser key
-rises : (b : Batch) (i j : ℕ) (d : List ℕ × Option (List ℕ)) → T (is_sorted key_cmp b) → i < j → j < length b → key_cmp (get_or b i d).0 (get_or b j d).0 ≡ Less
-rises [] i j d sorted lt within = absurd (omega arith)
-rises (e ∷ es) i zero d sorted lt within = absurd (omega arith)
-rises (e ∷ es) zero (suc j) d sorted lt within = below_each e.0 es j d (left_so _ _ sorted) (omega arith)
-rises (e ∷ es) (suc i) (suc j) d sorted lt within = rises es i j d (right_so _ _ sorted) (omega arith) (omega arith)
-
 -- a lesser key compares no higher
 no_higher : (a b k : List ℕ) → key_cmp a b ≡ Less → ordering_index (key_cmp a k) ≤ ordering_index (key_cmp b k)
 no_higher a b k lt =
     elim (key_cmp b k) as (λ r. key_cmp b k ≡ r → ordering_index (key_cmp a k) ≤ ordering_index r) [
       | Less ↦ λ is. subst (λ r. ordering_index r ≤ 0) (sym (nat_list_cmp_total.trans a b k lt is)) (omega arith)
-      | Equal ↦ λ is. subst (λ r. ordering_index r ≤ 1) (sym (subst (λ q. key_cmp a q ≡ Less) (exact b k is) lt)) (omega arith)
+      | Equal ↦ λ is. subst (λ r. ordering_index r ≤ 1) (sym (subst (λ q. key_cmp a q ≡ Less) (same_key-exact b k is) lt)) (omega arith)
       | Greater ↦ λ is. highest (key_cmp a k)
     ] refl
 
 no_fall : (k : List ℕ) (b : Batch) (i j : ℕ) (d : List ℕ × Option (List ℕ)) → T (is_sorted key_cmp b) → i ≤ j → j < length b → ordering_index (key_cmp (get_or b i d).0 k) ≤ ordering_index (key_cmp (get_or b j d).0 k)
 no_fall k b i j d sorted le within = elim (eq-or-lt_of_le le) [
   | inl here ↦ subst (λ m. ordering_index (key_cmp (get_or b i d).0 k) ≤ ordering_index (key_cmp (get_or b m d).0 k)) here (omega arith)
-  | inr later ↦ no_higher (get_or b i d).0 (get_or b j d).0 k (rises b i j d sorted later within)
+  | inr later ↦ no_higher (get_or b i d).0 (get_or b j d).0 k (sorted-rises b i j d sorted later within)
 ]
 
 pub searched : (k : List ℕ) (b : Batch) → T (is_sorted key_cmp b) → (r : Result ℕ ℕ) → IsSearchInRange r (length b) → IsBinarySearchResult (λ e. key_cmp e.0 k) b r → record { found : IfOk r (IsPlaceOf k b); absent : IfErr r (IsGapFor k b) }
-searched k b sorted (Ok at) within is = record { found = record { within = within; same = λ d. exact _ k (is d) }; absent = tt }
+searched k b sorted (Ok at) within is = record { found = record { within = within; same = λ d. same_key-exact _ k (is d) }; absent = tt }
 searched k b sorted (Err at) within parted =
     let apart = parted (λ i j d le lt. no_fall k b i j d sorted le lt) in
     record { found = tt; absent = record { within = within; before = λ i d lt. apart.0 i d (omega arith) lt; behind = λ i d le lt. apart.1 i d le lt } }

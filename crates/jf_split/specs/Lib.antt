@@ -1,3 +1,3 @@
 pub mod Limits
 pub mod Places
-pub mod PutLaws
+pub mod BatchLaws

@@ -1,8 +1,9 @@
 // A batch of changes, in the order of their keys.
-ghost use Rattle.std.specs.Prelude.{◌≡◌, ◌⊎◌, [], ◌≤◌, length, OnOk, OnErr, IfOk, IfErr, IfSome, IsSome, IsOk, Some, None, Err, IsTrue, T};
+ghost use Rattle.std.specs.Prelude.{◌≡◌, ◌⊎◌, [], ◌≤◌, length, OnOk, OnErr, IfOk, IfErr, IfSome, IsSome, IsOk, Some, None, Err, IsTrue, T, map};
+ghost use Rattle.std.specs.List.{IsDistinct};
 ghost use Rattle.std.specs.FinMap.{put, find, is_sorted};
 ghost use Rattle.jf_path.specs.Keys.{key_cmp, IsBytes};
-ghost use Rattle.jf_hash.specs.Maps.{IsBatch};
+ghost use Rattle.jf_hash.specs.Maps.{IsBatch, same_key};
 ghost use Rattle.jf_split.specs.Limits.{IsWithinLimits, is_full};
 ghost use Rattle.jf_split.specs.Places.{IsPlaceOf, IsGapFor};
 
@@ -55,6 +56,7 @@ impl Batch {
     pub fn as_slice(&self) -> &[(Key, Option<Bytes>)]
         ensures entries { result.now ≡ self.now }
         ensures sound { IsBatch self.now }
+        ensures distinct { IsDistinct same_key (map (λ e. e.0) self.now) }
         ensures limited { IsWithinLimits self.now }
     {
         &self.entries

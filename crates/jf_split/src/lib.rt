@@ -1,5 +1,5 @@
 //! Batches: what is to be changed, sorted by key. `specs/` says what a batch may hold, and what is known of one that
-//! takes another word.
+//! takes one change more.
 #![tactic(auto)]
 
 mod batch;

@@ -1,14 +1,13 @@
--- What is known of a batch, and of one that takes another word.
-use Rattle.std.proofs.Common.{◌≡◌, ◌≢◌, ℕ, zero, suc, ◌+◌, ◌<◌, ◌≤◌, Bool, true, false, not, cond, ◌&&◌, List, [], ◌∷◌, length, get_or, refl, sym, ap, ◌∙◌, subst, arith, T, Ordering, Less, Equal, Greater, is_lt, Option, None, Some, IfSome, IsTrue, is_none, is_some, is_eq, map, nat_le, true≢false}
+-- What is known of a batch, and of one that takes one change more.
+use Rattle.std.proofs.Common.{◌≡◌, ℕ, ◌+◌, ◌≤◌, Bool, true, false, not, cond, ◌&&◌, List, [], ◌∷◌, length, refl, sym, ap, ◌∙◌, subst, arith, T, Less, Equal, Greater, Option, None, Some, IfSome, is_none, is_some, is_eq, map, nat_le, true≢false}
 use Rattle.std.proofs.lemmas.Bool.{leb-false}
 use Rattle.std.specs.List.{AllByRecursion, IsDistinct}
-use Rattle.std.specs.FinMap as fin
 use Rattle.std.specs.FinMap.{put, find, is_sorted}
 use Rattle.std.specs.FinMap.Entries.{by_order, below_all, is_sorted-put, length-put}
-use Rattle.std.specs.Cmp.{tied_itself}
 use Rattle.std.specs.Cmp.Lexicographic.{nat_list_cmp_total}
 use Rattle.jf_path.specs.Keys.{key_cmp, IsKey, IsBytes}
 use Rattle.jf_hash.specs.Maps.{Batch, IsBatch, same_key}
+use Rattle.jf_hash.specs.KeyOrder.{same_key-exact, below-first, below-later, below-rest, sorted-rest}
 use Rattle.jf_split.specs.Limits.{IsWithinLimits, is_full}
 
 -- what holds of each entry and of the new one holds of each entry behind a put
@@ -17,26 +16,13 @@ all-put P k v [] here all = (here, tt)
 all-put P k v (e ∷ es) here all =
     elim (key_cmp k e.0) as (λ r. key_cmp k e.0 ≡ r → AllByRecursion P (by_order r ((k, v) ∷ e ∷ es) ((e.0, v) ∷ es) (e ∷ put key_cmp k v es))) [
       | Less ↦ λ is. (here, all)
-      | Equal ↦ λ is. (subst (λ q. P (q, v)) (fin.slice_cmp-IsAntisymmetric fin.nat_cmp-IsAntisymmetric k e.0 is) here, all.1)
+      | Equal ↦ λ is. (subst (λ q. P (q, v)) (same_key-exact k e.0 is) here, all.1)
       | Greater ↦ λ is. (all.0, all-put P k v es here all.1)
     ] refl
 
-less_differs : (o : Ordering) → T (is_lt o) → is_eq o ≡ false
-less_differs Less h = refl
-less_differs Equal h = absurd h
-less_differs Greater h = absurd h
-
-left_so : (a b : Bool) → T (a && b) → T a
-left_so true b h = tt
-left_so false b h = absurd h
-
-right_so : (a b : Bool) → T (a && b) → T b
-right_so true b h = h
-right_so false b h = absurd h
-
 differs_from_all : (k : List ℕ) (b : Batch) → T (below_all key_cmp k b) → AllByRecursion (λ q. same_key k q ≡ false) (map (λ e. e.0) b)
 differs_from_all k [] below = tt
-differs_from_all k (e ∷ es) below = (less_differs _ (left_so _ _ below), differs_from_all k es (right_so _ _ below))
+differs_from_all k (e ∷ es) below = (ap is_eq (below-first k e es below), differs_from_all k es (below-later k e es below))
 
 pub IsBatch-none : IsBatch []
 IsBatch-none = record { sorted = tt; keys = tt; values = tt }
@@ -53,12 +39,12 @@ IsBatch-put k v b key bytes batch = record {
 pub IsDistinct-keys : (b : Batch) → T (is_sorted key_cmp b) → IsDistinct same_key (map (λ e. e.0) b)
 unfolding IsDistinct
 IsDistinct-keys [] sorted = tt
-IsDistinct-keys (e ∷ es) sorted = (differs_from_all e.0 es (left_so _ _ sorted), IsDistinct-keys es (right_so _ _ sorted))
+IsDistinct-keys (e ∷ es) sorted = (differs_from_all e.0 es (below-rest e es sorted), IsDistinct-keys es (sorted-rest e es sorted))
 
 pub IsWithinLimits-none : IsWithinLimits []
 IsWithinLimits-none = record { keys = omega arith; values = tt }
 
--- where fewer are there or the key is not new, one word more stays within the limit
+-- where fewer are there or the key is not new, one entry more stays within the limit
 room_for : (most n : ℕ) (absent : Bool) → (nat_le most n && absent) ≡ false → n ≤ most → cond (not absent) n (n + 1) ≤ most
 room_for most n false room within = within
 room_for most n true room within = elim (nat_le most n) as (λ b. nat_le most n ≡ b → (b && true) ≡ false → n + 1 ≤ most) [

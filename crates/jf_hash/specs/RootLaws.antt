@@ -1,17 +1,34 @@
--- The root of a map, by its parts.
-use Rattle.std.specs.Prelude.{◌≡◌, ℕ, suc, ◌+◌, ◌<◌, ◌≤◌, Bool, true, false, not, cond, List, [], ◌∷◌, map, filter, length}
+-- Roots by their parts, and those of small maps.
+use Rattle.std.specs.Prelude.{◌≡◌, ℕ, suc, ◌+◌, ◌-◌, ◌<◌, ◌≤◌, Bool, true, false, not, cond, List, [], ◌∷◌, map, filter, length}
 use Rattle.std.proofs.Common.{refl, sym, ap, ap₂, ◌∙◌, arith}
 use Rattle.std.specs.FinMap as fin
 use Rattle.std.specs.FinMap.{entries, put}
 use Rattle.std.specs.Cmp.Lexicographic.{nat_list_cmp_total}
 use Rattle.jf_path.specs.Keys.{bit, key_cmp}
 use Rattle.jf_hash.specs.Hashes.{E, L, N, V}
-use Rattle.jf_hash.specs.Maps.{Map, same_map}
-use Rattle.jf_hash.specs.Roots.{root, leaf_of, leaves_root, leaves_root-none, leaves_root-one, leaves_root-split, zeros, ones}
+use Rattle.jf_hash.specs.Maps.{Map}
+use Rattle.jf_hash.specs.MapLaws.{same_map}
+use Rattle.jf_hash.specs.Roots.{Leaf, zeros, ones, root_below, leaves_root, leaf_of, part_root, root}
 
--- of entries of a map, with values
-unfoldable pub part_root : ℕ → List (List ℕ × List ℕ) → List ℕ
-part_root d es = leaves_root d (map leaf_of es)
+pub leaves_root-none : (d : ℕ) → leaves_root d [] ≡ E
+unfolding leaves_root root_below
+leaves_root-none d = refl
+
+pub leaves_root-one : (d : ℕ) (e : Leaf) → leaves_root d (e ∷ []) ≡ L e.0 e.1
+unfolding leaves_root root_below
+leaves_root-one d e = refl
+
+split_below : (n d : ℕ) (es : List Leaf) → 2 ≤ length es → root_below (suc n) d es ≡ N (root_below n (d + 1) (zeros d es)) (root_below n (d + 1) (ones d es))
+unfolding root_below
+split_below n d [] h = absurd (omega arith)
+split_below n d (e ∷ []) h = absurd (omega arith)
+split_below n d (e ∷ f ∷ es) h = refl
+
+pub leaves_root-split : (d : ℕ) (es : List Leaf) → d < 256 → 2 ≤ length es → leaves_root d es ≡ N (leaves_root (d + 1) (zeros d es)) (leaves_root (d + 1) (ones d es))
+unfolding leaves_root
+leaves_root-split d es lt two =
+    let n : 256 - d ≡ suc (256 - (d + 1)) = omega arith in
+    rw n (split_below (256 - (d + 1)) d es two)
 
 pub root-part_root : (m : Map) → root m ≡ part_root 0 (entries m)
 unfolding root part_root

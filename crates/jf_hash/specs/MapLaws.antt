@@ -1,0 +1,70 @@
+-- What maps answer, without a key and behind a batch.
+use Rattle.std.specs.Prelude.{◌≡◌, ℕ, Bool, true, false, cond, not, T, List, [], ◌∷◌, Option, Some, None}
+use Rattle.std.proofs.Common.{refl, sym, ap, ◌∙◌, subst, Less, Equal, Greater, Ordering, is_eq}
+use Rattle.std.specs.FinMap as map
+use Rattle.std.specs.FinMap.{entries, find, is_sorted}
+use Rattle.std.specs.FinMap.Entries.{below_all, where_key, is_sorted-where_key, find-where_key, same_entries}
+use Rattle.std.specs.Cmp.{eq_by_cmp_equiv}
+use Rattle.std.specs.Cmp.Lexicographic.{nat_list_cmp_total}
+use Rattle.jf_path.specs.Keys.{key_cmp}
+use Rattle.jf_hash.specs.Maps.{Map, Batch, change, apply, same_key}
+use Rattle.jf_hash.specs.KeyOrder.{same_key-exact, below-first, below-later, below-rest, sorted-rest}
+
+-- maps that answer alike are one
+pub same_map : (m n : Map) → ((q : List ℕ) → map.get m q ≡ map.get n q) → m ≡ n
+same_map m n h = map.same_map nat_list_cmp_total same_key-exact m n h
+
+turned : {A : Type 0} (b : Bool) (x y : A) → cond (not b) x y ≡ cond b y x
+turned true x y = refl
+turned false x y = refl
+
+-- what stands in a map without a key
+pub entries-remove : (m : Map) (k : List ℕ) → entries (map.remove m k) ≡ where_key key_cmp (λ x. not (same_key k x)) (entries m)
+entries-remove m k =
+    let p : List ℕ → Bool = λ x. not (same_key k x) in
+    same_entries key_cmp nat_list_cmp_total same_key-exact _ _ (map.entries_sorted (map.remove m k)) (is_sorted-where_key key_cmp p (entries m) (map.entries_sorted m)) (λ q.
+    sym (map.get-entries (map.remove m k) q) ∙ map.get-remove nat_list_cmp_total m k q ∙ ap (λ o. cond (same_key q k) None o) (map.get-entries m q)
+    ∙ ap (λ b. cond b None (find key_cmp q (entries m))) (sym ((eq_by_cmp_equiv nat_list_cmp_total).symm k q)) ∙ sym (turned (same_key k q) (find key_cmp q (entries m)) None)
+    ∙ sym (find-where_key key_cmp p q (λ x e. ap p (sym (same_key-exact q x e))) (entries m)))
+
+get-change : (m : Map) (k : List ℕ) (v : Option (List ℕ)) (q : List ℕ) → map.get (change k v m) q ≡ cond (same_key q k) v (map.get m q)
+get-change m k (Some v) q = map.get-insert nat_list_cmp_total m k v q
+get-change m k None q = map.get-remove nat_list_cmp_total m k q
+
+-- the last word of a list on a key: the value that it gives, or none, or the value before where it has no word on it
+abbrev pub said : List ℕ → Batch → Option (List ℕ) → Option (List ℕ)
+said q [] before = before
+said q (e ∷ es) before = said q es (cond (same_key q e.0) e.1 before)
+
+pub get-apply : (m : Map) (b : Batch) (q : List ℕ) → map.get (apply m b) q ≡ said q b (map.get m q)
+unfolding apply
+get-apply m [] q = refl
+get-apply m (e ∷ es) q = get-apply (change e.0 e.1 m) es q ∙ ap (said q es) (get-change m e.0 e.1 q)
+
+so_equal : (o : Ordering) → is_eq o ≡ true → o ≡ Equal
+so_equal Less h = absurd (cc)
+so_equal Equal h = refl
+so_equal Greater h = absurd (cc)
+
+unsaid : (q : List ℕ) (b : Batch) (before : Option (List ℕ)) → T (below_all key_cmp q b) → said q b before ≡ before
+unsaid q [] before below = refl
+unsaid q (e ∷ es) before below =
+    ap (λ o. said q es (cond (is_eq o) e.1 before)) (below-first q e es below) ∙ unsaid q es before (below-later q e es below)
+
+-- what a key has, by what a batch says of it and what it had
+abbrev pub value_after : Option (Option (List ℕ)) → Option (List ℕ) → Option (List ℕ)
+value_after None before = before
+value_after (Some v) before = v
+
+-- a batch in order says one thing of a key
+pub said-find : (q : List ℕ) (b : Batch) (before : Option (List ℕ)) → T (is_sorted key_cmp b) → said q b before ≡ value_after (find key_cmp q b) before
+said-find q [] before sorted = refl
+said-find q (e ∷ es) before sorted =
+    elim (same_key q e.0) as (λ t. same_key q e.0 ≡ t → said q es (cond t e.1 before) ≡ value_after (cond t (Some e.1) (find key_cmp q es)) before) [
+      | true ↦ λ is. unsaid q es e.1 (subst (λ k. T (below_all key_cmp k es)) (sym (same_key-exact q e.0 (so_equal _ is))) (below-rest e es sorted))
+      | false ↦ λ is. said-find q es before (sorted-rest e es sorted)
+    ] refl
+
+-- a key that a batch names has what the batch gives, or nothing, and every other key has what it had
+pub get-apply-sorted : (m : Map) (b : Batch) (q : List ℕ) → T (is_sorted key_cmp b) → map.get (apply m b) q ≡ value_after (find key_cmp q b) (map.get m q)
+get-apply-sorted m b q sorted = get-apply m b q ∙ said-find q b (map.get m q) sorted
