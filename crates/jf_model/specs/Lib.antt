@@ -1,5 +1,7 @@
+pub mod Changes
 pub mod Batches
 pub mod Versions
+pub mod VersionLaws
 pub mod Forks
 pub mod ForkLaws
 pub mod States
