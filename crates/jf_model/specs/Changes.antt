@@ -1,6 +1,6 @@
 -- What a batch makes of the entries of a map, and what it keeps.
-use Rattle.std.specs.Prelude.{◌≡◌, ℕ, ◌≤◌, Bool, true, false, cond, not, ◌&&◌, T, List, [], ◌∷◌, length, filter, Option, Some, None, IfSome}
-use Rattle.std.proofs.Common.{refl, sym, ap, ◌∙◌, subst, Less, Equal, Greater, Ordering, is_eq}
+use Rattle.std.specs.Prelude.{◌≡◌, ℕ, Bool, true, false, cond, not, T, List, [], ◌∷◌, Option, Some, None, IfSome}
+use Rattle.std.proofs.Common.{refl, sym, ap, ◌∙◌, subst, Less, Equal, Greater}
 use Rattle.std.specs.List.{AllByRecursion}
 use Rattle.std.specs.FinMap as fin
 use Rattle.std.specs.FinMap.{entries, put, is_sorted}

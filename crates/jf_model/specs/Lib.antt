@@ -6,4 +6,5 @@ pub mod Forks
 pub mod ForkLaws
 pub mod States
 pub mod Entries
+pub mod EntryLaws
 pub mod VersionCodes

@@ -9,7 +9,7 @@ use Rattle.jf_hash.specs.Hashes.{E, L, N}
 use Rattle.jf_hash.specs.KeyFacts.{sha256-IsKey}
 use Rattle.jf_hash.specs.Maps.{Map, Batch, IsMap, IsBatch, apply}
 use Rattle.jf_hash.specs.MapRoots.{entries-empty}
-use Rattle.jf_hash.specs.Roots.{Leaf, root_below, leaves_root, root, leaf_of, zeros, ones}
+use Rattle.jf_hash.specs.Roots.{Leaf, root_below, leaves_root, root, leaf_of}
 use Rattle.jf_model.specs.Changes.{IsMap-apply}
 use Rattle.jf_model.specs.Batches.{apply_all}
 use Rattle.jf_model.specs.Versions.{Versions, IsVersions, new_store, newest, map_of, root_of, landed, unlanded, land_all, pruned, imported}

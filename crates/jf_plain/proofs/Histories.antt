@@ -1,8 +1,8 @@
 -- The versions that are kept: what stands where, and that they stay sound.
-use Rattle.std.proofs.Common.{◌≡◌, ℕ, zero, suc, ◌+◌, ◌-◌, ◌<◌, ◌≤◌, ◌^◌, List, [], ◌∷◌, ◌++◌, length, map, reverse, get_or, refl, sym, ap, ◌∙◌, subst, arith, length-append}
-use Rattle.std.proofs.lemmas.List.{reverse-append, get_or-reverse, get_or-map, length-reverse, length-map}
+use Rattle.std.proofs.Common.{◌≡◌, ℕ, ◌+◌, ◌-◌, ◌<◌, ◌≤◌, ◌^◌, List, [], ◌∷◌, ◌++◌, length, map, reverse, get_or, sym, ap, ◌∙◌, subst, arith, length-append}
+use Rattle.std.proofs.lemmas.List.{reverse-append, get_or-reverse, get_or-map, length-reverse}
 use Rattle.std.specs.FinMap as fin
-use Rattle.jf_hash.specs.Maps.{Map, Batch, IsMap, apply}
+use Rattle.jf_hash.specs.Maps.{Batch, IsMap, apply}
 use Rattle.jf_hash.specs.Roots.{root}
 use Rattle.jf_model.specs.Versions.{Versions, IsVersions, new_store, newest, map_of, root_of, landed}
 use Rattle.jf_model.specs.VersionLaws.{new_store-IsVersions, landed_map-IsVersions}

@@ -4,11 +4,11 @@ use Rattle.std.proofs.lemmas.List.{take_all}
 use Rattle.std.specs.Ordering.{ordering_reverse}
 use Rattle.std.specs.FinMap as fin
 use Rattle.std.specs.FinMap.{is_sorted, put}
-use Rattle.std.specs.FinMap.Entries.{below_all, by_order, where_key}
+use Rattle.std.specs.FinMap.Entries.{below_all, by_order}
 use Rattle.std.specs.Cmp.{tied_itself}
 use Rattle.std.specs.Cmp.Lexicographic.{nat_list_cmp_total}
 use Rattle.jf_path.specs.Keys.{key_cmp}
-use Rattle.jf_hash.specs.Maps.{Batch, same_key}
+use Rattle.jf_hash.specs.Maps.{Batch}
 use Rattle.jf_model.specs.Changes.{MapEntry, changed, applied}
 use Rattle.jf_plain.specs.Entries.{with_put, IsCountBelow, IsCountAt}
 
@@ -188,8 +188,8 @@ turn-whole es bs i j item below at xs ys zs whole t copied put was =
     let stands : IsCountAt item.0 (drop below rest) at = subst (λ l. IsCountAt item.0 l at) (all_behind (i + below) es ∙ sym (drop-drop i below es)) t.at_is in
     let rising : T (is_sorted key_cmp ((item.0, item.1) ∷ drop (j + 1) bs)) = subst (λ l. T (is_sorted key_cmp l)) (next_item bs j item t.more t.item_is) (sorted_behind j bs t.batch) in
     let step : applied rest (drop j bs) ≡ take below rest ++ with_put item.0 item.1 later =
-        ap (applied rest) (next_item bs j item t.more t.item_is) ∙ applied-step rest item.0 item.1 (drop (j + 1) bs) below at (sorted-drop i es t.entries) rising counted stands
-        ∙ ap (λ l. take below rest ++ with_put item.0 item.1 (applied l (drop (j + 1) bs))) gone in
+    ap (applied rest) (next_item bs j item t.more t.item_is) ∙ applied-step rest item.0 item.1 (drop (j + 1) bs) below at (sorted-drop i es t.entries) rising counted stands
+    ∙ ap (λ l. take below rest ++ with_put item.0 item.1 (applied l (drop (j + 1) bs))) gone in
     ap (λ l. l ++ later) (put ∙ ap (λ l. l ++ with_put item.0 item.1 []) (copied ∙ ap (λ n. xs ++ take n rest) (back i below)))
     ∙ put_behind item.0 item.1 (xs ++ take below rest) later ∙ append_assoc xs (take below rest) (with_put item.0 item.1 later) ∙ ap (λ l. xs ++ l) (sym step) ∙ was
 

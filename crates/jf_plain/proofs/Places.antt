@@ -1,18 +1,16 @@
 -- Where a key stands in entries in the order of their keys.
-use Rattle.std.proofs.Common.{◌≡◌, ℕ, zero, suc, ◌+◌, ◌-◌, ◌<◌, ◌≤◌, Bool, true, false, cond, ◌&&◌, ◌⊎◌, inl, inr, List, [], ◌∷◌, length, get_or, refl, sym, ap, ◌∙◌, subst, arith, T, Less, Equal, Greater, Ordering, is_lt, is_eq, Option, None, Some, Result, Ok, Err, le_refl, ltb}
+use Rattle.std.proofs.Common.{◌≡◌, ℕ, zero, suc, ◌<◌, ◌≤◌, Bool, true, false, cond, ◌&&◌, ◌⊎◌, inl, inr, List, [], ◌∷◌, length, get_or, refl, sym, ap, ◌∙◌, subst, arith, T, Less, Equal, Greater, Ordering, is_lt, is_eq, None, Some, Result, Ok, Err, le_refl, ltb}
 use borrow.Author.Tests.{ltb-true, ltb-false}
 use Rattle.std.specs.Result.{result_ok}
 use Rattle.jf_plain.specs.Entries.{IsPlaceOf}
-use Rattle.std.specs.List.{AllWithin, HoldsAt}
 use Rattle.std.specs.List.Sorted.{IsNonDecreasingBy, IsPartitionPoint, IsSearchInRange, IsBinarySearchResult}
-use Rattle.std.specs.Ordering.{ordering_index, ordering_reverse}
+use Rattle.std.specs.Ordering.{ordering_index}
 use Rattle.std.specs.FinMap as fin
 use Rattle.std.specs.FinMap.{is_sorted, find}
 use Rattle.std.specs.FinMap.Entries.{below_all}
 use Rattle.std.specs.Cmp.{tied_back}
 use Rattle.std.specs.Cmp.Lexicographic.{nat_list_cmp_total}
 use Rattle.jf_path.specs.Keys.{key_cmp}
-use Rattle.jf_hash.specs.Maps.{same_key}
 
 abbrev Entry : Type 0
 Entry = List ℕ × List ℕ
@@ -90,7 +88,7 @@ found q [] i d h lt is = absurd (omega arith)
 found q (e ∷ es) zero d h lt is = ap (λ b. cond b (Some e.1) (find key_cmp q es)) (ap is_eq (turned e.0 q is))
 found q (e ∷ es) (suc i) d h lt is =
     let apart : key_cmp q e.0 ≡ Equal → ⊥ = λ same.
-        less_not_equal (sym (below-at e.0 es i d (left_so _ _ h) (omega arith)) ∙ ap (λ k. key_cmp k (get_or es i d).0) (sym (exact q e.0 same)) ∙ turned (get_or es i d).0 q is) in
+    less_not_equal (sym (below-at e.0 es i d (left_so _ _ h) (omega arith)) ∙ ap (λ k. key_cmp k (get_or es i d).0) (sym (exact q e.0 same)) ∙ turned (get_or es i d).0 q is) in
     ap (λ b. cond b (Some e.1) (find key_cmp q es)) (not_equal (key_cmp q e.0) apart) ∙ found q es i d (right_so _ _ h) (omega arith) is
 
 missing : (q : List ℕ) (es : List Entry) → ((k : ℕ) (d : Entry) → k < length es → key_cmp (get_or es k d).0 q ≡ Equal → ⊥) → find key_cmp q es ≡ None

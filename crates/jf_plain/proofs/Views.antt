@@ -1,11 +1,11 @@
 -- What a map of entries answers.
-use Rattle.std.proofs.Common.{◌≡◌, ℕ, ◌≤◌, Bool, true, false, ◌&&◌, T, List, [], ◌∷◌, length, map, refl, sym, ap, ◌∙◌, subst, Option, is_lt}
+use Rattle.std.proofs.Common.{◌≡◌, ℕ, ◌≤◌, Bool, true, false, ◌&&◌, T, List, [], ◌∷◌, length, map, sym, ap, ◌∙◌, subst}
 use Rattle.std.specs.List.{AllByRecursion}
 use Rattle.std.specs.FinMap as fin
 use Rattle.std.specs.FinMap.{is_sorted, find, entries}
 use Rattle.std.specs.FinMap.Entries.{below_all}
 use Rattle.jf_path.specs.Keys.{key_cmp, IsKey, IsBytes}
-use Rattle.jf_hash.specs.Maps.{Map, IsMap, Batch, IsBatch, apply}
+use Rattle.jf_hash.specs.Maps.{IsMap, Batch, IsBatch, apply}
 use Rattle.jf_hash.specs.MapRoots.{entries-empty}
 use Rattle.jf_hash.specs.Roots.{root, leaves_root, leaf_of}
 use Rattle.jf_split.specs.Limits.{IsWithinLimits}

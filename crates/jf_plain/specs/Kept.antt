@@ -1,5 +1,5 @@
 -- The versions that are kept, as the model has them.
-use Rattle.std.specs.Prelude.{◌≡◌, ℕ, ◌-◌, ◌^◌, ◌<◌, List, map, reverse, length}
+use Rattle.std.specs.Prelude.{◌-◌, ◌^◌, ◌<◌, List, map, reverse, length}
 use Rattle.jf_model.specs.Versions.{Versions, IsVersions}
 use Rattle.jf_plain.specs.declared.versions.Version.{Version}
 

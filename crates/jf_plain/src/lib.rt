@@ -7,3 +7,6 @@ mod versions;
 
 pub use map::PlainMap;
 pub use versions::PlainVersions;
+
+#[cfg(test)]
+mod tests;

@@ -92,13 +92,14 @@ fn place_of(entries: &[(Key, Bytes)], key: &Key) -> Option<usize>
     requires { T (is_sorted key_cmp entries.now) }
     ensures { IsPlaceOf key.now entries.now result }
 {
-    entries
-        .binary_search_by_key(key, |entry: &(Key, Bytes)| -> Key
-            ensures { result ≡ entry.now.0 }
-        {
-            entry.0
-        })
-        .ok()
+    entries.binary_search_by_key(key, key_of).ok()
+}
+
+/// The key of an entry.
+fn key_of(entry: &(Key, Bytes)) -> Key
+    ensures { result ≡ entry.now.0 }
+{
+    entry.0
 }
 
 /// The keys, each with the hash of its value.

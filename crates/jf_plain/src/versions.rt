@@ -26,7 +26,8 @@ pub struct PlainVersions {
 }
 
 impl Model for PlainVersions {
-    ghost use Rattle.jf_model.specs.Versions.{Versions, versions_code};
+    ghost use Rattle.jf_model.specs.Versions.{Versions};
+    ghost use Rattle.jf_model.specs.VersionCodes.{versions_code};
 
     ghost Value = { Versions };
 

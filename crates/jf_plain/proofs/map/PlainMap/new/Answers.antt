@@ -1,4 +1,4 @@
-use Rattle.jf_plain.proofs.Views.{none-of, are_none}
+use Rattle.jf_plain.proofs.Views.{none-of}
 use Rattle.jf_plain.proofs.map.PlainMap.new.Goals as goal
 
 pub returns : goal.returns

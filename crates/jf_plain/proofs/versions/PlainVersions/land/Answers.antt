@@ -1,7 +1,7 @@
 use Rattle.std.proofs.Common.{subst, sym, ap, ◌∙◌}
 use Rattle.jf_hash.specs.Maps.{apply}
 use Rattle.jf_plain.specs.Kept.{AreKept}
-use Rattle.jf_plain.proofs.Histories.{kept-landed, are-landed}
+use Rattle.jf_plain.proofs.Histories.{are-landed}
 use Rattle.jf_plain.proofs.versions.PlainVersions.land.Goals as goal
 
 pub invariant_of-self-2 : goal.invariant_of-self-2
