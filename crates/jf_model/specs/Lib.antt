@@ -1,7 +1,10 @@
+pub mod Changes
 pub mod Batches
 pub mod Versions
+pub mod VersionLaws
 pub mod Forks
 pub mod ForkLaws
 pub mod States
 pub mod Entries
+pub mod EntryLaws
 pub mod VersionCodes

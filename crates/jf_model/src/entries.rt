@@ -35,9 +35,19 @@ pub enum Entry {
         moment: u64,
     },
     /// A fork was dropped, and what stands on it.
-    Dropped { owner: u64, fork: u64 },
+    Dropped {
+        owner: u64,
+        fork: u64,
+    },
     /// The versions below `bound` were retired, and those below `floor` are gone.
-    Retired { owner: u64, bound: u64, floor: u64 },
+    Retired {
+        owner: u64,
+        bound: u64,
+        floor: u64,
+    },
     /// A new generation was written.
-    Compacted { owner: u64, generation: u64 },
+    Compacted {
+        owner: u64,
+        generation: u64,
+    },
 }

@@ -31,6 +31,13 @@ impl Ledger {
         }
     }
 
+    /// These events, the first one first. It takes no memory.
+    pub fn of(entries: Vec<Entry>) -> Ledger
+        ensures { result ≡ entries.items }
+    {
+        Ledger { entries }
+    }
+
     /// How many there are.
     pub fn len(&self) -> u64
         ensures { result ≡ length self.now }

@@ -1,0 +1,4 @@
+pub mod Places
+pub mod Merges
+pub mod Views
+pub mod Histories
