@@ -8,7 +8,7 @@ use Rattle.std.specs.FinMap.Entries.{by_order, where_key, is_sorted-put, is_sort
 use Rattle.std.specs.Cmp.Lexicographic.{nat_list_cmp_total}
 use Rattle.jf_path.specs.Keys.{key_cmp, IsKey, IsBytes}
 use Rattle.jf_hash.specs.Maps.{Map, Batch, IsMap, IsBatch, change, apply, same_key}
-use Rattle.jf_hash.specs.KeyFacts.{entries-remove}
+use Rattle.jf_hash.specs.MapLaws.{entries-remove}
 
 abbrev pub MapEntry : Type 0
 MapEntry = List ℕ × List ℕ

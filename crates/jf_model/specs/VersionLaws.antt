@@ -6,9 +6,9 @@ use Rattle.std.specs.FinMap as fin
 use Rattle.std.specs.FinMap.{entries}
 use Rattle.jf_path.specs.Keys.{IsKey, IsBytes}
 use Rattle.jf_hash.specs.Hashes.{E, L, N}
-use Rattle.jf_hash.specs.KeyFacts.{sha256-IsKey}
+use Rattle.jf_hash.specs.HashLaws.{sha256-IsKey}
 use Rattle.jf_hash.specs.Maps.{Map, Batch, IsMap, IsBatch, apply}
-use Rattle.jf_hash.specs.MapRoots.{entries-empty}
+use Rattle.jf_hash.specs.RootLaws.{entries-empty}
 use Rattle.jf_hash.specs.Roots.{Leaf, root_below, leaves_root, root, leaf_of}
 use Rattle.jf_model.specs.Changes.{IsMap-apply}
 use Rattle.jf_model.specs.Batches.{apply_all}

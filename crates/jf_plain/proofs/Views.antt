@@ -6,7 +6,7 @@ use Rattle.std.specs.FinMap.{is_sorted, find, entries}
 use Rattle.std.specs.FinMap.Entries.{below_all}
 use Rattle.jf_path.specs.Keys.{key_cmp, IsKey, IsBytes}
 use Rattle.jf_hash.specs.Maps.{IsMap, Batch, IsBatch, apply}
-use Rattle.jf_hash.specs.MapRoots.{entries-empty}
+use Rattle.jf_hash.specs.RootLaws.{entries-empty}
 use Rattle.jf_hash.specs.Roots.{root, leaves_root, leaf_of}
 use Rattle.jf_split.specs.Limits.{IsWithinLimits}
 use Rattle.jf_model.specs.Changes.{MapEntry, applied, entries-apply, sorted-applied, sound-applied, all-applied}
