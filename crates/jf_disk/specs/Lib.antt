@@ -4,3 +4,5 @@ pub mod Memory
 pub mod Replay
 pub mod Log
 pub mod Sides
+pub mod File
+pub mod Any

@@ -8,7 +8,7 @@ ghost use Rattle.jf_disk.specs.Sides.{files};
 
 use crate::disk::{Disk, DiskFailed};
 use crate::log::{Entry, Log};
-use crate::side::Side;
+use crate::side::{MAX_SIDE, Side};
 use crate::sides::{Sides, read_bytes};
 use jf_path::Memory;
 use std::alloc::Global;
@@ -44,9 +44,6 @@ impl Model for MemDisk {
 
     ghost invariant = { λ d. (files d.sides ≡ reads (history (files d.first) d.log.calls)) × HasRoom d.sides (d.log.most_bytes - bytes_written d.log.calls) };
 }
-
-/// The most bytes of a side.
-const MAX_SIDE: u64 = 1 << 62;
 
 // Whether a number is among these.
 fn is_listed(numbers: &[u64], number: u64) -> bool
