@@ -1,3 +1,5 @@
 pub mod Logged
 pub mod Mirror
 pub mod Outcome
+pub mod Spoiled
+pub mod Begins

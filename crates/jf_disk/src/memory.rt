@@ -26,10 +26,8 @@ pub struct MemDisk {
 }
 
 impl Model for MemDisk {
-    ghost use Rattle.std.specs.Prelude.{◌≡◌, ◌-◌};
-    ghost use Rattle.jf_disk.specs.Disk.{reads};
-    ghost use Rattle.jf_disk.specs.Memory.{InMemory, history, bytes_written};
-    ghost use Rattle.jf_disk.specs.Sides.{files, HasRoom};
+    ghost use Rattle.jf_disk.specs.Memory.{InMemory};
+    ghost use Rattle.jf_disk.specs.Sides.{files, IsUpToDate};
 
     ghost Value = { InMemory };
 
@@ -42,7 +40,7 @@ impl Model for MemDisk {
         most_bytes = d.log.most_bytes;
         bounded = d.bounded } };
 
-    ghost invariant = { λ d. (files d.sides ≡ reads (history (files d.first) d.log.calls)) × HasRoom d.sides (d.log.most_bytes - bytes_written d.log.calls) };
+    ghost invariant = { λ d. IsUpToDate d.first d.sides d.log.calls d.log.most_bytes };
 }
 
 // Whether a number is among these.

@@ -1,7 +1,8 @@
 // The bytes of both sides in memory.
 ghost use Rattle.std.specs.Prelude.{◌≡◌, ℕ, ◌+◌, ◌-◌, ◌<◌, ◌≤◌, ◌^◌, min, length, take, drop, ◌++◌, vec_capacity};
 ghost use Rattle.jf_disk.specs.Disk.{put_at};
-ghost use Rattle.jf_disk.specs.Sides.{bytes_of, with_bytes, files, HasRoom};
+ghost use Rattle.jf_disk.specs.Effect.{bytes_of, with_bytes};
+ghost use Rattle.jf_disk.specs.Sides.{files, HasRoom};
 
 use crate::side::Side;
 
@@ -23,11 +24,10 @@ impl Sides {
         }
     }
 
-    /// Writes bytes to a side from an offset on, in the room that it has.
+    /// Writes bytes to a side from an offset on, or from its end where that is past it, in the room
+    /// that it has.
     pub fn put(&mut self, side: Side, at: u64, bytes: &[u8])
-        requires at { at ≤ length (bytes_of side (files self.old)) }
-        requires end { at + length bytes.now ≤ 2 ^ 62 }
-        requires room { HasRoom self.old (length bytes.now) }
+        requires { HasRoom self.old (length bytes.now) }
         ensures files { files self.new ≡ with_bytes side (put_at at bytes.now (bytes_of side (files self.old))) (files self.old) }
         ensures room { (n : ℕ) → HasRoom self.old (length bytes.now + n) → HasRoom self.new n }
     {
@@ -51,13 +51,12 @@ impl Sides {
 
 // Writes bytes at an offset, over what is there and past the end.
 fn put_bytes(target: &mut Vec<u8>, at: usize, bytes: &[u8])
-    requires at { at ≤ length target.old.items }
-    requires end { at + length bytes.now ≤ 2 ^ 62 }
-    requires room { length target.old.items + length bytes.now ≤ vec_capacity target.old }
+    requires { length target.old.items + length bytes.now ≤ vec_capacity target.old }
     ensures items { target.new.items ≡ put_at at bytes.now target.old.items }
     ensures len { length target.new.items ≤ length target.old.items + length bytes.now }
     ensures capacity { vec_capacity target.old ≤ vec_capacity target.new }
 {
+    let at = at.min(target.len());
     let end = at + bytes.len();
     if target.len() < end {
         let _ = target.resize(end, 0);
