@@ -5,6 +5,7 @@
 mod any;
 mod disk;
 mod file;
+mod image;
 mod laws;
 mod log;
 mod memory;

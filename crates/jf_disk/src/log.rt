@@ -1,9 +1,13 @@
 // The calls on a disk in memory, kept in room that is taken at once.
-ghost use Rattle.std.specs.Prelude.{◌≡◌, ◌⊎◌, ◌-◌, ◌^◌, ◌+◌, ◌<◌, ◌≤◌, ◌↔◌, length, take, ◌++◌, ◌∷◌, [], IfOk, IsTrue};
+ghost use Rattle.std.specs.Prelude.{◌≡◌, ◌⊎◌, ◌-◌, ◌^◌, ◌+◌, ◌<◌, ◌≤◌, ◌↔◌, length, take, ◌++◌, ◌∷◌, [], IfOk, OnOk, IsTrue};
 ghost use Rattle.jf_disk.specs.Memory.{writes, bytes_written, missed};
+ghost use Rattle.jf_disk.specs.Image.{image_of};
 ghost use Rattle.jf_disk.specs.Log.{takes, call_of};
+ghost use Rattle.jf_disk.specs.Sides.{files, HasRoom};
 
+use crate::image::{Spoil, replay};
 use crate::side::Side;
+use crate::sides::Sides;
 use jf_path::Memory;
 use std::alloc::Global;
 use std::marker::Model;
@@ -57,6 +61,20 @@ impl Log {
             most_calls: calls,
             most_bytes: bytes,
         })
+    }
+
+    /// The room for calls.
+    pub fn most_calls(&self) -> u64
+        ensures { result ≡ self.now.most_calls }
+    {
+        self.most_calls
+    }
+
+    /// The room for written bytes.
+    pub fn most_bytes(&self) -> u64
+        ensures { result ≡ self.now.most_bytes }
+    {
+        self.most_bytes
     }
 
     /// How many calls there are.
@@ -115,5 +133,18 @@ impl Log {
         } else if self.moment() < u64::MAX {
             self.past_room += 1;
         }
+    }
+
+    /// Makes the first `moment` calls on the sides, where the bytes that were not synced by then are
+    /// spoiled.
+    pub fn replay(&self, alloc: Global, moment: u64, spoil: Spoil, sides: &mut Sides) -> Result<(), Memory>
+        requires moment { moment ≤ length self.now.calls }
+        requires room { HasRoom sides.old self.now.most_bytes }
+        ensures { OnOk result (files sides.new ≡ image_of (files sides.old) (take moment self.now.calls) spoil.kept spoil.fill) }
+    {
+        let mut written = self.written.to_vec(alloc)?;
+        let count = self.entries.len().min(moment as usize);
+        replay(&self.entries[..count], &mut written, spoil, sides);
+        Ok(())
     }
 }

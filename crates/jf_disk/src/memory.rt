@@ -1,12 +1,14 @@
 // A disk in memory, which keeps its calls.
 ghost use Rattle.std.specs.Prelude.{◌≡◌, ◌⊎◌, ℕ, ◌+◌, ◌-◌, ◌<◌, ◌≤◌, ◌^◌, ◌↔◌, [], ◌∷◌, ◌++◌, min, length, take, drop, Some, OnOk, OnErr, IfOk, IsErr, IsTrue};
 ghost use Rattle.std.specs.List.{Contains};
-ghost use Rattle.jf_disk.specs.Disk.{content, next, written, shortened, synced, Counts, Fails, Unchanged, TornWrite, TornCut};
+ghost use Rattle.jf_disk.specs.Disk.{IsImage, LeftSince, content, next, written, shortened, synced, Counts, Fails, Unchanged, TornWrite, TornCut};
 ghost use Rattle.jf_disk.specs.Memory.{InMemory, IsNew, start, history, history_of, longest, bytes_written, IsFailing, IsWriteFailing, Goes, Misses, nothing, writes, cuts, syncs};
+ghost use Rattle.jf_disk.specs.Image.{image_of};
 ghost use Rattle.jf_disk.specs.Log.{call_of, IsQuiet};
 ghost use Rattle.jf_disk.specs.Sides.{files};
 
 use crate::disk::{Disk, DiskFailed};
+use crate::image::Spoil;
 use crate::log::{Entry, Log};
 use crate::side::{MAX_SIDE, Side};
 use crate::sides::{Sides, read_bytes};
@@ -57,8 +59,8 @@ impl MemDisk {
     /// side is longer than 2^62 bytes; what was given is then dropped.
     pub fn new(
         alloc: Global,
-        mut a: Vec<u8>,
-        mut b: Vec<u8>,
+        a: Vec<u8>,
+        b: Vec<u8>,
         calls: u64,
         bytes: u64,
         failing: Vec<u64>,
@@ -69,15 +71,10 @@ impl MemDisk {
         if a.len() as u64 > MAX_SIDE || b.len() as u64 > MAX_SIDE {
             return Err(Memory);
         }
-        let first = Sides {
-            a: a.to_vec(alloc)?,
-            b: b.to_vec(alloc)?,
-        };
-        a.reserve_exact(bytes as usize)?;
-        b.reserve_exact(bytes as usize)?;
+        let first = Sides { a, b };
         Ok(MemDisk {
+            sides: first.with_room(alloc, bytes)?,
             first,
-            sides: Sides { a, b },
             log: Log::new(alloc, calls, bytes)?,
             failing,
             faults: 0,
@@ -89,6 +86,28 @@ impl MemDisk {
         ensures { result.now ≡ (content side (history_of self.now).now).bytes }
     {
         self.sides.bytes(side)
+    }
+
+    /// The image after a crash just after `moment` calls, which the disk has made: the first `kept`
+    /// bytes of the writes that were not synced by then stand as written, in order of writing, and
+    /// all others of them are `fill`. It is a disk of its own, with the same room, and no call of
+    /// it is listed to fail. Refused where memory is wanting.
+    pub fn image(&self, alloc: Global, moment: u64, kept: u64, fill: u8) -> Result<MemDisk, Memory>
+        requires { moment ≤ length self.now.calls }
+        ensures new { IfOk result (λ d. IsNew d (image_of self.now.first (take moment self.now.calls) kept fill) [] self.now.most_calls self.now.most_bytes) }
+        ensures image { IfOk result (λ d. IsImage (history self.now.first (take moment self.now.calls)).now d.first) }
+        ensures left { IfOk result (λ d. (t : ℕ) → t ≤ moment → LeftSince (history_of self.now) t d.first) }
+    {
+        let mut sides = self.first.with_room(alloc, self.log.most_bytes())?;
+        self.log.replay(alloc, moment, Spoil { kept, fill }, &mut sides)?;
+        MemDisk::new(
+            alloc,
+            sides.a,
+            sides.b,
+            self.log.most_calls(),
+            self.log.most_bytes(),
+            Vec::new(alloc),
+        )
     }
 
     // Whether the next call fails, whatever it does.
