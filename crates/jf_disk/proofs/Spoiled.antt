@@ -54,9 +54,9 @@ write_tracks is_synced at new spoilt c image le long e t =
       whole = λ is. ap₂ (put_at at) (e is) (t.whole is);
       len = omega (arith, length-put_at at new c.bytes, length-put_at at spoilt image, t.len);
       same = λ i lt outside.
-        let outside' : (i < at) ⊎ (at + length spoilt ≤ i) = subst (λ n. (i < at) ⊎ (at + n ≤ i)) (sym long) outside.0 in
-        let le' : at ≤ length image = omega (arith, t.len) in
-        put_outside at spoilt image i le' outside' ∙ t.same i (before_put at new c.bytes i le outside.0 lt) outside.1 ∙ sym (put_outside at new c.bytes i le outside.0);
+          let outside' : (i < at) ⊎ (at + length spoilt ≤ i) = subst (λ n. (i < at) ⊎ (at + n ≤ i)) (sym long) outside.0 in
+          let le' : at ≤ length image = omega (arith, t.len) in
+          put_outside at spoilt image i le' outside' ∙ t.same i (before_put at new c.bytes i le outside.0 lt) outside.1 ∙ sym (put_outside at new c.bytes i le outside.0);
     }
 
 cut_tracks : (is_synced : Bool) (n : ℕ) (c : Content) (image : List ℕ) → Tracks is_synced c image
@@ -66,8 +66,8 @@ cut_tracks is_synced n c image t =
       whole = λ is. ap (take n) (t.whole is);
       len = omega (arith, length-take n c.bytes, length-take n image, t.len);
       same = λ i lt at.
-        let within : i < n = omega (arith, length-take n c.bytes) in
-        get_or-take n image i 0 within ∙ t.same i (omega (arith, length-take n c.bytes)) at ∙ sym (get_or-take n c.bytes i 0 within);
+          let within : i < n = omega (arith, length-take n c.bytes) in
+          get_or-take n image i 0 within ∙ t.same i (omega (arith, length-take n c.bytes)) at ∙ sym (get_or-take n c.bytes i 0 within);
     }
 
 length-replicate : (n x : ℕ) → length (replicate n x) ≡ n
@@ -102,7 +102,7 @@ all_track : (calls : List Call) (kept fill : ℕ) (h : History) (f : Files) → 
 all_track [] kept fill h f begins t = t
 all_track (c ∷ calls) kept fill h f begins t =
     all_track calls (kept - unsynced_bytes c calls) fill (next (done c) h) (effect (spoiled_call kept fill c calls) f)
-      (subst (AllBegin calls) (sym (reads-done c h)) begins.1) (step kept fill c calls h.now f begins.0 t)
+    (subst (AllBegin calls) (sym (reads-done c h)) begins.1) (step kept fill c calls h.now f begins.0 t)
 
 tracks_leave : (c : Content) (image : List ℕ) → Fits c → Tracks false c image → MayLeave c image
 tracks_leave c image fits t = record { no_shorter = omega (arith, t.len, fits.least); no_longer = omega (arith, t.len, fits.greatest); same = λ i lt lt' at. t.same i lt' at }

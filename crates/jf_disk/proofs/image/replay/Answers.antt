@@ -25,14 +25,14 @@ loop-i-preserved c =
     let fits : length bytes - from ≡ takes e + (length (put_window from part bytes) - (from + c.taken_by-from.result)) = omega arith in
     let fill : c.replay_entry.new.spoil.fill ≡ c.loop-i.spoil.fill = r.fill in
     let bytes' : drop (from + c.taken_by-from.result) (put_window from part bytes) ≡ drop (takes e) (window from bytes) =
-      drop-put_window from c.taken_by-from.result part bytes within ∙ ap (λ n. drop n part) taken ∙ r.rest in
+    drop-put_window from c.taken_by-from.result part bytes within ∙ ap (λ n. drop n part) taken ∙ r.rest in
     let kept : c.replay_entry.new.spoil.kept ≡ c.loop-i.spoil.kept - unsynced_bytes (call_of e (window from bytes)) (logged later (drop (takes e) (window from bytes))) =
-      r.kept ∙ ap (λ entries. c.loop-i.spoil.kept - unsynced_bytes (call_of e (window from bytes)) (logged entries (drop (takes e) (window from bytes)))) (window_is (i + 1) c.args.entries.now) in
+    r.kept ∙ ap (λ entries. c.loop-i.spoil.kept - unsynced_bytes (call_of e (window from bytes)) (logged entries (drop (takes e) (window from bytes)))) (window_is (i + 1) c.args.entries.now) in
     let made : files c.replay_entry.new.sides ≡ effect (spoiled_call c.loop-i.spoil.kept c.loop-i.spoil.fill (call_of e (window from bytes)) (logged later (drop (takes e) (window from bytes)))) (files c.loop-i.sides) =
-      r.files ∙ ap (λ entries. effect (spoiled_call c.loop-i.spoil.kept c.loop-i.spoil.fill (call_of e (window from bytes)) (logged entries (drop (takes e) (window from bytes)))) (files c.loop-i.sides)) (window_is (i + 1) c.args.entries.now) in
+    r.files ∙ ap (λ entries. effect (spoiled_call c.loop-i.spoil.kept c.loop-i.spoil.fill (call_of e (window from bytes)) (logged entries (drop (takes e) (window from bytes)))) (files c.loop-i.sides)) (window_is (i + 1) c.args.entries.now) in
     let all = applied (spoiled c.args.spoil.kept c.args.spoil.fill (logged c.args.entries.now c.args.written.now)) (files c.args.sides.now) in
     let before : applied (spoiled c.loop-i.spoil.kept c.loop-i.spoil.fill (logged (e ∷ later) (window from bytes))) (files c.loop-i.sides) ≡ all =
-      rw (window_is from bytes, ← at) c.loop-i.invariant.files in
+    rw (window_is from bytes, ← at) c.loop-i.invariant.files in
     let after = replay_step later e (window from bytes) (drop (from + c.taken_by-from.result) (put_window from part bytes)) c.loop-i.spoil.kept c.replay_entry.new.spoil.kept c.loop-i.spoil.fill (files c.loop-i.sides) (files c.replay_entry.new.sides) all bytes' kept made before in
     record {
       left = left';

@@ -17,7 +17,7 @@ returns-in-Write-clause-kept c = rw (c.in-Write.is, synced_logged) c.spoil.ensur
 pub returns-in-Write-clause-files : goal.returns-in-Write-clause-files
 returns-in-Write-clause-files c =
     rw (c.in-Write.is, synced_logged)
-      (c.put.ensures.files ∙ ap (λ (bytes : List ℕ). with_bytes c.in-Write.side (put_at c.in-Write.at bytes (bytes_of c.in-Write.side (files c.args.sides.now))) (files c.args.sides.now)) c.spoil.ensures.bytes)
+    (c.put.ensures.files ∙ ap (λ (bytes : List ℕ). with_bytes c.in-Write.side (put_at c.in-Write.at bytes (bytes_of c.in-Write.side (files c.args.sides.now))) (files c.args.sides.now)) c.spoil.ensures.bytes)
 
 pub returns-in-Write-clause-room : goal.returns-in-Write-clause-room
 returns-in-Write-clause-room c = λ n room.

@@ -16,7 +16,7 @@ if_ok P Q (Err e) p f = tt
 image_left : (d : InMemory) (m t : ℕ) (f : Files) → m ≤ length d.calls → t ≤ m → IsImage (history d.first (take m d.calls)).now f → LeftSince (history_of d) t f
 image_left d m t f le le' image =
     subst (λ calls. LeftSince (history d.first calls) t f) (take-append-drop m d.calls)
-      (left_at d.first (take m d.calls) (drop m d.calls) t f (omega (arith, length-take m d.calls)) image)
+    (left_at d.first (take m d.calls) (drop m d.calls) t f (omega (arith, length-take m d.calls)) image)
 
 pub returns-clause-image : goal.returns-clause-image
 returns-clause-image c =

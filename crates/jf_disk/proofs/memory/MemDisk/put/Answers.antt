@@ -10,9 +10,11 @@ use Rattle.jf_disk.proofs.memory.MemDisk.put.Goals as goal
 
 pub invariant_of-self-inside : goal.invariant_of-self-inside
 invariant_of-self-inside c =
-    let calls : c.keep_write.new.self.calls ≡ c.self.inside.log.calls ++ writes c.args.side c.args.at c.args.bytes.now ∷ [] = ap (λ (l : Calls). l.calls) c.keep_write.ensures in
-    (longest_push (files c.self.inside.first) c.self.inside.log.calls c.keep_write.new.self.calls (writes c.args.side c.args.at c.args.bytes.now) calls c.self.inside.bounded
-      (short_put c.args.side c.args.at c.args.bytes.now _ (reads_short (history (files c.self.inside.first) c.self.inside.log.calls) c.self.inside.bounded) c.requires.end), tt)
+    let calls : c.keep_write.new.self.calls ≡ c.self.inside.log.calls ++ writes c.args.side c.args.at c.args.bytes.now ∷ [] = ap (λ (l : Calls). l.calls) c.keep_write.ensures in (
+      longest_push (files c.self.inside.first) c.self.inside.log.calls c.keep_write.new.self.calls (writes c.args.side c.args.at c.args.bytes.now) calls c.self.inside.bounded
+          (short_put c.args.side c.args.at c.args.bytes.now _ (reads_short (history (files c.self.inside.first) c.self.inside.log.calls) c.self.inside.bounded) c.requires.end),
+      tt,
+    )
 
 pub invariant_of-self : goal.invariant_of-self
 invariant_of-self c =

@@ -10,9 +10,11 @@ use Rattle.jf_disk.proofs.memory.MemDisk.shorten.Goals as goal
 
 pub invariant_of-self-inside : goal.invariant_of-self-inside
 invariant_of-self-inside c =
-    let calls : c.keep.new.self.calls ≡ c.self.inside.log.calls ++ cuts c.args.side c.args.len ∷ [] = ap (λ (l : Calls). l.calls) c.keep.ensures in
-    (longest_push (files c.self.inside.first) c.self.inside.log.calls c.keep.new.self.calls (cuts c.args.side c.args.len) calls c.self.inside.bounded
-      (short_cut c.args.side c.args.len _ (reads_short (history (files c.self.inside.first) c.self.inside.log.calls) c.self.inside.bounded)), tt)
+    let calls : c.keep.new.self.calls ≡ c.self.inside.log.calls ++ cuts c.args.side c.args.len ∷ [] = ap (λ (l : Calls). l.calls) c.keep.ensures in (
+      longest_push (files c.self.inside.first) c.self.inside.log.calls c.keep.new.self.calls (cuts c.args.side c.args.len) calls c.self.inside.bounded
+          (short_cut c.args.side c.args.len _ (reads_short (history (files c.self.inside.first) c.self.inside.log.calls) c.self.inside.bounded)),
+      tt,
+    )
 
 pub invariant_of-self : goal.invariant_of-self
 invariant_of-self c =
