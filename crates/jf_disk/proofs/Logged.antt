@@ -50,7 +50,7 @@ logged_push [] e (x ∷ bytes) more is = absurd (omega arith)
 logged_push (k ∷ entries) e bytes more is =
     let le : takes k ≤ length bytes = omega arith in
     ap₂ (λ c rest. c ∷ rest) (call_front k bytes more le)
-      (ap (logged (entries ++ e ∷ [])) (drop-append-le (takes k) bytes more le) ∙ logged_push entries e (drop (takes k) bytes) more (omega (arith, length-drop (takes k) bytes)))
+    (ap (logged (entries ++ e ∷ [])) (drop-append-le (takes k) bytes more le) ∙ logged_push entries e (drop (takes k) bytes) more (omega (arith, length-drop (takes k) bytes)))
 
 -- one more call, where none is past the room
 pub calls_push : (entries entries' : List Entry) (e : Entry) (bytes more bytes' : List ℕ) (n : ℕ) → n ≡ 0 → all_taken entries ≡ length bytes → entries' ≡ entries ++ e ∷ [] → bytes' ≡ bytes ++ more

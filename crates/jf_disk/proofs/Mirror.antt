@@ -3,21 +3,14 @@ use Rattle.std.proofs.Common.{◌≡◌, ℕ, ◌+◌, ◌-◌, ◌<◌, ◌≤�
 use Rattle.jf_disk.specs.Disk.{Files, History, State, reads, next, put_at, content}
 use Rattle.jf_disk.specs.Memory.{Call, nothing, writes, cuts, syncs, done, history, start, longest, missed, bytes_written}
 use Rattle.jf_disk.specs.Replay.{replayed-append, length-put_at, bytes_written-append}
-use Rattle.jf_disk.specs.Sides.{bytes_of, with_bytes}
+use Rattle.jf_disk.specs.Effect.{bytes_of, effect}
 use Rattle.jf_disk.specs.Log.{call_of, takes, IsQuiet}
 use Rattle.jf_disk.specs.declared.side.Side.{Side}
 use Rattle.jf_disk.specs.declared.side.Side.TheVariants as side
 use Rattle.jf_disk.specs.declared.log.Entry.{Entry}
 use Rattle.jf_disk.specs.declared.log.Entry.TheVariants as entry
 
--- what a call makes of the bytes that are read
-abbrev pub effect : Call → Files → Files
-effect nothing f = f
-effect (writes where_ at new) f = with_bytes where_ (put_at at new (bytes_of where_ f)) f
-effect (cuts where_ n) f = with_bytes where_ (take n (bytes_of where_ f)) f
-effect (syncs where_) f = f
-
-reads-done : (c : Call) (h : History) → reads (next (done c) h) ≡ effect c (reads h)
+pub reads-done : (c : Call) (h : History) → reads (next (done c) h) ≡ effect c (reads h)
 reads-done nothing h = refl
 reads-done (writes side.A at new) h = refl
 reads-done (writes side.B at new) h = refl

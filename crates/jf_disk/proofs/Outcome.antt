@@ -22,7 +22,7 @@ missed_history old new m = ap₂ history m.rest.first m.calls
 pub misses_fails : (old new : InMemory) (torn : State → State → Type 0) → Misses old new → Fails (Some (history_of old)) (Some (history_of new)) torn
 misses_fails old new torn m =
     rw (missed_history old new m)
-      (missed_either (λ calls. Fails (Some (history_of old)) (Some (history old.first calls)) torn) old.calls (inl refl) (inr (inl (ap (λ h. Some h) (history_push old.first old.calls nothing)))))
+    (missed_either (λ calls. Fails (Some (history_of old)) (Some (history old.first calls)) torn) old.calls (inl refl) (inr (inl (ap (λ h. Some h) (history_push old.first old.calls nothing)))))
 
 missed_last : (calls : List Call) → length calls ≡ 2 ^ 64 - 1 → missed calls ≡ calls
 missed_last calls e = grind (arith, nat_tests)

@@ -1,9 +1,12 @@
 // The bytes of both sides in memory.
-ghost use Rattle.std.specs.Prelude.{◌≡◌, ℕ, ◌+◌, ◌-◌, ◌<◌, ◌≤◌, ◌^◌, min, length, take, drop, ◌++◌, vec_capacity};
+ghost use Rattle.std.specs.Prelude.{◌≡◌, ℕ, ◌+◌, ◌-◌, ◌<◌, ◌≤◌, ◌^◌, min, length, take, drop, ◌++◌, IfOk, vec_capacity};
 ghost use Rattle.jf_disk.specs.Disk.{put_at};
-ghost use Rattle.jf_disk.specs.Sides.{bytes_of, with_bytes, files, HasRoom};
+ghost use Rattle.jf_disk.specs.Effect.{bytes_of, with_bytes};
+ghost use Rattle.jf_disk.specs.Sides.{files, HasRoom};
 
 use crate::side::Side;
+use jf_path::Memory;
+use std::alloc::Global;
 
 /// What each side holds.
 #[derive(Drop)]
@@ -23,11 +26,21 @@ impl Sides {
         }
     }
 
-    /// Writes bytes to a side from an offset on, in the room that it has.
+    /// A copy, with room for `more` bytes on each side.
+    pub fn with_room(&self, alloc: Global, more: u64) -> Result<Sides, Memory>
+        ensures files { IfOk result (λ s. files s ≡ files self.now) }
+        ensures room { IfOk result (λ s. HasRoom s more) }
+    {
+        Ok(Sides {
+            a: copy_with_room(alloc, &self.a, more)?,
+            b: copy_with_room(alloc, &self.b, more)?,
+        })
+    }
+
+    /// Writes bytes to a side from an offset on, or from its end where that is past it, in the room
+    /// that it has.
     pub fn put(&mut self, side: Side, at: u64, bytes: &[u8])
-        requires at { at ≤ length (bytes_of side (files self.old)) }
-        requires end { at + length bytes.now ≤ 2 ^ 62 }
-        requires room { HasRoom self.old (length bytes.now) }
+        requires { HasRoom self.old (length bytes.now) }
         ensures files { files self.new ≡ with_bytes side (put_at at bytes.now (bytes_of side (files self.old))) (files self.old) }
         ensures room { (n : ℕ) → HasRoom self.old (length bytes.now + n) → HasRoom self.new n }
     {
@@ -49,15 +62,24 @@ impl Sides {
     }
 }
 
+fn copy_with_room(alloc: Global, bytes: &[u8], more: u64) -> Result<Vec<u8>, Memory>
+    ensures items { IfOk result (λ v. v.items ≡ bytes.now) }
+    ensures room { IfOk result (λ v. length bytes.now + more ≤ vec_capacity v) }
+{
+    let mut copy = Vec::new(alloc);
+    copy.reserve_exact(bytes.len().checked_add(more as usize).ok_or(Memory)?)?;
+    copy.extend_from_slice(bytes)?;
+    Ok(copy)
+}
+
 // Writes bytes at an offset, over what is there and past the end.
 fn put_bytes(target: &mut Vec<u8>, at: usize, bytes: &[u8])
-    requires at { at ≤ length target.old.items }
-    requires end { at + length bytes.now ≤ 2 ^ 62 }
-    requires room { length target.old.items + length bytes.now ≤ vec_capacity target.old }
+    requires { length target.old.items + length bytes.now ≤ vec_capacity target.old }
     ensures items { target.new.items ≡ put_at at bytes.now target.old.items }
     ensures len { length target.new.items ≤ length target.old.items + length bytes.now }
     ensures capacity { vec_capacity target.old ≤ vec_capacity target.new }
 {
+    let at = at.min(target.len());
     let end = at + bytes.len();
     if target.len() < end {
         let _ = target.resize(end, 0);

@@ -9,7 +9,7 @@ use Rattle.jf_disk.proofs.log.Log.miss.Goals as goal
 pub returns-then-has_room : goal.returns-then-has_room
 returns-then-has_room c =
     let m : length c.args.self.now.calls ≡ length c.self.inside.entries.items + c.self.inside.past_room = moment_is _ c.self.inside.written.items c.self.inside.past_room _ (ap (λ v. v.calls) c.self.view_is) in
-    let none : c.self.inside.past_room ≡ 0 = none_past _ (length c.self.inside.entries.items) c.self.inside.most_calls c.self.invariant.used_up (omega (arith, ap (λ (v : Calls). v.most_calls) c.self.view_is, c.if-has_room.ensures)) in
+    let none : c.self.inside.past_room ≡ 0 = none_past _ (length c.self.inside.entries.items) c.self.inside.most_calls c.self.invariant.used_up (omega (arith, ap (λ (v : Calls). v.most_calls) c.self.view_is)) in
     let kept : c.push.new.self.items ≡ c.self.inside.entries.items ++ entry.Nothing ∷ [] = search rules in
     let p = calls_push c.self.inside.entries.items c.push.new.self.items entry.Nothing c.self.inside.written.items [] c.self.inside.written.items c.self.inside.past_room none c.self.invariant.whole kept (sym (append-nil c.self.inside.written.items)) in
     let lt : length c.args.self.now.calls < 2 ^ 64 - 1 = omega (arith, c.push.ensures.len) in
