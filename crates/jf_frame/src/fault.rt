@@ -1,8 +1,15 @@
 // Why a log can't be read or written.
+use jf_disk::DiskFailed;
 
 /// The disk failed in the call.
 #[derive(Clone, Copy, Debug, PartialEq, Eq)]
 pub struct DiskFault;
+
+impl From<DiskFailed> for DiskFault {
+    fn from(_: DiskFailed) -> Self {
+        DiskFault
+    }
+}
 
 /// Why a file can't be read.
 #[derive(Clone, Copy, Debug, PartialEq, Eq)]
@@ -14,3 +21,4 @@ pub enum FrameFault {
     /// Memory is wanting.
     Memory,
 }
+

@@ -8,7 +8,7 @@ ghost use Rattle.jf_frame.specs.Logs.{IsReading, IsReady, StopsInAppend, StopsIn
 
 use crate::fault::{DiskFault, FrameFault};
 use crate::framed::Framed;
-use jf_disk::{Disk, Side};
+use jf_disk::{Disk, Side, know_counts};
 use std::alloc::Global;
 use std::marker::Model;
 
@@ -19,6 +19,7 @@ pub struct Log {
     offset: u64,
     records: Vec<Framed>,
     failed: bool,
+    ghost in_range: { offset ≤ 2 ^ 62 },
 }
 
 impl Model for Log {
@@ -64,9 +65,16 @@ impl Log {
         ensures later { OnOk result (D.moment disk.old < D.moment disk.new) }
         ensures faults { D.faults disk.old ≤ D.faults disk.new }
     {
-        self.failed = true;
-        let _ = disk;
-        Err(DiskFault)
+        match write_record(disk, self.side, self.offset, frame) {
+            Ok(()) => {
+                self.offset += frame.len() as u64;
+                Ok(())
+            }
+            Err(fault) => {
+                self.failed = true;
+                Err(fault)
+            }
+        }
     }
 
     /// Closes the first gate of a side without records, where the side is empty or is one open gate, and cuts the
@@ -104,4 +112,28 @@ impl Log {
     {
         self.records.clear();
     }
+}
+
+/// Writes a frame behind the gate at `offset` and syncs it, then opens that gate and syncs it.
+fn write_record<D: Disk>(disk: &mut D, side: Side, offset: u64, frame: &[u8]) -> Result<(), DiskFault>
+    requires bounded { offset ≤ 2 ^ 62 }
+    requires ready { (h : History) → D.history disk.old ≡ Some h → (rs : List Framed) × (kind : ℕ) × (payload : List ℕ) × IsReady side offset rs h.now × IsFrame frame.now kind payload }
+    ensures ok { (h : History) (rs : List Framed) (kind : ℕ) (payload : List ℕ) → D.history disk.old ≡ Some h
+        → IsReady side offset rs h.now → IsFrame frame.now kind payload
+        → OnOk result ((g : History) × (D.history disk.new ≡ Some g) × IsReady side (offset + length frame.now) (rs ++ framed offset kind payload ∷ []) g.now) }
+    ensures stop { (h : History) (rs : List Framed) (kind : ℕ) (payload : List ℕ) → D.history disk.old ≡ Some h
+        → IsReady side offset rs h.now → IsFrame frame.now kind payload
+        → (g : History) × (D.history disk.new ≡ Some g) × StopsInAppend side h g rs (framed offset kind payload) }
+    ensures bounded { OnOk result (offset + length frame.now ≤ 2 ^ 62) }
+    ensures cause { IsErr result → (D.faults disk.old < D.faults disk.new) ⊎ (D.faults disk.old ≡ 2 ^ 64 - 1) }
+    ensures moment { D.moment disk.old ≤ D.moment disk.new }
+    ensures later { OnOk result (D.moment disk.old < D.moment disk.new) }
+    ensures faults { D.faults disk.old ≤ D.faults disk.new }
+{
+    know_counts(disk);
+    disk.write_at(side, offset + 1, frame)?;
+    disk.sync(side)?;
+    disk.write_at(side, offset, &[1])?;
+    disk.sync(side)?;
+    Ok(())
 }
