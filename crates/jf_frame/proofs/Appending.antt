@@ -6,23 +6,15 @@ use Rattle.jf_frame.specs.declared.framed.Framed.{Framed}
 use Rattle.jf_frame.specs.Framing.{records, body, IsFrame, end_of}
 use Rattle.jf_frame.specs.Crashes.{GoesOn, KeepsOther, opposite, file_of}
 use Rattle.jf_frame.specs.Logs.{IsReady, WithOrWithout, StopsInAppend, framed}
-use Rattle.jf_frame.proofs.Spell.{IsJournal, AllWhole, IsSpelled, journal, shown_all, shown, records_are, closed_spelled, end_spelled, end-shown, whole-push, shown-push, journal-push, whole-body, shown-body, length-body}
+use Rattle.jf_frame.specs.Spelling.{IsJournal, AllWhole, IsSpelled, journal, shown_all, shown, records_are, closed_spelled, end_spelled, end-shown, whole-push, shown-push, journal-push, whole-body, shown-body, length-body, room, gate_of}
 use Rattle.jf_frame.proofs.Sides.{wrote, content-written, content-synced, across-written, across-synced, may_leave}
-use Rattle.jf_frame.proofs.Crashes.{first_torn, second_torn, durable_only, Prepared, prepared, gate_opened, room, gate_of, length-put}
-use Rattle.jf_frame.proofs.Growth.{Grows, grows_none, grows_next, all_map}
+use Rattle.jf_frame.proofs.Crashes.{first_torn, second_torn, durable_only, Prepared, prepared, gate_opened}
+use Rattle.jf_frame.proofs.Growth.{Grows, Keeps, images_of, others_of, grows_none, grows_next}
 
--- what each state of an append keeps to
-pub record Keeps (w : Side) (old : State) (rs : List Framed) (r : Framed) (s : State) : Type 0 where
-  pub images : (f : Files) → IsImage s f → WithOrWithout w rs r f
-  pub other : content (opposite w) s ≡ content (opposite w) old
+pub stops : (w : Side) (h g : History) (rs : List Framed) (r : Framed) → Grows h g (Keeps w h.now (WithOrWithout w rs r)) → StopsInAppend w h g rs r
+stops w h g rs r grown = record { images = images_of w h g _ grown; other = others_of w h g _ grown }
 
-pub stops : (w : Side) (h g : History) (rs : List Framed) (r : Framed) → Grows h g (Keeps w h.now rs r) → StopsInAppend w h g rs r
-stops w h g rs r grown = record {
-  images = record { more = grown.more; grows = grown.grows; each = all_map (Keeps w h.now rs r) (λ s. (f : Files) → IsImage s f → WithOrWithout w rs r f) grown.more (λ s k. k.images) grown.each };
-  other = record { more = grown.more; grows = grown.grows; each = all_map (Keeps w h.now rs r) (λ s. content (opposite w) s ≡ content (opposite w) h.now) grown.more (λ s k. k.other) grown.each };
-}
-
-pub stopped : (w : Side) (h : History) (rs : List Framed) (r : Framed) (t : Option History) → ((g : History) × (t ≡ Some g) × Grows h g (Keeps w h.now rs r)) → (g : History) × (t ≡ Some g) × StopsInAppend w h g rs r
+pub stopped : (w : Side) (h : History) (rs : List Framed) (r : Framed) (t : Option History) → ((g : History) × (t ≡ Some g) × Grows h g (Keeps w h.now (WithOrWithout w rs r))) → (g : History) × (t ≡ Some g) × StopsInAppend w h g rs r
 stopped w h rs r t x = (x.0, x.1, stops w h x.0 rs r x.2)
 
 -- what is given of a side in front of an append
@@ -38,7 +30,7 @@ module _ (w : Side) (at : ℕ) (rs : List Framed) (h : History) (frame : List �
   b = body kind payload
 
   abbrev pub Kept : State → Type 0
-  Kept s = Keeps w h.now rs (framed at kind payload) s
+  Kept s = Keeps w h.now (WithOrWithout w rs (framed at kind payload)) s
 
   spelled : IsSpelled bytes 0 rs
   spelled = closed_spelled bytes rs given.ready.held (subst (λ n. n < length bytes) given.ready.ends given.ready.there) (λ one. given.ready.closed (ap (λ n. get_or bytes n 0) given.ready.ends ∙ one))

@@ -2,7 +2,7 @@
 use Rattle.std.proofs.Common.{◌≡◌, ◌≢◌, ◌⊎◌, inl, inr, ℕ, suc, ◌+◌, ◌-◌, ◌<◌, ◌≤◌, true, false, ◌==◌, List, [], ◌∷◌, ◌++◌, length, take, drop, get_or, max, refl, sym, ap, ap₂, ◌∙◌, subst, arith, append_assoc, length-append, take_at, drop_at, take-append-drop, length-take, length-take-le, length-drop, get_or-drop, get_or-take, get_or-append-add, ext_get_or, eqb-true, eq-eqb, true≢false, le_refl, drop-cons}
 use Rattle.std.proofs.Math.ListN.{get_or-append}
 use Rattle.jf_disk.specs.Disk.{Content, durable, put_at, MayLeave, IsSyncedAt}
-use Rattle.jf_frame.proofs.Spell.{journal, journal-push, IsJournal}
+use Rattle.jf_frame.specs.Spelling.{journal, journal-push, IsJournal, room, gate_of}
 use Rattle.jf_frame.proofs.Sides.{wrote}
 
 -- ---- lists that agree in front
@@ -18,15 +18,6 @@ parted n xs lt = sym (take-append-drop n xs) ∙ ap (λ t. take n xs ++ t) (drop
 
 pub front_of : (b : List ℕ) (bs : List (List ℕ)) (j : IsJournal b bs) → take (length (journal bs)) b ≡ journal bs
 front_of b bs j = ap (take (length (journal bs))) j.is ∙ take_at (journal bs) (j.gate ∷ j.rest) (length (journal bs)) refl
-
-pub gate_of : (b : List ℕ) (bs : List (List ℕ)) (j : IsJournal b bs) → get_or b (length (journal bs)) 0 ≡ j.gate
-gate_of b bs j =
-    ap (λ b. get_or b (length (journal bs)) 0) j.is
-    ∙ ap (λ n. get_or (journal bs ++ j.gate ∷ j.rest) n 0) (let e : length (journal bs) ≡ length (journal bs) + 0 = omega arith in e)
-    ∙ get_or-append-add (journal bs) (j.gate ∷ j.rest) 0 0
-
-pub room : (b : List ℕ) (bs : List (List ℕ)) → IsJournal b bs → length (journal bs) < length b
-room b bs j = omega (arith, ap length j.is, length-append (journal bs) (j.gate ∷ j.rest))
 
 -- an image that agrees up to the closed gate
 pub front_journal : (b image : List ℕ) (bs : List (List ℕ)) → IsJournal b bs → length (journal bs) < length image → ((i : ℕ) → i ≤ length (journal bs) → get_or image i 0 ≡ get_or b i 0) → IsJournal image bs

@@ -1,5 +1,6 @@
-pub mod Spell
 pub mod Sides
 pub mod Crashes
 pub mod Growth
 pub mod Appending
+pub mod Idling
+pub mod Beginning

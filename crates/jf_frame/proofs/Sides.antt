@@ -1,5 +1,5 @@
 -- Either side of a state, and the side across.
-use Rattle.std.proofs.Common.{◌≡◌, ℕ, ◌+◌, List, [], ◌∷◌, max, refl}
+use Rattle.std.proofs.Common.{◌≡◌, ℕ, ◌+◌, List, [], ◌∷◌, max, min, take, refl}
 use Rattle.jf_disk.specs.Disk.{State, Content, Files, content, with_content, written, shortened, synced, durable, put_at, MayLeave, IsImage}
 use Rattle.jf_disk.specs.declared.side.Side.{Side}
 use Rattle.jf_disk.specs.declared.side.Side.TheVariants as side
@@ -28,6 +28,16 @@ content-synced w s = content-with w (durable (content w s).bytes) s
 
 pub across-synced : (w : Side) (s : State) → content (opposite w) (synced w s) ≡ content (opposite w) s
 across-synced w s = across-with w (durable (content w s).bytes) s
+
+-- what a cut makes of a side
+abbrev pub cut_down : ℕ → Content → Content
+cut_down n c = record { bytes = take n c.bytes; unsynced = c.unsynced; least = min c.least n; greatest = c.greatest }
+
+pub content-shortened : (w : Side) (n : ℕ) (s : State) → content w (shortened w n s) ≡ cut_down n (content w s)
+content-shortened w n s = content-with w (cut_down n (content w s)) s
+
+pub across-shortened : (w : Side) (n : ℕ) (s : State) → content (opposite w) (shortened w n s) ≡ content (opposite w) s
+across-shortened w n s = across-with w (cut_down n (content w s)) s
 
 -- what a crash may leave of a state it may leave of each side
 pub may_leave : (w : Side) (s : State) (f : Files) → IsImage s f → MayLeave (content w s) (file_of w f)

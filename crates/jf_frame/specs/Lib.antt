@@ -1,3 +1,5 @@
 pub mod Framing
 pub mod Crashes
 pub mod Logs
+pub mod LogLaws
+pub mod Spelling

@@ -1,6 +1,8 @@
 //! One gated file of records on a side of the disk.
 #![tactic(auto)]
 
+mod append;
+mod begin;
 mod fault;
 mod framed;
 mod log;

@@ -1,14 +1,16 @@
 // A log: the gated records of one side.
-ghost use Rattle.std.specs.Prelude.{◌≡◌, ◌≢◌, ◌⊎◌, ℕ, ◌+◌, ◌-◌, ◌↔◌, ◌<◌, ◌≤◌, ◌^◌, List, [], ◌∷◌, ◌++◌, length, Some, Ok, Err, IfOk, OnOk, OnErr, IsErr, true, false};
+ghost use Rattle.std.specs.Prelude.{◌≡◌, ◌≢◌, ◌⊎◌, ℕ, ◌+◌, ◌-◌, ◌↔◌, ◌<◌, ◌≤◌, ◌^◌, List, [], ◌∷◌, ◌++◌, length, Some, None, Ok, Err, IfOk, OnOk, OnErr, IsErr, true, false};
 ghost use Rattle.jf_disk.specs.Disk.{History, content, durable};
 ghost use Rattle.jf_frame.specs.declared.framed.Framed.{Framed};
 ghost use Rattle.jf_frame.specs.Framing.{records, IsFrame};
 ghost use Rattle.jf_frame.specs.Crashes.{Idles};
 ghost use Rattle.jf_frame.specs.Logs.{IsReading, IsReady, StopsInAppend, StopsInBegin, IsSameLog, framed};
 
+use crate::append::write_record;
+use crate::begin::begin_side;
 use crate::fault::{DiskFault, FrameFault};
 use crate::framed::Framed;
-use jf_disk::{Disk, Side, know_counts};
+use jf_disk::{Disk, Side};
 use std::alloc::Global;
 use std::marker::Model;
 
@@ -36,6 +38,7 @@ impl Log {
         ensures read { (h : History) → D.history disk.old ≡ Some h → IfOk result (λ log. IsReading log side (content side h.now).bytes) }
         ensures damaged { (h : History) (at : ℕ) → D.history disk.old ≡ Some h → result ≡ Err (FrameFault.Damaged at) → records (content side h.now).bytes ≡ Err at }
         ensures idle { (h : History) → D.history disk.old ≡ Some h → (g : History) × (D.history disk.new ≡ Some g) × Idles h g }
+        ensures untold { OnOk result (D.history disk.old ≡ None → D.history disk.new ≡ None) }
         ensures cause { result ≡ Err FrameFault.DiskFault → (D.faults disk.old < D.faults disk.new) ⊎ (D.faults disk.old ≡ 2 ^ 64 - 1) }
         ensures moment { D.moment disk.old ≤ D.moment disk.new }
         ensures faults { D.faults disk.old ≤ D.faults disk.new }
@@ -60,6 +63,7 @@ impl Log {
         ensures offset { OnOk result (self.new.offset ≡ self.old.offset + length frame.now) }
         ensures same { IsSameLog self.old self.new }
         ensures failed { (self.new.failed ≡ true) ↔ IsErr result }
+        ensures untold { OnOk result (D.history disk.old ≡ None → D.history disk.new ≡ None) }
         ensures cause { IsErr result → (D.faults disk.old < D.faults disk.new) ⊎ (D.faults disk.old ≡ 2 ^ 64 - 1) }
         ensures moment { D.moment disk.old ≤ D.moment disk.new }
         ensures later { OnOk result (D.moment disk.old < D.moment disk.new) }
@@ -90,13 +94,21 @@ impl Log {
         ensures offset { OnOk result (self.new.offset ≡ 0) }
         ensures same { IsSameLog self.old self.new }
         ensures failed { (self.new.failed ≡ true) ↔ IsErr result }
+        ensures untold { OnOk result (D.history disk.old ≡ None → D.history disk.new ≡ None) }
         ensures cause { IsErr result → (D.faults disk.old < D.faults disk.new) ⊎ (D.faults disk.old ≡ 2 ^ 64 - 1) }
         ensures moment { D.moment disk.old ≤ D.moment disk.new }
         ensures faults { D.faults disk.old ≤ D.faults disk.new }
     {
-        self.failed = true;
-        let _ = disk;
-        Err(DiskFault)
+        match begin_side(disk, self.side) {
+            Ok(()) => {
+                self.offset = 0;
+                Ok(())
+            }
+            Err(fault) => {
+                self.failed = true;
+                Err(fault)
+            }
+        }
     }
 
     /// The records that were read, in order.
@@ -112,28 +124,4 @@ impl Log {
     {
         self.records.clear();
     }
-}
-
-/// Writes a frame behind the gate at `offset` and syncs it, then opens that gate and syncs it.
-fn write_record<D: Disk>(disk: &mut D, side: Side, offset: u64, frame: &[u8]) -> Result<(), DiskFault>
-    requires bounded { offset ≤ 2 ^ 62 }
-    requires ready { (h : History) → D.history disk.old ≡ Some h → (rs : List Framed) × (kind : ℕ) × (payload : List ℕ) × IsReady side offset rs h.now × IsFrame frame.now kind payload }
-    ensures ok { (h : History) (rs : List Framed) (kind : ℕ) (payload : List ℕ) → D.history disk.old ≡ Some h
-        → IsReady side offset rs h.now → IsFrame frame.now kind payload
-        → OnOk result ((g : History) × (D.history disk.new ≡ Some g) × IsReady side (offset + length frame.now) (rs ++ framed offset kind payload ∷ []) g.now) }
-    ensures stop { (h : History) (rs : List Framed) (kind : ℕ) (payload : List ℕ) → D.history disk.old ≡ Some h
-        → IsReady side offset rs h.now → IsFrame frame.now kind payload
-        → (g : History) × (D.history disk.new ≡ Some g) × StopsInAppend side h g rs (framed offset kind payload) }
-    ensures bounded { OnOk result (offset + length frame.now ≤ 2 ^ 62) }
-    ensures cause { IsErr result → (D.faults disk.old < D.faults disk.new) ⊎ (D.faults disk.old ≡ 2 ^ 64 - 1) }
-    ensures moment { D.moment disk.old ≤ D.moment disk.new }
-    ensures later { OnOk result (D.moment disk.old < D.moment disk.new) }
-    ensures faults { D.faults disk.old ≤ D.faults disk.new }
-{
-    know_counts(disk);
-    disk.write_at(side, offset + 1, frame)?;
-    disk.sync(side)?;
-    disk.write_at(side, offset, &[1])?;
-    disk.sync(side)?;
-    Ok(())
 }

@@ -5,7 +5,7 @@ use Rattle.jf_frame.specs.Framing.{IsFrame}
 use Rattle.jf_frame.specs.Logs.{IsReady, framed}
 use Rattle.jf_frame.proofs.Growth.{grows_none, told_next, fails_grows}
 use Rattle.jf_frame.proofs.Appending.{Given, Kept, stops, stopped, one, two, three, four, kept_first, kept_torn, kept_second, kept_opening, kept_torn_first, kept_torn_second, grown_one, grown_two, grown_three, grown_four, ready_last}
-use Rattle.jf_frame.proofs.log.write_record.Goals as goal
+use Rattle.jf_frame.proofs.append.write_record.Goals as goal
 
 pub returns-in_err-write_at-clause-stop : goal.returns-in_err-write_at-clause-stop
 returns-in_err-write_at-clause-stop g c = λ h rs kind payload told ready is.

@@ -133,6 +133,16 @@ records_are bytes bs j whole =
       | false ↦ λ e. read_all bs _ 0 j.gate j.rest j.closed whole (le_refl _)
     ] refl
 
+-- the closed gate's place
+pub gate_of : (b : List ℕ) (bs : List (List ℕ)) (j : IsJournal b bs) → get_or b (length (journal bs)) 0 ≡ j.gate
+gate_of b bs j =
+    ap (λ b. get_or b (length (journal bs)) 0) j.is
+    ∙ ap (λ n. get_or (journal bs ++ j.gate ∷ j.rest) n 0) (let e : length (journal bs) ≡ length (journal bs) + 0 = omega arith in e)
+    ∙ get_or-append-add (journal bs) (j.gate ∷ j.rest) 0 0
+
+pub room : (b : List ℕ) (bs : List (List ℕ)) → IsJournal b bs → length (journal bs) < length b
+room b bs j = omega (arith, ap length j.is, length-append (journal bs) (j.gate ∷ j.rest))
+
 -- ---- one more body
 
 pub journal-push : (bs : List (List ℕ)) (b : List ℕ) → journal (bs ++ b ∷ []) ≡ journal bs ++ 1 ∷ b
@@ -245,11 +255,11 @@ was_spelled (suc n) at (gate ∷ rest) rs e =
     ] refl
 
 -- of a file with two bytes or more
-records-long : (file : List ℕ) → 2 ≤ length file → records file ≡ records_from (length file) 0 file
+pub records-long : (file : List ℕ) → 2 ≤ length file → records file ≡ records_from (length file) 0 file
 unfolding records
 records-long file long = choose_false (nat_lt (length file) 2) _ _ (le-ltb _ _ long)
 
-records-short : (file : List ℕ) → length file < 2 → records file ≡ Ok []
+pub records-short : (file : List ℕ) → length file < 2 → records file ≡ Ok []
 unfolding records
 records-short file short = choose_true (nat_lt (length file) 2) _ _ (lt-ltb _ _ short)
 
@@ -306,3 +316,24 @@ payload_of-body kind payload fits =
 -- a frame's record
 pub shown-body : (at kind : ℕ) (payload : List ℕ) → length payload < 2 ^ 64 → shown at (body kind payload) ≡ record { kind = kind; offset = at; payload = payload }
 shown-body at kind payload fits = ap (λ p. let r : Framed = record { kind = kind; offset = at; payload = p } in r) (payload_of-body kind payload fits)
+
+-- ---- where the records of a file end
+
+-- at a closed gate
+pub spelled_end : (file : List ℕ) (rs : List Framed) → IsSpelled file 0 rs → (end_of rs < length file) × (get_or file (end_of rs) 0 ≢ 1)
+spelled_end file rs s =
+    let e = end_spelled file rs s in
+    (subst (λ n. n < length file) (sym e) (room file s.bodies s.journaled), λ one. s.journaled.closed (sym (gate_of file s.bodies s.journaled) ∙ ap (λ n. get_or file n 0) (sym e) ∙ one))
+
+-- a file with a closed first gate has none
+pub none_of_closed : (file : List ℕ) → get_or file 0 0 ≢ 1 → records file ≡ Ok []
+none_of_closed [] closed = records-short [] (omega arith)
+none_of_closed (gate ∷ rest) closed =
+    elim (nat_lt (length (gate ∷ rest)) 2) as (λ b. nat_lt (length (gate ∷ rest)) 2 ≡ b → records (gate ∷ rest) ≡ Ok []) [
+      | true ↦ λ short. records-short (gate ∷ rest) (ltb-true _ _ short)
+      | false ↦ λ long. records-long (gate ∷ rest) (ltb-false _ _ long) ∙ read_closed (length rest) 0 gate rest closed
+    ] refl
+
+-- and a file of two bytes or more that has none has a closed first gate
+pub closed_of_none : (file : List ℕ) → records file ≡ Ok [] → 2 ≤ length file → get_or file 0 0 ≢ 1
+closed_of_none file e long = (spelled_end file [] (file_spelled file [] e long)).1
