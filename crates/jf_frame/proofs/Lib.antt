@@ -4,3 +4,4 @@ pub mod Growth
 pub mod Appending
 pub mod Idling
 pub mod Beginning
+pub mod Parsing

@@ -6,6 +6,7 @@ ghost use Rattle.jf_frame.specs.Crashes.{Idles};
 ghost use Rattle.jf_frame.specs.Logs.{IsReady, StopsInBegin};
 
 use crate::fault::DiskFault;
+use crate::side::length_of;
 use jf_disk::{Disk, Side, know_counts};
 
 /// Closes the first gate of a side without records, unless it is closed, and cuts the side down to that gate.
@@ -24,19 +25,6 @@ pub(crate) fn begin_side<D: Disk>(disk: &mut D, side: Side) -> Result<(), DiskFa
     close_gate(disk, side, size)?;
     cut_to_gate(disk, side, size)?;
     Ok(())
-}
-
-/// The side's length.
-fn length_of<D: Disk>(disk: &mut D, side: Side) -> Result<u64, DiskFault>
-    ensures length { (h : History) → D.history disk.old ≡ Some h → IfOk result (λ n. n ≡ length (content side h.now).bytes) }
-    ensures idle { (h : History) → D.history disk.old ≡ Some h → (g : History) × (D.history disk.new ≡ Some g) × Idles h g }
-    ensures untold { OnOk result (D.history disk.old ≡ None → D.history disk.new ≡ None) }
-    ensures cause { IsErr result → (D.faults disk.old < D.faults disk.new) ⊎ (D.faults disk.old ≡ 2 ^ 64 - 1) }
-    ensures moment { D.moment disk.old ≤ D.moment disk.new }
-    ensures faults { D.faults disk.old ≤ D.faults disk.new }
-{
-    know_counts(disk);
-    Ok(disk.len(side)?)
 }
 
 /// Whether the side, which has so many bytes, has a closed first gate.

@@ -6,6 +6,8 @@ mod begin;
 mod fault;
 mod framed;
 mod log;
+mod records;
+mod side;
 
 pub use fault::{DiskFault, FrameFault};
 pub use framed::Framed;

@@ -10,6 +10,8 @@ use crate::append::write_record;
 use crate::begin::begin_side;
 use crate::fault::{DiskFault, FrameFault};
 use crate::framed::Framed;
+use crate::records::records_of;
+use crate::side::bytes_of;
 use jf_disk::{Disk, Side};
 use std::alloc::Global;
 use std::marker::Model;
@@ -43,8 +45,14 @@ impl Log {
         ensures moment { D.moment disk.old ≤ D.moment disk.new }
         ensures faults { D.faults disk.old ≤ D.faults disk.new }
     {
-        let _ = (alloc, side, disk);
-        Err(FrameFault::Memory)
+        let bytes = bytes_of(alloc, disk, side)?;
+        let (records, offset) = records_of(alloc, &bytes)?;
+        Ok(Log {
+            side,
+            offset: offset as u64,
+            records,
+            failed: false,
+        })
     }
 
     /// Adds a record behind the closed gate, by four calls: the frame (kind, length, payload, closed gate) is
