@@ -1,2 +1,10 @@
 pub mod Disk
 pub mod Moments
+pub mod Memory
+pub mod Replay
+pub mod Effect
+pub mod Image
+pub mod Log
+pub mod Sides
+pub mod File
+pub mod Any

@@ -2,10 +2,18 @@
 //! on them, what a crash now may leave, and what a crash since some moment might have left.
 #![tactic(auto)]
 
+mod any;
 mod disk;
+mod file;
 mod laws;
+mod log;
+mod memory;
 mod side;
+mod sides;
 
+pub use any::AnyDisk;
 pub use disk::{Disk, DiskFailed};
+pub use file::{FileDisk, FileRefused};
 pub use laws::{know_bounded, know_counts, know_dated, know_readable};
+pub use memory::MemDisk;
 pub use side::Side;
