@@ -5,10 +5,11 @@ use Rattle.jf_disk.specs.declared.side.Side.{Side}
 use Rattle.jf_frame.specs.declared.framed.Framed.{Framed}
 use Rattle.jf_frame.specs.Framing.{records, body, IsFrame, end_of}
 use Rattle.jf_frame.specs.Crashes.{GoesOn, KeepsOther, opposite, file_of}
+use Rattle.jf_frame.specs.LogLaws.{image_side, image_quiet}
 use Rattle.jf_frame.specs.Logs.{IsReady, WithOrWithout, StopsInAppend, framed}
 use Rattle.jf_frame.specs.Spelling.{IsJournal, AllWhole, IsSpelled, journal, shown_all, shown, records_are, closed_spelled, end_spelled, end-shown, whole-push, shown-push, journal-push, whole-body, shown-body, length-body, room, gate_of}
-use Rattle.jf_frame.proofs.Sides.{wrote, content-written, content-synced, across-written, across-synced, may_leave}
-use Rattle.jf_frame.proofs.Crashes.{first_torn, second_torn, durable_only, Prepared, prepared, gate_opened}
+use Rattle.jf_frame.proofs.Sides.{wrote, content-written, content-synced, across-written, across-synced}
+use Rattle.jf_frame.proofs.Crashes.{first_torn, second_torn, Prepared, prepared, gate_opened}
 use Rattle.jf_frame.proofs.Growth.{Grows, Keeps, images_of, others_of, grows_none, grows_next}
 
 pub stops : (w : Side) (h g : History) (rs : List Framed) (r : Framed) → Grows h g (Keeps w h.now (WithOrWithout w rs r)) → StopsInAppend w h g rs r
@@ -49,7 +50,7 @@ module _ (w : Side) (at : ℕ) (rs : List Framed) (h : History) (frame : List �
       let here : 0 + length (journal spelled.bodies) ≡ at = let e = ends in omega arith in
       records_are image (spelled.bodies ++ b ∷ []) j whole
       ∙ ap (λ rs. Ok rs) (shown-push spelled.bodies 0 b spelled.whole
-        ∙ ap₂ (λ rs r. rs ++ r ∷ []) spelled.are (ap (λ n. shown n b) here ∙ shown-body at kind payload given.framing.length_fits))
+      ∙ ap₂ (λ rs r. rs ++ r ∷ []) spelled.are (ap (λ n. shown n b) here ∙ shown-body at kind payload given.framing.length_fits))
 
   -- an offset up to which the side has bytes
   pub first_room : at + 1 ≤ length bytes
@@ -57,13 +58,13 @@ module _ (w : Side) (at : ℕ) (rs : List Framed) (h : History) (frame : List �
 
   pub kept_first : Kept h.now
   kept_first = record {
-    images = λ f i. inl (subst (λ b. records b ≡ Ok rs) (sym (durable_only bytes (file_of w f) (subst (λ c. MayLeave c (file_of w f)) given.ready.quiet (may_leave w h.now f i)))) given.ready.held);
+    images = λ f i. inl (subst (λ b. records b ≡ Ok rs) (sym (image_quiet w h.now f given.ready.quiet i)) given.ready.held);
     other = refl;
   }
 
   pub kept_torn : (n : ℕ) (part : List ℕ) → Kept (written w (at + 1) n part h.now)
   kept_torn n part = record {
-    images = λ f i. inl (without (file_of w f) (first_torn (content w h.now) spelled.bodies at n part (file_of w f) given.ready.quiet spelled.journaled ends (subst (λ c. MayLeave c (file_of w f)) (content-written w (at + 1) n part h.now) (may_leave w (written w (at + 1) n part h.now) f i))));
+    images = λ f i. inl (without (file_of w f) (first_torn (content w h.now) spelled.bodies at n part (file_of w f) given.ready.quiet spelled.journaled ends (subst (λ c. MayLeave c (file_of w f)) (content-written w (at + 1) n part h.now) (image_side w (written w (at + 1) n part h.now) f i))));
     other = across-written w (at + 1) n part h.now;
   }
 
@@ -96,7 +97,7 @@ module _ (w : Side) (at : ℕ) (rs : List Framed) (h : History) (frame : List �
 
   pub kept_second : Kept two.now
   kept_second = record {
-    images = λ f i. inl (without (file_of w f) (subst (λ b. IsJournal b spelled.bodies) (sym (durable_only (content w two.now).bytes (file_of w f) (subst (λ c. MayLeave c (file_of w f)) second_quiet (may_leave w two.now f i)))) second_journaled));
+    images = λ f i. inl (without (file_of w f) (subst (λ b. IsJournal b spelled.bodies) (sym (image_quiet w two.now f second_quiet i)) second_journaled));
     other = second_other;
   }
 
@@ -105,7 +106,7 @@ module _ (w : Side) (at : ℕ) (rs : List Framed) (h : History) (frame : List �
 
   pub kept_opening : (part : List ℕ) → length part ≤ 1 → Kept (written w at 1 part two.now)
   kept_opening part small = record {
-    images = λ f i. elim (second_torn (content w two.now) spelled.bodies b at part (file_of w f) second_quiet second_prepared ends small (subst (λ c. MayLeave c (file_of w f)) (content-written w at 1 part two.now) (may_leave w (written w at 1 part two.now) f i))) [
+    images = λ f i. elim (second_torn (content w two.now) spelled.bodies b at part (file_of w f) second_quiet second_prepared ends small (subst (λ c. MayLeave c (file_of w f)) (content-written w at 1 part two.now) (image_side w (written w at 1 part two.now) f i))) [
       | inl j ↦ inl (without (file_of w f) j)
       | inr j ↦ inr (with_it (file_of w f) j)
     ];
@@ -123,7 +124,7 @@ module _ (w : Side) (at : ℕ) (rs : List Framed) (h : History) (frame : List �
 
   pub kept_last : Kept four.now
   kept_last = record {
-    images = λ f i. inr (with_it (file_of w f) (subst (λ b. IsJournal b (spelled.bodies ++ body kind payload ∷ [])) (sym (durable_only (content w four.now).bytes (file_of w f) (subst (λ c. MayLeave c (file_of w f)) last_quiet (may_leave w four.now f i)))) last_journaled));
+    images = λ f i. inr (with_it (file_of w f) (subst (λ b. IsJournal b (spelled.bodies ++ body kind payload ∷ [])) (sym (image_quiet w four.now f last_quiet i)) last_journaled));
     other = across-synced w three.now ∙ across-written w at 1 (1 ∷ []) two.now ∙ second_other;
   }
 

@@ -5,10 +5,10 @@ use Rattle.jf_disk.specs.declared.side.Side.{Side}
 use Rattle.jf_frame.specs.Framing.{records}
 use Rattle.jf_frame.specs.Crashes.{opposite, file_of, Idles}
 use Rattle.jf_frame.specs.Logs.{IsReady, StopsInBegin}
-use Rattle.jf_frame.specs.LogLaws.{goes_further, goes_idle, other_further, other_idle, idle_now}
+use Rattle.jf_frame.specs.LogLaws.{goes_further, goes_idle, other_further, other_idle, idle_now, image_side, image_quiet}
 use Rattle.jf_frame.specs.Spelling.{records-short, none_of_closed, closed_of_none}
-use Rattle.jf_frame.proofs.Sides.{wrote, cut_down, content-written, content-shortened, content-synced, across-written, across-shortened, across-synced, may_leave}
-use Rattle.jf_frame.proofs.Crashes.{durable_only, length-put}
+use Rattle.jf_frame.proofs.Sides.{wrote, cut_down, content-written, content-shortened, content-synced, across-written, across-shortened, across-synced}
+use Rattle.jf_frame.proofs.Crashes.{length-put}
 use Rattle.jf_frame.proofs.Growth.{Grows, told_same, Keeps, images_of, others_of, grows_none, grows_next}
 
 -- the side has no record
@@ -20,7 +20,7 @@ stopped w h t x = (x.0, x.1, record { images = images_of w h x.0 (IsEmpty w) x.2
 
 -- what is left of a side without unsynced changes
 pub quiet_empty : (w : Side) (h : History) → content w h.now ≡ durable (content w h.now).bytes → records (content w h.now).bytes ≡ Ok [] → (f : Files) → IsImage h.now f → IsEmpty w f
-quiet_empty w h quiet empty f i = subst (λ b. records b ≡ Ok []) (sym (durable_only (content w h.now).bytes (file_of w f) (subst (λ c. MayLeave c (file_of w f)) quiet (may_leave w h.now f i)))) empty
+quiet_empty w h quiet empty f i = subst (λ b. records b ≡ Ok []) (sym (image_quiet w h.now f quiet i)) empty
 
 -- calls that change nothing leave such a side without records
 pub idle_stops : (w : Side) (h g : History) → content w h.now ≡ durable (content w h.now).bytes → records (content w h.now).bytes ≡ Ok [] → Idles h g → StopsInBegin w h g
@@ -33,7 +33,7 @@ stops_further w g h k a b = record { images = goes_further g h k (IsEmpty w) a.i
 
 module _ (w : Side) (h : History) (quiet : content w h.now ≡ durable (content w h.now).bytes) (short : length (content w h.now).bytes ≤ 1) where
   small : (s : State) → (content w s).greatest ≤ 1 → content (opposite w) s ≡ content (opposite w) h.now → Keeps w h.now (IsEmpty w) s
-  small s le other = record { images = λ f i. let m = (may_leave w s f i).no_longer in records-short (file_of w f) (omega arith); other = other }
+  small s le other = record { images = λ f i. let m = (image_side w s f i).no_longer in records-short (file_of w f) (omega arith); other = other }
 
   least : (content w h.now).greatest ≤ 1
   least = subst (λ (n : ℕ). n ≤ 1) (sym (ap (λ (c : Content). c.greatest) quiet)) short
@@ -121,7 +121,7 @@ module _ (w : Side) (h : History) (ready : IsReady w 0 [] h.now) where
   bytes = (content w h.now).bytes
 
   shut : (s : State) → IsShut (content w s) → content (opposite w) s ≡ content (opposite w) h.now → Keeps w h.now (IsEmpty w) s
-  shut s is other = record { images = λ f i. shut_image (content w s) (file_of w f) is (may_leave w s f i); other = other }
+  shut s is other = record { images = λ f i. shut_image (content w s) (file_of w f) is (image_side w s f i); other = other }
 
   pub shut_first : Keeps w h.now (IsEmpty w) h.now
   shut_first = shut h.now (subst IsShut (sym ready.quiet) (shut_durable bytes ready.there ready.closed)) refl
@@ -174,9 +174,6 @@ module _ (w : Side) (h : History) (ready : IsReady w 0 [] h.now) where
 pub idle_state : (h k : History) (t : Option History) → ((g : History) × (t ≡ Some g) × Idles h g) → t ≡ Some k → k.now ≡ h.now
 idle_state h k t x told = subst (λ (g : History). g.now ≡ h.now) (told_same x.0 k t x.1 told) (idle_now h x.0 x.2)
 
-pub stops_then : (w : Side) (h k : History) (t u : Option History) → ((g : History) × (t ≡ Some g) × StopsInBegin w h g) → t ≡ Some k → ((g : History) × (u ≡ Some g) × StopsInBegin w k g) → (g : History) × (u ≡ Some g) × StopsInBegin w h g
-stops_then w h k t u x told y = (y.0, y.1, stops_further w h k y.0 (subst (λ g. StopsInBegin w h g) (told_same x.0 k t x.1 told) x.2) y.2)
-
 -- a first gate that isn't closed stands in a file of at most one byte
 pub short_of_open : (b : List ℕ) (size : ℕ) (closed : Bool) → size ≡ length b → records b ≡ Ok [] → ((closed ≡ true) ↔ ((0 < size) × (get_or b 0 0 ≢ 1))) → closed ≡ false → length b ≤ 1
 short_of_open b size closed e none iff is =
@@ -190,7 +187,3 @@ closed_is_ready w s size closed quiet e none iff is =
     let x = iff.0 is in
     let lt : 0 < size = x.0 in
     (record { quiet = quiet; held = none; ends = refl; there = omega arith; closed = x.1 }, omega arith)
-
-pub on_ok_map : {A E : Type 0} (P Q : Type 0) (r : Result A E) → (P → Q) → OnOk r P → OnOk r Q
-on_ok_map P Q (Ok x) to p = to p
-on_ok_map P Q (Err e) to p = tt

@@ -59,12 +59,6 @@ first_torn c bs at n part image quiet j ends left =
     left.same i (omega arith) within (inl (omega arith), subst (λ l. IsSyncedAt l i) (sym unsynced) tt)
     ∙ put_before (at + 1) part c.bytes i (omega arith) (omega arith))
 
--- of synced bytes alone just these are left
-pub durable_only : (b image : List ℕ) → MayLeave (durable b) image → image ≡ b
-durable_only b image left =
-    let low = left.no_shorter in let high = left.no_longer in
-    ext_get_or 0 image b (omega arith) (λ i lt. left.same i lt (omega arith) tt)
-
 -- ---- the second write
 
 -- the bodies, a closed gate, one body more, and a closed gate behind

@@ -15,7 +15,3 @@ idles_grown h t x = (x.0, x.1, record { more = x.2.more; grows = x.2.grows; each
 -- and one that fails
 pub idles_err : (h : History) (o t : Option History) → o ≡ Some h → Fails o t Unchanged → (g : History) × (t ≡ Some g) × Idles h g
 idles_err h o t told e = idles_grown h t (fails_grows h h (λ s. s ≡ h.now) o t Unchanged told e (grows_none h _) refl (λ s torn. absurd torn))
-
--- one after another
-pub idles_then : (h : History) (t : Option History) → (x : (g : History) × (o : Option History) × (o ≡ Some g) × Idles h g) → ((k : History) × (t ≡ Some k) × Idles x.0 k) → (k : History) × (t ≡ Some k) × Idles h k
-idles_then h t x y = (y.0, y.1, idle_further h x.0 y.0 x.3 y.2)

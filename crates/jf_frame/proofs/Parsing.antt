@@ -93,7 +93,7 @@ one_more bytes rs offset r is open_ long e =
       there = omega (arith, length-drop (offset + 1) bytes);
       so_far = is.so_far ∙ ap (prepend rs) (here bytes n offset is.there open_ ∙ ap (λ m. records_from m offset (1 ∷ rest)) some ∙ read_rest (n - 1) offset rest long
           ∙ ap₂ with_record (sym e) (fuel (n - 1) n (offset + 10 + size_of rest) (behind rest) (omega (arith, ap length (behind_at bytes offset), length-drop (offset + (10 + size_of rest)) bytes)) (omega (arith, ap length (behind_at bytes offset), length-drop (offset + (10 + size_of rest)) bytes))
-            ∙ ap₂ (λ at t. records_from n at t) (sym next) (behind_at bytes offset ∙ ap (λ m. drop (offset + (10 + m)) bytes) (sym size))))
+          ∙ ap₂ (λ at t. records_from n at t) (sym next) (behind_at bytes offset ∙ ap (λ m. drop (offset + (10 + m)) bytes) (sym size))))
           ∙ sym (prepend-push rs r (records_from n (offset + (10 + length r.payload)) (drop (offset + (10 + length r.payload)) bytes)));
       ends = end-push rs r 0 ∙ (let o : r.offset ≡ offset = ap (λ (r : Framed). r.offset) e in omega arith);
     }

@@ -1,9 +1,9 @@
 -- Either side of a state, and the side across.
 use Rattle.std.proofs.Common.{◌≡◌, ℕ, ◌+◌, List, [], ◌∷◌, max, min, take, refl}
-use Rattle.jf_disk.specs.Disk.{State, Content, Files, content, with_content, written, shortened, synced, durable, put_at, MayLeave, IsImage}
+use Rattle.jf_disk.specs.Disk.{State, Content, content, with_content, written, shortened, synced, durable, put_at}
 use Rattle.jf_disk.specs.declared.side.Side.{Side}
 use Rattle.jf_disk.specs.declared.side.Side.TheVariants as side
-use Rattle.jf_frame.specs.Crashes.{opposite, file_of}
+use Rattle.jf_frame.specs.Crashes.{opposite}
 
 -- what a write makes of a side
 abbrev pub wrote : ℕ → ℕ → List ℕ → Content → Content
@@ -38,8 +38,3 @@ content-shortened w n s = content-with w (cut_down n (content w s)) s
 
 pub across-shortened : (w : Side) (n : ℕ) (s : State) → content (opposite w) (shortened w n s) ≡ content (opposite w) s
 across-shortened w n s = across-with w (cut_down n (content w s)) s
-
--- what a crash may leave of a state it may leave of each side
-pub may_leave : (w : Side) (s : State) (f : Files) → IsImage s f → MayLeave (content w s) (file_of w f)
-may_leave side.A s f i = i.a
-may_leave side.B s f i = i.b

@@ -1,13 +1,58 @@
 -- What callers conclude from a log's contract.
 use Rattle.std.specs.Prelude.{◌≡◌, ◌≢◌, ◌⊎◌, ℕ, ◌+◌, ◌<◌, ◌≤◌, ◌^◌, List, [], ◌∷◌, ◌++◌, length, slice_index, Ok}
 use Rattle.std.specs.List.{AllByRecursion}
-use Rattle.std.proofs.Common.{inl, inr, refl, sym, ap, ◌∙◌, subst, append_assoc}
-use Rattle.jf_disk.specs.Disk.{History, State, Files, IsImage, LeftSince, LeftSinceIn, content, next}
+use Rattle.std.proofs.Common.{inl, inr, refl, sym, ap, ◌∙◌, subst, append_assoc, ext_get_or, arith}
+use Rattle.jf_disk.specs.Disk.{History, State, Files, MayLeave, IsImage, LeftSince, LeftSinceIn, content, durable, next}
 use Rattle.jf_disk.specs.declared.side.Side.{Side}
+use Rattle.jf_disk.specs.declared.side.Side.TheVariants as side
 use Rattle.jf_disk.specs.Moments.{all_states, Extends, LeftBy, left-append, now_left, left_now}
 use Rattle.jf_frame.specs.declared.framed.Framed.{Framed}
 use Rattle.jf_frame.specs.Framing.{records, end_of}
+use Rattle.jf_frame.specs.FramingLaws.{some_end, none_end}
+use Rattle.jf_frame.specs.Logs.{Log, IsReading, IsReady}
 use Rattle.jf_frame.specs.Crashes.{GoesOn, Idles, KeepsOther, LeavesNow, opposite, file_of}
+
+-- ---- what a crash leaves of a side
+
+-- what it may leave of a state it may leave of each side
+pub image_side : (w : Side) (s : State) (f : Files) → IsImage s f → MayLeave (content w s) (file_of w f)
+image_side side.A s f i = i.a
+image_side side.B s f i = i.b
+
+-- of synced bytes alone just these are left
+pub image_durable : (bytes image : List ℕ) → MayLeave (durable bytes) image → image ≡ bytes
+image_durable bytes image left =
+    let low = left.no_shorter in let high = left.no_longer in
+    ext_get_or 0 image bytes (omega arith) (λ i lt. left.same i lt (omega arith) tt)
+
+-- and of a side without unsynced changes
+pub image_quiet : (w : Side) (s : State) (f : Files) → content w s ≡ durable (content w s).bytes → IsImage s f → file_of w f ≡ (content w s).bytes
+image_quiet w s f quiet i = image_durable (content w s).bytes (file_of w f) (subst (λ c. MayLeave c (file_of w f)) quiet (image_side w s f i))
+
+-- so of a side that is ready
+pub image_ready : (w : Side) (at : ℕ) (rs : List Framed) (s : State) (f : Files) → IsReady w at rs s → IsImage s f → file_of w f ≡ (content w s).bytes
+image_ready w at rs s f ready i = image_quiet w s f ready.quiet i
+
+-- whose records are then left
+pub records_ready : (w : Side) (at : ℕ) (rs : List Framed) (s : State) (f : Files) → IsReady w at rs s → IsImage s f → records (file_of w f) ≡ Ok rs
+records_ready w at rs s f ready i = ap records (image_ready w at rs s f ready i) ∙ ready.held
+
+-- a side that was read, has no unsynced change, is not empty and is not one open gate, is ready
+pub ready_read : (w : Side) (s : State) (log : Log) → IsReading log w (content w s).bytes → content w s ≡ durable (content w s).bytes → 0 < length (content w s).bytes → (content w s).bytes ≢ 1 ∷ [] → IsReady w log.offset log.records s
+ready_read w s log reading quiet some more =
+    let bytes = (content w s).bytes in
+    let ends : (end_of log.records < length bytes) × (slice_index bytes (end_of log.records) ≢ 1) =
+    elim log.records as (λ rs. records bytes ≡ Ok rs → (end_of rs < length bytes) × (slice_index bytes (end_of rs) ≢ 1)) [
+      | [] ↦ λ held. none_end bytes held some more
+      | r ∷ rs ↦ λ held. some_end bytes r rs held
+    ] reading.held in
+    record {
+      quiet = quiet;
+      held = reading.held;
+      ends = reading.ends;
+      there = subst (λ n. n < length bytes) (sym reading.ends) ends.0;
+      closed = λ one. ends.1 (ap (slice_index bytes) (sym reading.ends) ∙ one);
+    }
 
 -- ---- lists of states
 
@@ -111,8 +156,8 @@ other_further w g h k a b = record {
   more = b.more ++ a.more;
   grows = b.grows ∙ ap (λ states. b.more ++ states) a.grows ∙ sym (append_assoc b.more a.more (all_states g));
   each = all_append (λ s. content (opposite w) s ≡ content (opposite w) g.now) b.more a.more
-    (all_map (λ s. content (opposite w) s ≡ content (opposite w) h.now) (λ s. content (opposite w) s ≡ content (opposite w) g.now) b.more (λ s e. e ∙ other_now w g h a) b.each)
-    a.each;
+      (all_map (λ s. content (opposite w) s ≡ content (opposite w) h.now) (λ s. content (opposite w) s ≡ content (opposite w) g.now) b.more (λ s e. e ∙ other_now w g h a) b.each)
+      a.each;
 }
 
 pub other_idle : (w : Side) (h g : History) → Idles h g → KeepsOther w h g

@@ -99,8 +99,8 @@ read_one n at b tail whole more =
     let same : size_of (b ++ tail) ≡ size_of b = size_of-append b tail (omega arith) in
     read_rest n at (b ++ tail) (omega (arith, length-append b tail))
     ∙ ap₂ (λ r x. with_record r x)
-      (ap₂ (λ k p. let r : Framed = record { kind = k; offset = at; payload = p } in r) (kind-append b tail (omega arith)) (payload_of-append b tail whole))
-      (ap₂ (λ m t. records_from n (at + 10 + m) t) same (behind-append b tail whole))
+    (ap₂ (λ k p. let r : Framed = record { kind = k; offset = at; payload = p } in r) (kind-append b tail (omega arith)) (payload_of-append b tail whole))
+    (ap₂ (λ m t. records_from n (at + 10 + m) t) same (behind-append b tail whole))
 
 pub read_closed : (n at gate : ℕ) (rest : List ℕ) → gate ≢ 1 → records_from (suc n) at (gate ∷ rest) ≡ Ok []
 unfolding records_from
@@ -267,7 +267,7 @@ records-short file short = choose_true (nat_lt (length file) 2) _ _ (lt-ltb _ _ 
 pub file_spelled : (file : List ℕ) (rs : List Framed) → records file ≡ Ok rs → 2 ≤ length file → IsSpelled file 0 rs
 file_spelled file rs e long = was_spelled (length file) 0 file rs (sym (records-long file long) ∙ e)
 
-none_of_short : (file : List ℕ) (rs : List Framed) → records file ≡ Ok rs → length file < 2 → [] ≡ rs
+pub none_of_short : (file : List ℕ) (rs : List Framed) → records file ≡ Ok rs → length file < 2 → [] ≡ rs
 none_of_short file rs e short = let x : Ok [] ≡ Ok rs = sym (records-short file short) ∙ e in cc
 
 one_byte : (file : List ℕ) (rs : List Framed) → [] ≡ rs → end_of rs < length file → get_or file (end_of rs) 0 ≢ 1 → IsSpelled file 0 rs

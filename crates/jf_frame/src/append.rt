@@ -9,7 +9,12 @@ use crate::fault::DiskFault;
 use jf_disk::{Disk, Side, know_counts};
 
 /// Writes a frame behind the gate at `offset` and syncs it, then opens that gate and syncs it.
-pub(crate) fn write_record<D: Disk>(disk: &mut D, side: Side, offset: u64, frame: &[u8]) -> Result<(), DiskFault>
+pub(crate) fn write_record<D: Disk>(
+    disk: &mut D,
+    side: Side,
+    offset: u64,
+    frame: &[u8],
+) -> Result<(), DiskFault>
     requires bounded { offset ≤ 2 ^ 62 }
     requires ready { (h : History) → D.history disk.old ≡ Some h → (rs : List Framed) × (kind : ℕ) × (payload : List ℕ) × IsReady side offset rs h.now × IsFrame frame.now kind payload }
     ensures ok { (h : History) (rs : List Framed) (kind : ℕ) (payload : List ℕ) → D.history disk.old ≡ Some h

@@ -12,3 +12,6 @@ mod side;
 pub use fault::{DiskFault, FrameFault};
 pub use framed::Framed;
 pub use log::Log;
+
+#[cfg(test)]
+mod tests;

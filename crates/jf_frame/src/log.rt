@@ -38,6 +38,8 @@ impl Log {
     /// Reads a side whole, without changing it.
     pub fn read_all<D: Disk>(alloc: Global, disk: &mut D, side: Side) -> Result<Log, FrameFault>
         ensures read { (h : History) → D.history disk.old ≡ Some h → IfOk result (λ log. IsReading log side (content side h.now).bytes) }
+        ensures side { IfOk result (λ log. log.side ≡ side) }
+        ensures sound { IfOk result (λ log. log.failed ≡ false) }
         ensures damaged { (h : History) (at : ℕ) → D.history disk.old ≡ Some h → result ≡ Err (FrameFault.Damaged at) → records (content side h.now).bytes ≡ Err at }
         ensures idle { (h : History) → D.history disk.old ≡ Some h → (g : History) × (D.history disk.new ≡ Some g) × Idles h g }
         ensures untold { OnOk result (D.history disk.old ≡ None → D.history disk.new ≡ None) }

@@ -36,7 +36,11 @@ fn read_into<D: Disk>(disk: &mut D, side: Side, into: &mut [u8]) -> Result<usize
 }
 
 /// All bytes of a side. The memory for them is taken before they are read.
-pub(crate) fn bytes_of<D: Disk>(alloc: Global, disk: &mut D, side: Side) -> Result<Vec<u8>, FrameFault>
+pub(crate) fn bytes_of<D: Disk>(
+    alloc: Global,
+    disk: &mut D,
+    side: Side,
+) -> Result<Vec<u8>, FrameFault>
     ensures bytes { (h : History) → D.history disk.old ≡ Some h → IfOk result (λ v. v.items ≡ (content side h.now).bytes) }
     ensures bounded { IfOk result (λ v. length v.items ≤ 2 ^ 62) }
     ensures undamaged { (at : ℕ) → result ≢ Err (FrameFault.Damaged at) }

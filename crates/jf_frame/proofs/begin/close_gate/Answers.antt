@@ -1,9 +1,10 @@
 use Rattle.std.proofs.Common.{◌≡◌, ◌≤◌, ◌+◌, [], length, max, sym, subst, arith, Some}
+use Rattle.std.proofs.lemmas.Result.{on_ok_weaker}
 use Rattle.jf_disk.specs.Disk.{History, State, content, durable}
 use Rattle.jf_frame.specs.Logs.{IsReady}
 use Rattle.jf_frame.specs.LogLaws.{idle_now}
 use Rattle.jf_frame.proofs.Growth.{told_before}
-use Rattle.jf_frame.proofs.Beginning.{idle_stops, idle_state, stops_further, short_of_open, closed_is_ready, on_ok_map}
+use Rattle.jf_frame.proofs.Beginning.{idle_stops, idle_state, stops_further, short_of_open, closed_is_ready}
 use Rattle.jf_frame.proofs.begin.close_gate.Goals as goal
 
 pub returns-in_err-is_closed-clause-stop : goal.returns-in_err-is_closed-clause-stop
@@ -41,12 +42,12 @@ returns-clause-ok g c = λ h told.
     let x = c.is_closed.ensures.idle h told in
     let small : length (content c.args.side h.now).bytes ≤ 1 = short_of_open (content c.args.side h.now).bytes c.args.size c.in_ok-is_closed.field-0 (c.requires.size h told) (c.requires.empty h told) (c.in_ok-is_closed.ensures.closed h told) c.if-branch.false in
     let e = c.requires.size h told in
-    on_ok_map
-      ((k : History) × (g.D.Disk.history c.write_closed.new.disk ≡ Some k) × IsReady c.args.side 0 [] k.now × (length (content c.args.side k.now).bytes ≡ 1))
-      ((k : History) × (g.D.Disk.history c.write_closed.new.disk ≡ Some k) × IsReady c.args.side 0 [] k.now × (length (content c.args.side k.now).bytes ≡ max c.args.size 1))
-      c.write_closed.result
-      (λ y. (y.0, y.1, y.2, let l = y.3 in omega arith))
-      (c.write_closed.ensures.ok x.0 x.1)
+    on_ok_weaker
+    {P = (k : History) × (g.D.Disk.history c.write_closed.new.disk ≡ Some k) × IsReady c.args.side 0 [] k.now × (length (content c.args.side k.now).bytes ≡ 1)}
+    {Q = (k : History) × (g.D.Disk.history c.write_closed.new.disk ≡ Some k) × IsReady c.args.side 0 [] k.now × (length (content c.args.side k.now).bytes ≡ max c.args.size 1)}
+    c.write_closed.result
+    (λ y. (y.0, y.1, y.2, let l = y.3 in omega arith))
+    (c.write_closed.ensures.ok x.0 x.1)
 
 pub returns-clause-stop : goal.returns-clause-stop
 returns-clause-stop g c = λ h told.

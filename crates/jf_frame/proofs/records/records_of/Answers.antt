@@ -25,7 +25,7 @@ loop-offset-preserved c =
     subst (λ rs. IsAt c.args.bytes.now rs (c.loop-offset.offset + (10 + c.len.result))) (sym c.in_ok-push.ensures.items)
     (subst (λ n. IsAt c.args.bytes.now (c.loop-offset.records.items ++ c.in_ok-record.record ∷ []) (c.loop-offset.offset + (10 + n))) (sym c.len.ensures)
     (at_record c.args.bytes.now c.loop-offset.records.items c.loop-offset.offset c.in_ok-record.record c.loop-offset.invariant c.loop-offset-test.true (tail_is (c.loop-offset.offset + 1) c.args.bytes.now) c.in_ok-record.ensures.whole
-      (let k = c.in_ok-record.ensures.kind in let o = c.in_ok-record.ensures.offset in let p = c.in_ok-record.ensures.payload in cc)))
+    (let k = c.in_ok-record.ensures.kind in let o = c.in_ok-record.ensures.offset in let p = c.in_ok-record.ensures.payload in cc)))
 
 pub returns-clause-held : goal.returns-clause-held
 returns-clause-held c = at_closed c.args.bytes.now c.loop-offset.records.items c.loop-offset.offset c.loop-offset.invariant c.loop-offset-test.false
