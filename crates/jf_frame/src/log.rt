@@ -1,13 +1,17 @@
 // A log: the gated records of one side.
-ghost use Rattle.std.specs.Prelude.{◌≡◌, ◌≢◌, ◌⊎◌, ℕ, ◌+◌, ◌-◌, ◌↔◌, ◌<◌, ◌≤◌, ◌^◌, List, [], ◌∷◌, ◌++◌, length, Some, Ok, Err, IfOk, OnOk, OnErr, IsErr, true, false};
+ghost use Rattle.std.specs.Prelude.{◌≡◌, ◌≢◌, ◌⊎◌, ℕ, ◌+◌, ◌-◌, ◌↔◌, ◌<◌, ◌≤◌, ◌^◌, List, [], ◌∷◌, ◌++◌, length, Some, None, Ok, Err, IfOk, OnOk, OnErr, IsErr, true, false};
 ghost use Rattle.jf_disk.specs.Disk.{History, content, durable};
 ghost use Rattle.jf_frame.specs.declared.framed.Framed.{Framed};
 ghost use Rattle.jf_frame.specs.Framing.{records, IsFrame};
 ghost use Rattle.jf_frame.specs.Crashes.{Idles};
 ghost use Rattle.jf_frame.specs.Logs.{IsReading, IsReady, StopsInAppend, StopsInBegin, IsSameLog, framed};
 
+use crate::append::write_record;
+use crate::begin::begin_side;
 use crate::fault::{DiskFault, FrameFault};
 use crate::framed::Framed;
+use crate::records::records_of;
+use crate::side::bytes_of;
 use jf_disk::{Disk, Side};
 use std::alloc::Global;
 use std::marker::Model;
@@ -19,6 +23,7 @@ pub struct Log {
     offset: u64,
     records: Vec<Framed>,
     failed: bool,
+    ghost in_range: { offset ≤ 2 ^ 62 },
 }
 
 impl Model for Log {
@@ -33,14 +38,23 @@ impl Log {
     /// Reads a side whole, without changing it.
     pub fn read_all<D: Disk>(alloc: Global, disk: &mut D, side: Side) -> Result<Log, FrameFault>
         ensures read { (h : History) → D.history disk.old ≡ Some h → IfOk result (λ log. IsReading log side (content side h.now).bytes) }
+        ensures side { IfOk result (λ log. log.side ≡ side) }
+        ensures sound { IfOk result (λ log. log.failed ≡ false) }
         ensures damaged { (h : History) (at : ℕ) → D.history disk.old ≡ Some h → result ≡ Err (FrameFault.Damaged at) → records (content side h.now).bytes ≡ Err at }
         ensures idle { (h : History) → D.history disk.old ≡ Some h → (g : History) × (D.history disk.new ≡ Some g) × Idles h g }
+        ensures untold { OnOk result (D.history disk.old ≡ None → D.history disk.new ≡ None) }
         ensures cause { result ≡ Err FrameFault.DiskFault → (D.faults disk.old < D.faults disk.new) ⊎ (D.faults disk.old ≡ 2 ^ 64 - 1) }
         ensures moment { D.moment disk.old ≤ D.moment disk.new }
         ensures faults { D.faults disk.old ≤ D.faults disk.new }
     {
-        let _ = (alloc, side, disk);
-        Err(FrameFault::Memory)
+        let bytes = bytes_of(alloc, disk, side)?;
+        let (records, offset) = records_of(alloc, &bytes)?;
+        Ok(Log {
+            side,
+            offset: offset as u64,
+            records,
+            failed: false,
+        })
     }
 
     /// Adds a record behind the closed gate, by four calls: the frame (kind, length, payload, closed gate) is
@@ -59,14 +73,22 @@ impl Log {
         ensures offset { OnOk result (self.new.offset ≡ self.old.offset + length frame.now) }
         ensures same { IsSameLog self.old self.new }
         ensures failed { (self.new.failed ≡ true) ↔ IsErr result }
+        ensures untold { OnOk result (D.history disk.old ≡ None → D.history disk.new ≡ None) }
         ensures cause { IsErr result → (D.faults disk.old < D.faults disk.new) ⊎ (D.faults disk.old ≡ 2 ^ 64 - 1) }
         ensures moment { D.moment disk.old ≤ D.moment disk.new }
         ensures later { OnOk result (D.moment disk.old < D.moment disk.new) }
         ensures faults { D.faults disk.old ≤ D.faults disk.new }
     {
-        self.failed = true;
-        let _ = disk;
-        Err(DiskFault)
+        match write_record(disk, self.side, self.offset, frame) {
+            Ok(()) => {
+                self.offset += frame.len() as u64;
+                Ok(())
+            }
+            Err(fault) => {
+                self.failed = true;
+                Err(fault)
+            }
+        }
     }
 
     /// Closes the first gate of a side without records, where the side is empty or is one open gate, and cuts the
@@ -82,13 +104,21 @@ impl Log {
         ensures offset { OnOk result (self.new.offset ≡ 0) }
         ensures same { IsSameLog self.old self.new }
         ensures failed { (self.new.failed ≡ true) ↔ IsErr result }
+        ensures untold { OnOk result (D.history disk.old ≡ None → D.history disk.new ≡ None) }
         ensures cause { IsErr result → (D.faults disk.old < D.faults disk.new) ⊎ (D.faults disk.old ≡ 2 ^ 64 - 1) }
         ensures moment { D.moment disk.old ≤ D.moment disk.new }
         ensures faults { D.faults disk.old ≤ D.faults disk.new }
     {
-        self.failed = true;
-        let _ = disk;
-        Err(DiskFault)
+        match begin_side(disk, self.side) {
+            Ok(()) => {
+                self.offset = 0;
+                Ok(())
+            }
+            Err(fault) => {
+                self.failed = true;
+                Err(fault)
+            }
+        }
     }
 
     /// The records that were read, in order.

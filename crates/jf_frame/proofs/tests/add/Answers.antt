@@ -1,0 +1,24 @@
+use Rattle.std.proofs.Common.{◌≡◌, [], ◌∷◌, length, refl, sym, ap, ◌∙◌, subst, Ok, arith}
+use Rattle.jf_disk.specs.Disk.{State, Content, content, durable}
+use Rattle.jf_disk.specs.declared.side.Side.TheVariants as side
+use Rattle.jf_disk.specs.Memory.{history_of}
+use Rattle.jf_frame.specs.Framing.{records, IsFrame, eight_bytes}
+use Rattle.jf_frame.specs.FramingLaws.{records_empty}
+use Rattle.jf_frame.proofs.Beginning.{idle_state}
+use Rattle.jf_frame.proofs.tests.add.Goals as goal
+
+pub begin-requires-clause-quiet : goal.begin-requires-clause-quiet
+begin-requires-clause-quiet c κs = λ h told.
+    let e = idle_state (history_of c.args.disk.now) h _ (c.read_all.ensures.idle (history_of c.args.disk.now) refl) told in
+    let empty : content c.in_ok-log.log.side h.now ≡ durable [] = ap (λ s. content s h.now) c.in_ok-log.ensures.side ∙ ap (content side.A) e ∙ c.requires in
+    empty ∙ ap (λ (x : Content). durable x.bytes) (sym empty)
+
+pub begin-requires-clause-empty : goal.begin-requires-clause-empty
+begin-requires-clause-empty c κs = λ h told.
+    let e = idle_state (history_of c.args.disk.now) h _ (c.read_all.ensures.idle (history_of c.args.disk.now) refl) told in
+    let empty : content c.in_ok-log.log.side h.now ≡ durable [] = ap (λ s. content s h.now) c.in_ok-log.ensures.side ∙ ap (content side.A) e ∙ c.requires in
+    ap (λ (x : Content). records x.bytes) empty ∙ records_empty
+
+pub append-requires-clause-whole : goal.append-requires-clause-whole
+unfolding eight_bytes
+append-requires-clause-whole c κs = (7, 97 ∷ 98 ∷ 99 ∷ [], record { is = refl; kind_fits = omega arith; length_fits = omega arith })
