@@ -1,26 +1,29 @@
 // Records from payloads.
-ghost use Rattle.std.specs.Prelude.{◌≡◌, ◌≢◌, ◌⊎◌, Err, IfOk};
+ghost use Rattle.std.specs.Prelude.{◌≡◌, ◌⊎◌, Ok, Err, IfOk};
 ghost use Rattle.jf_record.specs.Spelling.{IsSpelling};
+ghost use Rattle.jf_record.specs.Reading.{Gives, record_in};
 
-use crate::kinds::Record;
+use crate::fault::RecordFault;
+use crate::kinds::{LANDING, Record};
+use crate::landing::landing_of;
 use std::alloc::Global;
 
-/// Why a payload is no record.
-#[derive(Clone, Copy, Debug, PartialEq, Eq)]
-pub enum RecordFault {
-    /// The payload is no spelling of that kind, or the kind is none.
-    Bad,
-    /// Memory is wanting.
-    Memory,
+// What is read of a payload of this kind.
+fn record_of(alloc: Global, kind: u8, payload: &[u8]) -> Result<Record, RecordFault>
+    ensures { Gives (λ r. r) result (record_in kind payload.now) }
+{
+    if kind != LANDING {
+        return Err(RecordFault::Bad);
+    }
+    let (version, batch) = landing_of(alloc, payload)?;
+    Ok(Record::BatchCommit { version, batch })
 }
 
 /// The record that a payload of this kind spells, all of the payload.
 pub fn decode(alloc: Global, kind: u8, payload: &[u8]) -> Result<Record, RecordFault>
     ensures found { IfOk result (λ r. IsSpelling r kind payload.now) }
     ensures bad { result ≡ Err RecordFault.Bad → (r : Record) → IsSpelling r kind payload.now → ⊥ }
+    ensures only { (r : Record) → IsSpelling r kind payload.now → (result ≡ Ok r) ⊎ (result ≡ Err RecordFault.Memory) }
 {
-    let _ = alloc;
-    let _ = kind;
-    let _ = payload;
-    Err(RecordFault::Memory)
+    record_of(alloc, kind, payload)
 }

@@ -1,10 +1,12 @@
 // Records as frames.
-ghost use Rattle.std.specs.Prelude.{◌≡◌, ◌<◌, ◌^◌, IfOk};
-ghost use Rattle.jf_frame.specs.Framing.{frame};
-ghost use Rattle.jf_record.specs.Spelling.{kind_of, record_bytes, landing_bytes, IsRecord};
+ghost use Rattle.std.specs.Prelude.{◌≡◌, ◌≤◌, ◌<◌, ◌++◌, ◌^◌, ◌*◌, ◌+◌, length, flat_map, IfOk, IfSome, OnOk};
+ghost use Rattle.jf_hash.specs.Maps.{IsBatch};
+ghost use Rattle.jf_frame.specs.Framing.{frame, eight_bytes};
+ghost use Rattle.jf_record.specs.Spelling.{kind_of, record_bytes, landing_bytes, entry_bytes, four_bytes, IsRecord};
+ghost use Rattle.jf_split.specs.Limits.{IsWithinLimits};
 
-use crate::kinds::Record;
-use jf_path::{Bytes, Memory};
+use crate::kinds::{CLOSED, LANDING, REMOVED, Record, SET};
+use jf_path::{Bytes, Key, Memory};
 use jf_split::Batch;
 use std::alloc::Global;
 
@@ -13,16 +15,99 @@ pub fn encode(alloc: Global, entry: &Record) -> Result<Bytes, Memory>
     requires { IsRecord entry.now }
     ensures { IfOk result (λ bytes. bytes ≡ frame (kind_of entry.now) (record_bytes entry.now)) }
 {
-    let _ = alloc;
-    Err(Memory)
+    match entry {
+        Record::BatchCommit { version, batch } => encode_landing(alloc, *version, batch),
+    }
 }
 
 /// The frame of the landing of a batch as a version, by itself.
 pub fn encode_landing(alloc: Global, version: u64, batch: &Batch) -> Result<Bytes, Memory>
     ensures { IfOk result (λ bytes. bytes ≡ frame 1 (landing_bytes version batch.now)) }
 {
-    let _ = alloc;
-    let _ = version;
-    let _ = batch;
-    Err(Memory)
+    let entries = batch.as_slice();
+    let length = 16 + entries_len(entries);
+    let mut out = Vec::with_capacity(alloc, length + 10)?;
+    out.push(LANDING)?;
+    put_u64(&mut out, length as u64)?;
+    put_u64(&mut out, version)?;
+    put_u64(&mut out, entries.len() as u64)?;
+    put_entries(&mut out, entries)?;
+    out.push(CLOSED)?;
+    Bytes::copy_of(alloc, &out)
+}
+
+// How many bytes the entries take.
+fn entries_len(entries: &[(Key, Option<Bytes>)]) -> usize
+    requires sound { IsBatch entries.now }
+    requires limited { IsWithinLimits entries.now }
+    ensures len { result ≡ length (flat_map entry_bytes entries.now) }
+    ensures bounded { result ≤ 2 ^ 32 }
+{
+    let mut len = 0;
+    for entry in entries {
+        len += entry_len(entry);
+    }
+    len
+}
+
+// How many bytes an entry takes.
+fn entry_len(entry: &(Key, Option<Bytes>)) -> usize
+    requires key { length entry.now.0 ≡ 32 }
+    requires limited { IfSome entry.now.1 (λ v. length v ≤ 4096) }
+    ensures len { result ≡ length (entry_bytes entry.now) }
+    ensures bounded { result ≤ 4133 }
+{
+    match &entry.1 {
+        None => 33,
+        Some(value) => 37 + value.len() as usize,
+    }
+}
+
+// Adds a number in eight bytes.
+#[tactic(auto, unfolding(jf_frame::specs::Framing::eight_bytes))]
+fn put_u64(out: &mut Vec<u8>, number: u64) -> Result<(), Memory>
+    ensures { OnOk result (out.new.items ≡ out.old.items ++ eight_bytes number) }
+{
+    out.extend_from_slice(&number.to_be_bytes())?;
+    Ok(())
+}
+
+// Adds a value behind its length.
+#[tactic(auto, unfolding(crate::specs::Spelling::four_bytes))]
+fn put_value(out: &mut Vec<u8>, value: &[u8]) -> Result<(), Memory>
+    requires { length value.now ≤ 4096 }
+    ensures { OnOk result (out.new.items ≡ out.old.items ++ four_bytes (length value.now) ++ value.now) }
+{
+    out.extend_from_slice(&(value.len() as u32).to_be_bytes())?;
+    out.extend_from_slice(value)?;
+    Ok(())
+}
+
+// Adds a key and its change.
+fn put_entry(out: &mut Vec<u8>, entry: &(Key, Option<Bytes>)) -> Result<(), Memory>
+    requires { IfSome entry.now.1 (λ v. length v ≤ 4096) }
+    ensures { OnOk result (out.new.items ≡ out.old.items ++ entry_bytes entry.now) }
+{
+    out.extend_from_slice(&entry.0)?;
+    match &entry.1 {
+        None => {
+            out.push(REMOVED)?;
+            Ok(())
+        }
+        Some(value) => {
+            out.push(SET)?;
+            put_value(out, value.as_slice())
+        }
+    }
+}
+
+// Adds each key and its change.
+fn put_entries(out: &mut Vec<u8>, entries: &[(Key, Option<Bytes>)]) -> Result<(), Memory>
+    requires { IsWithinLimits entries.now }
+    ensures { OnOk result (out.new.items ≡ out.old.items ++ flat_map entry_bytes entries.now) }
+{
+    for entry in entries {
+        put_entry(out, entry)?;
+    }
+    Ok(())
 }

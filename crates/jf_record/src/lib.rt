@@ -3,8 +3,17 @@
 
 mod decoding;
 mod encoding;
+mod fault;
+mod fields;
 mod kinds;
+mod landing;
+mod laws;
 
-pub use decoding::{RecordFault, decode};
+pub use decoding::decode;
 pub use encoding::{encode, encode_landing};
+pub use fault::RecordFault;
 pub use kinds::Record;
+pub use laws::{one_record, one_spelling, spelling_is_decided};
+
+#[cfg(test)]
+mod tests;

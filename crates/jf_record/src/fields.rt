@@ -1,0 +1,80 @@
+// Fields at the front of bytes, each with the bytes behind it.
+ghost use Rattle.std.specs.Prelude.{◌≡◌, ◌≤◌, length, IfOk, IfSome, option_map};
+ghost use Rattle.jf_record.specs.Reading.{Gives, four_at, eight_at, value_at, change_at, entry_at};
+ghost use Rattle.jf_record.specs.Views.{entry_view};
+
+use crate::fault::RecordFault;
+use crate::kinds::{MAX_VALUE, REMOVED, SET};
+use jf_path::Key;
+
+/// A key and its change, where they lie in a payload.
+#[derive(Clone, Copy)]
+pub(crate) struct Entry<'a> {
+    pub key: &'a Key,
+    pub value: Option<&'a [u8]>,
+}
+
+// A number in four bytes.
+#[tactic(auto, unfolding(crate::specs::Reading::four_at))]
+fn u32_at(bytes: &[u8]) -> Result<(u32, &[u8]), RecordFault>
+    ensures { Gives (λ x. (x.0, x.1.now)) result (four_at bytes.now) }
+{
+    let Some((number, rest)) = bytes.split_first_chunk::<4>() else {
+        return Err(RecordFault::Bad);
+    };
+    Ok((u32::from_be_bytes(*number), rest))
+}
+
+/// A number in eight bytes.
+#[tactic(auto, unfolding(crate::specs::Reading::eight_at))]
+pub(crate) fn u64_at(bytes: &[u8]) -> Result<(u64, &[u8]), RecordFault>
+    ensures { Gives (λ x. (x.0, x.1.now)) result (eight_at bytes.now) }
+{
+    let Some((number, rest)) = bytes.split_first_chunk::<8>() else {
+        return Err(RecordFault::Bad);
+    };
+    Ok((u64::from_be_bytes(*number), rest))
+}
+
+// A value of at most 4,096 bytes, behind its length.
+#[tactic(auto, unfolding(crate::specs::Reading::value_at))]
+fn value_of(bytes: &[u8]) -> Result<(&[u8], &[u8]), RecordFault>
+    ensures read { Gives (λ x. (x.0.now, x.1.now)) result (value_at bytes.now) }
+    ensures limited { IfOk result (λ x. length x.0.now ≤ 4096) }
+{
+    let (length, rest) = u32_at(bytes)?;
+    let length = length as usize;
+    if length > MAX_VALUE || rest.len() < length {
+        return Err(RecordFault::Bad);
+    }
+    Ok(rest.split_at(length))
+}
+
+// A removal, or a value.
+#[tactic(auto, unfolding(crate::specs::Reading::change_at))]
+fn change_of(bytes: &[u8]) -> Result<(Option<&[u8]>, &[u8]), RecordFault>
+    ensures read { Gives (λ x. (option_map (λ v. v.now) x.0, x.1.now)) result (change_at bytes.now) }
+    ensures limited { IfOk result (λ x. IfSome (option_map (λ v. v.now) x.0) (λ v. length v ≤ 4096)) }
+{
+    match bytes {
+        [REMOVED, rest @ ..] => Ok((None, rest)),
+        [SET, rest @ ..] => {
+            let (value, rest) = value_of(rest)?;
+            Ok((Some(value), rest))
+        }
+        _ => Err(RecordFault::Bad),
+    }
+}
+
+/// A key and its change.
+#[tactic(auto, unfolding(crate::specs::Reading::entry_at))]
+pub(crate) fn entry_of(bytes: &[u8]) -> Result<(Entry<'_>, &[u8]), RecordFault>
+    ensures read { Gives (λ x. (entry_view x.0, x.1.now)) result (entry_at bytes.now) }
+    ensures limited { IfOk result (λ x. IfSome (entry_view x.0).1 (λ v. length v ≤ 4096)) }
+{
+    let Some((key, rest)) = bytes.split_first_chunk::<32>() else {
+        return Err(RecordFault::Bad);
+    };
+    let (value, rest) = change_of(rest)?;
+    Ok((Entry { key, value }, rest))
+}

@@ -1,0 +1,86 @@
+// The landing that a payload spells.
+ghost use Rattle.std.specs.Prelude.{◌≡◌, ◌≤◌, ◌<◌, [], ◌∷◌, ◌++◌, length, true, false, Err, IfSome, IsTrue, OnOk};
+ghost use Rattle.std.specs.FinMap.{put};
+ghost use Rattle.jf_path.specs.Keys.{key_cmp};
+ghost use Rattle.jf_split.specs.Limits.{is_full};
+ghost use Rattle.jf_record.specs.Reading.{Gives, is_above, entries_at, landing_in};
+ghost use Rattle.jf_record.specs.Views.{entry_view};
+
+use crate::fault::RecordFault;
+use crate::fields::{Entry, entry_of, u64_at};
+use crate::kinds::MAX_KEYS;
+use jf_path::Key;
+use jf_split::{Batch, BatchFault};
+use std::alloc::Global;
+
+// Whether the key is above each key of the batch.
+fn is_above(key: &Key, batch: &Batch) -> bool
+    ensures { result ≡ is_above key.now batch.now }
+{
+    let Some(entry) = batch.as_slice().last() else {
+        return true;
+    };
+    let last = entry.0;
+    last.cmp(key).is_lt()
+}
+
+// Gives a key its change.
+fn add(alloc: Global, batch: &mut Batch, entry: &Entry<'_>) -> Result<(), BatchFault>
+    requires limited { IfSome (entry_view entry.now).1 (λ v. length v ≤ 4096) }
+    ensures ok { OnOk result (batch.new ≡ put key_cmp (entry_view entry.now).0 (entry_view entry.now).1 batch.old) }
+    ensures full { result ≡ Err BatchFault.Full → IsTrue (is_full (entry_view entry.now).0 batch.old) }
+{
+    match entry.value {
+        Some(value) => batch.put(alloc, entry.key, value),
+        None => batch.del(alloc, entry.key),
+    }
+}
+
+// Adds an entry behind those of a batch that has room, where its key is above theirs.
+fn push(alloc: Global, batch: &mut Batch, entry: &Entry<'_>) -> Result<(), RecordFault>
+    requires room { length batch.old < 10000 }
+    requires limited { IfSome (entry_view entry.now).1 (λ v. length v ≤ 4096) }
+    ensures ok { OnOk result ((is_above (entry_view entry.now).0 batch.old ≡ true) × (batch.new ≡ batch.old ++ entry_view entry.now ∷ [])) }
+    ensures bad { result ≡ Err RecordFault.Bad → is_above (entry_view entry.now).0 batch.old ≡ false }
+{
+    if !is_above(entry.key, batch) {
+        return Err(RecordFault::Bad);
+    }
+    match add(alloc, batch, entry) {
+        Ok(()) => Ok(()),
+        Err(BatchFault::Memory) => Err(RecordFault::Memory),
+        Err(BatchFault::Full) => unreachable!(),
+    }
+}
+
+// So many entries, whose keys ascend strictly.
+fn entries_of(alloc: Global, count: u64, bytes: &[u8]) -> Result<(Batch, &[u8]), RecordFault>
+    requires { count ≤ 10000 }
+    ensures { Gives (λ x. (x.0, x.1.now)) result (entries_at count [] bytes.now) }
+{
+    let mut batch = Batch::new(alloc);
+    let mut rest = bytes;
+    for _ in 0..count {
+        let (entry, after) = entry_of(rest)?;
+        push(alloc, &mut batch, &entry)?;
+        rest = after;
+    }
+    Ok((batch, rest))
+}
+
+/// The version and the batch that all of the bytes spell.
+#[tactic(auto, unfolding(crate::specs::Reading::landing_in))]
+pub(crate) fn landing_of(alloc: Global, bytes: &[u8]) -> Result<(u64, Batch), RecordFault>
+    ensures { Gives (λ x. x) result (landing_in bytes.now) }
+{
+    let (version, rest) = u64_at(bytes)?;
+    let (count, rest) = u64_at(rest)?;
+    if count > MAX_KEYS {
+        return Err(RecordFault::Bad);
+    }
+    let (batch, rest) = entries_of(alloc, count, rest)?;
+    if !rest.is_empty() {
+        return Err(RecordFault::Bad);
+    }
+    Ok((version, batch))
+}

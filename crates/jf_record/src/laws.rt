@@ -1,0 +1,17 @@
+// Laws on spellings, for proofs of code that stands on them. These functions do nothing when they run.
+ghost use Rattle.jf_record.specs.Laws.{OneRecord, OneSpelling, SpellingIsDecided};
+
+/// A payload of a kind spells one record at most.
+pub fn one_record()
+    ensures { OneRecord }
+{}
+
+/// A record has one spelling.
+pub fn one_spelling()
+    ensures { OneSpelling }
+{}
+
+/// A payload spells a record, or it doesn't.
+pub fn spelling_is_decided()
+    ensures { SpellingIsDecided }
+{}
