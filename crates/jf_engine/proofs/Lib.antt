@@ -1,0 +1,6 @@
+pub mod Histories
+pub mod Chains
+pub mod Gates
+pub mod Spelled
+pub mod Keeping
+pub mod Openings

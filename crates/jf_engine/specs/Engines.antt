@@ -1,11 +1,11 @@
 -- A store on a disk.
-use Rattle.std.specs.Prelude.{◌≡◌, ℕ, Bool, List, Option, Some, refl}
+use Rattle.std.specs.Prelude.{ℕ, Bool, List, Option, refl}
 use Rattle.std.specs.Coded.{Coded, code_by, coded×, coded_ℕ, coded_list, coded_option, coded_bool}
 use Rattle.jf_disk.specs.Disk.{History, State, Content, reads}
 use Rattle.jf_model.specs.Versions.{Versions}
 use Rattle.jf_model.specs.VersionCodes.{versions_code}
 use Rattle.jf_frame.specs.Crashes.{LeavesNow}
-use Rattle.jf_journal.specs.Standing.{StandsFor, generation}
+use Rattle.jf_journal.specs.Standing.{StandsFor}
 
 -- what a store shows: its disk's history, where it is told, moment and count of faults; the versions that it stands for;
 -- and whether a call on it met a fault of the disk

@@ -11,8 +11,13 @@ ghost use Rattle.jf_journal.specs.Steps.{Opens, Lands, StopsWell, Succeeds, IsCa
 ghost use Rattle.jf_engine.specs.Engines.{IsSettledOn};
 
 use crate::fault::{EngineFault, OpenFault, OpenRefused, Which};
-use jf_disk::Disk;
+use crate::landing::frame_of;
+use crate::opening::{Found, find};
+use crate::replay::LAST_VERSION;
+use jf_disk::{Disk, know_counts, know_dated};
+use jf_frame::{DiskFault, Log};
 use jf_hash::Hash;
+use jf_plain::PlainVersions;
 use jf_split::Batch;
 use std::alloc::Global;
 use std::marker::Model;
@@ -22,20 +27,23 @@ use std::thread::Threads;
 /// shows the versions from before the call, and the files are opened again to learn what they hold.
 pub struct Engine<D: Disk> {
     disk: D,
+    log: Log,
+    versions: PlainVersions,
     broken: bool,
 }
 
 impl<D: Disk> Model for Engine<D> {
+    ghost use Rattle.std.specs.Prelude.{◌≡◌, false};
     ghost use Rattle.jf_engine.specs.Engines.{Engine, engine_code};
-    ghost use Rattle.jf_model.specs.Versions.{new_store};
+    ghost use Rattle.jf_engine.specs.Keeping.{IsKept};
 
     ghost Value = { Engine };
 
     ghost coded = { engine_code };
 
-    ghost view = { λ e. record { history = D.history e.disk; moment = D.moment e.disk; faults = D.faults e.disk; versions = new_store; broken = e.broken } };
+    ghost view = { λ e. record { history = D.history e.disk; moment = D.moment e.disk; faults = D.faults e.disk; versions = e.versions; broken = e.broken } };
 
-    ghost invariant = { λ e. ⊥ };
+    ghost invariant = { λ e. e.broken ≡ false → IsKept (D.history e.disk) e.log e.versions };
 }
 
 /// What a landing made: the version, its root, and the disk's moment when it was acknowledged.
@@ -67,11 +75,16 @@ impl<D: Disk> Engine<D> {
         ensures counts_err { IfErr result (λ e. (D.moment disk ≤ D.moment e.disk) × (D.faults disk ≤ D.faults e.disk)) }
     {
         let _ = rt;
-        let _ = alloc;
-        Err(OpenRefused {
-            disk,
-            why: OpenFault::Memory,
-        })
+        let mut disk = disk;
+        match find(alloc, &mut disk) {
+            Ok(Found { log, versions }) => Ok(Engine {
+                disk,
+                log,
+                versions,
+                broken: false,
+            }),
+            Err(why) => Err(OpenRefused { disk, why }),
+        }
     }
 
     /// Lands a batch on the head, as the next version. All memory is taken before the disk is touched. After
@@ -99,35 +112,49 @@ impl<D: Disk> Engine<D> {
         ensures counts { (self.old.moment ≤ self.new.moment) × (self.old.faults ≤ self.new.faults) }
     {
         let _ = rt;
-        let _ = alloc;
-        let _ = batch;
-        let _ = &self.broken;
-        Err(EngineFault::Memory)
+        if self.broken {
+            return Err(EngineFault::Broken);
+        }
+        self.versions.know_sound();
+        let head = self.versions.head();
+        if head == LAST_VERSION {
+            return Err(EngineFault::Last(Which::Version));
+        }
+        let frame = frame_of(alloc, head + 1, batch)?;
+        self.versions.land(alloc, batch)?;
+        match self.log.append(&mut self.disk, frame.as_slice()) {
+            Ok(()) => Ok(Landed {
+                version: head + 1,
+                root: self.versions.root(),
+                moment: self.disk.moment(),
+            }),
+            Err(DiskFault) => {
+                self.versions.undo();
+                self.broken = true;
+                Err(EngineFault::DiskFault)
+            }
+        }
     }
 
     /// The newest version.
     pub fn head(&self) -> u64
         ensures { result ≡ self.now.versions.head }
     {
-        let _ = &self.broken;
-        0
+        self.versions.head()
     }
 
     /// The root of the head, which is kept and not computed.
     pub fn root(&self) -> Hash
         ensures { result ≡ root (newest self.now.versions) }
     {
-        let _ = &self.broken;
-        [0; 32]
+        self.versions.root()
     }
 
     /// The root of a version, or `None` exactly outside base to head.
     pub fn root_of(&self, version: u64) -> Option<Hash>
         ensures { result ≡ (if nat_le self.now.versions.base version && nat_le version self.now.versions.head then Some (root_of self.now.versions version) else None) }
     {
-        let _ = version;
-        let _ = &self.broken;
-        None
+        self.versions.root_of(version)
     }
 
     /// Whether an earlier call on this store answered `DiskFault`.
@@ -152,7 +179,12 @@ impl<D: Disk> Engine<D> {
         ensures moment { D.moment result ≡ self.moment }
         ensures faults { D.faults result ≡ self.faults }
     {
-        let Engine { disk, broken: _ } = self;
+        let Engine {
+            disk,
+            log: _,
+            versions: _,
+            broken: _,
+        } = self;
         disk
     }
 
@@ -165,6 +197,8 @@ impl<D: Disk> Engine<D> {
         ensures dated { (h : History) → self.now.history ≡ Some h → length h.before ≡ self.now.moment }
         ensures settled { (h : History) → self.now.history ≡ Some h → self.now.broken ≡ false → IsSettledOn h self.now.versions }
     {
-        let _ = &self.broken;
+        self.versions.know_sound();
+        know_counts(&self.disk);
+        know_dated(&self.disk);
     }
 }

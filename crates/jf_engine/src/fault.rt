@@ -1,5 +1,13 @@
 // Why a store can't be opened or changed.
-use jf_disk::Side;
+ghost use Rattle.std.specs.Prelude.{◌≡◌};
+ghost use Rattle.jf_disk.specs.declared.side.Side.TheVariants as side;
+ghost use Rattle.jf_engine.specs.declared.fault.OpenFault.TheVariants as open_fault;
+ghost use Rattle.jf_engine.specs.declared.fault.EngineFault.TheVariants as engine_fault;
+ghost use Rattle.jf_engine.specs.Faults.{of_frame};
+
+use jf_disk::{DiskFailed, Side};
+use jf_frame::{DiskFault, FrameFault};
+use jf_path::Memory;
 
 /// A number that has come to its end.
 #[derive(Clone, Copy, Debug, PartialEq, Eq)]
@@ -23,6 +31,45 @@ pub enum OpenFault {
     Memory,
 }
 
+impl From<DiskFailed> for OpenFault {
+    ghost from_gives = { λ _ e. e ≡ open_fault.DiskFault };
+
+    fn from(_: DiskFailed) -> Self {
+        OpenFault::DiskFault
+    }
+}
+
+impl From<DiskFault> for OpenFault {
+    ghost from_gives = { λ _ e. e ≡ open_fault.DiskFault };
+
+    fn from(_: DiskFault) -> Self {
+        OpenFault::DiskFault
+    }
+}
+
+impl From<Memory> for OpenFault {
+    ghost from_gives = { λ _ e. e ≡ open_fault.Memory };
+
+    fn from(_: Memory) -> Self {
+        OpenFault::Memory
+    }
+}
+
+impl From<FrameFault> for OpenFault {
+    ghost from_gives = { λ f e. e ≡ of_frame f };
+
+    fn from(fault: FrameFault) -> Self {
+        match fault {
+            FrameFault::DiskFault => OpenFault::DiskFault,
+            FrameFault::Damaged(offset) => OpenFault::Damaged {
+                side: Side::A,
+                offset,
+            },
+            FrameFault::Memory => OpenFault::Memory,
+        }
+    }
+}
+
 /// A disk that was not opened, and why.
 pub struct OpenRefused<D> {
     pub disk: D,
@@ -40,4 +87,12 @@ pub enum EngineFault {
     DiskFault,
     /// Memory is wanting.
     Memory,
+}
+
+impl From<Memory> for EngineFault {
+    ghost from_gives = { λ _ e. e ≡ engine_fault.Memory };
+
+    fn from(_: Memory) -> Self {
+        EngineFault::Memory
+    }
 }

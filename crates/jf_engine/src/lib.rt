@@ -3,6 +3,9 @@
 
 mod engine;
 mod fault;
+mod landing;
+mod opening;
+mod replay;
 
 pub use engine::{Engine, Landed};
 pub use fault::{EngineFault, OpenFault, OpenRefused, Which};

@@ -1,0 +1,77 @@
+// What is found on a disk.
+ghost use Rattle.std.specs.Prelude.{◌≡◌, ◌⊎◌, ℕ, ◌-◌, ◌<◌, ◌≤◌, ◌^◌, false, Some, None, Ok, Err, IfOk, OnOk, IsErr};
+ghost use Rattle.jf_disk.specs.Disk.{History, durable, reads};
+ghost use Rattle.jf_disk.specs.declared.side.Side.{Side};
+ghost use Rattle.jf_frame.specs.Framing.{records};
+ghost use Rattle.jf_frame.specs.Crashes.{GoesOn};
+ghost use Rattle.jf_frame.specs.Logs.{IsReading, IsReady};
+ghost use Rattle.jf_journal.specs.Standing.{StandsFor, IsDamagedAt};
+ghost use Rattle.jf_engine.specs.Keeping.{IsKept, IsOpening};
+
+use crate::fault::OpenFault;
+use crate::replay::replay;
+use jf_disk::{Disk, Side, know_counts};
+use jf_frame::{DiskFault, Log};
+use jf_plain::PlainVersions;
+use std::alloc::Global;
+
+/// A log, and the versions that its records lead to.
+pub(crate) struct Found {
+    pub log: Log,
+    pub versions: PlainVersions,
+}
+
+/// Reads the files of a disk, and begins them where they hold no record.
+pub(crate) fn find<D: Disk>(alloc: Global, disk: &mut D) -> Result<Found, OpenFault>
+    ensures kept { IfOk result (λ f. IsKept (D.history disk.new) f.log f.versions) }
+    ensures found { (h : History) → D.history disk.old ≡ Some h → IfOk result (λ f. StandsFor (reads h) f.versions) }
+    ensures damaged { (h : History) (side : Side) (at : ℕ) → D.history disk.old ≡ Some h → result ≡ Err (OpenFault.Damaged side at) → IsDamagedAt (reads h) side at }
+    ensures opening { (h : History) → D.history disk.old ≡ Some h → (g : History) × (D.history disk.new ≡ Some g) × IsOpening h g }
+    ensures cause { result ≡ Err OpenFault.DiskFault → (D.faults disk.old < D.faults disk.new) ⊎ (D.faults disk.old ≡ 2 ^ 64 - 1) }
+    ensures moment { D.moment disk.old ≤ D.moment disk.new }
+    ensures faults { D.faults disk.old ≤ D.faults disk.new }
+{
+    let mut log = read_journal(alloc, disk)?;
+    let versions = replay(alloc, log.records())?;
+    begin_empty(disk, &mut log)?;
+    log.forget();
+    Ok(Found { log, versions })
+}
+
+/// Syncs side A, and reads its records.
+fn read_journal<D: Disk>(alloc: Global, disk: &mut D) -> Result<Log, OpenFault>
+    ensures fresh { IfOk result (λ log. (log.side ≡ Side.A) × (log.failed ≡ false)) }
+    ensures read { (h : History) → D.history disk.old ≡ Some h → IfOk result (λ log. IsReading log Side.A h.now.a.bytes) }
+    ensures quiet { (h g : History) → D.history disk.old ≡ Some h → D.history disk.new ≡ Some g → OnOk result (g.now.a ≡ durable h.now.a.bytes) }
+    ensures damaged { (h : History) (side : Side) (at : ℕ) → D.history disk.old ≡ Some h → result ≡ Err (OpenFault.Damaged side at) → (side ≡ Side.A) × (records h.now.a.bytes ≡ Err at) }
+    ensures untold { D.history disk.old ≡ None → OnOk result (D.history disk.new ≡ None) }
+    ensures opening { (h : History) → D.history disk.old ≡ Some h → (g : History) × (D.history disk.new ≡ Some g) × IsOpening h g }
+    ensures cause { result ≡ Err OpenFault.DiskFault → (D.faults disk.old < D.faults disk.new) ⊎ (D.faults disk.old ≡ 2 ^ 64 - 1) }
+    ensures moment { D.moment disk.old ≤ D.moment disk.new }
+    ensures faults { D.faults disk.old ≤ D.faults disk.new }
+{
+    know_counts(disk);
+    disk.sync(Side::A)?;
+    Ok(Log::read_all(alloc, disk, Side::A)?)
+}
+
+/// Begins side A, which was read and has no unsynced change, where it has no record.
+fn begin_empty<D: Disk>(disk: &mut D, log: &mut Log) -> Result<(), DiskFault>
+    requires side { log.old.side ≡ Side.A }
+    requires sound { log.old.failed ≡ false }
+    requires read { (h : History) → D.history disk.old ≡ Some h → IsReading log.old Side.A h.now.a.bytes }
+    requires quiet { (h : History) → D.history disk.old ≡ Some h → h.now.a ≡ durable h.now.a.bytes }
+    ensures ready { (h g : History) → D.history disk.old ≡ Some h → D.history disk.new ≡ Some g → OnOk result (IsReady Side.A log.new.offset log.old.records g.now) }
+    ensures keeps { (h : History) → D.history disk.old ≡ Some h → (g : History) × (D.history disk.new ≡ Some g) × GoesOn h g (λ f. records f.a ≡ Ok log.old.records) }
+    ensures untold { D.history disk.old ≡ None → OnOk result (D.history disk.new ≡ None) }
+    ensures side { log.new.side ≡ Side.A }
+    ensures sound { OnOk result (log.new.failed ≡ false) }
+    ensures cause { IsErr result → (D.faults disk.old < D.faults disk.new) ⊎ (D.faults disk.old ≡ 2 ^ 64 - 1) }
+    ensures moment { D.moment disk.old ≤ D.moment disk.new }
+    ensures faults { D.faults disk.old ≤ D.faults disk.new }
+{
+    if !log.records().is_empty() {
+        return Ok(());
+    }
+    log.begin(disk)
+}
