@@ -1,5 +1,5 @@
 -- Replies as text.
-use Rattle.std.specs.Prelude.{ℕ, List, [], ◌∷◌, Some, None, codes, decimal}
+use Rattle.std.specs.Prelude.{◌≡◌, ℕ, length, take, List, [], ◌∷◌, Some, None, codes, decimal}
 use Rattle.hex.specs.Hex.{encode_lower}
 use Rattle.jf_script.specs.Words.{line_text, value_word}
 use Rattle.jf_script.specs.declared.reply.Refusal.{Refusal}
@@ -50,3 +50,7 @@ reply_words (reply.No why) = codes "no" ∷ refusal_words why
 -- a number, the words of the reply, and 0A
 unfoldable pub reply_text : ℕ → Reply → List ℕ
 reply_text n r = line_text (decimal n ∷ reply_words r)
+
+-- text with more behind it
+abbrev pub Extends : List ℕ → List ℕ → Type 0
+Extends before after = take (length before) after ≡ before
