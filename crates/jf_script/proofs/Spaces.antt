@@ -17,7 +17,7 @@ pub words-at : (line : List ℕ) (i : ℕ) → i < length line → get_or line i
 unfolding words
 words-at line i h e before =
     let parts : line ≡ take i line ++ 32 ∷ drop (i + 1) line =
-        sym (take-append-drop i line) ∙ ap (λ rest. take i line ++ rest) (drop_more line i 0 h) ∙ ap (λ b. take i line ++ b ∷ drop (i + 1) line) e in
+    sym (take-append-drop i line) ∙ ap (λ rest. take i line ++ rest) (drop_more line i 0 h) ∙ ap (λ b. take i line ++ b ∷ drop (i + 1) line) e in
     ap words parts ∙ slice_split_at (λ b. b == 32) (take i line) 32 (drop (i + 1) line) before refl
 
 -- one byte more is no space

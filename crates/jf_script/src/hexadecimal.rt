@@ -43,12 +43,7 @@ fn unhexed(alloc: Global, word: &[u8]) -> Result<Option<Bytes>, Memory>
 }
 
 /// The bytes of a word's digits, where they are `least` to `most`.
-fn bytes_within(
-    alloc: Global,
-    least: u64,
-    most: u64,
-    word: &[u8],
-) -> Result<Option<Bytes>, Memory>
+fn bytes_within(alloc: Global, least: u64, most: u64, word: &[u8]) -> Result<Option<Bytes>, Memory>
     ensures { IfOk result (λ bytes. bytes ≡ bytes_within least most word.now) }
 {
     let count = word.len() as u64 / 2;

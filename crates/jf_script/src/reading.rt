@@ -102,12 +102,7 @@ fn two_words(alloc: Global, word: &[u8], a: &[u8]) -> Result<Option<Command>, Me
 }
 
 /// The command of a line of three words.
-fn three_words(
-    alloc: Global,
-    word: &[u8],
-    a: &[u8],
-    b: &[u8],
-) -> Result<Option<Command>, Memory>
+fn three_words(alloc: Global, word: &[u8], a: &[u8], b: &[u8]) -> Result<Option<Command>, Memory>
     ensures ok { IfOk result (λ c. c ≡ three_words word.now a.now b.now) }
     ensures err { OnErr result (IsTrue (takes_name (word.now ∷ a.now ∷ b.now ∷ []))) }
 {

@@ -141,12 +141,7 @@ fn write_refusal(refusal: Refusal, out: &mut Bytes) -> Result<(), Memory>
 }
 
 /// Appends a number and a root behind a label.
-fn write_rooted(
-    label: &[u8],
-    number: u64,
-    root: &[u8; 32],
-    out: &mut Bytes,
-) -> Result<(), Memory>
+fn write_rooted(label: &[u8], number: u64, root: &[u8; 32], out: &mut Bytes) -> Result<(), Memory>
     ensures ok { OnOk result (out.new ≡ out.old ++ (label.now ++ decimal number ++ 32 ∷ encode_lower root.now)) }
     ensures err { OnErr result (Extends out.old out.new) }
 {
