@@ -1,3 +1,4 @@
+pub mod Lines
 pub mod Spaces
 pub mod Numbers
 pub mod HexText
