@@ -3,3 +3,4 @@ pub mod Spaces
 pub mod Numbers
 pub mod HexText
 pub mod Texts
+pub mod ReplyTexts

@@ -1,0 +1,121 @@
+-- Replies are read back from their words, so distinct replies have distinct texts.
+use Rattle.std.proofs.Common.{◌≡◌, ℕ, ◌+◌, ◌/◌, ◌%◌, ◌^◌, ◌<◌, ◌≤◌, ◌==◌, ◌&&◌, not, Bool, true, false, if◌then◌else◌, List, [], ◌∷◌, ◌++◌, Option, Some, None, length, drop, codes, decimal, slice_index, slice_index_or, refl, sym, ap, ◌∙◌, arith}
+use Rattle.std.specs.Str.Parse.{digits_value}
+use Rattle.std.specs.Result.{result_unwrap_or}
+use Rattle.std.specs.List.{join_with_byte, list_all}
+use Rattle.std.proofs.lemmas.Fmt.{decimal_is_IsNumeral, decimal_by_steps}
+use Rattle.std.proofs.lemmas.List.{append_cancel_right}
+use Rattle.hex.specs.Hex.{encode_with, encode_lower, lower_digits, decode_of, IsBytes, hex_digit_value}
+use Rattle.hex.proofs.HexLemmas.{decode_of-encode_lower, IsDigits-lower_digits}
+use Rattle.jf_script.specs.Words.{words, is_word}
+use Rattle.jf_script.specs.Replies.{reply_text, reply_words, refusal_words, IsInRange, RefusalInRange}
+use Rattle.jf_script.specs.declared.reply.Refusal.{Refusal}
+use Rattle.jf_script.specs.declared.reply.Refusal.TheVariants as refusal
+use Rattle.jf_script.specs.declared.reply.Reply.{Reply}
+use Rattle.jf_script.specs.declared.reply.Reply.TheVariants as reply
+
+-- ---- what stands at a place among words
+
+abbrev word_at : ℕ → List (List ℕ) → List ℕ
+word_at k ws = slice_index_or ws k []
+
+abbrev number_in : List ℕ → ℕ
+number_in w = digits_value 10 w
+
+abbrev bytes_in : List ℕ → List ℕ
+bytes_in w = result_unwrap_or (decode_of w) []
+
+abbrev number_at : ℕ → List (List ℕ) → ℕ
+number_at k ws = number_in (word_at k ws)
+
+abbrev fork_at : ℕ → List (List ℕ) → ℕ
+fork_at k ws = number_in (drop 1 (word_at k ws))
+
+abbrev bytes_at : ℕ → List (List ℕ) → List ℕ
+bytes_at k ws = bytes_in (word_at k ws)
+
+abbrev value_at : ℕ → List (List ℕ) → List ℕ
+value_at k ws = bytes_in (drop 1 (word_at k ws))
+
+number-back : (n : ℕ) → n < 2 ^ 64 → number_in (decimal n) ≡ n
+number-back n h = (decimal_is_IsNumeral n h).1
+
+bytes-back : (bytes : List ℕ) → IsBytes bytes → bytes_in (encode_lower bytes) ≡ bytes
+bytes-back bytes h = ap (λ r. result_unwrap_or r []) (decode_of-encode_lower bytes h)
+
+-- ---- replies read back
+
+abbrev refusal_in : List ℕ → List (List ℕ) → Refusal
+refusal_in kind ws =
+    if is_word kind (codes "syntax") then refusal.Syntax else
+    if is_word kind (codes "long") then refusal.Long else
+    if is_word kind (codes "pending") then refusal.Pending else
+    if is_word kind (codes "unknown") then refusal.Unknown else
+    if is_word kind (codes "gone") then refusal.Gone else
+    if is_word kind (codes "keys") then refusal.Keys (number_at 0 ws) else
+    if is_word kind (codes "future") then refusal.Future (number_at 0 ws) else
+    if is_word kind (codes "retired") then refusal.Retired (number_at 0 ws) else
+    if is_word kind (codes "pinsfull") then refusal.PinsFull else
+    if is_word kind (codes "nopin") then refusal.NoPin else
+    if is_word kind (codes "forksfull") then refusal.ForksFull else
+    if is_word kind (codes "range") then refusal.Range (number_at 0 ws) else
+    if is_word kind (codes "last") then refusal.Last else
+    refusal.Syntax
+
+abbrev done_in : List ℕ → List (List ℕ) → Reply
+done_in kind ws =
+    if is_word kind (codes "pending") then reply.Pending (number_at 0 ws) else
+    if is_word kind (codes "commit") then reply.Commit (number_at 0 ws) (bytes_at 1 ws) else
+    if is_word kind (codes "fork") then reply.Fork (fork_at 0 ws) (bytes_at 1 ws) else
+    if is_word kind (codes "land") then reply.Land (number_at 0 ws) (bytes_at 1 ws) else
+    if is_word kind (codes "drop") then reply.Drop (number_at 0 ws) else
+    if is_word kind (codes "root") then reply.Root (bytes_at 0 ws) else
+    if is_word kind (codes "proof") then reply.Proof (number_at 0 ws) else
+    if is_word kind (codes "chunk") then reply.Chunk (number_at 0 ws) (number_at 1 ws) (number_at 2 ws) else
+    if is_word kind (codes "count") then reply.Count (number_at 0 ws) else
+    if is_word kind (codes "nth") then reply.Nth (bytes_at 0 ws) (value_at 1 ws) else
+    if is_word kind (codes "pin") then reply.Pin (number_at 0 ws) else
+    if is_word kind (codes "unpin") then reply.Unpin (number_at 0 ws) else
+    if is_word kind (codes "prune") then reply.Prune (number_at 0 ws) (number_at 1 ws) else
+    if is_word kind (codes "compact") then reply.Compact (number_at 0 ws) else
+    if is_word kind (codes "none") then reply.Value None else
+    if is_word kind (codes "value") then reply.Value (Some (value_at 0 ws)) else
+    if is_word kind (codes "status") then reply.Status (number_at 1 ws) (number_at 3 ws) (number_at 5 ws) (number_at 7 ws) (number_at 9 ws) (number_at 11 ws) (number_at 13 ws) else
+    reply.No refusal.Syntax
+
+reply_in : List (List ℕ) → Reply
+reply_in ws = if is_word (word_at 0 ws) (codes "no") then reply.No (refusal_in (word_at 1 ws) (drop 2 ws)) else done_in (word_at 1 ws) (drop 2 ws)
+
+reply_in-words : (r : Reply) → IsInRange r → reply_in (reply_words r) ≡ r
+unfolding reply_in
+reply_in-words (reply.Pending count) h = rw (number-back count h) refl
+reply_in-words (reply.Commit version root) h = rw (number-back version h.0, bytes-back root h.1) refl
+reply_in-words (reply.Fork id root) h = rw (number-back id h.0, bytes-back root h.1) refl
+reply_in-words (reply.Land version root) h = rw (number-back version h.0, bytes-back root h.1) refl
+reply_in-words (reply.Drop count) h = rw (number-back count h) refl
+reply_in-words (reply.Root root) h = rw (bytes-back root h) refl
+reply_in-words (reply.Proof siblings) h = rw (number-back siblings h) refl
+reply_in-words (reply.Chunk entries depth siblings) h = rw (number-back entries h.0, number-back depth h.1, number-back siblings h.2) refl
+reply_in-words (reply.Count count) h = rw (number-back count h) refl
+reply_in-words (reply.Nth key value) h = rw (bytes-back key h.0, bytes-back value h.1) refl
+reply_in-words (reply.Pin place) h = rw (number-back place h) refl
+reply_in-words (reply.Unpin version) h = rw (number-back version h) refl
+reply_in-words (reply.Prune bound floor) h = rw (number-back bound h.0, number-back floor h.1) refl
+reply_in-words (reply.Compact generation) h = rw (number-back generation h) refl
+reply_in-words (reply.Value None) h = refl
+reply_in-words (reply.Value (Some value)) h = rw (bytes-back value h) refl
+reply_in-words (reply.Status base floor retired head kept forks generation) h =
+    rw (number-back base h.0, number-back floor h.1, number-back retired h.2, number-back head h.3, number-back kept h.4, number-back forks h.5, number-back generation h.6) refl
+reply_in-words (reply.No refusal.Syntax) h = refl
+reply_in-words (reply.No refusal.Long) h = refl
+reply_in-words (reply.No refusal.Pending) h = refl
+reply_in-words (reply.No refusal.Unknown) h = refl
+reply_in-words (reply.No refusal.Gone) h = refl
+reply_in-words (reply.No (refusal.Keys count)) h = rw (number-back count h) refl
+reply_in-words (reply.No (refusal.Future head)) h = rw (number-back head h) refl
+reply_in-words (reply.No (refusal.Retired bound)) h = rw (number-back bound h) refl
+reply_in-words (reply.No refusal.PinsFull) h = refl
+reply_in-words (reply.No refusal.NoPin) h = refl
+reply_in-words (reply.No refusal.ForksFull) h = refl
+reply_in-words (reply.No (refusal.Range count)) h = rw (number-back count h) refl
+reply_in-words (reply.No refusal.Last) h = refl
