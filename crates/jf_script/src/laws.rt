@@ -1,6 +1,8 @@
-// Laws of lines, each as a call that does nothing.
-ghost use Rattle.std.specs.Prelude.{◌≡◌, ℕ, List, [], ◌∷◌, ◌++◌, length, take};
+// Laws of lines and of replies, each as a call that does nothing.
+ghost use Rattle.std.specs.Prelude.{◌≡◌, ℕ, ◌^◌, ◌<◌, List, [], ◌∷◌, ◌++◌, length, take};
 ghost use Rattle.jf_script.specs.Words.{lines, one_line, whole_lines};
+ghost use Rattle.jf_script.specs.Replies.{reply_text, IsInRange};
+ghost use Rattle.jf_script.specs.declared.reply.Reply.{Reply};
 
 /// Bytes without a line feed are one line, or none where there are no bytes.
 pub fn bytes_without_feed_are_one_line()
@@ -27,3 +29,10 @@ pub fn whole_lines_come_first()
     ensures { (front rest : List ℕ) → whole_lines rest ≡ 0
         → take (whole_lines (front ++ 10 ∷ rest)) (lines (front ++ 10 ∷ rest)) ≡ lines (front ++ 10 ∷ []) }
 {}
+
+/// A reply's line tells its number and the reply: distinct replies have distinct texts.
+pub fn reply_texts_are_distinct()
+    ensures { (n m : ℕ) (r q : Reply) → n < 2 ^ 64 → m < 2 ^ 64 → IsInRange r → IsInRange q
+        → reply_text n r ≡ reply_text m q → (n ≡ m) × (r ≡ q) }
+{
+}
