@@ -1,8 +1,44 @@
 -- Hexadecimal text read by pairs of digits.
-use Rattle.std.proofs.Common.{◌≡◌, ℕ, ◌+◌, ◌*◌, ◌/◌, ◌%◌, ◌<◌, ◌≤◌, ◌⊎◌, ◌&&◌, nat_le, if◌then◌else◌, option_and_then, List, [], ◌∷◌, ◌++◌, length, take, drop, get_or, Option, Some, None, inl, inr, refl, sym, ap, ◌∙◌, arith}
+use Rattle.std.proofs.Common.{◌≡◌, ℕ, ◌+◌, ◌*◌, ◌/◌, ◌%◌, ◌<◌, ◌≤◌, ◌⊎◌, ◌&&◌, nat_le, nat_lt, ◌==◌, Bool, true, false, zero, suc, if◌then◌else◌, option_and_then, List, [], ◌∷◌, ◌++◌, length, take, drop, get_or, Option, Some, None, inl, inr, refl, sym, ap, ◌∙◌, arith}
 use Rattle.std.proofs.lemmas.Bool.Decides.{nat_tests}
 use Rattle.std.proofs.lemmas.List.{append_assoc, append-nil, drop_all, drop_more}
-use Rattle.jf_script.specs.Words.{both, byte_of, unhex, bytes_within}
+use Rattle.std.proofs.lemmas.Bool.{cases_lt, and_parts, eqb-true, ltb-true}
+use Rattle.jf_script.specs.declared.hexadecimal.TheConstants.{VALUES}
+use Rattle.jf_script.specs.Words.{digit, both, byte_of, unhex, bytes_within}
+
+-- what the table says of a byte
+abbrev says : Option ℕ → ℕ → Bool
+says (Some value) entry = (entry == value) && nat_lt value 16
+says None entry = entry == 255
+
+abbrev all_said : ℕ → Bool
+all_said zero = true
+all_said (suc byte) = says (digit byte) (get_or VALUES byte 0) && all_said byte
+
+said : (n byte : ℕ) → all_said n ≡ true → byte < n → says (digit byte) (get_or VALUES byte 0) ≡ true
+said zero byte h lt = absurd (omega arith)
+said (suc n) byte h lt =
+    let parts = and_parts (says (digit n) (get_or VALUES n 0)) (all_said n) h in
+    elim (cases_lt byte n) [
+      | inl below ↦ said n byte parts.1 below
+      | inr top ↦ let e : byte ≡ n = omega arith in rw e parts.0
+    ]
+
+some_said : (o : Option ℕ) (entry : ℕ) → says o entry ≡ true → entry < 16 → Some entry ≡ o
+some_said None entry h small = absurd (let e = eqb-true entry 255 h in omega arith)
+some_said (Some value) entry h small = ap Some (eqb-true entry value (and_parts (entry == value) (nat_lt value 16) h).0)
+
+none_said : (o : Option ℕ) (entry : ℕ) → says o entry ≡ true → 16 ≤ entry → None ≡ o
+none_said None entry h great = refl
+none_said (Some value) entry h great =
+    let parts = and_parts (entry == value) (nat_lt value 16) h in
+    absurd (let e = eqb-true entry value parts.0 in let small = ltb-true value 16 parts.1 in omega arith)
+
+pub digit-some : (i byte : ℕ) → i ≡ byte → byte < 256 → get_or VALUES i 0 < 16 → Some (get_or VALUES i 0) ≡ digit byte
+digit-some i byte e h small = some_said (digit byte) (get_or VALUES i 0) (rw e (said 256 byte refl h)) small
+
+pub digit-none : (i byte : ℕ) → i ≡ byte → byte < 256 → 16 ≤ get_or VALUES i 0 → None ≡ digit byte
+digit-none i byte e h great = none_said (digit byte) (get_or VALUES i 0) (rw e (said 256 byte refl h)) great
 
 -- bytes before those that are still to be read
 abbrev pub behind : List ℕ → Option (List ℕ) → Option (List ℕ)

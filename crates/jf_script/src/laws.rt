@@ -34,5 +34,4 @@ pub fn whole_lines_come_first()
 pub fn reply_texts_are_distinct()
     ensures { (n m : ℕ) (r q : Reply) → n < 2 ^ 64 → m < 2 ^ 64 → IsInRange r → IsInRange q
         → reply_text n r ≡ reply_text m q → (n ≡ m) × (r ≡ q) }
-{
-}
+{}
