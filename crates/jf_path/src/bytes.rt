@@ -1,5 +1,5 @@
 // A list of bytes.
-ghost use Rattle.std.specs.Prelude.{◌≡◌, [], ◌∷◌, ◌++◌, length, OnOk, OnErr, IfOk};
+ghost use Rattle.std.specs.Prelude.{◌≡◌, [], ◌∷◌, ◌++◌, length, take, OnOk, OnErr, IfOk};
 
 use crate::memory::Memory;
 use std::alloc::Global;
@@ -68,6 +68,21 @@ impl Bytes {
     {
         self.bytes.extend_from_slice(from)?;
         Ok(())
+    }
+
+    /// Takes room for this many bytes more.
+    pub fn reserve(&mut self, additional: u64) -> Result<(), Memory>
+        ensures { self.new ≡ self.old }
+    {
+        self.bytes.reserve(additional as usize)?;
+        Ok(())
+    }
+
+    /// Forgets the bytes behind the first `len`, and keeps their room.
+    pub fn truncate(&mut self, len: u64)
+        ensures { self.new ≡ take len self.old }
+    {
+        self.bytes.truncate(len as usize);
     }
 
     /// Forgets the bytes, and keeps their room.

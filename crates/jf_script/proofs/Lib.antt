@@ -1,0 +1,6 @@
+pub mod Lines
+pub mod Spaces
+pub mod Numbers
+pub mod HexText
+pub mod Texts
+pub mod ReplyTexts

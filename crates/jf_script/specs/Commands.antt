@@ -1,15 +1,10 @@
 -- The grammar of a script.
-use Rattle.std.specs.Prelude.{ℕ, if◌then◌else◌, ◌==◌, List, [], ◌∷◌, Option, Some, None, option_map, option_and_then, codes}
-use Rattle.jf_script.specs.Words.{words, is_word, number, number_from, name_of, value_of}
+use Rattle.std.specs.Prelude.{ℕ, Bool, false, ◌||◌, if◌then◌else◌, ◌==◌, List, [], ◌∷◌, Option, Some, None, option_map, option_and_then, codes}
+use Rattle.jf_script.specs.Words.{words, is_word, both, number, number_from, name_of, value_of}
 use Rattle.jf_script.specs.declared.command.Base.{Base}
 use Rattle.jf_script.specs.declared.command.Base.TheVariants as base
 use Rattle.jf_script.specs.declared.command.Command.{Command}
 use Rattle.jf_script.specs.declared.command.Command.TheVariants as command
-
-abbrev pub both : {X Y Z : Type 0} → (X → Y → Z) → Option X → Option Y → Option Z
-both f (Some x) (Some y) = Some (f x y)
-both f (Some x) None = None
-both f None y = None
 
 abbrev pub numbered : ℕ → List ℕ → Option Base
 numbered letter digits =
@@ -90,6 +85,14 @@ command_of_words (w ∷ a ∷ []) = two_words w a
 command_of_words (w ∷ a ∷ b ∷ []) = three_words w a b
 command_of_words (w ∷ a ∷ b ∷ c ∷ []) = four_words w a b c
 command_of_words (w ∷ a ∷ b ∷ c ∷ d ∷ ws) = None
+
+-- the words of a command with a name
+abbrev pub takes_name : List (List ℕ) → Bool
+takes_name [] = false
+takes_name (w ∷ []) = false
+takes_name (w ∷ a ∷ []) = is_word w (codes "del")
+takes_name (w ∷ a ∷ b ∷ []) = is_word w (codes "put") || is_word w (codes "get") || is_word w (codes "prove")
+takes_name (w ∷ a ∷ b ∷ c ∷ ws) = false
 
 -- the command of a line, if it is in the grammar
 unfoldable pub command_of : List ℕ → Option Command

@@ -1,23 +1,159 @@
 // Lines as commands.
-ghost use Rattle.std.specs.Prelude.{◌≡◌, ◌⊎◌, ◌↔◌, Some, None, Err, IfOk, IsTrue, false};
-ghost use Rattle.jf_script.specs.Words.{is_long};
-ghost use Rattle.jf_script.specs.Commands.{command_of};
+ghost use Rattle.std.specs.Prelude.{◌≡◌, ◌⊎◌, ◌↔◌, [], ◌∷◌, Some, None, Err, IfOk, IsTrue, OnErr, codes, false};
+ghost use Rattle.jf_script.specs.Words.{is_long, is_word, words, both, number, name_of, value_of};
+ghost use Rattle.jf_script.specs.Commands.{command_of, takes_name, stored_of, one_word, two_words, three_words, four_words};
 
+use crate::base::{base_of, id_of, parent_of, stored_of};
 use crate::command::Command;
 use crate::fault::LineFault;
+use crate::hexadecimal::{name_of, value_of};
+use crate::number::{number_from, number_of};
+use crate::word::{is_word, split_word};
+use jf_path::Memory;
 use std::alloc::Global;
 
-/// The command of a line, which is given without the byte that ends it.
+/// The greatest number of bytes of a line.
+const LONGEST: usize = 8500;
+
+/// The command of a line, which is given without the byte that ends it. Only a command with a name needs memory.
 pub fn read_line(alloc: Global, line: &[u8]) -> Result<Command, LineFault>
     ensures found { IfOk result (λ c. command_of line.now ≡ Some c) }
     ensures short { IfOk result (λ c. is_long line.now ≡ false) }
     ensures long { (result ≡ Err LineFault.LineTooLong) ↔ IsTrue (is_long line.now) }
     ensures syntax { result ≡ Err LineFault.Syntax → (is_long line.now ≡ false) × (command_of line.now ≡ None) }
     ensures refused { is_long line.now ≡ false → command_of line.now ≡ None → (result ≡ Err LineFault.Syntax) ⊎ (result ≡ Err LineFault.Memory) }
+    ensures memory { result ≡ Err LineFault.Memory → IsTrue (takes_name (words line.now)) }
 {
-    let _ = alloc;
-    if line.len() > 8500 {
+    if line.len() > LONGEST {
         return Err(LineFault::LineTooLong);
     }
-    Err(LineFault::Memory)
+    match command_of(alloc, line) {
+        Ok(Some(command)) => Ok(command),
+        Ok(None) => Err(LineFault::Syntax),
+        Err(Memory) => Err(LineFault::Memory),
+    }
+}
+
+/// The command of a line of any length, if it is in the grammar.
+#[tactic(auto, unfolding(crate::specs::Commands::command_of))]
+fn command_of(alloc: Global, line: &[u8]) -> Result<Option<Command>, Memory>
+    ensures ok { IfOk result (λ c. c ≡ command_of line.now) }
+    ensures err { OnErr result (IsTrue (takes_name (words line.now))) }
+{
+    let (word, rest) = split_word(line);
+    let Some(rest) = rest else {
+        return Ok(one_word(word));
+    };
+    let (first, rest) = split_word(rest);
+    let Some(rest) = rest else {
+        return two_words(alloc, word, first);
+    };
+    let (second, rest) = split_word(rest);
+    let Some(rest) = rest else {
+        return three_words(alloc, word, first, second);
+    };
+    match split_word(rest) {
+        (third, None) => Ok(four_words(word, first, second, third)),
+        (_, Some(_)) => Ok(None),
+    }
+}
+
+/// The command of a line of one word.
+fn one_word(word: &[u8]) -> Option<Command>
+    ensures { result ≡ one_word word.now }
+{
+    if is_word(word, b"commit") {
+        Some(Command::Commit)
+    } else if is_word(word, b"compact") {
+        Some(Command::Compact)
+    } else if is_word(word, b"status") {
+        Some(Command::Status)
+    } else {
+        None
+    }
+}
+
+/// The command of a line of two words.
+fn two_words(alloc: Global, word: &[u8], a: &[u8]) -> Result<Option<Command>, Memory>
+    ensures ok { IfOk result (λ c. c ≡ two_words word.now a.now) }
+    ensures err { OnErr result (IsTrue (is_word word.now (codes "del"))) }
+{
+    if is_word(word, b"del") {
+        Ok(name_of(alloc, a)?.map(|name| Command::Del { name }))
+    } else if is_word(word, b"fork") {
+        Ok(parent_of(a).map(|on| Command::Fork { on }))
+    } else if is_word(word, b"land") {
+        Ok(id_of(a).map(|id| Command::Land { id }))
+    } else if is_word(word, b"drop") {
+        Ok(id_of(a).map(|id| Command::Drop { id }))
+    } else if is_word(word, b"root") {
+        Ok(base_of(a).map(|base| Command::Root { base }))
+    } else if is_word(word, b"count") {
+        Ok(stored_of(a).map(|base| Command::Count { base }))
+    } else if is_word(word, b"pin") {
+        Ok(number_of(a).map(|version| Command::Pin { version }))
+    } else if is_word(word, b"unpin") {
+        Ok(number_of(a).map(|place| Command::Unpin { place }))
+    } else if is_word(word, b"prune") {
+        Ok(number_of(a).map(|upto| Command::Prune { upto }))
+    } else {
+        Ok(None)
+    }
+}
+
+/// The command of a line of three words.
+fn three_words(alloc: Global, word: &[u8], a: &[u8], b: &[u8]) -> Result<Option<Command>, Memory>
+    ensures ok { IfOk result (λ c. c ≡ three_words word.now a.now b.now) }
+    ensures err { OnErr result (IsTrue (takes_name (word.now ∷ a.now ∷ b.now ∷ []))) }
+{
+    if is_word(word, b"put") {
+        put(alloc, a, b)
+    } else if is_word(word, b"get") {
+        let Some(base) = base_of(a) else {
+            return Ok(None);
+        };
+        Ok(name_of(alloc, b)?.map(|name| Command::Get { base, name }))
+    } else if is_word(word, b"prove") {
+        let Some(base) = stored_of(a) else {
+            return Ok(None);
+        };
+        Ok(name_of(alloc, b)?.map(|name| Command::Prove { base, name }))
+    } else if is_word(word, b"nth") {
+        Ok(nth(a, b))
+    } else {
+        Ok(None)
+    }
+}
+
+/// The command of a line of four words.
+fn four_words(word: &[u8], a: &[u8], b: &[u8], c: &[u8]) -> Option<Command>
+    ensures { result ≡ four_words word.now a.now b.now c.now }
+{
+    if !is_word(word, b"chunk") {
+        return None;
+    }
+    let base = stored_of(a)?;
+    let start = number_of(b)?;
+    let count = number_from(1, 1000, c)?;
+    Some(Command::Chunk { base, start, count })
+}
+
+fn put(alloc: Global, a: &[u8], b: &[u8]) -> Result<Option<Command>, Memory>
+    ensures { IfOk result (λ c. c ≡ both (λ name value. Command.Put name value) (name_of a.now) (value_of b.now)) }
+{
+    let Some(name) = name_of(alloc, a)? else {
+        return Ok(None);
+    };
+    let Some(value) = value_of(alloc, b)? else {
+        return Ok(None);
+    };
+    Ok(Some(Command::Put { name, value }))
+}
+
+fn nth(a: &[u8], b: &[u8]) -> Option<Command>
+    ensures { result ≡ both (λ base place. Command.Nth base place) (stored_of a.now) (number b.now) }
+{
+    let base = stored_of(a)?;
+    let place = number_of(b)?;
+    Some(Command::Nth { base, place })
 }

@@ -1,0 +1,233 @@
+-- Replies are read back from their words, so distinct replies have distinct texts.
+use Rattle.std.proofs.Common.{◌≡◌, ℕ, ◌+◌, ◌/◌, ◌%◌, ◌^◌, ◌<◌, ◌≤◌, ◌==◌, ◌&&◌, not, Bool, true, false, if◌then◌else◌, List, [], ◌∷◌, ◌++◌, Option, Some, None, length, drop, codes, decimal, slice_index, slice_index_or, suc, inl, inr, refl, sym, ap, ◌∙◌, arith}
+use Rattle.std.specs.Str.Parse.{digits_value}
+use Rattle.std.specs.Result.{result_unwrap_or}
+use Rattle.std.specs.List.{join_with_byte, list_all}
+use Rattle.std.proofs.lemmas.Fmt.{decimal_is_IsNumeral, decimal_by_steps}
+use Rattle.std.proofs.lemmas.List.{append_cancel_right}
+use Rattle.std.proofs.lemmas.Bool.{cases_eq}
+use Rattle.std.proofs.lemmas.Bool.Decides.{nat_tests}
+use Rattle.hex.specs.Hex.{encode_with, encode_lower, lower_digits, decode_of, IsBytes, hex_digit_value}
+use Rattle.hex.proofs.HexLemmas.{decode_of-encode_lower, IsDigits-lower_digits}
+use Rattle.jf_script.specs.Words.{words, is_word}
+use Rattle.jf_script.specs.Replies.{reply_text, reply_words, refusal_words, IsInRange, RefusalInRange}
+use Rattle.jf_script.specs.declared.reply.Refusal.{Refusal}
+use Rattle.jf_script.specs.declared.reply.Refusal.TheVariants as refusal
+use Rattle.jf_script.specs.declared.reply.Reply.{Reply}
+use Rattle.jf_script.specs.declared.reply.Reply.TheVariants as reply
+
+-- ---- what stands at a place among words
+
+abbrev word_at : ℕ → List (List ℕ) → List ℕ
+word_at k ws = slice_index_or ws k []
+
+abbrev number_in : List ℕ → ℕ
+number_in w = digits_value 10 w
+
+abbrev bytes_in : List ℕ → List ℕ
+bytes_in w = result_unwrap_or (decode_of w) []
+
+abbrev number_at : ℕ → List (List ℕ) → ℕ
+number_at k ws = number_in (word_at k ws)
+
+abbrev fork_at : ℕ → List (List ℕ) → ℕ
+fork_at k ws = number_in (drop 1 (word_at k ws))
+
+abbrev bytes_at : ℕ → List (List ℕ) → List ℕ
+bytes_at k ws = bytes_in (word_at k ws)
+
+abbrev value_at : ℕ → List (List ℕ) → List ℕ
+value_at k ws = bytes_in (drop 1 (word_at k ws))
+
+number-back : (n : ℕ) → n < 2 ^ 64 → number_in (decimal n) ≡ n
+number-back n h = (decimal_is_IsNumeral n h).1
+
+bytes-back : (bytes : List ℕ) → IsBytes bytes → bytes_in (encode_lower bytes) ≡ bytes
+bytes-back bytes h = ap (λ r. result_unwrap_or r []) (decode_of-encode_lower bytes h)
+
+-- ---- replies read back
+
+abbrev refusal_in : List ℕ → List (List ℕ) → Refusal
+refusal_in kind ws =
+    if is_word kind (codes "syntax") then refusal.Syntax else
+    if is_word kind (codes "long") then refusal.Long else
+    if is_word kind (codes "pending") then refusal.Pending else
+    if is_word kind (codes "unknown") then refusal.Unknown else
+    if is_word kind (codes "gone") then refusal.Gone else
+    if is_word kind (codes "keys") then refusal.Keys (number_at 0 ws) else
+    if is_word kind (codes "future") then refusal.Future (number_at 0 ws) else
+    if is_word kind (codes "retired") then refusal.Retired (number_at 0 ws) else
+    if is_word kind (codes "pinsfull") then refusal.PinsFull else
+    if is_word kind (codes "nopin") then refusal.NoPin else
+    if is_word kind (codes "forksfull") then refusal.ForksFull else
+    if is_word kind (codes "range") then refusal.Range (number_at 0 ws) else
+    if is_word kind (codes "last") then refusal.Last else
+    refusal.Syntax
+
+abbrev done_in : List ℕ → List (List ℕ) → Reply
+done_in kind ws =
+    if is_word kind (codes "pending") then reply.Pending (number_at 0 ws) else
+    if is_word kind (codes "commit") then reply.Commit (number_at 0 ws) (bytes_at 1 ws) else
+    if is_word kind (codes "fork") then reply.Fork (fork_at 0 ws) (bytes_at 1 ws) else
+    if is_word kind (codes "land") then reply.Land (number_at 0 ws) (bytes_at 1 ws) else
+    if is_word kind (codes "drop") then reply.Drop (number_at 0 ws) else
+    if is_word kind (codes "root") then reply.Root (bytes_at 0 ws) else
+    if is_word kind (codes "proof") then reply.Proof (number_at 0 ws) else
+    if is_word kind (codes "chunk") then reply.Chunk (number_at 0 ws) (number_at 1 ws) (number_at 2 ws) else
+    if is_word kind (codes "count") then reply.Count (number_at 0 ws) else
+    if is_word kind (codes "nth") then reply.Nth (bytes_at 0 ws) (value_at 1 ws) else
+    if is_word kind (codes "pin") then reply.Pin (number_at 0 ws) else
+    if is_word kind (codes "unpin") then reply.Unpin (number_at 0 ws) else
+    if is_word kind (codes "prune") then reply.Prune (number_at 0 ws) (number_at 1 ws) else
+    if is_word kind (codes "compact") then reply.Compact (number_at 0 ws) else
+    if is_word kind (codes "none") then reply.Value None else
+    if is_word kind (codes "value") then reply.Value (Some (value_at 0 ws)) else
+    if is_word kind (codes "status") then reply.Status (number_at 1 ws) (number_at 3 ws) (number_at 5 ws) (number_at 7 ws) (number_at 9 ws) (number_at 11 ws) (number_at 13 ws) else
+    reply.No refusal.Syntax
+
+reply_in : List (List ℕ) → Reply
+reply_in ws = if is_word (word_at 0 ws) (codes "no") then reply.No (refusal_in (word_at 1 ws) (drop 2 ws)) else done_in (word_at 1 ws) (drop 2 ws)
+
+reply_in-words : (r : Reply) → IsInRange r → reply_in (reply_words r) ≡ r
+unfolding reply_in
+reply_in-words (reply.Pending count) h = rw (number-back count h) refl
+reply_in-words (reply.Commit version root) h = rw (number-back version h.0, bytes-back root h.1) refl
+reply_in-words (reply.Fork id root) h = rw (number-back id h.0, bytes-back root h.1) refl
+reply_in-words (reply.Land version root) h = rw (number-back version h.0, bytes-back root h.1) refl
+reply_in-words (reply.Drop count) h = rw (number-back count h) refl
+reply_in-words (reply.Root root) h = rw (bytes-back root h) refl
+reply_in-words (reply.Proof siblings) h = rw (number-back siblings h) refl
+reply_in-words (reply.Chunk entries depth siblings) h = rw (number-back entries h.0, number-back depth h.1, number-back siblings h.2) refl
+reply_in-words (reply.Count count) h = rw (number-back count h) refl
+reply_in-words (reply.Nth key value) h = rw (bytes-back key h.0, bytes-back value h.1) refl
+reply_in-words (reply.Pin place) h = rw (number-back place h) refl
+reply_in-words (reply.Unpin version) h = rw (number-back version h) refl
+reply_in-words (reply.Prune bound floor) h = rw (number-back bound h.0, number-back floor h.1) refl
+reply_in-words (reply.Compact generation) h = rw (number-back generation h) refl
+reply_in-words (reply.Value None) h = refl
+reply_in-words (reply.Value (Some value)) h = rw (bytes-back value h) refl
+reply_in-words (reply.Status base floor retired head kept forks generation) h =
+    rw (number-back base h.0, number-back floor h.1, number-back retired h.2, number-back head h.3, number-back kept h.4, number-back forks h.5, number-back generation h.6) refl
+reply_in-words (reply.No refusal.Syntax) h = refl
+reply_in-words (reply.No refusal.Long) h = refl
+reply_in-words (reply.No refusal.Pending) h = refl
+reply_in-words (reply.No refusal.Unknown) h = refl
+reply_in-words (reply.No refusal.Gone) h = refl
+reply_in-words (reply.No (refusal.Keys count)) h = rw (number-back count h) refl
+reply_in-words (reply.No (refusal.Future head)) h = rw (number-back head h) refl
+reply_in-words (reply.No (refusal.Retired bound)) h = rw (number-back bound h) refl
+reply_in-words (reply.No refusal.PinsFull) h = refl
+reply_in-words (reply.No refusal.NoPin) h = refl
+reply_in-words (reply.No refusal.ForksFull) h = refl
+reply_in-words (reply.No (refusal.Range count)) h = rw (number-back count h) refl
+reply_in-words (reply.No refusal.Last) h = refl
+
+-- ---- texts read back
+
+abbrev spaceless : List ℕ → Bool
+spaceless [] = true
+spaceless (b ∷ w) = if b == 32 then false else spaceless w
+
+abbrev all_spaceless : List (List ℕ) → Bool
+all_spaceless [] = true
+all_spaceless (w ∷ ws) = if spaceless w then all_spaceless ws else false
+
+-- the two parts of a test
+both_pass : (s t : Bool) → (if s then t else false) ≡ true → (s ≡ true) × (t ≡ true)
+both_pass true t h = (refl, h)
+both_pass false t h = cc h
+
+not_and_passes : (s t : Bool) → (if s then false else t) ≡ true → (s ≡ false) × (t ≡ true)
+not_and_passes true t h = cc h
+not_and_passes false t h = (refl, h)
+
+words-one : (w : List ℕ) → spaceless w ≡ true → words w ≡ w ∷ []
+unfolding words
+words-one [] h = refl
+words-one (b ∷ w) h = let parts = not_and_passes (b == 32) (spaceless w) h in rw (parts.0, words-one w parts.1) refl
+
+words-first : (w rest : List ℕ) → spaceless w ≡ true → words (w ++ 32 ∷ rest) ≡ w ∷ words rest
+unfolding words
+words-first [] rest h = refl
+words-first (b ∷ w) rest h = let parts = not_and_passes (b == 32) (spaceless w) h in rw (parts.0, words-first w rest parts.1) refl
+
+-- joined words are cut as they were joined
+words-join : (w : List ℕ) (ws : List (List ℕ)) → spaceless w ≡ true → all_spaceless ws ≡ true → words (join_with_byte 32 (w ∷ ws)) ≡ w ∷ ws
+words-join w [] h hs = words-one w h
+words-join w (v ∷ vs) h hs =
+    let parts = both_pass (spaceless v) (all_spaceless vs) hs in
+    words-first w (join_with_byte 32 (v ∷ vs)) h ∙ ap (λ ws. w ∷ ws) (words-join v vs parts.0 parts.1)
+
+spaceless-push : (w : List ℕ) (b : ℕ) → spaceless w ≡ true → (b == 32) ≡ false → spaceless (w ++ b ∷ []) ≡ true
+spaceless-push [] b h e = rw e refl
+spaceless-push (c ∷ w) b h e = let parts = not_and_passes (c == 32) (spaceless w) h in rw parts.0 (spaceless-push w b parts.1 e)
+
+spaceless-decimal : (n : ℕ) → n < 2 ^ 64 → spaceless (decimal n) ≡ true
+spaceless-decimal n h =
+    decimal_by_steps (λ _ ds. spaceless ds ≡ true)
+    (λ m small. let e : (48 + m == 32) ≡ false = grind (arith, nat_tests) in rw e refl)
+    (λ m ds large so_far. let e : (48 + m % 10 == 32) ≡ false = grind (arith, nat_tests) in spaceless-push ds (48 + m % 10) so_far e)
+    n h
+
+no_space : (c d : ℕ) → hex_digit_value c ≡ Some d → (c == 32) ≡ false
+no_space c d h =
+    elim (cases_eq c 32) [
+      | inl space ↦ let e : hex_digit_value 32 ≡ Some d = ap hex_digit_value (sym space) ∙ h in cc e
+      | inr other ↦ grind (arith, nat_tests)
+    ]
+
+spaceless-hex : (bytes : List ℕ) → IsBytes bytes → spaceless (encode_lower bytes) ≡ true
+unfolding encode_with
+spaceless-hex [] h = refl
+spaceless-hex (b ∷ bytes) h =
+    let fits : b < 256 = h 0 in
+    let high = no_space (slice_index lower_digits (b / 16)) (b / 16) (IsDigits-lower_digits (b / 16) (omega arith)) in
+    let low = no_space (slice_index lower_digits (b % 16)) (b % 16) (IsDigits-lower_digits (b % 16) (omega arith)) in
+    rw (high, low) (spaceless-hex bytes (λ k. h (suc k)))
+
+all_spaceless-words : (r : Reply) → IsInRange r → all_spaceless (reply_words r) ≡ true
+all_spaceless-words (reply.Pending count) h = rw (spaceless-decimal count h) refl
+all_spaceless-words (reply.Commit version root) h = rw (spaceless-decimal version h.0, spaceless-hex root h.1) refl
+all_spaceless-words (reply.Fork id root) h = rw (spaceless-decimal id h.0, spaceless-hex root h.1) refl
+all_spaceless-words (reply.Land version root) h = rw (spaceless-decimal version h.0, spaceless-hex root h.1) refl
+all_spaceless-words (reply.Drop count) h = rw (spaceless-decimal count h) refl
+all_spaceless-words (reply.Root root) h = rw (spaceless-hex root h) refl
+all_spaceless-words (reply.Proof siblings) h = rw (spaceless-decimal siblings h) refl
+all_spaceless-words (reply.Chunk entries depth siblings) h = rw (spaceless-decimal entries h.0, spaceless-decimal depth h.1, spaceless-decimal siblings h.2) refl
+all_spaceless-words (reply.Count count) h = rw (spaceless-decimal count h) refl
+all_spaceless-words (reply.Nth key value) h = rw (spaceless-hex key h.0, spaceless-hex value h.1) refl
+all_spaceless-words (reply.Pin place) h = rw (spaceless-decimal place h) refl
+all_spaceless-words (reply.Unpin version) h = rw (spaceless-decimal version h) refl
+all_spaceless-words (reply.Prune bound floor) h = rw (spaceless-decimal bound h.0, spaceless-decimal floor h.1) refl
+all_spaceless-words (reply.Compact generation) h = rw (spaceless-decimal generation h) refl
+all_spaceless-words (reply.Value None) h = refl
+all_spaceless-words (reply.Value (Some value)) h = rw (spaceless-hex value h) refl
+all_spaceless-words (reply.Status base floor retired head kept forks generation) h =
+    rw (spaceless-decimal base h.0, spaceless-decimal floor h.1, spaceless-decimal retired h.2, spaceless-decimal head h.3, spaceless-decimal kept h.4, spaceless-decimal forks h.5, spaceless-decimal generation h.6) refl
+all_spaceless-words (reply.No refusal.Syntax) h = refl
+all_spaceless-words (reply.No refusal.Long) h = refl
+all_spaceless-words (reply.No refusal.Pending) h = refl
+all_spaceless-words (reply.No refusal.Unknown) h = refl
+all_spaceless-words (reply.No refusal.Gone) h = refl
+all_spaceless-words (reply.No (refusal.Keys count)) h = rw (spaceless-decimal count h) refl
+all_spaceless-words (reply.No (refusal.Future head)) h = rw (spaceless-decimal head h) refl
+all_spaceless-words (reply.No (refusal.Retired bound)) h = rw (spaceless-decimal bound h) refl
+all_spaceless-words (reply.No refusal.PinsFull) h = refl
+all_spaceless-words (reply.No refusal.NoPin) h = refl
+all_spaceless-words (reply.No refusal.ForksFull) h = refl
+all_spaceless-words (reply.No (refusal.Range count)) h = rw (spaceless-decimal count h) refl
+all_spaceless-words (reply.No refusal.Last) h = refl
+
+-- the words of a text, but for its 0A
+text_words : (n : ℕ) (r : Reply) → n < 2 ^ 64 → IsInRange r → words (join_with_byte 32 (decimal n ∷ reply_words r)) ≡ decimal n ∷ reply_words r
+text_words n r small range = words-join (decimal n) (reply_words r) (spaceless-decimal n small) (all_spaceless-words r range)
+
+-- a text tells its number and its reply
+pub reply_text-distinct : (n m : ℕ) (r q : Reply) → n < 2 ^ 64 → m < 2 ^ 64 → IsInRange r → IsInRange q → reply_text n r ≡ reply_text m q → (n ≡ m) × (r ≡ q)
+unfolding reply_text
+reply_text-distinct n m r q hn hm hr hq e =
+    let lines : join_with_byte 32 (decimal n ∷ reply_words r) ≡ join_with_byte 32 (decimal m ∷ reply_words q) = append_cancel_right _ _ (10 ∷ []) e in
+    let same : decimal n ∷ reply_words r ≡ decimal m ∷ reply_words q = sym (text_words n r hn hr) ∙ ap words lines ∙ text_words m q hm hq in (
+      sym (number-back n hn) ∙ ap (number_at 0) same ∙ number-back m hm,
+      sym (reply_in-words r hr) ∙ ap (λ ws. reply_in (drop 1 ws)) same ∙ reply_in-words q hq,
+    )

@@ -1,0 +1,57 @@
+-- Texts that are written piece by piece.
+use Rattle.std.proofs.Common.{◌≡◌, ℕ, ◌+◌, ◌/◌, ◌%◌, ◌<◌, ◌≤◌, List, [], ◌∷◌, ◌++◌, length, take, get_or, slice_index, decimal, refl, sym, ap, ◌∙◌, arith, length-append, take_all}
+use Rattle.std.proofs.lemmas.List.{append_assoc, take_more, append-nil, take-append-le, take-take}
+use Rattle.hex.specs.Hex.{encode_with, encode_lower, lower_digits}
+use Rattle.std.specs.List.{join_with_byte}
+use Rattle.jf_script.specs.Words.{spaced}
+use Rattle.jf_script.specs.Replies.{Extends, reply_text, reply_words}
+use Rattle.jf_script.specs.declared.reply.Reply.{Reply}
+
+encode_with-append : (t xs ys : List ℕ) → encode_with t (xs ++ ys) ≡ encode_with t xs ++ encode_with t ys
+unfolding encode_with
+encode_with-append t [] ys = refl
+encode_with-append t (x ∷ xs) ys = rw (encode_with-append t xs ys) refl
+
+encode_with-one : (t : List ℕ) (b : ℕ) → encode_with t (b ∷ []) ≡ slice_index t (b / 16) ∷ slice_index t (b % 16) ∷ []
+unfolding encode_with
+encode_with-one t b = refl
+
+-- one byte more, as two digits
+pub encode-more : (before out bytes : List ℕ) (i : ℕ) → i < length bytes → out ≡ before ++ encode_lower (take i bytes)
+    → (out ++ slice_index lower_digits (get_or bytes i 0 / 16) ∷ []) ++ slice_index lower_digits (get_or bytes i 0 % 16) ∷ [] ≡ before ++ encode_lower (take (i + 1) bytes)
+encode-more before out bytes i h e =
+    let byte : ℕ = get_or bytes i 0 in
+    let more = take_more bytes i 0 h in
+    rw (e, more, encode_with-append lower_digits (take i bytes) (byte ∷ []), encode_with-one lower_digits byte)
+    (simp append_assoc)
+
+-- nothing yet
+pub encode-none : (out bytes : List ℕ) → out ≡ out ++ encode_lower (take 0 bytes)
+unfolding encode_with
+encode-none out bytes = sym (append-nil out)
+
+join-spaced : (w : List ℕ) (ws : List (List ℕ)) → join_with_byte 32 (w ∷ ws) ≡ w ++ spaced ws
+join-spaced w [] = sym (append-nil w)
+join-spaced w (x ∷ ws) = ap (λ rest. w ++ 32 ∷ rest) (join-spaced x ws)
+
+spaced-append : (ws vs : List (List ℕ)) → spaced (ws ++ vs) ≡ spaced ws ++ spaced vs
+spaced-append [] vs = refl
+spaced-append (w ∷ ws) vs = ap (λ text. 32 ∷ w ++ text) (spaced-append ws vs) ∙ ap (λ text. 32 ∷ text) (sym (append_assoc w (spaced ws) (spaced vs)))
+
+-- a reply's text in the pieces in which it is written
+pub reply_text-pieces : (n : ℕ) (r : Reply) → reply_text n r ≡ (decimal n ++ spaced (reply_words r)) ++ 10 ∷ []
+unfolding reply_text
+reply_text-pieces n r = ap (λ text. text ++ 10 ∷ []) (join-spaced (decimal n) (reply_words r))
+
+-- what stands behind more text stands behind the text
+pub Extends-behind : (before more middle after : List ℕ) → middle ≡ before ++ more → Extends middle after → Extends before after
+Extends-behind before more middle after e h =
+    let long : length before ≤ length middle = omega (arith, ap length e, length-append before more) in
+    sym (take-take (length before) (length middle) after long)
+    ∙ ap (take (length before)) (h ∙ e)
+    ∙ take-append-le (length before) before more (omega arith)
+    ∙ take_all (length before) before (omega arith)
+
+-- words in two parts
+pub spaced-two : (before : List ℕ) (ws vs : List (List ℕ)) → (before ++ spaced ws) ++ spaced vs ≡ before ++ spaced (ws ++ vs)
+spaced-two before ws vs = append_assoc before (spaced ws) (spaced vs) ∙ ap (λ text. before ++ text) (sym (spaced-append ws vs))
