@@ -1,12 +1,12 @@
 -- Files stand for one value of sound versions, or they are damaged at one place.
-use Rattle.std.proofs.Common.{◌≡◌, ℕ, ◌+◌, ◌⊎◌, inl, inr, List, [], ◌∷◌, ◌++◌, length, Result, Ok, Err, refl, sym, ap, ◌∙◌, subst}
+use Rattle.std.proofs.Common.{◌≡◌, ℕ, ◌⊎◌, inl, inr, List, [], ◌∷◌, ◌++◌, length, Result, Ok, Err, refl, sym, ap, ◌∙◌, subst}
 use Rattle.jf_disk.specs.Disk.{Files}
 use Rattle.jf_disk.specs.declared.side.Side.TheVariants as side
-use Rattle.jf_model.specs.Versions.{Versions, IsVersions, new_store, landed}
+use Rattle.jf_model.specs.Versions.{Versions, new_store}
 use Rattle.jf_model.specs.VersionLaws.{new_store-IsVersions}
 use Rattle.jf_frame.specs.declared.framed.Framed.{Framed}
 use Rattle.jf_frame.specs.Framing.{records}
-use Rattle.jf_journal.specs.Standing.{IsNext, LeadTo, FailsAt, StandsFor, IsDamagedOnA, IsDamagedAt}
+use Rattle.jf_journal.specs.Standing.{LeadTo, FailsAt, StandsFor, IsDamagedOnA}
 use Rattle.jf_journal.specs.Laws.{NoRecordsAreNew, OneMoreLands, FilesStandForOne, FilesStandForSound, DamageIsNoVersions, DamageHasOnePlace, FilesAreJudged}
 use Rattle.jf_journal.proofs.Leading.{LeadTo-once, FailsAt-once, LeadTo-fails_not, leads_or_fails, LeadTo-append, LeadTo-new_store, LeadTo-IsVersions}
 

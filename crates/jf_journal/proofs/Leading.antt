@@ -1,5 +1,5 @@
 -- What records lead to, and where they fail: once, one record more, and never both.
-use Rattle.std.proofs.Common.{◌≡◌, ℕ, suc, ◌+◌, ◌⊎◌, inl, inr, List, [], ◌∷◌, ◌++◌, length, refl, sym, ap, ◌∙◌, subst, arith}
+use Rattle.std.proofs.Common.{◌≡◌, ℕ, ◌+◌, ◌⊎◌, inl, inr, List, [], ◌∷◌, ◌++◌, length, refl, sym, ap, ◌∙◌, subst, arith}
 use Rattle.jf_hash.specs.Maps.{Batch}
 use Rattle.jf_model.specs.Versions.{Versions, IsVersions, new_store, landed}
 use Rattle.jf_model.specs.VersionLaws.{landed-IsVersions}

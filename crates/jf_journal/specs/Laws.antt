@@ -1,5 +1,5 @@
 -- Laws on what files stand for.
-use Rattle.std.specs.Prelude.{◌≡◌, ◌⊎◌, ◌+◌, ℕ, List, [], ◌∷◌, ◌++◌, Ok}
+use Rattle.std.specs.Prelude.{◌≡◌, ◌⊎◌, ℕ, List, [], ◌∷◌, ◌++◌, Ok}
 use Rattle.jf_disk.specs.Disk.{Files}
 use Rattle.jf_disk.specs.declared.side.Side.{Side}
 use Rattle.jf_hash.specs.Maps.{Batch}

@@ -1,6 +1,6 @@
 -- What a step of a store makes of versions, and what a stop in it may leave.
 use Rattle.std.specs.Prelude.{◌≡◌, ◌⊎◌, ℕ, List}
-use Rattle.jf_disk.specs.Disk.{History, Files, reads}
+use Rattle.jf_disk.specs.Disk.{History, reads}
 use Rattle.jf_hash.specs.Maps.{Batch}
 use Rattle.jf_model.specs.Versions.{Versions, land_all}
 use Rattle.jf_frame.specs.Crashes.{GoesOn, LeavesNow}
