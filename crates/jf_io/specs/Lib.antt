@@ -1,4 +1,5 @@
 pub mod Calls
+pub mod LineReader
 pub mod MemSink
 pub mod MemSource
 pub mod Sink

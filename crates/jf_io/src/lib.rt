@@ -1,9 +1,10 @@
-//! Where input comes from and where output goes: sources and sinks that count their faults, in memory and over std's readers and writers.
+//! Where input comes from and where output goes: sources and sinks that count their faults, in memory and over std's readers and writers; and lines of input.
 #![tactic(auto)]
 
 mod attempts;
 mod calls;
 mod failed;
+mod line_reader;
 mod mem_sink;
 mod mem_source;
 mod sink;
@@ -12,6 +13,7 @@ mod std_sink;
 mod std_source;
 
 pub use failed::IoFailed;
+pub use line_reader::{FetchFault, LineReader};
 pub use mem_sink::MemSink;
 pub use mem_source::MemSource;
 pub use sink::{Sink, put_all};
