@@ -1,4 +1,4 @@
-use Rattle.std.proofs.Common.{◌≡◌, ◌∙◌, ℕ, ◌+◌, ◌-◌, ◌≤◌, List, length, drop, take, refl, sym, ap, subst, arith, length-take}
+use Rattle.std.proofs.Common.{◌≡◌, ◌∙◌, ℕ, ◌+◌, ◌≤◌, List, length, ap, subst, arith, length-take}
 use Rattle.jf_disk.specs.Disk.{put_at}
 use Rattle.jf_disk.specs.Effect.{bytes_of, with_bytes}
 use Rattle.jf_disk.specs.Sides.{HasRoom, files}
