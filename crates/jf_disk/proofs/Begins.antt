@@ -1,5 +1,5 @@
 -- Each write of a disk in memory begins within its side.
-use Rattle.std.proofs.Common.{◌≡◌, ℕ, zero, suc, ◌≤◌, List, [], ◌∷◌, ◌++◌, length, take, refl, sym, ap, ◌∙◌, subst}
+use Rattle.std.proofs.Common.{◌≡◌, ℕ, zero, suc, ◌≤◌, List, [], ◌∷◌, ◌++◌, length, take, refl, ap, ◌∙◌, subst}
 use Rattle.jf_disk.specs.Disk.{Files, History, reads, next, content}
 use Rattle.jf_disk.specs.Memory.{Call, nothing, writes, InMemory, done, replayed, start, history_of, missed}
 use Rattle.jf_disk.specs.Effect.{effect, applied, Begins, AllBegin, bytes_of}

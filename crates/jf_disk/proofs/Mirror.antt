@@ -1,6 +1,6 @@
 -- What a disk in memory reads after one more call, how long its sides are, and what room is left.
-use Rattle.std.proofs.Common.{◌≡◌, ℕ, ◌+◌, ◌-◌, ◌<◌, ◌≤◌, ◌^◌, List, [], ◌∷◌, ◌++◌, length, take, refl, sym, ap, ◌∙◌, arith, length-take, max, ◌==◌, if◌then◌else◌, true, false}
-use Rattle.jf_disk.specs.Disk.{Files, History, State, reads, next, put_at, content}
+use Rattle.std.proofs.Common.{◌≡◌, ℕ, ◌+◌, ◌-◌, ◌≤◌, ◌^◌, List, [], ◌∷◌, ◌++◌, length, refl, sym, ap, ◌∙◌, arith, length-take, max, ◌==◌, if◌then◌else◌, true, false}
+use Rattle.jf_disk.specs.Disk.{Files, History, reads, next, content}
 use Rattle.jf_disk.specs.Memory.{Call, nothing, writes, cuts, syncs, done, history, start, longest, missed, bytes_written}
 use Rattle.jf_disk.specs.Replay.{replayed-append, length-put_at, bytes_written-append}
 use Rattle.jf_disk.specs.Effect.{bytes_of, effect}

@@ -68,13 +68,13 @@ abbrev pub IsWriteFailing : InMemory → ℕ → ℕ → Type 0
 IsWriteFailing d at n = IsFailing d ⊎ ((d.most_bytes < bytes_written d.calls + n) ⊎ (2 ^ 62 < at + n))
 
 -- a disk that began with these files, and has made no call
-pub record IsNew (d : InMemory) (files : Files) (listed : List ℕ) (calls' bytes' : ℕ) : Type 0 where
+pub record IsNew (d : InMemory) (files : Files) (listed : List ℕ) (calls_room bytes_room : ℕ) : Type 0 where
   pub first : d.first ≡ files
   pub calls : d.calls ≡ []
   pub failing : d.failing ≡ listed
   pub faults : d.faults ≡ 0
-  pub most_calls : d.most_calls ≡ calls'
-  pub most_bytes : d.most_bytes ≡ bytes'
+  pub most_calls : d.most_calls ≡ calls_room
+  pub most_bytes : d.most_bytes ≡ bytes_room
 
 -- what no call changes
 pub record KeepsRest (old new : InMemory) : Type 0 where

@@ -1,7 +1,7 @@
 -- What is left since a moment, over a history that grows.
-use Rattle.std.specs.Prelude.{◌≡◌, ◌⊎◌, ◌↔◌, ℕ, ◌≤◌, List, [], ◌∷◌, ◌++◌, length}
+use Rattle.std.specs.Prelude.{◌≡◌, ◌⊎◌, ◌↔◌, ℕ, ◌≤◌, List, [], ◌∷◌, ◌++◌, length, Option, Some, None, option_map, IfSome}
 use Rattle.std.proofs.Common.{inl, inr, arith, le_refl, length-append, subst, sym, refl, ap, ◌∙◌, append_assoc}
-use Rattle.jf_disk.specs.Disk.{History, State, Files, IsImage, LeftSince, LeftSinceIn, next}
+use Rattle.jf_disk.specs.Disk.{History, State, Files, Fails, IsImage, LeftSince, LeftSinceIn, next}
 
 -- each state of a history, the newest first
 abbrev pub all_states : History → List State
@@ -90,3 +90,29 @@ next_extends f h = record { more = f h.now ∷ []; states = refl }
 pub extends_further : (g h k : History) → Extends g h → Extends h k → Extends g k
 extends_further g h k a b =
     record { more = b.more ++ a.more; states = b.states ∙ ap (λ states. b.more ++ states) a.states ∙ sym (append_assoc b.more a.more (all_states g)) }
+
+-- ---- the same of disks, which tell their history or none
+
+-- what a disk told begins what it tells now
+abbrev pub Grows : Option History → Option History → Type 0
+Grows old new = IfSome old (λ h. (g : History) × (new ≡ Some g) × Extends h g)
+
+-- a call that went
+pub next_grows : (f : State → State) (old new : Option History) → new ≡ option_map (next f) old → Grows old new
+next_grows f None new e = tt
+next_grows f (Some h) new e = (next f h, e, next_extends f h)
+
+-- a call that failed
+pub fails_grows : (torn : State → State → Type 0) (old new : Option History) → Fails old new torn → Grows old new
+fails_grows torn None new e = tt
+fails_grows torn (Some h) new (inl same) = (h, same, same_extends h)
+fails_grows torn (Some h) new (inr (inl idle)) = (next (λ s. s) h, idle, next_extends (λ s. s) h)
+fails_grows torn (Some h) new (inr (inr tears)) =
+    (record { now = tears.0; before = h.now ∷ h.before }, tears.2, record { more = tears.0 ∷ []; states = refl })
+
+-- calls after calls
+pub grows_further : (a b c : Option History) → Grows a b → Grows b c → Grows a c
+grows_further None b c ab bc = tt
+grows_further (Some h) b c ab bc =
+    let bc' : (k : History) × (c ≡ Some k) × Extends ab.0 k = subst (λ o. Grows o c) ab.1 bc in
+    (bc'.0, bc'.1, extends_further h ab.0 bc'.0 ab.2 bc'.2)

@@ -5,15 +5,18 @@
 mod any;
 mod disk;
 mod file;
+mod image;
 mod laws;
 mod log;
 mod memory;
 mod side;
 mod sides;
+#[cfg(test)]
+mod tests;
 
 pub use any::AnyDisk;
 pub use disk::{Disk, DiskFailed};
 pub use file::{FileDisk, FileRefused};
-pub use laws::{know_bounded, know_counts, know_dated, know_readable};
+pub use laws::{know_bounded, know_counts, know_dated, know_left_since, know_readable};
 pub use memory::MemDisk;
 pub use side::Side;

@@ -1,10 +1,12 @@
 // The bytes of both sides in memory.
-ghost use Rattle.std.specs.Prelude.{◌≡◌, ℕ, ◌+◌, ◌-◌, ◌<◌, ◌≤◌, ◌^◌, min, length, take, drop, ◌++◌, vec_capacity};
+ghost use Rattle.std.specs.Prelude.{◌≡◌, ℕ, ◌+◌, ◌-◌, ◌<◌, ◌≤◌, ◌^◌, min, length, take, drop, ◌++◌, IfOk, vec_capacity};
 ghost use Rattle.jf_disk.specs.Disk.{put_at};
 ghost use Rattle.jf_disk.specs.Effect.{bytes_of, with_bytes};
 ghost use Rattle.jf_disk.specs.Sides.{files, HasRoom};
 
 use crate::side::Side;
+use jf_path::Memory;
+use std::alloc::Global;
 
 /// What each side holds.
 #[derive(Drop)]
@@ -22,6 +24,17 @@ impl Sides {
             Side::A => &self.a,
             Side::B => &self.b,
         }
+    }
+
+    /// A copy, with room for `more` bytes on each side.
+    pub fn with_room(&self, alloc: Global, more: u64) -> Result<Sides, Memory>
+        ensures files { IfOk result (λ s. files s ≡ files self.now) }
+        ensures room { IfOk result (λ s. HasRoom s more) }
+    {
+        Ok(Sides {
+            a: copy_with_room(alloc, &self.a, more)?,
+            b: copy_with_room(alloc, &self.b, more)?,
+        })
     }
 
     /// Writes bytes to a side from an offset on, or from its end where that is past it, in the room
@@ -47,6 +60,16 @@ impl Sides {
             Side::B => self.b.truncate(len as usize),
         }
     }
+}
+
+fn copy_with_room(alloc: Global, bytes: &[u8], more: u64) -> Result<Vec<u8>, Memory>
+    ensures items { IfOk result (λ v. v.items ≡ bytes.now) }
+    ensures room { IfOk result (λ v. length bytes.now + more ≤ vec_capacity v) }
+{
+    let mut copy = Vec::new(alloc);
+    copy.reserve_exact(bytes.len().checked_add(more as usize).ok_or(Memory)?)?;
+    copy.extend_from_slice(bytes)?;
+    Ok(copy)
 }
 
 // Writes bytes at an offset, over what is there and past the end.

@@ -1,11 +1,11 @@
-use Rattle.std.proofs.Common.{◌≡◌, ◌∙◌, ◌+◌, ◌-◌, ◌≤◌, ◌^◌, ℕ, List, [], ◌∷◌, ◌++◌, length, refl, sym, ap, arith, subst, rules}
-use Rattle.jf_disk.specs.Disk.{Files, reads}
-use Rattle.jf_disk.specs.Memory.{Call, nothing, writes, cuts, missed, history, bytes_written, InMemory}
+use Rattle.std.proofs.Common.{◌≡◌, ◌-◌, ◌≤◌, ◌^◌, [], ◌∷◌, ◌++◌, sym, ap, arith, subst}
+use Rattle.jf_disk.specs.Disk.{reads}
+use Rattle.jf_disk.specs.Memory.{history, bytes_written}
 use Rattle.jf_disk.specs.Log.{Calls, call_of}
 use Rattle.jf_disk.specs.Effect.{AllBegin}
-use Rattle.jf_disk.proofs.Begins.{begin_push, begins_missed, quiet_begins, begins_at}
+use Rattle.jf_disk.proofs.Begins.{begin_push, quiet_begins}
 use Rattle.jf_disk.specs.Sides.{files, HasRoom}
-use Rattle.jf_disk.proofs.Mirror.{longest_of, longer_of, reads_push, reads_missed, reads_short, longest_push, longest_missed, short_put, short_cut, quiet_effect, quiet_takes, quiet_bytes, content-reads, bytes_push, bytes_missed}
+use Rattle.jf_disk.proofs.Mirror.{longer_of, reads_push, reads_short, longest_push, quiet_effect, quiet_bytes, bytes_push}
 use Rattle.jf_disk.proofs.memory.MemDisk.keep.Goals as goal
 
 pub invariant_of-self-inside : goal.invariant_of-self-inside

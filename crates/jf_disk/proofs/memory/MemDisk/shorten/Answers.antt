@@ -1,18 +1,19 @@
-use Rattle.std.proofs.Common.{◌≡◌, ◌∙◌, ◌+◌, ◌-◌, ◌≤◌, ◌^◌, ℕ, List, [], ◌∷◌, ◌++◌, length, refl, sym, ap, arith, subst, rules}
-use Rattle.jf_disk.specs.Disk.{Files, reads}
-use Rattle.jf_disk.specs.Memory.{Call, nothing, writes, cuts, missed, history, bytes_written, InMemory}
-use Rattle.jf_disk.specs.Log.{Calls, call_of}
+use Rattle.std.proofs.Common.{◌≡◌, ◌-◌, [], ◌∷◌, ◌++◌, sym, ap, arith, subst}
+use Rattle.jf_disk.specs.Memory.{cuts, history, bytes_written}
+use Rattle.jf_disk.specs.Log.{Calls}
 use Rattle.jf_disk.specs.Effect.{AllBegin}
-use Rattle.jf_disk.proofs.Begins.{begin_push, begins_missed, quiet_begins, begins_at}
+use Rattle.jf_disk.proofs.Begins.{begin_push}
 use Rattle.jf_disk.specs.Sides.{files, HasRoom}
-use Rattle.jf_disk.proofs.Mirror.{longest_of, longer_of, reads_push, reads_missed, reads_short, longest_push, longest_missed, short_put, short_cut, quiet_effect, quiet_takes, content-reads, bytes_push, bytes_missed}
+use Rattle.jf_disk.proofs.Mirror.{reads_push, reads_short, longest_push, short_cut, bytes_push}
 use Rattle.jf_disk.proofs.memory.MemDisk.shorten.Goals as goal
 
 pub invariant_of-self-inside : goal.invariant_of-self-inside
 invariant_of-self-inside c =
-    let calls : c.keep.new.self.calls ≡ c.self.inside.log.calls ++ cuts c.args.side c.args.len ∷ [] = ap (λ (l : Calls). l.calls) c.keep.ensures in
-    (longest_push (files c.self.inside.first) c.self.inside.log.calls c.keep.new.self.calls (cuts c.args.side c.args.len) calls c.self.inside.bounded
-      (short_cut c.args.side c.args.len _ (reads_short (history (files c.self.inside.first) c.self.inside.log.calls) c.self.inside.bounded)), tt)
+    let calls : c.keep.new.self.calls ≡ c.self.inside.log.calls ++ cuts c.args.side c.args.len ∷ [] = ap (λ (l : Calls). l.calls) c.keep.ensures in (
+      longest_push (files c.self.inside.first) c.self.inside.log.calls c.keep.new.self.calls (cuts c.args.side c.args.len) calls c.self.inside.bounded
+          (short_cut c.args.side c.args.len _ (reads_short (history (files c.self.inside.first) c.self.inside.log.calls) c.self.inside.bounded)),
+      tt,
+    )
 
 pub invariant_of-self : goal.invariant_of-self
 invariant_of-self c =
