@@ -1,15 +1,15 @@
 -- The four calls of an append, over either side.
-use Rattle.std.proofs.Common.{◌≡◌, ◌⊎◌, inl, inr, ℕ, ◌+◌, ◌<◌, ◌≤◌, List, [], ◌∷◌, ◌++◌, length, get_or, length-append, refl, sym, ap, ap₂, ◌∙◌, subst, arith, Ok, Option, Some, le_refl}
-use Rattle.jf_disk.specs.Disk.{History, State, Content, Files, next, content, written, synced, durable, put_at, MayLeave, IsImage, Fails, TornWrite}
+use Rattle.std.proofs.Common.{◌≡◌, inl, inr, ℕ, ◌+◌, ◌<◌, ◌≤◌, List, [], ◌∷◌, ◌++◌, length, get_or, length-append, refl, sym, ap, ap₂, ◌∙◌, subst, arith, Ok, Option, Some, le_refl}
+use Rattle.jf_disk.specs.Disk.{History, State, Content, next, content, written, synced, durable, put_at, MayLeave, TornWrite}
 use Rattle.jf_disk.specs.declared.side.Side.{Side}
 use Rattle.jf_frame.specs.declared.framed.Framed.{Framed}
 use Rattle.jf_frame.specs.Framing.{records, body, IsFrame, end_of}
-use Rattle.jf_frame.specs.Crashes.{GoesOn, KeepsOther, opposite, file_of}
+use Rattle.jf_frame.specs.Crashes.{opposite, file_of}
 use Rattle.jf_frame.specs.LogLaws.{image_side, image_quiet}
 use Rattle.jf_frame.specs.Logs.{IsReady, WithOrWithout, StopsInAppend, framed}
 use Rattle.jf_frame.specs.Spelling.{IsJournal, AllWhole, IsSpelled, journal, shown_all, shown, records_are, closed_spelled, end_spelled, end-shown, whole-push, shown-push, journal-push, whole-body, shown-body, length-body, room, gate_of}
-use Rattle.jf_frame.proofs.Sides.{wrote, content-written, content-synced, across-written, across-synced}
-use Rattle.jf_frame.proofs.Crashes.{first_torn, second_torn, Prepared, prepared, gate_opened}
+use Rattle.jf_frame.proofs.Sides.{content-written, content-synced, across-written, across-synced}
+use Rattle.jf_frame.proofs.Crashes.{first_torn, second_torn, Prepared, prepared, gate_opened, put-put}
 use Rattle.jf_frame.proofs.Growth.{Grows, Keeps, images_of, others_of, grows_none, grows_next}
 
 pub stops : (w : Side) (h g : History) (rs : List Framed) (r : Framed) → Grows h g (Keeps w h.now (WithOrWithout w rs r)) → StopsInAppend w h g rs r
@@ -115,6 +115,12 @@ module _ (w : Side) (at : ℕ) (rs : List Framed) (h : History) (frame : List �
 
   last_bytes : (content w four.now).bytes ≡ put_at at (1 ∷ []) (content w two.now).bytes
   last_bytes = ap (λ (c : Content). c.bytes) (content-synced w three.now) ∙ ap (λ (c : Content). c.bytes) (content-written w at 1 (1 ∷ []) two.now)
+
+  -- all in all the open gate and the frame are put where the closed gate stood
+  pub last_written : (content w four.now).bytes ≡ put_at at (1 ∷ frame) bytes
+  last_written =
+      last_bytes ∙ ap (put_at at (1 ∷ [])) (ap (λ (c : Content). c.bytes) (content-synced w one.now) ∙ ap (λ (c : Content). c.bytes) (content-written w (at + 1) (length frame) frame h.now))
+      ∙ put-put at frame bytes first_room
 
   last_quiet : content w four.now ≡ durable (content w four.now).bytes
   last_quiet = content-synced w three.now ∙ ap (λ (c : Content). durable c.bytes) (sym (content-synced w three.now))

@@ -1,5 +1,5 @@
 -- The calls that begin a side, over either side.
-use Rattle.std.proofs.Common.{◌≡◌, ◌≢◌, ◌⊎◌, inl, inr, ℕ, ◌+◌, ◌-◌, ◌<◌, ◌≤◌, List, [], ◌∷◌, ◌++◌, length, take, drop, get_or, max, min, length-append, length-take, refl, sym, ap, ◌∙◌, subst, arith, Result, Ok, Err, OnOk, Bool, true, false, true≢false, nat_lt, ltb-true, ltb-false, ◌↔◌, Option, Some, le_refl}
+use Rattle.std.proofs.Common.{◌≡◌, ◌≢◌, inl, ℕ, ◌-◌, ◌<◌, ◌≤◌, List, [], ◌∷◌, length, take, get_or, max, length-take, refl, sym, ap, ◌∙◌, subst, arith, Ok, Bool, true, false, true≢false, nat_lt, ltb-true, ltb-false, ◌↔◌, Option, Some}
 use Rattle.jf_disk.specs.Disk.{History, State, Content, Files, next, content, written, shortened, synced, durable, put_at, MayLeave, IsImage, IsSyncedAt, TornWrite, TornCut}
 use Rattle.jf_disk.specs.declared.side.Side.{Side}
 use Rattle.jf_frame.specs.Framing.{records}

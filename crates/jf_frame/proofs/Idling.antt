@@ -1,8 +1,8 @@
 -- Calls that change nothing.
-use Rattle.std.proofs.Common.{◌≡◌, inl, inr, ◌⊎◌, refl, sym, ap, ◌∙◌, Option, Some, option_map}
-use Rattle.jf_disk.specs.Disk.{History, State, next, Fails, Unchanged}
+use Rattle.std.proofs.Common.{◌≡◌, refl, Option, Some, option_map}
+use Rattle.jf_disk.specs.Disk.{History, next, Fails, Unchanged}
 use Rattle.jf_frame.specs.Crashes.{Idles}
-use Rattle.jf_frame.specs.LogLaws.{idle_nowhere, idle_once, idle_further}
+use Rattle.jf_frame.specs.LogLaws.{idle_once}
 use Rattle.jf_frame.proofs.Growth.{Grows, grows_none, fails_grows, told_next}
 
 -- such a call that succeeds

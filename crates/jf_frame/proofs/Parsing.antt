@@ -3,7 +3,7 @@ use Rattle.std.proofs.Common.{◌≡◌, ◌≢◌, ℕ, zero, suc, ◌+◌, ◌
 use Rattle.std.specs.Int.{from_be_bytes, w64}
 use Rattle.jf_frame.specs.declared.framed.Framed.{Framed}
 use Rattle.jf_frame.specs.Framing.{number_of, size_of, payload_of, behind, with_record, records_from, records, end_from, end_of}
-use Rattle.jf_frame.specs.Spelling.{prepend, shown, read_rest, read_cut, read_closed, records-long, records-short}
+use Rattle.jf_frame.specs.Spelling.{prepend, shown, read_rest, read_cut, read_closed, records-long}
 
 said_front : (rest : List ℕ) → 9 ≤ length rest → take 8 (drop 1 rest) ≡ get_or rest 1 0 ∷ get_or rest 2 0 ∷ get_or rest 3 0 ∷ get_or rest 4 0 ∷ get_or rest 5 0 ∷ get_or rest 6 0 ∷ get_or rest 7 0 ∷ get_or rest 8 0 ∷ []
 said_front (k ∷ a ∷ b ∷ c ∷ d ∷ e ∷ f ∷ g ∷ h ∷ rest) long = refl

@@ -1,5 +1,5 @@
 -- Either side of a state, and the side across.
-use Rattle.std.proofs.Common.{◌≡◌, ℕ, ◌+◌, List, [], ◌∷◌, max, min, take, refl}
+use Rattle.std.proofs.Common.{◌≡◌, ℕ, ◌+◌, List, ◌∷◌, max, min, take, refl}
 use Rattle.jf_disk.specs.Disk.{State, Content, content, with_content, written, shortened, synced, durable, put_at}
 use Rattle.jf_disk.specs.declared.side.Side.{Side}
 use Rattle.jf_disk.specs.declared.side.Side.TheVariants as side

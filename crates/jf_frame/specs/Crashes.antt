@@ -1,7 +1,7 @@
 -- What the calls since a moment may have left.
-use Rattle.std.specs.Prelude.{◌≡◌, ◌⊎◌, ℕ, List, [], ◌∷◌, ◌++◌}
+use Rattle.std.specs.Prelude.{◌≡◌, ℕ, List, ◌++◌}
 use Rattle.std.specs.List.{AllByRecursion}
-use Rattle.jf_disk.specs.Disk.{History, State, Content, Files, IsImage, content}
+use Rattle.jf_disk.specs.Disk.{History, State, Files, IsImage, content}
 use Rattle.jf_disk.specs.Moments.{all_states}
 use Rattle.jf_disk.specs.declared.side.Side.{Side}
 use Rattle.jf_disk.specs.declared.side.Side.TheVariants as side

@@ -1,10 +1,10 @@
 -- What holds of the records of a file, and of frames.
-use Rattle.std.specs.Prelude.{◌≡◌, ◌≢◌, ℕ, ◌+◌, ◌<◌, ◌≤◌, ◌^◌, List, [], ◌∷◌, ◌++◌, length, take, drop, slice_index, nat_lt, true, false, Ok}
+use Rattle.std.specs.Prelude.{◌≡◌, ◌≢◌, ℕ, ◌+◌, ◌<◌, List, [], ◌∷◌, ◌++◌, length, take, drop, slice_index, nat_lt, true, false, Ok}
 use Rattle.std.specs.List.{AllByRecursion}
-use Rattle.std.proofs.Common.{refl, sym, ap, ap₂, ◌∙◌, subst, arith, ltb-true, ltb-false, length-append, take-append-drop}
+use Rattle.std.proofs.Common.{refl, sym, ap, ◌∙◌, subst, arith, ltb-true, ltb-false, length-append, take-append-drop}
 use Rattle.jf_path.specs.Keys.{IsBytes}
 use Rattle.jf_frame.specs.declared.framed.Framed.{Framed}
-use Rattle.jf_frame.specs.Framing.{records, end_of, body, frame, IsFrame, size_of, payload_of}
+use Rattle.jf_frame.specs.Framing.{records, end_of, body, IsFrame, size_of, payload_of}
 use Rattle.jf_frame.specs.Spelling.{journal, shown_all, records-short, none_of_closed, file_spelled, spelled_end, none_of_short, payload_of-append, payload_of-body, whole-body, length-body}
 
 -- ---- files without records

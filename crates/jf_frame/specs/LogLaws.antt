@@ -1,11 +1,11 @@
 -- What callers conclude from a log's contract.
-use Rattle.std.specs.Prelude.{◌≡◌, ◌≢◌, ◌⊎◌, ℕ, ◌+◌, ◌<◌, ◌≤◌, ◌^◌, List, [], ◌∷◌, ◌++◌, length, slice_index, Ok}
+use Rattle.std.specs.Prelude.{◌≡◌, ◌≢◌, ◌⊎◌, ℕ, ◌<◌, ◌≤◌, List, [], ◌∷◌, ◌++◌, length, slice_index, Ok}
 use Rattle.std.specs.List.{AllByRecursion}
 use Rattle.std.proofs.Common.{inl, inr, refl, sym, ap, ◌∙◌, subst, append_assoc, ext_get_or, arith}
 use Rattle.jf_disk.specs.Disk.{History, State, Files, MayLeave, IsImage, LeftSince, LeftSinceIn, content, durable, next}
 use Rattle.jf_disk.specs.declared.side.Side.{Side}
 use Rattle.jf_disk.specs.declared.side.Side.TheVariants as side
-use Rattle.jf_disk.specs.Moments.{all_states, Extends, LeftBy, left-append, now_left, left_now}
+use Rattle.jf_disk.specs.Moments.{all_states, Extends, LeftBy, left-append, left_now}
 use Rattle.jf_frame.specs.declared.framed.Framed.{Framed}
 use Rattle.jf_frame.specs.Framing.{records, end_of}
 use Rattle.jf_frame.specs.FramingLaws.{some_end, none_end}

@@ -1,11 +1,10 @@
 -- A log over one side of a disk.
-use Rattle.std.specs.Prelude.{◌≡◌, ◌≢◌, ◌⊎◌, ℕ, ◌<◌, Bool, true, false, List, [], ◌∷◌, ◌++◌, length, slice_index, Ok, refl}
-use Rattle.std.specs.Coded.{Coded, code_by, coded×, coded_ℕ, coded_list, coded_bool}
-use Rattle.jf_disk.specs.Disk.{History, State, Content, Files, content, durable}
+use Rattle.std.specs.Prelude.{◌≡◌, ◌≢◌, ◌⊎◌, ℕ, ◌<◌, Bool, false, List, [], ◌∷◌, ◌++◌, length, slice_index, Ok}
+use Rattle.jf_disk.specs.Disk.{History, State, Files, content, durable}
 use Rattle.jf_disk.specs.declared.side.Side.{Side}
 use Rattle.jf_frame.specs.declared.framed.Framed.{Framed}
-use Rattle.jf_frame.specs.Framing.{records, end_of, IsFrame}
-use Rattle.jf_frame.specs.Crashes.{file_of, GoesOn, LeavesNow, KeepsOther}
+use Rattle.jf_frame.specs.Framing.{records, end_of}
+use Rattle.jf_frame.specs.Crashes.{file_of, GoesOn, KeepsOther}
 
 -- what a log shows: its side, the offset of its closed gate, the records that it read, and whether a call on it met a fault
 pub record Log : Type 0 where

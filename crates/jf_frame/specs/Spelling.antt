@@ -1,10 +1,10 @@
 -- Records are read as they are spelled, and what was read was so spelled.
-use Rattle.std.proofs.Common.{◌≡◌, ◌≢◌, ℕ, zero, suc, ◌+◌, ◌-◌, ◌<◌, ◌≤◌, ◌^◌, Bool, true, false, cond, ◌==◌, nat_lt, List, [], ◌∷◌, ◌++◌, length, take, drop, get_or, refl, sym, ap, ap₂, subst, ◌∙◌, arith, Result, Ok, Err, append_assoc, append-nil, length-append, length-take-le, length-drop, take_at, drop_at, take-append-drop, get_or-drop, get_or-append-add, lt-ltb, ltb-true, ltb-false, le-ltb, eqb-true, eq-eqb, true≢false, ne_eqb, le_refl}
+use Rattle.std.proofs.Common.{◌≡◌, ◌≢◌, ℕ, zero, suc, ◌+◌, ◌<◌, ◌≤◌, ◌^◌, Bool, true, false, cond, ◌==◌, nat_lt, List, [], ◌∷◌, ◌++◌, length, take, drop, get_or, refl, sym, ap, ap₂, subst, ◌∙◌, arith, Result, Ok, Err, append_assoc, append-nil, length-append, length-take-le, length-drop, take_at, drop_at, take-append-drop, get_or-append-add, lt-ltb, ltb-true, ltb-false, le-ltb, eqb-true, eq-eqb, true≢false, ne_eqb, le_refl}
 use Rattle.std.specs.List.{AllByRecursion}
 use Rattle.std.specs.Int.{from_be_bytes, w64}
 use Rattle.std.proofs.lemmas.Nat.{from_be_bytes-to_be_bytes_8}
 use Rattle.jf_frame.specs.declared.framed.Framed.{Framed}
-use Rattle.jf_frame.specs.Framing.{eight_bytes, number_of, body, frame, IsFrame, size_of, payload_of, behind, with_record, records_from, records, end_from, end_of}
+use Rattle.jf_frame.specs.Framing.{eight_bytes, number_of, body, size_of, payload_of, behind, with_record, records_from, records, end_from, end_of}
 
 -- a whole body: kind, length and a payload of that length
 abbrev pub IsWhole : List ℕ → Type 0

@@ -1,6 +1,6 @@
 // The four calls that add a record.
 ghost use Rattle.std.specs.Prelude.{◌≡◌, ◌⊎◌, ℕ, ◌+◌, ◌-◌, ◌<◌, ◌≤◌, ◌^◌, List, [], ◌∷◌, ◌++◌, length, Some, None, OnOk, IsErr};
-ghost use Rattle.jf_disk.specs.Disk.{History};
+ghost use Rattle.jf_disk.specs.Disk.{History, content, put_at};
 ghost use Rattle.jf_frame.specs.declared.framed.Framed.{Framed};
 ghost use Rattle.jf_frame.specs.Framing.{IsFrame};
 ghost use Rattle.jf_frame.specs.Logs.{IsReady, StopsInAppend, framed};
@@ -20,6 +20,9 @@ pub(crate) fn write_record<D: Disk>(
     ensures ok { (h : History) (rs : List Framed) (kind : ℕ) (payload : List ℕ) → D.history disk.old ≡ Some h
         → IsReady side offset rs h.now → IsFrame frame.now kind payload
         → OnOk result ((g : History) × (D.history disk.new ≡ Some g) × IsReady side (offset + length frame.now) (rs ++ framed offset kind payload ∷ []) g.now) }
+    ensures written { (h : History) (rs : List Framed) (kind : ℕ) (payload : List ℕ) → D.history disk.old ≡ Some h
+        → IsReady side offset rs h.now → IsFrame frame.now kind payload
+        → OnOk result ((g : History) × (D.history disk.new ≡ Some g) × ((content side g.now).bytes ≡ put_at offset (1 ∷ frame.now) (content side h.now).bytes)) }
     ensures stop { (h : History) (rs : List Framed) (kind : ℕ) (payload : List ℕ) → D.history disk.old ≡ Some h
         → IsReady side offset rs h.now → IsFrame frame.now kind payload
         → (g : History) × (D.history disk.new ≡ Some g) × StopsInAppend side h g rs (framed offset kind payload) }

@@ -1,6 +1,6 @@
 // A log: the gated records of one side.
 ghost use Rattle.std.specs.Prelude.{◌≡◌, ◌≢◌, ◌⊎◌, ℕ, ◌+◌, ◌-◌, ◌↔◌, ◌<◌, ◌≤◌, ◌^◌, List, [], ◌∷◌, ◌++◌, length, Some, None, Ok, Err, IfOk, OnOk, OnErr, IsErr, true, false};
-ghost use Rattle.jf_disk.specs.Disk.{History, content, durable};
+ghost use Rattle.jf_disk.specs.Disk.{History, content, durable, put_at};
 ghost use Rattle.jf_frame.specs.declared.framed.Framed.{Framed};
 ghost use Rattle.jf_frame.specs.Framing.{records, IsFrame};
 ghost use Rattle.jf_frame.specs.Crashes.{Idles};
@@ -35,7 +35,8 @@ impl Model for Log {
 }
 
 impl Log {
-    /// Reads a side whole, without changing it.
+    /// Reads a side whole and takes its records, without changing it. Refused where the disk fails, where memory is
+    /// wanting, and where an open gate isn't followed by a whole record and a next gate, with that gate's offset.
     pub fn read_all<D: Disk>(alloc: Global, disk: &mut D, side: Side) -> Result<Log, FrameFault>
         ensures read { (h : History) → D.history disk.old ≡ Some h → IfOk result (λ log. IsReading log side (content side h.now).bytes) }
         ensures side { IfOk result (λ log. log.side ≡ side) }
@@ -67,6 +68,9 @@ impl Log {
         ensures ok { (h : History) (rs : List Framed) (kind : ℕ) (payload : List ℕ) → D.history disk.old ≡ Some h
             → IsReady self.old.side self.old.offset rs h.now → IsFrame frame.now kind payload
             → OnOk result ((g : History) × (D.history disk.new ≡ Some g) × IsReady self.old.side self.new.offset (rs ++ framed self.old.offset kind payload ∷ []) g.now) }
+        ensures written { (h : History) (rs : List Framed) (kind : ℕ) (payload : List ℕ) → D.history disk.old ≡ Some h
+            → IsReady self.old.side self.old.offset rs h.now → IsFrame frame.now kind payload
+            → OnOk result ((g : History) × (D.history disk.new ≡ Some g) × ((content self.old.side g.now).bytes ≡ put_at self.old.offset (1 ∷ frame.now) (content self.old.side h.now).bytes)) }
         ensures stop { (h : History) (rs : List Framed) (kind : ℕ) (payload : List ℕ) → D.history disk.old ≡ Some h
             → IsReady self.old.side self.old.offset rs h.now → IsFrame frame.now kind payload
             → (g : History) × (D.history disk.new ≡ Some g) × StopsInAppend self.old.side h g rs (framed self.old.offset kind payload) }
@@ -128,7 +132,7 @@ impl Log {
         &self.records
     }
 
-    /// Forgets the records that were read, and frees their memory.
+    /// Forgets the records that were read, and frees their payloads.
     pub fn forget(&mut self)
         ensures { self.new ≡ record self.old { records = [] } }
     {

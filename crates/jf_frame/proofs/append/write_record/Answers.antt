@@ -1,10 +1,6 @@
-use Rattle.std.proofs.Common.{ℕ, List, length, [], ◌∷◌, le_refl}
-use Rattle.jf_disk.specs.Disk.{History}
-use Rattle.jf_frame.specs.declared.framed.Framed.{Framed}
-use Rattle.jf_frame.specs.Framing.{IsFrame}
-use Rattle.jf_frame.specs.Logs.{IsReady, framed}
+use Rattle.std.proofs.Common.{length, [], ◌∷◌, le_refl}
 use Rattle.jf_frame.proofs.Growth.{grows_none, told_next, fails_grows}
-use Rattle.jf_frame.proofs.Appending.{Given, Kept, stops, stopped, one, two, three, four, kept_first, kept_torn, kept_second, kept_opening, kept_torn_first, kept_torn_second, grown_one, grown_two, grown_three, grown_four, ready_last}
+use Rattle.jf_frame.proofs.Appending.{Given, Kept, stopped, one, two, three, four, kept_first, kept_torn, kept_second, kept_opening, kept_torn_first, kept_torn_second, grown_one, grown_two, grown_three, grown_four, ready_last, last_written}
 use Rattle.jf_frame.proofs.append.write_record.Goals as goal
 
 pub returns-in_err-write_at-clause-stop : goal.returns-in_err-write_at-clause-stop
@@ -45,6 +41,15 @@ returns-clause-ok g c = λ h rs kind payload told ready is.
     let t3 = told_next _ _ _ _ t2 c.in_ok-write_at-2.ensures.ok in
     let t4 = told_next _ _ _ _ t3 c.in_ok-sync-2.ensures.ok in
     (four _ _ rs h _ kind payload v, t4, ready_last _ _ rs h _ kind payload v)
+
+pub returns-clause-written : goal.returns-clause-written
+returns-clause-written g c = λ h rs kind payload told ready is.
+    let v : Given c.args.side c.args.offset rs h c.args.frame.now kind payload = record { ready = ready; framing = is } in
+    let t1 = told_next _ _ _ h told c.in_ok-write_at.ensures.ok in
+    let t2 = told_next _ _ _ _ t1 c.in_ok-sync.ensures.ok in
+    let t3 = told_next _ _ _ _ t2 c.in_ok-write_at-2.ensures.ok in
+    let t4 = told_next _ _ _ _ t3 c.in_ok-sync-2.ensures.ok in
+    (four _ _ rs h _ kind payload v, t4, last_written _ _ rs h _ kind payload v)
 
 pub returns-clause-stop : goal.returns-clause-stop
 returns-clause-stop g c = λ h rs kind payload told ready is.

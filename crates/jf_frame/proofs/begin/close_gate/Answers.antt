@@ -1,6 +1,6 @@
-use Rattle.std.proofs.Common.{◌≡◌, ◌≤◌, ◌+◌, [], length, max, sym, subst, arith, Some}
+use Rattle.std.proofs.Common.{◌≡◌, ◌≤◌, [], length, max, sym, subst, arith, Some}
 use Rattle.std.proofs.lemmas.Result.{on_ok_weaker}
-use Rattle.jf_disk.specs.Disk.{History, State, content, durable}
+use Rattle.jf_disk.specs.Disk.{History, content, durable}
 use Rattle.jf_frame.specs.Logs.{IsReady}
 use Rattle.jf_frame.specs.LogLaws.{idle_now}
 use Rattle.jf_frame.proofs.Growth.{told_before}

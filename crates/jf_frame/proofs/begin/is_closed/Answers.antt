@@ -1,5 +1,4 @@
 use Rattle.jf_frame.proofs.Idling.{idles_ok, idles_err}
-use Rattle.jf_frame.specs.LogLaws.{idle_nowhere}
 use Rattle.jf_frame.proofs.begin.is_closed.Goals as goal
 
 pub returns-in_err-read-clause-idle : goal.returns-in_err-read-clause-idle

@@ -1,8 +1,6 @@
-use Rattle.std.proofs.Common.{◌≡◌, ◌+◌, [], ◌∷◌, ◌++◌, sym, ap, ap₂, ◌∙◌, subst, Ok, Err, arith}
+use Rattle.std.proofs.Common.{◌≡◌, ◌+◌, [], ◌∷◌, ◌++◌, sym, ap, ◌∙◌, subst, Ok, Err, arith}
 use Rattle.std.proofs.lemmas.Result.{err_from_is_err_and}
 use Rattle.jf_frame.specs.declared.fault.FrameFault.TheVariants as fault
-use Rattle.jf_frame.specs.declared.framed.Framed.{Framed}
-use Rattle.jf_frame.specs.Framing.{records}
 use Rattle.jf_frame.specs.Spelling.{records-short}
 use Rattle.jf_frame.proofs.Parsing.{IsAt, at_first, at_closed, at_damage, at_record, tail_is}
 use Rattle.jf_frame.proofs.records.records_of.Goals as goal

@@ -1,4 +1,4 @@
-use Rattle.std.proofs.Common.{◌≡◌, ◌<◌, length, take, drop, take_at, arith, sym, ap, ◌∙◌}
+use Rattle.std.proofs.Common.{◌≡◌, length, take, drop, take_at, arith, sym, ap, ◌∙◌}
 use Rattle.jf_disk.specs.Disk.{State, content}
 use Rattle.jf_frame.specs.LogLaws.{idle_now, idle_further}
 use Rattle.jf_frame.proofs.side.bytes_of.Goals as goal

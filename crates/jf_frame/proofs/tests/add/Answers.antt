@@ -1,8 +1,8 @@
-use Rattle.std.proofs.Common.{◌≡◌, [], ◌∷◌, length, refl, sym, ap, ◌∙◌, subst, Ok, arith}
-use Rattle.jf_disk.specs.Disk.{State, Content, content, durable}
+use Rattle.std.proofs.Common.{◌≡◌, [], ◌∷◌, refl, sym, ap, ◌∙◌, arith}
+use Rattle.jf_disk.specs.Disk.{Content, content, durable}
 use Rattle.jf_disk.specs.declared.side.Side.TheVariants as side
 use Rattle.jf_disk.specs.Memory.{history_of}
-use Rattle.jf_frame.specs.Framing.{records, IsFrame, eight_bytes}
+use Rattle.jf_frame.specs.Framing.{records, eight_bytes}
 use Rattle.jf_frame.specs.FramingLaws.{records_empty}
 use Rattle.jf_frame.proofs.Beginning.{idle_state}
 use Rattle.jf_frame.proofs.tests.add.Goals as goal
