@@ -4,3 +4,4 @@ pub mod Numbers
 pub mod HexText
 pub mod Texts
 pub mod ReplyTexts
+pub mod Samples

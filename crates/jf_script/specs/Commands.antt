@@ -6,6 +6,7 @@ use Rattle.jf_script.specs.declared.command.Base.TheVariants as base
 use Rattle.jf_script.specs.declared.command.Command.{Command}
 use Rattle.jf_script.specs.declared.command.Command.TheVariants as command
 
+-- a letter and a number
 abbrev pub numbered : ℕ → List ℕ → Option Base
 numbered letter digits =
     if letter == 118 then option_map (λ n. base.Version n) (number digits)
@@ -18,34 +19,40 @@ unfoldable pub base_of : List ℕ → Option Base
 base_of [] = None
 base_of (letter ∷ digits) = if is_word (letter ∷ digits) (codes "head") then Some base.Head else numbered letter digits
 
+-- a base that is no fork
 abbrev pub no_fork : Base → Option Base
 no_fork base.Head = Some base.Head
 no_fork (base.Version n) = Some (base.Version n)
 no_fork (base.Fork n) = None
 no_fork (base.Place n) = Some (base.Place n)
 
+-- the head or a fork
 abbrev pub head_or_fork : Base → Option Base
 head_or_fork base.Head = Some base.Head
 head_or_fork (base.Version n) = None
 head_or_fork (base.Fork n) = Some (base.Fork n)
 head_or_fork (base.Place n) = None
 
+-- the id of a fork
 abbrev pub fork_id : Base → Option ℕ
 fork_id base.Head = None
 fork_id (base.Version n) = None
 fork_id (base.Fork n) = Some n
 fork_id (base.Place n) = None
 
--- a base that is no fork
+-- `head`, `v` or `p`: a base that is no fork
 abbrev pub stored_of : List ℕ → Option Base
 stored_of w = option_and_then no_fork (base_of w)
 
+-- what a fork is made on
 abbrev pub parent_of : List ℕ → Option Base
 parent_of w = option_and_then head_or_fork (base_of w)
 
+-- `f` and the id of a fork
 abbrev pub id_of : List ℕ → Option ℕ
 id_of w = option_and_then fork_id (base_of w)
 
+-- commands of one word
 abbrev pub one_word : List ℕ → Option Command
 one_word w =
     if is_word w (codes "commit") then Some command.Commit
@@ -53,6 +60,7 @@ one_word w =
     else if is_word w (codes "status") then Some command.Status
     else None
 
+-- commands of two words
 abbrev pub two_words : List ℕ → List ℕ → Option Command
 two_words w a =
     if is_word w (codes "del") then option_map (λ name. command.Del name) (name_of a)
@@ -66,6 +74,7 @@ two_words w a =
     else if is_word w (codes "prune") then option_map (λ n. command.Prune n) (number a)
     else None
 
+-- commands of three words
 abbrev pub three_words : List ℕ → List ℕ → List ℕ → Option Command
 three_words w a b =
     if is_word w (codes "put") then both (λ name value. command.Put name value) (name_of a) (value_of b)
@@ -74,10 +83,12 @@ three_words w a b =
     else if is_word w (codes "nth") then both (λ on place. command.Nth on place) (stored_of a) (number b)
     else None
 
+-- the command of four words
 abbrev pub four_words : List ℕ → List ℕ → List ℕ → List ℕ → Option Command
 four_words w a b c =
     if is_word w (codes "chunk") then option_and_then (λ on. both (λ start count. command.Chunk on start count) (number b) (number_from 1 1000 c)) (stored_of a) else None
 
+-- the command of these words, if they are in the grammar
 abbrev pub command_of_words : List (List ℕ) → Option Command
 command_of_words [] = None
 command_of_words (w ∷ []) = one_word w

@@ -7,9 +7,11 @@ use Rattle.jf_script.specs.declared.reply.Refusal.TheVariants as refusal
 use Rattle.jf_script.specs.declared.reply.Reply.{Reply}
 use Rattle.jf_script.specs.declared.reply.Reply.TheVariants as reply
 
+-- a fork as it is named
 abbrev pub fork_word : ℕ → List ℕ
 fork_word id = 102 ∷ decimal id
 
+-- why a command was refused, in words
 abbrev pub refusal_words : Refusal → List (List ℕ)
 refusal_words refusal.Syntax = codes "syntax" ∷ []
 refusal_words refusal.Long = codes "long" ∷ []
@@ -25,6 +27,7 @@ refusal_words refusal.ForksFull = codes "forksfull" ∷ []
 refusal_words (refusal.Range count) = codes "range" ∷ decimal count ∷ []
 refusal_words refusal.Last = codes "last" ∷ []
 
+-- a reply in words
 abbrev pub reply_words : Reply → List (List ℕ)
 reply_words (reply.Pending count) = codes "ok" ∷ codes "pending" ∷ decimal count ∷ []
 reply_words (reply.Commit version root) = codes "ok" ∷ codes "commit" ∷ decimal version ∷ encode_lower root ∷ []

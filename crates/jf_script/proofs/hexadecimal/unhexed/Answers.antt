@@ -1,6 +1,5 @@
-use Rattle.std.proofs.Common.{◌≡◌, ℕ, ◌+◌, ◌*◌, ◌<◌, ◌≤◌, length, List, [], ◌∷◌, ◌++◌, None, sym, ap, ◌∙◌, rules, arith}
-use Rattle.jf_script.specs.Words.{unhex, both, byte_of}
-use Rattle.jf_script.proofs.HexText.{behind, unhex-odd, unhex-bad, unhex-more, unhex-all}
+use Rattle.std.proofs.Common.{◌≡◌, [], ◌∷◌, ◌++◌, sym, ◌∙◌, arith}
+use Rattle.jf_script.proofs.HexText.{unhex-odd, unhex-bad, unhex-more, unhex-all}
 use Rattle.jf_script.proofs.hexadecimal.unhexed.Goals as goal
 
 pub returns-then-word-eq1 : goal.returns-then-word-eq1

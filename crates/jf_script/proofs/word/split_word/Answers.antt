@@ -1,4 +1,3 @@
-use Rattle.std.proofs.Common.{◌≡◌}
 use Rattle.std.proofs.lemmas.List.{take_rest}
 use Rattle.jf_script.proofs.Spaces.{words-at, words-whole}
 use Rattle.jf_script.proofs.word.split_word.Goals as goal

@@ -1,4 +1,3 @@
-use Rattle.std.proofs.Common.{◌≡◌, ◌++◌, ◌∙◌, ap, arith}
 use Rattle.jf_script.proofs.Texts.{encode-more, encode-none}
 use Rattle.jf_script.proofs.writing.write_hex.Goals as goal
 

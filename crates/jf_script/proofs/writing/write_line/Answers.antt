@@ -1,4 +1,3 @@
-use Rattle.std.proofs.Common.{◌≡◌}
 use Rattle.std.proofs.lemmas.List.{append_assoc}
 use Rattle.jf_script.proofs.Texts.{reply_text-pieces}
 use Rattle.jf_script.proofs.writing.write_line.Goals as goal

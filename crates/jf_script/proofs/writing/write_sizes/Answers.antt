@@ -1,4 +1,3 @@
-use Rattle.std.proofs.Common.{◌≡◌}
 use Rattle.std.proofs.lemmas.List.{append_assoc, append-nil}
 use Rattle.jf_script.proofs.writing.write_sizes.Goals as goal
 
