@@ -58,6 +58,8 @@ impl LineReader {
     pub fn fetch<S: Source>(&mut self, source: &mut S) -> Result<bool, FetchFault>
         // Nothing is lost and nothing invented, whatever the outcome.
         ensures kept { (rest : List ℕ) → S.rest source.old ≡ Some rest → (left : List ℕ) × (S.rest source.new ≡ Some left) × (self.new ++ left ≡ self.old ++ rest) }
+        ensures held { take (length self.old) self.new ≡ self.old }
+        ensures ready { position_or_len is_line_feed self.old < length self.old → (result ≡ Ok true) × (self.new ≡ self.old) × (source.new ≡ source.old) }
         ensures found { result ≡ Ok true → (position_or_len is_line_feed self.new < length self.new) ⊎ ((0 < length self.new) × ((left : List ℕ) → S.rest source.new ≡ Some left → left ≡ [])) }
         ensures ended { result ≡ Ok false → (self.new ≡ []) × ((left : List ℕ) → S.rest source.new ≡ Some left → left ≡ []) }
         ensures unfinished { result ≡ Err FetchFault.ReadFault → position_or_len is_line_feed self.new ≡ length self.new }
@@ -110,6 +112,7 @@ impl LineReader {
     // Takes a piece of input, and answers how many bytes it has. 0 is the end of the input.
     fn take_piece<S: Source>(&mut self, source: &mut S) -> Result<usize, FetchFault>
         ensures kept { (rest : List ℕ) → S.rest source.old ≡ Some rest → (left : List ℕ) × (S.rest source.new ≡ Some left) × (self.new ++ left ≡ self.old ++ rest) }
+        ensures front { take (length self.old) self.new ≡ self.old }
         ensures unchanged { OnErr result (self.new ≡ self.old) }
         ensures end { IfOk result (λ n. n ≡ 0 → (self.new ≡ self.old) × ((left : List ℕ) → S.rest source.new ≡ Some left → left ≡ [])) }
         ensures given { IfOk result (λ n. S.given source.new ≡ S.given source.old + n) }

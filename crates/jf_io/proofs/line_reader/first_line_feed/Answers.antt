@@ -1,4 +1,3 @@
-use Rattle.std.proofs.Common.{◌∙◌}
 use Rattle.jf_io.specs.LineReader.{is_line_feed}
 use Rattle.jf_io.proofs.Lines.{position-or_len}
 use Rattle.jf_io.proofs.line_reader.first_line_feed.Goals as goal
