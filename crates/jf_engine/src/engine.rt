@@ -60,7 +60,7 @@ impl<D: Disk> Engine<D> {
     pub fn open<H: Threads + Sync>(
         rt: &H,
         alloc: Global,
-        disk: D,
+        mut disk: D,
     ) -> Result<Engine<D>, OpenRefused<D>>
         ensures found { (h : History) → D.history disk ≡ Some h → IfOk result (λ e. StandsFor (reads h) e.versions) }
         ensures settled { (h : History) → D.history disk ≡ Some h → IfOk result (λ e. (g : History) × (e.history ≡ Some g) × IsSettledOn g e.versions × (generation (reads g) ≡ generation (reads h))) }
@@ -75,7 +75,6 @@ impl<D: Disk> Engine<D> {
         ensures counts_err { IfErr result (λ e. (D.moment disk ≤ D.moment e.disk) × (D.faults disk ≤ D.faults e.disk)) }
     {
         let _ = rt;
-        let mut disk = disk;
         match find(alloc, &mut disk) {
             Ok(Found { log, versions }) => Ok(Engine {
                 disk,

@@ -21,7 +21,7 @@ invariant_of-self-in-Ok g c = λ whole.
     let log = c.self.inside.log in
     let v = c.self.inside.versions in
     let payload = landing_bytes (c.head-head.result + 1) c.args.batch.now in
-    let next = next_framed v c.head-head.result log.offset c.args.batch.now c.in_ok-frame.ensures.landable c.head-head.ensures c.know_sound.ensures.head c.if-head.false in
+    let next = next_framed v c.head-head.result log.offset c.args.batch.now c.frame_of.ensures.landable c.head-head.ensures c.know_sound.ensures.head c.if-head.false in
     let is : IsFrame c.as_slice.result.now 1 payload = subst (λ bytes. IsFrame bytes 1 payload) (sym c.as_slice.ensures) c.in_ok-frame.ensures.framed in
     subst (λ (w : Versions). IsKept (g.D.Disk.history c.append.new.disk) c.append.new.self w) (sym c.in_ok-land.ensures.ok)
     (append_keeps _ _ log c.append.new.self v c.args.batch.now (framed log.offset 1 payload) k next c.in-Ok.ensures.untold c.in-Ok.ensures.same (not_failed _ c.in-Ok.ensures.failed.0)
@@ -33,7 +33,7 @@ returns-in-Ok-clause-succeeds g c = λ h told.
     let log = c.self.inside.log in
     let v = c.self.inside.versions in
     let payload = landing_bytes (c.head-head.result + 1) c.args.batch.now in
-    let next = next_framed v c.head-head.result log.offset c.args.batch.now c.in_ok-frame.ensures.landable c.head-head.ensures c.know_sound.ensures.head c.if-head.false in
+    let next = next_framed v c.head-head.result log.offset c.args.batch.now c.frame_of.ensures.landable c.head-head.ensures c.know_sound.ensures.head c.if-head.false in
     let is : IsFrame c.as_slice.result.now 1 payload = subst (λ bytes. IsFrame bytes 1 payload) (sym c.as_slice.ensures) c.in_ok-frame.ensures.framed in
     let kept = subst (λ (w : Versions). IsKept (g.D.Disk.history c.append.new.disk) c.append.new.self w) c.in_ok-land.ensures.ok (invariant_of-self-in-Ok g c c.if-self.false) in
     subst (λ (e : Engine). e.history ≡ Some h → (x : History) × (g.D.Disk.history c.append.new.disk ≡ Some x) × Succeeds (Lands (c.args.batch.now ∷ [])) h x e.versions) c.self.view_is
@@ -46,7 +46,7 @@ returns-clause-stops g c = λ h told fault.
     let log = c.self.inside.log in
     let v = c.self.inside.versions in
     let payload = landing_bytes (c.head-head.result + 1) c.args.batch.now in
-    let next = next_framed v c.head-head.result log.offset c.args.batch.now c.in_ok-frame.ensures.landable c.head-head.ensures c.know_sound.ensures.head c.if-head.false in
+    let next = next_framed v c.head-head.result log.offset c.args.batch.now c.frame_of.ensures.landable c.head-head.ensures c.know_sound.ensures.head c.if-head.false in
     let is : IsFrame c.as_slice.result.now 1 payload = subst (λ bytes. IsFrame bytes 1 payload) (sym c.as_slice.ensures) c.in_ok-frame.ensures.framed in
     subst (λ (e : Engine). e.history ≡ Some h → (x : History) × (g.D.Disk.history c.append.new.disk ≡ Some x) × StopsWell (Lands (c.args.batch.now ∷ [])) h x e.versions) c.self.view_is
     (λ told. log_stops _ _ log v c.args.batch.now (framed log.offset 1 payload) k h told next (c.in-Err.ensures.stop h (k.holds h told).held 1 payload told (log_ready _ log v k h told) is)) told
