@@ -1,5 +1,6 @@
 // A store on a disk.
 ghost use Rattle.std.specs.Prelude.{◌≡◌, ◌≢◌, ◌⊎◌, ◌↔◌, ℕ, ◌+◌, ◌-◌, ◌<◌, ◌≤◌, ◌^◌, List, [], ◌∷◌, ◌++◌, length, Some, None, Err, IfOk, IfErr, OnOk, OnErr, IsErr, true, false, if◌then◌else◌, ◌&&◌, nat_le};
+ghost use Rattle.std.specs.Option.{SomeIff};
 ghost use Rattle.jf_disk.specs.Disk.{History, reads};
 ghost use Rattle.jf_disk.specs.Moments.{Extends};
 ghost use Rattle.jf_disk.specs.declared.side.Side.{Side};
@@ -151,8 +152,9 @@ impl<D: Disk> Engine<D> {
 
     /// The root of a version, or `None` exactly outside base to head.
     pub fn root_of(&self, version: u64) -> Option<Hash>
-        ensures { result ≡ (if nat_le self.now.versions.base version && nat_le version self.now.versions.head then Some (root_of self.now.versions version) else None) }
+        ensures { SomeIff result ((self.now.versions.base ≤ version) × (version ≤ self.now.versions.head)) (root_of self.now.versions version) }
     {
+        self.versions.know_sound();
         self.versions.root_of(version)
     }
 

@@ -116,7 +116,7 @@ impl PlainVersions {
         ensures sound { IsVersions self.now }
         ensures base { self.now.base ≡ 0 }
         ensures floor { self.now.floor ≡ 0 }
-        ensures head { self.now.head < 2 ^ 64 - 1 }
+        ensures head { self.now.head ≤ 2 ^ 64 - 2 }
     {
         let _ = &self.versions;
     }
