@@ -98,15 +98,15 @@ returns-in-Err-clause-ended g c =
       | inl e ↦ let d = ended.write e in let same : c.in-Err.end ≡ end.WriteFault = cc in
           subst (λ (x : End). Ran x old new rest rest' text text'') (sym same) (ran_cut old s rest rest' text text' held f c.line.result.now c.line.ensures new text'' c.answer_line.ensures.dated place d.0 d.1)
       | inr other ↦ elim other [
-          | inl e ↦ let d = ended.disk e in let same : c.in-Err.end ≡ end.DiskFault = cc in
-              subst (λ (x : End). Ran x old new rest rest' text text'') (sym same) (ran_faulted old s rest rest' text text' held f c.line.result.now c.line.ensures new text'' c.answer_line.ensures.dated place d.0 d.1)
-          | inr e ↦ let d = ended.memory e in let same : c.in-Err.end ≡ end.Memory = cc in
-              subst (λ (x : End). Ran x old new rest rest' text text'') (sym same)
-              (elim d.0 [
-                | inl t ↦ ran_undone old s rest rest' text text' held f c.line.result.now c.line.ensures new text'' c.answer_line.ensures.dated t d.1
-                | inr t ↦ ran_silent old s rest rest' text text' held f c.line.result.now c.line.ensures new text'' c.answer_line.ensures.dated place t d.1
-              ])
-        ]
+        | inl e ↦ let d = ended.disk e in let same : c.in-Err.end ≡ end.DiskFault = cc in
+            subst (λ (x : End). Ran x old new rest rest' text text'') (sym same) (ran_faulted old s rest rest' text text' held f c.line.result.now c.line.ensures new text'' c.answer_line.ensures.dated place d.0 d.1)
+        | inr e ↦ let d = ended.memory e in let same : c.in-Err.end ≡ end.Memory = cc in
+            subst (λ (x : End). Ran x old new rest rest' text text'') (sym same)
+            (elim d.0 [
+              | inl t ↦ ran_undone old s rest rest' text text' held f c.line.result.now c.line.ensures new text'' c.answer_line.ensures.dated t d.1
+              | inr t ↦ ran_silent old s rest rest' text text' held f c.line.result.now c.line.ensures new text'' c.answer_line.ensures.dated place t d.1
+            ])
+      ]
     ]
 
 pub returns-in-Err-clause-write : goal.returns-in-Err-clause-write
