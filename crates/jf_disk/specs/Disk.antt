@@ -124,7 +124,3 @@ TornWrite where_ at n s t = (part : List ℕ) × (length part ≤ n) × (t ≡ w
 -- a cut that failed: some bytes where it would have ended the side, up to the old end
 abbrev pub TornCut : Side → ℕ → State → State → Type 0
 TornCut where_ n s t = (part : List ℕ) × (n + length part ≤ length (content where_ s).bytes) × (t ≡ written where_ n (length (content where_ s).bytes - n) part (shortened where_ n s))
-
--- a call that changed nothing
-abbrev pub Idles : History → History → Type 0
-Idles old new = (new ≡ old) ⊎ (new ≡ next (λ s. s) old)

@@ -84,6 +84,13 @@ impl LineReader {
         &self.bytes[self.start..end]
     }
 
+    /// Whether no line feed is held: the line at the front is then the last one of an input that is at its end.
+    pub fn is_last(&self) -> bool
+        ensures { IsTrue result ↔ (position_or_len is_line_feed self.now ≡ length self.now) }
+    {
+        self.line().len() == self.len()
+    }
+
     /// Lets the line at the front go, with its line feed.
     pub fn advance(&mut self)
         ensures { self.new ≡ after_first is_line_feed self.old }

@@ -1,0 +1,94 @@
+-- What a command of the grammar puts is within its bounds.
+use Rattle.std.specs.Prelude.{◌≡◌, ℕ, ◌≤◌, Bool, true, false, cond, ◌&&◌, nat_le, if◌then◌else◌, ◌==◌, List, [], ◌∷◌, length, Option, Some, None, option_map, option_and_then, IfSome, codes}
+use Rattle.std.proofs.Common.{refl, subst, arith}
+use Rattle.jf_script.specs.Words.{words, is_word, both, unhex, name_of, value_of, bytes_within}
+use Rattle.jf_script.specs.Commands.{command_of, command_of_words, one_word, two_words, three_words, four_words, base_of, parent_of, id_of, stored_of}
+use Rattle.jf_script.specs.Words.{number, number_from}
+use Rattle.jf_script.specs.declared.command.Base.{Base}
+use Rattle.jf_script.specs.declared.command.Command.{Command}
+use Rattle.jf_script.specs.declared.command.Command.TheVariants as command
+
+-- a value that is put has at most 4,096 bytes
+abbrev pub IsBounded : Command → Type 0
+IsBounded (command.Put name value) = length value ≤ 4096
+IsBounded c = Unit {0}
+
+abbrev Fine : Option Command → Type 0
+Fine None = Unit {0}
+Fine (Some c) = IsBounded c
+
+abbrev Short : Option (List ℕ) → Type 0
+Short None = Unit {0}
+Short (Some value) = length value ≤ 4096
+
+both_so : (a b : Bool) (m n : ℕ) → (a && nat_le m n) ≡ true → m ≤ n
+both_so a b m n e = grind (arith)
+
+short_within : (o : Option (List ℕ)) → Short (option_and_then (λ bytes. if nat_le 0 (length bytes) && nat_le (length bytes) 4096 then Some bytes else None) o)
+short_within None = tt
+short_within (Some bytes) =
+    elim (nat_le 0 (length bytes) && nat_le (length bytes) 4096) as (λ b. (nat_le 0 (length bytes) && nat_le (length bytes) 4096) ≡ b → Short (cond b (Some bytes) None)) [
+      | true ↦ λ e. both_so (nat_le 0 (length bytes)) true (length bytes) 4096 e
+      | false ↦ λ e. tt
+    ] refl
+
+short_value : (w : List ℕ) → Short (value_of w)
+short_value [] = tt
+short_value (sign ∷ digits) = elim (sign == 61) as (λ b. Short (cond b (bytes_within 0 4096 digits) None)) [ true ↦ short_within (unhex digits) | false ↦ tt ]
+
+put_fine : (n v : Option (List ℕ)) → Short v → Fine (both (λ name value. command.Put name value) n v)
+put_fine (Some name) (Some value) s = s
+put_fine (Some name) None s = tt
+put_fine None v s = tt
+
+module _ {X : Type 0} (f : X → Command) (fine : (x : X) → IsBounded (f x)) where
+  mapped : (o : Option X) → Fine (option_map f o)
+  mapped None = tt
+  mapped (Some x) = fine x
+
+module _ {X Y : Type 0} (f : X → Y → Command) (fine : (x : X) (y : Y) → IsBounded (f x y)) where
+  paired : (o : Option X) (p : Option Y) → Fine (both f o p)
+  paired (Some x) (Some y) = fine x y
+  paired (Some x) None = tt
+  paired None p = tt
+
+chosen : (b : Bool) (x y : Option Command) → Fine x → Fine y → Fine (cond b x y)
+chosen true x y p q = p
+chosen false x y p q = q
+
+one_fine : (w : List ℕ) → Fine (one_word w)
+one_fine w = chosen (is_word w (codes "commit")) _ _ tt (chosen (is_word w (codes "compact")) _ _ tt (chosen (is_word w (codes "status")) _ _ tt tt))
+
+two_fine : (w a : List ℕ) → Fine (two_words w a)
+two_fine w a =
+    chosen (is_word w (codes "del")) _ _ (mapped (λ name. command.Del name) (λ x. tt) (name_of a)) (chosen (is_word w (codes "fork")) _ _ (mapped (λ on. command.Fork on) (λ x. tt) (parent_of a))
+    (chosen (is_word w (codes "land")) _ _ (mapped (λ id. command.Land id) (λ x. tt) (id_of a)) (chosen (is_word w (codes "drop")) _ _ (mapped (λ id. command.Drop id) (λ x. tt) (id_of a))
+    (chosen (is_word w (codes "root")) _ _ (mapped (λ b. command.Root b) (λ x. tt) (base_of a)) (chosen (is_word w (codes "count")) _ _ (mapped (λ b. command.Count b) (λ x. tt) (stored_of a))
+    (chosen (is_word w (codes "pin")) _ _ (mapped (λ n. command.Pin n) (λ x. tt) (number a)) (chosen (is_word w (codes "unpin")) _ _ (mapped (λ n. command.Unpin n) (λ x. tt) (number a))
+    (chosen (is_word w (codes "prune")) _ _ (mapped (λ n. command.Prune n) (λ x. tt) (number a)) tt))))))))
+
+three_fine : (w a b : List ℕ) → Fine (three_words w a b)
+three_fine w a b =
+    chosen (is_word w (codes "put")) _ _ (put_fine (name_of a) (value_of b) (short_value b)) (chosen (is_word w (codes "get")) _ _ (paired (λ on name. command.Get on name) (λ x y. tt) (base_of a) (name_of b))
+    (chosen (is_word w (codes "prove")) _ _ (paired (λ on name. command.Prove on name) (λ x y. tt) (stored_of a) (name_of b))
+    (chosen (is_word w (codes "nth")) _ _ (paired (λ on place. command.Nth on place) (λ x y. tt) (stored_of a) (number b)) tt)))
+
+chunk_fine : (o : Option Base) (p q : Option ℕ) → Fine (option_and_then (λ on. both (λ start count. command.Chunk on start count) p q) o)
+chunk_fine None p q = tt
+chunk_fine (Some on) p q = paired (λ start count. command.Chunk on start count) (λ x y. tt) p q
+
+four_fine : (w a b c : List ℕ) → Fine (four_words w a b c)
+four_fine w a b c = chosen (is_word w (codes "chunk")) _ _ (chunk_fine (stored_of a) (number b) (number_from 1 1000 c)) tt
+
+words_fine : (ws : List (List ℕ)) → Fine (command_of_words ws)
+words_fine [] = tt
+words_fine (w ∷ []) = one_fine w
+words_fine (w ∷ a ∷ []) = two_fine w a
+words_fine (w ∷ a ∷ b ∷ []) = three_fine w a b
+words_fine (w ∷ a ∷ b ∷ c ∷ []) = four_fine w a b c
+words_fine (w ∷ a ∷ b ∷ c ∷ d ∷ ws) = tt
+
+-- the command of a line is bounded
+pub command_of-IsBounded : (line : List ℕ) (c : Command) → command_of line ≡ Some c → IsBounded c
+unfolding command_of
+command_of-IsBounded line c is = subst Fine is (words_fine (words line))

@@ -1,0 +1,191 @@
+-- What a session's own steps make of it.
+use Rattle.std.proofs.Common.{◌≡◌, ◌⊎◌, inl, inr, ℕ, ◌+◌, ◌-◌, ◌^◌, ◌<◌, ◌≤◌, Bool, true, false, IsTrue, Option, Some, None, List, [], ◌∷◌, ◌++◌, length, refl, sym, ap, ap₂, ◌∙◌, subst, arith, length-append, lt-ltb, le_refl}
+use Rattle.std.specs.Prelude.{nat_le}
+use Rattle.std.specs.FinMap.{put}
+use Rattle.jf_path.specs.Keys.{key_cmp}
+use Rattle.jf_hash.specs.Hashes.{K}
+use Rattle.jf_hash.specs.Maps.{Batch, IsBatch, apply}
+use Rattle.jf_hash.specs.Roots.{root}
+use Rattle.jf_split.specs.Limits.{is_full}
+use Rattle.jf_disk.specs.Disk.{History}
+use Rattle.jf_model.specs.Versions.{Versions, landed, newest}
+use Rattle.jf_model.specs.States.{State}
+use Rattle.jf_model.specs.Entries.{after, IsLegal}
+use Rattle.jf_model.specs.declared.entries.Entry.{Entry}
+use Rattle.jf_model.specs.declared.entries.Entry.TheVariants as entry
+use Rattle.jf_model.specs.declared.entries.Landing.TheVariants as landing
+use Rattle.jf_journal.specs.Steps.{Lands, StopsWell, Succeeds}
+use Rattle.jf_engine.specs.Engines.{Engine}
+use Rattle.jf_answers.specs.Own.{Own, with_pending}
+use Rattle.jf_answers.specs.Answers.{Answer, answer_command, replied, changed, committed}
+use Rattle.jf_script.specs.declared.reply.Reply.{Reply}
+use Rattle.jf_script.specs.declared.reply.Reply.TheVariants as reply
+use Rattle.jf_script.specs.declared.reply.Refusal.TheVariants as refusal
+use Rattle.jf_session.specs.Sessions.{Session, shown, Does, Tries, Rose, Stays, put_answer, commit_answer, DiskFollows, LandsOnDisk}
+use Rattle.jf_session.proofs.Said.{put-full, put-room, commit-done, commit-ledger, commit-head}
+
+-- a reply that changes what is pending alone
+pub replied_does : (e : Engine) (es : List Entry) (p q : Batch) (over : Bool) (r : Reply) → Does (shown e es p over) (shown e es q over) (replied r (shown e es p over).state (with_pending q (shown e es p over).own))
+replied_does e es p q over r = record { state = refl; own = refl; entries = refl; legal = tt; disk = record { history = refl; moment = refl; faults = refl } }
+
+pub refused_does : (e : Engine) (es : List Entry) (p : Batch) (over : Bool) (r : Reply) (a : Answer) → a ≡ replied r (shown e es p over).state (shown e es p over).own → Does (shown e es p over) (shown e es p over) a
+refused_does e es p over r a is = subst (λ a. Does (shown e es p over) (shown e es p over) a) (sym is) (replied_does e es p p over r)
+
+pub put_does : (e : Engine) (es : List Entry) (p q : Batch) (over : Bool) (name value : List ℕ) → is_full (K name) p ≡ false → q ≡ put key_cmp (K name) (Some value) p → Does (shown e es p over) (shown e es q over) (put_answer (shown e es p over) name value)
+put_does e es p q over name value room is =
+    let s = shown e es p over in
+    let b = put key_cmp (K name) (Some value) p in
+    subst (λ a. Does s (shown e es q over) a) (sym (put-room s.state s.own name value room)) (subst (λ q. Does s (shown e es q over) (changed name (Some value) s.state s.own)) (sym is) (replied_does e es p b over (reply.Pending (length b))))
+
+pub put_count : (e : Engine) (es : List Entry) (p q : Batch) (over : Bool) (name value : List ℕ) → is_full (K name) p ≡ false → q ≡ put key_cmp (K name) (Some value) p → reply.Pending (length q) ≡ (put_answer (shown e es p over) name value).reply
+put_count e es p q over name value room is =
+    let s = shown e es p over in
+    ap (λ q. reply.Pending (length q)) is ∙ ap (λ (a : Answer). a.reply) (sym (put-room s.state s.own name value room))
+
+length_snoc : {X : Type 0} (xs : List X) (x : X) → length (xs ++ x ∷ []) ≡ length xs + 1
+length_snoc xs x = length-append xs (x ∷ [])
+
+-- what a landing's answer is
+pub record IsAnswer (e e' : Engine) (p : Batch) (version moment : ℕ) (r : List ℕ) : Type 0 where
+  pub versions : e'.versions ≡ landed p e.versions
+  pub version_is : version ≡ e'.versions.head
+  pub root_is : r ≡ root (newest e'.versions)
+  pub moment_is : moment ≡ e'.moment
+
+abbrev entry_of : Engine → Batch → Entry
+entry_of e p = entry.Landed 0 (e.versions.head + 1) (landing.Direct p) (root (apply (newest e.versions) p)) 0
+
+pub legal_landing : (e : Engine) (es : List Entry) (p : Batch) (over : Bool) → IsBatch p → length es < 2 ^ 62 → e.versions.head < 2 ^ 64 - 2 → IsLegal (shown e es p over).state (entry_of e p)
+legal_landing e es p over sound room more = (room, record { may = sound; next = refl; bounded = omega arith; rooted = refl })
+
+landed_state : (e : Engine) (v : Versions) (es : List Entry) (x : Entry) (p : Batch) (over : Bool) (mo fa : ℕ) (hi : Option History) (br : Bool) → v ≡ landed p e.versions
+    → (shown (record { history = hi; moment = mo; faults = fa; versions = v; broken = br }) (es ++ x ∷ []) [] over).state ≡ after (entry_of e p) (shown e es p over).state
+unfolding after
+landed_state e v es x p over mo fa hi br is =
+    ap₂ (λ (v : Versions) (n : ℕ). let s : State = record { all = v; floor = v.floor; retired = v.floor; generation = 1; count = n; made = 0; forks = [] } in s) is (length_snoc es x)
+
+landed_entry : (e e' : Engine) (p : Batch) (version moment : ℕ) (r : List ℕ) → IsAnswer e e' p version moment r → entry.Landed 0 version (landing.Direct p) r moment ≡ entry.Landed 0 (e.versions.head + 1) (landing.Direct p) (root (apply (newest e.versions) p)) e'.moment
+landed_entry e e' p version moment r a =
+    ap (λ n. entry.Landed 0 n (landing.Direct p) r moment) (a.version_is ∙ ap (λ (v : Versions). v.head) a.versions)
+    ∙ ap (λ h. entry.Landed 0 (e.versions.head + 1) (landing.Direct p) h moment) (a.root_is ∙ ap (λ (v : Versions). root (newest v)) a.versions)
+    ∙ ap (λ t. entry.Landed 0 (e.versions.head + 1) (landing.Direct p) (root (apply (newest e.versions) p)) t) a.moment_is
+
+pub commit_does : (e e' : Engine) (es : List Entry) (p : Batch) (over : Bool) (version moment : ℕ) (r : List ℕ)
+    → nat_le (2 ^ 62) (length es) ≡ false → nat_le (2 ^ 64 - 2) e.versions.head ≡ false → length es < 2 ^ 62 → e.versions.head < 2 ^ 64 - 2 → IsBatch p → IsAnswer e e' p version moment r
+    → e.moment < e'.moment → e.faults ≤ e'.faults
+    → ((h : History) → e.history ≡ Some h → (g : History) × (e'.history ≡ Some g) × Succeeds (Lands (p ∷ [])) h g e.versions)
+    → Does (shown e es p over) (shown e' (es ++ entry.Landed 0 version (landing.Direct p) r moment ∷ []) [] over) (commit_answer (shown e es p over))
+commit_does e e' es p over version moment r room more room' more' sound a later faults disk =
+    let s = shown e es p over in
+    let x = entry.Landed 0 version (landing.Direct p) r moment in
+    let t = shown e' (es ++ x ∷ []) [] over in
+    let done : Does s t (committed s.state s.own) = record {
+      state = landed_state e e'.versions es x p over e'.moment e'.faults e'.history e'.broken a.versions;
+      own = refl;
+      entries = ap (λ y. es ++ y ∷ []) (landed_entry e e' p version moment r a);
+      legal = legal_landing e es p over sound room' more';
+      disk = record { later = later; faults = faults; disk = disk };
+    } in
+    subst (λ a. Does s t a) (sym (commit-done s.state s.own room more)) done
+
+pub commit_reply : (e e' : Engine) (es : List Entry) (p : Batch) (over : Bool) (version moment : ℕ) (r : List ℕ)
+    → nat_le (2 ^ 62) (length es) ≡ false → nat_le (2 ^ 64 - 2) e.versions.head ≡ false → IsAnswer e e' p version moment r → reply.Commit version r ≡ (commit_answer (shown e es p over)).reply
+commit_reply e e' es p over version moment r room more a =
+    let s = shown e es p over in
+    ap₂ reply.Commit (a.version_is ∙ ap (λ (v : Versions). v.head) a.versions) (a.root_is ∙ ap (λ (v : Versions). root (newest v)) a.versions) ∙ ap (λ (a : Answer). a.reply) (sym (commit-done s.state s.own room more))
+
+pub commit_tries : (e e' : Engine) (es : List Entry) (p : Batch) (over over' : Bool)
+    → nat_le (2 ^ 62) (length es) ≡ false → nat_le (2 ^ 64 - 2) e.versions.head ≡ false → length es < 2 ^ 62 → e.versions.head < 2 ^ 64 - 2 → IsBatch p
+    → e'.versions ≡ e.versions → Rose e.faults e'.faults → e.moment ≤ e'.moment → e.faults ≤ e'.faults
+    → ((h : History) → e.history ≡ Some h → (g : History) × (e'.history ≡ Some g) × StopsWell (Lands (p ∷ [])) h g e.versions)
+    → Tries (shown e es p over) (shown e' es p over') (commit_answer (shown e es p over))
+commit_tries e e' es p over over' room more room' more' sound same rose moment faults disk =
+    let s = shown e es p over in
+    record {
+      attempt = entry_of e p;
+      tried = ap (λ (a : Answer). a.entry) (commit-done s.state s.own room more);
+      legal = legal_landing e es p over sound room' more';
+      state = ap (λ (v : Versions). let s : State = record { all = v; floor = v.floor; retired = v.floor; generation = 1; count = length es; made = 0; forks = [] } in s) same;
+      entries = refl;
+      rose = rose;
+      moment = moment;
+      faults = faults;
+      disk = disk;
+    }
+
+pub not_full : (b : Bool) → (IsTrue b → ⊥) → b ≡ false
+not_full true h = absurd (h refl)
+not_full false h = refl
+
+pub below_test : (n m : ℕ) → n < m → nat_le m n ≡ false
+below_test n m lt = grind (arith)
+
+pub above_test : (n m : ℕ) → m ≤ n → nat_le m n ≡ true
+above_test n m le = grind (arith)
+
+-- ---- as the code finds it: the session is what its parts show
+
+module _ (e : Engine) (es : List Entry) (p : Batch) (over : Bool) (s : Session) (is : shown e es p over ≡ s) where
+  abbrev old : Session
+  old = shown e es p over
+
+  pub same_does : (new : Session) (f : Session → Answer) → Does old new (f old) → Does s new (f s)
+  same_does new f d = subst (λ t. Does t new (f t)) is d
+
+  pub full_does : (q : Batch) (name value k : List ℕ) → k ≡ K name → IsTrue (is_full k p) → q ≡ p → Does s (shown e es q over) (put_answer s name value)
+  full_does q name value k key full same =
+      same_does (shown e es q over) (λ t. put_answer t name value)
+      (subst (λ q. Does old (shown e es q over) (put_answer old name value)) (sym same)
+      (refused_does e es p over (reply.No refusal.Pending) (put_answer old name value) (put-full old.state old.own name value (ap (λ k. is_full k p) (sym key) ∙ full))))
+
+  pub full_reply : (name value k : List ℕ) → k ≡ K name → IsTrue (is_full k p) → reply.No refusal.Pending ≡ (put_answer s name value).reply
+  full_reply name value k key full =
+      ap (λ (a : Answer). a.reply) (sym (put-full old.state old.own name value (ap (λ k. is_full k p) (sym key) ∙ full))) ∙ ap (λ (t : Session). (put_answer t name value).reply) is
+
+  pub room_does : (q : Batch) (name value k : List ℕ) → k ≡ K name → (IsTrue (is_full k p) → ⊥) → q ≡ put key_cmp k (Some value) p → Does s (shown e es q over) (put_answer s name value)
+  room_does q name value k key room made =
+      same_does (shown e es q over) (λ t. put_answer t name value)
+      (put_does e es p q over name value (ap (λ k. is_full k p) (sym key) ∙ not_full (is_full k p) room) (made ∙ ap (λ k. put key_cmp k (Some value) p) key))
+
+  pub room_reply : (q : Batch) (name value k : List ℕ) → k ≡ K name → (IsTrue (is_full k p) → ⊥) → q ≡ put key_cmp k (Some value) p → reply.Pending (length q) ≡ (put_answer s name value).reply
+  room_reply q name value k key room made =
+      put_count e es p q over name value (ap (λ k. is_full k p) (sym key) ∙ not_full (is_full k p) room) (made ∙ ap (λ k. put key_cmp k (Some value) p) key)
+      ∙ ap (λ (t : Session). (put_answer t name value).reply) is
+
+  pub ledger_does : 2 ^ 62 ≤ length es → Does s (shown e es p over) (commit_answer s)
+  ledger_does full = same_does (shown e es p over) commit_answer (refused_does e es p over (reply.No refusal.Last) (commit_answer old) (commit-ledger old.state old.own (above_test (length es) (2 ^ 62) full)))
+
+  pub ledger_reply : 2 ^ 62 ≤ length es → reply.No refusal.Last ≡ (commit_answer s).reply
+  ledger_reply full = ap (λ (a : Answer). a.reply) (sym (commit-ledger old.state old.own (above_test (length es) (2 ^ 62) full))) ∙ ap (λ (t : Session). (commit_answer t).reply) is
+
+  pub head_does : (e' : Engine) (es' : List Entry) → e' ≡ e → es' ≡ es → e.versions.head ≡ 2 ^ 64 - 2 → Does s (shown e' es' p over) (commit_answer s)
+  head_does e' es' same kept last =
+      subst (λ es'. Does s (shown e' es' p over) (commit_answer s)) (sym kept)
+      (subst (λ e'. Does s (shown e' es p over) (commit_answer s)) (sym same)
+      (same_does (shown e es p over) commit_answer
+      (refused_does e es p over (reply.No refusal.Last) (commit_answer old) (commit-head old.state old.own (above_test e.versions.head (2 ^ 64 - 2) (omega arith))))))
+
+  pub head_reply : e.versions.head ≡ 2 ^ 64 - 2 → reply.No refusal.Last ≡ (commit_answer s).reply
+  head_reply last =
+      ap (λ (a : Answer). a.reply) (sym (commit-head old.state old.own (above_test e.versions.head (2 ^ 64 - 2) (omega arith)))) ∙ ap (λ (t : Session). (commit_answer t).reply) is
+
+  pub landed_does : (e' : Engine) (es' : List Entry) (q : Batch) (version moment : ℕ) (r : List ℕ)
+      → length es < 2 ^ 62 → e.versions.head < 2 ^ 64 - 2 → IsBatch p → IsAnswer e e' p version moment r → e.moment < e'.moment → e.faults ≤ e'.faults
+      → ((h : History) → e.history ≡ Some h → (g : History) × (e'.history ≡ Some g) × Succeeds (Lands (p ∷ [])) h g e.versions)
+      → es' ≡ es ++ entry.Landed 0 version (landing.Direct p) r moment ∷ [] → q ≡ [] → Does s (shown e' es' q over) (commit_answer s)
+  landed_does e' es' q version moment r room more sound a later faults disk grown none =
+      same_does (shown e' es' q over) commit_answer
+      (subst (λ es'. Does old (shown e' es' q over) (commit_answer old)) (sym grown)
+      (subst (λ q. Does old (shown e' (es ++ entry.Landed 0 version (landing.Direct p) r moment ∷ []) q over) (commit_answer old)) (sym none)
+      (commit_does e e' es p over version moment r (below_test (length es) (2 ^ 62) room) (below_test e.versions.head (2 ^ 64 - 2) more) room more sound a later faults disk)))
+
+  pub landed_reply : (e' : Engine) (version moment : ℕ) (r : List ℕ) → length es < 2 ^ 62 → e.versions.head < 2 ^ 64 - 2 → IsAnswer e e' p version moment r → reply.Commit version r ≡ (commit_answer s).reply
+  landed_reply e' version moment r room more a =
+      commit_reply e e' es p over version moment r (below_test (length es) (2 ^ 62) room) (below_test e.versions.head (2 ^ 64 - 2) more) a ∙ ap (λ (t : Session). (commit_answer t).reply) is
+
+  pub fault_tries : (e' : Engine) (es' : List Entry) (over' : Bool) → es' ≡ es → length es < 2 ^ 62 → e.versions.head < 2 ^ 64 - 2 → IsBatch p → e'.versions ≡ e.versions → Rose e.faults e'.faults → e.moment ≤ e'.moment → e.faults ≤ e'.faults
+      → ((h : History) → e.history ≡ Some h → (g : History) × (e'.history ≡ Some g) × StopsWell (Lands (p ∷ [])) h g e.versions) → Tries s (shown e' es' p over') (commit_answer s)
+  fault_tries e' es' over' kept room more sound same rose moment faults disk =
+      subst (λ es'. Tries s (shown e' es' p over') (commit_answer s)) (sym kept)
+      (subst (λ t. Tries t (shown e' es p over') (commit_answer t)) is
+      (commit_tries e e' es p over over' (below_test (length es) (2 ^ 62) room) (below_test e.versions.head (2 ^ 64 - 2) more) room more sound same rose moment faults disk))

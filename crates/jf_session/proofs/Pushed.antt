@@ -1,0 +1,15 @@
+-- A push for which there is room.
+use Rattle.std.proofs.Common.{◌≡◌, ◌⊎◌, inl, inr, ℕ, ◌<◌, ◌≤◌, ◌-◌, ◌^◌, Bool, true, false, Result, Ok, Err, List, [], ◌∷◌, ◌++◌, refl, arith, eq-or-lt_of_le}
+use Rattle.std.specs.Prelude.{is_ok, IsOk, if◌then◌else◌}
+
+pub pushed : {X T E : Type 0} (r : Result T E) (new old : List X) (x : X) → new ≡ (if is_ok r then old ++ x ∷ [] else old) → IsOk r → new ≡ old ++ x ∷ []
+pushed (Ok t) new old x e ok = e
+pushed (Err t) new old x e ok = absurd (cc)
+
+-- a session that isn't over has a whole store
+pub whole_of : (over broken : Bool) → (over ≡ true) ⊎ (broken ≡ false) → over ≡ false → broken ≡ false
+whole_of over broken (inl e) no_over = absurd (cc)
+whole_of over broken (inr e) no_over = e
+
+pub below_last : (n m : ℕ) → n ≤ m → (n ≡ m → ⊥) → n < m
+below_last n m le ne = elim (eq-or-lt_of_le le) [ inl e ↦ absurd (ne e) | inr lt ↦ lt ]

@@ -1,0 +1,269 @@
+// A session over a store of its own.
+ghost use Rattle.std.specs.Prelude.{◌≡◌, ◌⊎◌, ◌↔◌, ℕ, ◌+◌, ◌-◌, ◌<◌, ◌≤◌, ◌^◌, length, [], ◌∷◌, ◌++◌, Some, None, Err, IfOk, IfErr, OnOk, OnErr, true, false};
+ghost use Rattle.jf_disk.specs.Disk.{History, reads};
+ghost use Rattle.jf_disk.specs.Moments.{Extends};
+ghost use Rattle.jf_disk.specs.declared.side.Side.{Side};
+ghost use Rattle.jf_model.specs.Versions.{Versions};
+ghost use Rattle.jf_model.specs.States.{opened};
+ghost use Rattle.jf_journal.specs.Standing.{StandsFor, IsDamagedAt, generation};
+ghost use Rattle.jf_journal.specs.Steps.{Opens, StopsWell, IsCalm};
+ghost use Rattle.jf_engine.specs.Engines.{IsSettledOn};
+ghost use Rattle.jf_answers.specs.Own.{begun};
+ghost use Rattle.jf_answers.specs.Answers.{answer};
+ghost use Rattle.jf_answers.specs.Runs.{answer_text};
+ghost use Rattle.jf_session.specs.Runs.{IsDatedBy};
+ghost use Rattle.jf_session.specs.Sessions.{Does, Stays, Tries, command_answer, put_answer, commit_answer, root_answer};
+ghost use Rattle.jf_script.specs.Bounds.{IsBounded};
+
+use crate::stop::Stop;
+use jf_disk::Disk;
+use jf_engine::{Engine, EngineFault, Landed, OpenFault, OpenRefused};
+use jf_hash::key_of;
+use jf_model::{Entry, Landing, Ledger};
+use jf_path::Bytes;
+use jf_script::{Base, Command, LineFault, Refusal, Reply, read_line, write_reply};
+use jf_split::{Batch, BatchFault};
+use std::alloc::Global;
+use std::marker::Model;
+use std::mem;
+use std::thread::Threads;
+
+/// The most entries of a ledger.
+const MAX_ENTRIES: u64 = 1 << 62;
+
+/// One script over a store of its own.
+pub struct Session<D: Disk> {
+    engine: Engine<D>,
+    entries: Vec<Entry>,
+    pending: Batch,
+    over: bool,
+}
+
+impl<D: Disk> Model for Session<D> {
+    ghost use Rattle.std.specs.Prelude.{◌≡◌, ◌⊎◌, true, false};
+    ghost use Rattle.std.specs.Coded.{codes};
+    ghost use Rattle.jf_hash.specs.Codes.{map_code};
+    ghost use Rattle.jf_session.specs.Sessions.{Session, shown};
+
+    ghost Value = { Session };
+
+    ghost coded = { Prim.hlevel (codes, map_code) };
+
+    ghost view = { λ s. shown s.engine s.entries.items s.pending s.over };
+
+    ghost invariant = { λ s. (s.over ≡ true) ⊎ (s.engine.broken ≡ false) };
+}
+
+impl<D: Disk> Session<D> {
+    /// Opens the files of a disk, for a session without a line so far. A refusal hands the disk back; the files
+    /// stand for what they stood for.
+    pub fn over<H: Threads + Sync>(
+        rt: &H,
+        alloc: Global,
+        disk: D,
+    ) -> Result<Session<D>, OpenRefused<D>>
+        ensures found { (h : History) → D.history disk ≡ Some h → IfOk result (λ s. StandsFor (reads h) s.state.all) }
+        ensures state { IfOk result (λ s. (s.state ≡ opened s.state.all 1) × (s.own ≡ begun 0) × (s.entries ≡ []) × (s.over ≡ false)) }
+        ensures settled { (h : History) → D.history disk ≡ Some h → IfOk result (λ s. (g : History) × (s.history ≡ Some g) × IsSettledOn g s.state.all × (generation (reads g) ≡ generation (reads h))) }
+        ensures damaged { (h : History) (side : Side) (at : ℕ) → D.history disk ≡ Some h → IfErr result (λ e. e.why ≡ OpenFault.Damaged side at → IsDamagedAt (reads h) side at) }
+        ensures extends { (h : History) → D.history disk ≡ Some h → IfOk result (λ s. (g : History) × (s.history ≡ Some g) × Extends h g) }
+        ensures extends_err { (h : History) → D.history disk ≡ Some h → IfErr result (λ e. (g : History) × (D.history e.disk ≡ Some g) × Extends h g) }
+        ensures stops { (h : History) (v : Versions) → D.history disk ≡ Some h → IsCalm h → StandsFor (reads h) v → IfOk result (λ s. (g : History) × (s.history ≡ Some g) × StopsWell Opens h g v) }
+        ensures stops_err { (h : History) (v : Versions) → D.history disk ≡ Some h → IsCalm h → StandsFor (reads h) v → IfErr result (λ e. (g : History) × (D.history e.disk ≡ Some g) × StopsWell Opens h g v) }
+        ensures cause { IfErr result (λ e. e.why ≡ OpenFault.DiskFault → (D.faults disk < D.faults e.disk) ⊎ (D.faults disk ≡ 2 ^ 64 - 1)) }
+        ensures counts { IfOk result (λ s. (D.moment disk ≤ s.moment) × (D.faults disk ≤ s.faults)) }
+        ensures counts_err { IfErr result (λ e. (D.moment disk ≤ D.moment e.disk) × (D.faults disk ≤ D.faults e.disk)) }
+    {
+        let engine = Engine::<D>::open(rt, alloc, disk)?;
+        Ok(Session {
+            engine,
+            entries: Vec::new(alloc),
+            pending: Batch::new(alloc),
+            over: false,
+        })
+    }
+
+    /// Answers a line: its reply is appended to `out`. After a refusal `out` is as before and the session is over.
+    /// On `DiskFault` the line would have landed what is pending. On `Memory` the line was done and its reply is
+    /// missing, or nothing was done.
+    pub fn step<H: Threads + Sync>(
+        &mut self,
+        rt: &H,
+        alloc: Global,
+        line: &[u8],
+        out: &mut Bytes,
+    ) -> Result<(), Stop>
+        requires { self.old.over ≡ false }
+        ensures ok { OnOk result (Does self.old self.new (answer self.old.state self.old.own line.now)) }
+        ensures text { OnOk result (out.new ≡ out.old ++ answer_text self.new.state.count (answer self.old.state self.old.own line.now)) }
+        ensures goes_on { OnOk result (self.new.over ≡ false) }
+        ensures silent { OnErr result (out.new ≡ out.old) }
+        ensures ends { OnErr result (self.new.over ≡ true) }
+        ensures memory { result ≡ Err Stop.Memory → Stays self.old self.new ⊎ Does self.old self.new (answer self.old.state self.old.own line.now) }
+        ensures fault { result ≡ Err Stop.DiskFault → Tries self.old self.new (answer self.old.state self.old.own line.now) }
+        ensures sole { result ≡ Err Stop.Broken → ⊥ }
+    {
+        match self.answered(rt, alloc, line) {
+            Ok(reply) => {
+                let seen = self.entries.len() as u64;
+                if write_reply(seen, &reply, out).is_err() {
+                    self.over = true;
+                    return Err(Stop::Memory);
+                }
+                Ok(())
+            }
+            Err(stop) => {
+                self.over = true;
+                Err(stop)
+            }
+        }
+    }
+
+    /// Ends the session: its disk, and its entries.
+    pub fn end(self) -> (D, Ledger)
+        ensures history { D.history result.0 ≡ self.history }
+        ensures moment { D.moment result.0 ≡ self.moment }
+        ensures faults { D.faults result.0 ≡ self.faults }
+        ensures entries { result.1 ≡ self.entries }
+    {
+        let Session {
+            engine,
+            entries,
+            pending: _,
+            over: _,
+        } = self;
+        (engine.into_disk(), Ledger::of(entries))
+    }
+
+    /// What holds of every session: the history has a state for each moment.
+    pub fn know_dated(&self)
+        ensures { IsDatedBy self.now }
+    {
+        self.engine.know();
+    }
+
+    // The reply to a line, which is done where the reply says so.
+    fn answered<H: Threads + Sync>(
+        &mut self,
+        rt: &H,
+        alloc: Global,
+        line: &[u8],
+    ) -> Result<Reply, Stop>
+        requires { self.old.over ≡ false }
+        ensures ok { OnOk result (Does self.old self.new (answer self.old.state self.old.own line.now)) }
+        ensures reply { IfOk result (λ r. r ≡ (answer self.old.state self.old.own line.now).reply) }
+        ensures same { OnOk result (self.new.over ≡ false) }
+        ensures memory { result ≡ Err Stop.Memory → Stays self.old self.new }
+        ensures fault { result ≡ Err Stop.DiskFault → Tries self.old self.new (answer self.old.state self.old.own line.now) }
+        ensures sole { result ≡ Err Stop.Broken → ⊥ }
+    {
+        let command = match read_line(alloc, line) {
+            Ok(command) => command,
+            Err(LineFault::Syntax) => return Ok(Reply::No(Refusal::Syntax)),
+            Err(LineFault::LineTooLong) => return Ok(Reply::No(Refusal::Syntax)),
+            Err(LineFault::Memory) => return Err(Stop::Memory),
+        };
+        self.obeyed(rt, alloc, &command)
+    }
+
+    // The reply to a command. One that isn't built is answered as a line outside the grammar.
+    fn obeyed<H: Threads + Sync>(
+        &mut self,
+        rt: &H,
+        alloc: Global,
+        command: &Command,
+    ) -> Result<Reply, Stop>
+        requires over { self.old.over ≡ false }
+        requires bounded { IsBounded command.now }
+        ensures ok { OnOk result (Does self.old self.new (command_answer self.old command.now)) }
+        ensures reply { IfOk result (λ r. r ≡ (command_answer self.old command.now).reply) }
+        ensures same { OnOk result (self.new.over ≡ false) }
+        ensures memory { result ≡ Err Stop.Memory → Stays self.old self.new }
+        ensures fault { result ≡ Err Stop.DiskFault → Tries self.old self.new (command_answer self.old command.now) }
+        ensures sole { result ≡ Err Stop.Broken → ⊥ }
+    {
+        match command {
+            Command::Put { name, value } => self.put(alloc, name.as_slice(), value.as_slice()),
+            Command::Commit => self.commit(rt, alloc),
+            Command::Root { base } => Ok(self.root(*base)),
+            _ => Ok(Reply::No(Refusal::Syntax)),
+        }
+    }
+
+    // The root of what a base names.
+    fn root(&self, base: Base) -> Reply
+        ensures reply { result ≡ (root_answer self.now base).reply }
+        ensures does { Does self.now self.now (root_answer self.now base) }
+    {
+        match base {
+            Base::Head => Reply::Root {
+                root: self.engine.root(),
+            },
+            _ => Reply::No(Refusal::Syntax),
+        }
+    }
+
+    // Sets the key of a name in what is pending.
+    fn put(&mut self, alloc: Global, name: &[u8], value: &[u8]) -> Result<Reply, Stop>
+        requires over { self.old.over ≡ false }
+        requires value { length value.now ≤ 4096 }
+        ensures ok { OnOk result (Does self.old self.new (put_answer self.old name.now value.now)) }
+        ensures reply { IfOk result (λ r. r ≡ (put_answer self.old name.now value.now).reply) }
+        ensures same { self.new.over ≡ false }
+        ensures memory { OnErr result (Stays self.old self.new) }
+        ensures only { OnErr result (result ≡ Err Stop.Memory) }
+    {
+        match self.pending.put(alloc, &key_of(name), value) {
+            Ok(()) => {}
+            Err(BatchFault::Full) => return Ok(Reply::No(Refusal::Pending)),
+            Err(BatchFault::Memory) => return Err(Stop::Memory),
+        }
+        Ok(Reply::Pending {
+            count: self.pending.len() as u64,
+        })
+    }
+
+    // Lands what is pending. Room for its entry is made before the disk is touched.
+    fn commit<H: Threads + Sync>(&mut self, rt: &H, alloc: Global) -> Result<Reply, Stop>
+        requires { self.old.over ≡ false }
+        ensures ok { OnOk result (Does self.old self.new (commit_answer self.old)) }
+        ensures reply { IfOk result (λ r. r ≡ (commit_answer self.old).reply) }
+        ensures same { OnOk result (self.new.over ≡ false) }
+        ensures memory { result ≡ Err Stop.Memory → Stays self.old self.new }
+        ensures fault { result ≡ Err Stop.DiskFault → Tries self.old self.new (commit_answer self.old) }
+        ensures sole { result ≡ Err Stop.Broken → ⊥ }
+    {
+        if self.entries.len() as u64 >= MAX_ENTRIES {
+            return Ok(Reply::No(Refusal::Last));
+        }
+        if self.entries.reserve(1).is_err() {
+            return Err(Stop::Memory);
+        }
+        self.engine.know();
+        let _ = self.pending.as_slice();
+        match self.engine.land(rt, alloc, &self.pending) {
+            Ok(landed) => {
+                let root = landed.root;
+                let batch = mem::replace(&mut self.pending, Batch::new(alloc));
+                let _ = self.entries.push(Entry::Landed {
+                    owner: 0,
+                    version: landed.version,
+                    how: Landing::Direct(batch),
+                    root,
+                    moment: landed.moment,
+                });
+                Ok(Reply::Commit {
+                    version: landed.version,
+                    root,
+                })
+            }
+            Err(EngineFault::Last(_)) => Ok(Reply::No(Refusal::Last)),
+            Err(EngineFault::DiskFault) => {
+                self.over = true;
+                Err(Stop::DiskFault)
+            }
+            Err(EngineFault::Broken) => Err(Stop::Broken),
+            Err(EngineFault::Memory) => Err(Stop::Memory),
+        }
+    }
+}
