@@ -83,6 +83,13 @@ impl<D: Disk> Session<D> {
         })
     }
 
+    /// The newest version of the store.
+    pub fn head(&self) -> u64
+        ensures { result ≡ self.now.state.all.head }
+    {
+        self.engine.head()
+    }
+
     /// Answers a line: its reply is appended to `out`. After a refusal `out` is as before and the session is over.
     /// On `DiskFault` the line would have landed what is pending. On `Memory` the line was done and its reply is
     /// missing, or nothing was done.

@@ -1,0 +1,109 @@
+//! The program `jellystore`: a command line over a folder's store, or over one in memory.
+#![tactic(auto)]
+
+mod run_words;
+mod status;
+#[cfg(test)]
+mod tests;
+
+use jf_disk::{AnyDisk, FileDisk, FileRefused, MemDisk, Side};
+use jf_io::{StdSink, StdSource};
+use run_words::run_words;
+use status::{Ended, Status};
+use std::fs::File;
+use std::process::ExitCode;
+use std::rt::{Files, Runtime};
+use std::sync::Wait;
+use std::thread::Threads;
+use std::{env, io};
+
+/// How many calls a disk in memory has room for, and how many written bytes.
+const MEM_CALLS: u64 = 1 << 20;
+
+const MEM_BYTES: u64 = 1 << 27;
+
+fn main(rt: HostRuntime) -> ExitCode {
+    let status = status_of_args(&rt);
+    let _ = tell(&rt, status);
+    ExitCode::from(status.code())
+}
+
+// Runs the words of the command line over the devices that they name.
+fn status_of_args<R: Runtime + Files<File = File> + AllocGlobal + Threads + Wait + Sync>(
+    rt: &R,
+) -> Status {
+    let mut args = match env::args(rt) {
+        Ok(args) => args,
+        Err(_) => return Status::Memory,
+    };
+    // The program's own name.
+    let _ = args.next();
+    let folder = match args.next() {
+        Some(folder) => folder,
+        None => return Status::Usage,
+    };
+    let mut words = Vec::new(rt.alloc());
+    for word in args {
+        if words.push(word).is_err() {
+            return Status::Memory;
+        }
+    }
+    let disk = match disk_of(rt, folder.as_str()) {
+        Ok(disk) => disk,
+        Err(FileRefused::DiskFailed) => return Status::DiskFault,
+        Err(FileRefused::Memory) => return Status::Memory,
+    };
+    let mut source = StdSource::new(rt.reader());
+    let mut sink = StdSink::new(io::writer(rt));
+    let Ended {
+        status,
+        disk: _,
+        entries: _,
+        start: _,
+    } = run_words(rt, rt.alloc(), &words, &mut source, &mut sink, disk);
+    status
+}
+
+// The disk that a word names: `-` is a new one in memory, and any other word a folder.
+fn disk_of<R: Files<File = File> + AllocGlobal>(
+    rt: &R,
+    folder: &str,
+) -> Result<AnyDisk, FileRefused> {
+    let alloc = rt.alloc();
+    if folder != "-" {
+        return Ok(AnyDisk::File(FileDisk::at(rt, alloc, folder)?));
+    }
+    let empty = || Vec::new(alloc);
+    match MemDisk::new(
+        alloc,
+        empty(),
+        empty(),
+        MEM_CALLS,
+        MEM_BYTES,
+        Vec::new(alloc),
+    ) {
+        Ok(disk) => Ok(AnyDisk::Mem(disk)),
+        Err(_) => Err(FileRefused::Memory),
+    }
+}
+
+// Writes the line of a status to standard error.
+fn tell<R: Runtime>(rt: &R, status: Status) -> io::Result<()> {
+    match status {
+        Status::Done => Ok(()),
+        Status::Usage => eprintln!(rt;
+            "usage: jellystore FOLDER run|serve|restore VERSION ROOT|verify|generate SEED BATCHES SIZE [--workers N]"
+        ),
+        Status::ReadFault => eprintln!(rt; "read fault"),
+        Status::WriteFault => eprintln!(rt; "write fault"),
+        Status::DiskFault => eprintln!(rt; "disk fault"),
+        Status::Damaged { side, offset } => {
+            let side = match side {
+                Side::A => "a",
+                Side::B => "b",
+            };
+            eprintln!(rt; "damaged {side} {offset}")
+        }
+        Status::Memory => eprintln!(rt; "out of memory"),
+    }
+}

@@ -1,0 +1,87 @@
+// The words of a command line, run over devices that the caller gives.
+ghost use Rattle.std.specs.Prelude.{◌≡◌, ◌⊎◌, ◌↔◌, ℕ, ◌-◌, ◌<◌, ◌≤◌, ◌^◌, [], length, map, string_bytes, Some, None, IfSome, IsSome, IsTrue};
+ghost use Rattle.jf_disk.specs.Disk.{History, reads};
+ghost use Rattle.jf_disk.specs.Moments.{Extends};
+ghost use Rattle.jf_disk.specs.declared.side.Side.{Side};
+ghost use Rattle.jf_model.specs.Versions.{Versions};
+ghost use Rattle.jf_journal.specs.Standing.{StandsFor, IsDamagedAt};
+ghost use Rattle.jf_journal.specs.Steps.{Opens, StopsWell, IsCalm};
+ghost use Rattle.jellystore.specs.Commands.{is_run, is_closing};
+ghost use Rattle.jellystore.specs.Promises.{RunsFrom};
+
+use crate::status::{Ended, Status};
+use jf_disk::Disk;
+use jf_engine::OpenRefused;
+use jf_io::{Sink, Source};
+use jf_model::Ledger;
+use jf_session::{Session, SoloRan, run};
+use std::alloc::Global;
+use std::sync::Wait;
+use std::thread::Threads;
+
+/// Runs the words of a command line: `run` alone answers the script of the source into the sink, over the store of
+/// the disk.
+///
+/// Where a store was opened, `ran` says of each script and each list of faults: the replies and the entries are those
+/// of the lines done; the entries are legal, at rising moments; a stop at any moment leaves files that stand for a first
+/// part of the landings, with each acknowledged one; and where the disk didn't fail it stands for all of them. Where
+/// none was opened, no byte was taken or written, and the files stand for what they stood for.
+pub fn run_words<S: Source, K: Sink, D: Disk, H: Threads + Wait + Sync>(
+    rt: &H,
+    alloc: Global,
+    words: &[String],
+    source: &mut S,
+    sink: &mut K,
+    disk: D,
+) -> Ended<D>
+    ensures usage { (result.status ≡ Status.Usage → ⊥) ↔ IsTrue (is_run (map (λ w. string_bytes w) words.now)) }
+    ensures untouched { result.status ≡ Status.Usage → result.disk ≡ disk }
+    ensures read { result.status ≡ Status.ReadFault → (S.faults source.old < S.faults source.new) ⊎ (S.faults source.old ≡ 2 ^ 64 - 1) }
+    ensures write { result.status ≡ Status.WriteFault → (K.faults sink.old < K.faults sink.new) ⊎ (K.faults sink.old ≡ 2 ^ 64 - 1) }
+    ensures disk_fault { result.status ≡ Status.DiskFault → (D.faults disk < D.faults result.disk) ⊎ (D.faults disk ≡ 2 ^ 64 - 1) }
+    ensures damaged { (h : History) (side : Side) (at : ℕ) → D.history disk ≡ Some h → result.status ≡ Status.Damaged side at → IsDamagedAt (reads h) side at }
+    ensures closed_status { result.start ≡ None → IsTrue (is_closing result.status) }
+    ensures closed { result.start ≡ None → (S.rest source.new ≡ S.rest source.old) × (K.text sink.new ≡ K.text sink.old) × (result.entries ≡ []) }
+    ensures closed_stops { (h : History) (v : Versions) → result.start ≡ None → D.history disk ≡ Some h → IsCalm h → StandsFor (reads h) v → (result.status ≡ Status.Usage → ⊥)
+        → (g : History) × (D.history result.disk ≡ Some g) × StopsWell Opens h g v }
+    ensures ran { IfSome result.start (RunsFrom (D.history disk) (D.history result.disk) (D.moment disk) (D.moment result.disk) (D.faults disk) (D.faults result.disk)
+        (S.rest source.old) (S.rest source.new) (K.text sink.old) (K.text sink.new) result.status result.entries) }
+{
+    if !is_run(words) {
+        return Ended {
+            status: Status::Usage,
+            disk,
+            entries: Ledger::new(alloc),
+            start: None,
+        };
+    }
+    let session = match Session::<D>::over(rt, alloc, disk) {
+        Ok(session) => session,
+        Err(OpenRefused { disk, why }) => {
+            return Ended {
+                status: Status::of_refusal(why),
+                disk,
+                entries: Ledger::new(alloc),
+                start: None,
+            };
+        }
+    };
+    let head = session.head();
+    let SoloRan { disk, entries, end } = run(rt, alloc, session, source, sink);
+    Ended {
+        status: Status::of_end(end),
+        disk,
+        entries,
+        start: Some(head),
+    }
+}
+
+// Whether the words are `run` alone.
+fn is_run(words: &[String]) -> bool
+    ensures { IsTrue result ↔ IsTrue (is_run (map (λ w. string_bytes w) words.now)) }
+{
+    match words {
+        [word] => word.as_str() == "run",
+        _ => false,
+    }
+}

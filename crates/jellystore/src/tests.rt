@@ -1,0 +1,344 @@
+// Scripts over a disk in memory: what is written, what the files hold, and how the run ends.
+use crate::run_words::run_words;
+use crate::status::{Ended, Status};
+use jf_disk::{Disk, MemDisk, Side};
+use jf_io::{MemSink, MemSource};
+use jf_path::Bytes;
+use std::alloc::Global;
+use std::sync::Wait;
+use std::test::Fail;
+use std::thread::Threads;
+
+const EMPTY: &str = "6e340b9cffb37a989ca544e6bb780a2c78901d3fb33738768511a30617afa01d";
+
+const ONE: &str = "9bb72c39f13d2b512ea34eae99a28f6d807a134ab125e89172310c6f6ea72f8f";
+
+// What a run gave: the disk, the text, how it ended, the head at opening, and how many entries it made.
+struct Played {
+    disk: MemDisk,
+    text: Vec<u8>,
+    status: Status,
+    start: Option<u64>,
+    entries: u64,
+}
+
+// Which calls of the source and of the sink fail.
+#[derive(Clone, Copy)]
+struct Faults {
+    source: &'static [u64],
+    sink: &'static [u64],
+}
+
+const NO_FAULTS: Faults = Faults {
+    source: &[],
+    sink: &[],
+};
+
+// A new disk of which the listed calls fail.
+fn new_disk(alloc: Global, a: &[u8], failing: &[u64]) -> Result<MemDisk, Fail> {
+    Ok(MemDisk::new(
+        alloc,
+        a.to_vec(alloc)?,
+        Vec::new(alloc),
+        1000,
+        100_000,
+        failing.to_vec(alloc)?,
+    )?)
+}
+
+// A text with the root of the empty map for E, and that of the map of `put 61 =31` for R.
+fn with_roots(alloc: Global, text: &str) -> Result<Vec<u8>, Fail> {
+    let mut whole = Vec::new(alloc);
+    for byte in text.bytes() {
+        match byte {
+            b'E' => whole.extend_from_slice(EMPTY.as_bytes())?,
+            b'R' => whole.extend_from_slice(ONE.as_bytes())?,
+            byte => whole.push(byte)?,
+        }
+    }
+    Ok(whole)
+}
+
+// Runs a word over a disk, with sources and sinks that take a few bytes a call.
+fn play<H: Threads + Wait + Sync>(
+    rt: &H,
+    alloc: Global,
+    disk: MemDisk,
+    word: &str,
+    script: &[u8],
+    faults: Faults,
+) -> Result<Played, Fail> {
+    let words = vec![in alloc; format!(in alloc; "{word}")?]?;
+    let mut source = MemSource::new(
+        Bytes::copy_of(alloc, script)?,
+        100,
+        faults.source.to_vec(alloc)?,
+    );
+    let mut sink = MemSink::new(alloc, 7, 20_000, faults.sink.to_vec(alloc)?)?;
+    let Ended {
+        status,
+        disk,
+        entries,
+        start,
+    } = run_words(rt, alloc, &words, &mut source, &mut sink, disk);
+    Ok(Played {
+        disk,
+        text: sink.text().to_vec(alloc)?,
+        status,
+        start,
+        entries: entries.len(),
+    })
+}
+
+#[test]
+fn lines_are_answered(rt: HostRuntime) -> Result<(), Fail> {
+    let alloc = rt.alloc();
+    let rows = [
+        ("", ""),
+        ("root head\n", "0 ok root E\n"),
+        ("root head", "0 ok root E\n"),
+        (
+            "put 61 =31\ncommit\nroot head\n",
+            "0 ok pending 1\n1 ok commit 1 R\n1 ok root R\n",
+        ),
+        (
+            "put 61 =31\nput 61 =\nroot head",
+            "0 ok pending 1\n0 ok pending 1\n0 ok root E\n",
+        ),
+        ("commit\ncommit", "1 ok commit 1 E\n2 ok commit 2 E\n"),
+        ("\n", "0 no syntax\n"),
+        ("\nroot head\n\n", "0 no syntax\n0 ok root E\n0 no syntax\n"),
+        ("put  61 =31\n", "0 no syntax\n"),
+        ("put 61 =31 \n", "0 no syntax\n"),
+        ("put 6 =31", "0 no syntax\n"),
+        ("put 61 =3A", "0 no syntax\n"),
+        ("PUT 61 =31", "0 no syntax\n"),
+        ("session", "0 no syntax\n"),
+        ("get head 61", "0 no syntax\n"),
+    ];
+    for (script, want) in rows {
+        let played = play(
+            &rt,
+            alloc,
+            new_disk(alloc, b"", &[])?,
+            "run",
+            script.as_bytes(),
+            NO_FAULTS,
+        )?;
+        let Played {
+            disk: _,
+            text,
+            status,
+            start,
+            entries: _,
+        } = played;
+        let want = with_roots(alloc, want)?;
+        assert_eq!(rt; text.as_slice(), want.as_slice(), "of {script:?}");
+        assert_eq!(rt; (status, start), (Status::Done, Some(0)), "of {script:?}");
+    }
+    Ok(())
+}
+
+// `put` of a name and a value of so many bytes.
+fn put_line(alloc: Global, name: usize, value: usize) -> Result<Vec<u8>, Fail> {
+    let mut line = b"put ".to_vec(alloc)?;
+    for _ in 0..name {
+        line.extend_from_slice(b"61")?;
+    }
+    line.extend_from_slice(b" =")?;
+    for _ in 0..value {
+        line.extend_from_slice(b"31")?;
+    }
+    Ok(line)
+}
+
+#[test]
+fn names_and_values_have_their_longest(rt: HostRuntime) -> Result<(), Fail> {
+    let alloc = rt.alloc();
+    let rows = [
+        (1, 4096, "0 ok pending 1\n"),
+        (1, 4097, "0 no syntax\n"),
+        (128, 4096, "0 ok pending 1\n"),
+        (129, 0, "0 no syntax\n"),
+        (0, 1, "0 no syntax\n"),
+        (1, 4247, "0 no syntax\n"),
+    ];
+    for (name, value, want) in rows {
+        let line = put_line(alloc, name, value)?;
+        let Played {
+            disk: _,
+            text,
+            status,
+            start: _,
+            entries,
+        } = play(
+            &rt,
+            alloc,
+            new_disk(alloc, b"", &[])?,
+            "run",
+            &line,
+            NO_FAULTS,
+        )?;
+        assert_eq!(rt; text.as_slice(), want.as_bytes(), "of {name} and {value}");
+        assert_eq!(rt;
+            (status, entries),
+            (Status::Done, 0),
+            "of {name} and {value}"
+        );
+    }
+    Ok(())
+}
+
+#[test]
+fn a_store_is_opened_where_it_stood(rt: HostRuntime) -> Result<(), Fail> {
+    let alloc = rt.alloc();
+    let first = play(
+        &rt,
+        alloc,
+        new_disk(alloc, b"", &[])?,
+        "run",
+        b"put 61 =31\ncommit\n",
+        NO_FAULTS,
+    )?;
+    let Played {
+        disk,
+        text: _,
+        status,
+        start,
+        entries,
+    } = first;
+    assert_eq!(rt; (status, start, entries), (Status::Done, Some(0), 1));
+    let mut file = b"\x01\x01\0\0\0\0\0\0\0\x36\0\0\0\0\0\0\0\x01\0\0\0\0\0\0\0\x01".to_vec(alloc)?;
+    file.extend_from_slice(&[
+        0x19, 0xd5, 0xf5, 0x7c, 0x8e, 0x8b, 0x3c, 0xd7, 0x60, 0xf8, 0x53, 0xbb, 0x8d, 0x79, 0x00,
+        0xd6, 0x8e, 0x10, 0xef, 0x02, 0x67, 0x43, 0x83, 0xde, 0x65, 0xa9, 0xb4, 0xd6, 0x5e, 0x41,
+        0x9b, 0x26,
+    ])?;
+    file.extend_from_slice(b"\x01\0\0\0\x01\x31\0")?;
+    assert_eq!(rt; disk.bytes(Side::A), file.as_slice());
+    assert_eq!(rt; disk.bytes(Side::B).len(), 0);
+
+    let Played {
+        disk,
+        text,
+        status,
+        start,
+        entries,
+    } = play(
+        &rt,
+        alloc,
+        disk,
+        "run",
+        b"root head\ncommit\nroot head",
+        NO_FAULTS,
+    )?;
+    assert_eq!(rt; (status, start, entries), (Status::Done, Some(1), 1));
+    let want = with_roots(alloc, "0 ok root R\n1 ok commit 2 R\n1 ok root R\n")?;
+    assert_eq!(rt; text.as_slice(), want.as_slice());
+    assert_eq!(rt; disk.bytes(Side::A).len(), 65 + 26);
+    Ok(())
+}
+
+#[test]
+fn what_stops_a_run_is_told(rt: HostRuntime) -> Result<(), Fail> {
+    let alloc = rt.alloc();
+    let script = b"put 61 =31\ncommit\n";
+    let damaged: &[u8] = b"\x01\x07\0";
+    let read_fault = Faults {
+        source: &[0],
+        sink: &[],
+    };
+    let write_fault = Faults {
+        source: &[],
+        sink: &[0],
+    };
+    let at_0 = Status::Damaged {
+        side: Side::A,
+        offset: 0,
+    };
+    let rows: [(&[u8], &str, Faults, Status, Option<u64>); 5] = [
+        (b"", "verify", NO_FAULTS, Status::Usage, None),
+        (b"", "run ", NO_FAULTS, Status::Usage, None),
+        (b"", "run", read_fault, Status::ReadFault, Some(0)),
+        (b"", "run", write_fault, Status::WriteFault, Some(0)),
+        (damaged, "run", NO_FAULTS, at_0, None),
+    ];
+    for (file, word, faults, want, opened) in rows {
+        let Played {
+            disk,
+            text,
+            status,
+            start,
+            entries,
+        } = play(
+            &rt,
+            alloc,
+            new_disk(alloc, file, &[])?,
+            word,
+            script,
+            faults,
+        )?;
+        assert_eq!(rt;
+            (status, start, entries),
+            (want, opened, 0),
+            "of {word} and {want:?}"
+        );
+        assert_eq!(rt; text.len(), 0, "of {word} and {want:?}");
+        assert_eq!(rt; disk.faults(), 0, "of {word} and {want:?}");
+    }
+    Ok(())
+}
+
+#[test]
+fn a_fault_of_the_disk_leaves_the_landing_or_nothing(rt: HostRuntime) -> Result<(), Fail> {
+    let alloc = rt.alloc();
+    let script = b"put 61 =31\ncommit\n";
+    let mut in_landing = 0;
+    for failing in 0..20 {
+        let Played {
+            disk,
+            text,
+            status,
+            start,
+            entries,
+        } = play(
+            &rt,
+            alloc,
+            new_disk(alloc, b"", &[failing])?,
+            "run",
+            script,
+            NO_FAULTS,
+        )?;
+        let (want, told) = match (status, start) {
+            (Status::DiskFault, None) => (0, ""),
+            (Status::DiskFault, _) => (0, "0 ok pending 1\n"),
+            _ => (1, "0 ok pending 1\n1 ok commit 1 R\n"),
+        };
+        let told = with_roots(alloc, told)?;
+        assert_eq!(rt; text.as_slice(), told.as_slice(), "at {failing}");
+        assert_eq!(rt; entries, want, "at {failing}");
+        if status == Status::Done {
+            break;
+        }
+        if start.is_some() {
+            in_landing += 1;
+        }
+        let Played {
+            disk: _,
+            text,
+            status,
+            start,
+            entries: _,
+        } = play(&rt, alloc, disk, "run", b"root head", NO_FAULTS)?;
+        let root = match start {
+            Some(1) => "0 ok root R\n",
+            _ => "0 ok root E\n",
+        };
+        let root = with_roots(alloc, root)?;
+        assert_eq!(rt; status, Status::Done, "at {failing}");
+        assert_eq!(rt; text.as_slice(), root.as_slice(), "at {failing}");
+    }
+    // A landing writes, syncs, writes and syncs.
+    assert_eq!(rt; in_landing, 4);
+    Ok(())
+}
