@@ -1,6 +1,6 @@
 -- What a store keeps of its files: what they stand for, also after a crash and after an append.
 use Rattle.std.specs.Prelude.{◌≡◌, ◌≢◌, ◌⊎◌, ℕ, ◌+◌, ◌-◌, ◌≤◌, ◌^◌, List, [], ◌∷◌, ◌++◌, Ok, Option, Some, None, Bool, true, false}
-use Rattle.std.proofs.Common.{inl, inr, refl, sym, ap, ◌∙◌, subst, arith, ext_get_or, true≢false}
+use Rattle.std.proofs.Common.{inl, inr, refl, sym, ap, ◌∙◌, subst, arith, true≢false}
 use Rattle.jf_disk.specs.Disk.{History, State, Files, Content, IsImage, MayLeave, durable, reads}
 use Rattle.jf_disk.specs.declared.side.Side.{Side}
 use Rattle.jf_disk.specs.declared.side.Side.TheVariants as side
@@ -15,18 +15,12 @@ use Rattle.jf_journal.specs.Standing.{StandsFor, LeadTo, IsNext}
 use Rattle.jf_journal.specs.Steps.{Lands, StopsWell, Succeeds}
 use Rattle.jf_engine.specs.Engines.{IsSettledOn}
 use Rattle.jf_engine.specs.Keeping.{Holds, IsKept}
-use Rattle.jf_engine.proofs.Histories.{goes_weaker, told_one}
+use Rattle.jf_frame.specs.LogLaws.{image_durable, goes_weaker}
 use Rattle.jf_engine.proofs.Chains.{leads_on}
 
--- of synced bytes alone just these are left
-pub durable_only : (b image : List ℕ) → MayLeave (durable b) image → image ≡ b
-durable_only b image left =
-    let low = left.no_shorter in let high = left.no_longer in
-    ext_get_or 0 image b (omega arith) (λ i lt. left.same i lt (omega arith) tt)
-
--- so an image of a state whose side A is synced has its bytes
+-- an image of a state whose side A is synced has its bytes
 pub synced_only : (s : State) (bytes : List ℕ) (f : Files) → s.a ≡ durable bytes → IsImage s f → f.a ≡ bytes
-synced_only s bytes f quiet image = durable_only bytes f.a (subst (λ (c : Content). MayLeave c f.a) quiet image.a)
+synced_only s bytes f quiet image = image_durable bytes f.a (subst (λ (c : Content). MayLeave c f.a) quiet image.a)
 
 pub holds_stands : (h : History) (offset : ℕ) (v : Versions) → Holds offset v h.now → StandsFor (reads h) v
 holds_stands h offset v k = record { held = k.held; held_is = k.ready.held; leads = k.leads }
@@ -62,7 +56,11 @@ append_succeeds h g offset v b stops k = record {
 
 -- ---- over a log
 
--- a history that is told was told before calls that leave an untold one untold
+-- a history that is told is one
+pub told_one : (o : Option History) (g k : History) → o ≡ Some g → o ≡ Some k → g ≡ k
+told_one o g k a b = cc
+
+-- and was told before calls that leave an untold one untold
 pub told_before : (o n : Option History) (g : History) → (o ≡ None → n ≡ None) → n ≡ Some g → (h : History) × (o ≡ Some h)
 told_before None n g still told = absurd (let e : n ≡ None = still refl in cc)
 told_before (Some h) n g still told = (h, refl)
@@ -72,7 +70,7 @@ log_ready o log v k h told = subst (λ (s : Side). IsReady s log.offset (k.holds
 
 -- the landing of a batch, as it is framed for an append
 pub next_framed : (v : Versions) (n at : ℕ) (b : Batch) → IsLandable b → n ≡ v.head → v.head ≤ 2 ^ 64 - 2 → n ≢ 2 ^ 64 - 2 → IsNext v (framed at 1 (landing_bytes (n + 1) b)) b
-next_framed v n at b landable same le ne = record { landable = landable; kind_is = refl; payload_is = ap (λ n. landing_bytes (n + 1) b) same; bounded = omega arith }
+next_framed v n at b landable same low ne = record { landable = landable; kind_is = refl; payload_is = ap (λ n. landing_bytes (n + 1) b) same; bounded = omega arith }
 
 -- the log behind an append of a landing keeps one version more
 pub append_keeps : (o n : Option History) (log log' : Log) (v : Versions) (b : Batch) (r : Framed) (k : IsKept o log v)

@@ -7,7 +7,7 @@ use Rattle.jf_disk.specs.declared.side.Side.{Side}
 use Rattle.jf_disk.specs.declared.side.Side.TheVariants as side
 use Rattle.jf_model.specs.Versions.{Versions, new_store}
 use Rattle.jf_frame.specs.declared.framed.Framed.{Framed}
-use Rattle.jf_frame.specs.Framing.{records}
+use Rattle.jf_frame.specs.Framing.{records, end_of}
 use Rattle.jf_frame.specs.Crashes.{GoesOn, Idles}
 use Rattle.jf_frame.specs.Logs.{Log, IsReading, IsReady, StopsInBegin}
 use Rattle.jf_journal.specs.Standing.{StandsFor, LeadTo, FailsAt, IsDamagedAt}
@@ -17,9 +17,9 @@ use Rattle.jf_engine.specs.declared.fault.OpenFault.{OpenFault}
 use Rattle.jf_engine.specs.declared.fault.OpenFault.TheVariants as open_fault
 use Rattle.jf_engine.specs.Faults.{of_frame}
 use Rattle.jf_engine.specs.Keeping.{IsOpening, IsKept}
-use Rattle.jf_engine.proofs.Histories.{goes_further, goes_weaker, goes_nowhere, goes_idle, goes_extends, idle_now}
+use Rattle.jf_frame.specs.LogLaws.{goes_further, goes_weaker, goes_nowhere, goes_idle, goes_extends, idle_now}
 use Rattle.jf_engine.proofs.Keeping.{synced_only, told_before}
-use Rattle.jf_engine.proofs.Gates.{ends_closed}
+use Rattle.jf_frame.specs.FramingLaws.{some_end}
 
 -- files with the same records stand for the same versions
 pub same_stands : (f g : Files) (v : Versions) → records g.a ≡ records f.a → StandsFor f v → StandsFor g v
@@ -76,6 +76,11 @@ opening_idle h g k a quiet idle =
 
 pub quiet_idle : (h g k : History) → IsQuiet h g → Idles g k → IsQuiet h k
 quiet_idle h g k quiet idle = ap (λ (s : State). s.a) (idle_now g k idle) ∙ quiet
+
+-- records that were read end at a closed gate
+ends_closed : (bytes : List ℕ) (rs : List Framed) → records bytes ≡ Ok rs → 0 < length rs → (end_of rs < length bytes) × (slice_index bytes (end_of rs) ≢ 1)
+ends_closed bytes [] held some = absurd (omega arith)
+ends_closed bytes (r ∷ rs) held some = some_end bytes r rs held
 
 -- a log that was read and has records is ready
 pub read_ready : (log : Log) (h g : History) → IsReading log side.A h.now.a.bytes → h.now.a ≡ durable h.now.a.bytes → 0 < length log.records → h ≡ g → IsReady side.A log.offset log.records g.now

@@ -26,6 +26,7 @@ use std::thread::Threads;
 
 /// A store on a disk: the versions that the files stand for. After a fault of the disk it is broken: it
 /// shows the versions from before the call, and the files are opened again to learn what they hold.
+#[derive(Drop)]
 pub struct Engine<D: Disk> {
     disk: D,
     log: Log,

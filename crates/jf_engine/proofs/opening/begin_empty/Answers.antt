@@ -1,4 +1,4 @@
-use Rattle.jf_engine.proofs.Histories.{told_one}
+use Rattle.jf_engine.proofs.Keeping.{told_one}
 use Rattle.jf_engine.proofs.Openings.{read_ready, some_records, no_records, begun}
 use Rattle.jf_engine.proofs.opening.begin_empty.Goals as goal
 use Rattle.std.proofs.Common.{sym, ◌∙◌}

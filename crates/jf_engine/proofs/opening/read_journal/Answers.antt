@@ -1,7 +1,7 @@
 use Rattle.std.proofs.Common.{◌≡◌, Err, ap, subst, refl}
 use Rattle.jf_disk.specs.Disk.{History, next, synced, durable}
 use Rattle.jf_disk.specs.declared.side.Side.TheVariants as side
-use Rattle.jf_engine.proofs.Histories.{told_one}
+use Rattle.jf_engine.proofs.Keeping.{told_one}
 use Rattle.jf_engine.proofs.Openings.{sync_opens, sync_fails, opening_idle, quiet_idle, frame_damaged, told_next}
 use Rattle.jf_engine.proofs.opening.read_journal.Goals as goal
 
