@@ -293,7 +293,7 @@ fn what_stops_a_run_is_told(rt: HostRuntime) -> Result<(), Fail> {
 fn a_fault_of_the_disk_leaves_the_landing_or_nothing(rt: HostRuntime) -> Result<(), Fail> {
     let alloc = rt.alloc();
     let script = b"put 61 =31\ncommit\n";
-    let mut in_landing = 0;
+    let mut in_landing = Vec::new(alloc);
     for failing in 0..20 {
         let Played {
             disk,
@@ -321,7 +321,7 @@ fn a_fault_of_the_disk_leaves_the_landing_or_nothing(rt: HostRuntime) -> Result<
             break;
         }
         if start.is_some() {
-            in_landing += 1;
+            in_landing.push(failing)?;
         }
         let Played {
             disk: _,
@@ -339,6 +339,6 @@ fn a_fault_of_the_disk_leaves_the_landing_or_nothing(rt: HostRuntime) -> Result<
         assert_eq!(rt; text.as_slice(), root.as_slice(), "at {failing}");
     }
     // A landing writes, syncs, writes and syncs.
-    assert_eq!(rt; in_landing, 4);
+    assert_eq!(rt; in_landing.len(), 4, "at {in_landing:?}");
     Ok(())
 }
