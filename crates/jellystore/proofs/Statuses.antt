@@ -1,5 +1,5 @@
 -- What a status says of the way in which a run ended.
-use Rattle.std.proofs.Common.{◌≡◌, ◌⊎◌, inl, inr, ℕ, ◌-◌, ◌<◌, ◌≤◌, ◌^◌, List, Option, sym, subst, ◌∙◌, IsTrue, arith, eq-or-lt_of_le}
+use Rattle.std.proofs.Common.{◌≡◌, inl, inr, ℕ, ◌≤◌, List, Option, sym, subst, ◌∙◌, IsTrue, arith, eq-or-lt_of_le}
 use Rattle.jf_disk.specs.Disk.{History}
 use Rattle.jf_disk.specs.declared.side.Side.{Side}
 use Rattle.jf_engine.specs.declared.fault.OpenFault.{OpenFault}
@@ -10,7 +10,6 @@ use Rattle.jf_session.specs.Runs.{HasRun}
 use Rattle.jf_session.specs.declared.running.End.{End}
 use Rattle.jf_session.specs.declared.running.End.TheVariants as end
 use Rattle.jellystore.specs.Commands.{status_of, status_of_refusal, is_closing}
-use Rattle.jellystore.specs.declared.status.Status.{Status}
 use Rattle.jellystore.specs.declared.status.Status.TheVariants as status
 
 -- only damage is told as damage, at its place

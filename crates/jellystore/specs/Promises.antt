@@ -1,9 +1,10 @@
 -- What the program promises of a run over a store.
-use Rattle.std.specs.Prelude.{◌≡◌, ◌⊎◌, ℕ, ◌<◌, ◌≤◌, ◌-◌, ◌^◌, List, [], Option, Some}
+use Rattle.std.specs.Prelude.{◌≡◌, ℕ, ◌≤◌, List, [], Option, Some}
 use Rattle.jf_disk.specs.Disk.{History, reads}
 use Rattle.jf_disk.specs.Moments.{Extends}
 use Rattle.jf_model.specs.Versions.{Versions}
 use Rattle.jf_model.specs.States.{opened}
+use Rattle.jf_model.specs.Entries.{AreLegal, replay}
 use Rattle.jf_model.specs.declared.entries.Entry.{Entry}
 use Rattle.jf_journal.specs.Standing.{StandsFor, generation}
 use Rattle.jf_journal.specs.Steps.{Opens, StopsWell, IsCalm}
@@ -35,3 +36,18 @@ pub record RunsFrom (history history' : Option History) (moment moment' faults f
   pub how : End
   pub status_is : status ≡ status_of how
   pub ran : HasRun how session rest rest' text text' history' moment' faults' entries
+
+-- the entries are legal, one behind another, over the versions that the files stood for
+pub record IsLegalRun (before : History) (entries : List Entry) (head : ℕ) : Type 0 where
+  pub found : Versions
+  pub stands : StandsFor (reads before) found
+  pub head_is : found.head ≡ head
+  pub legal : AreLegal (opened found 1) entries
+
+-- the disk reads what the entries make of the versions that the files stood for, and a crash now leaves nothing else
+pub record IsSettledRun (before : History) (after : Option History) (entries : List Entry) : Type 0 where
+  pub found : Versions
+  pub stands : StandsFor (reads before) found
+  pub now : History
+  pub told : after ≡ Some now
+  pub settled : IsSettledOn now (replay (opened found 1) entries).all

@@ -7,12 +7,13 @@ ghost use Rattle.jf_model.specs.Versions.{Versions};
 ghost use Rattle.jf_journal.specs.Standing.{StandsFor, IsDamagedAt};
 ghost use Rattle.jf_journal.specs.Steps.{Opens, StopsWell, IsCalm};
 ghost use Rattle.jellystore.specs.Commands.{is_run, is_closing};
-ghost use Rattle.jellystore.specs.Promises.{RunsFrom};
+ghost use Rattle.jellystore.specs.Promises.{IsLegalRun, IsSettledRun, RunsFrom};
 
 use crate::status::{Ended, Status};
 use jf_disk::Disk;
 use jf_engine::OpenRefused;
 use jf_io::{Sink, Source};
+use jf_journal::damage_is_no_versions;
 use jf_model::Ledger;
 use jf_session::{Session, SoloRan, run};
 use std::alloc::Global;
@@ -40,10 +41,15 @@ pub fn run_words<S: Source, K: Sink, D: Disk, H: Threads + Wait + Sync>(
     ensures write { result.status ≡ Status.WriteFault → (K.faults sink.old < K.faults sink.new) ⊎ (K.faults sink.old ≡ 2 ^ 64 - 1) }
     ensures disk_fault { result.status ≡ Status.DiskFault → (D.faults disk < D.faults result.disk) ⊎ (D.faults disk ≡ 2 ^ 64 - 1) }
     ensures damaged { (h : History) (side : Side) (at : ℕ) → D.history disk ≡ Some h → result.status ≡ Status.Damaged side at → IsDamagedAt (reads h) side at }
+    ensures complete { (h : History) (v : Versions) → D.history disk ≡ Some h → StandsFor (reads h) v → IsTrue (is_run (map (λ w. string_bytes w) words.now))
+        → S.faults source.new ≡ S.faults source.old → S.faults source.old < 2 ^ 64 - 1 → K.faults sink.new ≡ K.faults sink.old → K.faults sink.old < 2 ^ 64 - 1
+        → D.faults result.disk ≡ D.faults disk → D.faults disk < 2 ^ 64 - 1 → (result.status ≡ Status.Done) ⊎ (result.status ≡ Status.Memory) }
     ensures closed_status { result.start ≡ None → IsTrue (is_closing result.status) }
     ensures closed { result.start ≡ None → (S.rest source.new ≡ S.rest source.old) × (K.text sink.new ≡ K.text sink.old) × (result.entries ≡ []) }
     ensures closed_stops { (h : History) (v : Versions) → result.start ≡ None → D.history disk ≡ Some h → IsCalm h → StandsFor (reads h) v → (result.status ≡ Status.Usage → ⊥)
         → (g : History) × (D.history result.disk ≡ Some g) × StopsWell Opens h g v }
+    ensures legal { (h : History) → D.history disk ≡ Some h → IfSome result.start (IsLegalRun h result.entries) }
+    ensures settled { (h : History) → D.history disk ≡ Some h → IsSome result.start → (result.status ≡ Status.DiskFault → ⊥) → IsSettledRun h (D.history result.disk) result.entries }
     ensures ran { IfSome result.start (RunsFrom (D.history disk) (D.history result.disk) (D.moment disk) (D.moment result.disk) (D.faults disk) (D.faults result.disk)
         (S.rest source.old) (S.rest source.new) (K.text sink.old) (K.text sink.new) result.status result.entries) }
 {
@@ -55,6 +61,7 @@ pub fn run_words<S: Source, K: Sink, D: Disk, H: Threads + Wait + Sync>(
             start: None,
         };
     }
+    damage_is_no_versions();
     let session = match Session::<D>::over(rt, alloc, disk) {
         Ok(session) => session,
         Err(OpenRefused { disk, why }) => {

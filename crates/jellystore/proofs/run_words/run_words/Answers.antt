@@ -1,6 +1,10 @@
-use Rattle.std.proofs.Common.{◌≡◌, sym, subst, IsTrue, ap, ◌∙◌}
-use Rattle.jellystore.specs.Commands.{is_closing, status_of_refusal, status_of}
-use Rattle.jellystore.proofs.Statuses.{damage_told, refusal_closes, no_damage, fault_rose}
+use Rattle.std.proofs.Common.{◌≡◌, ◌⊎◌, inr, sym, subst, IsTrue, ◌∙◌}
+use Rattle.jf_disk.specs.Disk.{reads}
+use Rattle.jellystore.specs.Promises.{IsBegun}
+use Rattle.jellystore.specs.declared.status.Status.TheVariants as status
+use Rattle.jellystore.specs.Commands.{is_closing}
+use Rattle.jellystore.proofs.Statuses.{damage_told, refusal_closes, fault_rose}
+use Rattle.jellystore.proofs.Complete.{steady, refused_for_memory, ends_well, is_legal, is_settled}
 use Rattle.jellystore.proofs.run_words.run_words.Goals as goal
 
 pub returns-in-Err-clause-damaged : goal.returns-in-Err-clause-damaged
@@ -29,3 +33,30 @@ returns-clause-ran g c = record {
   status_is = c.of_end.ensures;
   ran = c.run-disk.ensures.ran;
 }
+
+pub returns-in-Err-clause-complete : goal.returns-in-Err-clause-complete
+returns-in-Err-clause-complete g c = λ h v told stands word ss sb ks kb ds db.
+    let memory = refused_for_memory c.in-Err.field-0.why (λ side at damaged. c.damage_is_no_versions.ensures (reads h) v side at stands (c.in-Err.ensures.damaged h side at told damaged))
+    (λ fault. steady (g.D.Disk.faults c.args.disk) (g.D.Disk.faults c.in-Err.field-0.disk) ds db (c.in-Err.ensures.cause fault)) in
+    inr (c.of_refusal.ensures ∙ memory)
+
+pub returns-clause-complete : goal.returns-clause-complete
+returns-clause-complete g c = λ h v told stands word ss sb ks kb ds db.
+    let well = ends_well c.run-disk.result.end c.in-Ok.session (g.S.Source.rest c.args.source.now) (g.S.Source.rest c.run-disk.new.source) (g.K.Sink.text c.args.sink.now) (g.K.Sink.text c.run-disk.new.sink) (g.D.Disk.history c.run-disk.result.disk) (g.D.Disk.moment c.run-disk.result.disk) (g.D.Disk.faults c.run-disk.result.disk) c.run-disk.result.entries c.run-disk.ensures.ran
+    (λ r. steady (g.S.Source.faults c.args.source.now) (g.S.Source.faults c.run-disk.new.source) ss sb (c.run-disk.ensures.read r))
+    (λ w. steady (g.K.Sink.faults c.args.sink.now) (g.K.Sink.faults c.run-disk.new.sink) ks kb (c.run-disk.ensures.write w))
+    (λ d. steady (g.D.Disk.faults c.args.disk) (g.D.Disk.faults c.run-disk.result.disk) ds db
+    (fault_rose c.run-disk.result.end c.in-Ok.session (g.S.Source.rest c.args.source.now) (g.S.Source.rest c.run-disk.new.source) (g.K.Sink.text c.args.sink.now) (g.K.Sink.text c.run-disk.new.sink) (g.D.Disk.history c.run-disk.result.disk) (g.D.Disk.moment c.run-disk.result.disk) (g.D.Disk.faults c.run-disk.result.disk) (g.D.Disk.faults c.args.disk) c.run-disk.result.entries c.in-Ok.ensures.counts.1 c.run-disk.ensures.ran d)) in
+    subst (λ x. (x ≡ status.Done) ⊎ (x ≡ status.Memory)) (sym c.of_end.ensures) well
+
+pub returns-clause-legal : goal.returns-clause-legal
+returns-clause-legal g c = λ h told.
+    let begun : IsBegun c.in-Ok.session (g.D.Disk.history c.args.disk) (g.D.Disk.moment c.args.disk) (g.D.Disk.faults c.args.disk) c.head-head.result = record { state = c.in-Ok.ensures.state.0; own = c.in-Ok.ensures.state.1; entries = c.in-Ok.ensures.state.2; head_is = sym c.head-head.ensures; moment_on = c.in-Ok.ensures.counts.0; faults_on = c.in-Ok.ensures.counts.1; found = c.in-Ok.ensures.found; settled = c.in-Ok.ensures.settled; extends = c.in-Ok.ensures.extends; stops = c.in-Ok.ensures.stops } in
+    is_legal h c.run-disk.result.end c.in-Ok.session (g.S.Source.rest c.args.source.now) (g.S.Source.rest c.run-disk.new.source) (g.K.Sink.text c.args.sink.now) (g.K.Sink.text c.run-disk.new.sink) (g.D.Disk.history c.args.disk) (g.D.Disk.history c.run-disk.result.disk) (g.D.Disk.moment c.args.disk) (g.D.Disk.faults c.args.disk) c.head-head.result
+    (g.D.Disk.moment c.run-disk.result.disk) (g.D.Disk.faults c.run-disk.result.disk) c.run-disk.result.entries told begun c.run-disk.ensures.ran
+
+pub returns-clause-settled : goal.returns-clause-settled
+returns-clause-settled g c = λ h told some sound.
+    let begun : IsBegun c.in-Ok.session (g.D.Disk.history c.args.disk) (g.D.Disk.moment c.args.disk) (g.D.Disk.faults c.args.disk) c.head-head.result = record { state = c.in-Ok.ensures.state.0; own = c.in-Ok.ensures.state.1; entries = c.in-Ok.ensures.state.2; head_is = sym c.head-head.ensures; moment_on = c.in-Ok.ensures.counts.0; faults_on = c.in-Ok.ensures.counts.1; found = c.in-Ok.ensures.found; settled = c.in-Ok.ensures.settled; extends = c.in-Ok.ensures.extends; stops = c.in-Ok.ensures.stops } in
+    is_settled h c.run-disk.result.end c.in-Ok.session (g.S.Source.rest c.args.source.now) (g.S.Source.rest c.run-disk.new.source) (g.K.Sink.text c.args.sink.now) (g.K.Sink.text c.run-disk.new.sink) (g.D.Disk.history c.args.disk) (g.D.Disk.history c.run-disk.result.disk) (g.D.Disk.moment c.args.disk) (g.D.Disk.faults c.args.disk) c.head-head.result
+    (g.D.Disk.moment c.run-disk.result.disk) (g.D.Disk.faults c.run-disk.result.disk) c.run-disk.result.entries told (λ d. sound (c.of_end.ensures ∙ d)) begun c.run-disk.ensures.ran
