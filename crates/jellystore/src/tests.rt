@@ -1,10 +1,11 @@
 // Scripts over a disk in memory: what is written, what the files hold, and how the run ends.
 use crate::run_words::run_words;
 use crate::status::{Ended, Status};
-use jf_disk::{Disk, MemDisk, Side};
+use jf_disk::{Disk, FileDisk, MemDisk, Side};
 use jf_io::{MemSink, MemSource};
 use jf_path::Bytes;
 use std::alloc::Global;
+use std::fs;
 use std::sync::Wait;
 use std::test::Fail;
 use std::thread::Threads;
@@ -14,22 +15,24 @@ const EMPTY: &str = "6e340b9cffb37a989ca544e6bb780a2c78901d3fb33738768511a30617a
 const ONE: &str = "9bb72c39f13d2b512ea34eae99a28f6d807a134ab125e89172310c6f6ea72f8f";
 
 // What a run gave: the disk, the text, how it ended, the head at opening, and how many entries it made.
-struct Played {
-    disk: MemDisk,
+struct Played<D> {
+    disk: D,
     text: Vec<u8>,
     status: Status,
     start: Option<u64>,
     entries: u64,
 }
 
-// Which calls of the source and of the sink fail.
+// How many bytes the source gives a call at most, and which calls of the source and of the sink fail, from 0.
 #[derive(Clone, Copy)]
 struct Faults {
+    piece: usize,
     source: &'static [u64],
     sink: &'static [u64],
 }
 
 const NO_FAULTS: Faults = Faults {
+    piece: 100,
     source: &[],
     sink: &[],
 };
@@ -60,21 +63,21 @@ fn with_roots(alloc: Global, text: &str) -> Result<Vec<u8>, Fail> {
 }
 
 // Runs a word over a disk, with sources and sinks that take a few bytes a call.
-fn play<H: Threads + Wait + Sync>(
+fn play<D: Disk + Drop, H: Threads + Wait + Sync>(
     rt: &H,
     alloc: Global,
-    disk: MemDisk,
+    disk: D,
     word: &str,
     script: &[u8],
     faults: Faults,
-) -> Result<Played, Fail> {
+) -> Result<Played<D>, Fail> {
     let words = vec![in alloc; format!(in alloc; "{word}")?]?;
     let mut source = MemSource::new(
         Bytes::copy_of(alloc, script)?,
-        100,
+        faults.piece.max(1),
         faults.source.to_vec(alloc)?,
     );
-    let mut sink = MemSink::new(alloc, 7, 20_000, faults.sink.to_vec(alloc)?)?;
+    let mut sink = MemSink::new(alloc, 7, 200_000, faults.sink.to_vec(alloc)?)?;
     let Ended {
         status,
         disk,
@@ -245,10 +248,12 @@ fn what_stops_a_run_is_told(rt: HostRuntime) -> Result<(), Fail> {
     let script = b"put 61 =31\ncommit\n";
     let damaged: &[u8] = b"\x01\x07\0";
     let read_fault = Faults {
-        source: &[0],
+        piece: 11,
+        source: &[1],
         sink: &[],
     };
     let write_fault = Faults {
+        piece: 11,
         source: &[],
         sink: &[0],
     };
@@ -256,14 +261,21 @@ fn what_stops_a_run_is_told(rt: HostRuntime) -> Result<(), Fail> {
         side: Side::A,
         offset: 0,
     };
-    let rows: [(&[u8], &str, Faults, Status, Option<u64>); 5] = [
-        (b"", "verify", NO_FAULTS, Status::Usage, None),
-        (b"", "run ", NO_FAULTS, Status::Usage, None),
-        (b"", "run", read_fault, Status::ReadFault, Some(0)),
-        (b"", "run", write_fault, Status::WriteFault, Some(0)),
-        (damaged, "run", NO_FAULTS, at_0, None),
+    let rows: [(&[u8], &str, Faults, Status, Option<u64>, &str); 5] = [
+        (b"", "verify", NO_FAULTS, Status::Usage, None, ""),
+        (b"", "run ", NO_FAULTS, Status::Usage, None, ""),
+        (
+            b"",
+            "run",
+            read_fault,
+            Status::ReadFault,
+            Some(0),
+            "0 ok pending 1\n",
+        ),
+        (b"", "run", write_fault, Status::WriteFault, Some(0), ""),
+        (damaged, "run", NO_FAULTS, at_0, None, ""),
     ];
-    for (file, word, faults, want, opened) in rows {
+    for (file, word, faults, want, opened, told) in rows {
         let Played {
             disk,
             text,
@@ -283,9 +295,80 @@ fn what_stops_a_run_is_told(rt: HostRuntime) -> Result<(), Fail> {
             (want, opened, 0),
             "of {word} and {want:?}"
         );
-        assert_eq!(rt; text.len(), 0, "of {word} and {want:?}");
+        assert_eq!(rt; text.as_slice(), told.as_bytes(), "of {word} and {want:?}");
         assert_eq!(rt; disk.faults(), 0, "of {word} and {want:?}");
     }
+    Ok(())
+}
+
+#[test]
+fn a_full_batch_takes_no_new_name(rt: HostRuntime) -> Result<(), Fail> {
+    let alloc = rt.alloc();
+    let mut script = Vec::new(alloc);
+    let mut want = Vec::new(alloc);
+    for i in 1..=10_000 {
+        script.extend_from_slice(format!(in alloc; "put {i:08} =\n")?.as_bytes())?;
+        want.extend_from_slice(format!(in alloc; "0 ok pending {i}\n")?.as_bytes())?;
+    }
+    script.extend_from_slice(b"put 61 =\nput 00000001 =31\n")?;
+    want.extend_from_slice(b"0 no pending\n0 ok pending 10000\n")?;
+    let Played {
+        disk: _,
+        text,
+        status,
+        start: _,
+        entries: _,
+    } = play(
+        &rt,
+        alloc,
+        new_disk(alloc, b"", &[])?,
+        "run",
+        &script,
+        NO_FAULTS,
+    )?;
+    assert_eq!(rt; status, Status::Done);
+    assert_eq!(rt; text.as_slice() == want.as_slice(), true);
+    Ok(())
+}
+
+#[test]
+fn a_folder_is_opened_where_it_stood(rt: HostRuntime) -> Result<(), Fail> {
+    let alloc = rt.alloc();
+    let folder = "jellystore_folder";
+    let _ = fs::remove_dir_all(&rt, folder);
+    fs::create_dir(&rt, folder)?;
+    for (script, opened, told) in [
+        (
+            "put 61 =31\ncommit\n",
+            0,
+            "0 ok pending 1\n1 ok commit 1 R\n",
+        ),
+        ("root head\ncommit", 1, "0 ok root R\n1 ok commit 2 R\n"),
+        ("root head", 2, "0 ok root R\n"),
+    ] {
+        let Played {
+            disk: _,
+            text,
+            status,
+            start,
+            entries: _,
+        } = play(
+            &rt,
+            alloc,
+            FileDisk::at(&rt, alloc, folder)?,
+            "run",
+            script.as_bytes(),
+            NO_FAULTS,
+        )?;
+        let told = with_roots(alloc, told)?;
+        assert_eq!(rt;
+            (status, start),
+            (Status::Done, Some(opened)),
+            "of {script:?}"
+        );
+        assert_eq!(rt; text.as_slice(), told.as_slice(), "of {script:?}");
+    }
+    fs::remove_dir_all(&rt, folder)?;
     Ok(())
 }
 
