@@ -1,10 +1,14 @@
 //! The program `jellystore`: a command line over a folder's store, or over one in memory.
 #![tactic(auto)]
 
+#[cfg(test)]
+mod crash_tests;
 mod run_words;
 mod status;
 #[cfg(test)]
 mod tests;
+#[cfg(test)]
+mod trial;
 
 use jf_disk::{AnyDisk, FileDisk, FileRefused, MemDisk, Side};
 use jf_io::{StdSink, StdSource};
