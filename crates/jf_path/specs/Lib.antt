@@ -1,2 +1,4 @@
 pub mod Keys
+pub mod Nibbles
+pub mod NibbleLaws
 pub mod Checks
