@@ -69,11 +69,11 @@ written_cut passes p ws cut r = let wide = r.wide in record {
 }
 
 -- the greater of two that are at most a confirmed version is so too
-below_max : (a b m : ℕ) (h : Hold) → (m ≡ a) ⊎ (m ≡ b) → Below a h → Below b h → Below m h
+pub below_max : (a b m : ℕ) (h : Hold) → (m ≡ a) ⊎ (m ≡ b) → Below a h → Below b h → Below m h
 below_max a b m h which x y = ⊎_elim (λ (e : m ≡ a). subst (λ (z : ℕ). Below z h) (sym e) x) (λ (e : m ≡ b). subst (λ (z : ℕ). Below z h) (sym e) y) which
 
 -- the greater of two is one of them
-max_is : (a b : ℕ) → (max a b ≡ a) ⊎ (max a b ≡ b)
+pub max_is : (a b : ℕ) → (max a b ≡ a) ⊎ (max a b ≡ b)
 max_is a b = grind arith
 
 -- the pruner may set the cut to the greater of cut and low where it loaded all words

@@ -1,7 +1,8 @@
 // The five points of the rule, for proofs about boards that threads share. These functions do
 // nothing when they run.
-ghost use Rattle.std.specs.Prelude.{ℕ};
-ghost use Rattle.jf_board.specs.Rule.{BoardState, IsBoard, CutIsLow, WordsAreHolds, PrunerKnows, LoadedGatesAreLow, PairsAreAnnounced};
+ghost use Rattle.std.specs.Prelude.{ℕ, max};
+ghost use Rattle.jf_board.specs.declared.views.Hold.{Hold};
+ghost use Rattle.jf_board.specs.Rule.{Below, BoardState, IsBoard, CutIsLow, WordsAreHolds, PrunerKnows, LoadedGatesAreLow, PairsAreAnnounced};
 
 /// The cut is at most the gate, and at most each version that is confirmed.
 pub fn know_cut_is_low()
@@ -28,4 +29,10 @@ pub fn know_loaded_gates_are_low()
 /// The version of each pair that the pruner ever loaded stands in the list of the place with that number.
 pub fn know_pairs_are_announced()
     ensures { (passes : ℕ) (s : BoardState) → IsBoard passes s → PairsAreAnnounced s }
+{}
+
+/// The greater of two numbers that are at most a confirmed version is so too. So a cut that is made behind a scan is at
+/// most what the scan's own place holds.
+pub fn know_greater_is_below()
+    ensures { (a b : ℕ) (hold : Hold) → Below a hold → Below b hold → Below (max a b) hold }
 {}

@@ -18,8 +18,8 @@ mod views;
 
 pub use board::Board;
 pub use laws::{
-    know_cut_is_low, know_loaded_gates_are_low, know_pairs_are_announced, know_pruner_knows,
-    know_words_are_holds,
+    know_cut_is_low, know_greater_is_below, know_loaded_gates_are_low, know_pairs_are_announced,
+    know_pruner_knows, know_words_are_holds,
 };
 pub use memory::Memory;
 pub use pin_refused::PinRefused;

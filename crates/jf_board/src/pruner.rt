@@ -37,7 +37,7 @@ impl Model for Pruner {
 }
 
 impl Pruner {
-    /// The gate, a version. From its raise on, no version below it is confirmed.
+    /// The gate, a version. No version below it can be pinned any more.
     pub fn gate(&self) -> u64
         ensures { result ≡ self.now.known.gate }
     {
@@ -80,9 +80,9 @@ impl Pruner {
         scan
     }
 
-    #[tactic(auto, using(crate::proofs::Scanning::least_le))]
     /// Sets the cut to the greater of the old cut and the last scan's low, and answers it. A scan must have been made since the
     /// gate was raised. No version that is confirmed is below the cut.
+    #[tactic(auto, using(crate::proofs::Scanning::least_le))]
     pub fn cut(&mut self, board: &Board) -> u64
         requires own { self.old.board ≡ board.now }
         requires whole { HasScanned self.old }
