@@ -1,14 +1,15 @@
 -- What follows from the rule of a turn.
-use Rattle.std.proofs.Common.{◌≡◌, ◌≢◌, ◌⊎◌, ℕ, ◌+◌, ◌*◌, ◌≤◌, List, length, slice_index, Option, Some, refl, sym, ap, ◌∙◌, subst, inl, inr, arith}
+use Rattle.std.proofs.Common.{◌≡◌, ◌≢◌, ◌⊎◌, ℕ, ◌<◌, ◌+◌, ◌*◌, ◌≤◌, List, length, slice_index, Option, Some, refl, sym, ap, ◌∙◌, subst, inl, inr, arith}
 use mathlib.Core.Option as maybe
 use native.Mathlib.Decide.{dec_le}
 use lib.ListN.{get_elem?}
+use Rattle.atomic_table.specs.Table.{State}
 use Rattle.atomic_table.proofs.Lists.{at_longer}
 use Rattle.jf_turn.specs.declared.view.Stage.{Stage}
 use Rattle.jf_turn.specs.declared.view.Stage.TheVariants.{Spent, Idle, Opening, Holding}
 use Rattle.jf_turn.specs.declared.view.SeatView.{SeatView}
 use Rattle.jf_turn.specs.Lists.{Has, StartsWith}
-use Rattle.jf_turn.specs.Rule.{Hand, free, held_by, turn_word, IsHome, OwnAreSeen, FitsHand}
+use Rattle.jf_turn.specs.Rule.{Hand, free, held_by, turn_word, IsHome, OwnAreSeen, FitsHand, IsTurn}
 use Rattle.jf_turn.specs.Laws.{HasTurn, FreeTurnHasItsValue, OneSeatHolds, HolderKeepsTheList, SeenListsAgree, SeatsStandApart, NumbersWereGiven, OwnEntriesAreSeen}
 use Rattle.jf_turn.proofs.Words.{free_of_even, same_holder, free_not_held}
 use Rattle.jf_turn.proofs.Lists.{prefix_of}
@@ -47,6 +48,10 @@ module _ {V E O : Type 0} (list : V → List E) (names : E → ℕ) (origin_of :
   agree entries a b s t (yes le) = inl (prefix_of entries a b s t le)
   agree entries a b s t (no more) = inr (prefix_of entries b a t s (omega arith))
 
+  -- an entry of the turn's list names a number that was given
+  given_of : (seats : ℕ) (start : O) (s : State (Option V) (SeatView E O)) (r : IsTurn list names origin_of seats start s) (e : E) → Has r.account.entries e → names e < slice_index s.words 1
+  given_of seats start s r e has = let less = r.named has.0 e has.1 in let count = r.count_is in omega arith
+
   pub free_turn_has_its_value : FreeTurnHasItsValue list names origin_of
   free_turn_has_its_value seats start s r even =
       let a = r.account in let is_free = free_of_even a.hand (length a.entries) (slice_index s.words 0) r.turn_is even in
@@ -55,7 +60,12 @@ module _ {V E O : Type 0} (list : V → List E) (names : E → ℕ) (origin_of :
         home.1,
         r.turn_is ∙ (ap (λ h. turn_word h (length a.entries)) is_free ∙ ap (λ (xs : List E). 2 * length xs) (sym home.2)),
         home.3 ∙ r.from,
-        λ place v there has. let x = holder_of a.entries s.homes v a.hand v.stage (r.each place v there.0).1 has in free_not_held a.hand x.0 is_free x.1,
+        (λ place v there. let f = r.each place v there.0 in let idle : ¬ (HasTurn v.stage) = λ has. let x = holder_of a.entries s.homes v a.hand v.stage f.1 has in free_not_held a.hand x.0 is_free x.1 in (
+          idle,
+          subst (λ (xs : List E). StartsWith xs v.seen) (sym home.2) (f.0 there.1).seen,
+          subst (λ (xs : List E). OwnAreSeen list names origin_of xs v) (sym home.2) (own_of a.entries s.homes v a.hand v.stage f.1 there.1 idle),
+        )),
+        λ e has. given_of seats start s r e (subst (λ (xs : List E). Has xs e) home.2 has),
       )
 
   pub one_seat_holds : OneSeatHolds list names origin_of
@@ -68,7 +78,8 @@ module _ {V E O : Type 0} (list : V → List E) (names : E → ℕ) (origin_of :
   holder_keeps_the_list seats start s r i v l there stage =
       let a = r.account in let x = list_of a.entries l s.homes v a.hand (subst (Stand a.entries s.homes v a.hand) stage (r.each i v there.0).1) in (
         r.turn_is ∙ (ap (λ h. turn_word h (length a.entries)) x.1 ∙ ap (λ (xs : List E). 2 * length xs + 1) (sym x.2)),
-        λ j w there'. subst (λ (xs : List E). StartsWith xs w.seen) (sym x.2) ((r.each j w there'.0).0 there'.1).seen,
+        (λ j w there'. subst (λ (xs : List E). StartsWith xs w.seen) (sym x.2) ((r.each j w there'.0).0 there'.1).seen),
+        λ e has. given_of seats start s r e (subst (λ (xs : List E). Has xs e) x.2 has),
       )
 
   pub seen_lists_agree : SeenListsAgree list names origin_of

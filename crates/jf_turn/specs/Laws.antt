@@ -21,23 +21,24 @@ abbrev pub IsThere : {S E O : Type 0} → State S (SeatView E O) → ℕ → Sea
 IsThere s place v = (get_elem? s.views place ≡ some v) × (v.stage ≢ Spent)
 
 module _ {V E O : Type 0} (list : V → List E) (names : E → ℕ) (origin_of : V → O) where
-  -- a turn whose word is even has at home a value that stands for half as many entries and has the turn's origin, and no seat has it
+  -- a turn whose word is even has at home a value that stands for half as many entries and has the turn's origin; no seat has the turn, and the value's list begins with all that any seat has seen and has no entry of a seat's own behind that
   abbrev pub FreeTurnHasItsValue : Type 0
   FreeTurnHasItsValue =
       (seats : ℕ) (start : O) (s : State (Option V) (SeatView E O)) → IsTurn list names origin_of seats start s → slice_index s.words 0 % 2 ≡ 0
       → (y : V) × (get_elem? s.homes 0 ≡ some (some (Some y))) × (slice_index s.words 0 ≡ 2 * length (list y)) × (origin_of y ≡ start)
-      × ((place : ℕ) (v : SeatView E O) → IsThere s place v → ¬ (HasTurn v.stage))
+      × ((place : ℕ) (v : SeatView E O) → IsThere s place v → ¬ (HasTurn v.stage) × StartsWith (list y) v.seen × OwnAreSeen list names origin_of (list y) v)
+      × ((e : E) → Has (list y) e → names e < slice_index s.words 1)
 
   -- two seats that have the turn are one
   abbrev pub OneSeatHolds : Type 0
   OneSeatHolds = (seats : ℕ) (start : O) (s : State (Option V) (SeatView E O)) → IsTurn list names origin_of seats start s
       → (i j : ℕ) (v w : SeatView E O) → IsThere s i v → IsThere s j w → HasTurn v.stage → HasTurn w.stage → i ≡ j
 
-  -- the turn word counts the list that the holder keeps, and says that the turn is held; what any seat has seen begins that list
+  -- the turn word counts the list that the holder keeps, and says that the turn is held; that list begins with all that any seat has seen, and its entries name numbers that were given
   abbrev pub HolderKeepsTheList : Type 0
   HolderKeepsTheList = (seats : ℕ) (start : O) (s : State (Option V) (SeatView E O)) → IsTurn list names origin_of seats start s
       → (i : ℕ) (v : SeatView E O) (l : List E) → IsThere s i v → v.stage ≡ Holding l
-      → (slice_index s.words 0 ≡ 2 * length l + 1) × ((j : ℕ) (w : SeatView E O) → IsThere s j w → StartsWith l w.seen)
+      → (slice_index s.words 0 ≡ 2 * length l + 1) × ((j : ℕ) (w : SeatView E O) → IsThere s j w → StartsWith l w.seen) × ((e : E) → Has l e → names e < slice_index s.words 1)
 
   -- of the lists that two seats have seen, one begins the other
   abbrev pub SeenListsAgree : Type 0
