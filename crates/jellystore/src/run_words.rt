@@ -6,10 +6,11 @@ ghost use Rattle.jf_disk.specs.declared.side.Side.{Side};
 ghost use Rattle.jf_model.specs.Versions.{Versions};
 ghost use Rattle.jf_journal.specs.Standing.{StandsFor, IsDamagedAt};
 ghost use Rattle.jf_journal.specs.Steps.{Opens, StopsWell, IsCalm};
-ghost use Rattle.jellystore.specs.Commands.{is_run, is_closing};
+ghost use Rattle.jellystore.specs.Commands.{mode_of, is_closing};
 ghost use Rattle.jellystore.specs.Promises.{IsLegalRun, IsSettledRun, RunsFrom};
 
 use crate::status::{Ended, Status};
+use crate::words::{Mode, mode_of};
 use jf_disk::Disk;
 use jf_engine::OpenRefused;
 use jf_io::{Sink, Source};
@@ -20,7 +21,7 @@ use std::alloc::Global;
 use std::sync::Wait;
 use std::thread::Threads;
 
-/// Runs the words of a command line: `run` alone answers the script of the source into the sink, over the store of
+/// Runs the words of a command line: `run`, with `--workers N` or without, answers the script of the source into the sink, over the store of
 /// the disk.
 ///
 /// Where a store was opened, `ran` says of each script and each list of faults: the replies and the entries are those
@@ -35,13 +36,13 @@ pub fn run_words<S: Source, K: Sink, D: Disk, H: Threads + Wait + Sync>(
     sink: &mut K,
     disk: D,
 ) -> Ended<D>
-    ensures usage { (result.status ≡ Status.Usage → ⊥) ↔ IsTrue (is_run (map (λ w. string_bytes w) words.now)) }
+    ensures usage { (result.status ≡ Status.Usage → ⊥) ↔ IsSome (mode_of (map (λ w. string_bytes w) words.now)) }
     ensures untouched { result.status ≡ Status.Usage → result.disk ≡ disk }
     ensures read { result.status ≡ Status.ReadFault → (S.faults source.old < S.faults source.new) ⊎ (S.faults source.old ≡ 2 ^ 64 - 1) }
     ensures write { result.status ≡ Status.WriteFault → (K.faults sink.old < K.faults sink.new) ⊎ (K.faults sink.old ≡ 2 ^ 64 - 1) }
     ensures disk_fault { result.status ≡ Status.DiskFault → (D.faults disk < D.faults result.disk) ⊎ (D.faults disk ≡ 2 ^ 64 - 1) }
     ensures damaged { (h : History) (side : Side) (at : ℕ) → D.history disk ≡ Some h → result.status ≡ Status.Damaged side at → IsDamagedAt (reads h) side at }
-    ensures complete { (h : History) (v : Versions) → D.history disk ≡ Some h → StandsFor (reads h) v → IsTrue (is_run (map (λ w. string_bytes w) words.now))
+    ensures complete { (h : History) (v : Versions) → D.history disk ≡ Some h → StandsFor (reads h) v → IsSome (mode_of (map (λ w. string_bytes w) words.now))
         → S.faults source.new ≡ S.faults source.old → S.faults source.old < 2 ^ 64 - 1 → K.faults sink.new ≡ K.faults sink.old → K.faults sink.old < 2 ^ 64 - 1
         → D.faults result.disk ≡ D.faults disk → D.faults disk < 2 ^ 64 - 1 → (result.status ≡ Status.Done) ⊎ (result.status ≡ Status.Memory) }
     ensures closed_status { result.start ≡ None → IsTrue (is_closing result.status) }
@@ -53,14 +54,15 @@ pub fn run_words<S: Source, K: Sink, D: Disk, H: Threads + Wait + Sync>(
     ensures ran { IfSome result.start (RunsFrom (D.history disk) (D.history result.disk) (D.moment disk) (D.moment result.disk) (D.faults disk) (D.faults result.disk)
         (S.rest source.old) (S.rest source.new) (K.text sink.old) (K.text sink.new) result.status result.entries) }
 {
-    if !is_run(words) {
+    // No run works in several threads yet: the number of workers is read, and has no effect.
+    let Some(Mode::Run { workers: _ }) = mode_of(words) else {
         return Ended {
             status: Status::Usage,
             disk,
             entries: Ledger::new(alloc),
             start: None,
         };
-    }
+    };
     damage_is_no_versions();
     let session = match Session::<D>::over(rt, alloc, disk) {
         Ok(session) => session,
@@ -80,15 +82,5 @@ pub fn run_words<S: Source, K: Sink, D: Disk, H: Threads + Wait + Sync>(
         disk,
         entries,
         start: Some(head),
-    }
-}
-
-// Whether the words are `run` alone.
-fn is_run(words: &[String]) -> bool
-    ensures { IsTrue result ↔ IsTrue (is_run (map (λ w. string_bytes w) words.now)) }
-{
-    match words {
-        [word] => word.as_str() == "run",
-        _ => false,
     }
 }

@@ -7,3 +7,4 @@ pub mod Images
 pub mod Advancing
 pub mod Input
 pub mod Sofar
+pub mod HeldLines
