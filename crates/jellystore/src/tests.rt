@@ -10,9 +10,17 @@ use std::sync::Wait;
 use std::test::Fail;
 use std::thread::Threads;
 
+mod bounds;
+mod reads;
+mod refusals;
+
 const EMPTY: &str = "6e340b9cffb37a989ca544e6bb780a2c78901d3fb33738768511a30617afa01d";
 
 const ONE: &str = "9bb72c39f13d2b512ea34eae99a28f6d807a134ab125e89172310c6f6ea72f8f";
+
+const BLANK: &str = "fd2307270c401be83da0714a181eca80af07f330a43f98b4cb378a5abd422684";
+
+const PAIR: &str = "3e92b77a6f4a7dcc426f134b3415f3af7eb39e5c8ac7599c94f5a3c83fe07425";
 
 // What a run gave: the disk, the text, how it ended, the head at opening, and how many entries it made.
 struct Played<D> {
@@ -49,13 +57,16 @@ fn new_disk(alloc: Global, a: &[u8], failing: &[u64]) -> Result<MemDisk, Fail> {
     )?)
 }
 
-// A text with the root of the empty map for E, and that of the map of `put 61 =31` for R.
+// A text with the root of the empty map for E, of `put 61 =31` for R, of `put 61 =` for B, and of `put 61 =31` with
+// `put 62 =32` for P.
 fn with_roots(alloc: Global, text: &str) -> Result<Vec<u8>, Fail> {
     let mut whole = Vec::new(alloc);
     for byte in text.bytes() {
         match byte {
             b'E' => whole.extend_from_slice(EMPTY.as_bytes())?,
             b'R' => whole.extend_from_slice(ONE.as_bytes())?,
+            b'B' => whole.extend_from_slice(BLANK.as_bytes())?,
+            b'P' => whole.extend_from_slice(PAIR.as_bytes())?,
             byte => whole.push(byte)?,
         }
     }
@@ -111,13 +122,6 @@ fn lines_are_answered(rt: HostRuntime) -> Result<(), Fail> {
         ("commit\ncommit", "1 ok commit 1 E\n2 ok commit 2 E\n"),
         ("\n", "0 no syntax\n"),
         ("\nroot head\n\n", "0 no syntax\n0 ok root E\n0 no syntax\n"),
-        ("put  61 =31\n", "0 no syntax\n"),
-        ("put 61 =31 \n", "0 no syntax\n"),
-        ("put 6 =31", "0 no syntax\n"),
-        ("put 61 =3A", "0 no syntax\n"),
-        ("PUT 61 =31", "0 no syntax\n"),
-        ("session", "0 no syntax\n"),
-        ("get head 61", "0 no syntax\n"),
     ];
     for (script, want) in rows {
         let played = play(
@@ -138,56 +142,6 @@ fn lines_are_answered(rt: HostRuntime) -> Result<(), Fail> {
         let want = with_roots(alloc, want)?;
         assert_eq!(rt; text.as_slice(), want.as_slice(), "of {script:?}");
         assert_eq!(rt; (status, start), (Status::Done, Some(0)), "of {script:?}");
-    }
-    Ok(())
-}
-
-// `put` of a name and a value of so many bytes.
-fn put_line(alloc: Global, name: usize, value: usize) -> Result<Vec<u8>, Fail> {
-    let mut line = b"put ".to_vec(alloc)?;
-    for _ in 0..name {
-        line.extend_from_slice(b"61")?;
-    }
-    line.extend_from_slice(b" =")?;
-    for _ in 0..value {
-        line.extend_from_slice(b"31")?;
-    }
-    Ok(line)
-}
-
-#[test]
-fn names_and_values_have_their_longest(rt: HostRuntime) -> Result<(), Fail> {
-    let alloc = rt.alloc();
-    let rows = [
-        (1, 4096, "0 ok pending 1\n"),
-        (1, 4097, "0 no syntax\n"),
-        (128, 4096, "0 ok pending 1\n"),
-        (129, 0, "0 no syntax\n"),
-        (0, 1, "0 no syntax\n"),
-        (1, 4247, "0 no syntax\n"),
-    ];
-    for (name, value, want) in rows {
-        let line = put_line(alloc, name, value)?;
-        let Played {
-            disk: _,
-            text,
-            status,
-            start: _,
-            entries,
-        } = play(
-            &rt,
-            alloc,
-            new_disk(alloc, b"", &[])?,
-            "run",
-            &line,
-            NO_FAULTS,
-        )?;
-        assert_eq!(rt; text.as_slice(), want.as_bytes(), "of {name} and {value}");
-        assert_eq!(rt;
-            (status, entries),
-            (Status::Done, 0),
-            "of {name} and {value}"
-        );
     }
     Ok(())
 }
@@ -298,36 +252,6 @@ fn what_stops_a_run_is_told(rt: HostRuntime) -> Result<(), Fail> {
         assert_eq!(rt; text.as_slice(), told.as_bytes(), "of {word} and {want:?}");
         assert_eq!(rt; disk.faults(), 0, "of {word} and {want:?}");
     }
-    Ok(())
-}
-
-#[test]
-fn a_full_batch_takes_no_new_name(rt: HostRuntime) -> Result<(), Fail> {
-    let alloc = rt.alloc();
-    let mut script = Vec::new(alloc);
-    let mut want = Vec::new(alloc);
-    for i in 1..=10_000 {
-        script.extend_from_slice(format!(in alloc; "put {i:08} =\n")?.as_bytes())?;
-        want.extend_from_slice(format!(in alloc; "0 ok pending {i}\n")?.as_bytes())?;
-    }
-    script.extend_from_slice(b"put 61 =\nput 00000001 =31\n")?;
-    want.extend_from_slice(b"0 no pending\n0 ok pending 10000\n")?;
-    let Played {
-        disk: _,
-        text,
-        status,
-        start: _,
-        entries: _,
-    } = play(
-        &rt,
-        alloc,
-        new_disk(alloc, b"", &[])?,
-        "run",
-        &script,
-        NO_FAULTS,
-    )?;
-    assert_eq!(rt; status, Status::Done);
-    assert_eq!(rt; text.as_slice() == want.as_slice(), true);
     Ok(())
 }
 

@@ -1,12 +1,13 @@
 // A store on a disk.
 ghost use Rattle.std.specs.Prelude.{◌≡◌, ◌≢◌, ◌⊎◌, ◌↔◌, ℕ, ◌+◌, ◌-◌, ◌<◌, ◌≤◌, ◌^◌, List, [], ◌∷◌, ◌++◌, length, Some, None, Err, IfOk, IfErr, OnOk, OnErr, IsErr, true, false, if◌then◌else◌, ◌&&◌, nat_le};
-ghost use Rattle.std.specs.Option.{SomeIff};
+ghost use Rattle.std.specs.Option.{SomeIff, option_copied};
+ghost use Rattle.std.specs.FinMap as fin;
 ghost use Rattle.jf_disk.specs.Disk.{History, reads};
 ghost use Rattle.jf_disk.specs.Moments.{Extends};
 ghost use Rattle.jf_disk.specs.declared.side.Side.{Side};
 ghost use Rattle.jf_hash.specs.Maps.{Map};
 ghost use Rattle.jf_hash.specs.Roots.{root};
-ghost use Rattle.jf_model.specs.Versions.{Versions, IsVersions, newest, root_of, landed};
+ghost use Rattle.jf_model.specs.Versions.{Versions, IsVersions, newest, map_of, root_of, landed};
 ghost use Rattle.jf_journal.specs.Standing.{StandsFor, IsDamagedAt, generation};
 ghost use Rattle.jf_journal.specs.Steps.{Opens, Lands, StopsWell, Succeeds, IsCalm};
 ghost use Rattle.jf_engine.specs.Engines.{IsSettledOn};
@@ -18,6 +19,7 @@ use crate::replay::LAST_VERSION;
 use jf_disk::{Disk, know_counts, know_dated};
 use jf_frame::{DiskFault, Log};
 use jf_hash::Hash;
+use jf_path::Key;
 use jf_plain::PlainVersions;
 use jf_split::Batch;
 use std::alloc::Global;
@@ -144,6 +146,13 @@ impl<D: Disk> Engine<D> {
         self.versions.head()
     }
 
+    /// The oldest version whose map is kept.
+    pub fn floor(&self) -> u64
+        ensures { result ≡ self.now.versions.floor }
+    {
+        self.versions.floor()
+    }
+
     /// The root of the head, which is kept and not computed.
     pub fn root(&self) -> Hash
         ensures { result ≡ root (newest self.now.versions) }
@@ -157,6 +166,15 @@ impl<D: Disk> Engine<D> {
     {
         self.versions.know_sound();
         self.versions.root_of(version)
+    }
+
+    /// The value of a key in a version from floor to head, or `None` where that version does not have the key.
+    pub fn get(&self, version: u64, key: &Key) -> Option<&[u8]>
+        requires floor { self.now.versions.floor ≤ version }
+        requires head { version ≤ self.now.versions.head }
+        ensures { option_copied result ≡ fin.get (map_of self.now.versions version) key.now }
+    {
+        self.versions.map_of(version)?.get(key)
     }
 
     /// Whether an earlier call on this store answered `DiskFault`.
