@@ -22,12 +22,7 @@ pub fn nibble(key: &Key, i: usize) -> Nibble
     requires { i < 64 }
     ensures { result ≡ nibble key.now i }
 {
-    let byte = key[i / 2];
-    if i % 2 == 0 {
-        Nibble::high(byte)
-    } else {
-        Nibble::low(byte)
-    }
+    Nibble::half(key, i)
 }
 
 /// The number of leading bits in which two keys agree, 256 where they are one key.

@@ -1,5 +1,5 @@
 // Four bits of a key.
-ghost use Rattle.std.specs.Prelude.{◌≡◌, ◌/◌, ◌%◌, ◌<◌, ◌↔◌, IfSome, IsSome};
+ghost use Rattle.std.specs.Prelude.{◌≡◌, ◌/◌, ◌%◌, ◌<◌, ◌↔◌, length, slice_index, IfSome, IsSome};
 
 use std::marker::Model;
 
@@ -42,17 +42,22 @@ impl Nibble {
         self.number
     }
 
-    /// The high half of a byte.
-    pub(crate) fn high(byte: u8) -> Nibble
-        ensures { result ≡ byte / 16 }
+    /// The nibble of a number below 16.
+    pub(crate) fn of(number: u8) -> Nibble
+        requires { number < 16 }
+        ensures { result ≡ number }
     {
-        Nibble { number: byte >> 4 }
+        Nibble { number }
     }
 
-    /// The low half of a byte.
-    pub(crate) fn low(byte: u8) -> Nibble
-        ensures { result ≡ byte % 16 }
+    /// Half `i` of these bytes, from the high half of the first.
+    pub(crate) fn half(bytes: &[u8], i: usize) -> Nibble
+        requires { i / 2 < length bytes.now }
+        ensures even { i % 2 ≡ 0 → result ≡ slice_index bytes.now (i / 2) / 16 }
+        ensures odd { i % 2 ≡ 1 → result ≡ slice_index bytes.now (i / 2) % 16 }
     {
-        Nibble { number: byte & 15 }
+        let byte = bytes[i / 2];
+        let number = if i % 2 == 0 { byte >> 4 } else { byte & 15 };
+        Nibble { number }
     }
 }
