@@ -6,15 +6,18 @@ ghost use Rattle.jf_disk.specs.declared.side.Side.{Side};
 ghost use Rattle.jf_model.specs.Versions.{Versions};
 ghost use Rattle.jf_journal.specs.Standing.{StandsFor, IsDamagedAt};
 ghost use Rattle.jf_journal.specs.Steps.{Opens, StopsWell, IsCalm};
+ghost use Rattle.jf_model.specs.Entries.{moments_of};
+ghost use Rattle.jf_session.specs.Runs.{AreWithin};
+ghost use Rattle.jellystore.specs.Stops.{IsSafeSince};
 ghost use Rattle.jellystore.specs.Commands.{mode_of, is_closing};
 ghost use Rattle.jellystore.specs.Promises.{IsLegalRun, IsSettledRun, RunsFrom};
 
 use crate::status::{Ended, Status};
 use crate::words::{Mode, mode_of};
-use jf_disk::Disk;
+use jf_disk::{Disk, know_dated};
 use jf_engine::OpenRefused;
 use jf_io::{Sink, Source};
-use jf_journal::damage_is_no_versions;
+use jf_journal::{damage_is_no_versions, files_stand_for_one};
 use jf_model::Ledger;
 use jf_session::{Session, SoloRan, run};
 use std::alloc::Global;
@@ -51,9 +54,14 @@ pub fn run_words<S: Source, K: Sink, D: Disk, H: Threads + Wait + Sync>(
         → (g : History) × (D.history result.disk ≡ Some g) × StopsWell Opens h g v }
     ensures legal { (h : History) → D.history disk ≡ Some h → IfSome result.start (IsLegalRun h result.entries) }
     ensures settled { (h : History) → D.history disk ≡ Some h → IsSome result.start → (result.status ≡ Status.DiskFault → ⊥) → IsSettledRun h (D.history result.disk) result.entries }
+    ensures extends { (h : History) → D.history disk ≡ Some h → (g : History) × (D.history result.disk ≡ Some g) × Extends h g }
+    ensures counts { (D.moment disk ≤ D.moment result.disk) × (D.faults disk ≤ D.faults result.disk) }
+    ensures dated { AreWithin (D.moment disk) (D.moment result.disk) (moments_of result.entries) }
+    ensures stops { (h : History) (v : Versions) → D.history disk ≡ Some h → IsCalm h → StandsFor (reads h) v → IsSafeSince (D.moment disk) (D.history result.disk) v result.entries result.status (D.faults disk) (D.faults result.disk) }
     ensures ran { IfSome result.start (RunsFrom (D.history disk) (D.history result.disk) (D.moment disk) (D.moment result.disk) (D.faults disk) (D.faults result.disk)
         (S.rest source.old) (S.rest source.new) (K.text sink.old) (K.text sink.new) result.status result.entries) }
 {
+    know_dated(&disk);
     // No run works in several threads yet: the number of workers is read, and has no effect.
     let Some(Mode::Run { workers: _ }) = mode_of(words) else {
         return Ended {
@@ -64,6 +72,7 @@ pub fn run_words<S: Source, K: Sink, D: Disk, H: Threads + Wait + Sync>(
         };
     };
     damage_is_no_versions();
+    files_stand_for_one();
     let session = match Session::<D>::over(rt, alloc, disk) {
         Ok(session) => session,
         Err(OpenRefused { disk, why }) => {
@@ -75,6 +84,7 @@ pub fn run_words<S: Source, K: Sink, D: Disk, H: Threads + Wait + Sync>(
             };
         }
     };
+    session.know_dated();
     let head = session.head();
     let SoloRan { disk, entries, end } = run(rt, alloc, session, source, sink);
     Ended {
