@@ -55,7 +55,7 @@ impl Place {
     }
 
     /// Pins a version at the least free place, and answers which. The version is announced, and then confirmed where the
-    /// gate, loaded after that, isn't above it. A confirmed version is above no cut until it is unpinned.
+    /// gate, loaded after that, isn't above it. No cut is above a confirmed version until it is unpinned.
     pub fn pin(&mut self, board: &Board, version: u64) -> Result<u64, PinRefused>
         requires own { self.old.board ≡ board.now }
         requires version { version < 2 ^ 64 - 1 }
