@@ -335,7 +335,7 @@ mod tests {
             (LIMIT + 1, 1),
             (LIMIT + 1, 7),
             (LIMIT + 1, 4_096),
-            (20_000, 1),
+            (9_000, 1),
             (200_000, 7),
             (200_000, 4_096),
             (200_000, usize::MAX),
@@ -348,7 +348,7 @@ mod tests {
             assert_eq!(rt; reader.fetch(&mut source), Ok(true));
             let front = reader.line();
             assert!(rt; front.len() > LIMIT && front.len() <= len);
-            assert_eq!(rt; front, &line[..front.len()]);
+            assert!(rt; line.as_slice().starts_with(front));
             assert!(rt; reader.bytes.len() <= LIMIT + 1 + PIECE);
             for next in [b"behind".as_slice(), b"", b"last"] {
                 reader.advance();
