@@ -1,7 +1,7 @@
 -- Texts whose first line is held shortened: what is known of the one from the other.
 use Rattle.std.proofs.Common.{◌≡◌, ◌⊎◌, inl, inr, ℕ, zero, suc, ◌+◌, ◌-◌, ◌<◌, ◌≤◌, Bool, true, false, cond, not, List, [], ◌∷◌, ◌++◌, length, take, drop, Option, Some, refl, sym, ◌∙◌, ap, subst, arith, append_assoc, append-nil, length-append, length-take, length-drop}
 use Rattle.std.specs.List.{position_or_len, before_first, after_first}
-use Rattle.std.proofs.lemmas.List.{take-append-drop, take-append-le, drop-take}
+use Rattle.std.proofs.lemmas.List.{take-append-drop, take-append-le, take-take, drop-take}
 use Rattle.std.proofs.lemmas.List.Sums.{prefix_len-le-length}
 use Rattle.jf_io.specs.LineReader.{is_line_feed, IsSearched, Held, IsShortened, IsFetched}
 
@@ -113,6 +113,27 @@ module _ (limit : ℕ) (text held : List ℕ) (s : IsShortened limit text held) 
             omega (arith, length-take (position_or_len is_line_feed held) held, held_place, held_length),
           )
 
+  -- a long front of both is the same
+  fronts : take (limit + 1) held ≡ take (limit + 1) text
+  fronts = by_gone s.gone refl
+    where
+      by_gone : (g : List ℕ) → s.gone ≡ g → take (limit + 1) held ≡ take (limit + 1) text
+      by_gone [] e = ap (take (limit + 1)) (s.held_is ∙ sym (s.text_is ∙ ap (λ g. s.front ++ g ++ s.behind) e ∙ ap (λ f. f ++ s.behind) (append-nil s.front)))
+      by_gone (b ∷ g) e =
+          let long : limit < length s.front = s.is_long (omega (arith, ap length e)) in
+          ap (take (limit + 1)) s.held_is ∙ take-append-le (limit + 1) s.front s.behind (omega arith)
+          ∙ sym (ap (take (limit + 1)) (s.text_is ∙ append_assoc s.front s.gone s.behind) ∙ take-append-le (limit + 1) s.front (s.gone ++ s.behind) (omega arith))
+
+  -- so the first bytes of both, one more than the limit, are the same
+  pub line_front-text : take (limit + 1) (before_first is_line_feed held) ≡ take (limit + 1) (before_first is_line_feed text)
+  line_front-text = elim first_line-text [ inl same ↦ ap (take (limit + 1)) (sym same) | inr long ↦ both_long long.0 long.1 ]
+    where
+      both_long : limit < length (before_first is_line_feed text) → limit < length (before_first is_line_feed held)
+          → take (limit + 1) (before_first is_line_feed held) ≡ take (limit + 1) (before_first is_line_feed text)
+      both_long far near =
+          take-take (limit + 1) (position_or_len is_line_feed held) held (omega (arith, length-take (position_or_len is_line_feed held) held)) ∙ fronts
+          ∙ sym (take-take (limit + 1) (position_or_len is_line_feed text) text (omega (arith, length-take (position_or_len is_line_feed text) text)))
+
   -- something is held of what is something
   pub some-text : 0 < length held → 0 < length text
   some-text h = omega (arith, text_length, held_length, both_length)
@@ -127,17 +148,6 @@ module _ (limit : ℕ) (text held : List ℕ) (s : IsShortened limit text held) 
       nothing : (xs : List ℕ) → length xs ≡ 0 → xs ≡ []
       nothing [] e = refl
       nothing (x ∷ xs) e = absurd (omega arith)
-
-  -- a long front of both is the same
-  fronts : take (limit + 1) held ≡ take (limit + 1) text
-  fronts = by_gone s.gone refl
-    where
-      by_gone : (g : List ℕ) → s.gone ≡ g → take (limit + 1) held ≡ take (limit + 1) text
-      by_gone [] e = ap (take (limit + 1)) (s.held_is ∙ sym (s.text_is ∙ ap (λ g. s.front ++ g ++ s.behind) e ∙ ap (λ f. f ++ s.behind) (append-nil s.front)))
-      by_gone (b ∷ g) e =
-          let long : limit < length s.front = s.is_long (omega (arith, ap length e)) in
-          ap (take (limit + 1)) s.held_is ∙ take-append-le (limit + 1) s.front s.behind (omega arith)
-          ∙ sym (ap (take (limit + 1)) (s.text_is ∙ append_assoc s.front s.gone s.behind) ∙ take-append-le (limit + 1) s.front (s.gone ++ s.behind) (omega arith))
 
   -- an unfinished line is shortened, and more is taken behind it
   pub is_shortened-taken : position_or_len is_line_feed held ≡ length held → (taken : List ℕ) → IsShortened limit (text ++ taken) (take (limit + 1) held ++ taken)

@@ -86,19 +86,25 @@ impl LineReader {
         }
     }
 
-    /// The line at the front, without its line feed: all that is held where it has none.
+    /// The line at the front, without its line feed: all that is held where it has none. Of a line longer than the limit
+    /// these are the first bytes, one more than the limit.
     pub fn line(&self) -> &[u8]
-        ensures { result.now ≡ before_first is_line_feed self.now.bytes }
+        ensures { result.now ≡ take (self.now.limit + 1) (before_first is_line_feed self.now.bytes) }
     {
         let end = line_end(&self.bytes, self.start, self.searched);
-        &self.bytes[self.start..end]
+        let line = &self.bytes[self.start..end];
+        if line.len() > self.limit {
+            &line[..self.limit + 1]
+        } else {
+            line
+        }
     }
 
     /// Whether no line feed is held: the line at the front is then the last one of an input that is at its end.
     pub fn is_last(&self) -> bool
         ensures { IsTrue result ↔ (position_or_len is_line_feed self.now.bytes ≡ length self.now.bytes) }
     {
-        self.line().len() == self.len()
+        line_end(&self.bytes, self.start, self.searched) == self.bytes.len()
     }
 
     /// Lets the line at the front go, with its line feed.
@@ -335,7 +341,7 @@ mod tests {
             (LIMIT + 1, 1),
             (LIMIT + 1, 7),
             (LIMIT + 1, 4_096),
-            (20_000, 1),
+            (9_000, 1),
             (200_000, 7),
             (200_000, 4_096),
             (200_000, usize::MAX),
@@ -346,9 +352,7 @@ mod tests {
             let mut source = source_of(rt.alloc(), &text, piece, u64::MAX)?;
             let mut reader = LineReader::new(rt.alloc(), LIMIT);
             assert_eq!(rt; reader.fetch(&mut source), Ok(true));
-            let front = reader.line();
-            assert!(rt; front.len() > LIMIT && front.len() <= len);
-            assert_eq!(rt; front, &line[..front.len()]);
+            assert_eq!(rt; Some(reader.line()), line.get(..LIMIT + 1));
             assert!(rt; reader.bytes.len() <= LIMIT + 1 + PIECE);
             for next in [b"behind".as_slice(), b"", b"last"] {
                 reader.advance();
@@ -377,7 +381,7 @@ mod tests {
             assert_eq!(rt; reader.line(), b"first".as_slice());
             reader.advance();
             assert_eq!(rt; reader.fetch(&mut source), Ok(true));
-            assert!(rt; reader.line().len() > LIMIT);
+            assert_eq!(rt; reader.line().len(), LIMIT + 1);
             assert!(rt; reader.is_last());
             assert!(rt; reader.bytes.len() <= LIMIT + 1 + PIECE);
             reader.advance();
@@ -395,7 +399,7 @@ mod tests {
         assert_eq!(rt; reader.fetch(&mut source), Err(FetchFault::ReadFault));
         assert!(rt; reader.is_last());
         assert_eq!(rt; reader.fetch(&mut source), Ok(true));
-        assert!(rt; reader.line().len() > LIMIT);
+        assert_eq!(rt; reader.line().len(), LIMIT + 1);
         reader.advance();
         assert_eq!(rt; reader.fetch(&mut source), Ok(true));
         assert_eq!(rt; reader.line(), b"behind".as_slice());

@@ -1,10 +1,11 @@
 -- A run so far, where what is held of a line may be shortened: the lines done are those of the input.
-use Rattle.std.proofs.Common.{◌≡◌, ◌⊎◌, inl, inr, ℕ, ◌<◌, Option, Some, option_map, List, [], ◌++◌, length, sym, ap, ◌∙◌, subst, refl, true}
+use Rattle.std.proofs.Common.{◌≡◌, ◌⊎◌, inl, inr, ℕ, ◌<◌, Option, Some, option_map, List, [], ◌++◌, length, sym, ap, ◌∙◌, subst, refl, true, ◌+◌, take, arith, length-take}
 use Rattle.std.specs.List.{position_or_len, before_first, after_first}
-use Rattle.std.proofs.lemmas.Bool.{lt-ltb}
+use Rattle.std.proofs.lemmas.Bool.{lt-ltb, cases_lt}
+use Rattle.std.proofs.lemmas.List.{take_all}
 use Rattle.jf_io.specs.LineReader.{is_line_feed, Held, IsShortened, IsFetched}
 use Rattle.jf_io.specs.Sink.{IsCutShort}
-use Rattle.jf_io.proofs.Shortened.{is_shortened-whole, first_line-text, unfinished-text, finished-text, after_first-text, some-text, none-text}
+use Rattle.jf_io.proofs.Shortened.{is_shortened-whole, line_front-text, unfinished-text, finished-text, after_first-text, some-text, none-text}
 use Rattle.jf_model.specs.States.{State}
 use Rattle.jf_answers.specs.Own.{Own}
 use Rattle.jf_answers.specs.Answers.{Answer, answer}
@@ -35,15 +36,17 @@ long_alike : (s : State) (own : Own) (line other : List ℕ) → is_long line �
 unfolding answer
 long_alike s own line other long long' = rw (long, long') refl
 
--- so a line of which a long front is held is answered as the whole of it is
-pub same_answer : (s : State) (own : Own) (whole held : List ℕ) → IsShortened 8500 whole held → answer s own (before_first is_line_feed held) ≡ answer s own (before_first is_line_feed whole)
-same_answer s own whole held short =
-    let front = before_first is_line_feed held in
-    let line = before_first is_line_feed whole in
-    elim (first_line-text 8500 whole held short) [
-      | inl same ↦ ap (answer s own) (sym same)
-      | inr long ↦ long_alike s own front line (lt-ltb 8500 (length front) long.1) (lt-ltb 8500 (length line) long.0)
+-- so the first bytes of a line, one more than the limit, are answered as the whole of it is
+cut_answer : (s : State) (own : Own) (line : List ℕ) → answer s own (take (8500 + 1) line) ≡ answer s own line
+cut_answer s own line =
+    let cut = take (8500 + 1) line in
+    elim (cases_lt 8500 (length line)) [
+      | inl long ↦ long_alike s own cut line (lt-ltb 8500 (length cut) (omega (arith, length-take (8500 + 1) line))) (lt-ltb 8500 (length line) long)
+      | inr short ↦ ap (answer s own) (take_all (8500 + 1) line (omega arith))
     ]
+
+pub same_answer : (s : State) (own : Own) (whole held : List ℕ) → IsShortened 8500 whole held → answer s own (take (8500 + 1) (before_first is_line_feed held)) ≡ answer s own (before_first is_line_feed whole)
+same_answer s own whole held short = ap (answer s own) (line_front-text 8500 whole held short) ∙ cut_answer s own (before_first is_line_feed whole)
 
 -- where the line at the front stands
 abbrev pub IsFound : List ℕ → Option (List ℕ) → Type 0
@@ -67,7 +70,7 @@ module _ (old s : Session) (rest rest' text text' : Option (List ℕ)) (held : L
 
   -- ---- at a line
 
-  module _ (line : List ℕ) (front : line ≡ before_first is_line_feed held) (s' : Session) (text'' : Option (List ℕ)) (dated : IsDatedBy s × IsDatedBy s') where
+  module _ (line : List ℕ) (front : line ≡ take (8500 + 1) (before_first is_line_feed held)) (s' : Session) (text'' : Option (List ℕ)) (dated : IsDatedBy s × IsDatedBy s') where
     abbrev real : List ℕ
     real = before_first is_line_feed f.whole
 
