@@ -57,7 +57,7 @@ history_stays end.Broken mid new next ends d = absurd ends
 history_stays end.Memory mid new next ends d = ends.history
 
 -- the entries of a run from a store that was just opened are those that its lines added
-added_are : (e : End) (s : Session) (rest rest' text text' : Option (List ℕ)) (history : Option History) (moment faults : ℕ) (es : List Entry) → s.entries ≡ []
+pub added_are : (e : End) (s : Session) (rest rest' text text' : Option (List ℕ)) (history : Option History) (moment faults : ℕ) (es : List Entry) → s.entries ≡ []
     → (run : HasRun e s rest rest' text text' history moment faults es) → es ≡ run.ran.advances.added
 added_are e s rest rest' text text' history moment faults es none run =
     run.ends.entries_are ∙ entries_stay e run.ran.mid run.last run.ran.next run.ran.ends ∙ run.ran.advances.entries ∙ ap (λ xs. xs ++ run.ran.advances.added) none

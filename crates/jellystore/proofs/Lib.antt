@@ -1,2 +1,6 @@
 pub mod Statuses
 pub mod Complete
+pub mod Counting
+pub mod Attempts
+pub mod Stopping
+pub mod Safe

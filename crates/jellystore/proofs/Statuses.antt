@@ -34,7 +34,7 @@ no_damage end.Broken side at e = absurd (cc)
 no_damage end.Memory side at e = absurd (cc)
 
 -- a count that rose later, or stood at its end
-rose_later : (a b c : ℕ) → a ≤ b → b ≤ c → Rose b c → Rose a c
+pub rose_later : (a b c : ℕ) → a ≤ b → b ≤ c → Rose b c → Rose a c
 rose_later a b c le le' (inl lt) = inl (omega arith)
 rose_later a b c le le' (inr last) = elim (eq-or-lt_of_le le) [ inl same ↦ inr (same ∙ last) | inr lt ↦ inl (omega arith) ]
 

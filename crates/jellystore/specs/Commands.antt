@@ -1,16 +1,48 @@
 -- The words that the program takes, and the statuses with which it ends.
-use Rattle.std.specs.Prelude.{ℕ, Bool, true, false, List, [], ◌∷◌, codes, bytes_eq}
+use Rattle.std.specs.Prelude.{ℕ, Bool, true, false, if◌then◌else◌, nat_eq, List, [], ◌∷◌, drop, Option, Some, None, option_map, codes, bytes_eq}
+use Rattle.std.specs.List.{starts_with}
+use Rattle.jf_script.specs.Words.{number_from}
 use Rattle.jf_engine.specs.declared.fault.OpenFault.{OpenFault}
 use Rattle.jf_engine.specs.declared.fault.OpenFault.TheVariants as open_fault
 use Rattle.jf_session.specs.declared.running.End.{End}
 use Rattle.jf_session.specs.declared.running.End.TheVariants as end
 use Rattle.jellystore.specs.declared.status.Status.{Status}
 use Rattle.jellystore.specs.declared.status.Status.TheVariants as status
+use Rattle.jellystore.specs.declared.words.Mode.{Mode}
+use Rattle.jellystore.specs.declared.words.Mode.TheVariants as mode
 
--- the words are `run` alone
-abbrev pub is_run : List (List ℕ) → Bool
-is_run (w ∷ []) = bytes_eq w (codes "run")
-is_run ws = false
+-- ---- command words
+
+-- a number of workers, from 1 to 64
+abbrev pub workers : List ℕ → Option ℕ
+workers w = number_from 1 64 w
+
+-- the number of workers of the option as one word, `--workers=N`
+abbrev pub attached_workers : List ℕ → Option ℕ
+attached_workers w = if starts_with nat_eq w (codes "--workers=") then workers (drop 10 w) else None
+
+-- what may stand behind the option: nothing, or a word `--` with nothing behind it
+abbrev pub is_over : List (List ℕ) → Bool
+is_over [] = true
+is_over (w ∷ []) = bytes_eq w (codes "--")
+is_over (w ∷ v ∷ ws) = false
+
+abbrev pub where_over : List (List ℕ) → Option ℕ → Option ℕ
+where_over ws n = if is_over ws then n else None
+
+-- the number of workers of the words behind a mode without positional words: `--workers N`, `--workers=N` or neither, which
+-- is 4; and then nothing or `--`
+abbrev pub option_workers : List (List ℕ) → Option ℕ
+option_workers [] = Some 4
+option_workers (w ∷ []) = if bytes_eq w (codes "--") then Some 4 else attached_workers w
+option_workers (w ∷ v ∷ ws) = if bytes_eq w (codes "--workers") then where_over ws (workers v) else where_over (v ∷ ws) (attached_workers w)
+
+-- the first word is the mode
+abbrev pub mode_of : List (List ℕ) → Option Mode
+mode_of [] = None
+mode_of (w ∷ ws) = if bytes_eq w (codes "run") then option_map (λ n. mode.Run n) (option_workers ws) else None
+
+-- ---- statuses
 
 -- the status behind a script's run; no run begins on a store whose disk failed before
 abbrev pub status_of : End → Status

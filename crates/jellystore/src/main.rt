@@ -1,20 +1,18 @@
 //! The program `jellystore`: a command line over a folder's store, or over one in memory.
 #![tactic(auto)]
 
-#[cfg(test)]
-mod crash_tests;
 mod run_words;
 mod status;
 #[cfg(test)]
 mod tests;
-#[cfg(test)]
-mod trial;
+mod words;
 
 use jf_disk::{AnyDisk, FileDisk, FileRefused, MemDisk, Side};
 use jf_io::{StdSink, StdSource};
 use run_words::run_words;
 use status::{Ended, Status};
 use std::fs::File;
+use std::io::ErrorKind;
 use std::process::ExitCode;
 use std::rt::{Files, Runtime};
 use std::sync::Wait;
@@ -38,7 +36,9 @@ fn status_of_args<R: Runtime + Files<File = File> + AllocGlobal + Threads + Wait
 ) -> Status {
     let mut args = match env::args(rt) {
         Ok(args) => args,
-        Err(_) => return Status::Memory,
+        Err(error) if error.kind() == ErrorKind::OutOfMemory => return Status::Memory,
+        // A word is not UTF-8.
+        Err(_) => return Status::Usage,
     };
     // The program's own name.
     let _ = args.next();

@@ -6,21 +6,25 @@ ghost use Rattle.jf_disk.specs.declared.side.Side.{Side};
 ghost use Rattle.jf_model.specs.Versions.{Versions};
 ghost use Rattle.jf_journal.specs.Standing.{StandsFor, IsDamagedAt};
 ghost use Rattle.jf_journal.specs.Steps.{Opens, StopsWell, IsCalm};
-ghost use Rattle.jellystore.specs.Commands.{is_run, is_closing};
+ghost use Rattle.jf_model.specs.Entries.{moments_of};
+ghost use Rattle.jf_session.specs.Runs.{AreWithin};
+ghost use Rattle.jellystore.specs.Stops.{IsSafeSince};
+ghost use Rattle.jellystore.specs.Commands.{mode_of, is_closing};
 ghost use Rattle.jellystore.specs.Promises.{IsLegalRun, IsSettledRun, RunsFrom};
 
 use crate::status::{Ended, Status};
-use jf_disk::Disk;
+use crate::words::{Mode, mode_of};
+use jf_disk::{Disk, know_dated};
 use jf_engine::OpenRefused;
 use jf_io::{Sink, Source};
-use jf_journal::damage_is_no_versions;
+use jf_journal::{damage_is_no_versions, files_stand_for_one};
 use jf_model::Ledger;
 use jf_session::{Session, SoloRan, run};
 use std::alloc::Global;
 use std::sync::Wait;
 use std::thread::Threads;
 
-/// Runs the words of a command line: `run` alone answers the script of the source into the sink, over the store of
+/// Runs the words of a command line: `run`, with `--workers N` or without, answers the script of the source into the sink, over the store of
 /// the disk.
 ///
 /// Where a store was opened, `ran` says of each script and each list of faults: the replies and the entries are those
@@ -35,13 +39,13 @@ pub fn run_words<S: Source, K: Sink, D: Disk, H: Threads + Wait + Sync>(
     sink: &mut K,
     disk: D,
 ) -> Ended<D>
-    ensures usage { (result.status ≡ Status.Usage → ⊥) ↔ IsTrue (is_run (map (λ w. string_bytes w) words.now)) }
+    ensures usage { (result.status ≡ Status.Usage → ⊥) ↔ IsSome (mode_of (map (λ w. string_bytes w) words.now)) }
     ensures untouched { result.status ≡ Status.Usage → result.disk ≡ disk }
     ensures read { result.status ≡ Status.ReadFault → (S.faults source.old < S.faults source.new) ⊎ (S.faults source.old ≡ 2 ^ 64 - 1) }
     ensures write { result.status ≡ Status.WriteFault → (K.faults sink.old < K.faults sink.new) ⊎ (K.faults sink.old ≡ 2 ^ 64 - 1) }
     ensures disk_fault { result.status ≡ Status.DiskFault → (D.faults disk < D.faults result.disk) ⊎ (D.faults disk ≡ 2 ^ 64 - 1) }
     ensures damaged { (h : History) (side : Side) (at : ℕ) → D.history disk ≡ Some h → result.status ≡ Status.Damaged side at → IsDamagedAt (reads h) side at }
-    ensures complete { (h : History) (v : Versions) → D.history disk ≡ Some h → StandsFor (reads h) v → IsTrue (is_run (map (λ w. string_bytes w) words.now))
+    ensures complete { (h : History) (v : Versions) → D.history disk ≡ Some h → StandsFor (reads h) v → IsSome (mode_of (map (λ w. string_bytes w) words.now))
         → S.faults source.new ≡ S.faults source.old → S.faults source.old < 2 ^ 64 - 1 → K.faults sink.new ≡ K.faults sink.old → K.faults sink.old < 2 ^ 64 - 1
         → D.faults result.disk ≡ D.faults disk → D.faults disk < 2 ^ 64 - 1 → (result.status ≡ Status.Done) ⊎ (result.status ≡ Status.Memory) }
     ensures closed_status { result.start ≡ None → IsTrue (is_closing result.status) }
@@ -50,18 +54,25 @@ pub fn run_words<S: Source, K: Sink, D: Disk, H: Threads + Wait + Sync>(
         → (g : History) × (D.history result.disk ≡ Some g) × StopsWell Opens h g v }
     ensures legal { (h : History) → D.history disk ≡ Some h → IfSome result.start (IsLegalRun h result.entries) }
     ensures settled { (h : History) → D.history disk ≡ Some h → IsSome result.start → (result.status ≡ Status.DiskFault → ⊥) → IsSettledRun h (D.history result.disk) result.entries }
+    ensures extends { (h : History) → D.history disk ≡ Some h → (g : History) × (D.history result.disk ≡ Some g) × Extends h g }
+    ensures counts { (D.moment disk ≤ D.moment result.disk) × (D.faults disk ≤ D.faults result.disk) }
+    ensures dated { AreWithin (D.moment disk) (D.moment result.disk) (moments_of result.entries) }
+    ensures stops { (h : History) (v : Versions) → D.history disk ≡ Some h → IsCalm h → StandsFor (reads h) v → IsSafeSince (D.moment disk) (D.history result.disk) v result.entries result.status (D.faults disk) (D.faults result.disk) }
     ensures ran { IfSome result.start (RunsFrom (D.history disk) (D.history result.disk) (D.moment disk) (D.moment result.disk) (D.faults disk) (D.faults result.disk)
         (S.rest source.old) (S.rest source.new) (K.text sink.old) (K.text sink.new) result.status result.entries) }
 {
-    if !is_run(words) {
+    know_dated(&disk);
+    // No run works in several threads yet: the number of workers is read, and has no effect.
+    let Some(Mode::Run { workers: _ }) = mode_of(words) else {
         return Ended {
             status: Status::Usage,
             disk,
             entries: Ledger::new(alloc),
             start: None,
         };
-    }
+    };
     damage_is_no_versions();
+    files_stand_for_one();
     let session = match Session::<D>::over(rt, alloc, disk) {
         Ok(session) => session,
         Err(OpenRefused { disk, why }) => {
@@ -73,6 +84,7 @@ pub fn run_words<S: Source, K: Sink, D: Disk, H: Threads + Wait + Sync>(
             };
         }
     };
+    session.know_dated();
     let head = session.head();
     let SoloRan { disk, entries, end } = run(rt, alloc, session, source, sink);
     Ended {
@@ -80,15 +92,5 @@ pub fn run_words<S: Source, K: Sink, D: Disk, H: Threads + Wait + Sync>(
         disk,
         entries,
         start: Some(head),
-    }
-}
-
-// Whether the words are `run` alone.
-fn is_run(words: &[String]) -> bool
-    ensures { IsTrue result ↔ IsTrue (is_run (map (λ w. string_bytes w) words.now)) }
-{
-    match words {
-        [word] => word.as_str() == "run",
-        _ => false,
     }
 }

@@ -1,10 +1,110 @@
 // Scripts over a disk in memory: what is written, what the files hold, and how the run ends.
-use crate::status::Status;
-use crate::trial::{Faults, NO_FAULTS, Played, new_disk, play, with_roots};
-use jf_disk::{Disk, FileDisk, Side};
+use crate::run_words::run_words;
+use crate::status::{Ended, Status};
+use jf_disk::{Disk, FileDisk, MemDisk, Side};
+use jf_io::{MemSink, MemSource};
+use jf_path::Bytes;
 use std::alloc::Global;
 use std::fs;
+use std::sync::Wait;
 use std::test::Fail;
+use std::thread::Threads;
+
+mod bounds;
+mod reads;
+mod refusals;
+mod stops;
+
+const EMPTY: &str = "6e340b9cffb37a989ca544e6bb780a2c78901d3fb33738768511a30617afa01d";
+
+const ONE: &str = "9bb72c39f13d2b512ea34eae99a28f6d807a134ab125e89172310c6f6ea72f8f";
+
+const BLANK: &str = "fd2307270c401be83da0714a181eca80af07f330a43f98b4cb378a5abd422684";
+
+const PAIR: &str = "3e92b77a6f4a7dcc426f134b3415f3af7eb39e5c8ac7599c94f5a3c83fe07425";
+
+// What a run gave: the disk, the text, how it ended, the head at opening, and how many entries it made.
+#[derive(Drop)]
+struct Played<D> {
+    disk: D,
+    text: Vec<u8>,
+    status: Status,
+    start: Option<u64>,
+    entries: u64,
+}
+
+// How many bytes the source gives a call at most, and which calls of the source and of the sink fail, from 0.
+#[derive(Clone, Copy)]
+struct Faults {
+    piece: usize,
+    source: &'static [u64],
+    sink: &'static [u64],
+}
+
+const NO_FAULTS: Faults = Faults {
+    piece: 100,
+    source: &[],
+    sink: &[],
+};
+
+// A new disk of which the listed calls fail.
+fn new_disk(alloc: Global, a: &[u8], failing: &[u64]) -> Result<MemDisk, Fail> {
+    Ok(MemDisk::new(
+        alloc,
+        a.to_vec(alloc)?,
+        Vec::new(alloc),
+        1000,
+        100_000,
+        failing.to_vec(alloc)?,
+    )?)
+}
+
+// A text with the root of the empty map for E, of `put 61 =31` for R, of `put 61 =` for B, and of `put 61 =31` with
+// `put 62 =32` for P.
+fn with_roots(alloc: Global, text: &str) -> Result<Vec<u8>, Fail> {
+    let mut whole = Vec::new(alloc);
+    for byte in text.bytes() {
+        match byte {
+            b'E' => whole.extend_from_slice(EMPTY.as_bytes())?,
+            b'R' => whole.extend_from_slice(ONE.as_bytes())?,
+            b'B' => whole.extend_from_slice(BLANK.as_bytes())?,
+            b'P' => whole.extend_from_slice(PAIR.as_bytes())?,
+            byte => whole.push(byte)?,
+        }
+    }
+    Ok(whole)
+}
+
+// Runs a word over a disk, with sources and sinks that take a few bytes a call.
+fn play<D: Disk + Drop, H: Threads + Wait + Sync>(
+    rt: &H,
+    alloc: Global,
+    disk: D,
+    word: &str,
+    script: &[u8],
+    faults: Faults,
+) -> Result<Played<D>, Fail> {
+    let words = vec![in alloc; format!(in alloc; "{word}")?]?;
+    let mut source = MemSource::new(
+        Bytes::copy_of(alloc, script)?,
+        faults.piece.max(1),
+        faults.source.to_vec(alloc)?,
+    );
+    let mut sink = MemSink::new(alloc, 7, 200_000, faults.sink.to_vec(alloc)?)?;
+    let Ended {
+        status,
+        disk,
+        entries,
+        start,
+    } = run_words(rt, alloc, &words, &mut source, &mut sink, disk);
+    Ok(Played {
+        disk,
+        text: sink.text().to_vec(alloc)?,
+        status,
+        start,
+        entries: entries.len(),
+    })
+}
 
 #[test]
 fn lines_are_answered(rt: HostRuntime) -> Result<(), Fail> {
@@ -24,13 +124,6 @@ fn lines_are_answered(rt: HostRuntime) -> Result<(), Fail> {
         ("commit\ncommit", "1 ok commit 1 E\n2 ok commit 2 E\n"),
         ("\n", "0 no syntax\n"),
         ("\nroot head\n\n", "0 no syntax\n0 ok root E\n0 no syntax\n"),
-        ("put  61 =31\n", "0 no syntax\n"),
-        ("put 61 =31 \n", "0 no syntax\n"),
-        ("put 6 =31", "0 no syntax\n"),
-        ("put 61 =3A", "0 no syntax\n"),
-        ("PUT 61 =31", "0 no syntax\n"),
-        ("session", "0 no syntax\n"),
-        ("get head 61", "0 no syntax\n"),
     ];
     for (script, want) in rows {
         let played = play(
@@ -42,63 +135,15 @@ fn lines_are_answered(rt: HostRuntime) -> Result<(), Fail> {
             NO_FAULTS,
         )?;
         let Played {
+            disk: _,
             text,
             status,
             start,
-            ..
+            entries: _,
         } = played;
         let want = with_roots(alloc, want)?;
         assert_eq!(rt; text.as_slice(), want.as_slice(), "of {script:?}");
         assert_eq!(rt; (status, start), (Status::Done, Some(0)), "of {script:?}");
-    }
-    Ok(())
-}
-
-// `put` of a name and a value of so many bytes.
-fn put_line(alloc: Global, name: usize, value: usize) -> Result<Vec<u8>, Fail> {
-    let mut line = b"put ".to_vec(alloc)?;
-    for _ in 0..name {
-        line.extend_from_slice(b"61")?;
-    }
-    line.extend_from_slice(b" =")?;
-    for _ in 0..value {
-        line.extend_from_slice(b"31")?;
-    }
-    Ok(line)
-}
-
-#[test]
-fn names_and_values_have_their_longest(rt: HostRuntime) -> Result<(), Fail> {
-    let alloc = rt.alloc();
-    let rows = [
-        (1, 4096, "0 ok pending 1\n"),
-        (1, 4097, "0 no syntax\n"),
-        (128, 4096, "0 ok pending 1\n"),
-        (129, 0, "0 no syntax\n"),
-        (0, 1, "0 no syntax\n"),
-        (1, 4247, "0 no syntax\n"),
-    ];
-    for (name, value, want) in rows {
-        let line = put_line(alloc, name, value)?;
-        let Played {
-            text,
-            status,
-            entries,
-            ..
-        } = play(
-            &rt,
-            alloc,
-            new_disk(alloc, b"", &[])?,
-            "run",
-            &line,
-            NO_FAULTS,
-        )?;
-        assert_eq!(rt; text.as_slice(), want.as_bytes(), "of {name} and {value}");
-        assert_eq!(rt;
-            (status, entries),
-            (Status::Done, 0),
-            "of {name} and {value}"
-        );
     }
     Ok(())
 }
@@ -116,10 +161,10 @@ fn a_store_is_opened_where_it_stood(rt: HostRuntime) -> Result<(), Fail> {
     )?;
     let Played {
         disk,
+        text: _,
         status,
         start,
         entries,
-        ..
     } = first;
     assert_eq!(rt; (status, start, entries), (Status::Done, Some(0), 1));
     let mut file = b"\x01\x01\0\0\0\0\0\0\0\x36\0\0\0\0\0\0\0\x01\0\0\0\0\0\0\0\x01".to_vec(alloc)?;
@@ -138,7 +183,6 @@ fn a_store_is_opened_where_it_stood(rt: HostRuntime) -> Result<(), Fail> {
         status,
         start,
         entries,
-        ..
     } = play(
         &rt,
         alloc,
@@ -194,7 +238,6 @@ fn what_stops_a_run_is_told(rt: HostRuntime) -> Result<(), Fail> {
             status,
             start,
             entries,
-            ..
         } = play(
             &rt,
             alloc,
@@ -215,30 +258,6 @@ fn what_stops_a_run_is_told(rt: HostRuntime) -> Result<(), Fail> {
 }
 
 #[test]
-fn a_full_batch_takes_no_new_name(rt: HostRuntime) -> Result<(), Fail> {
-    let alloc = rt.alloc();
-    let mut script = Vec::new(alloc);
-    let mut want = Vec::new(alloc);
-    for i in 1..=10_000 {
-        script.extend_from_slice(format!(in alloc; "put {i:08} =\n")?.as_bytes())?;
-        want.extend_from_slice(format!(in alloc; "0 ok pending {i}\n")?.as_bytes())?;
-    }
-    script.extend_from_slice(b"put 61 =\nput 00000001 =31\n")?;
-    want.extend_from_slice(b"0 no pending\n0 ok pending 10000\n")?;
-    let Played { text, status, .. } = play(
-        &rt,
-        alloc,
-        new_disk(alloc, b"", &[])?,
-        "run",
-        &script,
-        NO_FAULTS,
-    )?;
-    assert_eq!(rt; status, Status::Done);
-    assert_eq!(rt; text.as_slice() == want.as_slice(), true);
-    Ok(())
-}
-
-#[test]
 fn a_folder_is_opened_where_it_stood(rt: HostRuntime) -> Result<(), Fail> {
     let alloc = rt.alloc();
     let folder = "jellystore_folder";
@@ -254,10 +273,11 @@ fn a_folder_is_opened_where_it_stood(rt: HostRuntime) -> Result<(), Fail> {
         ("root head", 2, "0 ok root R\n"),
     ] {
         let Played {
+            disk: _,
             text,
             status,
             start,
-            ..
+            entries: _,
         } = play(
             &rt,
             alloc,
@@ -290,7 +310,6 @@ fn a_fault_of_the_disk_leaves_the_landing_or_nothing(rt: HostRuntime) -> Result<
             status,
             start,
             entries,
-            ..
         } = play(
             &rt,
             alloc,
@@ -314,10 +333,11 @@ fn a_fault_of_the_disk_leaves_the_landing_or_nothing(rt: HostRuntime) -> Result<
             in_landing.push(failing)?;
         }
         let Played {
+            disk: _,
             text,
             status,
             start,
-            ..
+            entries: _,
         } = play(&rt, alloc, disk, "run", b"root head", NO_FAULTS)?;
         let root = match start {
             Some(1) => "0 ok root R\n",

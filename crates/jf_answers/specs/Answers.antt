@@ -1,6 +1,7 @@
 -- What a line is answered.
-use Rattle.std.specs.Prelude.{ℕ, ◌+◌, Bool, true, false, cond, if◌then◌else◌, List, [], length, Option, Some, None}
-use Rattle.std.specs.FinMap.{put}
+use Rattle.std.specs.Prelude.{◌≡◌, ℕ, ◌+◌, Bool, true, false, cond, if◌then◌else◌, IsTrue, List, [], length, Option, Some, None}
+use Rattle.std.proofs.Common.{ap, sym, ◌∙◌}
+use Rattle.std.specs.FinMap.{get, put}
 use Rattle.jf_path.specs.Keys.{key_cmp}
 use Rattle.jf_hash.specs.Hashes.{K}
 use Rattle.jf_hash.specs.Maps.{apply}
@@ -19,7 +20,7 @@ use Rattle.jf_script.specs.declared.reply.Refusal.TheVariants as refusal
 use Rattle.jf_script.specs.declared.reply.Reply.{Reply}
 use Rattle.jf_script.specs.declared.reply.Reply.TheVariants as reply
 use Rattle.jf_answers.specs.Own.{Own, with_pending}
-use Rattle.jf_answers.specs.Refusals.{is_built, refused_by}
+use Rattle.jf_answers.specs.Refusals.{base_map, is_built, refused_by}
 
 -- the reply, the lines of its block, an entry or none, and what follows
 pub record Answer : Type 0 where
@@ -41,6 +42,10 @@ entered r e s own = record { reply = r; block = []; entry = Some e; state = afte
 abbrev pub not_read : State → Own → Answer
 not_read s own = replied (reply.No refusal.Syntax) s own
 
+-- a line of more than 8,500 bytes, whatever it is
+abbrev pub too_long : State → Own → Answer
+too_long s own = replied (reply.No refusal.Long) s own
+
 -- ---- done commands
 
 -- the pending batch with a value, or none, at the key of a name
@@ -58,8 +63,10 @@ committed s own =
 -- what a command is answered that nothing refuses
 abbrev pub done : Command → State → Own → Answer
 done (command.Put name value) s own = changed name (Some value) s own
+done (command.Del name) s own = changed name None s own
 done command.Commit s own = committed s own
-done (command.Root on) s own = replied (reply.Root (root (newest s.all))) s own
+done (command.Get on name) s own = replied (reply.Value (get (base_map s own on) (K name))) s own
+done (command.Root on) s own = replied (reply.Root (root (base_map s own on))) s own
 done c s own = not_read s own
 
 -- the first refusal, which changes nothing, or else what the command does
@@ -71,6 +78,16 @@ abbrev pub answer_to : Option Command → State → Own → Answer
 answer_to None s own = not_read s own
 answer_to (Some c) s own = if is_built c then answer_command s own c else not_read s own
 
--- a line of more than 8,500 bytes is outside the grammar too
 unfoldable pub answer : State → Own → List ℕ → Answer
-answer s own line = if is_long line then not_read s own else answer_to (command_of line) s own
+answer s own line = if is_long line then too_long s own else answer_to (command_of line) s own
+
+-- ---- laws
+
+-- all long lines are answered alike
+pub answer-long : (s : State) (own : Own) (line : List ℕ) → IsTrue (is_long line) → answer s own line ≡ too_long s own
+unfolding answer
+answer-long s own line long = ap (λ b. cond b (too_long s own) (answer_to (command_of line) s own)) long
+
+-- so of a line that is long the rest is never looked at
+pub answer-both_long : (s : State) (own : Own) (line other : List ℕ) → IsTrue (is_long line) → IsTrue (is_long other) → answer s own line ≡ answer s own other
+answer-both_long s own line other long long' = answer-long s own line long ∙ sym (answer-long s own other long')

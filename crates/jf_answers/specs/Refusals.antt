@@ -1,16 +1,26 @@
 -- Why a command is refused: the first of its causes that holds.
-use Rattle.std.specs.Prelude.{ℕ, ◌-◌, ◌^◌, Bool, true, false, nat_le, List, [], ◌∷◌, ◌++◌, Option}
+use Rattle.std.specs.Prelude.{ℕ, ◌-◌, ◌^◌, Bool, true, false, not, nat_le, nat_lt, List, [], ◌∷◌, ◌++◌, Option, is_none, unwrap_or}
 use Rattle.jf_path.specs.Checks.{first_of}
 use Rattle.jf_hash.specs.Hashes.{K}
+use Rattle.jf_hash.specs.Maps.{Map}
 use Rattle.jf_split.specs.Limits.{is_full}
+use Rattle.jf_model.specs.Versions.{newest, map_of}
+use Rattle.jf_model.specs.Forks.{is_among, fork_map}
 use Rattle.jf_model.specs.States.{State}
-use Rattle.jf_answers.specs.Own.{Own}
+use Rattle.jf_answers.specs.Own.{Own, pinned}
 use Rattle.jf_script.specs.declared.command.Base.{Base}
 use Rattle.jf_script.specs.declared.command.Base.TheVariants as base
 use Rattle.jf_script.specs.declared.command.Command.{Command}
 use Rattle.jf_script.specs.declared.command.Command.TheVariants as command
 use Rattle.jf_script.specs.declared.reply.Refusal.{Refusal}
 use Rattle.jf_script.specs.declared.reply.Refusal.TheVariants as refusal
+
+-- the map that a base names
+abbrev pub base_map : State → Own → Base → Map
+base_map s own base.Head = newest s.all
+base_map s own (base.Version w) = map_of s.all w
+base_map s own (base.Fork id) = fork_map (newest s.all) s.forks id
+base_map s own (base.Place place) = map_of s.all (unwrap_or (pinned own place) 0)
 
 -- ---- single causes: a test, and what is said where it holds
 
@@ -29,24 +39,51 @@ ledger_causes s = (nat_le (2 ^ 62) s.count, refusal.Last) ∷ []
 abbrev pub head_causes : State → Causes
 head_causes s = (nat_le (2 ^ 64 - 2) s.all.head, refusal.Last) ∷ []
 
+-- a version is above the head, or below the retired bound
+abbrev pub version_causes : State → ℕ → Causes
+version_causes s w = (nat_lt s.all.head w, refusal.Future s.all.head) ∷ (nat_lt w s.retired, refusal.Retired s.retired) ∷ []
+
+-- a fork was not made yet, or isn't live any more
+abbrev pub fork_causes : State → ℕ → Causes
+fork_causes s id = (nat_le s.made id, refusal.Unknown) ∷ (not (is_among id s.forks), refusal.Gone) ∷ []
+
+-- a place holds nothing
+abbrev pub pin_causes : Own → ℕ → Causes
+pin_causes own place = (is_none (pinned own place), refusal.NoPin) ∷ []
+
+-- a base isn't there to be read
+abbrev pub base_causes : State → Own → Base → Causes
+base_causes s own base.Head = []
+base_causes s own (base.Version w) = version_causes s w
+base_causes s own (base.Fork id) = fork_causes s id
+base_causes s own (base.Place place) = pin_causes own place
+
 -- ---- which commands are built
 
-abbrev pub is_head : Base → Bool
-is_head base.Head = true
-is_head b = false
+-- the head and the versions can be read; forks and pins can't yet
+abbrev pub is_readable : Base → Bool
+is_readable base.Head = true
+is_readable (base.Version w) = true
+is_readable (base.Fork id) = false
+is_readable (base.Place place) = false
 
 -- the commands that are answered; every other is answered as a line outside the grammar
 abbrev pub is_built : Command → Bool
 is_built (command.Put name value) = true
+is_built (command.Del name) = true
 is_built command.Commit = true
-is_built (command.Root b) = is_head b
+is_built (command.Get on name) = is_readable on
+is_built (command.Root on) = is_readable on
 is_built c = false
 
 -- ---- by command, in order
 
 abbrev pub causes : State → Own → Command → Causes
 causes s own (command.Put name value) = pending_causes own name
+causes s own (command.Del name) = pending_causes own name
 causes s own command.Commit = ledger_causes s ++ head_causes s
+causes s own (command.Get on name) = base_causes s own on
+causes s own (command.Root on) = base_causes s own on
 causes s own c = []
 
 -- the first that holds

@@ -8,7 +8,7 @@ use Rattle.jf_hash.specs.Maps.{Batch}
 use Rattle.jf_model.specs.Versions.{Versions, new_store, landed}
 use Rattle.jf_frame.specs.declared.framed.Framed.{Framed}
 use Rattle.jf_frame.specs.Framing.{records}
-use Rattle.jf_frame.specs.Crashes.{LeavesNow}
+use Rattle.jf_frame.specs.Crashes.{LeavesNow, KeepsOther}
 use Rattle.jf_frame.specs.Logs.{Log, IsReady, StopsInAppend, IsSameLog, framed}
 use Rattle.jf_record.specs.Spelling.{landing_bytes, IsLandable}
 use Rattle.jf_journal.specs.Standing.{StandsFor, LeadTo, IsNext}
@@ -91,6 +91,11 @@ pub log_stops : (o n : Option History) (log : Log) (v : Versions) (b : Batch) (r
     → IsNext v r b → ((g : History) × (n ≡ Some g) × StopsInAppend log.side h g (k.holds h told).held r) → (g : History) × (n ≡ Some g) × StopsWell (Lands (b ∷ [])) h g v
 log_stops o n log v b r k h told next stop =
     (stop.0, stop.1, append_stops h stop.0 v (k.holds h told).held r b (k.holds h told).leads next (subst (λ (s : Side). StopsInAppend s h stop.0 (k.holds h told).held r) k.side_is stop.2))
+
+-- side B stays in an append on side A
+pub log_other : (o n : Option History) (log : Log) (v : Versions) (r : Framed) (k : IsKept o log v) (h : History) (told : o ≡ Some h)
+    → ((g : History) × (n ≡ Some g) × StopsInAppend log.side h g (k.holds h told).held r) → (g : History) × (n ≡ Some g) × KeepsOther side.A h g
+log_other o n log v r k h told stop = (stop.0, stop.1, subst (λ (s : Side). KeepsOther s h stop.0) k.side_is stop.2.other)
 
 pub log_succeeds : (n : Option History) (log' : Log) (v : Versions) (b : Batch) (h : History) → IsKept n log' (landed b v)
     → ((g : History) × (n ≡ Some g) × StopsWell (Lands (b ∷ [])) h g v) → (g : History) × (n ≡ Some g) × Succeeds (Lands (b ∷ [])) h g v

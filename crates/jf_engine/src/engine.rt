@@ -1,15 +1,18 @@
 // A store on a disk.
 ghost use Rattle.std.specs.Prelude.{◌≡◌, ◌≢◌, ◌⊎◌, ◌↔◌, ℕ, ◌+◌, ◌-◌, ◌<◌, ◌≤◌, ◌^◌, List, [], ◌∷◌, ◌++◌, length, Some, None, Err, IfOk, IfErr, OnOk, OnErr, IsErr, true, false, if◌then◌else◌, ◌&&◌, nat_le};
-ghost use Rattle.std.specs.Option.{SomeIff};
+ghost use Rattle.std.specs.Option.{SomeIff, option_copied};
+ghost use Rattle.std.specs.FinMap as fin;
 ghost use Rattle.jf_disk.specs.Disk.{History, reads};
 ghost use Rattle.jf_disk.specs.Moments.{Extends};
 ghost use Rattle.jf_disk.specs.declared.side.Side.{Side};
 ghost use Rattle.jf_hash.specs.Maps.{Map};
 ghost use Rattle.jf_hash.specs.Roots.{root};
-ghost use Rattle.jf_model.specs.Versions.{Versions, IsVersions, newest, root_of, landed};
+ghost use Rattle.jf_model.specs.Versions.{Versions, IsVersions, newest, map_of, root_of, landed};
+ghost use Rattle.jf_frame.specs.Crashes.{KeepsOther};
 ghost use Rattle.jf_journal.specs.Standing.{StandsFor, IsDamagedAt, generation};
 ghost use Rattle.jf_journal.specs.Steps.{Opens, Lands, StopsWell, Succeeds, IsCalm};
 ghost use Rattle.jf_engine.specs.Engines.{IsSettledOn};
+ghost use Rattle.jf_engine.specs.Leaving.{LeavesFiles};
 
 use crate::fault::{EngineFault, OpenFault, OpenRefused, Which};
 use crate::landing::frame_of;
@@ -18,6 +21,8 @@ use crate::replay::LAST_VERSION;
 use jf_disk::{Disk, know_counts, know_dated};
 use jf_frame::{DiskFault, Log};
 use jf_hash::Hash;
+use jf_journal::{damage_has_one_place, damage_is_no_versions};
+use jf_path::Key;
 use jf_plain::PlainVersions;
 use jf_split::Batch;
 use std::alloc::Global;
@@ -58,7 +63,8 @@ pub struct Landed {
 
 impl<D: Disk> Engine<D> {
     /// Opens the files of a disk. Where they hold no record they are begun. A refusal hands the disk back; the
-    /// files stand for what they stood for.
+    /// files stand for what they stood for. After `Damaged` and `Memory` nothing was made of them. Side B is left
+    /// alone.
     pub fn open<H: Threads + Sync>(
         rt: &H,
         alloc: Global,
@@ -66,9 +72,16 @@ impl<D: Disk> Engine<D> {
     ) -> Result<Engine<D>, OpenRefused<D>>
         ensures found { (h : History) → D.history disk ≡ Some h → IfOk result (λ e. StandsFor (reads h) e.versions) }
         ensures settled { (h : History) → D.history disk ≡ Some h → IfOk result (λ e. (g : History) × (e.history ≡ Some g) × IsSettledOn g e.versions × (generation (reads g) ≡ generation (reads h))) }
+        ensures stands_on { (h : History) (v : Versions) → D.history disk ≡ Some h → StandsFor (reads h) v → IfOk result (λ e. (g : History) × (e.history ≡ Some g) × StandsFor (reads g) v) }
+        ensures stands_on_err { (h : History) (v : Versions) → D.history disk ≡ Some h → StandsFor (reads h) v → IfErr result (λ e. (g : History) × (D.history e.disk ≡ Some g) × StandsFor (reads g) v) }
         ensures damaged { (h : History) (side : Side) (at : ℕ) → D.history disk ≡ Some h → IfErr result (λ e. e.why ≡ OpenFault.Damaged side at → IsDamagedAt (reads h) side at) }
+        ensures damaged_told { (h : History) (side : Side) (at : ℕ) → D.history disk ≡ Some h → IsDamagedAt (reads h) side at → IsErr result × IfErr result (λ e. (e.why ≡ OpenFault.Damaged side at) ⊎ ((e.why ≡ OpenFault.DiskFault) ⊎ (e.why ≡ OpenFault.Memory))) }
+        ensures damaged_left { (h : History) (side : Side) (at : ℕ) → D.history disk ≡ Some h → IfErr result (λ e. e.why ≡ OpenFault.Damaged side at → (g : History) × (D.history e.disk ≡ Some g) × LeavesFiles h g) }
+        ensures memory_left { (h : History) → D.history disk ≡ Some h → IfErr result (λ e. e.why ≡ OpenFault.Memory → (g : History) × (D.history e.disk ≡ Some g) × LeavesFiles h g) }
         ensures extends { (h : History) → D.history disk ≡ Some h → IfOk result (λ e. (g : History) × (e.history ≡ Some g) × Extends h g) }
         ensures extends_err { (h : History) → D.history disk ≡ Some h → IfErr result (λ e. (g : History) × (D.history e.disk ≡ Some g) × Extends h g) }
+        ensures other { (h : History) → D.history disk ≡ Some h → IfOk result (λ e. (g : History) × (e.history ≡ Some g) × KeepsOther Side.A h g) }
+        ensures other_err { (h : History) → D.history disk ≡ Some h → IfErr result (λ e. (g : History) × (D.history e.disk ≡ Some g) × KeepsOther Side.A h g) }
         ensures stops { (h : History) (v : Versions) → D.history disk ≡ Some h → IsCalm h → StandsFor (reads h) v → IfOk result (λ e. (g : History) × (e.history ≡ Some g) × StopsWell Opens h g v) }
         ensures stops_err { (h : History) (v : Versions) → D.history disk ≡ Some h → IsCalm h → StandsFor (reads h) v → IfErr result (λ e. (g : History) × (D.history e.disk ≡ Some g) × StopsWell Opens h g v) }
         ensures whole { IfOk result (λ e. e.broken ≡ false) }
@@ -77,6 +90,8 @@ impl<D: Disk> Engine<D> {
         ensures counts_err { IfErr result (λ e. (D.moment disk ≤ D.moment e.disk) × (D.faults disk ≤ D.faults e.disk)) }
     {
         let _ = rt;
+        damage_is_no_versions();
+        damage_has_one_place();
         match find(alloc, &mut disk) {
             Ok(Found { log, versions }) => Ok(Engine {
                 disk,
@@ -89,7 +104,8 @@ impl<D: Disk> Engine<D> {
     }
 
     /// Lands a batch on the head, as the next version. All memory is taken before the disk is touched. After
-    /// `DiskFault` the store is broken; every other refusal leaves store and disk as they were.
+    /// `DiskFault` the store is broken; every other refusal leaves store and disk as they were. Side B is left
+    /// alone.
     pub fn land<H: Threads + Sync>(
         &mut self,
         rt: &H,
@@ -101,6 +117,7 @@ impl<D: Disk> Engine<D> {
         ensures later { OnOk result (self.old.moment < self.new.moment) }
         ensures succeeds { (h : History) → self.old.history ≡ Some h → OnOk result ((g : History) × (self.new.history ≡ Some g) × Succeeds (Lands (batch.now ∷ [])) h g self.old.versions) }
         ensures stops { (h : History) → self.old.history ≡ Some h → result ≡ Err EngineFault.DiskFault → (g : History) × (self.new.history ≡ Some g) × StopsWell (Lands (batch.now ∷ [])) h g self.old.versions }
+        ensures other { (h : History) → self.old.history ≡ Some h → (g : History) × (self.new.history ≡ Some g) × KeepsOther Side.A h g }
         ensures broken { (result ≡ Err EngineFault.Broken) ↔ (self.old.broken ≡ true) }
         ensures last { result ≡ Err (EngineFault.Last Which.Version) → self.old.versions.head ≡ 2 ^ 64 - 2 }
         ensures full { self.old.broken ≡ false → self.old.versions.head ≡ 2 ^ 64 - 2 → result ≡ Err (EngineFault.Last Which.Version) }
@@ -144,6 +161,13 @@ impl<D: Disk> Engine<D> {
         self.versions.head()
     }
 
+    /// The oldest version whose map is kept.
+    pub fn floor(&self) -> u64
+        ensures { result ≡ self.now.versions.floor }
+    {
+        self.versions.floor()
+    }
+
     /// The root of the head, which is kept and not computed.
     pub fn root(&self) -> Hash
         ensures { result ≡ root (newest self.now.versions) }
@@ -157,6 +181,15 @@ impl<D: Disk> Engine<D> {
     {
         self.versions.know_sound();
         self.versions.root_of(version)
+    }
+
+    /// The value of a key in a version from floor to head, or `None` where that version does not have the key.
+    pub fn get(&self, version: u64, key: &Key) -> Option<&[u8]>
+        requires floor { self.now.versions.floor ≤ version }
+        requires head { version ≤ self.now.versions.head }
+        ensures { option_copied result ≡ fin.get (map_of self.now.versions version) key.now }
+    {
+        self.versions.map_of(version)?.get(key)
     }
 
     /// Whether an earlier call on this store answered `DiskFault`.

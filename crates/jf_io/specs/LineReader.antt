@@ -1,5 +1,5 @@
--- Which bytes end a line, and which bytes are known to end none.
-use Rattle.std.specs.Prelude.{ℕ, ◌+◌, ◌≤◌, Bool, ◌==◌, List, length, drop}
+-- Which bytes end a line, which bytes are known to end none, and what is held of lines that are longer than a limit.
+use Rattle.std.specs.Prelude.{◌≡◌, ℕ, ◌+◌, ◌<◌, ◌≤◌, Bool, ◌==◌, List, ◌++◌, length, drop, Option, Some}
 use Rattle.std.specs.List.{position_or_len}
 
 -- this byte is a line feed
@@ -11,3 +11,24 @@ pub record IsSearched (bytes : List ℕ) (start searched : ℕ) : Type 0 where
   pub from_start : start ≤ searched
   pub within : searched ≤ length bytes
   pub without_feed : searched ≤ start + position_or_len is_line_feed (drop start bytes)
+
+-- what a reader holds, and the most bytes of a line that it holds whole
+pub record Held : Type 0 where
+  pub limit : ℕ
+  pub bytes : List ℕ
+
+-- held is the text but for bytes that are gone from its first line, in front of which more than the limit are held
+pub record IsShortened (limit : ℕ) (text held : List ℕ) : Type 0 where
+  pub front : List ℕ
+  pub gone : List ℕ
+  pub behind : List ℕ
+  pub text_is : text ≡ front ++ gone ++ behind
+  pub held_is : held ≡ front ++ behind
+  pub is_plain : position_or_len is_line_feed (front ++ gone) ≡ length (front ++ gone)
+  pub is_long : 0 < length gone → limit < length front
+
+-- held is a text, but for such bytes, with the bytes behind it that a source gave
+pub record IsFetched (limit : ℕ) (text held : List ℕ) (before after : Option (List ℕ)) : Type 0 where
+  pub taken : List ℕ
+  pub shortened : IsShortened limit (text ++ taken) held
+  pub given : (rest : List ℕ) → before ≡ Some rest → (left : List ℕ) × (after ≡ Some left) × (rest ≡ taken ++ left)

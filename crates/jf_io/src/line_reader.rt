@@ -1,7 +1,7 @@
 // Lines of input.
 ghost use Rattle.std.specs.Prelude.{◌≡◌, ◌==◌, ◌⊎◌, ◌↔◌, ℕ, ◌+◌, ◌-◌, ◌<◌, ◌≤◌, ◌^◌, List, [], ◌++◌, length, take, drop, true, false, Some, Ok, Err, IfOk, OnOk, OnErr, IsTrue, vec_len};
 ghost use Rattle.std.specs.List.{position, position_or_len, before_first, after_first};
-ghost use Rattle.jf_io.specs.LineReader.{is_line_feed, IsSearched};
+ghost use Rattle.jf_io.specs.LineReader.{is_line_feed, IsSearched, IsShortened, IsFetched};
 
 use crate::source::Source;
 use std::alloc::Global;
@@ -20,49 +20,58 @@ pub enum FetchFault {
 }
 
 /// Bytes that were taken from a source and not yet handed on, a line at a time. Input is taken in large pieces.
+///
+/// A line of at most `limit` bytes is held whole. Of a longer one more than `limit` bytes are held, from its front, and
+/// the rest of it may have been let go as it came: whatever its length, no more than a piece is held beside them.
 #[derive(Drop)]
 pub struct LineReader {
-    // what was taken, of which the bytes before `start` were handed on
+    // what was taken and is kept, of which the bytes before `start` were handed on
     bytes: Vec<u8>,
     start: usize,
     // no line feed stands from `start` up to here
     searched: usize,
+    // the most bytes of a line that is held whole
+    limit: usize,
 }
 
 impl Model for LineReader {
-    ghost use Rattle.std.specs.Prelude.{ℕ, List, drop};
-    ghost use Rattle.jf_io.specs.LineReader.{IsSearched};
+    ghost use Rattle.std.specs.Prelude.{ℕ, ◌+◌, ◌≤◌, length, drop};
+    ghost use Rattle.jf_io.specs.declared.line_reader.TheConstants.{PIECE};
+    ghost use Rattle.jf_io.specs.LineReader.{Held, IsSearched};
 
-    ghost Value = { List ℕ };
+    ghost Value = { Held };
 
-    ghost view = { λ r. drop r.start r.bytes.items };
+    ghost view = { λ r. record { limit = r.limit; bytes = drop r.start r.bytes.items } };
 
-    ghost invariant = { λ r. IsSearched r.bytes.items r.start r.searched };
+    ghost invariant = { λ r. IsSearched r.bytes.items r.start r.searched × (length r.bytes.items ≤ r.limit + 1 + PIECE) };
 }
 
 impl LineReader {
-    /// A reader that holds nothing.
-    pub fn new(alloc: Global) -> LineReader
-        ensures { result ≡ [] }
+    /// A reader that holds nothing, for lines of which those of at most `limit` bytes are wanted whole.
+    pub fn new(alloc: Global, limit: usize) -> LineReader
+        ensures { result ≡ record { limit = limit; bytes = [] } }
     {
         LineReader {
             bytes: Vec::new(alloc),
             start: 0,
             searched: 0,
+            limit,
         }
     }
 
-    /// Takes from the source until a whole line is held or the input is at its end. `false` says that nothing is left.
+    /// Takes from the source until a line with its line feed is held or the input is at its end. `false` says that
+    /// nothing is left. Of a line longer than the limit, bytes behind its front are let go.
     ///
-    /// After a `FetchFault` what was taken is held, and the next call goes on from there.
+    /// After a `FetchFault` what was taken counts as held, and the next call goes on from there.
     pub fn fetch<S: Source>(&mut self, source: &mut S) -> Result<bool, FetchFault>
-        // Nothing is lost and nothing invented, whatever the outcome.
-        ensures kept { (rest : List ℕ) → S.rest source.old ≡ Some rest → (left : List ℕ) × (S.rest source.new ≡ Some left) × (self.new ++ left ≡ self.old ++ rest) }
-        ensures held { take (length self.old) self.new ≡ self.old }
-        ensures ready { position_or_len is_line_feed self.old < length self.old → (result ≡ Ok true) × (self.new ≡ self.old) × (source.new ≡ source.old) }
-        ensures found { result ≡ Ok true → (position_or_len is_line_feed self.new < length self.new) ⊎ ((0 < length self.new) × ((left : List ℕ) → S.rest source.new ≡ Some left → left ≡ [])) }
-        ensures ended { result ≡ Ok false → (self.new ≡ []) × ((left : List ℕ) → S.rest source.new ≡ Some left → left ≡ []) }
-        ensures unfinished { result ≡ Err FetchFault.ReadFault → position_or_len is_line_feed self.new ≡ length self.new }
+        // Nothing is lost but the back of a line that is longer than the limit, and nothing is invented, whatever the outcome.
+        ensures kept { (text : List ℕ) → IsShortened self.old.limit text self.old.bytes → IsFetched self.old.limit text self.new.bytes (S.rest source.old) (S.rest source.new) }
+        ensures limit { self.new.limit ≡ self.old.limit }
+        ensures small { length self.new.bytes ≤ self.new.limit + 1 + PIECE }
+        ensures ready { position_or_len is_line_feed self.old.bytes < length self.old.bytes → (result ≡ Ok true) × (self.new ≡ self.old) × (source.new ≡ source.old) }
+        ensures found { result ≡ Ok true → (position_or_len is_line_feed self.new.bytes < length self.new.bytes) ⊎ ((0 < length self.new.bytes) × ((left : List ℕ) → S.rest source.new ≡ Some left → left ≡ [])) }
+        ensures ended { result ≡ Ok false → (self.new.bytes ≡ []) × ((left : List ℕ) → S.rest source.new ≡ Some left → left ≡ []) }
+        ensures unfinished { result ≡ Err FetchFault.ReadFault → position_or_len is_line_feed self.new.bytes ≡ length self.new.bytes }
         ensures cause { result ≡ Err FetchFault.ReadFault → (S.faults source.old < S.faults source.new) ⊎ (S.faults source.old ≡ 2 ^ 64 - 1) }
         ensures grows { S.faults source.old ≤ S.faults source.new }
     {
@@ -70,30 +79,37 @@ impl LineReader {
             if self.finds_line() {
                 return Ok(true);
             }
+            self.shorten();
             if self.take_piece(source)? == 0 {
                 return Ok(self.len() > 0);
             }
         }
     }
 
-    /// The line at the front, without its line feed: all that is held where it has none.
+    /// The line at the front, without its line feed: all that is held where it has none. Of a line longer than the limit
+    /// these are the first bytes, one more than the limit.
     pub fn line(&self) -> &[u8]
-        ensures { result.now ≡ before_first is_line_feed self.now }
+        ensures { result.now ≡ take (self.now.limit + 1) (before_first is_line_feed self.now.bytes) }
     {
         let end = line_end(&self.bytes, self.start, self.searched);
-        &self.bytes[self.start..end]
+        let line = &self.bytes[self.start..end];
+        if line.len() > self.limit {
+            &line[..self.limit + 1]
+        } else {
+            line
+        }
     }
 
     /// Whether no line feed is held: the line at the front is then the last one of an input that is at its end.
     pub fn is_last(&self) -> bool
-        ensures { IsTrue result ↔ (position_or_len is_line_feed self.now ≡ length self.now) }
+        ensures { IsTrue result ↔ (position_or_len is_line_feed self.now.bytes ≡ length self.now.bytes) }
     {
-        self.line().len() == self.len()
+        line_end(&self.bytes, self.start, self.searched) == self.bytes.len()
     }
 
     /// Lets the line at the front go, with its line feed.
     pub fn advance(&mut self)
-        ensures { self.new ≡ after_first is_line_feed self.old }
+        ensures { self.new ≡ record self.old { bytes = after_first is_line_feed self.old.bytes } }
     {
         let end = line_end(&self.bytes, self.start, self.searched);
         self.start = self.bytes.len().min(end + 1);
@@ -102,7 +118,7 @@ impl LineReader {
 
     // How many bytes are held.
     fn len(&self) -> usize
-        ensures { result ≡ length self.now }
+        ensures { result ≡ length self.now.bytes }
     {
         self.bytes.len() - self.start
     }
@@ -110,16 +126,31 @@ impl LineReader {
     // Whether a line feed is held. What was searched isn't searched again.
     fn finds_line(&mut self) -> bool
         ensures same { self.new ≡ self.old }
-        ensures found { IsTrue result ↔ (position_or_len is_line_feed self.new < length self.new) }
+        ensures small { length self.new.bytes ≤ self.new.limit + 1 + PIECE }
+        ensures found { IsTrue result ↔ (position_or_len is_line_feed self.new.bytes < length self.new.bytes) }
     {
         self.searched = line_end(&self.bytes, self.start, self.searched);
         self.searched < self.bytes.len()
     }
 
+    // Lets go what is held of an unfinished line behind the bytes that tell that it is longer than the limit.
+    fn shorten(&mut self)
+        requires { position_or_len is_line_feed self.old.bytes ≡ length self.old.bytes }
+        ensures { self.new ≡ record self.old { bytes = take (self.old.limit + 1) self.old.bytes } }
+    {
+        if self.len() > self.limit {
+            self.bytes.truncate(self.start + self.limit + 1);
+            self.searched = self.bytes.len();
+        }
+    }
+
     // Takes a piece of input, and answers how many bytes it has. 0 is the end of the input.
     fn take_piece<S: Source>(&mut self, source: &mut S) -> Result<usize, FetchFault>
-        ensures kept { (rest : List ℕ) → S.rest source.old ≡ Some rest → (left : List ℕ) × (S.rest source.new ≡ Some left) × (self.new ++ left ≡ self.old ++ rest) }
-        ensures front { take (length self.old) self.new ≡ self.old }
+        requires { length self.old.bytes ≤ self.old.limit + 1 }
+        ensures kept { (rest : List ℕ) → S.rest source.old ≡ Some rest → (left : List ℕ) × (S.rest source.new ≡ Some left) × (self.new.bytes ++ left ≡ self.old.bytes ++ rest) }
+        ensures front { take (length self.old.bytes) self.new.bytes ≡ self.old.bytes }
+        ensures limit { self.new.limit ≡ self.old.limit }
+        ensures small { length self.new.bytes ≤ self.new.limit + 1 + PIECE }
         ensures unchanged { OnErr result (self.new ≡ self.old) }
         ensures end { IfOk result (λ n. n ≡ 0 → (self.new ≡ self.old) × ((left : List ℕ) → S.rest source.new ≡ Some left → left ≡ [])) }
         ensures given { IfOk result (λ n. S.given source.new ≡ S.given source.old + n) }
@@ -174,6 +205,7 @@ fn drop_front(bytes: &mut Vec<u8>, count: usize)
 // Appends a piece of input to these bytes, and answers how many bytes it has. 0 is the end of the input.
 fn append_piece<S: Source>(bytes: &mut Vec<u8>, source: &mut S) -> Result<usize, FetchFault>
     ensures front { take (length bytes.old.items) bytes.new.items ≡ bytes.old.items }
+    ensures short { length bytes.new.items ≤ length bytes.old.items + PIECE }
     ensures kept { (rest : List ℕ) → S.rest source.old ≡ Some rest → (left : List ℕ) × (S.rest source.new ≡ Some left) × (bytes.new.items ++ left ≡ bytes.old.items ++ rest) }
     ensures unchanged { OnErr result (bytes.new.items ≡ bytes.old.items) }
     ensures end { IfOk result (λ n. n ≡ 0 → (bytes.new.items ≡ bytes.old.items) × ((left : List ℕ) → S.rest source.new ≡ Some left → left ≡ [])) }
@@ -204,6 +236,8 @@ mod tests {
     use crate::mem_source::MemSource;
     use jf_path::Bytes;
     use std::test::Fail;
+
+    const LIMIT: usize = 8_500;
 
     // A source of these bytes, whose call number `failing` fails.
     fn source_of(alloc: Global, bytes: &[u8], piece: usize, failing: u64) -> Result<MemSource, Fail>
@@ -238,7 +272,7 @@ mod tests {
                 ),
             ] {
                 let mut source = source_of(rt.alloc(), text, piece, u64::MAX)?;
-                let mut reader = LineReader::new(rt.alloc());
+                let mut reader = LineReader::new(rt.alloc(), LIMIT);
                 for line in lines {
                     assert_eq!(rt; reader.fetch(&mut source), Ok(line.is_some()));
                     assert_eq!(rt; reader.line(), line.unwrap_or(b""));
@@ -253,7 +287,7 @@ mod tests {
     #[test]
     fn goes_on_after_a_fault(rt: HostRuntime) -> Result<(), Fail> {
         let mut source = source_of(rt.alloc(), b"abcdef\ngh", 4, 1)?;
-        let mut reader = LineReader::new(rt.alloc());
+        let mut reader = LineReader::new(rt.alloc(), LIMIT);
         assert_eq!(rt; reader.fetch(&mut source), Err(FetchFault::ReadFault));
         assert_eq!(rt; reader.line(), b"abcd".as_slice());
         for (want, line) in [
@@ -268,17 +302,107 @@ mod tests {
         Ok(())
     }
 
+    // Bytes of a line that has so many.
+    fn long_line(alloc: Global, len: usize) -> Result<Vec<u8>, Fail> {
+        let mut line = Vec::new(alloc);
+        for i in 0..len {
+            line.push(b"abcdefg"[i % 7])?;
+        }
+        Ok(line)
+    }
+
     #[test]
-    fn holds_a_line_longer_than_a_piece(rt: HostRuntime) -> Result<(), Fail> {
-        let mut text = vec![in rt.alloc(); b'a'; 3 * PIECE]?;
-        text.extend_from_slice(b"\nb")?;
-        let mut source = source_of(rt.alloc(), &text, usize::MAX, u64::MAX)?;
-        let mut reader = LineReader::new(rt.alloc());
+    fn holds_lines_whole_up_to_the_limit(rt: HostRuntime) -> Result<(), Fail> {
+        for len in [1, LIMIT] {
+            let line = long_line(rt.alloc(), len)?;
+            let mut text = line.to_vec(rt.alloc())?;
+            text.extend_from_slice(b"\nb")?;
+            for (bytes, next) in [
+                (text.as_slice(), Some(b"b".as_slice())),
+                (line.as_slice(), None),
+            ] {
+                for piece in [1, 7, 4_096, usize::MAX] {
+                    let mut source = source_of(rt.alloc(), bytes, piece, u64::MAX)?;
+                    let mut reader = LineReader::new(rt.alloc(), LIMIT);
+                    assert_eq!(rt; reader.fetch(&mut source), Ok(true));
+                    assert_eq!(rt; reader.line(), line.as_slice());
+                    reader.advance();
+                    assert_eq!(rt; reader.fetch(&mut source), Ok(next.is_some()));
+                    assert_eq!(rt; reader.line(), next.unwrap_or(b""));
+                }
+            }
+        }
+        Ok(())
+    }
+
+    #[test]
+    fn skips_the_rest_of_a_longer_line(rt: HostRuntime) -> Result<(), Fail> {
+        for (len, piece) in [
+            (LIMIT + 1, 1),
+            (LIMIT + 1, 7),
+            (LIMIT + 1, 4_096),
+            (9_000, 1),
+            (200_000, 7),
+            (200_000, 4_096),
+            (200_000, usize::MAX),
+        ] {
+            let line = long_line(rt.alloc(), len)?;
+            let mut text = line.to_vec(rt.alloc())?;
+            text.extend_from_slice(b"\nbehind\n\nlast")?;
+            let mut source = source_of(rt.alloc(), &text, piece, u64::MAX)?;
+            let mut reader = LineReader::new(rt.alloc(), LIMIT);
+            assert_eq!(rt; reader.fetch(&mut source), Ok(true));
+            assert_eq!(rt; Some(reader.line()), line.get(..LIMIT + 1));
+            assert!(rt; reader.bytes.len() <= LIMIT + 1 + PIECE);
+            for next in [b"behind".as_slice(), b"", b"last"] {
+                reader.advance();
+                assert_eq!(rt; reader.fetch(&mut source), Ok(true));
+                assert_eq!(rt; reader.line(), next);
+            }
+            reader.advance();
+            assert_eq!(rt; reader.fetch(&mut source), Ok(false));
+        }
+        Ok(())
+    }
+
+    #[test]
+    fn skips_a_line_without_line_feed(rt: HostRuntime) -> Result<(), Fail> {
+        for (len, piece) in [
+            (LIMIT + 1, 1),
+            (200_000, 7),
+            (200_000, 4_096),
+            (1 << 22, 65_536),
+        ] {
+            let mut text = b"first\n".to_vec(rt.alloc())?;
+            text.extend_from_slice(&long_line(rt.alloc(), len)?)?;
+            let mut source = source_of(rt.alloc(), &text, piece, u64::MAX)?;
+            let mut reader = LineReader::new(rt.alloc(), LIMIT);
+            assert_eq!(rt; reader.fetch(&mut source), Ok(true));
+            assert_eq!(rt; reader.line(), b"first".as_slice());
+            reader.advance();
+            assert_eq!(rt; reader.fetch(&mut source), Ok(true));
+            assert_eq!(rt; reader.line().len(), LIMIT + 1);
+            assert!(rt; reader.is_last());
+            assert!(rt; reader.bytes.len() <= LIMIT + 1 + PIECE);
+            reader.advance();
+            assert_eq!(rt; reader.fetch(&mut source), Ok(false));
+        }
+        Ok(())
+    }
+
+    #[test]
+    fn goes_on_after_a_fault_in_a_skipped_line(rt: HostRuntime) -> Result<(), Fail> {
+        let mut text = long_line(rt.alloc(), 200_000)?;
+        text.extend_from_slice(b"\nbehind")?;
+        let mut source = source_of(rt.alloc(), &text, 4_096, 10)?;
+        let mut reader = LineReader::new(rt.alloc(), LIMIT);
+        assert_eq!(rt; reader.fetch(&mut source), Err(FetchFault::ReadFault));
+        assert!(rt; reader.is_last());
         assert_eq!(rt; reader.fetch(&mut source), Ok(true));
-        assert_eq!(rt; reader.line().len(), 3 * PIECE);
+        assert_eq!(rt; reader.line().len(), LIMIT + 1);
         reader.advance();
         assert_eq!(rt; reader.fetch(&mut source), Ok(true));
-        assert_eq!(rt; reader.line(), b"b".as_slice());
+        assert_eq!(rt; reader.line(), b"behind".as_slice());
         Ok(())
     }
 }

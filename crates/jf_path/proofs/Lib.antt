@@ -1,0 +1,4 @@
+mod CommonBits
+pub mod Halves
+pub mod Kept
+pub mod Paths

@@ -1,2 +1,10 @@
 pub mod Keys
+pub mod Nibbles
+pub mod NibbleLaws
 pub mod Checks
+pub mod Paths
+pub mod PathLaws
+pub mod Kept
+pub mod Names
+pub mod NameLaws
+pub mod Nodes

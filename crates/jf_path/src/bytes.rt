@@ -29,6 +29,15 @@ impl Bytes {
         }
     }
 
+    /// No bytes, with room for this many.
+    pub fn with_capacity(alloc: Global, n: u64) -> Result<Bytes, Memory>
+        ensures { IfOk result (λ b. b ≡ []) }
+    {
+        Ok(Bytes {
+            bytes: Vec::with_capacity(alloc, n as usize)?,
+        })
+    }
+
     /// A copy of these bytes.
     pub fn copy_of(alloc: Global, from: &[u8]) -> Result<Bytes, Memory>
         ensures { IfOk result (λ b. b ≡ from.now) }

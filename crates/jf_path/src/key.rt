@@ -1,6 +1,9 @@
-// Keys, and their bits.
+// Keys, their bits and their nibbles.
 ghost use Rattle.std.specs.Prelude.{◌≡◌, ◌<◌};
 ghost use Rattle.jf_path.specs.Keys.{bit};
+ghost use Rattle.jf_path.specs.Nibbles.{nibble, common_bits};
+
+use crate::nibbles::Nibble;
 
 /// The place of a value in the tree: 32 bytes, in the order of lists.
 pub type Key = [u8; 32];
@@ -12,4 +15,24 @@ pub fn bit(key: &Key, i: usize) -> bool
     ensures { result ≡ bit key.now i }
 {
     key[i / 8] >> (7 - i % 8) & 1 == 1
+}
+
+/// Nibble `i` of a key, from 0, the high half of the first byte, to 63: bits `4 * i` to `4 * i + 3`.
+pub fn nibble(key: &Key, i: usize) -> Nibble
+    requires { i < 64 }
+    ensures { result ≡ nibble key.now i }
+{
+    Nibble::half(key, i)
+}
+
+/// The number of leading bits in which two keys agree, 256 where they are one key.
+pub fn common_bits(a: &Key, b: &Key) -> u64
+    ensures { result ≡ common_bits a.now b.now }
+{
+    for i in 0..256 {
+        if bit(a, i) != bit(b, i) {
+            return i as u64;
+        }
+    }
+    256
 }

@@ -1,10 +1,30 @@
-//! Keys, bytes and want of memory: what every other crate is made of.
+//! Keys, their bits and nibbles, paths and names of nodes, plain nodes and lists of them, bytes, and want of memory: what
+//! every other crate is made of.
 #![tactic(auto)]
 
 mod bytes;
+mod children;
+mod fault;
 mod key;
+mod lists;
 mod memory;
+mod name;
+mod nibbles;
+mod node;
+mod node_lists;
+mod path;
 
 pub use bytes::Bytes;
-pub use key::{Key, bit};
+pub use children::{Child, Children};
+pub use fault::PathFault;
+pub use key::{Key, bit, common_bits, nibble};
+pub use lists::{HashList, Pairs};
 pub use memory::Memory;
+pub use name::NodeName;
+pub use nibbles::Nibble;
+pub use node::PlainNode;
+pub use node_lists::{FreshList, LiveList, NameList};
+pub use path::NibblePath;
+
+#[cfg(test)]
+mod tests;

@@ -59,6 +59,14 @@ impl PlainVersions {
         self.versions.len() as u64 - 1
     }
 
+    /// The oldest version whose map is kept.
+    pub fn floor(&self) -> u64
+        ensures { result ≡ self.now.floor }
+    {
+        let _ = &self.versions;
+        0
+    }
+
     /// The map of the newest version.
     pub fn newest(&self) -> &PlainMap
         ensures { result.now ≡ newest self.now }

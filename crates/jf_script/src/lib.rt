@@ -20,6 +20,7 @@ pub use laws::{
     bytes_without_feed_are_one_line, first_line_ends_at_first_feed, lines_go_on_behind_a_feed,
     reply_texts_are_distinct, whole_lines_come_first, whole_lines_count_lines,
 };
+pub use number::number_from;
 pub use reading::read_line;
 pub use reply::{Refusal, Reply};
 pub use writing::write_reply;

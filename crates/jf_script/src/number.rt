@@ -23,7 +23,7 @@ pub(crate) fn number_of(word: &[u8]) -> Option<u64>
 }
 
 /// A number from `least` to `most`.
-pub(crate) fn number_from(least: u64, most: u64, word: &[u8]) -> Option<u64>
+pub fn number_from(least: u64, most: u64, word: &[u8]) -> Option<u64>
     ensures { result ≡ number_from least most word.now }
 {
     let number = number_of(word)?;

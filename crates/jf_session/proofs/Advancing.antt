@@ -1,11 +1,10 @@
 -- Lines one behind another: what was done for some, and then for one more.
-use Rattle.std.proofs.Common.{◌≡◌, ◌⊎◌, inl, inr, ℕ, ◌+◌, ◌<◌, ◌≤◌, Bool, true, false, cond, Option, Some, None, IfSome, List, [], ◌∷◌, ◌++◌, map, length, refl, sym, ap, ap₂, ◌∙◌, subst, arith, le_refl, append_assoc, append-nil}
+use Rattle.std.proofs.Common.{◌≡◌, ℕ, ◌<◌, ◌≤◌, Bool, true, false, cond, Option, Some, None, IfSome, List, [], ◌∷◌, ◌++◌, map, length, refl, sym, ap, ap₂, ◌∙◌, subst, arith, le_refl, append_assoc, append-nil}
 use Rattle.std.specs.Prelude.{flat_map, option_to_list}
 use Rattle.std.specs.List.{concat}
-use Rattle.jf_disk.specs.Disk.{History}
 use Rattle.jf_hash.specs.Maps.{Batch}
 use Rattle.jf_model.specs.States.{State}
-use Rattle.jf_model.specs.Entries.{after, replay, IsLegal, AreLegal, at_moment, timeless, moments_of}
+use Rattle.jf_model.specs.Entries.{after, replay, IsLegal, at_moment, timeless, moments_of}
 use Rattle.jf_model.specs.EntryLaws.{AreLegal-push, replay-push, after-at_moment, legal-at_moment, moments_of-append}
 use Rattle.jf_model.specs.declared.entries.Entry.{Entry}
 use Rattle.jf_model.specs.declared.entries.Entry.TheVariants as entry
@@ -13,7 +12,7 @@ use Rattle.jf_model.specs.declared.entries.Landing.TheVariants as landing
 use Rattle.jf_journal.specs.Steps.{Lands, Succeeds}
 use Rattle.jf_answers.specs.Own.{Own}
 use Rattle.jf_answers.specs.Refusals.{refused_by, is_built}
-use Rattle.jf_answers.specs.Answers.{Answer, answer, answer_to, answer_command, not_read, done, replied}
+use Rattle.jf_answers.specs.Answers.{Answer, answer, answer_to, answer_command, not_read, too_long, done, replied}
 use Rattle.jf_answers.specs.Runs.{Run, answers_from, answers_from-append, followed_by, answer_text, text_of, texts_of, entries_of}
 use Rattle.jf_script.specs.Words.{is_long}
 use Rattle.jf_script.specs.Commands.{command_of}
@@ -22,7 +21,7 @@ use Rattle.jf_script.specs.declared.command.Command.TheVariants as command
 use Rattle.jf_script.specs.declared.reply.Refusal.{Refusal}
 use Rattle.jf_script.specs.declared.reply.Reply.TheVariants as reply
 use Rattle.jf_session.specs.Sessions.{Session, Does, Stays, Adds, DiskFollows}
-use Rattle.jf_session.specs.Runs.{Advances, AreWithin, Outlasts, run_of, IsDatedBy}
+use Rattle.jf_session.specs.Runs.{Advances, AreWithin, run_of, IsDatedBy}
 use Rattle.jf_session.proofs.Images.{outlasts_landing, outlasts_none}
 
 -- ---- what holds of each answer
@@ -69,7 +68,7 @@ to_sound (Some c) s own = built_sound (is_built c) c s own
 
 answer_sound : (s : State) (own : Own) (line : List ℕ) → IsSound s (answer s own line)
 unfolding answer
-answer_sound s own line = elim (is_long line) as (λ b. IsSound s (cond b (not_read s own) (answer_to (command_of line) s own))) [ true ↦ record { undated = tt; made = refl } | false ↦ to_sound (command_of line) s own ]
+answer_sound s own line = elim (is_long line) as (λ b. IsSound s (cond b (too_long s own) (answer_to (command_of line) s own))) [ true ↦ record { undated = tt; made = refl } | false ↦ to_sound (command_of line) s own ]
 
 -- ---- lists
 

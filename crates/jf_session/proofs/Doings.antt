@@ -1,5 +1,5 @@
 -- What a session's own steps make of it.
-use Rattle.std.proofs.Common.{◌≡◌, ◌⊎◌, inl, inr, ℕ, ◌+◌, ◌-◌, ◌^◌, ◌<◌, ◌≤◌, Bool, true, false, IsTrue, Option, Some, None, List, [], ◌∷◌, ◌++◌, length, refl, sym, ap, ap₂, ◌∙◌, subst, arith, length-append, lt-ltb, le_refl}
+use Rattle.std.proofs.Common.{◌≡◌, ℕ, ◌+◌, ◌-◌, ◌^◌, ◌<◌, ◌≤◌, Bool, true, false, IsTrue, Option, Some, List, [], ◌∷◌, ◌++◌, length, refl, sym, ap, ap₂, ◌∙◌, subst, arith, length-append}
 use Rattle.std.specs.Prelude.{nat_le}
 use Rattle.std.specs.FinMap.{put}
 use Rattle.jf_path.specs.Keys.{key_cmp}
@@ -16,13 +16,13 @@ use Rattle.jf_model.specs.declared.entries.Entry.TheVariants as entry
 use Rattle.jf_model.specs.declared.entries.Landing.TheVariants as landing
 use Rattle.jf_journal.specs.Steps.{Lands, StopsWell, Succeeds}
 use Rattle.jf_engine.specs.Engines.{Engine}
-use Rattle.jf_answers.specs.Own.{Own, with_pending}
+use Rattle.jf_answers.specs.Own.{with_pending}
 use Rattle.jf_answers.specs.Answers.{Answer, answer_command, replied, changed, committed}
 use Rattle.jf_script.specs.declared.reply.Reply.{Reply}
 use Rattle.jf_script.specs.declared.reply.Reply.TheVariants as reply
 use Rattle.jf_script.specs.declared.reply.Refusal.TheVariants as refusal
-use Rattle.jf_session.specs.Sessions.{Session, shown, Does, Tries, Rose, Stays, put_answer, commit_answer, DiskFollows, LandsOnDisk}
-use Rattle.jf_session.proofs.Said.{put-full, put-room, commit-done, commit-ledger, commit-head}
+use Rattle.jf_session.specs.Sessions.{Session, shown, Does, Tries, Rose, commit_answer}
+use Rattle.jf_session.proofs.Said.{set_command, set-full, set-room, commit-done, commit-ledger, commit-head}
 
 -- a reply that changes what is pending alone
 pub replied_does : (e : Engine) (es : List Entry) (p q : Batch) (over : Bool) (r : Reply) → Does (shown e es p over) (shown e es q over) (replied r (shown e es p over).state (with_pending q (shown e es p over).own))
@@ -31,16 +31,20 @@ replied_does e es p q over r = record { state = refl; own = refl; entries = refl
 pub refused_does : (e : Engine) (es : List Entry) (p : Batch) (over : Bool) (r : Reply) (a : Answer) → a ≡ replied r (shown e es p over).state (shown e es p over).own → Does (shown e es p over) (shown e es p over) a
 refused_does e es p over r a is = subst (λ a. Does (shown e es p over) (shown e es p over) a) (sym is) (replied_does e es p p over r)
 
-pub put_does : (e : Engine) (es : List Entry) (p q : Batch) (over : Bool) (name value : List ℕ) → is_full (K name) p ≡ false → q ≡ put key_cmp (K name) (Some value) p → Does (shown e es p over) (shown e es q over) (put_answer (shown e es p over) name value)
-put_does e es p q over name value room is =
-    let s = shown e es p over in
-    let b = put key_cmp (K name) (Some value) p in
-    subst (λ a. Does s (shown e es q over) a) (sym (put-room s.state s.own name value room)) (subst (λ q. Does s (shown e es q over) (changed name (Some value) s.state s.own)) (sym is) (replied_does e es p b over (reply.Pending (length b))))
+-- what a `put` or a `del` is answered
+abbrev pub set_answer : Session → List ℕ → Option (List ℕ) → Answer
+set_answer s name o = answer_command s.state s.own (set_command name o)
 
-pub put_count : (e : Engine) (es : List Entry) (p q : Batch) (over : Bool) (name value : List ℕ) → is_full (K name) p ≡ false → q ≡ put key_cmp (K name) (Some value) p → reply.Pending (length q) ≡ (put_answer (shown e es p over) name value).reply
-put_count e es p q over name value room is =
+pub set_does : (e : Engine) (es : List Entry) (p q : Batch) (over : Bool) (name : List ℕ) (o : Option (List ℕ)) → is_full (K name) p ≡ false → q ≡ put key_cmp (K name) o p → Does (shown e es p over) (shown e es q over) (set_answer (shown e es p over) name o)
+set_does e es p q over name o room is =
     let s = shown e es p over in
-    ap (λ q. reply.Pending (length q)) is ∙ ap (λ (a : Answer). a.reply) (sym (put-room s.state s.own name value room))
+    let b = put key_cmp (K name) o p in
+    subst (λ a. Does s (shown e es q over) a) (sym (set-room s.state s.own name o room)) (subst (λ q. Does s (shown e es q over) (changed name o s.state s.own)) (sym is) (replied_does e es p b over (reply.Pending (length b))))
+
+pub set_count : (e : Engine) (es : List Entry) (p q : Batch) (over : Bool) (name : List ℕ) (o : Option (List ℕ)) → is_full (K name) p ≡ false → q ≡ put key_cmp (K name) o p → reply.Pending (length q) ≡ (set_answer (shown e es p over) name o).reply
+set_count e es p q over name o room is =
+    let s = shown e es p over in
+    ap (λ q. reply.Pending (length q)) is ∙ ap (λ (a : Answer). a.reply) (sym (set-room s.state s.own name o room))
 
 length_snoc : {X : Type 0} (xs : List X) (x : X) → length (xs ++ x ∷ []) ≡ length xs + 1
 length_snoc xs x = length-append xs (x ∷ [])
@@ -132,25 +136,25 @@ module _ (e : Engine) (es : List Entry) (p : Batch) (over : Bool) (s : Session) 
   pub same_does : (new : Session) (f : Session → Answer) → Does old new (f old) → Does s new (f s)
   same_does new f d = subst (λ t. Does t new (f t)) is d
 
-  pub full_does : (q : Batch) (name value k : List ℕ) → k ≡ K name → IsTrue (is_full k p) → q ≡ p → Does s (shown e es q over) (put_answer s name value)
-  full_does q name value k key full same =
-      same_does (shown e es q over) (λ t. put_answer t name value)
-      (subst (λ q. Does old (shown e es q over) (put_answer old name value)) (sym same)
-      (refused_does e es p over (reply.No refusal.Pending) (put_answer old name value) (put-full old.state old.own name value (ap (λ k. is_full k p) (sym key) ∙ full))))
+  pub full_does : (q : Batch) (name : List ℕ) (o : Option (List ℕ)) (k : List ℕ) → k ≡ K name → IsTrue (is_full k p) → q ≡ p → Does s (shown e es q over) (set_answer s name o)
+  full_does q name o k key full same =
+      same_does (shown e es q over) (λ t. set_answer t name o)
+      (subst (λ q. Does old (shown e es q over) (set_answer old name o)) (sym same)
+      (refused_does e es p over (reply.No refusal.Pending) (set_answer old name o) (set-full old.state old.own name o (ap (λ k. is_full k p) (sym key) ∙ full))))
 
-  pub full_reply : (name value k : List ℕ) → k ≡ K name → IsTrue (is_full k p) → reply.No refusal.Pending ≡ (put_answer s name value).reply
-  full_reply name value k key full =
-      ap (λ (a : Answer). a.reply) (sym (put-full old.state old.own name value (ap (λ k. is_full k p) (sym key) ∙ full))) ∙ ap (λ (t : Session). (put_answer t name value).reply) is
+  pub full_reply : (name : List ℕ) (o : Option (List ℕ)) (k : List ℕ) → k ≡ K name → IsTrue (is_full k p) → reply.No refusal.Pending ≡ (set_answer s name o).reply
+  full_reply name o k key full =
+      ap (λ (a : Answer). a.reply) (sym (set-full old.state old.own name o (ap (λ k. is_full k p) (sym key) ∙ full))) ∙ ap (λ (t : Session). (set_answer t name o).reply) is
 
-  pub room_does : (q : Batch) (name value k : List ℕ) → k ≡ K name → (IsTrue (is_full k p) → ⊥) → q ≡ put key_cmp k (Some value) p → Does s (shown e es q over) (put_answer s name value)
-  room_does q name value k key room made =
-      same_does (shown e es q over) (λ t. put_answer t name value)
-      (put_does e es p q over name value (ap (λ k. is_full k p) (sym key) ∙ not_full (is_full k p) room) (made ∙ ap (λ k. put key_cmp k (Some value) p) key))
+  pub room_does : (q : Batch) (name : List ℕ) (o : Option (List ℕ)) (k : List ℕ) → k ≡ K name → (IsTrue (is_full k p) → ⊥) → q ≡ put key_cmp k o p → Does s (shown e es q over) (set_answer s name o)
+  room_does q name o k key room made =
+      same_does (shown e es q over) (λ t. set_answer t name o)
+      (set_does e es p q over name o (ap (λ k. is_full k p) (sym key) ∙ not_full (is_full k p) room) (made ∙ ap (λ k. put key_cmp k o p) key))
 
-  pub room_reply : (q : Batch) (name value k : List ℕ) → k ≡ K name → (IsTrue (is_full k p) → ⊥) → q ≡ put key_cmp k (Some value) p → reply.Pending (length q) ≡ (put_answer s name value).reply
-  room_reply q name value k key room made =
-      put_count e es p q over name value (ap (λ k. is_full k p) (sym key) ∙ not_full (is_full k p) room) (made ∙ ap (λ k. put key_cmp k (Some value) p) key)
-      ∙ ap (λ (t : Session). (put_answer t name value).reply) is
+  pub room_reply : (q : Batch) (name : List ℕ) (o : Option (List ℕ)) (k : List ℕ) → k ≡ K name → (IsTrue (is_full k p) → ⊥) → q ≡ put key_cmp k o p → reply.Pending (length q) ≡ (set_answer s name o).reply
+  room_reply q name o k key room made =
+      set_count e es p q over name o (ap (λ k. is_full k p) (sym key) ∙ not_full (is_full k p) room) (made ∙ ap (λ k. put key_cmp k o p) key)
+      ∙ ap (λ (t : Session). (set_answer t name o).reply) is
 
   pub ledger_does : 2 ^ 62 ≤ length es → Does s (shown e es p over) (commit_answer s)
   ledger_does full = same_does (shown e es p over) commit_answer (refused_does e es p over (reply.No refusal.Last) (commit_answer old) (commit-ledger old.state old.own (above_test (length es) (2 ^ 62) full)))

@@ -2,7 +2,9 @@ pub mod Said
 pub mod Doings
 pub mod Pushed
 pub mod Lines
+pub mod Bases
 pub mod Images
 pub mod Advancing
 pub mod Input
 pub mod Sofar
+pub mod HeldLines

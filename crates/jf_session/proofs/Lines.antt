@@ -1,34 +1,23 @@
 -- What a line is answered, by what reading it gives.
-use Rattle.std.proofs.Common.{◌≡◌, ◌∙◌, ℕ, Bool, true, false, cond, Option, Some, None, List, [], ◌∷◌, ◌++◌, refl, sym, ap, append-nil}
-use Rattle.jf_hash.specs.Roots.{root}
-use Rattle.jf_model.specs.Versions.{newest}
+use Rattle.std.proofs.Common.{◌≡◌, ◌∙◌, ℕ, Bool, true, false, cond, Option, Some, None, List, [], ◌++◌, refl, ap, append-nil}
 use Rattle.jf_model.specs.States.{State}
 use Rattle.jf_answers.specs.Own.{Own}
 use Rattle.jf_answers.specs.Refusals.{refused_by, is_built}
-use Rattle.jf_answers.specs.Answers.{Answer, answer, answer_to, answer_command, not_read, done, replied}
+use Rattle.jf_answers.specs.Answers.{Answer, answer, answer_to, answer_command, not_read, too_long, done, replied}
 use Rattle.jf_answers.specs.Runs.{answer_text}
 use Rattle.jf_script.specs.Words.{is_long}
 use Rattle.jf_script.specs.Commands.{command_of}
 use Rattle.jf_script.specs.Replies.{reply_text}
-use Rattle.jf_script.specs.declared.command.Base.{Base}
-use Rattle.jf_script.specs.declared.command.Base.TheVariants as base
 use Rattle.jf_script.specs.declared.command.Command.{Command}
 use Rattle.jf_script.specs.declared.command.Command.TheVariants as command
 use Rattle.jf_script.specs.declared.reply.Refusal.{Refusal}
+use Rattle.jf_script.specs.declared.reply.Reply.{Reply}
 use Rattle.jf_script.specs.declared.reply.Reply.TheVariants as reply
-use Rattle.jf_session.specs.Sessions.{Session, Does, root_answer, command_answer}
-
-pub answer-long : (s : State) (own : Own) (line : List ℕ) → is_long line ≡ true → answer s own line ≡ not_read s own
-unfolding answer
-answer-long s own line long = ap (λ b. cond b (not_read s own) (answer_to (command_of line) s own)) long
+use Rattle.jf_session.specs.Sessions.{Session, Does}
 
 pub answer-short : (s : State) (own : Own) (line : List ℕ) (o : Option Command) → is_long line ≡ false → command_of line ≡ o → answer s own line ≡ answer_to o s own
 unfolding answer
-answer-short s own line o short read = ap (λ b. cond b (not_read s own) (answer_to (command_of line) s own)) short ∙ ap (λ o. answer_to o s own) read
-
-pub root-head : (s : Session) → root_answer s base.Head ≡ replied (reply.Root (root (newest s.state.all))) s.state s.own
-unfolding refused_by
-root-head s = refl
+answer-short s own line o short read = ap (λ b. cond b (too_long s own) (answer_to (command_of line) s own)) short ∙ ap (λ o. answer_to o s own) read
 
 -- ---- no answer has a block yet
 
@@ -65,12 +54,12 @@ to_block (Some c) s own = built_block (is_built c) c s own
 
 pub answer-block : (s : State) (own : Own) (line : List ℕ) → (answer s own line).block ≡ []
 unfolding answer
-answer-block s own line = elim (is_long line) as (λ b. (cond b (not_read s own) (answer_to (command_of line) s own)).block ≡ []) [ true ↦ refl | false ↦ to_block (command_of line) s own ]
+answer-block s own line = elim (is_long line) as (λ b. (cond b (too_long s own) (answer_to (command_of line) s own)).block ≡ []) [ true ↦ refl | false ↦ to_block (command_of line) s own ]
 
 -- so its text is the line of its reply
 pub answer_text-line : (n : ℕ) (s : State) (own : Own) (line : List ℕ) → answer_text n (answer s own line) ≡ reply_text n (answer s own line).reply
 answer_text-line n s own line = ap (λ b. reply_text n (answer s own line).reply ++ b) (answer-block s own line) ∙ append-nil (reply_text n (answer s own line).reply)
 
--- a line that is not read changes nothing
-pub unread_does : (s : Session) (a : Answer) → a ≡ not_read s.state s.own → Does s s a
-unread_does s a is = rw is (record { state = refl; own = refl; entries = refl; legal = tt; disk = record { history = refl; moment = refl; faults = refl } })
+-- a reply alone changes nothing
+pub replied_stays : (s : Session) (r : Reply) (a : Answer) → a ≡ replied r s.state s.own → Does s s a
+replied_stays s r a is = rw is (record { state = refl; own = refl; entries = refl; legal = tt; disk = record { history = refl; moment = refl; faults = refl } })

@@ -1,5 +1,5 @@
 -- What commands are answered, by the first cause that holds.
-use Rattle.std.proofs.Common.{◌≡◌, ◌⊎◌, inl, inr, ℕ, ◌+◌, ◌-◌, ◌^◌, ◌<◌, ◌≤◌, Bool, true, false, cond, IsTrue, Option, Some, None, List, [], ◌∷◌, refl, sym, ap, ◌∙◌, arith}
+use Rattle.std.proofs.Common.{◌≡◌, ℕ, ◌-◌, ◌^◌, Bool, true, false, cond, Option, Some, None, List, refl, ap, ◌∙◌}
 use Rattle.std.specs.Prelude.{nat_le}
 use Rattle.jf_hash.specs.Hashes.{K}
 use Rattle.jf_split.specs.Limits.{is_full}
@@ -7,17 +7,25 @@ use Rattle.jf_model.specs.States.{State}
 use Rattle.jf_answers.specs.Own.{Own}
 use Rattle.jf_answers.specs.Refusals.{refused_by}
 use Rattle.jf_answers.specs.Answers.{Answer, answer_command, replied, changed, committed}
+use Rattle.jf_script.specs.declared.command.Command.{Command}
 use Rattle.jf_script.specs.declared.command.Command.TheVariants as command
 use Rattle.jf_script.specs.declared.reply.Refusal.TheVariants as refusal
 use Rattle.jf_script.specs.declared.reply.Reply.TheVariants as reply
 
-pub put-full : (s : State) (own : Own) (name value : List ℕ) → is_full (K name) own.pending ≡ true → answer_command s own (command.Put name value) ≡ replied (reply.No refusal.Pending) s own
-unfolding refused_by
-put-full s own name value e = ap (λ b. elim (cond b (Some refusal.Pending) None) as (λ x. Answer) [ Some why ↦ replied (reply.No why) s own | None ↦ changed name (Some value) s own ]) e
+-- a `put` of a value, or a `del`
+abbrev pub set_command : List ℕ → Option (List ℕ) → Command
+set_command name (Some value) = command.Put name value
+set_command name None = command.Del name
 
-pub put-room : (s : State) (own : Own) (name value : List ℕ) → is_full (K name) own.pending ≡ false → answer_command s own (command.Put name value) ≡ changed name (Some value) s own
+pub set-full : (s : State) (own : Own) (name : List ℕ) (o : Option (List ℕ)) → is_full (K name) own.pending ≡ true → answer_command s own (set_command name o) ≡ replied (reply.No refusal.Pending) s own
 unfolding refused_by
-put-room s own name value e = ap (λ b. elim (cond b (Some refusal.Pending) None) as (λ x. Answer) [ Some why ↦ replied (reply.No why) s own | None ↦ changed name (Some value) s own ]) e
+set-full s own name (Some value) e = ap (λ b. elim (cond b (Some refusal.Pending) None) as (λ x. Answer) [ Some why ↦ replied (reply.No why) s own | None ↦ changed name (Some value) s own ]) e
+set-full s own name None e = ap (λ b. elim (cond b (Some refusal.Pending) None) as (λ x. Answer) [ Some why ↦ replied (reply.No why) s own | None ↦ changed name None s own ]) e
+
+pub set-room : (s : State) (own : Own) (name : List ℕ) (o : Option (List ℕ)) → is_full (K name) own.pending ≡ false → answer_command s own (set_command name o) ≡ changed name o s own
+unfolding refused_by
+set-room s own name (Some value) e = ap (λ b. elim (cond b (Some refusal.Pending) None) as (λ x. Answer) [ Some why ↦ replied (reply.No why) s own | None ↦ changed name (Some value) s own ]) e
+set-room s own name None e = ap (λ b. elim (cond b (Some refusal.Pending) None) as (λ x. Answer) [ Some why ↦ replied (reply.No why) s own | None ↦ changed name None s own ]) e
 
 -- what a commit is answered, by its two tests
 abbrev pub commit_by : State → Own → Bool → Bool → Answer

@@ -1,5 +1,5 @@
 -- A run so far, between two lines, and how it ends.
-use Rattle.std.proofs.Common.{◌≡◌, ◌⊎◌, inl, inr, ℕ, zero, suc, ◌+◌, ◌-◌, ◌<◌, ◌≤◌, Bool, true, false, Option, Some, None, option_map, List, [], ◌∷◌, ◌++◌, map, take, drop, length, refl, sym, ap, ap₂, ◌∙◌, subst, arith, append_assoc, append-nil, length-append, take_at, take-append-drop, eq-or-lt_of_le, cond, not, ◌^◌}
+use Rattle.std.proofs.Common.{◌≡◌, ◌⊎◌, inl, inr, ℕ, suc, ◌+◌, ◌-◌, ◌<◌, ◌≤◌, true, false, Option, Some, None, option_map, List, [], ◌∷◌, ◌++◌, take, drop, length, refl, sym, ap, ◌∙◌, subst, arith, append_assoc, append-nil, length-append, take_at, take-append-drop, eq-or-lt_of_le, cond, not, ◌^◌}
 use Rattle.std.specs.Prelude.{◌==◌}
 use Rattle.std.specs.List.{AllByRecursion, concat, position_or_len, before_first, after_first}
 use Rattle.jf_io.specs.LineReader.{is_line_feed}
@@ -7,10 +7,9 @@ use Rattle.jf_io.specs.Sink.{IsCutShort}
 use Rattle.jf_model.specs.States.{State}
 use Rattle.jf_answers.specs.Own.{Own}
 use Rattle.jf_answers.specs.Answers.{Answer, answer}
-use Rattle.jf_answers.specs.Runs.{Run, answers_from, answers_from-append, answer_text, text_of, texts_of}
+use Rattle.jf_answers.specs.Runs.{answers_from, answers_from-append, answer_text, text_of, texts_of}
 use Rattle.jf_session.specs.Sessions.{Session, Does, Stays, Tries}
-use Rattle.jf_session.specs.Runs.{Advances, run_of, IsDatedBy, Reads, Writes, IsCut, Ran}
-use Rattle.jf_session.specs.declared.running.End.{End}
+use Rattle.jf_session.specs.Runs.{Advances, run_of, IsDatedBy, Reads, IsCut, Ran}
 use Rattle.jf_session.specs.declared.running.End.TheVariants as end
 use Rattle.jf_session.proofs.Advancing.{advances_none, advances_line, advances_stays, text_more, map_append, concat_append}
 use Rattle.jf_session.proofs.Input.{IsPlain, ended, plain_more, front_plain, front_split, front_whole, held_plain, reads_written, reads_wanting, reads_done, reads_fault, reads_disk, next_line, last_done, last_written, last_wanting, last_disk}
@@ -59,17 +58,18 @@ pub sofar_none : (s : Session) (rest text : Option (List ℕ)) → Sofar s s res
 unfolding answers_from
 sofar_none s rest text = record { done = []; advances = advances_none s; plain = tt; written = nothing_written text; input = λ all is. (all, is, refl) }
 
-pub sofar_fetched : (old s : Session) (rest rest' rest'' text text' : Option (List ℕ)) (held held' : List ℕ) → Sofar old s rest rest' text text' held
-    → ((r : List ℕ) → rest' ≡ Some r → (left : List ℕ) × (rest'' ≡ Some left) × (held' ++ left ≡ held ++ r)) → Sofar old s rest rest'' text text' held'
-sofar_fetched old s rest rest' rest'' text text' held held' f kept = record {
+-- bytes were taken
+pub sofar_taken : (old s : Session) (rest rest' rest'' text text' : Option (List ℕ)) (whole taken : List ℕ) → Sofar old s rest rest' text text' whole
+    → ((r : List ℕ) → rest' ≡ Some r → (left : List ℕ) × (rest'' ≡ Some left) × (r ≡ taken ++ left)) → Sofar old s rest rest'' text text' (whole ++ taken)
+sofar_taken old s rest rest' rest'' text text' whole taken f given = record {
   done = f.done;
   advances = f.advances;
   plain = f.plain;
   written = f.written;
   input = λ all is.
       let i = f.input all is in
-      let k = kept i.0 i.1 in
-      (k.0, k.1, i.2 ∙ append_assoc (ended f.done) held i.0 ∙ ap (λ t. ended f.done ++ t) (sym k.2) ∙ sym (append_assoc (ended f.done) held' k.0));
+      let k = given i.0 i.1 in
+      (k.0, k.1, i.2 ∙ ap (λ t. ended f.done ++ whole ++ t) k.2 ∙ sym (append_assoc (ended f.done ++ whole) taken k.0) ∙ ap (λ t. t ++ k.0) (append_assoc (ended f.done) whole taken));
 }
 
 module _ (old s : Session) (rest rest' text text' : Option (List ℕ)) (held : List ℕ) (f : Sofar old s rest rest' text text' held) where

@@ -1,5 +1,6 @@
 -- One script over a store of its own: what the session has come to, and what a line makes of it.
-use Rattle.std.specs.Prelude.{◌≡◌, ◌⊎◌, ℕ, ◌-◌, ◌<◌, ◌≤◌, ◌^◌, Bool, List, [], ◌∷◌, ◌++◌, length, Option, Some, None, IfSome}
+use Rattle.std.specs.Prelude.{◌≡◌, ◌⊎◌, ℕ, ◌-◌, ◌<◌, ◌≤◌, ◌^◌, Bool, if◌then◌else◌, List, [], ◌∷◌, ◌++◌, length, Option, Some, None, IfSome}
+use Rattle.jf_path.specs.Checks.{first_of}
 use Rattle.jf_disk.specs.Disk.{History}
 use Rattle.jf_hash.specs.Maps.{Batch}
 use Rattle.jf_model.specs.States.{State}
@@ -10,10 +11,13 @@ use Rattle.jf_model.specs.declared.entries.Landing.TheVariants as landing
 use Rattle.jf_journal.specs.Steps.{Lands, StopsWell, Succeeds}
 use Rattle.jf_engine.specs.Engines.{Engine}
 use Rattle.jf_answers.specs.Own.{Own, no_pins}
+use Rattle.jf_answers.specs.Refusals.{base_causes, version_causes, is_readable}
 use Rattle.jf_answers.specs.Answers.{Answer, answer_command, answer_to}
 use Rattle.jf_script.specs.declared.command.Base.{Base}
 use Rattle.jf_script.specs.declared.command.Command.{Command}
 use Rattle.jf_script.specs.declared.command.Command.TheVariants as command
+use Rattle.jf_script.specs.declared.reply.Refusal.{Refusal}
+use Rattle.jf_script.specs.declared.reply.Refusal.TheVariants as refusal
 
 -- what a session shows: the state of its store, its own part, its entries; the disk's history, where it is told, moment
 -- and count of faults; and whether it is over
@@ -108,5 +112,19 @@ put_answer s name value = answer_command s.state s.own (command.Put name value)
 abbrev pub commit_answer : Session → Answer
 commit_answer s = answer_command s.state s.own command.Commit
 
+abbrev pub del_answer : Session → List ℕ → Answer
+del_answer s name = answer_command s.state s.own (command.Del name)
+
+abbrev pub get_answer : Session → Base → List ℕ → Answer
+get_answer s b name = command_answer s (command.Get b name)
+
 abbrev pub root_answer : Session → Base → Answer
 root_answer s b = command_answer s (command.Root b)
+
+-- why a version is not read, if it isn't
+abbrev pub version_refusal : Session → ℕ → Option Refusal
+version_refusal s w = first_of (version_causes s.state w)
+
+-- why a base is not read, if it isn't: one that can't be read yet is outside the grammar
+abbrev pub read_refusal : Session → Base → Option Refusal
+read_refusal s b = if is_readable b then first_of (base_causes s.state s.own b) else Some refusal.Syntax

@@ -15,6 +15,9 @@ use jf_path::Bytes;
 use std::alloc::Global;
 use std::thread::Threads;
 
+// The most bytes of a line that is read. A longer one is answered alike, whatever its bytes.
+const LINE_BYTES: usize = 8_500;
+
 /// How a run over a script ended.
 #[derive(Clone, Copy, Debug, PartialEq, Eq)]
 pub enum End {
@@ -74,7 +77,7 @@ fn answer_all<S: Source, K: Sink, D: Disk, H: Threads + Sync>(
     ensures read { result ≡ Err End.ReadFault → (S.faults source.old < S.faults source.new) ⊎ (S.faults source.old ≡ 2 ^ 64 - 1) }
     ensures write { result ≡ Err End.WriteFault → (K.faults sink.old < K.faults sink.new) ⊎ (K.faults sink.old ≡ 2 ^ 64 - 1) }
 {
-    let mut reader = LineReader::new(alloc);
+    let mut reader = LineReader::new(alloc, LINE_BYTES);
     let mut out = Bytes::new(alloc);
     // No source gives more lines than this.
     for _turn in 0..u64::MAX {

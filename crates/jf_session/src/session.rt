@@ -1,18 +1,20 @@
 // A session over a store of its own.
 ghost use Rattle.std.specs.Prelude.{◌≡◌, ◌⊎◌, ◌↔◌, ℕ, ◌+◌, ◌-◌, ◌<◌, ◌≤◌, ◌^◌, length, [], ◌∷◌, ◌++◌, Some, None, Err, IfOk, IfErr, OnOk, OnErr, true, false};
+ghost use Rattle.std.specs.Option.{option_copied};
 ghost use Rattle.jf_disk.specs.Disk.{History, reads};
 ghost use Rattle.jf_disk.specs.Moments.{Extends};
 ghost use Rattle.jf_disk.specs.declared.side.Side.{Side};
-ghost use Rattle.jf_model.specs.Versions.{Versions};
+ghost use Rattle.jf_model.specs.Versions.{Versions, map_of};
 ghost use Rattle.jf_model.specs.States.{opened};
 ghost use Rattle.jf_journal.specs.Standing.{StandsFor, IsDamagedAt, generation};
 ghost use Rattle.jf_journal.specs.Steps.{Opens, StopsWell, IsCalm};
 ghost use Rattle.jf_engine.specs.Engines.{IsSettledOn};
 ghost use Rattle.jf_answers.specs.Own.{begun};
+ghost use Rattle.jf_answers.specs.Refusals.{base_map};
 ghost use Rattle.jf_answers.specs.Answers.{answer};
 ghost use Rattle.jf_answers.specs.Runs.{answer_text};
 ghost use Rattle.jf_session.specs.Runs.{IsDatedBy};
-ghost use Rattle.jf_session.specs.Sessions.{Does, Stays, Tries, command_answer, put_answer, commit_answer, root_answer};
+ghost use Rattle.jf_session.specs.Sessions.{Does, Stays, Tries, command_answer, put_answer, del_answer, commit_answer, get_answer, root_answer, version_refusal, read_refusal};
 ghost use Rattle.jf_script.specs.Bounds.{IsBounded};
 
 use crate::stop::Stop;
@@ -20,7 +22,7 @@ use jf_disk::Disk;
 use jf_engine::{Engine, EngineFault, Landed, OpenFault, OpenRefused};
 use jf_hash::key_of;
 use jf_model::{Entry, Landing, Ledger};
-use jf_path::Bytes;
+use jf_path::{Bytes, Memory};
 use jf_script::{Base, Command, LineFault, Refusal, Reply, read_line, write_reply};
 use jf_split::{Batch, BatchFault};
 use std::alloc::Global;
@@ -167,7 +169,7 @@ impl<D: Disk> Session<D> {
         let command = match read_line(alloc, line) {
             Ok(command) => command,
             Err(LineFault::Syntax) => return Ok(Reply::No(Refusal::Syntax)),
-            Err(LineFault::LineTooLong) => return Ok(Reply::No(Refusal::Syntax)),
+            Err(LineFault::LineTooLong) => return Ok(Reply::No(Refusal::Long)),
             Err(LineFault::Memory) => return Err(Stop::Memory),
         };
         self.obeyed(rt, alloc, &command)
@@ -191,9 +193,27 @@ impl<D: Disk> Session<D> {
     {
         match command {
             Command::Put { name, value } => self.put(alloc, name.as_slice(), value.as_slice()),
+            Command::Del { name } => self.del(alloc, name.as_slice()),
             Command::Commit => self.commit(rt, alloc),
+            Command::Get { base, name } => self.get(alloc, *base, name.as_slice()),
             Command::Root { base } => Ok(self.root(*base)),
             _ => Ok(Reply::No(Refusal::Syntax)),
+        }
+    }
+
+    // The value of a name in what a base names.
+    fn get(&self, alloc: Global, base: Base, name: &[u8]) -> Result<Reply, Stop>
+        ensures ok { OnOk result (Does self.now self.now (get_answer self.now base name.now)) }
+        ensures reply { IfOk result (λ r. r ≡ (get_answer self.now base name.now).reply) }
+        ensures only { OnErr result (result ≡ Err Stop.Memory) }
+    {
+        let version = match self.version_of(base) {
+            Ok(version) => version,
+            Err(why) => return Ok(Reply::No(why)),
+        };
+        match copied(alloc, self.engine.get(version, &key_of(name))) {
+            Ok(value) => Ok(Reply::Value { value }),
+            Err(Memory) => Err(Stop::Memory),
         }
     }
 
@@ -202,12 +222,48 @@ impl<D: Disk> Session<D> {
         ensures reply { result ≡ (root_answer self.now base).reply }
         ensures does { Does self.now self.now (root_answer self.now base) }
     {
+        let version = match self.version_of(base) {
+            Ok(version) => version,
+            Err(why) => return Reply::No(why),
+        };
+        self.engine.know();
+        let root = self.engine.root_of(version).unwrap();
+        Reply::Root { root }
+    }
+
+    // The version that a base names, or why it isn't read.
+    fn version_of(&self, base: Base) -> Result<u64, Refusal>
+        ensures refused { IfErr result (λ why. read_refusal self.now base ≡ Some why) }
+        ensures read { IfOk result (λ w. read_refusal self.now base ≡ None) }
+        ensures kept { IfOk result (λ w. (self.now.state.all.floor ≤ w) × (w ≤ self.now.state.all.head)) }
+        ensures map { IfOk result (λ w. base_map self.now.state self.now.own base ≡ map_of self.now.state.all w) }
+    {
         match base {
-            Base::Head => Reply::Root {
-                root: self.engine.root(),
-            },
-            _ => Reply::No(Refusal::Syntax),
+            Base::Head => {
+                self.engine.know();
+                Ok(self.engine.head())
+            }
+            Base::Version(version) => self.kept(version),
+            Base::Fork(_) | Base::Place(_) => Err(Refusal::Syntax),
         }
+    }
+
+    // The same version, or why it isn't read.
+    fn kept(&self, version: u64) -> Result<u64, Refusal>
+        ensures refused { IfErr result (λ why. version_refusal self.now version ≡ Some why) }
+        ensures read { IfOk result (λ w. version_refusal self.now version ≡ None) }
+        ensures same { IfOk result (λ w. w ≡ version) }
+        ensures kept { IfOk result (λ w. (self.now.state.all.floor ≤ version) × (version ≤ self.now.state.all.head)) }
+    {
+        let head = self.engine.head();
+        if version > head {
+            return Err(Refusal::Future(head));
+        }
+        let bound = self.engine.floor();
+        if version < bound {
+            return Err(Refusal::Retired(bound));
+        }
+        Ok(version)
     }
 
     // Sets the key of a name in what is pending.
@@ -221,6 +277,25 @@ impl<D: Disk> Session<D> {
         ensures only { OnErr result (result ≡ Err Stop.Memory) }
     {
         match self.pending.put(alloc, &key_of(name), value) {
+            Ok(()) => {}
+            Err(BatchFault::Full) => return Ok(Reply::No(Refusal::Pending)),
+            Err(BatchFault::Memory) => return Err(Stop::Memory),
+        }
+        Ok(Reply::Pending {
+            count: self.pending.len() as u64,
+        })
+    }
+
+    // Lets the key of a name be removed by what is pending.
+    fn del(&mut self, alloc: Global, name: &[u8]) -> Result<Reply, Stop>
+        requires { self.old.over ≡ false }
+        ensures ok { OnOk result (Does self.old self.new (del_answer self.old name.now)) }
+        ensures reply { IfOk result (λ r. r ≡ (del_answer self.old name.now).reply) }
+        ensures same { self.new.over ≡ false }
+        ensures memory { OnErr result (Stays self.old self.new) }
+        ensures only { OnErr result (result ≡ Err Stop.Memory) }
+    {
+        match self.pending.del(alloc, &key_of(name)) {
             Ok(()) => {}
             Err(BatchFault::Full) => return Ok(Reply::No(Refusal::Pending)),
             Err(BatchFault::Memory) => return Err(Stop::Memory),
@@ -272,5 +347,15 @@ impl<D: Disk> Session<D> {
             Err(EngineFault::Broken) => Err(Stop::Broken),
             Err(EngineFault::Memory) => Err(Stop::Memory),
         }
+    }
+}
+
+// A copy of a value that is there.
+fn copied(alloc: Global, value: Option<&[u8]>) -> Result<Option<Bytes>, Memory>
+    ensures { IfOk result (λ v. v ≡ option_copied value.entry) }
+{
+    match value {
+        Some(value) => Ok(Some(Bytes::copy_of(alloc, value)?)),
+        None => Ok(None),
     }
 }

@@ -1,2 +1,5 @@
 pub mod Puts
 pub mod Searches
+pub mod Rises
+pub mod PieceSteps
+pub mod Ends

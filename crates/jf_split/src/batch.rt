@@ -1,13 +1,15 @@
 // A batch of changes, in the order of their keys.
-ghost use Rattle.std.specs.Prelude.{◌≡◌, ◌⊎◌, [], ◌≤◌, length, OnOk, OnErr, IfOk, IfErr, IfSome, IsSome, IsOk, Some, None, Err, IsTrue, T, map};
+ghost use Rattle.std.specs.Prelude.{◌≡◌, ◌⊎◌, [], ◌≤◌, ◌<◌, length, OnOk, OnErr, IfOk, IfErr, IfSome, IsSome, IsOk, Some, None, Err, IsTrue, T, map};
 ghost use Rattle.std.specs.List.{IsDistinct};
 ghost use Rattle.std.specs.FinMap.{put, find, is_sorted};
 ghost use Rattle.jf_path.specs.Keys.{key_cmp, IsBytes};
 ghost use Rattle.jf_hash.specs.Maps.{IsBatch, same_key};
 ghost use Rattle.jf_split.specs.Limits.{IsWithinLimits, is_full};
+ghost use Rattle.jf_split.specs.Pieces.{AgreeBefore, ArePieces};
 ghost use Rattle.jf_split.specs.Places.{IsPlaceOf, IsGapFor};
 
 use crate::fault::BatchFault;
+use crate::piece::{Piece, pieces_of};
 use jf_path::{Bytes, Key, Memory};
 use std::alloc::Global;
 use std::marker::Model;
@@ -71,6 +73,16 @@ impl Batch {
             entries.push((*key, copy_of(alloc, value)?))?;
         }
         Ok(Batch { entries })
+    }
+
+    /// The pieces into which the batch falls at a depth in nibbles, where all keys have the same nibbles before it: one
+    /// for each nibble that they have there, in order, at most sixteen.
+    pub fn pieces_at(&self, alloc: Global, depth: usize) -> Result<Vec<Piece>, Memory>
+        requires depth { depth < 64 }
+        requires agree { AgreeBefore depth self.now }
+        ensures { IfOk result (λ ps. ArePieces depth self.now ps.items) }
+    {
+        pieces_of(alloc, &self.entries, depth)
     }
 
     /// Sets a key to a value of at most 4,096 bytes. A refusal leaves the batch as it was.

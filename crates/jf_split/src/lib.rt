@@ -5,10 +5,12 @@
 mod batch;
 mod fault;
 mod list;
+mod piece;
 
 pub use batch::Batch;
 pub use fault::BatchFault;
 pub use list::BatchList;
+pub use piece::Piece;
 
 #[cfg(test)]
 mod tests;

@@ -1,6 +1,10 @@
 // That calls succeed, and what the limits are.
+ghost use Rattle.std.specs.Prelude.{◌≡◌, ℕ, ◌<◌, ◌≤◌, IsTrue};
+ghost use Rattle.jf_path.specs.Nibbles.{nibble};
+ghost use Rattle.jf_split.specs.Pieces.{AgreeBefore};
+
 use crate::*;
-use jf_path::{Key, Memory};
+use jf_path::{Key, Memory, nibble};
 use std::alloc::Global;
 use std::test::Fail;
 
@@ -119,6 +123,75 @@ fn a_list_has_its_batches_in_order(rt: HostRuntime) -> Result<(), Fail> {
             told(rt.alloc(), batch)?.as_slice(),
             [(first, Some(b'x'))].as_slice()
         );
+    }
+    Ok(())
+}
+
+// Whether two keys have the same first `depth` nibbles.
+fn begin_alike(a: &Key, b: &Key, depth: usize) -> bool
+    requires { depth ≤ 64 }
+    ensures { IsTrue result → (i : ℕ) → i < depth → nibble a.now i ≡ nibble b.now i }
+{
+    for i in 0..depth {
+        if nibble(a, i) != nibble(b, i) {
+            return false;
+        }
+    }
+    true
+}
+
+// Whether all keys have the same first `depth` nibbles.
+fn agree(batch: &Batch, depth: usize) -> bool
+    requires { depth ≤ 64 }
+    ensures { IsTrue result → AgreeBefore depth batch.now }
+{
+    let entries = batch.as_slice();
+    for entry in entries {
+        if !begin_alike(&entries[0].0, &entry.0, depth) {
+            return false;
+        }
+    }
+    true
+}
+
+#[test]
+fn a_batch_falls_into_pieces(rt: HostRuntime) -> Result<(), Fail> {
+    for (keys, depth, pieces) in [
+        ([].as_slice(), 0, [].as_slice()),
+        (
+            [
+                0x0100_0000,
+                0x0f00_0000,
+                0x1000_0000,
+                0xa000_0000,
+                0xff00_0000,
+            ]
+            .as_slice(),
+            0,
+            [(0, 0, 2), (1, 2, 3), (10, 3, 4), (15, 4, 5)].as_slice(),
+        ),
+        (
+            [0x3000_0000, 0x3100_0000, 0x3100_0001, 0x3f00_0000].as_slice(),
+            1,
+            [(0, 0, 1), (1, 1, 3), (15, 3, 4)].as_slice(),
+        ),
+        (
+            [0x70, 0x75, 0x7f].as_slice(),
+            63,
+            [(0, 0, 1), (5, 1, 2), (15, 2, 3)].as_slice(),
+        ),
+        ([7].as_slice(), 62, [(0, 0, 1)].as_slice()),
+    ] {
+        let mut batch = Batch::new(rt.alloc());
+        for n in keys {
+            batch.put(rt.alloc(), &key(*n), b"x")?;
+        }
+        assert!(rt; depth < 64 && agree(&batch, depth));
+        let mut told = Vec::new(rt.alloc());
+        for piece in &batch.pieces_at(rt.alloc(), depth)? {
+            told.push((piece.nibble.get(), piece.start, piece.end))?;
+        }
+        assert_eq!(rt; told.as_slice(), pieces, "at depth {depth}");
     }
     Ok(())
 }

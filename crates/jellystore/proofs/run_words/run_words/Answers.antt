@@ -1,10 +1,12 @@
-use Rattle.std.proofs.Common.{◌≡◌, ◌⊎◌, inr, sym, subst, IsTrue, ◌∙◌}
+use Rattle.std.proofs.Common.{◌≡◌, ◌⊎◌, inr, sym, subst, IsTrue, ◌∙◌, [], refl}
 use Rattle.jf_disk.specs.Disk.{reads}
 use Rattle.jellystore.specs.Promises.{IsBegun}
 use Rattle.jellystore.specs.declared.status.Status.TheVariants as status
 use Rattle.jellystore.specs.Commands.{is_closing}
 use Rattle.jellystore.proofs.Statuses.{damage_told, refusal_closes, fault_rose}
 use Rattle.jellystore.proofs.Complete.{steady, refused_for_memory, ends_well, is_legal, is_settled}
+use Rattle.jellystore.proofs.Counting.{run_extends, run_counts, run_dated}
+use Rattle.jellystore.proofs.Safe.{run_safe, closed_safe}
 use Rattle.jellystore.proofs.run_words.run_words.Goals as goal
 
 pub returns-in-Err-clause-damaged : goal.returns-in-Err-clause-damaged
@@ -60,3 +62,27 @@ returns-clause-settled g c = λ h told some sound.
     let begun : IsBegun c.in-Ok.session (g.D.Disk.history c.args.disk) (g.D.Disk.moment c.args.disk) (g.D.Disk.faults c.args.disk) c.head-head.result = record { state = c.in-Ok.ensures.state.0; own = c.in-Ok.ensures.state.1; entries = c.in-Ok.ensures.state.2; head_is = sym c.head-head.ensures; moment_on = c.in-Ok.ensures.counts.0; faults_on = c.in-Ok.ensures.counts.1; found = c.in-Ok.ensures.found; settled = c.in-Ok.ensures.settled; extends = c.in-Ok.ensures.extends; stops = c.in-Ok.ensures.stops } in
     is_settled h c.run-disk.result.end c.in-Ok.session (g.S.Source.rest c.args.source.now) (g.S.Source.rest c.run-disk.new.source) (g.K.Sink.text c.args.sink.now) (g.K.Sink.text c.run-disk.new.sink) (g.D.Disk.history c.args.disk) (g.D.Disk.history c.run-disk.result.disk) (g.D.Disk.moment c.args.disk) (g.D.Disk.faults c.args.disk) c.head-head.result
     (g.D.Disk.moment c.run-disk.result.disk) (g.D.Disk.faults c.run-disk.result.disk) c.run-disk.result.entries told (λ d. sound (c.of_end.ensures ∙ d)) begun c.run-disk.ensures.ran
+
+pub returns-then-not-is_run-clause-stops : goal.returns-then-not-is_run-clause-stops
+returns-then-not-is_run-clause-stops g c = λ h v told calm stands.
+    rw c.new.ensures (closed_safe h h v (g.D.Disk.history c.args.disk) (g.D.Disk.moment c.args.disk) status.Usage (g.D.Disk.faults c.args.disk) (g.D.Disk.faults c.args.disk) told (c.know_dated.ensures h told) calm stands (record { more = []; grows = refl; each = tt }))
+
+pub returns-in-Err-clause-stops : goal.returns-in-Err-clause-stops
+returns-in-Err-clause-stops g c = λ h v told calm stands.
+    let went = c.in-Err.ensures.stops_err h v told calm stands in
+    rw c.new-in-Err.ensures (closed_safe h went.0 v (g.D.Disk.history c.in-Err.field-0.disk) (g.D.Disk.moment c.args.disk) c.of_refusal.result (g.D.Disk.faults c.args.disk) (g.D.Disk.faults c.in-Err.field-0.disk) went.1 (c.know_dated.ensures h told) calm stands went.2)
+
+pub returns-clause-extends : goal.returns-clause-extends
+returns-clause-extends g c = λ h told. let r = returns-clause-ran g c in run_extends h r.how r.session _ _ _ _ _ _ _ _ _ _ _ _ told r.opened_ r.ran
+
+pub returns-clause-counts : goal.returns-clause-counts
+returns-clause-counts g c = let r = returns-clause-ran g c in run_counts r.how r.session _ _ _ _ _ _ _ _ _ _ _ _ r.opened_ r.ran
+
+pub returns-clause-dated : goal.returns-clause-dated
+returns-clause-dated g c = let r = returns-clause-ran g c in run_dated r.how r.session _ _ _ _ _ _ _ _ _ _ _ _ r.opened_ r.ran
+
+pub returns-clause-stops : goal.returns-clause-stops
+unfolding returns-clause-ran
+returns-clause-stops g c = λ h v told calm stands.
+    let r = returns-clause-ran g c in
+    rw c.of_end.ensures (run_safe h v r.how r.session _ _ _ _ _ _ _ _ _ _ _ _ c.files_stand_for_one.ensures told (c.know_dated.ensures h told) c.know_dated-2.ensures calm stands r.opened_ r.ran)

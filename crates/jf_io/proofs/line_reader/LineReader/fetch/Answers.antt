@@ -1,7 +1,39 @@
-use Rattle.jf_io.specs.LineReader.{is_line_feed}
+use Rattle.std.proofs.Common.{◌≡◌, length, refl, le_refl, sym, ap, ◌∙◌, arith}
+use Rattle.std.specs.List.{position_or_len}
+use Rattle.jf_io.specs.LineReader.{is_line_feed, Held}
 use Rattle.jf_io.proofs.Lines.{nowhere}
+use Rattle.jf_io.proofs.Shortened.{is_fetched-none, is_fetched-step, short_is_plain}
 use Rattle.jf_io.proofs.line_reader.LineReader.fetch.Goals as goal
+
+pub loop-self-init : goal.loop-self-init
+loop-self-init g c = record { kept = λ text s. is_fetched-none _ text _ _ s; limit = refl; ready = λ _. (refl, refl); grows = le_refl _ }
+
+pub shorten-requires : goal.shorten-requires
+shorten-requires g c = nowhere is_line_feed _ _ (λ h. let held = c.if-finds_line.ensures.found.1 h in cc) refl
+
+pub returns-in_err-take_piece-clause-kept : goal.returns-in_err-take_piece-clause-kept
+returns-in_err-take_piece-clause-kept g c = λ text s.
+    is_fetched-step _ text c.loop-self.self c.finds_line.new.self c.shorten.new.self c.take_piece.new.self _ _ _ (c.loop-self.invariant.kept text s) c.loop-self.invariant.limit c.finds_line.ensures.same
+    (nowhere is_line_feed _ _ (λ h. let held = c.if-finds_line.ensures.found.1 h in cc) refl) c.shorten.ensures c.take_piece.ensures.front c.take_piece.ensures.kept
 
 pub returns-in_err-take_piece-clause-unfinished : goal.returns-in_err-take_piece-clause-unfinished
 returns-in_err-take_piece-clause-unfinished g c = λ _.
-    nowhere is_line_feed _ _ (λ h. let held = c.if-finds_line.ensures.found.1 h in cc) c.in_err-take_piece.ensures.unchanged
+    short_is_plain c.finds_line.new.self c.shorten.new.self c.take_piece.new.self (nowhere is_line_feed _ _ (λ h. let held = c.if-finds_line.ensures.found.1 h in cc) refl) c.shorten.ensures c.in_err-take_piece.ensures.unchanged
+
+pub returns-then-branch-eq0-clause-kept : goal.returns-then-branch-eq0-clause-kept
+returns-then-branch-eq0-clause-kept g c = λ text s.
+    is_fetched-step _ text c.loop-self.self c.finds_line.new.self c.shorten.new.self c.take_piece.new.self _ _ _ (c.loop-self.invariant.kept text s) c.loop-self.invariant.limit c.finds_line.ensures.same
+    (nowhere is_line_feed _ _ (λ h. let held = c.if-finds_line.ensures.found.1 h in cc) refl) c.shorten.ensures c.take_piece.ensures.front c.take_piece.ensures.kept
+
+pub loop-self-preserved : goal.loop-self-preserved
+loop-self-preserved g c = record {
+  kept = λ text s.
+      is_fetched-step _ text c.loop-self.self c.finds_line.new.self c.shorten.new.self c.take_piece.new.self _ _ _ (c.loop-self.invariant.kept text s) c.loop-self.invariant.limit c.finds_line.ensures.same
+      (nowhere is_line_feed _ _ (λ h. let held = c.if-finds_line.ensures.found.1 h in cc) refl) c.shorten.ensures c.take_piece.ensures.front c.take_piece.ensures.kept;
+  limit = c.take_piece.ensures.limit ∙ ap (λ (h : Held). h.limit) c.shorten.ensures ∙ ap (λ (h : Held). h.limit) c.finds_line.ensures.same ∙ c.loop-self.invariant.limit;
+  ready = λ h.
+      let at = c.loop-self.invariant.ready h in
+      let is : c.finds_line.new.self ≡ c.args.self.now = c.finds_line.ensures.same ∙ at.0 in
+      absurd (let held = c.if-finds_line.ensures.found.1 (rw is h) in cc);
+  grows = omega (arith, c.loop-self.invariant.grows, c.take_piece.ensures.grows);
+}

@@ -1,13 +1,13 @@
-use Rattle.std.proofs.Common.{◌≡◌, ℕ, ◌-◌, ◌<◌, ◌≤◌, ◌^◌, List, ◌++◌, length, take, Some}
+use Rattle.std.proofs.Common.{◌≡◌, ℕ, ◌-◌, ◌<◌, ◌≤◌, ◌^◌, List, length}
 use Rattle.std.specs.List.{position_or_len}
-use Rattle.jf_io.specs.LineReader.{is_line_feed}
+use Rattle.jf_io.specs.LineReader.{is_line_feed, IsShortened, IsFetched}
 use Rattle.jf_io.proofs.line_reader.LineReader.fetch.Given as goal
 
 abbrev pub invariant-loop-self : goal.invariant-loop-self
 invariant-loop-self g l = record {
-  kept : (rest : List ℕ) → g.S.Source.rest l.initial.source ≡ Some rest → (left : List ℕ) × (g.S.Source.rest l.source ≡ Some left) × (l.self ++ left ≡ l.initial.self ++ rest);
-  held : take (length l.initial.self) l.self ≡ l.initial.self;
-  ready : position_or_len is_line_feed l.initial.self < length l.initial.self → (l.self ≡ l.initial.self) × (l.source ≡ l.initial.source);
+  kept : (text : List ℕ) → IsShortened l.initial.self.limit text l.initial.self.bytes → IsFetched l.initial.self.limit text l.self.bytes (g.S.Source.rest l.initial.source) (g.S.Source.rest l.source);
+  limit : l.self.limit ≡ l.initial.self.limit;
+  ready : position_or_len is_line_feed l.initial.self.bytes < length l.initial.self.bytes → (l.self ≡ l.initial.self) × (l.source ≡ l.initial.source);
   grows : g.S.Source.faults l.initial.source ≤ g.S.Source.faults l.source;
 }
 

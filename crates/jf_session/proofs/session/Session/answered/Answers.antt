@@ -1,16 +1,17 @@
-use Rattle.std.proofs.Common.{◌≡◌, ◌∙◌, ap, sym, subst, OnOk, IfOk, Some, None, Err, refl}
-use Rattle.jf_answers.specs.Answers.{Answer, answer}
-use Rattle.jf_script.specs.declared.reply.Reply.{Reply}
-use Rattle.jf_session.specs.Sessions.{Does, Tries, command_answer}
+use Rattle.std.proofs.Common.{◌≡◌, ap, sym, subst, OnOk, IfOk, None, Err}
+use Rattle.jf_answers.specs.Answers.{Answer, answer, answer-long}
+use Rattle.jf_script.specs.declared.reply.Refusal.TheVariants as refusal
+use Rattle.jf_script.specs.declared.reply.Reply.TheVariants as reply
+use Rattle.jf_session.specs.Sessions.{Does, Tries}
 use Rattle.jf_script.specs.Bounds.{command_of-IsBounded}
-use Rattle.jf_session.proofs.Lines.{answer-long, answer-short, unread_does}
+use Rattle.jf_session.proofs.Lines.{answer-short, replied_stays}
 use Rattle.jf_session.proofs.session.Session.answered.Goals as goal
 
 pub returns-in-Err-Syntax-clause-ok : goal.returns-in-Err-Syntax-clause-ok
 returns-in-Err-Syntax-clause-ok g c =
     let f = c.in-Err-Syntax.ensures.syntax (ap (λ e. Err e) c.in-Err-Syntax.field-0-is) in
     let s = c.args.self.now in
-    unread_does s (answer s.state s.own c.args.line.now) (answer-short s.state s.own c.args.line.now None f.0 f.1)
+    replied_stays s (reply.No refusal.Syntax) (answer s.state s.own c.args.line.now) (answer-short s.state s.own c.args.line.now None f.0 f.1)
 
 pub returns-in-Err-Syntax-clause-reply : goal.returns-in-Err-Syntax-clause-reply
 returns-in-Err-Syntax-clause-reply g c =
@@ -21,7 +22,7 @@ returns-in-Err-Syntax-clause-reply g c =
 pub returns-in-Err-LineTooLong-clause-ok : goal.returns-in-Err-LineTooLong-clause-ok
 returns-in-Err-LineTooLong-clause-ok g c =
     let s = c.args.self.now in
-    unread_does s (answer s.state s.own c.args.line.now) (answer-long s.state s.own c.args.line.now (c.in-Err-LineTooLong.ensures.long.0 (ap (λ e. Err e) c.in-Err-LineTooLong.field-0-is)))
+    replied_stays s (reply.No refusal.Long) (answer s.state s.own c.args.line.now) (answer-long s.state s.own c.args.line.now (c.in-Err-LineTooLong.ensures.long.0 (ap (λ e. Err e) c.in-Err-LineTooLong.field-0-is)))
 
 pub returns-in-Err-LineTooLong-clause-reply : goal.returns-in-Err-LineTooLong-clause-reply
 returns-in-Err-LineTooLong-clause-reply g c =

@@ -1,11 +1,11 @@
-use Rattle.std.proofs.Common.{◌≡◌, ◌∙◌, ◌<◌, ◌≤◌, ◌+◌, ◌-◌, ◌^◌, ◌∷◌, [], ◌++◌, ap, ap₂, sym, inl, inr, arith, rules, false, true, length, vec_len, vec_capacity, List, ℕ, refl, Err}
+use Rattle.std.proofs.Common.{◌≡◌, ◌∙◌, ◌<◌, ◌∷◌, [], ◌++◌, ap, ap₂, inl, inr, arith, rules, true, vec_len, vec_capacity, List, Err}
 use Rattle.jf_hash.specs.Maps.{Batch}
 use Rattle.jf_model.specs.declared.entries.Entry.{Entry}
 use Rattle.jf_model.specs.declared.entries.Entry.TheVariants as entry
 use Rattle.jf_model.specs.declared.entries.Landing.TheVariants as landing
 use Rattle.jf_engine.specs.declared.fault.EngineFault.TheVariants as fault
 use Rattle.jf_session.specs.Sessions.{Session}
-use Rattle.jf_session.proofs.Doings.{landed_does, landed_reply, head_does, head_reply, ledger_does, ledger_reply, fault_tries}
+use Rattle.jf_session.proofs.Doings.{landed_does, landed_reply, head_does, head_reply, fault_tries}
 use Rattle.jf_session.proofs.Pushed.{pushed, whole_of, below_last}
 use Rattle.jf_session.proofs.session.Session.commit.Goals as goal
 

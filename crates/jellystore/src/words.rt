@@ -1,0 +1,199 @@
+// The words of a command line.
+ghost use Rattle.std.specs.Prelude.{◌≡◌, map, string_bytes};
+ghost use Rattle.jellystore.specs.Commands.{workers, attached_workers, is_over, option_workers, mode_of};
+
+use jf_script::number_from;
+
+/// The number of workers where none is asked for.
+const DEFAULT_WORKERS: u64 = 4;
+
+/// The most workers that may be asked for.
+const MAX_WORKERS: u64 = 64;
+
+/// What a command line asks for.
+#[derive(Clone, Copy, Debug, PartialEq, Eq)]
+pub enum Mode {
+    /// A script is answered.
+    Run {
+        /// How many threads may work at once, 1 to 64.
+        workers: u64,
+    },
+}
+
+/// What the words of a command line ask for. None says that they are none of the program's.
+pub fn mode_of(words: &[String]) -> Option<Mode>
+    ensures { result ≡ mode_of (map (λ w. string_bytes w) words.now) }
+{
+    match words {
+        [mode, rest @ ..] if mode.as_str() == "run" => {
+            let workers = option_workers(rest)?;
+            Some(Mode::Run { workers })
+        }
+        _ => None,
+    }
+}
+
+// The number of workers of the words behind a mode that has no word of its own.
+fn option_workers(words: &[String]) -> Option<u64>
+    ensures { result ≡ option_workers (map (λ w. string_bytes w) words.now) }
+{
+    match words {
+        [] => Some(DEFAULT_WORKERS),
+        [word] if word.as_str() == "--" => Some(DEFAULT_WORKERS),
+        [word, number, rest @ ..] if word.as_str() == "--workers" => {
+            if is_over(rest) {
+                workers(number.as_bytes())
+            } else {
+                None
+            }
+        }
+        [word, rest @ ..] => {
+            if is_over(rest) {
+                attached_workers(word.as_bytes())
+            } else {
+                None
+            }
+        }
+    }
+}
+
+// Whether nothing stands here, or a word `--` alone.
+fn is_over(words: &[String]) -> bool
+    ensures { result ≡ is_over (map (λ w. string_bytes w) words.now) }
+{
+    match words {
+        [] => true,
+        [word] => word.as_str() == "--",
+        _ => false,
+    }
+}
+
+// The number of workers of `--workers=N`.
+fn attached_workers(word: &[u8]) -> Option<u64>
+    ensures { result ≡ attached_workers word.now }
+{
+    if word.starts_with(b"--workers=") {
+        workers(&word[10..])
+    } else {
+        None
+    }
+}
+
+// A number of workers.
+fn workers(word: &[u8]) -> Option<u64>
+    ensures { result ≡ workers word.now }
+{
+    number_from(1, MAX_WORKERS, word)
+}
+
+#[cfg(test)]
+mod tests {
+    use super::*;
+    use crate::run_words::run_words;
+    use crate::status::{Ended, Status};
+    use jf_disk::MemDisk;
+    use jf_io::{MemSink, MemSource};
+    use jf_path::Bytes;
+    use std::alloc::Global;
+    use std::sync::Wait;
+    use std::test::Fail;
+    use std::thread::Threads;
+
+    // The words of a line, with one space between each two.
+    fn words_of(alloc: Global, line: &str) -> Result<Vec<String>, Fail> {
+        let mut words = Vec::new(alloc);
+        for word in line.split(' ') {
+            words.push(String::from_str(alloc, word)?)?;
+        }
+        Ok(words)
+    }
+
+    const LISTS: [(&str, Option<u64>); 44] = [
+        ("run", Some(4)),
+        ("run --", Some(4)),
+        ("run --workers=7", Some(7)),
+        ("run --workers 7", Some(7)),
+        ("run --workers 1", Some(1)),
+        ("run --workers=64", Some(64)),
+        ("run --workers 64", Some(64)),
+        ("run --workers 2 --", Some(2)),
+        ("run --workers=10 --", Some(10)),
+        ("run --workers 0", None),
+        ("run --workers=0", None),
+        ("run --workers 65", None),
+        ("run --workers=65", None),
+        ("run --workers 07", None),
+        ("run --workers=07", None),
+        ("run --workers +7", None),
+        ("run --workers -7", None),
+        ("run --workers 7.", None),
+        ("run --workers 0x7", None),
+        ("run --workers 18446744073709551617", None),
+        ("run --workers", None),
+        ("run --workers=", None),
+        ("run --workers ", None),
+        ("run --workers --", None),
+        ("run --workers --workers", None),
+        ("run --workers 2 --workers 2", None),
+        ("run --workers=2 --workers=2", None),
+        ("run --workers=2 --workers 2", None),
+        ("run -- --workers 2", None),
+        ("run -- --workers=2", None),
+        ("run -- --", None),
+        ("run --workers 2 -- --", None),
+        ("run -- x", None),
+        ("run x", None),
+        ("run --workers 2 x", None),
+        ("run x --workers 2", None),
+        ("run -w 2", None),
+        ("run --work 2", None),
+        ("run --help", None),
+        ("run -h", None),
+        ("--version", None),
+        ("--workers 2 run", None),
+        ("Run", None),
+        ("walk", None),
+    ];
+
+    // A run of these words over an empty disk and an empty script.
+    fn ended<H: Threads + Wait + Sync>(
+        rt: &H,
+        alloc: Global,
+        words: &[String],
+    ) -> Result<Status, Fail> {
+        let disk = MemDisk::new(
+            alloc,
+            Vec::new(alloc),
+            Vec::new(alloc),
+            100,
+            1_000,
+            Vec::new(alloc),
+        )?;
+        let mut source = MemSource::new(Bytes::new(alloc), 1, Vec::new(alloc));
+        let mut sink = MemSink::new(alloc, 1, 100, Vec::new(alloc))?;
+        let Ended {
+            status,
+            disk: _,
+            entries: _,
+            start: _,
+        } = run_words(rt, alloc, words, &mut source, &mut sink, disk);
+        Ok(status)
+    }
+
+    #[test]
+    fn takes_these_lists_of_words_and_no_other(rt: HostRuntime) -> Result<(), Fail> {
+        let alloc = rt.alloc();
+        for (line, workers) in LISTS {
+            let words = words_of(alloc, line)?;
+            let mode = workers.map(|workers| Mode::Run { workers });
+            assert_eq!(rt; mode_of(&words), mode, "of {line}");
+            let want = match workers {
+                Some(_) => Status::Done,
+                None => Status::Usage,
+            };
+            assert_eq!(rt; ended(&rt, alloc, &words)?, want, "of {line}");
+        }
+        assert_eq!(rt; ended(&rt, alloc, &[])?, Status::Usage);
+        Ok(())
+    }
+}

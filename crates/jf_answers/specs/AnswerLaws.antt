@@ -1,0 +1,104 @@
+-- What holds of every answer, whichever commands are built.
+use Rattle.std.specs.Prelude.{◌≡◌, ℕ, Bool, true, false, cond, List, Option, Some, None, IfSome}
+use Rattle.std.proofs.Common.{refl}
+use Rattle.std.specs.List.{AllByRecursion}
+use Rattle.jf_model.specs.States.{State}
+use Rattle.jf_model.specs.Entries.{after, owner_of, timeless}
+use Rattle.jf_model.specs.declared.entries.Entry.{Entry}
+use Rattle.jf_model.specs.declared.entries.Entry.TheVariants as entry
+use Rattle.jf_script.specs.Words.{is_long}
+use Rattle.jf_script.specs.Commands.{command_of}
+use Rattle.jf_script.specs.declared.command.Command.{Command}
+use Rattle.jf_script.specs.declared.command.Command.TheVariants as command
+use Rattle.jf_script.specs.declared.reply.Refusal.{Refusal}
+use Rattle.jf_script.specs.declared.reply.Reply.TheVariants as reply
+use Rattle.jf_answers.specs.Own.{Own}
+use Rattle.jf_answers.specs.Refusals.{is_built, refused_by}
+use Rattle.jf_answers.specs.Answers.{Answer, answer, answer_to, done, replied}
+use Rattle.jf_answers.specs.Prunings.{pruned, next_floor}
+use Rattle.jf_answers.specs.OwnLines.{pin_of, pin_of_command}
+
+-- versions are retired by `prune` alone, with the floor that the own pins let it have
+abbrev pub IsPruned : State → Own → Answer → Entry → Type 0
+IsPruned s own a (entry.Retired owner bound floor) = a ≡ pruned bound (next_floor bound s own) s own
+IsPruned s own a (entry.Made owner fork parent batch root) = Unit {0}
+IsPruned s own a (entry.Landed owner version how root moment) = Unit {0}
+IsPruned s own a (entry.Dropped owner fork) = Unit {0}
+IsPruned s own a (entry.Compacted owner generation) = Unit {0}
+
+-- the entry of an answer has the session's number and no moment, and makes the state behind
+pub record IsOf (s : State) (own : Own) (a : Answer) (e : Entry) : Type 0 where
+  pub state : a.state ≡ after e s
+  pub owned : owner_of e ≡ own.number
+  pub undated : timeless e ≡ e
+  pub pruned_so : IsPruned s own a e
+
+-- without an entry the state stays
+abbrev pub Follows : State → Own → Answer → Option Entry → Type 0
+Follows s own a None = a.state ≡ s
+Follows s own a (Some e) = IsOf s own a e
+
+-- an answer follows from state and own part, and the own part keeps its number
+pub record IsSound (s : State) (own : Own) (a : Answer) : Type 0 where
+  pub follows : Follows s own a a.entry
+  pub number : a.own.number ≡ own.number
+
+-- ---- single answers
+
+sound_done : (c : Command) (s : State) (own : Own) → IsSound s own (done c s own)
+sound_done command.Commit s own = record { follows = record { state = refl; owned = refl; undated = refl; pruned_so = tt }; number = refl }
+sound_done c s own = record { follows = refl; number = refl }
+
+sound_command : (o : Option Refusal) (c : Command) (s : State) (own : Own) → IsSound s own (elim o as (λ x. Answer) [ Some why ↦ replied (reply.No why) s own | None ↦ done c s own ])
+sound_command None c s own = sound_done c s own
+sound_command (Some why) c s own = record { follows = refl; number = refl }
+
+sound_if : (s : State) (own : Own) (b : Bool) (x y : Answer) → IsSound s own x → IsSound s own y → IsSound s own (cond b x y)
+sound_if s own true x y h k = h
+sound_if s own false x y h k = k
+
+sound_to : (o : Option Command) (s : State) (own : Own) → IsSound s own (answer_to o s own)
+sound_to None s own = record { follows = refl; number = refl }
+sound_to (Some c) s own = sound_if s own (is_built c) _ _ (sound_command (refused_by s own c) c s own) (record { follows = refl; number = refl })
+
+pub answer-IsSound : (s : State) (own : Own) (line : List ℕ) → IsSound s own (answer s own line)
+unfolding answer
+answer-IsSound s own line = sound_if s own (is_long line) _ _ (record { follows = refl; number = refl }) (sound_to (command_of line) s own)
+
+-- a `prune` with the floor that the own pins let it have is sound
+pub pruned-IsSound : (upto : ℕ) (s : State) (own : Own) → IsSound s own (pruned upto (next_floor upto s own) s own)
+pruned-IsSound upto s own = record { follows = record { state = refl; owned = refl; undated = refl; pruned_so = refl }; number = refl }
+
+-- ---- pins
+
+-- what holds of each version pinned
+abbrev pub EachPin : (ℕ → Type 0) → Own → Type 0
+EachPin P own = AllByRecursion (λ pin. IfSome pin P) own.pins
+
+module _ (P : ℕ → Type 0) where
+  pins_done : (c : Command) (s : State) (own : Own) → IfSome (pin_of_command (Some c)) P → EachPin P own → EachPin P (done c s own).own
+  pins_done (command.Pin version) s own named h = h
+  pins_done c s own named h = h
+
+  pins_command : (o : Option Refusal) (c : Command) (s : State) (own : Own) → IfSome (pin_of_command (Some c)) P → EachPin P own
+      → EachPin P (elim o as (λ x. Answer) [ Some why ↦ replied (reply.No why) s own | None ↦ done c s own ]).own
+  pins_command None c s own named h = pins_done c s own named h
+  pins_command (Some why) c s own named h = h
+
+  pins_if : (b : Bool) (x y : Answer) → EachPin P x.own → EachPin P y.own → EachPin P (cond b x y).own
+  pins_if true x y h k = h
+  pins_if false x y h k = k
+
+  pins_to : (o : Option Command) (s : State) (own : Own) → IfSome (pin_of_command o) P → EachPin P own → EachPin P (answer_to o s own).own
+  pins_to None s own named h = h
+  pins_to (Some c) s own named h = pins_if (is_built c) _ _ (pins_command (refused_by s own c) c s own named h) h
+
+  pins_line : (long : Bool) (o : Option Command) (s : State) (own : Own) (x : Answer) → IfSome (cond long None (pin_of_command o)) P → EachPin P own → EachPin P x.own
+      → EachPin P (cond long x (answer_to o s own)).own
+  pins_line true o s own x named h k = k
+  pins_line false o s own x named h k = pins_to o s own named h
+
+  -- a version pinned behind a line was pinned before, or the line names it
+  pub answer-EachPin : (s : State) (own : Own) (line : List ℕ) → IfSome (pin_of line) P → EachPin P own → EachPin P (answer s own line).own
+  unfolding answer pin_of
+  answer-EachPin s own line named h = pins_line (is_long line) (command_of line) s own _ named h h

@@ -1,0 +1,55 @@
+-- Which lines a session answers by what it has seen already, and the versions that lines name to be pinned.
+use Rattle.std.specs.Prelude.{ℕ, Bool, true, false, not, ◌||◌, if◌then◌else◌, List, Option, Some, None}
+use Rattle.jf_script.specs.Words.{is_long}
+use Rattle.jf_script.specs.Commands.{command_of}
+use Rattle.jf_script.specs.declared.command.Base.{Base}
+use Rattle.jf_script.specs.declared.command.Base.TheVariants as base
+use Rattle.jf_script.specs.declared.command.Command.{Command}
+use Rattle.jf_script.specs.declared.command.Command.TheVariants as command
+use Rattle.jf_answers.specs.Refusals.{is_built}
+
+-- a place at which the session pins a version
+abbrev pub is_place : Base → Bool
+is_place base.Head = false
+is_place (base.Version version) = false
+is_place (base.Fork id) = false
+is_place (base.Place place) = true
+
+-- `put`, `del`, `unpin` and the reads of a place
+abbrev pub is_own_command : Command → Bool
+is_own_command (command.Put name value) = true
+is_own_command (command.Del name) = true
+is_own_command command.Commit = false
+is_own_command (command.Fork on) = false
+is_own_command (command.Land id) = false
+is_own_command (command.Drop id) = false
+is_own_command (command.Get on name) = is_place on
+is_own_command (command.Root on) = is_place on
+is_own_command (command.Prove on name) = is_place on
+is_own_command (command.Chunk on start count) = is_place on
+is_own_command (command.Count on) = is_place on
+is_own_command (command.Nth on place) = is_place on
+is_own_command (command.Pin version) = false
+is_own_command (command.Unpin place) = true
+is_own_command (command.Prune upto) = false
+is_own_command command.Compact = false
+is_own_command command.Status = false
+
+-- and what is no command, or one that isn't built
+abbrev pub is_own : Option Command → Bool
+is_own None = true
+is_own (Some c) = not (is_built c) || is_own_command c
+
+-- a line that is answered without a look at the store; one of more than 8,500 bytes is such a line
+unfoldable pub is_own_line : List ℕ → Bool
+is_own_line line = is_long line || is_own (command_of line)
+
+-- the version that a command pins
+abbrev pub pin_of_command : Option Command → Option ℕ
+pin_of_command None = None
+pin_of_command (Some (command.Pin version)) = Some version
+pin_of_command (Some c) = None
+
+-- the version that a line `pin` names
+unfoldable pub pin_of : List ℕ → Option ℕ
+pin_of line = if is_long line then None else pin_of_command (command_of line)

@@ -1,0 +1,9 @@
+pub mod Lists
+pub mod Moving
+pub mod Places
+pub mod Pruning
+pub mod Joining
+pub mod Making
+pub mod Pinning
+pub mod Scanning
+pub mod RuleLaws

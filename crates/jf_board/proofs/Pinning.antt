@@ -1,0 +1,67 @@
+-- What a place knows after its plays.
+use Rattle.std.proofs.Common.{◌≡◌, ◌≢◌, ℕ, ◌+◌, ◌<◌, ◌≤◌, cond, List, [], ◌∷◌, ◌++◌, length, get_or, set, Option, Some, None, sym, refl, ap, ◌∙◌, subst, arith, le-leb, get_or-set_same}
+use Rattle.std.proofs.lemmas.List.{set-set}
+use lib.Seq.{set-get_or}
+use Rattle.jf_board.specs.declared.views.Hold.{Hold}
+use Rattle.jf_board.specs.declared.views.Hold.TheVariants.{Free, Announced, Confirmed}
+use Rattle.jf_board.specs.declared.views.PlaceView.{PlaceView}
+use Rattle.atomic_table.specs.Seated.{TableId}
+use Rattle.jf_board.specs.States.{AreNew, PlaceState, Agrees, IsLeastFree, pinned_at, refused_at}
+use Rattle.jf_board.specs.Refusals.{RefusedPin}
+use Rattle.jf_board.specs.declared.pin_refused.PinRefused.TheVariants.{Retired}
+use Rattle.jf_board.specs.Steps.{newly_numbered, judged, announcing, confirming, with_hold}
+
+-- announced, and confirmed where the gate is at most the version
+pub confirmed_view : (v : PlaceView) (i version gate : ℕ) → i < 8 → length v.holds ≡ 8 → gate ≤ version → confirming (announcing v i version) gate ≡ pinned_at v i version gate
+confirmed_view v i version gate small eight le = let A : Hold = Announced version in
+    let was : get_or (set v.holds i A) i Free ≡ A = get_or-set_same v.holds i A Free (omega arith) in
+    let now : judged gate (get_or (set v.holds i A) i Free) ≡ Confirmed version = ap (judged gate) was ∙ ap (λ b. cond b (Confirmed version) A) (le-leb gate version le) in
+    let same : set (set v.holds i A) i (judged gate (get_or (set v.holds i A) i Free)) ≡ set v.holds i (Confirmed version) = ap (set (set v.holds i A) i) now ∙ set-set v.holds i A (Confirmed version) in
+    ap (λ (hs : List Hold). record (pinned_at v i version gate) { holds = hs }) same
+
+-- announced, not confirmed, and withdrawn
+pub refused_view : (v : PlaceView) (i version gate : ℕ) → get_or v.holds i Free ≡ Free → with_hold (confirming (announcing v i version) gate) i Free ≡ refused_at v i version gate
+refused_view v i version gate free = let A : Hold = Announced version in let h : Hold = judged gate (get_or (set v.holds i A) i Free) in
+    let same : set (set (set v.holds i A) i h) i Free ≡ v.holds = set-set (set v.holds i A) i h Free ∙ (set-set v.holds i A Free ∙ (ap (set v.holds i) (sym free) ∙ set-get_or v.holds i Free)) in
+    ap (λ (hs : List Hold). record (refused_at v i version gate) { holds = hs }) same
+
+-- what is kept as none is free
+free_of : (p : Option ℕ) (h : Hold) → Agrees p h → p ≡ None → h ≡ Free
+free_of None h a e = a
+free_of (Some v) h a e = cc
+
+-- what is kept as a version is not free
+held_of : (p : Option ℕ) (h : Hold) → Agrees p h → p ≢ None → h ≢ Free
+held_of None h a n = absurd (n refl)
+held_of (Some v) h a n = λ e. cc
+
+-- the first that is kept as none is the least free place
+pub least_free : (pins : List (Option ℕ)) (v : PlaceView) (i : ℕ) → ((k : ℕ) → k < 8 → Agrees (get_or pins k None) (get_or v.holds k Free)) → i < 8 → get_or pins i None ≡ None → ((k : ℕ) → k < i → get_or pins k None ≢ None) → IsLeastFree v i
+least_free pins v i agree small free before = ((small, free_of (get_or pins i None) (get_or v.holds i Free) (agree i small) free), λ k l. held_of (get_or pins k None) (get_or v.holds k Free) (agree k (omega arith)) (before k l))
+
+-- from the view before, w, to the view x after the version was announced and the gate loaded
+pub pin_ok : (w v x y : PlaceView) (i version gate : ℕ) → v ≡ w → IsLeastFree v i → length v.holds ≡ 8 → gate ≤ version → y ≡ announcing v i version → x ≡ confirming y gate
+    → IsLeastFree w i × (x.gate ≤ version) × (x ≡ pinned_at w i version x.gate)
+pin_ok w v x y i version gate same free eight le e e' = let k : x ≡ pinned_at v i version gate = e' ∙ (ap (λ z. confirming z gate) e ∙ confirmed_view v i version gate free.0.0 eight le) in let g : x.gate ≡ gate = ap (λ (z : PlaceView). z.gate) k in
+    (subst (λ z. IsLeastFree z i) same free, omega arith, k ∙ (λ j. pinned_at (same j) i version (sym g j)))
+
+-- the views between a place and one whose version was refused
+pub pin_refused : (w v x y z : PlaceView) (i version gate : ℕ) → v ≡ w → IsLeastFree v i → version < gate → y ≡ announcing v i version → x ≡ confirming y gate → z ≡ with_hold x i Free → RefusedPin w version z (Retired gate)
+pin_refused w v x y z i version gate same free over e e' e'' = (
+  over,
+  (
+    i,
+    subst (λ u. IsLeastFree u i) same free,
+    e'' ∙ (ap (λ u. with_hold u i Free) (e' ∙ ap (λ u. confirming u gate) e) ∙ (refused_view v i version gate free.0.1 ∙ ap (λ u. refused_at u i version gate) same)),
+  ),
+)
+
+-- one more new place
+pub new_longer : (board : TableId) (ps : List PlaceState) (p : PlaceState) (n : ℕ) → AreNew board ps n → p.board ≡ board → p.known ≡ newly_numbered (n + length ps) → AreNew board (ps ++ p ∷ []) n
+new_longer board [] p n new here known = (here, known ∙ ap newly_numbered (omega arith), tt)
+new_longer board (q ∷ ps) p n new here known = (new.0, new.1, new_longer board ps p (n + 1) new.2 here (known ∙ ap newly_numbered (omega arith)))
+
+-- the last of new places
+pub new_last : (board : TableId) (ps : List PlaceState) (p : PlaceState) (n : ℕ) → AreNew board (ps ++ p ∷ []) n → AreNew board ps n × (p.board ≡ board) × (p.known ≡ newly_numbered (n + length ps))
+new_last board [] p n new = (tt, new.0, new.1 ∙ ap newly_numbered (omega arith))
+new_last board (q ∷ ps) p n new = let r = new_last board ps p (n + 1) new.2 in ((new.0, new.1, r.0), r.1, r.2 ∙ ap newly_numbered (omega arith))

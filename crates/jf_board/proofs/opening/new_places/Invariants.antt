@@ -1,0 +1,14 @@
+use Rattle.std.proofs.Common.{◌≡◌, ◌+◌, ◌*◌, ◌≤◌, length}
+use Rattle.jf_board.specs.States.{pruner_of, IsPruner, AreNew}
+use Rattle.jf_board.proofs.opening.new_places.Given as goal
+
+abbrev pub invariant-loop : goal.invariant-loop
+invariant-loop l = record {
+  table : l.seat.table_id ≡ l.initial.seat.table_id;
+  pruner : IsPruner l.seat;
+  known : pruner_of l.seat.me.0 ≡ record (pruner_of l.initial.seat.me.0) { count = length l.places.items };
+  size : 8 * l.end + 3 ≡ l.board.words;
+  few : l.end ≤ 16;
+  many : length l.places.items ≡ l.counter;
+  new : AreNew l.board l.places.items 0;
+}

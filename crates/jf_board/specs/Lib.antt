@@ -1,0 +1,5 @@
+pub mod Rule
+pub mod Steps
+pub mod States
+pub mod Refusals
+pub mod Scans

@@ -1,0 +1,13 @@
+-- What is known after a pin was refused.
+use Rattle.std.specs.Prelude.{◌≡◌, ◌≢◌, ℕ, ◌<◌}
+use Rattle.jf_board.specs.declared.pin_refused.PinRefused.{PinRefused}
+use Rattle.jf_board.specs.declared.pin_refused.PinRefused.TheVariants.{Full, Retired}
+use Rattle.jf_board.specs.declared.views.Hold.TheVariants.{Free}
+use Rattle.jf_board.specs.declared.views.PlaceView.{PlaceView}
+use Rattle.jf_board.specs.Rule.{hold_at}
+use Rattle.jf_board.specs.States.{refused_at, IsLeastFree}
+
+-- full, or the gate that was loaded after the version was announced is above it
+abbrev pub RefusedPin : PlaceView → ℕ → PlaceView → PinRefused → Type 0
+RefusedPin old version new Full = (new ≡ old) × ((k : ℕ) → k < 8 → hold_at old k ≢ Free)
+RefusedPin old version new (Retired gate) = (version < gate) × ((i : ℕ) × IsLeastFree old i × (new ≡ refused_at old i version gate))

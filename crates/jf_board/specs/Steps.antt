@@ -1,0 +1,140 @@
+-- The steps of a board: what each makes of its seat's view, and what it tells.
+use Rattle.std.specs.Prelude.{◌≡◌, ℕ, ◌+◌, ◌-◌, ◌*◌, ◌/◌, ◌<◌, ◌==◌, leb, cond, List, [], ◌∷◌, ◌++◌, drop, replicate, slice_set}
+use Rattle.atomic_table.specs.Table.{Me, Step}
+use Rattle.jf_board.specs.declared.views.Hold.{Hold}
+use Rattle.jf_board.specs.declared.views.Hold.TheVariants.{Free, Announced, Confirmed}
+use Rattle.jf_board.specs.declared.views.PlaceView.{PlaceView}
+use Rattle.jf_board.specs.declared.views.PrunerView.{PrunerView}
+use Rattle.jf_board.specs.declared.views.View.{View}
+use Rattle.jf_board.specs.declared.views.View.TheVariants.{Pins, Prunes, Spent}
+use Rattle.jf_board.specs.Rule.{Has, Below, word_of, hold_at}
+
+-- the view of a seat; it carries no slot
+abbrev SeatState : Type 0
+SeatState = Me (Unit {0}) View
+
+-- which word, and the operands
+abbrev TableStep : Type 0
+TableStep = Step (Unit {0})
+
+-- a place that was just given its number
+abbrev pub newly_numbered : ℕ → PlaceView
+newly_numbered n = record { number = n; gate = 0; latest = 0; holds = replicate 8 Free; announced = [] }
+
+-- the place with another hold at i
+abbrev pub with_hold : PlaceView → ℕ → Hold → PlaceView
+with_hold v i h = record v { holds = slice_set v.holds i h }
+
+-- the place announces the version at i
+abbrev pub announcing : PlaceView → ℕ → ℕ → PlaceView
+announcing v i version = record v { latest = i; holds = slice_set v.holds i (Announced version); announced = v.announced ++ version ∷ [] }
+
+-- an announced version is confirmed where the gate is at most it
+abbrev pub judged : ℕ → Hold → Hold
+judged gate Free = Free
+judged gate (Announced version) = cond (leb gate version) (Confirmed version) (Announced version)
+judged gate (Confirmed version) = Confirmed version
+
+-- the place loads the gate: what it announced last is confirmed where the gate is at most it
+abbrev pub confirming : PlaceView → ℕ → PlaceView
+confirming v gate = record v { gate = gate; holds = slice_set v.holds v.latest (judged gate (hold_at v v.latest)) }
+
+-- the pruner sets the gate: nothing is loaded
+abbrev pub raising : PrunerView → ℕ → PrunerView
+raising q gate = record q { gate = gate; loaded = [] }
+
+-- the pruner gives one more number, to a place that is then joined to it
+abbrev pub numbering : PrunerView → PrunerView
+numbering q = record q { count = q.count + 1; joined = newly_numbered q.count ∷ q.joined }
+
+-- the pruner loads the pin word k, the next one
+abbrev pub scanning : PrunerView → ℕ → ℕ → PrunerView
+scanning q k word = record q { loaded = q.loaded ++ word ∷ []; pairs = cond (word == 0) q.pairs (q.pairs ++ (k / 8, word - 1) ∷ []) }
+
+-- a place joins for a scan: nothing is loaded
+abbrev pub with_own : PrunerView → PlaceView → PrunerView
+with_own q v = record q { loaded = []; joined = v ∷ q.joined }
+
+-- a place joins for good
+abbrev pub with_joined : PrunerView → PlaceView → PrunerView
+with_joined q v = record q { joined = v ∷ q.joined }
+
+-- the place that joined last parts
+abbrev pub without_own : PrunerView → PrunerView
+without_own q = record q { joined = drop 1 q.joined }
+
+-- where the word is one of a joined place's, it is what that place holds
+abbrev pub JoinedHold : List PlaceView → ℕ → ℕ → Type 0
+JoinedHold [] k word = Unit {0}
+JoinedHold (v ∷ vs) k word = ((i : ℕ) → i < 8 → k ≡ 8 * v.number + i → word ≡ word_of (hold_at v i)) × JoinedHold vs k word
+
+-- the numbers at which pins were loaded are given
+abbrev pub NumbersAreGiven : PrunerView → Type 0
+NumbersAreGiven q = (pair : ℕ × ℕ) → Has q.pairs pair → pair.0 < q.count
+
+-- m is at most each version that the joined places have confirmed
+abbrev pub BelowJoined : ℕ → List PlaceView → Type 0
+BelowJoined m [] = Unit {0}
+BelowJoined m (v ∷ vs) = ((i : ℕ) → i < 8 → Below m (hold_at v i)) × BelowJoined m vs
+
+-- what was loaded at the number of a joined place, that place announced
+abbrev pub JoinedAnnounced : List (ℕ × ℕ) → List PlaceView → Type 0
+JoinedAnnounced pairs [] = Unit {0}
+JoinedAnnounced pairs (v ∷ vs) = ((version : ℕ) → Has pairs (v.number, version) → Has v.announced version) × JoinedAnnounced pairs vs
+
+-- the number is the old count
+abbrev pub numbered : TableStep → SeatState → ℕ → SeatState → Type 0
+numbered st m r m' = (q : PrunerView) → m.0 ≡ Prunes q → (r ≡ q.count) × (m' ≡ (Prunes (numbering q), m.1))
+
+-- the word of the place i goes from 0 to version + 1
+abbrev pub announced : TableStep → SeatState → ℕ → SeatState → Type 0
+announced st m r m' = (v : PlaceView) (i version : ℕ) → m.0 ≡ Pins v → st.word ≡ 8 * v.number + i + 3 → st.first ≡ version + 1 → m' ≡ (Pins (announcing v i version), m.1)
+
+-- the gate is loaded
+abbrev pub confirmed : TableStep → SeatState → ℕ → SeatState → Type 0
+confirmed st m r m' = (v : PlaceView) → m.0 ≡ Pins v → m' ≡ (Pins (confirming v r), m.1)
+
+-- the word of the place i goes to 0
+abbrev pub withdrawn : TableStep → SeatState → ℕ → SeatState → Type 0
+withdrawn st m r m' = (v : PlaceView) (i : ℕ) → m.0 ≡ Pins v → st.word ≡ 8 * v.number + i + 3 → m' ≡ (Pins (with_hold v i Free), m.1)
+
+-- the gate word is set
+abbrev pub raised : TableStep → SeatState → ℕ → SeatState → Type 0
+raised st m r m' = (q : PrunerView) → m.0 ≡ Prunes q → m' ≡ (Prunes (raising q st.first), m.1)
+
+-- the next pin word is loaded; the cut is at most what joined places have confirmed
+abbrev pub scanned : TableStep → SeatState → ℕ → SeatState → Type 0
+scanned st m r m' = (q : PrunerView) (k : ℕ) → m.0 ≡ Prunes q → st.word ≡ k + 3 → (m' ≡ (Prunes (scanning q k r), m.1)) × JoinedHold q.joined k r × BelowJoined q.cut q.joined
+
+-- the cut word is set
+abbrev pub cut_made : TableStep → SeatState → ℕ → SeatState → Type 0
+cut_made st m r m' = (q : PrunerView) → m.0 ≡ Prunes q → m' ≡ (Prunes (record q { cut = st.first }), m.1)
+
+-- what the pruner loaded at the number of a place that joined it, that place announced
+abbrev pub learned : TableStep → SeatState → ℕ → SeatState → Type 0
+learned st m r m' = (q : PrunerView) → m.0 ≡ Prunes q → (m' ≡ m) × JoinedAnnounced q.pairs q.joined × NumbersAreGiven q
+
+-- the pruner takes in the view of a place, and begins a scan
+abbrev pub joined_for_scan : View → View → View
+joined_for_scan (Prunes q) (Pins v) = Prunes (with_own q v)
+joined_for_scan v w = v
+
+-- the pruner takes in the view of a place for good, and the scan stands
+abbrev pub joined_for_good : View → View → View
+joined_for_good (Prunes q) (Pins v) = Prunes (with_joined q v)
+joined_for_good v w = v
+
+-- the place that joined last parts from the pruner
+abbrev pub parted : View → View
+parted (Prunes q) = Prunes (without_own q)
+parted v = v
+
+-- the place that joined last
+abbrev pub first_joined : List PlaceView → View
+first_joined [] = Spent
+first_joined (v ∷ vs) = Pins v
+
+-- the view that parts
+abbrev pub last_joined : View → View
+last_joined (Prunes q) = first_joined q.joined
+last_joined v = Spent

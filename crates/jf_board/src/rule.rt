@@ -1,0 +1,13 @@
+// Which rule the table of a board keeps.
+use crate::views::{Size, View};
+use atomic_table::TableRule;
+
+pub struct BoardRule;
+
+impl TableRule<(), View, Size> for BoardRule {
+    ghost use Rattle.jf_board.specs.Rule.{IsBoard, opened};
+
+    ghost holds = { λ size. IsBoard size.passes };
+
+    ghost first = { opened };
+}

@@ -1,0 +1,165 @@
+-- Worked histories: the definitions on small inputs.
+use Rattle.std.specs.Prelude.{◌≡◌, ℕ, List, [], ◌∷◌, ◌++◌, Some, None, codes, refl}
+use Rattle.std.proofs.Common.{inl, inr, arith}
+use Rattle.std.specs.Fmt.{digits}
+use Rattle.std.specs.FinMap as fin
+use Rattle.std.specs.List.{concat}
+use Rattle.jf_hash.specs.Maps.{apply}
+use Rattle.jf_hash.specs.Roots.{root}
+use Rattle.jf_model.specs.Versions.{new_store}
+use Rattle.jf_model.specs.States.{State, opened}
+use Rattle.jf_model.specs.Entries.{after, replay, IsLegal}
+use Rattle.jf_model.specs.declared.entries.Landing.TheVariants as landing
+use Rattle.jf_model.specs.declared.entries.Entry.{Entry}
+use Rattle.jf_model.specs.declared.entries.Entry.TheVariants as entry
+use Rattle.jf_script.specs.Words.{words, number, unhex}
+use Rattle.jf_script.specs.Commands.{command_of, base_of}
+use Rattle.jf_script.specs.Replies.{reply_text}
+use Rattle.jf_script.specs.declared.reply.Reply.{Reply}
+use Rattle.jf_script.specs.declared.reply.Reply.TheVariants as reply
+use Rattle.jf_script.specs.declared.reply.Refusal.TheVariants as refusal
+use Rattle.jf_answers.specs.Own.{begun}
+use Rattle.jf_answers.specs.OwnLines.{is_own_line}
+use Rattle.jf_answers.specs.Refusals.{refused_by}
+use Rattle.jf_answers.specs.Answers.{answer}
+use Rattle.jf_history.specs.Explains.{Answered, IsAnswered, IsSession, Explains, places_owned, timeline_of}
+
+-- a new store, and its root
+abbrev start : State
+start = opened new_store 1
+
+abbrev empty_root : List ℕ
+empty_root = root fin.empty
+
+-- two sessions land nothing, session 1 first
+abbrev first : Entry
+first = entry.Landed 1 1 (landing.Direct []) empty_root 3
+
+abbrev second : Entry
+second = entry.Landed 0 2 (landing.Direct []) empty_root 7
+
+first_legal : IsLegal start first
+unfolding apply
+first_legal = (omega arith, record { may = record { sorted = tt; keys = tt; values = tt }; next = refl; bounded = omega arith; rooted = refl })
+
+second_legal : IsLegal (after first start) second
+unfolding apply after
+second_legal = (omega arith, record { may = record { sorted = tt; keys = tt; values = tt }; next = refl; bounded = omega arith; rooted = refl })
+
+-- session 0 looks between the two and then lands; session 1 lands and then writes what is no command
+abbrev scripts : List (List (List ℕ))
+scripts = (codes "root head" ∷ codes "commit" ∷ []) ∷ (codes "commit" ∷ codes "?" ∷ []) ∷ []
+
+abbrev said : ℕ → Reply → List ℕ
+said n r = reply_text n r ++ []
+
+abbrev looked : Answered
+looked = record { number = 1; text = said 1 (reply.Root empty_root); entry = None; own = begun 0 }
+
+abbrev landed_second : Answered
+landed_second = record { number = 2; text = said 2 (reply.Commit 2 empty_root); entry = Some second; own = begun 0 }
+
+abbrev landed_first : Answered
+landed_first = record { number = 1; text = said 1 (reply.Commit 1 empty_root); entry = Some first; own = begun 1 }
+
+abbrev misspelt : Answered
+misspelt = record { number = 1; text = said 1 (reply.No refusal.Syntax); entry = None; own = begun 1 }
+
+abbrev outputs : List (List ℕ)
+outputs =
+    concat (said 1 (reply.Root empty_root) ∷ said 2 (reply.Commit 2 empty_root) ∷ [])
+    ∷ concat (said 1 (reply.Commit 1 empty_root) ∷ said 1 (reply.No refusal.Syntax) ∷ []) ∷ []
+
+look : IsAnswered (timeline_of start (first ∷ second ∷ []) scripts) (begun 0) 0 (codes "root head") looked
+unfolding answer command_of base_of words number unhex digits refused_by after replay apply is_own_line
+look = record {
+  rises = omega arith;
+  within = omega arith;
+  answered = inl (record { quiet = refl; text = refl; none = refl; own_after = refl; by_itself = λ h. absurd (cc) });
+}
+
+land_second : IsAnswered (timeline_of start (first ∷ second ∷ []) scripts) (begun 0) 1 (codes "commit") landed_second
+unfolding answer command_of base_of words number unhex digits refused_by after replay apply
+land_second = record {
+  rises = omega arith;
+  within = omega arith;
+  answered = inr (record { event = second; later = omega arith; stands = refl; owned = refl; gives = record { same = refl; floor = tt }; text = refl; kept = refl; own_after = refl });
+}
+
+land_first : IsAnswered (timeline_of start (first ∷ second ∷ []) scripts) (begun 1) 0 (codes "commit") landed_first
+unfolding answer command_of base_of words number unhex digits refused_by after replay apply
+land_first = record {
+  rises = omega arith;
+  within = omega arith;
+  answered = inr (record { event = first; later = omega arith; stands = refl; owned = refl; gives = record { same = refl; floor = tt }; text = refl; kept = refl; own_after = refl });
+}
+
+misspell : IsAnswered (timeline_of start (first ∷ second ∷ []) scripts) (begun 1) 1 (codes "?") misspelt
+unfolding answer command_of base_of words number unhex digits refused_by after replay apply
+misspell = record {
+  rises = omega arith;
+  within = omega arith;
+  answered = inl (record { quiet = refl; text = refl; none = refl; own_after = refl; by_itself = λ h. refl });
+}
+
+-- what both wrote is explained
+both : Explains start (first ∷ second ∷ []) scripts outputs []
+both = record {
+  replies = (looked ∷ landed_second ∷ []) ∷ (landed_first ∷ misspelt ∷ []) ∷ [];
+  explained = record {
+    history = record { each = (first_legal, (second_legal, tt)); moments = (omega arith, (omega arith, tt)) };
+    owners = (omega arith, (omega arith, tt));
+    sessions = (
+      record { replies = (look, (land_second, tt)); entries = inl refl },
+      (record { replies = (land_first, (misspell, tt)); entries = inl refl }, tt),
+    );
+  };
+  texts = refl;
+}
+
+-- session 1 may have landed and then ended by want of memory, before it wrote the reply
+cut_off : Explains start (first ∷ second ∷ []) scripts (concat (said 1 (reply.Root empty_root) ∷ said 2 (reply.Commit 2 empty_root) ∷ []) ∷ [] ∷ []) (1 ∷ [])
+unfolding answer command_of base_of words number unhex digits refused_by after replay apply
+cut_off = record {
+  replies = (looked ∷ landed_second ∷ []) ∷ [] ∷ [];
+  explained = record {
+    history = record { each = (first_legal, (second_legal, tt)); moments = (omega arith, (omega arith, tt)) };
+    owners = (omega arith, (omega arith, tt));
+    sessions = (
+      record { replies = (look, (land_second, tt)); entries = inl refl },
+      (
+        record {
+          replies = tt;
+          entries = inr (
+            refl,
+            record {
+              line = codes "commit";
+              next = refl;
+              unwritten = landed_first;
+              changes = record { event = first; later = omega arith; stands = refl; owned = refl; gives = record { same = refl; floor = tt }; text = refl; kept = refl; own_after = refl };
+              places = refl;
+            },
+          );
+        },
+        tt,
+      ),
+    );
+  };
+  texts = refl;
+}
+
+-- entries that are alike have each their own place
+alike : places_owned 0 0 (entry.Retired 0 3 3 ∷ entry.Retired 1 3 3 ∷ entry.Retired 0 3 3 ∷ []) ≡ 1 ∷ 3 ∷ []
+alike = refl
+
+-- one landing can't be told by two replies
+told_twice : (lines : List (List ℕ)) → IsSession (timeline_of start (first ∷ []) scripts) [] 1 lines (landed_first ∷ landed_first ∷ []) → ⊥
+told_twice lines h = elim h.entries as (λ o. ⊥) [ inl same ↦ absurd (cc) | inr more ↦ absurd (cc (more.0)) ]
+
+-- nor by none
+told_never : (lines : List (List ℕ)) → IsSession (timeline_of start (first ∷ []) scripts) [] 1 lines [] → ⊥
+told_never lines h = elim h.entries as (λ o. ⊥) [ inl same ↦ absurd (cc) | inr more ↦ absurd (cc (more.0)) ]
+
+-- nor be made by nobody
+by_nobody : (outputs : List (List ℕ)) (wanted : List ℕ) → Explains start (first ∷ []) ((codes "commit" ∷ []) ∷ []) outputs wanted → ⊥
+by_nobody outputs wanted h = let owner = h.explained.owners.0 in absurd (omega arith)

@@ -1,0 +1,6 @@
+-- No nibble, and 64 zeros.
+use Rattle.jf_path.proofs.Kept.{IsKept-none}
+use Rattle.jf_path.proofs.path.NibblePath.empty.Goals as goal
+
+pub invariant_of-result : goal.invariant_of-result
+invariant_of-result c = IsKept-none

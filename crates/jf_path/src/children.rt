@@ -1,0 +1,74 @@
+// The children of a node.
+ghost use Rattle.std.specs.Prelude.{◌≡◌, [], ◌∷◌, ◌++◌, length, OnOk, OnErr};
+ghost use Rattle.jf_path.specs.Nodes.{RiseFrom};
+
+use crate::memory::Memory;
+use crate::nibbles::Nibble;
+use std::alloc::Global;
+use std::marker::Model;
+
+/// What an internal node holds of a child: its place, the version that wrote it, its hash, whether it is a leaf, and the
+/// number of entries below it, 0 where the node is of format 1, which has no counts.
+#[derive(Clone, Copy, Debug, PartialEq, Eq)]
+pub struct Child {
+    pub nibble: Nibble,
+    pub version: u64,
+    pub hash: [u8; 32],
+    pub leaf: bool,
+    pub count: u64,
+}
+
+/// The children of an internal node in the order of their nibbles, each nibble at most once.
+#[derive(Debug, Drop)]
+pub struct Children {
+    children: Vec<Child>,
+}
+
+impl Model for Children {
+    ghost use Rattle.std.specs.Prelude.{List};
+    ghost use Rattle.jf_path.specs.declared.children.Child.{Child};
+
+    ghost Value = { List Child };
+
+    ghost use Rattle.jf_path.specs.Nodes.{RiseFrom};
+
+    ghost view = { λ c. c.children.items };
+
+    ghost invariant = { λ c. RiseFrom 0 c.children.items };
+}
+
+impl Children {
+    /// No child.
+    pub fn new(alloc: Global) -> Children
+        ensures { result ≡ [] }
+    {
+        Children {
+            children: Vec::new(alloc),
+        }
+    }
+
+    /// How many there are.
+    pub fn len(&self) -> u64
+        ensures { result ≡ length self.now }
+    {
+        self.children.len() as u64
+    }
+
+    /// The children.
+    pub fn as_slice(&self) -> &[Child]
+        ensures value { result.now ≡ self.now }
+        ensures rise { RiseFrom 0 self.now }
+    {
+        &self.children
+    }
+
+    /// Adds a child behind the others. A refusal leaves the list as it was.
+    pub fn push(&mut self, child: Child) -> Result<(), Memory>
+        requires { RiseFrom 0 (self.old ++ child ∷ []) }
+        ensures ok { OnOk result (self.new ≡ self.old ++ child ∷ []) }
+        ensures err { OnErr result (self.new ≡ self.old) }
+    {
+        self.children.push(child)?;
+        Ok(())
+    }
+}

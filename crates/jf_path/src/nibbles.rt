@@ -1,0 +1,63 @@
+// Four bits of a key.
+ghost use Rattle.std.specs.Prelude.{◌≡◌, ◌/◌, ◌%◌, ◌<◌, ◌↔◌, length, slice_index, IfSome, IsSome};
+
+use std::marker::Model;
+
+/// A number from 0 to 15.
+#[derive(Clone, Copy, Debug, PartialEq, Eq, PartialOrd, Ord)]
+pub struct Nibble {
+    number: u8,
+}
+
+impl Model for Nibble {
+    ghost use Rattle.std.specs.Prelude.{ℕ, ◌<◌};
+
+    ghost Value = { ℕ };
+
+    ghost view = { λ n. n.number };
+
+    ghost invariant = { λ n. n.number < 16 };
+
+    ghost inverse = { λ n. record { number = n } };
+}
+
+impl Nibble {
+    /// The nibble of this number, or none where it is above 15.
+    pub fn new(n: u8) -> Option<Nibble>
+        ensures value { IfSome result (λ m. m ≡ n) }
+        ensures given { IsSome result ↔ (n < 16) }
+    {
+        if n < 16 {
+            Some(Nibble { number: n })
+        } else {
+            None
+        }
+    }
+
+    /// Its number.
+    pub fn get(self) -> u8
+        ensures value { result ≡ self }
+        ensures small { result < 16 }
+    {
+        self.number
+    }
+
+    /// The nibble of a number below 16.
+    pub(crate) fn of(number: u8) -> Nibble
+        requires { number < 16 }
+        ensures { result ≡ number }
+    {
+        Nibble { number }
+    }
+
+    /// Half `i` of these bytes, from the high half of the first.
+    pub(crate) fn half(bytes: &[u8], i: usize) -> Nibble
+        requires { i / 2 < length bytes.now }
+        ensures even { i % 2 ≡ 0 → result ≡ slice_index bytes.now (i / 2) / 16 }
+        ensures odd { i % 2 ≡ 1 → result ≡ slice_index bytes.now (i / 2) % 16 }
+    {
+        let byte = bytes[i / 2];
+        let number = if i % 2 == 0 { byte >> 4 } else { byte & 15 };
+        Nibble { number }
+    }
+}

@@ -1,0 +1,170 @@
+// Lists of nodes and of their names.
+ghost use Rattle.std.specs.Prelude.{◌≡◌, [], ◌∷◌, ◌++◌, length, map, IsTrue, OnOk, OnErr};
+ghost use Rattle.jf_path.specs.Names.{rise};
+
+use crate::memory::Memory;
+use crate::name::NodeName;
+use crate::node::PlainNode;
+use std::alloc::Global;
+use std::marker::Model;
+
+/// The nodes that a landing writes, with their names, in the order of these.
+#[derive(Debug, Drop)]
+pub struct FreshList {
+    nodes: Vec<(NodeName, PlainNode)>,
+}
+
+impl Model for FreshList {
+    ghost use Rattle.std.specs.Prelude.{List, IsTrue, map};
+    ghost use Rattle.jf_path.specs.declared.name.NodeName.{NodeName};
+    ghost use Rattle.jf_path.specs.declared.node.PlainNode.{PlainNode};
+
+    ghost Value = { List (NodeName × PlainNode) };
+
+    ghost use Rattle.jf_path.specs.Names.{rise};
+
+    ghost view = { λ l. l.nodes.items };
+
+    ghost invariant = { λ l. IsTrue (rise (map (λ x. x.0) l.nodes.items)) };
+}
+
+impl FreshList {
+    /// An empty list.
+    pub fn new(alloc: Global) -> FreshList
+        ensures { result ≡ [] }
+    {
+        FreshList {
+            nodes: Vec::new(alloc),
+        }
+    }
+
+    /// How many there are.
+    pub fn len(&self) -> u64
+        ensures { result ≡ length self.now }
+    {
+        self.nodes.len() as u64
+    }
+
+    /// The names and nodes.
+    pub fn as_slice(&self) -> &[(NodeName, PlainNode)]
+        ensures value { result.now ≡ self.now }
+        ensures rise { IsTrue (rise (map (λ x. x.0) self.now)) }
+    {
+        &self.nodes
+    }
+
+    /// Adds a node behind the others. A refusal drops it, and leaves the list as it was.
+    pub fn push(&mut self, item: (NodeName, PlainNode)) -> Result<(), Memory>
+        requires { IsTrue (rise (map (λ x. x.0) (self.old ++ item ∷ []))) }
+        ensures ok { OnOk result (self.new ≡ self.old ++ item ∷ []) }
+        ensures err { OnErr result (self.new ≡ self.old) }
+    {
+        self.nodes.push(item)?;
+        Ok(())
+    }
+}
+
+/// Names of nodes in their order.
+#[derive(Debug, Drop)]
+pub struct NameList {
+    names: Vec<NodeName>,
+}
+
+impl Model for NameList {
+    ghost use Rattle.std.specs.Prelude.{List, IsTrue};
+    ghost use Rattle.jf_path.specs.declared.name.NodeName.{NodeName};
+
+    ghost Value = { List NodeName };
+
+    ghost use Rattle.jf_path.specs.Names.{rise};
+
+    ghost view = { λ l. l.names.items };
+
+    ghost invariant = { λ l. IsTrue (rise l.names.items) };
+}
+
+impl NameList {
+    /// An empty list.
+    pub fn new(alloc: Global) -> NameList
+        ensures { result ≡ [] }
+    {
+        NameList {
+            names: Vec::new(alloc),
+        }
+    }
+
+    /// How many there are.
+    pub fn len(&self) -> u64
+        ensures { result ≡ length self.now }
+    {
+        self.names.len() as u64
+    }
+
+    /// The names.
+    pub fn as_slice(&self) -> &[NodeName]
+        ensures value { result.now ≡ self.now }
+        ensures rise { IsTrue (rise self.now) }
+    {
+        &self.names
+    }
+
+    /// Adds a name behind the others. A refusal leaves the list as it was.
+    pub fn push(&mut self, name: NodeName) -> Result<(), Memory>
+        requires { IsTrue (rise (self.old ++ name ∷ [])) }
+        ensures ok { OnOk result (self.new ≡ self.old ++ name ∷ []) }
+        ensures err { OnErr result (self.new ≡ self.old) }
+    {
+        self.names.push(name)?;
+        Ok(())
+    }
+}
+
+/// Nodes with their names and the versions since which they are stale, u64::MAX for none, in any order.
+#[derive(Debug, Drop)]
+pub struct LiveList {
+    nodes: Vec<(NodeName, PlainNode, u64)>,
+}
+
+impl Model for LiveList {
+    ghost use Rattle.std.specs.Prelude.{List, ℕ};
+    ghost use Rattle.jf_path.specs.declared.name.NodeName.{NodeName};
+    ghost use Rattle.jf_path.specs.declared.node.PlainNode.{PlainNode};
+
+    ghost Value = { List (NodeName × PlainNode × ℕ) };
+
+    ghost view = { λ l. l.nodes.items };
+}
+
+impl LiveList {
+    /// An empty list.
+    pub fn new(alloc: Global) -> LiveList
+        ensures { result ≡ [] }
+    {
+        LiveList {
+            nodes: Vec::new(alloc),
+        }
+    }
+
+    /// How many there are.
+    pub fn len(&self) -> u64
+        ensures { result ≡ length self.now }
+    {
+        self.nodes.len() as u64
+    }
+
+    /// The names, nodes and versions.
+    pub fn as_slice(&self) -> &[(NodeName, PlainNode, u64)]
+        ensures { result.now ≡ self.now }
+    {
+        &self.nodes
+    }
+
+    /// Adds a node at the end. A refusal drops it, and leaves the list as it was.
+    pub fn push(&mut self, item: (NodeName, PlainNode, u64)) -> Result<(), Memory>
+        ensures ok { OnOk result (self.new ≡ self.old ++ item ∷ []) }
+        ensures err { OnErr result (self.new ≡ self.old) }
+    {
+        self.nodes.push(item)?;
+        Ok(())
+    }
+}

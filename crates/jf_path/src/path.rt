@@ -1,0 +1,220 @@
+// Paths of nibbles.
+ghost use Rattle.std.specs.Prelude.{◌≡◌, [], ◌∷◌, ◌++◌, ◌+◌, ◌*◌, ◌/◌, ◌<◌, ◌≤◌, ◌==◌, List, ℕ, length, drop, take, slice_index, IfOk, Ok};
+ghost use Rattle.std.specs.List.{starts_with};
+ghost use Rattle.std.specs.Result.{result_err};
+ghost use Rattle.jf_path.specs.Paths.{IsPath, key_path, packed, path_bytes, path_fault};
+ghost use Rattle.jf_path.specs.PathLaws.{halves};
+
+use crate::fault::PathFault;
+use crate::key::{Key, nibble};
+use crate::nibbles::Nibble;
+use std::cmp::Ordering;
+use std::marker::Model;
+
+// The most nibbles of a path, which are those of a key.
+const MAX_NIBBLES: usize = 64;
+
+/// A way from the root down: at most 64 nibbles, in the order of lists.
+#[derive(Clone, Copy, Debug)]
+pub struct NibblePath {
+    nibbles: [u8; 64],
+    count: usize,
+}
+
+impl Model for NibblePath {
+    ghost use Rattle.std.specs.Prelude.{List, ℕ, ◌-◌, ◌++◌, take, length, replicate};
+    ghost use Rattle.jf_path.specs.Kept.{IsKept, kept_again};
+
+    ghost Value = { List ℕ };
+
+    ghost view = { λ p. take p.count p.nibbles };
+
+    ghost invariant = { λ p. IsKept p.count p.nibbles };
+
+    ghost inverse = { λ p. record { nibbles = p ++ replicate (64 - length p) 0; count = length p } };
+
+    ghost inverse_ok = { λ p h. kept_again (λ cells count. record { nibbles = cells; count = count }) p.count p.nibbles h };
+}
+
+impl NibblePath {
+    /// The path of no nibble.
+    pub fn empty() -> NibblePath
+        ensures { result ≡ [] }
+    {
+        NibblePath {
+            nibbles: [0; MAX_NIBBLES],
+            count: 0,
+        }
+    }
+
+    /// All 64 nibbles of a key.
+    pub fn of_key(key: &Key) -> NibblePath
+        ensures { result ≡ key_path key.now }
+    {
+        let mut path = NibblePath::empty();
+        for i in 0..MAX_NIBBLES {
+            path.push(nibble(key, i));
+        }
+        path
+    }
+
+    /// The number of nibbles.
+    pub fn len(&self) -> usize
+        ensures value { result ≡ length self.now }
+        ensures path { IsPath self.now }
+    {
+        self.count
+    }
+
+    /// Nibble `i`, from 0.
+    pub fn at(&self, i: usize) -> Nibble
+        requires { i < length self.now }
+        ensures { result ≡ slice_index self.now i }
+    {
+        Nibble::of(self.nibbles[i])
+    }
+
+    /// One nibble more.
+    pub fn push(&mut self, n: Nibble)
+        requires { length self.old < 64 }
+        ensures { self.new ≡ self.old ++ n ∷ [] }
+    {
+        self.nibbles[self.count] = n.get();
+        self.count += 1;
+    }
+
+    /// Whether the path goes through the end of `front`, or stops there.
+    pub fn starts_with(&self, front: &NibblePath) -> bool
+        ensures { result ≡ starts_with (λ n m. n == m) self.now front.now }
+    {
+        self.as_slice().starts_with(front.as_slice())
+    }
+
+    /// Writes the count and the nibbles, two a byte, the first high, with a zero at an odd end. The answer is the number
+    /// of these bytes, at most 33; those behind them stay.
+    pub fn to_bytes(&self, out: &mut [u8; 33]) -> usize
+        ensures value { result ≡ length (path_bytes self.now) }
+        ensures bytes { out.new ≡ path_bytes self.now ++ drop result out.old }
+    {
+        let bytes = (self.count + 1) / 2;
+        out[0] = self.count as u8;
+        for i in 0..bytes {
+            out[i + 1] = self.byte(i);
+        }
+        bytes + 1
+    }
+
+    /// The path of these bytes, which are its count and its nibbles, with nothing behind them.
+    pub fn from_bytes(bytes: &[u8]) -> Result<NibblePath, PathFault>
+        ensures value { IfOk result (λ path. bytes.now ≡ path_bytes path) }
+        ensures found { (path : List ℕ) → IsPath path → bytes.now ≡ path_bytes path → result ≡ Ok path }
+        ensures refused { result_err result ≡ path_fault bytes.now }
+    {
+        let Some((count, packed)) = bytes.split_first() else {
+            return Err(PathFault::Length);
+        };
+        let count = *count as usize;
+        match fault_of(count, packed) {
+            Some(fault) => Err(fault),
+            None => Ok(NibblePath::of_halves(packed, count)),
+        }
+    }
+
+    // The first nibbles of these bytes.
+    fn of_halves(bytes: &[u8], count: usize) -> NibblePath
+        requires short { count ≤ 64 }
+        requires there { count ≤ 2 * length bytes.now }
+        ensures { result ≡ take count (halves bytes.now) }
+    {
+        let mut path = NibblePath::empty();
+        for i in 0..count {
+            path.push(Nibble::half(bytes, i));
+        }
+        path
+    }
+
+    // Byte `i` of the packed nibbles.
+    fn byte(&self, i: usize) -> u8
+        requires { i < (length self.now + 1) / 2 }
+        ensures { result ≡ slice_index (packed self.now) i }
+    {
+        let nibbles = &self.nibbles;
+        nibbles[2 * i] * 16 + nibbles[2 * i + 1]
+    }
+
+    // The nibbles as numbers.
+    fn as_slice(&self) -> &[u8]
+        ensures { result.now ≡ self.now }
+    {
+        &self.nibbles[..self.count]
+    }
+}
+
+// Why these bytes aren't so many nibbles.
+fn fault_of(count: usize, packed: &[u8]) -> Option<PathFault>
+    ensures { result ≡ path_fault (count ∷ packed.now) }
+{
+    if count > MAX_NIBBLES || packed.len() != (count + 1) / 2 {
+        return Some(PathFault::Length);
+    }
+    if count % 2 == 1 && packed[count / 2] % 16 != 0 {
+        return Some(PathFault::Padding);
+    }
+    None
+}
+
+impl PartialEq for NibblePath {
+    ghost use Rattle.std.specs.Prelude.{◌==◌};
+    ghost use Rattle.std.specs.Cmp.Lexicographic.{pointwise};
+    ghost use Rattle.std.specs.Cmp.{partial_equiv_from_equiv};
+    ghost use Rattle.std.proofs.lemmas.Cmp.{nat_list_eq_equiv};
+
+    ghost eq = { pointwise (λ n m. n == m) };
+
+    ghost laws = { partial_equiv_from_equiv nat_list_eq_equiv };
+
+    fn eq(&self, other: &NibblePath) -> bool {
+        self.as_slice() == other.as_slice()
+    }
+}
+
+impl Eq for NibblePath {
+    ghost use Rattle.std.proofs.lemmas.Cmp.{nat_list_eq_equiv};
+
+    ghost laws = { nat_list_eq_equiv };
+}
+
+impl PartialOrd for NibblePath {
+    ghost use Rattle.std.specs.Ordering.{nat_cmp, as_partial_cmp};
+    ghost use Rattle.std.specs.Cmp.Lexicographic.{slice_cmp};
+    ghost use Rattle.std.specs.Cmp.{partial_order_from_own_ties};
+    ghost use Rattle.std.specs.Cmp.Rules.{comparing};
+    ghost use Rattle.std.proofs.Common.{rules};
+
+    ghost partial_cmp = { as_partial_cmp (slice_cmp nat_cmp) };
+
+    ghost laws = { partial_order_from_own_ties (Prim.search (comparing, rules)) (Prim.search (comparing, rules)) };
+
+    fn partial_cmp(&self, other: &NibblePath) -> Option<Ordering> {
+        Some(self.cmp(other))
+    }
+}
+
+impl Ord for NibblePath {
+    ghost use Rattle.std.specs.Ordering.{nat_cmp};
+    ghost use Rattle.std.specs.Cmp.Lexicographic.{slice_cmp};
+    ghost use Rattle.std.specs.Cmp.Rules.{comparing};
+    ghost use Rattle.std.proofs.Common.{rules};
+
+    ghost cmp = { slice_cmp nat_cmp };
+
+    ghost total = { Prim.search (comparing, rules) };
+
+    ghost matches_partial_cmp = { Prim.search (comparing, rules) };
+
+    ghost matches_eq = { Prim.search (comparing, rules) };
+
+    fn cmp(&self, other: &NibblePath) -> Ordering {
+        self.as_slice().cmp(other.as_slice())
+    }
+}

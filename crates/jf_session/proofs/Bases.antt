@@ -1,0 +1,74 @@
+-- What reads are answered: why the base isn't read, or what its map holds.
+use Rattle.std.proofs.Common.{◌≡◌, ◌∙◌, ℕ, ◌≤◌, Option, Some, None, List, refl, sym, subst, ap}
+use Rattle.std.specs.Option.{SomeIff}
+use Rattle.std.specs.FinMap.{get}
+use Rattle.jf_hash.specs.Hashes.{K}
+use Rattle.jf_hash.specs.Maps.{Map}
+use Rattle.jf_hash.specs.Roots.{root}
+use Rattle.jf_model.specs.Versions.{Versions, IsVersions, map_of, root_of}
+use Rattle.jf_model.specs.VersionLaws.{root_of-map_of}
+use Rattle.jf_answers.specs.Refusals.{base_map, refused_by}
+use Rattle.jf_answers.specs.Answers.{Answer, done, replied}
+use Rattle.jf_script.specs.declared.command.Base.{Base}
+use Rattle.jf_script.specs.declared.command.Base.TheVariants as base
+use Rattle.jf_script.specs.declared.command.Command.{Command}
+use Rattle.jf_script.specs.declared.command.Command.TheVariants as command
+use Rattle.jf_script.specs.declared.reply.Refusal.{Refusal}
+use Rattle.jf_script.specs.declared.reply.Refusal.TheVariants as refusal
+use Rattle.jf_script.specs.declared.reply.Reply.TheVariants as reply
+use Rattle.jf_session.specs.Sessions.{Session, get_answer, root_answer, read_refusal}
+
+-- the refusal, or what the command does
+abbrev by_refusal : Session → Command → Option Refusal → Answer
+by_refusal s c o = elim o as (λ x. Answer) [ Some why ↦ replied (reply.No why) s.state s.own | None ↦ done c s.state s.own ]
+
+refused_so : (s : Session) (why why' : Refusal) → Some why ≡ Some why' → replied (reply.No why) s.state s.own ≡ replied (reply.No why') s.state s.own
+refused_so s why why' e = let same : why ≡ why' = cc in ap (λ w. replied (reply.No w) s.state s.own) same
+
+pub get-refused : (s : Session) (b : Base) (name : List ℕ) (why : Refusal) → read_refusal s b ≡ Some why → get_answer s b name ≡ replied (reply.No why) s.state s.own
+unfolding refused_by
+get-refused s base.Head name why e = absurd (cc)
+get-refused s (base.Version w) name why e = ap (by_refusal s (command.Get (base.Version w) name)) e
+get-refused s (base.Fork id) name why e = refused_so s refusal.Syntax why e
+get-refused s (base.Place place) name why e = refused_so s refusal.Syntax why e
+
+pub get-read : (s : Session) (b : Base) (name : List ℕ) → read_refusal s b ≡ None → get_answer s b name ≡ replied (reply.Value (get (base_map s.state s.own b) (K name))) s.state s.own
+unfolding refused_by
+get-read s base.Head name e = refl
+get-read s (base.Version w) name e = ap (by_refusal s (command.Get (base.Version w) name)) e
+get-read s (base.Fork id) name e = absurd (cc)
+get-read s (base.Place place) name e = absurd (cc)
+
+pub root-refused : (s : Session) (b : Base) (why : Refusal) → read_refusal s b ≡ Some why → root_answer s b ≡ replied (reply.No why) s.state s.own
+unfolding refused_by
+root-refused s base.Head why e = absurd (cc)
+root-refused s (base.Version w) why e = ap (by_refusal s (command.Root (base.Version w))) e
+root-refused s (base.Fork id) why e = refused_so s refusal.Syntax why e
+root-refused s (base.Place place) why e = refused_so s refusal.Syntax why e
+
+pub root-read : (s : Session) (b : Base) → read_refusal s b ≡ None → root_answer s b ≡ replied (reply.Root (root (base_map s.state s.own b))) s.state s.own
+unfolding refused_by
+root-read s base.Head e = refl
+root-read s (base.Version w) e = ap (by_refusal s (command.Root (base.Version w))) e
+root-read s (base.Fork id) e = absurd (cc)
+root-read s (base.Place place) e = absurd (cc)
+
+some_so : (P : Type 0) (o : Option (List ℕ)) (x v : List ℕ) → SomeIff o P v → o ≡ Some x → x ≡ v
+some_so P (Some y) x v h e = let same : y ≡ x = cc in sym same ∙ h.1
+some_so P None x v h e = absurd (cc)
+
+-- ---- as the code finds it: the versions are those of the session, and what is read stands in them
+
+pub get-value : (s : Session) (v : Versions) (b : Base) (name : List ℕ) (w : ℕ) (k : List ℕ) (x : Option (List ℕ)) → v ≡ s.state.all → read_refusal s b ≡ None → base_map s.state s.own b ≡ map_of s.state.all w
+    → k ≡ K name → x ≡ get (map_of v w) k → reply.Value x ≡ (get_answer s b name).reply
+get-value s v b name w k x is read map key at =
+    ap reply.Value (at ∙ ap (λ (u : Versions). get (map_of u w) k) is ∙ ap (λ (m : Map). get m k) (sym map) ∙ ap (λ k. get (base_map s.state s.own b) k) key)
+    ∙ ap (λ (a : Answer). a.reply) (sym (get-read s b name read))
+
+pub root-value : (s : Session) (v : Versions) (b : Base) (w : ℕ) (o : Option (List ℕ)) (r : List ℕ) → v ≡ s.state.all → IsVersions v → read_refusal s b ≡ None → base_map s.state s.own b ≡ map_of s.state.all w
+    → (s.state.all.floor ≤ w) × (w ≤ s.state.all.head) → SomeIff o ((v.base ≤ w) × (w ≤ v.head)) (root_of v w) → o ≡ Some r → reply.Root r ≡ (root_answer s b).reply
+root-value s v b w o r is sound read map kept at there =
+    let floor : v.floor ≤ w = subst (λ (u : Versions). u.floor ≤ w) (sym is) kept.0 in
+    let head : w ≤ v.head = subst (λ (u : Versions). w ≤ u.head) (sym is) kept.1 in
+    ap reply.Root (some_so _ o r (root_of v w) at there ∙ root_of-map_of v w sound floor head ∙ ap (λ (u : Versions). root (map_of u w)) is ∙ ap root (sym map))
+    ∙ ap (λ (a : Answer). a.reply) (sym (root-read s b read))

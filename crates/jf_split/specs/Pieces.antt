@@ -1,0 +1,30 @@
+-- The pieces into which a batch falls at a depth: one for each nibble that its keys have there.
+use Rattle.std.specs.Prelude.{◌≡◌, ℕ, ◌<◌, ◌==◌, List, [], ◌∷◌, length, filter, All, AllPairs}
+use Rattle.std.specs.List.{slice_range}
+use Rattle.jf_path.specs.Nibbles.{nibble}
+use Rattle.jf_hash.specs.Maps.{Batch}
+use Rattle.jf_split.specs.declared.piece.Piece.{Piece}
+
+-- any two keys have the same first `depth` nibbles
+abbrev pub AgreeBefore : ℕ → Batch → Type 0
+AgreeBefore depth b = AllPairs (λ e f. (i : ℕ) → i < depth → nibble e.0 i ≡ nibble f.0 i) b
+
+-- the entries whose keys have nibble n at a depth, in their order
+abbrev pub with_nibble : ℕ → ℕ → Batch → Batch
+with_nibble depth n b = filter (λ e. nibble e.0 depth == n) b
+
+-- the entries from a piece's start up to its end
+abbrev pub entries_of : Batch → Piece → Batch
+entries_of b p = slice_range b p.start p.end
+
+-- each range begins where the one before it ends, none is empty, and together they go from one place to another
+abbrev pub Tile : ℕ → ℕ → List Piece → Type 0
+Tile from to [] = from ≡ to
+Tile from to (p ∷ ps) = (p.start ≡ from) × (p.start < p.end) × Tile p.end to ps
+
+-- the pieces of a batch at a depth: together all of it, their nibbles rising strictly, each exactly the entries with
+-- its nibble
+pub record ArePieces (depth : ℕ) (b : Batch) (ps : List Piece) : Type 0 where
+  pub tiled : Tile 0 (length b) ps
+  pub rising : AllPairs (λ p q. p.nibble < q.nibble) ps
+  pub exact : All (λ p. entries_of b p ≡ with_nibble depth p.nibble b) ps

@@ -1,0 +1,60 @@
+// The pieces of a batch.
+ghost use Rattle.std.specs.Prelude.{◌≡◌, ◌<◌, ◌≤◌, length, IfOk};
+ghost use Rattle.std.specs.List.{AllWithin, HoldsAt};
+ghost use Rattle.std.specs.List.Sorted.{IsNonDecreasingBy};
+ghost use Rattle.jf_path.specs.Nibbles.{nibble};
+ghost use Rattle.jf_split.specs.Pieces.{ArePieces};
+
+use jf_path::{Bytes, Key, Memory, Nibble, nibble};
+use std::alloc::Global;
+
+/// The entries of a batch, from place `start` up to place `end`, whose keys have this nibble at some depth.
+#[derive(Clone, Copy, Debug, PartialEq, Eq)]
+pub struct Piece {
+    pub nibble: Nibble,
+    pub start: usize,
+    pub end: usize,
+}
+
+// The pieces of entries whose nibbles at a depth do not fall.
+pub(crate) fn pieces_of(
+    alloc: Global,
+    entries: &[(Key, Option<Bytes>)],
+    depth: usize,
+) -> Result<Vec<Piece>, Memory>
+    requires depth { depth < 64 }
+    requires rising { IsNonDecreasingBy (λ e. nibble e.0 depth) entries.now }
+    ensures { IfOk result (λ ps. ArePieces depth entries.now ps.items) }
+{
+    let mut pieces = Vec::new(alloc);
+    let mut start = 0;
+    while start < entries.len() {
+        let nibble = nibble_at(&entries[start], depth);
+        let end = end_of_piece(entries, depth, start, nibble);
+        pieces.push(Piece { nibble, start, end })?;
+        start = end;
+    }
+    Ok(pieces)
+}
+
+// Where the piece ends that begins at `start`, where the keys have nibble `here`.
+fn end_of_piece(entries: &[(Key, Option<Bytes>)], depth: usize, start: usize, here: Nibble) -> usize
+    requires depth { depth < 64 }
+    requires rising { IsNonDecreasingBy (λ e. nibble e.0 depth) entries.now }
+    requires within { start < length entries.now }
+    requires here { HoldsAt (λ e. nibble e.0 depth ≡ here) entries.now start }
+    ensures behind { start < result }
+    ensures within { result ≤ length entries.now }
+    ensures same { AllWithin (λ e. nibble e.0 depth ≡ here) entries.now start result }
+    ensures other { AllWithin (λ e. here < nibble e.0 depth) entries.now result (length entries.now) }
+{
+    start + entries[start..].partition_point(|entry| nibble_at(entry, depth).get() <= here.get())
+}
+
+// The nibble of an entry's key.
+fn nibble_at(entry: &(Key, Option<Bytes>), depth: usize) -> Nibble
+    requires { depth < 64 }
+    ensures { result ≡ nibble entry.now.0 depth }
+{
+    nibble(&entry.0, depth)
+}

@@ -1,0 +1,79 @@
+// The marks of stale nodes in their order.
+ghost use Rattle.std.specs.Prelude.{◌≡◌, ◌≤◌, ◌<◌, ◌↔◌, [], ◌∷◌, length, All, Contains, IsTrue, IsNone, IfSome, IfNone, OnOk, OnErr};
+ghost use Rattle.std.specs.declared.cmp.Ordering.TheVariants.{Less};
+ghost use Rattle.jf_stale.specs.Marks.{IsAscending, mark_cmp, with_mark, without_mark};
+
+use jf_path::{Memory, NodeName};
+use std::alloc::Global;
+use std::collections::BTreeSet;
+use std::marker::Model;
+
+/// Names of nodes, each beside the version since which it is stale: in the order of these versions, and then in that of
+/// the names, each pair once.
+#[derive(Drop)]
+pub struct StaleIndex {
+    marks: BTreeSet<(u64, NodeName)>,
+}
+
+impl Model for StaleIndex {
+    ghost use Rattle.std.specs.Prelude.{List};
+    ghost use Rattle.jf_stale.specs.Marks.{Mark, IsAscending};
+
+    ghost Value = { List Mark };
+
+    ghost view = { λ s. s.marks.keys };
+
+    ghost invariant = { λ s. IsAscending s.marks.keys };
+}
+
+impl StaleIndex {
+    /// No mark.
+    pub fn new(alloc: Global) -> StaleIndex
+        ensures { result ≡ [] }
+    {
+        StaleIndex {
+            marks: BTreeSet::new(alloc),
+        }
+    }
+
+    /// The number of marks.
+    pub fn len(&self) -> u64
+        ensures count { result ≡ length self.now }
+        ensures ascending { IsAscending self.now }
+    {
+        self.marks.len() as u64
+    }
+
+    /// Marks a node as stale since a version. A mark that is there already stays as it is. Without memory for it the index
+    /// is as it was.
+    pub fn mark(&mut self, since: u64, name: NodeName) -> Result<(), Memory>
+        ensures ok { OnOk result (self.new ≡ with_mark (since, name) self.old) }
+        ensures err { OnErr result (self.new ≡ self.old) }
+    {
+        self.marks.insert((since, name))?;
+        Ok(())
+    }
+
+    /// Takes a mark away, and tells whether it was there.
+    pub fn unmark(&mut self, since: u64, name: &NodeName) -> bool
+        ensures found { IsTrue result ↔ Contains self.old (since, name.now) }
+        ensures others { self.new ≡ without_mark (since, name.now) self.old }
+    {
+        self.marks.remove(&(since, *name))
+    }
+
+    /// Takes the least mark away and answers it, if it is stale since a version of at most `floor`; none where no mark is.
+    pub fn take_upto(&mut self, floor: u64) -> Option<(u64, NodeName)>
+        ensures taken { IfSome result (λ m. self.old ≡ m ∷ self.new) }
+        ensures least { IfSome result (λ m. All (λ k. mark_cmp m k ≡ Less) self.new) }
+        ensures due { IfSome result (λ m. m.0 ≤ floor) }
+        ensures none { IsNone result ↔ All (λ m. floor < m.0) self.old }
+        ensures kept { IfNone result (self.new ≡ self.old) }
+    {
+        let (since, _) = self.marks.first()?;
+        if *since > floor {
+            return None;
+        }
+        self.marks.pop_first()
+    }
+}

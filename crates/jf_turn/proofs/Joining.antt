@@ -1,0 +1,76 @@
+-- What clauses see of seats that take, are joined, or are new.
+use Rattle.std.proofs.Common.{◌≡◌, ℕ, zero, suc, ◌+◌, ◌<◌, ◌≤◌, cond, leb, ltb, Bool, true, false, List, [], ◌∷◌, ◌++◌, length, drop, Option, Some, None, sym, refl, ap, ◌∙◌, subst, ⊎_elim, arith}
+use mathlib.Core.Option as maybe
+use Rattle.std.proofs.lemmas.Bool.Decides.{leb_tells}
+use lib.ListN.{get_elem?}
+use Rattle.atomic_table.specs.Seated.{TableId}
+use Rattle.atomic_table.proofs.Lists.{at_longer}
+use Rattle.jf_turn.specs.declared.view.Stage.{Stage}
+use Rattle.jf_turn.specs.declared.view.Stage.TheVariants.{Spent, Idle, Opening, Holding}
+use Rattle.jf_turn.specs.declared.view.SeatView.{SeatView}
+use Rattle.jf_turn.specs.Lists.{Has, StartsWith, longer, shorter}
+use Rattle.jf_turn.specs.Rule.{OwnAreSeen}
+use Rattle.jf_turn.specs.Steps.{joined}
+use Rattle.jf_turn.specs.Seats.{Carries, taken_at, seat_state, SeatState, TurnState, AreNew, IsMaker, new_seat, OthersFollow}
+use Rattle.jf_turn.proofs.Lists.{starts_self}
+
+module _ {E V : Type 0} where
+  -- a seat that holds nothing is idle, and has no slot
+  pub idle_of : (stage : Stage E) (c : List (ℕ × Option V)) → Carries stage c → taken_at stage ≡ None → (stage ≡ Idle) × (c ≡ [])
+  idle_of Spent c carries none = absurd carries
+  idle_of Idle c carries none = (refl, carries)
+  idle_of Opening c carries none = absurd carries
+  idle_of (Holding l) c carries none = absurd (let e : Some l ≡ None = none in cc)
+
+  -- a seat that holds a list has the slot, which it left empty
+  pub holding_of : (stage : Stage E) (c : List (ℕ × Option V)) (l : List E) → Carries stage c → taken_at stage ≡ Some l → (stage ≡ Holding l) × (c ≡ (0, None) ∷ [])
+  holding_of Spent c l carries some = absurd carries
+  holding_of Idle c l carries some = absurd (let e : None ≡ Some l = some in cc)
+  holding_of Opening c l carries some = absurd carries
+  holding_of (Holding k) c l carries some = ((let e : Some k ≡ Some l = some in cc), carries)
+
+module _ {E : Type 0} where
+  -- an element behind the first n
+  at_drop : (xs : List E) (n k : ℕ) (e : E) → get_elem? (drop n xs) k ≡ maybe.some e → get_elem? xs (n + k) ≡ maybe.some e
+  at_drop xs zero k e at = let same : k ≡ 0 + k = omega arith in subst (λ j. get_elem? xs j ≡ maybe.some e) same at
+  at_drop [] (suc n) k e at = absurd (maybe.some-ne-none e (sym at))
+  at_drop (x ∷ xs) (suc n) k e at = let same : suc (n + k) ≡ suc n + k = omega arith in subst (λ j. get_elem? (x ∷ xs) j ≡ maybe.some e) same (at_drop xs n k e at)
+
+  pub longer_is : (xs ys : List E) → length xs < length ys → length ys ≡ length (longer xs ys)
+  longer_is xs ys l = ⊎_elim (λ (t : (leb (suc (length xs)) (length ys) ≡ true) × (suc (length xs) ≤ length ys)). ap (λ b. length (cond b ys xs)) (sym t.0))
+      (λ (t : (leb (suc (length xs)) (length ys) ≡ false) × (length ys < suc (length xs))). absurd (let m = t.1 in omega arith)) (leb_tells (suc (length xs)) (length ys))
+
+  pub longer_is_first : (xs ys : List E) → length ys ≤ length xs → length xs ≡ length (longer xs ys)
+  longer_is_first xs ys l = ⊎_elim (λ (t : (leb (suc (length xs)) (length ys) ≡ true) × (suc (length xs) ≤ length ys)). absurd (let m = t.1 in omega arith))
+      (λ (t : (leb (suc (length xs)) (length ys) ≡ false) × (length ys < suc (length xs))). ap (λ b. length (cond b ys xs)) (sym t.0)) (leb_tells (suc (length xs)) (length ys))
+
+  pick : (xs ys : List E) (b : Bool) → StartsWith (cond b ys xs) (cond b xs ys) → StartsWith (cond b ys xs) xs × StartsWith (cond b ys xs) ys
+  pick xs ys true s = (s, starts_self ys)
+  pick xs ys false s = (starts_self xs, s)
+
+  -- the longer of two lists begins with both, where it begins with the shorter
+  pub both_begin : (xs ys : List E) → StartsWith (longer xs ys) (shorter xs ys) → StartsWith (longer xs ys) xs × StartsWith (longer xs ys) ys
+  both_begin xs ys s = pick xs ys (ltb (length xs) (length ys)) s
+
+module _ {V E O : Type 0} (list : V → List E) (names : E → ℕ) (origin_of : V → O) where
+  -- none of the entries that come after is the seat's own
+  pub others_follow : (id : TableId) (v : SeatView E O) (entries : List E) → OwnAreSeen list names origin_of entries v → OthersFollow names (seat_state id v) entries
+  others_follow id v entries own = λ e has own_name. let less = own (length v.seen + has.0) e (at_drop entries (length v.seen) has.0 e has.1) own_name in omega arith
+
+module _ {E O V : Type 0} where
+  abbrev Told : SeatView E O × List (ℕ × Option V) → ℕ → ℕ → Type 0
+  Told m number seen = (number ≡ m.0.number) × (seen ≡ length m.0.seen) × Carries m.0.stage m.1 × Has m.0.numbers m.0.number
+
+  -- what a seat keeps beside its token, after the join
+  pub told_joined : (v w : SeatView E O) (m : SeatView E O × List (ℕ × Option V)) (number seen : ℕ) → m ≡ (joined v w, []) → v.stage ≡ Idle → number ≡ v.number → Has v.numbers v.number → seen ≡ length (longer v.seen w.seen) → Told m number seen
+  told_joined v w m number seen e idle n has s = subst (λ x. Told x number seen) (sym e) (n, s, subst (λ (st : Stage E). Carries {V = V} st []) (sym idle) refl, (has.0, at_longer v.numbers w.numbers has.0 v.number has.1))
+
+module _ {E O : Type 0} where
+  -- the maker, which has seen nothing, is shown as a new seat
+  pub maker_is_new : (t : TurnState O) (id : TableId) (v : SeatView E O) (n : ℕ) → id ≡ t.id → IsMaker v t.origin n → seat_state id v ≡ new_seat t n
+  maker_is_new t id v n same m = λ i. record { turn = same i; origin = m.6 i; number = m.2 i; numbers = m.3 i; seen = m.5 i; taken = taken_at (m.0 i) }
+
+  -- one new seat more
+  pub new_longer : (t : TurnState O) (ss : List (SeatState E O)) (s : SeatState E O) (n m : ℕ) → AreNew t ss n → m ≡ n + length ss → s ≡ new_seat t m → AreNew t (ss ++ s ∷ []) n
+  new_longer t [] s n m new at is = let same : m ≡ n = omega arith in (is ∙ ap (new_seat t) same, tt)
+  new_longer t (x ∷ ss) s n m new at is = (new.0, new_longer t ss s (n + 1) m new.1 (omega arith) is)

@@ -1,0 +1,11 @@
+use Rattle.std.proofs.Common.{◌∙◌, length, ap, sym, arith}
+use Rattle.jf_turn.proofs.Joining.{idle_of, longer_is, longer_is_first, told_joined}
+use Rattle.jf_turn.proofs.seat.Seat.join.Goals as goal
+
+pub invariant_of-self : goal.invariant_of-self
+invariant_of-self g c = let i = c.self.invariant in let o = c.other.invariant in let mine = i.1 in let theirs = o.1 in let v = c.self.inside.token.me.0 in let w = c.into_token.result.me.0 in let seen = ap (λ s. length s.seen) c.other.view_is ∙ sym (ap (λ s. length s.seen) c.into_token.ensures.0) in
+    told_joined v w _ _ _ c.join.ensures.both.1 (idle_of _ _ i.2 (ap (λ s. s.taken) c.self.view_is ∙ c.requires.idle.0)).0 i.0 i.3 ((o.1 ∙ seen) ∙ longer_is v.seen w.seen (let l = c.if-self-seen.true in omega arith))
+
+pub invariant_of-self-else-self-seen : goal.invariant_of-self-else-self-seen
+invariant_of-self-else-self-seen g c = let i = c.self.invariant in let o = c.other.invariant in let mine = i.1 in let theirs = o.1 in let v = c.self.inside.token.me.0 in let w = c.into_token.result.me.0 in let seen = ap (λ s. length s.seen) c.other.view_is ∙ sym (ap (λ s. length s.seen) c.into_token.ensures.0) in
+    told_joined v w _ _ _ c.join.ensures.both.1 (idle_of _ _ i.2 (ap (λ s. s.taken) c.self.view_is ∙ c.requires.idle.0)).0 i.0 i.3 (i.1 ∙ longer_is_first v.seen w.seen (let l = c.if-self-seen.false in omega arith))

@@ -1,0 +1,21 @@
+-- Lists that hold a value, and lists that begin with another.
+use Rattle.std.specs.Prelude.{◌≡◌, ℕ, List, ◌++◌, length, cond, ltb}
+use mathlib.Core.Option.{some}
+use lib.ListN.{get_elem?}
+
+module _ {A : Type 0} where
+  -- the value stands in the list
+  abbrev pub Has : List A → A → Type 0
+  Has xs x = (k : ℕ) × (get_elem? xs k ≡ some x)
+
+  -- the whole list begins with the front
+  abbrev pub StartsWith : List A → List A → Type 0
+  StartsWith whole front = (rest : List A) × (whole ≡ front ++ rest)
+
+  -- the longer of two lists, and the first where they are as long
+  abbrev pub longer : List A → List A → List A
+  longer xs ys = cond (ltb (length xs) (length ys)) ys xs
+
+  -- the other of the two
+  abbrev pub shorter : List A → List A → List A
+  shorter xs ys = cond (ltb (length xs) (length ys)) xs ys

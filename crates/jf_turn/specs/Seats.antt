@@ -1,0 +1,80 @@
+-- What clauses see of a turn and of its seats.
+use Rattle.std.specs.Prelude.{◌≡◌, ℕ, ◌+◌, true, List, [], ◌∷◌, ◌++◌, drop, length, Option, Some, None}
+use Rattle.atomic_table.specs.Seated.{TableId}
+use Rattle.jf_turn.specs.declared.view.Stage.{Stage}
+use Rattle.jf_turn.specs.declared.view.Stage.TheVariants.{Spent, Idle, Opening, Holding}
+use Rattle.jf_turn.specs.declared.view.SeatView.{SeatView}
+use Rattle.jf_turn.specs.Lists.{Has, longer}
+
+-- which turn it is, its number of seats, and the origin of the value that it was made with
+pub record TurnState (O : Type 0) : Type 0 where
+  pub id : TableId
+  pub seats : ℕ
+  pub origin : O
+
+-- the turn that it is a seat of, its own number, the numbers that it stands for, the entries that it has seen, and the list that it took, while it holds the turn
+pub record SeatState (E O : Type 0) : Type 0 where
+  pub turn : TableId
+  pub origin : Option O
+  pub number : ℕ
+  pub numbers : List ℕ
+  pub seen : List E
+  pub taken : Option (List E)
+
+module _ {E O : Type 0} where
+  -- the seat is one of this turn's
+  abbrev pub IsSeatOf : SeatState E O → TurnState O → Type 0
+  IsSeatOf s t = (s.turn ≡ t.id) × (s.origin ≡ Some t.origin)
+
+  -- a seat with this number, which has seen nothing and holds nothing
+  abbrev pub new_seat : TurnState O → ℕ → SeatState E O
+  new_seat t n = record { turn = t.id; origin = Some t.origin; number = n; numbers = n ∷ []; seen = []; taken = None }
+
+  -- new seats with the numbers from n on
+  abbrev pub AreNew : TurnState O → List (SeatState E O) → ℕ → Type 0
+  AreNew t [] n = Unit {0}
+  AreNew t (s ∷ ss) n = (s ≡ new_seat t n) × AreNew t ss (n + 1)
+
+  -- no entry after those that the seat has seen names a number that it stands for
+  abbrev pub OthersFollow : (E → ℕ) → SeatState E O → List E → Type 0
+  OthersFollow names s entries = (e : E) → Has (drop (length s.seen) entries) e → ¬ (Has s.numbers (names e))
+
+  -- the entries go on from those that the seat took, by entries that name its number
+  abbrev pub MayGive : (E → ℕ) → SeatState E O → List E → Type 0
+  MayGive names s entries = (took : List E) × (more : List E) × (s.taken ≡ Some took) × (entries ≡ took ++ more) × ((e : E) → Has more e → names e ≡ s.number)
+
+  -- the seat after it took the turn, with these entries
+  abbrev pub taking : SeatState E O → List E → SeatState E O
+  taking s entries = record s { taken = Some entries }
+
+  -- and after it gave these back
+  abbrev pub giving : SeatState E O → List E → SeatState E O
+  giving s entries = record s { taken = None; seen = entries }
+
+  -- the seat after another was joined to it: it keeps its number, stands for the numbers of both, and has seen the longer list
+  abbrev pub joining : SeatState E O → SeatState E O → SeatState E O
+  joining s other = record s { numbers = s.numbers ++ other.numbers; seen = longer s.seen other.seen }
+
+-- ---- how a seat's view is shown, and what a seat has out of the turn's slot
+
+-- the list that a seat holds
+abbrev pub taken_at : {E : Type 0} → Stage E → Option (List E)
+taken_at Spent = None
+taken_at Idle = None
+taken_at Opening = None
+taken_at (Holding l) = Some l
+
+-- what clauses see of a view
+abbrev pub seat_state : {E O : Type 0} → TableId → SeatView E O → SeatState E O
+seat_state id v = record { turn = id; origin = v.origin; number = v.number; numbers = v.numbers; seen = v.seen; taken = taken_at v.stage }
+
+-- a seat is idle, or it holds the turn and has the slot, which it left empty
+abbrev pub Carries : {E V : Type 0} → Stage E → List (ℕ × Option V) → Type 0
+Carries Spent c = ⊥
+Carries Idle c = c ≡ []
+Carries Opening c = ⊥
+Carries (Holding l) c = c ≡ (0, None) ∷ []
+
+-- the seat that gives out numbers, when it has the last, n
+abbrev pub IsMaker : {E O : Type 0} → SeatView E O → O → ℕ → Type 0
+IsMaker v origin n = (v.stage ≡ Idle) × (v.is_maker ≡ true) × (v.number ≡ n) × (v.numbers ≡ n ∷ []) × (v.given ≡ n + 1) × (v.seen ≡ []) × (v.origin ≡ Some origin)

@@ -1,0 +1,77 @@
+-- What each kind of step tells the seat that does it, and what it makes of the seat's view.
+use Rattle.std.specs.Prelude.{◌≡◌, ◌≢◌, ℕ, ◌+◌, ◌^◌, ◌≤◌, false, List, [], ◌∷◌, ◌++◌, length, Option, Some, None}
+use Rattle.atomic_table.specs.Table.{Me, Step}
+use Rattle.jf_turn.specs.declared.view.Stage.{Stage}
+use Rattle.jf_turn.specs.declared.view.Stage.TheVariants.{Spent, Idle, Holding}
+use Rattle.jf_turn.specs.declared.view.SeatView.{SeatView}
+use Rattle.jf_turn.specs.Lists.{StartsWith, longer, shorter}
+use Rattle.jf_turn.specs.Rule.{OwnAreSeen}
+
+module _ {E O : Type 0} where
+  -- at another stage
+  abbrev pub at_stage : SeatView E O → Stage E → SeatView E O
+  at_stage v stage = record v { stage = stage }
+
+  -- holding nothing, with all of a list seen
+  abbrev pub released_seat : SeatView E O → List E → SeatView E O
+  released_seat v seen = record v { stage = Idle; seen = seen }
+
+  -- with one number more, the next to be given
+  abbrev pub minted : SeatView E O → SeatView E O
+  minted v = record v { numbers = v.given ∷ v.numbers; given = v.given + 1 }
+
+module _ {V E O : Type 0} (list : V → List E) (names : E → ℕ) (origin_of : V → O) where
+  -- a seat's view, with what it has out of the slot
+  abbrev Sat : Type 0
+  Sat = Me (Option V) (SeatView E O)
+
+  abbrev At : Type 0
+  At = Step (Option V)
+
+  -- claim: the seat holds the turn, with the value y, or nothing changed
+  abbrev pub claimed : At → Sat → ℕ → Sat → Type 0
+  claimed st m r m' =
+      (r ≡ st.first → (y : V) × (m' ≡ (at_stage m.0 (Holding (list y)), (0, Some y) ∷ m.1)) × StartsWith (list y) m.0.seen × OwnAreSeen list names origin_of (list y) m.0 × (m.0.origin ≡ Some (origin_of y)) × (length (list y) ≤ 2 ^ 62))
+      × (r ≢ st.first → m' ≡ m)
+
+  -- birth: the first seat takes the empty slot
+  abbrev pub born : At → Sat → ℕ → Sat → Type 0
+  born st m r m' = m' ≡ (at_stage m.0 (Holding []), (0, None) ∷ m.1)
+
+  -- move: the view keeps the list of the value that the seat has
+  abbrev pub moved : At → Sat → ℕ → Sat → Type 0
+  moved st m r m' = (y : V) → m.1 ≡ (0, Some y) ∷ [] → m' ≡ (at_stage m.0 (Holding (list y)), m.1)
+
+  -- release: the value is at home, and the seat has seen its list
+  abbrev pub released : At → Sat → ℕ → Sat → Type 0
+  released st m r m' = (y : V) → m.1 ≡ (0, Some y) ∷ [] → m' ≡ (released_seat m.0 (list y), [])
+
+  -- number: the count rises by one, and the old count is the number that was given
+  abbrev pub numbered : At → Sat → ℕ → Sat → Type 0
+  numbered st m r m' = (r ≡ m.0.given) × (m' ≡ (minted m.0, m.1))
+
+  -- of two lists that a joined seat has seen, the shorter begins the longer
+  abbrev pub compared : At → Sat → ℕ → Sat → Type 0
+  compared st m r m' = (m' ≡ m) × (length m.0.other_seen ≤ length m.0.seen → StartsWith m.0.seen m.0.other_seen)
+
+-- the first number, or 0
+abbrev pub first_of : List ℕ → ℕ
+first_of [] = 0
+first_of (n ∷ ns) = n
+
+module _ {E O : Type 0} where
+  -- split: the maker keeps the number that it gave out last
+  abbrev pub maker_left : SeatView E O → SeatView E O
+  maker_left v = record v { number = first_of v.numbers; numbers = first_of v.numbers ∷ [] }
+
+  -- and the new seat has the one that the maker had
+  abbrev pub seat_right : SeatView E O → SeatView E O
+  seat_right v = record { number = v.number; numbers = v.number ∷ []; seen = v.seen; other_seen = []; stage = Idle; origin = v.origin; is_maker = false; given = 0 }
+
+  -- join: one seat stands for the numbers of both, and has seen the longer list
+  abbrev pub joined : SeatView E O → SeatView E O → SeatView E O
+  joined v w = record v { numbers = v.numbers ++ w.numbers; seen = longer v.seen w.seen; other_seen = shorter v.seen w.seen }
+
+  -- and the other is spent
+  abbrev pub spent : SeatView E O
+  spent = record { number = 0; numbers = []; seen = []; other_seen = []; stage = Spent; origin = None; is_maker = false; given = 0 }

@@ -1,0 +1,42 @@
+//! How seats are made, and how two become one.
+ghost use Rattle.std.specs.Prelude.{◌≡◌, ◌+◌, ◌<◌, true, [], ◌∷◌};
+ghost use Rattle.jf_turn.specs.declared.view.Stage.TheVariants.{Idle};
+ghost use Rattle.jf_turn.specs.Lists.{StartsWith};
+ghost use Rattle.jf_turn.specs.Steps.{minted, maker_left, seat_right, joined};
+
+use crate::steps::{Both, Compare, Number, Seating};
+use crate::told::Told;
+use crate::turn::Turn;
+use crate::view::SeatView;
+use atomic_table::Seat as Token;
+
+/// Draws one more number for the maker, and makes a seat for the one that the maker had.
+pub(crate) fn make_seat<V: Told>(
+    turn: &Turn<V>,
+    token: &mut Token<Option<V>, SeatView<V::Entry, V::Origin>>,
+) -> Token<Option<V>, SeatView<V::Entry, V::Origin>>
+    requires own { token.old.table_id ≡ turn.now.id }
+    requires idle { (token.old.me.0.stage ≡ Idle) × (token.old.me.1 ≡ []) }
+    requires maker { (token.old.me.0.is_maker ≡ true) × (token.old.me.0.numbers ≡ token.old.me.0.number ∷ []) × (token.old.me.0.number < token.old.me.0.given) }
+    requires room { token.old.me.0.given < turn.now.seats }
+    ensures maker { (token.new.table_id ≡ token.old.table_id) × (token.new.me ≡ (maker_left (minted token.old.me.0), [])) }
+    ensures seat { (result.table_id ≡ token.old.table_id) × (result.me ≡ (seat_right (minted token.old.me.0), [])) }
+{
+    turn.table.shared.fetch_add::<Number>(token, 1, 1);
+    turn.table.shared.split_seat::<Seating>(token)
+}
+
+/// One token stands for the numbers of both.
+pub(crate) fn join<V: Told>(
+    turn: &Turn<V>,
+    token: &mut Token<Option<V>, SeatView<V::Entry, V::Origin>>,
+    other: Token<Option<V>, SeatView<V::Entry, V::Origin>>,
+)
+    requires own { (token.old.table_id ≡ turn.now.id) × (other.table_id ≡ turn.now.id) }
+    requires idle { (token.old.me.0.stage ≡ Idle) × (token.old.me.1 ≡ []) × (other.me.0.stage ≡ Idle) × (other.me.1 ≡ []) }
+    ensures both { (token.new.table_id ≡ token.old.table_id) × (token.new.me ≡ (joined token.old.me.0 other.me.0, [])) }
+    ensures prefix { StartsWith (joined token.old.me.0 other.me.0).seen (joined token.old.me.0 other.me.0).other_seen }
+{
+    turn.table.shared.join_seat::<Both>(token, other);
+    turn.table.shared.load::<Compare>(token, 0);
+}

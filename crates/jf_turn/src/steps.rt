@@ -1,0 +1,66 @@
+//! What each kind of step on the table tells.
+ghost use Rattle.jf_turn.specs.Steps.{claimed, born, moved, released, numbered, compared, maker_left, seat_right, joined, spent};
+
+use crate::told::Told;
+use crate::view::SeatView;
+use atomic_table::{Join, Play, Split};
+
+/// A turn word that is even becomes odd.
+pub(crate) struct Claim;
+
+impl<V: Told> Play<Option<V>, SeatView<V::Entry, V::Origin>> for Claim {
+    ghost then = { claimed V.list V.names V.origin };
+}
+
+/// The first seat takes the empty slot.
+pub(crate) struct Birth;
+
+impl<V: Told> Play<Option<V>, SeatView<V::Entry, V::Origin>> for Birth {
+    ghost then = { born V.list V.names V.origin };
+}
+
+/// The word of a held turn counts the entries of the value that is to come home.
+pub(crate) struct Move;
+
+impl<V: Told> Play<Option<V>, SeatView<V::Entry, V::Origin>> for Move {
+    ghost then = { moved V.list V.names V.origin };
+}
+
+/// The word becomes even, and the slot is at home.
+pub(crate) struct Release;
+
+impl<V: Told> Play<Option<V>, SeatView<V::Entry, V::Origin>> for Release {
+    ghost then = { released V.list V.names V.origin };
+}
+
+/// The count of numbers rises by one.
+pub(crate) struct Number;
+
+impl<V: Told> Play<Option<V>, SeatView<V::Entry, V::Origin>> for Number {
+    ghost then = { numbered V.list V.names V.origin };
+}
+
+/// A load, by which a joined seat learns that the shorter list begins the longer.
+pub(crate) struct Compare;
+
+impl<V: Told> Play<Option<V>, SeatView<V::Entry, V::Origin>> for Compare {
+    ghost then = { compared V.list V.names V.origin };
+}
+
+/// A load that makes a seat, for the number that the maker had.
+pub(crate) struct Seating;
+
+impl<E, O> Split<SeatView<E, O>> for Seating {
+    ghost left = { maker_left };
+
+    ghost right = { seat_right };
+}
+
+/// A load by which one seat stands for the numbers of two.
+pub(crate) struct Both;
+
+impl<E, O> Join<SeatView<E, O>> for Both {
+    ghost both = { joined };
+
+    ghost spent = { spent };
+}
