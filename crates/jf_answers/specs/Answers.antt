@@ -78,6 +78,7 @@ abbrev pub answer_to : Option Command → State → Own → Answer
 answer_to None s own = not_read s own
 answer_to (Some c) s own = if is_built c then answer_command s own c else not_read s own
 
+-- what a line is answered
 unfoldable pub answer : State → Own → List ℕ → Answer
 answer s own line = if is_long line then too_long s own else answer_to (command_of line) s own
 
