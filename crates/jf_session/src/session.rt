@@ -1,14 +1,16 @@
 // A session over a store of its own.
-ghost use Rattle.std.specs.Prelude.{◌≡◌, ◌⊎◌, ◌↔◌, ℕ, ◌+◌, ◌-◌, ◌<◌, ◌≤◌, ◌^◌, length, [], ◌∷◌, ◌++◌, Some, None, Err, IfOk, IfErr, OnOk, OnErr, true, false};
+ghost use Rattle.std.specs.Prelude.{◌≡◌, ◌⊎◌, ◌↔◌, ℕ, ◌+◌, ◌-◌, ◌<◌, ◌≤◌, ◌^◌, length, [], ◌∷◌, ◌++◌, Some, None, Err, IfOk, IfErr, OnOk, OnErr, IsErr, true, false};
 ghost use Rattle.std.specs.Option.{option_copied};
 ghost use Rattle.jf_disk.specs.Disk.{History, reads};
 ghost use Rattle.jf_disk.specs.Moments.{Extends};
 ghost use Rattle.jf_disk.specs.declared.side.Side.{Side};
 ghost use Rattle.jf_model.specs.Versions.{Versions, map_of};
 ghost use Rattle.jf_model.specs.States.{opened};
+ghost use Rattle.jf_frame.specs.Crashes.{KeepsOther};
 ghost use Rattle.jf_journal.specs.Standing.{StandsFor, IsDamagedAt, generation};
 ghost use Rattle.jf_journal.specs.Steps.{Opens, StopsWell, IsCalm};
 ghost use Rattle.jf_engine.specs.Engines.{IsSettledOn};
+ghost use Rattle.jf_engine.specs.Leaving.{LeavesFiles};
 ghost use Rattle.jf_answers.specs.Own.{begun};
 ghost use Rattle.jf_answers.specs.Refusals.{base_map};
 ghost use Rattle.jf_answers.specs.Answers.{answer};
@@ -58,7 +60,7 @@ impl<D: Disk> Model for Session<D> {
 
 impl<D: Disk> Session<D> {
     /// Opens the files of a disk, for a session without a line so far. A refusal hands the disk back; the files
-    /// stand for what they stood for.
+    /// stand for what they stood for. After `Damaged` and `Memory` nothing was made of them. Side B is left alone.
     pub fn over<H: Threads + Sync>(
         rt: &H,
         alloc: Global,
@@ -67,9 +69,16 @@ impl<D: Disk> Session<D> {
         ensures found { (h : History) → D.history disk ≡ Some h → IfOk result (λ s. StandsFor (reads h) s.state.all) }
         ensures state { IfOk result (λ s. (s.state ≡ opened s.state.all 1) × (s.own ≡ begun 0) × (s.entries ≡ []) × (s.over ≡ false)) }
         ensures settled { (h : History) → D.history disk ≡ Some h → IfOk result (λ s. (g : History) × (s.history ≡ Some g) × IsSettledOn g s.state.all × (generation (reads g) ≡ generation (reads h))) }
+        ensures stands_on { (h : History) (v : Versions) → D.history disk ≡ Some h → StandsFor (reads h) v → IfOk result (λ s. (g : History) × (s.history ≡ Some g) × StandsFor (reads g) v) }
+        ensures stands_on_err { (h : History) (v : Versions) → D.history disk ≡ Some h → StandsFor (reads h) v → IfErr result (λ e. (g : History) × (D.history e.disk ≡ Some g) × StandsFor (reads g) v) }
         ensures damaged { (h : History) (side : Side) (at : ℕ) → D.history disk ≡ Some h → IfErr result (λ e. e.why ≡ OpenFault.Damaged side at → IsDamagedAt (reads h) side at) }
+        ensures damaged_told { (h : History) (side : Side) (at : ℕ) → D.history disk ≡ Some h → IsDamagedAt (reads h) side at → IsErr result × IfErr result (λ e. (e.why ≡ OpenFault.Damaged side at) ⊎ ((e.why ≡ OpenFault.DiskFault) ⊎ (e.why ≡ OpenFault.Memory))) }
+        ensures damaged_left { (h : History) (side : Side) (at : ℕ) → D.history disk ≡ Some h → IfErr result (λ e. e.why ≡ OpenFault.Damaged side at → (g : History) × (D.history e.disk ≡ Some g) × LeavesFiles h g) }
+        ensures memory_left { (h : History) → D.history disk ≡ Some h → IfErr result (λ e. e.why ≡ OpenFault.Memory → (g : History) × (D.history e.disk ≡ Some g) × LeavesFiles h g) }
         ensures extends { (h : History) → D.history disk ≡ Some h → IfOk result (λ s. (g : History) × (s.history ≡ Some g) × Extends h g) }
         ensures extends_err { (h : History) → D.history disk ≡ Some h → IfErr result (λ e. (g : History) × (D.history e.disk ≡ Some g) × Extends h g) }
+        ensures other { (h : History) → D.history disk ≡ Some h → IfOk result (λ s. (g : History) × (s.history ≡ Some g) × KeepsOther Side.A h g) }
+        ensures other_err { (h : History) → D.history disk ≡ Some h → IfErr result (λ e. (g : History) × (D.history e.disk ≡ Some g) × KeepsOther Side.A h g) }
         ensures stops { (h : History) (v : Versions) → D.history disk ≡ Some h → IsCalm h → StandsFor (reads h) v → IfOk result (λ s. (g : History) × (s.history ≡ Some g) × StopsWell Opens h g v) }
         ensures stops_err { (h : History) (v : Versions) → D.history disk ≡ Some h → IsCalm h → StandsFor (reads h) v → IfErr result (λ e. (g : History) × (D.history e.disk ≡ Some g) × StopsWell Opens h g v) }
         ensures cause { IfErr result (λ e. e.why ≡ OpenFault.DiskFault → (D.faults disk < D.faults e.disk) ⊎ (D.faults disk ≡ 2 ^ 64 - 1)) }
