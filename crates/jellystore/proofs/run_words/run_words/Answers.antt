@@ -63,8 +63,8 @@ returns-clause-settled g c = λ h told some sound.
     is_settled h c.run-disk.result.end c.in-Ok.session (g.S.Source.rest c.args.source.now) (g.S.Source.rest c.run-disk.new.source) (g.K.Sink.text c.args.sink.now) (g.K.Sink.text c.run-disk.new.sink) (g.D.Disk.history c.args.disk) (g.D.Disk.history c.run-disk.result.disk) (g.D.Disk.moment c.args.disk) (g.D.Disk.faults c.args.disk) c.head-head.result
     (g.D.Disk.moment c.run-disk.result.disk) (g.D.Disk.faults c.run-disk.result.disk) c.run-disk.result.entries told (λ d. sound (c.of_end.ensures ∙ d)) begun c.run-disk.ensures.ran
 
-pub returns-then-not-is_run-clause-stops : goal.returns-then-not-is_run-clause-stops
-returns-then-not-is_run-clause-stops g c = λ h v told calm stands.
+pub returns-in_default-clause-stops : goal.returns-in_default-clause-stops
+returns-in_default-clause-stops g c = λ h v told calm stands.
     rw c.new.ensures (closed_safe h h v (g.D.Disk.history c.args.disk) (g.D.Disk.moment c.args.disk) status.Usage (g.D.Disk.faults c.args.disk) (g.D.Disk.faults c.args.disk) told (c.know_dated.ensures h told) calm stands (record { more = []; grows = refl; each = tt }))
 
 pub returns-in-Err-clause-stops : goal.returns-in-Err-clause-stops
