@@ -4,3 +4,4 @@ pub mod Counting
 pub mod Attempts
 pub mod Stopping
 pub mod Safe
+pub mod Standing

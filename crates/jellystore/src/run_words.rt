@@ -6,11 +6,12 @@ ghost use Rattle.jf_disk.specs.declared.side.Side.{Side};
 ghost use Rattle.jf_model.specs.Versions.{Versions};
 ghost use Rattle.jf_journal.specs.Standing.{StandsFor, IsDamagedAt};
 ghost use Rattle.jf_journal.specs.Steps.{Opens, StopsWell, IsCalm};
+ghost use Rattle.jf_engine.specs.Leaving.{LeavesFiles};
 ghost use Rattle.jf_model.specs.Entries.{moments_of};
 ghost use Rattle.jf_session.specs.Runs.{AreWithin};
 ghost use Rattle.jellystore.specs.Stops.{IsSafeSince};
 ghost use Rattle.jellystore.specs.Commands.{mode_of, is_closing};
-ghost use Rattle.jellystore.specs.Promises.{IsLegalRun, IsSettledRun, RunsFrom};
+ghost use Rattle.jellystore.specs.Promises.{IsLegalRun, IsSettledRun, RunsFrom, Stands};
 
 use crate::status::{Ended, Status};
 use crate::words::{Mode, mode_of};
@@ -45,15 +46,19 @@ pub fn run_words<S: Source, K: Sink, D: Disk, H: Threads + Wait + Sync>(
     ensures write { result.status ≡ Status.WriteFault → (K.faults sink.old < K.faults sink.new) ⊎ (K.faults sink.old ≡ 2 ^ 64 - 1) }
     ensures disk_fault { result.status ≡ Status.DiskFault → (D.faults disk < D.faults result.disk) ⊎ (D.faults disk ≡ 2 ^ 64 - 1) }
     ensures damaged { (h : History) (side : Side) (at : ℕ) → D.history disk ≡ Some h → result.status ≡ Status.Damaged side at → IsDamagedAt (reads h) side at }
+    ensures damaged_told { (h : History) (side : Side) (at : ℕ) → D.history disk ≡ Some h → IsSome (mode_of (map (λ w. string_bytes w) words.now)) → IsDamagedAt (reads h) side at
+        → (result.status ≡ Status.Damaged side at) ⊎ ((result.status ≡ Status.DiskFault) ⊎ (result.status ≡ Status.Memory)) }
+    ensures damaged_left { (h : History) (side : Side) (at : ℕ) → D.history disk ≡ Some h → result.status ≡ Status.Damaged side at → (g : History) × (D.history result.disk ≡ Some g) × LeavesFiles h g }
     ensures complete { (h : History) (v : Versions) → D.history disk ≡ Some h → StandsFor (reads h) v → IsSome (mode_of (map (λ w. string_bytes w) words.now))
         → S.faults source.new ≡ S.faults source.old → S.faults source.old < 2 ^ 64 - 1 → K.faults sink.new ≡ K.faults sink.old → K.faults sink.old < 2 ^ 64 - 1
         → D.faults result.disk ≡ D.faults disk → D.faults disk < 2 ^ 64 - 1 → (result.status ≡ Status.Done) ⊎ (result.status ≡ Status.Memory) }
     ensures closed_status { result.start ≡ None → IsTrue (is_closing result.status) }
-    ensures closed { result.start ≡ None → (S.rest source.new ≡ S.rest source.old) × (K.text sink.new ≡ K.text sink.old) × (result.entries ≡ []) }
+    ensures closed { result.start ≡ None → (source.new ≡ source.old) × (sink.new ≡ sink.old) × (result.entries ≡ []) }
     ensures closed_stops { (h : History) (v : Versions) → result.start ≡ None → D.history disk ≡ Some h → IsCalm h → StandsFor (reads h) v → (result.status ≡ Status.Usage → ⊥)
         → (g : History) × (D.history result.disk ≡ Some g) × StopsWell Opens h g v }
     ensures legal { (h : History) → D.history disk ≡ Some h → IfSome result.start (IsLegalRun h result.entries) }
     ensures settled { (h : History) → D.history disk ≡ Some h → IsSome result.start → (result.status ≡ Status.DiskFault → ⊥) → IsSettledRun h (D.history result.disk) result.entries }
+    ensures stands { (h : History) (v : Versions) → D.history disk ≡ Some h → StandsFor (reads h) v → (result.status ≡ Status.DiskFault → ⊥) → Stands (D.history result.disk) v result.entries }
     ensures extends { (h : History) → D.history disk ≡ Some h → (g : History) × (D.history result.disk ≡ Some g) × Extends h g }
     ensures counts { (D.moment disk ≤ D.moment result.disk) × (D.faults disk ≤ D.faults result.disk) }
     ensures dated { AreWithin (D.moment disk) (D.moment result.disk) (moments_of result.entries) }

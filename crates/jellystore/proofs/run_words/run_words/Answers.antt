@@ -1,4 +1,4 @@
-use Rattle.std.proofs.Common.{◌≡◌, ◌⊎◌, inr, sym, subst, IsTrue, ◌∙◌, [], refl}
+use Rattle.std.proofs.Common.{◌≡◌, ◌⊎◌, inr, sym, subst, IsTrue, ◌∙◌, [], refl, true≢false}
 use Rattle.jf_disk.specs.Disk.{reads}
 use Rattle.jellystore.specs.Promises.{IsBegun}
 use Rattle.jellystore.specs.declared.status.Status.TheVariants as status
@@ -7,6 +7,7 @@ use Rattle.jellystore.proofs.Statuses.{damage_told, refusal_closes, fault_rose}
 use Rattle.jellystore.proofs.Complete.{steady, refused_for_memory, ends_well, is_legal, is_settled}
 use Rattle.jellystore.proofs.Counting.{run_extends, run_counts, run_dated}
 use Rattle.jellystore.proofs.Safe.{run_safe, closed_safe}
+use Rattle.jellystore.proofs.Standing.{stands-none, settled-stands, damage-told}
 use Rattle.jellystore.proofs.run_words.run_words.Goals as goal
 
 pub returns-in-Err-clause-damaged : goal.returns-in-Err-clause-damaged
@@ -86,3 +87,24 @@ unfolding returns-clause-ran
 returns-clause-stops g c = λ h v told calm stands.
     let r = returns-clause-ran g c in
     rw c.of_end.ensures (run_safe h v r.how r.session _ _ _ _ _ _ _ _ _ _ _ _ c.files_stand_for_one.ensures told (c.know_dated.ensures h told) c.know_dated-2.ensures calm stands r.opened_ r.ran)
+
+pub returns-in-Err-clause-damaged_told : goal.returns-in-Err-clause-damaged_told
+returns-in-Err-clause-damaged_told g c = λ h side at told words damaged.
+    rw c.of_refusal.ensures (damage-told c.in-Err.field-0.why side at (c.in-Err.ensures.damaged_told h side at told damaged).1)
+
+pub returns-clause-damaged_told : goal.returns-clause-damaged_told
+returns-clause-damaged_told g c = λ h side at told words damaged. absurd (true≢false (sym (c.in-Ok.ensures.damaged_told h side at told damaged).0))
+
+pub returns-in-Err-clause-damaged_left : goal.returns-in-Err-clause-damaged_left
+returns-in-Err-clause-damaged_left g c = λ h side at told same.
+    c.in-Err.ensures.damaged_left h side at told (damage_told c.in-Err.field-0.why side at (sym c.of_refusal.ensures ∙ same))
+
+pub returns-in_default-clause-stands : goal.returns-in_default-clause-stands
+returns-in_default-clause-stands g c = λ h v told stands sound. rw c.new.ensures (stands-none h v (g.D.Disk.history c.args.disk) told stands)
+
+pub returns-in-Err-clause-stands : goal.returns-in-Err-clause-stands
+returns-in-Err-clause-stands g c = λ h v told stands sound.
+    let went = c.in-Err.ensures.stands_on_err h v told stands in rw c.new-in-Err.ensures (stands-none went.0 v (g.D.Disk.history c.in-Err.field-0.disk) went.1 went.2)
+
+pub returns-clause-stands : goal.returns-clause-stands
+returns-clause-stands g c = λ h v told stands sound. settled-stands h v (g.D.Disk.history c.run-disk.result.disk) c.run-disk.result.entries c.files_stand_for_one.ensures stands (returns-clause-settled g c h told refl sound)
