@@ -17,7 +17,7 @@ use Rattle.jf_session.specs.declared.running.End.{End}
 use Rattle.jf_session.specs.declared.running.End.TheVariants as end
 use Rattle.jellystore.specs.Commands.{status_of}
 use Rattle.jellystore.specs.Promises.{IsBegun}
-use Rattle.jellystore.specs.Stops.{IsSafeSince, IsTriedImage, LeavesFront}
+use Rattle.jellystore.specs.Stops.{IsSafeSince}
 use Rattle.jellystore.specs.declared.status.Status.{Status}
 use Rattle.jellystore.proofs.Attempts.{answer-lands}
 use Rattle.jellystore.proofs.Complete.{added_are}

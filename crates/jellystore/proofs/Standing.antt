@@ -1,5 +1,5 @@
 -- What the disk reads behind a call.
-use Rattle.std.proofs.Common.{◌≡◌, ◌⊎◌, inl, inr, ℕ, List, [], Option, Some, refl, subst, ap, ◌∙◌}
+use Rattle.std.proofs.Common.{◌≡◌, ◌⊎◌, inl, inr, ℕ, List, [], Option, Some, subst, ap}
 use Rattle.jf_disk.specs.Disk.{History, reads}
 use Rattle.jf_disk.specs.declared.side.Side.{Side}
 use Rattle.jf_model.specs.Versions.{Versions}
@@ -12,7 +12,6 @@ use Rattle.jf_engine.specs.declared.fault.OpenFault.{OpenFault}
 use Rattle.jf_engine.specs.declared.fault.OpenFault.TheVariants as open_fault
 use Rattle.jellystore.specs.Commands.{status_of_refusal}
 use Rattle.jellystore.specs.Promises.{IsSettledRun, Stands}
-use Rattle.jellystore.specs.declared.status.Status.{Status}
 use Rattle.jellystore.specs.declared.status.Status.TheVariants as status
 
 -- no entry makes nothing of versions

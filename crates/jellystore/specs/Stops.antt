@@ -1,5 +1,5 @@
 -- What a stop at any moment of a call leaves.
-use Rattle.std.specs.Prelude.{◌≡◌, ◌⊎◌, ℕ, ◌≤◌, List, Option, Some, IsSome}
+use Rattle.std.specs.Prelude.{◌≡◌, ◌⊎◌, ℕ, ◌≤◌, List, Option, Some}
 use Rattle.jf_disk.specs.Disk.{History, Files, LeftSince}
 use Rattle.jf_model.specs.Versions.{Versions}
 use Rattle.jf_model.specs.States.{State, opened}

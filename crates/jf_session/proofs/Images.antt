@@ -1,22 +1,22 @@
 -- What a stop may leave of a history that grows by a landing.
-use Rattle.std.proofs.Common.{◌≡◌, ◌⊎◌, inl, inr, ℕ, zero, suc, ◌+◌, ◌<◌, ◌≤◌, Bool, true, false, cond, List, [], ◌∷◌, ◌++◌, take, length, refl, sym, ap, ap₂, ◌∙◌, subst, arith, le_refl, length-append, append_assoc, take_all}
+use Rattle.std.proofs.Common.{◌≡◌, ◌⊎◌, inl, inr, ℕ, suc, ◌+◌, ◌<◌, ◌≤◌, Bool, true, false, cond, List, [], ◌∷◌, ◌++◌, take, length, refl, sym, ap, ◌∙◌, subst, arith, le_refl, length-append, append_assoc, take_all}
 use Rattle.std.proofs.lemmas.List.{take-append-le}
-use Rattle.std.specs.Prelude.{nat_le, ◌==◌, if◌then◌else◌}
+use Rattle.std.specs.Prelude.{nat_le, ◌==◌}
 use Rattle.std.specs.List.{AllByRecursion}
 use Rattle.jf_hash.specs.Maps.{Batch}
 use Rattle.jf_disk.specs.Disk.{History, State as DiskState, Files, IsImage, reads}
 use Rattle.jf_disk.specs.Moments.{all_states}
-use Rattle.jf_model.specs.Versions.{Versions, land_all, landed}
+use Rattle.jf_model.specs.Versions.{Versions, landed}
 use Rattle.jf_model.specs.States.{State}
-use Rattle.jf_model.specs.Entries.{after, replay, moments_of, replay-append}
+use Rattle.jf_model.specs.Entries.{after, replay, replay-append}
 use Rattle.jf_model.specs.declared.entries.Entry.{Entry}
 use Rattle.jf_model.specs.declared.entries.Entry.TheVariants as entry
 use Rattle.jf_model.specs.declared.entries.Landing.TheVariants as landing
-use Rattle.jf_frame.specs.Crashes.{GoesOn, LeavesNow}
+use Rattle.jf_frame.specs.Crashes.{LeavesNow}
 use Rattle.jf_journal.specs.Standing.{StandsFor}
-use Rattle.jf_journal.specs.Steps.{Lands, StopsWell, Succeeds}
+use Rattle.jf_journal.specs.Steps.{Lands, Succeeds}
 use Rattle.jf_engine.specs.Engines.{IsSettledOn}
-use Rattle.jf_session.specs.Runs.{AreWithin, is_acknowledged, last_place, IsFrontImage, AreCovered, Outlasts}
+use Rattle.jf_session.specs.Runs.{is_acknowledged, last_place, IsFrontImage, AreCovered, Outlasts}
 
 -- ---- places
 

@@ -1,13 +1,11 @@
 -- The lines that are in front of what is left of an input.
-use Rattle.std.proofs.Common.{◌≡◌, ◌⊎◌, ℕ, zero, suc, ◌+◌, ◌<◌, ◌≤◌, Bool, true, false, cond, not, Option, Some, None, List, [], ◌∷◌, ◌++◌, take, drop, length, get_or, refl, sym, ap, ap₂, ◌∙◌, subst, arith, le_refl, append_assoc, append-nil, length-append, eqb-true, take_all, take_at, zero-add}
-use Rattle.std.proofs.lemmas.List.{take-append-le}
-use Rattle.std.specs.Prelude.{slice_get, ◌==◌, count_by}
+use Rattle.std.proofs.Common.{◌≡◌, ℕ, zero, suc, ◌+◌, ◌<◌, ◌≤◌, true, false, cond, not, Option, Some, List, [], ◌∷◌, ◌++◌, take, length, refl, sym, ap, ◌∙◌, subst, arith, le_refl, append_assoc, append-nil, length-append, eqb-true, take_all, take_at, zero-add}
+use Rattle.std.specs.Prelude.{slice_get, ◌==◌}
 use Rattle.std.specs.List.{AllByRecursion, position_or_len, before_first, after_first, onto_first}
 use Rattle.std.proofs.lemmas.List.Sums.{split_at_first, passes_at_first, sum_by-append}
 use Rattle.jf_io.specs.LineReader.{is_line_feed}
 use Rattle.jf_script.specs.Words.{lines, whole_lines}
 use Rattle.jf_session.specs.Runs.{lines_read, AreFirst, Reads}
-use Rattle.jf_session.specs.declared.running.End.{End}
 use Rattle.jf_session.specs.declared.running.End.TheVariants as end
 
 -- no line feed

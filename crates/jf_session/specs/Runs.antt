@@ -1,5 +1,5 @@
 -- What a run over a script makes of a session, of its input and of its output.
-use Rattle.std.specs.Prelude.{◌≡◌, ◌⊎◌, ℕ, ◌+◌, ◌-◌, ◌<◌, ◌≤◌, Bool, false, if◌then◌else◌, ◌==◌, nat_le, List, [], ◌∷◌, ◌++◌, map, take, length, slice_get, Option, Some, None, option_map}
+use Rattle.std.specs.Prelude.{◌≡◌, ℕ, ◌+◌, ◌-◌, ◌<◌, ◌≤◌, Bool, false, if◌then◌else◌, ◌==◌, nat_le, List, [], ◌∷◌, ◌++◌, map, take, length, slice_get, Option, Some, option_map}
 use Rattle.jf_disk.specs.Disk.{History, State as DiskState, Files, IsImage}
 use Rattle.jf_disk.specs.Moments.{all_states}
 use Rattle.jf_model.specs.States.{State}
@@ -9,7 +9,6 @@ use Rattle.jf_model.specs.declared.entries.Entry.TheVariants as entry
 use Rattle.jf_journal.specs.Standing.{StandsFor}
 use Rattle.jf_engine.specs.Engines.{IsSettledOn}
 use Rattle.jf_script.specs.Words.{lines, whole_lines}
-use Rattle.jf_answers.specs.Own.{Own}
 use Rattle.jf_answers.specs.Answers.{answer}
 use Rattle.jf_answers.specs.Runs.{Run, answers_from, text_of, entries_of}
 use Rattle.jf_session.specs.Sessions.{Session, Stays, Tries}
