@@ -8,3 +8,4 @@ pub mod Kept
 pub mod Names
 pub mod NameLaws
 pub mod Nodes
+pub mod Numbers

@@ -1,0 +1,7 @@
+pub mod FieldLaws
+pub mod Bits
+pub mod Loop
+pub mod Names
+pub mod Children
+pub mod Nodes
+pub mod Spellings

@@ -1,0 +1,10 @@
+-- By the laws on what is read.
+use Rattle.std.proofs.Common.{arith}
+use Rattle.jf_codec.proofs.Names.{is_name_found, is_only_name}
+use Rattle.jf_codec.proofs.name.decode_name.Goals as goal
+
+pub returns-clause-found : goal.returns-clause-found
+returns-clause-found c = is_name_found c.args.bytes.now c.measured.result (λ i. omega (arith, c.type_inv.bytes i)) c.measured.ensures
+
+pub returns-clause-only : goal.returns-clause-only
+returns-clause-only c = is_only_name c.args.bytes.now c.measured.result c.measured.ensures

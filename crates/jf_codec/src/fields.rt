@@ -1,0 +1,81 @@
+// Fields at the front of bytes, each with the bytes behind it.
+ghost use Rattle.std.specs.Prelude.{◌≡◌, ◌++◌, OnOk};
+ghost use Rattle.jf_path.specs.Numbers.{two_bytes, four_bytes, eight_bytes};
+ghost use Rattle.jf_codec.specs.Reading.{Reads, bytes_at, two_at, four_at, eight_at};
+
+use crate::fault::CodecFault;
+use jf_path::{Bytes, Key, Memory};
+
+/// A number in two bytes.
+#[tactic(auto, unfolding(crate::specs::Reading::two_at))]
+pub(crate) fn u16_at(bytes: &[u8]) -> Result<(u16, &[u8]), CodecFault>
+    ensures { Reads (λ x. (x.0, x.1.now)) result (two_at bytes.now) }
+{
+    let Some((number, rest)) = bytes.split_first_chunk::<2>() else {
+        return Err(CodecFault::Short);
+    };
+    Ok((u16::from_be_bytes(*number), rest))
+}
+
+/// A number in four bytes.
+#[tactic(auto, unfolding(crate::specs::Reading::four_at))]
+pub(crate) fn u32_at(bytes: &[u8]) -> Result<(u32, &[u8]), CodecFault>
+    ensures { Reads (λ x. (x.0, x.1.now)) result (four_at bytes.now) }
+{
+    let Some((number, rest)) = bytes.split_first_chunk::<4>() else {
+        return Err(CodecFault::Short);
+    };
+    Ok((u32::from_be_bytes(*number), rest))
+}
+
+/// A number in eight bytes.
+#[tactic(auto, unfolding(crate::specs::Reading::eight_at))]
+pub(crate) fn u64_at(bytes: &[u8]) -> Result<(u64, &[u8]), CodecFault>
+    ensures { Reads (λ x. (x.0, x.1.now)) result (eight_at bytes.now) }
+{
+    let Some((number, rest)) = bytes.split_first_chunk::<8>() else {
+        return Err(CodecFault::Short);
+    };
+    Ok((u64::from_be_bytes(*number), rest))
+}
+
+/// A key or a hash.
+pub(crate) fn key_at(bytes: &[u8]) -> Result<(&Key, &[u8]), CodecFault>
+    ensures { Reads (λ x. (x.0.now, x.1.now)) result (bytes_at 32 bytes.now) }
+{
+    bytes.split_first_chunk::<32>().ok_or(CodecFault::Short)
+}
+
+/// So many bytes.
+pub(crate) fn front_of(count: usize, bytes: &[u8]) -> Result<(&[u8], &[u8]), CodecFault>
+    ensures { Reads (λ x. (x.0.now, x.1.now)) result (bytes_at count bytes.now) }
+{
+    if bytes.len() < count {
+        return Err(CodecFault::Short);
+    }
+    Ok(bytes.split_at(count))
+}
+
+/// Adds a number in two bytes.
+#[tactic(auto, unfolding(jf_path::specs::Numbers::two_bytes))]
+pub(crate) fn put_u16(out: &mut Bytes, number: u16) -> Result<(), Memory>
+    ensures { OnOk result (out.new ≡ out.old ++ two_bytes number) }
+{
+    out.append(&number.to_be_bytes())
+}
+
+/// Adds a number in four bytes.
+#[tactic(auto, unfolding(jf_path::specs::Numbers::four_bytes))]
+pub(crate) fn put_u32(out: &mut Bytes, number: u32) -> Result<(), Memory>
+    ensures { OnOk result (out.new ≡ out.old ++ four_bytes number) }
+{
+    out.append(&number.to_be_bytes())
+}
+
+/// Adds a number in eight bytes.
+#[tactic(auto, unfolding(jf_path::specs::Numbers::eight_bytes))]
+pub(crate) fn put_u64(out: &mut Bytes, number: u64) -> Result<(), Memory>
+    ensures { OnOk result (out.new ≡ out.old ++ eight_bytes number) }
+{
+    out.append(&number.to_be_bytes())
+}

@@ -1,0 +1,170 @@
+// Nodes from bytes.
+ghost use Rattle.std.specs.Prelude.{◌≡◌, ◌⊎◌, ◌++◌, ◌<◌, List, ℕ, drop, length, IfOk, Ok, Err};
+ghost use Rattle.jf_path.specs.declared.node.PlainNode.{PlainNode};
+ghost use Rattle.jf_codec.specs.Spelling.{IsValid, spelling};
+ghost use Rattle.jf_codec.specs.Reading.{Reads, Gives, value_at, leaf_at, count_at, child_at, children_at, inner_at, node_at, whole_in, counted};
+
+use crate::bitmaps::{Bitmaps, bitmaps_of, has};
+use crate::fault::CodecFault;
+use crate::fields::{front_of, key_at, u32_at, u64_at};
+use crate::format::Format;
+use crate::tags::{COUNTED, INNER, LEAF, NULL};
+use jf_path::{Bytes, Child, Children, Nibble, PlainNode};
+use std::alloc::Global;
+
+// A value of at most 4,096 bytes behind its length.
+#[tactic(auto, unfolding(crate::specs::Reading::value_at))]
+fn value_of(bytes: &[u8]) -> Result<(&[u8], &[u8]), CodecFault>
+    ensures { Reads (λ x. (x.0.now, x.1.now)) result (value_at bytes.now) }
+{
+    let (length, rest) = u32_at(bytes)?;
+    if length > 4_096 {
+        return Err(CodecFault::Length);
+    }
+    front_of(length as usize, rest)
+}
+
+// A leaf behind its tag.
+#[tactic(auto, unfolding(crate::specs::Reading::leaf_at))]
+fn leaf_of(alloc: Global, bytes: &[u8]) -> Result<(PlainNode, &[u8]), CodecFault>
+    ensures { Gives (λ x. (x.0, x.1.now)) result (leaf_at bytes.now) }
+{
+    let (key, rest) = key_at(bytes)?;
+    let (value, rest) = value_of(rest)?;
+    let value = Bytes::copy_of(alloc, value)?;
+    Ok((PlainNode::Leaf { key: *key, value }, rest))
+}
+
+// The count of a child, 0 in format 1.
+#[tactic(auto, unfolding(crate::specs::Reading::count_at))]
+fn count_of(format: Format, leaf: bool, bytes: &[u8]) -> Result<(u64, &[u8]), CodecFault>
+    ensures { Reads (λ x. (x.0, x.1.now)) result (count_at format leaf bytes.now) }
+{
+    match format {
+        Format::One => Ok((0, bytes)),
+        Format::Two => {
+            let (count, rest) = u64_at(bytes)?;
+            if count == 0 || leaf != (count == 1) {
+                return Err(CodecFault::Count);
+            }
+            Ok((count, rest))
+        }
+    }
+}
+
+// The child at a nibble.
+#[tactic(auto, unfolding(crate::specs::Reading::child_at))]
+fn child_of(
+    format: Format,
+    nibble: Nibble,
+    leaf: bool,
+    bytes: &[u8],
+) -> Result<(Child, &[u8]), CodecFault>
+    ensures { Reads (λ x. (x.0, x.1.now)) result (child_at format nibble leaf bytes.now) }
+{
+    let (version, rest) = u64_at(bytes)?;
+    let (count, rest) = count_of(format, leaf, rest)?;
+    let (hash, rest) = key_at(rest)?;
+    let child = Child {
+        nibble,
+        version,
+        hash: *hash,
+        leaf,
+        count,
+    };
+    Ok((child, rest))
+}
+
+// The children that the bitmaps name.
+fn children_of(
+    alloc: Global,
+    format: Format,
+    bits: Bitmaps,
+    bytes: &[u8],
+) -> Result<(Children, &[u8]), CodecFault>
+    ensures { Gives (λ x. (x.0, x.1.now)) result (children_at format bits.exist bits.leaf 16 0 bytes.now) }
+{
+    let mut children = Children::new(alloc);
+    let mut rest = bytes;
+    for i in 0..16 {
+        if !has(bits.exist, i) {
+            continue;
+        }
+        let Some(nibble) = Nibble::new(i as u8) else {
+            unreachable!()
+        };
+        match child_of(format, nibble, has(bits.leaf, i), rest) {
+            Ok((child, after)) => {
+                children.push(child)?;
+                rest = after;
+            }
+            Err(fault) => return Err(fault),
+        }
+    }
+    Ok((children, rest))
+}
+
+// An internal node behind its tag.
+#[tactic(auto, unfolding(crate::specs::Reading::inner_at))]
+fn inner_of(alloc: Global, format: Format, bytes: &[u8]) -> Result<(PlainNode, &[u8]), CodecFault>
+    ensures { Gives (λ x. (x.0, x.1.now)) result (inner_at format bytes.now) }
+{
+    let (bits, rest) = bitmaps_of(bytes)?;
+    let (children, rest) = children_of(alloc, format, bits, rest)?;
+    Ok((PlainNode::Inner { children }, rest))
+}
+
+// A node, and the bytes behind it.
+#[tactic(auto, unfolding(crate::specs::Reading::node_at))]
+fn node_of(alloc: Global, bytes: &[u8]) -> Result<(PlainNode, &[u8]), CodecFault>
+    ensures { Gives (λ x. (x.0, x.1.now)) result (node_at bytes.now) }
+{
+    match bytes {
+        [] => Err(CodecFault::Short),
+        [NULL, rest @ ..] => Ok((PlainNode::Null, rest)),
+        [LEAF, rest @ ..] => leaf_of(alloc, rest),
+        [INNER, rest @ ..] => inner_of(alloc, Format::One, rest),
+        [COUNTED, rest @ ..] => inner_of(alloc, Format::Two, rest),
+        _ => Err(CodecFault::Tag),
+    }
+}
+
+// A node, and the number of bytes that it takes.
+fn measured(alloc: Global, bytes: &[u8]) -> Result<(PlainNode, usize), CodecFault>
+    ensures { Gives (λ x. x) result (counted bytes.now (node_at bytes.now)) }
+{
+    let (node, rest) = node_of(alloc, bytes)?;
+    Ok((node, bytes.len() - rest.len()))
+}
+
+/// The node with which the bytes begin, and the number of bytes that it takes. Otherwise the first fault that is met from
+/// left to right, or `Memory`.
+pub fn decode_node(alloc: Global, bytes: &[u8]) -> Result<(PlainNode, usize), CodecFault>
+    ensures found { IfOk result (λ x. IsValid x.0 × (bytes.now ≡ spelling x.0 ++ drop x.1 bytes.now) × (x.1 ≡ length (spelling x.0))) }
+    ensures only { (node : PlainNode) (rest : List ℕ) → IsValid node → bytes.now ≡ spelling node ++ rest → Gives (λ x. x) result (Ok (node, length (spelling node))) }
+    ensures exact { Gives (λ x. x) result (counted bytes.now (node_at bytes.now)) }
+{
+    measured(alloc, bytes)
+}
+
+/// The node that all of the bytes spell. Otherwise the first fault that is met from left to right, `Rest` where bytes are
+/// left, or `Memory`.
+pub fn decode_whole(alloc: Global, bytes: &[u8]) -> Result<PlainNode, CodecFault>
+    ensures found { IfOk result (λ node. IsValid node × (bytes.now ≡ spelling node)) }
+    ensures only { (node : PlainNode) → IsValid node → bytes.now ≡ spelling node → Gives (λ x. x) result (Ok node) }
+    ensures exact { Gives (λ node. node) result (whole_in bytes.now) }
+{
+    whole_of(alloc, bytes)
+}
+
+// The node that is all of the bytes.
+#[tactic(auto, unfolding(crate::specs::Reading::whole_in))]
+fn whole_of(alloc: Global, bytes: &[u8]) -> Result<PlainNode, CodecFault>
+    ensures { Gives (λ node. node) result (whole_in bytes.now) }
+{
+    let (node, rest) = node_of(alloc, bytes)?;
+    if !rest.is_empty() {
+        return Err(CodecFault::Rest);
+    }
+    Ok(node)
+}

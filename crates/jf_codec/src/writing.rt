@@ -1,0 +1,134 @@
+// Nodes to bytes.
+ghost use Rattle.std.specs.Prelude.{◌≡◌, ◌++◌, ◌∷◌, ◌<◌, ◌≤◌, [], length, flat_map, OnOk, OnErr};
+ghost use Rattle.std.specs.List.{AllByRecursion};
+ghost use Rattle.jf_path.specs.Numbers.{four_bytes};
+ghost use Rattle.jf_path.specs.Nodes.{RiseFrom};
+ghost use Rattle.jf_path.specs.declared.node.PlainNode.TheVariants as node;
+ghost use Rattle.jf_codec.specs.Spelling.{IsValid, spelling, child_bytes, count_bytes, bitmap, leaves, format_of_children, tag};
+
+use crate::bitmaps::Bitmaps;
+use crate::fields::{put_u16, put_u32, put_u64};
+use crate::format::Format;
+use crate::tags::{COUNTED, INNER, LEAF, NULL};
+use jf_path::{Bytes, Child, Key, Memory, PlainNode};
+use std::alloc::Global;
+
+// The format that a node of these children has: they have counts or not as the first of them.
+fn format_of(children: &[Child]) -> Format
+    ensures { result ≡ format_of_children children.now }
+{
+    match children {
+        [first, ..] if first.count != 0 => Format::Two,
+        _ => Format::One,
+    }
+}
+
+// The tag of internal nodes of a format.
+fn tag_of(format: Format) -> u8
+    ensures { result ≡ tag format }
+{
+    match format {
+        Format::One => INNER,
+        Format::Two => COUNTED,
+    }
+}
+
+// The bitmaps of children.
+fn bitmaps_to(children: &[Child]) -> Bitmaps
+    requires rise { RiseFrom 0 children.now }
+    requires nibbles { AllByRecursion (λ c. c.nibble < 16) children.now }
+    ensures exist { result.exist ≡ bitmap children.now }
+    ensures leaf { result.leaf ≡ bitmap (leaves children.now) }
+{
+    let mut bits = Bitmaps { exist: 0, leaf: 0 };
+    for child in children {
+        let bit = 1 << child.nibble.get();
+        bits.exist += bit;
+        if child.leaf {
+            bits.leaf += bit;
+        }
+    }
+    bits
+}
+
+// Adds the count of a child, where the format has counts.
+fn put_count(out: &mut Bytes, format: Format, count: u64) -> Result<(), Memory>
+    ensures { OnOk result (out.new ≡ out.old ++ count_bytes format count) }
+{
+    match format {
+        Format::One => Ok(()),
+        Format::Two => put_u64(out, count),
+    }
+}
+
+// Adds a child.
+fn put_child(out: &mut Bytes, format: Format, child: &Child) -> Result<(), Memory>
+    ensures { OnOk result (out.new ≡ out.old ++ child_bytes format child.now) }
+{
+    put_u64(out, child.version)?;
+    put_count(out, format, child.count)?;
+    out.append(&child.hash)
+}
+
+// Adds each child.
+fn put_children(out: &mut Bytes, format: Format, children: &[Child]) -> Result<(), Memory>
+    ensures { OnOk result (out.new ≡ out.old ++ flat_map (child_bytes format) children.now) }
+{
+    for child in children {
+        put_child(out, format, child)?;
+    }
+    Ok(())
+}
+
+// Adds an internal node.
+#[tactic(auto, unfolding(crate::specs::Spelling::node_bytes))]
+fn put_inner(out: &mut Bytes, children: &[Child]) -> Result<(), Memory>
+    requires rise { RiseFrom 0 children.now }
+    requires nibbles { AllByRecursion (λ c. c.nibble < 16) children.now }
+    ensures { OnOk result (out.new ≡ out.old ++ spelling (node.Inner children.now)) }
+{
+    let format = format_of(children);
+    let bits = bitmaps_to(children);
+    out.push(tag_of(format))?;
+    put_u16(out, bits.exist)?;
+    put_u16(out, bits.leaf)?;
+    put_children(out, format, children)
+}
+
+// Adds a leaf.
+#[tactic(auto, unfolding(crate::specs::Spelling::node_bytes))]
+fn put_leaf(out: &mut Bytes, key: &Key, value: &[u8]) -> Result<(), Memory>
+    requires { length value.now ≤ 4096 }
+    ensures { OnOk result (out.new ≡ out.old ++ spelling (node.Leaf key.now value.now)) }
+{
+    out.push(LEAF)?;
+    out.append(key)?;
+    put_u32(out, value.len() as u32)?;
+    out.append(value)
+}
+
+// Adds a node.
+#[tactic(auto, unfolding(crate::specs::Spelling::node_bytes))]
+fn put_node(out: &mut Bytes, node: &PlainNode) -> Result<(), Memory>
+    requires { IsValid node.now }
+    ensures { OnOk result (out.new ≡ out.old ++ spelling node.now) }
+{
+    match node {
+        PlainNode::Null => out.push(NULL),
+        PlainNode::Leaf { key, value } => put_leaf(out, key, value.as_slice()),
+        PlainNode::Inner { children } => put_inner(out, children.as_slice()),
+    }
+}
+
+/// Appends the one spelling of a node that has one: a leaf's value has at most 4,096 bytes, and an internal node has a
+/// child, no single child that is a leaf, and counts that are all 0, or all at least 1 and 1 just for leaves. A refusal
+/// leaves `out` as it was.
+pub fn encode_node(alloc: Global, node: &PlainNode, out: &mut Bytes) -> Result<(), Memory>
+    requires { IsValid node.now }
+    ensures ok { OnOk result (out.new ≡ out.old ++ spelling node.now) }
+    ensures err { OnErr result (out.new ≡ out.old) }
+{
+    let mut text = Bytes::new(alloc);
+    put_node(&mut text, node)?;
+    out.append(text.as_slice())
+}

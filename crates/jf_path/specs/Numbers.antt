@@ -1,0 +1,12 @@
+-- Numbers in bytes, the highest first.
+use Rattle.std.specs.Prelude.{ℕ, List}
+use Rattle.std.specs.Int.{w16, w32, w64, to_be_bytes}
+
+unfoldable pub two_bytes : ℕ → List ℕ
+two_bytes n = to_be_bytes w16 n
+
+unfoldable pub four_bytes : ℕ → List ℕ
+four_bytes n = to_be_bytes w32 n
+
+unfoldable pub eight_bytes : ℕ → List ℕ
+eight_bytes n = to_be_bytes w64 n
