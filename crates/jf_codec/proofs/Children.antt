@@ -4,7 +4,7 @@ use Rattle.std.specs.Bool.{beq}
 use Rattle.std.specs.List.{AllByRecursion, flat_map}
 use Rattle.std.proofs.lemmas.Bool.{cases_lt, ne_eqb, eqb-true, eqb-false}
 use Rattle.std.proofs.lemmas.List.Concat.{flat_map-cons}
-use Rattle.jf_path.specs.Numbers.{eight_bytes}
+use Rattle.jf_codec.specs.Numbers.{eight_bytes}
 use Rattle.jf_path.specs.Nodes.{RiseFrom}
 use Rattle.jf_path.specs.declared.children.Child.{Child}
 use Rattle.jf_codec.specs.declared.format.Format.{Format}

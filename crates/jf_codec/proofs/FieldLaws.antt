@@ -5,7 +5,7 @@ use Rattle.std.proofs.lemmas.Bool.{cases_lt, ltb-false, le-ltb}
 use Rattle.std.proofs.lemmas.List.{take_at, drop_at, take-append-drop, length-append, length-take, get_or-drop, get_or-take, get_or_past}
 use Rattle.std.proofs.lemmas.Nat.{be_bytes_2, be_bytes_4, be_bytes_8, from_be_bytes-to_be_bytes_2, from_be_bytes-to_be_bytes_4, from_be_bytes-to_be_bytes_8}
 use Rattle.jf_path.specs.Keys.{IsBytes}
-use Rattle.jf_path.specs.Numbers.{two_bytes, four_bytes, eight_bytes}
+use Rattle.jf_codec.specs.Numbers.{two_bytes, four_bytes, eight_bytes}
 use Rattle.jf_codec.specs.declared.fault.CodecFault.{CodecFault}
 use Rattle.jf_codec.specs.declared.fault.CodecFault.TheVariants as fault
 use Rattle.jf_codec.specs.Reading.{◌>>=◌, bytes_at, number_at, two_at, four_at, eight_at}

@@ -4,7 +4,7 @@ use Rattle.std.specs.List.{AllByRecursion}
 use Rattle.std.specs.Result.{result_err}
 use Rattle.std.proofs.lemmas.Bool.{cases_eq, ne_eqb, ltb-false, le-ltb, and_cases, eqb-true}
 use Rattle.std.proofs.lemmas.List.{length-append, length-take, get_or_past, drop_at}
-use Rattle.jf_path.specs.Numbers.{eight_bytes}
+use Rattle.jf_codec.specs.Numbers.{eight_bytes}
 use Rattle.jf_path.specs.Names.{IsName}
 use Rattle.jf_path.specs.Paths.{IsPath, packed, path_bytes, path_fault, has_padding, has_wrong_length}
 use Rattle.jf_path.specs.PathLaws.{halves, length-halves, length-packed, get_or-packed, take-halves-packed, packed-take-halves}

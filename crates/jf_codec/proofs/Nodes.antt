@@ -5,7 +5,7 @@ use Rattle.std.specs.List.{AllByRecursion, flat_map}
 use Rattle.std.proofs.lemmas.Bool.{ne_eqb, eqb-true, eqb-false, cases_Bool}
 use Rattle.std.proofs.lemmas.List.{length-append, append-nil}
 use Rattle.jf_path.specs.Keys.{IsKey}
-use Rattle.jf_path.specs.Numbers.{two_bytes, four_bytes}
+use Rattle.jf_codec.specs.Numbers.{two_bytes, four_bytes}
 use Rattle.jf_path.specs.Nodes.{RiseFrom}
 use Rattle.jf_path.specs.declared.children.Child.{Child}
 use Rattle.jf_path.specs.declared.node.PlainNode.{PlainNode}

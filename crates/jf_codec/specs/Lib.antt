@@ -1,3 +1,4 @@
+pub mod Numbers
 pub mod Spelling
 pub mod Reading
 pub mod Laws

@@ -8,7 +8,7 @@ use Rattle.jf_path.specs.declared.name.NodeName.{NodeName}
 use Rattle.jf_path.specs.declared.children.Child.{Child}
 use Rattle.jf_path.specs.declared.node.PlainNode.{PlainNode}
 use Rattle.jf_path.specs.declared.node.PlainNode.TheVariants as node
-use Rattle.jf_path.specs.Numbers.{two_bytes, four_bytes, eight_bytes}
+use Rattle.jf_codec.specs.Numbers.{two_bytes, four_bytes, eight_bytes}
 use Rattle.jf_codec.specs.declared.format.Format.{Format}
 use Rattle.jf_codec.specs.declared.format.Format.TheVariants as format
 

@@ -1,6 +1,6 @@
 // Fields at the front of bytes, each with the bytes behind it.
 ghost use Rattle.std.specs.Prelude.{◌≡◌, ◌++◌, OnOk};
-ghost use Rattle.jf_path.specs.Numbers.{two_bytes, four_bytes, eight_bytes};
+ghost use Rattle.jf_codec.specs.Numbers.{two_bytes, four_bytes, eight_bytes};
 ghost use Rattle.jf_codec.specs.Reading.{Reads, bytes_at, two_at, four_at, eight_at};
 
 use crate::fault::CodecFault;
@@ -57,7 +57,7 @@ pub(crate) fn front_of(count: usize, bytes: &[u8]) -> Result<(&[u8], &[u8]), Cod
 }
 
 /// Adds a number in two bytes.
-#[tactic(auto, unfolding(jf_path::specs::Numbers::two_bytes))]
+#[tactic(auto, unfolding(crate::specs::Numbers::two_bytes))]
 pub(crate) fn put_u16(out: &mut Bytes, number: u16) -> Result<(), Memory>
     ensures { OnOk result (out.new ≡ out.old ++ two_bytes number) }
 {
@@ -65,7 +65,7 @@ pub(crate) fn put_u16(out: &mut Bytes, number: u16) -> Result<(), Memory>
 }
 
 /// Adds a number in four bytes.
-#[tactic(auto, unfolding(jf_path::specs::Numbers::four_bytes))]
+#[tactic(auto, unfolding(crate::specs::Numbers::four_bytes))]
 pub(crate) fn put_u32(out: &mut Bytes, number: u32) -> Result<(), Memory>
     ensures { OnOk result (out.new ≡ out.old ++ four_bytes number) }
 {
@@ -73,7 +73,7 @@ pub(crate) fn put_u32(out: &mut Bytes, number: u32) -> Result<(), Memory>
 }
 
 /// Adds a number in eight bytes.
-#[tactic(auto, unfolding(jf_path::specs::Numbers::eight_bytes))]
+#[tactic(auto, unfolding(crate::specs::Numbers::eight_bytes))]
 pub(crate) fn put_u64(out: &mut Bytes, number: u64) -> Result<(), Memory>
     ensures { OnOk result (out.new ≡ out.old ++ eight_bytes number) }
 {

@@ -1,7 +1,7 @@
 // Nodes to bytes.
 ghost use Rattle.std.specs.Prelude.{◌≡◌, ◌++◌, ◌∷◌, ◌<◌, ◌≤◌, [], length, flat_map, OnOk, OnErr};
 ghost use Rattle.std.specs.List.{AllByRecursion};
-ghost use Rattle.jf_path.specs.Numbers.{four_bytes};
+ghost use Rattle.jf_codec.specs.Numbers.{four_bytes};
 ghost use Rattle.jf_path.specs.Nodes.{RiseFrom};
 ghost use Rattle.jf_path.specs.declared.node.PlainNode.TheVariants as node;
 ghost use Rattle.jf_codec.specs.Spelling.{IsValid, spelling, child_bytes, count_bytes, bitmap, leaves, format_of_children, tag};

@@ -8,4 +8,3 @@ pub mod Kept
 pub mod Names
 pub mod NameLaws
 pub mod Nodes
-pub mod Numbers
