@@ -51,14 +51,20 @@ run_counts e s rest rest' text text' before history m f head moment faults es be
       omega (arith, begun.faults_on, run.ran.advances.faults, behind.1, run.ends.faults_are),
     )
 
--- the landings of a run rise within the call
+-- the landings of a run rise from the moment on at which the store was open
+pub run_landings : (e : End) (s : Session) (rest rest' text text' : Option (List ℕ)) (before history : Option History) (m f head moment faults : ℕ) (es : List Entry)
+    → IsBegun s before m f head → HasRun e s rest rest' text text' history moment faults es → AreWithin s.moment moment (moments_of es)
+run_landings e s rest rest' text text' before history m f head moment faults es begun run =
+    let behind = end_counts e run.ran.mid run.last run.ran.next run.ran.ends in
+    let added : AreWithin s.moment moment (moments_of run.ran.advances.added) =
+    AreWithin-wider s.moment s.moment run.ran.mid.moment moment (moments_of run.ran.advances.added) (omega arith) (omega (arith, behind.0, run.ends.moment_is)) run.ran.advances.dated in
+    subst (λ xs. AreWithin s.moment moment (moments_of xs)) (sym (added_are e s rest rest' text text' history moment faults es begun.entries run)) added
+
+-- and so within the call
 pub run_dated : (e : End) (s : Session) (rest rest' text text' : Option (List ℕ)) (before history : Option History) (m f head moment faults : ℕ) (es : List Entry)
     → IsBegun s before m f head → HasRun e s rest rest' text text' history moment faults es → AreWithin m moment (moments_of es)
 run_dated e s rest rest' text text' before history m f head moment faults es begun run =
-    let behind = end_counts e run.ran.mid run.last run.ran.next run.ran.ends in
-    let added : AreWithin m moment (moments_of run.ran.advances.added) =
-    AreWithin-wider s.moment m run.ran.mid.moment moment (moments_of run.ran.advances.added) begun.moment_on (omega (arith, behind.0, run.ends.moment_is)) run.ran.advances.dated in
-    subst (λ xs. AreWithin m moment (moments_of xs)) (sym (added_are e s rest rest' text text' history moment faults es begun.entries run)) added
+    AreWithin-wider s.moment m moment moment (moments_of es) begun.moment_on (omega arith) (run_landings e s rest rest' text text' before history m f head moment faults es begun run)
 
 -- the history of a run's disk goes on from where it stood
 pub run_extends : (h : History) (e : End) (s : Session) (rest rest' text text' : Option (List ℕ)) (before history : Option History) (m f head moment faults : ℕ) (es : List Entry)

@@ -52,8 +52,9 @@ pub record IsSettledRun (before : History) (after : Option History) (entries : L
   pub told : after ≡ Some now
   pub settled : IsSettledOn now (replay (opened found 1) entries).all
 
--- the disk reads what entries make of versions
+-- the disk reads what entries make of versions, in the generation to which they lead
 pub record Stands (after : Option History) (v : Versions) (entries : List Entry) : Type 0 where
   pub now : History
   pub told : after ≡ Some now
   pub stands : StandsFor (reads now) (replay (opened v 1) entries).all
+  pub generation_is : generation (reads now) ≡ (replay (opened v 1) entries).generation

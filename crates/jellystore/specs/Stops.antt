@@ -3,11 +3,11 @@ use Rattle.std.specs.Prelude.{◌≡◌, ◌⊎◌, ℕ, ◌≤◌, List, Option
 use Rattle.jf_disk.specs.Disk.{History, Files, LeftSince}
 use Rattle.jf_model.specs.Versions.{Versions}
 use Rattle.jf_model.specs.States.{State, opened}
-use Rattle.jf_model.specs.Entries.{IsLegal, after, replay}
+use Rattle.jf_model.specs.Entries.{IsLegal, after, replay, moments_of}
 use Rattle.jf_model.specs.declared.entries.Entry.{Entry}
 use Rattle.jf_journal.specs.Standing.{StandsFor}
 use Rattle.jf_session.specs.Sessions.{Rose}
-use Rattle.jf_session.specs.Runs.{IsFrontImage}
+use Rattle.jf_session.specs.Runs.{IsFrontImage, AreWithin}
 use Rattle.jellystore.specs.declared.status.Status.{Status}
 use Rattle.jellystore.specs.declared.status.Status.TheVariants as status
 
@@ -29,3 +29,10 @@ pub record IsSafeSince (moment : ℕ) (now : Option History) (v : Versions) (es 
   pub history : History
   pub told : now ≡ Some history
   pub leaves : (t : ℕ) → moment ≤ t → LeavesFront history t (opened v 1) es how faults faults'
+
+-- so it is from a moment of the call on at which the store was open, and all landings came later
+pub record IsSafeOpened (moment moment' : ℕ) (now : Option History) (v : Versions) (es : List Entry) (how : Status) (faults faults' : ℕ) : Type 0 where
+  pub opened_at : ℕ
+  pub later : moment ≤ opened_at
+  pub landings : AreWithin opened_at moment' (moments_of es)
+  pub safe : IsSafeSince opened_at now v es how faults faults'

@@ -9,7 +9,7 @@ ghost use Rattle.jf_journal.specs.Steps.{Opens, StopsWell, IsCalm};
 ghost use Rattle.jf_engine.specs.Leaving.{LeavesFiles};
 ghost use Rattle.jf_model.specs.Entries.{moments_of};
 ghost use Rattle.jf_session.specs.Runs.{AreWithin};
-ghost use Rattle.jellystore.specs.Stops.{IsSafeSince};
+ghost use Rattle.jellystore.specs.Stops.{IsSafeSince, IsSafeOpened};
 ghost use Rattle.jellystore.specs.Commands.{mode_of, is_closing};
 ghost use Rattle.jellystore.specs.Promises.{IsLegalRun, IsSettledRun, RunsFrom, Stands};
 
@@ -63,6 +63,8 @@ pub fn run_words<S: Source, K: Sink, D: Disk, H: Threads + Wait + Sync>(
     ensures counts { (D.moment disk ≤ D.moment result.disk) × (D.faults disk ≤ D.faults result.disk) }
     ensures dated { AreWithin (D.moment disk) (D.moment result.disk) (moments_of result.entries) }
     ensures stops { (h : History) (v : Versions) → D.history disk ≡ Some h → IsCalm h → StandsFor (reads h) v → IsSafeSince (D.moment disk) (D.history result.disk) v result.entries result.status (D.faults disk) (D.faults result.disk) }
+    ensures stops_opened { (h : History) (v : Versions) → D.history disk ≡ Some h → StandsFor (reads h) v → IsSome result.start
+        → IsSafeOpened (D.moment disk) (D.moment result.disk) (D.history result.disk) v result.entries result.status (D.faults disk) (D.faults result.disk) }
     ensures ran { IfSome result.start (RunsFrom (D.history disk) (D.history result.disk) (D.moment disk) (D.moment result.disk) (D.faults disk) (D.faults result.disk)
         (S.rest source.old) (S.rest source.new) (K.text sink.old) (K.text sink.new) result.status result.entries) }
 {

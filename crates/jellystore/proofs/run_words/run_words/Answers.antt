@@ -6,8 +6,8 @@ use Rattle.jellystore.specs.Commands.{is_closing}
 use Rattle.jellystore.proofs.Statuses.{damage_told, refusal_closes, fault_rose}
 use Rattle.jellystore.proofs.Complete.{steady, refused_for_memory, ends_well, is_legal, is_settled}
 use Rattle.jellystore.proofs.Counting.{run_extends, run_counts, run_dated}
-use Rattle.jellystore.proofs.Safe.{run_safe, closed_safe}
-use Rattle.jellystore.proofs.Standing.{stands-none, settled-stands, damage-told}
+use Rattle.jellystore.proofs.Safe.{run_safe, run_opened_safe, closed_safe}
+use Rattle.jellystore.proofs.Standing.{stands-none, settled-stands, damage-told, run_generation}
 use Rattle.jellystore.proofs.run_words.run_words.Goals as goal
 
 pub returns-in-Err-clause-damaged : goal.returns-in-Err-clause-damaged
@@ -107,4 +107,14 @@ returns-in-Err-clause-stands g c = λ h v told stands sound.
     let went = c.in-Err.ensures.stands_on_err h v told stands in rw c.new-in-Err.ensures (stands-none went.0 v (g.D.Disk.history c.in-Err.field-0.disk) went.1 went.2)
 
 pub returns-clause-stands : goal.returns-clause-stands
-returns-clause-stands g c = λ h v told stands sound. settled-stands h v (g.D.Disk.history c.run-disk.result.disk) c.run-disk.result.entries c.files_stand_for_one.ensures stands (returns-clause-settled g c h told refl sound)
+unfolding returns-clause-ran
+returns-clause-stands g c = λ h v told stands sound.
+    let r = returns-clause-ran g c in
+    settled-stands h v (g.D.Disk.history c.run-disk.result.disk) c.run-disk.result.entries c.files_stand_for_one.ensures stands (returns-clause-settled g c h told refl sound)
+    (run_generation v r.how r.session _ _ _ _ _ _ _ _ _ _ _ _ (c.files_stand_for_one.ensures (reads h) r.session.state.all v (r.opened_.found h told) stands) r.opened_ r.ran)
+
+pub returns-clause-stops_opened : goal.returns-clause-stops_opened
+unfolding returns-clause-ran
+returns-clause-stops_opened g c = λ h v told stands some.
+    let r = returns-clause-ran g c in
+    rw c.of_end.ensures (run_opened_safe h v r.how r.session _ _ _ _ _ _ _ _ _ _ _ _ c.files_stand_for_one.ensures told c.know_dated-2.ensures stands r.opened_ r.ran)
