@@ -18,6 +18,12 @@ damage_told open_fault.DiskFault side at e = absurd (cc)
 damage_told (open_fault.Damaged side' at') side at e = cc
 damage_told open_fault.Memory side at e = absurd (cc)
 
+-- only want of memory is told as such
+pub memory_told : (w : OpenFault) → status_of_refusal w ≡ status.Memory → w ≡ open_fault.Memory
+memory_told open_fault.DiskFault e = absurd (cc)
+memory_told (open_fault.Damaged side at) e = absurd (cc)
+memory_told open_fault.Memory e = cc
+
 -- a store that was not opened has a status of its own
 pub refusal_closes : (w : OpenFault) → IsTrue (is_closing (status_of_refusal w))
 refusal_closes open_fault.DiskFault = cc

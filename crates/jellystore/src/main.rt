@@ -68,12 +68,15 @@ fn status_of_args<R: Runtime + Files<File = File> + AllocGlobal + Threads + Wait
     status
 }
 
-// The disk that a word names: `-` is a new one in memory, and any other word a folder.
+// The disk that a word names: `-` is a new one in memory, and any other word a folder. No folder has the empty name.
 fn disk_of<R: Files<File = File> + AllocGlobal>(
     rt: &R,
     folder: &str,
 ) -> Result<AnyDisk, FileRefused> {
     let alloc = rt.alloc();
+    if folder.is_empty() {
+        return Err(FileRefused::DiskFailed);
+    }
     if folder != "-" {
         return Ok(AnyDisk::File(FileDisk::at(rt, alloc, folder)?));
     }

@@ -25,8 +25,8 @@ use std::alloc::Global;
 use std::sync::Wait;
 use std::thread::Threads;
 
-/// Runs the words of a command line: `run`, with `--workers N` or without, answers the script of the source into the sink, over the store of
-/// the disk.
+/// Runs the words of a command line: `run`, with `--workers N` or without, answers the script of the source into the
+/// sink, over the store of the disk.
 ///
 /// Where a store was opened, `ran` says of each script and each list of faults: the replies and the entries are those
 /// of the lines done; the entries are legal, at rising moments; a stop at any moment leaves files that stand for a first
@@ -49,6 +49,7 @@ pub fn run_words<S: Source, K: Sink, D: Disk, H: Threads + Wait + Sync>(
     ensures damaged_told { (h : History) (side : Side) (at : ℕ) → D.history disk ≡ Some h → IsSome (mode_of (map (λ w. string_bytes w) words.now)) → IsDamagedAt (reads h) side at
         → (result.status ≡ Status.Damaged side at) ⊎ ((result.status ≡ Status.DiskFault) ⊎ (result.status ≡ Status.Memory)) }
     ensures damaged_left { (h : History) (side : Side) (at : ℕ) → D.history disk ≡ Some h → result.status ≡ Status.Damaged side at → (g : History) × (D.history result.disk ≡ Some g) × LeavesFiles h g }
+    ensures memory_left { (h : History) → D.history disk ≡ Some h → result.start ≡ None → result.status ≡ Status.Memory → (g : History) × (D.history result.disk ≡ Some g) × LeavesFiles h g }
     ensures complete { (h : History) (v : Versions) → D.history disk ≡ Some h → StandsFor (reads h) v → IsSome (mode_of (map (λ w. string_bytes w) words.now))
         → S.faults source.new ≡ S.faults source.old → S.faults source.old < 2 ^ 64 - 1 → K.faults sink.new ≡ K.faults sink.old → K.faults sink.old < 2 ^ 64 - 1
         → D.faults result.disk ≡ D.faults disk → D.faults disk < 2 ^ 64 - 1 → (result.status ≡ Status.Done) ⊎ (result.status ≡ Status.Memory) }

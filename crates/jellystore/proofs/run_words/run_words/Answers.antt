@@ -3,7 +3,7 @@ use Rattle.jf_disk.specs.Disk.{reads}
 use Rattle.jellystore.specs.Promises.{IsBegun}
 use Rattle.jellystore.specs.declared.status.Status.TheVariants as status
 use Rattle.jellystore.specs.Commands.{is_closing}
-use Rattle.jellystore.proofs.Statuses.{damage_told, refusal_closes, fault_rose}
+use Rattle.jellystore.proofs.Statuses.{memory_told, damage_told, refusal_closes, fault_rose}
 use Rattle.jellystore.proofs.Complete.{steady, refused_for_memory, ends_well, is_legal, is_settled}
 use Rattle.jellystore.proofs.Counting.{run_extends, run_counts, run_dated}
 use Rattle.jellystore.proofs.Safe.{run_safe, run_opened_safe, closed_safe}
@@ -118,3 +118,7 @@ unfolding returns-clause-ran
 returns-clause-stops_opened g c = λ h v told stands some.
     let r = returns-clause-ran g c in
     rw c.of_end.ensures (run_opened_safe h v r.how r.session _ _ _ _ _ _ _ _ _ _ _ _ c.files_stand_for_one.ensures told c.know_dated-2.ensures stands r.opened_ r.ran)
+
+pub returns-in-Err-clause-memory_left : goal.returns-in-Err-clause-memory_left
+returns-in-Err-clause-memory_left g c = λ h told closed same.
+    c.in-Err.ensures.memory_left h told (memory_told c.in-Err.field-0.why (sym c.of_refusal.ensures ∙ same))
