@@ -4,6 +4,7 @@ ghost use Rattle.jf_codec.specs.Numbers.{two_bytes, four_bytes, eight_bytes};
 ghost use Rattle.jf_codec.specs.Reading.{Reads, bytes_at, two_at, four_at, eight_at};
 
 use crate::fault::CodecFault;
+use byteorder::{BigEndian, ByteOrder};
 use jf_path::{Bytes, Key, Memory};
 
 /// A number in two bytes.
@@ -61,7 +62,9 @@ pub(crate) fn front_of(count: usize, bytes: &[u8]) -> Result<(&[u8], &[u8]), Cod
 pub(crate) fn put_u16(out: &mut Bytes, number: u16) -> Result<(), Memory>
     ensures { OnOk result (out.new ≡ out.old ++ two_bytes number) }
 {
-    out.append(&number.to_be_bytes())
+    let mut bytes = [0; 2];
+    BigEndian::write_u16(&mut bytes, number);
+    out.append(&bytes)
 }
 
 /// Adds a number in four bytes.
@@ -69,7 +72,9 @@ pub(crate) fn put_u16(out: &mut Bytes, number: u16) -> Result<(), Memory>
 pub(crate) fn put_u32(out: &mut Bytes, number: u32) -> Result<(), Memory>
     ensures { OnOk result (out.new ≡ out.old ++ four_bytes number) }
 {
-    out.append(&number.to_be_bytes())
+    let mut bytes = [0; 4];
+    BigEndian::write_u32(&mut bytes, number);
+    out.append(&bytes)
 }
 
 /// Adds a number in eight bytes.
@@ -77,5 +82,7 @@ pub(crate) fn put_u32(out: &mut Bytes, number: u32) -> Result<(), Memory>
 pub(crate) fn put_u64(out: &mut Bytes, number: u64) -> Result<(), Memory>
     ensures { OnOk result (out.new ≡ out.old ++ eight_bytes number) }
 {
-    out.append(&number.to_be_bytes())
+    let mut bytes = [0; 8];
+    BigEndian::write_u64(&mut bytes, number);
+    out.append(&bytes)
 }
