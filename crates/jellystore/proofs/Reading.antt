@@ -4,15 +4,14 @@ use Rattle.std.proofs.lemmas.Bool.Decides.{nat_tests, Decides-eqb}
 use Rattle.std.specs.List.{before_first, position_or_len}
 use Rattle.std.proofs.lemmas.Fmt.{first_decimal, decimal_digit}
 use Rattle.jf_script.specs.Words.{number, digits_value}
-use Rattle.std.proofs.Common.{zero, ◌<◌, ◌^◌, ◌&&◌, nat_lt, get_or, decimal, suc, ◌+◌, ◌==◌, ◌⊎◌, inl, inr, arith, subst, true≢false, ◌≡◌, ◌∙◌, ◌++◌, ℕ, Bool, true, false, List, [], ◌∷◌, Option, Some, None, refl, sym, ap, ap₂, codes, fold, drop}
+use Rattle.std.proofs.Common.{zero, ◌<◌, ◌^◌, ◌&&◌, nat_lt, get_or, decimal, suc, ◌+◌, ◌==◌, ◌⊎◌, inl, inr, arith, subst, true≢false, ◌≡◌, ◌∙◌, ◌++◌, ℕ, Bool, true, false, List, [], ◌∷◌, Option, Some, None, refl, sym, ap, ap₂, codes, fold}
 use Rattle.jellystore.specs.Commands.{workers, option_workers, where_over}
 use Rattle.std.specs.Prelude.{if◌then◌else◌, nat_eq, slice_get}
 use Rattle.std.specs.Str.{bytes_eq}
 use Rattle.std.specs.List.{starts_with}
-use Rattle.std.specs.Char.{encode_utf8}
 use Rattle.std.specs.Str.{chars}
 use Rattle.clap.specs.Lexer.{long_of, short_of}
-use Rattle.clap.specs.Walk.{Text, Row, Rule, Walk, Waiting, Held, nothing_held, first_of, walk_from, walked, idle, option, used, finished, settled}
+use Rattle.clap.specs.Walk.{Text, Row, Rule, Walk, Waiting, nothing_held, first_of, walk_from, walked, idle, option, finished, settled}
 use Rattle.clap.specs.Simple.{App, Shape, built, matches_of, new_app, new_rule, with_rule, on_top, is_simple}
 use Rattle.clap.specs.Kinds.{Kinds, or_else}
 use Rattle.clap.specs.Walk.{bundle_met}

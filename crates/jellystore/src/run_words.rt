@@ -42,7 +42,7 @@ pub fn run_words<S: Source, K: Sink, D: Disk, H: Threads + Wait + Sync>(
 ) -> Ended<D>
     ensures usage { result.status ≡ Status.Usage → mode_of (map (λ w. string_bytes w) words.now) ≡ None }
     ensures usage_told { mode_of (map (λ w. string_bytes w) words.now) ≡ None → (result.status ≡ Status.Usage) ⊎ (result.status ≡ Status.Memory) }
-    ensures untouched { result.status ≡ Status.Usage → result.disk ≡ disk }
+    ensures untouched { mode_of (map (λ w. string_bytes w) words.now) ≡ None → (result.start ≡ None) × (result.disk ≡ disk) }
     ensures read { result.status ≡ Status.ReadFault → (S.faults source.old < S.faults source.new) ⊎ (S.faults source.old ≡ 2 ^ 64 - 1) }
     ensures write { result.status ≡ Status.WriteFault → (K.faults sink.old < K.faults sink.new) ⊎ (K.faults sink.old ≡ 2 ^ 64 - 1) }
     ensures disk_fault { result.status ≡ Status.DiskFault → (D.faults disk < D.faults result.disk) ⊎ (D.faults disk ≡ 2 ^ 64 - 1) }

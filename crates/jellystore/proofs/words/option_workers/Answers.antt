@@ -1,10 +1,9 @@
-use Rattle.std.proofs.Common.{rules, ap, ap₂, sym, codes, ◌≡◌, ◌∙◌, ℕ, List, map, string_bytes}
+use Rattle.std.proofs.Common.{rules, ap, ap₂, sym, ◌≡◌, ◌∙◌, map, string_bytes}
 use Rattle.std.specs.Prelude.{Some, None}
-use Rattle.clap.specs.Words.{App, Rule, app_of, rule_of}
-use Rattle.clap.specs.Simple.{app_of_fields, on_top, with_rule}
-use Rattle.clap.specs.declared.builder.command.Command.{Command}
+use Rattle.clap.specs.Words.{app_of, rule_of}
+use Rattle.clap.specs.Simple.{with_rule}
 use Rattle.jellystore.specs.Commands.{workers}
-use Rattle.jellystore.proofs.Reading.{app, option_rule, built_up, found, refused}
+use Rattle.jellystore.proofs.Reading.{option_rule, built_up, found, refused}
 use Rattle.jellystore.proofs.words.option_workers.Goals as goal
 
 pub returns-in-None : goal.returns-in-None
