@@ -5,3 +5,4 @@ pub mod Attempts
 pub mod Stopping
 pub mod Safe
 pub mod Standing
+pub mod Reading

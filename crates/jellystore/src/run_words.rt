@@ -1,5 +1,5 @@
 // The words of a command line, run over devices that the caller gives.
-ghost use Rattle.std.specs.Prelude.{◌≡◌, ◌⊎◌, ◌↔◌, ℕ, ◌-◌, ◌<◌, ◌≤◌, ◌^◌, [], length, map, string_bytes, Some, None, IfSome, IsSome, IsTrue};
+ghost use Rattle.std.specs.Prelude.{◌≡◌, ◌⊎◌, ℕ, ◌-◌, ◌<◌, ◌≤◌, ◌^◌, [], length, map, string_bytes, Some, None, IfSome, IsSome, IsTrue};
 ghost use Rattle.jf_disk.specs.Disk.{History, reads};
 ghost use Rattle.jf_disk.specs.Moments.{Extends};
 ghost use Rattle.jf_disk.specs.declared.side.Side.{Side};
@@ -40,8 +40,9 @@ pub fn run_words<S: Source, K: Sink, D: Disk, H: Threads + Wait + Sync>(
     sink: &mut K,
     disk: D,
 ) -> Ended<D>
-    ensures usage { (result.status ≡ Status.Usage → ⊥) ↔ IsSome (mode_of (map (λ w. string_bytes w) words.now)) }
-    ensures untouched { result.status ≡ Status.Usage → result.disk ≡ disk }
+    ensures usage { result.status ≡ Status.Usage → mode_of (map (λ w. string_bytes w) words.now) ≡ None }
+    ensures usage_told { mode_of (map (λ w. string_bytes w) words.now) ≡ None → (result.status ≡ Status.Usage) ⊎ (result.status ≡ Status.Memory) }
+    ensures untouched { mode_of (map (λ w. string_bytes w) words.now) ≡ None → (result.start ≡ None) × (result.disk ≡ disk) }
     ensures read { result.status ≡ Status.ReadFault → (S.faults source.old < S.faults source.new) ⊎ (S.faults source.old ≡ 2 ^ 64 - 1) }
     ensures write { result.status ≡ Status.WriteFault → (K.faults sink.old < K.faults sink.new) ⊎ (K.faults sink.old ≡ 2 ^ 64 - 1) }
     ensures disk_fault { result.status ≡ Status.DiskFault → (D.faults disk < D.faults result.disk) ⊎ (D.faults disk ≡ 2 ^ 64 - 1) }
@@ -71,14 +72,25 @@ pub fn run_words<S: Source, K: Sink, D: Disk, H: Threads + Wait + Sync>(
 {
     know_dated(&disk);
     // No run works in several threads yet: the number of workers is read, and has no effect.
-    let Some(Mode::Run { workers: _ }) = mode_of(words) else {
-        return Ended {
-            status: Status::Usage,
-            disk,
-            entries: Ledger::new(alloc),
-            start: None,
-        };
-    };
+    match mode_of(alloc, words) {
+        Ok(Some(Mode::Run { workers: _ })) => {}
+        Ok(None) => {
+            return Ended {
+                status: Status::Usage,
+                disk,
+                entries: Ledger::new(alloc),
+                start: None,
+            };
+        }
+        Err(_) => {
+            return Ended {
+                status: Status::Memory,
+                disk,
+                entries: Ledger::new(alloc),
+                start: None,
+            };
+        }
+    }
     damage_is_no_versions();
     files_stand_for_one();
     let session = match Session::<D>::over(rt, alloc, disk) {

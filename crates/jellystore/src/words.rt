@@ -1,8 +1,11 @@
 // The words of a command line.
-ghost use Rattle.std.specs.Prelude.{◌≡◌, map, string_bytes};
-ghost use Rattle.jellystore.specs.Commands.{workers, attached_workers, is_over, option_workers, mode_of};
+ghost use Rattle.std.specs.Prelude.{◌≡◌, map, string_bytes, IfOk};
+ghost use Rattle.jellystore.specs.Commands.{workers, option_workers, mode_of};
 
+use clap::error::ErrorKind;
+use clap::{Arg, ArgAction, Command};
 use jf_script::number_from;
+use std::alloc::{AllocError, Global};
 
 /// The number of workers where none is asked for.
 const DEFAULT_WORKERS: u64 = 4;
@@ -20,62 +23,40 @@ pub enum Mode {
     },
 }
 
-/// What the words of a command line ask for. None says that they are none of the program's.
-pub fn mode_of(words: &[String]) -> Option<Mode>
-    ensures { result ≡ mode_of (map (λ w. string_bytes w) words.now) }
+/// What the words of a command line ask for. None says that they are none of the program's; an error, that memory ran out.
+pub fn mode_of(alloc: Global, words: &[String]) -> Result<Option<Mode>, AllocError>
+    ensures { IfOk result (λ r. r ≡ mode_of (map (λ w. string_bytes w) words.now)) }
 {
     match words {
         [mode, rest @ ..] if mode.as_str() == "run" => {
-            let workers = option_workers(rest)?;
-            Some(Mode::Run { workers })
+            let workers = option_workers(alloc, rest)?;
+            Ok(workers.map(|workers| Mode::Run { workers }))
         }
-        _ => None,
+        _ => Ok(None),
     }
 }
 
 // The number of workers of the words behind a mode that has no word of its own.
-fn option_workers(words: &[String]) -> Option<u64>
-    ensures { result ≡ option_workers (map (λ w. string_bytes w) words.now) }
+fn option_workers(alloc: Global, words: &[String]) -> Result<Option<u64>, AllocError>
+    ensures { IfOk result (λ r. r ≡ option_workers (map (λ w. string_bytes w) words.now)) }
 {
-    match words {
-        [] => Some(DEFAULT_WORKERS),
-        [word] if word.as_str() == "--" => Some(DEFAULT_WORKERS),
-        [word, number, rest @ ..] if word.as_str() == "--workers" => {
-            if is_over(rest) {
-                workers(number.as_bytes())
-            } else {
-                None
-            }
-        }
-        [word, rest @ ..] => {
-            if is_over(rest) {
-                attached_workers(word.as_bytes())
-            } else {
-                None
-            }
-        }
-    }
-}
-
-// Whether nothing stands here, or a word `--` alone.
-fn is_over(words: &[String]) -> bool
-    ensures { result ≡ is_over (map (λ w. string_bytes w) words.now) }
-{
-    match words {
-        [] => true,
-        [word] => word.as_str() == "--",
-        _ => false,
-    }
-}
-
-// The number of workers of `--workers=N`.
-fn attached_workers(word: &[u8]) -> Option<u64>
-    ensures { result ≡ attached_workers word.now }
-{
-    if word.starts_with(b"--workers=") {
-        workers(&word[10..])
-    } else {
-        None
+    let option = Arg::new(alloc, "workers")
+        .long("workers")
+        .action(ArgAction::Set);
+    // The words are those behind the mode, and a word for help is none of the program's.
+    let command = Command::new(alloc, "run")
+        .no_binary_name(true)
+        .disable_help_flag(true)
+        .arg(option)?;
+    match command.try_get_matches_from(words) {
+        Ok(matches) => match matches.get_str("workers") {
+            None => Ok(Some(DEFAULT_WORKERS)),
+            Some(number) => Ok(workers(number.as_bytes())),
+        },
+        Err(error) => match error.kind() {
+            ErrorKind::OutOfMemory => Err(AllocError),
+            _ => Ok(None),
+        },
     }
 }
 
@@ -186,7 +167,7 @@ mod tests {
         for (line, workers) in LISTS {
             let words = words_of(alloc, line)?;
             let mode = workers.map(|workers| Mode::Run { workers });
-            assert_eq!(rt; mode_of(&words), mode, "of {line}");
+            assert_eq!(rt; mode_of(alloc, &words)?, mode, "of {line}");
             let want = match workers {
                 Some(_) => Status::Done,
                 None => Status::Usage,
