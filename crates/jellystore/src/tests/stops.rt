@@ -187,6 +187,23 @@ fn a_gate_that_is_not_written_leaves_the_landing_or_nothing(rt: HostRuntime) -> 
     Ok(())
 }
 
+// The first bytes of a file, with other bytes at some offsets.
+fn changed(
+    alloc: Global,
+    whole: &[u8],
+    len: usize,
+    changes: &[(usize, u8)],
+) -> Result<Vec<u8>, Fail> {
+    let mut file = whole.to_vec(alloc)?;
+    file.truncate(len);
+    for (at, byte) in changes {
+        if let Some(there) = file.get_mut(*at) {
+            *there = *byte;
+        }
+    }
+    Ok(file)
+}
+
 #[test]
 fn damage_is_told_at_its_gate(rt: HostRuntime) -> Result<(), Fail> {
     let alloc = rt.alloc();
@@ -230,13 +247,7 @@ fn damage_is_told_at_its_gate(rt: HostRuntime) -> Result<(), Fail> {
         (0, &[], Status::Done, none),
     ];
     for (len, changes, want, told) in rows {
-        let mut file = whole.to_vec(alloc)?;
-        file.truncate(len);
-        for (at, byte) in changes {
-            if let Some(changed) = file.get_mut(*at) {
-                *changed = *byte;
-            }
-        }
+        let file = changed(alloc, whole, len, changes)?;
         let Played { text, status, .. } = play(
             &rt,
             alloc,
