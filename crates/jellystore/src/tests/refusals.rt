@@ -166,7 +166,7 @@ fn long_lines_are_told_and_skipped(rt: HostRuntime) -> Result<(), Fail> {
     for (length, want) in rows {
         for start in starts {
             let mut script = start.to_vec(alloc)?;
-            while script.len() < length {
+            for _ in start.len()..length {
                 script.push(b'1')?;
             }
             script.extend_from_slice(b"\nroot head")?;
