@@ -6,4 +6,5 @@ pub mod MapLaws
 pub mod Parts
 pub mod Roots
 pub mod RootLaws
+pub mod Slots
 pub mod Codes

@@ -3,9 +3,11 @@
 #![tactic(auto)]
 
 mod plain;
+mod slot;
 mod tagged;
 
 pub use plain::plain_root;
+pub use slot::Slot;
 pub use tagged::{Hash, empty, inner, key_of, leaf, value};
 
 #[cfg(test)]

@@ -7,4 +7,6 @@ pub mod ForkLaws
 pub mod States
 pub mod Entries
 pub mod EntryLaws
+pub mod Nodes
+pub mod NodeLaws
 pub mod VersionCodes

@@ -1,0 +1,66 @@
+-- The sixteen places of a node, and the hash of a range of them.
+use Rattle.std.specs.Prelude.{ℕ, zero, suc, ◌+◌, ◌*◌, ◌^◌, ◌==◌, List, [], ◌∷◌, map, filter, take, drop}
+use Rattle.jf_path.specs.Nibbles.{nibble}
+use Rattle.jf_hash.specs.Hashes.{E, N}
+use Rattle.jf_hash.specs.Roots.{part_root}
+use Rattle.jf_hash.specs.declared.slot.Slot.{Slot}
+use Rattle.jf_hash.specs.declared.slot.Slot.TheVariants as slot
+
+-- entries of a map, in the order of their keys
+abbrev pub Part : Type 0
+Part = List (List ℕ × List ℕ)
+
+-- the nibbles
+abbrev pub all_nibbles : List ℕ
+all_nibbles = 0 ∷ 1 ∷ 2 ∷ 3 ∷ 4 ∷ 5 ∷ 6 ∷ 7 ∷ 8 ∷ 9 ∷ 10 ∷ 11 ∷ 12 ∷ 13 ∷ 14 ∷ 15 ∷ []
+
+-- those whose nibble d is i
+abbrev pub with_nibble : {X : Type 0} → ℕ → ℕ → List (List ℕ × X) → List (List ℕ × X)
+with_nibble d i es = filter (λ e. nibble e.0 d == i) es
+
+-- what stands for a part whose keys agree in their first d bits
+abbrev pub slot_of : ℕ → Part → Slot
+slot_of d [] = slot.Absent
+slot_of d (e ∷ []) = slot.Leaf (part_root d (e ∷ []))
+slot_of d (e ∷ f ∷ es) = slot.Inner (part_root d (e ∷ f ∷ es))
+
+-- the places of the node of a part whose keys agree in d nibbles: one for each nibble that may follow
+unfoldable pub slots_of : ℕ → Part → List Slot
+slots_of d es = map (λ i. slot_of (4 * (d + 1)) (with_nibble d i es)) all_nibbles
+
+-- ---- a range of places
+
+-- what a range has: nothing, one leaf alone with its hash, or more, where an internal node counts as more
+pub data Stand : Type 0 where
+  Nothing : Stand
+  Alone : List ℕ → Stand
+  More : Stand
+
+abbrev pub with_leaf : List ℕ → Stand → Stand
+with_leaf hash Nothing = Alone hash
+with_leaf hash (Alone other) = More
+with_leaf hash More = More
+
+abbrev pub stand : List Slot → Stand
+stand [] = Nothing
+stand (slot.Absent ∷ slots) = stand slots
+stand (slot.Leaf hash ∷ slots) = with_leaf hash (stand slots)
+stand (slot.Inner hash ∷ slots) = More
+
+-- the hash of one place
+abbrev pub place_hash : List Slot → List ℕ
+place_hash [] = E
+place_hash (slot.Absent ∷ slots) = E
+place_hash (slot.Leaf hash ∷ slots) = hash
+place_hash (slot.Inner hash ∷ slots) = hash
+
+-- E for nothing, the leaf's hash for one leaf, else what is given
+abbrev pub stand_hash : Stand → List ℕ → List ℕ
+stand_hash Nothing more = E
+stand_hash (Alone hash) more = hash
+stand_hash More more = more
+
+-- the hash of a range of 2 ^ level places: E without a child, the hash of a leaf that is alone in it or of its only place, else N of its halves
+unfoldable pub range_hash : ℕ → List Slot → List ℕ
+range_hash zero slots = stand_hash (stand slots) (place_hash slots)
+range_hash (suc level) slots = stand_hash (stand slots) (N (range_hash level (take (2 ^ level) slots)) (range_hash level (drop (2 ^ level) slots)))
