@@ -1,0 +1,5 @@
+pub mod Parts
+pub mod Kids
+pub mod Versions
+pub mod Walk
+pub mod Puts
