@@ -3,3 +3,8 @@ pub mod Kids
 pub mod Versions
 pub mod Walk
 pub mod Puts
+pub mod NibbleOrder
+pub mod PartLaws
+pub mod PieceEnds
+pub mod Unions
+pub mod PartChanges

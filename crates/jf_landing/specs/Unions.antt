@@ -1,0 +1,33 @@
+-- Unions of parts that stand at the sixteen nibbles, of things that have content.
+use Rattle.std.proofs.Common.{◌≡◌, ℕ, zero, suc, ◌+◌, ◌<◌, List, [], ◌∷◌, ◌++◌, length, get_or, drop, refl, sym, ap, ap₂, ◌∙◌, arith, zero-add}
+use Rattle.std.specs.List.{flat_map}
+use Rattle.jf_hash.specs.Slots.{Part, with_nibble}
+use Rattle.jf_landing.specs.Parts.{IsPart, from_nibble}
+use Rattle.jf_landing.specs.PartLaws.{from_nibble-split, from_nibble-zero, from_nibble-past}
+
+module _ {L : Type 0} (content : L → Part) (none : L) where
+  joined-from : (d n : ℕ) (path : ℕ → ℕ) (es : Part) (links : List L) → IsPart d path es → n + length links ≡ 16 → ((k : ℕ) → k < length links → content (get_or links k none) ≡ with_nibble d (n + k) es) → flat_map content links ≡ from_nibble d n es
+  joined-from d n path es [] part long h = sym (from_nibble-past d n es (omega arith))
+  joined-from d n path es (x ∷ links) part long h =
+      let e : n + 0 ≡ n = omega arith in
+      ap₂ (λ a b. a ++ b)
+      (h 0 (omega arith) ∙ ap (λ k. with_nibble d k es) e)
+      (joined-from d (n + 1) path es links part (omega arith) (λ k lt. h (suc k) (omega arith) ∙ ap (λ m. with_nibble d m es) (let e : n + suc k ≡ (n + 1) + k = omega arith in e)))
+      ∙ sym (from_nibble-split d n path es part)
+
+  -- what has the part of each nibble has the whole
+  pub joined_parts : (d : ℕ) (path : ℕ → ℕ) (es : Part) (links : List L) → IsPart d path es → length links ≡ 16 → ((k : ℕ) → k < 16 → content (get_or links k none) ≡ with_nibble d k es) → flat_map content links ≡ es
+  joined_parts d path es links part long h =
+      joined-from d 0 path es links part (omega arith) (λ k lt. h k (omega arith) ∙ ap (λ m. with_nibble d m es) (sym (zero-add k))) ∙ from_nibble-zero d es
+
+  -- behind places without content the union begins with the first that may have some
+  pub joined-first : (links : List L) (n : ℕ) → n < length links → ((k : ℕ) → k < n → content (get_or links k none) ≡ []) → flat_map content links ≡ content (get_or links n none) ++ flat_map content (drop (suc n) links)
+  joined-first [] n short before = absurd (omega arith)
+  joined-first (x ∷ links) zero short before = refl
+  joined-first (x ∷ links) (suc n) short before =
+      ap (λ es. es ++ flat_map content links) (before 0 (omega arith)) ∙ joined-first links n (omega arith) (λ k lt. before (suc k) (omega arith))
+
+  -- without content anywhere it is empty
+  pub joined-none : (links : List L) → ((k : ℕ) → k < length links → content (get_or links k none) ≡ []) → flat_map content links ≡ []
+  joined-none [] all = refl
+  joined-none (x ∷ links) all = ap (λ es. es ++ flat_map content links) (all 0 (omega arith)) ∙ joined-none links (λ k lt. all (suc k) (omega arith))
