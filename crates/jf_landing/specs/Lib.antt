@@ -8,3 +8,5 @@ pub mod PartLaws
 pub mod PieceEnds
 pub mod Unions
 pub mod PartChanges
+pub mod PutLaws
+pub mod OneEntry
