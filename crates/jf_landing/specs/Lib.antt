@@ -10,3 +10,6 @@ pub mod Unions
 pub mod PartChanges
 pub mod PutLaws
 pub mod OneEntry
+pub mod KidLaws
+pub mod VersionLaws
+pub mod Marks
