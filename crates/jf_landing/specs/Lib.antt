@@ -13,3 +13,6 @@ pub mod OneEntry
 pub mod KidLaws
 pub mod VersionLaws
 pub mod Marks
+pub mod SameParts
+pub mod WalkLaws
+pub mod Bound

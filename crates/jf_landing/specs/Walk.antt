@@ -1,5 +1,5 @@
 -- The walk over two maps that lists the nodes of the new one that the old one has not, in the order of their paths.
-use Rattle.std.specs.Prelude.{ℕ, zero, suc, ◌+◌, Bool, not, cond, ◌&&◌, List, [], ◌∷◌, ◌++◌}
+use Rattle.std.specs.Prelude.{ℕ, zero, suc, ◌+◌, ◌-◌, Bool, not, cond, ◌&&◌, List, [], ◌∷◌, ◌++◌}
 use Rattle.jf_hash.specs.Slots.{Part}
 use Rattle.jf_model.specs.Nodes.{Path, has_one, same_part}
 use Rattle.jf_landing.specs.Kids.{kid}
@@ -22,3 +22,11 @@ listed (suc levels) depth old new f =
 -- the top in any case, and then the nodes below it that are new
 unfoldable pub with_root : {X : Type 0} → Part → Part → (Path → X) → List X
 with_root old new f = f [] ∷ each_from 16 0 (λ n. listed 63 1 (kid 0 n old) (kid 0 n new) (λ path. f (n ∷ path)))
+
+-- the list of the child at nibble n of a node
+unfoldable pub kid_list : {X : Type 0} → ℕ → ℕ → Part → Part → (Path → X) → List X
+kid_list depth n old new f = listed (64 - (depth + 1)) (depth + 1) (kid depth n old) (kid depth n new) (λ path. f (n ∷ path))
+
+-- the list of a node that differs, as far as its first n children
+unfoldable pub listed_to : {X : Type 0} → ℕ → ℕ → Part → Part → (Path → X) → List X
+listed_to depth n old new f = f [] ∷ each_from n 0 (λ m. kid_list depth m old new f)
