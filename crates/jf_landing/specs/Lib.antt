@@ -16,3 +16,5 @@ pub mod Marks
 pub mod SameParts
 pub mod WalkLaws
 pub mod Bound
+pub mod SubLaws
+pub mod FreshLaws
