@@ -18,3 +18,4 @@ pub mod WalkLaws
 pub mod Bound
 pub mod SubLaws
 pub mod FreshLaws
+pub mod FreshOrder
