@@ -19,3 +19,5 @@ pub mod Bound
 pub mod SubLaws
 pub mod FreshLaws
 pub mod FreshOrder
+pub mod FreshBound
+pub mod FreshVersions
