@@ -1,10 +1,9 @@
 -- What a landing writes: nodes with their parts, each once, in the order of their paths.
-use Rattle.std.proofs.Common.{◌≡◌, ℕ, zero, suc, ◌+◌, ◌<◌, ◌≤◌, Bool, true, false, cond, ◌&&◌, List, [], ◌∷◌, ◌++◌, length, map, get_or, refl, sym, ap, ◌∙◌, subst, arith, T, Less, is_lt, nat_cmp, Ordering}
+use Rattle.std.proofs.Common.{◌≡◌, ℕ, zero, suc, ◌+◌, ◌<◌, ◌≤◌, Bool, true, false, cond, ◌&&◌, List, [], ◌∷◌, ◌++◌, map, refl, sym, ap, ◌∙◌, subst, arith, T, Less, is_lt, nat_cmp, Ordering}
 use Rattle.std.specs.List.{AllByRecursion, AllPairs, flat_map}
 use Rattle.std.specs.Ordering.{ordering_then}
 use Rattle.std.specs.FinMap.{entries, is_sorted}
 use Rattle.std.specs.FinMap.Entries.{below_all, is_sorted-where_key}
-use Rattle.std.specs.Cmp.{ranked}
 use Rattle.std.specs.Cmp.Lexicographic.{nat_list_cmp_total}
 use Rattle.std.proofs.lemmas.Bool.Decides.{nat_tests}
 use Rattle.std.specs.Cmp.{tied_itself}
@@ -125,10 +124,10 @@ unfolding nodes_below kids_of
 sorted-nodes_below zero d es = tt
 sorted-nodes_below (suc l) d es =
     let sorted : (n : ℕ) → T (is_sorted key_cmp (kids_of l d es n)) = λ n.
-        elim (has_one (with_nibble d n es)) as (λ b. T (is_sorted key_cmp (cond b (map (λ (x : Path × Part). (n ∷ x.0, x.1)) (nodes_below l (d + 1) (with_nibble d n es))) []))) [
-          | true ↦ sorted_step n (nodes_below l (d + 1) (with_nibble d n es)) (sorted-nodes_below l (d + 1) (with_nibble d n es))
-          | false ↦ tt
-        ] in
+    elim (has_one (with_nibble d n es)) as (λ b. T (is_sorted key_cmp (cond b (map (λ (x : Path × Part). (n ∷ x.0, x.1)) (nodes_below l (d + 1) (with_nibble d n es))) []))) [
+      | true ↦ sorted_step n (nodes_below l (d + 1) (with_nibble d n es)) (sorted-nodes_below l (d + 1) (with_nibble d n es))
+      | false ↦ tt
+    ] in
     elim (has_two es) as (λ b. T (is_sorted key_cmp (([], es) ∷ cond b (flat_map (kids_of l d es) all_nibbles) []))) [
       | true ↦ both _ _ (top_first 0 (each_from 16 0 (kids_of l d es)) (from_each 16 0 (kids_of l d es) (kids_at l d es))) (sorted_each 16 0 (kids_of l d es) (kids_at l d es) sorted)
       | false ↦ tt

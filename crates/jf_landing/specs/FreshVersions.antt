@@ -1,5 +1,5 @@
 -- The nodes that a landing writes are those that it gives the new version.
-use Rattle.std.proofs.Common.{◌≡◌, ℕ, Bool, true, false, not, cond, ◌&&◌, inl, inr, [], ◌∷◌, refl, sym, ap, ap₂, ◌∙◌, Option, Some, true≢false}
+use Rattle.std.proofs.Common.{◌≡◌, ℕ, true, false, not, cond, ◌&&◌, inl, inr, ◌∷◌, refl, sym, ap, ap₂, ◌∙◌, Option, Some}
 use Rattle.jf_hash.specs.Slots.{Part}
 use Rattle.jf_model.specs.Nodes.{Path, under, is_node, same_part, is_fresh}
 use Rattle.jf_landing.specs.Kids.{sub}

@@ -1,9 +1,8 @@
 -- The versions of the nodes below a node follow from those of its children.
-use Rattle.std.proofs.Common.{◌≡◌, ℕ, ◌+◌, ◌<◌, ◌≤◌, inl, inr, [], ◌∷◌, length, refl, sym, ap, ◌∙◌, arith, Option, Some}
+use Rattle.std.proofs.Common.{◌≡◌, ℕ, ◌+◌, ◌<◌, ◌≤◌, inl, inr, [], ◌∷◌, length, refl, sym, ◌∙◌, Option, Some}
 use Rattle.std.proofs.lemmas.Bool.{cases_lt}
 use Rattle.jf_hash.specs.Slots.{Part, with_nibble}
 use Rattle.jf_model.specs.Nodes.{Path}
-use Rattle.jf_landing.specs.Kids.{sub}
 use Rattle.jf_landing.specs.KidLaws.{sub-few, sub-many, sub-past}
 use Rattle.jf_landing.specs.Versions.{Versioned, AllVersioned, AllNew, IsNewTop}
 

@@ -1,5 +1,5 @@
 -- How the walk over two parts comes apart: nothing where they are one, else the node and then its children.
-use Rattle.std.proofs.Common.{◌≡◌, ℕ, zero, suc, ◌+◌, ◌-◌, ◌<◌, ◌≤◌, Bool, true, cond, inl, inr, ◌⊎◌, List, [], ◌∷◌, ◌++◌, length, refl, sym, ap, ◌∙◌, arith, append_assoc, append-nil, add-one, zero-add}
+use Rattle.std.proofs.Common.{◌≡◌, ℕ, zero, suc, ◌+◌, ◌-◌, ◌<◌, ◌≤◌, true, cond, inl, inr, ◌⊎◌, List, [], ◌∷◌, ◌++◌, length, refl, sym, ap, ◌∙◌, arith, append_assoc, append-nil, add-one, zero-add}
 use Rattle.jf_hash.specs.Slots.{Part}
 use Rattle.jf_model.specs.Nodes.{Path}
 use Rattle.jf_landing.specs.Kids.{kid}
