@@ -21,3 +21,7 @@ pub mod FreshLaws
 pub mod FreshOrder
 pub mod FreshBound
 pub mod FreshVersions
+pub mod AllLaws
+pub mod Both
+pub mod Filters
+pub mod NodeLists

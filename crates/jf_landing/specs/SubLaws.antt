@@ -1,21 +1,11 @@
 -- The part of the node at a path: all entries under the path where there is a node, and else none.
 use Rattle.std.proofs.Common.{◌≡◌, ℕ, ◌+◌, Bool, true, false, cond, ◌&&◌, [], ◌∷◌, refl, sym, ap, ◌∙◌, true≢false}
+use Rattle.std.proofs.Math.Bool.{and-true}
 use Rattle.jf_hash.specs.Slots.{Part, with_nibble}
 use Rattle.jf_model.specs.Nodes.{Path, under, has_one, has_two, is_node}
+use Rattle.jf_landing.specs.Both.{left_true, right_true}
 use Rattle.jf_landing.specs.Kids.{sub}
 use Rattle.jf_landing.specs.KidLaws.{sub-none}
-
-pub left_true : (a b : Bool) → (a && b) ≡ true → a ≡ true
-left_true true b h = refl
-left_true false b h = h
-
-pub right_true : (a b : Bool) → (a && b) ≡ true → b ≡ true
-right_true true b h = h
-right_true false b h = absurd (true≢false (sym h))
-
-and_true : (a : Bool) → a ≡ (a && true)
-and_true true = refl
-and_true false = refl
 
 pub has_one-some : (es : Part) → ¬ (es ≡ []) → has_one es ≡ true
 has_one-some [] h = absurd (h refl)
@@ -38,7 +28,7 @@ sub-under d (n ∷ p) es h =
 -- where there are entries, exactly the nodes below have some
 pub has_one-sub : (d : ℕ) (p : Path) (es : Part) → has_one (sub d p es) ≡ (has_one es && is_node d p es)
 unfolding is_node
-has_one-sub d [] es = and_true (has_one es)
+has_one-sub d [] es = sym (and-true (has_one es))
 has_one-sub d (n ∷ p) [] = ap has_one (sub-none (d + 1) p)
 has_one-sub d (n ∷ p) (e ∷ []) = ap has_one (sub-none (d + 1) p)
 has_one-sub d (n ∷ p) (e ∷ f ∷ es) = has_one-sub (d + 1) p (with_nibble d n (e ∷ f ∷ es))
