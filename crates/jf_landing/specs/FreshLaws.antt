@@ -16,37 +16,9 @@ use Rattle.jf_landing.specs.Kids.{kid}
 use Rattle.jf_landing.specs.NodeLists.{child_nodes, lower_nodes}
 use Rattle.jf_landing.specs.Walk.{differs, each_from, listed, with_root}
 use Rattle.jf_landing.specs.SameParts.{same_part-refl, same_part-exact, same_or_other}
+use Rattle.jf_landing.specs.Stays.{stays, stays-kid, stays-same}
 use Rattle.jf_landing.specs.SubLaws.{none-has_one}
 use Rattle.jf_landing.specs.WalkLaws.{listed-same, listed-gone, each-nil}
-
--- ---- what stays
-
--- the old part has the node, with the same part
-abbrev stays : ℕ → Path → Part → Part → Bool
-stays d p old new = is_node d p old && same_part (under d p old) (under d p new)
-
--- nothing stays of nothing
-stays-none : (d : ℕ) (p : Path) (new : Part) → has_one new ≡ true → stays d p [] new ≡ false
-unfolding is_node under
-stays-none d [] [] some = absurd (true≢false (sym some))
-stays-none d [] (e ∷ es) some = refl
-stays-none d (n ∷ p) new some = refl
-
-stays-one : (d : ℕ) (p : Path) (old new : Part) → has_one new ≡ true → ((has_one old && is_node d p old) && same_part (under d p old) (under d p new)) ≡ stays d p old new
-stays-one d p [] new some = sym (stays-none d p new some)
-stays-one d p (e ∷ es) new some = refl
-
--- what stays below a child is what stays below its parent
-stays-kid : (d n : ℕ) (p : Path) (old new : Part) → has_one (with_nibble d n new) ≡ true → stays d (n ∷ p) old new ≡ stays (d + 1) p (kid d n old) (with_nibble d n new)
-unfolding is_node under
-stays-kid d n p [] new some = sym (stays-none (d + 1) p (with_nibble d n new) some)
-stays-kid d n p (e ∷ []) new some = sym (stays-none (d + 1) p (with_nibble d n new) some)
-stays-kid d n p (e ∷ f ∷ es) new some = stays-one (d + 1) p (with_nibble d n (e ∷ f ∷ es)) (with_nibble d n new) some
-
-stays-same : (d : ℕ) (p : Path) (es : Part) → is_node d p es ≡ true → stays d p es es ≡ true
-stays-same d p es node = ap₂ (λ a b. a && b) node (same_part-refl (under d p es))
-
--- ---- the walk
 
 differs-is : (old new : Part) → has_one new ≡ true → ¬ (old ≡ new) → (differs old new ≡ true) × (same_part old new ≡ false)
 differs-is old new some other = elim (same_part old new) as (λ b. same_part old new ≡ b → ((has_one new && not b) ≡ true) × (b ≡ false)) [
@@ -85,8 +57,8 @@ module _ {X : Type 0} where
         | false ↦ λ none. ap (λ es. listed l (d + 1) (kid d n old) es g) (none-has_one part none) ∙ listed-gone l (d + 1) (kid d n old) g
       ] refl)
 
-  -- all sixteen
-  children : (l d : ℕ) (old new : Part) (f : Path → X) (test : Path → Bool) → Walks X l → ((n : ℕ) (p : Path) → is_node d (n ∷ p) new ≡ true → test (n ∷ p) ≡ not (stays d (n ∷ p) old new))
+  -- all sixteen, for any test that says of nodes whether they stay
+  pub children : (l d : ℕ) (old new : Part) (f : Path → X) (test : Path → Bool) → Walks X l → ((n : ℕ) (p : Path) → is_node d (n ∷ p) new ≡ true → test (n ∷ p) ≡ not (stays d (n ∷ p) old new))
       → each_from 16 0 (λ n. listed l (d + 1) (kid d n old) (kid d n new) (λ p. f (n ∷ p))) ≡ map (λ (x : Path × Part). f x.0) (filter (λ (x : Path × Part). test x.0) (lower_nodes l d new))
   unfolding lower_nodes child_nodes
   children l d old new f test walks same =

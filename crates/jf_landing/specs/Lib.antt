@@ -25,3 +25,7 @@ pub mod AllLaws
 pub mod Both
 pub mod Filters
 pub mod NodeLists
+pub mod Stays
+pub mod FreshParts
+pub mod FreshCounts
+pub mod PlainLaws
