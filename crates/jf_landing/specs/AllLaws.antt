@@ -1,5 +1,5 @@
 -- What holds of each element of a list, and of another made of it.
-use Rattle.std.proofs.Common.{ℕ, zero, suc, ◌+◌, ◌<◌, Bool, true, false, cond, List, [], ◌∷◌, ◌++◌, length, get_or, filter, arith}
+use Rattle.std.proofs.Common.{zero, suc, Bool, true, false, cond, List, [], ◌∷◌, ◌++◌, filter, arith}
 use Rattle.std.specs.List.{All, AllByRecursion}
 
 module _ {X : Type 0} where

@@ -1,5 +1,5 @@
 -- What filters keep of a list, and of another made of it.
-use Rattle.std.proofs.Common.{◌≡◌, ◌≤◌, Bool, true, false, cond, List, [], ◌∷◌, length, map, filter, refl, ap, ap₂, ◌∙◌, arith}
+use Rattle.std.proofs.Common.{◌≡◌, ◌≤◌, Bool, true, false, cond, List, [], ◌∷◌, length, map, filter, refl, ap, ap₂, arith}
 use Rattle.std.specs.List.{AllByRecursion}
 
 module _ {X Y : Type 0} where

@@ -74,6 +74,12 @@ length-nodes m m' =
     omega (
       arith,
       kept_root (entries m) (entries m') f,
-      ap length (with_root-nodes m f), ap length (with_root-nodes m' f), ap length (with_root-fresh m m' f), ap length (with_root-fresh m' m f),
-      length-map (nodes m) steps, length-map (nodes m') steps, length-map (fresh m m') steps, length-map (fresh m' m) steps,
+      ap length (with_root-nodes m f),
+      ap length (with_root-nodes m' f),
+      ap length (with_root-fresh m m' f),
+      ap length (with_root-fresh m' m f),
+      length-map (nodes m) steps,
+      length-map (nodes m') steps,
+      length-map (fresh m m') steps,
+      length-map (fresh m' m) steps,
     )

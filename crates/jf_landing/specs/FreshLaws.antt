@@ -1,5 +1,5 @@
 -- The walk lists exactly the nodes that a landing writes.
-use Rattle.std.proofs.Common.{◌≡◌, ℕ, zero, suc, ◌+◌, Bool, true, false, not, cond, ◌&&◌, inl, inr, List, [], ◌∷◌, ◌++◌, map, filter, refl, sym, ap, ap₂, ◌∙◌, true≢false}
+use Rattle.std.proofs.Common.{◌≡◌, ℕ, zero, suc, ◌+◌, Bool, true, false, not, cond, ◌&&◌, inl, inr, List, [], ◌∷◌, ◌++◌, map, filter, refl, sym, ap, ap₂, ◌∙◌}
 use Rattle.std.specs.List.{AllByRecursion, flat_map}
 use Rattle.std.specs.FinMap.{entries}
 use Rattle.std.proofs.lemmas.List.{map-append}
@@ -15,7 +15,7 @@ use Rattle.jf_landing.specs.Filters.{filter-map, filter-same}
 use Rattle.jf_landing.specs.Kids.{kid}
 use Rattle.jf_landing.specs.NodeLists.{child_nodes, lower_nodes}
 use Rattle.jf_landing.specs.Walk.{differs, each_from, listed, with_root}
-use Rattle.jf_landing.specs.SameParts.{same_part-refl, same_part-exact, same_or_other}
+use Rattle.jf_landing.specs.SameParts.{same_part-exact, same_or_other}
 use Rattle.jf_landing.specs.Stays.{stays, stays-kid, stays-same}
 use Rattle.jf_landing.specs.SubLaws.{none-has_one}
 use Rattle.jf_landing.specs.WalkLaws.{listed-same, listed-gone, each-nil}

@@ -1,5 +1,5 @@
 -- What a landing writes: nodes with their parts, each once, in the order of their paths.
-use Rattle.std.proofs.Common.{◌≡◌, ℕ, zero, suc, ◌+◌, ◌<◌, ◌≤◌, Bool, true, false, cond, ◌&&◌, List, [], ◌∷◌, ◌++◌, map, refl, sym, ap, ◌∙◌, subst, arith, T, Less, is_lt, nat_cmp, Ordering}
+use Rattle.std.proofs.Common.{◌≡◌, ℕ, zero, suc, ◌+◌, ◌<◌, ◌≤◌, true, false, cond, ◌&&◌, List, [], ◌∷◌, ◌++◌, map, refl, sym, ap, ◌∙◌, subst, arith, T, Less, is_lt, nat_cmp}
 use Rattle.std.specs.List.{AllByRecursion, AllPairs, flat_map}
 use Rattle.std.specs.Ordering.{ordering_then}
 use Rattle.std.specs.FinMap.{entries, is_sorted}
@@ -16,7 +16,7 @@ use Rattle.jf_model.specs.NodeLaws.{IsListed, nodes_below-IsListed}
 use Rattle.jf_landing.specs.Walk.{each_from}
 use Rattle.jf_landing.specs.AllLaws.{All-append, All-filter, All-weaker}
 use Rattle.jf_landing.specs.Both.{left_so, right_so, both_so, less_so}
-use Rattle.jf_landing.specs.NodeLists.{child_nodes, lower_nodes}
+use Rattle.jf_landing.specs.NodeLists.{child_nodes}
 use Rattle.jf_landing.specs.Marks.{nat_tied}
 
 -- each pair is a node of the new map, with all entries under its path

@@ -29,3 +29,5 @@ pub mod Stays
 pub mod FreshParts
 pub mod FreshCounts
 pub mod PlainLaws
+pub mod NodePaths
+pub mod Laws

@@ -1,5 +1,5 @@
 -- What a batch makes of a part: it comes apart by nibble, and grows by no more than the batch.
-use Rattle.std.proofs.Common.{◌≡◌, ℕ, ◌+◌, ◌<◌, ◌≤◌, Bool, true, false, not, cond, ◌==◌, List, [], ◌∷◌, length, filter, refl, sym, ap, ◌∙◌, arith, T, Less, Equal, Greater, is_eq, Ordering, Option, None, Some, IfSome}
+use Rattle.std.proofs.Common.{◌≡◌, ℕ, ◌+◌, ◌<◌, ◌≤◌, Bool, true, false, not, cond, ◌==◌, List, [], ◌∷◌, length, filter, refl, sym, ap, ◌∙◌, arith, T, Less, Equal, Greater, Option, None, Some, IfSome}
 use Rattle.std.specs.List.{AllByRecursion}
 use Rattle.std.specs.FinMap.{find, is_sorted, put}
 use Rattle.std.specs.FinMap.Entries.{by_order, is_sorted-where_key, find-put, find-where_key, same_entries}

@@ -1,5 +1,5 @@
 -- Parts compared entry by entry are compared as lists.
-use Rattle.std.proofs.Common.{◌≡◌, ◌≤◌, Bool, true, false, not, ◌&&◌, inl, inr, ◌⊎◌, [], ◌∷◌, length, refl, sym, ap, ap₂, ◌∙◌, arith, true≢false}
+use Rattle.std.proofs.Common.{◌≡◌, ◌≤◌, true, false, not, ◌&&◌, inl, inr, ◌⊎◌, [], ◌∷◌, length, refl, sym, ap, ap₂, ◌∙◌, arith, true≢false}
 use Rattle.std.specs.Str.{bytes_eq}
 use Rattle.std.proofs.lemmas.Slice.Eq.{bytes_eq-Decides}
 use Rattle.jf_hash.specs.Slots.{Part}
