@@ -20,7 +20,7 @@ seen n k h = grind (arith, nat_tests)
 unseen : (n k : ℕ) → k < n → nat_le n k ≡ false
 unseen n k h = grind (arith, nat_tests)
 
-other : (n k : ℕ) → ¬ (k ≡ n) → (k == n) ≡ false
+pub other : (n k : ℕ) → ¬ (k ≡ n) → (k == n) ≡ false
 other n k h = grind (arith, nat_tests)
 
 alike : (n k : ℕ) → k ≡ n → (k == n) ≡ true
