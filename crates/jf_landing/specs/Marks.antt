@@ -6,6 +6,7 @@ use Rattle.std.specs.Cmp.{ranked}
 use Rattle.jf_path.specs.Keys.{key_cmp}
 use Rattle.jf_model.specs.Nodes.{Path}
 
+-- a number ties with itself
 pub nat_tied : (n : ℕ) → nat_cmp n n ≡ Equal
 nat_tied n = elim (nat_cmp n n) as (λ r. r ≡ nat_cmp n n → r ≡ Equal) [
   | Less ↦ λ r. absurd (let h = ranked n n Less r in omega arith)

@@ -10,7 +10,7 @@ use Rattle.jf_split.specs.Filters.{filter_all, filter_none}
 use Rattle.jf_landing.specs.AllLaws.{All-weaker, All-by_place}
 use Rattle.jf_landing.specs.Parts.{IsPart, from_nibble}
 use Rattle.jf_landing.specs.PartChanges.{IsPart-applied, with_nibble-applied}
-use Rattle.jf_landing.specs.PartLaws.{from_nibble-split, from_nibble-zero, from_nibble-past, other}
+use Rattle.jf_landing.specs.PartLaws.{from_nibble-split, from_nibble-zero, from_nibble-past, eqb-differs}
 
 -- entries of one nibble are all those with it
 all_there : (d n : ℕ) (es : Part) → AllByRecursion (λ e. nibble e.0 d ≡ n) es → with_nibble d n es ≡ es
@@ -20,7 +20,7 @@ all_there d n es h = filter_all (λ (e : List ℕ × List ℕ). nibble e.0 d == 
 all_other : (d n m : ℕ) (es : Part) → ¬ (n ≡ m) → AllByRecursion (λ e. nibble e.0 d ≡ n) es → with_nibble d m es ≡ []
 all_other d n m es apart h =
     filter_none (λ (e : List ℕ × List ℕ). nibble e.0 d == m) es
-    (All-by_place (λ e. (nibble e.0 d == m) ≡ false) es (All-weaker (λ e. nibble e.0 d ≡ n) (λ e. (nibble e.0 d == m) ≡ false) (λ e is. other m (nibble e.0 d) (λ same. apart (sym is ∙ same))) es h))
+    (All-by_place (λ e. (nibble e.0 d == m) ≡ false) es (All-weaker (λ e. nibble e.0 d ≡ n) (λ e. (nibble e.0 d == m) ≡ false) (λ e is. eqb-differs m (nibble e.0 d) (λ same. apart (sym is ∙ same))) es h))
 
 module _ {L : Type 0} (content : L → Part) (none : L) where
   joined-from : (d n : ℕ) (path : ℕ → ℕ) (es : Part) (links : List L) → IsPart d path es → n + length links ≡ 16 → ((k : ℕ) → k < length links → content (get_or links k none) ≡ with_nibble d (n + k) es) → flat_map content links ≡ from_nibble d n es
