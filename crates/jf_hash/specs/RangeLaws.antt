@@ -4,7 +4,7 @@ use Rattle.std.proofs.Common.{refl, sym, ap, ap₂, ◌∙◌, arith, pow-suc, l
 use Rattle.std.proofs.lemmas.List.{drop-take, get_or_append_left, get_or-append-add}
 use Rattle.std.proofs.lemmas.Bool.{cases_lt}
 use Rattle.jf_hash.specs.Slots.{range_hash}
-use Rattle.jf_hash.specs.Ranges.{hashes_within, range_hashes, range_index}
+use Rattle.jf_hash.specs.Ranges.{IsRange, hashes_within, range_hashes, range_index}
 use Rattle.jf_hash.specs.declared.slot.Slot.{Slot}
 
 pub some_power : (level : ℕ) → 1 ≤ 2 ^ level
@@ -117,6 +117,27 @@ within_at (suc t) l start slots d some within small aligned fits long =
     part_taken : (w start n : ℕ) (xs : List Slot) → start + w ≤ n → take w (drop start (take n xs)) ≡ take w (drop start xs)
     part_taken w start n xs le =
         ap (λ k. take w (drop start (take k xs))) (let e : n ≡ start + (n - start) = omega arith in e) ∙ ap (take w) (drop-take start (n - start) xs) ∙ take-take w (n - start) (drop start xs) (omega arith)
+
+-- ---- the ranges
+
+-- a width is a power of two
+pub range_level : (start width : ℕ) → IsRange start width → (level : ℕ) × (level ≤ 4) × (width ≡ 2 ^ level)
+range_level start width range = elim range.wide [
+  | inl is ↦ (0, omega arith, is)
+  | inr (inl is) ↦ (1, omega arith, is)
+  | inr (inr (inl is)) ↦ (2, omega arith, is)
+  | inr (inr (inr (inl is))) ↦ (3, omega arith, is)
+  | inr (inr (inr (inr is))) ↦ (4, omega arith, is)
+]
+
+-- 2 ^ level places make a range
+pub IsRange-of_level : (level start : ℕ) → level ≤ 4 → start % 2 ^ level ≡ 0 → start < 16 → IsRange start (2 ^ level)
+IsRange-of_level zero start small aligned lt = record { wide = inl refl; aligned = aligned; within = lt }
+IsRange-of_level (suc zero) start small aligned lt = record { wide = inr (inl refl); aligned = aligned; within = lt }
+IsRange-of_level (suc (suc zero)) start small aligned lt = record { wide = inr (inr (inl refl)); aligned = aligned; within = lt }
+IsRange-of_level (suc (suc (suc zero))) start small aligned lt = record { wide = inr (inr (inr (inl refl))); aligned = aligned; within = lt }
+IsRange-of_level (suc (suc (suc (suc zero)))) start small aligned lt = record { wide = inr (inr (inr (inr refl))); aligned = aligned; within = lt }
+IsRange-of_level (suc (suc (suc (suc (suc n))))) start small aligned lt = absurd (omega arith)
 
 -- ---- what the fifteen hashes are
 

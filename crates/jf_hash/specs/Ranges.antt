@@ -1,16 +1,14 @@
 -- Ranges of the places of a node: which there are, the entries of the part that stand in one, and the hashes of all of them.
-use Rattle.std.specs.Prelude.{◌≡◌, ℕ, zero, suc, ◌+◌, ◌-◌, ◌/◌, ◌%◌, ◌^◌, ◌<◌, ◌≤◌, Bool, false, ◌&&◌, nat_le, nat_lt, List, [], ◌∷◌, ◌++◌, filter, take, drop}
+use Rattle.std.specs.Prelude.{◌≡◌, ℕ, zero, suc, ◌+◌, ◌-◌, ◌/◌, ◌%◌, ◌^◌, ◌<◌, Bool, false, ◌&&◌, ◌⊎◌, nat_le, nat_lt, List, [], ◌∷◌, ◌++◌, filter, take, drop}
 use Rattle.jf_path.specs.Nibbles.{nibble}
 use Rattle.jf_hash.specs.Slots.{Stand, Nothing, Alone, More, range_hash}
 use Rattle.jf_hash.specs.declared.slot.Slot.{Slot}
 use Rattle.jf_hash.specs.declared.standing.Standing.{Standing}
 use Rattle.jf_hash.specs.declared.standing.Standing.TheVariants as standing
 
--- a range of 2 ^ level places, of one to all sixteen, that begins at a multiple of its width
+-- a range of 1, 2, 4, 8 or all 16 places, which begins at a multiple of its width
 pub record IsRange (start width : ℕ) : Type 0 where
-  pub level : ℕ
-  pub small : level ≤ 4
-  pub wide : width ≡ 2 ^ level
+  pub wide : (width ≡ 1) ⊎ (width ≡ 2) ⊎ (width ≡ 4) ⊎ (width ≡ 8) ⊎ (width ≡ 16)
   pub aligned : start % width ≡ 0
   pub within : start < 16
 
