@@ -16,4 +16,6 @@ pub use slot::Slot;
 pub use tagged::{Hash, empty, inner, key_of, leaf, value};
 
 #[cfg(test)]
+mod range_tests;
+#[cfg(test)]
 mod tests;

@@ -14,7 +14,7 @@ use crate::tagged::{Hash, empty, inner};
 use std::marker::Model;
 
 /// The hashes of the fifteen ranges of two places or more of a node, each behind those of its halves.
-#[derive(Clone, Copy, Debug)]
+#[derive(Clone, Copy, Debug, PartialEq, Eq)]
 pub struct Ranges {
     hashes: [Hash; 15],
 }
