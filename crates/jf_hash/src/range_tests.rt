@@ -209,6 +209,9 @@ fn a_change_leaves_the_hashes_of_the_changed_places(rt: HostRuntime) -> Result<(
     changed[5] = true;
     let after = before.updated(&slots, &changed);
     assert_eq!(rt; after, Ranges::of(&slots));
+
+    // Two leaves stand in the half of place 5, and one alone in its quarter.
+    assert_eq!(rt; before.updated_counted(&slots, &changed).1, 2);
     assert_eq!(rt; after.hash(4, 2), TWOS);
     assert_eq!(rt;
         after.hash(0, 8),
