@@ -3,10 +3,13 @@
 #![tactic(auto)]
 
 mod plain;
+mod range;
 mod slot;
+mod standing;
 mod tagged;
 
 pub use plain::plain_root;
+pub use range::sixteen;
 pub use slot::Slot;
 pub use tagged::{Hash, empty, inner, key_of, leaf, value};
 
