@@ -9,3 +9,5 @@ pub mod MarkLaws
 pub mod Shown
 pub mod SnapshotValue
 pub mod Snapshots
+pub mod ShownLaws
+pub mod SnapshotLaws

@@ -1,15 +1,14 @@
 -- The versions of the nodes below a node are those of its children, and exactly the nodes have one.
-use Rattle.std.proofs.Common.{◌≡◌, ℕ, zero, suc, ◌+◌, ◌<◌, ◌≤◌, Bool, true, false, cond, ◌&&◌, inl, inr, ◌⊎◌, List, [], ◌∷◌, ◌++◌, length, get_or, map, refl, sym, ap, ap₂, ◌∙◌, subst, arith, Less, Equal, Greater, nat_cmp, Ordering, Option, None, Some, zero-add}
+use Rattle.std.proofs.Common.{◌≡◌, ℕ, zero, suc, ◌+◌, ◌<◌, ◌≤◌, true, false, cond, ◌&&◌, inl, inr, ◌⊎◌, List, [], ◌∷◌, ◌++◌, length, get_or, map, refl, sym, ap, ◌∙◌, subst, arith, Less, Equal, Greater, nat_cmp, Ordering, Option, None, Some, zero-add}
 use Rattle.std.specs.Option.{is_some}
-use Rattle.std.specs.FinMap.{find}
 use Rattle.std.specs.Ordering.{ordering_then, is_eq}
 use Rattle.std.specs.Cmp.{ranked}
 use Rattle.std.specs.Cmp.Lexicographic.{slice_cmp}
 use Rattle.jf_hash.specs.Slots.{Part, with_nibble}
 use Rattle.jf_model.specs.Nodes.{Path, has_one, has_two, is_node}
 use Rattle.jf_node.specs.LinkValue.{LinkValue, mark_at, version_at}
-use Rattle.jf_node.specs.LinkFacts.{IsMarked, IsLink, IsLinkIf}
-use Rattle.jf_node.specs.Children.{content, joined, marks_of, marks_from, FitFrom, FitsAt, AreChildren, leaf_value, moved_value, inner_value}
+use Rattle.jf_node.specs.LinkFacts.{IsMarked, IsLinkIf}
+use Rattle.jf_node.specs.Children.{content, joined, marks_of, marks_from, FitsAt, AreChildren, leaf_value, inner_value}
 use Rattle.jf_node.specs.ChildLaws.{FitFrom-at, get_or-past, with_nibble-joined, with_nibble-past}
 
 abbrev Mark : Type 0
@@ -95,7 +94,7 @@ pub has_one-true : (es : Part) → 1 ≤ length es → has_one es ≡ true
 has_one-true [] h = absurd (omega arith)
 has_one-true (e ∷ es) h = refl
 
-alone_marked : (version depth : ℕ) (es : Part) → length es ≤ 1 → (path : Path) → is_some (mark_at path (([], version) ∷ [])) ≡ is_node depth path es
+pub alone_marked : (version depth : ℕ) (es : Part) → length es ≤ 1 → (path : Path) → is_some (mark_at path (([], version) ∷ [])) ≡ is_node depth path es
 unfolding is_node
 alone_marked version depth es few [] = refl
 alone_marked version depth es few (n ∷ p) = ap (λ b. (b && has_one (with_nibble depth n es)) && is_node (depth + 1) p (with_nibble depth n es)) (sym (has_two-false es few))

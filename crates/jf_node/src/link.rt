@@ -168,14 +168,10 @@ impl Link {
     {
         match self.view() {
             Seen::Leaf {
-                key: own, value, ..
-            } => {
-                if key == own {
-                    Some(value)
-                } else {
-                    None
-                }
-            }
+                key: own,
+                value,
+                ..
+            } => { if key == own { Some(value) } else { None } }
             Seen::Inner { children } => {
                 match children.get(nibble(key, self.depth() as usize)) {
                     None => None,
