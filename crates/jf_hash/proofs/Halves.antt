@@ -1,10 +1,12 @@
 -- The hash of a range by what stands in it.
 use Rattle.std.specs.Prelude.{◌≡◌, ℕ, zero, suc, ◌+◌, ◌-◌, ◌%◌, ◌/◌, ◌^◌, ◌<◌, ◌≤◌, List, [], ◌∷◌, length, take, drop, slice_index_or}
-use Rattle.std.proofs.Common.{sym, ap, ap₂, ◌∙◌, arith, pow-suc, length-take-le, length-drop}
+use Rattle.std.proofs.Common.{refl, sym, ap, ap₂, ◌∙◌, arith, pow-suc, length-take-le, length-drop}
 use Rattle.jf_hash.specs.Hashes.{E, N}
 use Rattle.jf_hash.specs.Slots.{Nothing, Alone, More, stand, stand_hash, place_hash, range_hash}
 use Rattle.jf_hash.specs.Ranges.{IsRange}
+use Rattle.jf_hash.specs.RangeLaws.{some_power, fits_all}
 use Rattle.jf_hash.specs.declared.slot.Slot.{Slot}
+use Rattle.jf_hash.specs.declared.slot.Slot.TheVariants as slot
 
 -- without more than one leaf the range has no need of its halves
 pub range_hash-nothing : (level : ℕ) (slots : List Slot) → Nothing ≡ stand slots → E ≡ range_hash level slots
@@ -53,10 +55,6 @@ range_hash-halves (suc level) half slots some is =
     let h : half ≡ 2 ^ level = is ∙ ap (λ k. 2 ^ k) e in
     ap₂ (λ k n. stand_hash (stand slots) (N (range_hash k (take n slots)) (range_hash k (drop n slots)))) e h
 
-some_power : (level : ℕ) → 1 ≤ 2 ^ level
-some_power zero = omega arith
-some_power (suc level) = omega (arith, pow-suc 2 level, some_power level)
-
 -- a range that isn't one place has halves
 pub not_one : (level n : ℕ) → n ≡ 2 ^ level → ¬ (n ≡ 1) → 0 < level
 not_one zero n is other = absurd (other is)
@@ -71,18 +69,10 @@ small_level (suc (suc (suc (suc zero)))) h = omega arith
 small_level (suc (suc (suc (suc (suc n))))) h =
     absurd (omega (arith, some_power n, pow-suc 2 n, pow-suc 2 (suc n), pow-suc 2 (suc (suc n)), pow-suc 2 (suc (suc (suc n))), pow-suc 2 (suc (suc (suc (suc n))))))
 
-within_all : (level start : ℕ) → level ≤ 4 → start % 2 ^ level ≡ 0 → start < 16 → start + 2 ^ level ≤ 16
-within_all zero start small aligned lt = omega arith
-within_all (suc zero) start small aligned lt = omega arith
-within_all (suc (suc zero)) start small aligned lt = omega arith
-within_all (suc (suc (suc zero))) start small aligned lt = omega arith
-within_all (suc (suc (suc (suc zero)))) start small aligned lt = omega arith
-within_all (suc (suc (suc (suc (suc n))))) start small aligned lt = absurd (omega arith)
-
 -- a range lies within the sixteen places
 pub range_within : (start width : ℕ) → IsRange start width → start + width ≤ 16
 range_within start width range =
-    omega (arith, range.wide, within_all range.level start range.small (sym (ap (λ w. start % w) range.wide) ∙ range.aligned) range.within)
+    omega (arith, range.wide, fits_all range.level start range.small (sym (ap (λ w. start % w) range.wide) ∙ range.aligned) range.within)
 
 -- so its level is at most 4
 pub range_level : (start width level : ℕ) → IsRange start width → width ≡ 2 ^ level → level ≤ 4
@@ -90,3 +80,17 @@ range_level start width level range is = small_level level (omega (arith, is, ra
 
 pub length-places : {X : Type 0} (start width : ℕ) (xs : List X) → length xs ≡ 16 → start + width ≤ 16 → length (take width (drop start xs)) ≡ width
 length-places start width xs long within = length-take-le width (drop start xs) (omega (arith, length-drop start xs))
+
+-- the hash at a place is that of a range of this place alone
+pub hash_at-one : (level : ℕ) (slots : List Slot) (d : Slot) → length slots ≡ 1 → 2 ^ level ≡ 1 → level ≤ 4 → place_hash (slice_index_or slots 0 d ∷ []) ≡ range_hash level slots
+unfolding range_hash
+hash_at-one zero [] d one level small = absurd (omega arith)
+hash_at-one zero (slot.Absent ∷ []) d one level small = refl
+hash_at-one zero (slot.Leaf hash ∷ []) d one level small = refl
+hash_at-one zero (slot.Inner hash ∷ []) d one level small = refl
+hash_at-one zero (place ∷ other ∷ slots) d one level small = absurd (omega arith)
+hash_at-one (suc zero) slots d one level small = absurd (omega arith)
+hash_at-one (suc (suc zero)) slots d one level small = absurd (omega arith)
+hash_at-one (suc (suc (suc zero))) slots d one level small = absurd (omega arith)
+hash_at-one (suc (suc (suc (suc zero)))) slots d one level small = absurd (omega arith)
+hash_at-one (suc (suc (suc (suc (suc n))))) slots d one level small = absurd (omega arith)

@@ -9,4 +9,5 @@ pub mod RootLaws
 pub mod Slots
 pub mod Ranges
 pub mod SlotLaws
+pub mod RangeLaws
 pub mod Codes

@@ -9,7 +9,7 @@ use crate::standing::Standing;
 use crate::tagged::{Hash, empty, inner};
 
 // The hash of what stands at one place.
-fn hash_at(place: &Slot) -> Hash
+pub fn hash_at(place: &Slot) -> Hash
     ensures { result ≡ place_hash (place.now ∷ []) }
 {
     match place {
