@@ -9,8 +9,8 @@ use Rattle.jf_hash.specs.Slots.{Part}
 use Rattle.jf_model.specs.Nodes.{Path, is_node}
 use Rattle.jf_node.specs.LinkValue.{LinkValue, version_at}
 
--- keys that agree in their first nibbles
-pub record Agree (depth : ℕ) (es : Part) : Type 0 where
+-- keys that begin with the same nibbles
+pub record BeginAlike (depth : ℕ) (es : Part) : Type 0 where
   pub path : ℕ → ℕ
   pub keys : AllByRecursion (λ e. (i : ℕ) → i < depth → nibble e.0 i ≡ path i) es
 
@@ -21,7 +21,7 @@ pub record AreEntries (depth : ℕ) (es : Part) : Type 0 where
   pub keys : AllByRecursion (λ e. IsKey e.0) es
   pub values : AllByRecursion (λ e. IsBytes e.1) es
   pub short : AllByRecursion (λ e. length e.1 ≤ 4096) es
-  pub agree : Agree depth es
+  pub agree : BeginAlike depth es
 
 -- exactly the nodes have a version
 pub record IsMarked (x : LinkValue) : Type 0 where
