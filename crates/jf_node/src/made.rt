@@ -76,7 +76,8 @@ impl Link {
         Ok(Link { node })
     }
 
-    /// An inner node over children one nibble deeper, each at its own nibble, with two entries or more.
+    /// An inner node over children one nibble deeper, each at its own nibble, with two entries or more. Memory is wanting
+    /// too where their entries are more than 64 bits count.
     pub fn inner(alloc: Global, version: u64, depth: u64, children: Sixteen) -> Result<Link, Memory>
         requires depth { depth < 64 }
         requires children { FitFrom depth 0 children }
