@@ -1,0 +1,145 @@
+-- Two accepted claims that contradict hash two different lists to one hash.
+use Rattle.std.specs.Prelude.{◌≡◌, ◌≢◌, ℕ, zero, suc, ◌+◌, Bool, true, false, not, ◌&&◌, cond, List, [], ◌∷◌, ◌++◌, length, reverse, bytes_eq, Option, Some, None}
+use Rattle.std.proofs.Common.{refl, sym, ap, ap₂, ◌∙◌, subst, arith, length-append}
+use Rattle.std.proofs.lemmas.Slice.Eq.{bytes_eq-Decides}
+use Rattle.std.proofs.lemmas.Grind.{reverse_onto}
+use Rattle.std.proofs.lemmas.List.{reverse-reverse}
+use Rattle.std.specs.FinMap as fin
+use Rattle.sha2.specs.Sha256.{sha256}
+use Rattle.jf_path.specs.Keys.{bit, IsKey}
+use Rattle.jf_path.specs.Checks.{first_of}
+use Rattle.jf_hash.specs.Hashes.{V, IsCollision}
+use Rattle.jf_hash.specs.HashLaws.{E-IsKey, L-IsKey, N-IsKey}
+use Rattle.jf_hash.specs.Maps.{Map, IsMap}
+use Rattle.jf_hash.specs.Roots.{Leaf, root}
+use Rattle.jf_evidence.specs.declared.proof.Proof.{Proof}
+use Rattle.jf_evidence.specs.declared.proof.ProofFault.{ProofFault}
+use Rattle.jf_evidence.specs.Inputs.{none_input, leaf_input, pair_input, value_input, first_difference, Collides, E-input, L-input, N-input, V-input}
+use Rattle.jf_evidence.specs.Proofs.{IsLeaf, join, climb, start_of, proof_root, is_wrong_leaf, refusal, honest}
+use Rattle.jf_evidence.specs.ProofLaws.{climb_to, climb-climb_to, climb_to-push}
+use Rattle.jf_evidence.specs.HonestLaws.{honest-accepted, honest-IsLeaf}
+use Rattle.jf_evidence.specs.Clashes.{join_input, climb_inputs, start_input, claim_inputs, inputs, clash}
+
+-- ---- siblings from the top
+
+-- what the way up along siblings comes to at bit d, the highest sibling first
+abbrev rise : ℕ → List ℕ → List ℕ → List (List ℕ) → List ℕ
+rise d key hash [] = hash
+rise d key hash (t ∷ ts) = join key d (rise (d + 1) key hash ts) t
+
+-- what it hashes, from the top
+abbrev rise_inputs : ℕ → List ℕ → List ℕ → List (List ℕ) → List (List ℕ)
+rise_inputs d key hash [] = []
+rise_inputs d key hash (t ∷ ts) = join_input key d (rise (d + 1) key hash ts) t ∷ rise_inputs (d + 1) key hash ts
+
+-- the same by siblings that stand with the lowest first
+abbrev inputs_to : ℕ → List ℕ → List ℕ → List (List ℕ) → List (List ℕ)
+inputs_to d key hash [] = []
+inputs_to d key hash (s ∷ ss) = inputs_to d key (join key (d + length ss) hash s) ss ++ join_input key (d + length ss) hash s ∷ []
+
+climb_inputs-inputs_to : (key hash : List ℕ) (ss : List (List ℕ)) → climb_inputs key hash ss ≡ inputs_to 0 key hash ss
+climb_inputs-inputs_to key hash [] = refl
+climb_inputs-inputs_to key hash (s ∷ ss) =
+    let i : length ss ≡ 0 + length ss = omega arith in
+    ap (λ (xs : List (List ℕ)). xs ++ join_input key (length ss) hash s ∷ []) (climb_inputs-inputs_to key (join key (length ss) hash s) ss)
+    ∙ ap (λ n. inputs_to 0 key (join key n hash s) ss ++ join_input key n hash s ∷ []) i
+
+inputs_to-push : (d : ℕ) (key hash : List ℕ) (ss : List (List ℕ)) (s : List ℕ) → inputs_to d key hash (ss ++ s ∷ []) ≡ join_input key d (climb_to (d + 1) key hash ss) s ∷ inputs_to (d + 1) key hash ss
+inputs_to-push d key hash [] s = let i : d + 0 ≡ d = omega arith in ap (λ n. join_input key n hash s ∷ []) i
+inputs_to-push d key hash (t ∷ ss) s =
+    let i : d + length (ss ++ s ∷ []) ≡ (d + 1) + length ss = omega (arith, length-append ss (s ∷ [])) in
+    ap (λ (xs : List (List ℕ)). xs ++ join_input key (d + length (ss ++ s ∷ [])) hash t ∷ []) (inputs_to-push d key (join key (d + length (ss ++ s ∷ [])) hash t) ss s)
+    ∙ ap (λ n. join_input key d (climb_to (d + 1) key (join key n hash t) ss) s ∷ (inputs_to (d + 1) key (join key n hash t) ss ++ join_input key n hash t ∷ [])) i
+
+turned_rise : (d : ℕ) (key hash : List ℕ) (ts : List (List ℕ)) → climb_to d key hash (reverse ts) ≡ rise d key hash ts
+turned_rise d key hash [] = refl
+turned_rise d key hash (t ∷ ts) =
+    ap (climb_to d key hash) (reverse_onto ts t []) ∙ climb_to-push d key hash (reverse ts) t ∙ ap (λ h. join key d h t) (turned_rise (d + 1) key hash ts)
+
+turned_inputs : (d : ℕ) (key hash : List ℕ) (ts : List (List ℕ)) → inputs_to d key hash (reverse ts) ≡ rise_inputs d key hash ts
+turned_inputs d key hash [] = refl
+turned_inputs d key hash (t ∷ ts) =
+    ap (inputs_to d key hash) (reverse_onto ts t []) ∙ inputs_to-push d key hash (reverse ts) t
+    ∙ ap₂ (λ h (xs : List (List ℕ)). join_input key d h t ∷ xs) (turned_rise (d + 1) key hash ts) (turned_inputs (d + 1) key hash ts)
+
+-- ---- lists that are the same, or not
+
+fronts : (a c b d : List ℕ) → length a ≡ length c → a ++ b ≡ c ++ d → (a ≡ c) × (b ≡ d)
+fronts [] [] b d long same = (refl, same)
+fronts [] (y ∷ c) b d long same = absurd (omega arith)
+fronts (x ∷ a) [] b d long same = absurd (omega arith)
+fronts (x ∷ a) (y ∷ c) b d long same =
+    let rest = fronts a c b d (omega arith) (cc) in
+    let head : x ≡ y = cc in
+    (ap₂ (λ (n : ℕ) (xs : List ℕ). n ∷ xs) head rest.0, rest.1)
+
+-- lists with one hash collide, or are one
+step : (x y : List ℕ) (xs ys : List (List ℕ)) → sha256 x ≡ sha256 y → (x ≡ y → Collides (first_difference xs ys)) → Collides (first_difference (x ∷ xs) (y ∷ ys))
+step x y xs ys meet rest =
+    elim (bytes_eq x y) as (λ b. bytes_eq x y ≡ b → Collides (cond (not b) (Some (x, y)) (first_difference xs ys))) [
+      | true ↦ λ is. rest ((bytes_eq-Decides x y).0 is)
+      | false ↦ λ is. (x, y, refl, record { differ = λ same. absurd (let yes = (bytes_eq-Decides x y).1 same in cc); meet = meet })
+    ] refl
+
+-- ---- one step of a way up
+
+join-input : (key : List ℕ) (i : ℕ) (h s : List ℕ) → join key i h s ≡ sha256 (join_input key i h s)
+join-input key i h s =
+    elim (bit key i) as (λ b. cond b (N s h) (N h s) ≡ sha256 (cond b (pair_input s h) (pair_input h s))) [ true ↦ N-input s h | false ↦ N-input h s ]
+
+start-input : (leaf : Option Leaf) → start_of leaf ≡ sha256 (start_input leaf)
+start-input None = E-input
+start-input (Some leaf) = L-input leaf.0 leaf.1
+
+rise-long : (d : ℕ) (key : List ℕ) (leaf : Option Leaf) (ts : List (List ℕ)) → length (rise d key (start_of leaf) ts) ≡ 32
+rise-long d key None [] = E-IsKey.long
+rise-long d key (Some leaf) [] = (L-IsKey leaf.0 leaf.1).long
+rise-long d key leaf (t ∷ ts) =
+    let h = rise (d + 1) key (start_of leaf) ts in
+    elim (bit key d) as (λ b. length (cond b (N t h) (N h t)) ≡ 32) [ true ↦ (N-IsKey t h).long | false ↦ (N-IsKey h t).long ]
+
+behind : (a c b d : List ℕ) → length b ≡ length d → a ++ b ≡ c ++ d → b ≡ d
+behind a c b d long same =
+    let whole : length (a ++ b) ≡ length (c ++ d) = ap length same in
+    (fronts a c b d (omega (arith, length-append a b, length-append c d)) same).1
+
+-- the same list is of the same lower hash
+below_join : (key : List ℕ) (i : ℕ) (h s g t : List ℕ) → length h ≡ length g → join_input key i h s ≡ join_input key i g t → h ≡ g
+below_join key i h s g t long =
+    elim (bit key i) as (λ b. cond b (pair_input s h) (pair_input h s) ≡ cond b (pair_input t g) (pair_input g t) → h ≡ g) [
+      | true ↦ λ same. behind s t h g long (cc)
+      | false ↦ λ same. (fronts h g s t long (cc)).0
+    ]
+
+-- a pair isn't hashed as a start is
+pair_or_start : (key : List ℕ) (i : ℕ) (h s : List ℕ) (leaf : Option Leaf) → join_input key i h s ≢ start_input leaf
+pair_or_start key i h s None =
+    elim (bit key i) as (λ b. cond b (pair_input s h) (pair_input h s) ≢ none_input) [ true ↦ λ same. absurd (cc) | false ↦ λ same. absurd (cc) ]
+pair_or_start key i h s (Some leaf) =
+    elim (bit key i) as (λ b. cond b (pair_input s h) (pair_input h s) ≢ leaf_input leaf.0 leaf.1) [ true ↦ λ same. absurd (cc) | false ↦ λ same. absurd (cc) ]
+
+-- ---- the lower ends of two ways up
+
+own_leaf : (key k : List ℕ) (t : Bool) → k ≡ key → not (bytes_eq k key && t) ≡ not t
+own_leaf key k t is = ap (λ b. not (b && t)) ((bytes_eq-Decides k key).1 is)
+
+right_leaf : (key v : List ℕ) (leaf : Leaf) → is_wrong_leaf key (Some v) (Some leaf) ≡ false → (leaf.0 ≡ key) × (leaf.1 ≡ V v)
+right_leaf key v leaf right = ?
+
+other_leaf : (key : List ℕ) (leaf : Leaf) → is_wrong_leaf key None (Some leaf) ≡ false → leaf.0 ≢ key
+other_leaf key leaf right same = absurd (let yes = (bytes_eq-Decides leaf.0 key).1 same in cc)
+
+ends : (key : List ℕ) (c c' : Option (List ℕ)) (leaf leaf' : Option Leaf) → IsLeaf leaf → IsLeaf leaf' → is_wrong_leaf key c leaf ≡ false → is_wrong_leaf key c' leaf' ≡ false
+    → c ≢ c' → start_input leaf ≡ start_input leaf' → Collides (first_difference (claim_inputs c) (claim_inputs c'))
+ends key None None leaf leaf' sound sound' right right' differ same = absurd (differ refl)
+ends key (Some v) c' None leaf' sound sound' right right' differ same = absurd (cc)
+ends key c (Some v') leaf None sound sound' right right' differ same = absurd (cc)
+ends key None (Some v') None (Some leaf') sound sound' right right' differ same = absurd (cc)
+ends key (Some v) None (Some leaf) None sound sound' right right' differ same = absurd (cc)
+ends key None (Some v') (Some leaf) (Some leaf') sound sound' right right' differ same =
+    absurd (other_leaf key leaf right ((fronts leaf.0 leaf'.0 leaf.1 leaf'.1 (sound.long ∙ sym sound'.long) (cc)).0 ∙ (right_leaf key v' leaf' right').0))
+ends key (Some v) None (Some leaf) (Some leaf') sound sound' right right' differ same =
+    absurd (other_leaf key leaf' right' (sym (fronts leaf.0 leaf'.0 leaf.1 leaf'.1 (sound.long ∙ sym sound'.long) (cc)).0 ∙ (right_leaf key v leaf right).0))
+ends key (Some v) (Some v') (Some leaf) (Some leaf') sound sound' right right' differ same =
+    let hashes : V v ≡ V v' = sym (right_leaf key v leaf right).1 ∙ (fronts leaf.0 leaf'.0 leaf.1 leaf'.1 (sound.long ∙ sym sound'.long) (cc)).1 ∙ (right_leaf key v' leaf' right').1 in
+    step (value_input v) (value_input v') [] [] (sym (V-input v) ∙ hashes ∙ V-input v') (λ same_input. absurd (differ (cc)))
