@@ -1,19 +1,18 @@
 -- Two accepted claims that contradict hash two different lists to one hash.
-use Rattle.std.specs.Prelude.{◌≡◌, ◌≢◌, ℕ, zero, suc, ◌+◌, Bool, true, false, not, ◌&&◌, cond, List, [], ◌∷◌, ◌++◌, length, reverse, bytes_eq, Option, Some, None}
-use Rattle.std.proofs.Common.{refl, sym, ap, ap₂, ◌∙◌, subst, arith, length-append}
+use Rattle.std.specs.Prelude.{◌≡◌, ◌≢◌, ℕ, ◌+◌, Bool, true, false, not, ◌&&◌, cond, List, [], ◌∷◌, ◌++◌, length, reverse, bytes_eq, Option, Some, None}
+use Rattle.std.proofs.Common.{refl, sym, ap, ap₂, ◌∙◌, arith, length-append}
 use Rattle.std.proofs.lemmas.Slice.Eq.{bytes_eq-Decides}
 use Rattle.std.proofs.lemmas.Grind.{reverse_onto}
 use Rattle.std.proofs.lemmas.List.{reverse-reverse}
 use Rattle.std.specs.FinMap as fin
 use Rattle.sha2.specs.Sha256.{sha256}
-use Rattle.jf_path.specs.Keys.{bit, IsKey}
+use Rattle.jf_path.specs.Keys.{bit}
 use Rattle.jf_path.specs.Checks.{first_of}
-use Rattle.jf_hash.specs.Hashes.{V, IsCollision}
+use Rattle.jf_hash.specs.Hashes.{N, V}
 use Rattle.jf_hash.specs.HashLaws.{E-IsKey, L-IsKey, N-IsKey}
 use Rattle.jf_hash.specs.Maps.{Map, IsMap}
 use Rattle.jf_hash.specs.Roots.{Leaf, root}
 use Rattle.jf_evidence.specs.declared.proof.Proof.{Proof}
-use Rattle.jf_evidence.specs.declared.proof.ProofFault.{ProofFault}
 use Rattle.jf_evidence.specs.Inputs.{none_input, leaf_input, pair_input, value_input, first_difference, Collides, E-input, L-input, N-input, V-input}
 use Rattle.jf_evidence.specs.Proofs.{IsLeaf, join, climb, start_of, proof_root, is_wrong_leaf, refusal, honest}
 use Rattle.jf_evidence.specs.ProofLaws.{climb_to, climb-climb_to, climb_to-push}
@@ -120,11 +119,15 @@ pair_or_start key i h s (Some leaf) =
 
 -- ---- the lower ends of two ways up
 
-own_leaf : (key k : List ℕ) (t : Bool) → k ≡ key → not (bytes_eq k key && t) ≡ not t
-own_leaf key k t is = ap (λ b. not (b && t)) ((bytes_eq-Decides k key).1 is)
+both : (a b : Bool) → not (a && b) ≡ false → (a ≡ true) × (b ≡ true)
+both true true h = (refl, refl)
+both true false h = absurd (cc)
+both false b h = absurd (cc)
 
 right_leaf : (key v : List ℕ) (leaf : Leaf) → is_wrong_leaf key (Some v) (Some leaf) ≡ false → (leaf.0 ≡ key) × (leaf.1 ≡ V v)
-right_leaf key v leaf right = ?
+right_leaf key v leaf right =
+    let tests = both (bytes_eq leaf.0 key) (bytes_eq leaf.1 (V v)) right in
+    ((bytes_eq-Decides leaf.0 key).0 tests.0, (bytes_eq-Decides leaf.1 (V v)).0 tests.1)
 
 other_leaf : (key : List ℕ) (leaf : Leaf) → is_wrong_leaf key None (Some leaf) ≡ false → leaf.0 ≢ key
 other_leaf key leaf right same = absurd (let yes = (bytes_eq-Decides leaf.0 key).1 same in cc)
@@ -143,3 +146,65 @@ ends key (Some v) None (Some leaf) (Some leaf') sound sound' right right' differ
 ends key (Some v) (Some v') (Some leaf) (Some leaf') sound sound' right right' differ same =
     let hashes : V v ≡ V v' = sym (right_leaf key v leaf right).1 ∙ (fronts leaf.0 leaf'.0 leaf.1 leaf'.1 (sound.long ∙ sym sound'.long) (cc)).1 ∙ (right_leaf key v' leaf' right').1 in
     step (value_input v) (value_input v') [] [] (sym (V-input v) ∙ hashes ∙ V-input v') (λ same_input. absurd (differ (cc)))
+
+-- ---- two ways up to one hash
+
+abbrev inputs_from : ℕ → List ℕ → Option (List ℕ) → Option Leaf → List (List ℕ) → List (List ℕ)
+inputs_from d key claim leaf ts = rise_inputs d key (start_of leaf) ts ++ start_input leaf ∷ claim_inputs claim
+
+walk : (d : ℕ) (key : List ℕ) (c c' : Option (List ℕ)) (leaf leaf' : Option Leaf) (ts ts' : List (List ℕ)) → IsLeaf leaf → IsLeaf leaf'
+    → is_wrong_leaf key c leaf ≡ false → is_wrong_leaf key c' leaf' ≡ false → c ≢ c'
+    → rise d key (start_of leaf) ts ≡ rise d key (start_of leaf') ts' → Collides (first_difference (inputs_from d key c leaf ts) (inputs_from d key c' leaf' ts'))
+walk d key c c' leaf leaf' [] [] sound sound' right right' differ same =
+    step _ _ (claim_inputs c) (claim_inputs c') (sym (start-input leaf) ∙ same ∙ start-input leaf') (ends key c c' leaf leaf' sound sound' right right' differ)
+walk d key c c' leaf leaf' (t ∷ ts) [] sound sound' right right' differ same =
+    step _ _ (inputs_from (d + 1) key c leaf ts) (claim_inputs c') (sym (join-input key d _ t) ∙ same ∙ start-input leaf') (λ one. absurd (pair_or_start key d _ t leaf' one))
+walk d key c c' leaf leaf' [] (t' ∷ ts') sound sound' right right' differ same =
+    step _ _ (claim_inputs c) (inputs_from (d + 1) key c' leaf' ts') (sym (start-input leaf) ∙ same ∙ join-input key d _ t') (λ one. absurd (pair_or_start key d _ t' leaf (sym one)))
+walk d key c c' leaf leaf' (t ∷ ts) (t' ∷ ts') sound sound' right right' differ same =
+    step _ _ (inputs_from (d + 1) key c leaf ts) (inputs_from (d + 1) key c' leaf' ts') (sym (join-input key d _ t) ∙ same ∙ join-input key d _ t') (λ one.
+    walk (d + 1) key c c' leaf leaf' ts ts' sound sound' right right' differ (below_join key d _ t _ t' (rise-long (d + 1) key leaf ts ∙ sym (rise-long (d + 1) key leaf' ts')) one))
+
+-- ---- accepted claims
+
+passed : {X : Type 0} (a b c d : Bool) (w x y z : X) → first_of ((a, w) ∷ (b, x) ∷ (c, y) ∷ (d, z) ∷ []) ≡ None → (b ≡ false) × (d ≡ false)
+passed true b c d w x y z h = absurd (cc)
+passed false true c d w x y z h = absurd (cc)
+passed false false true d w x y z h = absurd (cc)
+passed false false false true w x y z h = absurd (cc)
+passed false false false false w x y z h = (refl, refl)
+
+so_true : (b : Bool) → not b ≡ false → b ≡ true
+so_true true h = refl
+so_true false h = absurd (cc)
+
+-- an accepted claim has its leaf, and comes to the root
+pub accepted : (root key : List ℕ) (claim : Option (List ℕ)) (proof : Proof) → refusal root key claim proof ≡ None → (is_wrong_leaf key claim proof.leaf ≡ false) × (proof_root key proof ≡ root)
+unfolding refusal
+accepted root key claim proof h =
+    let checks = passed _ (is_wrong_leaf key claim proof.leaf) _ (not (bytes_eq (proof_root key proof) root)) _ _ _ _ h in
+    (checks.0, (bytes_eq-Decides _ _).0 (so_true _ checks.1))
+
+as_rise : (key hash : List ℕ) (ss : List (List ℕ)) → climb key hash ss ≡ rise 0 key hash (reverse ss)
+as_rise key hash ss = climb-climb_to key hash ss ∙ ap (climb_to 0 key hash) (sym (reverse-reverse ss)) ∙ turned_rise 0 key hash (reverse ss)
+
+as_rise_inputs : (key hash : List ℕ) (ss : List (List ℕ)) → climb_inputs key hash ss ≡ rise_inputs 0 key hash (reverse ss)
+as_rise_inputs key hash ss = climb_inputs-inputs_to key hash ss ∙ ap (inputs_to 0 key hash) (sym (reverse-reverse ss)) ∙ turned_inputs 0 key hash (reverse ss)
+
+-- two accepted claims on one key and one root that contradict give a collision
+pub clash-collides : (root key : List ℕ) (c c' : Option (List ℕ)) (p p' : Proof) → IsLeaf p.leaf → IsLeaf p'.leaf
+    → refusal root key c p ≡ None → refusal root key c' p' ≡ None → c ≢ c' → Collides (clash key c p c' p')
+unfolding clash inputs
+clash-collides root key c c' p p' sound sound' ok ok' differ =
+    let first = accepted root key c p ok in
+    let second = accepted root key c' p' ok' in
+    let same : rise 0 key (start_of p.leaf) (reverse p.siblings) ≡ rise 0 key (start_of p'.leaf) (reverse p'.siblings) =
+    sym (as_rise key (start_of p.leaf) p.siblings) ∙ first.1 ∙ sym second.1 ∙ as_rise key (start_of p'.leaf) p'.siblings in
+    rw (as_rise_inputs key (start_of p.leaf) p.siblings, as_rise_inputs key (start_of p'.leaf) p'.siblings)
+    (walk 0 key c c' p.leaf p'.leaf (reverse p.siblings) (reverse p'.siblings) sound sound' first.0 second.0 differ same)
+
+-- an accepted claim that isn't the map's gives a collision with what the map's honest proof hashes
+pub clash-honest : (m : Map) (key : List ℕ) (c : Option (List ℕ)) (p : Proof) → IsMap m → IsLeaf p.leaf
+    → refusal (root m) key c p ≡ None → c ≢ fin.get m key → Collides (clash key c p (fin.get m key) (honest m key))
+clash-honest m key c p is_map sound ok differ =
+    clash-collides (root m) key c (fin.get m key) p (honest m key) sound (honest-IsLeaf m key is_map) ok (honest-accepted m key is_map) differ

@@ -1,6 +1,6 @@
 -- What a map says of a key is accepted with the honest proof of it.
-use Rattle.std.specs.Prelude.{◌≡◌, ℕ, zero, suc, ◌+◌, ◌-◌, ◌*◌, ◌/◌, ◌%◌, ◌<◌, ◌≤◌, Bool, true, false, not, ◌&&◌, cond, nat_lt, T, List, [], ◌∷◌, ◌++◌, map, filter, length, slice_index, bytes_eq, Option, Some, None, IfSome, option_map}
-use Rattle.std.proofs.Common.{refl, sym, ap, ap₂, ◌∙◌, subst, arith, length-append, true≢false, inl, inr, Ordering, Less, Equal, Greater, is_lt, is_eq}
+use Rattle.std.specs.Prelude.{◌≡◌, ℕ, zero, suc, ◌+◌, ◌*◌, ◌/◌, ◌%◌, ◌<◌, ◌≤◌, Bool, true, false, not, ◌&&◌, cond, nat_lt, T, List, [], ◌∷◌, map, filter, length, slice_index, bytes_eq, Option, Some, None, IfSome, option_map}
+use Rattle.std.proofs.Common.{refl, sym, ap, ap₂, ◌∙◌, subst, arith, length-append, inl, inr, Ordering, Less, Equal, Greater, is_lt, is_eq}
 use Rattle.std.proofs.lemmas.List.{ext_get_or}
 use Rattle.std.proofs.lemmas.Slice.Eq.{bytes_eq-Decides}
 use Rattle.std.proofs.lemmas.Bool.Decides.{nat_tests, eqb_tells}
@@ -14,12 +14,10 @@ use Rattle.std.specs.FinMap.Entries.{below_all, find-where_key, is_sorted-where_
 use Rattle.jf_path.specs.Keys.{bit, key_cmp, IsKey, IsBytes}
 use Rattle.jf_path.specs.Nibbles.{nibble, common_from, common_bits}
 use Rattle.jf_path.specs.NibbleLaws.{nibble-even, nibble-odd}
-use Rattle.jf_path.specs.Checks.{first_of}
 use Rattle.jf_hash.specs.Hashes.{V}
-use Rattle.jf_hash.specs.HashLaws.{V-IsKey}
 use Rattle.jf_hash.specs.KeyOrder.{same_key-exact, key_cmp-turned, below-first, below-rest}
 use Rattle.jf_hash.specs.Maps.{Map, IsMap, same_key}
-use Rattle.jf_hash.specs.Roots.{Leaf, leaf_of, leaves_root, root, zeros, ones}
+use Rattle.jf_hash.specs.Roots.{Leaf, leaf_of, root, zeros, ones}
 use Rattle.jf_evidence.specs.Proofs.{IsLeaf, leaves, near, far, honest, honest_from, honest_below, proof_root, is_wrong_leaf, is_wrong_prefix, refusal}
 use Rattle.jf_evidence.specs.ProofLaws.{honest-root, honest-short}
 
