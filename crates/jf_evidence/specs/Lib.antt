@@ -4,3 +4,4 @@ pub mod ProofLaws
 pub mod HonestLaws
 pub mod Clashes
 pub mod ClashLaws
+pub mod Laws

@@ -2,6 +2,10 @@
 //! that contradict come apart, as definitions, with their laws.
 #![tactic(auto)]
 
+mod laws;
 mod proof;
 
+pub use laws::{
+    contradicting_claims_collide, honest_claims_are_accepted, know_leaf, wrong_claims_collide,
+};
 pub use proof::{Proof, ProofFault};
