@@ -1,0 +1,71 @@
+-- An audit has one answer, and a claim that isn't the map's is caught by the honest one.
+use Rattle.std.specs.Prelude.{◌≡◌, ◌≢◌, ℕ, List, Option, Some, None, unwrap_or, []}
+use Rattle.std.proofs.Common.{refl, sym, ap, ◌∙◌}
+use Rattle.std.specs.FinMap as fin
+use Rattle.jf_hash.specs.Hashes.{IsCollision}
+use Rattle.jf_hash.specs.Maps.{Map, IsMap}
+use Rattle.jf_hash.specs.Roots.{root}
+use Rattle.jf_evidence.specs.declared.proof.ProofFault.{ProofFault}
+use Rattle.jf_evidence.specs.Proofs.{IsLeaf, honest}
+use Rattle.jf_evidence.specs.HonestLaws.{honest-accepted}
+use Rattle.jf_collide.specs.declared.judged.Judged.{Judged}
+use Rattle.jf_collide.specs.declared.outcome.Audit.{Audit}
+use Rattle.jf_collide.specs.declared.outcome.Audit.TheVariants as audit
+use Rattle.jf_evidence.specs.Clashes.{clash}
+use Rattle.jf_collide.specs.Audits.{refusal_of, first_of_two, first_refused, Contradict, IsAudit}
+
+-- one answer alone is right
+abbrev pub AuditsHaveOneAnswer : Type 0
+AuditsHaveOneAnswer = (root : List ℕ) (first second : Judged) (answer other : Audit) → IsAudit root first second answer → IsAudit root first second other → answer ≡ other
+
+-- what a map says of a key, with the honest proof
+abbrev pub judged_of : Map → List ℕ → Judged
+judged_of m key = record { key = key; claim = fin.get m key; proof = honest m key }
+
+abbrev pub IsCaught : Audit → Type 0
+IsCaught (audit.Refused which why) = ⊥
+IsCaught (audit.Collision x y) = IsCollision x y
+IsCaught audit.Agree = ⊥
+
+-- an accepted claim that isn't the map's, beside what the map says, comes to a collision
+abbrev pub WrongClaimsAreCaught : Type 0
+WrongClaimsAreCaught = (m : Map) (judged : Judged) (answer : Audit) → IsMap m → refusal_of (root m) judged ≡ None → judged.claim ≢ fin.get m judged.key
+    → IsAudit (root m) judged (judged_of m judged.key) answer → IsCaught answer
+
+-- ---- proofs
+
+abbrev refused_as : Option (ℕ × ProofFault) → Audit
+refused_as None = audit.Agree
+refused_as (Some r) = audit.Refused r.0 r.1
+
+abbrev collision_as : Option (List ℕ × List ℕ) → Audit
+collision_as None = audit.Agree
+collision_as (Some c) = audit.Collision c.0 c.1
+
+one_refused : (o : Option (ℕ × ProofFault)) (which other : ℕ) (why reason : ProofFault) → o ≡ Some (which, why) → o ≡ Some (other, reason) → audit.Refused which why ≡ audit.Refused other reason
+one_refused o which other why reason e f = ap refused_as (sym e ∙ f)
+
+one_collision : (o : Option (List ℕ × List ℕ)) (x y a b : List ℕ) → o ≡ Some (x, y) → o ≡ Some (a, b) → audit.Collision x y ≡ audit.Collision a b
+one_collision o x y a b e f = ap collision_as (sym e ∙ f)
+
+pub audits-one : AuditsHaveOneAnswer
+audits-one root first second (audit.Refused which why) (audit.Refused other reason) h k = one_refused (first_refused root first second) which other why reason h k
+audits-one root first second (audit.Refused which why) (audit.Collision x y) h k = absurd (let none = k.accepted in cc)
+audits-one root first second (audit.Refused which why) audit.Agree h k = absurd (let none = k.accepted in cc)
+audits-one root first second (audit.Collision x y) (audit.Refused which why) h k = absurd (let none = h.accepted in cc)
+audits-one root first second (audit.Collision x y) (audit.Collision a b) h k = one_collision (clash first.key first.claim first.proof second.claim second.proof) x y a b h.apart k.apart
+audits-one root first second (audit.Collision x y) audit.Agree h k = absurd (k.at_one h.contradict)
+audits-one root first second audit.Agree (audit.Refused which why) h k = absurd (let none = h.accepted in cc)
+audits-one root first second audit.Agree (audit.Collision x y) h k = absurd (h.at_one k.contradict)
+audits-one root first second audit.Agree audit.Agree h k = refl
+
+none_refused : (a b : Option ProofFault) → a ≡ None → b ≡ None → first_of_two a b ≡ None
+none_refused None None ea eb = refl
+none_refused (Some a) b ea eb = absurd (cc)
+none_refused None (Some b) ea eb = absurd (cc)
+
+pub wrong-caught : WrongClaimsAreCaught
+wrong-caught m judged (audit.Refused which why) is_map ok differ h =
+    absurd (let none = none_refused (refusal_of (root m) judged) (refusal_of (root m) (judged_of m judged.key)) ok (honest-accepted m judged.key is_map) in cc)
+wrong-caught m judged (audit.Collision x y) is_map ok differ h = h.collision
+wrong-caught m judged audit.Agree is_map ok differ h = absurd (h.at_one (record { same_key = refl; other_claim = differ }))
