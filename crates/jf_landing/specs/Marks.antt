@@ -1,5 +1,5 @@
 -- What a list of versions by path has at a path that begins with a step.
-use Rattle.std.proofs.Common.{◌≡◌, ℕ, true, false, cond, List, [], ◌∷◌, ◌++◌, map, refl, ap, ◌∙◌, arith, Less, Equal, Greater, nat_cmp, Ordering, Option, None, Some}
+use Rattle.std.proofs.Common.{◌≡◌, ℕ, true, false, cond, List, [], ◌∷◌, ◌++◌, map, refl, ap, ◌∙◌, arith, Less, Equal, Greater, nat_cmp, Ordering, None, Some}
 use Rattle.std.specs.FinMap.{find}
 use Rattle.std.specs.Ordering.{ordering_then, is_eq}
 use Rattle.std.specs.Cmp.{ranked}

@@ -1,5 +1,5 @@
 -- What a batch makes of one entry or none: what it puts, with the entry between where it has no word on its key.
-use Rattle.std.proofs.Common.{◌≡◌, ℕ, zero, suc, ◌+◌, ◌-◌, ◌<◌, ◌≤◌, Bool, true, false, not, cond, ◌&&◌, List, [], ◌∷◌, ◌++◌, length, get_or, take, drop, map, refl, sym, ap, ap₂, ◌∙◌, subst, arith, T, Less, Equal, Greater, is_lt, is_eq, Ordering, Option, None, Some, append_assoc, append-nil, length-drop, take_all, true≢false}
+use Rattle.std.proofs.Common.{◌≡◌, ℕ, zero, suc, ◌-◌, ◌<◌, ◌≤◌, Bool, true, false, not, cond, List, [], ◌∷◌, ◌++◌, length, get_or, take, drop, map, refl, sym, ap, ap₂, ◌∙◌, subst, arith, T, Less, Equal, Greater, is_lt, is_eq, Option, None, Some, append_assoc, append-nil, length-drop, take_all, true≢false}
 use Rattle.std.specs.Str.{bytes_eq}
 use Rattle.std.proofs.lemmas.Slice.Eq.{bytes_eq-Decides}
 use Rattle.std.specs.List.{AllByRecursion}
@@ -12,23 +12,19 @@ use Rattle.jf_hash.specs.KeyOrder.{same_key-exact, key_cmp-turned, Less-from_is_
 use Rattle.jf_hash.specs.Maps.{Batch}
 use Rattle.jf_hash.specs.Slots.{Part}
 use Rattle.jf_model.specs.Changes.{changed, applied}
+use Rattle.jf_landing.specs.AllLaws.{All-append}
+use Rattle.jf_landing.specs.Both.{both_so, less_so}
 use Rattle.jf_landing.specs.Puts.{Change, puts, with_put, own_if, IsPlace, IsNamed}
 use Rattle.jf_landing.specs.PutLaws.{with_put-append}
-
-so_less : (o : Ordering) → o ≡ Less → T (is_lt o)
-so_less o h = subst (λ r. T (is_lt r)) (sym h) tt
-
-both : (a b : Bool) → T a → T b → T (a && b)
-both true b p q = q
-both false b p q = p
 
 greater_so : (a b : List ℕ) → T (is_lt (key_cmp a b)) → key_cmp b a ≡ Greater
 greater_so a b h = key_cmp-turned a b Less (Less-from_is_lt _ h)
 
--- each entry's key is below a key, and below all keys of a batch
+-- each entry's key is below a key
 abbrev AllBelow : List ℕ → Part → Type 0
 AllBelow k xs = AllByRecursion (λ x. T (is_lt (key_cmp x.0 k))) xs
 
+-- and below all keys of a batch
 abbrev AllBelowAll : Batch → Part → Type 0
 AllBelowAll bs xs = AllByRecursion (λ x. T (below_all key_cmp x.0 bs)) xs
 
@@ -45,22 +41,18 @@ changed-none k (Some v) = refl
 
 heads_below : (b : Change) (bs : Batch) (xs : Part) → AllBelowAll (b ∷ bs) xs → AllBelow b.0 xs
 heads_below b bs [] h = tt
-heads_below b bs (x ∷ xs) h = (so_less _ (below-first x.0 b bs h.0), heads_below b bs xs h.1)
+heads_below b bs (x ∷ xs) h = (less_so _ (below-first x.0 b bs h.0), heads_below b bs xs h.1)
 
 rests_below : (b : Change) (bs : Batch) (xs : Part) → AllBelowAll (b ∷ bs) xs → AllBelowAll bs xs
 rests_below b bs [] h = tt
 rests_below b bs (x ∷ xs) h = (below-later x.0 b bs h.0, rests_below b bs xs h.1)
-
-all_append : (P : List ℕ × List ℕ → Type 0) (xs ys : Part) → AllByRecursion P xs → AllByRecursion P ys → AllByRecursion P (xs ++ ys)
-all_append P [] ys h k = k
-all_append P (x ∷ xs) ys h k = (h.0, all_append P xs ys h.1 k)
 
 put_all : (P : List ℕ → Type 0) (k : List ℕ) (v : Option (List ℕ)) → P k → AllByRecursion (λ (e : List ℕ × List ℕ). P e.0) (with_put k v [])
 put_all P k None p = tt
 put_all P k (Some v) p = (p, tt)
 
 more_below : (b : Change) (bs : Batch) (xs : Part) → T (below_all key_cmp b.0 bs) → AllBelowAll (b ∷ bs) xs → AllBelowAll bs (xs ++ with_put b.0 b.1 [])
-more_below b bs xs sorted h = all_append (λ x. T (below_all key_cmp x.0 bs)) xs (with_put b.0 b.1 []) (rests_below b bs xs h) (put_all (λ k. T (below_all key_cmp k bs)) b.0 b.1 sorted)
+more_below b bs xs sorted h = All-append (λ x. T (below_all key_cmp x.0 bs)) xs (with_put b.0 b.1 []) (rests_below b bs xs h) (put_all (λ k. T (below_all key_cmp k bs)) b.0 b.1 sorted)
 
 put_behind : (b : Change) (bs : Batch) (xs : Part) (ys : Part) → (xs ++ with_put b.0 b.1 []) ++ ys ≡ xs ++ with_put b.0 b.1 ys
 put_behind b bs xs ys = append_assoc xs (with_put b.0 b.1 []) ys ∙ ap (λ t. xs ++ t) (with_put-append b.0 b.1 [] ys)
@@ -89,7 +81,7 @@ changed-at k q w None is = ap (λ r. cond (not (is_eq r)) ((q, w) ∷ []) []) (a
 
 further_below : (a b : List ℕ) (bs : Batch) → key_cmp a b ≡ Less → T (below_all key_cmp b bs) → T (below_all key_cmp a bs)
 further_below a b [] lt h = tt
-further_below a b (c ∷ bs) lt h = both _ _ (so_less _ (nat_list_cmp_total.trans a b c.0 lt (below-first b c bs h))) (further_below a b bs lt (below-later b c bs h))
+further_below a b (c ∷ bs) lt h = both_so _ _ (less_so _ (nat_list_cmp_total.trans a b c.0 lt (below-first b c bs h))) (further_below a b bs lt (below-later b c bs h))
 
 not_before : (a b : List ℕ) → ¬ (key_cmp b a ≡ Less) → ¬ (b ≡ a) → key_cmp a b ≡ Less
 not_before a b late differ = elim (key_cmp b a) as (λ r. key_cmp b a ≡ r → key_cmp a b ≡ Less) [
@@ -110,7 +102,7 @@ applied-own q w xs (b ∷ bs) (suc r) named sorted below under place is =
     let first : key_cmp b.0 q ≡ Less = place.before 0 b (omega arith) in
     ap (λ es. applied es bs) (changed-behind b.0 b.1 xs ((q, w) ∷ []) (heads_below b bs xs below) ∙ ap (λ t. xs ++ t) (changed-before b.0 q w b.1 first) ∙ sym (put_behind b bs xs ((q, w) ∷ [])))
     ∙ applied-own q w (xs ++ with_put b.0 b.1 []) bs r named (sorted-rest b bs sorted) (more_below b bs xs (below-rest b bs sorted) below)
-    (all_append (λ x. T (is_lt (key_cmp x.0 q))) xs (with_put b.0 b.1 []) under (put_all (λ k. T (is_lt (key_cmp k q))) b.0 b.1 (so_less _ first)))
+    (All-append (λ x. T (is_lt (key_cmp x.0 q))) xs (with_put b.0 b.1 []) under (put_all (λ k. T (is_lt (key_cmp k q))) b.0 b.1 (less_so _ first)))
     (later_place q b bs r place) is
     ∙ put_behind b bs xs (puts (take r bs) ++ (own_if named q w ++ puts (drop r bs)))
     ∙ ap (λ t. xs ++ t) (sym (with_put-append b.0 b.1 (puts (take r bs)) (own_if named q w ++ puts (drop r bs))))
@@ -121,7 +113,7 @@ applied-own q w xs (b ∷ bs) zero true sorted below under place is =
 applied-own q w xs (b ∷ bs) zero false sorted below under place is =
     let lt : key_cmp q b.0 ≡ Less = not_before q b.0 (place.at b (omega arith)) (is.1 refl) in
     applied-behind (xs ++ (q, w) ∷ []) (b ∷ bs) sorted
-    (all_append (λ x. T (below_all key_cmp x.0 (b ∷ bs))) xs ((q, w) ∷ []) below (both _ _ (so_less _ lt) (further_below q b.0 bs lt (below-rest b bs sorted)), tt))
+    (All-append (λ x. T (below_all key_cmp x.0 (b ∷ bs))) xs ((q, w) ∷ []) below (both_so _ _ (less_so _ lt) (further_below q b.0 bs lt (below-rest b bs sorted)), tt))
     ∙ append_assoc xs ((q, w) ∷ []) (puts (b ∷ bs))
 
 -- one entry: what is put below it, the entry itself unless it is named, and what is put from there on

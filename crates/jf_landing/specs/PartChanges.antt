@@ -1,9 +1,9 @@
 -- What a batch makes of a part: it comes apart by nibble, and grows by no more than the batch.
-use Rattle.std.proofs.Common.{◌≡◌, ℕ, ◌+◌, ◌<◌, ◌≤◌, Bool, true, false, not, cond, ◌==◌, List, [], ◌∷◌, length, filter, refl, sym, ap, ◌∙◌, arith, T, Less, Equal, Greater, is_eq, Ordering, Option, None, Some, IfSome}
+use Rattle.std.proofs.Common.{◌≡◌, ℕ, ◌+◌, ◌<◌, ◌≤◌, Bool, true, false, not, cond, ◌==◌, List, [], ◌∷◌, length, filter, refl, sym, ap, ◌∙◌, arith, T, Less, Equal, Greater, Option, None, Some, IfSome}
 use Rattle.std.specs.List.{AllByRecursion}
 use Rattle.std.specs.FinMap.{find, is_sorted, put}
 use Rattle.std.specs.FinMap.Entries.{by_order, is_sorted-where_key, find-put, find-where_key, same_entries}
-use Rattle.std.specs.Cmp.{eq_by_cmp_equiv}
+use Rattle.std.specs.Cmp.{eq_by_cmp_equiv, Equal-is}
 use Rattle.std.specs.Cmp.Lexicographic.{nat_list_cmp_total}
 use Rattle.jf_path.specs.Keys.{key_cmp, IsKey}
 use Rattle.jf_path.specs.Nibbles.{nibble}
@@ -12,12 +12,8 @@ use Rattle.jf_hash.specs.MapLaws.{said}
 use Rattle.jf_hash.specs.Maps.{Batch, same_key}
 use Rattle.jf_hash.specs.Slots.{Part, with_nibble}
 use Rattle.jf_model.specs.Changes.{changed, applied, sorted-applied, all-applied}
+use Rattle.jf_landing.specs.Filters.{length-filter_le}
 use Rattle.jf_landing.specs.Parts.{IsPart}
-
-so_equal : (o : Ordering) → is_eq o ≡ true → o ≡ Equal
-so_equal Less h = absurd (cc)
-so_equal Equal h = refl
-so_equal Greater h = absurd (cc)
 
 turned : {A : Type 0} (b : Bool) (x y : A) → cond (not b) x y ≡ cond b y x
 turned true x y = refl
@@ -63,7 +59,7 @@ said-part p q [] before = refl
 said-part p q (b ∷ bs) before =
     elim (same_key q b.0) as (λ t. same_key q b.0 ≡ t → said q (cond (p b.0) (b ∷ filter (λ e. p e.0) bs) (filter (λ e. p e.0) bs)) (cond (p q) before None) ≡ cond (p q) (said q bs (cond t b.1 before)) None) [
       | true ↦ λ is.
-          let same : p b.0 ≡ p q = ap p (sym (same_key-exact q b.0 (so_equal _ is))) in
+          let same : p b.0 ≡ p q = ap p (sym (same_key-exact q b.0 ((Equal-is _).0 is))) in
           ap (λ c. said q (cond c (b ∷ filter (λ e. p e.0) bs) (filter (λ e. p e.0) bs)) (cond (p q) before None)) same
           ∙ (elim (p q) as (λ c. p q ≡ c → said q (cond c (b ∷ filter (λ e. p e.0) bs) (filter (λ e. p e.0) bs)) (cond c before None) ≡ cond c (said q bs b.1) None) [
             | true ↦ λ yes. ap (λ t. said q (filter (λ e. p e.0) bs) (cond t b.1 before)) is
@@ -91,7 +87,6 @@ with_nibble-applied d n es bs sorted =
     ∙ ap (said q (with_nibble d n bs)) (sym (find-where_key key_cmp p q (alike q) es))
     ∙ sym (find-applied q (with_nibble d n es) (with_nibble d n bs)))
 
--- a batch adds no more than its length
 length-put_le : (k v : List ℕ) (es : Part) → length (put key_cmp k v es) ≤ length es + 1
 length-put_le k v [] = omega arith
 length-put_le k v (e ∷ es) =
@@ -102,16 +97,11 @@ length-put_le k v (e ∷ es) =
       | Greater ↦ omega arith
     ]
 
-length-filter_le : (p : (List ℕ × List ℕ) → Bool) (es : Part) → length (filter p es) ≤ length es
-length-filter_le p [] = omega arith
-length-filter_le p (e ∷ es) =
-    let rest = length-filter_le p es in
-    elim (p e) as (λ b. length (cond b (e ∷ filter p es) (filter p es)) ≤ length (e ∷ es)) [ true ↦ omega arith | false ↦ omega arith ]
-
 length-changed : (k : List ℕ) (v : Option (List ℕ)) (es : Part) → length (changed k v es) ≤ length es + 1
 length-changed k (Some v) es = length-put_le k v es
-length-changed k None es = omega (arith, length-filter_le (λ e. not (same_key k e.0)) es)
+length-changed k None es = omega (arith, length-filter_le (λ (e : List ℕ × List ℕ). not (same_key k e.0)) es)
 
+-- a batch adds no more than its length
 pub length-applied : (es : Part) (bs : Batch) → length (applied es bs) ≤ length es + length bs
 unfolding applied
 length-applied es [] = omega arith

@@ -1,5 +1,5 @@
 -- A part falls into the parts of its sixteen nibbles, in their order.
-use Rattle.std.proofs.Common.{◌≡◌, ℕ, suc, ◌+◌, ◌<◌, ◌≤◌, Bool, true, false, cond, ◌==◌, inl, inr, List, [], ◌∷◌, ◌++◌, length, filter, refl, sym, ap, ap₂, ◌∙◌, arith, T, eq-or-lt_of_le}
+use Rattle.std.proofs.Common.{◌≡◌, ℕ, ◌+◌, ◌<◌, ◌≤◌, true, false, cond, ◌==◌, inl, inr, List, [], ◌∷◌, ◌++◌, length, refl, sym, ap, ap₂, ◌∙◌, arith, T, eq-or-lt_of_le}
 use Rattle.std.specs.Prelude.{nat_le}
 use Rattle.std.proofs.lemmas.Bool.{cases_lt}
 use Rattle.std.proofs.lemmas.Bool.Decides.{nat_tests}
@@ -10,6 +10,7 @@ use Rattle.jf_path.specs.Nibbles.{nibble}
 use Rattle.jf_path.specs.NibbleLaws.{nibble-small}
 use Rattle.jf_hash.specs.KeyOrder.{below-first, below-later, below-rest, sorted-rest}
 use Rattle.jf_hash.specs.Slots.{with_nibble}
+use Rattle.jf_landing.specs.AllLaws.{All-filter}
 use Rattle.jf_landing.specs.Parts.{IsPart, from_nibble, stepped}
 use Rattle.jf_landing.specs.NibbleOrder.{rises, apart_at}
 
@@ -19,18 +20,13 @@ seen n k h = grind (arith, nat_tests)
 unseen : (n k : ℕ) → k < n → nat_le n k ≡ false
 unseen n k h = grind (arith, nat_tests)
 
-other : (n k : ℕ) → ¬ (k ≡ n) → (k == n) ≡ false
+pub other : (n k : ℕ) → ¬ (k ≡ n) → (k == n) ≡ false
 other n k h = grind (arith, nat_tests)
 
 alike : (n k : ℕ) → k ≡ n → (k == n) ≡ true
 alike n k h = grind (arith, nat_tests)
 
 module _ {X : Type 0} where
-  -- what holds of each entry holds of those that a filter keeps
-  pub All-filter : (P : List ℕ × X → Type 0) (p : List ℕ × X → Bool) (es : List (List ℕ × X)) → AllByRecursion P es → AllByRecursion P (filter p es)
-  All-filter P p [] h = tt
-  All-filter P p (e ∷ es) h = elim (p e) as (λ b. AllByRecursion P (cond b (e ∷ filter p es) (filter p es))) [ true ↦ (h.0, All-filter P p es h.1) | false ↦ All-filter P p es h.1 ]
-
   -- a part without its first entry
   pub IsPart-rest : {d : ℕ} {path : ℕ → ℕ} (e : List ℕ × X) (es : List (List ℕ × X)) → IsPart d path (e ∷ es) → IsPart d path es
   IsPart-rest e es h = record { sorted = sorted-rest e es h.sorted; keys = h.keys.1; agree = h.agree.1 }
@@ -109,4 +105,3 @@ module _ {X : Type 0} where
     keys = All-filter (λ e. IsKey e.0) (λ e. nibble e.0 d == n) es part.keys;
     agree = agree_at d n path es part.agree;
   }
-

@@ -1,22 +1,15 @@
 -- Parts compared entry by entry are compared as lists.
-use Rattle.std.proofs.Common.{◌≡◌, ◌≤◌, Bool, true, false, not, ◌&&◌, inl, inr, ◌⊎◌, [], ◌∷◌, length, refl, sym, ap, ap₂, ◌∙◌, subst, arith, true≢false}
+use Rattle.std.proofs.Common.{◌≡◌, ◌≤◌, true, false, not, ◌&&◌, inl, inr, ◌⊎◌, [], ◌∷◌, length, refl, sym, ap, ap₂, ◌∙◌, arith, true≢false}
 use Rattle.std.specs.Str.{bytes_eq}
 use Rattle.std.proofs.lemmas.Slice.Eq.{bytes_eq-Decides}
 use Rattle.jf_hash.specs.Slots.{Part}
 use Rattle.jf_model.specs.Nodes.{same_part}
+use Rattle.jf_landing.specs.Both.{left_true, right_true}
 use Rattle.jf_landing.specs.Walk.{differs}
 
 pub same_part-refl : (es : Part) → same_part es es ≡ true
 same_part-refl [] = refl
 same_part-refl (e ∷ es) = ap₂ (λ a b. a && b && same_part es es) ((bytes_eq-Decides e.0 e.0).1 refl) ((bytes_eq-Decides e.1 e.1).1 refl) ∙ same_part-refl es
-
-left_true : (a b : Bool) → (a && b) ≡ true → a ≡ true
-left_true true b h = refl
-left_true false b h = h
-
-right_true : (a b : Bool) → (a && b) ≡ true → b ≡ true
-right_true true b h = h
-right_true false b h = absurd (true≢false (sym h))
 
 pub same_part-exact : (es fs : Part) → same_part es fs ≡ true → es ≡ fs
 same_part-exact [] [] h = refl

@@ -1,10 +1,10 @@
 -- The versions of the nodes below a node follow from those of its children.
-use Rattle.std.proofs.Common.{◌≡◌, ℕ, ◌+◌, ◌<◌, ◌≤◌, inl, inr, [], ◌∷◌, length, refl, sym, ap, ◌∙◌, arith, Option, Some}
+use Rattle.std.proofs.Common.{◌≡◌, ℕ, ◌+◌, ◌<◌, ◌≤◌, inl, inr, [], ◌∷◌, length, refl, sym, ◌∙◌, Option, Some}
 use Rattle.std.proofs.lemmas.Bool.{cases_lt}
 use Rattle.jf_hash.specs.Slots.{Part, with_nibble}
 use Rattle.jf_model.specs.Nodes.{Path}
-use Rattle.jf_landing.specs.Kids.{sub}
 use Rattle.jf_landing.specs.KidLaws.{sub-few, sub-many, sub-past}
+use Rattle.jf_landing.specs.SameParts.{same_or_other}
 use Rattle.jf_landing.specs.Versions.{Versioned, AllVersioned, AllNew, IsNewTop}
 
 -- the same of equal parts and versions
@@ -52,9 +52,9 @@ pub built_one : (depth version : ℕ) (es : Part) (now : Path → Option ℕ) �
 built_one depth version es now few is [] some = is
 built_one depth version es now few is (n ∷ p) some = absurd (some (sub-few depth n p es few))
 
--- a node that hasn't the new version has the part of before, where no node had the new one
-pub Versioned-old : (version : ℕ) (old new : Part) (before now : Option ℕ) → Versioned version old new before now → ¬ (new ≡ []) → ¬ (now ≡ Some version) → ¬ (¬ (old ≡ new))
-Versioned-old version old new before now h some other differ = other (h.fresh some differ)
+-- where no node had the new version: a node that hasn't it now has the part of before
+pub Versioned-old : (version : ℕ) (old new : Part) (before now : Option ℕ) → Versioned version old new before now → ¬ (new ≡ []) → ¬ (now ≡ Some version) → old ≡ new
+Versioned-old version old new before now h some other = elim (same_or_other old new) [ inl same ↦ same | inr differ ↦ absurd (other (h.fresh some differ)) ]
 
 -- and one that has it has another
 pub Versioned-new : (version : ℕ) (old new : Part) (before now : Option ℕ) → Versioned version old new before now → ¬ (new ≡ []) → ¬ (before ≡ Some version) → now ≡ Some version → ¬ (old ≡ new)

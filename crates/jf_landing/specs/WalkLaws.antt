@@ -1,6 +1,7 @@
 -- How the walk over two parts comes apart: nothing where they are one, else the node and then its children.
-use Rattle.std.proofs.Common.{◌≡◌, ℕ, zero, suc, ◌+◌, ◌-◌, ◌<◌, ◌≤◌, Bool, true, cond, inl, inr, ◌⊎◌, List, [], ◌∷◌, ◌++◌, length, refl, sym, ap, ◌∙◌, arith, append_assoc, append-nil, add-one, zero-add}
-use Rattle.jf_hash.specs.Slots.{Part}
+use Rattle.std.proofs.Common.{◌≡◌, ℕ, zero, suc, ◌+◌, ◌-◌, ◌<◌, ◌≤◌, true, cond, inl, inr, ◌⊎◌, List, [], ◌∷◌, ◌++◌, length, refl, sym, ap, ◌∙◌, arith, append_assoc, append-nil, add-one, zero-add}
+use Rattle.std.specs.List.{flat_map}
+use Rattle.jf_hash.specs.Slots.{Part, all_nibbles}
 use Rattle.jf_model.specs.Nodes.{Path}
 use Rattle.jf_landing.specs.Kids.{kid}
 use Rattle.jf_landing.specs.KidLaws.{kid-few}
@@ -31,6 +32,10 @@ module _ {X : Type 0} where
   each_push (suc count) n g =
       ap (λ t. g n ++ t) (each_push count (n + 1) g) ∙ sym (append_assoc (g n) (each_from count (n + 1) g) (g ((n + 1) + count)))
       ∙ ap (λ m. (g n ++ each_from count (n + 1) g) ++ g m) (let e : (n + 1) + count ≡ n + suc count = omega arith in e)
+
+  -- sixteen lists from the first nibble on are those of all nibbles
+  pub each_from-flat_map : (g : ℕ → List X) → each_from 16 0 g ≡ flat_map g all_nibbles
+  each_from-flat_map g = refl
 
   -- a node that differs is listed, and then its children, all sixteen
   pub listed-node : (d : ℕ) (old new : Part) (f : Path → X) → differs old new ≡ true → (d < 64) ⊎ (length new < 2) → listed (64 - d) d old new f ≡ listed_to d 16 old new f
