@@ -1,0 +1,23 @@
+-- What holds of each element of a list, and of another made of it.
+use Rattle.std.proofs.Common.{zero, suc, Bool, true, false, cond, List, [], ◌∷◌, ◌++◌, filter, arith}
+use Rattle.std.specs.List.{All, AllByRecursion}
+
+module _ {X : Type 0} where
+  pub All-append : (P : X → Type 0) (xs ys : List X) → AllByRecursion P xs → AllByRecursion P ys → AllByRecursion P (xs ++ ys)
+  All-append P [] ys h k = k
+  All-append P (x ∷ xs) ys h k = (h.0, All-append P xs ys h.1 k)
+
+  pub All-weaker : (P Q : X → Type 0) → ((x : X) → P x → Q x) → (xs : List X) → AllByRecursion P xs → AllByRecursion Q xs
+  All-weaker P Q h [] a = tt
+  All-weaker P Q h (x ∷ xs) a = (h x a.0, All-weaker P Q h xs a.1)
+
+  pub All-filter : (P : X → Type 0) (test : X → Bool) (xs : List X) → AllByRecursion P xs → AllByRecursion P (filter test xs)
+  All-filter P test [] h = tt
+  All-filter P test (x ∷ xs) h =
+      elim (test x) as (λ b. AllByRecursion P (cond b (x ∷ filter test xs) (filter test xs))) [ true ↦ (h.0, All-filter P test xs h.1) | false ↦ All-filter P test xs h.1 ]
+
+  -- the same place by place
+  pub All-by_place : (P : X → Type 0) (xs : List X) → AllByRecursion P xs → All P xs
+  All-by_place P [] h i d lt = absurd (omega arith)
+  All-by_place P (x ∷ xs) h zero d lt = h.0
+  All-by_place P (x ∷ xs) h (suc i) d lt = All-by_place P xs h.1 i d (omega arith)

@@ -1,0 +1,54 @@
+-- A batch of n keys writes at most 66 nodes for each, and the top.
+use Rattle.std.proofs.Common.{◌≡◌, ℕ, ◌+◌, ◌*◌, ◌<◌, ◌≤◌, inl, inr, List, [], ◌∷◌, length, refl, sym, ap, ◌∙◌, arith}
+use Rattle.std.proofs.lemmas.List.{length-map}
+use Rattle.std.specs.List.{AllByRecursion}
+use Rattle.std.specs.FinMap as fin
+use Rattle.std.specs.FinMap.{entries}
+use Rattle.jf_path.specs.Keys.{IsKey, IsBytes}
+use Rattle.jf_path.specs.Nibbles.{nibble}
+use Rattle.jf_hash.specs.Maps.{Map, Batch, IsMap, IsBatch, apply}
+use Rattle.jf_hash.specs.Slots.{Part}
+use Rattle.jf_model.specs.Changes.{applied, entries-apply}
+use Rattle.jf_model.specs.Nodes.{Path, fresh}
+use Rattle.jf_landing.specs.Parts.{IsPart}
+use Rattle.jf_landing.specs.Walk.{with_root}
+use Rattle.jf_landing.specs.SameParts.{some_entry, differs_or_same}
+use Rattle.jf_landing.specs.WalkLaws.{listed-with_root, with_root-gone, with_root-same}
+use Rattle.jf_landing.specs.Bound.{bound}
+use Rattle.jf_landing.specs.FreshLaws.{with_root-fresh}
+
+any_path : {X : Type 0} (path : ℕ → ℕ) (es : List (List ℕ × X)) → AllByRecursion (λ e. (i : ℕ) → i < 0 → nibble e.0 i ≡ path i) es
+any_path path [] = tt
+any_path path (e ∷ es) = ((λ i lt. absurd (omega arith)), any_path path es)
+
+keys_of : (es : Part) → AllByRecursion (λ e. IsKey e.0 × IsBytes e.1) es → AllByRecursion (λ e. IsKey e.0) es
+keys_of [] h = tt
+keys_of (e ∷ es) h = (h.0.0, keys_of es h.1)
+
+-- a map is a part below the empty path, and so is a batch
+pub IsPart-map : (path : ℕ → ℕ) (m : Map) → IsMap m → IsPart 0 path (entries m)
+IsPart-map path m sound = record { sorted = fin.entries_sorted m; keys = keys_of (entries m) sound; agree = any_path path (entries m) }
+
+pub IsPart-batch : (path : ℕ → ℕ) (b : Batch) → IsBatch b → IsPart 0 path b
+IsPart-batch path b batch = record { sorted = batch.sorted; keys = batch.keys; agree = any_path path b }
+
+-- the walk from the top over entries and what a batch makes of them
+pub length-with_root : {X : Type 0} (path : ℕ → ℕ) (es : Part) (bs : Batch) (f : Path → X) → IsPart 0 path es → IsPart 0 path bs → length (with_root es (applied es bs) f) ≤ 66 * length bs + 1
+length-with_root path es bs f part batch = elim (some_entry (applied es bs)) [
+  | inl none ↦ omega (arith, ap length (ap (λ new. with_root es new f) none ∙ with_root-gone es f))
+  | inr some ↦ elim (differs_or_same es (applied es bs) some) [
+    | inl differ ↦ omega (arith, ap length (listed-with_root es (applied es bs) f differ), bound 64 0 path es bs f refl part batch)
+    | inr same ↦ omega (arith, ap length (ap (λ new. with_root es new f) (sym same) ∙ with_root-same es f))
+  ]
+]
+
+-- what a batch writes
+pub length-fresh : (m : Map) (b : Batch) → IsMap m → IsBatch b → length (fresh m (apply m b)) ≤ 66 * length b + 1
+length-fresh m b sound batch =
+    let f : Path → Path = λ p. p in
+    omega (
+      arith,
+      length-with_root (λ i. 0) (entries m) b f (IsPart-map (λ i. 0) m sound) (IsPart-batch (λ i. 0) b batch),
+      ap length (ap (λ es. with_root (entries m) es f) (sym (entries-apply m b)) ∙ with_root-fresh m (apply m b) f),
+      length-map (fresh m (apply m b)) (λ (x : Path × Part). f x.0),
+    )

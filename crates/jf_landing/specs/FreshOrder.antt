@@ -1,0 +1,121 @@
+-- What a landing writes: nodes with their parts, each once, in the order of their paths.
+use Rattle.std.proofs.Common.{◌≡◌, ℕ, zero, suc, ◌+◌, ◌<◌, ◌≤◌, true, false, cond, ◌&&◌, List, [], ◌∷◌, ◌++◌, map, refl, sym, ap, ◌∙◌, subst, arith, T, Less, is_lt, nat_cmp}
+use Rattle.std.specs.List.{AllByRecursion, AllPairs, flat_map}
+use Rattle.std.specs.Ordering.{ordering_then}
+use Rattle.std.specs.FinMap.{entries, is_sorted}
+use Rattle.std.specs.FinMap.Entries.{below_all, is_sorted-where_key}
+use Rattle.std.specs.Cmp.Lexicographic.{nat_list_cmp_total}
+use Rattle.std.proofs.lemmas.Bool.Decides.{nat_tests}
+use Rattle.std.specs.Cmp.{tied_itself}
+use Rattle.jf_path.specs.Keys.{key_cmp}
+use Rattle.jf_hash.specs.KeyOrder.{below-rest, sorted-rest, sorted-rises}
+use Rattle.jf_hash.specs.Maps.{Map}
+use Rattle.jf_hash.specs.Slots.{Part, all_nibbles, with_nibble}
+use Rattle.jf_model.specs.Nodes.{Path, has_one, has_two, is_fresh, nodes_below, nodes, fresh}
+use Rattle.jf_model.specs.NodeLaws.{IsListed, nodes_below-IsListed}
+use Rattle.jf_landing.specs.Walk.{each_from}
+use Rattle.jf_landing.specs.AllLaws.{All-append, All-filter, All-weaker}
+use Rattle.jf_landing.specs.Both.{left_so, right_so, both_so, less_so}
+use Rattle.jf_landing.specs.NodeLists.{child_nodes}
+use Rattle.jf_landing.specs.Marks.{nat_tied}
+
+-- each pair is a node of the new map, with all entries under its path
+pub fresh-IsListed : (m m' : Map) → AllByRecursion (IsListed 0 (entries m')) (fresh m m')
+unfolding fresh nodes
+fresh-IsListed m m' = All-filter (IsListed 0 (entries m')) (λ (x : Path × Part). is_fresh (entries m) (entries m') x.0) (nodes_below 64 0 (entries m')) (nodes_below-IsListed 64 0 (entries m'))
+
+-- ---- the order of paths
+
+-- paths that begin with a step of n or more
+abbrev From : ℕ → Path × Part → Type 0
+From n x = (m : ℕ) × (n ≤ m) × ((p : Path) × (x.0 ≡ m ∷ p))
+
+-- and those that begin with n itself
+abbrev At : ℕ → Path × Part → Type 0
+At n x = (p : Path) × (x.0 ≡ n ∷ p)
+
+nat_less : (n m : ℕ) → n < m → nat_cmp n m ≡ Less
+nat_less n m lt = grind (arith, nat_tests)
+
+below_append : (k : Path) (xs ys : List (Path × Part)) → T (below_all key_cmp k xs) → T (below_all key_cmp k ys) → T (below_all key_cmp k (xs ++ ys))
+below_append k [] ys h j = j
+below_append k (x ∷ xs) ys h j = both_so _ _ (left_so _ _ h) (below_append k xs ys (right_so _ _ h) j)
+
+sorted_append : (xs ys : List (Path × Part)) → T (is_sorted key_cmp xs) → T (is_sorted key_cmp ys) → AllByRecursion (λ x. T (below_all key_cmp x.0 ys)) xs → T (is_sorted key_cmp (xs ++ ys))
+sorted_append [] ys h k a = k
+sorted_append (x ∷ xs) ys h k a = both_so _ _ (below_append x.0 xs ys (below-rest x xs h) a.0) (sorted_append xs ys (sorted-rest x xs h) k a.1)
+
+-- a path that begins with n is below those that begin with a later step
+below_from : (n : ℕ) (p : Path) (ys : List (Path × Part)) → AllByRecursion (From (n + 1)) ys → T (below_all key_cmp (n ∷ p) ys)
+below_from n p [] h = tt
+below_from n p (y ∷ ys) h =
+    both_so _ _ (less_so _ (ap (key_cmp (n ∷ p)) h.0.2.1 ∙ ap (λ r. ordering_then r (key_cmp p h.0.2.0)) (nat_less n h.0.0 (let up = h.0.1 in omega arith)))) (below_from n p ys h.1)
+
+from_each : (count n : ℕ) (k : ℕ → List (Path × Part)) → ((m : ℕ) → AllByRecursion (At m) (k m)) → AllByRecursion (From n) (each_from count n k)
+from_each zero n k h = tt
+from_each (suc count) n k h =
+    All-append (From n) (k n) (each_from count (n + 1) k)
+    (All-weaker (At n) (From n) (λ x at. (n, omega arith, at)) (k n) (h n))
+    (All-weaker (From (n + 1)) (From n) (λ x from. (from.0, (let up = from.1 in omega arith), from.2)) (each_from count (n + 1) k) (from_each count (n + 1) k h))
+
+sorted_each : (count n : ℕ) (k : ℕ → List (Path × Part)) → ((m : ℕ) → AllByRecursion (At m) (k m)) → ((m : ℕ) → T (is_sorted key_cmp (k m))) → T (is_sorted key_cmp (each_from count n k))
+sorted_each zero n k at sorted = tt
+sorted_each (suc count) n k at sorted =
+    sorted_append (k n) (each_from count (n + 1) k) (sorted n) (sorted_each count (n + 1) k at sorted)
+    (All-weaker (At n) (λ x. T (below_all key_cmp x.0 (each_from count (n + 1) k)))
+    (λ x is. subst (λ q. T (below_all key_cmp q (each_from count (n + 1) k))) (sym is.1) (below_from n is.0 (each_from count (n + 1) k) (from_each count (n + 1) k at))) (k n) (at n))
+
+-- a step in front of all changes nothing
+below_step : (n : ℕ) (p : Path) (xs : List (Path × Part)) → T (below_all key_cmp p xs) → T (below_all key_cmp (n ∷ p) (map (λ (x : Path × Part). (n ∷ x.0, x.1)) xs))
+below_step n p xs h = subst T (sym (same n p xs)) h
+  where
+    same : (n : ℕ) (p : Path) (xs : List (Path × Part)) → below_all key_cmp (n ∷ p) (map (λ (x : Path × Part). (n ∷ x.0, x.1)) xs) ≡ below_all key_cmp p xs
+    same n p [] = refl
+    same n p (x ∷ xs) = ap (λ r. is_lt (ordering_then r (key_cmp p x.0)) && below_all key_cmp (n ∷ p) (map (λ (x : Path × Part). (n ∷ x.0, x.1)) xs)) (nat_tied n) ∙ ap (λ b. is_lt (key_cmp p x.0) && b) (same n p xs)
+
+sorted_step : (n : ℕ) (xs : List (Path × Part)) → T (is_sorted key_cmp xs) → T (is_sorted key_cmp (map (λ (x : Path × Part). (n ∷ x.0, x.1)) xs))
+sorted_step n [] h = tt
+sorted_step n (x ∷ xs) h = both_so _ _ (below_step n x.0 xs (below-rest x xs h)) (sorted_step n xs (sorted-rest x xs h))
+
+at_step : (n : ℕ) (xs : List (Path × Part)) → AllByRecursion (At n) (map (λ (x : Path × Part). (n ∷ x.0, x.1)) xs)
+at_step n [] = tt
+at_step n (x ∷ xs) = ((x.0, refl), at_step n xs)
+
+-- the top is below what begins with a step
+top_first : (n : ℕ) (xs : List (Path × Part)) → AllByRecursion (From n) xs → T (below_all key_cmp [] xs)
+top_first n [] h = tt
+top_first n (x ∷ xs) h = both_so _ _ (less_so _ (ap (key_cmp []) h.0.2.1)) (top_first n xs h.1)
+
+at_child : (l d : ℕ) (es : Part) (n : ℕ) → AllByRecursion (At n) (child_nodes l d es n)
+unfolding child_nodes
+at_child l d es n = elim (has_one (with_nibble d n es)) as (λ b. AllByRecursion (At n) (cond b (map (λ (x : Path × Part). (n ∷ x.0, x.1)) (nodes_below l (d + 1) (with_nibble d n es))) [])) [
+  | true ↦ at_step n (nodes_below l (d + 1) (with_nibble d n es))
+  | false ↦ tt
+]
+
+-- the list of nodes is in the order of paths
+pub sorted-nodes_below : (l d : ℕ) (es : Part) → T (is_sorted key_cmp (nodes_below l d es))
+unfolding nodes_below child_nodes
+sorted-nodes_below zero d es = tt
+sorted-nodes_below (suc l) d es =
+    let sorted : (n : ℕ) → T (is_sorted key_cmp (child_nodes l d es n)) = λ n.
+    elim (has_one (with_nibble d n es)) as (λ b. T (is_sorted key_cmp (cond b (map (λ (x : Path × Part). (n ∷ x.0, x.1)) (nodes_below l (d + 1) (with_nibble d n es))) []))) [
+      | true ↦ sorted_step n (nodes_below l (d + 1) (with_nibble d n es)) (sorted-nodes_below l (d + 1) (with_nibble d n es))
+      | false ↦ tt
+    ] in
+    elim (has_two es) as (λ b. T (is_sorted key_cmp (([], es) ∷ cond b (flat_map (child_nodes l d es) all_nibbles) []))) [
+      | true ↦ both_so _ _ (top_first 0 (each_from 16 0 (child_nodes l d es)) (from_each 16 0 (child_nodes l d es) (at_child l d es))) (sorted_each 16 0 (child_nodes l d es) (at_child l d es) sorted)
+      | false ↦ tt
+    ]
+
+-- and so is what a landing writes: its paths rise strictly
+pub sorted-fresh : (m m' : Map) → T (is_sorted key_cmp (fresh m m'))
+unfolding fresh nodes
+sorted-fresh m m' = is_sorted-where_key key_cmp (is_fresh (entries m) (entries m')) (nodes_below 64 0 (entries m')) (sorted-nodes_below 64 0 (entries m'))
+
+-- no path is written twice
+pub distinct-fresh : (m m' : Map) → AllPairs (λ x y. ¬ (x.0 ≡ y.0)) (fresh m m')
+distinct-fresh m m' i j d lt within same = apart _ _ (sorted-rises (fresh m m') i j d (sorted-fresh m m') lt within) same
+  where
+    apart : (a b : Path) → key_cmp a b ≡ Less → ¬ (a ≡ b)
+    apart a b less is = absurd (let e = sym (tied_itself nat_list_cmp_total b) ∙ ap (λ q. key_cmp q b) (sym is) ∙ less in cc)

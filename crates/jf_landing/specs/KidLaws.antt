@@ -1,0 +1,31 @@
+-- Where there are fewer than two entries no child is, and elsewhere the children have the parts by nibble.
+use Rattle.std.proofs.Common.{◌≡◌, ℕ, ◌+◌, ◌<◌, ◌≤◌, [], ◌∷◌, length, refl, ap, ◌∙◌, arith}
+use Rattle.jf_hash.specs.Slots.{Part, with_nibble}
+use Rattle.jf_model.specs.Nodes.{Path}
+use Rattle.jf_landing.specs.Kids.{kid, sub}
+use Rattle.jf_landing.specs.PartLaws.{with_nibble-past}
+
+pub kid-few : (d n : ℕ) (es : Part) → length es < 2 → kid d n es ≡ []
+kid-few d n [] h = refl
+kid-few d n (e ∷ []) h = refl
+kid-few d n (e ∷ f ∷ es) h = absurd (omega arith)
+
+pub kid-many : (d n : ℕ) (es : Part) → 2 ≤ length es → kid d n es ≡ with_nibble d n es
+kid-many d n [] h = absurd (omega arith)
+kid-many d n (e ∷ []) h = absurd (omega arith)
+kid-many d n (e ∷ f ∷ es) h = refl
+
+-- below nothing nothing is
+pub sub-none : (d : ℕ) (p : Path) → sub d p [] ≡ []
+sub-none d [] = refl
+sub-none d (n ∷ p) = sub-none (d + 1) p
+
+pub sub-few : (d n : ℕ) (p : Path) (es : Part) → length es < 2 → sub d (n ∷ p) es ≡ []
+sub-few d n p es h = ap (sub (d + 1) p) (kid-few d n es h) ∙ sub-none (d + 1) p
+
+pub sub-many : (d n : ℕ) (p : Path) (es : Part) → 2 ≤ length es → sub d (n ∷ p) es ≡ sub (d + 1) p (with_nibble d n es)
+sub-many d n p es h = ap (sub (d + 1) p) (kid-many d n es h)
+
+-- no node stands behind a step of 16 or more
+pub sub-past : (d n : ℕ) (p : Path) (es : Part) → 2 ≤ length es → 16 ≤ n → sub d (n ∷ p) es ≡ []
+sub-past d n p es h past = sub-many d n p es h ∙ ap (sub (d + 1) p) (with_nibble-past d n es past) ∙ sub-none (d + 1) p

@@ -1,0 +1,30 @@
+-- Laws on what a landing writes.
+use Rattle.std.specs.Prelude.{◌≡◌, ◌+◌, ◌*◌, ◌≤◌, map, length, T}
+use Rattle.std.specs.List.{AllByRecursion}
+use Rattle.std.specs.FinMap.{entries, is_sorted}
+use Rattle.jf_path.specs.Keys.{key_cmp}
+use Rattle.jf_path.specs.Paths.{IsPath}
+use Rattle.jf_hash.specs.Maps.{Map, Batch, IsMap, IsBatch, apply}
+use Rattle.jf_hash.specs.Slots.{Part}
+use Rattle.jf_model.specs.Nodes.{Path, nodes, fresh, stale}
+use Rattle.jf_landing.specs.Walk.{with_root}
+
+-- the walk over two maps goes to exactly the nodes that a landing of the second over the first writes, in their order
+abbrev pub WalkListsFresh : Type 0
+WalkListsFresh = (m m' : Map) → with_root (entries m) (entries m') (λ path. path) ≡ map (λ (x : Path × Part). x.0) (fresh m m')
+
+-- those nodes stand in the order of their paths, each once
+abbrev pub FreshRises : Type 0
+FreshRises = (m m' : Map) → T (is_sorted key_cmp (fresh m m'))
+
+-- each path is one of at most 64 nibbles
+abbrev pub FreshHasPaths : Type 0
+FreshHasPaths = (m m' : Map) → IsMap m' → AllByRecursion (λ x. IsPath x.0) (fresh m m')
+
+-- a batch of n keys writes at most 66 n + 1 of them
+abbrev pub FreshIsBounded : Type 0
+FreshIsBounded = (m : Map) (b : Batch) → IsMap m → IsBatch b → length (fresh m (apply m b)) ≤ 66 * length b + 1
+
+-- the nodes of the new map and those marked stale are as many as the nodes of the old map and those written
+abbrev pub FreshAndStale : Type 0
+FreshAndStale = (m m' : Map) → length (nodes m') + length (stale m m') ≡ length (nodes m) + length (fresh m m')

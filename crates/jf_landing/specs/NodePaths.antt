@@ -1,0 +1,50 @@
+-- The path of a node is one of at most 64 nibbles.
+use Rattle.std.proofs.Common.{◌≡◌, ℕ, ◌+◌, ◌<◌, ◌≤◌, true, ◌&&◌, inl, inr, [], ◌∷◌, length, sym, arith, true≢false}
+use Rattle.std.proofs.lemmas.Bool.{cases_lt}
+use Rattle.std.specs.List.{AllByRecursion}
+use Rattle.std.specs.FinMap.{entries}
+use Rattle.jf_path.specs.Paths.{IsPath}
+use Rattle.jf_hash.specs.Maps.{Map, IsMap}
+use Rattle.jf_hash.specs.Slots.{Part, with_nibble}
+use Rattle.jf_model.specs.Nodes.{Path, has_one, has_two, is_node, fresh}
+use Rattle.jf_model.specs.NodeLaws.{IsListed}
+use Rattle.jf_landing.specs.AllLaws.{All-weaker}
+use Rattle.jf_landing.specs.Both.{left_true, right_true}
+use Rattle.jf_landing.specs.FreshBound.{IsPart-map}
+use Rattle.jf_landing.specs.FreshOrder.{fresh-IsListed}
+use Rattle.jf_landing.specs.PartLaws.{IsPart-with_nibble, deeper, with_nibble-past}
+use Rattle.jf_landing.specs.Parts.{IsPart, stepped}
+use Rattle.jf_landing.specs.SubLaws.{some-has_one}
+
+two_entries : (es : Part) → has_two es ≡ true → 2 ≤ length es
+two_entries [] h = absurd (true≢false (sym h))
+two_entries (e ∷ []) h = absurd (true≢false (sym h))
+two_entries (e ∷ f ∷ es) h = omega arith
+
+-- its steps are nibbles
+pub nibbles-is_node : (d : ℕ) (p : Path) (es : Part) → is_node d p es ≡ true → AllByRecursion (λ n. n < 16) p
+unfolding is_node
+nibbles-is_node d [] es h = tt
+nibbles-is_node d (n ∷ p) es h =
+    let some = right_true (has_two es) _ (left_true _ _ h) in (
+      elim (cases_lt n 16) [ inl small ↦ small | inr past ↦ absurd (some-has_one (with_nibble d n es) some (with_nibble-past d n es past)) ],
+      nibbles-is_node (d + 1) p (with_nibble d n es) (right_true (has_two es && has_one (with_nibble d n es)) _ h),
+    )
+
+-- and there are no more of them than a key has
+pub length-is_node : (d : ℕ) (path : ℕ → ℕ) (p : Path) (es : Part) → d ≤ 64 → IsPart d path es → is_node d p es ≡ true → d + length p ≤ 64
+unfolding is_node
+length-is_node d path [] es deep part h = omega arith
+length-is_node d path (n ∷ p) es deep part h =
+    let two = two_entries es (left_true _ _ (left_true _ _ h)) in
+    omega (
+      arith,
+      length-is_node (d + 1) (stepped d n path) p (with_nibble d n es) (omega (arith, deeper d path es part two)) (IsPart-with_nibble d n path es part) (right_true (has_two es && has_one (with_nibble d n es)) _ h),
+    )
+
+pub IsPath-is_node : (m : Map) (p : Path) → IsMap m → is_node 0 p (entries m) ≡ true → IsPath p
+IsPath-is_node m p sound node = record { short = omega (arith, length-is_node 0 (λ i. 0) p (entries m) (omega arith) (IsPart-map (λ i. 0) m sound) node); nibbles = nibbles-is_node 0 p (entries m) node }
+
+-- so is each path that a landing writes
+pub IsPath-fresh : (m m' : Map) → IsMap m' → AllByRecursion (λ x. IsPath x.0) (fresh m m')
+IsPath-fresh m m' sound = All-weaker (IsListed 0 (entries m')) (λ x. IsPath x.0) (λ x is. IsPath-is_node m' x.0 sound is.1) (fresh m m') (fresh-IsListed m m')

@@ -1,0 +1,26 @@
+-- Parts: entries of a map or of a batch whose keys begin with one path, and how they fall apart by nibble.
+use Rattle.std.specs.Prelude.{◌≡◌, ℕ, ◌<◌, ◌≤◌, ◌==◌, nat_le, cond, List, filter, length, slice_index_or, T}
+use Rattle.std.specs.List.{AllByRecursion}
+use Rattle.std.specs.FinMap.{is_sorted}
+use Rattle.jf_path.specs.Keys.{key_cmp, IsKey}
+use Rattle.jf_path.specs.Nibbles.{nibble}
+
+-- entries whose keys rise strictly and have the first `depth` nibbles of a path
+pub record IsPart {X : Type 0} (depth : ℕ) (path : ℕ → ℕ) (es : List (List ℕ × X)) : Type 0 where
+  pub sorted : T (is_sorted key_cmp es)
+  pub keys : AllByRecursion (λ e. IsKey e.0) es
+  pub agree : AllByRecursion (λ e. (i : ℕ) → i < depth → nibble e.0 i ≡ path i) es
+
+-- the path with nibble n at a depth
+abbrev pub stepped : ℕ → ℕ → (ℕ → ℕ) → ℕ → ℕ
+stepped depth n path i = cond (i == depth) n (path i)
+
+-- the entries whose nibble at a depth is n or more
+abbrev pub from_nibble : {X : Type 0} → ℕ → ℕ → List (List ℕ × X) → List (List ℕ × X)
+from_nibble depth n es = filter (λ e. nat_le n (nibble e.0 depth)) es
+
+-- r entries with nibble n, and then one with another, if any
+pub record IsPieceEnd {X : Type 0} (depth n r : ℕ) (es : List (List ℕ × X)) : Type 0 where
+  pub within : r ≤ length es
+  pub before : (k : ℕ) (x : List ℕ × X) → k < r → nibble (slice_index_or es k x).0 depth ≡ n
+  pub at : (x : List ℕ × X) → r < length es → ¬ (nibble (slice_index_or es r x).0 depth ≡ n)

@@ -1,0 +1,34 @@
+-- A plain node with two entries or more has its children by nibble, and depends on the versions of those that it has.
+use Rattle.std.proofs.Common.{◌≡◌, ℕ, ◌+◌, ◌*◌, ◌≤◌, Bool, true, false, not, cond, List, [], ◌∷◌, ◌++◌, length, refl, ap, ap₂, arith}
+use Rattle.std.specs.List.{flat_map}
+use Rattle.jf_path.specs.declared.children.Child.{Child}
+use Rattle.jf_path.specs.declared.node.PlainNode.TheVariants as node
+use Rattle.jf_hash.specs.Roots.{part_root}
+use Rattle.jf_hash.specs.Slots.{Part, all_nibbles, with_nibble}
+use Rattle.jf_model.specs.Nodes.{has_one, has_two, child_at, plain_node}
+use Rattle.jf_landing.specs.Walk.{each_from}
+
+pub plain_node-many : (counted : Bool) (version : ℕ → ℕ) (d : ℕ) (es : Part) → 2 ≤ length es → plain_node counted version d es ≡ node.Inner (each_from 16 0 (child_at counted version d es))
+unfolding plain_node
+plain_node-many counted version d [] many = absurd (omega arith)
+plain_node-many counted version d (e ∷ []) many = absurd (omega arith)
+plain_node-many counted version d (e ∷ f ∷ es) many = refl
+
+same_child : (counted : Bool) (v w : ℕ → ℕ) (d : ℕ) (es : Part) (n : ℕ) → (has_one (with_nibble d n es) ≡ true → v n ≡ w n) → child_at counted v d es n ≡ child_at counted w d es n
+same_child counted v w d es n h =
+    let part = with_nibble d n es in
+    let child : ℕ → List Child = λ k. record { nibble = n; version = k; hash = part_root (4 * (d + 1)) part; leaf = not (has_two part); count = cond counted (length part) 0 } ∷ [] in
+    elim (has_one part) as (λ b. has_one part ≡ b → cond b (child (v n)) [] ≡ cond b (child (w n)) []) [
+      | true ↦ λ some. ap child (h some)
+      | false ↦ λ none. refl
+    ] refl
+
+same_children : (counted : Bool) (v w : ℕ → ℕ) (d : ℕ) (es : Part) → ((n : ℕ) → has_one (with_nibble d n es) ≡ true → v n ≡ w n) → (ns : List ℕ) → flat_map (child_at counted v d es) ns ≡ flat_map (child_at counted w d es) ns
+same_children counted v w d es h [] = refl
+same_children counted v w d es h (n ∷ ns) = ap₂ (λ a b. a ++ b) (same_child counted v w d es n (h n)) (same_children counted v w d es h ns)
+
+pub plain_node-versions : (counted : Bool) (v w : ℕ → ℕ) (d : ℕ) (es : Part) → ((n : ℕ) → has_one (with_nibble d n es) ≡ true → v n ≡ w n) → plain_node counted v d es ≡ plain_node counted w d es
+unfolding plain_node
+plain_node-versions counted v w d [] h = refl
+plain_node-versions counted v w d (e ∷ []) h = refl
+plain_node-versions counted v w d (e ∷ f ∷ es) h = ap (λ cs. node.Inner cs) (same_children counted v w d (e ∷ f ∷ es) h all_nibbles)

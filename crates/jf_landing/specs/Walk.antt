@@ -1,0 +1,32 @@
+-- The walk over two maps that lists the nodes of the new one that the old one has not, in the order of their paths.
+use Rattle.std.specs.Prelude.{ℕ, zero, suc, ◌+◌, ◌-◌, Bool, not, cond, ◌&&◌, List, [], ◌∷◌, ◌++◌}
+use Rattle.jf_hash.specs.Slots.{Part}
+use Rattle.jf_model.specs.Nodes.{Path, has_one, same_part}
+use Rattle.jf_landing.specs.Kids.{kid}
+
+-- whether there is a node with the new part, and it is not that of the old part
+abbrev pub differs : Part → Part → Bool
+differs old new = has_one new && not (same_part old new)
+
+-- the lists that g gives at count nibbles from n on, one behind another
+abbrev pub each_from : {X : Type 0} → ℕ → ℕ → (ℕ → List X) → List X
+each_from zero n g = []
+each_from (suc count) n g = g n ++ each_from count (n + 1) g
+
+-- f at the path of each node of the new part that is no node of the old one, where so many levels follow: nothing where the two are one
+unfoldable pub listed : {X : Type 0} → ℕ → ℕ → Part → Part → (Path → X) → List X
+listed zero depth old new f = cond (differs old new) (f [] ∷ []) []
+listed (suc levels) depth old new f =
+    cond (differs old new) (f [] ∷ each_from 16 0 (λ n. listed levels (depth + 1) (kid depth n old) (kid depth n new) (λ path. f (n ∷ path)))) []
+
+-- the top in any case, and then the nodes below it that are new
+unfoldable pub with_root : {X : Type 0} → Part → Part → (Path → X) → List X
+with_root old new f = f [] ∷ each_from 16 0 (λ n. listed 63 1 (kid 0 n old) (kid 0 n new) (λ path. f (n ∷ path)))
+
+-- the list of the child at nibble n of a node
+unfoldable pub kid_list : {X : Type 0} → ℕ → ℕ → Part → Part → (Path → X) → List X
+kid_list depth n old new f = listed (64 - (depth + 1)) (depth + 1) (kid depth n old) (kid depth n new) (λ path. f (n ∷ path))
+
+-- the list of a node that differs, as far as its first n children
+unfoldable pub listed_to : {X : Type 0} → ℕ → ℕ → Part → Part → (Path → X) → List X
+listed_to depth n old new f = f [] ∷ each_from n 0 (λ m. kid_list depth m old new f)

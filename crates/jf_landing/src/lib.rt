@@ -1,0 +1,7 @@
+//! What a batch changes below a path, as definitions with their laws: the parts of a map by nibble, the nodes below a
+//! path, and the walk over two maps that lists the nodes of the one that the other has not.
+#![tactic(auto)]
+
+mod laws;
+
+pub use laws::{fresh_and_stale, fresh_has_paths, fresh_is_bounded, fresh_rises, walk_lists_fresh};
