@@ -1,7 +1,8 @@
 -- Two accepted claims that contradict hash two different lists to one hash.
-use Rattle.std.specs.Prelude.{◌≡◌, ◌≢◌, ℕ, ◌+◌, Bool, true, false, not, ◌&&◌, cond, List, [], ◌∷◌, ◌++◌, length, reverse, bytes_eq, Option, Some, None}
+use Rattle.std.specs.Prelude.{◌≡◌, ◌≢◌, ℕ, ◌+◌, Bool, true, false, not, ◌&&◌, cond, List, [], ◌∷◌, ◌++◌, length, reverse, nat_lt, ◌≤◌, bytes_eq, Option, Some, None}
 use Rattle.std.proofs.Common.{refl, sym, ap, ap₂, ◌∙◌, arith, length-append}
 use Rattle.std.proofs.lemmas.Slice.Eq.{bytes_eq-Decides}
+use Rattle.std.proofs.lemmas.Bool.Decides.{nat_tests}
 use Rattle.std.proofs.lemmas.Grind.{reverse_onto}
 use Rattle.std.proofs.lemmas.List.{reverse-reverse}
 use Rattle.std.specs.FinMap as fin
@@ -82,11 +83,12 @@ step x y xs ys meet rest =
 
 -- ---- one step of a way up
 
-join-input : (key : List ℕ) (i : ℕ) (h s : List ℕ) → join key i h s ≡ sha256 (join_input key i h s)
+-- what is hashed gives what is joined
+pub join-input : (key : List ℕ) (i : ℕ) (h s : List ℕ) → join key i h s ≡ sha256 (join_input key i h s)
 join-input key i h s =
     elim (bit key i) as (λ b. cond b (N s h) (N h s) ≡ sha256 (cond b (pair_input s h) (pair_input h s))) [ true ↦ N-input s h | false ↦ N-input h s ]
 
-start-input : (leaf : Option Leaf) → start_of leaf ≡ sha256 (start_input leaf)
+pub start-input : (leaf : Option Leaf) → start_of leaf ≡ sha256 (start_input leaf)
 start-input None = E-input
 start-input (Some leaf) = L-input leaf.0 leaf.1
 
@@ -167,23 +169,29 @@ walk d key c c' leaf leaf' (t ∷ ts) (t' ∷ ts') sound sound' right right' dif
 
 -- ---- accepted claims
 
-passed : {X : Type 0} (a b c d : Bool) (w x y z : X) → first_of ((a, w) ∷ (b, x) ∷ (c, y) ∷ (d, z) ∷ []) ≡ None → (b ≡ false) × (d ≡ false)
+passed : {X : Type 0} (a b c d : Bool) (w x y z : X) → first_of ((a, w) ∷ (b, x) ∷ (c, y) ∷ (d, z) ∷ []) ≡ None → (a ≡ false) × (b ≡ false) × (d ≡ false)
 passed true b c d w x y z h = absurd (cc)
 passed false true c d w x y z h = absurd (cc)
 passed false false true d w x y z h = absurd (cc)
 passed false false false true w x y z h = absurd (cc)
-passed false false false false w x y z h = (refl, refl)
+passed false false false false w x y z h = (refl, refl, refl)
 
 so_true : (b : Bool) → not b ≡ false → b ≡ true
 so_true true h = refl
 so_true false h = absurd (cc)
 
--- an accepted claim has its leaf, and comes to the root
-pub accepted : (root key : List ℕ) (claim : Option (List ℕ)) (proof : Proof) → refusal root key claim proof ≡ None → (is_wrong_leaf key claim proof.leaf ≡ false) × (proof_root key proof ≡ root)
+-- an accepted claim has at most 256 siblings and its leaf, and comes to the root
+pub record IsAccepted (root key : List ℕ) (claim : Option (List ℕ)) (proof : Proof) : Type 0 where
+  pub short : length proof.siblings ≤ 256
+  pub own_leaf : is_wrong_leaf key claim proof.leaf ≡ false
+  pub top : proof_root key proof ≡ root
+
+pub accepted : (root key : List ℕ) (claim : Option (List ℕ)) (proof : Proof) → refusal root key claim proof ≡ None → IsAccepted root key claim proof
 unfolding refusal
 accepted root key claim proof h =
-    let checks = passed _ (is_wrong_leaf key claim proof.leaf) _ (not (bytes_eq (proof_root key proof) root)) _ _ _ _ h in
-    (checks.0, (bytes_eq-Decides _ _).0 (so_true _ checks.1))
+    let checks = passed (nat_lt 256 (length proof.siblings)) (is_wrong_leaf key claim proof.leaf) _ (not (bytes_eq (proof_root key proof) root)) _ _ _ _ h in
+    let short : nat_lt 256 (length proof.siblings) ≡ false = checks.0 in
+    record { short = grind (arith, nat_tests); own_leaf = checks.1; top = (bytes_eq-Decides _ _).0 (so_true _ checks.2) }
 
 as_rise : (key hash : List ℕ) (ss : List (List ℕ)) → climb key hash ss ≡ rise 0 key hash (reverse ss)
 as_rise key hash ss = climb-climb_to key hash ss ∙ ap (climb_to 0 key hash) (sym (reverse-reverse ss)) ∙ turned_rise 0 key hash (reverse ss)
@@ -199,9 +207,9 @@ clash-collides root key c c' p p' sound sound' ok ok' differ =
     let first = accepted root key c p ok in
     let second = accepted root key c' p' ok' in
     let same : rise 0 key (start_of p.leaf) (reverse p.siblings) ≡ rise 0 key (start_of p'.leaf) (reverse p'.siblings) =
-    sym (as_rise key (start_of p.leaf) p.siblings) ∙ first.1 ∙ sym second.1 ∙ as_rise key (start_of p'.leaf) p'.siblings in
+    sym (as_rise key (start_of p.leaf) p.siblings) ∙ first.top ∙ sym second.top ∙ as_rise key (start_of p'.leaf) p'.siblings in
     rw (as_rise_inputs key (start_of p.leaf) p.siblings, as_rise_inputs key (start_of p'.leaf) p'.siblings)
-    (walk 0 key c c' p.leaf p'.leaf (reverse p.siblings) (reverse p'.siblings) sound sound' first.0 second.0 differ same)
+    (walk 0 key c c' p.leaf p'.leaf (reverse p.siblings) (reverse p'.siblings) sound sound' first.own_leaf second.own_leaf differ same)
 
 -- an accepted claim that isn't the map's gives a collision with what the map's honest proof hashes
 pub clash-honest : (m : Map) (key : List ℕ) (c : Option (List ℕ)) (p : Proof) → IsMap m → IsLeaf p.leaf
