@@ -1,6 +1,6 @@
 -- Lines of siblings that are written one by one.
-use Rattle.std.proofs.Common.{◌≡◌, ℕ, ◌+◌, ◌<◌, Option, List, [], ◌∷◌, ◌++◌, length, take, get_or, flat_map, codes, refl, sym, ap, ◌∙◌}
-use Rattle.std.proofs.lemmas.List.{take_more, append-nil, append_assoc, flat_map_more}
+use Rattle.std.proofs.Common.{◌≡◌, ℕ, ◌+◌, ◌<◌, Option, List, [], ◌∷◌, ◌++◌, length, take, get_or, codes}
+use Rattle.std.proofs.lemmas.List.{take_more, append_assoc, flat_map_more}
 use Rattle.hex.specs.Hex.{encode_lower}
 use Rattle.jf_script.specs.Words.{line_text}
 use Rattle.jf_evidence.specs.declared.proof.Proof.{Proof}

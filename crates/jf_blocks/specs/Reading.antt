@@ -1,5 +1,5 @@
 -- Single lines and proof blocks as they are read.
-use Rattle.std.specs.Prelude.{ℕ, zero, suc, ◌+◌, Bool, if◌then◌else◌, ◌&&◌, is_some, List, [], ◌∷◌, Option, Some, None, Result, Ok, Err, option_map, option_and_then, codes}
+use Rattle.std.specs.Prelude.{ℕ, zero, suc, ◌+◌, if◌then◌else◌, ◌&&◌, is_some, List, [], ◌∷◌, Option, Some, None, Result, Ok, Err, option_map, option_and_then, codes}
 use Rattle.jf_evidence.specs.declared.proof.Proof.{Proof}
 use Rattle.jf_script.specs.Words.{words, is_word, is_long, both, number, number_upto, name_of, hash_of, value_of}
 use Rattle.jf_blocks.specs.declared.first.FirstLine.{FirstLine}

@@ -56,7 +56,11 @@ pub fn leaf_line(line: &[u8]) -> Option<Option<(Key, Hash)>>
         return None;
     }
     if let Some(word) = word_after(b"leaf", line) {
-        return if is_word(word, b"none") { Some(None) } else { None };
+        return if is_word(word, b"none") {
+            Some(None)
+        } else {
+            None
+        };
     }
     let (key, hash) = two_after(b"leaf", line)?;
     let leaf = pair_of(key, hash)?;

@@ -79,8 +79,8 @@ fn write_sides(siblings: &[Hash], out: &mut Bytes) -> Result<(), Memory>
     ensures ok { OnOk result (out.new ≡ out.old ++ side_lines siblings.now) }
     ensures err { OnErr result (Extends out.old out.new) }
 {
-    for sibling in siblings {
-        write_hex_line(b"side ", sibling, out)?;
+    for i in 0..siblings.len() {
+        write_hex_line(b"side ", &siblings[i], out)?;
     }
     Ok(())
 }

@@ -1,4 +1,4 @@
-use Rattle.std.proofs.Common.{◌≡◌, Some, take, take_all, length, length-set, sym, ap, ◌∙◌, refl, arith}
+use Rattle.std.proofs.Common.{◌≡◌, Some, take, take_all, length-set, sym, ap, ◌∙◌, refl, arith}
 use Rattle.jf_script.specs.Words.{unhex}
 use Rattle.jf_script.proofs.HexText.{unhex-bad, unhex-all}
 use Rattle.jf_blocks.proofs.HexText.{hash_of-other, behind-none, behind-more, hash_of-bytes, hash_of-none}
