@@ -1,6 +1,6 @@
 -- An input that is judged as a whole is answered as line by line.
 use Rattle.std.proofs.Common.{◌≡◌, ℕ, zero, suc, ◌+◌, ◌-◌, ◌≤◌, ◌==◌, Bool, true, false, cond, List, [], ◌∷◌, ◌++◌, length, drop, length-drop, Option, Some, None, Ok, Err, refl, sym, ap, ◌∙◌, arith}
-use Rattle.std.proofs.lemmas.List.{append_assoc, append-nil, drop-drop}
+use Rattle.std.proofs.lemmas.List.{append_assoc, append-nil, drop-drop, drop_all}
 use Rattle.std.proofs.lemmas.Bool.Decides.{nat_tests}
 use Rattle.jf_hash.specs.Hashes.{K}
 use Rattle.jf_evidence.specs.declared.proof.Proof.{Proof}
@@ -161,3 +161,11 @@ verdicts_from-rest (suc n) j at (line ∷ ls) few = first_goes n (verdicts_from-
 pub verdicts-rest : VerdictsComeLineByLine
 unfolding verdicts
 verdicts-rest input = verdicts_from-rest (length (lines input)) nothing_known 1 (lines input) (omega arith)
+
+-- behind the last line all is said
+pub all_read : (before written text : List ℕ) (start : ℕ) (s : State) → length text ≤ start → written ++ rest s (lines (drop start text)) ≡ before ++ rest begun (lines text)
+    → written ++ rest s [] ≡ before ++ verdicts text
+unfolding lines
+all_read before written text start s past so_far =
+    let none : [] ≡ drop start text = sym (drop_all start text past) in
+    ap (λ t. written ++ rest s (lines t)) none ∙ so_far ∙ ap (λ t. before ++ t) (sym (verdicts-rest text))
