@@ -160,3 +160,14 @@ fn two_keys_part_at_their_last_nibble(rt: HostRuntime) -> Result<(), Fail> {
     assert!(rt; link.get(&NEAR).is_none());
     Ok(())
 }
+
+fn passes_between_threads<T: Send + Sync>() {}
+
+#[test]
+fn links_and_what_holds_them_pass_between_threads(_rt: HostRuntime) -> Result<(), Fail> {
+    passes_between_threads::<Link>();
+    passes_between_threads::<Sixteen>();
+    passes_between_threads::<Snapshot>();
+    passes_between_threads::<Update>();
+    Ok(())
+}
