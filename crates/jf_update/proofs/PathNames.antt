@@ -3,6 +3,8 @@ use Rattle.std.proofs.Common.{◌≡◌, ℕ, ◌-◌, true, false, inl, inr, Li
 use Rattle.std.specs.FinMap as fin
 use Rattle.std.specs.FinMap.{is_sorted}
 use Rattle.std.specs.FinMap.Entries.{below_all}
+use Rattle.std.proofs.lemmas.Cmp.{nat_cmp_total}
+use Rattle.std.specs.Cmp.{tied_itself}
 use Rattle.std.specs.List.{IsDistinct, AllByRecursion}
 use Rattle.std.specs.Ordering.{eq_by_cmp, ordering_then}
 use Rattle.jf_path.specs.Keys.{key_cmp}
@@ -14,7 +16,6 @@ use Rattle.jf_hash.specs.Slots.{Part}
 use Rattle.jf_model.specs.Nodes.{Path, fresh}
 use Rattle.jf_landing.specs.FreshLaws.{with_root-fresh}
 use Rattle.jf_landing.specs.FreshOrder.{sorted-fresh}
-use Rattle.jf_landing.specs.Marks.{nat_tied}
 use Rattle.jf_landing.specs.SameParts.{some_entry, differs_or_same}
 use Rattle.jf_landing.specs.Walk.{listed, with_root}
 use Rattle.jf_landing.specs.WalkLaws.{listed-same, listed-gone, listed-with_root}
@@ -31,7 +32,7 @@ with_root-sorted old new f a b =
 -- ---- names of one version rise as their paths do
 
 less_names : (version : ℕ) (p q : Path) → key_cmp p q ≡ Less → is_lt (name_cmp (name_at version p) (name_at version q)) ≡ true
-less_names version p q lt = ap (λ r. is_lt (ordering_then r (key_cmp p q))) (nat_tied version) ∙ ap is_lt lt
+less_names version p q lt = ap (λ r. is_lt (ordering_then r (key_cmp p q))) (tied_itself nat_cmp_total version) ∙ ap is_lt lt
 
 rise_paths : (version : ℕ) (f : Path → NodeName × PlainNode) → ((p : Path) → (f p).0 ≡ name_at version p) → (xs : List (Path × Part)) → T (is_sorted key_cmp xs) → IsTrue (rise (map (λ (e : NodeName × PlainNode). e.0) (map (λ (x : Path × Part). f x.0) xs)))
 rise_paths version f same [] sorted = refl

@@ -2,6 +2,7 @@
 ghost use Rattle.std.specs.Prelude.{◌≡◌, ◌≤◌, ◌++◌, true, false, IfOk, OnOk, T};
 ghost use Rattle.std.specs.FinMap.{is_sorted};
 ghost use Rattle.jf_path.specs.Keys.{key_cmp};
+ghost use Rattle.jf_hash.specs.Hashes.{V};
 ghost use Rattle.jf_model.specs.Changes.{applied};
 ghost use Rattle.jf_landing.specs.Puts.{puts, IsPlace, IsNamed};
 ghost use Rattle.jf_update.specs.Hashed.{plain, AreHashed, IsHashedOwn, own_entries};
@@ -10,6 +11,7 @@ ghost use Rattle.jf_update.specs.Outcomes.{AreParts, AreShort, IsFewOutcome};
 use crate::grow::build;
 use crate::outcome::Outcome;
 use crate::value::HashedValue;
+use jf_hash::Hash;
 use jf_path::{Bytes, Key, Memory};
 use std::alloc::Global;
 use std::cmp::Ordering;
@@ -36,11 +38,27 @@ fn is_named(key: &Key, batch: &[(Key, Option<Bytes>)]) -> bool
     }
 }
 
+/// The hash of a value, taken from the entry that was there where it has the same value.
+fn hash_of(own: Option<(&Key, HashedValue<'_>)>, bytes: &[u8]) -> Hash
+    requires { IsHashedOwn own }
+    ensures { result ≡ V bytes.now }
+{
+    if let Some((_, kept)) = own {
+        if kept.0 == bytes {
+            let hash = kept.1;
+            return hash;
+        }
+    }
+    jf_hash::value(bytes)
+}
+
 /// Appends what the batch puts.
 fn push_puts<'a>(
     entries: &mut Vec<(Key, HashedValue<'a>)>,
+    own: Option<(&Key, HashedValue<'_>)>,
     batch: &'a [(Key, Option<Bytes>)],
 ) -> Result<(), Memory>
+    requires own { IsHashedOwn own }
     requires short { AreShort batch.now }
     requires hashed { AreHashed entries.old.items }
     ensures entries { OnOk result (plain entries.new.items ≡ plain entries.old.items ++ puts batch.now) }
@@ -49,7 +67,7 @@ fn push_puts<'a>(
     for (key, value) in batch {
         if let Some(value) = value {
             let bytes = value.as_slice();
-            entries.push((*key, (bytes, jf_hash::value(bytes))))?;
+            entries.push((*key, (bytes, hash_of(own, bytes))))?;
         }
     }
     Ok(())
@@ -69,14 +87,14 @@ fn merged<'a>(
 {
     let mut entries = Vec::new(alloc);
     match own {
-        None => push_puts(&mut entries, batch)?,
+        None => push_puts(&mut entries, own, batch)?,
         Some((key, value)) => {
             let at = place_of(key, batch);
-            push_puts(&mut entries, &batch[..at])?;
+            push_puts(&mut entries, own, &batch[..at])?;
             if !is_named(key, &batch[at..]) {
                 entries.push((*key, value))?;
             }
-            push_puts(&mut entries, &batch[at..])?;
+            push_puts(&mut entries, own, &batch[at..])?;
         }
     }
     Ok(entries)

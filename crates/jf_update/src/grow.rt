@@ -50,6 +50,7 @@ pub(crate) fn collapse(
     match first_child(&children) {
         None => Ok(None),
         Some(child) => {
+            // One entry, and a depth of at most 64.
             child.know();
             old.know();
             let link = child.at(alloc, version, old.depth())?;

@@ -17,3 +17,6 @@ mod value;
 mod work;
 
 pub use next::update;
+
+#[cfg(test)]
+mod tests;

@@ -11,8 +11,8 @@ use std::alloc::Global;
 use std::thread::Threads;
 
 /// The version that a batch makes of `head`. Only nodes below which the batch changes something are made anew, and the
-/// top; every other node is shared with `head`. A value is hashed where the batch puts it, a node where it is new. For
-/// now `rt`, `workers` and `gate` are not used: the caller's thread does the work.
+/// top; every other node is shared with `head`. A value is hashed where the batch puts one that wasn't there, and a node
+/// where it is new. For now `rt`, `workers` and `gate` are not used: the caller's thread does the work.
 pub fn update<H: Threads + Sync, G: Gate>(
     rt: &H,
     alloc: Global,

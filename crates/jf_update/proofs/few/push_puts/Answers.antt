@@ -18,7 +18,7 @@ loop-key-preserved c = record {
   hashed = elim c.match-value.branch [
     | in-Some+in_ok-push w ↦ subst AreHashed (sym (ap (λ v. v.items) w.entries-is ∙ w.in_ok-push.ensures.items))
         (AreHashed-push c.loop-key.entries.items _ c.loop-key.invariant.hashed (
-          w.value.ensures,
+          w.hash_of.ensures,
           omega (arith, ap length w.as_slice-bytes.ensures, short_at c.args.batch.now c.loop-key.key-index c.loop-key-item.result w.in-Some.value c.requires.short (omega arith) c.loop-key-item.is w.in-Some.is),
         ))
     | in_default w ↦ subst AreHashed (sym (ap (λ v. v.items) w.entries-is)) c.loop-key.invariant.hashed
