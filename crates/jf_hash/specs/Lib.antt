@@ -7,4 +7,7 @@ pub mod Parts
 pub mod Roots
 pub mod RootLaws
 pub mod Slots
+pub mod Ranges
+pub mod SlotLaws
+pub mod RangeLaws
 pub mod Codes

@@ -3,10 +3,15 @@
 #![tactic(auto)]
 
 mod plain;
+mod range;
+mod ranges;
 mod slot;
+mod standing;
 mod tagged;
 
 pub use plain::plain_root;
+pub use range::sixteen;
+pub use ranges::Ranges;
 pub use slot::Slot;
 pub use tagged::{Hash, empty, inner, key_of, leaf, value};
 

@@ -1,0 +1,96 @@
+-- The hash of a range by what stands in it.
+use Rattle.std.specs.Prelude.{◌≡◌, ℕ, zero, suc, ◌+◌, ◌-◌, ◌%◌, ◌/◌, ◌^◌, ◌<◌, ◌≤◌, List, [], ◌∷◌, length, take, drop, slice_index_or}
+use Rattle.std.proofs.Common.{refl, sym, ap, ap₂, ◌∙◌, arith, pow-suc, length-take-le, length-drop}
+use Rattle.jf_hash.specs.Hashes.{E, N}
+use Rattle.jf_hash.specs.Slots.{Nothing, Alone, More, stand, stand_hash, place_hash, range_hash}
+use Rattle.jf_hash.specs.Ranges.{IsRange}
+use Rattle.jf_hash.specs.RangeLaws.{some_power, fits_all}
+use Rattle.jf_hash.specs.declared.slot.Slot.{Slot}
+use Rattle.jf_hash.specs.declared.slot.Slot.TheVariants as slot
+
+-- without more than one leaf the range has no need of its halves
+pub range_hash-nothing : (level : ℕ) (slots : List Slot) → Nothing ≡ stand slots → E ≡ range_hash level slots
+unfolding range_hash
+range_hash-nothing zero slots is = ap (λ s. stand_hash s (place_hash slots)) is
+range_hash-nothing (suc level) slots is = ap (λ s. stand_hash s (N (range_hash level (take (2 ^ level) slots)) (range_hash level (drop (2 ^ level) slots)))) is
+
+pub range_hash-alone : (level : ℕ) (slots : List Slot) (hash : List ℕ) → Alone hash ≡ stand slots → hash ≡ range_hash level slots
+unfolding range_hash
+range_hash-alone zero slots hash is = ap (λ s. stand_hash s (place_hash slots)) is
+range_hash-alone (suc level) slots hash is = ap (λ s. stand_hash s (N (range_hash level (take (2 ^ level) slots)) (range_hash level (drop (2 ^ level) slots)))) is
+
+-- a range of one place
+pub range_hash-one : (level : ℕ) (slots : List Slot) (d : Slot) → More ≡ stand slots → length slots ≡ 1 → length slots ≡ 2 ^ level → level ≤ 4 → place_hash (slice_index_or slots 0 d ∷ []) ≡ range_hash level slots
+unfolding range_hash
+range_hash-one zero [] d is one long small = absurd (omega arith)
+range_hash-one zero (place ∷ []) d is one long small = ap (λ s. stand_hash s (place_hash (place ∷ []))) is
+range_hash-one zero (place ∷ other ∷ slots) d is one long small = absurd (omega arith)
+range_hash-one (suc zero) slots d is one long small = absurd (omega arith)
+range_hash-one (suc (suc zero)) slots d is one long small = absurd (omega arith)
+range_hash-one (suc (suc (suc zero))) slots d is one long small = absurd (omega arith)
+range_hash-one (suc (suc (suc (suc zero)))) slots d is one long small = absurd (omega arith)
+range_hash-one (suc (suc (suc (suc (suc n))))) slots d is one long small = absurd (omega arith)
+
+-- half of a range of two places or more
+pub record IsHalf (level half : ℕ) : Type 0 where
+  pub is : half ≡ 2 ^ (level - 1)
+  pub twice : 2 ^ level ≡ half + half
+  pub some : 1 ≤ half
+
+pub halves : (level n : ℕ) → level ≤ 4 → 0 < level → n ≡ 2 ^ level → IsHalf level (n / 2)
+halves zero n small some is = absurd (omega arith)
+halves (suc zero) n small some is = record { is = omega arith; twice = omega arith; some = omega arith }
+halves (suc (suc zero)) n small some is = record { is = omega arith; twice = omega arith; some = omega arith }
+halves (suc (suc (suc zero))) n small some is = record { is = omega arith; twice = omega arith; some = omega arith }
+halves (suc (suc (suc (suc zero)))) n small some is = record { is = omega arith; twice = omega arith; some = omega arith }
+halves (suc (suc (suc (suc (suc n))))) m small some is = absurd (omega arith)
+
+-- the hash of a range by those of its halves
+pub range_hash-halves : (level half : ℕ) (slots : List Slot) → 0 < level → half ≡ 2 ^ (level - 1)
+    → stand_hash (stand slots) (N (range_hash (level - 1) (take half slots)) (range_hash (level - 1) (drop half slots))) ≡ range_hash level slots
+unfolding range_hash
+range_hash-halves zero half slots some is = absurd (omega arith)
+range_hash-halves (suc level) half slots some is =
+    let e : suc level - 1 ≡ level = omega arith in
+    let h : half ≡ 2 ^ level = is ∙ ap (λ k. 2 ^ k) e in
+    ap₂ (λ k n. stand_hash (stand slots) (N (range_hash k (take n slots)) (range_hash k (drop n slots)))) e h
+
+-- a range that isn't one place has halves
+pub not_one : (level n : ℕ) → n ≡ 2 ^ level → ¬ (n ≡ 1) → 0 < level
+not_one zero n is other = absurd (other is)
+not_one (suc level) n is other = omega arith
+
+small_level : (level : ℕ) → 2 ^ level ≤ 16 → level ≤ 4
+small_level zero h = omega arith
+small_level (suc zero) h = omega arith
+small_level (suc (suc zero)) h = omega arith
+small_level (suc (suc (suc zero))) h = omega arith
+small_level (suc (suc (suc (suc zero)))) h = omega arith
+small_level (suc (suc (suc (suc (suc n))))) h =
+    absurd (omega (arith, some_power n, pow-suc 2 n, pow-suc 2 (suc n), pow-suc 2 (suc (suc n)), pow-suc 2 (suc (suc (suc n))), pow-suc 2 (suc (suc (suc (suc n))))))
+
+-- a range lies within the sixteen places
+pub range_within : (start width : ℕ) → IsRange start width → start + width ≤ 16
+range_within start width range =
+    omega (arith, range.wide, fits_all range.level start range.small (sym (ap (λ w. start % w) range.wide) ∙ range.aligned) range.within)
+
+-- so its level is at most 4
+pub range_level : (start width level : ℕ) → IsRange start width → width ≡ 2 ^ level → level ≤ 4
+range_level start width level range is = small_level level (omega (arith, is, range_within start width range))
+
+pub length-places : {X : Type 0} (start width : ℕ) (xs : List X) → length xs ≡ 16 → start + width ≤ 16 → length (take width (drop start xs)) ≡ width
+length-places start width xs long within = length-take-le width (drop start xs) (omega (arith, length-drop start xs))
+
+-- the hash at a place is that of a range of this place alone
+pub hash_at-one : (level : ℕ) (slots : List Slot) (d : Slot) → length slots ≡ 1 → 2 ^ level ≡ 1 → level ≤ 4 → place_hash (slice_index_or slots 0 d ∷ []) ≡ range_hash level slots
+unfolding range_hash
+hash_at-one zero [] d one level small = absurd (omega arith)
+hash_at-one zero (slot.Absent ∷ []) d one level small = refl
+hash_at-one zero (slot.Leaf hash ∷ []) d one level small = refl
+hash_at-one zero (slot.Inner hash ∷ []) d one level small = refl
+hash_at-one zero (place ∷ other ∷ slots) d one level small = absurd (omega arith)
+hash_at-one (suc zero) slots d one level small = absurd (omega arith)
+hash_at-one (suc (suc zero)) slots d one level small = absurd (omega arith)
+hash_at-one (suc (suc (suc zero))) slots d one level small = absurd (omega arith)
+hash_at-one (suc (suc (suc (suc zero)))) slots d one level small = absurd (omega arith)
+hash_at-one (suc (suc (suc (suc (suc n))))) slots d one level small = absurd (omega arith)

@@ -1,0 +1,47 @@
+// The hash of a range of the sixteen places of a node.
+ghost use Rattle.std.specs.Prelude.{◌≡◌, ℕ, ◌*◌, ◌^◌, ◌<◌, ◌≤◌, [], ◌∷◌, length, take, drop};
+ghost use Rattle.jf_hash.specs.Roots.{part_root};
+ghost use Rattle.jf_hash.specs.Slots.{Part, slots_of, place_hash, range_hash};
+ghost use Rattle.jf_hash.specs.Ranges.{IsRange};
+
+use crate::slot::Slot;
+use crate::standing::Standing;
+use crate::tagged::{Hash, empty, inner};
+
+// The hash of what stands at one place.
+pub fn hash_at(place: &Slot) -> Hash
+    ensures { result ≡ place_hash (place.now ∷ []) }
+{
+    match place {
+        Slot::Absent => empty(),
+        Slot::Leaf(hash) | Slot::Inner(hash) => *hash,
+    }
+}
+
+// The hash of all places of a range.
+fn hash_of(places: &[Slot]) -> Hash
+    ensures { (level : ℕ) → level ≤ 4 → length places.now ≡ 2 ^ level → result ≡ range_hash level places.now }
+{
+    match Standing::of(places) {
+        Standing::Nothing => empty(),
+        Standing::Alone(hash) => hash,
+        Standing::More => {
+            if places.len() == 1 {
+                return hash_at(&places[0]);
+            }
+            let (left, right) = places.split_at(places.len() / 2);
+            inner(&hash_of(left), &hash_of(right))
+        }
+    }
+}
+
+/// The hash of the range of `width` places from place `start` on of a node: that of no entry where no child stands
+/// there, that of a leaf which is alone there, that of an internal node which has the range to itself where it is one
+/// place, and else that of the pair of its halves. Of all sixteen places it is the hash of the node.
+pub fn sixteen(children: &[Slot; 16], start: usize, width: usize) -> Hash
+    requires range { IsRange start width }
+    ensures value { (level : ℕ) → width ≡ 2 ^ level → result ≡ range_hash level (take width (drop start children.now)) }
+    ensures root { (d : ℕ) (es : Part) → d < 64 → children.now ≡ slots_of d es → start ≡ 0 → width ≡ 16 → result ≡ part_root (4 * d) es }
+{
+    hash_of(&children[start..start + width])
+}

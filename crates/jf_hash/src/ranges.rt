@@ -1,0 +1,132 @@
+// The hashes of the ranges of a node's places, kept so that a change hashes few of them again.
+ghost use Rattle.std.specs.Prelude.{◌≡◌, ℕ, ◌+◌, ◌-◌, ◌*◌, ◌^◌, ◌<◌, ◌≤◌, false, [], List, length, take, drop, slice_index_or};
+ghost use Rattle.std.specs.List.{AllByRecursion};
+ghost use Rattle.jf_hash.specs.Hashes.{E, N};
+ghost use Rattle.jf_hash.specs.Roots.{part_root};
+ghost use Rattle.jf_hash.specs.Slots.{Part, slots_of, stand, stand_hash, range_hash};
+ghost use Rattle.jf_hash.specs.Ranges.{Agree, IsRange, in_range, hashes_within, range_hashes, range_index};
+ghost use Rattle.jf_hash.specs.declared.slot.Slot.{Slot};
+
+use crate::range::hash_at;
+use crate::slot::Slot;
+use crate::standing::Standing;
+use crate::tagged::{Hash, empty, inner};
+use std::marker::Model;
+
+/// The hashes of the fifteen ranges of two places or more of a node, each behind those of its halves.
+#[derive(Clone, Copy, Debug)]
+pub struct Ranges {
+    hashes: [Hash; 15],
+}
+
+impl Model for Ranges {
+    ghost use Rattle.std.specs.Prelude.{List, ℕ};
+    ghost use Rattle.std.proofs.Common.{refl};
+
+    ghost Value = { List (List ℕ) };
+
+    ghost view = { λ r. r.hashes };
+
+    ghost inverse = { λ hashes. record { hashes = hashes } };
+
+    ghost inverse_ok = { λ r h. refl };
+}
+
+// Whether a place is marked.
+fn any_marked(changed: &[bool]) -> bool
+    ensures { result ≡ false → AllByRecursion (λ mark. mark ≡ false) changed.now }
+{
+    for mark in changed {
+        if *mark {
+            return true;
+        }
+    }
+    false
+}
+
+// The hash of a range by those of its halves, which are hashed as a pair only where more than a leaf stands there.
+fn hash_over(places: &[Slot], left: &Hash, right: &Hash, none: &Hash) -> Hash
+    requires { none.now ≡ E }
+    ensures { result ≡ stand_hash (stand places.now) (N left.now right.now) }
+{
+    match Standing::of(places) {
+        Standing::Nothing => *none,
+        Standing::Alone(hash) => hash,
+        Standing::More => inner(left, right),
+    }
+}
+
+// Makes the hashes of the ranges within a range those of its places as they are now, of which the marked ones changed,
+// and gives the hash of the whole.
+fn refresh(places: &[Slot], changed: &[bool], hashes: &mut [Hash], none: &Hash) -> Hash
+    requires marks { length changed.now ≡ length places.now }
+    requires room { length hashes.old + 1 ≡ length places.now }
+    requires none { none.now ≡ E }
+    ensures { (level : ℕ) (olds : List Slot) → level ≤ 4 → length places.now ≡ 2 ^ level → hashes.old ≡ hashes_within level olds → Agree olds changed.now places.now → (result ≡ range_hash level places.now) × (hashes.new ≡ hashes_within level places.now) }
+{
+    if places.len() == 1 {
+        return hash_at(&places[0]);
+    }
+    let last = hashes.len() - 1;
+    if !any_marked(changed) {
+        return hashes[last];
+    }
+    let half = places.len() / 2;
+    let left = refresh(
+        &places[..half],
+        &changed[..half],
+        &mut hashes[..half - 1],
+        none,
+    );
+    let right = refresh(
+        &places[half..],
+        &changed[half..],
+        &mut hashes[half - 1..last],
+        none,
+    );
+    hashes[last] = hash_over(places, &left, &right, none);
+    hashes[last]
+}
+
+impl Ranges {
+    /// The hashes of the ranges of these places.
+    pub fn of(slots: &[Slot; 16]) -> Ranges
+        ensures { result ≡ range_hashes slots.now }
+    {
+        let none = empty();
+        let mut hashes = [none; 15];
+        refresh(slots, &[true; 16], &mut hashes, &none);
+        Ranges { hashes }
+    }
+
+    /// The hashes of the ranges of these places, of which only the marked ones are not as they were. Only ranges with a
+    /// marked place are hashed again, and of these only those where more than a leaf stands.
+    pub fn updated(&self, slots: &[Slot; 16], changed: &[bool; 16]) -> Ranges
+        ensures { (olds : List Slot) → self.now ≡ range_hashes olds → Agree olds changed.now slots.now → result ≡ range_hashes slots.now }
+    {
+        let none = empty();
+        let mut hashes = self.hashes;
+        refresh(slots, changed, &mut hashes, &none);
+        Ranges { hashes }
+    }
+
+    /// The hash of the range of `width` places, two or more, from place `start` on.
+    pub fn hash(&self, start: usize, width: usize) -> Hash
+        requires range { IsRange start width }
+        requires wide { 2 ≤ width }
+        ensures entry { result ≡ slice_index_or self.now (range_index start width) [] }
+        ensures value { (slots : List Slot) (level : ℕ) → length slots ≡ 16 → self.now ≡ range_hashes slots → width ≡ 2 ^ level → result ≡ range_hash level (take width (drop start slots)) }
+        ensures root { (d : ℕ) (es : Part) (level : ℕ) → d < 64 → self.now ≡ range_hashes (slots_of d es) → width ≡ 2 ^ level → result ≡ part_root (4 * d + (4 - level)) (in_range d start width es) }
+    {
+        self.hashes[start / 2 + start / 4 + start / 8 + (width - 2)]
+    }
+
+    /// The hash of all places, which is that of the node.
+    pub fn top(&self) -> Hash
+        ensures entry { result ≡ slice_index_or self.now 14 [] }
+        ensures value { (slots : List Slot) → self.now ≡ range_hashes slots → result ≡ range_hash 4 slots }
+        ensures root { (d : ℕ) (es : Part) → d < 64 → self.now ≡ range_hashes (slots_of d es) → result ≡ part_root (4 * d) es }
+    {
+        self.hashes[14]
+    }
+}
