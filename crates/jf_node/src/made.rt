@@ -1,6 +1,6 @@
 // How links are made.
 ghost use Rattle.std.specs.Prelude.{◌≡◌, ◌<◌, ◌≤◌, length, IfOk};
-ghost use Rattle.jf_hash.specs.Hashes.{V};
+ghost use Rattle.jf_hash.specs.Hashes.{L, V};
 ghost use Rattle.jf_hash.specs.Ranges.{range_hashes};
 ghost use Rattle.jf_hash.specs.Slots.{slots_of};
 ghost use Rattle.jf_node.specs.Children.{joined, FitFrom, AreChildren, SameElsewhere, leaf_value, inner_value, moved_value, renewed_value};
@@ -36,6 +36,26 @@ impl Link {
         requires hashed { value_hash.now ≡ V value.now }
         ensures { IfOk result (λ x. x ≡ leaf_value version depth key.now value.now) }
     {
+        let hash = jf_hash::leaf(key, value_hash);
+        Link::hashed_leaf(alloc, version, depth, key, value, value_hash, hash)
+    }
+
+    // A leaf, of which the hash is given too.
+    fn hashed_leaf(
+        alloc: Global,
+        version: u64,
+        depth: u64,
+        key: &Key,
+        value: &[u8],
+        value_hash: &Hash,
+        hash: Hash,
+    ) -> Result<Link, Memory>
+        requires depth { depth ≤ 64 }
+        requires short { length value.now ≤ 4096 }
+        requires hashed { value_hash.now ≡ V value.now }
+        requires hash { hash ≡ L key.now value_hash.now }
+        ensures { IfOk result (λ x. x ≡ leaf_value version depth key.now value.now) }
+    {
         know_key(key);
         know_bytes(value);
         let value = Bytes::copy_of(alloc, value)?;
@@ -45,7 +65,7 @@ impl Link {
                 version,
                 depth,
                 count: 1,
-                hash: jf_hash::leaf(key, value_hash),
+                hash,
                 form: Form::Leaf {
                     key: *key,
                     value,
@@ -133,7 +153,7 @@ impl Link {
                 key,
                 value,
                 value_hash,
-            } => Link::leaf(alloc, version, depth, key, value, value_hash),
+            } => { Link::hashed_leaf(alloc, version, depth, key, value, value_hash, self.hash()) }
             Seen::Inner { .. } => unreachable!(),
         }
     }
