@@ -1,5 +1,6 @@
 // The hash of a range of the sixteen places of a node.
 ghost use Rattle.std.specs.Prelude.{◌≡◌, ℕ, ◌*◌, ◌^◌, ◌<◌, ◌≤◌, [], ◌∷◌, length, take, drop};
+ghost use Rattle.jf_hash.specs.Hashes.{E};
 ghost use Rattle.jf_hash.specs.Roots.{part_root};
 ghost use Rattle.jf_hash.specs.Slots.{Part, slots_of, place_hash, range_hash};
 ghost use Rattle.jf_hash.specs.Ranges.{IsRange};
@@ -8,12 +9,13 @@ use crate::slot::Slot;
 use crate::standing::Standing;
 use crate::tagged::{Hash, empty, inner};
 
-// The hash of what stands at one place.
-pub fn hash_at(place: &Slot) -> Hash
+// The hash of what stands at one place, where that of no entry is given.
+pub fn hash_at(place: &Slot, none: &Hash) -> Hash
+    requires { none.now ≡ E }
     ensures { result ≡ place_hash (place.now ∷ []) }
 {
     match place {
-        Slot::Absent => empty(),
+        Slot::Absent => *none,
         Slot::Leaf(hash) | Slot::Inner(hash) => *hash,
     }
 }
@@ -27,7 +29,7 @@ fn hash_of(places: &[Slot]) -> Hash
         Standing::Alone(hash) => hash,
         Standing::More => {
             if places.len() == 1 {
-                return hash_at(&places[0]);
+                return hash_at(&places[0], &empty());
             }
             let (left, right) = places.split_at(places.len() / 2);
             inner(&hash_of(left), &hash_of(right))

@@ -1,5 +1,5 @@
 // The hashes of the ranges of a node's places, kept so that a change hashes few of them again.
-ghost use Rattle.std.specs.Prelude.{◌≡◌, ℕ, ◌+◌, ◌-◌, ◌*◌, ◌^◌, ◌<◌, ◌≤◌, cond, [], List, length, take, drop, slice_index_or};
+ghost use Rattle.std.specs.Prelude.{◌≡◌, ℕ, ◌+◌, ◌-◌, ◌*◌, ◌^◌, ◌<◌, ◌≤◌, cond, true, [], List, length, replicate, take, drop, slice_index_or};
 ghost use Rattle.std.specs.List.{count_by};
 ghost use Rattle.jf_hash.specs.Hashes.{E, N};
 ghost use Rattle.jf_hash.specs.Roots.{part_root};
@@ -67,7 +67,7 @@ fn refresh(places: &[Slot], changed: &[bool], hashes: &mut [Hash], none: &Hash) 
     ensures once { result.1 ≤ length hashes.old }
 {
     if places.len() == 1 {
-        return (hash_at(&places[0]), 0);
+        return (hash_at(&places[0], none), 0);
     }
     let last = hashes.len() - 1;
     if !any_marked(changed) {
@@ -96,10 +96,18 @@ impl Ranges {
     pub fn of(slots: &[Slot; 16]) -> Ranges
         ensures { result ≡ range_hashes slots.now }
     {
+        Ranges::of_counted(slots).0
+    }
+
+    /// The same, and the number of pairs that were hashed, one for each range where more than a leaf stands.
+    pub fn of_counted(slots: &[Slot; 16]) -> (Ranges, u64)
+        ensures value { result.0 ≡ range_hashes slots.now }
+        ensures pairs { result.1 ≡ pairs_within 4 slots.now (replicate 16 true) }
+    {
         let none = empty();
         let mut hashes = [none; 15];
-        refresh(slots, &[true; 16], &mut hashes, &none);
-        Ranges { hashes }
+        let (_, pairs) = refresh(slots, &[true; 16], &mut hashes, &none);
+        (Ranges { hashes }, pairs)
     }
 
     /// The hashes of the ranges of these places, of which only the marked ones are not as they were. Only ranges with a

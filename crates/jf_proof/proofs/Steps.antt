@@ -6,6 +6,7 @@ use Rattle.jf_path.specs.Nibbles.{nibble}
 use Rattle.jf_path.specs.NibbleLaws.{nibble-small}
 use Rattle.jf_hash.specs.Roots.{Leaf, leaf_of, zeros, ones, leaves_root, part_root}
 use Rattle.jf_hash.specs.Slots.{Part}
+use Rattle.jf_hash.specs.RangeLaws.{IsRange-of_level}
 use Rattle.jf_hash.specs.Ranges.{IsRange, in_range}
 use Rattle.jf_hash.specs.SlotLaws.{zeros-in_range, ones-in_range}
 use Rattle.jf_evidence.specs.Proofs.{near, far, alone, under_root, honest_from}
@@ -118,8 +119,8 @@ positive (suc (suc (suc zero))) small = (omega arith, refl)
 positive (suc (suc (suc (suc level)))) small = absurd (omega arith)
 
 half_range : (level n : ℕ) (b : Bool) → level < 4 → n < 16 → IsRange (cond b (n / 2 ^ suc level * 2 ^ suc level) (n / 2 ^ suc level * 2 ^ suc level + 2 ^ level)) (2 ^ level)
-half_range level n true small low = record { level = level; small = omega arith; wide = refl; aligned = lower_even level n small; within = omega (arith, whole_within level n small low, (positive level small).0, (positive level small).1) }
-half_range level n false small low = record { level = level; small = omega arith; wide = refl; aligned = upper_even level n small; within = omega (arith, whole_within level n small low, (positive level small).0, (positive level small).1) }
+half_range level n true small low = IsRange-of_level level _ (omega arith) (lower_even level n small) (omega (arith, whole_within level n small low, (positive level small).0, (positive level small).1))
+half_range level n false small low = IsRange-of_level level _ (omega arith) (upper_even level n small) (omega (arith, whole_within level n small low, (positive level small).0, (positive level small).1))
 
 pub beside_range : (level d : ℕ) (key : List ℕ) → level < 4 → IsRange (range_beside level d key) (2 ^ level)
 beside_range level d key small =
