@@ -1,4 +1,5 @@
 pub mod Finding
+pub mod Listed
 pub mod Turns
 pub mod Feeds
 pub mod Bounds

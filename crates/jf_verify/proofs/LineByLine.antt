@@ -8,10 +8,11 @@ use Rattle.jf_script.specs.Words.{lines}
 use Rattle.jf_blocks.specs.Reading.{Place, Read, Block, and_then, gives, matched, line_read, line_by, lines_by, first_of, named_of, claim_of, leaf_of, side_of, proof_block}
 use Rattle.jf_blocks.specs.declared.first.FirstLine.{FirstLine}
 use Rattle.jf_blocks.specs.declared.first.FirstLine.TheVariants as first
+use Rattle.jf_verify.specs.declared.stage.Heading.{Heading}
 use Rattle.jf_verify.specs.declared.stage.Stage.{Stage}
 use Rattle.jf_verify.specs.declared.stage.Stage.TheVariants as stage
 use Rattle.jf_verify.specs.Verdicts.{Judging, Said, wrong_at, say_block, say, syntax_text, verdicts_from, verdicts, nothing_known}
-use Rattle.jf_verify.specs.Steps.{State, Step, wrong, silent, whole, sided, begins, first_step, name_step, claim_step, leaf_step, side_step, line_step, end_text, rest, begun}
+use Rattle.jf_verify.specs.Steps.{State, Step, keeps, no_match, silent, whole, sided, begins, first_step, name_turn, claim_turn, leaf_step, side_step, line_step, end_text, rest, begun}
 use Rattle.jf_verify.specs.Laws.{VerdictsComeLineByLine}
 use Rattle.jf_verify.proofs.Bounds.{Bounded, proof_block-bounded}
 
@@ -43,7 +44,7 @@ left_behind p at ls k e is = let n : at + 1 - p.at ≡ k + 1 = omega arith in ap
 
 -- ---- a line that doesn't match
 
-wrong_goes_on : (j : Judging) (p : Place) (at : ℕ) (line : List ℕ) (ls : List (List ℕ)) → Follows p at (line ∷ ls) → goes_from (wrong_at at j p) ≡ goes (wrong at j) at ls
+wrong_goes_on : (j : Judging) (p : Place) (at : ℕ) (line : List ℕ) (ls : List (List ℕ)) → Follows p at (line ∷ ls) → goes_from (wrong_at at j p) ≡ goes (keeps j (no_match at)) at ls
 wrong_goes_on j p at line ls h =
     let same : drop (at + 1 - p.at) p.left ≡ ls = left_behind p at ls h.0 h.1 (behind_one h.0 p.left line ls h.2) in
     ap (λ xs. syntax_text at ++ rest (record { at = at + 1; known = j; stage = stage.Between }) xs) same
@@ -58,7 +59,7 @@ wrong_ends j p at h =
 -- ---- one line of a block
 
 by_line : {X : Type 0} (f : List (List ℕ) → Option X) (more : X → Place → Read Block) (step : Option X → Step) (s : Stage) (root : List ℕ) (j : Judging) (p : Place) (at : ℕ) (left : List (List ℕ))
-    → Follows p at left → end_text at s ≡ syntax_text at → ((line : List ℕ) → line_step at j s line ≡ step (line_read f line)) → step None ≡ wrong at j
+    → Follows p at left → end_text at s ≡ syntax_text at → ((line : List ℕ) → line_step at j s line ≡ step (line_read f line)) → step None ≡ keeps j (no_match at)
     → ((x : X) (ls : List (List ℕ)) → Follows p (at + 1) ls → goes (step (Some x)) at ls ≡ answered root j p (more x (record { at = at + 1; left = ls })))
     → rest (record { at = at; known = j; stage = s }) left ≡ answered root j p (and_then (line_by f (record { at = at; left = left })) more)
 unfolding rest
@@ -73,6 +74,10 @@ by_line f more step s root j p at (line ∷ ls) follows ends steps none some =
 -- ---- siblings
 
 module _ (root name : List ℕ) (claim : Option (List ℕ)) (leaf : Option (List ℕ × List ℕ)) (j : Judging) (p : Place) where
+  -- with this many siblings to come
+  abbrev heading_with : ℕ → Heading
+  heading_with n = record { root = root; missing = n }
+
   -- a block with these siblings
   abbrev block : List (List ℕ) → Judged
   block siblings = record { key = K name; claim = claim; proof = record { leaf = leaf; siblings = siblings } }
@@ -95,27 +100,28 @@ module _ (root name : List ℕ) (claim : Option (List ℕ)) (leaf : Option (List
   not_zero m = grind (arith, nat_tests)
 
   sides_read : (n : ℕ) (siblings : List (List ℕ)) (at : ℕ) (ls : List (List ℕ)) → Follows p (at + 1) ls
-      → goes (sided j root n (block siblings)) at ls ≡ answered root j p (and_then (lines_by side_of n (record { at = at + 1; left = ls })) (block_behind siblings))
+      → goes (sided j (heading_with n) (block siblings)) at ls ≡ answered root j p (and_then (lines_by side_of n (record { at = at + 1; left = ls })) (block_behind siblings))
   unfolding lines_by line_step
   sides_read zero siblings at ls follows =
       ap (λ hs. answered root j p (Ok ((name, claim, record { leaf = leaf; siblings = hs }), record { at = at + 1; left = ls }))) (sym (append-nil siblings))
   sides_read (suc m) siblings at ls follows =
       let one_less : suc m - 1 ≡ m = omega arith in
-      ap (λ b. goes (cond b (whole j root (block siblings)) (silent j (stage.Sides root (suc m) (block siblings)))) at ls) (not_zero m)
-      ∙ by_line side_of (λ h q. and_then (lines_by side_of m q) (block_behind (siblings ++ h ∷ []))) (side_step (at + 1) j root (suc m) (block siblings))
-      (stage.Sides root (suc m) (block siblings)) root j p (at + 1) ls follows refl (λ line. refl) refl
-      (λ h more further. ap (λ n. goes (sided j root n (block (siblings ++ h ∷ []))) (at + 1) more) one_less ∙ sides_read m (siblings ++ h ∷ []) (at + 1) more further)
+      ap (λ b. goes (cond b (whole j root (block siblings)) (keeps j (silent (stage.Sides (heading_with (suc m)) (block siblings))))) at ls) (not_zero m)
+      ∙ by_line side_of (λ h q. and_then (lines_by side_of m q) (block_behind (siblings ++ h ∷ []))) (side_step (at + 1) j (heading_with (suc m)) (block siblings))
+      (stage.Sides (heading_with (suc m)) (block siblings)) root j p (at + 1) ls follows refl (λ line. refl) refl
+      (λ h more further. ap (λ n. goes (sided j (heading_with n) (block (siblings ++ h ∷ []))) (at + 1) more) one_less ∙ sides_read m (siblings ++ h ∷ []) (at + 1) more further)
       ∙ ap (answered root j p) (line_and_more siblings m (line_by side_of (record { at = at + 1; left = ls })))
 
 -- ---- a block
 
 block_reads : (n : ℕ) (root : List ℕ) (j : Judging) (p : Place) (at : ℕ) (left : List (List ℕ)) → Follows p at left
-    → rest (record { at = at; known = j; stage = stage.Name root n }) left ≡ answered root j p (proof_block n (record { at = at; left = left }))
+    → rest (record { at = at; known = j; stage = stage.Name (record { root = root; missing = n }) }) left ≡ answered root j p (proof_block n (record { at = at; left = left }))
 unfolding proof_block line_step
 block_reads n root j p at left follows =
-    by_line named_of _ (name_step at j root n) (stage.Name root n) root j p at left follows refl (λ line. refl) refl (λ name ls then_claim.
-    by_line claim_of _ (claim_step (at + 1) j root n (K name)) (stage.Claim root n (K name)) root j p (at + 1) ls then_claim refl (λ line. refl) refl (λ claim ls then_leaf.
-    by_line leaf_of _ (leaf_step (at + 1 + 1) j root n (K name) claim) (stage.Leaf root n (K name) claim) root j p (at + 1 + 1) ls then_leaf refl (λ line. refl) refl (λ leaf ls then_sides.
+    let o : Heading = record { root = root; missing = n } in
+    by_line named_of _ (λ name. keeps j (name_turn at o name)) (stage.Name o) root j p at left follows refl (λ line. refl) refl (λ name ls then_claim.
+    by_line claim_of _ (λ claim. keeps j (claim_turn (at + 1) o (K name) claim)) (stage.Claim o (K name)) root j p (at + 1) ls then_claim refl (λ line. refl) refl (λ claim ls then_leaf.
+    by_line leaf_of _ (leaf_step (at + 1 + 1) j o (K name) claim) (stage.Leaf o (K name) claim) root j p (at + 1 + 1) ls then_leaf refl (λ line. refl) refl (λ leaf ls then_sides.
     sides_read root name claim leaf j p n [] (at + 1 + 1) ls then_sides)))
 
 -- ---- all of the input
@@ -130,7 +136,7 @@ module _ (n : ℕ) (others : (j : Judging) (at : ℕ) (left : List (List ℕ)) �
   said_goes s few = ap (λ t. s.text ++ t) (others s.known s.place.at s.place.left few)
 
   wrong_first : (j : Judging) (at : ℕ) (line : List ℕ) (ls : List (List ℕ)) → length ls ≤ n
-      → (let s = wrong_at at j (record { at = at; left = line ∷ ls }) in s.text ++ verdicts_from n s.known s.place) ≡ goes (wrong at j) at ls
+      → (let s = wrong_at at j (record { at = at; left = line ∷ ls }) in s.text ++ verdicts_from n s.known s.place) ≡ goes (keeps j (no_match at)) at ls
   wrong_first j at line ls few =
       let start : at ≡ at + 0 = omega arith in
       said_goes (wrong_at at j (record { at = at; left = line ∷ ls })) (omega (arith, length-drop (at + 1 - at) (line ∷ ls)))
@@ -145,7 +151,7 @@ module _ (n : ℕ) (others : (j : Judging) (at : ℕ) (left : List (List ℕ)) �
       let p : Place = record { at = at; left = line ∷ ls } in
       let q : Place = record { at = at + 1; left = ls } in
       let start : at + 1 ≡ at + 1 = refl in
-      elim j.root as (λ o. (let s : Said = elim o [ None ↦ wrong_at at j p | Some root ↦ say_block root j p (proof_block k q) ] in s.text ++ verdicts_from n s.known s.place) ≡ goes (begins at j k o) at ls) [
+      elim j.root as (λ o. (let s : Said = elim o [ None ↦ wrong_at at j p | Some root ↦ say_block root j p (proof_block k q) ] in s.text ++ verdicts_from n s.known s.place) ≡ goes (keeps j (begins at k o)) at ls) [
         | None ↦ wrong_first j at line ls few
         | Some root ↦ said_goes (say_block root j p (proof_block k q)) (said_left root j at line ls n (proof_block k q) (proof_block-bounded k q) few) ∙ sym (block_reads k root j p (at + 1) ls (1, start, refl))
       ]

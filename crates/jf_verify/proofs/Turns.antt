@@ -18,10 +18,10 @@ rest-in_turn before written s next line ls e is = rw (e, is) (append_assoc befor
 pub long-alike : (at : ℕ) (j : Judging) (s : Stage) (line other : List ℕ) → is_long line ≡ true → is_long other ≡ true → line_step at j s line ≡ line_step at j s other
 unfolding line_step
 long-alike at j stage.Between line other e h = rw (e, h) refl
-long-alike at j (stage.Name root n) line other e h = rw (e, h) refl
-long-alike at j (stage.Claim root n key) line other e h = rw (e, h) refl
-long-alike at j (stage.Leaf root n key claim) line other e h = rw (e, h) refl
-long-alike at j (stage.Sides root n block) line other e h = rw (e, h) refl
+long-alike at j (stage.Name o) line other e h = rw (e, h) refl
+long-alike at j (stage.Claim o key) line other e h = rw (e, h) refl
+long-alike at j (stage.Leaf o key claim) line other e h = rw (e, h) refl
+long-alike at j (stage.Sides o block) line other e h = rw (e, h) refl
 
 pub rest-long : LongLinesAreAlike
 unfolding rest

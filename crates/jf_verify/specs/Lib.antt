@@ -1,4 +1,5 @@
 pub mod Verdicts
 pub mod Accepted
+pub mod Subjects
 pub mod Steps
 pub mod Laws

@@ -5,6 +5,7 @@ use Rattle.jf_collide.specs.declared.judged.Judged.{Judged}
 use Rattle.jf_blocks.specs.Reading.{line_read, first_of, named_of, claim_of, leaf_of, side_of}
 use Rattle.jf_blocks.specs.declared.first.FirstLine.{FirstLine}
 use Rattle.jf_blocks.specs.declared.first.FirstLine.TheVariants as first
+use Rattle.jf_verify.specs.declared.stage.Heading.{Heading}
 use Rattle.jf_verify.specs.declared.stage.Stage.{Stage}
 use Rattle.jf_verify.specs.declared.stage.Stage.TheVariants as stage
 use Rattle.jf_verify.specs.Verdicts.{Judging, judged, syntax_text, nothing_known}
@@ -29,64 +30,85 @@ pub record Step : Type 0 where
 abbrev pub IsMade : Step → List ℕ → List ℕ → Judging → Stage → Type 0
 IsMade step before written known next = (written ≡ before ++ step.text) × (known ≡ step.known) × (next ≡ step.stage)
 
+-- ---- lines that add nothing to what is known
+
+-- what a line is answered, and how far a block is read behind it
+pub record Turn : Type 0 where
+  pub text : List ℕ
+  pub stage : Stage
+
+-- a turn that was taken
+abbrev pub IsTaken : Turn → List ℕ → List ℕ → Stage → Type 0
+IsTaken turn before written next = (written ≡ before ++ turn.text) × (next ≡ turn.stage)
+
+-- nothing is added
+abbrev pub keeps : Judging → Turn → Step
+keeps j turn = record { text = turn.text; known = j; stage = turn.stage }
+
 -- the line doesn't match
-abbrev pub wrong : ℕ → Judging → Step
-wrong at j = record { text = syntax_text at; known = j; stage = stage.Between }
+abbrev pub no_match : ℕ → Turn
+no_match at = record { text = syntax_text at; stage = stage.Between }
 
 -- nothing is said, and reading goes on
-abbrev pub silent : Judging → Stage → Step
-silent j s = record { text = []; known = j; stage = s }
+abbrev pub silent : Stage → Turn
+silent s = record { text = []; stage = s }
 
 -- a block begins, where a root was set
-abbrev pub begins : ℕ → Judging → ℕ → Option (List ℕ) → Step
-begins at j n None = wrong at j
-begins at j n (Some root) = silent j (stage.Name root n)
+abbrev pub begins : ℕ → ℕ → Option (List ℕ) → Turn
+begins at n None = no_match at
+begins at n (Some root) = silent (stage.Name (record { root = root; missing = n }))
+
+-- the line of a name
+abbrev pub name_turn : ℕ → Heading → Option (List ℕ) → Turn
+name_turn at heading None = no_match at
+name_turn at heading (Some name) = silent (stage.Claim heading (K name))
+
+-- the line of a claim
+abbrev pub claim_turn : ℕ → Heading → List ℕ → Option (Option (List ℕ)) → Turn
+claim_turn at heading key None = no_match at
+claim_turn at heading key (Some claim) = silent (stage.Leaf heading key claim)
+
+-- ---- other lines
 
 -- a line between blocks
 abbrev pub first_step : ℕ → Judging → Option FirstLine → Step
-first_step at j None = wrong at j
-first_step at j (Some (first.Root root)) = silent (record { root = Some root; claims = j.claims }) stage.Between
-first_step at j (Some (first.Proof n)) = begins at j n j.root
-
--- the line of a name
-abbrev pub name_step : ℕ → Judging → List ℕ → ℕ → Option (List ℕ) → Step
-name_step at j root n None = wrong at j
-name_step at j root n (Some name) = silent j (stage.Claim root n (K name))
-
--- the line of a claim
-abbrev pub claim_step : ℕ → Judging → List ℕ → ℕ → List ℕ → Option (Option (List ℕ)) → Step
-claim_step at j root n key None = wrong at j
-claim_step at j root n key (Some claim) = silent j (stage.Leaf root n key claim)
+first_step at j None = keeps j (no_match at)
+first_step at j (Some (first.Root root)) = record { text = []; known = record { root = Some root; claims = j.claims }; stage = stage.Between }
+first_step at j (Some (first.Proof n)) = keeps j (begins at n j.root)
 
 -- a whole block is judged
 abbrev pub whole : Judging → List ℕ → Judged → Step
 whole j root block = let a = judged root j.claims block in record { text = a.0; known = record { root = j.root; claims = a.1 }; stage = stage.Between }
 
--- a block that has n siblings to come
-abbrev pub sided : Judging → List ℕ → ℕ → Judged → Step
-sided j root n block = if n == 0 then whole j root block else silent j (stage.Sides root n block)
+-- what was read of a block: it is whole where no sibling is missing
+abbrev pub sided : Judging → Heading → Judged → Step
+sided j heading block = if heading.missing == 0 then whole j heading.root block else keeps j (silent (stage.Sides heading block))
 
 -- the line of a leaf
-abbrev pub leaf_step : ℕ → Judging → List ℕ → ℕ → List ℕ → Option (List ℕ) → Option (Option (List ℕ × List ℕ)) → Step
-leaf_step at j root n key claim None = wrong at j
-leaf_step at j root n key claim (Some leaf) = sided j root n (record { key = key; claim = claim; proof = record { leaf = leaf; siblings = [] } })
+abbrev pub leaf_step : ℕ → Judging → Heading → List ℕ → Option (List ℕ) → Option (Option (List ℕ × List ℕ)) → Step
+leaf_step at j heading key claim None = keeps j (no_match at)
+leaf_step at j heading key claim (Some leaf) = sided j heading (record { key = key; claim = claim; proof = record { leaf = leaf; siblings = [] } })
 
 -- one sibling more
 abbrev pub with_side : Judged → List ℕ → Judged
 with_side block h = record { key = block.key; claim = block.claim; proof = record { leaf = block.proof.leaf; siblings = block.proof.siblings ++ h ∷ [] } }
 
+-- and one less to come
+abbrev pub one_less : Heading → Heading
+one_less heading = record { root = heading.root; missing = heading.missing - 1 }
+
 -- the line of a sibling
-abbrev pub side_step : ℕ → Judging → List ℕ → ℕ → Judged → Option (List ℕ) → Step
-side_step at j root n block None = wrong at j
-side_step at j root n block (Some h) = sided j root (n - 1) (with_side block h)
+abbrev pub side_step : ℕ → Judging → Heading → Judged → Option (List ℕ) → Step
+side_step at j heading block None = keeps j (no_match at)
+side_step at j heading block (Some h) = sided j (one_less heading) (with_side block h)
 
 -- a line, by how far a block is read
 unfoldable pub line_step : ℕ → Judging → Stage → List ℕ → Step
 line_step at j stage.Between line = first_step at j (line_read first_of line)
-line_step at j (stage.Name root n) line = name_step at j root n (line_read named_of line)
-line_step at j (stage.Claim root n key) line = claim_step at j root n key (line_read claim_of line)
-line_step at j (stage.Leaf root n key claim) line = leaf_step at j root n key claim (line_read leaf_of line)
-line_step at j (stage.Sides root n block) line = side_step at j root n block (line_read side_of line)
+line_step at j (stage.Name heading) line = keeps j (name_turn at heading (line_read named_of line))
+line_step at j (stage.Claim heading key) line = keeps j (claim_turn at heading key (line_read claim_of line))
+line_step at j (stage.Leaf heading key claim) line = leaf_step at j heading key claim (line_read leaf_of line)
+line_step at j (stage.Sides heading block) line = side_step at j heading block (line_read side_of line)
 
 -- the text that answers one line
 abbrev pub said : State → List ℕ → List ℕ
@@ -99,10 +121,10 @@ after s line = let a = line_step s.at s.known s.stage line in record { at = s.at
 -- what is said where the lines end: nothing between blocks
 abbrev pub end_text : ℕ → Stage → List ℕ
 end_text at stage.Between = []
-end_text at (stage.Name root n) = syntax_text at
-end_text at (stage.Claim root n key) = syntax_text at
-end_text at (stage.Leaf root n key claim) = syntax_text at
-end_text at (stage.Sides root n block) = syntax_text at
+end_text at (stage.Name heading) = syntax_text at
+end_text at (stage.Claim heading key) = syntax_text at
+end_text at (stage.Leaf heading key claim) = syntax_text at
+end_text at (stage.Sides heading block) = syntax_text at
 
 -- the text that answers the lines still to come
 unfoldable pub rest : State → List (List ℕ) → List ℕ

@@ -4,10 +4,12 @@ ghost use Rattle.std.specs.Prelude.{Some};
 ghost use Rattle.std.specs.Option.{option_copied};
 ghost use Rattle.jf_script.specs.Replies.{Extends};
 ghost use Rattle.jf_verify.specs.Accepted.{IsAccepted, AreAccepted};
+ghost use Rattle.jf_verify.specs.Subjects.{AreListed};
 ghost use Rattle.jf_verify.specs.Verdicts.{same_claim, contradicts, contradicted, contradiction_text};
 
 use crate::accepted::Accepted;
 use crate::answers::write_collision;
+use crate::subjects::Subjects;
 use jf_collide::{Audit, audit};
 use jf_path::{Bytes, Memory};
 use std::alloc::Global;
@@ -17,13 +19,18 @@ pub(crate) fn write_contradiction(
     alloc: Global,
     claim: &Accepted,
     earlier: &[Accepted],
+    subjects: &Subjects,
     out: &mut Bytes,
 ) -> Result<(), Memory>
     requires claim { IsAccepted claim.now }
     requires earlier { AreAccepted earlier.now }
+    requires listed { AreListed subjects.now earlier.now }
     ensures ok { OnOk result (out.new ≡ out.old ++ contradiction_text claim.now (contradicted claim.now earlier.now)) }
     ensures err { OnErr result (Extends out.old out.new) }
 {
+    if !subjects.has(&claim.root, &claim.judged.key) {
+        return Ok(());
+    }
     match contradicted(claim, earlier) {
         Some(other) => write_clash(alloc, claim, other, out),
         None => Ok(()),

@@ -15,7 +15,7 @@ use std::mem::replace;
 /// Judges the lines of an input one after another, each given without the byte that ends it. Of a line of more than 8,500
 /// bytes the first 8,501 will do. A refusal, for want of memory or where lines can no more be counted in 64 bits, leaves
 /// the text as it was, and a judge that has read nothing.
-#[derive(Debug, Drop)]
+#[derive(Drop)]
 pub struct Judge {
     at: u64,
     known: Known,

@@ -3,11 +3,13 @@ ghost use Rattle.std.specs.Prelude.{◌≡◌, ◌++◌, Some, OnOk, OnErr};
 ghost use Rattle.jf_collide.specs.Audits.{refusal_of};
 ghost use Rattle.jf_script.specs.Replies.{Extends};
 ghost use Rattle.jf_verify.specs.Accepted.{AreAccepted};
+ghost use Rattle.jf_verify.specs.Subjects.{AreListed};
 ghost use Rattle.jf_verify.specs.Verdicts.{Judging, nothing_known, judged};
 
 use crate::accepted::Accepted;
 use crate::answers::write_refused;
 use crate::contradiction::write_contradiction;
+use crate::subjects::Subjects;
 use jf_collide::Judged;
 use jf_hash::Hash;
 use jf_path::{Bytes, Memory};
@@ -16,21 +18,24 @@ use std::alloc::Global;
 use std::marker::Model;
 
 /// What is known of an input between two blocks.
-#[derive(Debug, Drop)]
+#[derive(Drop)]
 pub struct Known {
     root: Option<Hash>,
     claims: Vec<Accepted>,
+    /// What these claims are on.
+    subjects: Subjects,
 }
 
 impl Model for Known {
     ghost use Rattle.jf_verify.specs.Verdicts.{Judging};
     ghost use Rattle.jf_verify.specs.Accepted.{AreAccepted};
+    ghost use Rattle.jf_verify.specs.Subjects.{AreListed};
 
     ghost Value = { Judging };
 
     ghost view = { λ k. record { root = k.root; claims = k.claims.items } };
 
-    ghost invariant = { λ k. AreAccepted k.claims.items };
+    ghost invariant = { λ k. AreAccepted k.claims.items × AreListed k.subjects k.claims.items };
 }
 
 impl Known {
@@ -41,6 +46,7 @@ impl Known {
         Known {
             root: None,
             claims: Vec::new(alloc),
+            subjects: Subjects::new(alloc),
         }
     }
 
@@ -75,7 +81,7 @@ impl Known {
             root,
             judged: claim,
         };
-        judge_claim(alloc, claim, &mut self.claims, out)
+        judge_claim(alloc, claim, &mut self.claims, &mut self.subjects, out)
     }
 }
 
@@ -85,19 +91,23 @@ fn judge_claim(
     alloc: Global,
     claim: Accepted,
     claims: &mut Vec<Accepted>,
+    subjects: &mut Subjects,
     out: &mut Bytes,
 ) -> Result<(), Memory>
-    requires { AreAccepted claims.old.items }
+    requires accepted { AreAccepted claims.old.items }
+    requires listed { AreListed subjects.old claims.old.items }
     ensures ok { OnOk result (out.new ≡ out.old ++ (judged claim.root claims.old.items claim.judged).0) }
     ensures kept { OnOk result (claims.new.items ≡ (judged claim.root claims.old.items claim.judged).1) }
     ensures accepted { AreAccepted claims.new.items }
+    ensures listed { AreListed subjects.new claims.new.items }
     ensures err { OnErr result (Extends out.old out.new) }
 {
     if let Some(why) = refusal_of(&claim) {
         return write_refused(why, out);
     }
     out.append(b"accepted\n")?;
-    write_contradiction(alloc, &claim, claims, out)?;
+    write_contradiction(alloc, &claim, claims, subjects, out)?;
+    subjects.add(claim.root, claim.judged.key)?;
     claims.push(claim)?;
     Ok(())
 }

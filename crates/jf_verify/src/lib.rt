@@ -10,6 +10,7 @@ mod known;
 mod laws;
 mod reading;
 mod stage;
+mod subjects;
 mod text;
 
 pub use judging::Judge;

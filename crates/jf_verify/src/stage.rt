@@ -3,33 +3,26 @@ use jf_collide::Judged;
 use jf_hash::Hash;
 use jf_path::{Bytes, Key};
 
+/// What stands over a block.
+#[derive(Clone, Copy, Debug)]
+pub struct Heading {
+    /// The root that the block is judged under.
+    pub root: Hash,
+    /// How many of its siblings are still to come.
+    pub missing: u64,
+}
+
 /// How far a block is read, and what was read of it.
 #[derive(Debug, Drop)]
 pub enum Stage {
     /// No block is begun.
     Between,
-    /// The name comes next, in a block that is judged under this root and has this many siblings.
-    Name {
-        root: Hash,
-        siblings: u64,
-    },
-    /// The claim comes next.
-    Claim {
-        root: Hash,
-        siblings: u64,
-        key: Key,
-    },
+    /// The name comes next.
+    Name(Heading),
+    /// The claim comes next, on this key.
+    Claim(Heading, Key),
     /// The leaf comes next.
-    Leaf {
-        root: Hash,
-        siblings: u64,
-        key: Key,
-        claim: Option<Bytes>,
-    },
-    /// This many siblings come next, at least one.
-    Sides {
-        root: Hash,
-        missing: u64,
-        judged: Judged,
-    },
+    Leaf(Heading, Key, Option<Bytes>),
+    /// A sibling comes next.
+    Sides(Heading, Judged),
 }
