@@ -1,0 +1,19 @@
+//! Two claims on one key under one root, each with its proof: which is refused, or, where both are accepted and contradict,
+//! two different lists with one SHA-256.
+#![tactic(auto)]
+
+mod contradiction;
+mod difference;
+mod inputs;
+mod judged;
+mod laws;
+mod outcome;
+
+pub use contradiction::audit;
+pub use jf_evidence::wrong_claims_collide;
+pub use judged::Judged;
+pub use laws::{audits_have_one_answer, wrong_claims_are_caught};
+pub use outcome::Audit;
+
+#[cfg(test)]
+mod tests;
