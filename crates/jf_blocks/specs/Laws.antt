@@ -1,0 +1,35 @@
+-- What holds of all blocks, as statements for calls that do nothing and ensure them.
+use Rattle.std.specs.Prelude.{◌≡◌, ℕ, ◌+◌, ◌^◌, ◌<◌, ◌≤◌, length, List, ◌∷◌, ◌++◌, Option, Some, Ok, IfSome}
+use Rattle.std.specs.List.{AllByRecursion}
+use Rattle.hex.specs.Hex.{IsBytes}
+use Rattle.jf_evidence.specs.declared.proof.Proof.{Proof}
+use Rattle.jf_script.specs.Words.{lines}
+use Rattle.jf_script.specs.Replies.{reply_text}
+use Rattle.jf_script.specs.declared.reply.Reply.TheVariants as reply
+use Rattle.jf_blocks.specs.Blocks.{proof_lines}
+use Rattle.jf_blocks.specs.Reading.{line_read, first_of, proof_block}
+use Rattle.jf_blocks.specs.declared.first.FirstLine.TheVariants as first
+
+-- 32 bytes
+abbrev pub IsHash : List ℕ → Type 0
+IsHash h = (length h ≡ 32) × IsBytes h
+
+-- what a block tells of: a name of 1 to 128 bytes, a value of at most 4,096, and a leaf and siblings of 32
+pub record IsTold (name : List ℕ) (claim : Option (List ℕ)) (proof : Proof) : Type 0 where
+  pub bytes : IsBytes name
+  pub least : 1 ≤ length name
+  pub most : length name ≤ 128
+  pub value : IfSome claim (λ v. IsBytes v × (length v ≤ 4096))
+  pub leaf : IfSome proof.leaf (λ l. IsHash l.0 × IsHash l.1)
+  pub siblings : AllByRecursion IsHash proof.siblings
+
+-- a block that was written is read as what was written, and what stands behind it is left
+abbrev pub BlocksAreReadBack : Type 0
+BlocksAreReadBack = (name : List ℕ) (claim : Option (List ℕ)) (proof : Proof) (at : ℕ) (rest : List ℕ) → IsTold name claim proof
+    → proof_block (length proof.siblings) (record { at = at; left = lines (proof_lines name claim proof ++ rest) })
+    ≡ Ok ((name, claim, proof), record { at = at + 3 + length proof.siblings; left = lines rest })
+
+-- the reply of a proof is read as the first line of its block
+abbrev pub RepliesBeginBlocks : Type 0
+RepliesBeginBlocks = (n siblings : ℕ) (rest : List ℕ) → n < 2 ^ 64 → siblings ≤ 65535
+    → (line : List ℕ) × (lines (reply_text n (reply.Proof siblings) ++ rest) ≡ line ∷ lines rest) × (line_read first_of line ≡ Some (first.Proof siblings))

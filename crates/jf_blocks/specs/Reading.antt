@@ -1,0 +1,125 @@
+-- Single lines and proof blocks as they are read.
+use Rattle.std.specs.Prelude.{ℕ, zero, suc, ◌+◌, if◌then◌else◌, ◌&&◌, is_some, List, [], ◌∷◌, Option, Some, None, Result, Ok, Err, option_map, option_and_then, codes}
+use Rattle.jf_evidence.specs.declared.proof.Proof.{Proof}
+use Rattle.jf_script.specs.Words.{words, is_word, is_long, both, number, number_upto, name_of, hash_of, value_of}
+use Rattle.jf_blocks.specs.declared.first.FirstLine.{FirstLine}
+use Rattle.jf_blocks.specs.declared.first.FirstLine.TheVariants as first
+
+-- ---- the words of a line
+
+-- the one word behind a keyword
+abbrev pub word_after : List ℕ → List (List ℕ) → Option (List ℕ)
+word_after keyword [] = None
+word_after keyword (w ∷ []) = None
+word_after keyword (w ∷ a ∷ []) = if is_word w keyword then Some a else None
+word_after keyword (w ∷ a ∷ b ∷ ws) = None
+
+-- the two words behind a keyword
+abbrev pub two_after : List ℕ → List (List ℕ) → Option (List ℕ × List ℕ)
+two_after keyword [] = None
+two_after keyword (w ∷ []) = None
+two_after keyword (w ∷ a ∷ []) = None
+two_after keyword (w ∷ a ∷ b ∷ []) = if is_word w keyword then Some (a, b) else None
+two_after keyword (w ∷ a ∷ b ∷ c ∷ ws) = None
+
+-- the words `n ok` in front may be left out
+abbrev pub without_number : List (List ℕ) → List (List ℕ)
+without_number [] = []
+without_number (n ∷ []) = n ∷ []
+without_number (n ∷ ok ∷ ws) = if is_some (number n) && is_word ok (codes "ok") then ws else n ∷ ok ∷ ws
+
+-- ---- lines by their words
+
+-- `root` and a hash
+abbrev pub root_of : List (List ℕ) → Option (List ℕ)
+root_of ws = option_and_then hash_of (word_after (codes "root") (without_number ws))
+
+-- `proof` and how many siblings it has
+abbrev pub count_of : List (List ℕ) → Option ℕ
+count_of ws = option_and_then (number_upto 65535) (word_after (codes "proof") (without_number ws))
+
+-- what stands between blocks
+abbrev pub first_of : List (List ℕ) → Option FirstLine
+first_of ws = elim (root_of ws) [ Some root ↦ Some (first.Root root) | None ↦ option_map (λ n. first.Proof n) (count_of ws) ]
+
+-- `name` and a name
+abbrev pub named_of : List (List ℕ) → Option (List ℕ)
+named_of ws = option_and_then name_of (word_after (codes "name") ws)
+
+-- a value or its absence
+abbrev pub claimed : List ℕ → Option (Option (List ℕ))
+claimed w = if is_word w (codes "none") then Some None else option_map (λ v. Some v) (value_of w)
+
+-- `claim` and what is claimed
+abbrev pub claim_of : List (List ℕ) → Option (Option (List ℕ))
+claim_of ws = option_and_then claimed (word_after (codes "claim") ws)
+
+-- a key and a hash
+abbrev pub pair_of : List ℕ × List ℕ → Option (List ℕ × List ℕ)
+pair_of p = both (λ key hash. (key, hash)) (hash_of p.0) (hash_of p.1)
+
+-- `leaf`, and `none` or a key and a hash
+abbrev pub leaf_of : List (List ℕ) → Option (Option (List ℕ × List ℕ))
+leaf_of ws =
+    elim (word_after (codes "leaf") ws) [
+      | Some w ↦ if is_word w (codes "none") then Some None else None
+      | None ↦ option_map (λ leaf. Some leaf) (option_and_then pair_of (two_after (codes "leaf") ws))
+    ]
+
+-- `side` and a hash
+abbrev pub side_of : List (List ℕ) → Option (List ℕ)
+side_of ws = option_and_then hash_of (word_after (codes "side") ws)
+
+-- what a line's words say; those of a long line say nothing
+abbrev pub line_read : {X : Type 0} → (List (List ℕ) → Option X) → List ℕ → Option X
+line_read f line = if is_long line then None else f (words line)
+
+-- ---- lines one after another
+
+-- the number of the next line, counted from 1, and the lines from it on
+pub record Place : Type 0 where
+  pub at : ℕ
+  pub left : List (List ℕ)
+
+-- the first line of all
+abbrev pub start : List (List ℕ) → Place
+start ls = record { at = 1; left = ls }
+
+-- what was read and the place behind it, or the number of the first line that doesn't match
+abbrev pub Read : Type 0 → Type 0
+Read X = Result (X × Place) ℕ
+
+-- one reading after another
+abbrev pub and_then : {X Y : Type 0} → Read X → (X → Place → Read Y) → Read Y
+and_then (Ok p) f = f p.0 p.1
+and_then (Err at) f = Err at
+
+-- nothing more is read
+abbrev pub gives : {X : Type 0} → X → Place → Read X
+gives x p = Ok (x, p)
+
+-- a line that matched, or didn't
+abbrev pub matched : {X : Type 0} → ℕ → List (List ℕ) → Option X → Read X
+matched at rest None = Err at
+matched at rest (Some x) = Ok (x, record { at = at + 1; left = rest })
+
+-- one line
+abbrev pub line_by : {X : Type 0} → (List (List ℕ) → Option X) → Place → Read X
+line_by f p = elim p.left [ [] ↦ Err p.at | line ∷ rest ↦ matched p.at rest (line_read f line) ]
+
+-- n lines
+unfoldable pub lines_by : {X : Type 0} → (List (List ℕ) → Option X) → ℕ → Place → Read (List X)
+lines_by f zero p = gives [] p
+lines_by f (suc n) p = and_then (line_by f p) (λ x q. and_then (lines_by f n q) (λ xs r. gives (x ∷ xs) r))
+
+-- ---- a proof block, behind its first line
+
+-- the name, the claim and the proof
+abbrev pub Block : Type 0
+Block = List ℕ × Option (List ℕ) × Proof
+
+-- a name, a claim, a leaf and this many siblings
+unfoldable pub proof_block : ℕ → Place → Read Block
+proof_block siblings p =
+    and_then (line_by named_of p) (λ name q. and_then (line_by claim_of q) (λ claim r. and_then (line_by leaf_of r) (λ leaf s.
+    and_then (lines_by side_of siblings s) (λ sides t. gives (name, claim, record { leaf = leaf; siblings = sides }) t))))

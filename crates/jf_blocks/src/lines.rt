@@ -1,0 +1,87 @@
+// The lines of a block, each given without the byte that ends it.
+ghost use Rattle.std.specs.Prelude.{◌≡◌, IfOk};
+ghost use Rattle.jf_script.specs.Words.{words};
+ghost use Rattle.jf_blocks.specs.Reading.{line_read, named_of, claimed, claim_of, pair_of, leaf_of, side_of};
+
+use crate::hexadecimal::{hash_of, name_of, value_of};
+use crate::word::{is_word, two_after, word_after};
+use jf_hash::Hash;
+use jf_path::{Bytes, Key, Memory};
+use std::alloc::Global;
+
+/// The greatest number of bytes of a line that may match.
+pub(crate) const LONGEST: usize = 8500;
+
+/// The name that a line `name NAME` has.
+pub fn name_line(alloc: Global, line: &[u8]) -> Result<Option<Bytes>, Memory>
+    ensures { IfOk result (λ name. name ≡ line_read named_of line.now) }
+{
+    if line.len() > LONGEST {
+        return Ok(None);
+    }
+    match word_after(b"name", line) {
+        Some(word) => name_of(alloc, word),
+        None => Ok(None),
+    }
+}
+
+/// What a line `claim =VALUE` or `claim none` claims.
+pub fn claim_line(alloc: Global, line: &[u8]) -> Result<Option<Option<Bytes>>, Memory>
+    ensures { IfOk result (λ claim. claim ≡ line_read claim_of line.now) }
+{
+    if line.len() > LONGEST {
+        return Ok(None);
+    }
+    match word_after(b"claim", line) {
+        Some(word) => claimed(alloc, word),
+        None => Ok(None),
+    }
+}
+
+/// A value, or `none`.
+fn claimed(alloc: Global, word: &[u8]) -> Result<Option<Option<Bytes>>, Memory>
+    ensures { IfOk result (λ claim. claim ≡ claimed word.now) }
+{
+    if is_word(word, b"none") {
+        return Ok(Some(None));
+    }
+    Ok(value_of(alloc, word)?.map(Some))
+}
+
+/// The leaf that a line `leaf KEY HASH` or `leaf none` tells of.
+pub fn leaf_line(line: &[u8]) -> Option<Option<(Key, Hash)>>
+    ensures { result ≡ line_read leaf_of line.now }
+{
+    if line.len() > LONGEST {
+        return None;
+    }
+    if let Some(word) = word_after(b"leaf", line) {
+        return if is_word(word, b"none") {
+            Some(None)
+        } else {
+            None
+        };
+    }
+    let (key, hash) = two_after(b"leaf", line)?;
+    let leaf = pair_of(key, hash)?;
+    Some(Some(leaf))
+}
+
+/// A key and a hash.
+fn pair_of(key: &[u8], hash: &[u8]) -> Option<(Key, Hash)>
+    ensures { result ≡ pair_of (key.now, hash.now) }
+{
+    let key = hash_of(key)?;
+    let hash = hash_of(hash)?;
+    Some((key, hash))
+}
+
+/// The hash that a line `side HASH` has.
+pub fn side_line(line: &[u8]) -> Option<Hash>
+    ensures { result ≡ line_read side_of line.now }
+{
+    if line.len() > LONGEST {
+        return None;
+    }
+    hash_of(word_after(b"side", line)?)
+}

@@ -1,0 +1,60 @@
+// A line as words.
+ghost use Rattle.std.specs.Prelude.{◌≡◌, [], ◌∷◌};
+ghost use Rattle.std.specs.Option.{option_copied, option_map, option_map_or};
+ghost use Rattle.jf_script.specs.Words.{words, is_word};
+ghost use Rattle.jf_blocks.specs.Reading.{word_after, two_after};
+
+use memchr::memchr;
+
+/// What stands before the first space, and what stands behind it if there is one.
+pub(crate) fn split_word(text: &[u8]) -> (&[u8], Option<&[u8]>)
+    ensures { words text.now ≡ result.0.now ∷ option_map_or (λ rest. words rest.now) result.1 [] }
+{
+    match memchr(b' ', text) {
+        Some(at) => (&text[..at], Some(&text[at + 1..])),
+        None => (text, None),
+    }
+}
+
+/// The one word behind a keyword, where the text is just the two.
+pub(crate) fn word_after<'a>(keyword: &[u8], text: &'a [u8]) -> Option<&'a [u8]>
+    ensures { option_copied result ≡ word_after keyword.now (words text.now) }
+{
+    let (word, rest) = split_word(text);
+    let Some(rest) = rest else {
+        return None;
+    };
+    let (first, rest) = split_word(rest);
+    match rest {
+        Some(_) => None,
+        None if is_word(word, keyword) => Some(first),
+        None => None,
+    }
+}
+
+/// The two words behind a keyword, where the text is just the three.
+pub(crate) fn two_after<'a>(keyword: &[u8], text: &'a [u8]) -> Option<(&'a [u8], &'a [u8])>
+    ensures { option_map (λ p. (p.0.now, p.1.now)) result ≡ two_after keyword.now (words text.now) }
+{
+    let (word, rest) = split_word(text);
+    let Some(rest) = rest else {
+        return None;
+    };
+    let (first, rest) = split_word(rest);
+    let Some(rest) = rest else {
+        return None;
+    };
+    let (second, rest) = split_word(rest);
+    match rest {
+        Some(_) => None,
+        None if is_word(word, keyword) => Some((first, second)),
+        None => None,
+    }
+}
+
+/// Whether a word is this keyword.
+pub(crate) fn is_word(word: &[u8], keyword: &[u8]) -> bool
+    ensures { result ≡ is_word word.now keyword.now }
+{
+    word == keyword
+}

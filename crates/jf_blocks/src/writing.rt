@@ -1,0 +1,108 @@
+// Proof blocks as text.
+ghost use Rattle.std.specs.Prelude.{◌≡◌, ◌∷◌, ◌++◌, [], codes, OnOk, OnErr};
+ghost use Rattle.std.specs.Option.{option_copied};
+ghost use Rattle.hex.specs.Hex.{encode_lower};
+ghost use Rattle.jf_script.specs.Words.{line_text};
+ghost use Rattle.jf_script.specs.Replies.{Extends};
+ghost use Rattle.jf_blocks.specs.Blocks.{proof_lines, claim_word, leaf_words, side_lines};
+
+use jf_evidence::Proof;
+use jf_hash::Hash;
+use jf_path::{Bytes, Key, Memory};
+
+/// The lower case digits, by their values.
+const DIGITS: &[u8; 16] = b"0123456789abcdef";
+
+/// Appends a proof block without its first line: the name, what is claimed of it, and the proof, the lowest sibling
+/// first. A refusal leaves the text as it was.
+pub fn write_proof(
+    name: &[u8],
+    claim: Option<&[u8]>,
+    proof: &Proof,
+    out: &mut Bytes,
+) -> Result<(), Memory>
+    ensures ok { OnOk result (out.new ≡ out.old ++ proof_lines name.now (option_copied claim.entry) proof.now) }
+    ensures err { OnErr result (out.new ≡ out.old) }
+{
+    let before = out.len();
+    match write_lines(name, claim, proof, out) {
+        Ok(()) => Ok(()),
+        Err(Memory) => {
+            out.truncate(before);
+            Err(Memory)
+        }
+    }
+}
+
+fn write_lines(
+    name: &[u8],
+    claim: Option<&[u8]>,
+    proof: &Proof,
+    out: &mut Bytes,
+) -> Result<(), Memory>
+    ensures ok { OnOk result (out.new ≡ out.old ++ proof_lines name.now (option_copied claim.entry) proof.now) }
+    ensures err { OnErr result (Extends out.old out.new) }
+{
+    write_hex_line(b"name ", name, out)?;
+    write_claim(claim, out)?;
+    write_leaf(&proof.leaf, out)?;
+    write_sides(proof.siblings.as_slice(), out)
+}
+
+/// Appends the line of a claim.
+fn write_claim(claim: Option<&[u8]>, out: &mut Bytes) -> Result<(), Memory>
+    ensures ok { OnOk result (out.new ≡ out.old ++ line_text (codes "claim" ∷ claim_word (option_copied claim.entry) ∷ [])) }
+    ensures err { OnErr result (Extends out.old out.new) }
+{
+    match claim {
+        Some(value) => write_hex_line(b"claim =", value, out),
+        None => out.append(b"claim none\n"),
+    }
+}
+
+/// Appends the line of a leaf.
+fn write_leaf(leaf: &Option<(Key, Hash)>, out: &mut Bytes) -> Result<(), Memory>
+    ensures ok { OnOk result (out.new ≡ out.old ++ line_text (codes "leaf" ∷ leaf_words leaf.now)) }
+    ensures err { OnErr result (Extends out.old out.new) }
+{
+    match leaf {
+        Some(leaf) => {
+            write_hex(b"leaf ", &leaf.0, out)?;
+            write_hex_line(b" ", &leaf.1, out)
+        }
+        None => out.append(b"leaf none\n"),
+    }
+}
+
+/// Appends the lines of siblings.
+fn write_sides(siblings: &[Hash], out: &mut Bytes) -> Result<(), Memory>
+    ensures ok { OnOk result (out.new ≡ out.old ++ side_lines siblings.now) }
+    ensures err { OnErr result (Extends out.old out.new) }
+{
+    for i in 0..siblings.len() {
+        write_hex_line(b"side ", &siblings[i], out)?;
+    }
+    Ok(())
+}
+
+/// Appends bytes in hexadecimal behind a label, and ends the line.
+fn write_hex_line(label: &[u8], bytes: &[u8], out: &mut Bytes) -> Result<(), Memory>
+    ensures ok { OnOk result (out.new ≡ out.old ++ (label.now ++ (encode_lower bytes.now ++ 10 ∷ []))) }
+    ensures err { OnErr result (Extends out.old out.new) }
+{
+    write_hex(label, bytes, out)?;
+    out.push(b'\n')
+}
+
+/// Appends bytes in hexadecimal behind a label. A refusal leaves the text that was there, and maybe more behind it.
+pub fn write_hex(label: &[u8], bytes: &[u8], out: &mut Bytes) -> Result<(), Memory>
+    ensures ok { OnOk result (out.new ≡ out.old ++ (label.now ++ encode_lower bytes.now)) }
+    ensures err { OnErr result (Extends out.old out.new) }
+{
+    out.append(label)?;
+    for byte in bytes {
+        out.push(DIGITS[usize::from(byte / 16)])?;
+        out.push(DIGITS[usize::from(byte % 16)])?;
+    }
+    Ok(())
+}
