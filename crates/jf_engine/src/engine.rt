@@ -1,5 +1,5 @@
 // A store on a disk.
-ghost use Rattle.std.specs.Prelude.{◌≡◌, ◌≢◌, ◌⊎◌, ◌↔◌, ℕ, ◌+◌, ◌-◌, ◌<◌, ◌≤◌, ◌^◌, List, [], ◌∷◌, ◌++◌, length, Some, None, Err, IfOk, IfErr, OnOk, OnErr, IsErr, true, false, if◌then◌else◌, ◌&&◌, nat_le};
+ghost use Rattle.std.specs.Prelude.{◌≡◌, ◌≢◌, ◌⊎◌, ◌↔◌, ℕ, ◌+◌, ◌-◌, ◌<◌, ◌≤◌, ◌^◌, List, [], ◌∷◌, ◌++◌, length, Some, None, Err, option_map, IfSome, IfOk, IfErr, OnOk, OnErr, IsErr, true, false, if◌then◌else◌, ◌&&◌, nat_le};
 ghost use Rattle.std.specs.Option.{SomeIff, option_copied};
 ghost use Rattle.std.specs.FinMap as fin;
 ghost use Rattle.jf_disk.specs.Disk.{History, reads};
@@ -21,9 +21,11 @@ use crate::replay::LAST_VERSION;
 use jf_disk::{Disk, know_counts, know_dated};
 use jf_frame::{DiskFault, Log};
 use jf_hash::Hash;
+use jf_join::Gate;
 use jf_journal::{damage_has_one_place, damage_is_no_versions};
+use jf_node::Snapshot;
 use jf_path::Key;
-use jf_plain::PlainVersions;
+use jf_snapshots::SnapshotVersions;
 use jf_split::Batch;
 use std::alloc::Global;
 use std::marker::Model;
@@ -35,7 +37,7 @@ use std::thread::Threads;
 pub struct Engine<D: Disk> {
     disk: D,
     log: Log,
-    versions: PlainVersions,
+    versions: SnapshotVersions,
     broken: bool,
 }
 
@@ -89,10 +91,9 @@ impl<D: Disk> Engine<D> {
         ensures counts { IfOk result (λ e. (D.moment disk ≤ e.moment) × (D.faults disk ≤ e.faults)) }
         ensures counts_err { IfErr result (λ e. (D.moment disk ≤ D.moment e.disk) × (D.faults disk ≤ D.faults e.disk)) }
     {
-        let _ = rt;
         damage_is_no_versions();
         damage_has_one_place();
-        match find(alloc, &mut disk) {
+        match find(rt, alloc, &mut disk) {
             Ok(Found { log, versions }) => Ok(Engine {
                 disk,
                 log,
@@ -103,15 +104,19 @@ impl<D: Disk> Engine<D> {
         }
     }
 
-    /// Lands a batch on the head, as the next version. All memory is taken before the disk is touched. After
+    /// Lands a batch on the head, as the next version, with at most this many workers. All memory is taken before the disk is touched. After
     /// `DiskFault` the store is broken; every other refusal leaves store and disk as they were. Side B is left
     /// alone.
-    pub fn land<H: Threads + Sync>(
+    pub fn land<H: Threads + Sync, G: Gate>(
         &mut self,
         rt: &H,
         alloc: Global,
         batch: &Batch,
+        workers: u64,
+        gate: &G,
     ) -> Result<Landed, EngineFault>
+        requires some { 1 ≤ workers }
+        requires few { workers ≤ 64 }
         ensures landed { OnOk result (self.new.versions ≡ landed batch.now self.old.versions) }
         ensures answer { IfOk result (λ l. (l.version ≡ self.new.versions.head) × (l.root ≡ root (newest self.new.versions)) × (l.moment ≡ self.new.moment)) }
         ensures later { OnOk result (self.old.moment < self.new.moment) }
@@ -129,7 +134,6 @@ impl<D: Disk> Engine<D> {
         ensures whole { OnOk result (self.new.broken ≡ false) }
         ensures counts { (self.old.moment ≤ self.new.moment) × (self.old.faults ≤ self.new.faults) }
     {
-        let _ = rt;
         if self.broken {
             return Err(EngineFault::Broken);
         }
@@ -139,7 +143,7 @@ impl<D: Disk> Engine<D> {
             return Err(EngineFault::Last(Which::Version));
         }
         let frame = frame_of(alloc, head + 1, batch)?;
-        self.versions.land(alloc, batch)?;
+        self.versions.land(rt, alloc, batch, workers, gate)?;
         match self.log.append(&mut self.disk, frame.as_slice()) {
             Ok(()) => Ok(Landed {
                 version: head + 1,
@@ -189,7 +193,16 @@ impl<D: Disk> Engine<D> {
         requires head { version ≤ self.now.versions.head }
         ensures { option_copied result ≡ fin.get (map_of self.now.versions version) key.now }
     {
-        self.versions.map_of(version)?.get(key)
+        self.at(version)?.get(key)
+    }
+
+    /// The snapshot of a version, or `None` exactly outside floor to head.
+    pub fn at(&self, version: u64) -> Option<&Snapshot>
+        ensures map { SomeIff (option_map (λ s. s.map) (option_copied result)) ((self.now.versions.floor ≤ version) × (version ≤ self.now.versions.head)) (map_of self.now.versions version) }
+        ensures version { IfSome result (λ s. s.now.version ≡ version) }
+    {
+        self.versions.know_sound();
+        self.versions.at(version)
     }
 
     /// Whether an earlier call on this store answered `DiskFault`.

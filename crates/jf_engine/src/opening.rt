@@ -13,17 +13,22 @@ use crate::fault::OpenFault;
 use crate::replay::replay;
 use jf_disk::{Disk, Side, know_counts, know_readable};
 use jf_frame::{DiskFault, Log};
-use jf_plain::PlainVersions;
+use jf_snapshots::SnapshotVersions;
 use std::alloc::Global;
+use std::thread::Threads;
 
 /// A log, and the versions that its records lead to.
 pub(crate) struct Found {
     pub log: Log,
-    pub versions: PlainVersions,
+    pub versions: SnapshotVersions,
 }
 
 /// Reads the files of a disk, and begins them where they hold no record.
-pub(crate) fn find<D: Disk>(alloc: Global, disk: &mut D) -> Result<Found, OpenFault>
+pub(crate) fn find<D: Disk, H: Threads + Sync>(
+    rt: &H,
+    alloc: Global,
+    disk: &mut D,
+) -> Result<Found, OpenFault>
     ensures kept { IfOk result (λ f. IsKept (D.history disk.new) f.log f.versions) }
     ensures found { (h : History) → D.history disk.old ≡ Some h → IfOk result (λ f. StandsFor (reads h) f.versions) }
     ensures damaged { (h : History) (side : Side) (at : ℕ) → D.history disk.old ≡ Some h → result ≡ Err (OpenFault.Damaged side at) → IsDamagedAt (reads h) side at }
@@ -34,7 +39,7 @@ pub(crate) fn find<D: Disk>(alloc: Global, disk: &mut D) -> Result<Found, OpenFa
     ensures faults { D.faults disk.old ≤ D.faults disk.new }
 {
     let mut log = read_journal(alloc, disk)?;
-    let versions = replay(alloc, log.records())?;
+    let versions = replay(rt, alloc, log.records())?;
     begin_empty(disk, &mut log)?;
     log.forget();
     Ok(Found { log, versions })

@@ -8,40 +8,55 @@ ghost use Rattle.jf_journal.specs.Standing.{IsNext, LeadTo, FailsAt};
 use crate::fault::OpenFault;
 use jf_disk::Side;
 use jf_frame::Framed;
-use jf_plain::PlainVersions;
+use jf_join::FreeGate;
 use jf_record::{Record, RecordFault, decode};
+use jf_snapshots::SnapshotVersions;
 use jf_split::Batch;
 use std::alloc::Global;
+use std::thread::Threads;
 
 /// The highest version.
 pub(crate) const LAST_VERSION: u64 = u64::MAX - 1;
 
 /// The versions that these records lead to from a new store on, or the place of the first that lands on nothing.
-pub(crate) fn replay(alloc: Global, records: &[Framed]) -> Result<PlainVersions, OpenFault>
+pub(crate) fn replay<H: Threads + Sync>(
+    rt: &H,
+    alloc: Global,
+    records: &[Framed],
+) -> Result<SnapshotVersions, OpenFault>
     ensures found { IfOk result (λ v. LeadTo new_store records.now v) }
     ensures damaged { (side : Side) (at : ℕ) → result ≡ Err (OpenFault.Damaged side at) → (side ≡ Side.A) × FailsAt new_store records.now at }
     ensures undisturbed { result ≡ Err OpenFault.DiskFault → ⊥ }
 {
-    let mut versions = PlainVersions::new(alloc)?;
+    let mut versions = SnapshotVersions::new(alloc)?;
     for framed in records {
-        land_next(alloc, &mut versions, framed)?;
+        land_next(rt, alloc, &mut versions, framed)?;
     }
     Ok(versions)
 }
 
 /// Lands what the record spells.
-fn land_next(alloc: Global, versions: &mut PlainVersions, framed: &Framed) -> Result<(), OpenFault>
+fn land_next<H: Threads + Sync>(
+    rt: &H,
+    alloc: Global,
+    versions: &mut SnapshotVersions,
+    framed: &Framed,
+) -> Result<(), OpenFault>
     ensures landed { OnOk result ((b : Changes) × IsNext versions.old framed.now b × (versions.new ≡ landed b versions.old)) }
     ensures damaged { (side : Side) (at : ℕ) → result ≡ Err (OpenFault.Damaged side at) → (side ≡ Side.A) × (at ≡ framed.now.offset) × ((b : Changes) → IsNext versions.old framed.now b → ⊥) }
     ensures undisturbed { result ≡ Err OpenFault.DiskFault → ⊥ }
 {
     let batch = next_batch(alloc, versions, framed)?;
-    versions.land(alloc, &batch)?;
+    versions.land(rt, alloc, &batch, 1, &FreeGate)?;
     Ok(())
 }
 
 /// The batch whose landing on these versions the record spells.
-fn next_batch(alloc: Global, versions: &PlainVersions, framed: &Framed) -> Result<Batch, OpenFault>
+fn next_batch(
+    alloc: Global,
+    versions: &SnapshotVersions,
+    framed: &Framed,
+) -> Result<Batch, OpenFault>
     ensures found { IfOk result (λ b. IsNext versions.now framed.now b) }
     ensures damaged { (side : Side) (at : ℕ) → result ≡ Err (OpenFault.Damaged side at) → (side ≡ Side.A) × (at ≡ framed.now.offset) × ((b : Changes) → IsNext versions.now framed.now b → ⊥) }
     ensures undisturbed { result ≡ Err OpenFault.DiskFault → ⊥ }

@@ -4,4 +4,4 @@ use Rattle.jf_journal.specs.Standing.{LeadTo}
 use Rattle.jf_engine.proofs.replay.replay.Given as goal
 
 abbrev pub invariant-loop-framed : goal.invariant-loop-framed
-invariant-loop-framed l = LeadTo new_store (take l.framed-index l.records) l.versions
+invariant-loop-framed g l = LeadTo new_store (take l.framed-index l.records) l.versions

@@ -1,0 +1,13 @@
+pub mod LinkValue
+pub mod Children
+pub mod LinkFacts
+pub mod Levels
+pub mod Bodies
+pub mod Falls
+pub mod ChildLaws
+pub mod MarkLaws
+pub mod Shown
+pub mod SnapshotValue
+pub mod Snapshots
+pub mod ShownLaws
+pub mod SnapshotLaws

@@ -1,0 +1,10 @@
+use Rattle.std.proofs.Common.{subst, sym, ap, ◌∙◌, ◌+◌}
+use Rattle.jf_hash.specs.Maps.{apply}
+use Rattle.jf_snapshots.specs.Kept.{AreKept}
+use Rattle.jf_snapshots.proofs.Histories.{are-landed}
+use Rattle.jf_snapshots.proofs.versions.SnapshotVersions.land.Goals as goal
+
+pub invariant_of-self-2 : goal.invariant_of-self-2
+invariant_of-self-2 g c =
+    subst AreKept (sym c.in_ok-push.ensures.items) (are-landed c.self.inside.snapshots.items c.in_ok-update.update.snapshot c.args.self.now c.args.batch.now c.self.invariant c.self.view_is
+    (c.in_ok-update.ensures.map ∙ ap (λ m. apply m c.args.batch.now) c.newest.ensures.map) (c.in_ok-update.ensures.version ∙ ap (λ n. n + 1) c.newest.ensures.version) c.know.ensures.map c.requires.last)
