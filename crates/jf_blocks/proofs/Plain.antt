@@ -58,7 +58,8 @@ without-join w (v ∷ vs) h hs =
     let parts = both_pass (is_plain v) (all_plain vs) hs in
     without-append 10 w (32 ∷ join_with_byte 32 (v ∷ vs)) (both_pass (without 32 w) (without 10 w) h).1 (without-join v vs parts.0 parts.1)
 
-lines-first : (line rest : List ℕ) → without 10 line ≡ true → lines (line ++ 10 ∷ rest) ≡ line ∷ lines rest
+-- up to the first line feed stands the first line
+pub lines-first : (line rest : List ℕ) → without 10 line ≡ true → lines (line ++ 10 ∷ rest) ≡ line ∷ lines rest
 unfolding lines
 lines-first [] rest h = refl
 lines-first (b ∷ line) rest h = let parts = not_and_passes (b == 10) (without 10 line) h in rw (parts.0, lines-first line rest parts.1) refl

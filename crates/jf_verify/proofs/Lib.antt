@@ -1,0 +1,5 @@
+pub mod Finding
+pub mod Turns
+pub mod Feeds
+pub mod Bounds
+pub mod LineByLine

@@ -1,0 +1,29 @@
+-- One line, and those that come behind it.
+use Rattle.std.proofs.Common.{◌≡◌, ℕ, ◌+◌, true, List, ◌∷◌, ◌++◌, refl, ap}
+use Rattle.std.proofs.lemmas.List.{append_assoc}
+use Rattle.jf_script.specs.Words.{is_long}
+use Rattle.jf_verify.specs.declared.stage.Stage.{Stage}
+use Rattle.jf_verify.specs.declared.stage.Stage.TheVariants as stage
+use Rattle.jf_verify.specs.Verdicts.{Judging}
+use Rattle.jf_verify.specs.Steps.{State, Step, said, after, line_step, rest}
+use Rattle.jf_verify.specs.Laws.{LongLinesAreAlike}
+
+-- what is written and what is still to be said are together the same behind a line
+pub rest-in_turn : (before written : List ℕ) (s next : State) (line : List ℕ) (ls : List (List ℕ)) → written ≡ before ++ said s line → next ≡ after s line
+    → written ++ rest next ls ≡ before ++ rest s (line ∷ ls)
+unfolding rest
+rest-in_turn before written s next line ls e is = rw (e, is) (append_assoc before (said s line) (rest (after s line) ls))
+
+-- a long line is like any other
+pub long-alike : (at : ℕ) (j : Judging) (s : Stage) (line other : List ℕ) → is_long line ≡ true → is_long other ≡ true → line_step at j s line ≡ line_step at j s other
+unfolding line_step
+long-alike at j stage.Between line other e h = rw (e, h) refl
+long-alike at j (stage.Name root n) line other e h = rw (e, h) refl
+long-alike at j (stage.Claim root n key) line other e h = rw (e, h) refl
+long-alike at j (stage.Leaf root n key claim) line other e h = rw (e, h) refl
+long-alike at j (stage.Sides root n block) line other e h = rw (e, h) refl
+
+pub rest-long : LongLinesAreAlike
+unfolding rest
+rest-long s line other ls long too =
+    ap (λ a. a.text ++ rest (record { at = s.at + 1; known = a.known; stage = a.stage }) ls) (long-alike s.at s.known s.stage line other long too)

@@ -1,0 +1,17 @@
+-- What holds of all inputs, as statements for calls that do nothing and ensure them.
+use Rattle.std.specs.Prelude.{◌≡◌, ℕ, List, ◌∷◌, ◌++◌, IsTrue}
+use Rattle.jf_script.specs.Words.{is_long, lines}
+use Rattle.jf_verify.specs.Verdicts.{verdicts}
+use Rattle.jf_verify.specs.Steps.{State, begun, said, after, rest}
+
+-- an input is answered line by line
+abbrev pub VerdictsComeLineByLine : Type 0
+VerdictsComeLineByLine = (input : List ℕ) → verdicts input ≡ rest begun (lines input)
+
+-- a line is answered before those that come behind it
+abbrev pub LinesAreAnsweredInTurn : Type 0
+LinesAreAnsweredInTurn = (s : State) (line : List ℕ) (ls : List (List ℕ)) → rest s (line ∷ ls) ≡ said s line ++ rest (after s line) ls
+
+-- of a long line it only counts that it is long
+abbrev pub LongLinesAreAlike : Type 0
+LongLinesAreAlike = (s : State) (line other : List ℕ) (ls : List (List ℕ)) → IsTrue (is_long line) → IsTrue (is_long other) → rest s (line ∷ ls) ≡ rest s (other ∷ ls)

@@ -1,0 +1,4 @@
+pub mod Verdicts
+pub mod Accepted
+pub mod Steps
+pub mod Laws

@@ -1,0 +1,117 @@
+-- What is said of proof texts.
+use Rattle.std.specs.Prelude.{ℕ, zero, suc, ◌+◌, ◌-◌, Bool, true, false, not, ◌&&◌, List, [], ◌∷◌, ◌++◌, drop, length, find, Option, Some, None, Ok, Err, codes, decimal, bytes_eq}
+use Rattle.hex.specs.Hex.{encode_lower}
+use Rattle.jf_hash.specs.Hashes.{K}
+use Rattle.jf_evidence.specs.Proofs.{refusal}
+use Rattle.jf_evidence.specs.Clashes.{clash}
+use Rattle.jf_evidence.specs.declared.proof.ProofFault.{ProofFault}
+use Rattle.jf_evidence.specs.declared.proof.ProofFault.TheVariants as fault
+use Rattle.jf_collide.specs.declared.judged.Judged.{Judged}
+use Rattle.jf_script.specs.Words.{line_text, lines}
+use Rattle.jf_blocks.specs.Reading.{Place, Read, Block, start, line_read, first_of, proof_block}
+use Rattle.jf_blocks.specs.declared.first.FirstLine.{FirstLine}
+use Rattle.jf_blocks.specs.declared.first.FirstLine.TheVariants as first
+use Rattle.jf_verify.specs.declared.accepted.Accepted.{Accepted}
+
+-- the root that was set, and the accepted claims in order
+pub record Judging : Type 0 where
+  pub root : Option (List ℕ)
+  pub claims : List Accepted
+
+-- ---- one block
+
+-- the number of a check that fails
+abbrev pub fault_number : ProofFault → ℕ
+fault_number fault.TooDeep = 1
+fault_number fault.WrongLeaf = 2
+fault_number fault.WrongPrefix = 3
+fault_number fault.WrongRoot = 4
+
+-- `refused` and the number of the check
+abbrev pub refused_text : ProofFault → List ℕ
+refused_text why = line_text (codes "refused" ∷ decimal (fault_number why) ∷ [])
+
+-- whether two claims say the same
+abbrev pub same_claim : Option (List ℕ) → Option (List ℕ) → Bool
+same_claim None None = true
+same_claim None (Some w) = false
+same_claim (Some v) None = false
+same_claim (Some v) (Some w) = bytes_eq v w
+
+-- whether another claim is on the same root and key and claims another thing
+abbrev pub contradicts : Accepted → Accepted → Bool
+contradicts a b = bytes_eq b.root a.root && bytes_eq b.judged.key a.judged.key && not (same_claim b.judged.claim a.judged.claim)
+
+-- the first accepted claim that contradicts this one
+abbrev pub contradicted : Accepted → List Accepted → Option Accepted
+contradicted a claims = find (contradicts a) claims
+
+-- `collision` and the two lists
+abbrev pub collision_text : Option (List ℕ × List ℕ) → List ℕ
+collision_text None = []
+collision_text (Some pair) = line_text (codes "collision" ∷ encode_lower pair.0 ∷ encode_lower pair.1 ∷ [])
+
+-- where a claim and an earlier one come apart
+abbrev pub contradiction_text : Accepted → Option Accepted → List ℕ
+contradiction_text a None = []
+contradiction_text a (Some b) = collision_text (clash a.judged.key b.judged.claim b.judged.proof a.judged.claim a.judged.proof)
+
+-- a block is a claim on the key of its name
+abbrev pub judged_of : Block → Judged
+judged_of block = record { key = K block.0; claim = block.1; proof = block.2 }
+
+-- what a claim is answered under a root, and the accepted claims after it
+unfoldable pub judged : List ℕ → List Accepted → Judged → List ℕ × List Accepted
+judged root claims j =
+    let a : Accepted = record { root = root; judged = j } in
+    elim (refusal root j.key j.claim j.proof) [
+      | Some why ↦ (refused_text why, claims)
+      | None ↦ (line_text (codes "accepted" ∷ []) ++ contradiction_text a (contradicted a claims), claims ++ a ∷ [])
+    ]
+
+-- ---- what comes next
+
+-- `syntax` and the number of a line
+abbrev pub syntax_text : ℕ → List ℕ
+syntax_text at = line_text (codes "syntax" ∷ decimal at ∷ [])
+
+-- what stands behind line `at`
+abbrev pub behind : ℕ → Place → Place
+behind at p = record { at = at + 1; left = drop (at + 1 - p.at) p.left }
+
+-- one answer, what is known after it, and the place behind
+pub record Said : Type 0 where
+  pub text : List ℕ
+  pub known : Judging
+  pub place : Place
+
+-- line `at` is the first that doesn't match
+abbrev pub wrong_at : ℕ → Judging → Place → Said
+wrong_at at j p = record { text = syntax_text at; known = j; place = behind at p }
+
+-- a block was read, or one of its lines doesn't match
+abbrev pub say_block : List ℕ → Judging → Place → Read Block → Said
+say_block root j p (Err at) = wrong_at at j p
+say_block root j p (Ok b) = let a = judged root j.claims (judged_of b.0) in record { text = a.0; known = record { root = j.root; claims = a.1 }; place = b.1 }
+
+-- the place p is that of the first line, and q is behind it
+abbrev pub say : Judging → Place → Place → Option FirstLine → Said
+say j p q None = wrong_at p.at j p
+say j p q (Some (first.Root root)) = record { text = []; known = record { root = Some root; claims = j.claims }; place = q }
+say j p q (Some (first.Proof n)) = elim j.root [ None ↦ wrong_at p.at j p | Some root ↦ say_block root j p (proof_block n q) ]
+
+-- ---- all of the input
+
+-- the number n isn't below that of the lines left
+unfoldable pub verdicts_from : ℕ → Judging → Place → List ℕ
+verdicts_from zero j p = []
+verdicts_from (suc n) j p =
+    elim p.left [ [] ↦ [] | line ∷ rest ↦ let s = say j p (record { at = p.at + 1; left = rest }) (line_read first_of line) in s.text ++ verdicts_from n s.known s.place ]
+
+-- nothing is set and nothing accepted
+abbrev pub nothing_known : Judging
+nothing_known = record { root = None; claims = [] }
+
+-- the text that answers an input
+unfoldable pub verdicts : List ℕ → List ℕ
+verdicts input = verdicts_from (length (lines input)) nothing_known (start (lines input))

@@ -1,0 +1,60 @@
+// Answers as text.
+ghost use Rattle.std.specs.Prelude.{◌≡◌, ◌++◌, ◌∷◌, [], Some, codes, OnOk, OnErr};
+ghost use Rattle.std.specs.Prelude.{decimal};
+ghost use Rattle.jf_script.specs.Words.{line_text};
+ghost use Rattle.jf_script.specs.Replies.{Extends};
+ghost use Rattle.jf_verify.specs.Verdicts.{fault_number, refused_text, collision_text, syntax_text};
+
+use itoa::Buffer;
+use jf_blocks::write_hex;
+use jf_path::{Bytes, Memory};
+use jf_proof::ProofFault;
+
+/// The number of a check that fails.
+fn fault_number(why: ProofFault) -> u64
+    ensures { result ≡ fault_number why }
+{
+    match why {
+        ProofFault::TooDeep => 1,
+        ProofFault::WrongLeaf => 2,
+        ProofFault::WrongPrefix => 3,
+        ProofFault::WrongRoot => 4,
+    }
+}
+
+/// Appends why a claim is refused.
+pub(crate) fn write_refused(why: ProofFault, out: &mut Bytes) -> Result<(), Memory>
+    ensures ok { OnOk result (out.new ≡ out.old ++ refused_text why) }
+    ensures err { OnErr result (Extends out.old out.new) }
+{
+    write_numbered(b"refused ", fault_number(why), out)
+}
+
+/// Appends the number of a line that doesn't match.
+pub(crate) fn write_syntax(at: u64, out: &mut Bytes) -> Result<(), Memory>
+    ensures ok { OnOk result (out.new ≡ out.old ++ syntax_text at) }
+    ensures err { OnErr result (Extends out.old out.new) }
+{
+    write_numbered(b"syntax ", at, out)
+}
+
+/// Appends two lists with one hash.
+pub(crate) fn write_collision(first: &[u8], second: &[u8], out: &mut Bytes) -> Result<(), Memory>
+    ensures ok { OnOk result (out.new ≡ out.old ++ collision_text (Some (first.now, second.now))) }
+    ensures err { OnErr result (Extends out.old out.new) }
+{
+    write_hex(b"collision ", first, out)?;
+    write_hex(b" ", second, out)?;
+    out.push(b'\n')
+}
+
+/// Appends a number behind a label, and ends the line.
+fn write_numbered(label: &[u8], number: u64, out: &mut Bytes) -> Result<(), Memory>
+    ensures ok { OnOk result (out.new ≡ out.old ++ (label.now ++ (decimal number ++ 10 ∷ []))) }
+    ensures err { OnErr result (Extends out.old out.new) }
+{
+    let mut text = Buffer::new();
+    out.append(label)?;
+    out.append(text.format(number).as_bytes())?;
+    out.push(b'\n')
+}

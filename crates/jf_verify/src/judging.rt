@@ -1,0 +1,121 @@
+// An input that is judged line by line.
+ghost use Rattle.std.specs.Prelude.{◌≡◌, ℕ, ◌+◌, List, [], ◌∷◌, ◌++◌, IfOk, OnOk, OnErr};
+ghost use Rattle.jf_script.specs.Replies.{Extends};
+ghost use Rattle.jf_verify.specs.Steps.{State, begun, said, after, rest, end_text};
+
+use crate::answers::write_syntax;
+use crate::known::Known;
+use crate::reading::read_line;
+use crate::stage::Stage;
+use jf_path::{Bytes, Memory};
+use std::alloc::Global;
+use std::marker::Model;
+use std::mem::replace;
+
+/// Judges the lines of an input one after another, each given without the byte that ends it. Of a line of more than 8,500
+/// bytes the first 8,501 will do. A refusal, for want of memory or where lines can no more be counted in 64 bits, leaves
+/// the text as it was, and a judge that has read nothing.
+#[derive(Debug, Drop)]
+pub struct Judge {
+    at: u64,
+    known: Known,
+    stage: Stage,
+}
+
+impl Model for Judge {
+    ghost use Rattle.jf_verify.specs.Steps.{State};
+
+    ghost Value = { State };
+
+    ghost view = { λ j. record { at = j.at; known = j.known; stage = j.stage } };
+}
+
+impl Judge {
+    /// Nothing is read yet.
+    pub fn new(alloc: Global) -> Judge
+        ensures { result ≡ begun }
+    {
+        Judge {
+            at: 1,
+            known: Known::new(alloc),
+            stage: Stage::Between,
+        }
+    }
+
+    /// Reads the next line, and appends what it is answered.
+    pub fn line(&mut self, alloc: Global, line: &[u8], out: &mut Bytes) -> Result<(), Memory>
+        ensures said { OnOk result (out.new ≡ out.old ++ said self.old line.now) }
+        ensures after { OnOk result (self.new ≡ after self.old line.now) }
+        ensures rest { OnOk result ((ls : List (List ℕ)) → out.new ++ rest self.new ls ≡ out.old ++ rest self.old (line.now ∷ ls)) }
+        ensures err { OnErr result ((out.new ≡ out.old) × (self.new ≡ begun)) }
+    {
+        let before = out.len();
+        let judge = replace(self, Judge::new(alloc));
+        match judge.behind(alloc, line, out) {
+            Ok(judge) => {
+                *self = judge;
+                Ok(())
+            }
+            Err(Memory) => {
+                out.truncate(before);
+                Err(Memory)
+            }
+        }
+    }
+
+    /// Appends what is answered where the input ends, and begins anew.
+    #[tactic(auto, unfolding(crate::specs::Steps::rest))]
+    pub fn end(&mut self, alloc: Global, out: &mut Bytes) -> Result<(), Memory>
+        ensures ok { OnOk result (out.new ≡ out.old ++ rest self.old []) }
+        ensures err { OnErr result (out.new ≡ out.old) }
+        ensures begun { self.new ≡ begun }
+    {
+        let before = out.len();
+        let judge = replace(self, Judge::new(alloc));
+        match judge.write_end(out) {
+            Ok(()) => Ok(()),
+            Err(Memory) => {
+                out.truncate(before);
+                Err(Memory)
+            }
+        }
+    }
+
+    /// The judge behind one line more.
+    fn behind(self, alloc: Global, line: &[u8], out: &mut Bytes) -> Result<Judge, Memory>
+        ensures said { OnOk result (out.new ≡ out.old ++ said self line.now) }
+        ensures after { IfOk result (λ judge. judge ≡ after self line.now) }
+        ensures err { OnErr result (Extends out.old out.new) }
+    {
+        let Judge {
+            at,
+            mut known,
+            stage,
+        } = self;
+        let next = number_behind(at)?;
+        let stage = read_line(alloc, &mut known, at, stage, line, out)?;
+        Ok(Judge {
+            at: next,
+            known,
+            stage,
+        })
+    }
+
+    /// Appends what is answered where the input ends.
+    fn write_end(self, out: &mut Bytes) -> Result<(), Memory>
+        ensures ok { OnOk result (out.new ≡ out.old ++ end_text self.at self.stage) }
+        ensures err { OnErr result (Extends out.old out.new) }
+    {
+        match self.stage {
+            Stage::Between => Ok(()),
+            _ => write_syntax(self.at, out),
+        }
+    }
+}
+
+/// The number of the line behind line `at`.
+fn number_behind(at: u64) -> Result<u64, Memory>
+    ensures { IfOk result (λ n. n ≡ at + 1) }
+{
+    at.checked_add(1).ok_or(Memory)
+}
