@@ -1,3 +1,4 @@
 pub mod Plain
 pub mod Lines
 pub mod Found
+pub mod Written

@@ -7,6 +7,7 @@ use Rattle.jf_io.specs.Sink.{IsCutShort}
 use Rattle.jf_input.specs.Inputs.{IsPlain, ended}
 use Rattle.jf_input.proofs.Plain.{front_plain, front_split, front_whole, held_plain}
 use Rattle.jf_input.proofs.Lines.{plain_more}
+use Rattle.jf_input.proofs.Written.{nothing_written, written_more}
 use Rattle.jf_model.specs.States.{State}
 use Rattle.jf_answers.specs.Own.{Own}
 use Rattle.jf_answers.specs.Answers.{Answer, answer}
@@ -26,14 +27,6 @@ pub record Sofar (old s : Session) (rest rest' text text' : Option (List ℕ)) (
   pub input : (all : List ℕ) → rest ≡ Some all → (left : List ℕ) × (rest' ≡ Some left) × (all ≡ ended done ++ held ++ left)
 
 -- ---- texts
-
-nothing_written : (text : Option (List ℕ)) → text ≡ option_map (λ t. t ++ []) text
-nothing_written None = refl
-nothing_written (Some t) = ap (λ x. Some x) (sym (append-nil t))
-
-written_more : (text : Option (List ℕ)) (a b : List ℕ) → option_map (λ t. t ++ b) (option_map (λ t. t ++ a) text) ≡ option_map (λ t. t ++ (a ++ b)) text
-written_more None a b = refl
-written_more (Some t) a b = ap (λ x. Some x) (append_assoc t a b)
 
 text_split : (s : State) (own : Own) (ls ms : List (List ℕ)) → text_of (answers_from s own (ls ++ ms)) ≡ text_of (answers_from s own ls) ++ text_of (answers_from (answers_from s own ls).state (answers_from s own ls).own ms)
 text_split s own ls ms =
@@ -273,8 +266,3 @@ module _ (old s : Session) (rest rest' text text' : Option (List ℕ)) (held : L
         writes = record { text = text_of (run_of old f.done); by = refl; appended = same ∙ f.written };
         reads = reads_line_disk where_;
       }
-
--- a count that rose behind another
-pub rose_behind : (a b c : ℕ) → a ≤ b → b ≤ c → (b < c) ⊎ (b ≡ 2 ^ 64 - 1) → (a < c) ⊎ (a ≡ 2 ^ 64 - 1)
-rose_behind a b c le le' (inl lt) = inl (omega arith)
-rose_behind a b c le le' (inr last) = elim (eq-or-lt_of_le le) [ inl same ↦ inr (same ∙ last) | inr lt ↦ inl (omega arith) ]

@@ -2,3 +2,4 @@ pub mod Verdicts
 pub mod Accepted
 pub mod Steps
 pub mod Laws
+pub mod Streams
