@@ -10,6 +10,7 @@ use crate::session::Session;
 use crate::stop::Stop;
 use jf_disk::Disk;
 use jf_io::{FetchFault, LineReader, Sink, Source, put_all};
+use jf_join::Gate;
 use jf_model::Ledger;
 use jf_path::Bytes;
 use std::alloc::Global;
@@ -42,20 +43,25 @@ pub struct SoloRan<D> {
     pub end: End,
 }
 
-/// Answers the lines of a source into a sink, each before the next is looked at. Input is taken in large pieces.
-pub fn run<S: Source, K: Sink, D: Disk, H: Threads + Sync>(
+/// Answers the lines of a source into a sink, each before the next is looked at, and a landing with at most this many
+/// workers. Input is taken in large pieces.
+pub fn run<S: Source, K: Sink, D: Disk, H: Threads + Sync, G: Gate>(
     rt: &H,
     alloc: Global,
     mut session: Session<D>,
     source: &mut S,
     sink: &mut K,
+    workers: u64,
+    gate: &G,
 ) -> SoloRan<D>
-    requires { session.over ≡ false }
+    requires over { session.over ≡ false }
+    requires some { 1 ≤ workers }
+    requires few { workers ≤ 64 }
     ensures ran { HasRun result.end session (S.rest source.old) (S.rest source.new) (K.text sink.old) (K.text sink.new) (D.history result.disk) (D.moment result.disk) (D.faults result.disk) result.entries }
     ensures read { result.end ≡ End.ReadFault → (S.faults source.old < S.faults source.new) ⊎ (S.faults source.old ≡ 2 ^ 64 - 1) }
     ensures write { result.end ≡ End.WriteFault → (K.faults sink.old < K.faults sink.new) ⊎ (K.faults sink.old ≡ 2 ^ 64 - 1) }
 {
-    let end = match answer_all(rt, alloc, &mut session, source, sink) {
+    let end = match answer_all(rt, alloc, &mut session, source, sink, workers, gate) {
         Ok(()) => End::Done,
         Err(end) => end,
     };
@@ -64,14 +70,18 @@ pub fn run<S: Source, K: Sink, D: Disk, H: Threads + Sync>(
 }
 
 // Answers all lines of a source.
-fn answer_all<S: Source, K: Sink, D: Disk, H: Threads + Sync>(
+fn answer_all<S: Source, K: Sink, D: Disk, H: Threads + Sync, G: Gate>(
     rt: &H,
     alloc: Global,
     session: &mut Session<D>,
     source: &mut S,
     sink: &mut K,
+    workers: u64,
+    gate: &G,
 ) -> Result<(), End>
-    requires { session.old.over ≡ false }
+    requires over { session.old.over ≡ false }
+    requires some { 1 ≤ workers }
+    requires few { workers ≤ 64 }
     ensures done { OnOk result (Ran End.Done session.old session.new (S.rest source.old) (S.rest source.new) (K.text sink.old) (K.text sink.new)) }
     ensures ended { IfErr result (λ e. Ran e session.old session.new (S.rest source.old) (S.rest source.new) (K.text sink.old) (K.text sink.new)) }
     ensures read { result ≡ Err End.ReadFault → (S.faults source.old < S.faults source.new) ⊎ (S.faults source.old ≡ 2 ^ 64 - 1) }
@@ -88,7 +98,16 @@ fn answer_all<S: Source, K: Sink, D: Disk, H: Threads + Sync>(
             Err(FetchFault::Memory) => return Err(End::Memory),
         }
         let is_last = reader.is_last();
-        match answer_line(rt, alloc, session, sink, &mut out, reader.line()) {
+        match answer_line(
+            rt,
+            alloc,
+            session,
+            sink,
+            &mut out,
+            reader.line(),
+            workers,
+            gate,
+        ) {
             Ok(()) => {}
             Err(end) => return Err(end),
         }
@@ -101,15 +120,19 @@ fn answer_all<S: Source, K: Sink, D: Disk, H: Threads + Sync>(
 }
 
 // Answers a line, and hands the reply to the sink.
-fn answer_line<K: Sink, D: Disk, H: Threads + Sync>(
+fn answer_line<K: Sink, D: Disk, H: Threads + Sync, G: Gate>(
     rt: &H,
     alloc: Global,
     session: &mut Session<D>,
     sink: &mut K,
     out: &mut Bytes,
     line: &[u8],
+    workers: u64,
+    gate: &G,
 ) -> Result<(), End>
-    requires { session.old.over ≡ false }
+    requires over { session.old.over ≡ false }
+    requires some { 1 ≤ workers }
+    requires few { workers ≤ 64 }
     ensures ok { OnOk result (Does session.old session.new (answer session.old.state session.old.own line.now)) }
     ensures text { OnOk result (K.text sink.new ≡ option_map (λ t. t ++ answer_text session.new.state.count (answer session.old.state session.old.own line.now)) (K.text sink.old)) }
     ensures goes_on { OnOk result (session.new.over ≡ false) }
@@ -124,7 +147,7 @@ fn answer_line<K: Sink, D: Disk, H: Threads + Sync>(
 {
     out.clear();
     session.know_dated();
-    let stepped = session.step(rt, alloc, line, out);
+    let stepped = session.step(rt, alloc, line, out, workers, gate);
     session.know_dated();
     match stepped {
         Ok(()) => {}

@@ -23,6 +23,7 @@ use crate::stop::Stop;
 use jf_disk::Disk;
 use jf_engine::{Engine, EngineFault, Landed, OpenFault, OpenRefused};
 use jf_hash::key_of;
+use jf_join::Gate;
 use jf_model::{Entry, Landing, Ledger};
 use jf_path::{Bytes, Memory};
 use jf_script::{Base, Command, LineFault, Refusal, Reply, read_line, write_reply};
@@ -101,17 +102,21 @@ impl<D: Disk> Session<D> {
         self.engine.head()
     }
 
-    /// Answers a line: its reply is appended to `out`. After a refusal `out` is as before and the session is over.
+    /// Answers a line, a landing with at most this many workers: its reply is appended to `out`. After a refusal `out` is as before and the session is over.
     /// On `DiskFault` the line would have landed what is pending. On `Memory` the line was done and its reply is
     /// missing, or nothing was done.
-    pub fn step<H: Threads + Sync>(
+    pub fn step<H: Threads + Sync, G: Gate>(
         &mut self,
         rt: &H,
         alloc: Global,
         line: &[u8],
         out: &mut Bytes,
+        workers: u64,
+        gate: &G,
     ) -> Result<(), Stop>
-        requires { self.old.over ≡ false }
+        requires over { self.old.over ≡ false }
+        requires some { 1 ≤ workers }
+        requires few { workers ≤ 64 }
         ensures ok { OnOk result (Does self.old self.new (answer self.old.state self.old.own line.now)) }
         ensures text { OnOk result (out.new ≡ out.old ++ answer_text self.new.state.count (answer self.old.state self.old.own line.now)) }
         ensures goes_on { OnOk result (self.new.over ≡ false) }
@@ -121,7 +126,7 @@ impl<D: Disk> Session<D> {
         ensures fault { result ≡ Err Stop.DiskFault → Tries self.old self.new (answer self.old.state self.old.own line.now) }
         ensures sole { result ≡ Err Stop.Broken → ⊥ }
     {
-        match self.answered(rt, alloc, line) {
+        match self.answered(rt, alloc, line, workers, gate) {
             Ok(reply) => {
                 let seen = self.entries.len() as u64;
                 if write_reply(seen, &reply, out).is_err() {
@@ -161,13 +166,17 @@ impl<D: Disk> Session<D> {
     }
 
     // The reply to a line, which is done where the reply says so.
-    fn answered<H: Threads + Sync>(
+    fn answered<H: Threads + Sync, G: Gate>(
         &mut self,
         rt: &H,
         alloc: Global,
         line: &[u8],
+        workers: u64,
+        gate: &G,
     ) -> Result<Reply, Stop>
-        requires { self.old.over ≡ false }
+        requires over { self.old.over ≡ false }
+        requires some { 1 ≤ workers }
+        requires few { workers ≤ 64 }
         ensures ok { OnOk result (Does self.old self.new (answer self.old.state self.old.own line.now)) }
         ensures reply { IfOk result (λ r. r ≡ (answer self.old.state self.old.own line.now).reply) }
         ensures same { OnOk result (self.new.over ≡ false) }
@@ -181,17 +190,21 @@ impl<D: Disk> Session<D> {
             Err(LineFault::LineTooLong) => return Ok(Reply::No(Refusal::Long)),
             Err(LineFault::Memory) => return Err(Stop::Memory),
         };
-        self.obeyed(rt, alloc, &command)
+        self.obeyed(rt, alloc, &command, workers, gate)
     }
 
     // The reply to a command. One that isn't built is answered as a line outside the grammar.
-    fn obeyed<H: Threads + Sync>(
+    fn obeyed<H: Threads + Sync, G: Gate>(
         &mut self,
         rt: &H,
         alloc: Global,
         command: &Command,
+        workers: u64,
+        gate: &G,
     ) -> Result<Reply, Stop>
         requires over { self.old.over ≡ false }
+        requires some { 1 ≤ workers }
+        requires few { workers ≤ 64 }
         requires bounded { IsBounded command.now }
         ensures ok { OnOk result (Does self.old self.new (command_answer self.old command.now)) }
         ensures reply { IfOk result (λ r. r ≡ (command_answer self.old command.now).reply) }
@@ -203,7 +216,7 @@ impl<D: Disk> Session<D> {
         match command {
             Command::Put { name, value } => self.put(alloc, name.as_slice(), value.as_slice()),
             Command::Del { name } => self.del(alloc, name.as_slice()),
-            Command::Commit => self.commit(rt, alloc),
+            Command::Commit => self.commit(rt, alloc, workers, gate),
             Command::Get { base, name } => self.get(alloc, *base, name.as_slice()),
             Command::Root { base } => Ok(self.root(*base)),
             _ => Ok(Reply::No(Refusal::Syntax)),
@@ -315,8 +328,16 @@ impl<D: Disk> Session<D> {
     }
 
     // Lands what is pending. Room for its entry is made before the disk is touched.
-    fn commit<H: Threads + Sync>(&mut self, rt: &H, alloc: Global) -> Result<Reply, Stop>
-        requires { self.old.over ≡ false }
+    fn commit<H: Threads + Sync, G: Gate>(
+        &mut self,
+        rt: &H,
+        alloc: Global,
+        workers: u64,
+        gate: &G,
+    ) -> Result<Reply, Stop>
+        requires over { self.old.over ≡ false }
+        requires some { 1 ≤ workers }
+        requires few { workers ≤ 64 }
         ensures ok { OnOk result (Does self.old self.new (commit_answer self.old)) }
         ensures reply { IfOk result (λ r. r ≡ (commit_answer self.old).reply) }
         ensures same { OnOk result (self.new.over ≡ false) }
@@ -332,7 +353,7 @@ impl<D: Disk> Session<D> {
         }
         self.engine.know();
         let _ = self.pending.as_slice();
-        match self.engine.land(rt, alloc, &self.pending) {
+        match self.engine.land(rt, alloc, &self.pending, workers, gate) {
             Ok(landed) => {
                 let root = landed.root;
                 let batch = mem::replace(&mut self.pending, Batch::new(alloc));

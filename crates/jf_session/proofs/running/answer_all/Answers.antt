@@ -13,7 +13,7 @@ loop-turn-init g c =
     let rest = g.S.Source.rest c.args.source.now in
     let text = g.K.Sink.text c.args.sink.now in
     record {
-      goes_on = c.requires;
+      goes_on = c.requires.over;
       limit = ap (λ (h : Held). h.limit) c.new-reader.ensures;
       sofar = subst (λ (h : Held). SofarHeld c.args.session.now c.args.session.now rest rest text text h.bytes) (sym c.new-reader.ensures) (held_none c.args.session.now rest text);
       source_faults = le_refl _;

@@ -12,7 +12,7 @@ use Rattle.jf_session.proofs.session.Session.commit.Goals as goal
 pub returns-in-Ok-clause-ok : goal.returns-in-Ok-clause-ok
 returns-in-Ok-clause-ok g c =
     let i = c.self.inside in
-    let whole = whole_of i.over i.engine.broken c.self.invariant (ap (λ (s : Session). s.over) c.self.view_is ∙ c.requires) in
+    let whole = whole_of i.over i.engine.broken c.self.invariant (ap (λ (s : Session). s.over) c.self.view_is ∙ c.requires.over) in
     let room : vec_len c.reserve.new.self < vec_capacity c.reserve.new.self = search rules in
     landed_does i.engine i.entries.items i.pending i.over c.args.self.now c.self.view_is c.land.new.self _ _ c.in-Ok.landed.version c.in-Ok.landed.moment c.in-Ok.landed.root
     (omega arith) (below_last _ _ c.know.ensures.head (λ last. absurd (let e = c.in-Ok.ensures.full whole last in cc))) c.as_slice.ensures.sound
@@ -25,7 +25,7 @@ returns-in-Ok-clause-ok g c =
 pub returns-in-Ok-clause-reply : goal.returns-in-Ok-clause-reply
 returns-in-Ok-clause-reply g c =
     let i = c.self.inside in
-    let whole = whole_of i.over i.engine.broken c.self.invariant (ap (λ (s : Session). s.over) c.self.view_is ∙ c.requires) in
+    let whole = whole_of i.over i.engine.broken c.self.invariant (ap (λ (s : Session). s.over) c.self.view_is ∙ c.requires.over) in
     landed_reply i.engine i.entries.items i.pending i.over c.args.self.now c.self.view_is c.land.new.self c.in-Ok.landed.version c.in-Ok.landed.moment c.in-Ok.landed.root
     (omega arith) (below_last _ _ c.know.ensures.head (λ last. absurd (let e = c.in-Ok.ensures.full whole last in cc)))
     (record { versions = c.in-Ok.ensures.landed; version_is = c.in-Ok.ensures.answer.0; root_is = c.in-Ok.ensures.answer.1; moment_is = c.in-Ok.ensures.answer.2 })
@@ -46,7 +46,7 @@ pub returns-in-Err-DiskFault-clause-fault : goal.returns-in-Err-DiskFault-clause
 returns-in-Err-DiskFault-clause-fault g c = λ e.
     let i = c.self.inside in
     let f = c.in-Err-DiskFault.ensures in
-    let whole = whole_of i.over i.engine.broken c.self.invariant (ap (λ (s : Session). s.over) c.self.view_is ∙ c.requires) in
+    let whole = whole_of i.over i.engine.broken c.self.invariant (ap (λ (s : Session). s.over) c.self.view_is ∙ c.requires.over) in
     fault_tries i.engine i.entries.items i.pending i.over c.args.self.now c.self.view_is c.land.new.self _ true c.reserve.ensures.items
     (omega arith) (below_last _ _ c.know.ensures.head (λ last. absurd (let e = f.full whole last in cc))) c.as_slice.ensures.sound
     f.same (f.fault (ap (λ e. Err e) c.in-Err-DiskFault.field-0-is)) f.counts.0 f.counts.1 (λ h told. f.stops h told (ap (λ e. Err e) c.in-Err-DiskFault.field-0-is))
