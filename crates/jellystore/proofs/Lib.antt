@@ -6,3 +6,4 @@ pub mod Stopping
 pub mod Safe
 pub mod Standing
 pub mod Reading
+pub mod Workers

@@ -18,6 +18,7 @@ use crate::words::{Mode, mode_of};
 use jf_disk::{Disk, know_dated};
 use jf_engine::OpenRefused;
 use jf_io::{Sink, Source};
+use jf_join::FreeGate;
 use jf_journal::{damage_is_no_versions, files_stand_for_one};
 use jf_model::Ledger;
 use jf_session::{Session, SoloRan, run};
@@ -71,9 +72,8 @@ pub fn run_words<S: Source, K: Sink, D: Disk, H: Threads + Wait + Sync>(
         (S.rest source.old) (S.rest source.new) (K.text sink.old) (K.text sink.new) result.status result.entries) }
 {
     know_dated(&disk);
-    // No run works in several threads yet: the number of workers is read, and has no effect.
-    match mode_of(alloc, words) {
-        Ok(Some(Mode::Run { workers: _ })) => {}
+    let workers = match mode_of(alloc, words) {
+        Ok(Some(Mode::Run { workers })) => workers,
         Ok(None) => {
             return Ended {
                 status: Status::Usage,
@@ -90,7 +90,7 @@ pub fn run_words<S: Source, K: Sink, D: Disk, H: Threads + Wait + Sync>(
                 start: None,
             };
         }
-    }
+    };
     damage_is_no_versions();
     files_stand_for_one();
     let session = match Session::<D>::over(rt, alloc, disk) {
@@ -106,7 +106,7 @@ pub fn run_words<S: Source, K: Sink, D: Disk, H: Threads + Wait + Sync>(
     };
     session.know_dated();
     let head = session.head();
-    let SoloRan { disk, entries, end } = run(rt, alloc, session, source, sink);
+    let SoloRan { disk, entries, end } = run(rt, alloc, session, source, sink, workers, &FreeGate);
     Ended {
         status: Status::of_end(end),
         disk,

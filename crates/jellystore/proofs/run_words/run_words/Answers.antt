@@ -1,4 +1,4 @@
-use Rattle.std.proofs.Common.{◌≡◌, ◌⊎◌, inr, sym, subst, IsTrue, ◌∙◌, [], refl, true≢false}
+use Rattle.std.proofs.Common.{◌≡◌, ◌⊎◌, inr, ap, map, string_bytes, Some, sym, subst, IsTrue, ◌∙◌, [], refl, true≢false}
 use Rattle.jf_disk.specs.Disk.{reads}
 use Rattle.jellystore.specs.Promises.{IsBegun}
 use Rattle.jellystore.specs.declared.status.Status.TheVariants as status
@@ -7,6 +7,7 @@ use Rattle.jellystore.proofs.Statuses.{memory_told, damage_told, refusal_closes,
 use Rattle.jellystore.proofs.Complete.{steady, refused_for_memory, ends_well, is_legal, is_settled}
 use Rattle.jellystore.proofs.Counting.{run_extends, run_counts, run_dated}
 use Rattle.jellystore.proofs.Safe.{run_safe, run_opened_safe, closed_safe}
+use Rattle.jellystore.proofs.Workers.{mode_runs, mode_workers}
 use Rattle.jellystore.proofs.Standing.{stands-none, settled-stands, damage-told, run_generation}
 use Rattle.jellystore.proofs.run_words.run_words.Goals as goal
 
@@ -132,3 +133,13 @@ returns-in-Err-clause-stops g c = λ h v told calm stands.
 
 pub returns-in-Err-clause-stands : goal.returns-in-Err-clause-stands
 returns-in-Err-clause-stands g c = λ h v told stands sound. rw c.new-in-Err.ensures (stands-none h v (g.D.Disk.history c.args.disk) told stands)
+
+pub run-disk-requires-clause-some : goal.run-disk-requires-clause-some
+run-disk-requires-clause-some g c κs within =
+    let run = mode_runs c.in-Ok-Some-Run.field-0-0 in
+    rw run.1 (mode_workers (map (λ w. string_bytes w) c.args.words.now) run.0 (ap (λ m. Some m) (sym run.1) ∙ (sym c.in-Ok-Some-Run.field-0-is ∙ c.in-Ok-Some-Run.ensures))).0
+
+pub run-disk-requires-clause-few : goal.run-disk-requires-clause-few
+run-disk-requires-clause-few g c κs within =
+    let run = mode_runs c.in-Ok-Some-Run.field-0-0 in
+    rw run.1 (mode_workers (map (λ w. string_bytes w) c.args.words.now) run.0 (ap (λ m. Some m) (sym run.1) ∙ (sym c.in-Ok-Some-Run.field-0-is ∙ c.in-Ok-Some-Run.ensures))).1
