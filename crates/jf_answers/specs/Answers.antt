@@ -1,10 +1,10 @@
 -- What a line is answered.
-use Rattle.std.specs.Prelude.{◌≡◌, ℕ, ◌+◌, Bool, true, false, cond, if◌then◌else◌, IsTrue, List, [], length, Option, Some, None}
+use Rattle.std.specs.Prelude.{◌≡◌, ℕ, ◌+◌, cond, if◌then◌else◌, IsTrue, List, [], length, Option, Some, None}
 use Rattle.std.proofs.Common.{ap, sym, ◌∙◌}
 use Rattle.std.specs.FinMap.{get, put}
 use Rattle.jf_path.specs.Keys.{key_cmp}
 use Rattle.jf_hash.specs.Hashes.{K}
-use Rattle.jf_hash.specs.Maps.{apply}
+use Rattle.jf_hash.specs.Maps.{Map, apply}
 use Rattle.jf_hash.specs.Roots.{root}
 use Rattle.jf_model.specs.Versions.{newest}
 use Rattle.jf_model.specs.States.{State}
@@ -12,6 +12,7 @@ use Rattle.jf_model.specs.Entries.{after}
 use Rattle.jf_model.specs.declared.entries.Landing.TheVariants as landing
 use Rattle.jf_model.specs.declared.entries.Entry.{Entry}
 use Rattle.jf_model.specs.declared.entries.Entry.TheVariants as entry
+use Rattle.jf_evidence.specs.Proofs.{honest}
 use Rattle.jf_script.specs.Words.{is_long}
 use Rattle.jf_script.specs.Commands.{command_of}
 use Rattle.jf_script.specs.declared.command.Command.{Command}
@@ -19,6 +20,7 @@ use Rattle.jf_script.specs.declared.command.Command.TheVariants as command
 use Rattle.jf_script.specs.declared.reply.Refusal.TheVariants as refusal
 use Rattle.jf_script.specs.declared.reply.Reply.{Reply}
 use Rattle.jf_script.specs.declared.reply.Reply.TheVariants as reply
+use Rattle.jf_blocks.specs.Blocks.{proof_lines}
 use Rattle.jf_answers.specs.Own.{Own, with_pending}
 use Rattle.jf_answers.specs.Refusals.{base_map, is_built, refused_by}
 
@@ -60,6 +62,12 @@ committed s own =
     let r = root (apply (newest s.all) own.pending) in
     entered (reply.Commit (s.all.head + 1) r) (entry.Landed own.number (s.all.head + 1) (landing.Direct own.pending) r 0) s (with_pending [] own)
 
+-- the number of siblings, and a block: what a map says of a name, with the honest proof of it
+abbrev pub proved : Map → List ℕ → State → Own → Answer
+proved m name s own =
+    let proof = honest m (K name) in
+    record { reply = reply.Proof (length proof.siblings); block = proof_lines name (get m (K name)) proof; entry = None; state = s; own = own }
+
 -- what a command is answered that nothing refuses
 abbrev pub done : Command → State → Own → Answer
 done (command.Put name value) s own = changed name (Some value) s own
@@ -67,6 +75,7 @@ done (command.Del name) s own = changed name None s own
 done command.Commit s own = committed s own
 done (command.Get on name) s own = replied (reply.Value (get (base_map s own on) (K name))) s own
 done (command.Root on) s own = replied (reply.Root (root (base_map s own on))) s own
+done (command.Prove on name) s own = proved (base_map s own on) name s own
 done c s own = not_read s own
 
 -- the first refusal, which changes nothing, or else what the command does

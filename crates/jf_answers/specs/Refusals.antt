@@ -74,6 +74,7 @@ is_built (command.Del name) = true
 is_built command.Commit = true
 is_built (command.Get on name) = is_readable on
 is_built (command.Root on) = is_readable on
+is_built (command.Prove on name) = is_readable on
 is_built c = false
 
 -- ---- by command, in order
@@ -84,6 +85,7 @@ causes s own (command.Del name) = pending_causes own name
 causes s own command.Commit = ledger_causes s ++ head_causes s
 causes s own (command.Get on name) = base_causes s own on
 causes s own (command.Root on) = base_causes s own on
+causes s own (command.Prove on name) = base_causes s own on
 causes s own c = []
 
 -- the first that holds

@@ -1,16 +1,25 @@
 // How links are made.
 ghost use Rattle.std.specs.Prelude.{◌≡◌, ◌<◌, ◌≤◌, length, IfOk};
-ghost use Rattle.jf_hash.specs.Hashes.{V};
-ghost use Rattle.jf_node.specs.Children.{joined, FitFrom, SameElsewhere, leaf_value, inner_value, moved_value, renewed_value};
-ghost use Rattle.jf_node.specs.LinkFacts.{Agree};
+ghost use Rattle.jf_hash.specs.Hashes.{L, V};
+ghost use Rattle.jf_hash.specs.Ranges.{range_hashes};
+ghost use Rattle.jf_hash.specs.Slots.{slots_of};
+ghost use Rattle.jf_node.specs.Children.{joined, FitFrom, AreChildren, SameElsewhere, leaf_value, inner_value, moved_value, renewed_value};
+ghost use Rattle.jf_node.specs.LinkFacts.{BeginAlike};
 
 use crate::entry::{know_bytes, know_key};
-use crate::link::{Body, Form, Link, Sixteen};
+use crate::link::{Below, Body, Form, Link, Sixteen};
 use crate::seen::Seen;
-use jf_hash::Hash;
+use jf_hash::{Hash, Ranges};
 use jf_path::{Bytes, Key, Memory};
 use std::alloc::Global;
 use std::sync::Arc;
+
+// There are sixteen marks.
+fn know_length(marks: &[bool; 16])
+    ensures { length marks.now ≡ 16 }
+{
+    let _ = marks;
+}
 
 impl Link {
     /// A leaf: one entry, of whose value the hash is given.
@@ -27,6 +36,26 @@ impl Link {
         requires hashed { value_hash.now ≡ V value.now }
         ensures { IfOk result (λ x. x ≡ leaf_value version depth key.now value.now) }
     {
+        let hash = jf_hash::leaf(key, value_hash);
+        Link::hashed_leaf(alloc, version, depth, key, value, value_hash, hash)
+    }
+
+    // A leaf, of which the hash is given too.
+    fn hashed_leaf(
+        alloc: Global,
+        version: u64,
+        depth: u64,
+        key: &Key,
+        value: &[u8],
+        value_hash: &Hash,
+        hash: Hash,
+    ) -> Result<Link, Memory>
+        requires depth { depth ≤ 64 }
+        requires short { length value.now ≤ 4096 }
+        requires hashed { value_hash.now ≡ V value.now }
+        requires hash { hash ≡ L key.now value_hash.now }
+        ensures { IfOk result (λ x. x ≡ leaf_value version depth key.now value.now) }
+    {
         know_key(key);
         know_bytes(value);
         let value = Bytes::copy_of(alloc, value)?;
@@ -36,7 +65,7 @@ impl Link {
                 version,
                 depth,
                 count: 1,
-                hash: jf_hash::leaf(key, value_hash),
+                hash,
                 form: Form::Leaf {
                     key: *key,
                     value,
@@ -52,11 +81,12 @@ impl Link {
         requires depth { depth < 64 }
         requires children { FitFrom depth 0 children }
         requires several { 2 ≤ length (joined children) }
-        requires agree { Agree depth (joined children) }
+        requires alike { BeginAlike depth (joined children) }
         ensures { IfOk result (λ x. x ≡ inner_value version depth children) }
     {
-        let _ = (alloc, version, depth, children);
-        Err(Memory)
+        children.know();
+        let ranges = Ranges::of(&children.slots());
+        Link::over(alloc, version, depth, children, ranges)
     }
 
     /// The same inner node over other children, of which at most those that are marked have other entries. Only the
@@ -71,12 +101,45 @@ impl Link {
         requires inner { 2 ≤ length self.now.entries }
         requires children { FitFrom self.now.depth 0 children }
         requires several { 2 ≤ length (joined children) }
-        requires agree { Agree self.now.depth (joined children) }
+        requires alike { BeginAlike self.now.depth (joined children) }
         requires elsewhere { SameElsewhere changed.now self.now.depth self.now.entries (joined children) }
         ensures { IfOk result (λ x. x ≡ inner_value version self.now.depth children) }
     {
-        let _ = (self, alloc, version, children, changed);
-        Err(Memory)
+        self.know();
+        children.know();
+        know_length(changed);
+        let ranges = self.ranges().updated(&children.slots(), changed);
+        Link::over(alloc, version, self.depth(), children, ranges)
+    }
+
+    // An inner node over its children, of which the hashes of all ranges are given.
+    fn over(
+        alloc: Global,
+        version: u64,
+        depth: u64,
+        children: Sixteen,
+        ranges: Ranges,
+    ) -> Result<Link, Memory>
+        requires children { AreChildren depth children }
+        requires alike { BeginAlike depth (joined children) }
+        requires hashed { ranges ≡ range_hashes (slots_of depth (joined children)) }
+        ensures { IfOk result (λ x. x ≡ inner_value version depth children) }
+    {
+        children.know();
+        let count = children.count().ok_or(Memory)?;
+        let hash = ranges.top();
+        let below = Box::new(alloc, Below { children, ranges })?;
+        let node = Arc::new(
+            alloc,
+            Body {
+                version,
+                depth,
+                count,
+                hash,
+                form: Form::Inner { below },
+            },
+        )?;
+        Ok(Link { node })
     }
 
     /// A leaf at another depth and of another version. Nothing is hashed.
@@ -90,7 +153,7 @@ impl Link {
                 key,
                 value,
                 value_hash,
-            } => Link::leaf(alloc, version, depth, key, value, value_hash),
+            } => { Link::hashed_leaf(alloc, version, depth, key, value, value_hash, self.hash()) }
             Seen::Inner { .. } => unreachable!(),
         }
     }
@@ -101,7 +164,10 @@ impl Link {
     {
         match self.view() {
             Seen::Leaf { .. } => self.at(alloc, version, self.depth()),
-            Seen::Inner { .. } => Err(Memory),
+            Seen::Inner { children } => {
+                let children = children.share()?;
+                Link::over(alloc, version, self.depth(), children, *self.ranges())
+            }
         }
     }
 }

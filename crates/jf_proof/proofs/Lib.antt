@@ -1,0 +1,4 @@
+pub mod Places
+pub mod Halves
+pub mod Steps
+pub mod Ends

@@ -1,11 +1,15 @@
-//! Whether a claim on one key, a value or its absence, is shown by a proof to somebody who has only the root of a map.
+//! Whether a claim on one key, a value or its absence, is shown by a proof to somebody who has only the root of a map;
+//! and the proof that shows it.
 #![tactic(auto)]
 
 mod checks;
 mod claim;
+mod honest;
+mod standing;
 mod way;
 
 pub use claim::verify;
+pub use honest::prove;
 pub use jf_evidence::{Proof, ProofFault, honest_claims_are_accepted};
 
 #[cfg(test)]

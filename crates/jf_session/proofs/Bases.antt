@@ -1,5 +1,5 @@
 -- What reads are answered: why the base isn't read, or what its map holds.
-use Rattle.std.proofs.Common.{◌≡◌, ◌∙◌, ℕ, ◌≤◌, Option, Some, None, List, refl, sym, subst, ap}
+use Rattle.std.proofs.Common.{◌≡◌, ◌∙◌, ℕ, ◌≤◌, Option, Some, None, option_map, List, ◌++◌, length, refl, sym, subst, ap}
 use Rattle.std.specs.Option.{SomeIff}
 use Rattle.std.specs.FinMap.{get}
 use Rattle.jf_hash.specs.Hashes.{K}
@@ -8,7 +8,10 @@ use Rattle.jf_hash.specs.Roots.{root}
 use Rattle.jf_model.specs.Versions.{Versions, IsVersions, map_of, root_of}
 use Rattle.jf_model.specs.VersionLaws.{root_of-map_of}
 use Rattle.jf_answers.specs.Refusals.{base_map, refused_by}
-use Rattle.jf_answers.specs.Answers.{Answer, done, replied}
+use Rattle.jf_evidence.specs.Proofs.{honest}
+use Rattle.jf_node.specs.SnapshotValue.{SnapshotValue}
+use Rattle.jf_blocks.specs.Blocks.{proof_lines}
+use Rattle.jf_answers.specs.Answers.{Answer, done, proved, replied}
 use Rattle.jf_script.specs.declared.command.Base.{Base}
 use Rattle.jf_script.specs.declared.command.Base.TheVariants as base
 use Rattle.jf_script.specs.declared.command.Command.{Command}
@@ -16,7 +19,7 @@ use Rattle.jf_script.specs.declared.command.Command.TheVariants as command
 use Rattle.jf_script.specs.declared.reply.Refusal.{Refusal}
 use Rattle.jf_script.specs.declared.reply.Refusal.TheVariants as refusal
 use Rattle.jf_script.specs.declared.reply.Reply.TheVariants as reply
-use Rattle.jf_session.specs.Sessions.{Session, get_answer, root_answer, read_refusal}
+use Rattle.jf_session.specs.Sessions.{Session, get_answer, root_answer, prove_answer, read_refusal}
 
 -- the refusal, or what the command does
 abbrev by_refusal : Session → Command → Option Refusal → Answer
@@ -53,6 +56,20 @@ root-read s (base.Version w) e = ap (by_refusal s (command.Root (base.Version w)
 root-read s (base.Fork id) e = absurd (cc)
 root-read s (base.Place place) e = absurd (cc)
 
+pub prove-refused : (s : Session) (b : Base) (name : List ℕ) (why : Refusal) → read_refusal s b ≡ Some why → prove_answer s b name ≡ replied (reply.No why) s.state s.own
+unfolding refused_by
+prove-refused s base.Head name why e = absurd (cc)
+prove-refused s (base.Version w) name why e = ap (by_refusal s (command.Prove (base.Version w) name)) e
+prove-refused s (base.Fork id) name why e = refused_so s refusal.Syntax why e
+prove-refused s (base.Place place) name why e = refused_so s refusal.Syntax why e
+
+pub prove-read : (s : Session) (b : Base) (name : List ℕ) → read_refusal s b ≡ None → prove_answer s b name ≡ proved (base_map s.state s.own b) name s.state s.own
+unfolding refused_by
+prove-read s base.Head name e = refl
+prove-read s (base.Version w) name e = ap (by_refusal s (command.Prove (base.Version w) name)) e
+prove-read s (base.Fork id) name e = absurd (cc)
+prove-read s (base.Place place) name e = absurd (cc)
+
 some_so : (P : Type 0) (o : Option (List ℕ)) (x v : List ℕ) → SomeIff o P v → o ≡ Some x → x ≡ v
 some_so P (Some y) x v h e = let same : y ≡ x = cc in sym same ∙ h.1
 some_so P None x v h e = absurd (cc)
@@ -72,3 +89,20 @@ root-value s v b w o r is sound read map kept at there =
     let head : w ≤ v.head = subst (λ (u : Versions). w ≤ u.head) (sym is) kept.1 in
     ap reply.Root (some_so _ o r (root_of v w) at there ∙ root_of-map_of v w sound floor head ∙ ap (λ (u : Versions). root (map_of u w)) is ∙ ap root (sym map))
     ∙ ap (λ (a : Answer). a.reply) (sym (root-read s b read))
+
+map_so : (P : Type 0) (o : Option SnapshotValue) (x : SnapshotValue) (m : Map) → SomeIff (option_map (λ (t : SnapshotValue). t.map) o) P m → o ≡ Some x → x.map ≡ m
+map_so P (Some y) x m h e = let same : y ≡ x = cc in ap (λ (t : SnapshotValue). t.map) (sym same) ∙ h.1
+map_so P None x m h e = absurd (cc)
+
+-- the snapshot that was found has the map that the base names
+pub snapshot-map : (s : Session) (v : Versions) (b : Base) (w : ℕ) (o : Option SnapshotValue) (x : SnapshotValue) → v ≡ s.state.all → base_map s.state s.own b ≡ map_of s.state.all w
+    → SomeIff (option_map (λ (t : SnapshotValue). t.map) o) ((v.floor ≤ w) × (w ≤ v.head)) (map_of v w) → o ≡ Some x → x.map ≡ base_map s.state s.own b
+snapshot-map s v b w o x is map at there = map_so _ o x (map_of v w) at there ∙ ap (λ (u : Versions). map_of u w) is ∙ sym map
+
+pub prove-reply : (s : Session) (b : Base) (name : List ℕ) (m : Map) (n : ℕ) → read_refusal s b ≡ None → m ≡ base_map s.state s.own b → n ≡ length (honest m (K name)).siblings → reply.Proof n ≡ (prove_answer s b name).reply
+prove-reply s b name m n read is count =
+    ap reply.Proof (count ∙ ap (λ (m : Map). length (honest m (K name)).siblings) is) ∙ ap (λ (a : Answer). a.reply) (sym (prove-read s b name read))
+
+pub prove-block : (s : Session) (b : Base) (name : List ℕ) (m : Map) (old new : List ℕ) → read_refusal s b ≡ None → m ≡ base_map s.state s.own b → new ≡ old ++ proof_lines name (get m (K name)) (honest m (K name)) → new ≡ old ++ (prove_answer s b name).block
+prove-block s b name m old new read is lines =
+    lines ∙ ap (λ (m : Map). old ++ proof_lines name (get m (K name)) (honest m (K name))) is ∙ ap (λ (a : Answer). old ++ a.block) (sym (prove-read s b name read))

@@ -121,6 +121,9 @@ get_answer s b name = command_answer s (command.Get b name)
 abbrev pub root_answer : Session → Base → Answer
 root_answer s b = command_answer s (command.Root b)
 
+abbrev pub prove_answer : Session → Base → List ℕ → Answer
+prove_answer s b name = command_answer s (command.Prove b name)
+
 -- why a version is not read, if it isn't
 abbrev pub version_refusal : Session → ℕ → Option Refusal
 version_refusal s w = first_of (version_causes s.state w)

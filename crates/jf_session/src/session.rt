@@ -1,10 +1,9 @@
 // A session over a store of its own.
-ghost use Rattle.std.specs.Prelude.{◌≡◌, ◌⊎◌, ◌↔◌, ℕ, ◌+◌, ◌-◌, ◌<◌, ◌≤◌, ◌^◌, length, [], ◌∷◌, ◌++◌, Some, None, Err, IfOk, IfErr, OnOk, OnErr, IsErr, true, false};
-ghost use Rattle.std.specs.Option.{option_copied};
+ghost use Rattle.std.specs.Prelude.{◌≡◌, ◌⊎◌, ◌↔◌, ℕ, ◌+◌, ◌-◌, ◌<◌, ◌≤◌, ◌^◌, length, [], ◌∷◌, ◌++◌, Some, Err, IfOk, IfErr, OnOk, OnErr, IsErr, true, false};
 ghost use Rattle.jf_disk.specs.Disk.{History, reads};
 ghost use Rattle.jf_disk.specs.Moments.{Extends};
 ghost use Rattle.jf_disk.specs.declared.side.Side.{Side};
-ghost use Rattle.jf_model.specs.Versions.{Versions, map_of};
+ghost use Rattle.jf_model.specs.Versions.{Versions};
 ghost use Rattle.jf_model.specs.States.{opened};
 ghost use Rattle.jf_frame.specs.Crashes.{KeepsOther};
 ghost use Rattle.jf_journal.specs.Standing.{StandsFor, IsDamagedAt, generation};
@@ -12,13 +11,13 @@ ghost use Rattle.jf_journal.specs.Steps.{Opens, StopsWell, IsCalm};
 ghost use Rattle.jf_engine.specs.Engines.{IsSettledOn};
 ghost use Rattle.jf_engine.specs.Leaving.{LeavesFiles};
 ghost use Rattle.jf_answers.specs.Own.{begun};
-ghost use Rattle.jf_answers.specs.Refusals.{base_map};
 ghost use Rattle.jf_answers.specs.Answers.{answer};
 ghost use Rattle.jf_answers.specs.Runs.{answer_text};
 ghost use Rattle.jf_session.specs.Runs.{IsDatedBy};
-ghost use Rattle.jf_session.specs.Sessions.{Does, Stays, Tries, command_answer, put_answer, del_answer, commit_answer, get_answer, root_answer, version_refusal, read_refusal};
+ghost use Rattle.jf_session.specs.Sessions.{Does, Stays, Tries, command_answer, put_answer, del_answer, commit_answer};
 ghost use Rattle.jf_script.specs.Bounds.{IsBounded};
 
+use crate::answer::write_answer;
 use crate::stop::Stop;
 use jf_disk::Disk;
 use jf_engine::{Engine, EngineFault, Landed, OpenFault, OpenRefused};
@@ -26,7 +25,7 @@ use jf_hash::key_of;
 use jf_join::Gate;
 use jf_model::{Entry, Landing, Ledger};
 use jf_path::{Bytes, Memory};
-use jf_script::{Base, Command, LineFault, Refusal, Reply, read_line, write_reply};
+use jf_script::{Command, LineFault, Refusal, Reply, read_line};
 use jf_split::{Batch, BatchFault};
 use std::alloc::Global;
 use std::marker::Model;
@@ -38,7 +37,7 @@ const MAX_ENTRIES: u64 = 1 << 62;
 
 /// One script over a store of its own.
 pub struct Session<D: Disk> {
-    engine: Engine<D>,
+    pub(crate) engine: Engine<D>,
     entries: Vec<Entry>,
     pending: Batch,
     over: bool,
@@ -102,9 +101,10 @@ impl<D: Disk> Session<D> {
         self.engine.head()
     }
 
-    /// Answers a line, a landing with at most this many workers: its reply is appended to `out`. After a refusal `out` is as before and the session is over.
-    /// On `DiskFault` the line would have landed what is pending. On `Memory` the line was done and its reply is
-    /// missing, or nothing was done.
+    /// Answers a line, a landing with at most this many workers: the line of its reply, and the block behind it where
+    /// there is one, are appended to `out`. After a refusal `out` is as before and the session is over. On `DiskFault`
+    /// the line would have landed what is pending. On `Memory` the line was done and its reply is missing, or nothing
+    /// was done.
     pub fn step<H: Threads + Sync, G: Gate>(
         &mut self,
         rt: &H,
@@ -126,10 +126,11 @@ impl<D: Disk> Session<D> {
         ensures fault { result ≡ Err Stop.DiskFault → Tries self.old self.new (answer self.old.state self.old.own line.now) }
         ensures sole { result ≡ Err Stop.Broken → ⊥ }
     {
-        match self.answered(rt, alloc, line, workers, gate) {
+        let mut block = Bytes::new(alloc);
+        match self.answered(rt, alloc, line, workers, gate, &mut block) {
             Ok(reply) => {
                 let seen = self.entries.len() as u64;
-                if write_reply(seen, &reply, out).is_err() {
+                if write_answer(seen, &reply, block.as_slice(), out).is_err() {
                     self.over = true;
                     return Err(Stop::Memory);
                 }
@@ -165,7 +166,8 @@ impl<D: Disk> Session<D> {
         self.engine.know();
     }
 
-    // The reply to a line, which is done where the reply says so.
+    // The reply to a line, which is done where the reply says so. The lines behind that of the reply are appended to
+    // `block`.
     fn answered<H: Threads + Sync, G: Gate>(
         &mut self,
         rt: &H,
@@ -173,12 +175,14 @@ impl<D: Disk> Session<D> {
         line: &[u8],
         workers: u64,
         gate: &G,
+        block: &mut Bytes,
     ) -> Result<Reply, Stop>
         requires over { self.old.over ≡ false }
         requires some { 1 ≤ workers }
         requires few { workers ≤ 64 }
         ensures ok { OnOk result (Does self.old self.new (answer self.old.state self.old.own line.now)) }
         ensures reply { IfOk result (λ r. r ≡ (answer self.old.state self.old.own line.now).reply) }
+        ensures block { OnOk result (block.new ≡ block.old ++ (answer self.old.state self.old.own line.now).block) }
         ensures same { OnOk result (self.new.over ≡ false) }
         ensures memory { result ≡ Err Stop.Memory → Stays self.old self.new }
         ensures fault { result ≡ Err Stop.DiskFault → Tries self.old self.new (answer self.old.state self.old.own line.now) }
@@ -190,7 +194,7 @@ impl<D: Disk> Session<D> {
             Err(LineFault::LineTooLong) => return Ok(Reply::No(Refusal::Long)),
             Err(LineFault::Memory) => return Err(Stop::Memory),
         };
-        self.obeyed(rt, alloc, &command, workers, gate)
+        self.obeyed(rt, alloc, &command, workers, gate, block)
     }
 
     // The reply to a command. One that isn't built is answered as a line outside the grammar.
@@ -201,6 +205,7 @@ impl<D: Disk> Session<D> {
         command: &Command,
         workers: u64,
         gate: &G,
+        block: &mut Bytes,
     ) -> Result<Reply, Stop>
         requires over { self.old.over ≡ false }
         requires some { 1 ≤ workers }
@@ -208,6 +213,7 @@ impl<D: Disk> Session<D> {
         requires bounded { IsBounded command.now }
         ensures ok { OnOk result (Does self.old self.new (command_answer self.old command.now)) }
         ensures reply { IfOk result (λ r. r ≡ (command_answer self.old command.now).reply) }
+        ensures block { OnOk result (block.new ≡ block.old ++ (command_answer self.old command.now).block) }
         ensures same { OnOk result (self.new.over ≡ false) }
         ensures memory { result ≡ Err Stop.Memory → Stays self.old self.new }
         ensures fault { result ≡ Err Stop.DiskFault → Tries self.old self.new (command_answer self.old command.now) }
@@ -219,73 +225,9 @@ impl<D: Disk> Session<D> {
             Command::Commit => self.commit(rt, alloc, workers, gate),
             Command::Get { base, name } => self.get(alloc, *base, name.as_slice()),
             Command::Root { base } => Ok(self.root(*base)),
+            Command::Prove { base, name } => self.prove(alloc, *base, name.as_slice(), block),
             _ => Ok(Reply::No(Refusal::Syntax)),
         }
-    }
-
-    // The value of a name in what a base names.
-    fn get(&self, alloc: Global, base: Base, name: &[u8]) -> Result<Reply, Stop>
-        ensures ok { OnOk result (Does self.now self.now (get_answer self.now base name.now)) }
-        ensures reply { IfOk result (λ r. r ≡ (get_answer self.now base name.now).reply) }
-        ensures only { OnErr result (result ≡ Err Stop.Memory) }
-    {
-        let version = match self.version_of(base) {
-            Ok(version) => version,
-            Err(why) => return Ok(Reply::No(why)),
-        };
-        match copied(alloc, self.engine.get(version, &key_of(name))) {
-            Ok(value) => Ok(Reply::Value { value }),
-            Err(Memory) => Err(Stop::Memory),
-        }
-    }
-
-    // The root of what a base names.
-    fn root(&self, base: Base) -> Reply
-        ensures reply { result ≡ (root_answer self.now base).reply }
-        ensures does { Does self.now self.now (root_answer self.now base) }
-    {
-        let version = match self.version_of(base) {
-            Ok(version) => version,
-            Err(why) => return Reply::No(why),
-        };
-        self.engine.know();
-        let root = self.engine.root_of(version).unwrap();
-        Reply::Root { root }
-    }
-
-    // The version that a base names, or why it isn't read.
-    fn version_of(&self, base: Base) -> Result<u64, Refusal>
-        ensures refused { IfErr result (λ why. read_refusal self.now base ≡ Some why) }
-        ensures read { IfOk result (λ w. read_refusal self.now base ≡ None) }
-        ensures kept { IfOk result (λ w. (self.now.state.all.floor ≤ w) × (w ≤ self.now.state.all.head)) }
-        ensures map { IfOk result (λ w. base_map self.now.state self.now.own base ≡ map_of self.now.state.all w) }
-    {
-        match base {
-            Base::Head => {
-                self.engine.know();
-                Ok(self.engine.head())
-            }
-            Base::Version(version) => self.kept(version),
-            Base::Fork(_) | Base::Place(_) => Err(Refusal::Syntax),
-        }
-    }
-
-    // The same version, or why it isn't read.
-    fn kept(&self, version: u64) -> Result<u64, Refusal>
-        ensures refused { IfErr result (λ why. version_refusal self.now version ≡ Some why) }
-        ensures read { IfOk result (λ w. version_refusal self.now version ≡ None) }
-        ensures same { IfOk result (λ w. w ≡ version) }
-        ensures kept { IfOk result (λ w. (self.now.state.all.floor ≤ version) × (version ≤ self.now.state.all.head)) }
-    {
-        let head = self.engine.head();
-        if version > head {
-            return Err(Refusal::Future(head));
-        }
-        let bound = self.engine.floor();
-        if version < bound {
-            return Err(Refusal::Retired(bound));
-        }
-        Ok(version)
     }
 
     // Sets the key of a name in what is pending.
@@ -377,15 +319,5 @@ impl<D: Disk> Session<D> {
             Err(EngineFault::Broken) => Err(Stop::Broken),
             Err(EngineFault::Memory) => Err(Stop::Memory),
         }
-    }
-}
-
-// A copy of a value that is there.
-fn copied(alloc: Global, value: Option<&[u8]>) -> Result<Option<Bytes>, Memory>
-    ensures { IfOk result (λ v. v ≡ option_copied value.entry) }
-{
-    match value {
-        Some(value) => Ok(Some(Bytes::copy_of(alloc, value)?)),
-        None => Ok(None),
     }
 }
