@@ -1,5 +1,5 @@
 -- A reading stops at a line no earlier than where it begins, and leaves no more lines than it had.
-use Rattle.std.proofs.Common.{ℕ, zero, suc, ◌+◌, ◌≤◌, List, [], ◌∷◌, length, Option, Some, None, Ok, Err, arith}
+use Rattle.std.proofs.Common.{ℕ, zero, suc, ◌≤◌, List, [], ◌∷◌, length, Option, Some, None, Ok, Err, arith}
 use Rattle.jf_blocks.specs.Reading.{Place, Read, Block, and_then, gives, matched, line_read, line_by, lines_by, named_of, claim_of, leaf_of, side_of, proof_block}
 
 abbrev pub Bounded : {X : Type 0} → Place → Read X → Type 0

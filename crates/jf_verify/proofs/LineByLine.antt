@@ -1,9 +1,8 @@
 -- An input that is judged as a whole is answered as line by line.
-use Rattle.std.proofs.Common.{◌≡◌, ℕ, zero, suc, ◌+◌, ◌-◌, ◌≤◌, ◌==◌, Bool, true, false, cond, List, [], ◌∷◌, ◌++◌, length, drop, length-drop, Option, Some, None, Ok, Err, refl, sym, ap, ◌∙◌, arith}
-use Rattle.std.proofs.lemmas.List.{append_assoc, append-nil, drop-drop}
+use Rattle.std.proofs.Common.{◌≡◌, ℕ, zero, suc, ◌+◌, ◌-◌, ◌≤◌, ◌==◌, false, cond, List, [], ◌∷◌, ◌++◌, length, drop, length-drop, Option, Some, None, Ok, Err, refl, sym, ap, ◌∙◌, arith}
+use Rattle.std.proofs.lemmas.List.{append_assoc, append-nil, drop-drop, drop_all}
 use Rattle.std.proofs.lemmas.Bool.Decides.{nat_tests}
 use Rattle.jf_hash.specs.Hashes.{K}
-use Rattle.jf_evidence.specs.declared.proof.Proof.{Proof}
 use Rattle.jf_collide.specs.declared.judged.Judged.{Judged}
 use Rattle.jf_script.specs.Words.{lines}
 use Rattle.jf_blocks.specs.Reading.{Place, Read, Block, and_then, gives, matched, line_read, line_by, lines_by, first_of, named_of, claim_of, leaf_of, side_of, proof_block}
@@ -11,7 +10,7 @@ use Rattle.jf_blocks.specs.declared.first.FirstLine.{FirstLine}
 use Rattle.jf_blocks.specs.declared.first.FirstLine.TheVariants as first
 use Rattle.jf_verify.specs.declared.stage.Stage.{Stage}
 use Rattle.jf_verify.specs.declared.stage.Stage.TheVariants as stage
-use Rattle.jf_verify.specs.Verdicts.{Judging, Said, judged, judged_of, wrong_at, say_block, say, syntax_text, verdicts_from, verdicts, nothing_known}
+use Rattle.jf_verify.specs.Verdicts.{Judging, Said, wrong_at, say_block, say, syntax_text, verdicts_from, verdicts, nothing_known}
 use Rattle.jf_verify.specs.Steps.{State, Step, wrong, silent, whole, sided, begins, first_step, name_step, claim_step, leaf_step, side_step, line_step, end_text, rest, begun}
 use Rattle.jf_verify.specs.Laws.{VerdictsComeLineByLine}
 use Rattle.jf_verify.proofs.Bounds.{Bounded, proof_block-bounded}
@@ -161,3 +160,11 @@ verdicts_from-rest (suc n) j at (line ∷ ls) few = first_goes n (verdicts_from-
 pub verdicts-rest : VerdictsComeLineByLine
 unfolding verdicts
 verdicts-rest input = verdicts_from-rest (length (lines input)) nothing_known 1 (lines input) (omega arith)
+
+-- behind the last line all is said
+pub all_read : (before written text : List ℕ) (start : ℕ) (s : State) → length text ≤ start → written ++ rest s (lines (drop start text)) ≡ before ++ rest begun (lines text)
+    → written ++ rest s [] ≡ before ++ verdicts text
+unfolding lines
+all_read before written text start s past so_far =
+    let none : [] ≡ drop start text = sym (drop_all start text past) in
+    ap (λ t. written ++ rest s (lines t)) none ∙ so_far ∙ ap (λ t. before ++ t) (sym (verdicts-rest text))

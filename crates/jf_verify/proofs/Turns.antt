@@ -5,7 +5,7 @@ use Rattle.jf_script.specs.Words.{is_long}
 use Rattle.jf_verify.specs.declared.stage.Stage.{Stage}
 use Rattle.jf_verify.specs.declared.stage.Stage.TheVariants as stage
 use Rattle.jf_verify.specs.Verdicts.{Judging}
-use Rattle.jf_verify.specs.Steps.{State, Step, said, after, line_step, rest}
+use Rattle.jf_verify.specs.Steps.{State, said, after, line_step, rest}
 use Rattle.jf_verify.specs.Laws.{LongLinesAreAlike}
 
 -- what is written and what is still to be said are together the same behind a line

@@ -1,7 +1,6 @@
 -- An input that is judged line by line.
 use Rattle.std.specs.Prelude.{◌≡◌, ℕ, ◌+◌, ◌-◌, ◌==◌, if◌then◌else◌, List, [], ◌∷◌, ◌++◌, Option, Some, None}
 use Rattle.jf_hash.specs.Hashes.{K}
-use Rattle.jf_evidence.specs.declared.proof.Proof.{Proof}
 use Rattle.jf_collide.specs.declared.judged.Judged.{Judged}
 use Rattle.jf_blocks.specs.Reading.{line_read, first_of, named_of, claim_of, leaf_of, side_of}
 use Rattle.jf_blocks.specs.declared.first.FirstLine.{FirstLine}

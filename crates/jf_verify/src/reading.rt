@@ -156,7 +156,14 @@ fn leaf(
                 leaf,
                 siblings: siblings_read,
             };
-            go_on(alloc, known, root, siblings, Judged { key, claim, proof }, out)
+            go_on(
+                alloc,
+                known,
+                root,
+                siblings,
+                Judged { key, claim, proof },
+                out,
+            )
         }
         None => wrong(at, out),
     }

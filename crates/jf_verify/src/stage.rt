@@ -9,9 +9,16 @@ pub enum Stage {
     /// No block is begun.
     Between,
     /// The name comes next, in a block that is judged under this root and has this many siblings.
-    Name { root: Hash, siblings: u64 },
+    Name {
+        root: Hash,
+        siblings: u64,
+    },
     /// The claim comes next.
-    Claim { root: Hash, siblings: u64, key: Key },
+    Claim {
+        root: Hash,
+        siblings: u64,
+        key: Key,
+    },
     /// The leaf comes next.
     Leaf {
         root: Hash,
