@@ -1,6 +1,6 @@
 -- The honest proof in a range of places, by that in its half.
-use Rattle.std.specs.Prelude.{◌≡◌, ◌<◌, ◌≤◌, ◌+◌, ◌-◌, ◌*◌, ◌/◌, ◌%◌, ◌^◌, ℕ, zero, suc, Bool, true, false, not, cond, List, [], ◌∷◌, map, filter, length, Some, None}
-use Rattle.std.proofs.Common.{arith, refl, sym, ap, ap₂, ◌∙◌, subst, add-one}
+use Rattle.std.specs.Prelude.{◌≡◌, ◌⊎◌, ◌<◌, ◌≤◌, ◌+◌, ◌-◌, ◌*◌, ◌/◌, ◌%◌, ◌^◌, ℕ, zero, suc, Bool, true, false, not, cond, List, [], ◌∷◌, map, filter, length, Some, None}
+use Rattle.std.proofs.Common.{inl, inr, arith, refl, sym, ap, ap₂, ◌∙◌, subst, add-one}
 use Rattle.jf_path.specs.Keys.{bit}
 use Rattle.jf_path.specs.Nibbles.{nibble}
 use Rattle.jf_path.specs.NibbleLaws.{nibble-small}
@@ -117,9 +117,16 @@ positive (suc (suc zero)) small = (omega arith, refl)
 positive (suc (suc (suc zero))) small = (omega arith, refl)
 positive (suc (suc (suc (suc level)))) small = absurd (omega arith)
 
+width_is : (level : ℕ) → level < 4 → (2 ^ level ≡ 1) ⊎ (2 ^ level ≡ 2) ⊎ (2 ^ level ≡ 4) ⊎ (2 ^ level ≡ 8) ⊎ (2 ^ level ≡ 16)
+width_is zero small = inl refl
+width_is (suc zero) small = inr (inl refl)
+width_is (suc (suc zero)) small = inr (inr (inl refl))
+width_is (suc (suc (suc zero))) small = inr (inr (inr (inl refl)))
+width_is (suc (suc (suc (suc level)))) small = absurd (omega arith)
+
 half_range : (level n : ℕ) (b : Bool) → level < 4 → n < 16 → IsRange (cond b (n / 2 ^ suc level * 2 ^ suc level) (n / 2 ^ suc level * 2 ^ suc level + 2 ^ level)) (2 ^ level)
-half_range level n true small low = record { level = level; small = omega arith; wide = refl; aligned = lower_even level n small; within = omega (arith, whole_within level n small low, (positive level small).0, (positive level small).1) }
-half_range level n false small low = record { level = level; small = omega arith; wide = refl; aligned = upper_even level n small; within = omega (arith, whole_within level n small low, (positive level small).0, (positive level small).1) }
+half_range level n true small low = record { wide = width_is level small; aligned = lower_even level n small; within = omega (arith, whole_within level n small low, (positive level small).0, (positive level small).1) }
+half_range level n false small low = record { wide = width_is level small; aligned = upper_even level n small; within = omega (arith, whole_within level n small low, (positive level small).0, (positive level small).1) }
 
 pub beside_range : (level d : ℕ) (key : List ℕ) → level < 4 → IsRange (range_beside level d key) (2 ^ level)
 beside_range level d key small =
