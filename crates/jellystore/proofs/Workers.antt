@@ -15,6 +15,7 @@ AreFew (Some n) = (1 ≤ n) × (n ≤ 64)
 abbrev RunsWithFew : Option Mode → Type 0
 RunsWithFew None = Unit {0}
 RunsWithFew (Some (mode.Run n)) = (1 ≤ n) × (n ≤ 64)
+RunsWithFew (Some mode.Verify) = Unit {0}
 
 chosen : (b : Bool) (x y : Option ℕ) → AreFew x → AreFew y → AreFew (cond b x y)
 chosen true x y p q = p
@@ -46,14 +47,16 @@ run_few : (o : Option ℕ) → AreFew o → RunsWithFew (option_map (λ n. mode.
 run_few None h = tt
 run_few (Some n) h = h
 
+few_or : (b : Bool) (x y : Option Mode) → RunsWithFew x → RunsWithFew y → RunsWithFew (cond b x y)
+few_or true x y p q = p
+few_or false x y p q = q
+
 mode_few : (ws : List (List ℕ)) → RunsWithFew (mode_of ws)
 mode_few [] = tt
-mode_few (w ∷ ws) = elim (bytes_eq w (codes "run")) as (λ b. RunsWithFew (cond b (option_map (λ n. mode.Run n) (option_workers ws)) None)) [ true ↦ run_few (option_workers ws) (option_few ws) | false ↦ tt ]
+mode_few (w ∷ ws) =
+    few_or (bytes_eq w (codes "run")) _ _ (run_few (option_workers ws) (option_few ws))
+    (few_or (bytes_eq w (codes "verify")) _ _ (few_or (is_over ws) (Some mode.Verify) None tt tt) tt)
 
--- each mode runs with some number of workers
-pub mode_runs : (m : Mode) → (n : ℕ) × (m ≡ mode.Run n)
-mode_runs (mode.Run n) = (n, refl)
-
--- words that are taken ask for 1 to 64
+-- words that are taken for a script's run ask for 1 to 64
 pub mode_workers : (ws : List (List ℕ)) (n : ℕ) → Some (mode.Run n) ≡ mode_of ws → (1 ≤ n) × (n ≤ 64)
 mode_workers ws n is = subst RunsWithFew (sym is) (mode_few ws)

@@ -4,6 +4,8 @@ use Rattle.std.specs.List.{starts_with}
 use Rattle.jf_script.specs.Words.{number_from}
 use Rattle.jf_engine.specs.declared.fault.OpenFault.{OpenFault}
 use Rattle.jf_engine.specs.declared.fault.OpenFault.TheVariants as open_fault
+use Rattle.jf_verify.specs.declared.stream.Verified.{Verified}
+use Rattle.jf_verify.specs.declared.stream.Verified.TheVariants as verified
 use Rattle.jf_session.specs.declared.running.End.{End}
 use Rattle.jf_session.specs.declared.running.End.TheVariants as end
 use Rattle.jellystore.specs.declared.status.Status.{Status}
@@ -37,10 +39,23 @@ option_workers [] = Some 4
 option_workers (w ∷ []) = if bytes_eq w (codes "--") then Some 4 else attached_workers w
 option_workers (w ∷ v ∷ ws) = if bytes_eq w (codes "--workers") then where_over ws (workers v) else where_over (v ∷ ws) (attached_workers w)
 
+-- no word stands behind `verify`, or `--`
+abbrev pub verify_mode : List (List ℕ) → Option Mode
+verify_mode ws = if is_over ws then Some mode.Verify else None
+
 -- the first word is the mode
 abbrev pub mode_of : List (List ℕ) → Option Mode
 mode_of [] = None
-mode_of (w ∷ ws) = if bytes_eq w (codes "run") then option_map (λ n. mode.Run n) (option_workers ws) else None
+mode_of (w ∷ ws) =
+    if bytes_eq w (codes "run") then option_map (λ n. mode.Run n) (option_workers ws)
+    else if bytes_eq w (codes "verify") then verify_mode ws
+    else None
+
+-- whether a store is opened
+abbrev pub opens : Option Mode → Bool
+opens None = false
+opens (Some (mode.Run n)) = true
+opens (Some mode.Verify) = false
 
 -- ---- statuses
 
@@ -53,13 +68,20 @@ status_of end.DiskFault = status.DiskFault
 status_of end.Broken = status.DiskFault
 status_of end.Memory = status.Memory
 
+-- the status behind an input that was judged
+abbrev pub status_of_verified : Verified → Status
+status_of_verified verified.Done = status.Done
+status_of_verified verified.ReadFault = status.ReadFault
+status_of_verified verified.WriteFault = status.WriteFault
+status_of_verified verified.Memory = status.Memory
+
 -- the status of a store that was not opened
 abbrev pub status_of_refusal : OpenFault → Status
 status_of_refusal open_fault.DiskFault = status.DiskFault
 status_of_refusal (open_fault.Damaged side offset) = status.Damaged side offset
 status_of_refusal open_fault.Memory = status.Memory
 
--- a status that may come where no store was opened
+-- a status that may come where no store was opened, nor an input judged
 abbrev pub is_closing : Status → Bool
 is_closing status.Done = false
 is_closing status.Usage = true

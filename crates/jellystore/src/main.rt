@@ -1,6 +1,7 @@
 //! The program `jellystore`: a command line over a folder's store, or over one in memory.
 #![tactic(auto)]
 
+mod judge_input;
 mod run_words;
 mod status;
 #[cfg(test)]

@@ -10,9 +10,11 @@ ghost use Rattle.jf_engine.specs.Leaving.{LeavesFiles};
 ghost use Rattle.jf_model.specs.Entries.{moments_of};
 ghost use Rattle.jf_session.specs.Runs.{AreWithin};
 ghost use Rattle.jellystore.specs.Stops.{IsSafeSince, IsSafeOpened};
-ghost use Rattle.jellystore.specs.Commands.{mode_of, is_closing};
+ghost use Rattle.jellystore.specs.Commands.{mode_of, opens, is_closing};
+ghost use Rattle.jellystore.specs.Judging.{HasJudged};
 ghost use Rattle.jellystore.specs.Promises.{IsLegalRun, IsSettledRun, RunsFrom, Stands};
 
+use crate::judge_input::judge_input;
 use crate::status::{Ended, Status};
 use crate::words::{Mode, mode_of};
 use jf_disk::{Disk, know_dated};
@@ -27,12 +29,12 @@ use std::sync::Wait;
 use std::thread::Threads;
 
 /// Runs the words of a command line: `run`, with `--workers N` or without, answers the script of the source into the
-/// sink, over the store of the disk.
+/// sink, over the store of the disk; `verify` judges the proof blocks of the source, and touches no disk.
 ///
 /// Where a store was opened, `ran` says of each script and each list of faults: the replies and the entries are those
 /// of the lines done; the entries are legal, at rising moments; a stop at any moment leaves files that stand for a first
 /// part of the landings, with each acknowledged one; and where the disk didn't fail it stands for all of them. Where
-/// none was opened, no byte was taken or written, and the files stand for what they stood for.
+/// none was opened, the files stand for what they stood for, and but for `verify` no byte was taken or written.
 pub fn run_words<S: Source, K: Sink, D: Disk, H: Threads + Wait + Sync>(
     rt: &H,
     alloc: Global,
@@ -48,15 +50,19 @@ pub fn run_words<S: Source, K: Sink, D: Disk, H: Threads + Wait + Sync>(
     ensures write { result.status ≡ Status.WriteFault → (K.faults sink.old < K.faults sink.new) ⊎ (K.faults sink.old ≡ 2 ^ 64 - 1) }
     ensures disk_fault { result.status ≡ Status.DiskFault → (D.faults disk < D.faults result.disk) ⊎ (D.faults disk ≡ 2 ^ 64 - 1) }
     ensures damaged { (h : History) (side : Side) (at : ℕ) → D.history disk ≡ Some h → result.status ≡ Status.Damaged side at → IsDamagedAt (reads h) side at }
-    ensures damaged_told { (h : History) (side : Side) (at : ℕ) → D.history disk ≡ Some h → IsSome (mode_of (map (λ w. string_bytes w) words.now)) → IsDamagedAt (reads h) side at
+    ensures damaged_told { (h : History) (side : Side) (at : ℕ) → D.history disk ≡ Some h → IsTrue (opens (mode_of (map (λ w. string_bytes w) words.now))) → IsDamagedAt (reads h) side at
         → (result.status ≡ Status.Damaged side at) ⊎ ((result.status ≡ Status.DiskFault) ⊎ (result.status ≡ Status.Memory)) }
     ensures damaged_left { (h : History) (side : Side) (at : ℕ) → D.history disk ≡ Some h → result.status ≡ Status.Damaged side at → (g : History) × (D.history result.disk ≡ Some g) × LeavesFiles h g }
     ensures memory_left { (h : History) → D.history disk ≡ Some h → result.start ≡ None → result.status ≡ Status.Memory → (g : History) × (D.history result.disk ≡ Some g) × LeavesFiles h g }
     ensures complete { (h : History) (v : Versions) → D.history disk ≡ Some h → StandsFor (reads h) v → IsSome (mode_of (map (λ w. string_bytes w) words.now))
         → S.faults source.new ≡ S.faults source.old → S.faults source.old < 2 ^ 64 - 1 → K.faults sink.new ≡ K.faults sink.old → K.faults sink.old < 2 ^ 64 - 1
         → D.faults result.disk ≡ D.faults disk → D.faults disk < 2 ^ 64 - 1 → (result.status ≡ Status.Done) ⊎ (result.status ≡ Status.Memory) }
-    ensures closed_status { result.start ≡ None → IsTrue (is_closing result.status) }
-    ensures closed { result.start ≡ None → (source.new ≡ source.old) × (sink.new ≡ sink.old) × (result.entries ≡ []) }
+    ensures verified { mode_of (map (λ w. string_bytes w) words.now) ≡ Some Mode.Verify → (result.start ≡ None) × (result.entries ≡ []) × (result.disk ≡ disk)
+        × HasJudged result.status (S.rest source.old) (S.rest source.new) (K.text sink.old) (K.text sink.new) }
+    ensures verified_complete { mode_of (map (λ w. string_bytes w) words.now) ≡ Some Mode.Verify → S.faults source.new ≡ S.faults source.old → S.faults source.old < 2 ^ 64 - 1
+        → K.faults sink.new ≡ K.faults sink.old → K.faults sink.old < 2 ^ 64 - 1 → (result.status ≡ Status.Done) ⊎ (result.status ≡ Status.Memory) }
+    ensures closed_status { (mode_of (map (λ w. string_bytes w) words.now) ≡ Some Mode.Verify → ⊥) → result.start ≡ None → IsTrue (is_closing result.status) }
+    ensures closed { (mode_of (map (λ w. string_bytes w) words.now) ≡ Some Mode.Verify → ⊥) → result.start ≡ None → (source.new ≡ source.old) × (sink.new ≡ sink.old) × (result.entries ≡ []) }
     ensures closed_stops { (h : History) (v : Versions) → result.start ≡ None → D.history disk ≡ Some h → IsCalm h → StandsFor (reads h) v → (result.status ≡ Status.Usage → ⊥)
         → (g : History) × (D.history result.disk ≡ Some g) × StopsWell Opens h g v }
     ensures legal { (h : History) → D.history disk ≡ Some h → IfSome result.start (IsLegalRun h result.entries) }
@@ -85,6 +91,15 @@ pub fn run_words<S: Source, K: Sink, D: Disk, H: Threads + Wait + Sync>(
         Err(_) => {
             return Ended {
                 status: Status::Memory,
+                disk,
+                entries: Ledger::new(alloc),
+                start: None,
+            };
+        }
+        Ok(Some(Mode::Verify)) => {
+            let status = judge_input(alloc, source, sink);
+            return Ended {
+                status,
                 disk,
                 entries: Ledger::new(alloc),
                 start: None,

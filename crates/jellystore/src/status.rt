@@ -1,11 +1,12 @@
 // How the program ends.
 ghost use Rattle.std.specs.Prelude.{◌≡◌};
-ghost use Rattle.jellystore.specs.Commands.{code_of, status_of, status_of_refusal};
+ghost use Rattle.jellystore.specs.Commands.{code_of, status_of, status_of_verified, status_of_refusal};
 
 use jf_disk::Side;
 use jf_engine::OpenFault;
 use jf_model::Ledger;
 use jf_session::End;
+use jf_verify::Verified;
 
 /// How a call of the program ended.
 #[derive(Clone, Copy, Debug, PartialEq, Eq)]
@@ -46,6 +47,18 @@ impl Status {
             End::WriteFault => Status::WriteFault,
             End::DiskFault | End::Broken => Status::DiskFault,
             End::Memory => Status::Memory,
+        }
+    }
+
+    /// The status of an input that was judged.
+    pub fn of_verified(end: Verified) -> Status
+        ensures { result ≡ status_of_verified end }
+    {
+        match end {
+            Verified::Done => Status::Done,
+            Verified::ReadFault => Status::ReadFault,
+            Verified::WriteFault => Status::WriteFault,
+            Verified::Memory => Status::Memory,
         }
     }
 

@@ -15,6 +15,7 @@ mod proofs;
 mod reads;
 mod refusals;
 mod stops;
+mod verdicts;
 
 const EMPTY: &str = "6e340b9cffb37a989ca544e6bb780a2c78901d3fb33738768511a30617afa01d";
 
@@ -219,7 +220,7 @@ fn what_stops_a_run_is_told(rt: HostRuntime) -> Result<(), Fail> {
         offset: 0,
     };
     let rows: [(&[u8], &str, Faults, Status, Option<u64>, &str); 5] = [
-        (b"", "verify", NO_FAULTS, Status::Usage, None, ""),
+        (b"", "walk", NO_FAULTS, Status::Usage, None, ""),
         (b"", "run ", NO_FAULTS, Status::Usage, None, ""),
         (
             b"",

@@ -1,6 +1,6 @@
 // The words of a command line.
 ghost use Rattle.std.specs.Prelude.{◌≡◌, map, string_bytes, IfOk};
-ghost use Rattle.jellystore.specs.Commands.{workers, option_workers, mode_of};
+ghost use Rattle.jellystore.specs.Commands.{workers, is_over, option_workers, mode_of};
 
 use clap::error::ErrorKind;
 use clap::{Arg, ArgAction, Command};
@@ -21,6 +21,8 @@ pub enum Mode {
         /// How many threads may work at once, 1 to 64.
         workers: u64,
     },
+    /// Proof blocks are judged, with no store.
+    Verify,
 }
 
 /// What the words of a command line ask for. None says that they are none of the program's; an error, that memory ran out.
@@ -32,7 +34,19 @@ pub fn mode_of(alloc: Global, words: &[String]) -> Result<Option<Mode>, AllocErr
             let workers = option_workers(alloc, rest)?;
             Ok(workers.map(|workers| Mode::Run { workers }))
         }
+        [mode, rest @ ..] if mode.as_str() == "verify" && is_over(rest) => Ok(Some(Mode::Verify)),
         _ => Ok(None),
+    }
+}
+
+// Whether no option and no word stands here: nothing, or `--` with nothing behind it.
+fn is_over(words: &[String]) -> bool
+    ensures { result ≡ is_over (map (λ w. string_bytes w) words.now) }
+{
+    match words {
+        [] => true,
+        [word] => word.as_str() == "--",
+        _ => false,
     }
 }
 
@@ -175,6 +189,27 @@ mod tests {
             assert_eq!(rt; ended(&rt, alloc, &words)?, want, "of {line}");
         }
         assert_eq!(rt; ended(&rt, alloc, &[])?, Status::Usage);
+        Ok(())
+    }
+
+    #[test]
+    fn takes_verify_alone(rt: HostRuntime) -> Result<(), Fail> {
+        let alloc = rt.alloc();
+        for (line, mode, want) in [
+            ("verify", Some(Mode::Verify), Status::Done),
+            ("verify --", Some(Mode::Verify), Status::Done),
+            ("verify -- --", None, Status::Usage),
+            ("verify --workers 2", None, Status::Usage),
+            ("verify --workers=2", None, Status::Usage),
+            ("verify x", None, Status::Usage),
+            ("verify -- x", None, Status::Usage),
+            ("verify ", None, Status::Usage),
+            ("Verify", None, Status::Usage),
+        ] {
+            let words = words_of(alloc, line)?;
+            assert_eq!(rt; mode_of(alloc, &words)?, mode, "of {line}");
+            assert_eq!(rt; ended(&rt, alloc, &words)?, want, "of {line}");
+        }
         Ok(())
     }
 }

@@ -5,6 +5,8 @@ use Rattle.std.proofs.lemmas.Bool.{lt-ltb, cases_lt}
 use Rattle.std.proofs.lemmas.List.{take_all}
 use Rattle.jf_io.specs.LineReader.{is_line_feed, Held, IsShortened, IsFetched}
 use Rattle.jf_io.specs.Sink.{IsCutShort}
+use Rattle.jf_input.specs.Inputs.{IsFound}
+use Rattle.jf_input.proofs.Found.{found_whole, where_of, cut_of, last_of}
 use Rattle.jf_io.proofs.Shortened.{is_shortened-whole, line_front-text, unfinished-text, finished-text, after_first-text, some-text, none-text}
 use Rattle.jf_model.specs.States.{State}
 use Rattle.jf_answers.specs.Own.{Own}
@@ -14,7 +16,7 @@ use Rattle.jf_script.specs.Words.{is_long}
 use Rattle.jf_session.specs.Sessions.{Session, Does, Stays, Tries}
 use Rattle.jf_session.specs.Runs.{IsDatedBy, Ran}
 use Rattle.jf_session.specs.declared.running.End.TheVariants as end
-use Rattle.jf_session.proofs.Sofar.{Sofar, sofar_none, sofar_taken, sofar_line, ran_done, ran_unread, ran_wanting, ran_last, ran_cut, ran_silent, ran_undone, ran_faulted, where_of, cut_of, last_of}
+use Rattle.jf_session.proofs.Sofar.{Sofar, sofar_none, sofar_taken, sofar_line, ran_done, ran_unread, ran_wanting, ran_last, ran_cut, ran_silent, ran_undone, ran_faulted}
 
 -- the lines so far were answered and written, and of the bytes behind them this is held
 pub record SofarHeld (old s : Session) (rest rest' text text' : Option (List ℕ)) (held : List ℕ) : Type 0 where
@@ -47,14 +49,6 @@ cut_answer s own line =
 
 pub same_answer : (s : State) (own : Own) (whole held : List ℕ) → IsShortened 8500 whole held → answer s own (take (8500 + 1) (before_first is_line_feed held)) ≡ answer s own (before_first is_line_feed whole)
 same_answer s own whole held short = ap (answer s own) (line_front-text 8500 whole held short) ∙ cut_answer s own (before_first is_line_feed whole)
-
--- where the line at the front stands
-abbrev pub IsFound : List ℕ → Option (List ℕ) → Type 0
-IsFound held source = (position_or_len is_line_feed held < length held) ⊎ ((0 < length held) × ((left : List ℕ) → source ≡ Some left → left ≡ []))
-
-found_whole : (source : Option (List ℕ)) (whole held : List ℕ) → IsShortened 8500 whole held → IsFound held source → IsFound whole source
-found_whole source whole held short (inl cut) = inl (finished-text 8500 whole held short cut)
-found_whole source whole held short (inr last) = inr (some-text 8500 whole held short last.0, last.1)
 
 module _ (old s : Session) (rest rest' text text' : Option (List ℕ)) (held : List ℕ) (f : SofarHeld old s rest rest' text text' held) where
   -- ---- it ends between two lines
@@ -102,20 +96,20 @@ module _ (old s : Session) (rest rest' text text' : Option (List ℕ)) (held : L
         → Ran end.Done old s' rest rest' text text''
     held_last plain found d w =
         ran_last old s rest rest' text text' f.whole f.sofar real refl s' text'' dated
-        (last_of f.whole rest' (unfinished-text 8500 f.whole held f.shortened plain) (found_whole rest' f.whole held f.shortened found)) (does d) (put w)
+        (last_of f.whole rest' (unfinished-text 8500 f.whole held f.shortened plain) (found_whole 8500 rest' f.whole held f.shortened found)) (does d) (put w)
 
     pub held_cut : IsFound held rest' → Does s s' a → IsCutShort text' text'' (answer_text s'.state.count a) → Ran end.WriteFault old s' rest rest' text text''
     held_cut found d c =
-        ran_cut old s rest rest' text text' f.whole f.sofar real refl s' text'' dated (where_of f.whole rest' (found_whole rest' f.whole held f.shortened found)) (does d)
+        ran_cut old s rest rest' text text' f.whole f.sofar real refl s' text'' dated (where_of f.whole rest' (found_whole 8500 rest' f.whole held f.shortened found)) (does d)
         (subst (λ (x : Answer). IsCutShort text' text'' (answer_text s'.state.count x)) said c)
 
     pub held_silent : IsFound held rest' → Does s s' a → text'' ≡ text' → Ran end.Memory old s' rest rest' text text''
     held_silent found d same =
-        ran_silent old s rest rest' text text' f.whole f.sofar real refl s' text'' dated (where_of f.whole rest' (found_whole rest' f.whole held f.shortened found)) (does d) same
+        ran_silent old s rest rest' text text' f.whole f.sofar real refl s' text'' dated (where_of f.whole rest' (found_whole 8500 rest' f.whole held f.shortened found)) (does d) same
 
     pub held_undone : Stays s s' → text'' ≡ text' → Ran end.Memory old s' rest rest' text text''
     held_undone t same = ran_undone old s rest rest' text text' f.whole f.sofar real refl s' text'' dated t same
 
     pub held_faulted : IsFound held rest' → Tries s s' a → text'' ≡ text' → Ran end.DiskFault old s' rest rest' text text''
     held_faulted found t same =
-        ran_faulted old s rest rest' text text' f.whole f.sofar real refl s' text'' dated (where_of f.whole rest' (found_whole rest' f.whole held f.shortened found)) (tries t) same
+        ran_faulted old s rest rest' text text' f.whole f.sofar real refl s' text'' dated (where_of f.whole rest' (found_whole 8500 rest' f.whole held f.shortened found)) (tries t) same

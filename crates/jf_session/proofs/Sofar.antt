@@ -4,6 +4,10 @@ use Rattle.std.specs.Prelude.{◌==◌}
 use Rattle.std.specs.List.{AllByRecursion, concat, position_or_len, before_first, after_first}
 use Rattle.jf_io.specs.LineReader.{is_line_feed}
 use Rattle.jf_io.specs.Sink.{IsCutShort}
+use Rattle.jf_input.specs.Inputs.{IsPlain, ended}
+use Rattle.jf_input.proofs.Plain.{front_plain, front_split, front_whole, held_plain}
+use Rattle.jf_input.proofs.Lines.{plain_more}
+use Rattle.jf_input.proofs.Written.{nothing_written, written_more}
 use Rattle.jf_model.specs.States.{State}
 use Rattle.jf_answers.specs.Own.{Own}
 use Rattle.jf_answers.specs.Answers.{Answer, answer}
@@ -12,7 +16,7 @@ use Rattle.jf_session.specs.Sessions.{Session, Does, Stays, Tries}
 use Rattle.jf_session.specs.Runs.{Advances, run_of, IsDatedBy, Reads, IsCut, Ran}
 use Rattle.jf_session.specs.declared.running.End.TheVariants as end
 use Rattle.jf_session.proofs.Advancing.{advances_none, advances_line, advances_stays, text_more, map_append, concat_append}
-use Rattle.jf_session.proofs.Input.{IsPlain, ended, plain_more, front_plain, front_split, front_whole, held_plain, reads_written, reads_wanting, reads_done, reads_fault, reads_disk, next_line, last_done, last_written, last_wanting, last_disk}
+use Rattle.jf_session.proofs.Input.{reads_written, reads_wanting, reads_done, reads_fault, reads_disk, next_line, last_done, last_written, last_wanting, last_disk}
 
 -- these lines were answered and written, and these bytes of the input are held
 pub record Sofar (old s : Session) (rest rest' text text' : Option (List ℕ)) (held : List ℕ) : Type 0 where
@@ -23,14 +27,6 @@ pub record Sofar (old s : Session) (rest rest' text text' : Option (List ℕ)) (
   pub input : (all : List ℕ) → rest ≡ Some all → (left : List ℕ) × (rest' ≡ Some left) × (all ≡ ended done ++ held ++ left)
 
 -- ---- texts
-
-nothing_written : (text : Option (List ℕ)) → text ≡ option_map (λ t. t ++ []) text
-nothing_written None = refl
-nothing_written (Some t) = ap (λ x. Some x) (sym (append-nil t))
-
-written_more : (text : Option (List ℕ)) (a b : List ℕ) → option_map (λ t. t ++ b) (option_map (λ t. t ++ a) text) ≡ option_map (λ t. t ++ (a ++ b)) text
-written_more None a b = refl
-written_more (Some t) a b = ap (λ x. Some x) (append_assoc t a b)
 
 text_split : (s : State) (own : Own) (ls ms : List (List ℕ)) → text_of (answers_from s own (ls ++ ms)) ≡ text_of (answers_from s own ls) ++ text_of (answers_from (answers_from s own ls).state (answers_from s own ls).own ms)
 text_split s own ls ms =
@@ -270,28 +266,3 @@ module _ (old s : Session) (rest rest' text text' : Option (List ℕ)) (held : L
         writes = record { text = text_of (run_of old f.done); by = refl; appended = same ∙ f.written };
         reads = reads_line_disk where_;
       }
-
--- ---- where a line stands
-
-place_le : (xs : List ℕ) → position_or_len is_line_feed xs ≤ length xs
-place_le [] = omega arith
-place_le (b ∷ bs) = elim (b == 10) as (λ t. cond (not t) (1 + position_or_len is_line_feed bs) 0 ≤ suc (length bs)) [ true ↦ omega arith | false ↦ let l = place_le bs in omega arith ]
-
-pub where_of : (held : List ℕ) (rest : Option (List ℕ)) → (position_or_len is_line_feed held < length held) ⊎ ((0 < length held) × ((left : List ℕ) → rest ≡ Some left → left ≡ []))
-    → (position_or_len is_line_feed held < length held) ⊎ ((position_or_len is_line_feed held ≡ length held) × (0 < length held) × ((left : List ℕ) → rest ≡ Some left → left ≡ []))
-where_of held rest (inl cut) = inl cut
-where_of held rest (inr last) = elim (eq-or-lt_of_le (place_le held)) [ inl whole ↦ inr (whole, last.0, last.1) | inr cut ↦ inl cut ]
-
-pub cut_of : (held : List ℕ) → (position_or_len is_line_feed held ≡ length held → ⊥) → position_or_len is_line_feed held < length held
-cut_of held more = elim (eq-or-lt_of_le (place_le held)) [ inl whole ↦ absurd (more whole) | inr cut ↦ cut ]
-
-pub last_of : (held : List ℕ) (rest : Option (List ℕ)) → position_or_len is_line_feed held ≡ length held
-    → (position_or_len is_line_feed held < length held) ⊎ ((0 < length held) × ((left : List ℕ) → rest ≡ Some left → left ≡ []))
-    → (position_or_len is_line_feed held ≡ length held) × (0 < length held) × ((left : List ℕ) → rest ≡ Some left → left ≡ [])
-last_of held rest whole (inl cut) = absurd (omega arith)
-last_of held rest whole (inr last) = (whole, last.0, last.1)
-
--- a count that rose behind another
-pub rose_behind : (a b c : ℕ) → a ≤ b → b ≤ c → (b < c) ⊎ (b ≡ 2 ^ 64 - 1) → (a < c) ⊎ (a ≡ 2 ^ 64 - 1)
-rose_behind a b c le le' (inl lt) = inl (omega arith)
-rose_behind a b c le le' (inr last) = elim (eq-or-lt_of_le le) [ inl same ↦ inr (same ∙ last) | inr lt ↦ inl (omega arith) ]

@@ -4,3 +4,4 @@ pub mod Turns
 pub mod Feeds
 pub mod Bounds
 pub mod LineByLine
+pub mod SoFar

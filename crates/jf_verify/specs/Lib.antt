@@ -3,3 +3,4 @@ pub mod Accepted
 pub mod Subjects
 pub mod Steps
 pub mod Laws
+pub mod Streams

@@ -10,11 +10,13 @@ mod known;
 mod laws;
 mod reading;
 mod stage;
+mod stream;
 mod subjects;
 mod text;
 
 pub use judging::Judge;
 pub use laws::{lines_are_answered_in_turn, long_lines_are_alike, verdicts_come_line_by_line};
+pub use stream::{Verified, verify_stream};
 pub use text::judge_text;
 
 #[cfg(test)]

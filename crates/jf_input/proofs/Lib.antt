@@ -1,0 +1,4 @@
+pub mod Plain
+pub mod Lines
+pub mod Found
+pub mod Written
