@@ -147,7 +147,7 @@ fn answer_line<K: Sink, D: Disk, H: Threads + Sync, G: Gate>(
 {
     out.clear();
     session.know_dated();
-    let stepped = session.step(rt, alloc, line, out, workers, gate);
+    let stepped = session.step(rt, alloc, line, workers, gate, out);
     session.know_dated();
     match stepped {
         Ok(()) => {}

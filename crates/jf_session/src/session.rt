@@ -110,9 +110,9 @@ impl<D: Disk> Session<D> {
         rt: &H,
         alloc: Global,
         line: &[u8],
-        out: &mut Bytes,
         workers: u64,
         gate: &G,
+        out: &mut Bytes,
     ) -> Result<(), Stop>
         requires over { self.old.over ≡ false }
         requires some { 1 ≤ workers }
