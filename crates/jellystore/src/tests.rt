@@ -11,6 +11,7 @@ use std::test::Fail;
 use std::thread::Threads;
 
 mod bounds;
+mod nodes;
 mod proofs;
 mod reads;
 mod refusals;

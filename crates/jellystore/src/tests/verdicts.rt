@@ -9,7 +9,8 @@ const NAME: &str = "name 61\n";
 
 const CLAIM: &str = "claim =31\n";
 
-const LEAF: &str = "leaf 19d5f57c8e8b3cd760f853bb8d7900d68e10ef02674383de65a9b4d65e419b26 f254fd9353abb55f60a0942b46382c2428aa019d102cd9985275c0fb42a8dbb3\n";
+const LEAF: &str =
+    "leaf 19d5f57c8e8b3cd760f853bb8d7900d68e10ef02674383de65a9b4d65e419b26 f254fd9353abb55f60a0942b46382c2428aa019d102cd9985275c0fb42a8dbb3\n";
 
 // The replies to `root v1` and `prove v1 61`, with this root and this claim.
 fn replies(alloc: Global, root: &str, claim: &str) -> Result<Vec<u8>, Fail> {
@@ -50,8 +51,16 @@ fn replies_are_judged_with_no_store(rt: HostRuntime) -> Result<(), Fail> {
             (Status::Done, None, 0),
             "of {root} and {claim}"
         );
-        assert_eq!(rt; (disk.moment(), disk.faults()), (before, 0), "of {root} and {claim}");
-        assert_eq!(rt; disk.bytes(Side::A), b"\x01\x07\0".as_slice(), "of {root} and {claim}");
+        assert_eq!(rt;
+            (disk.moment(), disk.faults()),
+            (before, 0),
+            "of {root} and {claim}"
+        );
+        assert_eq!(rt;
+            disk.bytes(Side::A),
+            b"\x01\x07\0".as_slice(),
+            "of {root} and {claim}"
+        );
     }
     Ok(())
 }
