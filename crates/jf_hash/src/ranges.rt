@@ -103,6 +103,7 @@ impl Ranges {
     pub fn of_counted(slots: &[Slot; 16]) -> (Ranges, u64)
         ensures value { result.0 ≡ range_hashes slots.now }
         ensures pairs { result.1 ≡ pairs_within 4 slots.now (replicate 16 true) }
+        ensures once { result.1 ≤ 15 }
     {
         let none = empty();
         let mut hashes = [none; 15];
