@@ -1,12 +1,12 @@
 -- Laws on what a landing writes.
-use Rattle.std.specs.Prelude.{◌≡◌, ◌+◌, ◌*◌, ◌≤◌, true, map, length, T}
+use Rattle.std.specs.Prelude.{◌≡◌, ◌↔◌, ◌⊎◌, ◌+◌, ◌*◌, ◌≤◌, true, [], map, length, T, Contains}
 use Rattle.std.specs.List.{AllByRecursion}
 use Rattle.std.specs.FinMap.{entries, is_sorted}
 use Rattle.jf_path.specs.Keys.{key_cmp}
 use Rattle.jf_path.specs.Paths.{IsPath}
 use Rattle.jf_hash.specs.Maps.{Map, Batch, IsMap, IsBatch, apply}
 use Rattle.jf_hash.specs.Slots.{Part}
-use Rattle.jf_model.specs.Nodes.{Path, under, is_node, nodes, fresh, stale}
+use Rattle.jf_model.specs.Nodes.{Path, under, is_node, is_fresh, nodes, fresh, stale}
 use Rattle.jf_landing.specs.Walk.{with_root}
 
 -- the walk over two maps goes to exactly the nodes that a landing of the second over the first writes, in their order
@@ -32,3 +32,19 @@ FreshIsBounded = (m : Map) (b : Batch) → IsMap m → IsBatch b → length (fre
 -- the nodes of the new map and those marked stale are as many as the nodes of the old map and those written
 abbrev pub FreshAndStale : Type 0
 FreshAndStale = (m m' : Map) → length (nodes m') + length (stale m m') ≡ length (nodes m) + length (fresh m m')
+
+-- the nodes of a map are exactly the paths of at most 64 nibbles at which there is a node, each with all entries under it
+abbrev pub NodesAreListed : Type 0
+NodesAreListed = (m : Map) (path : Path) (part : Part) → Contains (nodes m) (path, part) ↔ (IsPath path × (part ≡ under 0 path (entries m)) × (is_node 0 path (entries m) ≡ true))
+
+-- where there is a node of a map, the path is one of at most 64 nibbles
+abbrev pub NodesHavePaths : Type 0
+NodesHavePaths = (m : Map) (path : Path) → IsMap m → is_node 0 path (entries m) ≡ true → IsPath path
+
+-- what a landing writes are exactly the nodes of the new map that are fresh
+abbrev pub FreshAreListed : Type 0
+FreshAreListed = (m m' : Map) (path : Path) (part : Part) → Contains (fresh m m') (path, part) ↔ (Contains (nodes m') (path, part) × (is_fresh (entries m) (entries m') path ≡ true))
+
+-- they are the top, and each node of the new map that is no node of the old one with the same part
+abbrev pub FreshIsWhatDiffers : Type 0
+FreshIsWhatDiffers = (m m' : Map) (path : Path) (part : Part) → Contains (fresh m m') (path, part) ↔ (Contains (nodes m') (path, part) × ((path ≡ []) ⊎ (¬ (Contains (nodes m) (path, part)))))

@@ -30,3 +30,5 @@ pub mod FreshCounts
 pub mod FreshVersions
 pub mod NodePaths
 pub mod PlainLaws
+pub mod Elements
+pub mod NodesListed

@@ -1,6 +1,6 @@
 // Laws on what a landing writes, for proofs of code that stands on them. These functions do nothing when
 // they run.
-ghost use Rattle.jf_landing.specs.Laws.{WalkListsFresh, FreshAreNodes, FreshRises, FreshHasPaths, FreshIsBounded, FreshAndStale};
+ghost use Rattle.jf_landing.specs.Laws.{WalkListsFresh, FreshAreNodes, FreshRises, FreshHasPaths, FreshIsBounded, FreshAndStale, NodesAreListed, NodesHavePaths, FreshAreListed, FreshIsWhatDiffers};
 
 /// The walk that goes down only where two maps differ goes to exactly the nodes that a landing writes.
 pub fn walk_lists_fresh()
@@ -30,4 +30,24 @@ pub fn fresh_is_bounded()
 /// What a landing adds to the nodes of a map and what it marks stale come to the nodes of the new map.
 pub fn fresh_and_stale()
     ensures { FreshAndStale }
+{}
+
+/// The list of the nodes of a map has each node, with all entries under its path, and nothing else.
+pub fn nodes_are_listed()
+    ensures { NodesAreListed }
+{}
+
+/// Where there is a node of a map, the path is one of at most 64 nibbles.
+pub fn nodes_have_paths()
+    ensures { NodesHavePaths }
+{}
+
+/// What a landing writes has each fresh node of the new map, and nothing else.
+pub fn fresh_are_listed()
+    ensures { FreshAreListed }
+{}
+
+/// A landing writes the top, and each node of the new map that the old one has not with the same part.
+pub fn fresh_is_what_differs()
+    ensures { FreshIsWhatDiffers }
 {}

@@ -5,6 +5,6 @@
 mod laws;
 
 pub use laws::{
-    fresh_and_stale, fresh_are_nodes, fresh_has_paths, fresh_is_bounded, fresh_rises,
-    walk_lists_fresh,
+    fresh_and_stale, fresh_are_listed, fresh_are_nodes, fresh_has_paths, fresh_is_bounded,
+    fresh_is_what_differs, fresh_rises, nodes_are_listed, nodes_have_paths, walk_lists_fresh,
 };
