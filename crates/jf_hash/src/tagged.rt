@@ -7,12 +7,17 @@ use sha2::{Digest, Sha256};
 /// A SHA-256 hash (FIPS 180-4): 32 bytes.
 pub type Hash = [u8; 32];
 
-/// The hash of no entry: of the byte 0 alone.
-#[tactic(auto, unfolding(crate::specs::Hashes::E))]
+// The hash of no entry, as it is computed by the proof of `empty`.
+const NO_ENTRY: Hash = [
+    0x6e, 0x34, 0x0b, 0x9c, 0xff, 0xb3, 0x7a, 0x98, 0x9c, 0xa5, 0x44, 0xe6, 0xbb, 0x78, 0x0a, 0x2c,
+    0x78, 0x90, 0x1d, 0x3f, 0xb3, 0x37, 0x38, 0x76, 0x85, 0x11, 0xa3, 0x06, 0x17, 0xaf, 0xa0, 0x1d,
+];
+
+/// The hash of no entry: of the byte 0 alone. It is written down, and nothing is hashed.
 pub fn empty() -> Hash
     ensures { result ≡ E }
 {
-    Sha256::digest(&[0u8])
+    NO_ENTRY
 }
 
 /// The hash of a leaf: of the byte 1, a key and the hash of its value.
