@@ -2,6 +2,7 @@
 use Rattle.std.specs.Prelude.{◌≡◌, ◌≢◌, ℕ, ◌+◌, Bool, true, false, not, ◌&&◌, cond, List, [], ◌∷◌, ◌++◌, length, reverse, nat_lt, ◌≤◌, bytes_eq, Option, Some, None}
 use Rattle.std.proofs.Common.{refl, sym, ap, ap₂, ◌∙◌, arith, length-append}
 use Rattle.std.proofs.lemmas.Slice.Eq.{bytes_eq-Decides}
+use Rattle.std.proofs.lemmas.Bool.{not-false}
 use Rattle.std.proofs.lemmas.Bool.Decides.{nat_tests}
 use Rattle.std.proofs.lemmas.Grind.{reverse_onto}
 use Rattle.std.proofs.lemmas.List.{reverse-reverse}
@@ -176,10 +177,6 @@ passed false false true d w x y z h = absurd (cc)
 passed false false false true w x y z h = absurd (cc)
 passed false false false false w x y z h = (refl, refl, refl)
 
-so_true : (b : Bool) → not b ≡ false → b ≡ true
-so_true true h = refl
-so_true false h = absurd (cc)
-
 -- an accepted claim has at most 256 siblings and its leaf, and comes to the root
 pub record IsAccepted (root key : List ℕ) (claim : Option (List ℕ)) (proof : Proof) : Type 0 where
   pub short : length proof.siblings ≤ 256
@@ -191,7 +188,7 @@ unfolding refusal
 accepted root key claim proof h =
     let checks = passed (nat_lt 256 (length proof.siblings)) (is_wrong_leaf key claim proof.leaf) _ (not (bytes_eq (proof_root key proof) root)) _ _ _ _ h in
     let short : nat_lt 256 (length proof.siblings) ≡ false = checks.0 in
-    record { short = grind (arith, nat_tests); own_leaf = checks.1; top = (bytes_eq-Decides _ _).0 (so_true _ checks.2) }
+    record { short = grind (arith, nat_tests); own_leaf = checks.1; top = (bytes_eq-Decides _ _).0 (not-false _ checks.2) }
 
 as_rise : (key hash : List ℕ) (ss : List (List ℕ)) → climb key hash ss ≡ rise 0 key hash (reverse ss)
 as_rise key hash ss = climb-climb_to key hash ss ∙ ap (climb_to 0 key hash) (sym (reverse-reverse ss)) ∙ turned_rise 0 key hash (reverse ss)
