@@ -12,6 +12,12 @@ const ROOT: Hash = [
     0x37, 0x72, 0x0a, 0x49, 0x43, 0x41, 0x7c, 0x09, 0xe9, 0x52, 0x57, 0x88, 0xed, 0x9a, 0xa8, 0x46,
 ];
 
+// The root of the map that has `1` at `a`.
+const ONE: Hash = [
+    0x9b, 0xb7, 0x2c, 0x39, 0xf1, 0x3d, 0x2b, 0x51, 0x2e, 0xa3, 0x4e, 0xae, 0x99, 0xa2, 0x8f, 0x6d,
+    0x80, 0x7a, 0x13, 0x4a, 0xb1, 0x25, 0xe8, 0x91, 0x72, 0x31, 0x0c, 0x6f, 0x6e, 0xa7, 0x2f, 0x8f,
+];
+
 // A claim on a name, with the proof by the leaf of `x`.
 fn judged(alloc: Global, name: &[u8], claim: Option<&[u8]>) -> Result<Judged, Memory> {
     let mut siblings = HashList::new(alloc);
@@ -40,6 +46,20 @@ fn claims_that_hold_are_at_one(rt: HostRuntime) -> Result<(), Fail> {
     assert!(rt; matches!(audit(rt.alloc(), &ROOT, &value, &value)?, Audit::Agree));
     assert!(rt; matches!(audit(rt.alloc(), &ROOT, &value, &absence)?, Audit::Agree));
     assert!(rt; matches!(audit(rt.alloc(), &ROOT, &absence, &absence)?, Audit::Agree));
+    Ok(())
+}
+
+#[test]
+fn one_claim_given_twice_is_at_one(rt: HostRuntime) -> Result<(), Fail> {
+    let only = Judged {
+        key: key_of(b"a"),
+        claim: Some(Bytes::copy_of(rt.alloc(), b"1")?),
+        proof: Proof {
+            leaf: Some((key_of(b"a"), value(b"1"))),
+            siblings: HashList::new(rt.alloc()),
+        },
+    };
+    assert!(rt; matches!(audit(rt.alloc(), &ONE, &only, &only)?, Audit::Agree));
     Ok(())
 }
 

@@ -1,5 +1,6 @@
 pub mod Finding
 pub mod Listed
+pub mod Contradictions
 pub mod Turns
 pub mod Feeds
 pub mod Bounds

@@ -1,7 +1,11 @@
 -- What holds of all inputs, as statements for calls that do nothing and ensure them.
-use Rattle.std.specs.Prelude.{◌≡◌, ℕ, List, ◌∷◌, ◌++◌, IsTrue}
+use Rattle.std.specs.Prelude.{◌≡◌, ℕ, List, ◌∷◌, ◌++◌, Some, IsTrue}
+use Rattle.jf_hash.specs.Hashes.{IsCollision}
+use Rattle.jf_evidence.specs.Proofs.{IsLeaf}
 use Rattle.jf_script.specs.Words.{is_long, lines}
-use Rattle.jf_verify.specs.Verdicts.{verdicts}
+use Rattle.jf_verify.specs.declared.accepted.Accepted.{Accepted}
+use Rattle.jf_verify.specs.Accepted.{IsAccepted}
+use Rattle.jf_verify.specs.Verdicts.{contradicts, contradiction_text, collision_text, verdicts}
 use Rattle.jf_verify.specs.Steps.{State, begun, said, after, rest}
 
 -- an input is answered line by line
@@ -15,3 +19,8 @@ LinesAreAnsweredInTurn = (s : State) (line : List ℕ) (ls : List (List ℕ)) �
 -- of a long line it only counts that it is long
 abbrev pub LongLinesAreAlike : Type 0
 LongLinesAreAlike = (s : State) (line other : List ℕ) (ls : List (List ℕ)) → IsTrue (is_long line) → IsTrue (is_long other) → rest s (line ∷ ls) ≡ rest s (other ∷ ls)
+
+-- what is said of two accepted claims that contradict is two different lists with one SHA-256
+abbrev pub ContradictionsAreCollisions : Type 0
+ContradictionsAreCollisions = (a b : Accepted) → IsLeaf a.judged.proof.leaf → IsLeaf b.judged.proof.leaf → IsAccepted a → IsAccepted b → IsTrue (contradicts a b)
+    → (x : List ℕ) × (y : List ℕ) × (contradiction_text a (Some b) ≡ collision_text (Some (x, y))) × IsCollision x y

@@ -15,7 +15,10 @@ mod subjects;
 mod text;
 
 pub use judging::Judge;
-pub use laws::{lines_are_answered_in_turn, long_lines_are_alike, verdicts_come_line_by_line};
+pub use laws::{
+    contradictions_are_collisions, lines_are_answered_in_turn, long_lines_are_alike,
+    verdicts_come_line_by_line,
+};
 pub use stream::{Verified, verify_stream};
 pub use text::judge_text;
 

@@ -74,6 +74,32 @@ const INPUTS: &[(&[&str], &'static str)] = &[
         &[ROOT_OF_NONE, "proof 0\n", NAME, "claim none\nleaf none"],
         "accepted\n",
     ),
+    // The proof of one version under the root of the next.
+    (
+        &[ROOT_OF_TWO, "proof 0\n", NAME, CLAIM, LEAF],
+        "refused 4\n",
+    ),
+    // The key of `z` begins as that of `a` does for two bits, which is as many as there may be siblings.
+    (
+        &[ROOT_OF_TWO, "proof 2\n", "name 7a\nclaim none\n", LEAF, SIDES],
+        "accepted\n",
+    ),
+    (
+        &[
+            ROOT_OF_TWO,
+            "proof 3\n",
+            "name 7a\nclaim none\n",
+            LEAF,
+            "side 6e340b9cffb37a989ca544e6bb780a2c78901d3fb33738768511a30617afa01d\n",
+            SIDES,
+        ],
+        "refused 3\n",
+    ),
+    // A root is set between blocks alone.
+    (
+        &[ROOT, "proof 0\n", NAME, ROOT, CLAIM, LEAF],
+        "syntax 4\nsyntax 5\nsyntax 6\n",
+    ),
 ];
 
 fn answer(alloc: Global, parts: &[&str]) -> Result<Bytes, Memory> {
@@ -115,6 +141,27 @@ fn a_long_line_is_judged_by_its_length(rt: HostRuntime) -> Result<(), Fail> {
     judge.line(rt.alloc(), b"proof 0", &mut out)?;
     judge.end(rt.alloc(), &mut out)?;
     assert_eq!(rt; out.as_slice(), b"syntax 2\nsyntax 4\n".as_slice());
+    Ok(())
+}
+
+// A block of this many siblings.
+fn deep(alloc: Global, siblings: u64) -> Result<Bytes, Memory> {
+    let mut text = Bytes::new(alloc);
+    for part in [ROOT, "proof 257\n", NAME, CLAIM, LEAF] {
+        text.append(part.as_bytes())?;
+    }
+    for _ in 0..siblings {
+        text.append(b"side 6e340b9cffb37a989ca544e6bb780a2c78901d3fb33738768511a30617afa01d\n")?;
+    }
+    Ok(text)
+}
+
+#[test]
+fn a_proof_of_257_siblings_is_too_deep(rt: HostRuntime) -> Result<(), Fail> {
+    let text = deep(rt.alloc(), 257)?;
+    let mut out = Bytes::new(rt.alloc());
+    judge_text(rt.alloc(), text.as_slice(), &mut out)?;
+    assert_eq!(rt; out.as_slice(), b"refused 1\n".as_slice());
     Ok(())
 }
 
