@@ -114,13 +114,14 @@ fn is_same(own: Option<(&Key, HashedValue<'_>)>, entries: &[(Key, HashedValue<'_
     }
 }
 
-/// What a batch makes of a part with one entry or none.
+/// What a batch makes of a part with one entry or none. The pairs that are hashed for it are added to `pairs`.
 pub(crate) fn update_few(
     alloc: Global,
     own: Option<(&Key, HashedValue<'_>)>,
     batch: &[(Key, Option<Bytes>)],
     depth: u64,
     version: u64,
+    pairs: &mut u64,
 ) -> Result<Outcome, Memory>
     requires depth { depth ≤ 64 }
     requires parts { AreParts depth (own_entries own) batch.now }
@@ -131,6 +132,6 @@ pub(crate) fn update_few(
     if is_same(own, &entries) {
         return Ok(Outcome::Same);
     }
-    let top = build(alloc, &entries, depth, version)?;
+    let top = build(alloc, &entries, depth, version, pairs)?;
     Ok(Outcome::New(top))
 }

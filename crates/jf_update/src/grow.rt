@@ -28,12 +28,14 @@ fn first_child(children: &Sixteen) -> Option<&Link>
     None
 }
 
-/// The node over the worked children of an inner node, in its place: none, the leaf alone, or an inner node.
+/// The node over the worked children of an inner node, in its place: none, the leaf alone, or an inner node. The
+/// pairs that are hashed for it are added to `pairs`.
 pub(crate) fn collapse(
     alloc: Global,
     old: &Link,
     worked: Worked,
     version: u64,
+    pairs: &mut u64,
 ) -> Result<Option<Link>, Memory>
     requires several { 2 ≤ length old.now.entries }
     requires children { FitFrom old.now.depth 0 worked.children }
@@ -44,7 +46,8 @@ pub(crate) fn collapse(
     let Worked { children, changed } = worked;
     let count = children.count().ok_or(Memory)?;
     if count >= 2 {
-        let link = old.with_children(alloc, version, children, &changed)?;
+        let (link, hashed) = old.with_children_counted(alloc, version, children, &changed)?;
+        *pairs = pairs.saturating_add(hashed);
         return Ok(Some(link));
     }
     match first_child(&children) {
@@ -59,13 +62,14 @@ pub(crate) fn collapse(
     }
 }
 
-/// New nodes for entries in order.
+/// New nodes for entries in order. The pairs that are hashed for them are added to `pairs`.
 #[cycle(build)]
 pub(crate) fn build(
     alloc: Global,
     entries: &[(Key, HashedValue<'_>)],
     depth: u64,
     version: u64,
+    pairs: &mut u64,
 ) -> Result<Option<Link>, Memory>
     requires depth { depth ≤ 64 }
     requires part { (path : ℕ → ℕ) × IsPart depth path (plain entries.now) }
@@ -79,8 +83,9 @@ pub(crate) fn build(
             Ok(Some(link))
         }
         _ => {
-            let children = build_children(alloc, entries, depth, version)?;
-            let link = Link::inner(alloc, version, depth, children)?;
+            let children = build_children(alloc, entries, depth, version, pairs)?;
+            let (link, hashed) = Link::inner_counted(alloc, version, depth, children)?;
+            *pairs = pairs.saturating_add(hashed);
             Ok(Some(link))
         }
     }
@@ -93,6 +98,7 @@ fn build_children(
     entries: &[(Key, HashedValue<'_>)],
     depth: u64,
     version: u64,
+    pairs: &mut u64,
 ) -> Result<Sixteen, Memory>
     requires depth { depth < 64 }
     requires part { (path : ℕ → ℕ) × IsPart depth path (plain entries.now) }
@@ -106,7 +112,7 @@ fn build_children(
         let end = start + piece_end(&entries[start..], depth, nibble);
         children.set(
             nibble,
-            build(alloc, &entries[start..end], depth + 1, version)?,
+            build(alloc, &entries[start..end], depth + 1, version, pairs)?,
         );
         start = end;
     }

@@ -140,11 +140,13 @@ fn unchanged(alloc: Global, old: Option<&Link>, head: u64) -> Result<Landing, Me
 }
 
 /// What a batch makes of the node at the top of a version, if any, and the nodes that this writes and makes stale.
+/// The pairs that are hashed for it are added to `pairs`.
 pub(crate) fn land(
     alloc: Global,
     old: Option<&Link>,
     head: u64,
     batch: &[(Key, Option<Bytes>)],
+    pairs: &mut u64,
 ) -> Result<Landing, Memory>
     requires head { head + 1 < 2 ^ 64 }
     requires old { IsAtDepth 0 (option_copied old) }
@@ -152,7 +154,7 @@ pub(crate) fn land(
     requires parts { AreParts 0 (content (option_copied old)) batch.now }
     ensures { IfOk result (λ l. IsLanding head (option_copied old.entry) batch.now l) }
 {
-    match update_part(alloc, old, batch, 0, head + 1)? {
+    match update_part(alloc, old, batch, 0, head + 1, pairs)? {
         Outcome::Same => unchanged(alloc, old, head),
         Outcome::New(top) => {
             let fresh = fresh_of(alloc, top.as_ref(), head + 1)?;

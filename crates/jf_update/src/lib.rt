@@ -16,7 +16,7 @@ mod sorted;
 mod value;
 mod work;
 
-pub use next::update;
+pub use next::{update, update_counted};
 
 #[cfg(test)]
 mod tests;

@@ -26,18 +26,46 @@ pub fn update<H: Threads + Sync, G: Gate>(
     requires few { workers ≤ 64 }
     ensures { IfOk result (IsUpdate head.now batch.now) }
 {
+    let (update, _) = update_counted(rt, alloc, head, batch, workers, gate)?;
+    Ok(update)
+}
+
+/// The same, and the number of pairs of hashes that were hashed for it, each into the hash of a range of children of a
+/// new node; the hashes of values and of leaves aren't counted. It is the code's own count: each making of a node adds
+/// what it hashed.
+pub fn update_counted<H: Threads + Sync, G: Gate>(
+    rt: &H,
+    alloc: Global,
+    head: &Snapshot,
+    batch: &Batch,
+    workers: u64,
+    gate: &G,
+) -> Result<(Update, u64), Memory>
+    requires version { head.now.version < 2 ^ 64 - 2 }
+    requires some { 1 ≤ workers }
+    requires few { workers ≤ 64 }
+    ensures { IfOk result (λ r. IsUpdate head.now batch.now r.0) }
+{
     let _ = rt;
     let _ = gate;
     let _ = workers;
     head.know();
-    let landing = land(alloc, head.top(), head.version(), batch.as_slice())?;
+    let mut pairs = 0;
+    let landing = land(
+        alloc,
+        head.top(),
+        head.version(),
+        batch.as_slice(),
+        &mut pairs,
+    )?;
     let Landing { top, fresh, stale } = landing;
     let snapshot = Snapshot::of(head.version() + 1, top);
     snapshot.know();
-    Ok(Update {
+    let update = Update {
         root: snapshot.root(),
         fresh,
         stale,
         snapshot,
-    })
+    };
+    Ok((update, pairs))
 }

@@ -14,7 +14,8 @@ use jf_node::{Link, Seen, Sixteen};
 use jf_path::{Bytes, Key, Memory, Nibble};
 use std::alloc::Global;
 
-/// What a batch makes of the node `old`, or of no node, at a depth.
+/// What a batch makes of the node `old`, or of no node, at a depth. The pairs that are hashed for it are added to
+/// `pairs`.
 #[cycle(part)]
 pub(crate) fn update_part(
     alloc: Global,
@@ -22,6 +23,7 @@ pub(crate) fn update_part(
     batch: &[(Key, Option<Bytes>)],
     depth: u64,
     version: u64,
+    pairs: &mut u64,
 ) -> Result<Outcome, Memory>
     requires depth { depth ≤ 64 }
     requires placed { IsAtDepth depth (option_copied old) }
@@ -32,7 +34,7 @@ pub(crate) fn update_part(
         return Ok(Outcome::Same);
     }
     match old {
-        None => update_few(alloc, None, batch, depth, version),
+        None => update_few(alloc, None, batch, depth, version, pairs),
         Some(link) => match link.view() {
             Seen::Leaf {
                 key,
@@ -44,12 +46,13 @@ pub(crate) fn update_part(
                 batch,
                 depth,
                 version,
+                pairs,
             ),
             Seen::Inner { children } => {
-                match update_children(alloc, children, batch, depth, version)? {
+                match update_children(alloc, children, batch, depth, version, pairs)? {
                     None => Ok(Outcome::Same),
                     Some(worked) => {
-                        let top = collapse(alloc, link, worked, version)?;
+                        let top = collapse(alloc, link, worked, version, pairs)?;
                         Ok(Outcome::New(top))
                     }
                 }
@@ -68,7 +71,8 @@ fn place(worked: &mut Worked, n: Nibble, outcome: Outcome)
     }
 }
 
-/// The children that a batch makes of these, or None where it changes nothing.
+/// The children that a batch makes of these, or None where it changes nothing. The pairs that are hashed for
+/// them are added to `pairs`.
 #[cycle(part)]
 fn update_children(
     alloc: Global,
@@ -76,6 +80,7 @@ fn update_children(
     batch: &[(Key, Option<Bytes>)],
     depth: u64,
     version: u64,
+    pairs: &mut u64,
 ) -> Result<Option<Worked>, Memory>
     requires depth { depth < 64 }
     requires children { FitFrom depth 0 children.now }
@@ -97,6 +102,7 @@ fn update_children(
             &batch[start..end],
             depth + 1,
             version,
+            pairs,
         )?;
         place(&mut worked, nibble, outcome);
         start = end;

@@ -13,15 +13,15 @@ build-build_children-requires t c =
     let deep : c.args.depth < 64 = deeper c.args.depth c.requires.part.0 (plain c.args.entries.now) c.requires.part.1 (omega (arith, length-plain c.args.entries.now)) in
     (search rules, (deep, (c.requires.part, c.requires.hashed)))
 
-pub build-inner-requires-clause-depth : goal.build-inner-requires-clause-depth
-build-inner-requires-clause-depth t c = deeper c.args.depth c.requires.part.0 (plain c.args.entries.now) c.requires.part.1 (omega (arith, length-plain c.args.entries.now))
+pub build-inner_counted-requires-clause-depth : goal.build-inner_counted-requires-clause-depth
+build-inner_counted-requires-clause-depth t c = deeper c.args.depth c.requires.part.0 (plain c.args.entries.now) c.requires.part.1 (omega (arith, length-plain c.args.entries.now))
 
-pub build-inner-requires-clause-several : goal.build-inner-requires-clause-several
-build-inner-requires-clause-several t c =
+pub build-inner_counted-requires-clause-several : goal.build-inner_counted-requires-clause-several
+build-inner_counted-requires-clause-several t c =
     omega (arith, length-plain c.args.entries.now, ap length (joined_built c.args.depth c.args.version c.requires.part.0 (plain c.args.entries.now) c.in_ok-children-in_default.children c.requires.part.1 c.in_ok-children-in_default.ensures))
 
-pub build-inner-requires-clause-alike : goal.build-inner-requires-clause-alike
-build-inner-requires-clause-alike t c =
+pub build-inner_counted-requires-clause-alike : goal.build-inner_counted-requires-clause-alike
+build-inner_counted-requires-clause-alike t c =
     subst (BeginAlike c.args.depth) (sym (joined_built c.args.depth c.args.version c.requires.part.0 (plain c.args.entries.now) c.in_ok-children-in_default.children c.requires.part.1 c.in_ok-children-in_default.ensures)) (part_agrees (plain c.args.entries.now) c.requires.part.1)
 
 pub build-returns-in-empty : goal.build-returns-in-empty
@@ -32,7 +32,7 @@ build-returns-in_ok-link-in-len1 t c = built_len1 c.args.depth c.args.version c.
 
 pub build-returns-in_ok-link-in_default : goal.build-returns-in_ok-link-in_default
 build-returns-in_ok-link-in_default t c =
-    built_inner c.args.depth c.args.version c.requires.part.0 (plain c.args.entries.now) _ c.in_ok-children-in_default.children (omega (arith, length-plain c.args.entries.now)) c.requires.part.1 c.in_ok-children-in_default.ensures c.in_ok-link-in_default.ensures
+    built_inner c.args.depth c.args.version c.requires.part.0 (plain c.args.entries.now) _ c.in_ok-children-in_default.children (omega (arith, length-plain c.args.entries.now)) c.requires.part.1 c.in_ok-children-in_default.ensures c.in_ok-link-in_default.ensures.link
 
 pub build_children-loop-n-init : goal.build_children-loop-n-init
 build_children-loop-n-init t c = building_start c.args.depth c.args.version c.args.entries.now _ c.none-children.ensures

@@ -5,7 +5,7 @@ use Rattle.jf_node.specs.Snapshots.{snapshot_of, IsTopIf}
 use Rattle.jf_update.specs.Landings.{IsLanding}
 use Rattle.jf_update.specs.Outcomes.{AreParts}
 use Rattle.jf_update.proofs.Nexts.{top_parts, landed_top, updated}
-use Rattle.jf_update.proofs.next.update.Goals as goal
+use Rattle.jf_update.proofs.next.update_counted.Goals as goal
 
 pub land-requires-clause-parts : goal.land-requires-clause-parts
 land-requires-clause-parts g c =
