@@ -81,7 +81,13 @@ const INPUTS: &[(&[&str], &'static str)] = &[
     ),
     // The key of `z` begins as that of `a` does for two bits, which is as many as there may be siblings.
     (
-        &[ROOT_OF_TWO, "proof 2\n", "name 7a\nclaim none\n", LEAF, SIDES],
+        &[
+            ROOT_OF_TWO,
+            "proof 2\n",
+            "name 7a\nclaim none\n",
+            LEAF,
+            SIDES,
+        ],
         "accepted\n",
     ),
     (
