@@ -124,12 +124,11 @@ module _ (source source' text text' : Option (List ℕ)) (held : List ℕ) (judg
       written = put ∙ ap (option_map (λ t. t ++ out)) f.written ∙ written_more text f.said out;
       to_come = λ input is.
           let i = next_said input is in
-          let ls = lines (after_first is_line_feed held ++ i.0) in
-          (
+          let ls = lines (after_first is_line_feed held ++ i.0) in (
             i.0,
             i.1,
             append_assoc f.said out (rest judge' ls)
-            ∙ ap (λ t. f.said ++ t) (said ls ∙ ap (λ a. rest judge (line ∷ lines (a ++ i.0))) (sym (after_first-text 8500 f.whole held f.shortened))) ∙ i.2,
+                ∙ ap (λ t. f.said ++ t) (said ls ∙ ap (λ a. rest judge (line ∷ lines (a ++ i.0))) (sym (after_first-text 8500 f.whole held f.shortened))) ∙ i.2,
           );
     }
 
