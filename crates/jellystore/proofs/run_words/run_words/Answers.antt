@@ -7,7 +7,7 @@ use Rattle.jellystore.proofs.Statuses.{memory_told, damage_told, refusal_closes,
 use Rattle.jellystore.proofs.Complete.{steady, refused_for_memory, ends_well, is_legal, is_settled}
 use Rattle.jellystore.proofs.Counting.{run_extends, run_counts, run_dated}
 use Rattle.jellystore.proofs.Safe.{run_safe, run_opened_safe, closed_safe}
-use Rattle.jellystore.proofs.Workers.{mode_runs, mode_workers}
+use Rattle.jellystore.proofs.Workers.{mode_workers}
 use Rattle.jellystore.proofs.Standing.{stands-none, settled-stands, damage-told, run_generation}
 use Rattle.jellystore.proofs.run_words.run_words.Goals as goal
 
@@ -16,7 +16,7 @@ returns-in-Err-over-clause-damaged g c = λ h side at told same.
     c.in-Err-over.ensures.damaged h side at told (damage_told c.in-Err-over.field-0.why side at (sym c.of_refusal.ensures ∙ same))
 
 pub returns-in-Err-over-clause-closed_status : goal.returns-in-Err-over-clause-closed_status
-returns-in-Err-over-clause-closed_status g c = λ none. subst (λ s. IsTrue (is_closing s)) (sym c.of_refusal.ensures) (refusal_closes c.in-Err-over.field-0.why)
+returns-in-Err-over-clause-closed_status g c = λ other none. subst (λ s. IsTrue (is_closing s)) (sym c.of_refusal.ensures) (refusal_closes c.in-Err-over.field-0.why)
 
 pub returns-clause-ran : goal.returns-clause-ran
 returns-clause-ran g c = record {
@@ -67,7 +67,7 @@ returns-clause-settled g c = λ h told some sound.
 
 pub returns-in-Ok-None-clause-stops : goal.returns-in-Ok-None-clause-stops
 returns-in-Ok-None-clause-stops g c = λ h v told calm stands.
-    rw c.new.ensures (closed_safe h h v (g.D.Disk.history c.args.disk) (g.D.Disk.moment c.args.disk) status.Usage (g.D.Disk.faults c.args.disk) (g.D.Disk.faults c.args.disk) told (c.know_dated.ensures h told) calm stands (record { more = []; grows = refl; each = tt }))
+    rw c.new-in-Ok-None.ensures (closed_safe h h v (g.D.Disk.history c.args.disk) (g.D.Disk.moment c.args.disk) status.Usage (g.D.Disk.faults c.args.disk) (g.D.Disk.faults c.args.disk) told (c.know_dated.ensures h told) calm stands (record { more = []; grows = refl; each = tt }))
 
 pub returns-in-Err-over-clause-stops : goal.returns-in-Err-over-clause-stops
 returns-in-Err-over-clause-stops g c = λ h v told calm stands.
@@ -101,7 +101,7 @@ returns-in-Err-over-clause-damaged_left g c = λ h side at told same.
     c.in-Err-over.ensures.damaged_left h side at told (damage_told c.in-Err-over.field-0.why side at (sym c.of_refusal.ensures ∙ same))
 
 pub returns-in-Ok-None-clause-stands : goal.returns-in-Ok-None-clause-stands
-returns-in-Ok-None-clause-stands g c = λ h v told stands sound. rw c.new.ensures (stands-none h v (g.D.Disk.history c.args.disk) told stands)
+returns-in-Ok-None-clause-stands g c = λ h v told stands sound. rw c.new-in-Ok-None.ensures (stands-none h v (g.D.Disk.history c.args.disk) told stands)
 
 pub returns-in-Err-over-clause-stands : goal.returns-in-Err-over-clause-stands
 returns-in-Err-over-clause-stands g c = λ h v told stands sound.
@@ -134,12 +134,17 @@ returns-in-Err-clause-stops g c = λ h v told calm stands.
 pub returns-in-Err-clause-stands : goal.returns-in-Err-clause-stands
 returns-in-Err-clause-stands g c = λ h v told stands sound. rw c.new-in-Err.ensures (stands-none h v (g.D.Disk.history c.args.disk) told stands)
 
+pub returns-in-Ok-Some-Verify-clause-stops : goal.returns-in-Ok-Some-Verify-clause-stops
+returns-in-Ok-Some-Verify-clause-stops g c = λ h v told calm stands.
+    rw c.new.ensures (closed_safe h h v (g.D.Disk.history c.args.disk) (g.D.Disk.moment c.args.disk) c.judge_input-status.result (g.D.Disk.faults c.args.disk) (g.D.Disk.faults c.args.disk) told (c.know_dated.ensures h told) calm stands (record { more = []; grows = refl; each = tt }))
+
+pub returns-in-Ok-Some-Verify-clause-stands : goal.returns-in-Ok-Some-Verify-clause-stands
+returns-in-Ok-Some-Verify-clause-stands g c = λ h v told stands sound. rw c.new.ensures (stands-none h v (g.D.Disk.history c.args.disk) told stands)
+
 pub run-disk-requires-clause-some : goal.run-disk-requires-clause-some
 run-disk-requires-clause-some g c κs within =
-    let run = mode_runs c.in-Ok-Some-Run.field-0-0 in
-    rw run.1 (mode_workers (map (λ w. string_bytes w) c.args.words.now) run.0 (ap (λ m. Some m) (sym run.1) ∙ (sym c.in-Ok-Some-Run.field-0-is ∙ c.in-Ok-Some-Run.ensures))).0
+    (mode_workers (map (λ w. string_bytes w) c.args.words.now) c.in-Ok-Some-Run.workers (ap (λ m. Some m) (sym c.in-Ok-Some-Run.field-0-0-is) ∙ sym c.in-Ok-Some-Run.field-0-is ∙ c.in-Ok-Some-Run.ensures)).0
 
 pub run-disk-requires-clause-few : goal.run-disk-requires-clause-few
 run-disk-requires-clause-few g c κs within =
-    let run = mode_runs c.in-Ok-Some-Run.field-0-0 in
-    rw run.1 (mode_workers (map (λ w. string_bytes w) c.args.words.now) run.0 (ap (λ m. Some m) (sym run.1) ∙ (sym c.in-Ok-Some-Run.field-0-is ∙ c.in-Ok-Some-Run.ensures))).1
+    (mode_workers (map (λ w. string_bytes w) c.args.words.now) c.in-Ok-Some-Run.workers (ap (λ m. Some m) (sym c.in-Ok-Some-Run.field-0-0-is) ∙ sym c.in-Ok-Some-Run.field-0-is ∙ c.in-Ok-Some-Run.ensures)).1
