@@ -19,4 +19,6 @@ mod work;
 pub use next::{update, update_counted};
 
 #[cfg(test)]
+mod many_tests;
+#[cfg(test)]
 mod tests;
