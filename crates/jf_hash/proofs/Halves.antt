@@ -4,7 +4,7 @@ use Rattle.std.proofs.Common.{refl, sym, ap, ap₂, ◌∙◌, arith, pow-suc, l
 use Rattle.jf_hash.specs.Hashes.{E, N}
 use Rattle.jf_hash.specs.Slots.{Nothing, Alone, More, stand, stand_hash, place_hash, range_hash}
 use Rattle.jf_hash.specs.Ranges.{IsRange}
-use Rattle.jf_hash.specs.RangeLaws.{some_power, fits_all}
+use Rattle.jf_hash.specs.RangeLaws.{some_power, fits_all, range_level}
 use Rattle.jf_hash.specs.declared.slot.Slot.{Slot}
 use Rattle.jf_hash.specs.declared.slot.Slot.TheVariants as slot
 
@@ -72,11 +72,12 @@ small_level (suc (suc (suc (suc (suc n))))) h =
 -- a range lies within the sixteen places
 pub range_within : (start width : ℕ) → IsRange start width → start + width ≤ 16
 range_within start width range =
-    omega (arith, range.wide, fits_all range.level start range.small (sym (ap (λ w. start % w) range.wide) ∙ range.aligned) range.within)
+    let l = range_level start width range in
+    omega (arith, l.2, fits_all l.0 start l.1 (sym (ap (λ w. start % w) l.2) ∙ range.aligned) range.within)
 
 -- so its level is at most 4
-pub range_level : (start width level : ℕ) → IsRange start width → width ≡ 2 ^ level → level ≤ 4
-range_level start width level range is = small_level level (omega (arith, is, range_within start width range))
+pub small_range : (start width level : ℕ) → IsRange start width → width ≡ 2 ^ level → level ≤ 4
+small_range start width level range is = small_level level (omega (arith, is, range_within start width range))
 
 pub length-places : {X : Type 0} (start width : ℕ) (xs : List X) → length xs ≡ 16 → start + width ≤ 16 → length (take width (drop start xs)) ≡ width
 length-places start width xs long within = length-take-le width (drop start xs) (omega (arith, length-drop start xs))

@@ -1,23 +1,23 @@
 -- The hashes that are kept of the ranges within a range: where they stand, and what stays of them.
 use Rattle.std.specs.Prelude.{◌≡◌, ℕ, zero, suc, ◌+◌, ◌-◌, ◌^◌, ◌<◌, ◌≤◌, Bool, true, false, List, [], ◌∷◌, ◌++◌, length, take, drop, replicate}
-use Rattle.std.proofs.Common.{refl, sym, ap, ap₂, ◌∙◌, arith, length-append, length-drop, take_at, drop_at, append_assoc, get_or, set}
+use Rattle.std.proofs.Common.{refl, sym, ap, ap₂, ◌∙◌, arith, length-append, length-drop, take_at, drop_at, append_assoc, set}
 use Rattle.std.proofs.lemmas.List.{drop_all, set_split}
 use Rattle.std.proofs.lemmas.Slice.{take-put_mid, drop-put_mid}
 use borrow.Rule.Slice.PartMut.{put_mid}
-use Rattle.std.specs.List.{AllByRecursion}
 use Rattle.jf_hash.specs.Hashes.{E, N}
 use Rattle.jf_hash.specs.Slots.{stand, stand_hash, range_hash}
-use Rattle.jf_hash.specs.Ranges.{Agree, hashes_within, range_hashes}
-use Rattle.jf_hash.specs.RangeLaws.{length-hashes_within, last_at}
+use Rattle.jf_hash.specs.Ranges.{Agree, has_mark, hashes_within, range_hashes}
+use Rattle.jf_hash.specs.RangeLaws.{length-hashes_within}
 use Rattle.jf_hash.specs.declared.slot.Slot.{Slot}
 use Rattle.jf_hash.specs.declared.slot.Slot.TheVariants as slot
 use Rattle.jf_hash.proofs.Halves.{range_hash-halves}
 
 -- ---- places that are as they were
 
-pub agree_same : (olds : List Slot) (changed : List Bool) (slots : List Slot) → Agree olds changed slots → AllByRecursion (λ mark. mark ≡ false) changed → olds ≡ slots
+pub agree_same : (olds : List Slot) (changed : List Bool) (slots : List Slot) → Agree olds changed slots → has_mark changed ≡ false → olds ≡ slots
 agree_same [] [] [] h k = refl
-agree_same (o ∷ olds) (c ∷ changed) (s ∷ slots) h k = ap₂ (λ x t. x ∷ t) (h.0 k.0) (agree_same olds changed slots h.1 k.1)
+agree_same (o ∷ olds) (true ∷ changed) (s ∷ slots) h k = absurd (cc)
+agree_same (o ∷ olds) (false ∷ changed) (s ∷ slots) h k = ap₂ (λ x t. x ∷ t) (h.0 refl) (agree_same olds changed slots h.1 k)
 agree_same [] [] (s ∷ slots) h k = absurd h
 agree_same [] (c ∷ changed) slots h k = absurd h
 agree_same (o ∷ olds) [] slots h k = absurd h
@@ -126,6 +126,3 @@ module _ {X : Type 0} (half : ℕ) (hashes lefts : List X) (some : 1 ≤ half) (
       set_split written last hash (omega (arith, long_after, some, room))
       ∙ ap₂ (λ t u. t ++ hash ∷ u) front (drop_all (suc last) written (omega (arith, long_after, some, room)))
       ∙ append_assoc lefts rights (hash ∷ [])
-
-pub get_last : {X : Type 0} (lefts rights : List X) (hash : X) (n : ℕ) (d : X) → n ≡ length lefts + length rights → get_or (lefts ++ (rights ++ hash ∷ [])) n d ≡ hash
-get_last lefts rights hash n d is = ap (λ t. get_or t n d) (sym (append_assoc lefts rights (hash ∷ []))) ∙ last_at (lefts ++ rights) hash n d (is ∙ sym (length-append lefts rights))

@@ -1,10 +1,13 @@
 -- The hashes of all ranges, one by one.
-use Rattle.std.specs.Prelude.{◌≡◌, ℕ, zero, suc, ◌+◌, ◌-◌, ◌%◌, ◌^◌, ◌<◌, ◌≤◌, List, [], ◌∷◌, ◌++◌, ◌⊎◌, length, take, drop}
+use Rattle.std.specs.Prelude.{◌≡◌, ℕ, zero, suc, ◌+◌, ◌-◌, ◌%◌, ◌^◌, ◌<◌, ◌≤◌, ◌*◌, Bool, true, false, cond, ◌&&◌, List, [], ◌∷◌, ◌++◌, ◌⊎◌, length, take, drop}
 use Rattle.std.proofs.Common.{refl, sym, ap, ap₂, ◌∙◌, arith, pow-suc, length-append, length-take-le, length-drop, take_all, take-take, drop-drop, append_assoc, get_or, inl, inr, eq-or-lt_of_le}
 use Rattle.std.proofs.lemmas.List.{drop-take, get_or_append_left, get_or-append-add}
 use Rattle.std.proofs.lemmas.Bool.{cases_lt}
-use Rattle.jf_hash.specs.Slots.{range_hash}
-use Rattle.jf_hash.specs.Ranges.{hashes_within, range_hashes, range_index}
+use Rattle.std.specs.List.{count_by}
+use Rattle.std.proofs.lemmas.List.Sums.{sum_by-cons, sum_by-take-drop}
+use Rattle.std.proofs.Math.Nat.{mul-add}
+use Rattle.jf_hash.specs.Slots.{stand, range_hash}
+use Rattle.jf_hash.specs.Ranges.{IsRange, has_mark, is_more, hashes_within, pairs_within, range_hashes, range_index}
 use Rattle.jf_hash.specs.declared.slot.Slot.{Slot}
 
 pub some_power : (level : ℕ) → 1 ≤ 2 ^ level
@@ -118,6 +121,27 @@ within_at (suc t) l start slots d some within small aligned fits long =
     part_taken w start n xs le =
         ap (λ k. take w (drop start (take k xs))) (let e : n ≡ start + (n - start) = omega arith in e) ∙ ap (take w) (drop-take start (n - start) xs) ∙ take-take w (n - start) (drop start xs) (omega arith)
 
+-- ---- the ranges
+
+-- a width is a power of two
+pub range_level : (start width : ℕ) → IsRange start width → (level : ℕ) × (level ≤ 4) × (width ≡ 2 ^ level)
+range_level start width range = elim range.wide [
+  | inl is ↦ (0, omega arith, is)
+  | inr (inl is) ↦ (1, omega arith, is)
+  | inr (inr (inl is)) ↦ (2, omega arith, is)
+  | inr (inr (inr (inl is))) ↦ (3, omega arith, is)
+  | inr (inr (inr (inr is))) ↦ (4, omega arith, is)
+]
+
+-- 2 ^ level places make a range
+pub IsRange-of_level : (level start : ℕ) → level ≤ 4 → start % 2 ^ level ≡ 0 → start < 16 → IsRange start (2 ^ level)
+IsRange-of_level zero start small aligned lt = record { wide = inl refl; aligned = aligned; within = lt }
+IsRange-of_level (suc zero) start small aligned lt = record { wide = inr (inl refl); aligned = aligned; within = lt }
+IsRange-of_level (suc (suc zero)) start small aligned lt = record { wide = inr (inr (inl refl)); aligned = aligned; within = lt }
+IsRange-of_level (suc (suc (suc zero))) start small aligned lt = record { wide = inr (inr (inr (inl refl))); aligned = aligned; within = lt }
+IsRange-of_level (suc (suc (suc (suc zero)))) start small aligned lt = record { wide = inr (inr (inr (inr refl))); aligned = aligned; within = lt }
+IsRange-of_level (suc (suc (suc (suc (suc n))))) start small aligned lt = absurd (omega arith)
+
 -- ---- what the fifteen hashes are
 
 pub fits_all : (level start : ℕ) → level ≤ 4 → start % 2 ^ level ≡ 0 → start < 16 → start + 2 ^ level ≤ 16
@@ -145,3 +169,73 @@ range_index-small (suc (suc (suc (suc (suc n))))) start some small aligned lt = 
 -- the last is that of all places
 pub range_hashes-top : (slots : List Slot) (d : List ℕ) → get_or (range_hashes slots) 14 d ≡ range_hash 4 slots
 range_hashes-top slots d = within_whole 4 slots 14 d (omega arith) refl
+
+-- ---- how many pairs are hashed
+
+-- none where nothing is marked
+pub has_mark-take : (n : ℕ) (marks : List Bool) → has_mark marks ≡ false → has_mark (take n marks) ≡ false
+has_mark-take zero marks none = refl
+has_mark-take (suc n) [] none = refl
+has_mark-take (suc n) (true ∷ marks) none = absurd (cc)
+has_mark-take (suc n) (false ∷ marks) none = has_mark-take n marks none
+
+pub has_mark-drop : (n : ℕ) (marks : List Bool) → has_mark marks ≡ false → has_mark (drop n marks) ≡ false
+has_mark-drop zero marks none = none
+has_mark-drop (suc n) [] none = refl
+has_mark-drop (suc n) (true ∷ marks) none = absurd (cc)
+has_mark-drop (suc n) (false ∷ marks) none = has_mark-drop n marks none
+
+pub pairs_within-none : (level : ℕ) (slots : List Slot) (marks : List Bool) → has_mark marks ≡ false → pairs_within level slots marks ≡ 0
+unfolding pairs_within
+pairs_within-none zero slots marks none = refl
+pairs_within-none (suc level) slots marks none =
+    omega (
+      arith,
+      pairs_within-none level (take (2 ^ level) slots) (take (2 ^ level) marks) (has_mark-take (2 ^ level) marks none),
+      pairs_within-none level (drop (2 ^ level) slots) (drop (2 ^ level) marks) (has_mark-drop (2 ^ level) marks none),
+      ap {B = ℕ} (λ b. cond (b && is_more (stand slots)) 1 0) none,
+    )
+
+at_most_marks : (more : Bool) (marks : List Bool) → cond (has_mark marks && more) 1 0 ≤ count_by (λ mark. mark) marks
+at_most_marks more [] = omega arith
+at_most_marks true (true ∷ marks) = omega (arith, sum_by-cons (λ mark. cond {A = ℕ} mark 1 0) true marks)
+at_most_marks false (true ∷ marks) = omega arith
+at_most_marks more (false ∷ marks) = at_most_marks more marks
+
+together : (level a b c p q here : ℕ) → p ≤ level * a → q ≤ level * b → a + b ≡ c → here ≤ c → p + q + here ≤ suc level * c
+together level a b c p q here first second is small = omega (arith, mul-distrib level a b c is, suc-times level c)
+  where
+    mul-distrib : (n a b c : ℕ) → a + b ≡ c → n * c ≡ n * a + n * b
+    mul-distrib n a b c is = ap (λ k. n * k) (sym is) ∙ mul-add n a b
+
+    suc-times : (n c : ℕ) → suc n * c ≡ n * c + c
+    suc-times n c = grind arith
+
+-- a marked place lies in one range of each width
+pub pairs_within-few : (level : ℕ) (slots : List Slot) (marks : List Bool) → pairs_within level slots marks ≤ level * count_by (λ mark. mark) marks
+unfolding pairs_within
+pairs_within-few zero slots marks = omega arith
+pairs_within-few (suc level) slots marks =
+    together level (count_by (λ mark. mark) (take (2 ^ level) marks)) (count_by (λ mark. mark) (drop (2 ^ level) marks)) (count_by (λ mark. mark) marks) _ _ _
+    (pairs_within-few level (take (2 ^ level) slots) (take (2 ^ level) marks)) (pairs_within-few level (drop (2 ^ level) slots) (drop (2 ^ level) marks))
+    (sum_by-take-drop (λ mark. cond mark 1 0) marks (2 ^ level)) (at_most_marks (is_more (stand slots)) marks)
+
+pub pairs_within-one : (level : ℕ) (slots : List Slot) (marks : List Bool) → 2 ^ level ≡ 1 → level ≤ 4 → pairs_within level slots marks ≡ 0
+unfolding pairs_within
+pairs_within-one zero slots marks is small = refl
+pairs_within-one (suc zero) slots marks is small = absurd (omega arith)
+pairs_within-one (suc (suc zero)) slots marks is small = absurd (omega arith)
+pairs_within-one (suc (suc (suc zero))) slots marks is small = absurd (omega arith)
+pairs_within-one (suc (suc (suc (suc zero)))) slots marks is small = absurd (omega arith)
+pairs_within-one (suc (suc (suc (suc (suc n))))) slots marks is small = absurd (omega arith)
+
+-- of a range with a marked place that isn't one place
+pub pairs_within-halves : (level half : ℕ) (slots : List Slot) (marks : List Bool) → 0 < level → half ≡ 2 ^ (level - 1) → has_mark marks ≡ true
+    → pairs_within (level - 1) (take half slots) (take half marks) + pairs_within (level - 1) (drop half slots) (drop half marks) + cond (is_more (stand slots)) 1 0 ≡ pairs_within level slots marks
+unfolding pairs_within
+pairs_within-halves zero half slots marks some is mark = absurd (omega arith)
+pairs_within-halves (suc level) half slots marks some is mark =
+    let e : suc level - 1 ≡ level = omega arith in
+    let h : half ≡ 2 ^ level = is ∙ ap (λ k. 2 ^ k) e in
+    ap₂ (λ k n. pairs_within k (take n slots) (take n marks) + pairs_within k (drop n slots) (drop n marks) + cond (is_more (stand slots)) 1 0) e h
+    ∙ ap {B = ℕ} (λ b. pairs_within level (take (2 ^ level) slots) (take (2 ^ level) marks) + pairs_within level (drop (2 ^ level) slots) (drop (2 ^ level) marks) + cond (b && is_more (stand slots)) 1 0) (sym mark)

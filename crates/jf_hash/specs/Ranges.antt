@@ -1,16 +1,14 @@
 -- Ranges of the places of a node: which there are, the entries of the part that stand in one, and the hashes of all of them.
-use Rattle.std.specs.Prelude.{◌≡◌, ℕ, zero, suc, ◌+◌, ◌-◌, ◌/◌, ◌%◌, ◌^◌, ◌<◌, ◌≤◌, Bool, false, ◌&&◌, nat_le, nat_lt, List, [], ◌∷◌, ◌++◌, filter, take, drop}
+use Rattle.std.specs.Prelude.{◌≡◌, ℕ, zero, suc, ◌+◌, ◌-◌, ◌/◌, ◌%◌, ◌^◌, ◌<◌, Bool, true, false, cond, ◌&&◌, ◌||◌, ◌⊎◌, nat_le, nat_lt, List, [], ◌∷◌, ◌++◌, filter, take, drop}
 use Rattle.jf_path.specs.Nibbles.{nibble}
-use Rattle.jf_hash.specs.Slots.{Stand, Nothing, Alone, More, range_hash}
+use Rattle.jf_hash.specs.Slots.{Stand, Nothing, Alone, More, stand, range_hash}
 use Rattle.jf_hash.specs.declared.slot.Slot.{Slot}
 use Rattle.jf_hash.specs.declared.standing.Standing.{Standing}
 use Rattle.jf_hash.specs.declared.standing.Standing.TheVariants as standing
 
--- a range of 2 ^ level places, of one to all sixteen, that begins at a multiple of its width
+-- a range of 1, 2, 4, 8 or all 16 places, which begins at a multiple of its width
 pub record IsRange (start width : ℕ) : Type 0 where
-  pub level : ℕ
-  pub small : level ≤ 4
-  pub wide : width ≡ 2 ^ level
+  pub wide : (width ≡ 1) ⊎ (width ≡ 2) ⊎ (width ≡ 4) ⊎ (width ≡ 8) ⊎ (width ≡ 16)
   pub aligned : start % width ≡ 0
   pub within : start < 16
 
@@ -21,6 +19,12 @@ lies_in start width place = nat_le start place && nat_lt place (start + width)
 -- those whose nibble d lies in a range of places
 abbrev pub in_range : {X : Type 0} → ℕ → ℕ → ℕ → List (List ℕ × X) → List (List ℕ × X)
 in_range d start width es = filter (λ e. lies_in start width (nibble e.0 d)) es
+
+-- whether more than one leaf stands there
+abbrev pub is_more : Stand → Bool
+is_more Nothing = false
+is_more (Alone hash) = false
+is_more More = true
 
 -- what the program found to stand in a range
 abbrev pub found : Standing → Stand
@@ -46,3 +50,14 @@ abbrev pub Agree : List Slot → List Bool → List Slot → Type 0
 Agree [] [] [] = Unit {0}
 Agree (o ∷ olds) (c ∷ changed) (s ∷ slots) = (c ≡ false → o ≡ s) × Agree olds changed slots
 Agree olds changed slots = ⊥
+
+-- whether a place is marked
+abbrev pub has_mark : List Bool → Bool
+has_mark [] = false
+has_mark (mark ∷ marks) = mark || has_mark marks
+
+-- how many ranges of two places or more, among 2 ^ level places, have a marked place and more than one leaf
+unfoldable pub pairs_within : ℕ → List Slot → List Bool → ℕ
+pairs_within zero slots marks = 0
+pairs_within (suc level) slots marks =
+    pairs_within level (take (2 ^ level) slots) (take (2 ^ level) marks) + pairs_within level (drop (2 ^ level) slots) (drop (2 ^ level) marks) + cond (has_mark marks && is_more (stand slots)) 1 0

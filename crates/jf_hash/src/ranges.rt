@@ -1,10 +1,10 @@
 // The hashes of the ranges of a node's places, kept so that a change hashes few of them again.
-ghost use Rattle.std.specs.Prelude.{◌≡◌, ℕ, ◌+◌, ◌-◌, ◌*◌, ◌^◌, ◌<◌, ◌≤◌, false, [], List, length, take, drop, slice_index_or};
-ghost use Rattle.std.specs.List.{AllByRecursion};
+ghost use Rattle.std.specs.Prelude.{◌≡◌, ℕ, ◌+◌, ◌-◌, ◌*◌, ◌^◌, ◌<◌, ◌≤◌, cond, [], List, length, take, drop, slice_index_or};
+ghost use Rattle.std.specs.List.{count_by};
 ghost use Rattle.jf_hash.specs.Hashes.{E, N};
 ghost use Rattle.jf_hash.specs.Roots.{part_root};
 ghost use Rattle.jf_hash.specs.Slots.{Part, slots_of, stand, stand_hash, range_hash};
-ghost use Rattle.jf_hash.specs.Ranges.{Agree, IsRange, in_range, hashes_within, range_hashes, range_index};
+ghost use Rattle.jf_hash.specs.Ranges.{Agree, IsRange, has_mark, in_range, is_more, hashes_within, pairs_within, range_hashes, range_index};
 ghost use Rattle.jf_hash.specs.declared.slot.Slot.{Slot};
 
 use crate::range::hash_at;
@@ -14,7 +14,7 @@ use crate::tagged::{Hash, empty, inner};
 use std::marker::Model;
 
 /// The hashes of the fifteen ranges of two places or more of a node, each behind those of its halves.
-#[derive(Clone, Copy, Debug)]
+#[derive(Clone, Copy, Debug, PartialEq, Eq)]
 pub struct Ranges {
     hashes: [Hash; 15],
 }
@@ -34,58 +34,61 @@ impl Model for Ranges {
 
 // Whether a place is marked.
 fn any_marked(changed: &[bool]) -> bool
-    ensures { result ≡ false → AllByRecursion (λ mark. mark ≡ false) changed.now }
+    ensures { result ≡ has_mark changed.now }
 {
-    for mark in changed {
-        if *mark {
-            return true;
-        }
+    match changed.split_first() {
+        None => false,
+        Some((mark, rest)) => *mark || any_marked(rest),
     }
-    false
 }
 
-// The hash of a range by those of its halves, which are hashed as a pair only where more than a leaf stands there.
-fn hash_over(places: &[Slot], left: &Hash, right: &Hash, none: &Hash) -> Hash
+// The hash of a range by those of its halves, which are hashed as a pair only where more than a leaf stands there; and
+// the number of pairs that were hashed for it.
+fn hash_over(places: &[Slot], left: &Hash, right: &Hash, none: &Hash) -> (Hash, u64)
     requires { none.now ≡ E }
-    ensures { result ≡ stand_hash (stand places.now) (N left.now right.now) }
+    ensures value { result.0 ≡ stand_hash (stand places.now) (N left.now right.now) }
+    ensures pairs { result.1 ≡ cond (is_more (stand places.now)) 1 0 }
 {
     match Standing::of(places) {
-        Standing::Nothing => *none,
-        Standing::Alone(hash) => hash,
-        Standing::More => inner(left, right),
+        Standing::Nothing => (*none, 0),
+        Standing::Alone(hash) => (hash, 0),
+        Standing::More => (inner(left, right), 1),
     }
 }
 
-// Makes the hashes of the ranges within a range those of its places as they are now, of which the marked ones changed,
-// and gives the hash of the whole.
-fn refresh(places: &[Slot], changed: &[bool], hashes: &mut [Hash], none: &Hash) -> Hash
+// Makes the hashes of the ranges within a range those of its places as they are now, of which the marked ones changed.
+// Gives the hash of the whole, and the number of pairs that were hashed.
+fn refresh(places: &[Slot], changed: &[bool], hashes: &mut [Hash], none: &Hash) -> (Hash, u64)
     requires marks { length changed.now ≡ length places.now }
     requires room { length hashes.old + 1 ≡ length places.now }
     requires none { none.now ≡ E }
-    ensures { (level : ℕ) (olds : List Slot) → level ≤ 4 → length places.now ≡ 2 ^ level → hashes.old ≡ hashes_within level olds → Agree olds changed.now places.now → (result ≡ range_hash level places.now) × (hashes.new ≡ hashes_within level places.now) }
+    ensures value { (level : ℕ) (olds : List Slot) → level ≤ 4 → length places.now ≡ 2 ^ level → hashes.old ≡ hashes_within level olds → Agree olds changed.now places.now → (result.0 ≡ range_hash level places.now) × (hashes.new ≡ hashes_within level places.now) }
+    ensures pairs { (level : ℕ) → level ≤ 4 → length places.now ≡ 2 ^ level → result.1 ≡ pairs_within level places.now changed.now }
+    ensures once { result.1 ≤ length hashes.old }
 {
     if places.len() == 1 {
-        return hash_at(&places[0]);
+        return (hash_at(&places[0]), 0);
     }
     let last = hashes.len() - 1;
     if !any_marked(changed) {
-        return hashes[last];
+        return (hashes[last], 0);
     }
     let half = places.len() / 2;
-    let left = refresh(
+    let (left, below_left) = refresh(
         &places[..half],
         &changed[..half],
         &mut hashes[..half - 1],
         none,
     );
-    let right = refresh(
+    let (right, below_right) = refresh(
         &places[half..],
         &changed[half..],
         &mut hashes[half - 1..last],
         none,
     );
-    hashes[last] = hash_over(places, &left, &right, none);
-    hashes[last]
+    let (hash, here) = hash_over(places, &left, &right, none);
+    hashes[last] = hash;
+    (hash, below_left + below_right + here)
 }
 
 impl Ranges {
@@ -104,10 +107,19 @@ impl Ranges {
     pub fn updated(&self, slots: &[Slot; 16], changed: &[bool; 16]) -> Ranges
         ensures { (olds : List Slot) → self.now ≡ range_hashes olds → Agree olds changed.now slots.now → result ≡ range_hashes slots.now }
     {
+        self.updated_counted(slots, changed).0
+    }
+
+    /// The same, and the number of pairs that were hashed.
+    pub fn updated_counted(&self, slots: &[Slot; 16], changed: &[bool; 16]) -> (Ranges, u64)
+        ensures value { (olds : List Slot) → self.now ≡ range_hashes olds → Agree olds changed.now slots.now → result.0 ≡ range_hashes slots.now }
+        ensures pairs { result.1 ≡ pairs_within 4 slots.now changed.now }
+        ensures few { result.1 ≤ 4 * count_by (λ mark. mark) changed.now }
+    {
         let none = empty();
         let mut hashes = self.hashes;
-        refresh(slots, changed, &mut hashes, &none);
-        Ranges { hashes }
+        let (_, pairs) = refresh(slots, changed, &mut hashes, &none);
+        (Ranges { hashes }, pairs)
     }
 
     /// The hash of the range of `width` places, two or more, from place `start` on.

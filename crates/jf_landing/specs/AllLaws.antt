@@ -3,14 +3,17 @@ use Rattle.std.proofs.Common.{zero, suc, Bool, true, false, cond, List, [], ◌�
 use Rattle.std.specs.List.{All, AllByRecursion}
 
 module _ {X : Type 0} where
+  -- of two lists joined
   pub All-append : (P : X → Type 0) (xs ys : List X) → AllByRecursion P xs → AllByRecursion P ys → AllByRecursion P (xs ++ ys)
   All-append P [] ys h k = k
   All-append P (x ∷ xs) ys h k = (h.0, All-append P xs ys h.1 k)
 
+  -- of what follows from it
   pub All-weaker : (P Q : X → Type 0) → ((x : X) → P x → Q x) → (xs : List X) → AllByRecursion P xs → AllByRecursion Q xs
   All-weaker P Q h [] a = tt
   All-weaker P Q h (x ∷ xs) a = (h x a.0, All-weaker P Q h xs a.1)
 
+  -- of those that a filter keeps
   pub All-filter : (P : X → Type 0) (test : X → Bool) (xs : List X) → AllByRecursion P xs → AllByRecursion P (filter test xs)
   All-filter P test [] h = tt
   All-filter P test (x ∷ xs) h =

@@ -1,6 +1,7 @@
 -- Two tests at once.
 use Rattle.std.proofs.Common.{◌≡◌, Bool, true, false, ◌&&◌, refl, sym, T, true≢false, Ordering, Less, is_lt, subst}
 
+-- both hold: the first, the second
 pub left_true : (a b : Bool) → (a && b) ≡ true → a ≡ true
 left_true true b h = refl
 left_true false b h = h
@@ -9,6 +10,7 @@ pub right_true : (a b : Bool) → (a && b) ≡ true → b ≡ true
 right_true true b h = h
 right_true false b h = absurd (true≢false (sym h))
 
+-- the same as types, both ways
 pub left_so : (a b : Bool) → T (a && b) → T a
 left_so true b h = tt
 left_so false b h = absurd h

@@ -12,7 +12,7 @@ use Rattle.jf_landing.specs.Walk.{differs, each_from, listed}
 use Rattle.jf_landing.specs.PartLaws.{from_nibble-split, from_nibble-zero, from_nibble-past, IsPart-with_nibble, deeper}
 use Rattle.jf_landing.specs.PartChanges.{with_nibble-applied, IsPart-applied, applied-none, length-applied}
 use Rattle.jf_landing.specs.KidLaws.{kid-few, kid-many}
-use Rattle.jf_landing.specs.WalkLaws.{listed-same, listed-gone}
+use Rattle.jf_landing.specs.WalkLaws.{listed-same, listed-gone, each-nil}
 
 -- how many entries the parts of so many nibbles have
 total : ℕ → ℕ → ℕ → {Y : Type 0} → List (List ℕ × Y) → ℕ
@@ -20,16 +20,19 @@ total zero n d es = 0
 total (suc count) n d es = length (with_nibble d n es) + total count (n + 1) d es
 
 module _ {X : Type 0} where
+  -- lists of at most c for each entry of their part are together at most c for each entry
   each-bound : (count n d c : ℕ) (bs : Batch) (g : ℕ → List X) → ((m : ℕ) → length (g m) ≤ c * length (with_nibble d m bs)) → length (each_from count n g) ≤ c * total count n d bs
   unfolding total
   each-bound zero n d c bs g h = omega arith
   each-bound (suc count) n d c bs g h = omega (arith, h n, each-bound count (n + 1) d c bs g h, length-append (g n) (each_from count (n + 1) g))
 
+-- the nodes over one entry or none: c for each entry but the first, and one
 few_bound : ℕ → ℕ → ℕ
 few_bound c zero = 0
 few_bound c (suc j) = c * j + 1
 
 module _ {X : Type 0} where
+  -- lists of so many, together
   each_few : (count n d c : ℕ) (es : Part) (g : ℕ → List X) → 1 ≤ c → ((m : ℕ) → length (g m) ≤ few_bound c (length (with_nibble d m es))) → (length (each_from count n g) ≤ c * total count n d es) × (1 ≤ total count n d es → length (each_from count n g) + c ≤ c * total count n d es + 1)
   unfolding total few_bound
   each_few zero n d c es g some h = (omega arith, λ up. absurd (omega arith))
@@ -41,6 +44,7 @@ module _ {X : Type 0} where
         | suc k ↦ λ here. (omega (arith, rest.0), λ up. omega (arith, rest.0))
       ] (h n)
 
+-- all sixteen parts have all entries
 total-from : {Y : Type 0} (count n d : ℕ) (path : ℕ → ℕ) (es : List (List ℕ × Y)) → IsPart d path es → n + count ≡ 16 → total count n d es ≡ length (from_nibble d n es)
 unfolding total
 total-from zero n d path es part end = sym (ap length (from_nibble-past d n es (omega arith)))
@@ -55,11 +59,7 @@ module _ {X : Type 0} where
   cond-le true xs n h = h
   cond-le false xs n h = omega arith
 
-  each-none : (count n : ℕ) (g : ℕ → List X) → ((m : ℕ) → length (g m) ≡ 0) → length (each_from count n g) ≡ 0
-  each-none zero n g h = refl
-  each-none (suc count) n g h = omega (arith, h n, each-none count (n + 1) g h, length-append (g n) (each_from count (n + 1) g))
-
-  -- over one entry or none
+  -- where one entry was, or none, each node is new
   bound_few : (l d : ℕ) (path : ℕ → ℕ) (old es : Part) (f : Path → X) → l + d ≡ 64 → length old < 2 → IsPart d path es → length (listed l d old es f) ≤ few_bound (l + 1) (length es)
   unfolding listed few_bound
   bound_few zero d path old [] f deep few part = omega arith
@@ -68,7 +68,7 @@ module _ {X : Type 0} where
   bound_few (suc l) d path old [] f deep few part = omega arith
   bound_few (suc l) d path old (e ∷ []) f deep few part =
       let g : ℕ → List X = λ n. listed l (d + 1) (kid d n old) [] (λ p. f (n ∷ p)) in
-      let none = each-none 16 0 g (λ m. ap length (listed-gone l (d + 1) (kid d m old) (λ p. f (m ∷ p)))) in
+      let none = ap length (each-nil 16 0 g (λ m. listed-gone l (d + 1) (kid d m old) (λ p. f (m ∷ p)))) in
       cond-le (differs old (e ∷ [])) (f [] ∷ each_from 16 0 g) _ (omega (arith, none))
   bound_few (suc l) d path old (e ∷ e' ∷ es) f deep few part =
       let all = e ∷ e' ∷ es in
@@ -90,15 +90,15 @@ module _ {X : Type 0} where
   bound_on_few l d path es bs f deep part batch some few =
       omega (arith, bound_few l d path es (applied es bs) f deep few (IsPart-applied d path es bs part batch), few_le (l + 1) (length (applied es bs)) (length bs) some (omega (arith, length-applied es bs)))
 
-  -- a batch of n entries
-  pub bound : (l d : ℕ) (path : ℕ → ℕ) (es : Part) (bs : Batch) (f : Path → X) → l + d ≡ 64 → IsPart d path es → IsPart d path bs → length (listed l d es (applied es bs) f) ≤ (l + 2) * length bs
+  -- with l levels behind it, a batch of n keys makes at most (l + 2) n nodes new
+  pub length-listed : (l d : ℕ) (path : ℕ → ℕ) (es : Part) (bs : Batch) (f : Path → X) → l + d ≡ 64 → IsPart d path es → IsPart d path bs → length (listed l d es (applied es bs) f) ≤ (l + 2) * length bs
   unfolding listed
-  bound l d path es [] f deep part batch = omega (arith, ap length (ap (λ new. listed l d es new f) (applied-none es) ∙ listed-same l d es f))
-  bound zero d path es (b ∷ bs) f deep part batch = elim (cases_lt (length es) 2) [
+  length-listed l d path es [] f deep part batch = omega (arith, ap length (ap (λ new. listed l d es new f) (applied-none es) ∙ listed-same l d es f))
+  length-listed zero d path es (b ∷ bs) f deep part batch = elim (cases_lt (length es) 2) [
     | inl few ↦ bound_on_few zero d path es (b ∷ bs) f deep part batch (omega arith) few
     | inr many ↦ absurd (let s = deeper d path es part many in omega arith)
   ]
-  bound (suc l) d path es (b ∷ bs) f deep part batch = elim (cases_lt (length es) 2) [
+  length-listed (suc l) d path es (b ∷ bs) f deep part batch = elim (cases_lt (length es) 2) [
     | inl few ↦ bound_on_few (suc l) d path es (b ∷ bs) f deep part batch (omega arith) few
     | inr many ↦
         let new = applied es (b ∷ bs) in
@@ -107,7 +107,7 @@ module _ {X : Type 0} where
           | inl lone ↦ omega (arith, ap length (ap (λ k. listed l (d + 1) (kid d m es) k (λ p. f (m ∷ p))) (kid-few d m new lone) ∙ listed-gone l (d + 1) (kid d m es) (λ p. f (m ∷ p))))
           | inr lots ↦ subst (λ a. length (listed l (d + 1) a (kid d m new) (λ p. f (m ∷ p))) ≤ (l + 2) * length (with_nibble d m (b ∷ bs))) (sym (kid-many d m es many))
               (subst (λ c. length (listed l (d + 1) (with_nibble d m es) c (λ p. f (m ∷ p))) ≤ (l + 2) * length (with_nibble d m (b ∷ bs))) (sym (kid-many d m new lots ∙ with_nibble-applied d m es (b ∷ bs) part.sorted))
-              (bound l (d + 1) (stepped d m path) (with_nibble d m es) (with_nibble d m (b ∷ bs)) (λ p. f (m ∷ p)) (omega arith) (IsPart-with_nibble d m path es part) (IsPart-with_nibble d m path (b ∷ bs) batch)))
+              (length-listed l (d + 1) (stepped d m path) (with_nibble d m es) (with_nibble d m (b ∷ bs)) (λ p. f (m ∷ p)) (omega arith) (IsPart-with_nibble d m path es part) (IsPart-with_nibble d m path (b ∷ bs) batch)))
         ] in
         let sum = each-bound 16 0 d (l + 2) (b ∷ bs) g one in
         cond-le (differs es new) (f [] ∷ each_from 16 0 g) _ (omega (arith, sum, ap (λ n. (l + 2) * n) (total_all d path (b ∷ bs) batch)))

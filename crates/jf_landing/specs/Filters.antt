@@ -3,6 +3,7 @@ use Rattle.std.proofs.Common.{◌≡◌, ◌≤◌, Bool, true, false, cond, Lis
 use Rattle.std.specs.List.{AllByRecursion}
 
 module _ {X Y : Type 0} where
+  -- a filter of what a function makes
   pub filter-map : (test : Y → Bool) (h : X → Y) (xs : List X) → filter test (map h xs) ≡ map h (filter (λ x. test (h x)) xs)
   filter-map test h [] = refl
   filter-map test h (x ∷ xs) =
@@ -17,6 +18,7 @@ module _ {X : Type 0} where
   filter-same p q [] h = refl
   filter-same p q (x ∷ xs) h = ap₂ (λ b ys. cond b (x ∷ ys) ys) h.0 (filter-same p q xs h.1)
 
+  -- it keeps no more than there are
   pub length-filter_le : (p : X → Bool) (xs : List X) → length (filter p xs) ≤ length xs
   length-filter_le p [] = omega arith
   length-filter_le p (x ∷ xs) =

@@ -14,7 +14,7 @@ use Rattle.jf_landing.specs.Parts.{IsPart}
 use Rattle.jf_landing.specs.Walk.{with_root}
 use Rattle.jf_landing.specs.SameParts.{some_entry, differs_or_same}
 use Rattle.jf_landing.specs.WalkLaws.{listed-with_root, with_root-gone, with_root-same}
-use Rattle.jf_landing.specs.Bound.{bound}
+use Rattle.jf_landing.specs.Bound.{length-listed}
 use Rattle.jf_landing.specs.FreshLaws.{with_root-fresh}
 
 any_path : {X : Type 0} (path : ℕ → ℕ) (es : List (List ℕ × X)) → AllByRecursion (λ e. (i : ℕ) → i < 0 → nibble e.0 i ≡ path i) es
@@ -37,7 +37,7 @@ pub length-with_root : {X : Type 0} (path : ℕ → ℕ) (es : Part) (bs : Batch
 length-with_root path es bs f part batch = elim (some_entry (applied es bs)) [
   | inl none ↦ omega (arith, ap length (ap (λ new. with_root es new f) none ∙ with_root-gone es f))
   | inr some ↦ elim (differs_or_same es (applied es bs) some) [
-    | inl differ ↦ omega (arith, ap length (listed-with_root es (applied es bs) f differ), bound 64 0 path es bs f refl part batch)
+    | inl differ ↦ omega (arith, ap length (listed-with_root es (applied es bs) f differ), length-listed 64 0 path es bs f refl part batch)
     | inr same ↦ omega (arith, ap length (ap (λ new. with_root es new f) (sym same) ∙ with_root-same es f))
   ]
 ]

@@ -67,6 +67,7 @@ module _ {X : Type 0} where
   with_root-nodes m f =
       ap (λ xs. f [] ∷ xs) (children 63 0 [] (entries m) f (λ p. true) (listed-nodes 63) (λ n p node. refl) ∙ ap (map (λ (x : Path × Part). f x.0)) (filter_all (λ (x : Path × Part). true) (lower_nodes 63 0 (entries m)) (λ i d lt. refl)))
 
+-- the new nodes and the stale ones are as many as the old nodes and the fresh ones
 pub length-nodes : (m m' : Map) → length (nodes m') + length (stale m m') ≡ length (nodes m) + length (fresh m m')
 length-nodes m m' =
     let f : Path → Path = λ p. p in

@@ -1,5 +1,5 @@
 -- What a landing writes: nodes with their parts, each once, in the order of their paths.
-use Rattle.std.proofs.Common.{◌≡◌, ℕ, zero, suc, ◌+◌, ◌<◌, ◌≤◌, true, false, cond, ◌&&◌, List, [], ◌∷◌, ◌++◌, map, refl, sym, ap, ◌∙◌, subst, arith, T, Less, is_lt, nat_cmp}
+use Rattle.std.proofs.Common.{◌≡◌, ℕ, zero, suc, ◌+◌, ◌<◌, ◌≤◌, true, false, cond, ◌&&◌, List, [], ◌∷◌, ◌++◌, map, refl, sym, ap, ◌∙◌, subst, arith, T, Less, Equal, is_lt, nat_cmp}
 use Rattle.std.specs.List.{AllByRecursion, AllPairs, flat_map}
 use Rattle.std.specs.Ordering.{ordering_then}
 use Rattle.std.specs.FinMap.{entries, is_sorted}
@@ -17,7 +17,6 @@ use Rattle.jf_landing.specs.Walk.{each_from}
 use Rattle.jf_landing.specs.AllLaws.{All-append, All-filter, All-weaker}
 use Rattle.jf_landing.specs.Both.{left_so, right_so, both_so, less_so}
 use Rattle.jf_landing.specs.NodeLists.{child_nodes}
-use Rattle.jf_landing.specs.Marks.{nat_tied}
 
 -- each pair is a node of the new map, with all entries under its path
 pub fresh-IsListed : (m m' : Map) → AllByRecursion (IsListed 0 (entries m')) (fresh m m')
@@ -33,6 +32,9 @@ From n x = (m : ℕ) × (n ≤ m) × ((p : Path) × (x.0 ≡ m ∷ p))
 -- and those that begin with n itself
 abbrev At : ℕ → Path × Part → Type 0
 At n x = (p : Path) × (x.0 ≡ n ∷ p)
+
+nat_tied : (n : ℕ) → nat_cmp n n ≡ Equal
+nat_tied n = grind (arith, nat_tests)
 
 nat_less : (n m : ℕ) → n < m → nat_cmp n m ≡ Less
 nat_less n m lt = grind (arith, nat_tests)

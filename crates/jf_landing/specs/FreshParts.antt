@@ -6,6 +6,7 @@ use Rattle.jf_hash.specs.Maps.{Map}
 use Rattle.jf_hash.specs.Slots.{Part}
 use Rattle.jf_model.specs.Nodes.{Path, fresh}
 use Rattle.jf_model.specs.NodeLaws.{IsListed}
+use Rattle.jf_landing.specs.AllLaws.{All-weaker}
 use Rattle.jf_landing.specs.Kids.{sub}
 use Rattle.jf_landing.specs.Walk.{with_root}
 use Rattle.jf_landing.specs.SubLaws.{sub-under}
@@ -20,3 +21,7 @@ module _ {X : Type 0} where
   -- what is made of each path and the part of its node is made of the pairs that a landing writes
   pub with_root-fresh_parts : (m m' : Map) (g : Path → Part → X) → with_root (entries m) (entries m') (λ p. g p (sub 0 p (entries m'))) ≡ map (λ (x : Path × Part). g x.0 x.1) (fresh m m')
   with_root-fresh_parts m m' g = with_root-fresh m m' (λ p. g p (sub 0 p (entries m'))) ∙ map-parts (entries m') g (fresh m m') (fresh-IsListed m m')
+
+-- each pair has the part of its node
+pub fresh-sub : (m m' : Map) → AllByRecursion (λ x. x.1 ≡ sub 0 x.0 (entries m')) (fresh m m')
+fresh-sub m m' = All-weaker (IsListed 0 (entries m')) (λ x. x.1 ≡ sub 0 x.0 (entries m')) (λ x is. is.0 ∙ sym (sub-under 0 x.0 (entries m') is.1)) (fresh m m') (fresh-IsListed m m')

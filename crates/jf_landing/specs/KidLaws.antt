@@ -5,11 +5,13 @@ use Rattle.jf_model.specs.Nodes.{Path}
 use Rattle.jf_landing.specs.Kids.{kid, sub}
 use Rattle.jf_landing.specs.PartLaws.{with_nibble-past}
 
+-- fewer than two entries have no children
 pub kid-few : (d n : ℕ) (es : Part) → length es < 2 → kid d n es ≡ []
 kid-few d n [] h = refl
 kid-few d n (e ∷ []) h = refl
 kid-few d n (e ∷ f ∷ es) h = absurd (omega arith)
 
+-- and two or more have the part at each nibble
 pub kid-many : (d n : ℕ) (es : Part) → 2 ≤ length es → kid d n es ≡ with_nibble d n es
 kid-many d n [] h = absurd (omega arith)
 kid-many d n (e ∷ []) h = absurd (omega arith)
@@ -20,9 +22,11 @@ pub sub-none : (d : ℕ) (p : Path) → sub d p [] ≡ []
 sub-none d [] = refl
 sub-none d (n ∷ p) = sub-none (d + 1) p
 
+-- so there is nothing below fewer than two
 pub sub-few : (d n : ℕ) (p : Path) (es : Part) → length es < 2 → sub d (n ∷ p) es ≡ []
 sub-few d n p es h = ap (sub (d + 1) p) (kid-few d n es h) ∙ sub-none (d + 1) p
 
+-- and below two or more the path goes on in the part
 pub sub-many : (d n : ℕ) (p : Path) (es : Part) → 2 ≤ length es → sub d (n ∷ p) es ≡ sub (d + 1) p (with_nibble d n es)
 sub-many d n p es h = ap (sub (d + 1) p) (kid-many d n es h)
 

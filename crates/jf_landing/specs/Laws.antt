@@ -1,17 +1,21 @@
 -- Laws on what a landing writes.
-use Rattle.std.specs.Prelude.{◌≡◌, ◌+◌, ◌*◌, ◌≤◌, map, length, T}
+use Rattle.std.specs.Prelude.{◌≡◌, ◌+◌, ◌*◌, ◌≤◌, true, map, length, T}
 use Rattle.std.specs.List.{AllByRecursion}
 use Rattle.std.specs.FinMap.{entries, is_sorted}
 use Rattle.jf_path.specs.Keys.{key_cmp}
 use Rattle.jf_path.specs.Paths.{IsPath}
 use Rattle.jf_hash.specs.Maps.{Map, Batch, IsMap, IsBatch, apply}
 use Rattle.jf_hash.specs.Slots.{Part}
-use Rattle.jf_model.specs.Nodes.{Path, nodes, fresh, stale}
+use Rattle.jf_model.specs.Nodes.{Path, under, is_node, nodes, fresh, stale}
 use Rattle.jf_landing.specs.Walk.{with_root}
 
 -- the walk over two maps goes to exactly the nodes that a landing of the second over the first writes, in their order
 abbrev pub WalkListsFresh : Type 0
 WalkListsFresh = (m m' : Map) → with_root (entries m) (entries m') (λ path. path) ≡ map (λ (x : Path × Part). x.0) (fresh m m')
+
+-- each pair is a node of the new map, with all entries under its path
+abbrev pub FreshAreNodes : Type 0
+FreshAreNodes = (m m' : Map) → AllByRecursion (λ x. (x.1 ≡ under 0 x.0 (entries m')) × (is_node 0 x.0 (entries m') ≡ true)) (fresh m m')
 
 -- those nodes stand in the order of their paths, each once
 abbrev pub FreshRises : Type 0

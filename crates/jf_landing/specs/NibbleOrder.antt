@@ -58,6 +58,7 @@ same_half j a b ka kb e = elim (cases_eq (j % 2) 0) [
   | inr other ↦ let one : j % 2 ≡ 1 = omega arith in nibble-odd a j one ∙ ap (λ v. v % 16) e ∙ sym (nibble-odd b j one)
 ]
 
+-- of two keys the lesser has the lesser nibble where they first differ
 pub first_nibble : (a b : List ℕ) → IsKey a → IsKey b → key_cmp a b ≡ Less → (i : ℕ) × FirstNibble a b i
 first_nibble a b ka kb is =
     let d = first_differ a b (ka.long ∙ sym kb.long) is in

@@ -42,6 +42,7 @@ length-is_node d path (n ∷ p) es deep part h =
       length-is_node (d + 1) (stepped d n path) p (with_nibble d n es) (omega (arith, deeper d path es part two)) (IsPart-with_nibble d n path es part) (right_true (has_two es && has_one (with_nibble d n es)) _ h),
     )
 
+-- so it is a path
 pub IsPath-is_node : (m : Map) (p : Path) → IsMap m → is_node 0 p (entries m) ≡ true → IsPath p
 IsPath-is_node m p sound node = record { short = omega (arith, length-is_node 0 (λ i. 0) p (entries m) (omega arith) (IsPart-map (λ i. 0) m sound) node); nibbles = nibbles-is_node 0 p (entries m) node }
 

@@ -142,16 +142,19 @@ head_of d [] = d
 head_of d (e ∷ es) = e
 
 module _ {X : Type 0} (view : X → List ℕ × List ℕ) where
+  -- a single entry with the same key and value
   pub same_only : (xs : List X) (d : X) (k v : List ℕ) → 1 ≤ length xs → length xs < 2 → bytes_eq (view (get_or xs 0 d)).0 k ≡ true → bytes_eq (view (get_or xs 0 d)).1 v ≡ true → map view xs ≡ (k, v) ∷ []
   same_only [] d k v long short a b = absurd (omega arith)
   same_only (x ∷ []) d k v long short a b = ap₂ (λ k v. (k, v) ∷ []) ((bytes_eq-Decides (view x).0 k).0 a) ((bytes_eq-Decides (view x).1 v).0 b)
   same_only (x ∷ y ∷ xs) d k v long short a b = absurd (omega arith)
 
+  -- another key
   pub other_key : (xs : List X) (d : X) (k v : List ℕ) → 1 ≤ length xs → bytes_eq (view (get_or xs 0 d)).0 k ≡ false → ¬ (map view xs ≡ (k, v) ∷ [])
   unfolding head_of
   other_key [] d k v long a is = omega arith
   other_key (x ∷ xs) d k v long a is = true≢false (sym ((bytes_eq-Decides (view x).0 k).1 (ap (λ es. (head_of ([], []) es).0) is)) ∙ a)
 
+  -- another value
   pub other_value : (xs : List X) (d : X) (k v : List ℕ) → 1 ≤ length xs → bytes_eq (view (get_or xs 0 d)).1 v ≡ false → ¬ (map view xs ≡ (k, v) ∷ [])
   unfolding head_of
   other_value [] d k v long a is = omega arith

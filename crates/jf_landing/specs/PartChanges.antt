@@ -62,9 +62,9 @@ said-part p q (b ∷ bs) before =
           let same : p b.0 ≡ p q = ap p (sym (same_key-exact q b.0 ((Equal-is _).0 is))) in
           ap (λ c. said q (cond c (b ∷ filter (λ e. p e.0) bs) (filter (λ e. p e.0) bs)) (cond (p q) before None)) same
           ∙ (elim (p q) as (λ c. p q ≡ c → said q (cond c (b ∷ filter (λ e. p e.0) bs) (filter (λ e. p e.0) bs)) (cond c before None) ≡ cond c (said q bs b.1) None) [
-            | true ↦ λ yes. ap (λ t. said q (filter (λ e. p e.0) bs) (cond t b.1 before)) is
-                ∙ ap (λ c. said q (filter (λ e. p e.0) bs) (cond c b.1 None)) (sym yes) ∙ said-part p q bs b.1 ∙ ap (λ c. cond c (said q bs b.1) None) yes
-            | false ↦ λ no. ap (λ c. said q (filter (λ e. p e.0) bs) (cond c b.1 None)) (sym no) ∙ said-part p q bs b.1 ∙ ap (λ c. cond c (said q bs b.1) None) no
+            | true ↦ λ inside. ap (λ t. said q (filter (λ e. p e.0) bs) (cond t b.1 before)) is
+                ∙ ap (λ c. said q (filter (λ e. p e.0) bs) (cond c b.1 None)) (sym inside) ∙ said-part p q bs b.1 ∙ ap (λ c. cond c (said q bs b.1) None) inside
+            | false ↦ λ outside. ap (λ c. said q (filter (λ e. p e.0) bs) (cond c b.1 None)) (sym outside) ∙ said-part p q bs b.1 ∙ ap (λ c. cond c (said q bs b.1) None) outside
           ] refl)
       | false ↦ λ is. elim (p b.0) as (λ c. said q (cond c (b ∷ filter (λ e. p e.0) bs) (filter (λ e. p e.0) bs)) (cond (p q) before None) ≡ cond (p q) (said q bs before) None) [
         | true ↦ ap (λ t. said q (filter (λ e. p e.0) bs) (cond t b.1 (cond (p q) before None))) is ∙ said-part p q bs before

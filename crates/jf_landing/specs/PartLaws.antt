@@ -1,7 +1,6 @@
 -- A part falls into the parts of its sixteen nibbles, in their order.
 use Rattle.std.proofs.Common.{◌≡◌, ℕ, ◌+◌, ◌<◌, ◌≤◌, true, false, cond, ◌==◌, inl, inr, List, [], ◌∷◌, ◌++◌, length, refl, sym, ap, ap₂, ◌∙◌, arith, T, eq-or-lt_of_le}
-use Rattle.std.specs.Prelude.{nat_le}
-use Rattle.std.proofs.lemmas.Bool.{cases_lt}
+use Rattle.std.proofs.lemmas.Bool.{cases_lt, le-leb, lt-leb, eq-eqb}
 use Rattle.std.proofs.lemmas.Bool.Decides.{nat_tests}
 use Rattle.std.specs.List.{AllByRecursion}
 use Rattle.std.specs.FinMap.Entries.{below_all, is_sorted-where_key}
@@ -14,17 +13,9 @@ use Rattle.jf_landing.specs.AllLaws.{All-filter}
 use Rattle.jf_landing.specs.Parts.{IsPart, from_nibble, stepped}
 use Rattle.jf_landing.specs.NibbleOrder.{rises, apart_at}
 
-seen : (n k : ℕ) → n ≤ k → nat_le n k ≡ true
-seen n k h = grind (arith, nat_tests)
-
-unseen : (n k : ℕ) → k < n → nat_le n k ≡ false
-unseen n k h = grind (arith, nat_tests)
-
-pub other : (n k : ℕ) → ¬ (k ≡ n) → (k == n) ≡ false
-other n k h = grind (arith, nat_tests)
-
-alike : (n k : ℕ) → k ≡ n → (k == n) ≡ true
-alike n k h = grind (arith, nat_tests)
+-- numbers that differ
+pub eqb-differs : (n k : ℕ) → ¬ (k ≡ n) → (k == n) ≡ false
+eqb-differs n k h = grind (arith, nat_tests)
 
 module _ {X : Type 0} where
   -- a part without its first entry
@@ -40,7 +31,7 @@ module _ {X : Type 0} where
   none_at : (d n m : ℕ) (es : List (List ℕ × X)) → AllByRecursion (λ e. m ≤ nibble e.0 d) es → n < m → with_nibble d n es ≡ []
   none_at d n m [] h lt = refl
   none_at d n m (e ∷ es) h lt =
-      ap (λ b. cond b (e ∷ with_nibble d n es) (with_nibble d n es)) (other n (nibble e.0 d) (λ is. let up = h.0 in omega arith)) ∙ none_at d n m es h.1 lt
+      ap (λ b. cond b (e ∷ with_nibble d n es) (with_nibble d n es)) (eqb-differs n (nibble e.0 d) (λ is. let up = h.0 in omega arith)) ∙ none_at d n m es h.1 lt
 
   -- the entries from a nibble on: those with the nibble, and then those from the next on
   pub from_nibble-split : (d n : ℕ) (path : ℕ → ℕ) (es : List (List ℕ × X)) → IsPart d path es → from_nibble d n es ≡ with_nibble d n es ++ from_nibble d (n + 1) es
@@ -50,33 +41,33 @@ module _ {X : Type 0} where
       let rest = from_nibble-split d n path es (IsPart-rest e es part) in
       elim (cases_lt k n) [
         | inl lower ↦
-            ap (λ b. cond b (e ∷ from_nibble d n es) (from_nibble d n es)) (unseen n k lower) ∙ rest
-            ∙ ap₂ (λ b c. cond b (e ∷ with_nibble d n es) (with_nibble d n es) ++ cond c (e ∷ from_nibble d (n + 1) es) (from_nibble d (n + 1) es)) (sym (other n k (λ is. omega arith))) (sym (unseen (n + 1) k (omega arith)))
-        | inr upper ↦ ap (λ b. cond b (e ∷ from_nibble d n es) (from_nibble d n es)) (seen n k upper) ∙ elim (eq-or-lt_of_le upper) [
+            ap (λ b. cond b (e ∷ from_nibble d n es) (from_nibble d n es)) (lt-leb n k lower) ∙ rest
+            ∙ ap₂ (λ b c. cond b (e ∷ with_nibble d n es) (with_nibble d n es) ++ cond c (e ∷ from_nibble d (n + 1) es) (from_nibble d (n + 1) es)) (sym (eqb-differs n k (λ is. omega arith))) (sym (lt-leb (n + 1) k (omega arith)))
+        | inr upper ↦ ap (λ b. cond b (e ∷ from_nibble d n es) (from_nibble d n es)) (le-leb n k upper) ∙ elim (eq-or-lt_of_le upper) [
           | inl here ↦ ap (λ t. e ∷ t) rest
-              ∙ ap₂ (λ b c. cond b (e ∷ with_nibble d n es) (with_nibble d n es) ++ cond c (e ∷ from_nibble d (n + 1) es) (from_nibble d (n + 1) es)) (sym (alike n k (sym here))) (sym (unseen (n + 1) k (omega arith)))
+              ∙ ap₂ (λ b c. cond b (e ∷ with_nibble d n es) (with_nibble d n es) ++ cond c (e ∷ from_nibble d (n + 1) es) (from_nibble d (n + 1) es)) (sym (eq-eqb k n (sym here))) (sym (lt-leb (n + 1) k (omega arith)))
           | inr above ↦
               let none = none_at d n k es (all_rise d path e.0 es part.keys.0 part.agree.0 (below-rest e es part.sorted) part.keys.1 part.agree.1) above in
               ap (λ t. e ∷ t) (rest ∙ ap (λ t. t ++ from_nibble d (n + 1) es) none)
               ∙ ap (λ t. t ++ e ∷ from_nibble d (n + 1) es) (sym none)
-              ∙ ap₂ (λ b c. cond b (e ∷ with_nibble d n es) (with_nibble d n es) ++ cond c (e ∷ from_nibble d (n + 1) es) (from_nibble d (n + 1) es)) (sym (other n k (λ is. omega arith))) (sym (seen (n + 1) k (omega arith)))
+              ∙ ap₂ (λ b c. cond b (e ∷ with_nibble d n es) (with_nibble d n es) ++ cond c (e ∷ from_nibble d (n + 1) es) (from_nibble d (n + 1) es)) (sym (eqb-differs n k (λ is. omega arith))) (sym (le-leb (n + 1) k (omega arith)))
         ]
       ]
 
   -- from the first nibble on they are all
   pub from_nibble-zero : (d : ℕ) (es : List (List ℕ × X)) → from_nibble d 0 es ≡ es
   from_nibble-zero d [] = refl
-  from_nibble-zero d (e ∷ es) = ap (λ b. cond b (e ∷ from_nibble d 0 es) (from_nibble d 0 es)) (seen 0 (nibble e.0 d) (omega arith)) ∙ ap (λ t. e ∷ t) (from_nibble-zero d es)
+  from_nibble-zero d (e ∷ es) = ap (λ b. cond b (e ∷ from_nibble d 0 es) (from_nibble d 0 es)) (le-leb 0 (nibble e.0 d) (omega arith)) ∙ ap (λ t. e ∷ t) (from_nibble-zero d es)
 
   -- and behind the last there is none
   pub from_nibble-past : (d n : ℕ) (es : List (List ℕ × X)) → 16 ≤ n → from_nibble d n es ≡ []
   from_nibble-past d n [] past = refl
-  from_nibble-past d n (e ∷ es) past = ap (λ b. cond b (e ∷ from_nibble d n es) (from_nibble d n es)) (unseen n (nibble e.0 d) (omega (arith, nibble-small e.0 d))) ∙ from_nibble-past d n es past
+  from_nibble-past d n (e ∷ es) past = ap (λ b. cond b (e ∷ from_nibble d n es) (from_nibble d n es)) (lt-leb n (nibble e.0 d) (omega (arith, nibble-small e.0 d))) ∙ from_nibble-past d n es past
 
   -- no key has a nibble of 16 or more
   pub with_nibble-past : (d n : ℕ) (es : List (List ℕ × X)) → 16 ≤ n → with_nibble d n es ≡ []
   with_nibble-past d n [] past = refl
-  with_nibble-past d n (e ∷ es) past = ap (λ b. cond b (e ∷ with_nibble d n es) (with_nibble d n es)) (other n (nibble e.0 d) (λ is. omega (arith, nibble-small e.0 d))) ∙ with_nibble-past d n es past
+  with_nibble-past d n (e ∷ es) past = ap (λ b. cond b (e ∷ with_nibble d n es) (with_nibble d n es)) (eqb-differs n (nibble e.0 d) (λ is. omega (arith, nibble-small e.0 d))) ∙ with_nibble-past d n es past
 
   -- two entries differ in some nibble, so where there are two, a nibble is left
   pub deeper : (d : ℕ) (path : ℕ → ℕ) (es : List (List ℕ × X)) → IsPart d path es → 2 ≤ length es → d < 64

@@ -35,7 +35,6 @@ module _ {X : Type 0} where
       let rest = cut d n r xs ys (record { within = omega arith; before = λ k y lt. end.before (suc k) y (omega arith); at = λ y lt. end.at y (omega arith) }) all.1 none in
       (ap (λ t. x ∷ t) rest.0, rest.1)
 
-  -- what is cut off and what is left
   -- the front is all entries with the nibble, and behind it come those from the next nibble on
   pub cut_piece : (d n r : ℕ) (path : ℕ → ℕ) (all rest : List (List ℕ × X)) → IsPart d path all → rest ≡ from_nibble d n all → IsPieceEnd d n r rest → (take r rest ≡ with_nibble d n all) × (drop r rest ≡ from_nibble d (n + 1) all)
   cut_piece d n r path all rest part is end =

@@ -8,6 +8,7 @@ use Rattle.jf_hash.specs.Slots.{Part, all_nibbles, with_nibble}
 use Rattle.jf_model.specs.Nodes.{has_one, has_two, child_at, plain_node}
 use Rattle.jf_landing.specs.Walk.{each_from}
 
+-- two entries or more: the children that stand at the sixteen nibbles
 pub plain_node-many : (counted : Bool) (version : ℕ → ℕ) (d : ℕ) (es : Part) → 2 ≤ length es → plain_node counted version d es ≡ node.Inner (each_from 16 0 (child_at counted version d es))
 unfolding plain_node
 plain_node-many counted version d [] many = absurd (omega arith)
@@ -27,6 +28,7 @@ same_children : (counted : Bool) (v w : ℕ → ℕ) (d : ℕ) (es : Part) → (
 same_children counted v w d es h [] = refl
 same_children counted v w d es h (n ∷ ns) = ap₂ (λ a b. a ++ b) (same_child counted v w d es n (h n)) (same_children counted v w d es h ns)
 
+-- versions matter only where an entry stands
 pub plain_node-versions : (counted : Bool) (v w : ℕ → ℕ) (d : ℕ) (es : Part) → ((n : ℕ) → has_one (with_nibble d n es) ≡ true → v n ≡ w n) → plain_node counted v d es ≡ plain_node counted w d es
 unfolding plain_node
 plain_node-versions counted v w d [] h = refl

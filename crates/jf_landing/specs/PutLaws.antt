@@ -10,6 +10,7 @@ pub with_put-append : (k : List ℕ) (v : Option (List ℕ)) (es fs : Part) → 
 with_put-append k None es fs = refl
 with_put-append k (Some v) es fs = refl
 
+-- two batches, one behind the other
 pub puts-append : (xs ys : Batch) → puts (xs ++ ys) ≡ puts xs ++ puts ys
 puts-append [] ys = refl
 puts-append (x ∷ xs) ys = ap (with_put x.0 x.1) (puts-append xs ys) ∙ sym (with_put-append x.0 x.1 (puts xs) (puts ys))

@@ -7,10 +7,12 @@ use Rattle.jf_model.specs.Nodes.{same_part}
 use Rattle.jf_landing.specs.Both.{left_true, right_true}
 use Rattle.jf_landing.specs.Walk.{differs}
 
+-- each part is the same as itself
 pub same_part-refl : (es : Part) → same_part es es ≡ true
 same_part-refl [] = refl
 same_part-refl (e ∷ es) = ap₂ (λ a b. a && b && same_part es es) ((bytes_eq-Decides e.0 e.0).1 refl) ((bytes_eq-Decides e.1 e.1).1 refl) ∙ same_part-refl es
 
+-- and as no other
 pub same_part-exact : (es fs : Part) → same_part es fs ≡ true → es ≡ fs
 same_part-exact [] [] h = refl
 same_part-exact [] (f ∷ fs) h = absurd (true≢false (sym h))
@@ -28,10 +30,12 @@ same_or_other old new = elim (same_part old new) as (λ b. same_part old new ≡
   | false ↦ λ is. inr (λ same. true≢false (sym (same_part-refl new) ∙ ap (λ es. same_part es new) (sym same) ∙ is))
 ] refl
 
+-- none, or one and more
 pub some_entry : (es : Part) → (es ≡ []) ⊎ (1 ≤ length es)
 some_entry [] = inl refl
 some_entry (e ∷ es) = inr (omega arith)
 
+-- where there is one there is not none
 pub not_empty : (es : Part) → 1 ≤ length es → ¬ (es ≡ [])
 not_empty es some none = let e = ap length none in omega arith
 
@@ -48,5 +52,6 @@ differs_or_same old (e ∷ es) some = elim (same_part old (e ∷ es)) as (λ b. 
   | false ↦ λ is. inl refl
 ] refl
 
+-- one that differs is another
 pub differs-other : (old new : Part) → differs old new ≡ true → ¬ (old ≡ new)
 differs-other old new differ same = true≢false (sym differ ∙ ap (λ es. differs es new) same ∙ differs-same new)

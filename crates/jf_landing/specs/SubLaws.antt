@@ -7,6 +7,7 @@ use Rattle.jf_landing.specs.Both.{left_true, right_true}
 use Rattle.jf_landing.specs.Kids.{sub}
 use Rattle.jf_landing.specs.KidLaws.{sub-none}
 
+-- the test for an entry, both ways
 pub has_one-some : (es : Part) → ¬ (es ≡ []) → has_one es ≡ true
 has_one-some [] h = absurd (h refl)
 has_one-some (e ∷ es) h = refl

@@ -52,6 +52,7 @@ module _ {X : Type 0} where
       alone zero = ap (λ b. cond b (f [] ∷ []) []) differ
       alone (suc l) = ap (λ b. cond b (f [] ∷ each_from 16 0 (λ n. listed l (d + 1) (kid d n old) (kid d n new) (λ p. f (n ∷ p)))) []) differ ∙ ap (λ t. f [] ∷ t) (each-nil 16 0 _ (gone l))
 
+  -- before its first child a node is listed itself
   pub listed_to-none : (d : ℕ) (old new : Part) (f : Path → X) → listed_to d 0 old new f ≡ f [] ∷ []
   unfolding listed_to
   listed_to-none d old new f = refl
@@ -84,11 +85,12 @@ module _ {X : Type 0} where
   unfolding with_root listed_to kid_list
   listed-with_root old new f differ = listed-node 0 old new f differ (inl (omega arith))
 
-  -- nothing but the top is listed where no entry is, or where the two are one
+  -- nothing but the top is listed where no entry is
   pub with_root-gone : (old : Part) (f : Path → X) → with_root old [] f ≡ f [] ∷ []
   unfolding with_root
   with_root-gone old f = ap (λ t. f [] ∷ t) (each-nil 16 0 (λ n. listed 63 1 (kid 0 n old) [] (λ p. f (n ∷ p))) (λ n. listed-gone 63 1 (kid 0 n old) (λ p. f (n ∷ p))))
 
+  -- or where the two are one
   pub with_root-same : (es : Part) (f : Path → X) → with_root es es f ≡ f [] ∷ []
   unfolding with_root
   with_root-same es f = ap (λ t. f [] ∷ t) (each-nil 16 0 (λ n. listed 63 1 (kid 0 n es) (kid 0 n es) (λ p. f (n ∷ p))) (λ n. listed-same 63 1 (kid 0 n es) (λ p. f (n ∷ p))))

@@ -1,10 +1,15 @@
 // Laws on what a landing writes, for proofs of code that stands on them. These functions do nothing when
 // they run.
-ghost use Rattle.jf_landing.specs.Laws.{WalkListsFresh, FreshRises, FreshHasPaths, FreshIsBounded, FreshAndStale};
+ghost use Rattle.jf_landing.specs.Laws.{WalkListsFresh, FreshAreNodes, FreshRises, FreshHasPaths, FreshIsBounded, FreshAndStale};
 
 /// The walk that goes down only where two maps differ goes to exactly the nodes that a landing writes.
 pub fn walk_lists_fresh()
     ensures { WalkListsFresh }
+{}
+
+/// Each is a node of the new map, with all entries under its path.
+pub fn fresh_are_nodes()
+    ensures { FreshAreNodes }
 {}
 
 /// They stand in the order of their paths, each once.

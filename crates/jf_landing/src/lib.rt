@@ -4,4 +4,7 @@
 
 mod laws;
 
-pub use laws::{fresh_and_stale, fresh_has_paths, fresh_is_bounded, fresh_rises, walk_lists_fresh};
+pub use laws::{
+    fresh_and_stale, fresh_are_nodes, fresh_has_paths, fresh_is_bounded, fresh_rises,
+    walk_lists_fresh,
+};

@@ -11,3 +11,4 @@ pub mod SnapshotValue
 pub mod Snapshots
 pub mod ShownLaws
 pub mod SnapshotLaws
+pub mod PlaceLaws

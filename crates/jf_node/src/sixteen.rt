@@ -1,10 +1,12 @@
 // Sixteen optional children.
 ghost use Rattle.std.specs.Prelude.{◌≡◌, ℕ, ◌<◌, ◌^◌, IfOk, List, Option, None, length, replicate, slice_index_or, slice_set};
 ghost use Rattle.std.specs.Option.{option_copied, SomeIff};
-ghost use Rattle.jf_node.specs.Children.{content, joined};
+ghost use Rattle.jf_hash.specs.Slots.{slots_of};
+ghost use Rattle.jf_node.specs.Children.{content, joined, place_of, AreChildren};
 ghost use Rattle.jf_node.specs.LinkFacts.{IsLinkIf};
 
 use crate::link::{Link, Sixteen};
+use jf_hash::Slot;
 use jf_path::{Memory, Nibble};
 
 impl Sixteen {
@@ -49,6 +51,17 @@ impl Sixteen {
         count_all(&self.links)
     }
 
+    // What stands at each place of their node.
+    pub(crate) fn slots(&self) -> [Slot; 16]
+        ensures { (depth : ℕ) → AreChildren depth self.now → result ≡ slots_of depth (joined self.now) }
+    {
+        let mut slots = [Slot::Absent; 16];
+        for n in 0..16 {
+            slots[n] = slot_of(&self.links[n]);
+        }
+        slots
+    }
+
     /// The same children once more.
     pub fn share(&self) -> Result<Sixteen, Memory>
         ensures { IfOk result (λ x. x ≡ self.now) }
@@ -58,6 +71,16 @@ impl Sixteen {
             copy.links[n] = share_if(&self.links[n])?;
         }
         Ok(copy)
+    }
+}
+
+// What stands for an optional child.
+fn slot_of(child: &Option<Link>) -> Slot
+    ensures { result ≡ place_of child.now }
+{
+    match child {
+        None => Slot::Absent,
+        Some(link) => link.slot(),
     }
 }
 

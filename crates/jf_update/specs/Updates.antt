@@ -12,6 +12,7 @@ use Rattle.jf_node.specs.SnapshotValue.{SnapshotValue}
 use Rattle.jf_node.specs.Snapshots.{snapshot_version_at}
 use Rattle.jf_node.specs.declared.update.Update.{Update}
 
+-- the version of a node, and 0 where there is none
 abbrev pub version_or : Option ℕ → ℕ
 version_or None = 0
 version_or (Some v) = v

@@ -2,6 +2,21 @@
 //! stale.
 #![tactic(auto)]
 
+mod few;
+mod grow;
+mod kid;
+mod landing;
+mod list;
 mod next;
+mod nibbles;
+mod outcome;
+mod piece;
+mod plain;
+mod sorted;
+mod value;
+mod work;
 
 pub use next::update;
+
+#[cfg(test)]
+mod tests;

@@ -2,6 +2,7 @@
 ghost use Rattle.std.specs.Prelude.{◌-◌, ◌^◌, ◌<◌, ◌≤◌, IfOk};
 ghost use Rattle.jf_update.specs.Updates.{IsUpdate};
 
+use crate::landing::{Landing, land};
 use jf_join::Gate;
 use jf_node::{Snapshot, Update};
 use jf_path::Memory;
@@ -10,8 +11,8 @@ use std::alloc::Global;
 use std::thread::Threads;
 
 /// The version that a batch makes of `head`. Only nodes below which the batch changes something are made anew, and the
-/// top; every other node is shared with `head`. A value is hashed where the batch puts it, a node where it is new. For
-/// now `rt`, `workers` and `gate` are not used: the caller's thread does the work.
+/// top; every other node is shared with `head`. A value is hashed where the batch puts one that wasn't there, and a node
+/// where it is new. For now `rt`, `workers` and `gate` are not used: the caller's thread does the work.
 pub fn update<H: Threads + Sync, G: Gate>(
     rt: &H,
     alloc: Global,
@@ -27,6 +28,16 @@ pub fn update<H: Threads + Sync, G: Gate>(
 {
     let _ = rt;
     let _ = gate;
-    let _ = (alloc, workers, head.version(), batch.len());
-    Err(Memory)
+    let _ = workers;
+    head.know();
+    let landing = land(alloc, head.top(), head.version(), batch.as_slice())?;
+    let Landing { top, fresh, stale } = landing;
+    let snapshot = Snapshot::of(head.version() + 1, top);
+    snapshot.know();
+    Ok(Update {
+        root: snapshot.root(),
+        fresh,
+        stale,
+        snapshot,
+    })
 }

@@ -1,7 +1,7 @@
 use Rattle.std.proofs.Common.{◌≡◌, ◌+◌, ◌-◌, ◌∙◌, ap, ap₂, arith, length, take, drop, take_all}
 use Rattle.jf_hash.specs.Slots.{range_hash}
 use Rattle.jf_hash.specs.SlotLaws.{range_hash-all}
-use Rattle.jf_hash.proofs.Halves.{range_within, range_level, length-places}
+use Rattle.jf_hash.proofs.Halves.{range_within, small_range, length-places}
 use Rattle.jf_hash.proofs.range.sixteen.Goals as goal
 
 pub slice_bounds-hash_of-end : goal.slice_bounds-hash_of-end
@@ -12,7 +12,7 @@ returns-clause-value c level wide =
     let range = c.requires.range in
     let n : c.args.start + c.args.width - c.args.start ≡ c.args.width = omega arith in
     let same = ap (λ k. take k (drop c.args.start c.args.children.now)) n in
-    c.hash_of.ensures level (range_level _ _ level range wide) (ap length same ∙ length-places c.args.start c.args.width c.args.children.now c.told-children (range_within _ _ range) ∙ wide)
+    c.hash_of.ensures level (small_range _ _ level range wide) (ap length same ∙ length-places c.args.start c.args.width c.args.children.now c.told-children (range_within _ _ range) ∙ wide)
     ∙ ap (range_hash level) same
 
 pub returns-clause-root : goal.returns-clause-root

@@ -6,4 +6,4 @@ use Rattle.jf_hash.proofs.ranges.Ranges.of.Goals as goal
 -- as if no child had been there, and each place had changed
 pub returns : goal.returns
 returns c =
-    (c.refresh.ensures 4 (replicate 16 slot.Absent) (omega arith) c.told-slots (ap (replicate 15) c.empty-none.ensures ∙ none_hashes) (agree_all slot.Absent 16 c.args.slots.now c.told-slots)).1
+    (c.refresh.ensures.value 4 (replicate 16 slot.Absent) (omega arith) c.told-slots (ap (replicate 15) c.empty-none.ensures ∙ none_hashes) (agree_all slot.Absent 16 c.args.slots.now c.told-slots)).1

@@ -1,0 +1,71 @@
+use Rattle.std.proofs.Common.{◌≡◌, ◌+◌, ◌-◌, ◌++◌, ◌∷◌, [], length, arith, rules, sym, ap, ap₂, ◌∙◌, append-nil, append_assoc, length-append, refl, Some}
+use Rattle.jf_path.specs.declared.node.PlainNode.{PlainNode}
+use Rattle.jf_model.specs.Nodes.{Path}
+use Rattle.jf_landing.specs.Kids.{kid}
+use Rattle.jf_landing.specs.Walk.{listed, listed_to}
+use Rattle.jf_landing.specs.WalkLaws.{listed-same, listed-node, listed_to-none, listed_to-past, listed_to-child}
+use Rattle.jf_update.specs.Below.{IsBelow}
+use Rattle.jf_update.specs.Plains.{fresh_below}
+use Rattle.jf_update.proofs.PlainNodes.{plain-child}
+use Rattle.jf_update.proofs.Walks.{is_new, is_old, small_of, child_over, kid_none, kid_some, top_rises, child_rises}
+use Rattle.jf_update.proofs.list.+list_fresh.Goals as goal
+use Rattle.jf_update.proofs.list.+list_fresh.Goals.{in-Some+in_ok-list_fresh, in_default}
+
+pub returns-then-version : goal.returns-then-version
+returns-then-version t c es before over =
+    let x = c.args.link.now in
+    let f = fresh_below c.args.version c.args.path.now x in
+    let same : es ≡ x.entries = is_old c.args.version es before x c.know.ensures over (λ e. c.if-version.true (c.version.ensures ∙ e)) in
+    sym (append-nil c.args.out.now) ∙ ap (λ l. c.args.out.now ++ l) (sym (ap (λ a. listed (64 - x.depth) x.depth a x.entries f) same ∙ listed-same (64 - x.depth) x.depth x.entries f))
+
+pub push-requires : goal.push-requires
+push-requires t c =
+    top_rises c.args.out.now c.args.version c.args.path.now c.args.link.now _ c.requires.rising c.know.ensures (sym c.version.ensures ∙ c.if-version.false)
+    (ap₂ (λ (q : Path) (r : PlainNode). (record { version = c.args.version; path = q }, r)) (sym (append-nil c.args.path.now)) c.in_ok-plain.ensures)
+
+pub loop-n-init : goal.loop-n-init
+loop-n-init t c es before over =
+    let f = fresh_below c.args.version c.args.path.now c.args.link.now in
+    c.in_ok-push.ensures.ok
+    ∙ ap₂ (λ (q : Path) (r : PlainNode). c.args.out.now ++ (record { version = c.args.version; path = q }, r) ∷ []) (sym (append-nil c.args.path.now)) c.in_ok-plain.ensures
+    ∙ ap (λ l. c.args.out.now ++ l) (sym (listed_to-none c.args.link.now.depth es c.args.link.now.entries f))
+
+pub list_fresh-requires : goal.list_fresh-requires
+list_fresh-requires t c =
+    let x = c.args.link.now in
+    let below : IsBelow x c.loop-n.n (Some c.in-Some.child.now) = kid_some x c.nibble_at-nibble.result c.loop-n.n c.kid_of.result c.in-Some.child c.kid_of.ensures c.in-Some.is c.nibble_at-nibble.ensures in
+    let longer = c.step.ensures ∙ ap (λ n. c.args.path.now ++ n ∷ []) c.nibble_at-nibble.ensures in
+    let deeper : c.in-Some.child.now.depth ≡ x.depth + 1 = below.placed.1 in (
+      search rules,
+      (
+        omega (arith, ap length c.step.ensures, length-append c.args.path.now (c.nibble_at-nibble.result ∷ []), c.requires.path),
+        child_rises c.args.out.now c.loop-n.out c.args.version c.args.path.now c.step.result x c.loop-n.n c.in-Some.child.now c.requires.rising c.know.ensures (sym c.version.ensures ∙ c.if-version.false) (omega arith) below longer c.loop-n.invariant,
+      ),
+    )
+
+pub loop-n-preserved : goal.loop-n-preserved
+loop-n-preserved t c es before over = elim c.match-kid_of.branch [
+  | in-Some+in_ok-list_fresh w ↦
+      let x = c.args.link.now in
+      let f = fresh_below c.args.version c.args.path.now x in
+      let g = fresh_below c.args.version w.step.result w.in-Some.child.now in
+      let below : IsBelow x c.loop-n.n (Some w.in-Some.child.now) = kid_some x c.nibble_at-nibble.result c.loop-n.n c.kid_of.result w.in-Some.child c.kid_of.ensures w.in-Some.is c.nibble_at-nibble.ensures in
+      let longer = w.step.ensures ∙ ap (λ n. c.args.path.now ++ n ∷ []) c.nibble_at-nibble.ensures in
+      w.out-is
+      ∙ listed_to-child x.depth c.loop-n.n w.in-Some.child.now.depth es (kid x.depth c.loop-n.n es) x.entries w.in-Some.child.now.entries f g c.args.out.now c.loop-n.out _ (c.loop-n.invariant es before over)
+      below.placed.1 refl below.entries
+      (λ p. ap₂ (λ (q : Path) (r : PlainNode). (record { version = c.args.version; path = q }, r)) (ap (λ q. q ++ p) longer ∙ append_assoc c.args.path.now (c.loop-n.n ∷ []) p) (sym (plain-child x c.loop-n.n w.in-Some.child.now p below)))
+      (w.in_ok-list_fresh.ensures (kid x.depth c.loop-n.n es) (λ p. before (c.loop-n.n ∷ p)) (child_over c.args.version es before x c.loop-n.n w.in-Some.child.now over below))
+  | in_default w ↦
+      let x = c.args.link.now in
+      w.out-is ∙ c.loop-n.invariant es before over
+      ∙ ap (λ l. c.args.out.now ++ l) (sym (listed_to-past x.depth c.loop-n.n es x.entries (fresh_below c.args.version c.args.path.now x) (kid_none x c.nibble_at-nibble.result c.loop-n.n c.kid_of.result c.kid_of.ensures w.in_default.is c.nibble_at-nibble.ensures)))
+]
+
+pub returns : goal.returns
+returns t c es before over =
+    let x = c.args.link.now in
+    let f = fresh_below c.args.version c.args.path.now x in
+    let e : c.loop-n.n ≡ 16 = omega arith in
+    c.loop-n.invariant es before over ∙ ap (λ k. c.args.out.now ++ listed_to x.depth k es x.entries f) e
+    ∙ ap (λ l. c.args.out.now ++ l) (sym (listed-node x.depth es x.entries f (is_new c.args.version es before x c.know.ensures over (sym c.version.ensures ∙ c.if-version.false)) (small_of x c.know.ensures)))

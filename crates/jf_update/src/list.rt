@@ -1,0 +1,84 @@
+// The walks that list what a landing wrote and what it made stale, in the order of paths.
+ghost use Rattle.std.specs.Prelude.{◌≡◌, ℕ, ◌-◌, ◌++◌, Option, length, OnOk};
+ghost use Rattle.std.specs.Option.{option_copied};
+ghost use Rattle.jf_hash.specs.Slots.{Part};
+ghost use Rattle.jf_model.specs.Nodes.{Path};
+ghost use Rattle.jf_node.specs.Children.{content};
+ghost use Rattle.jf_landing.specs.Walk.{listed};
+ghost use Rattle.jf_update.specs.Below.{IsFreshOver, IsStaleOver, name_below};
+ghost use Rattle.jf_update.specs.Made.{IsAtDepth};
+ghost use Rattle.jf_update.specs.Plains.{fresh_below, WouldRise};
+
+use crate::kid::{is_kept, kid_in, kid_of};
+use crate::nibbles::{nibble_at, step};
+use crate::plain::plain_of;
+use jf_node::Link;
+use jf_path::{FreshList, Memory, NibblePath, NodeName};
+use std::alloc::Global;
+
+/// Appends the nodes from `link` down that a landing wrote; `path` leads to it.
+pub(crate) fn list_fresh(
+    alloc: Global,
+    link: &Link,
+    version: u64,
+    path: &NibblePath,
+    out: &mut FreshList,
+) -> Result<(), Memory>
+    requires path { length path.now ≡ link.now.depth }
+    requires rising { WouldRise out.old version path.now link.now }
+    ensures { OnOk result ((es : Part) (before : Path → Option ℕ) → IsFreshOver version es before link.now → out.new ≡ out.old ++ listed (64 - link.now.depth) link.now.depth es link.now.entries (fresh_below version path.now link.now)) }
+{
+    link.know();
+    if link.version() != version {
+        return Ok(());
+    }
+    let plain = plain_of(alloc, link)?;
+    let name = NodeName {
+        version,
+        path: *path,
+    };
+    out.push((name, plain))?;
+    for n in 0..16 {
+        let nibble = nibble_at(n);
+        if let Some(child) = kid_of(link, nibble) {
+            list_fresh(alloc, child, version, &step(path, nibble), out)?;
+        }
+    }
+    Ok(())
+}
+
+/// Appends the names of the nodes from `old` down that a landing made stale; `new` stands in its place, and `path` leads
+/// to it.
+pub(crate) fn list_stale(
+    old: &Link,
+    new: Option<&Link>,
+    version: u64,
+    path: &NibblePath,
+    out: &mut Vec<NodeName>,
+) -> Result<(), Memory>
+    requires path { length path.now ≡ old.now.depth }
+    requires new { IsAtDepth old.now.depth (option_copied new) }
+    ensures { OnOk result (IsStaleOver version old.now (option_copied new.entry) → out.new.items ≡ out.old.items ++ listed (64 - old.now.depth) old.now.depth (content (option_copied new.entry)) old.now.entries (name_below path.now old.now)) }
+{
+    if is_kept(new, version) {
+        return Ok(());
+    }
+    old.know();
+    out.push(NodeName {
+        version: old.version(),
+        path: *path,
+    })?;
+    for n in 0..16 {
+        let nibble = nibble_at(n);
+        if let Some(child) = kid_of(old, nibble) {
+            list_stale(
+                child,
+                kid_in(new, nibble),
+                version,
+                &step(path, nibble),
+                out,
+            )?;
+        }
+    }
+    Ok(())
+}
