@@ -102,9 +102,9 @@ impl<D: Disk> Session<D> {
         self.engine.head()
     }
 
-    /// Answers a line, a landing with at most this many workers: its reply is appended to `out`. After a refusal `out` is as before and the session is over.
-    /// On `DiskFault` the line would have landed what is pending. On `Memory` the line was done and its reply is
-    /// missing, or nothing was done.
+    /// Answers a line, a landing with at most this many workers: its reply is appended to `out`. After a refusal `out`
+    /// is as before and the session is over. On `DiskFault` the line would have landed what is pending. On `Memory` the
+    /// line was done and its reply is missing, or nothing was done.
     pub fn step<H: Threads + Sync, G: Gate>(
         &mut self,
         rt: &H,
