@@ -104,9 +104,9 @@ impl<D: Disk> Engine<D> {
         }
     }
 
-    /// Lands a batch on the head, as the next version, with at most this many workers. All memory is taken before the disk is touched. After
-    /// `DiskFault` the store is broken; every other refusal leaves store and disk as they were. Side B is left
-    /// alone.
+    /// Lands a batch on the head, as the next version, with at most this many workers. All memory is taken before the
+    /// disk is touched. After `DiskFault` the store is broken; every other refusal leaves store and disk as they were.
+    /// Side B is left alone.
     pub fn land<H: Threads + Sync, G: Gate>(
         &mut self,
         rt: &H,
