@@ -2,7 +2,7 @@
 use Rattle.std.proofs.Common.{◌≡◌, ◌⊎◌, inl, inr, ℕ, ◌≤◌, List, [], ◌∷◌, length, Option, Some, refl, sym, subst, ap, ◌∙◌, arith}
 use Rattle.jf_disk.specs.Disk.{History, Files, LeftSince, reads}
 use Rattle.jf_disk.specs.Moments.{all_states, left_now}
-use Rattle.jf_frame.specs.LogLaws.{goes_left}
+use Rattle.jf_disk.specs.CrashLaws.{goes_left}
 use Rattle.jf_model.specs.Versions.{Versions, land_all}
 use Rattle.jf_model.specs.States.{opened}
 use Rattle.jf_model.specs.Entries.{IsLegal, after, replay, moments_of}

@@ -6,7 +6,7 @@ ghost use Rattle.jf_disk.specs.declared.side.Side.{Side};
 ghost use Rattle.jf_model.specs.Versions.{Versions};
 ghost use Rattle.jf_journal.specs.Standing.{StandsFor, IsDamagedAt};
 ghost use Rattle.jf_journal.specs.Steps.{Opens, StopsWell, IsCalm};
-ghost use Rattle.jf_engine.specs.Leaving.{LeavesFiles};
+ghost use Rattle.jf_disk.specs.Crashes.{LeavesFiles};
 ghost use Rattle.jf_model.specs.Entries.{moments_of};
 ghost use Rattle.jf_session.specs.Runs.{AreWithin};
 ghost use Rattle.jellystore.specs.Stops.{IsSafeSince, IsSafeOpened};

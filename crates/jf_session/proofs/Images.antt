@@ -12,7 +12,7 @@ use Rattle.jf_model.specs.Entries.{after, replay, replay-append}
 use Rattle.jf_model.specs.declared.entries.Entry.{Entry}
 use Rattle.jf_model.specs.declared.entries.Entry.TheVariants as entry
 use Rattle.jf_model.specs.declared.entries.Landing.TheVariants as landing
-use Rattle.jf_frame.specs.Crashes.{LeavesNow}
+use Rattle.jf_disk.specs.Crashes.{LeavesNow}
 use Rattle.jf_journal.specs.Standing.{StandsFor}
 use Rattle.jf_journal.specs.Steps.{Lands, Succeeds}
 use Rattle.jf_engine.specs.Engines.{IsSettledOn}

@@ -12,7 +12,7 @@ use Rattle.jf_turn.specs.Lists.{Has, StartsWith, longer, shorter}
 use Rattle.jf_turn.specs.Rule.{OwnAreSeen}
 use Rattle.jf_turn.specs.Steps.{joined}
 use Rattle.jf_turn.specs.Seats.{Carries, taken_at, seat_state, SeatState, TurnState, AreNew, IsMaker, new_seat, OthersFollow}
-use Rattle.jf_turn.proofs.Lists.{starts_self}
+use Rattle.jf_turn.proofs.Lists.{starts_self, within}
 
 module _ {E V : Type 0} where
   -- a seat that holds nothing is idle, and has no slot
@@ -74,3 +74,28 @@ module _ {E O : Type 0} where
   pub new_longer : (t : TurnState O) (ss : List (SeatState E O)) (s : SeatState E O) (n m : ℕ) → AreNew t ss n → m ≡ n + length ss → s ≡ new_seat t m → AreNew t (ss ++ s ∷ []) n
   new_longer t [] s n m new at is = let same : m ≡ n = omega arith in (is ∙ ap (new_seat t) same, tt)
   new_longer t (x ∷ ss) s n m new at is = (new.0, new_longer t ss s (n + 1) m new.1 (omega arith) is)
+
+module _ {E : Type 0} (names : E → ℕ) where
+  -- what a joined seat knows of the numbers of the seat that had seen the shorter list
+  abbrev Kept : Bool → List E → List E → List ℕ → List ℕ → Type 0
+  Kept b xs ys ns ms = (n : ℕ) → Has (cond b ns ms) n → (k : ℕ) (e : E) → get_elem? (cond b ys xs) k ≡ maybe.some e → names e ≡ n → k < length (cond b xs ys)
+
+  abbrev pub After : List E → List ℕ → List E → Type 0
+  After seen ns entries = (e : E) → Has (drop (length seen) entries) e → ¬ (Has ns (names e))
+
+  none_after : (xs : List E) (ns : List ℕ) → After xs ns xs
+  none_after xs ns e has own =
+      let at = at_drop xs (length xs) has.0 e has.1 in let in_it = within xs (length xs + has.0) e at in omega arith
+
+  kept_after : (xs ys : List E) (ns : List ℕ) → ((n : ℕ) → Has ns n → (k : ℕ) (e : E) → get_elem? ys k ≡ maybe.some e → names e ≡ n → k < length xs) → After xs ns ys
+  kept_after xs ys ns kept e has own = let less = kept (names e) own (length xs + has.0) e (at_drop ys (length xs) has.0 e has.1) refl in omega arith
+
+  pub both_follow_by : (b : Bool) (xs ys : List E) (ns ms : List ℕ) → Kept b xs ys ns ms → After xs ns (cond b ys xs) × After ys ms (cond b ys xs)
+  both_follow_by true xs ys ns ms kept = (kept_after xs ys ns kept, none_after ys ms)
+  both_follow_by false xs ys ns ms kept = (none_after xs ns, kept_after ys xs ms kept)
+
+module _ {E O : Type 0} (names : E → ℕ) where
+  -- behind the lists of both there is nothing of their own
+  pub both_follow : (v w : SeatView E O) → ((n : ℕ) → Has (joined v w).other_numbers n → (k : ℕ) (e : E) → get_elem? (joined v w).seen k ≡ maybe.some e → names e ≡ n → k < length (joined v w).other_seen)
+      → After names v.seen v.numbers (joined v w).seen × After names w.seen w.numbers (joined v w).seen
+  both_follow v w kept = both_follow_by names (ltb (length v.seen) (length w.seen)) v.seen w.seen v.numbers w.numbers kept

@@ -8,7 +8,7 @@ use lib.ListN.{get_elem?}
 use lib.Seq.{set-get_or}
 use prog.Atomic.{either}
 use Rattle.atomic_table.specs.Table.{State, Me, step, keeps, takes, gives, put_back, rest, stepped, Allows, Splits, Joins, Final, Seen}
-use Rattle.atomic_table.proofs.Lists.{at_set, set_here}
+use Rattle.atomic_table.proofs.Lists.{at_set, set_here, at_longer}
 use Rattle.jf_turn.specs.declared.view.Stage.{Stage}
 use Rattle.jf_turn.specs.declared.view.Stage.TheVariants.{Spent, Idle, Opening, Holding}
 use Rattle.jf_turn.specs.declared.view.SeatView.{SeatView}
@@ -16,7 +16,7 @@ use Rattle.jf_turn.specs.Lists.{Has, StartsWith, longer}
 use Rattle.jf_turn.specs.Rule.{Hand, free, held_by, turn_word, Account, IsHome, OwnAreSeen, FitsHand, IsSeat, FitsTurn, IsTurn, first_view}
 use Rattle.jf_turn.specs.Steps.{at_stage, released_seat, minted, claimed, born, moved, released, numbered, compared, first_of, maker_left, seat_right, joined, spent}
 use Rattle.jf_turn.proofs.Words.{free_of_even}
-use Rattle.jf_turn.proofs.Lists.{put, put_at, put_else, at_end, within, some_at, at_append, has_cons, has_append, starts_self, starts_more, prefix_of, prefix_whole}
+use Rattle.jf_turn.proofs.Lists.{put, put_at, put_else, at_end, within, some_at, at_append, has_cons, has_append, has_left, has_right, starts_self, starts_more, prefix_of, prefix_whole}
 
 module _ {V E O : Type 0} (list : V → List E) (names : E → ℕ) (origin_of : V → O) (seats : ℕ) (start : O) where
   abbrev W : Type 0
@@ -52,6 +52,10 @@ module _ {V E O : Type 0} (list : V → List E) (names : E → ℕ) (origin_of :
   abbrev Sit : Account E O → ℕ → W → Type 0
   Sit = IsSeat list names origin_of
 
+  -- a view that keeps no numbers of another seat
+  no_others : (n : ℕ) → Has [] n → ⊥
+  no_others n has = maybe.some-ne-none n (sym has.1)
+
   -- a seat has the new view w, under the account p
   placed : (s : St) (r : Rule s) (p : Account E O) (ws : List ℕ) (hs : Homes) (id : ℕ) (v w : W) → get_elem? s.views id ≡ maybe.some v → length ws ≡ 2 → get_or ws 0 0 ≡ turn_word p.hand (length p.entries) → get_or ws 1 0 ≡ p.given → p.given ≤ seats → length p.entries ≤ 2 ^ 62
       → p.origin ≡ r.account.origin → IsHome list names origin_of p hs p.hand → ((k : ℕ) (e : E) → get_elem? p.entries k ≡ maybe.some e → names e < p.given) → Fit p hs id w → ((j : ℕ) (u : W) → j ≢ id → Fit r.account s.homes j u → Fit p hs j u)
@@ -86,10 +90,10 @@ module _ {V E O : Type 0} (list : V → List E) (names : E → ℕ) (origin_of :
   taken_else entries hs hs' n u (Holding l) not s = absurd s
 
   sit_same : (p : Account E O) (h : Hand) (id : ℕ) (v : W) (st : Stage E) → Sit p id v → Sit (record p { hand = h }) id (at_stage v st)
-  sit_same p h id v st r = record { seen = r.seen; other_seen = r.other_seen; origin = r.origin; numbers = r.numbers; maker = r.maker }
+  sit_same p h id v st r = record { seen = r.seen; other_seen = r.other_seen; others = λ n has. absurd (no_others n has); origin = r.origin; numbers = r.numbers; maker = r.maker }
 
   sit_hand : (p : Account E O) (h : Hand) (id : ℕ) (v : W) → Sit p id v → Sit (record p { hand = h }) id v
-  sit_hand p h id v r = record { seen = r.seen; other_seen = r.other_seen; origin = r.origin; numbers = r.numbers; maker = r.maker }
+  sit_hand p h id v r = record { seen = r.seen; other_seen = r.other_seen; others = r.others; origin = r.origin; numbers = r.numbers; maker = r.maker }
 
   away_here : (v : W) → v.stage ≡ Idle → v.stage ≢ Spent
   away_here v e g = cc
@@ -166,7 +170,7 @@ module _ {V E O : Type 0} (list : V → List E) (names : E → ℕ) (origin_of :
         b.4,
         placed s r p (set s.words 0 (get_or s.words 0 0)) hs id v w at (length-set s.words 0 (get_or s.words 0 0) ∙ r.wide) (ap (λ ws. get_or ws 0 0) (set-get_or s.words 0 0) ∙ r.turn_is) (ap (λ ws. get_or ws 1 0) (set-get_or s.words 0 0) ∙ r.count_is) r.few r.bounded refl
             (subst (IsHome list names origin_of p hs) (sym is) (subst (IsHome list names origin_of p s.homes) is r.home)) r.named
-            ((λ _. record { seen = sit.seen; other_seen = sit.other_seen; origin = sit.origin; numbers = sit.numbers; maker = sit.maker }), subst (λ h. Stand p.entries hs w h (Holding [])) (sym is) (b.2, sym b.3))
+            ((λ _. record { seen = sit.seen; other_seen = sit.other_seen; others = λ n has. absurd (no_others n has); origin = sit.origin; numbers = sit.numbers; maker = sit.maker }), subst (λ h. Stand p.entries hs w h (Holding [])) (sym is) (b.2, sym b.3))
             (λ j u other f. (f.0, subst (λ h. Stand p.entries hs u h u.stage) (sym is) (held_else p.entries p.entries s.homes hs n u u.stage (λ here has. apart p id j n u own other (f.0 here) has) (λ _ o. o) (subst (λ h. Stand p.entries s.homes u h u.stage) is f.1)))),
         refl,
       )
@@ -183,16 +187,21 @@ module _ {V E O : Type 0} (list : V → List E) (names : E → ℕ) (origin_of :
       let grown : list y ≡ p.entries ++ more = grows ∙ ap (λ xs. xs ++ more) b.3 in
       let p' : Account E O = record p { entries = list y } in let w : W = at_stage v (Holding (list y)) in let starts : (xs : List E) → StartsWith p.entries xs → StartsWith (list y) xs = λ xs t. subst (λ ys. StartsWith ys xs) (sym grown) (starts_more p.entries more xs t) in
       let owned : (j : ℕ) (u : W) → j ≢ id → Sit p j u → OwnAreSeen list names origin_of p.entries u → OwnAreSeen list names origin_of (list y) u = λ j u other su o k e there has. ⊎_elim (λ (h : get_elem? p.entries k ≡ maybe.some e). o k e h has)
-      (λ (h : Has more e). absurd (apart p id j v.number u given.1 other su (subst (Has u.numbers) (named e h) has))) (at_append p.entries more k e (subst (λ ys. get_elem? ys k ≡ maybe.some e) grown there)) in (
+      (λ (h : Has more e). absurd (apart p id j v.number u given.1 other su (subst (Has u.numbers) (named e h) has))) (at_append p.entries more k e (subst (λ ys. get_elem? ys k ≡ maybe.some e) grown there)) in
+      let others_on : (j : ℕ) (u : W) → j ≢ id → Sit p j u → (m : ℕ) → Has u.other_numbers m → Has u.numbers m × ((k : ℕ) (e : E) → get_elem? (list y) k ≡ maybe.some e → names e ≡ m → k < length u.other_seen) = λ j u other su m has. (
+        (su.others m has).0,
+        λ k e there name. ⊎_elim (λ (h : get_elem? p.entries k ≡ maybe.some e). (su.others m has).1 k e h name)
+            (λ (h : Has more e). absurd (apart p id j v.number u given.1 other su (subst (Has u.numbers) (sym name ∙ named e h) (su.others m has).0))) (at_append p.entries more k e (subst (λ ys. get_elem? ys k ≡ maybe.some e) grown there)),
+      ) in (
         w,
         keeps,
         tt,
         placed s r p' (set s.words 0 word) s.homes id v w at (length-set s.words 0 word ∙ r.wide) (get_or-set_same s.words 0 word 0 (let wide = r.wide in omega arith) ∙ (is_word ∙ sym (ap (λ h. turn_word h (length (list y))) is))) (get_or-set_other s.words 0 1 word 0 (λ e. omega arith) ∙ r.count_is) r.few small refl
             (subst (IsHome list names origin_of p' s.homes) (sym is) (subst (IsHome list names origin_of p s.homes) is r.home))
             (λ k e there. ⊎_elim (λ (h : get_elem? p.entries k ≡ maybe.some e). r.named k e h) (λ (h : Has more e). subst (λ z. z < p.given) (sym (named e h)) given.0) (at_append p.entries more k e (subst (λ ys. get_elem? ys k ≡ maybe.some e) grown there)))
-            ((λ _. record { seen = starts v.seen sit.seen; other_seen = starts v.other_seen sit.other_seen; origin = sit.origin; numbers = sit.numbers; maker = sit.maker }), subst (λ h. Stand (list y) s.homes w h (Holding (list y))) (sym is) (b.2, refl))
+            ((λ _. record { seen = starts v.seen sit.seen; other_seen = starts v.other_seen sit.other_seen; others = λ n has. absurd (no_others n has); origin = sit.origin; numbers = sit.numbers; maker = sit.maker }), subst (λ h. Stand (list y) s.homes w h (Holding (list y))) (sym is) (b.2, refl))
             (λ j u other f. (
-              (λ here. let su = f.0 here in record { seen = starts u.seen su.seen; other_seen = starts u.other_seen su.other_seen; origin = su.origin; numbers = su.numbers; maker = su.maker }),
+              (λ here. let su = f.0 here in record { seen = starts u.seen su.seen; other_seen = starts u.other_seen su.other_seen; others = others_on j u other su; origin = su.origin; numbers = su.numbers; maker = su.maker }),
               subst (λ h. Stand (list y) s.homes u h u.stage) (sym is) (held_else p.entries (list y) s.homes s.homes n u u.stage (λ here has. apart p id j n u own other (f.0 here) has) (λ here o. owned j u other (f.0 here) o) (subst (λ h. Stand p.entries s.homes u h u.stage) is f.1)),
             )),
         λ y' c. let same : y ≡ y' = one_carried me.1 y y' carried c in ap (λ (z : V). sat (at_stage v (Holding (list z))) me) same,
@@ -212,7 +221,7 @@ module _ {V E O : Type 0} (list : V → List E) (names : E → ℕ) (origin_of :
         placed s r p' (set s.words 0 word) hs id v w at (length-set s.words 0 word ∙ r.wide) (get_or-set_same s.words 0 word 0 (let wide = r.wide in omega arith) ∙ (is_word ∙ ap (λ (xs : List E). 2 * length xs) b.3)) (get_or-set_other s.words 0 1 word 0 (λ e. omega arith) ∙ r.count_is) r.few r.bounded refl
             (subst (λ c. IsHome list names origin_of p' (put_back s.homes c) free) (sym carried) (y, set_here s.homes 0 (maybe.some (Some y)) (omega arith), b.3, same_origin))
             r.named
-            ((λ _. record { seen = subst (λ (xs : List E). StartsWith xs l) b.3 (starts_self l); other_seen = sit.other_seen; origin = sit.origin; numbers = sit.numbers; maker = sit.maker }), λ k e there has. within l k e (subst (λ (xs : List E). get_elem? xs k ≡ maybe.some e) (sym b.3) there))
+            ((λ _. record { seen = subst (λ (xs : List E). StartsWith xs l) b.3 (starts_self l); other_seen = sit.other_seen; others = λ n has. absurd (no_others n has); origin = sit.origin; numbers = sit.numbers; maker = sit.maker }), λ k e there has. within l k e (subst (λ (xs : List E). get_elem? xs k ≡ maybe.some e) (sym b.3) there))
             (λ j u other f. ((λ here. sit_hand p free j u (f.0 here)), freed_else p.entries s.homes hs n u u.stage (λ here has. apart p id j n u own other (f.0 here) has) (subst (λ h. Stand p.entries s.homes u h u.stage) is f.1))),
         λ y' c. let same : y ≡ y' = one_carried me.1 y y' carried c in subst (λ (z : SeatView E O × List (ℕ × Option V)). z ≡ (released_seat v (list y'), [])) (λ i. (released_seat v (list (sym same i)), ap rest (sym carried) i)) refl,
       )
@@ -221,6 +230,7 @@ module _ {V E O : Type 0} (list : V → List E) (names : E → ℕ) (origin_of :
   sit_count p id j u other r = record {
     seen = r.seen;
     other_seen = r.other_seen;
+    others = r.others;
     origin = r.origin;
     numbers = λ n has. let t = r.numbers n has in let less = t.0 in (omega arith, put_else p.seat_of p.given id n (λ e. omega arith) ∙ t.1);
     maker = λ e. absurd (other (r.maker e).1);
@@ -250,6 +260,7 @@ module _ {V E O : Type 0} (list : V → List E) (names : E → ℕ) (origin_of :
               (λ _. record {
                 seen = sit.seen;
                 other_seen = sit.other_seen;
+                others = λ n has. let t = sit.others n has in ((suc t.0.0, t.0.1), t.1);
                 origin = sit.origin;
                 numbers = λ n has. ⊎_elim (λ (t : c ≡ n). (omega arith, put_at p.seat_of p.given id n (sym t ∙ mine))) (λ t. let old = sit.numbers n t in let less = old.0 in (omega arith, put_else p.seat_of p.given id n (λ e. omega arith) ∙ old.1)) (has_cons c v.numbers n has);
                 maker = λ _. (ap (λ (z : ℕ). z + 1) mine, maker.1);
@@ -272,6 +283,7 @@ module _ {V E O : Type 0} (list : V → List E) (names : E → ℕ) (origin_of :
   sit_owner p n to id j u own other r = record {
     seen = r.seen;
     other_seen = r.other_seen;
+    others = r.others;
     origin = r.origin;
     numbers = λ m has. let t = r.numbers m has in (t.0, put_else p.seat_of n to m (λ e. other (sym t.1 ∙ (ap p.seat_of e ∙ own))) ∙ t.1);
     maker = r.maker;
@@ -290,11 +302,11 @@ module _ {V E O : Type 0} (list : V → List E) (names : E → ℕ) (origin_of :
       let in_right : (m : ℕ) → Has w.numbers m → Has v.numbers m = λ m has. subst (λ xs. Has xs m) (sym has_two) (1, ap (λ (z : ℕ). maybe.some z) (one_of v.number m has)) in
       let p' : Account E O = record p { seat_of = put p.seat_of v.number new } in let here : Stand p.entries s.homes v p.hand Idle = subst (Stand p.entries s.homes v p.hand) away fit.1 in
       let left_fits : Fit p' s.homes id l = (
-        (λ _. record { seen = sit.seen; other_seen = sit.other_seen; origin = sit.origin; numbers = λ m has. let t = sit.numbers m (in_left m has) in (t.0, put_else p.seat_of v.number new m (λ e. apart_numbers ((sym first ∙ one_of (first_of v.numbers) m has) ∙ e)) ∙ t.1); maker = sit.maker }),
+        (λ _. record { seen = sit.seen; other_seen = sit.other_seen; others = λ n has. absurd (no_others n has); origin = sit.origin; numbers = λ m has. let t = sit.numbers m (in_left m has) in (t.0, put_else p.seat_of v.number new m (λ e. apart_numbers ((sym first ∙ one_of (first_of v.numbers) m has) ∙ e)) ∙ t.1); maker = sit.maker }),
         subst (Stand p.entries s.homes l p.hand) (sym away) (split_fits p.entries s.homes v l p.hand in_left refl here),
       ) in
       let right_fits : Fit p' s.homes new w = (
-        (λ _. record { seen = sit.seen; other_seen = (p.entries, refl); origin = sit.origin; numbers = λ m has. let t = sit.numbers m (in_right m has) in (t.0, put_at p.seat_of v.number new m (sym (one_of v.number m has))); maker = λ e. absurd (let no_way : false ≡ true = e in cc) }),
+        (λ _. record { seen = sit.seen; other_seen = (p.entries, refl); others = λ n has. absurd (no_others n has); origin = sit.origin; numbers = λ m has. let t = sit.numbers m (in_right m has) in (t.0, put_at p.seat_of v.number new m (sym (one_of v.number m has))); maker = λ e. absurd (let no_way : false ≡ true = e in cc) }),
         split_fits p.entries s.homes v w p.hand in_right refl here,
       ) in record {
         account = p';
@@ -322,7 +334,7 @@ module _ {V E O : Type 0} (list : V → List E) (names : E → ℕ) (origin_of :
     keeps,
     tt,
     placed s r p (set s.words 0 (get_or s.words 0 0)) s.homes id v v at (length-set s.words 0 (get_or s.words 0 0) ∙ r.wide) (ap (λ ws. get_or ws 0 0) (set-get_or s.words 0 0) ∙ r.turn_is) (ap (λ ws. get_or ws 1 0) (set-get_or s.words 0 0) ∙ r.count_is) r.few r.bounded refl r.home r.named (r.each id v at) (λ j u other f. f),
-    (refl, λ le. prefix_of p.entries v.seen v.other_seen sit.seen sit.other_seen le),
+    (refl, (λ le. prefix_of p.entries v.seen v.other_seen sit.seen sit.other_seen le), λ n has k e there name. (sit.others n has).1 k e (subst (λ (xs : List E). get_elem? xs k ≡ maybe.some e) (sym sit.seen.1) (at_longer v.seen sit.seen.0 k e there)) name),
   )
 
   is_at_home : (p : Account E O) (hs : Homes) (v : W) (h : Hand) → p.given ≤ seats → ((n : ℕ) → n < seats → Has v.numbers n) → IsHome list names origin_of p hs h → Stand p.entries hs v h Idle → IsHome list names origin_of p hs free × OwnAreSeen list names origin_of p.entries v
@@ -379,10 +391,21 @@ module _ {V E O : Type 0} (list : V → List E) (names : E → ℕ) (origin_of :
   sit_handed p other id j u apart_seats r = record {
     seen = r.seen;
     other_seen = r.other_seen;
+    others = r.others;
     origin = r.origin;
     numbers = λ n has. let t = r.numbers n has in (t.0, handed_not p.seat_of other id n (λ e. apart_seats (sym t.1 ∙ e)) ∙ t.1);
     maker = r.maker;
   }
+
+  own_of : (entries : List E) (hs : Homes) (v : W) (h : Hand) → Stand entries hs v h Idle → OwnAreSeen list names origin_of entries v
+  own_of entries hs v free s = s
+  own_of entries hs v (held_by n) s = s.1
+
+  -- what the seat of the shorter list had seen has all entries that name a number of its own
+  others_joined : (entries : List E) (v w : W) → OwnAreSeen list names origin_of entries v → OwnAreSeen list names origin_of entries w → (b : Bool)
+      → (n : ℕ) → Has (cond b v.numbers w.numbers) n → Has (v.numbers ++ w.numbers) n × ((k : ℕ) (e : E) → get_elem? entries k ≡ maybe.some e → names e ≡ n → k < length (cond b v.seen w.seen))
+  others_joined entries v w a c true n has = (has_left v.numbers w.numbers n has, λ k e there name. a k e there (subst (Has v.numbers) (sym name) has))
+  others_joined entries v w a c false n has = (has_right v.numbers w.numbers n has, λ k e there name. c k e there (subst (Has w.numbers) (sym name) has))
 
   pub joins : (id other : ℕ) (v w : W) → v.stage ≡ Idle → w.stage ≡ Idle → Joins Rule id v other w (joined v w) spent
   joins id other v w away away' s r at two there =
@@ -395,6 +418,7 @@ module _ {V E O : Type 0} (list : V → List E) (names : E → ℕ) (origin_of :
         (λ _. record {
           seen = either_list (StartsWith p.entries) (ltb (length v.seen) (length w.seen)) w.seen v.seen b.seen a.seen;
           other_seen = either_list (StartsWith p.entries) (ltb (length v.seen) (length w.seen)) v.seen w.seen a.seen b.seen;
+          others = others_joined p.entries v w (own_of p.entries s.homes v p.hand sa) (own_of p.entries s.homes w p.hand sb) (ltb (length v.seen) (length w.seen));
           origin = a.origin;
           numbers = λ n has. ⊎_elim (λ t. let m = a.numbers n t in (m.0, handed_not p.seat_of other id n (λ e. two (sym e ∙ m.1)) ∙ m.1)) (λ t. let m = b.numbers n t in (m.0, handed_on p.seat_of other id n m.1)) (has_append v.numbers w.numbers n has);
           maker = a.maker;
@@ -418,7 +442,7 @@ module _ {V E O : Type 0} (list : V → List E) (names : E → ℕ) (origin_of :
 
   first_only : (hs : Homes) (id : ℕ) (v : W) → get_elem? hs 0 ≡ maybe.some (maybe.some None) → get_elem? (first_view start ∷ []) id ≡ maybe.some v → Fit record { entries = []; origin = start; given = 1; maker = 0; seat_of = λ _. 0; hand = held_by 0 } hs id v
   first_only hs zero v empty e = subst (Fit record { entries = []; origin = start; given = 1; maker = 0; seat_of = λ _. 0; hand = held_by 0 } hs 0) (maybe.some-injective (first_view start) v e) (
-    (λ _. record { seen = ([], refl); other_seen = ([], refl); origin = refl; numbers = λ n has. ((let z = one_of 0 n has in omega arith), refl); maker = λ _. (refl, refl) }),
+    (λ _. record { seen = ([], refl); other_seen = ([], refl); others = λ n has. absurd (no_others n has); origin = refl; numbers = λ n has. ((let z = one_of 0 n has in omega arith), refl); maker = λ _. (refl, refl) }),
     ((0, refl), refl, empty),
   )
   first_only hs (suc id) v empty e = absurd (maybe.some-ne-none v (sym e))

@@ -56,6 +56,8 @@ module _ {V E O : Type 0} (list : V → List E) (names : E → ℕ) (origin_of :
     pub seen : StartsWith a.entries v.seen
     -- and so is what a seat that was joined to it had seen
     pub other_seen : StartsWith a.entries v.other_seen
+    -- which has all entries that name a number of that seat, until this one takes the turn
+    pub others : (n : ℕ) → Has v.other_numbers n → Has v.numbers n × ((k : ℕ) (e : E) → get_elem? a.entries k ≡ maybe.some e → names e ≡ n → k < length v.other_seen)
     -- it has the turn's origin
     pub origin : v.origin ≡ Some a.origin
     -- a number for which it stands was given, and no other seat stands for it
@@ -90,4 +92,4 @@ module _ {V E O : Type 0} (list : V → List E) (names : E → ℕ) (origin_of :
 
 -- the view of the first seat: it holds an empty turn, gives out numbers, and has the number 0
 abbrev pub first_view : {E O : Type 0} → O → SeatView E O
-first_view origin = record { number = 0; numbers = 0 ∷ []; seen = []; other_seen = []; stage = Opening; origin = Some origin; is_maker = true; given = 1 }
+first_view origin = record { number = 0; numbers = 0 ∷ []; seen = []; other_seen = []; other_numbers = []; stage = Opening; origin = Some origin; is_maker = true; given = 1 }

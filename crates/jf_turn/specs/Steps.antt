@@ -1,20 +1,22 @@
 -- What each kind of step tells the seat that does it, and what it makes of the seat's view.
-use Rattle.std.specs.Prelude.{◌≡◌, ◌≢◌, ℕ, ◌+◌, ◌^◌, ◌≤◌, false, List, [], ◌∷◌, ◌++◌, length, Option, Some, None}
+use Rattle.std.specs.Prelude.{◌≡◌, ◌≢◌, ℕ, ◌+◌, ◌^◌, ◌<◌, ◌≤◌, false, List, [], ◌∷◌, ◌++◌, length, Option, Some, None}
 use Rattle.atomic_table.specs.Table.{Me, Step}
 use Rattle.jf_turn.specs.declared.view.Stage.{Stage}
 use Rattle.jf_turn.specs.declared.view.Stage.TheVariants.{Spent, Idle, Holding}
 use Rattle.jf_turn.specs.declared.view.SeatView.{SeatView}
-use Rattle.jf_turn.specs.Lists.{StartsWith, longer, shorter}
+use mathlib.Core.Option.{some}
+use lib.ListN.{get_elem?}
+use Rattle.jf_turn.specs.Lists.{Has, StartsWith, longer, shorter, shorter_numbers}
 use Rattle.jf_turn.specs.Rule.{OwnAreSeen}
 
 module _ {E O : Type 0} where
   -- at another stage
   abbrev pub at_stage : SeatView E O → Stage E → SeatView E O
-  at_stage v stage = record v { stage = stage }
+  at_stage v stage = record v { stage = stage; other_numbers = [] }
 
   -- holding nothing, with all of a list seen
   abbrev pub released_seat : SeatView E O → List E → SeatView E O
-  released_seat v seen = record v { stage = Idle; seen = seen }
+  released_seat v seen = record v { stage = Idle; seen = seen; other_numbers = [] }
 
   -- with one number more, the next to be given
   abbrev pub minted : SeatView E O → SeatView E O
@@ -50,9 +52,11 @@ module _ {V E O : Type 0} (list : V → List E) (names : E → ℕ) (origin_of :
   abbrev pub numbered : At → Sat → ℕ → Sat → Type 0
   numbered st m r m' = (r ≡ m.0.given) × (m' ≡ (minted m.0, m.1))
 
-  -- of two lists that a joined seat has seen, the shorter begins the longer
+  -- of two lists that a joined seat has seen, the shorter begins the longer, which has behind it no entry of the seat that had seen the shorter
   abbrev pub compared : At → Sat → ℕ → Sat → Type 0
-  compared st m r m' = (m' ≡ m) × (length m.0.other_seen ≤ length m.0.seen → StartsWith m.0.seen m.0.other_seen)
+  compared st m r m' =
+      (m' ≡ m) × (length m.0.other_seen ≤ length m.0.seen → StartsWith m.0.seen m.0.other_seen)
+      × ((n : ℕ) → Has m.0.other_numbers n → (k : ℕ) (e : E) → get_elem? m.0.seen k ≡ some e → names e ≡ n → k < length m.0.other_seen)
 
 -- the first number, or 0
 abbrev pub first_of : List ℕ → ℕ
@@ -62,16 +66,16 @@ first_of (n ∷ ns) = n
 module _ {E O : Type 0} where
   -- split: the maker keeps the number that it gave out last
   abbrev pub maker_left : SeatView E O → SeatView E O
-  maker_left v = record v { number = first_of v.numbers; numbers = first_of v.numbers ∷ [] }
+  maker_left v = record v { number = first_of v.numbers; numbers = first_of v.numbers ∷ []; other_numbers = [] }
 
   -- and the new seat has the one that the maker had
   abbrev pub seat_right : SeatView E O → SeatView E O
-  seat_right v = record { number = v.number; numbers = v.number ∷ []; seen = v.seen; other_seen = []; stage = Idle; origin = v.origin; is_maker = false; given = 0 }
+  seat_right v = record { number = v.number; numbers = v.number ∷ []; seen = v.seen; other_seen = []; other_numbers = []; stage = Idle; origin = v.origin; is_maker = false; given = 0 }
 
   -- join: one seat stands for the numbers of both, and has seen the longer list
   abbrev pub joined : SeatView E O → SeatView E O → SeatView E O
-  joined v w = record v { numbers = v.numbers ++ w.numbers; seen = longer v.seen w.seen; other_seen = shorter v.seen w.seen }
+  joined v w = record v { numbers = v.numbers ++ w.numbers; seen = longer v.seen w.seen; other_seen = shorter v.seen w.seen; other_numbers = shorter_numbers v.seen w.seen v.numbers w.numbers }
 
   -- and the other is spent
   abbrev pub spent : SeatView E O
-  spent = record { number = 0; numbers = []; seen = []; other_seen = []; stage = Spent; origin = None; is_maker = false; given = 0 }
+  spent = record { number = 0; numbers = []; seen = []; other_seen = []; other_numbers = []; stage = Spent; origin = None; is_maker = false; given = 0 }

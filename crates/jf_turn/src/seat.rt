@@ -101,6 +101,7 @@ impl<V: Told> Seat<V> {
         ensures joins { self.new ≡ joining self.old other }
         ensures begins { StartsWith self.new.seen self.old.seen }
         ensures other_begins { StartsWith self.new.seen other.seen }
+        ensures others { OthersFollow V.names self.old self.new.seen × OthersFollow V.names other self.new.seen }
     {
         let seen = other.seen;
         join(turn, &mut self.token, other.into_token());

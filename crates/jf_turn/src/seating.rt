@@ -1,7 +1,9 @@
 //! How seats are made, and how two become one.
-ghost use Rattle.std.specs.Prelude.{◌≡◌, ◌+◌, ◌<◌, true, [], ◌∷◌};
+ghost use Rattle.std.specs.Prelude.{◌≡◌, ℕ, ◌+◌, ◌<◌, true, [], ◌∷◌, length};
+ghost use mathlib.Core.Option.{some};
+ghost use lib.ListN.{get_elem?};
 ghost use Rattle.jf_turn.specs.declared.view.Stage.TheVariants.{Idle};
-ghost use Rattle.jf_turn.specs.Lists.{StartsWith};
+ghost use Rattle.jf_turn.specs.Lists.{Has, StartsWith};
 ghost use Rattle.jf_turn.specs.Steps.{minted, maker_left, seat_right, joined};
 
 use crate::steps::{Both, Compare, Number, Seating};
@@ -36,6 +38,7 @@ pub(crate) fn join<V: Told>(
     requires idle { (token.old.me.0.stage ≡ Idle) × (token.old.me.1 ≡ []) × (other.me.0.stage ≡ Idle) × (other.me.1 ≡ []) }
     ensures both { (token.new.table_id ≡ token.old.table_id) × (token.new.me ≡ (joined token.old.me.0 other.me.0, [])) }
     ensures prefix { StartsWith (joined token.old.me.0 other.me.0).seen (joined token.old.me.0 other.me.0).other_seen }
+    ensures others { (n : ℕ) → Has (joined token.old.me.0 other.me.0).other_numbers n → (k : ℕ) (e : V.Entry) → get_elem? (joined token.old.me.0 other.me.0).seen k ≡ some e → V.names e ≡ n → k < length (joined token.old.me.0 other.me.0).other_seen }
 {
     turn.table.shared.join_seat::<Both>(token, other);
     turn.table.shared.load::<Compare>(token, 0);
