@@ -46,8 +46,23 @@ pub record IsSound (s : State) (own : Own) (a : Answer) : Type 0 where
 -- ---- single answers
 
 sound_done : (c : Command) (s : State) (own : Own) → IsSound s own (done c s own)
+sound_done (command.Put name value) s own = record { follows = refl; number = refl }
+sound_done (command.Del name) s own = record { follows = refl; number = refl }
 sound_done command.Commit s own = record { follows = record { state = refl; owned = refl; undated = refl; pruned_so = tt }; number = refl }
-sound_done c s own = record { follows = refl; number = refl }
+sound_done (command.Fork on) s own = record { follows = refl; number = refl }
+sound_done (command.Land id) s own = record { follows = refl; number = refl }
+sound_done (command.Drop id) s own = record { follows = refl; number = refl }
+sound_done (command.Get on name) s own = record { follows = refl; number = refl }
+sound_done (command.Root on) s own = record { follows = refl; number = refl }
+sound_done (command.Prove on name) s own = record { follows = refl; number = refl }
+sound_done (command.Chunk on start count) s own = record { follows = refl; number = refl }
+sound_done (command.Count on) s own = record { follows = refl; number = refl }
+sound_done (command.Nth on place) s own = record { follows = refl; number = refl }
+sound_done (command.Pin version) s own = record { follows = refl; number = refl }
+sound_done (command.Unpin place) s own = record { follows = refl; number = refl }
+sound_done (command.Prune upto) s own = record { follows = refl; number = refl }
+sound_done command.Compact s own = record { follows = refl; number = refl }
+sound_done command.Status s own = record { follows = refl; number = refl }
 
 sound_command : (o : Option Refusal) (c : Command) (s : State) (own : Own) → IsSound s own (elim o as (λ x. Answer) [ Some why ↦ replied (reply.No why) s own | None ↦ done c s own ])
 sound_command None c s own = sound_done c s own
@@ -77,8 +92,23 @@ EachPin P own = AllByRecursion (λ pin. IfSome pin P) own.pins
 
 module _ (P : ℕ → Type 0) where
   pins_done : (c : Command) (s : State) (own : Own) → IfSome (pin_of_command (Some c)) P → EachPin P own → EachPin P (done c s own).own
+  pins_done (command.Put name value) s own named h = h
+  pins_done (command.Del name) s own named h = h
+  pins_done command.Commit s own named h = h
+  pins_done (command.Fork on) s own named h = h
+  pins_done (command.Land id) s own named h = h
+  pins_done (command.Drop id) s own named h = h
+  pins_done (command.Get on name) s own named h = h
+  pins_done (command.Root on) s own named h = h
+  pins_done (command.Prove on name) s own named h = h
+  pins_done (command.Chunk on start count) s own named h = h
+  pins_done (command.Count on) s own named h = h
+  pins_done (command.Nth on place) s own named h = h
   pins_done (command.Pin version) s own named h = h
-  pins_done c s own named h = h
+  pins_done (command.Unpin place) s own named h = h
+  pins_done (command.Prune upto) s own named h = h
+  pins_done command.Compact s own named h = h
+  pins_done command.Status s own named h = h
 
   pins_command : (o : Option Refusal) (c : Command) (s : State) (own : Own) → IfSome (pin_of_command (Some c)) P → EachPin P own
       → EachPin P (elim o as (λ x. Answer) [ Some why ↦ replied (reply.No why) s own | None ↦ done c s own ]).own

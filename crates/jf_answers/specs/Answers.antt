@@ -73,10 +73,20 @@ abbrev pub done : Command → State → Own → Answer
 done (command.Put name value) s own = changed name (Some value) s own
 done (command.Del name) s own = changed name None s own
 done command.Commit s own = committed s own
+done (command.Fork on) s own = not_read s own
+done (command.Land id) s own = not_read s own
+done (command.Drop id) s own = not_read s own
 done (command.Get on name) s own = replied (reply.Value (get (base_map s own on) (K name))) s own
 done (command.Root on) s own = replied (reply.Root (root (base_map s own on))) s own
 done (command.Prove on name) s own = proved (base_map s own on) name s own
-done c s own = not_read s own
+done (command.Chunk on start count) s own = not_read s own
+done (command.Count on) s own = not_read s own
+done (command.Nth on place) s own = not_read s own
+done (command.Pin version) s own = not_read s own
+done (command.Unpin place) s own = not_read s own
+done (command.Prune upto) s own = not_read s own
+done command.Compact s own = not_read s own
+done command.Status s own = not_read s own
 
 -- the first refusal, which changes nothing, or else what the command does
 abbrev pub answer_command : State → Own → Command → Answer

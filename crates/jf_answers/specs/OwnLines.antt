@@ -47,8 +47,23 @@ is_own_line line = is_long line || is_own (command_of line)
 -- the version that a command pins
 abbrev pub pin_of_command : Option Command → Option ℕ
 pin_of_command None = None
+pin_of_command (Some (command.Put name value)) = None
+pin_of_command (Some (command.Del name)) = None
+pin_of_command (Some command.Commit) = None
+pin_of_command (Some (command.Fork on)) = None
+pin_of_command (Some (command.Land id)) = None
+pin_of_command (Some (command.Drop id)) = None
+pin_of_command (Some (command.Get on name)) = None
+pin_of_command (Some (command.Root on)) = None
+pin_of_command (Some (command.Prove on name)) = None
+pin_of_command (Some (command.Chunk on start count)) = None
+pin_of_command (Some (command.Count on)) = None
+pin_of_command (Some (command.Nth on place)) = None
 pin_of_command (Some (command.Pin version)) = Some version
-pin_of_command (Some c) = None
+pin_of_command (Some (command.Unpin place)) = None
+pin_of_command (Some (command.Prune upto)) = None
+pin_of_command (Some command.Compact) = None
+pin_of_command (Some command.Status) = None
 
 -- the version that a line `pin` names
 unfoldable pub pin_of : List ℕ → Option ℕ

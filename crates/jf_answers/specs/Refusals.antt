@@ -1,5 +1,6 @@
 -- Why a command is refused: the first of its causes that holds.
 use Rattle.std.specs.Prelude.{ℕ, ◌-◌, ◌^◌, Bool, true, false, not, nat_le, nat_lt, List, [], ◌∷◌, ◌++◌, Option, is_none, unwrap_or}
+use Rattle.std.specs.FinMap.{len}
 use Rattle.jf_path.specs.Checks.{first_of}
 use Rattle.jf_hash.specs.Hashes.{K}
 use Rattle.jf_hash.specs.Maps.{Map}
@@ -35,9 +36,9 @@ pending_causes own name = (is_full (K name) own.pending, refusal.Pending) ∷ []
 abbrev pub ledger_causes : State → Causes
 ledger_causes s = (nat_le (2 ^ 62) s.count, refusal.Last) ∷ []
 
--- one version more doesn't fit
+-- one version more doesn't fit, or the head's map has more than 2^62 entries
 abbrev pub head_causes : State → Causes
-head_causes s = (nat_le (2 ^ 64 - 2) s.all.head, refusal.Last) ∷ []
+head_causes s = (nat_le (2 ^ 64 - 2) s.all.head, refusal.Last) ∷ (nat_lt (2 ^ 62) (len (newest s.all)), refusal.Last) ∷ []
 
 -- a version is above the head, or below the retired bound
 abbrev pub version_causes : State → ℕ → Causes
@@ -72,21 +73,42 @@ abbrev pub is_built : Command → Bool
 is_built (command.Put name value) = true
 is_built (command.Del name) = true
 is_built command.Commit = true
+is_built (command.Fork on) = false
+is_built (command.Land id) = false
+is_built (command.Drop id) = false
 is_built (command.Get on name) = is_readable on
 is_built (command.Root on) = is_readable on
 is_built (command.Prove on name) = is_readable on
-is_built c = false
+is_built (command.Chunk on start count) = false
+is_built (command.Count on) = false
+is_built (command.Nth on place) = false
+is_built (command.Pin version) = false
+is_built (command.Unpin place) = false
+is_built (command.Prune upto) = false
+is_built command.Compact = false
+is_built command.Status = false
 
 -- ---- by command, in order
 
+-- nothing refuses a command that isn't built: it is answered before its causes are looked at
 abbrev pub causes : State → Own → Command → Causes
 causes s own (command.Put name value) = pending_causes own name
 causes s own (command.Del name) = pending_causes own name
 causes s own command.Commit = ledger_causes s ++ head_causes s
+causes s own (command.Fork on) = []
+causes s own (command.Land id) = []
+causes s own (command.Drop id) = []
 causes s own (command.Get on name) = base_causes s own on
 causes s own (command.Root on) = base_causes s own on
 causes s own (command.Prove on name) = base_causes s own on
-causes s own c = []
+causes s own (command.Chunk on start count) = []
+causes s own (command.Count on) = []
+causes s own (command.Nth on place) = []
+causes s own (command.Pin version) = []
+causes s own (command.Unpin place) = []
+causes s own (command.Prune upto) = []
+causes s own command.Compact = []
+causes s own command.Status = []
 
 -- the first that holds
 unfoldable pub refused_by : State → Own → Command → Option Refusal

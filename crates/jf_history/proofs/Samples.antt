@@ -40,11 +40,11 @@ second = entry.Landed 0 2 (landing.Direct []) empty_root 7
 
 first_legal : IsLegal start first
 unfolding apply
-first_legal = (omega arith, record { may = record { sorted = tt; keys = tt; values = tt }; next = refl; bounded = omega arith; rooted = refl })
+first_legal = (omega arith, record { may = record { sorted = tt; keys = tt; values = tt }; small = omega arith; next = refl; bounded = omega arith; rooted = refl })
 
 second_legal : IsLegal (after first start) second
 unfolding apply after
-second_legal = (omega arith, record { may = record { sorted = tt; keys = tt; values = tt }; next = refl; bounded = omega arith; rooted = refl })
+second_legal = (omega arith, record { may = record { sorted = tt; keys = tt; values = tt }; small = omega arith; next = refl; bounded = omega arith; rooted = refl })
 
 -- session 0 looks between the two and then lands; session 1 lands and then writes what is no command
 abbrev scripts : List (List (List ℕ))

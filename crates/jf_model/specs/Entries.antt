@@ -1,6 +1,7 @@
 -- Entries: where each is legal, and the state that it makes.
 use Rattle.std.specs.Prelude.{◌≡◌, ℕ, ◌+◌, ◌-◌, ◌<◌, ◌≤◌, ◌^◌, IsTrue, List, [], ◌∷◌, ◌++◌, length}
 use Rattle.std.proofs.Common.{refl}
+use Rattle.std.specs.FinMap as fin
 use Rattle.jf_hash.specs.Maps.{Batch, apply, IsBatch}
 use Rattle.jf_hash.specs.Roots.{root}
 use Rattle.jf_model.specs.Batches.{key_count}
@@ -58,8 +59,10 @@ abbrev pub MayLand : State → Landing → Type 0
 MayLand s (landing.Direct batch) = IsBatch batch
 MayLand s (landing.Fork id) = IsLive s id × (key_count (batches (chain s.forks id)) ≤ 10000)
 
+-- a landing starts from a map of at most 2^62 entries
 pub record IsLanding (s : State) (version : ℕ) (how : Landing) (r : List ℕ) : Type 0 where
   pub may : MayLand s how
+  pub small : fin.len (newest s.all) ≤ 2 ^ 62
   pub next : version ≡ s.all.head + length (landed_batches s how)
   pub bounded : version ≤ 2 ^ 64 - 2
   pub rooted : r ≡ root (newest (versions_after s how))

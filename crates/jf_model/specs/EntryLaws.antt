@@ -245,7 +245,7 @@ after-at_moment t (entry.Compacted owner generation) s = refl
 
 pub legal-at_moment : (t : ℕ) (e : Entry) (s : State) → IsLegal s e → IsLegal s (at_moment t e)
 legal-at_moment t (entry.Made owner fork p batch r) s h = h
-legal-at_moment t (entry.Landed owner version how r moment) s h = (h.0, record { may = h.1.may; next = h.1.next; bounded = h.1.bounded; rooted = h.1.rooted })
+legal-at_moment t (entry.Landed owner version how r moment) s h = (h.0, record { may = h.1.may; small = h.1.small; next = h.1.next; bounded = h.1.bounded; rooted = h.1.rooted })
 legal-at_moment t (entry.Dropped owner fork) s h = h
 legal-at_moment t (entry.Retired owner bound floor) s h = h
 legal-at_moment t (entry.Compacted owner generation) s h = h

@@ -226,7 +226,18 @@ impl<D: Disk> Session<D> {
             Command::Get { base, name } => self.get(alloc, *base, name.as_slice()),
             Command::Root { base } => Ok(self.root(*base)),
             Command::Prove { base, name } => self.prove(alloc, *base, name.as_slice(), block),
-            _ => Ok(Reply::No(Refusal::Syntax)),
+            // None of these is built yet.
+            Command::Fork { .. }
+            | Command::Land { .. }
+            | Command::Drop { .. }
+            | Command::Chunk { .. }
+            | Command::Count { .. }
+            | Command::Nth { .. }
+            | Command::Pin { .. }
+            | Command::Unpin { .. }
+            | Command::Prune { .. }
+            | Command::Compact
+            | Command::Status => Ok(Reply::No(Refusal::Syntax)),
         }
     }
 
