@@ -5,7 +5,8 @@ use Rattle.std.specs.List.{AllByRecursion}
 use Rattle.jf_script.specs.Words.{lines, whole_lines}
 use Rattle.jf_input.specs.Inputs.{IsPlain, ended}
 use Rattle.jf_input.proofs.Lines.{ended-more, plain_more, lines_nil, lines_front, last_lines, whole_none, whole_front}
-use Rattle.jf_session.specs.Runs.{lines_read, AreFirst, Reads}
+use Rattle.jf_input.specs.LinesRead.{lines_read, AreFirst}
+use Rattle.jf_session.specs.Runs.{Reads}
 use Rattle.jf_session.specs.declared.running.End.TheVariants as end
 
 -- ---- the lines read

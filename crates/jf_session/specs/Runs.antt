@@ -8,7 +8,8 @@ use Rattle.jf_model.specs.declared.entries.Entry.{Entry}
 use Rattle.jf_model.specs.declared.entries.Entry.TheVariants as entry
 use Rattle.jf_journal.specs.Standing.{StandsFor}
 use Rattle.jf_engine.specs.Engines.{IsSettledOn}
-use Rattle.jf_script.specs.Words.{lines, whole_lines}
+use Rattle.jf_script.specs.Words.{whole_lines}
+use Rattle.jf_input.specs.LinesRead.{lines_read, AreFirst}
 use Rattle.jf_answers.specs.Answers.{answer}
 use Rattle.jf_answers.specs.Runs.{Run, answers_from, text_of, entries_of}
 use Rattle.jf_session.specs.Sessions.{Session, Stays, Tries}
@@ -80,15 +81,6 @@ pub record Advances (old new : Session) (ls : List (List ℕ)) : Type 0 where
   pub disk : (h : History) → old.history ≡ Some h → IsSettledOn h old.state.all → (g : History) × (new.history ≡ Some g) × Outlasts old.state h g added
 
 -- ---- the lines that were read
-
--- the lines of what was taken that were read to their ends: a cut last line is none unless nothing is left
-abbrev pub lines_read : List ℕ → List ℕ → List (List ℕ)
-lines_read taken left = if length left == 0 then lines taken else take (whole_lines taken) (lines taken)
-
--- the lines done are the first of those read
-pub record AreFirst (taken left : List ℕ) (ls : List (List ℕ)) : Type 0 where
-  pub enough : length ls ≤ length (lines_read taken left)
-  pub are : take (length ls) (lines_read taken left) ≡ ls
 
 -- how far the input was read, by how the run ended; the next line is the one at which the disk failed
 abbrev pub ReadsBy : End → List ℕ → List ℕ → List (List ℕ) → Option (List ℕ) → Type 0
