@@ -1,5 +1,5 @@
 // Values from `sha256sum`, over the tag, 00 to 04, and then what is hashed.
-use crate::*;
+use jf_hash::*;
 use std::test::Fail;
 
 const ONES: Hash = [0x11; 32];

@@ -3,8 +3,8 @@ ghost use Rattle.std.specs.Prelude.{◌≡◌, ℕ, ◌<◌, ◌≤◌, IsTrue};
 ghost use Rattle.jf_path.specs.Nibbles.{nibble};
 ghost use Rattle.jf_split.specs.Pieces.{AgreeBefore};
 
-use crate::*;
 use jf_path::{Key, Memory, nibble};
+use jf_split::*;
 use std::alloc::Global;
 use std::test::Fail;
 

@@ -1,5 +1,5 @@
 // What keys, nibbles, paths and names look like from outside, and that calls succeed.
-use crate::*;
+use jf_path::*;
 use std::alloc::Global;
 use std::test::Fail;
 

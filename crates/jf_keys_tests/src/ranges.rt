@@ -1,5 +1,5 @@
 // The hashes of ranges of places. Expected values are Python's hashlib over the tag 02 and the two halves, pair by pair.
-use crate::*;
+use jf_hash::*;
 use std::test::Fail;
 
 // That of the byte 0.

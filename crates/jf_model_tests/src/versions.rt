@@ -1,6 +1,6 @@
 // Roots by Python's `hashlib`, by the recursion that defines them.
-use crate::*;
 use jf_hash::{Hash, key_of};
+use jf_plain::*;
 use jf_split::Batch;
 use std::test::Fail;
 
