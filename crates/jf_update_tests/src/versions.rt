@@ -1,7 +1,7 @@
 // Landings succeed, and each version keeps its values.
-use crate::*;
 use jf_hash::key_of;
 use jf_join::FreeGate;
+use jf_snapshots::SnapshotVersions;
 use jf_split::Batch;
 use std::test::Fail;
 

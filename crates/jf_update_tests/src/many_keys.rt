@@ -5,12 +5,12 @@ ghost use Rattle.std.specs.FinMap.{is_sorted};
 ghost use Rattle.std.specs.FinMap.Entries.{below_all};
 ghost use Rattle.jf_path.specs.Keys.{key_cmp};
 
-use crate::*;
 use jf_hash::{Hash, key_of, plain_root, value};
 use jf_join::FreeGate;
 use jf_node::{Snapshot, Update};
 use jf_path::{Bytes, Key, Memory};
 use jf_split::{Batch, BatchFault};
+use jf_update::update_counted;
 use std::alloc::Global;
 use std::cmp::Ordering;
 use std::test::Fail;

@@ -1,8 +1,8 @@
 // That calls succeed, and the order in which marks are taken.
 ghost use Rattle.std.specs.Prelude.{◌<◌};
 
-use crate::*;
 use jf_path::{NibblePath, NodeName};
+use jf_stale::StaleIndex;
 use std::test::Fail;
 
 // The bytes of the paths of no nibble, of 3, of 3 and 0, and of 4.

@@ -1,12 +1,12 @@
 // Landings succeed: roots are compared with those of whole maps, and lists with those worked by hand.
 ghost use Rattle.std.specs.Prelude.{◌≡◌, ◌+◌, ◌<◌, IfOk};
 
-use crate::*;
 use jf_hash::{empty, plain_root, value};
 use jf_join::FreeGate;
 use jf_node::{Snapshot, Update};
 use jf_path::{Key, Memory, NodeName, PlainNode};
 use jf_split::Batch;
+use jf_update::update;
 use std::alloc::Global;
 use std::test::Fail;
 use std::thread::Threads;

@@ -1,7 +1,7 @@
 // Answers stand in the order of their pieces, and the gate is told of each piece before it is worked.
 ghost use Rattle.std.specs.Prelude.{◌≤◌};
 
-use crate::*;
+use jf_join::{FreeGate, Gate, join_pieces};
 use std::alloc::Global;
 use std::sync::atomic::AtomicU64;
 use std::sync::atomic::Ordering::SeqCst;

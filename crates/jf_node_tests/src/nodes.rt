@@ -3,8 +3,8 @@ ghost use Rattle.std.specs.Prelude.{◌≡◌, ℕ, ◌≤◌, ◌<◌, [], ◌�
 ghost use Rattle.jf_path.specs.Nibbles.{nibble};
 ghost use Rattle.jf_node.specs.Children.{joined, FitFrom, leaf_value};
 
-use crate::*;
 use jf_hash::{empty, inner, leaf, plain_root, value};
+use jf_node::{Link, Seen, Sixteen, Snapshot, Update};
 use jf_path::{Key, Memory, nibble};
 use std::alloc::Global;
 use std::test::Fail;
