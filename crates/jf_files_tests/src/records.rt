@@ -1,6 +1,6 @@
 // The payload of a worked example, whose key is from `printf '\x04\x61' | sha256sum`, and what is refused.
-use crate::*;
 use jf_path::{Bytes, Key};
+use jf_record::{Record, RecordFault, decode, encode, encode_landing};
 use jf_split::Batch;
 use std::alloc::{AllocError, Global};
 use std::test::Fail;

@@ -1,5 +1,5 @@
-// Worked bytes, and each refusal.
-use crate::*;
+// Names and nodes as worked bytes, and each refusal.
+use jf_codec::{CodecFault, decode_name, decode_node, decode_whole, encode_name, encode_node};
 use jf_path::{Bytes, Memory, Nibble, NibblePath, NodeName, PlainNode};
 use std::alloc::Global;
 use std::test::Fail;
