@@ -1,17 +1,10 @@
 //! The program `jellystore`: a command line over a folder's store, or over one in memory.
 #![tactic(auto)]
 
-mod judge_input;
-mod run_words;
-mod status;
-#[cfg(test)]
-mod tests;
-mod words;
-
 use jf_disk::{AnyDisk, FileDisk, FileRefused, MemDisk, Side};
 use jf_io::{StdSink, StdSource};
-use run_words::run_words;
-use status::{Ended, Status};
+use jf_run::run_words::run_words;
+use jf_run::status::{Ended, Status};
 use std::fs::File;
 use std::io::ErrorKind;
 use std::process::ExitCode;

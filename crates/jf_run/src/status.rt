@@ -1,0 +1,91 @@
+// How the program ends.
+ghost use Rattle.std.specs.Prelude.{◌≡◌};
+ghost use Rattle.jf_run.specs.Commands.{code_of, status_of, status_of_verified, status_of_refusal};
+
+use jf_disk::Side;
+use jf_engine::OpenFault;
+use jf_model::Ledger;
+use jf_session::End;
+use jf_verify::Verified;
+
+/// How a call of the program ended.
+#[derive(Clone, Copy, Debug, PartialEq, Eq)]
+pub enum Status {
+    /// All output was written, and the input was read to its end.
+    Done,
+    /// The words are none of the program's. Nothing was touched.
+    Usage,
+    /// The source failed in this call.
+    ReadFault,
+    /// The sink failed in this call.
+    WriteFault,
+    /// The disk failed in this call.
+    DiskFault,
+    /// The files stand for no versions; this is the first place of damage, in bytes from the side's start.
+    Damaged { side: Side, offset: u64 },
+    /// Memory is wanting.
+    Memory,
+}
+
+/// What a call of the program hands back: how it ended, the disk, the entries of its ledger, and the head at opening,
+/// or None where no store was opened.
+#[derive(Drop)]
+pub struct Ended<D> {
+    pub status: Status,
+    pub disk: D,
+    pub entries: Ledger,
+    pub start: Option<u64>,
+}
+
+impl Status {
+    /// The status of a script's run.
+    pub fn of_end(end: End) -> Status
+        ensures { result ≡ status_of end }
+    {
+        match end {
+            End::Done => Status::Done,
+            End::ReadFault => Status::ReadFault,
+            End::WriteFault => Status::WriteFault,
+            End::DiskFault | End::Broken => Status::DiskFault,
+            End::Memory => Status::Memory,
+        }
+    }
+
+    /// The status of an input that was judged.
+    pub fn of_verified(end: Verified) -> Status
+        ensures { result ≡ status_of_verified end }
+    {
+        match end {
+            Verified::Done => Status::Done,
+            Verified::ReadFault => Status::ReadFault,
+            Verified::WriteFault => Status::WriteFault,
+            Verified::Memory => Status::Memory,
+        }
+    }
+
+    /// The status of a store that was not opened.
+    pub fn of_refusal(why: OpenFault) -> Status
+        ensures { result ≡ status_of_refusal why }
+    {
+        match why {
+            OpenFault::DiskFault => Status::DiskFault,
+            OpenFault::Damaged { side, offset } => Status::Damaged { side, offset },
+            OpenFault::Memory => Status::Memory,
+        }
+    }
+
+    /// The exit status of the process.
+    pub fn code(self) -> u8
+        ensures { result ≡ code_of self }
+    {
+        match self {
+            Status::Done => 0,
+            Status::Usage => 1,
+            Status::ReadFault => 2,
+            Status::WriteFault => 3,
+            Status::DiskFault => 4,
+            Status::Damaged { .. } => 5,
+            Status::Memory => 7,
+        }
+    }
+}
