@@ -6,6 +6,10 @@ mod batches;
 #[cfg(test)]
 mod hashes;
 #[cfg(test)]
+mod lists;
+#[cfg(test)]
 mod paths;
+#[cfg(test)]
+mod pieces;
 #[cfg(test)]
 mod ranges;

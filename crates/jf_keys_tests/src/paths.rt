@@ -1,18 +1,9 @@
-// What keys, nibbles, paths and names look like from outside, and that calls succeed.
-use jf_path::*;
-use std::alloc::Global;
-use std::test::Fail;
-
-fn key(first: &[u8]) -> Key {
-    let mut key = [0; 32];
-    for (to, from) in key.iter_mut().zip(first) {
-        *to = *from;
-    }
-    key
-}
+// What keys, nibbles, paths and names look like from outside.
+use jf_path::{Key, Nibble, NibblePath, NodeName, PathFault, common_bits, nibble};
+use std::cmp::Ordering;
 
 // The path of these nibbles, up to 64 of them.
-fn path(nibbles: &[u8]) -> NibblePath {
+pub fn path(nibbles: &[u8]) -> NibblePath {
     let mut path = NibblePath::empty();
     for n in nibbles {
         if path.len() < 64
@@ -24,236 +15,232 @@ fn path(nibbles: &[u8]) -> NibblePath {
     path
 }
 
-fn name(version: u64, nibbles: &[u8]) -> NodeName {
+pub fn name(version: u64, nibbles: &[u8]) -> NodeName {
     NodeName {
         version,
         path: path(nibbles),
     }
 }
 
+fn is_nibble_below_16(n: u8) -> bool {
+    Nibble::new(n).map(|m| m.get()) == if n < 16 { Some(n) } else { None }
+}
+
+fn nibbles_have_an_order() -> bool {
+    Nibble::new(9) < Nibble::new(10) && Nibble::new(15) == Nibble::new(15)
+}
+
 #[test]
 fn nibbles_are_0_to_15_in_their_order(rt: HostRuntime) {
     for n in 0..=255 {
-        assert_eq!(rt;
-            Nibble::new(n).map(|m| m.get()),
-            if n < 16 { Some(n) } else { None }
-        );
+        assert!(rt; is_nibble_below_16(n), "{n}");
     }
-    assert!(rt; Nibble::new(9) < Nibble::new(10));
-    assert!(rt; Nibble::new(15) == Nibble::new(15));
+    assert!(rt; nibbles_have_an_order());
+}
+
+// Places of the nibbles of a key that begins with ab c0, goes on with zeros and ends with 5f, and the nibbles there.
+const NIBBLES: &[(usize, u8)] = &[
+    (0, 0xa),
+    (1, 0xb),
+    (2, 0xc),
+    (3, 0),
+    (61, 0),
+    (62, 5),
+    (63, 0xf),
+];
+
+fn marked_key() -> Key {
+    let mut key = [0; 32];
+    key[0] = 0xab;
+    key[1] = 0xc0;
+    key[31] = 0x5f;
+    key
+}
+
+fn has_nibble(key: &Key, i: usize, n: u8) -> bool {
+    let path = NibblePath::of_key(key);
+    path.len() == 64 && i < 64 && path.at(i).get() == n && nibble(key, i).get() == n
 }
 
 #[test]
 fn nibbles_of_a_key_begin_with_the_high_half_of_its_first_byte(rt: HostRuntime) {
-    let mut key = key(&[0xab, 0xc0]);
-    key[31] = 0x5f;
-    let path = NibblePath::of_key(&key);
-    assert_eq!(rt; path.len(), 64);
-    for (i, n) in [
-        (0, 0xa),
-        (1, 0xb),
-        (2, 0xc),
-        (3, 0),
-        (61, 0),
-        (62, 5),
-        (63, 0xf),
-    ] {
-        assert_eq!(rt; nibble(&key, i).get(), n, "{i}");
-        assert_eq!(rt;
-            if i < path.len() { path.at(i).get() } else { 99 },
-            n,
-            "{i}"
-        );
+    let key = marked_key();
+    for (i, n) in NIBBLES {
+        assert!(rt; has_nibble(&key, *i, *n), "{i}");
     }
+}
+
+// A byte of a key, what is changed in it, and the bits up to the first that differs.
+const COMMON: &[(usize, u8, u64)] = &[
+    (0, 0x80, 0),
+    (0, 0x01, 7),
+    (1, 0x80, 8),
+    (1, 0x13, 11),
+    (31, 0x02, 254),
+    (31, 0x01, 255),
+    (31, 0x00, 256),
+];
+
+fn agree_in(at: usize, mask: u8, common: u64) -> bool {
+    let key = [0x5a; 32];
+    let mut other = key;
+    match other.get_mut(at) {
+        Some(byte) => *byte ^= mask,
+        None => return false,
+    }
+    common_bits(&key, &other) == common
 }
 
 #[test]
 fn common_bits_end_at_the_first_that_differs(rt: HostRuntime) {
-    for (at, mask, common) in [
-        (0, 0x80, 0),
-        (0, 0x01, 7),
-        (1, 0x80, 8),
-        (1, 0x13, 11),
-        (31, 0x02, 254),
-        (31, 0x01, 255),
-        (31, 0x00, 256),
-    ] {
-        let mut other = [0x5a; 32];
-        other[at] ^= mask;
-        assert_eq!(rt; common_bits(&[0x5a; 32], &other), common, "{at} {mask}");
+    for (at, mask, common) in COMMON {
+        assert!(rt; agree_in(*at, *mask, *common), "{at} {mask}");
     }
+}
+
+// Paths and their bytes.
+const WRITTEN: &[(&[u8], &[u8])] = &[
+    (&[], &[0]),
+    (&[0xa], &[1, 0xa0]),
+    (&[0xa, 0xb], &[2, 0xab]),
+    (&[0xa, 0xb, 0xc], &[3, 0xab, 0xc0]),
+    (
+        &[9; 63],
+        &[
+            63, 0x99, 0x99, 0x99, 0x99, 0x99, 0x99, 0x99, 0x99, 0x99, 0x99, 0x99, 0x99, 0x99, 0x99,
+            0x99, 0x99, 0x99, 0x99, 0x99, 0x99, 0x99, 0x99, 0x99, 0x99, 0x99, 0x99, 0x99, 0x99,
+            0x99, 0x99, 0x99, 0x90,
+        ],
+    ),
+    (
+        &[9; 64],
+        &[
+            64, 0x99, 0x99, 0x99, 0x99, 0x99, 0x99, 0x99, 0x99, 0x99, 0x99, 0x99, 0x99, 0x99, 0x99,
+            0x99, 0x99, 0x99, 0x99, 0x99, 0x99, 0x99, 0x99, 0x99, 0x99, 0x99, 0x99, 0x99, 0x99,
+            0x99, 0x99, 0x99, 0x99,
+        ],
+    ),
+];
+
+// Whether these bytes are written, and none after them.
+fn is_written(path: &NibblePath, bytes: &[u8]) -> bool {
+    let mut out = [0xee; 33];
+    let count = path.to_bytes(&mut out);
+    out.get(..count) == Some(bytes) && out.iter().skip(count).all(|b| *b == 0xee)
+}
+
+fn is_written_and_read(nibbles: &[u8], bytes: &[u8]) -> bool {
+    let path = path(nibbles);
+    is_written(&path, bytes) && NibblePath::from_bytes(bytes) == Ok(path)
 }
 
 #[test]
 fn paths_have_a_count_and_two_nibbles_a_byte(rt: HostRuntime) {
-    let many = [9; 64];
-    let cases: [(&[u8], &[u8]); 6] = [
-        (&[], &[0]),
-        (&[0xa], &[1, 0xa0]),
-        (&[0xa, 0xb], &[2, 0xab]),
-        (&[0xa, 0xb, 0xc], &[3, 0xab, 0xc0]),
-        (
-            &many[..63],
-            &[
-                63, 0x99, 0x99, 0x99, 0x99, 0x99, 0x99, 0x99, 0x99, 0x99, 0x99, 0x99, 0x99, 0x99,
-                0x99, 0x99, 0x99, 0x99, 0x99, 0x99, 0x99, 0x99, 0x99, 0x99, 0x99, 0x99, 0x99, 0x99,
-                0x99, 0x99, 0x99, 0x99, 0x90,
-            ],
-        ),
-        (
-            &many,
-            &[
-                64, 0x99, 0x99, 0x99, 0x99, 0x99, 0x99, 0x99, 0x99, 0x99, 0x99, 0x99, 0x99, 0x99,
-                0x99, 0x99, 0x99, 0x99, 0x99, 0x99, 0x99, 0x99, 0x99, 0x99, 0x99, 0x99, 0x99, 0x99,
-                0x99, 0x99, 0x99, 0x99, 0x99,
-            ],
-        ),
-    ];
-    for (nibbles, bytes) in cases {
-        let mut out = [0xee; 33];
-        let count = path(nibbles).to_bytes(&mut out);
-        assert_eq!(rt; out.get(..count), Some(bytes));
-        assert!(rt; out.iter().skip(count).all(|b| *b == 0xee));
-        assert_eq!(rt; NibblePath::from_bytes(bytes), Ok(path(nibbles)));
+    for (nibbles, bytes) in WRITTEN {
+        assert!(rt; is_written_and_read(nibbles, bytes), "{nibbles:?}");
     }
+}
+
+const REFUSED: &[(&[u8], PathFault)] = &[
+    (&[], PathFault::Length),
+    (&[0, 0], PathFault::Length),
+    (&[1], PathFault::Length),
+    (&[3, 0xab], PathFault::Length),
+    (&[3, 0xab, 0xc0, 0], PathFault::Length),
+    (&[65; 34], PathFault::Length),
+    (&[255; 129], PathFault::Length),
+    (&[1, 0xa1], PathFault::Padding),
+    (&[3, 0xab, 0xcd], PathFault::Padding),
+    (&[3, 0xab, 0xc8, 0], PathFault::Length),
+];
+
+fn is_refused(bytes: &[u8], fault: PathFault) -> bool {
+    NibblePath::from_bytes(bytes) == Err(fault)
 }
 
 #[test]
 fn bytes_of_no_path_are_refused(rt: HostRuntime) {
-    let cases: [(&[u8], PathFault); 10] = [
-        (&[], PathFault::Length),
-        (&[0, 0], PathFault::Length),
-        (&[1], PathFault::Length),
-        (&[3, 0xab], PathFault::Length),
-        (&[3, 0xab, 0xc0, 0], PathFault::Length),
-        (&[65; 34], PathFault::Length),
-        (&[255; 129], PathFault::Length),
-        (&[1, 0xa1], PathFault::Padding),
-        (&[3, 0xab, 0xcd], PathFault::Padding),
-        (&[3, 0xab, 0xc8, 0], PathFault::Length),
-    ];
-    for (bytes, fault) in cases {
-        assert_eq!(rt; NibblePath::from_bytes(bytes), Err(fault));
+    for (bytes, fault) in REFUSED {
+        assert!(rt; is_refused(bytes, *fault), "{bytes:?}");
     }
+}
+
+const RISING_PATHS: &[&[u8]] = &[
+    &[],
+    &[0],
+    &[0, 0],
+    &[0, 15],
+    &[1],
+    &[1, 0, 0, 0],
+    &[1, 2],
+    &[15],
+];
+
+fn are_paths_in_order(a: &NibblePath, b: &NibblePath, order: Ordering) -> bool {
+    a.cmp(b) == order && (a == b) == order.is_eq()
+}
+
+// Whether a path stands among the rising ones at this place.
+fn is_path_at(i: usize, a: &NibblePath) -> bool {
+    for (j, b) in RISING_PATHS.iter().enumerate() {
+        if !are_paths_in_order(a, &path(b), i.cmp(&j)) {
+            return false;
+        }
+    }
+    true
 }
 
 #[test]
 fn paths_stand_in_the_order_of_lists(rt: HostRuntime) {
-    let rising = [
-        path(&[]),
-        path(&[0]),
-        path(&[0, 0]),
-        path(&[0, 15]),
-        path(&[1]),
-        path(&[1, 0, 0, 0]),
-        path(&[1, 2]),
-        path(&[15]),
-    ];
-    for (i, a) in rising.iter().enumerate() {
-        for (j, b) in rising.iter().enumerate() {
-            assert_eq!(rt; a.cmp(b), i.cmp(&j), "{i} {j}");
-            assert_eq!(rt; a == b, i == j, "{i} {j}");
-        }
+    for (i, nibbles) in RISING_PATHS.iter().enumerate() {
+        assert!(rt; is_path_at(i, &path(nibbles)), "{i}");
     }
+}
+
+// Paths, what they may begin with, and whether they do.
+const FRONTS: &[(&[u8], &[u8], bool)] = &[
+    (&[], &[], true),
+    (&[0], &[], true),
+    (&[0, 0], &[0], true),
+    (&[0], &[0, 0], false),
+    (&[1, 0, 0, 0], &[1], true),
+    (&[1, 2], &[1, 0], false),
+    (&[15], &[15], true),
+];
+
+fn begins_with(whole: &[u8], front: &[u8]) -> bool {
+    path(whole).starts_with(&path(front))
 }
 
 #[test]
 fn a_path_starts_with_each_list_that_it_goes_through(rt: HostRuntime) {
-    let cases: [(&[u8], &[u8], bool); 7] = [
-        (&[], &[], true),
-        (&[0], &[], true),
-        (&[0, 0], &[0], true),
-        (&[0], &[0, 0], false),
-        (&[1, 0, 0, 0], &[1], true),
-        (&[1, 2], &[1, 0], false),
-        (&[15], &[15], true),
-    ];
-    for (whole, front, starts) in cases {
-        assert_eq!(rt; path(whole).starts_with(&path(front)), starts);
+    for (whole, front, starts) in FRONTS {
+        assert!(rt; begins_with(whole, front) == *starts, "{whole:?}");
     }
+}
+
+const RISING_NAMES: &[(u64, &[u8])] = &[
+    (0, &[]),
+    (0, &[15, 15]),
+    (1, &[]),
+    (1, &[0]),
+    (1, &[1]),
+    (u64::MAX, &[]),
+];
+
+// Whether a name stands among the rising ones at this place.
+fn is_name_at(i: usize, a: &NodeName) -> bool {
+    for (j, (version, nibbles)) in RISING_NAMES.iter().enumerate() {
+        if a.cmp(&name(*version, nibbles)) != i.cmp(&j) {
+            return false;
+        }
+    }
+    true
 }
 
 #[test]
 fn names_stand_by_version_and_then_by_path(rt: HostRuntime) {
-    let rising = [
-        name(0, &[]),
-        name(0, &[15, 15]),
-        name(1, &[]),
-        name(1, &[0]),
-        name(1, &[1]),
-        name(u64::MAX, &[]),
-    ];
-    for (i, a) in rising.iter().enumerate() {
-        for (j, b) in rising.iter().enumerate() {
-            assert_eq!(rt; a.cmp(b), i.cmp(&j), "{i} {j}");
-        }
+    for (i, (version, nibbles)) in RISING_NAMES.iter().enumerate() {
+        assert!(rt; is_name_at(i, &name(*version, nibbles)), "{i}");
     }
-}
-
-#[test]
-fn bytes_take_room_and_fill_it(rt: HostRuntime) -> Result<(), Fail> {
-    let mut bytes = Bytes::with_capacity(rt.alloc(), 3)?;
-    bytes.append(b"ab")?;
-    bytes.push(b'c')?;
-    assert_eq!(rt; bytes.as_slice(), b"abc".as_slice());
-    Ok(())
-}
-
-fn leaf(alloc: Global, value: &[u8]) -> Result<PlainNode, Memory> {
-    Ok(PlainNode::Leaf {
-        key: [7; 32],
-        value: Bytes::copy_of(alloc, value)?,
-    })
-}
-
-#[test]
-fn lists_have_what_was_added_in_order(rt: HostRuntime) -> Result<(), Fail> {
-    let alloc = rt.alloc();
-    let mut children = Children::new(alloc);
-    if let Some(nibble) = Nibble::new(11) {
-        children.push(Child {
-            nibble,
-            version: 4,
-            hash: [1; 32],
-            leaf: true,
-            count: 0,
-        })?;
-    }
-    assert_eq!(rt;
-        (
-            children.len(),
-            children.as_slice().first().map(|c| c.nibble.get())
-        ),
-        (1, Some(11))
-    );
-    let mut fresh = FreshList::new(alloc);
-    fresh.push((name(4, &[]), PlainNode::Inner { children }))?;
-    assert_eq!(rt; (fresh.len(), fresh.as_slice().len()), (1, 1));
-    let mut names = NameList::new(alloc);
-    names.push(name(9, &[1, 2]))?;
-    assert_eq!(rt;
-        (names.len(), names.as_slice()),
-        (1, [name(9, &[1, 2])].as_slice())
-    );
-    let mut live = LiveList::new(alloc);
-    live.push((name(2, &[]), PlainNode::Null, 5))?;
-    live.push((name(1, &[]), leaf(alloc, b"v")?, u64::MAX))?;
-    assert_eq!(rt; live.len(), 2);
-    for ((name, _node, since), expected) in live.as_slice().iter().zip([(2, 5), (1, u64::MAX)]) {
-        assert_eq!(rt; (name.version, *since), expected);
-    }
-    let mut hashes = HashList::new(alloc);
-    hashes.push([2; 32])?;
-    hashes.push([1; 32])?;
-    assert_eq!(rt;
-        (hashes.len(), hashes.as_slice()),
-        (2, [[2; 32], [1; 32]].as_slice())
-    );
-    let mut pairs = Pairs::new(alloc);
-    pairs.push(([3; 32], Bytes::copy_of(alloc, b"w")?))?;
-    assert_eq!(rt; pairs.len(), 1);
-    for (key, value) in pairs.as_slice() {
-        assert_eq!(rt; (*key, value.as_slice()), ([3; 32], b"w".as_slice()));
-    }
-    Ok(())
 }

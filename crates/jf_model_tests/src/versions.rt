@@ -1,7 +1,8 @@
 // Roots by Python's `hashlib`, by the recursion that defines them.
 use jf_hash::{Hash, key_of};
-use jf_plain::*;
-use jf_split::Batch;
+use jf_plain::{PlainMap, PlainVersions};
+use jf_split::{Batch, BatchFault};
+use std::alloc::Global;
 use std::test::Fail;
 
 // No key.
@@ -28,66 +29,138 @@ const THIRD: Hash = [
     16, 129, 109, 173, 207, 138, 93, 239, 22, 44, 192, 107,
 ];
 
-#[test]
-fn landings_have_the_roots_of_their_maps(rt: HostRuntime) -> Result<(), Fail> {
-    let mut versions = PlainVersions::new(rt.alloc())?;
-    assert_eq!(rt; versions.root(), EMPTY);
+// A name, and what is put at its key, one byte, or None if the key is to be removed.
+type Change = (&'static [u8], Option<u8>);
 
-    let mut batch = Batch::new(rt.alloc());
-    batch.put(rt.alloc(), &key_of(b"b"), b"2")?;
-    batch.put(rt.alloc(), &key_of(b"a"), b"1")?;
-    assert!(rt; versions.head() < 9);
-    versions.land(rt.alloc(), &batch)?;
-    assert_eq!(rt; versions.root(), FIRST);
+// What is landed, and the root of the map then.
+const LANDINGS: &[(&[Change], Hash)] = &[
+    (&[(b"b", Some(b'2')), (b"a", Some(b'1'))], FIRST),
+    (&[(b"c", Some(b'3'))], SECOND),
+    (
+        &[(b"a", Some(b'9')), (b"b", None), (b"absent", None)],
+        THIRD,
+    ),
+    (&[], THIRD),
+];
 
-    let mut batch = Batch::new(rt.alloc());
-    batch.put(rt.alloc(), &key_of(b"c"), b"3")?;
-    assert!(rt; versions.head() < 9);
-    versions.land(rt.alloc(), &batch)?;
-    assert_eq!(rt; versions.root(), SECOND);
-
-    let mut batch = Batch::new(rt.alloc());
-    batch.put(rt.alloc(), &key_of(b"a"), b"9")?;
-    batch.del(rt.alloc(), &key_of(b"b"))?;
-    batch.del(rt.alloc(), &key_of(b"absent"))?;
-    assert!(rt; versions.head() < 9);
-    versions.land(rt.alloc(), &batch)?;
-    assert_eq!(rt; versions.root(), THIRD);
-
-    assert!(rt; versions.head() < 9);
-    versions.land(rt.alloc(), &Batch::new(rt.alloc()))?;
-    assert_eq!(rt; versions.head(), 4);
-    for (version, root) in [(0, EMPTY), (1, FIRST), (2, SECOND), (3, THIRD), (4, THIRD)] {
-        assert_eq!(rt; versions.root_of(version), Some(root), "version {version}");
+fn change(alloc: Global, batch: &mut Batch, change: &Change) -> Result<(), BatchFault> {
+    match change {
+        (name, Some(byte)) => batch.put(alloc, &key_of(name), &[*byte]),
+        (name, None) => batch.del(alloc, &key_of(name)),
     }
-    assert_eq!(rt; versions.root_of(5), None);
+}
 
-    assert!(rt; 0 < versions.head());
-    versions.undo();
-    assert_eq!(rt; versions.head(), 3);
-    assert_eq!(rt; versions.root(), THIRD);
+fn batch_of(alloc: Global, changes: &[Change]) -> Result<Batch, BatchFault> {
+    let mut batch = Batch::new(alloc);
+    for one in changes {
+        change(alloc, &mut batch, one)?;
+    }
+    Ok(batch)
+}
+
+fn land(alloc: Global, versions: &mut PlainVersions, changes: &[Change]) -> Result<(), Fail> {
+    let batch = batch_of(alloc, changes)?;
+    if versions.head() >= 9 {
+        return Err(Fail::new("too many landings"));
+    }
+    versions.land(alloc, &batch)?;
     Ok(())
 }
 
+// Whether these changes are landed, and the root is this one then.
+fn lands(
+    alloc: Global,
+    versions: &mut PlainVersions,
+    changes: &[Change],
+    root: &Hash,
+) -> Result<bool, Fail> {
+    land(alloc, versions, changes)?;
+    Ok(versions.root() == *root)
+}
+
+// Versions and their roots, None above the newest.
+const ROOTS: &[(u64, Option<Hash>)] = &[
+    (0, Some(EMPTY)),
+    (1, Some(FIRST)),
+    (2, Some(SECOND)),
+    (3, Some(THIRD)),
+    (4, Some(THIRD)),
+    (5, None),
+];
+
+fn has_roots(versions: &PlainVersions) -> bool {
+    for (version, root) in ROOTS {
+        if versions.root_of(*version) != *root {
+            return false;
+        }
+    }
+    versions.head() == 4
+}
+
+// Whether the newest version is taken back.
+fn goes_back(versions: &mut PlainVersions) -> bool {
+    if versions.head() == 0 {
+        return false;
+    }
+    versions.undo();
+    versions.head() == 3 && versions.root() == THIRD
+}
+
+#[test]
+fn landings_have_the_roots_of_their_maps(rt: HostRuntime) -> Result<(), Fail> {
+    let mut versions = PlainVersions::new(rt.alloc())?;
+    assert!(rt; versions.root() == EMPTY);
+    for (changes, root) in LANDINGS {
+        assert!(rt;
+            lands(rt.alloc(), &mut versions, changes, root)?,
+            "{changes:?}"
+        );
+    }
+    assert!(rt; has_roots(&versions));
+    assert!(rt; goes_back(&mut versions));
+    Ok(())
+}
+
+// What is landed at one key, version by version.
+const VALUES: &[&[Change]] = &[&[(b"a", Some(b'x'))], &[(b"a", Some(b'y'))]];
+
+fn versions_of_values(alloc: Global) -> Result<PlainVersions, Fail> {
+    let mut versions = PlainVersions::new(alloc)?;
+    for changes in VALUES {
+        land(alloc, &mut versions, changes)?;
+    }
+    Ok(versions)
+}
+
+fn first_at(map: &PlainMap, name: &[u8]) -> Option<u8> {
+    match map.get(&key_of(name)) {
+        Some(bytes) => bytes.first().copied(),
+        None => None,
+    }
+}
+
+// The value at the key in a version, or None if the version is not there.
+fn value_in(versions: &PlainVersions, version: u64) -> Option<Option<u8>> {
+    match versions.map_of(version) {
+        Some(map) => Some(first_at(map, b"a")),
+        None => None,
+    }
+}
+
+// The values by version; there is no version 3.
+const KEPT: &[(u64, Option<Option<u8>>)] = &[
+    (0, Some(None)),
+    (1, Some(Some(b'x'))),
+    (2, Some(Some(b'y'))),
+    (3, None),
+];
+
 #[test]
 fn each_version_keeps_its_values(rt: HostRuntime) -> Result<(), Fail> {
-    let key = key_of(b"a");
-    let mut versions = PlainVersions::new(rt.alloc())?;
-    for value in [b"x", b"y"] {
-        let mut batch = Batch::new(rt.alloc());
-        batch.put(rt.alloc(), &key, value)?;
-        assert!(rt; versions.head() < 9);
-        versions.land(rt.alloc(), &batch)?;
+    let versions = versions_of_values(rt.alloc())?;
+    for (version, value) in KEPT {
+        assert!(rt; value_in(&versions, *version) == *value, "{version}");
     }
-    for (version, value) in [(0, None), (1, Some(b'x')), (2, Some(b'y'))] {
-        let map = versions.map_of(version).ok_or("no map")?;
-        let first = match map.get(&key) {
-            Some(bytes) => bytes.first().copied(),
-            None => None,
-        };
-        assert_eq!(rt; first, value, "version {version}");
-    }
-    assert_eq!(rt; versions.newest().len(), 1);
-    assert!(rt; versions.map_of(3).is_none());
+    assert!(rt; versions.newest().len() == 1);
     Ok(())
 }
