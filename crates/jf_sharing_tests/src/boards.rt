@@ -109,18 +109,19 @@ fn holds_as(owner: u64, board: &Board, place: &mut Place, pruner: &mut Pruner) -
         place: 0,
         version: 7,
     };
-    let pinned = place.number() == owner && place.pin(board, 7) == Ok(0);
+    let numbered = place.number() == owner;
+    let pinned = place.pin(board, 7) == Ok(0);
     pruner.raise(board, 9);
-    pinned
-        && cuts_at(
-            board,
-            pruner,
-            place,
-            Scan {
-                low: 7,
-                held: Some(held),
-            },
-        )
+    let stays = cuts_at(
+        board,
+        pruner,
+        place,
+        Scan {
+            low: 7,
+            held: Some(held),
+        },
+    );
+    numbered && pinned && stays
 }
 
 // Whether the last place of a board of that many holds the first gate.
