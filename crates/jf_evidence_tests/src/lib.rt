@@ -7,3 +7,5 @@ mod audits;
 mod proofs;
 #[cfg(test)]
 mod small_maps;
+#[cfg(test)]
+mod two_entries;

@@ -1,8 +1,8 @@
 // Proofs of maps of no entry and of one.
 use jf_hash::{Hash, key_of, value};
 use jf_node::{Link, Snapshot};
-use jf_path::Memory;
-use jf_proof::{prove, verify};
+use jf_path::{Key, Memory};
+use jf_proof::{Proof, prove, verify};
 use std::alloc::Global;
 use std::test::Fail;
 
@@ -12,27 +12,44 @@ fn one(alloc: Global, key: &Hash) -> Result<Snapshot, Memory> {
     Ok(Snapshot::of(1, Some(top)))
 }
 
+// Whether the proof has that leaf and no sibling, and shows the claim.
+fn shows(
+    root: &Hash,
+    key: &Key,
+    claim: Option<&str>,
+    proof: &Proof,
+    leaf: Option<(Key, Hash)>,
+) -> bool {
+    proof.leaf == leaf
+        && proof.siblings.len() == 0
+        && verify(root, key, claim.map(str::as_bytes), proof).is_ok()
+}
+
+// Whether the map's proof of a name has that leaf, and shows the claim.
+fn is_shown(
+    alloc: Global,
+    snapshot: &Snapshot,
+    name: &str,
+    claim: Option<&str>,
+    leaf: Option<(Key, Hash)>,
+) -> Result<bool, Memory> {
+    let key = key_of(name.as_bytes());
+    let proof = prove(alloc, snapshot, &key)?;
+    Ok(shows(&snapshot.root(), &key, claim, &proof, leaf))
+}
+
 #[test]
 fn the_empty_map_shows_that_a_key_is_absent(rt: HostRuntime) -> Result<(), Fail> {
-    let snapshot = Snapshot::empty(1);
-    let x = key_of(b"x");
-    let proof = prove(rt.alloc(), &snapshot, &x)?;
-    assert_eq!(rt; (proof.leaf, proof.siblings.len()), (None, 0));
-    assert_eq!(rt; verify(&snapshot.root(), &x, None, &proof), Ok(()));
+    assert!(rt; is_shown(rt.alloc(), &Snapshot::empty(1), "x", None, None)?);
     Ok(())
 }
 
 #[test]
 fn one_entry_shows_its_value_and_that_others_are_absent(rt: HostRuntime) -> Result<(), Fail> {
-    let alloc = rt.alloc();
     let x = key_of(b"x");
-    let snapshot = one(alloc, &x)?;
-    let root = snapshot.root();
-    let own = prove(alloc, &snapshot, &x)?;
-    assert_eq!(rt; own.leaf, Some((x, value(b"one"))));
-    assert_eq!(rt; verify(&root, &x, Some(b"one"), &own), Ok(()));
-    let other = prove(alloc, &snapshot, &key_of(b"z24"))?;
-    assert_eq!(rt; other.leaf, Some((x, value(b"one"))));
-    assert_eq!(rt; verify(&root, &key_of(b"z24"), None, &other), Ok(()));
+    let snapshot = one(rt.alloc(), &x)?;
+    let leaf = Some((x, value(b"one")));
+    assert!(rt; is_shown(rt.alloc(), &snapshot, "x", Some("one"), leaf)?);
+    assert!(rt; is_shown(rt.alloc(), &snapshot, "z24", None, leaf)?);
     Ok(())
 }

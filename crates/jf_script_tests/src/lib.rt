@@ -2,4 +2,6 @@
 #![tactic(auto)]
 
 #[cfg(test)]
-mod texts;
+mod lines;
+#[cfg(test)]
+mod replies;

@@ -95,25 +95,37 @@ fn close_at_once(turn: Turn<Marks>, seats: Vec<Seat<Marks>>) -> Marks
     turn.close(seat)
 }
 
+// Whether there are so many seats, numbered from 0 on, which have seen nothing.
+fn are_unused(seats: &[Seat<Marks>], count: u64) -> bool {
+    let mut number: u64 = 0;
+    for seat in seats {
+        if seat.number() != number || seat.seen() != 0 {
+            return false;
+        }
+        number = number.wrapping_add(1);
+    }
+    number == count
+}
+
+// Whether a turn of so many seats, which nobody takes, ends with the list that it began with.
+fn ends_as_it_began(alloc: Global, count: u64) -> Result<bool, Fail>
+    requires { (1 ≤ count) × (count ≤ 16) }
+{
+    let (turn, seats) = new_turn(alloc, count).ok().ok_or("no memory")?;
+    let unused = are_unused(seats.as_slice(), count);
+    let marks = close_at_once(turn, seats);
+    Ok(unused && marks.told() == 0 && marks.origin == 7)
+}
+
 #[test]
 fn one_seat_and_sixteen(rt: HostRuntime) -> Result<(), Fail> {
-    for count in [1, 2, 16] {
-        let (turn, seats) = new_turn(rt.alloc(), count).ok().ok_or("no memory")?;
-        let mut number = 0;
-        for seat in seats.iter() {
-            assert_eq!(rt; seat.number(), number);
-            assert_eq!(rt; seat.seen(), 0);
-            number = seat.number().wrapping_add(1);
-        }
-        assert_eq!(rt; number, count);
-        let marks = close_at_once(turn, seats);
-        assert_eq!(rt; marks.told(), 0);
-        assert_eq!(rt; marks.origin, 7);
-    }
+    assert!(rt; ends_as_it_began(rt.alloc(), 1)?);
+    assert!(rt; ends_as_it_began(rt.alloc(), 2)?);
+    assert!(rt; ends_as_it_began(rt.alloc(), 16)?);
     Ok(())
 }
 
-// Takes the turn, and gives it back with one mark more. Answers whether there was memory for it.
+// Takes the turn, and gives it back with one mark more. Returns whether there was memory for it.
 fn write_once<H: Wait>(rt: &H, turn: &Turn<Marks>, seat: &mut Seat<Marks>, place: u64) -> bool
     requires { IsSeatOf seat.old turn.now × (seat.old.taken ≡ None) }
     ensures { IsSeatOf seat.new turn.now × (seat.new.taken ≡ None) × (seat.new.numbers ≡ seat.old.numbers) }
@@ -139,7 +151,7 @@ fn write_all<H: Wait>(rt: &H, turn: &Turn<Marks>, mut seat: Seat<Marks>) -> (Sea
     (seat, all)
 }
 
-// Copies the list anew. Answers whether it goes on from the copy before, and there was memory.
+// Copies the list anew. Returns whether it goes on from the copy before, and there was memory.
 fn look<H: Wait>(rt: &H, turn: &Turn<Marks>, seat: &mut Seat<Marks>, copy: &mut Vec<Mark>) -> bool
     requires { IsSeatOf seat.old turn.now × (seat.old.taken ≡ None) }
     ensures { IsSeatOf seat.new turn.now × (seat.new.taken ≡ None) × (seat.new.numbers ≡ seat.old.numbers) }
@@ -228,7 +240,7 @@ fn finish(turn: Turn<Marks>, mut one: Seat<Marks>, two: Seat<Marks>, three: Seat
     turn.close(one)
 }
 
-// How often an owner wrote, or none where its marks stand out of order.
+// How often an owner wrote, or none if its marks are out of order.
 fn in_order(marks: &[Mark], owner: u64) -> Option<u64> {
     let mut next: u64 = 0;
     for mark in marks {
@@ -242,31 +254,76 @@ fn in_order(marks: &[Mark], owner: u64) -> Option<u64> {
     Some(next)
 }
 
+// What the three seats come to, with what the reader copied last.
+struct Met {
+    one: Seat<Marks>,
+    two: Seat<Marks>,
+    three: Seat<Marks>,
+    copy: Vec<Mark>,
+    // Whether all was written, and each copy went on from the one before.
+    well: bool,
+}
+
+// Two writers and a reader, each in a thread of its own.
+fn meet<H: Threads + Wait + Sync>(
+    rt: &H,
+    alloc: Global,
+    turn: &Turn<Marks>,
+    one: Seat<Marks>,
+    two: Seat<Marks>,
+    three: Seat<Marks>,
+) -> Met
+    requires one { IsSeatOf one turn.now × (one.taken ≡ None) }
+    requires two { IsSeatOf two turn.now × (two.taken ≡ None) }
+    requires three { IsSeatOf three turn.now × (three.taken ≡ None) }
+    ensures own { IsSeatOf result.one turn.now × IsSeatOf result.two turn.now × IsSeatOf result.three turn.now }
+    ensures idle { (result.one.taken ≡ None) × (result.two.taken ≡ None) × (result.three.taken ≡ None) }
+    ensures numbers { (result.one.numbers ≡ one.numbers) × (result.two.numbers ≡ two.numbers) × (result.three.numbers ≡ three.numbers) }
+{
+    let ((one, one_wrote), ((two, two_wrote), (three, copy, looked))) = thread::join(
+        rt,
+        move || -> (Seat<Marks>, bool)
+            requires { IsSeatOf one turn.now × (one.taken ≡ None) }
+            ensures { IsSeatOf result.0 turn.entry.now × (result.0.taken ≡ None) × (result.0.numbers ≡ one.numbers) }
+        { write_all(rt, turn, one) },
+        move || -> ((Seat<Marks>, bool), (Seat<Marks>, Vec<Mark>, bool))
+            requires two { IsSeatOf two turn.now × (two.taken ≡ None) }
+            requires three { IsSeatOf three turn.now × (three.taken ≡ None) }
+            ensures two { IsSeatOf result.0.0 turn.entry.now × (result.0.0.taken ≡ None) × (result.0.0.numbers ≡ two.numbers) }
+            ensures three { IsSeatOf result.1.0 turn.entry.now × (result.1.0.taken ≡ None) × (result.1.0.numbers ≡ three.numbers) }
+        { write_and_look(rt, alloc, turn, two, three) },
+    );
+    Met {
+        one,
+        two,
+        three,
+        copy,
+        well: one_wrote && two_wrote && looked,
+    }
+}
+
+// Whether each writer's marks are all there, in order, and the reader's copy begins them.
+fn are_all_written(marks: &Marks, copy: &[Mark]) -> bool {
+    let marks = marks.marks.as_slice();
+    marks.len() as u64 == 2 * WRITES
+        && in_order(marks, 0) == Some(WRITES)
+        && in_order(marks, 1) == Some(WRITES)
+        && marks.starts_with(copy)
+}
+
 #[test]
 fn two_writers_and_a_reader(rt: HostRuntime) -> Result<(), Fail> {
-    let alloc = rt.alloc();
-    let (turn, one, two, three) = turn_of_three(alloc).ok().ok_or("no memory")?;
-    let shared = &turn;
-    let handle = &rt;
-    let ((one, one_wrote), ((two, two_wrote), (three, copy, looked))) = thread::join(
-        &rt,
-        move || -> (Seat<Marks>, bool)
-            requires { IsSeatOf one shared.now × (one.taken ≡ None) }
-            ensures { IsSeatOf result.0 shared.entry.now × (result.0.taken ≡ None) × (result.0.numbers ≡ one.numbers) }
-        { write_all(handle, shared, one) },
-        move || -> ((Seat<Marks>, bool), (Seat<Marks>, Vec<Mark>, bool))
-            requires two { IsSeatOf two shared.now × (two.taken ≡ None) }
-            requires three { IsSeatOf three shared.now × (three.taken ≡ None) }
-            ensures two { IsSeatOf result.0.0 shared.entry.now × (result.0.0.taken ≡ None) × (result.0.0.numbers ≡ two.numbers) }
-            ensures three { IsSeatOf result.1.0 shared.entry.now × (result.1.0.taken ≡ None) × (result.1.0.numbers ≡ three.numbers) }
-        { write_and_look(handle, alloc, shared, two, three) },
-    );
-    assert_eq!(rt; three.seen(), copy.len() as u64);
+    let (turn, one, two, three) = turn_of_three(rt.alloc()).ok().ok_or("no memory")?;
+    let met = meet(&rt, rt.alloc(), &turn, one, two, three);
+    let Met {
+        one,
+        two,
+        three,
+        copy,
+        well,
+    } = met;
+    assert!(rt; well && three.seen() == copy.len() as u64);
     let marks = finish(turn, one, two, three);
-    assert!(rt; one_wrote && two_wrote && looked);
-    assert_eq!(rt; marks.told(), 2 * WRITES);
-    assert_eq!(rt; in_order(marks.marks.as_slice(), 0), Some(WRITES));
-    assert_eq!(rt; in_order(marks.marks.as_slice(), 1), Some(WRITES));
-    assert!(rt; marks.marks.as_slice().starts_with(copy.as_slice()));
+    assert!(rt; marks.told() == 2 * WRITES && are_all_written(&marks, copy.as_slice()));
     Ok(())
 }
