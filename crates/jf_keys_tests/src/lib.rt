@@ -1,0 +1,11 @@
+//! Tests of keys, paths, hashes and batches.
+#![tactic(auto)]
+
+#[cfg(test)]
+mod batches;
+#[cfg(test)]
+mod hashes;
+#[cfg(test)]
+mod paths;
+#[cfg(test)]
+mod ranges;

@@ -1,0 +1,5 @@
+//! Tests of lines and replies.
+#![tactic(auto)]
+
+#[cfg(test)]
+mod texts;
