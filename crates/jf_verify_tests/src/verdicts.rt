@@ -1,9 +1,9 @@
 // Inputs with what they are answered. Keys and hashes are from outside, by Python's hashlib. Lists that collide aren't known.
-use crate::{Judge, judge_text};
 use jf_blocks::write_proof;
 use jf_hash::{empty, key_of, leaf, value};
 use jf_path::{Bytes, HashList, Memory};
 use jf_proof::Proof;
+use jf_verify::{Judge, judge_text};
 use std::alloc::Global;
 use std::test::Fail;
 
@@ -108,54 +108,65 @@ const INPUTS: &[(&[&str], &'static str)] = &[
     ),
 ];
 
-fn answer(alloc: Global, parts: &[&str]) -> Result<Bytes, Memory> {
+// These parts, one after another.
+fn joined(alloc: Global, parts: &[&str]) -> Result<Bytes, Memory> {
     let mut text = Bytes::new(alloc);
     for part in parts {
         text.append(part.as_bytes())?;
     }
-    let mut out = Bytes::new(alloc);
-    judge_text(alloc, text.as_slice(), &mut out)?;
-    Ok(out)
+    Ok(text)
 }
 
-// The first wanted answer that isn't given.
-fn first_wrong(
-    alloc: Global,
-    inputs: &[(&[&str], &'static str)],
-) -> Result<Option<&'static str>, Memory> {
-    for (parts, wanted) in inputs {
-        let out = answer(alloc, parts)?;
-        if out.as_slice() != wanted.as_bytes() {
-            return Ok(Some(*wanted));
-        }
+fn same(text: &Bytes, wanted: &str) -> Result<(), Fail> {
+    if text.as_slice() == wanted.as_bytes() {
+        Ok(())
+    } else {
+        Err(Fail::new("another text was given"))
     }
-    Ok(None)
+}
+
+fn is_answered(alloc: Global, input: &Bytes, wanted: &str) -> Result<(), Fail> {
+    let mut out = Bytes::new(alloc);
+    judge_text(alloc, input.as_slice(), &mut out)?;
+    same(&out, wanted)
+}
+
+fn are_answered(alloc: Global, parts: &[&str], wanted: &str) -> Result<(), Fail> {
+    let input = joined(alloc, parts)?;
+    is_answered(alloc, &input, wanted)
 }
 
 #[test]
 fn inputs_are_answered(rt: HostRuntime) -> Result<(), Fail> {
-    assert_eq!(rt; first_wrong(rt.alloc(), INPUTS)?, None);
+    for (parts, wanted) in INPUTS {
+        are_answered(rt.alloc(), parts, wanted)?;
+    }
     Ok(())
 }
 
+// Judges these lines, each given without its line feed, and the end of the input after them.
+fn lines_are_answered(alloc: Global, lines: &[&[u8]], wanted: &str) -> Result<(), Fail> {
+    let mut judge = Judge::new(alloc);
+    let mut out = Bytes::new(alloc);
+    for line in lines {
+        judge.line(alloc, line, &mut out)?;
+    }
+    judge.end(alloc, &mut out)?;
+    same(&out, wanted)
+}
+
+// A line of one byte more than is read.
+const LONG: &[u8] = &[b'0'; 8501];
+
 #[test]
 fn a_long_line_is_judged_by_its_length(rt: HostRuntime) -> Result<(), Fail> {
-    let mut judge = Judge::new(rt.alloc());
-    let mut out = Bytes::new(rt.alloc());
-    judge.line(rt.alloc(), ROOT.trim_end().as_bytes(), &mut out)?;
-    judge.line(rt.alloc(), &[b'0'; 8501], &mut out)?;
-    judge.line(rt.alloc(), b"proof 0", &mut out)?;
-    judge.end(rt.alloc(), &mut out)?;
-    assert_eq!(rt; out.as_slice(), b"syntax 2\nsyntax 4\n".as_slice());
-    Ok(())
+    let lines = [ROOT.trim_end().as_bytes(), LONG, b"proof 0".as_slice()];
+    lines_are_answered(rt.alloc(), &lines, "syntax 2\nsyntax 4\n")
 }
 
 // A block of this many siblings.
 fn deep(alloc: Global, siblings: u64) -> Result<Bytes, Memory> {
-    let mut text = Bytes::new(alloc);
-    for part in [ROOT, "proof 257\n", NAME, CLAIM, LEAF] {
-        text.append(part.as_bytes())?;
-    }
+    let mut text = joined(alloc, &[ROOT, "proof 257\n", NAME, CLAIM, LEAF])?;
     for _ in 0..siblings {
         text.append(b"side 6e340b9cffb37a989ca544e6bb780a2c78901d3fb33738768511a30617afa01d\n")?;
     }
@@ -164,28 +175,30 @@ fn deep(alloc: Global, siblings: u64) -> Result<Bytes, Memory> {
 
 #[test]
 fn a_proof_of_257_siblings_is_too_deep(rt: HostRuntime) -> Result<(), Fail> {
-    let text = deep(rt.alloc(), 257)?;
-    let mut out = Bytes::new(rt.alloc());
-    judge_text(rt.alloc(), text.as_slice(), &mut out)?;
-    assert_eq!(rt; out.as_slice(), b"refused 1\n".as_slice());
-    Ok(())
+    let input = deep(rt.alloc(), 257)?;
+    is_answered(rt.alloc(), &input, "refused 1\n")
+}
+
+// The proof of `a` in the map that has `22` at `b` too.
+fn proof_of_two(alloc: Global) -> Result<Proof, Memory> {
+    let mut siblings = HashList::new(alloc);
+    siblings.push(leaf(&key_of(b"b"), &value(b"22")))?;
+    siblings.push(empty())?;
+    Ok(Proof {
+        leaf: Some((key_of(b"a"), value(b"1"))),
+        siblings,
+    })
+}
+
+fn is_written(alloc: Global, proof: &Proof, wanted: &[&str]) -> Result<bool, Memory> {
+    let mut out = Bytes::new(alloc);
+    write_proof(b"a", Some(b"1"), proof, &mut out)?;
+    Ok(out.as_slice() == joined(alloc, wanted)?.as_slice())
 }
 
 #[test]
 fn a_proof_is_written_in_lines(rt: HostRuntime) -> Result<(), Fail> {
-    let mut siblings = HashList::new(rt.alloc());
-    siblings.push(leaf(&key_of(b"b"), &value(b"22")))?;
-    siblings.push(empty())?;
-    let proof = Proof {
-        leaf: Some((key_of(b"a"), value(b"1"))),
-        siblings,
-    };
-    let mut out = Bytes::new(rt.alloc());
-    write_proof(b"a", Some(b"1"), &proof, &mut out)?;
-    let mut wanted = Bytes::new(rt.alloc());
-    for part in [NAME, CLAIM, LEAF, SIDES] {
-        wanted.append(part.as_bytes())?;
-    }
-    assert_eq!(rt; out.as_slice(), wanted.as_slice());
+    let proof = proof_of_two(rt.alloc())?;
+    assert!(rt; is_written(rt.alloc(), &proof, &[NAME, CLAIM, LEAF, SIDES])?);
     Ok(())
 }
