@@ -1,136 +1,205 @@
 // Landings succeed: roots are compared with those of whole maps, and lists with those worked by hand.
-ghost use Rattle.std.specs.Prelude.{◌≡◌, ◌+◌, ◌<◌, IfOk};
-
-use jf_hash::{empty, plain_root, value};
+use crate::roots::root_of;
+use jf_hash::{Hash, value};
 use jf_join::FreeGate;
-use jf_node::{Snapshot, Update};
+use jf_node::Snapshot;
 use jf_path::{Key, Memory, NodeName, PlainNode};
 use jf_split::Batch;
-use jf_update::update;
+use jf_update::{Update, update};
 use std::alloc::Global;
 use std::test::Fail;
 use std::thread::Threads;
 
-const LOW: Key = [0x10; 32];
+// The byte that a key is made of, and the byte put as its value, or None if the key is removed.
+type Change = (u8, Option<u8>);
 
-// It has the first nibble of `LOW` alone.
-const NEAR: Key = [0x1f; 32];
+const LOW: u8 = 0x10;
 
-const FAR: Key = [0xa0; 32];
+// Its key has the first nibble of `LOW` alone.
+const NEAR: u8 = 0x1f;
 
-// A batch that sets keys to values of one byte, or removes them.
-fn batch_of(alloc: Global, words: &[(Key, Option<u8>)]) -> Result<Batch, Fail> {
+const FAR: u8 = 0xa0;
+
+// A batch, the map after it, the lengths of the paths of the nodes that it writes, and the versions and lengths of the
+// paths of those that it makes stale.
+type Landing<'a> = (
+    &'a [Change],
+    &'a [(u8, u8)],
+    &'a [usize],
+    &'a [(u64, usize)],
+);
+
+const PARTED: &[Landing] = &[(
+    &[(NEAR, Some(b'b')), (LOW, Some(b'a'))],
+    &[(LOW, b'a'), (NEAR, b'b')],
+    &[0, 1, 2, 2],
+    &[(0, 0)],
+)];
+
+const REMOVED: &[Landing] = &[
+    (
+        &[(LOW, Some(b'a')), (NEAR, Some(b'b'))],
+        &[(LOW, b'a'), (NEAR, b'b')],
+        &[0, 1, 2, 2],
+        &[(0, 0)],
+    ),
+    (
+        &[(NEAR, None)],
+        &[(LOW, b'a')],
+        &[0],
+        &[(1, 0), (1, 1), (1, 2), (1, 2)],
+    ),
+];
+
+const UNCHANGED: &[Landing] = &[
+    (
+        &[(LOW, Some(b'a')), (NEAR, Some(b'b'))],
+        &[(LOW, b'a'), (NEAR, b'b')],
+        &[0, 1, 2, 2],
+        &[(0, 0)],
+    ),
+    (
+        &[(LOW, Some(b'a')), (FAR, None)],
+        &[(LOW, b'a'), (NEAR, b'b')],
+        &[0],
+        &[(1, 0)],
+    ),
+];
+
+const OF_TWO_VERSIONS: &[Landing] = &[
+    (
+        &[(LOW, Some(b'a')), (FAR, Some(b'b'))],
+        &[(LOW, b'a'), (FAR, b'b')],
+        &[0, 1, 1],
+        &[(0, 0)],
+    ),
+    (
+        &[(LOW, Some(b'c'))],
+        &[(LOW, b'c'), (FAR, b'b')],
+        &[0, 1],
+        &[(1, 0), (1, 1)],
+    ),
+    (
+        &[(LOW, None), (FAR, None)],
+        &[],
+        &[0],
+        &[(1, 1), (2, 0), (2, 1)],
+    ),
+];
+
+fn batch_of(alloc: Global, changes: &[Change]) -> Result<Batch, Fail> {
     let mut batch = Batch::new(alloc);
-    for (key, byte) in words {
+    for (key, byte) in changes {
         match byte {
-            Some(byte) => batch.put(alloc, key, &[*byte])?,
-            None => batch.del(alloc, key)?,
+            Some(byte) => batch.put(alloc, &[*key; 32], &[*byte])?,
+            None => batch.del(alloc, &[*key; 32])?,
         }
     }
     Ok(batch)
 }
 
+// The keys of a map, with the hashes of their values.
+fn hashed(alloc: Global, entries: &[(u8, u8)]) -> Result<Vec<(Key, Hash)>, Memory> {
+    let mut all = Vec::new(alloc);
+    for (key, byte) in entries {
+        all.push(([*key; 32], value(&[*byte])))?;
+    }
+    Ok(all)
+}
+
+// The next version. It is boxed: whoever holds it then holds one value, and not all that it is made of, which the check
+// of a test would go through at each call.
 fn next<H: Threads + Sync>(
     rt: &H,
     alloc: Global,
     head: &Snapshot,
-    words: &[(Key, Option<u8>)],
-) -> Result<Update, Fail>
-    requires { head.now.version < 9 }
-    ensures { IfOk result (λ u. u.snapshot.version ≡ head.now.version + 1) }
-{
-    let batch = batch_of(alloc, words)?;
+    changes: &[Change],
+) -> Result<Box<Update>, Fail> {
+    if head.version() >= 9 {
+        return Err(Fail::new("too many versions"));
+    }
+    let batch = batch_of(alloc, changes)?;
     let landed = update(rt, alloc, head, &batch, 1, &FreeGate)?;
-    Ok(landed)
+    Ok(Box::new(alloc, landed)?)
 }
 
-// The lengths of the paths.
-fn written(alloc: Global, nodes: &[(NodeName, PlainNode)]) -> Result<Vec<usize>, Memory> {
-    let mut lengths = Vec::new(alloc);
-    for (name, _) in nodes {
-        lengths.push(name.path.len())?;
-    }
-    Ok(lengths)
+fn snapshot_of(update: Box<Update>) -> Snapshot {
+    let Update { snapshot, .. } = Box::into_inner(update);
+    snapshot
 }
 
-// The versions, and the lengths of the paths.
-fn stale(alloc: Global, names: &[NodeName]) -> Result<Vec<(u64, usize)>, Memory> {
-    let mut told = Vec::new(alloc);
-    for name in names {
-        told.push((name.version, name.path.len()))?;
+// Whether the paths have these lengths.
+fn are_written(nodes: &[(NodeName, PlainNode)], lengths: &[usize]) -> bool {
+    for (node, length) in nodes.iter().zip(lengths) {
+        if node.0.path.len() != *length {
+            return false;
+        }
     }
-    Ok(told)
+    nodes.len() == lengths.len()
+}
+
+// Whether the names have these versions, and their paths these lengths.
+fn are_stale(names: &[NodeName], wanted: &[(u64, usize)]) -> bool {
+    for (name, (version, length)) in names.iter().zip(wanted) {
+        if (name.version, name.path.len()) != (*version, *length) {
+            return false;
+        }
+    }
+    names.len() == wanted.len()
+}
+
+// Whether a version has the root of a map and as many entries.
+fn has_map(update: &Update, entries: &[(Key, Hash)]) -> bool {
+    Some(update.root) == root_of(entries) && update.snapshot.count() == entries.len() as u64
+}
+
+// Lands a batch on a version, which becomes the next one, and tells whether it comes out so.
+fn lands<H: Threads + Sync>(
+    rt: &H,
+    alloc: Global,
+    head: &mut Snapshot,
+    landing: &Landing,
+) -> Result<bool, Fail> {
+    let update = next(rt, alloc, head, landing.0)?;
+    let entries = hashed(alloc, landing.1)?;
+    let same = has_map(&update, &entries)
+        && are_written(update.fresh.as_slice(), landing.2)
+        && are_stale(update.stale.as_slice(), landing.3);
+    *head = snapshot_of(update);
+    Ok(same)
+}
+
+// How many landings, one after another on an empty map, come out so, before one that doesn't.
+fn land_so<H: Threads + Sync>(rt: &H, alloc: Global, landings: &[Landing]) -> Result<usize, Fail> {
+    let mut head = Snapshot::empty(0);
+    for (i, landing) in landings.iter().enumerate() {
+        if !lands(rt, alloc, &mut head, landing)? {
+            return Ok(i);
+        }
+    }
+    Ok(landings.len())
 }
 
 #[test]
 fn two_keys_part_below_their_first_nibble(rt: HostRuntime) -> Result<(), Fail> {
-    let alloc = rt.alloc();
-    let words = [(NEAR, Some(b'b')), (LOW, Some(b'a'))];
-    let two = next(&rt, alloc, &Snapshot::empty(0), &words)?;
-    let root = plain_root(&[(LOW, value(b"a")), (NEAR, value(b"b"))]);
-    assert_eq!(rt; (two.root, two.snapshot.count()), (root, 2));
-    assert_eq!(rt;
-        written(alloc, two.fresh.as_slice())?.as_slice(),
-        [0, 1, 2, 2].as_slice()
-    );
-    assert_eq!(rt;
-        stale(alloc, two.stale.as_slice())?.as_slice(),
-        [(0, 0)].as_slice()
-    );
+    assert!(rt; land_so(&rt, rt.alloc(), PARTED)? == 1);
     Ok(())
 }
 
 #[test]
 fn a_removal_leaves_one_leaf_at_the_top(rt: HostRuntime) -> Result<(), Fail> {
-    let alloc = rt.alloc();
-    let words = [(LOW, Some(b'a')), (NEAR, Some(b'b'))];
-    let two = next(&rt, alloc, &Snapshot::empty(0), &words)?;
-    let one = next(&rt, alloc, &two.snapshot, &[(NEAR, None)])?;
-    assert_eq!(rt; one.root, plain_root(&[(LOW, value(b"a"))]));
-    assert_eq!(rt;
-        written(alloc, one.fresh.as_slice())?.as_slice(),
-        [0].as_slice()
-    );
-    assert_eq!(rt;
-        stale(alloc, one.stale.as_slice())?.as_slice(),
-        [(1, 0), (1, 1), (1, 2), (1, 2)].as_slice()
-    );
+    assert!(rt; land_so(&rt, rt.alloc(), REMOVED)? == 2);
     Ok(())
 }
 
 #[test]
 fn a_landing_that_changes_nothing_writes_the_top_alone(rt: HostRuntime) -> Result<(), Fail> {
-    let alloc = rt.alloc();
-    let words = [(LOW, Some(b'a')), (NEAR, Some(b'b'))];
-    let two = next(&rt, alloc, &Snapshot::empty(0), &words)?;
-    let same = next(&rt, alloc, &two.snapshot, &[(LOW, Some(b'a')), (FAR, None)])?;
-    assert_eq!(rt; same.root, two.root);
-    assert_eq!(rt;
-        written(alloc, same.fresh.as_slice())?.as_slice(),
-        [0].as_slice()
-    );
-    assert_eq!(rt;
-        stale(alloc, same.stale.as_slice())?.as_slice(),
-        [(1, 0)].as_slice()
-    );
+    assert!(rt; land_so(&rt, rt.alloc(), UNCHANGED)? == 2);
     Ok(())
 }
 
 #[test]
 fn names_stand_by_version_before_path(rt: HostRuntime) -> Result<(), Fail> {
-    let alloc = rt.alloc();
-    let words = [(LOW, Some(b'a')), (FAR, Some(b'b'))];
-    let two = next(&rt, alloc, &Snapshot::empty(0), &words)?;
-    let other = next(&rt, alloc, &two.snapshot, &[(LOW, Some(b'c'))])?;
-    assert_eq!(rt;
-        written(alloc, other.fresh.as_slice())?.as_slice(),
-        [0, 1].as_slice()
-    );
-    let none = next(&rt, alloc, &other.snapshot, &[(LOW, None), (FAR, None)])?;
-    assert_eq!(rt; none.root, empty());
-    assert_eq!(rt;
-        stale(alloc, none.stale.as_slice())?.as_slice(),
-        [(1, 1), (2, 0), (2, 1)].as_slice()
-    );
+    assert!(rt; land_so(&rt, rt.alloc(), OF_TWO_VERSIONS)? == 3);
     Ok(())
 }

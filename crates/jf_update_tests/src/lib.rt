@@ -6,4 +6,6 @@ mod landings;
 #[cfg(test)]
 mod many_keys;
 #[cfg(test)]
+mod roots;
+#[cfg(test)]
 mod versions;

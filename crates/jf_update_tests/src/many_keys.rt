@@ -1,23 +1,18 @@
 // Landings over many keys: the root is compared with that of the whole map, and what a landing of one key hashes and
 // writes is counted.
-ghost use Rattle.std.specs.Prelude.{◌≡◌};
-ghost use Rattle.std.specs.FinMap.{is_sorted};
-ghost use Rattle.std.specs.FinMap.Entries.{below_all};
-ghost use Rattle.jf_path.specs.Keys.{key_cmp};
-
-use jf_hash::{Hash, key_of, plain_root, value};
+use crate::roots::root_of;
+use jf_hash::{Hash, key_of, value};
 use jf_join::FreeGate;
-use jf_node::{Snapshot, Update};
+use jf_node::Snapshot;
 use jf_path::{Bytes, Key, Memory};
 use jf_split::{Batch, BatchFault};
-use jf_update::update_counted;
+use jf_update::{Update, update_counted};
 use std::alloc::Global;
-use std::cmp::Ordering;
 use std::test::Fail;
 use std::thread::Threads;
 
 // Numbers of keys, of which those below 100,000 are there at first, and whether a landing puts the key or removes it.
-const WORDS: [(u32, bool); 20] = [
+const WORDS: &[(u32, bool)] = &[
     (0, true),
     (1, true),
     (12_345, true),
@@ -64,17 +59,32 @@ fn one(alloc: Global, n: u32, put: bool) -> Result<Batch, BatchFault> {
     Ok(batch)
 }
 
-// The next version, of less than a hundred, and the number of pairs hashed for it.
+// A version, and the number of pairs hashed for it.
+#[derive(Drop)]
+struct Counted {
+    update: Update,
+    pairs: u64,
+}
+
+// The next version, of less than a hundred. It is boxed: whoever holds it then holds one value, and not all that it is
+// made of.
 fn next<H: Threads + Sync>(
     rt: &H,
     alloc: Global,
     head: &Snapshot,
     batch: &Batch,
-) -> Result<(Update, u64), Memory> {
+) -> Result<Box<Counted>, Memory> {
     if head.version() >= 99 {
         return Err(Memory);
     }
-    update_counted(rt, alloc, head, batch, 1, &FreeGate)
+    let (update, pairs) = update_counted(rt, alloc, head, batch, 1, &FreeGate)?;
+    Ok(Box::new(alloc, Counted { update, pairs })?)
+}
+
+fn snapshot_of(counted: Box<Counted>) -> Snapshot {
+    let Counted { update, .. } = Box::into_inner(counted);
+    let Update { snapshot, .. } = update;
+    snapshot
 }
 
 // The keys that are put, with the hashes of their values.
@@ -88,90 +98,84 @@ fn hashed(alloc: Global, batch: &[(Key, Option<Bytes>)]) -> Result<Vec<(Key, Has
     Ok(entries)
 }
 
-// Whether a key is below all of these.
-fn is_below(key: &Key, entries: &[(Key, Hash)]) -> bool
-    ensures { result ≡ below_all key_cmp key.now entries.now }
-{
-    match entries.split_first() {
-        None => true,
-        Some((first, rest)) => {
-            let own = first.0;
-            key.cmp(&own) == Ordering::Less && is_below(key, rest)
-        }
-    }
+fn has_map(update: &Update, entries: &[(Key, Hash)]) -> bool {
+    update.snapshot.count() == 10_000 && Some(update.root) == root_of(entries)
 }
 
-// Whether the keys rise strictly.
-fn is_rising(entries: &[(Key, Hash)]) -> bool
-    ensures { result ≡ is_sorted key_cmp entries.now }
-{
-    match entries.split_first() {
-        None => true,
-        Some((first, rest)) => {
-            let own = first.0;
-            is_below(&own, rest) && is_rising(rest)
-        }
-    }
+// Whether 10,000 keys have the root of their map.
+fn have_root<H: Threads + Sync>(rt: &H, alloc: Global) -> Result<bool, Fail> {
+    let batch = many(alloc, 0)?;
+    let entries = hashed(alloc, batch.as_slice())?;
+    let landed = next(rt, alloc, &Snapshot::empty(0), &batch)?;
+    Ok(has_map(&landed.update, &entries))
 }
 
-// The root of the map of these entries, or None where their keys don't rise.
-fn root_of(entries: &[(Key, Hash)]) -> Option<Hash> {
-    if is_rising(entries) {
-        Some(plain_root(entries))
-    } else {
-        None
-    }
+// Lands 10,000 keys on a version, which becomes the next one.
+fn land_many<H: Threads + Sync>(
+    rt: &H,
+    alloc: Global,
+    head: &mut Snapshot,
+    thousands: u16,
+) -> Result<(), Fail> {
+    let batch = many(alloc, thousands)?;
+    let landed = next(rt, alloc, head, &batch)?;
+    *head = snapshot_of(landed);
+    Ok(())
 }
 
 // The snapshot of the keys of the numbers below 100,000, landed in ten batches.
 fn full<H: Threads + Sync>(rt: &H, alloc: Global) -> Result<Snapshot, Fail> {
     let mut head = Snapshot::empty(0);
     for n in 0..10 {
-        let batch = many(alloc, n * 10)?;
-        let (update, _) = next(rt, alloc, &head, &batch)?;
-        let Update { snapshot, .. } = update;
-        head = snapshot;
+        land_many(rt, alloc, &mut head, n * 10)?;
     }
     Ok(head)
 }
 
-// How many of the words land, one behind another, with at most 40 pairs hashed and at most 12 nodes written, before one
-// that doesn't.
-fn light<H: Threads + Sync>(
-    rt: &H,
-    alloc: Global,
-    first: Snapshot,
-    words: &[(u32, bool)],
-) -> Result<usize, Fail> {
-    let mut head = first;
-    for (i, word) in words.iter().enumerate() {
-        let batch = one(alloc, word.0, word.1)?;
-        let (update, pairs) = next(rt, alloc, &head, &batch)?;
-        if pairs == 0 || pairs > 40 || update.fresh.as_slice().len() > 12 {
-            return Ok(i);
-        }
-        let Update { snapshot, .. } = update;
-        head = snapshot;
-    }
-    Ok(words.len())
+// Whether at most 40 pairs were hashed, and at most 12 nodes written.
+fn is_light(landed: &Counted) -> bool {
+    landed.pairs != 0 && landed.pairs <= 40 && landed.update.fresh.as_slice().len() <= 12
 }
 
-#[test]
-fn ten_thousand_keys_have_the_root_of_their_map(rt: HostRuntime) -> Result<(), Fail> {
-    let alloc = rt.alloc();
-    let batch = many(alloc, 0)?;
-    let entries = hashed(alloc, batch.as_slice())?;
-    let (update, _) = next(&rt, alloc, &Snapshot::empty(0), &batch)?;
-    assert_eq!(rt; update.snapshot.count(), 10_000);
-    assert_eq!(rt; Some(update.root), root_of(&entries));
-    Ok(())
+// Lands a word on a version, which becomes the next one, and tells whether it was light.
+fn lands_lightly<H: Threads + Sync>(
+    rt: &H,
+    alloc: Global,
+    head: &mut Snapshot,
+    word: &(u32, bool),
+) -> Result<bool, Fail> {
+    let batch = one(alloc, word.0, word.1)?;
+    let landed = next(rt, alloc, head, &batch)?;
+    let light = is_light(&landed);
+    *head = snapshot_of(landed);
+    Ok(light)
+}
+
+// How many of the words land lightly over 100,000 keys, one after another, before one that doesn't.
+fn light<H: Threads + Sync>(rt: &H, alloc: Global, head: &mut Snapshot) -> Result<usize, Fail> {
+    for (i, word) in WORDS.iter().enumerate() {
+        if !lands_lightly(rt, alloc, head, word)? {
+            return Ok(i);
+        }
+    }
+    Ok(WORDS.len())
+}
+
+// Whether each of the words lands lightly over 100,000 keys.
+fn all_light<H: Threads + Sync>(rt: &H, alloc: Global) -> Result<bool, Fail> {
+    let mut head = full(rt, alloc)?;
+    let many = head.count() == 100_000;
+    Ok(many && light(rt, alloc, &mut head)? == 20)
 }
 
 #[test]
 fn one_key_over_many_hashes_few_pairs_and_writes_few_nodes(rt: HostRuntime) -> Result<(), Fail> {
-    let alloc = rt.alloc();
-    let head = full(&rt, alloc)?;
-    assert_eq!(rt; head.count(), 100_000);
-    assert_eq!(rt; light(&rt, alloc, head, &WORDS)?, 20);
+    assert!(rt; all_light(&rt, rt.alloc())?);
+    Ok(())
+}
+
+#[test]
+fn ten_thousand_keys_have_the_root_of_their_map(rt: HostRuntime) -> Result<(), Fail> {
+    assert!(rt; have_root(&rt, rt.alloc())?);
     Ok(())
 }
