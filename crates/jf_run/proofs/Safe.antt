@@ -1,5 +1,5 @@
 -- At every moment of a run a stop leaves a first part of its entries, or all of them and that of the first line without a reply.
-use Rattle.std.proofs.Common.{◌≡◌, ◌⊎◌, inl, inr, ℕ, ◌≤◌, List, ◌∷◌, length, Option, Some, refl, sym, subst, ap, ◌∙◌, arith}
+use Rattle.std.proofs.Common.{◌≡◌, ◌⊎◌, inl, inr, ℕ, ◌≤◌, List, [], ◌∷◌, length, Option, Some, refl, sym, subst, ap, ◌∙◌, arith}
 use Rattle.jf_disk.specs.Disk.{History, Files, LeftSince, reads}
 use Rattle.jf_disk.specs.Moments.{all_states, left_now}
 use Rattle.jf_disk.specs.CrashLaws.{goes_left}
