@@ -16,7 +16,7 @@ use Rattle.jf_input.proofs.FirstLines.{first_lines, all_first, whole_taken, line
 use Rattle.jf_input.proofs.Written.{nothing_written, written_more}
 use Rattle.jf_verify.specs.Verdicts.{verdicts}
 use Rattle.jf_verify.specs.Steps.{State, Step, begun, said, after, rest, line_step}
-use Rattle.jf_verify.specs.Streams.{GetsFront, after_all, said_all, answers_of, Stops, JudgedBy, Judges, HasVerified}
+use Rattle.jf_verify.specs.Streams.{GetsFront, after_all, said_all, answers_of, Stops, JudgedBy, HasVerified}
 use Rattle.jf_verify.specs.declared.stream.Verified.{Verified}
 use Rattle.jf_verify.specs.declared.stream.Verified.TheVariants as verified
 use Rattle.jf_verify.proofs.Folds.{after_all-more, said_all-more, rest-line, verdicts-append, stops_after, stops_in}

@@ -1,0 +1,99 @@
+-- The honest proof of what a map says of a name is one that a block can tell of.
+use Rattle.std.proofs.Common.{ℕ, zero, suc, ◌+◌, ◌-◌, ◌<◌, ◌≤◌, Bool, true, false, cond, List, [], ◌∷◌, ◌++◌, map, length, slice_index, Option, Some, None, IfSome, sym, subst, arith}
+use Rattle.std.specs.List.{AllByRecursion, filter}
+use Rattle.std.specs.FinMap as fin
+use Rattle.std.specs.FinMap.{entries, find}
+use Rattle.hex.specs.Hex.{IsBytes}
+use Rattle.jf_path.specs.Keys.{bit, key_cmp, IsKey}
+use Rattle.jf_hash.specs.Hashes.{K, V}
+use Rattle.jf_hash.specs.HashLaws.{E-IsKey, L-IsKey, N-IsKey, V-IsKey}
+use Rattle.jf_hash.specs.Maps.{Map, IsMap, same_key}
+use Rattle.jf_hash.specs.Roots.{Leaf, leaf_of, zeros, ones, root_below, leaves_root}
+use Rattle.jf_evidence.specs.Proofs.{leaves, near, far, honest, honest_from, honest_below}
+use Rattle.jf_blocks.specs.Laws.{IsHash, IsTold}
+use Rattle.jf_client.specs.Laws.{Fits}
+
+pub hash_of_key : (k : List ℕ) → IsKey k → IsHash k
+hash_of_key k h = (h.long, h.bytes)
+
+-- ---- values
+
+byte-at : (v : List ℕ) (i : ℕ) → AllByRecursion (λ b. b < 256) v → slice_index v i < 256
+byte-at [] i h = omega arith
+byte-at (b ∷ v) zero h = h.0
+byte-at (b ∷ v) (suc i) h = byte-at v i h.1
+
+found_bytes : (key : List ℕ) (es : List (List ℕ × List ℕ)) → AllByRecursion (λ e. IsKey e.0 × AllByRecursion (λ b. b < 256) e.1) es → IfSome (find key_cmp key es) IsBytes
+found_bytes key [] h = tt
+found_bytes key (e ∷ es) h =
+    elim (same_key key e.0) as (λ b. IfSome (cond b (Some e.1) (find key_cmp key es)) IsBytes) [ true ↦ λ i. byte-at e.1 i h.0.1 | false ↦ found_bytes key es h.1 ]
+
+value_bytes : (m : Map) (key : List ℕ) → IsMap m → IfSome (fin.get m key) IsBytes
+value_bytes m key is_map = subst (λ (o : Option (List ℕ)). IfSome o IsBytes) (sym (fin.get-entries m key)) (found_bytes key (entries m) is_map)
+
+both_of : (P Q : List ℕ → Type 0) (o : Option (List ℕ)) → IfSome o P → IfSome o Q → IfSome o (λ v. P v × Q v)
+both_of P Q None p q = tt
+both_of P Q (Some v) p q = (p, q)
+
+-- ---- leaves
+
+filtered : (P : Leaf → Type 0) (p : Leaf → Bool) (es : List Leaf) → AllByRecursion P es → AllByRecursion P (filter p es)
+filtered P p [] all = tt
+filtered P p (e ∷ es) all = elim (p e) as (λ b. AllByRecursion P (cond b (e ∷ filter p es) (filter p es))) [ true ↦ (all.0, filtered P p es all.1) | false ↦ filtered P p es all.1 ]
+
+near_all : (P : Leaf → Type 0) (d : ℕ) (key : List ℕ) (es : List Leaf) → AllByRecursion P es → AllByRecursion P (near key d es)
+near_all P d key es all = elim (bit key d) as (λ b. AllByRecursion P (cond b (ones d es) (zeros d es))) [ true ↦ filtered P _ es all | false ↦ filtered P _ es all ]
+
+honest_leaf : (P : Leaf → Type 0) (n d : ℕ) (key : List ℕ) (es : List Leaf) → AllByRecursion P es → IfSome (honest_below n d key es).leaf P
+unfolding honest_below
+honest_leaf P n d key [] all = tt
+honest_leaf P n d key (e ∷ []) all = all.0
+honest_leaf P zero d key (e ∷ f ∷ es) all = tt
+honest_leaf P (suc n) d key (e ∷ f ∷ es) all = honest_leaf P n (d + 1) key (near key d (e ∷ f ∷ es)) (near_all P d key (e ∷ f ∷ es) all)
+
+-- two hashes
+abbrev AreHashes : Leaf → Type 0
+AreHashes l = IsHash l.0 × IsHash l.1
+
+leaves_hashes : (es : List (List ℕ × List ℕ)) → AllByRecursion (λ e. IsKey e.0 × AllByRecursion (λ b. b < 256) e.1) es → AllByRecursion AreHashes (map leaf_of es)
+leaves_hashes [] all = tt
+leaves_hashes (e ∷ es) all = ((hash_of_key e.0 all.0.0, hash_of_key (V e.1) (V-IsKey e.1)), leaves_hashes es all.1)
+
+-- ---- siblings
+
+root_below-IsKey : (n d : ℕ) (es : List Leaf) → IsKey (root_below n d es)
+unfolding root_below
+root_below-IsKey n d [] = E-IsKey
+root_below-IsKey n d (e ∷ []) = L-IsKey e.0 e.1
+root_below-IsKey zero d (e ∷ f ∷ es) = E-IsKey
+root_below-IsKey (suc n) d (e ∷ f ∷ es) = N-IsKey _ _
+
+leaves_root-IsHash : (d : ℕ) (es : List Leaf) → IsHash (leaves_root d es)
+unfolding leaves_root
+leaves_root-IsHash d es = hash_of_key (root_below (256 - d) d es) (root_below-IsKey (256 - d) d es)
+
+one_more : (hs : List (List ℕ)) (h : List ℕ) → AllByRecursion IsHash hs → IsHash h → AllByRecursion IsHash (hs ++ h ∷ [])
+one_more [] h all is = (is, tt)
+one_more (k ∷ hs) h all is = (all.0, one_more hs h all.1 is)
+
+honest_siblings : (n d : ℕ) (key : List ℕ) (es : List Leaf) → AllByRecursion IsHash (honest_below n d key es).siblings
+unfolding honest_below
+honest_siblings n d key [] = tt
+honest_siblings n d key (e ∷ []) = tt
+honest_siblings zero d key (e ∷ f ∷ es) = tt
+honest_siblings (suc n) d key (e ∷ f ∷ es) =
+    one_more (honest_below n (d + 1) key (near key d (e ∷ f ∷ es))).siblings (leaves_root (d + 1) (far key d (e ∷ f ∷ es))) (honest_siblings n (d + 1) key (near key d (e ∷ f ∷ es)))
+    (leaves_root-IsHash (d + 1) (far key d (e ∷ f ∷ es)))
+
+-- ---- all of it
+
+pub honest-told : (m : Map) (name : List ℕ) → IsMap m → Fits name (fin.get m (K name)) → IsTold name (fin.get m (K name)) (honest m (K name))
+unfolding honest honest_from
+honest-told m name is_map fits = record {
+  bytes = fits.bytes;
+  least = fits.least;
+  most = fits.most;
+  value = both_of IsBytes (λ v. length v ≤ 4096) (fin.get m (K name)) (value_bytes m (K name) is_map) fits.small;
+  leaf = honest_leaf AreHashes (256 - 0) 0 (K name) (leaves m) (leaves_hashes (entries m) is_map);
+  siblings = honest_siblings (256 - 0) 0 (K name) (leaves m);
+}

@@ -1,0 +1,44 @@
+-- What a client comes to that judges what it is answered, as a statement for a call that does nothing and ensures it.
+use Rattle.std.specs.Prelude.{◌≡◌, ℕ, ◌^◌, ◌<◌, ◌≤◌, false, length, List, ◌++◌, Option, Some, IfSome, codes}
+use Rattle.std.specs.FinMap.{get}
+use Rattle.hex.specs.Hex.{IsBytes}
+use Rattle.jf_hash.specs.Hashes.{K}
+use Rattle.jf_model.specs.Versions.{IsVersions}
+use Rattle.jf_model.specs.States.{State}
+use Rattle.jf_script.specs.Words.{is_long}
+use Rattle.jf_script.specs.Commands.{command_of}
+use Rattle.jf_script.specs.declared.command.Base.{Base}
+use Rattle.jf_script.specs.declared.command.Base.TheVariants as base
+use Rattle.jf_script.specs.declared.command.Command.TheVariants as command
+use Rattle.jf_verify.specs.Verdicts.{verdicts}
+use Rattle.jf_answers.specs.Own.{Own}
+use Rattle.jf_answers.specs.Refusals.{base_map}
+use Rattle.jf_answers.specs.Answers.{answer}
+use Rattle.jf_answers.specs.Runs.{answer_text}
+
+-- the head, or a version that is neither above the head nor retired
+abbrev pub IsKept : State → Base → Type 0
+IsKept s base.Head = Unit {0}
+IsKept s (base.Version w) = (s.retired ≤ w) × (w ≤ s.all.head)
+IsKept s (base.Fork id) = ⊥
+IsKept s (base.Place place) = ⊥
+
+-- a name of 1 to 128 bytes, and a value, if there is one, of at most 4,096: what lines can carry
+pub record Fits (name : List ℕ) (value : Option (List ℕ)) : Type 0 where
+  pub bytes : IsBytes name
+  pub least : 1 ≤ length name
+  pub most : length name ≤ 128
+  pub small : IfSome value (λ v. length v ≤ 4096)
+
+-- two lines ask for the root of a version and for the proof of a name in it
+pub record Asks (root_line prove_line : List ℕ) (on : Base) (name : List ℕ) : Type 0 where
+  pub root_short : is_long root_line ≡ false
+  pub root_is : command_of root_line ≡ Some (command.Root on)
+  pub prove_short : is_long prove_line ≡ false
+  pub prove_is : command_of prove_line ≡ Some (command.Prove on name)
+
+-- of each kept version and each name, whether the map has it or not: the two replies, with any numbers, are judged accepted
+abbrev pub HonestRepliesAreAccepted : Type 0
+HonestRepliesAreAccepted = (s : State) (own : Own) (on : Base) (name root_line prove_line : List ℕ) (m n : ℕ)
+    → IsVersions s.all → IsKept s on → Fits name (get (base_map s own on) (K name)) → Asks root_line prove_line on name → m < 2 ^ 64 → n < 2 ^ 64
+    → verdicts (answer_text m (answer s own root_line) ++ answer_text n (answer s own prove_line)) ≡ codes "accepted\n"
