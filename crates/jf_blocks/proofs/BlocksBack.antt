@@ -7,12 +7,13 @@ use Rattle.jf_script.specs.Words.{lines, line_text, is_word, number, number_upto
 use Rattle.jf_script.specs.Replies.{reply_text}
 use Rattle.jf_blocks.specs.Blocks.{side_lines, claim_word, leaf_words, proof_lines}
 use Rattle.jf_blocks.specs.Reading.{Place, Read, and_then, lines_by, side_of, word_after, first_of, proof_block}
-use Rattle.jf_blocks.specs.Laws.{IsHash, BlocksAreReadBack, RepliesBeginBlocks}
+use Rattle.jf_blocks.specs.Laws.{IsHash, BlocksAreReadBack, RepliesBeginBlocks, RepliesSetRoots}
 use Rattle.jf_blocks.specs.declared.first.FirstLine.{FirstLine}
 use Rattle.jf_blocks.specs.declared.first.FirstLine.TheVariants as first
 use Rattle.jf_blocks.proofs.Plain.{all_plain, is_plain-decimal, lines-join}
 use Rattle.jf_blocks.proofs.Numbers.{number-back, number_upto-back, length-decimal}
-use Rattle.jf_blocks.proofs.LinesBack.{line_read-join, name-back, claim-back, leaf-back, side-back}
+use Rattle.jf_blocks.proofs.HexBack.{is_plain-hex}
+use Rattle.jf_blocks.proofs.LinesBack.{line_read-join, length-hex, hash-back, name-back, claim-back, leaf-back, side-back}
 
 sides-back : (hs : List (List ℕ)) (at : ℕ) (rest : List ℕ) → AllByRecursion IsHash hs
     → lines_by side_of (length hs) (record { at = at; left = lines (side_lines hs ++ rest) }) ≡ Ok (hs, record { at = at + length hs; left = lines rest })
@@ -83,4 +84,26 @@ replies-begin n siblings rest small few =
       line,
       ap lines (append_assoc line (10 ∷ []) rest) ∙ lines-join (decimal n) ws rest plain others,
       line_read-join first_of (first.Proof siblings) (decimal n) ws plain others short (first_of-head n siblings small few),
+    )
+
+first_of-root : (n : ℕ) (root : List ℕ) → n < 2 ^ 64 → IsHash root → first_of (decimal n ∷ codes "ok" ∷ codes "root" ∷ encode_lower root ∷ []) ≡ Some (first.Root root)
+first_of-root n root small h =
+    let ws : List (List ℕ) = codes "root" ∷ encode_lower root ∷ [] in
+    ap first_from (left_out (number (decimal n)) n (decimal n ∷ codes "ok" ∷ ws) ws (number-back n small))
+    ∙ ap (λ (o : Option (List ℕ)). elim o as (λ x. Option FirstLine) [
+      | Some r ↦ Some (first.Root r)
+      | None ↦ option_map (λ n. first.Proof n) (option_and_then (number_upto 65535) (word_after (codes "proof") ws))
+    ]) (hash-back root h)
+
+pub replies-set : RepliesSetRoots
+unfolding reply_text
+replies-set n root rest small h =
+    let ws : List (List ℕ) = codes "ok" ∷ codes "root" ∷ encode_lower root ∷ [] in
+    let line : List ℕ = join_with_byte 32 (decimal n ∷ ws) in
+    let plain = is_plain-decimal n small in
+    let others : all_plain ws ≡ true = rw (is_plain-hex root h.1) refl in
+    let short : length line ≤ 8500 = omega (arith, length-append (decimal n) (codes " ok root " ++ encode_lower root), length-append (codes " ok root ") (encode_lower root), length-decimal n small, length-hex root, h.0) in (
+      line,
+      ap lines (append_assoc line (10 ∷ []) rest) ∙ lines-join (decimal n) ws rest plain others,
+      line_read-join first_of (first.Root root) (decimal n) ws plain others short (first_of-root n root small h),
     )

@@ -38,10 +38,10 @@ line_by-join f x at w ws rest h hs short e =
 plain_one : (bytes : List ℕ) → IsBytes bytes → all_plain (encode_lower bytes ∷ []) ≡ true
 plain_one bytes h = rw (is_plain-hex bytes h) refl
 
-length-hex : (bytes : List ℕ) → length (encode_lower bytes) ≡ 2 * length bytes
+pub length-hex : (bytes : List ℕ) → length (encode_lower bytes) ≡ 2 * length bytes
 length-hex bytes = length-encode_with lower_digits bytes
 
-hash-back : (h : List ℕ) → IsHash h → hash_of (encode_lower h) ≡ Some h
+pub hash-back : (h : List ℕ) → IsHash h → hash_of (encode_lower h) ≡ Some h
 hash-back h is = bytes_within-back 32 32 h is.1 (omega arith) (omega arith)
 
 pub name-back : (name : List ℕ) (at : ℕ) (rest : List ℕ) → IsBytes name → 1 ≤ length name → length name ≤ 128

@@ -33,3 +33,8 @@ BlocksAreReadBack = (name : List ℕ) (claim : Option (List ℕ)) (proof : Proof
 abbrev pub RepliesBeginBlocks : Type 0
 RepliesBeginBlocks = (n siblings : ℕ) (rest : List ℕ) → n < 2 ^ 64 → siblings ≤ 65535
     → (line : List ℕ) × (lines (reply_text n (reply.Proof siblings) ++ rest) ≡ line ∷ lines rest) × (line_read first_of line ≡ Some (first.Proof siblings))
+
+-- the reply of a root is read as the line that sets it
+abbrev pub RepliesSetRoots : Type 0
+RepliesSetRoots = (n : ℕ) (root rest : List ℕ) → n < 2 ^ 64 → IsHash root
+    → (line : List ℕ) × (lines (reply_text n (reply.Root root) ++ rest) ≡ line ∷ lines rest) × (line_read first_of line ≡ Some (first.Root root))

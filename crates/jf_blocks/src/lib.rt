@@ -9,6 +9,6 @@ mod word;
 mod writing;
 
 pub use first::{FirstLine, first_line};
-pub use laws::{blocks_are_read_back, replies_begin_blocks};
+pub use laws::{blocks_are_read_back, replies_begin_blocks, replies_set_roots};
 pub use lines::{claim_line, leaf_line, name_line, side_line};
 pub use writing::{write_hex, write_proof};

@@ -60,8 +60,3 @@ pin_refused w v x y z i version gate same free over e e' e'' = (
 pub new_longer : (board : TableId) (ps : List PlaceState) (p : PlaceState) (n : ℕ) → AreNew board ps n → p.board ≡ board → p.known ≡ newly_numbered (n + length ps) → AreNew board (ps ++ p ∷ []) n
 new_longer board [] p n new here known = (here, known ∙ ap newly_numbered (omega arith), tt)
 new_longer board (q ∷ ps) p n new here known = (new.0, new.1, new_longer board ps p (n + 1) new.2 here (known ∙ ap newly_numbered (omega arith)))
-
--- the last of new places
-pub new_last : (board : TableId) (ps : List PlaceState) (p : PlaceState) (n : ℕ) → AreNew board (ps ++ p ∷ []) n → AreNew board ps n × (p.board ≡ board) × (p.known ≡ newly_numbered (n + length ps))
-new_last board [] p n new = (tt, new.0, new.1 ∙ ap newly_numbered (omega arith))
-new_last board (q ∷ ps) p n new = let r = new_last board ps p (n + 1) new.2 in ((new.0, new.1, r.0), r.1, r.2 ∙ ap newly_numbered (omega arith))

@@ -26,6 +26,3 @@ pub use pin_refused::PinRefused;
 pub use place::Place;
 pub use pruner::Pruner;
 pub use scan::{Held, Scan};
-
-#[cfg(test)]
-mod tests;

@@ -15,11 +15,11 @@ pub enum CodecFault {
     Bitmap,
     /// The length of a leaf's value was read, and is above 4,096.
     Length,
-    /// The number of nibbles was read and is above 64, or the nibbles were read and the half behind an odd end isn't zero.
+    /// The number of nibbles was read and is above 64, or the nibbles were read and the half after an odd end isn't zero.
     Path,
-    /// A whole node was read, and bytes are left where none may be.
+    /// A whole node was read, and bytes are left though none may be.
     Rest,
-    /// The count of a child was read, and is 0, or is 1 where the child is no leaf, or another where it is one.
+    /// The count of a child was read, and is 0, or is 1 though the child is no leaf, or another though it is one.
     Count,
     /// Memory is wanting.
     Memory,

@@ -1,4 +1,4 @@
-// Fields at the front of bytes, each with the bytes behind it.
+// Fields at the front of bytes, each with the bytes after it.
 ghost use Rattle.std.specs.Prelude.{◌≡◌, ◌++◌, OnOk};
 ghost use Rattle.jf_codec.specs.Numbers.{two_bytes, four_bytes, eight_bytes};
 ghost use Rattle.jf_codec.specs.Reading.{Reads, bytes_at, two_at, four_at, eight_at};

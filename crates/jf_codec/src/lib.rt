@@ -18,6 +18,3 @@ pub use laws::{one_name_in_front, one_node_in_front, one_spelling};
 pub use name::{decode_name, encode_name};
 pub use reading::{decode_node, decode_whole};
 pub use writing::encode_node;
-
-#[cfg(test)]
-mod tests;

@@ -10,7 +10,7 @@ use crate::fields::{front_of, put_u64, u64_at};
 use jf_path::{Bytes, Memory, NibblePath, NodeName};
 use std::alloc::Global;
 
-// A path behind its count.
+// A path after its count.
 #[tactic(auto, unfolding(crate::specs::Reading::path_at, crate::specs::Reading::nibbles_at))]
 fn path_of(bytes: &[u8]) -> Result<(NibblePath, &[u8]), CodecFault>
     ensures { Reads (λ x. (x.0, x.1.now)) result (path_at bytes.now) }
@@ -29,7 +29,7 @@ fn path_of(bytes: &[u8]) -> Result<(NibblePath, &[u8]), CodecFault>
     }
 }
 
-// A name, and the bytes behind it.
+// A name, and the bytes after it.
 #[tactic(auto, unfolding(crate::specs::Reading::name_at))]
 fn name_of(bytes: &[u8]) -> Result<(NodeName, &[u8]), CodecFault>
     ensures { Reads (λ x. (x.0, x.1.now)) result (name_at bytes.now) }

@@ -12,7 +12,7 @@ use crate::tags::{COUNTED, INNER, LEAF, NULL};
 use jf_path::{Bytes, Child, Children, Nibble, PlainNode};
 use std::alloc::Global;
 
-// A value of at most 4,096 bytes behind its length.
+// A value of at most 4,096 bytes after its length.
 #[tactic(auto, unfolding(crate::specs::Reading::value_at))]
 fn value_of(bytes: &[u8]) -> Result<(&[u8], &[u8]), CodecFault>
     ensures { Reads (λ x. (x.0.now, x.1.now)) result (value_at bytes.now) }
@@ -24,7 +24,7 @@ fn value_of(bytes: &[u8]) -> Result<(&[u8], &[u8]), CodecFault>
     front_of(length as usize, rest)
 }
 
-// A leaf behind its tag.
+// A leaf after its tag.
 #[tactic(auto, unfolding(crate::specs::Reading::leaf_at))]
 fn leaf_of(alloc: Global, bytes: &[u8]) -> Result<(PlainNode, &[u8]), CodecFault>
     ensures { Gives (λ x. (x.0, x.1.now)) result (leaf_at bytes.now) }
@@ -104,7 +104,7 @@ fn children_of(
     Ok((children, rest))
 }
 
-// An internal node behind its tag.
+// An internal node after its tag.
 #[tactic(auto, unfolding(crate::specs::Reading::inner_at))]
 fn inner_of(alloc: Global, format: Format, bytes: &[u8]) -> Result<(PlainNode, &[u8]), CodecFault>
     ensures { Gives (λ x. (x.0, x.1.now)) result (inner_at format bytes.now) }
@@ -114,7 +114,7 @@ fn inner_of(alloc: Global, format: Format, bytes: &[u8]) -> Result<(PlainNode, &
     Ok((PlainNode::Inner { children }, rest))
 }
 
-// A node, and the bytes behind it.
+// A node, and the bytes after it.
 #[tactic(auto, unfolding(crate::specs::Reading::node_at))]
 fn node_of(alloc: Global, bytes: &[u8]) -> Result<(PlainNode, &[u8]), CodecFault>
     ensures { Gives (λ x. (x.0, x.1.now)) result (node_at bytes.now) }
@@ -147,7 +147,7 @@ pub fn decode_node(alloc: Global, bytes: &[u8]) -> Result<(PlainNode, usize), Co
     measured(alloc, bytes)
 }
 
-/// The node that all of the bytes spell. Otherwise the first fault that is met from left to right, `Rest` where bytes are
+/// The node that all of the bytes spell. Otherwise the first fault that is met from left to right, `Rest` if bytes are
 /// left, or `Memory`.
 pub fn decode_whole(alloc: Global, bytes: &[u8]) -> Result<PlainNode, CodecFault>
     ensures found { IfOk result (λ node. IsValid node × (bytes.now ≡ spelling node)) }

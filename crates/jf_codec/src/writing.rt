@@ -51,7 +51,7 @@ fn bitmaps_to(children: &[Child]) -> Bitmaps
     bits
 }
 
-// Adds the count of a child, where the format has counts.
+// Adds the count of a child, if the format has counts.
 fn put_count(out: &mut Bytes, format: Format, count: u64) -> Result<(), Memory>
     ensures { OnOk result (out.new ≡ out.old ++ count_bytes format count) }
 {

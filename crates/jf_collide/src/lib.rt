@@ -14,6 +14,3 @@ pub use jf_evidence::wrong_claims_collide;
 pub use judged::Judged;
 pub use laws::{audits_have_one_answer, wrong_claims_are_caught};
 pub use outcome::Audit;
-
-#[cfg(test)]
-mod tests;

@@ -15,8 +15,3 @@ pub use range::sixteen;
 pub use ranges::Ranges;
 pub use slot::Slot;
 pub use tagged::{Hash, empty, inner, key_of, leaf, value};
-
-#[cfg(test)]
-mod range_tests;
-#[cfg(test)]
-mod tests;

@@ -2,3 +2,4 @@ pub mod Plain
 pub mod Lines
 pub mod Found
 pub mod Written
+pub mod FirstLines

@@ -60,7 +60,7 @@ impl LineReader {
     }
 
     /// Takes from the source until a line with its line feed is held or the input is at its end. `false` says that
-    /// nothing is left. Of a line longer than the limit, bytes behind its front are let go.
+    /// nothing is left. Of a line longer than the limit, bytes after its front are let go.
     ///
     /// After a `FetchFault` what was taken counts as held, and the next call goes on from there.
     pub fn fetch<S: Source>(&mut self, source: &mut S) -> Result<bool, FetchFault>
@@ -86,7 +86,7 @@ impl LineReader {
         }
     }
 
-    /// The line at the front, without its line feed: all that is held where it has none. Of a line longer than the limit
+    /// The line at the front, without its line feed: all that is held if it has none. Of a line longer than the limit
     /// these are the first bytes, one more than the limit.
     pub fn line(&self) -> &[u8]
         ensures { result.now ≡ take (self.now.limit + 1) (before_first is_line_feed self.now.bytes) }
@@ -133,7 +133,7 @@ impl LineReader {
         self.searched < self.bytes.len()
     }
 
-    // Lets go what is held of an unfinished line behind the bytes that tell that it is longer than the limit.
+    // Lets go what is held of an unfinished line after the bytes that tell that it is longer than the limit.
     fn shorten(&mut self)
         requires { position_or_len is_line_feed self.old.bytes ≡ length self.old.bytes }
         ensures { self.new ≡ record self.old { bytes = take (self.old.limit + 1) self.old.bytes } }
@@ -144,7 +144,7 @@ impl LineReader {
         }
     }
 
-    // Takes a piece of input, and answers how many bytes it has. 0 is the end of the input.
+    // Takes a piece of input, and returns how many bytes it has. 0 is the end of the input.
     fn take_piece<S: Source>(&mut self, source: &mut S) -> Result<usize, FetchFault>
         requires { length self.old.bytes ≤ self.old.limit + 1 }
         ensures kept { (rest : List ℕ) → S.rest source.old ≡ Some rest → (left : List ℕ) × (S.rest source.new ≡ Some left) × (self.new.bytes ++ left ≡ self.old.bytes ++ rest) }
@@ -165,7 +165,7 @@ impl LineReader {
     }
 }
 
-// The place of the first line feed from `start` on, or the length where there is none.
+// The place of the first line feed from `start` on, or the length if there is none.
 fn line_end(bytes: &[u8], start: usize, searched: usize) -> usize
     requires { IsSearched bytes.now start searched }
     ensures within { result ≤ length bytes.now }
@@ -174,7 +174,7 @@ fn line_end(bytes: &[u8], start: usize, searched: usize) -> usize
     searched + first_line_feed(&bytes[searched..])
 }
 
-// The place of the first line feed, or the length where there is none.
+// The place of the first line feed, or the length if there is none.
 fn first_line_feed(bytes: &[u8]) -> usize
     ensures within { result ≤ length bytes.now }
     ensures value { result ≡ position_or_len is_line_feed bytes.now }
@@ -202,7 +202,7 @@ fn drop_front(bytes: &mut Vec<u8>, count: usize)
     bytes.truncate(kept);
 }
 
-// Appends a piece of input to these bytes, and answers how many bytes it has. 0 is the end of the input.
+// Appends a piece of input to these bytes, and returns how many bytes it has. 0 is the end of the input.
 fn append_piece<S: Source>(bytes: &mut Vec<u8>, source: &mut S) -> Result<usize, FetchFault>
     ensures front { take (length bytes.old.items) bytes.new.items ≡ bytes.old.items }
     ensures short { length bytes.new.items ≤ length bytes.old.items + PIECE }
@@ -227,182 +227,5 @@ fn append_piece<S: Source>(bytes: &mut Vec<u8>, source: &mut S) -> Result<usize,
             bytes.truncate(len);
             Err(FetchFault::ReadFault)
         }
-    }
-}
-
-#[cfg(test)]
-mod tests {
-    use super::*;
-    use crate::mem_source::MemSource;
-    use jf_path::Bytes;
-    use std::test::Fail;
-
-    const LIMIT: usize = 8_500;
-
-    // A source of these bytes, whose call number `failing` fails.
-    fn source_of(alloc: Global, bytes: &[u8], piece: usize, failing: u64) -> Result<MemSource, Fail>
-        requires { 0 < piece }
-    {
-        let failing = [failing].to_vec(alloc)?;
-        Ok(MemSource::new(Bytes::copy_of(alloc, bytes)?, piece, failing))
-    }
-
-    #[test]
-    fn hands_lines_on(rt: HostRuntime) -> Result<(), Fail> {
-        for piece in [1, 3, 11] {
-            for (text, lines) in [
-                (b"".as_slice(), [None, None, None]),
-                (b"\n".as_slice(), [Some(b"".as_slice()), None, None]),
-                (b"one".as_slice(), [Some(b"one".as_slice()), None, None]),
-                (
-                    b"one\n\nthree\n".as_slice(),
-                    [
-                        Some(b"one".as_slice()),
-                        Some(b"".as_slice()),
-                        Some(b"three".as_slice()),
-                    ],
-                ),
-                (
-                    b"one two\r\nthree".as_slice(),
-                    [
-                        Some(b"one two\r".as_slice()),
-                        Some(b"three".as_slice()),
-                        None,
-                    ],
-                ),
-            ] {
-                let mut source = source_of(rt.alloc(), text, piece, u64::MAX)?;
-                let mut reader = LineReader::new(rt.alloc(), LIMIT);
-                for line in lines {
-                    assert_eq!(rt; reader.fetch(&mut source), Ok(line.is_some()));
-                    assert_eq!(rt; reader.line(), line.unwrap_or(b""));
-                    reader.advance();
-                }
-                assert_eq!(rt; reader.fetch(&mut source), Ok(false));
-            }
-        }
-        Ok(())
-    }
-
-    #[test]
-    fn goes_on_after_a_fault(rt: HostRuntime) -> Result<(), Fail> {
-        let mut source = source_of(rt.alloc(), b"abcdef\ngh", 4, 1)?;
-        let mut reader = LineReader::new(rt.alloc(), LIMIT);
-        assert_eq!(rt; reader.fetch(&mut source), Err(FetchFault::ReadFault));
-        assert_eq!(rt; reader.line(), b"abcd".as_slice());
-        for (want, line) in [
-            (Ok(true), b"abcdef".as_slice()),
-            (Ok(true), b"gh".as_slice()),
-            (Ok(false), b"".as_slice()),
-        ] {
-            assert_eq!(rt; reader.fetch(&mut source), want);
-            assert_eq!(rt; reader.line(), line);
-            reader.advance();
-        }
-        Ok(())
-    }
-
-    // Bytes of a line that has so many.
-    fn long_line(alloc: Global, len: usize) -> Result<Vec<u8>, Fail> {
-        let mut line = Vec::new(alloc);
-        for i in 0..len {
-            line.push(b"abcdefg"[i % 7])?;
-        }
-        Ok(line)
-    }
-
-    #[test]
-    fn holds_lines_whole_up_to_the_limit(rt: HostRuntime) -> Result<(), Fail> {
-        for len in [1, LIMIT] {
-            let line = long_line(rt.alloc(), len)?;
-            let mut text = line.to_vec(rt.alloc())?;
-            text.extend_from_slice(b"\nb")?;
-            for (bytes, next) in [
-                (text.as_slice(), Some(b"b".as_slice())),
-                (line.as_slice(), None),
-            ] {
-                for piece in [1, 7, 4_096, usize::MAX] {
-                    let mut source = source_of(rt.alloc(), bytes, piece, u64::MAX)?;
-                    let mut reader = LineReader::new(rt.alloc(), LIMIT);
-                    assert_eq!(rt; reader.fetch(&mut source), Ok(true));
-                    assert_eq!(rt; reader.line(), line.as_slice());
-                    reader.advance();
-                    assert_eq!(rt; reader.fetch(&mut source), Ok(next.is_some()));
-                    assert_eq!(rt; reader.line(), next.unwrap_or(b""));
-                }
-            }
-        }
-        Ok(())
-    }
-
-    #[test]
-    fn skips_the_rest_of_a_longer_line(rt: HostRuntime) -> Result<(), Fail> {
-        for (len, piece) in [
-            (LIMIT + 1, 1),
-            (LIMIT + 1, 7),
-            (LIMIT + 1, 4_096),
-            (9_000, 1),
-            (200_000, 7),
-            (200_000, 4_096),
-            (200_000, usize::MAX),
-        ] {
-            let line = long_line(rt.alloc(), len)?;
-            let mut text = line.to_vec(rt.alloc())?;
-            text.extend_from_slice(b"\nbehind\n\nlast")?;
-            let mut source = source_of(rt.alloc(), &text, piece, u64::MAX)?;
-            let mut reader = LineReader::new(rt.alloc(), LIMIT);
-            assert_eq!(rt; reader.fetch(&mut source), Ok(true));
-            assert_eq!(rt; Some(reader.line()), line.get(..LIMIT + 1));
-            assert!(rt; reader.bytes.len() <= LIMIT + 1 + PIECE);
-            for next in [b"behind".as_slice(), b"", b"last"] {
-                reader.advance();
-                assert_eq!(rt; reader.fetch(&mut source), Ok(true));
-                assert_eq!(rt; reader.line(), next);
-            }
-            reader.advance();
-            assert_eq!(rt; reader.fetch(&mut source), Ok(false));
-        }
-        Ok(())
-    }
-
-    #[test]
-    fn skips_a_line_without_line_feed(rt: HostRuntime) -> Result<(), Fail> {
-        for (len, piece) in [
-            (LIMIT + 1, 1),
-            (200_000, 7),
-            (200_000, 4_096),
-            (1 << 22, 65_536),
-        ] {
-            let mut text = b"first\n".to_vec(rt.alloc())?;
-            text.extend_from_slice(&long_line(rt.alloc(), len)?)?;
-            let mut source = source_of(rt.alloc(), &text, piece, u64::MAX)?;
-            let mut reader = LineReader::new(rt.alloc(), LIMIT);
-            assert_eq!(rt; reader.fetch(&mut source), Ok(true));
-            assert_eq!(rt; reader.line(), b"first".as_slice());
-            reader.advance();
-            assert_eq!(rt; reader.fetch(&mut source), Ok(true));
-            assert_eq!(rt; reader.line().len(), LIMIT + 1);
-            assert!(rt; reader.is_last());
-            assert!(rt; reader.bytes.len() <= LIMIT + 1 + PIECE);
-            reader.advance();
-            assert_eq!(rt; reader.fetch(&mut source), Ok(false));
-        }
-        Ok(())
-    }
-
-    #[test]
-    fn goes_on_after_a_fault_in_a_skipped_line(rt: HostRuntime) -> Result<(), Fail> {
-        let mut text = long_line(rt.alloc(), 200_000)?;
-        text.extend_from_slice(b"\nbehind")?;
-        let mut source = source_of(rt.alloc(), &text, 4_096, 10)?;
-        let mut reader = LineReader::new(rt.alloc(), LIMIT);
-        assert_eq!(rt; reader.fetch(&mut source), Err(FetchFault::ReadFault));
-        assert!(rt; reader.is_last());
-        assert_eq!(rt; reader.fetch(&mut source), Ok(true));
-        assert_eq!(rt; reader.line().len(), LIMIT + 1);
-        reader.advance();
-        assert_eq!(rt; reader.fetch(&mut source), Ok(true));
-        assert_eq!(rt; reader.line(), b"behind".as_slice());
-        Ok(())
     }
 }

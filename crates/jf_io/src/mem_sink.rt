@@ -9,7 +9,7 @@ use jf_path::Memory;
 use std::alloc::Global;
 use std::marker::Model;
 
-/// A sink that keeps its text in memory, takes a piece a call, and fails where it is told to or its room is used up.
+/// A sink that keeps its text in memory, takes a piece a call, and fails when it is told to or its room is used up.
 #[derive(Debug, Drop)]
 pub struct MemSink {
     text: Vec<u8>,
@@ -33,7 +33,7 @@ impl MemSink {
     /// A sink without text that has room for `room` bytes and takes at most `piece` of them a call. The calls to `put`
     /// whose numbers, from 0, are listed in `failing` fail. From call number `u64::MAX` on each call has that number.
     ///
-    /// All memory is taken here. `failing` is dropped where it is wanting.
+    /// All memory is taken here. If it is wanting, `failing` is dropped.
     pub fn new(alloc: Global, piece: usize, room: u64, failing: Vec<u64>) -> Result<MemSink, Memory>
         requires { 0 < piece }
         ensures { IfOk result (λ s. s ≡ record { text = []; room = room; piece = piece; calls = record { made = 0; failing = failing.items; faults = 0 } }) }
@@ -95,46 +95,5 @@ impl Sink for MemSink {
 
     fn faults(&self) -> u64 {
         self.calls.faults()
-    }
-}
-
-#[cfg(test)]
-mod tests {
-    use super::*;
-    use crate::sink::put_all;
-    use std::test::Fail;
-
-    #[test]
-    fn takes_pieces_until_the_room_is_used_up(rt: HostRuntime) -> Result<(), Fail> {
-        let failing = [1].to_vec(rt.alloc())?;
-        let mut sink = MemSink::new(rt.alloc(), 3, 5, failing)?;
-        for (bytes, want, text, faults) in [
-            (b"abcd".as_slice(), Ok(3), b"abc".as_slice(), 0),
-            (b"d".as_slice(), Err(IoFailed), b"abc".as_slice(), 1),
-            (b"defg".as_slice(), Ok(2), b"abcde".as_slice(), 1),
-            (b"f".as_slice(), Err(IoFailed), b"abcde".as_slice(), 2),
-        ] {
-            assert!(rt; !bytes.is_empty());
-            assert_eq!(rt; sink.put(bytes), want);
-            assert_eq!(rt; sink.text(), text);
-            assert_eq!(rt; sink.faults(), faults);
-        }
-        Ok(())
-    }
-
-    #[test]
-    fn puts_all_or_a_front(rt: HostRuntime) -> Result<(), Fail> {
-        for (room, listed, want, text) in [
-            (7, 9, Ok(()), b"abcdefg".as_slice()),
-            (4, 9, Err(IoFailed), b"abcd".as_slice()),
-            (7, 0, Err(IoFailed), b"".as_slice()),
-            (7, 2, Err(IoFailed), b"abcdef".as_slice()),
-        ] {
-            let failing = [listed].to_vec(rt.alloc())?;
-            let mut sink = MemSink::new(rt.alloc(), 3, room, failing)?;
-            assert_eq!(rt; put_all(&mut sink, b"abcdefg"), want);
-            assert_eq!(rt; sink.text(), text);
-        }
-        Ok(())
     }
 }

@@ -6,13 +6,13 @@ use crate::failed::IoFailed;
 
 /// A text that is taken piece by piece.
 pub trait Sink {
-    /// The text so far, where the sink tells it.
+    /// The text so far, if the sink tells it.
     ghost text: { Self → Option (List ℕ) };
 
     /// The number of faults so far, which stands still at `u64::MAX`.
     ghost faults: { Self → ℕ };
 
-    /// Appends bytes from the front of these to the text, and answers how many, at least 1.
+    /// Appends bytes from the front of these to the text, and returns how many, at least 1.
     ///
     /// After `IoFailed` a sink that tells its text has it as before; another may have taken any of the bytes.
     fn put(&mut self, bytes: &[u8]) -> Result<usize, IoFailed>
@@ -28,7 +28,7 @@ pub trait Sink {
         ensures { result ≡ faults self.now };
 }
 
-/// Puts all these bytes into the sink, in as many calls as it takes, and in none where there is no byte.
+/// Puts all these bytes into the sink, in as many calls as it takes, and in none if there is no byte.
 ///
 /// After `IoFailed` a front of the bytes was put, and not all of them.
 pub fn put_all<K: Sink>(sink: &mut K, bytes: &[u8]) -> Result<(), IoFailed>

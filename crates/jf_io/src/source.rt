@@ -5,7 +5,7 @@ use crate::failed::IoFailed;
 
 /// An input that is given piece by piece.
 pub trait Source {
-    /// The bytes that are still to come, where the source tells them.
+    /// The bytes that are still to come, if the source tells them.
     ghost rest: { Self → Option (List ℕ) };
 
     /// The number of bytes given so far.
@@ -14,14 +14,14 @@ pub trait Source {
     /// The number of faults so far, which stands still at `u64::MAX`.
     ghost faults: { Self → ℕ };
 
-    /// Moves the next bytes of the input into the front of `buf`, and answers how many. 0 is the end of the input.
+    /// Moves the next bytes of the input into the front of `buf`, and returns how many. 0 is the end of the input.
     ///
     /// A call on a source that has given `u64::MAX` bytes fails. After `IoFailed` the same bytes are still to come.
-    /// A source that doesn't tell its bytes may have written anything into `buf` then, and behind the bytes that it gave.
+    /// A source that doesn't tell its bytes may have written anything into `buf` then, and after the bytes that it gave.
     fn take(&mut self, buf: &mut [u8]) -> Result<usize, IoFailed>
         requires { 0 < length buf.old }
 
-        // What an answer gives.
+        // What a call that succeeds gives.
         ensures bound { IfOk result (λ n. n ≤ length buf.old) }
         ensures given { IfOk result (λ n. given self.new ≡ given self.old + n) }
         ensures bounded { OnOk result (given self.new < 2 ^ 64) }

@@ -23,7 +23,7 @@ impl<W> Model for StdSink<W> {
 }
 
 impl<W: Write> StdSink<W> {
-    /// A sink whose bytes go to this writer. Each `put` flushes it, so that no byte waits in a buffer behind an answer.
+    /// A sink whose bytes go to this writer. Each `put` flushes it, so that no byte waits in a buffer when it returns.
     pub fn new(writer: W) -> StdSink<W>
         ensures { result ≡ 0 }
     {
@@ -66,7 +66,7 @@ fn write_through<W: Write>(writer: &mut W, bytes: &[u8]) -> io::Result<usize>
     Ok(count)
 }
 
-// Writes once, and again where a signal interrupts it. It is a fault only where that is so in each attempt.
+// Writes once, and again if a signal interrupts it. It is a fault only if that is so in each attempt.
 fn write<W: Write>(writer: &mut W, bytes: &[u8]) -> io::Result<usize>
     ensures { IfOk result (λ n. n ≤ length bytes.now) }
 {
@@ -79,7 +79,7 @@ fn write<W: Write>(writer: &mut W, bytes: &[u8]) -> io::Result<usize>
     writer.write(bytes)
 }
 
-// Flushes, and again where a signal interrupts it.
+// Flushes, and again if a signal interrupts it.
 fn flush<W: Write>(writer: &mut W) -> io::Result<()> {
     for _ in 1..ATTEMPTS {
         match writer.flush() {
@@ -88,76 +88,4 @@ fn flush<W: Write>(writer: &mut W) -> io::Result<()> {
         }
     }
     writer.flush()
-}
-
-#[cfg(test)]
-mod tests {
-    use super::*;
-    use crate::sink::put_all;
-    use std::test::Fail;
-
-    // A writer that takes at most 2 bytes a write, and `room` bytes in all. Signals interrupt each write and flush once.
-    #[derive(Drop)]
-    struct Narrow {
-        room: usize,
-        interrupted: bool,
-        flushes: bool,
-    }
-
-    impl Narrow {
-        fn interrupt(&mut self) -> io::Result<()> {
-            self.interrupted = !self.interrupted;
-            if self.interrupted {
-                return Err(io::Error::from(ErrorKind::Interrupted));
-            }
-            Ok(())
-        }
-    }
-
-    impl Write for Narrow {
-        fn write(&mut self, buf: &[u8]) -> io::Result<usize> {
-            self.interrupt()?;
-            let count = buf.len().min(2).min(self.room);
-            self.room -= count;
-            Ok(count)
-        }
-
-        fn flush(&mut self) -> io::Result<()> {
-            self.interrupt()?;
-            if self.flushes {
-                Ok(())
-            } else {
-                Err(io::Error::from(ErrorKind::BrokenPipe))
-            }
-        }
-    }
-
-    #[test]
-    fn hands_all_bytes_to_the_writer(rt: HostRuntime) -> Result<(), Fail> {
-        let mut text = Vec::new(rt.alloc());
-        let mut sink = StdSink::new(&mut text);
-        put_all(&mut sink, b"abc")?;
-        put_all(&mut sink, b"")?;
-        put_all(&mut sink, b"de")?;
-        assert_eq!(rt; sink.faults(), 0);
-        assert_eq!(rt; text.as_slice(), b"abcde".as_slice());
-        Ok(())
-    }
-
-    #[test]
-    fn counts_a_write_of_no_byte_and_a_failed_flush(rt: HostRuntime) {
-        for (room, flushes, want, faults) in [
-            (5, true, Ok(()), 0),
-            (3, true, Err(IoFailed), 1),
-            (5, false, Err(IoFailed), 1),
-        ] {
-            let mut sink = StdSink::new(Narrow {
-                room,
-                interrupted: false,
-                flushes,
-            });
-            assert_eq!(rt; put_all(&mut sink, b"abcde"), want);
-            assert_eq!(rt; sink.faults(), faults);
-        }
-    }
 }

@@ -7,6 +7,3 @@ mod pieces;
 
 pub use gate::{FreeGate, Gate};
 pub use pieces::join_pieces;
-
-#[cfg(test)]
-mod tests;

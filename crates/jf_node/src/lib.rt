@@ -13,6 +13,3 @@ pub use link::{Link, Sixteen};
 pub use seen::Seen;
 pub use snapshot::Snapshot;
 pub use update::Update;
-
-#[cfg(test)]
-mod tests;

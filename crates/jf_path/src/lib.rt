@@ -25,6 +25,3 @@ pub use nibbles::Nibble;
 pub use node::PlainNode;
 pub use node_lists::{FreshList, LiveList, NameList};
 pub use path::NibblePath;
-
-#[cfg(test)]
-mod tests;

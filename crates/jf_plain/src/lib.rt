@@ -7,6 +7,3 @@ mod versions;
 
 pub use map::PlainMap;
 pub use versions::PlainVersions;
-
-#[cfg(test)]
-mod tests;

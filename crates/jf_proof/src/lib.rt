@@ -11,6 +11,3 @@ mod way;
 pub use claim::verify;
 pub use honest::prove;
 pub use jf_evidence::{Proof, ProofFault, honest_claims_are_accepted};
-
-#[cfg(test)]
-mod tests;

@@ -72,7 +72,7 @@ fn put_u64(out: &mut Vec<u8>, number: u64) -> Result<(), Memory>
     Ok(())
 }
 
-// Adds a value behind its length.
+// Adds a value after its length.
 #[tactic(auto, unfolding(crate::specs::Spelling::four_bytes))]
 fn put_value(out: &mut Vec<u8>, value: &[u8]) -> Result<(), Memory>
     requires { length value.now ≤ 4096 }

@@ -1,4 +1,4 @@
-// Fields at the front of bytes, each with the bytes behind it.
+// Fields at the front of bytes, each with the bytes after it.
 ghost use Rattle.std.specs.Prelude.{◌≡◌, ◌≤◌, length, IfOk, IfSome, option_map};
 ghost use Rattle.jf_record.specs.Reading.{Gives, four_at, eight_at, value_at, change_at, entry_at};
 ghost use Rattle.jf_record.specs.Views.{entry_view};
@@ -36,7 +36,7 @@ pub(crate) fn u64_at(bytes: &[u8]) -> Result<(u64, &[u8]), RecordFault>
     Ok((u64::from_be_bytes(*number), rest))
 }
 
-// A value of at most 4,096 bytes, behind its length.
+// A value of at most 4,096 bytes, after its length.
 #[tactic(auto, unfolding(crate::specs::Reading::value_at))]
 fn value_of(bytes: &[u8]) -> Result<(&[u8], &[u8]), RecordFault>
     ensures read { Gives (λ x. (x.0.now, x.1.now)) result (value_at bytes.now) }

@@ -4,10 +4,10 @@ use jf_split::Batch;
 // The kind of a landing.
 pub(crate) const LANDING: u8 = 1;
 
-// The byte behind a key that is removed.
+// The byte after a key that is removed.
 pub(crate) const REMOVED: u8 = 0;
 
-// The byte behind a key that has a value.
+// The byte after a key that has a value.
 pub(crate) const SET: u8 = 1;
 
 // A gate that is closed.

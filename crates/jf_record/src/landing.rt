@@ -36,7 +36,7 @@ fn add(alloc: Global, batch: &mut Batch, entry: &Entry<'_>) -> Result<(), BatchF
     }
 }
 
-// Adds an entry behind those of a batch that has room, where its key is above theirs.
+// Adds an entry after those of a batch that has room, if its key is above theirs.
 fn push(alloc: Global, batch: &mut Batch, entry: &Entry<'_>) -> Result<(), RecordFault>
     requires room { length batch.old < 10000 }
     requires limited { IfSome (entry_view entry.now).1 (λ v. length v ≤ 4096) }

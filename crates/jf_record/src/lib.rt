@@ -14,6 +14,3 @@ pub use encoding::{encode, encode_landing};
 pub use fault::RecordFault;
 pub use kinds::Record;
 pub use laws::{one_record, one_spelling, spelling_is_decided};
-
-#[cfg(test)]
-mod tests;

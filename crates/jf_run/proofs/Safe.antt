@@ -1,5 +1,5 @@
--- At every moment of a run over a calm disk, a stop leaves a first part of its entries, or one more at which the disk failed.
-use Rattle.std.proofs.Common.{◌≡◌, ◌⊎◌, inl, inr, ℕ, ◌≤◌, List, [], ◌∷◌, length, Option, Some, refl, sym, subst, ap, ◌∙◌, arith}
+-- At every moment of a run a stop leaves a first part of its entries, or all of them and that of the first line without a reply.
+use Rattle.std.proofs.Common.{◌≡◌, ◌⊎◌, inl, inr, ℕ, ◌≤◌, List, ◌∷◌, length, Option, Some, refl, sym, subst, ap, ◌∙◌, arith}
 use Rattle.jf_disk.specs.Disk.{History, Files, LeftSince, reads}
 use Rattle.jf_disk.specs.Moments.{all_states, left_now}
 use Rattle.jf_disk.specs.CrashLaws.{goes_left}
@@ -12,16 +12,17 @@ use Rattle.jf_journal.specs.Steps.{Opens, StopsWell, IsCalm}
 use Rattle.jf_journal.specs.Laws.{FilesStandForOne}
 use Rattle.jf_engine.specs.Engines.{IsSettledOn}
 use Rattle.jf_session.specs.Sessions.{Session}
-use Rattle.jf_session.specs.Runs.{HasRun, EndsBy, Outlasts, AreWithin, IsFrontImage, IsDatedBy}
+use Rattle.jf_answers.specs.Own.{Own}
+use Rattle.jf_answers.specs.Answers.{answer}
+use Rattle.jf_session.specs.Runs.{HasRun, EndsBy, Outlasts, AreWithin, IsFrontImage}
 use Rattle.jf_session.specs.declared.running.End.{End}
 use Rattle.jf_session.specs.declared.running.End.TheVariants as end
 use Rattle.jf_run.specs.Commands.{status_of}
-use Rattle.jf_run.specs.Promises.{IsBegun}
-use Rattle.jf_run.specs.Stops.{IsSafeSince, IsSafeOpened}
-use Rattle.jf_run.specs.declared.status.Status.{Status}
+use Rattle.jf_run.specs.Promises.{IsBegun, own_after}
+use Rattle.jf_run.specs.Stops.{IsSafeSince}
 use Rattle.jf_run.proofs.Attempts.{answer-lands}
 use Rattle.jf_run.proofs.Complete.{added_are}
-use Rattle.jf_run.proofs.Counting.{told_one, run_landings}
+use Rattle.jf_run.proofs.Counting.{told_one}
 use Rattle.jf_run.proofs.Statuses.{rose_later}
 use Rattle.jf_run.proofs.Stopping.{left-within, opened-left, Outlasts-left, front-none, front-all}
 
@@ -35,13 +36,13 @@ run_front v es h g k low high t f opening calm stands lasts within dated le left
     ]
 
 -- the end of a run changes no front image, but by a fault of the disk
-ends_safe : (e : End) (v : Versions) (es : List Entry) (mid new : Session) (next : Option (List ℕ)) (k : History) (from faults : ℕ) → EndsBy e mid new next → mid.history ≡ Some k
-    → mid.state ≡ replay (opened v 1) es → faults ≤ mid.faults → ((t : ℕ) → from ≤ t → (f : Files) → LeftSince k t f → IsFrontImage f t (opened v 1) es)
-    → IsSafeSince from new.history v es (status_of e) faults new.faults
-ends_safe end.Done v es mid new next k from faults ends told state le front = record { history = k; told = ends.history ∙ told; leaves = λ t since f left. inl (front t since f left) }
-ends_safe end.ReadFault v es mid new next k from faults ends told state le front = record { history = k; told = ends.history ∙ told; leaves = λ t since f left. inl (front t since f left) }
-ends_safe end.WriteFault v es mid new next k from faults ends told state le front = record { history = k; told = ends.history ∙ told; leaves = λ t since f left. inl (front t since f left) }
-ends_safe end.DiskFault v es mid new next k from faults ends told state le front =
+ends_safe : (e : End) (v : Versions) (es : List Entry) (mid new : Session) (next : Option (List ℕ)) (k : History) (from faults : ℕ) (own : Own) → EndsBy e mid new next → mid.history ≡ Some k
+    → mid.state ≡ replay (opened v 1) es → mid.own ≡ own → faults ≤ mid.faults → ((t : ℕ) → from ≤ t → (f : Files) → LeftSince k t f → IsFrontImage f t (opened v 1) es)
+    → IsSafeSince from new.history v es own next (status_of e) faults new.faults
+ends_safe end.Done v es mid new next k from faults own ends told state own_is le front = record { history = k; told = ends.history ∙ told; leaves = λ t since f left. inl (front t since f left) }
+ends_safe end.ReadFault v es mid new next k from faults own ends told state own_is le front = record { history = k; told = ends.history ∙ told; leaves = λ t since f left. inl (front t since f left) }
+ends_safe end.WriteFault v es mid new next k from faults own ends told state own_is le front = record { history = k; told = ends.history ∙ told; leaves = λ t since f left. inl (front t since f left) }
+ends_safe end.DiskFault v es mid new next k from faults own ends told state own_is le front =
     let tries = ends.2 in
     let went = tries.disk k told in
     let all_is : mid.state.all ≡ (replay (opened v 1) es).all = ap (λ s. s.all) state in
@@ -55,7 +56,10 @@ ends_safe end.DiskFault v es mid new next k from faults ends told state le front
               | inr x ↦ inr (record {
                 failed = refl;
                 rose = rose_later faults mid.faults new.faults le tries.faults tries.rose;
+                line = ends.0;
+                line_is = ends.1;
                 attempt = tries.attempt;
+                tried = subst (λ s. (answer s own ends.0).entry ≡ Some tries.attempt) state (subst (λ w. (answer mid.state w ends.0).entry ≡ Some tries.attempt) own_is tries.tried);
                 legal = subst (λ s. IsLegal s tries.attempt) state tries.legal;
                 stands = subst (λ s. StandsFor f (after tries.attempt s).all) state (subst (λ w. StandsFor f w) (sym (answer-lands mid.state mid.own ends.0 tries.attempt tries.tried)) x);
               })
@@ -63,8 +67,8 @@ ends_safe end.DiskFault v es mid new next k from faults ends told state le front
             | inr before ↦ inl (front t since f before)
           ];
     }
-ends_safe end.Broken v es mid new next k from faults ends told state le front = absurd ends
-ends_safe end.Memory v es mid new next k from faults ends told state le front = record { history = k; told = ends.history ∙ told; leaves = λ t since f left. inl (front t since f left) }
+ends_safe end.Broken v es mid new next k from faults own ends told state own_is le front = absurd ends
+ends_safe end.Memory v es mid new next k from faults own ends told state own_is le front = record { history = k; told = ends.history ∙ told; leaves = λ t since f left. inl (front t since f left) }
 
 -- the images of a run since the store was open
 opened_front : (v : Versions) (es : List Entry) (g k : History) (low high t : ℕ) (f : Files) → IsSettledOn g v → Outlasts (opened v 1) g k es → AreWithin low high (moments_of es)
@@ -79,7 +83,7 @@ opened_front v es g k low high t f settled lasts within dated le left =
 run_from : (h : History) (v : Versions) (e : End) (s : Session) (rest rest' text text' : Option (List ℕ)) (before history : Option History) (m f head moment faults from : ℕ) (es : List Entry)
     → FilesStandForOne → before ≡ Some h → StandsFor (reads h) v → IsBegun s before m f head → (run : HasRun e s rest rest' text text' history moment faults es)
     → ((g k : History) → s.history ≡ Some g → IsSettledOn g v → Outlasts (opened v 1) g k es → AreWithin s.moment run.ran.mid.moment (moments_of es) → (t : ℕ) → from ≤ t → (x : Files) → LeftSince k t x → IsFrontImage x t (opened v 1) es)
-    → IsSafeSince from history v es (status_of e) f faults
+    → IsSafeSince from history v es (own_after s run.ran.done) run.ran.next (status_of e) f faults
 run_from h v e s rest rest' text text' before history m f head moment faults from es one told stands begun run front =
     let there = begun.settled h told in
     let g = there.0 in
@@ -90,39 +94,26 @@ run_from h v e s rest rest' text text' before history m f head moment faults fro
     let went = run.ran.advances.disk g there.1 there.2 in
     let lasts : Outlasts (opened v 1) g went.0 es = subst (λ x. Outlasts x g went.0 es) state_is (subst (λ xs. Outlasts s.state g went.0 xs) (sym es_are) went.2) in
     let within : AreWithin s.moment run.ran.mid.moment (moments_of es) = subst (λ xs. AreWithin s.moment run.ran.mid.moment (moments_of xs)) (sym es_are) run.ran.advances.dated in
-    let safe : IsSafeSince from run.last.history v es (status_of e) f run.last.faults =
-    ends_safe e v es run.ran.mid run.last run.ran.next went.0 from f run.ran.ends went.1
-    (run.ran.advances.replayed ∙ ap (λ xs. replay s.state xs) (sym es_are) ∙ ap (λ x. replay x es) state_is) (omega (arith, begun.faults_on, run.ran.advances.faults))
+    let own = own_after s run.ran.done in
+    let safe : IsSafeSince from run.last.history v es own run.ran.next (status_of e) f run.last.faults =
+    ends_safe e v es run.ran.mid run.last run.ran.next went.0 from f own run.ran.ends went.1
+    (run.ran.advances.replayed ∙ ap (λ xs. replay s.state xs) (sym es_are) ∙ ap (λ x. replay x es) state_is) run.ran.advances.own (omega (arith, begun.faults_on, run.ran.advances.faults))
     (front g went.0 there.1 settled lasts within) in
-    subst (λ x. IsSafeSince from x v es (status_of e) f faults) (sym run.ends.history_is) (subst (λ n. IsSafeSince from run.last.history v es (status_of e) f n) (sym run.ends.faults_are) safe)
+    subst (λ x. IsSafeSince from x v es own run.ran.next (status_of e) f faults) (sym run.ends.history_is) (subst (λ n. IsSafeSince from run.last.history v es own run.ran.next (status_of e) f n) (sym run.ends.faults_are) safe)
 
 -- at every moment of a run over a calm disk's files, the opening included
 pub run_safe : (h : History) (v : Versions) (e : End) (s : Session) (rest rest' text text' : Option (List ℕ)) (before history : Option History) (m f head moment faults : ℕ) (es : List Entry)
-    → FilesStandForOne → before ≡ Some h → length h.before ≡ m → IsDatedBy s → IsCalm h → StandsFor (reads h) v → IsBegun s before m f head → HasRun e s rest rest' text text' history moment faults es
-    → IsSafeSince m history v es (status_of e) f faults
-run_safe h v e s rest rest' text text' before history m f head moment faults es one told dated dated_s calm stands begun run =
+    → FilesStandForOne → before ≡ Some h → length h.before ≡ m → IsCalm h → StandsFor (reads h) v → IsBegun s before m f head → (run : HasRun e s rest rest' text text' history moment faults es)
+    → IsSafeSince m history v es (own_after s run.ran.done) run.ran.next (status_of e) f faults
+run_safe h v e s rest rest' text text' before history m f head moment faults es one told dated calm stands begun run =
     let opening = begun.stops h v told calm stands in
     run_from h v e s rest rest' text text' before history m f head moment faults m es one told stands begun run
-    (λ g k told_g settled lasts within t since x left. run_front v es h g k s.moment run.ran.mid.moment t x (subst (λ y. StopsWell Opens h y v) (told_one s.history opening.0 g opening.1 told_g) opening.2) calm stands lasts within (dated_s g told_g) (omega (arith, dated, since)) left)
+    (λ g k told_g settled lasts within t since x left. run_front v es h g k s.moment run.ran.mid.moment t x (subst (λ y. StopsWell Opens h y v) (told_one s.history opening.0 g opening.1 told_g) opening.2) calm stands lasts within (begun.dated g told_g) (omega (arith, dated, since)) left)
 
 -- on any disk, from the moment on at which the store was open
 pub run_opened_safe : (h : History) (v : Versions) (e : End) (s : Session) (rest rest' text text' : Option (List ℕ)) (before history : Option History) (m f head moment faults : ℕ) (es : List Entry)
-    → FilesStandForOne → before ≡ Some h → IsDatedBy s → StandsFor (reads h) v → IsBegun s before m f head → HasRun e s rest rest' text text' history moment faults es
-    → IsSafeOpened m moment history v es (status_of e) f faults
-run_opened_safe h v e s rest rest' text text' before history m f head moment faults es one told dated_s stands begun run = record {
-  opened_at = s.moment;
-  later = begun.moment_on;
-  landings = run_landings e s rest rest' text text' before history m f head moment faults es begun run;
-  safe =
-      run_from h v e s rest rest' text text' before history m f head moment faults s.moment es one told stands begun run
-      (λ g k told_g settled lasts within t since x left. opened_front v es g k s.moment run.ran.mid.moment t x settled lasts within (dated_s g told_g) since left);
-}
-
--- at every moment of an opening that was refused
-pub closed_safe : (h g : History) (v : Versions) (history : Option History) (m : ℕ) (how : Status) (faults faults' : ℕ) → history ≡ Some g → length h.before ≡ m → IsCalm h → StandsFor (reads h) v
-    → StopsWell Opens h g v → IsSafeSince m history v [] how faults faults'
-closed_safe h g v history m how faults faults' told dated calm stands opening = record {
-  history = g;
-  told = told;
-  leaves = λ t since f left. inl (front-none v [] t t t f (omega arith) (omega arith) (opened-left h g v t f opening calm stands (omega (arith, dated, since)) left));
-}
+    → FilesStandForOne → before ≡ Some h → StandsFor (reads h) v → IsBegun s before m f head → (run : HasRun e s rest rest' text text' history moment faults es)
+    → IsSafeSince s.moment history v es (own_after s run.ran.done) run.ran.next (status_of e) f faults
+run_opened_safe h v e s rest rest' text text' before history m f head moment faults es one told stands begun run =
+    run_from h v e s rest rest' text text' before history m f head moment faults s.moment es one told stands begun run
+    (λ g k told_g settled lasts within t since x left. opened_front v es g k s.moment run.ran.mid.moment t x settled lasts within (begun.dated g told_g) since left)

@@ -1,6 +1,6 @@
 // The words of a command line.
 ghost use Rattle.std.specs.Prelude.{◌≡◌, map, string_bytes, IfOk};
-ghost use Rattle.jf_run.specs.Commands.{workers, is_over, option_workers, mode_of};
+ghost use Rattle.jf_run.specs.Commands.{workers, is_over, option_workers, asked};
 
 use clap::error::ErrorKind;
 use clap::{Arg, ArgAction, Command};
@@ -27,7 +27,7 @@ pub enum Mode {
 
 /// What the words of a command line ask for. None says that they are none of the program's; an error, that memory ran out.
 pub fn mode_of(alloc: Global, words: &[String]) -> Result<Option<Mode>, AllocError>
-    ensures { IfOk result (λ r. r ≡ mode_of (map (λ w. string_bytes w) words.now)) }
+    ensures { IfOk result (λ r. r ≡ asked words.now) }
 {
     match words {
         [mode, rest @ ..] if mode.as_str() == "run" => {

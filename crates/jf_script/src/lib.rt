@@ -9,8 +9,6 @@ mod laws;
 mod number;
 mod reading;
 mod reply;
-#[cfg(test)]
-mod tests;
 mod word;
 mod writing;
 

@@ -1,7 +1,7 @@
 -- What a session's own steps make of it.
-use Rattle.std.proofs.Common.{◌≡◌, ℕ, ◌+◌, ◌-◌, ◌^◌, ◌<◌, ◌≤◌, Bool, true, false, IsTrue, Option, Some, List, [], ◌∷◌, ◌++◌, length, refl, sym, ap, ap₂, ◌∙◌, subst, arith, length-append}
-use Rattle.std.specs.Prelude.{nat_le}
-use Rattle.std.specs.FinMap.{put}
+use Rattle.std.proofs.Common.{◌≡◌, ◌⊎◌, inl, inr, ℕ, ◌+◌, ◌-◌, ◌^◌, ◌<◌, ◌≤◌, Bool, true, false, IsTrue, Option, Some, List, [], ◌∷◌, ◌++◌, length, refl, sym, ap, ap₂, ◌∙◌, subst, arith, length-append}
+use Rattle.std.specs.Prelude.{nat_le, nat_lt}
+use Rattle.std.specs.FinMap.{put, len}
 use Rattle.jf_path.specs.Keys.{key_cmp}
 use Rattle.jf_hash.specs.Hashes.{K}
 use Rattle.jf_hash.specs.Maps.{Batch, IsBatch, apply}
@@ -22,7 +22,7 @@ use Rattle.jf_script.specs.declared.reply.Reply.{Reply}
 use Rattle.jf_script.specs.declared.reply.Reply.TheVariants as reply
 use Rattle.jf_script.specs.declared.reply.Refusal.TheVariants as refusal
 use Rattle.jf_session.specs.Sessions.{Session, shown, Does, Tries, Rose, commit_answer}
-use Rattle.jf_session.proofs.Said.{set_command, set-full, set-room, commit-done, commit-ledger, commit-head}
+use Rattle.jf_session.proofs.Said.{set_command, set-full, set-room, commit-done, commit-ledger, commit-head, commit-keys}
 
 -- a reply that changes what is pending alone
 pub replied_does : (e : Engine) (es : List Entry) (p q : Batch) (over : Bool) (r : Reply) → Does (shown e es p over) (shown e es q over) (replied r (shown e es p over).state (with_pending q (shown e es p over).own))
@@ -59,8 +59,8 @@ pub record IsAnswer (e e' : Engine) (p : Batch) (version moment : ℕ) (r : List
 abbrev entry_of : Engine → Batch → Entry
 entry_of e p = entry.Landed 0 (e.versions.head + 1) (landing.Direct p) (root (apply (newest e.versions) p)) 0
 
-pub legal_landing : (e : Engine) (es : List Entry) (p : Batch) (over : Bool) → IsBatch p → length es < 2 ^ 62 → e.versions.head < 2 ^ 64 - 2 → IsLegal (shown e es p over).state (entry_of e p)
-legal_landing e es p over sound room more = (room, record { may = sound; next = refl; bounded = omega arith; rooted = refl })
+pub legal_landing : (e : Engine) (es : List Entry) (p : Batch) (over : Bool) → IsBatch p → length es < 2 ^ 62 → e.versions.head < 2 ^ 64 - 2 → len (newest e.versions) ≤ 2 ^ 62 → IsLegal (shown e es p over).state (entry_of e p)
+legal_landing e es p over sound room more small = (room, record { may = sound; small = small; next = refl; bounded = omega arith; rooted = refl })
 
 landed_state : (e : Engine) (v : Versions) (es : List Entry) (x : Entry) (p : Batch) (over : Bool) (mo fa : ℕ) (hi : Option History) (br : Bool) → v ≡ landed p e.versions
     → (shown (record { history = hi; moment = mo; faults = fa; versions = v; broken = br }) (es ++ x ∷ []) [] over).state ≡ after (entry_of e p) (shown e es p over).state
@@ -75,11 +75,12 @@ landed_entry e e' p version moment r a =
     ∙ ap (λ t. entry.Landed 0 (e.versions.head + 1) (landing.Direct p) (root (apply (newest e.versions) p)) t) a.moment_is
 
 pub commit_does : (e e' : Engine) (es : List Entry) (p : Batch) (over : Bool) (version moment : ℕ) (r : List ℕ)
-    → nat_le (2 ^ 62) (length es) ≡ false → nat_le (2 ^ 64 - 2) e.versions.head ≡ false → length es < 2 ^ 62 → e.versions.head < 2 ^ 64 - 2 → IsBatch p → IsAnswer e e' p version moment r
+    → nat_le (2 ^ 62) (length es) ≡ false → nat_le (2 ^ 64 - 2) e.versions.head ≡ false → nat_lt (2 ^ 62) (len (newest e.versions)) ≡ false
+    → length es < 2 ^ 62 → e.versions.head < 2 ^ 64 - 2 → len (newest e.versions) ≤ 2 ^ 62 → IsBatch p → IsAnswer e e' p version moment r
     → e.moment < e'.moment → e.faults ≤ e'.faults
     → ((h : History) → e.history ≡ Some h → (g : History) × (e'.history ≡ Some g) × Succeeds (Lands (p ∷ [])) h g e.versions)
     → Does (shown e es p over) (shown e' (es ++ entry.Landed 0 version (landing.Direct p) r moment ∷ []) [] over) (commit_answer (shown e es p over))
-commit_does e e' es p over version moment r room more room' more' sound a later faults disk =
+commit_does e e' es p over version moment r room more small room' more' small' sound a later faults disk =
     let s = shown e es p over in
     let x = entry.Landed 0 version (landing.Direct p) r moment in
     let t = shown e' (es ++ x ∷ []) [] over in
@@ -87,28 +88,29 @@ commit_does e e' es p over version moment r room more room' more' sound a later 
       state = landed_state e e'.versions es x p over e'.moment e'.faults e'.history e'.broken a.versions;
       own = refl;
       entries = ap (λ y. es ++ y ∷ []) (landed_entry e e' p version moment r a);
-      legal = legal_landing e es p over sound room' more';
+      legal = legal_landing e es p over sound room' more' small';
       disk = record { later = later; faults = faults; disk = disk };
     } in
-    subst (λ a. Does s t a) (sym (commit-done s.state s.own room more)) done
+    subst (λ a. Does s t a) (sym (commit-done s.state s.own room more small)) done
 
 pub commit_reply : (e e' : Engine) (es : List Entry) (p : Batch) (over : Bool) (version moment : ℕ) (r : List ℕ)
-    → nat_le (2 ^ 62) (length es) ≡ false → nat_le (2 ^ 64 - 2) e.versions.head ≡ false → IsAnswer e e' p version moment r → reply.Commit version r ≡ (commit_answer (shown e es p over)).reply
-commit_reply e e' es p over version moment r room more a =
+    → nat_le (2 ^ 62) (length es) ≡ false → nat_le (2 ^ 64 - 2) e.versions.head ≡ false → nat_lt (2 ^ 62) (len (newest e.versions)) ≡ false → IsAnswer e e' p version moment r → reply.Commit version r ≡ (commit_answer (shown e es p over)).reply
+commit_reply e e' es p over version moment r room more small a =
     let s = shown e es p over in
-    ap₂ reply.Commit (a.version_is ∙ ap (λ (v : Versions). v.head) a.versions) (a.root_is ∙ ap (λ (v : Versions). root (newest v)) a.versions) ∙ ap (λ (a : Answer). a.reply) (sym (commit-done s.state s.own room more))
+    ap₂ reply.Commit (a.version_is ∙ ap (λ (v : Versions). v.head) a.versions) (a.root_is ∙ ap (λ (v : Versions). root (newest v)) a.versions) ∙ ap (λ (a : Answer). a.reply) (sym (commit-done s.state s.own room more small))
 
 pub commit_tries : (e e' : Engine) (es : List Entry) (p : Batch) (over over' : Bool)
-    → nat_le (2 ^ 62) (length es) ≡ false → nat_le (2 ^ 64 - 2) e.versions.head ≡ false → length es < 2 ^ 62 → e.versions.head < 2 ^ 64 - 2 → IsBatch p
+    → nat_le (2 ^ 62) (length es) ≡ false → nat_le (2 ^ 64 - 2) e.versions.head ≡ false → nat_lt (2 ^ 62) (len (newest e.versions)) ≡ false
+    → length es < 2 ^ 62 → e.versions.head < 2 ^ 64 - 2 → len (newest e.versions) ≤ 2 ^ 62 → IsBatch p
     → e'.versions ≡ e.versions → Rose e.faults e'.faults → e.moment ≤ e'.moment → e.faults ≤ e'.faults
     → ((h : History) → e.history ≡ Some h → (g : History) × (e'.history ≡ Some g) × StopsWell (Lands (p ∷ [])) h g e.versions)
     → Tries (shown e es p over) (shown e' es p over') (commit_answer (shown e es p over))
-commit_tries e e' es p over over' room more room' more' sound same rose moment faults disk =
+commit_tries e e' es p over over' room more small room' more' small' sound same rose moment faults disk =
     let s = shown e es p over in
     record {
       attempt = entry_of e p;
-      tried = ap (λ (a : Answer). a.entry) (commit-done s.state s.own room more);
-      legal = legal_landing e es p over sound room' more';
+      tried = ap (λ (a : Answer). a.entry) (commit-done s.state s.own room more small);
+      legal = legal_landing e es p over sound room' more' small';
       state = ap (λ (v : Versions). let s : State = record { all = v; floor = v.floor; retired = v.floor; generation = 1; count = length es; made = 0; forks = [] } in s) same;
       entries = refl;
       rose = rose;
@@ -126,6 +128,12 @@ below_test n m lt = grind (arith)
 
 pub above_test : (n m : ℕ) → m ≤ n → nat_le m n ≡ true
 above_test n m le = grind (arith)
+
+pub small_test : (n m : ℕ) → n ≤ m → nat_lt m n ≡ false
+small_test n m le = grind (arith)
+
+pub large_test : (n m : ℕ) → m < n → nat_lt m n ≡ true
+large_test n m lt = grind (arith)
 
 -- ---- as the code finds it: the session is what its parts show
 
@@ -162,34 +170,46 @@ module _ (e : Engine) (es : List Entry) (p : Batch) (over : Bool) (s : Session) 
   pub ledger_reply : 2 ^ 62 ≤ length es → reply.No refusal.Last ≡ (commit_answer s).reply
   ledger_reply full = ap (λ (a : Answer). a.reply) (sym (commit-ledger old.state old.own (above_test (length es) (2 ^ 62) full))) ∙ ap (λ (t : Session). (commit_answer t).reply) is
 
-  pub head_does : (e' : Engine) (es' : List Entry) → e' ≡ e → es' ≡ es → e.versions.head ≡ 2 ^ 64 - 2 → Does s (shown e' es' p over) (commit_answer s)
-  head_does e' es' same kept last =
+  last_does : (e' : Engine) (es' : List Entry) → e' ≡ e → es' ≡ es → commit_answer old ≡ replied (reply.No refusal.Last) old.state old.own → Does s (shown e' es' p over) (commit_answer s)
+  last_does e' es' same kept refused =
       subst (λ es'. Does s (shown e' es' p over) (commit_answer s)) (sym kept)
       (subst (λ e'. Does s (shown e' es p over) (commit_answer s)) (sym same)
-      (same_does (shown e es p over) commit_answer
-      (refused_does e es p over (reply.No refusal.Last) (commit_answer old) (commit-head old.state old.own (above_test e.versions.head (2 ^ 64 - 2) (omega arith))))))
+      (same_does (shown e es p over) commit_answer (refused_does e es p over (reply.No refusal.Last) (commit_answer old) refused)))
 
-  pub head_reply : e.versions.head ≡ 2 ^ 64 - 2 → reply.No refusal.Last ≡ (commit_answer s).reply
-  head_reply last =
-      ap (λ (a : Answer). a.reply) (sym (commit-head old.state old.own (above_test e.versions.head (2 ^ 64 - 2) (omega arith)))) ∙ ap (λ (t : Session). (commit_answer t).reply) is
+  last_reply : commit_answer old ≡ replied (reply.No refusal.Last) old.state old.own → reply.No refusal.Last ≡ (commit_answer s).reply
+  last_reply refused = ap (λ (a : Answer). a.reply) (sym refused) ∙ ap (λ (t : Session). (commit_answer t).reply) is
+
+  -- one version more doesn't fit, or the head's map is too large
+  abbrev IsNoMore : Type 0
+  IsNoMore = (e.versions.head ≡ 2 ^ 64 - 2) ⊎ (2 ^ 62 < len (newest e.versions))
+
+  no_more : IsNoMore → commit_answer old ≡ replied (reply.No refusal.Last) old.state old.own
+  no_more (inl last) = commit-head old.state old.own (above_test e.versions.head (2 ^ 64 - 2) (omega arith))
+  no_more (inr large) = commit-keys old.state old.own (large_test (len (newest e.versions)) (2 ^ 62) large)
+
+  pub head_does : (e' : Engine) (es' : List Entry) → e' ≡ e → es' ≡ es → IsNoMore → Does s (shown e' es' p over) (commit_answer s)
+  head_does e' es' same kept why = last_does e' es' same kept (no_more why)
+
+  pub head_reply : IsNoMore → reply.No refusal.Last ≡ (commit_answer s).reply
+  head_reply why = last_reply (no_more why)
 
   pub landed_does : (e' : Engine) (es' : List Entry) (q : Batch) (version moment : ℕ) (r : List ℕ)
-      → length es < 2 ^ 62 → e.versions.head < 2 ^ 64 - 2 → IsBatch p → IsAnswer e e' p version moment r → e.moment < e'.moment → e.faults ≤ e'.faults
+      → length es < 2 ^ 62 → e.versions.head < 2 ^ 64 - 2 → len (newest e.versions) ≤ 2 ^ 62 → IsBatch p → IsAnswer e e' p version moment r → e.moment < e'.moment → e.faults ≤ e'.faults
       → ((h : History) → e.history ≡ Some h → (g : History) × (e'.history ≡ Some g) × Succeeds (Lands (p ∷ [])) h g e.versions)
       → es' ≡ es ++ entry.Landed 0 version (landing.Direct p) r moment ∷ [] → q ≡ [] → Does s (shown e' es' q over) (commit_answer s)
-  landed_does e' es' q version moment r room more sound a later faults disk grown none =
+  landed_does e' es' q version moment r room more small sound a later faults disk grown none =
       same_does (shown e' es' q over) commit_answer
       (subst (λ es'. Does old (shown e' es' q over) (commit_answer old)) (sym grown)
       (subst (λ q. Does old (shown e' (es ++ entry.Landed 0 version (landing.Direct p) r moment ∷ []) q over) (commit_answer old)) (sym none)
-      (commit_does e e' es p over version moment r (below_test (length es) (2 ^ 62) room) (below_test e.versions.head (2 ^ 64 - 2) more) room more sound a later faults disk)))
+      (commit_does e e' es p over version moment r (below_test (length es) (2 ^ 62) room) (below_test e.versions.head (2 ^ 64 - 2) more) (small_test (len (newest e.versions)) (2 ^ 62) small) room more small sound a later faults disk)))
 
-  pub landed_reply : (e' : Engine) (version moment : ℕ) (r : List ℕ) → length es < 2 ^ 62 → e.versions.head < 2 ^ 64 - 2 → IsAnswer e e' p version moment r → reply.Commit version r ≡ (commit_answer s).reply
-  landed_reply e' version moment r room more a =
-      commit_reply e e' es p over version moment r (below_test (length es) (2 ^ 62) room) (below_test e.versions.head (2 ^ 64 - 2) more) a ∙ ap (λ (t : Session). (commit_answer t).reply) is
+  pub landed_reply : (e' : Engine) (version moment : ℕ) (r : List ℕ) → length es < 2 ^ 62 → e.versions.head < 2 ^ 64 - 2 → len (newest e.versions) ≤ 2 ^ 62 → IsAnswer e e' p version moment r → reply.Commit version r ≡ (commit_answer s).reply
+  landed_reply e' version moment r room more small a =
+      commit_reply e e' es p over version moment r (below_test (length es) (2 ^ 62) room) (below_test e.versions.head (2 ^ 64 - 2) more) (small_test (len (newest e.versions)) (2 ^ 62) small) a ∙ ap (λ (t : Session). (commit_answer t).reply) is
 
-  pub fault_tries : (e' : Engine) (es' : List Entry) (over' : Bool) → es' ≡ es → length es < 2 ^ 62 → e.versions.head < 2 ^ 64 - 2 → IsBatch p → e'.versions ≡ e.versions → Rose e.faults e'.faults → e.moment ≤ e'.moment → e.faults ≤ e'.faults
+  pub fault_tries : (e' : Engine) (es' : List Entry) (over' : Bool) → es' ≡ es → length es < 2 ^ 62 → e.versions.head < 2 ^ 64 - 2 → len (newest e.versions) ≤ 2 ^ 62 → IsBatch p → e'.versions ≡ e.versions → Rose e.faults e'.faults → e.moment ≤ e'.moment → e.faults ≤ e'.faults
       → ((h : History) → e.history ≡ Some h → (g : History) × (e'.history ≡ Some g) × StopsWell (Lands (p ∷ [])) h g e.versions) → Tries s (shown e' es' p over') (commit_answer s)
-  fault_tries e' es' over' kept room more sound same rose moment faults disk =
+  fault_tries e' es' over' kept room more small sound same rose moment faults disk =
       subst (λ es'. Tries s (shown e' es' p over') (commit_answer s)) (sym kept)
       (subst (λ t. Tries t (shown e' es p over') (commit_answer t)) is
-      (commit_tries e e' es p over over' (below_test (length es) (2 ^ 62) room) (below_test e.versions.head (2 ^ 64 - 2) more) room more sound same rose moment faults disk))
+      (commit_tries e e' es p over over' (below_test (length es) (2 ^ 62) room) (below_test e.versions.head (2 ^ 64 - 2) more) (small_test (len (newest e.versions)) (2 ^ 62) small) room more small sound same rose moment faults disk))

@@ -1,6 +1,7 @@
 -- A push for which there is room.
 use Rattle.std.proofs.Common.{◌≡◌, ◌⊎◌, inl, inr, ℕ, ◌<◌, ◌≤◌, Bool, true, false, Result, Ok, Err, List, [], ◌∷◌, ◌++◌, eq-or-lt_of_le}
 use Rattle.std.specs.Prelude.{is_ok, IsOk, if◌then◌else◌}
+use Rattle.std.proofs.lemmas.Bool.Decides.{leb_tells}
 
 pub pushed : {X T E : Type 0} (r : Result T E) (new old : List X) (x : X) → new ≡ (if is_ok r then old ++ x ∷ [] else old) → IsOk r → new ≡ old ++ x ∷ []
 pushed (Ok t) new old x e ok = e
@@ -13,3 +14,6 @@ whole_of over broken (inr e) no_over = e
 
 pub below_last : (n m : ℕ) → n ≤ m → (n ≡ m → ⊥) → n < m
 below_last n m le ne = elim (eq-or-lt_of_le le) [ inl e ↦ absurd (ne e) | inr lt ↦ lt ]
+
+pub not_above : (n m : ℕ) → (m < n → ⊥) → n ≤ m
+not_above n m no_more = elim (leb_tells n m) [ inl le ↦ le.1 | inr lt ↦ absurd (no_more lt.1) ]

@@ -1,8 +1,10 @@
 -- What commands are answered, by the first cause that holds.
 use Rattle.std.proofs.Common.{◌≡◌, ℕ, ◌-◌, ◌^◌, Bool, true, false, cond, Option, Some, None, List, refl, ap, ◌∙◌}
-use Rattle.std.specs.Prelude.{nat_le}
+use Rattle.std.specs.Prelude.{nat_le, nat_lt}
+use Rattle.std.specs.FinMap.{len}
 use Rattle.jf_hash.specs.Hashes.{K}
 use Rattle.jf_split.specs.Limits.{is_full}
+use Rattle.jf_model.specs.Versions.{newest}
 use Rattle.jf_model.specs.States.{State}
 use Rattle.jf_answers.specs.Own.{Own}
 use Rattle.jf_answers.specs.Refusals.{refused_by}
@@ -27,24 +29,42 @@ unfolding refused_by
 set-room s own name (Some value) e = ap (λ b. elim (cond b (Some refusal.Pending) None) as (λ x. Answer) [ Some why ↦ replied (reply.No why) s own | None ↦ changed name (Some value) s own ]) e
 set-room s own name None e = ap (λ b. elim (cond b (Some refusal.Pending) None) as (λ x. Answer) [ Some why ↦ replied (reply.No why) s own | None ↦ changed name None s own ]) e
 
--- what a commit is answered, by its two tests
-abbrev pub commit_by : State → Own → Bool → Bool → Answer
-commit_by s own full last =
-    elim (cond full (Some refusal.Last) (cond last (Some refusal.Last) None)) as (λ x. Answer) [ Some why ↦ replied (reply.No why) s own | None ↦ committed s own ]
+-- what a commit is answered, by its three tests
+abbrev pub commit_by : State → Own → Bool → Bool → Bool → Answer
+commit_by s own full last large =
+    elim (cond full (Some refusal.Last) (cond last (Some refusal.Last) (cond large (Some refusal.Last) None))) as (λ x. Answer) [ Some why ↦ replied (reply.No why) s own | None ↦ committed s own ]
 
-pub commit-by : (s : State) (own : Own) → answer_command s own command.Commit ≡ commit_by s own (nat_le (2 ^ 62) s.count) (nat_le (2 ^ 64 - 2) s.all.head)
+abbrev is_ledger_full : State → Bool
+is_ledger_full s = nat_le (2 ^ 62) s.count
+
+abbrev is_head_last : State → Bool
+is_head_last s = nat_le (2 ^ 64 - 2) s.all.head
+
+abbrev is_map_large : State → Bool
+is_map_large s = nat_lt (2 ^ 62) (len (newest s.all))
+
+pub commit-by : (s : State) (own : Own) → answer_command s own command.Commit ≡ commit_by s own (is_ledger_full s) (is_head_last s) (is_map_large s)
 unfolding refused_by
 commit-by s own = refl
 
-pub commit-ledger : (s : State) (own : Own) → nat_le (2 ^ 62) s.count ≡ true → answer_command s own command.Commit ≡ replied (reply.No refusal.Last) s own
-commit-ledger s own full = commit-by s own ∙ ap (λ b. commit_by s own b (nat_le (2 ^ 64 - 2) s.all.head)) full
+pub commit-ledger : (s : State) (own : Own) → is_ledger_full s ≡ true → answer_command s own command.Commit ≡ replied (reply.No refusal.Last) s own
+commit-ledger s own full = commit-by s own ∙ ap (λ b. commit_by s own b (is_head_last s) (is_map_large s)) full
 
-commit_either : (s : State) (own : Own) (full : Bool) → commit_by s own full true ≡ replied (reply.No refusal.Last) s own
-commit_either s own true = refl
-commit_either s own false = refl
+commit_either : (s : State) (own : Own) (full large : Bool) → commit_by s own full true large ≡ replied (reply.No refusal.Last) s own
+commit_either s own true large = refl
+commit_either s own false large = refl
 
-pub commit-head : (s : State) (own : Own) → nat_le (2 ^ 64 - 2) s.all.head ≡ true → answer_command s own command.Commit ≡ replied (reply.No refusal.Last) s own
-commit-head s own last = commit-by s own ∙ ap (λ b. commit_by s own (nat_le (2 ^ 62) s.count) b) last ∙ commit_either s own (nat_le (2 ^ 62) s.count)
+commit_any : (s : State) (own : Own) (full last : Bool) → commit_by s own full last true ≡ replied (reply.No refusal.Last) s own
+commit_any s own true last = refl
+commit_any s own false true = refl
+commit_any s own false false = refl
 
-pub commit-done : (s : State) (own : Own) → nat_le (2 ^ 62) s.count ≡ false → nat_le (2 ^ 64 - 2) s.all.head ≡ false → answer_command s own command.Commit ≡ committed s own
-commit-done s own room more = commit-by s own ∙ ap (λ b. commit_by s own b (nat_le (2 ^ 64 - 2) s.all.head)) room ∙ ap (λ b. commit_by s own false b) more
+pub commit-head : (s : State) (own : Own) → is_head_last s ≡ true → answer_command s own command.Commit ≡ replied (reply.No refusal.Last) s own
+commit-head s own last = commit-by s own ∙ ap (λ b. commit_by s own (is_ledger_full s) b (is_map_large s)) last ∙ commit_either s own (is_ledger_full s) (is_map_large s)
+
+pub commit-keys : (s : State) (own : Own) → is_map_large s ≡ true → answer_command s own command.Commit ≡ replied (reply.No refusal.Last) s own
+commit-keys s own large = commit-by s own ∙ ap (λ b. commit_by s own (is_ledger_full s) (is_head_last s) b) large ∙ commit_any s own (is_ledger_full s) (is_head_last s)
+
+pub commit-done : (s : State) (own : Own) → is_ledger_full s ≡ false → is_head_last s ≡ false → is_map_large s ≡ false → answer_command s own command.Commit ≡ committed s own
+commit-done s own room more small =
+    commit-by s own ∙ ap (λ b. commit_by s own b (is_head_last s) (is_map_large s)) room ∙ ap (λ b. commit_by s own false b (is_map_large s)) more ∙ ap (λ b. commit_by s own false false b) small

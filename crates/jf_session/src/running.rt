@@ -60,6 +60,8 @@ pub fn run<S: Source, K: Sink, D: Disk, H: Threads + Sync, G: Gate>(
     ensures ran { HasRun result.end session (S.rest source.old) (S.rest source.new) (K.text sink.old) (K.text sink.new) (D.history result.disk) (D.moment result.disk) (D.faults result.disk) result.entries }
     ensures read { result.end ≡ End.ReadFault → (S.faults source.old < S.faults source.new) ⊎ (S.faults source.old ≡ 2 ^ 64 - 1) }
     ensures write { result.end ≡ End.WriteFault → (K.faults sink.old < K.faults sink.new) ⊎ (K.faults sink.old ≡ 2 ^ 64 - 1) }
+    ensures source_counts { S.faults source.old ≤ S.faults source.new }
+    ensures sink_counts { K.faults sink.old ≤ K.faults sink.new }
 {
     let end = match answer_all(rt, alloc, &mut session, source, sink, workers, gate) {
         Ok(()) => End::Done,
@@ -86,6 +88,8 @@ fn answer_all<S: Source, K: Sink, D: Disk, H: Threads + Sync, G: Gate>(
     ensures ended { IfErr result (λ e. Ran e session.old session.new (S.rest source.old) (S.rest source.new) (K.text sink.old) (K.text sink.new)) }
     ensures read { result ≡ Err End.ReadFault → (S.faults source.old < S.faults source.new) ⊎ (S.faults source.old ≡ 2 ^ 64 - 1) }
     ensures write { result ≡ Err End.WriteFault → (K.faults sink.old < K.faults sink.new) ⊎ (K.faults sink.old ≡ 2 ^ 64 - 1) }
+    ensures source_counts { S.faults source.old ≤ S.faults source.new }
+    ensures sink_counts { K.faults sink.old ≤ K.faults sink.new }
 {
     let mut reader = LineReader::new(alloc, LINE_BYTES);
     let mut out = Bytes::new(alloc);

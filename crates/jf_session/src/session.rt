@@ -3,11 +3,12 @@ ghost use Rattle.std.specs.Prelude.{◌≡◌, ◌⊎◌, ◌↔◌, ℕ, ◌+�
 ghost use Rattle.jf_disk.specs.Disk.{History, reads};
 ghost use Rattle.jf_disk.specs.Moments.{Extends};
 ghost use Rattle.jf_disk.specs.declared.side.Side.{Side};
-ghost use Rattle.jf_model.specs.Versions.{Versions};
+ghost use Rattle.jf_model.specs.Versions.{Versions, IsVersions};
 ghost use Rattle.jf_model.specs.States.{opened};
 ghost use Rattle.jf_disk.specs.Crashes.{KeepsOther};
 ghost use Rattle.jf_journal.specs.Standing.{StandsFor, IsDamagedAt, generation};
 ghost use Rattle.jf_journal.specs.Steps.{Opens, StopsWell, IsCalm};
+ghost use Rattle.jf_journal.specs.Begun.{IsBegunOver};
 ghost use Rattle.jf_engine.specs.Engines.{IsSettledOn};
 ghost use Rattle.jf_disk.specs.Crashes.{LeavesFiles};
 ghost use Rattle.jf_answers.specs.Own.{begun};
@@ -59,22 +60,23 @@ impl<D: Disk> Model for Session<D> {
 }
 
 impl<D: Disk> Session<D> {
-    /// Opens the files of a disk, for a session without a line so far. A refusal hands the disk back; the files
-    /// stand for what they stood for. After `Damaged` and `Memory` nothing was made of them. Side B is left alone.
+    /// Opens the files of a disk, for a session without a line so far. A refusal hands the disk back. Nothing was made
+    /// of its files then, whatever they hold, with one exception: after `DiskFault` files without a record may be begun
+    /// in part, and still hold none. Side B is unchanged.
     pub fn over<H: Threads + Sync>(
         rt: &H,
         alloc: Global,
         disk: D,
     ) -> Result<Session<D>, OpenRefused<D>>
         ensures found { (h : History) → D.history disk ≡ Some h → IfOk result (λ s. StandsFor (reads h) s.state.all) }
+        ensures sound { IfOk result (λ s. IsVersions s.state.all) }
         ensures state { IfOk result (λ s. (s.state ≡ opened s.state.all 1) × (s.own ≡ begun 0) × (s.entries ≡ []) × (s.over ≡ false)) }
         ensures settled { (h : History) → D.history disk ≡ Some h → IfOk result (λ s. (g : History) × (s.history ≡ Some g) × IsSettledOn g s.state.all × (generation (reads g) ≡ generation (reads h))) }
         ensures stands_on { (h : History) (v : Versions) → D.history disk ≡ Some h → StandsFor (reads h) v → IfOk result (λ s. (g : History) × (s.history ≡ Some g) × StandsFor (reads g) v) }
         ensures stands_on_err { (h : History) (v : Versions) → D.history disk ≡ Some h → StandsFor (reads h) v → IfErr result (λ e. (g : History) × (D.history e.disk ≡ Some g) × StandsFor (reads g) v) }
         ensures damaged { (h : History) (side : Side) (at : ℕ) → D.history disk ≡ Some h → IfErr result (λ e. e.why ≡ OpenFault.Damaged side at → IsDamagedAt (reads h) side at) }
         ensures damaged_told { (h : History) (side : Side) (at : ℕ) → D.history disk ≡ Some h → IsDamagedAt (reads h) side at → IsErr result × IfErr result (λ e. (e.why ≡ OpenFault.Damaged side at) ⊎ ((e.why ≡ OpenFault.DiskFault) ⊎ (e.why ≡ OpenFault.Memory))) }
-        ensures damaged_left { (h : History) (side : Side) (at : ℕ) → D.history disk ≡ Some h → IfErr result (λ e. e.why ≡ OpenFault.Damaged side at → (g : History) × (D.history e.disk ≡ Some g) × LeavesFiles h g) }
-        ensures memory_left { (h : History) → D.history disk ≡ Some h → IfErr result (λ e. e.why ≡ OpenFault.Memory → (g : History) × (D.history e.disk ≡ Some g) × LeavesFiles h g) }
+        ensures left { (h : History) → D.history disk ≡ Some h → IfErr result (λ e. (g : History) × (D.history e.disk ≡ Some g) × (LeavesFiles h g ⊎ ((e.why ≡ OpenFault.DiskFault) × IsBegunOver h g))) }
         ensures extends { (h : History) → D.history disk ≡ Some h → IfOk result (λ s. (g : History) × (s.history ≡ Some g) × Extends h g) }
         ensures extends_err { (h : History) → D.history disk ≡ Some h → IfErr result (λ e. (g : History) × (D.history e.disk ≡ Some g) × Extends h g) }
         ensures other { (h : History) → D.history disk ≡ Some h → IfOk result (λ s. (g : History) × (s.history ≡ Some g) × KeepsOther Side.A h g) }
@@ -86,6 +88,7 @@ impl<D: Disk> Session<D> {
         ensures counts_err { IfErr result (λ e. (D.moment disk ≤ D.moment e.disk) × (D.faults disk ≤ D.faults e.disk)) }
     {
         let engine = Engine::<D>::open(rt, alloc, disk)?;
+        engine.know();
         Ok(Session {
             engine,
             entries: Vec::new(alloc),

@@ -4,6 +4,3 @@
 mod versions;
 
 pub use versions::SnapshotVersions;
-
-#[cfg(test)]
-mod tests;

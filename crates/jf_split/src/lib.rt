@@ -11,6 +11,3 @@ pub use batch::Batch;
 pub use fault::BatchFault;
 pub use list::BatchList;
 pub use piece::Piece;
-
-#[cfg(test)]
-mod tests;

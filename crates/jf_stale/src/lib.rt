@@ -4,6 +4,3 @@
 mod index;
 
 pub use index::StaleIndex;
-
-#[cfg(test)]
-mod tests;

@@ -12,14 +12,14 @@ module _ {A : Type 0} where
   abbrev pub StartsWith : List A → List A → Type 0
   StartsWith whole front = (rest : List A) × (whole ≡ front ++ rest)
 
-  -- the longer of two lists, and the first where they are as long
+  -- the longer of two lists, and the first if they are as long
   abbrev pub longer : List A → List A → List A
   longer xs ys = cond (ltb (length xs) (length ys)) ys xs
-
-  -- of two lists of numbers, that beside the shorter list
-  abbrev pub shorter_numbers : List A → List A → List ℕ → List ℕ → List ℕ
-  shorter_numbers xs ys ns ms = cond (ltb (length xs) (length ys)) ns ms
 
   -- the other of the two
   abbrev pub shorter : List A → List A → List A
   shorter xs ys = cond (ltb (length xs) (length ys)) xs ys
+
+  -- of two lists of numbers, the one that goes with the shorter list
+  abbrev pub shorter_numbers : List A → List A → List ℕ → List ℕ → List ℕ
+  shorter_numbers xs ys ns ms = cond (ltb (length xs) (length ys)) ns ms

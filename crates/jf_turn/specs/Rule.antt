@@ -38,7 +38,7 @@ module _ {V E O : Type 0} (list : V → List E) (names : E → ℕ) (origin_of :
   abbrev pub OwnAreSeen : List E → SeatView E O → Type 0
   OwnAreSeen entries v = (k : ℕ) (e : E) → get_elem? entries k ≡ maybe.some e → Has v.numbers (names e) → k < length v.seen
 
-  -- The turn is held by a seat exactly where that seat stands for the number that the turn is held for.
+  -- The turn is held by a seat exactly if that seat stands for the number that the turn is held for.
   -- The holder's view keeps the turn's list, with its own entries in it from the move on; each other seat has seen its own entries. The first seat holds an empty turn until the value is brought in.
   abbrev pub FitsHand : List E → List (maybe.Option (Option V)) → SeatView E O → Hand → Stage E → Type 0
   FitsHand entries homes v free Spent = Unit {0}
@@ -56,7 +56,7 @@ module _ {V E O : Type 0} (list : V → List E) (names : E → ℕ) (origin_of :
     pub seen : StartsWith a.entries v.seen
     -- and so is what a seat that was joined to it had seen
     pub other_seen : StartsWith a.entries v.other_seen
-    -- which has all entries that name a number of that seat, until this one takes the turn
+    -- which has all entries that name a number of that seat; none of its numbers is kept once this one has taken the turn or made a seat
     pub others : (n : ℕ) → Has v.other_numbers n → Has v.numbers n × ((k : ℕ) (e : E) → get_elem? a.entries k ≡ maybe.some e → names e ≡ n → k < length v.other_seen)
     -- it has the turn's origin
     pub origin : v.origin ≡ Some a.origin

@@ -52,7 +52,7 @@ module _ {V E O : Type 0} (list : V → List E) (names : E → ℕ) (origin_of :
   abbrev pub numbered : At → Sat → ℕ → Sat → Type 0
   numbered st m r m' = (r ≡ m.0.given) × (m' ≡ (minted m.0, m.1))
 
-  -- of two lists that a joined seat has seen, the shorter begins the longer, which has behind it no entry of the seat that had seen the shorter
+  -- of two lists that a joined seat has seen, the shorter begins the longer, and no entry after it names a number of the seat that had seen the shorter
   abbrev pub compared : At → Sat → ℕ → Sat → Type 0
   compared st m r m' =
       (m' ≡ m) × (length m.0.other_seen ≤ length m.0.seen → StartsWith m.0.seen m.0.other_seen)

@@ -23,6 +23,3 @@ pub use opening::TurnRefused;
 pub use seat::Seat;
 pub use told::Told;
 pub use turn::Turn;
-
-#[cfg(test)]
-mod tests;

@@ -40,7 +40,8 @@ impl<V: Told> Play<Option<V>, SeatView<V::Entry, V::Origin>> for Number {
     ghost then = { numbered V.list V.names V.origin };
 }
 
-/// A load, by which a joined seat learns that the shorter list begins the longer.
+/// A load, by which a joined seat learns that the shorter list begins the longer, and that no entry after it names a
+/// number of the seat that had seen the shorter.
 pub(crate) struct Compare;
 
 impl<V: Told> Play<Option<V>, SeatView<V::Entry, V::Origin>> for Compare {

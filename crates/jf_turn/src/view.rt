@@ -20,7 +20,7 @@ pub struct SeatView<E, O> {
     pub seen: LinkedList<E>,
     /// The shorter of the lists of two seats that were joined.
     pub other_seen: LinkedList<E>,
-    /// The numbers of the seat that had seen the shorter one, until the joined seat takes the turn.
+    /// The numbers of the seat that had seen the shorter one; none once the joined seat has taken the turn or made a seat.
     pub other_numbers: LinkedList<u64>,
     pub stage: Stage<E>,
     pub origin: Option<O>,

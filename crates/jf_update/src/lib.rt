@@ -16,9 +16,5 @@ mod sorted;
 mod value;
 mod work;
 
+pub use jf_node::Update;
 pub use next::{update, update_counted};
-
-#[cfg(test)]
-mod many_tests;
-#[cfg(test)]
-mod tests;

@@ -5,4 +5,5 @@ pub mod Turns
 pub mod Feeds
 pub mod Bounds
 pub mod LineByLine
+pub mod Folds
 pub mod SoFar

@@ -21,6 +21,3 @@ pub use laws::{
 };
 pub use stream::{Verified, verify_stream};
 pub use text::judge_text;
-
-#[cfg(test)]
-mod tests;

@@ -1,8 +1,8 @@
 // An input from a source, judged into a sink.
-ghost use Rattle.std.specs.Prelude.{◌≡◌, ◌⊎◌, ℕ, ◌-◌, ◌<◌, ◌≤◌, ◌^◌, List, [], ◌∷◌, ◌++◌, Some, Err, OnOk, OnErr, option_map};
+ghost use Rattle.std.specs.Prelude.{◌≡◌, ◌⊎◌, ℕ, ◌-◌, ◌<◌, ◌≤◌, ◌^◌, List, [], ◌++◌, Some, Err, OnOk, OnErr, IfErr, option_map};
 ghost use Rattle.jf_verify.specs.Verdicts.{verdicts};
-ghost use Rattle.jf_verify.specs.Steps.{rest};
-ghost use Rattle.jf_verify.specs.Streams.{GetsFront};
+ghost use Rattle.jf_verify.specs.Steps.{said, after, rest};
+ghost use Rattle.jf_verify.specs.Streams.{GetsFront, HasVerified};
 
 use crate::judging::Judge;
 use jf_io::{FetchFault, LineReader, Sink, Source, put_all};
@@ -27,7 +27,11 @@ pub enum Verified {
 
 /// Judges the lines of a source, and puts what each is answered into a sink before the next is looked at. Input is taken
 /// in large pieces, and nothing of it is kept but a line, a block that is begun and the accepted claims.
+///
+/// After a `ReadFault` the text has exactly what the whole lines taken are answered: a line that the fault cuts is not
+/// judged. After a `WriteFault`, or for want of memory, it has what the lines done are answered, the last maybe in part.
 pub fn verify_stream<S: Source, K: Sink>(alloc: Global, source: &mut S, sink: &mut K) -> Verified
+    ensures judged { HasVerified result (S.rest source.old) (S.rest source.new) (K.text sink.old) (K.text sink.new) }
     ensures done { (input : List ℕ) → S.rest source.old ≡ Some input → result ≡ Verified.Done → (S.rest source.new ≡ Some []) × (K.text sink.new ≡ option_map (λ t. t ++ verdicts input) (K.text sink.old)) }
     ensures front { (input : List ℕ) → S.rest source.old ≡ Some input → GetsFront (K.text sink.old) (K.text sink.new) (verdicts input) }
     ensures read { result ≡ Verified.ReadFault → (S.faults source.old < S.faults source.new) ⊎ (S.faults source.old ≡ 2 ^ 64 - 1) }
@@ -46,9 +50,8 @@ fn judge_lines<S: Source, K: Sink>(
     source: &mut S,
     sink: &mut K,
 ) -> Result<(), Verified>
-    ensures done { (input : List ℕ) → S.rest source.old ≡ Some input → OnOk result ((S.rest source.new ≡ Some []) × (K.text sink.new ≡ option_map (λ t. t ++ verdicts input) (K.text sink.old))) }
-    ensures front { (input : List ℕ) → S.rest source.old ≡ Some input → GetsFront (K.text sink.old) (K.text sink.new) (verdicts input) }
-    ensures only { OnErr result ((result ≡ Err Verified.ReadFault) ⊎ ((result ≡ Err Verified.WriteFault) ⊎ (result ≡ Err Verified.Memory))) }
+    ensures done { OnOk result (HasVerified Verified.Done (S.rest source.old) (S.rest source.new) (K.text sink.old) (K.text sink.new)) }
+    ensures ended { IfErr result (λ e. HasVerified e (S.rest source.old) (S.rest source.new) (K.text sink.old) (K.text sink.new)) }
     ensures read { result ≡ Err Verified.ReadFault → (S.faults source.old < S.faults source.new) ⊎ (S.faults source.old ≡ 2 ^ 64 - 1) }
     ensures write { result ≡ Err Verified.WriteFault → (K.faults sink.old < K.faults sink.new) ⊎ (K.faults sink.old ≡ 2 ^ 64 - 1) }
     ensures counts { (S.faults source.old ≤ S.faults source.new) × (K.faults sink.old ≤ K.faults sink.new) }
@@ -85,9 +88,9 @@ fn answer_line<K: Sink>(
     out: &mut Bytes,
     sink: &mut K,
 ) -> Result<(), Verified>
-    ensures said { OnOk result ((ls : List (List ℕ)) → out.new ++ rest judge.new ls ≡ rest judge.old (line.now ∷ ls)) }
-    ensures text { OnOk result (K.text sink.new ≡ option_map (λ t. t ++ out.new) (K.text sink.old)) }
-    ensures front { OnErr result ((ls : List (List ℕ)) → GetsFront (K.text sink.old) (K.text sink.new) (rest judge.old (line.now ∷ ls))) }
+    ensures after { OnOk result (judge.new ≡ after judge.old line.now) }
+    ensures text { OnOk result (K.text sink.new ≡ option_map (λ t. t ++ said judge.old line.now) (K.text sink.old)) }
+    ensures front { OnErr result (GetsFront (K.text sink.old) (K.text sink.new) (said judge.old line.now)) }
     ensures only { OnErr result ((result ≡ Err Verified.WriteFault) ⊎ (result ≡ Err Verified.Memory)) }
     ensures write { result ≡ Err Verified.WriteFault → (K.faults sink.old < K.faults sink.new) ⊎ (K.faults sink.old ≡ 2 ^ 64 - 1) }
     ensures grows { K.faults sink.old ≤ K.faults sink.new }

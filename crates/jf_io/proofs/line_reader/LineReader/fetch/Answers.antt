@@ -1,5 +1,4 @@
-use Rattle.std.proofs.Common.{◌≡◌, length, refl, le_refl, sym, ap, ◌∙◌, arith}
-use Rattle.std.specs.List.{position_or_len}
+use Rattle.std.proofs.Common.{◌≡◌, refl, le_refl, ap, ◌∙◌, arith}
 use Rattle.jf_io.specs.LineReader.{is_line_feed, Held}
 use Rattle.jf_io.proofs.Lines.{nowhere}
 use Rattle.jf_io.proofs.Shortened.{is_fetched-none, is_fetched-step, short_is_plain}

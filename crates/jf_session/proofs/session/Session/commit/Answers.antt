@@ -6,7 +6,7 @@ use Rattle.jf_model.specs.declared.entries.Landing.TheVariants as landing
 use Rattle.jf_engine.specs.declared.fault.EngineFault.TheVariants as fault
 use Rattle.jf_session.specs.Sessions.{Session}
 use Rattle.jf_session.proofs.Doings.{landed_does, landed_reply, head_does, head_reply, fault_tries}
-use Rattle.jf_session.proofs.Pushed.{pushed, whole_of, below_last}
+use Rattle.jf_session.proofs.Pushed.{pushed, whole_of, below_last, not_above}
 use Rattle.jf_session.proofs.session.Session.commit.Goals as goal
 
 pub returns-in-Ok-clause-ok : goal.returns-in-Ok-clause-ok
@@ -15,9 +15,9 @@ returns-in-Ok-clause-ok g c =
     let whole = whole_of i.over i.engine.broken c.self.invariant (ap (λ (s : Session). s.over) c.self.view_is ∙ c.requires.over) in
     let room : vec_len c.reserve.new.self < vec_capacity c.reserve.new.self = search rules in
     landed_does i.engine i.entries.items i.pending i.over c.args.self.now c.self.view_is c.land.new.self _ _ c.in-Ok.landed.version c.in-Ok.landed.moment c.in-Ok.landed.root
-    (omega arith) (below_last _ _ c.know.ensures.head (λ last. absurd (let e = c.in-Ok.ensures.full whole last in cc))) c.as_slice.ensures.sound
+    (omega arith) (below_last _ _ c.know.ensures.head (λ last. absurd (let e = c.in-Ok.ensures.last.1 (whole, last) in cc))) c.in-Ok.ensures.small c.as_slice.ensures.sound
     (record { versions = c.in-Ok.ensures.landed; version_is = c.in-Ok.ensures.answer.0; root_is = c.in-Ok.ensures.answer.1; moment_is = c.in-Ok.ensures.answer.2 })
-    c.in-Ok.ensures.later c.in-Ok.ensures.counts.1 c.in-Ok.ensures.succeeds
+    (omega (arith, c.in-Ok.ensures.four)) c.in-Ok.ensures.counts.1 c.in-Ok.ensures.succeeds
     (pushed c.push.result _ _ _ c.push.ensures.items (c.push.ensures.succeeds room)
     ∙ ap₂ (λ (l : List Entry) (b : Batch). l ++ entry.Landed 0 c.in-Ok.landed.version (landing.Direct b) c.in-Ok.landed.root c.in-Ok.landed.moment ∷ []) c.reserve.ensures.items c.replace-batch.ensures.value)
     (c.replace-batch.ensures.after ∙ c.new.ensures)
@@ -27,7 +27,7 @@ returns-in-Ok-clause-reply g c =
     let i = c.self.inside in
     let whole = whole_of i.over i.engine.broken c.self.invariant (ap (λ (s : Session). s.over) c.self.view_is ∙ c.requires.over) in
     landed_reply i.engine i.entries.items i.pending i.over c.args.self.now c.self.view_is c.land.new.self c.in-Ok.landed.version c.in-Ok.landed.moment c.in-Ok.landed.root
-    (omega arith) (below_last _ _ c.know.ensures.head (λ last. absurd (let e = c.in-Ok.ensures.full whole last in cc)))
+    (omega arith) (below_last _ _ c.know.ensures.head (λ last. absurd (let e = c.in-Ok.ensures.last.1 (whole, last) in cc))) c.in-Ok.ensures.small
     (record { versions = c.in-Ok.ensures.landed; version_is = c.in-Ok.ensures.answer.0; root_is = c.in-Ok.ensures.answer.1; moment_is = c.in-Ok.ensures.answer.2 })
 
 pub returns-in-Err-Last-clause-ok : goal.returns-in-Err-Last-clause-ok
@@ -35,12 +35,21 @@ returns-in-Err-Last-clause-ok g c =
     let i = c.self.inside in
     let same : c.land.new.self ≡ i.engine = elim c.in-Err-Last.ensures.untouched [ inl e ↦ absurd (cc) | inr e ↦ e ] in
     head_does i.engine i.entries.items i.pending i.over c.args.self.now c.self.view_is c.land.new.self _ same c.reserve.ensures.items
-    (let is = ap (λ e. Err e) c.in-Err-Last.field-0-is in c.in-Err-Last.ensures.last (is ∙ ap (λ w. Err (fault.Last w)) (c.in-Err-Last.ensures.only _ is)))
+    (let is = ap (λ e. Err e) c.in-Err-Last.field-0-is in
+    elim (c.in-Err-Last.ensures.only _ is) [
+      | inl version ↦ inl (c.in-Err-Last.ensures.last.0 (is ∙ ap (λ w. Err (fault.Last w)) version)).1
+      | inr keys ↦ inr (c.in-Err-Last.ensures.keys.0 (is ∙ ap (λ w. Err (fault.Last w)) keys)).2
+    ])
 
 pub returns-in-Err-Last-clause-reply : goal.returns-in-Err-Last-clause-reply
 returns-in-Err-Last-clause-reply g c =
     let i = c.self.inside in
-    head_reply i.engine i.entries.items i.pending i.over c.args.self.now c.self.view_is (let is = ap (λ e. Err e) c.in-Err-Last.field-0-is in c.in-Err-Last.ensures.last (is ∙ ap (λ w. Err (fault.Last w)) (c.in-Err-Last.ensures.only _ is)))
+    head_reply i.engine i.entries.items i.pending i.over c.args.self.now c.self.view_is
+    (let is = ap (λ e. Err e) c.in-Err-Last.field-0-is in
+    elim (c.in-Err-Last.ensures.only _ is) [
+      | inl version ↦ inl (c.in-Err-Last.ensures.last.0 (is ∙ ap (λ w. Err (fault.Last w)) version)).1
+      | inr keys ↦ inr (c.in-Err-Last.ensures.keys.0 (is ∙ ap (λ w. Err (fault.Last w)) keys)).2
+    ])
 
 pub returns-in-Err-DiskFault-clause-fault : goal.returns-in-Err-DiskFault-clause-fault
 returns-in-Err-DiskFault-clause-fault g c = λ e.
@@ -48,5 +57,6 @@ returns-in-Err-DiskFault-clause-fault g c = λ e.
     let f = c.in-Err-DiskFault.ensures in
     let whole = whole_of i.over i.engine.broken c.self.invariant (ap (λ (s : Session). s.over) c.self.view_is ∙ c.requires.over) in
     fault_tries i.engine i.entries.items i.pending i.over c.args.self.now c.self.view_is c.land.new.self _ true c.reserve.ensures.items
-    (omega arith) (below_last _ _ c.know.ensures.head (λ last. absurd (let e = f.full whole last in cc))) c.as_slice.ensures.sound
+    (omega arith) (below_last _ _ c.know.ensures.head (λ last. absurd (let e = f.last.1 (whole, last) in cc)))
+    (not_above _ _ (λ large. absurd (let e = f.keys.1 (whole, (λ last. absurd (let e = f.last.1 (whole, last) in cc)), large) in cc))) c.as_slice.ensures.sound
     f.same (f.fault (ap (λ e. Err e) c.in-Err-DiskFault.field-0-is)) f.counts.0 f.counts.1 (λ h told. f.stops h told (ap (λ e. Err e) c.in-Err-DiskFault.field-0-is))

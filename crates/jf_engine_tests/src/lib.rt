@@ -1,0 +1,11 @@
+//! Tests of a store on a disk: files byte by byte, calls of the disk that fail in turn, and landings beside whole maps.
+#![tactic(auto)]
+
+#[cfg(test)]
+mod faults;
+#[cfg(test)]
+mod files;
+#[cfg(test)]
+mod scripts;
+#[cfg(test)]
+mod stores;

@@ -1,0 +1,20 @@
+-- Files that are begun: a store on files that hold no record.
+use Rattle.std.specs.Prelude.{◌≡◌, ◌⊎◌, [], Ok}
+use Rattle.jf_disk.specs.Disk.{History, Files, IsImage, reads}
+use Rattle.jf_disk.specs.Crashes.{GoesOn, LeavesFiles}
+use Rattle.jf_frame.specs.Framing.{records}
+
+-- the files hold no record; side B is not read yet
+abbrev pub HoldsNone : Files → Type 0
+HoldsNone files = records files.a ≡ Ok []
+
+-- files without a record are begun: a read gives none still, and a crash since then leaves what it might have left before,
+-- or files without a record
+pub record IsBegunOver (old new : History) : Type 0 where
+  pub none : HoldsNone (reads old)
+  pub images : GoesOn old new (λ f. IsImage old.now f ⊎ HoldsNone f)
+  pub none_still : HoldsNone (reads new)
+
+-- nothing is made of the files, or they held no record and are begun
+abbrev pub LeavesOrBegins : History → History → Type 0
+LeavesOrBegins old new = LeavesFiles old new ⊎ IsBegunOver old new

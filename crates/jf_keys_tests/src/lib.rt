@@ -1,0 +1,15 @@
+//! Tests of keys, paths, hashes and batches.
+#![tactic(auto)]
+
+#[cfg(test)]
+mod batches;
+#[cfg(test)]
+mod hashes;
+#[cfg(test)]
+mod lists;
+#[cfg(test)]
+mod paths;
+#[cfg(test)]
+mod pieces;
+#[cfg(test)]
+mod ranges;

@@ -1,0 +1,103 @@
+// Answers stand in the order of their pieces, and the gate is told of each piece before it is worked.
+ghost use Rattle.std.specs.Prelude.{◌≤◌};
+
+use jf_join::{FreeGate, Gate, join_pieces};
+use std::alloc::Global;
+use std::sync::atomic::AtomicU64;
+use std::sync::atomic::Ordering::SeqCst;
+use std::test::Fail;
+use std::thread::Threads;
+
+// Counts how often it was told of each of four pieces.
+#[derive(Drop)]
+struct Counting {
+    told: [AtomicU64; 4],
+}
+
+impl Counting {
+    fn new() -> Counting {
+        Counting {
+            told: [
+                AtomicU64::new(0),
+                AtomicU64::new(0),
+                AtomicU64::new(0),
+                AtomicU64::new(0),
+            ],
+        }
+    }
+
+    fn times(&self, piece: u64) -> u64 {
+        match self.told.get(piece as usize) {
+            Some(times) => times.load(SeqCst),
+            None => 0,
+        }
+    }
+}
+
+impl Gate for Counting {
+    fn begin(&self, piece: u64) {
+        if let Some(times) = self.told.get(piece as usize) {
+            times.fetch_add(1, SeqCst);
+        }
+    }
+
+    fn session(&self, _number: u64) {}
+}
+
+// The square of each piece, and how often the gate had been told of it by then.
+fn squares<H: Threads + Sync>(
+    rt: &H,
+    alloc: Global,
+    pieces: &[u64],
+    workers: u64,
+) -> Result<Vec<(u64, u64)>, Fail>
+    requires { 1 ≤ workers × (workers ≤ 64) }
+{
+    let gate = Counting::new();
+    let answers = join_pieces(
+        rt,
+        alloc,
+        pieces,
+        workers,
+        &gate,
+        &|piece: &u64| { (piece.wrapping_mul(*piece), gate.times(*piece)) },
+    )?;
+    Ok(answers)
+}
+
+// Whether the answers for four pieces stand in their order.
+fn keep_order<H: Threads + Sync>(rt: &H, alloc: Global, workers: u64) -> Result<bool, Fail> {
+    if workers == 0 || workers > 64 {
+        return Ok(false);
+    }
+    let answers = squares(rt, alloc, &[0, 1, 2, 3], workers)?;
+    Ok(answers.as_slice() == [(0, 1), (1, 1), (4, 1), (9, 1)].as_slice())
+}
+
+#[test]
+fn answers_keep_the_order_of_their_pieces(rt: HostRuntime) -> Result<(), Fail> {
+    for workers in &[1, 3, 64] {
+        assert!(rt; keep_order(&rt, rt.alloc(), *workers)?, "{workers} workers");
+    }
+    Ok(())
+}
+
+#[test]
+fn no_piece_has_no_answer(rt: HostRuntime) -> Result<(), Fail> {
+    assert!(rt; squares(&rt, rt.alloc(), &[], 4)?.is_empty());
+    Ok(())
+}
+
+// The opposite of each piece, behind a gate that holds nothing.
+fn opposites<H: Threads + Sync>(rt: &H, alloc: Global, pieces: &[bool]) -> Result<Vec<bool>, Fail> {
+    FreeGate.session(7);
+    let answers = join_pieces(rt, alloc, pieces, 2, &FreeGate, &|piece: &bool| !*piece)?;
+    Ok(answers)
+}
+
+#[test]
+fn a_free_gate_lets_all_work_begin(rt: HostRuntime) -> Result<(), Fail> {
+    let answers = opposites(&rt, rt.alloc(), &[true, false])?;
+    assert!(rt; answers.as_slice() == [false, true].as_slice());
+    Ok(())
+}

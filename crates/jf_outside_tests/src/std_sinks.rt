@@ -1,0 +1,69 @@
+// Sinks over writers, some of which take little or fail.
+use jf_io::{IoFailed, Sink, StdSink, put_all};
+use std::io::{self, ErrorKind, Write};
+use std::test::Fail;
+
+// A writer that takes at most 2 bytes a write, and `room` bytes in all. Signals interrupt each write and flush once.
+#[derive(Drop)]
+struct Narrow {
+    room: usize,
+    interrupted: bool,
+    flushes: bool,
+}
+
+impl Narrow {
+    fn interrupt(&mut self) -> io::Result<()> {
+        self.interrupted = !self.interrupted;
+        if self.interrupted {
+            return Err(io::Error::from(ErrorKind::Interrupted));
+        }
+        Ok(())
+    }
+}
+
+impl Write for Narrow {
+    fn write(&mut self, buf: &[u8]) -> io::Result<usize> {
+        self.interrupt()?;
+        let count = buf.len().min(2).min(self.room);
+        self.room -= count;
+        Ok(count)
+    }
+
+    fn flush(&mut self) -> io::Result<()> {
+        self.interrupt()?;
+        if self.flushes {
+            Ok(())
+        } else {
+            Err(io::Error::from(ErrorKind::BrokenPipe))
+        }
+    }
+}
+
+#[test]
+fn hands_all_bytes_to_the_writer(rt: HostRuntime) -> Result<(), Fail> {
+    let mut text = Vec::new(rt.alloc());
+    let mut sink = StdSink::new(&mut text);
+    put_all(&mut sink, b"abc")?;
+    put_all(&mut sink, b"")?;
+    put_all(&mut sink, b"de")?;
+    assert_eq!(rt; sink.faults(), 0);
+    assert_eq!(rt; text.as_slice(), b"abcde".as_slice());
+    Ok(())
+}
+
+#[test]
+fn counts_a_write_of_no_byte_and_a_failed_flush(rt: HostRuntime) {
+    for (room, flushes, want, faults) in [
+        (5, true, Ok(()), 0),
+        (3, true, Err(IoFailed), 1),
+        (5, false, Err(IoFailed), 1),
+    ] {
+        let mut sink = StdSink::new(Narrow {
+            room,
+            interrupted: false,
+            flushes,
+        });
+        assert_eq!(rt; put_all(&mut sink, b"abcde"), want);
+        assert_eq!(rt; sink.faults(), faults);
+    }
+}

@@ -1,0 +1,9 @@
+//! Tests of landings, and of the versions that they make.
+#![tactic(auto)]
+
+#[cfg(test)]
+mod landings;
+#[cfg(test)]
+mod many_keys;
+#[cfg(test)]
+mod versions;
