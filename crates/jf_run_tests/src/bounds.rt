@@ -1,5 +1,5 @@
 // The longest names, values and lines, and the most names of a batch.
-use crate::play::{NO_FAULTS, has_ended, is_answered, new_disk, play};
+use jf_play::play::{NO_FAULTS, has_ended, is_answered, new_disk, play};
 use jf_run::status::Status;
 use std::alloc::Global;
 use std::sync::Wait;

@@ -1,7 +1,7 @@
 // Scripts over a folder.
-use crate::play::answers;
-use crate::roots::with_roots;
 use jf_disk::FileDisk;
+use jf_play::play::answers;
+use jf_play::roots::with_roots;
 use std::alloc::Global;
 use std::fs::{self, File};
 use std::rt::Files;

@@ -4,13 +4,9 @@
 #[cfg(test)]
 mod bounds;
 #[cfg(test)]
-mod damage;
-#[cfg(test)]
 mod folders;
 #[cfg(test)]
 mod nodes;
-#[cfg(test)]
-mod play;
 #[cfg(test)]
 mod proofs;
 #[cfg(test)]
@@ -18,11 +14,7 @@ mod reads;
 #[cfg(test)]
 mod refusals;
 #[cfg(test)]
-mod roots;
-#[cfg(test)]
 mod runs;
-#[cfg(test)]
-mod stops;
 #[cfg(test)]
 mod verdicts;
 #[cfg(test)]

@@ -1,6 +1,6 @@
 // Roots of maps whose keys part at the first nibble or at the second, by Python's `hashlib`. The keys of the names 61 and 69
 // share their first nibble and no second; that of 62 shares none.
-use crate::play::is_answered;
+use jf_play::play::is_answered;
 use std::test::Fail;
 
 // Two keys that share a nibble, of which one is put again; one of two is removed; a commit of nothing; three keys, and none

@@ -1,5 +1,5 @@
 // Proofs of names in the head and in old versions, by values from Python's hashlib.
-use crate::play::is_answered;
+use jf_play::play::is_answered;
 use std::test::Fail;
 
 // No entry; one; two, whose keys agree in one bit; six, of which two agree in

@@ -1,7 +1,7 @@
 // Values and roots of the head and of old versions.
-use crate::play::{answers, is_told, new_disk};
-use crate::roots::with_roots;
 use jf_disk::MemDisk;
+use jf_play::play::{answers, is_told, new_disk};
+use jf_play::roots::with_roots;
 use std::alloc::Global;
 use std::sync::Wait;
 use std::test::Fail;

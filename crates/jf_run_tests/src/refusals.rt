@@ -1,6 +1,6 @@
 // Lines that are refused, each with its reply, and the lines after them.
-use crate::play::{is_answered, is_told};
-use crate::roots::with_roots;
+use jf_play::play::{is_answered, is_told};
+use jf_play::roots::with_roots;
 use std::alloc::Global;
 use std::sync::Wait;
 use std::test::Fail;

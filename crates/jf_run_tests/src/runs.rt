@@ -1,7 +1,7 @@
 // Scripts over a disk in memory: what is written, what the files hold, and how the run ends.
-use crate::play::{Faults, NO_FAULTS, answers, has_ended, is_told, new_disk, play};
-use crate::roots::with_roots;
 use jf_disk::{Disk, MemDisk, Side};
+use jf_play::play::{Faults, NO_FAULTS, answers, has_ended, is_told, new_disk, play};
+use jf_play::roots::with_roots;
 use jf_run::status::Status;
 use std::alloc::Global;
 use std::sync::Wait;

@@ -1,7 +1,7 @@
 // Proof blocks that are judged with no store, by values from Python's hashlib.
-use crate::play::{Faults, NO_FAULTS, Played, has_ended, new_disk, play};
-use crate::roots::{EMPTY, ONE};
 use jf_disk::{Disk, MemDisk, Side};
+use jf_play::play::{Faults, NO_FAULTS, Played, has_ended, new_disk, play};
+use jf_play::roots::{EMPTY, ONE};
 use jf_run::status::Status;
 use std::alloc::Global;
 use std::sync::Wait;

@@ -1,6 +1,6 @@
 // Lists of words: what they ask for, how they end, and that wrong ones touch nothing.
-use crate::play::{Faults, NO_FAULTS, Played, disk_of, has_ended, new_disk, play_words};
 use jf_disk::{Disk, MemDisk, Side};
+use jf_play::play::{Faults, NO_FAULTS, Played, disk_of, has_ended, new_disk, play_words};
 use jf_run::status::Status;
 use jf_run::words::{Mode, mode_of};
 use std::alloc::Global;

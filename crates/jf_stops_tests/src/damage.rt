@@ -1,7 +1,7 @@
 // Damaged files: where the damage is told, and that a refused opening changes no byte.
-use crate::play::{NO_FAULTS, Played, answers, disk_of, has_ended, new_disk, play};
-use crate::roots::with_roots;
 use jf_disk::{Disk, MemDisk, Side};
+use jf_play::play::{NO_FAULTS, Played, answers, disk_of, has_ended, new_disk, play};
+use jf_play::roots::with_roots;
 use jf_run::status::Status;
 use std::alloc::Global;
 use std::sync::Wait;

@@ -1,9 +1,9 @@
 // What a stop at any moment leaves, and each call of the disk that fails.
-use crate::play::{
-    NO_FAULTS, Played, has_ended, new_disk, new_sink, new_source, one_word, play, run_over,
-};
 use jf_disk::{Disk, MemDisk};
 use jf_model::Entry;
+use jf_play::play::{
+    NO_FAULTS, Played, has_ended, new_disk, new_sink, new_source, one_word, play, run_over,
+};
 use jf_run::status::{Ended, Status};
 use std::alloc::Global;
 use std::sync::Wait;

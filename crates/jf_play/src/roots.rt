@@ -2,8 +2,10 @@
 use std::alloc::Global;
 use std::test::Fail;
 
+/// The root of the empty map.
 pub const EMPTY: &str = "6e340b9cffb37a989ca544e6bb780a2c78901d3fb33738768511a30617afa01d";
 
+/// The root of the map of `put 61 =31`.
 pub const ONE: &str = "9bb72c39f13d2b512ea34eae99a28f6d807a134ab125e89172310c6f6ea72f8f";
 
 const BLANK: &str = "fd2307270c401be83da0714a181eca80af07f330a43f98b4cb378a5abd422684";
@@ -21,8 +23,8 @@ fn root_of(letter: u8) -> Option<&'static str> {
     }
 }
 
-// A text with the root of the empty map for E, of `put 61 =31` for R, of `put 61 =` for B, and of `put 61 =31` with
-// `put 62 =32` for P.
+/// A text with the root of the empty map for E, of `put 61 =31` for R, of `put 61 =` for B, and of `put 61 =31` with
+/// `put 62 =32` for P.
 pub fn with_roots(alloc: Global, text: &str) -> Result<Vec<u8>, Fail> {
     let mut whole = Vec::new(alloc);
     for byte in text.bytes() {

@@ -10,7 +10,7 @@ use std::sync::Wait;
 use std::test::Fail;
 use std::thread::Threads;
 
-// What a run gave: the disk, the text, how it ended, the head at opening, and how many entries it made.
+/// What a run gave: the disk, the text, how it ended, the head at opening, and how many entries it made.
 #[derive(Drop)]
 pub struct Played<D> {
     pub disk: Box<D>,
@@ -20,7 +20,7 @@ pub struct Played<D> {
     pub entries: u64,
 }
 
-// How many bytes the source gives a call at most, and which calls of the source and of the sink fail, from 0.
+/// How many bytes the source gives a call at most, and which calls of the source and of the sink fail, from 0.
 #[derive(Clone, Copy)]
 pub struct Faults {
     pub piece: usize,
@@ -28,13 +28,14 @@ pub struct Faults {
     pub sink: &'static [u64],
 }
 
+/// A source of pieces of 100 bytes, and no call that fails.
 pub const NO_FAULTS: Faults = Faults {
     piece: 100,
     source: &[],
     sink: &[],
 };
 
-// A disk with these sides, of which the listed calls fail.
+/// A disk with these sides, of which the listed calls fail.
 pub fn disk_of(alloc: Global, a: &[u8], b: &[u8], failing: &[u64]) -> Result<Box<MemDisk>, Fail> {
     let disk = MemDisk::new(
         alloc,
@@ -47,12 +48,12 @@ pub fn disk_of(alloc: Global, a: &[u8], b: &[u8], failing: &[u64]) -> Result<Box
     Ok(Box::new(alloc, disk)?)
 }
 
-// A disk with this side A, of which the listed calls fail.
+/// A disk with this side A, of which the listed calls fail.
 pub fn new_disk(alloc: Global, a: &[u8], failing: &[u64]) -> Result<Box<MemDisk>, Fail> {
     disk_of(alloc, a, b"", failing)
 }
 
-// A source of a script, in pieces, some calls of which fail.
+/// A source of a script, in pieces, some calls of which fail.
 pub fn new_source(alloc: Global, script: &[u8], faults: Faults) -> Result<Box<MemSource>, Fail> {
     let source = MemSource::new(
         Bytes::copy_of(alloc, script)?,
@@ -62,18 +63,18 @@ pub fn new_source(alloc: Global, script: &[u8], faults: Faults) -> Result<Box<Me
     Ok(Box::new(alloc, source)?)
 }
 
-// A sink that takes a few bytes a call, some calls of which fail.
+/// A sink that takes a few bytes a call, some calls of which fail.
 pub fn new_sink(alloc: Global, faults: Faults) -> Result<Box<MemSink>, Fail> {
     let sink = MemSink::new(alloc, 7, 200_000, faults.sink.to_vec(alloc)?)?;
     Ok(Box::new(alloc, sink)?)
 }
 
-// The list of one word.
+/// The list of one word.
 pub fn one_word(alloc: Global, word: &str) -> Result<Vec<String>, Fail> {
     Ok(vec![in alloc; String::from_str(alloc, word)?]?)
 }
 
-// Runs words over a disk.
+/// Runs words over a disk.
 pub fn run_over<D: Disk + Drop, H: Threads + Wait + Sync>(
     rt: &H,
     alloc: Global,
@@ -106,7 +107,7 @@ fn unpacked<D: Disk + Drop>(
     })
 }
 
-// Runs words over a disk, with a source and a sink that take a few bytes a call.
+/// Runs words over a disk, with a source and a sink that take a few bytes a call.
 pub fn play_words<D: Disk + Drop, H: Threads + Wait + Sync>(
     rt: &H,
     alloc: Global,
@@ -121,7 +122,7 @@ pub fn play_words<D: Disk + Drop, H: Threads + Wait + Sync>(
     unpacked(alloc, ended, sink.text().to_vec(alloc)?)
 }
 
-// The same with one word.
+/// The same with one word.
 pub fn play<D: Disk + Drop, H: Threads + Wait + Sync>(
     rt: &H,
     alloc: Global,
@@ -134,13 +135,13 @@ pub fn play<D: Disk + Drop, H: Threads + Wait + Sync>(
     play_words(rt, alloc, disk, &words, script, faults)
 }
 
-// Whether a run ended so, over a store that was opened at this version, if one was, and wrote this text.
+/// Whether a run ended so, over a store that was opened at this version, if one was, and wrote this text.
 pub fn has_ended<D>(played: &Played<D>, status: Status, start: Option<u64>, text: &[u8]) -> bool {
     played.status == status && played.start == start && played.text.as_slice() == text
 }
 
-// Runs a script over a disk, and hands the disk back. It fails if the run does not end well, opens another version or
-// writes another text.
+/// Runs a script over a disk, and hands the disk back. It fails if the run does not end well, opens another version or
+/// writes another text.
 pub fn answers<D: Disk + Drop, H: Threads + Wait + Sync>(
     rt: &H,
     alloc: Global,
@@ -156,7 +157,7 @@ pub fn answers<D: Disk + Drop, H: Threads + Wait + Sync>(
     Ok(played.disk)
 }
 
-// The same over a new disk, which is then let go.
+/// The same over a new disk, which is then let go.
 pub fn is_answered<H: Threads + Wait + Sync>(
     rt: &H,
     alloc: Global,
@@ -168,7 +169,7 @@ pub fn is_answered<H: Threads + Wait + Sync>(
     Ok(())
 }
 
-// The same, with letters for roots in the replies.
+/// The same, with letters for roots in the replies.
 pub fn is_told<H: Threads + Wait + Sync>(
     rt: &H,
     alloc: Global,
