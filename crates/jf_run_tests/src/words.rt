@@ -1,10 +1,8 @@
-// Which words of a command line the program takes.
+// Lists of words: what they ask for, how they end, and that wrong ones touch nothing.
+use jf_disk::{Disk, MemDisk, Side};
+use jf_play::play::{Faults, NO_FAULTS, Played, disk_of, has_ended, new_disk, play_words};
+use jf_run::status::Status;
 use jf_run::words::{Mode, mode_of};
-use jf_run::run_words::run_words;
-use jf_run::status::{Ended, Status};
-use jf_disk::MemDisk;
-use jf_io::{MemSink, MemSource};
-use jf_path::Bytes;
 use std::alloc::Global;
 use std::sync::Wait;
 use std::test::Fail;
@@ -19,7 +17,8 @@ fn words_of(alloc: Global, line: &str) -> Result<Vec<String>, Fail> {
     Ok(words)
 }
 
-const LISTS: [(&str, Option<u64>); 44] = [
+// Lines, and the workers of the run that they ask for, if they ask for one.
+const RUNS: &[(&str, Option<u64>)] = &[
     ("run", Some(4)),
     ("run --", Some(4)),
     ("run --workers=7", Some(7)),
@@ -66,65 +65,131 @@ const LISTS: [(&str, Option<u64>); 44] = [
     ("walk", None),
 ];
 
-// A run of these words over an empty disk and an empty script.
-fn ended<H: Threads + Wait + Sync>(
+// Lines, and whether they ask for judging.
+const JUDGINGS: &[(&str, bool)] = &[
+    ("verify", true),
+    ("verify --", true),
+    ("verify -- --", false),
+    ("verify --workers 2", false),
+    ("verify --workers=2", false),
+    ("verify x", false),
+    ("verify -- x", false),
+    ("verify ", false),
+    ("Verify", false),
+];
+
+// How a run of these words over an empty disk and an empty script ends.
+fn end_of<H: Threads + Wait + Sync>(
     rt: &H,
     alloc: Global,
     words: &[String],
 ) -> Result<Status, Fail> {
-    let disk = MemDisk::new(
-        alloc,
-        Vec::new(alloc),
-        Vec::new(alloc),
-        100,
-        1_000,
-        Vec::new(alloc),
-    )?;
-    let mut source = MemSource::new(Bytes::new(alloc), 1, Vec::new(alloc));
-    let mut sink = MemSink::new(alloc, 1, 100, Vec::new(alloc))?;
-    let Ended {
-        status,
-        disk: _,
-        entries: _,
-        start: _,
-    } = run_words(rt, alloc, words, &mut source, &mut sink, disk);
-    Ok(status)
+    let disk = new_disk(alloc, b"", &[])?;
+    Ok(play_words(rt, alloc, disk, words, b"", NO_FAULTS)?.status)
+}
+
+// Whether the words of a line ask for this mode, and end as such words do.
+fn is_taken<H: Threads + Wait + Sync>(
+    rt: &H,
+    alloc: Global,
+    line: &str,
+    mode: Option<Mode>,
+) -> Result<bool, Fail> {
+    let words = words_of(alloc, line)?;
+    let status = match mode {
+        Some(_) => Status::Done,
+        None => Status::Usage,
+    };
+    Ok(mode_of(alloc, &words)? == mode && end_of(rt, alloc, &words)? == status)
 }
 
 #[test]
 fn takes_these_lists_of_words_and_no_other(rt: HostRuntime) -> Result<(), Fail> {
     let alloc = rt.alloc();
-    for (line, workers) in LISTS {
-        let words = words_of(alloc, line)?;
+    for (line, workers) in RUNS {
         let mode = workers.map(|workers| Mode::Run { workers });
-        assert_eq!(rt; mode_of(alloc, &words)?, mode, "of {line}");
-        let want = match workers {
-            Some(_) => Status::Done,
-            None => Status::Usage,
-        };
-        assert_eq!(rt; ended(&rt, alloc, &words)?, want, "of {line}");
+        assert!(rt; is_taken(&rt, alloc, line, mode)?, "of {line}");
     }
-    assert_eq!(rt; ended(&rt, alloc, &[])?, Status::Usage);
+    assert!(rt; end_of(&rt, alloc, &[])? == Status::Usage);
     Ok(())
+}
+
+// The mode of words that ask for judging, or of words that ask for nothing.
+fn judging(judges: bool) -> Option<Mode> {
+    if judges { Some(Mode::Verify) } else { None }
 }
 
 #[test]
 fn takes_verify_alone(rt: HostRuntime) -> Result<(), Fail> {
     let alloc = rt.alloc();
-    for (line, mode, want) in [
-        ("verify", Some(Mode::Verify), Status::Done),
-        ("verify --", Some(Mode::Verify), Status::Done),
-        ("verify -- --", None, Status::Usage),
-        ("verify --workers 2", None, Status::Usage),
-        ("verify --workers=2", None, Status::Usage),
-        ("verify x", None, Status::Usage),
-        ("verify -- x", None, Status::Usage),
-        ("verify ", None, Status::Usage),
-        ("Verify", None, Status::Usage),
-    ] {
-        let words = words_of(alloc, line)?;
-        assert_eq!(rt; mode_of(alloc, &words)?, mode, "of {line}");
-        assert_eq!(rt; ended(&rt, alloc, &words)?, want, "of {line}");
+    for (line, judges) in JUDGINGS {
+        assert!(rt; is_taken(&rt, alloc, line, judging(*judges))?, "of {line}");
+    }
+    Ok(())
+}
+
+// The first call of the source and of the sink fails.
+const FAILING: Faults = Faults {
+    piece: 100,
+    source: &[0],
+    sink: &[0],
+};
+
+// The sides of a disk that nobody is to touch.
+const A: &[u8] = b"\x01\x07\0";
+
+const B: &[u8] = b"\x5a";
+
+// Whether a disk had no call and no fault, and holds what it held.
+fn is_untouched(disk: &MemDisk) -> bool {
+    let calm = disk.moment() == 0 && disk.faults() == 0;
+    calm && disk.bytes(Side::A) == A && disk.bytes(Side::B) == B
+}
+
+// Whether a run of wrong words ended so, with nothing written and no call of the disk.
+fn is_refused(played: &Played<MemDisk>) -> bool {
+    let ended = has_ended(played, Status::Usage, None, b"");
+    ended && played.entries == 0 && is_untouched(&played.disk)
+}
+
+// Runs wrong words over a damaged disk, a source and a sink whose first calls would fail.
+fn touches_nothing<H: Threads + Wait + Sync>(
+    rt: &H,
+    alloc: Global,
+    words: &[String],
+) -> Result<bool, Fail> {
+    let disk = disk_of(alloc, A, B, &[0])?;
+    let played = play_words(rt, alloc, disk, words, b"put 61 =31\ncommit\n", FAILING)?;
+    Ok(is_refused(&played))
+}
+
+// The same with the words of a line.
+fn line_touches_nothing<H: Threads + Wait + Sync>(
+    rt: &H,
+    alloc: Global,
+    line: &str,
+) -> Result<bool, Fail> {
+    let words = words_of(alloc, line)?;
+    touches_nothing(rt, alloc, &words)
+}
+
+#[test]
+fn wrong_words_touch_nothing(rt: HostRuntime) -> Result<(), Fail> {
+    let alloc = rt.alloc();
+    for (line, workers) in RUNS {
+        let touched = workers.is_none() && !line_touches_nothing(&rt, alloc, line)?;
+        assert!(rt; !touched, "of {line}");
+    }
+    assert!(rt; touches_nothing(&rt, alloc, &[])?);
+    Ok(())
+}
+
+#[test]
+fn words_after_verify_touch_nothing(rt: HostRuntime) -> Result<(), Fail> {
+    let alloc = rt.alloc();
+    for (line, judges) in JUDGINGS {
+        let touched = !*judges && !line_touches_nothing(&rt, alloc, line)?;
+        assert!(rt; !touched, "of {line}");
     }
     Ok(())
 }

@@ -1,9 +1,13 @@
 // Values and roots of the head and of old versions.
-use super::{NO_FAULTS, Played, new_disk, play, with_roots};
-use jf_run::status::Status;
+use jf_disk::MemDisk;
+use jf_play::play::{answers, is_told, new_disk};
+use jf_play::roots::with_roots;
+use std::alloc::Global;
+use std::sync::Wait;
 use std::test::Fail;
+use std::thread::Threads;
 
-const ROWS: [(&str, &str); 9] = [
+const ROWS: &[(&str, &str)] = &[
     (
         "put 61 =31\ncommit\nroot v1\n",
         "0 ok pending 1\n1 ok commit 1 R\n1 ok root R\n",
@@ -52,64 +56,30 @@ const ROWS: [(&str, &str); 9] = [
 fn versions_are_read(rt: HostRuntime) -> Result<(), Fail> {
     let alloc = rt.alloc();
     for (script, want) in ROWS {
-        let Played {
-            disk: _,
-            text,
-            status,
-            start: _,
-            entries: _,
-        } = play(
-            &rt,
-            alloc,
-            new_disk(alloc, b"", &[])?,
-            "run",
-            script.as_bytes(),
-            NO_FAULTS,
-        )?;
-        let want = with_roots(alloc, want)?;
-        assert_eq!(rt; status, Status::Done, "of {script:?}");
-        assert_eq!(rt; text.as_slice(), want.as_slice(), "of {script:?}");
+        is_told(&rt, alloc, script, want)?;
     }
     Ok(())
+}
+
+// A disk with two versions.
+fn with_two<H: Threads + Wait + Sync>(rt: &H, alloc: Global) -> Result<Box<MemDisk>, Fail> {
+    let want = with_roots(
+        alloc,
+        "0 ok pending 1\n1 ok commit 1 R\n1 ok pending 1\n2 ok commit 2 B\n",
+    )?;
+    let script = b"put 61 =31\ncommit\nput 61 =\ncommit\n";
+    answers(rt, alloc, new_disk(alloc, b"", &[])?, script, 0, &want)
 }
 
 #[test]
 fn old_versions_are_read_after_opening(rt: HostRuntime) -> Result<(), Fail> {
     let alloc = rt.alloc();
-    let Played {
-        disk,
-        text: _,
-        status,
-        start: _,
-        entries: _,
-    } = play(
-        &rt,
-        alloc,
-        new_disk(alloc, b"", &[])?,
-        "run",
-        b"put 61 =31\ncommit\nput 61 =\ncommit\n",
-        NO_FAULTS,
-    )?;
-    assert_eq!(rt; status, Status::Done);
-    let Played {
-        disk: _,
-        text,
-        status,
-        start,
-        entries: _,
-    } = play(
-        &rt,
-        alloc,
-        disk,
-        "run",
-        b"get v1 61\nget v2 61\nget v3 61\nroot v0\nroot v1\nroot v2\nroot v3",
-        NO_FAULTS,
-    )?;
+    let disk = with_two(&rt, alloc)?;
     let want = with_roots(
         alloc,
         "0 ok value =31\n0 ok value =\n0 no future 2\n0 ok root E\n0 ok root R\n0 ok root B\n0 no future 2\n",
     )?;
-    assert_eq!(rt; (status, start), (Status::Done, Some(2)));
-    assert_eq!(rt; text.as_slice(), want.as_slice());
+    let script = b"get v1 61\nget v2 61\nget v3 61\nroot v0\nroot v1\nroot v2\nroot v3";
+    let _ = answers(&rt, alloc, disk, script, 2, &want)?;
     Ok(())
 }

@@ -1,12 +1,11 @@
 // Roots of maps whose keys part at the first nibble or at the second, by Python's `hashlib`. The keys of the names 61 and 69
 // share their first nibble and no second; that of 62 shares none.
-use super::{NO_FAULTS, Played, new_disk, play};
-use jf_run::status::Status;
+use jf_play::play::is_answered;
 use std::test::Fail;
 
 // Two keys that share a nibble, of which one is put again; one of two is removed; a commit of nothing; three keys, and none
 // again.
-const ROWS: [(&str, &str); 4] = [
+const ROWS: &[(&str, &str)] = &[
     (
         "put 61 =01\n\
          put 69 =02\n\
@@ -85,22 +84,7 @@ const ROWS: [(&str, &str); 4] = [
 fn nodes_come_and_go(rt: HostRuntime) -> Result<(), Fail> {
     let alloc = rt.alloc();
     for (script, want) in ROWS {
-        let Played {
-            disk: _,
-            text,
-            status,
-            start: _,
-            entries: _,
-        } = play(
-            &rt,
-            alloc,
-            new_disk(alloc, b"", &[])?,
-            "run",
-            script.as_bytes(),
-            NO_FAULTS,
-        )?;
-        assert_eq!(rt; status, Status::Done, "of {script:?}");
-        assert_eq!(rt; text.as_slice(), want.as_bytes(), "of {script:?}");
+        is_answered(&rt, alloc, script.as_bytes(), want.as_bytes())?;
     }
     Ok(())
 }

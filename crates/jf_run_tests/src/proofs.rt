@@ -1,11 +1,10 @@
 // Proofs of names in the head and in old versions, by values from Python's hashlib.
-use super::{NO_FAULTS, Played, new_disk, play};
-use jf_run::status::Status;
+use jf_play::play::is_answered;
 use std::test::Fail;
 
 // No entry; one; two, whose keys agree in one bit; six, of which two agree in
 // the first nibble; and two that agree in three nibbles.
-const ROWS: [(&str, &str); 5] = [
+const ROWS: &[(&str, &str)] = &[
     (
         "prove head 61\n",
         "0 ok proof 0\n\
@@ -144,22 +143,7 @@ const ROWS: [(&str, &str); 5] = [
 fn names_are_proved(rt: HostRuntime) -> Result<(), Fail> {
     let alloc = rt.alloc();
     for (script, want) in ROWS {
-        let Played {
-            disk: _,
-            text,
-            status,
-            start: _,
-            entries: _,
-        } = play(
-            &rt,
-            alloc,
-            new_disk(alloc, b"", &[])?,
-            "run",
-            script.as_bytes(),
-            NO_FAULTS,
-        )?;
-        assert_eq!(rt; status, Status::Done, "of {script:?}");
-        assert_eq!(rt; text.as_slice(), want.as_bytes(), "of {script:?}");
+        is_answered(&rt, alloc, script.as_bytes(), want.as_bytes())?;
     }
     Ok(())
 }

@@ -1,0 +1,181 @@
+// Words that are run over a disk, and what they gave.
+use crate::roots::with_roots;
+use jf_disk::{Disk, MemDisk};
+use jf_io::{MemSink, MemSource};
+use jf_path::Bytes;
+use jf_run::run_words::run_words;
+use jf_run::status::{Ended, Status};
+use std::alloc::Global;
+use std::sync::Wait;
+use std::test::Fail;
+use std::thread::Threads;
+
+/// What a run gave: the disk, the text, how it ended, the head at opening, and how many entries it made.
+#[derive(Drop)]
+pub struct Played<D> {
+    pub disk: Box<D>,
+    pub text: Vec<u8>,
+    pub status: Status,
+    pub start: Option<u64>,
+    pub entries: u64,
+}
+
+/// How many bytes the source gives a call at most, and which calls of the source and of the sink fail, from 0.
+#[derive(Clone, Copy)]
+pub struct Faults {
+    pub piece: usize,
+    pub source: &'static [u64],
+    pub sink: &'static [u64],
+}
+
+/// A source of pieces of 100 bytes, and no call that fails.
+pub const NO_FAULTS: Faults = Faults {
+    piece: 100,
+    source: &[],
+    sink: &[],
+};
+
+/// A disk with these sides, of which the listed calls fail.
+pub fn disk_of(alloc: Global, a: &[u8], b: &[u8], failing: &[u64]) -> Result<Box<MemDisk>, Fail> {
+    let disk = MemDisk::new(
+        alloc,
+        a.to_vec(alloc)?,
+        b.to_vec(alloc)?,
+        1000,
+        100_000,
+        failing.to_vec(alloc)?,
+    )?;
+    Ok(Box::new(alloc, disk)?)
+}
+
+/// A disk with this side A, of which the listed calls fail.
+pub fn new_disk(alloc: Global, a: &[u8], failing: &[u64]) -> Result<Box<MemDisk>, Fail> {
+    disk_of(alloc, a, b"", failing)
+}
+
+/// A source of a script, in pieces, some calls of which fail.
+pub fn new_source(alloc: Global, script: &[u8], faults: Faults) -> Result<Box<MemSource>, Fail> {
+    let source = MemSource::new(
+        Bytes::copy_of(alloc, script)?,
+        faults.piece.max(1),
+        faults.source.to_vec(alloc)?,
+    );
+    Ok(Box::new(alloc, source)?)
+}
+
+/// A sink that takes a few bytes a call, some calls of which fail.
+pub fn new_sink(alloc: Global, faults: Faults) -> Result<Box<MemSink>, Fail> {
+    let sink = MemSink::new(alloc, 7, 200_000, faults.sink.to_vec(alloc)?)?;
+    Ok(Box::new(alloc, sink)?)
+}
+
+/// The list of one word.
+pub fn one_word(alloc: Global, word: &str) -> Result<Vec<String>, Fail> {
+    Ok(vec![in alloc; String::from_str(alloc, word)?]?)
+}
+
+/// Runs words over a disk.
+pub fn run_over<D: Disk + Drop, H: Threads + Wait + Sync>(
+    rt: &H,
+    alloc: Global,
+    disk: Box<D>,
+    words: &[String],
+    source: &mut MemSource,
+    sink: &mut MemSink,
+) -> Result<Box<Ended<D>>, Fail> {
+    let ended = run_words(rt, alloc, words, source, sink, Box::into_inner(disk));
+    Ok(Box::new(alloc, ended)?)
+}
+
+fn unpacked<D: Disk + Drop>(
+    alloc: Global,
+    ended: Box<Ended<D>>,
+    text: Vec<u8>,
+) -> Result<Played<D>, Fail> {
+    let Ended {
+        status,
+        disk,
+        entries,
+        start,
+    } = Box::into_inner(ended);
+    Ok(Played {
+        disk: Box::new(alloc, disk)?,
+        text,
+        status,
+        start,
+        entries: entries.len(),
+    })
+}
+
+/// Runs words over a disk, with a source and a sink that take a few bytes a call.
+pub fn play_words<D: Disk + Drop, H: Threads + Wait + Sync>(
+    rt: &H,
+    alloc: Global,
+    disk: Box<D>,
+    words: &[String],
+    script: &[u8],
+    faults: Faults,
+) -> Result<Played<D>, Fail> {
+    let mut source = new_source(alloc, script, faults)?;
+    let mut sink = new_sink(alloc, faults)?;
+    let ended = run_over(rt, alloc, disk, words, &mut source, &mut sink)?;
+    unpacked(alloc, ended, sink.text().to_vec(alloc)?)
+}
+
+/// The same with one word.
+pub fn play<D: Disk + Drop, H: Threads + Wait + Sync>(
+    rt: &H,
+    alloc: Global,
+    disk: Box<D>,
+    word: &str,
+    script: &[u8],
+    faults: Faults,
+) -> Result<Played<D>, Fail> {
+    let words = one_word(alloc, word)?;
+    play_words(rt, alloc, disk, &words, script, faults)
+}
+
+/// Whether a run ended so, over a store that was opened at this version, if one was, and wrote this text.
+pub fn has_ended<D>(played: &Played<D>, status: Status, start: Option<u64>, text: &[u8]) -> bool {
+    played.status == status && played.start == start && played.text.as_slice() == text
+}
+
+/// Runs a script over a disk, and hands the disk back. It fails if the run does not end well, opens another version or
+/// writes another text.
+pub fn answers<D: Disk + Drop, H: Threads + Wait + Sync>(
+    rt: &H,
+    alloc: Global,
+    disk: Box<D>,
+    script: &[u8],
+    opened: u64,
+    want: &[u8],
+) -> Result<Box<D>, Fail> {
+    let played = play(rt, alloc, disk, "run", script, NO_FAULTS)?;
+    if !has_ended(&played, Status::Done, Some(opened), want) {
+        return Err(Fail::new("another reply"));
+    }
+    Ok(played.disk)
+}
+
+/// The same over a new disk, which is then let go.
+pub fn is_answered<H: Threads + Wait + Sync>(
+    rt: &H,
+    alloc: Global,
+    script: &[u8],
+    want: &[u8],
+) -> Result<(), Fail> {
+    let disk = new_disk(alloc, b"", &[])?;
+    let _ = answers(rt, alloc, disk, script, 0, want)?;
+    Ok(())
+}
+
+/// The same, with letters for roots in the replies.
+pub fn is_told<H: Threads + Wait + Sync>(
+    rt: &H,
+    alloc: Global,
+    script: &str,
+    want: &str,
+) -> Result<(), Fail> {
+    let want = with_roots(alloc, want)?;
+    is_answered(rt, alloc, script.as_bytes(), &want)
+}

@@ -1,0 +1,90 @@
+// The longest names, values and lines, and the most names of a batch.
+use jf_play::play::{NO_FAULTS, has_ended, is_answered, new_disk, play};
+use jf_run::status::Status;
+use std::alloc::Global;
+use std::sync::Wait;
+use std::test::Fail;
+use std::thread::Threads;
+
+// A text, and another after it some number of times.
+fn extended(text: &mut Vec<u8>, more: &[u8], times: usize) -> Result<(), Fail> {
+    for _ in 0..times {
+        text.extend_from_slice(more)?;
+    }
+    Ok(())
+}
+
+// `put` of a name and a value of so many bytes.
+fn put_line(alloc: Global, name: usize, value: usize) -> Result<Vec<u8>, Fail> {
+    let mut line = b"put ".to_vec(alloc)?;
+    extended(&mut line, b"61", name)?;
+    extended(&mut line, b" =", 1)?;
+    extended(&mut line, b"31", value)?;
+    Ok(line)
+}
+
+// The lengths of a name and of a value, in bytes, and the reply to their `put`.
+const LENGTHS: &[(usize, usize, &str)] = &[
+    (1, 4096, "0 ok pending 1\n"),
+    (1, 4097, "0 no syntax\n"),
+    (128, 4096, "0 ok pending 1\n"),
+    (129, 0, "0 no syntax\n"),
+    (0, 1, "0 no syntax\n"),
+    (1, 4246, "0 no syntax\n"),
+    (1, 4247, "0 no long\n"),
+];
+
+// Whether a line over a new store gets this reply, and makes no entry.
+fn is_replied<H: Threads + Wait + Sync>(
+    rt: &H,
+    alloc: Global,
+    line: &[u8],
+    want: &str,
+) -> Result<bool, Fail> {
+    let disk = new_disk(alloc, b"", &[])?;
+    let played = play(rt, alloc, disk, "run", line, NO_FAULTS)?;
+    let ended = has_ended(&played, Status::Done, Some(0), want.as_bytes());
+    Ok(ended && played.entries == 0)
+}
+
+#[test]
+fn names_and_values_have_their_longest(rt: HostRuntime) -> Result<(), Fail> {
+    let alloc = rt.alloc();
+    for (name, value, want) in LENGTHS {
+        let line = put_line(alloc, *name, *value)?;
+        assert!(rt;
+            is_replied(&rt, alloc, &line, want)?,
+            "of {name} and {value}"
+        );
+    }
+    Ok(())
+}
+
+// `put` of 10,000 names, of another and of one of them again, and `del` of the same two.
+fn full_script(alloc: Global) -> Result<Vec<u8>, Fail> {
+    let mut script = Vec::new(alloc);
+    for i in 1..=10_000 {
+        script.extend_from_slice(format!(in alloc; "put {i:08} =\n")?.as_bytes())?;
+    }
+    script.extend_from_slice(b"put 61 =\nput 00000001 =31\ndel 61\ndel 00000001\n")?;
+    Ok(script)
+}
+
+// The replies to that script.
+fn full_replies(alloc: Global) -> Result<Vec<u8>, Fail> {
+    let mut text = Vec::new(alloc);
+    for i in 1..=10_000 {
+        text.extend_from_slice(format!(in alloc; "0 ok pending {i}\n")?.as_bytes())?;
+    }
+    text.extend_from_slice(b"0 no pending\n0 ok pending 10000\n")?;
+    text.extend_from_slice(b"0 no pending\n0 ok pending 10000\n")?;
+    Ok(text)
+}
+
+#[test]
+fn a_full_batch_takes_no_new_name(rt: HostRuntime) -> Result<(), Fail> {
+    let alloc = rt.alloc();
+    let script = full_script(alloc)?;
+    let want = full_replies(alloc)?;
+    is_answered(&rt, alloc, &script, &want)
+}

@@ -1,0 +1,49 @@
+// Scripts over a folder.
+use jf_disk::FileDisk;
+use jf_play::play::answers;
+use jf_play::roots::with_roots;
+use std::alloc::Global;
+use std::fs::{self, File};
+use std::rt::Files;
+use std::sync::Wait;
+use std::test::Fail;
+use std::thread::Threads;
+
+const FOLDER: &str = "jellystore_folder";
+
+// Scripts that are run over one folder, the version at which each opens, and what it writes.
+const SCRIPTS: &[(&str, u64, &str)] = &[
+    (
+        "put 61 =31\ncommit\n",
+        0,
+        "0 ok pending 1\n1 ok commit 1 R\n",
+    ),
+    ("root head\ncommit", 1, "0 ok root R\n1 ok commit 2 R\n"),
+    ("root head", 2, "0 ok root R\n"),
+];
+
+// Opens the folder, and runs a script over it.
+fn is_opened<H: Files<File = File> + Threads + Wait + Sync>(
+    rt: &H,
+    alloc: Global,
+    script: &str,
+    opened: u64,
+    want: &str,
+) -> Result<(), Fail> {
+    let want = with_roots(alloc, want)?;
+    let disk = Box::new(alloc, FileDisk::at(rt, alloc, FOLDER)?)?;
+    let _ = answers(rt, alloc, disk, script.as_bytes(), opened, &want)?;
+    Ok(())
+}
+
+#[test]
+fn a_folder_is_opened_where_it_stood(rt: HostRuntime) -> Result<(), Fail> {
+    let alloc = rt.alloc();
+    let _ = fs::remove_dir_all(&rt, FOLDER);
+    fs::create_dir(&rt, FOLDER)?;
+    for (script, opened, want) in SCRIPTS {
+        is_opened(&rt, alloc, script, *opened, want)?;
+    }
+    fs::remove_dir_all(&rt, FOLDER)?;
+    Ok(())
+}

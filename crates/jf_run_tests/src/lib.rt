@@ -1,0 +1,21 @@
+//! Tests of the words of a command line, run over a disk, a source and a sink in memory, and over a folder.
+#![tactic(auto)]
+
+#[cfg(test)]
+mod bounds;
+#[cfg(test)]
+mod folders;
+#[cfg(test)]
+mod nodes;
+#[cfg(test)]
+mod proofs;
+#[cfg(test)]
+mod reads;
+#[cfg(test)]
+mod refusals;
+#[cfg(test)]
+mod runs;
+#[cfg(test)]
+mod verdicts;
+#[cfg(test)]
+mod words;

@@ -1,0 +1,187 @@
+// Lines that are refused, each with its reply, and the lines after them.
+use jf_play::play::{is_answered, is_told};
+use jf_play::roots::with_roots;
+use std::alloc::Global;
+use std::sync::Wait;
+use std::test::Fail;
+use std::thread::Threads;
+
+// Lines over a store of three versions, and their replies.
+const FUTURE: &[(&str, &str)] = &[
+    ("get v9 61", "3 no future 3\n"),
+    ("root v9", "3 no future 3\n"),
+    ("get v4 61", "3 no future 3\n"),
+    ("root v4", "3 no future 3\n"),
+    ("get v3 61", "3 ok none\n"),
+    ("root v3", "3 ok root E\n"),
+    ("get v0 61", "3 ok none\n"),
+    ("get v18446744073709551615 61", "3 no future 3\n"),
+    ("root v18446744073709551615", "3 no future 3\n"),
+    ("get v18446744073709551616 61", "3 no syntax\n"),
+    ("root v18446744073709551616", "3 no syntax\n"),
+    ("get v00 61", "3 no syntax\n"),
+    ("get v01 61", "3 no syntax\n"),
+    ("get v 61", "3 no syntax\n"),
+    ("root v-1", "3 no syntax\n"),
+];
+
+// Runs a line after three landings of nothing.
+fn is_told_at_3<H: Threads + Wait + Sync>(
+    rt: &H,
+    alloc: Global,
+    line: &str,
+    want: &str,
+) -> Result<(), Fail> {
+    let script = format!(in alloc; "commit\ncommit\ncommit\n{line}")?;
+    let want = format!(in alloc; "1 ok commit 1 E\n2 ok commit 2 E\n3 ok commit 3 E\n{want}")?;
+    is_told(rt, alloc, script.as_str(), want.as_str())
+}
+
+#[test]
+fn versions_above_the_head_are_future(rt: HostRuntime) -> Result<(), Fail> {
+    let alloc = rt.alloc();
+    for (line, want) in FUTURE {
+        is_told_at_3(&rt, alloc, line, want)?;
+    }
+    Ok(())
+}
+
+const OUTSIDE: &[&[u8]] = &[
+    // Not as the grammar has it.
+    b"",
+    b" ",
+    b"session",
+    b"put  61 =31",
+    b"put 61 =31 ",
+    b" put 61 =31",
+    b"put\t61 =31",
+    b"put 6 =31",
+    b"put 61 =3A",
+    b"put 6A =31",
+    b"put 61 =3",
+    b"put 61 31",
+    b"put 61 = 31",
+    b"put 61 ==31",
+    b"put 61",
+    b"put  =31",
+    b"put 61 =31 =31",
+    b"PUT 61 =31",
+    b"put 61 =3g",
+    b"put 61 =/0",
+    b"del",
+    b"del ",
+    b"del 6",
+    b"del 61 61",
+    b"del 6:",
+    b"commit ",
+    b"commit head",
+    b"Commit",
+    b"get head",
+    b"get head ",
+    b"get 61 head",
+    b"get head 61 ",
+    b"get head 61 62",
+    b"get Head 61",
+    b"get v01 61",
+    b"get 0 61",
+    b"root",
+    b"root ",
+    b"root heads",
+    b"root head head",
+    b"root v",
+    b"root v+1",
+    // Bytes that are no text.
+    b"root head\r",
+    b"\r",
+    b"root head\0",
+    b"\0",
+    b"root\xffhead",
+    b"\xff\xfe\x80",
+    b"get head \xc3\xa4",
+    // In the grammar, and not answered yet.
+    b"get f0 61",
+    b"get p0 61",
+    b"root f0",
+    b"root p0",
+    b"fork head",
+    b"land f0",
+    b"drop f0",
+    b"prove p0 61",
+    b"chunk v0 0 1",
+    b"pin 0",
+    b"unpin 0",
+    b"prune 0",
+    b"compact",
+    b"status",
+    b"count head",
+    b"nth head 0",
+];
+
+// Runs a line between a `put` and its `commit`, and reads the value of the `put`.
+fn is_between<H: Threads + Wait + Sync>(
+    rt: &H,
+    alloc: Global,
+    line: &[u8],
+    want: &[u8],
+) -> Result<(), Fail> {
+    let mut script = b"put 61 =31\n".to_vec(alloc)?;
+    script.extend_from_slice(line)?;
+    script.extend_from_slice(b"\ncommit\nget v1 61\n")?;
+    is_answered(rt, alloc, &script, want)
+}
+
+#[test]
+fn lines_outside_the_grammar_change_nothing(rt: HostRuntime) -> Result<(), Fail> {
+    let alloc = rt.alloc();
+    let want = with_roots(
+        alloc,
+        "0 ok pending 1\n0 no syntax\n1 ok commit 1 R\n1 ok value =31\n",
+    )?;
+    for line in OUTSIDE {
+        is_between(&rt, alloc, line, &want)?;
+    }
+    Ok(())
+}
+
+// Lengths of a line in bytes, and the replies to it and to `root head` after it.
+const LONG: &[(usize, &str)] = &[
+    (8500, "0 no syntax\n0 ok root E\n"),
+    (8501, "0 no long\n0 ok root E\n"),
+    (30_000, "0 no long\n0 ok root E\n"),
+];
+
+const STARTS: &[&[u8]] = &[b"put 61 =31", b"\xff", b"root head "];
+
+// A line of this length that begins so, and `root head`.
+fn long_script(alloc: Global, start: &[u8], length: usize) -> Result<Vec<u8>, Fail> {
+    let mut script = start.to_vec(alloc)?;
+    for _ in start.len()..length {
+        script.push(b'1')?;
+    }
+    script.extend_from_slice(b"\nroot head")?;
+    Ok(script)
+}
+
+// Runs lines of this length.
+fn is_skipped<H: Threads + Wait + Sync>(
+    rt: &H,
+    alloc: Global,
+    length: usize,
+    want: &str,
+) -> Result<(), Fail> {
+    let want = with_roots(alloc, want)?;
+    for start in STARTS {
+        let script = long_script(alloc, start, length)?;
+        is_answered(rt, alloc, &script, &want)?;
+    }
+    Ok(())
+}
+
+#[test]
+fn long_lines_are_told_and_skipped(rt: HostRuntime) -> Result<(), Fail> {
+    let alloc = rt.alloc();
+    for (length, want) in LONG {
+        is_skipped(&rt, alloc, *length, want)?;
+    }
+    Ok(())
+}

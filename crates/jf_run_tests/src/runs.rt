@@ -1,0 +1,140 @@
+// Scripts over a disk in memory: what is written, what the files hold, and how the run ends.
+use jf_disk::{Disk, MemDisk, Side};
+use jf_play::play::{Faults, NO_FAULTS, answers, has_ended, is_told, new_disk, play};
+use jf_play::roots::with_roots;
+use jf_run::status::Status;
+use std::alloc::Global;
+use std::sync::Wait;
+use std::test::Fail;
+use std::thread::Threads;
+
+// Scripts over a new store, and what is written.
+const LINES: &[(&str, &str)] = &[
+    ("", ""),
+    ("root head\n", "0 ok root E\n"),
+    ("root head", "0 ok root E\n"),
+    (
+        "put 61 =31\ncommit\nroot head\n",
+        "0 ok pending 1\n1 ok commit 1 R\n1 ok root R\n",
+    ),
+    (
+        "put 61 =31\nput 61 =\nroot head",
+        "0 ok pending 1\n0 ok pending 1\n0 ok root E\n",
+    ),
+    ("commit\ncommit", "1 ok commit 1 E\n2 ok commit 2 E\n"),
+    ("\n", "0 no syntax\n"),
+    ("\nroot head\n\n", "0 no syntax\n0 ok root E\n0 no syntax\n"),
+];
+
+#[test]
+fn lines_are_answered(rt: HostRuntime) -> Result<(), Fail> {
+    let alloc = rt.alloc();
+    for (script, want) in LINES {
+        is_told(&rt, alloc, script, want)?;
+    }
+    Ok(())
+}
+
+// Side A after the landing of `put 61 =31` on a new store.
+const LANDED: &[u8] =
+    b"\x01\x01\0\0\0\0\0\0\0\x36\0\0\0\0\0\0\0\x01\0\0\0\0\0\0\0\x01\x19\xd5\xf5\x7c\x8e\x8b\x3c\xd7\x60\xf8\x53\xbb\x8d\x79\x00\xd6\x8e\x10\xef\x02\x67\x43\x83\xde\x65\xa9\xb4\xd6\x5e\x41\x9b\x26\x01\0\0\0\x01\x31\0";
+
+// Whether side A of a disk holds these bytes, and side B none.
+fn holds(disk: &MemDisk, a: &[u8]) -> bool {
+    disk.bytes(Side::A) == a && disk.bytes(Side::B).is_empty()
+}
+
+// A disk on which `put 61 =31` has landed.
+fn landed<H: Threads + Wait + Sync>(rt: &H, alloc: Global) -> Result<Box<MemDisk>, Fail> {
+    let want = with_roots(alloc, "0 ok pending 1\n1 ok commit 1 R\n")?;
+    let disk = new_disk(alloc, b"", &[])?;
+    answers(rt, alloc, disk, b"put 61 =31\ncommit\n", 0, &want)
+}
+
+// That disk, opened again for a landing of nothing.
+fn landed_again<H: Threads + Wait + Sync>(
+    rt: &H,
+    alloc: Global,
+    disk: Box<MemDisk>,
+) -> Result<Box<MemDisk>, Fail> {
+    let want = with_roots(alloc, "0 ok root R\n1 ok commit 2 R\n1 ok root R\n")?;
+    answers(rt, alloc, disk, b"root head\ncommit\nroot head", 1, &want)
+}
+
+#[test]
+fn a_store_is_opened_where_it_stood(rt: HostRuntime) -> Result<(), Fail> {
+    let alloc = rt.alloc();
+    let disk = landed(&rt, alloc)?;
+    assert!(rt; holds(&disk, LANDED));
+    let disk = landed_again(&rt, alloc, disk)?;
+    assert_eq!(rt; disk.bytes(Side::A).len(), 65 + 26);
+    Ok(())
+}
+
+const READ_FAULT: Faults = Faults {
+    piece: 11,
+    source: &[1],
+    sink: &[],
+};
+
+const WRITE_FAULT: Faults = Faults {
+    piece: 11,
+    source: &[],
+    sink: &[0],
+};
+
+const DAMAGED: Status = Status::Damaged {
+    side: Side::A,
+    offset: 0,
+};
+
+// Side A, the word, the faults, and how the run ends, at which version it opened, and what it wrote.
+type Stopped = (
+    &'static [u8],
+    &'static str,
+    Faults,
+    Status,
+    Option<u64>,
+    &'static str,
+);
+
+const STOPPED: &[Stopped] = &[
+    (b"", "walk", NO_FAULTS, Status::Usage, None, ""),
+    (b"", "run ", NO_FAULTS, Status::Usage, None, ""),
+    (
+        b"",
+        "run",
+        READ_FAULT,
+        Status::ReadFault,
+        Some(0),
+        "0 ok pending 1\n",
+    ),
+    (b"", "run", WRITE_FAULT, Status::WriteFault, Some(0), ""),
+    (b"\x01\x07\0", "run", NO_FAULTS, DAMAGED, None, ""),
+];
+
+// Runs a word that is stopped so, with no entry and no fault of the disk.
+fn is_stopped<H: Threads + Wait + Sync>(
+    rt: &H,
+    alloc: Global,
+    stopped: Stopped,
+) -> Result<(), Fail> {
+    let (file, word, faults, status, start, text) = stopped;
+    let disk = new_disk(alloc, file, &[])?;
+    let played = play(rt, alloc, disk, word, b"put 61 =31\ncommit\n", faults)?;
+    let calm = played.entries == 0 && played.disk.faults() == 0;
+    if calm && has_ended(&played, status, start, text.as_bytes()) {
+        Ok(())
+    } else {
+        Err(Fail::new(word))
+    }
+}
+
+#[test]
+fn what_stops_a_run_is_told(rt: HostRuntime) -> Result<(), Fail> {
+    let alloc = rt.alloc();
+    for stopped in STOPPED {
+        is_stopped(&rt, alloc, *stopped)?;
+    }
+    Ok(())
+}

@@ -1,0 +1,290 @@
+// What a stop at any moment leaves, and each call of the disk that fails.
+use jf_disk::{Disk, MemDisk};
+use jf_model::Entry;
+use jf_play::play::{
+    NO_FAULTS, Played, has_ended, new_disk, new_sink, new_source, one_word, play, run_over,
+};
+use jf_run::status::{Ended, Status};
+use std::alloc::Global;
+use std::sync::Wait;
+use std::test::Fail;
+use std::thread::Threads;
+
+// Five landings.
+const SCRIPT: &[u8] =
+    b"put 61 =31\ncommit\nput 62 =32\ncommit\ncommit\nput 61 =33\ncommit\nput 63 =\ncommit\n";
+
+// The roots of version 0 and of the five after it, by Python's `hashlib`.
+const ROOTS: &[&str] = &[
+    "6e340b9cffb37a989ca544e6bb780a2c78901d3fb33738768511a30617afa01d",
+    "9bb72c39f13d2b512ea34eae99a28f6d807a134ab125e89172310c6f6ea72f8f",
+    "3e92b77a6f4a7dcc426f134b3415f3af7eb39e5c8ac7599c94f5a3c83fe07425",
+    "3e92b77a6f4a7dcc426f134b3415f3af7eb39e5c8ac7599c94f5a3c83fe07425",
+    "3fb29a7e403314bdff68bcbcfadcea0ea3720aaff120cc5dc5a1b94a8f07c280",
+    "711515a8ec2f04d2cc621c264dcfed0376f8969ae06c1e7d41d5815b86980647",
+];
+
+// The reply to the `put` before each landing, and that to its `commit`.
+const REPLIES: &[(&str, &str)] = &[
+    (
+        "0 ok pending 1\n",
+        "1 ok commit 1 9bb72c39f13d2b512ea34eae99a28f6d807a134ab125e89172310c6f6ea72f8f\n",
+    ),
+    (
+        "1 ok pending 1\n",
+        "2 ok commit 2 3e92b77a6f4a7dcc426f134b3415f3af7eb39e5c8ac7599c94f5a3c83fe07425\n",
+    ),
+    (
+        "",
+        "3 ok commit 3 3e92b77a6f4a7dcc426f134b3415f3af7eb39e5c8ac7599c94f5a3c83fe07425\n",
+    ),
+    (
+        "3 ok pending 1\n",
+        "4 ok commit 4 3fb29a7e403314bdff68bcbcfadcea0ea3720aaff120cc5dc5a1b94a8f07c280\n",
+    ),
+    (
+        "4 ok pending 1\n",
+        "5 ok commit 5 711515a8ec2f04d2cc621c264dcfed0376f8969ae06c1e7d41d5815b86980647\n",
+    ),
+];
+
+// What a run of the script writes that lands so many times: if they are not all, then up to the next `commit`.
+fn replies(alloc: Global, landings: u64) -> Result<Vec<u8>, Fail> {
+    let mut text = Vec::new(alloc);
+    let mut landed = 0;
+    for (pending, commit) in REPLIES {
+        text.extend_from_slice(pending.as_bytes())?;
+        if landed == landings {
+            break;
+        }
+        text.extend_from_slice(commit.as_bytes())?;
+        landed = landed.saturating_add(1);
+    }
+    Ok(text)
+}
+
+// Every version, and the head.
+const READS: &[u8] = b"root v0\nroot v1\nroot v2\nroot v3\nroot v4\nroot v5\nroot head";
+
+// The reply to `root` of a version, over a store that is opened at this head.
+fn root_reply(alloc: Global, version: u64, head: u64) -> Result<String, Fail> {
+    if version > head {
+        return Ok(format!(in alloc; "0 no future {head}\n")?);
+    }
+    let root = ROOTS.get(version as usize).ok_or("no such version")?;
+    Ok(format!(in alloc; "0 ok root {root}\n")?)
+}
+
+// The replies to the reads.
+fn read_replies(alloc: Global, head: u64) -> Result<Vec<u8>, Fail> {
+    let mut text = Vec::new(alloc);
+    for version in [0, 1, 2, 3, 4, 5, head] {
+        text.extend_from_slice(root_reply(alloc, version, head)?.as_bytes())?;
+    }
+    Ok(text)
+}
+
+// Opens a disk: its head is so many versions, or one more, and each version has its root.
+fn is_opened<H: Threads + Wait + Sync>(
+    rt: &H,
+    alloc: Global,
+    disk: Box<MemDisk>,
+    landings: u64,
+) -> Result<(), Fail> {
+    let played = play(rt, alloc, disk, "run", READS, NO_FAULTS)?;
+    let head = played.start.ok_or("the disk is not opened")?;
+    let want = read_replies(alloc, head)?;
+    let within = head == landings || head == landings.saturating_add(1);
+    if within && has_ended(&played, Status::Done, Some(head), &want) {
+        Ok(())
+    } else {
+        Err(Fail::new("the disk holds other versions"))
+    }
+}
+
+// How many unsynced bytes a crash keeps, and what it leaves in place of the others.
+const KEPT: &[u64] = &[0, 1, 30, 1 << 62];
+
+const FILLS: &[u8] = &[0x00, 0x01, 0xff];
+
+// The image after a crash after so many calls, of which there were as many.
+fn image_of(
+    alloc: Global,
+    disk: &MemDisk,
+    moment: u64,
+    kept: u64,
+    fill: u8,
+) -> Result<Box<MemDisk>, Fail> {
+    if moment > disk.moment() {
+        return Err(Fail::new("no such moment"));
+    }
+    Ok(Box::new(alloc, disk.image(alloc, moment, kept, fill)?)?)
+}
+
+// Opens each image after a crash after so many calls, and that keeps so many bytes.
+fn open_filled<H: Threads + Wait + Sync>(
+    rt: &H,
+    alloc: Global,
+    disk: &MemDisk,
+    moment: u64,
+    kept: u64,
+    landings: u64,
+) -> Result<(), Fail> {
+    for fill in FILLS {
+        let image = image_of(alloc, disk, moment, kept, *fill)?;
+        is_opened(rt, alloc, image, landings)?;
+    }
+    Ok(())
+}
+
+// Opens each image after a crash after so many calls.
+fn open_images<H: Threads + Wait + Sync>(
+    rt: &H,
+    alloc: Global,
+    disk: &MemDisk,
+    moment: u64,
+    landings: u64,
+) -> Result<(), Fail> {
+    for kept in KEPT {
+        open_filled(rt, alloc, disk, moment, *kept, landings)?;
+    }
+    Ok(())
+}
+
+// The moment of each landing among entries.
+fn landings(alloc: Global, entries: &[Entry]) -> Result<Vec<u64>, Fail> {
+    let mut moments = Vec::new(alloc);
+    for entry in entries {
+        if let Entry::Landed { moment, .. } = entry {
+            moments.push(*moment)?;
+        }
+    }
+    Ok(moments)
+}
+
+// A run of a script over a new disk.
+fn ended<H: Threads + Wait + Sync>(
+    rt: &H,
+    alloc: Global,
+    script: &[u8],
+) -> Result<Box<Ended<MemDisk>>, Fail> {
+    let words = one_word(alloc, "run")?;
+    let mut source = new_source(alloc, script, NO_FAULTS)?;
+    let mut sink = new_sink(alloc, NO_FAULTS)?;
+    let disk = new_disk(alloc, b"", &[])?;
+    run_over(rt, alloc, disk, &words, &mut source, &mut sink)
+}
+
+// How many of the landings were made by a moment.
+fn landed_by(landed_at: &[u64], moment: u64) -> u64 {
+    landed_at.iter().filter(|at| **at <= moment).count() as u64
+}
+
+#[test]
+fn a_stop_at_any_moment_leaves_what_was_acknowledged(rt: HostRuntime) -> Result<(), Fail> {
+    let alloc = rt.alloc();
+    let ended = ended(&rt, alloc, SCRIPT)?;
+    let landed_at = landings(alloc, ended.entries.as_slice())?;
+    assert_eq!(rt; landed_at.len(), 5);
+    for moment in 0..=ended.disk.moment() {
+        let landings = landed_by(&landed_at, moment);
+        open_images(&rt, alloc, &ended.disk, moment, landings)?;
+    }
+    Ok(())
+}
+
+// How far a run comes whose disk fails in a call.
+#[derive(Clone, Copy, Debug, PartialEq, Eq)]
+enum Reached {
+    Opening,
+    Landing,
+    End,
+}
+
+// How far a run of the script came, by how it ended.
+fn place_of(status: Status, start: Option<u64>) -> Option<Reached> {
+    match (status, start) {
+        (Status::DiskFault, None) => Some(Reached::Opening),
+        (Status::DiskFault, Some(0)) => Some(Reached::Landing),
+        (Status::Done, Some(0)) => Some(Reached::End),
+        _ => None,
+    }
+}
+
+// Whether a run that came so far wrote what it is to write.
+fn is_told(alloc: Global, played: &Played<MemDisk>, reached: Reached) -> Result<bool, Fail> {
+    let told = match reached {
+        Reached::Opening => Vec::new(alloc),
+        Reached::Landing => replies(alloc, played.entries)?,
+        Reached::End => replies(alloc, 5)?,
+    };
+    Ok(played.text.as_slice() == told.as_slice())
+}
+
+// Runs the script on a disk that fails in this call, and opens what a crash leaves.
+fn run_failing<H: Threads + Wait + Sync>(
+    rt: &H,
+    alloc: Global,
+    failing: u64,
+) -> Result<Played<MemDisk>, Fail> {
+    let disk = new_disk(alloc, b"", &[failing])?;
+    let played = play(rt, alloc, disk, "run", SCRIPT, NO_FAULTS)?;
+    open_images(
+        rt,
+        alloc,
+        &played.disk,
+        played.disk.moment(),
+        played.entries,
+    )?;
+    Ok(played)
+}
+
+// The same, and opens what the disk itself holds, if the call was made.
+fn reach<H: Threads + Wait + Sync>(rt: &H, alloc: Global, failing: u64) -> Result<Reached, Fail> {
+    let played = run_failing(rt, alloc, failing)?;
+    let reached = place_of(played.status, played.start).ok_or("the run ends otherwise")?;
+    if !is_told(alloc, &played, reached)? {
+        return Err(Fail::new("the run writes another text"));
+    }
+    if reached != Reached::End {
+        is_opened(rt, alloc, played.disk, played.entries)?;
+    }
+    Ok(reached)
+}
+
+#[test]
+fn a_failed_call_leaves_the_versions_before_or_after_it(rt: HostRuntime) -> Result<(), Fail> {
+    let alloc = rt.alloc();
+    let mut in_landing: u64 = 0;
+    for failing in 0..100 {
+        match reach(&rt, alloc, failing)? {
+            Reached::Opening => {}
+            Reached::Landing => in_landing = in_landing.saturating_add(1),
+            Reached::End => break,
+        }
+    }
+    // Each of the five landings writes, syncs, writes and syncs.
+    assert_eq!(rt; in_landing, 20);
+    Ok(())
+}
+
+// One landing, and a line after it.
+const LANDING: &[u8] = b"put 61 =31\ncommit\nroot head";
+
+// The call that writes the gate of that landing: its last two write the gate, and sync it.
+fn gate_call<H: Threads + Wait + Sync>(rt: &H, alloc: Global) -> Result<u64, Fail> {
+    let ended = ended(rt, alloc, LANDING)?;
+    let moments = landings(alloc, ended.entries.as_slice())?;
+    let landed_at = moments.first().ok_or("no landing")?;
+    Ok(landed_at.checked_sub(2).ok_or("a landing of one call")?)
+}
+
+#[test]
+fn a_gate_that_is_not_written_leaves_the_landing_or_nothing(rt: HostRuntime) -> Result<(), Fail> {
+    let alloc = rt.alloc();
+    let disk = new_disk(alloc, b"", &[gate_call(&rt, alloc)?])?;
+    let played = play(&rt, alloc, disk, "run", LANDING, NO_FAULTS)?;
+    assert!(rt; has_ended(&played, Status::DiskFault, Some(0), b"0 ok pending 1\n"));
+    assert_eq!(rt; played.entries, 0);
+    open_images(&rt, alloc, &played.disk, played.disk.moment(), 0)
+}
