@@ -2,9 +2,11 @@
 #![tactic(auto)]
 
 #[cfg(test)]
-mod disks;
+mod file_disks;
 #[cfg(test)]
 mod lines;
+#[cfg(test)]
+mod mem_disks;
 #[cfg(test)]
 mod mem_sinks;
 #[cfg(test)]
@@ -13,3 +15,5 @@ mod mem_sources;
 mod std_sinks;
 #[cfg(test)]
 mod std_sources;
+#[cfg(test)]
+mod steps;

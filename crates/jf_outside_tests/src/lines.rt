@@ -1,6 +1,4 @@
 // Lines of input, whole and cut short.
-ghost use Rattle.std.specs.Prelude.{◌<◌};
-
 use jf_io::{FetchFault, LineReader, MemSource};
 use jf_path::Bytes;
 use std::alloc::Global;
@@ -8,167 +6,184 @@ use std::test::Fail;
 
 const LIMIT: usize = 8_500;
 
-// A source of these bytes, whose call number `failing` fails.
-fn source_of(alloc: Global, bytes: &[u8], piece: usize, failing: u64) -> Result<MemSource, Fail>
-    requires { 0 < piece }
-{
+// A source of these bytes, in pieces of at most so many, whose call number `failing` fails.
+fn source_of(
+    alloc: Global,
+    bytes: &[u8],
+    piece: usize,
+    failing: u64,
+) -> Result<Box<MemSource>, Fail> {
     let failing = [failing].to_vec(alloc)?;
-    Ok(MemSource::new(Bytes::copy_of(alloc, bytes)?, piece, failing))
+    let source = MemSource::new(Bytes::copy_of(alloc, bytes)?, piece.max(1), failing);
+    Ok(Box::new(alloc, source)?)
 }
+
+// Whether the next line is this one. It is let go.
+fn goes_on_with(reader: &mut LineReader, source: &mut MemSource, line: &[u8]) -> bool {
+    let goes_on = reader.fetch(source) == Ok(true) && reader.line() == line;
+    reader.advance();
+    goes_on
+}
+
+// Whether no line is left.
+fn is_at_end(reader: &mut LineReader, source: &mut MemSource) -> bool {
+    reader.fetch(source) == Ok(false) && reader.line().is_empty()
+}
+
+// Whether these lines come, and none after them.
+fn ends_with(reader: &mut LineReader, source: &mut MemSource, lines: &[&[u8]]) -> bool {
+    for line in lines {
+        if !goes_on_with(reader, source, line) {
+            return false;
+        }
+    }
+    is_at_end(reader, source)
+}
+
+// Whether a text, in pieces of at most so many bytes, is handed on as these lines.
+fn is_handed_on(alloc: Global, text: &[u8], piece: usize, lines: &[&[u8]]) -> Result<bool, Fail> {
+    let mut source = source_of(alloc, text, piece, u64::MAX)?;
+    let mut reader = LineReader::new(alloc, LIMIT);
+    Ok(ends_with(&mut reader, &mut source, lines))
+}
+
+const TEXTS: &[(&[u8], &[&[u8]])] = &[
+    (b"", &[]),
+    (b"\n", &[b""]),
+    (b"one", &[b"one"]),
+    (b"one\n\nthree\n", &[b"one", b"", b"three"]),
+    (b"one two\r\nthree", &[b"one two\r", b"three"]),
+];
 
 #[test]
 fn hands_lines_on(rt: HostRuntime) -> Result<(), Fail> {
     for piece in [1, 3, 11] {
-        for (text, lines) in [
-            (b"".as_slice(), [None, None, None]),
-            (b"\n".as_slice(), [Some(b"".as_slice()), None, None]),
-            (b"one".as_slice(), [Some(b"one".as_slice()), None, None]),
-            (
-                b"one\n\nthree\n".as_slice(),
-                [
-                    Some(b"one".as_slice()),
-                    Some(b"".as_slice()),
-                    Some(b"three".as_slice()),
-                ],
-            ),
-            (
-                b"one two\r\nthree".as_slice(),
-                [
-                    Some(b"one two\r".as_slice()),
-                    Some(b"three".as_slice()),
-                    None,
-                ],
-            ),
-        ] {
-            let mut source = source_of(rt.alloc(), text, piece, u64::MAX)?;
-            let mut reader = LineReader::new(rt.alloc(), LIMIT);
-            for line in lines {
-                assert_eq!(rt; reader.fetch(&mut source), Ok(line.is_some()));
-                assert_eq!(rt; reader.line(), line.unwrap_or(b""));
-                reader.advance();
-            }
-            assert_eq!(rt; reader.fetch(&mut source), Ok(false));
+        for (text, lines) in TEXTS {
+            assert!(rt; is_handed_on(rt.alloc(), text, piece, lines)?, "{piece}");
         }
     }
     Ok(())
+}
+
+// Whether a fetch meets a fault while this line is unfinished.
+fn fails_within(reader: &mut LineReader, source: &mut MemSource, line: &[u8]) -> bool {
+    reader.fetch(source) == Err(FetchFault::ReadFault) && reader.line() == line && reader.is_last()
 }
 
 #[test]
 fn goes_on_after_a_fault(rt: HostRuntime) -> Result<(), Fail> {
     let mut source = source_of(rt.alloc(), b"abcdef\ngh", 4, 1)?;
     let mut reader = LineReader::new(rt.alloc(), LIMIT);
-    assert_eq!(rt; reader.fetch(&mut source), Err(FetchFault::ReadFault));
-    assert_eq!(rt; reader.line(), b"abcd".as_slice());
-    for (want, line) in [
-        (Ok(true), b"abcdef".as_slice()),
-        (Ok(true), b"gh".as_slice()),
-        (Ok(false), b"".as_slice()),
-    ] {
-        assert_eq!(rt; reader.fetch(&mut source), want);
-        assert_eq!(rt; reader.line(), line);
-        reader.advance();
-    }
+    assert!(rt; fails_within(&mut reader, &mut source, b"abcd"));
+    assert!(rt; ends_with(&mut reader, &mut source, &[b"abcdef", b"gh"]));
     Ok(())
 }
 
-// Bytes of a line that has so many.
-fn long_line(alloc: Global, len: usize) -> Result<Vec<u8>, Fail> {
-    let mut line = Vec::new(alloc);
+// These bytes with a line of so many after them, and then these.
+fn long_text(alloc: Global, front: &[u8], len: usize, back: &[u8]) -> Result<Vec<u8>, Fail> {
+    let mut text = front.to_vec(alloc)?;
     for i in 0..len {
-        line.push(b"abcdefg"[i % 7])?;
+        text.push(b"abcdefg"[i % 7])?;
     }
-    Ok(line)
+    text.extend_from_slice(back)?;
+    Ok(text)
+}
+
+// Whether a line of so many bytes is handed on whole, before another and as the last one.
+fn is_held_whole(alloc: Global, len: usize, piece: usize) -> Result<bool, Fail> {
+    let line = long_text(alloc, b"", len, b"")?;
+    let text = long_text(alloc, b"", len, b"\nb")?;
+    Ok(
+        is_handed_on(alloc, &text, piece, &[&line, b"b"])?
+            && is_handed_on(alloc, &line, piece, &[&line])?,
+    )
 }
 
 #[test]
 fn holds_lines_whole_up_to_the_limit(rt: HostRuntime) -> Result<(), Fail> {
     for len in [1, LIMIT] {
-        let line = long_line(rt.alloc(), len)?;
-        let mut text = line.to_vec(rt.alloc())?;
-        text.extend_from_slice(b"\nb")?;
-        for (bytes, next) in [
-            (text.as_slice(), Some(b"b".as_slice())),
-            (line.as_slice(), None),
-        ] {
-            for piece in [1, 7, 4_096, usize::MAX] {
-                let mut source = source_of(rt.alloc(), bytes, piece, u64::MAX)?;
-                let mut reader = LineReader::new(rt.alloc(), LIMIT);
-                assert_eq!(rt; reader.fetch(&mut source), Ok(true));
-                assert_eq!(rt; reader.line(), line.as_slice());
-                reader.advance();
-                assert_eq!(rt; reader.fetch(&mut source), Ok(next.is_some()));
-                assert_eq!(rt; reader.line(), next.unwrap_or(b""));
-            }
+        for piece in [1, 7, 4_096, usize::MAX] {
+            assert!(rt;
+                is_held_whole(rt.alloc(), len, piece)?,
+                "{len} bytes, by {piece}"
+            );
         }
     }
     Ok(())
 }
+
+// Whether of a line of so many bytes the front alone is handed on, and then the next lines.
+fn is_skipped(alloc: Global, len: usize, piece: usize) -> Result<bool, Fail> {
+    let front = long_text(alloc, b"", LIMIT + 1, b"")?;
+    let text = long_text(alloc, b"", len, b"\nbehind\n\nlast")?;
+    is_handed_on(alloc, &text, piece, &[&front, b"behind", b"", b"last"])
+}
+
+const LONGER: &[(usize, usize)] = &[
+    (LIMIT + 1, 1),
+    (LIMIT + 1, 7),
+    (LIMIT + 1, 4_096),
+    (9_000, 1),
+    (200_000, 7),
+    (200_000, 4_096),
+    (200_000, usize::MAX),
+];
 
 #[test]
 fn skips_the_rest_of_a_longer_line(rt: HostRuntime) -> Result<(), Fail> {
-    for (len, piece) in [
-        (LIMIT + 1, 1),
-        (LIMIT + 1, 7),
-        (LIMIT + 1, 4_096),
-        (9_000, 1),
-        (200_000, 7),
-        (200_000, 4_096),
-        (200_000, usize::MAX),
-    ] {
-        let line = long_line(rt.alloc(), len)?;
-        let mut text = line.to_vec(rt.alloc())?;
-        text.extend_from_slice(b"\nbehind\n\nlast")?;
-        let mut source = source_of(rt.alloc(), &text, piece, u64::MAX)?;
-        let mut reader = LineReader::new(rt.alloc(), LIMIT);
-        assert_eq!(rt; reader.fetch(&mut source), Ok(true));
-        assert_eq!(rt; Some(reader.line()), line.get(..LIMIT + 1));
-        for next in [b"behind".as_slice(), b"", b"last"] {
-            reader.advance();
-            assert_eq!(rt; reader.fetch(&mut source), Ok(true));
-            assert_eq!(rt; reader.line(), next);
-        }
-        reader.advance();
-        assert_eq!(rt; reader.fetch(&mut source), Ok(false));
+    for (len, piece) in LONGER {
+        assert!(rt;
+            is_skipped(rt.alloc(), *len, *piece)?,
+            "{len} bytes, by {piece}"
+        );
     }
     Ok(())
 }
 
+// Whether the front of a longer line is held, and no line feed.
+fn is_last_and_longer(reader: &mut LineReader, source: &mut MemSource) -> bool {
+    reader.fetch(source) == Ok(true) && reader.line().len() == LIMIT + 1 && reader.is_last()
+}
+
+// Whether a last line of so many bytes is skipped that has no line feed.
+fn is_skipped_at_end(alloc: Global, len: usize, piece: usize) -> Result<bool, Fail> {
+    let text = long_text(alloc, b"first\n", len, b"")?;
+    let mut source = source_of(alloc, &text, piece, u64::MAX)?;
+    let mut reader = LineReader::new(alloc, LIMIT);
+    if !goes_on_with(&mut reader, &mut source, b"first")
+        || !is_last_and_longer(&mut reader, &mut source)
+    {
+        return Ok(false);
+    }
+    reader.advance();
+    Ok(is_at_end(&mut reader, &mut source))
+}
+
+const LONGER_AT_END: &[(usize, usize)] = &[
+    (LIMIT + 1, 1),
+    (200_000, 7),
+    (200_000, 4_096),
+    (4_194_304, 65_536),
+];
+
 #[test]
 fn skips_a_line_without_line_feed(rt: HostRuntime) -> Result<(), Fail> {
-    for (len, piece) in [
-        (LIMIT + 1, 1),
-        (200_000, 7),
-        (200_000, 4_096),
-        (1 << 22, 65_536),
-    ] {
-        let mut text = b"first\n".to_vec(rt.alloc())?;
-        text.extend_from_slice(&long_line(rt.alloc(), len)?)?;
-        let mut source = source_of(rt.alloc(), &text, piece, u64::MAX)?;
-        let mut reader = LineReader::new(rt.alloc(), LIMIT);
-        assert_eq!(rt; reader.fetch(&mut source), Ok(true));
-        assert_eq!(rt; reader.line(), b"first".as_slice());
-        reader.advance();
-        assert_eq!(rt; reader.fetch(&mut source), Ok(true));
-        assert_eq!(rt; reader.line().len(), LIMIT + 1);
-        assert!(rt; reader.is_last());
-        reader.advance();
-        assert_eq!(rt; reader.fetch(&mut source), Ok(false));
+    for (len, piece) in LONGER_AT_END {
+        assert!(rt;
+            is_skipped_at_end(rt.alloc(), *len, *piece)?,
+            "{len} bytes, by {piece}"
+        );
     }
     Ok(())
 }
 
 #[test]
 fn goes_on_after_a_fault_in_a_skipped_line(rt: HostRuntime) -> Result<(), Fail> {
-    let mut text = long_line(rt.alloc(), 200_000)?;
-    text.extend_from_slice(b"\nbehind")?;
+    let front = long_text(rt.alloc(), b"", LIMIT + 1, b"")?;
+    let text = long_text(rt.alloc(), b"", 200_000, b"\nbehind")?;
     let mut source = source_of(rt.alloc(), &text, 4_096, 10)?;
     let mut reader = LineReader::new(rt.alloc(), LIMIT);
-    assert_eq!(rt; reader.fetch(&mut source), Err(FetchFault::ReadFault));
-    assert!(rt; reader.is_last());
-    assert_eq!(rt; reader.fetch(&mut source), Ok(true));
-    assert_eq!(rt; reader.line().len(), LIMIT + 1);
-    reader.advance();
-    assert_eq!(rt; reader.fetch(&mut source), Ok(true));
-    assert_eq!(rt; reader.line(), b"behind".as_slice());
+    assert!(rt; fails_within(&mut reader, &mut source, &front));
+    assert!(rt; ends_with(&mut reader, &mut source, &[&front, b"behind"]));
     Ok(())
 }

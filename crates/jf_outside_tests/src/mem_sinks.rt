@@ -1,37 +1,57 @@
 // Sinks in memory, with room or without.
 use jf_io::{IoFailed, MemSink, Sink, put_all};
+use std::alloc::Global;
 use std::test::Fail;
+
+// A sink that takes at most 3 bytes a call and has this room, whose call number `failing` fails.
+fn sink_of(alloc: Global, room: u64, failing: u64) -> Result<Box<MemSink>, Fail> {
+    let failing = [failing].to_vec(alloc)?;
+    let sink = MemSink::new(alloc, 3, room, failing)?;
+    Ok(Box::new(alloc, sink)?)
+}
+
+// What is put, what that returns, and the text and the faults then.
+type Put = (&'static [u8], Result<usize, IoFailed>, &'static [u8], u64);
+
+const PUTS: &[Put] = &[
+    (b"abcd", Ok(3), b"abc", 0),
+    (b"d", Err(IoFailed), b"abc", 1),
+    (b"defg", Ok(2), b"abcde", 1),
+    (b"f", Err(IoFailed), b"abcde", 2),
+];
+
+fn puts(sink: &mut MemSink, put: Put) -> bool {
+    let (bytes, want, text, faults) = put;
+    !bytes.is_empty() && sink.put(bytes) == want && sink.text() == text && sink.faults() == faults
+}
 
 #[test]
 fn takes_pieces_until_the_room_is_used_up(rt: HostRuntime) -> Result<(), Fail> {
-    let failing = [1].to_vec(rt.alloc())?;
-    let mut sink = MemSink::new(rt.alloc(), 3, 5, failing)?;
-    for (bytes, want, text, faults) in [
-        (b"abcd".as_slice(), Ok(3), b"abc".as_slice(), 0),
-        (b"d".as_slice(), Err(IoFailed), b"abc".as_slice(), 1),
-        (b"defg".as_slice(), Ok(2), b"abcde".as_slice(), 1),
-        (b"f".as_slice(), Err(IoFailed), b"abcde".as_slice(), 2),
-    ] {
-        assert!(rt; !bytes.is_empty());
-        assert_eq!(rt; sink.put(bytes), want);
-        assert_eq!(rt; sink.text(), text);
-        assert_eq!(rt; sink.faults(), faults);
+    let mut sink = sink_of(rt.alloc(), 5, 1)?;
+    for put in PUTS {
+        assert!(rt; puts(&mut sink, *put), "{put:?}");
     }
     Ok(())
 }
 
+// Whether putting all of `abcdefg` into this room, where this call fails, returns that and leaves this text.
+fn is_put(
+    alloc: Global,
+    room: u64,
+    failing: u64,
+    want: Result<(), IoFailed>,
+    text: &[u8],
+) -> Result<bool, Fail> {
+    let mut sink = sink_of(alloc, room, failing)?;
+    Ok(put_all::<MemSink>(&mut sink, b"abcdefg") == want && sink.text() == text)
+}
+
 #[test]
 fn puts_all_or_a_front(rt: HostRuntime) -> Result<(), Fail> {
-    for (room, listed, want, text) in [
-        (7, 9, Ok(()), b"abcdefg".as_slice()),
-        (4, 9, Err(IoFailed), b"abcd".as_slice()),
-        (7, 0, Err(IoFailed), b"".as_slice()),
-        (7, 2, Err(IoFailed), b"abcdef".as_slice()),
-    ] {
-        let failing = [listed].to_vec(rt.alloc())?;
-        let mut sink = MemSink::new(rt.alloc(), 3, room, failing)?;
-        assert_eq!(rt; put_all(&mut sink, b"abcdefg"), want);
-        assert_eq!(rt; sink.text(), text);
-    }
+    let alloc = rt.alloc();
+    assert!(rt; is_put(alloc, 7, 9, Ok(()), b"abcdefg")?);
+    assert!(rt; is_put(alloc, 4, 9, Err(IoFailed), b"abcd")?);
+    assert!(rt; is_put(alloc, 7, 0, Err(IoFailed), b"")?);
+    assert!(rt; is_put(alloc, 7, 2, Err(IoFailed), b"abcdef")?);
     Ok(())
 }

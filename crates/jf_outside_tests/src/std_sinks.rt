@@ -39,31 +39,36 @@ impl Write for Narrow {
     }
 }
 
+// Puts three texts, and returns the number of faults.
+fn put_three<K: Sink>(sink: &mut K) -> Result<u64, IoFailed> {
+    put_all(sink, b"abc")?;
+    put_all(sink, b"")?;
+    put_all(sink, b"de")?;
+    Ok(sink.faults())
+}
+
 #[test]
 fn hands_all_bytes_to_the_writer(rt: HostRuntime) -> Result<(), Fail> {
     let mut text = Vec::new(rt.alloc());
-    let mut sink = StdSink::new(&mut text);
-    put_all(&mut sink, b"abc")?;
-    put_all(&mut sink, b"")?;
-    put_all(&mut sink, b"de")?;
-    assert_eq!(rt; sink.faults(), 0);
-    assert_eq!(rt; text.as_slice(), b"abcde".as_slice());
+    assert!(rt; put_three(&mut StdSink::new(&mut text)) == Ok(0));
+    assert!(rt; text.as_slice() == b"abcde".as_slice());
     Ok(())
+}
+
+// What putting five bytes into a writer with this room, that flushes or not, comes to, and the number of faults.
+fn put_five(room: usize, flushes: bool) -> (Result<(), IoFailed>, u64) {
+    let mut sink = StdSink::new(Narrow {
+        room,
+        interrupted: false,
+        flushes,
+    });
+    let outcome = put_all(&mut sink, b"abcde");
+    (outcome, sink.faults())
 }
 
 #[test]
 fn counts_a_write_of_no_byte_and_a_failed_flush(rt: HostRuntime) {
-    for (room, flushes, want, faults) in [
-        (5, true, Ok(()), 0),
-        (3, true, Err(IoFailed), 1),
-        (5, false, Err(IoFailed), 1),
-    ] {
-        let mut sink = StdSink::new(Narrow {
-            room,
-            interrupted: false,
-            flushes,
-        });
-        assert_eq!(rt; put_all(&mut sink, b"abcde"), want);
-        assert_eq!(rt; sink.faults(), faults);
-    }
+    assert!(rt; put_five(5, true) == (Ok(()), 0));
+    assert!(rt; put_five(3, true) == (Err(IoFailed), 1));
+    assert!(rt; put_five(5, false) == (Err(IoFailed), 1));
 }

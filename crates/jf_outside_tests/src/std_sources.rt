@@ -2,7 +2,7 @@
 use jf_io::{IoFailed, Source, StdSource};
 use std::io::{self, ErrorKind, Read};
 
-// How often a call is begun in all while signals interrupt it.
+// How often a read is begun in all while signals interrupt it.
 const ATTEMPTS: u32 = 1_000;
 
 // A reader whose reads are `abcd`, a fault and `abcd`, after so many that signals interrupt.
@@ -27,45 +27,53 @@ impl Read for Faulty {
     }
 }
 
+// A source over such a reader.
+fn faulty_source(interrupted: u32) -> StdSource<Faulty> {
+    StdSource::new(Faulty {
+        interrupted,
+        reads: 0,
+    })
+}
+
+// Whether the next take returns this, and the counts of bytes and of faults are these then.
+fn takes<S: Source>(
+    source: &mut S,
+    want: Result<usize, IoFailed>,
+    taken: u64,
+    faults: u64,
+) -> bool {
+    source.take(&mut [0; 3]) == want && source.taken() == taken && source.faults() == faults
+}
+
+// Whether the next take gives so many bytes, the buffer is this then, and so many bytes were taken in all.
+fn gives<S: Source>(source: &mut S, count: usize, want: [u8; 3], taken: u64) -> bool {
+    let mut buf = [0; 3];
+    source.take(&mut buf) == Ok(count)
+        && buf == want
+        && source.taken() == taken
+        && source.faults() == 0
+}
+
 #[test]
 fn gives_what_the_reader_gives(rt: HostRuntime) {
     let bytes: &[u8] = b"abcde";
     let mut source = StdSource::new(bytes);
-    for (want, buffer, taken) in [
-        (Ok(3), *b"abc", 3),
-        (Ok(2), *b"de\0", 5),
-        (Ok(0), [0; 3], 5),
-        (Ok(0), [0; 3], 5),
-    ] {
-        let mut buf = [0; 3];
-        assert_eq!(rt; source.take(&mut buf), want);
-        assert_eq!(rt; buf, buffer);
-        assert_eq!(rt; source.taken(), taken);
-    }
-    assert_eq!(rt; source.faults(), 0);
+    assert!(rt; gives(&mut source, 3, *b"abc", 3));
+    assert!(rt; gives(&mut source, 2, *b"de\0", 5));
+    assert!(rt; gives(&mut source, 0, [0; 3], 5));
+    assert!(rt; gives(&mut source, 0, [0; 3], 5));
 }
 
 #[test]
 fn fails_in_mid_stream_and_goes_on(rt: HostRuntime) {
-    let mut source = StdSource::new(Faulty {
-        interrupted: 2,
-        reads: 0,
-    });
-    for (want, taken, faults) in [(Ok(3), 3, 0), (Err(IoFailed), 3, 1), (Ok(3), 6, 1)] {
-        let mut buf = [0; 3];
-        assert_eq!(rt; source.take(&mut buf), want);
-        assert_eq!(rt; source.taken(), taken);
-        assert_eq!(rt; source.faults(), faults);
-    }
+    let mut source = faulty_source(2);
+    assert!(rt; takes(&mut source, Ok(3), 3, 0));
+    assert!(rt; takes(&mut source, Err(IoFailed), 3, 1));
+    assert!(rt; takes(&mut source, Ok(3), 6, 1));
 }
 
 #[test]
 fn gives_up_where_signals_never_cease(rt: HostRuntime) {
-    for (interrupted, want) in [(ATTEMPTS - 1, Ok(3)), (ATTEMPTS, Err(IoFailed))] {
-        let mut source = StdSource::new(Faulty {
-            interrupted,
-            reads: 0,
-        });
-        assert_eq!(rt; source.take(&mut [0; 3]), want);
-    }
+    assert!(rt; takes(&mut faulty_source(ATTEMPTS - 1), Ok(3), 3, 0));
+    assert!(rt; takes(&mut faulty_source(ATTEMPTS), Err(IoFailed), 0, 1));
 }
