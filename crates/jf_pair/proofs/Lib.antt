@@ -1,0 +1,5 @@
+pub mod First
+pub mod FirstRecord
+pub mod Opened
+pub mod Appended
+pub mod Switched

@@ -1,0 +1,75 @@
+-- A pair of files that were read.
+use Rattle.std.proofs.Common.{◌≡◌, ◌≢◌, ◌↔◌, ℕ, ◌<◌, List, [], ◌∷◌, length, true, false, sym, ap, ap₂, ◌∙◌, subst, arith, Some, Ok, Err, get_or}
+use Rattle.jf_disk.specs.Disk.{History, State, Content, content, durable, reads}
+use Rattle.jf_disk.specs.Crashes.{opposite}
+use Rattle.jf_disk.specs.declared.side.Side.{Side}
+use Rattle.jf_disk.specs.declared.side.Side.TheVariants as side
+use Rattle.jf_frame.specs.Framed.{Framed}
+use Rattle.jf_frame.specs.Framing.{records, end_of}
+use Rattle.jf_frame.specs.FramingLaws.{some_end}
+use Rattle.jf_frame.specs.Logs.{Log, IsReading, IsReady}
+use Rattle.jf_pair.specs.Files.{is_begun, are_level, live_side, records_of, damage_in, outer_damage, IsOlder}
+use Rattle.jf_pair.specs.FileLaws.{older_of}
+use Rattle.jf_pair.specs.Pairs.{Pair, IsInStep}
+
+-- a log that was read over a synced side and has records is ready
+read_ready : (w : Side) (s : State) (log : Log) → IsReading log w (content w s).bytes → content w s ≡ durable (content w s).bytes → 0 < length log.records → IsReady w log.offset log.records s
+read_ready w s log read quiet some =
+    let ends = ends_closed (content w s).bytes log.records read.held some in
+    record {
+      quiet = quiet;
+      held = read.held;
+      ends = read.ends;
+      there = subst (λ n. n < length (content w s).bytes) (sym read.ends) ends.0;
+      closed = λ one. ends.1 (ap (λ n. get_or (content w s).bytes n 0) (sym read.ends) ∙ one);
+    }
+  where
+    ends_closed : (bytes : List ℕ) (rs : List Framed) → records bytes ≡ Ok rs → 0 < length rs → (end_of rs < length bytes) × (get_or bytes (end_of rs) 0 ≢ 1)
+    ends_closed bytes [] held some = absurd (omega arith)
+    ends_closed bytes (r ∷ rs) held some = some_end bytes r rs held
+
+-- what holds of both sides' records holds of either
+of_both : (P : List Framed → Type 0) (w : Side) (left right : List Framed) → P left → P right → P (records_of w left right)
+of_both P side.A left right l r = l
+of_both P side.B left right l r = r
+
+opened_here : (p : Pair) (live other : Log) (left right : List Framed) (s : State)
+    → p.side ≡ live_side left right → live.records ≡ records_of p.side left right → other.records ≡ records_of (opposite p.side) left right
+    → is_begun left ≡ true → is_begun right ≡ true → are_level left right ≡ false
+    → IsReading live p.side (content p.side s).bytes → IsReading other (opposite p.side) (content (opposite p.side) s).bytes
+    → content p.side s ≡ durable (content p.side s).bytes → content (opposite p.side) s ≡ durable (content (opposite p.side) s).bytes
+    → p.offset ≡ live.offset → ((p.is_live ≡ true) ↔ (0 < length live.records)) → IsInStep p live.records s
+opened_here p live other left right s is l o left_begun right_begun apart read read_other quiet quiet_other at some = record {
+  others = other.records;
+  quiet = quiet;
+  quiet_across = quiet_other;
+  held = read.held;
+  held_across = read_other.held;
+  begun = ap is_begun l ∙ of_both (λ rs. is_begun rs ≡ true) p.side left right left_begun right_begun;
+  begun_across = ap is_begun o ∙ of_both (λ rs. is_begun rs ≡ true) (opposite p.side) left right left_begun right_begun;
+  older = subst (λ rs. IsOlder other.records rs) (sym l) (subst (λ rs. IsOlder rs (records_of p.side left right)) (sym o) (subst (λ w. IsOlder (records_of (opposite w) left right) (records_of w left right)) (sym is) (older_of left right apart)));
+  live = some;
+  ready = λ yes. subst (λ n. IsReady p.side n live.records s) (sym at) (read_ready p.side s live read quiet (some.0 yes));
+}
+
+-- a disk is in step with a pair of this live side, on what was read
+pub opened_in_step : (w : Side) (p : Pair) (live other : Log) (left right : List Framed) (s : State)
+    → p.side ≡ w → w ≡ live_side left right → live.records ≡ records_of w left right → other.records ≡ records_of (opposite w) left right
+    → is_begun left ≡ true → is_begun right ≡ true → are_level left right ≡ false
+    → IsReading live w (content w s).bytes → IsReading other (opposite w) (content (opposite w) s).bytes
+    → content w s ≡ durable (content w s).bytes → content (opposite w) s ≡ durable (content (opposite w) s).bytes
+    → p.offset ≡ live.offset → ((p.is_live ≡ true) ↔ (0 < length live.records)) → IsInStep p live.records s
+opened_in_step w p live other left right s same is l o left_begun right_begun apart read read_other quiet quiet_other at some =
+    subst (λ p. IsInStep p live.records s) (ap (λ w. let q : Pair = record { side = w; is_live = p.is_live; offset = p.offset; failed = p.failed } in q) (sym same))
+    (opened_here (record { side = w; is_live = p.is_live; offset = p.offset; failed = p.failed }) live other left right s is l o left_begun right_begun apart read read_other quiet quiet_other at some)
+
+-- what was read of bytes was read of equal ones, which are then synced
+pub read_same : (log : Log) (w : Side) (s : State) (bytes : List ℕ) → content w s ≡ durable bytes → IsReading log w bytes → IsReading log w (content w s).bytes
+read_same log w s bytes e read = subst (IsReading log w) (sym (ap (λ (c : Content). c.bytes) e)) read
+
+pub synced_same : (w : Side) (s : State) (bytes : List ℕ) → content w s ≡ durable bytes → content w s ≡ durable (content w s).bytes
+synced_same w s bytes e = e ∙ ap (λ (c : Content). durable c.bytes) (sym e)
+
+-- damage on side B beside a side A that holds records
+pub damaged_b : (h : History) (left : List Framed) (w : Side) (at : ℕ) → records h.now.a.bytes ≡ Ok left → w ≡ side.B → records h.now.b.bytes ≡ Err at → outer_damage (reads h) ≡ Some (w, at)
+damaged_b h left w at a is b = ap₂ damage_in a b ∙ ap (λ w. Some (w, at)) (sym is)

@@ -1,0 +1,75 @@
+-- What two files hold: gated records on each side, of which those of the live side, the one with the greater generation, count.
+use Rattle.std.specs.Prelude.{◌≡◌, ◌⊎◌, ℕ, ◌<◌, Bool, true, false, ◌&&◌, ◌||◌, if◌then◌else◌, ◌==◌, nat_le, nat_lt, List, [], ◌∷◌, length, Option, Some, None, Result, Ok, Err}
+use Rattle.jf_disk.specs.Disk.{Files}
+use Rattle.jf_disk.specs.declared.side.Side.{Side}
+use Rattle.jf_disk.specs.declared.side.Side.TheVariants as side
+use Rattle.jf_frame.specs.Framed.{Framed}
+use Rattle.jf_frame.specs.Framing.{records, number_of}
+
+-- the kinds of a checkpoint: 4 with nodes of the first format, 5 with nodes of the second
+abbrev pub is_checkpoint : ℕ → Bool
+is_checkpoint kind = kind == 4 || kind == 5
+
+-- there is no record, or the first is of a checkpoint's kind and begins with a number of eight bytes
+abbrev pub is_begun : List Framed → Bool
+is_begun [] = true
+is_begun (r ∷ rs) = is_checkpoint r.kind && nat_le 8 (length r.payload)
+
+-- the number in the first eight bytes of the first payload; 0 without a record
+abbrev pub generation_of : List Framed → ℕ
+generation_of [] = 0
+generation_of (r ∷ rs) = number_of r.payload
+
+-- both sides hold records, of one generation
+abbrev pub are_level : List Framed → List Framed → Bool
+are_level [] right = false
+are_level (a ∷ left) [] = false
+are_level (a ∷ left) (b ∷ right) = generation_of (a ∷ left) == generation_of (b ∷ right)
+
+-- the side with records, and of two such sides the one with the greater generation; B if neither has records, so that
+-- the first checkpoint goes to A
+abbrev pub live_side : List Framed → List Framed → Side
+live_side [] right = side.B
+live_side (a ∷ left) [] = side.A
+live_side (a ∷ left) (b ∷ right) = if nat_lt (generation_of (b ∷ right)) (generation_of (a ∷ left)) then side.A else side.B
+
+-- of two sides' records those of one
+abbrev pub records_of : Side → List Framed → List Framed → List Framed
+records_of side.A left right = left
+records_of side.B left right = right
+
+-- the records of the live side
+abbrev pub live_records : List Framed → List Framed → List Framed
+live_records left right = records_of (live_side left right) left right
+
+-- two files hold these live records: each side's gates and lengths are whole, each begins with a checkpoint or holds no
+-- record, and their generations differ
+pub record HoldsLive (files : Files) (rs : List Framed) : Type 0 where
+  pub a_records : List Framed
+  pub b_records : List Framed
+  pub a_held : records files.a ≡ Ok a_records
+  pub b_held : records files.b ≡ Ok b_records
+  pub a_begun : is_begun a_records ≡ true
+  pub b_begun : is_begun b_records ≡ true
+  pub apart : are_level a_records b_records ≡ false
+  pub live : live_records a_records b_records ≡ rs
+
+-- the first place of damage that shows before more of a payload is read than its generation: side A's gates and lengths,
+-- then side B's; side A's first record, then side B's; two sides of one generation
+abbrev pub damage_in : Result (List Framed) ℕ → Result (List Framed) ℕ → Option (Side × ℕ)
+damage_in (Err at) right = Some (side.A, at)
+damage_in (Ok left) (Err at) = Some (side.B, at)
+damage_in (Ok left) (Ok right) =
+    if is_begun left
+    then (if is_begun right
+    then (if are_level left right then Some (side.B, 0) else None)
+    else Some (side.B, 0))
+    else Some (side.A, 0)
+
+-- the same of two files
+abbrev pub outer_damage : Files → Option (Side × ℕ)
+outer_damage files = damage_in (records files.a) (records files.b)
+
+-- the other side's records are none, or of a lesser generation
+abbrev pub IsOlder : List Framed → List Framed → Type 0
+IsOlder others rs = (others ≡ []) ⊎ (generation_of others < generation_of rs)

@@ -1,0 +1,5 @@
+pub mod Files
+pub mod FileLaws
+pub mod Pairs
+pub mod PairLaws
+pub mod Laws
