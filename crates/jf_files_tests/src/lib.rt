@@ -1,11 +1,9 @@
-//! Tests of gated files, of pairs of them, of names and nodes in bytes, and of records.
+//! Tests of gated files, of names and nodes in bytes, and of records.
 #![tactic(auto)]
 
 #[cfg(test)]
 mod frames;
 #[cfg(test)]
 mod nodes;
-#[cfg(test)]
-mod pairs;
 #[cfg(test)]
 mod records;

@@ -1,6 +1,6 @@
 use Rattle.std.proofs.Common.{[], ◌∷◌, refl}
-use Rattle.jf_files_tests.proofs.Samples.{number, first, second, more, is_one}
-use Rattle.jf_files_tests.proofs.pairs.write_files.Goals as goal
+use Rattle.jf_pair_tests.proofs.Samples.{number, first, second, more, is_one}
+use Rattle.jf_pair_tests.proofs.pairs.write_files.Goals as goal
 
 pub switch-requires-clause-whole : goal.switch-requires-clause-whole
 switch-requires-clause-whole c κs = (4, number 1, first)

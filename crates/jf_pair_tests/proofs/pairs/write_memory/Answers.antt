@@ -7,8 +7,8 @@ use Rattle.jf_frame.specs.Logs.{framed}
 use Rattle.jf_pair.specs.Files.{generation_of}
 use Rattle.jf_pair.specs.Pairs.{IsInStep}
 use Rattle.jf_pair.specs.PairLaws.{in_step_one}
-use Rattle.jf_files_tests.proofs.Samples.{number, first, second, more, is_one, number_one, number_two, same_payload}
-use Rattle.jf_files_tests.proofs.pairs.write_memory.Goals as goal
+use Rattle.jf_pair_tests.proofs.Samples.{number, first, second, more, is_one, number_one, number_two, same_payload}
+use Rattle.jf_pair_tests.proofs.pairs.write_memory.Goals as goal
 
 pub switch-requires-clause-whole : goal.switch-requires-clause-whole
 switch-requires-clause-whole c κs = (4, number 1, first)
