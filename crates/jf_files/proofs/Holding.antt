@@ -8,7 +8,7 @@ use Rattle.jf_codec.specs.declared.format.Format.{Format}
 use Rattle.jf_standing.specs.Standing.{Standing, versions_of}
 use Rattle.jf_standing.specs.Sound.{IsSound}
 use Rattle.jf_standing.specs.Taking.{Takes, Gives}
-use Rattle.jf_standing.specs.Leading.{Item, Follows, Leads}
+use Rattle.jf_standing.specs.Leading.{Item, ItemFollows, Leads}
 use Rattle.jf_standing.specs.ItemLaws.{ItemsLeadToSound}
 use Rattle.jf_standing.specs.declared.records.Record.{Record}
 use Rattle.jf_files.specs.Sides.{format_of_kind, live, outer_damage}
@@ -16,8 +16,8 @@ use Rattle.jf_files.specs.Files.{Reader, IsReader, item, items, LeadTo, StandsFo
 use Rattle.jf_files.proofs.Judging.{are_read}
 
 -- one item more
-leads_on : (fmt : Format) (xs : List Item) (s a b : Standing) (y : Item) → Leads fmt s xs a → Follows fmt a y b → Leads fmt s (xs ++ y ∷ []) b
-leads_on fmt [] s a b y is next = (b, subst (λ m. Follows fmt m y b) is next, refl)
+leads_on : (fmt : Format) (xs : List Item) (s a b : Standing) (y : Item) → Leads fmt s xs a → ItemFollows fmt a y b → Leads fmt s (xs ++ y ∷ []) b
+leads_on fmt [] s a b y is next = (b, subst (λ m. ItemFollows fmt m y b) is next, refl)
 leads_on fmt (x ∷ xs) s a b y is next = (is.0, is.1, leads_on fmt xs is.0 a b y is.2 next)
 
 pub held_stands : (read : Reader) (files : Files) (fmt : Format) (s : Standing) → HoldsStanding read files fmt s → StandsFor read files (versions_of s)

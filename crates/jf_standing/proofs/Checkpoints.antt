@@ -20,7 +20,7 @@ use Rattle.jf_standing.specs.Standing.{Standing, versions_of, with_nodes}
 use Rattle.jf_standing.specs.Sound.{IsSound}
 use Rattle.jf_standing.specs.Taking.{Gives}
 use Rattle.jf_standing.specs.Next.{IsReadStanding}
-use Rattle.jf_standing.specs.Building.{landed_on, built, up_from, floor_of, rebuilt, apart, joined, nodes_by_name, checkpoint_of}
+use Rattle.jf_standing.specs.Building.{landed_on, built, up_from, floor_of, rebuilt, apart, as_named, nodes_by_name, checkpoint_of}
 use Rattle.jf_standing.proofs.Lists.{map-which}
 use Rattle.jf_standing.proofs.Sinces.{alive-tells}
 use Rattle.jf_standing.proofs.Ordered.{same_sorted}
@@ -98,7 +98,7 @@ built_roots fmt maps rs top (suc n) w t at long each is =
     built_roots fmt maps rs top n (w + 1) (landed_on fmt (maps (w + 1)) t) (omega arith) (omega arith) (λ v low high. each v (omega arith) high)
     (ap (λ xs. root (maps (w + 1)) ∷ xs) (is ∙ ap (λ k. drop k rs) (let e : suc n ≡ n + 1 = omega arith in e)) ∙ drop-step n rs (root (maps (w + 1))) (omega arith) (ap (λ i. slice_index_or rs i []) (let e : n ≡ top - (w + 1) = omega arith in e) ∙ each (w + 1) (omega arith) (omega arith)))
 
-back : (ns : List Named) → map joined (map apart ns) ≡ ns
+back : (ns : List Named) → map as_named (map apart ns) ≡ ns
 back [] = refl
 back (n ∷ ns) = ap (λ t. n ∷ t) (back ns)
 
@@ -106,15 +106,15 @@ apart_names : (ns : List Named) → map (λ e. e.0) (map apart ns) ≡ map (λ n
 apart_names [] = refl
 apart_names (n ∷ ns) = ap (λ t. n.0 ∷ t) (apart_names ns)
 
-forth : (es : List (NodeName × (PlainNode × ℕ))) → map apart (map joined es) ≡ es
+forth : (es : List (NodeName × (PlainNode × ℕ))) → map apart (map as_named es) ≡ es
 forth [] = refl
 forth (e ∷ es) = ap (λ t. e ∷ t) (forth es)
 
 -- nodes whose names rise are others in order, if they are the same ones
 pub same-by_name : (xs ys : List Named) → IsTrue (rise (map (λ n. n.0) ys)) → ((n : Named) → Contains (nodes_by_name xs) n → Contains ys n) → ((n : Named) → Contains ys n → Contains (nodes_by_name xs) n) → nodes_by_name xs ≡ ys
 same-by_name xs ys rises there here =
-    ap (map joined) (same_sorted name_cmp name_cmp_total same_name-exact (by_name (map apart xs)) (map apart ys) (sorted-by_name (map apart xs)) (rise-sorted (map apart ys) (subst (λ ns. IsTrue (rise ns)) (sym (apart_names ys)) rises))
-    (λ e has. Contains-map apart ys (joined e) (there (joined e) (Contains-map joined (by_name (map apart xs)) e has)))
+    ap (map as_named) (same_sorted name_cmp name_cmp_total same_name-exact (by_name (map apart xs)) (map apart ys) (sorted-by_name (map apart xs)) (rise-sorted (map apart ys) (subst (λ ns. IsTrue (rise ns)) (sym (apart_names ys)) rises))
+    (λ e has. Contains-map apart ys (as_named e) (there (as_named e) (Contains-map as_named (by_name (map apart xs)) e has)))
     (λ e has.
     let n = map-which apart ys e has in
     subst (λ es. Contains es e) (forth (by_name (map apart xs))) (subst (Contains (map apart (nodes_by_name xs))) n.2 (Contains-map apart (nodes_by_name xs) n.0 (here n.0 n.1)))))

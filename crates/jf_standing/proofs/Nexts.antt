@@ -13,7 +13,7 @@ use Rattle.jf_standing.specs.Standing.{Standing, unmarked, with_commit, with_flo
 use Rattle.jf_standing.specs.Sound.{IsSound}
 use Rattle.jf_standing.specs.Landing.{head_map, fresh_leaves, batch_of, landing_of}
 use Rattle.jf_standing.specs.Taking.{Continues, TakesCommits, TakesFloor, Takes}
-use Rattle.jf_standing.specs.Next.{is_next, next_commits, next_floor, next, IsReadCommit, IsReadRecord}
+use Rattle.jf_standing.specs.Next.{is_next, next_by_commits, next_by_floor, next_standing, IsReadCommit, IsReadRecord}
 use Rattle.jf_standing.specs.declared.records.Commit.{Commit}
 use Rattle.jf_standing.specs.declared.records.Record.{Record}
 use Rattle.jf_standing.specs.declared.records.Record.TheVariants as «record»
@@ -52,21 +52,21 @@ next-decided fmt s c sound keys read =
           ap₂ (λ a b. a && b) (lt_so (s.head + 1) never all.0) (ap₂ (λ a b. a && b) (le_so (len m) (2 ^ 63) all.1) ((commit-exact c (landing_of fmt s m)).1 all.2)),
     )
 
-commits-taken : (fmt : Format) (cs : List Commit) (s s' : Standing) → IsSound fmt s → AreEntries (leaf_entries s.nodes) → AllByRecursion IsReadCommit cs → (next_commits fmt s cs ≡ Some s') ↔ TakesCommits fmt s cs s'
+commits-taken : (fmt : Format) (cs : List Commit) (s s' : Standing) → IsSound fmt s → AreEntries (leaf_entries s.nodes) → AllByRecursion IsReadCommit cs → (next_by_commits fmt s cs ≡ Some s') ↔ TakesCommits fmt s cs s'
 commits-taken fmt [] s s' sound keys read = (λ is. sym (same_Some s s' is), λ is. ap Some (sym is))
 commits-taken fmt (c ∷ cs) s s' sound keys read =
     let by = next-decided fmt s c sound keys read.0 in (
-      λ is. elim (is_next fmt s c) as (λ b. is_next fmt s c ≡ b → cond b (next_commits fmt (with_commit c s) cs) None ≡ Some s' → TakesCommits fmt s (c ∷ cs) s') [
+      λ is. elim (is_next fmt s c) as (λ b. is_next fmt s c ≡ b → cond b (next_by_commits fmt (with_commit c s) cs) None ≡ Some s' → TakesCommits fmt s (c ∷ cs) s') [
         | true ↦ λ yes_it rest. let both = by.0 yes_it in (both.0, both.1, (commits-taken fmt cs (with_commit c s) s' both.1 (entries-behind s c keys read.0.1) read.1).0 rest)
         | false ↦ λ no_it rest. absurd (none rest)
       ] refl is,
-      λ is. ap (λ b. cond b (next_commits fmt (with_commit c s) cs) None) (by.1 (is.0, is.1)) ∙ (commits-taken fmt cs (with_commit c s) s' is.1 (entries-behind s c keys read.0.1) read.1).1 is.2,
+      λ is. ap (λ b. cond b (next_by_commits fmt (with_commit c s) cs) None) (by.1 (is.0, is.1)) ∙ (commits-taken fmt cs (with_commit c s) s' is.1 (entries-behind s c keys read.0.1) read.1).1 is.2,
     )
   where
     none : None ≡ Some s' → ⊥
     none is = absurd (cc)
 
-floor-taken : (fmt : Format) (s s' : Standing) (floor : ℕ) → IsSound fmt s → (next_floor s floor ≡ Some s') ↔ TakesFloor fmt s floor s'
+floor-taken : (fmt : Format) (s s' : Standing) (floor : ℕ) → IsSound fmt s → (next_by_floor s floor ≡ Some s') ↔ TakesFloor fmt s floor s'
 floor-taken fmt s s' floor sound = (
   λ is. elim (nat_le s.floor floor && nat_le floor s.head) as (λ b. (nat_le s.floor floor && nat_le floor s.head) ≡ b → cond b (Some (with_floor floor s)) None ≡ Some s' → TakesFloor fmt s floor s') [
     | true ↦ λ within rest.
@@ -82,7 +82,7 @@ floor-taken fmt s s' floor sound = (
     none : None ≡ Some s' → ⊥
     none is = absurd (cc)
 
-pub next-taken : (fmt : Format) (s s' : Standing) (r : Record) → IsSound fmt s → AreEntries (leaf_entries s.nodes) → IsReadRecord r → (next fmt s r ≡ Some s') ↔ Takes fmt s r s'
+pub next-taken : (fmt : Format) (s s' : Standing) (r : Record) → IsSound fmt s → AreEntries (leaf_entries s.nodes) → IsReadRecord r → (next_standing fmt s r ≡ Some s') ↔ Takes fmt s r s'
 next-taken fmt s s' («record».Floor floor) sound keys read = floor-taken fmt s s' floor sound
 next-taken fmt s s' («record».Landing c) sound keys read = commits-taken fmt (c ∷ []) s s' sound keys (read, tt)
 next-taken fmt s s' («record».Checkpoint generation base floor head roots nodes) sound keys read = (λ is. absurd (cc), λ is. absurd is)

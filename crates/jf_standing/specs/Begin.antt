@@ -26,14 +26,14 @@ is_rebuilt fmt s =
     (version_at s.floor s.nodes [] == s.floor) && (has_room s && (pointwise bytes_eq (rebuilt fmt s).roots s.roots && pointwise same_named (nodes_by_name (rebuilt fmt s).nodes) s.nodes))
 
 -- the standing, if it is so rebuilt
-abbrev pub begun : Format → Standing → Option Standing
-begun fmt s = if is_rebuilt fmt s then Some s else None
+abbrev pub if_rebuilt : Format → Standing → Option Standing
+if_rebuilt fmt s = if is_rebuilt fmt s then Some s else None
 
 -- what a first record gives
 abbrev pub begin : Format → Record → Option Standing
 begin fmt («record».Floor floor) = None
 begin fmt («record».Landing c) = None
-begin fmt («record».Checkpoint generation base floor head roots nodes) = begun fmt (record { base = base; floor = floor; head = head; roots = reverse roots; nodes = nodes })
+begin fmt («record».Checkpoint generation base floor head roots nodes) = if_rebuilt fmt (record { base = base; floor = floor; head = head; roots = reverse roots; nodes = nodes })
 begin fmt («record».Group cs) = None
 
 -- what is known of a first record that was read

@@ -70,12 +70,12 @@ abbrev pub apart : Named → NodeName × (PlainNode × ℕ)
 apart n = (n.0, (n.1, n.2))
 
 -- and back
-abbrev pub joined : NodeName × (PlainNode × ℕ) → Named
-joined e = (e.0, e.1.0, e.1.1)
+abbrev pub as_named : NodeName × (PlainNode × ℕ) → Named
+as_named e = (e.0, e.1.0, e.1.1)
 
 -- nodes in the order of their names
 abbrev pub nodes_by_name : List Named → List Named
-nodes_by_name ns = map joined (by_name (map apart ns))
+nodes_by_name ns = map as_named (by_name (map apart ns))
 
 -- the checkpoint of a standing
 abbrev pub checkpoint_of : ℕ → Standing → Record

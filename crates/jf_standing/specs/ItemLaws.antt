@@ -7,7 +7,7 @@ use Rattle.jf_standing.specs.Standing.{Standing, versions_of, with_commit}
 use Rattle.jf_standing.specs.Sound.{IsSound}
 use Rattle.jf_standing.specs.Landing.{fresh_leaves}
 use Rattle.jf_standing.specs.Taking.{Takes, Gives}
-use Rattle.jf_standing.specs.Next.{next, IsReadRecord}
+use Rattle.jf_standing.specs.Next.{next_standing, IsReadRecord}
 use Rattle.jf_standing.specs.Begin.{begin, IsReadFirst}
 use Rattle.jf_standing.specs.Leading.{Item, AllLead, OneFailsAt, AreRead}
 use Rattle.jf_standing.specs.declared.records.Commit.{Commit}
@@ -15,7 +15,7 @@ use Rattle.jf_standing.specs.declared.records.Record.{Record}
 
 -- what a record makes of a sound standing is a function of it
 abbrev pub NextIsTakes : Type 0
-NextIsTakes = (fmt : Format) (s s' : Standing) (r : Record) → IsSound fmt s → AreEntries (leaf_entries s.nodes) → IsReadRecord r → (next fmt s r ≡ Some s') ↔ Takes fmt s r s'
+NextIsTakes = (fmt : Format) (s s' : Standing) (r : Record) → IsSound fmt s → AreEntries (leaf_entries s.nodes) → IsReadRecord r → (next_standing fmt s r ≡ Some s') ↔ Takes fmt s r s'
 
 -- keys and values stay such after a landing
 abbrev pub KeysStay : Type 0

@@ -21,20 +21,20 @@ is_next fmt s c =
     nat_lt (s.head + 1) never && (nat_le (len m) (2 ^ 63) && same_commit c (landing_of fmt s m))
 
 -- what landings make in turn
-abbrev pub next_commits : Format → Standing → List Commit → Option Standing
-next_commits fmt s [] = Some s
-next_commits fmt s (c ∷ cs) = if is_next fmt s c then next_commits fmt (with_commit c s) cs else None
+abbrev pub next_by_commits : Format → Standing → List Commit → Option Standing
+next_by_commits fmt s [] = Some s
+next_by_commits fmt s (c ∷ cs) = if is_next fmt s c then next_by_commits fmt (with_commit c s) cs else None
 
 -- what a floor makes
-abbrev pub next_floor : Standing → ℕ → Option Standing
-next_floor s floor = if nat_le s.floor floor && nat_le floor s.head then Some (with_floor floor s) else None
+abbrev pub next_by_floor : Standing → ℕ → Option Standing
+next_by_floor s floor = if nat_le s.floor floor && nat_le floor s.head then Some (with_floor floor s) else None
 
 -- what a record after the first makes
-abbrev pub next : Format → Standing → Record → Option Standing
-next fmt s («record».Floor floor) = next_floor s floor
-next fmt s («record».Landing c) = next_commits fmt s (c ∷ [])
-next fmt s («record».Checkpoint generation base floor head roots nodes) = None
-next fmt s («record».Group cs) = next_commits fmt s cs
+abbrev pub next_standing : Format → Standing → Record → Option Standing
+next_standing fmt s («record».Floor floor) = next_by_floor s floor
+next_standing fmt s («record».Landing c) = next_by_commits fmt s (c ∷ [])
+next_standing fmt s («record».Checkpoint generation base floor head roots nodes) = None
+next_standing fmt s («record».Group cs) = next_by_commits fmt s cs
 
 -- ---- what is known of a record that was read
 
