@@ -9,6 +9,7 @@ use Rattle.std.specs.FinMap.Entries.{below_all, find-put, is_sorted-put, same_en
 use Rattle.jf_path.specs.Names.{name_cmp, rise}
 use Rattle.jf_path.specs.NameLaws.{name_cmp_total}
 use Rattle.jf_path.specs.declared.name.NodeName.{NodeName}
+use Rattle.jf_hash.specs.KeyOrder.{Less-from_is_lt}
 use Rattle.jf_landing.specs.Both.{left_true, right_true, both_so, left_so, right_so, less_so}
 use Rattle.jf_landing.specs.Elements.{Contains-first, Contains-later}
 use Rattle.jf_standing.specs.Standing.{is_named}
@@ -49,18 +50,13 @@ named-so name (n ∷ names) has = Contains-cases name n names has
 
 -- ---- lists in order
 
-is_less : (r : Ordering) → T (is_lt r) → r ≡ Less
-is_less Less h = refl
-is_less Equal h = absurd h
-is_less Greater h = absurd h
-
 true_so : (b : Bool) → b ≡ true → T b
 true_so b is = subst T (sym is) tt
 
 module _ {X : Type 0} where
   below_lower : (k l : NodeName) (es : List (NodeName × X)) → name_cmp k l ≡ Less → T (below_all name_cmp l es) → T (below_all name_cmp k es)
   below_lower k l [] lt h = tt
-  below_lower k l (e ∷ es) lt h = both_so _ _ (less_so _ (name_cmp_total.trans k l e.0 lt (is_less _ (left_so _ _ h)))) (below_lower k l es lt (right_so _ _ h))
+  below_lower k l (e ∷ es) lt h = both_so _ _ (less_so _ (name_cmp_total.trans k l e.0 lt (Less-from_is_lt _ (left_so _ _ h)))) (below_lower k l es lt (right_so _ _ h))
 
   -- names that rise are in order
   pub rise-sorted : (es : List (NodeName × X)) → IsTrue (rise (map (λ e. e.0) es)) → T (is_sorted name_cmp es)
@@ -69,7 +65,7 @@ module _ {X : Type 0} where
   rise-sorted (e ∷ f ∷ es) h =
       let rest = rise-sorted (f ∷ es) (right_true (is_lt (name_cmp e.0 f.0)) _ h) in
       let lt = true_so _ (left_true (is_lt (name_cmp e.0 f.0)) _ h) in
-      both_so _ _ (both_so _ _ lt (below_lower e.0 f.0 es (is_less _ lt) (left_so _ _ rest))) rest
+      both_so _ _ (both_so _ _ lt (below_lower e.0 f.0 es (Less-from_is_lt _ lt) (left_so _ _ rest))) rest
 
   pub sorted-by_name : (es : List (NodeName × X)) → T (is_sorted name_cmp (by_name es))
   sorted-by_name [] = tt
