@@ -1,12 +1,14 @@
 -- Worked histories: the definitions on small inputs.
-use Rattle.std.specs.Prelude.{◌≡◌, ℕ, List, [], ◌∷◌, ◌++◌, Some, None, codes, refl}
-use Rattle.std.proofs.Common.{inl, inr, arith}
+use Rattle.std.specs.Prelude.{◌≡◌, ℕ, ◌-◌, ◌^◌, nat_le, nat_lt, Bool, true, false, List, [], ◌∷◌, ◌++◌, Some, None, codes, refl}
+use Rattle.std.proofs.Common.{inl, inr, sym, ap, subst, arith}
 use Rattle.std.specs.Fmt.{digits}
 use Rattle.std.specs.FinMap as fin
+use Rattle.std.specs.FinMap.{len-empty}
 use Rattle.std.specs.List.{concat}
+use Rattle.jf_path.specs.Checks.{first_of}
 use Rattle.jf_hash.specs.Maps.{apply}
 use Rattle.jf_hash.specs.Roots.{root}
-use Rattle.jf_model.specs.Versions.{new_store}
+use Rattle.jf_model.specs.Versions.{new_store, newest}
 use Rattle.jf_model.specs.States.{State, opened}
 use Rattle.jf_model.specs.Entries.{after, replay, IsLegal}
 use Rattle.jf_model.specs.declared.entries.Landing.TheVariants as landing
@@ -18,11 +20,12 @@ use Rattle.jf_script.specs.Replies.{reply_text}
 use Rattle.jf_script.specs.declared.reply.Reply.{Reply}
 use Rattle.jf_script.specs.declared.reply.Reply.TheVariants as reply
 use Rattle.jf_script.specs.declared.reply.Refusal.TheVariants as refusal
-use Rattle.jf_answers.specs.Own.{begun}
+use Rattle.jf_answers.specs.Own.{Own, begun}
 use Rattle.jf_answers.specs.OwnLines.{is_own_line}
 use Rattle.jf_answers.specs.Refusals.{refused_by}
-use Rattle.jf_answers.specs.Answers.{answer}
-use Rattle.jf_history.specs.Explains.{Answered, IsAnswered, IsSession, Explains, places_owned, timeline_of}
+use Rattle.jf_answers.specs.Answers.{Answer, answer, committed, replied}
+use Rattle.jf_answers.specs.Runs.{answer_text}
+use Rattle.jf_history.specs.Explains.{Answered, answer_with, with_floor, IsAnswered, IsSession, Explains, places_owned, timeline_of}
 
 -- a new store, and its root
 abbrev start : State
@@ -38,13 +41,34 @@ first = entry.Landed 1 1 (landing.Direct []) empty_root 3
 abbrev second : Entry
 second = entry.Landed 0 2 (landing.Direct []) empty_root 7
 
+-- the map of a new store has no entry
+none_there : fin.len (newest start.all) ≡ 0
+none_there = len-empty _ _
+
+-- no cause of three holds
+none_refuses : (a b c : Bool) → a ≡ false → b ≡ false → c ≡ false → first_of ((a, refusal.Last) ∷ (b, refusal.Last) ∷ (c, refusal.Last) ∷ []) ≡ None
+none_refuses false false false few low small = refl
+none_refuses true b c few low small = absurd (cc)
+none_refuses false true c few low small = absurd (cc)
+none_refuses false false true few low small = absurd (cc)
+
+-- what `commit` is answered over a map without entries
+commit_done : (s : State) (own : Own) → nat_le (2 ^ 62) s.count ≡ false → nat_le (2 ^ 64 - 2) s.all.head ≡ false → fin.len (newest s.all) ≡ 0 → answer s own (codes "commit") ≡ committed s own
+unfolding answer command_of base_of words number unhex digits refused_by
+commit_done s own few low none =
+    let free = none_refuses (nat_le (2 ^ 62) s.count) (nat_le (2 ^ 64 - 2) s.all.head) (nat_lt (2 ^ 62) (fin.len (newest s.all))) few low (ap (λ n. nat_lt (2 ^ 62) n) none) in
+    subst (λ o. elim o as (λ x. Answer) [ Some why ↦ replied (reply.No why) s own | None ↦ committed s own ] ≡ committed s own) (sym free) refl
+
+commit_gives : (s : State) (own : Own) → nat_le (2 ^ 62) s.count ≡ false → nat_le (2 ^ 64 - 2) s.all.head ≡ false → fin.len (newest s.all) ≡ 0 → answer_with 0 s own (codes "commit") ≡ committed s own
+commit_gives s own few low none = ap (λ (a : Answer). with_floor 0 s own a a.entry) (commit_done s own few low none)
+
 first_legal : IsLegal start first
 unfolding apply
-first_legal = (omega arith, record { may = record { sorted = tt; keys = tt; values = tt }; small = omega arith; next = refl; bounded = omega arith; rooted = refl })
+first_legal = (omega arith, record { may = record { sorted = tt; keys = tt; values = tt }; small = omega (arith, none_there); next = refl; bounded = omega arith; rooted = refl })
 
 second_legal : IsLegal (after first start) second
 unfolding apply after
-second_legal = (omega arith, record { may = record { sorted = tt; keys = tt; values = tt }; small = omega arith; next = refl; bounded = omega arith; rooted = refl })
+second_legal = (omega arith, record { may = record { sorted = tt; keys = tt; values = tt }; small = omega (arith, none_there); next = refl; bounded = omega arith; rooted = refl })
 
 -- session 0 looks between the two and then lands; session 1 lands and then writes what is no command
 abbrev scripts : List (List (List ℕ))
@@ -80,19 +104,23 @@ look = record {
 
 land_second : IsAnswered (timeline_of start (first ∷ second ∷ []) scripts) (begun 0) 1 (codes "commit") landed_second
 unfolding answer command_of base_of words number unhex digits refused_by after replay apply
-land_second = record {
-  rises = omega arith;
-  within = omega arith;
-  answered = inr (record { event = second; later = omega arith; stands = refl; owned = refl; gives = record { same = refl; floor = tt }; text = refl; kept = refl; own_after = refl });
-}
+land_second =
+    let gives = commit_gives (after first start) (begun 0) refl refl none_there in
+    record {
+      rises = omega arith;
+      within = omega arith;
+      answered = inr (record { event = second; later = omega arith; stands = refl; owned = refl; gives = record { same = ap (λ a. a.entry) gives; floor = tt }; text = sym (ap (answer_text 2) gives); kept = refl; own_after = sym (ap (λ a. a.own) gives) });
+    }
 
 land_first : IsAnswered (timeline_of start (first ∷ second ∷ []) scripts) (begun 1) 0 (codes "commit") landed_first
 unfolding answer command_of base_of words number unhex digits refused_by after replay apply
-land_first = record {
-  rises = omega arith;
-  within = omega arith;
-  answered = inr (record { event = first; later = omega arith; stands = refl; owned = refl; gives = record { same = refl; floor = tt }; text = refl; kept = refl; own_after = refl });
-}
+land_first =
+    let gives = commit_gives start (begun 1) refl refl none_there in
+    record {
+      rises = omega arith;
+      within = omega arith;
+      answered = inr (record { event = first; later = omega arith; stands = refl; owned = refl; gives = record { same = ap (λ a. a.entry) gives; floor = tt }; text = sym (ap (answer_text 1) gives); kept = refl; own_after = sym (ap (λ a. a.own) gives) });
+    }
 
 misspell : IsAnswered (timeline_of start (first ∷ second ∷ []) scripts) (begun 1) 1 (codes "?") misspelt
 unfolding answer command_of base_of words number unhex digits refused_by after replay apply
@@ -136,7 +164,8 @@ cut_off = record {
               line = codes "commit";
               next = refl;
               unwritten = landed_first;
-              changes = record { event = first; later = omega arith; stands = refl; owned = refl; gives = record { same = refl; floor = tt }; text = refl; kept = refl; own_after = refl };
+              changes = let gives = commit_gives start (begun 1) refl refl none_there in
+                  record { event = first; later = omega arith; stands = refl; owned = refl; gives = record { same = ap (λ a. a.entry) gives; floor = tt }; text = sym (ap (answer_text 1) gives); kept = refl; own_after = sym (ap (λ a. a.own) gives) };
               places = refl;
             },
           );

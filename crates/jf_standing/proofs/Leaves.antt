@@ -1,0 +1,51 @@
+-- The entries of the leaves of a list, and the map that they make.
+use Rattle.std.proofs.Common.{◌≡◌, ℕ, List, [], ◌∷◌, Contains, Some, None, refl, sym, ap, ◌∙◌, subst}
+use Rattle.std.specs.List.{cons_option}
+use Rattle.std.specs.FinMap as fin
+use Rattle.std.specs.FinMap.{entries, from_entries}
+use Rattle.std.specs.Cmp.Lexicographic.{nat_list_cmp_total}
+use Rattle.jf_path.specs.Keys.{key_cmp, IsKey, IsBytes}
+use Rattle.jf_hash.specs.KeyOrder.{same_key-exact}
+use Rattle.jf_hash.specs.Maps.{Map, IsMap}
+use Rattle.jf_landing.specs.Elements.{All-of, Contains-first, Contains-later, filter-Contains}
+use Rattle.jf_standing.specs.Named.{Named, is_alive, alive_at, leaf_entry, leaf_entries, AreEntries, map_at}
+use Rattle.jf_standing.proofs.Lists.{Contains-cases, none_in_nothing, All-each_element}
+use Rattle.jf_standing.proofs.Ordered.{find-Contains, Contains-find}
+
+none_not_some : {A : Type 0} (x : A) → None ≡ Some x → ⊥
+none_not_some x is = absurd (cc)
+
+-- each entry is that of a leaf
+pub leaf-which : (ns : List Named) (e : List ℕ × List ℕ) → Contains (leaf_entries ns) e → (n : Named) × Contains ns n × (leaf_entry n.1 ≡ Some e)
+leaf-which [] e has = absurd (none_in_nothing e has)
+leaf-which (n ∷ ns) e has =
+    elim (leaf_entry n.1) as (λ o. leaf_entry n.1 ≡ o → Contains (cons_option o (leaf_entries ns)) e → (m : Named) × Contains (n ∷ ns) m × (leaf_entry m.1 ≡ Some e)) [
+      | None ↦ λ is there. let m = leaf-which ns e there in (m.0, Contains-later m.0 n ns m.1, m.2)
+      | Some f ↦ λ is there. Contains-cases e f (leaf_entries ns) there
+          (λ same. (n, Contains-first n ns, is ∙ ap Some same))
+          (λ later. let m = leaf-which ns e later in (m.0, Contains-later m.0 n ns m.1, m.2))
+    ] refl has
+
+-- and each leaf has its entry
+pub leaf-so : (ns : List Named) (n : Named) (e : List ℕ × List ℕ) → Contains ns n → leaf_entry n.1 ≡ Some e → Contains (leaf_entries ns) e
+leaf-so [] n e has is = absurd (none_in_nothing n has)
+leaf-so (m ∷ ns) n e has is = Contains-cases n m ns has
+    (λ same. subst (λ o. Contains (cons_option o (leaf_entries ns)) e) (sym (ap (λ (k : Named). leaf_entry k.1) same ∙ is)) (Contains-first e (leaf_entries ns)))
+    (λ later. elim (leaf_entry m.1) as (λ o. Contains (cons_option o (leaf_entries ns)) e) [
+      | None ↦ leaf-so ns n e later is
+      | Some f ↦ Contains-later e f (leaf_entries ns) (leaf-so ns n e later is)
+    ])
+
+-- what a map has is among the entries that it is made of
+pub from_entries-Contains : (es : List (List ℕ × List ℕ)) (e : List ℕ × List ℕ) → Contains (entries (from_entries {R = key_cmp} es)) e → Contains es e
+from_entries-Contains es e has =
+    let m : Map = from_entries es in
+    find-Contains key_cmp nat_list_cmp_total same_key-exact e.0 e.1 es
+    (sym (fin.get-from_entries nat_list_cmp_total es e.0) ∙ fin.get-entries m e.0 ∙ Contains-find key_cmp nat_list_cmp_total same_key-exact (entries m) e (fin.entries_sorted m) has)
+
+-- so it has keys and values if the leaves have
+pub IsMap-map_at : (w : ℕ) (ns : List Named) → AreEntries (leaf_entries ns) → IsMap (map_at w ns)
+unfolding map_at
+IsMap-map_at w ns sound = All-each_element _ (entries (from_entries (leaf_entries (alive_at w ns)))) (λ e has.
+    let n = leaf-which (alive_at w ns) e (from_entries-Contains (leaf_entries (alive_at w ns)) e has) in
+    All-of (λ f. IsKey f.0 × IsBytes f.1) (leaf_entries ns) e sound (leaf-so ns n.0 e (filter-Contains (is_alive w) ns n.0 n.1) n.2))

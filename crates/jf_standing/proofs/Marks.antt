@@ -1,0 +1,102 @@
+-- What a landing makes of the nodes that stand: it changes the versions since which some are stale, and nothing else.
+use Rattle.std.proofs.Common.{◌≡◌, ℕ, ◌<◌, Bool, true, false, cond, List, [], ◌∷◌, ◌++◌, map, filter, Contains, refl, ap, ap₂, ◌∙◌, arith, append-nil}
+use Rattle.std.proofs.lemmas.List.Elements.{filter-append, Contains-append_left}
+use Rattle.std.proofs.lemmas.Bool.Decides.{nat_tests}
+use Rattle.std.specs.Prelude.{slice_index_or}
+use Rattle.std.specs.List.{cons_option, AllByRecursion}
+use Rattle.std.specs.FinMap.{from_entries}
+use Rattle.jf_path.specs.declared.name.NodeName.{NodeName}
+use Rattle.jf_path.specs.declared.node.PlainNode.{PlainNode}
+use Rattle.jf_model.specs.Nodes.{Path}
+use Rattle.jf_landing.specs.Elements.{Contains-map}
+use Rattle.jf_landing.specs.Filters.{filter-map, filter-same}
+use Rattle.jf_standing.specs.Named.{Named, is_alive, is_written, is_at, alive_at, version_at, leaf_entry, leaf_entries, map_at}
+use Rattle.jf_standing.specs.Standing.{is_named, marked, unmarked}
+use Rattle.jf_standing.specs.declared.records.Commit.{Commit}
+use Rattle.jf_standing.proofs.Sinces.{alive-tells, alive-so, alive-not_yet}
+
+-- ---- one node
+
+pub marked-name : (c : Commit) (n : Named) → (marked c n).0 ≡ n.0
+marked-name c n = elim (is_named n.0 c.stale) as (λ b. (cond b (n.0, n.1, c.version) n).0 ≡ n.0) [ true ↦ refl | false ↦ refl ]
+
+pub marked-node : (c : Commit) (n : Named) → (marked c n).1 ≡ n.1
+marked-node c n = elim (is_named n.0 c.stale) as (λ b. (cond b (n.0, n.1, c.version) n).1 ≡ n.1) [ true ↦ refl | false ↦ refl ]
+
+pub marked-yes : (c : Commit) (n : Named) → is_named n.0 c.stale ≡ true → marked c n ≡ (n.0, n.1, c.version)
+marked-yes c n is = ap (λ b. cond b (n.0, n.1, c.version) n) is
+
+pub marked-not : (c : Commit) (n : Named) → is_named n.0 c.stale ≡ false → marked c n ≡ n
+marked-not c n is = ap (λ b. cond b (n.0, n.1, c.version) n) is
+
+-- what is alive before the landing stays alive then
+pub alive-marked : (c : Commit) (w : ℕ) (n : Named) → w < c.version → is_alive w n ≡ true → is_alive w (marked c n) ≡ true
+alive-marked c w n low is = elim (is_named n.0 c.stale) as (λ b. is_alive w (cond b (n.0, n.1, c.version) n) ≡ true) [
+  | true ↦ alive-so w (n.0, n.1, c.version) (alive-tells w n is).0 low
+  | false ↦ is
+]
+
+-- ---- all nodes
+
+-- the nodes after a landing
+abbrev pub behind : Commit → List Named → List Named
+behind c ns = map (marked c) ns ++ map unmarked c.fresh
+
+-- those that stood stand
+pub Contains-behind : (c : Commit) (ns : List Named) (n : Named) → Contains ns n → Contains (behind c ns) (marked c n)
+Contains-behind c ns n has = Contains-append_left (map (marked c) ns) (map unmarked c.fresh) (marked c n) (Contains-map (marked c) ns n has)
+
+-- a test on names that the landing's own don't pass
+pub filter-behind : (test : Named → Bool) (c : Commit) (ns : List Named) → AllByRecursion (λ x. test (unmarked x) ≡ false) c.fresh → filter test (behind c ns) ≡ map (marked c) (filter (λ n. test (marked c n)) ns)
+filter-behind test c ns own =
+    filter-append test (map (marked c) ns) (map unmarked c.fresh)
+    ∙ ap₂ (λ a b. a ++ b) (filter-map test (marked c) ns) (none c.fresh own)
+    ∙ append-nil (map (marked c) (filter (λ n. test (marked c n)) ns))
+  where
+    none : (xs : List (NodeName × PlainNode)) → AllByRecursion (λ x. test (unmarked x) ≡ false) xs → filter test (map unmarked xs) ≡ []
+    none [] h = refl
+    none (x ∷ xs) h = ap (λ b. cond b (unmarked x ∷ filter test (map unmarked xs)) (filter test (map unmarked xs))) h.0 ∙ none xs h.1
+
+-- and one that it changes for none of those that stood
+pub filter-unchanged : (test : Named → Bool) (c : Commit) (ns : List Named) → AllByRecursion (λ x. test (unmarked x) ≡ false) c.fresh → AllByRecursion (λ n. test (marked c n) ≡ test n) ns → filter test (behind c ns) ≡ map (marked c) (filter test ns)
+filter-unchanged test c ns own same = filter-behind test c ns own ∙ ap (map (marked c)) (filter-same (λ n. test (marked c n)) test ns same)
+
+-- none of the landing's own is alive before
+pub none_alive : (c : Commit) (w : ℕ) (xs : List (NodeName × PlainNode)) → w < c.version → AllByRecursion (λ x. x.0.version ≡ c.version) xs → AllByRecursion (λ x. is_alive w (unmarked x) ≡ false) xs
+none_alive c w [] low own = tt
+none_alive c w (x ∷ xs) low own = (alive-not_yet w (unmarked x) (let at = own.0 in omega arith), none_alive c w xs low own.1)
+
+-- or written before
+pub none_written : (c : Commit) (w : ℕ) (xs : List (NodeName × PlainNode)) → w < c.version → AllByRecursion (λ x. x.0.version ≡ c.version) xs → AllByRecursion (λ x. is_written w (unmarked x) ≡ false) xs
+none_written c w [] low own = tt
+none_written c w (x ∷ xs) low own = (let at = own.0 in grind (arith, nat_tests), none_written c w xs low own.1)
+
+-- ---- what marks leave
+
+pub leaf_entries-marked : (c : Commit) (ns : List Named) → leaf_entries (map (marked c) ns) ≡ leaf_entries ns
+leaf_entries-marked c [] = refl
+leaf_entries-marked c (n ∷ ns) =
+    ap₂ (λ x t. cons_option (leaf_entry x) t) (marked-node c n) (leaf_entries-marked c ns)
+
+versions-marked : (c : Commit) (ns : List Named) → map (λ n. n.0.version) (map (marked c) ns) ≡ map (λ n. n.0.version) ns
+versions-marked c [] = refl
+versions-marked c (n ∷ ns) = ap₂ (λ x t. x.version ∷ t) (marked-name c n) (versions-marked c ns)
+
+pub at-marked : (c : Commit) (p : Path) (ns : List Named) → filter (is_at p) (map (marked c) ns) ≡ map (marked c) (filter (is_at p) ns)
+at-marked c p ns = filter-map (is_at p) (marked c) ns ∙ ap (map (marked c)) (filter-same (λ n. is_at p (marked c n)) (is_at p) ns (names ns))
+  where
+    names : (ns : List Named) → AllByRecursion (λ n. is_at p (marked c n) ≡ is_at p n) ns
+    names [] = tt
+    names (n ∷ ns) = (ap (λ x. is_at p (x, n.1, 0)) (marked-name c n), names ns)
+
+-- if a landing changes nothing of who is alive at an earlier version, that version is as before
+pub alive-behind : (c : Commit) (w : ℕ) (ns : List Named) → w < c.version → AllByRecursion (λ x. x.0.version ≡ c.version) c.fresh → AllByRecursion (λ n. is_alive w (marked c n) ≡ is_alive w n) ns → alive_at w (behind c ns) ≡ map (marked c) (alive_at w ns)
+alive-behind c w ns low own same = filter-unchanged (is_alive w) c ns (none_alive c w c.fresh low own) same
+
+pub map-behind : (c : Commit) (w : ℕ) (ns : List Named) → w < c.version → AllByRecursion (λ x. x.0.version ≡ c.version) c.fresh → AllByRecursion (λ n. is_alive w (marked c n) ≡ is_alive w n) ns → map_at w (behind c ns) ≡ map_at w ns
+unfolding map_at
+map-behind c w ns low own same = ap from_entries (ap leaf_entries (alive-behind c w ns low own same) ∙ leaf_entries-marked c (alive_at w ns))
+
+pub version-behind : (c : Commit) (w : ℕ) (ns : List Named) (p : Path) → w < c.version → AllByRecursion (λ x. x.0.version ≡ c.version) c.fresh → AllByRecursion (λ n. is_alive w (marked c n) ≡ is_alive w n) ns → version_at w (behind c ns) p ≡ version_at w ns p
+version-behind c w ns p low own same =
+    ap (λ xs. slice_index_or xs 0 0) (ap (λ xs. map (λ (n : Named). n.0.version) (filter (is_at p) xs)) (alive-behind c w ns low own same) ∙ ap (map (λ (n : Named). n.0.version)) (at-marked c p (alive_at w ns)) ∙ versions-marked c (filter (is_at p) (alive_at w ns)))

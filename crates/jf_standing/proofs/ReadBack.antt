@@ -1,0 +1,120 @@
+-- The batch that is read off a sound landing leads to the map after it.
+use Rattle.std.proofs.Common.{◌≡◌, ℕ, ◌<◌, true, false, inl, inr, List, ◌++◌, map, filter, Contains, Some, None, refl, sym, ap, ◌∙◌, arith, true≢false}
+use Rattle.std.proofs.lemmas.List.Elements.{Contains-append_right}
+use Rattle.std.specs.FinMap as fin
+use Rattle.std.specs.FinMap.{from_entries, find}
+use Rattle.std.specs.Cmp.Lexicographic.{nat_list_cmp_total}
+use Rattle.jf_path.specs.Keys.{key_cmp}
+use Rattle.jf_hash.specs.KeyOrder.{same_key-exact}
+use Rattle.jf_hash.specs.Maps.{apply}
+use Rattle.jf_hash.specs.MapLaws.{same_map, get-apply-sorted, value_after}
+use Rattle.jf_codec.specs.declared.format.Format.{Format}
+use Rattle.jf_landing.specs.Elements.{All-of, Contains-filter, Contains-map, filter-Contains, filter-passes}
+use Rattle.jf_standing.specs.Named.{Named, is_alive, alive_at, leaf_entry, leaf_entries, map_at}
+use Rattle.jf_standing.specs.Standing.{Standing, is_named, marked, unmarked, with_commit}
+use Rattle.jf_standing.specs.Sound.{IsSound}
+use Rattle.jf_standing.specs.Landing.{head_map, fresh_leaves, stale_leaves, batch_of}
+use Rattle.jf_standing.specs.Taking.{Continues}
+use Rattle.jf_standing.specs.declared.records.Commit.{Commit}
+use Rattle.jf_standing.proofs.Lists.{map-which}
+use Rattle.jf_standing.proofs.Sinces.{alive-tells, alive-so, alive-not, version-low}
+use Rattle.jf_standing.proofs.Marks.{marked-yes, marked-not, behind, Contains-behind}
+use Rattle.jf_standing.proofs.Found.{behind-cases}
+use Rattle.jf_standing.proofs.Landed.{named_was}
+use Rattle.jf_standing.proofs.Ordered.{find-Contains}
+use Rattle.jf_standing.proofs.Leaves.{leaf-which, leaf-so}
+use Rattle.jf_standing.proofs.LeafMaps.{found_some}
+use Rattle.jf_standing.proofs.Distinct.{distinct-find, one-leaf}
+use Rattle.jf_standing.proofs.Batches.{sorted-by_key, said-put, said-removal, said-nothing, puts_of, removals_of}
+
+module _ (fmt : Format) (s : Standing) (c : Commit) (sound : IsSound fmt s) (goes : Continues s c) (behind_sound : IsSound fmt (with_commit c s)) where
+  abbrev new_leaves : List (List ℕ × List ℕ)
+  new_leaves = leaf_entries (alive_at c.version (behind c s.nodes))
+
+  abbrev old_leaves : List (List ℕ × List ℕ)
+  old_leaves = leaf_entries (alive_at s.head s.nodes)
+
+  -- a leaf after the landing is one that it writes, or one that was there and isn't named
+  leaf_cases : {P : Type 0} (e : List ℕ × List ℕ) → Contains new_leaves e → (Contains (fresh_leaves c) e → P) → ((k : Named) → Contains s.nodes k → is_named k.0 c.stale ≡ false → Contains (alive_at s.head s.nodes) k → leaf_entry k.1 ≡ Some e → P) → P
+  leaf_cases {P} e has fresh old =
+      let n = leaf-which (alive_at c.version (behind c s.nodes)) e has in
+      let alive = filter-passes (is_alive c.version) (behind c s.nodes) n.0 n.1 in
+      behind-cases c s.nodes n.0 (filter-Contains (is_alive c.version) (behind c s.nodes) n.0 n.1)
+      (λ k stood same. elim (is_named k.0 c.stale) as (λ b. is_named k.0 c.stale ≡ b → P) [
+        | true ↦ λ named. absurd (true≢false (sym alive ∙ ap (is_alive c.version) (sym same ∙ marked-yes c k named) ∙ alive-not c.version (k.0, k.1, c.version) (omega arith)))
+        | false ↦ λ free.
+            let is_k : n.0 ≡ k = sym same ∙ marked-not c k free in
+            let up = (alive-tells c.version k (ap (is_alive c.version) (sym is_k) ∙ alive)).1 in
+            let next = goes.next in
+            old k stood free (Contains-filter (is_alive s.head) s.nodes k stood (alive-so s.head k (version-low fmt s sound k stood) (omega arith))) (ap (λ (z : Named). leaf_entry z.1) (sym is_k) ∙ n.2)
+      ] refl)
+      (λ x own same. fresh (leaf-so (map unmarked c.fresh) (unmarked x) e (Contains-map unmarked c.fresh x own) (ap (λ (z : Named). leaf_entry z.1) same ∙ n.2)))
+
+  -- a leaf that it writes is there
+  fresh_there : (e : List ℕ × List ℕ) → Contains (fresh_leaves c) e → Contains new_leaves e
+  fresh_there e has =
+      let n = leaf-which (map unmarked c.fresh) e has in
+      let x = map-which unmarked c.fresh n.0 n.1 in
+      let v = All-of (λ x. x.0.version ≡ c.version) c.fresh x.0 goes.fresh_own x.1 in
+      let alive : is_alive c.version n.0 ≡ true = ap (is_alive c.version) (sym x.2) ∙ alive-so c.version (unmarked x.0) (omega arith) behind_sound.head_last in
+      leaf-so (alive_at c.version (behind c s.nodes)) n.0 e (Contains-filter (is_alive c.version) (behind c s.nodes) n.0 (Contains-append_right (map (marked c) s.nodes) (map unmarked c.fresh) n.0 n.1) alive) n.2
+
+  -- and so is one that was there and isn't named
+  old_there : (k : Named) (e : List ℕ × List ℕ) → Contains (alive_at s.head s.nodes) k → is_named k.0 c.stale ≡ false → leaf_entry k.1 ≡ Some e → Contains new_leaves e
+  old_there k e has free is =
+      let stood = filter-Contains (is_alive s.head) s.nodes k has in
+      let tells = alive-tells s.head k (filter-passes (is_alive s.head) s.nodes k has) in
+      let same = marked-not c k free in
+      let next = goes.next in
+      let last = behind_sound.head_last in
+      let up : c.version < k.2 = elim (All-of _ s.nodes k sound.gone stood) [ inl none ↦ omega arith | inr late ↦ absurd (let a = late.1 in let b = tells.1 in omega arith) ] in
+      leaf-so (alive_at c.version (behind c s.nodes)) (marked c k) e
+      (Contains-filter (is_alive c.version) (behind c s.nodes) (marked c k) (Contains-behind c s.nodes k stood) (ap (is_alive c.version) same ∙ alive-so c.version k (let low = tells.0 in omega arith) up))
+      (ap (λ (z : Named). leaf_entry z.1) same ∙ is)
+
+  found : (q : List ℕ) (v : List ℕ) → Contains new_leaves (q, v) → find key_cmp q new_leaves ≡ Some v
+  found q v has = distinct-find new_leaves (q, v) (behind_sound.versions c.version (let next = goes.next in let low = sound.floor_low in omega arith) (omega arith)).one_leaf has
+
+  absent : (q : List ℕ) → ((v : List ℕ) → Contains new_leaves (q, v) → ⊥) → find key_cmp q new_leaves ≡ None
+  absent q none = elim (find key_cmp q new_leaves) as (λ r. find key_cmp q new_leaves ≡ r → r ≡ None) [
+    | Some v ↦ λ is. absurd (none v (find-Contains key_cmp nat_list_cmp_total same_key-exact q v new_leaves is))
+    | None ↦ λ is. refl
+  ] refl
+
+  not_fresh : (q v : List ℕ) → find key_cmp q (fresh_leaves c) ≡ None → Contains (fresh_leaves c) (q, v) → ⊥
+  not_fresh q v none has = found_some (fresh_leaves c) (q, v) has none
+
+  said : (q : List ℕ) → find key_cmp q new_leaves ≡ value_after (find key_cmp q (batch_of s c)) (find key_cmp q old_leaves)
+  said q = elim (find key_cmp q (fresh_leaves c)) as (λ r. find key_cmp q (fresh_leaves c) ≡ r → find key_cmp q new_leaves ≡ value_after (find key_cmp q (batch_of s c)) (find key_cmp q old_leaves)) [
+    | Some v ↦ λ is. found q v (fresh_there (q, v) (find-Contains key_cmp nat_list_cmp_total same_key-exact q v (fresh_leaves c) is)) ∙ ap (λ o. value_after o (find key_cmp q old_leaves)) (sym (said-put q v (fresh_leaves c) (stale_leaves s c) is))
+    | None ↦ λ is. elim (find key_cmp q (stale_leaves s c)) as (λ r. find key_cmp q (stale_leaves s c) ≡ r → find key_cmp q new_leaves ≡ value_after (find key_cmp q (batch_of s c)) (find key_cmp q old_leaves)) [
+      | Some w ↦ λ gone.
+          let n = leaf-which (filter (λ n. is_named n.0 c.stale) s.nodes) (q, w) (find-Contains key_cmp nat_list_cmp_total same_key-exact q w (stale_leaves s c) gone) in
+          let stood = filter-Contains (λ n. is_named n.0 c.stale) s.nodes n.0 n.1 in
+          let named = filter-passes (λ n. is_named n.0 c.stale) s.nodes n.0 n.1 in
+          let alive = Contains-filter (is_alive s.head) s.nodes n.0 stood (named_was fmt s c sound goes behind_sound n.0 stood named).0 in
+          absent q (λ v there. leaf_cases (q, v) there (not_fresh q v is) (λ k in_s free here leaf.
+          let same = one-leaf (alive_at s.head s.nodes) n.0 k (q, w) (q, v) (sound.versions s.head sound.floor_low (omega arith)).one_leaf alive here n.2 leaf refl in
+          true≢false (sym named ∙ ap (λ (z : Named). is_named z.0 c.stale) same ∙ free)))
+          ∙ ap (λ o. value_after o (find key_cmp q old_leaves)) (sym (said-removal q w (fresh_leaves c) (stale_leaves s c) is gone))
+      | None ↦ λ stays.
+          (elim (find key_cmp q old_leaves) as (λ r. find key_cmp q old_leaves ≡ r → find key_cmp q new_leaves ≡ r) [
+            | Some v ↦ λ was.
+                let k = leaf-which (alive_at s.head s.nodes) (q, v) (find-Contains key_cmp nat_list_cmp_total same_key-exact q v old_leaves was) in
+                found q v (elim (is_named k.0.0 c.stale) as (λ b. is_named k.0.0 c.stale ≡ b → Contains new_leaves (q, v)) [
+                  | true ↦ λ named. absurd (found_some (stale_leaves s c) (q, v) (leaf-so (filter (λ n. is_named n.0 c.stale) s.nodes) k.0 (q, v) (Contains-filter (λ n. is_named n.0 c.stale) s.nodes k.0 (filter-Contains (is_alive s.head) s.nodes k.0 k.1) named) k.2) stays)
+                  | false ↦ λ free. old_there k.0 (q, v) k.1 free k.2
+                ] refl)
+            | None ↦ λ was. absent q (λ v there. leaf_cases (q, v) there (not_fresh q v is) (λ k in_s free here leaf. found_some old_leaves (q, v) (leaf-so (alive_at s.head s.nodes) k (q, v) here leaf) was))
+          ] refl)
+          ∙ ap (λ o. value_after o (find key_cmp q old_leaves)) (sym (said-nothing q (fresh_leaves c) (stale_leaves s c) is stays))
+    ] refl
+  ] refl
+
+  -- so the map after it is the head's map with that batch
+  pub map-read : map_at c.version (behind c s.nodes) ≡ apply (head_map s) (batch_of s c)
+  unfolding map_at
+  map-read = same_map (from_entries new_leaves) (apply (from_entries old_leaves) (batch_of s c)) (λ q.
+      fin.get-from_entries nat_list_cmp_total new_leaves q ∙ said q
+      ∙ ap (value_after (find key_cmp q (batch_of s c))) (sym (fin.get-from_entries nat_list_cmp_total old_leaves q))
+      ∙ sym (get-apply-sorted (from_entries old_leaves) (batch_of s c) q (sorted-by_key (puts_of (fresh_leaves c) ++ removals_of (stale_leaves s c)))))

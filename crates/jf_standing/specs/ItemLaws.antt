@@ -1,0 +1,48 @@
+-- Laws on records, and on records one after another.
+use Rattle.std.specs.Prelude.{◌≡◌, ◌↔◌, ◌⊎◌, ℕ, List, Some}
+use Rattle.jf_model.specs.Versions.{IsVersions}
+use Rattle.jf_codec.specs.declared.format.Format.{Format}
+use Rattle.jf_standing.specs.Named.{leaf_entries, AreEntries}
+use Rattle.jf_standing.specs.Standing.{Standing, versions_of, with_commit}
+use Rattle.jf_standing.specs.Sound.{IsSound}
+use Rattle.jf_standing.specs.Landing.{fresh_leaves}
+use Rattle.jf_standing.specs.Taking.{Takes, Gives}
+use Rattle.jf_standing.specs.Next.{next_standing, IsReadRecord}
+use Rattle.jf_standing.specs.Begin.{begin, IsReadFirst}
+use Rattle.jf_standing.specs.Leading.{Item, AllLead, OneFailsAt, AreRead}
+use Rattle.jf_standing.specs.declared.records.Commit.{Commit}
+use Rattle.jf_standing.specs.declared.records.Record.{Record}
+
+-- what a record makes of a sound standing is a function of it
+abbrev pub NextIsTakes : Type 0
+NextIsTakes = (fmt : Format) (s s' : Standing) (r : Record) → IsSound fmt s → AreEntries (leaf_entries s.nodes) → IsReadRecord r → (next_standing fmt s r ≡ Some s') ↔ Takes fmt s r s'
+
+-- keys and values stay such after a landing
+abbrev pub KeysStay : Type 0
+KeysStay = (s : Standing) (c : Commit) → AreEntries (leaf_entries s.nodes) → AreEntries (fresh_leaves c) → AreEntries (leaf_entries (with_commit c s).nodes)
+
+-- what a first record gives is a function of it
+abbrev pub BeginIsGives : Type 0
+BeginIsGives = (fmt : Format) (r : Record) (s : Standing) → IsReadFirst r → (begin fmt r ≡ Some s) ↔ Gives fmt r s
+
+-- ---- records one after another
+
+-- they lead to a standing, or there is a first one that nothing sound follows
+abbrev pub ItemsAreJudged : Type 0
+ItemsAreJudged = (fmt : Format) (x : Item) (xs : List Item) → AreRead x xs → ((s : Standing) × AllLead fmt x xs s) ⊎ ((at : ℕ) × OneFailsAt fmt x xs at)
+
+-- they do not both lead to one and fail
+abbrev pub NeverBoth : Type 0
+NeverBoth = (fmt : Format) (x : Item) (xs : List Item) (s : Standing) (at : ℕ) → AreRead x xs → AllLead fmt x xs s → OneFailsAt fmt x xs at → ⊥
+
+-- they lead to one standing at most
+abbrev pub ItemsLeadToOne : Type 0
+ItemsLeadToOne = (fmt : Format) (x : Item) (xs : List Item) (s t : Standing) → AreRead x xs → AllLead fmt x xs s → AllLead fmt x xs t → s ≡ t
+
+-- which is sound, and so are its versions
+abbrev pub ItemsLeadToSound : Type 0
+ItemsLeadToSound = (fmt : Format) (x : Item) (xs : List Item) (s : Standing) → AreRead x xs → AllLead fmt x xs s → IsSound fmt s × IsVersions (versions_of s)
+
+-- they fail at one place at most
+abbrev pub ItemsFailOnce : Type 0
+ItemsFailOnce = (fmt : Format) (x : Item) (xs : List Item) (at at' : ℕ) → AreRead x xs → OneFailsAt fmt x xs at → OneFailsAt fmt x xs at' → at ≡ at'
