@@ -112,6 +112,7 @@ commit_tries e e' es p over over' room more small room' more' small' sound same 
       tried = ap (λ (a : Answer). a.entry) (commit-done s.state s.own room more small);
       legal = legal_landing e es p over sound room' more' small';
       state = ap (λ (v : Versions). let s : State = record { all = v; floor = v.floor; retired = v.floor; generation = 1; count = length es; made = 0; forks = [] } in s) same;
+      own = refl;
       entries = refl;
       rose = rose;
       moment = moment;

@@ -96,6 +96,7 @@ pub record Tries (old new : Session) (a : Answer) : Type 0 where
   pub tried : a.entry ≡ Some attempt
   pub legal : IsLegal old.state attempt
   pub state : new.state ≡ old.state
+  pub own : new.own ≡ old.own
   pub entries : new.entries ≡ old.entries
   pub rose : Rose old.faults new.faults
   pub moment : old.moment ≤ new.moment
