@@ -1,4 +1,4 @@
-//! Tests of proofs, and of two claims under one root.
+//! Tests of proofs, of two claims under one root, and of proof texts: how they are written, and what they are answered.
 #![tactic(auto)]
 
 #[cfg(test)]
@@ -9,3 +9,5 @@ mod proofs;
 mod small_maps;
 #[cfg(test)]
 mod two_entries;
+#[cfg(test)]
+mod verdicts;

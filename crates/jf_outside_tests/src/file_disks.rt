@@ -13,10 +13,26 @@ fn make(rt: &HostRuntime, folder: &str) -> Result<(), Fail> {
     Ok(())
 }
 
+// Removes the folder of a test, which fails if something in it was not so.
+fn end(rt: &HostRuntime, folder: &'static str, passed: bool) -> Result<(), Fail> {
+    if !passed {
+        return Err(Fail::new(folder));
+    }
+    fs::remove_dir_all(rt, folder)?;
+    Ok(())
+}
+
 // The disk over a folder.
 fn open(rt: &HostRuntime, folder: &str) -> Result<Box<FileDisk>, Fail> {
     let disk = FileDisk::at(rt, rt.alloc(), folder)?;
     Ok(Box::new(rt.alloc(), disk)?)
+}
+
+// Makes a folder with the two files of a new disk.
+fn make_files(rt: &HostRuntime, folder: &str) -> Result<(), Fail> {
+    make(rt, folder)?;
+    drop(open(rt, folder)?);
+    Ok(())
 }
 
 // Whether the file system refuses a folder.
@@ -33,6 +49,19 @@ fn take_step(disk: &mut FileDisk, step: Step) -> Result<u64, DiskFailed> {
         Step::Len(side) => disk.len(side),
         Step::Read(side, at) => disk.read(side, at, &mut [0; 4]).map(|n| n as u64),
     }
+}
+
+// A call, and what it returns.
+type Taken = (Step, Result<u64, DiskFailed>);
+
+// Whether these calls, one after another, return that.
+fn takes(disk: &mut FileDisk, steps: &[Taken]) -> bool {
+    for (step, want) in steps {
+        if take_step(disk, *step) != *want {
+            return false;
+        }
+    }
+    true
 }
 
 // Whether a disk has made so many calls, of which so many failed.
@@ -95,12 +124,11 @@ fn both_read_back(rt: &HostRuntime, folder: &str) -> Result<bool, Fail> {
 fn both_kinds_read_back_what_was_written(rt: HostRuntime) -> Result<(), Fail> {
     let folder = "jf_disk_both_kinds";
     make(&rt, folder)?;
-    assert!(rt; both_read_back(&rt, folder)?);
-    fs::remove_dir_all(&rt, folder)?;
-    Ok(())
+    let read = both_read_back(&rt, folder)?;
+    end(&rt, folder, read)
 }
 
-const NEW: &[(Step, Result<u64, DiskFailed>)] = &[
+const NEW: &[Taken] = &[
     (Step::Len(Side::A), Ok(0)),
     (Step::Len(Side::B), Ok(0)),
     (Step::Cut(Side::B, 0), Ok(0)),
@@ -119,12 +147,7 @@ fn gives(disk: &mut FileDisk, side: Side, at: u64, count: usize, want: [u8; 8]) 
 
 fn is_made_empty_and_written(rt: &HostRuntime, folder: &str) -> Result<bool, Fail> {
     let mut disk = open(rt, folder)?;
-    for (step, want) in NEW {
-        if take_step(&mut disk, *step) != *want {
-            return Ok(false);
-        }
-    }
-    Ok(has_made(&disk, 8, 2))
+    Ok(takes(&mut disk, NEW) && has_made(&disk, 8, 2))
 }
 
 fn is_as_it_was_written(rt: &HostRuntime, folder: &str) -> Result<bool, Fail> {
@@ -132,16 +155,23 @@ fn is_as_it_was_written(rt: &HostRuntime, folder: &str) -> Result<bool, Fail> {
     Ok(gives(&mut disk, Side::B, 1, 3, *b"ept\0\0\0\0\0") && disk.len(Side::A) == Ok(0))
 }
 
+// Whether a folder is refused once it is removed.
+fn is_refused_without_it(rt: &HostRuntime, folder: &str) -> bool {
+    let _ = fs::remove_dir_all(rt, folder);
+    is_refused(rt, folder)
+}
+
+fn is_written_and_opened_again(rt: &HostRuntime, folder: &str) -> Result<bool, Fail> {
+    Ok(is_made_empty_and_written(rt, folder)? && is_as_it_was_written(rt, folder)?)
+}
+
 #[test]
 fn files_are_made_empty_and_keep_their_bytes(rt: HostRuntime) -> Result<(), Fail> {
     let folder = "jf_disk_files";
-    let _ = fs::remove_dir_all(&rt, folder);
-    assert!(rt; is_refused(&rt, folder));
+    let refused = is_refused_without_it(&rt, folder);
     make(&rt, folder)?;
-    assert!(rt; is_made_empty_and_written(&rt, folder)?);
-    assert!(rt; is_as_it_was_written(&rt, folder)?);
-    fs::remove_dir_all(&rt, folder)?;
-    Ok(())
+    let kept = is_written_and_opened_again(&rt, folder)?;
+    end(&rt, folder, refused && kept)
 }
 
 // Whether only the owner of a file may read and write it.
@@ -149,16 +179,16 @@ fn is_for_its_owner_alone(rt: &HostRuntime, file: &str) -> Result<bool, Fail> {
     Ok(fs::metadata(rt, file)?.mode() & 0o777 == 0o600)
 }
 
+fn are_for_their_owner_alone(rt: &HostRuntime, a: &str, b: &str) -> Result<bool, Fail> {
+    Ok(is_for_its_owner_alone(rt, a)? && is_for_its_owner_alone(rt, b)?)
+}
+
 #[test]
 fn new_files_are_for_their_owner_alone(rt: HostRuntime) -> Result<(), Fail> {
     let folder = "jf_disk_modes";
-    make(&rt, folder)?;
-    drop(open(&rt, folder)?);
-    for file in ["jf_disk_modes/a.jf", "jf_disk_modes/b.jf"] {
-        assert!(rt; is_for_its_owner_alone(&rt, file)?, "{file}");
-    }
-    fs::remove_dir_all(&rt, folder)?;
-    Ok(())
+    make_files(&rt, folder)?;
+    let alone = are_for_their_owner_alone(&rt, "jf_disk_modes/a.jf", "jf_disk_modes/b.jf")?;
+    end(&rt, folder, alone)
 }
 
 // Whether a folder is refused as long as a disk stands over it.
@@ -169,43 +199,56 @@ fn is_held(rt: &HostRuntime, folder: &str) -> Result<bool, Fail> {
     Ok(refused)
 }
 
+fn is_held_twice(rt: &HostRuntime, folder: &str) -> Result<bool, Fail> {
+    Ok(is_held(rt, folder)? && is_held(rt, folder)?)
+}
+
 // The lock belongs to the opened file, so that a second opening meets what another process would.
 #[test]
 fn a_folder_is_opened_once_at_a_time(rt: HostRuntime) -> Result<(), Fail> {
     let folder = "jf_disk_held";
     make(&rt, folder)?;
-    assert!(rt; is_held(&rt, folder)?);
-    assert!(rt; is_held(&rt, folder)?);
-    fs::remove_dir_all(&rt, folder)?;
-    Ok(())
+    let held = is_held_twice(&rt, folder)?;
+    end(&rt, folder, held)
 }
 
-// Puts a link in the place of a file.
-fn link(rt: &HostRuntime, to: &str, file: &str) -> Result<(), Fail> {
+// Whether a folder is refused after a link was put in the place of a file.
+fn is_refused_with_link(
+    rt: &HostRuntime,
+    folder: &str,
+    to: &str,
+    file: &str,
+) -> Result<bool, Fail> {
     fs::remove_file(rt, file)?;
     symlink(rt, to, file)?;
-    Ok(())
+    Ok(is_refused(rt, folder))
+}
+
+// Whether a folder is refused after a folder was put in the place of a file.
+fn is_refused_with_folder(rt: &HostRuntime, folder: &str, file: &str) -> Result<bool, Fail> {
+    fs::remove_file(rt, file)?;
+    fs::create_dir(rt, file)?;
+    Ok(is_refused(rt, folder))
+}
+
+// Whether a folder is refused with a link to its side A in the place of a file, one to a device, and a folder.
+fn is_refused_with_each(rt: &HostRuntime, folder: &str, file: &str) -> Result<bool, Fail> {
+    Ok(
+        is_refused_with_link(rt, folder, "a.jf", file)?
+            && is_refused_with_link(rt, folder, "/dev/null", file)?
+            && is_refused_with_folder(rt, folder, file)?,
+    )
 }
 
 #[test]
 fn files_that_are_no_two_sides_are_refused(rt: HostRuntime) -> Result<(), Fail> {
     let folder = "jf_disk_refused";
-    let b = "jf_disk_refused/b.jf";
-    assert!(rt; is_refused(&rt, ""));
-    make(&rt, folder)?;
-    drop(open(&rt, folder)?);
-    for to in ["a.jf", "/dev/null"] {
-        link(&rt, to, b)?;
-        assert!(rt; is_refused(&rt, folder), "a link to {to}");
-    }
-    fs::remove_file(&rt, b)?;
-    fs::create_dir(&rt, b)?;
-    assert!(rt; is_refused(&rt, folder));
-    fs::remove_dir_all(&rt, folder)?;
-    Ok(())
+    make_files(&rt, folder)?;
+    let refused = is_refused_with_each(&rt, folder, "jf_disk_refused/b.jf")?;
+    end(&rt, folder, refused && is_refused(&rt, ""))
 }
 
-const PAST_THE_END: &[(Step, Result<u64, DiskFailed>)] = &[
+const PAST_THE_END: &[Taken] = &[
     (Step::Put(Side::A, 0, b"kept"), Ok(0)),
     (Step::Sync(Side::A), Ok(0)),
     (Step::Len(Side::A), Ok(4)),
@@ -217,19 +260,20 @@ const PAST_THE_END: &[(Step, Result<u64, DiskFailed>)] = &[
     (Step::Len(Side::A), Ok(5)),
 ];
 
+fn takes_nothing_past_the_end(rt: &HostRuntime, folder: &str) -> Result<bool, Fail> {
+    let mut disk = open(rt, folder)?;
+    Ok(takes(&mut disk, PAST_THE_END))
+}
+
 #[test]
 fn a_file_gets_no_hole_and_is_not_lengthened(rt: HostRuntime) -> Result<(), Fail> {
     let folder = "jf_disk_no_hole";
     make(&rt, folder)?;
-    let mut disk = open(&rt, folder)?;
-    for (step, want) in PAST_THE_END {
-        assert!(rt; take_step(&mut disk, *step) == *want, "{step:?}");
-    }
-    fs::remove_dir_all(&rt, folder)?;
-    Ok(())
+    let taken = takes_nothing_past_the_end(&rt, folder)?;
+    end(&rt, folder, taken)
 }
 
-const LOST: &[(Step, Result<u64, DiskFailed>)] = &[
+const LOST: &[Taken] = &[
     (Step::Sync(Side::A), Err(DiskFailed)),
     (Step::Len(Side::A), Err(DiskFailed)),
     (Step::Read(Side::A, 0), Err(DiskFailed)),
@@ -239,26 +283,26 @@ const LOST: &[(Step, Result<u64, DiskFailed>)] = &[
 ];
 
 fn is_lost(disk: &mut FileDisk) -> bool {
-    if disk.len(Side::A).is_err() {
-        return false;
-    }
-    for (step, want) in LOST {
-        if take_step(disk, *step) != *want {
-            return false;
-        }
-    }
-    has_made(disk, 7, 6)
+    disk.len(Side::A).is_ok() && takes(disk, LOST) && has_made(disk, 7, 6)
+}
+
+// Makes a folder whose side A is a link to that.
+fn make_link(rt: &HostRuntime, folder: &str, to: &str, a: &str) -> Result<(), Fail> {
+    make(rt, folder)?;
+    symlink(rt, to, a)?;
+    Ok(())
+}
+
+fn loses_a_side_alone(rt: &HostRuntime, folder: &str) -> Result<bool, Fail> {
+    let mut disk = open(rt, folder)?;
+    Ok(is_lost(&mut disk) && rewrite::<FileDisk>(&mut disk, Side::B, b"kept") == Ok(4))
 }
 
 // A file of the system that can be opened and never synced stands for a device that fails.
 #[test]
 fn a_side_is_lost_after_a_failed_sync(rt: HostRuntime) -> Result<(), Fail> {
     let folder = "jf_disk_lost";
-    make(&rt, folder)?;
-    symlink(&rt, "/proc/self/comm", "jf_disk_lost/a.jf")?;
-    let mut disk = open(&rt, folder)?;
-    assert!(rt; is_lost(&mut disk));
-    assert!(rt; rewrite::<FileDisk>(&mut disk, Side::B, b"kept") == Ok(4));
-    fs::remove_dir_all(&rt, folder)?;
-    Ok(())
+    make_link(&rt, folder, "/proc/self/comm", "jf_disk_lost/a.jf")?;
+    let lost = loses_a_side_alone(&rt, folder)?;
+    end(&rt, folder, lost)
 }

@@ -55,12 +55,21 @@ const TEXTS: &[(&[u8], &[&[u8]])] = &[
     (b"one two\r\nthree", &[b"one two\r", b"three"]),
 ];
 
+fn are_handed_on(alloc: Global, piece: usize) -> Result<bool, Fail> {
+    for (text, lines) in TEXTS {
+        if !is_handed_on(alloc, text, piece, lines)? {
+            return Ok(false);
+        }
+    }
+    Ok(true)
+}
+
+const SMALL_PIECES: &[usize] = &[1, 3, 11];
+
 #[test]
 fn hands_lines_on(rt: HostRuntime) -> Result<(), Fail> {
-    for piece in [1, 3, 11] {
-        for (text, lines) in TEXTS {
-            assert!(rt; is_handed_on(rt.alloc(), text, piece, lines)?, "{piece}");
-        }
+    for piece in SMALL_PIECES {
+        assert!(rt; are_handed_on(rt.alloc(), *piece)?, "by {piece}");
     }
     Ok(())
 }
@@ -70,12 +79,16 @@ fn fails_within(reader: &mut LineReader, source: &mut MemSource, line: &[u8]) ->
     reader.fetch(source) == Err(FetchFault::ReadFault) && reader.line() == line && reader.is_last()
 }
 
+// Whether a fetch meets a fault with this much of a line, and these lines come after the fault.
+fn goes_on(alloc: Global, source: &mut MemSource, front: &[u8], lines: &[&[u8]]) -> bool {
+    let mut reader = LineReader::new(alloc, LIMIT);
+    fails_within(&mut reader, source, front) && ends_with(&mut reader, source, lines)
+}
+
 #[test]
 fn goes_on_after_a_fault(rt: HostRuntime) -> Result<(), Fail> {
     let mut source = source_of(rt.alloc(), b"abcdef\ngh", 4, 1)?;
-    let mut reader = LineReader::new(rt.alloc(), LIMIT);
-    assert!(rt; fails_within(&mut reader, &mut source, b"abcd"));
-    assert!(rt; ends_with(&mut reader, &mut source, &[b"abcdef", b"gh"]));
+    assert!(rt; goes_on(rt.alloc(), &mut source, b"abcd", &[b"abcdef", b"gh"]));
     Ok(())
 }
 
@@ -99,15 +112,16 @@ fn is_held_whole(alloc: Global, len: usize, piece: usize) -> Result<bool, Fail> 
     )
 }
 
+fn are_held_whole(alloc: Global, piece: usize) -> Result<bool, Fail> {
+    Ok(is_held_whole(alloc, 1, piece)? && is_held_whole(alloc, LIMIT, piece)?)
+}
+
+const PIECES: &[usize] = &[1, 7, 4_096, usize::MAX];
+
 #[test]
 fn holds_lines_whole_up_to_the_limit(rt: HostRuntime) -> Result<(), Fail> {
-    for len in [1, LIMIT] {
-        for piece in [1, 7, 4_096, usize::MAX] {
-            assert!(rt;
-                is_held_whole(rt.alloc(), len, piece)?,
-                "{len} bytes, by {piece}"
-            );
-        }
+    for piece in PIECES {
+        assert!(rt; are_held_whole(rt.alloc(), *piece)?, "by {piece}");
     }
     Ok(())
 }
@@ -177,13 +191,20 @@ fn skips_a_line_without_line_feed(rt: HostRuntime) -> Result<(), Fail> {
     Ok(())
 }
 
+// A source of a line of 200,000 bytes and another after it, which fails within the former.
+fn faulty_source(alloc: Global) -> Result<Box<MemSource>, Fail> {
+    let text = long_text(alloc, b"", 200_000, b"\nbehind")?;
+    source_of(alloc, &text, 4_096, 10)
+}
+
+fn goes_on_after_it(alloc: Global) -> Result<bool, Fail> {
+    let front = long_text(alloc, b"", LIMIT + 1, b"")?;
+    let mut source = faulty_source(alloc)?;
+    Ok(goes_on(alloc, &mut source, &front, &[&front, b"behind"]))
+}
+
 #[test]
 fn goes_on_after_a_fault_in_a_skipped_line(rt: HostRuntime) -> Result<(), Fail> {
-    let front = long_text(rt.alloc(), b"", LIMIT + 1, b"")?;
-    let text = long_text(rt.alloc(), b"", 200_000, b"\nbehind")?;
-    let mut source = source_of(rt.alloc(), &text, 4_096, 10)?;
-    let mut reader = LineReader::new(rt.alloc(), LIMIT);
-    assert!(rt; fails_within(&mut reader, &mut source, &front));
-    assert!(rt; ends_with(&mut reader, &mut source, &[&front, b"behind"]));
+    assert!(rt; goes_on_after_it(rt.alloc())?);
     Ok(())
 }

@@ -29,6 +29,19 @@ fn take_step(disk: &mut MemDisk, step: Step) -> Result<u64, DiskFailed> {
     }
 }
 
+// A call, and what it returns.
+type Taken = (Step, Result<u64, DiskFailed>);
+
+// Whether these calls, one after another, return that.
+fn takes(disk: &mut MemDisk, steps: &[Taken]) -> bool {
+    for (step, want) in steps {
+        if take_step(disk, *step) != *want {
+            return false;
+        }
+    }
+    true
+}
+
 // Writes at an offset that is within the side.
 fn put(disk: &mut MemDisk, side: Side, at: u64, bytes: &[u8]) -> Result<u64, DiskFailed> {
     if at > disk.bytes(side).len() as u64 {
@@ -52,7 +65,7 @@ fn holds(disk: &MemDisk, a: &[u8], b: &[u8], moment: u64, faults: u64) -> bool {
         && disk.faults() == faults
 }
 
-const LISTED: &[(Step, Result<u64, DiskFailed>)] = &[
+const LISTED: &[Taken] = &[
     (Step::Put(Side::A, 1, b"xyz"), Ok(0)),
     (Step::Put(Side::A, 0, b"q"), Err(DiskFailed)),
     (Step::Len(Side::A), Ok(4)),
@@ -67,14 +80,12 @@ const LISTED: &[(Step, Result<u64, DiskFailed>)] = &[
 #[test]
 fn a_listed_call_fails_and_does_nothing(rt: HostRuntime) -> Result<(), Fail> {
     let mut disk = mem_disk(rt.alloc(), b"abc", 9, 9, &[1, 3, 4, 6, 7])?;
-    for (step, want) in LISTED {
-        assert!(rt; take_step(&mut disk, *step) == *want, "{step:?}");
-    }
+    assert!(rt; takes(&mut disk, LISTED));
     assert!(rt; holds(&disk, b"axyz", b"", 9, 5));
     Ok(())
 }
 
-const PAST_THE_ROOM: &[(Step, Result<u64, DiskFailed>)] = &[
+const PAST_THE_ROOM: &[Taken] = &[
     (Step::Put(Side::B, 0, b"ab"), Ok(0)),
     (Step::Put(Side::B, 2, b"cd"), Err(DiskFailed)),
     (Step::Put(Side::B, 2, b"c"), Ok(0)),
@@ -87,9 +98,7 @@ const PAST_THE_ROOM: &[(Step, Result<u64, DiskFailed>)] = &[
 #[test]
 fn a_call_past_the_room_fails(rt: HostRuntime) -> Result<(), Fail> {
     let mut disk = mem_disk(rt.alloc(), b"", 5, 3, &[])?;
-    for (step, want) in PAST_THE_ROOM {
-        assert!(rt; take_step(&mut disk, *step) == *want, "{step:?}");
-    }
+    assert!(rt; takes(&mut disk, PAST_THE_ROOM));
     assert!(rt; holds(&disk, b"", b"abc", 7, 4));
     Ok(())
 }

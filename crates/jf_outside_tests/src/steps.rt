@@ -2,7 +2,7 @@
 use jf_disk::Side;
 
 /// One call on a disk.
-#[derive(Clone, Copy, Debug)]
+#[derive(Clone, Copy)]
 pub(crate) enum Step {
     Put(Side, u64, &'static [u8]),
     Cut(Side, u64),
