@@ -18,7 +18,7 @@ use Rattle.jf_standing.specs.Next.{IsReadRecord}
 use Rattle.jf_standing.specs.Begin.{IsReadFirst}
 use Rattle.jf_standing.specs.Leading.{Item, AllLead, OneFailsAt, AreRead}
 use Rattle.jf_standing.specs.ItemLaws.{ItemsAreJudged, NeverBoth, ItemsLeadToOne, ItemsLeadToSound, ItemsFailOnce}
-use Rattle.jf_standing.specs.declared.records.Record.{Record}
+use Rattle.jf_payload.specs.declared.records.Record.{Record}
 use Rattle.jf_files.specs.Sides.{format_of_kind, held, is_broken, broken_at, is_begun, are_level, live_side, live_records, records_of, live_side_of, live, outer_damage}
 use Rattle.jf_files.specs.Files.{Reader, IsReader, item, items, LeadTo, IsUnsoundAt, StandsFor, IsDamagedAt}
 

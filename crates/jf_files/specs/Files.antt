@@ -9,7 +9,7 @@ use Rattle.jf_standing.specs.Standing.{Standing, versions_of}
 use Rattle.jf_standing.specs.Next.{IsReadRecord}
 use Rattle.jf_standing.specs.Begin.{IsReadFirst}
 use Rattle.jf_standing.specs.Leading.{Item, AllLead, OneFailsAt}
-use Rattle.jf_standing.specs.declared.records.Record.{Record}
+use Rattle.jf_payload.specs.declared.records.Record.{Record}
 use Rattle.jf_files.specs.Sides.{format_of_kind, live_side_of, live, outer_damage}
 
 -- what a record is read as in a file of a format, none if it is no spelling

@@ -9,7 +9,7 @@ use Rattle.jf_codec.specs.declared.format.Format.{Format}
 use Rattle.jf_standing.specs.Standing.{Standing, versions_of}
 use Rattle.jf_standing.specs.Sound.{IsSound}
 use Rattle.jf_standing.specs.Taking.{Takes, Gives}
-use Rattle.jf_standing.specs.declared.records.Record.{Record}
+use Rattle.jf_payload.specs.declared.records.Record.{Record}
 use Rattle.jf_files.specs.Sides.{format_of_kind, live, live_records, outer_damage, AreWhole}
 use Rattle.jf_files.specs.Files.{Reader, IsReader, LeadTo, StandsFor, IsDamagedAt, HoldsStanding}
 
