@@ -1,9 +1,11 @@
 -- The order of keys is that of their bits.
-use Rattle.std.proofs.Common.{◌≡◌, ℕ, zero, suc, ◌+◌, ◌-◌, ◌*◌, ◌/◌, ◌%◌, ◌^◌, ◌<◌, ◌≤◌, true, false, ◌==◌, inl, inr, List, [], ◌∷◌, length, slice_index, refl, sym, ap, ap₂, ◌∙◌, arith, Less, Equal, Greater, nat_cmp, pow-suc, div-one, eq-or-lt_of_le}
+use Rattle.std.proofs.Common.{◌≡◌, Bool, ℕ, zero, suc, ◌+◌, ◌-◌, ◌*◌, ◌/◌, ◌%◌, ◌^◌, ◌<◌, ◌≤◌, true, false, true≢false, ◌==◌, inl, inr, List, [], ◌∷◌, length, slice_index, refl, sym, ap, ap₂, ◌∙◌, arith, Less, Equal, Greater, nat_cmp, pow-suc, div-one, eq-or-lt_of_le}
 use Rattle.std.proofs.lemmas.Nat.{shr-shr}
 use Rattle.std.specs.Cmp.{ranked}
 use Rattle.std.specs.Ordering.{ordering_then}
-use Rattle.jf_path.specs.Keys.{bit, key_cmp}
+use Rattle.std.proofs.lemmas.Bool.{cases_lt}
+use Rattle.jf_path.specs.Keys.{bit, key_cmp, IsKey}
+use Rattle.jf_hash.specs.KeyOrder.{same_key-exact, key_cmp-turned}
 
 halved : (x i : ℕ) → x / 2 ^ suc i ≡ x / 2 / 2 ^ i
 halved x i = ap (λ k. x / 2 ^ k) (let e : suc i ≡ 1 + i = omega arith in e) ∙ sym (shr-shr x 1 i)
@@ -111,3 +113,27 @@ first_bit a b long bytes is =
         one_there = bit_at b d.0 k.0 _ 1 k.1 refl k.2.high;
       },
     )
+
+-- ---- keys with the same bits
+
+keys_apart : (a b : List ℕ) → IsKey a → IsKey b → ((i : ℕ) → i < 256 → bit a i ≡ bit b i) → key_cmp a b ≡ Less → ⊥
+keys_apart a b ka kb same lt =
+    let f = first_bit a b (ka.long ∙ sym kb.long) kb.bytes lt in
+    let w = f.1.within in
+    let long = ka.long in
+    true≢false (sym f.1.one_there ∙ sym (same f.0 (omega arith)) ∙ f.1.zero_there)
+
+-- keys with the same bits are one
+pub same_bits : (a b : List ℕ) → IsKey a → IsKey b → ((i : ℕ) → i < 256 → bit a i ≡ bit b i) → a ≡ b
+same_bits a b ka kb same = elim (key_cmp a b) as (λ r. key_cmp a b ≡ r → a ≡ b) [
+  | Less ↦ λ is. absurd (keys_apart a b ka kb same is)
+  | Equal ↦ λ is. same_key-exact a b is
+  | Greater ↦ λ is. absurd (keys_apart b a kb ka (λ i lt. sym (same i lt)) (key_cmp-turned a b Greater is))
+] refl
+
+-- under a path of 256 bits there is one key
+pub two_keys : (d : ℕ) (path : ℕ → Bool) (a b : List ℕ) → IsKey a → IsKey b → ((i : ℕ) → i < d → bit a i ≡ path i) → ((i : ℕ) → i < d → bit b i ≡ path i) → ¬ (a ≡ b) → d < 256
+two_keys d path a b ka kb pa pb differ = elim (cases_lt d 256) [
+  | inl lt ↦ lt
+  | inr past ↦ absurd (differ (same_bits a b ka kb (λ i lt. pa i (omega arith) ∙ sym (pb i (omega arith)))))
+]
