@@ -12,7 +12,7 @@ use Rattle.jf_standing.specs.Sound.{IsSound}
 use Rattle.jf_standing.specs.Taking.{Takes, Gives}
 use Rattle.jf_standing.specs.Leading.{Item, ItemFollows, Leads}
 use Rattle.jf_standing.specs.ItemLaws.{ItemsLeadToSound}
-use Rattle.jf_standing.specs.declared.records.Record.{Record}
+use Rattle.jf_payload.specs.declared.records.Record.{Record}
 use Rattle.jf_files.specs.Reading.{format_of_kind, Reader, IsReader, item, items}
 use Rattle.jf_files.specs.Files.{LeadToStanding, LeadTo, StandsFor, HoldsStanding}
 use Rattle.jf_files.proofs.Judging.{are_read}

@@ -21,7 +21,7 @@ use Rattle.jf_standing.specs.Next.{IsReadRecord}
 use Rattle.jf_standing.specs.Begin.{IsReadFirst}
 use Rattle.jf_standing.specs.Leading.{Item, AllLead, OneFailsAt, AreRead}
 use Rattle.jf_standing.specs.ItemLaws.{ItemsAreJudged, NeverBoth, ItemsLeadToOne, ItemsLeadToSound, ItemsFailOnce}
-use Rattle.jf_standing.specs.declared.records.Record.{Record}
+use Rattle.jf_payload.specs.declared.records.Record.{Record}
 use Rattle.jf_files.specs.Reading.{format_of_kind, Reader, IsReader, item, items}
 use Rattle.jf_files.specs.Files.{LeadTo, IsUnsoundAt, StandsFor, IsDamagedAt, held, generation_in, generation}
 use Rattle.jf_files.specs.Steps.{IsCalm}

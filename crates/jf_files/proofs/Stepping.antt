@@ -22,8 +22,8 @@ use Rattle.jf_standing.specs.Taking.{TakesCommits, Takes}
 use Rattle.jf_standing.specs.Building.{imported_standing, new_standing, nodes_by_name, checkpoint_of, landings_of, all_landed}
 use Rattle.jf_standing.specs.Laws.{GroupsLand, FloorsPrune}
 use Rattle.jf_standing.specs.OrderLaws.{CheckpointsGive, ImportsAreSound, NewIsSound}
-use Rattle.jf_standing.specs.declared.records.Commit.{Commit}
-use Rattle.jf_standing.specs.declared.records.Record.TheVariants as «record»
+use Rattle.jf_payload.specs.declared.records.Commit.{Commit}
+use Rattle.jf_payload.specs.declared.records.Record.TheVariants as «record»
 use Rattle.jf_files.specs.Reading.{format_of_kind, Reader}
 use Rattle.jf_files.specs.Files.{LeadToStanding, LeadTo, StandsFor, generation_in, generation}
 use Rattle.jf_files.specs.Steps.{Step, Opens, Lands, Prunes, Compacts, Imports, map_of_entries, versions_behind, generation_behind, LiveBehind, StopsWell, Succeeds}

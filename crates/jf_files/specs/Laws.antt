@@ -11,7 +11,7 @@ use Rattle.jf_codec.specs.declared.format.Format.{Format}
 use Rattle.jf_standing.specs.Standing.{Standing, versions_of}
 use Rattle.jf_standing.specs.Sound.{IsSound}
 use Rattle.jf_standing.specs.Taking.{Takes, Gives}
-use Rattle.jf_standing.specs.declared.records.Record.{Record}
+use Rattle.jf_payload.specs.declared.records.Record.{Record}
 use Rattle.jf_files.specs.Reading.{format_of_kind, Reader, IsReader}
 use Rattle.jf_files.specs.Files.{LeadToStanding, LeadTo, StandsFor, IsDamagedAt, HoldsStanding, generation_in, generation}
 use Rattle.jf_files.specs.Steps.{IsCalm}

@@ -6,7 +6,7 @@ use Rattle.jf_codec.specs.declared.format.Format.TheVariants as format
 use Rattle.jf_standing.specs.Next.{IsReadRecord}
 use Rattle.jf_standing.specs.Begin.{IsReadFirst}
 use Rattle.jf_standing.specs.Leading.{Item}
-use Rattle.jf_standing.specs.declared.records.Record.{Record}
+use Rattle.jf_payload.specs.declared.records.Record.{Record}
 
 -- the format of a file that begins with a record of this kind
 abbrev pub format_of_kind : ℕ → Option Format

@@ -16,9 +16,9 @@ use Rattle.jf_standing.specs.Standing.{Standing, versions_of, with_floor, with_n
 use Rattle.jf_standing.specs.Sound.{IsSound}
 use Rattle.jf_standing.specs.Landing.{head_map}
 use Rattle.jf_standing.specs.Building.{imported_standing, new_standing, nodes_by_name, checkpoint_of, landings_of, all_landed}
-use Rattle.jf_standing.specs.declared.records.Commit.{Commit}
-use Rattle.jf_standing.specs.declared.records.Record.{Record}
-use Rattle.jf_standing.specs.declared.records.Record.TheVariants as «record»
+use Rattle.jf_payload.specs.declared.records.Commit.{Commit}
+use Rattle.jf_payload.specs.declared.records.Record.{Record}
+use Rattle.jf_payload.specs.declared.records.Record.TheVariants as «record»
 use Rattle.jf_files.specs.Reading.{format_of_kind, Reader}
 use Rattle.jf_files.specs.Files.{LeadToStanding, LeadTo, StandsFor, generation_in}
 use Rattle.jf_files.specs.Begun.{IsBegunOver}
@@ -27,7 +27,7 @@ use Rattle.jf_files.specs.Steps.{Step, Opens, Lands, Prunes, Compacts, Imports, 
 -- the record of landings: one alone, or a group
 abbrev pub landed_record : List Commit → Record
 landed_record [] = «record».Group []
-landed_record (c ∷ []) = «record».Landing c
+landed_record (c ∷ []) = «record».NodeCommit c
 landed_record (c ∷ d ∷ cs) = «record».Group (c ∷ d ∷ cs)
 
 -- a record of landings of these batches in turn leads on to their versions

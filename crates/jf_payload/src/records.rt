@@ -1,6 +1,6 @@
-// Records of a journal of nodes, as they are read.
+// Records of a journal of nodes.
+use crate::commits::Commits;
 use jf_path::{FreshList, HashList, LiveList, NameList};
-use std::marker::Model;
 
 /// One landing: its version and root, the nodes that it writes, and the names of the nodes that it marks stale.
 #[derive(Debug, Drop)]
@@ -11,28 +11,13 @@ pub struct Commit {
     pub stale: NameList,
 }
 
-/// Landings, the oldest first.
-#[derive(Debug, Drop)]
-pub struct Commits {
-    commits: Vec<Commit>,
-}
-
-impl Model for Commits {
-    ghost use Rattle.std.specs.Prelude.{List};
-    ghost use Rattle.jf_standing.specs.declared.records.Commit.{Commit};
-
-    ghost Value = { List Commit };
-
-    ghost view = { λ c. c.commits.items };
-}
-
 /// One record.
 #[derive(Debug, Drop)]
 pub enum Record {
     /// The versions below this one are gone.
     Floor(u64),
     /// A landing.
-    Landing(Commit),
+    NodeCommit(Commit),
     /// All nodes that are kept, and the roots from the base to the head, the oldest first.
     Checkpoint {
         generation: u64,
