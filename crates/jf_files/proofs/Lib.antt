@@ -1,3 +1,4 @@
 pub mod Judging
-pub mod Whole
 pub mod Holding
+pub mod Stepping
+mod Samples

@@ -1,25 +1,28 @@
 -- Laws on what files stand for.
-use Rattle.std.specs.Prelude.{◌≡◌, ◌↔◌, ◌⊎◌, ℕ, List, [], ◌∷◌, ◌++◌, Some, None, Ok}
-use Rattle.jf_disk.specs.Disk.{Files}
+use Rattle.std.specs.Prelude.{◌≡◌, ◌↔◌, ◌⊎◌, ℕ, true, List, [], ◌∷◌, ◌++◌, Some, Ok}
+use Rattle.jf_disk.specs.Disk.{Files, History, reads}
+use Rattle.jf_disk.specs.Crashes.{LeavesNow}
 use Rattle.jf_disk.specs.declared.side.Side.{Side}
 use Rattle.jf_model.specs.Versions.{Versions, IsVersions, new_store}
 use Rattle.jf_frame.specs.Framing.{records}
 use Rattle.jf_frame.specs.Framed.{Framed}
+use Rattle.jf_pair.specs.Files.{is_checkpoint, HoldsLive}
 use Rattle.jf_codec.specs.declared.format.Format.{Format}
 use Rattle.jf_standing.specs.Standing.{Standing, versions_of}
 use Rattle.jf_standing.specs.Sound.{IsSound}
 use Rattle.jf_standing.specs.Taking.{Takes, Gives}
-use Rattle.jf_standing.specs.declared.records.Record.{Record}
-use Rattle.jf_files.specs.Sides.{format_of_kind, live, live_records, outer_damage, AreWhole}
-use Rattle.jf_files.specs.Files.{Reader, IsReader, LeadTo, StandsFor, IsDamagedAt, HoldsStanding}
+use Rattle.jf_payload.specs.declared.records.Record.{Record}
+use Rattle.jf_files.specs.Reading.{format_of_kind, Reader, IsReader}
+use Rattle.jf_files.specs.Files.{LeadToStanding, LeadTo, StandsFor, IsDamagedAt, HoldsStanding, generation_in, generation}
+use Rattle.jf_files.specs.Steps.{IsCalm}
 
--- nothing shows of damage exactly if both sides are whole
-abbrev pub WholeShowsNothing : Type 0
-WholeShowsNothing = (files : Files) → (outer_damage files ≡ None) ↔ AreWhole files
+-- the kinds of a checkpoint are those that tell a format
+abbrev pub CheckpointsHaveFormats : Type 0
+CheckpointsHaveFormats = (kind : ℕ) → (is_checkpoint kind ≡ true) ↔ ((fmt : Format) × (format_of_kind kind ≡ Some fmt))
 
--- so files stand for versions exactly if both sides are whole and the records of the live one lead to these
-abbrev pub StandsForInFull : Type 0
-StandsForInFull = (read : Reader) (files : Files) (v : Versions) → StandsFor read files v ↔ ((w : AreWhole files) × LeadTo read (live_records w.a_records w.b_records) v)
+-- the generation of two files is that of their live records
+abbrev pub GenerationIsLive : Type 0
+GenerationIsLive = (files : Files) (rs : List Framed) → HoldsLive files rs → generation files ≡ generation_in rs
 
 -- files without records stand for a new store
 abbrev pub NoRecordsAreNew : Type 0
@@ -46,16 +49,20 @@ DamageHasOnePlace =
 abbrev pub FilesAreJudged : Type 0
 FilesAreJudged = (read : Reader) → IsReader read → (files : Files) → ((v : Versions) × StandsFor read files v) ⊎ ((where_ : Side) × (at : ℕ) × IsDamagedAt read files where_ at)
 
--- ---- files with a standing
+-- a disk whose files stand for versions is calm if all that a crash may leave stands for them
+abbrev pub CalmBoth : Type 0
+CalmBoth = (read : Reader) → IsReader read → (h : History) (v : Versions) → StandsFor read (reads h) v → LeavesNow h (λ f. StandsFor read f v) → IsCalm read h
 
--- they stand for its versions
+-- ---- with the standing
+
+-- files that hold one stand for its versions
 abbrev pub HeldIsStoodFor : Type 0
 HeldIsStoodFor = (read : Reader) (files : Files) (fmt : Format) (s : Standing) → HoldsStanding read files fmt s → StandsFor read files (versions_of s)
 
--- and files that hold a record and stand for versions have one
+-- and files that hold a record and stand for versions hold one
 abbrev pub StoodForIsHeld : Type 0
 StoodForIsHeld =
-    (read : Reader) (files : Files) (v : Versions) (x : Framed) (xs : List Framed) → StandsFor read files v → live files ≡ x ∷ xs → (fmt : Format) × (s : Standing) × HoldsStanding read files fmt s × (v ≡ versions_of s)
+    (read : Reader) (files : Files) (v : Versions) (x : Framed) (xs : List Framed) → StandsFor read files v → HoldsLive files (x ∷ xs) → (fmt : Format) × (s : Standing) × HoldsStanding read files fmt s × (v ≡ versions_of s)
 
 -- which is sound
 abbrev pub HeldIsSound : Type 0
@@ -63,9 +70,12 @@ HeldIsSound = (read : Reader) → IsReader read → (files : Files) (fmt : Forma
 
 -- one record after the others leads on
 abbrev pub OneMoreFollows : Type 0
-OneMoreFollows =
-    (read : Reader) (old new : Files) (fmt : Format) (s s' : Standing) (y : Framed) (r : Record) → HoldsStanding read old fmt s → outer_damage new ≡ None → live new ≡ live old ++ y ∷ [] → read fmt y ≡ Some r → Takes fmt s r s' → HoldsStanding read new fmt s'
+OneMoreFollows = (read : Reader) (rs : List Framed) (fmt : Format) (s s' : Standing) (y : Framed) (r : Record) → LeadToStanding read rs fmt s → read fmt y ≡ Some r → Takes fmt s r s' → LeadToStanding read (rs ++ y ∷ []) fmt s'
 
 -- a checkpoint alone leads to what it gives
 abbrev pub CheckpointAlone : Type 0
-CheckpointAlone = (read : Reader) (files : Files) (fmt : Format) (s : Standing) (x : Framed) (r : Record) → outer_damage files ≡ None → live files ≡ x ∷ [] → format_of_kind x.kind ≡ Some fmt → read fmt x ≡ Some r → Gives fmt r s → HoldsStanding read files fmt s
+CheckpointAlone = (read : Reader) (fmt : Format) (s : Standing) (x : Framed) (r : Record) → format_of_kind x.kind ≡ Some fmt → read fmt x ≡ Some r → Gives fmt r s → LeadToStanding read (x ∷ []) fmt s
+
+-- records that lead to a standing lead to its versions
+abbrev pub StandingsHaveVersions : Type 0
+StandingsHaveVersions = (read : Reader) (rs : List Framed) (fmt : Format) (s : Standing) → LeadToStanding read rs fmt s → LeadTo read rs (versions_of s)

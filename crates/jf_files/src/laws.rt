@@ -1,19 +1,18 @@
 // Laws on what files stand for. These functions do nothing when they run.
-ghost use Rattle.jf_files.specs.Laws.{WholeShowsNothing, StandsForInFull, NoRecordsAreNew, FilesStandForOne, FilesStandForSound, DamageIsNoVersions, DamageHasOnePlace, FilesAreJudged, HeldIsStoodFor, StoodForIsHeld, HeldIsSound, OneMoreFollows, CheckpointAlone};
+ghost use Rattle.jf_files.specs.Laws.{CheckpointsHaveFormats, GenerationIsLive, NoRecordsAreNew, FilesStandForOne, FilesStandForSound, DamageIsNoVersions, DamageHasOnePlace, FilesAreJudged, CalmBoth, HeldIsStoodFor, StoodForIsHeld, HeldIsSound, OneMoreFollows, CheckpointAlone, StandingsHaveVersions};
 
 use jf_standing::{
     items_are_judged, items_fail_once, items_lead_to_one, items_lead_to_sound, never_both,
 };
 
-/// Nothing shows of damage exactly if the gates and lengths of both files hold, each file with records begins with a
-/// checkpoint's kind and a number, and their generations differ.
-pub fn whole_shows_nothing()
-    ensures { WholeShowsNothing }
+/// The kinds of a checkpoint are those that tell a format of nodes.
+pub fn checkpoints_have_formats()
+    ensures { CheckpointsHaveFormats }
 {}
 
-/// Files stand for versions exactly if that is so, and the records of the live file lead to these versions.
-pub fn stands_for_in_full()
-    ensures { StandsForInFull }
+/// The generation of two files is that of their live records.
+pub fn generation_is_live()
+    ensures { GenerationIsLive }
 {}
 
 /// Files without records stand for a new store.
@@ -56,6 +55,13 @@ pub fn files_are_judged()
     items_are_judged();
 }
 
+/// A disk whose files stand for versions is calm if all that a crash may leave stands for them.
+pub fn calm_both()
+    ensures { CalmBoth }
+{
+    items_lead_to_one();
+}
+
 /// Files that hold a standing stand for its versions.
 pub fn held_is_stood_for()
     ensures { HeldIsStoodFor }
@@ -73,12 +79,17 @@ pub fn held_is_sound()
     items_lead_to_sound();
 }
 
-/// Files with one live record more hold what that record makes of the standing before.
+/// Records with one more lead to what that one makes of the standing before.
 pub fn one_more_follows()
     ensures { OneMoreFollows }
 {}
 
-/// Files whose one live record is a checkpoint hold what it gives.
+/// A checkpoint alone leads to the standing that it gives.
 pub fn checkpoint_alone()
     ensures { CheckpointAlone }
+{}
+
+/// Records that lead to a standing lead to its versions.
+pub fn standings_have_versions()
+    ensures { StandingsHaveVersions }
 {}

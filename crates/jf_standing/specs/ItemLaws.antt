@@ -10,8 +10,8 @@ use Rattle.jf_standing.specs.Taking.{Takes, Gives}
 use Rattle.jf_standing.specs.Next.{next_standing, IsReadRecord}
 use Rattle.jf_standing.specs.Begin.{begin, IsReadFirst}
 use Rattle.jf_standing.specs.Leading.{Item, AllLead, OneFailsAt, AreRead}
-use Rattle.jf_standing.specs.declared.records.Commit.{Commit}
-use Rattle.jf_standing.specs.declared.records.Record.{Record}
+use Rattle.jf_payload.specs.declared.records.Commit.{Commit}
+use Rattle.jf_payload.specs.declared.records.Record.{Record}
 
 -- what a record makes of a sound standing is a function of it
 abbrev pub NextIsTakes : Type 0
