@@ -1,3 +1,4 @@
+pub mod Spelled
 pub mod Judging
 pub mod Holding
 pub mod Stepping
