@@ -1,4 +1,5 @@
 pub mod Spelled
+pub mod Numbered
 pub mod Judging
 pub mod Holding
 pub mod Stepping

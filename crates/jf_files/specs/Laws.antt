@@ -6,19 +6,27 @@ use Rattle.jf_disk.specs.declared.side.Side.{Side}
 use Rattle.jf_model.specs.Versions.{Versions, IsVersions, new_store}
 use Rattle.jf_frame.specs.Framing.{records}
 use Rattle.jf_frame.specs.Framed.{Framed}
-use Rattle.jf_pair.specs.Files.{is_checkpoint, HoldsLive}
+use Rattle.jf_pair.specs.Files.{is_checkpoint, is_begun, HoldsLive}
 use Rattle.jf_codec.specs.declared.format.Format.{Format}
+use Rattle.jf_standing.specs.Named.{Named}
 use Rattle.jf_standing.specs.Standing.{Standing, versions_of}
 use Rattle.jf_standing.specs.Sound.{IsSound}
 use Rattle.jf_standing.specs.Taking.{Takes, Gives}
 use Rattle.jf_payload.specs.Spelling.{checkpoint_kind, IsSpelling}
 use Rattle.jf_payload.specs.declared.records.Record.{Record}
+use Rattle.jf_payload.specs.declared.records.Record.TheVariants as «record»
 use Rattle.jf_files.specs.Files.{LeadToStanding, LeadTo, StandsFor, IsDamagedAt, HoldsStanding, generation_in, generation}
 use Rattle.jf_files.specs.Steps.{IsCalm}
 
 -- a checkpoint's kinds are those of the two formats
 abbrev pub CheckpointsHaveFormats : Type 0
 CheckpointsHaveFormats = (kind : ℕ) → (is_checkpoint kind ≡ true) ↔ ((fmt : Format) × (kind ≡ checkpoint_kind fmt))
+
+-- a record that spells a checkpoint can begin a side, and has the checkpoint's generation
+abbrev pub CheckpointsAreNumbered : Type 0
+CheckpointsAreNumbered =
+    (fmt : Format) (generation base floor head : ℕ) (roots : List (List ℕ)) (nodes : List Named) (x : Framed) → IsSpelling fmt («record».Checkpoint generation base floor head roots nodes) x.kind x.payload
+    → (is_begun (x ∷ []) ≡ true) × (generation_in (x ∷ []) ≡ generation)
 
 -- the generation of two files is that of their live records
 abbrev pub GenerationIsLive : Type 0

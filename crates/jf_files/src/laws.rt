@@ -1,5 +1,5 @@
 // Laws on what files stand for. These functions do nothing when they run.
-ghost use Rattle.jf_files.specs.Laws.{CheckpointsHaveFormats, GenerationIsLive, NoRecordsAreNew, FilesStandForOne, FilesStandForSound, DamageIsNoVersions, DamageHasOnePlace, FilesAreJudged, CalmBoth, HeldIsStoodFor, StoodForIsHeld, HeldIsSound, OneMoreFollows, CheckpointAlone, StandingsHaveVersions};
+ghost use Rattle.jf_files.specs.Laws.{CheckpointsHaveFormats, CheckpointsAreNumbered, GenerationIsLive, NoRecordsAreNew, FilesStandForOne, FilesStandForSound, DamageIsNoVersions, DamageHasOnePlace, FilesAreJudged, CalmBoth, HeldIsStoodFor, StoodForIsHeld, HeldIsSound, OneMoreFollows, CheckpointAlone, StandingsHaveVersions};
 
 use jf_payload::spelled_is_spelling;
 use jf_standing::{
@@ -9,6 +9,11 @@ use jf_standing::{
 /// The kinds of a checkpoint are those of the two formats of nodes.
 pub fn checkpoints_have_formats()
     ensures { CheckpointsHaveFormats }
+{}
+
+/// A record that spells a checkpoint can begin a side, and has the checkpoint's generation.
+pub fn checkpoints_are_numbered()
+    ensures { CheckpointsAreNumbered }
 {}
 
 /// The generation of two files is that of their live records.
