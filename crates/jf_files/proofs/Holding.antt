@@ -1,5 +1,5 @@
 -- Records with the standing to which they lead.
-use Rattle.std.proofs.Common.{◌≡◌, List, [], ◌∷◌, ◌++◌, Some, refl, sym, subst}
+use Rattle.std.proofs.Common.{◌≡◌, List, [], ◌∷◌, ◌++◌, refl, sym, subst}
 use Rattle.std.proofs.lemmas.List.{map-append}
 use Rattle.jf_disk.specs.Disk.{Files}
 use Rattle.jf_model.specs.Versions.{Versions, IsVersions}

@@ -1,5 +1,5 @@
 -- A record that spells a checkpoint begins with its generation.
-use Rattle.std.proofs.Common.{◌≡◌, ℕ, ◌<◌, ◌≤◌, ◌^◌, Bool, true, false, ◌&&◌, List, [], ◌∷◌, ◌++◌, length, length-append, take, drop, nat_le, refl, sym, ap, ap₂, ◌∙◌, subst, append_assoc, take_at, take-append-drop, length-take-le, le-leb, arith}
+use Rattle.std.proofs.Common.{◌≡◌, ℕ, ◌<◌, ◌≤◌, ◌^◌, Bool, true, false, ◌&&◌, List, [], ◌∷◌, ◌++◌, length, length-append, take, drop, nat_le, refl, sym, ap, ◌∙◌, subst, append_assoc, take_at, take-append-drop, length-take-le, le-leb, arith}
 use Rattle.std.proofs.lemmas.Nat.{from_be_bytes-to_be_bytes_8}
 use Rattle.std.specs.Prelude.{flat_map}
 use Rattle.std.specs.Int.{from_be_bytes, w64}

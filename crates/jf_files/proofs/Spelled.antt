@@ -1,5 +1,5 @@
 -- A record that has a spelling has names in order, keys of 32 bytes, values that are bytes, and numbers within their bounds.
-use Rattle.std.proofs.Common.{◌≡◌, ℕ, ◌<◌, ◌^◌, List, [], ◌∷◌, ◌++◌, refl, sym, ◌∙◌, subst, arith}
+use Rattle.std.proofs.Common.{ℕ, ◌<◌, ◌^◌, List, [], ◌∷◌, ◌++◌, sym, ◌∙◌, subst, arith}
 use Rattle.std.proofs.lemmas.List.{length-reverse, reverse-append}
 use Rattle.std.specs.Prelude.{map, reverse}
 use Rattle.std.specs.List.{AllByRecursion}
@@ -10,14 +10,13 @@ use Rattle.jf_path.specs.declared.node.PlainNode.{PlainNode}
 use Rattle.jf_path.specs.declared.node.PlainNode.TheVariants as node
 use Rattle.jf_codec.specs.Spelling.{IsNode}
 use Rattle.jf_codec.specs.declared.format.Format.{Format}
-use Rattle.jf_payload.specs.Spelling.{IsCommit, IsCheckpoint, IsRecord}
+use Rattle.jf_payload.specs.Spelling.{IsCommit, IsRecord}
 use Rattle.jf_payload.specs.declared.records.Commit.{Commit}
 use Rattle.jf_payload.specs.declared.records.Record.{Record}
 use Rattle.jf_payload.specs.declared.records.Record.TheVariants as «record»
 use Rattle.jf_standing.specs.Named.{Named, never, leaf_entries, AreEntries}
 use Rattle.jf_standing.specs.Standing.{unmarked}
-use Rattle.jf_standing.specs.Landing.{IsInOrder}
-use Rattle.jf_standing.specs.Next.{IsReadCommit, IsReadRecord, IsReadStanding}
+use Rattle.jf_standing.specs.Next.{IsReadCommit, IsReadRecord}
 use Rattle.jf_standing.specs.Begin.{IsReadFirst}
 
 -- one node more

@@ -1,23 +1,17 @@
 -- What the records of each step make, and that a stop leaves the versions before or behind.
-use Rattle.std.proofs.Common.{◌≡◌, ◌⊎◌, ℕ, ◌+◌, ◌<◌, ◌≤◌, ◌^◌, inl, inr, List, [], ◌∷◌, ◌++◌, length, Some, refl, sym, ap, ◌∙◌, subst}
-use Rattle.std.specs.List.{AllByRecursion}
-use Rattle.std.specs.FinMap.{len}
+use Rattle.std.proofs.Common.{◌≡◌, ◌⊎◌, ℕ, inl, inr, List, [], ◌∷◌, refl, sym, ap, ◌∙◌, subst}
 use Rattle.jf_disk.specs.Disk.{History, Files, IsImage, reads}
-use Rattle.jf_disk.specs.Crashes.{GoesOn, LeavesNow, LeavesFiles}
+use Rattle.jf_disk.specs.Crashes.{LeavesNow, LeavesFiles}
 use Rattle.jf_disk.specs.CrashLaws.{goes_weaker, goes_further, goes_now}
-use Rattle.jf_hash.specs.Maps.{Batch, IsMap, IsBatch}
-use Rattle.jf_model.specs.Batches.{key_count}
 use Rattle.jf_model.specs.Versions.{Versions, new_store, imported}
 use Rattle.jf_frame.specs.Framed.{Framed}
 use Rattle.jf_pair.specs.Files.{HoldsLive}
 use Rattle.jf_pair.specs.FileLaws.{holds_one}
-use Rattle.jf_pair.specs.Pairs.{Pair, IsInStep, StopsBetween}
+use Rattle.jf_pair.specs.Pairs.{Pair, IsInStep}
 use Rattle.jf_pair.specs.PairLaws.{in_step_holds, in_step_leaves}
 use Rattle.jf_codec.specs.declared.format.Format.{Format}
-use Rattle.jf_standing.specs.Named.{never, leaf_entries, AreEntries}
 use Rattle.jf_standing.specs.Standing.{Standing, versions_of, with_floor, with_nodes}
 use Rattle.jf_standing.specs.Sound.{IsSound}
-use Rattle.jf_standing.specs.Landing.{head_map}
 use Rattle.jf_standing.specs.Taking.{TakesCommits, Takes}
 use Rattle.jf_standing.specs.Building.{imported_standing, new_standing, nodes_by_name, checkpoint_of, landings_of, all_landed}
 use Rattle.jf_standing.specs.Laws.{GroupsLand, FloorsPrune}
@@ -26,8 +20,8 @@ use Rattle.jf_payload.specs.Spelling.{IsSpelling}
 use Rattle.jf_payload.specs.Laws.{SpelledIsSpelling}
 use Rattle.jf_payload.specs.declared.records.Commit.{Commit}
 use Rattle.jf_payload.specs.declared.records.Record.TheVariants as «record»
-use Rattle.jf_files.specs.Files.{LeadToStanding, LeadTo, StandsFor, generation_in, generation}
-use Rattle.jf_files.specs.Steps.{Step, Opens, Lands, Prunes, Compacts, Imports, map_of_entries, versions_behind, generation_behind, LiveBehind, StopsWell, Succeeds}
+use Rattle.jf_files.specs.Files.{LeadTo, StandsFor, generation}
+use Rattle.jf_files.specs.Steps.{Step, Opens, map_of_entries, versions_behind, generation_behind, LiveBehind, StopsWell}
 use Rattle.jf_files.specs.StepLaws.{landed_record, LandingsFollow, FloorsFollow, CheckpointsFollow, ImportsFollow, FirstFollows, StopsByRecords, SucceedsByRecords, SucceedsAfterReading, OpensByRecords, BeginsByRecords}
 use Rattle.jf_files.proofs.Judging.{generation_live}
 use Rattle.jf_files.proofs.Holding.{one_more, checkpoint_leads}

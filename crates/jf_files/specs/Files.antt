@@ -1,5 +1,5 @@
 -- The versions for which two files stand, or the first place of damage.
-use Rattle.std.specs.Prelude.{◌≡◌, ◌⊎◌, ℕ, List, [], ◌∷◌, map, Option, Some, Result, Ok, Err}
+use Rattle.std.specs.Prelude.{◌≡◌, ◌⊎◌, ℕ, List, [], ◌∷◌, map, Some, Result, Ok, Err}
 use Rattle.jf_disk.specs.Disk.{Files}
 use Rattle.jf_disk.specs.declared.side.Side.{Side}
 use Rattle.jf_model.specs.Versions.{Versions, new_store}

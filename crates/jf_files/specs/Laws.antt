@@ -1,20 +1,23 @@
 -- Laws on what files stand for.
-use Rattle.std.specs.Prelude.{◌≡◌, ◌↔◌, ◌⊎◌, ℕ, true, List, [], ◌∷◌, ◌++◌, Some, Ok}
+use Rattle.std.specs.Prelude.{◌≡◌, ◌↔◌, ◌⊎◌, ℕ, true, List, [], ◌∷◌, ◌++◌, Ok}
 use Rattle.jf_disk.specs.Disk.{Files, History, reads}
 use Rattle.jf_disk.specs.Crashes.{LeavesNow}
 use Rattle.jf_disk.specs.declared.side.Side.{Side}
 use Rattle.jf_model.specs.Versions.{Versions, IsVersions, new_store}
-use Rattle.jf_frame.specs.Framing.{records}
+use Rattle.jf_frame.specs.Framing.{frame, records}
 use Rattle.jf_frame.specs.Framed.{Framed}
 use Rattle.jf_pair.specs.Files.{is_checkpoint, is_begun, HoldsLive}
 use Rattle.jf_codec.specs.declared.format.Format.{Format}
+use Rattle.jf_codec.specs.declared.format.Format.TheVariants as format
 use Rattle.jf_standing.specs.Named.{Named}
 use Rattle.jf_standing.specs.Standing.{Standing, versions_of}
 use Rattle.jf_standing.specs.Sound.{IsSound}
 use Rattle.jf_standing.specs.Taking.{Takes, Gives}
-use Rattle.jf_payload.specs.Spelling.{checkpoint_kind, IsSpelling}
+use Rattle.jf_payload.specs.Spelling.{checkpoint_kind, record_bytes, IsSpelling}
 use Rattle.jf_payload.specs.declared.records.Record.{Record}
 use Rattle.jf_payload.specs.declared.records.Record.TheVariants as «record»
+use Rattle.jf_standing.specs.Building.{new_standing, checkpoint_of}
+use Rattle.jf_files.specs.NewStore.{new_store_bytes, new_store_files}
 use Rattle.jf_files.specs.Files.{LeadToStanding, LeadTo, StandsFor, IsDamagedAt, HoldsStanding, generation_in, generation}
 use Rattle.jf_files.specs.Steps.{IsCalm}
 
@@ -35,6 +38,10 @@ GenerationIsLive = (files : Files) (rs : List Framed) → HoldsLive files rs →
 -- files without records stand for a new store
 abbrev pub NoRecordsAreNew : Type 0
 NoRecordsAreNew = (files : Files) → records files.a ≡ Ok [] → records files.b ≡ Ok [] → StandsFor files new_store
+
+-- and so do the 101 bytes that the checkpoint of a new store, in the second format, makes of side A: with generation 1
+abbrev pub NewStoreStands : Type 0
+NewStoreStands = StandsFor new_store_files new_store × (generation new_store_files ≡ 1) × (1 ∷ frame 5 (record_bytes format.Two (checkpoint_of 1 (new_standing format.Two))) ≡ new_store_bytes)
 
 -- files stand for one value of versions at most
 abbrev pub FilesStandForOne : Type 0

@@ -1,9 +1,10 @@
 // Laws on what files stand for. These functions do nothing when they run.
-ghost use Rattle.jf_files.specs.Laws.{CheckpointsHaveFormats, CheckpointsAreNumbered, GenerationIsLive, NoRecordsAreNew, FilesStandForOne, FilesStandForSound, DamageIsNoVersions, DamageHasOnePlace, FilesAreJudged, CalmBoth, HeldIsStoodFor, StoodForIsHeld, HeldIsSound, OneMoreFollows, CheckpointAlone, StandingsHaveVersions};
+ghost use Rattle.jf_files.specs.Laws.{CheckpointsHaveFormats, CheckpointsAreNumbered, GenerationIsLive, NoRecordsAreNew, NewStoreStands, FilesStandForOne, FilesStandForSound, DamageIsNoVersions, DamageHasOnePlace, FilesAreJudged, CalmBoth, HeldIsStoodFor, StoodForIsHeld, HeldIsSound, OneMoreFollows, CheckpointAlone, StandingsHaveVersions};
 
 use jf_payload::spelled_is_spelling;
 use jf_standing::{
-    items_are_judged, items_fail_once, items_lead_to_one, items_lead_to_sound, never_both,
+    checkpoints_give, items_are_judged, items_fail_once, items_lead_to_one, items_lead_to_sound,
+    never_both, new_is_sound,
 };
 
 /// The kinds of a checkpoint are those of the two formats of nodes.
@@ -25,6 +26,15 @@ pub fn generation_is_live()
 pub fn no_records_are_new()
     ensures { NoRecordsAreNew }
 {}
+
+/// The checkpoint of a new store makes 101 bytes of side A, which stand for a new store of generation 1.
+pub fn new_store_stands()
+    ensures { NewStoreStands }
+{
+    spelled_is_spelling();
+    checkpoints_give();
+    new_is_sound();
+}
 
 /// Files stand for one value of versions at most.
 pub fn files_stand_for_one()
