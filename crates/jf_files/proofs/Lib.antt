@@ -1,4 +1,7 @@
+pub mod Spelled
+pub mod Numbered
 pub mod Judging
 pub mod Holding
 pub mod Stepping
+pub mod NewStore
 mod Samples

@@ -1,5 +1,5 @@
--- The versions for which two files stand, or the first place of damage, by a function that reads records.
-use Rattle.std.specs.Prelude.{◌≡◌, ◌⊎◌, ℕ, List, [], ◌∷◌, Option, Some, Result, Ok, Err}
+-- The versions for which two files stand, or the first place of damage.
+use Rattle.std.specs.Prelude.{◌≡◌, ◌⊎◌, ℕ, List, [], ◌∷◌, map, Some, Result, Ok, Err}
 use Rattle.jf_disk.specs.Disk.{Files}
 use Rattle.jf_disk.specs.declared.side.Side.{Side}
 use Rattle.jf_model.specs.Versions.{Versions, new_store}
@@ -7,45 +7,54 @@ use Rattle.jf_frame.specs.Framed.{Framed}
 use Rattle.jf_frame.specs.Framing.{records}
 use Rattle.jf_pair.specs.Files.{HoldsLive, generation_of, live_side, live_records, outer_damage}
 use Rattle.jf_codec.specs.declared.format.Format.{Format}
+use Rattle.jf_payload.specs.Spelling.{checkpoint_kind}
+use Rattle.jf_payload.specs.Reading.{spelled}
 use Rattle.jf_standing.specs.Standing.{Standing, versions_of}
-use Rattle.jf_standing.specs.Leading.{AllLead, OneFailsAt}
-use Rattle.jf_files.specs.Reading.{format_of_kind, Reader, item, items}
+use Rattle.jf_standing.specs.Leading.{Item, AllLead, OneFailsAt}
 
--- records lead to a standing of a format: the first one has a checkpoint's kind of this format and gives a standing, and
--- each later one is taken
-abbrev pub LeadToStanding : Reader → List Framed → Format → Standing → Type 0
-LeadToStanding read [] fmt s = ⊥
-LeadToStanding read (x ∷ xs) fmt s = (format_of_kind x.kind ≡ Some fmt) × AllLead fmt (item read fmt x) (items read fmt xs) s
+-- what stands at the offset of a record in a file of a format: the record that its payload spells, or none
+abbrev pub item : Format → Framed → Item
+item fmt x = (x.offset, spelled fmt x.kind x.payload)
+
+-- the same of records in their order
+abbrev pub items : Format → List Framed → List Item
+items fmt xs = map (item fmt) xs
+
+-- records lead to a standing of a format: the first is a checkpoint of the format's kind and gives one, and each later
+-- record is taken
+abbrev pub LeadToStanding : List Framed → Format → Standing → Type 0
+LeadToStanding [] fmt s = ⊥
+LeadToStanding (x ∷ xs) fmt s = (x.kind ≡ checkpoint_kind fmt) × AllLead fmt (item fmt x) (items fmt xs) s
 
 -- records lead to versions: no record to those of a new store, others to those of the standing
-abbrev pub LeadTo : Reader → List Framed → Versions → Type 0
-LeadTo read [] v = v ≡ new_store
-LeadTo read (x ∷ xs) v = (fmt : Format) × (s : Standing) × LeadToStanding read (x ∷ xs) fmt s × (v ≡ versions_of s)
+abbrev pub LeadTo : List Framed → Versions → Type 0
+LeadTo [] v = v ≡ new_store
+LeadTo (x ∷ xs) v = (fmt : Format) × (s : Standing) × LeadToStanding (x ∷ xs) fmt s × (v ≡ versions_of s)
 
 -- the offset of the first of them that isn't sound
-abbrev pub IsUnsoundAt : Reader → List Framed → ℕ → Type 0
-IsUnsoundAt read [] at = ⊥
-IsUnsoundAt read (x ∷ xs) at = (fmt : Format) × (format_of_kind x.kind ≡ Some fmt) × OneFailsAt fmt (item read fmt x) (items read fmt xs) at
+abbrev pub IsUnsoundAt : List Framed → ℕ → Type 0
+IsUnsoundAt [] at = ⊥
+IsUnsoundAt (x ∷ xs) at = (fmt : Format) × (x.kind ≡ checkpoint_kind fmt) × OneFailsAt fmt (item fmt x) (items fmt xs) at
 
 -- files stand for versions: they hold live records, and these lead to the versions
-pub record StandsFor (read : Reader) (files : Files) (v : Versions) : Type 0 where
+pub record StandsFor (files : Files) (v : Versions) : Type 0 where
   pub live : List Framed
   pub held : HoldsLive files live
-  pub leads : LeadTo read live v
+  pub leads : LeadTo live v
 
 -- a live record is the first that isn't sound
-abbrev pub IsDamagedWithin : Reader → Files → Side → ℕ → Type 0
-IsDamagedWithin read files where_ at = (rs : List Framed) × (h : HoldsLive files rs) × (where_ ≡ live_side h.a_records h.b_records) × IsUnsoundAt read rs at
+abbrev pub IsDamagedWithin : Files → Side → ℕ → Type 0
+IsDamagedWithin files where_ at = (rs : List Framed) × (h : HoldsLive files rs) × (where_ ≡ live_side h.a_records h.b_records) × IsUnsoundAt rs at
 
 -- the first place of damage: one that shows in gates, lengths and first records, or if none does, that of a live record
-abbrev pub IsDamagedAt : Reader → Files → Side → ℕ → Type 0
-IsDamagedAt read files where_ at = (outer_damage files ≡ Some (where_, at)) ⊎ IsDamagedWithin read files where_ at
+abbrev pub IsDamagedAt : Files → Side → ℕ → Type 0
+IsDamagedAt files where_ at = (outer_damage files ≡ Some (where_, at)) ⊎ IsDamagedWithin files where_ at
 
 -- files hold a standing of a format: their live records lead to it
-pub record HoldsStanding (read : Reader) (files : Files) (fmt : Format) (s : Standing) : Type 0 where
+pub record HoldsStanding (files : Files) (fmt : Format) (s : Standing) : Type 0 where
   pub live : List Framed
   pub held : HoldsLive files live
-  pub leads : LeadToStanding read live fmt s
+  pub leads : LeadToStanding live fmt s
 
 -- ---- the generation
 

@@ -7,7 +7,8 @@ use Rattle.jf_hash.specs.Maps.{Map, Batch}
 use Rattle.jf_model.specs.Versions.{Versions, land_all, pruned, imported}
 use Rattle.jf_frame.specs.Framed.{Framed}
 use Rattle.jf_pair.specs.Files.{HoldsLive}
-use Rattle.jf_files.specs.Reading.{Reader}
+use Rattle.jf_codec.specs.declared.format.Format.TheVariants as format
+use Rattle.jf_payload.specs.Spelling.{checkpoint_kind}
 use Rattle.jf_files.specs.Files.{StandsFor, generation}
 
 -- a store is opened, lands batches one after another, sets a later floor, writes a new generation, or takes one version
@@ -47,7 +48,7 @@ HasOneMore rs rs' = (y : Framed) × (rs' ≡ rs ++ y ∷ [])
 
 -- one record alone, a checkpoint whose nodes are of the second format
 abbrev pub IsOneCheckpoint : List Framed → Type 0
-IsOneCheckpoint rs = (x : Framed) × (rs ≡ x ∷ []) × (x.kind ≡ 5)
+IsOneCheckpoint rs = (x : Framed) × (rs ≡ x ∷ []) × (x.kind ≡ checkpoint_kind format.Two)
 
 -- the live records that the step's Ok leaves: an opening writes a checkpoint if there was no record; a landing of batches and
 -- a floor are one record more; a new generation and an import are a checkpoint alone
@@ -62,18 +63,18 @@ LiveBehind (Imports version es) rs rs' = IsOneCheckpoint rs'
 -- ---- stops
 
 -- a stop in the step leaves the versions before or behind it
-abbrev pub StopsWell : Reader → Step → History → History → Versions → Type 0
-StopsWell read step old new v = GoesOn old new (λ f. StandsFor read f v ⊎ StandsFor read f (versions_behind step v))
+abbrev pub StopsWell : Step → History → History → Versions → Type 0
+StopsWell step old new v = GoesOn old new (λ f. StandsFor f v ⊎ StandsFor f (versions_behind step v))
 
 -- and its Ok those behind it alone, with their generation and records
-pub record Succeeds (read : Reader) (step : Step) (old new : History) (v : Versions) : Type 0 where
-  pub stops : StopsWell read step old new v
-  pub stands : StandsFor read (reads new) (versions_behind step v)
-  pub leaves : LeavesNow new (λ f. StandsFor read f (versions_behind step v))
+pub record Succeeds (step : Step) (old new : History) (v : Versions) : Type 0 where
+  pub stops : StopsWell step old new v
+  pub stands : StandsFor (reads new) (versions_behind step v)
+  pub leaves : LeavesNow new (λ f. StandsFor f (versions_behind step v))
   pub generation_of : generation (reads new) ≡ generation_behind step (generation (reads old))
   pub live : (rs : List Framed) → HoldsLive (reads old) rs → (rs' : List Framed) × HoldsLive (reads new) rs' × LiveBehind step rs rs'
 
 -- all that a crash may leave stands for what the files read stand for, and for nothing else
-pub record IsCalm (read : Reader) (h : History) : Type 0 where
-  pub leaves : (v : Versions) → StandsFor read (reads h) v → LeavesNow h (λ f. StandsFor read f v)
-  pub only : (f : Files) → IsImage h.now f → (v : Versions) → StandsFor read f v → StandsFor read (reads h) v
+pub record IsCalm (h : History) : Type 0 where
+  pub leaves : (v : Versions) → StandsFor (reads h) v → LeavesNow h (λ f. StandsFor f v)
+  pub only : (f : Files) → IsImage h.now f → (v : Versions) → StandsFor f v → StandsFor (reads h) v

@@ -1,12 +1,14 @@
 // Laws on the steps of a store. These functions do nothing when they run.
 ghost use Rattle.jf_files.specs.StepLaws.{LandingsFollow, FloorsFollow, CheckpointsFollow, ImportsFollow, FirstFollows, StopsByRecords, SucceedsByRecords, SucceedsAfterReading, OpensByRecords, BeginsByRecords};
 
+use jf_payload::spelled_is_spelling;
 use jf_standing::{checkpoints_give, floors_prune, groups_land, imports_are_sound, new_is_sound};
 
 /// A record of landings of batches in turn makes a version for each.
 pub fn landings_follow()
     ensures { LandingsFollow }
 {
+    spelled_is_spelling();
     groups_land();
 }
 
@@ -14,6 +16,7 @@ pub fn landings_follow()
 pub fn floors_follow()
     ensures { FloorsFollow }
 {
+    spelled_is_spelling();
     floors_prune();
 }
 
@@ -21,6 +24,7 @@ pub fn floors_follow()
 pub fn checkpoints_follow()
     ensures { CheckpointsFollow }
 {
+    spelled_is_spelling();
     checkpoints_give();
 }
 
@@ -28,6 +32,7 @@ pub fn checkpoints_follow()
 pub fn imports_follow()
     ensures { ImportsFollow }
 {
+    spelled_is_spelling();
     checkpoints_give();
     imports_are_sound();
 }
@@ -36,6 +41,7 @@ pub fn imports_follow()
 pub fn first_follows()
     ensures { FirstFollows }
 {
+    spelled_is_spelling();
     checkpoints_give();
     new_is_sound();
 }

@@ -8,7 +8,7 @@ mod order_laws;
 
 pub use item_laws::{
     begin_is_gives, items_are_judged, items_fail_once, items_lead_to_one, items_lead_to_sound,
-    keys_stay, never_both, next_is_takes,
+    keys_stay, never_both, next_is_takes, spelled_is_read,
 };
 pub use laws::{
     batches_land, counts_are_extra, floors_prune, groups_land, landings_are_decided,
