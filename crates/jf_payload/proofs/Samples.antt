@@ -1,8 +1,7 @@
 -- Worked records as bytes, which an encoder written apart from this one gives.
-use Rattle.std.specs.Prelude.{◌≡◌, true, List, ℕ, [], ◌∷◌, ◌++◌, refl}
+use Rattle.std.specs.Prelude.{◌≡◌, true, List, ℕ, [], ◌∷◌, refl}
 use Rattle.jf_path.specs.Paths.{path_bytes}
 use Rattle.jf_path.specs.declared.name.NodeName.{NodeName}
-use Rattle.jf_path.specs.declared.children.Child.{Child}
 use Rattle.jf_path.specs.declared.node.PlainNode.TheVariants as node
 use Rattle.jf_frame.specs.Framing.{frame}
 use Rattle.jf_frame.specs.Framing as framing
@@ -10,7 +9,6 @@ use Rattle.jf_codec.specs.Numbers.{two_bytes, four_bytes, eight_bytes}
 use Rattle.jf_codec.specs.Spelling.{node_bytes}
 use Rattle.jf_codec.specs.declared.format.Format.{Format}
 use Rattle.jf_codec.specs.declared.format.Format.TheVariants as format
-use Rattle.jf_payload.specs.declared.records.Commit.{Commit}
 use Rattle.jf_payload.specs.declared.records.Record.{Record}
 use Rattle.jf_payload.specs.declared.records.Record.TheVariants as «record»
 use Rattle.jf_payload.specs.Spelling.{kind_of, commit_bytes, record_bytes}

@@ -1,5 +1,5 @@
 -- A record that can be spelled in format 2 can be written in format 1.
-use Rattle.std.proofs.Common.{◌≡◌, ℕ, ◌+◌, ◌^◌, ◌<◌, ◌≤◌, ◌&&◌, ◌==◌, IsTrue, List, [], ◌∷◌, map, length, refl, sym, ap, ap₂, subst, ◌∙◌}
+use Rattle.std.proofs.Common.{◌≡◌, ℕ, ◌+◌, ◌^◌, ◌<◌, ◌≤◌, ◌&&◌, ◌==◌, List, [], ◌∷◌, map, length, refl, sym, ap, ap₂, subst, ◌∙◌}
 use Rattle.std.specs.List.{AllByRecursion}
 use Rattle.std.proofs.lemmas.List.{length-map}
 use Rattle.jf_path.specs.Names.{IsName, rise}
@@ -13,10 +13,9 @@ use Rattle.jf_codec.specs.Counted.{uncounted_child, in_format}
 use Rattle.jf_codec.specs.declared.format.Format.{Format}
 use Rattle.jf_codec.specs.declared.format.Format.TheVariants as format
 use Rattle.jf_payload.specs.declared.records.Commit.{Commit}
-use Rattle.jf_payload.specs.declared.records.Record.{Record}
 use Rattle.jf_payload.specs.declared.records.Record.TheVariants as «record»
-use Rattle.jf_payload.specs.Spelling.{follow, IsCommit, IsCheckpoint, IsGroup, IsRecord}
-use Rattle.jf_payload.specs.Counted.{commit_in, nodes_in, record_in}
+use Rattle.jf_payload.specs.Spelling.{follow, IsCommit}
+use Rattle.jf_payload.specs.Counted.{commit_in, nodes_in}
 use Rattle.jf_payload.specs.Laws.{WrittenInBoth}
 
 -- ---- nodes
