@@ -11,6 +11,16 @@ pub record IsPart {X : Type 0} (d : ℕ) (es : List (List ℕ × X)) : Type 0 wh
   pub path : ℕ → Bool
   pub agree : AllByRecursion (λ e. (i : ℕ) → i < d → bit e.0 i ≡ path i) es
 
+-- the same under a path that is named: their keys have its first d bits
+pub record IsUnder {X : Type 0} (d : ℕ) (path : ℕ → Bool) (es : List (List ℕ × X)) : Type 0 where
+  pub sorted : T (is_sorted key_cmp es)
+  pub keys : AllByRecursion (λ e. IsKey e.0) es
+  pub agree : AllByRecursion (λ e. (i : ℕ) → i < d → bit e.0 i ≡ path i) es
+
+-- each key has a bit
+abbrev pub HaveBit : {X : Type 0} → ℕ → Bool → List (List ℕ × X) → Type 0
+HaveBit d b es = AllByRecursion (λ e. bit e.0 d ≡ b) es
+
 -- p entries with bit 0, and then one with bit 1, if any
 pub record IsFirstOne {X : Type 0} (d p : ℕ) (es : List (List ℕ × X)) : Type 0 where
   pub within : p ≤ length es

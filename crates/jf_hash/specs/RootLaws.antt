@@ -34,11 +34,13 @@ pub root-part_root : (m : Map) → root m ≡ part_root 0 (entries m)
 unfolding root part_root
 root-part_root m = refl
 
-length-leaves : (es : List (List ℕ × List ℕ)) → length (map leaf_of es) ≡ length es
+-- leaves stand for entries one by one
+pub length-leaves : (es : List (List ℕ × List ℕ)) → length (map leaf_of es) ≡ length es
 length-leaves [] = refl
 length-leaves (e ∷ es) = ap suc (length-leaves es)
 
-filter-leaves : (p : List ℕ → Bool) (es : List (List ℕ × List ℕ)) → filter (λ e. p e.0) (map leaf_of es) ≡ map leaf_of (filter (λ e. p e.0) es)
+-- and are kept by a test on keys as these are
+pub filter-leaves : (p : List ℕ → Bool) (es : List (List ℕ × List ℕ)) → filter (λ e. p e.0) (map leaf_of es) ≡ map leaf_of (filter (λ e. p e.0) es)
 filter-leaves p [] = refl
 filter-leaves p (e ∷ es) =
     elim (p e.0) as (λ b. cond b (leaf_of e ∷ filter (λ e. p e.0) (map leaf_of es)) (filter (λ e. p e.0) (map leaf_of es)) ≡ map leaf_of (cond b (e ∷ filter (λ e. p e.0) es) (filter (λ e. p e.0) es))) [

@@ -22,7 +22,7 @@ digit_small true = omega arith
 digit_small false = omega arith
 
 -- the bit of weight 2 ^ l of nibble d
-weight : (key : List ℕ) (d l j : ℕ) → l < 4 → j + l ≡ 4 * d + 3 → nibble key d / 2 ^ l % 2 ≡ digit (bit key j)
+pub weight : (key : List ℕ) (d l j : ℕ) → l < 4 → j + l ≡ 4 * d + 3 → nibble key d / 2 ^ l % 2 ≡ digit (bit key j)
 unfolding nibble
 weight key d l j small at = at_weight l small at
   where

@@ -1,5 +1,5 @@
 -- What holds of each element of a list, and of another made of it.
-use Rattle.std.proofs.Common.{zero, suc, Bool, true, false, cond, List, [], ◌∷◌, ◌++◌, filter, arith}
+use Rattle.std.proofs.Common.{zero, suc, List, [], ◌∷◌, ◌++◌, arith}
 use Rattle.std.specs.List.{All, AllByRecursion}
 
 module _ {X : Type 0} where
@@ -12,12 +12,6 @@ module _ {X : Type 0} where
   pub All-weaker : (P Q : X → Type 0) → ((x : X) → P x → Q x) → (xs : List X) → AllByRecursion P xs → AllByRecursion Q xs
   All-weaker P Q h [] a = tt
   All-weaker P Q h (x ∷ xs) a = (h x a.0, All-weaker P Q h xs a.1)
-
-  -- of those that a filter keeps
-  pub All-filter : (P : X → Type 0) (test : X → Bool) (xs : List X) → AllByRecursion P xs → AllByRecursion P (filter test xs)
-  All-filter P test [] h = tt
-  All-filter P test (x ∷ xs) h =
-      elim (test x) as (λ b. AllByRecursion P (cond b (x ∷ filter test xs) (filter test xs))) [ true ↦ (h.0, All-filter P test xs h.1) | false ↦ All-filter P test xs h.1 ]
 
   -- the same place by place
   pub All-by_place : (P : X → Type 0) (xs : List X) → AllByRecursion P xs → All P xs

@@ -4,13 +4,13 @@ use Rattle.std.proofs.Math.Nat.{mul-le-mul_left}
 use Rattle.std.proofs.lemmas.Bool.{cases_lt}
 use Rattle.jf_hash.specs.Maps.{Batch}
 use Rattle.jf_hash.specs.Slots.{Part, with_nibble}
-use Rattle.jf_model.specs.Changes.{applied}
+use Rattle.jf_model.specs.Changes.{applied, applied-none}
 use Rattle.jf_model.specs.Nodes.{Path}
 use Rattle.jf_landing.specs.Parts.{IsPart, from_nibble, stepped}
 use Rattle.jf_landing.specs.Kids.{kid}
 use Rattle.jf_landing.specs.Walk.{differs, each_from, listed}
 use Rattle.jf_landing.specs.PartLaws.{from_nibble-split, from_nibble-zero, from_nibble-past, IsPart-with_nibble, deeper}
-use Rattle.jf_landing.specs.PartChanges.{with_nibble-applied, IsPart-applied, applied-none, length-applied}
+use Rattle.jf_landing.specs.PartChanges.{with_nibble-applied, IsPart-applied, length-applied}
 use Rattle.jf_landing.specs.KidLaws.{kid-few, kid-many}
 use Rattle.jf_landing.specs.WalkLaws.{listed-same, listed-gone, each-nil}
 

@@ -4,7 +4,8 @@ use Rattle.std.proofs.lemmas.Bool.{cases_eq}
 use Rattle.std.proofs.lemmas.List.{get_or-map, length-map}
 use Rattle.std.proofs.lemmas.List.Elements.{All-contains, All-contains_itself, All-from_recursion, recursion_from_All, Contains-append_left, Contains-append_right}
 use Rattle.std.specs.List.{AllByRecursion}
-use Rattle.jf_landing.specs.AllLaws.{All-append, All-filter}
+use Rattle.jf_hash.specs.Filters.{All-filter}
+use Rattle.jf_landing.specs.AllLaws.{All-append}
 use Rattle.jf_landing.specs.Walk.{each_from}
 
 module _ {X : Type 0} where

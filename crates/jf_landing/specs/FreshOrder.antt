@@ -14,7 +14,8 @@ use Rattle.jf_hash.specs.Slots.{Part, all_nibbles, with_nibble}
 use Rattle.jf_model.specs.Nodes.{Path, has_one, has_two, is_fresh, nodes_below, nodes, fresh}
 use Rattle.jf_model.specs.NodeLaws.{IsListed, nodes_below-IsListed}
 use Rattle.jf_landing.specs.Walk.{each_from}
-use Rattle.jf_landing.specs.AllLaws.{All-append, All-filter, All-weaker}
+use Rattle.jf_hash.specs.Filters.{All-filter}
+use Rattle.jf_landing.specs.AllLaws.{All-append, All-weaker}
 use Rattle.jf_landing.specs.Both.{left_so, right_so, both_so, less_so}
 use Rattle.jf_landing.specs.NodeLists.{child_nodes}
 

@@ -9,7 +9,7 @@ use Rattle.jf_path.specs.Nibbles.{nibble}
 use Rattle.jf_path.specs.NibbleLaws.{nibble-small}
 use Rattle.jf_hash.specs.KeyOrder.{below-first, below-later, below-rest, sorted-rest}
 use Rattle.jf_hash.specs.Slots.{with_nibble}
-use Rattle.jf_landing.specs.AllLaws.{All-filter}
+use Rattle.jf_hash.specs.Filters.{All-filter}
 use Rattle.jf_landing.specs.Parts.{IsPart, from_nibble, stepped}
 use Rattle.jf_landing.specs.NibbleOrder.{rises, apart_at}
 

@@ -1,14 +1,16 @@
 -- What a batch makes of the entries of a map, and what it keeps.
-use Rattle.std.specs.Prelude.{◌≡◌, ℕ, Bool, true, false, cond, not, T, List, [], ◌∷◌, Option, Some, None, IfSome}
+use Rattle.std.specs.Prelude.{◌≡◌, ℕ, Bool, true, false, cond, not, T, List, [], ◌∷◌, filter, Option, Some, None, IfSome}
 use Rattle.std.proofs.Common.{refl, sym, ap, ◌∙◌, subst, Less, Equal, Greater}
 use Rattle.std.specs.List.{AllByRecursion}
 use Rattle.std.specs.FinMap as fin
-use Rattle.std.specs.FinMap.{entries, put, is_sorted}
-use Rattle.std.specs.FinMap.Entries.{by_order, where_key, is_sorted-put, is_sorted-where_key}
+use Rattle.std.specs.FinMap.{entries, find, put, is_sorted}
+use Rattle.std.specs.FinMap.Entries.{by_order, where_key, is_sorted-put, is_sorted-where_key, find-put, find-where_key, same_entries}
+use Rattle.std.specs.Cmp.{eq_by_cmp_equiv, Equal-is}
 use Rattle.std.specs.Cmp.Lexicographic.{nat_list_cmp_total}
 use Rattle.jf_path.specs.Keys.{key_cmp, IsKey, IsBytes}
+use Rattle.jf_hash.specs.KeyOrder.{same_key-exact}
 use Rattle.jf_hash.specs.Maps.{Map, Batch, IsMap, IsBatch, change, apply, same_key}
-use Rattle.jf_hash.specs.MapLaws.{entries-remove}
+use Rattle.jf_hash.specs.MapLaws.{entries-remove, said}
 
 abbrev pub MapEntry : Type 0
 MapEntry = List ℕ × List ℕ
@@ -22,9 +24,6 @@ changed k None es = where_key key_cmp (λ x. not (same_key k x)) es
 unfoldable pub applied : List MapEntry → Batch → List MapEntry
 applied es [] = es
 applied es (e ∷ b) = applied (changed e.0 e.1 es) b
-
-exact : fin.IsAntisymmetric key_cmp
-exact = fin.slice_cmp-IsAntisymmetric fin.nat_cmp-IsAntisymmetric
 
 entries-change : (k : List ℕ) (v : Option (List ℕ)) (m : Map) → entries (change k v m) ≡ changed k v (entries m)
 entries-change k (Some v) m = fin.entries-insert nat_list_cmp_total m k v
@@ -52,7 +51,7 @@ module _ (P : MapEntry → Type 0) where
   all-put k v (e ∷ es) p h =
       elim (key_cmp k e.0) as (λ r. key_cmp k e.0 ≡ r → AllByRecursion P (by_order r ((k, v) ∷ e ∷ es) ((e.0, v) ∷ es) (e ∷ put key_cmp k v es))) [
         | Less ↦ λ is. (p, h)
-        | Equal ↦ λ is. (subst (λ q. P (q, v)) (exact k e.0 is) p, h.1)
+        | Equal ↦ λ is. (subst (λ q. P (q, v)) (same_key-exact k e.0 is) p, h.1)
         | Greater ↦ λ is. (h.0, all-put k v es p h.1)
       ] refl
 
@@ -88,3 +87,74 @@ sound-applied es b h batch = all-applied (λ e. IsKey e.0 × IsBytes e.1) es b h
 
 pub IsMap-apply : (m : Map) (b : Batch) → IsMap m → IsBatch b → IsMap (apply m b)
 IsMap-apply m b h batch = subst (λ es. AllByRecursion (λ e. IsKey e.0 × IsBytes e.1) es) (sym (entries-apply m b)) (sound-applied (entries m) b h batch)
+
+-- ---- what holds of keys
+
+put_keys : (P : List ℕ → Type 0) (b : Batch) → AllByRecursion (λ e. P e.0) b → AllByRecursion (λ e. IfSome e.1 (λ w. P e.0)) b
+put_keys P [] h = tt
+put_keys P (e ∷ b) h = (elim e.1 as (λ v. IfSome v (λ w. P e.0)) [ None ↦ tt | Some w ↦ h.0 ], put_keys P b h.1)
+
+-- what holds of all keys of entries and of a batch holds of those of the entries after it
+pub all_keys-applied : (P : List ℕ → Type 0) (es : List MapEntry) (b : Batch) → AllByRecursion (λ e. P e.0) es → AllByRecursion (λ e. P e.0) b → AllByRecursion (λ e. P e.0) (applied es b)
+all_keys-applied P es b h k = all-applied (λ e. P e.0) es b h (put_keys P b k)
+
+-- ---- one key, and some keys
+
+turned : {A : Type 0} (b : Bool) (x y : A) → cond (not b) x y ≡ cond b y x
+turned true x y = refl
+turned false x y = refl
+
+find-changed : (q k : List ℕ) (v : Option (List ℕ)) (es : List MapEntry) → find key_cmp q (changed k v es) ≡ cond (same_key q k) v (find key_cmp q es)
+find-changed q k (Some v) es = find-put key_cmp nat_list_cmp_total q k v es
+find-changed q k None es =
+    find-where_key key_cmp (λ x. not (same_key k x)) q (λ x e. ap (λ x. not (same_key k x)) (sym (same_key-exact q x e))) es
+    ∙ turned (same_key k q) (find key_cmp q es) None ∙ ap (λ b. cond b None (find key_cmp q es)) ((eq_by_cmp_equiv nat_list_cmp_total).symm k q)
+
+-- what stands at a key after a batch is its last word
+pub find-applied : (q : List ℕ) (es : List MapEntry) (b : Batch) → find key_cmp q (applied es b) ≡ said q b (find key_cmp q es)
+unfolding applied
+find-applied q es [] = refl
+find-applied q es (e ∷ b) = find-applied q (changed e.0 e.1 es) b ∙ ap (said q b) (find-changed q e.0 e.1 es)
+
+-- no words change nothing
+pub applied-none : (es : List MapEntry) → applied es [] ≡ es
+unfolding applied
+applied-none es = refl
+
+-- a single word is a change
+pub applied-word : (es : List MapEntry) (k : List ℕ) (v : Option (List ℕ)) → applied es ((k, v) ∷ []) ≡ changed k v es
+unfolding applied
+applied-word es k v = refl
+
+-- what the words on some keys say
+said-part : (p : List ℕ → Bool) (q : List ℕ) (bs : Batch) (before : Option (List ℕ)) → said q (filter (λ e. p e.0) bs) (cond (p q) before None) ≡ cond (p q) (said q bs before) None
+said-part p q [] before = refl
+said-part p q (b ∷ bs) before =
+    elim (same_key q b.0) as (λ t. same_key q b.0 ≡ t → said q (cond (p b.0) (b ∷ filter (λ e. p e.0) bs) (filter (λ e. p e.0) bs)) (cond (p q) before None) ≡ cond (p q) (said q bs (cond t b.1 before)) None) [
+      | true ↦ λ is.
+          let same : p b.0 ≡ p q = ap p (sym (same_key-exact q b.0 ((Equal-is _).0 is))) in
+          ap (λ c. said q (cond c (b ∷ filter (λ e. p e.0) bs) (filter (λ e. p e.0) bs)) (cond (p q) before None)) same
+          ∙ (elim (p q) as (λ c. p q ≡ c → said q (cond c (b ∷ filter (λ e. p e.0) bs) (filter (λ e. p e.0) bs)) (cond c before None) ≡ cond c (said q bs b.1) None) [
+            | true ↦ λ inside. ap (λ t. said q (filter (λ e. p e.0) bs) (cond t b.1 before)) is
+                ∙ ap (λ c. said q (filter (λ e. p e.0) bs) (cond c b.1 None)) (sym inside) ∙ said-part p q bs b.1 ∙ ap (λ c. cond c (said q bs b.1) None) inside
+            | false ↦ λ outside. ap (λ c. said q (filter (λ e. p e.0) bs) (cond c b.1 None)) (sym outside) ∙ said-part p q bs b.1 ∙ ap (λ c. cond c (said q bs b.1) None) outside
+          ] refl)
+      | false ↦ λ is. elim (p b.0) as (λ c. said q (cond c (b ∷ filter (λ e. p e.0) bs) (filter (λ e. p e.0) bs)) (cond (p q) before None) ≡ cond (p q) (said q bs before) None) [
+        | true ↦ ap (λ t. said q (filter (λ e. p e.0) bs) (cond t b.1 (cond (p q) before None))) is ∙ said-part p q bs before
+        | false ↦ said-part p q bs before
+      ]
+    ] refl
+
+-- the entries on some keys, after a batch, are what the words on these keys make of those entries
+pub filter-applied : (p : List ℕ → Bool) (es : List MapEntry) (b : Batch) → T (is_sorted key_cmp es) → filter (λ e. p e.0) (applied es b) ≡ applied (filter (λ e. p e.0) es) (filter (λ e. p e.0) b)
+filter-applied p es b sorted =
+    let alike : (q x : List ℕ) → key_cmp q x ≡ Equal → p x ≡ p q = λ q x e. ap p (sym (same_key-exact q x e)) in
+    same_entries key_cmp nat_list_cmp_total same_key-exact _ _
+    (is_sorted-where_key key_cmp p (applied es b) (sorted-applied es b sorted))
+    (sorted-applied (filter (λ e. p e.0) es) (filter (λ e. p e.0) b) (is_sorted-where_key key_cmp p es sorted))
+    (λ q.
+    find-where_key key_cmp p q (alike q) (applied es b)
+    ∙ ap (λ o. cond (p q) o None) (find-applied q es b)
+    ∙ sym (said-part p q b (find key_cmp q es))
+    ∙ ap (said q (filter (λ e. p e.0) b)) (sym (find-where_key key_cmp p q (alike q) es))
+    ∙ sym (find-applied q (filter (λ e. p e.0) es) (filter (λ e. p e.0) b)))

@@ -12,3 +12,9 @@ pub mod Snapshots
 pub mod ShownLaws
 pub mod SnapshotLaws
 pub mod PlaceLaws
+pub mod InRanges
+pub mod RangeValue
+pub mod RangeFacts
+pub mod Placed
+pub mod RangeStates
+pub mod SharedPlaces

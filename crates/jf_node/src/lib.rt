@@ -1,15 +1,23 @@
-//! Shared nodes of a sixteen-way tree over the entries of a map, and the snapshot of a version: a link to the top one.
+//! Shared nodes of a sixteen-way tree over the entries of a map, the nodes of the binary tree as ranges of their places, and
+//! the snapshot of a version: a link to the top one.
 #![tactic(auto)]
 
 mod entry;
+mod found;
 mod link;
 mod made;
+mod range;
 mod seen;
+mod shared;
 mod sixteen;
 mod snapshot;
+mod state;
 mod update;
 
 pub use link::{Link, Sixteen};
+pub use range::Range;
 pub use seen::Seen;
+pub use shared::SharedRange;
 pub use snapshot::Snapshot;
+pub use state::RangeState;
 pub use update::Update;

@@ -5,7 +5,6 @@
 mod checks;
 mod claim;
 mod honest;
-mod standing;
 mod way;
 
 pub use claim::verify;

@@ -6,13 +6,13 @@ use Rattle.std.specs.Option.{option_copied}
 use denote.Ref.{Bor}
 use Rattle.jf_path.specs.Nibbles.{nibble}
 use Rattle.jf_hash.specs.Slots.{Part, with_nibble}
+use Rattle.jf_hash.specs.Filters.{All-filter}
 use Rattle.jf_node.specs.LinkValue.{LinkValue, version_at}
 use Rattle.jf_node.specs.LinkFacts.{BeginAlike}
 use Rattle.jf_node.specs.Children.{content, joined, HaveNibble, FitsAt, FitFrom, leaf_value, inner_value, moved_value}
 use Rattle.jf_node.specs.ChildLaws.{FitFrom-set}
 use Rattle.jf_node.specs.MarkLaws.{version-below}
 use Rattle.jf_landing.specs.Parts.{IsPart, IsPieceEnd, stepped, from_nibble}
-use Rattle.jf_landing.specs.AllLaws.{All-filter}
 use Rattle.jf_landing.specs.PartLaws.{IsPart-with_nibble, from_nibble-zero}
 use Rattle.jf_landing.specs.PieceEnds.{cut_piece}
 use Rattle.jf_landing.specs.Unions as union

@@ -7,16 +7,16 @@ use Rattle.std.specs.Bool.{beq}
 use Rattle.jf_path.specs.Nibbles.{nibble}
 use Rattle.jf_hash.specs.Maps.{Batch}
 use Rattle.jf_hash.specs.Slots.{Part, with_nibble}
-use Rattle.jf_model.specs.Changes.{applied}
+use Rattle.jf_hash.specs.Filters.{All-filter}
+use Rattle.jf_model.specs.Changes.{applied, applied-none}
 use Rattle.jf_node.specs.LinkValue.{LinkValue, version_at, mark_at}
 use Rattle.jf_node.specs.Children.{content, joined, FitsAt, FitFrom, SameElsewhere}
 use Rattle.jf_node.specs.ChildLaws.{FitFrom-set, FitFrom-at, with_nibble-joined}
 use Rattle.jf_node.specs.MarkLaws.{version-below}
 use Rattle.jf_node.specs.Shown.{ShowsInner}
 use Rattle.jf_landing.specs.Parts.{IsPart, IsPieceEnd, stepped, from_nibble}
-use Rattle.jf_landing.specs.AllLaws.{All-filter}
 use Rattle.jf_landing.specs.PartLaws.{IsPart-with_nibble, from_nibble-zero, with_nibble-past}
-use Rattle.jf_landing.specs.PartChanges.{with_nibble-applied, IsPart-applied, applied-none}
+use Rattle.jf_landing.specs.PartChanges.{with_nibble-applied, IsPart-applied}
 use Rattle.jf_landing.specs.PieceEnds.{cut_piece}
 use Rattle.jf_landing.specs.VersionLaws.{same_versioned, built_versioned, topped_versioned}
 use Rattle.jf_landing.specs.Versions.{AllVersioned}

@@ -1,0 +1,330 @@
+// Nodes of the binary tree, seen inside stored nodes.
+ghost use Rattle.std.specs.Prelude.{◌≡◌, ℕ, ◌+◌, ◌-◌, ◌*◌, ◌%◌, ◌^◌, ◌<◌, ◌≤◌, [], length, cond, IfOk};
+ghost use Rattle.std.specs.Option.{option_copied};
+ghost use Rattle.std.specs.FinMap.{find};
+ghost use Rattle.jf_path.specs.Keys.{key_cmp};
+ghost use Rattle.jf_hash.specs.Roots.{part_root, zeros, ones};
+ghost use Rattle.jf_hash.specs.Ranges.{in_range, lies_in};
+ghost use Rattle.jf_node.specs.Placed.{ArePlaces};
+ghost use Rattle.jf_node.specs.RangeFacts.{IsRangeValue};
+ghost use Rattle.jf_node.specs.RangeStates.{IsState};
+ghost use Rattle.jf_node.specs.SharedPlaces.{IsSharedAs};
+
+use crate::found::{Found, child_at};
+use crate::link::Link;
+use crate::seen::Seen;
+use crate::shared::{SharedPlace, SharedRange};
+use crate::state::RangeState;
+use jf_hash::Hash;
+use jf_path::{Key, Memory, bit, nibble};
+use std::marker::Model;
+
+// Where the entries of a range stand: nowhere, in a leaf, or, two or more, at 2^`level` places of an inner node from
+// place `start` on.
+#[derive(Clone, Copy)]
+pub(crate) enum Place<'a> {
+    Nowhere,
+    Leaf(&'a Link),
+    Places {
+        link: &'a Link,
+        start: usize,
+        level: usize,
+    },
+}
+
+impl<'a> Place<'a> {
+    // The same place, kept.
+    fn share(self) -> Result<SharedPlace, Memory>
+        ensures { IfOk result (λ p. IsSharedAs p self.entry) }
+    {
+        match self {
+            Place::Nowhere => Ok(SharedPlace::Nowhere),
+            Place::Leaf(link) => {
+                let link = link.share()?;
+                Ok(SharedPlace::Leaf(link))
+            }
+            Place::Places { link, start, level } => {
+                let link = link.share()?;
+                Ok(SharedPlace::Places { link, start, level })
+            }
+        }
+    }
+}
+
+/// A node of the binary tree, seen inside a stored node: the entries whose keys begin with some bits. A stored inner node
+/// has fifteen of them, one for each range of two places or more, and a place is the node of the child there.
+#[derive(Drop)]
+pub struct Range<'a> {
+    pub(crate) depth: u64,
+    pub(crate) place: Place<'a>,
+}
+
+impl<'a> Model for Range<'a> {
+    ghost use Rattle.jf_node.specs.RangeValue.{RangeValue};
+
+    ghost Value = { RangeValue };
+
+    ghost use Rattle.jf_node.specs.Placed.{range_value, IsPlaced};
+
+    ghost view = { λ r. range_value r.depth r.place };
+
+    ghost invariant = { λ r. IsPlaced r.depth r.place };
+}
+
+// How many places a range has.
+fn width(level: usize) -> usize
+    requires { level ≤ 4 }
+    ensures { result ≡ 2 ^ level }
+{
+    1 << level
+}
+
+// Whether a place lies in a range.
+fn lies_in(start: usize, width: usize, place: usize) -> bool
+    requires { start + width ≤ 16 }
+    ensures { result ≡ lies_in start width place }
+{
+    start <= place && place < start + width
+}
+
+// A bit of the key of a leaf, by which its entry is in one half.
+fn leaf_bit(link: &Link, depth: u64) -> bool
+    requires one { length link.now.entries ≡ 1 }
+    requires depth { depth < 256 }
+    ensures zeros { zeros depth link.now.entries ≡ cond result [] link.now.entries }
+    ensures ones { ones depth link.now.entries ≡ cond result link.now.entries [] }
+{
+    match link.view() {
+        Seen::Leaf { key, .. } => bit(key, depth as usize),
+        Seen::Inner { .. } => unreachable!(),
+    }
+}
+
+impl<'a> Range<'a> {
+    /// The node of no entry.
+    pub fn empty(depth: u64) -> Range<'a>
+        requires { depth ≤ 256 }
+        ensures { result ≡ record { depth = depth; entries = [] } }
+    {
+        Range {
+            depth,
+            place: Place::Nowhere,
+        }
+    }
+
+    // The node of the entry of a leaf.
+    fn leaf(depth: u64, link: &'a Link) -> Range<'a>
+        requires one { length link.now.entries ≡ 1 }
+        requires depth { depth ≤ 256 }
+        ensures { result ≡ record { depth = depth; entries = link.now.entries } }
+    {
+        Range {
+            depth,
+            place: Place::Leaf(link),
+        }
+    }
+
+    // The node of the entries that stand at 2^`level` places of an inner node, two entries or more.
+    fn places(depth: u64, link: &'a Link, start: usize, level: usize) -> Range<'a>
+        requires { ArePlaces depth link.now start level }
+        ensures { result ≡ record { depth = depth; entries = in_range link.now.depth start (2 ^ level) link.now.entries } }
+    {
+        Range {
+            depth,
+            place: Place::Places { link, start, level },
+        }
+    }
+
+    /// The node of a stored node, in whose nibbles its keys agree.
+    pub fn of(link: &'a Link) -> Range<'a>
+        ensures { result ≡ record { depth = 4 * link.now.depth; entries = link.now.entries } }
+    {
+        link.know();
+        let depth = 4 * link.depth();
+        if link.count() == 1 {
+            Range::leaf(depth, link)
+        } else {
+            Range::places(depth, link, 0, 4)
+        }
+    }
+
+    // The node of the entries that stand at 2^`level` places of an inner node, from place `start` on.
+    fn among(link: &'a Link, start: usize, level: usize) -> Range<'a>
+        requires inner { 2 ≤ length link.now.entries }
+        requires level { level ≤ 4 }
+        requires aligned { start % 2 ^ level ≡ 0 }
+        requires within { start < 16 }
+        ensures { result ≡ record { depth = 4 * link.now.depth + (4 - level); entries = in_range link.now.depth start (2 ^ level) link.now.entries } }
+    {
+        link.know();
+        match link.view() {
+            Seen::Leaf { .. } => unreachable!(),
+            Seen::Inner { children } => {
+                let depth = 4 * link.depth() + (4 - level as u64);
+                if level == 0 {
+                    match child_at(children, start) {
+                        None => Range::empty(depth),
+                        Some(child) => Range::of(child),
+                    }
+                } else {
+                    match Found::at(children, start, width(level)) {
+                        Found::Nothing => Range::empty(depth),
+                        Found::One(child) => {
+                            if child.count() == 1 {
+                                Range::leaf(depth, child)
+                            } else {
+                                Range::places(depth, link, start, level)
+                            }
+                        }
+                        Found::More => Range::places(depth, link, start, level),
+                    }
+                }
+            }
+        }
+    }
+
+    /// What holds of each range.
+    pub fn know(&self)
+        ensures { IsRangeValue self.now }
+    {
+        match self.place {
+            Place::Nowhere => {}
+            Place::Leaf(link) => link.know(),
+            Place::Places { link, .. } => link.know(),
+        }
+    }
+
+    /// In how many bits the keys agree.
+    pub fn depth(&self) -> u64
+        ensures { result ≡ self.now.depth }
+    {
+        self.depth
+    }
+
+    /// What it holds.
+    pub fn state(&self) -> RangeState<'a>
+        ensures entries { IsState self.now.entries result }
+        ensures deep { 2 ≤ length self.now.entries → self.now.depth < 256 }
+    {
+        match self.place {
+            Place::Nowhere => RangeState::Empty,
+            Place::Leaf(link) => match link.view() {
+                Seen::Leaf {
+                    key,
+                    value,
+                    value_hash,
+                } => RangeState::Leaf {
+                    key,
+                    value,
+                    value_hash,
+                },
+                Seen::Inner { .. } => unreachable!(),
+            },
+            Place::Places { .. } => RangeState::More,
+        }
+    }
+
+    /// Its hash: nothing is hashed.
+    pub fn hash(&self) -> Hash
+        ensures { result ≡ part_root self.now.depth self.now.entries }
+    {
+        match self.place {
+            Place::Nowhere => jf_hash::empty(),
+            Place::Leaf(link) => link.hash(),
+            Place::Places { link, start, level } => link.sibling(start, width(level)),
+        }
+    }
+
+    /// Its half of the entries whose next bit is 0.
+    pub fn zeros(&self) -> Range<'a>
+        requires { self.now.depth < 256 }
+        ensures { result ≡ record { depth = self.now.depth + 1; entries = zeros self.now.depth self.now.entries } }
+    {
+        match self.place {
+            Place::Nowhere => Range::empty(self.depth + 1),
+            Place::Leaf(link) => {
+                if leaf_bit(link, self.depth) {
+                    Range::empty(self.depth + 1)
+                } else {
+                    Range::leaf(self.depth + 1, link)
+                }
+            }
+            Place::Places { link, start, level } => Range::among(link, start, level - 1),
+        }
+    }
+
+    /// Its half of the entries whose next bit is 1.
+    pub fn ones(&self) -> Range<'a>
+        requires { self.now.depth < 256 }
+        ensures { result ≡ record { depth = self.now.depth + 1; entries = ones self.now.depth self.now.entries } }
+    {
+        match self.place {
+            Place::Nowhere => Range::empty(self.depth + 1),
+            Place::Leaf(link) => {
+                if leaf_bit(link, self.depth) {
+                    Range::leaf(self.depth + 1, link)
+                } else {
+                    Range::empty(self.depth + 1)
+                }
+            }
+            Place::Places { link, start, level } => {
+                Range::among(link, start + width(level - 1), level - 1)
+            }
+        }
+    }
+
+    /// Both halves, that of the entries whose next bit is 0 first.
+    pub fn halves(&self) -> (Range<'a>, Range<'a>)
+        requires { self.now.depth < 256 }
+        ensures zeros { result.0 ≡ record { depth = self.now.depth + 1; entries = zeros self.now.depth self.now.entries } }
+        ensures ones { result.1 ≡ record { depth = self.now.depth + 1; entries = ones self.now.depth self.now.entries } }
+    {
+        (self.zeros(), self.ones())
+    }
+
+    /// The number of its entries.
+    pub fn count(&self) -> u64
+        ensures { result ≡ length self.now.entries }
+    {
+        match self.place {
+            Place::Nowhere => 0,
+            Place::Leaf(_) => 1,
+            Place::Places { link, start, level } => match link.view() {
+                Seen::Leaf { .. } => unreachable!(),
+                Seen::Inner { children } => match children.count_among(start, width(level)) {
+                    Some(count) => count,
+                    None => unreachable!(),
+                },
+            },
+        }
+    }
+
+    /// The same node, kept with the stored node in which it is seen.
+    pub fn share(&self) -> Result<SharedRange, Memory>
+        ensures { IfOk result (λ x. x ≡ self.now) }
+    {
+        let place = self.place.share()?;
+        Ok(SharedRange {
+            depth: self.depth,
+            place,
+        })
+    }
+
+    /// The value of a key, or `None` where no entry has it.
+    pub fn get(&self, key: &Key) -> Option<&'a [u8]>
+        ensures { option_copied result ≡ find key_cmp key.now self.now.entries }
+    {
+        match self.place {
+            Place::Nowhere => None,
+            Place::Leaf(link) => link.get(key),
+            Place::Places { link, start, level } => {
+                let n = nibble(key, link.depth() as usize).get() as usize;
+                if lies_in(start, width(level), n) {
+                    link.get(key)
+                } else {
+                    None
+                }
+            }
+        }
+    }
+}

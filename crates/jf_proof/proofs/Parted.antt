@@ -1,0 +1,56 @@
+-- The honest proof in a node of the binary tree, by that in its half.
+use Rattle.std.specs.Prelude.{◌≡◌, ◌<◌, ◌≤◌, ◌+◌, ℕ, Bool, true, false, not, cond, List, [], ◌∷◌, map, length, Some, None, Result, Ok, Err, IfOk}
+use Rattle.std.proofs.Common.{arith, refl, sym, ap, ap₂, ◌∙◌}
+use Rattle.std.specs.FinMap.{entries}
+use Rattle.jf_path.specs.Keys.{bit}
+use Rattle.jf_hash.specs.Hashes.{V}
+use Rattle.jf_hash.specs.Maps.{Map}
+use Rattle.jf_hash.specs.Roots.{leaf_of, zeros, ones, leaves_root, part_root}
+use Rattle.jf_hash.specs.RootLaws.{length-leaves, filter-leaves}
+use Rattle.jf_hash.specs.Slots.{Part}
+use Rattle.jf_evidence.specs.Proofs.{alone, under_root, honest, honest_from}
+use Rattle.jf_evidence.specs.ProofLaws.{honest_from-none, honest_from-one, honest_from-split}
+use Rattle.jf_evidence.specs.declared.proof.Proof.{Proof}
+use Rattle.jf_node.specs.RangeValue.{RangeValue}
+
+pub proof_none : (d : ℕ) (key : List ℕ) (es : Part) → es ≡ [] → alone None ≡ honest_from d key (map leaf_of es)
+proof_none d key es none = sym (ap (λ fs. honest_from d key (map leaf_of fs)) none ∙ honest_from-none d key)
+
+pub proof_one : (d : ℕ) (key own value hash : List ℕ) (es : Part) → es ≡ (own, value) ∷ [] → hash ≡ V value → alone (Some (own, hash)) ≡ honest_from d key (map leaf_of es)
+proof_one d key own value hash es one hashed = ap (λ h. alone (Some (own, h))) hashed ∙ sym (ap (λ fs. honest_from d key (map leaf_of fs)) one ∙ honest_from-one d key (own, V value))
+
+root_of : (d : ℕ) (es : Part) → leaves_root d (map leaf_of es) ≡ part_root d es
+unfolding part_root
+root_of d es = refl
+
+split_at : (d : ℕ) (key : List ℕ) (es : Part) (b : Bool) → bit key d ≡ b → d < 256 → 2 ≤ length es
+    → honest_from d key (map leaf_of es) ≡ under_root (honest_from (d + 1) key (map leaf_of (cond b (ones d es) (zeros d es)))) (part_root (d + 1) (cond b (zeros d es) (ones d es)))
+split_at d key es true is deep two =
+    honest_from-split d key (map leaf_of es) deep (omega (arith, length-leaves es))
+    ∙ ap₂ (λ n f. under_root (honest_from (d + 1) key n) (leaves_root (d + 1) f))
+    (ap (λ b. cond b (ones d (map leaf_of es)) (zeros d (map leaf_of es))) is ∙ filter-leaves (λ k. bit k d) es)
+    (ap (λ b. cond b (zeros d (map leaf_of es)) (ones d (map leaf_of es))) is ∙ filter-leaves (λ k. not (bit k d)) es)
+    ∙ ap (under_root (honest_from (d + 1) key (map leaf_of (ones d es)))) (root_of (d + 1) (zeros d es))
+split_at d key es false is deep two =
+    honest_from-split d key (map leaf_of es) deep (omega (arith, length-leaves es))
+    ∙ ap₂ (λ n f. under_root (honest_from (d + 1) key n) (leaves_root (d + 1) f))
+    (ap (λ b. cond b (ones d (map leaf_of es)) (zeros d (map leaf_of es))) is ∙ filter-leaves (λ k. not (bit k d)) es)
+    (ap (λ b. cond b (zeros d (map leaf_of es)) (ones d (map leaf_of es))) is ∙ filter-leaves (λ k. bit k d) es)
+    ∙ ap (under_root (honest_from (d + 1) key (map leaf_of (zeros d es)))) (root_of (d + 1) (ones d es))
+
+-- by the half that has the key, and the hash of the other
+pub proof_more : (d : ℕ) (key hash : List ℕ) (es : Part) (b : Bool) (proof : Proof) (half other : RangeValue) → bit key d ≡ b → d < 256 → 2 ≤ length es
+    → half ≡ record { depth = d + 1; entries = cond b (ones d es) (zeros d es) } → other ≡ record { depth = d + 1; entries = cond b (zeros d es) (ones d es) }
+    → proof ≡ honest_from half.depth key (map leaf_of half.entries) → hash ≡ part_root other.depth other.entries → under_root proof hash ≡ honest_from d key (map leaf_of es)
+proof_more d key hash es b proof half other is deep two h o p r =
+    ap₂ (λ q s. under_root q s) (p ∙ ap (λ v. honest_from v.depth key (map leaf_of v.entries)) h) (r ∙ ap (λ v. part_root v.depth v.entries) o)
+    ∙ sym (split_at d key es b is deep two)
+
+pub honest-entries : (m : Map) (key : List ℕ) (v : RangeValue) → v ≡ record { depth = 0; entries = entries m } → honest_from v.depth key (map leaf_of v.entries) ≡ honest m key
+unfolding honest
+honest-entries m key v is = ap (λ w. honest_from w.depth key (map leaf_of w.entries)) is
+
+-- a result by another spelling of its proof
+pub ok_is : {E : Type 0} (r : Result Proof E) (p q : Proof) → p ≡ q → IfOk r (λ x. x ≡ p) → IfOk r (λ x. x ≡ q)
+ok_is (Ok x) p q is h = h ∙ is
+ok_is (Err e) p q is h = tt
