@@ -5,3 +5,4 @@ pub mod Names
 pub mod Children
 pub mod Nodes
 pub mod Spellings
+pub mod Counted

@@ -1,4 +1,5 @@
 pub mod Numbers
 pub mod Spelling
+pub mod Counted
 pub mod Reading
 pub mod Laws

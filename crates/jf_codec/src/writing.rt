@@ -4,7 +4,8 @@ ghost use Rattle.std.specs.List.{AllByRecursion};
 ghost use Rattle.jf_codec.specs.Numbers.{four_bytes};
 ghost use Rattle.jf_path.specs.Nodes.{RiseFrom};
 ghost use Rattle.jf_path.specs.declared.node.PlainNode.TheVariants as node;
-ghost use Rattle.jf_codec.specs.Spelling.{IsValid, spelling, child_bytes, count_bytes, bitmap, leaves, format_of_children, tag};
+ghost use Rattle.jf_codec.specs.Spelling.{IsNode, IsValid, spelling, node_bytes, child_bytes, count_bytes, bitmap, leaves, format_of, format_of_children, tag};
+ghost use Rattle.jf_codec.specs.Counted.{in_format};
 
 use crate::bitmaps::Bitmaps;
 use crate::fields::{put_u16, put_u32, put_u64};
@@ -14,11 +15,21 @@ use jf_path::{Bytes, Child, Key, Memory, PlainNode};
 use std::alloc::Global;
 
 // The format that a node of these children has: they have counts or not as the first of them.
-fn format_of(children: &[Child]) -> Format
+fn format_of_children(children: &[Child]) -> Format
     ensures { result ≡ format_of_children children.now }
 {
     match children {
         [first, ..] if first.count != 0 => Format::Two,
+        _ => Format::One,
+    }
+}
+
+// The format that a node has.
+fn format_of(node: &PlainNode) -> Format
+    ensures { result ≡ format_of node.now }
+{
+    match node {
+        PlainNode::Inner { children } => format_of_children(children.as_slice()),
         _ => Format::One,
     }
 }
@@ -82,12 +93,11 @@ fn put_children(out: &mut Bytes, format: Format, children: &[Child]) -> Result<(
 
 // Adds an internal node.
 #[tactic(auto, unfolding(crate::specs::Spelling::node_bytes))]
-fn put_inner(out: &mut Bytes, children: &[Child]) -> Result<(), Memory>
+fn put_inner(out: &mut Bytes, format: Format, children: &[Child]) -> Result<(), Memory>
     requires rise { RiseFrom 0 children.now }
     requires nibbles { AllByRecursion (λ c. c.nibble < 16) children.now }
-    ensures { OnOk result (out.new ≡ out.old ++ spelling (node.Inner children.now)) }
+    ensures { OnOk result (out.new ≡ out.old ++ node_bytes format (node.Inner children.now)) }
 {
-    let format = format_of(children);
     let bits = bitmaps_to(children);
     out.push(tag_of(format))?;
     put_u16(out, bits.exist)?;
@@ -96,10 +106,9 @@ fn put_inner(out: &mut Bytes, children: &[Child]) -> Result<(), Memory>
 }
 
 // Adds a leaf.
-#[tactic(auto, unfolding(crate::specs::Spelling::node_bytes))]
 fn put_leaf(out: &mut Bytes, key: &Key, value: &[u8]) -> Result<(), Memory>
     requires { length value.now ≤ 4096 }
-    ensures { OnOk result (out.new ≡ out.old ++ spelling (node.Leaf key.now value.now)) }
+    ensures { OnOk result (out.new ≡ out.old ++ 1 ∷ key.now ++ four_bytes (length value.now) ++ value.now) }
 {
     out.push(LEAF)?;
     out.append(key)?;
@@ -107,16 +116,17 @@ fn put_leaf(out: &mut Bytes, key: &Key, value: &[u8]) -> Result<(), Memory>
     out.append(value)
 }
 
-// Adds a node.
+/// Adds the one spelling that a node has in a format; format 1 leaves out its counts. What the format keeps of the node has
+/// to have a spelling. A refusal may leave a front of it in `out`.
 #[tactic(auto, unfolding(crate::specs::Spelling::node_bytes))]
-fn put_node(out: &mut Bytes, node: &PlainNode) -> Result<(), Memory>
-    requires { IsValid node.now }
-    ensures { OnOk result (out.new ≡ out.old ++ spelling node.now) }
+pub fn put_node(out: &mut Bytes, format: Format, node: &PlainNode) -> Result<(), Memory>
+    requires { IsNode format (in_format format node.now) }
+    ensures { OnOk result (out.new ≡ out.old ++ node_bytes format node.now) }
 {
     match node {
         PlainNode::Null => out.push(NULL),
         PlainNode::Leaf { key, value } => put_leaf(out, key, value.as_slice()),
-        PlainNode::Inner { children } => put_inner(out, children.as_slice()),
+        PlainNode::Inner { children } => put_inner(out, format, children.as_slice()),
     }
 }
 
@@ -129,6 +139,6 @@ pub fn encode_node(alloc: Global, node: &PlainNode, out: &mut Bytes) -> Result<(
     ensures err { OnErr result (out.new ≡ out.old) }
 {
     let mut text = Bytes::new(alloc);
-    put_node(&mut text, node)?;
+    put_node(&mut text, format_of(node), node)?;
     out.append(text.as_slice())
 }

@@ -1,11 +1,9 @@
-// Laws on claims, for proofs of code that stands on them. These functions do nothing when they run.
+// Laws on claims, chunks and maps, for proofs of code that stands on them. These functions do nothing when they run.
 ghost use Rattle.jf_evidence.specs.Proofs.{IsLeaf};
-ghost use Rattle.jf_evidence.specs.Laws.{HonestClaimsAreAccepted, ContradictingClaimsCollide, WrongClaimsCollide};
-ghost use Rattle.jf_path.specs.Keys.{IsKey};
-ghost use Rattle.std.specs.Prelude.{ℕ, ◌<◌, slice_index};
+ghost use Rattle.jf_evidence.specs.Laws.{HonestClaimsAreAccepted, ContradictingClaimsCollide, WrongClaimsCollide, HonestChunksAreAccepted, WrongChunksCollide, DifferingEntriesCollide, DifferingMapsCollide};
 
 use crate::proof::Proof;
-use jf_path::Key;
+use jf_path::know_key;
 
 /// What a map says of a key is accepted with the honest proof.
 pub fn honest_claims_are_accepted()
@@ -22,6 +20,26 @@ pub fn wrong_claims_collide()
     ensures { WrongClaimsCollide }
 {}
 
+/// The honest chunk from a place of a map is accepted after the entries before it.
+pub fn honest_chunks_are_accepted()
+    ensures { HonestChunksAreAccepted }
+{}
+
+/// An accepted chunk that doesn't go on with the first entries of the map gives a collision with what its root hashes.
+pub fn wrong_chunks_collide()
+    ensures { WrongChunksCollide }
+{}
+
+/// Two lists of entries that have one root and differ give a collision.
+pub fn differing_entries_collide()
+    ensures { DifferingEntriesCollide }
+{}
+
+/// Two maps that have one root and differ give a collision.
+pub fn differing_maps_collide()
+    ensures { DifferingMapsCollide }
+{}
+
 /// The leaf of a proof has a key of 32 bytes.
 pub fn know_leaf(proof: &Proof)
     ensures { IsLeaf proof.now.leaf }
@@ -29,19 +47,4 @@ pub fn know_leaf(proof: &Proof)
     if let Some(leaf) = &proof.leaf {
         know_key(&leaf.0);
     }
-}
-
-// What the type of a key says of it.
-fn know_key(key: &Key)
-    ensures { IsKey key.now }
-{
-    know_bytes(key);
-}
-
-// What the type of bytes says of them.
-fn know_bytes(bytes: &[u8])
-    requires { (i : ℕ) → slice_index bytes.now i < 256 }
-    ensures { (i : ℕ) → slice_index bytes.now i < 256 }
-{
-    let _ = bytes;
 }

@@ -1,5 +1,5 @@
 // The root of a map by the recursion that defines it.
-ghost use Rattle.std.specs.Prelude.{◌≡◌, ℕ, ◌+◌, ◌<◌, ◌≤◌, length, T, slice_index};
+ghost use Rattle.std.specs.Prelude.{◌≡◌, ◌+◌, ◌<◌, ◌≤◌, length, T};
 ghost use Rattle.std.specs.List.{AllByRecursion};
 ghost use Rattle.std.specs.FinMap.{is_sorted};
 ghost use Rattle.jf_path.specs.Keys.{bit, key_cmp, IsKey};
@@ -7,7 +7,7 @@ ghost use Rattle.jf_hash.specs.Roots.{leaves_root};
 ghost use Rattle.jf_hash.specs.Parts.{IsPart, IsFirstOne};
 
 use crate::tagged::{Hash, empty, inner, leaf};
-use jf_path::bit;
+use jf_path::{bit, know_key};
 
 // Where the entries whose bit `depth` is 1 begin.
 fn first_one(entries: &[(Hash, Hash)], depth: usize) -> usize
@@ -37,21 +37,6 @@ fn part_root(entries: &[(Hash, Hash)], depth: usize) -> Hash
             inner(&left, &right)
         }
     }
-}
-
-// What the type of bytes says of them.
-fn know_bytes(bytes: &[u8])
-    requires { (i : ℕ) → slice_index bytes.now i < 256 }
-    ensures { (i : ℕ) → slice_index bytes.now i < 256 }
-{
-    let _ = bytes;
-}
-
-// What the type of a key says of it.
-fn know_key(key: &Hash)
-    ensures { IsKey key.now }
-{
-    know_bytes(key);
 }
 
 // What the type of entries says of them.

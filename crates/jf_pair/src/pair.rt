@@ -54,6 +54,8 @@ impl Pair {
         ensures damaged { (h : History) (side : Side) (at : ℕ) → D.history disk.old ≡ Some h → result ≡ Err (PairFault.Damaged side at) → outer_damage (reads h) ≡ Some (side, at) }
         ensures left { (h : History) → D.history disk.old ≡ Some h → (g : History) × (D.history disk.new ≡ Some g) × LeavesFiles h g }
         ensures calls { CallsOn (D.history disk.old) (D.moment disk.old) (D.faults disk.old) (D.history disk.new) (D.moment disk.new) (D.faults disk.new) (result ≡ Err PairFault.DiskFault) }
+        ensures six { OnOk result (D.moment disk.new ≡ D.moment disk.old + 6) }
+        ensures few { D.moment disk.new ≤ D.moment disk.old + 6 }
     {
         let Sides { a, b } = read_sides(alloc, disk)?;
         match judge(&a, &b)? {
@@ -80,6 +82,7 @@ impl Pair {
         ensures same { (self.new.side ≡ self.old.side) × (self.new.is_live ≡ self.old.is_live) }
         ensures failed { (self.new.failed ≡ true) ↔ IsErr result }
         ensures calls { CallsOn (D.history disk.old) (D.moment disk.old) (D.faults disk.old) (D.history disk.new) (D.moment disk.new) (D.faults disk.new) (IsErr result) }
+        ensures few { D.moment disk.new ≤ D.moment disk.old + 4 }
     {
         self.live.append(disk, frame)
     }
@@ -105,6 +108,7 @@ impl Pair {
         ensures four_or_more { OnOk result (D.moment disk.old + 4 ≤ D.moment disk.new) }
         ensures failed { (self.new.failed ≡ true) ↔ IsErr result }
         ensures calls { CallsOn (D.history disk.old) (D.moment disk.old) (D.faults disk.old) (D.history disk.new) (D.moment disk.new) (D.faults disk.new) (IsErr result) }
+        ensures few { D.moment disk.new ≤ D.moment disk.old + 10 }
     {
         write_first(disk, &mut self.other, frame)?;
         swap(&mut self.live, &mut self.other);

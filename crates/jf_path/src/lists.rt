@@ -1,5 +1,5 @@
 // Lists of hashes, and of entries.
-ghost use Rattle.std.specs.Prelude.{◌≡◌, [], ◌∷◌, ◌++◌, length, OnOk, OnErr};
+ghost use Rattle.std.specs.Prelude.{◌≡◌, [], ◌∷◌, ◌++◌, length, take, OnOk, OnErr};
 
 use crate::bytes::Bytes;
 use crate::key::Key;
@@ -100,5 +100,12 @@ impl Pairs {
     {
         self.pairs.push(pair)?;
         Ok(())
+    }
+
+    /// Drops the entries after the first `len`.
+    pub fn truncate(&mut self, len: u64)
+        ensures { self.new ≡ take len self.old }
+    {
+        self.pairs.truncate(len as usize);
     }
 }

@@ -45,3 +45,4 @@ pub mod Groups
 pub mod Valid
 pub mod ValidNodes
 pub mod KeptCount
+pub mod SpelledRead

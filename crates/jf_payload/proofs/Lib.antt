@@ -1,0 +1,7 @@
+pub mod Spells
+pub mod Loop
+pub mod Rising
+pub mod FieldSpells
+pub mod RecordSpells
+pub mod WholeRecords
+pub mod Kept
