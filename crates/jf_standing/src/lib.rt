@@ -5,6 +5,7 @@
 mod item_laws;
 mod laws;
 mod order_laws;
+mod spelling_laws;
 
 pub use item_laws::{
     begin_is_gives, items_are_judged, items_fail_once, items_lead_to_one, items_lead_to_sound,
@@ -20,3 +21,4 @@ pub use order_laws::{
     built_is_sound, checkpoints_are_decided, checkpoints_give, imports_are_sound, new_is_sound,
     nodes_are_kept, nodes_are_valid, one_standing, order_is_free,
 };
+pub use spelling_laws::{checkpoints_are_spelled, landings_are_kept, landings_are_spelled};
