@@ -46,3 +46,4 @@ pub mod Valid
 pub mod ValidNodes
 pub mod KeptCount
 pub mod SpelledRead
+pub mod Formats
