@@ -1,5 +1,5 @@
 -- What a format keeps of a standing has the same maps and versions.
-use Rattle.std.proofs.Common.{◌≡◌, ℕ, ◌+◌, ◌-◌, ◌<◌, ◌≤◌, ◌^◌, true, false, cond, nat_lt, List, [], ◌∷◌, ◌++◌, map, filter, length, refl, sym, ap, ap₂, ◌∙◌, subst}
+use Rattle.std.proofs.Common.{◌≡◌, ℕ, ◌+◌, ◌-◌, ◌≤◌, ◌^◌, true, false, cond, nat_lt, List, [], ◌∷◌, ◌++◌, map, filter, length, refl, sym, ap, ap₂, ◌∙◌, subst}
 use Rattle.std.proofs.lemmas.List.{map-append}
 use Rattle.std.specs.Prelude.{slice_index_or, IsTrue}
 use Rattle.std.specs.List.{cons_option, AllByRecursion, IsDistinct, count_by}
@@ -15,14 +15,14 @@ use Rattle.jf_codec.specs.Counted.{in_format}
 use Rattle.jf_codec.specs.declared.format.Format.{Format}
 use Rattle.jf_codec.specs.declared.format.Format.TheVariants as format
 use Rattle.jf_landing.specs.Filters.{filter-map}
-use Rattle.jf_payload.specs.Counted.{commit_in, nodes_in}
+use Rattle.jf_payload.specs.Counted.{commit_in}
 use Rattle.jf_payload.specs.declared.records.Commit.{Commit}
 use Rattle.jf_standing.specs.Named.{Named, is_alive, is_written, is_stale, is_at, alive_at, written_at, stale_at, version_at, leaf_entry, leaf_entries, map_at}
 use Rattle.jf_standing.specs.Order.{in_order}
-use Rattle.jf_standing.specs.Standing.{Standing, down_from, versions_of, with_nodes, is_named, marked, unmarked, with_commit, with_floor}
-use Rattle.jf_standing.specs.Sound.{is_counted, StandAt, IsNodeOf, IsVersion, IsStep, IsSound}
-use Rattle.jf_standing.specs.Landing.{head_map, version_after, written_node, name_at_head, stale_names, landing_of}
-use Rattle.jf_standing.specs.FormatLaws.{standing_in, FormatsAreSound, FormatsLand, FormatsFollow}
+use Rattle.jf_standing.specs.Standing.{Standing, down_from, versions_of, is_named, marked, unmarked, with_commit, with_floor}
+use Rattle.jf_standing.specs.Sound.{is_counted, IsNodeOf, IsVersion, IsStep, IsSound}
+use Rattle.jf_standing.specs.Landing.{head_map, version_after, written_node, name_at_head, landing_of}
+use Rattle.jf_standing.specs.FormatLaws.{standing_in}
 use Rattle.jf_standing.proofs.Counted.{plain_node-uncounted}
 use Rattle.jf_standing.proofs.Alive.{plain_node-same}
 use Rattle.jf_standing.proofs.Counts.{count-cons}
@@ -41,10 +41,10 @@ plain_node-in format.One v d es = plain_node-uncounted v d es
 plain_node-in format.Two v d es = refl
 
 module _ (fmt : Format) where
-  abbrev kept : Named → Named
+  abbrev pub kept : Named → Named
   kept n = (n.0, in_format fmt n.1, n.2)
 
-  leaves_kept : (ns : List Named) → leaf_entries (map kept ns) ≡ leaf_entries ns
+  pub leaves_kept : (ns : List Named) → leaf_entries (map kept ns) ≡ leaf_entries ns
   leaves_kept [] = refl
   leaves_kept (n ∷ ns) = ap₂ (λ o es. cons_option o es) (leaf_same fmt n.1) (leaves_kept ns)
 

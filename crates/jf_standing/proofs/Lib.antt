@@ -47,3 +47,4 @@ pub mod ValidNodes
 pub mod KeptCount
 pub mod SpelledRead
 pub mod Formats
+pub mod WithCounts

@@ -1,5 +1,5 @@
 -- Laws on what a format keeps of a standing.
-use Rattle.std.specs.Prelude.{◌≡◌, ℕ, List}
+use Rattle.std.specs.Prelude.{◌≡◌, ℕ}
 use Rattle.jf_hash.specs.Maps.{Map}
 use Rattle.jf_codec.specs.declared.format.Format.{Format}
 use Rattle.jf_codec.specs.declared.format.Format.TheVariants as format
@@ -9,6 +9,7 @@ use Rattle.jf_standing.specs.Standing.{Standing, versions_of, with_nodes, with_c
 use Rattle.jf_standing.specs.Sound.{IsSound}
 use Rattle.jf_standing.specs.Next.{IsReadStanding}
 use Rattle.jf_standing.specs.Landing.{landing_of}
+use Rattle.jf_standing.specs.Building.{rebuilt, nodes_by_name}
 
 -- what a format keeps of a standing with counts: the first leaves these out
 abbrev pub standing_in : Format → Standing → Standing
@@ -26,3 +27,11 @@ FormatsLand = (fmt : Format) (s : Standing) (m : Map) → landing_of fmt (standi
 abbrev pub FormatsFollow : Type 0
 FormatsFollow =
     (fmt : Format) (s : Standing) (c : Commit) (floor : ℕ) → (with_commit (commit_in fmt c) (standing_in fmt s) ≡ standing_in fmt (with_commit c s)) × (with_floor floor (standing_in fmt s) ≡ standing_in fmt (with_floor floor s))
+
+-- a standing with counts: its nodes, built anew in the second format
+abbrev pub with_counts : Standing → Standing
+with_counts s = with_nodes (nodes_by_name (rebuilt format.Two s).nodes) s
+
+-- a sound standing that was read, of either format, is what the format keeps of it with counts, which is sound as well
+abbrev pub FormatsAreKept : Type 0
+FormatsAreKept = (fmt : Format) (s : Standing) → IsReadStanding s → IsSound fmt s → (standing_in fmt (with_counts s) ≡ s) × IsReadStanding (with_counts s) × IsSound format.Two (with_counts s)

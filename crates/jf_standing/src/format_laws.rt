@@ -1,5 +1,5 @@
 // Laws on what a format keeps of a standing. These functions do nothing when they run.
-ghost use Rattle.jf_standing.specs.FormatLaws.{FormatsAreSound, FormatsLand, FormatsFollow};
+ghost use Rattle.jf_standing.specs.FormatLaws.{FormatsAreSound, FormatsLand, FormatsFollow, FormatsAreKept};
 
 /// What a format keeps of a sound standing with counts is sound in that format, with the same versions.
 pub fn formats_are_sound()
@@ -14,4 +14,9 @@ pub fn formats_land()
 /// Landings and floors make the same of what a format keeps, as far as it keeps that.
 pub fn formats_follow()
     ensures { FormatsFollow }
+{}
+
+/// A sound standing of either format is what the format keeps of it with counts, which is sound as well.
+pub fn formats_are_kept()
+    ensures { FormatsAreKept }
 {}
