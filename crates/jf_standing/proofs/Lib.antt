@@ -48,3 +48,4 @@ pub mod KeptCount
 pub mod SpelledRead
 pub mod Formats
 pub mod WithCounts
+pub mod SpelledRecords

@@ -36,7 +36,7 @@ All-behind : {X : Type 0} (P : X → Type 0) (xs : List X) (x : X) → AllByRecu
 All-behind P [] x all here = (here, tt)
 All-behind P (y ∷ ys) x all here = (all.0, All-behind P ys x all.1 here)
 
-All-reverse : {X : Type 0} (P : X → Type 0) (xs : List X) → AllByRecursion P xs → AllByRecursion P (reverse xs)
+pub All-reverse : {X : Type 0} (P : X → Type 0) (xs : List X) → AllByRecursion P xs → AllByRecursion P (reverse xs)
 All-reverse P [] all = tt
 All-reverse {X} P (x ∷ xs) all = subst (λ (ys : List X). AllByRecursion P ys) (sym (reverse_onto xs x [])) (All-behind P (reverse xs) x (All-reverse P xs all.1) all.0)
 

@@ -1,0 +1,4 @@
+pub mod Chains
+pub mod Stays
+pub mod Cuts
+pub mod Tabled

@@ -1,0 +1,56 @@
+-- Which forks are in a list, and on a chain.
+use Rattle.std.proofs.Common.{◌≡◌, ◌≤◌, ℕ, Bool, true, false, cond, ◌||◌, ◌==◌, List, [], ◌∷◌, ◌++◌, refl, sym, ap, ap₂, ◌∙◌, arith, true≢false}
+use Rattle.std.proofs.lemmas.Bool.{ne_eqb}
+use Rattle.std.specs.List.{list_any}
+use Rattle.jf_model.specs.Forks.{Fork, of_parent, is_among, AreForks, chain}
+use Rattle.jf_model.specs.declared.entries.Parent.{Parent}
+use Rattle.jf_model.specs.declared.entries.Parent.TheVariants as parent
+
+pub or_false_right : (a b : Bool) → (a || b) ≡ false → b ≡ false
+or_false_right true b h = absurd (true≢false h)
+or_false_right false b h = h
+
+pub or_true : (a : Bool) → (a || true) ≡ true
+or_true true = refl
+or_true false = refl
+
+pub or_left : (a b : Bool) → b ≡ false → (a || b) ≡ true → a ≡ true
+or_left true b f h = refl
+or_left false b f h = absurd (true≢false (sym h ∙ f))
+
+-- a test on forks with one more
+pub any_last : (test : Fork → Bool) (fs : List Fork) (f : Fork) → list_any test (fs ++ f ∷ []) ≡ (list_any test fs || test f)
+any_last test [] f = elim (test f) as (λ b. (b || false) ≡ b) [ true ↦ refl | false ↦ refl ]
+any_last test (g ∷ fs) f = elim (test g) as (λ b. (b || list_any test (fs ++ f ∷ [])) ≡ ((b || list_any test fs) || test f)) [ true ↦ refl | false ↦ any_last test fs f ]
+
+-- a number at the bound or above is none of theirs
+pub none_above : (bound id : ℕ) (fs : List Fork) → AreForks bound fs → bound ≤ id → is_among id fs ≡ false
+none_above bound id [] sound le = refl
+none_above bound id (f ∷ fs) sound le =
+    let small = sound.0 in
+    ap₂ (λ a b. a || b) (ne_eqb f.id id (λ same. absurd (omega arith))) (none_above f.id id fs sound.2 (omega arith))
+
+pub below_parent : (id : ℕ) (fs : List Fork) → ((y : ℕ) → is_among id (chain fs y) ≡ true → is_among id fs ≡ true) → (p : Parent) → is_among id (of_parent [] (chain fs) p) ≡ true → is_among id fs ≡ true
+below_parent id fs older parent.Head k = absurd (true≢false (sym k))
+below_parent id fs older (parent.Fork q) k = older q k
+
+-- a chain has forks of the list alone
+pub chain-among : (id : ℕ) (fs : List Fork) (y : ℕ) → is_among id (chain fs y) ≡ true → is_among id fs ≡ true
+chain-among id [] y h = h
+chain-among id (f ∷ fs) y h =
+    elim (f.id == id) as (λ b. (f.id == id) ≡ b → (b || is_among id fs) ≡ true) [
+      | true ↦ λ is. refl
+      | false ↦ λ other. elim (f.id == y) as (λ b. is_among id (cond b (of_parent [] (chain fs) f.parent ++ f ∷ []) (chain fs y)) ≡ true → is_among id fs ≡ true) [
+        | true ↦ λ k. below_parent id fs (chain-among id fs) f.parent (or_left _ _ other (sym (any_last (λ g. g.id == id) (of_parent [] (chain fs) f.parent) f) ∙ k))
+        | false ↦ λ k. chain-among id fs y k
+      ] h
+    ] refl
+
+-- a live fork is on its own chain
+pub on_own : (id : ℕ) (fs : List Fork) → is_among id fs ≡ true → is_among id (chain fs id) ≡ true
+on_own id [] h = h
+on_own id (f ∷ fs) h =
+    elim (f.id == id) as (λ b. (f.id == id) ≡ b → (b || is_among id fs) ≡ true → is_among id (cond b (of_parent [] (chain fs) f.parent ++ f ∷ []) (chain fs id)) ≡ true) [
+      | true ↦ λ is k. any_last (λ g. g.id == id) (of_parent [] (chain fs) f.parent) f ∙ ap (λ b. is_among id (of_parent [] (chain fs) f.parent) || b) is ∙ or_true (is_among id (of_parent [] (chain fs) f.parent))
+      | false ↦ λ is k. on_own id fs k
+    ] refl h

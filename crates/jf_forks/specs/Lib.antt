@@ -1,0 +1,5 @@
+pub mod Tables
+pub mod ForkLists
+pub mod TableLaws
+pub mod Lives
+pub mod Worked

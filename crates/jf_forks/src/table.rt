@@ -1,0 +1,213 @@
+// The table of forks.
+ghost use Rattle.std.specs.Prelude.{◌≡◌, ℕ, ◌+◌, ◌^◌, ◌<◌, ◌≤◌, ◌∷◌, ◌++◌, [], length, map, IfOk, IfErr, IfSome, OnOk, OnErr, Some, None, Err};
+ghost use Rattle.std.specs.Result.{result_err};
+ghost use Rattle.jf_hash.specs.Maps.{Map, apply};
+ghost use Rattle.jf_hash.specs.Roots.{root};
+ghost use Rattle.jf_model.specs.Forks.{batches, chain, drop_count, fork_map, parent_map};
+ghost use Rattle.jf_forks.specs.Tables.{Table, StandsOver, forks_of, missing, missing_parent, making_fault, chain_fault, kept, landed, RefusedBy};
+ghost use Rattle.jf_forks.specs.declared.fault.ForkFault.TheVariants as fault;
+
+use crate::chain::{chain_keys, push_chain};
+use crate::fault::ForkFault;
+use crate::gone::{drop_from, land_from};
+use crate::live::{LiveFork, grow, is_live, push_first, tree_of};
+use jf_hash::Hash;
+use jf_model::Parent;
+use jf_node::Snapshot;
+use jf_spec::SpecTree;
+use jf_split::{Batch, BatchList};
+use std::alloc::Global;
+use std::marker::Model;
+
+// The most forks that are live.
+const MAX_LIVE: usize = 1_024;
+
+// The most keys that land together.
+const MAX_KEYS: u64 = 10_000;
+
+/// A new fork: its number, and the root of its map.
+#[derive(Clone, Copy, Debug, PartialEq, Eq)]
+pub struct Forked {
+    pub id: u64,
+    pub root: Hash,
+}
+
+/// The forks that are live, and the number of those that were made.
+#[derive(Drop)]
+pub struct ForkTable {
+    made: u64,
+    live: Vec<LiveFork>,
+}
+
+impl Model for ForkTable {
+    ghost use Rattle.std.specs.Prelude.{map};
+    ghost use Rattle.jf_forks.specs.Tables.{Table, IsTable, table_code};
+    ghost use Rattle.jf_forks.specs.Lives.{grown};
+
+    ghost Value = { Table };
+
+    ghost coded = { table_code };
+
+    ghost view = { λ t. record { made = t.made; live = map grown t.live.items } };
+
+    ghost invariant = { λ t. IsTable (record { made = t.made; live = map grown t.live.items }) };
+}
+
+impl ForkTable {
+    /// No fork.
+    pub fn new(alloc: Global) -> ForkTable
+        ensures { result ≡ record { made = 0; live = [] } }
+    {
+        ForkTable {
+            made: 0,
+            live: Vec::new(alloc),
+        }
+    }
+
+    /// How many forks are live.
+    pub fn live(&self) -> u64
+        ensures { result ≡ length self.now.live }
+    {
+        self.live.len() as u64
+    }
+
+    // Whether a fork is live; else why not.
+    fn find(&self, id: u64) -> Result<(), ForkFault>
+        ensures { result_err result ≡ missing id self.now }
+    {
+        if id >= self.made {
+            return Err(ForkFault::Unknown);
+        }
+        if is_live(&self.live, id) {
+            Ok(())
+        } else {
+            Err(ForkFault::Gone)
+        }
+    }
+
+    /// The tree of a fork: the map that it stands for, over the map of the head. It is refused exactly where the fork was
+    /// not made yet or is gone.
+    pub fn tree(&self, id: u64) -> Result<&SpecTree, ForkFault>
+        ensures refused { result_err result ≡ missing id self.now }
+        ensures map { IfOk result (λ t. (m : Map) → StandsOver m self.now → t.now ≡ fork_map m (forks_of self.now.live) id) }
+    {
+        if id >= self.made {
+            return Err(ForkFault::Unknown);
+        }
+        match tree_of(&self.live, id) {
+            Some(tree) => Ok(tree),
+            None => Err(ForkFault::Gone),
+        }
+    }
+
+    /// Makes a fork of a batch on the head or on a live fork; `head` is the snapshot of the head. It is refused for a
+    /// parent that is missing, and then where 1,024 are live, and leaves the table as it was.
+    pub fn make(
+        &mut self,
+        alloc: Global,
+        head: &Snapshot,
+        parent: Parent,
+        batch: &Batch,
+    ) -> Result<Forked, ForkFault>
+        requires few { self.old.made < 2 ^ 62 }
+        requires over { StandsOver head.now.map self.old }
+        ensures forked { IfOk result (λ f. f ≡ record { id = self.old.made; root = root (apply (parent_map head.now.map (forks_of self.old.live) parent) batch.now) }) }
+        ensures ok { OnOk result (self.new ≡ record { made = self.old.made + 1; live = record { fork = record { id = self.old.made; parent = parent; batch = batch.now }; map = apply (parent_map head.now.map (forks_of self.old.live) parent) batch.now } ∷ self.old.live }) }
+        ensures stands { OnOk result (StandsOver head.now.map self.new) }
+        ensures refused { RefusedBy (making_fault parent self.old) result }
+        ensures err { OnErr result (self.new ≡ self.old) }
+    {
+        if let Some(fault) = self.making_fault(parent) {
+            return Err(fault);
+        }
+        let tree = grow(alloc, &self.live, head, parent, batch)?;
+        let batch = batch.copy(alloc)?;
+        let forked = Forked {
+            id: self.made,
+            root: tree.root(),
+        };
+        let fork = LiveFork {
+            id: self.made,
+            parent,
+            batch,
+            tree,
+        };
+        push_first(&mut self.live, fork)?;
+        self.made += 1;
+        Ok(forked)
+    }
+
+    // Why no fork can be made on a parent.
+    fn making_fault(&self, parent: Parent) -> Option<ForkFault>
+        ensures { result ≡ making_fault parent self.now }
+    {
+        if let Parent::Fork(id) = parent {
+            if let Err(fault) = self.find(id) {
+                return Some(fault);
+            }
+        }
+        if self.live.len() >= MAX_LIVE {
+            Some(ForkFault::Full)
+        } else {
+            None
+        }
+    }
+
+    /// The batches of a fork and its live ancestors, the oldest first. It is refused for a fork that is missing, and then
+    /// where they have more than 10,000 keys, added up.
+    pub fn chain(&self, alloc: Global, id: u64) -> Result<BatchList, ForkFault>
+        ensures chain { IfOk result (λ list. list ≡ batches (chain (forks_of self.now.live) id)) }
+        ensures may { OnOk result (chain_fault id self.now ≡ None) }
+        ensures refused { RefusedBy (chain_fault id self.now) result }
+    {
+        if let Some(fault) = self.chain_fault(id) {
+            return Err(fault);
+        }
+        let mut list = BatchList::new(alloc);
+        push_chain(alloc, &self.live, id, &mut list)?;
+        Ok(list)
+    }
+
+    // Why a fork can't land with its ancestors.
+    fn chain_fault(&self, id: u64) -> Option<ForkFault>
+        ensures { result ≡ chain_fault id self.now }
+    {
+        if let Err(fault) = self.find(id) {
+            return Some(fault);
+        }
+        let keys = chain_keys(&self.live, id);
+        if keys > MAX_KEYS {
+            Some(ForkFault::TooMany(keys))
+        } else {
+            None
+        }
+    }
+
+    /// Drops a fork and those that stand on it. Gives how many are gone.
+    pub fn drop_fork(&mut self, id: u64) -> Result<u64, ForkFault>
+        ensures refused { result_err result ≡ missing id self.old }
+        ensures count { IfOk result (λ n. n ≡ drop_count id (forks_of self.old.live)) }
+        ensures ok { OnOk result (self.new ≡ record { made = self.old.made; live = kept id self.old.live }) }
+        ensures stands { (m : Map) → StandsOver m self.old → StandsOver m self.new }
+        ensures err { OnErr result (self.new ≡ self.old) }
+    {
+        if let Err(fault) = self.find(id) {
+            return Err(fault);
+        }
+        Ok(drop_from(&mut self.live, 0, id))
+    }
+
+    /// Lets a fork land, with its ancestors: those that stand on it stay, its children on the head. Without a fork, where
+    /// a batch landed, none stays.
+    pub fn settle(&mut self, fork: Option<u64>)
+        requires { IfSome fork (λ id. chain_fault id self.old ≡ None) }
+        ensures none { fork ≡ None → self.new ≡ record { made = self.old.made; live = [] } }
+        ensures some { (id : ℕ) → fork ≡ Some id → self.new ≡ record { made = self.old.made; live = landed id self.old.live } }
+        ensures stands { (m : Map) (id : ℕ) → fork ≡ Some id → StandsOver m self.old → StandsOver (fork_map m (forks_of self.old.live) id) self.new }
+    {
+        match fork {
+            None => self.live.clear(),
+            Some(id) => land_from(&mut self.live, 0, id),
+        }
+    }
+}

@@ -1,0 +1,12 @@
+pub mod Levels
+pub mod WaySteps
+pub mod Padding
+pub mod Pushes
+pub mod Extends
+pub mod Summits
+pub mod Ascents
+pub mod Lone
+pub mod Verdicts
+pub mod Walks
+pub mod Rights
+pub mod Visiting

@@ -1,0 +1,120 @@
+// The honest chunk of a snapshot's map.
+ghost use Rattle.std.specs.Prelude.{◌≡◌, ◌+◌, ◌*◌, ◌<◌, ◌≤◌, MatchResult, IfOk, length};
+ghost use Rattle.std.specs.FinMap as fin;
+ghost use Rattle.jf_evidence.specs.Ranges.{right_siblings, chunk_entries, range_proof_of, honest_chunk};
+ghost use Rattle.jf_range.specs.Chunks.{IsChunk, IsNoChunk};
+
+use crate::ask::RangeAsk;
+use crate::walk::copy_range;
+use jf_evidence::RangeProof;
+use jf_hash::Hash;
+use jf_node::Snapshot;
+use jf_path::{HashList, Key, Memory, Pairs, bit};
+use jf_proof::prove;
+use jf_steps::Steps;
+use std::alloc::Global;
+use std::marker::Brand;
+use std::sync::ledger::{Blank, Ledger};
+
+/// The entries of a snapshot's map from place `start` on, `count` of them or as many as there are, with the proof of the
+/// last one.
+pub fn prove_range(
+    alloc: Global,
+    snapshot: &Snapshot,
+    start: u64,
+    count: u64,
+) -> Result<(Pairs, RangeProof), RangeAsk>
+    requires { 1 ≤ count }
+    ensures { MatchResult result (IsChunk snapshot.now.map start count) (IsNoChunk snapshot.now.map start) }
+{
+    prove_uncounted::<Brand>(alloc, snapshot, start, count, Blank::new(1))
+}
+
+/// The same. A step is one node looked at while the entries are copied: however large the map is and wherever the place,
+/// there are at most 65 for each entry asked for, and 2,049 more. The proof of the last entry is one way down besides, of
+/// at most 64 nodes.
+pub fn prove_range_counted<L: Ledger>(
+    alloc: Global,
+    snapshot: &Snapshot,
+    start: u64,
+    count: u64,
+    steps: &mut Steps<L>,
+) -> Result<(Pairs, RangeProof), RangeAsk>
+    requires { 1 ≤ count }
+    ensures chunk { MatchResult result (IsChunk snapshot.now.map start count) (IsNoChunk snapshot.now.map start) }
+    ensures cost { steps.new ≤ steps.old + 65 * count + 2049 }
+{
+    let total = snapshot.count();
+    if start >= total {
+        return Err(RangeAsk::Beyond(total));
+    }
+    let entries = entries_from(alloc, snapshot, start, count, steps)?;
+    let Some(last) = entries.as_slice().last() else {
+        unreachable!();
+    };
+    let key = last.0;
+    let proof = range_proof_of(alloc, snapshot, &key)?;
+    Ok((entries, proof))
+}
+
+// In a ledger of its own.
+fn prove_uncounted<L: Ledger>(
+    alloc: Global,
+    snapshot: &Snapshot,
+    start: u64,
+    count: u64,
+    blank: Blank,
+) -> Result<(Pairs, RangeProof), RangeAsk>
+    requires some { 1 ≤ count }
+    requires name { blank.name ≡ L.name }
+    requires parts { blank.parts ≡ L.parts }
+    requires whole { 0 < blank.parts }
+    ensures { MatchResult result (IsChunk snapshot.now.map start count) (IsNoChunk snapshot.now.map start) }
+{
+    let mut steps = Steps::<L>::new(blank);
+    prove_range_counted(alloc, snapshot, start, count, &mut steps)
+}
+
+// The entries from a place on.
+fn entries_from<L: Ledger>(
+    alloc: Global,
+    snapshot: &Snapshot,
+    start: u64,
+    count: u64,
+    steps: &mut Steps<L>,
+) -> Result<Pairs, Memory>
+    ensures entries { IfOk result (λ es. es ≡ chunk_entries snapshot.now.map start count) }
+    ensures cost { steps.new ≤ steps.old + 65 * count + 2049 }
+{
+    let mut entries = Pairs::new(alloc);
+    if let Some(top) = snapshot.top() {
+        copy_range(alloc, top, start, count, &mut entries, steps)?;
+    }
+    Ok(entries)
+}
+
+// The proof of a key's entry for a chunk that ends with it.
+fn range_proof_of(alloc: Global, snapshot: &Snapshot, key: &Key) -> Result<RangeProof, Memory>
+    ensures { IfOk result (λ p. p ≡ range_proof_of snapshot.now.map key.now) }
+{
+    let proof = prove(alloc, snapshot, key)?;
+    let siblings = right_siblings(alloc, key, proof.siblings.as_slice())?;
+    Ok(RangeProof {
+        depth: proof.siblings.len(),
+        siblings,
+    })
+}
+
+// The siblings on the right of a key's way.
+fn right_siblings(alloc: Global, key: &Key, siblings: &[Hash]) -> Result<HashList, Memory>
+    requires { length siblings.now ≤ 256 }
+    ensures { IfOk result (λ rights. rights ≡ right_siblings key.now siblings.now) }
+{
+    let mut rights = HashList::new(alloc);
+    for (i, sibling) in siblings.iter().enumerate() {
+        if !bit(key, siblings.len() - 1 - i) {
+            rights.push(*sibling)?;
+        }
+    }
+    Ok(rights)
+}

@@ -1,0 +1,51 @@
+// Whether a chunk is accepted.
+ghost use Rattle.std.specs.Prelude.{◌≡◌, ◌+◌, ◌*◌, ◌≤◌, ◌++◌, MatchResult, Some, None, length};
+ghost use Rattle.std.specs.List.{AllByRecursion};
+ghost use Rattle.jf_path.specs.Keys.{IsKey};
+ghost use Rattle.jf_evidence.specs.Ranges.{Entries, range_refusal};
+ghost use Rattle.jf_range.specs.Frontiers.{frontier_of, IsAscending};
+ghost use Rattle.jf_range.specs.Judgements.{IsAccepted};
+
+use crate::checks::{is_crowded, is_miscounted, rises_behind};
+use crate::frontier::Frontier;
+use jf_evidence::{RangeFault, RangeProof};
+use jf_hash::Hash;
+use jf_path::{Pairs, know_entries};
+use jf_steps::Steps;
+use std::sync::ledger::Ledger;
+
+impl Frontier {
+    /// The frontier of the known entries with new ones, if these are accepted after them under the root of a map. They are
+    /// refused by the first check that fails.
+    pub fn accept<L: Ledger>(
+        &self,
+        root: &Hash,
+        fresh: &Pairs,
+        proof: &RangeProof,
+        steps: &mut Steps<L>,
+    ) -> Result<Frontier, RangeFault>
+        ensures judged { (known : Entries) → self.now ≡ frontier_of known → IsAscending known → MatchResult result (IsAccepted root.now known fresh.now proof.now) (λ why. range_refusal root.now known fresh.now proof.now ≡ Some why) }
+        ensures cost { steps.new ≤ steps.old + 600 * (length fresh.now + 1) }
+    {
+        let entries = fresh.as_slice();
+        know_entries(entries);
+        let Some(last) = entries.last() else {
+            return Err(RangeFault::Empty);
+        };
+        if !rises_behind(&self.last, entries) {
+            return Err(RangeFault::Order);
+        }
+        if is_miscounted(&last.0, proof) {
+            return Err(RangeFault::Count);
+        }
+        if is_crowded(&self.last, entries, proof.depth) {
+            return Err(RangeFault::Lone);
+        }
+        let mut next = self.copy();
+        next.extend(entries, steps);
+        if next.chunk_root(proof, steps) != *root {
+            return Err(RangeFault::WrongRoot);
+        }
+        Ok(next)
+    }
+}

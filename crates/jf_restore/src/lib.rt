@@ -1,0 +1,12 @@
+//! A map that is put together from chunks, each of which is checked against the announced root as it comes.
+#![tactic(auto)]
+
+mod copies;
+mod refused;
+mod restore;
+mod short;
+
+pub use jf_range::{RangeFault, RangeProof};
+pub use refused::RestoreRefused;
+pub use restore::Restore;
+pub use short::are_short;

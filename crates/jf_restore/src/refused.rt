@@ -1,0 +1,26 @@
+// Why a chunk isn't added, or what was added isn't whole.
+ghost use Rattle.std.specs.Prelude.{◌≡◌};
+ghost use Rattle.jf_restore.specs.declared.refused.RestoreRefused.TheVariants as refused;
+
+use jf_hash::Hash;
+use jf_path::Memory;
+use jf_range::RangeFault;
+
+/// Why a chunk isn't added, or what was added isn't whole.
+#[derive(Clone, Copy, Debug, PartialEq, Eq)]
+pub enum RestoreRefused {
+    /// The chunk isn't accepted after the entries that were added before: the first check that fails.
+    Chunk(RangeFault),
+    /// The root of all entries isn't the announced one; this is the root that was found.
+    NotWhole(Hash),
+    /// Out of memory.
+    Memory,
+}
+
+impl From<Memory> for RestoreRefused {
+    ghost from_gives = { λ _ e. e ≡ refused.Memory };
+
+    fn from(_: Memory) -> Self {
+        RestoreRefused::Memory
+    }
+}

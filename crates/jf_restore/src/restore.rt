@@ -1,0 +1,125 @@
+// A restore under way.
+ghost use Rattle.std.specs.Prelude.{◌≡◌, ◌+◌, ◌-◌, ◌*◌, ◌^◌, ◌<◌, ◌≤◌, [], length, MatchResult};
+ghost use Rattle.std.specs.List.{AllByRecursion};
+ghost use Rattle.jf_hash.specs.Roots.{part_root};
+ghost use Rattle.jf_evidence.specs.Ranges.{range_refusal};
+ghost use Rattle.jf_restore.specs.Restores.{with_more, IsAdded, IsNotAdded, IsWhole, IsNotWhole, AreShort};
+
+use crate::copies::add_copies;
+use crate::refused::RestoreRefused;
+use jf_hash::Hash;
+use jf_path::Pairs;
+use jf_range::{Frontier, RangeProof};
+use jf_steps::Steps;
+use std::alloc::Global;
+use std::marker::{Brand, Model};
+use std::sync::ledger::{Blank, Ledger};
+
+/// The entries of the chunks that were accepted so far, in their order, for a version whose root was announced. The left
+/// frontier of the entries is kept beside them, so that none is hashed again.
+#[derive(Drop)]
+pub struct Restore {
+    alloc: Global,
+    version: u64,
+    root: Hash,
+    entries: Pairs,
+    frontier: Frontier,
+}
+
+impl Model for Restore {
+    ghost use Rattle.std.specs.Prelude.{◌≡◌};
+    ghost use Rattle.jf_range.specs.Frontiers.{frontier_of, IsAscending};
+    ghost use Rattle.jf_restore.specs.RestoreValue.{RestoreValue};
+    ghost use Rattle.jf_restore.specs.Restores.{AreShort};
+
+    ghost Value = { RestoreValue };
+
+    ghost view = { λ r. record { version = r.version; root = r.root; entries = r.entries } };
+
+    ghost invariant = { λ r. (r.frontier ≡ frontier_of r.entries) × IsAscending r.entries × AreShort r.entries };
+}
+
+impl Restore {
+    /// A restore of a version with an announced root, without an entry.
+    pub fn new(alloc: Global, version: u64, root: Hash) -> Restore
+        requires { version < 2 ^ 64 - 1 }
+        ensures { result ≡ record { version = version; root = root; entries = [] } }
+    {
+        Restore {
+            alloc,
+            version,
+            root,
+            entries: Pairs::new(alloc),
+            frontier: Frontier::new(),
+        }
+    }
+
+    /// Adds the entries of a chunk if it is accepted after those that were added before. A refusal leaves them as they were.
+    pub fn add(&mut self, fresh: &Pairs, proof: &RangeProof) -> Result<(), RestoreRefused>
+        requires { AreShort fresh.now }
+        ensures { MatchResult result (λ _. IsAdded self.old self.new fresh.now proof.now) (λ why. IsNotAdded self.old self.new fresh.now proof.now why) }
+    {
+        self.add_uncounted::<Brand>(fresh, proof, Blank::new(1))
+    }
+
+    /// The same. A step is one hash computed: there are at most 600 for each new entry and 600 more, however many entries were
+    /// added before.
+    pub fn add_counted<L: Ledger>(
+        &mut self,
+        fresh: &Pairs,
+        proof: &RangeProof,
+        steps: &mut Steps<L>,
+    ) -> Result<(), RestoreRefused>
+        requires { AreShort fresh.now }
+        ensures added { MatchResult result (λ _. IsAdded self.old self.new fresh.now proof.now) (λ why. IsNotAdded self.old self.new fresh.now proof.now why) }
+        ensures cost { steps.new ≤ steps.old + 600 * (length fresh.now + 1) }
+    {
+        match self.frontier.accept(&self.root, fresh, proof, steps) {
+            Err(why) => Err(RestoreRefused::Chunk(why)),
+            Ok(frontier) => {
+                add_copies(self.alloc, &mut self.entries, fresh.as_slice())?;
+                self.frontier = frontier;
+                Ok(())
+            }
+        }
+    }
+
+    // In a ledger of its own.
+    fn add_uncounted<L: Ledger>(
+        &mut self,
+        fresh: &Pairs,
+        proof: &RangeProof,
+        blank: Blank,
+    ) -> Result<(), RestoreRefused>
+        requires short { AreShort fresh.now }
+        requires name { blank.name ≡ L.name }
+        requires parts { blank.parts ≡ L.parts }
+        requires some { 0 < blank.parts }
+        ensures { MatchResult result (λ _. IsAdded self.old self.new fresh.now proof.now) (λ why. IsNotAdded self.old self.new fresh.now proof.now why) }
+    {
+        let mut steps = Steps::<L>::new(blank);
+        self.add_counted(fresh, proof, &mut steps)
+    }
+
+    /// How many entries were added, if their root is the announced one.
+    pub fn whole(&self) -> Result<u64, RestoreRefused>
+        ensures { MatchResult result (IsWhole self.now) (IsNotWhole self.now) }
+    {
+        let found = self.found_root::<Brand>(Blank::new(1));
+        if found != self.root {
+            return Err(RestoreRefused::NotWhole(found));
+        }
+        Ok(self.entries.len())
+    }
+
+    // The root of all entries.
+    fn found_root<L: Ledger>(&self, blank: Blank) -> Hash
+        requires name { blank.name ≡ L.name }
+        requires parts { blank.parts ≡ L.parts }
+        requires some { 0 < blank.parts }
+        ensures { result ≡ part_root 0 self.now.entries }
+    {
+        let mut steps = Steps::<L>::new(blank);
+        self.frontier.root(&mut steps)
+    }
+}

@@ -1,0 +1,25 @@
+// Values that a restore takes.
+ghost use Rattle.std.specs.Prelude.{◌↔◌, IsTrue};
+ghost use Rattle.jf_restore.specs.Restores.{AreShort};
+
+use jf_path::{Bytes, Key, Pairs};
+
+const MAX_VALUE: u64 = 4096;
+
+/// Whether each value has at most 4,096 bytes, as the values of a chunk must have before it is added.
+pub fn are_short(entries: &Pairs) -> bool
+    ensures { IsTrue result ↔ AreShort entries.now }
+{
+    have_short_values(entries.as_slice())
+}
+
+fn have_short_values(entries: &[(Key, Bytes)]) -> bool
+    ensures { IsTrue result ↔ AreShort entries.now }
+{
+    for entry in entries {
+        if entry.1.len() > MAX_VALUE {
+            return false;
+        }
+    }
+    true
+}

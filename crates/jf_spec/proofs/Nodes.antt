@@ -1,0 +1,140 @@
+-- What nodes have by what they are kept as.
+use Rattle.std.proofs.Common.{◌≡◌, ◌≤◌, ◌<◌, ◌+◌, ℕ, Bool, true, false, cond, List, [], ◌∷◌, ◌++◌, length, not, append-nil, refl, sym, ap, ap₂, ◌∙◌, subst, None, Some, Ordering, Less, Equal, Greater, true≢false, Global}
+use Rattle.std.proofs.lemmas.List.Elements.{filter-append}
+use Rattle.std.specs.FinMap.{find}
+use Rattle.std.specs.Ordering.{is_eq}
+use Rattle.std.specs.declared.sync.Arc.{Arc}
+use Rattle.jf_path.specs.Keys.{bit, key_cmp}
+use Rattle.jf_hash.specs.Hashes.{L, N, V}
+use Rattle.jf_hash.specs.KeyOrder.{same_key-exact}
+use Rattle.jf_hash.specs.Parts.{HaveBit}
+use Rattle.jf_hash.specs.Roots.{part_root, zeros, ones}
+use Rattle.jf_hash.specs.RootLaws.{part_root-one, part_root-split}
+use Rattle.jf_hash.specs.Slots.{Part}
+use Rattle.jf_node.specs.RangeValue.{RangeValue}
+use Rattle.jf_spec.specs.Forms.{IsSoundForm, AreHalves, node_value}
+use Rattle.jf_spec.specs.declared.node.Form.{Form}
+use Rattle.jf_spec.specs.declared.node.Form.TheVariants.{Leaf, Branch}
+use Rattle.jf_spec.specs.declared.node.LeafBody.{LeafBody}
+use Rattle.jf_spec.specs.declared.node.BranchBody.{BranchBody}
+
+-- ---- an entry
+
+module _ (v : RangeValue) (depth : ℕ) (form : Form) (leaf : Arc LeafBody Global) (b : LeafBody) (seen : node_value depth form ≡ v) (is : form ≡ Leaf leaf) (inside : b ≡ leaf.value) where
+  pub leaf_is : v ≡ record { depth = depth; entries = (b.key, b.value) ∷ [] }
+  leaf_is = sym seen ∙ ap (node_value depth) is ∙ ap (λ (x : LeafBody). leaf_value x) (sym inside)
+    where
+      leaf_value : LeafBody → RangeValue
+      leaf_value x = record { depth = depth; entries = (x.key, x.value) ∷ [] }
+
+  pub leaf_hash : IsSoundForm depth form → b.hash ≡ part_root v.depth v.entries
+  leaf_hash sound =
+      let own : leaf.value.hash ≡ L leaf.value.key (V leaf.value.value) = (subst (IsSoundForm depth) is sound).1 in
+      subst (λ (x : LeafBody). x.hash ≡ L x.key (V x.value)) (sym inside) own ∙ sym (part_root-one depth b.key b.value) ∙ ap (λ w. part_root w.depth w.entries) (sym leaf_is)
+
+  -- it has the value of its own key alone
+  pub find_own : (key : List ℕ) (t : Bool) → is_eq (key_cmp key b.key) ≡ t → find key_cmp key v.entries ≡ cond t (Some b.value) None
+  find_own key t test = ap (λ w. find key_cmp key w.entries) leaf_is ∙ ap (λ c. cond c (Some b.value) None) test
+
+-- ---- halves
+
+so_equal : (o : Ordering) → is_eq o ≡ true → o ≡ Equal
+so_equal Less h = absurd (cc)
+so_equal Equal h = refl
+so_equal Greater h = absurd (cc)
+
+find-other : (d : ℕ) (b : Bool) (key : List ℕ) (es : Part) → HaveBit d b es → ¬ (bit key d ≡ b) → find key_cmp key es ≡ None
+find-other d b key [] h other = refl
+find-other d b key (e ∷ es) h other =
+    elim (is_eq (key_cmp key e.0)) as (λ t. is_eq (key_cmp key e.0) ≡ t → cond t (Some e.1) (find key_cmp key es) ≡ None) [
+      | true ↦ λ is. absurd (other (ap (λ k. bit k d) (same_key-exact key e.0 (so_equal _ is)) ∙ h.0))
+      | false ↦ λ is. find-other d b key es h.1 other
+    ] refl
+
+find-left : (key : List ℕ) (es fs : Part) → find key_cmp key fs ≡ None → find key_cmp key (es ++ fs) ≡ find key_cmp key es
+find-left key [] fs h = h
+find-left key (e ∷ es) fs h = ap (λ r. cond (is_eq (key_cmp key e.0)) (Some e.1) r) (find-left key es fs h)
+
+find-right : (key : List ℕ) (es fs : Part) → find key_cmp key es ≡ None → find key_cmp key (es ++ fs) ≡ find key_cmp key fs
+find-right key [] fs h = refl
+find-right key (e ∷ es) fs h =
+    elim (is_eq (key_cmp key e.0)) as (λ b. cond b (Some e.1) (find key_cmp key es) ≡ None → cond b (Some e.1) (find key_cmp key (es ++ fs)) ≡ find key_cmp key fs) [
+      | true ↦ λ no. (cc)
+      | false ↦ λ no. find-right key es fs no
+    ] h
+
+-- the entries with one bit
+kept_all : (d : ℕ) (es : Part) → HaveBit d true es → ones d es ≡ es
+kept_all d [] h = refl
+kept_all d (e ∷ es) h = ap (λ b. cond b (e ∷ ones d es) (ones d es)) h.0 ∙ ap (λ t. e ∷ t) (kept_all d es h.1)
+
+kept_none : (d : ℕ) (es : Part) → HaveBit d false es → ones d es ≡ []
+kept_none d [] h = refl
+kept_none d (e ∷ es) h = ap (λ b. cond b (e ∷ ones d es) (ones d es)) h.0 ∙ kept_none d es h.1
+
+left_all : (d : ℕ) (es : Part) → HaveBit d false es → zeros d es ≡ es
+left_all d [] h = refl
+left_all d (e ∷ es) h = ap (λ b. cond (not b) (e ∷ zeros d es) (zeros d es)) h.0 ∙ ap (λ t. e ∷ t) (left_all d es h.1)
+
+left_none : (d : ℕ) (es : Part) → HaveBit d true es → zeros d es ≡ []
+left_none d [] h = refl
+left_none d (e ∷ es) h = ap (λ b. cond (not b) (e ∷ zeros d es) (zeros d es)) h.0 ∙ left_none d es h.1
+
+-- of halves joined
+pub zeros_of : (d : ℕ) (es fs : Part) → HaveBit d false es → HaveBit d true fs → zeros d (es ++ fs) ≡ es
+zeros_of d es fs z o = filter-append (λ e. not (bit e.0 d)) es fs ∙ ap₂ (λ a b. a ++ b) (left_all d es z) (left_none d fs o) ∙ append-nil es
+
+pub ones_of : (d : ℕ) (es fs : Part) → HaveBit d false es → HaveBit d true fs → ones d (es ++ fs) ≡ fs
+ones_of d es fs z o = filter-append (λ e. bit e.0 d) es fs ∙ ap₂ (λ a b. a ++ b) (kept_none d es z) (kept_all d fs o)
+
+range_at : (d : ℕ) (v : RangeValue) → v.depth ≡ d → v ≡ record { depth = d; entries = v.entries }
+range_at d v is = ap (λ k. record { depth = k; entries = v.entries }) is
+
+module _ (v : RangeValue) (depth : ℕ) (form : Form) (branch : Arc BranchBody Global) (b : BranchBody) (seen : node_value depth form ≡ v) (is : form ≡ Branch branch) (inside : b ≡ branch.value) where
+  pub branch_is : v ≡ record { depth = depth; entries = b.zeros.entries ++ b.ones.entries }
+  branch_is = sym seen ∙ ap (node_value depth) is ∙ ap (λ (x : BranchBody). branch_value x) (sym inside)
+    where
+      branch_value : BranchBody → RangeValue
+      branch_value x = record { depth = depth; entries = x.zeros.entries ++ x.ones.entries }
+
+  pub branch_halves : IsSoundForm depth form → AreHalves depth b.zeros b.ones b.hash
+  branch_halves sound = subst (λ (x : BranchBody). AreHalves depth x.zeros x.ones x.hash) (sym inside) (subst (IsSoundForm depth) is sound)
+
+  -- a key is found in the half of its next bit
+  pub find_ones : (key : List ℕ) → IsSoundForm depth form → bit key depth ≡ true → find key_cmp key v.entries ≡ find key_cmp key b.ones.entries
+  find_ones key sound one =
+      ap (λ w. find key_cmp key w.entries) branch_is ∙ find-right key b.zeros.entries b.ones.entries (find-other depth false key b.zeros.entries (branch_halves sound).zeros (λ e. true≢false (sym one ∙ e)))
+
+  pub find_zeros : (key : List ℕ) → IsSoundForm depth form → bit key depth ≡ false → find key_cmp key v.entries ≡ find key_cmp key b.zeros.entries
+  find_zeros key sound zero =
+      ap (λ w. find key_cmp key w.entries) branch_is ∙ find-left key b.zeros.entries b.ones.entries (find-other depth true key b.ones.entries (branch_halves sound).ones (λ e. true≢false (sym e ∙ zero)))
+
+  -- the halves by which it is kept are those by its next bit
+  pub zeros_is : IsSoundForm depth form → b.zeros ≡ record { depth = v.depth + 1; entries = zeros v.depth v.entries }
+  zeros_is sound =
+      let h = branch_halves sound in
+      range_at (depth + 1) b.zeros h.zeros_deep ∙ ap (λ es. record { depth = depth + 1; entries = es }) (sym (zeros_of depth b.zeros.entries b.ones.entries h.zeros h.ones))
+      ∙ ap (λ w. record { depth = w.depth + 1; entries = zeros w.depth w.entries }) (sym branch_is)
+
+  pub ones_is : IsSoundForm depth form → b.ones ≡ record { depth = v.depth + 1; entries = ones v.depth v.entries }
+  ones_is sound =
+      let h = branch_halves sound in
+      range_at (depth + 1) b.ones h.ones_deep ∙ ap (λ es. record { depth = depth + 1; entries = es }) (sym (ones_of depth b.zeros.entries b.ones.entries h.zeros h.ones))
+      ∙ ap (λ w. record { depth = w.depth + 1; entries = ones w.depth w.entries }) (sym branch_is)
+
+-- two halves with their hash
+pub new_halves : (depth : ℕ) (left right : RangeValue) (hash l r : List ℕ) → depth < 256 → left.depth ≡ depth + 1 → right.depth ≡ depth + 1 → HaveBit depth false left.entries → HaveBit depth true right.entries
+    → 2 ≤ length (left.entries ++ right.entries) → l ≡ part_root left.depth left.entries → r ≡ part_root right.depth right.entries → hash ≡ N l r → AreHalves depth left right hash
+new_halves depth left right hash l r deep zd od z o two lh rh is = record {
+  deep = deep;
+  zeros_deep = zd;
+  ones_deep = od;
+  zeros = z;
+  ones = o;
+  several = two;
+  hashed =
+      is
+      ∙ ap₂ N (lh ∙ ap (λ d. part_root d left.entries) zd ∙ ap (part_root (depth + 1)) (sym (zeros_of depth left.entries right.entries z o)))
+      (rh ∙ ap (λ d. part_root d right.entries) od ∙ ap (part_root (depth + 1)) (sym (ones_of depth left.entries right.entries z o)))
+      ∙ sym (part_root-split depth (left.entries ++ right.entries) deep two);
+}

@@ -1,0 +1,38 @@
+-- A part falls into its halves, and what a batch makes of it into what the batch's halves make of them.
+use Rattle.std.proofs.Common.{◌≡◌, ℕ, ◌+◌, ◌<◌, ◌≤◌, Bool, true, false, cond, ◌==◌, List, ◌++◌, length, take, drop, sym, ap₂, ◌∙◌, subst}
+use Rattle.jf_hash.specs.Maps.{Batch}
+use Rattle.jf_hash.specs.Parts.{IsUnder, HaveBit, IsFirstOne}
+use Rattle.jf_hash.specs.Roots.{zeros, ones}
+use Rattle.jf_hash.specs.Slots.{Part}
+use Rattle.jf_hash.specs.Split.{zeros_ones, deeper, IsPart-under, IsUnder-zeros, IsUnder-ones, zeros-append-ones, HaveBit-zeros, HaveBit-ones}
+use Rattle.jf_model.specs.Changes.{applied}
+use Rattle.jf_spec.specs.Parts.{AreParts}
+use Rattle.jf_spec.proofs.Applied.{zeros-applied, ones-applied, IsUnder-applied}
+
+-- under a path with two entries or more a bit is left
+pub deeper_under : {X : Type 0} (d : ℕ) (path : ℕ → Bool) (es : List (List ℕ × X)) → IsUnder d path es → 2 ≤ length es → d < 256
+deeper_under d path es h two = deeper d es (IsPart-under d path es h) two
+
+-- the halves of a part and a batch are parts
+pub AreParts-zeros : (d : ℕ) (es : Part) (bs : Batch) → AreParts d es bs → AreParts (d + 1) (zeros d es) (zeros d bs)
+AreParts-zeros d es bs h = record { path = λ i. cond (i == d) false (h.path i); entries = IsUnder-zeros d h.path es h.entries; batch = IsUnder-zeros d h.path bs h.batch }
+
+pub AreParts-ones : (d : ℕ) (es : Part) (bs : Batch) → AreParts d es bs → AreParts (d + 1) (ones d es) (ones d bs)
+AreParts-ones d es bs h = record { path = λ i. cond (i == d) true (h.path i); entries = IsUnder-ones d h.path es h.entries; batch = IsUnder-ones d h.path bs h.batch }
+
+-- what the batch makes of the part is what its halves make of the halves
+pub applied-halves : (d : ℕ) (es : Part) (bs : Batch) → AreParts d es bs → applied (zeros d es) (zeros d bs) ++ applied (ones d es) (ones d bs) ≡ applied es bs
+applied-halves d es bs h =
+    ap₂ (λ a b. a ++ b) (sym (zeros-applied d es bs h.entries.sorted)) (sym (ones-applied d es bs h.entries.sorted))
+    ∙ zeros-append-ones d (applied es bs) (IsPart-under d h.path (applied es bs) (IsUnder-applied d h.path es bs h.entries h.batch))
+
+-- each of these has its bit
+pub HaveBit-applied_zeros : (d : ℕ) (es : Part) (bs : Batch) → AreParts d es bs → HaveBit d false (applied (zeros d es) (zeros d bs))
+HaveBit-applied_zeros d es bs h = subst (HaveBit d false) (zeros-applied d es bs h.entries.sorted) (HaveBit-zeros d (applied es bs))
+
+pub HaveBit-applied_ones : (d : ℕ) (es : Part) (bs : Batch) → AreParts d es bs → HaveBit d true (applied (ones d es) (ones d bs))
+HaveBit-applied_ones d es bs h = subst (HaveBit d true) (ones-applied d es bs h.entries.sorted) (HaveBit-ones d (applied es bs))
+
+-- the halves of a batch, by the place of the first entry with bit 1
+pub batch_halves : (d p : ℕ) (es : Part) (bs : Batch) → AreParts d es bs → IsFirstOne d p bs → (zeros d bs ≡ take p bs) × (ones d bs ≡ drop p bs)
+batch_halves d p es bs h f = zeros_ones d p bs (IsPart-under d h.path bs h.batch) f
