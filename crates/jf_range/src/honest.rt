@@ -31,8 +31,8 @@ pub fn prove_range(
 }
 
 /// The same. A step is one node looked at while the entries are copied: however large the map is and wherever the place,
-/// there are at most 65 for each entry asked for, and 2,049 more. The proof of the last entry is one way down besides, of
-/// at most 64 nodes.
+/// there are at most 65 for each entry asked for, and 2,049 more. The proof of the last entry is one way down
+/// besides, which isn't counted.
 pub fn prove_range_counted<L: Ledger>(
     alloc: Global,
     snapshot: &Snapshot,

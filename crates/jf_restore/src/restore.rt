@@ -27,7 +27,7 @@ pub struct Restore {
 }
 
 impl Model for Restore {
-    ghost use Rattle.std.specs.Prelude.{◌≡◌};
+    ghost use Rattle.std.specs.Prelude.{◌≡◌, ◌-◌, ◌^◌, ◌<◌};
     ghost use Rattle.jf_range.specs.Frontiers.{frontier_of, IsAscending};
     ghost use Rattle.jf_restore.specs.RestoreValue.{RestoreValue};
     ghost use Rattle.jf_restore.specs.Restores.{AreShort};
@@ -36,7 +36,7 @@ impl Model for Restore {
 
     ghost view = { λ r. record { version = r.version; root = r.root; entries = r.entries } };
 
-    ghost invariant = { λ r. (r.frontier ≡ frontier_of r.entries) × IsAscending r.entries × AreShort r.entries };
+    ghost invariant = { λ r. (r.frontier ≡ frontier_of r.entries) × IsAscending r.entries × AreShort r.entries × (r.version < 2 ^ 64 - 1) };
 }
 
 impl Restore {
