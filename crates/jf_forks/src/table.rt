@@ -1,10 +1,10 @@
 // The table of forks.
-ghost use Rattle.std.specs.Prelude.{◌≡◌, ℕ, ◌+◌, ◌^◌, ◌<◌, ◌≤◌, ◌∷◌, ◌++◌, [], length, map, IfOk, IfErr, IfSome, OnOk, OnErr, Some, None, Err};
+ghost use Rattle.std.specs.Prelude.{◌≡◌, ℕ, true, ◌+◌, ◌^◌, ◌<◌, ◌≤◌, ◌∷◌, ◌++◌, [], length, map, IfOk, IfErr, IfSome, OnOk, OnErr, Some, None, Err};
 ghost use Rattle.std.specs.Result.{result_err};
 ghost use Rattle.jf_hash.specs.Maps.{Map, apply};
 ghost use Rattle.jf_hash.specs.Roots.{root};
 ghost use Rattle.jf_model.specs.Batches.{key_count};
-ghost use Rattle.jf_model.specs.Forks.{batches, chain, drop_count, fork_map, parent_map};
+ghost use Rattle.jf_model.specs.Forks.{batches, chain, drop_count, fork_map, is_among, parent_map};
 ghost use Rattle.jf_forks.specs.Tables.{Table, IsTable, StandsOver, forks_of, map_of, missing, missing_parent, making_fault, chain_fault, kept, landed, RefusedBy};
 ghost use Rattle.jf_forks.specs.declared.fault.ForkFault.TheVariants as fault;
 
@@ -200,6 +200,7 @@ impl ForkTable {
         ensures count { IfOk result (λ n. n ≡ drop_count id (forks_of self.old.live)) }
         ensures ok { OnOk result (self.new ≡ record { made = self.old.made; live = kept id self.old.live }) }
         ensures stands { (m : Map) → StandsOver m self.old → StandsOver m self.new }
+        ensures same { (y : ℕ) → is_among y (forks_of self.new.live) ≡ true → map_of y self.new.live ≡ map_of y self.old.live }
         ensures err { OnErr result (self.new ≡ self.old) }
     {
         if let Err(fault) = self.find(id) {
@@ -214,6 +215,7 @@ impl ForkTable {
         requires { IfSome fork (λ id. chain_fault id self.old ≡ None) }
         ensures none { fork ≡ None → self.new ≡ record { made = self.old.made; live = [] } }
         ensures some { (id : ℕ) → fork ≡ Some id → self.new ≡ record { made = self.old.made; live = landed id self.old.live } }
+        ensures same { (y : ℕ) → is_among y (forks_of self.new.live) ≡ true → map_of y self.new.live ≡ map_of y self.old.live }
         ensures stands { (m : Map) (id : ℕ) → fork ≡ Some id → StandsOver m self.old → StandsOver (fork_map m (forks_of self.old.live) id) self.new }
     {
         match fork {
