@@ -6,20 +6,21 @@ use Rattle.std.specs.FinMap.Entries.{by_order}
 use Rattle.jf_path.specs.Names.{name_cmp, rise}
 use Rattle.jf_path.specs.declared.name.NodeName.{NodeName}
 use Rattle.jf_path.specs.declared.node.PlainNode.{PlainNode}
-use Rattle.jf_hash.specs.Maps.{Map}
+use Rattle.jf_hash.specs.Maps.{Map, Batch, apply}
 use Rattle.jf_hash.specs.Roots.{root}
 use Rattle.jf_hash.specs.Slots.{Part}
 use Rattle.jf_model.specs.Nodes.{Path, nodes}
 use Rattle.jf_codec.specs.Counted.{in_format}
 use Rattle.jf_codec.specs.declared.format.Format.{Format}
 use Rattle.jf_codec.specs.declared.format.Format.TheVariants as format
+use Rattle.jf_payload.specs.Counted.{commit_in}
 use Rattle.jf_standing.specs.Named.{Named, never, leaf_entries, AreEntries, version_at, map_at}
 use Rattle.jf_standing.specs.Order.{by_name}
 use Rattle.jf_standing.specs.Standing.{Standing, with_nodes, with_commit}
 use Rattle.jf_standing.specs.Sound.{is_counted, IsSound}
 use Rattle.jf_standing.specs.Next.{IsReadStanding}
-use Rattle.jf_standing.specs.Landing.{landing_of}
-use Rattle.jf_standing.specs.Building.{node_of, landed_on, built, up_from, floor_of, rebuilt, apart, as_named, nodes_by_name}
+use Rattle.jf_standing.specs.Landing.{head_map, landing_of}
+use Rattle.jf_standing.specs.Building.{node_of, landed_on, landings_of, all_landed, built, up_from, floor_of, rebuilt, apart, as_named, nodes_by_name}
 use Rattle.jf_standing.proofs.Checkpoints.{checkpoint-decided}
 use Rattle.jf_standing.specs.FormatLaws.{standing_in, with_counts}
 use Rattle.jf_standing.proofs.Alive.{plain_node-same}
@@ -67,6 +68,19 @@ module _ (fmt : Format) where
   built_kept : (u : Standing) (ms : List Map) → built fmt (standing_in fmt u) ms ≡ standing_in fmt (built format.Two u ms)
   built_kept u [] = refl
   built_kept u (m ∷ ms) = ap (λ t. built fmt t ms) (landed_kept m u) ∙ built_kept (landed_on format.Two m u) ms
+
+  pub groups_kept : (s : Standing) (bs : List Batch) → landings_of fmt (standing_in fmt s) bs ≡ map (commit_in fmt) (landings_of format.Two s bs)
+  groups_kept s [] = refl
+  groups_kept s (b ∷ bs) =
+      ap (λ k. landing_of fmt (standing_in fmt s) (apply k b) ∷ landings_of fmt (landed_on fmt (apply k b) (standing_in fmt s)) bs) (map_kept fmt s.head s.nodes)
+      ∙ ap₂ (λ c cs. c ∷ cs) (landing_kept fmt s (apply (head_map s) b)) (ap (λ t. landings_of fmt t bs) (landed_kept (apply (head_map s) b) s) ∙ groups_kept (landed_on format.Two (apply (head_map s) b) s) bs)
+
+  pub all_landed_kept : (s : Standing) (bs : List Batch) → all_landed fmt (standing_in fmt s) bs ≡ standing_in fmt (all_landed format.Two s bs)
+  all_landed_kept s [] = refl
+  all_landed_kept s (b ∷ bs) =
+      ap (λ k. all_landed fmt (landed_on fmt (apply k b) (standing_in fmt s)) bs) (map_kept fmt s.head s.nodes)
+      ∙ ap (λ t. all_landed fmt t bs) (landed_kept (apply (head_map s) b) s)
+      ∙ all_landed_kept (landed_on format.Two (apply (head_map s) b) s) bs
 
   floor_nodes_kept : (version : Path → ℕ) (xs : List (Path × Part)) → map (node_of fmt version) xs ≡ map (kept fmt) (map (node_of format.Two version) xs)
   floor_nodes_kept version [] = refl

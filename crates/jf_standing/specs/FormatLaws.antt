@@ -1,6 +1,6 @@
 -- Laws on what a format keeps of a standing.
-use Rattle.std.specs.Prelude.{◌≡◌, ℕ}
-use Rattle.jf_hash.specs.Maps.{Map}
+use Rattle.std.specs.Prelude.{◌≡◌, ℕ, List, map}
+use Rattle.jf_hash.specs.Maps.{Map, Batch}
 use Rattle.jf_codec.specs.declared.format.Format.{Format}
 use Rattle.jf_codec.specs.declared.format.Format.TheVariants as format
 use Rattle.jf_payload.specs.Counted.{commit_in, nodes_in}
@@ -9,7 +9,7 @@ use Rattle.jf_standing.specs.Standing.{Standing, versions_of, with_nodes, with_c
 use Rattle.jf_standing.specs.Sound.{IsSound}
 use Rattle.jf_standing.specs.Next.{IsReadStanding}
 use Rattle.jf_standing.specs.Landing.{landing_of}
-use Rattle.jf_standing.specs.Building.{rebuilt, nodes_by_name}
+use Rattle.jf_standing.specs.Building.{landings_of, all_landed, rebuilt, nodes_by_name}
 
 -- what a format keeps of a standing with counts: the first leaves these out
 abbrev pub standing_in : Format → Standing → Standing
@@ -27,6 +27,11 @@ FormatsLand = (fmt : Format) (s : Standing) (m : Map) → landing_of fmt (standi
 abbrev pub FormatsFollow : Type 0
 FormatsFollow =
     (fmt : Format) (s : Standing) (c : Commit) (floor : ℕ) → (with_commit (commit_in fmt c) (standing_in fmt s) ≡ standing_in fmt (with_commit c s)) × (with_floor floor (standing_in fmt s) ≡ standing_in fmt (with_floor floor s))
+
+-- so do landings of batches in turn
+abbrev pub FormatsGroup : Type 0
+FormatsGroup =
+    (fmt : Format) (s : Standing) (bs : List Batch) → (landings_of fmt (standing_in fmt s) bs ≡ map (commit_in fmt) (landings_of format.Two s bs)) × (all_landed fmt (standing_in fmt s) bs ≡ standing_in fmt (all_landed format.Two s bs))
 
 -- a standing with counts: its nodes, built anew in the second format
 abbrev pub with_counts : Standing → Standing
