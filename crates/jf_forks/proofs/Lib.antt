@@ -1,4 +1,6 @@
+pub mod Numbers
 pub mod Chains
 pub mod Stays
 pub mod Cuts
 pub mod Tabled
+pub mod Bounds
