@@ -1,7 +1,5 @@
 // Whether a chunk is accepted.
-ghost use Rattle.std.specs.Prelude.{◌≡◌, ◌+◌, ◌*◌, ◌≤◌, ◌++◌, MatchResult, Some, None, length};
-ghost use Rattle.std.specs.List.{AllByRecursion};
-ghost use Rattle.jf_path.specs.Keys.{IsKey};
+ghost use Rattle.std.specs.Prelude.{◌≡◌, ◌+◌, ◌*◌, ◌≤◌, MatchResult, Some, length};
 ghost use Rattle.jf_evidence.specs.Ranges.{Entries, range_refusal};
 ghost use Rattle.jf_range.specs.Frontiers.{frontier_of, IsAscending};
 ghost use Rattle.jf_range.specs.Judgements.{IsAccepted};
