@@ -1,3 +1,4 @@
+pub mod Adding
 pub mod FieldLaws
 pub mod Bits
 pub mod Loop
@@ -5,3 +6,4 @@ pub mod Names
 pub mod Children
 pub mod Nodes
 pub mod Spellings
+pub mod Counted

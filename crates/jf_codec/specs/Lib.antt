@@ -1,4 +1,6 @@
 pub mod Numbers
+pub mod Adding
 pub mod Spelling
+pub mod Counted
 pub mod Reading
 pub mod Laws

@@ -1,5 +1,5 @@
-// Fields at the front of bytes, each with the bytes after it.
-ghost use Rattle.std.specs.Prelude.{◌≡◌, ◌++◌, OnOk};
+// Fields at the front of bytes, each with the bytes after it; and fields added at the end. Numbers have their highest byte first.
+ghost use Rattle.std.specs.Prelude.{◌≡◌, ◌++◌, OnOk, OnErr};
 ghost use Rattle.jf_codec.specs.Numbers.{two_bytes, four_bytes, eight_bytes};
 ghost use Rattle.jf_codec.specs.Reading.{Reads, bytes_at, two_at, four_at, eight_at};
 
@@ -7,9 +7,9 @@ use crate::fault::CodecFault;
 use byteorder::{BigEndian, ByteOrder};
 use jf_path::{Bytes, Key, Memory};
 
-/// A number in two bytes.
+/// The number in the first two bytes, and the bytes after it. `Short` if there are fewer.
 #[tactic(auto, unfolding(crate::specs::Reading::two_at))]
-pub(crate) fn u16_at(bytes: &[u8]) -> Result<(u16, &[u8]), CodecFault>
+pub fn u16_at(bytes: &[u8]) -> Result<(u16, &[u8]), CodecFault>
     ensures { Reads (λ x. (x.0, x.1.now)) result (two_at bytes.now) }
 {
     let Some((number, rest)) = bytes.split_first_chunk::<2>() else {
@@ -18,9 +18,9 @@ pub(crate) fn u16_at(bytes: &[u8]) -> Result<(u16, &[u8]), CodecFault>
     Ok((u16::from_be_bytes(*number), rest))
 }
 
-/// A number in four bytes.
+/// The number in the first four bytes, and the bytes after it. `Short` if there are fewer.
 #[tactic(auto, unfolding(crate::specs::Reading::four_at))]
-pub(crate) fn u32_at(bytes: &[u8]) -> Result<(u32, &[u8]), CodecFault>
+pub fn u32_at(bytes: &[u8]) -> Result<(u32, &[u8]), CodecFault>
     ensures { Reads (λ x. (x.0, x.1.now)) result (four_at bytes.now) }
 {
     let Some((number, rest)) = bytes.split_first_chunk::<4>() else {
@@ -29,9 +29,9 @@ pub(crate) fn u32_at(bytes: &[u8]) -> Result<(u32, &[u8]), CodecFault>
     Ok((u32::from_be_bytes(*number), rest))
 }
 
-/// A number in eight bytes.
+/// The number in the first eight bytes, and the bytes after it. `Short` if there are fewer.
 #[tactic(auto, unfolding(crate::specs::Reading::eight_at))]
-pub(crate) fn u64_at(bytes: &[u8]) -> Result<(u64, &[u8]), CodecFault>
+pub fn u64_at(bytes: &[u8]) -> Result<(u64, &[u8]), CodecFault>
     ensures { Reads (λ x. (x.0, x.1.now)) result (eight_at bytes.now) }
 {
     let Some((number, rest)) = bytes.split_first_chunk::<8>() else {
@@ -40,15 +40,15 @@ pub(crate) fn u64_at(bytes: &[u8]) -> Result<(u64, &[u8]), CodecFault>
     Ok((u64::from_be_bytes(*number), rest))
 }
 
-/// A key or a hash.
-pub(crate) fn key_at(bytes: &[u8]) -> Result<(&Key, &[u8]), CodecFault>
+/// The key or hash in the first 32 bytes, and the bytes after it. `Short` if there are fewer.
+pub fn key_at(bytes: &[u8]) -> Result<(&Key, &[u8]), CodecFault>
     ensures { Reads (λ x. (x.0.now, x.1.now)) result (bytes_at 32 bytes.now) }
 {
     bytes.split_first_chunk::<32>().ok_or(CodecFault::Short)
 }
 
-/// So many bytes.
-pub(crate) fn front_of(count: usize, bytes: &[u8]) -> Result<(&[u8], &[u8]), CodecFault>
+/// The first `count` bytes, and the bytes after them. `Short` if there are fewer.
+pub fn front_of(count: usize, bytes: &[u8]) -> Result<(&[u8], &[u8]), CodecFault>
     ensures { Reads (λ x. (x.0.now, x.1.now)) result (bytes_at count bytes.now) }
 {
     if bytes.len() < count {
@@ -57,30 +57,33 @@ pub(crate) fn front_of(count: usize, bytes: &[u8]) -> Result<(&[u8], &[u8]), Cod
     Ok(bytes.split_at(count))
 }
 
-/// Adds a number in two bytes.
+/// Adds a number in two bytes. A refusal leaves `out` as it was.
 #[tactic(auto, unfolding(crate::specs::Numbers::two_bytes))]
-pub(crate) fn put_u16(out: &mut Bytes, number: u16) -> Result<(), Memory>
-    ensures { OnOk result (out.new ≡ out.old ++ two_bytes number) }
+pub fn put_u16(out: &mut Bytes, number: u16) -> Result<(), Memory>
+    ensures ok { OnOk result (out.new ≡ out.old ++ two_bytes number) }
+    ensures err { OnErr result (out.new ≡ out.old) }
 {
     let mut bytes = [0; 2];
     BigEndian::write_u16(&mut bytes, number);
     out.append(&bytes)
 }
 
-/// Adds a number in four bytes.
+/// Adds a number in four bytes. A refusal leaves `out` as it was.
 #[tactic(auto, unfolding(crate::specs::Numbers::four_bytes))]
-pub(crate) fn put_u32(out: &mut Bytes, number: u32) -> Result<(), Memory>
-    ensures { OnOk result (out.new ≡ out.old ++ four_bytes number) }
+pub fn put_u32(out: &mut Bytes, number: u32) -> Result<(), Memory>
+    ensures ok { OnOk result (out.new ≡ out.old ++ four_bytes number) }
+    ensures err { OnErr result (out.new ≡ out.old) }
 {
     let mut bytes = [0; 4];
     BigEndian::write_u32(&mut bytes, number);
     out.append(&bytes)
 }
 
-/// Adds a number in eight bytes.
+/// Adds a number in eight bytes. A refusal leaves `out` as it was.
 #[tactic(auto, unfolding(crate::specs::Numbers::eight_bytes))]
-pub(crate) fn put_u64(out: &mut Bytes, number: u64) -> Result<(), Memory>
-    ensures { OnOk result (out.new ≡ out.old ++ eight_bytes number) }
+pub fn put_u64(out: &mut Bytes, number: u64) -> Result<(), Memory>
+    ensures ok { OnOk result (out.new ≡ out.old ++ eight_bytes number) }
+    ensures err { OnErr result (out.new ≡ out.old) }
 {
     let mut bytes = [0; 8];
     BigEndian::write_u64(&mut bytes, number);

@@ -13,8 +13,9 @@ mod tags;
 mod writing;
 
 pub use fault::CodecFault;
+pub use fields::{front_of, key_at, put_u16, put_u32, put_u64, u16_at, u32_at, u64_at};
 pub use format::Format;
 pub use laws::{one_name_in_front, one_node_in_front, one_spelling};
-pub use name::{decode_name, encode_name};
-pub use reading::{decode_node, decode_whole};
-pub use writing::encode_node;
+pub use name::{decode_name, encode_name, name_at, put_name};
+pub use reading::{decode_node, decode_whole, node_at};
+pub use writing::{encode_node, put_node};

@@ -2,6 +2,7 @@
 ghost use Rattle.std.specs.Prelude.{◌≡◌, ◌++◌, List, ℕ, drop, length, IfOk, OnOk, OnErr, Ok};
 ghost use Rattle.jf_path.specs.Names.{IsName};
 ghost use Rattle.jf_path.specs.declared.name.NodeName.{NodeName};
+ghost use Rattle.jf_codec.specs.Adding.{Keeps};
 ghost use Rattle.jf_codec.specs.Spelling.{name_bytes};
 ghost use Rattle.jf_codec.specs.Reading.{Reads, path_at, name_at, counted};
 
@@ -29,9 +30,10 @@ fn path_of(bytes: &[u8]) -> Result<(NibblePath, &[u8]), CodecFault>
     }
 }
 
-// A name, and the bytes after it.
+/// The name with which the bytes begin, and the bytes after it. Otherwise the first fault that is met from left to right:
+/// `Short` or `Path`.
 #[tactic(auto, unfolding(crate::specs::Reading::name_at))]
-fn name_of(bytes: &[u8]) -> Result<(NodeName, &[u8]), CodecFault>
+pub fn name_at(bytes: &[u8]) -> Result<(NodeName, &[u8]), CodecFault>
     ensures { Reads (λ x. (x.0, x.1.now)) result (name_at bytes.now) }
 {
     let (version, rest) = u64_at(bytes)?;
@@ -45,7 +47,7 @@ fn name_of(bytes: &[u8]) -> Result<(NodeName, &[u8]), CodecFault>
 fn measured(bytes: &[u8]) -> Result<(NodeName, usize), CodecFault>
     ensures { Reads (λ x. x) result (counted bytes.now (name_at bytes.now)) }
 {
-    match name_of(bytes) {
+    match name_at(bytes) {
         Ok((name, rest)) => Ok((name, bytes.len() - rest.len())),
         Err(fault) => Err(fault),
     }
@@ -61,15 +63,24 @@ pub fn decode_name(bytes: &[u8]) -> Result<(NodeName, usize), CodecFault>
     measured(bytes)
 }
 
+/// Adds the one spelling of a name. A refusal leaves what was in `out`, and may leave more behind it.
+#[tactic(auto, using(crate::proofs::Adding::keeps_same, crate::proofs::Adding::keeps_more))]
+pub fn put_name(out: &mut Bytes, name: &NodeName) -> Result<(), Memory>
+    ensures ok { OnOk result (out.new ≡ out.old ++ name_bytes name.now) }
+    ensures err { OnErr result (Keeps out.old out.new) }
+{
+    put_u64(out, name.version)?;
+    let mut path = [0; 33];
+    let count = name.path.to_bytes(&mut path);
+    out.append(&path[..count])
+}
+
 /// Appends the one spelling of a name. A refusal leaves `out` as it was.
 pub fn encode_name(alloc: Global, name: &NodeName, out: &mut Bytes) -> Result<(), Memory>
     ensures ok { OnOk result (out.new ≡ out.old ++ name_bytes name.now) }
     ensures err { OnErr result (out.new ≡ out.old) }
 {
     let mut text = Bytes::with_capacity(alloc, 41)?;
-    put_u64(&mut text, name.version)?;
-    let mut path = [0; 33];
-    let count = name.path.to_bytes(&mut path);
-    text.append(&path[..count])?;
+    put_name(&mut text, name)?;
     out.append(text.as_slice())
 }

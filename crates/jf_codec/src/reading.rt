@@ -114,9 +114,10 @@ fn inner_of(alloc: Global, format: Format, bytes: &[u8]) -> Result<(PlainNode, &
     Ok((PlainNode::Inner { children }, rest))
 }
 
-// A node, and the bytes after it.
+/// The node with which the bytes begin, and the bytes after it. Otherwise the first fault that is met from left to right, or
+/// `Memory`.
 #[tactic(auto, unfolding(crate::specs::Reading::node_at))]
-fn node_of(alloc: Global, bytes: &[u8]) -> Result<(PlainNode, &[u8]), CodecFault>
+pub fn node_at(alloc: Global, bytes: &[u8]) -> Result<(PlainNode, &[u8]), CodecFault>
     ensures { Gives (λ x. (x.0, x.1.now)) result (node_at bytes.now) }
 {
     match bytes {
@@ -133,7 +134,7 @@ fn node_of(alloc: Global, bytes: &[u8]) -> Result<(PlainNode, &[u8]), CodecFault
 fn measured(alloc: Global, bytes: &[u8]) -> Result<(PlainNode, usize), CodecFault>
     ensures { Gives (λ x. x) result (counted bytes.now (node_at bytes.now)) }
 {
-    let (node, rest) = node_of(alloc, bytes)?;
+    let (node, rest) = node_at(alloc, bytes)?;
     Ok((node, bytes.len() - rest.len()))
 }
 
@@ -162,7 +163,7 @@ pub fn decode_whole(alloc: Global, bytes: &[u8]) -> Result<PlainNode, CodecFault
 fn whole_of(alloc: Global, bytes: &[u8]) -> Result<PlainNode, CodecFault>
     ensures { Gives (λ node. node) result (whole_in bytes.now) }
 {
-    let (node, rest) = node_of(alloc, bytes)?;
+    let (node, rest) = node_at(alloc, bytes)?;
     if !rest.is_empty() {
         return Err(CodecFault::Rest);
     }

@@ -1,18 +1,22 @@
--- Files with the standing to which their records lead.
-use Rattle.std.proofs.Common.{◌≡◌, List, [], ◌∷◌, ◌++◌, Some, None, refl, sym, ap, ◌∙◌, subst}
+-- Records with the standing to which they lead.
+use Rattle.std.proofs.Common.{◌≡◌, List, [], ◌∷◌, ◌++◌, refl, sym, subst}
 use Rattle.std.proofs.lemmas.List.{map-append}
 use Rattle.jf_disk.specs.Disk.{Files}
 use Rattle.jf_model.specs.Versions.{Versions, IsVersions}
 use Rattle.jf_frame.specs.Framed.{Framed}
+use Rattle.jf_pair.specs.Files.{HoldsLive}
+use Rattle.jf_pair.specs.FileLaws.{holds_one}
 use Rattle.jf_codec.specs.declared.format.Format.{Format}
+use Rattle.jf_payload.specs.Spelling.{checkpoint_kind, IsSpelling}
+use Rattle.jf_payload.specs.Laws.{SpelledIsSpelling}
+use Rattle.jf_payload.specs.declared.records.Record.{Record}
+use Rattle.jf_payload.specs.declared.records.Record.TheVariants as «record»
 use Rattle.jf_standing.specs.Standing.{Standing, versions_of}
 use Rattle.jf_standing.specs.Sound.{IsSound}
 use Rattle.jf_standing.specs.Taking.{Takes, Gives}
 use Rattle.jf_standing.specs.Leading.{Item, ItemFollows, Leads}
 use Rattle.jf_standing.specs.ItemLaws.{ItemsLeadToSound}
-use Rattle.jf_standing.specs.declared.records.Record.{Record}
-use Rattle.jf_files.specs.Sides.{format_of_kind, live, outer_damage}
-use Rattle.jf_files.specs.Files.{Reader, IsReader, item, items, LeadTo, StandsFor, HoldsStanding}
+use Rattle.jf_files.specs.Files.{item, items, LeadToStanding, LeadTo, StandsFor, HoldsStanding}
 use Rattle.jf_files.proofs.Judging.{are_read}
 
 -- one item more
@@ -20,30 +24,42 @@ leads_on : (fmt : Format) (xs : List Item) (s a b : Standing) (y : Item) → Lea
 leads_on fmt [] s a b y is next = (b, subst (λ m. ItemFollows fmt m y b) is next, refl)
 leads_on fmt (x ∷ xs) s a b y is next = (is.0, is.1, leads_on fmt xs is.0 a b y is.2 next)
 
-pub held_stands : (read : Reader) (files : Files) (fmt : Format) (s : Standing) → HoldsStanding read files fmt s → StandsFor read files (versions_of s)
-held_stands read files fmt s h = record { whole = h.whole; leads = subst (λ xs. LeadTo read xs (versions_of s)) (sym h.live_is) (fmt, h.kind_is, s, h.leads, refl) }
+pub one_more : SpelledIsSpelling → (rs : List Framed) (fmt : Format) (s s' : Standing) (y : Framed) (r : Record) → LeadToStanding rs fmt s → IsSpelling fmt r y.kind y.payload → Takes fmt s r s' → LeadToStanding (rs ++ y ∷ []) fmt s'
+one_more spelling [] fmt s s' y r leads is takes = absurd leads
+one_more spelling (x ∷ xs) fmt s s' y r leads is takes = (
+  leads.0,
+  (
+    leads.1.0,
+    leads.1.1,
+    subst (λ ys. Leads fmt leads.1.0 ys s') (sym (map-append (item fmt) xs (y ∷ []))) (leads_on fmt (items fmt xs) leads.1.0 s s' (item fmt y) leads.1.2 (r, (spelling fmt y.kind y.payload r).1 is, takes)),
+  ),
+)
 
-pub stands_held : (read : Reader) (files : Files) (v : Versions) (x : Framed) (xs : List Framed) → StandsFor read files v → live files ≡ x ∷ xs → (fmt : Format) × (s : Standing) × HoldsStanding read files fmt s × (v ≡ versions_of s)
-stands_held read files v x xs stands is =
-    let l = subst (λ ys. LeadTo read ys v) is stands.leads in
-    (l.0, l.2, record { whole = stands.whole; first = x; more = xs; live_is = is; kind_is = l.1; leads = l.3 }, l.4)
+-- a first record that gives a standing has the kind of its format
+first_kind : (fmt : Format) (r : Record) (s : Standing) (x : Framed) → Gives fmt r s → IsSpelling fmt r x.kind x.payload → x.kind ≡ checkpoint_kind fmt
+first_kind fmt («record».Floor floor) s x gives is = absurd gives
+first_kind fmt («record».NodeCommit c) s x gives is = absurd gives
+first_kind fmt («record».Checkpoint generation base floor head roots nodes) s x gives is = is.kind_is
+first_kind fmt («record».Group cs) s x gives is = absurd gives
 
-pub held_sound : ItemsLeadToSound → (read : Reader) → IsReader read → (files : Files) (fmt : Format) (s : Standing) → HoldsStanding read files fmt s → IsSound fmt s × IsVersions (versions_of s)
-held_sound law read reader files fmt s h = law fmt (item read fmt h.first) (items read fmt h.more) s (are_read read reader fmt h.first h.more) h.leads
+pub checkpoint_leads : SpelledIsSpelling → (fmt : Format) (s : Standing) (x : Framed) (r : Record) → IsSpelling fmt r x.kind x.payload → Gives fmt r s → LeadToStanding (x ∷ []) fmt s
+checkpoint_leads spelling fmt s x r is gives = (first_kind fmt r s x gives is, (s, (r, (spelling fmt x.kind x.payload r).1 is, gives), refl))
 
-pub one_more : (read : Reader) (old new : Files) (fmt : Format) (s s' : Standing) (y : Framed) (r : Record) → HoldsStanding read old fmt s → outer_damage new ≡ None → live new ≡ live old ++ y ∷ [] → read fmt y ≡ Some r → Takes fmt s r s' → HoldsStanding read new fmt s'
-one_more read old new fmt s s' y r h whole behind is takes = record {
-  whole = whole;
-  first = h.first;
-  more = h.more ++ y ∷ [];
-  live_is = behind ∙ ap (λ xs. xs ++ y ∷ []) h.live_is;
-  kind_is = h.kind_is;
-  leads = (
-    h.leads.0,
-    h.leads.1,
-    subst (λ ys. Leads fmt h.leads.0 ys s') (sym (map-append (item read fmt) h.more (y ∷ []))) (leads_on fmt (items read fmt h.more) h.leads.0 s s' (item read fmt y) h.leads.2 (r, is, takes)),
-  );
-}
+pub have_versions : (rs : List Framed) (fmt : Format) (s : Standing) → LeadToStanding rs fmt s → LeadTo rs (versions_of s)
+have_versions [] fmt s leads = absurd leads
+have_versions (x ∷ xs) fmt s leads = (fmt, s, leads, refl)
 
-pub checkpoint_held : (read : Reader) (files : Files) (fmt : Format) (s : Standing) (x : Framed) (r : Record) → outer_damage files ≡ None → live files ≡ x ∷ [] → format_of_kind x.kind ≡ Some fmt → read fmt x ≡ Some r → Gives fmt r s → HoldsStanding read files fmt s
-checkpoint_held read files fmt s x r whole is kind reads gives = record { whole = whole; first = x; more = []; live_is = is; kind_is = kind; leads = (s, (r, reads, gives), refl) }
+pub held_stands : (files : Files) (fmt : Format) (s : Standing) → HoldsStanding files fmt s → StandsFor files (versions_of s)
+held_stands files fmt s h = record { live = h.live; held = h.held; leads = have_versions h.live fmt s h.leads }
+
+pub stands_held : (files : Files) (v : Versions) (x : Framed) (xs : List Framed) → StandsFor files v → HoldsLive files (x ∷ xs) → (fmt : Format) × (s : Standing) × HoldsStanding files fmt s × (v ≡ versions_of s)
+stands_held files v x xs stands is =
+    let l = subst (λ ys. LeadTo ys v) (holds_one files stands.live (x ∷ xs) stands.held is) stands.leads in
+    (l.0, l.1, record { live = x ∷ xs; held = is; leads = l.2 }, l.3)
+
+leads_sound : ItemsLeadToSound → SpelledIsSpelling → (rs : List Framed) (fmt : Format) (s : Standing) → LeadToStanding rs fmt s → IsSound fmt s × IsVersions (versions_of s)
+leads_sound law spelling [] fmt s leads = absurd leads
+leads_sound law spelling (x ∷ xs) fmt s leads = law fmt (item fmt x) (items fmt xs) s (are_read spelling fmt x xs) leads.1
+
+pub held_sound : ItemsLeadToSound → SpelledIsSpelling → (files : Files) (fmt : Format) (s : Standing) → HoldsStanding files fmt s → IsSound fmt s × IsVersions (versions_of s)
+held_sound law spelling files fmt s h = leads_sound law spelling h.live fmt s h.leads

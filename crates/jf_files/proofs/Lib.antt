@@ -1,3 +1,7 @@
+pub mod Spelled
+pub mod Numbered
 pub mod Judging
-pub mod Whole
 pub mod Holding
+pub mod Stepping
+pub mod NewStore
+mod Samples

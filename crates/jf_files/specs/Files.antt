@@ -1,60 +1,73 @@
--- The versions for which two files stand, or the first place of damage, by a function that reads records.
-use Rattle.std.specs.Prelude.{◌≡◌, ◌⊎◌, ℕ, List, [], ◌∷◌, map, Option, Some, None}
+-- The versions for which two files stand, or the first place of damage.
+use Rattle.std.specs.Prelude.{◌≡◌, ◌⊎◌, ℕ, List, [], ◌∷◌, map, Some, Result, Ok, Err}
 use Rattle.jf_disk.specs.Disk.{Files}
 use Rattle.jf_disk.specs.declared.side.Side.{Side}
 use Rattle.jf_model.specs.Versions.{Versions, new_store}
 use Rattle.jf_frame.specs.Framed.{Framed}
+use Rattle.jf_frame.specs.Framing.{records}
+use Rattle.jf_pair.specs.Files.{HoldsLive, generation_of, live_side, live_records, outer_damage}
 use Rattle.jf_codec.specs.declared.format.Format.{Format}
+use Rattle.jf_payload.specs.Spelling.{checkpoint_kind}
+use Rattle.jf_payload.specs.Reading.{spelled}
 use Rattle.jf_standing.specs.Standing.{Standing, versions_of}
-use Rattle.jf_standing.specs.Next.{IsReadRecord}
-use Rattle.jf_standing.specs.Begin.{IsReadFirst}
 use Rattle.jf_standing.specs.Leading.{Item, AllLead, OneFailsAt}
-use Rattle.jf_standing.specs.declared.records.Record.{Record}
-use Rattle.jf_files.specs.Sides.{format_of_kind, live_side_of, live, outer_damage}
 
--- what a record is read as in a file of a format, none if it is no spelling
-abbrev pub Reader : Type 0
-Reader = Format → Framed → Option Record
+-- what stands at the offset of a record in a file of a format: the record that its payload spells, or none
+abbrev pub item : Format → Framed → Item
+item fmt x = (x.offset, spelled fmt x.kind x.payload)
 
--- what is read has names in order, keys of 32 bytes, values that are bytes, and numbers within their bounds
-pub record IsReader (read : Reader) : Type 0 where
-  pub first : (fmt : Format) (x : Framed) (r : Record) → read fmt x ≡ Some r → IsReadFirst r
-  pub later : (fmt : Format) (x : Framed) (r : Record) → read fmt x ≡ Some r → IsReadRecord r
+-- the same of records in their order
+abbrev pub items : Format → List Framed → List Item
+items fmt xs = map (item fmt) xs
 
--- a record as it is read, beside its offset
-abbrev pub item : Reader → Format → Framed → Item
-item read fmt x = (x.offset, read fmt x)
+-- records lead to a standing of a format: the first is a checkpoint of the format's kind and gives one, and each later
+-- record is taken
+abbrev pub LeadToStanding : List Framed → Format → Standing → Type 0
+LeadToStanding [] fmt s = ⊥
+LeadToStanding (x ∷ xs) fmt s = (x.kind ≡ checkpoint_kind fmt) × AllLead fmt (item fmt x) (items fmt xs) s
 
--- records as they are read, in their order
-abbrev pub items : Reader → Format → List Framed → List Item
-items read fmt xs = map (item read fmt) xs
+-- records lead to versions: no record to those of a new store, others to those of the standing
+abbrev pub LeadTo : List Framed → Versions → Type 0
+LeadTo [] v = v ≡ new_store
+LeadTo (x ∷ xs) v = (fmt : Format) × (s : Standing) × LeadToStanding (x ∷ xs) fmt s × (v ≡ versions_of s)
 
--- records lead to these versions
-abbrev pub LeadTo : Reader → List Framed → Versions → Type 0
-LeadTo read [] v = v ≡ new_store
-LeadTo read (x ∷ xs) v = (fmt : Format) × (format_of_kind x.kind ≡ Some fmt) × (s : Standing) × AllLead fmt (item read fmt x) (items read fmt xs) s × (v ≡ versions_of s)
+-- the offset of the first of them that isn't sound
+abbrev pub IsUnsoundAt : List Framed → ℕ → Type 0
+IsUnsoundAt [] at = ⊥
+IsUnsoundAt (x ∷ xs) at = (fmt : Format) × (x.kind ≡ checkpoint_kind fmt) × OneFailsAt fmt (item fmt x) (items fmt xs) at
 
--- the first of them that isn't sound
-abbrev pub IsUnsoundAt : Reader → List Framed → ℕ → Type 0
-IsUnsoundAt read [] at = ⊥
-IsUnsoundAt read (x ∷ xs) at = (fmt : Format) × (format_of_kind x.kind ≡ Some fmt) × OneFailsAt fmt (item read fmt x) (items read fmt xs) at
+-- files stand for versions: they hold live records, and these lead to the versions
+pub record StandsFor (files : Files) (v : Versions) : Type 0 where
+  pub live : List Framed
+  pub held : HoldsLive files live
+  pub leads : LeadTo live v
 
--- files stand for versions: nothing shows of damage, and the live records lead to these
-pub record StandsFor (read : Reader) (files : Files) (v : Versions) : Type 0 where
-  pub whole : outer_damage files ≡ None
-  pub leads : LeadTo read (live files) v
+-- a live record is the first that isn't sound
+abbrev pub IsDamagedWithin : Files → Side → ℕ → Type 0
+IsDamagedWithin files where_ at = (rs : List Framed) × (h : HoldsLive files rs) × (where_ ≡ live_side h.a_records h.b_records) × IsUnsoundAt rs at
 
--- the first place of damage: one that shows, or if none does, the first live record that is not sound
-abbrev pub IsDamagedAt : Reader → Files → Side → ℕ → Type 0
-IsDamagedAt read files where_ at = (outer_damage files ≡ Some (where_, at)) ⊎ ((outer_damage files ≡ None) × (where_ ≡ live_side_of files) × IsUnsoundAt read (live files) at)
+-- the first place of damage: one that shows in gates, lengths and first records, or if none does, that of a live record
+abbrev pub IsDamagedAt : Files → Side → ℕ → Type 0
+IsDamagedAt files where_ at = (outer_damage files ≡ Some (where_, at)) ⊎ IsDamagedWithin files where_ at
 
--- ---- with the standing
+-- files hold a standing of a format: their live records lead to it
+pub record HoldsStanding (files : Files) (fmt : Format) (s : Standing) : Type 0 where
+  pub live : List Framed
+  pub held : HoldsLive files live
+  pub leads : LeadToStanding live fmt s
 
--- files hold a standing of a format: nothing shows of damage, and the live records are in that format and lead to it
-pub record HoldsStanding (read : Reader) (files : Files) (fmt : Format) (s : Standing) : Type 0 where
-  pub whole : outer_damage files ≡ None
-  pub first : Framed
-  pub more : List Framed
-  pub live_is : live files ≡ first ∷ more
-  pub kind_is : format_of_kind first.kind ≡ Some fmt
-  pub leads : AllLead fmt (item read fmt first) (items read fmt more) s
+-- ---- the generation
+
+-- the generation of live records: that of the checkpoint, 1 if there is no record
+abbrev pub generation_in : List Framed → ℕ
+generation_in [] = 1
+generation_in (x ∷ xs) = generation_of (x ∷ xs)
+
+-- the records of a side, none if its gates and lengths don't hold
+abbrev pub held : Result (List Framed) ℕ → List Framed
+held (Ok rs) = rs
+held (Err at) = []
+
+-- the generation of two files: that of the live records
+unfoldable pub generation : Files → ℕ
+generation files = generation_in (live_records (held (records files.a)) (held (records files.b)))

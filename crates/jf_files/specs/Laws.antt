@@ -1,71 +1,96 @@
 -- Laws on what files stand for.
-use Rattle.std.specs.Prelude.{◌≡◌, ◌↔◌, ◌⊎◌, ℕ, List, [], ◌∷◌, ◌++◌, Some, None, Ok}
-use Rattle.jf_disk.specs.Disk.{Files}
+use Rattle.std.specs.Prelude.{◌≡◌, ◌↔◌, ◌⊎◌, ℕ, true, List, [], ◌∷◌, ◌++◌, Ok}
+use Rattle.jf_disk.specs.Disk.{Files, History, reads}
+use Rattle.jf_disk.specs.Crashes.{LeavesNow}
 use Rattle.jf_disk.specs.declared.side.Side.{Side}
 use Rattle.jf_model.specs.Versions.{Versions, IsVersions, new_store}
-use Rattle.jf_frame.specs.Framing.{records}
+use Rattle.jf_frame.specs.Framing.{frame, records}
 use Rattle.jf_frame.specs.Framed.{Framed}
+use Rattle.jf_pair.specs.Files.{is_checkpoint, is_begun, HoldsLive}
 use Rattle.jf_codec.specs.declared.format.Format.{Format}
+use Rattle.jf_codec.specs.declared.format.Format.TheVariants as format
+use Rattle.jf_standing.specs.Named.{Named}
 use Rattle.jf_standing.specs.Standing.{Standing, versions_of}
 use Rattle.jf_standing.specs.Sound.{IsSound}
 use Rattle.jf_standing.specs.Taking.{Takes, Gives}
-use Rattle.jf_standing.specs.declared.records.Record.{Record}
-use Rattle.jf_files.specs.Sides.{format_of_kind, live, live_records, outer_damage, AreWhole}
-use Rattle.jf_files.specs.Files.{Reader, IsReader, LeadTo, StandsFor, IsDamagedAt, HoldsStanding}
+use Rattle.jf_payload.specs.Spelling.{checkpoint_kind, record_bytes, IsSpelling}
+use Rattle.jf_payload.specs.declared.records.Record.{Record}
+use Rattle.jf_payload.specs.declared.records.Record.TheVariants as «record»
+use Rattle.jf_standing.specs.Building.{new_standing, checkpoint_of}
+use Rattle.jf_files.specs.NewStore.{new_store_bytes, new_store_files}
+use Rattle.jf_files.specs.Files.{LeadToStanding, LeadTo, StandsFor, IsDamagedAt, HoldsStanding, generation_in, generation}
+use Rattle.jf_files.specs.Steps.{IsCalm}
 
--- nothing shows of damage exactly if both sides are whole
-abbrev pub WholeShowsNothing : Type 0
-WholeShowsNothing = (files : Files) → (outer_damage files ≡ None) ↔ AreWhole files
+-- a checkpoint's kinds are those of the two formats
+abbrev pub CheckpointsHaveFormats : Type 0
+CheckpointsHaveFormats = (kind : ℕ) → (is_checkpoint kind ≡ true) ↔ ((fmt : Format) × (kind ≡ checkpoint_kind fmt))
 
--- so files stand for versions exactly if both sides are whole and the records of the live one lead to these
-abbrev pub StandsForInFull : Type 0
-StandsForInFull = (read : Reader) (files : Files) (v : Versions) → StandsFor read files v ↔ ((w : AreWhole files) × LeadTo read (live_records w.a_records w.b_records) v)
+-- a record that spells a checkpoint can begin a side, and has the checkpoint's generation
+abbrev pub CheckpointsAreNumbered : Type 0
+CheckpointsAreNumbered =
+    (fmt : Format) (generation base floor head : ℕ) (roots : List (List ℕ)) (nodes : List Named) (x : Framed) → IsSpelling fmt («record».Checkpoint generation base floor head roots nodes) x.kind x.payload
+    → (is_begun (x ∷ []) ≡ true) × (generation_in (x ∷ []) ≡ generation)
+
+-- the generation of two files is that of their live records
+abbrev pub GenerationIsLive : Type 0
+GenerationIsLive = (files : Files) (rs : List Framed) → HoldsLive files rs → generation files ≡ generation_in rs
 
 -- files without records stand for a new store
 abbrev pub NoRecordsAreNew : Type 0
-NoRecordsAreNew = (read : Reader) (files : Files) → records files.a ≡ Ok [] → records files.b ≡ Ok [] → StandsFor read files new_store
+NoRecordsAreNew = (files : Files) → records files.a ≡ Ok [] → records files.b ≡ Ok [] → StandsFor files new_store
+
+-- and so do the 101 bytes that the checkpoint of a new store, in the second format, makes of side A: with generation 1
+abbrev pub NewStoreStands : Type 0
+NewStoreStands = StandsFor new_store_files new_store × (generation new_store_files ≡ 1) × (1 ∷ frame 5 (record_bytes format.Two (checkpoint_of 1 (new_standing format.Two))) ≡ new_store_bytes)
 
 -- files stand for one value of versions at most
 abbrev pub FilesStandForOne : Type 0
-FilesStandForOne = (read : Reader) → IsReader read → (files : Files) (v w : Versions) → StandsFor read files v → StandsFor read files w → v ≡ w
+FilesStandForOne = (files : Files) (v w : Versions) → StandsFor files v → StandsFor files w → v ≡ w
 
 -- and that is sound
 abbrev pub FilesStandForSound : Type 0
-FilesStandForSound = (read : Reader) → IsReader read → (files : Files) (v : Versions) → StandsFor read files v → IsVersions v
+FilesStandForSound = (files : Files) (v : Versions) → StandsFor files v → IsVersions v
 
 -- damaged files stand for none
 abbrev pub DamageIsNoVersions : Type 0
-DamageIsNoVersions = (read : Reader) → IsReader read → (files : Files) (v : Versions) (where_ : Side) (at : ℕ) → StandsFor read files v → IsDamagedAt read files where_ at → ⊥
+DamageIsNoVersions = (files : Files) (v : Versions) (where_ : Side) (at : ℕ) → StandsFor files v → IsDamagedAt files where_ at → ⊥
 
 -- there is one first place of damage
 abbrev pub DamageHasOnePlace : Type 0
 DamageHasOnePlace =
-    (read : Reader) → IsReader read → (files : Files) (where_ where_' : Side) (at at' : ℕ) → IsDamagedAt read files where_ at → IsDamagedAt read files where_' at' → (where_ ≡ where_') × (at ≡ at')
+    (files : Files) (where_ where_' : Side) (at at' : ℕ) → IsDamagedAt files where_ at → IsDamagedAt files where_' at' → (where_ ≡ where_') × (at ≡ at')
 
 -- files stand for versions, or are damaged
 abbrev pub FilesAreJudged : Type 0
-FilesAreJudged = (read : Reader) → IsReader read → (files : Files) → ((v : Versions) × StandsFor read files v) ⊎ ((where_ : Side) × (at : ℕ) × IsDamagedAt read files where_ at)
+FilesAreJudged = (files : Files) → ((v : Versions) × StandsFor files v) ⊎ ((where_ : Side) × (at : ℕ) × IsDamagedAt files where_ at)
 
--- ---- files with a standing
+-- a disk whose files stand for versions is calm if all that a crash may leave stands for them
+abbrev pub CalmBoth : Type 0
+CalmBoth = (h : History) (v : Versions) → StandsFor (reads h) v → LeavesNow h (λ f. StandsFor f v) → IsCalm h
 
--- they stand for its versions
+-- ---- with the standing
+
+-- files that hold one stand for its versions
 abbrev pub HeldIsStoodFor : Type 0
-HeldIsStoodFor = (read : Reader) (files : Files) (fmt : Format) (s : Standing) → HoldsStanding read files fmt s → StandsFor read files (versions_of s)
+HeldIsStoodFor = (files : Files) (fmt : Format) (s : Standing) → HoldsStanding files fmt s → StandsFor files (versions_of s)
 
--- and files that hold a record and stand for versions have one
+-- and files that hold a record and stand for versions hold one
 abbrev pub StoodForIsHeld : Type 0
 StoodForIsHeld =
-    (read : Reader) (files : Files) (v : Versions) (x : Framed) (xs : List Framed) → StandsFor read files v → live files ≡ x ∷ xs → (fmt : Format) × (s : Standing) × HoldsStanding read files fmt s × (v ≡ versions_of s)
+    (files : Files) (v : Versions) (x : Framed) (xs : List Framed) → StandsFor files v → HoldsLive files (x ∷ xs) → (fmt : Format) × (s : Standing) × HoldsStanding files fmt s × (v ≡ versions_of s)
 
 -- which is sound
 abbrev pub HeldIsSound : Type 0
-HeldIsSound = (read : Reader) → IsReader read → (files : Files) (fmt : Format) (s : Standing) → HoldsStanding read files fmt s → IsSound fmt s × IsVersions (versions_of s)
+HeldIsSound = (files : Files) (fmt : Format) (s : Standing) → HoldsStanding files fmt s → IsSound fmt s × IsVersions (versions_of s)
 
 -- one record after the others leads on
 abbrev pub OneMoreFollows : Type 0
-OneMoreFollows =
-    (read : Reader) (old new : Files) (fmt : Format) (s s' : Standing) (y : Framed) (r : Record) → HoldsStanding read old fmt s → outer_damage new ≡ None → live new ≡ live old ++ y ∷ [] → read fmt y ≡ Some r → Takes fmt s r s' → HoldsStanding read new fmt s'
+OneMoreFollows = (rs : List Framed) (fmt : Format) (s s' : Standing) (y : Framed) (r : Record) → LeadToStanding rs fmt s → IsSpelling fmt r y.kind y.payload → Takes fmt s r s' → LeadToStanding (rs ++ y ∷ []) fmt s'
 
 -- a checkpoint alone leads to what it gives
 abbrev pub CheckpointAlone : Type 0
-CheckpointAlone = (read : Reader) (files : Files) (fmt : Format) (s : Standing) (x : Framed) (r : Record) → outer_damage files ≡ None → live files ≡ x ∷ [] → format_of_kind x.kind ≡ Some fmt → read fmt x ≡ Some r → Gives fmt r s → HoldsStanding read files fmt s
+CheckpointAlone = (fmt : Format) (s : Standing) (x : Framed) (r : Record) → IsSpelling fmt r x.kind x.payload → Gives fmt r s → LeadToStanding (x ∷ []) fmt s
+
+-- records that lead to a standing lead to its versions
+abbrev pub StandingsHaveVersions : Type 0
+StandingsHaveVersions = (rs : List Framed) (fmt : Format) (s : Standing) → LeadToStanding rs fmt s → LeadTo rs (versions_of s)

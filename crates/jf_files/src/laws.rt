@@ -1,19 +1,25 @@
 // Laws on what files stand for. These functions do nothing when they run.
-ghost use Rattle.jf_files.specs.Laws.{WholeShowsNothing, StandsForInFull, NoRecordsAreNew, FilesStandForOne, FilesStandForSound, DamageIsNoVersions, DamageHasOnePlace, FilesAreJudged, HeldIsStoodFor, StoodForIsHeld, HeldIsSound, OneMoreFollows, CheckpointAlone};
+ghost use Rattle.jf_files.specs.Laws.{CheckpointsHaveFormats, CheckpointsAreNumbered, GenerationIsLive, NoRecordsAreNew, NewStoreStands, FilesStandForOne, FilesStandForSound, DamageIsNoVersions, DamageHasOnePlace, FilesAreJudged, CalmBoth, HeldIsStoodFor, StoodForIsHeld, HeldIsSound, OneMoreFollows, CheckpointAlone, StandingsHaveVersions};
 
+use jf_payload::spelled_is_spelling;
 use jf_standing::{
-    items_are_judged, items_fail_once, items_lead_to_one, items_lead_to_sound, never_both,
+    checkpoints_give, items_are_judged, items_fail_once, items_lead_to_one, items_lead_to_sound,
+    never_both, new_is_sound,
 };
 
-/// Nothing shows of damage exactly if the gates and lengths of both files hold, each file with records begins with a
-/// checkpoint's kind and a number, and their generations differ.
-pub fn whole_shows_nothing()
-    ensures { WholeShowsNothing }
+/// The kinds of a checkpoint are those of the two formats of nodes.
+pub fn checkpoints_have_formats()
+    ensures { CheckpointsHaveFormats }
 {}
 
-/// Files stand for versions exactly if that is so, and the records of the live file lead to these versions.
-pub fn stands_for_in_full()
-    ensures { StandsForInFull }
+/// A record that spells a checkpoint can begin a side, and has the checkpoint's generation.
+pub fn checkpoints_are_numbered()
+    ensures { CheckpointsAreNumbered }
+{}
+
+/// The generation of two files is that of their live records.
+pub fn generation_is_live()
+    ensures { GenerationIsLive }
 {}
 
 /// Files without records stand for a new store.
@@ -21,11 +27,21 @@ pub fn no_records_are_new()
     ensures { NoRecordsAreNew }
 {}
 
+/// The checkpoint of a new store makes 101 bytes of side A, which stand for a new store of generation 1.
+pub fn new_store_stands()
+    ensures { NewStoreStands }
+{
+    spelled_is_spelling();
+    checkpoints_give();
+    new_is_sound();
+}
+
 /// Files stand for one value of versions at most.
 pub fn files_stand_for_one()
     ensures { FilesStandForOne }
 {
     items_lead_to_one();
+    spelled_is_spelling();
 }
 
 /// The versions that files stand for are sound.
@@ -33,6 +49,7 @@ pub fn files_stand_for_sound()
     ensures { FilesStandForSound }
 {
     items_lead_to_sound();
+    spelled_is_spelling();
 }
 
 /// Damaged files stand for no versions.
@@ -40,6 +57,7 @@ pub fn damage_is_no_versions()
     ensures { DamageIsNoVersions }
 {
     never_both();
+    spelled_is_spelling();
 }
 
 /// There is one first place of damage.
@@ -47,6 +65,7 @@ pub fn damage_has_one_place()
     ensures { DamageHasOnePlace }
 {
     items_fail_once();
+    spelled_is_spelling();
 }
 
 /// Files stand for versions, or are damaged.
@@ -54,6 +73,15 @@ pub fn files_are_judged()
     ensures { FilesAreJudged }
 {
     items_are_judged();
+    spelled_is_spelling();
+}
+
+/// A disk whose files stand for versions is calm if all that a crash may leave stands for them.
+pub fn calm_both()
+    ensures { CalmBoth }
+{
+    items_lead_to_one();
+    spelled_is_spelling();
 }
 
 /// Files that hold a standing stand for its versions.
@@ -71,14 +99,24 @@ pub fn held_is_sound()
     ensures { HeldIsSound }
 {
     items_lead_to_sound();
+    spelled_is_spelling();
 }
 
-/// Files with one live record more hold what that record makes of the standing before.
+/// Records with one more lead to what that one makes of the standing before.
 pub fn one_more_follows()
     ensures { OneMoreFollows }
-{}
+{
+    spelled_is_spelling();
+}
 
-/// Files whose one live record is a checkpoint hold what it gives.
+/// A checkpoint alone leads to the standing that it gives.
 pub fn checkpoint_alone()
     ensures { CheckpointAlone }
+{
+    spelled_is_spelling();
+}
+
+/// Records that lead to a standing lead to its versions.
+pub fn standings_have_versions()
+    ensures { StandingsHaveVersions }
 {}

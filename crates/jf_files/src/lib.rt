@@ -1,12 +1,18 @@
-//! The versions that two files of records stand for, or the first place of damage, by a function that reads records.
-//! Definitions with their laws.
+//! The versions that two files of records stand for, or the first place of damage; and what a stop in a step of a store may
+//! leave. Definitions with their laws.
 #![tactic(auto)]
 
 mod laws;
+mod step_laws;
 
 pub use laws::{
-    checkpoint_alone, damage_has_one_place, damage_is_no_versions, files_are_judged,
-    files_stand_for_one, files_stand_for_sound, held_is_sound, held_is_stood_for,
-    no_records_are_new, one_more_follows, stands_for_in_full, stood_for_is_held,
-    whole_shows_nothing,
+    calm_both, checkpoint_alone, checkpoints_are_numbered, checkpoints_have_formats,
+    damage_has_one_place, damage_is_no_versions, files_are_judged, files_stand_for_one,
+    files_stand_for_sound, generation_is_live, held_is_sound, held_is_stood_for, new_store_stands,
+    no_records_are_new, one_more_follows, standings_have_versions, stood_for_is_held,
+};
+pub use step_laws::{
+    begins_by_records, checkpoints_follow, first_follows, floors_follow, imports_follow,
+    landings_follow, opens_by_records, stops_by_records, succeeds_after_reading,
+    succeeds_by_records,
 };

@@ -1,5 +1,5 @@
 // Both sides, synced and read.
-ghost use Rattle.std.specs.Prelude.{◌≡◌, false, Some, Err, IfOk, OnOk, IsErr, ℕ};
+ghost use Rattle.std.specs.Prelude.{◌≡◌, ◌+◌, ◌≤◌, false, Some, Err, IfOk, OnOk, IsErr, ℕ};
 ghost use Rattle.jf_disk.specs.Disk.{History, CallsOn, content, durable, reads};
 ghost use Rattle.jf_disk.specs.Crashes.{LeavesFiles, Idles};
 ghost use Rattle.jf_disk.specs.declared.side.Side.{Side};
@@ -26,6 +26,8 @@ pub(crate) fn read_sides<D: Disk>(alloc: Global, disk: &mut D) -> Result<Sides, 
     ensures damaged { (h : History) (side : Side) (at : ℕ) → D.history disk.old ≡ Some h → result ≡ Err (PairFault.Damaged side at) → outer_damage (reads h) ≡ Some (side, at) }
     ensures left { (h : History) → D.history disk.old ≡ Some h → (g : History) × (D.history disk.new ≡ Some g) × LeavesFiles h g }
     ensures calls { CallsOn (D.history disk.old) (D.moment disk.old) (D.faults disk.old) (D.history disk.new) (D.moment disk.new) (D.faults disk.new) (result ≡ Err PairFault.DiskFault) }
+    ensures six { OnOk result (D.moment disk.new ≡ D.moment disk.old + 6) }
+    ensures few { D.moment disk.new ≤ D.moment disk.old + 6 }
 {
     sync_sides(disk)?;
     let a = read_side(alloc, disk, Side::A)?;
@@ -38,6 +40,8 @@ fn sync_sides<D: Disk>(disk: &mut D) -> Result<(), DiskFault>
     ensures quiet { (h : History) → D.history disk.old ≡ Some h → OnOk result ((g : History) × (D.history disk.new ≡ Some g) × (g.now.a ≡ durable h.now.a.bytes) × (g.now.b ≡ durable h.now.b.bytes)) }
     ensures left { (h : History) → D.history disk.old ≡ Some h → (g : History) × (D.history disk.new ≡ Some g) × LeavesFiles h g }
     ensures calls { CallsOn (D.history disk.old) (D.moment disk.old) (D.faults disk.old) (D.history disk.new) (D.moment disk.new) (D.faults disk.new) (IsErr result) }
+    ensures two { OnOk result (D.moment disk.new ≡ D.moment disk.old + 2) }
+    ensures few { D.moment disk.new ≤ D.moment disk.old + 2 }
 {
     know_counts(disk);
     know_readable(disk);
@@ -54,6 +58,8 @@ fn read_side<D: Disk>(alloc: Global, disk: &mut D, side: Side) -> Result<Log, Pa
     ensures damaged { (h : History) (s : Side) (at : ℕ) → D.history disk.old ≡ Some h → result ≡ Err (PairFault.Damaged s at) → (s ≡ side) × (records (content side h.now).bytes ≡ Err at) }
     ensures idle { (h : History) → D.history disk.old ≡ Some h → (g : History) × (D.history disk.new ≡ Some g) × Idles h g }
     ensures calls { CallsOn (D.history disk.old) (D.moment disk.old) (D.faults disk.old) (D.history disk.new) (D.moment disk.new) (D.faults disk.new) (result ≡ Err PairFault.DiskFault) }
+    ensures two { OnOk result (D.moment disk.new ≡ D.moment disk.old + 2) }
+    ensures few { D.moment disk.new ≤ D.moment disk.old + 2 }
 {
     match Log::read_all(alloc, disk, side) {
         Ok(log) => Ok(log),

@@ -11,7 +11,7 @@ use Rattle.jf_standing.specs.Standing.{Standing, is_named, with_commit}
 use Rattle.jf_standing.specs.Sound.{IsSound}
 use Rattle.jf_standing.specs.Landing.{head_map, fresh_leaves, stale_leaves, batch_of, landing_of, IsInOrder}
 use Rattle.jf_standing.specs.Taking.{Continues}
-use Rattle.jf_standing.specs.declared.records.Commit.{Commit}
+use Rattle.jf_payload.specs.declared.records.Commit.{Commit}
 use Rattle.jf_standing.proofs.Lists.{All-each_element}
 use Rattle.jf_standing.proofs.Leaves.{leaf-which, leaf-so, IsMap-map_at}
 use Rattle.jf_standing.proofs.Landed.{landing-found}

@@ -18,7 +18,7 @@ use Rattle.jf_standing.specs.Standing.{Standing, is_named, marked, unmarked, wit
 use Rattle.jf_standing.specs.Sound.{is_counted, StandAt, IsSound, IsStep}
 use Rattle.jf_standing.specs.Landing.{head_map, version_after, written_node}
 use Rattle.jf_standing.specs.Taking.{Continues}
-use Rattle.jf_standing.specs.declared.records.Commit.{Commit}
+use Rattle.jf_payload.specs.declared.records.Commit.{Commit}
 use Rattle.jf_standing.proofs.Lists.{one-true, map-which}
 use Rattle.jf_standing.proofs.Counts.{count-some, count-which}
 use Rattle.jf_standing.proofs.Sinces.{alive-tells, alive-so, alive-not, version-low}

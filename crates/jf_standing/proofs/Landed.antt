@@ -14,7 +14,7 @@ use Rattle.jf_standing.specs.Standing.{Standing, is_named, marked, with_commit}
 use Rattle.jf_standing.specs.Sound.{IsSound}
 use Rattle.jf_standing.specs.Landing.{head_map, name_at_head, stale_names, landing_of, IsInOrder}
 use Rattle.jf_standing.specs.Taking.{Continues}
-use Rattle.jf_standing.specs.declared.records.Commit.{Commit}
+use Rattle.jf_payload.specs.declared.records.Commit.{Commit}
 use Rattle.jf_standing.proofs.Lists.{one-true, same_test, map-which}
 use Rattle.jf_standing.proofs.Counts.{count-some, count-which}
 use Rattle.jf_standing.proofs.Sinces.{alive-so, version-low}

@@ -45,3 +45,5 @@ pub mod Groups
 pub mod Valid
 pub mod ValidNodes
 pub mod KeptCount
+pub mod SpelledRead
+pub mod SpelledRecords

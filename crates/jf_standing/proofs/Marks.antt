@@ -12,7 +12,7 @@ use Rattle.jf_landing.specs.Elements.{Contains-map}
 use Rattle.jf_landing.specs.Filters.{filter-map, filter-same}
 use Rattle.jf_standing.specs.Named.{Named, is_alive, is_written, is_at, alive_at, version_at, leaf_entry, leaf_entries, map_at}
 use Rattle.jf_standing.specs.Standing.{is_named, marked, unmarked}
-use Rattle.jf_standing.specs.declared.records.Commit.{Commit}
+use Rattle.jf_payload.specs.declared.records.Commit.{Commit}
 use Rattle.jf_standing.proofs.Sinces.{alive-tells, alive-so, alive-not_yet}
 
 -- ---- one node

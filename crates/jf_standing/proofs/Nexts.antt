@@ -14,9 +14,9 @@ use Rattle.jf_standing.specs.Sound.{IsSound}
 use Rattle.jf_standing.specs.Landing.{head_map, fresh_leaves, batch_of, landing_of}
 use Rattle.jf_standing.specs.Taking.{Continues, TakesCommits, TakesFloor, Takes}
 use Rattle.jf_standing.specs.Next.{is_next, next_by_commits, next_by_floor, next_standing, IsReadCommit, IsReadRecord}
-use Rattle.jf_standing.specs.declared.records.Commit.{Commit}
-use Rattle.jf_standing.specs.declared.records.Record.{Record}
-use Rattle.jf_standing.specs.declared.records.Record.TheVariants as «record»
+use Rattle.jf_payload.specs.declared.records.Commit.{Commit}
+use Rattle.jf_payload.specs.declared.records.Record.{Record}
+use Rattle.jf_payload.specs.declared.records.Record.TheVariants as «record»
 use Rattle.jf_standing.proofs.Lists.{All-each_element}
 use Rattle.jf_standing.proofs.Marks.{behind, marked-node}
 use Rattle.jf_standing.proofs.Found.{behind-cases}
@@ -84,6 +84,6 @@ floor-taken fmt s s' floor sound = (
 
 pub next-taken : (fmt : Format) (s s' : Standing) (r : Record) → IsSound fmt s → AreEntries (leaf_entries s.nodes) → IsReadRecord r → (next_standing fmt s r ≡ Some s') ↔ Takes fmt s r s'
 next-taken fmt s s' («record».Floor floor) sound keys read = floor-taken fmt s s' floor sound
-next-taken fmt s s' («record».Landing c) sound keys read = commits-taken fmt (c ∷ []) s s' sound keys (read, tt)
+next-taken fmt s s' («record».NodeCommit c) sound keys read = commits-taken fmt (c ∷ []) s s' sound keys (read, tt)
 next-taken fmt s s' («record».Checkpoint generation base floor head roots nodes) sound keys read = (λ is. absurd (cc), λ is. absurd is)
 next-taken fmt s s' («record».Group cs) sound keys read = commits-taken fmt cs s s' sound keys read

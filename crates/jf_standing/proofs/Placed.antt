@@ -19,7 +19,7 @@ use Rattle.jf_standing.specs.Named.{Named, never, is_alive, is_written, is_stale
 use Rattle.jf_standing.specs.Standing.{Standing, is_named, marked, unmarked}
 use Rattle.jf_standing.specs.Sound.{StandAt, IsSound}
 use Rattle.jf_standing.specs.Landing.{head_map, written_node, landing_of}
-use Rattle.jf_standing.specs.declared.records.Commit.{Commit}
+use Rattle.jf_payload.specs.declared.records.Commit.{Commit}
 use Rattle.jf_standing.proofs.Lists.{one, one-true, same_test, All-each_element}
 use Rattle.jf_standing.proofs.Counts.{count-none, count-append, count-filter, count-map, count-same, count-some, count-which}
 use Rattle.jf_standing.proofs.Sinces.{version-low, version-before}

@@ -15,7 +15,7 @@ use Rattle.jf_standing.specs.Standing.{Standing, is_named, marked, unmarked, wit
 use Rattle.jf_standing.specs.Sound.{IsSound}
 use Rattle.jf_standing.specs.Landing.{head_map, fresh_leaves, stale_leaves, batch_of}
 use Rattle.jf_standing.specs.Taking.{Continues}
-use Rattle.jf_standing.specs.declared.records.Commit.{Commit}
+use Rattle.jf_payload.specs.declared.records.Commit.{Commit}
 use Rattle.jf_standing.proofs.Lists.{map-which}
 use Rattle.jf_standing.proofs.Sinces.{alive-tells, alive-so, alive-not, version-low}
 use Rattle.jf_standing.proofs.Marks.{marked-yes, marked-not, behind, Contains-behind}

@@ -26,7 +26,7 @@ use Rattle.jf_standing.specs.Landing.{head_map, written_node, stale_names, landi
 use Rattle.jf_standing.specs.Taking.{Continues}
 use Rattle.jf_standing.specs.Building.{apart}
 use Rattle.jf_standing.specs.Next.{IsReadCommit}
-use Rattle.jf_standing.specs.declared.records.Commit.{Commit}
+use Rattle.jf_payload.specs.declared.records.Commit.{Commit}
 use Rattle.jf_standing.proofs.Lists.{All-each_element, map-which}
 use Rattle.jf_standing.proofs.Marks.{marked-name}
 use Rattle.jf_standing.proofs.Sinces.{version-low}

@@ -11,7 +11,7 @@ use Rattle.jf_standing.specs.Named.{Named, is_alive, is_at, alive_at, map_at}
 use Rattle.jf_standing.specs.Standing.{Standing, marked, unmarked, with_commit}
 use Rattle.jf_standing.specs.Sound.{is_counted, IsVersion, IsSound}
 use Rattle.jf_standing.specs.Taking.{Continues}
-use Rattle.jf_standing.specs.declared.records.Commit.{Commit}
+use Rattle.jf_payload.specs.declared.records.Commit.{Commit}
 use Rattle.jf_standing.proofs.Lists.{one, one-true, All-each_element}
 use Rattle.jf_standing.proofs.Counts.{count-append, count-filter, count-map, count-same, count-which, count-squeeze}
 use Rattle.jf_standing.proofs.Stands.{stands}

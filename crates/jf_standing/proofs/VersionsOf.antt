@@ -17,7 +17,7 @@ use Rattle.jf_standing.specs.Sound.{IsSound}
 use Rattle.jf_standing.specs.Landing.{head_map, batch_of, landing_of}
 use Rattle.jf_standing.specs.Building.{landed_on}
 use Rattle.jf_standing.specs.Taking.{Continues}
-use Rattle.jf_standing.specs.declared.records.Commit.{Commit}
+use Rattle.jf_payload.specs.declared.records.Commit.{Commit}
 use Rattle.jf_standing.proofs.Lands.{lands, continues, map-lands}
 use Rattle.jf_standing.proofs.Leaves.{IsMap-map_at}
 use Rattle.jf_standing.proofs.Marks.{behind, map-behind}

@@ -9,8 +9,8 @@ use Rattle.jf_standing.specs.Standing.{Standing, down_from}
 use Rattle.jf_standing.specs.Same.{same_name, same_node}
 use Rattle.jf_standing.specs.Next.{IsReadStanding}
 use Rattle.jf_standing.specs.Building.{rebuilt, nodes_by_name}
-use Rattle.jf_standing.specs.declared.records.Record.{Record}
-use Rattle.jf_standing.specs.declared.records.Record.TheVariants as «record»
+use Rattle.jf_payload.specs.declared.records.Record.{Record}
+use Rattle.jf_payload.specs.declared.records.Record.TheVariants as «record»
 
 -- whether two named nodes are one
 abbrev pub same_named : Named → Named → Bool
@@ -32,13 +32,13 @@ if_rebuilt fmt s = if is_rebuilt fmt s then Some s else None
 -- what a first record gives
 abbrev pub begin : Format → Record → Option Standing
 begin fmt («record».Floor floor) = None
-begin fmt («record».Landing c) = None
+begin fmt («record».NodeCommit c) = None
 begin fmt («record».Checkpoint generation base floor head roots nodes) = if_rebuilt fmt (record { base = base; floor = floor; head = head; roots = reverse roots; nodes = nodes })
 begin fmt («record».Group cs) = None
 
 -- what is known of a first record that was read
 abbrev pub IsReadFirst : Record → Type 0
 IsReadFirst («record».Floor floor) = Unit {0}
-IsReadFirst («record».Landing c) = Unit {0}
+IsReadFirst («record».NodeCommit c) = Unit {0}
 IsReadFirst («record».Checkpoint generation base floor head roots nodes) = IsReadStanding (record { base = base; floor = floor; head = head; roots = reverse roots; nodes = nodes })
 IsReadFirst («record».Group cs) = Unit {0}

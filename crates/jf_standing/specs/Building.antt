@@ -13,9 +13,9 @@ use Rattle.jf_standing.specs.Order.{by_name}
 use Rattle.jf_standing.specs.Standing.{Standing, with_commit}
 use Rattle.jf_standing.specs.Sound.{is_counted}
 use Rattle.jf_standing.specs.Landing.{head_map, landing_of}
-use Rattle.jf_standing.specs.declared.records.Commit.{Commit}
-use Rattle.jf_standing.specs.declared.records.Record.{Record}
-use Rattle.jf_standing.specs.declared.records.Record.TheVariants as «record»
+use Rattle.jf_payload.specs.declared.records.Commit.{Commit}
+use Rattle.jf_payload.specs.declared.records.Record.{Record}
+use Rattle.jf_payload.specs.declared.records.Record.TheVariants as «record»
 
 -- a node of a map, by the versions of all nodes
 abbrev pub node_of : Format → (Path → ℕ) → Path × Part → Named

@@ -1,5 +1,6 @@
 -- Laws on records, and on records one after another.
 use Rattle.std.specs.Prelude.{◌≡◌, ◌↔◌, ◌⊎◌, ℕ, List, Some}
+use Rattle.jf_payload.specs.Reading.{spelled}
 use Rattle.jf_model.specs.Versions.{IsVersions}
 use Rattle.jf_codec.specs.declared.format.Format.{Format}
 use Rattle.jf_standing.specs.Named.{leaf_entries, AreEntries}
@@ -10,8 +11,8 @@ use Rattle.jf_standing.specs.Taking.{Takes, Gives}
 use Rattle.jf_standing.specs.Next.{next_standing, IsReadRecord}
 use Rattle.jf_standing.specs.Begin.{begin, IsReadFirst}
 use Rattle.jf_standing.specs.Leading.{Item, AllLead, OneFailsAt, AreRead}
-use Rattle.jf_standing.specs.declared.records.Commit.{Commit}
-use Rattle.jf_standing.specs.declared.records.Record.{Record}
+use Rattle.jf_payload.specs.declared.records.Commit.{Commit}
+use Rattle.jf_payload.specs.declared.records.Record.{Record}
 
 -- what a record makes of a sound standing is a function of it
 abbrev pub NextIsTakes : Type 0
@@ -24,6 +25,10 @@ KeysStay = (s : Standing) (c : Commit) → AreEntries (leaf_entries s.nodes) →
 -- what a first record gives is a function of it
 abbrev pub BeginIsGives : Type 0
 BeginIsGives = (fmt : Format) (r : Record) (s : Standing) → IsReadFirst r → (begin fmt r ≡ Some s) ↔ Gives fmt r s
+
+-- what a payload spells has names in order, keys of 32 bytes, values that are bytes, and numbers within their bounds
+abbrev pub SpelledIsRead : Type 0
+SpelledIsRead = (fmt : Format) (kind : ℕ) (payload : List ℕ) (r : Record) → spelled fmt kind payload ≡ Some r → IsReadFirst r × IsReadRecord r
 
 -- ---- records one after another
 

@@ -14,7 +14,7 @@ use Rattle.jf_standing.specs.Named.{version_at, leaf_entries, map_at}
 use Rattle.jf_standing.specs.Standing.{Standing, is_named, unmarked}
 use Rattle.jf_standing.specs.Sound.{is_counted}
 use Rattle.jf_standing.specs.Order.{in_order}
-use Rattle.jf_standing.specs.declared.records.Commit.{Commit}
+use Rattle.jf_payload.specs.declared.records.Commit.{Commit}
 
 -- the map of the head
 abbrev pub head_map : Standing → Map

@@ -20,8 +20,8 @@ use Rattle.jf_standing.specs.Named.{never, alive_at, version_at, leaf_entries, A
 use Rattle.jf_standing.specs.Standing.{Standing, versions_of, with_commit, with_floor}
 use Rattle.jf_standing.specs.Sound.{is_counted, StandAt, IsNodeOf, IsSound}
 use Rattle.jf_standing.specs.Landing.{head_map, fresh_leaves, batch_of, landing_of, IsInOrder}
-use Rattle.jf_standing.specs.Counted.{uncounted}
-use Rattle.jf_standing.specs.declared.records.Commit.{Commit}
+use Rattle.jf_codec.specs.Counted.{uncounted}
+use Rattle.jf_payload.specs.declared.records.Commit.{Commit}
 
 -- at each version from floor to head the nodes that are alive stand at exactly the paths of the nodes of the map, and are these
 abbrev pub NodesStand : Type 0

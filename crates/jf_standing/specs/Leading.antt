@@ -6,7 +6,7 @@ use Rattle.jf_standing.specs.Standing.{Standing}
 use Rattle.jf_standing.specs.Taking.{Takes, Gives}
 use Rattle.jf_standing.specs.Next.{IsReadRecord}
 use Rattle.jf_standing.specs.Begin.{IsReadFirst}
-use Rattle.jf_standing.specs.declared.records.Record.{Record}
+use Rattle.jf_payload.specs.declared.records.Record.{Record}
 
 -- what stands at an offset: a record, or none that can be read
 abbrev pub Item : Type 0

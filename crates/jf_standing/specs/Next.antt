@@ -10,9 +10,9 @@ use Rattle.jf_standing.specs.Named.{never, leaf_entries, AreEntries}
 use Rattle.jf_standing.specs.Standing.{Standing, with_commit, with_floor}
 use Rattle.jf_standing.specs.Landing.{head_map, fresh_leaves, batch_of, landing_of, IsInOrder}
 use Rattle.jf_standing.specs.Same.{same_commit}
-use Rattle.jf_standing.specs.declared.records.Commit.{Commit}
-use Rattle.jf_standing.specs.declared.records.Record.{Record}
-use Rattle.jf_standing.specs.declared.records.Record.TheVariants as «record»
+use Rattle.jf_payload.specs.declared.records.Commit.{Commit}
+use Rattle.jf_payload.specs.declared.records.Record.{Record}
+use Rattle.jf_payload.specs.declared.records.Record.TheVariants as «record»
 
 -- whether a landing is what a landing of the batch that is read off it writes
 abbrev pub is_next : Format → Standing → Commit → Bool
@@ -32,7 +32,7 @@ next_by_floor s floor = if nat_le s.floor floor && nat_le floor s.head then Some
 -- what a record after the first makes
 abbrev pub next_standing : Format → Standing → Record → Option Standing
 next_standing fmt s («record».Floor floor) = next_by_floor s floor
-next_standing fmt s («record».Landing c) = next_by_commits fmt s (c ∷ [])
+next_standing fmt s («record».NodeCommit c) = next_by_commits fmt s (c ∷ [])
 next_standing fmt s («record».Checkpoint generation base floor head roots nodes) = None
 next_standing fmt s («record».Group cs) = next_by_commits fmt s cs
 
@@ -45,7 +45,7 @@ IsReadCommit c = IsInOrder c × AreEntries (fresh_leaves c)
 -- what is known of a record after the first that was read: the same of each of its landings
 abbrev pub IsReadRecord : Record → Type 0
 IsReadRecord («record».Floor floor) = Unit {0}
-IsReadRecord («record».Landing c) = IsReadCommit c
+IsReadRecord («record».NodeCommit c) = IsReadCommit c
 IsReadRecord («record».Checkpoint generation base floor head roots nodes) = Unit {0}
 IsReadRecord («record».Group cs) = AllByRecursion IsReadCommit cs
 

@@ -7,7 +7,7 @@ use Rattle.jf_path.specs.declared.name.NodeName.{NodeName}
 use Rattle.jf_path.specs.declared.node.PlainNode.{PlainNode}
 use Rattle.jf_model.specs.Versions.{Versions}
 use Rattle.jf_standing.specs.Named.{Named, never, map_at}
-use Rattle.jf_standing.specs.declared.records.Commit.{Commit}
+use Rattle.jf_payload.specs.declared.records.Commit.{Commit}
 
 -- what records have made: the numbers, the roots from the head down to the base, and all named nodes
 pub record Standing : Type 0 where

@@ -4,9 +4,9 @@ use Rattle.std.specs.List.{AllByRecursion}
 use Rattle.jf_codec.specs.declared.format.Format.{Format}
 use Rattle.jf_standing.specs.Standing.{Standing, is_named, with_commit, with_floor}
 use Rattle.jf_standing.specs.Sound.{IsSound}
-use Rattle.jf_standing.specs.declared.records.Commit.{Commit}
-use Rattle.jf_standing.specs.declared.records.Record.{Record}
-use Rattle.jf_standing.specs.declared.records.Record.TheVariants as «record»
+use Rattle.jf_payload.specs.declared.records.Commit.{Commit}
+use Rattle.jf_payload.specs.declared.records.Record.{Record}
+use Rattle.jf_payload.specs.declared.records.Record.TheVariants as «record»
 
 -- a landing goes on from the head: it and its nodes have the next version, and each name that it marks stale is that of a node that stands
 pub record Continues (s : Standing) (c : Commit) : Type 0 where
@@ -26,13 +26,13 @@ TakesFloor fmt s floor s' = (s.floor ≤ floor) × (floor ≤ s.head) × IsSound
 -- a record after the first
 abbrev pub Takes : Format → Standing → Record → Standing → Type 0
 Takes fmt s («record».Floor floor) s' = TakesFloor fmt s floor s'
-Takes fmt s («record».Landing c) s' = TakesCommits fmt s (c ∷ []) s'
+Takes fmt s («record».NodeCommit c) s' = TakesCommits fmt s (c ∷ []) s'
 Takes fmt s («record».Checkpoint generation base floor head roots nodes) s' = ⊥
 Takes fmt s («record».Group cs) s' = TakesCommits fmt s cs s'
 
 -- the first record, which is a sound checkpoint, gives what it lists
 abbrev pub Gives : Format → Record → Standing → Type 0
 Gives fmt («record».Floor floor) s = ⊥
-Gives fmt («record».Landing c) s = ⊥
+Gives fmt («record».NodeCommit c) s = ⊥
 Gives fmt («record».Checkpoint generation base floor head roots nodes) s = IsSound fmt s × (s ≡ record { base = base; floor = floor; head = head; roots = reverse roots; nodes = nodes })
 Gives fmt («record».Group cs) s = ⊥

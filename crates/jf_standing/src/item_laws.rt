@@ -1,5 +1,7 @@
 // Laws on records one after another. These functions do nothing when they run.
-ghost use Rattle.jf_standing.specs.ItemLaws.{NextIsTakes, KeysStay, BeginIsGives, ItemsAreJudged, NeverBoth, ItemsLeadToOne, ItemsLeadToSound, ItemsFailOnce};
+ghost use Rattle.jf_standing.specs.ItemLaws.{NextIsTakes, KeysStay, BeginIsGives, SpelledIsRead, ItemsAreJudged, NeverBoth, ItemsLeadToOne, ItemsLeadToSound, ItemsFailOnce};
+
+use jf_payload::spelled_is_spelling;
 
 /// What a record that was read makes of a sound standing is a function of it.
 pub fn next_is_takes()
@@ -15,6 +17,13 @@ pub fn keys_stay()
 pub fn begin_is_gives()
     ensures { BeginIsGives }
 {}
+
+/// What a payload spells has names in order, keys of 32 bytes, values that are bytes, and numbers within their bounds.
+pub fn spelled_is_read()
+    ensures { SpelledIsRead }
+{
+    spelled_is_spelling();
+}
 
 /// Records lead to a standing, or one of them is the first that nothing sound follows.
 pub fn items_are_judged()

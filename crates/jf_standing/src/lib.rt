@@ -5,11 +5,11 @@
 mod item_laws;
 mod laws;
 mod order_laws;
-mod records;
+mod spelling_laws;
 
 pub use item_laws::{
     begin_is_gives, items_are_judged, items_fail_once, items_lead_to_one, items_lead_to_sound,
-    keys_stay, never_both, next_is_takes,
+    keys_stay, never_both, next_is_takes, spelled_is_read,
 };
 pub use laws::{
     batches_land, counts_are_extra, floors_prune, groups_land, landings_are_decided,
@@ -21,4 +21,4 @@ pub use order_laws::{
     built_is_sound, checkpoints_are_decided, checkpoints_give, imports_are_sound, new_is_sound,
     nodes_are_kept, nodes_are_valid, one_standing, order_is_free,
 };
-pub use records::{Commit, Commits, Record};
+pub use spelling_laws::{checkpoints_are_spelled, landings_are_kept, landings_are_spelled};

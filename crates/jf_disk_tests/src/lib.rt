@@ -1,0 +1,9 @@
+//! Tests of disks, over real files and in memory.
+#![tactic(auto)]
+
+#[cfg(test)]
+mod file_disks;
+#[cfg(test)]
+mod mem_disks;
+#[cfg(test)]
+mod steps;

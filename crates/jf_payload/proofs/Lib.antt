@@ -1,0 +1,9 @@
+pub mod Spells
+pub mod Loop
+pub mod Rising
+pub mod FieldSpells
+pub mod RecordSpells
+pub mod WholeRecords
+pub mod Kept
+pub mod Uncounted
+pub mod Samples

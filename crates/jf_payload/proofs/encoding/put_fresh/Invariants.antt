@@ -1,0 +1,8 @@
+-- What stands before the present one is written.
+use Rattle.std.proofs.Common.{◌≡◌, ◌++◌, take}
+use Rattle.std.specs.List.{flat_map}
+use Rattle.jf_payload.specs.Spelling.{fresh_bytes}
+use Rattle.jf_payload.proofs.encoding.put_fresh.Given as goal
+
+abbrev pub invariant-loop-item : goal.invariant-loop-item
+invariant-loop-item l = l.out ≡ l.fn.out ++ flat_map (fresh_bytes l.format) (take l.item-index l.nodes)

@@ -1,0 +1,4 @@
+pub mod Spelling
+pub mod Counted
+pub mod Reading
+pub mod Laws

@@ -1,0 +1,190 @@
+-- Reading a payload from left to right: a value and the bytes behind it, or None if no value is spelled there.
+use Rattle.std.specs.Prelude.{◌≡◌, ℕ, zero, suc, ◌+◌, ◌-◌, ◌^◌, Bool, true, false, not, ◌&&◌, List, [], ◌∷◌, ◌++◌, map, length, Option, Some, None, Result, Ok, Err, nat_le, nat_lt, ◌==◌, if◌then◌else◌}
+use Rattle.std.specs.List.{list_all}
+use Rattle.std.specs.Result.{result_ok}
+use Rattle.jf_path.specs.Names.{rise}
+use Rattle.jf_path.specs.declared.name.NodeName.{NodeName}
+use Rattle.jf_path.specs.declared.children.Child.{Child}
+use Rattle.jf_path.specs.declared.node.PlainNode.{PlainNode}
+use Rattle.jf_path.specs.declared.node.PlainNode.TheVariants as node
+use Rattle.jf_codec.specs.Reading.{bytes_at, eight_at, name_at, node_at}
+use Rattle.jf_codec.specs.declared.format.Format.{Format}
+use Rattle.jf_codec.specs.declared.format.Format.TheVariants as format
+use Rattle.jf_payload.specs.Spelling.{checkpoint_kind, follow}
+use Rattle.jf_payload.specs.declared.fault.RecordFault.{RecordFault}
+use Rattle.jf_payload.specs.declared.fault.RecordFault.TheVariants as fault
+use Rattle.jf_payload.specs.declared.records.Commit.{Commit}
+use Rattle.jf_payload.specs.declared.records.Record.{Record}
+use Rattle.jf_payload.specs.declared.records.Record.TheVariants as «record»
+
+infixl 10 ◌>>=◌
+-- what comes behind a step, if the step reads something
+abbrev pub ◌>>=◌ : {A B : Type 0} → Option A → (A → Option B) → Option B
+(Some x) >>= f = f x
+None >>= f = None
+
+-- an error says that nothing is read, or that memory is wanting
+abbrev pub Fails : {Y : Type 0} → RecordFault → Option Y → Type 0
+Fails fault.Bad read = read ≡ None
+Fails fault.Memory read = Unit {0}
+
+-- what a function returned, seen by view, is what is read, unless memory is wanting
+abbrev pub Gives : {X Y : Type 0} → (X → Y) → Result X RecordFault → Option Y → Type 0
+Gives view (Ok x) read = read ≡ Some (view x)
+Gives view (Err e) read = Fails e read
+
+-- a reader of values at the front of bytes
+abbrev pub Front : Type 0 → Type 0
+Front X = List ℕ → Option (X × List ℕ)
+
+-- ---- readers made of readers
+
+-- a value, and another that may depend on it
+abbrev pub both_at : {X Y : Type 0} → Front X → (X → Front Y) → Front (X × Y)
+both_at one other bytes = do
+  x ← one bytes
+  y ← other x.0 x.1
+  Some ((x.0, y.0), y.1)
+
+-- a value that passes a test
+abbrev pub only_if : {X : Type 0} → (X → Bool) → Front X → Front X
+only_if test one bytes = do
+  x ← one bytes
+  if test x.0 then Some x else None
+
+-- a value, as something else
+abbrev pub seen_as : {X Y : Type 0} → (X → Y) → Front X → Front Y
+seen_as view one bytes = do
+  x ← one bytes
+  Some (view x.0, x.1)
+
+-- so many values behind those of a front, each of which may stand behind the ones before it
+unfoldable pub many_at : {X : Type 0} → (List X → Bool) → Front X → ℕ → List X → Front (List X)
+many_at fits one zero front bytes = Some (front, bytes)
+many_at fits one (suc n) front bytes = do
+  x ← one bytes
+  if fits (front ++ x.0 ∷ []) then many_at fits one n (front ++ x.0 ∷ []) x.1 else None
+
+-- ---- fields
+
+abbrev pub number_at : Front ℕ
+number_at bytes = result_ok (eight_at bytes)
+
+abbrev pub hash_at : Front (List ℕ)
+hash_at bytes = result_ok (bytes_at 32 bytes)
+
+abbrev pub named_at : Front NodeName
+named_at bytes = result_ok (name_at bytes)
+
+-- children with counts, by the first of them
+abbrev pub has_counts : List Child → Bool
+has_counts [] = false
+has_counts (c ∷ cs) = not (c.count == 0)
+
+abbrev pub is_counted : Format → Bool → Bool
+is_counted format.One counts = not counts
+is_counted format.Two counts = counts
+
+-- an internal node has counts in format 2 alone
+abbrev pub is_in : Format → PlainNode → Bool
+is_in fmt node.Null = true
+is_in fmt (node.Leaf key value) = true
+is_in fmt (node.Inner cs) = is_counted fmt (has_counts cs)
+
+-- a node of the format
+abbrev pub plain_at : Format → Front PlainNode
+plain_at fmt = only_if (is_in fmt) (λ bytes. result_ok (node_at bytes))
+
+-- ---- lists
+
+-- so many values behind their number
+abbrev pub list_at : {X : Type 0} → (ℕ → Bool) → (List X → Bool) → Front X → Front (List X)
+list_at within fits one = seen_as (λ x. x.1) (both_at (only_if within number_at) (λ n. many_at fits one n []))
+
+-- any number of values
+abbrev pub any : ℕ → Bool
+any n = true
+
+-- a name and a node
+unfoldable pub fresh_at : Format → Front (NodeName × PlainNode)
+fresh_at fmt = both_at named_at (λ name. plain_at fmt)
+
+-- their names rise
+abbrev pub fresh_rise : List (NodeName × PlainNode) → Bool
+fresh_rise xs = rise (map (λ x. x.0) xs)
+
+abbrev pub fresh_list_at : Format → Front (List (NodeName × PlainNode))
+fresh_list_at fmt = list_at any fresh_rise (fresh_at fmt)
+
+abbrev pub name_list_at : Front (List NodeName)
+name_list_at = list_at any rise named_at
+
+-- a name, a node, and the version since which it is stale
+unfoldable pub live_at : Format → Front (NodeName × PlainNode × ℕ)
+live_at fmt = seen_as (λ x. (x.0.0, x.0.1, x.1)) (both_at (both_at named_at (λ name. plain_at fmt)) (λ x. number_at))
+
+-- their names rise
+abbrev pub live_rise : List (NodeName × PlainNode × ℕ) → Bool
+live_rise xs = rise (map (λ x. x.0) xs)
+
+abbrev pub live_list_at : Format → Front (List (NodeName × PlainNode × ℕ))
+live_list_at fmt = list_at any live_rise (live_at fmt)
+
+-- ---- records
+
+abbrev pub commit_from : ((ℕ × List ℕ) × List (NodeName × PlainNode)) × List NodeName → Commit
+commit_from x = record { version = x.0.0.0; root = x.0.0.1; fresh = x.0.1; stale = x.1 }
+
+unfoldable pub commit_at : Format → Front Commit
+commit_at fmt = seen_as commit_from (both_at (both_at (both_at number_at (λ version. hash_at)) (λ x. fresh_list_at fmt)) (λ x. name_list_at))
+
+-- generation, base, floor and head
+abbrev pub Numbers : Type 0
+Numbers = ((ℕ × ℕ) × ℕ) × ℕ
+
+-- a generation from 1 on, base, floor and head in order, and none of them the last number
+abbrev pub are_within : Numbers → Bool
+are_within n = nat_le 1 n.0.0.0 && (nat_le n.0.0.0 (2 ^ 64 - 2) && (nat_le n.0.0.1 n.0.1 && (nat_le n.0.1 n.1 && nat_le n.1 (2 ^ 64 - 2))))
+
+unfoldable pub numbers_at : Front Numbers
+numbers_at = only_if are_within (both_at (both_at (both_at number_at (λ x. number_at)) (λ x. number_at)) (λ x. number_at))
+
+-- in any order
+abbrev pub any_hashes : List (List ℕ) → Bool
+any_hashes hs = true
+
+-- a root for each version from the base to the head
+abbrev pub roots_at : Numbers → Front (List (List ℕ))
+roots_at n = many_at any_hashes hash_at (n.1 - n.0.0.1 + 1) []
+
+abbrev pub checkpoint_from : (Numbers × List (List ℕ)) × List (NodeName × PlainNode × ℕ) → Record
+checkpoint_from x = «record».Checkpoint x.0.0.0.0.0 x.0.0.0.0.1 x.0.0.0.1 x.0.0.1 x.0.1 x.1
+
+unfoldable pub checkpoint_at : Format → Front Record
+checkpoint_at fmt = seen_as checkpoint_from (both_at (both_at numbers_at roots_at) (λ x. live_list_at fmt))
+
+-- 2 to 1,024 landings whose versions rise by one
+abbrev pub is_group : ℕ → Bool
+is_group n = nat_le 2 n && nat_le n 1024
+
+unfoldable pub group_at : Format → Front (List Commit)
+group_at fmt = list_at is_group follow (commit_at fmt)
+
+-- a record of a kind
+unfoldable pub record_at : Format → ℕ → Front Record
+record_at fmt kind bytes =
+    if kind == 2 then seen_as (λ floor. «record».Floor floor) number_at bytes
+    else if kind == 3 then seen_as (λ c. «record».NodeCommit c) (commit_at fmt) bytes
+    else if kind == 6 then seen_as (λ cs. «record».Group cs) (group_at fmt) bytes
+    else if kind == checkpoint_kind fmt then checkpoint_at fmt bytes
+    else None
+
+-- all of the bytes, as a record
+unfoldable pub whole_in : Format → ℕ → List ℕ → Option Record
+whole_in fmt kind bytes = do
+  r ← record_at fmt kind bytes
+  if length r.1 == 0 then Some r.0 else None
+
+-- the record that a payload of a kind spells in a file of a format, None if it spells none or isn't bytes
+unfoldable pub spelled : Format → ℕ → List ℕ → Option Record
+spelled fmt kind payload = if list_all (λ b. nat_lt b 256) payload then whole_in fmt kind payload else None

@@ -1,0 +1,102 @@
+-- The payloads of records, in both formats.
+use Rattle.std.specs.Prelude.{◌≡◌, ℕ, ◌+◌, ◌-◌, ◌<◌, ◌≤◌, ◌^◌, Bool, true, ◌&&◌, ◌==◌, IsTrue, List, [], ◌∷◌, ◌++◌, map, flat_map, length}
+use Rattle.std.specs.List.{AllByRecursion}
+use Rattle.jf_path.specs.Keys.{IsKey}
+use Rattle.jf_path.specs.Names.{IsName, rise}
+use Rattle.jf_path.specs.declared.name.NodeName.{NodeName}
+use Rattle.jf_path.specs.declared.node.PlainNode.{PlainNode}
+use Rattle.jf_codec.specs.Numbers.{eight_bytes}
+use Rattle.jf_codec.specs.Spelling.{name_bytes, node_bytes, IsNode}
+use Rattle.jf_codec.specs.declared.format.Format.{Format}
+use Rattle.jf_codec.specs.declared.format.Format.TheVariants as format
+use Rattle.jf_payload.specs.declared.records.Commit.{Commit}
+use Rattle.jf_payload.specs.declared.records.Record.{Record}
+use Rattle.jf_payload.specs.declared.records.Record.TheVariants as «record»
+
+-- how many there are, and each of them
+abbrev pub list_bytes : {X : Type 0} → (X → List ℕ) → List X → List ℕ
+list_bytes spell xs = eight_bytes (length xs) ++ flat_map spell xs
+
+-- a node that is written: its name and the node
+abbrev pub fresh_bytes : Format → NodeName × PlainNode → List ℕ
+fresh_bytes fmt x = name_bytes x.0 ++ node_bytes fmt x.1
+
+-- a node that is kept: its name, the node, and the version since which it is stale, 2^64 - 1 if it isn't
+abbrev pub live_bytes : Format → NodeName × PlainNode × ℕ → List ℕ
+live_bytes fmt x = name_bytes x.0 ++ node_bytes fmt x.1 ++ eight_bytes x.2
+
+-- a landing: its version and root, the nodes that it writes, and the names that it marks stale
+unfoldable pub commit_bytes : Format → Commit → List ℕ
+commit_bytes fmt c = eight_bytes c.version ++ c.root ++ list_bytes (fresh_bytes fmt) c.fresh ++ list_bytes name_bytes c.stale
+
+-- the kind of a checkpoint tells the format of the file
+abbrev pub checkpoint_kind : Format → ℕ
+checkpoint_kind format.One = 4
+checkpoint_kind format.Two = 5
+
+abbrev pub kind_of : Format → Record → ℕ
+kind_of fmt («record».Floor floor) = 2
+kind_of fmt («record».NodeCommit c) = 3
+kind_of fmt («record».Checkpoint generation base floor head roots nodes) = checkpoint_kind fmt
+kind_of fmt («record».Group cs) = 6
+
+-- the payload of a record
+unfoldable pub record_bytes : Format → Record → List ℕ
+record_bytes fmt («record».Floor floor) = eight_bytes floor
+record_bytes fmt («record».NodeCommit c) = commit_bytes fmt c
+record_bytes fmt («record».Checkpoint generation base floor head roots nodes) =
+    eight_bytes generation ++ eight_bytes base ++ eight_bytes floor ++ eight_bytes head ++ flat_map (λ h. h) roots ++ list_bytes (live_bytes fmt) nodes
+record_bytes fmt («record».Group cs) = list_bytes (commit_bytes fmt) cs
+
+-- ---- what can be spelled
+
+-- a landing with a version and numbers of nodes of 64 bits, nodes of the format, and names in their order
+pub record IsCommit (fmt : Format) (c : Commit) : Type 0 where
+  pub version : c.version < 2 ^ 64
+  pub root : IsKey c.root
+  pub fresh : AllByRecursion (λ x. IsName x.0 × IsNode fmt x.1) c.fresh
+  pub fresh_count : length c.fresh < 2 ^ 64
+  pub fresh_rise : IsTrue (rise (map (λ x. x.0) c.fresh))
+  pub stale : AllByRecursion IsName c.stale
+  pub stale_count : length c.stale < 2 ^ 64
+  pub stale_rise : IsTrue (rise c.stale)
+
+-- a checkpoint with a generation from 1 on, base, floor and head in order, a root for each version from the base to the
+-- head, nodes of the format, and names in their order; no generation and no version is the last number
+pub record IsCheckpoint (fmt : Format) (generation base floor head : ℕ) (roots : List (List ℕ)) (nodes : List (NodeName × PlainNode × ℕ)) : Type 0 where
+  pub generation_first : 1 ≤ generation
+  pub generation_last : generation ≤ 2 ^ 64 - 2
+  pub base_low : base ≤ floor
+  pub floor_low : floor ≤ head
+  pub head_last : head ≤ 2 ^ 64 - 2
+  pub root_each : length roots ≡ head - base + 1
+  pub hashes : AllByRecursion IsKey roots
+  pub nodes_fit : AllByRecursion (λ n. IsName n.0 × IsNode fmt n.1 × (n.2 < 2 ^ 64)) nodes
+  pub count : length nodes < 2 ^ 64
+  pub names_rise : IsTrue (rise (map (λ n. n.0) nodes))
+
+-- versions rise by one
+abbrev pub follow : List Commit → Bool
+follow [] = true
+follow (c ∷ []) = true
+follow (c ∷ d ∷ cs) = (d.version == c.version + 1) && follow (d ∷ cs)
+
+-- 2 to 1,024 landings whose versions rise by one
+pub record IsGroup (fmt : Format) (cs : List Commit) : Type 0 where
+  pub many : 2 ≤ length cs
+  pub few : length cs ≤ 1024
+  pub commits : AllByRecursion (IsCommit fmt) cs
+  pub versions : IsTrue (follow cs)
+
+-- what has a spelling in a format
+abbrev pub IsRecord : Format → Record → Type 0
+IsRecord fmt («record».Floor floor) = floor < 2 ^ 64
+IsRecord fmt («record».NodeCommit c) = IsCommit fmt c
+IsRecord fmt («record».Checkpoint generation base floor head roots nodes) = IsCheckpoint fmt generation base floor head roots nodes
+IsRecord fmt («record».Group cs) = IsGroup fmt cs
+
+-- a record's spelling, by its kind
+pub record IsSpelling (fmt : Format) (r : Record) (kind : ℕ) (payload : List ℕ) : Type 0 where
+  pub sound : IsRecord fmt r
+  pub kind_is : kind ≡ kind_of fmt r
+  pub payload_is : payload ≡ record_bytes fmt r

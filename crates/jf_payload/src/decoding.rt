@@ -1,0 +1,69 @@
+// Records from payloads.
+ghost use Rattle.std.specs.Prelude.{◌≡◌, ◌⊎◌, Ok, Err, IfOk};
+ghost use Rattle.jf_payload.specs.Spelling.{IsSpelling};
+ghost use Rattle.jf_payload.specs.Reading.{Gives, record_at, whole_in, spelled};
+
+use crate::checkpoint::checkpoint_of;
+use crate::fault::RecordFault;
+use crate::fields::number_of;
+use crate::kinds::{COMMIT, FLOOR, GROUP, checkpoint_kind};
+use crate::landings::{commit_of, group_of};
+use crate::records::Record;
+use jf_codec::Format;
+use std::alloc::Global;
+
+// A record of a kind.
+#[tactic(auto, unfolding(crate::specs::Reading::record_at))]
+fn record_of(
+    alloc: Global,
+    format: Format,
+    kind: u8,
+    bytes: &[u8],
+) -> Result<(Record, &[u8]), RecordFault>
+    ensures { Gives (λ x. (x.0, x.1.now)) result (record_at format kind bytes.now) }
+{
+    if kind == FLOOR {
+        let (floor, rest) = number_of(bytes)?;
+        return Ok((Record::Floor(floor), rest));
+    }
+    if kind == COMMIT {
+        let (commit, rest) = commit_of(alloc, format, bytes)?;
+        return Ok((Record::NodeCommit(commit), rest));
+    }
+    if kind == GROUP {
+        let (commits, rest) = group_of(alloc, format, bytes)?;
+        return Ok((Record::Group(commits), rest));
+    }
+    if kind != checkpoint_kind(format) {
+        return Err(RecordFault::Bad);
+    }
+    checkpoint_of(alloc, format, bytes)
+}
+
+// All of a payload.
+#[tactic(auto, unfolding(crate::specs::Reading::whole_in))]
+fn whole_of(alloc: Global, format: Format, kind: u8, payload: &[u8]) -> Result<Record, RecordFault>
+    ensures { Gives (λ r. r) result (whole_in format kind payload.now) }
+{
+    let (record, rest) = record_of(alloc, format, kind, payload)?;
+    if !rest.is_empty() {
+        return Err(RecordFault::Bad);
+    }
+    Ok(record)
+}
+
+/// The record that a payload of this kind spells in a file of this format, all of the payload. `Bad` exactly if there is none:
+/// also if an internal node is of the other format, or if a checkpoint is of its kind.
+pub fn decode(
+    alloc: Global,
+    kind: u8,
+    payload: &[u8],
+    format: Format,
+) -> Result<Record, RecordFault>
+    ensures found { IfOk result (λ r. IsSpelling format r kind payload.now) }
+    ensures bad { result ≡ Err RecordFault.Bad → (r : Record) → IsSpelling format r kind payload.now → ⊥ }
+    ensures only { (r : Record) → IsSpelling format r kind payload.now → (result ≡ Ok r) ⊎ (result ≡ Err RecordFault.Memory) }
+    ensures exact { Gives (λ r. r) result (spelled format kind payload.now) }
+{
+    whole_of(alloc, format, kind, payload)
+}

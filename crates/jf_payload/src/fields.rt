@@ -1,0 +1,96 @@
+// Fields at the front of a payload, each with the bytes after it.
+ghost use Rattle.std.specs.Prelude.{◌≡◌};
+ghost use Rattle.std.specs.Result.{result_ok};
+ghost use Rattle.jf_codec.specs.Reading.{node_at};
+ghost use Rattle.jf_payload.specs.Reading.{Gives, number_at, hash_at, named_at, plain_at, is_counted, has_counts, is_in};
+
+use crate::fault::RecordFault;
+use jf_codec::{CodecFault, Format, key_at, name_at, node_at, u64_at};
+use jf_path::{Child, Key, NodeName, PlainNode};
+use std::alloc::Global;
+
+/// A number.
+pub(crate) fn number_of(bytes: &[u8]) -> Result<(u64, &[u8]), RecordFault>
+    ensures { Gives (λ x. (x.0, x.1.now)) result (number_at bytes.now) }
+{
+    match u64_at(bytes) {
+        Ok((number, rest)) => Ok((number, rest)),
+        Err(_) => Err(RecordFault::Bad),
+    }
+}
+
+/// A hash.
+pub(crate) fn hash_of(bytes: &[u8]) -> Result<(&Key, &[u8]), RecordFault>
+    ensures { Gives (λ x. (x.0.now, x.1.now)) result (hash_at bytes.now) }
+{
+    match key_at(bytes) {
+        Ok((hash, rest)) => Ok((hash, rest)),
+        Err(_) => Err(RecordFault::Bad),
+    }
+}
+
+/// A name.
+pub(crate) fn name_of(bytes: &[u8]) -> Result<(NodeName, &[u8]), RecordFault>
+    ensures { Gives (λ x. (x.0, x.1.now)) result (named_at bytes.now) }
+{
+    match name_at(bytes) {
+        Ok((name, rest)) => Ok((name, rest)),
+        Err(_) => Err(RecordFault::Bad),
+    }
+}
+
+// Whether children have counts, by the first of them.
+fn has_counts(children: &[Child]) -> bool
+    ensures { result ≡ has_counts children.now }
+{
+    match children {
+        [first, ..] => first.count != 0,
+        [] => false,
+    }
+}
+
+// Whether the children of a format have counts, or not.
+fn is_counted(format: Format, counts: bool) -> bool
+    ensures { result ≡ is_counted format counts }
+{
+    match format {
+        Format::One => !counts,
+        Format::Two => counts,
+    }
+}
+
+// Whether a node is of the format.
+fn is_in(format: Format, node: &PlainNode) -> bool
+    ensures { result ≡ is_in format node.now }
+{
+    match node {
+        PlainNode::Inner { children } => is_counted(format, has_counts(children.as_slice())),
+        _ => true,
+    }
+}
+
+// A node of either format.
+fn any_node_of(alloc: Global, bytes: &[u8]) -> Result<(PlainNode, &[u8]), RecordFault>
+    ensures { Gives (λ x. (x.0, x.1.now)) result (result_ok (node_at bytes.now)) }
+{
+    match node_at(alloc, bytes) {
+        Ok((node, rest)) => Ok((node, rest)),
+        Err(CodecFault::Memory) => Err(RecordFault::Memory),
+        Err(_) => Err(RecordFault::Bad),
+    }
+}
+
+/// A node of the format.
+pub(crate) fn node_of(
+    alloc: Global,
+    format: Format,
+    bytes: &[u8],
+) -> Result<(PlainNode, &[u8]), RecordFault>
+    ensures { Gives (λ x. (x.0, x.1.now)) result (plain_at format bytes.now) }
+{
+    let (node, rest) = any_node_of(alloc, bytes)?;
+    if !is_in(format, &node) {
+        return Err(RecordFault::Bad);
+    }
+    Ok((node, rest))
+}

@@ -1,0 +1,24 @@
+// The kinds of records.
+ghost use Rattle.std.specs.Prelude.{◌≡◌};
+ghost use Rattle.jf_payload.specs.Spelling.{checkpoint_kind};
+
+use jf_codec::Format;
+
+/// A later floor.
+pub(crate) const FLOOR: u8 = 2;
+/// A landing.
+pub(crate) const COMMIT: u8 = 3;
+/// Several landings.
+pub(crate) const GROUP: u8 = 6;
+/// A gate that is closed.
+pub(crate) const CLOSED: u8 = 0;
+
+/// The kind of a checkpoint in a file of a format.
+pub(crate) fn checkpoint_kind(format: Format) -> u8
+    ensures { result ≡ checkpoint_kind format }
+{
+    match format {
+        Format::One => 4,
+        Format::Two => 5,
+    }
+}

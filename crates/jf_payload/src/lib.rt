@@ -1,0 +1,28 @@
+//! The records of a journal of nodes, and the payload that spells each in a file of either format: written in one way, and
+//! read exactly. `specs/` says how each is spelled.
+#![tactic(auto)]
+
+mod checkpoint;
+mod commits;
+mod decoding;
+mod encoding;
+mod fault;
+mod fields;
+mod floor;
+mod kinds;
+mod landings;
+mod laws;
+mod lists;
+mod order;
+mod records;
+
+pub use commits::Commits;
+pub use decoding::decode;
+pub use encoding::encode;
+pub use fault::RecordFault;
+pub use floor::encode_floor;
+pub use laws::{
+    kept_is_spelled, one_record, one_spelling, spelled_is_spelling, spelling_is_decided,
+    written_in_both,
+};
+pub use records::{Commit, Record};

@@ -1,0 +1,115 @@
+// Whether what is read may stand behind what was read before, and adding it.
+ghost use Rattle.std.specs.Prelude.{◌≡◌, ◌∷◌, ◌++◌, ◌+◌, ◌==◌, [], true, false, Err, OnOk, IsTrue};
+ghost use Rattle.jf_path.specs.Names.{rise};
+ghost use Rattle.jf_payload.specs.Spelling.{follow};
+ghost use Rattle.jf_payload.specs.Reading.{fresh_rise, live_rise};
+
+use crate::commits::Commits;
+use crate::fault::RecordFault;
+use crate::records::Commit;
+use jf_path::{FreshList, LiveList, NameList, NodeName, PlainNode};
+
+// Whether names with this one behind them rise.
+fn is_next_name(names: &NameList, name: &NodeName) -> bool
+    ensures { result ≡ rise (names.now ++ name.now ∷ []) }
+{
+    let Some(last) = names.as_slice().last() else {
+        return true;
+    };
+    last.cmp(name).is_lt()
+}
+
+/// Adds a name behind the others if it is above them, and is `Bad` if it isn't.
+pub(crate) fn push_name(names: &mut NameList, name: NodeName) -> Result<(), RecordFault>
+    ensures ok { OnOk result ((rise (names.old ++ name ∷ []) ≡ true) × (names.new ≡ names.old ++ name ∷ [])) }
+    ensures bad { result ≡ Err RecordFault.Bad → rise (names.old ++ name ∷ []) ≡ false }
+{
+    if !is_next_name(names, &name) {
+        return Err(RecordFault::Bad);
+    }
+    names.push(name)?;
+    Ok(())
+}
+
+// Whether the names of nodes rise with this node behind them.
+fn is_next_node(nodes: &FreshList, item: &(NodeName, PlainNode)) -> bool
+    ensures { result ≡ fresh_rise (nodes.now ++ item.now ∷ []) }
+{
+    let Some(last) = nodes.as_slice().last() else {
+        return true;
+    };
+    last.0.cmp(&item.0).is_lt()
+}
+
+/// Adds a node behind the others if its name is above theirs, and is `Bad` if it isn't.
+pub(crate) fn push_fresh(
+    nodes: &mut FreshList,
+    item: (NodeName, PlainNode),
+) -> Result<(), RecordFault>
+    ensures ok { OnOk result ((fresh_rise (nodes.old ++ item ∷ []) ≡ true) × (nodes.new ≡ nodes.old ++ item ∷ [])) }
+    ensures bad { result ≡ Err RecordFault.Bad → fresh_rise (nodes.old ++ item ∷ []) ≡ false }
+{
+    if !is_next_node(nodes, &item) {
+        return Err(RecordFault::Bad);
+    }
+    nodes.push(item)?;
+    Ok(())
+}
+
+// Whether the names of nodes rise with this node behind them.
+fn is_next_live(nodes: &LiveList, item: &(NodeName, PlainNode, u64)) -> bool
+    requires { live_rise nodes.now ≡ true }
+    ensures { result ≡ live_rise (nodes.now ++ item.now ∷ []) }
+{
+    let Some(last) = nodes.as_slice().last() else {
+        return true;
+    };
+    last.0.cmp(&item.0).is_lt()
+}
+
+/// Adds a node behind others whose names rise if its name is above theirs, and is `Bad` if it isn't.
+pub(crate) fn push_live(
+    nodes: &mut LiveList,
+    item: (NodeName, PlainNode, u64),
+) -> Result<(), RecordFault>
+    requires { live_rise nodes.old ≡ true }
+    ensures ok { OnOk result ((live_rise (nodes.old ++ item ∷ []) ≡ true) × (nodes.new ≡ nodes.old ++ item ∷ [])) }
+    ensures bad { result ≡ Err RecordFault.Bad → live_rise (nodes.old ++ item ∷ []) ≡ false }
+{
+    if !is_next_live(nodes, &item) {
+        return Err(RecordFault::Bad);
+    }
+    nodes.push(item)?;
+    Ok(())
+}
+
+// Whether a version is one above another.
+fn is_above_by_one(version: u64, last: u64) -> bool
+    ensures { result ≡ (version == last + 1) }
+{
+    version > 0 && version - 1 == last
+}
+
+// Whether versions rise by one with this landing behind the others.
+fn is_next_commit(commits: &Commits, commit: &Commit) -> bool
+    requires { follow commits.now ≡ true }
+    ensures { result ≡ follow (commits.now ++ commit.now ∷ []) }
+{
+    let Some(last) = commits.as_slice().last() else {
+        return true;
+    };
+    is_above_by_one(commit.version, last.version)
+}
+
+/// Adds a landing behind others whose versions rise by one if its version is the next, and is `Bad` if it isn't.
+pub(crate) fn push_commit(commits: &mut Commits, commit: Commit) -> Result<(), RecordFault>
+    requires { follow commits.old ≡ true }
+    ensures ok { OnOk result ((follow (commits.old ++ commit ∷ []) ≡ true) × (commits.new ≡ commits.old ++ commit ∷ [])) }
+    ensures bad { result ≡ Err RecordFault.Bad → follow (commits.old ++ commit ∷ []) ≡ false }
+{
+    if !is_next_commit(commits, &commit) {
+        return Err(RecordFault::Bad);
+    }
+    commits.push(commit)?;
+    Ok(())
+}

@@ -1,0 +1,17 @@
+//! Tests of text: sources and sinks, lines of input, and the commands and replies that lines hold.
+#![tactic(auto)]
+
+#[cfg(test)]
+mod commands;
+#[cfg(test)]
+mod lines;
+#[cfg(test)]
+mod mem_sinks;
+#[cfg(test)]
+mod mem_sources;
+#[cfg(test)]
+mod replies;
+#[cfg(test)]
+mod std_sinks;
+#[cfg(test)]
+mod std_sources;
