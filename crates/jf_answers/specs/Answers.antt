@@ -13,6 +13,7 @@ use Rattle.jf_model.specs.declared.entries.Landing.TheVariants as landing
 use Rattle.jf_model.specs.declared.entries.Entry.{Entry}
 use Rattle.jf_model.specs.declared.entries.Entry.TheVariants as entry
 use Rattle.jf_evidence.specs.Proofs.{honest}
+use Rattle.jf_evidence.specs.Ranges.{chunk_entries, honest_chunk}
 use Rattle.jf_script.specs.Words.{is_long}
 use Rattle.jf_script.specs.Commands.{command_of}
 use Rattle.jf_script.specs.declared.command.Command.{Command}
@@ -20,7 +21,7 @@ use Rattle.jf_script.specs.declared.command.Command.TheVariants as command
 use Rattle.jf_script.specs.declared.reply.Refusal.TheVariants as refusal
 use Rattle.jf_script.specs.declared.reply.Reply.{Reply}
 use Rattle.jf_script.specs.declared.reply.Reply.TheVariants as reply
-use Rattle.jf_blocks.specs.Blocks.{proof_lines}
+use Rattle.jf_blocks.specs.Blocks.{proof_lines, chunk_lines}
 use Rattle.jf_answers.specs.Own.{Own, with_pending}
 use Rattle.jf_answers.specs.Refusals.{base_map, is_built, refused_by}
 
@@ -68,6 +69,13 @@ proved m name s own =
     let proof = honest m (K name) in
     record { reply = reply.Proof (length proof.siblings); block = proof_lines name (get m (K name)) proof; entry = None; state = s; own = own }
 
+-- how many entries, depth and right siblings, and a block: the entries of a map from a place on, with their honest proof
+abbrev pub chunked : Map → ℕ → ℕ → State → Own → Answer
+chunked m start count s own =
+    let es = chunk_entries m start count in
+    let proof = honest_chunk m start count in
+    record { reply = reply.Chunk (length es) proof.depth (length proof.siblings); block = chunk_lines es proof; entry = None; state = s; own = own }
+
 -- what a command is answered that nothing refuses
 abbrev pub done : Command → State → Own → Answer
 done (command.Put name value) s own = changed name (Some value) s own
@@ -79,7 +87,7 @@ done (command.Drop id) s own = not_read s own
 done (command.Get on name) s own = replied (reply.Value (get (base_map s own on) (K name))) s own
 done (command.Root on) s own = replied (reply.Root (root (base_map s own on))) s own
 done (command.Prove on name) s own = proved (base_map s own on) name s own
-done (command.Chunk on start count) s own = not_read s own
+done (command.Chunk on start count) s own = chunked (base_map s own on) start count s own
 done (command.Count on) s own = not_read s own
 done (command.Nth on place) s own = not_read s own
 done (command.Pin version) s own = not_read s own

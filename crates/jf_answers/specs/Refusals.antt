@@ -59,6 +59,10 @@ base_causes s own (base.Version w) = version_causes s w
 base_causes s own (base.Fork id) = fork_causes s id
 base_causes s own (base.Place place) = pin_causes own place
 
+-- a place isn't one of a map's entries, of which this is the number
+abbrev pub range_causes : Map → ℕ → Causes
+range_causes m start = (nat_le (len m) start, refusal.Range (len m)) ∷ []
+
 -- ---- which commands are built
 
 -- the head and the versions can be read; forks and pins can't yet
@@ -79,7 +83,7 @@ is_built (command.Drop id) = false
 is_built (command.Get on name) = is_readable on
 is_built (command.Root on) = is_readable on
 is_built (command.Prove on name) = is_readable on
-is_built (command.Chunk on start count) = false
+is_built (command.Chunk on start count) = is_readable on
 is_built (command.Count on) = false
 is_built (command.Nth on place) = false
 is_built (command.Pin version) = false
@@ -101,7 +105,7 @@ causes s own (command.Drop id) = []
 causes s own (command.Get on name) = base_causes s own on
 causes s own (command.Root on) = base_causes s own on
 causes s own (command.Prove on name) = base_causes s own on
-causes s own (command.Chunk on start count) = []
+causes s own (command.Chunk on start count) = base_causes s own on ++ range_causes (base_map s own on) start
 causes s own (command.Count on) = []
 causes s own (command.Nth on place) = []
 causes s own (command.Pin version) = []

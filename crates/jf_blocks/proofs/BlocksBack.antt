@@ -15,7 +15,8 @@ use Rattle.jf_blocks.proofs.Numbers.{number-back, number_upto-back, length-decim
 use Rattle.jf_blocks.proofs.HexBack.{is_plain-hex}
 use Rattle.jf_blocks.proofs.LinesBack.{line_read-join, length-hex, hash-back, name-back, claim-back, leaf-back, side-back}
 
-sides-back : (hs : List (List ℕ)) (at : ℕ) (rest : List ℕ) → AllByRecursion IsHash hs
+-- siblings
+pub sides-back : (hs : List (List ℕ)) (at : ℕ) (rest : List ℕ) → AllByRecursion IsHash hs
     → lines_by side_of (length hs) (record { at = at; left = lines (side_lines hs ++ rest) }) ≡ Ok (hs, record { at = at + length hs; left = lines rest })
 unfolding lines_by
 sides-back [] at rest h = let e : at ≡ at + 0 = omega arith in ap (λ n. Ok ([], record { at = n; left = lines rest })) e
@@ -27,7 +28,7 @@ sides-back (s ∷ hs) at rest h =
     rw (append_assoc line (side_lines hs) rest, one, others, e) refl
 
 -- one reading behind another
-joined : {X Y : Type 0} (r : Read X) (f : X → Place → Read Y) (x : X) (p : Place) (y : Read Y) → r ≡ Ok (x, p) → f x p ≡ y → and_then r f ≡ y
+pub joined : {X Y : Type 0} (r : Read X) (f : X → Place → Read Y) (x : X) (p : Place) (y : Read Y) → r ≡ Ok (x, p) → f x p ≡ y → and_then r f ≡ y
 joined r f x p y e h = rw e h
 
 regrouped : (a b c d e : List ℕ) → (((a ++ b) ++ c) ++ d) ++ e ≡ a ++ (b ++ (c ++ (d ++ e)))
@@ -55,7 +56,7 @@ all_plain-head : (siblings : ℕ) → siblings < 2 ^ 64 → all_plain (codes "ok
 all_plain-head siblings h = rw (is_plain-decimal siblings h) refl
 
 -- a number and `ok` are left out
-left_out : (o : Option ℕ) (n : ℕ) (all ws : List (List ℕ)) → o ≡ Some n → (if is_some o && is_word (codes "ok") (codes "ok") then ws else all) ≡ ws
+pub left_out : (o : Option ℕ) (n : ℕ) (all ws : List (List ℕ)) → o ≡ Some n → (if is_some o && is_word (codes "ok") (codes "ok") then ws else all) ≡ ws
 left_out None n all ws e = cc e
 left_out (Some m) n all ws e = refl
 

@@ -6,3 +6,5 @@ pub mod Plain
 pub mod HexBack
 pub mod LinesBack
 pub mod BlocksBack
+pub mod ChunksBack
+pub mod Bounds

@@ -5,9 +5,9 @@ use Rattle.std.proofs.lemmas.List.{append_assoc}
 use Rattle.std.proofs.lemmas.Bool.Decides.{nat_tests}
 use Rattle.hex.specs.Hex.{encode_lower, lower_digits, IsBytes}
 use Rattle.hex.proofs.HexLemmas.{length-encode_with}
-use Rattle.jf_script.specs.Words.{lines, line_text, is_long, value_of, hash_of}
+use Rattle.jf_script.specs.Words.{lines, line_text, is_long, value_of, hash_of, value_word}
 use Rattle.jf_blocks.specs.Blocks.{claim_word, leaf_words}
-use Rattle.jf_blocks.specs.Reading.{line_read, line_by, named_of, claim_of, leaf_of, side_of}
+use Rattle.jf_blocks.specs.Reading.{line_read, line_by, named_of, claim_of, leaf_of, side_of, entry_of}
 use Rattle.jf_blocks.specs.Laws.{IsHash}
 use Rattle.jf_blocks.proofs.Plain.{is_plain, all_plain, words-join, lines-join}
 use Rattle.jf_blocks.proofs.HexBack.{is_plain-hex, bytes_within-back}
@@ -74,3 +74,14 @@ pub side-back : (h : List ℕ) (at : ℕ) (rest : List ℕ) → IsHash h
 side-back h at rest is =
     line_by-join side_of h at (codes "side") (encode_lower h ∷ []) rest refl (plain_one h is.1)
     (omega (arith, length-append (codes "side ") (encode_lower h), length-hex h, is.0)) (hash-back h is)
+
+pub entry-back : (e : List ℕ × List ℕ) (at : ℕ) (rest : List ℕ) → IsHash e.0 → IsBytes e.1 → length e.1 ≤ 4096
+    → line_by entry_of (record { at = at; left = lines (line_text (codes "entry" ∷ encode_lower e.0 ∷ value_word e.1 ∷ []) ++ rest) }) ≡ Ok (e, record { at = at + 1; left = lines rest })
+entry-back e at rest key bytes short =
+    let k : List ℕ = encode_lower e.0 in
+    let v : List ℕ = 61 ∷ encode_lower e.1 in
+    let plain : all_plain (k ∷ v ∷ []) ≡ true = rw (is_plain-hex e.0 key.1, is_plain-hex e.1 bytes) refl in
+    let back : value_of v ≡ Some e.1 = bytes_within-back 0 4096 e.1 bytes (omega arith) short in
+    line_by-join entry_of e at (codes "entry") (k ∷ v ∷ []) rest refl plain
+    (omega (arith, length-append (codes "entry ") (k ++ 32 ∷ v), length-append k (32 ∷ v), length-hex e.0, length-hex e.1, key.0))
+    (rw (hash-back e.0 key, back) refl)

@@ -1,10 +1,12 @@
--- Lines of siblings that are written one by one.
+-- Lines of siblings and of entries that are written one by one.
 use Rattle.std.proofs.Common.{◌≡◌, ℕ, ◌+◌, ◌<◌, Option, List, [], ◌∷◌, ◌++◌, length, take, get_or, codes}
 use Rattle.std.proofs.lemmas.List.{take_more, append_assoc, flat_map_more}
 use Rattle.hex.specs.Hex.{encode_lower}
-use Rattle.jf_script.specs.Words.{line_text}
+use Rattle.jf_script.specs.Words.{line_text, value_word}
 use Rattle.jf_evidence.specs.declared.proof.Proof.{Proof}
-use Rattle.jf_blocks.specs.Blocks.{claim_word, leaf_words, proof_lines, side_lines}
+use Rattle.jf_evidence.specs.declared.range_proof.RangeProof.{RangeProof}
+use Rattle.jf_evidence.specs.Ranges.{Entries}
+use Rattle.jf_blocks.specs.Blocks.{claim_word, leaf_words, proof_lines, side_lines, entry_lines, chunk_lines}
 
 -- one line more
 pub side_lines-more : (before out line : List ℕ) (hs : List (List ℕ)) (i : ℕ) → i < length hs → out ≡ before ++ side_lines (take i hs)
@@ -25,3 +27,14 @@ proof_lines-pieces out name claim proof =
     let b : List ℕ = line_text (codes "claim" ∷ claim_word claim ∷ []) in
     let d : List ℕ = line_text (codes "leaf" ∷ leaf_words proof.leaf) in
     four out a b d (side_lines proof.siblings)
+
+-- one entry more
+pub entry_lines-more : (before out line : List ℕ) (es : Entries) (i : ℕ) → i < length es → out ≡ before ++ entry_lines (take i es)
+    → line ≡ line_text (codes "entry" ∷ encode_lower (get_or es i ([], [])).0 ∷ value_word (get_or es i ([], [])).1 ∷ []) → out ++ line ≡ before ++ entry_lines (take (i + 1) es)
+entry_lines-more before out line es i h e is =
+    rw (e, is, take_more es i ([], []) h) (flat_map_more (λ (x : List ℕ × List ℕ). line_text (codes "entry" ∷ encode_lower x.0 ∷ value_word x.1 ∷ [])) before (take i es) (get_or es i ([], [])))
+
+-- a chunk in the pieces in which it is written
+pub chunk_lines-pieces : (out : List ℕ) (es : Entries) (proof : RangeProof) → (out ++ entry_lines es) ++ side_lines proof.siblings ≡ out ++ chunk_lines es proof
+unfolding chunk_lines
+chunk_lines-pieces out es proof = append_assoc out (entry_lines es) (side_lines proof.siblings)

@@ -1,7 +1,9 @@
--- A proof block as text, without its first line.
+-- Proof and chunk blocks as text, each without its first line.
 use Rattle.std.specs.Prelude.{ℕ, List, [], ◌∷◌, ◌++◌, flat_map, Option, Some, None, codes}
 use Rattle.hex.specs.Hex.{encode_lower}
 use Rattle.jf_evidence.specs.declared.proof.Proof.{Proof}
+use Rattle.jf_evidence.specs.declared.range_proof.RangeProof.{RangeProof}
+use Rattle.jf_evidence.specs.Ranges.{Entries}
 use Rattle.jf_script.specs.Words.{line_text, value_word}
 
 -- a line for each sibling
@@ -23,3 +25,11 @@ unfoldable pub proof_lines : List ℕ → Option (List ℕ) → Proof → List �
 proof_lines name claim proof =
     line_text (codes "name" ∷ encode_lower name ∷ []) ++ line_text (codes "claim" ∷ claim_word claim ∷ []) ++ line_text (codes "leaf" ∷ leaf_words proof.leaf)
     ++ side_lines proof.siblings
+
+-- a line for each entry
+abbrev pub entry_lines : Entries → List ℕ
+entry_lines es = flat_map (λ e. line_text (codes "entry" ∷ encode_lower e.0 ∷ value_word e.1 ∷ [])) es
+
+-- entries, and the right siblings of their proof
+unfoldable pub chunk_lines : Entries → RangeProof → List ℕ
+chunk_lines es proof = entry_lines es ++ side_lines proof.siblings

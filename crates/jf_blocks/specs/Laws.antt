@@ -3,11 +3,14 @@ use Rattle.std.specs.Prelude.{◌≡◌, ℕ, ◌+◌, ◌^◌, ◌<◌, ◌≤�
 use Rattle.std.specs.List.{AllByRecursion}
 use Rattle.hex.specs.Hex.{IsBytes}
 use Rattle.jf_evidence.specs.declared.proof.Proof.{Proof}
+use Rattle.jf_evidence.specs.declared.range_proof.RangeProof.{RangeProof}
+use Rattle.jf_evidence.specs.Ranges.{Entries}
 use Rattle.jf_script.specs.Words.{lines}
 use Rattle.jf_script.specs.Replies.{reply_text}
 use Rattle.jf_script.specs.declared.reply.Reply.TheVariants as reply
-use Rattle.jf_blocks.specs.Blocks.{proof_lines}
-use Rattle.jf_blocks.specs.Reading.{line_read, first_of, proof_block}
+use Rattle.jf_blocks.specs.Blocks.{proof_lines, chunk_lines}
+use Rattle.jf_blocks.specs.Reading.{line_read, first_of, proof_block, chunk_of, chunk_body}
+use Rattle.jf_blocks.specs.declared.chunk.ChunkHead.{ChunkHead}
 use Rattle.jf_blocks.specs.declared.first.FirstLine.TheVariants as first
 
 -- 32 bytes
@@ -33,6 +36,31 @@ BlocksAreReadBack = (name : List ℕ) (claim : Option (List ℕ)) (proof : Proof
 abbrev pub RepliesBeginBlocks : Type 0
 RepliesBeginBlocks = (n siblings : ℕ) (rest : List ℕ) → n < 2 ^ 64 → siblings ≤ 65535
     → (line : List ℕ) × (lines (reply_text n (reply.Proof siblings) ++ rest) ≡ line ∷ lines rest) × (line_read first_of line ≡ Some (first.Proof siblings))
+
+-- ---- chunks
+
+-- what a chunk block tells of: keys of 32 bytes, values of at most 4,096, and siblings of 32
+pub record IsChunk (es : Entries) (proof : RangeProof) : Type 0 where
+  pub entries : AllByRecursion (λ e. IsHash e.0 × IsBytes e.1 × (length e.1 ≤ 4096)) es
+  pub siblings : AllByRecursion IsHash proof.siblings
+
+-- what its first line says
+abbrev pub head : Entries → RangeProof → ChunkHead
+head es proof = record { entries = length es; depth = proof.depth; siblings = length proof.siblings }
+
+-- a chunk block that was written is read as what was written, and what stands behind it is left
+abbrev pub ChunksAreReadBack : Type 0
+ChunksAreReadBack = (es : Entries) (proof : RangeProof) (at : ℕ) (rest : List ℕ) → IsChunk es proof
+    → chunk_body (head es proof) (record { at = at; left = lines (chunk_lines es proof ++ rest) })
+    ≡ Ok ((es, proof), record { at = at + length es + length proof.siblings; left = lines rest })
+
+-- the reply of a chunk is read as the first line of its block
+abbrev pub RepliesBeginChunks : Type 0
+RepliesBeginChunks = (n entries depth siblings : ℕ) (rest : List ℕ) → n < 2 ^ 64 → entries ≤ 1000 → depth ≤ 65535 → siblings ≤ 65535
+    → (line : List ℕ) × (lines (reply_text n (reply.Chunk entries depth siblings) ++ rest) ≡ line ∷ lines rest)
+    × (line_read chunk_of line ≡ Some (record { entries = entries; depth = depth; siblings = siblings }))
+
+-- ---- roots
 
 -- the reply of a root is read as the line that sets it
 abbrev pub RepliesSetRoots : Type 0

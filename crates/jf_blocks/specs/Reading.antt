@@ -1,7 +1,10 @@
--- Single lines and proof blocks as they are read.
+-- Single lines, proof blocks and chunk blocks as they are read.
 use Rattle.std.specs.Prelude.{ℕ, zero, suc, ◌+◌, if◌then◌else◌, ◌&&◌, is_some, List, [], ◌∷◌, Option, Some, None, Result, Ok, Err, option_map, option_and_then, codes}
 use Rattle.jf_evidence.specs.declared.proof.Proof.{Proof}
+use Rattle.jf_evidence.specs.declared.range_proof.RangeProof.{RangeProof}
+use Rattle.jf_evidence.specs.Ranges.{Entry, Entries}
 use Rattle.jf_script.specs.Words.{words, is_word, is_long, both, number, number_upto, name_of, hash_of, value_of}
+use Rattle.jf_blocks.specs.declared.chunk.ChunkHead.{ChunkHead}
 use Rattle.jf_blocks.specs.declared.first.FirstLine.{FirstLine}
 use Rattle.jf_blocks.specs.declared.first.FirstLine.TheVariants as first
 
@@ -21,6 +24,15 @@ two_after keyword (w ∷ []) = None
 two_after keyword (w ∷ a ∷ []) = None
 two_after keyword (w ∷ a ∷ b ∷ []) = if is_word w keyword then Some (a, b) else None
 two_after keyword (w ∷ a ∷ b ∷ c ∷ ws) = None
+
+-- the three words behind a keyword
+abbrev pub three_after : List ℕ → List (List ℕ) → Option (List ℕ × List ℕ × List ℕ)
+three_after keyword [] = None
+three_after keyword (w ∷ []) = None
+three_after keyword (w ∷ a ∷ []) = None
+three_after keyword (w ∷ a ∷ b ∷ []) = None
+three_after keyword (w ∷ a ∷ b ∷ c ∷ []) = if is_word w keyword then Some (a, b, c) else None
+three_after keyword (w ∷ a ∷ b ∷ c ∷ d ∷ ws) = None
 
 -- the words `n ok` in front may be left out
 abbrev pub without_number : List (List ℕ) → List (List ℕ)
@@ -69,6 +81,22 @@ leaf_of ws =
 -- `side` and a hash
 abbrev pub side_of : List (List ℕ) → Option (List ℕ)
 side_of ws = option_and_then hash_of (word_after (codes "side") ws)
+
+-- the numbers of entries, of bits of depth and of siblings
+abbrev pub head_of : List ℕ × List ℕ × List ℕ → Option ChunkHead
+head_of p = option_and_then (λ n. both (λ d s. record { entries = n; depth = d; siblings = s }) (number_upto 65535 p.1) (number_upto 65535 p.2)) (number_upto 1000 p.0)
+
+-- `chunk` and its three numbers
+abbrev pub chunk_of : List (List ℕ) → Option ChunkHead
+chunk_of ws = option_and_then head_of (three_after (codes "chunk") (without_number ws))
+
+-- a key and a value
+abbrev pub keyed_of : List ℕ × List ℕ → Option Entry
+keyed_of p = both (λ key value. (key, value)) (hash_of p.0) (value_of p.1)
+
+-- `entry`, a key and its value
+abbrev pub entry_of : List (List ℕ) → Option Entry
+entry_of ws = option_and_then keyed_of (two_after (codes "entry") ws)
 
 -- what a line's words say; those of a long line say nothing
 abbrev pub line_read : {X : Type 0} → (List (List ℕ) → Option X) → List ℕ → Option X
@@ -123,3 +151,18 @@ unfoldable pub proof_block : ℕ → Place → Read Block
 proof_block siblings p =
     and_then (line_by named_of p) (λ name q. and_then (line_by claim_of q) (λ claim r. and_then (line_by leaf_of r) (λ leaf s.
     and_then (lines_by side_of siblings s) (λ sides t. gives (name, claim, record { leaf = leaf; siblings = sides }) t))))
+
+-- ---- a chunk block
+
+-- the entries and the proof of the last one
+abbrev pub Chunk : Type 0
+Chunk = Entries × RangeProof
+
+-- behind its first line: so many entries and so many siblings
+unfoldable pub chunk_body : ChunkHead → Place → Read Chunk
+chunk_body head p =
+    and_then (lines_by entry_of head.entries p) (λ es q. and_then (lines_by side_of head.siblings q) (λ sides r. gives (es, record { depth = head.depth; siblings = sides }) r))
+
+-- with its first line
+abbrev pub chunk_block : Place → Read Chunk
+chunk_block p = and_then (line_by chunk_of p) chunk_body

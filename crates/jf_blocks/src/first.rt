@@ -11,7 +11,7 @@ use jf_hash::Hash;
 use jf_script::number_from;
 
 /// The most siblings that a block may have.
-const MAX_SIBLINGS: u64 = 65_535;
+pub(crate) const MAX_SIBLINGS: u64 = 65_535;
 
 /// What the first line of a block, or a line that sets the root, says.
 #[derive(Clone, Copy, Debug, PartialEq, Eq)]
@@ -38,7 +38,7 @@ pub fn first_line(line: &[u8]) -> Option<FirstLine>
 }
 
 /// The line behind the words `n ok`, if it has them and more, or the line as it is.
-fn without_number(line: &[u8]) -> Option<&[u8]>
+pub(crate) fn without_number(line: &[u8]) -> Option<&[u8]>
     ensures { option_map_or (λ rest. words rest.now) result [] ≡ without_number (words line.now) }
 {
     let (first, rest) = split_word(line);

@@ -1,5 +1,5 @@
 // Words as bytes.
-ghost use Rattle.std.specs.Prelude.{◌≡◌, IfOk};
+ghost use Rattle.std.specs.Prelude.{◌≡◌, ◌≤◌, length, IfOk, IfSome};
 ghost use Rattle.jf_script.specs.Words.{digit, byte_of, unhex, bytes_within, name_of, hash_of, value_of};
 
 use jf_path::{Bytes, Memory};
@@ -63,7 +63,8 @@ pub(crate) fn name_of(alloc: Global, word: &[u8]) -> Result<Option<Bytes>, Memor
 
 /// A value, of at most 4,096 bytes behind a sign `=`.
 pub(crate) fn value_of(alloc: Global, word: &[u8]) -> Result<Option<Bytes>, Memory>
-    ensures { IfOk result (λ value. value ≡ value_of word.now) }
+    ensures value { IfOk result (λ value. value ≡ value_of word.now) }
+    ensures short { IfOk result (λ value. IfSome value (λ v. length v ≤ 4096)) }
 {
     match word {
         [b'=', digits @ ..] => bytes_within(alloc, 0, 4096, digits),

@@ -1,6 +1,9 @@
-//! Proof blocks: a claim on one key and its proof as lines of text, written and read. `specs/` has the format.
+//! Blocks of lines, written and read: a claim on one key with its proof, and a chunk of entries with the proof of the last
+//! one. `specs/` has the format.
 #![tactic(auto)]
 
+mod chunk;
+mod chunk_text;
 mod first;
 mod hexadecimal;
 mod laws;
@@ -8,7 +11,12 @@ mod lines;
 mod word;
 mod writing;
 
+pub use chunk::{ChunkHead, chunk_line, entry_line};
+pub use chunk_text::write_chunk;
 pub use first::{FirstLine, first_line};
-pub use laws::{blocks_are_read_back, replies_begin_blocks, replies_set_roots};
+pub use laws::{
+    blocks_are_read_back, chunks_are_read_back, replies_begin_blocks, replies_begin_chunks,
+    replies_set_roots,
+};
 pub use lines::{claim_line, leaf_line, name_line, side_line};
 pub use writing::{write_hex, write_proof};

@@ -2,7 +2,7 @@
 ghost use Rattle.std.specs.Prelude.{◌≡◌, [], ◌∷◌};
 ghost use Rattle.std.specs.Option.{option_copied, option_map, option_map_or};
 ghost use Rattle.jf_script.specs.Words.{words, is_word};
-ghost use Rattle.jf_blocks.specs.Reading.{word_after, two_after};
+ghost use Rattle.jf_blocks.specs.Reading.{word_after, two_after, three_after};
 
 use memchr::memchr;
 
@@ -48,6 +48,33 @@ pub(crate) fn two_after<'a>(keyword: &[u8], text: &'a [u8]) -> Option<(&'a [u8],
     match rest {
         Some(_) => None,
         None if is_word(word, keyword) => Some((first, second)),
+        None => None,
+    }
+}
+
+/// The three words behind a keyword, where the text is just the four.
+pub(crate) fn three_after<'a>(
+    keyword: &[u8],
+    text: &'a [u8],
+) -> Option<(&'a [u8], &'a [u8], &'a [u8])>
+    ensures { option_map (λ p. (p.0.now, p.1.now, p.2.now)) result ≡ three_after keyword.now (words text.now) }
+{
+    let (word, rest) = split_word(text);
+    let Some(rest) = rest else {
+        return None;
+    };
+    let (first, rest) = split_word(rest);
+    let Some(rest) = rest else {
+        return None;
+    };
+    let (second, rest) = split_word(rest);
+    let Some(rest) = rest else {
+        return None;
+    };
+    let (third, rest) = split_word(rest);
+    match rest {
+        Some(_) => None,
+        None if is_word(word, keyword) => Some((first, second, third)),
         None => None,
     }
 }

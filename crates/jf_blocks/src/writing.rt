@@ -75,7 +75,7 @@ fn write_leaf(leaf: &Option<(Key, Hash)>, out: &mut Bytes) -> Result<(), Memory>
 }
 
 /// Appends the lines of siblings.
-fn write_sides(siblings: &[Hash], out: &mut Bytes) -> Result<(), Memory>
+pub(crate) fn write_sides(siblings: &[Hash], out: &mut Bytes) -> Result<(), Memory>
     ensures ok { OnOk result (out.new ≡ out.old ++ side_lines siblings.now) }
     ensures err { OnErr result (Extends out.old out.new) }
 {
@@ -86,7 +86,7 @@ fn write_sides(siblings: &[Hash], out: &mut Bytes) -> Result<(), Memory>
 }
 
 /// Appends bytes in hexadecimal behind a label, and ends the line.
-fn write_hex_line(label: &[u8], bytes: &[u8], out: &mut Bytes) -> Result<(), Memory>
+pub(crate) fn write_hex_line(label: &[u8], bytes: &[u8], out: &mut Bytes) -> Result<(), Memory>
     ensures ok { OnOk result (out.new ≡ out.old ++ (label.now ++ (encode_lower bytes.now ++ 10 ∷ []))) }
     ensures err { OnErr result (Extends out.old out.new) }
 {

@@ -1,3 +1,4 @@
+pub mod Adding
 pub mod FieldLaws
 pub mod Bits
 pub mod Loop

@@ -1,4 +1,5 @@
 pub mod Numbers
+pub mod Adding
 pub mod Spelling
 pub mod Counted
 pub mod Reading

@@ -1,5 +1,5 @@
 // Fields at the front of bytes, each with the bytes after it; and fields added at the end. Numbers have their highest byte first.
-ghost use Rattle.std.specs.Prelude.{◌≡◌, ◌++◌, OnOk};
+ghost use Rattle.std.specs.Prelude.{◌≡◌, ◌++◌, OnOk, OnErr};
 ghost use Rattle.jf_codec.specs.Numbers.{two_bytes, four_bytes, eight_bytes};
 ghost use Rattle.jf_codec.specs.Reading.{Reads, bytes_at, two_at, four_at, eight_at};
 
@@ -57,30 +57,33 @@ pub fn front_of(count: usize, bytes: &[u8]) -> Result<(&[u8], &[u8]), CodecFault
     Ok(bytes.split_at(count))
 }
 
-/// Adds a number in two bytes.
+/// Adds a number in two bytes. A refusal leaves `out` as it was.
 #[tactic(auto, unfolding(crate::specs::Numbers::two_bytes))]
 pub fn put_u16(out: &mut Bytes, number: u16) -> Result<(), Memory>
-    ensures { OnOk result (out.new ≡ out.old ++ two_bytes number) }
+    ensures ok { OnOk result (out.new ≡ out.old ++ two_bytes number) }
+    ensures err { OnErr result (out.new ≡ out.old) }
 {
     let mut bytes = [0; 2];
     BigEndian::write_u16(&mut bytes, number);
     out.append(&bytes)
 }
 
-/// Adds a number in four bytes.
+/// Adds a number in four bytes. A refusal leaves `out` as it was.
 #[tactic(auto, unfolding(crate::specs::Numbers::four_bytes))]
 pub fn put_u32(out: &mut Bytes, number: u32) -> Result<(), Memory>
-    ensures { OnOk result (out.new ≡ out.old ++ four_bytes number) }
+    ensures ok { OnOk result (out.new ≡ out.old ++ four_bytes number) }
+    ensures err { OnErr result (out.new ≡ out.old) }
 {
     let mut bytes = [0; 4];
     BigEndian::write_u32(&mut bytes, number);
     out.append(&bytes)
 }
 
-/// Adds a number in eight bytes.
+/// Adds a number in eight bytes. A refusal leaves `out` as it was.
 #[tactic(auto, unfolding(crate::specs::Numbers::eight_bytes))]
 pub fn put_u64(out: &mut Bytes, number: u64) -> Result<(), Memory>
-    ensures { OnOk result (out.new ≡ out.old ++ eight_bytes number) }
+    ensures ok { OnOk result (out.new ≡ out.old ++ eight_bytes number) }
+    ensures err { OnErr result (out.new ≡ out.old) }
 {
     let mut bytes = [0; 8];
     BigEndian::write_u64(&mut bytes, number);

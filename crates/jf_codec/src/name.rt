@@ -2,6 +2,7 @@
 ghost use Rattle.std.specs.Prelude.{◌≡◌, ◌++◌, List, ℕ, drop, length, IfOk, OnOk, OnErr, Ok};
 ghost use Rattle.jf_path.specs.Names.{IsName};
 ghost use Rattle.jf_path.specs.declared.name.NodeName.{NodeName};
+ghost use Rattle.jf_codec.specs.Adding.{Keeps};
 ghost use Rattle.jf_codec.specs.Spelling.{name_bytes};
 ghost use Rattle.jf_codec.specs.Reading.{Reads, path_at, name_at, counted};
 
@@ -62,9 +63,11 @@ pub fn decode_name(bytes: &[u8]) -> Result<(NodeName, usize), CodecFault>
     measured(bytes)
 }
 
-/// Adds the one spelling of a name. A refusal may leave a front of it in `out`.
+/// Adds the one spelling of a name. A refusal leaves what was in `out`, and may leave more behind it.
+#[tactic(auto, using(crate::proofs::Adding::keeps_same, crate::proofs::Adding::keeps_more))]
 pub fn put_name(out: &mut Bytes, name: &NodeName) -> Result<(), Memory>
-    ensures { OnOk result (out.new ≡ out.old ++ name_bytes name.now) }
+    ensures ok { OnOk result (out.new ≡ out.old ++ name_bytes name.now) }
+    ensures err { OnErr result (Keeps out.old out.new) }
 {
     put_u64(out, name.version)?;
     let mut path = [0; 33];

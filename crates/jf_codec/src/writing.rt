@@ -4,6 +4,7 @@ ghost use Rattle.std.specs.List.{AllByRecursion};
 ghost use Rattle.jf_codec.specs.Numbers.{four_bytes};
 ghost use Rattle.jf_path.specs.Nodes.{RiseFrom};
 ghost use Rattle.jf_path.specs.declared.node.PlainNode.TheVariants as node;
+ghost use Rattle.jf_codec.specs.Adding.{Keeps};
 ghost use Rattle.jf_codec.specs.Spelling.{IsNode, IsValid, spelling, node_bytes, child_bytes, count_bytes, bitmap, leaves, format_of, format_of_children, tag};
 ghost use Rattle.jf_codec.specs.Counted.{in_format};
 
@@ -63,8 +64,10 @@ fn bitmaps_to(children: &[Child]) -> Bitmaps
 }
 
 // Adds the count of a child, if the format has counts.
+#[tactic(auto, using(crate::proofs::Adding::keeps_same, crate::proofs::Adding::keeps_more))]
 fn put_count(out: &mut Bytes, format: Format, count: u64) -> Result<(), Memory>
-    ensures { OnOk result (out.new ≡ out.old ++ count_bytes format count) }
+    ensures ok { OnOk result (out.new ≡ out.old ++ count_bytes format count) }
+    ensures err { OnErr result (Keeps out.old out.new) }
 {
     match format {
         Format::One => Ok(()),
@@ -73,8 +76,10 @@ fn put_count(out: &mut Bytes, format: Format, count: u64) -> Result<(), Memory>
 }
 
 // Adds a child.
+#[tactic(auto, using(crate::proofs::Adding::keeps_same, crate::proofs::Adding::keeps_more))]
 fn put_child(out: &mut Bytes, format: Format, child: &Child) -> Result<(), Memory>
-    ensures { OnOk result (out.new ≡ out.old ++ child_bytes format child.now) }
+    ensures ok { OnOk result (out.new ≡ out.old ++ child_bytes format child.now) }
+    ensures err { OnErr result (Keeps out.old out.new) }
 {
     put_u64(out, child.version)?;
     put_count(out, format, child.count)?;
@@ -82,8 +87,10 @@ fn put_child(out: &mut Bytes, format: Format, child: &Child) -> Result<(), Memor
 }
 
 // Adds each child.
+#[tactic(auto, using(crate::proofs::Adding::keeps_same, crate::proofs::Adding::keeps_more))]
 fn put_children(out: &mut Bytes, format: Format, children: &[Child]) -> Result<(), Memory>
-    ensures { OnOk result (out.new ≡ out.old ++ flat_map (child_bytes format) children.now) }
+    ensures ok { OnOk result (out.new ≡ out.old ++ flat_map (child_bytes format) children.now) }
+    ensures err { OnErr result (Keeps out.old out.new) }
 {
     for child in children {
         put_child(out, format, child)?;
@@ -92,11 +99,12 @@ fn put_children(out: &mut Bytes, format: Format, children: &[Child]) -> Result<(
 }
 
 // Adds an internal node.
-#[tactic(auto, unfolding(crate::specs::Spelling::node_bytes))]
+#[tactic(auto, using(crate::proofs::Adding::keeps_same, crate::proofs::Adding::keeps_more), unfolding(crate::specs::Spelling::node_bytes))]
 fn put_inner(out: &mut Bytes, format: Format, children: &[Child]) -> Result<(), Memory>
     requires rise { RiseFrom 0 children.now }
     requires nibbles { AllByRecursion (λ c. c.nibble < 16) children.now }
-    ensures { OnOk result (out.new ≡ out.old ++ node_bytes format (node.Inner children.now)) }
+    ensures ok { OnOk result (out.new ≡ out.old ++ node_bytes format (node.Inner children.now)) }
+    ensures err { OnErr result (Keeps out.old out.new) }
 {
     let bits = bitmaps_to(children);
     out.push(tag_of(format))?;
@@ -106,9 +114,11 @@ fn put_inner(out: &mut Bytes, format: Format, children: &[Child]) -> Result<(), 
 }
 
 // Adds a leaf.
+#[tactic(auto, using(crate::proofs::Adding::keeps_same, crate::proofs::Adding::keeps_more))]
 fn put_leaf(out: &mut Bytes, key: &Key, value: &[u8]) -> Result<(), Memory>
     requires { length value.now ≤ 4096 }
-    ensures { OnOk result (out.new ≡ out.old ++ 1 ∷ key.now ++ four_bytes (length value.now) ++ value.now) }
+    ensures ok { OnOk result (out.new ≡ out.old ++ 1 ∷ key.now ++ four_bytes (length value.now) ++ value.now) }
+    ensures err { OnErr result (Keeps out.old out.new) }
 {
     out.push(LEAF)?;
     out.append(key)?;
@@ -117,11 +127,12 @@ fn put_leaf(out: &mut Bytes, key: &Key, value: &[u8]) -> Result<(), Memory>
 }
 
 /// Adds the one spelling that a node has in a format; format 1 leaves out its counts. What the format keeps of the node has
-/// to have a spelling. A refusal may leave a front of it in `out`.
-#[tactic(auto, unfolding(crate::specs::Spelling::node_bytes))]
+/// to have a spelling. A refusal leaves what was in `out`, and may leave more behind it.
+#[tactic(auto, using(crate::proofs::Adding::keeps_same, crate::proofs::Adding::keeps_more), unfolding(crate::specs::Spelling::node_bytes))]
 pub fn put_node(out: &mut Bytes, format: Format, node: &PlainNode) -> Result<(), Memory>
     requires { IsNode format (in_format format node.now) }
-    ensures { OnOk result (out.new ≡ out.old ++ node_bytes format node.now) }
+    ensures ok { OnOk result (out.new ≡ out.old ++ node_bytes format node.now) }
+    ensures err { OnErr result (Keeps out.old out.new) }
 {
     match node {
         PlainNode::Null => out.push(NULL),

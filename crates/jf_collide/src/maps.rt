@@ -1,5 +1,5 @@
 // Two maps of one root.
-ghost use Rattle.std.specs.Prelude.{◌≡◌, ◌↔◌, IfOk, IsTrue, T};
+ghost use Rattle.std.specs.Prelude.{◌≡◌, ◌≢◌, ◌↔◌, IsTrue, MatchResult, T};
 ghost use Rattle.std.specs.FinMap.{is_sorted};
 ghost use Rattle.jf_path.specs.Keys.{key_cmp};
 ghost use Rattle.jf_hash.specs.Roots.{part_root};
@@ -11,7 +11,7 @@ use jf_path::{Bytes, Key, Memory, Pairs, know_entries};
 use std::alloc::Global;
 
 /// Where two maps that have one root come apart, given by their entries in the order of their keys: two different lists
-/// with one SHA-256, or `None` if the maps are one.
+/// with one SHA-256, the first map's first, or `None` if the maps are one. One map given twice takes no memory.
 pub fn maps_collide(
     alloc: Global,
     first: &Pairs,
@@ -20,7 +20,7 @@ pub fn maps_collide(
     requires first { T (is_sorted key_cmp first.now) }
     requires second { T (is_sorted key_cmp second.now) }
     requires one_root { part_root 0 first.now ≡ part_root 0 second.now }
-    ensures { IfOk result (IsMapsAnswer first.now second.now) }
+    ensures { MatchResult result (IsMapsAnswer first.now second.now) (λ _. first.now ≢ second.now) }
 {
     let ours = first.as_slice();
     let theirs = second.as_slice();

@@ -3,3 +3,4 @@ pub mod Chains
 pub mod Stays
 pub mod Cuts
 pub mod Tabled
+pub mod Bounds

@@ -1,11 +1,11 @@
 -- The numbers of live forks fall, so that those above a number stand before all others.
-use Rattle.std.proofs.Common.{◌≡◌, ◌<◌, ◌≤◌, ◌+◌, ℕ, zero, suc, true, false, cond, ◌||◌, ◌==◌, ltb, List, [], ◌∷◌, ◌++◌, map, length, drop, get_or, refl, sym, ap, ◌∙◌, arith, subst}
+use Rattle.std.proofs.Common.{◌≡◌, ◌<◌, ◌≤◌, ◌+◌, ℕ, zero, suc, true, false, cond, ◌||◌, ◌==◌, ltb, Some, List, [], ◌∷◌, ◌++◌, map, length, drop, get_or, refl, sym, ap, ◌∙◌, arith, subst}
 use Rattle.std.proofs.lemmas.Bool.{ne_eqb}
 use Rattle.std.proofs.lemmas.Bool.Decides.{nat_tests}
 use Rattle.std.specs.List.Sorted.{IsPartitionPoint, IsPartitionedBy}
 use Rattle.jf_model.specs.Forks.{of_parent, is_among, AreForks, chain}
 use Rattle.jf_forks.specs.ForkLists.{none_above}
-use Rattle.jf_forks.specs.Tables.{forks_of}
+use Rattle.jf_forks.specs.Tables.{forks_of, map_of}
 use Rattle.jf_forks.specs.Lives.{grown, IsFrom}
 use Rattle.jf_forks.specs.declared.live.LiveFork.{LiveFork}
 
@@ -36,10 +36,11 @@ not_above id a is = grind (arith, nat_tests)
 
 -- the forks from the first on that isn't above the number
 pub from_point : (id bound p : ℕ) (xs : List LiveFork) → AreForks bound (forks_of (map grown xs)) → p ≤ length xs → IsPartitionPoint (λ (f : LiveFork). ltb id f.id ≡ true) (λ (f : LiveFork). ltb id f.id ≡ false) xs p → IsFrom id xs (drop p xs)
-from_point id bound zero [] sound within point = record { among = refl; chained = refl; stands = λ m h. h; forks = tt; short = omega arith }
+from_point id bound zero [] sound within point = record { among = refl; chained = refl; mapped = refl; stands = λ m h. h; forks = tt; short = omega arith }
 from_point id bound zero (x ∷ xs) sound within point = record {
   among = refl;
   chained = refl;
+  mapped = refl;
   stands = λ m h. h;
   forks = (not_above id x.id (point.1 0 x (omega arith) (omega arith)), sound.1, sound.2);
   short = omega arith;
@@ -51,6 +52,7 @@ from_point id bound (suc p) (x ∷ xs) sound within point =
     record {
       among = rest.among ∙ sym (ap (λ b. b || is_among id (forks_of (map grown xs))) other);
       chained = rest.chained ∙ sym (ap (λ b. cond b (of_parent [] (chain (forks_of (map grown xs))) x.parent ++ (grown x).fork ∷ []) (chain (forks_of (map grown xs)) id)) other);
+      mapped = rest.mapped ∙ sym (ap (λ b. cond b (Some x.tree) (map_of id (map grown xs))) other);
       stands = λ m h. rest.stands m h.1;
       forks = rest.forks;
       short = let e = rest.short in omega arith;

@@ -2,9 +2,9 @@
 use Rattle.std.proofs.Common.{◌≡◌, ◌≤◌, ℕ, true, false, cond, ◌||◌, ◌==◌, List, [], ◌∷◌, length, refl, sym, ap, ◌∙◌, arith, subst, Option, None, Some}
 use Rattle.jf_hash.specs.Maps.{Map}
 use Rattle.jf_model.specs.EntryLaws.{AreForks-without, AreForks-settled}
-use Rattle.jf_model.specs.Forks.{AreForks, descends, on_head, fork_map}
-use Rattle.jf_forks.specs.Tables.{Grown, Table, AreGrown, StandsOver, IsTable, forks_of, kept, landed}
-use Rattle.jf_forks.specs.TableLaws.{forks_of-kept, forks_of-landed, AreGrown-kept, AreGrown-landed}
+use Rattle.jf_model.specs.Forks.{AreForks, is_among, descends, on_head, fork_map}
+use Rattle.jf_forks.specs.Tables.{Grown, Table, AreGrown, StandsOver, IsTable, forks_of, map_of, kept, landed}
+use Rattle.jf_forks.specs.TableLaws.{forks_of-kept, forks_of-landed, AreGrown-kept, AreGrown-landed, map_of-kept, map_of-landed}
 use Rattle.jf_forks.specs.Worked.{Worked}
 
 few_kept : (id : ℕ) (gs : List Grown) → length (kept id gs) ≤ length gs
@@ -45,3 +45,13 @@ stands_landed made id gs hs old seen w t o is m i other h =
     get_number : Option ℕ → ℕ
     get_number None = 0
     get_number (Some n) = n
+
+pub same_kept : (made id : ℕ) (gs hs : List Grown) (old : Table) → record { made = made; live = gs } ≡ old → Worked 0 (kept id) gs hs → IsTable (record { made = made; live = gs })
+    → (y : ℕ) → is_among y (forks_of hs) ≡ true → map_of y hs ≡ map_of y old.live
+same_kept made id gs hs old seen w t y h =
+    ap (map_of y) w.back ∙ map_of-kept made id y gs t.forks (subst (λ ks. is_among y (forks_of ks) ≡ true) w.back h) ∙ ap (λ (q : Table). map_of y q.live) seen
+
+pub same_landed : (made id : ℕ) (gs hs : List Grown) (old : Table) → record { made = made; live = gs } ≡ old → Worked 0 (landed id) gs hs → IsTable (record { made = made; live = gs })
+    → (y : ℕ) → is_among y (forks_of hs) ≡ true → map_of y hs ≡ map_of y old.live
+same_landed made id gs hs old seen w t y h =
+    ap (map_of y) w.back ∙ map_of-landed made id y gs t.forks (subst (λ ks. is_among y (forks_of ks) ≡ true) w.back h) ∙ ap (λ (q : Table). map_of y q.live) seen

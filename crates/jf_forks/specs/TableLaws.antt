@@ -1,5 +1,5 @@
 -- The forks that stay in a table are those of the definition, and they keep their maps.
-use Rattle.std.proofs.Common.{◌≡◌, ◌≤◌, ℕ, true, false, cond, ◌||◌, ◌==◌, List, [], ◌∷◌, refl, sym, ap, ◌∙◌, subst, true≢false, le_refl}
+use Rattle.std.proofs.Common.{◌≡◌, ◌≤◌, ℕ, Bool, Some, true, false, cond, ◌||◌, ◌==◌, List, [], ◌∷◌, refl, sym, ap, ◌∙◌, subst, true≢false, le_refl}
 use Rattle.std.proofs.lemmas.Bool.{eqb-true, ne_eqb}
 use Rattle.jf_hash.specs.Maps.{Map, apply}
 use Rattle.jf_model.specs.Forks.{Fork, of_parent, is_among, AreForks, chain, batches, fork_map, parent_map, descends, on_head, without, settled, fork_map-older}
@@ -8,7 +8,7 @@ use Rattle.jf_model.specs.ForkLaws.{chain-without, fork_map-settled}
 use Rattle.jf_model.specs.declared.entries.Parent.{Parent}
 use Rattle.jf_model.specs.declared.entries.Parent.TheVariants as parent
 use Rattle.jf_forks.specs.ForkLists.{or_false_right, none_above, below_parent, chain-among}
-use Rattle.jf_forks.specs.Tables.{Grown, AreGrown, forks_of, kept, landed}
+use Rattle.jf_forks.specs.Tables.{Grown, AreGrown, forks_of, map_of, kept, landed}
 
 -- the forks that stay are those of the definition
 pub forks_of-kept : (id : ℕ) (gs : List Grown) → forks_of (kept id gs) ≡ without id (forks_of gs)
@@ -76,3 +76,51 @@ AreGrown-landed m n bound id (g ∷ gs) sound h is =
       )
       | false ↦ λ gone. AreGrown-landed m n g.fork.id id gs sound.2 h.1 older
     ] refl
+
+-- ---- the maps in the table
+
+-- what isn't older than itself
+apart_from_older : (y : ℕ) (g : Grown) (gs : List Grown) → AreForks g.fork.id (forks_of gs) → is_among y (forks_of gs) ≡ true → (g.fork.id == y) ≡ false
+apart_from_older y g gs sound among =
+    ne_eqb g.fork.id y (λ same. true≢false (sym among ∙ none_above g.fork.id y (forks_of gs) sound (subst (λ k. g.fork.id ≤ k) same (le_refl g.fork.id))))
+
+among_more : (a b : Bool) → b ≡ true → (a || b) ≡ true
+among_more true b h = refl
+among_more false b h = h
+
+among-kept : (id y : ℕ) (gs : List Grown) → is_among y (forks_of (kept id gs)) ≡ true → is_among y (forks_of gs) ≡ true
+among-kept id y [] = λ h. h
+among-kept id y (g ∷ gs) =
+    elim (g.fork.id == id || descends id (forks_of gs) g.fork) as (λ b. is_among y (forks_of (cond b (kept id gs) (g ∷ kept id gs))) ≡ true → is_among y (forks_of (g ∷ gs)) ≡ true) [
+      | true ↦ λ h. among_more (g.fork.id == y) _ (among-kept id y gs h)
+      | false ↦ elim (g.fork.id == y) as (λ b. (b || is_among y (forks_of (kept id gs))) ≡ true → (b || is_among y (forks_of gs)) ≡ true) [ true ↦ λ h. refl | false ↦ λ h. among-kept id y gs h ]
+    ]
+
+among-landed : (id y : ℕ) (gs : List Grown) → is_among y (forks_of (landed id gs)) ≡ true → is_among y (forks_of gs) ≡ true
+among-landed id y [] = λ h. h
+among-landed id y (g ∷ gs) =
+    elim (descends id (forks_of gs) g.fork) as (λ b. is_among y (forks_of (cond b (record { fork = on_head id g.fork; map = g.map } ∷ landed id gs) (landed id gs))) ≡ true → is_among y (forks_of (g ∷ gs)) ≡ true) [
+      | true ↦ elim (g.fork.id == y) as (λ b. (b || is_among y (forks_of (landed id gs))) ≡ true → (b || is_among y (forks_of gs)) ≡ true) [ true ↦ λ h. refl | false ↦ λ h. among-landed id y gs h ]
+      | false ↦ λ h. among_more (g.fork.id == y) _ (among-landed id y gs h)
+    ]
+
+-- each fork that stays when one is dropped has the map that it had
+pub map_of-kept : (bound id y : ℕ) (gs : List Grown) → AreForks bound (forks_of gs) → is_among y (forks_of (kept id gs)) ≡ true → map_of y (kept id gs) ≡ map_of y gs
+map_of-kept bound id y [] sound = λ h. refl
+map_of-kept bound id y (g ∷ gs) sound =
+    let older = map_of-kept g.fork.id id y gs sound.2 in
+    elim (g.fork.id == id || descends id (forks_of gs) g.fork) as (λ b. is_among y (forks_of (cond b (kept id gs) (g ∷ kept id gs))) ≡ true → map_of y (cond b (kept id gs) (g ∷ kept id gs)) ≡ map_of y (g ∷ gs)) [
+      | true ↦ λ h. older h ∙ ap (λ b. cond b (Some g.map) (map_of y gs)) (sym (apart_from_older y g gs sound.2 (among-kept id y gs h)))
+      | false ↦ elim (g.fork.id == y) as (λ b. (b || is_among y (forks_of (kept id gs))) ≡ true → cond b (Some g.map) (map_of y (kept id gs)) ≡ cond b (Some g.map) (map_of y gs)) [ true ↦ λ h. refl | false ↦ λ h. older h ]
+    ]
+
+-- and so has each that stays when one has landed
+pub map_of-landed : (bound id y : ℕ) (gs : List Grown) → AreForks bound (forks_of gs) → is_among y (forks_of (landed id gs)) ≡ true → map_of y (landed id gs) ≡ map_of y gs
+map_of-landed bound id y [] sound = λ h. refl
+map_of-landed bound id y (g ∷ gs) sound =
+    let older = map_of-landed g.fork.id id y gs sound.2 in
+    let there : Grown = record { fork = on_head id g.fork; map = g.map } in
+    elim (descends id (forks_of gs) g.fork) as (λ b. is_among y (forks_of (cond b (there ∷ landed id gs) (landed id gs))) ≡ true → map_of y (cond b (there ∷ landed id gs) (landed id gs)) ≡ map_of y (g ∷ gs)) [
+      | true ↦ elim (g.fork.id == y) as (λ b. (b || is_among y (forks_of (landed id gs))) ≡ true → cond b (Some g.map) (map_of y (landed id gs)) ≡ cond b (Some g.map) (map_of y gs)) [ true ↦ λ h. refl | false ↦ λ h. older h ]
+      | false ↦ λ h. older h ∙ ap (λ b. cond b (Some g.map) (map_of y gs)) (sym (apart_from_older y g gs sound.2 (among-landed id y gs h)))
+    ]

@@ -1,10 +1,11 @@
 // The table of forks.
-ghost use Rattle.std.specs.Prelude.{◌≡◌, ℕ, ◌+◌, ◌^◌, ◌<◌, ◌≤◌, ◌∷◌, ◌++◌, [], length, map, IfOk, IfErr, IfSome, OnOk, OnErr, Some, None, Err};
+ghost use Rattle.std.specs.Prelude.{◌≡◌, ℕ, true, ◌+◌, ◌^◌, ◌<◌, ◌≤◌, ◌∷◌, ◌++◌, [], length, map, IfOk, IfErr, IfSome, OnOk, OnErr, Some, None, Err};
 ghost use Rattle.std.specs.Result.{result_err};
 ghost use Rattle.jf_hash.specs.Maps.{Map, apply};
 ghost use Rattle.jf_hash.specs.Roots.{root};
-ghost use Rattle.jf_model.specs.Forks.{batches, chain, drop_count, fork_map, parent_map};
-ghost use Rattle.jf_forks.specs.Tables.{Table, StandsOver, forks_of, missing, missing_parent, making_fault, chain_fault, kept, landed, RefusedBy};
+ghost use Rattle.jf_model.specs.Batches.{key_count};
+ghost use Rattle.jf_model.specs.Forks.{batches, chain, drop_count, fork_map, is_among, parent_map};
+ghost use Rattle.jf_forks.specs.Tables.{Table, IsTable, StandsOver, forks_of, map_of, missing, missing_parent, making_fault, chain_fault, kept, landed, RefusedBy};
 ghost use Rattle.jf_forks.specs.declared.fault.ForkFault.TheVariants as fault;
 
 use crate::chain::{chain_keys, push_chain};
@@ -64,6 +65,13 @@ impl ForkTable {
         }
     }
 
+    /// What holds of each table: parents are the head or older live forks, and at most 1,024 are live.
+    pub fn know(&self)
+        ensures { IsTable self.now }
+    {
+        let _made = self.made;
+    }
+
     /// How many forks are live.
     pub fn live(&self) -> u64
         ensures { result ≡ length self.now.live }
@@ -90,6 +98,7 @@ impl ForkTable {
     pub fn tree(&self, id: u64) -> Result<&SpecTree, ForkFault>
         ensures refused { result_err result ≡ missing id self.now }
         ensures map { IfOk result (λ t. (m : Map) → StandsOver m self.now → t.now ≡ fork_map m (forks_of self.now.live) id) }
+        ensures kept { IfOk result (λ t. map_of id self.now.live ≡ Some t.now) }
     {
         if id >= self.made {
             return Err(ForkFault::Unknown);
@@ -153,11 +162,12 @@ impl ForkTable {
         }
     }
 
-    /// The batches of a fork and its live ancestors, the oldest first. It is refused for a fork that is missing, and then
-    /// where they have more than 10,000 keys, added up.
+    /// The batches of a fork and its live ancestors, the oldest first: 1 to 1,024, with at most 10,000 keys added up. It is
+    /// refused for a fork that is missing, and then if they have more keys.
     pub fn chain(&self, alloc: Global, id: u64) -> Result<BatchList, ForkFault>
         ensures chain { IfOk result (λ list. list ≡ batches (chain (forks_of self.now.live) id)) }
         ensures may { OnOk result (chain_fault id self.now ≡ None) }
+        ensures few { IfOk result (λ list. (1 ≤ length list) × (length list ≤ 1024) × (key_count list ≤ 10000)) }
         ensures refused { RefusedBy (chain_fault id self.now) result }
     {
         if let Some(fault) = self.chain_fault(id) {
@@ -183,12 +193,14 @@ impl ForkTable {
         }
     }
 
-    /// Drops a fork and those that stand on it. Gives how many are gone.
+    /// Drops a fork and those that stand on it. Gives how many are gone. It is refused exactly for a fork that is missing, and
+    /// then leaves the table as it was.
     pub fn drop_fork(&mut self, id: u64) -> Result<u64, ForkFault>
         ensures refused { result_err result ≡ missing id self.old }
         ensures count { IfOk result (λ n. n ≡ drop_count id (forks_of self.old.live)) }
         ensures ok { OnOk result (self.new ≡ record { made = self.old.made; live = kept id self.old.live }) }
         ensures stands { (m : Map) → StandsOver m self.old → StandsOver m self.new }
+        ensures same { (y : ℕ) → is_among y (forks_of self.new.live) ≡ true → map_of y self.new.live ≡ map_of y self.old.live }
         ensures err { OnErr result (self.new ≡ self.old) }
     {
         if let Err(fault) = self.find(id) {
@@ -198,11 +210,12 @@ impl ForkTable {
     }
 
     /// Lets a fork land, with its ancestors: those that stand on it stay, its children on the head. Without a fork, where
-    /// a batch landed, none stays.
+    /// a batch landed, none stays. The fork is one that `chain` doesn't refuse, want of memory aside.
     pub fn settle(&mut self, fork: Option<u64>)
         requires { IfSome fork (λ id. chain_fault id self.old ≡ None) }
         ensures none { fork ≡ None → self.new ≡ record { made = self.old.made; live = [] } }
         ensures some { (id : ℕ) → fork ≡ Some id → self.new ≡ record { made = self.old.made; live = landed id self.old.live } }
+        ensures same { (y : ℕ) → is_among y (forks_of self.new.live) ≡ true → map_of y self.new.live ≡ map_of y self.old.live }
         ensures stands { (m : Map) (id : ℕ) → fork ≡ Some id → StandsOver m self.old → StandsOver (fork_map m (forks_of self.old.live) id) self.new }
     {
         match fork {

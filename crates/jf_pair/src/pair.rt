@@ -1,5 +1,5 @@
 // Two files of records, of which one is live.
-ghost use Rattle.std.specs.Prelude.{◌≡◌, ◌↔◌, ◌+◌, ◌<◌, ◌≤◌, ℕ, List, [], ◌∷◌, ◌++◌, length, true, false, Some, None, Err, IfOk, OnOk, IsErr};
+ghost use Rattle.std.specs.Prelude.{◌≡◌, ◌↔◌, ◌+◌, ◌<◌, ◌≤◌, ℕ, List, [], ◌∷◌, ◌++◌, length, true, false, Some, None, Err, IfOk, IfSome, OnOk, OnErr, IsErr};
 ghost use Rattle.jf_disk.specs.Disk.{History, CallsOn, content, reads, put_at};
 ghost use Rattle.jf_disk.specs.Crashes.{LeavesFiles, KeepsOther, opposite};
 ghost use Rattle.jf_disk.specs.declared.side.Side.{Side};
@@ -51,6 +51,7 @@ impl Pair {
         ensures none { IfOk result (λ r. (r.1 ≡ None) ↔ (r.0.is_live ≡ false)) }
         ensures first { IfOk result (λ r. r.0.is_live ≡ false → r.0.side ≡ Side.B) }
         ensures sound { IfOk result (λ r. r.0.failed ≡ false) }
+        ensures log { IfOk result (λ r. IfSome r.1 (λ log. (log.side ≡ r.0.side) × (log.offset ≡ r.0.offset) × (log.failed ≡ false))) }
         ensures damaged { (h : History) (side : Side) (at : ℕ) → D.history disk.old ≡ Some h → result ≡ Err (PairFault.Damaged side at) → outer_damage (reads h) ≡ Some (side, at) }
         ensures left { (h : History) → D.history disk.old ≡ Some h → (g : History) × (D.history disk.new ≡ Some g) × LeavesFiles h g }
         ensures calls { CallsOn (D.history disk.old) (D.moment disk.old) (D.faults disk.old) (D.history disk.new) (D.moment disk.new) (D.faults disk.new) (result ≡ Err PairFault.DiskFault) }
@@ -78,25 +79,27 @@ impl Pair {
         ensures stop { (h : History) (rs : List Framed) (kind : ℕ) (payload : List ℕ) → D.history disk.old ≡ Some h → IsInStep self.old rs h.now → IsFrame frame.now kind payload
             → (g : History) × (D.history disk.new ≡ Some g) × StopsBetween h g rs (rs ++ framed self.old.offset kind payload ∷ []) }
         ensures other { (h : History) (rs : List Framed) → D.history disk.old ≡ Some h → IsInStep self.old rs h.now → (g : History) × (D.history disk.new ≡ Some g) × KeepsOther self.old.side h g }
+        ensures offset { OnOk result (self.new.offset ≡ self.old.offset + length frame.now) }
         ensures four { OnOk result (D.moment disk.new ≡ D.moment disk.old + 4) }
         ensures same { (self.new.side ≡ self.old.side) × (self.new.is_live ≡ self.old.is_live) }
         ensures failed { (self.new.failed ≡ true) ↔ IsErr result }
+        ensures err { OnErr result (self.new ≡ record self.old { failed = true }) }
         ensures calls { CallsOn (D.history disk.old) (D.moment disk.old) (D.faults disk.old) (D.history disk.new) (D.moment disk.new) (D.faults disk.new) (IsErr result) }
         ensures few { D.moment disk.new ≤ D.moment disk.old + 4 }
     {
         self.live.append(disk, frame)
     }
 
-    /// Begins the side across and writes a checkpoint of a greater generation there, given as a whole frame. That side
-    /// is then live, with this one record; the other side stays as it was. If no side is live yet, this is the first
-    /// checkpoint. After a fault the pair is failed: the live records are those before, or the checkpoint alone, and only
+    /// Begins the side across and writes a checkpoint there, given as a whole frame, of a greater generation if a side is
+    /// live. The side across is then live, with this one record; the other side stays as it was. If no side was live, this
+    /// is the first checkpoint. After a fault the pair is failed: the live records are those before, or the checkpoint alone, and only
     /// a new opening tells which.
     pub fn switch<D: Disk>(&mut self, disk: &mut D, frame: &[u8]) -> Result<(), DiskFault>
         requires whole { (kind : ℕ) × (payload : List ℕ) × IsFrame frame.now kind payload }
         requires checkpoint { (kind : ℕ) (payload : List ℕ) → IsFrame frame.now kind payload → (is_checkpoint kind ≡ true) × (8 ≤ length payload) }
         requires sound { self.old.failed ≡ false }
         requires in_step { (h : History) → D.history disk.old ≡ Some h → (rs : List Framed) × IsInStep self.old rs h.now }
-        requires newer { (h : History) (rs : List Framed) (kind : ℕ) (payload : List ℕ) → D.history disk.old ≡ Some h → IsInStep self.old rs h.now → IsFrame frame.now kind payload → generation_of rs < number_of payload }
+        requires newer { (h : History) (rs : List Framed) (kind : ℕ) (payload : List ℕ) → D.history disk.old ≡ Some h → IsInStep self.old rs h.now → IsFrame frame.now kind payload → self.old.is_live ≡ true → generation_of rs < number_of payload }
         ensures ok { (h : History) (kind : ℕ) (payload : List ℕ) → D.history disk.old ≡ Some h → IsFrame frame.now kind payload
             → OnOk result ((g : History) × (D.history disk.new ≡ Some g) × IsInStep self.new (framed 0 kind payload ∷ []) g.now) }
         ensures written { (h : History) → D.history disk.old ≡ Some h → OnOk result ((g : History) × (D.history disk.new ≡ Some g) × ((content self.new.side g.now).bytes ≡ 1 ∷ frame.now)) }
@@ -104,9 +107,11 @@ impl Pair {
             → (g : History) × (D.history disk.new ≡ Some g) × StopsBetween h g rs (framed 0 kind payload ∷ []) }
         ensures other { (h : History) → D.history disk.old ≡ Some h → (g : History) × (D.history disk.new ≡ Some g) × KeepsOther (opposite self.old.side) h g }
         ensures side { OnOk result ((self.new.side ≡ opposite self.old.side) × (self.new.is_live ≡ true)) }
+        ensures offset { OnOk result (self.new.offset ≡ length frame.now) }
         ensures same { IsErr result → (self.new.side ≡ self.old.side) × (self.new.is_live ≡ self.old.is_live) }
         ensures four_or_more { OnOk result (D.moment disk.old + 4 ≤ D.moment disk.new) }
         ensures failed { (self.new.failed ≡ true) ↔ IsErr result }
+        ensures err { OnErr result (self.new ≡ record self.old { failed = true }) }
         ensures calls { CallsOn (D.history disk.old) (D.moment disk.old) (D.faults disk.old) (D.history disk.new) (D.moment disk.new) (D.faults disk.new) (IsErr result) }
         ensures few { D.moment disk.new ≤ D.moment disk.old + 10 }
     {
@@ -149,6 +154,7 @@ fn pair_of(alloc: Global, live: Log, other: Log) -> (Pair, Option<Log>)
     ensures records { read_by result.1 ≡ live.records }
     ensures some { (result.0.is_live ≡ true) ↔ (0 < length live.records) }
     ensures none { (result.1 ≡ None) ↔ (result.0.is_live ≡ false) }
+    ensures log { IfSome result.1 (λ log. log ≡ live) }
 {
     let is_live = live.count() > 0;
     let pair = Pair {

@@ -1,5 +1,5 @@
 -- Numbers, hashes, names and nodes are read just as they are spelled.
-use Rattle.std.proofs.Common.{◌≡◌, ℕ, ◌+◌, ◌*◌, ◌^◌, ◌<◌, ◌≤◌, Bool, true, false, cond, not, eqb, ◌==◌, IsTrue, List, [], ◌∷◌, ◌++◌, length, filter, Option, Some, None, Result, Ok, Err, refl, sym, ap, ap₂, subst, ◌∙◌, arith, inl, inr}
+use Rattle.std.proofs.Common.{◌≡◌, ℕ, ◌^◌, ◌<◌, true, false, cond, not, ◌==◌, List, [], ◌∷◌, ◌++◌, length, Some, None, Result, Ok, Err, refl, sym, ap, subst, ◌∙◌, arith}
 use Rattle.std.specs.List.{flat_map, AllByRecursion}
 use Rattle.std.specs.Result.{result_ok}
 use Rattle.jf_path.specs.Keys.{IsKey, IsBytes}
@@ -15,7 +15,7 @@ use Rattle.jf_codec.specs.Reading.{bytes_at, eight_at, name_at, node_at}
 use Rattle.jf_codec.specs.declared.format.Format.{Format}
 use Rattle.jf_codec.specs.declared.format.Format.TheVariants as format
 use Rattle.jf_codec.specs.declared.fault.CodecFault.{CodecFault}
-use Rattle.jf_codec.proofs.FieldLaws.{AreBytes, IsBytes-from_places, Takes, bytes_take, bytes_again, eight_takes, eight_again}
+use Rattle.jf_codec.proofs.FieldLaws.{IsBytes-from_places, Takes, bytes_take, bytes_again, eight_takes, eight_again}
 use Rattle.jf_codec.proofs.Names.{name_takes, name_again}
 use Rattle.jf_codec.proofs.Nodes.{node_takes, node_again, counted_format}
 use Rattle.jf_codec.proofs.Spellings.{one_spelling}

@@ -1,5 +1,5 @@
 -- What a format keeps of a record is spelled as the record, and is all of one that can be spelled in it.
-use Rattle.std.proofs.Common.{◌≡◌, ℕ, ◌+◌, ◌^◌, ◌<◌, true, false, cond, List, [], ◌∷◌, ◌++◌, map, length, refl, sym, ap, ap₂, ◌∙◌}
+use Rattle.std.proofs.Common.{◌≡◌, ℕ, ◌+◌, ◌^◌, ◌<◌, true, false, cond, List, [], ◌∷◌, ◌++◌, map, refl, ap, ap₂}
 use Rattle.std.specs.List.{flat_map, AllByRecursion}
 use Rattle.std.proofs.lemmas.List.{length-map}
 use Rattle.jf_path.specs.Names.{IsName}
@@ -8,7 +8,7 @@ use Rattle.jf_path.specs.declared.name.NodeName.{NodeName}
 use Rattle.jf_path.specs.declared.node.PlainNode.{PlainNode}
 use Rattle.jf_path.specs.declared.node.PlainNode.TheVariants as node
 use Rattle.jf_codec.specs.Numbers.{two_bytes, eight_bytes}
-use Rattle.jf_codec.specs.Spelling.{node_bytes, child_bytes, name_bytes, bitmap, leaves, tag, IsNode}
+use Rattle.jf_codec.specs.Spelling.{node_bytes, child_bytes, name_bytes, bitmap, leaves, IsNode}
 use Rattle.jf_codec.specs.Counted.{uncounted_child, in_format}
 use Rattle.jf_codec.specs.declared.format.Format.{Format}
 use Rattle.jf_codec.specs.declared.format.Format.TheVariants as format
@@ -16,8 +16,8 @@ use Rattle.jf_codec.proofs.Counted.{in_format-same}
 use Rattle.jf_payload.specs.declared.records.Commit.{Commit}
 use Rattle.jf_payload.specs.declared.records.Record.{Record}
 use Rattle.jf_payload.specs.declared.records.Record.TheVariants as «record»
-use Rattle.jf_payload.specs.Spelling.{list_bytes, fresh_bytes, live_bytes, commit_bytes, record_bytes, kind_of, IsCommit, IsGroup, IsRecord}
-use Rattle.jf_payload.specs.Counted.{commit_in, nodes_in, record_in}
+use Rattle.jf_payload.specs.Spelling.{list_bytes, fresh_bytes, live_bytes, commit_bytes, record_bytes, kind_of, IsCommit, IsRecord}
+use Rattle.jf_payload.specs.Counted.{commit_in, record_in}
 use Rattle.jf_payload.specs.Laws.{KeptIsSpelled}
 
 -- ---- nodes

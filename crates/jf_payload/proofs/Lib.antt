@@ -5,3 +5,5 @@ pub mod FieldSpells
 pub mod RecordSpells
 pub mod WholeRecords
 pub mod Kept
+pub mod Uncounted
+pub mod Samples

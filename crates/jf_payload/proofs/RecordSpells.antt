@@ -1,37 +1,22 @@
 -- Lists, landings, checkpoints and groups are read just as they are spelled.
-use Rattle.std.proofs.Common.{◌≡◌, ℕ, ◌+◌, ◌-◌, ◌^◌, ◌<◌, ◌≤◌, Bool, true, false, cond, ◌&&◌, ◌==◌, IsTrue, List, [], ◌∷◌, ◌++◌, map, length, Option, Some, None, refl, sym, ap, ap₂, subst, ◌∙◌, append_assoc, arith}
-use Rattle.std.specs.Prelude.{nat_le}
+use Rattle.std.proofs.Common.{◌≡◌, ℕ, ◌+◌, ◌-◌, ◌^◌, ◌<◌, ◌≤◌, Bool, true, IsTrue, List, [], ◌∷◌, ◌++◌, map, length, refl, sym, ap, ◌∙◌, arith}
 use Rattle.std.specs.List.{flat_map, AllByRecursion}
 use Rattle.std.proofs.lemmas.List.{map-append}
 use Rattle.std.proofs.lemmas.Bool.{leb-true, le-leb}
 use Rattle.jf_path.specs.Keys.{IsKey}
-use Rattle.jf_path.specs.Names.{IsName, rise, name_cmp}
+use Rattle.jf_path.specs.Names.{IsName, rise}
 use Rattle.jf_path.specs.declared.name.NodeName.{NodeName}
 use Rattle.jf_path.specs.declared.node.PlainNode.{PlainNode}
 use Rattle.jf_codec.specs.Numbers.{eight_bytes}
 use Rattle.jf_codec.specs.Spelling.{name_bytes, node_bytes, IsNode}
 use Rattle.jf_codec.specs.declared.format.Format.{Format}
 use Rattle.jf_payload.specs.declared.records.Commit.{Commit}
-use Rattle.jf_payload.specs.declared.records.Record.{Record}
-use Rattle.jf_payload.specs.declared.records.Record.TheVariants as «record»
-use Rattle.jf_payload.specs.Spelling.{list_bytes, fresh_bytes, live_bytes, commit_bytes, record_bytes, follow, IsCommit, IsCheckpoint, IsGroup}
-use Rattle.jf_payload.specs.Reading.{Front, both_at, only_if, seen_as, many_at, list_at, any, number_at, hash_at, named_at, plain_at, fresh_at, live_at, fresh_rise, live_rise, commit_from, commit_at, Numbers, numbers_at, are_within, any_hashes, roots_at, checkpoint_from, checkpoint_at, is_group, group_at}
-use Rattle.jf_payload.proofs.Spells.{Spells, HoldsOfFronts, both_spells, only_spells, seen_spells, many_spells}
+use Rattle.jf_payload.specs.Spelling.{list_bytes, fresh_bytes, live_bytes, commit_bytes, follow, IsCommit, IsCheckpoint, IsGroup}
+use Rattle.jf_payload.specs.Reading.{Front, both_at, only_if, many_at, list_at, any, number_at, hash_at, named_at, plain_at, fresh_at, live_at, fresh_rise, live_rise, commit_from, commit_at, Numbers, numbers_at, are_within, any_hashes, roots_at, is_group, group_at}
+use Rattle.jf_payload.proofs.Spells.{Spells, HoldsOfFronts, and_left, and_right, both_true, both_spells, only_spells, seen_spells, many_spells}
 use Rattle.jf_payload.proofs.FieldSpells.{number_spells, hash_spells, name_spells, node_spells}
 
 -- ---- tests that hold of fronts
-
-and_left : (a b : Bool) → (a && b) ≡ true → a ≡ true
-and_left true b e = refl
-and_left false b e = absurd cc
-
-and_right : (a b : Bool) → (a && b) ≡ true → b ≡ true
-and_right true b e = e
-and_right false b e = absurd cc
-
-both_true : (a b : Bool) → a ≡ true → b ≡ true → (a && b) ≡ true
-both_true true b p q = q
-both_true false b p q = absurd cc
 
 pub rise-front : HoldsOfFronts rise
 rise-front [] back e = refl

@@ -1,8 +1,7 @@
 -- Readers that read just what a spelling writes, and how they are made of one another.
-use Rattle.std.proofs.Common.{◌≡◌, ℕ, zero, suc, ◌+◌, ◌^◌, ◌<◌, ◌≤◌, Bool, true, false, cond, IsTrue, List, [], ◌∷◌, ◌++◌, length, Option, Some, None, refl, sym, ap, ap₂, subst, ◌∙◌, append_assoc, arith}
+use Rattle.std.proofs.Common.{◌≡◌, ℕ, zero, suc, Bool, true, false, cond, ◌&&◌, IsTrue, List, [], ◌∷◌, ◌++◌, length, Option, Some, None, refl, sym, ap, subst, ◌∙◌, append_assoc}
 use Rattle.std.specs.List.{flat_map, AllByRecursion}
 use Rattle.std.proofs.lemmas.List.{append-nil}
-use Rattle.std.proofs.lemmas.List.Concat.{flat_map-cons}
 use Rattle.jf_path.specs.Keys.{IsBytes}
 use Rattle.jf_codec.proofs.FieldLaws.{AreBytes, Takes, Takes-then}
 use Rattle.jf_payload.specs.Reading.{◌>>=◌, Front, both_at, only_if, seen_as, many_at}
@@ -28,6 +27,18 @@ done x = Some x
 
 pub some_is : {A : Type 0} (x y : A) → done x ≡ done y → x ≡ y
 some_is x y e = cc
+
+pub and_left : (a b : Bool) → (a && b) ≡ true → a ≡ true
+and_left true b e = refl
+and_left false b e = absurd cc
+
+pub and_right : (a b : Bool) → (a && b) ≡ true → b ≡ true
+and_right true b e = e
+and_right false b e = absurd cc
+
+pub both_true : (a b : Bool) → a ≡ true → b ≡ true → (a && b) ≡ true
+both_true true b p q = q
+both_true false b p q = absurd cc
 
 pub IsBytes-append : (xs ys : List ℕ) → IsBytes xs → IsBytes ys → IsBytes (xs ++ ys)
 IsBytes-append [] ys p q = q

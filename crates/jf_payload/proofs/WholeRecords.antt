@@ -1,9 +1,9 @@
 -- A payload is read just as the record that it spells.
-use Rattle.std.proofs.Common.{◌≡◌, ℕ, zero, suc, ◌^◌, ◌<◌, ◌⊎◌, inl, inr, Bool, true, false, cond, ◌&&◌, ◌==◌, eqb, ltb, List, [], ◌∷◌, ◌++◌, length, get_or, Option, Some, None, Result, Ok, Err, refl, sym, ap, ap₂, subst, ◌∙◌, arith, eq-eqb}
+use Rattle.std.proofs.Common.{◌≡◌, ℕ, ◌^◌, ◌<◌, ◌⊎◌, inl, inr, true, false, cond, ◌&&◌, ◌==◌, List, [], ◌∷◌, ◌++◌, length, Option, Some, None, Result, Ok, Err, refl, sym, ap, ap₂, subst, ◌∙◌}
 use Rattle.std.specs.Prelude.{IfOk, nat_lt}
-use Rattle.std.specs.List.{flat_map, list_all}
+use Rattle.std.specs.List.{list_all}
 use Rattle.std.proofs.lemmas.Bool.{eqb-true, ltb-true, lt-ltb}
-use Rattle.std.proofs.lemmas.List.{append-nil}
+use Rattle.std.proofs.lemmas.List.{append-nil, nil_from_length}
 use Rattle.jf_path.specs.Keys.{IsBytes}
 use Rattle.jf_codec.specs.Numbers.{eight_bytes}
 use Rattle.jf_codec.specs.declared.format.Format.{Format}
@@ -11,12 +11,11 @@ use Rattle.jf_codec.specs.declared.format.Format.TheVariants as format
 use Rattle.jf_codec.proofs.FieldLaws.{AreBytes, AreBytes-at_places, IsBytes-from_places, Takes}
 use Rattle.jf_payload.specs.declared.fault.RecordFault.{RecordFault}
 use Rattle.jf_payload.specs.declared.fault.RecordFault.TheVariants as fault
-use Rattle.jf_payload.specs.declared.records.Commit.{Commit}
 use Rattle.jf_payload.specs.declared.records.Record.{Record}
 use Rattle.jf_payload.specs.declared.records.Record.TheVariants as «record»
 use Rattle.jf_payload.specs.Spelling.{list_bytes, commit_bytes, record_bytes, checkpoint_kind, kind_of, IsCommit, IsGroup, IsRecord, IsSpelling}
-use Rattle.jf_payload.specs.Reading.{◌>>=◌, Front, Gives, Fails, seen_as, number_at, commit_at, checkpoint_from, checkpoint_at, group_at, record_at, whole_in, spelled}
-use Rattle.jf_payload.proofs.Spells.{Spells, bind_some, guard_kept, some_is}
+use Rattle.jf_payload.specs.Reading.{◌>>=◌, Front, Gives, seen_as, number_at, commit_at, checkpoint_from, checkpoint_at, group_at, record_at, whole_in, spelled}
+use Rattle.jf_payload.proofs.Spells.{Spells, and_left, and_right, bind_some, guard_kept, some_is}
 use Rattle.jf_payload.proofs.FieldSpells.{number_spells}
 use Rattle.jf_payload.proofs.RecordSpells.{commit_spells, group_spells, Whole, IsWhole, whole_bytes, whole_at, whole_spells, whole_checkpoint, checkpoint_whole}
 
@@ -101,10 +100,6 @@ record_again format.Two («record».Checkpoint generation base floor head roots 
 
 -- ---- all of a payload
 
-none_left : (rest : List ℕ) → length rest ≡ 0 → rest ≡ []
-none_left [] e = refl
-none_left (b ∷ rest) e = absurd (omega arith)
-
 whole_takes : (fmt : Format) (kind : ℕ) (payload : List ℕ) (r : Record) → AreBytes payload → whole_in fmt kind payload ≡ Some r → IsSpelling fmt r kind payload
 unfolding whole_in
 whole_takes fmt kind payload r bs e =
@@ -115,7 +110,7 @@ whole_takes fmt kind payload r bs e =
     subst (λ (s : Record). IsSpelling fmt s kind payload) same (record {
       sound = t.sound;
       kind_is = t.kind_is;
-      payload_is = t.text.parts ∙ ap (λ (rest : List ℕ). record_bytes fmt x.0.0 ++ rest) (none_left x.0.1 (eqb-true _ _ g.0)) ∙ append-nil (record_bytes fmt x.0.0);
+      payload_is = t.text.parts ∙ ap (λ (rest : List ℕ). record_bytes fmt x.0.0 ++ rest) (nil_from_length x.0.1 (eqb-true _ _ g.0)) ∙ append-nil (record_bytes fmt x.0.0);
     })
 
 whole_again : (fmt : Format) (kind : ℕ) (payload : List ℕ) (r : Record) → IsSpelling fmt r kind payload → whole_in fmt kind payload ≡ Some r
@@ -138,11 +133,7 @@ record_fits fmt («record».Checkpoint generation base floor head roots nodes) i
 
 bytes_tested : (bytes : List ℕ) → list_all (λ b. nat_lt b 256) bytes ≡ true → IsBytes bytes
 bytes_tested [] e = tt
-bytes_tested (b ∷ bytes) e = let p = both (nat_lt b 256) (list_all (λ b. nat_lt b 256) bytes) e in (ltb-true _ _ p.0, bytes_tested bytes p.1)
-  where
-    both : (x y : Bool) → (x && y) ≡ true → (x ≡ true) × (y ≡ true)
-    both true y f = (refl, f)
-    both false y f = absurd cc
+bytes_tested (b ∷ bytes) e = (ltb-true _ _ (and_left _ _ e), bytes_tested bytes (and_right _ _ e))
 
 pub tested_bytes : (bytes : List ℕ) → IsBytes bytes → list_all (λ b. nat_lt b 256) bytes ≡ true
 tested_bytes [] h = refl

@@ -1,6 +1,7 @@
 -- Laws on the spellings of records.
-use Rattle.std.specs.Prelude.{◌≡◌, ◌↔◌, ◌⊎◌, ℕ, ◌<◌, ◌^◌, List, length, Some}
+use Rattle.std.specs.Prelude.{◌≡◌, ◌↔◌, ◌⊎◌, ℕ, List, Some}
 use Rattle.jf_codec.specs.declared.format.Format.{Format}
+use Rattle.jf_codec.specs.declared.format.Format.TheVariants as format
 use Rattle.jf_payload.specs.declared.records.Record.{Record}
 use Rattle.jf_payload.specs.Spelling.{kind_of, record_bytes, IsRecord, IsSpelling}
 use Rattle.jf_payload.specs.Counted.{record_in}
@@ -25,3 +26,7 @@ SpellingIsDecided = (fmt : Format) (kind : ℕ) (payload : List ℕ) → ((r : R
 -- what a format keeps of a record is spelled as the record, and is all of a record that can be spelled in it
 abbrev pub KeptIsSpelled : Type 0
 KeptIsSpelled = (fmt : Format) (r : Record) → (record_bytes fmt (record_in fmt r) ≡ record_bytes fmt r) × (kind_of fmt (record_in fmt r) ≡ kind_of fmt r) × (IsRecord fmt r → record_in fmt r ≡ r)
+
+-- what can be spelled in format 2 can be written in each format
+abbrev pub WrittenInBoth : Type 0
+WrittenInBoth = (fmt : Format) (r : Record) → IsRecord format.Two r → IsRecord fmt (record_in fmt r)

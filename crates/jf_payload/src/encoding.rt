@@ -1,7 +1,7 @@
 // Records as frames.
 ghost use Rattle.std.specs.Prelude.{◌≡◌, ◌++◌, flat_map, length, IfOk, OnOk};
 ghost use Rattle.std.specs.List.{AllByRecursion};
-ghost use Rattle.jf_frame.specs.Framing.{frame};
+ghost use Rattle.jf_frame.specs.Framing.{IsFrame};
 ghost use Rattle.jf_codec.specs.Spelling.{name_bytes, IsNode};
 ghost use Rattle.jf_codec.specs.Numbers.{eight_bytes};
 ghost use Rattle.jf_codec.specs.Counted.{in_format};
@@ -135,7 +135,7 @@ fn kind_of(entry: &Record, format: Format) -> u8
 // Kind, length, payload, and a closed gate.
 #[tactic(auto, unfolding(jf_codec::specs::Numbers::eight_bytes, jf_frame::specs::Framing::eight_bytes))]
 fn frame_of(alloc: Global, kind: u8, payload: &[u8]) -> Result<Bytes, Memory>
-    ensures { IfOk result (λ bytes. bytes ≡ frame kind payload.now) }
+    ensures { IfOk result (λ bytes. IsFrame bytes kind payload.now) }
 {
     let mut out = Bytes::with_capacity(alloc, payload.len() as u64 + 10)?;
     out.push(kind)?;
@@ -149,7 +149,7 @@ fn frame_of(alloc: Global, kind: u8, payload: &[u8]) -> Result<Bytes, Memory>
 /// nodes. What the format keeps of the record has to have a spelling.
 pub fn encode(alloc: Global, entry: &Record, format: Format) -> Result<Bytes, Memory>
     requires { IsRecord format (record_in format entry.now) }
-    ensures { IfOk result (λ bytes. bytes ≡ frame (kind_of format entry.now) (record_bytes format entry.now)) }
+    ensures { IfOk result (λ bytes. IsFrame bytes (kind_of format entry.now) (record_bytes format entry.now)) }
 {
     let mut payload = Bytes::new(alloc);
     put_record(&mut payload, format, entry)?;

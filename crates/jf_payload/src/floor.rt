@@ -1,6 +1,6 @@
 // A later floor as a frame.
 ghost use Rattle.std.specs.Prelude.{◌≡◌};
-ghost use Rattle.jf_frame.specs.Framing.{frame};
+ghost use Rattle.jf_frame.specs.Framing.{IsFrame};
 ghost use Rattle.jf_codec.specs.declared.format.Format.{Format};
 ghost use Rattle.jf_payload.specs.Spelling.{kind_of, record_bytes};
 ghost use Rattle.jf_payload.specs.declared.records.Record.TheVariants as «record»;
@@ -10,7 +10,7 @@ use crate::kinds::{CLOSED, FLOOR};
 /// The frame of a later floor, which is the same in both formats.
 #[tactic(auto, unfolding(crate::specs::Spelling::record_bytes, jf_codec::specs::Numbers::eight_bytes, jf_frame::specs::Framing::eight_bytes))]
 pub fn encode_floor(floor: u64) -> [u8; 18]
-    ensures { (fmt : Format) → result ≡ frame (kind_of fmt («record».Floor floor)) (record_bytes fmt («record».Floor floor)) }
+    ensures { (fmt : Format) → IsFrame result (kind_of fmt («record».Floor floor)) (record_bytes fmt («record».Floor floor)) }
 {
     let f = floor.to_be_bytes();
     [

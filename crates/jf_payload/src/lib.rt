@@ -23,5 +23,6 @@ pub use fault::RecordFault;
 pub use floor::encode_floor;
 pub use laws::{
     kept_is_spelled, one_record, one_spelling, spelled_is_spelling, spelling_is_decided,
+    written_in_both,
 };
 pub use records::{Commit, Record};

@@ -21,11 +21,11 @@ pub record IsAdded (old new : RestoreValue) (fresh : Entries) (proof : RangeProo
   pub accepted : range_refusal old.root old.entries fresh proof ≡ None
   pub whole : new ≡ with_more old fresh
 
--- the chunk is refused, or memory is wanting, and nothing is changed
+-- the chunk is refused, or it is accepted and memory is wanting for its entries; and nothing is changed
 abbrev pub IsNotAdded : RestoreValue → RestoreValue → Entries → RangeProof → RestoreRefused → Type 0
 IsNotAdded old new fresh proof (refused.Chunk why) = (range_refusal old.root old.entries fresh proof ≡ Some why) × (new ≡ old)
 IsNotAdded old new fresh proof (refused.NotWhole found) = ⊥
-IsNotAdded old new fresh proof refused.Memory = new ≡ old
+IsNotAdded old new fresh proof refused.Memory = (range_refusal old.root old.entries fresh proof ≡ None) × (new ≡ old)
 
 -- so many entries come to the announced root
 abbrev pub IsWhole : RestoreValue → ℕ → Type 0

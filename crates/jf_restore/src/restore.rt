@@ -27,7 +27,7 @@ pub struct Restore {
 }
 
 impl Model for Restore {
-    ghost use Rattle.std.specs.Prelude.{◌≡◌};
+    ghost use Rattle.std.specs.Prelude.{◌≡◌, ◌-◌, ◌^◌, ◌<◌};
     ghost use Rattle.jf_range.specs.Frontiers.{frontier_of, IsAscending};
     ghost use Rattle.jf_restore.specs.RestoreValue.{RestoreValue};
     ghost use Rattle.jf_restore.specs.Restores.{AreShort};
@@ -36,11 +36,11 @@ impl Model for Restore {
 
     ghost view = { λ r. record { version = r.version; root = r.root; entries = r.entries } };
 
-    ghost invariant = { λ r. (r.frontier ≡ frontier_of r.entries) × IsAscending r.entries × AreShort r.entries };
+    ghost invariant = { λ r. (r.frontier ≡ frontier_of r.entries) × IsAscending r.entries × AreShort r.entries × (r.version < 2 ^ 64 - 1) };
 }
 
 impl Restore {
-    /// A restore of a version with an announced root, without an entry.
+    /// A restore of a version below u64::MAX with an announced root, without an entry.
     pub fn new(alloc: Global, version: u64, root: Hash) -> Restore
         requires { version < 2 ^ 64 - 1 }
         ensures { result ≡ record { version = version; root = root; entries = [] } }
@@ -54,7 +54,8 @@ impl Restore {
         }
     }
 
-    /// Adds the entries of a chunk if it is accepted after those that were added before. A refusal leaves them as they were.
+    /// Adds the entries of a chunk, whose values have at most 4,096 bytes each, if it is accepted after those that were added
+    /// before. A refusal leaves them as they were.
     pub fn add(&mut self, fresh: &Pairs, proof: &RangeProof) -> Result<(), RestoreRefused>
         requires { AreShort fresh.now }
         ensures { MatchResult result (λ _. IsAdded self.old self.new fresh.now proof.now) (λ why. IsNotAdded self.old self.new fresh.now proof.now why) }

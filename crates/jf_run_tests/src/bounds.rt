@@ -60,24 +60,43 @@ fn names_and_values_have_their_longest(rt: HostRuntime) -> Result<(), Fail> {
     Ok(())
 }
 
-// `put` of 10,000 names, of another and of one of them again, and `del` of the same two.
+// How many names a batch has at most.
+const FULL: u64 = 10_000;
+
+// `put` of a name that no other number has.
+fn add_put(alloc: Global, script: &mut Vec<u8>, number: u64) -> Result<(), Fail> {
+    let line = format!(in alloc; "put {number:08} =\n")?;
+    script.extend_from_slice(line.as_bytes())?;
+    Ok(())
+}
+
+// The reply to a `put` with which a batch has so many names.
+fn add_pending(alloc: Global, text: &mut Vec<u8>, names: u64) -> Result<(), Fail> {
+    let line = format!(in alloc; "0 ok pending {names}\n")?;
+    text.extend_from_slice(line.as_bytes())?;
+    Ok(())
+}
+
+// `put` of as many names as a batch has at most, of another and of one of them again, and `del` of the same two.
 fn full_script(alloc: Global) -> Result<Vec<u8>, Fail> {
     let mut script = Vec::new(alloc);
-    for i in 1..=10_000 {
-        script.extend_from_slice(format!(in alloc; "put {i:08} =\n")?.as_bytes())?;
+    for number in 1..=FULL {
+        add_put(alloc, &mut script, number)?;
     }
     script.extend_from_slice(b"put 61 =\nput 00000001 =31\ndel 61\ndel 00000001\n")?;
     Ok(script)
 }
 
+// The replies to the last four lines of that script.
+const LAST: &[u8] = b"0 no pending\n0 ok pending 10000\n0 no pending\n0 ok pending 10000\n";
+
 // The replies to that script.
 fn full_replies(alloc: Global) -> Result<Vec<u8>, Fail> {
     let mut text = Vec::new(alloc);
-    for i in 1..=10_000 {
-        text.extend_from_slice(format!(in alloc; "0 ok pending {i}\n")?.as_bytes())?;
+    for names in 1..=FULL {
+        add_pending(alloc, &mut text, names)?;
     }
-    text.extend_from_slice(b"0 no pending\n0 ok pending 10000\n")?;
-    text.extend_from_slice(b"0 no pending\n0 ok pending 10000\n")?;
+    text.extend_from_slice(LAST)?;
     Ok(text)
 }
 

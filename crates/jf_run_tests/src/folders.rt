@@ -22,17 +22,22 @@ const SCRIPTS: &[(&str, u64, &str)] = &[
     ("root head", 2, "0 ok root R\n"),
 ];
 
-// Opens the folder, and runs a script over it.
+// The disk over the folder.
+fn opened_disk<H: Files<File = File>>(rt: &H, alloc: Global) -> Result<Box<FileDisk>, Fail> {
+    let disk = FileDisk::at(rt, alloc, FOLDER)?;
+    Ok(Box::new(alloc, disk)?)
+}
+
+// Opens the folder, and runs a script over it that writes this text.
 fn is_opened<H: Files<File = File> + Threads + Wait + Sync>(
     rt: &H,
     alloc: Global,
     script: &str,
     opened: u64,
-    want: &str,
+    want: &[u8],
 ) -> Result<(), Fail> {
-    let want = with_roots(alloc, want)?;
-    let disk = Box::new(alloc, FileDisk::at(rt, alloc, FOLDER)?)?;
-    let _ = answers(rt, alloc, disk, script.as_bytes(), opened, &want)?;
+    let disk = opened_disk(rt, alloc)?;
+    let _ = answers(rt, alloc, disk, script.as_bytes(), opened, want)?;
     Ok(())
 }
 
@@ -42,7 +47,7 @@ fn a_folder_is_opened_where_it_stood(rt: HostRuntime) -> Result<(), Fail> {
     let _ = fs::remove_dir_all(&rt, FOLDER);
     fs::create_dir(&rt, FOLDER)?;
     for (script, opened, want) in SCRIPTS {
-        is_opened(&rt, alloc, script, *opened, want)?;
+        is_opened(&rt, alloc, script, *opened, &with_roots(alloc, want)?)?;
     }
     fs::remove_dir_all(&rt, FOLDER)?;
     Ok(())

@@ -1,6 +1,6 @@
 // Scripts over a disk in memory: what is written, what the files hold, and how the run ends.
 use jf_disk::{Disk, MemDisk, Side};
-use jf_play::play::{Faults, NO_FAULTS, answers, has_ended, is_told, new_disk, play};
+use jf_play::play::{Faults, NO_FAULTS, Played, answers, has_ended, is_told, new_disk, play};
 use jf_play::roots::with_roots;
 use jf_run::status::Status;
 use std::alloc::Global;
@@ -88,53 +88,80 @@ const DAMAGED: Status = Status::Damaged {
     offset: 0,
 };
 
-// Side A, the word, the faults, and how the run ends, at which version it opened, and what it wrote.
-type Stopped = (
-    &'static [u8],
-    &'static str,
-    Faults,
-    Status,
-    Option<u64>,
-    &'static str,
-);
+// A run that is stopped: side A, the word and the faults, and how the run ends, at which version it opened, and what it
+// wrote.
+#[derive(Clone, Copy)]
+struct Stop {
+    file: &'static [u8],
+    word: &'static str,
+    faults: Faults,
+    status: Status,
+    start: Option<u64>,
+    text: &'static str,
+}
 
-const STOPPED: &[Stopped] = &[
-    (b"", "walk", NO_FAULTS, Status::Usage, None, ""),
-    (b"", "run ", NO_FAULTS, Status::Usage, None, ""),
-    (
-        b"",
-        "run",
-        READ_FAULT,
-        Status::ReadFault,
-        Some(0),
-        "0 ok pending 1\n",
-    ),
-    (b"", "run", WRITE_FAULT, Status::WriteFault, Some(0), ""),
-    (b"\x01\x07\0", "run", NO_FAULTS, DAMAGED, None, ""),
+const STOPPED: &[Stop] = &[
+    Stop {
+        file: b"",
+        word: "walk",
+        faults: NO_FAULTS,
+        status: Status::Usage,
+        start: None,
+        text: "",
+    },
+    Stop {
+        file: b"",
+        word: "run ",
+        faults: NO_FAULTS,
+        status: Status::Usage,
+        start: None,
+        text: "",
+    },
+    Stop {
+        file: b"",
+        word: "run",
+        faults: READ_FAULT,
+        status: Status::ReadFault,
+        start: Some(0),
+        text: "0 ok pending 1\n",
+    },
+    Stop {
+        file: b"",
+        word: "run",
+        faults: WRITE_FAULT,
+        status: Status::WriteFault,
+        start: Some(0),
+        text: "",
+    },
+    Stop {
+        file: b"\x01\x07\0",
+        word: "run",
+        faults: NO_FAULTS,
+        status: DAMAGED,
+        start: None,
+        text: "",
+    },
 ];
 
-// Runs a word that is stopped so, with no entry and no fault of the disk.
-fn is_stopped<H: Threads + Wait + Sync>(
-    rt: &H,
-    alloc: Global,
-    stopped: Stopped,
-) -> Result<(), Fail> {
-    let (file, word, faults, status, start, text) = stopped;
-    let disk = new_disk(alloc, file, &[])?;
-    let played = play(rt, alloc, disk, word, b"put 61 =31\ncommit\n", faults)?;
+// Whether a run was stopped so, with no entry and no fault of the disk.
+fn has_stopped(played: &Played<MemDisk>, stop: &Stop) -> bool {
     let calm = played.entries == 0 && played.disk.faults() == 0;
-    if calm && has_ended(&played, status, start, text.as_bytes()) {
-        Ok(())
-    } else {
-        Err(Fail::new(word))
-    }
+    calm && has_ended(played, stop.status, stop.start, stop.text.as_bytes())
+}
+
+// Runs a word that is to be stopped so.
+fn is_stopped<H: Threads + Wait + Sync>(rt: &H, alloc: Global, stop: &Stop) -> Result<bool, Fail> {
+    let disk = new_disk(alloc, stop.file, &[])?;
+    let script = b"put 61 =31\ncommit\n";
+    let played = play(rt, alloc, disk, stop.word, script, stop.faults)?;
+    Ok(has_stopped(&played, stop))
 }
 
 #[test]
 fn what_stops_a_run_is_told(rt: HostRuntime) -> Result<(), Fail> {
     let alloc = rt.alloc();
-    for stopped in STOPPED {
-        is_stopped(&rt, alloc, *stopped)?;
+    for stop in STOPPED {
+        assert!(rt; is_stopped(&rt, alloc, stop)?, "of {}", stop.word);
     }
     Ok(())
 }

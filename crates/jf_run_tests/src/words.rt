@@ -88,7 +88,25 @@ fn end_of<H: Threads + Wait + Sync>(
     Ok(play_words(rt, alloc, disk, words, b"", NO_FAULTS)?.status)
 }
 
-// Whether the words of a line ask for this mode, and end as such words do.
+// How words that ask for this mode end.
+fn status_of(mode: Option<Mode>) -> Status {
+    match mode {
+        Some(_) => Status::Done,
+        None => Status::Usage,
+    }
+}
+
+// Whether words ask for this mode, and end as such words do.
+fn are_taken<H: Threads + Wait + Sync>(
+    rt: &H,
+    alloc: Global,
+    words: &[String],
+    mode: Option<Mode>,
+) -> Result<bool, Fail> {
+    Ok(mode_of(alloc, words)? == mode && end_of(rt, alloc, words)? == status_of(mode))
+}
+
+// The same of the words of a line.
 fn is_taken<H: Threads + Wait + Sync>(
     rt: &H,
     alloc: Global,
@@ -96,21 +114,29 @@ fn is_taken<H: Threads + Wait + Sync>(
     mode: Option<Mode>,
 ) -> Result<bool, Fail> {
     let words = words_of(alloc, line)?;
-    let status = match mode {
-        Some(_) => Status::Done,
-        None => Status::Usage,
-    };
-    Ok(mode_of(alloc, &words)? == mode && end_of(rt, alloc, &words)? == status)
+    are_taken(rt, alloc, &words, mode)
+}
+
+// The mode of words that ask for a run with so many workers, or of words that ask for nothing.
+fn run_by(workers: Option<u64>) -> Option<Mode> {
+    match workers {
+        Some(workers) => Some(Mode::Run { workers }),
+        None => None,
+    }
 }
 
 #[test]
 fn takes_these_lists_of_words_and_no_other(rt: HostRuntime) -> Result<(), Fail> {
     let alloc = rt.alloc();
     for (line, workers) in RUNS {
-        let mode = workers.map(|workers| Mode::Run { workers });
-        assert!(rt; is_taken(&rt, alloc, line, mode)?, "of {line}");
+        assert!(rt; is_taken(&rt, alloc, line, run_by(*workers))?, "of {line}");
     }
-    assert!(rt; end_of(&rt, alloc, &[])? == Status::Usage);
+    Ok(())
+}
+
+#[test]
+fn takes_no_empty_list_of_words(rt: HostRuntime) -> Result<(), Fail> {
+    assert!(rt; end_of(&rt, rt.alloc(), &[])? == Status::Usage);
     Ok(())
 }
 
@@ -180,7 +206,12 @@ fn wrong_words_touch_nothing(rt: HostRuntime) -> Result<(), Fail> {
         let touched = workers.is_none() && !line_touches_nothing(&rt, alloc, line)?;
         assert!(rt; !touched, "of {line}");
     }
-    assert!(rt; touches_nothing(&rt, alloc, &[])?);
+    Ok(())
+}
+
+#[test]
+fn no_words_touch_nothing(rt: HostRuntime) -> Result<(), Fail> {
+    assert!(rt; touches_nothing(&rt, rt.alloc(), &[])?);
     Ok(())
 }
 

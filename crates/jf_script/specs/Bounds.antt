@@ -1,16 +1,17 @@
--- What a command of the grammar puts is within its bounds.
+-- What a command of the grammar puts, and asks for, is within its bounds.
 use Rattle.std.specs.Prelude.{◌≡◌, ℕ, ◌≤◌, Bool, true, false, cond, ◌&&◌, nat_le, if◌then◌else◌, ◌==◌, List, [], ◌∷◌, length, Option, Some, None, option_map, option_and_then, IfSome, codes}
 use Rattle.std.proofs.Common.{refl, subst, arith}
 use Rattle.jf_script.specs.Words.{words, is_word, both, unhex, name_of, value_of, bytes_within}
 use Rattle.jf_script.specs.Commands.{command_of, command_of_words, one_word, two_words, three_words, four_words, base_of, parent_of, id_of, stored_of}
-use Rattle.jf_script.specs.Words.{number, number_from}
+use Rattle.jf_script.specs.Words.{number, number_upto, number_from}
 use Rattle.jf_script.specs.declared.command.Base.{Base}
 use Rattle.jf_script.specs.declared.command.Command.{Command}
 use Rattle.jf_script.specs.declared.command.Command.TheVariants as command
 
--- a value that is put has at most 4,096 bytes
+-- a value that is put has at most 4,096 bytes, and a chunk has 1 to 1,000 entries
 abbrev pub IsBounded : Command → Type 0
 IsBounded (command.Put name value) = length value ≤ 4096
+IsBounded (command.Chunk on start count) = (1 ≤ count) × (count ≤ 1000)
 IsBounded c = Unit {0}
 
 abbrev Fine : Option Command → Type 0
@@ -35,6 +36,10 @@ short_within (Some bytes) =
 short_value : (w : List ℕ) → Short (value_of w)
 short_value [] = tt
 short_value (sign ∷ digits) = elim (sign == 61) as (λ b. Short (cond b (bytes_within 0 4096 digits) None)) [ true ↦ short_within (unhex digits) | false ↦ tt ]
+
+-- a value that is read has at most 4,096 bytes
+pub value_of-short : (w value : List ℕ) → value_of w ≡ Some value → length value ≤ 4096
+value_of-short w value e = subst Short e (short_value w)
 
 put_fine : (n v : Option (List ℕ)) → Short v → Fine (both (λ name value. command.Put name value) n v)
 put_fine (Some name) (Some value) s = s
@@ -73,12 +78,41 @@ three_fine w a b =
     (chosen (is_word w (codes "prove")) _ _ (paired (λ on name. command.Prove on name) (λ x y. tt) (stored_of a) (name_of b))
     (chosen (is_word w (codes "nth")) _ _ (paired (λ on place. command.Nth on place) (λ x y. tt) (stored_of a) (number b)) tt)))
 
-chunk_fine : (o : Option Base) (p q : Option ℕ) → Fine (option_and_then (λ on. both (λ start count. command.Chunk on start count) p q) o)
-chunk_fine None p q = tt
-chunk_fine (Some on) p q = paired (λ start count. command.Chunk on start count) (λ x y. tt) p q
+-- a number, if it is there, from `least` to `most`
+abbrev Within : ℕ → ℕ → Option ℕ → Type 0
+Within least most None = Unit {0}
+Within least most (Some n) = (least ≤ n) × (n ≤ most)
+
+at_most : (b : Bool) (n most : ℕ) → (b ≡ true → n ≤ most) → Within 0 most (cond b (Some n) None)
+at_most true n most h = (omega arith, h refl)
+at_most false n most h = tt
+
+upto_within : (most : ℕ) (o : Option ℕ) → Within 0 most (option_and_then (λ n. if nat_le n most then Some n else None) o)
+upto_within most None = tt
+upto_within most (Some n) = at_most (nat_le n most) n most (λ e. both_so true true n most e)
+
+at_least : (b : Bool) (least n most : ℕ) → (b ≡ true → least ≤ n) → n ≤ most → Within least most (cond b (Some n) None)
+at_least true least n most h few = (h refl, few)
+at_least false least n most h few = tt
+
+from_within : (least most : ℕ) (o : Option ℕ) → Within 0 most o → Within least most (option_and_then (λ n. if nat_le least n then Some n else None) o)
+from_within least most None h = tt
+from_within least most (Some n) h = at_least (nat_le least n) least n most (λ e. both_so true true least n e) h.1
+
+number_within : (least most : ℕ) (w : List ℕ) → Within least most (number_from least most w)
+number_within least most w = from_within least most (number_upto most w) (upto_within most (number w))
+
+chunk_paired : (on : Base) (p q : Option ℕ) → Within 1 1000 q → Fine (both (λ start count. command.Chunk on start count) p q)
+chunk_paired on (Some start) (Some count) h = h
+chunk_paired on (Some start) None h = tt
+chunk_paired on None q h = tt
+
+chunk_fine : (o : Option Base) (p q : Option ℕ) → Within 1 1000 q → Fine (option_and_then (λ on. both (λ start count. command.Chunk on start count) p q) o)
+chunk_fine None p q h = tt
+chunk_fine (Some on) p q h = chunk_paired on p q h
 
 four_fine : (w a b c : List ℕ) → Fine (four_words w a b c)
-four_fine w a b c = chosen (is_word w (codes "chunk")) _ _ (chunk_fine (stored_of a) (number b) (number_from 1 1000 c)) tt
+four_fine w a b c = chosen (is_word w (codes "chunk")) _ _ (chunk_fine (stored_of a) (number b) (number_from 1 1000 c) (number_within 1 1000 c)) tt
 
 words_fine : (ws : List (List ℕ)) → Fine (command_of_words ws)
 words_fine [] = tt

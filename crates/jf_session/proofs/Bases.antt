@@ -1,17 +1,19 @@
 -- What reads are answered: why the base isn't read, or what its map holds.
-use Rattle.std.proofs.Common.{◌≡◌, ◌∙◌, ℕ, ◌≤◌, Option, Some, None, option_map, List, ◌++◌, length, refl, sym, subst, ap}
+use Rattle.std.proofs.Common.{◌≡◌, ◌∙◌, ℕ, ◌<◌, ◌≤◌, nat_le, Bool, true, false, cond, Option, Some, None, option_map, List, [], ◌∷◌, ◌++◌, length, refl, sym, subst, ap, arith}
 use Rattle.std.specs.Option.{SomeIff}
-use Rattle.std.specs.FinMap.{get}
+use Rattle.std.proofs.lemmas.Bool.Decides.{nat_tests}
+use Rattle.std.specs.FinMap.{get, len}
+use Rattle.jf_path.specs.Checks.{first_of}
 use Rattle.jf_hash.specs.Hashes.{K}
 use Rattle.jf_hash.specs.Maps.{Map}
 use Rattle.jf_hash.specs.Roots.{root}
 use Rattle.jf_model.specs.Versions.{Versions, IsVersions, map_of, root_of}
 use Rattle.jf_model.specs.VersionLaws.{root_of-map_of}
-use Rattle.jf_answers.specs.Refusals.{base_map, refused_by}
+use Rattle.jf_answers.specs.Refusals.{base_map, base_causes, range_causes, version_causes, refused_by}
 use Rattle.jf_evidence.specs.Proofs.{honest}
 use Rattle.jf_node.specs.SnapshotValue.{SnapshotValue}
 use Rattle.jf_blocks.specs.Blocks.{proof_lines}
-use Rattle.jf_answers.specs.Answers.{Answer, done, proved, replied}
+use Rattle.jf_answers.specs.Answers.{Answer, done, proved, chunked, replied}
 use Rattle.jf_script.specs.declared.command.Base.{Base}
 use Rattle.jf_script.specs.declared.command.Base.TheVariants as base
 use Rattle.jf_script.specs.declared.command.Command.{Command}
@@ -19,7 +21,7 @@ use Rattle.jf_script.specs.declared.command.Command.TheVariants as command
 use Rattle.jf_script.specs.declared.reply.Refusal.{Refusal}
 use Rattle.jf_script.specs.declared.reply.Refusal.TheVariants as refusal
 use Rattle.jf_script.specs.declared.reply.Reply.TheVariants as reply
-use Rattle.jf_session.specs.Sessions.{Session, get_answer, root_answer, prove_answer, read_refusal}
+use Rattle.jf_session.specs.Sessions.{Session, get_answer, root_answer, prove_answer, chunk_answer, read_refusal}
 
 -- the refusal, or what the command does
 abbrev by_refusal : Session → Command → Option Refusal → Answer
@@ -69,6 +71,61 @@ prove-read s base.Head name e = refl
 prove-read s (base.Version w) name e = ap (by_refusal s (command.Prove (base.Version w) name)) e
 prove-read s (base.Fork id) name e = absurd (cc)
 prove-read s (base.Place place) name e = absurd (cc)
+
+-- ---- chunks
+
+-- the first of causes and then of others
+first_of-more : {X : Type 0} (cs ds : List (Bool × X)) → first_of (cs ++ ds) ≡ elim (first_of cs) as (λ x. Option X) [ Some why ↦ Some why | None ↦ first_of ds ]
+first_of-more [] ds = refl
+first_of-more {X} (c ∷ cs) ds =
+    elim c.0 as (λ b. cond b (Some c.1) (first_of (cs ++ ds)) ≡ elim (cond b (Some c.1) (first_of cs)) as (λ x. Option X) [ Some why ↦ Some why | None ↦ first_of ds ]) [
+      | true ↦ refl
+      | false ↦ first_of-more cs ds
+    ]
+
+first_of-either : {X : Type 0} (cs ds : List (Bool × X)) (o : Option X) → first_of cs ≡ o → first_of (cs ++ ds) ≡ elim o as (λ x. Option X) [ Some why ↦ Some why | None ↦ first_of ds ]
+first_of-either {X} cs ds o e = first_of-more cs ds ∙ ap (λ o. elim o as (λ x. Option X) [ Some why ↦ Some why | None ↦ first_of ds ]) e
+
+pub chunk-refused : (s : Session) (b : Base) (start count : ℕ) (why : Refusal) → read_refusal s b ≡ Some why → chunk_answer s b start count ≡ replied (reply.No why) s.state s.own
+unfolding refused_by
+chunk-refused s base.Head start count why e = absurd (cc)
+chunk-refused s (base.Version w) start count why e =
+    ap (by_refusal s (command.Chunk (base.Version w) start count)) (first_of-either (version_causes s.state w) (range_causes (base_map s.state s.own (base.Version w)) start) (Some why) e)
+chunk-refused s (base.Fork id) start count why e = refused_so s refusal.Syntax why e
+chunk-refused s (base.Place place) start count why e = refused_so s refusal.Syntax why e
+
+-- what a chunk is answered where its base is read, by whether its place is beyond the entries
+abbrev chunk_by : Session → Base → ℕ → ℕ → Bool → Answer
+chunk_by s b start count beyond = by_refusal s (command.Chunk b start count) (cond beyond (Some (refusal.Range (len (base_map s.state s.own b)))) None)
+
+chunk-open : (s : Session) (b : Base) (start count : ℕ) → read_refusal s b ≡ None → chunk_answer s b start count ≡ chunk_by s b start count (nat_le (len (base_map s.state s.own b)) start)
+unfolding refused_by
+chunk-open s base.Head start count e = refl
+chunk-open s (base.Version w) start count e =
+    ap (by_refusal s (command.Chunk (base.Version w) start count)) (first_of-either (version_causes s.state w) (range_causes (base_map s.state s.own (base.Version w)) start) None e)
+chunk-open s (base.Fork id) start count e = absurd (cc)
+chunk-open s (base.Place place) start count e = absurd (cc)
+
+is_beyond : (n start : ℕ) → n ≤ start → nat_le n start ≡ true
+is_beyond n start h = grind (arith, nat_tests)
+
+is_within : (n start : ℕ) → start < n → nat_le n start ≡ false
+is_within n start h = grind (arith, nat_tests)
+
+-- the map that was found is that of the base
+pub chunk-beyond : (s : Session) (b : Base) (start count : ℕ) (m : Map) (n : ℕ) → read_refusal s b ≡ None → m ≡ base_map s.state s.own b → n ≡ len m → n ≤ start
+    → chunk_answer s b start count ≡ replied (reply.No (refusal.Range n)) s.state s.own
+chunk-beyond s b start count m n read is number beyond =
+    let here : n ≡ len (base_map s.state s.own b) = number ∙ ap len is in
+    chunk-open s b start count read
+    ∙ ap (chunk_by s b start count) (is_beyond (len (base_map s.state s.own b)) start (subst (λ n. n ≤ start) here beyond))
+    ∙ ap (λ n. replied (reply.No (refusal.Range n)) s.state s.own) (sym here)
+
+pub chunk-read : (s : Session) (b : Base) (start count : ℕ) (m : Map) → read_refusal s b ≡ None → m ≡ base_map s.state s.own b → start < len m → chunk_answer s b start count ≡ chunked m start count s.state s.own
+chunk-read s b start count m read is within =
+    chunk-open s b start count read
+    ∙ ap (chunk_by s b start count) (is_within (len (base_map s.state s.own b)) start (subst (λ (m : Map). start < len m) is within))
+    ∙ ap (λ (m : Map). chunked m start count s.state s.own) (sym is)
 
 some_so : (P : Type 0) (o : Option (List ℕ)) (x v : List ℕ) → SomeIff o P v → o ≡ Some x → x ≡ v
 some_so P (Some y) x v h e = let same : y ≡ x = cc in sym same ∙ h.1

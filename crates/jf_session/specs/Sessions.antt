@@ -125,6 +125,9 @@ root_answer s b = command_answer s (command.Root b)
 abbrev pub prove_answer : Session → Base → List ℕ → Answer
 prove_answer s b name = command_answer s (command.Prove b name)
 
+abbrev pub chunk_answer : Session → Base → ℕ → ℕ → Answer
+chunk_answer s b start count = command_answer s (command.Chunk b start count)
+
 -- why a version is not read, if it isn't
 abbrev pub version_refusal : Session → ℕ → Option Refusal
 version_refusal s w = first_of (version_causes s.state w)

@@ -3,14 +3,15 @@ ghost use Rattle.std.specs.Prelude.{◌≡◌, ◌≤◌, ◌++◌, Some, None, 
 ghost use Rattle.std.specs.Option.{option_copied};
 ghost use Rattle.jf_model.specs.Versions.{map_of};
 ghost use Rattle.jf_answers.specs.Refusals.{base_map};
-ghost use Rattle.jf_session.specs.Sessions.{Does, get_answer, root_answer, prove_answer, version_refusal, read_refusal};
+ghost use Rattle.jf_session.specs.Sessions.{Does, get_answer, root_answer, prove_answer, chunk_answer, version_refusal, read_refusal};
 
-use crate::answer::write_proof_of;
+use crate::answer::{write_chunk_of, write_proof_of};
 use crate::session::Session;
 use crate::stop::Stop;
 use jf_disk::Disk;
 use jf_hash::key_of;
 use jf_path::{Bytes, Memory};
+use jf_range::RangeAsk;
 use jf_script::{Base, Refusal, Reply};
 use std::alloc::Global;
 
@@ -66,6 +67,33 @@ impl<D: Disk> Session<D> {
         match write_proof_of(alloc, snapshot, name, block) {
             Ok(siblings) => Ok(Reply::Proof { siblings }),
             Err(Memory) => Err(Stop::Memory),
+        }
+    }
+
+    // The entries of what a base names from a place on, with their proof, whose lines are appended to `block`.
+    pub(crate) fn chunk(
+        &self,
+        alloc: Global,
+        base: Base,
+        start: u64,
+        count: u64,
+        block: &mut Bytes,
+    ) -> Result<Reply, Stop>
+        requires { 1 ≤ count }
+        ensures ok { OnOk result (Does self.now self.now (chunk_answer self.now base start count)) }
+        ensures reply { IfOk result (λ r. r ≡ (chunk_answer self.now base start count).reply) }
+        ensures block { OnOk result (block.new ≡ block.old ++ (chunk_answer self.now base start count).block) }
+        ensures only { OnErr result (result ≡ Err Stop.Memory) }
+    {
+        let version = match self.version_of(base) {
+            Ok(version) => version,
+            Err(why) => return Ok(Reply::No(why)),
+        };
+        let snapshot = self.engine.at(version).unwrap();
+        match write_chunk_of(alloc, snapshot, start, count, block) {
+            Ok(reply) => Ok(reply),
+            Err(RangeAsk::Beyond(number)) => Ok(Reply::No(Refusal::Range(number))),
+            Err(RangeAsk::Memory) => Err(Stop::Memory),
         }
     }
 

@@ -229,11 +229,13 @@ impl<D: Disk> Session<D> {
             Command::Get { base, name } => self.get(alloc, *base, name.as_slice()),
             Command::Root { base } => Ok(self.root(*base)),
             Command::Prove { base, name } => self.prove(alloc, *base, name.as_slice(), block),
+            Command::Chunk { base, start, count } => {
+                self.chunk(alloc, *base, *start, *count, block)
+            }
             // None of these is built yet.
             Command::Fork { .. }
             | Command::Land { .. }
             | Command::Drop { .. }
-            | Command::Chunk { .. }
             | Command::Count { .. }
             | Command::Nth { .. }
             | Command::Pin { .. }

@@ -1,9 +1,9 @@
 -- What a payload spells is what is known of records that were read.
-use Rattle.std.proofs.Common.{◌≡◌, ℕ, ◌+◌, ◌-◌, ◌^◌, ◌<◌, ◌≤◌, List, [], ◌∷◌, ◌++◌, map, length, reverse, refl, sym, ap, subst, ◌∙◌, arith}
+use Rattle.std.proofs.Common.{ℕ, ◌^◌, ◌<◌, List, [], ◌∷◌, ◌++◌, map, reverse, sym, subst, ◌∙◌, arith}
 use Rattle.std.specs.List.{AllByRecursion, cons_option}
 use Rattle.std.proofs.lemmas.Grind.{reverse_onto}
 use Rattle.std.proofs.lemmas.List.{length-reverse}
-use Rattle.jf_path.specs.Keys.{IsKey, IsBytes}
+use Rattle.jf_path.specs.Keys.{IsKey}
 use Rattle.jf_path.specs.Names.{IsName}
 use Rattle.jf_path.specs.declared.name.NodeName.{NodeName}
 use Rattle.jf_path.specs.declared.node.PlainNode.{PlainNode}
@@ -36,7 +36,7 @@ All-behind : {X : Type 0} (P : X → Type 0) (xs : List X) (x : X) → AllByRecu
 All-behind P [] x all here = (here, tt)
 All-behind P (y ∷ ys) x all here = (all.0, All-behind P ys x all.1 here)
 
-All-reverse : {X : Type 0} (P : X → Type 0) (xs : List X) → AllByRecursion P xs → AllByRecursion P (reverse xs)
+pub All-reverse : {X : Type 0} (P : X → Type 0) (xs : List X) → AllByRecursion P xs → AllByRecursion P (reverse xs)
 All-reverse P [] all = tt
 All-reverse {X} P (x ∷ xs) all = subst (λ (ys : List X). AllByRecursion P ys) (sym (reverse_onto xs x [])) (All-behind P (reverse xs) x (All-reverse P xs all.1) all.0)
 

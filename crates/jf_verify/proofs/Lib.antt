@@ -3,7 +3,6 @@ pub mod Listed
 pub mod Contradictions
 pub mod Turns
 pub mod Feeds
-pub mod Bounds
 pub mod LineByLine
 pub mod Folds
 pub mod SoFar

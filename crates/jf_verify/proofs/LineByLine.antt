@@ -14,7 +14,7 @@ use Rattle.jf_verify.specs.declared.stage.Stage.TheVariants as stage
 use Rattle.jf_verify.specs.Verdicts.{Judging, Said, wrong_at, say_block, say, syntax_text, verdicts_from, verdicts, nothing_known}
 use Rattle.jf_verify.specs.Steps.{State, Step, keeps, no_match, silent, whole, sided, begins, first_step, name_turn, claim_turn, leaf_step, side_step, line_step, end_text, rest, begun}
 use Rattle.jf_verify.specs.Laws.{VerdictsComeLineByLine}
-use Rattle.jf_verify.proofs.Bounds.{Bounded, proof_block-bounded}
+use Rattle.jf_blocks.proofs.Bounds.{Bounded, proof_block-bounded}
 
 -- a step, and then the lines that come
 abbrev goes : Step → ℕ → List (List ℕ) → List ℕ

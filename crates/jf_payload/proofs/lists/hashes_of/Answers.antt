@@ -1,8 +1,8 @@
 -- One behind the other.
-use Rattle.std.proofs.Common.{[], ◌∷◌, ◌++◌, Err, refl, ap, arith}
+use Rattle.std.proofs.Common.{[], refl}
 use Rattle.std.proofs.lemmas.Result.{err_from_is_err_and}
 use Rattle.jf_payload.specs.Reading.{many_at, hash_at, any_hashes}
-use Rattle.jf_payload.proofs.Loop.{goes_on, ends, ends_behind, is_done}
+use Rattle.jf_payload.proofs.Loop.{goes_on, ends, is_done}
 use Rattle.jf_payload.proofs.lists.hashes_of.Goals as goal
 
 pub returns-in_err-hash : goal.returns-in_err-hash

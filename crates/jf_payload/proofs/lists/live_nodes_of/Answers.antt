@@ -1,5 +1,5 @@
 -- One behind the other.
-use Rattle.std.proofs.Common.{[], ◌∷◌, ◌++◌, Err, refl, ap, arith}
+use Rattle.std.proofs.Common.{[], Err, ap}
 use Rattle.std.proofs.lemmas.Result.{err_from_is_err_and}
 use Rattle.jf_payload.specs.Reading.{many_at, live_at, live_rise}
 use Rattle.jf_payload.proofs.Loop.{goes_on, ends, ends_behind, is_done}

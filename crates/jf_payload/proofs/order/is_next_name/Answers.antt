@@ -1,8 +1,6 @@
 -- The last name decides.
-use Rattle.std.proofs.Common.{sym, ap, ◌∙◌, ◌-◌, ℕ, length, is_lt}
+use Rattle.std.proofs.Common.{sym, ap, ◌∙◌, ◌-◌, length, is_lt}
 use Rattle.std.specs.Prelude.{slice_get}
-use Rattle.jf_path.specs.declared.name.NodeName.{NodeName}
-use Rattle.jf_path.specs.declared.node.PlainNode.{PlainNode}
 use Rattle.jf_payload.proofs.Rising.{names-after}
 use Rattle.jf_payload.proofs.order.is_next_name.Goals as goal
 

@@ -1,5 +1,5 @@
 -- The last name decides.
-use Rattle.std.proofs.Common.{sym, ap, ◌∙◌, ◌-◌, ℕ, length, is_lt}
+use Rattle.std.proofs.Common.{sym, ap, ◌∙◌, ◌-◌, length, is_lt}
 use Rattle.std.specs.Prelude.{slice_get}
 use Rattle.jf_path.specs.declared.name.NodeName.{NodeName}
 use Rattle.jf_path.specs.declared.node.PlainNode.{PlainNode}

@@ -1,6 +1,7 @@
 -- A reading stops at a line no earlier than where it begins, and leaves no more lines than it had.
 use Rattle.std.proofs.Common.{ℕ, zero, suc, ◌≤◌, List, [], ◌∷◌, length, Option, Some, None, Ok, Err, arith}
-use Rattle.jf_blocks.specs.Reading.{Place, Read, Block, and_then, gives, matched, line_read, line_by, lines_by, named_of, claim_of, leaf_of, side_of, proof_block}
+use Rattle.jf_blocks.specs.Reading.{Place, Read, Block, Chunk, and_then, gives, matched, line_read, line_by, lines_by, named_of, claim_of, leaf_of, side_of, proof_block, entry_of, chunk_body}
+use Rattle.jf_blocks.specs.declared.chunk.ChunkHead.{ChunkHead}
 
 abbrev pub Bounded : {X : Type 0} → Place → Read X → Type 0
 Bounded p (Ok r) = (p.at ≤ r.1.at) × (length r.1.left ≤ length p.left)
@@ -41,3 +42,9 @@ proof_block-bounded n p =
     and_then-bounded q (line_by claim_of q) _ (line_by-bounded claim_of q) (λ claim r.
     and_then-bounded r (line_by leaf_of r) _ (line_by-bounded leaf_of r) (λ leaf s.
     and_then-bounded s (lines_by side_of n s) _ (lines_by-bounded side_of n s) (λ sides t. same-bounded {X = Block} (name, claim, record { leaf = leaf; siblings = sides }) t))))
+
+pub chunk_body-bounded : (head : ChunkHead) (p : Place) → Bounded p (chunk_body head p)
+unfolding chunk_body
+chunk_body-bounded head p =
+    and_then-bounded p (lines_by entry_of head.entries p) _ (lines_by-bounded entry_of head.entries p) (λ es q.
+    and_then-bounded q (lines_by side_of head.siblings q) _ (lines_by-bounded side_of head.siblings q) (λ sides r. same-bounded {X = Chunk} (es, record { depth = head.depth; siblings = sides }) r))

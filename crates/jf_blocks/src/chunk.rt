@@ -1,0 +1,83 @@
+// The lines of a chunk block, each given without the byte that ends it. Its other lines are those of siblings.
+ghost use Rattle.std.specs.Prelude.{◌≡◌, ◌≤◌, length, IfOk, IfSome};
+ghost use Rattle.jf_script.specs.Words.{words};
+ghost use Rattle.jf_blocks.specs.Reading.{line_read, head_of, chunk_of, keyed_of, entry_of};
+
+use crate::first::{MAX_SIBLINGS, without_number};
+use crate::hexadecimal::{hash_of, value_of};
+use crate::lines::LONGEST;
+use crate::word::{three_after, two_after};
+use jf_path::{Bytes, Key, Memory};
+use jf_script::number_from;
+use std::alloc::Global;
+
+/// The most entries that a block may have.
+const MAX_ENTRIES: u64 = 1_000;
+
+/// The greatest depth that a first line may tell, in bits.
+const MAX_DEPTH: u64 = MAX_SIBLINGS;
+
+/// What the first line of a chunk block says.
+#[derive(Clone, Copy, Debug, PartialEq, Eq)]
+pub struct ChunkHead {
+    /// How many entries follow, at most 1,000.
+    pub entries: u64,
+    /// The depth of the proof in bits, at most 65,535.
+    pub depth: u64,
+    /// How many siblings follow, at most 65,535.
+    pub siblings: u64,
+}
+
+/// What a line `chunk C D S` says, or `n ok chunk C D S`: how many entries, the depth, how many siblings.
+pub fn chunk_line(line: &[u8]) -> Option<ChunkHead>
+    ensures { result ≡ line_read chunk_of line.now }
+{
+    if line.len() > LONGEST {
+        return None;
+    }
+    let text = without_number(line)?;
+    let (entries, depth, siblings) = three_after(b"chunk", text)?;
+    head_of(entries, depth, siblings)
+}
+
+/// Three numbers.
+fn head_of(entries: &[u8], depth: &[u8], siblings: &[u8]) -> Option<ChunkHead>
+    ensures { result ≡ head_of (entries.now, depth.now, siblings.now) }
+{
+    let entries = number_from(0, MAX_ENTRIES, entries)?;
+    let depth = number_from(0, MAX_DEPTH, depth)?;
+    let siblings = number_from(0, MAX_SIBLINGS, siblings)?;
+    Some(ChunkHead {
+        entries,
+        depth,
+        siblings,
+    })
+}
+
+/// The key and the value that a line `entry KEY =VALUE` has. The value has at most 4,096 bytes.
+pub fn entry_line(alloc: Global, line: &[u8]) -> Result<Option<(Key, Bytes)>, Memory>
+    ensures entry { IfOk result (λ entry. entry ≡ line_read entry_of line.now) }
+    ensures short { IfOk result (λ entry. IfSome entry (λ e. length e.1 ≤ 4096)) }
+{
+    if line.len() > LONGEST {
+        return Ok(None);
+    }
+    match two_after(b"entry", line) {
+        Some((key, value)) => keyed_of(alloc, key, value),
+        None => Ok(None),
+    }
+}
+
+/// A key and a value.
+fn keyed_of(alloc: Global, key: &[u8], value: &[u8]) -> Result<Option<(Key, Bytes)>, Memory>
+    ensures entry { IfOk result (λ entry. entry ≡ keyed_of (key.now, value.now)) }
+    ensures short { IfOk result (λ entry. IfSome entry (λ e. length e.1 ≤ 4096)) }
+{
+    let Some(key) = hash_of(key) else {
+        return Ok(None);
+    };
+    match value_of(alloc, value)? {
+        Some(value) => Ok(Some((key, value))),
+        None => Ok(None),
+    }
+}

@@ -1,0 +1,2 @@
+pub mod LineByLine
+pub mod Deciding

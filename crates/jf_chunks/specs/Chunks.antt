@@ -1,0 +1,34 @@
+-- What lines of chunk blocks come to, all together.
+use Rattle.std.specs.Prelude.{ℕ, zero, suc, ◌+◌, ◌==◌, if◌then◌else◌, List, [], ◌∷◌, ◌++◌, length, Option, Some, None, Result, Ok, Err}
+use Rattle.jf_evidence.specs.Ranges.{Entries, range_refusal}
+use Rattle.jf_blocks.specs.Reading.{Place, Chunk, start, chunk_block}
+use Rattle.jf_chunks.specs.declared.fault.BlockFault.{BlockFault}
+use Rattle.jf_chunks.specs.declared.fault.BlockFault.TheVariants as fault
+
+-- known entries and those of a block behind them, whose first line has this number
+abbrev pub accepted : List ℕ → ℕ → Entries → Chunk → Result Entries BlockFault
+accepted root at known chunk = elim (range_refusal root known chunk.0 chunk.1) [ None ↦ Ok (known ++ chunk.0) | Some why ↦ Err (fault.Chunk at why) ]
+
+-- known entries and those of all blocks behind them, each accepted behind those before, or the first refusal. The number n isn't below that of the lines left
+unfoldable pub chunks_from : ℕ → List ℕ → Entries → Place → Result Entries BlockFault
+chunks_from zero root known p = Ok known
+chunks_from (suc n) root known p =
+    elim p.left [
+      | [] ↦ Ok known
+      | line ∷ rest ↦
+          elim (chunk_block p) [
+            | Err at ↦ Err (fault.Line at)
+            | Ok b ↦ elim (accepted root p.at known b.0) [ Err why ↦ Err why | Ok all ↦ chunks_from n root all b.1 ]
+          ]
+    ]
+
+-- of lines that are numbered from 1
+abbrev pub chunks : List ℕ → Entries → List (List ℕ) → Result Entries BlockFault
+chunks root known ls = chunks_from (length ls) root known (start ls)
+
+-- what is refused whatever follows so many lines: that the next line is missing isn't
+abbrev pub decided : ℕ → Result Entries BlockFault → Option BlockFault
+decided n (Ok es) = None
+decided n (Err (fault.Line at)) = if at == n + 1 then None else Some (fault.Line at)
+decided n (Err (fault.Chunk at why)) = Some (fault.Chunk at why)
+decided n (Err fault.Memory) = Some fault.Memory

@@ -1,0 +1,24 @@
+-- What holds of all lines, as statements for calls that do nothing and ensure them.
+use Rattle.std.specs.Prelude.{◌≡◌, ℕ, List, ◌++◌, length, Some, Result, Ok, Err}
+use Rattle.jf_evidence.specs.Ranges.{Entries}
+use Rattle.jf_restore.specs.RestoreValue.{RestoreValue}
+use Rattle.jf_chunks.specs.declared.fault.BlockFault.{BlockFault}
+use Rattle.jf_chunks.specs.Chunks.{chunks, decided}
+use Rattle.jf_chunks.specs.Steps.{begun, after_all, refusal_of, end_of}
+
+-- with these entries
+abbrev pub with_entries : RestoreValue → Result Entries BlockFault → Result RestoreValue BlockFault
+with_entries r (Ok es) = Ok (record { version = r.version; root = r.root; entries = es })
+with_entries r (Err why) = Err why
+
+-- the lines given are whole blocks that are all accepted behind the entries that were there, or why not
+abbrev pub ChunksComeLineByLine : Type 0
+ChunksComeLineByLine = (r : RestoreValue) (ls : List (List ℕ)) → end_of (after_all (begun r) ls) ≡ with_entries r (chunks r.root r.entries ls)
+
+-- behind lines is refused what these lines decide
+abbrev pub RefusalsComeAtTheirLine : Type 0
+RefusalsComeAtTheirLine = (r : RestoreValue) (ls : List (List ℕ)) → refusal_of (after_all (begun r) ls).stage ≡ decided (length ls) (chunks r.root r.entries ls)
+
+-- a refusal is what all lines come to that begin with these
+abbrev pub RefusalsStay : Type 0
+RefusalsStay = (r : RestoreValue) (ls ms : List (List ℕ)) (why : BlockFault) → refusal_of (after_all (begun r) ls).stage ≡ Some why → chunks r.root r.entries (ls ++ ms) ≡ Err why

@@ -1,0 +1,14 @@
+//! Chunk blocks read line by line, and added to a restore: each block is checked behind those before it when its last line
+//! has come.
+#![tactic(auto)]
+
+mod blocks;
+mod fault;
+mod laws;
+mod reading;
+mod stage;
+
+pub use blocks::Blocks;
+pub use fault::BlockFault;
+pub use jf_restore::{RangeFault, Restore};
+pub use laws::{chunks_come_line_by_line, refusals_come_at_their_line, refusals_stay};

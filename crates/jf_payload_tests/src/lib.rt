@@ -1,0 +1,11 @@
+//! Tests of the records of a journal of nodes.
+#![tactic(auto)]
+
+#[cfg(test)]
+mod groups;
+#[cfg(test)]
+mod parts;
+#[cfg(test)]
+mod records;
+#[cfg(test)]
+mod refused;
