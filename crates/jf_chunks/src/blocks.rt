@@ -1,6 +1,6 @@
 // Chunk blocks that are read line by line.
-ghost use Rattle.std.specs.Prelude.{◌≡◌, ◌⊎◌, Ok, OnOk, OnErr};
-ghost use Rattle.jf_chunks.specs.Steps.{begun, after, answer_of, end_of, out_of_memory};
+ghost use Rattle.std.specs.Prelude.{◌≡◌, ◌⊎◌, None, Ok, OnOk, OnErr};
+ghost use Rattle.jf_chunks.specs.Steps.{begun, after, answer_of, end_of, out_of_memory, refusal_of};
 
 use crate::fault::BlockFault;
 use crate::reading::read_line;
@@ -50,7 +50,7 @@ impl Blocks {
     /// Reads the next line. Where memory is wanting, what was added before stays.
     pub fn line(&mut self, line: &[u8]) -> Result<(), BlockFault>
         ensures answer { result ≡ answer_of self.new.stage }
-        ensures after { (self.new ≡ after self.old line.now) ⊎ (self.new ≡ out_of_memory self.old) }
+        ensures after { (self.new ≡ after self.old line.now) ⊎ ((refusal_of self.old.stage ≡ None) × (self.new ≡ out_of_memory self.old)) }
     {
         if let Stage::Refused(why) = self.stage {
             return Err(why);

@@ -59,11 +59,11 @@ zero_bits (suc n) d key = if bit key d then zero_bits n (d + 1) key else 1 + zer
 abbrev pub is_disordered : Entries → Entries → Bool
 is_disordered known fresh = not (is_sorted key_cmp (drop (length known - 1) known ++ fresh))
 
--- the depth is too great, or the siblings aren't as many as a key's 0 bits above the depth
+-- the depth is too great, or the siblings aren't as many as a key's 0 bits among its first `depth` bits
 abbrev pub is_miscounted : List ℕ → RangeProof → Bool
 is_miscounted key proof = nat_lt 256 proof.depth || not (length proof.siblings == zero_bits proof.depth 0 key)
 
--- another entry agrees with the last in all bits above the depth
+-- another entry agrees with the last key in its first `depth` bits
 abbrev pub is_crowded : Entries → RangeProof → Bool
 is_crowded es proof = list_any (λ e. nat_le proof.depth (common_bits e.0 (last_key es))) (all_but_last es)
 

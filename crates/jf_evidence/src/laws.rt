@@ -1,6 +1,6 @@
 // Laws on claims, chunks and maps, for proofs of code that stands on them. These functions do nothing when they run.
 ghost use Rattle.jf_evidence.specs.Proofs.{IsLeaf};
-ghost use Rattle.jf_evidence.specs.Laws.{HonestClaimsAreAccepted, ContradictingClaimsCollide, WrongClaimsCollide, HonestChunksAreAccepted, WrongChunksCollide, DifferingEntriesCollide, DifferingMapsCollide};
+ghost use Rattle.jf_evidence.specs.Laws.{HonestClaimsAreAccepted, ContradictingClaimsCollide, WrongClaimsCollide, HonestChunksAreAccepted, HonestChunksGoOn, HonestChunksComeInTurn, WrongChunksCollide, DifferingEntriesCollide, DifferingMapsCollide};
 
 use crate::proof::Proof;
 use jf_path::know_key;
@@ -23,6 +23,17 @@ pub fn wrong_claims_collide()
 /// The honest chunk from a place of a map is accepted after the entries before it.
 pub fn honest_chunks_are_accepted()
     ensures { HonestChunksAreAccepted }
+{}
+
+/// The honest chunk from a place of a map goes on where the entries before it end.
+pub fn honest_chunks_go_on()
+    ensures { HonestChunksGoOn }
+{}
+
+/// Honest chunks of any lengths, taken in order from the first entry on, are each accepted after those before, and their
+/// entries are the first of the map.
+pub fn honest_chunks_come_in_turn()
+    ensures { HonestChunksComeInTurn }
 {}
 
 /// An accepted chunk that doesn't go on with the first entries of the map gives a collision with what its root hashes.

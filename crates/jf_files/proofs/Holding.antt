@@ -15,7 +15,7 @@ use Rattle.jf_standing.specs.Standing.{Standing, versions_of}
 use Rattle.jf_standing.specs.Sound.{IsSound}
 use Rattle.jf_standing.specs.Taking.{Takes, Gives}
 use Rattle.jf_standing.specs.Leading.{Item, ItemFollows, Leads}
-use Rattle.jf_standing.specs.ItemLaws.{ItemsLeadToSound}
+use Rattle.jf_standing.specs.ItemLaws.{SpelledIsRead, ItemsLeadToSound}
 use Rattle.jf_files.specs.Files.{item, items, LeadToStanding, LeadTo, StandsFor, HoldsStanding}
 use Rattle.jf_files.proofs.Judging.{are_read}
 
@@ -57,9 +57,9 @@ stands_held files v x xs stands is =
     let l = subst (λ ys. LeadTo ys v) (holds_one files stands.live (x ∷ xs) stands.held is) stands.leads in
     (l.0, l.1, record { live = x ∷ xs; held = is; leads = l.2 }, l.3)
 
-leads_sound : ItemsLeadToSound → SpelledIsSpelling → (rs : List Framed) (fmt : Format) (s : Standing) → LeadToStanding rs fmt s → IsSound fmt s × IsVersions (versions_of s)
-leads_sound law spelling [] fmt s leads = absurd leads
-leads_sound law spelling (x ∷ xs) fmt s leads = law fmt (item fmt x) (items fmt xs) s (are_read spelling fmt x xs) leads.1
+leads_sound : ItemsLeadToSound → SpelledIsRead → (rs : List Framed) (fmt : Format) (s : Standing) → LeadToStanding rs fmt s → IsSound fmt s × IsVersions (versions_of s)
+leads_sound law known [] fmt s leads = absurd leads
+leads_sound law known (x ∷ xs) fmt s leads = law fmt (item fmt x) (items fmt xs) s (are_read known fmt x xs) leads.1
 
-pub held_sound : ItemsLeadToSound → SpelledIsSpelling → (files : Files) (fmt : Format) (s : Standing) → HoldsStanding files fmt s → IsSound fmt s × IsVersions (versions_of s)
-held_sound law spelling files fmt s h = leads_sound law spelling h.live fmt s h.leads
+pub held_sound : ItemsLeadToSound → SpelledIsRead → (files : Files) (fmt : Format) (s : Standing) → HoldsStanding files fmt s → IsSound fmt s × IsVersions (versions_of s)
+held_sound law known files fmt s h = leads_sound law known h.live fmt s h.leads

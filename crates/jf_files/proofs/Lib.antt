@@ -1,4 +1,3 @@
-pub mod Spelled
 pub mod Numbered
 pub mod Judging
 pub mod Holding

@@ -10,11 +10,13 @@ use Rattle.jf_pair.specs.FileLaws.{holds_one}
 use Rattle.jf_pair.specs.Pairs.{Pair, IsInStep}
 use Rattle.jf_pair.specs.PairLaws.{in_step_holds, in_step_leaves}
 use Rattle.jf_codec.specs.declared.format.Format.{Format}
+use Rattle.jf_codec.specs.declared.format.Format.TheVariants as format
 use Rattle.jf_standing.specs.Standing.{Standing, versions_of, with_floor, with_nodes}
 use Rattle.jf_standing.specs.Sound.{IsSound}
 use Rattle.jf_standing.specs.Taking.{TakesCommits, Takes}
 use Rattle.jf_standing.specs.Building.{imported_standing, new_standing, nodes_by_name, checkpoint_of, landings_of, all_landed}
 use Rattle.jf_standing.specs.Laws.{GroupsLand, FloorsPrune}
+use Rattle.jf_standing.specs.FormatLaws.{standing_in, FormatsAreSound}
 use Rattle.jf_standing.specs.OrderLaws.{CheckpointsGive, ImportsAreSound, NewIsSound}
 use Rattle.jf_payload.specs.Spelling.{IsSpelling}
 use Rattle.jf_payload.specs.Laws.{SpelledIsSpelling}
@@ -22,7 +24,7 @@ use Rattle.jf_payload.specs.declared.records.Commit.{Commit}
 use Rattle.jf_payload.specs.declared.records.Record.TheVariants as «record»
 use Rattle.jf_files.specs.Files.{LeadTo, StandsFor, generation}
 use Rattle.jf_files.specs.Steps.{Step, Opens, map_of_entries, versions_behind, generation_behind, LiveBehind, StopsWell}
-use Rattle.jf_files.specs.StepLaws.{landed_record, LandingsFollow, FloorsFollow, CheckpointsFollow, ImportsFollow, FirstFollows, StopsByRecords, SucceedsByRecords, SucceedsAfterReading, OpensByRecords, BeginsByRecords}
+use Rattle.jf_files.specs.StepLaws.{landed_record, LandingsFollow, FloorsFollow, CheckpointsFollow, CompactionsFollow, ImportsFollow, FirstFollows, StopsByRecords, SucceedsByRecords, SucceedsAfterReading, OpensByRecords, BeginsByRecords}
 use Rattle.jf_files.proofs.Judging.{generation_live}
 use Rattle.jf_files.proofs.Holding.{one_more, checkpoint_leads}
 
@@ -53,6 +55,9 @@ alone : SpelledIsSpelling → CheckpointsGive → (fmt : Format) (s : Standing) 
 alone spelling law fmt s generation x v sound versions is =
     let p = checkpoints_follow spelling law fmt s generation x sound is in
     (fmt, with_nodes (nodes_by_name s.nodes) s, p.0, sym (p.1 ∙ versions))
+
+pub compactions_follow : SpelledIsSpelling → CheckpointsGive → FormatsAreSound → CompactionsFollow
+compactions_follow spelling gives formats = λ fmt s generation x sound is. alone spelling gives format.Two s generation x (versions_of (standing_in fmt s)) sound (sym (formats fmt s sound).1) is
 
 pub imports_follow : SpelledIsSpelling → CheckpointsGive → ImportsAreSound → ImportsFollow
 imports_follow spelling gives law = λ fmt version es generation x v map room last is.

@@ -1,4 +1,4 @@
--- The files of a new store, byte by byte.
+-- The files of a new store, byte by byte (docs/FORMATS.md, "Records of nodes in bytes").
 use Rattle.std.specs.Prelude.{ℕ, List, [], ◌∷◌, ◌++◌, replicate}
 use Rattle.jf_disk.specs.Disk.{Files}
 

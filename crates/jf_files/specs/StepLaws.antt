@@ -11,10 +11,12 @@ use Rattle.jf_frame.specs.Framed.{Framed}
 use Rattle.jf_pair.specs.Files.{HoldsLive}
 use Rattle.jf_pair.specs.Pairs.{Pair, IsInStep, StopsBetween}
 use Rattle.jf_codec.specs.declared.format.Format.{Format}
+use Rattle.jf_codec.specs.declared.format.Format.TheVariants as format
 use Rattle.jf_standing.specs.Named.{never, leaf_entries, AreEntries}
 use Rattle.jf_standing.specs.Standing.{Standing, versions_of, with_floor, with_nodes}
 use Rattle.jf_standing.specs.Sound.{IsSound}
 use Rattle.jf_standing.specs.Landing.{head_map}
+use Rattle.jf_standing.specs.FormatLaws.{standing_in}
 use Rattle.jf_standing.specs.Building.{imported_standing, new_standing, nodes_by_name, checkpoint_of, landings_of, all_landed}
 use Rattle.jf_payload.specs.Spelling.{IsSpelling}
 use Rattle.jf_payload.specs.declared.records.Commit.{Commit}
@@ -50,6 +52,11 @@ abbrev pub CheckpointsFollow : Type 0
 CheckpointsFollow =
     (fmt : Format) (s : Standing) (generation : ℕ) (x : Framed) → IsSound fmt s → IsSpelling fmt (checkpoint_of generation s) x.kind x.payload
     → LeadToStanding (x ∷ []) fmt (with_nodes (nodes_by_name s.nodes) s) × (versions_of (with_nodes (nodes_by_name s.nodes) s) ≡ versions_behind Compacts (versions_of s))
+
+-- so a checkpoint with counts leads to the versions of what the file's format keeps of the standing
+abbrev pub CompactionsFollow : Type 0
+CompactionsFollow =
+    (fmt : Format) (s : Standing) (generation : ℕ) (x : Framed) → IsSound format.Two s → IsSpelling format.Two (checkpoint_of generation s) x.kind x.payload → LeadTo (x ∷ []) (versions_behind Compacts (versions_of (standing_in fmt s)))
 
 -- and so does that of one map, whatever the versions before, to these entries as one version
 abbrev pub ImportsFollow : Type 0

@@ -4,7 +4,7 @@ ghost use Rattle.jf_files.specs.Laws.{CheckpointsHaveFormats, CheckpointsAreNumb
 use jf_payload::spelled_is_spelling;
 use jf_standing::{
     checkpoints_give, items_are_judged, items_fail_once, items_lead_to_one, items_lead_to_sound,
-    never_both, new_is_sound,
+    never_both, new_is_sound, spelled_is_read,
 };
 
 /// The kinds of a checkpoint are those of the two formats of nodes.
@@ -41,7 +41,7 @@ pub fn files_stand_for_one()
     ensures { FilesStandForOne }
 {
     items_lead_to_one();
-    spelled_is_spelling();
+    spelled_is_read();
 }
 
 /// The versions that files stand for are sound.
@@ -49,7 +49,7 @@ pub fn files_stand_for_sound()
     ensures { FilesStandForSound }
 {
     items_lead_to_sound();
-    spelled_is_spelling();
+    spelled_is_read();
 }
 
 /// Damaged files stand for no versions.
@@ -57,7 +57,7 @@ pub fn damage_is_no_versions()
     ensures { DamageIsNoVersions }
 {
     never_both();
-    spelled_is_spelling();
+    spelled_is_read();
 }
 
 /// There is one first place of damage.
@@ -65,7 +65,7 @@ pub fn damage_has_one_place()
     ensures { DamageHasOnePlace }
 {
     items_fail_once();
-    spelled_is_spelling();
+    spelled_is_read();
 }
 
 /// Files stand for versions, or are damaged.
@@ -73,7 +73,7 @@ pub fn files_are_judged()
     ensures { FilesAreJudged }
 {
     items_are_judged();
-    spelled_is_spelling();
+    spelled_is_read();
 }
 
 /// A disk whose files stand for versions is calm if all that a crash may leave stands for them.
@@ -81,7 +81,7 @@ pub fn calm_both()
     ensures { CalmBoth }
 {
     items_lead_to_one();
-    spelled_is_spelling();
+    spelled_is_read();
 }
 
 /// Files that hold a standing stand for its versions.
@@ -99,7 +99,7 @@ pub fn held_is_sound()
     ensures { HeldIsSound }
 {
     items_lead_to_sound();
-    spelled_is_spelling();
+    spelled_is_read();
 }
 
 /// Records with one more lead to what that one makes of the standing before.

@@ -12,7 +12,7 @@ pub use laws::{
     no_records_are_new, one_more_follows, standings_have_versions, stood_for_is_held,
 };
 pub use step_laws::{
-    begins_by_records, checkpoints_follow, first_follows, floors_follow, imports_follow,
-    landings_follow, opens_by_records, stops_by_records, succeeds_after_reading,
+    begins_by_records, checkpoints_follow, compactions_follow, first_follows, floors_follow,
+    imports_follow, landings_follow, opens_by_records, stops_by_records, succeeds_after_reading,
     succeeds_by_records,
 };

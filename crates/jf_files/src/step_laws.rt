@@ -1,8 +1,10 @@
 // Laws on the steps of a store. These functions do nothing when they run.
-ghost use Rattle.jf_files.specs.StepLaws.{LandingsFollow, FloorsFollow, CheckpointsFollow, ImportsFollow, FirstFollows, StopsByRecords, SucceedsByRecords, SucceedsAfterReading, OpensByRecords, BeginsByRecords};
+ghost use Rattle.jf_files.specs.StepLaws.{LandingsFollow, FloorsFollow, CheckpointsFollow, CompactionsFollow, ImportsFollow, FirstFollows, StopsByRecords, SucceedsByRecords, SucceedsAfterReading, OpensByRecords, BeginsByRecords};
 
 use jf_payload::spelled_is_spelling;
-use jf_standing::{checkpoints_give, floors_prune, groups_land, imports_are_sound, new_is_sound};
+use jf_standing::{
+    checkpoints_give, floors_prune, formats_are_sound, groups_land, imports_are_sound, new_is_sound,
+};
 
 /// A record of landings of batches in turn makes a version for each.
 pub fn landings_follow()
@@ -26,6 +28,15 @@ pub fn checkpoints_follow()
 {
     spelled_is_spelling();
     checkpoints_give();
+}
+
+/// The checkpoint of a sound standing with counts, alone, leads to the versions of what a format keeps of it.
+pub fn compactions_follow()
+    ensures { CompactionsFollow }
+{
+    spelled_is_spelling();
+    checkpoints_give();
+    formats_are_sound();
 }
 
 /// The checkpoint of one map, alone, leads to one version with that map.

@@ -150,6 +150,10 @@ module _ (at id bound : ℕ) (xs ys : List LiveFork) (x : LiveFork) (work : List
   pub behind : map grown (take (length ys - (at + 1)) (drop (at + 1) ys)) ≡ work (drop (at + 1) (map grown xs))
   behind = ap (map grown) (take_all (length ys - (at + 1)) (drop (at + 1) ys) (omega (arith, length-drop (at + 1) ys))) ∙ sym (drop-map grown (at + 1) ys) ∙ w.back
 
+  -- and are forks
+  pub behind_forks : (zs : List LiveFork) → zs ≡ ys → (b : ℕ) → AreForks b (forks_of (work (drop (at + 1) (map grown xs)))) → AreForks b (forks_of (map grown (take (length zs - (at + 1)) (drop (at + 1) zs))))
+  behind_forks zs same b h = subst (λ gs. AreForks b (forks_of gs)) (sym (ap (λ ls. map grown (take (length ls - (at + 1)) (drop (at + 1) ls))) same ∙ behind)) h
+
   -- what is tested of a fork and those behind it
   pub tested : (t : Bool) (p : Parent) (zs : List LiveFork) → zs ≡ ys → t ≡ (not (x.id == id) && is_parent p (forks_of (map grown (take (length zs - (at + 1)) (drop (at + 1) zs))))) → t ≡ (not (x.id == id) && is_parent p (forks_of (work (drop (at + 1) (map grown xs)))))
   tested t p zs same h =

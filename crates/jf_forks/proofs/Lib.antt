@@ -1,3 +1,4 @@
+pub mod Numbers
 pub mod Chains
 pub mod Stays
 pub mod Cuts

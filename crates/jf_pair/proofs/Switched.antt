@@ -1,5 +1,5 @@
 -- A checkpoint on the side across.
-use Rattle.std.proofs.Common.{◌≡◌, ◌⊎◌, inl, inr, ℕ, ◌<◌, ◌≤◌, ◌&&◌, List, [], ◌∷◌, length, true, refl, sym, ap, ap₂, ◌∙◌, subst, arith, le-leb, Ok}
+use Rattle.std.proofs.Common.{◌≡◌, ◌⊎◌, inl, inr, ℕ, Bool, ◌<◌, ◌≤◌, ◌&&◌, List, [], ◌∷◌, length, true, refl, sym, ap, ap₂, ◌∙◌, subst, arith, le-leb, Ok}
 use Rattle.jf_disk.specs.Disk.{History, State, Files, content, bytes_of, durable}
 use Rattle.jf_disk.specs.Crashes.{GoesOn, LeavesOnly, KeepsOther, opposite}
 use Rattle.jf_disk.specs.CrashLaws.{by_both, by_weaker, other_now, opposite_opposite}
@@ -7,7 +7,7 @@ use Rattle.jf_disk.specs.declared.side.Side.{Side}
 use Rattle.jf_frame.specs.Framed.{Framed}
 use Rattle.jf_frame.specs.Framing.{records, number_of}
 use Rattle.jf_frame.specs.Logs.{IsReady, framed}
-use Rattle.jf_pair.specs.Files.{HoldsLive, is_checkpoint, is_begun, generation_of}
+use Rattle.jf_pair.specs.Files.{HoldsLive, is_checkpoint, is_begun, generation_of, IsOlder}
 use Rattle.jf_pair.specs.FileLaws.{holds_of}
 use Rattle.jf_pair.specs.Pairs.{Pair, IsInStep, StopsBetween}
 use Rattle.jf_pair.proofs.Appended.{held_still}
@@ -16,15 +16,19 @@ use Rattle.jf_pair.proofs.FirstRecord.{SameNoneOrOne}
 -- a checkpoint of a greater generation than these records
 pub record IsNewer (r : Framed) (rs : List Framed) : Type 0 where
   pub begun : is_begun (r ∷ []) ≡ true
-  pub newer : generation_of rs < generation_of (r ∷ [])
+  pub newer : IsOlder rs (r ∷ [])
 
-pub is_newer : (kind : ℕ) (payload : List ℕ) (rs : List Framed) → (is_checkpoint kind ≡ true) × (8 ≤ length payload) → generation_of rs < number_of payload → IsNewer (framed 0 kind payload) rs
-is_newer kind payload rs is newer = record { begun = ap₂ (λ a b. a && b) is.0 (le-leb 8 (length payload) is.1); newer = newer }
+older_if : (rs : List Framed) (live : Bool) (r : Framed) → (0 < length rs → live ≡ true) → (live ≡ true → generation_of rs < generation_of (r ∷ [])) → IsOlder rs (r ∷ [])
+older_if [] live r some newer = inl refl
+older_if (x ∷ rs) live r some newer = inr (newer (some (omega arith)))
+
+pub is_newer : (kind : ℕ) (payload : List ℕ) (rs : List Framed) (p : Pair) (s : State) → IsInStep p rs s → (is_checkpoint kind ≡ true) × (8 ≤ length payload) → (p.is_live ≡ true → generation_of rs < number_of payload) → IsNewer (framed 0 kind payload) rs
+is_newer kind payload rs p s k is newer = record { begun = ap₂ (λ a b. a && b) is.0 (le-leb 8 (length payload) is.1); newer = older_if rs p.is_live (framed 0 kind payload) k.live.1 newer }
 
 left_of : (p : Pair) (rs : List Framed) (s : State) (f : Files) (r : Framed) → IsInStep p rs s → IsNewer r rs → records (bytes_of p.side f) ≡ Ok rs → SameNoneOrOne (opposite p.side) (content (opposite p.side) s).bytes r f → HoldsLive f rs ⊎ HoldsLive f (r ∷ [])
 left_of p rs s f r k n live (inl (inl same)) = inl (holds_of p.side f rs k.others live (same ∙ k.held_across) k.begun k.begun_across k.older)
 left_of p rs s f r k n live (inl (inr none)) = inl (holds_of p.side f rs [] live none k.begun refl (inl refl))
-left_of p rs s f r k n live (inr one) = inr (holds_of (opposite p.side) f (r ∷ []) rs one (subst (λ w. records (bytes_of w f) ≡ Ok rs) (sym (opposite_opposite p.side)) live) n.begun k.begun (inr n.newer))
+left_of p rs s f r k n live (inr one) = inr (holds_of (opposite p.side) f (r ∷ []) rs one (subst (λ w. records (bytes_of w f) ≡ Ok rs) (sym (opposite_opposite p.side)) live) n.begun k.begun n.newer)
 
 across_back : (w : Side) (h s : State) → content (opposite (opposite w)) s ≡ content (opposite (opposite w)) h → content w s ≡ content w h
 across_back w h s e = subst (λ w. content w s ≡ content w h) (opposite_opposite w) e
@@ -50,7 +54,7 @@ switch_in_step p p' rs h g r k n other same_side is_live ready =
       held_across = subst (λ c. records c.bytes ≡ Ok rs) (sym still) held;
       begun = n.begun;
       begun_across = k.begun;
-      older = inr n.newer;
+      older = n.newer;
       live = (λ _. omega arith, λ _. is_live);
       ready = λ _. ready;
     } in

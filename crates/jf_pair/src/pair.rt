@@ -90,16 +90,16 @@ impl Pair {
         self.live.append(disk, frame)
     }
 
-    /// Begins the side across and writes a checkpoint of a greater generation there, given as a whole frame. That side
-    /// is then live, with this one record; the other side stays as it was. If no side is live yet, this is the first
-    /// checkpoint. After a fault the pair is failed: the live records are those before, or the checkpoint alone, and only
+    /// Begins the side across and writes a checkpoint there, given as a whole frame, of a greater generation if a side is
+    /// live. The side across is then live, with this one record; the other side stays as it was. If no side was live, this
+    /// is the first checkpoint. After a fault the pair is failed: the live records are those before, or the checkpoint alone, and only
     /// a new opening tells which.
     pub fn switch<D: Disk>(&mut self, disk: &mut D, frame: &[u8]) -> Result<(), DiskFault>
         requires whole { (kind : ℕ) × (payload : List ℕ) × IsFrame frame.now kind payload }
         requires checkpoint { (kind : ℕ) (payload : List ℕ) → IsFrame frame.now kind payload → (is_checkpoint kind ≡ true) × (8 ≤ length payload) }
         requires sound { self.old.failed ≡ false }
         requires in_step { (h : History) → D.history disk.old ≡ Some h → (rs : List Framed) × IsInStep self.old rs h.now }
-        requires newer { (h : History) (rs : List Framed) (kind : ℕ) (payload : List ℕ) → D.history disk.old ≡ Some h → IsInStep self.old rs h.now → IsFrame frame.now kind payload → generation_of rs < number_of payload }
+        requires newer { (h : History) (rs : List Framed) (kind : ℕ) (payload : List ℕ) → D.history disk.old ≡ Some h → IsInStep self.old rs h.now → IsFrame frame.now kind payload → self.old.is_live ≡ true → generation_of rs < number_of payload }
         ensures ok { (h : History) (kind : ℕ) (payload : List ℕ) → D.history disk.old ≡ Some h → IsFrame frame.now kind payload
             → OnOk result ((g : History) × (D.history disk.new ≡ Some g) × IsInStep self.new (framed 0 kind payload ∷ []) g.now) }
         ensures written { (h : History) → D.history disk.old ≡ Some h → OnOk result ((g : History) × (D.history disk.new ≡ Some g) × ((content self.new.side g.now).bytes ≡ 1 ∷ frame.now)) }

@@ -92,12 +92,11 @@ unfolding most_nodes
 one-visited height skip room n steps old is = omega (arith, is)
 
 -- of all nodes
-pub most-nodes_top : (height skip room n : ℕ) → height ≤ 64 → most_nodes height skip room n ≤ 65 * room + 2049
+pub most-nodes_top : (height skip room n : ℕ) → height ≤ 64 → most_nodes height skip room n ≤ 65 * copied skip room n + 2049
 unfolding most_nodes
 most-nodes_top height skip room n low =
-    let some : copied skip room n ≤ room = omega arith in
     let ends : ends_inside skip room n ≤ 2 = omega arith in
-    omega (arith, mul-le (copied skip room n) (height + 1) room 65 some (omega arith), mul-le (ends_inside skip room n) (16 * height) 2 1024 ends (omega arith))
+    omega (arith, mul-le (copied skip room n) (height + 1) (copied skip room n) 65 (omega arith) (omega arith), mul-le (ends_inside skip room n) (16 * height) 2 1024 ends (omega arith))
 
 -- ---- child by child
 

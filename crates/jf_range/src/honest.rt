@@ -1,5 +1,5 @@
 // The honest chunk of a snapshot's map.
-ghost use Rattle.std.specs.Prelude.{◌≡◌, ◌+◌, ◌*◌, ◌<◌, ◌≤◌, MatchResult, IfOk, length};
+ghost use Rattle.std.specs.Prelude.{◌≡◌, ◌+◌, ◌-◌, ◌*◌, ◌<◌, ◌≤◌, MatchResult, IfOk, length, min};
 ghost use Rattle.std.specs.FinMap as fin;
 ghost use Rattle.jf_evidence.specs.Ranges.{right_siblings, chunk_entries, range_proof_of};
 ghost use Rattle.jf_range.specs.Chunks.{IsChunk, IsNoChunk};
@@ -16,8 +16,8 @@ use std::alloc::Global;
 use std::marker::Brand;
 use std::sync::ledger::{Blank, Ledger};
 
-/// The entries of a snapshot's map from place `start` on, `count` of them or as many as there are, with the proof of the
-/// last one.
+/// The entries of a snapshot's map from place `start` on, `count` of them, at least 1, or as many as there are, with the
+/// proof of the last one. Where no entry stands at the place, their number is answered, and no memory is taken.
 pub fn prove_range(
     alloc: Global,
     snapshot: &Snapshot,
@@ -31,7 +31,7 @@ pub fn prove_range(
 }
 
 /// The same. A step is one node looked at while the entries are copied: however large the map is and wherever the place,
-/// there are at most 65 for each entry asked for, and 2,049 more. The proof of the last entry is one way down
+/// there are at most 65 for each entry that is given, and 2,049 more. The proof of the last entry is one way down
 /// besides, which isn't counted.
 pub fn prove_range_counted<L: Ledger>(
     alloc: Global,
@@ -42,7 +42,7 @@ pub fn prove_range_counted<L: Ledger>(
 ) -> Result<(Pairs, RangeProof), RangeAsk>
     requires { 1 ≤ count }
     ensures chunk { MatchResult result (IsChunk snapshot.now.map start count) (IsNoChunk snapshot.now.map start) }
-    ensures cost { steps.new ≤ steps.old + 65 * count + 2049 }
+    ensures cost { steps.new ≤ steps.old + 65 * min count (fin.len snapshot.now.map - start) + 2049 }
 {
     let total = snapshot.count();
     if start >= total {
@@ -84,7 +84,7 @@ fn entries_from<L: Ledger>(
     steps: &mut Steps<L>,
 ) -> Result<Pairs, Memory>
     ensures entries { IfOk result (λ es. es ≡ chunk_entries snapshot.now.map start count) }
-    ensures cost { steps.new ≤ steps.old + 65 * count + 2049 }
+    ensures cost { steps.new ≤ steps.old + 65 * min count (fin.len snapshot.now.map - start) + 2049 }
 {
     let mut entries = Pairs::new(alloc);
     if let Some(top) = snapshot.top() {

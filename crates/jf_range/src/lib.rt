@@ -13,6 +13,7 @@ mod verify;
 mod walk;
 
 pub use ask::RangeAsk;
+pub use checks::are_sorted;
 pub use frontier::Frontier;
 pub use honest::{prove_range, prove_range_counted};
 pub use jf_evidence::{RangeFault, RangeProof};

@@ -13,8 +13,9 @@ use jf_steps::Steps;
 use std::marker::Brand;
 use std::sync::ledger::{Blank, Ledger};
 
-/// Whether new entries are accepted after known ones under the root of a map. They are refused by the first check that
-/// fails. All entries are hashed; for many chunks one after another a `Frontier` saves hashing the known ones again.
+/// Whether new entries are accepted after known ones, whose keys ascend strictly, under the root of a map. They are refused
+/// by the first check that fails. All entries are hashed; for many chunks one after another a `Frontier` saves hashing the
+/// known ones again.
 pub fn verify_range(
     root: &Hash,
     known: &Pairs,
@@ -52,7 +53,8 @@ fn verify_uncounted<L: Ledger>(
     }
 }
 
-/// The root that entries come to with the proof of the last one, whose depth and siblings are as many as its key asks for.
+/// The root that entries, whose keys ascend strictly, come to with a proof for a chunk that ends with the last one. Its depth
+/// is at most 256, and it has as many siblings as the last key has 0 bits among its first `depth` bits.
 pub fn range_root(entries: &Pairs, proof: &RangeProof) -> Hash
     requires some { 0 < length entries.now }
     requires sorted { T (is_sorted key_cmp entries.now) }

@@ -13,7 +13,7 @@ pub enum RestoreRefused {
     Chunk(RangeFault),
     /// The root of all entries isn't the announced one; this is the root that was found.
     NotWhole(Hash),
-    /// Out of memory.
+    /// Out of memory for the entries of a chunk that is accepted.
     Memory,
 }
 

@@ -38,7 +38,7 @@ impl Model for Restore {
 }
 
 impl Restore {
-    /// A restore of a version with an announced root, without an entry.
+    /// A restore of a version below u64::MAX with an announced root, without an entry.
     pub fn new(alloc: Global, version: u64, root: Hash) -> Restore
         requires { version < 2 ^ 64 - 1 }
         ensures { result ≡ record { version = version; root = root; entries = [] } }
@@ -52,7 +52,8 @@ impl Restore {
         }
     }
 
-    /// Adds the entries of a chunk if it is accepted after those that were added before. A refusal leaves them as they were.
+    /// Adds the entries of a chunk, whose values have at most 4,096 bytes each, if it is accepted after those that were added
+    /// before. A refusal leaves them as they were.
     pub fn add(&mut self, fresh: &Pairs, proof: &RangeProof) -> Result<(), RestoreRefused>
         requires { AreShort fresh.now }
         ensures { MatchResult result (λ _. IsAdded self.old self.new fresh.now proof.now) (λ why. IsNotAdded self.old self.new fresh.now proof.now why) }

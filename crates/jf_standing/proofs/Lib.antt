@@ -46,4 +46,6 @@ pub mod Valid
 pub mod ValidNodes
 pub mod KeptCount
 pub mod SpelledRead
+pub mod Formats
+pub mod WithCounts
 pub mod SpelledRecords

@@ -2,11 +2,15 @@
 //! stale, when these are sound, and what a landing writes. Definitions with their laws.
 #![tactic(auto)]
 
+mod format_laws;
 mod item_laws;
 mod laws;
 mod order_laws;
 mod spelling_laws;
 
+pub use format_laws::{
+    formats_are_kept, formats_are_sound, formats_follow, formats_group, formats_land,
+};
 pub use item_laws::{
     begin_is_gives, items_are_judged, items_fail_once, items_lead_to_one, items_lead_to_sound,
     keys_stay, never_both, next_is_takes, spelled_is_read,

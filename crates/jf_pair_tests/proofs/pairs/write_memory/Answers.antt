@@ -20,7 +20,7 @@ pub switch-requires-clause-in_step : goal.switch-requires-clause-in_step
 switch-requires-clause-in_step c κs = λ h told. ([], subst (λ (h : History). IsInStep c.args.pair.now [] h.now) (told_same _ h _ refl told) c.requires.in_step)
 
 pub switch-requires-clause-newer : goal.switch-requires-clause-newer
-switch-requires-clause-newer c κs = λ h rs kind payload told kept is.
+switch-requires-clause-newer c κs = λ h rs kind payload told kept is live.
     let none : [] ≡ rs = in_step_one c.args.pair.now [] rs h.now (subst (λ (h : History). IsInStep c.args.pair.now [] h.now) (told_same _ h _ refl told) c.requires.in_step) kept in
     subst (λ rs. generation_of rs < number_of payload) none (let e = sym number_one ∙ same_payload _ 4 kind (number 1) payload first is in omega arith)
 
@@ -46,7 +46,7 @@ switch-requires-2-clause-in_step c κs = λ h told.
     (rs, subst (λ (h : History). IsInStep c.append.new.self rs h.now) (told_same y.0 h _ y.1 told) y.2)
 
 pub switch-requires-2-clause-newer : goal.switch-requires-2-clause-newer
-switch-requires-2-clause-newer c κs = λ h rs kind payload told kept is.
+switch-requires-2-clause-newer c κs = λ h rs kind payload told kept is live.
     let x = c.in_ok-switch.ensures.ok (history_of c.args.disk.now) 4 (number 1) refl first in
     let both = framed 0 4 (number 1) ∷ framed c.switch.new.self.offset 7 (97 ∷ 98 ∷ 99 ∷ []) ∷ [] in
     let y = c.in_ok-append.ensures.ok x.0 (framed 0 4 (number 1) ∷ []) 7 (97 ∷ 98 ∷ 99 ∷ []) x.1 x.2 more in
