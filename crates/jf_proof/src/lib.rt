@@ -8,5 +8,5 @@ mod honest;
 mod way;
 
 pub use claim::verify;
-pub use honest::prove;
+pub use honest::{prove, prove_counted};
 pub use jf_evidence::{Proof, ProofFault, honest_claims_are_accepted};

@@ -10,7 +10,7 @@ use jf_evidence::RangeProof;
 use jf_hash::Hash;
 use jf_node::Snapshot;
 use jf_path::{HashList, Key, Memory, Pairs, bit};
-use jf_proof::prove;
+use jf_proof::prove_counted;
 use jf_steps::Steps;
 use std::alloc::Global;
 use std::marker::Brand;
@@ -30,9 +30,8 @@ pub fn prove_range(
     prove_uncounted::<Brand>(alloc, snapshot, start, count, Blank::new(1))
 }
 
-/// The same. A step is one node looked at while the entries are copied: however large the map is and wherever the place,
-/// there are at most 65 for each entry that is given, and 2,049 more. The proof of the last entry is one way down
-/// besides, which isn't counted.
+/// The same. A step is one node looked at, while the entries are copied and on the way down to the last one, for its proof:
+/// however large the map is and wherever the place, there are at most 65 for each entry that is given, and 2,306 more.
 pub fn prove_range_counted<L: Ledger>(
     alloc: Global,
     snapshot: &Snapshot,
@@ -42,7 +41,7 @@ pub fn prove_range_counted<L: Ledger>(
 ) -> Result<(Pairs, RangeProof), RangeAsk>
     requires { 1 ≤ count }
     ensures chunk { MatchResult result (IsChunk snapshot.now.map start count) (IsNoChunk snapshot.now.map start) }
-    ensures cost { steps.new ≤ steps.old + 65 * min count (fin.len snapshot.now.map - start) + 2049 }
+    ensures cost { steps.new ≤ steps.old + 65 * min count (fin.len snapshot.now.map - start) + 2306 }
 {
     let total = snapshot.count();
     if start >= total {
@@ -53,7 +52,7 @@ pub fn prove_range_counted<L: Ledger>(
         unreachable!();
     };
     let key = last.0;
-    let proof = range_proof_of(alloc, snapshot, &key)?;
+    let proof = range_proof_of(alloc, snapshot, &key, steps)?;
     Ok((entries, proof))
 }
 
@@ -94,10 +93,16 @@ fn entries_from<L: Ledger>(
 }
 
 // The proof of a key's entry for a chunk that ends with it.
-fn range_proof_of(alloc: Global, snapshot: &Snapshot, key: &Key) -> Result<RangeProof, Memory>
-    ensures { IfOk result (λ p. p ≡ range_proof_of snapshot.now.map key.now) }
+fn range_proof_of<L: Ledger>(
+    alloc: Global,
+    snapshot: &Snapshot,
+    key: &Key,
+    steps: &mut Steps<L>,
+) -> Result<RangeProof, Memory>
+    ensures proof { IfOk result (λ p. p ≡ range_proof_of snapshot.now.map key.now) }
+    ensures cost { steps.new ≤ steps.old + 257 }
 {
-    let proof = prove(alloc, snapshot, key)?;
+    let proof = prove_counted(alloc, snapshot, key, steps)?;
     let siblings = right_siblings(alloc, key, proof.siblings.as_slice())?;
     Ok(RangeProof {
         depth: proof.siblings.len(),

@@ -1,6 +1,7 @@
 // Whether a chunk is accepted.
-ghost use Rattle.std.specs.Prelude.{◌≡◌, ◌+◌, ◌*◌, ◌≤◌, MatchResult, Some, length};
+ghost use Rattle.std.specs.Prelude.{◌≡◌, ◌≢◌, ◌+◌, ◌*◌, ◌≤◌, MatchResult, IfErr, Some, length};
 ghost use Rattle.jf_evidence.specs.Ranges.{Entries, range_refusal};
+ghost use Rattle.jf_evidence.specs.declared.range_proof.RangeFault.TheVariants as fault;
 ghost use Rattle.jf_range.specs.Frontiers.{frontier_of, IsAscending};
 ghost use Rattle.jf_range.specs.Judgements.{IsAccepted};
 
@@ -14,7 +15,8 @@ use std::sync::ledger::Ledger;
 
 impl Frontier {
     /// The frontier of the known entries with new ones, if these are accepted after them under the root of a map. They are
-    /// refused by the first check that fails.
+    /// refused by the first check that fails. A step is one hash computed: only a chunk that passes the first four checks is
+    /// hashed.
     pub fn accept<L: Ledger>(
         &self,
         root: &Hash,
@@ -23,7 +25,8 @@ impl Frontier {
         steps: &mut Steps<L>,
     ) -> Result<Frontier, RangeFault>
         ensures judged { (known : Entries) → self.now ≡ frontier_of known → IsAscending known → MatchResult result (IsAccepted root.now known fresh.now proof.now) (λ why. range_refusal root.now known fresh.now proof.now ≡ Some why) }
-        ensures cost { steps.new ≤ steps.old + 600 * (length fresh.now + 1) }
+        ensures cost { steps.new ≤ steps.old + 257 * (length fresh.now + 1) }
+        ensures idle { IfErr result (λ why. why ≢ fault.WrongRoot → steps.new ≡ steps.old) }
     {
         let entries = fresh.as_slice();
         know_entries(entries);

@@ -3,6 +3,7 @@ use Rattle.std.specs.Prelude.{◌≡◌, ◌≢◌, ℕ, ◌≤◌, ◌++◌, le
 use Rattle.std.specs.List.{AllByRecursion}
 use Rattle.jf_hash.specs.Roots.{part_root}
 use Rattle.jf_evidence.specs.declared.range_proof.RangeProof.{RangeProof}
+use Rattle.jf_evidence.specs.declared.range_proof.RangeFault.TheVariants as fault
 use Rattle.jf_evidence.specs.Ranges.{Entries, range_refusal}
 use Rattle.jf_restore.specs.RestoreValue.{RestoreValue}
 use Rattle.jf_restore.specs.declared.refused.RestoreRefused.{RestoreRefused}
@@ -26,6 +27,12 @@ abbrev pub IsNotAdded : RestoreValue → RestoreValue → Entries → RangeProof
 IsNotAdded old new fresh proof (refused.Chunk why) = (range_refusal old.root old.entries fresh proof ≡ Some why) × (new ≡ old)
 IsNotAdded old new fresh proof (refused.NotWhole found) = ⊥
 IsNotAdded old new fresh proof refused.Memory = (range_refusal old.root old.entries fresh proof ≡ None) × (new ≡ old)
+
+-- the chunk is refused by a check that comes before the last one, for which alone it is hashed
+abbrev pub IsUnhashed : RestoreRefused → Type 0
+IsUnhashed (refused.Chunk why) = why ≢ fault.WrongRoot
+IsUnhashed (refused.NotWhole found) = ⊥
+IsUnhashed refused.Memory = ⊥
 
 -- so many entries come to the announced root
 abbrev pub IsWhole : RestoreValue → ℕ → Type 0

@@ -1,7 +1,7 @@
 // A restore under way.
-ghost use Rattle.std.specs.Prelude.{◌≡◌, ◌+◌, ◌-◌, ◌*◌, ◌^◌, ◌<◌, ◌≤◌, [], length, MatchResult};
+ghost use Rattle.std.specs.Prelude.{◌≡◌, ◌+◌, ◌-◌, ◌*◌, ◌^◌, ◌<◌, ◌≤◌, [], length, IfErr, MatchResult};
 ghost use Rattle.jf_hash.specs.Roots.{part_root};
-ghost use Rattle.jf_restore.specs.Restores.{IsAdded, IsNotAdded, IsWhole, IsNotWhole, AreShort};
+ghost use Rattle.jf_restore.specs.Restores.{IsAdded, IsNotAdded, IsWhole, IsNotWhole, IsUnhashed, AreShort};
 
 use crate::copies::add_copies;
 use crate::refused::RestoreRefused;
@@ -61,8 +61,8 @@ impl Restore {
         self.add_uncounted::<Brand>(fresh, proof, Blank::new(1))
     }
 
-    /// The same. A step is one hash computed: there are at most 600 for each new entry and 600 more, however many entries were
-    /// added before.
+    /// The same. A step is one hash computed: there are at most 257 for each new entry and 257 more, however many entries were
+    /// added before, and none where one of the first four checks fails.
     pub fn add_counted<L: Ledger>(
         &mut self,
         fresh: &Pairs,
@@ -71,7 +71,8 @@ impl Restore {
     ) -> Result<(), RestoreRefused>
         requires { AreShort fresh.now }
         ensures added { MatchResult result (λ _. IsAdded self.old self.new fresh.now proof.now) (λ why. IsNotAdded self.old self.new fresh.now proof.now why) }
-        ensures cost { steps.new ≤ steps.old + 600 * (length fresh.now + 1) }
+        ensures cost { steps.new ≤ steps.old + 257 * (length fresh.now + 1) }
+        ensures idle { IfErr result (λ why. IsUnhashed why → steps.new ≡ steps.old) }
     {
         match self.frontier.accept(&self.root, fresh, proof, steps) {
             Err(why) => Err(RestoreRefused::Chunk(why)),
@@ -104,21 +105,29 @@ impl Restore {
     pub fn whole(&self) -> Result<u64, RestoreRefused>
         ensures { MatchResult result (IsWhole self.now) (IsNotWhole self.now) }
     {
-        let found = self.found_root::<Brand>(Blank::new(1));
+        self.whole_uncounted::<Brand>(Blank::new(1))
+    }
+
+    /// The same. A step is one hash computed: there are at most 257, however many entries were added.
+    pub fn whole_counted<L: Ledger>(&self, steps: &mut Steps<L>) -> Result<u64, RestoreRefused>
+        ensures whole { MatchResult result (IsWhole self.now) (IsNotWhole self.now) }
+        ensures cost { steps.new ≤ steps.old + 257 }
+    {
+        let found = self.frontier.root(steps);
         if found != self.root {
             return Err(RestoreRefused::NotWhole(found));
         }
         Ok(self.entries.len())
     }
 
-    // The root of all entries.
-    fn found_root<L: Ledger>(&self, blank: Blank) -> Hash
+    // In a ledger of its own.
+    fn whole_uncounted<L: Ledger>(&self, blank: Blank) -> Result<u64, RestoreRefused>
         requires name { blank.name ≡ L.name }
         requires parts { blank.parts ≡ L.parts }
         requires some { 0 < blank.parts }
-        ensures { result ≡ part_root 0 self.now.entries }
+        ensures { MatchResult result (IsWhole self.now) (IsNotWhole self.now) }
     {
         let mut steps = Steps::<L>::new(blank);
-        self.frontier.root(&mut steps)
+        self.whole_counted(&mut steps)
     }
 }

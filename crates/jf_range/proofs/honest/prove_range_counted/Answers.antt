@@ -13,4 +13,4 @@ pub returns-clause-chunk : goal.returns-clause-chunk
 returns-clause-chunk g c =
     let item = c.in-Some.ensures.item in
     chunk-made c.args.snapshot.now.map c.args.start c.args.count c.count-total.result c.in_ok-entries.entries c.as_slice.result.now c.in-Some.last.now c.in_ok-proof.proof (omega arith) c.count-total.ensures c.in_ok-entries.ensures.entries c.as_slice.ensures
-    item.3.0 item.1 c.in_ok-proof.ensures
+    item.3.0 item.1 c.in_ok-proof.ensures.proof
