@@ -1,2 +1,3 @@
 pub mod LineByLine
 pub mod Deciding
+pub mod LongLines

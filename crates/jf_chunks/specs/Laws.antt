@@ -1,10 +1,11 @@
 -- What holds of all lines, as statements for calls that do nothing and ensure them.
-use Rattle.std.specs.Prelude.{◌≡◌, ℕ, List, ◌++◌, length, Some, Result, Ok, Err}
+use Rattle.std.specs.Prelude.{◌≡◌, ℕ, List, ◌++◌, length, Some, Result, Ok, Err, IsTrue}
 use Rattle.jf_evidence.specs.Ranges.{Entries}
+use Rattle.jf_script.specs.Words.{is_long}
 use Rattle.jf_restore.specs.RestoreValue.{RestoreValue}
 use Rattle.jf_chunks.specs.declared.fault.BlockFault.{BlockFault}
 use Rattle.jf_chunks.specs.Chunks.{chunks, decided}
-use Rattle.jf_chunks.specs.Steps.{begun, after_all, refusal_of, end_of}
+use Rattle.jf_chunks.specs.Steps.{State, begun, after, after_all, refusal_of, end_of}
 
 -- with these entries
 abbrev pub with_entries : RestoreValue → Result Entries BlockFault → Result RestoreValue BlockFault
@@ -22,3 +23,7 @@ RefusalsComeAtTheirLine = (r : RestoreValue) (ls : List (List ℕ)) → refusal_
 -- a refusal is what all lines come to that begin with these
 abbrev pub RefusalsStay : Type 0
 RefusalsStay = (r : RestoreValue) (ls ms : List (List ℕ)) (why : BlockFault) → refusal_of (after_all (begun r) ls).stage ≡ Some why → chunks r.root r.entries (ls ++ ms) ≡ Err why
+
+-- of a long line it only counts that it is long
+abbrev pub LongLinesAreAlike : Type 0
+LongLinesAreAlike = (s : State) (line other : List ℕ) → IsTrue (is_long line) → IsTrue (is_long other) → after s line ≡ after s other

@@ -1,5 +1,5 @@
 // Laws on lines of chunk blocks, for proofs of code that stands on them. These functions do nothing when they run.
-ghost use Rattle.jf_chunks.specs.Laws.{ChunksComeLineByLine, RefusalsComeAtTheirLine, RefusalsStay};
+ghost use Rattle.jf_chunks.specs.Laws.{ChunksComeLineByLine, RefusalsComeAtTheirLine, RefusalsStay, LongLinesAreAlike};
 
 /// Lines come to the same one by one as all together.
 pub fn chunks_come_line_by_line()
@@ -14,4 +14,9 @@ pub fn refusals_come_at_their_line()
 /// What is refused is refused whatever lines follow.
 pub fn refusals_stay()
     ensures { RefusalsStay }
+{}
+
+/// Of a long line it only counts that it is long.
+pub fn long_lines_are_alike()
+    ensures { LongLinesAreAlike }
 {}

@@ -11,4 +11,6 @@ mod stage;
 pub use blocks::Blocks;
 pub use fault::BlockFault;
 pub use jf_restore::{RangeFault, Restore};
-pub use laws::{chunks_come_line_by_line, refusals_come_at_their_line, refusals_stay};
+pub use laws::{
+    chunks_come_line_by_line, long_lines_are_alike, refusals_come_at_their_line, refusals_stay,
+};

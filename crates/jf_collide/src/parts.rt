@@ -1,9 +1,8 @@
 // What the root of a whole map hashes.
-ghost use Rattle.std.specs.Prelude.{◌≡◌, ℕ, ◌+◌, ◌-◌, ◌<◌, [], ◌∷◌, ◌++◌, IfOk, OnOk, T, length, reverse, slice_index};
-ghost use Rattle.std.specs.List.{AllByRecursion};
+ghost use Rattle.std.specs.Prelude.{◌≡◌, ◌+◌, ◌-◌, ◌<◌, [], ◌∷◌, ◌++◌, IfOk, OnOk, T, reverse};
 ghost use Rattle.std.specs.FinMap.{is_sorted};
 ghost use Rattle.sha2.specs.Sha256.{sha256};
-ghost use Rattle.jf_path.specs.Keys.{key_cmp, IsKey};
+ghost use Rattle.jf_path.specs.Keys.{key_cmp};
 ghost use Rattle.jf_hash.specs.Parts.{IsPart, IsFirstOne};
 ghost use Rattle.jf_hash.specs.Roots.{part_root};
 ghost use Rattle.jf_evidence.specs.MapClashes.{part_inputs};

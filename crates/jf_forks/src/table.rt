@@ -210,7 +210,7 @@ impl ForkTable {
     }
 
     /// Lets a fork land, with its ancestors: those that stand on it stay, its children on the head. Without a fork, where
-    /// a batch landed, none stays.
+    /// a batch landed, none stays. The fork is one that `chain` doesn't refuse, want of memory aside.
     pub fn settle(&mut self, fork: Option<u64>)
         requires { IfSome fork (λ id. chain_fault id self.old ≡ None) }
         ensures none { fork ≡ None → self.new ≡ record { made = self.old.made; live = [] } }

@@ -135,7 +135,7 @@ impl<'a> Range<'a> {
         }
     }
 
-    /// The node of a stored node, in whose nibbles its keys agree.
+    /// The entries of a stored node, at four times its depth.
     pub fn of(link: &'a Link) -> Range<'a>
         ensures { result ≡ record { depth = 4 * link.now.depth; entries = link.now.entries } }
     {
@@ -194,7 +194,7 @@ impl<'a> Range<'a> {
         }
     }
 
-    /// In how many bits the keys agree.
+    /// How many leading bits, 0 to 256, say which keys belong here.
     pub fn depth(&self) -> u64
         ensures { result ≡ self.now.depth }
     {

@@ -1,11 +1,11 @@
 // Links, children and snapshots, of which the roots are compared with those that the definition gives.
-ghost use Rattle.std.specs.Prelude.{◌≡◌, ℕ, ◌≤◌, ◌<◌, [], ◌∷◌, length, IfOk, Some};
+ghost use Rattle.std.specs.Prelude.{◌≡◌, ℕ, ◌+◌, ◌≤◌, ◌<◌, [], ◌∷◌, length, IfOk, Some};
 ghost use Rattle.jf_path.specs.Nibbles.{nibble};
 ghost use Rattle.jf_node.specs.Children.{joined, FitFrom, FitsAt, leaf_value};
 ghost use Rattle.jf_node.specs.LinkFacts.{BeginAlike};
 
 use jf_hash::{Hash, empty, inner, leaf, plain_root, value};
-use jf_node::{Link, Seen, Sixteen, Snapshot, Update};
+use jf_node::{Link, Range, Seen, Sixteen, Snapshot, Update};
 use jf_path::{Key, Memory, Nibble, nibble};
 use std::alloc::Global;
 use std::test::Fail;
@@ -238,5 +238,31 @@ fn links_and_what_holds_them_pass_between_threads(_rt: HostRuntime) -> Result<()
     passes_between_threads::<Sixteen>();
     passes_between_threads::<Snapshot>();
     passes_between_threads::<Update>();
+    Ok(())
+}
+
+// Whether the first four halves of a node, by the bits 0001, leave both entries, and the next parts them.
+fn fall_apart(link: &Link) -> bool
+    requires { link.now.depth ≡ 0 }
+{
+    let fourth = Range::of(link).zeros().zeros().zeros().ones();
+    let (low, near) = fourth.halves();
+    fourth.count() == 2
+        && low.hash() == leaf(&LOW, &value(b"a"))
+        && near.get(&NEAR) == Some(b"b".as_slice())
+        && near.get(&LOW).is_none()
+}
+
+// Whether a range that is kept, and kept once more, has the hash of its node.
+fn is_kept(link: &Link) -> Result<bool, Memory> {
+    let kept = Range::of(link).share()?;
+    let again = kept.share()?;
+    Ok(again.range().hash() == link.hash())
+}
+
+#[test]
+fn a_range_falls_into_halves(rt: HostRuntime) -> Result<(), Fail> {
+    let link = two(rt.alloc(), 0, &LOW, &NEAR)?;
+    assert!(rt; fall_apart(&link) && is_kept(&link)?);
     Ok(())
 }

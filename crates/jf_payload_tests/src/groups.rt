@@ -1,7 +1,7 @@
 // How many landings a group has, and how long a value is.
 use crate::parts::{HASH, KEY, LEAF, N0, N1, ROOT1};
 use jf_codec::Format;
-use jf_payload::decode;
+use jf_payload::{Record, decode};
 use std::alloc::{AllocError, Global};
 use std::test::Fail;
 
@@ -29,6 +29,29 @@ fn a_group_has_2_to_1024_landings(rt: HostRuntime) -> Result<(), Fail> {
     assert!(rt; is_taken(rt.alloc(), 2)?);
     assert!(rt; is_taken(rt.alloc(), 1_024)?);
     assert!(rt; !is_taken(rt.alloc(), 1_025)?);
+    Ok(())
+}
+
+// Whether the group of three landings is read with each of their versions.
+fn has_three(alloc: Global) -> Result<bool, Fail> {
+    let payload = group(alloc, 3)?;
+    match decode(alloc, 6, &payload, Format::One)? {
+        Record::Group(commits) => match commits.as_slice() {
+            [first, second, third] => Ok(
+                commits.len() == 3
+                    && first.version == 1
+                    && second.version == 2
+                    && third.version == 3,
+            ),
+            _ => Ok(false),
+        },
+        _ => Ok(false),
+    }
+}
+
+#[test]
+fn a_group_is_read_landing_by_landing(rt: HostRuntime) -> Result<(), Fail> {
+    assert!(rt; has_three(rt.alloc())?);
     Ok(())
 }
 

@@ -1,6 +1,5 @@
 // Hashes, each of which is a step.
 ghost use Rattle.std.specs.Prelude.{◌≡◌, ◌+◌, ◌<◌};
-ghost use Rattle.jf_hash.specs.Hashes.{L, V};
 ghost use Rattle.jf_evidence.specs.Proofs.{join};
 ghost use Rattle.jf_range.specs.Subjects.{hash_of};
 

@@ -1,7 +1,7 @@
 // The honest chunk of a snapshot's map.
 ghost use Rattle.std.specs.Prelude.{◌≡◌, ◌+◌, ◌-◌, ◌*◌, ◌<◌, ◌≤◌, MatchResult, IfOk, length, min};
 ghost use Rattle.std.specs.FinMap as fin;
-ghost use Rattle.jf_evidence.specs.Ranges.{right_siblings, chunk_entries, range_proof_of, honest_chunk};
+ghost use Rattle.jf_evidence.specs.Ranges.{right_siblings, chunk_entries, range_proof_of};
 ghost use Rattle.jf_range.specs.Chunks.{IsChunk, IsNoChunk};
 
 use crate::ask::RangeAsk;

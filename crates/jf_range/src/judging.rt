@@ -1,7 +1,5 @@
 // Whether a chunk is accepted.
-ghost use Rattle.std.specs.Prelude.{◌≡◌, ◌≢◌, ◌+◌, ◌*◌, ◌≤◌, ◌++◌, MatchResult, IfErr, Some, None, length};
-ghost use Rattle.std.specs.List.{AllByRecursion};
-ghost use Rattle.jf_path.specs.Keys.{IsKey};
+ghost use Rattle.std.specs.Prelude.{◌≡◌, ◌≢◌, ◌+◌, ◌*◌, ◌≤◌, MatchResult, IfErr, Some, length};
 ghost use Rattle.jf_evidence.specs.Ranges.{Entries, range_refusal};
 ghost use Rattle.jf_evidence.specs.declared.range_proof.RangeFault.TheVariants as fault;
 ghost use Rattle.jf_range.specs.Frontiers.{frontier_of, IsAscending};

@@ -1,8 +1,7 @@
 // A restore under way.
 ghost use Rattle.std.specs.Prelude.{◌≡◌, ◌+◌, ◌-◌, ◌*◌, ◌^◌, ◌<◌, ◌≤◌, [], length, IfErr, MatchResult};
-ghost use Rattle.std.specs.List.{AllByRecursion};
-ghost use Rattle.jf_evidence.specs.Ranges.{range_refusal};
-ghost use Rattle.jf_restore.specs.Restores.{with_more, IsAdded, IsNotAdded, IsWhole, IsNotWhole, IsUnhashed, AreShort};
+ghost use Rattle.jf_hash.specs.Roots.{part_root};
+ghost use Rattle.jf_restore.specs.Restores.{IsAdded, IsNotAdded, IsWhole, IsNotWhole, IsUnhashed, AreShort};
 
 use crate::copies::add_copies;
 use crate::refused::RestoreRefused;

@@ -9,7 +9,7 @@ use Rattle.jf_hash.specs.Maps.{Map}
 use Rattle.jf_hash.specs.Roots.{root}
 use Rattle.jf_model.specs.Versions.{Versions, IsVersions, map_of, root_of}
 use Rattle.jf_model.specs.VersionLaws.{root_of-map_of}
-use Rattle.jf_answers.specs.Refusals.{base_map, base_causes, range_causes, version_causes, refused_by}
+use Rattle.jf_answers.specs.Refusals.{base_map, range_causes, version_causes, refused_by}
 use Rattle.jf_evidence.specs.Proofs.{honest}
 use Rattle.jf_node.specs.SnapshotValue.{SnapshotValue}
 use Rattle.jf_blocks.specs.Blocks.{proof_lines}

@@ -1,5 +1,5 @@
 -- A run so far, where what is held of a line may be shortened: the lines done are those of the input.
-use Rattle.std.proofs.Common.{◌≡◌, ◌⊎◌, inl, inr, ℕ, ◌<◌, Option, Some, option_map, List, [], ◌++◌, length, sym, ap, ◌∙◌, subst, refl, true, ◌+◌, take, arith, length-take}
+use Rattle.std.proofs.Common.{◌≡◌, inl, inr, ℕ, Option, Some, option_map, List, [], ◌++◌, length, sym, ap, ◌∙◌, subst, refl, true, ◌+◌, take, arith, length-take}
 use Rattle.std.specs.List.{position_or_len, before_first, after_first}
 use Rattle.std.proofs.lemmas.Bool.{lt-ltb, cases_lt}
 use Rattle.std.proofs.lemmas.List.{take_all}
@@ -7,7 +7,7 @@ use Rattle.jf_io.specs.LineReader.{is_line_feed, Held, IsShortened, IsFetched}
 use Rattle.jf_io.specs.Sink.{IsCutShort}
 use Rattle.jf_input.specs.Inputs.{IsFound}
 use Rattle.jf_input.proofs.Found.{found_whole, where_of, cut_of, last_of}
-use Rattle.jf_io.proofs.Shortened.{is_shortened-whole, line_front-text, unfinished-text, finished-text, after_first-text, some-text, none-text}
+use Rattle.jf_io.proofs.Shortened.{is_shortened-whole, line_front-text, unfinished-text, finished-text, after_first-text, none-text}
 use Rattle.jf_model.specs.States.{State}
 use Rattle.jf_answers.specs.Own.{Own}
 use Rattle.jf_answers.specs.Answers.{Answer, answer}

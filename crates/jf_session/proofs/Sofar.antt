@@ -1,6 +1,5 @@
 -- A run so far, between two lines, and how it ends.
-use Rattle.std.proofs.Common.{◌≡◌, ◌⊎◌, inl, inr, ℕ, suc, ◌+◌, ◌-◌, ◌<◌, ◌≤◌, true, false, Option, Some, None, option_map, List, [], ◌∷◌, ◌++◌, take, drop, length, refl, sym, ap, ◌∙◌, subst, arith, append_assoc, append-nil, length-append, take_at, take-append-drop, eq-or-lt_of_le, cond, not, ◌^◌}
-use Rattle.std.specs.Prelude.{◌==◌}
+use Rattle.std.proofs.Common.{◌≡◌, ◌⊎◌, inl, inr, ℕ, ◌-◌, ◌<◌, Option, Some, None, option_map, List, [], ◌∷◌, ◌++◌, take, drop, length, refl, sym, ap, ◌∙◌, subst, arith, append_assoc, append-nil, length-append, take_at, take-append-drop}
 use Rattle.std.specs.List.{AllByRecursion, concat, position_or_len, before_first, after_first}
 use Rattle.jf_io.specs.LineReader.{is_line_feed}
 use Rattle.jf_io.specs.Sink.{IsCutShort}

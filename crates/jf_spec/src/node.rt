@@ -85,7 +85,7 @@ impl Node {
         }
     }
 
-    // In how many bits its keys agree.
+    // How many leading bits say which keys belong here.
     pub(crate) fn depth(&self) -> u64
         ensures { result ≡ self.now.depth }
     {

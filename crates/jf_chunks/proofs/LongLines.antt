@@ -1,0 +1,18 @@
+-- Of a long line it only counts that it is long.
+use Rattle.std.proofs.Common.{◌≡◌, ℕ, true, List, refl, ap}
+use Rattle.jf_script.specs.Words.{is_long}
+use Rattle.jf_restore.specs.RestoreValue.{RestoreValue}
+use Rattle.jf_chunks.specs.declared.stage.Stage.{Stage}
+use Rattle.jf_chunks.specs.declared.stage.Stage.TheVariants as stage
+use Rattle.jf_chunks.specs.Steps.{Step, line_step, next_at}
+use Rattle.jf_chunks.specs.Laws.{LongLinesAreAlike}
+
+alike : (r : RestoreValue) (at : ℕ) (s : Stage) (line other : List ℕ) → is_long line ≡ true → is_long other ≡ true → line_step r at s line ≡ line_step r at s other
+unfolding line_step
+alike r at stage.Between line other e h = rw (e, h) refl
+alike r at (stage.Block b) line other e h = rw (e, h) refl
+alike r at (stage.Refused why) line other e h = refl
+
+pub after-long : LongLinesAreAlike
+after-long s line other long too =
+    ap (λ (step : Step). record { restore = step.restore; at = next_at s.at s.stage; stage = step.stage }) (alike s.restore s.at s.stage line other long too)

@@ -1,0 +1,14 @@
+//! Tests of chunk blocks as text: how they are written, what they come to when they are read line by line, and how a run
+//! answers `chunk`.
+#![tactic(auto)]
+
+#[cfg(test)]
+mod close_keys;
+#[cfg(test)]
+mod reading;
+#[cfg(test)]
+mod runs;
+#[cfg(test)]
+mod texts;
+#[cfg(test)]
+mod writing;
