@@ -107,7 +107,7 @@ const OUTSIDE: &[&[u8]] = &[
     b"land f0",
     b"drop f0",
     b"prove p0 61",
-    b"chunk v0 0 1",
+    b"chunk p0 0 1",
     b"pin 0",
     b"unpin 0",
     b"prune 0",
