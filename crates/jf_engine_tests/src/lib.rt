@@ -1,4 +1,5 @@
-//! Tests of a store on a disk: files byte by byte, calls of the disk that fail in turn, and landings beside whole maps.
+//! Tests of the plain store, and of a store on a disk: files byte by byte, calls of the disk that fail in turn, and
+//! landings beside whole maps.
 #![tactic(auto)]
 
 #[cfg(test)]
@@ -9,3 +10,5 @@ mod files;
 mod scripts;
 #[cfg(test)]
 mod stores;
+#[cfg(test)]
+mod versions;

@@ -6,16 +6,6 @@ mod bounds;
 #[cfg(test)]
 mod folders;
 #[cfg(test)]
-mod nodes;
-#[cfg(test)]
-mod proofs;
-#[cfg(test)]
-mod reads;
-#[cfg(test)]
-mod refusals;
-#[cfg(test)]
 mod runs;
-#[cfg(test)]
-mod verdicts;
 #[cfg(test)]
 mod words;

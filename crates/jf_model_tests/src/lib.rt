@@ -1,5 +1,0 @@
-//! Tests of the plain store.
-#![tactic(auto)]
-
-#[cfg(test)]
-mod versions;
