@@ -1,0 +1,5 @@
+//! The example of docs/CALLERS.md.
+#![tactic(auto)]
+
+#[cfg(test)]
+mod example;
