@@ -1,4 +1,4 @@
-// The table of forks.
+// The table of forks: which are live, with the tree of each, and how many were made.
 ghost use Rattle.std.specs.Prelude.{◌≡◌, ℕ, true, ◌+◌, ◌^◌, ◌<◌, ◌≤◌, ◌∷◌, ◌++◌, [], length, map, IfOk, IfErr, IfSome, OnOk, OnErr, Some, None, Err};
 ghost use Rattle.std.specs.Result.{result_err};
 ghost use Rattle.jf_hash.specs.Maps.{Map, apply};
@@ -11,7 +11,7 @@ ghost use Rattle.jf_forks.specs.declared.fault.ForkFault.TheVariants as fault;
 use crate::chain::{chain_keys, push_chain};
 use crate::fault::ForkFault;
 use crate::gone::{drop_from, land_from};
-use crate::live::{LiveFork, grow, is_live, push_first, tree_of};
+use crate::live::{LiveFork, is_live, push_first, tree_of, tree_over};
 use jf_hash::Hash;
 use jf_model::Parent;
 use jf_node::Snapshot;
@@ -43,15 +43,15 @@ pub struct ForkTable {
 impl Model for ForkTable {
     ghost use Rattle.std.specs.Prelude.{map};
     ghost use Rattle.jf_forks.specs.Tables.{Table, IsTable, table_code};
-    ghost use Rattle.jf_forks.specs.Lives.{grown};
+    ghost use Rattle.jf_forks.specs.Lives.{fork_with_map};
 
     ghost Value = { Table };
 
     ghost coded = { table_code };
 
-    ghost view = { λ t. record { made = t.made; live = map grown t.live.items } };
+    ghost view = { λ t. record { made = t.made; live = map fork_with_map t.live.items } };
 
-    ghost invariant = { λ t. IsTable (record { made = t.made; live = map grown t.live.items }) };
+    ghost invariant = { λ t. IsTable (record { made = t.made; live = map fork_with_map t.live.items }) };
 }
 
 impl ForkTable {
@@ -79,7 +79,7 @@ impl ForkTable {
         self.live.len() as u64
     }
 
-    // Whether a fork is live; else why not.
+    // Whether a fork is live; if not, why.
     fn find(&self, id: u64) -> Result<(), ForkFault>
         ensures { result_err result ≡ missing id self.now }
     {
@@ -93,7 +93,7 @@ impl ForkTable {
         }
     }
 
-    /// The tree of a fork: the map that it stands for, over the map of the head. It is refused exactly where the fork was
+    /// The tree of a fork: the map that it stands for, over the map of the head. It is refused exactly if the fork was
     /// not made yet or is gone.
     pub fn tree(&self, id: u64) -> Result<&SpecTree, ForkFault>
         ensures refused { result_err result ≡ missing id self.now }
@@ -110,7 +110,7 @@ impl ForkTable {
     }
 
     /// Makes a fork of a batch on the head or on a live fork; `head` is the snapshot of the head. It is refused for a
-    /// parent that is missing, and then where 1,024 are live, and leaves the table as it was.
+    /// parent that is missing, and then if 1,024 are live; a refusal leaves the table unchanged.
     pub fn make(
         &mut self,
         alloc: Global,
@@ -118,7 +118,7 @@ impl ForkTable {
         parent: Parent,
         batch: &Batch,
     ) -> Result<Forked, ForkFault>
-        requires few { self.old.made < 2 ^ 62 }
+        requires bounded { self.old.made < 2 ^ 62 }
         requires over { StandsOver head.now.map self.old }
         ensures forked { IfOk result (λ f. f ≡ record { id = self.old.made; root = root (apply (parent_map head.now.map (forks_of self.old.live) parent) batch.now) }) }
         ensures ok { OnOk result (self.new ≡ record { made = self.old.made + 1; live = record { fork = record { id = self.old.made; parent = parent; batch = batch.now }; map = apply (parent_map head.now.map (forks_of self.old.live) parent) batch.now } ∷ self.old.live }) }
@@ -129,7 +129,7 @@ impl ForkTable {
         if let Some(fault) = self.making_fault(parent) {
             return Err(fault);
         }
-        let tree = grow(alloc, &self.live, head, parent, batch)?;
+        let tree = tree_over(alloc, &self.live, head, parent, batch)?;
         let batch = batch.copy(alloc)?;
         let forked = Forked {
             id: self.made,
@@ -167,7 +167,7 @@ impl ForkTable {
     pub fn chain(&self, alloc: Global, id: u64) -> Result<BatchList, ForkFault>
         ensures chain { IfOk result (λ list. list ≡ batches (chain (forks_of self.now.live) id)) }
         ensures may { OnOk result (chain_fault id self.now ≡ None) }
-        ensures few { IfOk result (λ list. (1 ≤ length list) × (length list ≤ 1024) × (key_count list ≤ 10000)) }
+        ensures bounded { IfOk result (λ list. (1 ≤ length list) × (length list ≤ 1024) × (key_count list ≤ 10000)) }
         ensures refused { RefusedBy (chain_fault id self.now) result }
     {
         if let Some(fault) = self.chain_fault(id) {
@@ -194,7 +194,7 @@ impl ForkTable {
     }
 
     /// Drops a fork and those that stand on it. Gives how many are gone. It is refused exactly for a fork that is missing, and
-    /// then leaves the table as it was.
+    /// then leaves the table unchanged.
     pub fn drop_fork(&mut self, id: u64) -> Result<u64, ForkFault>
         ensures refused { result_err result ≡ missing id self.old }
         ensures count { IfOk result (λ n. n ≡ drop_count id (forks_of self.old.live)) }
@@ -209,8 +209,8 @@ impl ForkTable {
         Ok(drop_from(&mut self.live, 0, id))
     }
 
-    /// Lets a fork land, with its ancestors: those that stand on it stay, its children on the head. Without a fork, where
-    /// a batch landed, none stays. The fork is one that `chain` doesn't refuse, want of memory aside.
+    /// Lets a fork land, with its ancestors: those that stand on it stay, its children on the head. Without a fork, after
+    /// a batch landed, none stays. The fork is one that `chain` doesn't refuse, except for lack of memory.
     pub fn settle(&mut self, fork: Option<u64>)
         requires { IfSome fork (λ id. chain_fault id self.old ≡ None) }
         ensures none { fork ≡ None → self.new ≡ record { made = self.old.made; live = [] } }

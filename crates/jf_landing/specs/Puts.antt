@@ -5,11 +5,11 @@ use Rattle.jf_path.specs.Keys.{key_cmp}
 use Rattle.jf_hash.specs.Maps.{Batch}
 use Rattle.jf_hash.specs.Slots.{Part}
 
--- a batch's word on one key
+-- the change of one key
 abbrev pub Change : Type 0
 Change = List ℕ × Option (List ℕ)
 
--- what is put for a key, if anything, and entries behind it
+-- what is put for a key, if anything, and entries after it
 abbrev pub with_put : List ℕ → Option (List ℕ) → Part → Part
 with_put key (Some value) es = (key, value) ∷ es
 with_put key None es = es
@@ -25,11 +25,11 @@ pub record IsPlace (key : List ℕ) (bs : Batch) (r : ℕ) : Type 0 where
   pub before : (k : ℕ) (x : Change) → k < r → key_cmp (slice_index_or bs k x).0 key ≡ Less
   pub at : (x : Change) → r < length bs → ¬ (key_cmp (slice_index_or bs r x).0 key ≡ Less)
 
--- whether the first word of a batch is on the key
-abbrev pub IsNamed : List ℕ → Batch → Bool → Type 0
-IsNamed key [] b = b ≡ false
-IsNamed key (c ∷ cs) b = (b ≡ true → c.0 ≡ key) × (b ≡ false → ¬ (c.0 ≡ key))
+-- whether the first change of a batch is a change of the key
+abbrev pub IsFirstKey : List ℕ → Batch → Bool → Type 0
+IsFirstKey key [] b = b ≡ false
+IsFirstKey key (c ∷ cs) b = (b ≡ true → c.0 ≡ key) × (b ≡ false → ¬ (c.0 ≡ key))
 
--- an entry that stays unless the batch has a word on its key
-abbrev pub own_if : Bool → List ℕ → List ℕ → Part
-own_if named key value = cond named [] ((key, value) ∷ [])
+-- an entry, kept unless the batch changes its key
+abbrev pub kept_entry : Bool → List ℕ → List ℕ → Part
+kept_entry named key value = cond named [] ((key, value) ∷ [])

@@ -17,7 +17,7 @@ use std::marker::Brand;
 use std::sync::ledger::{Blank, Ledger};
 
 /// The entries of a snapshot's map from place `start` on, `count` of them, at least 1, or as many as there are, with the
-/// proof of the last one. Where no entry stands at the place, their number is answered, and no memory is taken.
+/// proof of the last one. If no entry stands at the place, their number is returned, and no memory is taken.
 pub fn prove_range(
     alloc: Global,
     snapshot: &Snapshot,
@@ -64,7 +64,7 @@ fn prove_uncounted<L: Ledger>(
     count: u64,
     blank: Blank,
 ) -> Result<(Pairs, RangeProof), RangeAsk>
-    requires some { 1 ≤ count }
+    requires positive { 1 ≤ count }
     requires name { blank.name ≡ L.name }
     requires parts { blank.parts ≡ L.parts }
     requires whole { 0 < blank.parts }

@@ -1,4 +1,4 @@
-// The versions of a store as snapshots.
+// All versions of a store, each as a snapshot.
 ghost use Rattle.std.specs.Prelude.{◌≡◌, ◌-◌, ◌^◌, ◌<◌, ◌≤◌, IfOk, IfSome, OnOk, OnErr, option_map};
 ghost use Rattle.std.specs.Option.{option_copied, SomeIff};
 ghost use Rattle.jf_hash.specs.Roots.{root};
@@ -94,8 +94,8 @@ impl SnapshotVersions {
         Some(snapshot)
     }
 
-    /// Lands a batch on the newest version, with at most this many workers. Where memory is wanting, the versions stay
-    /// as they were.
+    /// Lands a batch on the newest version, with at most this many workers. Out of memory leaves the versions
+    /// unchanged.
     pub fn land<H: Threads + Sync, G: Gate>(
         &mut self,
         rt: &H,
@@ -105,8 +105,8 @@ impl SnapshotVersions {
         gate: &G,
     ) -> Result<(), Memory>
         requires last { self.old.head < 2 ^ 64 - 2 }
-        requires some { 1 ≤ workers }
-        requires few { workers ≤ 64 }
+        requires positive { 1 ≤ workers }
+        requires bounded { workers ≤ 64 }
         ensures ok { OnOk result (self.new ≡ landed batch.now self.old) }
         ensures err { OnErr result (self.new ≡ self.old) }
     {

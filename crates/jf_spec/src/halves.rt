@@ -1,4 +1,4 @@
-// Nodes taken apart, and made: what is counted as a step.
+// Taking a node apart into its halves, and making one of two halves: each is counted as a step.
 ghost use Rattle.std.specs.Prelude.{◌≡◌, ◌+◌, ◌<◌, ◌≤◌, true, false, ◌∷◌, [], ◌++◌, length, IfOk, min};
 ghost use Rattle.jf_hash.specs.Roots.{zeros, ones};
 ghost use Rattle.jf_hash.specs.Parts.{HaveBit};
@@ -14,7 +14,7 @@ use std::alloc::Global;
 use std::sync::Arc;
 use std::sync::ledger::Ledger;
 
-// The entries of a node whose next bit is 0, and those where it is 1.
+// The entries of a node whose next bit is 0, and those whose next bit is 1.
 #[derive(Drop)]
 pub(crate) struct Halves {
     pub(crate) zeros: Node,
@@ -65,7 +65,7 @@ fn leaf_halves(depth: u64, leaf: &Arc<LeafBody, Global>) -> Result<Halves, Memor
 
 impl Node {
     // How many entries it has, up to two.
-    fn few(&self) -> u64
+    fn up_to_two(&self) -> u64
         ensures { result ≡ min 2 (length self.now.entries) }
     {
         match self.held() {
@@ -77,7 +77,7 @@ impl Node {
 
     // One entry or none, as a node of another depth.
     fn at(self, depth: u64) -> Node
-        requires few { length self.entries ≤ 1 }
+        requires lone { length self.entries ≤ 1 }
         requires depth { depth ≤ 256 }
         ensures { result ≡ record { depth = depth; entries = self.entries } }
     {
@@ -169,10 +169,10 @@ impl Node {
     {
         steps.tick();
         let Halves { zeros, ones } = halves;
-        let few_ones = ones.few();
-        if zeros.few() + few_ones >= 2 {
+        let in_ones = ones.up_to_two();
+        if zeros.up_to_two() + in_ones >= 2 {
             Node::branch(alloc, depth, zeros, ones)
-        } else if few_ones == 0 {
+        } else if in_ones == 0 {
             Ok(zeros.at(depth))
         } else {
             Ok(ones.at(depth))

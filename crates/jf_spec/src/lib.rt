@@ -1,5 +1,5 @@
-//! Speculative trees: what a batch makes of a map, in a binary tree that shares what it leaves as it was, and refers to
-//! stored nodes where no batch came.
+//! Speculative trees: what a batch makes of a map, in a binary tree that shares what it leaves unchanged, and refers
+//! to stored nodes if no batch has changed them.
 #![tactic(auto)]
 
 mod extend;

@@ -1,4 +1,4 @@
-// The nodes of speculative trees.
+// The nodes of speculative trees: a stored node, a new entry, or two new halves.
 ghost use Rattle.std.specs.Prelude.{◌≡◌, ℕ, ◌+◌, ◌<◌, ◌≤◌, true, false, [], ◌∷◌, ◌++◌, length, IfOk};
 ghost use Rattle.std.specs.Option.{option_copied};
 ghost use Rattle.std.specs.FinMap.{find};
@@ -147,7 +147,7 @@ impl Node {
         }
     }
 
-    // The value of a key, or `None` where no entry has it.
+    // The value of a key, or `None` if no entry has it.
     pub(crate) fn get(&self, key: &Key) -> Option<&[u8]>
         ensures { option_copied result ≡ find key_cmp key.now self.now.entries }
     {
