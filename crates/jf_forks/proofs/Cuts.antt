@@ -7,10 +7,10 @@ use Rattle.std.specs.FinMap as fin
 use Rattle.jf_model.specs.Forks.{Fork, of_parent, is_among, is_parent, AreForks, descends, on_head, drop_count}
 use Rattle.jf_model.specs.declared.entries.Parent.{Parent}
 use Rattle.jf_model.specs.declared.entries.Parent.TheVariants as parent
-use Rattle.jf_forks.specs.Tables.{ForkWithMap, forks_of, kept, landed}
+use Rattle.jf_forks.specs.Tables.{Grown, forks_of, kept, landed}
 use Rattle.jf_forks.specs.TableLaws.{forks_of-kept, forks_of-landed}
-use Rattle.jf_forks.specs.ChangesFrom.{ChangesFrom}
-use Rattle.jf_forks.specs.Lives.{fork_with_map}
+use Rattle.jf_forks.specs.Worked.{Worked}
+use Rattle.jf_forks.specs.Lives.{grown}
 use Rattle.jf_forks.specs.declared.live.LiveFork.{LiveFork}
 use Rattle.jf_forks.proofs.Stays.{stays_is, on_none, on_it, on_other}
 
@@ -36,7 +36,7 @@ module _ {X : Type 0} where
   length_removed (x ∷ xs) zero lt = omega arith
   length_removed (x ∷ xs) (suc i) lt = let e = length_removed xs i (omega arith) in omega arith
 
-map_removed : {X : Type 0} (h : X → ForkWithMap) (xs : List X) (i : ℕ) → map h (remove xs i) ≡ remove (map h xs) i
+map_removed : {X : Type 0} (h : X → Grown) (xs : List X) (i : ℕ) → map h (remove xs i) ≡ remove (map h xs) i
 map_removed h [] zero = refl
 map_removed h [] (suc i) = refl
 map_removed h (x ∷ xs) zero = refl
@@ -45,51 +45,51 @@ map_removed h (x ∷ xs) (suc i) = ap (λ t. h x ∷ t) (map_removed h xs i)
 -- ---- one fork more
 
 -- at the end nothing is left
-pub changes_none : (at : ℕ) (change : List ForkWithMap → List ForkWithMap) (gs : List ForkWithMap) → at ≡ length gs → change [] ≡ [] → ChangesFrom at change gs gs
-changes_none at change gs is none = record { front = refl; back = past at gs is ∙ sym none ∙ ap change (sym (past at gs is)); within = omega arith }
+pub worked_none : (at : ℕ) (work : List Grown → List Grown) (gs : List Grown) → at ≡ length gs → work [] ≡ [] → Worked at work gs gs
+worked_none at work gs is none = record { front = refl; back = past at gs is ∙ sym none ∙ ap work (sym (past at gs is)); within = omega arith }
   where
-    past : (at : ℕ) (gs : List ForkWithMap) → at ≡ length gs → drop at gs ≡ []
+    past : (at : ℕ) (gs : List Grown) → at ≡ length gs → drop at gs ≡ []
     past zero [] is = refl
     past zero (g ∷ gs) is = absurd (omega arith)
     past (suc at) [] is = refl
     past (suc at) (g ∷ gs) is = past at gs (omega arith)
 
-module _ (at : ℕ) (change : List ForkWithMap → List ForkWithMap) (old new : List ForkWithMap) (w : ChangesFrom (at + 1) change old new) where
+module _ (at : ℕ) (work : List Grown → List Grown) (old new : List Grown) (w : Worked (at + 1) work old new) where
   front_more : take at new ≡ take at old
   front_more = sym (take-take at (at + 1) new (omega arith)) ∙ ap (take at) w.front ∙ take-take at (at + 1) old (omega arith)
 
   -- the fork itself is as it was
-  pub same_fork : (d : ForkWithMap) → get_or new at d ≡ get_or old at d
+  pub same_fork : (d : Grown) → get_or new at d ≡ get_or old at d
   same_fork d = sym (get_or-take (at + 1) new at d (omega arith)) ∙ ap (λ xs. get_or xs at d) w.front ∙ get_or-take (at + 1) old at d (omega arith)
 
   long : at < length new
   long = let e = w.within in omega arith
 
   -- it stays
-  pub worked_stays : (d : ForkWithMap) → at < length old → change (get_or old at d ∷ drop (at + 1) old) ≡ get_or old at d ∷ change (drop (at + 1) old) → ChangesFrom at change old new
+  pub worked_stays : (d : Grown) → at < length old → work (get_or old at d ∷ drop (at + 1) old) ≡ get_or old at d ∷ work (drop (at + 1) old) → Worked at work old new
   worked_stays d lt is = record {
     front = front_more;
-    back = drop_more new at d long ∙ ap₂ (λ g gs. g ∷ gs) (same_fork d) w.back ∙ sym is ∙ ap change (sym (drop_more old at d lt));
+    back = drop_more new at d long ∙ ap₂ (λ g gs. g ∷ gs) (same_fork d) w.back ∙ sym is ∙ ap work (sym (drop_more old at d lt));
     within = let e = long in omega arith;
   }
 
   -- it goes
-  pub worked_goes : (d : ForkWithMap) → at < length old → change (get_or old at d ∷ drop (at + 1) old) ≡ change (drop (at + 1) old) → ChangesFrom at change old (remove new at)
+  pub worked_goes : (d : Grown) → at < length old → work (get_or old at d ∷ drop (at + 1) old) ≡ work (drop (at + 1) old) → Worked at work old (remove new at)
   worked_goes d lt is = record {
     front = take_removed new at ∙ front_more;
-    back = drop_removed new at long ∙ w.back ∙ sym is ∙ ap change (sym (drop_more old at d lt));
+    back = drop_removed new at long ∙ w.back ∙ sym is ∙ ap work (sym (drop_more old at d lt));
     within = length_removed new at long;
   }
 
   -- it stays as another one
-  pub worked_set : (d g : ForkWithMap) → at < length old → change (get_or old at d ∷ drop (at + 1) old) ≡ g ∷ change (drop (at + 1) old) → ChangesFrom at change old (set new at g)
+  pub worked_set : (d g : Grown) → at < length old → work (get_or old at d ∷ drop (at + 1) old) ≡ g ∷ work (drop (at + 1) old) → Worked at work old (set new at g)
   worked_set d g lt is = record {
     front = take-set new at g ∙ front_more;
-    back = drop-set new at g long ∙ ap (λ gs. g ∷ gs) w.back ∙ sym is ∙ ap change (sym (drop_more old at d lt));
+    back = drop-set new at g long ∙ ap (λ gs. g ∷ gs) w.back ∙ sym is ∙ ap work (sym (drop_more old at d lt));
     within = let e = long in omega (arith, long_set new at g);
   }
     where
-      long_set : (gs : List ForkWithMap) (i : ℕ) (g : ForkWithMap) → length (set gs i g) ≡ length gs
+      long_set : (gs : List Grown) (i : ℕ) (g : Grown) → length (set gs i g) ≡ length gs
       long_set [] i g = refl
       long_set (h ∷ gs) zero g = refl
       long_set (h ∷ gs) (suc i) g = ap suc (long_set gs i g)
@@ -100,11 +100,11 @@ pub length_map : {X Y : Type 0} (h : X → Y) (xs : List X) → length (map h xs
 length_map h [] = refl
 length_map h (x ∷ xs) = ap suc (length_map h xs)
 
-no_fork : ForkWithMap
+no_fork : Grown
 no_fork = record { fork = record { id = 0; parent = parent.Head; batch = [] }; map = fin.empty }
 
 -- they are forks too
-pub forks_behind : (at bound : ℕ) (gs : List ForkWithMap) → at < length gs → AreForks bound (forks_of (drop at gs)) → (b : ℕ) × AreForks b (forks_of (drop (at + 1) gs))
+pub forks_behind : (at bound : ℕ) (gs : List Grown) → at < length gs → AreForks bound (forks_of (drop at gs)) → (b : ℕ) × AreForks b (forks_of (drop (at + 1) gs))
 forks_behind at bound gs lt sound =
     let h : AreForks bound (forks_of (get_or gs at no_fork ∷ drop (at + 1) gs)) = subst (λ hs. AreForks bound (forks_of hs)) (drop_more gs at no_fork lt) sound in
     (_, h.2)
@@ -116,7 +116,7 @@ drop_count-few id (f ∷ fs) =
     elim (f.id == id || descends id fs f) as (λ b. cond b (1 + drop_count id fs) (drop_count id fs) ≤ length (f ∷ fs)) [ true ↦ omega arith | false ↦ omega arith ]
 
 -- there is room for one more
-pub count_room : (at id n : ℕ) (gs : List ForkWithMap) → at < length gs → n ≡ drop_count id (forks_of (drop (at + 1) gs)) → n + 1 ≤ length gs
+pub count_room : (at id n : ℕ) (gs : List Grown) → at < length gs → n ≡ drop_count id (forks_of (drop (at + 1) gs)) → n + 1 ≤ length gs
 count_room at id n gs within is = omega (arith, is, drop_count-few id (forks_of (drop (at + 1) gs)), length_map (λ g. g.fork) (drop (at + 1) gs), length-drop (at + 1) gs)
 
 any_default : (ls : List LiveFork) (i : ℕ) (d e : LiveFork) → i < length ls → get_or ls i d ≡ get_or ls i e
@@ -124,61 +124,61 @@ any_default [] i d e lt = absurd (omega arith)
 any_default (l ∷ ls) zero d e lt = refl
 any_default (l ∷ ls) (suc i) d e lt = any_default ls i d e (omega arith)
 
-module _ (at id bound : ℕ) (xs ys : List LiveFork) (x : LiveFork) (change : List ForkWithMap → List ForkWithMap) (w : ChangesFrom (at + 1) change (map fork_with_map xs) (map fork_with_map ys)) (lt : at < length xs) (is : x ≡ get_or ys at x) (sound : AreForks bound (forks_of (drop at (map fork_with_map xs)))) where
-  rest : List ForkWithMap
-  rest = drop (at + 1) (map fork_with_map xs)
+module _ (at id bound : ℕ) (xs ys : List LiveFork) (x : LiveFork) (work : List Grown → List Grown) (w : Worked (at + 1) work (map grown xs) (map grown ys)) (lt : at < length xs) (is : x ≡ get_or ys at x) (sound : AreForks bound (forks_of (drop at (map grown xs)))) where
+  rest : List Grown
+  rest = drop (at + 1) (map grown xs)
 
-  within : at < length (map fork_with_map xs)
-  within = omega (arith, lt, length_map fork_with_map xs)
+  within : at < length (map grown xs)
+  within = omega (arith, lt, length_map grown xs)
 
-  pub same_here : get_or (map fork_with_map xs) at (fork_with_map x) ≡ fork_with_map x
-  same_here = sym (same_fork at change (map fork_with_map xs) (map fork_with_map ys) w (fork_with_map x)) ∙ get_or_mapped ys at ∙ ap fork_with_map (sym is)
+  pub same_here : get_or (map grown xs) at (grown x) ≡ grown x
+  same_here = sym (same_fork at work (map grown xs) (map grown ys) w (grown x)) ∙ get_or_mapped ys at ∙ ap grown (sym is)
     where
-      get_or_mapped : (ls : List LiveFork) (i : ℕ) → get_or (map fork_with_map ls) i (fork_with_map x) ≡ fork_with_map (get_or ls i x)
+      get_or_mapped : (ls : List LiveFork) (i : ℕ) → get_or (map grown ls) i (grown x) ≡ grown (get_or ls i x)
       get_or_mapped [] zero = refl
       get_or_mapped [] (suc i) = refl
       get_or_mapped (l ∷ ls) zero = refl
       get_or_mapped (l ∷ ls) (suc i) = get_or_mapped ls i
 
-  pub here : drop at (map fork_with_map xs) ≡ fork_with_map x ∷ drop (at + 1) (map fork_with_map xs)
-  here = drop_more (map fork_with_map xs) at (fork_with_map x) within ∙ ap (λ g. g ∷ drop (at + 1) (map fork_with_map xs)) same_here
+  pub here : drop at (map grown xs) ≡ grown x ∷ drop (at + 1) (map grown xs)
+  here = drop_more (map grown xs) at (grown x) within ∙ ap (λ g. g ∷ drop (at + 1) (map grown xs)) same_here
 
-  pub forks_here : AreForks bound ((fork_with_map x).fork ∷ forks_of (drop (at + 1) (map fork_with_map xs)))
+  pub forks_here : AreForks bound ((grown x).fork ∷ forks_of (drop (at + 1) (map grown xs)))
   forks_here = subst (λ gs. AreForks bound (forks_of gs)) here sound
 
   -- those behind it are worked
-  pub behind : map fork_with_map (take (length ys - (at + 1)) (drop (at + 1) ys)) ≡ change (drop (at + 1) (map fork_with_map xs))
-  behind = ap (map fork_with_map) (take_all (length ys - (at + 1)) (drop (at + 1) ys) (omega (arith, length-drop (at + 1) ys))) ∙ sym (drop-map fork_with_map (at + 1) ys) ∙ w.back
+  pub behind : map grown (take (length ys - (at + 1)) (drop (at + 1) ys)) ≡ work (drop (at + 1) (map grown xs))
+  behind = ap (map grown) (take_all (length ys - (at + 1)) (drop (at + 1) ys) (omega (arith, length-drop (at + 1) ys))) ∙ sym (drop-map grown (at + 1) ys) ∙ w.back
 
   -- and are forks
-  pub behind_forks : (zs : List LiveFork) → zs ≡ ys → (b : ℕ) → AreForks b (forks_of (change (drop (at + 1) (map fork_with_map xs)))) → AreForks b (forks_of (map fork_with_map (take (length zs - (at + 1)) (drop (at + 1) zs))))
-  behind_forks zs same b h = subst (λ gs. AreForks b (forks_of gs)) (sym (ap (λ ls. map fork_with_map (take (length ls - (at + 1)) (drop (at + 1) ls))) same ∙ behind)) h
+  pub behind_forks : (zs : List LiveFork) → zs ≡ ys → (b : ℕ) → AreForks b (forks_of (work (drop (at + 1) (map grown xs)))) → AreForks b (forks_of (map grown (take (length zs - (at + 1)) (drop (at + 1) zs))))
+  behind_forks zs same b h = subst (λ gs. AreForks b (forks_of gs)) (sym (ap (λ ls. map grown (take (length ls - (at + 1)) (drop (at + 1) ls))) same ∙ behind)) h
 
   -- what is tested of a fork and those behind it
-  pub tested : (t : Bool) (p : Parent) (zs : List LiveFork) → zs ≡ ys → t ≡ (not (x.id == id) && is_parent p (forks_of (map fork_with_map (take (length zs - (at + 1)) (drop (at + 1) zs))))) → t ≡ (not (x.id == id) && is_parent p (forks_of (change (drop (at + 1) (map fork_with_map xs)))))
+  pub tested : (t : Bool) (p : Parent) (zs : List LiveFork) → zs ≡ ys → t ≡ (not (x.id == id) && is_parent p (forks_of (map grown (take (length zs - (at + 1)) (drop (at + 1) zs))))) → t ≡ (not (x.id == id) && is_parent p (forks_of (work (drop (at + 1) (map grown xs)))))
   tested t p zs same h =
-      h ∙ ap (λ ls. not (x.id == id) && is_parent p (forks_of (map fork_with_map (take (length ls - (at + 1)) (drop (at + 1) ls))))) same ∙ ap (λ gs. not (x.id == id) && is_parent p (forks_of gs)) behind
+      h ∙ ap (λ ls. not (x.id == id) && is_parent p (forks_of (map grown (take (length ls - (at + 1)) (drop (at + 1) ls))))) same ∙ ap (λ gs. not (x.id == id) && is_parent p (forks_of gs)) behind
 
-  pub looked_up : (t : Bool) (q : ℕ) (zs : List LiveFork) → zs ≡ ys → t ≡ is_among q (forks_of (map fork_with_map (take (length zs - (at + 1)) (drop (at + 1) zs)))) → t ≡ is_among q (forks_of (change (drop (at + 1) (map fork_with_map xs))))
+  pub looked_up : (t : Bool) (q : ℕ) (zs : List LiveFork) → zs ≡ ys → t ≡ is_among q (forks_of (map grown (take (length zs - (at + 1)) (drop (at + 1) zs)))) → t ≡ is_among q (forks_of (work (drop (at + 1) (map grown xs))))
   looked_up t q zs same h =
-      h ∙ ap (λ ls. is_among q (forks_of (map fork_with_map (take (length ls - (at + 1)) (drop (at + 1) ls))))) same ∙ ap (λ gs. is_among q (forks_of gs)) behind
+      h ∙ ap (λ ls. is_among q (forks_of (map grown (take (length ls - (at + 1)) (drop (at + 1) ls))))) same ∙ ap (λ gs. is_among q (forks_of gs)) behind
 
   -- the fork, however it was looked at
   pub same_item : (m : LiveFork) → m ≡ get_or ys at m → m ≡ x
-  same_item m h = h ∙ any_default ys at m x (let e = w.within in omega (arith, length_map fork_with_map ys)) ∙ sym is
+  same_item m h = h ∙ any_default ys at m x (let e = w.within in omega (arith, length_map grown ys)) ∙ sym is
 
-  pub stays_worked : change (fork_with_map x ∷ drop (at + 1) (map fork_with_map xs)) ≡ fork_with_map x ∷ change (drop (at + 1) (map fork_with_map xs)) → ChangesFrom at change (map fork_with_map xs) (map fork_with_map ys)
-  stays_worked h = worked_stays at change (map fork_with_map xs) (map fork_with_map ys) w (fork_with_map x) within (ap (λ g. change (g ∷ drop (at + 1) (map fork_with_map xs))) same_here ∙ h ∙ ap (λ g. g ∷ change (drop (at + 1) (map fork_with_map xs))) (sym same_here))
+  pub stays_worked : work (grown x ∷ drop (at + 1) (map grown xs)) ≡ grown x ∷ work (drop (at + 1) (map grown xs)) → Worked at work (map grown xs) (map grown ys)
+  stays_worked h = worked_stays at work (map grown xs) (map grown ys) w (grown x) within (ap (λ g. work (g ∷ drop (at + 1) (map grown xs))) same_here ∙ h ∙ ap (λ g. g ∷ work (drop (at + 1) (map grown xs))) (sym same_here))
 
-  pub goes_worked : change (fork_with_map x ∷ drop (at + 1) (map fork_with_map xs)) ≡ change (drop (at + 1) (map fork_with_map xs)) → ChangesFrom at change (map fork_with_map xs) (map fork_with_map (remove ys at))
-  goes_worked h = subst (ChangesFrom at change (map fork_with_map xs)) (sym (map_removed fork_with_map ys at)) (worked_goes at change (map fork_with_map xs) (map fork_with_map ys) w (fork_with_map x) within (ap (λ g. change (g ∷ drop (at + 1) (map fork_with_map xs))) same_here ∙ h))
+  pub goes_worked : work (grown x ∷ drop (at + 1) (map grown xs)) ≡ work (drop (at + 1) (map grown xs)) → Worked at work (map grown xs) (map grown (remove ys at))
+  goes_worked h = subst (Worked at work (map grown xs)) (sym (map_removed grown ys at)) (worked_goes at work (map grown xs) (map grown ys) w (grown x) within (ap (λ g. work (g ∷ drop (at + 1) (map grown xs))) same_here ∙ h))
 
-  pub set_worked : (y : LiveFork) → change (fork_with_map x ∷ drop (at + 1) (map fork_with_map xs)) ≡ fork_with_map y ∷ change (drop (at + 1) (map fork_with_map xs)) → ChangesFrom at change (map fork_with_map xs) (map fork_with_map (set ys at y))
-  set_worked y h = subst (ChangesFrom at change (map fork_with_map xs)) (sym (map-set fork_with_map ys at y)) (worked_set at change (map fork_with_map xs) (map fork_with_map ys) w (fork_with_map x) (fork_with_map y) within (ap (λ g. change (g ∷ drop (at + 1) (map fork_with_map xs))) same_here ∙ h))
+  pub set_worked : (y : LiveFork) → work (grown x ∷ drop (at + 1) (map grown xs)) ≡ grown y ∷ work (drop (at + 1) (map grown xs)) → Worked at work (map grown xs) (map grown (set ys at y))
+  set_worked y h = subst (Worked at work (map grown xs)) (sym (map-set grown ys at y)) (worked_set at work (map grown xs) (map grown ys) w (grown x) (grown y) within (ap (λ g. work (g ∷ drop (at + 1) (map grown xs))) same_here ∙ h))
 
 -- ---- one fork when id is dropped
 
-module _ (id : ℕ) (g : ForkWithMap) (gs : List ForkWithMap) (bound : ℕ) (sound : AreForks bound (g.fork ∷ forks_of gs)) (t : Bool) (test : t ≡ (not (g.fork.id == id) && is_parent g.fork.parent (forks_of (kept id gs)))) where
+module _ (id : ℕ) (g : Grown) (gs : List Grown) (bound : ℕ) (sound : AreForks bound (g.fork ∷ forks_of gs)) (t : Bool) (test : t ≡ (not (g.fork.id == id) && is_parent g.fork.parent (forks_of (kept id gs)))) where
   goes_is : (g.fork.id == id || descends id (forks_of gs) g.fork) ≡ not t
   goes_is =
       stays_is g.fork.id id g.fork (forks_of gs) sound.2 sound.1
@@ -198,11 +198,11 @@ module _ (id : ℕ) (g : ForkWithMap) (gs : List ForkWithMap) (bound : ℕ) (sou
 
 -- ---- one fork when id has landed
 
-module _ (id : ℕ) (g : ForkWithMap) (gs : List ForkWithMap) (bound : ℕ) (sound : AreForks bound (g.fork ∷ forks_of gs)) where
+module _ (id : ℕ) (g : Grown) (gs : List Grown) (bound : ℕ) (sound : AreForks bound (g.fork ∷ forks_of gs)) where
   pub landed_head : g.fork.parent ≡ parent.Head → landed id (g ∷ gs) ≡ landed id gs
   landed_head is = ap (λ b. cond b (record { fork = on_head id g.fork; map = g.map } ∷ landed id gs) (landed id gs)) (on_none id g.fork (forks_of gs) is)
 
-  pub landed_child : (q : ℕ) (h : ForkWithMap) → g.fork.parent ≡ parent.Fork q → q ≡ id → h ≡ record { fork = record { id = g.fork.id; parent = parent.Head; batch = g.fork.batch }; map = g.map } → landed id (g ∷ gs) ≡ h ∷ landed id gs
+  pub landed_child : (q : ℕ) (h : Grown) → g.fork.parent ≡ parent.Fork q → q ≡ id → h ≡ record { fork = record { id = g.fork.id; parent = parent.Head; batch = g.fork.batch }; map = g.map } → landed id (g ∷ gs) ≡ h ∷ landed id gs
   landed_child q h is same new =
       ap (λ b. cond b (record { fork = on_head id g.fork; map = g.map } ∷ landed id gs) (landed id gs)) (on_it id q g.fork (forks_of gs) is same sound.1)
       ∙ ap (λ p. record { fork = record { id = g.fork.id; parent = p; batch = g.fork.batch }; map = g.map } ∷ landed id gs)
@@ -222,5 +222,5 @@ module _ (id : ℕ) (g : ForkWithMap) (gs : List ForkWithMap) (bound : ℕ) (sou
   landed_goes q is other none = ap (λ b. cond b (record { fork = on_head id g.fork; map = g.map } ∷ landed id gs) (landed id gs)) (stands_is q is other ∙ none)
 
 -- a fork, with the head as its parent
-abbrev pub head_of : LiveFork → ForkWithMap
+abbrev pub head_of : LiveFork → Grown
 head_of f = record { fork = record { id = f.id; parent = parent.Head; batch = f.batch }; map = f.tree }

@@ -2,4 +2,4 @@ pub mod Tables
 pub mod ForkLists
 pub mod TableLaws
 pub mod Lives
-pub mod ChangesFrom
+pub mod Worked

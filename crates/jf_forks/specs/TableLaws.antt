@@ -8,10 +8,10 @@ use Rattle.jf_model.specs.ForkLaws.{chain-without, fork_map-settled}
 use Rattle.jf_model.specs.declared.entries.Parent.{Parent}
 use Rattle.jf_model.specs.declared.entries.Parent.TheVariants as parent
 use Rattle.jf_forks.specs.ForkLists.{or_false_right, none_above, below_parent, chain-among}
-use Rattle.jf_forks.specs.Tables.{ForkWithMap, AreForksWithMaps, forks_of, map_of, kept, landed}
+use Rattle.jf_forks.specs.Tables.{Grown, AreGrown, forks_of, map_of, kept, landed}
 
 -- the forks that stay are those of the definition
-pub forks_of-kept : (id : ℕ) (gs : List ForkWithMap) → forks_of (kept id gs) ≡ without id (forks_of gs)
+pub forks_of-kept : (id : ℕ) (gs : List Grown) → forks_of (kept id gs) ≡ without id (forks_of gs)
 forks_of-kept id [] = refl
 forks_of-kept id (g ∷ gs) =
     elim (g.fork.id == id || descends id (forks_of gs) g.fork) as (λ b. forks_of (cond b (kept id gs) (g ∷ kept id gs)) ≡ cond b (without id (forks_of gs)) (g.fork ∷ without id (forks_of gs))) [
@@ -19,7 +19,7 @@ forks_of-kept id (g ∷ gs) =
       | false ↦ ap (λ fs. g.fork ∷ fs) (forks_of-kept id gs)
     ]
 
-pub forks_of-landed : (id : ℕ) (gs : List ForkWithMap) → forks_of (landed id gs) ≡ settled id (forks_of gs)
+pub forks_of-landed : (id : ℕ) (gs : List Grown) → forks_of (landed id gs) ≡ settled id (forks_of gs)
 forks_of-landed id [] = refl
 forks_of-landed id (g ∷ gs) =
     elim (descends id (forks_of gs) g.fork) as (λ b. forks_of (cond b (record { fork = on_head id g.fork; map = g.map } ∷ landed id gs) (landed id gs)) ≡ cond b (on_head id g.fork ∷ settled id (forks_of gs)) (settled id (forks_of gs))) [
@@ -37,14 +37,14 @@ parent_map-kept m id fs (parent.Fork q) h = ap (λ c. fork_map_of c) (chain-with
     fork_map_of c = apply_all m (batches c)
 
 -- those that stay keep their maps
-pub AreForksWithMaps-kept : (m : Map) (id : ℕ) (gs : List ForkWithMap) → AreForksWithMaps m gs → AreForksWithMaps m (kept id gs)
-AreForksWithMaps-kept m id [] h = tt
-AreForksWithMaps-kept m id (g ∷ gs) h =
-    elim (g.fork.id == id || descends id (forks_of gs) g.fork) as (λ b. (g.fork.id == id || descends id (forks_of gs) g.fork) ≡ b → AreForksWithMaps m (cond b (kept id gs) (g ∷ kept id gs))) [
-      | true ↦ λ is. AreForksWithMaps-kept m id gs h.1
+pub AreGrown-kept : (m : Map) (id : ℕ) (gs : List Grown) → AreGrown m gs → AreGrown m (kept id gs)
+AreGrown-kept m id [] h = tt
+AreGrown-kept m id (g ∷ gs) h =
+    elim (g.fork.id == id || descends id (forks_of gs) g.fork) as (λ b. (g.fork.id == id || descends id (forks_of gs) g.fork) ≡ b → AreGrown m (cond b (kept id gs) (g ∷ kept id gs))) [
+      | true ↦ λ is. AreGrown-kept m id gs h.1
       | false ↦ λ is. (
         h.0 ∙ ap (λ n. apply n g.fork.batch) (sym (ap (λ fs. parent_map m fs g.fork.parent) (forks_of-kept id gs) ∙ parent_map-kept m id (forks_of gs) g.fork.parent (or_false_right (g.fork.id == id) _ is))),
-        AreForksWithMaps-kept m id gs h.1,
+        AreGrown-kept m id gs h.1,
       )
     ] refl
 
@@ -60,27 +60,27 @@ parent_map-landed m n bound id fs (parent.Fork q) sound h is =
       | false ↦ λ apart. ap (λ k. fork_map k (settled id fs) q) is ∙ fork_map-settled m bound id fs sound q h apart
     ] refl
 
-pub AreForksWithMaps-landed : (m n : Map) (bound id : ℕ) (gs : List ForkWithMap) → AreForks bound (forks_of gs) → AreForksWithMaps m gs → (is_among id (forks_of gs) ≡ true → n ≡ fork_map m (forks_of gs) id) → AreForksWithMaps n (landed id gs)
-AreForksWithMaps-landed m n bound id [] sound h is = tt
-AreForksWithMaps-landed m n bound id (g ∷ gs) sound h is =
+pub AreGrown-landed : (m n : Map) (bound id : ℕ) (gs : List Grown) → AreForks bound (forks_of gs) → AreGrown m gs → (is_among id (forks_of gs) ≡ true → n ≡ fork_map m (forks_of gs) id) → AreGrown n (landed id gs)
+AreGrown-landed m n bound id [] sound h is = tt
+AreGrown-landed m n bound id (g ∷ gs) sound h is =
     let older : is_among id (forks_of gs) ≡ true → n ≡ fork_map m (forks_of gs) id = λ among.
     let other : (g.fork.id == id) ≡ false = ne_eqb g.fork.id id (λ same. true≢false (sym among ∙ none_above g.fork.id id (forks_of gs) sound.2 (subst (λ k. g.fork.id ≤ k) same (le_refl g.fork.id)))) in
     is (ap (λ b. b || is_among id (forks_of gs)) other ∙ among) ∙ fork_map-older m g.fork (forks_of gs) id other in
-    elim (descends id (forks_of gs) g.fork) as (λ b. descends id (forks_of gs) g.fork ≡ b → AreForksWithMaps n (cond b (record { fork = on_head id g.fork; map = g.map } ∷ landed id gs) (landed id gs))) [
+    elim (descends id (forks_of gs) g.fork) as (λ b. descends id (forks_of gs) g.fork ≡ b → AreGrown n (cond b (record { fork = on_head id g.fork; map = g.map } ∷ landed id gs) (landed id gs))) [
       | true ↦ λ stands. (
         h.0
             ∙ ap (λ k. apply k g.fork.batch)
             (sym (ap (λ fs. parent_map n fs (on_head id g.fork).parent) (forks_of-landed id gs)
             ∙ parent_map-landed m n g.fork.id id (forks_of gs) g.fork.parent sound.2 stands (older (below_parent id (forks_of gs) (chain-among id (forks_of gs)) g.fork.parent stands)))),
-        AreForksWithMaps-landed m n g.fork.id id gs sound.2 h.1 older,
+        AreGrown-landed m n g.fork.id id gs sound.2 h.1 older,
       )
-      | false ↦ λ gone. AreForksWithMaps-landed m n g.fork.id id gs sound.2 h.1 older
+      | false ↦ λ gone. AreGrown-landed m n g.fork.id id gs sound.2 h.1 older
     ] refl
 
 -- ---- the maps in the table
 
 -- what isn't older than itself
-apart_from_older : (y : ℕ) (g : ForkWithMap) (gs : List ForkWithMap) → AreForks g.fork.id (forks_of gs) → is_among y (forks_of gs) ≡ true → (g.fork.id == y) ≡ false
+apart_from_older : (y : ℕ) (g : Grown) (gs : List Grown) → AreForks g.fork.id (forks_of gs) → is_among y (forks_of gs) ≡ true → (g.fork.id == y) ≡ false
 apart_from_older y g gs sound among =
     ne_eqb g.fork.id y (λ same. true≢false (sym among ∙ none_above g.fork.id y (forks_of gs) sound (subst (λ k. g.fork.id ≤ k) same (le_refl g.fork.id))))
 
@@ -88,7 +88,7 @@ among_more : (a b : Bool) → b ≡ true → (a || b) ≡ true
 among_more true b h = refl
 among_more false b h = h
 
-among-kept : (id y : ℕ) (gs : List ForkWithMap) → is_among y (forks_of (kept id gs)) ≡ true → is_among y (forks_of gs) ≡ true
+among-kept : (id y : ℕ) (gs : List Grown) → is_among y (forks_of (kept id gs)) ≡ true → is_among y (forks_of gs) ≡ true
 among-kept id y [] = λ h. h
 among-kept id y (g ∷ gs) =
     elim (g.fork.id == id || descends id (forks_of gs) g.fork) as (λ b. is_among y (forks_of (cond b (kept id gs) (g ∷ kept id gs))) ≡ true → is_among y (forks_of (g ∷ gs)) ≡ true) [
@@ -96,7 +96,7 @@ among-kept id y (g ∷ gs) =
       | false ↦ elim (g.fork.id == y) as (λ b. (b || is_among y (forks_of (kept id gs))) ≡ true → (b || is_among y (forks_of gs)) ≡ true) [ true ↦ λ h. refl | false ↦ λ h. among-kept id y gs h ]
     ]
 
-among-landed : (id y : ℕ) (gs : List ForkWithMap) → is_among y (forks_of (landed id gs)) ≡ true → is_among y (forks_of gs) ≡ true
+among-landed : (id y : ℕ) (gs : List Grown) → is_among y (forks_of (landed id gs)) ≡ true → is_among y (forks_of gs) ≡ true
 among-landed id y [] = λ h. h
 among-landed id y (g ∷ gs) =
     elim (descends id (forks_of gs) g.fork) as (λ b. is_among y (forks_of (cond b (record { fork = on_head id g.fork; map = g.map } ∷ landed id gs) (landed id gs))) ≡ true → is_among y (forks_of (g ∷ gs)) ≡ true) [
@@ -105,7 +105,7 @@ among-landed id y (g ∷ gs) =
     ]
 
 -- each fork that stays when one is dropped has the map that it had
-pub map_of-kept : (bound id y : ℕ) (gs : List ForkWithMap) → AreForks bound (forks_of gs) → is_among y (forks_of (kept id gs)) ≡ true → map_of y (kept id gs) ≡ map_of y gs
+pub map_of-kept : (bound id y : ℕ) (gs : List Grown) → AreForks bound (forks_of gs) → is_among y (forks_of (kept id gs)) ≡ true → map_of y (kept id gs) ≡ map_of y gs
 map_of-kept bound id y [] sound = λ h. refl
 map_of-kept bound id y (g ∷ gs) sound =
     let older = map_of-kept g.fork.id id y gs sound.2 in
@@ -115,11 +115,11 @@ map_of-kept bound id y (g ∷ gs) sound =
     ]
 
 -- and so has each that stays when one has landed
-pub map_of-landed : (bound id y : ℕ) (gs : List ForkWithMap) → AreForks bound (forks_of gs) → is_among y (forks_of (landed id gs)) ≡ true → map_of y (landed id gs) ≡ map_of y gs
+pub map_of-landed : (bound id y : ℕ) (gs : List Grown) → AreForks bound (forks_of gs) → is_among y (forks_of (landed id gs)) ≡ true → map_of y (landed id gs) ≡ map_of y gs
 map_of-landed bound id y [] sound = λ h. refl
 map_of-landed bound id y (g ∷ gs) sound =
     let older = map_of-landed g.fork.id id y gs sound.2 in
-    let there : ForkWithMap = record { fork = on_head id g.fork; map = g.map } in
+    let there : Grown = record { fork = on_head id g.fork; map = g.map } in
     elim (descends id (forks_of gs) g.fork) as (λ b. is_among y (forks_of (cond b (there ∷ landed id gs) (landed id gs))) ≡ true → map_of y (cond b (there ∷ landed id gs) (landed id gs)) ≡ map_of y (g ∷ gs)) [
       | true ↦ elim (g.fork.id == y) as (λ b. (b || is_among y (forks_of (landed id gs))) ≡ true → cond b (Some g.map) (map_of y (landed id gs)) ≡ cond b (Some g.map) (map_of y gs)) [ true ↦ λ h. refl | false ↦ λ h. older h ]
       | false ↦ λ h. older h ∙ ap (λ b. cond b (Some g.map) (map_of y gs)) (sym (apart_from_older y g gs sound.2 (among-landed id y gs h)))

@@ -51,11 +51,11 @@ inner_below x n links c shows is =
       versions = λ p. ap (version_among (n ∷ p)) shows.versions ∙ version-below n p x.version links ∙ ap (version_at p) (sym is);
     }
 
-pub no_child_at : (x : LinkValue) (n k : ℕ) (r : Option (Bor LinkValue)) → IsBelow x n (option_copied r) → r ≡ None → n ≡ k → child_entries x.depth k x.entries ≡ []
-no_child_at x n k r is none at = ap (λ m. child_entries x.depth m x.entries) (sym at) ∙ sym is.entries ∙ ap (λ o. content (option_copied o)) none
+pub child_entries_none : (x : LinkValue) (n k : ℕ) (r : Option (Bor LinkValue)) → IsBelow x n (option_copied r) → r ≡ None → n ≡ k → child_entries x.depth k x.entries ≡ []
+child_entries_none x n k r is none at = ap (λ m. child_entries x.depth m x.entries) (sym at) ∙ sym is.entries ∙ ap (λ o. content (option_copied o)) none
 
-pub child_at_nibble : (x : LinkValue) (n k : ℕ) (r : Option (Bor LinkValue)) (c : Bor LinkValue) → IsBelow x n (option_copied r) → r ≡ Some c → n ≡ k → IsBelow x k (Some c.now)
-child_at_nibble x n k r c is some at = subst (λ m. IsBelow x m (Some c.now)) at (subst (λ o. IsBelow x n (option_copied o)) some is)
+pub child_entries_some : (x : LinkValue) (n k : ℕ) (r : Option (Bor LinkValue)) (c : Bor LinkValue) → IsBelow x n (option_copied r) → r ≡ Some c → n ≡ k → IsBelow x k (Some c.now)
+child_entries_some x n k r c is some at = subst (λ m. IsBelow x m (Some c.now)) at (subst (λ o. IsBelow x n (option_copied o)) some is)
 
 -- ---- one step of a walk
 

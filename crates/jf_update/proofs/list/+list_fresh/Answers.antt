@@ -7,7 +7,7 @@ use Rattle.jf_landing.specs.WalkLaws.{listed-same, listed-node, listed_to-none, 
 use Rattle.jf_update.specs.Below.{IsBelow}
 use Rattle.jf_update.specs.Plains.{fresh_below}
 use Rattle.jf_update.proofs.PlainNodes.{plain-child}
-use Rattle.jf_update.proofs.Walks.{is_new, is_old, small_of, child_over, no_child_at, child_at_nibble, top_rises, child_rises}
+use Rattle.jf_update.proofs.Walks.{is_new, is_old, small_of, child_over, child_entries_none, child_entries_some, top_rises, child_rises}
 use Rattle.jf_update.proofs.list.+list_fresh.Goals as goal
 use Rattle.jf_update.proofs.list.+list_fresh.Goals.{in-Some+in_ok-list_fresh, in_default}
 
@@ -33,7 +33,7 @@ loop-n-init t c es before over =
 pub list_fresh-requires : goal.list_fresh-requires
 list_fresh-requires t c =
     let x = c.args.link.now in
-    let below : IsBelow x c.loop-n.n (Some c.in-Some.child.now) = child_at_nibble x c.of-nibble.result c.loop-n.n c.child_of.result c.in-Some.child c.child_of.ensures c.in-Some.is c.of-nibble.ensures in
+    let below : IsBelow x c.loop-n.n (Some c.in-Some.child.now) = child_entries_some x c.of-nibble.result c.loop-n.n c.child_of.result c.in-Some.child c.child_of.ensures c.in-Some.is c.of-nibble.ensures in
     let longer = c.child.ensures ∙ ap (λ n. c.args.path.now ++ n ∷ []) c.of-nibble.ensures in
     let deeper : c.in-Some.child.now.depth ≡ x.depth + 1 = below.placed.1 in (
       search rules,
@@ -49,7 +49,7 @@ loop-n-preserved t c es before over = elim c.match-child_of.branch [
       let x = c.args.link.now in
       let f = fresh_below c.args.version c.args.path.now x in
       let g = fresh_below c.args.version w.child.result w.in-Some.child.now in
-      let below : IsBelow x c.loop-n.n (Some w.in-Some.child.now) = child_at_nibble x c.of-nibble.result c.loop-n.n c.child_of.result w.in-Some.child c.child_of.ensures w.in-Some.is c.of-nibble.ensures in
+      let below : IsBelow x c.loop-n.n (Some w.in-Some.child.now) = child_entries_some x c.of-nibble.result c.loop-n.n c.child_of.result w.in-Some.child c.child_of.ensures w.in-Some.is c.of-nibble.ensures in
       let longer = w.child.ensures ∙ ap (λ n. c.args.path.now ++ n ∷ []) c.of-nibble.ensures in
       w.out-is
       ∙ listed_to-child x.depth c.loop-n.n w.in-Some.child.now.depth es (child_entries x.depth c.loop-n.n es) x.entries w.in-Some.child.now.entries f g c.args.out.now c.loop-n.out _ (c.loop-n.invariant es before over)
@@ -59,7 +59,7 @@ loop-n-preserved t c es before over = elim c.match-child_of.branch [
   | in_default w ↦
       let x = c.args.link.now in
       w.out-is ∙ c.loop-n.invariant es before over
-      ∙ ap (λ l. c.args.out.now ++ l) (sym (listed_to-past x.depth c.loop-n.n es x.entries (fresh_below c.args.version c.args.path.now x) (no_child_at x c.of-nibble.result c.loop-n.n c.child_of.result c.child_of.ensures w.in_default.is c.of-nibble.ensures)))
+      ∙ ap (λ l. c.args.out.now ++ l) (sym (listed_to-past x.depth c.loop-n.n es x.entries (fresh_below c.args.version c.args.path.now x) (child_entries_none x c.of-nibble.result c.loop-n.n c.child_of.result c.child_of.ensures w.in_default.is c.of-nibble.ensures)))
 ]
 
 pub returns : goal.returns
