@@ -14,7 +14,7 @@ use Rattle.jf_model.specs.declared.entries.Entry.{Entry}
 use Rattle.jf_model.specs.declared.entries.Entry.TheVariants as entry
 use Rattle.jf_evidence.specs.Proofs.{honest}
 use Rattle.jf_evidence.specs.Ranges.{chunk_entries, honest_chunk}
-use Rattle.jf_script.specs.Words.{is_long}
+use Rattle.jf_text.specs.Words.{is_long}
 use Rattle.jf_script.specs.Commands.{command_of}
 use Rattle.jf_script.specs.declared.command.Command.{Command}
 use Rattle.jf_script.specs.declared.command.Command.TheVariants as command

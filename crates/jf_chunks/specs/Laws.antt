@@ -1,7 +1,7 @@
 -- What holds of all lines, as statements for calls that do nothing and ensure them.
 use Rattle.std.specs.Prelude.{◌≡◌, ℕ, List, ◌++◌, length, Some, Result, Ok, Err, IsTrue}
 use Rattle.jf_evidence.specs.Ranges.{Entries}
-use Rattle.jf_script.specs.Words.{is_long}
+use Rattle.jf_text.specs.Words.{is_long}
 use Rattle.jf_restore.specs.RestoreValue.{RestoreValue}
 use Rattle.jf_chunks.specs.declared.fault.BlockFault.{BlockFault}
 use Rattle.jf_chunks.specs.Chunks.{chunks, decided}

@@ -5,7 +5,8 @@ use Rattle.jf_evidence.specs.Proofs.{refusal}
 use Rattle.jf_evidence.specs.declared.proof.Proof.{Proof}
 use Rattle.jf_evidence.specs.declared.proof.ProofFault.{ProofFault}
 use Rattle.jf_collide.specs.declared.judged.Judged.{Judged}
-use Rattle.jf_script.specs.Words.{line_text, lines}
+use Rattle.jf_io.specs.Lines.{lines}
+use Rattle.jf_text.specs.Words.{line_text}
 use Rattle.jf_blocks.specs.Reading.{Place, start, line_read, first_of, proof_block}
 use Rattle.jf_blocks.specs.declared.first.FirstLine.TheVariants as first
 use Rattle.jf_verify.specs.declared.accepted.Accepted.{Accepted}

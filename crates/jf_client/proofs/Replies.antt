@@ -12,7 +12,9 @@ use Rattle.jf_model.specs.States.{State}
 use Rattle.jf_evidence.specs.Proofs.{honest}
 use Rattle.jf_evidence.specs.ProofLaws.{honest-short}
 use Rattle.jf_evidence.specs.Laws.{HonestClaimsAreAccepted}
-use Rattle.jf_script.specs.Words.{lines, is_long}
+use Rattle.jf_io.specs.Lines.{lines}
+use Rattle.jf_io.proofs.EndedLines.{lines_nil}
+use Rattle.jf_text.specs.Words.{is_long}
 use Rattle.jf_script.specs.Commands.{command_of}
 use Rattle.jf_script.specs.Replies.{reply_text}
 use Rattle.jf_script.specs.declared.command.Base.{Base}
@@ -32,10 +34,6 @@ use Rattle.jf_answers.specs.Runs.{answer_text}
 use Rattle.jf_client.specs.Laws.{IsKept, Fits, HonestRepliesAreAccepted}
 use Rattle.jf_client.proofs.Told.{hash_of_key, honest-told}
 use Rattle.jf_client.proofs.Judged.{verdicts-of_one}
-
-lines-none : lines [] ≡ []
-unfolding lines
-lines-none = refl
 
 -- ---- what the lines are answered
 
@@ -100,7 +98,7 @@ module _ (back : BlocksAreReadBack) (begins : RepliesBeginBlocks) (sets : Replie
       verdicts-of_one (reply_text a (reply.Root (root m)) ++ more) one.0 two.0 (lines block) (root m) k name claim proof (3 + 3 + k)
       (one.1 ∙ ap (λ ls. one.0 ∷ ls) two.1) one.2 two.2
       (ap (λ t. proof_block k (record { at = 3; left = lines t })) (sym (append-nil block)) ∙ back name claim proof 3 [] (honest-told m name is_map fits)
-      ∙ ap (λ ls. Ok ((name, claim, proof), record { at = 3 + 3 + k; left = ls })) lines-none)
+      ∙ ap (λ ls. Ok ((name, claim, proof), record { at = 3 + 3 + k; left = ls })) lines_nil)
       (accepted m (K name) is_map)
 
   pub replies-accepted : HonestRepliesAreAccepted

@@ -14,7 +14,7 @@ use Rattle.jf_model.specs.Entries.{after, replay, IsLegal}
 use Rattle.jf_model.specs.declared.entries.Landing.TheVariants as landing
 use Rattle.jf_model.specs.declared.entries.Entry.{Entry}
 use Rattle.jf_model.specs.declared.entries.Entry.TheVariants as entry
-use Rattle.jf_script.specs.Words.{words, number, unhex}
+use Rattle.jf_text.specs.Words.{words, number, unhex}
 use Rattle.jf_script.specs.Commands.{command_of, base_of}
 use Rattle.jf_script.specs.Replies.{reply_text}
 use Rattle.jf_script.specs.declared.reply.Reply.{Reply}

@@ -4,6 +4,7 @@
 mod attempts;
 mod calls;
 mod failed;
+mod laws;
 mod line_reader;
 mod mem_sink;
 mod mem_source;
@@ -13,6 +14,10 @@ mod std_sink;
 mod std_source;
 
 pub use failed::IoFailed;
+pub use laws::{
+    bytes_without_feed_are_one_line, first_line_ends_at_first_feed, lines_go_on_behind_a_feed,
+    whole_lines_come_first, whole_lines_count_lines,
+};
 pub use line_reader::{FetchFault, LineReader};
 pub use mem_sink::MemSink;
 pub use mem_source::MemSource;
