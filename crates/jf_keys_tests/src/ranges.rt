@@ -16,70 +16,37 @@ const TWOS: Hash = [0x22; 32];
 
 const THREES: Hash = [0x33; 32];
 
-const ABSENT: Slot = Slot::Absent;
+const GAP: Slot = Slot::Absent;
 
 const LEAF_ONES: Slot = Slot::Leaf(ONES);
 
 const LEAF_TWOS: Slot = Slot::Leaf(TWOS);
 
-const INNER_THREES: Slot = Slot::Inner(THREES);
+const LINK: Slot = Slot::Inner(THREES);
 
 // No child.
 const NONE: [Slot; 16] = [
-    ABSENT, ABSENT, ABSENT, ABSENT, ABSENT, ABSENT, ABSENT, ABSENT, ABSENT, ABSENT, ABSENT, ABSENT,
-    ABSENT, ABSENT, ABSENT, ABSENT,
+    GAP, GAP, GAP, GAP, GAP, GAP, GAP, GAP, GAP, GAP, GAP, GAP, GAP, GAP, GAP, GAP,
 ];
 
 // A leaf at place 5.
 const LEAF: [Slot; 16] = [
-    ABSENT, ABSENT, ABSENT, ABSENT, ABSENT, LEAF_ONES, ABSENT, ABSENT, ABSENT, ABSENT, ABSENT,
-    ABSENT, ABSENT, ABSENT, ABSENT, ABSENT,
+    GAP, GAP, GAP, GAP, GAP, LEAF_ONES, GAP, GAP, GAP, GAP, GAP, GAP, GAP, GAP, GAP, GAP,
 ];
 
 // An internal node at place 5.
 const INNER: [Slot; 16] = [
-    ABSENT,
-    ABSENT,
-    ABSENT,
-    ABSENT,
-    ABSENT,
-    INNER_THREES,
-    ABSENT,
-    ABSENT,
-    ABSENT,
-    ABSENT,
-    ABSENT,
-    ABSENT,
-    ABSENT,
-    ABSENT,
-    ABSENT,
-    ABSENT,
+    GAP, GAP, GAP, GAP, GAP, LINK, GAP, GAP, GAP, GAP, GAP, GAP, GAP, GAP, GAP, GAP,
 ];
 
 // A leaf in the first half, and an internal node in the second.
 const APART: [Slot; 16] = [
-    ABSENT,
-    LEAF_ONES,
-    ABSENT,
-    ABSENT,
-    ABSENT,
-    ABSENT,
-    ABSENT,
-    ABSENT,
-    ABSENT,
-    ABSENT,
-    ABSENT,
-    ABSENT,
-    INNER_THREES,
-    ABSENT,
-    ABSENT,
-    ABSENT,
+    GAP, LEAF_ONES, GAP, GAP, GAP, GAP, GAP, GAP, GAP, GAP, GAP, GAP, LINK, GAP, GAP, GAP,
 ];
 
 // Two leaves in the last pair.
 const LAST: [Slot; 16] = [
-    ABSENT, ABSENT, ABSENT, ABSENT, ABSENT, ABSENT, ABSENT, ABSENT, ABSENT, ABSENT, ABSENT, ABSENT,
-    ABSENT, ABSENT, LEAF_ONES, LEAF_TWOS,
+    GAP, GAP, GAP, GAP, GAP, GAP, GAP, GAP, GAP, GAP, GAP, GAP, GAP, GAP, LEAF_ONES, LEAF_TWOS,
 ];
 
 // What a node has, its places, where a range begins and how many places it has, and the hash of it.
