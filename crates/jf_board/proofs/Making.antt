@@ -1,4 +1,4 @@
--- A new board has the rule, and giving numbers keeps it.
+-- A new board keeps the rule, and giving out numbers keeps it.
 use Rattle.std.proofs.Common.{◌≡◌, ℕ, zero, suc, ◌+◌, ◌*◌, ◌%◌, ◌^◌, ◌<◌, ◌≤◌, ◌≢◌, List, [], ◌∷◌, length, get_or, set, replicate, sym, refl, ◌∙◌, subst, arith, le_refl, length-set, get_or-set_other, get_or-set_same}
 use mathlib.Core.Option.{Option, none, some, some-injective, some-ne-none}
 use Rattle.std.proofs.lemmas.List.{length-replicate}
@@ -19,7 +19,7 @@ use Rattle.jf_board.proofs.Moving.{SeatState, seat_state, moved, pruner_at}
 abbrev counted : Account → ℕ → ℕ → Account
 counted p count id = record p { count = count; seat = put p.seat p.count id }
 
--- the words behind one more number
+-- the words after one more number is given
 written_count : (passes : ℕ) (p : Account) (ws : List ℕ) (count id : ℕ) → IsWritten passes p ws → IsWritten passes (counted p count id) (set ws 2 count)
 written_count passes p ws count id r = let wide = r.wide in record {
   wide = length-set ws 2 count ∙ wide;
@@ -29,11 +29,11 @@ written_count passes p ws count id r = let wide = r.wide in record {
   pins_are = λ k l. get_or-set_other ws 2 (k + 3) count 0 (λ e. omega arith) ∙ r.pins_are k l;
 }
 
--- a place agrees as before where one number more is given
+-- a place agrees as before if one more number is given
 placed_count : (p : Account) (count to id : ℕ) (v : PlaceView) → p.count < count → PlaceFits p id v → PlaceFits (counted p count to) id v
 placed_count p count to id v up r = let given = r.numbered in record { numbered = omega arith; mine = put_else p.seat p.count to v.number (λ e. omega arith) ∙ r.mine; loaded = r.loaded; latest = r.latest; eight = r.eight; holds = r.holds; announced = r.announced }
 
--- and so do joined places
+-- joined places agree as before if one more number is given
 joined_count : (p : Account) (count to id : ℕ) (gs : List PlaceView) → p.count < count → JoinedFit p id gs → JoinedFit (counted p count to) id gs
 joined_count p count to id [] up r = tt
 joined_count p count to id (g ∷ gs) up r = (placed_count p count to id g up r.0, r.1, joined_count p count to id gs up r.2)
@@ -104,7 +104,7 @@ opens size ws homes wide gate cut zeros = record {
   each = λ id v e. first_only size id v e;
 }
 
--- all words behind gate and cut are zero
+-- all words after gate and cut are zero
 zeros_from : (g n k : ℕ) → 2 ≤ k → get_or (g ∷ g ∷ replicate n 0) k 0 ≡ 0
 zeros_from g n zero l = absurd (omega arith)
 zeros_from g n (suc zero) l = absurd (omega arith)
