@@ -1,4 +1,4 @@
--- What follows from the rule of a turn.
+-- The laws of `specs/Laws.antt`, from the rule of a turn.
 use Rattle.std.proofs.Common.{◌≡◌, ◌≢◌, ◌⊎◌, ℕ, ◌<◌, ◌+◌, ◌*◌, ◌≤◌, List, length, slice_index, Option, Some, refl, sym, ap, ◌∙◌, subst, inl, inr, arith}
 use mathlib.Core.Option as maybe
 use native.Mathlib.Decide.{dec_le}
@@ -27,7 +27,7 @@ module _ {V E O : Type 0} (list : V → List E) (names : E → ℕ) (origin_of :
   holder_of entries homes v (held_by n) Opening s t = (n, refl, s.0)
   holder_of entries homes v (held_by n) (Holding l) s t = (n, refl, s.0)
 
-  -- and its view keeps the turn's list
+  -- the view of the holder keeps the turn's list
   list_of : (entries l : List E) (homes : List (maybe.Option (Option V))) (v : SeatView E O) (h : Hand) → Stand entries homes v h (Holding l) → (n : ℕ) × (h ≡ held_by n) × (l ≡ entries)
   list_of entries l homes v free s = absurd s
   list_of entries l homes v (held_by n) s = (n, refl, s.1)

@@ -1,4 +1,4 @@
--- What a turn word says.
+-- What a turn word says: whether the turn is held, and how many entries are in its list.
 use Rattle.std.proofs.Common.{◌≡◌, ℕ, ◌%◌, refl, sym, ◌∙◌, arith}
 use Rattle.jf_turn.specs.Rule.{Hand, free, held_by, turn_word}
 
