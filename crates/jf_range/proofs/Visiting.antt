@@ -15,7 +15,7 @@ use Rattle.jf_range.specs.Visits.{copied, ends_inside, most_nodes}
 abbrev pub below : ℕ → ℕ → ℕ → ℕ → ℕ
 below height skip room n = copied skip room n * (height + 1) + ends_inside skip room n * (16 * height)
 
--- ---- one child more, with m entries behind n
+-- ---- one more child, with m entries after n
 
 copied-more : (skip room n m : ℕ) → copied skip room (n + m) ≡ copied skip room n + copied (skip - n) (room - copied skip room n) m
 copied-more skip room n m = omega arith
@@ -26,7 +26,7 @@ front-more skip room n m = omega arith
 nothing : (room skip m : ℕ) → room ≡ 0 → copied skip room m ≡ 0
 nothing room skip m is = omega (arith, is)
 
--- where the range ends before the first n entries do, nothing more is copied
+-- if the range ends before the first n entries do, nothing more is copied
 one_end : (skip room n m : ℕ) → (n - (skip + room) ≡ 0) ⊎ (copied (skip - n) (room - copied skip room n) m ≡ 0)
 one_end skip room n m = elim (cases_lt (skip + room) n) [
   | inl inside ↦ (let all : copied skip room n ≡ room = omega (arith, inside) in let none : room - copied skip room n ≡ 0 = omega (arith, all) in inr (nothing (room - copied skip room n) (skip - n) m none))
@@ -66,7 +66,7 @@ below-grows height skip room n m le =
 
 -- ---- the node over them
 
--- one level more
+-- the cost of one more level
 above : (t e h : ℕ) → t * (h + 1 + 1) + e * (16 * (h + 1)) ≡ t + 16 * e + (t * (h + 1) + e * (16 * h))
 above t e h =
     let first : t * (h + 1 + 1) ≡ t * (h + 1) + t = mul_comm t (h + 1 + 1) ∙ add-mul (h + 1) 1 t ∙ ap (λ n. n + 1 * t) (mul_comm (h + 1) t) ∙ omega arith in
@@ -100,7 +100,7 @@ most-nodes_top height skip room n low =
 
 -- ---- child by child
 
--- so much the nodes cost, the first i children of which were looked at and have n entries
+-- the steps after the first i children of a node were looked at, which have n entries
 abbrev pub AreVisited : ℕ → ℕ → ℕ → ℕ → ℕ → ℕ → ℕ → Type 0
 AreVisited height skip room n i old steps = (steps ≤ old + 1 + i + below height skip room n) × (steps ≤ old + 1 + n + below height skip room n)
 
