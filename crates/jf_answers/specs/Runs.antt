@@ -1,4 +1,4 @@
--- What lines are answered, one behind another.
+-- The answers to lines, one after another.
 use Rattle.std.specs.Prelude.{◌≡◌, ℕ, List, [], ◌∷◌, ◌++◌, map, flat_map, option_to_list}
 use Rattle.std.specs.List.{concat}
 use Rattle.std.proofs.Common.{refl, ap}
@@ -8,7 +8,7 @@ use Rattle.jf_script.specs.Replies.{reply_text}
 use Rattle.jf_answers.specs.Own.{Own, begun}
 use Rattle.jf_answers.specs.Answers.{Answer, answer}
 
--- the answers, and what follows
+-- the answers to lines, and the state and own part after them
 pub record Run : Type 0 where
   pub answers : List Answer
   pub state : State
@@ -21,15 +21,15 @@ answers_from s own (line ∷ ls) =
     let r = answers_from a.state a.own ls in
     record { answers = a ∷ r.answers; state = r.state; own = r.own }
 
--- of a session by itself
+-- the answers to all lines of a session that runs alone
 abbrev pub answers : State → List (List ℕ) → Run
 answers s ls = answers_from s (begun 0) ls
 
--- the reply's line, with a number, and its block
+-- the text of an answer: the reply's line, with a number, and its block
 abbrev pub answer_text : ℕ → Answer → List ℕ
 answer_text n a = reply_text n a.reply ++ a.block
 
--- each with the number of entries so far
+-- the text of each answer, with the number of entries so far
 abbrev pub texts_of : Run → List (List ℕ)
 texts_of r = map (λ a. answer_text a.state.count a) r.answers
 
@@ -47,7 +47,7 @@ followed_by r q = record { answers = r.answers ++ q.answers; state = q.state; ow
 abbrev pub with_first : Answer → Run → Run
 with_first a r = record { answers = a ∷ r.answers; state = r.state; own = r.own }
 
--- lines behind lines
+-- the answers to lines followed by other lines
 pub answers_from-append : (s : State) (own : Own) (ls ms : List (List ℕ)) → answers_from s own (ls ++ ms) ≡ followed_by (answers_from s own ls) (answers_from (answers_from s own ls).state (answers_from s own ls).own ms)
 unfolding answers_from
 answers_from-append s own [] ms = refl
