@@ -1,4 +1,4 @@
--- Entries: where each is legal, and the state that it makes.
+-- Entries: when each is legal, and the state that it makes.
 use Rattle.std.specs.Prelude.{◌≡◌, ℕ, ◌+◌, ◌-◌, ◌<◌, ◌≤◌, ◌^◌, IsTrue, List, [], ◌∷◌, ◌++◌, length}
 use Rattle.std.proofs.Common.{refl}
 use Rattle.std.specs.FinMap as fin
@@ -19,7 +19,7 @@ abbrev pub landed_batches : State → Landing → List Batch
 landed_batches s (landing.Direct batch) = batch ∷ []
 landed_batches s (landing.Fork id) = batches (chain s.forks id)
 
--- the forks that stay
+-- the forks that stay after a landing
 abbrev pub forks_left : State → Landing → List Fork
 forks_left s (landing.Direct batch) = []
 forks_left s (landing.Fork id) = settled id s.forks
@@ -54,12 +54,12 @@ pub record IsMaking (s : State) (fork : ℕ) (parent : Parent) (batch : Batch) (
   pub sound : IsBatch batch
   pub rooted : r ≡ root (apply (parent_map (newest s.all) s.forks parent) batch)
 
--- a batch, or a live fork whose chain has at most 10,000 keys
+-- what may land: a batch, or a live fork whose chain has at most 10,000 keys
 abbrev pub MayLand : State → Landing → Type 0
 MayLand s (landing.Direct batch) = IsBatch batch
 MayLand s (landing.Fork id) = IsLive s id × (key_count (batches (chain s.forks id)) ≤ 10000)
 
--- a landing starts from a map of at most 2^62 entries
+-- a landing starts from a map of at most 2^62 entries, and makes a version for each of its batches
 pub record IsLanding (s : State) (version : ℕ) (how : Landing) (r : List ℕ) : Type 0 where
   pub may : MayLand s how
   pub small : fin.len (newest s.all) ≤ 2 ^ 62
@@ -87,7 +87,7 @@ IsLegalStep s (entry.Compacted owner generation) = IsCompacting s generation
 abbrev pub IsLegal : State → Entry → Type 0
 IsLegal s e = (s.count < 2 ^ 62) × IsLegalStep s e
 
--- each entry is legal in turn
+-- the entries are legal in turn
 abbrev pub AreLegal : State → List Entry → Type 0
 AreLegal s [] = Unit {0}
 AreLegal s (e ∷ es) = IsLegal s e × AreLegal (after e s) es
@@ -103,12 +103,12 @@ moments_of (entry.Dropped owner fork ∷ es) = moments_of es
 moments_of (entry.Retired owner bound floor ∷ es) = moments_of es
 moments_of (entry.Compacted owner generation ∷ es) = moments_of es
 
--- each is above the one before
+-- each moment is above the one before, and the first is at least `low`
 abbrev pub RiseFrom : ℕ → List ℕ → Type 0
 RiseFrom low [] = Unit {0}
 RiseFrom low (m ∷ ms) = (low ≤ m) × RiseFrom (m + 1) ms
 
--- the whole of what a history must be: each entry legal in turn, each landing later than the one before it
+-- what a history must be: each entry legal in turn, each landing later than the one before it
 pub record IsHistory (s : State) (es : List Entry) : Type 0 where
   pub each : AreLegal s es
   pub moments : RiseFrom 0 (moments_of es)

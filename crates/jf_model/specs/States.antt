@@ -1,4 +1,4 @@
--- The state of a run.
+-- The state of a run: what its entries have made so far.
 use Rattle.std.specs.Prelude.{◌≡◌, ℕ, ◌≤◌, List, [], ◌∷◌, length, take}
 use Rattle.std.proofs.Common.{refl, ap, sym, ◌∙◌, le_refl}
 use Rattle.std.specs.List.{AllByRecursion}
@@ -44,6 +44,6 @@ pub versions-opened : (v : Versions) (g : ℕ) → IsVersions v → versions (op
 versions-opened v g sound =
     ap (λ ms. record { base = v.base; floor = v.floor; head = v.head; roots = v.roots; maps = ms }) (ap (λ n. take n v.maps) (sym sound.map_each) ∙ take-all v.maps)
 
--- and is sound
+-- the state of a store that was opened is sound
 pub opened-IsState : (v : Versions) (g : ℕ) → IsVersions v → IsState (opened v g)
 opened-IsState v g sound = record { sound = sound; first = le_refl v.floor; floor_low = le_refl v.floor; retired_low = sound.floor_first; live = tt; batches = tt }

@@ -1,4 +1,4 @@
--- The code of versions, by which a value that holds them is stored.
+-- How versions are coded, so that a value that holds them can be stored.
 use Rattle.std.specs.Prelude.{ℕ, List, refl}
 use Rattle.std.specs.Coded.{Coded, code_by, coded×, coded_ℕ, coded_list}
 use Rattle.jf_hash.specs.Codes.{bytes_code, map_code}
