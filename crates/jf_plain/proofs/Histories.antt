@@ -1,4 +1,4 @@
--- The versions that are kept: what stands where, and that they stay sound.
+-- The versions that are kept: at which place each stands, and that they stay sound.
 use Rattle.std.proofs.Common.{◌≡◌, ℕ, ◌+◌, ◌-◌, ◌<◌, ◌≤◌, ◌^◌, List, [], ◌∷◌, ◌++◌, length, map, reverse, get_or, sym, ap, ◌∙◌, subst, arith, length-append}
 use Rattle.std.proofs.lemmas.List.{reverse-append, get_or-reverse, get_or-map, length-reverse}
 use Rattle.std.specs.FinMap as fin
