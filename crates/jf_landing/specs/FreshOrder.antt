@@ -30,7 +30,7 @@ fresh-IsListed m m' = All-filter (IsListed 0 (entries m')) (λ (x : Path × Part
 abbrev From : ℕ → Path × Part → Type 0
 From n x = (m : ℕ) × (n ≤ m) × ((p : Path) × (x.0 ≡ m ∷ p))
 
--- and those that begin with n itself
+-- a path begins with the nibble n
 abbrev At : ℕ → Path × Part → Type 0
 At n x = (p : Path) × (x.0 ≡ n ∷ p)
 
@@ -111,12 +111,12 @@ sorted-nodes_below (suc l) d es =
       | false ↦ tt
     ]
 
--- and so is what a landing writes: its paths rise strictly
+-- the paths of what a landing writes ascend strictly
 pub sorted-fresh : (m m' : Map) → T (is_sorted key_cmp (fresh m m'))
 unfolding fresh nodes
 sorted-fresh m m' = is_sorted-where_key key_cmp (is_fresh (entries m) (entries m')) (nodes_below 64 0 (entries m')) (sorted-nodes_below 64 0 (entries m'))
 
--- no path is written twice
+-- a landing writes no path twice
 pub distinct-fresh : (m m' : Map) → AllPairs (λ x y. ¬ (x.0 ≡ y.0)) (fresh m m')
 distinct-fresh m m' i j d lt within same = apart _ _ (sorted-rises (fresh m m') i j d (sorted-fresh m m') lt within) same
   where

@@ -19,7 +19,7 @@ stepped depth n path i = cond (i == depth) n (path i)
 abbrev pub from_nibble : {X : Type 0} → ℕ → ℕ → List (List ℕ × X) → List (List ℕ × X)
 from_nibble depth n es = filter (λ e. nat_le n (nibble e.0 depth)) es
 
--- r entries with nibble n, and then one with another, if any
+-- the first r entries have nibble n at a depth, and the next one, if any, has another
 pub record IsPieceEnd {X : Type 0} (depth n r : ℕ) (es : List (List ℕ × X)) : Type 0 where
   pub within : r ≤ length es
   pub before : (k : ℕ) (x : List ℕ × X) → k < r → nibble (slice_index_or es k x).0 depth ≡ n
