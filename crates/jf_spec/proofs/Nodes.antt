@@ -1,4 +1,4 @@
--- What nodes have by what they are kept as.
+-- What the nodes of each form have: entries, hash and values.
 use Rattle.std.proofs.Common.{◌≡◌, ◌≤◌, ◌<◌, ◌+◌, ℕ, Bool, true, false, cond, List, [], ◌∷◌, ◌++◌, length, not, append-nil, refl, sym, ap, ap₂, ◌∙◌, subst, None, Some, Ordering, Less, Equal, Greater, true≢false, Global}
 use Rattle.std.proofs.lemmas.List.Elements.{filter-append}
 use Rattle.std.specs.FinMap.{find}
@@ -32,7 +32,7 @@ module _ (v : RangeValue) (depth : ℕ) (form : Form) (leaf : Arc LeafBody Globa
       let own : leaf.value.hash ≡ L leaf.value.key (V leaf.value.value) = (subst (IsSoundForm depth) is sound).1 in
       subst (λ (x : LeafBody). x.hash ≡ L x.key (V x.value)) (sym inside) own ∙ sym (part_root-one depth b.key b.value) ∙ ap (λ w. part_root w.depth w.entries) (sym leaf_is)
 
-  -- it has the value of its own key alone
+  -- a node of one entry has the value of that entry's key alone
   pub find_own : (key : List ℕ) (t : Bool) → is_eq (key_cmp key b.key) ≡ t → find key_cmp key v.entries ≡ cond t (Some b.value) None
   find_own key t test = ap (λ w. find key_cmp key w.entries) leaf_is ∙ ap (λ c. cond c (Some b.value) None) test
 

@@ -51,7 +51,7 @@ parts_of top bs tree batch = record {
   batch = record { sorted = batch.sorted; keys = batch.keys; agree = agree_none top.depth bs tree.depth };
 }
 
--- what the batch makes of the top is a tree, of the map that it makes of the map
+-- the top after a batch is the top of a tree, whose map is the map after the batch
 pub tree_applied : (top new : RangeValue) (bs : Batch) → new ≡ record { depth = top.depth; entries = applied top.entries bs } → IsTree top → IsBatch bs → IsTree new
 tree_applied top new bs is tree batch =
     subst IsTree (sym is) (record { depth = tree.depth; sorted = sorted-applied top.entries bs tree.sorted; keys = all_keys-applied IsKey top.entries bs tree.keys batch.keys })
