@@ -36,7 +36,7 @@ parent_map-kept m id fs (parent.Fork q) h = ap (λ c. fork_map_of c) (chain-with
     fork_map_of : List Fork → Map
     fork_map_of c = apply_all m (batches c)
 
--- those that stay keep their maps
+-- forks that stay after a drop keep their maps
 pub AreGrown-kept : (m : Map) (id : ℕ) (gs : List Grown) → AreGrown m gs → AreGrown m (kept id gs)
 AreGrown-kept m id [] h = tt
 AreGrown-kept m id (g ∷ gs) h =
@@ -114,7 +114,7 @@ map_of-kept bound id y (g ∷ gs) sound =
       | false ↦ elim (g.fork.id == y) as (λ b. (b || is_among y (forks_of (kept id gs))) ≡ true → cond b (Some g.map) (map_of y (kept id gs)) ≡ cond b (Some g.map) (map_of y gs)) [ true ↦ λ h. refl | false ↦ λ h. older h ]
     ]
 
--- and so has each that stays when one has landed
+-- each fork that stays when one has landed has the map that it had
 pub map_of-landed : (bound id y : ℕ) (gs : List Grown) → AreForks bound (forks_of gs) → is_among y (forks_of (landed id gs)) ≡ true → map_of y (landed id gs) ≡ map_of y gs
 map_of-landed bound id y [] sound = λ h. refl
 map_of-landed bound id y (g ∷ gs) sound =
