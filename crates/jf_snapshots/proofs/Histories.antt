@@ -1,4 +1,4 @@
--- The snapshots that are kept: what stands where, and that they stay sound.
+-- The snapshots that are kept: at which place each stands, and that they stay sound.
 use Rattle.std.proofs.Common.{◌≡◌, ℕ, zero, suc, ◌+◌, ◌-◌, ◌<◌, ◌≤◌, ◌^◌, true, false, ltb, List, [], ◌∷◌, ◌++◌, length, map, reverse, get_or, refl, sym, ap, ◌∙◌, subst, arith, length-append}
 use Rattle.std.proofs.lemmas.List.{reverse-append, get_or-reverse, get_or-map, length-reverse, get_or_append_left, get_or_push}
 use borrow.Author.Tests.{ltb-true, ltb-false}
@@ -23,7 +23,7 @@ kept-landed ss x v b some is made =
     ∙ ap (λ m. record { base = 0; floor = 0; head = length ss - 1 + 1; roots = root m ∷ map (λ s. root s.map) (reverse ss); maps = m ∷ map (λ s. s.map) (reverse ss) }) (made ∙ ap (λ w. apply (newest w) b) (sym is))
     ∙ ap (landed b) is
 
--- each snapshot stands at the place of its version, also with one more
+-- each snapshot stands at the place of its version, also after one more was pushed
 numbered-push : (ss : List SnapshotValue) (x : SnapshotValue) → ((n : ℕ) (d : SnapshotValue) → n < length ss → (get_or ss n d).version ≡ n) → x.version ≡ length ss → (n : ℕ) (d : SnapshotValue) → n < length (ss ++ x ∷ []) → (get_or (ss ++ x ∷ []) n d).version ≡ n
 numbered-push ss x each is n d lt = elim (ltb n (length ss)) as (λ b. ltb n (length ss) ≡ b → (get_or (ss ++ x ∷ []) n d).version ≡ n) [
   | true ↦ λ below. ap (λ s. s.version) (get_or_append_left ss (x ∷ []) d n (ltb-true n (length ss) below)) ∙ each n d (ltb-true n (length ss) below)
