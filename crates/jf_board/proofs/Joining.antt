@@ -26,7 +26,7 @@ placed_else_seat p n to id v other r = record { numbered = r.numbered; mine = pu
 placed_to : (p : Account) (to id : ℕ) (v : PlaceView) → PlaceFits p id v → PlaceFits (reseated p v.number to) to v
 placed_to p to id v r = record { numbered = r.numbered; mine = put_at p.seat v.number to v.number refl; loaded = r.loaded; latest = r.latest; eight = r.eight; holds = r.holds; announced = r.announced }
 
--- places joined to a seat that has not the number n agree as before
+-- places joined to a seat that doesn't have the number n agree as before
 joined_else_seat : (p : Account) (n to id : ℕ) (gs : List PlaceView) → p.seat n ≢ id → JoinedFit p id gs → JoinedFit (reseated p n to) id gs
 joined_else_seat p n to id [] other r = tt
 joined_else_seat p n to id (g ∷ gs) other r = (placed_else_seat p n to id g (λ e. other (ap p.seat (sym e) ∙ r.0.mine)) r.0, r.1, joined_else_seat p n to id gs other r.2)
@@ -36,7 +36,7 @@ joined_absent : (p : Account) (n to id : ℕ) (gs : List PlaceView) → IsAbsent
 joined_absent p n to id [] other r = tt
 joined_absent p n to id (g ∷ gs) other r = (placed_else_seat p n to id g other.0 r.0, r.1, joined_absent p n to id gs other.1 r.2)
 
--- a seat that has not the number n agrees as before
+-- a seat that doesn't have the number n agrees as before
 seat_else : (p : Account) (n to id : ℕ) (u : View) → p.seat n ≢ id → ViewFits p id u → ViewFits (reseated p n to) id u
 seat_else p n to id (Pins v) other r = placed_else_seat p n to id v (λ e. other (ap p.seat (sym e) ∙ r.mine)) r
 seat_else p n to id (Prunes q) other r = record { alone = r.alone; count_is = r.count_is; gate_is = r.gate_is; cut_is = r.cut_is; low_is = r.low_is; scanned_is = r.scanned_is; pairs = r.pairs; joined = joined_else_seat p n to id q.joined other r.joined }
@@ -158,7 +158,7 @@ learns passes slots id me q is s r _ at _ = let fit = pruner_at passes s r id me
   λ q' is'. let same : Prunes q ≡ Prunes q' = sym is ∙ is' in let qq : q ≡ q' = cc in subst (λ (z : PrunerView). (me ≡ me) × JoinedAnnounced z.pairs z.joined × NumbersAreGiven z) qq (refl, joined_announced p id q.pairs q.joined fit.pairs fit.joined, numbers_given p id q r.sound fit),
 )
 
--- the first of a list that is not empty
+-- a list that isn't empty has a first element
 head_of : (gs : List PlaceView) → 0 < length gs → (g : PlaceView) × (rest : List PlaceView) × (gs ≡ g ∷ rest)
 head_of [] l = absurd (omega arith)
 head_of (g ∷ gs) l = (g, gs, refl)

@@ -1,4 +1,4 @@
--- Functions that change at one number, and lists.
+-- Functions that change at one number, and lists with one more element.
 use Rattle.std.proofs.Common.{◌≡◌, ℕ, zero, suc, ◌-◌, ◌<◌, ◌≤◌, ◌≢◌, ◌⊎◌, cond, eqb, List, [], ◌∷◌, ◌++◌, length, get_or, replicate, sym, refl, ap, subst, inl, inr, ⊎_elim, arith, eq-eqb, ne_eqb}
 use mathlib.Core.Logic.{dite}
 use mathlib.Core.Option.{some, some-injective, some-ne-none}
@@ -39,12 +39,12 @@ lower_le m w = grind (arith, nat_tests)
 pub lower_word : (m w : ℕ) → 0 < w → lower m w ≤ w - 1
 lower_word m w h = grind (arith, nat_tests)
 
--- the least of one word more
+-- the least of pin words and one more
 pub least_snoc : (m : ℕ) (ws : List ℕ) (w : ℕ) → least m (ws ++ w ∷ []) ≡ lower (least m ws) w
 least_snoc m [] w = refl
 least_snoc m (x ∷ xs) w = least_snoc (lower m x) xs w
 
--- each element of copies is what is copied
+-- each element of a list of copies is the element that was copied
 pub free_at : {A : Type 0} (x : A) (n i : ℕ) → get_or (replicate n x) i x ≡ x
 free_at x zero i = refl
 free_at x (suc n) zero = refl

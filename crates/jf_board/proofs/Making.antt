@@ -15,7 +15,7 @@ use Rattle.jf_board.specs.Steps.{newly_numbered, numbered, numbering}
 use Rattle.jf_board.proofs.Lists.{put, put_at, put_else, free_at}
 use Rattle.jf_board.proofs.Moving.{SeatState, seat_state, moved, pruner_at}
 
--- the account with one more number, which is the seat id's
+-- the account with one more number, which is at the seat id
 abbrev counted : Account → ℕ → ℕ → Account
 counted p count id = record p { count = count; seat = put p.seat p.count id }
 
@@ -61,7 +61,7 @@ new_place p id c found r = record {
   announced = sym (r.no_versions c (omega arith));
 }
 
--- the pruner may give one number more
+-- the pruner may give out one more number
 pub numbers : (passes slots id : ℕ) (me : SeatState) (q : PrunerView) → me.0 ≡ Prunes q → q.count < passes → passes < 2 ^ 32 → Allows (IsBoard passes) slots id me 2 (λ x. (x + 1) % 2 ^ 64) (numbered (step slots 2 1 0 none) me)
 numbers passes slots id me q is room small s r _ at _ =
     let fit = pruner_at passes s r id me.0 q is at in let p = r.account in let c : ℕ = q.count in let found : c ≡ p.count = fit.count_is in let word : get_or s.words 2 0 ≡ p.count = r.written.count_is in
@@ -87,7 +87,7 @@ numbers passes slots id me q is room small s r _ at _ =
           subst (λ (z : PrunerView). (get_or s.words 2 0 ≡ z.count) × (seat_state w me ≡ seat_state (Prunes (numbering z)) me)) qq (word ∙ sym found, refl),
     )
 
--- the first seat agrees with an account of nothing
+-- the first seat agrees with an account that has given no numbers
 first_only : (size : Size) (id : ℕ) (v : View) → get_elem? (opened size ∷ []) id ≡ some v → ViewFits record { gate = size.gate; cut = size.gate; count = 0; low = size.gate; scanned = 0; pruner = 0; seat = λ _. 0; hold = λ _. Free; versions = λ _. [] } id v
 first_only size zero v e = subst (ViewFits record { gate = size.gate; cut = size.gate; count = 0; low = size.gate; scanned = 0; pruner = 0; seat = λ _. 0; hold = λ _. Free; versions = λ _. [] } 0) (some-injective (opened size) v e)
     record { alone = refl; gate_is = refl; cut_is = refl; count_is = refl; low_is = refl; scanned_is = refl; pairs = λ t has. absurd (some-ne-none t (sym has.1)); joined = tt }

@@ -1,4 +1,4 @@
--- What a place knows after its plays.
+-- What a place knows after it announced, confirmed or withdrew.
 use Rattle.std.proofs.Common.{◌≡◌, ◌≢◌, ℕ, ◌+◌, ◌<◌, ◌≤◌, cond, List, [], ◌∷◌, ◌++◌, length, get_or, set, Option, Some, None, sym, refl, ap, ◌∙◌, subst, arith, le-leb, get_or-set_same}
 use Rattle.std.proofs.lemmas.List.{set-set}
 use lib.Seq.{set-get_or}
@@ -19,7 +19,7 @@ confirmed_view v i version gate small eight le = let A : Hold = Announced versio
     let same : set (set v.holds i A) i (judged gate (get_or (set v.holds i A) i Free)) ≡ set v.holds i (Confirmed version) = ap (set (set v.holds i A) i) now ∙ set-set v.holds i A (Confirmed version) in
     ap (λ (hs : List Hold). record (pinned_at v i version gate) { holds = hs }) same
 
--- announced, not confirmed, and withdrawn
+-- a version announced, not confirmed and withdrawn leaves all holds unchanged
 pub refused_view : (v : PlaceView) (i version gate : ℕ) → get_or v.holds i Free ≡ Free → with_hold (confirming (announcing v i version) gate) i Free ≡ refused_at v i version gate
 refused_view v i version gate free = let A : Hold = Announced version in let h : Hold = judged gate (get_or (set v.holds i A) i Free) in
     let same : set (set (set v.holds i A) i h) i Free ≡ v.holds = set-set (set v.holds i A) i h Free ∙ (set-set v.holds i A Free ∙ (ap (set v.holds i) (sym free) ∙ set-get_or v.holds i Free)) in
@@ -30,7 +30,7 @@ free_of : (p : Option ℕ) (h : Hold) → Agrees p h → p ≡ None → h ≡ Fr
 free_of None h a e = a
 free_of (Some v) h a e = cc
 
--- what is kept as a version is not free
+-- a place of which memory keeps a version is not free
 held_of : (p : Option ℕ) (h : Hold) → Agrees p h → p ≢ None → h ≢ Free
 held_of None h a n = absurd (n refl)
 held_of (Some v) h a n = λ e. cc

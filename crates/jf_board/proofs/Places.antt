@@ -149,15 +149,15 @@ judged_listed vs gate Free l = l
 judged_listed vs gate (Announced v) l = elim (leb gate v) as (λ b. Listed vs (cond b (Confirmed v) (Announced v))) [ true ↦ l | false ↦ l ]
 judged_listed vs gate (Confirmed v) l = l
 
--- what was announced at the place's number, the place announced
+-- a place announced all that was announced at its number
 said_same : (p : Account) (id : ℕ) (v : PlaceView) → PlaceFits p id v → (x : ℕ) → Has (p.versions v.number) x → Has v.announced x
 said_same p id v r x has = subst (λ (xs : List ℕ). Has xs x) (sym r.announced) has
 
--- a place's number times 8 and its place, over 8
+-- the number of a pin word's place, by the place of the word
 pub owner_of : (n i : ℕ) → i < 8 → (8 * n + i) / 8 ≡ n
 owner_of n i small = omega arith
 
--- what a place holds it announced
+-- a place announced each version that it holds
 hold_listed : (p : Account) (id : ℕ) (v : PlaceView) (i : ℕ) → i < 8 → IsSound p → PlaceFits p id v → Listed v.announced (p.hold (8 * v.number + i))
 hold_listed p id v i small sound r = subst (λ (xs : List ℕ). Listed xs (p.hold (8 * v.number + i))) (ap p.versions (owner_of v.number i small) ∙ sym r.announced) (sound.listed (8 * v.number + i))
 

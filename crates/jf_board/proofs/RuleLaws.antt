@@ -31,7 +31,7 @@ joined_apart p id (x ∷ xs) v u zero (suc j) r at at' e = absurd (absent_one x.
 joined_apart p id (x ∷ xs) v u (suc k) zero r at at' e = absurd (absent_one x.number xs v k r.1 at (e ∙ ap (λ (z : PlaceView). z.number) (sym (some-injective x u at'))))
 joined_apart p id (x ∷ xs) v u (suc k) (suc j) r at at' e = joined_apart p id xs v u k j r.2 at at' e
 
--- a place in a view that agrees, agrees
+-- a place that a seat stands for agrees with the account if the seat's view does
 place_in : (p : Account) (id : ℕ) (x : View) (v : PlaceView) → ViewFits p id x → IsPlaceIn x v → PlaceFits p id v
 place_in p id (Pins u) v fit is = subst (PlaceFits p id) is fit
 place_in p id (Prunes q) v fit has = joined_one p id q.joined v has.0 fit.joined has.1
@@ -79,7 +79,7 @@ no_word passes s r n i none inside = let count = r.written.count_is in let wide 
 one_seat : (passes : ℕ) (s : BoardState) (r : IsBoard passes s) (id j : ℕ) (v u : PlaceView) → StandsAt s id v → StandsAt s j u → v.number ≡ u.number → id ≡ j
 one_seat passes s r id j v u at at' e = sym (stands passes s r id v at).mine ∙ (ap r.account.seat e ∙ (stands passes s r j u at').mine)
 
--- a place announced what it holds
+-- a place announced each version that it holds
 listed_at : (passes : ℕ) (s : BoardState) (r : IsBoard passes s) (id : ℕ) (v : PlaceView) → StandsAt s id v → (i : ℕ) → i < 8 → Listed v.announced (hold_at v i)
 listed_at passes s r id v at i small = let fit = stands passes s r id v at in
     subst (λ (z : List ℕ × Hold). Listed z.0 z.1) (λ k. ((ap r.account.versions (owner_of v.number i small) ∙ sym fit.announced) k, sym (fit.holds i small) k)) (r.sound.listed (8 * v.number + i))

@@ -39,7 +39,7 @@ judged gate (Confirmed version) = Confirmed version
 abbrev pub confirming : PlaceView → ℕ → PlaceView
 confirming v gate = record v { gate = gate; holds = slice_set v.holds v.latest (judged gate (hold_at v v.latest)) }
 
--- the pruner sets the gate: nothing is loaded
+-- the pruner sets the gate, and no pin word counts as loaded any more
 abbrev pub raising : PrunerView → ℕ → PrunerView
 raising q gate = record q { gate = gate; loaded = [] }
 
@@ -51,7 +51,7 @@ numbering q = record q { count = q.count + 1; joined = newly_numbered q.count �
 abbrev pub scanning : PrunerView → ℕ → ℕ → PrunerView
 scanning q k word = record q { loaded = q.loaded ++ word ∷ []; pairs = cond (word == 0) q.pairs (q.pairs ++ (k / 8, word - 1) ∷ []) }
 
--- a place joins for a scan: nothing is loaded
+-- a place joins for a scan, before any pin word is loaded
 abbrev pub with_own : PrunerView → PlaceView → PrunerView
 with_own q v = record q { loaded = []; joined = v ∷ q.joined }
 
