@@ -32,7 +32,7 @@ module _ {V E O : Type 0} (list : V → List E) (names : E → ℕ) (origin_of :
   list_of entries l homes v free s = absurd s
   list_of entries l homes v (held_by n) s = (n, refl, s.1)
 
-  -- a seat that has not the turn has seen its own entries
+  -- a seat that doesn't have the turn has seen its own entries
   own_of : (entries : List E) (homes : List (maybe.Option (Option V))) (v : SeatView E O) (h : Hand) (stage : Stage E) → Stand entries homes v h stage → stage ≢ Spent → ¬ (HasTurn stage) → OwnAreSeen list names origin_of entries v
   own_of entries homes v h Spent s there not = absurd (there refl)
   own_of entries homes v h Opening s there not = absurd (not tt)
@@ -40,7 +40,7 @@ module _ {V E O : Type 0} (list : V → List E) (names : E → ℕ) (origin_of :
   own_of entries homes v free Idle s there not = s
   own_of entries homes v (held_by n) Idle s there not = s.1
 
-  -- its entries among those that begin the turn's list
+  -- if a seat has seen its own entries in a list, it has seen those in a front of the list
   own_first : (entries front : List E) (v : SeatView E O) → StartsWith entries front → OwnAreSeen list names origin_of entries v → OwnAreSeen list names origin_of front v
   own_first entries front v s own = λ k e at has. own k e (subst (λ xs. get_elem? xs k ≡ maybe.some e) (sym s.1) (at_longer front s.0 k e at)) has
 

@@ -82,7 +82,7 @@ module _ {V E O : Type 0} (list : V → List E) (names : E → ℕ) (origin_of :
   apart : (p : Account E O) (id j n : ℕ) (u : W) → p.seat_of n ≡ id → j ≢ id → Sit p j u → Has u.numbers n → ⊥
   apart p id j n u own other sit has = other (sym (sit.numbers n has).1 ∙ own)
 
-  -- a seat takes the turn
+  -- another seat still agrees after a seat takes the turn
   taken_else : (entries : List E) (hs hs' : Homes) (n : ℕ) (u : W) (st : Stage E) → (st ≢ Spent → Has u.numbers n → ⊥) → Stand entries hs u free st → Stand entries hs' u (held_by n) st
   taken_else entries hs hs' n u Spent not s = tt
   taken_else entries hs hs' n u Idle not s = (not (λ e. cc), s)
@@ -131,7 +131,7 @@ module _ {V E O : Type 0} (list : V → List E) (names : E → ℕ) (origin_of :
         ((λ hit. absurd (miss hit)), λ _. refl),
       ))
 
-  -- the seat that has the turn
+  -- the holder of the turn is held for one of its numbers, and keeps the turn's list
   holder_of : (entries l : List E) (hs : Homes) (v : W) (h : Hand) → Stand entries hs v h (Holding l) → (n : ℕ) × (h ≡ held_by n) × Has v.numbers n × (l ≡ entries)
   holder_of entries l hs v free s = absurd s
   holder_of entries l hs v (held_by n) s = (n, refl, s.0, s.1)

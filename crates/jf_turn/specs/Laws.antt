@@ -56,7 +56,7 @@ module _ {V E O : Type 0} (list : V → List E) (names : E → ℕ) (origin_of :
       → (slice_index s.words 1 ≤ seats)
       × ((i : ℕ) (v : SeatView E O) → IsThere s i v → ((n : ℕ) → Has v.numbers n → n < slice_index s.words 1) × ((e : E) → Has v.seen e → names e < slice_index s.words 1) × (v.origin ≡ Some start))
 
-  -- an entry that any seat has seen, or that the holder's list has, and that names a number of a seat which has not the turn, is one that this seat has seen
+  -- an entry that any seat has seen, or that the holder's list has, and that names a number of a seat without the turn, is one that this seat has seen
   abbrev pub OwnEntriesAreSeen : Type 0
   OwnEntriesAreSeen = (seats : ℕ) (start : O) (s : State (Option V) (SeatView E O)) → IsTurn list names origin_of seats start s
       → (i j : ℕ) (v w : SeatView E O) → IsThere s i v → IsThere s j w → ¬ (HasTurn v.stage)

@@ -10,15 +10,15 @@ use Rattle.jf_turn.specs.Lists.{Has, StartsWith, longer, shorter, shorter_number
 use Rattle.jf_turn.specs.Rule.{OwnAreSeen}
 
 module _ {E O : Type 0} where
-  -- at another stage
+  -- the view at another stage
   abbrev pub at_stage : SeatView E O → Stage E → SeatView E O
   at_stage v stage = record v { stage = stage; other_numbers = [] }
 
-  -- holding nothing, with all of a list seen
+  -- the view that holds nothing and has seen all of a list
   abbrev pub released_seat : SeatView E O → List E → SeatView E O
   released_seat v seen = record v { stage = Idle; seen = seen; other_numbers = [] }
 
-  -- with one number more, the next to be given
+  -- the maker's view with one more number, the next to be given
   abbrev pub minted : SeatView E O → SeatView E O
   minted v = record v { numbers = v.given ∷ v.numbers; given = v.given + 1 }
 
