@@ -86,12 +86,12 @@ node-visited height skip room n m k steps old le few lt some by_count by_entries
       | inr by ↦ omega (arith, grown, up, by, by_entries)
     ]
 
--- of a leaf, or a node that is passed
+-- the bound for a leaf, or for a node that is passed
 pub one-visited : (height skip room n steps old : ℕ) → steps ≡ old + 1 → steps ≤ old + most_nodes height skip room n
 unfolding most_nodes
 one-visited height skip room n steps old is = omega (arith, is)
 
--- of all nodes
+-- the bound for a whole map
 pub most-nodes_top : (height skip room n : ℕ) → height ≤ 64 → most_nodes height skip room n ≤ 65 * copied skip room n + 2049
 unfolding most_nodes
 most-nodes_top height skip room n low =
@@ -115,7 +115,7 @@ child_visited height up skip room left space n m i old steps new same l s some b
     let rest = below-more height skip room n m in
     (omega (arith, here, rest, before.0), omega (arith, here, rest, before.1))
 
--- what was copied so far
+-- how many entries were copied so far
 so_many : (skip room : ℕ) (es : Entries) → length (take room (drop skip es)) ≡ copied skip room (length es)
 so_many skip room es = length-take room (drop skip es) ∙ ap (min room) (length-drop skip es)
 
@@ -137,7 +137,7 @@ visit-none depth skip room old steps links i lt is visited =
     length-joined-more links i None lt ∙ ap (λ (x : Option LinkValue). length (joined (take i links)) + length (content x)) (sym is) ∙ (let e : length (joined (take i links)) + 0 ≡ length (joined (take i links)) = omega arith in e) in
     subst (λ n. AreVisited (63 - depth) skip room n (i + 1) old steps) (sym long) (omega (arith, visited.0), visited.1)
 
--- the node, the first i children of which were looked at
+-- the bound for a node after its first i children were looked at
 pub visit-node : (x : LinkValue) (skip room old steps : ℕ) (links : List (Option LinkValue)) (i : ℕ) → ShowsInner x links → i ≤ 16 → skip < length x.entries → 0 < room
     → AreVisited (63 - x.depth) skip room (length (joined (take i links))) i old steps → steps ≤ old + most_nodes (64 - x.depth) skip room (length x.entries)
 visit-node x skip room old steps links i shows few lt some visited =
