@@ -1,4 +1,4 @@
--- What adding a chunk makes of a restore, and when it is whole.
+-- What adding a chunk changes in a restore, and when a restore is whole.
 use Rattle.std.specs.Prelude.{◌≡◌, ◌≢◌, ℕ, ◌≤◌, ◌++◌, length, Some, None}
 use Rattle.std.specs.List.{AllByRecursion}
 use Rattle.jf_hash.specs.Roots.{part_root}
@@ -13,7 +13,7 @@ use Rattle.jf_restore.specs.declared.refused.RestoreRefused.TheVariants as refus
 abbrev pub AreShort : Entries → Type 0
 AreShort es = AllByRecursion (λ e. length e.1 ≤ 4096) es
 
--- with more entries after its own
+-- the restore with more entries after its own
 abbrev pub with_more : RestoreValue → Entries → RestoreValue
 with_more r es = record { version = r.version; root = r.root; entries = r.entries ++ es }
 
