@@ -107,7 +107,7 @@ is_next at n h = grind (arith, nat_tests)
 is_before : (at n : ℕ) → at ≤ n → (at == n + 1) ≡ false
 is_before at n h = grind (arith, nat_tests)
 
--- a result that comes to this
+-- lines that come to a whole restore decide no refusal
 ok_so : (r : RestoreValue) (x : RestoreValue) (o : Result Entries BlockFault) (n : ℕ) → Ok x ≡ with_entries r o → None ≡ decided n o
 ok_so r x (Ok es) n e = refl
 ok_so r x (Err why) n e = absurd (cc)

@@ -20,7 +20,7 @@ ChunksComeLineByLine = (r : RestoreValue) (ls : List (List ℕ)) → end_of (aft
 abbrev pub RefusalsComeAtTheirLine : Type 0
 RefusalsComeAtTheirLine = (r : RestoreValue) (ls : List (List ℕ)) → refusal_of (after_all (begun r) ls).stage ≡ decided (length ls) (chunks r.root r.entries ls)
 
--- a refusal is what all lines come to that begin with these
+-- after a refusal, all lines that begin with these give the same refusal
 abbrev pub RefusalsStay : Type 0
 RefusalsStay = (r : RestoreValue) (ls ms : List (List ℕ)) (why : BlockFault) → refusal_of (after_all (begun r) ls).stage ≡ Some why → chunks r.root r.entries (ls ++ ms) ≡ Err why
 

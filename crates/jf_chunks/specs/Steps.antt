@@ -17,7 +17,7 @@ pub record State : Type 0 where
   pub at : ℕ
   pub stage : Stage
 
--- no line is read yet
+-- the state before the first line
 abbrev pub begun : RestoreValue → State
 begun r = record { restore = r; at = 1; stage = stage.Between }
 
@@ -42,7 +42,7 @@ pub record Step : Type 0 where
 abbrev pub IsMade : Step → RestoreValue → Stage → Type 0
 IsMade step restore next = (restore ≡ step.restore) × (next ≡ step.stage)
 
--- nothing is added
+-- a step that adds nothing
 abbrev pub keeps : RestoreValue → Stage → Step
 keeps r s = record { restore = r; stage = s }
 
@@ -60,7 +60,7 @@ whole r b = taken r b.first (b.entries, b.proof)
 abbrev pub settled : RestoreValue → Begun → Step
 settled r b = if nat_lt 0 b.entries_left || nat_lt 0 b.siblings_left then keeps r (stage.Block b) else whole r b
 
--- a block that begins at a line
+-- the block that begins at a line
 abbrev pub begun_at : ℕ → ChunkHead → Begun
 begun_at at head = record { first = at; entries_left = head.entries; siblings_left = head.siblings; entries = []; proof = record { depth = head.depth; siblings = [] } }
 
@@ -72,17 +72,17 @@ with_entry b e = record { first = b.first; entries_left = b.entries_left - 1; si
 abbrev pub with_sibling : Begun → List ℕ → Begun
 with_sibling b h = record { first = b.first; entries_left = b.entries_left; siblings_left = b.siblings_left - 1; entries = b.entries; proof = record { depth = b.proof.depth; siblings = b.proof.siblings ++ h ∷ [] } }
 
--- the first line of a block
+-- the step of a block's first line
 abbrev pub first_step : RestoreValue → ℕ → Option ChunkHead → Step
 first_step r at None = refuses r (fault.Line at)
 first_step r at (Some head) = settled r (begun_at at head)
 
--- the line of an entry
+-- the step of an entry's line
 abbrev pub entry_step : RestoreValue → ℕ → Begun → Option Entry → Step
 entry_step r at b None = refuses r (fault.Line at)
 entry_step r at b (Some e) = settled r (with_entry b e)
 
--- the line of a sibling
+-- the step of a sibling's line
 abbrev pub side_step : RestoreValue → ℕ → Begun → Option (List ℕ) → Step
 side_step r at b None = refuses r (fault.Line at)
 side_step r at b (Some h) = settled r (with_sibling b h)
