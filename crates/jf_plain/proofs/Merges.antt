@@ -66,7 +66,7 @@ drop-nil : (n : ℕ) → drop {A = MapEntry} n [] ≡ []
 drop-nil zero = refl
 drop-nil (suc n) = refl
 
--- nothing is removed from entries of later keys
+-- a removal changes nothing of entries with later keys
 none_removed : (k : List ℕ) (es : List MapEntry) → T (below_all key_cmp k es) → changed k None es ≡ es
 none_removed k [] h = refl
 none_removed k (e ∷ es) h =

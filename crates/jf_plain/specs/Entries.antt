@@ -7,7 +7,7 @@ use Rattle.std.specs.FinMap.{is_sorted, entries, find}
 use Rattle.jf_path.specs.Keys.{key_cmp, IsKey, IsBytes}
 use Rattle.jf_hash.specs.Maps.{Map}
 
--- keys that rise strictly, and values of at most 4,096 bytes
+-- entries of a plain map: keys that ascend strictly, and values of at most 4,096 bytes
 pub record AreEntries (es : List (List ℕ × List ℕ)) : Type 0 where
   pub sorted : T (is_sorted key_cmp es)
   pub sound : AllByRecursion (λ e. IsKey e.0 × IsBytes e.1) es
