@@ -23,6 +23,6 @@ pub both_so : (a b : Bool) → T a → T b → T (a && b)
 both_so true b p q = q
 both_so false b p q = p
 
--- a test on an order, by the order
+-- the test of an order passes if the order is `Less`
 pub less_so : (o : Ordering) → o ≡ Less → T (is_lt o)
 less_so o h = subst (λ r. T (is_lt r)) (sym h) tt

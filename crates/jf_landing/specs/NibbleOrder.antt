@@ -51,7 +51,7 @@ odd a p j e =
     let half : j / 2 ≡ p = omega arith in
     nibble-odd a j (omega arith) ∙ ap (λ q. slice_index a q % 16) half
 
--- keys with one byte there have one nibble there
+-- keys with the same byte at a place have the same nibbles there
 same_half : (j : ℕ) (a b : List ℕ) → IsKey a → IsKey b → slice_index a (j / 2) ≡ slice_index b (j / 2) → nibble a j ≡ nibble b j
 same_half j a b ka kb e = elim (cases_eq (j % 2) 0) [
   | inl here ↦ nibble-even a j (ka.bytes (j / 2)) here ∙ ap (λ v. v / 16) e ∙ sym (nibble-even b j (kb.bytes (j / 2)) here)
@@ -88,7 +88,7 @@ first_nibble a b ka kb is =
       )
     ]
 
--- two keys that agree so far differ later
+-- two keys that agree up to a place differ only later
 pub apart_at : (d : ℕ) (a b : List ℕ) (path : ℕ → ℕ) → IsKey a → IsKey b → key_cmp a b ≡ Less → ((i : ℕ) → i < d → nibble a i ≡ path i) → ((i : ℕ) → i < d → nibble b i ≡ path i) → (i : ℕ) × (d ≤ i) × FirstNibble a b i
 apart_at d a b path ka kb lt pa pb =
     let f = first_nibble a b ka kb lt in

@@ -21,7 +21,7 @@ two_entries [] h = absurd (true≢false (sym h))
 two_entries (e ∷ []) h = absurd (true≢false (sym h))
 two_entries (e ∷ f ∷ es) h = omega arith
 
--- its steps are nibbles
+-- each step of a node's path is a nibble
 pub nibbles-is_node : (d : ℕ) (p : Path) (es : Part) → is_node d p es ≡ true → AllByRecursion (λ n. n < 16) p
 unfolding is_node
 nibbles-is_node d [] es h = tt

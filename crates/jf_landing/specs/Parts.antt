@@ -5,7 +5,7 @@ use Rattle.std.specs.FinMap.{is_sorted}
 use Rattle.jf_path.specs.Keys.{key_cmp, IsKey}
 use Rattle.jf_path.specs.Nibbles.{nibble}
 
--- entries whose keys rise strictly and have the first `depth` nibbles of a path
+-- entries whose keys ascend strictly and have the first `depth` nibbles of a path
 pub record IsPart {X : Type 0} (depth : ℕ) (path : ℕ → ℕ) (es : List (List ℕ × X)) : Type 0 where
   pub sorted : T (is_sorted key_cmp es)
   pub keys : AllByRecursion (λ e. IsKey e.0) es
