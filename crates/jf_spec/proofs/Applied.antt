@@ -15,7 +15,7 @@ zeros-applied d es bs sorted = filter-applied (λ k. not (bit k d)) es bs sorted
 pub ones-applied : (d : ℕ) (es : Part) (bs : Batch) → T (is_sorted key_cmp es) → ones d (applied es bs) ≡ applied (ones d es) (ones d bs)
 ones-applied d es bs sorted = filter-applied (λ k. bit k d) es bs sorted
 
--- entries stay under their path
+-- entries stay under their path after a batch
 pub IsUnder-applied : (d : ℕ) (path : ℕ → Bool) (es : Part) (bs : Batch) → IsUnder d path es → IsUnder d path bs → IsUnder d path (applied es bs)
 IsUnder-applied d path es bs p q = record {
   sorted = sorted-applied es bs p.sorted;

@@ -17,7 +17,7 @@ use Rattle.jf_spec.specs.Costs.{most_steps}
 use Rattle.jf_spec.proofs.PartHalves.{AreParts-zeros, AreParts-ones, applied-halves, HaveBit-applied_zeros, HaveBit-applied_ones, batch_halves, deeper_under}
 use Rattle.jf_spec.proofs.Steps.{first_steps, both_steps}
 
--- from a place on, to the end
+-- all of a batch from a place on is its rest
 whole : (p : ℕ) (bs : Batch) → take (length bs - p) (drop p bs) ≡ drop p bs
 whole p bs = take_all (length bs - p) (drop p bs) (omega (arith, length-drop p bs))
 
@@ -41,7 +41,7 @@ module _ (d p : ℕ) (es : Part) (bs : Batch) (parts : AreParts d es bs) (first 
   one_new : (o y : RangeValue) → o ≡ record { depth = d + 1; entries = ones d es } → y ≡ record { depth = o.depth; entries = applied o.entries (take (length bs - p) (drop p bs)) } → y.entries ≡ applied (ones d es) (ones d bs)
   one_new o y is made = ap (λ w. w.entries) made ∙ ap₂ applied (ap (λ w. w.entries) is) (sym one_batch)
 
-  -- the new halves have one bit
+  -- each new half has its bit
   pub zero_bits : (z y : RangeValue) → z ≡ record { depth = d + 1; entries = zeros d es } → y ≡ record { depth = z.depth; entries = applied z.entries (take p bs) } → HaveBit d false y.entries
   zero_bits z y is made = subst (HaveBit d false) (sym (zero_new z y is made)) (HaveBit-applied_zeros d es bs parts)
 
@@ -70,7 +70,7 @@ module _ (d p : ℕ) (es : Part) (bs : Batch) (parts : AreParts d es bs) (first 
 
 -- ---- a batch of at most one key
 
--- a result by another spelling of its entries
+-- a result's entries may be given in another form
 pub ok_is : {E : Type 0} (r : Result RangeValue E) (v w : RangeValue) → v ≡ w → IfOk r (λ x. x ≡ v) → IfOk r (λ x. x ≡ w)
 ok_is (Ok x) v w is h = h ∙ is
 ok_is (Err e) v w is h = tt
@@ -79,7 +79,7 @@ pub none_applied : (es : Part) (bs : Batch) → length bs < 1 → es ≡ applied
 none_applied es [] short = sym (applied-none es)
 none_applied es (b ∷ bs) short = absurd (omega arith)
 
--- a key's own entry is replaced
+-- changing the key of a single entry gives what changing no entry gives
 changed_own : (k q w : List ℕ) (v : Option (List ℕ)) → q ≡ k → changed k v [] ≡ changed k v ((q, w) ∷ [])
 changed_own k q w (Some v) is =
     sym (ap (λ r. by_order r ((k, v) ∷ (q, w) ∷ []) ((q, v) ∷ []) ((q, w) ∷ (k, v) ∷ [])) (ap (key_cmp k) is ∙ tied_itself nat_list_cmp_total k) ∙ ap (λ z. (z, v) ∷ []) is)

@@ -63,7 +63,7 @@ map_applied top new m bs is seen tree =
     ∙ ap fin.from_sorted (sym (entries-apply m bs))
     ∙ map_of (apply m bs)
 
--- the steps of all keys
+-- the steps from the top are at most 600 n + 1
 pub steps_of : (d n before after : ℕ) → d ≡ 0 → after ≤ before + most_steps d n → after ≤ before + (600 * n + 1)
 steps_of d n before after none h =
     let e : most_steps d n ≡ n * 513 = ap (λ k. n * (2 * (256 - k) + 1)) none in

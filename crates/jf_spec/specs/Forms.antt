@@ -34,6 +34,6 @@ IsSoundForm depth (Branch branch) = AreHalves depth branch.value.zeros branch.va
 abbrev pub node_value : ℕ → Form → RangeValue
 node_value depth form = record { depth = depth; entries = form_entries form }
 
--- how far a node reaches down
+-- how many levels a node may have
 abbrev pub levels : RangeValue → ℕ
 levels v = 257 - v.depth
