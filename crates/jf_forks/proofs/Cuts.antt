@@ -42,7 +42,7 @@ map_removed h [] (suc i) = refl
 map_removed h (x ∷ xs) zero = refl
 map_removed h (x ∷ xs) (suc i) = ap (λ t. h x ∷ t) (map_removed h xs i)
 
--- ---- one fork more
+-- ---- one more fork
 
 -- at the end of the list nothing is worked yet
 pub worked_none : (at : ℕ) (work : List Grown → List Grown) (gs : List Grown) → at ≡ length gs → work [] ≡ [] → Worked at work gs gs
@@ -58,7 +58,7 @@ module _ (at : ℕ) (work : List Grown → List Grown) (old new : List Grown) (w
   front_more : take at new ≡ take at old
   front_more = sym (take-take at (at + 1) new (omega arith)) ∙ ap (take at) w.front ∙ take-take at (at + 1) old (omega arith)
 
-  -- the fork itself is as it was
+  -- the fork at the place is the one that was there
   pub same_fork : (d : Grown) → get_or new at d ≡ get_or old at d
   same_fork d = sym (get_or-take (at + 1) new at d (omega arith)) ∙ ap (λ xs. get_or xs at d) w.front ∙ get_or-take (at + 1) old at d (omega arith)
 
@@ -103,7 +103,7 @@ length_map h (x ∷ xs) = ap suc (length_map h xs)
 no_fork : Grown
 no_fork = record { fork = record { id = 0; parent = parent.Head; batch = [] }; map = fin.empty }
 
--- they are forks too
+-- the forks after a place are forks too
 pub forks_behind : (at bound : ℕ) (gs : List Grown) → at < length gs → AreForks bound (forks_of (drop at gs)) → (b : ℕ) × AreForks b (forks_of (drop (at + 1) gs))
 forks_behind at bound gs lt sound =
     let h : AreForks bound (forks_of (get_or gs at no_fork ∷ drop (at + 1) gs)) = subst (λ hs. AreForks bound (forks_of hs)) (drop_more gs at no_fork lt) sound in
@@ -115,7 +115,7 @@ drop_count-few id (f ∷ fs) =
     let rest = drop_count-few id fs in
     elim (f.id == id || descends id fs f) as (λ b. cond b (1 + drop_count id fs) (drop_count id fs) ≤ length (f ∷ fs)) [ true ↦ omega arith | false ↦ omega arith ]
 
--- there is room for one more
+-- the fork at a place and those dropped after it are no more than there are
 pub count_room : (at id n : ℕ) (gs : List Grown) → at < length gs → n ≡ drop_count id (forks_of (drop (at + 1) gs)) → n + 1 ≤ length gs
 count_room at id n gs within is = omega (arith, is, drop_count-few id (forks_of (drop (at + 1) gs)), length_map (λ g. g.fork) (drop (at + 1) gs), length-drop (at + 1) gs)
 
@@ -163,7 +163,7 @@ module _ (at id bound : ℕ) (xs ys : List LiveFork) (x : LiveFork) (work : List
   looked_up t q zs same h =
       h ∙ ap (λ ls. is_among q (forks_of (map grown (take (length ls - (at + 1)) (drop (at + 1) ls))))) same ∙ ap (λ gs. is_among q (forks_of gs)) behind
 
-  -- the fork, however it was looked at
+  -- the fork looked at is the one at the place
   pub same_item : (m : LiveFork) → m ≡ get_or ys at m → m ≡ x
   same_item m h = h ∙ any_default ys at m x (let e = w.within in omega (arith, length_map grown ys)) ∙ sym is
 

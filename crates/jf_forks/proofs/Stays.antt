@@ -18,7 +18,7 @@ swapped true false = refl
 swapped false true = refl
 swapped false false = refl
 
--- what isn't there doesn't stay
+-- a fork that isn't there doesn't stay
 fewer : (p id : ℕ) (fs : List Fork) → is_among p fs ≡ false → is_among p (without id fs) ≡ false
 fewer p id [] none = refl
 fewer p id (f ∷ fs) none =
@@ -28,7 +28,7 @@ fewer p id (f ∷ fs) none =
       | false ↦ ap (λ b. (f.id == p) || b) (rest ∙ sym (or_false_right (f.id == p) _ none)) ∙ none
     ]
 
--- of forks that are live, those are dropped that stand on the dropped one
+-- of live forks, those stay that don't stand on the dropped one
 among-without : (bound id p : ℕ) (fs : List Fork) → AreForks bound fs → is_among p fs ≡ true → is_among p (without id fs) ≡ not (is_among id (chain fs p))
 among-without bound id p [] sound h = absurd (true≢false (sym h))
 among-without bound id p (f ∷ fs) sound h =
