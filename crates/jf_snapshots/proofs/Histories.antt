@@ -10,7 +10,7 @@ use Rattle.jf_model.specs.VersionLaws.{new_store-IsVersions, landed_map-IsVersio
 use Rattle.jf_node.specs.SnapshotValue.{SnapshotValue}
 use Rattle.jf_snapshots.specs.Kept.{kept, AreKept}
 
--- a snapshot on top
+-- the versions of a list with one more snapshot
 kept-push : (ss : List SnapshotValue) (x : SnapshotValue) → 0 < length ss → kept (ss ++ x ∷ []) ≡ record { base = 0; floor = 0; head = length ss - 1 + 1; roots = root x.map ∷ map (λ s. root s.map) (reverse ss); maps = x.map ∷ map (λ s. s.map) (reverse ss) }
 kept-push ss x some =
     let long : length (ss ++ x ∷ []) - 1 ≡ length ss - 1 + 1 = omega (arith, length-append ss (x ∷ [])) in
@@ -41,7 +41,7 @@ are-landed ss x v b h is made numbered sound low =
       numbered = numbered-push ss x h.numbered (omega (arith, numbered, head));
     }
 
--- the first one
+-- the versions of a list of one are a new store
 pub kept-one : (ss ts : List SnapshotValue) (x : SnapshotValue) → ts ≡ [] → ss ≡ ts ++ x ∷ [] → x.map ≡ fin.empty → kept ss ≡ new_store
 kept-one ss ts x none is empty = ap kept (is ∙ ap (λ us. us ++ x ∷ []) none) ∙ ap (λ m. record { base = 0; floor = 0; head = 0; roots = root m ∷ []; maps = m ∷ [] }) empty
 
