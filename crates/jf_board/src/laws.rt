@@ -9,7 +9,7 @@ pub fn know_cut_is_low()
     ensures { (passes : ℕ) (s : BoardState) → IsBoard passes s → CutIsLow s }
 {}
 
-/// A pin word is what its place's view says, and 0 where its number isn't given. Numbers of places differ and lie below
+/// A pin word is what its place's view says, and 0 if its number isn't given. Numbers of places differ and lie below
 /// the count, and a place's list has each version that it has announced or confirmed.
 pub fn know_words_are_holds()
     ensures { (passes : ℕ) (s : BoardState) → IsBoard passes s → WordsAreHolds s }
