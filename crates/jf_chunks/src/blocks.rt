@@ -15,7 +15,7 @@ use std::mem::replace;
 /// when its last line has come. Of a line of more than 8,500 bytes the first 8,501 will do.
 ///
 /// A line that doesn't match is refused at that line, and a block that isn't accepted at its last line. After a refusal
-/// nothing more is read, and each later call answers the same.
+/// nothing more is read, and each later call returns the same.
 #[derive(Drop)]
 pub struct Blocks {
     alloc: Global,
