@@ -6,7 +6,7 @@ use Rattle.jf_hash.specs.Maps.{IsBatch}
 use Rattle.jf_model.specs.Versions.{Versions, IsVersions, pruned}
 use Rattle.jf_model.specs.Forks.{Fork, AreForks}
 
--- All versions from the floor at opening on, of which none is dropped; the present floor; and what the files don't hold:
+-- All versions from the floor at opening on, which are never dropped; the present floor; and what the files don't hold:
 -- the retired bound, the number of entries, of forks made, and the live forks.
 pub record State : Type 0 where
   pub all : Versions
