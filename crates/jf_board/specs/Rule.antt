@@ -16,9 +16,11 @@ use Rattle.jf_board.specs.declared.views.View.TheVariants.{Pins, Prunes, Spent}
 abbrev pub BoardState : Type 0
 BoardState = State (Unit {0}) View
 
+-- the gate word
 abbrev pub gate_in : BoardState → ℕ
 gate_in s = slice_index s.words 0
 
+-- the cut word
 abbrev pub cut_in : BoardState → ℕ
 cut_in s = slice_index s.words 1
 
