@@ -46,6 +46,7 @@ IsMade step restore next = (restore ≡ step.restore) × (next ≡ step.stage)
 abbrev pub keeps : RestoreValue → Stage → Step
 keeps r s = record { restore = r; stage = s }
 
+-- a step that refuses, and adds nothing
 abbrev pub refuses : RestoreValue → BlockFault → Step
 refuses r why = keeps r (stage.Refused why)
 
@@ -53,6 +54,7 @@ refuses r why = keeps r (stage.Refused why)
 abbrev pub taken : RestoreValue → ℕ → Chunk → Step
 taken r first chunk = elim (range_refusal r.root r.entries chunk.0 chunk.1) [ None ↦ keeps (with_more r chunk.0) stage.Between | Some why ↦ refuses r (fault.Chunk first why) ]
 
+-- the step of a block that is read to its end
 abbrev pub whole : RestoreValue → Begun → Step
 whole r b = taken r b.first (b.entries, b.proof)
 
@@ -132,5 +134,6 @@ end_by r at stage.Between = Ok r
 end_by r at (stage.Block b) = Err (fault.Line at)
 end_by r at (stage.Refused why) = Err why
 
+-- what the end of the lines returns in a state
 abbrev pub end_of : State → Result RestoreValue BlockFault
 end_of s = end_by s.restore s.at s.stage

@@ -5,7 +5,7 @@ ghost use Rattle.jf_chunks.specs.declared.fault.BlockFault.TheVariants as fault;
 use jf_path::Memory;
 use jf_restore::RangeFault;
 
-/// Why lines of chunk blocks are refused. Lines are numbered from 1.
+/// Why lines of chunk blocks are refused. Lines are numbered from 1, over all blocks: docs/FORMATS.md, "Chunk blocks".
 #[derive(Clone, Copy, Debug, PartialEq, Eq)]
 pub enum BlockFault {
     /// The line with this number doesn't match, or the lines end before it in the middle of a block.
