@@ -25,6 +25,7 @@ base_map s own (base.Place place) = map_of s.all (unwrap_or (pinned own place) 0
 
 -- ---- single causes: a test, and the refusal if it holds
 
+-- tests in their order, each with the refusal if it holds
 abbrev pub Causes : Type 0
 Causes = List (Bool × Refusal)
 

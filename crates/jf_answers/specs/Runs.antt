@@ -14,6 +14,7 @@ pub record Run : Type 0 where
   pub state : State
   pub own : Own
 
+-- the answers to lines, each over the state and own part that the lines before it left
 unfoldable pub answers_from : State → Own → List (List ℕ) → Run
 answers_from s own [] = record { answers = []; state = s; own = own }
 answers_from s own (line ∷ ls) =
@@ -33,17 +34,21 @@ answer_text n a = reply_text n a.reply ++ a.block
 abbrev pub texts_of : Run → List (List ℕ)
 texts_of r = map (λ a. answer_text a.state.count a) r.answers
 
+-- the text of all answers
 abbrev pub text_of : Run → List ℕ
 text_of r = concat (texts_of r)
 
+-- the entries that the lines gave, in their order
 abbrev pub entries_of : Run → List Entry
 entries_of r = flat_map (λ a. option_to_list a.entry) r.answers
 
 -- ---- laws
 
+-- a run and then another, which ends as the second does
 abbrev pub followed_by : Run → Run → Run
 followed_by r q = record { answers = r.answers ++ q.answers; state = q.state; own = q.own }
 
+-- a run with one more answer before its own
 abbrev pub with_first : Answer → Run → Run
 with_first a r = record { answers = a ∷ r.answers; state = r.state; own = r.own }
 
