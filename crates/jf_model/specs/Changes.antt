@@ -12,6 +12,7 @@ use Rattle.jf_hash.specs.KeyOrder.{same_key-exact}
 use Rattle.jf_hash.specs.Maps.{Map, Batch, IsMap, IsBatch, change, apply, same_key}
 use Rattle.jf_hash.specs.MapLaws.{entries-remove, said}
 
+-- a key and its value
 abbrev pub MapEntry : Type 0
 MapEntry = List ℕ × List ℕ
 

@@ -38,15 +38,18 @@ after (entry.Dropped owner fork) s = record s { count = s.count + 1; forks = wit
 after (entry.Retired owner bound floor) s = record s { count = s.count + 1; retired = bound; floor = floor }
 after (entry.Compacted owner generation) s = record s { count = s.count + 1; generation = generation }
 
+-- the state after entries, in turn
 unfoldable pub replay : State → List Entry → State
 replay s [] = s
 replay s (e ∷ es) = replay (after e s) es
 
 -- ---- legal entries
 
+-- the fork is live
 abbrev pub IsLive : State → ℕ → Type 0
 IsLive s id = IsTrue (is_among id s.forks)
 
+-- a fork may be made: it has the next number, a parent, and room among at most 1,024 live forks, and this is the root of its map
 pub record IsMaking (s : State) (fork : ℕ) (parent : Parent) (batch : Batch) (r : List ℕ) : Type 0 where
   pub next : fork ≡ s.made
   pub stands : IsTrue (is_parent parent s.forks)
@@ -67,15 +70,18 @@ pub record IsLanding (s : State) (version : ℕ) (how : Landing) (r : List ℕ) 
   pub bounded : version ≤ 2 ^ 64 - 2
   pub rooted : r ≡ root (newest (versions_after s how))
 
+-- versions may be retired: neither bound nor floor falls, the bound is at most the head, and the floor at most the bound
 pub record IsRetiring (s : State) (bound floor : ℕ) : Type 0 where
   pub rises : s.retired ≤ bound
   pub within : bound ≤ s.all.head
   pub floor_rises : s.floor ≤ floor
   pub below : floor ≤ bound
 
+-- the next generation may be written
 abbrev pub IsCompacting : State → ℕ → Type 0
 IsCompacting s generation = (generation ≡ s.generation + 1) × (generation ≤ 2 ^ 64 - 2)
 
+-- an entry fits the state
 abbrev pub IsLegalStep : State → Entry → Type 0
 IsLegalStep s (entry.Made owner fork parent batch r) = IsMaking s fork parent batch r
 IsLegalStep s (entry.Landed owner version how r moment) = IsLanding s version how r
@@ -115,6 +121,7 @@ pub record IsHistory (s : State) (es : List Entry) : Type 0 where
 
 -- ---- what an entry names
 
+-- the number of the session that made the entry
 abbrev pub owner_of : Entry → ℕ
 owner_of (entry.Made owner fork parent batch r) = owner
 owner_of (entry.Landed owner version how r moment) = owner

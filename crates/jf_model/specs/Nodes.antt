@@ -11,6 +11,7 @@ use Rattle.jf_hash.specs.RootLaws.{entries-empty}
 use Rattle.jf_hash.specs.Slots.{Part, all_nibbles, with_nibble}
 use Rattle.jf_model.specs.Versions.{Versions, new_store}
 
+-- the nibbles from the top down to a node
 abbrev pub Path : Type 0
 Path = List ℕ
 
@@ -19,10 +20,12 @@ unfoldable pub under : ℕ → Path → Part → Part
 under d [] es = es
 under d (i ∷ p) es = under (d + 1) p (with_nibble d i es)
 
+-- whether a list has at least one element
 abbrev pub has_one : {X : Type 0} → List X → Bool
 has_one [] = false
 has_one (x ∷ xs) = true
 
+-- whether a list has at least two elements
 abbrev pub has_two : {X : Type 0} → List X → Bool
 has_two [] = false
 has_two (x ∷ xs) = has_one xs
@@ -32,6 +35,7 @@ unfoldable pub is_node : ℕ → Path → Part → Bool
 is_node d [] es = true
 is_node d (i ∷ p) es = has_two es && has_one (with_nibble d i es) && is_node (d + 1) p (with_nibble d i es)
 
+-- whether two parts have the same keys with the same values
 abbrev pub same_part : Part → Part → Bool
 same_part [] [] = true
 same_part [] (f ∷ fs) = false
@@ -49,6 +53,7 @@ nodes_below zero d es = ([], es) ∷ []
 nodes_below (suc n) d es =
     ([], es) ∷ (if has_two es then flat_map (λ i. if has_one (with_nibble d i es) then map (λ x. (i ∷ x.0, x.1)) (nodes_below n (d + 1) (with_nibble d i es)) else []) all_nibbles else [])
 
+-- all nodes of a map with their entries, in the order of their paths
 unfoldable pub nodes : Map → List (Path × Part)
 nodes m = nodes_below 64 0 (entries m)
 
@@ -66,6 +71,7 @@ node_count [] = 0
 node_count (m ∷ []) = length (nodes m)
 node_count (m ∷ n ∷ ms) = length (fresh n m) + node_count (n ∷ ms)
 
+-- the number of nodes that a store keeps for its versions
 unfoldable pub kept : Versions → ℕ
 kept v = node_count v.maps
 

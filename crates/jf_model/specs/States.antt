@@ -25,6 +25,7 @@ versions s = pruned s.floor s.all
 abbrev pub opened : Versions → ℕ → State
 opened v g = record { all = v; floor = v.floor; retired = v.floor; generation = g; count = 0; made = 0; forks = [] }
 
+-- a sound state: its versions and forks are sound, and floor, retired bound and head stand in this order
 pub record IsState (s : State) : Type 0 where
   pub sound : IsVersions s.all
   pub first : s.all.floor ≤ s.floor

@@ -5,6 +5,7 @@ use Rattle.jf_hash.specs.Codes.{bytes_code, map_code}
 use Rattle.jf_hash.specs.Maps.{Map}
 use Rattle.jf_model.specs.Versions.{Versions}
 
+-- versions coded as base, floor, head, roots and maps
 abbrev pub versions_code : Coded Versions
 versions_code =
     code_by (ℕ × (ℕ × (ℕ × (List (List ℕ) × List Map)))) (coded× coded_ℕ (coded× coded_ℕ (coded× coded_ℕ (coded× (coded_list bytes_code) (coded_list map_code)))))
