@@ -66,7 +66,7 @@ impl Frontier {
         }
     }
 
-    /// Makes this the frontier of one more entry, whose key is above all others.
+    /// Makes this the frontier of one more entry, whose key is above all others. A step is one hash computed.
     pub fn push<L: Ledger>(&mut self, key: &Key, value: &[u8], steps: &mut Steps<L>)
         requires { IfSome self.old.last (λ l. key_cmp l.0 key.now ≡ Less) }
         ensures value { (es : Entries) → self.old ≡ frontier_of es → IsAscending (es ++ (key.now, value.now) ∷ []) → self.new ≡ frontier_of (es ++ (key.now, value.now) ∷ []) }
@@ -83,7 +83,7 @@ impl Frontier {
         self.last = Some((key, value_hash));
     }
 
-    /// Makes this the frontier of more entries, whose keys ascend from the last one on.
+    /// Makes this the frontier of more entries, whose keys ascend from the last one on. A step is one hash computed.
     pub fn extend<L: Ledger>(&mut self, entries: &[(Key, Bytes)], steps: &mut Steps<L>)
         requires { T (rises_behind self.old.last entries.now) }
         ensures value { (es : Entries) → self.old ≡ frontier_of es → IsAscending (es ++ entries.now) → self.new ≡ frontier_of (es ++ entries.now) }
@@ -96,7 +96,7 @@ impl Frontier {
         }
     }
 
-    /// The root of all entries.
+    /// The root of all entries. A step is one hash computed: there are at most 257, however many entries there are.
     pub fn root<L: Ledger>(&self, steps: &mut Steps<L>) -> Hash
         ensures value { (es : Entries) → self.now ≡ frontier_of es → IsAscending es → result ≡ part_root 0 es }
         ensures cost { steps.new ≤ steps.old + 257 }
@@ -110,7 +110,8 @@ impl Frontier {
         climb(&key, 0, &leaf, &self.lefts[..self.depth], steps)
     }
 
-    /// The root that all entries come to with a proof for a chunk that ends with the last one.
+    /// The root that all entries come to with a proof for a chunk that ends with the last one. A step is one hash
+    /// computed.
     pub fn chunk_root<L: Ledger>(&self, proof: &RangeProof, steps: &mut Steps<L>) -> Hash
         requires some { IsSome self.now.last }
         requires deep { proof.now.depth ≤ 256 }
