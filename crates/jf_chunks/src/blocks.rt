@@ -47,7 +47,8 @@ impl Blocks {
         }
     }
 
-    /// Reads the next line. If it is out of memory, what was added before stays.
+    /// Reads the next line. Refuses a line that doesn't match, and at its last line a block that isn't accepted. If it
+    /// is out of memory, what was added before stays.
     pub fn line(&mut self, line: &[u8]) -> Result<(), BlockFault>
         ensures answer { result ≡ answer_of self.new.stage }
         ensures after { (self.new ≡ after self.old line.now) ⊎ ((refusal_of self.old.stage ≡ None) × (self.new ≡ out_of_memory self.old)) }
