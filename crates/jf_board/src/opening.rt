@@ -63,7 +63,7 @@ fn new_places(
 
 impl Board {
     /// A new board for `passes` places, 1 to 16, with its places, numbered from 0 on, and its pruner. Gate and cut
-    /// start at `gate`, a version.
+    /// start at `gate`, a version. Refused only if it is out of memory.
     pub fn new(alloc: Global, passes: u64, gate: u64) -> Result<(Board, Vec<Place>, Pruner), Memory>
         requires { (1 ≤ passes) × (passes ≤ 16) }
         ensures words { IfOk result (λ r. r.0.words ≡ 8 * passes + 3) }
