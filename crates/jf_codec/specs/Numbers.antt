@@ -1,4 +1,4 @@
--- Numbers in bytes, the highest first.
+-- Numbers in two, four and eight bytes, the highest byte first.
 use Rattle.std.specs.Prelude.{ℕ, List}
 use Rattle.std.specs.Int.{w16, w32, w64, to_be_bytes}
 
