@@ -14,6 +14,6 @@ OneNameInFront = (a b : NodeName) (rest rest' : List ℕ) → IsName a → IsNam
 abbrev pub OneNodeInFront : Type 0
 OneNodeInFront = (a b : PlainNode) (rest rest' : List ℕ) → IsValid a → IsValid b → spelling a ++ rest ≡ spelling b ++ rest' → (a ≡ b) × (rest ≡ rest')
 
--- a node that can be spelled in a format has that spelling and no other
+-- a node has the same one spelling in each format in which it can be spelled
 abbrev pub OneSpelling : Type 0
 OneSpelling = (fmt : Format) (n : PlainNode) → IsNode fmt n → IsValid n × (spelling n ≡ node_bytes fmt n)

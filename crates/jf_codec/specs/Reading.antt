@@ -39,6 +39,7 @@ Gives view (Err e) read = (e ≡ fault.Memory) ⊎ (read ≡ Err e)
 abbrev pub bytes_at : ℕ → List ℕ → Result (List ℕ × List ℕ) CodecFault
 bytes_at n bytes = if nat_lt (length bytes) n then Err fault.Short else Ok (take n bytes, drop n bytes)
 
+-- a number of the given width, the highest byte first
 abbrev pub number_at : Width → List ℕ → Result (ℕ × List ℕ) CodecFault
 number_at w bytes = if nat_lt (length bytes) (byte_len w) then Err fault.Short else Ok (from_be_bytes w (take (byte_len w) bytes), drop (byte_len w) bytes)
 
@@ -65,6 +66,7 @@ unfoldable pub path_at : List ℕ → Result (List ℕ × List ℕ) CodecFault
 path_at [] = Err fault.Short
 path_at (count ∷ bytes) = if nat_lt 64 count then Err fault.Path else nibbles_at count bytes
 
+-- a name: its version in eight bytes, then its path
 unfoldable pub name_at : List ℕ → Result (NodeName × List ℕ) CodecFault
 name_at bytes = do
   version ← eight_at bytes
@@ -79,6 +81,7 @@ value_at bytes = do
   n ← four_at bytes
   if nat_lt 4096 n.0 then Err fault.Length else bytes_at n.0 n.1
 
+-- a leaf, after its tag: its key of 32 bytes, then its value
 unfoldable pub leaf_at : List ℕ → Result (PlainNode × List ℕ) CodecFault
 leaf_at bytes = do
   key ← bytes_at 32 bytes
@@ -113,6 +116,7 @@ count_at format.Two leaf bytes = do
   count ← eight_at bytes
   if is_wrong_count leaf count.0 then Err fault.Count else Ok count
 
+-- a child: its version, its count in format 2, and its hash
 unfoldable pub child_at : Format → ℕ → Bool → List ℕ → Result (Child × List ℕ) CodecFault
 child_at fmt nibble leaf bytes = do
   version ← eight_at bytes
@@ -126,6 +130,7 @@ children_at fmt exist leaf zero i bytes = Ok ([], bytes)
 children_at fmt exist leaf (suc n) i bytes =
     if has exist i then (child_at fmt i (has leaf i) bytes >>= λ c. children_at fmt exist leaf n (i + 1) c.1 >>= λ cs. Ok (c.0 ∷ cs.0, cs.1)) else children_at fmt exist leaf n (i + 1) bytes
 
+-- an internal node, after its tag: the two bitmaps, then each child in ascending order
 unfoldable pub inner_at : Format → List ℕ → Result (PlainNode × List ℕ) CodecFault
 inner_at fmt bytes = do
   bits ← bitmaps_at bytes

@@ -18,10 +18,12 @@ name_bytes name = eight_bytes name.version ++ path_bytes name.path
 
 -- ---- nodes
 
+-- the tag of an internal node
 abbrev pub tag : Format → ℕ
 tag format.One = 2
 tag format.Two = 3
 
+-- the count of a child: eight bytes in format 2, none in format 1
 abbrev pub count_bytes : Format → ℕ → List ℕ
 count_bytes format.One count = []
 count_bytes format.Two count = eight_bytes count
@@ -35,6 +37,7 @@ abbrev pub bitmap : List Child → ℕ
 bitmap [] = 0
 bitmap (c ∷ cs) = 2 ^ c.nibble + bitmap cs
 
+-- the children that are leaves
 abbrev pub leaves : List Child → List Child
 leaves cs = filter (λ c. c.leaf) cs
 
@@ -51,6 +54,7 @@ abbrev pub IsCount : Format → Bool → ℕ → Type 0
 IsCount format.One leaf count = count ≡ 0
 IsCount format.Two leaf count = (1 ≤ count) × (count < 2 ^ 64) × (IsTrue leaf ↔ (count ≡ 1))
 
+-- a child can be spelled in a format
 pub record IsChild (fmt : Format) (c : Child) : Type 0 where
   pub nibble : c.nibble < 16
   pub version : c.version < 2 ^ 64
@@ -84,5 +88,6 @@ format_of (node.Inner cs) = format_of_children cs
 abbrev pub IsValid : PlainNode → Type 0
 IsValid n = IsNode (format_of n) n
 
+-- the spelling of a node in its own format
 abbrev pub spelling : PlainNode → List ℕ
 spelling n = node_bytes (format_of n) n

@@ -11,7 +11,7 @@ pub fn one_node_in_front()
     ensures { OneNodeInFront }
 {}
 
-/// A node has one spelling, in the format that it can be written in.
+/// A node has the same one spelling in each format in which it can be spelled.
 pub fn one_spelling()
     ensures { OneSpelling }
 {}
