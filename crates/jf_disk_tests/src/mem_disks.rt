@@ -112,8 +112,8 @@ fn after(alloc: Global, a: &[u8], failing: &[u64], steps: &[Step]) -> Result<Box
     Ok(disk)
 }
 
-// A crash after so many calls, which keeps so many unsynced bytes and makes this byte of all others; and the bytes of
-// both sides then.
+// A crash after so many calls, which keeps so many unsynced bytes and turns all others into this byte; and the bytes
+// of both sides then.
 type Image = (u64, u64, u8, &'static [u8], &'static [u8]);
 
 fn leaves(alloc: Global, disk: &MemDisk, image: Image) -> Result<bool, Fail> {
