@@ -26,7 +26,7 @@ abbrev pub LeadToStanding : List Framed → Format → Standing → Type 0
 LeadToStanding [] fmt s = ⊥
 LeadToStanding (x ∷ xs) fmt s = (x.kind ≡ checkpoint_kind fmt) × AllLead fmt (item fmt x) (items fmt xs) s
 
--- records lead to versions: no record leads to a new store, others to the versions of their standing
+-- records lead to versions: an empty list of records leads to a new store, any other to the versions of its standing
 abbrev pub LeadTo : List Framed → Versions → Type 0
 LeadTo [] v = v ≡ new_store
 LeadTo (x ∷ xs) v = (fmt : Format) × (s : Standing) × LeadToStanding (x ∷ xs) fmt s × (v ≡ versions_of s)

@@ -53,7 +53,7 @@ CheckpointsFollow =
     (fmt : Format) (s : Standing) (generation : ℕ) (x : Framed) → IsSound fmt s → IsSpelling fmt (checkpoint_of generation s) x.kind x.payload
     → LeadToStanding (x ∷ []) fmt (with_nodes (nodes_by_name s.nodes) s) × (versions_of (with_nodes (nodes_by_name s.nodes) s) ≡ versions_behind Compacts (versions_of s))
 
--- a checkpoint in format 2 leads, alone, to the versions of what any format keeps of the standing
+-- a checkpoint in format 2 leads, alone, to the versions of what the file's format keeps of the standing
 abbrev pub CompactionsFollow : Type 0
 CompactionsFollow =
     (fmt : Format) (s : Standing) (generation : ℕ) (x : Framed) → IsSound format.Two s → IsSpelling format.Two (checkpoint_of generation s) x.kind x.payload → LeadTo (x ∷ []) (versions_behind Compacts (versions_of (standing_in fmt s)))
@@ -65,13 +65,13 @@ ImportsFollow =
     → IsMap (map_of_entries es) → len (map_of_entries es) ≤ 2 ^ 63 → version < never → IsSpelling fmt (checkpoint_of generation (imported_standing fmt version (map_of_entries es))) x.kind x.payload
     → LeadTo (x ∷ []) (versions_behind (Imports version es) v)
 
--- the first checkpoint of a new store leads to a new store, as no record does
+-- the first checkpoint of a new store leads to a new store, as an empty list of records does
 abbrev pub FirstFollows : Type 0
 FirstFollows =
     (fmt : Format) (generation : ℕ) (x : Framed) → IsSpelling fmt (checkpoint_of generation (new_standing fmt)) x.kind x.payload
     → LeadTo (x ∷ []) (versions_behind Opens new_store)
 
--- if `rs` lead to the versions before a step and `rs'` to those after it, a crash between them leaves one of both
+-- if crashes leave the live records `rs` or `rs'`, which lead to the versions before and after a step, it stops well
 abbrev pub StopsByRecords : Type 0
 StopsByRecords =
     (step : Step) (old new : History) (v : Versions) (rs rs' : List Framed) → LeadTo rs v → LeadTo rs' (versions_behind step v) → StopsBetween old new rs rs' → StopsWell step old new v
@@ -83,7 +83,7 @@ SucceedsByRecords =
     → HoldsLive (reads old) rs → StopsBetween old new rs rs' → IsInStep p rs' new.now → generation_in rs' ≡ generation_behind step (generation_in rs) → LiveBehind step rs rs'
     → Succeeds step old new v
 
--- calls that change nothing in the files may come before a step, if whatever a crash leaves stood for the versions
+-- calls that change nothing in the files may come before a step, if a crash before them leaves only files of its versions
 abbrev pub SucceedsAfterReading : Type 0
 SucceedsAfterReading =
     (step : Step) (old mid new : History) (v : Versions) → LeavesNow old (λ f. StandsFor f v) → LeavesFiles old mid → Succeeds step mid new v → Succeeds step old new v

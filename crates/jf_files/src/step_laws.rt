@@ -30,7 +30,7 @@ pub fn checkpoints_follow()
     checkpoints_give();
 }
 
-/// A checkpoint in format 2 leads, alone, to the versions of what any format keeps of the standing.
+/// A checkpoint in format 2 leads, alone, to the versions of what the file's format keeps of the standing.
 pub fn compactions_follow()
     ensures { CompactionsFollow }
 {
@@ -48,7 +48,7 @@ pub fn imports_follow()
     imports_are_sound();
 }
 
-/// The first checkpoint of a new store leads to a new store, as no record does.
+/// The first checkpoint of a new store leads to a new store, as an empty list of records does.
 pub fn first_follows()
     ensures { FirstFollows }
 {
@@ -57,8 +57,8 @@ pub fn first_follows()
     new_is_sound();
 }
 
-/// If records lead to the versions before a step and others to those after it, a crash that leaves one of both lists of
-/// records leaves the versions before the step or after it.
+/// If crashes leave the live records from before a step or from after it, and these lead to the versions before and
+/// after it, the step stops well.
 pub fn stops_by_records()
     ensures { StopsByRecords }
 {}
