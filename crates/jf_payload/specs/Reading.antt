@@ -67,12 +67,15 @@ many_at fits one (suc n) front bytes = do
 
 -- ---- fields
 
+-- a number in eight bytes
 abbrev pub number_at : Front ℕ
 number_at bytes = result_ok (eight_at bytes)
 
+-- a hash of 32 bytes
 abbrev pub hash_at : Front (List ℕ)
 hash_at bytes = result_ok (bytes_at 32 bytes)
 
+-- the name of a node
 abbrev pub named_at : Front NodeName
 named_at bytes = result_ok (name_at bytes)
 
@@ -81,6 +84,7 @@ abbrev pub has_counts : List Child → Bool
 has_counts [] = false
 has_counts (c ∷ cs) = not (c.count == 0)
 
+-- whether children with counts, or without, are of a format
 abbrev pub is_counted : Format → Bool → Bool
 is_counted format.One counts = not counts
 is_counted format.Two counts = counts
@@ -113,9 +117,11 @@ fresh_at fmt = both_at named_at (λ name. plain_at fmt)
 abbrev pub fresh_rise : List (NodeName × PlainNode) → Bool
 fresh_rise xs = rise (map (λ x. x.0) xs)
 
+-- a list of the nodes that a landing writes, whose names rise
 abbrev pub fresh_list_at : Format → Front (List (NodeName × PlainNode))
 fresh_list_at fmt = list_at any fresh_rise (fresh_at fmt)
 
+-- a list of names, which rise
 abbrev pub name_list_at : Front (List NodeName)
 name_list_at = list_at any rise named_at
 
@@ -127,14 +133,17 @@ live_at fmt = seen_as (λ x. (x.0.0, x.0.1, x.1)) (both_at (both_at named_at (λ
 abbrev pub live_rise : List (NodeName × PlainNode × ℕ) → Bool
 live_rise xs = rise (map (λ x. x.0) xs)
 
+-- a list of the nodes of a checkpoint, whose names rise
 abbrev pub live_list_at : Format → Front (List (NodeName × PlainNode × ℕ))
 live_list_at fmt = list_at any live_rise (live_at fmt)
 
 -- ---- records
 
+-- the landing of these parts
 abbrev pub commit_from : ((ℕ × List ℕ) × List (NodeName × PlainNode)) × List NodeName → Commit
 commit_from x = record { version = x.0.0.0; root = x.0.0.1; fresh = x.0.1; stale = x.1 }
 
+-- a landing: version, root, the nodes that it writes, and the names that it marks stale
 unfoldable pub commit_at : Format → Front Commit
 commit_at fmt = seen_as commit_from (both_at (both_at (both_at number_at (λ version. hash_at)) (λ x. fresh_list_at fmt)) (λ x. name_list_at))
 
@@ -146,6 +155,7 @@ Numbers = ((ℕ × ℕ) × ℕ) × ℕ
 abbrev pub are_within : Numbers → Bool
 are_within n = nat_le 1 n.0.0.0 && (nat_le n.0.0.0 (2 ^ 64 - 2) && (nat_le n.0.0.1 n.0.1 && (nat_le n.0.1 n.1 && nat_le n.1 (2 ^ 64 - 2))))
 
+-- the numbers of a checkpoint, in bounds and in order
 unfoldable pub numbers_at : Front Numbers
 numbers_at = only_if are_within (both_at (both_at (both_at number_at (λ x. number_at)) (λ x. number_at)) (λ x. number_at))
 
@@ -157,9 +167,11 @@ any_hashes hs = true
 abbrev pub roots_at : Numbers → Front (List (List ℕ))
 roots_at n = many_at any_hashes hash_at (n.1 - n.0.0.1 + 1) []
 
+-- the checkpoint of these parts
 abbrev pub checkpoint_from : (Numbers × List (List ℕ)) × List (NodeName × PlainNode × ℕ) → Record
 checkpoint_from x = «record».Checkpoint x.0.0.0.0.0 x.0.0.0.0.1 x.0.0.0.1 x.0.0.1 x.0.1 x.1
 
+-- a checkpoint: its numbers, its roots, and its nodes
 unfoldable pub checkpoint_at : Format → Front Record
 checkpoint_at fmt = seen_as checkpoint_from (both_at (both_at numbers_at roots_at) (λ x. live_list_at fmt))
 
@@ -167,6 +179,7 @@ checkpoint_at fmt = seen_as checkpoint_from (both_at (both_at numbers_at roots_a
 abbrev pub is_group : ℕ → Bool
 is_group n = nat_le 2 n && nat_le n 1024
 
+-- a group: a list of landings whose versions rise by one
 unfoldable pub group_at : Format → Front (List Commit)
 group_at fmt = list_at is_group follow (commit_at fmt)
 

@@ -34,6 +34,7 @@ abbrev pub checkpoint_kind : Format → ℕ
 checkpoint_kind format.One = 4
 checkpoint_kind format.Two = 5
 
+-- the kind of a record in a file of a format
 abbrev pub kind_of : Format → Record → ℕ
 kind_of fmt («record».Floor floor) = 2
 kind_of fmt («record».NodeCommit c) = 3
