@@ -31,9 +31,11 @@ pub record IsLandable (b : Batch) : Type 0 where
 
 -- ---- any kind
 
+-- the kind of a record
 abbrev pub kind_of : Record → ℕ
 kind_of («record».BatchCommit version batch) = 1
 
+-- the payload of a record
 abbrev pub record_bytes : Record → List ℕ
 record_bytes («record».BatchCommit version batch) = landing_bytes version batch
 

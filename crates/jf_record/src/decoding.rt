@@ -19,7 +19,7 @@ fn record_of(alloc: Global, kind: u8, payload: &[u8]) -> Result<Record, RecordFa
     Ok(Record::BatchCommit { version, batch })
 }
 
-/// The record of this kind whose spelling all of `payload` is. `Bad` if there is no such record.
+/// The record of this kind whose spelling all of `payload` is. `Bad` only if there is no such record.
 pub fn decode(alloc: Global, kind: u8, payload: &[u8]) -> Result<Record, RecordFault>
     ensures found { IfOk result (λ r. IsSpelling r kind payload.now) }
     ensures bad { result ≡ Err RecordFault.Bad → (r : Record) → IsSpelling r kind payload.now → ⊥ }
