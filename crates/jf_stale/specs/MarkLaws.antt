@@ -37,7 +37,7 @@ Equal-from_is_eq Less is = cc
 Equal-from_is_eq Equal is = refl
 Equal-from_is_eq Greater is = cc
 
--- a mark below all of a list isn't in the list
+-- removing a mark that is below all marks of a list changes nothing
 others-above : (m x : Mark) (marks : List Mark) → mark_cmp m x ≡ Equal → AllByRecursion (λ y. mark_cmp x y ≡ Less) marks → without_mark m marks ≡ marks
 others-above m x [] same above = refl
 others-above m x (y ∷ ys) same above =
