@@ -13,7 +13,7 @@ use Rattle.jf_model.specs.Nodes.{Path}
 abbrev pub Named : Type 0
 Named = NodeName × PlainNode × ℕ
 
--- the greatest number: a node is stale since then if it isn't stale
+-- stands in place of the version since which a node is stale, if the node isn't stale
 abbrev pub never : ℕ
 never = 2 ^ 64 - 1
 

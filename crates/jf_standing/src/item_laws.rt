@@ -8,7 +8,7 @@ pub fn next_is_takes()
     ensures { NextIsTakes }
 {}
 
-/// After a landing of such nodes, keys still have 32 bytes and values still are bytes.
+/// If all keys have 32 bytes and all values are bytes, this still holds after a landing that writes only such nodes.
 pub fn keys_stay()
     ensures { KeysStay }
 {}
