@@ -230,7 +230,7 @@ count_of_one : count_ones 1 ≡ 1
 unfolding ones
 count_of_one = refl
 
--- a power of two is the bitmap of one child
+-- the bitmap of one child is a power of two, and that of more children isn't
 pub one_is_power : (n : ℕ) → is_power_of_two (2 ^ n + 0) ≡ true
 one_is_power n = ap (λ x. count_ones x == 1) (odd_times 0 0 n (omega arith) ∙ (let e : (0 * 2 + 1) * 2 ^ n ≡ 1 * 2 ^ n = refl in e)) ∙ ap (λ c. c == 1) (ones_times n 1 ∙ count_of_one)
 
