@@ -10,9 +10,9 @@ pub enum PairFault {
     /// A call on the disk failed.
     DiskFault,
     /// The files are damaged, at this offset in bytes. Of several places it is the first in this order: on side A, then
-    /// on side B, an open gate that isn't followed by a whole record and a next gate; then at offset 0 a first record of
-    /// side A, then of side B, that is no checkpoint or has fewer than 8 bytes of payload; then, at offset 0 of side B,
-    /// two sides of one generation.
+    /// on side B, an open gate that isn't followed by a whole record and a next gate; then at offset 0 a first record
+    /// of side A, then of side B, that is no checkpoint or has fewer than 8 bytes of payload; then, at offset 0 of side
+    /// B, two sides of one generation.
     Damaged { side: Side, offset: u64 },
     /// Out of memory.
     Memory,
