@@ -1,4 +1,4 @@
--- The replies to `root` and to `prove`, as they are judged.
+-- The replies to `root` and to `prove`, and how they are judged.
 use Rattle.std.proofs.Common.{◌≡◌, ℕ, zero, suc, ◌+◌, ◌-◌, ◌^◌, ◌<◌, false, cond, nat_lt, List, [], ◌∷◌, ◌++◌, length, slice_index_or, Option, Some, None, Ok, codes, refl, sym, ap, ap₂, ◌∙◌, arith, append-nil}
 use Rattle.std.proofs.lemmas.Bool.Decides.{nat_tests}
 use Rattle.std.specs.List.{AllByRecursion}
@@ -35,7 +35,7 @@ use Rattle.jf_client.specs.Laws.{IsKept, Fits, HonestRepliesAreAccepted}
 use Rattle.jf_client.proofs.Told.{hash_of_key, honest-told}
 use Rattle.jf_client.proofs.Judged.{verdicts-of_one}
 
--- ---- what the lines are answered
+-- ---- the answers to the two lines
 
 not_refused : (s : State) (own : Own) (on : Base) (name : List ℕ) → IsKept s on → (refused_by s own (command.Root on) ≡ None) × (refused_by s own (command.Prove on name) ≡ None)
 unfolding refused_by
@@ -84,7 +84,7 @@ base-IsMap s own (base.Place place) sound kept = absurd kept
 -- ---- the two replies
 
 module _ (back : BlocksAreReadBack) (begins : RepliesBeginBlocks) (sets : RepliesSetRoots) (accepted : HonestClaimsAreAccepted) where
-  -- of any map
+  -- the replies over any map
   map_replies : (m : Map) (name : List ℕ) (a b : ℕ) → IsMap m → Fits name (fin.get m (K name)) → a < 2 ^ 64 → b < 2 ^ 64
       → verdicts (reply_text a (reply.Root (root m)) ++ (reply_text b (reply.Proof (length (honest m (K name)).siblings)) ++ proof_lines name (fin.get m (K name)) (honest m (K name)))) ≡ codes "accepted\n"
   map_replies m name a b is_map fits small small' =

@@ -1,4 +1,4 @@
--- What a client comes to that judges what it is answered, as a statement for a call that does nothing and ensures it.
+-- A client that judges replies without a map, as a statement for a call that does nothing and ensures it.
 use Rattle.std.specs.Prelude.{◌≡◌, ℕ, ◌^◌, ◌<◌, ◌≤◌, false, length, List, ◌++◌, Option, Some, IfSome, codes}
 use Rattle.std.specs.FinMap.{get}
 use Rattle.hex.specs.Hex.{IsBytes}
@@ -37,7 +37,7 @@ pub record Asks (root_line prove_line : List ℕ) (on : Base) (name : List ℕ) 
   pub prove_short : is_long prove_line ≡ false
   pub prove_is : command_of prove_line ≡ Some (command.Prove on name)
 
--- of each kept version and each name, whether the map has it or not: the two replies, with any numbers, are judged accepted
+-- for each kept version and each name, whether the map has it or not: the two replies, with any numbers, are judged accepted
 abbrev pub HonestRepliesAreAccepted : Type 0
 HonestRepliesAreAccepted = (s : State) (own : Own) (on : Base) (name root_line prove_line : List ℕ) (m n : ℕ)
     → IsVersions s.all → IsKept s on → Fits name (get (base_map s own on) (K name)) → Asks root_line prove_line on name → m < 2 ^ 64 → n < 2 ^ 64

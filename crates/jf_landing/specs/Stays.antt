@@ -1,15 +1,15 @@
--- The nodes of a new part that stand in the old one too, with the same part.
+-- The nodes of a new part at which the old one has a node with the same part.
 use Rattle.std.proofs.Common.{◌≡◌, ℕ, ◌+◌, Bool, true, false, ◌&&◌, [], ◌∷◌, refl, sym, ap₂, true≢false}
 use Rattle.jf_hash.specs.Slots.{Part, with_nibble}
 use Rattle.jf_model.specs.Nodes.{Path, under, has_one, is_node, same_part}
 use Rattle.jf_landing.specs.Kids.{kid}
 use Rattle.jf_landing.specs.SameParts.{same_part-refl}
 
--- the old part has the node, with the same part
+-- the node at a path stays: the old part has it too, with the same part
 abbrev pub stays : ℕ → Path → Part → Part → Bool
 stays d p old new = is_node d p old && same_part (under d p old) (under d p new)
 
--- nothing stays of nothing
+-- no node stays if the old part is empty
 pub stays-none : (d : ℕ) (p : Path) (new : Part) → has_one new ≡ true → stays d p [] new ≡ false
 unfolding is_node under
 stays-none d [] [] some = absurd (true≢false (sym some))

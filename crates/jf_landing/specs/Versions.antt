@@ -9,7 +9,7 @@ pub record Versioned (version : ℕ) (old new : Part) (before now : Option ℕ) 
   pub kept : ¬ (new ≡ []) → old ≡ new → now ≡ before
   pub fresh : ¬ (new ≡ []) → ¬ (old ≡ new) → now ≡ Some version
 
--- the same of each node below two parts, by the versions at each path before and now
+-- each node below two parts is so versioned, by the versions at each path before and now
 abbrev pub AllVersioned : ℕ → ℕ → Part → Part → (Path → Option ℕ) → (Path → Option ℕ) → Type 0
 AllVersioned depth version old new before now = (path : Path) → Versioned version (sub depth path old) (sub depth path new) (before path) (now path)
 
