@@ -6,7 +6,7 @@ use Rattle.jf_model.specs.States.{State}
 use Rattle.jf_model.specs.Entries.{after, owner_of, timeless}
 use Rattle.jf_model.specs.declared.entries.Entry.{Entry}
 use Rattle.jf_model.specs.declared.entries.Entry.TheVariants as entry
-use Rattle.jf_script.specs.Words.{is_long}
+use Rattle.jf_text.specs.Words.{is_long}
 use Rattle.jf_script.specs.Commands.{command_of}
 use Rattle.jf_script.specs.declared.command.Command.{Command}
 use Rattle.jf_script.specs.declared.command.Command.TheVariants as command
@@ -26,19 +26,19 @@ IsPruned s own a (entry.Landed owner version how root moment) = Unit {0}
 IsPruned s own a (entry.Dropped owner fork) = Unit {0}
 IsPruned s own a (entry.Compacted owner generation) = Unit {0}
 
--- the entry of an answer has the session's number and no moment, and makes the state behind
+-- the entry of an answer has the session's number and no moment, and makes the state after it
 pub record IsOf (s : State) (own : Own) (a : Answer) (e : Entry) : Type 0 where
   pub state : a.state ≡ after e s
   pub owned : owner_of e ≡ own.number
   pub undated : timeless e ≡ e
   pub pruned_so : IsPruned s own a e
 
--- without an entry the state stays
+-- without an entry the state is unchanged
 abbrev pub Follows : State → Own → Answer → Option Entry → Type 0
 Follows s own a None = a.state ≡ s
 Follows s own a (Some e) = IsOf s own a e
 
--- an answer follows from state and own part, and the own part keeps its number
+-- an answer's state follows from its entry, and the own part keeps its number
 pub record IsSound (s : State) (own : Own) (a : Answer) : Type 0 where
   pub follows : Follows s own a a.entry
   pub number : a.own.number ≡ own.number
@@ -86,7 +86,7 @@ pruned-IsSound upto s own = record { follows = record { state = refl; owned = re
 
 -- ---- pins
 
--- what holds of each version pinned
+-- each version pinned has the property P
 abbrev pub EachPin : (ℕ → Type 0) → Own → Type 0
 EachPin P own = AllByRecursion (λ pin. IfSome pin P) own.pins
 
@@ -128,7 +128,7 @@ module _ (P : ℕ → Type 0) where
   pins_line true o s own x named h k = k
   pins_line false o s own x named h k = pins_to o s own named h
 
-  -- a version pinned behind a line was pinned before, or the line names it
+  -- each version pinned after a line was pinned before, or the line names it
   pub answer-EachPin : (s : State) (own : Own) (line : List ℕ) → IfSome (pin_of line) P → EachPin P own → EachPin P (answer s own line).own
   unfolding answer pin_of
   answer-EachPin s own line named h = pins_line (is_long line) (command_of line) s own _ named h h

@@ -1,4 +1,4 @@
--- What a line is answered.
+-- The answer to a line: its reply, and what the line changes.
 use Rattle.std.specs.Prelude.{◌≡◌, ℕ, ◌+◌, cond, if◌then◌else◌, IsTrue, List, [], length, Option, Some, None}
 use Rattle.std.proofs.Common.{ap, sym, ◌∙◌}
 use Rattle.std.specs.FinMap.{get, put}
@@ -14,7 +14,7 @@ use Rattle.jf_model.specs.declared.entries.Entry.{Entry}
 use Rattle.jf_model.specs.declared.entries.Entry.TheVariants as entry
 use Rattle.jf_evidence.specs.Proofs.{honest}
 use Rattle.jf_evidence.specs.Ranges.{chunk_entries, honest_chunk}
-use Rattle.jf_script.specs.Words.{is_long}
+use Rattle.jf_text.specs.Words.{is_long}
 use Rattle.jf_script.specs.Commands.{command_of}
 use Rattle.jf_script.specs.declared.command.Command.{Command}
 use Rattle.jf_script.specs.declared.command.Command.TheVariants as command
@@ -25,7 +25,7 @@ use Rattle.jf_blocks.specs.Blocks.{proof_lines, chunk_lines}
 use Rattle.jf_answers.specs.Own.{Own, with_pending}
 use Rattle.jf_answers.specs.Refusals.{base_map, is_built, refused_by}
 
--- the reply, the lines of its block, an entry or none, and what follows
+-- the reply, the lines of its block, the entry that the line makes, if any, and the state and own part after the line
 pub record Answer : Type 0 where
   pub reply : Reply
   pub block : List ℕ
@@ -33,50 +33,50 @@ pub record Answer : Type 0 where
   pub state : State
   pub own : Own
 
--- a reply that changes the own part alone
+-- a reply that changes at most the own part
 abbrev pub replied : Reply → State → Own → Answer
 replied r s own = record { reply = r; block = []; entry = None; state = s; own = own }
 
--- a reply with its entry, whose moment means nothing here
+-- a reply with its entry; the entry's moment is not used here
 abbrev pub entered : Reply → Entry → State → Own → Answer
 entered r e s own = record { reply = r; block = []; entry = Some e; state = after e s; own = own }
 
--- a line that is no command, or none that is built
+-- the answer to a line that is no command, or is a command that isn't built
 abbrev pub not_read : State → Own → Answer
 not_read s own = replied (reply.No refusal.Syntax) s own
 
--- a line of more than 8,500 bytes, whatever it is
+-- the answer to a line of more than 8,500 bytes, whatever it says
 abbrev pub too_long : State → Own → Answer
 too_long s own = replied (reply.No refusal.Long) s own
 
--- ---- done commands
+-- ---- commands that are done
 
--- the pending batch with a value, or none, at the key of a name
+-- the pending batch gets a value, or a removal, at the key of a name
 abbrev pub changed : List ℕ → Option (List ℕ) → State → Own → Answer
 changed name value s own =
     let batch = put key_cmp (K name) value own.pending in
     replied (reply.Pending (length batch)) s (with_pending batch own)
 
--- the pending batch is landed
+-- the pending batch is landed on the head
 abbrev pub committed : State → Own → Answer
 committed s own =
     let r = root (apply (newest s.all) own.pending) in
     entered (reply.Commit (s.all.head + 1) r) (entry.Landed own.number (s.all.head + 1) (landing.Direct own.pending) r 0) s (with_pending [] own)
 
--- the number of siblings, and a block: what a map says of a name, with the honest proof of it
+-- the reply with the number of siblings, and a block: what a map says of a name, with the honest proof of it
 abbrev pub proved : Map → List ℕ → State → Own → Answer
 proved m name s own =
     let proof = honest m (K name) in
     record { reply = reply.Proof (length proof.siblings); block = proof_lines name (get m (K name)) proof; entry = None; state = s; own = own }
 
--- how many entries, depth and right siblings, and a block: the entries of a map from a place on, with their honest proof
+-- the reply with the number of entries, the depth and the number of siblings, and a block: the entries of a map from a place on, with their honest proof
 abbrev pub chunked : Map → ℕ → ℕ → State → Own → Answer
 chunked m start count s own =
     let es = chunk_entries m start count in
     let proof = honest_chunk m start count in
     record { reply = reply.Chunk (length es) proof.depth (length proof.siblings); block = chunk_lines es proof; entry = None; state = s; own = own }
 
--- what a command is answered that nothing refuses
+-- the answer to a command that nothing refuses
 abbrev pub done : Command → State → Own → Answer
 done (command.Put name value) s own = changed name (Some value) s own
 done (command.Del name) s own = changed name None s own
@@ -96,26 +96,26 @@ done (command.Prune upto) s own = not_read s own
 done command.Compact s own = not_read s own
 done command.Status s own = not_read s own
 
--- the first refusal, which changes nothing, or else what the command does
+-- the answer to a command: the first refusal, which changes nothing, or otherwise what the command does
 abbrev pub answer_command : State → Own → Command → Answer
 answer_command s own c = elim (refused_by s own c) [ Some why ↦ replied (reply.No why) s own | None ↦ done c s own ]
 
--- a command that isn't built is answered as a line outside the grammar
+-- the answer to a line's command; a command that isn't built gets the answer of a line outside the grammar
 abbrev pub answer_to : Option Command → State → Own → Answer
 answer_to None s own = not_read s own
 answer_to (Some c) s own = if is_built c then answer_command s own c else not_read s own
 
--- what a line is answered
+-- the answer to a line
 unfoldable pub answer : State → Own → List ℕ → Answer
 answer s own line = if is_long line then too_long s own else answer_to (command_of line) s own
 
 -- ---- laws
 
--- all long lines are answered alike
+-- all long lines have the same answer
 pub answer-long : (s : State) (own : Own) (line : List ℕ) → IsTrue (is_long line) → answer s own line ≡ too_long s own
 unfolding answer
 answer-long s own line long = ap (λ b. cond b (too_long s own) (answer_to (command_of line) s own)) long
 
--- so of a line that is long the rest is never looked at
+-- the answer to a long line doesn't depend on what the line says
 pub answer-both_long : (s : State) (own : Own) (line other : List ℕ) → IsTrue (is_long line) → IsTrue (is_long other) → answer s own line ≡ answer s own other
 answer-both_long s own line other long long' = answer-long s own line long ∙ sym (answer-long s own other long')

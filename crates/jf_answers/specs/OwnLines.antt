@@ -1,6 +1,6 @@
--- Which lines a session answers by what it has seen already, and the versions that lines name to be pinned.
+-- The lines to which a session replies without a look at the store, and the versions that lines ask to pin.
 use Rattle.std.specs.Prelude.{ℕ, Bool, true, false, not, ◌||◌, if◌then◌else◌, List, Option, Some, None}
-use Rattle.jf_script.specs.Words.{is_long}
+use Rattle.jf_text.specs.Words.{is_long}
 use Rattle.jf_script.specs.Commands.{command_of}
 use Rattle.jf_script.specs.declared.command.Base.{Base}
 use Rattle.jf_script.specs.declared.command.Base.TheVariants as base
@@ -15,7 +15,7 @@ is_place (base.Version version) = false
 is_place (base.Fork id) = false
 is_place (base.Place place) = true
 
--- `put`, `del`, `unpin` and the reads of a place
+-- the commands that ask nothing of the store: `put`, `del`, `unpin` and the reads of a place
 abbrev pub is_own_command : Command → Bool
 is_own_command (command.Put name value) = true
 is_own_command (command.Del name) = true
@@ -35,12 +35,12 @@ is_own_command (command.Prune upto) = false
 is_own_command command.Compact = false
 is_own_command command.Status = false
 
--- and what is no command, or one that isn't built
+-- a line asks nothing of the store also if it is no command, or a command that isn't built
 abbrev pub is_own : Option Command → Bool
 is_own None = true
 is_own (Some c) = not (is_built c) || is_own_command c
 
--- a line that is answered without a look at the store; one of more than 8,500 bytes is such a line
+-- a line whose answer needs no look at the store; one of more than 8,500 bytes is such a line
 unfoldable pub is_own_line : List ℕ → Bool
 is_own_line line = is_long line || is_own (command_of line)
 

@@ -1,4 +1,4 @@
--- What `prune` is answered.
+-- The answer to `prune`, by the floor that it gets.
 use Rattle.std.specs.Prelude.{ℕ, min, max, List, [], ◌∷◌, Option, Some, None}
 use Rattle.jf_model.specs.States.{State}
 use Rattle.jf_model.specs.declared.entries.Entry.TheVariants as entry
@@ -12,10 +12,10 @@ below_pins upto [] = upto
 below_pins upto (None ∷ pins) = below_pins upto pins
 below_pins upto (Some version ∷ pins) = below_pins (min upto version) pins
 
--- the floor of a `prune`, which goes as far as the own pins let it
+-- the floor after a `prune`, which rises as far as the own pins let it
 abbrev pub next_floor : ℕ → State → Own → ℕ
 next_floor upto s own = max s.floor (below_pins upto own.pins)
 
--- the versions below a bound are retired, with this floor
+-- the answer that retires the versions below a bound, with this floor
 abbrev pub pruned : ℕ → ℕ → State → Own → Answer
 pruned upto floor s own = entered (reply.Prune upto floor) (entry.Retired own.number upto floor) s own

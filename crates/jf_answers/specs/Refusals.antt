@@ -23,12 +23,13 @@ base_map s own (base.Version w) = map_of s.all w
 base_map s own (base.Fork id) = fork_map (newest s.all) s.forks id
 base_map s own (base.Place place) = map_of s.all (unwrap_or (pinned own place) 0)
 
--- ---- single causes: a test, and what is said where it holds
+-- ---- single causes: a test, and the refusal if it holds
 
+-- tests in their order, each with the refusal if it holds
 abbrev pub Causes : Type 0
 Causes = List (Bool × Refusal)
 
--- the key is new to the pending batch, which is full
+-- the pending batch is full, and the key is new to it
 abbrev pub pending_causes : Own → List ℕ → Causes
 pending_causes own name = (is_full (K name) own.pending, refusal.Pending) ∷ []
 
@@ -36,7 +37,7 @@ pending_causes own name = (is_full (K name) own.pending, refusal.Pending) ∷ []
 abbrev pub ledger_causes : State → Causes
 ledger_causes s = (nat_le (2 ^ 62) s.count, refusal.Last) ∷ []
 
--- one version more doesn't fit, or the head's map has more than 2^62 entries
+-- one more version doesn't fit, or the head's map has more than 2^62 entries
 abbrev pub head_causes : State → Causes
 head_causes s = (nat_le (2 ^ 64 - 2) s.all.head, refusal.Last) ∷ (nat_lt (2 ^ 62) (len (newest s.all)), refusal.Last) ∷ []
 
@@ -52,14 +53,14 @@ fork_causes s id = (nat_le s.made id, refusal.Unknown) ∷ (not (is_among id s.f
 abbrev pub pin_causes : Own → ℕ → Causes
 pin_causes own place = (is_none (pinned own place), refusal.NoPin) ∷ []
 
--- a base isn't there to be read
+-- a base can't be read
 abbrev pub base_causes : State → Own → Base → Causes
 base_causes s own base.Head = []
 base_causes s own (base.Version w) = version_causes s w
 base_causes s own (base.Fork id) = fork_causes s id
 base_causes s own (base.Place place) = pin_causes own place
 
--- a place isn't one of a map's entries, of which this is the number
+-- a map has no entry at a place, and this is the number of its entries
 abbrev pub range_causes : Map → ℕ → Causes
 range_causes m start = (nat_le (len m) start, refusal.Range (len m)) ∷ []
 
@@ -72,7 +73,7 @@ is_readable (base.Version w) = true
 is_readable (base.Fork id) = false
 is_readable (base.Place place) = false
 
--- the commands that are answered; every other is answered as a line outside the grammar
+-- the commands that are built; every other has the answer of a line outside the grammar
 abbrev pub is_built : Command → Bool
 is_built (command.Put name value) = true
 is_built (command.Del name) = true
@@ -92,9 +93,9 @@ is_built (command.Prune upto) = false
 is_built command.Compact = false
 is_built command.Status = false
 
--- ---- by command, in order
+-- ---- the causes of each command, in order
 
--- nothing refuses a command that isn't built: it is answered before its causes are looked at
+-- the causes for which a command is refused; a command that isn't built has no causes, since its answer comes before they are looked at
 abbrev pub causes : State → Own → Command → Causes
 causes s own (command.Put name value) = pending_causes own name
 causes s own (command.Del name) = pending_causes own name
@@ -114,6 +115,6 @@ causes s own (command.Prune upto) = []
 causes s own command.Compact = []
 causes s own command.Status = []
 
--- the first that holds
+-- why a command is refused, if it is: the first cause that holds
 unfoldable pub refused_by : State → Own → Command → Option Refusal
 refused_by s own c = first_of (causes s own c)

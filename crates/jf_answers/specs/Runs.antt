@@ -1,4 +1,4 @@
--- What lines are answered, one behind another.
+-- The answers to lines, one after another.
 use Rattle.std.specs.Prelude.{◌≡◌, ℕ, List, [], ◌∷◌, ◌++◌, map, flat_map, option_to_list}
 use Rattle.std.specs.List.{concat}
 use Rattle.std.proofs.Common.{refl, ap}
@@ -8,12 +8,13 @@ use Rattle.jf_script.specs.Replies.{reply_text}
 use Rattle.jf_answers.specs.Own.{Own, begun}
 use Rattle.jf_answers.specs.Answers.{Answer, answer}
 
--- the answers, and what follows
+-- the answers to lines, and the state and own part after them
 pub record Run : Type 0 where
   pub answers : List Answer
   pub state : State
   pub own : Own
 
+-- the answers to lines, each over the state and own part that the lines before it left
 unfoldable pub answers_from : State → Own → List (List ℕ) → Run
 answers_from s own [] = record { answers = []; state = s; own = own }
 answers_from s own (line ∷ ls) =
@@ -21,33 +22,37 @@ answers_from s own (line ∷ ls) =
     let r = answers_from a.state a.own ls in
     record { answers = a ∷ r.answers; state = r.state; own = r.own }
 
--- of a session by itself
+-- the answers to all lines of a session that runs alone
 abbrev pub answers : State → List (List ℕ) → Run
 answers s ls = answers_from s (begun 0) ls
 
--- the reply's line, with a number, and its block
+-- the text of an answer: the reply's line, with a number, and its block
 abbrev pub answer_text : ℕ → Answer → List ℕ
 answer_text n a = reply_text n a.reply ++ a.block
 
--- each with the number of entries so far
+-- the text of each answer, with the number of entries so far
 abbrev pub texts_of : Run → List (List ℕ)
 texts_of r = map (λ a. answer_text a.state.count a) r.answers
 
+-- the text of all answers
 abbrev pub text_of : Run → List ℕ
 text_of r = concat (texts_of r)
 
+-- the entries that the lines gave, in their order
 abbrev pub entries_of : Run → List Entry
 entries_of r = flat_map (λ a. option_to_list a.entry) r.answers
 
 -- ---- laws
 
+-- a run and then another, which ends as the second does
 abbrev pub followed_by : Run → Run → Run
 followed_by r q = record { answers = r.answers ++ q.answers; state = q.state; own = q.own }
 
+-- a run with one more answer before its own
 abbrev pub with_first : Answer → Run → Run
 with_first a r = record { answers = a ∷ r.answers; state = r.state; own = r.own }
 
--- lines behind lines
+-- the answers to lines followed by other lines
 pub answers_from-append : (s : State) (own : Own) (ls ms : List (List ℕ)) → answers_from s own (ls ++ ms) ≡ followed_by (answers_from s own ls) (answers_from (answers_from s own ls).state (answers_from s own ls).own ms)
 unfolding answers_from
 answers_from-append s own [] ms = refl

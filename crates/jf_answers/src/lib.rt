@@ -1,2 +1,2 @@
-//! What each line of a script is answered, over plain maps, as definitions.
+//! The answer to each line of a script, over plain maps, as definitions.
 #![tactic(auto)]

@@ -3,16 +3,18 @@ use Rattle.std.proofs.Common.{◌≡◌, ℕ, ◌+◌, ◌^◌, ◌<◌, ◌≤�
 use Rattle.std.specs.List.{AllByRecursion, join_with_byte}
 use Rattle.std.proofs.lemmas.List.{append_assoc}
 use Rattle.hex.specs.Hex.{encode_lower}
-use Rattle.jf_script.specs.Words.{lines, line_text, is_word, number, number_upto, hash_of}
+use Rattle.jf_io.specs.Lines.{lines}
+use Rattle.jf_text.specs.Words.{line_text, is_word, number, number_upto, hash_of}
 use Rattle.jf_script.specs.Replies.{reply_text}
 use Rattle.jf_blocks.specs.Blocks.{side_lines, claim_word, leaf_words, proof_lines}
 use Rattle.jf_blocks.specs.Reading.{Place, Read, and_then, lines_by, side_of, word_after, first_of, proof_block}
 use Rattle.jf_blocks.specs.Laws.{IsHash, BlocksAreReadBack, RepliesBeginBlocks, RepliesSetRoots}
 use Rattle.jf_blocks.specs.declared.first.FirstLine.{FirstLine}
 use Rattle.jf_blocks.specs.declared.first.FirstLine.TheVariants as first
-use Rattle.jf_blocks.proofs.Plain.{all_plain, is_plain-decimal, lines-join}
-use Rattle.jf_blocks.proofs.Numbers.{number-back, number_upto-back, length-decimal}
-use Rattle.jf_blocks.proofs.HexBack.{is_plain-hex}
+use Rattle.jf_text.proofs.Plain.{all_plain, is_plain-decimal}
+use Rattle.jf_blocks.proofs.LinesJoined.{lines-join}
+use Rattle.jf_text.proofs.NumbersBack.{number-back, number_upto-back, length-decimal}
+use Rattle.jf_text.proofs.HexBack.{is_plain-hex}
 use Rattle.jf_blocks.proofs.LinesBack.{line_read-join, length-hex, hash-back, name-back, claim-back, leaf-back, side-back}
 
 -- siblings

@@ -3,14 +3,16 @@ use Rattle.std.proofs.Common.{◌≡◌, ℕ, ◌+◌, ◌^◌, ◌<◌, ◌≤�
 use Rattle.std.specs.List.{AllByRecursion, join_with_byte}
 use Rattle.std.proofs.lemmas.List.{append_assoc}
 use Rattle.hex.specs.Hex.{encode_lower, IsBytes}
-use Rattle.jf_script.specs.Words.{lines, line_text, value_word, number}
+use Rattle.jf_io.specs.Lines.{lines}
+use Rattle.jf_text.specs.Words.{line_text, value_word, number}
 use Rattle.jf_script.specs.Replies.{reply_text}
 use Rattle.jf_evidence.specs.Ranges.{Entries}
 use Rattle.jf_blocks.specs.Blocks.{side_lines, entry_lines, chunk_lines}
 use Rattle.jf_blocks.specs.Reading.{lines_by, three_after, head_of, chunk_of, entry_of, chunk_body}
 use Rattle.jf_blocks.specs.Laws.{IsHash, head, ChunksAreReadBack, RepliesBeginChunks}
-use Rattle.jf_blocks.proofs.Plain.{all_plain, is_plain-decimal, lines-join}
-use Rattle.jf_blocks.proofs.Numbers.{number-back, number_upto-back, length-decimal}
+use Rattle.jf_text.proofs.Plain.{all_plain, is_plain-decimal}
+use Rattle.jf_blocks.proofs.LinesJoined.{lines-join}
+use Rattle.jf_text.proofs.NumbersBack.{number-back, number_upto-back, length-decimal}
 use Rattle.jf_blocks.proofs.LinesBack.{line_read-join, entry-back}
 use Rattle.jf_blocks.proofs.BlocksBack.{sides-back, joined, left_out}
 

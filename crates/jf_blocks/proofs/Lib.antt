@@ -1,9 +1,6 @@
 pub mod Words
-pub mod Numbers
-pub mod HexText
 pub mod Texts
-pub mod Plain
-pub mod HexBack
+pub mod LinesJoined
 pub mod LinesBack
 pub mod BlocksBack
 pub mod ChunksBack

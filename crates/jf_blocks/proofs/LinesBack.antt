@@ -5,12 +5,14 @@ use Rattle.std.proofs.lemmas.List.{append_assoc}
 use Rattle.std.proofs.lemmas.Bool.Decides.{nat_tests}
 use Rattle.hex.specs.Hex.{encode_lower, lower_digits, IsBytes}
 use Rattle.hex.proofs.HexLemmas.{length-encode_with}
-use Rattle.jf_script.specs.Words.{lines, line_text, is_long, value_of, hash_of, value_word}
+use Rattle.jf_io.specs.Lines.{lines}
+use Rattle.jf_text.specs.Words.{line_text, is_long, value_of, hash_of, value_word}
 use Rattle.jf_blocks.specs.Blocks.{claim_word, leaf_words}
 use Rattle.jf_blocks.specs.Reading.{line_read, line_by, named_of, claim_of, leaf_of, side_of, entry_of}
 use Rattle.jf_blocks.specs.Laws.{IsHash}
-use Rattle.jf_blocks.proofs.Plain.{is_plain, all_plain, words-join, lines-join}
-use Rattle.jf_blocks.proofs.HexBack.{is_plain-hex, bytes_within-back}
+use Rattle.jf_text.proofs.Plain.{is_plain, all_plain, words-join}
+use Rattle.jf_blocks.proofs.LinesJoined.{lines-join}
+use Rattle.jf_text.proofs.HexBack.{is_plain-hex, bytes_within-back}
 
 -- ---- any line
 

@@ -2,7 +2,7 @@
 use Rattle.std.proofs.Common.{◌≡◌, ℕ, ◌+◌, ◌<◌, Option, List, [], ◌∷◌, ◌++◌, length, take, get_or, codes}
 use Rattle.std.proofs.lemmas.List.{take_more, append_assoc, flat_map_more}
 use Rattle.hex.specs.Hex.{encode_lower}
-use Rattle.jf_script.specs.Words.{line_text, value_word}
+use Rattle.jf_text.specs.Words.{line_text, value_word}
 use Rattle.jf_evidence.specs.declared.proof.Proof.{Proof}
 use Rattle.jf_evidence.specs.declared.range_proof.RangeProof.{RangeProof}
 use Rattle.jf_evidence.specs.Ranges.{Entries}

@@ -1,19 +1,8 @@
 -- Lines of more words than are asked for.
-use Rattle.std.proofs.Common.{◌≡◌, ℕ, ◌==◌, true, false, cond, None, List, [], ◌∷◌, refl}
-use Rattle.std.specs.List.{onto_first}
-use Rattle.jf_script.specs.Words.{words}
+use Rattle.std.proofs.Common.{◌≡◌, ℕ, None, List, ◌∷◌, refl}
+use Rattle.jf_text.specs.Words.{words}
+use Rattle.jf_text.proofs.Spaces.{words-some}
 use Rattle.jf_blocks.specs.Reading.{word_after, two_after, three_after}
-
--- there is a word
-pub words-some : (line : List ℕ) → (w : List ℕ) × (ws : List (List ℕ)) × (words line ≡ w ∷ ws)
-unfolding words
-words-some [] = ([], [], refl)
-words-some (b ∷ line) =
-    let more = words-some line in
-    elim (b == 32) as (λ t. (w : List ℕ) × (ws : List (List ℕ)) × (cond t ([] ∷ words line) (onto_first b (words line)) ≡ w ∷ ws)) [
-      | true ↦ ([], words line, refl)
-      | false ↦ rw more.2 (b ∷ more.0, more.1, refl)
-    ]
 
 -- more than one word behind a keyword
 pub word_after-many : (keyword text r1 r2 w a : List ℕ) → words text ≡ w ∷ words r1 → words r1 ≡ a ∷ words r2 → None ≡ word_after keyword (words text)

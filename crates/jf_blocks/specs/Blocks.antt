@@ -4,7 +4,7 @@ use Rattle.hex.specs.Hex.{encode_lower}
 use Rattle.jf_evidence.specs.declared.proof.Proof.{Proof}
 use Rattle.jf_evidence.specs.declared.range_proof.RangeProof.{RangeProof}
 use Rattle.jf_evidence.specs.Ranges.{Entries}
-use Rattle.jf_script.specs.Words.{line_text, value_word}
+use Rattle.jf_text.specs.Words.{line_text, value_word}
 
 -- a line for each sibling
 abbrev pub side_lines : List (List ℕ) → List ℕ

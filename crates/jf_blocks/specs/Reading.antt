@@ -3,7 +3,7 @@ use Rattle.std.specs.Prelude.{ℕ, zero, suc, ◌+◌, if◌then◌else◌, ◌&
 use Rattle.jf_evidence.specs.declared.proof.Proof.{Proof}
 use Rattle.jf_evidence.specs.declared.range_proof.RangeProof.{RangeProof}
 use Rattle.jf_evidence.specs.Ranges.{Entry, Entries}
-use Rattle.jf_script.specs.Words.{words, is_word, is_long, both, number, number_upto, name_of, hash_of, value_of}
+use Rattle.jf_text.specs.Words.{words, is_word, is_long, both, number, number_upto, name_of, hash_of, value_of}
 use Rattle.jf_blocks.specs.declared.chunk.ChunkHead.{ChunkHead}
 use Rattle.jf_blocks.specs.declared.first.FirstLine.{FirstLine}
 use Rattle.jf_blocks.specs.declared.first.FirstLine.TheVariants as first

@@ -1,14 +1,13 @@
 // The lines of a chunk block, each given without the byte that ends it. Its other lines are those of siblings.
 ghost use Rattle.std.specs.Prelude.{◌≡◌, ◌≤◌, length, IfOk, IfSome};
-ghost use Rattle.jf_script.specs.Words.{words};
+ghost use Rattle.jf_text.specs.Words.{words};
 ghost use Rattle.jf_blocks.specs.Reading.{line_read, head_of, chunk_of, keyed_of, entry_of};
 
 use crate::first::{MAX_SIBLINGS, without_number};
-use crate::hexadecimal::{hash_of, value_of};
 use crate::lines::LONGEST;
 use crate::word::{three_after, two_after};
 use jf_path::{Bytes, Key, Memory};
-use jf_script::number_from;
+use jf_text::{hash_of, number_from, value_of};
 use std::alloc::Global;
 
 /// The most entries that a block may have.

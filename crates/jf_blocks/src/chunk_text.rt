@@ -1,13 +1,14 @@
 // Chunk blocks as text.
 ghost use Rattle.std.specs.Prelude.{◌≡◌, ◌∷◌, ◌++◌, [], codes, OnOk, OnErr};
 ghost use Rattle.hex.specs.Hex.{encode_lower};
-ghost use Rattle.jf_script.specs.Words.{line_text, value_word};
-ghost use Rattle.jf_script.specs.Replies.{Extends};
+ghost use Rattle.jf_text.specs.Words.{line_text, value_word};
+ghost use Rattle.jf_text.specs.Words.{Extends};
 ghost use Rattle.jf_blocks.specs.Blocks.{chunk_lines, entry_lines};
 
-use crate::writing::{write_hex, write_hex_line, write_sides};
+use crate::writing::{write_hex_line, write_sides};
 use jf_evidence::RangeProof;
 use jf_path::{Bytes, Key, Memory, Pairs};
+use jf_text::write_hex;
 
 /// Appends a chunk block without its first line: the entries, and the right siblings of their proof, the lowest first. A
 /// refusal leaves the text as it was.

@@ -1,14 +1,13 @@
 // The lines that stand between blocks.
 ghost use Rattle.std.specs.Prelude.{◌≡◌, ◌&&◌, [], is_some, option_and_then, codes};
 ghost use Rattle.std.specs.Option.{option_map_or};
-ghost use Rattle.jf_script.specs.Words.{words, is_word, number, number_upto, hash_of};
+ghost use Rattle.jf_text.specs.Words.{words, is_word, number, number_upto, hash_of};
 ghost use Rattle.jf_blocks.specs.Reading.{line_read, first_of, without_number, word_after};
 
-use crate::hexadecimal::hash_of;
 use crate::lines::LONGEST;
-use crate::word::{is_word, split_word, word_after};
+use crate::word::word_after;
 use jf_hash::Hash;
-use jf_script::number_from;
+use jf_text::{hash_of, is_word, number_from, split_word};
 
 /// The most siblings that a block may have.
 pub(crate) const MAX_SIBLINGS: u64 = 65_535;

@@ -5,7 +5,6 @@
 mod chunk;
 mod chunk_text;
 mod first;
-mod hexadecimal;
 mod laws;
 mod lines;
 mod word;
@@ -19,4 +18,4 @@ pub use laws::{
     replies_set_roots,
 };
 pub use lines::{claim_line, leaf_line, name_line, side_line};
-pub use writing::{write_hex, write_proof};
+pub use writing::write_proof;

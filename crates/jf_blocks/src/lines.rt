@@ -1,12 +1,12 @@
 // The lines of a block, each given without the byte that ends it.
 ghost use Rattle.std.specs.Prelude.{◌≡◌, IfOk};
-ghost use Rattle.jf_script.specs.Words.{words};
+ghost use Rattle.jf_text.specs.Words.{words};
 ghost use Rattle.jf_blocks.specs.Reading.{line_read, named_of, claimed, claim_of, pair_of, leaf_of, side_of};
 
-use crate::hexadecimal::{hash_of, name_of, value_of};
-use crate::word::{is_word, two_after, word_after};
+use crate::word::{two_after, word_after};
 use jf_hash::Hash;
 use jf_path::{Bytes, Key, Memory};
+use jf_text::{hash_of, is_word, name_of, value_of};
 use std::alloc::Global;
 
 /// The greatest number of bytes of a line that may match.

@@ -1,20 +1,10 @@
-// A line as words.
+// The words behind a keyword.
 ghost use Rattle.std.specs.Prelude.{◌≡◌, [], ◌∷◌};
 ghost use Rattle.std.specs.Option.{option_copied, option_map, option_map_or};
-ghost use Rattle.jf_script.specs.Words.{words, is_word};
+ghost use Rattle.jf_text.specs.Words.{words, is_word};
 ghost use Rattle.jf_blocks.specs.Reading.{word_after, two_after, three_after};
 
-use memchr::memchr;
-
-/// What stands before the first space, and what stands behind it if there is one.
-pub(crate) fn split_word(text: &[u8]) -> (&[u8], Option<&[u8]>)
-    ensures { words text.now ≡ result.0.now ∷ option_map_or (λ rest. words rest.now) result.1 [] }
-{
-    match memchr(b' ', text) {
-        Some(at) => (&text[..at], Some(&text[at + 1..])),
-        None => (text, None),
-    }
-}
+use jf_text::{is_word, split_word};
 
 /// The one word behind a keyword, where the text is just the two.
 pub(crate) fn word_after<'a>(keyword: &[u8], text: &'a [u8]) -> Option<&'a [u8]>
@@ -77,11 +67,4 @@ pub(crate) fn three_after<'a>(
         None if is_word(word, keyword) => Some((first, second, third)),
         None => None,
     }
-}
-
-/// Whether a word is this keyword.
-pub(crate) fn is_word(word: &[u8], keyword: &[u8]) -> bool
-    ensures { result ≡ is_word word.now keyword.now }
-{
-    word == keyword
 }

@@ -2,16 +2,14 @@
 ghost use Rattle.std.specs.Prelude.{◌≡◌, ◌∷◌, ◌++◌, [], codes, OnOk, OnErr};
 ghost use Rattle.std.specs.Option.{option_copied};
 ghost use Rattle.hex.specs.Hex.{encode_lower};
-ghost use Rattle.jf_script.specs.Words.{line_text};
-ghost use Rattle.jf_script.specs.Replies.{Extends};
+ghost use Rattle.jf_text.specs.Words.{line_text};
+ghost use Rattle.jf_text.specs.Words.{Extends};
 ghost use Rattle.jf_blocks.specs.Blocks.{proof_lines, claim_word, leaf_words, side_lines};
 
 use jf_evidence::Proof;
 use jf_hash::Hash;
 use jf_path::{Bytes, Key, Memory};
-
-/// The lower case digits, by their values.
-const DIGITS: &[u8; 16] = b"0123456789abcdef";
+use jf_text::write_hex;
 
 /// Appends a proof block without its first line: the name, what is claimed of it, and the proof, the lowest sibling
 /// first. A refusal leaves the text as it was.
@@ -92,17 +90,4 @@ pub(crate) fn write_hex_line(label: &[u8], bytes: &[u8], out: &mut Bytes) -> Res
 {
     write_hex(label, bytes, out)?;
     out.push(b'\n')
-}
-
-/// Appends bytes in hexadecimal behind a label. A refusal leaves the text that was there, and maybe more behind it.
-pub fn write_hex(label: &[u8], bytes: &[u8], out: &mut Bytes) -> Result<(), Memory>
-    ensures ok { OnOk result (out.new ≡ out.old ++ (label.now ++ encode_lower bytes.now)) }
-    ensures err { OnErr result (Extends out.old out.new) }
-{
-    out.append(label)?;
-    for byte in bytes {
-        out.push(DIGITS[usize::from(byte / 16)])?;
-        out.push(DIGITS[usize::from(byte % 16)])?;
-    }
-    Ok(())
 }

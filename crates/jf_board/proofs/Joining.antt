@@ -14,11 +14,11 @@ use Rattle.jf_board.proofs.Lists.{put, put_at, put_else, at_end}
 use Rattle.jf_board.proofs.Moving.{SeatState, unmoved, place_at, pruner_at, number_given}
 use Rattle.jf_board.proofs.Pruning.{paced, placed_paced, joined_paced, paced_else}
 
--- the account where the number n is the seat's to
+-- the account in which the number n is at the seat `to`
 abbrev reseated : Account → ℕ → ℕ → Account
 reseated p n to = record p { seat = put p.seat n to }
 
--- a place of another number agrees as before where the number n goes to another seat
+-- a place with another number agrees as before if the number n goes to another seat
 placed_else_seat : (p : Account) (n to id : ℕ) (v : PlaceView) → v.number ≢ n → PlaceFits p id v → PlaceFits (reseated p n to) id v
 placed_else_seat p n to id v other r = record { numbered = r.numbered; mine = put_else p.seat n to v.number other ∙ r.mine; loaded = r.loaded; latest = r.latest; eight = r.eight; holds = r.holds; announced = r.announced }
 
@@ -26,17 +26,17 @@ placed_else_seat p n to id v other r = record { numbered = r.numbered; mine = pu
 placed_to : (p : Account) (to id : ℕ) (v : PlaceView) → PlaceFits p id v → PlaceFits (reseated p v.number to) to v
 placed_to p to id v r = record { numbered = r.numbered; mine = put_at p.seat v.number to v.number refl; loaded = r.loaded; latest = r.latest; eight = r.eight; holds = r.holds; announced = r.announced }
 
--- places joined to a seat that has not the number n agree as before
+-- places joined to a seat that doesn't have the number n agree as before
 joined_else_seat : (p : Account) (n to id : ℕ) (gs : List PlaceView) → p.seat n ≢ id → JoinedFit p id gs → JoinedFit (reseated p n to) id gs
 joined_else_seat p n to id [] other r = tt
 joined_else_seat p n to id (g ∷ gs) other r = (placed_else_seat p n to id g (λ e. other (ap p.seat (sym e) ∙ r.0.mine)) r.0, r.1, joined_else_seat p n to id gs other r.2)
 
--- joined places, none of which has the number n, agree as before
+-- joined places agree as before if no place of them has the number n
 joined_absent : (p : Account) (n to id : ℕ) (gs : List PlaceView) → IsAbsent n gs → JoinedFit p id gs → JoinedFit (reseated p n to) id gs
 joined_absent p n to id [] other r = tt
 joined_absent p n to id (g ∷ gs) other r = (placed_else_seat p n to id g other.0 r.0, r.1, joined_absent p n to id gs other.1 r.2)
 
--- a seat that has not the number n agrees as before
+-- a seat that doesn't have the number n agrees as before
 seat_else : (p : Account) (n to id : ℕ) (u : View) → p.seat n ≢ id → ViewFits p id u → ViewFits (reseated p n to) id u
 seat_else p n to id (Pins v) other r = placed_else_seat p n to id v (λ e. other (ap p.seat (sym e) ∙ r.mine)) r
 seat_else p n to id (Prunes q) other r = record { alone = r.alone; count_is = r.count_is; gate_is = r.gate_is; cut_is = r.cut_is; low_is = r.low_is; scanned_is = r.scanned_is; pairs = r.pairs; joined = joined_else_seat p n to id q.joined other r.joined }
@@ -46,7 +46,7 @@ seat_else p n to id Spent other r = tt
 same_sound : (p : Account) (n to : ℕ) → IsSound p → IsSound (reseated p n to)
 same_sound p n to r = record { cut_gate = r.cut_gate; cut_pins = r.cut_pins; low_gate = r.low_gate; low_pins = r.low_pins; unnumbered = r.unnumbered; no_versions = r.no_versions; listed = r.listed }
 
--- nor of the words
+-- which seat has a number changes nothing of the words
 same_worded : (passes : ℕ) (p : Account) (n to : ℕ) (ws : List ℕ) → IsWritten passes p ws → IsWritten passes (reseated p n to) ws
 same_worded passes p n to ws r = record { wide = r.wide; gate_is = r.gate_is; cut_is = r.cut_is; count_is = r.count_is; pins_are = r.pins_are }
 
@@ -139,12 +139,12 @@ joins_for_good passes id other v w q u is is' s r at apart there = let fit = pru
     (λ i. (sym is i, sym is' i))
     (λ e. taken_in passes s r id other q u q.loaded (at ∙ ap some is) (omega arith) (λ k l. subst (λ (z : ℕ). Below z (r.account.hold k)) (sym low) (r.sound.low_pins k (subst (λ (z : ℕ). k < z) fit.scanned_is l))) apart e) there
 
--- what was loaded at the numbers of joined places, they announced
+-- joined places announced all that was loaded at their numbers
 joined_announced : (p : Account) (id : ℕ) (pairs : List (ℕ × ℕ)) (gs : List PlaceView) → ((t : ℕ × ℕ) → Has pairs t → Has (p.versions t.0) t.1) → JoinedFit p id gs → JoinedAnnounced pairs gs
 joined_announced p id pairs [] knows r = tt
 joined_announced p id pairs (g ∷ gs) knows r = ((λ version has. subst (λ (xs : List ℕ). Has xs version) (sym r.0.announced) (knows (g.number, version) has)), joined_announced p id pairs gs knows r.2)
 
--- what was loaded stands at numbers given
+-- each number at which a pin was loaded was given to a place
 numbers_given : (p : Account) (id : ℕ) (q : PrunerView) → IsSound p → PrunerFits p id q → NumbersAreGiven q
 numbers_given p id q sound fit t has = subst (λ (k : ℕ). t.0 < k) (sym fit.count_is) (number_given p t.0 t.1 sound (fit.pairs t has))
 
@@ -158,7 +158,7 @@ learns passes slots id me q is s r _ at _ = let fit = pruner_at passes s r id me
   λ q' is'. let same : Prunes q ≡ Prunes q' = sym is ∙ is' in let qq : q ≡ q' = cc in subst (λ (z : PrunerView). (me ≡ me) × JoinedAnnounced z.pairs z.joined × NumbersAreGiven z) qq (refl, joined_announced p id q.pairs q.joined fit.pairs fit.joined, numbers_given p id q r.sound fit),
 )
 
--- the first of a list that is not empty
+-- a list that isn't empty has a first element
 head_of : (gs : List PlaceView) → 0 < length gs → (g : PlaceView) × (rest : List PlaceView) × (gs ≡ g ∷ rest)
 head_of [] l = absurd (omega arith)
 head_of (g ∷ gs) l = (g, gs, refl)

@@ -1,4 +1,4 @@
--- Functions that change at one number, and lists.
+-- Functions that change at one number, and lists with one more element.
 use Rattle.std.proofs.Common.{◌≡◌, ℕ, zero, suc, ◌-◌, ◌<◌, ◌≤◌, ◌≢◌, ◌⊎◌, cond, eqb, List, [], ◌∷◌, ◌++◌, length, get_or, replicate, sym, refl, ap, subst, inl, inr, ⊎_elim, arith, eq-eqb, ne_eqb}
 use mathlib.Core.Logic.{dite}
 use mathlib.Core.Option.{some, some-injective, some-ne-none}
@@ -35,22 +35,22 @@ module _ {A : Type 0} where
 pub lower_le : (m w : ℕ) → lower m w ≤ m
 lower_le m w = grind (arith, nat_tests)
 
--- and at most the version of the word
+-- the lesser of m and a word is at most the word's version
 pub lower_word : (m w : ℕ) → 0 < w → lower m w ≤ w - 1
 lower_word m w h = grind (arith, nat_tests)
 
--- the least of one word more
+-- the least of pin words and one more
 pub least_snoc : (m : ℕ) (ws : List ℕ) (w : ℕ) → least m (ws ++ w ∷ []) ≡ lower (least m ws) w
 least_snoc m [] w = refl
 least_snoc m (x ∷ xs) w = least_snoc (lower m x) xs w
 
--- each element of copies is what is copied
+-- each element of a list of copies is the element that was copied
 pub free_at : {A : Type 0} (x : A) (n i : ℕ) → get_or (replicate n x) i x ≡ x
 free_at x zero i = refl
 free_at x (suc n) zero = refl
 free_at x (suc n) (suc i) = free_at x n i
 
--- what holds of all pairs and of a new one holds of each pair behind a load
+-- what holds of all pairs and of a new one holds of each pair after a load
 pub pairs_after : (P : ℕ × ℕ → Type 0) (pairs : List (ℕ × ℕ)) (x : ℕ) (a : ℕ × ℕ) → ((t : ℕ × ℕ) → Has pairs t → P t) → (x ≢ 0 → P a) → (t : ℕ × ℕ) → Has (cond (eqb x 0) pairs (pairs ++ a ∷ [])) t → P t
 pairs_after P pairs x a old new t = dite (ℕ_discrete x 0) (λ e. subst (λ b. Has (cond b pairs (pairs ++ a ∷ [])) t → P t) (sym (eq-eqb x 0 e)) (old t))
     (λ n. subst (λ b. Has (cond b pairs (pairs ++ a ∷ [])) t → P t) (sym (ne_eqb x 0 n)) (λ has. ⊎_elim (λ (e : get_elem? pairs has.0 ≡ some t). old t (has.0, e)) (λ (e : (a ≡ t) × (has.0 ≡ length pairs)). subst P e.0 (new n)) (at_end pairs a t has.0 has.1)))

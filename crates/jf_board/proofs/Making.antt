@@ -1,4 +1,4 @@
--- A new board has the rule, and giving numbers keeps it.
+-- A new board keeps the rule, and giving out numbers keeps it.
 use Rattle.std.proofs.Common.{◌≡◌, ℕ, zero, suc, ◌+◌, ◌*◌, ◌%◌, ◌^◌, ◌<◌, ◌≤◌, ◌≢◌, List, [], ◌∷◌, length, get_or, set, replicate, sym, refl, ◌∙◌, subst, arith, le_refl, length-set, get_or-set_other, get_or-set_same}
 use mathlib.Core.Option.{Option, none, some, some-injective, some-ne-none}
 use Rattle.std.proofs.lemmas.List.{length-replicate}
@@ -15,11 +15,11 @@ use Rattle.jf_board.specs.Steps.{newly_numbered, numbered, numbering}
 use Rattle.jf_board.proofs.Lists.{put, put_at, put_else, free_at}
 use Rattle.jf_board.proofs.Moving.{SeatState, seat_state, moved, pruner_at}
 
--- the account with one more number, which is the seat id's
+-- the account with one more number, which is at the seat id
 abbrev counted : Account → ℕ → ℕ → Account
 counted p count id = record p { count = count; seat = put p.seat p.count id }
 
--- the words behind one more number
+-- the words after one more number is given
 written_count : (passes : ℕ) (p : Account) (ws : List ℕ) (count id : ℕ) → IsWritten passes p ws → IsWritten passes (counted p count id) (set ws 2 count)
 written_count passes p ws count id r = let wide = r.wide in record {
   wide = length-set ws 2 count ∙ wide;
@@ -29,11 +29,11 @@ written_count passes p ws count id r = let wide = r.wide in record {
   pins_are = λ k l. get_or-set_other ws 2 (k + 3) count 0 (λ e. omega arith) ∙ r.pins_are k l;
 }
 
--- a place agrees as before where one number more is given
+-- a place agrees as before if one more number is given
 placed_count : (p : Account) (count to id : ℕ) (v : PlaceView) → p.count < count → PlaceFits p id v → PlaceFits (counted p count to) id v
 placed_count p count to id v up r = let given = r.numbered in record { numbered = omega arith; mine = put_else p.seat p.count to v.number (λ e. omega arith) ∙ r.mine; loaded = r.loaded; latest = r.latest; eight = r.eight; holds = r.holds; announced = r.announced }
 
--- and so do joined places
+-- joined places agree as before if one more number is given
 joined_count : (p : Account) (count to id : ℕ) (gs : List PlaceView) → p.count < count → JoinedFit p id gs → JoinedFit (counted p count to) id gs
 joined_count p count to id [] up r = tt
 joined_count p count to id (g ∷ gs) up r = (placed_count p count to id g up r.0, r.1, joined_count p count to id gs up r.2)
@@ -61,7 +61,7 @@ new_place p id c found r = record {
   announced = sym (r.no_versions c (omega arith));
 }
 
--- the pruner may give one number more
+-- the pruner may give out one more number
 pub numbers : (passes slots id : ℕ) (me : SeatState) (q : PrunerView) → me.0 ≡ Prunes q → q.count < passes → passes < 2 ^ 32 → Allows (IsBoard passes) slots id me 2 (λ x. (x + 1) % 2 ^ 64) (numbered (step slots 2 1 0 none) me)
 numbers passes slots id me q is room small s r _ at _ =
     let fit = pruner_at passes s r id me.0 q is at in let p = r.account in let c : ℕ = q.count in let found : c ≡ p.count = fit.count_is in let word : get_or s.words 2 0 ≡ p.count = r.written.count_is in
@@ -87,7 +87,7 @@ numbers passes slots id me q is room small s r _ at _ =
           subst (λ (z : PrunerView). (get_or s.words 2 0 ≡ z.count) × (seat_state w me ≡ seat_state (Prunes (numbering z)) me)) qq (word ∙ sym found, refl),
     )
 
--- the first seat agrees with an account of nothing
+-- the first seat agrees with an account that has given no numbers
 first_only : (size : Size) (id : ℕ) (v : View) → get_elem? (opened size ∷ []) id ≡ some v → ViewFits record { gate = size.gate; cut = size.gate; count = 0; low = size.gate; scanned = 0; pruner = 0; seat = λ _. 0; hold = λ _. Free; versions = λ _. [] } id v
 first_only size zero v e = subst (ViewFits record { gate = size.gate; cut = size.gate; count = 0; low = size.gate; scanned = 0; pruner = 0; seat = λ _. 0; hold = λ _. Free; versions = λ _. [] } 0) (some-injective (opened size) v e)
     record { alone = refl; gate_is = refl; cut_is = refl; count_is = refl; low_is = refl; scanned_is = refl; pairs = λ t has. absurd (some-ne-none t (sym has.1)); joined = tt }
@@ -104,7 +104,7 @@ opens size ws homes wide gate cut zeros = record {
   each = λ id v e. first_only size id v e;
 }
 
--- all words behind gate and cut are zero
+-- all words after gate and cut are zero
 zeros_from : (g n k : ℕ) → 2 ≤ k → get_or (g ∷ g ∷ replicate n 0) k 0 ≡ 0
 zeros_from g n zero l = absurd (omega arith)
 zeros_from g n (suc zero) l = absurd (omega arith)

@@ -1,4 +1,4 @@
--- A step changes the view of its own seat.
+-- A step changes words and the view of its own seat.
 use Rattle.std.proofs.Common.{◌≡◌, ℕ, ◌<◌, ◌≤◌, arith, ◌≢◌, List, get_or, set, sym, subst, ⊎_elim}
 use mathlib.Core.Logic.{dite}
 use native.Mathlib.Decide.{dec_lt}
@@ -33,16 +33,16 @@ moved passes s r p ws id v w at written sound even mine others = record {
       (λ (t : (j ≢ id) × (get_elem? s.views j ≡ some u)). others j u t.0 (r.each j u t.1)) (at_set s.views id j w u e);
 }
 
--- the same where no word changes
+-- a step that changes no word keeps the rule, if it changes the view of its own seat alone
 pub unmoved : (passes : ℕ) (s : BoardState) (r : IsBoard passes s) (p : Account) (i id : ℕ) (v w : View) → get_elem? s.views id ≡ some v → IsWritten passes p s.words → IsSound p → p.count ≤ passes → ViewFits p id w
     → ((j : ℕ) (u : View) → j ≢ id → ViewFits r.account j u → ViewFits p j u) → IsBoard passes record { words = set s.words i (get_or s.words i 0); homes = s.homes; views = set s.views id w }
 unmoved passes s r p i id v w at written sound even mine others = moved passes s r p (set s.words i (get_or s.words i 0)) id v w at (subst (IsWritten passes p) (sym (set-get_or s.words i 0)) written) sound even mine others
 
--- what a place's seat finds: its view fits
+-- the view of a place's seat agrees with the account
 pub place_at : (passes : ℕ) (s : BoardState) (r : IsBoard passes s) (id : ℕ) (x : View) (v : PlaceView) → x ≡ Pins v → get_elem? s.views id ≡ some x → PlaceFits r.account id v
 place_at passes s r id x v is at = subst (ViewFits r.account id) is (r.each id x at)
 
--- what the pruner's seat finds: its view agrees
+-- the view of the pruner's seat agrees with the account
 pub pruner_at : (passes : ℕ) (s : BoardState) (r : IsBoard passes s) (id : ℕ) (x : View) (q : PrunerView) → x ≡ Prunes q → get_elem? s.views id ≡ some x → PrunerFits r.account id q
 pruner_at passes s r id x q is at = subst (ViewFits r.account id) is (r.each id x at)
 

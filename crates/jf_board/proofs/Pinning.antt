@@ -1,4 +1,4 @@
--- What a place knows after its plays.
+-- What a place knows after it announced, confirmed or withdrew.
 use Rattle.std.proofs.Common.{◌≡◌, ◌≢◌, ℕ, ◌+◌, ◌<◌, ◌≤◌, cond, List, [], ◌∷◌, ◌++◌, length, get_or, set, Option, Some, None, sym, refl, ap, ◌∙◌, subst, arith, le-leb, get_or-set_same}
 use Rattle.std.proofs.lemmas.List.{set-set}
 use lib.Seq.{set-get_or}
@@ -11,7 +11,7 @@ use Rattle.jf_board.specs.Refusals.{RefusedPin}
 use Rattle.jf_board.specs.declared.pin_refused.PinRefused.TheVariants.{Retired}
 use Rattle.jf_board.specs.Steps.{newly_numbered, judged, announcing, confirming, with_hold}
 
--- announced, and confirmed where the gate is at most the version
+-- a version announced is confirmed if the gate is at most it
 pub confirmed_view : (v : PlaceView) (i version gate : ℕ) → i < 8 → length v.holds ≡ 8 → gate ≤ version → confirming (announcing v i version) gate ≡ pinned_at v i version gate
 confirmed_view v i version gate small eight le = let A : Hold = Announced version in
     let was : get_or (set v.holds i A) i Free ≡ A = get_or-set_same v.holds i A Free (omega arith) in
@@ -19,23 +19,23 @@ confirmed_view v i version gate small eight le = let A : Hold = Announced versio
     let same : set (set v.holds i A) i (judged gate (get_or (set v.holds i A) i Free)) ≡ set v.holds i (Confirmed version) = ap (set (set v.holds i A) i) now ∙ set-set v.holds i A (Confirmed version) in
     ap (λ (hs : List Hold). record (pinned_at v i version gate) { holds = hs }) same
 
--- announced, not confirmed, and withdrawn
+-- a version announced, not confirmed and withdrawn leaves all holds unchanged
 pub refused_view : (v : PlaceView) (i version gate : ℕ) → get_or v.holds i Free ≡ Free → with_hold (confirming (announcing v i version) gate) i Free ≡ refused_at v i version gate
 refused_view v i version gate free = let A : Hold = Announced version in let h : Hold = judged gate (get_or (set v.holds i A) i Free) in
     let same : set (set (set v.holds i A) i h) i Free ≡ v.holds = set-set (set v.holds i A) i h Free ∙ (set-set v.holds i A Free ∙ (ap (set v.holds i) (sym free) ∙ set-get_or v.holds i Free)) in
     ap (λ (hs : List Hold). record (refused_at v i version gate) { holds = hs }) same
 
--- what is kept as none is free
+-- a place of which memory keeps nothing is free
 free_of : (p : Option ℕ) (h : Hold) → Agrees p h → p ≡ None → h ≡ Free
 free_of None h a e = a
 free_of (Some v) h a e = cc
 
--- what is kept as a version is not free
+-- a place of which memory keeps a version is not free
 held_of : (p : Option ℕ) (h : Hold) → Agrees p h → p ≢ None → h ≢ Free
 held_of None h a n = absurd (n refl)
 held_of (Some v) h a n = λ e. cc
 
--- the first that is kept as none is the least free place
+-- the first place of which memory keeps nothing is the least free one
 pub least_free : (pins : List (Option ℕ)) (v : PlaceView) (i : ℕ) → ((k : ℕ) → k < 8 → Agrees (get_or pins k None) (get_or v.holds k Free)) → i < 8 → get_or pins i None ≡ None → ((k : ℕ) → k < i → get_or pins k None ≢ None) → IsLeastFree v i
 least_free pins v i agree small free before = ((small, free_of (get_or pins i None) (get_or v.holds i Free) (agree i small) free), λ k l. held_of (get_or pins k None) (get_or v.holds k Free) (agree k (omega arith)) (before k l))
 
@@ -56,7 +56,7 @@ pin_refused w v x y z i version gate same free over e e' e'' = (
   ),
 )
 
--- one more new place
+-- a list of new places is longer by the next new place
 pub new_longer : (board : TableId) (ps : List PlaceState) (p : PlaceState) (n : ℕ) → AreNew board ps n → p.board ≡ board → p.known ≡ newly_numbered (n + length ps) → AreNew board (ps ++ p ∷ []) n
 new_longer board [] p n new here known = (here, known ∙ ap newly_numbered (omega arith), tt)
 new_longer board (q ∷ ps) p n new here known = (new.0, new.1, new_longer board ps p (n + 1) new.2 here (known ∙ ap newly_numbered (omega arith)))

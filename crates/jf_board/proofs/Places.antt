@@ -16,7 +16,7 @@ use Rattle.jf_board.specs.Steps.{with_hold, announcing, judged, confirming, anno
 use Rattle.jf_board.proofs.Lists.{put, put_at, put_else, put_keeps}
 use Rattle.jf_board.proofs.Moving.{SeatState, seat_state, moved, unmoved, place_at, number_below}
 
--- the account where the pin word i of the number n holds h, and the versions announced are vs
+-- the account in which pin word i of the number n holds h, and the versions announced there are vs
 abbrev pinned : Account → ℕ → ℕ → Hold → List ℕ → Account
 pinned p n i h vs = record p { hold = put p.hold (8 * n + i) h; versions = put p.versions n vs }
 
@@ -32,12 +32,12 @@ placed_else p n i h vs id v small other r = record {
   announced = r.announced ∙ sym (put_else p.versions n vs v.number other);
 }
 
--- and so do places joined to another seat
+-- places joined to another seat agree as before if the number n changes a hold
 joined_else : (p : Account) (n i : ℕ) (h : Hold) (vs : List ℕ) (id : ℕ) (gs : List PlaceView) → i < 8 → p.seat n ≢ id → JoinedFit p id gs → JoinedFit (pinned p n i h vs) id gs
 joined_else p n i h vs id [] small other r = tt
 joined_else p n i h vs id (g ∷ gs) small other r = (placed_else p n i h vs id g small (λ e. other (ap p.seat (sym e) ∙ r.0.mine)) r.0, r.1, joined_else p n i h vs id gs small other r.2)
 
--- and so does any other seat
+-- any other seat agrees as before if the number n changes a hold
 pinned_else : (p : Account) (n i : ℕ) (h : Hold) (vs : List ℕ) (id : ℕ) (v : View) → i < 8 → p.seat n ≢ id → ((x : ℕ) → Has (p.versions n) x → Has vs x) → ViewFits p id v → ViewFits (pinned p n i h vs) id v
 pinned_else p n i h vs id (Pins v) small other grows r = placed_else p n i h vs id v small (λ e. other (ap p.seat (sym e) ∙ r.mine)) r
 pinned_else p n i h vs id (Prunes q) small other grows r = record {
@@ -58,7 +58,7 @@ listed_grows us vs Free grows l = tt
 listed_grows us vs (Announced x) grows l = grows x l
 listed_grows us vs (Confirmed x) grows l = grows x l
 
--- cut and low are at most what is confirmed behind a change of one hold
+-- after a change of one hold, cut and low are at most what is confirmed
 sound_pinned : (p : Account) (n i : ℕ) (h : Hold) (vs : List ℕ) → i < 8 → n < p.count → Below p.cut h → (8 * n + i < p.scanned → Below p.low h) → Listed vs h → ((x : ℕ) → Has (p.versions n) x → Has vs x) → IsSound p → IsSound (pinned p n i h vs)
 sound_pinned p n i h vs small given cut low listed grows r = let K : ℕ = 8 * n + i in let nth : (8 * n + i) / 8 ≡ n = omega arith in record {
   cut_gate = r.cut_gate;
@@ -72,7 +72,7 @@ sound_pinned p n i h vs small given cut low listed grows r = let K : ℕ = 8 * n
       (λ _. put_keeps (λ (xs : List ℕ). Listed xs (p.hold k)) p.versions n vs (k / 8) (λ e. listed_grows (p.versions n) vs (p.hold k) grows (subst (λ (z : ℕ). Listed (p.versions z) (p.hold k)) e (r.listed k))) (λ _. r.listed k));
 }
 
--- the words behind a change of one pin word
+-- the words after a change of one pin word
 written_pinned : (passes : ℕ) (p : Account) (n i : ℕ) (h : Hold) (vs ws : List ℕ) → 8 * n + i < 8 * passes → IsWritten passes p ws → IsWritten passes (pinned p n i h vs) (set ws (8 * n + i + 3) (word_of h))
 written_pinned passes p n i h vs ws inside r = let K : ℕ = 8 * n + i in let wide = r.wide in record {
   wide = length-set ws (K + 3) (word_of h) ∙ wide;
@@ -120,7 +120,7 @@ announces passes slots id i version me v is small s r _ at _ =
           let ii : i ≡ i' = omega arith in let ee : version ≡ version' = omega arith in λ j. seat_state (Pins (announcing (vv j) (ii j) (ee j))) me,
     )
 
--- the words where a hold changes and its word does not
+-- the words are those of the account if a hold changes and its word does not
 same_word : (passes : ℕ) (p : Account) (n i : ℕ) (h : Hold) (vs ws : List ℕ) → word_of h ≡ word_of (p.hold (8 * n + i)) → IsWritten passes p ws → IsWritten passes (pinned p n i h vs) ws
 same_word passes p n i h vs ws same r = record {
   wide = r.wide;
@@ -149,15 +149,15 @@ judged_listed vs gate Free l = l
 judged_listed vs gate (Announced v) l = elim (leb gate v) as (λ b. Listed vs (cond b (Confirmed v) (Announced v))) [ true ↦ l | false ↦ l ]
 judged_listed vs gate (Confirmed v) l = l
 
--- what was announced at the place's number, the place announced
+-- a place announced all that was announced at its number
 said_same : (p : Account) (id : ℕ) (v : PlaceView) → PlaceFits p id v → (x : ℕ) → Has (p.versions v.number) x → Has v.announced x
 said_same p id v r x has = subst (λ (xs : List ℕ). Has xs x) (sym r.announced) has
 
--- a place's number times 8 and its place, over 8
+-- the number of a pin word's place, by the place of the word
 pub owner_of : (n i : ℕ) → i < 8 → (8 * n + i) / 8 ≡ n
 owner_of n i small = omega arith
 
--- what a place holds it announced
+-- a place announced each version that it holds
 hold_listed : (p : Account) (id : ℕ) (v : PlaceView) (i : ℕ) → i < 8 → IsSound p → PlaceFits p id v → Listed v.announced (p.hold (8 * v.number + i))
 hold_listed p id v i small sound r = subst (λ (xs : List ℕ). Listed xs (p.hold (8 * v.number + i))) (ap p.versions (owner_of v.number i small) ∙ sym r.announced) (sound.listed (8 * v.number + i))
 
@@ -193,12 +193,12 @@ withdraws passes slots id i me v is small s r _ at _ =
           let ii : i ≡ i' = omega arith in λ j. seat_state (Pins (with_hold (vv j) (ii j) Free)) me,
     )
 
--- the same, by the word's number
+-- a place may announce a version at its place i, the word given by its number
 pub announces_at : (passes slots id i version word : ℕ) (me : SeatState) (v : PlaceView) → me.0 ≡ Pins v → i < 8 → word ≡ 8 * v.number + i + 3
     → Allows (IsBoard passes) slots id me word (λ _. version + 1) (λ _. announced (step slots word (version + 1) 0 none) me (version + 1))
 announces_at passes slots id i version word me v is small e = subst (λ (z : ℕ). Allows (IsBoard passes) slots id me z (λ _. version + 1) (λ _. announced (step slots z (version + 1) 0 none) me (version + 1))) (sym e) (announces passes slots id i version me v is small)
 
--- the same, by the word's number
+-- a place may withdraw what it holds at i, the word given by its number
 pub withdraws_at : (passes slots id i word : ℕ) (me : SeatState) (v : PlaceView) → me.0 ≡ Pins v → i < 8 → word ≡ 8 * v.number + i + 3
     → Allows (IsBoard passes) slots id me word (λ _. 0) (λ _. withdrawn (step slots word 0 0 none) me 0)
 withdraws_at passes slots id i word me v is small e = subst (λ (z : ℕ). Allows (IsBoard passes) slots id me z (λ _. 0) (λ _. withdrawn (step slots z 0 0 none) me 0)) (sym e) (withdraws passes slots id i me v is small)

@@ -19,22 +19,22 @@ use Rattle.jf_board.proofs.Moving.{SeatState, seat_state, moved, unmoved, number
 abbrev pub paced : Account → ℕ → ℕ → ℕ → ℕ → Account
 paced p gate cut low scanned = record p { gate = gate; cut = cut; low = low; scanned = scanned }
 
--- a place agrees as before where the gate rises
+-- a place agrees as before if the gate rises
 pub placed_paced : (p : Account) (gate cut low scanned id : ℕ) (v : PlaceView) → p.gate ≤ gate → PlaceFits p id v → PlaceFits (paced p gate cut low scanned) id v
 placed_paced p gate cut low scanned id v up r = let loaded = r.loaded in record { numbered = r.numbered; mine = r.mine; loaded = omega arith; latest = r.latest; eight = r.eight; holds = r.holds; announced = r.announced }
 
--- and so do joined places
+-- joined places agree as before if the gate rises
 pub joined_paced : (p : Account) (gate cut low scanned id : ℕ) (gs : List PlaceView) → p.gate ≤ gate → JoinedFit p id gs → JoinedFit (paced p gate cut low scanned) id gs
 joined_paced p gate cut low scanned id [] up r = tt
 joined_paced p gate cut low scanned id (g ∷ gs) up r = (placed_paced p gate cut low scanned id g up r.0, r.1, joined_paced p gate cut low scanned id gs up r.2)
 
--- and so does any seat but the pruner's
+-- any seat but the pruner's agrees as before if the gate rises
 pub paced_else : (p : Account) (gate cut low scanned id : ℕ) (u : View) → p.gate ≤ gate → id ≢ p.pruner → ViewFits p id u → ViewFits (paced p gate cut low scanned) id u
 paced_else p gate cut low scanned id (Pins v) up other r = placed_paced p gate cut low scanned id v up r
 paced_else p gate cut low scanned id (Prunes q) up other r = absurd (other r.alone)
 paced_else p gate cut low scanned id Spent up other r = tt
 
--- the words behind a new gate
+-- the words after a new gate is set
 written_gate : (passes : ℕ) (p : Account) (ws : List ℕ) (gate low scanned : ℕ) → IsWritten passes p ws → IsWritten passes (paced p gate p.cut low scanned) (set ws 0 gate)
 written_gate passes p ws gate low scanned r = let wide = r.wide in record {
   wide = length-set ws 0 gate ∙ wide;
@@ -58,7 +58,7 @@ raises passes slots id gate me q is up s r _ at _ =
       λ q' is'. let same : Prunes q ≡ Prunes q' = sym is ∙ is' in let qq : q ≡ q' = cc in ap (λ (z : PrunerView). seat_state (Prunes (raising z gate)) me) qq,
     )
 
--- the words behind a new cut
+-- the words after a new cut is set
 written_cut : (passes : ℕ) (p : Account) (ws : List ℕ) (cut : ℕ) → IsWritten passes p ws → IsWritten passes (paced p p.gate cut p.low p.scanned) (set ws 1 cut)
 written_cut passes p ws cut r = let wide = r.wide in record {
   wide = length-set ws 1 cut ∙ wide;
@@ -68,7 +68,7 @@ written_cut passes p ws cut r = let wide = r.wide in record {
   pins_are = λ k l. get_or-set_other ws 1 (k + 3) cut 0 (λ e. omega arith) ∙ r.pins_are k l;
 }
 
--- the greater of two that are at most a confirmed version is so too
+-- the greater of two numbers is at most a confirmed version if both are
 pub below_max : (a b m : ℕ) (h : Hold) → (m ≡ a) ⊎ (m ≡ b) → Below a h → Below b h → Below m h
 below_max a b m h which x y = ⊎_elim (λ (e : m ≡ a). subst (λ (z : ℕ). Below z h) (sym e) x) (λ (e : m ≡ b). subst (λ (z : ℕ). Below z h) (sym e) y) which
 
@@ -76,7 +76,7 @@ below_max a b m h which x y = ⊎_elim (λ (e : m ≡ a). subst (λ (z : ℕ). B
 pub max_is : (a b : ℕ) → (max a b ≡ a) ⊎ (max a b ≡ b)
 max_is a b = grind arith
 
--- the pruner may set the cut to the greater of cut and low where it loaded all words
+-- the pruner may set the cut to the greater of cut and low if it loaded all words
 pub cuts : (passes slots id : ℕ) (me : SeatState) (q : PrunerView) (cut : ℕ) → me.0 ≡ Prunes q → length q.loaded ≡ 8 * passes → cut ≡ max q.cut (least q.gate q.loaded)
     → Allows (IsBoard passes) slots id me 1 (λ _. cut) (λ _. cut_made (step slots 1 cut 0 none) me cut)
 cuts passes slots id me q cut is whole up s r _ at _ =
@@ -94,7 +94,7 @@ cuts passes slots id me q cut is whole up s r _ at _ =
       λ q' is'. let same : Prunes q ≡ Prunes q' = sym is ∙ is' in let qq : q ≡ q' = cc in ap (λ (z : PrunerView). seat_state (Prunes (record z { cut = cut })) me) qq,
     )
 
--- less than what is at most a confirmed version is so too
+-- a number is at most a confirmed version if a greater one is
 pub below_less : (a b : ℕ) (h : Hold) → a ≤ b → Below b h → Below a h
 below_less a b Free le x = tt
 below_less a b (Announced v) le x = tt

@@ -17,7 +17,7 @@ joined_one p id [] v k r at = absurd (some-ne-none v (sym at))
 joined_one p id (x ∷ xs) v zero r at = subst (PlaceFits p id) (some-injective x v at) r.0
 joined_one p id (x ∷ xs) v (suc k) r at = joined_one p id xs v k r.2 at
 
--- none of a list without the number n has it
+-- no place of a list without the number n has it
 absent_one : (n : ℕ) (vs : List PlaceView) (v : PlaceView) (k : ℕ) → IsAbsent n vs → get_elem? vs k ≡ some v → v.number ≢ n
 absent_one n [] v k r at = absurd (some-ne-none v (sym at))
 absent_one n (x ∷ xs) v zero r at = λ e. r.0 (ap (λ (z : PlaceView). z.number) (some-injective x v at) ∙ e)
@@ -31,7 +31,7 @@ joined_apart p id (x ∷ xs) v u zero (suc j) r at at' e = absurd (absent_one x.
 joined_apart p id (x ∷ xs) v u (suc k) zero r at at' e = absurd (absent_one x.number xs v k r.1 at (e ∙ ap (λ (z : PlaceView). z.number) (sym (some-injective x u at'))))
 joined_apart p id (x ∷ xs) v u (suc k) (suc j) r at at' e = joined_apart p id xs v u k j r.2 at at' e
 
--- a place in a view that agrees, agrees
+-- a place that a seat stands for agrees with the account if the seat's view does
 place_in : (p : Account) (id : ℕ) (x : View) (v : PlaceView) → ViewFits p id x → IsPlaceIn x v → PlaceFits p id v
 place_in p id (Pins u) v fit is = subst (PlaceFits p id) is fit
 place_in p id (Prunes q) v fit has = joined_one p id q.joined v has.0 fit.joined has.1
@@ -60,7 +60,7 @@ one_place passes s r id v u at at' e = let same : at.0 ≡ at'.0 = some-injectiv
 below_cut : (passes : ℕ) (s : BoardState) (r : IsBoard passes s) (id : ℕ) (v : PlaceView) → StandsAt s id v → (i : ℕ) → i < 8 → Below (cut_in s) (hold_at v i)
 below_cut passes s r id v at i small = subst (λ (z : ℕ × Hold). Below z.0 z.1) (λ k. (sym r.written.cut_is k, sym ((stands passes s r id v at).holds i small) k)) (r.sound.cut_pins (8 * v.number + i))
 
--- point 1
+-- point 1 of the rule: the cut is low
 pub IsBoard-cut_is_low : (passes : ℕ) (s : BoardState) → IsBoard passes s → CutIsLow s
 IsBoard-cut_is_low passes s r = record {
   gate = let gate = r.written.gate_is in let cut = r.written.cut_is in let low = r.sound.cut_gate in omega arith;
@@ -79,12 +79,12 @@ no_word passes s r n i none inside = let count = r.written.count_is in let wide 
 one_seat : (passes : ℕ) (s : BoardState) (r : IsBoard passes s) (id j : ℕ) (v u : PlaceView) → StandsAt s id v → StandsAt s j u → v.number ≡ u.number → id ≡ j
 one_seat passes s r id j v u at at' e = sym (stands passes s r id v at).mine ∙ (ap r.account.seat e ∙ (stands passes s r j u at').mine)
 
--- a place announced what it holds
+-- a place announced each version that it holds
 listed_at : (passes : ℕ) (s : BoardState) (r : IsBoard passes s) (id : ℕ) (v : PlaceView) → StandsAt s id v → (i : ℕ) → i < 8 → Listed v.announced (hold_at v i)
 listed_at passes s r id v at i small = let fit = stands passes s r id v at in
     subst (λ (z : List ℕ × Hold). Listed z.0 z.1) (λ k. ((ap r.account.versions (owner_of v.number i small) ∙ sym fit.announced) k, sym (fit.holds i small) k)) (r.sound.listed (8 * v.number + i))
 
--- point 2
+-- point 2 of the rule: pin words are what places hold
 pub IsBoard-words_are_holds : (passes : ℕ) (s : BoardState) → IsBoard passes s → WordsAreHolds s
 IsBoard-words_are_holds passes s r = record {
   words = λ id v at i small. word_at passes s r id v at i small;
@@ -94,7 +94,7 @@ IsBoard-words_are_holds passes s r = record {
   listed = λ id v at i small. listed_at passes s r id v at i small;
 }
 
--- point 3
+-- point 3 of the rule: the pruner knows gate, cut and low
 pub IsBoard-pruner_knows : (passes : ℕ) (s : BoardState) → IsBoard passes s → PrunerKnows s
 IsBoard-pruner_knows passes s r = record {
   gate = λ id q at. (prunes passes s r id q at).gate_is ∙ sym r.written.gate_is;
@@ -104,11 +104,11 @@ IsBoard-pruner_knows passes s r = record {
       subst (λ (z : ℕ × Hold). Below z.0 z.1) (λ k. (sym fit.low_is k, sym ((stands passes s r j v at').holds i small) k)) (r.sound.low_pins (8 * v.number + i) (subst (λ (k : ℕ). 8 * v.number + i < k) fit.scanned_is inside));
 }
 
--- point 4
+-- point 4 of the rule: loaded gates are low
 pub IsBoard-loaded_gates_are_low : (passes : ℕ) (s : BoardState) → IsBoard passes s → LoadedGatesAreLow s
 IsBoard-loaded_gates_are_low passes s r id v at = subst (λ (k : ℕ). v.gate ≤ k) (sym r.written.gate_is) (stands passes s r id v at).loaded
 
--- point 5
+-- point 5 of the rule: the pairs were announced
 pub IsBoard-pairs_are_announced : (passes : ℕ) (s : BoardState) → IsBoard passes s → PairsAreAnnounced s
 IsBoard-pairs_are_announced passes s r = record {
   announced = λ id j q v version at at' has. subst (λ (xs : List ℕ). Has xs version) (sym (stands passes s r j v at').announced) ((prunes passes s r id q at).pairs (v.number, version) has);

@@ -1,4 +1,4 @@
--- One more pin word of a scan.
+-- A scan after one more pin word, and what a whole scan says of the place that joined for it.
 use Rattle.std.proofs.Common.{◌≡◌, ◌≢◌, ℕ, zero, suc, ◌+◌, ◌-◌, ◌*◌, ◌/◌, ◌%◌, ◌<◌, ◌≤◌, cond, eqb, true, false, List, [], ◌∷◌, ◌++◌, length, get_or, take, Option, Some, None, sym, refl, ap, ◌∙◌, subst, arith, ne_eqb, length-append}
 use mathlib.Core.Logic.{dite}
 use native.Mathlib.Decide.{ℕ_discrete}
@@ -25,7 +25,7 @@ get_longer [] x i l = absurd (omega arith)
 get_longer (y ∷ ys) x zero l = refl
 get_longer (y ∷ ys) x (suc i) l = get_longer ys x i (omega arith)
 
--- the last one
+-- the last element of a list with one more
 get_last : (xs : List ℕ) (x i : ℕ) → i ≡ length xs → get_or (xs ++ x ∷ []) i 0 ≡ x
 get_last [] x zero e = refl
 get_last [] x (suc i) e = absurd (omega arith)
@@ -38,7 +38,7 @@ take_longer xs x zero l = refl
 take_longer [] x (suc n) l = absurd (omega arith)
 take_longer (y ∷ ys) x (suc n) l = ap (λ (zs : List ℕ). y ∷ zs) (take_longer ys x n (omega arith))
 
--- all but the last one
+-- the front of a list without its last element
 take_before : (xs : List ℕ) (x n : ℕ) → n ≡ length xs → take n (xs ++ x ∷ []) ≡ xs
 take_before [] x zero e = refl
 take_before [] x (suc n) e = absurd (omega arith)
@@ -49,7 +49,7 @@ take_before (y ∷ ys) x (suc n) e = ap (λ (zs : List ℕ). y ∷ zs) (take_bef
 lower_taken : (m w : ℕ) → 0 < w → w - 1 < m → lower m w ≡ w - 1
 lower_taken m w a b = grind (arith, nat_tests)
 
--- any other is not
+-- a word that is not below m leaves the lesser as m
 lower_left : (m w : ℕ) → (0 < w → m ≤ w - 1) → lower m w ≡ m
 lower_left m w a = grind (arith, nat_tests)
 
@@ -57,11 +57,11 @@ lower_left m w a = grind (arith, nat_tests)
 pairs_grows : (q : PrunerView) (k word : ℕ) (t : ℕ × ℕ) → Has q.pairs t → Has (scanning q k word).pairs t
 pairs_grows q k word t has = elim (eqb word 0) as (λ b. Has (cond b q.pairs (q.pairs ++ (k / 8, word - 1) ∷ [])) t) [ true ↦ has | false ↦ (has.0, at_longer q.pairs ((k / 8, word - 1) ∷ []) has.0 t has.1) ]
 
--- and adds that of its word
+-- a load of a word that isn't 0 adds the word's pair
 pairs_new : (q : PrunerView) (k word : ℕ) → word ≢ 0 → Has (scanning q k word).pairs (k / 8, word - 1)
 pairs_new q k word n = let t : ℕ × ℕ = (k / 8, word - 1) in subst (λ b. Has (cond b q.pairs (q.pairs ++ t ∷ [])) t) (sym (ne_eqb word 0 n)) (length q.pairs, at_last q.pairs t (length q.pairs) refl)
 
--- one pin word more of a scan
+-- a scan after one more pin word, whatever it is
 scans_next : (p q : PrunerView) (k low word low' : ℕ) (held held' : Option Held) → Scans p q k low held → JoinedHold q.joined k word → BelowJoined q.cut q.joined → low' ≡ lower low word → IsHeld (scanning q k word) low' held' → Scans p (scanning q k word) (k + 1) low' held'
 scans_next p q k low word low' held held' s says under is found = let long = s.long in record {
   gate = s.gate;
@@ -77,7 +77,7 @@ scans_next p q k low word low' held held' s says under is found = let long = s.l
   grows = λ t has. pairs_grows q k word t (s.grows t has);
 }
 
--- a word that held the low holds it behind one more
+-- the word that gave the low still gives it after one more load
 still_held : (q : PrunerView) (k low word : ℕ) (held : Option Held) → IsHeld q low held → IsHeld (scanning q k word) low held
 still_held q k low word None h = h
 still_held q k low word (Some x) h = let inside = h.inside in record {
@@ -90,11 +90,11 @@ still_held q k low word (Some x) h = let inside = h.inside in record {
   pair = pairs_grows q k word (x.owner, x.version) h.pair;
 }
 
--- what the pin word k tells
+-- the pin word k as a `Held`: owner, place and version
 abbrev pub held_now : ℕ → ℕ → Held
 held_now k word = record { owner = k / 8; place = k % 8; version = word - 1 }
 
--- a word more that is below the low
+-- a scan after one more word that is below the low
 pub scans_lower : (p q q' : PrunerView) (k low word : ℕ) (held : Option Held) → Scans p q k low held → JoinedHold q.joined k word → BelowJoined q.cut q.joined → q' ≡ scanning q k word → 0 < word → word - 1 < low → Scans p q' (k + 1) (word - 1) (Some (held_now k word))
 scans_lower p q q' k low word held s says under e some_word less = let long = s.long in let low_is = s.low_is in let le = least_le q.gate q.loaded in let here : 8 * (k / 8) + k % 8 ≡ k = omega arith in
     subst (λ (z : PrunerView). Scans p z (k + 1) (word - 1) (Some (held_now k word))) (sym e)
@@ -109,17 +109,17 @@ scans_lower p q q' k low word held s says under e some_word less = let long = s.
       pair = pairs_new q k word (λ z. omega arith);
     })
 
--- a word more that is not
+-- a scan after one more word that is not below the low
 pub scans_same : (p q q' : PrunerView) (k low word : ℕ) (held : Option Held) → Scans p q k low held → JoinedHold q.joined k word → BelowJoined q.cut q.joined → q' ≡ scanning q k word → (0 < word → low ≤ word - 1) → Scans p q' (k + 1) low held
 scans_same p q q' k low word held s says under e more =
     subst (λ (z : PrunerView). Scans p z (k + 1) low held) (sym e) (scans_next p q k low word low held held s says under (sym (lower_left low word more)) (still_held q k low word held s.held_is))
 
--- what holds the low does so when the place has parted
+-- the word that gave the low still gives it after the place has parted
 pub held_alone : (q q' : PrunerView) (low : ℕ) (held : Option Held) → q' ≡ without_own q → IsHeld q low held → IsHeld q' low held
 held_alone q q' low None e h = subst (λ (z : PrunerView). IsHeld z low None) (sym e) h
 held_alone q q' low (Some x) e h = subst (λ (z : PrunerView). IsHeld z low (Some x)) (sym e) record { low = h.low; below = h.below; place = h.place; inside = h.inside; word = h.word; first = h.first; pair = h.pair }
 
--- the pairs stay when the place has parted
+-- the pairs are unchanged after the place has parted
 pub pairs_alone : (q q' : PrunerView) (t : ℕ × ℕ) → q' ≡ without_own q → Has q.pairs t → Has q'.pairs t
 pairs_alone q q' t e has = subst (λ (z : PrunerView). Has z.pairs t) (sym e) has
 
@@ -134,12 +134,12 @@ pub own_words : (o p q : PrunerView) (v : PlaceView) (k low : ℕ) (held : Optio
 own_words o p q v k low held s e i small inside = let j : ℕ = 8 * v.number + i in
     (subst (λ (vs : List PlaceView). JoinedHold vs j (get_or q.loaded j 0)) (s.joined ∙ ap (λ (z : PrunerView). z.joined) e) (s.words j inside)).0 i small refl
 
--- the low is at most each version that the place holds which joined for the scan
+-- the low is at most each version held by the place that joined for the scan
 pub own_pins : (o p q : PrunerView) (v : PlaceView) (k low : ℕ) (held : Option Held) → Scans p q k low held → p ≡ with_own o v → (i : ℕ) → i < 8 → 8 * v.number + i < k → Below low (hold_at v i)
 own_pins o p q v k low held s e i small inside = let long = s.long in
     subst (λ (z : ℕ). Below z (hold_at v i)) (sym s.low_is) (least_below q.gate q.loaded (8 * v.number + i) (hold_at v i) (omega arith) (own_words o p q v k low held s e i small inside))
 
--- and so is the cut
+-- the cut is at most each version held by the place that joined for the scan
 pub own_cut : (o p q : PrunerView) (v : PlaceView) (k low : ℕ) (held : Option Held) → Scans p q k low held → p ≡ with_own o v → (i : ℕ) → i < 8 → 0 < k → Below o.cut (hold_at v i)
 own_cut o p q v k low held s e i small some =
     (subst (λ (z : ℕ × List PlaceView). BelowJoined z.0 z.1) (λ j. ((s.cut ∙ ap (λ (z : PrunerView). z.cut) e) j, (s.joined ∙ ap (λ (z : PrunerView). z.joined) e) j)) (s.below some)).0 i small

@@ -7,7 +7,7 @@ use Rattle.jf_board.specs.declared.views.PlaceView.{PlaceView}
 use Rattle.jf_board.specs.Rule.{hold_at}
 use Rattle.jf_board.specs.States.{refused_at, IsLeastFree}
 
--- full, or the gate that was loaded after the version was announced is above it
+-- why a pin was refused: no place is free, or the gate that was loaded after the announcement is above the version
 abbrev pub RefusedPin : PlaceView → ℕ → PlaceView → PinRefused → Type 0
 RefusedPin old version new Full = (new ≡ old) × ((k : ℕ) → k < 8 → hold_at old k ≢ Free)
 RefusedPin old version new (Retired gate) = (version < gate) × ((i : ℕ) × IsLeastFree old i × (new ≡ refused_at old i version gate))

@@ -16,9 +16,11 @@ use Rattle.jf_board.specs.declared.views.View.TheVariants.{Pins, Prunes, Spent}
 abbrev pub BoardState : Type 0
 BoardState = State (Unit {0}) View
 
+-- the gate word
 abbrev pub gate_in : BoardState → ℕ
 gate_in s = slice_index s.words 0
 
+-- the cut word
 abbrev pub cut_in : BoardState → ℕ
 cut_in s = slice_index s.words 1
 
@@ -40,7 +42,7 @@ word_of (Confirmed v) = v + 1
 abbrev pub hold_at : PlaceView → ℕ → Hold
 hold_at v i = slice_index_or v.holds i Free
 
--- m is at most the version, where it is confirmed
+-- m is at most the version, if the hold is a confirmed one
 abbrev pub Below : ℕ → Hold → Type 0
 Below m Free = Unit {0}
 Below m (Announced v) = Unit {0}
@@ -88,7 +90,7 @@ pub record CutIsLow (s : BoardState) : Type 0 where
   pub gate : cut_in s ≤ gate_in s
   pub pins : (id : ℕ) (v : PlaceView) → StandsAt s id v → (i : ℕ) → i < 8 → Below (cut_in s) (hold_at v i)
 
--- 2. a pin word is what its place's view says, and 0 where its number isn't given; numbers of places differ and lie below the count; a place's list has each version that it has announced or confirmed
+-- 2. a pin word is what its place's view says, and 0 if its number isn't given; numbers of places differ and lie below the count; a place's list has each version that it has announced or confirmed
 pub record WordsAreHolds (s : BoardState) : Type 0 where
   pub words : (id : ℕ) (v : PlaceView) → StandsAt s id v → (i : ℕ) → i < 8 → pin_word s v.number i ≡ word_of (hold_at v i)
   pub unnumbered : (n i : ℕ) → count_in s ≤ n → 8 * n + i + 3 < length s.words → pin_word s n i ≡ 0

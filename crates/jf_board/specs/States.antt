@@ -27,7 +27,7 @@ place_of (Pins v) = v
 place_of (Prunes q) = newly_numbered 0
 place_of Spent = newly_numbered 0
 
--- stands where a seat is not the pruner's
+-- a pruner's view that knows nothing, for a seat that is not the pruner's
 abbrev pub nothing_known : PrunerView
 nothing_known = record { gate = 0; cut = 0; count = 0; loaded = []; pairs = []; joined = [] }
 
@@ -37,7 +37,7 @@ pruner_of (Pins v) = nothing_known
 pruner_of (Prunes q) = q
 pruner_of Spent = nothing_known
 
--- what is kept in memory of one of the eight is what it holds; between calls nothing is merely announced
+-- the copy in memory agrees with one of the eight: between calls it is free or confirmed, never merely announced
 abbrev pub Agrees : Option ℕ → Hold → Type 0
 Agrees None h = h ≡ Free
 Agrees (Some v) h = h ≡ Confirmed v
@@ -78,7 +78,7 @@ SameButScan p q = (q.gate ≡ p.gate) × (q.cut ≡ p.cut) × (q.count ≡ p.cou
 abbrev pub new_pruner : ℕ → ℕ → PrunerView
 new_pruner gate count = record { gate = gate; cut = gate; count = count; loaded = []; pairs = []; joined = [] }
 
--- places of the board with the numbers from n on, which hold nothing
+-- the list is of places of the board that hold nothing, numbered from n on
 abbrev pub AreNew : TableId → List PlaceState → ℕ → Type 0
 AreNew board [] n = Unit {0}
 AreNew board (p ∷ ps) n = (p.board ≡ board) × (p.known ≡ newly_numbered n) × AreNew board ps (n + 1)

@@ -13,7 +13,7 @@ use Rattle.jf_board.specs.Rule.{Has, Below, word_of, hold_at}
 abbrev SeatState : Type 0
 SeatState = Me (Unit {0}) View
 
--- which word, and the operands
+-- one step on the table: which word, and the operands
 abbrev TableStep : Type 0
 TableStep = Step (Unit {0})
 
@@ -29,17 +29,17 @@ with_hold v i h = record v { holds = slice_set v.holds i h }
 abbrev pub announcing : PlaceView → ℕ → ℕ → PlaceView
 announcing v i version = record v { latest = i; holds = slice_set v.holds i (Announced version); announced = v.announced ++ version ∷ [] }
 
--- an announced version is confirmed where the gate is at most it
+-- an announced version is confirmed if the gate is at most it
 abbrev pub judged : ℕ → Hold → Hold
 judged gate Free = Free
 judged gate (Announced version) = cond (leb gate version) (Confirmed version) (Announced version)
 judged gate (Confirmed version) = Confirmed version
 
--- the place loads the gate: what it announced last is confirmed where the gate is at most it
+-- the place loads the gate: what it announced last is confirmed if the gate is at most it
 abbrev pub confirming : PlaceView → ℕ → PlaceView
 confirming v gate = record v { gate = gate; holds = slice_set v.holds v.latest (judged gate (hold_at v v.latest)) }
 
--- the pruner sets the gate: nothing is loaded
+-- the pruner sets the gate, and no pin word counts as loaded any more
 abbrev pub raising : PrunerView → ℕ → PrunerView
 raising q gate = record q { gate = gate; loaded = [] }
 
@@ -51,7 +51,7 @@ numbering q = record q { count = q.count + 1; joined = newly_numbered q.count �
 abbrev pub scanning : PrunerView → ℕ → ℕ → PrunerView
 scanning q k word = record q { loaded = q.loaded ++ word ∷ []; pairs = cond (word == 0) q.pairs (q.pairs ++ (k / 8, word - 1) ∷ []) }
 
--- a place joins for a scan: nothing is loaded
+-- a place joins for a scan, before any pin word is loaded
 abbrev pub with_own : PrunerView → PlaceView → PrunerView
 with_own q v = record q { loaded = []; joined = v ∷ q.joined }
 
@@ -63,12 +63,12 @@ with_joined q v = record q { joined = v ∷ q.joined }
 abbrev pub without_own : PrunerView → PrunerView
 without_own q = record q { joined = drop 1 q.joined }
 
--- where the word is one of a joined place's, it is what that place holds
+-- if the word is a pin word of a joined place, it is what that place holds
 abbrev pub JoinedHold : List PlaceView → ℕ → ℕ → Type 0
 JoinedHold [] k word = Unit {0}
 JoinedHold (v ∷ vs) k word = ((i : ℕ) → i < 8 → k ≡ 8 * v.number + i → word ≡ word_of (hold_at v i)) × JoinedHold vs k word
 
--- the numbers at which pins were loaded are given
+-- each number at which a pin was loaded was given to a place
 abbrev pub NumbersAreGiven : PrunerView → Type 0
 NumbersAreGiven q = (pair : ℕ × ℕ) → Has q.pairs pair → pair.0 < q.count
 
@@ -77,7 +77,7 @@ abbrev pub BelowJoined : ℕ → List PlaceView → Type 0
 BelowJoined m [] = Unit {0}
 BelowJoined m (v ∷ vs) = ((i : ℕ) → i < 8 → Below m (hold_at v i)) × BelowJoined m vs
 
--- what was loaded at the number of a joined place, that place announced
+-- each joined place announced all that was loaded at its number
 abbrev pub JoinedAnnounced : List (ℕ × ℕ) → List PlaceView → Type 0
 JoinedAnnounced pairs [] = Unit {0}
 JoinedAnnounced pairs (v ∷ vs) = ((version : ℕ) → Has pairs (v.number, version) → Has v.announced version) × JoinedAnnounced pairs vs
@@ -110,7 +110,7 @@ scanned st m r m' = (q : PrunerView) (k : ℕ) → m.0 ≡ Prunes q → st.word 
 abbrev pub cut_made : TableStep → SeatState → ℕ → SeatState → Type 0
 cut_made st m r m' = (q : PrunerView) → m.0 ≡ Prunes q → m' ≡ (Prunes (record q { cut = st.first }), m.1)
 
--- what the pruner loaded at the number of a place that joined it, that place announced
+-- each place that joined the pruner announced all that the pruner loaded at its number
 abbrev pub learned : TableStep → SeatState → ℕ → SeatState → Type 0
 learned st m r m' = (q : PrunerView) → m.0 ≡ Prunes q → (m' ≡ m) × JoinedAnnounced q.pairs q.joined × NumbersAreGiven q
 
@@ -119,7 +119,7 @@ abbrev pub joined_for_scan : View → View → View
 joined_for_scan (Prunes q) (Pins v) = Prunes (with_own q v)
 joined_for_scan v w = v
 
--- the pruner takes in the view of a place for good, and the scan stands
+-- the pruner takes in the view of a place for good, and keeps its scan
 abbrev pub joined_for_good : View → View → View
 joined_for_good (Prunes q) (Pins v) = Prunes (with_joined q v)
 joined_for_good v w = v
@@ -134,7 +134,7 @@ abbrev pub first_joined : List PlaceView → View
 first_joined [] = Spent
 first_joined (v ∷ vs) = Pins v
 
--- the view that parts
+-- the view that leaves the pruner: that of the place that joined last
 abbrev pub last_joined : View → View
 last_joined (Prunes q) = first_joined q.joined
 last_joined v = Spent

@@ -1,12 +1,13 @@
-// The words that places and the pruner share.
+// A board is one table of atomic 64-bit words: gate, cut, the count of numbers given, then eight pin words a place.
 use crate::rule::BoardRule;
 use crate::views::{Size, View};
 use atomic_table::Table;
 use std::alloc::Global;
 use std::marker::Model;
 
-/// A board: the gate, the cut, the count of numbers given, and eight pin words for each of its places. A pin word is 0 for
-/// none, else the version plus 1. Any thread may use it through a `&`, each with a place or the pruner of its own.
+/// A board: the gate, the cut, the count of numbers given, and eight pin words for each of its places. A pin word is 0
+/// if nothing is pinned, otherwise the version plus 1. Any thread may use it through a `&`, each with a place or the
+/// pruner of its own.
 #[derive(Drop)]
 pub struct Board {
     pub(crate) table: Table<(), View, Size, BoardRule, Global>,

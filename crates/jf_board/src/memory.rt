@@ -1,7 +1,7 @@
-// Want of memory.
+// What a call of the board returns when it is out of memory.
 use std::alloc::AllocError;
 
-/// Memory is wanting. What the call was given stands as before.
+/// Out of memory. What the call was given is unchanged.
 #[derive(Clone, Copy, Debug, PartialEq, Eq)]
 pub struct Memory;
 

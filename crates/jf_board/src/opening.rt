@@ -1,4 +1,4 @@
-// Making a board.
+// Making a board: its words, its numbered places and its pruner.
 ghost use Rattle.std.specs.Prelude.{◌≡◌, ℕ, ◌+◌, ◌*◌, ◌<◌, ◌≤◌, ◌∷◌, ◌++◌, [], length, replicate, slice_index, IfOk, OnOk};
 ghost use Rattle.jf_board.specs.Steps.{newly_numbered};
 ghost use Rattle.jf_board.specs.States.{pruner_of, IsPruner, new_pruner, AreNew};
@@ -62,8 +62,8 @@ fn new_places(
 }
 
 impl Board {
-    /// A new board for `passes` places, 1 to 16, with its places, numbered from 0 on, and its pruner. Gate and cut start at
-    /// `gate`, a version.
+    /// A new board for `passes` places, 1 to 16, with its places, numbered from 0 on, and its pruner. Gate and cut
+    /// start at `gate`, a version. Refused only if it is out of memory.
     pub fn new(alloc: Global, passes: u64, gate: u64) -> Result<(Board, Vec<Place>, Pruner), Memory>
         requires { (1 ≤ passes) × (passes ≤ 16) }
         ensures words { IfOk result (λ r. r.0.words ≡ 8 * passes + 3) }

@@ -1,4 +1,5 @@
-// A reader's eight pins.
+// A reader's eight pins: a pin is announced, then confirmed by loading the gate, and withdrawn again if the gate is
+// above it.
 ghost use Rattle.std.specs.Prelude.{◌≡◌, ℕ, ◌+◌, ◌-◌, ◌*◌, ◌^◌, ◌<◌, ◌≤◌, ◌≢◌, slice_index_or, IfSome, IfNone, IfOk, IfErr, None};
 ghost use Rattle.jf_board.specs.declared.views.Hold.TheVariants.{Free, Confirmed};
 ghost use Rattle.jf_board.specs.States.{pinned_at, HoldAt, IsLeastFree};
@@ -47,15 +48,16 @@ fn first_free(pins: &[Option<u64>; 8]) -> Option<usize>
 }
 
 impl Place {
-    /// Its number: places are numbered from 0 on, in the order of the list that `Board::new` answers.
+    /// Its number: places are numbered from 0 on, in the order of the list that `Board::new` returns.
     pub fn number(&self) -> u64
         ensures { result ≡ self.now.known.number }
     {
         self.number
     }
 
-    /// Pins a version at the least free place, and answers which. The version is announced, and then confirmed where the
-    /// gate, loaded after that, isn't above it. No cut is above a confirmed version until it is unpinned.
+    /// Pins a version at the least free place, and returns that place, 0 to 7. The version is announced, and then
+    /// confirmed if the gate, loaded after that, isn't above it. No cut is above a confirmed version until it is
+    /// unpinned.
     pub fn pin(&mut self, board: &Board, version: u64) -> Result<u64, PinRefused>
         requires own { self.old.board ≡ board.now }
         requires version { version < 2 ^ 64 - 1 }
@@ -76,8 +78,8 @@ impl Place {
         Ok(index as u64)
     }
 
-    /// Frees a place, and answers the version that it held. None where the place is above 7 or holds nothing; nothing
-    /// changes then.
+    /// Frees a place, and returns the version that it held. Returns `None` if the place is above 7 or holds nothing;
+    /// then nothing changes.
     pub fn unpin(&mut self, board: &Board, place: u64) -> Option<u64>
         requires { self.old.board ≡ board.now }
         ensures some { IfSome result (λ v. HoldAt self.old.known place (Confirmed v) × (self.new.known ≡ with_hold self.old.known place Free)) }

@@ -1,4 +1,4 @@
-// What each step on the table tells.
+// What each step on the table tells the seat that takes it.
 ghost use Rattle.jf_board.specs.Steps.{numbered, announced, confirmed, withdrawn, raised, scanned, cut_made, learned, joined_for_scan, joined_for_good, parted, last_joined};
 
 use crate::views::View;

@@ -1,4 +1,4 @@
-// The one that raises the gate and cuts.
+// The pruner raises the gate, scans the pins and sets the cut, below which nothing is pinned.
 ghost use Rattle.std.specs.Prelude.{◌≡◌, ℕ, ◌+◌, ◌-◌, ◌*◌, ◌<◌, ◌≤◌, ◌∷◌, [], slice_index, max};
 ghost use Rattle.jf_board.specs.Rule.{low_of, word_of, hold_at, Below, Has};
 ghost use Rattle.jf_board.specs.Steps.{raising, NumbersAreGiven, with_joined};
@@ -14,13 +14,13 @@ use crate::views::View;
 use atomic_table::Seat;
 use std::marker::Model;
 
-/// The one that raises a board's gate, scans its pins and sets its cut. A board has one.
+/// The one that raises a board's gate, scans its pins and sets its cut. A board has one pruner.
 #[derive(Drop)]
 pub struct Pruner {
     pub(crate) seat: Seat<(), View>,
     pub(crate) gate: u64,
     pub(crate) cut: u64,
-    // The last scan's low, or the gate where it was raised since.
+    // The last scan's low, or the gate if it was raised since.
     pub(crate) low: u64,
 }
 
@@ -44,7 +44,7 @@ impl Pruner {
         self.gate
     }
 
-    /// Sets the gate, which never falls. What was scanned before counts no more.
+    /// Sets the gate, which never falls. A scan made before no longer counts.
     pub fn raise(&mut self, board: &Board, gate: u64)
         requires own { self.old.board ≡ board.now }
         requires up { self.old.known.gate ≤ gate }
@@ -55,9 +55,9 @@ impl Pruner {
         self.low = gate;
     }
 
-    /// Loads every pin word, and answers the least of the gate and the versions loaded, with the first word that gave it where
-    /// that is below the gate. `own` is any place of this board, and is as before: of its places the words loaded are the
-    /// versions that it holds.
+    /// Loads every pin word, and returns the least of the gate and the versions loaded, with the first word that gave
+    /// it if that is below the gate. `own` is any place of this board, and is unchanged; its own pins are among the
+    /// words loaded.
     pub fn scan(&mut self, board: &Board, own: &mut Place) -> Scan
         requires pruner { self.old.board ≡ board.now }
         requires place { own.old.board ≡ board.now }
@@ -80,8 +80,8 @@ impl Pruner {
         scan
     }
 
-    /// Sets the cut to the greater of the old cut and the last scan's low, and answers it. A scan must have been made since the
-    /// gate was raised. No version that is confirmed is below the cut.
+    /// Sets the cut to the greater of the old cut and the last scan's low, and returns it. A scan must have been made
+    /// since the gate was raised. No confirmed version is below the cut.
     #[tactic(auto, using(crate::proofs::Scanning::least_le))]
     pub fn cut(&mut self, board: &Board) -> u64
         requires own { self.old.board ≡ board.now }
@@ -96,8 +96,8 @@ impl Pruner {
         cut
     }
 
-    /// Takes in a place, which is given up. Each version that a scan ever loaded at its number, and so each that a `held` told
-    /// with it, is one that the place announced in a `pin`.
+    /// Takes in a place, which is given up. Each version that a scan ever loaded at its number, and so each that a
+    /// `held` named with it, is one that the place announced in a `pin`.
     pub fn join(&mut self, board: &Board, place: Place)
         requires pruner { self.old.board ≡ board.now }
         requires place { place.board ≡ board.now }

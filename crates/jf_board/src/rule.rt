@@ -1,4 +1,4 @@
-// Which rule the table of a board keeps.
+// The rule that the table of a board keeps: `IsBoard` of `specs/Rule.antt`.
 use crate::views::{Size, View};
 use atomic_table::TableRule;
 

@@ -1,4 +1,4 @@
-// What a scan answers.
+// What a scan returns.
 
 /// The pin word that gave a scan's low.
 #[derive(Clone, Copy, Debug, PartialEq, Eq)]
@@ -16,6 +16,6 @@ pub struct Held {
 pub struct Scan {
     /// The least of the gate and the versions loaded.
     pub low: u64,
-    /// The first word that gave the low, where that is below the gate.
+    /// The first word that gave the low, if that is below the gate.
     pub held: Option<Held>,
 }

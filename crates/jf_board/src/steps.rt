@@ -1,4 +1,4 @@
-// The steps of a board, each with the view that its seat then has.
+// The steps of a board, each with the view that its seat has after it.
 ghost use Rattle.std.specs.Prelude.{◌≡◌, ℕ, ◌+◌, ◌-◌, ◌*◌, ◌^◌, ◌<◌, ◌≤◌, ◌≢◌, [], ◌∷◌, length, max};
 ghost use Rattle.jf_board.specs.declared.views.Hold.TheVariants.{Free};
 ghost use Rattle.jf_board.specs.declared.views.View.TheVariants.{Pins, Prunes, Spent};
@@ -14,7 +14,7 @@ use crate::plays::{
 use crate::views::View;
 use atomic_table::Seat;
 
-// Writes the version at a place.
+// Writes the version plus 1 into a pin word.
 pub(crate) fn announce(
     board: &Board,
     seat: &mut Seat<(), View>,
@@ -35,7 +35,7 @@ pub(crate) fn announce(
         .store::<Announce>(seat, word, version + 1);
 }
 
-// Writes none at a place.
+// Writes 0, nothing pinned, into a pin word.
 pub(crate) fn withdraw(board: &Board, seat: &mut Seat<(), View>, number: u64, place: usize)
     requires own { seat.old.table_id ≡ board.now }
     requires place { IsPlace seat.old number × (place < 8) }
@@ -99,7 +99,7 @@ pub(crate) fn load_pin(board: &Board, seat: &mut Seat<(), View>, k: usize) -> u6
     board.table.shared.load::<Scan>(seat, k + 3)
 }
 
-// The view of a place goes to a new seat.
+// Moves the view of a place to a new seat.
 pub(crate) fn lend(board: &Board, seat: &mut Seat<(), View>) -> Seat<(), View>
     requires own { seat.old.table_id ≡ board.now }
     requires place { IsPlace seat.old (place_of seat.old.me.0).number }
@@ -118,7 +118,7 @@ pub(crate) fn join_for_scan(board: &Board, seat: &mut Seat<(), View>, place: Sea
     board.table.shared.join_seat::<JoinForScan>(seat, place);
 }
 
-// The pruner takes in the view of a place for good. What it loaded at the place's number, the place announced.
+// The pruner takes in the view of a place for good. The place announced all that the pruner loaded at its number.
 pub(crate) fn join_for_good(board: &Board, seat: &mut Seat<(), View>, place: Seat<(), View>)
     requires own { (seat.old.table_id ≡ board.now) × (place.table_id ≡ board.now) }
     requires both { IsPruner seat.old × IsPlace place (place_of place.me.0).number }
@@ -130,7 +130,7 @@ pub(crate) fn join_for_good(board: &Board, seat: &mut Seat<(), View>, place: Sea
     board.table.shared.load::<Learn>(seat, 0);
 }
 
-// The place that joined last goes to a new seat.
+// Moves the place that joined last to a new seat.
 pub(crate) fn part(board: &Board, seat: &mut Seat<(), View>) -> Seat<(), View>
     requires own { seat.old.table_id ≡ board.now }
     requires pruner { IsPruner seat.old × (0 < length (pruner_of seat.old.me.0).joined) }

@@ -1,7 +1,7 @@
-// What the seats of a board know. No value of these types but `Size` is made.
+// What the seats of a board know, for contracts alone: of these types only `Size` has values when the program runs.
 use std::collections::LinkedList;
 
-/// What one of the eight places holds.
+/// What one of the eight places holds: nothing, a version announced, or a version confirmed.
 pub enum Hold {
     Free,
     Announced(u64),
@@ -18,8 +18,8 @@ pub struct PlaceView {
     pub announced: LinkedList<u64>,
 }
 
-/// What the pruner knows: gate and cut, how many numbers are given, the pin words that it loaded in this scan, the pairs of
-/// number and version of all pins that it ever loaded, and the places that joined it.
+/// What the pruner knows: gate and cut, how many numbers are given, the pin words that it loaded in this scan, the
+/// pairs of number and version of all pins that it ever loaded, and the places that joined it.
 pub struct PrunerView {
     pub gate: u64,
     pub cut: u64,

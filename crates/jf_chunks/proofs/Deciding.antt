@@ -23,13 +23,13 @@ IsWithin n (fault.Line at) = at ≤ n
 IsWithin n (fault.Chunk at why) = Unit {0}
 IsWithin n fault.Memory = Unit {0}
 
--- how far the blocks are read behind n lines
+-- how far the blocks are read after n lines, and the number of the next line
 abbrev IsBehind : ℕ → Stage → ℕ → Type 0
 IsBehind n stage.Between at = at ≡ n + 1
 IsBehind n (stage.Block b) at = at ≡ n + 1
 IsBehind n (stage.Refused why) at = IsWithin n why
 
--- and what a step leads to
+-- a refusal to which line n leads is of one of the first n lines
 abbrev LeadsTo : ℕ → Stage → Type 0
 LeadsTo n stage.Between = Unit {0}
 LeadsTo n (stage.Block b) = Unit {0}
@@ -64,7 +64,7 @@ block-leads n r b line =
       | false ↦ side-leads n r b (line_read side_of line)
     ]
 
--- behind line n
+-- after line n the next line has the number n + 1, unless one was refused
 arrives : (n : ℕ) (s : Stage) → LeadsTo n s → IsBehind n s (n + 1)
 arrives n stage.Between h = refl
 arrives n (stage.Block b) h = refl
@@ -93,7 +93,7 @@ behind r ls =
     let e : 0 + length ls ≡ length ls = omega arith in
     subst (λ n. IsBehind n (after_all (begun r) ls).stage (after_all (begun r) ls).at) e (all_behind 0 (begun r) ls refl)
 
--- behind a refusal nothing changes
+-- after a refusal nothing changes
 pub refused_after : (r : RestoreValue) (at : ℕ) (s : Stage) (why : BlockFault) (line : List ℕ) → s ≡ stage.Refused why
     → (let t : State = record { restore = r; at = at; stage = s } in t ≡ after t line)
 unfolding line_step
@@ -107,7 +107,7 @@ is_next at n h = grind (arith, nat_tests)
 is_before : (at n : ℕ) → at ≤ n → (at == n + 1) ≡ false
 is_before at n h = grind (arith, nat_tests)
 
--- a result that comes to this
+-- lines that come to a whole restore decide no refusal
 ok_so : (r : RestoreValue) (x : RestoreValue) (o : Result Entries BlockFault) (n : ℕ) → Ok x ≡ with_entries r o → None ≡ decided n o
 ok_so r x (Ok es) n e = refl
 ok_so r x (Err why) n e = absurd (cc)

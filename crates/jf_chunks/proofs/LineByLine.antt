@@ -1,4 +1,4 @@
--- Lines of chunk blocks come to the same one by one as all together.
+-- Lines of chunk blocks read one by one give what they give all together.
 use Rattle.std.proofs.Common.{◌≡◌, ℕ, zero, suc, ◌+◌, ◌-◌, ◌≤◌, ◌||◌, nat_lt, true, false, cond, List, [], ◌∷◌, ◌++◌, length, Option, Some, None, Result, Ok, Err, refl, sym, ap, ap₂, ◌∙◌, arith}
 use Rattle.std.proofs.lemmas.List.{append_assoc, append-nil}
 use Rattle.std.proofs.lemmas.Bool.Decides.{nat_tests}
@@ -24,17 +24,17 @@ Ended = Result RestoreValue BlockFault
 abbrev from : RestoreValue → ℕ → Stage → List (List ℕ) → Ended
 from r at s ls = end_of (after_all (record { restore = r; at = at; stage = s }) ls)
 
--- behind a step
+-- what lines come to after a step
 abbrev goes : Step → ℕ → List (List ℕ) → Ended
 goes step at ls = from step.restore at step.stage ls
 
--- behind a refusal nothing changes
+-- after a refusal nothing changes
 pub refused_stays : (r : RestoreValue) (at : ℕ) (why : BlockFault) (ls : List (List ℕ)) → from r at (stage.Refused why) ls ≡ Err why
 unfolding after_all line_step
 refused_stays r at why [] = refl
 refused_stays r at why (line ∷ ls) = refused_stays r at why ls
 
--- a block that begins at a line is read or not, and then come the lines behind it
+-- what a block that begins at a line comes to, read or not, with the lines after it
 abbrev answered : RestoreValue → ℕ → Read Chunk → Ended
 answered r first (Ok b) = goes (taken r first b.0) b.1.at b.1.left
 answered r first (Err at) = Err (fault.Line at)

@@ -1,6 +1,6 @@
--- Of a long line it only counts that it is long.
+-- All lines that are too long give the same.
 use Rattle.std.proofs.Common.{◌≡◌, ℕ, true, List, refl, ap}
-use Rattle.jf_script.specs.Words.{is_long}
+use Rattle.jf_text.specs.Words.{is_long}
 use Rattle.jf_restore.specs.RestoreValue.{RestoreValue}
 use Rattle.jf_chunks.specs.declared.stage.Stage.{Stage}
 use Rattle.jf_chunks.specs.declared.stage.Stage.TheVariants as stage

@@ -5,11 +5,11 @@ use Rattle.jf_blocks.specs.Reading.{Place, Chunk, start, chunk_block}
 use Rattle.jf_chunks.specs.declared.fault.BlockFault.{BlockFault}
 use Rattle.jf_chunks.specs.declared.fault.BlockFault.TheVariants as fault
 
--- known entries and those of a block behind them, whose first line has this number
+-- known entries and then those of a block, whose first line has this number, if it is accepted after them
 abbrev pub accepted : List ℕ → ℕ → Entries → Chunk → Result Entries BlockFault
 accepted root at known chunk = elim (range_refusal root known chunk.0 chunk.1) [ None ↦ Ok (known ++ chunk.0) | Some why ↦ Err (fault.Chunk at why) ]
 
--- known entries and those of all blocks behind them, each accepted behind those before, or the first refusal. The number n isn't below that of the lines left
+-- known entries and then those of all blocks, each accepted after those before it, or the first refusal. n is at least the number of lines that remain
 unfoldable pub chunks_from : ℕ → List ℕ → Entries → Place → Result Entries BlockFault
 chunks_from zero root known p = Ok known
 chunks_from (suc n) root known p =
@@ -22,11 +22,11 @@ chunks_from (suc n) root known p =
           ]
     ]
 
--- of lines that are numbered from 1
+-- what all lines come to, numbered from 1
 abbrev pub chunks : List ℕ → Entries → List (List ℕ) → Result Entries BlockFault
 chunks root known ls = chunks_from (length ls) root known (start ls)
 
--- what is refused whatever follows so many lines: that the next line is missing isn't
+-- the refusal that the first n lines decide, whatever follows them: a line that is missing after them may still come
 abbrev pub decided : ℕ → Result Entries BlockFault → Option BlockFault
 decided n (Ok es) = None
 decided n (Err (fault.Line at)) = if at == n + 1 then None else Some (fault.Line at)

@@ -1,29 +1,29 @@
--- What holds of all lines, as statements for calls that do nothing and ensure them.
+-- What holds of all lines of chunk blocks, as statements for calls that do nothing and ensure them.
 use Rattle.std.specs.Prelude.{◌≡◌, ℕ, List, ◌++◌, length, Some, Result, Ok, Err, IsTrue}
 use Rattle.jf_evidence.specs.Ranges.{Entries}
-use Rattle.jf_script.specs.Words.{is_long}
+use Rattle.jf_text.specs.Words.{is_long}
 use Rattle.jf_restore.specs.RestoreValue.{RestoreValue}
 use Rattle.jf_chunks.specs.declared.fault.BlockFault.{BlockFault}
 use Rattle.jf_chunks.specs.Chunks.{chunks, decided}
 use Rattle.jf_chunks.specs.Steps.{State, begun, after, after_all, refusal_of, end_of}
 
--- with these entries
+-- the restore with these entries
 abbrev pub with_entries : RestoreValue → Result Entries BlockFault → Result RestoreValue BlockFault
 with_entries r (Ok es) = Ok (record { version = r.version; root = r.root; entries = es })
 with_entries r (Err why) = Err why
 
--- the lines given are whole blocks that are all accepted behind the entries that were there, or why not
+-- lines read one by one give what they give all together: a restore with all entries, or the first refusal
 abbrev pub ChunksComeLineByLine : Type 0
 ChunksComeLineByLine = (r : RestoreValue) (ls : List (List ℕ)) → end_of (after_all (begun r) ls) ≡ with_entries r (chunks r.root r.entries ls)
 
--- behind lines is refused what these lines decide
+-- after lines, the refusal is the one that they decide
 abbrev pub RefusalsComeAtTheirLine : Type 0
 RefusalsComeAtTheirLine = (r : RestoreValue) (ls : List (List ℕ)) → refusal_of (after_all (begun r) ls).stage ≡ decided (length ls) (chunks r.root r.entries ls)
 
--- a refusal is what all lines come to that begin with these
+-- after a refusal, all lines that begin with these give the same refusal
 abbrev pub RefusalsStay : Type 0
 RefusalsStay = (r : RestoreValue) (ls ms : List (List ℕ)) (why : BlockFault) → refusal_of (after_all (begun r) ls).stage ≡ Some why → chunks r.root r.entries (ls ++ ms) ≡ Err why
 
--- of a long line it only counts that it is long
+-- two lines that are too long give the same
 abbrev pub LongLinesAreAlike : Type 0
 LongLinesAreAlike = (s : State) (line other : List ℕ) → IsTrue (is_long line) → IsTrue (is_long other) → after s line ≡ after s other

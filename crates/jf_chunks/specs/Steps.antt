@@ -17,11 +17,11 @@ pub record State : Type 0 where
   pub at : ℕ
   pub stage : Stage
 
--- no line is read yet
+-- the state before the first line
 abbrev pub begun : RestoreValue → State
 begun r = record { restore = r; at = 1; stage = stage.Between }
 
--- memory is wanting, and what is restored stays
+-- out of memory: what is restored stays, and no later line is read
 abbrev pub out_of_memory : State → State
 out_of_memory s = record { restore = s.restore; at = s.at; stage = stage.Refused fault.Memory }
 
@@ -33,7 +33,7 @@ IsShort (stage.Refused why) = Unit {0}
 
 -- ---- one line
 
--- what is restored, and how far the blocks are read, behind a line
+-- what is restored, and how far the blocks are read, after a line
 pub record Step : Type 0 where
   pub restore : RestoreValue
   pub stage : Stage
@@ -42,77 +42,79 @@ pub record Step : Type 0 where
 abbrev pub IsMade : Step → RestoreValue → Stage → Type 0
 IsMade step restore next = (restore ≡ step.restore) × (next ≡ step.stage)
 
--- nothing is added
+-- a step that adds nothing
 abbrev pub keeps : RestoreValue → Stage → Step
 keeps r s = record { restore = r; stage = s }
 
+-- a step that refuses, and adds nothing
 abbrev pub refuses : RestoreValue → BlockFault → Step
 refuses r why = keeps r (stage.Refused why)
 
--- the entries of a block are added where it is accepted
+-- the entries of a block are added if it is accepted
 abbrev pub taken : RestoreValue → ℕ → Chunk → Step
 taken r first chunk = elim (range_refusal r.root r.entries chunk.0 chunk.1) [ None ↦ keeps (with_more r chunk.0) stage.Between | Some why ↦ refuses r (fault.Chunk first why) ]
 
+-- the step of a block that is read to its end
 abbrev pub whole : RestoreValue → Begun → Step
 whole r b = taken r b.first (b.entries, b.proof)
 
--- what was read of a block: it is whole where no line is missing
+-- what was read of a block: it is whole if no line is missing
 abbrev pub settled : RestoreValue → Begun → Step
 settled r b = if nat_lt 0 b.entries_left || nat_lt 0 b.siblings_left then keeps r (stage.Block b) else whole r b
 
--- a block that begins at a line
+-- the block that begins at a line
 abbrev pub begun_at : ℕ → ChunkHead → Begun
 begun_at at head = record { first = at; entries_left = head.entries; siblings_left = head.siblings; entries = []; proof = record { depth = head.depth; siblings = [] } }
 
--- one entry more, and one less to come
+-- the block with one more entry, and one fewer to come
 abbrev pub with_entry : Begun → Entry → Begun
 with_entry b e = record { first = b.first; entries_left = b.entries_left - 1; siblings_left = b.siblings_left; entries = b.entries ++ e ∷ []; proof = b.proof }
 
--- one sibling more, and one less to come
+-- the block with one more sibling, and one fewer to come
 abbrev pub with_sibling : Begun → List ℕ → Begun
 with_sibling b h = record { first = b.first; entries_left = b.entries_left; siblings_left = b.siblings_left - 1; entries = b.entries; proof = record { depth = b.proof.depth; siblings = b.proof.siblings ++ h ∷ [] } }
 
--- the first line of a block
+-- the step of a block's first line
 abbrev pub first_step : RestoreValue → ℕ → Option ChunkHead → Step
 first_step r at None = refuses r (fault.Line at)
 first_step r at (Some head) = settled r (begun_at at head)
 
--- the line of an entry
+-- the step of an entry's line
 abbrev pub entry_step : RestoreValue → ℕ → Begun → Option Entry → Step
 entry_step r at b None = refuses r (fault.Line at)
 entry_step r at b (Some e) = settled r (with_entry b e)
 
--- the line of a sibling
+-- the step of a sibling's line
 abbrev pub side_step : RestoreValue → ℕ → Begun → Option (List ℕ) → Step
 side_step r at b None = refuses r (fault.Line at)
 side_step r at b (Some h) = settled r (with_sibling b h)
 
--- the entries come first
+-- another line of a block: that of an entry as long as entries are to come, then that of a sibling
 abbrev pub block_step : RestoreValue → ℕ → Begun → List ℕ → Step
 block_step r at b line = if nat_lt 0 b.entries_left then entry_step r at b (line_read entry_of line) else side_step r at b (line_read side_of line)
 
--- a line, by how far the blocks are read; behind a refusal none is looked at
+-- a line, by how far the blocks are read; after a refusal no line is looked at
 unfoldable pub line_step : RestoreValue → ℕ → Stage → List ℕ → Step
 line_step r at stage.Between line = first_step r at (line_read chunk_of line)
 line_step r at (stage.Block b) line = block_step r at b line
 line_step r at (stage.Refused why) line = refuses r why
 
--- and none is counted
+-- the number of the next line; after a refusal no line is counted
 abbrev pub next_at : ℕ → Stage → ℕ
 next_at at stage.Between = at + 1
 next_at at (stage.Block b) = at + 1
 next_at at (stage.Refused why) = at
 
--- behind a line
+-- the state after a line
 abbrev pub after : State → List ℕ → State
 after s line = let step = line_step s.restore s.at s.stage line in record { restore = step.restore; at = next_at s.at s.stage; stage = step.stage }
 
--- behind lines
+-- the state after lines
 unfoldable pub after_all : State → List (List ℕ) → State
 after_all s [] = s
 after_all s (line ∷ ls) = after_all (after s line) ls
 
--- ---- answers
+-- ---- what is returned
 
 -- what is refused, if anything is
 abbrev pub refusal_of : Stage → Option BlockFault
@@ -120,17 +122,18 @@ refusal_of stage.Between = None
 refusal_of (stage.Block b) = None
 refusal_of (stage.Refused why) = Some why
 
--- what a line is answered, by how far the blocks are read behind it
+-- what a line returns, by how far the blocks are read after it
 abbrev pub answer_of : Stage → Result (Unit {0}) BlockFault
 answer_of stage.Between = Ok tt
 answer_of (stage.Block b) = Ok tt
 answer_of (stage.Refused why) = Err why
 
--- what is answered where the lines end
+-- what the end of the lines returns
 abbrev pub end_by : RestoreValue → ℕ → Stage → Result RestoreValue BlockFault
 end_by r at stage.Between = Ok r
 end_by r at (stage.Block b) = Err (fault.Line at)
 end_by r at (stage.Refused why) = Err why
 
+-- what the end of the lines returns in a state
 abbrev pub end_of : State → Result RestoreValue BlockFault
 end_of s = end_by s.restore s.at s.stage

@@ -1,4 +1,4 @@
-// Chunk blocks that are read line by line.
+// Chunk blocks that are read line by line, as docs/FORMATS.md gives them.
 ghost use Rattle.std.specs.Prelude.{◌≡◌, ◌⊎◌, None, Ok, OnOk, OnErr};
 ghost use Rattle.jf_chunks.specs.Steps.{begun, after, answer_of, end_of, out_of_memory, refusal_of};
 
@@ -11,11 +11,11 @@ use std::alloc::Global;
 use std::marker::Model;
 use std::mem::replace;
 
-/// Reads chunk blocks line by line, each line given without the byte that ends it, and adds each block to a restore when
-/// its last line has come. Of a line of more than 8,500 bytes the first 8,501 will do.
+/// Reads chunk blocks line by line, each line given without the byte that ends it, and adds each block to a restore
+/// when its last line has come. Of a line of more than 8,500 bytes the first 8,501 will do.
 ///
 /// A line that doesn't match is refused at that line, and a block that isn't accepted at its last line. After a refusal
-/// nothing more is read, and each later call answers the same.
+/// nothing more is read, and each later call returns the same.
 #[derive(Drop)]
 pub struct Blocks {
     alloc: Global,
@@ -35,7 +35,7 @@ impl Model for Blocks {
 }
 
 impl Blocks {
-    /// No line is read yet: the blocks are to be added to these entries.
+    /// Begins before the first line. The blocks are to be added to what `restore` has.
     pub fn new(alloc: Global, restore: Restore) -> Blocks
         ensures { result ≡ begun restore }
     {
@@ -47,7 +47,8 @@ impl Blocks {
         }
     }
 
-    /// Reads the next line. Where memory is wanting, what was added before stays.
+    /// Reads the next line. Refuses a line that doesn't match, and at its last line a block that isn't accepted. If it
+    /// is out of memory, what was added before stays.
     pub fn line(&mut self, line: &[u8]) -> Result<(), BlockFault>
         ensures answer { result ≡ answer_of self.new.stage }
         ensures after { (self.new ≡ after self.old line.now) ⊎ ((refusal_of self.old.stage ≡ None) × (self.new ≡ out_of_memory self.old)) }
@@ -61,7 +62,7 @@ impl Blocks {
         }
     }
 
-    /// Where the lines end: what is restored, if they were whole blocks that were all accepted.
+    /// Ends the lines. Returns what is restored, if they were whole blocks that were all accepted.
     pub fn end(self) -> Result<Restore, BlockFault>
         ensures { result ≡ end_of self }
     {
@@ -78,7 +79,7 @@ impl Blocks {
         }
     }
 
-    /// Goes on behind one line more. For want of memory that is all that is known from there on.
+    /// Goes on by one line. If it is out of memory, no later line is read.
     fn behind(&mut self, line: &[u8]) -> Result<(), Memory>
         requires { answer_of self.old.stage ≡ Ok tt }
         ensures ok { OnOk result (self.new ≡ after self.old line.now) }
@@ -94,7 +95,7 @@ impl Blocks {
         Ok(())
     }
 
-    /// What the last line is answered.
+    /// What the last line returns.
     fn answer(&self) -> Result<(), BlockFault>
         ensures { result ≡ answer_of self.now.stage }
     {

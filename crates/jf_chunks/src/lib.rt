@@ -1,5 +1,5 @@
-//! Chunk blocks read line by line, and added to a restore: each block is checked behind those before it when its last line
-//! has come.
+//! Chunk blocks read line by line, and added to a restore: each block is checked after those before it, once its last
+//! line has come.
 #![tactic(auto)]
 
 mod blocks;

@@ -1,4 +1,4 @@
-// One line more.
+// What one line makes of a block and of the restore.
 ghost use Rattle.std.specs.Prelude.{◌≡◌, IfOk, OnErr};
 ghost use Rattle.jf_blocks.specs.Reading.{line_read, chunk_of, entry_of, side_of};
 ghost use Rattle.jf_restore.specs.Restores.{AreShort};
@@ -12,8 +12,8 @@ use jf_path::{HashList, Memory, Pairs};
 use jf_restore::{Restore, RestoreRefused};
 use std::alloc::Global;
 
-/// Reads line `at`, adds the block of which it is the last line, and tells how far the blocks are read behind it. A refusal
-/// leaves what was restored.
+/// Reads line `at`, adds the block if this is its last line, and returns how far the blocks are read after it. If the
+/// line or the block is refused, or memory runs out, the restore is unchanged.
 #[tactic(auto, unfolding(crate::specs::Steps::line_step))]
 pub(crate) fn read_line(
     alloc: Global,
@@ -34,7 +34,7 @@ pub(crate) fn read_line(
     }
 }
 
-/// The first line of a block.
+/// Reads the first line of a block.
 fn begin(alloc: Global, restore: &mut Restore, at: u64, line: &[u8]) -> Result<Stage, Memory>
     ensures ok { IfOk result (λ next. IsMade (first_step restore.old at (line_read chunk_of line.now)) restore.new next) }
     ensures short { IfOk result (λ next. IsShort next) }
@@ -57,7 +57,7 @@ fn begin(alloc: Global, restore: &mut Restore, at: u64, line: &[u8]) -> Result<S
     }
 }
 
-/// Another line of a block.
+/// Reads another line of a block.
 fn go_on(
     alloc: Global,
     restore: &mut Restore,
@@ -77,7 +77,7 @@ fn go_on(
     }
 }
 
-/// The line of an entry.
+/// Reads the line of an entry.
 fn entry(
     alloc: Global,
     restore: &mut Restore,
@@ -101,7 +101,7 @@ fn entry(
     }
 }
 
-/// The line of a sibling.
+/// Reads the line of a sibling.
 fn side(restore: &mut Restore, at: u64, begun: Begun, line: &[u8]) -> Result<Stage, Memory>
     requires { AreShort begun.entries }
     ensures ok { IfOk result (λ next. IsMade (side_step restore.old at begun (line_read side_of line.now)) restore.new next) }
@@ -119,7 +119,7 @@ fn side(restore: &mut Restore, at: u64, begun: Begun, line: &[u8]) -> Result<Sta
     }
 }
 
-/// What was read of a block: it is added where no line is missing.
+/// Adds what was read of a block, if no line of it is missing.
 fn settle(restore: &mut Restore, begun: Begun) -> Result<Stage, Memory>
     requires { AreShort begun.entries }
     ensures ok { IfOk result (λ next. IsMade (settled restore.old begun) restore.new next) }
@@ -132,7 +132,7 @@ fn settle(restore: &mut Restore, begun: Begun) -> Result<Stage, Memory>
     add(restore, &begun)
 }
 
-/// A whole block.
+/// Adds a whole block.
 fn add(restore: &mut Restore, begun: &Begun) -> Result<Stage, Memory>
     requires { AreShort begun.now.entries }
     ensures ok { IfOk result (λ next. IsMade (whole restore.old begun.now) restore.new next) }

@@ -25,6 +25,6 @@ pub enum Stage {
     Between,
     /// A block is begun.
     Block(Begun),
-    /// Lines were refused, and so are all that follow.
+    /// A line was refused, and so are all that follow.
     Refused(BlockFault),
 }

@@ -1,4 +1,4 @@
-// The map of two keys that agree in all bits but the last, in two chunks. Root and hashes are from Python's hashlib.
+// The map of two keys that differ only in their last bit, in two chunks. Root and hashes are from Python's hashlib.
 use crate::reading::{Came, blocks_of, came_to, taken};
 use jf_chunks::Blocks;
 use std::test::Fail;
@@ -18,7 +18,7 @@ const SECOND: &[&str] = &[
 
 const EMPTY: &str = "side 6e340b9cffb37a989ca544e6bb780a2c78901d3fb33738768511a30617afa01d";
 
-// Gives siblings of no entry, and tells whether all were taken.
+// Feeds empty hashes as siblings, and returns whether all were taken.
 fn are_taken(blocks: &mut Blocks, count: usize) -> bool {
     for _ in 0..count {
         if blocks.line(EMPTY.as_bytes()).is_err() {
@@ -28,7 +28,7 @@ fn are_taken(blocks: &mut Blocks, count: usize) -> bool {
     true
 }
 
-// Gives the two chunks, and tells whether all lines were taken.
+// Feeds the two chunks, and returns whether all lines were taken.
 fn both_taken(blocks: &mut Blocks) -> bool {
     taken(blocks, FIRST) == 3
         && are_taken(blocks, 130)

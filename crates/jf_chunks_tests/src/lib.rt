@@ -1,5 +1,5 @@
-//! Tests of chunk blocks as text: how they are written, what they come to when they are read line by line, and how a run
-//! answers `chunk`.
+//! Tests of chunk blocks as text: how they are written, what they come to when they are read line by line, and the
+//! replies of a run to `chunk`.
 #![tactic(auto)]
 
 #[cfg(test)]

@@ -1,4 +1,4 @@
-// Lines that are read as chunk blocks, and what they come to.
+// Feeding lines to `Blocks`, and what they come to.
 use jf_blocks::{FirstLine, first_line};
 use jf_chunks::{BlockFault, Blocks, Restore};
 use jf_hash::Hash;
@@ -24,12 +24,12 @@ pub(crate) fn root_of(line: &str) -> Result<Hash, Fail> {
     }
 }
 
-/// Blocks of version 1 with this root, of which no line is read.
+/// Blocks of version 1 with this root, before the first line.
 pub(crate) fn blocks_of(alloc: Global, root: &str) -> Result<Blocks, Fail> {
     Ok(Blocks::new(alloc, Restore::new(alloc, 1, root_of(root)?)))
 }
 
-/// Gives lines one after another up to the first that is refused, and tells how many were taken before it.
+/// Feeds lines one after another up to the first that is refused, and returns how many were taken before it.
 pub(crate) fn taken(blocks: &mut Blocks, lines: &[&str]) -> usize {
     for (i, line) in lines.iter().enumerate() {
         if blocks.line(line.as_bytes()).is_err() {
@@ -39,7 +39,7 @@ pub(crate) fn taken(blocks: &mut Blocks, lines: &[&str]) -> usize {
     lines.len()
 }
 
-/// What is come to where the lines end.
+/// What the blocks come to when the lines end.
 pub(crate) fn came_to(blocks: Blocks) -> Came {
     match blocks.end() {
         Ok(restore) => whole(&restore),
@@ -55,7 +55,7 @@ fn whole(restore: &Restore) -> Came {
     }
 }
 
-/// Whether one more line, which begins a block, is answered as the last one was.
+/// Whether one more line, which begins a block, is refused as the last one was.
 pub(crate) fn is_answered_alike(blocks: &mut Blocks, came: Came) -> bool {
     match (blocks.line(b"chunk 1 0 0"), came) {
         (Err(why), Came::Refused(wanted)) => why == wanted,

@@ -1,15 +1,17 @@
-// Chunks of the head and of old versions, by values from Python's hashlib, and chunks of larger maps that are read again.
-use jf_blocks::{FirstLine, first_line, write_hex};
+// Chunks of the head and of old versions, by values from Python's hashlib, and chunks of larger maps that are read
+// again.
+use jf_blocks::{FirstLine, first_line};
 use jf_chunks::{Blocks, Restore};
 use jf_path::{Bytes, Memory};
 use jf_play::play::{NO_FAULTS, is_answered, new_disk, play};
+use jf_text::write_hex;
 use std::alloc::Global;
 use std::sync::Wait;
 use std::test::Fail;
 use std::thread::Threads;
 
-// No entry; one, and one more in the next version; two, whose keys agree in one bit; six, of which two agree in the first
-// nibble; and two that agree in three nibbles; lines outside the grammar.
+// Maps of no entry; of one, and of one more in the next version; of two whose keys agree in one bit; of six, of which
+// two agree in the first nibble; of two that agree in three nibbles; and lines outside the grammar.
 const ROWS: &[(&str, &str)] = &[
     ("chunk head 0 1\n", "0 no range 0\n"),
     (
@@ -162,7 +164,7 @@ fn written<H: Threads + Wait + Sync>(
     Ok(play(rt, alloc, disk, "run", script.as_slice(), NO_FAULTS)?.text)
 }
 
-// Reads one line: it sets the root by which all lines after it are read as chunk blocks.
+// Reads one line: the first sets the root by which all lines after it are read as chunk blocks.
 fn read_line(alloc: Global, blocks: &mut Option<Blocks>, line: &[u8]) -> bool {
     if let Some(blocks) = blocks {
         return blocks.line(line).is_ok();
@@ -173,7 +175,7 @@ fn read_line(alloc: Global, blocks: &mut Option<Blocks>, line: &[u8]) -> bool {
     true
 }
 
-// The blocks behind the line of a root, or none where a line is refused.
+// The blocks after the line of a root, or `None` if a line is refused.
 fn read(alloc: Global, text: &[u8]) -> Option<Blocks> {
     let mut blocks = None;
     for line in text.split(|byte| *byte == b'\n') {
@@ -184,7 +186,7 @@ fn read(alloc: Global, text: &[u8]) -> Option<Blocks> {
     blocks
 }
 
-// Whether the replies are read as whole blocks, of this many entries of the root that was told.
+// Whether the replies are read as whole blocks, with this number of entries and the announced root.
 fn is_whole(alloc: Global, text: &[u8], count: u64) -> bool {
     match read(alloc, text) {
         Some(blocks) => blocks
@@ -194,7 +196,7 @@ fn is_whole(alloc: Global, text: &[u8], count: u64) -> bool {
     }
 }
 
-// How many names are put, and the chunks that are asked for.
+// How many names are put, and which chunks are asked for.
 const LARGE: &[(u16, &str)] = &[
     (300, "chunk v1 0 100\nchunk v1 100 199\nchunk v1 299 1\n"),
     (1000, "chunk head 0 1000\n"),

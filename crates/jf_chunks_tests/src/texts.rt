@@ -17,7 +17,7 @@ const A: &str = "entry 19d5f57c8e8b3cd760f853bb8d7900d68e10ef02674383de65a9b4d65
 
 const B: &str = "entry 6fe4ff1a836fcb881bbe03ff848bb731a5584708153d9bc6dc1d6430579a6a12 =32";
 
-// The leaf of `b`, on the right of the way to `a`.
+// The leaf of `b`, which is on the right of the way to `a`.
 const LEAF_OF_B: &str = "side 523314ab33c912d434792b42083d03c32d7e90b536b35c355a01ad0bb7925da2";
 
 const EMPTY: &str = "side 6e340b9cffb37a989ca544e6bb780a2c78901d3fb33738768511a30617afa01d";
@@ -25,7 +25,7 @@ const EMPTY: &str = "side 6e340b9cffb37a989ca544e6bb780a2c78901d3fb33738768511a3
 // The map that has `1` at each letter from `a` to `f`.
 const SIX: &str = "root 6c9ccb50129259c61b0292b566b5a6c2a3a9e4df2b046bfe879e14741b47e853";
 
-// Its first two entries, its next two and its last two.
+// The first two entries of that map, the next two and the last two, each as a chunk.
 const FIRST_OF_SIX: &[&str] = &[
     "chunk 2 5 4",
     "entry 015cbd08524dfe93e53e4947992eda31976b55b2358d4515eaee3cf98a0f07f3 =31",
@@ -223,7 +223,7 @@ const REFUSED_LINES: &[Row] = &[
     ),
 ];
 
-// Gives lines in parts, and tells how many were taken before the first that is refused.
+// Feeds lines in parts, and returns how many were taken before the first that is refused.
 fn all_taken(blocks: &mut Blocks, parts: &[&[&str]]) -> usize {
     let mut sum: usize = 0;
     for part in parts {
@@ -269,7 +269,7 @@ fn a_line_is_refused_at_that_line(rt: HostRuntime) -> Result<(), Fail> {
     Ok(())
 }
 
-// Whether a refusal is told again by another line, and where the lines end.
+// Whether a refusal comes again at another line, and at the end of the lines.
 fn stays(alloc: Global, row: &Row) -> Result<bool, Fail> {
     let mut blocks = blocks_of(alloc, row.0)?;
     let _ = all_taken(&mut blocks, row.1);
@@ -292,7 +292,7 @@ fn the_first_chunk_alone_is_not_the_whole(rt: HostRuntime) -> Result<(), Fail> {
     Ok(())
 }
 
-// A line of one byte more than is read.
+// A line of one byte more than may be read.
 const LONG: &[u8] = &[b'0'; 8501];
 
 #[test]

@@ -6,7 +6,7 @@ use jf_path::{Bytes, HashList, Memory, Pairs};
 use std::alloc::Global;
 use std::test::Fail;
 
-// The entries of `a` and `b`, and a sibling of no entry.
+// The entries of `a` and `b`, and an empty hash as a sibling.
 const LINES: &str = "entry 19d5f57c8e8b3cd760f853bb8d7900d68e10ef02674383de65a9b4d65e419b26 =31\n\
     entry 6fe4ff1a836fcb881bbe03ff848bb731a5584708153d9bc6dc1d6430579a6a12 =32\n\
     side 6e340b9cffb37a989ca544e6bb780a2c78901d3fb33738768511a30617afa01d\n";

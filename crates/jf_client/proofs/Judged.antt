@@ -1,11 +1,12 @@
--- A root that is set, and one block after it.
+-- Judging one proof block after a root was set.
 use Rattle.std.proofs.Common.{◌≡◌, ℕ, zero, suc, ◌+◌, List, [], ◌∷◌, ◌++◌, length, Option, Some, None, Ok, codes, refl, ap, ◌∙◌, append-nil}
 use Rattle.jf_hash.specs.Hashes.{K}
 use Rattle.jf_evidence.specs.Proofs.{refusal}
 use Rattle.jf_evidence.specs.declared.proof.Proof.{Proof}
 use Rattle.jf_evidence.specs.declared.proof.ProofFault.{ProofFault}
 use Rattle.jf_collide.specs.declared.judged.Judged.{Judged}
-use Rattle.jf_script.specs.Words.{line_text, lines}
+use Rattle.jf_io.specs.Lines.{lines}
+use Rattle.jf_text.specs.Words.{line_text}
 use Rattle.jf_blocks.specs.Reading.{Place, start, line_read, first_of, proof_block}
 use Rattle.jf_blocks.specs.declared.first.FirstLine.TheVariants as first
 use Rattle.jf_verify.specs.declared.accepted.Accepted.{Accepted}
@@ -17,7 +18,7 @@ unfolding verdicts_from
 root_step n at j line ls root e =
     ap (λ o. let s = say j (record { at = at; left = line ∷ ls }) (record { at = at + 1; left = ls }) o in s.text ++ verdicts_from n s.known s.place) e
 
--- a root that is set, and these claims accepted
+-- the judging after a root was set and these claims were accepted
 abbrev knows : List ℕ → List Accepted → Judging
 knows root claims = record { root = Some root; claims = claims }
 
@@ -35,7 +36,7 @@ unfolding verdicts_from
 end_step zero j at = refl
 end_step (suc n) j at = refl
 
--- a first claim that no check refuses
+-- a first claim that no check refuses is judged accepted
 judged-first : (root : List ℕ) (j : Judged) → refusal root j.key j.claim j.proof ≡ None → (judged root [] j).0 ≡ codes "accepted\n"
 unfolding judged
 judged-first root j e =

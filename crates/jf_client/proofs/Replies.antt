@@ -1,4 +1,4 @@
--- The replies to `root` and to `prove`, as they are judged.
+-- The replies to `root` and to `prove`, and how they are judged.
 use Rattle.std.proofs.Common.{◌≡◌, ℕ, zero, suc, ◌+◌, ◌-◌, ◌^◌, ◌<◌, false, cond, nat_lt, List, [], ◌∷◌, ◌++◌, length, slice_index_or, Option, Some, None, Ok, codes, refl, sym, ap, ap₂, ◌∙◌, arith, append-nil}
 use Rattle.std.proofs.lemmas.Bool.Decides.{nat_tests}
 use Rattle.std.specs.List.{AllByRecursion}
@@ -12,7 +12,9 @@ use Rattle.jf_model.specs.States.{State}
 use Rattle.jf_evidence.specs.Proofs.{honest}
 use Rattle.jf_evidence.specs.ProofLaws.{honest-short}
 use Rattle.jf_evidence.specs.Laws.{HonestClaimsAreAccepted}
-use Rattle.jf_script.specs.Words.{lines, is_long}
+use Rattle.jf_io.specs.Lines.{lines}
+use Rattle.jf_io.proofs.EndedLines.{lines_nil}
+use Rattle.jf_text.specs.Words.{is_long}
 use Rattle.jf_script.specs.Commands.{command_of}
 use Rattle.jf_script.specs.Replies.{reply_text}
 use Rattle.jf_script.specs.declared.command.Base.{Base}
@@ -33,11 +35,7 @@ use Rattle.jf_client.specs.Laws.{IsKept, Fits, HonestRepliesAreAccepted}
 use Rattle.jf_client.proofs.Told.{hash_of_key, honest-told}
 use Rattle.jf_client.proofs.Judged.{verdicts-of_one}
 
-lines-none : lines [] ≡ []
-unfolding lines
-lines-none = refl
-
--- ---- what the lines are answered
+-- ---- the answers to the two lines
 
 not_refused : (s : State) (own : Own) (on : Base) (name : List ℕ) → IsKept s on → (refused_by s own (command.Root on) ≡ None) × (refused_by s own (command.Prove on name) ≡ None)
 unfolding refused_by
@@ -86,7 +84,7 @@ base-IsMap s own (base.Place place) sound kept = absurd kept
 -- ---- the two replies
 
 module _ (back : BlocksAreReadBack) (begins : RepliesBeginBlocks) (sets : RepliesSetRoots) (accepted : HonestClaimsAreAccepted) where
-  -- of any map
+  -- the replies over any map
   map_replies : (m : Map) (name : List ℕ) (a b : ℕ) → IsMap m → Fits name (fin.get m (K name)) → a < 2 ^ 64 → b < 2 ^ 64
       → verdicts (reply_text a (reply.Root (root m)) ++ (reply_text b (reply.Proof (length (honest m (K name)).siblings)) ++ proof_lines name (fin.get m (K name)) (honest m (K name)))) ≡ codes "accepted\n"
   map_replies m name a b is_map fits small small' =
@@ -100,7 +98,7 @@ module _ (back : BlocksAreReadBack) (begins : RepliesBeginBlocks) (sets : Replie
       verdicts-of_one (reply_text a (reply.Root (root m)) ++ more) one.0 two.0 (lines block) (root m) k name claim proof (3 + 3 + k)
       (one.1 ∙ ap (λ ls. one.0 ∷ ls) two.1) one.2 two.2
       (ap (λ t. proof_block k (record { at = 3; left = lines t })) (sym (append-nil block)) ∙ back name claim proof 3 [] (honest-told m name is_map fits)
-      ∙ ap (λ ls. Ok ((name, claim, proof), record { at = 3 + 3 + k; left = ls })) lines-none)
+      ∙ ap (λ ls. Ok ((name, claim, proof), record { at = 3 + 3 + k; left = ls })) lines_nil)
       (accepted m (K name) is_map)
 
   pub replies-accepted : HonestRepliesAreAccepted

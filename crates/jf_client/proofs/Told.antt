@@ -1,4 +1,4 @@
--- The honest proof of what a map says of a name is one that a block can tell of.
+-- The honest proof of what a map says of a name fits into a block.
 use Rattle.std.proofs.Common.{ℕ, zero, suc, ◌+◌, ◌-◌, ◌<◌, ◌≤◌, Bool, true, false, cond, List, [], ◌∷◌, ◌++◌, map, length, slice_index, Option, Some, None, IfSome, sym, subst, arith}
 use Rattle.std.specs.List.{AllByRecursion, filter}
 use Rattle.std.specs.FinMap as fin
@@ -51,7 +51,7 @@ honest_leaf P n d key (e ∷ []) all = all.0
 honest_leaf P zero d key (e ∷ f ∷ es) all = tt
 honest_leaf P (suc n) d key (e ∷ f ∷ es) all = honest_leaf P n (d + 1) key (near key d (e ∷ f ∷ es)) (near_all P d key (e ∷ f ∷ es) all)
 
--- two hashes
+-- the leaf's key and the hash of its value are hashes
 abbrev AreHashes : Leaf → Type 0
 AreHashes l = IsHash l.0 × IsHash l.1
 

@@ -1,11 +1,11 @@
--- What a client comes to that judges what it is answered, as a statement for a call that does nothing and ensures it.
+-- A client that judges replies without a map, as a statement for a call that does nothing and ensures it.
 use Rattle.std.specs.Prelude.{◌≡◌, ℕ, ◌^◌, ◌<◌, ◌≤◌, false, length, List, ◌++◌, Option, Some, IfSome, codes}
 use Rattle.std.specs.FinMap.{get}
 use Rattle.hex.specs.Hex.{IsBytes}
 use Rattle.jf_hash.specs.Hashes.{K}
 use Rattle.jf_model.specs.Versions.{IsVersions}
 use Rattle.jf_model.specs.States.{State}
-use Rattle.jf_script.specs.Words.{is_long}
+use Rattle.jf_text.specs.Words.{is_long}
 use Rattle.jf_script.specs.Commands.{command_of}
 use Rattle.jf_script.specs.declared.command.Base.{Base}
 use Rattle.jf_script.specs.declared.command.Base.TheVariants as base
@@ -37,7 +37,7 @@ pub record Asks (root_line prove_line : List ℕ) (on : Base) (name : List ℕ) 
   pub prove_short : is_long prove_line ≡ false
   pub prove_is : command_of prove_line ≡ Some (command.Prove on name)
 
--- of each kept version and each name, whether the map has it or not: the two replies, with any numbers, are judged accepted
+-- for each kept version and each name, whether the map has it or not: the two replies, with any numbers, are judged accepted
 abbrev pub HonestRepliesAreAccepted : Type 0
 HonestRepliesAreAccepted = (s : State) (own : Own) (on : Base) (name root_line prove_line : List ℕ) (m n : ℕ)
     → IsVersions s.all → IsKept s on → Fits name (get (base_map s own on) (K name)) → Asks root_line prove_line on name → m < 2 ^ 64 → n < 2 ^ 64

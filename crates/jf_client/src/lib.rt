@@ -1,5 +1,5 @@
-//! What a client comes to that keeps no map: the replies to `root` and to `prove` on one version, one after the other,
-//! are judged as one accepted claim.
+//! A client that keeps no map: it judges the replies to `root` and to `prove` on one version, one after the other, as
+//! one accepted claim.
 #![tactic(auto)]
 
 mod laws;

@@ -1,5 +1,5 @@
-//! Two claims on one key under one root, each with its proof: which is refused, or, where both are accepted and contradict,
-//! two different lists with one SHA-256. The same of two maps that have one root.
+//! Two claims on one key under one root, each with its proof: which of them is refused, or, if both are accepted and
+//! contradict, two different lists with one SHA-256. Likewise two maps that have one root.
 #![tactic(auto)]
 
 mod contradiction;

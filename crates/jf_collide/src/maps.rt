@@ -1,4 +1,4 @@
-// Two maps of one root.
+// Two maps of one root: they are the same, or their roots hash two different lists to one hash.
 ghost use Rattle.std.specs.Prelude.{◌≡◌, ◌≢◌, ◌↔◌, IsTrue, MatchResult, T};
 ghost use Rattle.std.specs.FinMap.{is_sorted};
 ghost use Rattle.jf_path.specs.Keys.{key_cmp};
@@ -10,8 +10,9 @@ use crate::parts::whole_inputs;
 use jf_path::{Bytes, Key, Memory, Pairs, know_entries};
 use std::alloc::Global;
 
-/// Where two maps that have one root come apart, given by their entries in the order of their keys: two different lists
-/// with one SHA-256, the first map's first, or `None` if the maps are one. One map given twice takes no memory.
+/// Compares two maps that have one root, given by their entries in the order of their keys. Returns `None` if they are
+/// the same, otherwise two different lists with one SHA-256, the first map's first. If one map is given twice, no
+/// memory is taken.
 pub fn maps_collide(
     alloc: Global,
     first: &Pairs,
@@ -37,7 +38,7 @@ pub fn maps_collide(
     }
 }
 
-// Whether entries are the same.
+// Whether two lists of entries are the same.
 fn are_same(a: &[(Key, Bytes)], b: &[(Key, Bytes)]) -> bool
     ensures { IsTrue result ↔ (a.now ≡ b.now) }
 {

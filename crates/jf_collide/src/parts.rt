@@ -1,4 +1,4 @@
-// What the root of a whole map hashes.
+// What the root of a whole map hashes, from its entries in the order of their keys.
 ghost use Rattle.std.specs.Prelude.{◌≡◌, ◌+◌, ◌-◌, ◌<◌, [], ◌∷◌, ◌++◌, IfOk, OnOk, T, reverse};
 ghost use Rattle.std.specs.FinMap.{is_sorted};
 ghost use Rattle.sha2.specs.Sha256.{sha256};
@@ -24,7 +24,7 @@ pub(crate) fn whole_inputs(alloc: Global, entries: &[(Key, Bytes)]) -> Result<Ve
     Ok(inputs)
 }
 
-// Puts what the root of entries hashes behind what is there, itself last; their keys agree in the first `depth` bits.
+// Appends what the root of entries hashes, its own input last; the keys of the entries agree in the first `depth` bits.
 fn push_part(
     alloc: Global,
     entries: &[(Key, Bytes)],
@@ -59,7 +59,7 @@ fn push_part(
     }
 }
 
-// Puts an input behind what is there, and gives its hash.
+// Appends an input, and returns its hash.
 fn push_input(input: Bytes, inputs: &mut Vec<Bytes>) -> Result<Hash, Memory>
     ensures hash { IfOk result (λ hash. hash ≡ sha256 input) }
     ensures inputs { OnOk result (inputs.new.items ≡ inputs.old.items ++ input ∷ []) }
@@ -69,7 +69,7 @@ fn push_input(input: Bytes, inputs: &mut Vec<Bytes>) -> Result<Hash, Memory>
     Ok(hash)
 }
 
-// Where the entries whose bit `depth` is 1 begin.
+// The place of the first entry whose bit `depth` is 1, or the number of entries if there is no such entry.
 fn first_one(entries: &[(Key, Bytes)], depth: usize) -> usize
     requires { depth < 256 }
     ensures { IsFirstOne depth result entries.now }

@@ -1,4 +1,4 @@
-// Calls of the disk that fail in turn.
+// Landings of which each call of the disk fails in turn.
 use crate::stores::{land_one, new_store, reopened};
 use jf_disk::{Disk, MemDisk};
 use jf_engine::{Engine, EngineFault};
@@ -9,7 +9,7 @@ use std::thread::Threads;
 // The calls of a landing, and the head that the files stand for after each has failed.
 const HEADS: &[(u64, u64)] = &[(0, 0), (1, 0), (2, 0), (3, 1)];
 
-// Whether a landing is refused so, and the store is still empty.
+// Whether a landing is refused with this fault, and the store is still empty.
 fn is_refused<H: Threads + Sync>(
     rt: &H,
     alloc: Global,
@@ -20,7 +20,7 @@ fn is_refused<H: Threads + Sync>(
     Ok(refused == Err(why) && engine.head() == 0)
 }
 
-// Whether a landing meets the fault, the store is broken after it, and its files have this head.
+// Whether a landing meets the fault, the store is broken after it, and its files give this head.
 fn leaves<H: Threads + Sync>(rt: &H, alloc: Global, failing: u64, head: u64) -> Result<bool, Fail> {
     let mut engine = new_store(rt, alloc, &[failing])?;
     let faulted = is_refused(rt, alloc, &mut engine, EngineFault::DiskFault)?;

@@ -1,4 +1,4 @@
-// Files byte by byte.
+// The files of a store, byte by byte.
 use crate::stores::{land_one, new_store, open_on, reopened};
 use jf_disk::{Disk, MemDisk, Side};
 use jf_engine::{Engine, Landed, OpenFault};

@@ -1,4 +1,5 @@
-// Stores on disks in memory, for tests. A store is boxed: its holder then holds one value, and not all that it is made of.
+// Stores on disks in memory, for tests. A store is boxed: its holder then holds one value, and not all that it is made
+// of.
 use jf_disk::MemDisk;
 use jf_engine::{Engine, EngineFault, Landed, OpenFault, OpenRefused};
 use jf_join::FreeGate;
@@ -7,7 +8,7 @@ use std::alloc::Global;
 use std::test::Fail;
 use std::thread::Threads;
 
-// What opening a disk with this side A makes, on which these calls fail.
+// The store that is opened on a disk with this side A, on which these calls fail.
 pub(crate) fn open_on<H: Threads + Sync>(
     rt: &H,
     alloc: Global,
@@ -46,7 +47,7 @@ pub(crate) fn new_store<H: Threads + Sync>(
     Ok(Box::new(alloc, engine)?)
 }
 
-// The store that the files of this one stand for.
+// The store that the files of this one give when they are opened again.
 pub(crate) fn reopened<H: Threads + Sync>(
     rt: &H,
     alloc: Global,

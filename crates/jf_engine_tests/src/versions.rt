@@ -1,38 +1,38 @@
-// Roots by Python's `hashlib`, by the recursion that defines them.
+// Roots of landings on the plain store, against Python's `hashlib` by the recursion that defines them.
 use jf_hash::{Hash, key_of};
 use jf_plain::{PlainMap, PlainVersions};
 use jf_split::{Batch, BatchFault};
 use std::alloc::Global;
 use std::test::Fail;
 
-// No key.
+// The root of the map without keys.
 const EMPTY: Hash = [
     110, 52, 11, 156, 255, 179, 122, 152, 156, 165, 68, 230, 187, 120, 10, 44, 120, 144, 29, 63,
     179, 55, 56, 118, 133, 17, 163, 6, 23, 175, 160, 29,
 ];
 
-// The keys of `a` and `b` at `1` and `2`.
+// The root with `1` at the key of `a`, and `2` at the key of `b`.
 const FIRST: Hash = [
     62, 146, 183, 122, 111, 74, 125, 204, 66, 111, 19, 75, 52, 21, 243, 175, 126, 179, 158, 92,
     138, 199, 89, 156, 148, 245, 163, 200, 63, 224, 116, 37,
 ];
 
-// The same with the key of `c` at `3`.
+// The root with `3` at the key of `c` too.
 const SECOND: Hash = [
     69, 202, 95, 209, 61, 60, 42, 163, 12, 83, 52, 157, 76, 29, 168, 53, 222, 62, 63, 160, 187,
     197, 19, 144, 65, 155, 13, 181, 18, 127, 66, 220,
 ];
 
-// The key of `a` at `9`, and no key of `b`.
+// The root then with `9` at the key of `a`, and without the key of `b`.
 const THIRD: Hash = [
     220, 70, 165, 141, 133, 151, 191, 37, 88, 37, 185, 255, 70, 144, 237, 64, 172, 41, 186, 222,
     16, 129, 109, 173, 207, 138, 93, 239, 22, 44, 192, 107,
 ];
 
-// A name, and what is put at its key, one byte, or None if the key is to be removed.
+// A name, and the byte put at its key, or `None` if the key is removed.
 type Change = (&'static [u8], Option<u8>);
 
-// What is landed, and the root of the map then.
+// What is landed, and the root of the map after it.
 const LANDINGS: &[(&[Change], Hash)] = &[
     (&[(b"b", Some(b'2')), (b"a", Some(b'1'))], FIRST),
     (&[(b"c", Some(b'3'))], SECOND),
@@ -67,7 +67,7 @@ fn land(alloc: Global, versions: &mut PlainVersions, changes: &[Change]) -> Resu
     Ok(())
 }
 
-// Whether these changes are landed, and the root is this one then.
+// Lands these changes, and returns whether the root is then this one.
 fn lands(
     alloc: Global,
     versions: &mut PlainVersions,
@@ -78,7 +78,7 @@ fn lands(
     Ok(versions.root() == *root)
 }
 
-// Versions and their roots, None above the newest.
+// Versions and their roots; `None` above the newest.
 const ROOTS: &[(u64, Option<Hash>)] = &[
     (0, Some(EMPTY)),
     (1, Some(FIRST)),
@@ -97,7 +97,7 @@ fn has_roots(versions: &PlainVersions) -> bool {
     versions.head() == 4
 }
 
-// Whether the newest version is taken back.
+// Takes the newest version back, and returns whether it is gone.
 fn goes_back(versions: &mut PlainVersions) -> bool {
     if versions.head() == 0 {
         return false;
@@ -139,7 +139,7 @@ fn first_at(map: &PlainMap, name: &[u8]) -> Option<u8> {
     }
 }
 
-// The value at the key in a version, or None if the version is not there.
+// The value at the key in a version, or `None` if there is no such version.
 fn value_in(versions: &PlainVersions, version: u64) -> Option<Option<u8>> {
     match versions.map_of(version) {
         Some(map) => Some(first_at(map, b"a")),

@@ -8,8 +8,8 @@ use Rattle.jf_hash.specs.Roots.{root}
 use Rattle.jf_evidence.specs.Ranges.{Entries, range_refusal, chunk_entries, honest_chunk}
 use Rattle.jf_evidence.specs.HonestChunkLaws.{honest-chunk}
 
--- from the known entries on, `start` of them: each chunk of a map, of so many entries, at least 1, is accepted behind those before as long as an entry stands at its place;
--- and in the end they are the first of the map
+-- each chunk of a map, of so many entries, at least 1, from `start` known ones on, is accepted after those before it as long as an entry stands at its place;
+-- after the last of them, the entries taken are the first of the map
 abbrev pub ComeInTurn : Map → Entries → ℕ → List ℕ → Type 0
 ComeInTurn m known start [] = known ≡ take start (entries m)
 ComeInTurn m known start (count ∷ counts) = 1 ≤ count → start < length (entries m)

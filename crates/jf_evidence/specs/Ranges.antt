@@ -22,15 +22,19 @@ Entry = List ℕ × List ℕ
 abbrev pub Entries : Type 0
 Entries = List Entry
 
+-- the last of entries, or an empty entry if there is none
 abbrev pub last_entry : Entries → Entry
 last_entry es = unwrap_or (last_or None es) ([], [])
 
+-- the key of the last entry
 abbrev pub last_key : Entries → List ℕ
 last_key es = (last_entry es).0
 
+-- a list without its last element
 abbrev pub all_but_last : {X : Type 0} → List X → List X
 all_but_last xs = take (length xs - 1) xs
 
+-- the last of hashes, or the empty list if there is none
 abbrev pub last_hash : List (List ℕ) → List ℕ
 last_hash xs = unwrap_or (last_or None xs) []
 

@@ -30,8 +30,8 @@ pub fn honest_chunks_go_on()
     ensures { HonestChunksGoOn }
 {}
 
-/// Honest chunks of any lengths, taken in order from the first entry on, are each accepted after those before, and their
-/// entries are the first of the map.
+/// Honest chunks of any lengths, taken in order from the first entry on, are each accepted after those before, and
+/// their entries are the first of the map.
 pub fn honest_chunks_come_in_turn()
     ensures { HonestChunksComeInTurn }
 {}

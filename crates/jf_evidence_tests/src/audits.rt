@@ -1,4 +1,5 @@
-// Which claims are refused and which agree, under a root from outside, by Python's hashlib. Lists that collide aren't known.
+// Claims that are refused and claims that agree, under a root from outside, by Python's hashlib. No lists that collide
+// are known.
 use crate::two_entries::{ROOT, proof_of_x, siblings_of_x};
 use jf_collide::{Audit, Judged, audit};
 use jf_hash::{Hash, key_of, value};
@@ -32,7 +33,7 @@ fn judged(alloc: Global, name: &str, claim: Option<&str>) -> Result<Judged, Memo
     })
 }
 
-// Whether two claims agree, or the one told is refused so.
+// Whether two claims agree, or the given one is refused as expected.
 fn comes_to(
     alloc: Global,
     root: &Hash,
@@ -47,7 +48,7 @@ fn comes_to(
     }
 }
 
-// The same for two names with what is claimed of them.
+// Whether claims on two names agree, or the given one is refused as expected.
 fn is_audited(
     alloc: Global,
     root: &Hash,

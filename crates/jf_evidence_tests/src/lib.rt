@@ -1,4 +1,4 @@
-//! Tests of proofs, of two claims under one root, and of proof texts: how they are written, and what they are answered.
+//! Tests of proofs, of two claims under one root, and of proof texts: how they are written, and what is said of them.
 #![tactic(auto)]
 
 #[cfg(test)]

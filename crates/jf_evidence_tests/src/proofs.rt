@@ -1,4 +1,4 @@
-// Roots and proofs from outside, by Python's hashlib.
+// Proofs and their roots from outside, by Python's hashlib.
 use crate::two_entries::{ROOT, list, proof_of_x, siblings_of_x};
 use jf_hash::{Hash, empty, key_of, value};
 use jf_path::{HashList, Key, Memory};
@@ -6,19 +6,19 @@ use jf_proof::{Proof, ProofFault, verify};
 use std::alloc::Global;
 use std::test::Fail;
 
-// What the proof of `z24` comes to with one sibling more below, the hash of no entry.
+// The root that the proof of `z24` gives with one more sibling at the bottom, the empty hash.
 const DEEPER: Hash = [
     0xe9, 0x7b, 0x3b, 0x51, 0xc1, 0xc9, 0x4f, 0xab, 0xee, 0x56, 0x24, 0xcb, 0x04, 0xba, 0xdb, 0x08,
     0xad, 0x15, 0xa1, 0xd0, 0x66, 0x96, 0x21, 0xda, 0xff, 0x92, 0x87, 0x29, 0xae, 0x3d, 0x98, 0xb4,
 ];
 
-// The hash beside the way of `w0`, whose key has the other first bit: that of both leaves, from depth 1 on.
+// The hash beside the way of `w0`, whose first bit is the other one: the root of both leaves from depth 1 on.
 const OTHER_SIDE: Hash = [
     0xc8, 0xe1, 0xbb, 0x5b, 0x39, 0x1a, 0xaf, 0xa7, 0xa5, 0x19, 0x1c, 0x1e, 0x0e, 0x45, 0xbd, 0x4e,
     0xe1, 0x10, 0xd9, 0x49, 0x3e, 0x36, 0xa8, 0x2d, 0xf8, 0x34, 0x34, 0x4e, 0x61, 0x0e, 0xa0, 0x07,
 ];
 
-// So many siblings, each of one byte again and again: 0 for the lowest, and one more for each above.
+// A list of `count` siblings, each made of one byte: 0 for the lowest, and one more for each above.
 fn chain(alloc: Global, count: u64) -> Result<HashList, Memory> {
     let mut list = HashList::new(alloc);
     for i in 0..count {
@@ -27,13 +27,13 @@ fn chain(alloc: Global, count: u64) -> Result<HashList, Memory> {
     Ok(list)
 }
 
-// Those with the hash of no entry below them.
+// The siblings of `x`, with the empty hash below them.
 fn deeper_siblings() -> [Hash; 5] {
     let [other, none, again, last] = siblings_of_x();
     [none, other, none, again, last]
 }
 
-// Whether the claim is refused so, or is accepted if no fault is given.
+// Whether a claim is refused as expected, or accepted if no fault is given.
 fn is_judged(
     root: &Hash,
     key: &Key,
@@ -44,7 +44,7 @@ fn is_judged(
     verify(root, key, claim.map(str::as_bytes), proof).err() == fault
 }
 
-// Judges the claims of a table under one proof: root, name, value or none, and the fault.
+// Judges the claims of a table under one proof: root, name, value or `None`, and the fault.
 fn are_judged(
     proof: &Proof,
     rows: &[(Hash, &str, Option<&str>, Option<ProofFault>)],
@@ -100,7 +100,7 @@ const OF_NO_LEAF: &[(Hash, &str, Option<&str>, Option<ProofFault>)] = &[
     (ROOT, "x", None, Some(ProofFault::WrongRoot)),
 ];
 
-// No leaf, and these siblings.
+// A proof without a leaf, with these siblings.
 fn proof_of_none(alloc: Global, siblings: &[Hash]) -> Result<Proof, Memory> {
     Ok(Proof {
         leaf: None,
@@ -122,7 +122,8 @@ fn absence_from_the_empty_map_is_shown_by_nothing(rt: HostRuntime) -> Result<(),
     Ok(())
 }
 
-// The root that the leaf of `one` at the key of bytes 5a comes to, under so many siblings; and whether it is too deep.
+// A number of siblings, the root that the leaf of `one` at the key of bytes 5a gives under them, and whether they are
+// too many.
 const CHAINS: &[(u64, Hash, Option<ProofFault>)] = &[
     (
         0,

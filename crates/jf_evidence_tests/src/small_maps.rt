@@ -1,4 +1,4 @@
-// Proofs of maps of no entry and of one.
+// Proofs of the map without entries, and of maps of one entry.
 use jf_hash::{Hash, key_of, value};
 use jf_node::{Link, Snapshot};
 use jf_path::{Key, Memory};
@@ -12,7 +12,7 @@ fn one(alloc: Global, key: &Hash) -> Result<Snapshot, Memory> {
     Ok(Snapshot::of(1, Some(top)))
 }
 
-// Whether the proof has that leaf and no sibling, and shows the claim.
+// Whether the proof has that leaf and no siblings, and shows the claim.
 fn shows(
     root: &Hash,
     key: &Key,

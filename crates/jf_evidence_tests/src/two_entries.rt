@@ -4,7 +4,7 @@ use jf_path::{HashList, Memory};
 use jf_proof::Proof;
 use std::alloc::Global;
 
-// Its root, by Python's hashlib.
+// The root of the map, by Python's hashlib.
 pub(crate) const ROOT: Hash = [
     0x70, 0xc4, 0x44, 0xfe, 0xb5, 0x46, 0x34, 0x63, 0xcc, 0xa8, 0x26, 0x0d, 0xe1, 0x24, 0x94, 0xe6,
     0x37, 0x72, 0x0a, 0x49, 0x43, 0x41, 0x7c, 0x09, 0xe9, 0x52, 0x57, 0x88, 0xed, 0x9a, 0xa8, 0x46,
@@ -24,7 +24,7 @@ pub(crate) fn list(alloc: Global, hashes: &[Hash]) -> Result<HashList, Memory> {
     Ok(list)
 }
 
-// The leaf of `x`, and these siblings.
+// A proof with the leaf of `x` and these siblings.
 pub(crate) fn proof_of_x(alloc: Global, siblings: &[Hash]) -> Result<Proof, Memory> {
     Ok(Proof {
         leaf: Some((key_of(b"x"), value(b"one"))),

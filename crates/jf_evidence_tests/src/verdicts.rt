@@ -1,4 +1,5 @@
-// Inputs with what they are answered. Keys and hashes are from outside, by Python's hashlib. Lists that collide aren't known.
+// Inputs, and what is said of them. Keys and hashes are from outside, by Python's hashlib. No lists that collide are
+// known.
 use jf_blocks::write_proof;
 use jf_hash::{empty, key_of, leaf, value};
 use jf_path::{Bytes, HashList, Memory};
@@ -17,7 +18,8 @@ const CLAIM: &str = "claim =31\n";
 const LEAF: &str =
     "leaf 19d5f57c8e8b3cd760f853bb8d7900d68e10ef02674383de65a9b4d65e419b26 f254fd9353abb55f60a0942b46382c2428aa019d102cd9985275c0fb42a8dbb3\n";
 
-// The map that has `22` at `b` too: the two keys begin with one bit in common, 0, and that of `c` begins with 1.
+// The map that has `22` at `b` too: the keys of `a` and `b` have just their first bit in common, 0; that of `c` begins
+// with 1.
 const ROOT_OF_TWO: &str = "root d22189d895b6523204958425e959d4c78370fb4e8d104658d25dea583f3dc647\n";
 
 const SIDES: &str =
@@ -30,7 +32,7 @@ const ABSENT: &str =
 const ROOT_OF_NONE: &str =
     "root 6e340b9cffb37a989ca544e6bb780a2c78901d3fb33738768511a30617afa01d\n";
 
-// Inputs in parts, and what they are answered.
+// Inputs in parts, and what is said of them.
 const INPUTS: &[(&[&str], &'static str)] = &[
     (&[], ""),
     (&[ROOT, "proof 0\n", NAME, CLAIM, LEAF], "accepted\n"),
@@ -79,7 +81,7 @@ const INPUTS: &[(&[&str], &'static str)] = &[
         &[ROOT_OF_TWO, "proof 0\n", NAME, CLAIM, LEAF],
         "refused 4\n",
     ),
-    // The key of `z` begins as that of `a` does for two bits, which is as many as there may be siblings.
+    // The key of `z` agrees with that of `a` in two bits, so the proof may have up to two siblings.
     (
         &[
             ROOT_OF_TWO,
@@ -101,14 +103,14 @@ const INPUTS: &[(&[&str], &'static str)] = &[
         ],
         "refused 3\n",
     ),
-    // A root is set between blocks alone.
+    // A root may be set only between blocks.
     (
         &[ROOT, "proof 0\n", NAME, ROOT, CLAIM, LEAF],
         "syntax 4\nsyntax 5\nsyntax 6\n",
     ),
 ];
 
-// These parts, one after another.
+// Joins these parts.
 fn joined(alloc: Global, parts: &[&str]) -> Result<Bytes, Memory> {
     let mut text = Bytes::new(alloc);
     for part in parts {
@@ -144,7 +146,7 @@ fn inputs_are_answered(rt: HostRuntime) -> Result<(), Fail> {
     Ok(())
 }
 
-// Judges these lines, each given without its line feed, and the end of the input after them.
+// Judges these lines, each given without its line feed, and then the end of the input.
 fn lines_are_answered(alloc: Global, lines: &[&[u8]], wanted: &str) -> Result<(), Fail> {
     let mut judge = Judge::new(alloc);
     let mut out = Bytes::new(alloc);
@@ -155,7 +157,7 @@ fn lines_are_answered(alloc: Global, lines: &[&[u8]], wanted: &str) -> Result<()
     same(&out, wanted)
 }
 
-// A line of one byte more than is read.
+// A line of one byte more than may be read.
 const LONG: &[u8] = &[b'0'; 8501];
 
 #[test]

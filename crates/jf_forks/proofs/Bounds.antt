@@ -1,4 +1,4 @@
--- What lands together is some forks, no more than are live, and has few keys.
+-- The forks that land together are no more than are live, and have at most 10,000 keys.
 use Rattle.std.specs.Prelude.{nat_le, nat_lt}
 use Rattle.std.proofs.Common.{◌≡◌, ◌≤◌, ◌+◌, ℕ, true, false, true≢false, cond, ◌==◌, List, [], ◌∷◌, ◌++◌, length, Option, None, Some, refl, sym, ap, ◌∙◌, arith, subst, length-append}
 use Rattle.std.proofs.lemmas.List.{length-map}

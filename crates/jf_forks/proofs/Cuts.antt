@@ -1,4 +1,4 @@
--- Lists of live forks of which the back is worked, the oldest first.
+-- Lists of live forks whose back is worked from a place on, the oldest fork first.
 use Rattle.std.proofs.Common.{◌≡◌, ◌<◌, ◌≤◌, ◌+◌, ◌-◌, ℕ, zero, suc, Bool, true, false, cond, not, ◌||◌, ◌&&◌, ◌==◌, List, [], ◌∷◌, map, length, take, drop, get_or, set, refl, sym, ap, ap₂, ◌∙◌, arith, subst, add-one, length-drop, take_all}
 use Rattle.std.specs.List.{remove}
 use Rattle.std.proofs.lemmas.List.{drop_more, take-take, get_or-take, drop-map, take-set, drop-set, map-set}
@@ -42,9 +42,9 @@ map_removed h [] (suc i) = refl
 map_removed h (x ∷ xs) zero = refl
 map_removed h (x ∷ xs) (suc i) = ap (λ t. h x ∷ t) (map_removed h xs i)
 
--- ---- one fork more
+-- ---- one more fork
 
--- at the end nothing is left
+-- at the end of the list nothing is worked yet
 pub worked_none : (at : ℕ) (work : List Grown → List Grown) (gs : List Grown) → at ≡ length gs → work [] ≡ [] → Worked at work gs gs
 worked_none at work gs is none = record { front = refl; back = past at gs is ∙ sym none ∙ ap work (sym (past at gs is)); within = omega arith }
   where
@@ -58,14 +58,14 @@ module _ (at : ℕ) (work : List Grown → List Grown) (old new : List Grown) (w
   front_more : take at new ≡ take at old
   front_more = sym (take-take at (at + 1) new (omega arith)) ∙ ap (take at) w.front ∙ take-take at (at + 1) old (omega arith)
 
-  -- the fork itself is as it was
+  -- the fork at the place is the one that was there
   pub same_fork : (d : Grown) → get_or new at d ≡ get_or old at d
   same_fork d = sym (get_or-take (at + 1) new at d (omega arith)) ∙ ap (λ xs. get_or xs at d) w.front ∙ get_or-take (at + 1) old at d (omega arith)
 
   long : at < length new
   long = let e = w.within in omega arith
 
-  -- it stays
+  -- the fork at the place stays
   pub worked_stays : (d : Grown) → at < length old → work (get_or old at d ∷ drop (at + 1) old) ≡ get_or old at d ∷ work (drop (at + 1) old) → Worked at work old new
   worked_stays d lt is = record {
     front = front_more;
@@ -73,7 +73,7 @@ module _ (at : ℕ) (work : List Grown → List Grown) (old new : List Grown) (w
     within = let e = long in omega arith;
   }
 
-  -- it goes
+  -- the fork at the place goes
   pub worked_goes : (d : Grown) → at < length old → work (get_or old at d ∷ drop (at + 1) old) ≡ work (drop (at + 1) old) → Worked at work old (remove new at)
   worked_goes d lt is = record {
     front = take_removed new at ∙ front_more;
@@ -81,7 +81,7 @@ module _ (at : ℕ) (work : List Grown → List Grown) (old new : List Grown) (w
     within = length_removed new at long;
   }
 
-  -- it stays as another one
+  -- the fork at the place stays, changed
   pub worked_set : (d g : Grown) → at < length old → work (get_or old at d ∷ drop (at + 1) old) ≡ g ∷ work (drop (at + 1) old) → Worked at work old (set new at g)
   worked_set d g lt is = record {
     front = take-set new at g ∙ front_more;
@@ -94,7 +94,7 @@ module _ (at : ℕ) (work : List Grown → List Grown) (old new : List Grown) (w
       long_set (h ∷ gs) zero g = refl
       long_set (h ∷ gs) (suc i) g = ap suc (long_set gs i g)
 
--- ---- the forks behind a place
+-- ---- the forks after a place
 
 pub length_map : {X Y : Type 0} (h : X → Y) (xs : List X) → length (map h xs) ≡ length xs
 length_map h [] = refl
@@ -103,7 +103,7 @@ length_map h (x ∷ xs) = ap suc (length_map h xs)
 no_fork : Grown
 no_fork = record { fork = record { id = 0; parent = parent.Head; batch = [] }; map = fin.empty }
 
--- they are forks too
+-- the forks after a place are forks too
 pub forks_behind : (at bound : ℕ) (gs : List Grown) → at < length gs → AreForks bound (forks_of (drop at gs)) → (b : ℕ) × AreForks b (forks_of (drop (at + 1) gs))
 forks_behind at bound gs lt sound =
     let h : AreForks bound (forks_of (get_or gs at no_fork ∷ drop (at + 1) gs)) = subst (λ hs. AreForks bound (forks_of hs)) (drop_more gs at no_fork lt) sound in
@@ -115,7 +115,7 @@ drop_count-few id (f ∷ fs) =
     let rest = drop_count-few id fs in
     elim (f.id == id || descends id fs f) as (λ b. cond b (1 + drop_count id fs) (drop_count id fs) ≤ length (f ∷ fs)) [ true ↦ omega arith | false ↦ omega arith ]
 
--- there is room for one more
+-- the fork at a place and those dropped after it are no more than there are
 pub count_room : (at id n : ℕ) (gs : List Grown) → at < length gs → n ≡ drop_count id (forks_of (drop (at + 1) gs)) → n + 1 ≤ length gs
 count_room at id n gs within is = omega (arith, is, drop_count-few id (forks_of (drop (at + 1) gs)), length_map (λ g. g.fork) (drop (at + 1) gs), length-drop (at + 1) gs)
 
@@ -146,15 +146,15 @@ module _ (at id bound : ℕ) (xs ys : List LiveFork) (x : LiveFork) (work : List
   pub forks_here : AreForks bound ((grown x).fork ∷ forks_of (drop (at + 1) (map grown xs)))
   forks_here = subst (λ gs. AreForks bound (forks_of gs)) here sound
 
-  -- those behind it are worked
+  -- the forks after the place are worked
   pub behind : map grown (take (length ys - (at + 1)) (drop (at + 1) ys)) ≡ work (drop (at + 1) (map grown xs))
   behind = ap (map grown) (take_all (length ys - (at + 1)) (drop (at + 1) ys) (omega (arith, length-drop (at + 1) ys))) ∙ sym (drop-map grown (at + 1) ys) ∙ w.back
 
-  -- and are forks
+  -- the worked forks after the place are forks
   pub behind_forks : (zs : List LiveFork) → zs ≡ ys → (b : ℕ) → AreForks b (forks_of (work (drop (at + 1) (map grown xs)))) → AreForks b (forks_of (map grown (take (length zs - (at + 1)) (drop (at + 1) zs))))
   behind_forks zs same b h = subst (λ gs. AreForks b (forks_of gs)) (sym (ap (λ ls. map grown (take (length ls - (at + 1)) (drop (at + 1) ls))) same ∙ behind)) h
 
-  -- what is tested of a fork and those behind it
+  -- the test of a fork by the forks after it in the list
   pub tested : (t : Bool) (p : Parent) (zs : List LiveFork) → zs ≡ ys → t ≡ (not (x.id == id) && is_parent p (forks_of (map grown (take (length zs - (at + 1)) (drop (at + 1) zs))))) → t ≡ (not (x.id == id) && is_parent p (forks_of (work (drop (at + 1) (map grown xs)))))
   tested t p zs same h =
       h ∙ ap (λ ls. not (x.id == id) && is_parent p (forks_of (map grown (take (length ls - (at + 1)) (drop (at + 1) ls))))) same ∙ ap (λ gs. not (x.id == id) && is_parent p (forks_of gs)) behind
@@ -163,7 +163,7 @@ module _ (at id bound : ℕ) (xs ys : List LiveFork) (x : LiveFork) (work : List
   looked_up t q zs same h =
       h ∙ ap (λ ls. is_among q (forks_of (map grown (take (length ls - (at + 1)) (drop (at + 1) ls))))) same ∙ ap (λ gs. is_among q (forks_of gs)) behind
 
-  -- the fork, however it was looked at
+  -- the fork looked at is the one at the place
   pub same_item : (m : LiveFork) → m ≡ get_or ys at m → m ≡ x
   same_item m h = h ∙ any_default ys at m x (let e = w.within in omega (arith, length_map grown ys)) ∙ sym is
 

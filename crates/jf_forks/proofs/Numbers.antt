@@ -24,7 +24,7 @@ falling bound (x ∷ xs) sound (suc i) (suc j) d le lt = falling x.id xs sound.2
 above_too : (id a b : ℕ) → a ≤ b → ltb id a ≡ true → ltb id b ≡ true
 above_too id a b le is = grind (arith, nat_tests)
 
--- those above a number stand before all others
+-- the forks above a number stand before all others
 pub parted : (id bound : ℕ) (xs : List LiveFork) → AreForks bound (forks_of (map grown xs)) → IsPartitionedBy (λ (f : LiveFork). ltb id f.id) xs
 parted id bound xs sound = λ i j d le lt is. above_too id (get_or xs j d).id (get_or xs i d).id (falling bound xs sound i j d le lt) is
 
@@ -58,7 +58,7 @@ from_point id bound (suc p) (x ∷ xs) sound within point =
       short = let e = rest.short in omega arith;
     }
 
--- the first of these is the fork of the number, or there is none
+-- the number is live exactly if the first of the forks from it on has it
 pub first_among : (id : ℕ) (f : LiveFork) (fs ys : List LiveFork) → ys ≡ f ∷ fs → AreForks (id + 1) (forks_of (map grown ys)) → is_among id (forks_of (map grown ys)) ≡ (f.id == id)
 first_among id f fs ys is sound =
     let here : AreForks (id + 1) (forks_of (map grown (f ∷ fs))) = subst (λ ls. AreForks (id + 1) (forks_of (map grown ls))) is sound in

@@ -1,4 +1,4 @@
--- Which forks stay when one is dropped or has landed, by what has become of their parents.
+-- Which forks stay when one is dropped or has landed, by whether their parents stay.
 use Rattle.std.proofs.Common.{◌≡◌, ◌≤◌, ℕ, Bool, true, false, cond, not, ◌||◌, ◌&&◌, ◌==◌, List, [], ◌∷◌, ◌++◌, refl, sym, ap, ◌∙◌, subst, true≢false, le_refl}
 use Rattle.std.proofs.lemmas.Bool.{eqb-true}
 use Rattle.jf_model.specs.Forks.{Fork, of_parent, is_among, is_parent, AreForks, chain, descends, on_head, without, settled}
@@ -18,7 +18,7 @@ swapped true false = refl
 swapped false true = refl
 swapped false false = refl
 
--- what isn't there doesn't stay
+-- a fork that isn't there doesn't stay
 fewer : (p id : ℕ) (fs : List Fork) → is_among p fs ≡ false → is_among p (without id fs) ≡ false
 fewer p id [] none = refl
 fewer p id (f ∷ fs) none =
@@ -28,7 +28,7 @@ fewer p id (f ∷ fs) none =
       | false ↦ ap (λ b. (f.id == p) || b) (rest ∙ sym (or_false_right (f.id == p) _ none)) ∙ none
     ]
 
--- of forks that are live, those are dropped that stand on the dropped one
+-- of live forks, those stay that don't stand on the dropped one
 among-without : (bound id p : ℕ) (fs : List Fork) → AreForks bound fs → is_among p fs ≡ true → is_among p (without id fs) ≡ not (is_among id (chain fs p))
 among-without bound id p [] sound h = absurd (true≢false (sym h))
 among-without bound id p (f ∷ fs) sound h =
@@ -49,7 +49,7 @@ among-without bound id p (f ∷ fs) sound h =
           ∙ older ∙ ap (λ b. not (is_among id (cond b (of_parent [] (chain fs) f.parent ++ f ∷ []) (chain fs p)))) (sym is)
     ] refl
 
--- a fork stays exactly where it is another one, and its parent stays
+-- a fork stays exactly if it is another one and its parent stays
 pub stays_is : (bound id : ℕ) (f : Fork) (fs : List Fork) → AreForks bound fs → is_parent f.parent fs ≡ true → (f.id == id || descends id fs f) ≡ not (not (f.id == id) && is_parent f.parent (without id fs))
 stays_is bound id f fs sound up = with_parent f.parent up
   where
@@ -94,16 +94,16 @@ among-settled bound id p (f ∷ fs) sound other h =
           ∙ older ∙ ap (λ b. is_among id (cond b (of_parent [] (chain fs) f.parent ++ f ∷ []) (chain fs p))) (sym is)
     ] refl
 
--- a fork on the head stands on none
+-- a fork on the head stands on no fork
 pub on_none : (id : ℕ) (f : Fork) (fs : List Fork) → f.parent ≡ parent.Head → descends id fs f ≡ false
 on_none id f fs is = ap (λ p. is_among id (of_parent [] (chain fs) p)) is
 
--- one on the landed fork stands on it
+-- a child of the landed fork stands on it
 pub on_it : (id q : ℕ) (f : Fork) (fs : List Fork) → f.parent ≡ parent.Fork q → q ≡ id → is_parent f.parent fs ≡ true → descends id fs f ≡ true
 on_it id q f fs is same up =
     ap (λ p. is_among id (of_parent [] (chain fs) p)) is ∙ ap (λ k. is_among id (chain fs k)) same ∙ on_own id fs (subst (λ k. is_among k fs ≡ true) same (ap (λ p. is_parent p fs) (sym is) ∙ up))
 
--- another stands on it where its parent does
+-- any other fork stands on the landed one exactly if its parent does
 pub on_other : (bound id q : ℕ) (f : Fork) (fs : List Fork) → AreForks bound fs → f.parent ≡ parent.Fork q → (q == id) ≡ false → is_parent f.parent fs ≡ true → descends id fs f ≡ is_among q (settled id fs)
 on_other bound id q f fs sound is other up =
     ap (λ p. is_among id (of_parent [] (chain fs) p)) is ∙ sym (among-settled bound id q fs sound other (ap (λ p. is_parent p fs) (sym is) ∙ up))

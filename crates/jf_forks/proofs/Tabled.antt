@@ -1,4 +1,4 @@
--- A table behind a drop and behind a landing.
+-- A table after a drop, and after a landing.
 use Rattle.std.proofs.Common.{◌≡◌, ◌≤◌, ℕ, true, false, cond, ◌||◌, ◌==◌, List, [], ◌∷◌, length, refl, sym, ap, ◌∙◌, arith, subst, Option, None, Some}
 use Rattle.jf_hash.specs.Maps.{Map}
 use Rattle.jf_model.specs.EntryLaws.{AreForks-without, AreForks-settled}

@@ -18,12 +18,12 @@ pub or_left : (a b : Bool) → b ≡ false → (a || b) ≡ true → a ≡ true
 or_left true b f h = refl
 or_left false b f h = absurd (true≢false (sym h ∙ f))
 
--- a test on forks with one more
+-- a test of forks with one more at the end
 pub any_last : (test : Fork → Bool) (fs : List Fork) (f : Fork) → list_any test (fs ++ f ∷ []) ≡ (list_any test fs || test f)
 any_last test [] f = elim (test f) as (λ b. (b || false) ≡ b) [ true ↦ refl | false ↦ refl ]
 any_last test (g ∷ fs) f = elim (test g) as (λ b. (b || list_any test (fs ++ f ∷ [])) ≡ ((b || list_any test fs) || test f)) [ true ↦ refl | false ↦ any_last test fs f ]
 
--- a number at the bound or above is none of theirs
+-- no fork below a bound has a number at the bound or above
 pub none_above : (bound id : ℕ) (fs : List Fork) → AreForks bound fs → bound ≤ id → is_among id fs ≡ false
 none_above bound id [] sound le = refl
 none_above bound id (f ∷ fs) sound le =

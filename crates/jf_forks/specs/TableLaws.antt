@@ -36,7 +36,7 @@ parent_map-kept m id fs (parent.Fork q) h = ap (λ c. fork_map_of c) (chain-with
     fork_map_of : List Fork → Map
     fork_map_of c = apply_all m (batches c)
 
--- those that stay keep their maps
+-- forks that stay after a drop keep their maps
 pub AreGrown-kept : (m : Map) (id : ℕ) (gs : List Grown) → AreGrown m gs → AreGrown m (kept id gs)
 AreGrown-kept m id [] h = tt
 AreGrown-kept m id (g ∷ gs) h =
@@ -50,7 +50,7 @@ AreGrown-kept m id (g ∷ gs) h =
 
 -- ---- maps when one has landed
 
--- the parent of a fork that stays, over the new head
+-- the parent's map of a fork that stays is the same over the new head
 parent_map-landed : (m n : Map) (bound id : ℕ) (fs : List Fork) (p : Parent) → AreForks bound fs → is_among id (of_parent [] (chain fs) p) ≡ true → n ≡ fork_map m fs id
     → parent_map n (settled id fs) (of_parent parent.Head (λ q. cond (q == id) parent.Head (parent.Fork q)) p) ≡ parent_map m fs p
 parent_map-landed m n bound id fs parent.Head sound h is = absurd (true≢false (sym h))
@@ -79,7 +79,7 @@ AreGrown-landed m n bound id (g ∷ gs) sound h is =
 
 -- ---- the maps in the table
 
--- what isn't older than itself
+-- a fork has another number than each older one
 apart_from_older : (y : ℕ) (g : Grown) (gs : List Grown) → AreForks g.fork.id (forks_of gs) → is_among y (forks_of gs) ≡ true → (g.fork.id == y) ≡ false
 apart_from_older y g gs sound among =
     ne_eqb g.fork.id y (λ same. true≢false (sym among ∙ none_above g.fork.id y (forks_of gs) sound (subst (λ k. g.fork.id ≤ k) same (le_refl g.fork.id))))
@@ -114,7 +114,7 @@ map_of-kept bound id y (g ∷ gs) sound =
       | false ↦ elim (g.fork.id == y) as (λ b. (b || is_among y (forks_of (kept id gs))) ≡ true → cond b (Some g.map) (map_of y (kept id gs)) ≡ cond b (Some g.map) (map_of y gs)) [ true ↦ λ h. refl | false ↦ λ h. older h ]
     ]
 
--- and so has each that stays when one has landed
+-- each fork that stays when one has landed has the map that it had
 pub map_of-landed : (bound id y : ℕ) (gs : List Grown) → AreForks bound (forks_of gs) → is_among y (forks_of (landed id gs)) ≡ true → map_of y (landed id gs) ≡ map_of y gs
 map_of-landed bound id y [] sound = λ h. refl
 map_of-landed bound id y (g ∷ gs) sound =

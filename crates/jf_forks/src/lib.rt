@@ -1,4 +1,4 @@
-//! Forks: batches on the head or on other forks, each with the tree of the map that it stands for.
+//! Forks: batches on the head or on other forks, each with the tree of the map that they give.
 #![tactic(auto)]
 
 mod chain;

@@ -1,4 +1,4 @@
-// The table of forks: which are live, with the tree of each, and how many were made.
+// The table of forks: all live forks, and the limits on them.
 ghost use Rattle.std.specs.Prelude.{◌≡◌, ℕ, true, ◌+◌, ◌^◌, ◌<◌, ◌≤◌, ◌∷◌, ◌++◌, [], length, map, IfOk, IfErr, IfSome, OnOk, OnErr, Some, None, Err};
 ghost use Rattle.std.specs.Result.{result_err};
 ghost use Rattle.jf_hash.specs.Maps.{Map, apply};
@@ -20,10 +20,10 @@ use jf_split::{Batch, BatchList};
 use std::alloc::Global;
 use std::marker::Model;
 
-// The most forks that are live.
+// The most forks that may be live.
 const MAX_LIVE: usize = 1_024;
 
-// The most keys that land together.
+// The most keys that may land together.
 const MAX_KEYS: u64 = 10_000;
 
 /// A new fork: its number, and the root of its map.
@@ -33,7 +33,7 @@ pub struct Forked {
     pub root: Hash,
 }
 
-/// The forks that are live, and the number of those that were made.
+/// The live forks, and the number of forks ever made.
 #[derive(Drop)]
 pub struct ForkTable {
     made: u64,
@@ -55,7 +55,7 @@ impl Model for ForkTable {
 }
 
 impl ForkTable {
-    /// No fork.
+    /// A table without forks.
     pub fn new(alloc: Global) -> ForkTable
         ensures { result ≡ record { made = 0; live = [] } }
     {
@@ -72,14 +72,14 @@ impl ForkTable {
         let _made = self.made;
     }
 
-    /// How many forks are live.
+    /// The number of live forks, at most 1,024.
     pub fn live(&self) -> u64
         ensures { result ≡ length self.now.live }
     {
         self.live.len() as u64
     }
 
-    // Whether a fork is live; if not, why.
+    // Whether a fork is live; if it isn't, why.
     fn find(&self, id: u64) -> Result<(), ForkFault>
         ensures { result_err result ≡ missing id self.now }
     {
@@ -109,8 +109,8 @@ impl ForkTable {
         }
     }
 
-    /// Makes a fork of a batch on the head or on a live fork; `head` is the snapshot of the head. It is refused for a
-    /// parent that is missing, and then if 1,024 are live; a refusal leaves the table unchanged.
+    /// Makes a fork of a batch on the head or on a live fork; `head` is the snapshot of the head. It is refused if the
+    /// parent is missing, and then if 1,024 forks are live. After a refusal the table is unchanged.
     pub fn make(
         &mut self,
         alloc: Global,
@@ -146,7 +146,7 @@ impl ForkTable {
         Ok(forked)
     }
 
-    // Why no fork can be made on a parent.
+    // Why no fork can be made on a parent, if none can.
     fn making_fault(&self, parent: Parent) -> Option<ForkFault>
         ensures { result ≡ making_fault parent self.now }
     {
@@ -162,8 +162,8 @@ impl ForkTable {
         }
     }
 
-    /// The batches of a fork and its live ancestors, the oldest first: 1 to 1,024, with at most 10,000 keys added up. It is
-    /// refused for a fork that is missing, and then if they have more keys.
+    /// The batches of a fork and its live ancestors, the oldest first: 1 to 1,024, with at most 10,000 keys added up.
+    /// It is refused if the fork is missing, and then if they have more keys.
     pub fn chain(&self, alloc: Global, id: u64) -> Result<BatchList, ForkFault>
         ensures chain { IfOk result (λ list. list ≡ batches (chain (forks_of self.now.live) id)) }
         ensures may { OnOk result (chain_fault id self.now ≡ None) }
@@ -178,7 +178,7 @@ impl ForkTable {
         Ok(list)
     }
 
-    // Why a fork can't land with its ancestors.
+    // Why a fork can't land with its ancestors, if it can't.
     fn chain_fault(&self, id: u64) -> Option<ForkFault>
         ensures { result ≡ chain_fault id self.now }
     {
@@ -193,8 +193,8 @@ impl ForkTable {
         }
     }
 
-    /// Drops a fork and those that stand on it. Gives how many are gone. It is refused exactly for a fork that is missing, and
-    /// then leaves the table unchanged.
+    /// Drops a fork and those that stand on it. Returns how many are gone. It is refused exactly if the fork is
+    /// missing; the table is then unchanged.
     pub fn drop_fork(&mut self, id: u64) -> Result<u64, ForkFault>
         ensures refused { result_err result ≡ missing id self.old }
         ensures count { IfOk result (λ n. n ≡ drop_count id (forks_of self.old.live)) }
@@ -209,8 +209,9 @@ impl ForkTable {
         Ok(drop_from(&mut self.live, 0, id))
     }
 
-    /// Lets a fork land, with its ancestors: those that stand on it stay, its children on the head. Without a fork, after
-    /// a batch landed, none stays. The fork is one that `chain` doesn't refuse, except for lack of memory.
+    /// Lets a fork land, with its ancestors: those that stand on it stay, its children on the head. Without a fork,
+    /// after a batch landed directly, no fork stays. The fork must be one that `chain` doesn't refuse, unless it is out
+    /// of memory.
     pub fn settle(&mut self, fork: Option<u64>)
         requires { IfSome fork (λ id. chain_fault id self.old ≡ None) }
         ensures none { fork ≡ None → self.new ≡ record { made = self.old.made; live = [] } }

@@ -1,4 +1,4 @@
-// Forks that land: what each version has, and what stays.
+// Forks that land: the map of each version, and the forks that stay.
 use crate::rows::{Row, first_of, head_of_one, table_of, told};
 use jf_forks::{ForkFault, ForkTable};
 use jf_model::Parent;
@@ -8,10 +8,10 @@ use jf_split::BatchList;
 use std::alloc::Global;
 use std::test::Fail;
 
-// What a fork has at a key, or why it is not read.
+// A fork, a key, and the value that the fork has there, or why it isn't read.
 type Told = (u64, u8, Result<Option<u8>, ForkFault>);
 
-// The byte at a key after so many batches of a landing.
+// A number of batches of a landing, a key, and the value there after so many.
 type Version = (usize, u8, Option<u8>);
 
 struct Case {
@@ -28,7 +28,7 @@ const HEAD: Parent = Parent::Head;
 const NONE: Option<(u8, Option<u8>)> = None;
 
 const CASES: &[Case] = &[
-    // A fork reads its own chain, and what another fork says of the same key changes nothing.
+    // A fork reads its own chain; another fork's change of the same key doesn't show.
     Case {
         forks: &[
             (HEAD, Some((0x61, Some(0x31)))),
@@ -50,7 +50,7 @@ const CASES: &[Case] = &[
         ],
         live: 1,
     },
-    // Empty batches: a fork lands with its ancestor, and none is left.
+    // Empty batches: a fork lands with its ancestor, and no fork is left.
     Case {
         forks: &[(HEAD, NONE), (Parent::Fork(0), NONE)],
         before: &[(1, 0x61, Ok(None)), (7, 0x61, Err(ForkFault::Unknown))],
@@ -84,7 +84,7 @@ const CASES: &[Case] = &[
         ],
         live: 0,
     },
-    // Children and grandchildren stay, strangers go, and so do those on an ancestor.
+    // Children and grandchildren stay; all other forks go, also those on an ancestor.
     Case {
         forks: &[
             (HEAD, Some((0x61, Some(0x31)))),
@@ -122,7 +122,7 @@ const CASES: &[Case] = &[
     },
 ];
 
-// Lands a fork with its ancestors, and gives their batches.
+// Lands a fork with its ancestors, and returns their batches.
 fn land(alloc: Global, table: &mut ForkTable, id: u64) -> Result<BatchList, ForkFault> {
     let list = table.chain(alloc, id)?;
     table.settle(Some(id));
@@ -138,7 +138,7 @@ fn tell(table: &ForkTable, expected: &[Told]) -> bool {
     true
 }
 
-// The map without entries, after the first of these batches.
+// The map after the first of these batches, from an empty one.
 fn after_batches(alloc: Global, list: &BatchList, count: usize) -> Result<SpecTree, Fail> {
     let mut tree = SpecTree::on(&Snapshot::empty(0))?;
     for batch in list.as_slice().iter().take(count) {
@@ -198,7 +198,7 @@ fn a_fork_empties_the_map(rt: HostRuntime) -> Result<(), Fail> {
     Ok(())
 }
 
-// Whether a fork is dropped with those that stand on it, straight or through others.
+// Whether a fork is dropped with all that stand on it, directly or through others.
 fn drops(alloc: Global) -> Result<bool, Fail> {
     let forks = &[
         (HEAD, NONE),

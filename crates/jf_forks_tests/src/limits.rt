@@ -1,4 +1,4 @@
-// As many forks, and as many keys, as there may be, and one more.
+// The limits on forks and on keys that land together, and one more of each.
 ghost use Rattle.std.specs.Prelude.{◌≡◌, ◌+◌, ◌<◌, ◌≤◌, ◌^◌, IfOk, OnOk};
 ghost use Rattle.jf_forks.specs.Tables.{StandsOver};
 
@@ -17,7 +17,7 @@ fn numbered(number: u64) -> Key {
     key
 }
 
-// A batch that takes away the keys of some numbers. It hashes nothing over a map that has none of them.
+// A batch that removes the keys of some numbers. It hashes nothing over a map that has no such key.
 fn without_keys(alloc: Global, from: u64, end: u64) -> Result<Batch, BatchFault> {
     let mut batch = Batch::new(alloc);
     for number in from..end {
@@ -33,7 +33,7 @@ fn parent_of(id: u64) -> Parent {
     }
 }
 
-// One fork more on the last one, which takes away the key of its own number.
+// Makes one more fork on the last one, which removes the key of its own number.
 fn add(alloc: Global, table: &mut ForkTable, head: &Snapshot, id: u64) -> Result<(), Fail>
     requires bounded { table.old.made < 2 ^ 62 }
     requires over { StandsOver head.now.map table.old }
@@ -46,7 +46,7 @@ fn add(alloc: Global, table: &mut ForkTable, head: &Snapshot, id: u64) -> Result
     Ok(())
 }
 
-// So many forks, each on the one before.
+// A table of so many forks, each on the one before.
 fn chain_of(alloc: Global, head: &Snapshot, count: u64) -> Result<Box<ForkTable>, Fail>
     requires { count < 2 ^ 61 }
     ensures made { IfOk result (λ t. t.value.made ≡ count) }
@@ -95,7 +95,7 @@ fn chains_are_listed_from_the_oldest_on(rt: HostRuntime) -> Result<(), Fail> {
     Ok(())
 }
 
-// Makes a fork of an empty batch, and gives its number.
+// Makes a fork of an empty batch, and returns its number.
 fn attempt(
     alloc: Global,
     table: &mut ForkTable,
@@ -113,8 +113,7 @@ fn attempt(
     }
 }
 
-// Whether a table of 1,024 forks has room for one more after one is dropped, and not before; a parent that is missing is told
-// first.
+// Whether a table of 1,024 forks has room for one more only after one is dropped, and refuses a missing parent first.
 fn has_room_for_one(alloc: Global, table: &mut ForkTable, head: &Snapshot) -> bool
     requires bounded { table.old.made < 2 ^ 61 }
     requires over { StandsOver head.now.map table.old }
@@ -132,7 +131,7 @@ fn has_room_for_one(alloc: Global, table: &mut ForkTable, head: &Snapshot) -> bo
         )
 }
 
-// Whether one fork more than may live is refused.
+// Whether one more fork than may be live is refused.
 fn is_full(alloc: Global) -> Result<bool, Fail> {
     let head = Snapshot::empty(0);
     let mut table = chain_of(alloc, &head, 1_024)?;
@@ -145,7 +144,7 @@ fn one_more_than_may_live_is_refused(rt: HostRuntime) -> Result<(), Fail> {
     Ok(())
 }
 
-// What a chain of 7,000 keys and more is refused for.
+// Why a chain of two forks with 7,000 keys and `end` keys can't land, if it can't.
 fn fault_of(alloc: Global, end: u64) -> Result<Option<ForkFault>, Fail> {
     let head = Snapshot::empty(0);
     let mut table = Box::new(alloc, ForkTable::new(alloc))?;

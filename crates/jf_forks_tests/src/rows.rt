@@ -11,7 +11,8 @@ use jf_split::{Batch, BatchFault};
 use std::alloc::Global;
 use std::test::Fail;
 
-// A fork: what it stands on, and what its batch says of one key of equal bytes, a value of one byte or none, if anything.
+// A fork: its parent, and its batch: one key of equal bytes with a value of one byte or `None` for a removal, or no
+// change.
 pub(crate) type Row = (Parent, Option<(u8, Option<u8>)>);
 
 pub(crate) fn batch_of(alloc: Global, word: Option<(u8, Option<u8>)>) -> Result<Batch, BatchFault> {

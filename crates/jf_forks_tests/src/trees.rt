@@ -1,4 +1,4 @@
-// Trees over batches: their roots, against those that Python's `hashlib` gives, and that the tree before stays as it was.
+// Trees over batches: their roots against Python's `hashlib`, and that the tree before is unchanged.
 use jf_hash::{Hash, value};
 use jf_node::{Link, Snapshot};
 use jf_path::{Key, Memory};
@@ -7,12 +7,12 @@ use jf_split::Batch;
 use std::alloc::Global;
 use std::test::Fail;
 
-// A word of a batch: the byte that a key has but at its end, that at its end, and its value of one byte, or none.
+// A change: the byte that all but the key's last are, the last byte, and the value of one byte or `None` for a removal.
 type Word = (u8, u8, Option<u8>);
 
-// Batches of one word, one after another on the map of the key 10..10 with the value a; and the root behind them.
+// Batches of one change, one after another on the map of the key 10..10 with the value a, and the root after them.
 const CASES: &[(&[Word], Hash)] = &[
-    // Parts at the last bit.
+    // A key that differs only in its last bit.
     (
         &[(0x10, 0x11, Some(b'b'))],
         [
@@ -21,7 +21,7 @@ const CASES: &[(&[Word], Hash)] = &[
             0xcb, 0xa4, 0x29, 0x48,
         ],
     ),
-    // Shares the first nibble.
+    // A key with the same first nibble.
     (
         &[(0x1f, 0x1f, Some(b'b'))],
         [
@@ -30,7 +30,7 @@ const CASES: &[(&[Word], Hash)] = &[
             0x1b, 0xb0, 0x55, 0x0e,
         ],
     ),
-    // One is left.
+    // One key remains.
     (
         &[(0x1f, 0x1f, Some(b'b')), (0x10, 0x10, None)],
         [
@@ -39,7 +39,7 @@ const CASES: &[(&[Word], Hash)] = &[
             0xc1, 0x80, 0xff, 0x37,
         ],
     ),
-    // None is left.
+    // No key remains.
     (
         &[(0x10, 0x10, None)],
         [
@@ -57,7 +57,7 @@ const CASES: &[(&[Word], Hash)] = &[
             0x08, 0xf9, 0xf1, 0x69,
         ],
     ),
-    // Far, and another value.
+    // A key far off, and another value.
     (
         &[(0x90, 0x90, Some(b'b')), (0x10, 0x10, Some(b'd'))],
         [
@@ -66,7 +66,7 @@ const CASES: &[(&[Word], Hash)] = &[
             0xed, 0xe3, 0x16, 0x99,
         ],
     ),
-    // No key of the map goes.
+    // A key is removed that the map doesn't have.
     (
         &[(0x11, 0x11, None)],
         [
@@ -98,7 +98,7 @@ fn said(alloc: Global, tree: &SpecTree, word: &Word) -> Result<SpecTree, Fail> {
     Ok(tree.with(alloc, &batch)?)
 }
 
-// Whether the words lead to a root, and leave the first tree as it was.
+// Whether the changes lead to a root, and leave the first tree unchanged.
 fn lead_to(alloc: Global, words: &[Word], root: &Hash) -> Result<bool, Fail> {
     let first = stored(alloc)?;
     let before = first.root();

@@ -1,4 +1,4 @@
--- What one session is answered is explained by its own entries.
+-- The replies to one session that runs alone are explained by its own entries.
 use Rattle.std.proofs.Common.{◌≡◌, inl, inr, ℕ, ◌+◌, ◌-◌, ◌<◌, ◌≤◌, zero, suc, Option, Some, None, IfSome, List, [], ◌∷◌, ◌++◌, map, take, length, refl, sym, ap, ◌∙◌, subst, arith, le_refl, append_assoc, length-append}
 use Rattle.std.proofs.lemmas.Bool.{eq-eqb}
 use Rattle.std.proofs.Math.Seq.{take-append_seam, take-length}
@@ -43,7 +43,7 @@ floor_stays s own a (entry.Landed owner version how root moment) some p = refl
 floor_stays s own a (entry.Dropped owner fork) some p = refl
 floor_stays s own a (entry.Compacted owner generation) some p = refl
 
--- and that floor is one
+-- the floor of an entry that an answer gives is one that pins allow
 floor_is : (h : Timeline) (s : State) (own : Own) (a : Answer) (e : Entry) → EachPin (IsAmong h.pins) own → a.entry ≡ Some (timeless e) → IsPruned s own a (timeless e) → HasFloor h s own e
 floor_is h s own a (entry.Retired owner bound floor) named some p =
     subst (λ f. HasFloor h s own (entry.Retired owner bound f)) (sym (floor_same s own a owner bound floor some p)) (IsFloor-next h s own bound named)
@@ -63,7 +63,7 @@ length-push es e = length-append es (e ∷ [])
 
 -- ---- lines in turn
 
--- replies to the first of these lines, whose text and places are those of a run and of its entries
+-- replies to the first of these lines, with the text of a run and the places of its entries
 record FirstReplies (h : Timeline) (own : Own) (seen : ℕ) (lines : List (List ℕ)) (run : Run) (left : List Entry) : Type 0 where
   replies : List Answered
   answered : AreAnswered h own seen lines replies
@@ -71,7 +71,7 @@ record FirstReplies (h : Timeline) (own : Own) (seen : ℕ) (lines : List (List 
   places : places_told replies ≡ places_owned own.number seen left
   owned : AllByRecursion (λ e. owner_of e < own.number + 1) left
 
--- where a run stands: these entries are done, those are left
+-- how far a run is: the entries done, and the entries to come
 record Stands (h : Timeline) (s : State) (own : Own) (done left : List Entry) (run : Run) : Type 0 where
   split : h.entries ≡ done ++ left
   at : s ≡ replay h.start done

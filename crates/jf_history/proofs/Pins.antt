@@ -1,4 +1,4 @@
--- Versions that lines name, and the floor that pins let a `prune` have.
+-- Versions that lines ask to pin, and the floor that pins let a `prune` have.
 use Rattle.std.proofs.Common.{◌≡◌, ◌⊎◌, inl, inr, ℕ, ◌≤◌, min, max, Bool, true, false, ◌||◌, Option, Some, None, IfSome, List, [], ◌∷◌, refl, sym, ap, ◌∙◌, subst, arith, le_refl, append-nil}
 use Rattle.std.proofs.lemmas.Bool.{eq-eqb, cases_lt}
 use Rattle.std.specs.Prelude.{◌==◌, filter_map}
@@ -14,7 +14,7 @@ pub all_map : {X : Type 0} (P Q : X → Type 0) → ((x : X) → P x → Q x) �
 all_map P Q f [] h = tt
 all_map P Q f (x ∷ xs) h = (f x h.0, all_map P Q f xs h.1)
 
--- each line names only versions among these
+-- each line asks to pin only versions among these
 abbrev pub EachNamed : List ℕ → List (List ℕ) → Type 0
 EachNamed pins lines = AllByRecursion (λ line. IfSome (pin_of line) (IsAmong pins)) lines
 
@@ -43,7 +43,7 @@ named_each (line ∷ lines) =
           (λ (l : List ℕ). if_some (IsAmong more) (IsAmong (cons_option (pin_of line) more)) (pin_of l) (λ p. among_later (pin_of line) more p)) lines (named_each lines),
     )
 
--- the lines of one script name only versions that they name
+-- the versions that the lines of one script ask to pin are among those that the script names
 pub EachNamed-one : (lines : List (List ℕ)) → EachNamed (pins_of (lines ∷ [])) lines
 EachNamed-one lines = subst (λ pins. EachNamed pins lines) (sym (append-nil (filter_map pin_of lines))) (named_each lines)
 
@@ -76,7 +76,7 @@ below_each f low u [] h = tt
 below_each f low u (None ∷ ps) h = (tt, below_each f low u ps h)
 below_each f low u (Some v ∷ ps) h = (let upper = below-le (min u v) ps in omega arith, below_each f low (min u v) ps h)
 
--- the floor that the own pins let a `prune` have is one, where lines of the history name the own pins
+-- the floor that the own pins let a `prune` have is allowed, if lines of the history name the own pins
 pub IsFloor-next : (h : Timeline) (s : State) (own : Own) (bound : ℕ) → EachPin (IsAmong h.pins) own → IsFloor h s own bound (next_floor bound s own)
 IsFloor-next h s own bound named = (
   elim (below-named h.pins bound own.pins named)

@@ -14,7 +14,7 @@ use Rattle.jf_model.specs.Entries.{after, replay, IsLegal}
 use Rattle.jf_model.specs.declared.entries.Landing.TheVariants as landing
 use Rattle.jf_model.specs.declared.entries.Entry.{Entry}
 use Rattle.jf_model.specs.declared.entries.Entry.TheVariants as entry
-use Rattle.jf_script.specs.Words.{words, number, unhex}
+use Rattle.jf_text.specs.Words.{words, number, unhex}
 use Rattle.jf_script.specs.Commands.{command_of, base_of}
 use Rattle.jf_script.specs.Replies.{reply_text}
 use Rattle.jf_script.specs.declared.reply.Reply.{Reply}
@@ -34,7 +34,7 @@ start = opened new_store 1
 abbrev empty_root : List ℕ
 empty_root = root fin.empty
 
--- two sessions land nothing, session 1 first
+-- two sessions land empty batches, session 1 first
 abbrev first : Entry
 first = entry.Landed 1 1 (landing.Direct []) empty_root 3
 
@@ -45,14 +45,14 @@ second = entry.Landed 0 2 (landing.Direct []) empty_root 7
 none_there : fin.len (newest start.all) ≡ 0
 none_there = len-empty _ _
 
--- no cause of three holds
+-- if none of three causes holds, there is no refusal
 none_refuses : (a b c : Bool) → a ≡ false → b ≡ false → c ≡ false → first_of ((a, refusal.Last) ∷ (b, refusal.Last) ∷ (c, refusal.Last) ∷ []) ≡ None
 none_refuses false false false few low small = refl
 none_refuses true b c few low small = absurd (cc)
 none_refuses false true c few low small = absurd (cc)
 none_refuses false false true few low small = absurd (cc)
 
--- what `commit` is answered over a map without entries
+-- the answer to `commit` over a map without entries
 commit_done : (s : State) (own : Own) → nat_le (2 ^ 62) s.count ≡ false → nat_le (2 ^ 64 - 2) s.all.head ≡ false → fin.len (newest s.all) ≡ 0 → answer s own (codes "commit") ≡ committed s own
 unfolding answer command_of base_of words number unhex digits refused_by
 commit_done s own few low none =
@@ -70,7 +70,7 @@ second_legal : IsLegal (after first start) second
 unfolding apply after
 second_legal = (omega arith, record { may = record { sorted = tt; keys = tt; values = tt }; small = omega (arith, none_there); next = refl; bounded = omega arith; rooted = refl })
 
--- session 0 looks between the two and then lands; session 1 lands and then writes what is no command
+-- session 0 asks for the root between the two landings and then lands; session 1 lands, and then writes a line that is no command
 abbrev scripts : List (List (List ℕ))
 scripts = (codes "root head" ∷ codes "commit" ∷ []) ∷ (codes "commit" ∷ codes "?" ∷ []) ∷ []
 
@@ -130,7 +130,7 @@ misspell = record {
   answered = inl (record { quiet = refl; text = refl; none = refl; own_after = refl; by_itself = λ h. refl });
 }
 
--- what both wrote is explained
+-- what both sessions wrote is explained
 both : Explains start (first ∷ second ∷ []) scripts outputs []
 both = record {
   replies = (looked ∷ landed_second ∷ []) ∷ (landed_first ∷ misspelt ∷ []) ∷ [];
@@ -145,7 +145,7 @@ both = record {
   texts = refl;
 }
 
--- session 1 may have landed and then ended by want of memory, before it wrote the reply
+-- session 1 may have landed, and run out of memory before it wrote the reply
 cut_off : Explains start (first ∷ second ∷ []) scripts (concat (said 1 (reply.Root empty_root) ∷ said 2 (reply.Commit 2 empty_root) ∷ []) ∷ [] ∷ []) (1 ∷ [])
 unfolding answer command_of base_of words number unhex digits refused_by after replay apply
 cut_off = record {
@@ -177,18 +177,18 @@ cut_off = record {
   texts = refl;
 }
 
--- entries that are alike have each their own place
+-- equal entries have each their own place
 alike : places_owned 0 0 (entry.Retired 0 3 3 ∷ entry.Retired 1 3 3 ∷ entry.Retired 0 3 3 ∷ []) ≡ 1 ∷ 3 ∷ []
 alike = refl
 
--- one landing can't be told by two replies
+-- two replies can't report one landing
 told_twice : (lines : List (List ℕ)) → IsSession (timeline_of start (first ∷ []) scripts) [] 1 lines (landed_first ∷ landed_first ∷ []) → ⊥
 told_twice lines h = elim h.entries as (λ o. ⊥) [ inl same ↦ absurd (cc) | inr more ↦ absurd (cc (more.0)) ]
 
--- nor by none
+-- a landing that no reply reports isn't explained
 told_never : (lines : List (List ℕ)) → IsSession (timeline_of start (first ∷ []) scripts) [] 1 lines [] → ⊥
 told_never lines h = elim h.entries as (λ o. ⊥) [ inl same ↦ absurd (cc) | inr more ↦ absurd (cc (more.0)) ]
 
--- nor be made by nobody
+-- a landing that no session made isn't explained
 by_nobody : (outputs : List (List ℕ)) (wanted : List ℕ) → Explains start (first ∷ []) ((codes "commit" ∷ []) ∷ []) outputs wanted → ⊥
 by_nobody outputs wanted h = let owner = h.explained.owners.0 in absurd (omega arith)

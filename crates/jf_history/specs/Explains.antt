@@ -1,4 +1,4 @@
--- One legal history that explains what several sessions were answered.
+-- One legal history that explains the replies to several sessions.
 use Rattle.std.specs.Prelude.{◌≡◌, ◌⊎◌, ℕ, ◌+◌, ◌-◌, ◌<◌, ◌≤◌, min, max, IsTrue, if◌then◌else◌, ◌==◌, List, [], ◌∷◌, ◌++◌, take, length, map, filter_map, flat_map, slice_get, Option, Some, None, is_some, IfSome}
 use Rattle.std.specs.List.{AllByRecursion, concat, list_any}
 use Rattle.jf_model.specs.States.{State}
@@ -11,17 +11,17 @@ use Rattle.jf_answers.specs.Runs.{answer_text}
 use Rattle.jf_answers.specs.OwnLines.{is_own_line, pin_of}
 use Rattle.jf_answers.specs.Prunings.{pruned}
 
--- a number among these
+-- the number is one of the list
 abbrev pub IsAmong : List ℕ → ℕ → Type 0
 IsAmong ns n = IsTrue (list_any (λ m. m == n) ns)
 
--- where a history began, its entries, and the versions that lines of its sessions name to be pinned
+-- where a history began, its entries, and the versions that lines of its sessions ask to pin
 pub record Timeline : Type 0 where
   pub start : State
   pub entries : List Entry
   pub pins : List ℕ
 
--- the state behind the first n entries
+-- the state after the first n entries
 abbrev pub state_after : Timeline → ℕ → State
 state_after h n = replay h.start (take n h.entries)
 
@@ -31,12 +31,12 @@ pins_of scripts = flat_map (λ lines. filter_map pin_of lines) scripts
 
 -- ---- a line that gives an entry
 
--- an answer, or where it retires versions the same with another floor
+-- an answer, with another floor if it retires versions
 abbrev pub with_floor : ℕ → State → Own → Answer → Option Entry → Answer
 with_floor floor s own a (Some (entry.Retired owner bound old)) = pruned bound floor s own
 with_floor floor s own a e = a
 
--- the answer to a line, with another floor where it retires versions
+-- the answer to a line, with another floor if it retires versions
 abbrev pub answer_with : ℕ → State → Own → List ℕ → Answer
 answer_with floor s own line = with_floor floor s own (answer s own line) (answer s own line).entry
 
@@ -56,21 +56,21 @@ abbrev pub HasFloor : Timeline → State → Own → Entry → Type 0
 HasFloor h s own (entry.Retired owner bound floor) = IsFloor h s own bound floor
 HasFloor h s own e = Unit {0}
 
--- over a state a line gives an entry, whose moment alone may be any
+-- over a state, a line gives an entry; the moment of the entry is free
 pub record Gives (h : Timeline) (s : State) (own : Own) (line : List ℕ) (e : Entry) : Type 0 where
   pub same : (answer_with (floor_in e) s own line).entry ≡ Some (timeless e)
   pub floor : HasFloor h s own e
 
--- ---- lines that were answered
+-- ---- lines with their replies
 
--- what a line was answered: the number in front, the text, the entry if it gave one, and the own part behind
+-- the reply to a line: the number in front, the text, the entry if the line gave one, and the own part after it
 pub record Answered : Type 0 where
   pub number : ℕ
   pub text : List ℕ
   pub entry : Option Entry
   pub own : Own
 
--- a line that gives no entry has the answer over the first n entries; one that asks nothing of the store has the number of the reply before
+-- a line that gives no entry has the reply computed from the first n entries; if it asks nothing of the store, n is the number of the reply before
 pub record Looks (h : Timeline) (own : Own) (seen : ℕ) (line : List ℕ) (r : Answered) : Type 0 where
   pub quiet : (answer (state_after h r.number) own line).entry ≡ None
   pub text : r.text ≡ answer_text r.number (answer (state_after h r.number) own line)
@@ -78,7 +78,7 @@ pub record Looks (h : Timeline) (own : Own) (seen : ℕ) (line : List ℕ) (r : 
   pub own_after : r.own ≡ (answer (state_after h r.number) own line).own
   pub by_itself : IsTrue (is_own_line line) → r.number ≡ seen
 
--- a line that gives an entry gives the n-th, behind all that the session had seen, and has the answer over the entries before that
+-- a line that gives an entry gives the n-th, later than any that the session had seen, and has the reply computed from the n - 1 entries before it
 pub record Changes (h : Timeline) (own : Own) (seen : ℕ) (line : List ℕ) (r : Answered) : Type 0 where
   pub event : Entry
   pub later : seen < r.number
@@ -89,24 +89,24 @@ pub record Changes (h : Timeline) (own : Own) (seen : ℕ) (line : List ℕ) (r 
   pub kept : r.entry ≡ Some event
   pub own_after : r.own ≡ (answer_with (floor_in event) (state_after h (r.number - 1)) own line).own
 
--- what a line is answered, where the reply before has the number `seen`
+-- the reply to a line is explained, if the reply before has the number `seen`
 pub record IsAnswered (h : Timeline) (own : Own) (seen : ℕ) (line : List ℕ) (r : Answered) : Type 0 where
   pub rises : seen ≤ r.number
   pub within : r.number ≤ length h.entries
   pub answered : Looks h own seen line r ⊎ Changes h own seen line r
 
--- replies to the first lines, in turn
+-- the replies are those to the first lines, in turn
 abbrev pub AreAnswered : Timeline → Own → ℕ → List (List ℕ) → List Answered → Type 0
 AreAnswered h own seen lines [] = Unit {0}
 AreAnswered h own seen [] (r ∷ rs) = ⊥
 AreAnswered h own seen (line ∷ lines) (r ∷ rs) = IsAnswered h own seen line r × AreAnswered h r.own r.number lines rs
 
--- the own part behind replies
+-- the own part after replies
 abbrev pub own_behind : Own → List Answered → Own
 own_behind own [] = own
 own_behind own (r ∷ rs) = own_behind r.own rs
 
--- the number of the last reply
+-- the number of the last reply, or `seen` if there is no reply
 abbrev pub seen_behind : ℕ → List Answered → ℕ
 seen_behind seen [] = seen
 seen_behind seen (r ∷ rs) = seen_behind r.number rs
@@ -139,7 +139,7 @@ pub record GaveOneMore (h : Timeline) (s : ℕ) (lines : List (List ℕ)) (rs : 
   pub changes : Changes h (own_behind (begun s) rs) (seen_behind 0 rs) line unwritten
   pub places : places_owned s 0 h.entries ≡ places_told rs ++ unwritten.number ∷ []
 
--- the entries of a session are those that its lines gave, each at its own place; one that ended by want of memory may have one more, without a reply
+-- the entries of a session are those that its lines gave, each at its own place; a session that ran out of memory may have one more, without a reply
 pub record IsSession (h : Timeline) (wanted : List ℕ) (s : ℕ) (lines : List (List ℕ)) (rs : List Answered) : Type 0 where
   pub replies : AreAnswered h (begun s) 0 lines rs
   pub entries : (places_owned s 0 h.entries ≡ places_told rs) ⊎ (IsAmong wanted s × GaveOneMore h s lines rs)
@@ -151,23 +151,23 @@ AreSessions h wanted s [] (rs ∷ rss) = ⊥
 AreSessions h wanted s (lines ∷ scripts) [] = ⊥
 AreSessions h wanted s (lines ∷ scripts) (rs ∷ rss) = IsSession h wanted s lines rs × AreSessions h wanted (s + 1) scripts rss
 
--- a history, and the versions that lines of these scripts name
+-- a history with the versions that lines of these scripts ask to pin
 abbrev pub timeline_of : State → List Entry → List (List (List ℕ)) → Timeline
 timeline_of s entries scripts = record { start = s; entries = entries; pins = pins_of scripts }
 
--- a legal history explains what all sessions were answered, and nobody else made an entry
+-- a legal history explains the replies to all sessions, and each entry was made by one of them
 pub record ExplainsAnswers (s : State) (entries : List Entry) (scripts : List (List (List ℕ))) (replies : List (List Answered)) (wanted : List ℕ) : Type 0 where
   pub history : IsHistory s entries
   pub owners : AllByRecursion (λ e. owner_of e < length scripts) entries
   pub sessions : AreSessions (timeline_of s entries scripts) wanted 0 scripts replies
 
--- a legal history explains what all sessions wrote; those of `wanted` ended by want of memory
+-- a legal history explains what all sessions wrote; the sessions of `wanted` ran out of memory
 pub record Explains (s : State) (entries : List Entry) (scripts : List (List (List ℕ))) (outputs : List (List ℕ)) (wanted : List ℕ) : Type 0 where
   pub replies : List (List Answered)
   pub explained : ExplainsAnswers s entries scripts replies wanted
   pub texts : outputs ≡ map text_in replies
 
--- what the first line without a reply would give over all entries
+-- the entry that the first line without a reply would give over all entries
 pub record IsAttempt (h : Timeline) (s : ℕ) (lines : List (List ℕ)) (rs : List Answered) (e : Entry) : Type 0 where
   pub line : List ℕ
   pub next : next_line lines rs ≡ Some line

@@ -6,13 +6,13 @@ use Rattle.jf_model.specs.declared.entries.Entry.{Entry}
 use Rattle.jf_answers.specs.Runs.{answers, text_of, entries_of}
 use Rattle.jf_history.specs.Explains.{Explains}
 
--- what a session by itself is answered to the first lines of its script is explained by its own entries
+-- the replies to the first lines of a session that runs alone are explained by the entries that these lines gave
 abbrev pub OneSessionExplainsItself : Type 0
 OneSessionExplainsItself =
     (s : State) (lines : List (List ℕ)) (d : ℕ) (entries : List Entry) → s.count ≡ 0 → IsHistory s entries → map timeless entries ≡ entries_of (answers s (take d lines))
     → Explains s entries (lines ∷ []) (text_of (answers s (take d lines)) ∷ []) []
 
--- and so are all its answers
+-- all replies to a session that runs alone are explained by its own entries
 abbrev pub OneSessionExplainsAll : Type 0
 OneSessionExplainsAll =
     (s : State) (lines : List (List ℕ)) (entries : List Entry) → s.count ≡ 0 → IsHistory s entries → map timeless entries ≡ entries_of (answers s lines)

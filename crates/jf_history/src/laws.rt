@@ -2,12 +2,12 @@
 // when they run.
 ghost use Rattle.jf_history.specs.Laws.{OneSessionExplainsItself, OneSessionExplainsAll};
 
-/// What one session is answered to the first lines of its script is explained by its own entries.
+/// The replies to the first lines of one session's script are explained by the entries that they made.
 pub fn one_session_explains_itself()
     ensures { OneSessionExplainsItself }
 {}
 
-/// And so are all its answers.
+/// All replies of one session that runs alone are explained by its own entries.
 pub fn one_session_explains_all()
     ensures { OneSessionExplainsAll }
 {}

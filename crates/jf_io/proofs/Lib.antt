@@ -1,3 +1,9 @@
 pub mod Fronts
 pub mod Lines
 pub mod Shortened
+pub mod WholeLines
+pub mod EndedLines
+pub mod Plain
+pub mod Found
+pub mod FirstLines
+pub mod Written

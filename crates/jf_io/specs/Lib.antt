@@ -1,5 +1,8 @@
 pub mod Calls
 pub mod LineReader
+pub mod Lines
+pub mod LinesRead
+pub mod Inputs
 pub mod MemSink
 pub mod MemSource
 pub mod Sink

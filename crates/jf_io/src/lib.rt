@@ -1,9 +1,11 @@
-//! Where input comes from and where output goes: sources and sinks that count their faults, in memory and over std's readers and writers; and lines of input.
+//! Sources give input and sinks take output, piece by piece; both count their faults.
+//! They stand in memory, for tests, and over std's readers and writers. A line reader cuts the input into lines.
 #![tactic(auto)]
 
 mod attempts;
 mod calls;
 mod failed;
+mod laws;
 mod line_reader;
 mod mem_sink;
 mod mem_source;
@@ -13,6 +15,10 @@ mod std_sink;
 mod std_source;
 
 pub use failed::IoFailed;
+pub use laws::{
+    bytes_without_feed_are_one_line, first_line_ends_at_first_feed, lines_go_on_behind_a_feed,
+    whole_lines_come_first, whole_lines_count_lines,
+};
 pub use line_reader::{FetchFault, LineReader};
 pub use mem_sink::MemSink;
 pub use mem_source::MemSource;

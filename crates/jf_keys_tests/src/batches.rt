@@ -1,4 +1,4 @@
-// That batches take what they are told, up to their limits.
+// Batches take changes up to their limits, and have them in the order of their keys.
 use jf_path::{Key, Memory};
 use jf_split::{Batch, BatchFault, BatchList};
 use std::alloc::Global;
@@ -14,10 +14,10 @@ pub fn key(n: u32) -> Key {
     key
 }
 
-// A key, and what is put at it, at most 4,096 bytes, or None if it is to be removed.
+// A key by its number, and the value put at it, at most 4,096 bytes, or `None` if it is to be removed.
 type Word = (u32, Option<&'static [u8]>);
 
-// The last byte of a key, with the first byte of its value.
+// What a batch has of a key: the key's last byte, and the first byte of its value or `None`.
 type Told = (u8, Option<u8>);
 
 fn say(alloc: Global, batch: &mut Batch, word: &Word) -> Result<(), BatchFault> {
@@ -80,7 +80,7 @@ fn words_in_any_order_come_out_sorted(rt: HostRuntime) -> Result<(), Fail> {
     Ok(())
 }
 
-// Words said to one batch, and what it has then.
+// Changes made to one batch, and what it has then.
 const SAID: &[(&[Word], &[Told])] = &[
     (
         &[(1, Some(b"a")), (2, Some(b"b")), (1, Some(b"c")), (2, None)],
@@ -116,7 +116,7 @@ fn batch_of_10_000(alloc: Global) -> Result<Batch, BatchFault> {
     Ok(batch)
 }
 
-// What a batch of 10,000 keys takes and what it refuses. Among its keys are those of 7,919 and of 0, and not that of 10,008.
+// What a batch of 10,000 keys takes and what it refuses. It has the keys of 7,919 and of 0, and not that of 10,008.
 const AT_THE_LIMIT: &[(Word, Result<(), BatchFault>)] = &[
     ((10_008, Some(b"new")), Err(BatchFault::Full)),
     ((10_008, None), Err(BatchFault::Full)),
@@ -154,7 +154,7 @@ fn a_copy_is_the_batch_once_more(rt: HostRuntime) -> Result<(), Fail> {
     Ok(())
 }
 
-// One batch of one key each, and what each tells.
+// Batches of one key each, and what each has.
 const LISTED: &[(&[Word], &[Told])] = &[
     (&[(2, Some(b"x"))], &[(2, Some(b'x'))]),
     (&[(1, Some(b"x"))], &[(1, Some(b'x'))]),

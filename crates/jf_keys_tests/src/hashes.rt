@@ -1,4 +1,4 @@
-// Values from `sha256sum`, over the tag, 00 to 04, and then what is hashed.
+// Hashes against `sha256sum`, which was given the tag byte, 00 to 04, and then what is hashed.
 use jf_hash::{Hash, empty, inner, key_of, leaf, plain_root, value};
 
 const ONES: Hash = [0x11; 32];
@@ -7,7 +7,7 @@ const TWOS: Hash = [0x22; 32];
 
 const THREES: Hash = [0x33; 32];
 
-// Keys that begin with the bits 0000, 1010, 1010 and 1011; of the second and third the last bits are 0 and 1.
+// Keys that begin with the bits 0000, 1010, 1010 and 1011; the second ends in bit 0, the third in bit 1.
 const LOW: Hash = [0; 32];
 
 const HIGH: Hash = [
@@ -25,7 +25,7 @@ const HIGHER: Hash = [
     0,
 ];
 
-// What is hashed.
+// The things that are hashed.
 #[derive(Clone, Copy, Debug)]
 enum Hashed {
     NoEntry,
@@ -121,7 +121,7 @@ const TWO_APART: Hash = [
     0xc0, 0x16, 0xd3, 0x90, 0x7d, 0x85, 0x09, 0xda, 0x4d, 0xca, 0x5e, 0x30, 0x90, 0x58, 0x20, 0xee,
 ];
 
-// They agree in 101, and differ in the next bit.
+// The keys agree in 101, and differ in the next bit.
 fn root_of_two_near() -> Hash {
     plain_root(&[(HIGH, ONES), (HIGHER, TWOS)])
 }
@@ -131,7 +131,7 @@ const TWO_NEAR: Hash = [
     0xb2, 0xc0, 0xfb, 0x36, 0xa5, 0x1f, 0xa6, 0xd9, 0x81, 0x50, 0xda, 0xce, 0x58, 0xcd, 0x75, 0xb7,
 ];
 
-// Two of three differ in their last bit alone.
+// Of the three keys two differ only in their last bit.
 fn root_of_three() -> Hash {
     plain_root(&[(LOW, ONES), (HIGH, TWOS), (HIGH_LAST, THREES)])
 }

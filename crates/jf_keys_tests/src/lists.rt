@@ -1,4 +1,4 @@
-// That lists take what is added to them, and have it in order.
+// Lists keep what is added to them, in order.
 use crate::paths::name;
 use jf_path::{
     Bytes, Child, Children, FreshList, HashList, LiveList, Memory, NameList, Nibble, Pairs,

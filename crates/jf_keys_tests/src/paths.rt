@@ -1,4 +1,4 @@
-// What keys, nibbles, paths and names look like from outside.
+// Keys, nibbles, paths and names by their bytes and their order.
 use jf_path::{Key, Nibble, NibblePath, NodeName, PathFault, common_bits, nibble};
 use std::cmp::Ordering;
 
@@ -38,7 +38,7 @@ fn nibbles_are_0_to_15_in_their_order(rt: HostRuntime) {
     assert!(rt; nibbles_have_an_order());
 }
 
-// Places of the nibbles of a key that begins with ab c0, goes on with zeros and ends with 5f, and the nibbles there.
+// Places of nibbles, and the nibbles there, of a key that begins with ab c0, goes on with zeros and ends with 5f.
 const NIBBLES: &[(usize, u8)] = &[
     (0, 0xa),
     (1, 0xb),
@@ -70,7 +70,7 @@ fn nibbles_of_a_key_begin_with_the_high_half_of_its_first_byte(rt: HostRuntime) 
     }
 }
 
-// A byte of a key, what is changed in it, and the bits up to the first that differs.
+// A byte of a key, the bits that are changed in it, and the number of bits before the first that differs.
 const COMMON: &[(usize, u8, u64)] = &[
     (0, 0x80, 0),
     (0, 0x01, 7),
@@ -122,7 +122,7 @@ const WRITTEN: &[(&[u8], &[u8])] = &[
     ),
 ];
 
-// Whether these bytes are written, and none after them.
+// Whether just these bytes are written.
 fn is_written(path: &NibblePath, bytes: &[u8]) -> bool {
     let mut out = [0xee; 33];
     let count = path.to_bytes(&mut out);
@@ -180,7 +180,7 @@ fn are_paths_in_order(a: &NibblePath, b: &NibblePath, order: Ordering) -> bool {
     a.cmp(b) == order && (a == b) == order.is_eq()
 }
 
-// Whether a path stands among the rising ones at this place.
+// Whether a path stands at this place among the paths that ascend.
 fn is_path_at(i: usize, a: &NibblePath) -> bool {
     for (j, b) in RISING_PATHS.iter().enumerate() {
         if !are_paths_in_order(a, &path(b), i.cmp(&j)) {
@@ -197,7 +197,7 @@ fn paths_stand_in_the_order_of_lists(rt: HostRuntime) {
     }
 }
 
-// Paths, what they may begin with, and whether they do.
+// Paths, paths with which they may begin, and whether they do.
 const FRONTS: &[(&[u8], &[u8], bool)] = &[
     (&[], &[], true),
     (&[0], &[], true),
@@ -228,7 +228,7 @@ const RISING_NAMES: &[(u64, &[u8])] = &[
     (u64::MAX, &[]),
 ];
 
-// Whether a name stands among the rising ones at this place.
+// Whether a name stands at this place among the names that ascend.
 fn is_name_at(i: usize, a: &NodeName) -> bool {
     for (j, (version, nibbles)) in RISING_NAMES.iter().enumerate() {
         if a.cmp(&name(*version, nibbles)) != i.cmp(&j) {

@@ -67,7 +67,7 @@ fn batch_of(alloc: Global, keys: &[u32]) -> Result<Batch, BatchFault> {
     Ok(batch)
 }
 
-// The pieces of a batch at a depth, before which its keys have to agree.
+// The pieces of a batch at a depth; before it its keys have to agree.
 fn pieces_of(alloc: Global, keys: &[u32], depth: usize) -> Result<Vec<Piece>, Fail> {
     let batch = batch_of(alloc, keys)?;
     if depth < 64 && agree(&batch, depth) {

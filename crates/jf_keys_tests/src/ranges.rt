@@ -1,10 +1,11 @@
-// The hashes of ranges of places. Expected values are Python's hashlib over the tag 02 and the two halves, pair by pair.
+// The hashes of ranges of places. Expected values are Python's hashlib over the tag 02 and the two halves, pair by
+// pair.
 ghost use Rattle.std.specs.Prelude.{IsTrue};
 ghost use Rattle.jf_hash.specs.Ranges.{IsRange};
 
 use jf_hash::{Hash, Ranges, Slot, sixteen};
 
-// That of the byte 0.
+// The empty hash: that of the byte 0.
 const EMPTY: Hash = [
     0x6e, 0x34, 0x0b, 0x9c, 0xff, 0xb3, 0x7a, 0x98, 0x9c, 0xa5, 0x44, 0xe6, 0xbb, 0x78, 0x0a, 0x2c,
     0x78, 0x90, 0x1d, 0x3f, 0xb3, 0x37, 0x38, 0x76, 0x85, 0x11, 0xa3, 0x06, 0x17, 0xaf, 0xa0, 0x1d,
@@ -16,73 +17,40 @@ const TWOS: Hash = [0x22; 32];
 
 const THREES: Hash = [0x33; 32];
 
-const ABSENT: Slot = Slot::Absent;
+const GAP: Slot = Slot::Absent;
 
 const LEAF_ONES: Slot = Slot::Leaf(ONES);
 
 const LEAF_TWOS: Slot = Slot::Leaf(TWOS);
 
-const INNER_THREES: Slot = Slot::Inner(THREES);
+const LINK: Slot = Slot::Inner(THREES);
 
-// No child.
+// A node without a child.
 const NONE: [Slot; 16] = [
-    ABSENT, ABSENT, ABSENT, ABSENT, ABSENT, ABSENT, ABSENT, ABSENT, ABSENT, ABSENT, ABSENT, ABSENT,
-    ABSENT, ABSENT, ABSENT, ABSENT,
+    GAP, GAP, GAP, GAP, GAP, GAP, GAP, GAP, GAP, GAP, GAP, GAP, GAP, GAP, GAP, GAP,
 ];
 
 // A leaf at place 5.
 const LEAF: [Slot; 16] = [
-    ABSENT, ABSENT, ABSENT, ABSENT, ABSENT, LEAF_ONES, ABSENT, ABSENT, ABSENT, ABSENT, ABSENT,
-    ABSENT, ABSENT, ABSENT, ABSENT, ABSENT,
+    GAP, GAP, GAP, GAP, GAP, LEAF_ONES, GAP, GAP, GAP, GAP, GAP, GAP, GAP, GAP, GAP, GAP,
 ];
 
 // An internal node at place 5.
 const INNER: [Slot; 16] = [
-    ABSENT,
-    ABSENT,
-    ABSENT,
-    ABSENT,
-    ABSENT,
-    INNER_THREES,
-    ABSENT,
-    ABSENT,
-    ABSENT,
-    ABSENT,
-    ABSENT,
-    ABSENT,
-    ABSENT,
-    ABSENT,
-    ABSENT,
-    ABSENT,
+    GAP, GAP, GAP, GAP, GAP, LINK, GAP, GAP, GAP, GAP, GAP, GAP, GAP, GAP, GAP, GAP,
 ];
 
 // A leaf in the first half, and an internal node in the second.
 const APART: [Slot; 16] = [
-    ABSENT,
-    LEAF_ONES,
-    ABSENT,
-    ABSENT,
-    ABSENT,
-    ABSENT,
-    ABSENT,
-    ABSENT,
-    ABSENT,
-    ABSENT,
-    ABSENT,
-    ABSENT,
-    INNER_THREES,
-    ABSENT,
-    ABSENT,
-    ABSENT,
+    GAP, LEAF_ONES, GAP, GAP, GAP, GAP, GAP, GAP, GAP, GAP, GAP, GAP, LINK, GAP, GAP, GAP,
 ];
 
 // Two leaves in the last pair.
 const LAST: [Slot; 16] = [
-    ABSENT, ABSENT, ABSENT, ABSENT, ABSENT, ABSENT, ABSENT, ABSENT, ABSENT, ABSENT, ABSENT, ABSENT,
-    ABSENT, ABSENT, LEAF_ONES, LEAF_TWOS,
+    GAP, GAP, GAP, GAP, GAP, GAP, GAP, GAP, GAP, GAP, GAP, GAP, GAP, GAP, LEAF_ONES, LEAF_TWOS,
 ];
 
-// What a node has, its places, where a range begins and how many places it has, and the hash of it.
+// What a node has, its places, where a range begins and how many places it has, and the range's hash.
 const RANGES: &[(&str, &[Slot; 16], usize, usize, Hash)] = &[
     ("no child", &NONE, 0, 16, EMPTY),
     ("one leaf", &LEAF, 0, 16, ONES),
@@ -223,7 +191,7 @@ fn a_range_is_hashed_from_its_halves(rt: HostRuntime) {
     }
 }
 
-// The same as `APART` with a leaf at place 5: two leaves stand in the half of that place, and one alone in its quarter.
+// `APART` with a leaf at place 5 too: two leaves stand in the half of that place, and one alone in its quarter.
 const LOW_HALF: Hash = [
     0xc4, 0x84, 0x05, 0x8e, 0x7e, 0x2b, 0x8f, 0xe5, 0xbb, 0xae, 0xfc, 0xb5, 0x23, 0xaa, 0x44, 0x3b,
     0xa4, 0xd8, 0xb5, 0x09, 0x30, 0x38, 0xdc, 0x1f, 0x81, 0x47, 0xe7, 0x48, 0x23, 0xed, 0xa8, 0xf1,

@@ -1,4 +1,4 @@
--- How many nodes a batch makes new: at most 66 for each of its keys.
+-- How many new nodes a batch makes: at most 66 for each of its keys.
 use Rattle.std.proofs.Common.{◌≡◌, ℕ, zero, suc, ◌+◌, ◌*◌, ◌<◌, ◌≤◌, Bool, true, false, cond, inl, inr, List, [], ◌∷◌, length, refl, sym, ap, ◌∙◌, subst, arith, length-append}
 use Rattle.std.proofs.Math.Nat.{mul-le-mul_left}
 use Rattle.std.proofs.lemmas.Bool.{cases_lt}
@@ -14,7 +14,7 @@ use Rattle.jf_landing.specs.PartChanges.{with_nibble-applied, IsPart-applied, le
 use Rattle.jf_landing.specs.ChildEntryLaws.{child_entries-few, child_entries-many}
 use Rattle.jf_landing.specs.WalkLaws.{listed-same, listed-gone, each-nil}
 
--- how many entries the parts of so many nibbles have
+-- how many entries the parts of `count` nibbles have, from nibble n on
 total : ℕ → ℕ → ℕ → {Y : Type 0} → List (List ℕ × Y) → ℕ
 total zero n d es = 0
 total (suc count) n d es = length (with_nibble d n es) + total count (n + 1) d es
@@ -26,13 +26,13 @@ module _ {X : Type 0} where
   each-bound zero n d c bs g h = omega arith
   each-bound (suc count) n d c bs g h = omega (arith, h n, each-bound count (n + 1) d c bs g h, length-append (g n) (each_from count (n + 1) g))
 
--- the nodes over one entry or none: c for each entry but the first, and one
+-- a bound for new entries over at most one old one: c for each new entry but the first, and 1 for the first
 few_bound : ℕ → ℕ → ℕ
 few_bound c zero = 0
 few_bound c (suc j) = c * j + 1
 
 module _ {X : Type 0} where
-  -- lists of so many, together
+  -- lists within that bound are together within it
   each_few : (count n d c : ℕ) (es : Part) (g : ℕ → List X) → 1 ≤ c → ((m : ℕ) → length (g m) ≤ few_bound c (length (with_nibble d m es))) → (length (each_from count n g) ≤ c * total count n d es) × (1 ≤ total count n d es → length (each_from count n g) + c ≤ c * total count n d es + 1)
   unfolding total few_bound
   each_few zero n d c es g some h = (omega arith, λ up. absurd (omega arith))
@@ -44,7 +44,7 @@ module _ {X : Type 0} where
         | suc k ↦ λ here. (omega (arith, rest.0), λ up. omega (arith, rest.0))
       ] (h n)
 
--- all sixteen parts have all entries
+-- the parts from a nibble up to the last have all entries from that nibble on
 total-from : {Y : Type 0} (count n d : ℕ) (path : ℕ → ℕ) (es : List (List ℕ × Y)) → IsPart d path es → n + count ≡ 16 → total count n d es ≡ length (from_nibble d n es)
 unfolding total
 total-from zero n d path es part end = sym (ap length (from_nibble-past d n es (omega arith)))
@@ -59,7 +59,7 @@ module _ {X : Type 0} where
   cond-le true xs n h = h
   cond-le false xs n h = omega arith
 
-  -- where one entry was, or none, each node is new
+  -- over at most one old entry, the new nodes are within that bound
   bound_few : (l d : ℕ) (path : ℕ → ℕ) (old es : Part) (f : Path → X) → l + d ≡ 64 → length old < 2 → IsPart d path es → length (listed l d old es f) ≤ few_bound (l + 1) (length es)
   unfolding listed few_bound
   bound_few zero d path old [] f deep few part = omega arith
@@ -90,7 +90,7 @@ module _ {X : Type 0} where
   bound_on_few l d path es bs f deep part batch some few =
       omega (arith, bound_few l d path es (applied es bs) f deep few (IsPart-applied d path es bs part batch), few_le (l + 1) (length (applied es bs)) (length bs) some (omega (arith, length-applied es bs)))
 
-  -- with l levels behind it, a batch of n keys makes at most (l + 2) n nodes new
+  -- with l levels below, a batch of n keys makes at most (l + 2) n new nodes
   pub length-listed : (l d : ℕ) (path : ℕ → ℕ) (es : Part) (bs : Batch) (f : Path → X) → l + d ≡ 64 → IsPart d path es → IsPart d path bs → length (listed l d es (applied es bs) f) ≤ (l + 2) * length bs
   unfolding listed
   length-listed l d path es [] f deep part batch = omega (arith, ap length (ap (λ new. listed l d es new f) (applied-none es) ∙ listed-same l d es f))

@@ -1,9 +1,9 @@
--- What filters keep of a list, and of another made of it.
+-- What filters keep of a list, and of a list made from it.
 use Rattle.std.proofs.Common.{◌≡◌, ◌≤◌, Bool, true, false, cond, List, [], ◌∷◌, length, map, filter, refl, ap, ap₂, arith}
 use Rattle.std.specs.List.{AllByRecursion}
 
 module _ {X Y : Type 0} where
-  -- a filter of what a function makes
+  -- filtering the images is filtering the list by the test of the image
   pub filter-map : (test : Y → Bool) (h : X → Y) (xs : List X) → filter test (map h xs) ≡ map h (filter (λ x. test (h x)) xs)
   filter-map test h [] = refl
   filter-map test h (x ∷ xs) =
@@ -18,7 +18,7 @@ module _ {X : Type 0} where
   filter-same p q [] h = refl
   filter-same p q (x ∷ xs) h = ap₂ (λ b ys. cond b (x ∷ ys) ys) h.0 (filter-same p q xs h.1)
 
-  -- it keeps no more than there are
+  -- a filter keeps no more elements than there are
   pub length-filter_le : (p : X → Bool) (xs : List X) → length (filter p xs) ≤ length xs
   length-filter_le p [] = omega arith
   length-filter_le p (x ∷ xs) =

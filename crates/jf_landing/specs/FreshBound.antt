@@ -32,7 +32,7 @@ IsPart-map path m sound = record { sorted = fin.entries_sorted m; keys = keys_of
 pub IsPart-batch : (path : ℕ → ℕ) (b : Batch) → IsBatch b → IsPart 0 path b
 IsPart-batch path b batch = record { sorted = batch.sorted; keys = batch.keys; agree = any_path path b }
 
--- the walk from the top over entries and what a batch makes of them
+-- the length of the walk from the top over entries and the entries after a batch
 pub length-with_root : {X : Type 0} (path : ℕ → ℕ) (es : Part) (bs : Batch) (f : Path → X) → IsPart 0 path es → IsPart 0 path bs → length (with_root es (applied es bs) f) ≤ 66 * length bs + 1
 length-with_root path es bs f part batch = elim (some_entry (applied es bs)) [
   | inl none ↦ omega (arith, ap length (ap (λ new. with_root es new f) none ∙ with_root-gone es f))
@@ -42,7 +42,7 @@ length-with_root path es bs f part batch = elim (some_entry (applied es bs)) [
   ]
 ]
 
--- what a batch writes
+-- the number of nodes that a batch writes
 pub length-fresh : (m : Map) (b : Batch) → IsMap m → IsBatch b → length (fresh m (apply m b)) ≤ 66 * length b + 1
 length-fresh m b sound batch =
     let f : Path → Path = λ p. p in

@@ -61,7 +61,7 @@ module _ {X : Type 0} where
       (λ m. kept_step 63 1 (child_entries 0 m old) (child_entries 0 m new) (λ p. f (m ∷ p))) in
       omega (arith, sums, length_root [] new f, length_root new old f, length_root [] old f, length_root old new f)
 
-  -- over nothing the walk lists all nodes
+  -- over the empty map the walk lists all nodes
   pub with_root-nodes : (m : Map) (f : Path → X) → with_root [] (entries m) f ≡ map (λ (x : Path × Part). f x.0) (nodes m)
   unfolding with_root nodes nodes_below is_node lower_nodes child_nodes
   with_root-nodes m f =

@@ -26,7 +26,7 @@ differs-is old new some other = elim (same_part old new) as (λ b. same_part old
   | false ↦ λ is. (ap (λ b. b && true) some, refl)
 ] refl
 
--- what the walk is to list below one node, where so many levels follow
+-- walking l levels below one node lists f of the path of each node there that doesn't stay
 abbrev Walks : Type 0 → ℕ → Type 0
 Walks X l = (d : ℕ) (old new : Part) (f : Path → X) → has_one new ≡ true → listed l d old new f ≡ map (λ (x : Path × Part). f x.0) (filter (λ (x : Path × Part). not (is_unchanged d x.0 old new)) (nodes_below l d new))
 
@@ -36,7 +36,7 @@ module _ {X : Type 0} where
   by_nibble F test g k h (n ∷ ns) =
       ap₂ (λ a b. a ++ b) (h n) (by_nibble F test g k h ns) ∙ sym (map-append F (filter test (k n)) (filter test (flat_map k ns))) ∙ ap (map F) (sym (filter-append test (k n) (flat_map k ns)))
 
-  -- one child
+  -- the walk over one child
   one_child : (l d n : ℕ) (old new : Part) (f : Path → X) (test : Path → Bool) → Walks X l → has_two new ≡ true → ((p : Path) → is_node d (n ∷ p) new ≡ true → test (n ∷ p) ≡ not (is_unchanged d (n ∷ p) old new))
       → listed l (d + 1) (child_entries d n old) (child_entries d n new) (λ p. f (n ∷ p)) ≡ map (λ (x : Path × Part). f x.0) (filter (λ (x : Path × Part). test x.0) (child_nodes l d new n))
   unfolding is_node child_nodes
@@ -57,7 +57,7 @@ module _ {X : Type 0} where
         | false ↦ λ none. ap (λ es. listed l (d + 1) (child_entries d n old) es g) (none-has_one part none) ∙ listed-gone l (d + 1) (child_entries d n old) g
       ] refl)
 
-  -- all sixteen, for any test that says of nodes whether they stay
+  -- the walk over all sixteen children, for any test that says which nodes don't stay
   pub children : (l d : ℕ) (old new : Part) (f : Path → X) (test : Path → Bool) → Walks X l → ((n : ℕ) (p : Path) → is_node d (n ∷ p) new ≡ true → test (n ∷ p) ≡ not (is_unchanged d (n ∷ p) old new))
       → each_from 16 0 (λ n. listed l (d + 1) (child_entries d n old) (child_entries d n new) (λ p. f (n ∷ p))) ≡ map (λ (x : Path × Part). f x.0) (filter (λ (x : Path × Part). test x.0) (lower_nodes l d new))
   unfolding lower_nodes child_nodes

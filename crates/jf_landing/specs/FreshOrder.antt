@@ -26,11 +26,11 @@ fresh-IsListed m m' = All-filter (IsListed 0 (entries m')) (λ (x : Path × Part
 
 -- ---- the order of paths
 
--- paths that begin with a step of n or more
+-- a path begins with a nibble of n or more
 abbrev From : ℕ → Path × Part → Type 0
 From n x = (m : ℕ) × (n ≤ m) × ((p : Path) × (x.0 ≡ m ∷ p))
 
--- and those that begin with n itself
+-- a path begins with the nibble n
 abbrev At : ℕ → Path × Part → Type 0
 At n x = (p : Path) × (x.0 ≡ n ∷ p)
 
@@ -48,7 +48,7 @@ sorted_append : (xs ys : List (Path × Part)) → T (is_sorted key_cmp xs) → T
 sorted_append [] ys h k a = k
 sorted_append (x ∷ xs) ys h k a = both_so _ _ (below_append x.0 xs ys (below-rest x xs h) a.0) (sorted_append xs ys (sorted-rest x xs h) k a.1)
 
--- a path that begins with n is below those that begin with a later step
+-- a path that begins with n is below one that begins with a greater nibble
 below_from : (n : ℕ) (p : Path) (ys : List (Path × Part)) → AllByRecursion (From (n + 1)) ys → T (below_all key_cmp (n ∷ p) ys)
 below_from n p [] h = tt
 below_from n p (y ∷ ys) h =
@@ -68,7 +68,7 @@ sorted_each (suc count) n k at sorted =
     (All-weaker (At n) (λ x. T (below_all key_cmp x.0 (each_from count (n + 1) k)))
     (λ x is. subst (λ q. T (below_all key_cmp q (each_from count (n + 1) k))) (sym is.1) (below_from n is.0 (each_from count (n + 1) k) (from_each count (n + 1) k at))) (k n) (at n))
 
--- a step in front of all changes nothing
+-- the same first nibble before all paths doesn't change their order
 below_step : (n : ℕ) (p : Path) (xs : List (Path × Part)) → T (below_all key_cmp p xs) → T (below_all key_cmp (n ∷ p) (map (λ (x : Path × Part). (n ∷ x.0, x.1)) xs))
 below_step n p xs h = subst T (sym (same n p xs)) h
   where
@@ -84,7 +84,7 @@ at_step : (n : ℕ) (xs : List (Path × Part)) → AllByRecursion (At n) (map (�
 at_step n [] = tt
 at_step n (x ∷ xs) = ((x.0, refl), at_step n xs)
 
--- the top is below what begins with a step
+-- the top is below every path that begins with a nibble
 top_first : (n : ℕ) (xs : List (Path × Part)) → AllByRecursion (From n) xs → T (below_all key_cmp [] xs)
 top_first n [] h = tt
 top_first n (x ∷ xs) h = both_so _ _ (less_so _ (ap (key_cmp []) h.0.2.1)) (top_first n xs h.1)
@@ -111,12 +111,12 @@ sorted-nodes_below (suc l) d es =
       | false ↦ tt
     ]
 
--- and so is what a landing writes: its paths rise strictly
+-- the paths of what a landing writes ascend strictly
 pub sorted-fresh : (m m' : Map) → T (is_sorted key_cmp (fresh m m'))
 unfolding fresh nodes
 sorted-fresh m m' = is_sorted-where_key key_cmp (is_fresh (entries m) (entries m')) (nodes_below 64 0 (entries m')) (sorted-nodes_below 64 0 (entries m'))
 
--- no path is written twice
+-- a landing writes no path twice
 pub distinct-fresh : (m m' : Map) → AllPairs (λ x y. ¬ (x.0 ≡ y.0)) (fresh m m')
 distinct-fresh m m' i j d lt within same = apart _ _ (sorted-rises (fresh m m') i j d (sorted-fresh m m') lt within) same
   where

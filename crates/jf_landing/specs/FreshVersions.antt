@@ -1,4 +1,4 @@
--- The nodes that a landing writes are those that it gives the new version.
+-- The nodes that a landing writes are those to which it gives the new version.
 use Rattle.std.proofs.Common.{◌≡◌, ℕ, true, false, not, cond, ◌&&◌, inl, inr, ◌∷◌, refl, sym, ap, ap₂, ◌∙◌, Option, Some}
 use Rattle.jf_hash.specs.Slots.{Part}
 use Rattle.jf_model.specs.Nodes.{Path, under, is_node, same_part, is_fresh}
@@ -15,7 +15,7 @@ is_fresh-same old new n p node same =
     let parts : under 0 (n ∷ p) old ≡ under 0 (n ∷ p) new = sym (sub-under 0 (n ∷ p) old was) ∙ same ∙ sub-under 0 (n ∷ p) new node in
     ap₂ (λ a b. a && not (b && same_part (under 0 (n ∷ p) old) (under 0 (n ∷ p) new))) node was ∙ ap (λ es. not (same_part es (under 0 (n ∷ p) new))) parts ∙ ap not (same_part-refl (under 0 (n ∷ p) new))
 
--- and any other is
+-- a node below the top whose part has changed is fresh
 pub is_fresh-other : (old new : Part) (n : ℕ) (p : Path) → is_node 0 (n ∷ p) new ≡ true → ¬ (sub 0 (n ∷ p) old ≡ sub 0 (n ∷ p) new) → is_fresh old new (n ∷ p) ≡ true
 unfolding is_fresh
 is_fresh-other old new n p node other =
@@ -28,7 +28,7 @@ is_fresh-other old new n p node other =
       | false ↦ λ none. refl
     ] refl)
 
--- so each node below the top has the new version where it is fresh, and else the one that it had
+-- each node below the top has the new version if it is fresh, and otherwise the version that it had
 pub HasVersion-is_fresh : (version : ℕ) (old new : Part) (n : ℕ) (p : Path) (before now : Option ℕ) → HasVersion version (sub 0 (n ∷ p) old) (sub 0 (n ∷ p) new) before now → is_node 0 (n ∷ p) new ≡ true → now ≡ cond (is_fresh old new (n ∷ p)) (Some version) before
 HasVersion-is_fresh version old new n p before now h node = elim (same_or_other (sub 0 (n ∷ p) old) (sub 0 (n ∷ p) new)) [
   | inl same ↦ h.kept (sub-is_node_below 0 n p new node) same ∙ ap (λ b. cond b (Some version) before) (sym (is_fresh-same old new n p node same))

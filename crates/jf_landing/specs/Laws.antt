@@ -1,4 +1,4 @@
--- Laws on what a landing writes.
+-- What a landing writes, as statements for calls that do nothing and ensure them.
 use Rattle.std.specs.Prelude.{◌≡◌, ◌↔◌, ◌⊎◌, ◌+◌, ◌*◌, ◌≤◌, true, [], map, length, T, Contains}
 use Rattle.std.specs.List.{AllByRecursion}
 use Rattle.std.specs.FinMap.{entries, is_sorted}
@@ -17,7 +17,7 @@ WalkListsFresh = (m m' : Map) → with_root (entries m) (entries m') (λ path. p
 abbrev pub FreshAreNodes : Type 0
 FreshAreNodes = (m m' : Map) → AllByRecursion (λ x. (x.1 ≡ under 0 x.0 (entries m')) × (is_node 0 x.0 (entries m') ≡ true)) (fresh m m')
 
--- those nodes stand in the order of their paths, each once
+-- the pairs stand in the order of their paths, each once
 abbrev pub FreshRises : Type 0
 FreshRises = (m m' : Map) → T (is_sorted key_cmp (fresh m m'))
 
@@ -25,7 +25,7 @@ FreshRises = (m m' : Map) → T (is_sorted key_cmp (fresh m m'))
 abbrev pub FreshHasPaths : Type 0
 FreshHasPaths = (m m' : Map) → IsMap m' → AllByRecursion (λ x. IsPath x.0) (fresh m m')
 
--- a batch of n keys writes at most 66 n + 1 of them
+-- a batch of n keys writes at most 66 n + 1 nodes
 abbrev pub FreshIsBounded : Type 0
 FreshIsBounded = (m : Map) (b : Batch) → IsMap m → IsBatch b → length (fresh m (apply m b)) ≤ 66 * length b + 1
 
@@ -37,7 +37,7 @@ FreshAndStale = (m m' : Map) → length (nodes m') + length (stale m m') ≡ len
 abbrev pub NodesAreListed : Type 0
 NodesAreListed = (m : Map) (path : Path) (part : Part) → Contains (nodes m) (path, part) ↔ (IsPath path × (part ≡ under 0 path (entries m)) × (is_node 0 path (entries m) ≡ true))
 
--- where there is a node of a map, the path is one of at most 64 nibbles
+-- each node of a map is at a path of at most 64 nibbles
 abbrev pub NodesHavePaths : Type 0
 NodesHavePaths = (m : Map) (path : Path) → IsMap m → is_node 0 path (entries m) ≡ true → IsPath path
 
@@ -45,6 +45,6 @@ NodesHavePaths = (m : Map) (path : Path) → IsMap m → is_node 0 path (entries
 abbrev pub FreshAreListed : Type 0
 FreshAreListed = (m m' : Map) (path : Path) (part : Part) → Contains (fresh m m') (path, part) ↔ (Contains (nodes m') (path, part) × (is_fresh (entries m) (entries m') path ≡ true))
 
--- they are the top, and each node of the new map that is no node of the old one with the same part
+-- a landing writes the top, and each node of the new map that the old one doesn't have with the same part
 abbrev pub FreshIsWhatDiffers : Type 0
 FreshIsWhatDiffers = (m m' : Map) (path : Path) (part : Part) → Contains (fresh m m') (path, part) ↔ (Contains (nodes m') (path, part) × ((path ≡ []) ⊎ (¬ (Contains (nodes m) (path, part)))))

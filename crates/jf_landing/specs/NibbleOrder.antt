@@ -7,7 +7,7 @@ use Rattle.jf_path.specs.Keys.{key_cmp, IsKey}
 use Rattle.jf_path.specs.Nibbles.{nibble}
 use Rattle.jf_path.specs.NibbleLaws.{nibble-even, nibble-odd}
 
--- where two lists of one length first differ
+-- two lists of one length first differ at place p
 pub record Differ (a b : List ℕ) (p : ℕ) : Type 0 where
   pub within : p < length a
   pub before : (q : ℕ) → q < p → slice_index a q ≡ slice_index b q
@@ -51,14 +51,14 @@ odd a p j e =
     let half : j / 2 ≡ p = omega arith in
     nibble-odd a j (omega arith) ∙ ap (λ q. slice_index a q % 16) half
 
--- keys with one byte there have one nibble there
+-- keys with the same byte at a place have the same nibbles there
 same_half : (j : ℕ) (a b : List ℕ) → IsKey a → IsKey b → slice_index a (j / 2) ≡ slice_index b (j / 2) → nibble a j ≡ nibble b j
 same_half j a b ka kb e = elim (cases_eq (j % 2) 0) [
   | inl here ↦ nibble-even a j (ka.bytes (j / 2)) here ∙ ap (λ v. v / 16) e ∙ sym (nibble-even b j (kb.bytes (j / 2)) here)
   | inr other ↦ let one : j % 2 ≡ 1 = omega arith in nibble-odd a j one ∙ ap (λ v. v % 16) e ∙ sym (nibble-odd b j one)
 ]
 
--- of two keys the lesser has the lesser nibble where they first differ
+-- at the first nibble in which two keys differ, the lesser key has the lesser nibble
 pub first_nibble : (a b : List ℕ) → IsKey a → IsKey b → key_cmp a b ≡ Less → (i : ℕ) × FirstNibble a b i
 first_nibble a b ka kb is =
     let d = first_differ a b (ka.long ∙ sym kb.long) is in
@@ -88,13 +88,13 @@ first_nibble a b ka kb is =
       )
     ]
 
--- two keys that agree so far differ later
+-- two keys that agree up to a place differ only later
 pub apart_at : (d : ℕ) (a b : List ℕ) (path : ℕ → ℕ) → IsKey a → IsKey b → key_cmp a b ≡ Less → ((i : ℕ) → i < d → nibble a i ≡ path i) → ((i : ℕ) → i < d → nibble b i ≡ path i) → (i : ℕ) × (d ≤ i) × FirstNibble a b i
 apart_at d a b path ka kb lt pa pb =
     let f = first_nibble a b ka kb lt in
     (f.0, elim (cases_lt f.0 d) [ inr le ↦ le | inl early ↦ absurd (let e : nibble a f.0 ≡ nibble b f.0 = pa f.0 early ∙ sym (pb f.0 early) in omega (arith, f.1.less)) ], f.1)
 
--- and of the two the lesser has no greater nibble next
+-- if two keys agree in their first d nibbles, the lesser key's next nibble is not the greater
 pub rises : (d : ℕ) (a b : List ℕ) (path : ℕ → ℕ) → IsKey a → IsKey b → key_cmp a b ≡ Less → ((i : ℕ) → i < d → nibble a i ≡ path i) → ((i : ℕ) → i < d → nibble b i ≡ path i) → nibble a d ≤ nibble b d
 rises d a b path ka kb lt pa pb =
     let f = apart_at d a b path ka kb lt pa pb in

@@ -4,7 +4,7 @@ use Rattle.std.specs.List.{flat_map}
 use Rattle.jf_hash.specs.Slots.{Part, all_nibbles, with_nibble}
 use Rattle.jf_model.specs.Nodes.{Path, has_one, has_two, nodes_below}
 
--- the nodes from one child on, where so many levels follow it
+-- the child at nibble n and the nodes below it, if l levels follow it
 unfoldable pub child_nodes : ℕ → ℕ → Part → ℕ → List (Path × Part)
 child_nodes l d es n = cond (has_one (with_nibble d n es)) (map (λ (x : Path × Part). (n ∷ x.0, x.1)) (nodes_below l (d + 1) (with_nibble d n es))) []
 

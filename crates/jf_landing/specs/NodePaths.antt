@@ -1,4 +1,4 @@
--- The path of a node is one of at most 64 nibbles.
+-- The path of a node has at most 64 nibbles.
 use Rattle.std.proofs.Common.{◌≡◌, ℕ, ◌+◌, ◌<◌, ◌≤◌, true, ◌&&◌, inl, inr, [], ◌∷◌, length, sym, arith, true≢false}
 use Rattle.std.proofs.lemmas.Bool.{cases_lt}
 use Rattle.std.specs.List.{AllByRecursion}
@@ -21,7 +21,7 @@ two_entries [] h = absurd (true≢false (sym h))
 two_entries (e ∷ []) h = absurd (true≢false (sym h))
 two_entries (e ∷ f ∷ es) h = omega arith
 
--- its steps are nibbles
+-- each step of a node's path is a nibble
 pub nibbles-is_node : (d : ℕ) (p : Path) (es : Part) → is_node d p es ≡ true → AllByRecursion (λ n. n < 16) p
 unfolding is_node
 nibbles-is_node d [] es h = tt
@@ -31,7 +31,7 @@ nibbles-is_node d (n ∷ p) es h =
       nibbles-is_node (d + 1) p (with_nibble d n es) (right_true (has_two es && has_one (with_nibble d n es)) _ h),
     )
 
--- and there are no more of them than a key has
+-- the path of a node has no more nibbles than a key
 pub length-is_node : (d : ℕ) (path : ℕ → ℕ) (p : Path) (es : Part) → d ≤ 64 → IsPart d path es → is_node d p es ≡ true → d + length p ≤ 64
 unfolding is_node
 length-is_node d path [] es deep part h = omega arith
@@ -42,10 +42,10 @@ length-is_node d path (n ∷ p) es deep part h =
       length-is_node (d + 1) (stepped d n path) p (with_nibble d n es) (omega (arith, deeper d path es part two)) (IsPart-with_nibble d n path es part) (right_true (has_two es && has_one (with_nibble d n es)) _ h),
     )
 
--- so it is a path
+-- each node of a map has a path of at most 64 nibbles
 pub IsPath-is_node : (m : Map) (p : Path) → IsMap m → is_node 0 p (entries m) ≡ true → IsPath p
 IsPath-is_node m p sound node = record { short = omega (arith, length-is_node 0 (λ i. 0) p (entries m) (omega arith) (IsPart-map (λ i. 0) m sound) node); nibbles = nibbles-is_node 0 p (entries m) node }
 
--- so is each path that a landing writes
+-- each path that a landing writes has at most 64 nibbles
 pub IsPath-fresh : (m m' : Map) → IsMap m' → AllByRecursion (λ x. IsPath x.0) (fresh m m')
 IsPath-fresh m m' sound = All-weaker (IsListed 0 (entries m')) (λ x. IsPath x.0) (λ x is. IsPath-is_node m' x.0 sound is.1) (fresh m m') (fresh-IsListed m m')

@@ -1,4 +1,4 @@
--- The nodes of a map are exactly those that are listed, and what a landing writes are those that the old map has not.
+-- The nodes of a map are exactly those that are listed, and a landing writes those that the old map doesn't have.
 use Rattle.std.proofs.Common.{◌≡◌, ◌↔◌, ◌⊎◌, ℕ, zero, suc, ◌+◌, ◌≤◌, Bool, true, false, cond, ◌&&◌, inl, inr, [], ◌∷◌, map, length, Contains, refl, sym, ap, ap₂, ◌∙◌, subst, arith, true≢false}
 use Rattle.std.proofs.lemmas.Bool.{not-true, not_from_false, false_from_ne_true}
 use Rattle.std.proofs.lemmas.List.Elements.{All-from_recursion, All-map, recursion_from_All}
@@ -37,7 +37,7 @@ nodes_below-short (suc l) d es =
     ] in
     (omega arith, elim (has_two es) as (λ b. AllByRecursion Short (cond b (each_from 16 0 (child_nodes l d es)) [])) [ true ↦ All-each Short 16 0 (child_nodes l d es) child | false ↦ tt ])
 
--- each node that so many levels reach is listed, with its part
+-- each node at most l levels down is listed, with its part
 pub Contains-nodes_below : (l d : ℕ) (p : Path) (es : Part) → length p ≤ l → is_node d p es ≡ true → Contains (nodes_below l d es) (p, under d p es)
 unfolding nodes_below is_node under lower_nodes child_nodes
 Contains-nodes_below zero d [] es short node = Contains-first ([], es) []
@@ -96,7 +96,7 @@ is_fresh-other m m' (n ∷ p) part has =
       ],
     )
 
--- so a pair is written exactly if it is a node of the new map, and the top or no node of the old one
+-- a pair is written exactly if it is a node of the new map, and the top or no node of the old one
 pub fresh-differs : (m m' : Map) (x : Path × Part) → Contains (fresh m m') x ↔ (Contains (nodes m') x × ((x.0 ≡ []) ⊎ (¬ (Contains (nodes m) x))))
 fresh-differs m m' x = (
   λ has. let is = (fresh-exact m m' x).0 has in (is.0, (is_fresh-other m m' x.0 x.1 is.0).0 is.1),

@@ -1,4 +1,4 @@
--- Applying a batch to at most one entry: the puts of the batch, with the entry kept in its place unless the batch changes its key.
+-- Applying a batch to at most one entry: the batch's puts, with the entry kept in its place unless the batch changes its key.
 use Rattle.std.proofs.Common.{◌≡◌, ℕ, zero, suc, ◌-◌, ◌<◌, ◌≤◌, Bool, true, false, not, cond, List, [], ◌∷◌, ◌++◌, length, get_or, take, drop, map, refl, sym, ap, ap₂, ◌∙◌, subst, arith, T, Less, Equal, Greater, is_lt, is_eq, Option, None, Some, append_assoc, append-nil, length-drop, take_all, true≢false}
 use Rattle.std.specs.Str.{bytes_eq}
 use Rattle.std.proofs.lemmas.Slice.Eq.{bytes_eq-Decides}
@@ -24,7 +24,7 @@ greater_so a b h = key_cmp-turned a b Less (Less-from_is_lt _ h)
 abbrev AllBelow : List ℕ → Part → Type 0
 AllBelow k xs = AllByRecursion (λ x. T (is_lt (key_cmp x.0 k))) xs
 
--- and below all keys of a batch
+-- each entry's key is below all keys of a batch
 abbrev AllBelowAll : Batch → Part → Type 0
 AllBelowAll bs xs = AllByRecursion (λ x. T (below_all key_cmp x.0 bs)) xs
 
@@ -66,7 +66,7 @@ applied-behind xs (b ∷ bs) sorted below =
     ∙ applied-behind (xs ++ with_put b.0 b.1 []) bs (sorted-rest b bs sorted) (more_below b bs xs (below-rest b bs sorted) below)
     ∙ put_behind b bs xs (puts bs)
 
--- no entry: what the batch puts
+-- applied to no entry, a batch gives what it puts
 pub applied-puts : (bs : Batch) → T (is_sorted key_cmp bs) → applied [] bs ≡ puts bs
 applied-puts bs sorted = applied-behind [] bs sorted tt
 
@@ -116,15 +116,15 @@ applied-own q w xs (b ∷ bs) zero false sorted below under place is =
     (All-append (λ x. T (below_all key_cmp x.0 (b ∷ bs))) xs ((q, w) ∷ []) below (both_so _ _ (less_so _ lt) (further_below q b.0 bs lt (below-rest b bs sorted)), tt))
     ∙ append_assoc xs ((q, w) ∷ []) (puts (b ∷ bs))
 
--- one entry: what is put below it, the entry itself unless it is named, and what is put from there on
+-- applied to one entry, a batch gives what it puts below it, the entry unless its key is changed, and what it puts from there on
 pub applied-one : (q w : List ℕ) (bs : Batch) (r : ℕ) (named : Bool) → T (is_sorted key_cmp bs) → IsPlace q bs r → IsFirstKey q (drop r bs) named → applied ((q, w) ∷ []) bs ≡ puts (take r bs) ++ (kept_entry named q w ++ puts (drop r bs))
 applied-one q w bs r named sorted place is = applied-own q w [] bs r named sorted tt tt place is
 
--- from a place on, to the end
+-- all of a list from a place on is its rest
 rest_all : (r : ℕ) (bs : Batch) → take (length bs - r) (drop r bs) ≡ drop r bs
 rest_all r bs = take_all (length bs - r) (drop r bs) (omega (arith, length-drop r bs))
 
--- the three pieces, one behind another
+-- a loop that appends these three pieces in turn applies the batch
 pub merged_own : (q w : List ℕ) (bs : Batch) (r : ℕ) (named : Bool) (start first second third : Part) → T (is_sorted key_cmp bs) → IsPlace q bs r → IsFirstKey q (take (length bs - r) (drop r bs)) named
     → start ≡ [] → first ≡ start ++ puts (take r bs) → second ≡ first ++ kept_entry named q w → third ≡ second ++ puts (take (length bs - r) (drop r bs))
     → third ≡ applied ((q, w) ∷ []) bs
@@ -135,26 +135,26 @@ merged_own q w bs r named start first second third sorted place is none a b c =
     ∙ append_assoc (puts (take r bs)) (kept_entry named q w) (puts (drop r bs))
     ∙ sym (applied-one q w bs r named sorted place (subst (λ t. IsFirstKey q t named) back is))
 
--- ---- whether entries, seen as such, are one that was there
+-- ---- whether entries are the single entry that was there
 
 head_of : (List ℕ × List ℕ) → Part → (List ℕ × List ℕ)
 head_of d [] = d
 head_of d (e ∷ es) = e
 
 module _ {X : Type 0} (view : X → List ℕ × List ℕ) where
-  -- a single entry with the same key and value
+  -- a single entry with the same key and value is that entry
   pub same_only : (xs : List X) (d : X) (k v : List ℕ) → 1 ≤ length xs → length xs < 2 → bytes_eq (view (get_or xs 0 d)).0 k ≡ true → bytes_eq (view (get_or xs 0 d)).1 v ≡ true → map view xs ≡ (k, v) ∷ []
   same_only [] d k v long short a b = absurd (omega arith)
   same_only (x ∷ []) d k v long short a b = ap₂ (λ k v. (k, v) ∷ []) ((bytes_eq-Decides (view x).0 k).0 a) ((bytes_eq-Decides (view x).1 v).0 b)
   same_only (x ∷ y ∷ xs) d k v long short a b = absurd (omega arith)
 
-  -- another key
+  -- entries whose first has another key are not that entry
   pub other_key : (xs : List X) (d : X) (k v : List ℕ) → 1 ≤ length xs → bytes_eq (view (get_or xs 0 d)).0 k ≡ false → ¬ (map view xs ≡ (k, v) ∷ [])
   unfolding head_of
   other_key [] d k v long a is = omega arith
   other_key (x ∷ xs) d k v long a is = true≢false (sym ((bytes_eq-Decides (view x).0 k).1 (ap (λ es. (head_of ([], []) es).0) is)) ∙ a)
 
-  -- another value
+  -- entries whose first has another value are not that entry
   pub other_value : (xs : List X) (d : X) (k v : List ℕ) → 1 ≤ length xs → bytes_eq (view (get_or xs 0 d)).1 v ≡ false → ¬ (map view xs ≡ (k, v) ∷ [])
   unfolding head_of
   other_value [] d k v long a is = omega arith

@@ -1,4 +1,4 @@
--- What a batch makes of a part: it comes apart by nibble, and grows by no more than the batch.
+-- Applying a batch to a part: the result falls apart by nibble, and grows by no more than the batch.
 use Rattle.std.proofs.Common.{◌≡◌, ℕ, ◌+◌, ◌<◌, ◌≤◌, not, ◌==◌, List, [], ◌∷◌, length, arith, T, Less, Equal, Greater, Option, None, Some}
 use Rattle.std.specs.FinMap.{is_sorted, put}
 use Rattle.std.specs.FinMap.Entries.{by_order}
@@ -10,7 +10,7 @@ use Rattle.jf_model.specs.Changes.{changed, applied, sorted-applied, all_keys-ap
 use Rattle.jf_landing.specs.Filters.{length-filter_le}
 use Rattle.jf_landing.specs.Parts.{IsPart}
 
--- a part stays one behind a batch below the same path
+-- a part is a part also after a batch below the same path
 pub IsPart-applied : (d : ℕ) (path : ℕ → ℕ) (es : Part) (bs : Batch) → IsPart d path es → IsPart d path bs → IsPart d path (applied es bs)
 IsPart-applied d path es bs p q = record {
   sorted = sorted-applied es bs p.sorted;
@@ -18,7 +18,7 @@ IsPart-applied d path es bs p q = record {
   agree = all_keys-applied (λ k. (i : ℕ) → i < d → nibble k i ≡ path i) es bs p.agree q.agree;
 }
 
--- the part of what a batch makes is what the batch's part makes of the part
+-- after a batch, the entries with one nibble are those entries after the batch's changes with that nibble
 pub with_nibble-applied : (d n : ℕ) (es : Part) (bs : Batch) → T (is_sorted key_cmp es) → with_nibble d n (applied es bs) ≡ applied (with_nibble d n es) (with_nibble d n bs)
 with_nibble-applied d n es bs sorted = filter-applied (λ k. nibble k d == n) es bs sorted
 
@@ -36,7 +36,7 @@ length-changed : (k : List ℕ) (v : Option (List ℕ)) (es : Part) → length (
 length-changed k (Some v) es = length-put_le k v es
 length-changed k None es = omega (arith, length-filter_le (λ (e : List ℕ × List ℕ). not (same_key k e.0)) es)
 
--- a batch adds no more than its length
+-- a batch adds no more entries than it has changes
 pub length-applied : (es : Part) (bs : Batch) → length (applied es bs) ≤ length es + length bs
 unfolding applied
 length-applied es [] = omega arith

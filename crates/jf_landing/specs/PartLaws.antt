@@ -13,12 +13,12 @@ use Rattle.jf_hash.specs.Filters.{All-filter}
 use Rattle.jf_landing.specs.Parts.{IsPart, from_nibble, stepped}
 use Rattle.jf_landing.specs.NibbleOrder.{rises, apart_at}
 
--- numbers that differ
+-- the test of two numbers that differ is false
 pub eqb-differs : (n k : ℕ) → ¬ (k ≡ n) → (k == n) ≡ false
 eqb-differs n k h = grind (arith, nat_tests)
 
 module _ {X : Type 0} where
-  -- a part without its first entry
+  -- a part without its first entry is a part
   pub IsPart-rest : {d : ℕ} {path : ℕ → ℕ} (e : List ℕ × X) (es : List (List ℕ × X)) → IsPart d path (e ∷ es) → IsPart d path es
   IsPart-rest e es h = record { sorted = sorted-rest e es h.sorted; keys = h.keys.1; agree = h.agree.1 }
 
@@ -54,22 +54,22 @@ module _ {X : Type 0} where
         ]
       ]
 
-  -- from the first nibble on they are all
+  -- the entries from nibble 0 on are all of them
   pub from_nibble-zero : (d : ℕ) (es : List (List ℕ × X)) → from_nibble d 0 es ≡ es
   from_nibble-zero d [] = refl
   from_nibble-zero d (e ∷ es) = ap (λ b. cond b (e ∷ from_nibble d 0 es) (from_nibble d 0 es)) (le-leb 0 (nibble e.0 d) (omega arith)) ∙ ap (λ t. e ∷ t) (from_nibble-zero d es)
 
-  -- and behind the last there is none
+  -- no entry has a nibble of 16 or more
   pub from_nibble-past : (d n : ℕ) (es : List (List ℕ × X)) → 16 ≤ n → from_nibble d n es ≡ []
   from_nibble-past d n [] past = refl
   from_nibble-past d n (e ∷ es) past = ap (λ b. cond b (e ∷ from_nibble d n es) (from_nibble d n es)) (lt-leb n (nibble e.0 d) (omega (arith, nibble-small e.0 d))) ∙ from_nibble-past d n es past
 
-  -- no key has a nibble of 16 or more
+  -- no entry has just such a nibble
   pub with_nibble-past : (d n : ℕ) (es : List (List ℕ × X)) → 16 ≤ n → with_nibble d n es ≡ []
   with_nibble-past d n [] past = refl
   with_nibble-past d n (e ∷ es) past = ap (λ b. cond b (e ∷ with_nibble d n es) (with_nibble d n es)) (eqb-differs n (nibble e.0 d) (λ is. omega (arith, nibble-small e.0 d))) ∙ with_nibble-past d n es past
 
-  -- two entries differ in some nibble, so where there are two, a nibble is left
+  -- two entries differ in some nibble, so a part with two entries has a nibble below it
   pub deeper : (d : ℕ) (path : ℕ → ℕ) (es : List (List ℕ × X)) → IsPart d path es → 2 ≤ length es → d < 64
   deeper d path [] part two = absurd (omega arith)
   deeper d path (e ∷ []) part two = absurd (omega arith)

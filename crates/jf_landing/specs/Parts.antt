@@ -5,7 +5,7 @@ use Rattle.std.specs.FinMap.{is_sorted}
 use Rattle.jf_path.specs.Keys.{key_cmp, IsKey}
 use Rattle.jf_path.specs.Nibbles.{nibble}
 
--- entries whose keys rise strictly and have the first `depth` nibbles of a path
+-- entries whose keys ascend strictly and have the first `depth` nibbles of a path
 pub record IsPart {X : Type 0} (depth : ℕ) (path : ℕ → ℕ) (es : List (List ℕ × X)) : Type 0 where
   pub sorted : T (is_sorted key_cmp es)
   pub keys : AllByRecursion (λ e. IsKey e.0) es
@@ -19,7 +19,7 @@ stepped depth n path i = cond (i == depth) n (path i)
 abbrev pub from_nibble : {X : Type 0} → ℕ → ℕ → List (List ℕ × X) → List (List ℕ × X)
 from_nibble depth n es = filter (λ e. nat_le n (nibble e.0 depth)) es
 
--- r entries with nibble n, and then one with another, if any
+-- the first r entries have nibble n at a depth, and the next one, if any, has another
 pub record IsPieceEnd {X : Type 0} (depth n r : ℕ) (es : List (List ℕ × X)) : Type 0 where
   pub within : r ≤ length es
   pub before : (k : ℕ) (x : List ℕ × X) → k < r → nibble (slice_index_or es k x).0 depth ≡ n

@@ -1,4 +1,4 @@
--- The entries up to where one nibble ends are those with the nibble.
+-- Cutting off the entries with one nibble by the place where they end.
 use Rattle.std.proofs.Common.{◌≡◌, ℕ, zero, suc, ◌+◌, ◌≤◌, true, false, cond, ◌==◌, List, [], ◌∷◌, ◌++◌, take, drop, refl, ap, ◌∙◌, subst, arith}
 use Rattle.std.specs.Prelude.{nat_le}
 use Rattle.std.proofs.lemmas.Bool.Decides.{nat_tests}
@@ -35,7 +35,7 @@ module _ {X : Type 0} where
       let rest = cut d n r xs ys (record { within = omega arith; before = λ k y lt. end.before (suc k) y (omega arith); at = λ y lt. end.at y (omega arith) }) all.1 none in
       (ap (λ t. x ∷ t) rest.0, rest.1)
 
-  -- the front is all entries with the nibble, and behind it come those from the next nibble on
+  -- the first r entries are all those with the nibble, and the rest are those from the next nibble on
   pub cut_piece : (d n r : ℕ) (path : ℕ → ℕ) (all rest : List (List ℕ × X)) → IsPart d path all → rest ≡ from_nibble d n all → IsPieceEnd d n r rest → (take r rest ≡ with_nibble d n all) × (drop r rest ≡ from_nibble d (n + 1) all)
   cut_piece d n r path all rest part is end =
       let e = is ∙ from_nibble-split d n path all part in

@@ -1,4 +1,4 @@
--- A plain node with two entries or more has its children by nibble, and depends on the versions of those that it has.
+-- A plain node of two entries or more has its children by nibble, and depends only on the versions of the children that it has.
 use Rattle.std.proofs.Common.{◌≡◌, ℕ, ◌+◌, ◌*◌, ◌≤◌, Bool, true, false, not, cond, List, [], ◌∷◌, ◌++◌, length, refl, ap, ap₂, arith}
 use Rattle.std.specs.List.{flat_map}
 use Rattle.jf_path.specs.declared.children.Child.{Child}
@@ -28,7 +28,7 @@ same_children : (counted : Bool) (v w : ℕ → ℕ) (d : ℕ) (es : Part) → (
 same_children counted v w d es h [] = refl
 same_children counted v w d es h (n ∷ ns) = ap₂ (λ a b. a ++ b) (same_child counted v w d es n (h n)) (same_children counted v w d es h ns)
 
--- versions matter only where an entry stands
+-- a plain node depends on versions only at nibbles that have an entry
 pub plain_node-versions : (counted : Bool) (v w : ℕ → ℕ) (d : ℕ) (es : Part) → ((n : ℕ) → has_one (with_nibble d n es) ≡ true → v n ≡ w n) → plain_node counted v d es ≡ plain_node counted w d es
 unfolding plain_node
 plain_node-versions counted v w d [] h = refl

@@ -1,15 +1,15 @@
--- What a batch puts, and where a key stands in it.
+-- The entries that a batch puts, and where a key stands in the batch.
 use Rattle.std.specs.Prelude.{◌≡◌, ℕ, ◌<◌, ◌≤◌, Bool, true, false, cond, List, [], ◌∷◌, length, Option, Some, None, slice_index_or}
 use Rattle.std.specs.declared.cmp.Ordering.TheVariants.{Less}
 use Rattle.jf_path.specs.Keys.{key_cmp}
 use Rattle.jf_hash.specs.Maps.{Batch}
 use Rattle.jf_hash.specs.Slots.{Part}
 
--- the change of one key
+-- a batch's change of one key: a value, or a removal
 abbrev pub Change : Type 0
 Change = List ℕ × Option (List ℕ)
 
--- what is put for a key, if anything, and entries after it
+-- the put of a change, if it is one with a value, followed by entries
 abbrev pub with_put : List ℕ → Option (List ℕ) → Part → Part
 with_put key (Some value) es = (key, value) ∷ es
 with_put key None es = es
@@ -19,17 +19,17 @@ abbrev pub puts : Batch → Part
 puts [] = []
 puts (b ∷ bs) = with_put b.0 b.1 (puts bs)
 
--- r keys below the key, and then one that isn't, if any
+-- the batch has r keys below the key, and the next one, if any, is not below it
 pub record IsPlace (key : List ℕ) (bs : Batch) (r : ℕ) : Type 0 where
   pub within : r ≤ length bs
   pub before : (k : ℕ) (x : Change) → k < r → key_cmp (slice_index_or bs k x).0 key ≡ Less
   pub at : (x : Change) → r < length bs → ¬ (key_cmp (slice_index_or bs r x).0 key ≡ Less)
 
--- whether the first change of a batch is a change of the key
+-- whether the first change of a batch is on the key
 abbrev pub IsFirstKey : List ℕ → Batch → Bool → Type 0
 IsFirstKey key [] b = b ≡ false
 IsFirstKey key (c ∷ cs) b = (b ≡ true → c.0 ≡ key) × (b ≡ false → ¬ (c.0 ≡ key))
 
--- an entry, kept unless the batch changes its key
+-- an entry that stays unless the batch changes its key
 abbrev pub kept_entry : Bool → List ℕ → List ℕ → Part
 kept_entry named key value = cond named [] ((key, value) ∷ [])

@@ -1,4 +1,4 @@
--- Parts compared entry by entry are compared as lists.
+-- Comparing parts entry by entry decides whether they are the same.
 use Rattle.std.proofs.Common.{◌≡◌, ◌≤◌, true, false, not, ◌&&◌, inl, inr, ◌⊎◌, [], ◌∷◌, length, refl, sym, ap, ap₂, ◌∙◌, arith, true≢false}
 use Rattle.std.specs.Str.{bytes_eq}
 use Rattle.std.proofs.lemmas.Slice.Eq.{bytes_eq-Decides}
@@ -7,12 +7,12 @@ use Rattle.jf_model.specs.Nodes.{same_part}
 use Rattle.jf_landing.specs.Both.{left_true, right_true}
 use Rattle.jf_landing.specs.Walk.{differs}
 
--- each part is the same as itself
+-- the comparison finds a part the same as itself
 pub same_part-refl : (es : Part) → same_part es es ≡ true
 same_part-refl [] = refl
 same_part-refl (e ∷ es) = ap₂ (λ a b. a && b && same_part es es) ((bytes_eq-Decides e.0 e.0).1 refl) ((bytes_eq-Decides e.1 e.1).1 refl) ∙ same_part-refl es
 
--- and as no other
+-- the comparison finds two parts the same only if they are
 pub same_part-exact : (es fs : Part) → same_part es fs ≡ true → es ≡ fs
 same_part-exact [] [] h = refl
 same_part-exact [] (f ∷ fs) h = absurd (true≢false (sym h))
@@ -23,19 +23,19 @@ same_part-exact (e ∷ es) (f ∷ fs) h =
     (ap₂ (λ k v. (k, v)) ((bytes_eq-Decides e.0 f.0).0 (left_true _ _ heads)) ((bytes_eq-Decides e.1 f.1).0 (right_true (bytes_eq e.0 f.0) _ heads)))
     (same_part-exact es fs (right_true (bytes_eq e.0 f.0 && bytes_eq e.1 f.1) _ h))
 
--- two parts are one or not
+-- two parts are the same or not
 pub same_or_other : (old new : Part) → (old ≡ new) ⊎ (¬ (old ≡ new))
 same_or_other old new = elim (same_part old new) as (λ b. same_part old new ≡ b → (old ≡ new) ⊎ (¬ (old ≡ new))) [
   | true ↦ λ is. inl (same_part-exact old new is)
   | false ↦ λ is. inr (λ same. true≢false (sym (same_part-refl new) ∙ ap (λ es. same_part es new) (sym same) ∙ is))
 ] refl
 
--- none, or one and more
+-- a part has no entry, or at least one
 pub some_entry : (es : Part) → (es ≡ []) ⊎ (1 ≤ length es)
 some_entry [] = inl refl
 some_entry (e ∷ es) = inr (omega arith)
 
--- where there is one there is not none
+-- a part with at least one entry isn't the empty one
 pub not_empty : (es : Part) → 1 ≤ length es → ¬ (es ≡ [])
 not_empty es some none = let e = ap length none in omega arith
 
@@ -44,7 +44,7 @@ pub differs-same : (es : Part) → differs es es ≡ false
 differs-same [] = refl
 differs-same (e ∷ es) = ap not (same_part-refl (e ∷ es))
 
--- where there is a node, it differs or has the part of before
+-- a node differs from the old one, or has the same part
 pub differs_or_same : (old new : Part) → 1 ≤ length new → (differs old new ≡ true) ⊎ (old ≡ new)
 differs_or_same old [] some = absurd (omega arith)
 differs_or_same old (e ∷ es) some = elim (same_part old (e ∷ es)) as (λ b. same_part old (e ∷ es) ≡ b → (not b ≡ true) ⊎ (old ≡ e ∷ es)) [
@@ -52,6 +52,6 @@ differs_or_same old (e ∷ es) some = elim (same_part old (e ∷ es)) as (λ b. 
   | false ↦ λ is. inl refl
 ] refl
 
--- one that differs is another
+-- parts of which one differs from the other are not the same
 pub differs-other : (old new : Part) → differs old new ≡ true → ¬ (old ≡ new)
 differs-other old new differ same = true≢false (sym differ ∙ ap (λ es. differs es new) same ∙ differs-same new)

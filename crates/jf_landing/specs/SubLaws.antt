@@ -1,4 +1,4 @@
--- The part of the node at a path: all entries under the path where there is a node, and else none.
+-- The part of the node at a path: all entries under the path if there is a node, and otherwise no entries.
 use Rattle.std.proofs.Common.{◌≡◌, ℕ, ◌+◌, true, false, cond, ◌&&◌, [], ◌∷◌, refl, sym, ap, ◌∙◌, true≢false}
 use Rattle.std.proofs.Math.Bool.{and-true}
 use Rattle.jf_hash.specs.Slots.{Part, with_nibble}
@@ -7,7 +7,7 @@ use Rattle.jf_landing.specs.Both.{left_true, right_true}
 use Rattle.jf_landing.specs.ChildEntries.{sub}
 use Rattle.jf_landing.specs.ChildEntryLaws.{sub-none}
 
--- the test for an entry, both ways
+-- a part that isn't empty passes the test for an entry
 pub has_one-some : (es : Part) → ¬ (es ≡ []) → has_one es ≡ true
 has_one-some [] h = absurd (h refl)
 has_one-some (e ∷ es) h = refl
@@ -26,7 +26,7 @@ sub-under d [] es h = refl
 sub-under d (n ∷ p) es h =
     ap (λ b. sub (d + 1) p (cond b (with_nibble d n es) [])) (left_true _ _ (left_true _ _ h)) ∙ sub-under (d + 1) p (with_nibble d n es) (right_true (has_two es && has_one (with_nibble d n es)) _ h)
 
--- where there are entries, exactly the nodes below have some
+-- below a part with entries, the paths with entries are exactly those of nodes
 pub has_one-sub : (d : ℕ) (p : Path) (es : Part) → has_one (sub d p es) ≡ (has_one es && is_node d p es)
 unfolding is_node
 has_one-sub d [] es = sym (and-true (has_one es))
@@ -34,26 +34,26 @@ has_one-sub d (n ∷ p) [] = ap has_one (sub-none (d + 1) p)
 has_one-sub d (n ∷ p) (e ∷ []) = ap has_one (sub-none (d + 1) p)
 has_one-sub d (n ∷ p) (e ∷ f ∷ es) = has_one-sub (d + 1) p (with_nibble d n (e ∷ f ∷ es))
 
--- below the top exactly the nodes have some, whether there are entries or not
+-- below the top, the paths with entries are exactly those of nodes
 pub has_one-sub_below : (d n : ℕ) (p : Path) (es : Part) → has_one (sub d (n ∷ p) es) ≡ is_node d (n ∷ p) es
 unfolding is_node
 has_one-sub_below d n p [] = ap has_one (sub-none (d + 1) p)
 has_one-sub_below d n p (e ∷ []) = ap has_one (sub-none (d + 1) p)
 has_one-sub_below d n p (e ∷ f ∷ es) = has_one-sub (d + 1) p (with_nibble d n (e ∷ f ∷ es))
 
--- the same one way: what has entries is a node
+-- a path with entries is that of a node
 pub is_node-sub : (d : ℕ) (p : Path) (es : Part) → ¬ (sub d p es ≡ []) → is_node d p es ≡ true
 is_node-sub d p es some = right_true (has_one es) _ (sym (has_one-sub d p es) ∙ has_one-some (sub d p es) some)
 
--- and the other: a node has entries, where there are some at all
+-- the path of a node has entries, if the part has any
 pub sub-is_node : (d : ℕ) (p : Path) (es : Part) → ¬ (es ≡ []) → is_node d p es ≡ true → ¬ (sub d p es ≡ [])
 sub-is_node d p es some node = some-has_one (sub d p es) (has_one-sub d p es ∙ ap (λ b. b && is_node d p es) (has_one-some es some) ∙ node)
 
--- or where it isn't the top
+-- the path of a node below the top has entries
 pub sub-is_node_below : (d n : ℕ) (p : Path) (es : Part) → is_node d (n ∷ p) es ≡ true → ¬ (sub d (n ∷ p) es ≡ [])
 sub-is_node_below d n p es node = some-has_one (sub d (n ∷ p) es) (has_one-sub_below d n p es ∙ node)
 
--- where there is no node, nothing is
+-- a path without a node has no entries
 pub sub-no_node : (d : ℕ) (p : Path) (es : Part) → is_node d p es ≡ false → sub d p es ≡ []
 unfolding is_node
 sub-no_node d [] es h = absurd (true≢false h)

@@ -1,4 +1,4 @@
--- Unions of parts that stand at the sixteen nibbles, of things that have content.
+-- Joining the contents of the sixteen children of a node.
 use Rattle.std.proofs.Common.{◌≡◌, ℕ, zero, suc, ◌+◌, ◌<◌, List, [], ◌∷◌, ◌++◌, length, get_or, drop, refl, sym, ap, ap₂, ◌∙◌, arith, zero-add}
 use Rattle.std.specs.List.{flat_map}
 use Rattle.jf_hash.specs.Maps.{Batch}
@@ -18,31 +18,31 @@ module _ {L : Type 0} (content : L → Part) (none : L) where
       (joined-from d (n + 1) path es links part (omega arith) (λ k lt. h (suc k) (omega arith) ∙ ap (λ m. with_nibble d m es) (let e : n + suc k ≡ (n + 1) + k = omega arith in e)))
       ∙ sym (from_nibble-split d n path es part)
 
-  -- what has the part of each nibble has the whole
+  -- if the child at each nibble has the part of that nibble, together they have the whole part
   pub joined_parts : (d : ℕ) (path : ℕ → ℕ) (es : Part) (links : List L) → IsPart d path es → length links ≡ 16 → ((k : ℕ) → k < 16 → content (get_or links k none) ≡ with_nibble d k es) → flat_map content links ≡ es
   joined_parts d path es links part long h =
       joined-from d 0 path es links part (omega arith) (λ k lt. h k (omega arith) ∙ ap (λ m. with_nibble d m es) (sym (zero-add k))) ∙ from_nibble-zero d es
 
-  -- behind places without content the union begins with the first that may have some
+  -- if the first n places have no content, the union begins with the content of place n
   pub joined-first : (links : List L) (n : ℕ) → n < length links → ((k : ℕ) → k < n → content (get_or links k none) ≡ []) → flat_map content links ≡ content (get_or links n none) ++ flat_map content (drop (suc n) links)
   joined-first [] n short before = absurd (omega arith)
   joined-first (x ∷ links) zero short before = refl
   joined-first (x ∷ links) (suc n) short before =
       ap (λ es. es ++ flat_map content links) (before 0 (omega arith)) ∙ joined-first links n (omega arith) (λ k lt. before (suc k) (omega arith))
 
-  -- without content anywhere it is empty
+  -- if no place has content, the union is empty
   pub joined-none : (links : List L) → ((k : ℕ) → k < length links → content (get_or links k none) ≡ []) → flat_map content links ≡ []
   joined-none [] all = refl
   joined-none (x ∷ links) all = ap (λ es. es ++ flat_map content links) (all 0 (omega arith)) ∙ joined-none links (λ k lt. all (suc k) (omega arith))
 
-  -- alike content place by place makes alike unions
+  -- if two lists have the same content at each place, their unions are the same
   pub joined-same : (xs ys : List L) → length xs ≡ length ys → ((k : ℕ) → k < length xs → content (get_or xs k none) ≡ content (get_or ys k none)) → flat_map content xs ≡ flat_map content ys
   joined-same [] [] e h = refl
   joined-same [] (y ∷ ys) e h = absurd (omega arith)
   joined-same (x ∷ xs) [] e h = absurd (omega arith)
   joined-same (x ∷ xs) (y ∷ ys) e h = ap₂ (λ a b. a ++ b) (h 0 (omega arith)) (joined-same xs ys (omega arith) (λ k lt. h (suc k) (omega arith)))
 
-  -- what has at each nibble what the batch's part makes of the part there has what the batch makes of the whole
+  -- if each child has the part of its nibble after the batch's changes there, together they have the whole part after the batch
   pub joined-applied : (d : ℕ) (path : ℕ → ℕ) (es : Part) (bs : Batch) (links : List L) → IsPart d path es → IsPart d path bs → length links ≡ 16
       → ((k : ℕ) → k < 16 → content (get_or links k none) ≡ applied (with_nibble d k es) (with_nibble d k bs)) → flat_map content links ≡ applied es bs
   joined-applied d path es bs links part batch long each =

@@ -1,4 +1,4 @@
--- The versions of the nodes below a node follow from those of its children.
+-- The versions of the nodes below a node, by those of its children.
 use Rattle.std.proofs.Common.{◌≡◌, ℕ, ◌+◌, ◌<◌, ◌≤◌, inl, inr, [], ◌∷◌, length, refl, sym, ◌∙◌, Option, Some}
 use Rattle.std.proofs.lemmas.Bool.{cases_lt}
 use Rattle.jf_hash.specs.Slots.{Part, with_nibble}
@@ -7,18 +7,18 @@ use Rattle.jf_landing.specs.ChildEntryLaws.{sub-few, sub-many, sub-past}
 use Rattle.jf_landing.specs.SameParts.{same_or_other}
 use Rattle.jf_landing.specs.Versions.{HasVersion, HaveVersions, AllNew, IsNewTop}
 
--- the same of equal parts and versions
+-- `Versioned` holds also of equal parts and versions
 pub moved : (version : ℕ) (a b : Part) (c e : Option ℕ) (a' b' : Part) (c' e' : Option ℕ) → HasVersion version a b c e → a' ≡ a → b' ≡ b → c' ≡ c → e' ≡ e → HasVersion version a' b' c' e'
 moved version a b c e a' b' c' e' h p q r s = record {
   kept = λ some same. s ∙ h.kept (λ none. some (q ∙ none)) (sym p ∙ same ∙ q) ∙ sym r;
   fresh = λ some other. s ∙ h.fresh (λ none. some (q ∙ none)) (λ same. other (p ∙ same ∙ sym q));
 }
 
--- nodes that stay
+-- if nothing changes, each node keeps its version
 pub same_versioned : (version depth : ℕ) (es : Part) (before : Path → Option ℕ) → HaveVersions depth version es es before before
 same_versioned version depth es before p = record { kept = λ some same. refl; fresh = λ some other. absurd (other refl) }
 
--- nodes that are built anew over one entry or none
+-- over at most one old entry each node is new, if the part changes
 pub built_versioned : (depth version : ℕ) (old new : Part) (before now : Path → Option ℕ) → length old < 2 → ¬ (new ≡ old) → AllNew depth version new now → HaveVersions depth version old new before now
 built_versioned depth version old new before now few differ all [] = record { kept = λ some same. absurd (differ (sym same)); fresh = λ some other. all [] some }
 built_versioned depth version old new before now few differ all (n ∷ p) =
@@ -47,15 +47,15 @@ topped_built depth version es nows now many each t (n ∷ p) some = elim (cases_
   | inr past ↦ absurd (some (sub-past depth n p es many past))
 ]
 
--- one new node over one entry
+-- a new node over at most one entry is all new
 pub built_one : (depth version : ℕ) (es : Part) (now : Path → Option ℕ) → length es < 2 → now [] ≡ Some version → AllNew depth version es now
 built_one depth version es now few is [] some = is
 built_one depth version es now few is (n ∷ p) some = absurd (some (sub-few depth n p es few))
 
--- where no node had the new version: a node that hasn't it now has the part of before
+-- a node without the new version has the part that it had
 pub HasVersion-old : (version : ℕ) (old new : Part) (before now : Option ℕ) → HasVersion version old new before now → ¬ (new ≡ []) → ¬ (now ≡ Some version) → old ≡ new
 HasVersion-old version old new before now h some other = elim (same_or_other old new) [ inl same ↦ same | inr differ ↦ absurd (other (h.fresh some differ)) ]
 
--- and one that has it has another
+-- a node that gets the new version has another part than it had
 pub HasVersion-new : (version : ℕ) (old new : Part) (before now : Option ℕ) → HasVersion version old new before now → ¬ (new ≡ []) → ¬ (before ≡ Some version) → now ≡ Some version → ¬ (old ≡ new)
 HasVersion-new version old new before now h some older is same = older (sym (h.kept some same) ∙ is)

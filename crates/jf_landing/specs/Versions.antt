@@ -9,7 +9,7 @@ pub record HasVersion (version : ℕ) (old new : Part) (before now : Option ℕ)
   pub kept : ¬ (new ≡ []) → old ≡ new → now ≡ before
   pub fresh : ¬ (new ≡ []) → ¬ (old ≡ new) → now ≡ Some version
 
--- the same of each node below two parts, by the versions at each path before and now
+-- each node below two parts is so versioned, by the versions at each path before and now
 abbrev pub HaveVersions : ℕ → ℕ → Part → Part → (Path → Option ℕ) → (Path → Option ℕ) → Type 0
 HaveVersions depth version old new before now = (path : Path) → HasVersion version (sub depth path old) (sub depth path new) (before path) (now path)
 

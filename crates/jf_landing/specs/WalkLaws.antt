@@ -1,4 +1,4 @@
--- How the walk over two parts comes apart: nothing where they are one, else the node and then its children.
+-- The walk over two parts, step by step: nothing if they are the same, otherwise the node and then its children.
 use Rattle.std.proofs.Common.{◌≡◌, ℕ, zero, suc, ◌+◌, ◌-◌, ◌<◌, ◌≤◌, true, cond, inl, inr, ◌⊎◌, List, [], ◌∷◌, ◌++◌, length, refl, sym, ap, ◌∙◌, arith, append_assoc, append-nil, add-one, zero-add}
 use Rattle.std.specs.List.{flat_map}
 use Rattle.jf_hash.specs.Slots.{Part, all_nibbles}
@@ -9,24 +9,24 @@ use Rattle.jf_landing.specs.SameParts.{differs-same, differs_or_same}
 use Rattle.jf_landing.specs.Walk.{differs, each_from, listed, with_root, child_list, listed_to}
 
 module _ {X : Type 0} where
-  -- nothing is listed where the parts are one
+  -- nothing is listed if the parts are the same
   pub listed-same : (l d : ℕ) (es : Part) (f : Path → X) → listed l d es es f ≡ []
   unfolding listed
   listed-same zero d es f = ap (λ b. cond b (f [] ∷ []) []) (differs-same es)
   listed-same (suc l) d es f = ap (λ b. cond b (f [] ∷ each_from 16 0 (λ n. listed l (d + 1) (child_entries d n es) (child_entries d n es) (λ p. f (n ∷ p)))) []) (differs-same es)
 
-  -- or where there is no node
+  -- nothing is listed if the new part has no node
   pub listed-gone : (l d : ℕ) (es : Part) (f : Path → X) → listed l d es [] f ≡ []
   unfolding listed
   listed-gone zero d es f = refl
   listed-gone (suc l) d es f = refl
 
-  -- empty lists are an empty list
+  -- empty lists joined are an empty list
   pub each-nil : (count n : ℕ) (g : ℕ → List X) → ((m : ℕ) → g m ≡ []) → each_from count n g ≡ []
   each-nil zero n g h = refl
   each-nil (suc count) n g h = ap (λ t. t ++ each_from count (n + 1) g) (h n) ∙ each-nil count (n + 1) g h
 
-  -- one list more stands behind the others
+  -- one more list is appended to the others
   pub each_push : (count n : ℕ) (g : ℕ → List X) → each_from (suc count) n g ≡ each_from count n g ++ g (n + count)
   each_push zero n g = append-nil (g n) ∙ ap g (let e : n ≡ n + 0 = omega arith in e)
   each_push (suc count) n g =
@@ -70,7 +70,7 @@ module _ {X : Type 0} where
       listed_to-more d n old new f ∙ ap (λ k. listed_to d n old new f ++ listed (64 - (d + 1)) (d + 1) (child_entries d n old) k (λ p. f (n ∷ p))) none
       ∙ ap (λ t. listed_to d n old new f ++ t) (listed-gone (64 - (d + 1)) (d + 1) (child_entries d n old) (λ p. f (n ∷ p))) ∙ append-nil (listed_to d n old new f)
 
-  -- and a child adds its list
+  -- a child adds its list at the end
   pub listed_to-child : (d n e : ℕ) (old old' new new' : Part) (f g : Path → X) (start out more : List X) → out ≡ start ++ listed_to d n old new f → e ≡ d + 1 → old' ≡ child_entries d n old → new' ≡ child_entries d n new → ((p : Path) → g p ≡ f (n ∷ p))
       → more ≡ out ++ listed (64 - e) e old' new' g → more ≡ start ++ listed_to d (n + 1) old new f
   unfolding child_list
@@ -80,22 +80,22 @@ module _ {X : Type 0} where
       ∙ ap (λ h. out ++ listed (64 - (d + 1)) (d + 1) (child_entries d n old) (child_entries d n new) h) fs
       ∙ ap (λ t. t ++ child_list d n old new f) is ∙ append_assoc start (listed_to d n old new f) (child_list d n old new f) ∙ ap (λ t. start ++ t) (sym (listed_to-more d n old new f))
 
-  -- where the two differ the walk from the top is the list of the top
+  -- if the parts differ, the list of the top is the walk from the top
   pub listed-with_root : (old new : Part) (f : Path → X) → differs old new ≡ true → listed 64 0 old new f ≡ with_root old new f
   unfolding with_root listed_to child_list
   listed-with_root old new f differ = listed-node 0 old new f differ (inl (omega arith))
 
-  -- nothing but the top is listed where no entry is
+  -- if the new map has no entry, only the top is listed
   pub with_root-gone : (old : Part) (f : Path → X) → with_root old [] f ≡ f [] ∷ []
   unfolding with_root
   with_root-gone old f = ap (λ t. f [] ∷ t) (each-nil 16 0 (λ n. listed 63 1 (child_entries 0 n old) [] (λ p. f (n ∷ p))) (λ n. listed-gone 63 1 (child_entries 0 n old) (λ p. f (n ∷ p))))
 
-  -- or where the two are one
+  -- if the two maps are the same, only the top is listed
   pub with_root-same : (es : Part) (f : Path → X) → with_root es es f ≡ f [] ∷ []
   unfolding with_root
   with_root-same es f = ap (λ t. f [] ∷ t) (each-nil 16 0 (λ n. listed 63 1 (child_entries 0 n es) (child_entries 0 n es) (λ p. f (n ∷ p))) (λ n. listed-same 63 1 (child_entries 0 n es) (λ p. f (n ∷ p))))
 
-  -- the list of a node that stands at the top
+  -- the list of a node at depth 0 is the walk from the top
   pub with_root-from_listed : (old : Part) (d : ℕ) (new : Part) (f g : Path → X) (names : List X) → 1 ≤ length new → ¬ (old ≡ new) → d ≡ 0 → ((p : Path) → g p ≡ f p) → names ≡ listed (64 - d) d old new g → names ≡ with_root old new f
   with_root-from_listed old d new f g names some other at same is = elim (differs_or_same old new some) [
     | inl differ ↦ is ∙ ap (λ k. listed (64 - k) k old new g) at ∙ ap (λ h. listed 64 0 old new h) (let fs : g ≡ f = λ i p. same p i in fs) ∙ listed-with_root old new f differ

@@ -7,17 +7,17 @@ pub fn walk_lists_fresh()
     ensures { WalkListsFresh }
 {}
 
-/// Each is a node of the new map, with all entries under its path.
+/// Each fresh node is a node of the new map, with all entries under its path.
 pub fn fresh_are_nodes()
     ensures { FreshAreNodes }
 {}
 
-/// They stand in the order of their paths, each once.
+/// The fresh nodes stand in the order of their paths, each once.
 pub fn fresh_rises()
     ensures { FreshRises }
 {}
 
-/// Each has a path of at most 64 nibbles.
+/// Each fresh node has a path of at most 64 nibbles.
 pub fn fresh_has_paths()
     ensures { FreshHasPaths }
 {}
@@ -27,27 +27,27 @@ pub fn fresh_is_bounded()
     ensures { FreshIsBounded }
 {}
 
-/// What a landing adds to the nodes of a map and what it marks stale come to the nodes of the new map.
+/// The nodes of the new map and the stale ones are as many as the nodes of the old map and the fresh ones.
 pub fn fresh_and_stale()
     ensures { FreshAndStale }
 {}
 
-/// The list of the nodes of a map has each node, with all entries under its path, and nothing else.
+/// The list of a map's nodes has each node, with all entries under its path, and nothing else.
 pub fn nodes_are_listed()
     ensures { NodesAreListed }
 {}
 
-/// Where there is a node of a map, the path is one of at most 64 nibbles.
+/// Each node of a map is at a path of at most 64 nibbles.
 pub fn nodes_have_paths()
     ensures { NodesHavePaths }
 {}
 
-/// What a landing writes has each fresh node of the new map, and nothing else.
+/// A landing writes each fresh node of the new map, and nothing else.
 pub fn fresh_are_listed()
     ensures { FreshAreListed }
 {}
 
-/// A landing writes the top, and each node of the new map that the old one has not with the same part.
+/// A landing writes the top, and each node of the new map that the old one doesn't have with the same entries.
 pub fn fresh_is_what_differs()
     ensures { FreshIsWhatDiffers }
 {}

@@ -1,5 +1,5 @@
 //! What a batch changes below a path, as definitions with their laws: the parts of a map by nibble, the nodes below a
-//! path, and the walk over two maps that lists the nodes of the one that the other has not.
+//! path, and the walk over two maps that lists the nodes of one that the other doesn't have.
 #![tactic(auto)]
 
 mod laws;

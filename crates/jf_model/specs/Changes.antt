@@ -1,4 +1,4 @@
--- What a batch makes of the entries of a map, and what it keeps.
+-- How a batch changes the entries of a map.
 use Rattle.std.specs.Prelude.{◌≡◌, ℕ, Bool, true, false, cond, not, T, List, [], ◌∷◌, filter, Option, Some, None, IfSome}
 use Rattle.std.proofs.Common.{refl, sym, ap, ◌∙◌, subst, Less, Equal, Greater}
 use Rattle.std.specs.List.{AllByRecursion}
@@ -12,15 +12,16 @@ use Rattle.jf_hash.specs.KeyOrder.{same_key-exact}
 use Rattle.jf_hash.specs.Maps.{Map, Batch, IsMap, IsBatch, change, apply, same_key}
 use Rattle.jf_hash.specs.MapLaws.{entries-remove, said}
 
+-- a key and its value
 abbrev pub MapEntry : Type 0
 MapEntry = List ℕ × List ℕ
 
--- entries after one word of a batch
+-- entries after one change of a batch: a key gets a value, or goes
 abbrev pub changed : List ℕ → Option (List ℕ) → List MapEntry → List MapEntry
 changed k (Some v) es = put key_cmp k v es
 changed k None es = where_key key_cmp (λ x. not (same_key k x)) es
 
--- entries after a batch
+-- entries after all changes of a batch, in turn
 unfoldable pub applied : List MapEntry → Batch → List MapEntry
 applied es [] = es
 applied es (e ∷ b) = applied (changed e.0 e.1 es) b
@@ -29,7 +30,7 @@ entries-change : (k : List ℕ) (v : Option (List ℕ)) (m : Map) → entries (c
 entries-change k (Some v) m = fin.entries-insert nat_list_cmp_total m k v
 entries-change k None m = entries-remove m k
 
--- a map's entries change as the map does
+-- the entries of a map after a batch are its entries changed by the batch
 pub entries-apply : (m : Map) (b : Batch) → entries (apply m b) ≡ applied (entries m) b
 unfolding apply applied
 entries-apply m [] = refl
@@ -39,7 +40,7 @@ sorted-changed : (k : List ℕ) (v : Option (List ℕ)) (es : List MapEntry) →
 sorted-changed k (Some v) es h = is_sorted-put key_cmp nat_list_cmp_total k v es h
 sorted-changed k None es h = is_sorted-where_key key_cmp (λ x. not (same_key k x)) es h
 
--- they stay in the order of their keys
+-- changed entries stay in the order of their keys
 pub sorted-applied : (es : List MapEntry) (b : Batch) → T (is_sorted key_cmp es) → T (is_sorted key_cmp (applied es b))
 unfolding applied
 sorted-applied es [] h = h
@@ -67,7 +68,7 @@ module _ (P : MapEntry → Type 0) where
   all-changed k (Some v) es p h = all-put k v es p h
   all-changed k None es p h = all-where_key (λ x. not (same_key k x)) es h
 
-  -- what holds of each entry and of what the batch puts holds of each entry after it
+  -- what holds of each entry, and of each entry that the batch puts, holds of each entry after it
   pub all-applied : (es : List MapEntry) (b : Batch) → AllByRecursion P es → AllByRecursion (λ e. IfSome e.1 (λ w. P (e.0, w))) b → AllByRecursion P (applied es b)
   unfolding applied
   all-applied es [] h p = h
@@ -81,7 +82,7 @@ sound_puts : (b : Batch) → AllByRecursion (λ e. IsKey e.0) b → AllByRecursi
 sound_puts [] h k = tt
 sound_puts (e ∷ b) h k = (sound_put e.0 e.1 h.0 k.0, sound_puts b h.1 k.1)
 
--- keys stay keys, and bytes bytes
+-- after a batch each entry still has a key and bytes
 pub sound-applied : (es : List MapEntry) (b : Batch) → AllByRecursion (λ e. IsKey e.0 × IsBytes e.1) es → IsBatch b → AllByRecursion (λ e. IsKey e.0 × IsBytes e.1) (applied es b)
 sound-applied es b h batch = all-applied (λ e. IsKey e.0 × IsBytes e.1) es b h (sound_puts b batch.keys batch.values)
 
@@ -94,7 +95,7 @@ put_keys : (P : List ℕ → Type 0) (b : Batch) → AllByRecursion (λ e. P e.0
 put_keys P [] h = tt
 put_keys P (e ∷ b) h = (elim e.1 as (λ v. IfSome v (λ w. P e.0)) [ None ↦ tt | Some w ↦ h.0 ], put_keys P b h.1)
 
--- what holds of all keys of entries and of a batch holds of those of the entries after it
+-- what holds of the keys of all entries and of a batch holds of the keys after it
 pub all_keys-applied : (P : List ℕ → Type 0) (es : List MapEntry) (b : Batch) → AllByRecursion (λ e. P e.0) es → AllByRecursion (λ e. P e.0) b → AllByRecursion (λ e. P e.0) (applied es b)
 all_keys-applied P es b h k = all-applied (λ e. P e.0) es b h (put_keys P b k)
 
@@ -110,23 +111,23 @@ find-changed q k None es =
     find-where_key key_cmp (λ x. not (same_key k x)) q (λ x e. ap (λ x. not (same_key k x)) (sym (same_key-exact q x e))) es
     ∙ turned (same_key k q) (find key_cmp q es) None ∙ ap (λ b. cond b None (find key_cmp q es)) ((eq_by_cmp_equiv nat_list_cmp_total).symm k q)
 
--- what stands at a key after a batch is its last word
+-- the value of a key after a batch is what the batch's last change of it says, or what it was
 pub find-applied : (q : List ℕ) (es : List MapEntry) (b : Batch) → find key_cmp q (applied es b) ≡ said q b (find key_cmp q es)
 unfolding applied
 find-applied q es [] = refl
 find-applied q es (e ∷ b) = find-applied q (changed e.0 e.1 es) b ∙ ap (said q b) (find-changed q e.0 e.1 es)
 
--- no words change nothing
+-- a batch without changes changes nothing
 pub applied-none : (es : List MapEntry) → applied es [] ≡ es
 unfolding applied
 applied-none es = refl
 
--- a single word is a change
+-- a batch of one change is that change
 pub applied-word : (es : List MapEntry) (k : List ℕ) (v : Option (List ℕ)) → applied es ((k, v) ∷ []) ≡ changed k v es
 unfolding applied
 applied-word es k v = refl
 
--- what the words on some keys say
+-- the changes on some keys say of a key among them what all changes say
 said-part : (p : List ℕ → Bool) (q : List ℕ) (bs : Batch) (before : Option (List ℕ)) → said q (filter (λ e. p e.0) bs) (cond (p q) before None) ≡ cond (p q) (said q bs before) None
 said-part p q [] before = refl
 said-part p q (b ∷ bs) before =
@@ -145,7 +146,7 @@ said-part p q (b ∷ bs) before =
       ]
     ] refl
 
--- the entries on some keys, after a batch, are what the words on these keys make of those entries
+-- after a batch, the entries on some keys are those entries after the batch's changes on these keys
 pub filter-applied : (p : List ℕ → Bool) (es : List MapEntry) (b : Batch) → T (is_sorted key_cmp es) → filter (λ e. p e.0) (applied es b) ≡ applied (filter (λ e. p e.0) es) (filter (λ e. p e.0) b)
 filter-applied p es b sorted =
     let alike : (q x : List ℕ) → key_cmp q x ≡ Equal → p x ≡ p q = λ q x e. ap p (sym (same_key-exact q x e)) in

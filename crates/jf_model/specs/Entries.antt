@@ -1,4 +1,4 @@
--- Entries: where each is legal, and the state that it makes.
+-- Entries: when each is legal, and the state that it makes.
 use Rattle.std.specs.Prelude.{◌≡◌, ℕ, ◌+◌, ◌-◌, ◌<◌, ◌≤◌, ◌^◌, IsTrue, List, [], ◌∷◌, ◌++◌, length}
 use Rattle.std.proofs.Common.{refl}
 use Rattle.std.specs.FinMap as fin
@@ -19,7 +19,7 @@ abbrev pub landed_batches : State → Landing → List Batch
 landed_batches s (landing.Direct batch) = batch ∷ []
 landed_batches s (landing.Fork id) = batches (chain s.forks id)
 
--- the forks that stay
+-- the forks that stay after a landing
 abbrev pub forks_left : State → Landing → List Fork
 forks_left s (landing.Direct batch) = []
 forks_left s (landing.Fork id) = settled id s.forks
@@ -38,15 +38,18 @@ after (entry.Dropped owner fork) s = record s { count = s.count + 1; forks = wit
 after (entry.Retired owner bound floor) s = record s { count = s.count + 1; retired = bound; floor = floor }
 after (entry.Compacted owner generation) s = record s { count = s.count + 1; generation = generation }
 
+-- the state after entries, in turn
 unfoldable pub replay : State → List Entry → State
 replay s [] = s
 replay s (e ∷ es) = replay (after e s) es
 
 -- ---- legal entries
 
+-- the fork is live
 abbrev pub IsLive : State → ℕ → Type 0
 IsLive s id = IsTrue (is_among id s.forks)
 
+-- a fork may be made: it has the next number, a parent, and room among at most 1,024 live forks, and this is the root of its map
 pub record IsMaking (s : State) (fork : ℕ) (parent : Parent) (batch : Batch) (r : List ℕ) : Type 0 where
   pub next : fork ≡ s.made
   pub stands : IsTrue (is_parent parent s.forks)
@@ -54,12 +57,12 @@ pub record IsMaking (s : State) (fork : ℕ) (parent : Parent) (batch : Batch) (
   pub sound : IsBatch batch
   pub rooted : r ≡ root (apply (parent_map (newest s.all) s.forks parent) batch)
 
--- a batch, or a live fork whose chain has at most 10,000 keys
+-- what may land: a batch, or a live fork whose chain has at most 10,000 keys
 abbrev pub MayLand : State → Landing → Type 0
 MayLand s (landing.Direct batch) = IsBatch batch
 MayLand s (landing.Fork id) = IsLive s id × (key_count (batches (chain s.forks id)) ≤ 10000)
 
--- a landing starts from a map of at most 2^62 entries
+-- a landing starts from a map of at most 2^62 entries, and makes a version for each of its batches
 pub record IsLanding (s : State) (version : ℕ) (how : Landing) (r : List ℕ) : Type 0 where
   pub may : MayLand s how
   pub small : fin.len (newest s.all) ≤ 2 ^ 62
@@ -67,15 +70,18 @@ pub record IsLanding (s : State) (version : ℕ) (how : Landing) (r : List ℕ) 
   pub bounded : version ≤ 2 ^ 64 - 2
   pub rooted : r ≡ root (newest (versions_after s how))
 
+-- versions may be retired: neither bound nor floor falls, the bound is at most the head, and the floor at most the bound
 pub record IsRetiring (s : State) (bound floor : ℕ) : Type 0 where
   pub rises : s.retired ≤ bound
   pub within : bound ≤ s.all.head
   pub floor_rises : s.floor ≤ floor
   pub below : floor ≤ bound
 
+-- the next generation may be written
 abbrev pub IsCompacting : State → ℕ → Type 0
 IsCompacting s generation = (generation ≡ s.generation + 1) × (generation ≤ 2 ^ 64 - 2)
 
+-- an entry fits the state
 abbrev pub IsLegalStep : State → Entry → Type 0
 IsLegalStep s (entry.Made owner fork parent batch r) = IsMaking s fork parent batch r
 IsLegalStep s (entry.Landed owner version how r moment) = IsLanding s version how r
@@ -87,7 +93,7 @@ IsLegalStep s (entry.Compacted owner generation) = IsCompacting s generation
 abbrev pub IsLegal : State → Entry → Type 0
 IsLegal s e = (s.count < 2 ^ 62) × IsLegalStep s e
 
--- each entry is legal in turn
+-- the entries are legal in turn
 abbrev pub AreLegal : State → List Entry → Type 0
 AreLegal s [] = Unit {0}
 AreLegal s (e ∷ es) = IsLegal s e × AreLegal (after e s) es
@@ -103,18 +109,19 @@ moments_of (entry.Dropped owner fork ∷ es) = moments_of es
 moments_of (entry.Retired owner bound floor ∷ es) = moments_of es
 moments_of (entry.Compacted owner generation ∷ es) = moments_of es
 
--- each is above the one before
+-- each moment is above the one before, and the first is at least `low`
 abbrev pub RiseFrom : ℕ → List ℕ → Type 0
 RiseFrom low [] = Unit {0}
 RiseFrom low (m ∷ ms) = (low ≤ m) × RiseFrom (m + 1) ms
 
--- the whole of what a history must be: each entry legal in turn, each landing later than the one before it
+-- what a history must be: each entry legal in turn, each landing later than the one before it
 pub record IsHistory (s : State) (es : List Entry) : Type 0 where
   pub each : AreLegal s es
   pub moments : RiseFrom 0 (moments_of es)
 
 -- ---- what an entry names
 
+-- the number of the session that made the entry
 abbrev pub owner_of : Entry → ℕ
 owner_of (entry.Made owner fork parent batch r) = owner
 owner_of (entry.Landed owner version how r moment) = owner

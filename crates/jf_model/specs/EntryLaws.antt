@@ -1,4 +1,4 @@
--- Legal entries keep a state sound, and what a list of entries says of moments.
+-- Legal entries keep a state sound, and moments rise along a history.
 use Rattle.std.specs.Prelude.{◌≡◌, ℕ, ◌+◌, ◌<◌, ◌≤◌, Bool, true, false, cond, ◌||◌, ◌==◌, IsTrue, List, [], ◌∷◌, ◌++◌, length}
 use Rattle.std.proofs.Common.{refl, sym, ap, ◌∙◌, subst, arith}
 use Rattle.std.proofs.lemmas.Bool.{eqb-true}
@@ -39,7 +39,7 @@ both_false true false h = h
 both_false false true h = h
 both_false false false h = h
 
--- the test of a fork at the head of its own chain
+-- whether id is on the chain of a fork, by the fork's parent and its own id
 on_chain : (id : ℕ) (f : Fork) (fs : List Fork) (q : ℕ) → (f.id == q) ≡ true → is_among id (chain (f ∷ fs) q) ≡ (descends id fs f || (f.id == id))
 on_chain id f fs q e =
     ap (λ b. is_among id (cond b (of_parent [] (chain fs) f.parent ++ f ∷ []) (chain fs q))) e ∙ any_append (λ g. g.id == id) (of_parent [] (chain fs) f.parent) f
@@ -63,7 +63,7 @@ kept_later : (b : Bool) (q : ℕ) (g : Fork) (gs : List Fork) → is_among q gs 
 kept_later true q g gs h = h
 kept_later false q g gs h = ap (λ t. (g.id == q) || t) h ∙ or_right (g.id == q)
 
--- what stands on a fork stays when that fork lands
+-- a fork that stands on id stays when id lands
 among-settled : (id q : ℕ) (fs : List Fork) → is_among id (chain fs q) ≡ true → (q == id) ≡ false → is_among q (settled id fs) ≡ true
 among-settled id q [] h apart = h
 among-settled id q (f ∷ fs) h apart = elim (f.id == q) as (λ b. (f.id == q) ≡ b → is_among q (settled id (f ∷ fs)) ≡ true) [
@@ -74,7 +74,7 @@ among-settled id q (f ∷ fs) h apart = elim (f.id == q) as (λ b. (f.id == q) �
   | false ↦ λ off. later_among (descends id fs f) q (on_head id f) (settled id fs) (among-settled id q fs (sym (off_chain id f fs q off) ∙ h) apart)
 ] refl
 
--- what doesn't stand on a fork stays when that fork is dropped
+-- a fork that doesn't stand on id stays when id is dropped
 among-without : (id q : ℕ) (fs : List Fork) → is_among q fs ≡ true → is_among id (chain fs q) ≡ false → is_among q (without id fs) ≡ true
 among-without id q [] among h = among
 among-without id q (f ∷ fs) among h = elim (f.id == q) as (λ b. (f.id == q) ≡ b → is_among q (without id (f ∷ fs)) ≡ true) [
@@ -86,7 +86,7 @@ among-without id q (f ∷ fs) among h = elim (f.id == q) as (λ b. (f.id == q) �
 truth : (b : Bool) → IsTrue b → b ≡ true
 truth b h = h
 
--- a parent that stays, with the head in place of what landed
+-- a parent that stays is a parent after the landing, with the head in place of the fork that landed
 parent-settled : (id : ℕ) (fs : List Fork) (p : Parent) → is_among id (of_parent [] (chain fs) p) ≡ true → IsTrue (is_parent (of_parent parent.Head (λ q. cond (q == id) parent.Head (parent.Fork q)) p) (settled id fs))
 parent-settled id fs parent.Head h = refl
 parent-settled id fs (parent.Fork q) h = elim (q == id) as (λ b. (q == id) ≡ b → IsTrue (is_parent (cond b parent.Head (parent.Fork q)) (settled id fs))) [
@@ -218,7 +218,7 @@ pub replay-push : (s : State) (es : List Entry) (e : Entry) → replay s (es ++ 
 unfolding replay
 replay-push s es e = replay-append s es (e ∷ [])
 
--- how many entries there were
+-- an entry adds 1 to the number of entries
 pub after-count : (e : Entry) (s : State) → (after e s).count ≡ s.count + 1
 unfolding after
 after-count (entry.Made owner fork p batch r) s = refl
@@ -234,7 +234,7 @@ replay-count s (e ∷ es) = let one = after-count e s in let more = replay-count
 
 -- ---- moments
 
--- a moment makes no difference to the state, nor to what is legal
+-- the state after an entry doesn't depend on the entry's moment
 pub after-at_moment : (t : ℕ) (e : Entry) (s : State) → after (at_moment t e) s ≡ after e s
 unfolding after
 after-at_moment t (entry.Made owner fork p batch r) s = refl
@@ -250,7 +250,7 @@ legal-at_moment t (entry.Dropped owner fork) s h = h
 legal-at_moment t (entry.Retired owner bound floor) s h = h
 legal-at_moment t (entry.Compacted owner generation) s h = h
 
--- the least moment that may follow
+-- the least moment that may follow moments
 abbrev pub above : ℕ → List ℕ → ℕ
 above low [] = low
 above low (m ∷ ms) = above (m + 1) ms
@@ -271,7 +271,7 @@ pub RiseFrom-lower : (low high : ℕ) (ms : List ℕ) → low ≤ high → RiseF
 RiseFrom-lower low high [] le h = tt
 RiseFrom-lower low high (m ∷ ms) le h = let first = h.0 in (omega arith, h.1)
 
--- each moment of a rising list is below what may follow
+-- if all moments of a rising list are below t, the least that may follow is at most t
 pub above-all : (low t : ℕ) (ms : List ℕ) → RiseFrom low ms → low ≤ t → AllByRecursion (λ m. m < t) ms → above low ms ≤ t
 above-all low t [] h le all = le
 above-all low t (m ∷ ms) h le all = let below = all.0 in above-all (m + 1) t ms h.1 (omega arith) all.1
@@ -295,7 +295,7 @@ IsHistory-append s es fs h legal later = record {
   moments = subst (RiseFrom 0) (sym (moments_of-append es fs)) (RiseFrom-append 0 (moments_of es) (moments_of fs) h.moments later);
 }
 
--- a landing's moment has to be above those before it
+-- a history goes on with a legal entry whose moment is above those before it
 pub IsHistory-push : (s : State) (es : List Entry) (e : Entry) → IsHistory s es → IsLegal (replay s es) e → RiseFrom (above 0 (moments_of es)) (moments_of (e ∷ [])) → IsHistory s (es ++ e ∷ [])
 IsHistory-push s es e h legal later = IsHistory-append s es (e ∷ []) h (legal, tt) later
 

@@ -1,4 +1,4 @@
--- What the steps of a path come to, and what the list of nodes holds.
+-- Whether there is a node at a path, by the whole path; and what the list of nodes holds.
 use Rattle.std.specs.Prelude.{◌≡◌, ℕ, zero, suc, ◌+◌, Bool, true, false, cond, ◌&&◌, List, [], ◌∷◌, ◌++◌, map, filter, flat_map}
 use Rattle.std.proofs.Common.{refl, ap, ◌∙◌}
 use Rattle.std.specs.List.{AllByRecursion}
@@ -11,7 +11,7 @@ up [] = []
 up (i ∷ []) = []
 up (i ∷ j ∷ p) = i ∷ up (j ∷ p)
 
--- the top, or a path with an entry below it, and two below its parent
+-- there is a node at the top, and at a path with an entry below it and two below its parent
 abbrev pub is_node_at : ℕ → Path → Part → Bool
 is_node_at d [] es = true
 is_node_at d (i ∷ p) es = has_two (under d (up (i ∷ p)) es) && has_one (under d (i ∷ p) es)
@@ -56,7 +56,7 @@ both_true : (a b : Bool) → a ≡ true → b ≡ true → (a && b) ≡ true
 both_true true b p q = q
 both_true false b p q = p
 
--- the steps come to what the whole path says
+-- going down step by step finds a node exactly if the whole path has one
 pub is_node-is_node_at : (d : ℕ) (p : Path) (es : Part) → is_node d p es ≡ is_node_at d p es
 unfolding is_node under
 is_node-is_node_at d [] es = refl
@@ -70,7 +70,7 @@ is_node-is_node_at d (i ∷ j ∷ p) es =
 
 -- ---- the list of nodes
 
--- a pair that stands where it says
+-- a pair of the list names a node, with the entries under it
 abbrev pub IsListed : ℕ → Part → Path × Part → Type 0
 IsListed d es x = (x.1 ≡ under d x.0 es) × (is_node d x.0 es ≡ true)
 

@@ -1,4 +1,4 @@
--- The state of a run.
+-- The state of a run: what its entries have made so far.
 use Rattle.std.specs.Prelude.{◌≡◌, ℕ, ◌≤◌, List, [], ◌∷◌, length, take}
 use Rattle.std.proofs.Common.{refl, ap, sym, ◌∙◌, le_refl}
 use Rattle.std.specs.List.{AllByRecursion}
@@ -6,7 +6,7 @@ use Rattle.jf_hash.specs.Maps.{IsBatch}
 use Rattle.jf_model.specs.Versions.{Versions, IsVersions, pruned}
 use Rattle.jf_model.specs.Forks.{Fork, AreForks}
 
--- All versions from the floor at opening on, of which none is dropped; the present floor; and what the files don't hold:
+-- All versions from the floor at opening on, which are never dropped; the present floor; and what the files don't hold:
 -- the retired bound, the number of entries, of forks made, and the live forks.
 pub record State : Type 0 where
   pub all : Versions
@@ -25,6 +25,7 @@ versions s = pruned s.floor s.all
 abbrev pub opened : Versions → ℕ → State
 opened v g = record { all = v; floor = v.floor; retired = v.floor; generation = g; count = 0; made = 0; forks = [] }
 
+-- a sound state: its versions and forks are sound, and floor, retired bound and head stand in this order
 pub record IsState (s : State) : Type 0 where
   pub sound : IsVersions s.all
   pub first : s.all.floor ≤ s.floor
@@ -44,6 +45,6 @@ pub versions-opened : (v : Versions) (g : ℕ) → IsVersions v → versions (op
 versions-opened v g sound =
     ap (λ ms. record { base = v.base; floor = v.floor; head = v.head; roots = v.roots; maps = ms }) (ap (λ n. take n v.maps) (sym sound.map_each) ∙ take-all v.maps)
 
--- and is sound
+-- the state of a store that was opened is sound
 pub opened-IsState : (v : Versions) (g : ℕ) → IsVersions v → IsState (opened v g)
 opened-IsState v g sound = record { sound = sound; first = le_refl v.floor; floor_low = le_refl v.floor; retired_low = sound.floor_first; live = tt; batches = tt }

@@ -1,10 +1,11 @@
--- The code of versions, by which a value that holds them is stored.
+-- How versions are coded, so that a value that holds them can be stored.
 use Rattle.std.specs.Prelude.{ℕ, List, refl}
 use Rattle.std.specs.Coded.{Coded, code_by, coded×, coded_ℕ, coded_list}
 use Rattle.jf_hash.specs.Codes.{bytes_code, map_code}
 use Rattle.jf_hash.specs.Maps.{Map}
 use Rattle.jf_model.specs.Versions.{Versions}
 
+-- versions coded as base, floor, head, roots and maps
 abbrev pub versions_code : Coded Versions
 versions_code =
     code_by (ℕ × (ℕ × (ℕ × (List (List ℕ) × List Map)))) (coded× coded_ℕ (coded× coded_ℕ (coded× coded_ℕ (coded× (coded_list bytes_code) (coded_list map_code)))))

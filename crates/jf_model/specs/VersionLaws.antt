@@ -1,4 +1,4 @@
--- Versions stay sound, and what landings, prunings and a landing taken back leave.
+-- Versions stay sound after a landing, a landing taken back and a pruning, and what each of them changes.
 use Rattle.std.specs.Prelude.{◌≡◌, ℕ, zero, suc, ◌+◌, ◌-◌, ◌<◌, ◌≤◌, List, [], ◌∷◌, ◌++◌, map, take, drop, length, slice_index_or}
 use Rattle.std.proofs.Common.{refl, sym, ap, ◌∙◌, subst, arith}
 use Rattle.std.specs.List.{AllByRecursion}

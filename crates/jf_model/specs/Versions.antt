@@ -1,4 +1,4 @@
--- What the files of a store stand for.
+-- The versions of a store, as its files hold them.
 use Rattle.std.specs.Prelude.{◌≡◌, ℕ, ◌+◌, ◌-◌, ◌≤◌, List, [], ◌∷◌, map, take, drop, length, slice_index_or}
 use Rattle.std.specs.List.{AllByRecursion}
 use Rattle.std.specs.FinMap as fin
@@ -40,17 +40,17 @@ map_of v w = slice_index_or v.maps (v.head - w) fin.empty
 abbrev pub root_of : Versions → ℕ → List ℕ
 root_of v w = slice_index_or v.roots (v.head - w) []
 
--- one version more
+-- one more version: the head's map after a batch
 abbrev pub landed : Batch → Versions → Versions
 landed b v =
     let m = apply (newest v) b in
     record { base = v.base; floor = v.floor; head = v.head + 1; roots = root m ∷ v.roots; maps = m ∷ v.maps }
 
--- without the newest version
+-- the versions without the newest one
 abbrev pub unlanded : Versions → Versions
 unlanded v = record { base = v.base; floor = v.floor; head = v.head - 1; roots = drop 1 v.roots; maps = drop 1 v.maps }
 
--- a version for each batch, in turn
+-- one more version for each batch, in turn
 abbrev pub land_all : List Batch → Versions → Versions
 land_all [] v = v
 land_all (b ∷ bs) v = land_all bs (landed b v)
@@ -59,6 +59,6 @@ land_all (b ∷ bs) v = land_all bs (landed b v)
 abbrev pub pruned : ℕ → Versions → Versions
 pruned floor v = record { base = v.base; floor = floor; head = v.head; roots = v.roots; maps = take (v.head - floor + 1) v.maps }
 
--- one version with one map
+-- a single version, with one map
 abbrev pub imported : ℕ → Map → Versions
 imported version m = record { base = version; floor = version; head = version; roots = root m ∷ []; maps = m ∷ [] }

@@ -1,4 +1,4 @@
-// The events of a run.
+// The entries of a run: what each event records.
 use jf_split::Batch;
 
 /// What a fork stands on: the head, or another fork by its number.
@@ -34,7 +34,7 @@ pub enum Entry {
         root: [u8; 32],
         moment: u64,
     },
-    /// A fork was dropped, and what stands on it.
+    /// A fork was dropped, with all forks that stand on it.
     Dropped {
         owner: u64,
         fork: u64,

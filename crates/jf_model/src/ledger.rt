@@ -1,4 +1,4 @@
-// The events of a run, in order.
+// The ledger: the list of entries that a run keeps.
 ghost use Rattle.std.specs.Prelude.{◌≡◌, [], ◌∷◌, ◌++◌, length, OnOk, OnErr};
 
 use crate::entries::Entry;
@@ -6,7 +6,7 @@ use jf_path::Memory;
 use std::alloc::Global;
 use std::marker::Model;
 
-/// The events of a run, in order.
+/// The entries of a run, in the order in which they were made.
 #[derive(Debug, Drop)]
 pub struct Ledger {
     entries: Vec<Entry>,
@@ -22,7 +22,7 @@ impl Model for Ledger {
 }
 
 impl Ledger {
-    /// No event.
+    /// A ledger of no entries.
     pub fn new(alloc: Global) -> Ledger
         ensures { result ≡ [] }
     {
@@ -31,28 +31,28 @@ impl Ledger {
         }
     }
 
-    /// These events, the first one first. It takes no memory.
+    /// The ledger of these entries, the first one first. It takes no memory.
     pub fn of(entries: Vec<Entry>) -> Ledger
         ensures { result ≡ entries.items }
     {
         Ledger { entries }
     }
 
-    /// How many there are.
+    /// The number of entries.
     pub fn len(&self) -> u64
         ensures { result ≡ length self.now }
     {
         self.entries.len() as u64
     }
 
-    /// The events, the first one first.
+    /// The entries, the first one first.
     pub fn as_slice(&self) -> &[Entry]
         ensures { result.now ≡ self.now }
     {
         &self.entries
     }
 
-    /// Adds an event at the end. A refusal drops the event.
+    /// Appends an entry. If it is out of memory, the ledger is unchanged and the entry is dropped.
     pub fn push(&mut self, entry: Entry) -> Result<(), Memory>
         ensures ok { OnOk result (self.new ≡ self.old ++ entry ∷ []) }
         ensures err { OnErr result (self.new ≡ self.old) }

@@ -1,5 +1,5 @@
-//! The plain world, and the data that it speaks of: `specs/` has versions, forks, states and entries over plain
-//! maps, without nodes, files or threads.
+//! Versions, forks, states and entries over plain maps, without nodes, files or threads: `specs/` defines them, and the
+//! code has the list of a run's entries.
 #![tactic(auto)]
 
 mod entries;

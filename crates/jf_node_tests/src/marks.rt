@@ -1,10 +1,10 @@
-// That calls succeed, and the order in which marks are taken.
+// Marks of stale nodes: that calls succeed, and the order in which marks are taken.
 use jf_path::{NibblePath, NodeName};
 use jf_stale::StaleIndex;
 use std::alloc::Global;
 use std::test::Fail;
 
-// The bytes of the paths of no nibble, of 3, of 3 and 0, and of 4.
+// The bytes of four paths: of no nibble, of 3, of 3 and 0, and of 4.
 const ROOT: &[u8] = &[0];
 
 const THREE: &[u8] = &[1, 0x30];
@@ -33,7 +33,7 @@ const ORDERS: &[[usize; 8]] = &[
     [5, 4, 2, 0, 7, 1, 6, 3],
 ];
 
-// A floor, since when the mark is that is taken up to it, and how many marks are left.
+// A floor, the version since which the mark taken up to it is stale, and how many marks remain.
 const FLOORS: &[(u64, Option<u64>, u64)] = &[
     (0, None, 3),
     (4, None, 3),
@@ -45,7 +45,7 @@ const FLOORS: &[(u64, Option<u64>, u64)] = &[
     (u64::MAX, None, 0),
 ];
 
-// The place of a mark, and whether it is found when it is taken away.
+// The place of a mark, and whether the mark is found when it is taken away.
 const TAKEN_AWAY: &[(usize, bool)] = &[(0, false), (2, false), (4, true), (4, false), (6, false)];
 
 fn mark_of(at: usize) -> Result<(u64, NodeName), Fail> {
@@ -67,13 +67,13 @@ fn mark_all(index: &mut StaleIndex, places: &[usize]) -> Result<(), Fail> {
     Ok(())
 }
 
-// Whether the mark that is taken up to a floor is this one.
+// Whether the mark taken up to a floor is this one.
 fn takes(index: &mut StaleIndex, floor: u64, at: usize) -> Result<bool, Fail> {
     let wanted = mark_of(at)?;
     Ok(index.take_upto(floor) == Some(wanted))
 }
 
-// Whether the marks are taken in their order, and then none.
+// Whether the marks are taken in their order, and nothing is taken after them.
 fn takes_all(index: &mut StaleIndex) -> Result<bool, Fail> {
     for at in 0..8 {
         if !takes(index, u64::MAX, at)? {
@@ -83,7 +83,7 @@ fn takes_all(index: &mut StaleIndex) -> Result<bool, Fail> {
     Ok(index.take_upto(u64::MAX).is_none())
 }
 
-// Whether marks that are made in an order are taken in theirs.
+// Whether marks made in an order of `ORDERS` are taken in their own.
 fn are_taken_in_order(alloc: Global, order: &[usize]) -> Result<bool, Fail> {
     let mut index = StaleIndex::new(alloc);
     mark_all(&mut index, order)?;
@@ -108,7 +108,7 @@ fn since_three(alloc: Global, name: &NodeName) -> Result<StaleIndex, Fail> {
     Ok(index)
 }
 
-// Whether what is taken up to a floor is the name since that version, or nothing, and so many marks are left.
+// Whether just that is taken up to a floor, the name since a version or nothing, and so many marks remain.
 fn leaves(
     index: &mut StaleIndex,
     name: &NodeName,
@@ -124,7 +124,7 @@ fn leaves(
     same && index.len() == left
 }
 
-// How many floors are as they should be, one after another, before one that isn't.
+// How many floors come out as expected before the first that doesn't.
 fn floors(index: &mut StaleIndex, name: &NodeName) -> usize {
     for (i, (floor, taken, left)) in FLOORS.iter().enumerate() {
         if !leaves(index, name, *floor, *taken, *left) {
@@ -148,7 +148,7 @@ fn is_found(index: &mut StaleIndex, at: usize) -> Result<bool, Fail> {
     Ok(index.unmark(since, &name))
 }
 
-// How many marks are found or not as they should be, one after another, before one that isn't.
+// How many marks are found or missed as expected before the first that isn't.
 fn found(index: &mut StaleIndex) -> Result<usize, Fail> {
     for (i, (at, there)) in TAKEN_AWAY.iter().enumerate() {
         if is_found(index, *at)? != *there {
@@ -158,7 +158,7 @@ fn found(index: &mut StaleIndex) -> Result<usize, Fail> {
     Ok(TAKEN_AWAY.len())
 }
 
-// Whether the marks 1 and 5 are taken, and no other is there.
+// Whether the marks 1 and 5 are taken, and no other mark is there.
 fn has_two(index: &mut StaleIndex) -> Result<bool, Fail> {
     let both = takes(index, 2, 1)? && takes(index, 2, 5)?;
     Ok(both && index.len() == 0)

@@ -1,4 +1,4 @@
-// Links, children and snapshots, of which the roots are compared with those that the definition gives.
+// Links, children and snapshots, whose roots are compared with those that the definition gives.
 ghost use Rattle.std.specs.Prelude.{◌≡◌, ℕ, ◌+◌, ◌≤◌, ◌<◌, [], ◌∷◌, length, IfOk, Some};
 ghost use Rattle.jf_path.specs.Nibbles.{nibble};
 ghost use Rattle.jf_node.specs.Children.{joined, FitFrom, FitsAt, leaf_value};
@@ -12,10 +12,10 @@ use std::test::Fail;
 
 const LOW: Key = [0x10; 32];
 
-// It has the first nibble of `LOW` alone.
+// A key that has only the first nibble of `LOW`.
 const NEAR: Key = [0x1f; 32];
 
-// It has the first 63 nibbles of `LOW`.
+// A key that has the first 63 nibbles of `LOW`.
 const LAST: Key = [
     0x10, 0x10, 0x10, 0x10, 0x10, 0x10, 0x10, 0x10, 0x10, 0x10, 0x10, 0x10, 0x10, 0x10, 0x10, 0x10,
     0x10, 0x10, 0x10, 0x10, 0x10, 0x10, 0x10, 0x10, 0x10, 0x10, 0x10, 0x10, 0x10, 0x10, 0x10, 0x11,
@@ -99,7 +99,7 @@ fn has(link: &Link, key: &Key, bytes: &[u8]) -> bool {
     }
 }
 
-// The same node over the same children.
+// A node made again over the same children.
 fn again(alloc: Global, link: &Link, changed: &[bool; 16]) -> Result<Link, Memory>
     ensures { IfOk result (λ x. (x.entries ≡ link.now.entries) × (x.depth ≡ link.now.depth)) }
 {
@@ -169,7 +169,7 @@ fn a_node_is_made_again(rt: HostRuntime) -> Result<(), Fail> {
     Ok(())
 }
 
-// Whether a leaf has moved to the bottom, to version 2, with its hash.
+// Whether a leaf has moved to the bottom, in version 2, with its hash.
 fn has_moved(leaf: &Link, moved: &Link) -> bool {
     moved.hash() == leaf.hash() && moved.version() == 2 && moved.depth() == 64
 }
@@ -241,7 +241,7 @@ fn links_and_what_holds_them_pass_between_threads(_rt: HostRuntime) -> Result<()
     Ok(())
 }
 
-// Whether the first four halves of a node, by the bits 0001, leave both entries, and the next parts them.
+// Whether four halves taken by the bits 0001 still have both entries, and the next halves have one each.
 fn fall_apart(link: &Link) -> bool
     requires { link.now.depth ≡ 0 }
 {
@@ -253,7 +253,7 @@ fn fall_apart(link: &Link) -> bool
         && near.get(&LOW).is_none()
 }
 
-// Whether a range that is kept, and kept once more, has the hash of its node.
+// Whether a range that is shared twice has the hash of its node.
 fn is_kept(link: &Link) -> Result<bool, Memory> {
     let kept = Range::of(link).share()?;
     let again = kept.share()?;

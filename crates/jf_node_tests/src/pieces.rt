@@ -1,4 +1,4 @@
-// Answers stand in the order of their pieces, and the gate is told of each piece before it is worked.
+// Results stand in the order of their pieces, and the gate is called for each piece before it is worked.
 ghost use Rattle.std.specs.Prelude.{◌≤◌};
 
 use jf_join::{FreeGate, Gate, join_pieces};
@@ -8,7 +8,7 @@ use std::sync::atomic::Ordering::SeqCst;
 use std::test::Fail;
 use std::thread::Threads;
 
-// Counts how often it was told of each of four pieces.
+// Counts how often it was called for each of four pieces.
 #[derive(Drop)]
 struct Counting {
     told: [AtomicU64; 4],
@@ -44,7 +44,7 @@ impl Gate for Counting {
     fn session(&self, _number: u64) {}
 }
 
-// The square of each piece, and how often the gate had been told of it by then.
+// The square of each piece, and how often the gate had been called for it by then.
 fn squares<H: Threads + Sync>(
     rt: &H,
     alloc: Global,
@@ -65,7 +65,7 @@ fn squares<H: Threads + Sync>(
     Ok(answers)
 }
 
-// Whether the answers for four pieces stand in their order.
+// Whether the results for four pieces stand in their order.
 fn keep_order<H: Threads + Sync>(rt: &H, alloc: Global, workers: u64) -> Result<bool, Fail> {
     if workers == 0 || workers > 64 {
         return Ok(false);
@@ -88,7 +88,7 @@ fn no_piece_has_no_answer(rt: HostRuntime) -> Result<(), Fail> {
     Ok(())
 }
 
-// The opposite of each piece, behind a gate that holds nothing.
+// The opposite of each piece, with a gate that holds nothing back.
 fn opposites<H: Threads + Sync>(rt: &H, alloc: Global, pieces: &[bool]) -> Result<Vec<bool>, Fail> {
     FreeGate.session(7);
     let answers = join_pieces(rt, alloc, pieces, 2, &FreeGate, &|piece: &bool| !*piece)?;

@@ -1,4 +1,4 @@
--- The versions that are kept: what stands where, and that they stay sound.
+-- The versions that are kept: at which place each stands, and that they stay sound.
 use Rattle.std.proofs.Common.{◌≡◌, ℕ, ◌+◌, ◌-◌, ◌<◌, ◌≤◌, ◌^◌, List, [], ◌∷◌, ◌++◌, length, map, reverse, get_or, sym, ap, ◌∙◌, subst, arith, length-append}
 use Rattle.std.proofs.lemmas.List.{reverse-append, get_or-reverse, get_or-map, length-reverse}
 use Rattle.std.specs.FinMap as fin
@@ -9,7 +9,7 @@ use Rattle.jf_model.specs.VersionLaws.{new_store-IsVersions, landed_map-IsVersio
 use Rattle.jf_plain.specs.declared.versions.Version.{Version}
 use Rattle.jf_plain.specs.Kept.{kept, AreKept}
 
--- a version on top
+-- the versions of a list with one more version
 pub kept-push : (vs : List Version) (x : Version) → 0 < length vs → kept (vs ++ x ∷ []) ≡ record { base = 0; floor = 0; head = length vs - 1 + 1; roots = x.root ∷ map (λ v. v.root) (reverse vs); maps = x.map ∷ map (λ v. v.map) (reverse vs) }
 kept-push vs x some =
     let long : length (vs ++ x ∷ []) - 1 ≡ length vs - 1 + 1 = omega (arith, length-append vs (x ∷ [])) in
@@ -33,7 +33,7 @@ are-landed vs x v b h is made rooted sound low =
       sound = subst IsVersions (sym (kept-landed vs x v b some is made rooted)) (landed_map-IsVersions b v (subst IsVersions is h.sound) (subst IsMap made sound));
     }
 
--- the first one
+-- the versions of a list of one are a new store
 pub kept-one : (vs ws : List Version) (x : Version) → ws ≡ [] → vs ≡ ws ++ x ∷ [] → x.map ≡ fin.empty → x.root ≡ root x.map → kept vs ≡ new_store
 kept-one vs ws x none is empty rooted =
     ap kept (is ∙ ap (λ us. us ++ x ∷ []) none) ∙ ap (λ n. record { base = 0; floor = 0; head = 0; roots = n ∷ []; maps = x.map ∷ [] }) rooted ∙ ap (λ m. record { base = 0; floor = 0; head = 0; roots = root m ∷ []; maps = m ∷ [] }) empty

@@ -1,4 +1,4 @@
--- A batch goes into entries key by key: those below the key stay, what stands at the key goes, and what is put comes.
+-- Merging a batch into entries, key by key: the entries below the key stay, the one with the key goes, and what is put comes.
 use Rattle.std.proofs.Common.{◌≡◌, ℕ, zero, suc, ◌+◌, ◌-◌, ◌<◌, ◌≤◌, Bool, true, false, not, cond, ◌&&◌, List, [], ◌∷◌, ◌++◌, length, get_or, take, drop, refl, sym, ap, ◌∙◌, subst, arith, T, Less, Equal, Greater, Ordering, is_lt, is_eq, Option, None, Some, append_assoc, append-nil, add-one, zero-add, length-drop, drop-cons}
 use Rattle.std.proofs.lemmas.List.{take_all}
 use Rattle.std.specs.Ordering.{ordering_reverse}
@@ -38,12 +38,12 @@ so_less o h = subst (λ r. T (is_lt r)) (sym h) tt
 greater_so : (a b : List ℕ) → key_cmp a b ≡ Less → key_cmp b a ≡ Greater
 greater_so a b h = nat_list_cmp_total.antisymm b a ∙ ap ordering_reverse h
 
--- a word on a later key leaves the first entry
+-- a change of a later key leaves the first entry unchanged
 changed-later : (k : List ℕ) (v : Option (List ℕ)) (e : MapEntry) (es : List MapEntry) → key_cmp e.0 k ≡ Less → changed k v (e ∷ es) ≡ e ∷ changed k v es
 changed-later k (Some v) e es lt = ap (λ r. by_order r ((k, v) ∷ e ∷ es) ((e.0, v) ∷ es) (e ∷ put key_cmp k v es)) (greater_so e.0 k lt)
 changed-later k None e es lt = ap (λ r. cond (not (is_eq r)) (e ∷ changed k None es) (changed k None es)) (greater_so e.0 k lt)
 
--- and so does a batch of later keys
+-- a batch of later keys leaves the first entry unchanged
 applied-later : (e : MapEntry) (es : List MapEntry) (bs : Batch) → T (below_all key_cmp e.0 bs) → applied (e ∷ es) bs ≡ e ∷ applied es bs
 unfolding applied
 applied-later e es [] below = refl
@@ -66,7 +66,7 @@ drop-nil : (n : ℕ) → drop {A = MapEntry} n [] ≡ []
 drop-nil zero = refl
 drop-nil (suc n) = refl
 
--- nothing is removed from entries of later keys
+-- a removal changes nothing of entries with later keys
 none_removed : (k : List ℕ) (es : List MapEntry) → T (below_all key_cmp k es) → changed k None es ≡ es
 none_removed k [] h = refl
 none_removed k (e ∷ es) h =
@@ -104,7 +104,7 @@ changed-here k v (suc n) (e ∷ es) sorted below at =
 later_count : (k : List ℕ) (e : MapEntry) (es : List MapEntry) (i : ℕ) → IsCountBelow k (e ∷ es) (suc i) → IsCountBelow k es i
 later_count k e es i h = record { within = let w = h.within in omega arith; before = λ j d lt. h.before (suc j) d (omega arith); next = λ d lt. h.next d (omega arith) }
 
--- the entries below the next key, what is put there, and the rest of the batch on the entries behind it
+-- a batch gives the entries below its next key, what it puts there, and then what its rest makes of the entries after them
 pub applied-step : (es : List MapEntry) (k : List ℕ) (v : Option (List ℕ)) (bs : Batch) (i n : ℕ) → T (is_sorted key_cmp es) → T (is_sorted key_cmp ((k, v) ∷ bs)) → IsCountBelow k es i → IsCountAt k (drop i es) n
     → applied es ((k, v) ∷ bs) ≡ take i es ++ with_put k v (applied (drop n (drop i es)) bs)
 unfolding applied
@@ -159,7 +159,7 @@ drop_all (suc j) (b ∷ bs) h = drop_all j bs (omega arith)
 back : (i n : ℕ) → i + n - i ≡ n
 back i n = omega arith
 
--- where the entries of one turn stand
+-- one turn of the merge, by the places that it has reached in the entries and in the batch
 pub record IsTurn (es : List MapEntry) (bs : Batch) (i j : ℕ) (item : List ℕ × Option (List ℕ)) (below at : ℕ) : Type 0 where
   pub entries : T (is_sorted key_cmp es)
   pub batch : T (is_sorted key_cmp bs)
@@ -193,7 +193,7 @@ turn-whole es bs i j item below at xs ys zs whole t copied put was =
     ap (λ l. l ++ later) (put ∙ ap (λ l. l ++ with_put item.0 item.1 []) (copied ∙ ap (λ n. xs ++ take n rest) (back i below)))
     ∙ put_behind item.0 item.1 (xs ++ take below rest) later ∙ append_assoc xs (take below rest) (with_put item.0 item.1 later) ∙ ap (λ l. xs ++ l) (sym step) ∙ was
 
--- what is left when the batch is through
+-- after the last key of the batch, the rest of the entries follows
 pub turn-last : (es : List MapEntry) (bs : Batch) (i j : ℕ) (xs ys : List MapEntry) → length bs ≤ j → ys ≡ xs ++ take (length es - i) (drop i es) → xs ++ applied (drop i es) (drop j bs) ≡ applied es bs → ys ≡ applied es bs
 turn-last es bs i j xs ys through copied was =
     copied ∙ ap (λ l. xs ++ l) (all_behind i es) ∙ ap (λ l. xs ++ l) (sym (applied-none (drop i es) (drop j bs) (drop_all j bs through))) ∙ was

@@ -1,4 +1,4 @@
--- Where a key stands in entries in the order of their keys.
+-- The place of a key in entries in the order of their keys.
 use Rattle.std.proofs.Common.{◌≡◌, ℕ, zero, suc, ◌<◌, ◌≤◌, Bool, true, false, cond, ◌&&◌, ◌⊎◌, inl, inr, List, [], ◌∷◌, length, get_or, refl, sym, ap, ◌∙◌, subst, arith, T, Less, Equal, Greater, Ordering, is_lt, is_eq, None, Some, Result, Ok, Err, le_refl, ltb}
 use borrow.Author.Tests.{ltb-true, ltb-false}
 use Rattle.std.specs.Result.{result_ok}
@@ -76,7 +76,7 @@ same_place i j le = elim (ltb i j) as (λ b. ltb i j ≡ b → (i < j) ⊎ (i �
   | false ↦ λ is. inr (let h = ltb-false i j is in omega arith)
 ] refl
 
--- the answers of a search rise
+-- the results of comparing each entry with a key don't decrease
 steady : (q : List ℕ) (es : List Entry) → T (is_sorted key_cmp es) → IsNonDecreasingBy (λ (e : Entry). ordering_index (key_cmp e.0 q)) es
 steady q es sorted i j d le short = elim (same_place i j le) [
   | inl lt ↦ behind _ _ q (rising es i j d sorted lt short)
@@ -103,7 +103,7 @@ around q es i cut k d lt same = elim (ltb k i) as (λ b. ltb k i ≡ b → ⊥) 
   | false ↦ λ is. greater_not_equal (sym (cut.1 k d (let h = ltb-false k i is in omega arith) lt) ∙ same)
 ] refl
 
--- what a binary search answers
+-- a binary search returns the place of the key
 pub placed : (q : List ℕ) (es : List Entry) (r : Result ℕ ℕ) → T (is_sorted key_cmp es) → IsSearchInRange r (length es) → IsBinarySearchResult (λ (e : Entry). key_cmp e.0 q) es r → IsPlaceOf q es (result_ok r)
 placed q es (Ok i) sorted lt at = (lt, λ d. found q es i d sorted lt (at d))
 placed q es (Err i) sorted le cut = missing q es (around q es i (cut (steady q es sorted)))

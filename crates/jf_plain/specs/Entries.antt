@@ -7,7 +7,7 @@ use Rattle.std.specs.FinMap.{is_sorted, entries, find}
 use Rattle.jf_path.specs.Keys.{key_cmp, IsKey, IsBytes}
 use Rattle.jf_hash.specs.Maps.{Map}
 
--- keys that rise strictly, and values of at most 4,096 bytes
+-- entries of a plain map: keys that ascend strictly, and values of at most 4,096 bytes
 pub record AreEntries (es : List (List ℕ × List ℕ)) : Type 0 where
   pub sorted : T (is_sorted key_cmp es)
   pub sound : AllByRecursion (λ e. IsKey e.0 × IsBytes e.1) es
@@ -17,7 +17,7 @@ pub record AreEntries (es : List (List ℕ × List ℕ)) : Type 0 where
 abbrev pub map_of_entries : List (List ℕ × List ℕ) → Map
 map_of_entries es = fin.from_sorted es
 
--- where a key stands: among entries its value stands there, or it has none
+-- the place of a key among entries, at which its value stands, or none if no entry has the key
 abbrev pub IsPlaceOf : List ℕ → List (List ℕ × List ℕ) → Option ℕ → Type 0
 IsPlaceOf key es r = MatchOption r (find key_cmp key es ≡ None) (λ i. (i < length es) × ((d : List ℕ × List ℕ) → find key_cmp key es ≡ Some (slice_index_or es i d).1))
 
@@ -27,14 +27,14 @@ pub record IsCountBelow (key : List ℕ) (es : List (List ℕ × List ℕ)) (i :
   pub before : (k : ℕ) (d : List ℕ × List ℕ) → k < i → key_cmp (slice_index_or es k d).0 key ≡ Less
   pub next : (d : List ℕ × List ℕ) → i < length es → key_cmp (slice_index_or es i d).0 key ≡ Less → ⊥
 
--- how many at the front have this key: one or none
+-- how many entries at the front have this key: 0 or 1
 pub record IsCountAt (key : List ℕ) (es : List (List ℕ × List ℕ)) (n : ℕ) : Type 0 where
   pub one : n ≤ 1
   pub within : n ≤ length es
   pub same : (d : List ℕ × List ℕ) → 0 < n → key ≡ (slice_index_or es 0 d).0
   pub other : (d : List ℕ × List ℕ) → 0 < length es → n ≡ 0 → key ≡ (slice_index_or es 0 d).0 → ⊥
 
--- what a batch puts for a key, if it puts anything, and entries behind it
+-- what a batch puts for a key, if it puts anything, followed by entries
 abbrev pub with_put : List ℕ → Option (List ℕ) → List (List ℕ × List ℕ) → List (List ℕ × List ℕ)
 with_put k (Some v) es = (k, v) ∷ es
 with_put k None es = es

@@ -1,9 +1,9 @@
--- The versions that are kept, as the model has them.
+-- A list of plain maps as versions of the model.
 use Rattle.std.specs.Prelude.{◌-◌, ◌^◌, ◌<◌, List, map, reverse, length}
 use Rattle.jf_model.specs.Versions.{Versions, IsVersions}
 use Rattle.jf_plain.specs.declared.versions.Version.{Version}
 
--- from a list with the oldest first
+-- the versions of a list that has the oldest first
 abbrev pub kept : List Version → Versions
 kept vs = record { base = 0; floor = 0; head = length vs - 1; roots = map (λ v. v.root) (reverse vs); maps = map (λ v. v.map) (reverse vs) }
 

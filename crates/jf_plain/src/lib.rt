@@ -1,5 +1,5 @@
-//! The plain store: each version as a whole map, with its root. It is short, and what a faster store answers is what
-//! this one answers.
+//! The plain store: each version as a whole map, with its root. It is short, and a faster store must return what this
+//! one returns.
 #![tactic(auto)]
 
 mod map;

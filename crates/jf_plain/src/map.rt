@@ -1,4 +1,4 @@
-// A map from keys to values.
+// A map from keys to values, as one list of entries.
 ghost use Rattle.std.specs.Prelude.{◌≡◌, IfOk, OnOk, T, [], ◌++◌, map};
 ghost use Rattle.std.specs.Option.{option_copied};
 ghost use Rattle.std.specs.FinMap as fin;
@@ -18,7 +18,7 @@ use std::marker::Model;
 /// A map from keys to values of at most 4,096 bytes.
 #[derive(Debug, Drop)]
 pub struct PlainMap {
-    // In the order of the keys.
+    // In the ascending order of the keys.
     entries: Vec<(Key, Bytes)>,
 }
 
@@ -38,7 +38,7 @@ impl Model for PlainMap {
 }
 
 impl PlainMap {
-    /// A map of no key.
+    /// A map without keys.
     pub fn new(alloc: Global) -> PlainMap
         ensures { result ≡ fin.empty }
     {
@@ -54,7 +54,7 @@ impl PlainMap {
         self.entries.len() as u64
     }
 
-    /// The value of a key, or `None` where the map does not have the key.
+    /// The value of a key, or `None` if the map doesn't have the key.
     pub fn get(&self, key: &Key) -> Option<&[u8]>
         ensures { option_copied result ≡ fin.get self.now key.now }
     {
@@ -62,7 +62,7 @@ impl PlainMap {
         Some(self.entries[place].1.as_slice())
     }
 
-    /// What a batch makes of this map, which stays as it is.
+    /// The map after a batch. This map is unchanged.
     pub fn applied(&self, alloc: Global, batch: &Batch) -> Result<PlainMap, Memory>
         ensures { IfOk result (λ m. m ≡ apply self.now batch.now) }
     {
@@ -78,7 +78,7 @@ impl PlainMap {
         Ok(plain_root(&leaves(alloc, &self.entries)?))
     }
 
-    /// What holds of each map.
+    /// What holds of each map, for proofs; it does nothing when it runs.
     pub fn know_sound(&self)
         ensures sound { IsMap self.now }
         ensures short { IsShort self.now }
@@ -87,7 +87,7 @@ impl PlainMap {
     }
 }
 
-/// The place of a key among entries in the order of their keys, or `None` where it is not there.
+/// The place of a key among entries in the order of their keys, or `None` if it isn't there.
 fn place_of(entries: &[(Key, Bytes)], key: &Key) -> Option<usize>
     requires { T (is_sorted key_cmp entries.now) }
     ensures { IsPlaceOf key.now entries.now result }
@@ -125,7 +125,7 @@ fn count_below(entries: &[(Key, Bytes)], key: &Key) -> usize
     entries.len()
 }
 
-/// How many entries at the front have this key, where keys rise: one or none.
+/// How many entries at the front have this key, if keys ascend: 0 or 1.
 fn count_at(entries: &[(Key, Bytes)], key: &Key) -> usize
     ensures { IsCountAt key.now entries.now result }
 {
@@ -135,7 +135,7 @@ fn count_at(entries: &[(Key, Bytes)], key: &Key) -> usize
     }
 }
 
-/// Adds copies of entries at the end.
+/// Appends copies of entries.
 fn push_copies(
     alloc: Global,
     entries: &mut Vec<(Key, Bytes)>,
@@ -149,7 +149,7 @@ fn push_copies(
     Ok(())
 }
 
-/// Adds what a batch puts for a key, if it puts anything.
+/// Appends what a batch puts for a key, if it puts anything.
 fn push_put(
     alloc: Global,
     entries: &mut Vec<(Key, Bytes)>,
@@ -164,7 +164,7 @@ fn push_put(
     Ok(())
 }
 
-/// What a batch makes of entries. It goes once along both.
+/// Entries after a batch. It goes once along both.
 fn merged(
     alloc: Global,
     entries: &[(Key, Bytes)],

@@ -1,4 +1,4 @@
-// The versions of a store as plain maps.
+// The versions of a store as plain maps, the oldest first.
 ghost use Rattle.std.specs.Prelude.{◌≡◌, ◌+◌, ◌-◌, ◌^◌, ◌<◌, ◌≤◌, IfOk, OnOk, OnErr};
 ghost use Rattle.std.specs.Option.{option_copied, SomeIff};
 ghost use Rattle.jf_hash.specs.Roots.{root};
@@ -11,7 +11,7 @@ use jf_split::Batch;
 use std::alloc::Global;
 use std::marker::Model;
 
-// A version: its map, and the root of it.
+// A version: its map, and the map's root.
 #[derive(Debug, Drop)]
 struct Version {
     map: PlainMap,
@@ -98,7 +98,7 @@ impl PlainVersions {
         Some(&kept.map)
     }
 
-    /// Lands a batch on the newest version. Where memory is wanting, the versions stay as they were.
+    /// Lands a batch on the newest version. If it is out of memory, the versions are unchanged.
     pub fn land(&mut self, alloc: Global, batch: &Batch) -> Result<(), Memory>
         requires { self.old.head < 2 ^ 64 - 2 }
         ensures ok { OnOk result (self.new ≡ landed batch.now self.old) }
@@ -119,7 +119,7 @@ impl PlainVersions {
         let _ = self.versions.pop();
     }
 
-    /// What holds of all versions.
+    /// What holds of all versions, for proofs; it does nothing when it runs.
     pub fn know_sound(&self)
         ensures sound { IsVersions self.now }
         ensures base { self.now.base ≡ 0 }

@@ -15,7 +15,7 @@ use Rattle.jf_range.specs.Visits.{copied, ends_inside, most_nodes}
 abbrev pub below : ℕ → ℕ → ℕ → ℕ → ℕ
 below height skip room n = copied skip room n * (height + 1) + ends_inside skip room n * (16 * height)
 
--- ---- one child more, with m entries behind n
+-- ---- one more child, with m entries after n
 
 copied-more : (skip room n m : ℕ) → copied skip room (n + m) ≡ copied skip room n + copied (skip - n) (room - copied skip room n) m
 copied-more skip room n m = omega arith
@@ -26,7 +26,7 @@ front-more skip room n m = omega arith
 nothing : (room skip m : ℕ) → room ≡ 0 → copied skip room m ≡ 0
 nothing room skip m is = omega (arith, is)
 
--- where the range ends before the first n entries do, nothing more is copied
+-- if the range ends before the first n entries do, nothing more is copied
 one_end : (skip room n m : ℕ) → (n - (skip + room) ≡ 0) ⊎ (copied (skip - n) (room - copied skip room n) m ≡ 0)
 one_end skip room n m = elim (cases_lt (skip + room) n) [
   | inl inside ↦ (let all : copied skip room n ≡ room = omega (arith, inside) in let none : room - copied skip room n ≡ 0 = omega (arith, all) in inr (nothing (room - copied skip room n) (skip - n) m none))
@@ -66,7 +66,7 @@ below-grows height skip room n m le =
 
 -- ---- the node over them
 
--- one level more
+-- the cost of one more level
 above : (t e h : ℕ) → t * (h + 1 + 1) + e * (16 * (h + 1)) ≡ t + 16 * e + (t * (h + 1) + e * (16 * h))
 above t e h =
     let first : t * (h + 1 + 1) ≡ t * (h + 1) + t = mul_comm t (h + 1 + 1) ∙ add-mul (h + 1) 1 t ∙ ap (λ n. n + 1 * t) (mul_comm (h + 1) t) ∙ omega arith in
@@ -86,12 +86,12 @@ node-visited height skip room n m k steps old le few lt some by_count by_entries
       | inr by ↦ omega (arith, grown, up, by, by_entries)
     ]
 
--- of a leaf, or a node that is passed
+-- the bound for a leaf, or for a node that is passed
 pub one-visited : (height skip room n steps old : ℕ) → steps ≡ old + 1 → steps ≤ old + most_nodes height skip room n
 unfolding most_nodes
 one-visited height skip room n steps old is = omega (arith, is)
 
--- of all nodes
+-- the bound for a whole map
 pub most-nodes_top : (height skip room n : ℕ) → height ≤ 64 → most_nodes height skip room n ≤ 65 * copied skip room n + 2049
 unfolding most_nodes
 most-nodes_top height skip room n low =
@@ -100,7 +100,7 @@ most-nodes_top height skip room n low =
 
 -- ---- child by child
 
--- so much the nodes cost, the first i children of which were looked at and have n entries
+-- the steps after the first i children of a node were looked at, which have n entries
 abbrev pub AreVisited : ℕ → ℕ → ℕ → ℕ → ℕ → ℕ → ℕ → Type 0
 AreVisited height skip room n i old steps = (steps ≤ old + 1 + i + below height skip room n) × (steps ≤ old + 1 + n + below height skip room n)
 
@@ -115,7 +115,7 @@ child_visited height up skip room left space n m i old steps new same l s some b
     let rest = below-more height skip room n m in
     (omega (arith, here, rest, before.0), omega (arith, here, rest, before.1))
 
--- what was copied so far
+-- how many entries were copied so far
 so_many : (skip room : ℕ) (es : Entries) → length (take room (drop skip es)) ≡ copied skip room (length es)
 so_many skip room es = length-take room (drop skip es) ∙ ap (min room) (length-drop skip es)
 
@@ -137,7 +137,7 @@ visit-none depth skip room old steps links i lt is visited =
     length-joined-more links i None lt ∙ ap (λ (x : Option LinkValue). length (joined (take i links)) + length (content x)) (sym is) ∙ (let e : length (joined (take i links)) + 0 ≡ length (joined (take i links)) = omega arith in e) in
     subst (λ n. AreVisited (63 - depth) skip room n (i + 1) old steps) (sym long) (omega (arith, visited.0), visited.1)
 
--- the node, the first i children of which were looked at
+-- the bound for a node after its first i children were looked at
 pub visit-node : (x : LinkValue) (skip room old steps : ℕ) (links : List (Option LinkValue)) (i : ℕ) → ShowsInner x links → i ≤ 16 → skip < length x.entries → 0 < room
     → AreVisited (63 - x.depth) skip room (length (joined (take i links))) i old steps → steps ≤ old + most_nodes (64 - x.depth) skip room (length x.entries)
 visit-node x skip room old steps links i shows few lt some visited =

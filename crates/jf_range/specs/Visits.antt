@@ -1,7 +1,7 @@
 -- How many nodes are looked at, at most, when a range of entries is copied.
 use Rattle.std.specs.Prelude.{ℕ, ◌+◌, ◌-◌, ◌*◌, min}
 
--- so many of n entries are copied: those after the first `skip`, `room` of them or as many as there are
+-- how many of n entries are copied: those after the first `skip`, `room` of them or as many as there are
 abbrev pub copied : ℕ → ℕ → ℕ → ℕ
 copied skip room n = min room (n - skip)
 

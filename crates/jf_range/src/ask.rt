@@ -1,4 +1,4 @@
-// Why no chunk is given.
+// What `prove_range` returns if there is no chunk to give.
 ghost use Rattle.std.specs.Prelude.{◌≡◌};
 ghost use Rattle.jf_range.specs.declared.ask.RangeAsk.TheVariants as ask;
 

@@ -1,4 +1,4 @@
-// The left frontier of known entries.
+// The left frontier of known entries: at most 256 hashes, whatever the number of entries.
 ghost use Rattle.std.specs.Prelude.{◌≡◌, ◌+◌, ◌*◌, ◌<◌, ◌≤◌, [], ◌∷◌, ◌++◌, IfSome, IsSome, Some, T, length, map, take};
 ghost use Rattle.std.specs.List.{last_or};
 ghost use Rattle.std.specs.declared.cmp.Ordering.TheVariants.{Less};
@@ -19,8 +19,8 @@ use jf_steps::Steps;
 use std::marker::Model;
 use std::sync::ledger::Ledger;
 
-/// What is kept of entries whose keys ascend, so that more can be added, and roots computed, without hashing them again:
-/// the last one's leaf, and the hashes of what stands on the left of its way.
+/// What is kept of entries whose keys ascend, so that more can be added, and roots computed, without hashing them
+/// again: the last one's leaf, and the hashes of what stands on the left of its way.
 #[derive(Drop)]
 pub struct Frontier {
     pub(crate) last: Option<(Key, Hash)>,
@@ -42,7 +42,7 @@ impl Model for Frontier {
 }
 
 impl Frontier {
-    /// The frontier of no entry.
+    /// The frontier of no entries.
     pub fn new() -> Frontier
         ensures { result ≡ frontier_of [] }
     {
@@ -55,7 +55,7 @@ impl Frontier {
         }
     }
 
-    // The same once more.
+    // A copy of the frontier.
     pub(crate) fn copy(&self) -> Frontier
         ensures { result ≡ self.now }
     {
@@ -66,7 +66,7 @@ impl Frontier {
         }
     }
 
-    /// Makes this the frontier of one entry more, whose key is above all others.
+    /// Makes this the frontier of one more entry, whose key is above all others. A step is one hash computed.
     pub fn push<L: Ledger>(&mut self, key: &Key, value: &[u8], steps: &mut Steps<L>)
         requires { IfSome self.old.last (λ l. key_cmp l.0 key.now ≡ Less) }
         ensures value { (es : Entries) → self.old ≡ frontier_of es → IsAscending (es ++ (key.now, value.now) ∷ []) → self.new ≡ frontier_of (es ++ (key.now, value.now) ∷ []) }
@@ -83,7 +83,7 @@ impl Frontier {
         self.last = Some((key, value_hash));
     }
 
-    /// Makes this the frontier of more entries, whose keys ascend from the last one on.
+    /// Makes this the frontier of more entries, whose keys ascend from the last one on. A step is one hash computed.
     pub fn extend<L: Ledger>(&mut self, entries: &[(Key, Bytes)], steps: &mut Steps<L>)
         requires { T (rises_behind self.old.last entries.now) }
         ensures value { (es : Entries) → self.old ≡ frontier_of es → IsAscending (es ++ entries.now) → self.new ≡ frontier_of (es ++ entries.now) }
@@ -96,7 +96,7 @@ impl Frontier {
         }
     }
 
-    /// The root of all entries.
+    /// The root of all entries. A step is one hash computed: there are at most 257, however many entries there are.
     pub fn root<L: Ledger>(&self, steps: &mut Steps<L>) -> Hash
         ensures value { (es : Entries) → self.now ≡ frontier_of es → IsAscending es → result ≡ part_root 0 es }
         ensures cost { steps.new ≤ steps.old + 257 }
@@ -110,7 +110,8 @@ impl Frontier {
         climb(&key, 0, &leaf, &self.lefts[..self.depth], steps)
     }
 
-    /// What all entries come to with a proof for a chunk that ends with the last one.
+    /// The root that all entries come to with a proof for a chunk that ends with the last one. A step is one hash
+    /// computed.
     pub fn chunk_root<L: Ledger>(&self, proof: &RangeProof, steps: &mut Steps<L>) -> Hash
         requires some { IsSome self.now.last }
         requires deep { proof.now.depth ≤ 256 }
@@ -137,7 +138,7 @@ impl Frontier {
         )
     }
 
-    // Makes the hashes on the left those of the next key's way, the last of which closes the part with the last entry.
+    // Makes the hashes on the left those of the next key's way. The last of them closes the part with the last entry.
     fn raise<L: Ledger>(&mut self, last: &Key, value_hash: &Hash, key: &Key, steps: &mut Steps<L>)
         requires { common_bits last.now key.now < 256 }
         ensures lefts { self.new.lefts ≡ raised (common_bits last.now key.now) 0 last.now (start_of (Some (last.now, value_hash.now))) self.old.lefts }
@@ -158,7 +159,7 @@ impl Frontier {
     }
 }
 
-// Makes the first `common` hashes those of the first `depth`, with that of no entry after them, and puts one more after.
+// Makes the first `common` hashes those of the first `depth`, then empty hashes, and puts `beside` after them.
 fn put_beside(lefts: &mut [Hash], depth: usize, common: usize, beside: Hash)
     requires depth { depth ≤ length lefts.old }
     requires common { common < length lefts.old }
@@ -168,7 +169,7 @@ fn put_beside(lefts: &mut [Hash], depth: usize, common: usize, beside: Hash)
     lefts[common] = beside;
 }
 
-// Makes the first `count` hashes those of the first `depth`, and that of no entry after them.
+// Makes the first `count` hashes those of the first `depth`, then empty hashes.
 fn pad(lefts: &mut [Hash], depth: usize, count: usize)
     requires depth { depth ≤ length lefts.old }
     requires count { count ≤ length lefts.old }

@@ -1,4 +1,4 @@
-// Hashes, each of which is a step.
+// The one place of the crate where hashes are computed; each is a step.
 ghost use Rattle.std.specs.Prelude.{◌≡◌, ◌+◌, ◌<◌};
 ghost use Rattle.jf_evidence.specs.Proofs.{join};
 ghost use Rattle.jf_range.specs.Subjects.{hash_of};

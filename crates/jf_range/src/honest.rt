@@ -16,8 +16,8 @@ use std::alloc::Global;
 use std::marker::Brand;
 use std::sync::ledger::{Blank, Ledger};
 
-/// The entries of a snapshot's map from place `start` on, `count` of them, at least 1, or as many as there are, with the
-/// proof of the last one. If no entry stands at the place, their number is returned, and no memory is taken.
+/// Returns the entries of a snapshot's map from place `start` on, `count` of them, at least 1, or as many as there are,
+/// with the proof of the last one. If no entry stands at the place, returns the number of entries, and takes no memory.
 pub fn prove_range(
     alloc: Global,
     snapshot: &Snapshot,
@@ -30,8 +30,9 @@ pub fn prove_range(
     prove_uncounted::<Brand>(alloc, snapshot, start, count, Blank::new(1))
 }
 
-/// The same. A step is one node looked at, while the entries are copied and on the way down to the last one, for its proof:
-/// however large the map is and wherever the place, there are at most 65 for each entry that is given, and 2,306 more.
+/// Does what `prove_range` does, and counts. A step is one node looked at, while the entries are copied and on the way
+/// down to the last one, for its proof. However large the map is and wherever the place, there are at most 65 for each
+/// entry that is given, and 2,306 more.
 pub fn prove_range_counted<L: Ledger>(
     alloc: Global,
     snapshot: &Snapshot,
@@ -56,7 +57,7 @@ pub fn prove_range_counted<L: Ledger>(
     Ok((entries, proof))
 }
 
-// In a ledger of its own.
+// Does it in a ledger of its own.
 fn prove_uncounted<L: Ledger>(
     alloc: Global,
     snapshot: &Snapshot,
@@ -110,7 +111,7 @@ fn range_proof_of<L: Ledger>(
     })
 }
 
-// The siblings on the right of a key's way.
+// Picks the siblings on the right of a key's way.
 fn right_siblings(alloc: Global, key: &Key, siblings: &[Hash]) -> Result<HashList, Memory>
     requires { length siblings.now ≤ 256 }
     ensures { IfOk result (λ rights. rights ≡ right_siblings key.now siblings.now) }

@@ -1,4 +1,4 @@
-// Whether a chunk is accepted.
+// Judging a chunk by the frontier of what is known.
 ghost use Rattle.std.specs.Prelude.{◌≡◌, ◌≢◌, ◌+◌, ◌*◌, ◌≤◌, MatchResult, IfErr, Some, length};
 ghost use Rattle.jf_evidence.specs.Ranges.{Entries, range_refusal};
 ghost use Rattle.jf_evidence.specs.declared.range_proof.RangeFault.TheVariants as fault;
@@ -14,9 +14,9 @@ use jf_steps::Steps;
 use std::sync::ledger::Ledger;
 
 impl Frontier {
-    /// The frontier of the known entries with new ones, if these are accepted after them under the root of a map. They are
-    /// refused by the first check that fails. A step is one hash computed: only a chunk that passes the first four checks is
-    /// hashed.
+    /// Returns the frontier of the known entries with new ones, if these are accepted after them under the root of a
+    /// map. They are refused by the first check that fails. A step is one hash computed: only a chunk that passes the
+    /// first four checks is hashed.
     pub fn accept<L: Ledger>(
         &self,
         root: &Hash,

@@ -1,5 +1,5 @@
-//! Proofs of a chunk of a map's entries: the honest one, and whether a chunk is accepted after the entries that are known
-//! already. What is known is kept as a frontier, so that known entries are never hashed again.
+//! Proofs of a chunk of a map's entries: the honest one, and whether a chunk is accepted after the entries that are
+//! known already. What is known is kept as a frontier, so that known entries are never hashed again.
 #![tactic(auto)]
 
 mod ask;

@@ -1,4 +1,4 @@
-// Whether a chunk is accepted after known entries.
+// Judging a chunk by all known entries.
 ghost use Rattle.std.specs.Prelude.{◌≡◌, ◌<◌, T, false, length};
 ghost use Rattle.std.specs.FinMap.{is_sorted};
 ghost use Rattle.std.specs.Result.{result_err};
@@ -13,9 +13,9 @@ use jf_steps::Steps;
 use std::marker::Brand;
 use std::sync::ledger::{Blank, Ledger};
 
-/// Whether new entries are accepted after known ones, whose keys ascend strictly, under the root of a map. They are refused
-/// by the first check that fails. All entries are hashed; for many chunks one after another a `Frontier` saves hashing the
-/// known ones again.
+/// Whether new entries are accepted after known ones, whose keys ascend strictly, under the root of a map. They are
+/// refused by the first check that fails. All entries are hashed; for many chunks in turn, a `Frontier` avoids hashing
+/// the known ones again.
 pub fn verify_range(
     root: &Hash,
     known: &Pairs,
@@ -28,7 +28,7 @@ pub fn verify_range(
     verify_uncounted::<Brand>(root, known, fresh, proof, Blank::new(1))
 }
 
-// The same, in a ledger of its own.
+// Does it in a ledger of its own.
 fn verify_uncounted<L: Ledger>(
     root: &Hash,
     known: &Pairs,
@@ -53,8 +53,8 @@ fn verify_uncounted<L: Ledger>(
     }
 }
 
-/// The root that entries, whose keys ascend strictly, come to with a proof for a chunk that ends with the last one. Its depth
-/// is at most 256, and it has as many siblings as the last key has 0 bits among its first `depth` bits.
+/// The root that entries, whose keys ascend strictly, come to with a proof for a chunk that ends with the last one. Its
+/// depth is at most 256, and it has as many siblings as the last key has 0 bits among its first `depth` bits.
 pub fn range_root(entries: &Pairs, proof: &RangeProof) -> Hash
     requires positive { 0 < length entries.now }
     requires sorted { T (is_sorted key_cmp entries.now) }
@@ -64,7 +64,7 @@ pub fn range_root(entries: &Pairs, proof: &RangeProof) -> Hash
     root_uncounted::<Brand>(entries, proof, Blank::new(1))
 }
 
-// The same, in a ledger of its own.
+// Does it in a ledger of its own.
 fn root_uncounted<L: Ledger>(entries: &Pairs, proof: &RangeProof, blank: Blank) -> Hash
     requires entries { 0 < length entries.now }
     requires sorted { T (is_sorted key_cmp entries.now) }

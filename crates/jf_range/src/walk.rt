@@ -1,5 +1,5 @@
-// The entries from a place on. A node whose entries all stand before the place is passed by its count, so the walk goes down
-// to the place, and from there only to what it copies.
+// The entries from a place on. A node whose entries all stand before the place is passed by its count, so the walk goes
+// down to the place, and from there only to what it copies.
 ghost use Rattle.std.specs.Prelude.{◌≡◌, ◌+◌, ◌-◌, ◌<◌, ◌≤◌, ◌++◌, None, OnOk, length, take, drop, slice_index_or};
 ghost use Rattle.std.specs.Option.{option_copied};
 ghost use Rattle.jf_range.specs.Visits.{most_nodes};
@@ -10,7 +10,8 @@ use jf_steps::Steps;
 use std::alloc::Global;
 use std::sync::ledger::Ledger;
 
-// Adds the entries of a node after its first `skip`, `room` of them or as many as there are. A step is one node looked at.
+// Appends the entries of a node after its first `skip`, `room` of them or as many as there are. A step is one node
+// looked at.
 pub(crate) fn copy_range<L: Ledger>(
     alloc: Global,
     link: &Link,

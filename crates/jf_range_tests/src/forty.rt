@@ -1,5 +1,5 @@
-// Forty entries in three chunks, and in two of which the first ends between the two entries of one node. Roots and siblings
-// are from outside, by Python's hashlib.
+// Forty entries in three chunks, and in two of which the first ends between the two entries of one node. Roots and
+// siblings are from outside, by Python's hashlib.
 use crate::given::{NONE, is_answered, pair, proof_of};
 use jf_hash::Hash;
 use jf_path::{Memory, Pairs};
@@ -8,8 +8,8 @@ use jf_restore::{Restore, RestoreRefused};
 use std::alloc::Global;
 use std::test::Fail;
 
-// The names of one byte from 0 to 39 in the order of their keys. The tenth and the eleventh key are the two that begin with
-// the nibbles 5 and a.
+// The names of one byte from 0 to 39 in the order of their keys. The tenth and the eleventh key are the two that begin
+// with the nibbles 5 and a.
 const NAMES: [u8; 40] = [
     18, 38, 19, 21, 5, 1, 33, 6, 34, 14, 17, 3, 15, 35, 24, 20, 37, 11, 12, 36, 26, 32, 27, 16, 13,
     31, 7, 4, 22, 2, 10, 23, 0, 28, 8, 29, 30, 25, 39, 9,
@@ -21,7 +21,7 @@ const ROOT: Hash = [
     0x2b, 0x5d, 0x54, 0x1b, 0xb5, 0xee, 0xde, 0x3b, 0x91, 0x52, 0xc9, 0x1d, 0x56, 0xea, 0x58, 0xff,
 ];
 
-// On the right of the way to the seventh of them, of which 5 siblings are honest.
+// The hashes on the right of the way to the seventh entry, of which 5 siblings are honest.
 const BEYOND_7: &[Hash] = &[
     [
         0xdd, 0x8e, 0x3b, 0x6c, 0x79, 0x66, 0x1e, 0x71, 0x55, 0x86, 0x6c, 0x9d, 0x3e, 0xc4, 0x30,
@@ -45,7 +45,7 @@ const BEYOND_7: &[Hash] = &[
     ],
 ];
 
-// On the right of the way to the tenth, of which 9 are.
+// The hashes on the right of the way to the tenth entry, of which 9 are honest siblings.
 const BEYOND_10: &[Hash] = &[
     [
         0xf5, 0xa8, 0x20, 0x00, 0x9a, 0x10, 0x55, 0xd8, 0x77, 0xd9, 0x6f, 0x74, 0x06, 0x5f, 0x38,
@@ -66,7 +66,7 @@ const BEYOND_10: &[Hash] = &[
     ],
 ];
 
-// On the right of the way to the twenty-seventh, of which 7 are.
+// The hashes on the right of the way to the twenty-seventh entry, of which 7 are honest siblings.
 const BEYOND_27: &[Hash] = &[
     [
         0x82, 0xe9, 0x06, 0x2c, 0x26, 0x3c, 0xf7, 0xa5, 0x56, 0xb4, 0xc1, 0xb2, 0x34, 0xd5, 0x7a,
@@ -82,7 +82,7 @@ const BEYOND_27: &[Hash] = &[
 
 const WRONG_ROOT: Option<RestoreRefused> = Some(RestoreRefused::Chunk(RangeFault::WrongRoot));
 
-// The places from which and to which a chunk's entries go, its depth and siblings, and the refusal.
+// A chunk by its first place and the place after its last, its depth and siblings, and the refusal, if any.
 type Chunk = (usize, usize, u64, &'static [Hash], Option<RestoreRefused>);
 
 const THREE: &[Chunk] = &[
@@ -109,7 +109,7 @@ fn entries_of(alloc: Global, names: &[u8]) -> Result<Pairs, Memory> {
     Ok(entries)
 }
 
-// Those at places, or none where a place is beyond all.
+// The entries at some places, or no entries if the places go beyond the last.
 fn some_of(alloc: Global, from: usize, to: usize) -> Result<Pairs, Memory> {
     match NAMES.get(from..to) {
         Some(names) => entries_of(alloc, names),
@@ -117,7 +117,7 @@ fn some_of(alloc: Global, from: usize, to: usize) -> Result<Pairs, Memory> {
     }
 }
 
-// Whether a restore answers so to one chunk after the other, and has all forty then.
+// Whether a restore takes or refuses the chunks as expected, one after the other, and then has all forty entries.
 fn come_to_forty(alloc: Global, chunks: &[Chunk]) -> Result<bool, Memory> {
     let mut restore = Box::new(alloc, Restore::new(alloc, 1, ROOT))?;
     for (from, to, depth, siblings, refused) in chunks {

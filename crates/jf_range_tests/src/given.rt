@@ -1,16 +1,16 @@
-// Chunks that are written out, and what a restore answers to them.
+// Chunks that are written out, and whether a restore takes them.
 use jf_hash::{Hash, key_of};
 use jf_path::{Bytes, HashList, Key, Memory, Pairs};
 use jf_restore::{RangeProof, Restore, RestoreRefused, are_short};
 use std::alloc::Global;
 
-// The hash of no entry.
+// The empty hash.
 pub(crate) const NONE: Hash = [
     0x6e, 0x34, 0x0b, 0x9c, 0xff, 0xb3, 0x7a, 0x98, 0x9c, 0xa5, 0x44, 0xe6, 0xbb, 0x78, 0x0a, 0x2c,
     0x78, 0x90, 0x1d, 0x3f, 0xb3, 0x37, 0x38, 0x76, 0x85, 0x11, 0xa3, 0x06, 0x17, 0xaf, 0xa0, 0x1d,
 ];
 
-// Names and values, which are texts, in the order in which they are given; the depth, the siblings, and the refusal.
+// Names and values as texts, in the order in which they are given; the depth, the siblings, and the refusal, if any.
 pub(crate) type Row = (
     &'static [(&'static str, &'static str)],
     u64,
@@ -38,7 +38,7 @@ fn entries_of(alloc: Global, names: &[(&str, &str)]) -> Result<Pairs, Memory> {
     Ok(entries)
 }
 
-// Whether a restore refuses a chunk so, or takes it if no refusal is given.
+// Whether a restore refuses a chunk as expected, or takes it if no refusal is given.
 pub(crate) fn is_answered(
     restore: &mut Restore,
     fresh: &Pairs,
@@ -48,7 +48,7 @@ pub(crate) fn is_answered(
     are_short(fresh) && restore.add(fresh, proof).err() == refused
 }
 
-// Whether a restore answers so to one chunk after the other.
+// Whether a restore takes or refuses chunks as expected, one after the other.
 pub(crate) fn are_answered(
     alloc: Global,
     restore: &mut Restore,
@@ -64,7 +64,7 @@ pub(crate) fn are_answered(
     Ok(true)
 }
 
-// Whether a restore of a root answers so to one chunk after the other, and what it comes to then.
+// Whether a restore of a root takes or refuses chunks as expected, and is then whole or not as expected.
 pub(crate) fn comes_to(
     alloc: Global,
     root: Hash,

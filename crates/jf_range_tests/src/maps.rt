@@ -1,4 +1,4 @@
-// Two maps of one root. No two that differ are known.
+// Two maps of one root. No two different maps with one root are known.
 ghost use Rattle.std.specs.Prelude.{IfOk, T};
 ghost use Rattle.std.specs.FinMap.{is_sorted};
 ghost use Rattle.jf_path.specs.Keys.{key_cmp};

@@ -1,4 +1,4 @@
-// Chunks of snapshots of no entry, of one and of 1,000, and a restore from them. The root, the depths and the numbers of
+// Chunks of snapshots of 0, 1 and 1,000 entries, and a restore from them. The root, the depths and the numbers of
 // siblings are from outside, by Python's hashlib.
 use crate::given::is_answered;
 use jf_hash::{Hash, key_of, value};
@@ -26,14 +26,15 @@ fn batch_of(alloc: Global, count: u32) -> Result<Batch, BatchFault> {
     Ok(batch)
 }
 
-// The map of the numbers below one.
+// The map of the numbers below `count`.
 fn map_of<H: Threads + Sync>(rt: &H, alloc: Global, count: u32) -> Result<Box<Snapshot>, Fail> {
     let batch = batch_of(alloc, count)?;
     let landed = update(rt, alloc, &Snapshot::empty(0), &batch, 1, &FreeGate)?;
     Ok(Box::new(alloc, landed.snapshot)?)
 }
 
-// Whether a chunk has so many entries, this depth and so many siblings; or there is none, and the map has so many entries.
+// Whether a chunk has this number of entries, this depth and this number of siblings; or, beyond the last entry,
+// whether the map has this number of entries.
 fn is_chunk(
     alloc: Global,
     map: &Snapshot,
@@ -46,7 +47,7 @@ fn is_chunk(
     }
 }
 
-// A place and a number, and the chunk.
+// A place and a number of entries, and the chunk expected.
 const CHUNKS: &[((u64, u64), Result<(u64, u64, u64), RangeAsk>)] = &[
     ((0, 1), Ok((1, 9, 9))),
     ((0, 250), Ok((250, 11, 7))),
@@ -93,7 +94,7 @@ fn is_taken(alloc: Global, restore: &mut Restore, map: &Snapshot, start: u64, co
     }
 }
 
-// Whether a restore takes the map's chunks of so many entries in their order.
+// Whether a restore takes the map's chunks of `count` entries in their order.
 fn are_taken(alloc: Global, restore: &mut Restore, map: &Snapshot, count: u64) -> bool {
     let mut start = 0;
     for _ in 0..map.count() {

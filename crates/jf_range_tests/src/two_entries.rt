@@ -1,12 +1,12 @@
-// The map that has `two` at `y30` and `one` at `x`, whose keys come in this order and agree in 3 bits, in chunks. Its hashes
-// are from outside, by Python's hashlib.
+// The map that has `two` at `y30` and `one` at `x`, whose keys come in this order and agree in 3 bits, in chunks. Its
+// hashes are from outside, by Python's hashlib.
 use crate::given::{NONE, Row, comes_to};
 use jf_hash::Hash;
 use jf_range::RangeFault;
 use jf_restore::RestoreRefused;
 use std::test::Fail;
 
-// Its root.
+// The root of the map.
 const ROOT: Hash = [
     0x70, 0xc4, 0x44, 0xfe, 0xb5, 0x46, 0x34, 0x63, 0xcc, 0xa8, 0x26, 0x0d, 0xe1, 0x24, 0x94, 0xe6,
     0x37, 0x72, 0x0a, 0x49, 0x43, 0x41, 0x7c, 0x09, 0xe9, 0x52, 0x57, 0x88, 0xed, 0x9a, 0xa8, 0x46,
@@ -34,7 +34,7 @@ const TURNED: &[(&str, &str)] = &[("x", "one"), ("y30", "two")];
 
 const OTHER_VALUE: &[(&str, &str)] = &[("y30", "two"), ("x", "two")];
 
-// On the right of the way to `y30`, and of that to `x`, of which the lowest sibling is on the left.
+// The hashes on the right of the way to `y30`, and of the way to `x`, whose lowest sibling is on the left.
 const BEYOND_Y30: &[Hash] = &[LEAF_OF_X, NONE, NONE];
 
 const BEYOND_X: &[Hash] = &[NONE, NONE];
@@ -49,7 +49,7 @@ const LONE: Option<RestoreRefused> = Some(RestoreRefused::Chunk(RangeFault::Lone
 
 const WRONG_ROOT: Option<RestoreRefused> = Some(RestoreRefused::Chunk(RangeFault::WrongRoot));
 
-// Chunks one after the other, and what is said of the whole then.
+// Chunks one after the other, and whether all of them are the whole map.
 const RESTORES: &[(&[Row], Result<u64, RestoreRefused>)] = &[
     (&[(Y30, 4, BEYOND_Y30, None), (X, 4, BEYOND_X, None)], Ok(2)),
     (&[(BOTH, 4, BEYOND_X, None)], Ok(2)),
@@ -71,7 +71,7 @@ const RESTORES: &[(&[Row], Result<u64, RestoreRefused>)] = &[
     ),
 ];
 
-// Chunks that are each refused before any entry was added, by the first check that fails.
+// Chunks that are each refused by a restore without entries, by the first check that fails.
 const REFUSED: &[Row] = &[
     (&[], 257, &[], EMPTY),
     (TURNED, 257, &[], ORDER),

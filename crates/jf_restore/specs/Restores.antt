@@ -1,4 +1,4 @@
--- What adding a chunk makes of a restore, and when it is whole.
+-- What adding a chunk changes in a restore, and when a restore is whole.
 use Rattle.std.specs.Prelude.{◌≡◌, ◌≢◌, ℕ, ◌≤◌, ◌++◌, length, Some, None}
 use Rattle.std.specs.List.{AllByRecursion}
 use Rattle.jf_hash.specs.Roots.{part_root}
@@ -13,7 +13,7 @@ use Rattle.jf_restore.specs.declared.refused.RestoreRefused.TheVariants as refus
 abbrev pub AreShort : Entries → Type 0
 AreShort es = AllByRecursion (λ e. length e.1 ≤ 4096) es
 
--- with more entries after its own
+-- the restore with more entries after its own
 abbrev pub with_more : RestoreValue → Entries → RestoreValue
 with_more r es = record { version = r.version; root = r.root; entries = r.entries ++ es }
 
@@ -22,7 +22,7 @@ pub record IsAdded (old new : RestoreValue) (fresh : Entries) (proof : RangeProo
   pub accepted : range_refusal old.root old.entries fresh proof ≡ None
   pub whole : new ≡ with_more old fresh
 
--- the chunk is refused, or it is accepted and memory is wanting for its entries; and nothing is changed
+-- the chunk is refused, or it is accepted and there is no memory for its entries; and the restore is unchanged
 abbrev pub IsNotAdded : RestoreValue → RestoreValue → Entries → RangeProof → RestoreRefused → Type 0
 IsNotAdded old new fresh proof (refused.Chunk why) = (range_refusal old.root old.entries fresh proof ≡ Some why) × (new ≡ old)
 IsNotAdded old new fresh proof (refused.NotWhole found) = ⊥
@@ -34,7 +34,7 @@ IsUnhashed (refused.Chunk why) = why ≢ fault.WrongRoot
 IsUnhashed (refused.NotWhole found) = ⊥
 IsUnhashed refused.Memory = ⊥
 
--- so many entries come to the announced root
+-- there are `count` entries, and they come to the announced root
 abbrev pub IsWhole : RestoreValue → ℕ → Type 0
 IsWhole r count = (count ≡ length r.entries) × (part_root 0 r.entries ≡ r.root)
 

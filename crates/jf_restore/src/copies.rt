@@ -1,10 +1,10 @@
-// Copies of entries after others.
+// Copies of a chunk's entries, appended to those of a restore.
 ghost use Rattle.std.specs.Prelude.{◌≡◌, ◌++◌, length, take, OnOk, OnErr};
 
 use jf_path::{Bytes, Key, Memory, Pairs};
 use std::alloc::Global;
 
-// Adds a copy of each entry. A refusal leaves what was there.
+// Appends a copy of each entry. After a refusal the entries are unchanged.
 pub(crate) fn add_copies(
     alloc: Global,
     entries: &mut Pairs,
@@ -23,7 +23,7 @@ pub(crate) fn add_copies(
     }
 }
 
-// The same, but a refusal may leave some of them after what was there.
+// Appends copies one by one; after a refusal some may stand after what was there.
 fn push_copies(alloc: Global, entries: &mut Pairs, fresh: &[(Key, Bytes)]) -> Result<(), Memory>
     ensures ok { OnOk result (entries.new ≡ entries.old ++ fresh.now) }
     ensures err { OnErr result (take (length entries.old) entries.new ≡ entries.old) }

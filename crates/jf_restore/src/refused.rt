@@ -1,4 +1,4 @@
-// Why a chunk isn't added, or what was added isn't whole.
+// Refusals of a restore.
 ghost use Rattle.std.specs.Prelude.{◌≡◌};
 ghost use Rattle.jf_restore.specs.declared.refused.RestoreRefused.TheVariants as refused;
 
@@ -6,7 +6,7 @@ use jf_hash::Hash;
 use jf_path::Memory;
 use jf_range::RangeFault;
 
-/// Why a chunk isn't added, or what was added isn't whole.
+/// Why a chunk isn't added, or why what was added isn't whole.
 #[derive(Clone, Copy, Debug, PartialEq, Eq)]
 pub enum RestoreRefused {
     /// The chunk isn't accepted after the entries that were added before: the first check that fails.

@@ -1,4 +1,4 @@
-// A restore under way.
+// A restore under way: the entries added so far, and their frontier.
 ghost use Rattle.std.specs.Prelude.{◌≡◌, ◌+◌, ◌-◌, ◌*◌, ◌^◌, ◌<◌, ◌≤◌, [], length, IfErr, MatchResult};
 ghost use Rattle.jf_hash.specs.Roots.{part_root};
 ghost use Rattle.jf_restore.specs.Restores.{IsAdded, IsNotAdded, IsWhole, IsNotWhole, IsUnhashed, AreShort};
@@ -13,8 +13,8 @@ use std::alloc::Global;
 use std::marker::{Brand, Model};
 use std::sync::ledger::{Blank, Ledger};
 
-/// The entries of the chunks that were accepted so far, in their order, for a version whose root was announced. The left
-/// frontier of the entries is kept beside them, so that none is hashed again.
+/// The entries of the chunks that were accepted so far, in their order, for a version whose root was announced. The
+/// left frontier of the entries is kept beside them, so that no entry is hashed again.
 #[derive(Drop)]
 pub struct Restore {
     alloc: Global,
@@ -38,7 +38,7 @@ impl Model for Restore {
 }
 
 impl Restore {
-    /// A restore of a version below u64::MAX with an announced root, without an entry.
+    /// A restore, without any entry yet, of a version below u64::MAX with an announced root.
     pub fn new(alloc: Global, version: u64, root: Hash) -> Restore
         requires { version < 2 ^ 64 - 1 }
         ensures { result ≡ record { version = version; root = root; entries = [] } }
@@ -52,8 +52,8 @@ impl Restore {
         }
     }
 
-    /// Adds the entries of a chunk, whose values have at most 4,096 bytes each, if it is accepted after those that were added
-    /// before. A refusal leaves them as they were.
+    /// Adds the entries of a chunk, whose values have at most 4,096 bytes each, if it is accepted after those that were
+    /// added before. After a refusal the restore is unchanged.
     pub fn add(&mut self, fresh: &Pairs, proof: &RangeProof) -> Result<(), RestoreRefused>
         requires { AreShort fresh.now }
         ensures { MatchResult result (λ _. IsAdded self.old self.new fresh.now proof.now) (λ why. IsNotAdded self.old self.new fresh.now proof.now why) }
@@ -61,8 +61,8 @@ impl Restore {
         self.add_uncounted::<Brand>(fresh, proof, Blank::new(1))
     }
 
-    /// The same. A step is one hash computed: there are at most 257 for each new entry and 257 more, however many entries were
-    /// added before, and none where one of the first four checks fails.
+    /// Does what `add` does, and counts. A step is one hash computed: there are at most 257 for each new entry and 257
+    /// more, however many entries were added before, and no step if one of the first four checks fails.
     pub fn add_counted<L: Ledger>(
         &mut self,
         fresh: &Pairs,
@@ -84,7 +84,7 @@ impl Restore {
         }
     }
 
-    // In a ledger of its own.
+    // Adds a chunk in a ledger of its own.
     fn add_uncounted<L: Ledger>(
         &mut self,
         fresh: &Pairs,
@@ -101,14 +101,16 @@ impl Restore {
         self.add_counted(fresh, proof, &mut steps)
     }
 
-    /// How many entries were added, if their root is the announced one.
+    /// Returns how many entries were added, if their root is the announced one; otherwise refuses with the root that
+    /// was found.
     pub fn whole(&self) -> Result<u64, RestoreRefused>
         ensures { MatchResult result (IsWhole self.now) (IsNotWhole self.now) }
     {
         self.whole_uncounted::<Brand>(Blank::new(1))
     }
 
-    /// The same. A step is one hash computed: there are at most 257, however many entries were added.
+    /// Does what `whole` does, and counts. A step is one hash computed: there are at most 257, however many entries
+    /// were added.
     pub fn whole_counted<L: Ledger>(&self, steps: &mut Steps<L>) -> Result<u64, RestoreRefused>
         ensures whole { MatchResult result (IsWhole self.now) (IsNotWhole self.now) }
         ensures cost { steps.new ≤ steps.old + 257 }
@@ -120,7 +122,7 @@ impl Restore {
         Ok(self.entries.len())
     }
 
-    // In a ledger of its own.
+    // Compares the roots in a ledger of its own.
     fn whole_uncounted<L: Ledger>(&self, blank: Blank) -> Result<u64, RestoreRefused>
         requires name { blank.name ≡ L.name }
         requires parts { blank.parts ≡ L.parts }

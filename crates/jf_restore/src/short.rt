@@ -1,4 +1,4 @@
-// Values that a restore takes.
+// The limit on the values that a restore takes.
 ghost use Rattle.std.specs.Prelude.{◌↔◌, IsTrue};
 ghost use Rattle.jf_restore.specs.Restores.{AreShort};
 

@@ -4,7 +4,7 @@ ghost use Rattle.jf_run.specs.Commands.{workers, is_over, option_workers, mode_o
 
 use clap::error::ErrorKind;
 use clap::{Arg, ArgAction, Command};
-use jf_script::number_from;
+use jf_text::number_from;
 use std::alloc::{AllocError, Global};
 
 /// The number of workers where none is asked for.

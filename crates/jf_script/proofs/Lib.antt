@@ -1,7 +1,4 @@
-pub mod Lines
-pub mod Spaces
-pub mod Numbers
-pub mod HexText
+pub mod ManyWords
 pub mod Texts
 pub mod ReplyTexts
 pub mod Samples

@@ -9,7 +9,9 @@ use Rattle.std.proofs.lemmas.Bool.{cases_eq}
 use Rattle.std.proofs.lemmas.Bool.Decides.{nat_tests}
 use Rattle.hex.specs.Hex.{encode_with, encode_lower, lower_digits, decode_of, IsBytes, hex_digit_value}
 use Rattle.hex.proofs.HexLemmas.{decode_of-encode_lower, IsDigits-lower_digits}
-use Rattle.jf_script.specs.Words.{words, is_word}
+use Rattle.jf_text.specs.Words.{words, is_word}
+use Rattle.jf_text.proofs.Plain.{all_plain, words-join, is_plain-decimal}
+use Rattle.jf_text.proofs.HexBack.{is_plain-hex}
 use Rattle.jf_script.specs.Replies.{reply_text, reply_words, IsInRange}
 use Rattle.jf_script.specs.declared.reply.Refusal.{Refusal}
 use Rattle.jf_script.specs.declared.reply.Refusal.TheVariants as refusal
@@ -124,103 +126,42 @@ reply_in-words (reply.No refusal.Last) h = refl
 
 -- ---- texts read back
 
-abbrev spaceless : List ℕ → Bool
-spaceless [] = true
-spaceless (b ∷ w) = if b == 32 then false else spaceless w
-
-abbrev all_spaceless : List (List ℕ) → Bool
-all_spaceless [] = true
-all_spaceless (w ∷ ws) = if spaceless w then all_spaceless ws else false
-
--- the two parts of a test
-both_pass : (s t : Bool) → (if s then t else false) ≡ true → (s ≡ true) × (t ≡ true)
-both_pass true t h = (refl, h)
-both_pass false t h = cc h
-
-not_and_passes : (s t : Bool) → (if s then false else t) ≡ true → (s ≡ false) × (t ≡ true)
-not_and_passes true t h = cc h
-not_and_passes false t h = (refl, h)
-
-words-one : (w : List ℕ) → spaceless w ≡ true → words w ≡ w ∷ []
-unfolding words
-words-one [] h = refl
-words-one (b ∷ w) h = let parts = not_and_passes (b == 32) (spaceless w) h in rw (parts.0, words-one w parts.1) refl
-
-words-first : (w rest : List ℕ) → spaceless w ≡ true → words (w ++ 32 ∷ rest) ≡ w ∷ words rest
-unfolding words
-words-first [] rest h = refl
-words-first (b ∷ w) rest h = let parts = not_and_passes (b == 32) (spaceless w) h in rw (parts.0, words-first w rest parts.1) refl
-
--- joined words are cut as they were joined
-words-join : (w : List ℕ) (ws : List (List ℕ)) → spaceless w ≡ true → all_spaceless ws ≡ true → words (join_with_byte 32 (w ∷ ws)) ≡ w ∷ ws
-words-join w [] h hs = words-one w h
-words-join w (v ∷ vs) h hs =
-    let parts = both_pass (spaceless v) (all_spaceless vs) hs in
-    words-first w (join_with_byte 32 (v ∷ vs)) h ∙ ap (λ ws. w ∷ ws) (words-join v vs parts.0 parts.1)
-
-spaceless-push : (w : List ℕ) (b : ℕ) → spaceless w ≡ true → (b == 32) ≡ false → spaceless (w ++ b ∷ []) ≡ true
-spaceless-push [] b h e = rw e refl
-spaceless-push (c ∷ w) b h e = let parts = not_and_passes (c == 32) (spaceless w) h in rw parts.0 (spaceless-push w b parts.1 e)
-
-spaceless-decimal : (n : ℕ) → n < 2 ^ 64 → spaceless (decimal n) ≡ true
-spaceless-decimal n h =
-    decimal_by_steps (λ _ ds. spaceless ds ≡ true)
-    (λ m small. let e : (48 + m == 32) ≡ false = grind (arith, nat_tests) in rw e refl)
-    (λ m ds large so_far. let e : (48 + m % 10 == 32) ≡ false = grind (arith, nat_tests) in spaceless-push ds (48 + m % 10) so_far e)
-    n h
-
-no_space : (c d : ℕ) → hex_digit_value c ≡ Some d → (c == 32) ≡ false
-no_space c d h =
-    elim (cases_eq c 32) [
-      | inl space ↦ let e : hex_digit_value 32 ≡ Some d = ap hex_digit_value (sym space) ∙ h in cc e
-      | inr other ↦ grind (arith, nat_tests)
-    ]
-
-spaceless-hex : (bytes : List ℕ) → IsBytes bytes → spaceless (encode_lower bytes) ≡ true
-unfolding encode_with
-spaceless-hex [] h = refl
-spaceless-hex (b ∷ bytes) h =
-    let fits : b < 256 = h 0 in
-    let high = no_space (slice_index lower_digits (b / 16)) (b / 16) (IsDigits-lower_digits (b / 16) (omega arith)) in
-    let low = no_space (slice_index lower_digits (b % 16)) (b % 16) (IsDigits-lower_digits (b % 16) (omega arith)) in
-    rw (high, low) (spaceless-hex bytes (λ k. h (suc k)))
-
-all_spaceless-words : (r : Reply) → IsInRange r → all_spaceless (reply_words r) ≡ true
-all_spaceless-words (reply.Pending count) h = rw (spaceless-decimal count h) refl
-all_spaceless-words (reply.Commit version root) h = rw (spaceless-decimal version h.0, spaceless-hex root h.1) refl
-all_spaceless-words (reply.Fork id root) h = rw (spaceless-decimal id h.0, spaceless-hex root h.1) refl
-all_spaceless-words (reply.Land version root) h = rw (spaceless-decimal version h.0, spaceless-hex root h.1) refl
-all_spaceless-words (reply.Drop count) h = rw (spaceless-decimal count h) refl
-all_spaceless-words (reply.Root root) h = rw (spaceless-hex root h) refl
-all_spaceless-words (reply.Proof siblings) h = rw (spaceless-decimal siblings h) refl
-all_spaceless-words (reply.Chunk entries depth siblings) h = rw (spaceless-decimal entries h.0, spaceless-decimal depth h.1, spaceless-decimal siblings h.2) refl
-all_spaceless-words (reply.Count count) h = rw (spaceless-decimal count h) refl
-all_spaceless-words (reply.Nth key value) h = rw (spaceless-hex key h.0, spaceless-hex value h.1) refl
-all_spaceless-words (reply.Pin place) h = rw (spaceless-decimal place h) refl
-all_spaceless-words (reply.Unpin version) h = rw (spaceless-decimal version h) refl
-all_spaceless-words (reply.Prune bound floor) h = rw (spaceless-decimal bound h.0, spaceless-decimal floor h.1) refl
-all_spaceless-words (reply.Compact generation) h = rw (spaceless-decimal generation h) refl
-all_spaceless-words (reply.Value None) h = refl
-all_spaceless-words (reply.Value (Some value)) h = rw (spaceless-hex value h) refl
-all_spaceless-words (reply.Status base floor retired head kept forks generation) h =
-    rw (spaceless-decimal base h.0, spaceless-decimal floor h.1, spaceless-decimal retired h.2, spaceless-decimal head h.3, spaceless-decimal kept h.4, spaceless-decimal forks h.5, spaceless-decimal generation h.6) refl
-all_spaceless-words (reply.No refusal.Syntax) h = refl
-all_spaceless-words (reply.No refusal.Long) h = refl
-all_spaceless-words (reply.No refusal.Pending) h = refl
-all_spaceless-words (reply.No refusal.Unknown) h = refl
-all_spaceless-words (reply.No refusal.Gone) h = refl
-all_spaceless-words (reply.No (refusal.Keys count)) h = rw (spaceless-decimal count h) refl
-all_spaceless-words (reply.No (refusal.Future head)) h = rw (spaceless-decimal head h) refl
-all_spaceless-words (reply.No (refusal.Retired bound)) h = rw (spaceless-decimal bound h) refl
-all_spaceless-words (reply.No refusal.PinsFull) h = refl
-all_spaceless-words (reply.No refusal.NoPin) h = refl
-all_spaceless-words (reply.No refusal.ForksFull) h = refl
-all_spaceless-words (reply.No (refusal.Range count)) h = rw (spaceless-decimal count h) refl
-all_spaceless-words (reply.No refusal.Last) h = refl
+all_plain-words : (r : Reply) → IsInRange r → all_plain (reply_words r) ≡ true
+all_plain-words (reply.Pending count) h = rw (is_plain-decimal count h) refl
+all_plain-words (reply.Commit version root) h = rw (is_plain-decimal version h.0, is_plain-hex root h.1) refl
+all_plain-words (reply.Fork id root) h = rw (is_plain-decimal id h.0, is_plain-hex root h.1) refl
+all_plain-words (reply.Land version root) h = rw (is_plain-decimal version h.0, is_plain-hex root h.1) refl
+all_plain-words (reply.Drop count) h = rw (is_plain-decimal count h) refl
+all_plain-words (reply.Root root) h = rw (is_plain-hex root h) refl
+all_plain-words (reply.Proof siblings) h = rw (is_plain-decimal siblings h) refl
+all_plain-words (reply.Chunk entries depth siblings) h = rw (is_plain-decimal entries h.0, is_plain-decimal depth h.1, is_plain-decimal siblings h.2) refl
+all_plain-words (reply.Count count) h = rw (is_plain-decimal count h) refl
+all_plain-words (reply.Nth key value) h = rw (is_plain-hex key h.0, is_plain-hex value h.1) refl
+all_plain-words (reply.Pin place) h = rw (is_plain-decimal place h) refl
+all_plain-words (reply.Unpin version) h = rw (is_plain-decimal version h) refl
+all_plain-words (reply.Prune bound floor) h = rw (is_plain-decimal bound h.0, is_plain-decimal floor h.1) refl
+all_plain-words (reply.Compact generation) h = rw (is_plain-decimal generation h) refl
+all_plain-words (reply.Value None) h = refl
+all_plain-words (reply.Value (Some value)) h = rw (is_plain-hex value h) refl
+all_plain-words (reply.Status base floor retired head kept forks generation) h =
+    rw (is_plain-decimal base h.0, is_plain-decimal floor h.1, is_plain-decimal retired h.2, is_plain-decimal head h.3, is_plain-decimal kept h.4, is_plain-decimal forks h.5, is_plain-decimal generation h.6) refl
+all_plain-words (reply.No refusal.Syntax) h = refl
+all_plain-words (reply.No refusal.Long) h = refl
+all_plain-words (reply.No refusal.Pending) h = refl
+all_plain-words (reply.No refusal.Unknown) h = refl
+all_plain-words (reply.No refusal.Gone) h = refl
+all_plain-words (reply.No (refusal.Keys count)) h = rw (is_plain-decimal count h) refl
+all_plain-words (reply.No (refusal.Future head)) h = rw (is_plain-decimal head h) refl
+all_plain-words (reply.No (refusal.Retired bound)) h = rw (is_plain-decimal bound h) refl
+all_plain-words (reply.No refusal.PinsFull) h = refl
+all_plain-words (reply.No refusal.NoPin) h = refl
+all_plain-words (reply.No refusal.ForksFull) h = refl
+all_plain-words (reply.No (refusal.Range count)) h = rw (is_plain-decimal count h) refl
+all_plain-words (reply.No refusal.Last) h = refl
 
 -- the words of a text, but for its 0A
 text_words : (n : ℕ) (r : Reply) → n < 2 ^ 64 → IsInRange r → words (join_with_byte 32 (decimal n ∷ reply_words r)) ≡ decimal n ∷ reply_words r
-text_words n r small range = words-join (decimal n) (reply_words r) (spaceless-decimal n small) (all_spaceless-words r range)
+text_words n r small range = words-join (decimal n) (reply_words r) (is_plain-decimal n small) (all_plain-words r range)
 
 -- a text tells its number and its reply
 pub reply_text-distinct : (n m : ℕ) (r q : Reply) → n < 2 ^ 64 → m < 2 ^ 64 → IsInRange r → IsInRange q → reply_text n r ≡ reply_text m q → (n ≡ m) × (r ≡ q)

@@ -2,7 +2,7 @@
 use Rattle.std.specs.Prelude.{◌≡◌, [], ◌∷◌, ◌++◌, Some, None, codes, refl}
 use Rattle.std.specs.Fmt.{digits}
 use Rattle.hex.specs.Hex.{encode_with}
-use Rattle.jf_script.specs.Words.{lines, words, number, unhex}
+use Rattle.jf_text.specs.Words.{words, number, unhex}
 use Rattle.jf_script.specs.Commands.{command_of, base_of}
 use Rattle.jf_script.specs.Replies.{reply_text}
 use Rattle.jf_script.specs.declared.command.Base.TheVariants as base
@@ -53,10 +53,6 @@ the_greatest = refl
 one_above : number (codes "18446744073709551616") ≡ None
 unfolding number digits encode_with
 one_above = refl
-
-two_lines : lines (97 ∷ 10 ∷ 10 ∷ 98 ∷ []) ≡ (97 ∷ []) ∷ [] ∷ (98 ∷ []) ∷ []
-unfolding lines
-two_lines = refl
 
 a_value : reply_text 3 (reply.Value (Some (49 ∷ []))) ≡ codes "3 ok value =31" ++ 10 ∷ []
 unfolding reply_text digits encode_with

@@ -3,32 +3,10 @@ use Rattle.std.proofs.Common.{◌≡◌, ℕ, ◌+◌, ◌/◌, ◌%◌, ◌<◌
 use Rattle.std.proofs.lemmas.List.{append_assoc, take_more, append-nil, take-append-le, take-take}
 use Rattle.hex.specs.Hex.{encode_with, encode_lower, lower_digits}
 use Rattle.std.specs.List.{join_with_byte}
-use Rattle.jf_script.specs.Words.{spaced}
-use Rattle.jf_script.specs.Replies.{Extends, reply_text, reply_words}
+use Rattle.jf_text.specs.Words.{spaced}
+use Rattle.jf_text.specs.Words.{Extends}
+use Rattle.jf_script.specs.Replies.{reply_text, reply_words}
 use Rattle.jf_script.specs.declared.reply.Reply.{Reply}
-
-encode_with-append : (t xs ys : List ℕ) → encode_with t (xs ++ ys) ≡ encode_with t xs ++ encode_with t ys
-unfolding encode_with
-encode_with-append t [] ys = refl
-encode_with-append t (x ∷ xs) ys = rw (encode_with-append t xs ys) refl
-
-encode_with-one : (t : List ℕ) (b : ℕ) → encode_with t (b ∷ []) ≡ slice_index t (b / 16) ∷ slice_index t (b % 16) ∷ []
-unfolding encode_with
-encode_with-one t b = refl
-
--- one byte more, as two digits
-pub encode-more : (before out bytes : List ℕ) (i : ℕ) → i < length bytes → out ≡ before ++ encode_lower (take i bytes)
-    → (out ++ slice_index lower_digits (get_or bytes i 0 / 16) ∷ []) ++ slice_index lower_digits (get_or bytes i 0 % 16) ∷ [] ≡ before ++ encode_lower (take (i + 1) bytes)
-encode-more before out bytes i h e =
-    let byte : ℕ = get_or bytes i 0 in
-    let more = take_more bytes i 0 h in
-    rw (e, more, encode_with-append lower_digits (take i bytes) (byte ∷ []), encode_with-one lower_digits byte)
-    (simp append_assoc)
-
--- nothing yet
-pub encode-none : (out bytes : List ℕ) → out ≡ out ++ encode_lower (take 0 bytes)
-unfolding encode_with
-encode-none out bytes = sym (append-nil out)
 
 join-spaced : (w : List ℕ) (ws : List (List ℕ)) → join_with_byte 32 (w ∷ ws) ≡ w ++ spaced ws
 join-spaced w [] = sym (append-nil w)

@@ -1,9 +1,9 @@
 -- What a command of the grammar puts, and asks for, is within its bounds.
 use Rattle.std.specs.Prelude.{◌≡◌, ℕ, ◌≤◌, Bool, true, false, cond, ◌&&◌, nat_le, if◌then◌else◌, ◌==◌, List, [], ◌∷◌, length, Option, Some, None, option_map, option_and_then, codes}
 use Rattle.std.proofs.Common.{refl, subst, arith}
-use Rattle.jf_script.specs.Words.{words, is_word, both, unhex, name_of, value_of, bytes_within}
+use Rattle.jf_text.specs.Words.{words, is_word, both, unhex, name_of, value_of, bytes_within}
 use Rattle.jf_script.specs.Commands.{command_of, command_of_words, one_word, two_words, three_words, four_words, base_of, parent_of, id_of, stored_of}
-use Rattle.jf_script.specs.Words.{number, number_upto, number_from}
+use Rattle.jf_text.specs.Words.{number, number_upto, number_from}
 use Rattle.jf_script.specs.declared.command.Base.{Base}
 use Rattle.jf_script.specs.declared.command.Command.{Command}
 use Rattle.jf_script.specs.declared.command.Command.TheVariants as command

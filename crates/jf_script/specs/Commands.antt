@@ -1,6 +1,6 @@
 -- The grammar of a script.
 use Rattle.std.specs.Prelude.{ℕ, Bool, false, ◌||◌, if◌then◌else◌, ◌==◌, List, [], ◌∷◌, Option, Some, None, option_map, option_and_then, codes}
-use Rattle.jf_script.specs.Words.{words, is_word, both, number, number_from, name_of, value_of}
+use Rattle.jf_text.specs.Words.{words, is_word, both, number, number_from, name_of, value_of}
 use Rattle.jf_script.specs.declared.command.Base.{Base}
 use Rattle.jf_script.specs.declared.command.Base.TheVariants as base
 use Rattle.jf_script.specs.declared.command.Command.{Command}

@@ -1,4 +1,3 @@
-pub mod Words
 pub mod Commands
 pub mod Replies
 pub mod Bounds

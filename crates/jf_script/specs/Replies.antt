@@ -1,7 +1,7 @@
 -- Replies as text.
 use Rattle.std.specs.Prelude.{◌≡◌, ℕ, ◌^◌, ◌<◌, length, take, List, [], ◌∷◌, Some, None, codes, decimal}
 use Rattle.hex.specs.Hex.{encode_lower, IsBytes}
-use Rattle.jf_script.specs.Words.{line_text, value_word}
+use Rattle.jf_text.specs.Words.{line_text, value_word}
 use Rattle.jf_script.specs.declared.reply.Refusal.{Refusal}
 use Rattle.jf_script.specs.declared.reply.Refusal.TheVariants as refusal
 use Rattle.jf_script.specs.declared.reply.Reply.{Reply}
@@ -91,7 +91,3 @@ IsInRange (reply.Compact generation) = generation < 2 ^ 64
 IsInRange (reply.Status base floor retired head kept forks generation) =
     (base < 2 ^ 64) × (floor < 2 ^ 64) × (retired < 2 ^ 64) × (head < 2 ^ 64) × (kept < 2 ^ 64) × (forks < 2 ^ 64) × (generation < 2 ^ 64)
 IsInRange (reply.No why) = RefusalInRange why
-
--- text with more behind it
-abbrev pub Extends : List ℕ → List ℕ → Type 0
-Extends before after = take (length before) after ≡ before

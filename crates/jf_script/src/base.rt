@@ -3,8 +3,7 @@ ghost use Rattle.std.specs.Prelude.{◌≡◌};
 ghost use Rattle.jf_script.specs.Commands.{base_of, stored_of, parent_of, id_of};
 
 use crate::command::Base;
-use crate::number::number_of;
-use crate::word::is_word;
+use jf_text::{is_word, number_of};
 
 /// `head`, or `v`, `f` or `p` and a number.
 #[tactic(auto, unfolding(crate::specs::Commands::base_of))]

@@ -1,15 +1,13 @@
 // Lines as commands.
 ghost use Rattle.std.specs.Prelude.{◌≡◌, ◌⊎◌, ◌↔◌, [], ◌∷◌, Some, None, Err, IfOk, IsTrue, OnErr, codes, false};
-ghost use Rattle.jf_script.specs.Words.{is_long, is_word, words, both, number, name_of, value_of};
+ghost use Rattle.jf_text.specs.Words.{is_long, is_word, words, both, number, name_of, value_of};
 ghost use Rattle.jf_script.specs.Commands.{command_of, takes_name, stored_of, one_word, two_words, three_words, four_words};
 
 use crate::base::{base_of, id_of, parent_of, stored_of};
 use crate::command::Command;
 use crate::fault::LineFault;
-use crate::hexadecimal::{name_of, value_of};
-use crate::number::{number_from, number_of};
-use crate::word::{is_word, split_word};
 use jf_path::Memory;
+use jf_text::{is_word, name_of, number_from, number_of, split_word, value_of};
 use std::alloc::Global;
 
 /// The greatest number of bytes of a line.

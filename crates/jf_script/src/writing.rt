@@ -1,15 +1,12 @@
 // Replies as text.
 ghost use Rattle.std.specs.Prelude.{◌≡◌, ◌∷◌, ◌++◌, [], codes, decimal, OnOk, OnErr};
 ghost use Rattle.hex.specs.Hex.{encode_lower};
-ghost use Rattle.jf_script.specs.Words.{spaced};
-ghost use Rattle.jf_script.specs.Replies.{reply_text, reply_words, refusal_words, Extends};
+ghost use Rattle.jf_text.specs.Words.{spaced, Extends};
+ghost use Rattle.jf_script.specs.Replies.{reply_text, reply_words, refusal_words};
 
 use crate::reply::{Refusal, Reply};
-use itoa::Buffer;
 use jf_path::{Bytes, Memory};
-
-/// The lower case digits, by their values.
-const DIGITS: &[u8; 16] = b"0123456789abcdef";
+use jf_text::{write_hex, write_number};
 
 /// Appends the line of a reply: the number of entries seen, the reply's words, and a line feed. A refusal leaves
 /// the text as it was.
@@ -147,27 +144,4 @@ fn write_rooted(label: &[u8], number: u64, root: &[u8; 32], out: &mut Bytes) -> 
 {
     write_number(label, number, out)?;
     write_hex(b" ", root, out)
-}
-
-/// Appends a number behind a label.
-fn write_number(label: &[u8], number: u64, out: &mut Bytes) -> Result<(), Memory>
-    ensures ok { OnOk result (out.new ≡ out.old ++ (label.now ++ decimal number)) }
-    ensures err { OnErr result (Extends out.old out.new) }
-{
-    let mut text = Buffer::new();
-    out.append(label)?;
-    out.append(text.format(number).as_bytes())
-}
-
-/// Appends bytes in hexadecimal behind a label.
-fn write_hex(label: &[u8], bytes: &[u8], out: &mut Bytes) -> Result<(), Memory>
-    ensures ok { OnOk result (out.new ≡ out.old ++ (label.now ++ encode_lower bytes.now)) }
-    ensures err { OnErr result (Extends out.old out.new) }
-{
-    out.append(label)?;
-    for byte in bytes {
-        out.push(DIGITS[usize::from(byte / 16)])?;
-        out.push(DIGITS[usize::from(byte % 16)])?;
-    }
-    Ok(())
 }

@@ -14,7 +14,7 @@ use Rattle.jf_answers.specs.Own.{Own}
 use Rattle.jf_answers.specs.Refusals.{refused_by, is_built}
 use Rattle.jf_answers.specs.Answers.{Answer, answer, answer_to, answer_command, not_read, too_long, done, replied}
 use Rattle.jf_answers.specs.Runs.{Run, answers_from, answers_from-append, followed_by, answer_text, text_of, texts_of, entries_of}
-use Rattle.jf_script.specs.Words.{is_long}
+use Rattle.jf_text.specs.Words.{is_long}
 use Rattle.jf_script.specs.Commands.{command_of}
 use Rattle.jf_script.specs.declared.command.Command.{Command}
 use Rattle.jf_script.specs.declared.command.Command.TheVariants as command

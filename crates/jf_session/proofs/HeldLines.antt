@@ -5,14 +5,14 @@ use Rattle.std.proofs.lemmas.Bool.{lt-ltb, cases_lt}
 use Rattle.std.proofs.lemmas.List.{take_all}
 use Rattle.jf_io.specs.LineReader.{is_line_feed, Held, IsShortened, IsFetched}
 use Rattle.jf_io.specs.Sink.{IsCutShort}
-use Rattle.jf_input.specs.Inputs.{IsFound}
-use Rattle.jf_input.proofs.Found.{found_whole, where_of, cut_of, last_of}
+use Rattle.jf_io.specs.Inputs.{IsFound}
+use Rattle.jf_io.proofs.Found.{found_whole, where_of, cut_of, last_of}
 use Rattle.jf_io.proofs.Shortened.{is_shortened-whole, line_front-text, unfinished-text, finished-text, after_first-text, none-text}
 use Rattle.jf_model.specs.States.{State}
 use Rattle.jf_answers.specs.Own.{Own}
 use Rattle.jf_answers.specs.Answers.{Answer, answer}
 use Rattle.jf_answers.specs.Runs.{answer_text}
-use Rattle.jf_script.specs.Words.{is_long}
+use Rattle.jf_text.specs.Words.{is_long}
 use Rattle.jf_session.specs.Sessions.{Session, Does, Stays, Tries}
 use Rattle.jf_session.specs.Runs.{IsDatedBy, Ran}
 use Rattle.jf_session.specs.declared.running.End.TheVariants as end

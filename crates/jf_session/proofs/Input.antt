@@ -2,41 +2,15 @@
 use Rattle.std.proofs.Common.{◌≡◌, ℕ, zero, suc, ◌<◌, ◌≤◌, true, false, cond, Option, Some, List, [], ◌∷◌, ◌++◌, take, length, refl, sym, ap, ◌∙◌, subst, arith, le_refl, append_assoc, append-nil, length-append, take_all, take_at}
 use Rattle.std.specs.Prelude.{slice_get, ◌==◌}
 use Rattle.std.specs.List.{AllByRecursion}
-use Rattle.jf_script.specs.Words.{lines, whole_lines}
-use Rattle.jf_input.specs.Inputs.{IsPlain, ended}
-use Rattle.jf_input.proofs.Lines.{ended-more, plain_more, lines_nil, lines_front, last_lines, whole_none, whole_front}
-use Rattle.jf_input.specs.LinesRead.{lines_read, AreFirst}
+use Rattle.jf_io.specs.Lines.{lines, whole_lines}
+use Rattle.jf_io.specs.Inputs.{IsPlain, ended}
+use Rattle.jf_io.proofs.EndedLines.{ended-more, plain_more, lines_nil, lines_front, last_lines, whole_none, whole_front}
+use Rattle.jf_io.proofs.FirstLines.{first_lines, all_first}
+use Rattle.jf_io.specs.LinesRead.{lines_read, AreFirst}
 use Rattle.jf_session.specs.Runs.{Reads}
 use Rattle.jf_session.specs.declared.running.End.TheVariants as end
 
 -- ---- the lines read
-
-take_front : (ls ms : List (List ℕ)) (n : ℕ) → length ls ≤ n → take (length ls) (take n (ls ++ ms)) ≡ ls
-take_front [] ms n le = refl
-take_front (l ∷ ls) ms zero le = absurd (omega arith)
-take_front (l ∷ ls) ms (suc n) le = ap (λ t. l ∷ t) (take_front ls ms n (omega arith))
-
-enough_front : (ls ms : List (List ℕ)) (n : ℕ) → length ls ≤ n → length ls ≤ length (take n (ls ++ ms))
-enough_front [] ms n le = omega arith
-enough_front (l ∷ ls) ms zero le = absurd (omega arith)
-enough_front (l ∷ ls) ms (suc n) le = omega (arith, enough_front ls ms n (omega arith))
-
--- of what was taken, which begins with these lines
-first_parts : (ls : List (List ℕ)) (held left : List ℕ) → AllByRecursion IsPlain ls → (length ls ≤ length (lines_read (ended ls ++ held) left)) × (take (length ls) (lines_read (ended ls ++ held) left) ≡ ls)
-first_parts ls held left p =
-    let all = ended ls ++ held in
-    let is = lines_front ls held p in
-    elim (length left == 0) as (λ t. (length ls ≤ length (cond t (lines all) (take (whole_lines all) (lines all)))) × (take (length ls) (cond t (lines all) (take (whole_lines all) (lines all))) ≡ ls)) [
-      | true ↦ (rw is (omega (arith, length-append ls (lines held))), rw is (take_at ls (lines held) (length ls) refl))
-      | false ↦ let far : length ls ≤ whole_lines all = omega (arith, whole_front ls held p) in
-          (rw is (enough_front ls (lines held) (whole_lines all) far), rw is (take_front ls (lines held) (whole_lines all) far))
-    ]
-
-first_lines : (ls : List (List ℕ)) (held left : List ℕ) → AllByRecursion IsPlain ls → AreFirst (ended ls ++ held) left ls
-first_lines ls held left p = let both = first_parts ls held left p in record { enough = both.0; are = both.1 }
-
-all_first : (taken : List ℕ) (ls : List (List ℕ)) → lines taken ≡ ls → AreFirst taken [] ls
-all_first taken ls e = record { enough = omega (arith, ap length e); are = rw e (take_all (length ls) ls (le_refl (length ls))) }
 
 get_next : (ms ls : List (List ℕ)) (l : List ℕ) → take (length (ls ++ l ∷ [])) ms ≡ ls ++ l ∷ [] → slice_get ms (length ls) ≡ Some l
 get_next [] [] l e = absurd (cc)

@@ -3,10 +3,10 @@ use Rattle.std.proofs.Common.{◌≡◌, ◌⊎◌, inl, inr, ℕ, ◌-◌, ◌<
 use Rattle.std.specs.List.{AllByRecursion, concat, position_or_len, before_first, after_first}
 use Rattle.jf_io.specs.LineReader.{is_line_feed}
 use Rattle.jf_io.specs.Sink.{IsCutShort}
-use Rattle.jf_input.specs.Inputs.{IsPlain, ended}
-use Rattle.jf_input.proofs.Plain.{front_plain, front_split, front_whole, held_plain}
-use Rattle.jf_input.proofs.Lines.{plain_more}
-use Rattle.jf_input.proofs.Written.{nothing_written, written_more}
+use Rattle.jf_io.specs.Inputs.{IsPlain, ended}
+use Rattle.jf_io.proofs.Plain.{front_plain, front_split, front_whole, held_plain}
+use Rattle.jf_io.proofs.EndedLines.{plain_more}
+use Rattle.jf_io.proofs.Written.{nothing_written, written_more}
 use Rattle.jf_model.specs.States.{State}
 use Rattle.jf_answers.specs.Own.{Own}
 use Rattle.jf_answers.specs.Answers.{Answer, answer}

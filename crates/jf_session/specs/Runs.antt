@@ -8,8 +8,8 @@ use Rattle.jf_model.specs.declared.entries.Entry.{Entry}
 use Rattle.jf_model.specs.declared.entries.Entry.TheVariants as entry
 use Rattle.jf_journal.specs.Standing.{StandsFor}
 use Rattle.jf_engine.specs.Engines.{IsSettledOn}
-use Rattle.jf_script.specs.Words.{whole_lines}
-use Rattle.jf_input.specs.LinesRead.{lines_read, AreFirst}
+use Rattle.jf_io.specs.Lines.{whole_lines}
+use Rattle.jf_io.specs.LinesRead.{lines_read, AreFirst}
 use Rattle.jf_answers.specs.Answers.{answer}
 use Rattle.jf_answers.specs.Runs.{Run, answers_from, text_of, entries_of}
 use Rattle.jf_session.specs.Sessions.{Session, Stays, Tries}

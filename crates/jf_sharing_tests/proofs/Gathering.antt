@@ -1,4 +1,4 @@
--- New seats that are joined to one.
+-- New seats that are joined to one seat, one after another.
 use Rattle.std.proofs.Common.{◌≡◌, ℕ, zero, suc, ◌+◌, ◌<◌, ◌≤◌, List, [], ◌∷◌, ◌++◌, length, None, refl, sym, ap, ◌∙◌, subst, arith, length-append}
 use mathlib.Core.Logic.{dite}
 use mathlib.Core.Option as maybe
@@ -13,7 +13,7 @@ module _ {E O : Type 0} where
   new_last t [] s n new = let same : n ≡ n + 0 = omega arith in (tt, new.0 ∙ ap (new_seat t) same)
   new_last t (x ∷ ss) s n new = let r = new_last t ss s (n + 1) new.1 in let same : (n + 1) + length ss ≡ n + length (x ∷ ss) = omega arith in ((new.0, r.0), r.1 ∙ ap (new_seat t) same)
 
--- the seats of the rest are still to be joined to the seat
+-- the seats of `rest` are still to be joined to the seat
 pub record Gathering {E O : Type 0} (t : TurnState O) (rest : List (SeatState E O)) (s : SeatState E O) : Type 0 where
   pub own : IsSeatOf s t
   pub idle : s.taken ≡ None
@@ -42,7 +42,7 @@ module _ {E O : Type 0} where
       }
 
 module _ {E O : Type 0} where
-  -- the next seat is one of the turn's, and holds nothing, as the one that it is joined to
+  -- the next seat is one of the turn's and holds nothing, like the one that it is joined to
   pub both_own : (t : TurnState O) (all rest : List (SeatState E O)) (s other : SeatState E O) → Gathering t all s → all ≡ rest ++ other ∷ [] → IsSeatOf s t × IsSeatOf other t
   both_own t all rest s other g e = let b = new_last t rest other 0 (subst (λ xs. AreNew t xs 0) e g.new) in (g.own, subst (λ (o : SeatState E O). IsSeatOf o t) (sym b.1) (refl, refl))
 

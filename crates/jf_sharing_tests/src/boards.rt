@@ -1,4 +1,4 @@
-// That calls succeed, the worked tables, and a pinner and a pruner in two threads.
+// Worked tables of boards, and a pinner and a pruner in two threads.
 ghost use Rattle.std.specs.Prelude.{◌≡◌, ◌+◌, ◌≤◌, IfSome};
 ghost use Rattle.jf_board.specs.States.{AreNew};
 
@@ -9,7 +9,7 @@ use std::test::Fail;
 use std::thread;
 use std::thread::Threads;
 
-// The place with the greatest number of those that are left.
+// Takes the place with the greatest number of those that remain.
 #[tactic(auto, using(crate::proofs::Places::last_place))]
 fn take_last(board: &Board, places: &mut Vec<Place>) -> Option<Place>
     requires { AreNew board.now places.old.items 0 }
@@ -19,7 +19,7 @@ fn take_last(board: &Board, places: &mut Vec<Place>) -> Option<Place>
     places.pop()
 }
 
-// Whether a scan finds this, and the cut is then its low. The place is any of the board's.
+// Whether a scan finds this, and the cut is then its low. The place may be any of the board's.
 fn cuts_at(board: &Board, pruner: &mut Pruner, own: &mut Place, found: Scan) -> bool
     requires boards { (pruner.old.board ≡ board.now) × (own.old.board ≡ board.now) }
     ensures boards { (pruner.new.board ≡ board.now) × (own.new.board ≡ board.now) }
@@ -30,7 +30,7 @@ fn cuts_at(board: &Board, pruner: &mut Pruner, own: &mut Place, found: Scan) -> 
     scan == found && cut == found.low
 }
 
-// The cut stays at a pin below the gate until that is given up.
+// The cut stays at a pin below the gate until the pin is given up.
 fn a_pin_holds_the_cut(board: &Board, place: &mut Place, pruner: &mut Pruner) -> bool
     requires boards { (pruner.old.board ≡ board.now) × (place.old.board ≡ board.now) }
     requires gate { pruner.old.known.gate ≡ 0 }
@@ -99,7 +99,7 @@ fn are_numbered(places: &[Place]) -> bool {
     true
 }
 
-// Whether a place with that number pins the first gate, 7, and the pruner then finds it there.
+// Whether a place with this number pins the first gate, 7, and the pruner then finds the pin there.
 fn holds_as(owner: u64, board: &Board, place: &mut Place, pruner: &mut Pruner) -> bool
     requires boards { (pruner.old.board ≡ board.now) × (place.old.board ≡ board.now) }
     requires gate { pruner.old.known.gate ≡ 7 }
@@ -124,7 +124,7 @@ fn holds_as(owner: u64, board: &Board, place: &mut Place, pruner: &mut Pruner) -
     numbered && pinned && stays
 }
 
-// Whether the last place of a board of that many holds the first gate.
+// Whether the last place of a board of this size holds the first gate.
 fn last_place_holds(alloc: Global, passes: u64) -> Result<bool, Fail>
     requires { (1 ≤ passes) × (passes ≤ 16) }
 {
@@ -147,7 +147,8 @@ const LAST_GATE: u64 = 1_000;
 // Each version that is tried is above the one before.
 const TRIES: u64 = LAST_GATE + 1;
 
-// Pins the version, or if it is retired the gate that retired it, and so on. Returns the version and where it is pinned.
+// Pins the version; if it is retired, pins the gate that retired it, and so on. Returns the version and where it is
+// pinned.
 fn pin_from(board: &Board, place: &mut Place, version: u64) -> Option<(u64, u64)>
     requires { place.old.board ≡ board.now }
     ensures { place.new.board ≡ place.old.board }
@@ -166,7 +167,8 @@ fn pin_from(board: &Board, place: &mut Place, version: u64) -> Option<(u64, u64)
     None
 }
 
-// What a pinner comes to: its last pin, which stands, and whether no cut was above a pin of its own while that stood.
+// What a pinner ends with: its last pin, which still stands, and whether no cut was above a pin of its own while it
+// stood.
 struct Pinning {
     place: Place,
     last: Option<(u64, u64)>,
@@ -191,7 +193,7 @@ fn pin_and_look(board: &Board, mut place: Place, cut: &AtomicU64) -> Pinning
     Pinning { place, last, kept }
 }
 
-// Raises the gate to each version in turn, scans and cuts, and shows each cut.
+// Raises the gate to each version in turn, scans, cuts, and publishes each cut.
 fn prune_up(board: &Board, mut pruner: Pruner, mut own: Place, cut: &AtomicU64) -> (Pruner, Place)
     requires boards { (pruner.board ≡ board.now) × (own.board ≡ board.now) }
     requires gate { pruner.known.gate ≡ 0 }
@@ -227,7 +229,7 @@ fn pin_and_prune<H: Threads>(
     )
 }
 
-// Whether the cut stays at the last pin, and rises to the gate once that is given up.
+// Whether the cut stays at the last pin, and rises to the gate once the pin is given up.
 fn the_last_pin_holds(
     board: &Board,
     place: &mut Place,

@@ -9,7 +9,7 @@ use std::test::Fail;
 use std::thread;
 use std::thread::Threads;
 
-// How often each writer writes, how often the reader looks, and the most that a list comes to.
+// How often each writer writes, how often the reader looks, and the most entries that the list has in the end.
 const WRITES: u64 = 300;
 
 const LOOKS: u64 = 40;
@@ -70,7 +70,7 @@ fn new_turn(
     Ok((turn, seats))
 }
 
-// One seat for the numbers of all.
+// Joins all seats into one, which stands for the numbers of all.
 fn gather(turn: &Turn<Marks>, mut seats: Vec<Seat<Marks>>) -> Seat<Marks>
     requires new { AreNew turn.now seats.items 0 }
     requires many { (length seats.items ≡ turn.now.seats) × (1 ≤ turn.now.seats) }
@@ -95,7 +95,7 @@ fn close_at_once(turn: Turn<Marks>, seats: Vec<Seat<Marks>>) -> Marks
     turn.close(seat)
 }
 
-// Whether there are so many seats, numbered from 0 on, which have seen nothing.
+// Whether there are `count` seats, numbered from 0 on, which have seen nothing.
 fn are_unused(seats: &[Seat<Marks>], count: u64) -> bool {
     let mut number: u64 = 0;
     for seat in seats {
@@ -107,7 +107,7 @@ fn are_unused(seats: &[Seat<Marks>], count: u64) -> bool {
     number == count
 }
 
-// Whether a turn of so many seats, which nobody takes, ends with the list that it began with.
+// Whether a turn of `count` seats, which no thread takes, ends with the list that it began with.
 fn ends_as_it_began(alloc: Global, count: u64) -> Result<bool, Fail>
     requires { (1 ≤ count) × (count ≤ 16) }
 {
@@ -125,7 +125,7 @@ fn one_seat_and_sixteen(rt: HostRuntime) -> Result<(), Fail> {
     Ok(())
 }
 
-// Takes the turn, and gives it back with one mark more. Returns whether there was memory for it.
+// Takes the turn, and gives it back with one more mark. Returns whether there was memory for it.
 fn write_once<H: Wait>(rt: &H, turn: &Turn<Marks>, seat: &mut Seat<Marks>, place: u64) -> bool
     requires { IsSeatOf seat.old turn.now × (seat.old.taken ≡ None) }
     ensures { IsSeatOf seat.new turn.now × (seat.new.taken ≡ None) × (seat.new.numbers ≡ seat.old.numbers) }
@@ -151,7 +151,7 @@ fn write_all<H: Wait>(rt: &H, turn: &Turn<Marks>, mut seat: Seat<Marks>) -> (Sea
     (seat, all)
 }
 
-// Copies the list anew. Returns whether it goes on from the copy before, and there was memory.
+// Copies the list. Returns whether it goes on from the copy before, and there was memory.
 fn look<H: Wait>(rt: &H, turn: &Turn<Marks>, seat: &mut Seat<Marks>, copy: &mut Vec<Mark>) -> bool
     requires { IsSeatOf seat.old turn.now × (seat.old.taken ≡ None) }
     ensures { IsSeatOf seat.new turn.now × (seat.new.taken ≡ None) × (seat.new.numbers ≡ seat.old.numbers) }
@@ -240,7 +240,7 @@ fn finish(turn: Turn<Marks>, mut one: Seat<Marks>, two: Seat<Marks>, three: Seat
     turn.close(one)
 }
 
-// How often an owner wrote, or none if its marks are out of order.
+// How often an owner wrote, or `None` if its marks are out of order.
 fn in_order(marks: &[Mark], owner: u64) -> Option<u64> {
     let mut next: u64 = 0;
     for mark in marks {
@@ -254,7 +254,7 @@ fn in_order(marks: &[Mark], owner: u64) -> Option<u64> {
     Some(next)
 }
 
-// What the three seats come to, with what the reader copied last.
+// What three seats end with, and the reader's last copy.
 struct Met {
     one: Seat<Marks>,
     two: Seat<Marks>,

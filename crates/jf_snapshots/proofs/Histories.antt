@@ -1,4 +1,4 @@
--- The snapshots that are kept: what stands where, and that they stay sound.
+-- The snapshots that are kept: at which place each stands, and that they stay sound.
 use Rattle.std.proofs.Common.{◌≡◌, ℕ, zero, suc, ◌+◌, ◌-◌, ◌<◌, ◌≤◌, ◌^◌, true, false, ltb, List, [], ◌∷◌, ◌++◌, length, map, reverse, get_or, refl, sym, ap, ◌∙◌, subst, arith, length-append}
 use Rattle.std.proofs.lemmas.List.{reverse-append, get_or-reverse, get_or-map, length-reverse, get_or_append_left, get_or_push}
 use borrow.Author.Tests.{ltb-true, ltb-false}
@@ -10,7 +10,7 @@ use Rattle.jf_model.specs.VersionLaws.{new_store-IsVersions, landed_map-IsVersio
 use Rattle.jf_node.specs.SnapshotValue.{SnapshotValue}
 use Rattle.jf_snapshots.specs.Kept.{kept, AreKept}
 
--- a snapshot on top
+-- the versions of a list with one more snapshot
 kept-push : (ss : List SnapshotValue) (x : SnapshotValue) → 0 < length ss → kept (ss ++ x ∷ []) ≡ record { base = 0; floor = 0; head = length ss - 1 + 1; roots = root x.map ∷ map (λ s. root s.map) (reverse ss); maps = x.map ∷ map (λ s. s.map) (reverse ss) }
 kept-push ss x some =
     let long : length (ss ++ x ∷ []) - 1 ≡ length ss - 1 + 1 = omega (arith, length-append ss (x ∷ [])) in
@@ -23,7 +23,7 @@ kept-landed ss x v b some is made =
     ∙ ap (λ m. record { base = 0; floor = 0; head = length ss - 1 + 1; roots = root m ∷ map (λ s. root s.map) (reverse ss); maps = m ∷ map (λ s. s.map) (reverse ss) }) (made ∙ ap (λ w. apply (newest w) b) (sym is))
     ∙ ap (landed b) is
 
--- each snapshot stands at the place of its version, also with one more
+-- each snapshot stands at the place of its version, also after one more was pushed
 numbered-push : (ss : List SnapshotValue) (x : SnapshotValue) → ((n : ℕ) (d : SnapshotValue) → n < length ss → (get_or ss n d).version ≡ n) → x.version ≡ length ss → (n : ℕ) (d : SnapshotValue) → n < length (ss ++ x ∷ []) → (get_or (ss ++ x ∷ []) n d).version ≡ n
 numbered-push ss x each is n d lt = elim (ltb n (length ss)) as (λ b. ltb n (length ss) ≡ b → (get_or (ss ++ x ∷ []) n d).version ≡ n) [
   | true ↦ λ below. ap (λ s. s.version) (get_or_append_left ss (x ∷ []) d n (ltb-true n (length ss) below)) ∙ each n d (ltb-true n (length ss) below)
@@ -41,7 +41,7 @@ are-landed ss x v b h is made numbered sound low =
       numbered = numbered-push ss x h.numbered (omega (arith, numbered, head));
     }
 
--- the first one
+-- the versions of a list of one are a new store
 pub kept-one : (ss ts : List SnapshotValue) (x : SnapshotValue) → ts ≡ [] → ss ≡ ts ++ x ∷ [] → x.map ≡ fin.empty → kept ss ≡ new_store
 kept-one ss ts x none is empty = ap kept (is ∙ ap (λ us. us ++ x ∷ []) none) ∙ ap (λ m. record { base = 0; floor = 0; head = 0; roots = root m ∷ []; maps = m ∷ [] }) empty
 

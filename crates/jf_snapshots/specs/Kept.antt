@@ -1,4 +1,4 @@
--- The snapshots that are kept, as the model has them.
+-- A list of snapshots as versions of the model.
 use Rattle.std.specs.Prelude.{◌≡◌, ◌-◌, ◌^◌, ◌<◌, ℕ, List, map, reverse, length, slice_index_or}
 use Rattle.jf_hash.specs.Roots.{root}
 use Rattle.jf_model.specs.Versions.{Versions, IsVersions}

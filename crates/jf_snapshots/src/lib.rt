@@ -1,4 +1,5 @@
-//! The versions of a store, each as a snapshot that shares with those beside it what a landing leaves alone.
+//! The versions of a store, each as a snapshot that shares with the versions before and after it what landings leave
+//! unchanged.
 #![tactic(auto)]
 
 mod versions;

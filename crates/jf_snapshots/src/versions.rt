@@ -1,4 +1,4 @@
-// All versions of a store, each as a snapshot.
+// The versions of a store as snapshots, the oldest first.
 ghost use Rattle.std.specs.Prelude.{◌≡◌, ◌-◌, ◌^◌, ◌<◌, ◌≤◌, IfOk, IfSome, OnOk, OnErr, option_map};
 ghost use Rattle.std.specs.Option.{option_copied, SomeIff};
 ghost use Rattle.jf_hash.specs.Roots.{root};
@@ -17,7 +17,7 @@ use std::thread::Threads;
 /// The versions of a store from version 0 on, each as a snapshot.
 #[derive(Drop)]
 pub struct SnapshotVersions {
-    // The snapshot of version n at place n, and at least one.
+    // The snapshot of version n stands at place n. There is at least one.
     snapshots: Vec<Snapshot>,
 }
 
@@ -94,7 +94,7 @@ impl SnapshotVersions {
         Some(snapshot)
     }
 
-    /// Lands a batch on the newest version, with at most this many workers. Out of memory leaves the versions
+    /// Lands a batch on the newest version, with at most this many workers. If it is out of memory, the versions are
     /// unchanged.
     pub fn land<H: Threads + Sync, G: Gate>(
         &mut self,
@@ -124,7 +124,7 @@ impl SnapshotVersions {
         let _ = self.snapshots.pop();
     }
 
-    /// What holds of all versions.
+    /// What holds of all versions, for proofs; it does nothing when it runs.
     pub fn know_sound(&self)
         ensures sound { IsVersions self.now }
         ensures base { self.now.base ≡ 0 }

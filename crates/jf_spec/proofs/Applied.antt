@@ -1,4 +1,4 @@
--- What a batch makes of entries whose keys begin with the same bits.
+-- Applying a batch to entries whose keys begin with the same bits.
 use Rattle.std.proofs.Common.{◌≡◌, ◌<◌, ℕ, Bool, not, T}
 use Rattle.std.specs.FinMap.{is_sorted}
 use Rattle.jf_path.specs.Keys.{bit, key_cmp, IsKey}
@@ -8,14 +8,14 @@ use Rattle.jf_hash.specs.Roots.{zeros, ones}
 use Rattle.jf_hash.specs.Slots.{Part}
 use Rattle.jf_model.specs.Changes.{applied, sorted-applied, all_keys-applied, filter-applied}
 
--- each half of what a batch makes is what the batch's half makes of the half
+-- after a batch, each half of the entries is that half after the batch's changes in it
 pub zeros-applied : (d : ℕ) (es : Part) (bs : Batch) → T (is_sorted key_cmp es) → zeros d (applied es bs) ≡ applied (zeros d es) (zeros d bs)
 zeros-applied d es bs sorted = filter-applied (λ k. not (bit k d)) es bs sorted
 
 pub ones-applied : (d : ℕ) (es : Part) (bs : Batch) → T (is_sorted key_cmp es) → ones d (applied es bs) ≡ applied (ones d es) (ones d bs)
 ones-applied d es bs sorted = filter-applied (λ k. bit k d) es bs sorted
 
--- entries stay under their path
+-- entries stay under their path after a batch
 pub IsUnder-applied : (d : ℕ) (path : ℕ → Bool) (es : Part) (bs : Batch) → IsUnder d path es → IsUnder d path bs → IsUnder d path (applied es bs)
 IsUnder-applied d path es bs p q = record {
   sorted = sorted-applied es bs p.sorted;

@@ -1,4 +1,4 @@
--- What the steps of an extension ask for, and what they come to.
+-- The steps of an extension: what each requires, and what they give together.
 use Rattle.std.proofs.Common.{◌≡◌, ◌<◌, ◌≤◌, ◌+◌, ◌-◌, ℕ, true, false, not, cond, List, [], ◌∷◌, ◌++◌, length, take, drop, get_or, refl, sym, ap, ap₂, ◌∙◌, arith, subst, Option, None, Some, Result, Ok, Err, IfOk, take_all, length-drop, length-take-le, is_eq}
 use Rattle.std.specs.FinMap.Entries.{by_order}
 use Rattle.std.specs.Cmp.{tied_itself}
@@ -17,7 +17,7 @@ use Rattle.jf_spec.specs.Costs.{most_steps}
 use Rattle.jf_spec.proofs.PartHalves.{AreParts-zeros, AreParts-ones, applied-halves, HaveBit-applied_zeros, HaveBit-applied_ones, batch_halves, deeper_under}
 use Rattle.jf_spec.proofs.Steps.{first_steps, both_steps}
 
--- from a place on, to the end
+-- all of a batch from a place on is its rest
 whole : (p : ℕ) (bs : Batch) → take (length bs - p) (drop p bs) ≡ drop p bs
 whole p bs = take_all (length bs - p) (drop p bs) (omega (arith, length-drop p bs))
 
@@ -41,14 +41,14 @@ module _ (d p : ℕ) (es : Part) (bs : Batch) (parts : AreParts d es bs) (first 
   one_new : (o y : RangeValue) → o ≡ record { depth = d + 1; entries = ones d es } → y ≡ record { depth = o.depth; entries = applied o.entries (take (length bs - p) (drop p bs)) } → y.entries ≡ applied (ones d es) (ones d bs)
   one_new o y is made = ap (λ w. w.entries) made ∙ ap₂ applied (ap (λ w. w.entries) is) (sym one_batch)
 
-  -- the new halves have one bit
+  -- each new half has its bit
   pub zero_bits : (z y : RangeValue) → z ≡ record { depth = d + 1; entries = zeros d es } → y ≡ record { depth = z.depth; entries = applied z.entries (take p bs) } → HaveBit d false y.entries
   zero_bits z y is made = subst (HaveBit d false) (sym (zero_new z y is made)) (HaveBit-applied_zeros d es bs parts)
 
   pub one_bits : (o y : RangeValue) → o ≡ record { depth = d + 1; entries = ones d es } → y ≡ record { depth = o.depth; entries = applied o.entries (take (length bs - p) (drop p bs)) } → HaveBit d true y.entries
   one_bits o y is made = subst (HaveBit d true) (sym (one_new o y is made)) (HaveBit-applied_ones d es bs parts)
 
-  -- together they are what the batch makes of the node
+  -- both new halves together are the node after the batch
   pub both_new : (z y o x : RangeValue) → z ≡ record { depth = d + 1; entries = zeros d es } → y ≡ record { depth = z.depth; entries = applied z.entries (take p bs) } → o ≡ record { depth = d + 1; entries = ones d es } → x ≡ record { depth = o.depth; entries = applied o.entries (take (length bs - p) (drop p bs)) }
       → y.entries ++ x.entries ≡ applied es bs
   both_new z y o x zis ymade ois xmade = ap₂ (λ a b. a ++ b) (zero_new z y zis ymade) (one_new o x ois xmade) ∙ applied-halves d es bs parts
@@ -56,7 +56,7 @@ module _ (d p : ℕ) (es : Part) (bs : Batch) (parts : AreParts d es bs) (first 
   both_long : length bs ≡ length (take p bs) + length (take (length bs - p) (drop p bs))
   both_long = let w = first.within in omega (arith, length-take-le p bs w, ap length (whole p bs), length-drop p bs)
 
-  -- the steps behind the first half, and behind both
+  -- the number of steps after the first half, and after both
   pub steps_first : (z : RangeValue) (start taken after : ℕ) → d < 256 → 1 ≤ length bs → z ≡ record { depth = d + 1; entries = zeros d es } → taken ≡ start + 1 → after ≤ taken + most_steps z.depth (length (take p bs)) → after ≤ start + most_steps d (length bs)
   steps_first z start taken after deep some is apart h =
       first_steps d (length bs) (length (take p bs)) _ start taken after deep some both_long apart (subst (λ k. after ≤ taken + most_steps k (length (take p bs))) (ap (λ w. w.depth) is) h)
@@ -68,9 +68,9 @@ module _ (d p : ℕ) (es : Part) (bs : Batch) (parts : AreParts d es bs) (first 
       (subst (λ j. after ≤ taken + most_steps j (length (take p bs))) (ap (λ w. w.depth) zis) h)
       (subst (λ j. last ≤ after + most_steps j (length (take (length bs - p) (drop p bs)))) (ap (λ w. w.depth) ois) k)
 
--- ---- a batch of one key or none
+-- ---- a batch of at most one key
 
--- a result by another spelling of its entries
+-- a result's entries may be given in another form
 pub ok_is : {E : Type 0} (r : Result RangeValue E) (v w : RangeValue) → v ≡ w → IfOk r (λ x. x ≡ v) → IfOk r (λ x. x ≡ w)
 ok_is (Ok x) v w is h = h ∙ is
 ok_is (Err e) v w is h = tt
@@ -79,7 +79,7 @@ pub none_applied : (es : Part) (bs : Batch) → length bs < 1 → es ≡ applied
 none_applied es [] short = sym (applied-none es)
 none_applied es (b ∷ bs) short = absurd (omega arith)
 
--- a key's own entry is replaced
+-- changing the key of a single entry gives what changing no entry gives
 changed_own : (k q w : List ℕ) (v : Option (List ℕ)) → q ≡ k → changed k v [] ≡ changed k v ((q, w) ∷ [])
 changed_own k q w (Some v) is =
     sym (ap (λ r. by_order r ((k, v) ∷ (q, w) ∷ []) ((q, v) ∷ []) ((q, w) ∷ (k, v) ∷ [])) (ap (key_cmp k) is ∙ tied_itself nat_list_cmp_total k) ∙ ap (λ z. (z, v) ∷ []) is)
@@ -94,7 +94,7 @@ only_applied b es [] only some short is = absurd (omega arith)
 only_applied b es (c ∷ []) only some short is = applied-word [] b.0 b.1 ∙ changed_only b.0 b.1 es only ∙ sym (applied-word es b.0 b.1) ∙ ap (λ x. applied es (x ∷ [])) is
 only_applied b es (c ∷ e ∷ bs) only some short is = absurd (omega arith)
 
--- where the node has an entry of another key, a bit is left
+-- if the node has an entry of another key, there is a bit below its depth
 pub other_deep : (d : ℕ) (b : List ℕ × Option (List ℕ)) (es : Part) (bs : Batch) → HasOther b.0 es → AreParts d es bs → 1 ≤ length bs → b ≡ get_or bs 0 b → d < 256
 other_deep d b [] bs other parts some is = absurd other
 other_deep d b (e ∷ es) [] other parts some is = absurd (omega arith)
@@ -105,7 +105,7 @@ other_deep d b (e ∷ f ∷ es) (c ∷ bs) other parts some is = deeper_under d 
 pub several_deep : (d : ℕ) (es : Part) (bs : Batch) → AreParts d es bs → 2 ≤ length bs → d < 256
 several_deep d es bs parts two = deeper_under d parts.path bs parts.batch two
 
--- what a change makes of no entry
+-- a removal leaves a node without entries unchanged
 pub removed : (b : List ℕ × Option (List ℕ)) → b.1 ≡ None → [] ≡ applied [] (b ∷ [])
 removed b is = sym (applied-word [] b.0 b.1 ∙ ap (λ v. changed b.0 v []) is)
 

@@ -1,4 +1,4 @@
--- What nodes have by what they are kept as.
+-- What the nodes of each form have: entries, hash and values.
 use Rattle.std.proofs.Common.{◌≡◌, ◌≤◌, ◌<◌, ◌+◌, ℕ, Bool, true, false, cond, List, [], ◌∷◌, ◌++◌, length, not, append-nil, refl, sym, ap, ap₂, ◌∙◌, subst, None, Some, Ordering, Less, Equal, Greater, true≢false, Global}
 use Rattle.std.proofs.lemmas.List.Elements.{filter-append}
 use Rattle.std.specs.FinMap.{find}
@@ -32,7 +32,7 @@ module _ (v : RangeValue) (depth : ℕ) (form : Form) (leaf : Arc LeafBody Globa
       let own : leaf.value.hash ≡ L leaf.value.key (V leaf.value.value) = (subst (IsSoundForm depth) is sound).1 in
       subst (λ (x : LeafBody). x.hash ≡ L x.key (V x.value)) (sym inside) own ∙ sym (part_root-one depth b.key b.value) ∙ ap (λ w. part_root w.depth w.entries) (sym leaf_is)
 
-  -- it has the value of its own key alone
+  -- a node of one entry has the value of that entry's key alone
   pub find_own : (key : List ℕ) (t : Bool) → is_eq (key_cmp key b.key) ≡ t → find key_cmp key v.entries ≡ cond t (Some b.value) None
   find_own key t test = ap (λ w. find key_cmp key w.entries) leaf_is ∙ ap (λ c. cond c (Some b.value) None) test
 
@@ -63,7 +63,7 @@ find-right key (e ∷ es) fs h =
       | false ↦ λ no. find-right key es fs no
     ] h
 
--- the entries with one bit
+-- all entries of a half have its bit
 kept_all : (d : ℕ) (es : Part) → HaveBit d true es → ones d es ≡ es
 kept_all d [] h = refl
 kept_all d (e ∷ es) h = ap (λ b. cond b (e ∷ ones d es) (ones d es)) h.0 ∙ ap (λ t. e ∷ t) (kept_all d es h.1)
@@ -80,7 +80,7 @@ left_none : (d : ℕ) (es : Part) → HaveBit d true es → zeros d es ≡ []
 left_none d [] h = refl
 left_none d (e ∷ es) h = ap (λ b. cond (not b) (e ∷ zeros d es) (zeros d es)) h.0 ∙ left_none d es h.1
 
--- of halves joined
+-- the halves of two halves joined are those halves
 pub zeros_of : (d : ℕ) (es fs : Part) → HaveBit d false es → HaveBit d true fs → zeros d (es ++ fs) ≡ es
 zeros_of d es fs z o = filter-append (λ e. not (bit e.0 d)) es fs ∙ ap₂ (λ a b. a ++ b) (left_all d es z) (left_none d fs o) ∙ append-nil es
 
@@ -109,7 +109,7 @@ module _ (v : RangeValue) (depth : ℕ) (form : Form) (branch : Arc BranchBody G
   find_zeros key sound zero =
       ap (λ w. find key_cmp key w.entries) branch_is ∙ find-left key b.zeros.entries b.ones.entries (find-other depth true key b.ones.entries (branch_halves sound).ones (λ e. true≢false (sym e ∙ zero)))
 
-  -- the halves by which it is kept are those by its next bit
+  -- a branch's halves are the entries by their next bit
   pub zeros_is : IsSoundForm depth form → b.zeros ≡ record { depth = v.depth + 1; entries = zeros v.depth v.entries }
   zeros_is sound =
       let h = branch_halves sound in
@@ -122,7 +122,7 @@ module _ (v : RangeValue) (depth : ℕ) (form : Form) (branch : Arc BranchBody G
       range_at (depth + 1) b.ones h.ones_deep ∙ ap (λ es. record { depth = depth + 1; entries = es }) (sym (ones_of depth b.zeros.entries b.ones.entries h.zeros h.ones))
       ∙ ap (λ w. record { depth = w.depth + 1; entries = ones w.depth w.entries }) (sym branch_is)
 
--- two halves with their hash
+-- two halves with their hash make a branch
 pub new_halves : (depth : ℕ) (left right : RangeValue) (hash l r : List ℕ) → depth < 256 → left.depth ≡ depth + 1 → right.depth ≡ depth + 1 → HaveBit depth false left.entries → HaveBit depth true right.entries
     → 2 ≤ length (left.entries ++ right.entries) → l ≡ part_root left.depth left.entries → r ≡ part_root right.depth right.entries → hash ≡ N l r → AreHalves depth left right hash
 new_halves depth left right hash l r deep zd od z o two lh rh is = record {

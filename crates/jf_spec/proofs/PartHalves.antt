@@ -1,4 +1,4 @@
--- A part falls into its halves, and what a batch makes of it into what the batch's halves make of them.
+-- A part falls into its halves, and so does the part after a batch.
 use Rattle.std.proofs.Common.{◌≡◌, ℕ, ◌+◌, ◌<◌, ◌≤◌, Bool, true, false, cond, ◌==◌, List, ◌++◌, length, take, drop, sym, ap₂, ◌∙◌, subst}
 use Rattle.jf_hash.specs.Maps.{Batch}
 use Rattle.jf_hash.specs.Parts.{IsUnder, HaveBit, IsFirstOne}
@@ -9,7 +9,7 @@ use Rattle.jf_model.specs.Changes.{applied}
 use Rattle.jf_spec.specs.Parts.{AreParts}
 use Rattle.jf_spec.proofs.Applied.{zeros-applied, ones-applied, IsUnder-applied}
 
--- under a path with two entries or more a bit is left
+-- a part with two entries or more has a bit below its depth
 pub deeper_under : {X : Type 0} (d : ℕ) (path : ℕ → Bool) (es : List (List ℕ × X)) → IsUnder d path es → 2 ≤ length es → d < 256
 deeper_under d path es h two = deeper d es (IsPart-under d path es h) two
 
@@ -20,13 +20,13 @@ AreParts-zeros d es bs h = record { path = λ i. cond (i == d) false (h.path i);
 pub AreParts-ones : (d : ℕ) (es : Part) (bs : Batch) → AreParts d es bs → AreParts (d + 1) (ones d es) (ones d bs)
 AreParts-ones d es bs h = record { path = λ i. cond (i == d) true (h.path i); entries = IsUnder-ones d h.path es h.entries; batch = IsUnder-ones d h.path bs h.batch }
 
--- what the batch makes of the part is what its halves make of the halves
+-- a part after a batch is its halves after the batch's halves
 pub applied-halves : (d : ℕ) (es : Part) (bs : Batch) → AreParts d es bs → applied (zeros d es) (zeros d bs) ++ applied (ones d es) (ones d bs) ≡ applied es bs
 applied-halves d es bs h =
     ap₂ (λ a b. a ++ b) (sym (zeros-applied d es bs h.entries.sorted)) (sym (ones-applied d es bs h.entries.sorted))
     ∙ zeros-append-ones d (applied es bs) (IsPart-under d h.path (applied es bs) (IsUnder-applied d h.path es bs h.entries h.batch))
 
--- each of these has its bit
+-- the half of 0 bits, after a batch, has that bit
 pub HaveBit-applied_zeros : (d : ℕ) (es : Part) (bs : Batch) → AreParts d es bs → HaveBit d false (applied (zeros d es) (zeros d bs))
 HaveBit-applied_zeros d es bs h = subst (HaveBit d false) (zeros-applied d es bs h.entries.sorted) (HaveBit-zeros d (applied es bs))
 

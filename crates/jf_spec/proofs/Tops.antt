@@ -51,7 +51,7 @@ parts_of top bs tree batch = record {
   batch = record { sorted = batch.sorted; keys = batch.keys; agree = agree_none top.depth bs tree.depth };
 }
 
--- what the batch makes of the top is a tree, of the map that it makes of the map
+-- the top after a batch is the top of a tree, whose map is the map after the batch
 pub tree_applied : (top new : RangeValue) (bs : Batch) → new ≡ record { depth = top.depth; entries = applied top.entries bs } → IsTree top → IsBatch bs → IsTree new
 tree_applied top new bs is tree batch =
     subst IsTree (sym is) (record { depth = tree.depth; sorted = sorted-applied top.entries bs tree.sorted; keys = all_keys-applied IsKey top.entries bs tree.keys batch.keys })
@@ -63,7 +63,7 @@ map_applied top new m bs is seen tree =
     ∙ ap fin.from_sorted (sym (entries-apply m bs))
     ∙ map_of (apply m bs)
 
--- the steps of all keys
+-- the steps from the top are at most 600 n + 1
 pub steps_of : (d n before after : ℕ) → d ≡ 0 → after ≤ before + most_steps d n → after ≤ before + (600 * n + 1)
 steps_of d n before after none h =
     let e : most_steps d n ≡ n * 513 = ap (λ k. n * (2 * (256 - k) + 1)) none in

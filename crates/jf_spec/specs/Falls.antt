@@ -1,4 +1,4 @@
--- Halves reach less far down than what they are halves of.
+-- How deep a form is nested: at most 257 levels, less its depth.
 use Rattle.std.specs.Prelude.{◌≤◌, ℕ, max}
 use Rattle.std.proofs.Common.{arith}
 use Rattle.jf_spec.specs.Forms.{IsSoundForm, node_value, levels}

@@ -1,4 +1,4 @@
--- How a node of a speculative tree is kept.
+-- The three forms in which a node of a speculative tree is kept.
 use Rattle.std.specs.Prelude.{◌≡◌, ℕ, ◌+◌, ◌-◌, ◌<◌, ◌≤◌, true, false, List, [], ◌∷◌, ◌++◌, length}
 use Rattle.jf_hash.specs.Hashes.{L, V}
 use Rattle.jf_hash.specs.Parts.{HaveBit}
@@ -24,16 +24,16 @@ pub record AreHalves (depth : ℕ) (left right : RangeValue) (hash : List ℕ) :
   pub several : 2 ≤ length (left.entries ++ right.entries)
   pub hashed : hash ≡ part_root depth (left.entries ++ right.entries)
 
--- what a form owes at its depth
+-- what holds of a form at its depth
 abbrev pub IsSoundForm : ℕ → Form → Type 0
 IsSoundForm depth (Stored range) = (depth ≤ 256) × (range.depth ≡ depth)
 IsSoundForm depth (Leaf leaf) = (depth ≤ 256) × (leaf.value.hash ≡ L leaf.value.key (V leaf.value.value))
 IsSoundForm depth (Branch branch) = AreHalves depth branch.value.zeros branch.value.ones branch.value.hash
 
--- what a node stands for
+-- a node as contracts see it: its depth and its entries
 abbrev pub node_value : ℕ → Form → RangeValue
 node_value depth form = record { depth = depth; entries = form_entries form }
 
--- how far a node reaches down
+-- how many levels a node may have
 abbrev pub levels : RangeValue → ℕ
 levels v = 257 - v.depth

@@ -4,7 +4,7 @@ use Rattle.jf_hash.specs.Maps.{Batch}
 use Rattle.jf_hash.specs.Parts.{IsUnder}
 use Rattle.jf_hash.specs.Slots.{Part}
 
--- both under one path
+-- the entries and the batch have all their keys under one path
 pub record AreParts (depth : ℕ) (es : Part) (bs : Batch) : Type 0 where
   pub path : ℕ → Bool
   pub entries : IsUnder depth path es

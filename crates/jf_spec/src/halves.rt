@@ -1,4 +1,4 @@
-// Taking a node apart into its halves, and making one of two halves: each is counted as a step.
+// Taking nodes apart, and making them: each is counted as a step.
 ghost use Rattle.std.specs.Prelude.{◌≡◌, ◌+◌, ◌<◌, ◌≤◌, true, false, ◌∷◌, [], ◌++◌, length, IfOk, min};
 ghost use Rattle.jf_hash.specs.Roots.{zeros, ones};
 ghost use Rattle.jf_hash.specs.Parts.{HaveBit};
@@ -64,7 +64,7 @@ fn leaf_halves(depth: u64, leaf: &Arc<LeafBody, Global>) -> Result<Halves, Memor
 }
 
 impl Node {
-    // How many entries it has, up to two.
+    // How many entries a node has, up to two.
     fn up_to_two(&self) -> u64
         ensures { result ≡ min 2 (length self.now.entries) }
     {
@@ -75,7 +75,7 @@ impl Node {
         }
     }
 
-    // One entry or none, as a node of another depth.
+    // A node of at most one entry, at another depth.
     fn at(self, depth: u64) -> Node
         requires lone { length self.entries ≤ 1 }
         requires depth { depth ≤ 256 }
@@ -92,7 +92,7 @@ impl Node {
         }
     }
 
-    // The node of two halves with two entries or more.
+    // The node of two halves that have at least two entries together.
     fn branch(alloc: Global, depth: u64, zeros: Node, ones: Node) -> Result<Node, Memory>
         requires depth { depth < 256 }
         requires zeros_depth { zeros.depth ≡ depth + 1 }
@@ -152,7 +152,8 @@ impl Node {
         })
     }
 
-    // Makes the node of two halves: one step. One entry stands for itself.
+    // Makes the node of two halves: one step. If they have at most one entry together, it is the node of that entry, or
+    // the empty one, at this depth.
     pub(crate) fn join<L: Ledger>(
         alloc: Global,
         depth: u64,

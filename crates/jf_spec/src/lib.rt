@@ -1,5 +1,5 @@
-//! Speculative trees: what a batch makes of a map, in a binary tree that shares what it leaves unchanged, and refers
-//! to stored nodes if no batch has changed them.
+//! Speculative trees: the map after a batch, as a binary tree that shares with the map before what is unchanged, and
+//! refers to stored nodes where no key of the batch is.
 #![tactic(auto)]
 
 mod extend;

@@ -1,4 +1,4 @@
-// The nodes of speculative trees: a stored node, a new entry, or two new halves.
+// The nodes of speculative trees, which share what they have in common with other trees.
 ghost use Rattle.std.specs.Prelude.{◌≡◌, ℕ, ◌+◌, ◌<◌, ◌≤◌, true, false, [], ◌∷◌, ◌++◌, length, IfOk};
 ghost use Rattle.std.specs.Option.{option_copied};
 ghost use Rattle.std.specs.FinMap.{find};
@@ -14,7 +14,7 @@ use std::alloc::Global;
 use std::marker::Model;
 use std::sync::Arc;
 
-// A node of a binary tree that may be shared: a node of a stored tree, a new entry, or two new halves.
+// A node of a binary tree that may be shared: a range of a stored tree, a new entry, or two new halves.
 #[cycle(node)]
 #[derive(Drop)]
 pub(crate) struct Node {
@@ -38,7 +38,7 @@ pub(crate) struct LeafBody {
     pub(crate) hash: Hash,
 }
 
-// The entries whose next bit is 0 and those where it is 1, two or more together, and their hash.
+// Two halves, the entries whose next bit is 0 and those whose next bit is 1, two or more together, and their hash.
 #[cycle(node)]
 #[derive(Drop)]
 pub(crate) struct BranchBody {
@@ -66,7 +66,7 @@ impl Model for Node {
 }
 
 impl Node {
-    // The node of no entry.
+    // The node without entries.
     pub(crate) fn empty(depth: u64) -> Node
         requires { depth ≤ 256 }
         ensures { result ≡ record { depth = depth; entries = [] } }
@@ -85,14 +85,14 @@ impl Node {
         }
     }
 
-    // How many leading bits say which keys belong here.
+    // The depth of the node, 0 to 256: the number of leading bits that say which keys belong to it.
     pub(crate) fn depth(&self) -> u64
         ensures { result ≡ self.now.depth }
     {
         self.depth
     }
 
-    // The same node once more.
+    // Another handle on the same node.
     pub(crate) fn share(&self) -> Result<Node, Memory>
         ensures { IfOk result (λ x. x ≡ self.now) }
     {
@@ -121,7 +121,7 @@ impl Node {
         }
     }
 
-    // Its hash.
+    // The hash of the node at its depth.
     pub(crate) fn hash(&self) -> Hash
         ensures { result ≡ part_root self.now.depth self.now.entries }
     {
@@ -132,7 +132,7 @@ impl Node {
         }
     }
 
-    // What it holds.
+    // What the node holds.
     pub(crate) fn held(&self) -> Held<'_>
         ensures { Holds self.now.entries result }
     {

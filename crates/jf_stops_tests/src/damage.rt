@@ -1,4 +1,4 @@
-// Damaged files: where the damage is told, and that a refused opening changes no byte.
+// Damaged files: which place is reported, and that a refused opening changes no byte.
 use jf_disk::{Disk, MemDisk, Side};
 use jf_play::play::{NO_FAULTS, Played, answers, disk_of, has_ended, new_disk, play};
 use jf_play::roots::with_roots;
@@ -28,8 +28,8 @@ fn changed(
 // Bytes of a file by their offsets.
 type Change = (usize, u8);
 
-// How many bytes of the file are kept, which are changed, the place of the damage that is told, if any, and what `root head`
-// is answered.
+// How many bytes of the file are kept, which are changed, the place of the damage that is reported, if any, and the
+// reply to `root head`.
 const DAMAGES: &[(usize, &[Change], Option<u64>, &str)] = &[
     (91, &[], None, "0 ok root R\n"),
     (91, &[(64, 0x5a)], None, "0 ok root R\n"),
@@ -64,14 +64,14 @@ fn status_of(damage: Option<u64>) -> Status {
     }
 }
 
-// A disk on which `put 61 =31` and a landing of nothing have landed.
+// A disk on which `put 61 =31` and an empty batch have landed.
 fn landed<H: Threads + Wait + Sync>(rt: &H, alloc: Global) -> Result<Box<MemDisk>, Fail> {
     let want = with_roots(alloc, "0 ok pending 1\n1 ok commit 1 R\n2 ok commit 2 R\n")?;
     let disk = new_disk(alloc, b"", &[])?;
     answers(rt, alloc, disk, b"put 61 =31\ncommit\ncommit", 0, &want)
 }
 
-// Whether a run over this side A ends so, and writes this.
+// Whether a run over this side A ends as expected, and writes this.
 fn is_told<H: Threads + Wait + Sync>(
     rt: &H,
     alloc: Global,
@@ -108,7 +108,7 @@ fn is_unchanged(played: &Played<MemDisk>, a: &[u8]) -> bool {
     refused && played.disk.bytes(Side::A) == a && played.disk.bytes(Side::B) == B
 }
 
-// Whether a run ended as one ends whose disk failed, or as one whose disk did not.
+// Whether a run ended with a disk fault if its disk failed, and with this damage if it didn't.
 fn is_cause(played: &Played<MemDisk>, damage: u64) -> bool {
     if played.disk.faults() == 0 {
         played.status == status_of(Some(damage))
@@ -117,7 +117,7 @@ fn is_cause(played: &Played<MemDisk>, damage: u64) -> bool {
     }
 }
 
-// Opens this side A on a disk that fails in this call; whether the call was made.
+// Opens this side A on a disk that fails in this call; returns whether the call was made.
 fn has_failed<H: Threads + Wait + Sync>(
     rt: &H,
     alloc: Global,
@@ -136,8 +136,8 @@ fn has_failed<H: Threads + Wait + Sync>(
     Ok(played.disk.faults() > 0)
 }
 
-// Opens this side A on disks that fail in the first call, in the second and so on, up to one that never fails; how many
-// do.
+// Opens this side A on disks that fail in the first call, in the second and so on, up to one that never fails; returns
+// how many of them fail.
 fn failed_calls<H: Threads + Wait + Sync>(
     rt: &H,
     alloc: Global,

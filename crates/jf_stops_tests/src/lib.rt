@@ -1,4 +1,4 @@
-//! Tests of what stops of a command line's run leave: crashes at any moment, calls of the disk that fail, and damaged files.
+//! Tests of what is left when a run stops: after crashes at any moment, calls of the disk that fail, and damaged files.
 #![tactic(auto)]
 
 #[cfg(test)]

@@ -1,4 +1,4 @@
-// What a stop at any moment leaves, and each call of the disk that fails.
+// What a stop at any moment, or after any call of the disk that fails, leaves in the files.
 use jf_disk::{Disk, MemDisk};
 use jf_model::Entry;
 use jf_play::play::{
@@ -24,7 +24,7 @@ const ROOTS: &[&str] = &[
     "711515a8ec2f04d2cc621c264dcfed0376f8969ae06c1e7d41d5815b86980647",
 ];
 
-// The reply to the `put` before each landing, and that to its `commit`.
+// The replies to the `put` before each landing, and to its `commit`.
 const REPLIES: &[(&str, &str)] = &[
     (
         "0 ok pending 1\n",
@@ -48,7 +48,7 @@ const REPLIES: &[(&str, &str)] = &[
     ),
 ];
 
-// What a run of the script writes that lands so many times: if they are not all, then up to the next `commit`.
+// What a run of the script writes that lands `landings` times: if these aren't all, up to the next `commit`.
 fn replies(alloc: Global, landings: u64) -> Result<Vec<u8>, Fail> {
     let mut text = Vec::new(alloc);
     let mut landed = 0;
@@ -63,7 +63,7 @@ fn replies(alloc: Global, landings: u64) -> Result<Vec<u8>, Fail> {
     Ok(text)
 }
 
-// Every version, and the head.
+// Reads of every version, and of the head.
 const READS: &[u8] = b"root v0\nroot v1\nroot v2\nroot v3\nroot v4\nroot v5\nroot head";
 
 // The reply to `root` of a version, over a store that is opened at this head.
@@ -84,7 +84,7 @@ fn read_replies(alloc: Global, head: u64) -> Result<Vec<u8>, Fail> {
     Ok(text)
 }
 
-// Opens a disk: its head is so many versions, or one more, and each version has its root.
+// Opens a disk, and checks that its head is this version or the next, and that each version has its root.
 fn is_opened<H: Threads + Wait + Sync>(
     rt: &H,
     alloc: Global,
@@ -102,12 +102,12 @@ fn is_opened<H: Threads + Wait + Sync>(
     }
 }
 
-// How many unsynced bytes a crash keeps, and what it leaves in place of the others.
+// How many unsynced bytes a crash keeps, and the byte that it leaves in place of each of the others.
 const KEPT: &[u64] = &[0, 1, 30, 1 << 62];
 
 const FILLS: &[u8] = &[0x00, 0x01, 0xff];
 
-// The image after a crash after so many calls, of which there were as many.
+// The image that a crash leaves after this number of calls.
 fn image_of(
     alloc: Global,
     disk: &MemDisk,
@@ -121,7 +121,7 @@ fn image_of(
     Ok(Box::new(alloc, disk.image(alloc, moment, kept, fill)?)?)
 }
 
-// Opens each image after a crash after so many calls, and that keeps so many bytes.
+// Opens each image that a crash after this number of calls leaves, if it keeps this number of bytes.
 fn open_filled<H: Threads + Wait + Sync>(
     rt: &H,
     alloc: Global,
@@ -137,7 +137,7 @@ fn open_filled<H: Threads + Wait + Sync>(
     Ok(())
 }
 
-// Opens each image after a crash after so many calls.
+// Opens each image that a crash after this number of calls leaves.
 fn open_images<H: Threads + Wait + Sync>(
     rt: &H,
     alloc: Global,
@@ -151,7 +151,7 @@ fn open_images<H: Threads + Wait + Sync>(
     Ok(())
 }
 
-// The moment of each landing among entries.
+// The moments of the landings among entries.
 fn landings(alloc: Global, entries: &[Entry]) -> Result<Vec<u64>, Fail> {
     let mut moments = Vec::new(alloc);
     for entry in entries {
@@ -193,7 +193,7 @@ fn a_stop_at_any_moment_leaves_what_was_acknowledged(rt: HostRuntime) -> Result<
     Ok(())
 }
 
-// How far a run comes whose disk fails in a call.
+// How far a run gets whose disk fails in a call.
 #[derive(Clone, Copy, Debug, PartialEq, Eq)]
 enum Reached {
     Opening,
@@ -201,7 +201,7 @@ enum Reached {
     End,
 }
 
-// How far a run of the script came, by how it ended.
+// How far a run of the script got, by how it ended.
 fn place_of(status: Status, start: Option<u64>) -> Option<Reached> {
     match (status, start) {
         (Status::DiskFault, None) => Some(Reached::Opening),
@@ -211,7 +211,7 @@ fn place_of(status: Status, start: Option<u64>) -> Option<Reached> {
     }
 }
 
-// Whether a run that came so far wrote what it is to write.
+// Whether a run that got so far wrote what it must.
 fn is_told(alloc: Global, played: &Played<MemDisk>, reached: Reached) -> Result<bool, Fail> {
     let told = match reached {
         Reached::Opening => Vec::new(alloc),
@@ -239,7 +239,7 @@ fn run_failing<H: Threads + Wait + Sync>(
     Ok(played)
 }
 
-// The same, and opens what the disk itself holds, if the call was made.
+// Runs the script so, and also opens what the disk itself holds, if the call was made.
 fn reach<H: Threads + Wait + Sync>(rt: &H, alloc: Global, failing: u64) -> Result<Reached, Fail> {
     let played = run_failing(rt, alloc, failing)?;
     let reached = place_of(played.status, played.start).ok_or("the run ends otherwise")?;

@@ -1,4 +1,4 @@
--- What follows from the rule of a turn.
+-- The laws of `specs/Laws.antt`, from the rule of a turn.
 use Rattle.std.proofs.Common.{◌≡◌, ◌≢◌, ◌⊎◌, ℕ, ◌<◌, ◌+◌, ◌*◌, ◌≤◌, List, length, slice_index, Option, Some, refl, sym, ap, ◌∙◌, subst, inl, inr, arith}
 use mathlib.Core.Option as maybe
 use native.Mathlib.Decide.{dec_le}
@@ -27,12 +27,12 @@ module _ {V E O : Type 0} (list : V → List E) (names : E → ℕ) (origin_of :
   holder_of entries homes v (held_by n) Opening s t = (n, refl, s.0)
   holder_of entries homes v (held_by n) (Holding l) s t = (n, refl, s.0)
 
-  -- and its view keeps the turn's list
+  -- the view of the holder keeps the turn's list
   list_of : (entries l : List E) (homes : List (maybe.Option (Option V))) (v : SeatView E O) (h : Hand) → Stand entries homes v h (Holding l) → (n : ℕ) × (h ≡ held_by n) × (l ≡ entries)
   list_of entries l homes v free s = absurd s
   list_of entries l homes v (held_by n) s = (n, refl, s.1)
 
-  -- a seat that has not the turn has seen its own entries
+  -- a seat that doesn't have the turn has seen its own entries
   own_of : (entries : List E) (homes : List (maybe.Option (Option V))) (v : SeatView E O) (h : Hand) (stage : Stage E) → Stand entries homes v h stage → stage ≢ Spent → ¬ (HasTurn stage) → OwnAreSeen list names origin_of entries v
   own_of entries homes v h Spent s there not = absurd (there refl)
   own_of entries homes v h Opening s there not = absurd (not tt)
@@ -40,7 +40,7 @@ module _ {V E O : Type 0} (list : V → List E) (names : E → ℕ) (origin_of :
   own_of entries homes v free Idle s there not = s
   own_of entries homes v (held_by n) Idle s there not = s.1
 
-  -- its entries among those that begin the turn's list
+  -- if a seat has seen its own entries in a list, it has seen those in a front of the list
   own_first : (entries front : List E) (v : SeatView E O) → StartsWith entries front → OwnAreSeen list names origin_of entries v → OwnAreSeen list names origin_of front v
   own_first entries front v s own = λ k e at has. own k e (subst (λ xs. get_elem? xs k ≡ maybe.some e) (sym s.1) (at_longer front s.0 k e at)) has
 

@@ -22,7 +22,7 @@ module _ {E V : Type 0} where
   idle_of Opening c carries none = absurd carries
   idle_of (Holding l) c carries none = absurd (let e : Some l ≡ None = none in cc)
 
-  -- a seat that holds a list has the slot, which it left empty
+  -- a seat that holds a list has the slot, which is empty
   pub holding_of : (stage : Stage E) (c : List (ℕ × Option V)) (l : List E) → Carries stage c → taken_at stage ≡ Some l → (stage ≡ Holding l) × (c ≡ (0, None) ∷ [])
   holding_of Spent c l carries some = absurd carries
   holding_of Idle c l carries some = absurd (let e : None ≡ Some l = some in cc)
@@ -30,7 +30,7 @@ module _ {E V : Type 0} where
   holding_of (Holding k) c l carries some = ((let e : Some k ≡ Some l = some in cc), carries)
 
 module _ {E : Type 0} where
-  -- an element behind the first n
+  -- an element after the first n, by its place in the whole list
   at_drop : (xs : List E) (n k : ℕ) (e : E) → get_elem? (drop n xs) k ≡ maybe.some e → get_elem? xs (n + k) ≡ maybe.some e
   at_drop xs zero k e at = let same : k ≡ 0 + k = omega arith in subst (λ j. get_elem? xs j ≡ maybe.some e) same at
   at_drop [] (suc n) k e at = absurd (maybe.some-ne-none e (sym at))
@@ -48,12 +48,12 @@ module _ {E : Type 0} where
   pick xs ys true s = (s, starts_self ys)
   pick xs ys false s = (starts_self xs, s)
 
-  -- the longer of two lists begins with both, where it begins with the shorter
+  -- the longer of two lists begins with both, if it begins with the shorter
   pub both_begin : (xs ys : List E) → StartsWith (longer xs ys) (shorter xs ys) → StartsWith (longer xs ys) xs × StartsWith (longer xs ys) ys
   both_begin xs ys s = pick xs ys (ltb (length xs) (length ys)) s
 
 module _ {V E O : Type 0} (list : V → List E) (names : E → ℕ) (origin_of : V → O) where
-  -- none of the entries that come after is the seat's own
+  -- no entry after those that the seat has seen is its own
   pub others_follow : (id : TableId) (v : SeatView E O) (entries : List E) → OwnAreSeen list names origin_of entries v → OthersFollow names (seat_state id v) entries
   others_follow id v entries own = λ e has own_name. let less = own (length v.seen + has.0) e (at_drop entries (length v.seen) has.0 e has.1) own_name in omega arith
 
@@ -70,7 +70,7 @@ module _ {E O : Type 0} where
   pub maker_is_new : (t : TurnState O) (id : TableId) (v : SeatView E O) (n : ℕ) → id ≡ t.id → IsMaker v t.origin n → seat_state id v ≡ new_seat t n
   maker_is_new t id v n same m = λ i. record { turn = same i; origin = m.6 i; number = m.2 i; numbers = m.3 i; seen = m.5 i; taken = taken_at (m.0 i) }
 
-  -- one new seat more
+  -- a list of new seats is longer by the next new seat
   pub new_longer : (t : TurnState O) (ss : List (SeatState E O)) (s : SeatState E O) (n m : ℕ) → AreNew t ss n → m ≡ n + length ss → s ≡ new_seat t m → AreNew t (ss ++ s ∷ []) n
   new_longer t [] s n m new at is = let same : m ≡ n = omega arith in (is ∙ ap (new_seat t) same, tt)
   new_longer t (x ∷ ss) s n m new at is = (new.0, new_longer t ss s (n + 1) m new.1 (omega arith) is)
@@ -95,7 +95,7 @@ module _ {E : Type 0} (names : E → ℕ) where
   both_follow_by false xs ys ns ms kept = (none_after xs ns, kept_after ys xs ms kept)
 
 module _ {E O : Type 0} (names : E → ℕ) where
-  -- behind the lists of both there is nothing of their own
+  -- after what either of two joined seats has seen, no entry is its own
   pub both_follow : (v w : SeatView E O) → ((n : ℕ) → Has (joined v w).other_numbers n → (k : ℕ) (e : E) → get_elem? (joined v w).seen k ≡ maybe.some e → names e ≡ n → k < length (joined v w).other_seen)
       → After names v.seen v.numbers (joined v w).seen × After names w.seen w.numbers (joined v w).seen
   both_follow v w kept = both_follow_by names (ltb (length v.seen) (length w.seen)) v.seen w.seen v.numbers w.numbers kept

@@ -78,11 +78,11 @@ module _ {V E O : Type 0} (list : V → List E) (names : E → ℕ) (origin_of :
   sits_at : (s : St) (r : Rule s) (id : ℕ) (v : W) → v.stage ≢ Spent → get_elem? s.views id ≡ maybe.some v → Sit r.account id v
   sits_at s r id v here at = (r.each id v at).0 here
 
-  -- two seats stand for no number both
+  -- no number is one for which two seats stand
   apart : (p : Account E O) (id j n : ℕ) (u : W) → p.seat_of n ≡ id → j ≢ id → Sit p j u → Has u.numbers n → ⊥
   apart p id j n u own other sit has = other (sym (sit.numbers n has).1 ∙ own)
 
-  -- a seat takes the turn
+  -- another seat still agrees after a seat takes the turn
   taken_else : (entries : List E) (hs hs' : Homes) (n : ℕ) (u : W) (st : Stage E) → (st ≢ Spent → Has u.numbers n → ⊥) → Stand entries hs u free st → Stand entries hs' u (held_by n) st
   taken_else entries hs hs' n u Spent not s = tt
   taken_else entries hs hs' n u Idle not s = (not (λ e. cc), s)
@@ -131,7 +131,7 @@ module _ {V E O : Type 0} (list : V → List E) (names : E → ℕ) (origin_of :
         ((λ hit. absurd (miss hit)), λ _. refl),
       ))
 
-  -- the seat that has the turn
+  -- the holder of the turn is held for one of its numbers, and keeps the turn's list
   holder_of : (entries l : List E) (hs : Homes) (v : W) (h : Hand) → Stand entries hs v h (Holding l) → (n : ℕ) × (h ≡ held_by n) × Has v.numbers n × (l ≡ entries)
   holder_of entries l hs v free s = absurd s
   holder_of entries l hs v (held_by n) s = (n, refl, s.0, s.1)
@@ -140,7 +140,7 @@ module _ {V E O : Type 0} (list : V → List E) (names : E → ℕ) (origin_of :
   born_of entries hs v free s = absurd s
   born_of entries hs v (held_by n) s = (n, refl, s.0, s.1, s.2)
 
-  -- the others, where the holder of the number n does a step: none of them holds the turn
+  -- if the holder of the number n does a step, no other seat holds the turn
   held_else : (entries entries' : List E) (hs hs' : Homes) (n : ℕ) (u : W) (st : Stage E) → (st ≢ Spent → Has u.numbers n → ⊥) → (st ≢ Spent → OwnAreSeen list names origin_of entries u → OwnAreSeen list names origin_of entries' u) → Stand entries hs u (held_by n) st → Stand entries' hs' u (held_by n) st
   held_else entries entries' hs hs' n u Spent not own s = tt
   held_else entries entries' hs hs' n u Idle not own s = (s.0, own (λ e. cc) s.1)
@@ -364,7 +364,7 @@ module _ {V E O : Type 0} (list : V → List E) (names : E → ℕ) (origin_of :
   either_list P true xs ys p q = p
   either_list P false xs ys p q = q
 
-  -- what stands for the numbers of the seat other stands with the seat id
+  -- the numbers of the seat `other` go to the seat id
   abbrev handed : (ℕ → ℕ) → ℕ → ℕ → ℕ → ℕ
   handed seat_of other id n = cond (eqb (seat_of n) other) id (seat_of n)
 

@@ -59,7 +59,7 @@ module _ {A : Type 0} where
   front_first [] (y ∷ b) ra rb e l = absurd (omega arith)
   front_first (x ∷ a) (y ∷ b) ra rb e l = let h : x ≡ y = cc in let t : a ++ ra ≡ b ++ rb = cc in let r = front_first a b ra rb t (omega arith) in (r.0, λ i. h i ∷ r.1 i)
 
-  -- of two beginnings of one list, the front_first begins the longer
+  -- of two fronts of one list, the shorter begins the longer
   pub prefix_of : (entries a b : List A) → StartsWith entries a → StartsWith entries b → length b ≤ length a → StartsWith a b
   prefix_of entries a b s t l = front_first a b s.0 t.0 (sym s.1 ∙ t.1) l
 
@@ -67,7 +67,7 @@ module _ {A : Type 0} where
   whole entries a [] q e f = e ∙ append-nil a
   whole entries a (x ∷ r) q e f = absurd (let n = ap length e in let m = ap length f in omega (arith, length-append a (x ∷ r), length-append entries q))
 
-  -- a beginning that is as long is the whole
+  -- a front as long as the list is the whole list
   pub prefix_whole : (entries a : List A) → StartsWith entries a → length entries ≤ length a → entries ≡ a
   prefix_whole entries a s l = let r = front_first a entries s.0 [] (sym s.1 ∙ sym (append-nil entries)) l in whole entries a s.0 r.0 s.1 r.1
 

@@ -21,7 +21,7 @@ abbrev pub IsThere : {S E O : Type 0} → State S (SeatView E O) → ℕ → Sea
 IsThere s place v = (get_elem? s.views place ≡ some v) × (v.stage ≢ Spent)
 
 module _ {V E O : Type 0} (list : V → List E) (names : E → ℕ) (origin_of : V → O) where
-  -- a turn whose word is even has at home a value that stands for half as many entries and has the turn's origin; no seat has the turn, and the value's list begins with all that any seat has seen and has no entry of a seat's own behind that
+  -- a turn whose word is even has at home a value that stands for half as many entries and has the turn's origin; no seat has the turn, and the value's list begins with all that any seat has seen, after which no entry is that seat's own
   abbrev pub FreeTurnHasItsValue : Type 0
   FreeTurnHasItsValue =
       (seats : ℕ) (start : O) (s : State (Option V) (SeatView E O)) → IsTurn list names origin_of seats start s → slice_index s.words 0 % 2 ≡ 0
@@ -29,7 +29,7 @@ module _ {V E O : Type 0} (list : V → List E) (names : E → ℕ) (origin_of :
       × ((place : ℕ) (v : SeatView E O) → IsThere s place v → ¬ (HasTurn v.stage) × StartsWith (list y) v.seen × OwnAreSeen list names origin_of (list y) v)
       × ((e : E) → Has (list y) e → names e < slice_index s.words 1)
 
-  -- two seats that have the turn are one
+  -- two seats that have the turn are the same seat
   abbrev pub OneSeatHolds : Type 0
   OneSeatHolds = (seats : ℕ) (start : O) (s : State (Option V) (SeatView E O)) → IsTurn list names origin_of seats start s
       → (i j : ℕ) (v w : SeatView E O) → IsThere s i v → IsThere s j w → HasTurn v.stage → HasTurn w.stage → i ≡ j
@@ -45,7 +45,7 @@ module _ {V E O : Type 0} (list : V → List E) (names : E → ℕ) (origin_of :
   SeenListsAgree = (seats : ℕ) (start : O) (s : State (Option V) (SeatView E O)) → IsTurn list names origin_of seats start s
       → (i j : ℕ) (v w : SeatView E O) → IsThere s i v → IsThere s j w → StartsWith v.seen w.seen ⊎ StartsWith w.seen v.seen
 
-  -- two seats that stand for one number are one
+  -- two seats that stand for one number are the same seat
   abbrev pub SeatsStandApart : Type 0
   SeatsStandApart = (seats : ℕ) (start : O) (s : State (Option V) (SeatView E O)) → IsTurn list names origin_of seats start s
       → (i j : ℕ) (v w : SeatView E O) (n : ℕ) → IsThere s i v → IsThere s j w → Has v.numbers n → Has w.numbers n → i ≡ j
@@ -56,7 +56,7 @@ module _ {V E O : Type 0} (list : V → List E) (names : E → ℕ) (origin_of :
       → (slice_index s.words 1 ≤ seats)
       × ((i : ℕ) (v : SeatView E O) → IsThere s i v → ((n : ℕ) → Has v.numbers n → n < slice_index s.words 1) × ((e : E) → Has v.seen e → names e < slice_index s.words 1) × (v.origin ≡ Some start))
 
-  -- an entry that any seat has seen, or that the holder's list has, and that names a number of a seat which has not the turn, is one that this seat has seen
+  -- an entry that any seat has seen, or that the holder's list has, and that names a number of a seat without the turn, is one that this seat has seen
   abbrev pub OwnEntriesAreSeen : Type 0
   OwnEntriesAreSeen = (seats : ℕ) (start : O) (s : State (Option V) (SeatView E O)) → IsTurn list names origin_of seats start s
       → (i j : ℕ) (v w : SeatView E O) → IsThere s i v → IsThere s j w → ¬ (HasTurn v.stage)

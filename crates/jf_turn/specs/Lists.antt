@@ -16,7 +16,7 @@ module _ {A : Type 0} where
   abbrev pub longer : List A → List A → List A
   longer xs ys = cond (ltb (length xs) (length ys)) ys xs
 
-  -- the other of the two
+  -- the shorter of two lists, and the second if they are as long
   abbrev pub shorter : List A → List A → List A
   shorter xs ys = cond (ltb (length xs) (length ys)) xs ys
 

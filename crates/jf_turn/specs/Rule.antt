@@ -9,7 +9,7 @@ use Rattle.jf_turn.specs.declared.view.Stage.TheVariants.{Spent, Idle, Opening, 
 use Rattle.jf_turn.specs.declared.view.SeatView.{SeatView}
 use Rattle.jf_turn.specs.Lists.{Has, StartsWith}
 
--- the turn is free, or held by the seat that stands for a number
+-- who has the turn: it is free, or held by the seat that stands for a number
 pub data Hand : Type 0 where
   free : Hand
   held_by : ℕ → Hand
@@ -54,9 +54,9 @@ module _ {V E O : Type 0} (list : V → List E) (names : E → ℕ) (origin_of :
   pub record IsSeat (a : Account E O) (place : ℕ) (v : SeatView E O) : Type 0 where
     -- its seen list is a prefix of the turn's list
     pub seen : StartsWith a.entries v.seen
-    -- and so is what a seat that was joined to it had seen
+    -- what a seat that was joined to it had seen is a prefix of the turn's list too
     pub other_seen : StartsWith a.entries v.other_seen
-    -- which has all entries that name a number of that seat; none of its numbers is kept once this one has taken the turn or made a seat
+    -- that prefix has all entries that name a number of the joined seat; its numbers are kept until this seat takes the turn or makes a seat
     pub others : (n : ℕ) → Has v.other_numbers n → Has v.numbers n × ((k : ℕ) (e : E) → get_elem? a.entries k ≡ maybe.some e → names e ≡ n → k < length v.other_seen)
     -- it has the turn's origin
     pub origin : v.origin ≡ Some a.origin
@@ -65,7 +65,7 @@ module _ {V E O : Type 0} (list : V → List E) (names : E → ℕ) (origin_of :
     -- the seat that gives numbers knows how many were given, and is the only one that gives them
     pub maker : v.is_maker ≡ true → (v.given ≡ a.given) × (place ≡ a.maker)
 
-  -- and what holds of each view
+  -- what holds of each view: of a spent one nothing
   abbrev pub FitsTurn : Account E O → List (maybe.Option (Option V)) → ℕ → SeatView E O → Type 0
   FitsTurn a homes place v = (v.stage ≢ Spent → IsSeat a place v) × FitsHand a.entries homes v a.hand v.stage
 
@@ -74,7 +74,7 @@ module _ {V E O : Type 0} (list : V → List E) (names : E → ℕ) (origin_of :
     pub account : Account E O
     -- two words
     pub wide : length s.words ≡ 2
-    -- the turn word is 2n while the turn is free, and 2n + 1 while it is held, where n entries are in its list
+    -- the turn word is 2n while the turn is free, and 2n + 1 while it is held, if its list has n entries
     pub turn_is : slice_index s.words 0 ≡ turn_word account.hand (length account.entries)
     -- the second word counts the numbers that were given, of which each seat has one
     pub count_is : slice_index s.words 1 ≡ account.given
@@ -87,7 +87,7 @@ module _ {V E O : Type 0} (list : V → List E) (names : E → ℕ) (origin_of :
     pub home : IsHome account s.homes account.hand
     -- each entry names a number that was given
     pub named : (k : ℕ) (e : E) → get_elem? account.entries k ≡ maybe.some e → names e < account.given
-    -- each seat, wherever its view stands
+    -- each view fits the account at its place
     pub each : (place : ℕ) (v : SeatView E O) → get_elem? s.views place ≡ maybe.some v → FitsTurn account s.homes place v
 
 -- the view of the first seat: it holds an empty turn, gives out numbers, and has the number 0

@@ -47,7 +47,7 @@ module _ {E O : Type 0} where
   abbrev pub taking : SeatState E O → List E → SeatState E O
   taking s entries = record s { taken = Some entries }
 
-  -- and after it gave these back
+  -- the seat after it gave these entries back
   abbrev pub giving : SeatState E O → List E → SeatState E O
   giving s entries = record s { taken = None; seen = entries }
 
@@ -68,7 +68,7 @@ taken_at (Holding l) = Some l
 abbrev pub seat_state : {E O : Type 0} → TableId → SeatView E O → SeatState E O
 seat_state id v = record { turn = id; origin = v.origin; number = v.number; numbers = v.numbers; seen = v.seen; taken = taken_at v.stage }
 
--- a seat is idle, or it holds the turn and has the slot, which it left empty
+-- a seat is idle, or it holds the turn and has the slot, which is empty
 abbrev pub Carries : {E V : Type 0} → Stage E → List (ℕ × Option V) → Type 0
 Carries Spent c = ⊥
 Carries Idle c = c ≡ []

@@ -10,15 +10,15 @@ use Rattle.jf_turn.specs.Lists.{Has, StartsWith, longer, shorter, shorter_number
 use Rattle.jf_turn.specs.Rule.{OwnAreSeen}
 
 module _ {E O : Type 0} where
-  -- at another stage
+  -- the view at another stage
   abbrev pub at_stage : SeatView E O → Stage E → SeatView E O
   at_stage v stage = record v { stage = stage; other_numbers = [] }
 
-  -- holding nothing, with all of a list seen
+  -- the view that holds nothing and has seen all of a list
   abbrev pub released_seat : SeatView E O → List E → SeatView E O
   released_seat v seen = record v { stage = Idle; seen = seen; other_numbers = [] }
 
-  -- with one number more, the next to be given
+  -- the maker's view with one more number, the next to be given
   abbrev pub minted : SeatView E O → SeatView E O
   minted v = record v { numbers = v.given ∷ v.numbers; given = v.given + 1 }
 
@@ -68,7 +68,7 @@ module _ {E O : Type 0} where
   abbrev pub maker_left : SeatView E O → SeatView E O
   maker_left v = record v { number = first_of v.numbers; numbers = first_of v.numbers ∷ []; other_numbers = [] }
 
-  -- and the new seat has the one that the maker had
+  -- seating: the new seat has the number that the maker had
   abbrev pub seat_right : SeatView E O → SeatView E O
   seat_right v = record { number = v.number; numbers = v.number ∷ []; seen = v.seen; other_seen = []; other_numbers = []; stage = Idle; origin = v.origin; is_maker = false; given = 0 }
 
@@ -76,6 +76,6 @@ module _ {E O : Type 0} where
   abbrev pub joined : SeatView E O → SeatView E O → SeatView E O
   joined v w = record v { numbers = v.numbers ++ w.numbers; seen = longer v.seen w.seen; other_seen = shorter v.seen w.seen; other_numbers = shorter_numbers v.seen w.seen v.numbers w.numbers }
 
-  -- and the other is spent
+  -- join: the other seat is spent
   abbrev pub spent : SeatView E O
   spent = record { number = 0; numbers = []; seen = []; other_seen = []; other_numbers = []; stage = Spent; origin = None; is_maker = false; given = 0 }

@@ -1,4 +1,4 @@
-//! How a seat comes to hold the turn.
+//! How a seat comes to hold the turn: it claims the turn word, or sleeps on it until the turn is free.
 ghost use Rattle.std.specs.Prelude.{◌≡◌, ◌≢◌, ◌+◌, ◌%◌, ◌^◌, ◌<◌, ◌≤◌, [], ◌∷◌, length, Some, None};
 ghost use Rattle.jf_turn.specs.declared.view.Stage.TheVariants.{Idle, Holding};
 ghost use Rattle.jf_turn.specs.Lists.{Has, StartsWith};
@@ -12,7 +12,7 @@ use crate::view::SeatView;
 use atomic_table::Seat as Token;
 use std::sync::Wait;
 
-/// Takes the turn where its word is still `word`, and answers the word that was found.
+/// Takes the turn if its word is still `word`, and returns the word that was found.
 fn claim<V: Told>(
     turn: &Turn<V>,
     token: &mut Token<Option<V>, SeatView<V::Entry, V::Origin>>,

@@ -1,4 +1,4 @@
-//! The end of a turn.
+//! How a turn ends: the seat of all numbers takes its value.
 ghost use Rattle.std.specs.Prelude.{◌≡◌, ℕ, ◌<◌, None};
 ghost use Rattle.jf_turn.specs.Lists.{Has};
 ghost use Rattle.jf_turn.specs.Seats.{IsSeatOf};
@@ -8,7 +8,8 @@ use crate::told::Told;
 use crate::turn::Turn;
 
 impl<V: Told> Turn<V> {
-    /// The last value, by the seat that all others were joined to. It stands for exactly what that seat has seen.
+    /// Returns the last value, to the seat that all others were joined to. The value stands for exactly what that seat
+    /// has seen.
     pub fn close(self, seat: Seat<V>) -> V
         requires own { IsSeatOf seat self }
         requires idle { seat.taken ≡ None }

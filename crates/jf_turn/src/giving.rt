@@ -1,4 +1,4 @@
-//! How a value comes home, and the turn becomes free.
+//! How a value is brought home, and the turn becomes free.
 ghost use Rattle.std.specs.Prelude.{◌≡◌, ◌+◌, ◌*◌, ◌≤◌, [], ◌∷◌, ◌++◌, length, Some, None};
 ghost use Rattle.jf_turn.specs.declared.view.Stage.TheVariants.{Opening, Holding};
 ghost use Rattle.jf_turn.specs.Lists.{Has};
@@ -36,7 +36,7 @@ pub(crate) fn begin<V: Told>(
     turn.table.shared.load::<Birth>(token, 0);
 }
 
-/// Brings a value home, whose list goes on from that of the value taken, and wakes a thread that waits.
+/// Brings home a value whose list goes on from that of the value taken, and wakes a thread that waits.
 pub(crate) fn bring<V: Told>(
     turn: &Turn<V>,
     token: &mut Token<Option<V>, SeatView<V::Entry, V::Origin>>,

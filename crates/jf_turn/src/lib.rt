@@ -1,5 +1,5 @@
-//! A lock round one value, whose word counts what the value stands for. `specs/Rule.antt` has the rule that holds between
-//! any two steps of any threads, and `specs/Laws.antt` what follows from it.
+//! A lock round one value, whose word counts what the value stands for. `specs/Rule.antt` has the rule that holds
+//! between any two steps of any threads, and `specs/Laws.antt` what follows from it.
 #![tactic(auto)]
 
 mod claiming;

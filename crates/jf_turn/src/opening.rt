@@ -1,4 +1,4 @@
-//! A new turn.
+//! How a turn and its seats are made.
 ghost use Rattle.std.specs.Prelude.{◌≡◌, ◌+◌, ◌<◌, ◌≤◌, [], length, IfOk, IfErr};
 ghost use Rattle.jf_turn.specs.Seats.{AreNew, IsMaker, new_seat};
 
@@ -12,13 +12,13 @@ use crate::view::SeatView;
 use atomic_table::{Seat as Token, Table};
 use std::alloc::Global;
 
-/// There was no memory. The value comes back.
+/// Out of memory. The value is handed back unchanged.
 #[derive(Drop)]
 pub struct TurnRefused<V> {
     pub value: V,
 }
 
-// The turn is made with an empty slot, which the first seat holds, and then the value is brought in.
+// Makes the turn with an empty slot, which the first seat holds, and then brings the value in.
 fn with_value<V: Told>(
     alloc: Global,
     value: V,
@@ -41,7 +41,7 @@ fn with_value<V: Told>(
     Ok((turn, token))
 }
 
-// One more seat, for the number that the maker had.
+// Makes one more seat, for the number that the maker had.
 fn next_seat<V: Told>(
     turn: &Turn<V>,
     token: &mut Token<Option<V>, SeatView<V::Entry, V::Origin>>,
@@ -60,7 +60,8 @@ fn next_seat<V: Told>(
 }
 
 impl<V: Told + Send> Turn<V> {
-    /// A turn round a value that stands for no entry, and its seats, 1 to 16, with the numbers from 0 on.
+    /// Makes a turn round a value that stands for no entry, and its seats, 1 to 16, numbered from 0 on. If it is out of
+    /// memory, the value is handed back.
     pub fn new(
         alloc: Global,
         value: V,

@@ -1,4 +1,4 @@
-//! What a thread takes the turn by.
+//! A thread's seat at a turn.
 ghost use Rattle.std.specs.Prelude.{◌≡◌, ℕ, ◌^◌, ◌≤◌, [], length, None};
 ghost use Rattle.jf_turn.specs.Lists.{StartsWith};
 ghost use Rattle.jf_turn.specs.Seats.{IsSeatOf, OthersFollow, MayGive, taking, giving, joining, seat_state, Carries};
@@ -54,7 +54,7 @@ impl<V: Told> Seat<V> {
         token
     }
 
-    /// Its own number, below the number of seats of its turn.
+    /// Its own number, from 0 on, below the number of seats of its turn.
     pub fn number(&self) -> u64
         ensures { result ≡ self.now.number }
     {
@@ -68,7 +68,8 @@ impl<V: Told> Seat<V> {
         self.seen
     }
 
-    /// Waits for the turn, and takes the value. The seat holds the turn until a value is given back, as this one can be.
+    /// Waits for the turn, and takes the value. The seat holds the turn until a value is given back; this one may be
+    /// given back as it is.
     pub fn take<H: Wait>(&mut self, rt: &H, turn: &Turn<V>) -> V
         requires own { IsSeatOf self.old turn.now }
         requires idle { self.old.taken ≡ None }
@@ -81,7 +82,7 @@ impl<V: Told> Seat<V> {
         acquire(rt, turn, &mut self.token)
     }
 
-    /// Gives the value back, with entries behind those that it had. The seat has then seen them all.
+    /// Gives the value back, with new entries after those that it had. The seat has then seen all of them.
     pub fn give(&mut self, turn: &Turn<V>, value: V)
         requires own { IsSeatOf self.old turn.now }
         requires goes_on { MayGive V.names self.old (V.list value) }
@@ -94,7 +95,8 @@ impl<V: Told> Seat<V> {
         self.seen = count;
     }
 
-    /// Takes in another seat, of whose list and this one's one begins the other.
+    /// Takes in another seat, which is given up. Of the lists that the two have seen, one begins the other, and the
+    /// seat has then seen the longer.
     pub fn join(&mut self, turn: &Turn<V>, other: Seat<V>)
         requires own { IsSeatOf self.old turn.now × IsSeatOf other turn.now }
         requires idle { (self.old.taken ≡ None) × (other.taken ≡ None) }

@@ -28,7 +28,7 @@ pub(crate) fn make_seat<V: Told>(
     turn.table.shared.split_seat::<Seating>(token)
 }
 
-/// One token stands for the numbers of both.
+/// Makes one token of two, which stands for the numbers of both.
 pub(crate) fn join<V: Told>(
     turn: &Turn<V>,
     token: &mut Token<Option<V>, SeatView<V::Entry, V::Origin>>,

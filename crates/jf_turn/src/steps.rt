@@ -1,4 +1,4 @@
-//! What each kind of step on the table tells.
+//! What each kind of step on the table tells the seat that takes it.
 ghost use Rattle.jf_turn.specs.Steps.{claimed, born, moved, released, numbered, compared, maker_left, seat_right, joined, spent};
 
 use crate::told::Told;
@@ -26,7 +26,7 @@ impl<V: Told> Play<Option<V>, SeatView<V::Entry, V::Origin>> for Move {
     ghost then = { moved V.list V.names V.origin };
 }
 
-/// The word becomes even, and the slot is at home.
+/// The word becomes even, and the value is at home in the slot.
 pub(crate) struct Release;
 
 impl<V: Told> Play<Option<V>, SeatView<V::Entry, V::Origin>> for Release {

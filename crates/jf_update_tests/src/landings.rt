@@ -1,4 +1,4 @@
-// Landings succeed: roots are compared with those of whole maps, and lists with those worked by hand.
+// Landings, by the roots of whole maps and by lists worked by hand.
 use crate::roots::root_of;
 use jf_hash::{Hash, value};
 use jf_join::FreeGate;
@@ -15,7 +15,7 @@ type Change = (u8, Option<u8>);
 
 const LOW: u8 = 0x10;
 
-// Its key has the first nibble of `LOW` alone.
+// Its key has only the first nibble of that of `LOW`.
 const NEAR: u8 = 0x1f;
 
 const FAR: u8 = 0xa0;
@@ -107,8 +107,8 @@ fn hashed(alloc: Global, entries: &[(u8, u8)]) -> Result<Vec<(Key, Hash)>, Memor
     Ok(all)
 }
 
-// The next version. It is boxed: whoever holds it then holds one value, and not all that it is made of, which the check
-// of a test would go through at each call.
+// Lands a batch as the next version. It is boxed: whoever holds it then holds one value, not all that it is made of,
+// which the check of a test would go through at each call.
 fn next<H: Threads + Sync>(
     rt: &H,
     alloc: Global,
@@ -153,7 +153,7 @@ fn has_map(update: &Update, entries: &[(Key, Hash)]) -> bool {
     Some(update.root) == root_of(entries) && update.snapshot.count() == entries.len() as u64
 }
 
-// Lands a batch on a version, which becomes the next one, and tells whether it comes out so.
+// Lands a batch on a version, which becomes the next one, and returns whether it comes out as expected.
 fn lands<H: Threads + Sync>(
     rt: &H,
     alloc: Global,
@@ -169,7 +169,7 @@ fn lands<H: Threads + Sync>(
     Ok(same)
 }
 
-// How many landings, one after another on an empty map, come out so, before one that doesn't.
+// How many landings, one after another from an empty map, come out as expected before the first that doesn't.
 fn land_so<H: Threads + Sync>(rt: &H, alloc: Global, landings: &[Landing]) -> Result<usize, Fail> {
     let mut head = Snapshot::empty(0);
     for (i, landing) in landings.iter().enumerate() {

@@ -39,7 +39,7 @@ fn key(n: u32) -> Key {
     key_of(&n.to_be_bytes())
 }
 
-// A batch that sets the keys of 10,000 numbers, of which the first is given in thousands.
+// A batch that puts the keys of 10,000 numbers; the first is given in thousands.
 fn many(alloc: Global, thousands: u16) -> Result<Batch, BatchFault> {
     let mut batch = Batch::new(alloc);
     for n in 0..10_000 {
@@ -48,7 +48,7 @@ fn many(alloc: Global, thousands: u16) -> Result<Batch, BatchFault> {
     Ok(batch)
 }
 
-// A batch that sets or removes one key.
+// A batch that puts or removes one key.
 fn one(alloc: Global, n: u32, put: bool) -> Result<Batch, BatchFault> {
     let mut batch = Batch::new(alloc);
     if put {
@@ -66,8 +66,8 @@ struct Counted {
     pairs: u64,
 }
 
-// The next version, of less than a hundred. It is boxed: whoever holds it then holds one value, and not all that it is
-// made of.
+// Lands a batch as the next version, one below 100. It is boxed: whoever holds it then holds one value, not all that it
+// is made of.
 fn next<H: Threads + Sync>(
     rt: &H,
     alloc: Global,
@@ -137,7 +137,7 @@ fn is_light(landed: &Counted) -> bool {
     landed.pairs != 0 && landed.pairs <= 40 && landed.update.fresh.as_slice().len() <= 12
 }
 
-// Lands a word on a version, which becomes the next one, and tells whether it was light.
+// Lands one change on a version, which becomes the next one, and returns whether it was light.
 fn lands_lightly<H: Threads + Sync>(
     rt: &H,
     alloc: Global,
@@ -151,7 +151,7 @@ fn lands_lightly<H: Threads + Sync>(
     Ok(light)
 }
 
-// How many of the words land lightly over 100,000 keys, one after another, before one that doesn't.
+// How many of the changes land lightly over 100,000 keys before the first that doesn't.
 fn light<H: Threads + Sync>(rt: &H, alloc: Global, head: &mut Snapshot) -> Result<usize, Fail> {
     for (i, word) in WORDS.iter().enumerate() {
         if !lands_lightly(rt, alloc, head, word)? {
@@ -161,7 +161,7 @@ fn light<H: Threads + Sync>(rt: &H, alloc: Global, head: &mut Snapshot) -> Resul
     Ok(WORDS.len())
 }
 
-// Whether each of the words lands lightly over 100,000 keys.
+// Whether each of the changes lands lightly over 100,000 keys.
 fn all_light<H: Threads + Sync>(rt: &H, alloc: Global) -> Result<bool, Fail> {
     let mut head = full(rt, alloc)?;
     let many = head.count() == 100_000;

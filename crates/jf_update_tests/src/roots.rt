@@ -1,4 +1,4 @@
-// The root of a map that is given as a list.
+// The root of a map that is given as a list of keys and hashes.
 ghost use Rattle.std.specs.Prelude.{◌≡◌};
 ghost use Rattle.std.specs.FinMap.{is_sorted};
 ghost use Rattle.std.specs.FinMap.Entries.{below_all};
@@ -21,7 +21,7 @@ fn is_below(key: &Key, entries: &[(Key, Hash)]) -> bool
     }
 }
 
-// Whether the keys rise strictly.
+// Whether the keys ascend strictly.
 fn is_rising(entries: &[(Key, Hash)]) -> bool
     ensures { result ≡ is_sorted key_cmp entries.now }
 {
@@ -34,7 +34,7 @@ fn is_rising(entries: &[(Key, Hash)]) -> bool
     }
 }
 
-// The root of the map of these entries, or None if their keys don't rise.
+// The root of the map of these entries, or `None` if their keys don't ascend.
 pub(crate) fn root_of(entries: &[(Key, Hash)]) -> Option<Hash> {
     if is_rising(entries) {
         Some(plain_root(entries))

@@ -1,4 +1,4 @@
-// Landings succeed, and each version keeps its values.
+// Each version keeps its values, also after the newest was taken back.
 use jf_hash::key_of;
 use jf_join::FreeGate;
 use jf_snapshots::SnapshotVersions;

@@ -1,14 +1,11 @@
 -- The first line of a text.
-use Rattle.std.proofs.Common.{◌≡◌, ℕ, zero, suc, ◌+◌, ◌<◌, ◌==◌, Bool, true, false, if◌then◌else◌, List, [], ◌∷◌, ◌++◌, length, take, drop, get_or, refl, sym, ap, subst, ◌∙◌, arith, take_all}
+use Rattle.std.proofs.Common.{◌≡◌, ℕ, zero, suc, ◌+◌, ◌<◌, ◌==◌, true, false, List, [], ◌∷◌, ◌++◌, length, take, drop, get_or, refl, sym, ap, subst, ◌∙◌, arith, take_all}
 use Rattle.std.proofs.lemmas.List.{drop_all, drop_more, take-append-drop}
 use Rattle.std.proofs.lemmas.Bool.{eqb-true, false_from_ne_true}
 use Rattle.memchr.specs.Find.{Nowhere, NoneBefore, Passes, is_byte}
-use Rattle.jf_script.specs.Words.{lines}
-use Rattle.jf_blocks.proofs.Plain.{without, lines-first}
-
-not_and_passes : (s t : Bool) → (if s then false else t) ≡ true → (s ≡ false) × (t ≡ true)
-not_and_passes true t h = cc h
-not_and_passes false t h = (refl, h)
+use Rattle.jf_io.specs.Lines.{lines}
+use Rattle.jf_text.proofs.Plain.{without, not_and_passes}
+use Rattle.jf_blocks.proofs.LinesJoined.{lines-first}
 
 without-below : (text : List ℕ) (i : ℕ) → ((k : ℕ) → k < i → (get_or text k 0 == 10) ≡ true → ⊥) → without 10 (take i text) ≡ true
 without-below [] zero none = refl

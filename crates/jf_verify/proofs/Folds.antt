@@ -1,6 +1,6 @@
 -- What lines are answered one after another, and those after them.
 use Rattle.std.proofs.Common.{◌≡◌, ℕ, ◌-◌, List, [], ◌∷◌, ◌++◌, take, drop, length, refl, sym, ap, ◌∙◌, arith, append-nil, append_assoc, length-append, take_at, take-append-drop}
-use Rattle.jf_script.specs.Words.{lines}
+use Rattle.jf_io.specs.Lines.{lines}
 use Rattle.jf_verify.specs.Verdicts.{verdicts}
 use Rattle.jf_verify.specs.Steps.{State, begun, said, after, rest}
 use Rattle.jf_verify.specs.Streams.{after_all, said_all, answers_of, StopsAtLine}

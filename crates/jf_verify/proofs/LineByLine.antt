@@ -4,7 +4,7 @@ use Rattle.std.proofs.lemmas.List.{append_assoc, append-nil, drop-drop, drop_all
 use Rattle.std.proofs.lemmas.Bool.Decides.{nat_tests}
 use Rattle.jf_hash.specs.Hashes.{K}
 use Rattle.jf_collide.specs.declared.judged.Judged.{Judged}
-use Rattle.jf_script.specs.Words.{lines}
+use Rattle.jf_io.specs.Lines.{lines}
 use Rattle.jf_blocks.specs.Reading.{Place, Read, Block, and_then, gives, matched, line_read, line_by, lines_by, first_of, named_of, claim_of, leaf_of, side_of, proof_block}
 use Rattle.jf_blocks.specs.declared.first.FirstLine.{FirstLine}
 use Rattle.jf_blocks.specs.declared.first.FirstLine.TheVariants as first

@@ -6,14 +6,14 @@ use Rattle.std.proofs.lemmas.Bool.{lt-ltb, cases_lt}
 use Rattle.std.proofs.lemmas.List.{take_all}
 use Rattle.jf_io.specs.LineReader.{is_line_feed, Held, IsShortened, IsFetched}
 use Rattle.jf_io.proofs.Shortened.{is_shortened-whole, line_front-text, unfinished-text, finished-text, after_first-text, none-text}
-use Rattle.jf_script.specs.Words.{lines}
-use Rattle.jf_input.specs.Inputs.{IsPlain, IsFound, ended}
-use Rattle.jf_input.specs.LinesRead.{AreFirst}
-use Rattle.jf_input.proofs.Plain.{front_plain, front_split, front_whole, held_plain}
-use Rattle.jf_input.proofs.Found.{found_whole, where_of, cut_of, last_of, lines_found}
-use Rattle.jf_input.proofs.Lines.{lines_nil, plain_more}
-use Rattle.jf_input.proofs.FirstLines.{first_lines, all_first, whole_taken, lines_to_come, next_taken, next_line, with_last, last_first}
-use Rattle.jf_input.proofs.Written.{nothing_written, written_more}
+use Rattle.jf_io.specs.Lines.{lines}
+use Rattle.jf_io.specs.Inputs.{IsPlain, IsFound, ended}
+use Rattle.jf_io.specs.LinesRead.{AreFirst}
+use Rattle.jf_io.proofs.Plain.{front_plain, front_split, front_whole, held_plain}
+use Rattle.jf_io.proofs.Found.{found_whole, where_of, cut_of, last_of, lines_found}
+use Rattle.jf_io.proofs.EndedLines.{lines_nil, plain_more}
+use Rattle.jf_io.proofs.FirstLines.{first_lines, all_first, whole_taken, lines_to_come, next_taken, next_line, with_last, last_first}
+use Rattle.jf_io.proofs.Written.{nothing_written, written_more}
 use Rattle.jf_verify.specs.Verdicts.{verdicts}
 use Rattle.jf_verify.specs.Steps.{State, Step, begun, said, after, rest, line_step}
 use Rattle.jf_verify.specs.Streams.{GetsFront, after_all, said_all, answers_of, Stops, JudgedBy, HasVerified}

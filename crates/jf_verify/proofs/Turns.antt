@@ -1,7 +1,7 @@
 -- One line, and those that come behind it.
 use Rattle.std.proofs.Common.{◌≡◌, ℕ, ◌+◌, true, List, ◌∷◌, ◌++◌, refl, ap}
 use Rattle.std.proofs.lemmas.List.{append_assoc}
-use Rattle.jf_script.specs.Words.{is_long}
+use Rattle.jf_text.specs.Words.{is_long}
 use Rattle.jf_verify.specs.declared.stage.Stage.{Stage}
 use Rattle.jf_verify.specs.declared.stage.Stage.TheVariants as stage
 use Rattle.jf_verify.specs.Verdicts.{Judging}

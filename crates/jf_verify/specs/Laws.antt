@@ -2,7 +2,8 @@
 use Rattle.std.specs.Prelude.{◌≡◌, ℕ, List, ◌∷◌, ◌++◌, Some, IsTrue}
 use Rattle.jf_hash.specs.Hashes.{IsCollision}
 use Rattle.jf_evidence.specs.Proofs.{IsLeaf}
-use Rattle.jf_script.specs.Words.{is_long, lines}
+use Rattle.jf_io.specs.Lines.{lines}
+use Rattle.jf_text.specs.Words.{is_long}
 use Rattle.jf_verify.specs.declared.accepted.Accepted.{Accepted}
 use Rattle.jf_verify.specs.Accepted.{IsAccepted}
 use Rattle.jf_verify.specs.Verdicts.{contradicts, contradiction_text, collision_text, verdicts}

@@ -1,7 +1,7 @@
 -- How far an input from a source was judged into a sink.
 use Rattle.std.specs.Prelude.{◌≡◌, ◌⊎◌, ℕ, ◌-◌, List, [], ◌∷◌, ◌++◌, take, length, Option, Some, option_map}
-use Rattle.jf_script.specs.Words.{lines, whole_lines}
-use Rattle.jf_input.specs.LinesRead.{AreFirst}
+use Rattle.jf_io.specs.Lines.{lines, whole_lines}
+use Rattle.jf_io.specs.LinesRead.{AreFirst}
 use Rattle.jf_verify.specs.Verdicts.{verdicts}
 use Rattle.jf_verify.specs.Steps.{State, begun, said, after}
 use Rattle.jf_verify.specs.declared.stream.Verified.{Verified}

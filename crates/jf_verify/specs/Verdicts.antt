@@ -7,7 +7,8 @@ use Rattle.jf_evidence.specs.Clashes.{clash}
 use Rattle.jf_evidence.specs.declared.proof.ProofFault.{ProofFault}
 use Rattle.jf_evidence.specs.declared.proof.ProofFault.TheVariants as fault
 use Rattle.jf_collide.specs.declared.judged.Judged.{Judged}
-use Rattle.jf_script.specs.Words.{line_text, lines}
+use Rattle.jf_io.specs.Lines.{lines}
+use Rattle.jf_text.specs.Words.{line_text}
 use Rattle.jf_blocks.specs.Reading.{Place, Read, Block, start, line_read, first_of, proof_block}
 use Rattle.jf_blocks.specs.declared.first.FirstLine.{FirstLine}
 use Rattle.jf_blocks.specs.declared.first.FirstLine.TheVariants as first

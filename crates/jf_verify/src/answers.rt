@@ -1,14 +1,12 @@
 // Answers as text.
 ghost use Rattle.std.specs.Prelude.{◌≡◌, ◌++◌, ◌∷◌, [], Some, codes, OnOk, OnErr};
 ghost use Rattle.std.specs.Prelude.{decimal};
-ghost use Rattle.jf_script.specs.Words.{line_text};
-ghost use Rattle.jf_script.specs.Replies.{Extends};
+ghost use Rattle.jf_text.specs.Words.{line_text, Extends};
 ghost use Rattle.jf_verify.specs.Verdicts.{fault_number, refused_text, collision_text, syntax_text};
 
-use itoa::Buffer;
-use jf_blocks::write_hex;
 use jf_path::{Bytes, Memory};
 use jf_proof::ProofFault;
+use jf_text::{write_hex, write_number};
 
 /// The number of a check that fails.
 fn fault_number(why: ProofFault) -> u64
@@ -53,8 +51,6 @@ fn write_numbered(label: &[u8], number: u64, out: &mut Bytes) -> Result<(), Memo
     ensures ok { OnOk result (out.new ≡ out.old ++ (label.now ++ (decimal number ++ 10 ∷ []))) }
     ensures err { OnErr result (Extends out.old out.new) }
 {
-    let mut text = Buffer::new();
-    out.append(label)?;
-    out.append(text.format(number).as_bytes())?;
+    write_number(label, number, out)?;
     out.push(b'\n')
 }

@@ -2,7 +2,7 @@
 ghost use Rattle.std.specs.Prelude.{◌≡◌, ◌++◌, true, OnOk, OnErr};
 ghost use Rattle.std.specs.Prelude.{Some};
 ghost use Rattle.std.specs.Option.{option_copied};
-ghost use Rattle.jf_script.specs.Replies.{Extends};
+ghost use Rattle.jf_text.specs.Words.{Extends};
 ghost use Rattle.jf_verify.specs.Accepted.{IsAccepted, AreAccepted};
 ghost use Rattle.jf_verify.specs.Subjects.{AreListed};
 ghost use Rattle.jf_verify.specs.Verdicts.{same_claim, contradicts, contradicted, contradiction_text};

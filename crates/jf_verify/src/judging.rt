@@ -1,6 +1,6 @@
 // An input that is judged line by line.
 ghost use Rattle.std.specs.Prelude.{◌≡◌, ℕ, ◌+◌, List, [], ◌∷◌, ◌++◌, IfOk, OnOk, OnErr};
-ghost use Rattle.jf_script.specs.Replies.{Extends};
+ghost use Rattle.jf_text.specs.Words.{Extends};
 ghost use Rattle.jf_verify.specs.Steps.{State, begun, said, after, rest, end_text};
 
 use crate::answers::write_syntax;

@@ -1,7 +1,7 @@
 // What is known of an input: the root that was set, and the accepted claims.
 ghost use Rattle.std.specs.Prelude.{◌≡◌, ◌++◌, Some, OnOk, OnErr};
 ghost use Rattle.jf_collide.specs.Audits.{refusal_of};
-ghost use Rattle.jf_script.specs.Replies.{Extends};
+ghost use Rattle.jf_text.specs.Words.{Extends};
 ghost use Rattle.jf_verify.specs.Accepted.{AreAccepted};
 ghost use Rattle.jf_verify.specs.Subjects.{AreListed};
 ghost use Rattle.jf_verify.specs.Verdicts.{Judging, nothing_known, judged};

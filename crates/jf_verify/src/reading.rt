@@ -1,6 +1,6 @@
 // One line more.
 ghost use Rattle.std.specs.Prelude.{IfOk, OnErr};
-ghost use Rattle.jf_script.specs.Replies.{Extends};
+ghost use Rattle.jf_text.specs.Words.{Extends};
 ghost use Rattle.jf_blocks.specs.Reading.{line_read, first_of, named_of, claim_of};
 ghost use Rattle.jf_verify.specs.Steps.{IsMade, IsTaken, no_match, begins, first_step, name_turn, claim_turn, sided, with_side, one_less, line_step};
 

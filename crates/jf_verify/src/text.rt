@@ -1,7 +1,7 @@
 // An input that is there as a whole.
 ghost use Rattle.std.specs.Prelude.{◌≡◌, ◌+◌, ◌<◌, ◌≤◌, ◌∷◌, ◌++◌, length, take, drop, OnOk, OnErr};
-ghost use Rattle.jf_script.specs.Words.{lines};
-ghost use Rattle.jf_script.specs.Replies.{Extends};
+ghost use Rattle.jf_io.specs.Lines.{lines};
+ghost use Rattle.jf_text.specs.Words.{Extends};
 ghost use Rattle.jf_verify.specs.Verdicts.{verdicts};
 
 use crate::judging::Judge;

@@ -2,7 +2,7 @@ use Rattle.std.proofs.Common.{◌≡◌, ◌≤◌, ◌++◌, length, drop}
 use Rattle.jf_model.specs.Changes.{applied}
 use Rattle.jf_plain.proofs.map.merged.Given as goal
 
--- what was merged, and what the rest of the batch makes of the rest of the entries, is what the whole batch makes of them all
+-- what was merged so far, with the rest of the batch applied to the rest of the entries, is the whole batch applied to them all
 abbrev pub invariant-loop-key : goal.invariant-loop-key
 invariant-loop-key l = record {
   within : l.next ≤ length l.entries;

@@ -1,4 +1,4 @@
--- The function gives an entry's key, and the keys rise.
+-- The key function gives an entry's key, and the keys ascend.
 use Rattle.std.proofs.Common.{rules}
 use Rattle.std.proofs.lemmas.List.Sorted.{answers_always}
 use Rattle.jf_plain.proofs.Places.{placed}

@@ -6,7 +6,7 @@ use Rattle.jf_range.proofs.walk.+copy_range.Given as goal
 abbrev pub decreases-copy_range : goal.decreases-copy_range
 decreases-copy_range g l = 65 - l.link.now.depth
 
--- of the children so far
+-- the entries copied from the children so far, and the steps that this took
 abbrev pub invariant-loop-n : goal.invariant-loop-n
 invariant-loop-n g l =
     record {

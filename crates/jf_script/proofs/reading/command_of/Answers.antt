@@ -1,5 +1,5 @@
 use Rattle.std.proofs.Common.{sym}
-use Rattle.jf_script.proofs.Spaces.{command_of-many}
+use Rattle.jf_script.proofs.ManyWords.{command_of-many}
 use Rattle.jf_script.proofs.reading.command_of.Goals as goal
 
 pub returns-in_default-Some-clause-ok : goal.returns-in_default-Some-clause-ok

@@ -4,7 +4,7 @@ use Rattle.jf_session.specs.declared.running.End.{End}
 use Rattle.jf_session.specs.declared.running.End.TheVariants as end
 use Rattle.std.specs.List.{before_first}
 use Rattle.jf_io.specs.LineReader.{Held, is_line_feed}
-use Rattle.jf_input.proofs.Written.{rose_behind}
+use Rattle.jf_io.proofs.Written.{rose_behind}
 use Rattle.jf_session.proofs.HeldLines.{SofarHeld, held_none, held_fetched, held_line, held_done, held_unread, held_wanting, held_last, held_cut, held_silent, held_undone, held_faulted}
 use Rattle.jf_session.proofs.running.answer_all.Goals as goal
 

@@ -1,6 +1,6 @@
 use Rattle.std.proofs.Common.{◌≡◌, ◌-◌, ◌++◌, drop, length}
-use Rattle.jf_script.specs.Words.{lines}
-use Rattle.jf_script.specs.Replies.{Extends}
+use Rattle.jf_io.specs.Lines.{lines}
+use Rattle.jf_text.specs.Words.{Extends}
 use Rattle.jf_verify.specs.Steps.{begun, rest}
 use Rattle.jf_verify.proofs.text.judge_lines.Given as goal
 

@@ -1,9 +1,0 @@
-use Rattle.std.proofs.Common.{arith}
-use Rattle.jf_script.proofs.HexText.{bytes_within-few, bytes_within-many, bytes_within-kept}
-use Rattle.jf_blocks.proofs.hexadecimal.bytes_within.Goals as goal
-
-pub returns-then-count-least : goal.returns-then-count-least
-returns-then-count-least c = grind (arith, bytes_within-few, bytes_within-many)
-
-pub returns : goal.returns
-returns c = rw (bytes_within-kept c.args.least c.args.most c.args.word.now c.if-count-least.false c.if-most-count.false) c.unhexed.ensures

@@ -1,5 +1,0 @@
-pub mod Plain
-pub mod Lines
-pub mod Found
-pub mod Written
-pub mod FirstLines

@@ -1,0 +1,56 @@
+-- A line that stands at the front of what is held is the first one of what is held and left.
+use Rattle.std.proofs.Common.{◌≡◌, ◌⊎◌, inl, inr, ℕ, ◌+◌, ◌<◌, List, [], ◌∷◌, ◌++◌, drop, length, Option, Some, refl, sym, ap, ◌∙◌, arith, append_assoc, append-nil, eq-or-lt_of_le}
+use Rattle.std.proofs.lemmas.List.{drop_all}
+use Rattle.std.specs.List.{position_or_len, before_first, after_first}
+use Rattle.jf_io.specs.LineReader.{is_line_feed, IsShortened}
+use Rattle.jf_io.proofs.Shortened.{finished-text, some-text}
+use Rattle.jf_io.specs.Lines.{lines}
+use Rattle.jf_io.specs.Inputs.{IsPlain, IsFound}
+use Rattle.jf_io.proofs.Plain.{place_le, front_plain, front_split, front_whole, held_plain}
+use Rattle.jf_io.proofs.EndedLines.{lines_nil, lines_one, lines_last}
+
+-- what is held may be shortened
+pub found_whole : (limit : ℕ) (source : Option (List ℕ)) (whole held : List ℕ) → IsShortened limit whole held → IsFound held source → IsFound whole source
+found_whole limit source whole held short (inl cut) = inl (finished-text limit whole held short cut)
+found_whole limit source whole held short (inr last) = inr (some-text limit whole held short last.0, last.1)
+
+-- it ends with a line feed, or is all there is
+pub where_of : (held : List ℕ) (rest : Option (List ℕ)) → IsFound held rest
+    → (position_or_len is_line_feed held < length held) ⊎ ((position_or_len is_line_feed held ≡ length held) × (0 < length held) × ((left : List ℕ) → rest ≡ Some left → left ≡ []))
+where_of held rest (inl cut) = inl cut
+where_of held rest (inr last) = elim (eq-or-lt_of_le (place_le held)) [ inl whole ↦ inr (whole, last.0, last.1) | inr cut ↦ inl cut ]
+
+pub cut_of : (held : List ℕ) → (position_or_len is_line_feed held ≡ length held → ⊥) → position_or_len is_line_feed held < length held
+cut_of held more = elim (eq-or-lt_of_le (place_le held)) [ inl whole ↦ absurd (more whole) | inr cut ↦ cut ]
+
+pub last_of : (held : List ℕ) (rest : Option (List ℕ)) → position_or_len is_line_feed held ≡ length held → IsFound held rest
+    → (position_or_len is_line_feed held ≡ length held) × (0 < length held) × ((left : List ℕ) → rest ≡ Some left → left ≡ [])
+last_of held rest whole (inl cut) = absurd (omega arith)
+last_of held rest whole (inr last) = (whole, last.0, last.1)
+
+-- behind a line without a line feed there is nothing
+pub after_whole : (held : List ℕ) → position_or_len is_line_feed held ≡ length held → after_first is_line_feed held ≡ []
+after_whole held e = ap (λ n. drop (n + 1) held) e ∙ drop_all (length held + 1) held (omega arith)
+
+cut_line : (held left : List ℕ) → position_or_len is_line_feed held < length held → lines (held ++ left) ≡ before_first is_line_feed held ∷ lines (after_first is_line_feed held ++ left)
+cut_line held left cut =
+    let front = before_first is_line_feed held in
+    let after = after_first is_line_feed held in
+    ap (λ h. lines (h ++ left)) (front_split held cut) ∙ ap lines (append_assoc front (10 ∷ after) left) ∙ lines_one front (after ++ left) (front_plain held)
+
+one_line : (l : List ℕ) → IsPlain l → 0 < length l → lines l ≡ l ∷ []
+one_line [] p some = absurd (omega arith)
+one_line (b ∷ l) p some = lines_last b l p
+
+last_line : (held : List ℕ) → position_or_len is_line_feed held ≡ length held → 0 < length held → lines (held ++ []) ≡ before_first is_line_feed held ∷ lines (after_first is_line_feed held ++ [])
+last_line held whole some =
+    ap lines (append-nil held) ∙ one_line held (held_plain held whole) some ∙ ap (λ l. l ∷ []) (sym (front_whole held whole))
+    ∙ ap (λ ls. before_first is_line_feed held ∷ ls) (sym (ap (λ a. lines (a ++ [])) (after_whole held whole) ∙ lines_nil))
+
+-- the lines to come are the one that was found and those behind it
+pub lines_found : (held left : List ℕ) → IsFound held (Some left) → lines (held ++ left) ≡ before_first is_line_feed held ∷ lines (after_first is_line_feed held ++ left)
+lines_found held left found = elim (where_of held (Some left) found) [
+  | inl cut ↦ cut_line held left cut
+  | inr last ↦ let none : left ≡ [] = last.2 left refl in
+      ap (λ l. lines (held ++ l)) none ∙ last_line held last.0 last.1 ∙ ap (λ l. before_first is_line_feed held ∷ lines (after_first is_line_feed held ++ l)) (sym none)
+]

@@ -1,0 +1,17 @@
+-- Bytes as lines.
+use Rattle.std.specs.Prelude.{ℕ, if◌then◌else◌, ◌==◌, List, [], ◌∷◌, count_by}
+use Rattle.std.specs.List.{onto_first}
+
+-- the lines of bytes, each of which ends with 0A or with the bytes
+unfoldable pub lines : List ℕ → List (List ℕ)
+lines [] = []
+lines (b ∷ bytes) = if b == 10 then [] ∷ lines bytes else onto_first b (lines bytes)
+
+-- bytes without 0A as lines
+abbrev pub one_line : List ℕ → List (List ℕ)
+one_line [] = []
+one_line (b ∷ bytes) = (b ∷ bytes) ∷ []
+
+-- how many lines end with 0A
+abbrev pub whole_lines : List ℕ → ℕ
+whole_lines bytes = count_by (λ b. b == 10) bytes

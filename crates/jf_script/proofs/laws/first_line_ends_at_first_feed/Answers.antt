@@ -1,5 +1,0 @@
-use Rattle.jf_script.proofs.Lines.{lines-first}
-use Rattle.jf_script.proofs.laws.first_line_ends_at_first_feed.Goals as goal
-
-pub returns : goal.returns
-returns c = lines-first

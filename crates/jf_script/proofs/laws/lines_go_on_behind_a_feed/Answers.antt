@@ -1,5 +1,0 @@
-use Rattle.jf_script.proofs.Lines.{lines-append}
-use Rattle.jf_script.proofs.laws.lines_go_on_behind_a_feed.Goals as goal
-
-pub returns : goal.returns
-returns c = lines-append

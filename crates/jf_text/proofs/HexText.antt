@@ -1,0 +1,97 @@
+-- Hexadecimal text read by pairs of digits.
+use Rattle.std.proofs.Common.{◌≡◌, ℕ, ◌+◌, ◌*◌, ◌/◌, ◌%◌, ◌<◌, ◌≤◌, ◌⊎◌, ◌&&◌, nat_le, if◌then◌else◌, option_and_then, List, [], ◌∷◌, ◌++◌, length, drop, get_or, Option, Some, None, inl, inr, refl, sym, ap, ◌∙◌, arith}
+use Rattle.std.proofs.lemmas.Bool.Decides.{nat_tests}
+use Rattle.std.proofs.lemmas.List.{append_assoc, append-nil, drop_all, drop_more}
+use Rattle.jf_text.specs.Words.{both, byte_of, unhex, bytes_within}
+
+-- bytes before those that are still to be read
+abbrev pub behind : List ℕ → Option (List ℕ) → Option (List ℕ)
+behind front (Some rest) = Some (front ++ rest)
+behind front None = None
+
+-- nothing behind
+both-none : (b : Option ℕ) → both ◌∷◌ b None ≡ None
+both-none None = refl
+both-none (Some b) = refl
+
+-- an odd number of digits
+pub unhex-odd : (w : List ℕ) → length w % 2 ≡ 1 → unhex w ≡ None
+unfolding unhex
+unhex-odd [] h = absurd (omega arith)
+unhex-odd (high ∷ []) h = refl
+unhex-odd (high ∷ low ∷ rest) h = rw (unhex-odd rest (omega arith)) (both-none (byte_of high low))
+
+-- both are there
+both-some : (b : Option ℕ) (o : Option (List ℕ)) (bytes : List ℕ) → both ◌∷◌ b o ≡ Some bytes
+    → (byte : ℕ) × (rest : List ℕ) × (b ≡ Some byte) × (o ≡ Some rest) × (bytes ≡ byte ∷ rest)
+both-some None o bytes h = cc h
+both-some (Some byte) None bytes h = cc h
+both-some (Some byte) (Some rest) bytes h = (byte, rest, refl, refl, cc h)
+
+-- the bytes are half as many as the digits
+pub unhex-length : (w bytes : List ℕ) → unhex w ≡ Some bytes → length w ≡ 2 * length bytes
+unfolding unhex
+unhex-length [] bytes h = let e : [] ≡ bytes = cc h in rw (sym e) refl
+unhex-length (high ∷ []) bytes h = cc h
+unhex-length (high ∷ low ∷ rest) bytes h =
+    let parts = both-some (byte_of high low) (unhex rest) bytes h in
+    let more = unhex-length rest parts.1 parts.3 in
+    rw (parts.4) (omega arith)
+
+-- two digits more
+pub unhex-drop : (w : List ℕ) (i : ℕ) → 2 * i + 1 < length w
+    → unhex (drop (2 * i) w) ≡ both ◌∷◌ (byte_of (get_or w (2 * i) 0) (get_or w (2 * i + 1) 0)) (unhex (drop (2 * (i + 1)) w))
+unfolding unhex
+unhex-drop w i h =
+    let a = drop_more w (2 * i) 0 (omega arith) in
+    let b = drop_more w (2 * i + 1) 0 (omega arith) in
+    let two : 2 * i + 1 + 1 ≡ 2 * (i + 1) = omega arith in
+    rw (a, b, two) refl
+
+-- a byte more is read
+pub behind-byte : (front : List ℕ) (byte : ℕ) (rest : Option (List ℕ)) → behind front (both ◌∷◌ (Some byte) rest) ≡ behind (front ++ byte ∷ []) rest
+behind-byte front byte None = refl
+behind-byte front byte (Some rest) = ap Some (sym (append_assoc front (byte ∷ []) rest))
+
+-- the next two digits are a byte
+pub unhex-more : (w front : List ℕ) (i byte : ℕ) → 2 * i + 1 < length w → byte_of (get_or w (2 * i) 0) (get_or w (2 * i + 1) 0) ≡ Some byte
+    → unhex w ≡ behind front (unhex (drop (2 * i) w)) → unhex w ≡ behind (front ++ byte ∷ []) (unhex (drop (2 * (i + 1)) w))
+unhex-more w front i byte h e so_far =
+    let rest : Option (List ℕ) = unhex (drop (2 * (i + 1)) w) in
+    so_far ∙ ap (behind front) (unhex-drop w i h ∙ ap (λ b. both ◌∷◌ b rest) e) ∙ behind-byte front byte rest
+
+-- the next two digits are none
+pub unhex-bad : (w front : List ℕ) (i : ℕ) → 2 * i + 1 < length w → byte_of (get_or w (2 * i) 0) (get_or w (2 * i + 1) 0) ≡ None
+    → unhex w ≡ behind front (unhex (drop (2 * i) w)) → unhex w ≡ None
+unhex-bad w front i h e so_far =
+    let rest : Option (List ℕ) = unhex (drop (2 * (i + 1)) w) in
+    so_far ∙ ap (behind front) (unhex-drop w i h ∙ ap (λ b. both ◌∷◌ b rest) e)
+
+-- all is read
+pub unhex-all : (w front : List ℕ) (i : ℕ) → length w ≤ 2 * i → unhex w ≡ behind front (unhex (drop (2 * i) w)) → Some front ≡ unhex w
+unfolding unhex
+unhex-all w front i h e = sym (e ∙ ap (λ t. behind front (unhex t)) (drop_all (2 * i) w h) ∙ ap Some (append-nil front))
+
+-- as many bytes as are asked for
+within-kept : (least most n : ℕ) (o : Option (List ℕ)) → ((bytes : List ℕ) → o ≡ Some bytes → length bytes ≡ n) → least ≤ n → n ≤ most
+    → option_and_then (λ bytes. if nat_le least (length bytes) && nat_le (length bytes) most then Some bytes else None) o ≡ o
+within-kept least most n None long low high = refl
+within-kept least most n (Some bytes) long low high = let e = long bytes refl in grind (arith, nat_tests)
+
+pub bytes_within-kept : (least most : ℕ) (w : List ℕ) → least ≤ length w / 2 → length w / 2 ≤ most → bytes_within least most w ≡ unhex w
+bytes_within-kept least most w low high =
+    within-kept least most (length w / 2) (unhex w) (λ bytes e. let h = unhex-length w bytes e in omega arith) low high
+
+-- fewer or more
+within-none : (least most n : ℕ) (o : Option (List ℕ)) → ((bytes : List ℕ) → o ≡ Some bytes → length bytes ≡ n) → (n < least) ⊎ (most < n)
+    → option_and_then (λ bytes. if nat_le least (length bytes) && nat_le (length bytes) most then Some bytes else None) o ≡ None
+within-none least most n None long out = refl
+within-none least most n (Some bytes) long out = let e = long bytes refl in grind (arith, nat_tests)
+
+pub bytes_within-few : (least most : ℕ) (w : List ℕ) → length w / 2 < least → bytes_within least most w ≡ None
+bytes_within-few least most w out =
+    within-none least most (length w / 2) (unhex w) (λ bytes e. let h = unhex-length w bytes e in omega arith) (inl out)
+
+pub bytes_within-many : (least most : ℕ) (w : List ℕ) → most < length w / 2 → bytes_within least most w ≡ None
+bytes_within-many least most w out =
+    within-none least most (length w / 2) (unhex w) (λ bytes e. let h = unhex-length w bytes e in omega arith) (inr out)

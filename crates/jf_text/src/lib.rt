@@ -1,0 +1,12 @@
+//! Words of a line: numbers in decimal and bytes in hexadecimal, read and written. `specs/` says what each word stands for.
+#![tactic(auto)]
+
+mod hexadecimal;
+mod number;
+mod word;
+mod writing;
+
+pub use hexadecimal::{hash_of, name_of, value_of};
+pub use number::{number_from, number_of};
+pub use word::{is_word, split_word};
+pub use writing::{write_hex, write_number};
