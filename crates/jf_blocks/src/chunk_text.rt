@@ -1,4 +1,5 @@
-// Chunk blocks as text.
+// A chunk block after its first line: a line `entry KEY =VALUE` for each entry, then a line `side HASH` for each
+// sibling.
 ghost use Rattle.std.specs.Prelude.{◌≡◌, ◌∷◌, ◌++◌, [], codes, OnOk, OnErr};
 ghost use Rattle.hex.specs.Hex.{encode_lower};
 ghost use Rattle.jf_text.specs.Words.{line_text, value_word};
@@ -10,8 +11,8 @@ use jf_evidence::RangeProof;
 use jf_path::{Bytes, Key, Memory, Pairs};
 use jf_text::write_hex;
 
-/// Appends a chunk block without its first line: the entries, and the right siblings of their proof, the lowest first. A
-/// refusal leaves the text as it was.
+/// Appends a chunk block without its first line: the entries, and the right siblings of their proof, the lowest first.
+/// Out of memory, the text is unchanged (docs/FORMATS.md, Chunk blocks).
 pub fn write_chunk(entries: &Pairs, proof: &RangeProof, out: &mut Bytes) -> Result<(), Memory>
     ensures ok { OnOk result (out.new ≡ out.old ++ chunk_lines entries.now proof.now) }
     ensures err { OnErr result (out.new ≡ out.old) }
