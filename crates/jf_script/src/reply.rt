@@ -1,7 +1,7 @@
-// Replies.
+// A reply is one line of output for a line of a script (docs/FORMATS.md, Replies).
 use jf_path::Bytes;
 
-/// Why a command is refused.
+/// Why a command is refused, with the number that the reply gives.
 #[derive(Clone, Copy, Debug, PartialEq, Eq)]
 pub enum Refusal {
     Syntax,
@@ -19,7 +19,7 @@ pub enum Refusal {
     Last,
 }
 
-/// The reply to a line. Of `Proof` and `Chunk` it is the first line of a block.
+/// The reply to a line. `Proof` and `Chunk` are the first line of a block.
 #[derive(Debug, Drop)]
 pub enum Reply {
     Pending {
