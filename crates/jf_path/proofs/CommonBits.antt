@@ -1,4 +1,4 @@
--- One bit more that two keys have in common, or not.
+-- The next bit of two keys: they agree in it, or their common bits end before it.
 use Rattle.std.proofs.Common.{◌≡◌, ℕ, suc, ◌+◌, ◌-◌, ◌<◌, Bool, true, false, not, cond, List, ap, ap₂, ◌∙◌, sym, arith, true≢false}
 use Rattle.std.specs.Bool.{beq}
 use Rattle.jf_path.specs.Keys.{bit}
