@@ -1,4 +1,4 @@
--- A part falls into the entries whose next bit is 0 and, behind them, those where it is 1.
+-- A part is the entries whose next bit is 0 and, after them, those where it is 1.
 use Rattle.std.proofs.Common.{◌≡◌, ℕ, zero, suc, ◌+◌, ◌<◌, ◌≤◌, Bool, true, false, not, cond, ◌==◌, ◌⊎◌, inl, inr, List, [], ◌∷◌, ◌++◌, length, take, drop, get_or, refl, sym, ap, ap₂, ◌∙◌, arith, T, Less, true≢false, eq-or-lt_of_le}
 use Rattle.std.proofs.lemmas.List.{take-append-drop}
 use Rattle.std.specs.List.{AllByRecursion}
@@ -16,13 +16,13 @@ lt-or-le a zero = inr (omega arith)
 lt-or-le zero (suc b) = inl (omega arith)
 lt-or-le (suc a) (suc b) = elim (lt-or-le a b) [ inl h ↦ inl (omega arith) | inr h ↦ inr (omega arith) ]
 
--- where two keys under one path first differ
+-- two keys under one path first differ at a bit after it
 pub apart_at : (d : ℕ) (a b : List ℕ) (path : ℕ → Bool) → IsKey a → IsKey b → key_cmp a b ≡ Less → ((i : ℕ) → i < d → bit a i ≡ path i) → ((i : ℕ) → i < d → bit b i ≡ path i) → (i : ℕ) × (d ≤ i) × FirstBit a b i
 apart_at d a b path ka kb lt pa pb =
     let f = first_bit a b (ka.long ∙ sym kb.long) kb.bytes lt in
     (f.0, elim (lt-or-le f.0 d) [ inr le ↦ le | inl early ↦ absurd (true≢false (sym f.1.one_there ∙ pb f.0 early ∙ sym (pa f.0 early) ∙ f.1.zero_there)) ], f.1)
 
--- behind a key with the bit come keys with the bit
+-- after a key whose next bit is 1 come only such keys
 stays_one : (d : ℕ) (a b : List ℕ) (path : ℕ → Bool) → IsKey a → IsKey b → key_cmp a b ≡ Less → ((i : ℕ) → i < d → bit a i ≡ path i) → ((i : ℕ) → i < d → bit b i ≡ path i) → bit a d ≡ true → bit b d ≡ true
 stays_one d a b path ka kb lt pa pb one =
     let f = apart_at d a b path ka kb lt pa pb in
@@ -57,7 +57,7 @@ module _ {X : Type 0} where
       let rest = cut_at d p path es (record { within = omega arith; before = λ k x lt. f.before (suc k) x (omega arith); at = λ x lt. f.at x (omega arith) }) (sorted-rest e es sorted) keys.1 agree.1 in
       (ap (λ b. cond (not b) (e ∷ zeros d es) (zeros d es)) here ∙ ap (λ t. e ∷ t) rest.0, ap (λ b. cond b (e ∷ ones d es) (ones d es)) here ∙ rest.1)
 
-  -- where the first entry with bit 1 stands, the halves part
+  -- the halves of a part meet at the first entry whose bit is 1
   pub zeros_ones : (d p : ℕ) (es : List (List ℕ × X)) → IsPart d es → IsFirstOne d p es → (zeros d es ≡ take p es) × (ones d es ≡ drop p es)
   zeros_ones d p es part f = cut_at d p part.path es f part.sorted part.keys part.agree
 

@@ -26,7 +26,7 @@ impl Occupancy {
         }
     }
 
-    // The same, and one leaf before.
+    // What the range holds with one more leaf in front of it, of this hash.
     fn with_leaf(self, hash: &Hash) -> Occupancy
         ensures { found result ≡ with_leaf hash.now (found self) }
     {

@@ -1,4 +1,4 @@
--- The pieces into which a batch falls at a depth: one for each nibble that its keys have there.
+-- The pieces of a batch at a depth: one for each nibble that its keys have there.
 use Rattle.std.specs.Prelude.{◌≡◌, ℕ, ◌<◌, ◌==◌, List, [], ◌∷◌, length, filter, All, AllPairs}
 use Rattle.std.specs.List.{slice_range}
 use Rattle.jf_path.specs.Nibbles.{nibble}
