@@ -1,4 +1,4 @@
-// The walks over what an update made: they list the nodes that it writes and those that it makes stale, in the order of paths.
+// Walks that list, in the order of paths, the nodes that an update wrote and those that it made stale.
 ghost use Rattle.std.specs.Prelude.{◌≡◌, ℕ, ◌-◌, ◌++◌, Option, length, OnOk};
 ghost use Rattle.std.specs.Option.{option_copied};
 ghost use Rattle.jf_hash.specs.Slots.{Part};
