@@ -24,7 +24,7 @@ use Rattle.jf_update.proofs.Names.{both_true}
 abbrev pub name_at : ℕ → Path → NodeName
 name_at version path = record { version = version; path = path }
 
--- the walk over the entries of maps is the walk over sorted lists of them
+-- the walk over sorted entries lists the fresh nodes of their maps
 pub with_root-sorted : {X : Type 0} (old new : Part) (f : Path → X) → T (is_sorted key_cmp old) → T (is_sorted key_cmp new) → with_root old new f ≡ map (λ (x : Path × Part). f x.0) (fresh (fin.from_sorted old) (fin.from_sorted new))
 with_root-sorted old new f a b =
     ap₂ (λ p q. with_root p q f) (sym (fin.entries-from_sorted key_cmp old a)) (sym (fin.entries-from_sorted key_cmp new b)) ∙ with_root-fresh (fin.from_sorted old) (fin.from_sorted new) f

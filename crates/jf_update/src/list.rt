@@ -46,8 +46,8 @@ pub(crate) fn list_fresh(
     Ok(())
 }
 
-/// Appends the names of the nodes from `old` down that a landing made stale; `new` stands in its place, and `path` leads
-/// to it.
+/// Appends the names of the nodes from `old` down that a landing made stale. The node `new` stands in its place, and
+/// `path` leads to it.
 pub(crate) fn list_stale(
     old: &Link,
     new: Option<&Link>,
