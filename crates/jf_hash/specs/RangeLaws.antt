@@ -43,7 +43,7 @@ within_whole (suc level) slots n d some is =
     ap (λ t. get_or t n d) (sym (append_assoc left right (range_hash (suc level) slots ∷ [])))
     ∙ last_at (left ++ right) (range_hash (suc level) slots) n d (omega (arith, pow-suc 2 level, length-append left right, length-hashes_within level (take (2 ^ level) slots), length-hashes_within level (drop (2 ^ level) slots)))
 
--- ---- where a range stands: in the first half, or behind it
+-- ---- where a range stands: in the first half, or after it
 
 -- a range of 2 ^ l places that stands in the first half of 2 ^ suc t places
 pub record InLeft (t l start : ℕ) : Type 0 where

@@ -126,7 +126,7 @@ module _ {X : Type 0} where
     | false ↦ λ is. let f = first_one d es in (suc f.0, record { within = let w = f.1.within in omega arith; before = none_before d f.0 e es is f.1; at = λ x lt. f.1.at x (omega arith) })
   ] refl
 
-  -- those with bit 0, and then those with bit 1, are all
+  -- the entries with bit 0, and then those with bit 1, are all entries
   pub zeros-append-ones : (d : ℕ) (es : List (List ℕ × X)) → IsPart d es → zeros d es ++ ones d es ≡ es
   zeros-append-ones d es part =
       let f = first_one d es in

@@ -137,7 +137,8 @@ pub fn play<D: Disk + Drop, H: Threads + Wait + Sync>(
     play_words(rt, alloc, disk, &words, script, faults)
 }
 
-/// Whether a run ended with this status, opened the store at version `start`, or none for `None`, and wrote this text.
+/// Whether a run ended with this status, opened the store at version `start` (`None`: opened no store), and wrote this
+/// text.
 pub fn has_ended<D>(played: &Played<D>, status: Status, start: Option<u64>, text: &[u8]) -> bool {
     played.status == status && played.start == start && played.text.as_slice() == text
 }

@@ -4,9 +4,13 @@ use jf_path::Bytes;
 /// What a command works on: the newest version, the version of a number, the fork of an id, or a pinned place.
 #[derive(Clone, Copy, Debug, PartialEq, Eq)]
 pub enum Base {
+    /// The newest version: `head`.
     Head,
+    /// The version of this number: `vN`.
     Version(u64),
+    /// The fork of this id: `fN`.
     Fork(u64),
+    /// The version pinned at this place: `pN`.
     Place(u64),
 }
 

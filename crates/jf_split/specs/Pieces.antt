@@ -17,7 +17,7 @@ with_nibble depth n b = filter (λ e. nibble e.0 depth == n) b
 abbrev pub entries_of : Batch → Piece → Batch
 entries_of b p = slice_range b p.start p.end
 
--- each range begins where the one before it ends, none is empty, and together they go from one place to another
+-- ranges that follow one another: each begins at the end of the one before, no range is empty, and together they go from `from` to `to`
 abbrev pub Tile : ℕ → ℕ → List Piece → Type 0
 Tile from to [] = from ≡ to
 Tile from to (p ∷ ps) = (p.start ≡ from) × (p.start < p.end) × Tile p.end to ps

@@ -5,7 +5,7 @@ use std::io::{self, ErrorKind, Read};
 // The attempts of one read while signals interrupt it, as in `jf_io`.
 const ATTEMPTS: u32 = 1_000;
 
-// A reader whose first reads are interrupted by signals, as many as it is told to, and then give `abcd`, a fault and
+// A reader whose first `interrupted` reads are interrupted by signals, and whose next reads are `abcd`, a fault and
 // `abcd`.
 #[derive(Drop)]
 struct Faulty {

@@ -192,7 +192,7 @@ updating_more d v n start r path olds now next (New y) bs piece long fit part ba
     (λ off. absurd (true≢false off))
     (λ on e. out.1 (sym out.0.entries ∙ e))
 
--- ---- a worked node over its worked children
+-- ---- a node over its updated children
 
 pub worked_top : (d v : ℕ) (path : ℕ → ℕ) (x : LinkValue) (y : Option LinkValue) (olds news : List (Option LinkValue)) (bs : Batch) (changed : List Bool) → x.depth ≡ d → ShowsInner x olds
     → IsPart d path x.entries → IsPart d path bs → AreNewChildren d v olds bs news changed → ¬ (applied (joined olds) bs ≡ joined olds) → Topped d v news y → IsOutcome d v (Some x) bs (New y)
@@ -242,7 +242,7 @@ pub ok_outcome : {E : Type 0} (d v : ℕ) (x : Option LinkValue) (es : Part) (bs
 ok_outcome d v x es bs (Ok p) is few out = leaf_outcome d v x es bs p is few out
 ok_outcome d v x es bs (Err e) is few out = tt
 
--- ---- what a child is given
+-- ---- what is asked of the update of a child
 
 pub child_parts : (d v n start r : ℕ) (olds news : List (Option LinkValue)) (o : Option LinkValue) (bs : Batch) (changed : List Bool) → length olds ≡ 16 → FitFrom d 0 olds → AreParts d (joined olds) bs → IsUpdating d v n start olds bs news changed → IsPieceEnd d n r (drop start bs) → o ≡ get_or olds n None
     → AreParts (d + 1) (content o) (take ((start + r) - start) (drop start bs))

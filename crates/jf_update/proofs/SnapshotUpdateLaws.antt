@@ -36,7 +36,7 @@ use Rattle.jf_update.specs.Plains.{fresh_under}
 use Rattle.jf_update.specs.TopUpdates.{IsTopUpdate, IsOfVersion, NoneNewer, old_name}
 use Rattle.jf_update.specs.declared.top.TopUpdate.{TopUpdate}
 
--- ---- what the top of a snapshot meets
+-- ---- what holds of the top of a snapshot
 
 pub top_placed : (version : ℕ) (old : Option LinkValue) → IsTopIf version old → IsAtDepth 0 old
 top_placed version None top = tt

@@ -179,7 +179,7 @@ changed head old bs l newest sound out fresh stale = record {
   stale = stale;
 }
 
--- ---- what the steps are given
+-- ---- what is asked of the steps
 
 pub was_landed : (head : ℕ) (old top seen : Option LinkValue) (bs : Batch) → NoneNewer head old → AreParts 0 (content old) bs → IsOutcome 0 (head + 1) old bs (New top) → seen ≡ top → WasLanded (head + 1) seen
 was_landed head old top seen bs newest parts out is = subst (WasLanded (head + 1)) (sym is) record {

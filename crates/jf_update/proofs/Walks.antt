@@ -89,7 +89,7 @@ child_over version es before x n c over is = record {
   older = λ p. over.older (n ∷ p);
 }
 
--- ---- what is written may be listed behind others
+-- ---- the nodes written may be listed after others
 
 map-append : (xs ys : List (NodeName × PlainNode)) → map (λ (e : NodeName × PlainNode). e.0) (xs ++ ys) ≡ map (λ (e : NodeName × PlainNode). e.0) xs ++ map (λ (e : NodeName × PlainNode). e.0) ys
 map-append [] ys = refl
