@@ -13,7 +13,7 @@ use jf_path::{Bytes, Key, Memory};
 use jf_text::write_hex;
 
 /// Appends a proof block without its first line: the name, what is claimed of it, and the proof, the lowest sibling
-/// first. Out of memory, the text is unchanged (docs/FORMATS.md, Proof blocks).
+/// first. If memory runs out, the text is unchanged (docs/FORMATS.md, Proof blocks).
 pub fn write_proof(
     name: &[u8],
     claim: Option<&[u8]>,

@@ -112,8 +112,8 @@ impl Ranges {
         (Ranges { hashes }, pairs)
     }
 
-    /// The hashes of the ranges of these places, of which only those in `changed` differ from before. Only ranges with
-    /// a changed place are hashed again, and of these only those that hold more than one leaf.
+    /// The hashes of the ranges of these places, of which only those in `changed` may differ from before. Only ranges
+    /// with a changed place are hashed again, and of these only those that hold more than one leaf.
     pub fn updated(&self, slots: &[Slot; 16], changed: &[bool; 16]) -> Ranges
         ensures { (olds : List Slot) → self.now ≡ range_hashes olds → Agree olds changed.now slots.now → result ≡ range_hashes slots.now }
     {

@@ -9,7 +9,7 @@ use Rattle.jf_io.specs.Inputs.{IsPlain, IsFound}
 use Rattle.jf_io.proofs.Plain.{place_le, front_plain, front_split, front_whole, held_plain}
 use Rattle.jf_io.proofs.EndedLines.{lines_nil, lines_one, lines_last}
 
--- what is held may be shortened
+-- a line that is found in a shortened text is found in the whole text
 pub found_whole : (limit : ℕ) (source : Option (List ℕ)) (whole held : List ℕ) → IsShortened limit whole held → IsFound held source → IsFound whole source
 found_whole limit source whole held short (inl cut) = inl (finished-text limit whole held short cut)
 found_whole limit source whole held short (inr last) = inr (some-text limit whole held short last.0, last.1)

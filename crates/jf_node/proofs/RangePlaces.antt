@@ -105,7 +105,7 @@ at_one x links start level shows small one =
     let long = shows.children.long in
     ap (λ l. in_range x.depth start (2 ^ l) x.entries) one ∙ ap (in_range x.depth start 1) shows.entries ∙ one_place x.depth start links shows.children.fit (omega arith)
 
--- at one place there is no child, or one
+-- the node for one place has no entry, or is the top of the child there
 pub one_none : (x : LinkValue) (links : List (Option LinkValue)) (start level d : ℕ) → ShowsInner x links → start < 16 → level ≡ 0 → d ≡ x.depth → None ≡ get_or links start None → record { depth = 4 * d + (4 - level); entries = [] } ≡ among x start level
 one_none x links start level d shows small one deep is =
     ap₂ (λ k es. record { depth = 4 * k + (4 - level); entries = es }) deep (sym (at_one x links start level shows small one ∙ ap content (sym is)))
@@ -210,7 +210,7 @@ places_end depth start level width place link h is wide =
     let p = placed depth place link start level h is in
     range_ends level start width p.narrow p.aligned p.within wide
 
--- a key is found in a leaf if it is the leaf's key
+-- a range over a leaf finds the keys that the leaf has
 pub find_leaf : (v : RangeValue) (depth : ℕ) (place : Place) (link : Bor LinkValue) (key : List ℕ) → range_value depth place ≡ v → place ≡ Leaf link → find key_cmp key link.now.entries ≡ find key_cmp key v.entries
 find_leaf v depth place link key seen is = ap (λ x. find key_cmp key x.entries) (sym (kept_as v depth place _ seen is))
 

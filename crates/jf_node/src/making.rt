@@ -110,8 +110,8 @@ impl Link {
         Ok((link, pairs))
     }
 
-    /// The inner node over new children, of which only those in `changed` have other entries than those of this node.
-    /// Only ranges with a changed child are hashed.
+    /// The inner node over new children, of which only those in `changed` may have other entries than this node's. Only
+    /// ranges with a changed child are hashed.
     pub fn with_children(
         &self,
         alloc: Global,

@@ -61,7 +61,7 @@ impl Bytes {
         &self.bytes
     }
 
-    /// Adds a byte at the end. Out of memory, the list is unchanged.
+    /// Adds a byte at the end. If memory runs out, the list is unchanged.
     pub fn push(&mut self, byte: u8) -> Result<(), Memory>
         ensures ok { OnOk result (self.new ≡ self.old ++ byte ∷ []) }
         ensures err { OnErr result (self.new ≡ self.old) }
@@ -70,7 +70,7 @@ impl Bytes {
         Ok(())
     }
 
-    /// Adds bytes at the end. Out of memory, the list is unchanged.
+    /// Adds bytes at the end. If memory runs out, the list is unchanged.
     pub fn append(&mut self, from: &[u8]) -> Result<(), Memory>
         ensures ok { OnOk result (self.new ≡ self.old ++ from.now) }
         ensures err { OnErr result (self.new ≡ self.old) }
@@ -79,7 +79,7 @@ impl Bytes {
         Ok(())
     }
 
-    /// Takes room for `additional` more bytes. The list is unchanged, also out of memory.
+    /// Takes room for `additional` more bytes. The list is unchanged, even if memory runs out.
     pub fn reserve(&mut self, additional: u64) -> Result<(), Memory>
         ensures { self.new ≡ self.old }
     {

@@ -62,7 +62,7 @@ impl Children {
         &self.children
     }
 
-    /// Adds a child after all that are there. Out of memory, the list is unchanged.
+    /// Adds a child after all that are there. If memory runs out, the list is unchanged.
     pub fn push(&mut self, child: Child) -> Result<(), Memory>
         requires { RiseFrom 0 (self.old ++ child ∷ []) }
         ensures ok { OnOk result (self.new ≡ self.old ++ child ∷ []) }

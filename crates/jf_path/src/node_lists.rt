@@ -53,7 +53,7 @@ impl FreshList {
         &self.nodes
     }
 
-    /// Adds a node after all that are there. Out of memory, it is dropped, and the list is unchanged.
+    /// Adds a node after all that are there. If memory runs out, it is dropped, and the list is unchanged.
     pub fn push(&mut self, item: (NodeName, PlainNode)) -> Result<(), Memory>
         requires { IsTrue (rise (map (λ x. x.0) (self.old ++ item ∷ []))) }
         ensures ok { OnOk result (self.new ≡ self.old ++ item ∷ []) }
@@ -108,7 +108,7 @@ impl NameList {
         &self.names
     }
 
-    /// Adds a name after all that are there. Out of memory, the list is unchanged.
+    /// Adds a name after all that are there. If memory runs out, the list is unchanged.
     pub fn push(&mut self, name: NodeName) -> Result<(), Memory>
         requires { IsTrue (rise (self.old ++ name ∷ [])) }
         ensures ok { OnOk result (self.new ≡ self.old ++ name ∷ []) }
@@ -159,7 +159,7 @@ impl LiveList {
         &self.nodes
     }
 
-    /// Adds a node at the end. Out of memory, it is dropped, and the list is unchanged.
+    /// Adds a node at the end. If memory runs out, it is dropped, and the list is unchanged.
     pub fn push(&mut self, item: (NodeName, PlainNode, u64)) -> Result<(), Memory>
         ensures ok { OnOk result (self.new ≡ self.old ++ item ∷ []) }
         ensures err { OnErr result (self.new ≡ self.old) }

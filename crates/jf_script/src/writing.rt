@@ -8,8 +8,8 @@ use crate::reply::{Refusal, Reply};
 use jf_path::{Bytes, Memory};
 use jf_text::{write_hex, write_number};
 
-/// Appends the line of a reply: `seen`, the number of entries so far, the reply's words, and a line feed. Out of
-/// memory, the text is unchanged (docs/FORMATS.md, Replies).
+/// Appends the line of a reply: `seen`, the number of entries so far, the reply's words, and a line feed. If memory
+/// runs out, the text is unchanged (docs/FORMATS.md, Replies).
 pub fn write_reply(seen: u64, reply: &Reply, out: &mut Bytes) -> Result<(), Memory>
     ensures ok { OnOk result (out.new ≡ out.old ++ reply_text seen reply.now) }
     ensures err { OnErr result (out.new ≡ out.old) }

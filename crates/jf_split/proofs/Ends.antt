@@ -1,4 +1,4 @@
--- In a list whose numbers don't fall, the elements with one number are a run: where it ends.
+-- If the numbers of a list don't fall, the elements with one number stand together as a run; here is where it ends.
 use Rattle.std.proofs.Common.{◌≡◌, ℕ, ◌+◌, ◌-◌, ◌<◌, ◌≤◌, true, false, leb, List, length, get_or, drop, subst, arith, inl, inr, length-drop}
 use Rattle.std.specs.List.{AllWithin, HoldsAt}
 use Rattle.std.specs.List.Sorted.{IsNonDecreasingBy, IsPartitionPoint}

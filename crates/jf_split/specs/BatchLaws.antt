@@ -27,7 +27,7 @@ differs_from_all k (e ∷ es) below = (ap is_eq (below-first k e es below), diff
 pub IsBatch-none : IsBatch []
 IsBatch-none = record { sorted = tt; keys = tt; values = tt }
 
--- a batch that takes a key and bytes is a batch
+-- a batch stays a batch when it takes a key of 32 bytes and a value of bytes, or a removal
 pub IsBatch-put : (k : List ℕ) (v : Option (List ℕ)) (b : Batch) → IsKey k → IfSome v IsBytes → IsBatch b → IsBatch (put key_cmp k v b)
 IsBatch-put k v b key bytes batch = record {
   sorted = is_sorted-put key_cmp nat_list_cmp_total k v b batch.sorted;

@@ -44,7 +44,7 @@ impl BatchList {
         &self.batches
     }
 
-    /// Adds a batch at the end. Out of memory, the batch is dropped, and the list is unchanged.
+    /// Adds a batch at the end. If memory runs out, the batch is dropped, and the list is unchanged.
     pub fn push(&mut self, batch: Batch) -> Result<(), Memory>
         ensures ok { OnOk result (self.new ≡ self.old ++ batch ∷ []) }
         ensures err { OnErr result (self.new ≡ self.old) }

@@ -9,8 +9,8 @@ use jf_path::{Bytes, Memory};
 /// The hexadecimal digits, in the order of their values.
 const DIGITS: &[u8; 16] = b"0123456789abcdef";
 
-/// Appends a label and a number in decimal. Out of memory, the text that was there is unchanged, perhaps with part of
-/// the new text after it.
+/// Appends a label and a number in decimal. If memory runs out, the text that was there is unchanged, perhaps with part
+/// of the new text after it.
 pub fn write_number(label: &[u8], number: u64, out: &mut Bytes) -> Result<(), Memory>
     ensures ok { OnOk result (out.new ≡ out.old ++ (label.now ++ decimal number)) }
     ensures err { OnErr result (Extends out.old out.new) }
@@ -20,8 +20,8 @@ pub fn write_number(label: &[u8], number: u64, out: &mut Bytes) -> Result<(), Me
     out.append(text.format(number).as_bytes())
 }
 
-/// Appends a label and bytes in hexadecimal. Out of memory, the text that was there is unchanged, perhaps with part of
-/// the new text after it.
+/// Appends a label and bytes in hexadecimal. If memory runs out, the text that was there is unchanged, perhaps with
+/// part of the new text after it.
 pub fn write_hex(label: &[u8], bytes: &[u8], out: &mut Bytes) -> Result<(), Memory>
     ensures ok { OnOk result (out.new ≡ out.old ++ (label.now ++ encode_lower bytes.now)) }
     ensures err { OnErr result (Extends out.old out.new) }

@@ -180,7 +180,7 @@ same_rest start xs = take_all (length xs - start) (drop start xs) (omega (arith,
 pub end_in_rest : {X : Type 0} (d n r start : ℕ) (xs : List (List ℕ × X)) → IsPieceEnd d n r (take (length xs - start) (drop start xs)) → IsPieceEnd d n r (drop start xs)
 end_in_rest d n r start xs h = subst (IsPieceEnd d n r) (same_rest start xs) h
 
--- the first child is the first link that is found
+-- the entries of all children begin with those of the first child that is found
 pub first_some : (links : List (Option LinkValue)) (n : ℕ) (r : Option (Bor LinkValue)) → option_copied r ≡ get_or links n None → n < length links → ((k : ℕ) → k < n → get_or links k None ≡ None)
     → IfSome r (λ x. (rest : Part) × (joined links ≡ x.now.entries ++ rest))
 first_some links n None is short before = tt
