@@ -3,6 +3,20 @@ use Rattle.std.specs.Prelude.{◌≡◌, ℕ, ◌+◌, ◌-◌, ◌*◌, ◌^◌
 use Rattle.std.specs.List.{slice_split, join_with_byte}
 use Rattle.hex.specs.Hex.{encode_lower}
 
+-- ---- limits
+
+-- the most bytes of a line
+abbrev pub max_line : ℕ
+max_line = 8500
+
+-- the most bytes of a name
+abbrev pub max_name : ℕ
+max_name = 128
+
+-- the most entries of a chunk
+abbrev pub max_chunk : ℕ
+max_chunk = 1000
+
 -- ---- words
 
 -- the pieces between the spaces, of which some may be empty
@@ -22,9 +36,9 @@ spaced (w ∷ ws) = 32 ∷ w ++ spaced ws
 abbrev pub is_word : List ℕ → List ℕ → Bool
 is_word w v = bytes_eq w v
 
--- a line of more than 8,500 bytes
+-- a line of more bytes than a line may have
 abbrev pub is_long : List ℕ → Bool
-is_long line = nat_lt 8500 (length line)
+is_long line = nat_lt max_line (length line)
 
 -- a function of two values, where both are there
 abbrev pub both : {X Y Z : Type 0} → (X → Y → Z) → Option X → Option Y → Option Z
@@ -74,9 +88,9 @@ unhex (high ∷ low ∷ rest) = both ◌∷◌ (byte_of high low) (unhex rest)
 abbrev pub bytes_within : ℕ → ℕ → List ℕ → Option (List ℕ)
 bytes_within least most w = option_and_then (λ bytes. if nat_le least (length bytes) && nat_le (length bytes) most then Some bytes else None) (unhex w)
 
--- a name, of 1 to 128 bytes
+-- a name, of 1 byte or more
 abbrev pub name_of : List ℕ → Option (List ℕ)
-name_of w = bytes_within 1 128 w
+name_of w = bytes_within 1 max_name w
 
 -- a hash, of 32 bytes
 abbrev pub hash_of : List ℕ → Option (List ℕ)

@@ -2,6 +2,7 @@
 ghost use Rattle.std.specs.Prelude.{◌≡◌, ◌≤◌, length, IfOk, IfSome};
 ghost use Rattle.jf_text.specs.Words.{digit, byte_of, unhex, bytes_within, name_of, hash_of, value_of};
 
+use crate::limits::MAX_NAME;
 use jf_path::{Bytes, Memory};
 use std::alloc::Global;
 
@@ -54,11 +55,11 @@ fn bytes_within(alloc: Global, least: u64, most: u64, word: &[u8]) -> Result<Opt
     unhexed(alloc, word)
 }
 
-/// A name, of 1 to 128 bytes.
+/// A name, of 1 to [`MAX_NAME`] bytes.
 pub fn name_of(alloc: Global, word: &[u8]) -> Result<Option<Bytes>, Memory>
     ensures { IfOk result (λ name. name ≡ name_of word.now) }
 {
-    bytes_within(alloc, 1, 128, word)
+    bytes_within(alloc, 1, MAX_NAME, word)
 }
 
 /// A value, of at most 4,096 bytes behind a sign `=`.
