@@ -11,7 +11,7 @@ ghost use Rattle.jf_forks.specs.declared.fault.ForkFault.TheVariants as fault;
 use crate::chain::{chain_keys, push_chain};
 use crate::fault::ForkFault;
 use crate::gone::{drop_from, land_from};
-use crate::live::{LiveFork, grow, is_live, push_first, tree_of};
+use crate::live::{LiveFork, is_live, push_first, tree_of, tree_over};
 use jf_hash::Hash;
 use jf_model::Parent;
 use jf_node::Snapshot;
@@ -118,7 +118,7 @@ impl ForkTable {
         parent: Parent,
         batch: &Batch,
     ) -> Result<Forked, ForkFault>
-        requires few { self.old.made < 2 ^ 62 }
+        requires bounded { self.old.made < 2 ^ 62 }
         requires over { StandsOver head.now.map self.old }
         ensures forked { IfOk result (λ f. f ≡ record { id = self.old.made; root = root (apply (parent_map head.now.map (forks_of self.old.live) parent) batch.now) }) }
         ensures ok { OnOk result (self.new ≡ record { made = self.old.made + 1; live = record { fork = record { id = self.old.made; parent = parent; batch = batch.now }; map = apply (parent_map head.now.map (forks_of self.old.live) parent) batch.now } ∷ self.old.live }) }
@@ -129,7 +129,7 @@ impl ForkTable {
         if let Some(fault) = self.making_fault(parent) {
             return Err(fault);
         }
-        let tree = grow(alloc, &self.live, head, parent, batch)?;
+        let tree = tree_over(alloc, &self.live, head, parent, batch)?;
         let batch = batch.copy(alloc)?;
         let forked = Forked {
             id: self.made,
@@ -167,7 +167,7 @@ impl ForkTable {
     pub fn chain(&self, alloc: Global, id: u64) -> Result<BatchList, ForkFault>
         ensures chain { IfOk result (λ list. list ≡ batches (chain (forks_of self.now.live) id)) }
         ensures may { OnOk result (chain_fault id self.now ≡ None) }
-        ensures few { IfOk result (λ list. (1 ≤ length list) × (length list ≤ 1024) × (key_count list ≤ 10000)) }
+        ensures bounded { IfOk result (λ list. (1 ≤ length list) × (length list ≤ 1024) × (key_count list ≤ 10000)) }
         ensures refused { RefusedBy (chain_fault id self.now) result }
     {
         if let Some(fault) = self.chain_fault(id) {

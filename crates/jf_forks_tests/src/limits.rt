@@ -35,7 +35,7 @@ fn parent_of(id: u64) -> Parent {
 
 // Makes one more fork on the last one, which removes the key of its own number.
 fn add(alloc: Global, table: &mut ForkTable, head: &Snapshot, id: u64) -> Result<(), Fail>
-    requires few { table.old.made < 2 ^ 62 }
+    requires bounded { table.old.made < 2 ^ 62 }
     requires over { StandsOver head.now.map table.old }
     ensures made { OnOk result (table.new.made ≡ table.old.made + 1) }
     ensures stands { OnOk result (StandsOver head.now.map table.new) }
@@ -102,9 +102,9 @@ fn attempt(
     head: &Snapshot,
     parent: Parent,
 ) -> Result<u64, ForkFault>
-    requires few { table.old.made < 2 ^ 62 }
+    requires bounded { table.old.made < 2 ^ 62 }
     requires over { StandsOver head.now.map table.old }
-    ensures few { table.new.made ≤ table.old.made + 1 }
+    ensures bounded { table.new.made ≤ table.old.made + 1 }
     ensures stands { StandsOver head.now.map table.new }
 {
     match table.make(alloc, head, parent, &Batch::new(alloc)) {
@@ -115,7 +115,7 @@ fn attempt(
 
 // Whether a table of 1,024 forks has room for one more only after one is dropped, and refuses a missing parent first.
 fn has_room_for_one(alloc: Global, table: &mut ForkTable, head: &Snapshot) -> bool
-    requires few { table.old.made < 2 ^ 61 }
+    requires bounded { table.old.made < 2 ^ 61 }
     requires over { StandsOver head.now.map table.old }
 {
     let full = attempt(alloc, table, head, Parent::Head);

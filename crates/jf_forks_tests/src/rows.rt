@@ -32,7 +32,7 @@ pub(crate) fn head_of_one(alloc: Global, key: u8, byte: u8) -> Result<Snapshot, 
 }
 
 fn make_row(alloc: Global, table: &mut ForkTable, head: &Snapshot, row: &Row) -> Result<(), Fail>
-    requires few { table.old.made < 2 ^ 62 }
+    requires bounded { table.old.made < 2 ^ 62 }
     requires over { StandsOver head.now.map table.old }
     ensures made { OnOk result (table.new.made ≡ table.old.made + 1) }
     ensures stands { OnOk result (StandsOver head.now.map table.new) }

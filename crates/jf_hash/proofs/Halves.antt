@@ -2,28 +2,28 @@
 use Rattle.std.specs.Prelude.{◌≡◌, ℕ, zero, suc, ◌+◌, ◌-◌, ◌%◌, ◌/◌, ◌^◌, ◌<◌, ◌≤◌, List, [], ◌∷◌, length, take, drop, slice_index_or}
 use Rattle.std.proofs.Common.{refl, sym, ap, ap₂, ◌∙◌, arith, pow-suc, length-take-le, length-drop}
 use Rattle.jf_hash.specs.Hashes.{E, N}
-use Rattle.jf_hash.specs.Slots.{Nothing, Alone, More, stand, stand_hash, place_hash, range_hash}
+use Rattle.jf_hash.specs.Slots.{Empty, Lone, Many, occupants, occupants_hash, place_hash, range_hash}
 use Rattle.jf_hash.specs.Ranges.{IsRange}
 use Rattle.jf_hash.specs.RangeLaws.{some_power, fits_all, range_level}
 use Rattle.jf_hash.specs.declared.slot.Slot.{Slot}
 use Rattle.jf_hash.specs.declared.slot.Slot.TheVariants as slot
 
 -- without more than one leaf the range has no need of its halves
-pub range_hash-nothing : (level : ℕ) (slots : List Slot) → Nothing ≡ stand slots → E ≡ range_hash level slots
+pub range_hash-empty : (level : ℕ) (slots : List Slot) → Empty ≡ occupants slots → E ≡ range_hash level slots
 unfolding range_hash
-range_hash-nothing zero slots is = ap (λ s. stand_hash s (place_hash slots)) is
-range_hash-nothing (suc level) slots is = ap (λ s. stand_hash s (N (range_hash level (take (2 ^ level) slots)) (range_hash level (drop (2 ^ level) slots)))) is
+range_hash-empty zero slots is = ap (λ s. occupants_hash s (place_hash slots)) is
+range_hash-empty (suc level) slots is = ap (λ s. occupants_hash s (N (range_hash level (take (2 ^ level) slots)) (range_hash level (drop (2 ^ level) slots)))) is
 
-pub range_hash-alone : (level : ℕ) (slots : List Slot) (hash : List ℕ) → Alone hash ≡ stand slots → hash ≡ range_hash level slots
+pub range_hash-lone : (level : ℕ) (slots : List Slot) (hash : List ℕ) → Lone hash ≡ occupants slots → hash ≡ range_hash level slots
 unfolding range_hash
-range_hash-alone zero slots hash is = ap (λ s. stand_hash s (place_hash slots)) is
-range_hash-alone (suc level) slots hash is = ap (λ s. stand_hash s (N (range_hash level (take (2 ^ level) slots)) (range_hash level (drop (2 ^ level) slots)))) is
+range_hash-lone zero slots hash is = ap (λ s. occupants_hash s (place_hash slots)) is
+range_hash-lone (suc level) slots hash is = ap (λ s. occupants_hash s (N (range_hash level (take (2 ^ level) slots)) (range_hash level (drop (2 ^ level) slots)))) is
 
 -- a range of one place
-pub range_hash-one : (level : ℕ) (slots : List Slot) (d : Slot) → More ≡ stand slots → length slots ≡ 1 → length slots ≡ 2 ^ level → level ≤ 4 → place_hash (slice_index_or slots 0 d ∷ []) ≡ range_hash level slots
+pub range_hash-one : (level : ℕ) (slots : List Slot) (d : Slot) → Many ≡ occupants slots → length slots ≡ 1 → length slots ≡ 2 ^ level → level ≤ 4 → place_hash (slice_index_or slots 0 d ∷ []) ≡ range_hash level slots
 unfolding range_hash
 range_hash-one zero [] d is one long small = absurd (omega arith)
-range_hash-one zero (place ∷ []) d is one long small = ap (λ s. stand_hash s (place_hash (place ∷ []))) is
+range_hash-one zero (place ∷ []) d is one long small = ap (λ s. occupants_hash s (place_hash (place ∷ []))) is
 range_hash-one zero (place ∷ other ∷ slots) d is one long small = absurd (omega arith)
 range_hash-one (suc zero) slots d is one long small = absurd (omega arith)
 range_hash-one (suc (suc zero)) slots d is one long small = absurd (omega arith)
@@ -47,13 +47,13 @@ halves (suc (suc (suc (suc (suc n))))) m small some is = absurd (omega arith)
 
 -- the hash of a range by those of its halves
 pub range_hash-halves : (level half : ℕ) (slots : List Slot) → 0 < level → half ≡ 2 ^ (level - 1)
-    → stand_hash (stand slots) (N (range_hash (level - 1) (take half slots)) (range_hash (level - 1) (drop half slots))) ≡ range_hash level slots
+    → occupants_hash (occupants slots) (N (range_hash (level - 1) (take half slots)) (range_hash (level - 1) (drop half slots))) ≡ range_hash level slots
 unfolding range_hash
 range_hash-halves zero half slots some is = absurd (omega arith)
 range_hash-halves (suc level) half slots some is =
     let e : suc level - 1 ≡ level = omega arith in
     let h : half ≡ 2 ^ level = is ∙ ap (λ k. 2 ^ k) e in
-    ap₂ (λ k n. stand_hash (stand slots) (N (range_hash k (take n slots)) (range_hash k (drop n slots)))) e h
+    ap₂ (λ k n. occupants_hash (occupants slots) (N (range_hash k (take n slots)) (range_hash k (drop n slots)))) e h
 
 -- a range that isn't one place has halves
 pub not_one : (level n : ℕ) → n ≡ 2 ^ level → ¬ (n ≡ 1) → 0 < level

@@ -5,8 +5,8 @@ use Rattle.std.proofs.lemmas.List.{drop_all, set_split}
 use Rattle.std.proofs.lemmas.Slice.{take-put_mid, drop-put_mid}
 use borrow.Rule.Slice.PartMut.{put_mid}
 use Rattle.jf_hash.specs.Hashes.{E, N}
-use Rattle.jf_hash.specs.Slots.{stand, stand_hash, range_hash}
-use Rattle.jf_hash.specs.Ranges.{Agree, has_mark, hashes_within, range_hashes}
+use Rattle.jf_hash.specs.Slots.{occupants, occupants_hash, range_hash}
+use Rattle.jf_hash.specs.Ranges.{Agree, has_change, hashes_within, range_hashes}
 use Rattle.jf_hash.specs.RangeLaws.{length-hashes_within}
 use Rattle.jf_hash.specs.declared.slot.Slot.{Slot}
 use Rattle.jf_hash.specs.declared.slot.Slot.TheVariants as slot
@@ -14,7 +14,7 @@ use Rattle.jf_hash.proofs.Halves.{range_hash-halves}
 
 -- ---- places that are as they were
 
-pub agree_same : (olds : List Slot) (changed : List Bool) (slots : List Slot) → Agree olds changed slots → has_mark changed ≡ false → olds ≡ slots
+pub agree_same : (olds : List Slot) (changed : List Bool) (slots : List Slot) → Agree olds changed slots → has_change changed ≡ false → olds ≡ slots
 agree_same [] [] [] h k = refl
 agree_same (o ∷ olds) (true ∷ changed) (s ∷ slots) h k = absurd (cc)
 agree_same (o ∷ olds) (false ∷ changed) (s ∷ slots) h k = ap₂ (λ x t. x ∷ t) (h.0 refl) (agree_same olds changed slots h.1 k)
@@ -41,7 +41,7 @@ agree_drop (suc n) [] (c ∷ changed) slots h = absurd h
 agree_drop (suc n) (o ∷ olds) [] slots h = absurd h
 agree_drop (suc n) (o ∷ olds) (c ∷ changed) [] h = absurd h
 
--- where each is marked, any places were there before
+-- if each place changed, any places may have been there before
 pub agree_all : (old : Slot) (n : ℕ) (slots : List Slot) → length slots ≡ n → Agree (replicate n old) (replicate n true) slots
 agree_all old zero [] long = tt
 agree_all old zero (s ∷ slots) long = absurd (omega arith)
@@ -87,13 +87,13 @@ within_halves (suc level) half slots hashes some is one at =
 pub hashed_over : (level half : ℕ) (slots : List Slot) (left right hash : List ℕ) (lefts rights : List (List ℕ)) → 0 < level → half ≡ 2 ^ (level - 1)
     → (left ≡ range_hash (level - 1) (take half slots)) × (lefts ≡ hashes_within (level - 1) (take half slots))
     → (right ≡ range_hash (level - 1) (drop half slots)) × (rights ≡ hashes_within (level - 1) (drop half slots))
-    → hash ≡ stand_hash (stand slots) (N left right) → (hash ≡ range_hash level slots) × (lefts ++ (rights ++ hash ∷ []) ≡ hashes_within level slots)
+    → hash ≡ occupants_hash (occupants slots) (N left right) → (hash ≡ range_hash level slots) × (lefts ++ (rights ++ hash ∷ []) ≡ hashes_within level slots)
 unfolding hashes_within
 hashed_over zero half slots left right hash lefts rights some is a b h = absurd (omega arith)
 hashed_over (suc level) half slots left right hash lefts rights some is a b h =
     let e : suc level - 1 ≡ level = omega arith in
     let at : half ≡ 2 ^ level = is ∙ ap (λ k. 2 ^ k) e in
-    let hashed : hash ≡ range_hash (suc level) slots = h ∙ ap₂ (λ x y. stand_hash (stand slots) (N x y)) a.0 b.0 ∙ range_hash-halves (suc level) half slots some is in (
+    let hashed : hash ≡ range_hash (suc level) slots = h ∙ ap₂ (λ x y. occupants_hash (occupants slots) (N x y)) a.0 b.0 ∙ range_hash-halves (suc level) half slots some is in (
       hashed,
       ap₂ (λ xs ys. xs ++ (ys ++ hash ∷ [])) (a.1 ∙ ap₂ (λ k n. hashes_within k (take n slots)) e at) (b.1 ∙ ap₂ (λ k n. hashes_within k (drop n slots)) e at)
           ∙ ap (λ x. hashes_within level (take (2 ^ level) slots) ++ (hashes_within level (drop (2 ^ level) slots) ++ x ∷ [])) hashed,

@@ -6,8 +6,8 @@ use Rattle.std.proofs.lemmas.Bool.{cases_lt}
 use Rattle.std.specs.List.{count_by}
 use Rattle.std.proofs.lemmas.List.Sums.{sum_by-cons, sum_by-take-drop}
 use Rattle.std.proofs.Math.Nat.{mul-add}
-use Rattle.jf_hash.specs.Slots.{stand, range_hash}
-use Rattle.jf_hash.specs.Ranges.{IsRange, has_mark, is_more, hashes_within, pairs_within, range_hashes, range_index}
+use Rattle.jf_hash.specs.Slots.{occupants, range_hash}
+use Rattle.jf_hash.specs.Ranges.{IsRange, has_change, is_more, hashes_within, pairs_within, range_hashes, range_index}
 use Rattle.jf_hash.specs.declared.slot.Slot.{Slot}
 
 pub some_power : (level : ℕ) → 1 ≤ 2 ^ level
@@ -172,35 +172,35 @@ range_hashes-top slots d = within_whole 4 slots 14 d (omega arith) refl
 
 -- ---- how many pairs are hashed
 
--- none where nothing is marked
-pub has_mark-take : (n : ℕ) (marks : List Bool) → has_mark marks ≡ false → has_mark (take n marks) ≡ false
-has_mark-take zero marks none = refl
-has_mark-take (suc n) [] none = refl
-has_mark-take (suc n) (true ∷ marks) none = absurd (cc)
-has_mark-take (suc n) (false ∷ marks) none = has_mark-take n marks none
+-- none if no place changed
+pub has_change-take : (n : ℕ) (changes : List Bool) → has_change changes ≡ false → has_change (take n changes) ≡ false
+has_change-take zero changes none = refl
+has_change-take (suc n) [] none = refl
+has_change-take (suc n) (true ∷ changes) none = absurd (cc)
+has_change-take (suc n) (false ∷ changes) none = has_change-take n changes none
 
-pub has_mark-drop : (n : ℕ) (marks : List Bool) → has_mark marks ≡ false → has_mark (drop n marks) ≡ false
-has_mark-drop zero marks none = none
-has_mark-drop (suc n) [] none = refl
-has_mark-drop (suc n) (true ∷ marks) none = absurd (cc)
-has_mark-drop (suc n) (false ∷ marks) none = has_mark-drop n marks none
+pub has_change-drop : (n : ℕ) (changes : List Bool) → has_change changes ≡ false → has_change (drop n changes) ≡ false
+has_change-drop zero changes none = none
+has_change-drop (suc n) [] none = refl
+has_change-drop (suc n) (true ∷ changes) none = absurd (cc)
+has_change-drop (suc n) (false ∷ changes) none = has_change-drop n changes none
 
-pub pairs_within-none : (level : ℕ) (slots : List Slot) (marks : List Bool) → has_mark marks ≡ false → pairs_within level slots marks ≡ 0
+pub pairs_within-none : (level : ℕ) (slots : List Slot) (changes : List Bool) → has_change changes ≡ false → pairs_within level slots changes ≡ 0
 unfolding pairs_within
-pairs_within-none zero slots marks none = refl
-pairs_within-none (suc level) slots marks none =
+pairs_within-none zero slots changes none = refl
+pairs_within-none (suc level) slots changes none =
     omega (
       arith,
-      pairs_within-none level (take (2 ^ level) slots) (take (2 ^ level) marks) (has_mark-take (2 ^ level) marks none),
-      pairs_within-none level (drop (2 ^ level) slots) (drop (2 ^ level) marks) (has_mark-drop (2 ^ level) marks none),
-      ap {B = ℕ} (λ b. cond (b && is_more (stand slots)) 1 0) none,
+      pairs_within-none level (take (2 ^ level) slots) (take (2 ^ level) changes) (has_change-take (2 ^ level) changes none),
+      pairs_within-none level (drop (2 ^ level) slots) (drop (2 ^ level) changes) (has_change-drop (2 ^ level) changes none),
+      ap {B = ℕ} (λ b. cond (b && is_more (occupants slots)) 1 0) none,
     )
 
-at_most_marks : (more : Bool) (marks : List Bool) → cond (has_mark marks && more) 1 0 ≤ count_by (λ mark. mark) marks
-at_most_marks more [] = omega arith
-at_most_marks true (true ∷ marks) = omega (arith, sum_by-cons (λ mark. cond {A = ℕ} mark 1 0) true marks)
-at_most_marks false (true ∷ marks) = omega arith
-at_most_marks more (false ∷ marks) = at_most_marks more marks
+at_most_changes : (more : Bool) (changes : List Bool) → cond (has_change changes && more) 1 0 ≤ count_by (λ change. change) changes
+at_most_changes more [] = omega arith
+at_most_changes true (true ∷ changes) = omega (arith, sum_by-cons (λ change. cond {A = ℕ} change 1 0) true changes)
+at_most_changes false (true ∷ changes) = omega arith
+at_most_changes more (false ∷ changes) = at_most_changes more changes
 
 together : (level a b c p q here : ℕ) → p ≤ level * a → q ≤ level * b → a + b ≡ c → here ≤ c → p + q + here ≤ suc level * c
 together level a b c p q here first second is small = omega (arith, mul-distrib level a b c is, suc-times level c)
@@ -211,31 +211,31 @@ together level a b c p q here first second is small = omega (arith, mul-distrib 
     suc-times : (n c : ℕ) → suc n * c ≡ n * c + c
     suc-times n c = grind arith
 
--- a marked place lies in one range of each width
-pub pairs_within-few : (level : ℕ) (slots : List Slot) (marks : List Bool) → pairs_within level slots marks ≤ level * count_by (λ mark. mark) marks
+-- a changed place lies in one range of each width
+pub pairs_within-bounded : (level : ℕ) (slots : List Slot) (changes : List Bool) → pairs_within level slots changes ≤ level * count_by (λ change. change) changes
 unfolding pairs_within
-pairs_within-few zero slots marks = omega arith
-pairs_within-few (suc level) slots marks =
-    together level (count_by (λ mark. mark) (take (2 ^ level) marks)) (count_by (λ mark. mark) (drop (2 ^ level) marks)) (count_by (λ mark. mark) marks) _ _ _
-    (pairs_within-few level (take (2 ^ level) slots) (take (2 ^ level) marks)) (pairs_within-few level (drop (2 ^ level) slots) (drop (2 ^ level) marks))
-    (sum_by-take-drop (λ mark. cond mark 1 0) marks (2 ^ level)) (at_most_marks (is_more (stand slots)) marks)
+pairs_within-bounded zero slots changes = omega arith
+pairs_within-bounded (suc level) slots changes =
+    together level (count_by (λ change. change) (take (2 ^ level) changes)) (count_by (λ change. change) (drop (2 ^ level) changes)) (count_by (λ change. change) changes) _ _ _
+    (pairs_within-bounded level (take (2 ^ level) slots) (take (2 ^ level) changes)) (pairs_within-bounded level (drop (2 ^ level) slots) (drop (2 ^ level) changes))
+    (sum_by-take-drop (λ change. cond change 1 0) changes (2 ^ level)) (at_most_changes (is_more (occupants slots)) changes)
 
-pub pairs_within-one : (level : ℕ) (slots : List Slot) (marks : List Bool) → 2 ^ level ≡ 1 → level ≤ 4 → pairs_within level slots marks ≡ 0
+pub pairs_within-one : (level : ℕ) (slots : List Slot) (changes : List Bool) → 2 ^ level ≡ 1 → level ≤ 4 → pairs_within level slots changes ≡ 0
 unfolding pairs_within
-pairs_within-one zero slots marks is small = refl
-pairs_within-one (suc zero) slots marks is small = absurd (omega arith)
-pairs_within-one (suc (suc zero)) slots marks is small = absurd (omega arith)
-pairs_within-one (suc (suc (suc zero))) slots marks is small = absurd (omega arith)
-pairs_within-one (suc (suc (suc (suc zero)))) slots marks is small = absurd (omega arith)
-pairs_within-one (suc (suc (suc (suc (suc n))))) slots marks is small = absurd (omega arith)
+pairs_within-one zero slots changes is small = refl
+pairs_within-one (suc zero) slots changes is small = absurd (omega arith)
+pairs_within-one (suc (suc zero)) slots changes is small = absurd (omega arith)
+pairs_within-one (suc (suc (suc zero))) slots changes is small = absurd (omega arith)
+pairs_within-one (suc (suc (suc (suc zero)))) slots changes is small = absurd (omega arith)
+pairs_within-one (suc (suc (suc (suc (suc n))))) slots changes is small = absurd (omega arith)
 
--- of a range with a marked place that isn't one place
-pub pairs_within-halves : (level half : ℕ) (slots : List Slot) (marks : List Bool) → 0 < level → half ≡ 2 ^ (level - 1) → has_mark marks ≡ true
-    → pairs_within (level - 1) (take half slots) (take half marks) + pairs_within (level - 1) (drop half slots) (drop half marks) + cond (is_more (stand slots)) 1 0 ≡ pairs_within level slots marks
+-- of a range with a changed place that isn't one place
+pub pairs_within-halves : (level half : ℕ) (slots : List Slot) (changes : List Bool) → 0 < level → half ≡ 2 ^ (level - 1) → has_change changes ≡ true
+    → pairs_within (level - 1) (take half slots) (take half changes) + pairs_within (level - 1) (drop half slots) (drop half changes) + cond (is_more (occupants slots)) 1 0 ≡ pairs_within level slots changes
 unfolding pairs_within
-pairs_within-halves zero half slots marks some is mark = absurd (omega arith)
-pairs_within-halves (suc level) half slots marks some is mark =
+pairs_within-halves zero half slots changes some is change = absurd (omega arith)
+pairs_within-halves (suc level) half slots changes some is change =
     let e : suc level - 1 ≡ level = omega arith in
     let h : half ≡ 2 ^ level = is ∙ ap (λ k. 2 ^ k) e in
-    ap₂ (λ k n. pairs_within k (take n slots) (take n marks) + pairs_within k (drop n slots) (drop n marks) + cond (is_more (stand slots)) 1 0) e h
-    ∙ ap {B = ℕ} (λ b. pairs_within level (take (2 ^ level) slots) (take (2 ^ level) marks) + pairs_within level (drop (2 ^ level) slots) (drop (2 ^ level) marks) + cond (b && is_more (stand slots)) 1 0) (sym mark)
+    ap₂ (λ k n. pairs_within k (take n slots) (take n changes) + pairs_within k (drop n slots) (drop n changes) + cond (is_more (occupants slots)) 1 0) e h
+    ∙ ap {B = ℕ} (λ b. pairs_within level (take (2 ^ level) slots) (take (2 ^ level) changes) + pairs_within level (drop (2 ^ level) slots) (drop (2 ^ level) changes) + cond (b && is_more (occupants slots)) 1 0) (sym change)

@@ -1,10 +1,10 @@
 -- Ranges of the places of a node: which there are, the entries of the part that stand in one, and the hashes of all of them.
 use Rattle.std.specs.Prelude.{◌≡◌, ℕ, zero, suc, ◌+◌, ◌-◌, ◌/◌, ◌%◌, ◌^◌, ◌<◌, Bool, true, false, cond, ◌&&◌, ◌||◌, ◌⊎◌, nat_le, nat_lt, List, [], ◌∷◌, ◌++◌, filter, take, drop}
 use Rattle.jf_path.specs.Nibbles.{nibble}
-use Rattle.jf_hash.specs.Slots.{Stand, Nothing, Alone, More, stand, range_hash}
+use Rattle.jf_hash.specs.Slots.{Occupants, Empty, Lone, Many, occupants, range_hash}
 use Rattle.jf_hash.specs.declared.slot.Slot.{Slot}
-use Rattle.jf_hash.specs.declared.standing.Standing.{Standing}
-use Rattle.jf_hash.specs.declared.standing.Standing.TheVariants as standing
+use Rattle.jf_hash.specs.declared.occupancy.Occupancy.{Occupancy}
+use Rattle.jf_hash.specs.declared.occupancy.Occupancy.TheVariants as occupancy
 
 -- a range of 1, 2, 4, 8 or all 16 places, which begins at a multiple of its width
 pub record IsRange (start width : ℕ) : Type 0 where
@@ -21,18 +21,18 @@ abbrev pub in_range : {X : Type 0} → ℕ → ℕ → ℕ → List (List ℕ ×
 in_range d start width es = filter (λ e. lies_in start width (nibble e.0 d)) es
 
 -- whether more than one leaf stands there
-abbrev pub is_more : Stand → Bool
-is_more Nothing = false
-is_more (Alone hash) = false
-is_more More = true
+abbrev pub is_more : Occupants → Bool
+is_more Empty = false
+is_more (Lone hash) = false
+is_more Many = true
 
--- what the program found to stand in a range
-abbrev pub found : Standing → Stand
-found standing.Nothing = Nothing
-found (standing.Alone hash) = Alone hash
-found standing.More = More
+-- what the program found in a range
+abbrev pub found : Occupancy → Occupants
+found occupancy.Empty = Empty
+found (occupancy.Lone hash) = Lone hash
+found occupancy.Many = Many
 
--- the hashes of the ranges of two places or more among 2 ^ level, each behind those of its halves
+-- the hashes of the ranges of two places or more among 2 ^ level, each after those of its halves
 unfoldable pub hashes_within : ℕ → List Slot → List (List ℕ)
 hashes_within zero slots = []
 hashes_within (suc level) slots = hashes_within level (take (2 ^ level) slots) ++ (hashes_within level (drop (2 ^ level) slots) ++ range_hash (suc level) slots ∷ [])
@@ -41,23 +41,23 @@ hashes_within (suc level) slots = hashes_within level (take (2 ^ level) slots) +
 abbrev pub range_hashes : List Slot → List (List ℕ)
 range_hashes slots = hashes_within 4 slots
 
--- where the hash of a range stands among the fifteen: behind those of the ranges before it and of the ranges within it
+-- where the hash of a range stands among the fifteen: after those of the ranges before it and of the ranges within it
 abbrev pub range_index : ℕ → ℕ → ℕ
 range_index start width = start / 2 + start / 4 + start / 8 + (width - 2)
 
--- places that aren't marked are as they were
+-- places that didn't change are as before
 abbrev pub Agree : List Slot → List Bool → List Slot → Type 0
 Agree [] [] [] = Unit {0}
 Agree (o ∷ olds) (c ∷ changed) (s ∷ slots) = (c ≡ false → o ≡ s) × Agree olds changed slots
 Agree olds changed slots = ⊥
 
--- whether a place is marked
-abbrev pub has_mark : List Bool → Bool
-has_mark [] = false
-has_mark (mark ∷ marks) = mark || has_mark marks
+-- whether a place changed
+abbrev pub has_change : List Bool → Bool
+has_change [] = false
+has_change (change ∷ changes) = change || has_change changes
 
--- how many ranges of two places or more, among 2 ^ level places, have a marked place and more than one leaf
+-- how many ranges of two places or more, among 2 ^ level places, have a changed place and more than one leaf
 unfoldable pub pairs_within : ℕ → List Slot → List Bool → ℕ
-pairs_within zero slots marks = 0
-pairs_within (suc level) slots marks =
-    pairs_within level (take (2 ^ level) slots) (take (2 ^ level) marks) + pairs_within level (drop (2 ^ level) slots) (drop (2 ^ level) marks) + cond (has_mark marks && is_more (stand slots)) 1 0
+pairs_within zero slots changes = 0
+pairs_within (suc level) slots changes =
+    pairs_within level (take (2 ^ level) slots) (take (2 ^ level) changes) + pairs_within level (drop (2 ^ level) slots) (drop (2 ^ level) changes) + cond (has_change changes && is_more (occupants slots)) 1 0

@@ -10,7 +10,7 @@ use Rattle.jf_path.specs.NibbleLaws.{nibble-small}
 use Rattle.jf_hash.specs.Hashes.{L, N, V}
 use Rattle.jf_hash.specs.Roots.{zeros, ones, part_root}
 use Rattle.jf_hash.specs.RootLaws.{part_root-none, part_root-one, part_root-split}
-use Rattle.jf_hash.specs.Slots.{Part, all_nibbles, with_nibble, slot_of, slots_of, Stand, Nothing, Alone, More, with_leaf, stand, stand_hash, range_hash}
+use Rattle.jf_hash.specs.Slots.{Part, all_nibbles, with_nibble, slot_of, slots_of, Occupants, Empty, Lone, Many, with_leaf, occupants, occupants_hash, range_hash}
 use Rattle.jf_hash.specs.Ranges.{lies_in, in_range}
 use Rattle.jf_hash.specs.declared.slot.Slot.{Slot}
 use Rattle.jf_hash.specs.declared.slot.Slot.TheVariants as slot
@@ -82,52 +82,52 @@ ones-in_range d l start j es small at aligned =
 -- ---- what stands in a range
 
 -- what stands in two ranges together
-abbrev both : Stand → Stand → Stand
-both Nothing other = other
-both (Alone hash) other = with_leaf hash other
-both More other = More
+abbrev both : Occupants → Occupants → Occupants
+both Empty other = other
+both (Lone hash) other = with_leaf hash other
+both Many other = Many
 
-both-with_leaf : (hash : List ℕ) (a b : Stand) → both (with_leaf hash a) b ≡ with_leaf hash (both a b)
-both-with_leaf hash Nothing b = refl
-both-with_leaf hash (Alone other) Nothing = refl
-both-with_leaf hash (Alone other) (Alone more) = refl
-both-with_leaf hash (Alone other) More = refl
-both-with_leaf hash More b = refl
+both-with_leaf : (hash : List ℕ) (a b : Occupants) → both (with_leaf hash a) b ≡ with_leaf hash (both a b)
+both-with_leaf hash Empty b = refl
+both-with_leaf hash (Lone other) Empty = refl
+both-with_leaf hash (Lone other) (Lone more) = refl
+both-with_leaf hash (Lone other) Many = refl
+both-with_leaf hash Many b = refl
 
-leaf_behind : (hash : List ℕ) (a b : Stand) → both a (with_leaf hash b) ≡ with_leaf hash (both a b)
-leaf_behind hash Nothing b = refl
-leaf_behind hash (Alone other) Nothing = refl
-leaf_behind hash (Alone other) (Alone more) = refl
-leaf_behind hash (Alone other) More = refl
-leaf_behind hash More b = refl
+leaf_behind : (hash : List ℕ) (a b : Occupants) → both a (with_leaf hash b) ≡ with_leaf hash (both a b)
+leaf_behind hash Empty b = refl
+leaf_behind hash (Lone other) Empty = refl
+leaf_behind hash (Lone other) (Lone more) = refl
+leaf_behind hash (Lone other) Many = refl
+leaf_behind hash Many b = refl
 
-stand-append : (xs ys : List Slot) → stand (xs ++ ys) ≡ both (stand xs) (stand ys)
-stand-append [] ys = refl
-stand-append (slot.Absent ∷ xs) ys = stand-append xs ys
-stand-append (slot.Leaf hash ∷ xs) ys = ap (with_leaf hash) (stand-append xs ys) ∙ sym (both-with_leaf hash (stand xs) (stand ys))
-stand-append (slot.Inner hash ∷ xs) ys = refl
+occupants-append : (xs ys : List Slot) → occupants (xs ++ ys) ≡ both (occupants xs) (occupants ys)
+occupants-append [] ys = refl
+occupants-append (slot.Absent ∷ xs) ys = occupants-append xs ys
+occupants-append (slot.Leaf hash ∷ xs) ys = ap (with_leaf hash) (occupants-append xs ys) ∙ sym (both-with_leaf hash (occupants xs) (occupants ys))
+occupants-append (slot.Inner hash ∷ xs) ys = refl
 
 -- what stands for entries
-abbrev stand_of : Part → Stand
-stand_of [] = Nothing
-stand_of (e ∷ []) = Alone (L e.0 (V e.1))
-stand_of (e ∷ f ∷ es) = More
+abbrev occupants_of : Part → Occupants
+occupants_of [] = Empty
+occupants_of (e ∷ []) = Lone (L e.0 (V e.1))
+occupants_of (e ∷ f ∷ es) = Many
 
-stand_of-more : (e : List ℕ × List ℕ) (es : Part) → stand_of (e ∷ es) ≡ with_leaf (L e.0 (V e.1)) (stand_of es)
-stand_of-more e [] = refl
-stand_of-more e (f ∷ []) = refl
-stand_of-more e (f ∷ g ∷ es) = refl
+occupants_of-more : (e : List ℕ × List ℕ) (es : Part) → occupants_of (e ∷ es) ≡ with_leaf (L e.0 (V e.1)) (occupants_of es)
+occupants_of-more e [] = refl
+occupants_of-more e (f ∷ []) = refl
+occupants_of-more e (f ∷ g ∷ es) = refl
 
 -- by a test and its opposite
-stand_of-halves : (test : List ℕ × List ℕ → Bool) (es : Part) → stand_of es ≡ both (stand_of (filter (λ e. not (test e)) es)) (stand_of (filter test es))
-stand_of-halves test [] = refl
-stand_of-halves test (e ∷ es) =
+occupants_of-halves : (test : List ℕ × List ℕ → Bool) (es : Part) → occupants_of es ≡ both (occupants_of (filter (λ e. not (test e)) es)) (occupants_of (filter test es))
+occupants_of-halves test [] = refl
+occupants_of-halves test (e ∷ es) =
     let zero_es = filter (λ e. not (test e)) es in
     let one_es = filter test es in
-    stand_of-more e es ∙ ap (with_leaf (L e.0 (V e.1))) (stand_of-halves test es)
-    ∙ elim (test e) as (λ b. with_leaf (L e.0 (V e.1)) (both (stand_of zero_es) (stand_of one_es)) ≡ both (stand_of (cond (not b) (e ∷ zero_es) zero_es)) (stand_of (cond b (e ∷ one_es) one_es))) [
-      | true ↦ sym (ap (both (stand_of zero_es)) (stand_of-more e one_es) ∙ leaf_behind (L e.0 (V e.1)) (stand_of zero_es) (stand_of one_es))
-      | false ↦ sym (ap (λ s. both s (stand_of one_es)) (stand_of-more e zero_es) ∙ both-with_leaf (L e.0 (V e.1)) (stand_of zero_es) (stand_of one_es))
+    occupants_of-more e es ∙ ap (with_leaf (L e.0 (V e.1))) (occupants_of-halves test es)
+    ∙ elim (test e) as (λ b. with_leaf (L e.0 (V e.1)) (both (occupants_of zero_es) (occupants_of one_es)) ≡ both (occupants_of (cond (not b) (e ∷ zero_es) zero_es)) (occupants_of (cond b (e ∷ one_es) one_es))) [
+      | true ↦ sym (ap (both (occupants_of zero_es)) (occupants_of-more e one_es) ∙ leaf_behind (L e.0 (V e.1)) (occupants_of zero_es) (occupants_of one_es))
+      | false ↦ sym (ap (λ s. both s (occupants_of one_es)) (occupants_of-more e zero_es) ∙ both-with_leaf (L e.0 (V e.1)) (occupants_of zero_es) (occupants_of one_es))
     ]
 
 -- ---- one place
@@ -153,10 +153,10 @@ single start n = grind (arith, nat_tests)
 one_range : {X : Type 0} (d i : ℕ) (es : List (List ℕ × X)) → with_nibble d i es ≡ in_range d i 1 es
 one_range d i es = filter_same _ _ es (λ e. single i (nibble e.0 d))
 
-stand-slot_of : (d : ℕ) (es : Part) → stand (slot_of d es ∷ []) ≡ stand_of es
-stand-slot_of d [] = refl
-stand-slot_of d (e ∷ []) = ap Alone (part_root-one d e.0 e.1)
-stand-slot_of d (e ∷ f ∷ es) = refl
+occupants-slot_of : (d : ℕ) (es : Part) → occupants (slot_of d es ∷ []) ≡ occupants_of es
+occupants-slot_of d [] = refl
+occupants-slot_of d (e ∷ []) = ap Lone (part_root-one d e.0 e.1)
+occupants-slot_of d (e ∷ f ∷ es) = refl
 
 slot_of-hash : (d : ℕ) (es : Part) → range_hash 0 (slot_of d es ∷ []) ≡ part_root d es
 unfolding range_hash
@@ -191,22 +191,22 @@ both_ranges (suc (suc zero)) start small lt aligned = (omega arith, omega arith,
 both_ranges (suc (suc (suc zero))) start small lt aligned = (omega arith, omega arith, omega arith)
 both_ranges (suc (suc (suc (suc l)))) start small lt aligned = absurd (omega arith)
 
-stand-range : (l d start : ℕ) (es : Part) → l ≤ 4 → start < 16 → start % 2 ^ l ≡ 0 → stand (places start (2 ^ l) (slots_of d es)) ≡ stand_of (in_range d start (2 ^ l) es)
-stand-range zero d start es small lt aligned = ap stand (one_place d start es lt) ∙ stand-slot_of (4 * (d + 1)) (with_nibble d start es) ∙ ap stand_of (one_range d start es)
-stand-range (suc l) d start es small lt aligned =
+occupants-range : (l d start : ℕ) (es : Part) → l ≤ 4 → start < 16 → start % 2 ^ l ≡ 0 → occupants (places start (2 ^ l) (slots_of d es)) ≡ occupants_of (in_range d start (2 ^ l) es)
+occupants-range zero d start es small lt aligned = ap occupants (one_place d start es lt) ∙ occupants-slot_of (4 * (d + 1)) (with_nibble d start es) ∙ ap occupants_of (one_range d start es)
+occupants-range (suc l) d start es small lt aligned =
     let h = both_ranges l start (omega arith) lt aligned in
     let j : ℕ = 4 * d + (3 - l) in
     let at : j + l ≡ 4 * d + 3 = omega arith in
-    ap stand (halved l start (slots_of d es)) ∙ stand-append (places start (2 ^ l) (slots_of d es)) (places (start + 2 ^ l) (2 ^ l) (slots_of d es))
-    ∙ ap₂ both (stand-range l d start es (omega arith) lt h.0 ∙ ap stand_of (sym (zeros-in_range d l start j es (omega arith) at aligned)))
-    (stand-range l d (start + 2 ^ l) es (omega arith) h.1 h.2 ∙ ap stand_of (sym (ones-in_range d l start j es (omega arith) at aligned)))
-    ∙ sym (stand_of-halves (λ e. bit e.0 j) (in_range d start (2 ^ suc l) es))
+    ap occupants (halved l start (slots_of d es)) ∙ occupants-append (places start (2 ^ l) (slots_of d es)) (places (start + 2 ^ l) (2 ^ l) (slots_of d es))
+    ∙ ap₂ both (occupants-range l d start es (omega arith) lt h.0 ∙ ap occupants_of (sym (zeros-in_range d l start j es (omega arith) at aligned)))
+    (occupants-range l d (start + 2 ^ l) es (omega arith) h.1 h.2 ∙ ap occupants_of (sym (ones-in_range d l start j es (omega arith) at aligned)))
+    ∙ sym (occupants_of-halves (λ e. bit e.0 j) (in_range d start (2 ^ suc l) es))
 
 -- a root by what stands for the entries
-part_root-stand : (j : ℕ) (es : Part) → j < 256 → stand_hash (stand_of es) (N (part_root (j + 1) (zeros j es)) (part_root (j + 1) (ones j es))) ≡ part_root j es
-part_root-stand j [] lt = sym (part_root-none j)
-part_root-stand j (e ∷ []) lt = sym (part_root-one j e.0 e.1)
-part_root-stand j (e ∷ f ∷ es) lt = sym (part_root-split j (e ∷ f ∷ es) lt (omega arith))
+part_root-occupants : (j : ℕ) (es : Part) → j < 256 → occupants_hash (occupants_of es) (N (part_root (j + 1) (zeros j es)) (part_root (j + 1) (ones j es))) ≡ part_root j es
+part_root-occupants j [] lt = sym (part_root-none j)
+part_root-occupants j (e ∷ []) lt = sym (part_root-one j e.0 e.1)
+part_root-occupants j (e ∷ f ∷ es) lt = sym (part_root-split j (e ∷ f ∷ es) lt (omega arith))
 
 -- the hash of 2 ^ level places is the root of the entries that stand there, below the bits that tell the range from the others
 pub range_hash-slots_of : (level d start : ℕ) (es : Part) → level ≤ 4 → d < 64 → start < 16 → start % 2 ^ level ≡ 0
@@ -222,11 +222,11 @@ range_hash-slots_of (suc l) d start es small below lt aligned =
     let next : 4 * d + (4 - l) ≡ j + 1 = omega arith in
     let slots = slots_of d es in
     let part = in_range d start (2 ^ suc l) es in
-    ap₂ (λ s m. stand_hash s m) (stand-range (suc l) d start es small lt aligned)
+    ap₂ (λ s m. occupants_hash s m) (occupants-range (suc l) d start es small lt aligned)
     (ap₂ N
     (ap (range_hash l) (first_half l start slots) ∙ range_hash-slots_of l d start es (omega arith) below lt h.0 ∙ ap₂ part_root next (sym (zeros-in_range d l start j es (omega arith) at aligned)))
     (ap (range_hash l) (second_half l start slots) ∙ range_hash-slots_of l d (start + 2 ^ l) es (omega arith) below h.1 h.2 ∙ ap₂ part_root next (sym (ones-in_range d l start j es (omega arith) at aligned))))
-    ∙ part_root-stand j part (omega arith) ∙ ap (λ k. part_root k part) (let e : j ≡ 4 * d + (4 - suc l) = omega arith in e)
+    ∙ part_root-occupants j part (omega arith) ∙ ap (λ k. part_root k part) (let e : j ≡ 4 * d + (4 - suc l) = omega arith in e)
 
 -- ---- all places
 

@@ -30,22 +30,22 @@ slots_of d es = map (λ i. slot_of (4 * (d + 1)) (with_nibble d i es)) all_nibbl
 
 -- ---- a range of places
 
--- what a range has: nothing, one leaf alone with its hash, or more, where an internal node counts as more
-pub data Stand : Type 0 where
-  Nothing : Stand
-  Alone : List ℕ → Stand
-  More : Stand
+-- what a range holds: nothing, one leaf alone with its hash, or more; an internal node counts as more
+pub data Occupants : Type 0 where
+  Empty : Occupants
+  Lone : List ℕ → Occupants
+  Many : Occupants
 
-abbrev pub with_leaf : List ℕ → Stand → Stand
-with_leaf hash Nothing = Alone hash
-with_leaf hash (Alone other) = More
-with_leaf hash More = More
+abbrev pub with_leaf : List ℕ → Occupants → Occupants
+with_leaf hash Empty = Lone hash
+with_leaf hash (Lone other) = Many
+with_leaf hash Many = Many
 
-abbrev pub stand : List Slot → Stand
-stand [] = Nothing
-stand (slot.Absent ∷ slots) = stand slots
-stand (slot.Leaf hash ∷ slots) = with_leaf hash (stand slots)
-stand (slot.Inner hash ∷ slots) = More
+abbrev pub occupants : List Slot → Occupants
+occupants [] = Empty
+occupants (slot.Absent ∷ slots) = occupants slots
+occupants (slot.Leaf hash ∷ slots) = with_leaf hash (occupants slots)
+occupants (slot.Inner hash ∷ slots) = Many
 
 -- the hash of one place
 abbrev pub place_hash : List Slot → List ℕ
@@ -55,12 +55,12 @@ place_hash (slot.Leaf hash ∷ slots) = hash
 place_hash (slot.Inner hash ∷ slots) = hash
 
 -- E for nothing, the leaf's hash for one leaf, else what is given
-abbrev pub stand_hash : Stand → List ℕ → List ℕ
-stand_hash Nothing more = E
-stand_hash (Alone hash) more = hash
-stand_hash More more = more
+abbrev pub occupants_hash : Occupants → List ℕ → List ℕ
+occupants_hash Empty more = E
+occupants_hash (Lone hash) more = hash
+occupants_hash Many more = more
 
 -- the hash of a range of 2 ^ level places: E without a child, the hash of a leaf that is alone in it or of its only place, else N of its halves
 unfoldable pub range_hash : ℕ → List Slot → List ℕ
-range_hash zero slots = stand_hash (stand slots) (place_hash slots)
-range_hash (suc level) slots = stand_hash (stand slots) (N (range_hash level (take (2 ^ level) slots)) (range_hash level (drop (2 ^ level) slots)))
+range_hash zero slots = occupants_hash (occupants slots) (place_hash slots)
+range_hash (suc level) slots = occupants_hash (occupants slots) (N (range_hash level (take (2 ^ level) slots)) (range_hash level (drop (2 ^ level) slots)))

@@ -3,11 +3,11 @@
 //! and how it comes from the hash of a range of places, with the laws of each.
 #![tactic(auto)]
 
+mod occupancy;
 mod plain;
 mod range;
 mod ranges;
 mod slot;
-mod standing;
 mod tagged;
 
 pub use plain::plain_root;

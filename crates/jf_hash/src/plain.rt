@@ -1,13 +1,12 @@
 // The root of a map by the recursion that defines it.
 ghost use Rattle.std.specs.Prelude.{◌≡◌, ◌+◌, ◌<◌, ◌≤◌, length, T};
-ghost use Rattle.std.specs.List.{AllByRecursion};
 ghost use Rattle.std.specs.FinMap.{is_sorted};
-ghost use Rattle.jf_path.specs.Keys.{bit, key_cmp, IsKey};
+ghost use Rattle.jf_path.specs.Keys.{bit, key_cmp};
 ghost use Rattle.jf_hash.specs.Roots.{leaves_root};
 ghost use Rattle.jf_hash.specs.Parts.{IsPart, IsFirstOne};
 
 use crate::tagged::{Hash, empty, inner, leaf};
-use jf_path::{bit, know_key};
+use jf_path::{bit, know_entries};
 
 // Where the entries whose bit `depth` is 1 begin.
 fn first_one(entries: &[(Hash, Hash)], depth: usize) -> usize
@@ -39,20 +38,11 @@ fn part_root(entries: &[(Hash, Hash)], depth: usize) -> Hash
     }
 }
 
-// What the type of entries says of them.
-fn know_keys(entries: &[(Hash, Hash)])
-    ensures { AllByRecursion (λ e. IsKey e.0) entries.now }
-{
-    for entry in entries {
-        know_key(&entry.0);
-    }
-}
-
 /// The root of a map, of whose entries the keys, rising strictly, and the hashes of the values are given.
 pub fn plain_root(entries: &[(Hash, Hash)]) -> Hash
     requires { T (is_sorted key_cmp entries.now) }
     ensures { result ≡ leaves_root 0 entries.now }
 {
-    know_keys(entries);
+    know_entries(entries);
     part_root(entries, 0)
 }

@@ -5,11 +5,11 @@ ghost use Rattle.jf_hash.specs.Roots.{part_root};
 ghost use Rattle.jf_hash.specs.Slots.{Part, slots_of, place_hash, range_hash};
 ghost use Rattle.jf_hash.specs.Ranges.{IsRange};
 
+use crate::occupancy::Occupancy;
 use crate::slot::Slot;
-use crate::standing::Standing;
 use crate::tagged::{Hash, empty, inner};
 
-// The hash of what stands at one place, where that of no entry is given.
+// The hash of what one place holds; `none` is that of no entry.
 pub fn hash_at(place: &Slot, none: &Hash) -> Hash
     requires { none.now ≡ E }
     ensures { result ≡ place_hash (place.now ∷ []) }
@@ -24,10 +24,10 @@ pub fn hash_at(place: &Slot, none: &Hash) -> Hash
 fn hash_of(places: &[Slot]) -> Hash
     ensures { (level : ℕ) → level ≤ 4 → length places.now ≡ 2 ^ level → result ≡ range_hash level places.now }
 {
-    match Standing::of(places) {
-        Standing::Nothing => empty(),
-        Standing::Alone(hash) => hash,
-        Standing::More => {
+    match Occupancy::of(places) {
+        Occupancy::Empty => empty(),
+        Occupancy::Lone(hash) => hash,
+        Occupancy::Many => {
             if places.len() == 1 {
                 return hash_at(&places[0], &empty());
             }
@@ -37,9 +37,9 @@ fn hash_of(places: &[Slot]) -> Hash
     }
 }
 
-/// The hash of the range of `width` places from place `start` on of a node: that of no entry where no child stands
-/// there, that of a leaf which is alone there, that of an internal node which has the range to itself where it is one
-/// place, and else that of the pair of its halves. Of all sixteen places it is the hash of the node.
+/// The hash of the range of `width` places from place `start` on of a node: the hash of no entry if
+/// it holds no child; the hash of a lone leaf; if the range is one place, the hash of the internal node there; otherwise
+/// that of the pair of its halves. For all sixteen places this is the hash of the node.
 pub fn sixteen(children: &[Slot; 16], start: usize, width: usize) -> Hash
     requires range { IsRange start width }
     ensures value { (level : ℕ) → width ≡ 2 ^ level → result ≡ range_hash level (take width (drop start children.now)) }

@@ -3,17 +3,17 @@ ghost use Rattle.std.specs.Prelude.{◌≡◌, ℕ, ◌+◌, ◌-◌, ◌*◌, �
 ghost use Rattle.std.specs.List.{count_by};
 ghost use Rattle.jf_hash.specs.Hashes.{E, N};
 ghost use Rattle.jf_hash.specs.Roots.{part_root};
-ghost use Rattle.jf_hash.specs.Slots.{Part, slots_of, stand, stand_hash, range_hash};
-ghost use Rattle.jf_hash.specs.Ranges.{Agree, IsRange, has_mark, in_range, is_more, hashes_within, pairs_within, range_hashes, range_index};
+ghost use Rattle.jf_hash.specs.Slots.{Part, slots_of, occupants, occupants_hash, range_hash};
+ghost use Rattle.jf_hash.specs.Ranges.{Agree, IsRange, has_change, in_range, is_more, hashes_within, pairs_within, range_hashes, range_index};
 ghost use Rattle.jf_hash.specs.declared.slot.Slot.{Slot};
 
+use crate::occupancy::Occupancy;
 use crate::range::hash_at;
 use crate::slot::Slot;
-use crate::standing::Standing;
 use crate::tagged::{Hash, empty, inner};
 use std::marker::Model;
 
-/// The hashes of the fifteen ranges of two places or more of a node, each behind those of its halves.
+/// The hashes of the fifteen ranges of two places or more of a node, each after those of its halves.
 #[derive(Clone, Copy, Debug, PartialEq, Eq)]
 pub struct Ranges {
     hashes: [Hash; 15],
@@ -32,34 +32,34 @@ impl Model for Ranges {
     ghost inverse_ok = { λ r h. refl };
 }
 
-// Whether a place is marked.
-fn any_marked(changed: &[bool]) -> bool
-    ensures { result ≡ has_mark changed.now }
+// Whether a place changed.
+fn any_changed(changed: &[bool]) -> bool
+    ensures { result ≡ has_change changed.now }
 {
     match changed.split_first() {
         None => false,
-        Some((mark, rest)) => *mark || any_marked(rest),
+        Some((change, rest)) => *change || any_changed(rest),
     }
 }
 
-// The hash of a range by those of its halves, which are hashed as a pair only where more than a leaf stands there; and
+// The hash of a range by those of its halves, which are hashed as a pair only if it holds more than one leaf; and
 // the number of pairs that were hashed for it.
 fn hash_over(places: &[Slot], left: &Hash, right: &Hash, none: &Hash) -> (Hash, u64)
     requires { none.now ≡ E }
-    ensures value { result.0 ≡ stand_hash (stand places.now) (N left.now right.now) }
-    ensures pairs { result.1 ≡ cond (is_more (stand places.now)) 1 0 }
+    ensures value { result.0 ≡ occupants_hash (occupants places.now) (N left.now right.now) }
+    ensures pairs { result.1 ≡ cond (is_more (occupants places.now)) 1 0 }
 {
-    match Standing::of(places) {
-        Standing::Nothing => (*none, 0),
-        Standing::Alone(hash) => (hash, 0),
-        Standing::More => (inner(left, right), 1),
+    match Occupancy::of(places) {
+        Occupancy::Empty => (*none, 0),
+        Occupancy::Lone(hash) => (hash, 0),
+        Occupancy::Many => (inner(left, right), 1),
     }
 }
 
-// Makes the hashes of the ranges within a range those of its places as they are now, of which the marked ones changed.
-// Gives the hash of the whole, and the number of pairs that were hashed.
+// Makes the hashes of the ranges within a range those of its places as they are now; `changed` says which of these
+// changed. Returns the hash of the whole, and the number of pairs that were hashed.
 fn refresh(places: &[Slot], changed: &[bool], hashes: &mut [Hash], none: &Hash) -> (Hash, u64)
-    requires marks { length changed.now ≡ length places.now }
+    requires changes { length changed.now ≡ length places.now }
     requires room { length hashes.old + 1 ≡ length places.now }
     requires none { none.now ≡ E }
     ensures value { (level : ℕ) (olds : List Slot) → level ≤ 4 → length places.now ≡ 2 ^ level → hashes.old ≡ hashes_within level olds → Agree olds changed.now places.now → (result.0 ≡ range_hash level places.now) × (hashes.new ≡ hashes_within level places.now) }
@@ -70,7 +70,7 @@ fn refresh(places: &[Slot], changed: &[bool], hashes: &mut [Hash], none: &Hash) 
         return (hash_at(&places[0], none), 0);
     }
     let last = hashes.len() - 1;
-    if !any_marked(changed) {
+    if !any_changed(changed) {
         return (hashes[last], 0);
     }
     let half = places.len() / 2;
@@ -99,7 +99,7 @@ impl Ranges {
         Ranges::of_counted(slots).0
     }
 
-    /// The same, and the number of pairs that were hashed, one for each range where more than a leaf stands.
+    /// The same, and the number of pairs that were hashed, one for each range that holds more than one leaf.
     pub fn of_counted(slots: &[Slot; 16]) -> (Ranges, u64)
         ensures value { result.0 ≡ range_hashes slots.now }
         ensures pairs { result.1 ≡ pairs_within 4 slots.now (replicate 16 true) }
@@ -111,8 +111,8 @@ impl Ranges {
         (Ranges { hashes }, pairs)
     }
 
-    /// The hashes of the ranges of these places, of which only the marked ones are not as they were. Only ranges with a
-    /// marked place are hashed again, and of these only those where more than a leaf stands.
+    /// The hashes of the ranges of these places, of which only those in `changed` are others than before. Only ranges
+    /// with a changed place are hashed again, and of these only those that hold more than one leaf.
     pub fn updated(&self, slots: &[Slot; 16], changed: &[bool; 16]) -> Ranges
         ensures { (olds : List Slot) → self.now ≡ range_hashes olds → Agree olds changed.now slots.now → result ≡ range_hashes slots.now }
     {
@@ -123,7 +123,7 @@ impl Ranges {
     pub fn updated_counted(&self, slots: &[Slot; 16], changed: &[bool; 16]) -> (Ranges, u64)
         ensures value { (olds : List Slot) → self.now ≡ range_hashes olds → Agree olds changed.now slots.now → result.0 ≡ range_hashes slots.now }
         ensures pairs { result.1 ≡ pairs_within 4 slots.now changed.now }
-        ensures few { result.1 ≤ 4 * count_by (λ mark. mark) changed.now }
+        ensures bounded { result.1 ≤ 4 * count_by (λ change. change) changed.now }
     {
         let none = empty();
         let mut hashes = self.hashes;

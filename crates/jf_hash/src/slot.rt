@@ -1,4 +1,4 @@
-// What stands at a place of a node.
+// One place of a node.
 use crate::tagged::Hash;
 
 /// What stands at one of the sixteen places of a node: nothing, a leaf with its hash, or an internal node with its hash.

@@ -19,8 +19,8 @@ pub fn join_pieces<H: Threads + Sync, T: Sync, R: Send + Drop, G: Gate, F: Fn(&T
     gate: &G,
     f: &F,
 ) -> Result<Vec<R>, Memory>
-    requires some { 1 ≤ workers }
-    requires few { workers ≤ 64 }
+    requires positive { 1 ≤ workers }
+    requires bounded { workers ≤ 64 }
     requires callable { TakesEach F.Fn f.now pieces.now }
     ensures { IfOk result (λ v. AnswersEach F.Fn f.now pieces.now v.items) }
 {

@@ -7,11 +7,11 @@ use Rattle.jf_hash.specs.Slots.{Part, with_nibble}
 use Rattle.jf_model.specs.Changes.{applied, applied-none}
 use Rattle.jf_model.specs.Nodes.{Path}
 use Rattle.jf_landing.specs.Parts.{IsPart, from_nibble, stepped}
-use Rattle.jf_landing.specs.Kids.{kid}
+use Rattle.jf_landing.specs.ChildEntries.{child_entries}
 use Rattle.jf_landing.specs.Walk.{differs, each_from, listed}
 use Rattle.jf_landing.specs.PartLaws.{from_nibble-split, from_nibble-zero, from_nibble-past, IsPart-with_nibble, deeper}
 use Rattle.jf_landing.specs.PartChanges.{with_nibble-applied, IsPart-applied, length-applied}
-use Rattle.jf_landing.specs.KidLaws.{kid-few, kid-many}
+use Rattle.jf_landing.specs.ChildEntryLaws.{child_entries-few, child_entries-many}
 use Rattle.jf_landing.specs.WalkLaws.{listed-same, listed-gone, each-nil}
 
 -- how many entries the parts of `count` nibbles have, from nibble n on
@@ -67,13 +67,13 @@ module _ {X : Type 0} where
   bound_few zero d path old (e ∷ e' ∷ es) f deep few part = absurd (let s = deeper d path (e ∷ e' ∷ es) part (omega arith) in omega arith)
   bound_few (suc l) d path old [] f deep few part = omega arith
   bound_few (suc l) d path old (e ∷ []) f deep few part =
-      let g : ℕ → List X = λ n. listed l (d + 1) (kid d n old) [] (λ p. f (n ∷ p)) in
-      let none = ap length (each-nil 16 0 g (λ m. listed-gone l (d + 1) (kid d m old) (λ p. f (m ∷ p)))) in
+      let g : ℕ → List X = λ n. listed l (d + 1) (child_entries d n old) [] (λ p. f (n ∷ p)) in
+      let none = ap length (each-nil 16 0 g (λ m. listed-gone l (d + 1) (child_entries d m old) (λ p. f (m ∷ p)))) in
       cond-le (differs old (e ∷ [])) (f [] ∷ each_from 16 0 g) _ (omega (arith, none))
   bound_few (suc l) d path old (e ∷ e' ∷ es) f deep few part =
       let all = e ∷ e' ∷ es in
-      let g : ℕ → List X = λ n. listed l (d + 1) (kid d n old) (with_nibble d n all) (λ p. f (n ∷ p)) in
-      let each = each_few 16 0 d (l + 1) all g (omega arith) (λ m. bound_few l (d + 1) (stepped d m path) (kid d m old) (with_nibble d m all) (λ p. f (m ∷ p)) (omega arith) (omega (arith, ap length (kid-few d m old few))) (IsPart-with_nibble d m path all part)) in
+      let g : ℕ → List X = λ n. listed l (d + 1) (child_entries d n old) (with_nibble d n all) (λ p. f (n ∷ p)) in
+      let each = each_few 16 0 d (l + 1) all g (omega arith) (λ m. bound_few l (d + 1) (stepped d m path) (child_entries d m old) (with_nibble d m all) (λ p. f (m ∷ p)) (omega arith) (omega (arith, ap length (child_entries-few d m old few))) (IsPart-with_nibble d m path all part)) in
       let sum = total_all d path all part in
       cond-le (differs old all) (f [] ∷ each_from 16 0 g) _ (let up = each.1 (omega (arith, sum)) in omega (arith, up, sum, product (l + 1) _ _ sum))
     where
@@ -102,11 +102,11 @@ module _ {X : Type 0} where
     | inl few ↦ bound_on_few (suc l) d path es (b ∷ bs) f deep part batch (omega arith) few
     | inr many ↦
         let new = applied es (b ∷ bs) in
-        let g : ℕ → List X = λ n. listed l (d + 1) (kid d n es) (kid d n new) (λ p. f (n ∷ p)) in
+        let g : ℕ → List X = λ n. listed l (d + 1) (child_entries d n es) (child_entries d n new) (λ p. f (n ∷ p)) in
         let one : (m : ℕ) → length (g m) ≤ (l + 2) * length (with_nibble d m (b ∷ bs)) = λ m. elim (cases_lt (length new) 2) [
-          | inl lone ↦ omega (arith, ap length (ap (λ k. listed l (d + 1) (kid d m es) k (λ p. f (m ∷ p))) (kid-few d m new lone) ∙ listed-gone l (d + 1) (kid d m es) (λ p. f (m ∷ p))))
-          | inr lots ↦ subst (λ a. length (listed l (d + 1) a (kid d m new) (λ p. f (m ∷ p))) ≤ (l + 2) * length (with_nibble d m (b ∷ bs))) (sym (kid-many d m es many))
-              (subst (λ c. length (listed l (d + 1) (with_nibble d m es) c (λ p. f (m ∷ p))) ≤ (l + 2) * length (with_nibble d m (b ∷ bs))) (sym (kid-many d m new lots ∙ with_nibble-applied d m es (b ∷ bs) part.sorted))
+          | inl lone ↦ omega (arith, ap length (ap (λ k. listed l (d + 1) (child_entries d m es) k (λ p. f (m ∷ p))) (child_entries-few d m new lone) ∙ listed-gone l (d + 1) (child_entries d m es) (λ p. f (m ∷ p))))
+          | inr lots ↦ subst (λ a. length (listed l (d + 1) a (child_entries d m new) (λ p. f (m ∷ p))) ≤ (l + 2) * length (with_nibble d m (b ∷ bs))) (sym (child_entries-many d m es many))
+              (subst (λ c. length (listed l (d + 1) (with_nibble d m es) c (λ p. f (m ∷ p))) ≤ (l + 2) * length (with_nibble d m (b ∷ bs))) (sym (child_entries-many d m new lots ∙ with_nibble-applied d m es (b ∷ bs) part.sorted))
               (length-listed l (d + 1) (stepped d m path) (with_nibble d m es) (with_nibble d m (b ∷ bs)) (λ p. f (m ∷ p)) (omega arith) (IsPart-with_nibble d m path es part) (IsPart-with_nibble d m path (b ∷ bs) batch)))
         ] in
         let sum = each-bound 16 0 d (l + 2) (b ∷ bs) g one in

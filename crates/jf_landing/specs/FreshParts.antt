@@ -7,7 +7,7 @@ use Rattle.jf_hash.specs.Slots.{Part}
 use Rattle.jf_model.specs.Nodes.{Path, fresh}
 use Rattle.jf_model.specs.NodeLaws.{IsListed}
 use Rattle.jf_landing.specs.AllLaws.{All-weaker}
-use Rattle.jf_landing.specs.Kids.{sub}
+use Rattle.jf_landing.specs.ChildEntries.{sub}
 use Rattle.jf_landing.specs.Walk.{with_root}
 use Rattle.jf_landing.specs.SubLaws.{sub-under}
 use Rattle.jf_landing.specs.FreshLaws.{with_root-fresh}

@@ -2,10 +2,10 @@
 use Rattle.std.proofs.Common.{◌≡◌, ℕ, true, false, not, cond, ◌&&◌, inl, inr, ◌∷◌, refl, sym, ap, ap₂, ◌∙◌, Option, Some}
 use Rattle.jf_hash.specs.Slots.{Part}
 use Rattle.jf_model.specs.Nodes.{Path, under, is_node, same_part, is_fresh}
-use Rattle.jf_landing.specs.Kids.{sub}
+use Rattle.jf_landing.specs.ChildEntries.{sub}
 use Rattle.jf_landing.specs.SameParts.{same_part-refl, same_part-exact, same_or_other}
 use Rattle.jf_landing.specs.SubLaws.{sub-under, is_node-sub, sub-is_node_below}
-use Rattle.jf_landing.specs.Versions.{Versioned}
+use Rattle.jf_landing.specs.Versions.{HasVersion}
 
 -- a node with the part of before is not fresh
 pub is_fresh-same : (old new : Part) (n : ℕ) (p : Path) → is_node 0 (n ∷ p) new ≡ true → sub 0 (n ∷ p) old ≡ sub 0 (n ∷ p) new → is_fresh old new (n ∷ p) ≡ false
@@ -29,8 +29,8 @@ is_fresh-other old new n p node other =
     ] refl)
 
 -- each node below the top has the new version if it is fresh, and otherwise the version that it had
-pub Versioned-is_fresh : (version : ℕ) (old new : Part) (n : ℕ) (p : Path) (before now : Option ℕ) → Versioned version (sub 0 (n ∷ p) old) (sub 0 (n ∷ p) new) before now → is_node 0 (n ∷ p) new ≡ true → now ≡ cond (is_fresh old new (n ∷ p)) (Some version) before
-Versioned-is_fresh version old new n p before now h node = elim (same_or_other (sub 0 (n ∷ p) old) (sub 0 (n ∷ p) new)) [
+pub HasVersion-is_fresh : (version : ℕ) (old new : Part) (n : ℕ) (p : Path) (before now : Option ℕ) → HasVersion version (sub 0 (n ∷ p) old) (sub 0 (n ∷ p) new) before now → is_node 0 (n ∷ p) new ≡ true → now ≡ cond (is_fresh old new (n ∷ p)) (Some version) before
+HasVersion-is_fresh version old new n p before now h node = elim (same_or_other (sub 0 (n ∷ p) old) (sub 0 (n ∷ p) new)) [
   | inl same ↦ h.kept (sub-is_node_below 0 n p new node) same ∙ ap (λ b. cond b (Some version) before) (sym (is_fresh-same old new n p node same))
   | inr other ↦ h.fresh (sub-is_node_below 0 n p new node) other ∙ ap (λ b. cond b (Some version) before) (sym (is_fresh-other old new n p node other))
 ]

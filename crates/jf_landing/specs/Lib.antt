@@ -1,5 +1,5 @@
 pub mod Parts
-pub mod Kids
+pub mod ChildEntries
 pub mod Versions
 pub mod Walk
 pub mod Puts
@@ -14,14 +14,14 @@ pub mod PartChanges
 pub mod Unions
 pub mod PutLaws
 pub mod OneEntry
-pub mod KidLaws
+pub mod ChildEntryLaws
 pub mod SameParts
 pub mod SubLaws
 pub mod VersionLaws
 pub mod WalkLaws
 pub mod Bound
 pub mod NodeLists
-pub mod Stays
+pub mod Unchanged
 pub mod FreshLaws
 pub mod FreshOrder
 pub mod FreshParts

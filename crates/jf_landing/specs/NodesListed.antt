@@ -16,7 +16,7 @@ use Rattle.jf_landing.specs.Elements.{All-each, All-of, Contains-each, Contains-
 use Rattle.jf_landing.specs.NodeLists.{child_nodes, lower_nodes}
 use Rattle.jf_landing.specs.NodePaths.{nibbles-is_node}
 use Rattle.jf_landing.specs.SameParts.{same_part-refl, same_part-exact}
-use Rattle.jf_landing.specs.Stays.{stays}
+use Rattle.jf_landing.specs.Unchanged.{is_unchanged}
 use Rattle.jf_landing.specs.Walk.{each_from}
 
 -- ---- below one node
@@ -84,11 +84,11 @@ is_fresh-other m m' (n ∷ p) part has =
     let new = (nodes-exact m' (path, part)).0 has in (
       λ is. inr (λ old.
           let was = (nodes-exact m (path, part)).0 old in
-          let stay : stays 0 path (entries m) (entries m') ≡ true = both_true was.2 (ap₂ same_part (sym was.1) (sym new.1) ∙ same_part-refl part) in
-          true≢false (sym stay ∙ not-true (stays 0 path (entries m) (entries m')) (right_true (is_node 0 path (entries m')) _ is))),
+          let stay : is_unchanged 0 path (entries m) (entries m') ≡ true = both_true was.2 (ap₂ same_part (sym was.1) (sym new.1) ∙ same_part-refl part) in
+          true≢false (sym stay ∙ not-true (is_unchanged 0 path (entries m) (entries m')) (right_true (is_node 0 path (entries m')) _ is))),
       λ is. elim is [
         | inl top ↦ absurd (let e = ap length top in omega arith)
-        | inr other ↦ both_true new.2 (not_from_false (stays 0 path (entries m) (entries m')) (false_from_ne_true (stays 0 path (entries m) (entries m')) (λ stay. other ((nodes-exact m (path, part)).1 (
+        | inr other ↦ both_true new.2 (not_from_false (is_unchanged 0 path (entries m) (entries m')) (false_from_ne_true (is_unchanged 0 path (entries m) (entries m')) (λ stay. other ((nodes-exact m (path, part)).1 (
           new.0,
           new.1 ∙ sym (same_part-exact (under 0 path (entries m)) (under 0 path (entries m')) (right_true (is_node 0 path (entries m)) _ stay)),
           left_true (is_node 0 path (entries m)) _ stay,

@@ -14,7 +14,7 @@ use Rattle.jf_hash.specs.Slots.{Part}
 use Rattle.jf_model.specs.Changes.{changed, applied}
 use Rattle.jf_landing.specs.AllLaws.{All-append}
 use Rattle.jf_landing.specs.Both.{both_so, less_so}
-use Rattle.jf_landing.specs.Puts.{Change, puts, with_put, own_if, IsPlace, IsNamed}
+use Rattle.jf_landing.specs.Puts.{Change, puts, with_put, kept_entry, IsPlace, IsFirstKey}
 use Rattle.jf_landing.specs.PutLaws.{with_put-append}
 
 greater_so : (a b : List ℕ) → T (is_lt (key_cmp a b)) → key_cmp b a ≡ Greater
@@ -93,10 +93,10 @@ not_before a b late differ = elim (key_cmp b a) as (λ r. key_cmp b a ≡ r → 
 later_place : (q : List ℕ) (b : Change) (bs : Batch) (r : ℕ) → IsPlace q (b ∷ bs) (suc r) → IsPlace q bs r
 later_place q b bs r p = record { within = let w = p.within in omega arith; before = λ k x lt. p.before (suc k) x (omega arith); at = λ x lt. p.at x (omega arith) }
 
-applied-own : (q w : List ℕ) (xs : Part) (bs : Batch) (r : ℕ) (named : Bool) → T (is_sorted key_cmp bs) → AllBelowAll bs xs → AllBelow q xs → IsPlace q bs r → IsNamed q (drop r bs) named
-    → applied (xs ++ (q, w) ∷ []) bs ≡ xs ++ (puts (take r bs) ++ (own_if named q w ++ puts (drop r bs)))
+applied-own : (q w : List ℕ) (xs : Part) (bs : Batch) (r : ℕ) (named : Bool) → T (is_sorted key_cmp bs) → AllBelowAll bs xs → AllBelow q xs → IsPlace q bs r → IsFirstKey q (drop r bs) named
+    → applied (xs ++ (q, w) ∷ []) bs ≡ xs ++ (puts (take r bs) ++ (kept_entry named q w ++ puts (drop r bs)))
 unfolding applied
-applied-own q w xs [] zero named sorted below under place is = ap (λ n. xs ++ (own_if n q w ++ [])) (sym is)
+applied-own q w xs [] zero named sorted below under place is = ap (λ n. xs ++ (kept_entry n q w ++ [])) (sym is)
 applied-own q w xs [] (suc r) named sorted below under place is = absurd (let w = place.within in omega arith)
 applied-own q w xs (b ∷ bs) (suc r) named sorted below under place is =
     let first : key_cmp b.0 q ≡ Less = place.before 0 b (omega arith) in
@@ -104,8 +104,8 @@ applied-own q w xs (b ∷ bs) (suc r) named sorted below under place is =
     ∙ applied-own q w (xs ++ with_put b.0 b.1 []) bs r named (sorted-rest b bs sorted) (more_below b bs xs (below-rest b bs sorted) below)
     (All-append (λ x. T (is_lt (key_cmp x.0 q))) xs (with_put b.0 b.1 []) under (put_all (λ k. T (is_lt (key_cmp k q))) b.0 b.1 (less_so _ first)))
     (later_place q b bs r place) is
-    ∙ put_behind b bs xs (puts (take r bs) ++ (own_if named q w ++ puts (drop r bs)))
-    ∙ ap (λ t. xs ++ t) (sym (with_put-append b.0 b.1 (puts (take r bs)) (own_if named q w ++ puts (drop r bs))))
+    ∙ put_behind b bs xs (puts (take r bs) ++ (kept_entry named q w ++ puts (drop r bs)))
+    ∙ ap (λ t. xs ++ t) (sym (with_put-append b.0 b.1 (puts (take r bs)) (kept_entry named q w ++ puts (drop r bs))))
 applied-own q w xs (b ∷ bs) zero true sorted below under place is =
     ap (λ es. applied es bs) (changed-behind b.0 b.1 xs ((q, w) ∷ []) (heads_below b bs xs below) ∙ ap (λ t. xs ++ t) (changed-at b.0 q w b.1 (is.0 refl)))
     ∙ applied-behind (xs ++ with_put b.0 b.1 []) bs (sorted-rest b bs sorted) (more_below b bs xs (below-rest b bs sorted) below)
@@ -117,7 +117,7 @@ applied-own q w xs (b ∷ bs) zero false sorted below under place is =
     ∙ append_assoc xs ((q, w) ∷ []) (puts (b ∷ bs))
 
 -- applied to one entry, a batch gives what it puts below it, the entry unless its key is changed, and what it puts from there on
-pub applied-one : (q w : List ℕ) (bs : Batch) (r : ℕ) (named : Bool) → T (is_sorted key_cmp bs) → IsPlace q bs r → IsNamed q (drop r bs) named → applied ((q, w) ∷ []) bs ≡ puts (take r bs) ++ (own_if named q w ++ puts (drop r bs))
+pub applied-one : (q w : List ℕ) (bs : Batch) (r : ℕ) (named : Bool) → T (is_sorted key_cmp bs) → IsPlace q bs r → IsFirstKey q (drop r bs) named → applied ((q, w) ∷ []) bs ≡ puts (take r bs) ++ (kept_entry named q w ++ puts (drop r bs))
 applied-one q w bs r named sorted place is = applied-own q w [] bs r named sorted tt tt place is
 
 -- all of a list from a place on is its rest
@@ -125,15 +125,15 @@ rest_all : (r : ℕ) (bs : Batch) → take (length bs - r) (drop r bs) ≡ drop 
 rest_all r bs = take_all (length bs - r) (drop r bs) (omega (arith, length-drop r bs))
 
 -- a loop that appends these three pieces in turn applies the batch
-pub merged_own : (q w : List ℕ) (bs : Batch) (r : ℕ) (named : Bool) (start first second third : Part) → T (is_sorted key_cmp bs) → IsPlace q bs r → IsNamed q (take (length bs - r) (drop r bs)) named
-    → start ≡ [] → first ≡ start ++ puts (take r bs) → second ≡ first ++ own_if named q w → third ≡ second ++ puts (take (length bs - r) (drop r bs))
+pub merged_own : (q w : List ℕ) (bs : Batch) (r : ℕ) (named : Bool) (start first second third : Part) → T (is_sorted key_cmp bs) → IsPlace q bs r → IsFirstKey q (take (length bs - r) (drop r bs)) named
+    → start ≡ [] → first ≡ start ++ puts (take r bs) → second ≡ first ++ kept_entry named q w → third ≡ second ++ puts (take (length bs - r) (drop r bs))
     → third ≡ applied ((q, w) ∷ []) bs
 merged_own q w bs r named start first second third sorted place is none a b c =
     let back = rest_all r bs in
-    c ∙ ap (λ t. t ++ puts (take (length bs - r) (drop r bs))) (b ∙ ap (λ t. t ++ own_if named q w) (a ∙ ap (λ xs. xs ++ puts (take r bs)) none))
-    ∙ ap (λ t. (puts (take r bs) ++ own_if named q w) ++ puts t) back
-    ∙ append_assoc (puts (take r bs)) (own_if named q w) (puts (drop r bs))
-    ∙ sym (applied-one q w bs r named sorted place (subst (λ t. IsNamed q t named) back is))
+    c ∙ ap (λ t. t ++ puts (take (length bs - r) (drop r bs))) (b ∙ ap (λ t. t ++ kept_entry named q w) (a ∙ ap (λ xs. xs ++ puts (take r bs)) none))
+    ∙ ap (λ t. (puts (take r bs) ++ kept_entry named q w) ++ puts t) back
+    ∙ append_assoc (puts (take r bs)) (kept_entry named q w) (puts (drop r bs))
+    ∙ sym (applied-one q w bs r named sorted place (subst (λ t. IsFirstKey q t named) back is))
 
 -- ---- whether entries are the single entry that was there
 

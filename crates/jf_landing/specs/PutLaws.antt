@@ -3,7 +3,7 @@ use Rattle.std.proofs.Common.{◌≡◌, ℕ, ◌+◌, ◌<◌, Bool, true, fals
 use Rattle.std.proofs.Math.Seq.{take-suc}
 use Rattle.jf_hash.specs.Maps.{Batch}
 use Rattle.jf_hash.specs.Slots.{Part}
-use Rattle.jf_landing.specs.Puts.{Change, puts, with_put, own_if}
+use Rattle.jf_landing.specs.Puts.{Change, puts, with_put, kept_entry}
 
 -- a put before two lists joined is the put before the first, joined with the second
 pub with_put-append : (k : List ℕ) (v : Option (List ℕ)) (es fs : Part) → with_put k v es ++ fs ≡ with_put k v (es ++ fs)
@@ -31,9 +31,9 @@ pub push_none : (entries : Part) (k : List ℕ) (o : Option (List ℕ)) → o �
 push_none entries k o is = sym (append-nil entries) ∙ ap (λ o. entries ++ with_put k o []) (sym is)
 
 -- an entry whose key the batch changes is not kept
-pub no_own : (q w : List ℕ) (named : Bool) (es : Part) → named ≡ true → es ≡ es ++ own_if named q w
-no_own q w named es is = sym (append-nil es) ∙ ap (λ n. es ++ own_if n q w) (sym is)
+pub no_own : (q w : List ℕ) (named : Bool) (es : Part) → named ≡ true → es ≡ es ++ kept_entry named q w
+no_own q w named es is = sym (append-nil es) ∙ ap (λ n. es ++ kept_entry n q w) (sym is)
 
 -- an entry whose key the batch doesn't change is kept
-pub some_own : (q w : List ℕ) (named : Bool) (es more : Part) → named ≡ false → more ≡ es ++ (q, w) ∷ [] → more ≡ es ++ own_if named q w
-some_own q w named es more is at = at ∙ ap (λ n. es ++ own_if n q w) (sym is)
+pub some_own : (q w : List ℕ) (named : Bool) (es more : Part) → named ≡ false → more ≡ es ++ (q, w) ∷ [] → more ≡ es ++ kept_entry named q w
+some_own q w named es more is at = at ∙ ap (λ n. es ++ kept_entry n q w) (sym is)

@@ -26,10 +26,10 @@ pub record IsPlace (key : List ℕ) (bs : Batch) (r : ℕ) : Type 0 where
   pub at : (x : Change) → r < length bs → ¬ (key_cmp (slice_index_or bs r x).0 key ≡ Less)
 
 -- whether the first change of a batch is on the key
-abbrev pub IsNamed : List ℕ → Batch → Bool → Type 0
-IsNamed key [] b = b ≡ false
-IsNamed key (c ∷ cs) b = (b ≡ true → c.0 ≡ key) × (b ≡ false → ¬ (c.0 ≡ key))
+abbrev pub IsFirstKey : List ℕ → Batch → Bool → Type 0
+IsFirstKey key [] b = b ≡ false
+IsFirstKey key (c ∷ cs) b = (b ≡ true → c.0 ≡ key) × (b ≡ false → ¬ (c.0 ≡ key))
 
 -- an entry that stays unless the batch changes its key
-abbrev pub own_if : Bool → List ℕ → List ℕ → Part
-own_if named key value = cond named [] ((key, value) ∷ [])
+abbrev pub kept_entry : Bool → List ℕ → List ℕ → Part
+kept_entry named key value = cond named [] ((key, value) ∷ [])

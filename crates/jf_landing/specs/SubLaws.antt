@@ -4,8 +4,8 @@ use Rattle.std.proofs.Math.Bool.{and-true}
 use Rattle.jf_hash.specs.Slots.{Part, with_nibble}
 use Rattle.jf_model.specs.Nodes.{Path, under, has_one, has_two, is_node}
 use Rattle.jf_landing.specs.Both.{left_true, right_true}
-use Rattle.jf_landing.specs.Kids.{sub}
-use Rattle.jf_landing.specs.KidLaws.{sub-none}
+use Rattle.jf_landing.specs.ChildEntries.{sub}
+use Rattle.jf_landing.specs.ChildEntryLaws.{sub-none}
 
 -- a part that isn't empty passes the test for an entry
 pub has_one-some : (es : Part) → ¬ (es ≡ []) → has_one es ≡ true

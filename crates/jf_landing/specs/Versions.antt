@@ -2,16 +2,16 @@
 use Rattle.std.specs.Prelude.{◌≡◌, ℕ, ◌≤◌, [], ◌∷◌, length, Option, Some}
 use Rattle.jf_hash.specs.Slots.{Part}
 use Rattle.jf_model.specs.Nodes.{Path}
-use Rattle.jf_landing.specs.Kids.{sub}
+use Rattle.jf_landing.specs.ChildEntries.{sub}
 
 -- a node whose part is as before keeps its version, and any other has the new one
-pub record Versioned (version : ℕ) (old new : Part) (before now : Option ℕ) : Type 0 where
+pub record HasVersion (version : ℕ) (old new : Part) (before now : Option ℕ) : Type 0 where
   pub kept : ¬ (new ≡ []) → old ≡ new → now ≡ before
   pub fresh : ¬ (new ≡ []) → ¬ (old ≡ new) → now ≡ Some version
 
 -- each node below two parts is so versioned, by the versions at each path before and now
-abbrev pub AllVersioned : ℕ → ℕ → Part → Part → (Path → Option ℕ) → (Path → Option ℕ) → Type 0
-AllVersioned depth version old new before now = (path : Path) → Versioned version (sub depth path old) (sub depth path new) (before path) (now path)
+abbrev pub HaveVersions : ℕ → ℕ → Part → Part → (Path → Option ℕ) → (Path → Option ℕ) → Type 0
+HaveVersions depth version old new before now = (path : Path) → HasVersion version (sub depth path old) (sub depth path new) (before path) (now path)
 
 -- each node below a part has the new version
 abbrev pub AllNew : ℕ → ℕ → Part → (Path → Option ℕ) → Type 0

@@ -2,7 +2,7 @@
 use Rattle.std.specs.Prelude.{ℕ, zero, suc, ◌+◌, ◌-◌, Bool, not, cond, ◌&&◌, List, [], ◌∷◌, ◌++◌}
 use Rattle.jf_hash.specs.Slots.{Part}
 use Rattle.jf_model.specs.Nodes.{Path, has_one, same_part}
-use Rattle.jf_landing.specs.Kids.{kid}
+use Rattle.jf_landing.specs.ChildEntries.{child_entries}
 
 -- whether there is a node with the new part, and it is not that of the old part
 abbrev pub differs : Part → Part → Bool
@@ -17,16 +17,16 @@ each_from (suc count) n g = g n ++ each_from count (n + 1) g
 unfoldable pub listed : {X : Type 0} → ℕ → ℕ → Part → Part → (Path → X) → List X
 listed zero depth old new f = cond (differs old new) (f [] ∷ []) []
 listed (suc levels) depth old new f =
-    cond (differs old new) (f [] ∷ each_from 16 0 (λ n. listed levels (depth + 1) (kid depth n old) (kid depth n new) (λ path. f (n ∷ path)))) []
+    cond (differs old new) (f [] ∷ each_from 16 0 (λ n. listed levels (depth + 1) (child_entries depth n old) (child_entries depth n new) (λ path. f (n ∷ path)))) []
 
 -- f of the top in any case, and then of the nodes below it that are new
 unfoldable pub with_root : {X : Type 0} → Part → Part → (Path → X) → List X
-with_root old new f = f [] ∷ each_from 16 0 (λ n. listed 63 1 (kid 0 n old) (kid 0 n new) (λ path. f (n ∷ path)))
+with_root old new f = f [] ∷ each_from 16 0 (λ n. listed 63 1 (child_entries 0 n old) (child_entries 0 n new) (λ path. f (n ∷ path)))
 
 -- the list of the child at nibble n of a node
-unfoldable pub kid_list : {X : Type 0} → ℕ → ℕ → Part → Part → (Path → X) → List X
-kid_list depth n old new f = listed (64 - (depth + 1)) (depth + 1) (kid depth n old) (kid depth n new) (λ path. f (n ∷ path))
+unfoldable pub child_list : {X : Type 0} → ℕ → ℕ → Part → Part → (Path → X) → List X
+child_list depth n old new f = listed (64 - (depth + 1)) (depth + 1) (child_entries depth n old) (child_entries depth n new) (λ path. f (n ∷ path))
 
 -- the list of a node that differs, as far as its first n children
 unfoldable pub listed_to : {X : Type 0} → ℕ → ℕ → Part → Part → (Path → X) → List X
-listed_to depth n old new f = f [] ∷ each_from n 0 (λ m. kid_list depth m old new f)
+listed_to depth n old new f = f [] ∷ each_from n 0 (λ m. child_list depth m old new f)

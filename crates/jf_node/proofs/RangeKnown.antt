@@ -103,7 +103,7 @@ none_known : (depth : ℕ) → depth ≤ 256 → IsRangeValue (record { depth = 
 none_known depth le = record {
   depth = le;
   deep = λ two. absurd (omega arith);
-  few = omega arith;
+  bounded = omega arith;
   part = record { sorted = tt; keys = tt; path = λ i. false; agree = tt };
   values = tt;
   short = tt;
@@ -118,7 +118,7 @@ one_known : (depth : ℕ) (x : LinkValue) → depth ≤ 256 → length x.entries
 one_known depth x le one link = record {
   depth = le;
   deep = λ two. absurd (omega arith);
-  few = link.few;
+  bounded = link.bounded;
   part = record { sorted = link.entries.sorted; keys = link.entries.keys; path = first_bits x.entries; agree = one_agrees depth x.entries one };
   values = link.entries.values;
   short = link.entries.short;
@@ -131,7 +131,7 @@ several_known depth x start level p link =
     record {
       depth = omega (arith, p.deep, p.inner, p.wide);
       deep = λ two. omega (arith, p.deep, p.inner, p.wide);
-      few = omega (arith, in_few x.depth start (2 ^ level) x.entries, link.few);
+      bounded = omega (arith, in_few x.depth start (2 ^ level) x.entries, link.bounded);
       part = record {
         sorted = is_sorted-where_key key_cmp test x.entries link.entries.sorted;
         keys = All-filter (λ e. IsKey e.0) (λ e. test e.0) x.entries link.entries.keys;

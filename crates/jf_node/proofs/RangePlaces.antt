@@ -221,7 +221,7 @@ same_count x links start width shows = sym (ap (in_range x.depth start width) sh
 
 -- the entries at some places are no more than 64 bits count
 pub some_fit : (x : LinkValue) (links : List (Option LinkValue)) (start width : ℕ) → ShowsInner x links → IsLink x → length (joined (take width (drop start links))) < 2 ^ 64
-some_fit x links start width shows link = omega (arith, ap length (same_count x links start width shows), in_few x.depth start width x.entries, link.few)
+some_fit x links start width shows link = omega (arith, ap length (same_count x links start width shows), in_few x.depth start width x.entries, link.bounded)
 
 -- and as many as those of the range
 pub count_is : (v : RangeValue) (depth start level width : ℕ) (place : Place) (link : Bor LinkValue) (links : List (Option LinkValue)) → range_value depth place ≡ v → place ≡ Places link start level → width ≡ 2 ^ level → ShowsInner link.now links

@@ -5,7 +5,7 @@ pub mod Levels
 pub mod Bodies
 pub mod Falls
 pub mod ChildLaws
-pub mod MarkLaws
+pub mod NodeVersions
 pub mod Shown
 pub mod SnapshotValue
 pub mod Snapshots

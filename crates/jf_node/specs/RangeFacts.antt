@@ -10,7 +10,7 @@ use Rattle.jf_node.specs.RangeValue.{RangeValue}
 pub record IsRangeValue (v : RangeValue) : Type 0 where
   pub depth : v.depth ≤ 256
   pub deep : 2 ≤ length v.entries → v.depth < 256
-  pub few : length v.entries < 2 ^ 64
+  pub bounded : length v.entries < 2 ^ 64
   pub part : IsPart v.depth v.entries
   pub values : AllByRecursion (λ e. IsBytes e.1) v.entries
   pub short : AllByRecursion (λ e. length e.1 ≤ 4096) v.entries

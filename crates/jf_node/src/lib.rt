@@ -2,22 +2,21 @@
 //! the snapshot of a version: a link to the top one.
 #![tactic(auto)]
 
-mod entry;
 mod found;
 mod link;
-mod made;
+mod making;
 mod range;
-mod seen;
 mod shared;
 mod sixteen;
 mod snapshot;
 mod state;
 mod update;
+mod view;
 
 pub use link::{Link, Sixteen};
 pub use range::Range;
-pub use seen::Seen;
 pub use shared::SharedRange;
 pub use snapshot::Snapshot;
 pub use state::RangeState;
 pub use update::Update;
+pub use view::Seen;

@@ -12,9 +12,9 @@ ghost use Rattle.jf_node.specs.SharedPlaces.{IsSharedAs};
 
 use crate::found::{Found, child_at};
 use crate::link::Link;
-use crate::seen::Seen;
 use crate::shared::{SharedPlace, SharedRange};
 use crate::state::RangeState;
+use crate::view::Seen;
 use jf_hash::Hash;
 use jf_path::{Key, Memory, bit, nibble};
 use std::marker::Model;
@@ -231,7 +231,7 @@ impl<'a> Range<'a> {
         match self.place {
             Place::Nowhere => jf_hash::empty(),
             Place::Leaf(link) => link.hash(),
-            Place::Places { link, start, level } => link.sibling(start, width(level)),
+            Place::Places { link, start, level } => link.range_hash(start, width(level)),
         }
     }
 
@@ -310,7 +310,7 @@ impl<'a> Range<'a> {
         })
     }
 
-    /// The value of a key, or `None` where no entry has it.
+    /// The value of a key, or `None` if no entry has it.
     pub fn get(&self, key: &Key) -> Option<&'a [u8]>
         ensures { option_copied result ≡ find key_cmp key.now self.now.entries }
     {

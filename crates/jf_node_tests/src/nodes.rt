@@ -155,7 +155,7 @@ fn is_renewed(alloc: Global, link: &Link) -> Result<bool, Memory> {
     Ok(renewed.hash() == link.hash() && renewed.version() == 3)
 }
 
-// Whether a node keeps its hash, with no change marked, with all marked, and in another version.
+// Whether a node keeps its hash, with no child changed, with all changed, and in another version.
 fn is_made_again(alloc: Global, link: &Link) -> Result<bool, Memory> {
     let none = keeps_its_hash(alloc, link, &[false; 16])?;
     let all = keeps_its_hash(alloc, link, &[true; 16])?;
@@ -187,7 +187,7 @@ fn a_leaf_is_moved(rt: HostRuntime) -> Result<(), Fail> {
 fn has_ranges(link: &Link) -> bool
     requires { 2 ≤ length link.now.entries }
 {
-    link.sibling(0, 1) == empty() && link.hash() == inner(&link.sibling(0, 8), &link.sibling(8, 8))
+    link.range_hash(0, 1) == empty() && link.hash() == inner(&link.range_hash(0, 8), &link.range_hash(8, 8))
 }
 
 #[test]

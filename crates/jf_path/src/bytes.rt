@@ -87,7 +87,7 @@ impl Bytes {
         Ok(())
     }
 
-    /// Forgets the bytes behind the first `len`, and keeps their room.
+    /// Forgets the bytes after the first `len`, and keeps their room.
     pub fn truncate(&mut self, len: u64)
         ensures { self.new ≡ take len self.old }
     {

@@ -8,7 +8,7 @@ use std::alloc::Global;
 use std::marker::Model;
 
 /// What an internal node holds of a child: its place, the version that wrote it, its hash, whether it is a leaf, and the
-/// number of entries below it, 0 where the node is of format 1, which has no counts.
+/// number of entries below it, 0 if the node is of format 1, which has no counts.
 #[derive(Clone, Copy, Debug, PartialEq, Eq)]
 pub struct Child {
     pub nibble: Nibble,
@@ -62,7 +62,7 @@ impl Children {
         &self.children
     }
 
-    /// Adds a child behind the others. A refusal leaves the list as it was.
+    /// Adds a child after the others. A refusal leaves the list unchanged.
     pub fn push(&mut self, child: Child) -> Result<(), Memory>
         requires { RiseFrom 0 (self.old ++ child ∷ []) }
         ensures ok { OnOk result (self.new ≡ self.old ++ child ∷ []) }

@@ -25,7 +25,7 @@ pub fn nibble(key: &Key, i: usize) -> Nibble
     Nibble::half(key, i)
 }
 
-/// The number of leading bits in which two keys agree, 256 where they are one key.
+/// The number of leading bits in which two keys agree, 256 if they are one key.
 pub fn common_bits(a: &Key, b: &Key) -> u64
     ensures { result ≡ common_bits a.now b.now }
 {

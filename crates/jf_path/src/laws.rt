@@ -1,20 +1,26 @@
-// What the types of keys and entries say of them. These functions change nothing.
+// What the types of keys, bytes and entries say of them. These functions change nothing.
 ghost use Rattle.std.specs.Prelude.{ℕ, ◌<◌, slice_index};
 ghost use Rattle.std.specs.List.{AllByRecursion};
-ghost use Rattle.jf_path.specs.Keys.{IsKey};
+ghost use Rattle.jf_path.specs.Keys.{IsBytes, IsKey};
 
-use crate::bytes::Bytes;
 use crate::key::Key;
+
+/// Each byte is below 256.
+pub fn know_bytes(bytes: &[u8])
+    ensures { IsBytes bytes.now }
+{
+    know_each(bytes);
+}
 
 /// A key has 32 bytes.
 pub fn know_key(key: &Key)
     ensures { IsKey key.now }
 {
-    know_bytes(key);
+    know_each(key);
 }
 
 /// Each entry has a key of 32 bytes.
-pub fn know_entries(entries: &[(Key, Bytes)])
+pub fn know_entries<V>(entries: &[(Key, V)])
     ensures { AllByRecursion (λ e. IsKey e.0) entries.now }
 {
     for entry in entries {
@@ -22,8 +28,8 @@ pub fn know_entries(entries: &[(Key, Bytes)])
     }
 }
 
-// Bytes are below 256.
-fn know_bytes(bytes: &[u8])
+// The byte at each place is below 256.
+fn know_each(bytes: &[u8])
     requires { (i : ℕ) → slice_index bytes.now i < 256 }
     ensures { (i : ℕ) → slice_index bytes.now i < 256 }
 {

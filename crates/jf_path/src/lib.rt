@@ -1,5 +1,5 @@
-//! Keys, their bits and nibbles, paths and names of nodes, plain nodes and lists of them, bytes, and want of memory: what
-//! every other crate is made of.
+//! Keys, their bits and nibbles, paths and names of nodes, plain nodes and lists of them, bytes, and the refusal for lack
+//! of memory: what every other crate is made of.
 #![tactic(auto)]
 
 mod bytes;
@@ -19,7 +19,7 @@ pub use bytes::Bytes;
 pub use children::{Child, Children};
 pub use fault::PathFault;
 pub use key::{Key, bit, common_bits, nibble};
-pub use laws::{know_entries, know_key};
+pub use laws::{know_bytes, know_entries, know_key};
 pub use lists::{HashList, Pairs};
 pub use memory::Memory;
 pub use name::NodeName;

@@ -45,7 +45,7 @@ impl HashList {
         &self.hashes
     }
 
-    /// Adds a hash at the end. A refusal leaves the list as it was.
+    /// Adds a hash at the end. A refusal leaves the list unchanged.
     pub fn push(&mut self, hash: [u8; 32]) -> Result<(), Memory>
         ensures ok { OnOk result (self.new ≡ self.old ++ hash ∷ []) }
         ensures err { OnErr result (self.new ≡ self.old) }
@@ -93,7 +93,7 @@ impl Pairs {
         &self.pairs
     }
 
-    /// Adds a key and its value at the end. A refusal drops them, and leaves the list as it was.
+    /// Adds a key and its value at the end. A refusal drops them, and leaves the list unchanged.
     pub fn push(&mut self, pair: (Key, Bytes)) -> Result<(), Memory>
         ensures ok { OnOk result (self.new ≡ self.old ++ pair ∷ []) }
         ensures err { OnErr result (self.new ≡ self.old) }

@@ -1,7 +1,7 @@
-// Want of memory.
+// The refusal for lack of memory.
 use std::alloc::{AllocError, AllocFailed};
 
-/// Memory is wanting. What the call was given stands as before, unless the call says otherwise.
+/// Out of memory. What the call was given is unchanged, unless the call says otherwise.
 #[derive(Clone, Copy, Debug, PartialEq, Eq)]
 pub struct Memory;
 

@@ -22,7 +22,7 @@ impl Model for Nibble {
 }
 
 impl Nibble {
-    /// The nibble of this number, or none where it is above 15.
+    /// The nibble of this number, or `None` if it is above 15.
     pub fn new(n: u8) -> Option<Nibble>
         ensures value { IfSome result (λ m. m ≡ n) }
         ensures given { IsSome result ↔ (n < 16) }
@@ -43,7 +43,7 @@ impl Nibble {
     }
 
     /// The nibble of a number below 16.
-    pub(crate) fn of(number: u8) -> Nibble
+    pub fn of(number: u8) -> Nibble
         requires { number < 16 }
         ensures { result ≡ number }
     {

@@ -1,4 +1,4 @@
-// Nodes without what they share.
+// Nodes by themselves, without the children that they share.
 use crate::bytes::Bytes;
 use crate::children::Children;
 use crate::key::Key;

@@ -53,7 +53,7 @@ impl FreshList {
         &self.nodes
     }
 
-    /// Adds a node behind the others. A refusal drops it, and leaves the list as it was.
+    /// Adds a node after the others. A refusal drops it, and leaves the list unchanged.
     pub fn push(&mut self, item: (NodeName, PlainNode)) -> Result<(), Memory>
         requires { IsTrue (rise (map (λ x. x.0) (self.old ++ item ∷ []))) }
         ensures ok { OnOk result (self.new ≡ self.old ++ item ∷ []) }
@@ -108,7 +108,7 @@ impl NameList {
         &self.names
     }
 
-    /// Adds a name behind the others. A refusal leaves the list as it was.
+    /// Adds a name after the others. A refusal leaves the list unchanged.
     pub fn push(&mut self, name: NodeName) -> Result<(), Memory>
         requires { IsTrue (rise (self.old ++ name ∷ [])) }
         ensures ok { OnOk result (self.new ≡ self.old ++ name ∷ []) }
@@ -159,7 +159,7 @@ impl LiveList {
         &self.nodes
     }
 
-    /// Adds a node at the end. A refusal drops it, and leaves the list as it was.
+    /// Adds a node at the end. A refusal drops it, and leaves the list unchanged.
     pub fn push(&mut self, item: (NodeName, PlainNode, u64)) -> Result<(), Memory>
         ensures ok { OnOk result (self.new ≡ self.old ++ item ∷ []) }
         ensures err { OnErr result (self.new ≡ self.old) }

@@ -83,6 +83,16 @@ impl NibblePath {
         self.count += 1;
     }
 
+    /// The path of the child at nibble `n`.
+    pub fn child(&self, n: Nibble) -> NibblePath
+        requires { length self.now < 64 }
+        ensures { result ≡ self.now ++ n ∷ [] }
+    {
+        let mut path = *self;
+        path.push(n);
+        path
+    }
+
     /// Whether the path goes through the end of `front`, or stops there.
     pub fn starts_with(&self, front: &NibblePath) -> bool
         ensures { result ≡ starts_with (λ n m. n == m) self.now front.now }
@@ -90,8 +100,8 @@ impl NibblePath {
         self.as_slice().starts_with(front.as_slice())
     }
 
-    /// Writes the count and the nibbles, two a byte, the first high, with a zero at an odd end. The answer is the number
-    /// of these bytes, at most 33; those behind them stay.
+    /// Writes the count and the nibbles, two a byte, the first high, with a zero at an odd end. Returns the number
+    /// of these bytes, at most 33; the bytes after them are unchanged.
     pub fn to_bytes(&self, out: &mut [u8; 33]) -> usize
         ensures value { result ≡ length (path_bytes self.now) }
         ensures bytes { out.new ≡ path_bytes self.now ++ drop result out.old }
@@ -104,7 +114,7 @@ impl NibblePath {
         bytes + 1
     }
 
-    /// The path of these bytes, which are its count and its nibbles, with nothing behind them.
+    /// The path of these bytes, which are its count and its nibbles, with nothing after them.
     pub fn from_bytes(bytes: &[u8]) -> Result<NibblePath, PathFault>
         ensures value { IfOk result (λ path. bytes.now ≡ path_bytes path) }
         ensures found { (path : List ℕ) → IsPath path → bytes.now ≡ path_bytes path → result ≡ Ok path }

@@ -4,8 +4,8 @@
 
 mod checks;
 mod claim;
+mod climbing;
 mod honest;
-mod way;
 
 pub use claim::verify;
 pub use honest::{prove, prove_counted};

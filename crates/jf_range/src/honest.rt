@@ -65,7 +65,7 @@ fn prove_uncounted<L: Ledger>(
     count: u64,
     blank: Blank,
 ) -> Result<(Pairs, RangeProof), RangeAsk>
-    requires some { 1 ≤ count }
+    requires positive { 1 ≤ count }
     requires name { blank.name ≡ L.name }
     requires parts { blank.parts ≡ L.parts }
     requires whole { 0 < blank.parts }

@@ -39,7 +39,7 @@ fn verify_uncounted<L: Ledger>(
     requires sorted { T (is_sorted key_cmp known.now) }
     requires name { blank.name ≡ L.name }
     requires parts { blank.parts ≡ L.parts }
-    requires some { 0 < blank.parts }
+    requires positive { 0 < blank.parts }
     ensures { result_err result ≡ range_refusal root.now known.now fresh.now proof.now }
 {
     let mut steps = Steps::<L>::new(blank);
@@ -56,7 +56,7 @@ fn verify_uncounted<L: Ledger>(
 /// The root that entries, whose keys ascend strictly, come to with a proof for a chunk that ends with the last one. Its
 /// depth is at most 256, and it has as many siblings as the last key has 0 bits among its first `depth` bits.
 pub fn range_root(entries: &Pairs, proof: &RangeProof) -> Hash
-    requires some { 0 < length entries.now }
+    requires positive { 0 < length entries.now }
     requires sorted { T (is_sorted key_cmp entries.now) }
     requires counted { is_miscounted (last_key entries.now) proof.now ≡ false }
     ensures { result ≡ range_root entries.now proof.now }
@@ -71,7 +71,7 @@ fn root_uncounted<L: Ledger>(entries: &Pairs, proof: &RangeProof, blank: Blank) 
     requires counted { is_miscounted (last_key entries.now) proof.now ≡ false }
     requires name { blank.name ≡ L.name }
     requires parts { blank.parts ≡ L.parts }
-    requires some { 0 < blank.parts }
+    requires positive { 0 < blank.parts }
     ensures { result ≡ range_root entries.now proof.now }
 {
     let mut steps = Steps::<L>::new(blank);

@@ -54,8 +54,5 @@ fn child_at(children: &Sixteen, place: u8) -> Option<&Link>
     requires { place < 16 }
     ensures { option_copied result ≡ slice_index_or children.now place None }
 {
-    match Nibble::new(place) {
-        Some(n) => children.get(n),
-        None => unreachable!(),
-    }
+    children.get(Nibble::of(place))
 }

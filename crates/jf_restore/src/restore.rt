@@ -94,7 +94,7 @@ impl Restore {
         requires short { AreShort fresh.now }
         requires name { blank.name ≡ L.name }
         requires parts { blank.parts ≡ L.parts }
-        requires some { 0 < blank.parts }
+        requires positive { 0 < blank.parts }
         ensures { MatchResult result (λ _. IsAdded self.old self.new fresh.now proof.now) (λ why. IsNotAdded self.old self.new fresh.now proof.now why) }
     {
         let mut steps = Steps::<L>::new(blank);
@@ -126,7 +126,7 @@ impl Restore {
     fn whole_uncounted<L: Ledger>(&self, blank: Blank) -> Result<u64, RestoreRefused>
         requires name { blank.name ≡ L.name }
         requires parts { blank.parts ≡ L.parts }
-        requires some { 0 < blank.parts }
+        requires positive { 0 < blank.parts }
         ensures { MatchResult result (IsWhole self.now) (IsNotWhole self.now) }
     {
         let mut steps = Steps::<L>::new(blank);

@@ -105,8 +105,8 @@ impl SnapshotVersions {
         gate: &G,
     ) -> Result<(), Memory>
         requires last { self.old.head < 2 ^ 64 - 2 }
-        requires some { 1 ≤ workers }
-        requires few { workers ≤ 64 }
+        requires positive { 1 ≤ workers }
+        requires bounded { workers ≤ 64 }
         ensures ok { OnOk result (self.new ≡ landed batch.now self.old) }
         ensures err { OnErr result (self.new ≡ self.old) }
     {

@@ -65,7 +65,7 @@ fn leaf_halves(depth: u64, leaf: &Arc<LeafBody, Global>) -> Result<Halves, Memor
 
 impl Node {
     // How many entries a node has, up to two.
-    fn few(&self) -> u64
+    fn up_to_two(&self) -> u64
         ensures { result ≡ min 2 (length self.now.entries) }
     {
         match self.held() {
@@ -77,7 +77,7 @@ impl Node {
 
     // A node of at most one entry, at another depth.
     fn at(self, depth: u64) -> Node
-        requires few { length self.entries ≤ 1 }
+        requires lone { length self.entries ≤ 1 }
         requires depth { depth ≤ 256 }
         ensures { result ≡ record { depth = depth; entries = self.entries } }
     {
@@ -170,10 +170,10 @@ impl Node {
     {
         steps.tick();
         let Halves { zeros, ones } = halves;
-        let few_ones = ones.few();
-        if zeros.few() + few_ones >= 2 {
+        let in_ones = ones.up_to_two();
+        if zeros.up_to_two() + in_ones >= 2 {
             Node::branch(alloc, depth, zeros, ones)
-        } else if few_ones == 0 {
+        } else if in_ones == 0 {
             Ok(zeros.at(depth))
         } else {
             Ok(ones.at(depth))

@@ -85,7 +85,7 @@ impl Batch {
         pieces_of(alloc, &self.entries, depth)
     }
 
-    /// Sets a key to a value of at most 4,096 bytes. A refusal leaves the batch as it was.
+    /// Sets a key to a value of at most 4,096 bytes. A refusal leaves the batch unchanged.
     pub fn put(&mut self, alloc: Global, key: &Key, value: &[u8]) -> Result<(), BatchFault>
         requires { length value.now ≤ 4096 }
         ensures ok { OnOk result (self.new ≡ put key_cmp key.now (Some value.now) self.old) }
@@ -97,7 +97,7 @@ impl Batch {
         self.set(key, Some(value))
     }
 
-    /// Lets a key be removed. A refusal leaves the batch as it was, and a key that is there is never refused.
+    /// Lets a key be removed. A refusal leaves the batch unchanged, and a key that is there is never refused.
     pub fn del(&mut self, _alloc: Global, key: &Key) -> Result<(), BatchFault>
         ensures ok { OnOk result (self.new ≡ put key_cmp key.now None self.old) }
         ensures full { result ≡ Err BatchFault.Full → IsTrue (is_full key.now self.old) }
@@ -129,7 +129,7 @@ impl Batch {
     }
 }
 
-// Where the key stands, or where it would.
+// The place of the key, or the place that it would have.
 fn place_of(entries: &[(Key, Option<Bytes>)], key: &Key) -> Result<usize, usize>
     requires { T (is_sorted key_cmp entries.now) }
     ensures found { IfOk result (IsPlaceOf key.now entries.now) }

@@ -5,12 +5,12 @@ ghost use Rattle.jf_split.specs.declared.fault.BatchFault.TheVariants as fault;
 use jf_path::Memory;
 use std::alloc::AllocFailed;
 
-/// Why a batch takes no key. The batch is as it was.
+/// Why a batch takes no key. The batch is unchanged.
 #[derive(Clone, Copy, Debug, PartialEq, Eq)]
 pub enum BatchFault {
     /// The key is new, and 10,000 are there.
     Full,
-    /// Memory is wanting.
+    /// Out of memory.
     Memory,
 }
 

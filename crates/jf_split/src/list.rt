@@ -44,7 +44,7 @@ impl BatchList {
         &self.batches
     }
 
-    /// Adds a batch at the end. A refused batch is dropped, and the list is as it was.
+    /// Adds a batch at the end. A refused batch is dropped, and the list is unchanged.
     pub fn push(&mut self, batch: Batch) -> Result<(), Memory>
         ensures ok { OnOk result (self.new ≡ self.old ++ batch ∷ []) }
         ensures err { OnErr result (self.new ≡ self.old) }

@@ -37,7 +37,7 @@ pub(crate) fn pieces_of(
     Ok(pieces)
 }
 
-// Where the piece ends that begins at `start`, where the keys have nibble `here`.
+// Where the piece ends that begins at `start`, and whose keys have nibble `here`.
 fn end_of_piece(entries: &[(Key, Option<Bytes>)], depth: usize, start: usize, here: Nibble) -> usize
     requires depth { depth < 64 }
     requires rising { IsNonDecreasingBy (λ e. nibble e.0 depth) entries.now }

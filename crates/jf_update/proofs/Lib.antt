@@ -1,9 +1,9 @@
 pub mod Names
 pub mod HashedLaws
-pub mod Builds
-pub mod Works
+pub mod BuildLaws
+pub mod NodeUpdateLaws
 pub mod PlainNodes
 pub mod Walks
 pub mod PathNames
-pub mod Lands
-pub mod Nexts
+pub mod TopUpdateLaws
+pub mod SnapshotUpdateLaws

@@ -10,8 +10,8 @@ use Rattle.jf_model.specs.Nodes.{Path, has_one, has_two, child_at, plain_node}
 use Rattle.jf_node.specs.LinkValue.{LinkValue, version_at}
 use Rattle.jf_node.specs.LinkFacts.{IsLink}
 use Rattle.jf_node.specs.Shown.{ShowsLeaf}
-use Rattle.jf_landing.specs.Kids.{kid, sub}
-use Rattle.jf_landing.specs.KidLaws.{kid-many}
+use Rattle.jf_landing.specs.ChildEntries.{child_entries, sub}
+use Rattle.jf_landing.specs.ChildEntryLaws.{child_entries-many}
 use Rattle.jf_landing.specs.PlainLaws.{plain_node-many}
 use Rattle.jf_landing.specs.Walk.{each_from}
 use Rattle.jf_landing.specs.WalkLaws.{each_push}
@@ -49,15 +49,15 @@ some_child d n v count hash (e ∷ f ∷ part) some long is =
 pub child_is : (x : LinkValue) (n k : ℕ) (c : LinkValue) (v count : ℕ) (hash : List ℕ) → 2 ≤ length x.entries → IsBelow x n (Some c) → IsLink c → n ≡ k → v ≡ c.version → count ≡ length c.entries → hash ≡ part_root (4 * c.depth) c.entries
     → one k v hash (count == 1) count ≡ child_at true (versions_below x) x.depth x.entries n
 child_is x n k c v count hash many is link at own long hashed =
-    let part : c.entries ≡ with_nibble x.depth n x.entries = is.entries ∙ kid-many x.depth n x.entries many in
+    let part : c.entries ≡ with_nibble x.depth n x.entries = is.entries ∙ child_entries-many x.depth n x.entries many in
     let here : v ≡ versions_below x n = own ∙ ap version_or (sym link.own) ∙ ap version_or (sym (is.versions [])) in
     ap₂ (λ (m w : ℕ). one m w hash (count == 1) count) (sym at) here
     ∙ some_child x.depth n (versions_below x n) count hash (with_nibble x.depth n x.entries) (subst (λ es. 1 ≤ length es) part link.entries.some) (long ∙ ap length part)
     (hashed ∙ ap₂ (λ d es. part_root (4 * d) es) is.placed.1 part)
 
-pub child_none : (x : LinkValue) (n : ℕ) → 2 ≤ length x.entries → kid x.depth n x.entries ≡ [] → child_at true (versions_below x) x.depth x.entries n ≡ []
+pub child_none : (x : LinkValue) (n : ℕ) → 2 ≤ length x.entries → child_entries x.depth n x.entries ≡ [] → child_at true (versions_below x) x.depth x.entries n ≡ []
 child_none x n many none =
-    let part : with_nibble x.depth n x.entries ≡ [] = sym (kid-many x.depth n x.entries many) ∙ none in
+    let part : with_nibble x.depth n x.entries ≡ [] = sym (child_entries-many x.depth n x.entries many) ∙ none in
     ap (λ es. cond (has_one es) (one n (versions_below x n) (part_root (4 * (x.depth + 1)) es) (not (has_two es)) (length es)) []) part
 
 module _ {X : Type 0} where

@@ -8,32 +8,32 @@ use Rattle.jf_path.specs.declared.name.NodeName.{NodeName}
 use Rattle.jf_path.specs.declared.node.PlainNode.{PlainNode}
 use Rattle.jf_hash.specs.Slots.{Part, with_nibble}
 use Rattle.jf_model.specs.Nodes.{Path}
-use Rattle.jf_node.specs.LinkValue.{LinkValue, version_at, mark_at}
+use Rattle.jf_node.specs.LinkValue.{LinkValue, version_at, version_among}
 use Rattle.jf_node.specs.LinkFacts.{IsLink}
 use Rattle.jf_node.specs.Children.{content}
-use Rattle.jf_node.specs.MarkLaws.{version-below}
+use Rattle.jf_node.specs.NodeVersions.{version-below}
 use Rattle.jf_node.specs.Shown.{ShowsLeaf, ShowsInner}
-use Rattle.jf_landing.specs.Kids.{kid, sub}
-use Rattle.jf_landing.specs.KidLaws.{kid-few, kid-many, sub-none}
+use Rattle.jf_landing.specs.ChildEntries.{child_entries, sub}
+use Rattle.jf_landing.specs.ChildEntryLaws.{child_entries-few, child_entries-many, sub-none}
 use Rattle.jf_landing.specs.SameParts.{differs_or_same, differs-other, not_empty}
 use Rattle.jf_landing.specs.VersionLaws.{moved}
-use Rattle.jf_landing.specs.Walk.{differs, each_from, listed, kid_list, listed_to}
+use Rattle.jf_landing.specs.Walk.{differs, each_from, listed, child_list, listed_to}
 use Rattle.jf_landing.specs.WalkLaws.{listed-node, listed_to-child}
 use Rattle.jf_update.specs.Made.{IsAtDepth}
 use Rattle.jf_update.specs.Below.{IsBelow, IsOneBelow, IsBelowIf, IsKept, IsFreshOver, IsStaleOver}
 use Rattle.jf_update.specs.Plains.{fresh_below, WouldRise}
 use Rattle.jf_update.proofs.Names.{rise-front}
 use Rattle.jf_update.proofs.PlainNodes.{plain-child}
-use Rattle.jf_update.proofs.Works.{child_part, child_placed}
+use Rattle.jf_update.proofs.NodeUpdateLaws.{child_part, child_placed}
 
 -- ---- children
 
 -- a leaf has no child
 pub leaf_below : (x : LinkValue) (n : ℕ) (k v h : List ℕ) → ShowsLeaf x k v h → IsBelow x n None
 leaf_below x n k v h shows = record {
-  entries = sym (kid-few x.depth n x.entries (omega (arith, ap length shows.entries)));
+  entries = sym (child_entries-few x.depth n x.entries (omega (arith, ap length shows.entries)));
   placed = tt;
-  versions = λ p. ap (mark_at (n ∷ p)) shows.marks;
+  versions = λ p. ap (version_among (n ∷ p)) shows.versions;
 }
 
 one_below : (d : ℕ) (c : Option LinkValue) → IsAtDepth (d + 1) c → d < 64 → IsOneBelow d c
@@ -46,16 +46,16 @@ inner_below x n links c shows is =
     let several = shows.children.several in
     let long = shows.children.long in
     record {
-      entries = ap content is ∙ sym (child_part x.depth n links long shows.children.fit) ∙ ap (with_nibble x.depth n) (sym shows.entries) ∙ sym (kid-many x.depth n x.entries (omega (arith, ap length shows.entries)));
+      entries = ap content is ∙ sym (child_part x.depth n links long shows.children.fit) ∙ ap (with_nibble x.depth n) (sym shows.entries) ∙ sym (child_entries-many x.depth n x.entries (omega (arith, ap length shows.entries)));
       placed = one_below x.depth c (subst (IsAtDepth (x.depth + 1)) (sym is) (child_placed x.depth n links long shows.children.fit)) shows.children.deep;
-      versions = λ p. ap (mark_at (n ∷ p)) shows.marks ∙ version-below n p x.version links ∙ ap (version_at p) (sym is);
+      versions = λ p. ap (version_among (n ∷ p)) shows.versions ∙ version-below n p x.version links ∙ ap (version_at p) (sym is);
     }
 
-pub kid_none : (x : LinkValue) (n k : ℕ) (r : Option (Bor LinkValue)) → IsBelow x n (option_copied r) → r ≡ None → n ≡ k → kid x.depth k x.entries ≡ []
-kid_none x n k r is none at = ap (λ m. kid x.depth m x.entries) (sym at) ∙ sym is.entries ∙ ap (λ o. content (option_copied o)) none
+pub child_entries_none : (x : LinkValue) (n k : ℕ) (r : Option (Bor LinkValue)) → IsBelow x n (option_copied r) → r ≡ None → n ≡ k → child_entries x.depth k x.entries ≡ []
+child_entries_none x n k r is none at = ap (λ m. child_entries x.depth m x.entries) (sym at) ∙ sym is.entries ∙ ap (λ o. content (option_copied o)) none
 
-pub kid_some : (x : LinkValue) (n k : ℕ) (r : Option (Bor LinkValue)) (c : Bor LinkValue) → IsBelow x n (option_copied r) → r ≡ Some c → n ≡ k → IsBelow x k (Some c.now)
-kid_some x n k r c is some at = subst (λ m. IsBelow x m (Some c.now)) at (subst (λ o. IsBelow x n (option_copied o)) some is)
+pub child_entries_some : (x : LinkValue) (n k : ℕ) (r : Option (Bor LinkValue)) (c : Bor LinkValue) → IsBelow x n (option_copied r) → r ≡ Some c → n ≡ k → IsBelow x k (Some c.now)
+child_entries_some x n k r c is some at = subst (λ m. IsBelow x m (Some c.now)) at (subst (λ o. IsBelow x n (option_copied o)) some is)
 
 -- ---- one step of a walk
 
@@ -79,10 +79,10 @@ is_old version es before x link over other = elim (differs_or_same es x.entries 
 ]
 
 -- a landing below a node is a landing over its child
-pub child_over : (version : ℕ) (es : Part) (before : Path → Option ℕ) (x : LinkValue) (n : ℕ) (c : LinkValue) → IsFreshOver version es before x → IsBelow x n (Some c) → IsFreshOver version (kid x.depth n es) (λ p. before (n ∷ p)) c
+pub child_over : (version : ℕ) (es : Part) (before : Path → Option ℕ) (x : LinkValue) (n : ℕ) (c : LinkValue) → IsFreshOver version es before x → IsBelow x n (Some c) → IsFreshOver version (child_entries x.depth n es) (λ p. before (n ∷ p)) c
 child_over version es before x n c over is = record {
   versioned = λ p. moved version _ _ _ _ _ _ _ _ (over.versioned (n ∷ p))
-      (ap (λ d. sub d p (kid x.depth n es)) is.placed.1)
+      (ap (λ d. sub d p (child_entries x.depth n es)) is.placed.1)
       (ap (λ d. sub d p c.entries) is.placed.1 ∙ ap (sub (x.depth + 1) p) is.entries)
       refl
       (sym (is.versions p));
@@ -112,7 +112,7 @@ module _ {X : Type 0} where
   listed_to-front : (d n : ℕ) (old new : Part) (f : Path → X) → n ≤ 16 → (back : List X) × (listed_to d 16 old new f ≡ listed_to d n old new f ++ back)
   unfolding listed_to
   listed_to-front d n old new f within =
-      let g : ℕ → List X = λ m. kid_list d m old new f in
+      let g : ℕ → List X = λ m. child_list d m old new f in
       (each_from (16 - n) (0 + n) g, ap (λ k. f [] ∷ each_from k 0 g) (let e : 16 ≡ n + (16 - n) = omega arith in e) ∙ ap (λ t. f [] ∷ t) (each_front n (16 - n) 0 g))
 
 -- where a node differs, all lists of it up to a child rise behind the others
@@ -135,12 +135,12 @@ top_rises out version front x item w link own is = prefix_rises out version fron
 pub child_rises : (out now : List (NodeName × PlainNode)) (version : ℕ) (front further : Path) (x : LinkValue) (n : ℕ) (c : LinkValue) → WouldRise out version front x → IsLink x → x.version ≡ version → n < 16 → IsBelow x n (Some c) → further ≡ front ++ n ∷ []
     → ((es : Part) (before : Path → Option ℕ) → IsFreshOver version es before x → now ≡ out ++ listed_to x.depth n es x.entries (fresh_below version front x)) → WouldRise now version further c
 child_rises out now version front further x n c w link own small is longer so_far = record {
-  es = kid x.depth n w.es;
+  es = child_entries x.depth n w.es;
   before = λ p. w.before (n ∷ p);
   over = child_over version w.es w.before x n c w.over is;
   names =
-      prefix_rises out version front x (n + 1) (now ++ listed (64 - c.depth) c.depth (kid x.depth n w.es) c.entries (fresh_below version further c)) w link own (omega arith)
-      (listed_to-child x.depth n c.depth w.es (kid x.depth n w.es) x.entries c.entries (fresh_below version front x) (fresh_below version further c) out now _ (so_far w.es w.before w.over) is.placed.1 refl is.entries (λ p. below_step p) refl);
+      prefix_rises out version front x (n + 1) (now ++ listed (64 - c.depth) c.depth (child_entries x.depth n w.es) c.entries (fresh_below version further c)) w link own (omega arith)
+      (listed_to-child x.depth n c.depth w.es (child_entries x.depth n w.es) x.entries c.entries (fresh_below version front x) (fresh_below version further c) out now _ (so_far w.es w.before w.over) is.placed.1 refl is.entries (λ p. below_step p) refl);
 }
   where
     below_step : (p : Path) → fresh_below version further c p ≡ fresh_below version front x (n ∷ p)
@@ -175,20 +175,20 @@ stale_child version x (Some y) n k c d at over is below same =
     record {
       versioned = λ p. moved version _ _ _ _ _ _ _ _ (over.versioned (k ∷ p))
           (ap (λ m. sub m p c.entries) is.placed.1 ∙ ap (sub (x.depth + 1) p) is.entries)
-          (ap (λ m. sub m p (content d)) is.placed.1 ∙ ap (sub (x.depth + 1) p) (in_y.entries ∙ ap (λ m. kid m k y.entries) at))
+          (ap (λ m. sub m p (content d)) is.placed.1 ∙ ap (sub (x.depth + 1) p) (in_y.entries ∙ ap (λ m. child_entries m k y.entries) at))
           (sym (is.versions p))
           (sym (in_y.versions p));
       older = λ p e. over.older (k ∷ p) (is.versions p ∙ e);
     }
 
-pub kid_in_entries : (x : LinkValue) (y : Option LinkValue) (n k : ℕ) (d : Option LinkValue) → IsAtDepth x.depth y → IsBelowIf y n d → n ≡ k → content d ≡ kid x.depth k (content y)
-kid_in_entries x None n k d at in_y same = ap content in_y
-kid_in_entries x (Some y) n k d at in_y same = in_y.entries ∙ ap₂ (λ m j. kid m j y.entries) at same
+pub child_in_entries : (x : LinkValue) (y : Option LinkValue) (n k : ℕ) (d : Option LinkValue) → IsAtDepth x.depth y → IsBelowIf y n d → n ≡ k → content d ≡ child_entries x.depth k (content y)
+child_in_entries x None n k d at in_y same = ap content in_y
+child_in_entries x (Some y) n k d at in_y same = in_y.entries ∙ ap₂ (λ m j. child_entries m j y.entries) at same
 
 placed_at : (d e : ℕ) (o : Option LinkValue) → IsOneBelow d o → e ≡ d + 1 → IsAtDepth e o
 placed_at d e None h is = tt
 placed_at d e (Some o) h is = h.1 ∙ sym is
 
-pub kid_in_placed : (x : LinkValue) (y : Option LinkValue) (n e : ℕ) (d : Option LinkValue) → IsAtDepth x.depth y → IsBelowIf y n d → e ≡ x.depth + 1 → IsAtDepth e d
-kid_in_placed x None n e d at in_y is = subst (IsAtDepth e) (sym in_y) tt
-kid_in_placed x (Some y) n e d at in_y is = placed_at y.depth e d in_y.placed (is ∙ ap (λ k. k + 1) (sym at))
+pub child_in_placed : (x : LinkValue) (y : Option LinkValue) (n e : ℕ) (d : Option LinkValue) → IsAtDepth x.depth y → IsBelowIf y n d → e ≡ x.depth + 1 → IsAtDepth e d
+child_in_placed x None n e d at in_y is = subst (IsAtDepth e) (sym in_y) tt
+child_in_placed x (Some y) n e d at in_y is = placed_at y.depth e d in_y.placed (is ∙ ap (λ k. k + 1) (sym at))

@@ -6,8 +6,8 @@ use Rattle.jf_model.specs.Nodes.{Path}
 use Rattle.jf_node.specs.LinkValue.{LinkValue, version_at}
 use Rattle.jf_node.specs.LinkFacts.{IsLink}
 use Rattle.jf_node.specs.Children.{content}
-use Rattle.jf_landing.specs.Kids.{kid}
-use Rattle.jf_landing.specs.Versions.{AllVersioned}
+use Rattle.jf_landing.specs.ChildEntries.{child_entries}
+use Rattle.jf_landing.specs.Versions.{HaveVersions}
 use Rattle.jf_update.specs.Updates.{version_or}
 
 abbrev pub IsOneBelow : ℕ → Option LinkValue → Type 0
@@ -16,7 +16,7 @@ IsOneBelow depth (Some c) = (depth < 64) × (c.depth ≡ depth + 1)
 
 -- c is the child of x at nibble n
 pub record IsBelow (x : LinkValue) (n : ℕ) (c : Option LinkValue) : Type 0 where
-  pub entries : content c ≡ kid x.depth n x.entries
+  pub entries : content c ≡ child_entries x.depth n x.entries
   pub placed : IsOneBelow x.depth c
   pub versions : (path : Path) → version_at (n ∷ path) (Some x) ≡ version_at path c
 
@@ -24,14 +24,14 @@ abbrev pub IsBelowIf : Option LinkValue → ℕ → Option LinkValue → Type 0
 IsBelowIf None n c = c ≡ None
 IsBelowIf (Some y) n c = IsBelow y n c
 
--- x behind a landing over the entries es, whose nodes had the versions before
+-- x after a landing over the entries es; before gives the versions that the nodes of es had
 pub record IsFreshOver (version : ℕ) (es : Part) (before : Path → Option ℕ) (x : LinkValue) : Type 0 where
-  pub versioned : AllVersioned x.depth version es x.entries before (λ p. version_at p (Some x))
+  pub versioned : HaveVersions x.depth version es x.entries before (λ p. version_at p (Some x))
   pub older : (path : Path) → ¬ (before path ≡ Some version)
 
--- x, and y in its place behind a landing
+-- x, and y in its place after a landing
 pub record IsStaleOver (version : ℕ) (x : LinkValue) (y : Option LinkValue) : Type 0 where
-  pub versioned : AllVersioned x.depth version x.entries (content y) (λ p. version_at p (Some x)) (λ p. version_at p y)
+  pub versioned : HaveVersions x.depth version x.entries (content y) (λ p. version_at p (Some x)) (λ p. version_at p y)
   pub older : (path : Path) → ¬ (version_at path (Some x) ≡ Some version)
 
 -- whether there is a node that was there before the landing

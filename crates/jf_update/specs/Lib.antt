@@ -4,4 +4,4 @@ pub mod Made
 pub mod Outcomes
 pub mod Below
 pub mod Plains
-pub mod Landings
+pub mod TopUpdates

@@ -1,4 +1,4 @@
--- What a batch makes of the nodes below a path.
+-- What an update makes of the nodes below a path.
 use Rattle.std.specs.Prelude.{◌≡◌, ℕ, ◌+◌, ◌<◌, ◌≤◌, true, false, Bool, List, length, Option, Some, None, IfSome, slice_index_or, slice_set}
 use Rattle.std.specs.List.{AllByRecursion}
 use Rattle.jf_hash.specs.Maps.{Batch}
@@ -7,9 +7,9 @@ use Rattle.jf_model.specs.Changes.{applied}
 use Rattle.jf_node.specs.LinkValue.{LinkValue, version_at}
 use Rattle.jf_node.specs.Children.{content, joined, FitFrom}
 use Rattle.jf_landing.specs.Parts.{IsPart}
-use Rattle.jf_landing.specs.Versions.{AllVersioned}
+use Rattle.jf_landing.specs.Versions.{HaveVersions}
 use Rattle.jf_update.specs.Made.{IsAtDepth, Built}
-use Rattle.jf_update.specs.declared.outcome.Worked.{Worked}
+use Rattle.jf_update.specs.declared.outcome.NewChildren.{NewChildren}
 use Rattle.jf_update.specs.declared.outcome.Outcome.{Outcome}
 use Rattle.jf_update.specs.declared.outcome.Outcome.TheVariants.{Same, New}
 
@@ -25,32 +25,32 @@ pub record AreParts (depth : ℕ) (es : Part) (bs : Batch) : Type 0 where
   pub short : AreShort bs
 
 -- y is what the batch makes of x
-pub record IsWorked (depth version : ℕ) (x : Option LinkValue) (bs : Batch) (y : Option LinkValue) : Type 0 where
+pub record IsNodeUpdate (depth version : ℕ) (x : Option LinkValue) (bs : Batch) (y : Option LinkValue) : Type 0 where
   pub entries : content y ≡ applied (content x) bs
   pub placed : IsAtDepth depth y
-  pub versions : AllVersioned depth version (content x) (content y) (λ p. version_at p x) (λ p. version_at p y)
+  pub versions : HaveVersions depth version (content x) (content y) (λ p. version_at p x) (λ p. version_at p y)
 
 abbrev pub IsOutcome : ℕ → ℕ → Option LinkValue → Batch → Outcome → Type 0
 IsOutcome depth version x bs Same = applied (content x) bs ≡ content x
-IsOutcome depth version x bs (New y) = IsWorked depth version x bs y × ¬ (applied (content x) bs ≡ content x)
+IsOutcome depth version x bs (New y) = IsNodeUpdate depth version x bs y × ¬ (applied (content x) bs ≡ content x)
 
 -- the same over one entry or none
-abbrev pub IsFewOutcome : ℕ → ℕ → Part → Batch → Outcome → Type 0
-IsFewOutcome depth version es bs Same = applied es bs ≡ es
-IsFewOutcome depth version es bs (New y) = Built depth version (applied es bs) y × ¬ (applied es bs ≡ es)
+abbrev pub IsLeafOutcome : ℕ → ℕ → Part → Batch → Outcome → Type 0
+IsLeafOutcome depth version es bs Same = applied es bs ≡ es
+IsLeafOutcome depth version es bs (New y) = Built depth version (applied es bs) y × ¬ (applied es bs ≡ es)
 
--- the children behind a batch, where those that aren't marked have the entries of before
-pub record AreWorked (depth version : ℕ) (olds : List (Option LinkValue)) (bs : Batch) (news : List (Option LinkValue)) (changed : List Bool) : Type 0 where
+-- the children after a batch; those that did not change have the entries of before
+pub record AreNewChildren (depth version : ℕ) (olds : List (Option LinkValue)) (bs : Batch) (news : List (Option LinkValue)) (changed : List Bool) : Type 0 where
   pub long : length news ≡ 16
   pub fit : FitFrom depth 0 news
-  pub each : (k : ℕ) → k < 16 → IsWorked (depth + 1) version (slice_index_or olds k None) (with_nibble depth k bs) (slice_index_or news k None)
+  pub each : (k : ℕ) → k < 16 → IsNodeUpdate (depth + 1) version (slice_index_or olds k None) (with_nibble depth k bs) (slice_index_or news k None)
   pub same : (k : ℕ) → k < 16 → slice_index_or changed k false ≡ false → content (slice_index_or news k None) ≡ content (slice_index_or olds k None)
 
-abbrev pub AreOutcome : ℕ → ℕ → List (Option LinkValue) → Batch → Option Worked → Type 0
+abbrev pub AreOutcome : ℕ → ℕ → List (Option LinkValue) → Batch → Option NewChildren → Type 0
 AreOutcome depth version olds bs None = applied (joined olds) bs ≡ joined olds
-AreOutcome depth version olds bs (Some w) = AreWorked depth version olds bs w.children w.changed × ¬ (applied (joined olds) bs ≡ joined olds)
+AreOutcome depth version olds bs (Some w) = AreNewChildren depth version olds bs w.children w.changed × ¬ (applied (joined olds) bs ≡ joined olds)
 
 -- an outcome in its place among the children
-abbrev pub IsPlaced : Worked → ℕ → Outcome → Worked → Type 0
+abbrev pub IsPlaced : NewChildren → ℕ → Outcome → NewChildren → Type 0
 IsPlaced w n Same now = (now.children ≡ w.children) × (now.changed ≡ w.changed)
 IsPlaced w n (New y) now = (now.children ≡ slice_set w.children n y) × (now.changed ≡ slice_set w.changed n true)

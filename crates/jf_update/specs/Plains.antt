@@ -8,7 +8,7 @@ use Rattle.jf_path.specs.declared.node.PlainNode.TheVariants as node
 use Rattle.jf_hash.specs.Slots.{Part}
 use Rattle.jf_model.specs.Nodes.{Path, child_at, plain_node}
 use Rattle.jf_node.specs.LinkValue.{LinkValue, version_at}
-use Rattle.jf_landing.specs.Kids.{sub}
+use Rattle.jf_landing.specs.ChildEntries.{sub}
 use Rattle.jf_landing.specs.Walk.{each_from, listed}
 use Rattle.jf_update.specs.Updates.{version_or}
 use Rattle.jf_update.specs.Below.{IsFreshOver}
@@ -21,19 +21,19 @@ plain_at x path = plain_node true (λ n. version_or (version_at (path ++ n ∷ [
 abbrev pub children_list : LinkValue → List Child
 children_list x = each_from 16 0 (child_at true (λ n. version_or (version_at (n ∷ []) (Some x))) x.depth x.entries)
 
--- the same where there may be no node
+-- the same if there may be no node
 abbrev pub plain_under : Option LinkValue → Path → PlainNode
 plain_under None path = node.Null
 plain_under (Some y) path = plain_at y path
 
--- a node that a landing writes below a link, where the link stands at a path, and below the top
+-- a node that a landing writes below a link, if the link stands at a path, and below the top
 abbrev pub fresh_below : ℕ → Path → LinkValue → Path → NodeName × PlainNode
 fresh_below version front x path = (record { version = version; path = front ++ path }, plain_at x path)
 
 abbrev pub fresh_under : ℕ → Option LinkValue → Path → NodeName × PlainNode
 fresh_under version top path = (record { version = version; path = path }, plain_under top path)
 
--- the nodes that a landing writes from a link down may be listed behind others
+-- the nodes that a landing writes from a link down may be listed after others
 pub record WouldRise (out : List (NodeName × PlainNode)) (version : ℕ) (front : Path) (x : LinkValue) : Type 0 where
   pub es : Part
   pub before : Path → Option ℕ

@@ -12,7 +12,7 @@ use Rattle.jf_node.specs.SnapshotValue.{SnapshotValue}
 use Rattle.jf_node.specs.Snapshots.{snapshot_version_at}
 use Rattle.jf_node.specs.declared.update.Update.{Update}
 
--- the version of a node, and 0 where there is none
+-- the version of a node, and 0 if there is none
 abbrev pub version_or : Option ℕ → ℕ
 version_or None = 0
 version_or (Some v) = v
@@ -33,7 +33,7 @@ written_nodes old new s = map (written_node s) (fresh old new)
 abbrev pub stale_names : Map → Map → SnapshotValue → List NodeName
 stale_names old new head = map (λ x. record { version = version_in head x.0; path = x.0 }) (stale old new)
 
--- u is what the batch makes of the snapshot: its map behind the batch as the next version, with the root of that map, the
+-- u is what the batch makes of the snapshot: its map after the batch as the next version, with the root of that map, the
 -- nodes that are written and the names of those that are stale; each node that isn't fresh keeps its version; and a batch of
 -- n keys writes at most 66 n + 1 nodes
 pub record IsUpdate (head : SnapshotValue) (b : Batch) (u : Update) : Type 0 where

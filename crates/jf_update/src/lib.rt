@@ -1,20 +1,19 @@
-//! What a batch makes of a snapshot: the next one, with the nodes that this writes and the names of those that it marks
+//! The update of a snapshot by a batch: the next snapshot, the nodes that this writes, and the names of those that it makes
 //! stale.
 #![tactic(auto)]
 
-mod few;
-mod grow;
-mod kid;
-mod landing;
+mod build;
+mod child;
+mod hashed_value;
+mod leaf;
 mod list;
-mod next;
-mod nibbles;
+mod node;
 mod outcome;
 mod piece;
-mod plain;
+mod plain_node;
+mod snapshot;
 mod sorted;
-mod value;
-mod work;
+mod top;
 
 pub use jf_node::Update;
-pub use next::{update, update_counted};
+pub use snapshot::{update, update_counted};

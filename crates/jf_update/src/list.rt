@@ -1,4 +1,4 @@
-// The walks that list what a landing wrote and what it made stale, in the order of paths.
+// The walks over what an update made: they list the nodes that it writes and those that it makes stale, in the order of paths.
 ghost use Rattle.std.specs.Prelude.{◌≡◌, ℕ, ◌-◌, ◌++◌, Option, length, OnOk};
 ghost use Rattle.std.specs.Option.{option_copied};
 ghost use Rattle.jf_hash.specs.Slots.{Part};
@@ -9,11 +9,10 @@ ghost use Rattle.jf_update.specs.Below.{IsFreshOver, IsStaleOver, name_below};
 ghost use Rattle.jf_update.specs.Made.{IsAtDepth};
 ghost use Rattle.jf_update.specs.Plains.{fresh_below, WouldRise};
 
-use crate::kid::{is_kept, kid_in, kid_of};
-use crate::nibbles::{nibble_at, step};
-use crate::plain::plain_of;
+use crate::child::{child_in, child_of, is_kept};
+use crate::plain_node::plain_of;
 use jf_node::Link;
-use jf_path::{FreshList, Memory, NibblePath, NodeName};
+use jf_path::{FreshList, Memory, Nibble, NibblePath, NodeName};
 use std::alloc::Global;
 
 /// Appends the nodes from `link` down that a landing wrote; `path` leads to it.
@@ -39,9 +38,9 @@ pub(crate) fn list_fresh(
     };
     out.push((name, plain))?;
     for n in 0..16 {
-        let nibble = nibble_at(n);
-        if let Some(child) = kid_of(link, nibble) {
-            list_fresh(alloc, child, version, &step(path, nibble), out)?;
+        let nibble = Nibble::of(n);
+        if let Some(child) = child_of(link, nibble) {
+            list_fresh(alloc, child, version, &path.child(nibble), out)?;
         }
     }
     Ok(())
@@ -69,13 +68,13 @@ pub(crate) fn list_stale(
         path: *path,
     })?;
     for n in 0..16 {
-        let nibble = nibble_at(n);
-        if let Some(child) = kid_of(old, nibble) {
+        let nibble = Nibble::of(n);
+        if let Some(child) = child_of(old, nibble) {
             list_stale(
                 child,
-                kid_in(new, nibble),
+                child_in(new, nibble),
                 version,
-                &step(path, nibble),
+                &path.child(nibble),
                 out,
             )?;
         }

@@ -1,19 +1,19 @@
-// What a batch makes of a part.
+// What an update of a node gives.
 
 use jf_node::{Link, Sixteen};
 
-/// What a batch makes of a node, or of no node.
+/// What an update of a node, or of a place without one, gives.
 #[derive(Drop)]
 pub(crate) enum Outcome {
-    /// All stands as before.
+    /// The entries are unchanged.
     Same,
-    /// The entries are others: the new node, or none.
+    /// The entries changed: the new node, or none.
     New(Option<Link>),
 }
 
-/// The children of a node behind a batch, and which of them have other entries than before.
+/// The children of a node after a batch, and which of them have other entries than before.
 #[derive(Drop)]
-pub(crate) struct Worked {
+pub(crate) struct NewChildren {
     pub(crate) children: Sixteen,
     pub(crate) changed: [bool; 16],
 }

@@ -1,4 +1,4 @@
-// Where the entries with one nibble end.
+// A piece of a list: the entries whose keys have one nibble, which stand one after another.
 ghost use Rattle.std.specs.Prelude.{◌<◌};
 ghost use Rattle.jf_landing.specs.Parts.{IsPieceEnd};
 

@@ -9,4 +9,4 @@ none [] = tt
 none (e ∷ es) = (λ i lt. absurd (omega arith), none es)
 
 pub part_root-requires : goal.part_root-requires
-part_root-requires c = record { part = record { sorted = c.requires; keys = c.know_keys.ensures; path = λ i. false; agree = none c.args.entries.now } }
+part_root-requires c = record { part = record { sorted = c.requires; keys = c.know_entries.ensures; path = λ i. false; agree = none c.args.entries.now } }

@@ -16,9 +16,9 @@ returns-then-places-eq1-clause-value t c level olds small long at agree =
     let one : 2 ^ level ≡ 1 = sym long ∙ c.if-places-eq1.true in
     (c.hash_at.ensures ∙ hash_at-one level c.args.places.now _ c.if-places-eq1.true one small, at ∙ hashes_within-zero level olds one small ∙ sym (hashes_within-zero level c.args.places.now one small))
 
-pub returns-then-not-any_marked-clause-value : goal.returns-then-not-any_marked-clause-value
-returns-then-not-any_marked-clause-value t c level olds small long at agree =
-    let same = agree_same olds c.args.changed.now c.args.places.now agree (sym c.any_marked.ensures ∙ c.if-not-any_marked.true) in
+pub returns-then-not-any_changed-clause-value : goal.returns-then-not-any_changed-clause-value
+returns-then-not-any_changed-clause-value t c level olds small long at agree =
+    let same = agree_same olds c.args.changed.now c.args.places.now agree (sym c.any_changed.ensures ∙ c.if-not-any_changed.true) in
     let some : 0 < level = not_one level (length c.args.places.now) long c.if-places-eq1.false in
     (ap (λ hs. get_or hs (length c.args.hashes.now - 1) []) at ∙ within_whole level olds (length c.args.hashes.now - 1) [] some (omega (arith, c.requires.room, long, c.if-places-eq1.false)) ∙ ap (range_hash level) same, at ∙ ap (hashes_within level) same)
 
@@ -49,8 +49,8 @@ returns-clause-value t c level olds small long at agree =
 pub returns-then-places-eq1-clause-pairs : goal.returns-then-places-eq1-clause-pairs
 returns-then-places-eq1-clause-pairs t c level small long = sym (pairs_within-one level c.args.places.now c.args.changed.now (sym long ∙ c.if-places-eq1.true) small)
 
-pub returns-then-not-any_marked-clause-pairs : goal.returns-then-not-any_marked-clause-pairs
-returns-then-not-any_marked-clause-pairs t c level small long = sym (pairs_within-none level c.args.places.now c.args.changed.now (sym c.any_marked.ensures ∙ c.if-not-any_marked.true))
+pub returns-then-not-any_changed-clause-pairs : goal.returns-then-not-any_changed-clause-pairs
+returns-then-not-any_changed-clause-pairs t c level small long = sym (pairs_within-none level c.args.places.now c.args.changed.now (sym c.any_changed.ensures ∙ c.if-not-any_changed.true))
 
 pub returns-clause-pairs : goal.returns-clause-pairs
 returns-clause-pairs t c level small long =
@@ -65,4 +65,4 @@ returns-clause-pairs t c level small long =
     let left = c.refresh-below_left.ensures.pairs (level - 1) (omega arith) (length-take-le half slots (omega (arith, h.twice, long)) ∙ h.is) in
     let right = c.refresh-below_right.ensures.pairs (level - 1) (omega arith) back_long in
     ap₂ (λ a b. a + b) (ap₂ (λ a b. a + b) left (right ∙ ap₂ (pairs_within (level - 1)) slots_back changed_back)) c.hash_over-here.ensures.pairs
-    ∙ pairs_within-halves level half slots changed some h.is (sym c.any_marked.ensures ∙ c.if-not-any_marked.false)
+    ∙ pairs_within-halves level half slots changed some h.is (sym c.any_changed.ensures ∙ c.if-not-any_changed.false)

@@ -58,7 +58,7 @@ parted-extended-requires-2 g t c = λ κs within.
 pub parted-returns-in_err-ones-clause-steps : goal.parted-returns-in_err-ones-clause-steps
 parted-returns-in_err-ones-clause-steps g t c =
     let first = subst (λ d. IsFirstOne d c.first_one-at.result c.args.batch.now) c.depth-depth.ensures c.first_one-at.ensures in
-    let both = steps_both c.args.node.now.depth c.first_one-at.result c.args.node.now.entries c.args.batch.now c.requires.parts first c.in_ok-zeros.field-0.zeros c.in_ok-zeros.field-0.ones _ _ _ _ c.requires.depth c.requires.some c.in_ok-zeros.ensures.zeros c.in_ok-zeros.ensures.ones c.in_ok-zeros.ensures.step c.in_ok-zeros-2.ensures.steps c.extended-2.ensures.steps in
+    let both = steps_both c.args.node.now.depth c.first_one-at.result c.args.node.now.entries c.args.batch.now c.requires.parts first c.in_ok-zeros.field-0.zeros c.in_ok-zeros.field-0.ones _ _ _ _ c.requires.depth c.requires.positive c.in_ok-zeros.ensures.zeros c.in_ok-zeros.ensures.ones c.in_ok-zeros.ensures.step c.in_ok-zeros-2.ensures.steps c.extended-2.ensures.steps in
     omega (arith, both)
 
 pub parted-join-requires-clause-zeros : goal.parted-join-requires-clause-zeros
@@ -84,5 +84,5 @@ parted-returns-clause-node g t c =
 pub parted-returns-clause-steps : goal.parted-returns-clause-steps
 parted-returns-clause-steps g t c =
     let first = subst (λ d. IsFirstOne d c.first_one-at.result c.args.batch.now) c.depth-depth.ensures c.first_one-at.ensures in
-    let both = steps_both c.args.node.now.depth c.first_one-at.result c.args.node.now.entries c.args.batch.now c.requires.parts first c.in_ok-zeros.field-0.zeros c.in_ok-zeros.field-0.ones _ _ _ _ c.requires.depth c.requires.some c.in_ok-zeros.ensures.zeros c.in_ok-zeros.ensures.ones c.in_ok-zeros.ensures.step c.in_ok-zeros-2.ensures.steps c.in_ok-ones.ensures.steps in
+    let both = steps_both c.args.node.now.depth c.first_one-at.result c.args.node.now.entries c.args.batch.now c.requires.parts first c.in_ok-zeros.field-0.zeros c.in_ok-zeros.field-0.ones _ _ _ _ c.requires.depth c.requires.positive c.in_ok-zeros.ensures.zeros c.in_ok-zeros.ensures.ones c.in_ok-zeros.ensures.step c.in_ok-zeros-2.ensures.steps c.in_ok-ones.ensures.steps in
     omega (arith, both, c.join.ensures.step)

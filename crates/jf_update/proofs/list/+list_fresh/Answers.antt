@@ -1,13 +1,13 @@
 use Rattle.std.proofs.Common.{◌≡◌, ◌+◌, ◌-◌, ◌++◌, ◌∷◌, [], length, arith, rules, sym, ap, ap₂, ◌∙◌, append-nil, append_assoc, length-append, refl, Some}
 use Rattle.jf_path.specs.declared.node.PlainNode.{PlainNode}
 use Rattle.jf_model.specs.Nodes.{Path}
-use Rattle.jf_landing.specs.Kids.{kid}
+use Rattle.jf_landing.specs.ChildEntries.{child_entries}
 use Rattle.jf_landing.specs.Walk.{listed, listed_to}
 use Rattle.jf_landing.specs.WalkLaws.{listed-same, listed-node, listed_to-none, listed_to-past, listed_to-child}
 use Rattle.jf_update.specs.Below.{IsBelow}
 use Rattle.jf_update.specs.Plains.{fresh_below}
 use Rattle.jf_update.proofs.PlainNodes.{plain-child}
-use Rattle.jf_update.proofs.Walks.{is_new, is_old, small_of, child_over, kid_none, kid_some, top_rises, child_rises}
+use Rattle.jf_update.proofs.Walks.{is_new, is_old, small_of, child_over, child_entries_none, child_entries_some, top_rises, child_rises}
 use Rattle.jf_update.proofs.list.+list_fresh.Goals as goal
 use Rattle.jf_update.proofs.list.+list_fresh.Goals.{in-Some+in_ok-list_fresh, in_default}
 
@@ -33,33 +33,33 @@ loop-n-init t c es before over =
 pub list_fresh-requires : goal.list_fresh-requires
 list_fresh-requires t c =
     let x = c.args.link.now in
-    let below : IsBelow x c.loop-n.n (Some c.in-Some.child.now) = kid_some x c.nibble_at-nibble.result c.loop-n.n c.kid_of.result c.in-Some.child c.kid_of.ensures c.in-Some.is c.nibble_at-nibble.ensures in
-    let longer = c.step.ensures ∙ ap (λ n. c.args.path.now ++ n ∷ []) c.nibble_at-nibble.ensures in
+    let below : IsBelow x c.loop-n.n (Some c.in-Some.child.now) = child_entries_some x c.of-nibble.result c.loop-n.n c.child_of.result c.in-Some.child c.child_of.ensures c.in-Some.is c.of-nibble.ensures in
+    let longer = c.child.ensures ∙ ap (λ n. c.args.path.now ++ n ∷ []) c.of-nibble.ensures in
     let deeper : c.in-Some.child.now.depth ≡ x.depth + 1 = below.placed.1 in (
       search rules,
       (
-        omega (arith, ap length c.step.ensures, length-append c.args.path.now (c.nibble_at-nibble.result ∷ []), c.requires.path),
-        child_rises c.args.out.now c.loop-n.out c.args.version c.args.path.now c.step.result x c.loop-n.n c.in-Some.child.now c.requires.rising c.know.ensures (sym c.version.ensures ∙ c.if-version.false) (omega arith) below longer c.loop-n.invariant,
+        omega (arith, ap length c.child.ensures, length-append c.args.path.now (c.of-nibble.result ∷ []), c.requires.path),
+        child_rises c.args.out.now c.loop-n.out c.args.version c.args.path.now c.child.result x c.loop-n.n c.in-Some.child.now c.requires.rising c.know.ensures (sym c.version.ensures ∙ c.if-version.false) (omega arith) below longer c.loop-n.invariant,
       ),
     )
 
 pub loop-n-preserved : goal.loop-n-preserved
-loop-n-preserved t c es before over = elim c.match-kid_of.branch [
+loop-n-preserved t c es before over = elim c.match-child_of.branch [
   | in-Some+in_ok-list_fresh w ↦
       let x = c.args.link.now in
       let f = fresh_below c.args.version c.args.path.now x in
-      let g = fresh_below c.args.version w.step.result w.in-Some.child.now in
-      let below : IsBelow x c.loop-n.n (Some w.in-Some.child.now) = kid_some x c.nibble_at-nibble.result c.loop-n.n c.kid_of.result w.in-Some.child c.kid_of.ensures w.in-Some.is c.nibble_at-nibble.ensures in
-      let longer = w.step.ensures ∙ ap (λ n. c.args.path.now ++ n ∷ []) c.nibble_at-nibble.ensures in
+      let g = fresh_below c.args.version w.child.result w.in-Some.child.now in
+      let below : IsBelow x c.loop-n.n (Some w.in-Some.child.now) = child_entries_some x c.of-nibble.result c.loop-n.n c.child_of.result w.in-Some.child c.child_of.ensures w.in-Some.is c.of-nibble.ensures in
+      let longer = w.child.ensures ∙ ap (λ n. c.args.path.now ++ n ∷ []) c.of-nibble.ensures in
       w.out-is
-      ∙ listed_to-child x.depth c.loop-n.n w.in-Some.child.now.depth es (kid x.depth c.loop-n.n es) x.entries w.in-Some.child.now.entries f g c.args.out.now c.loop-n.out _ (c.loop-n.invariant es before over)
+      ∙ listed_to-child x.depth c.loop-n.n w.in-Some.child.now.depth es (child_entries x.depth c.loop-n.n es) x.entries w.in-Some.child.now.entries f g c.args.out.now c.loop-n.out _ (c.loop-n.invariant es before over)
       below.placed.1 refl below.entries
       (λ p. ap₂ (λ (q : Path) (r : PlainNode). (record { version = c.args.version; path = q }, r)) (ap (λ q. q ++ p) longer ∙ append_assoc c.args.path.now (c.loop-n.n ∷ []) p) (sym (plain-child x c.loop-n.n w.in-Some.child.now p below)))
-      (w.in_ok-list_fresh.ensures (kid x.depth c.loop-n.n es) (λ p. before (c.loop-n.n ∷ p)) (child_over c.args.version es before x c.loop-n.n w.in-Some.child.now over below))
+      (w.in_ok-list_fresh.ensures (child_entries x.depth c.loop-n.n es) (λ p. before (c.loop-n.n ∷ p)) (child_over c.args.version es before x c.loop-n.n w.in-Some.child.now over below))
   | in_default w ↦
       let x = c.args.link.now in
       w.out-is ∙ c.loop-n.invariant es before over
-      ∙ ap (λ l. c.args.out.now ++ l) (sym (listed_to-past x.depth c.loop-n.n es x.entries (fresh_below c.args.version c.args.path.now x) (kid_none x c.nibble_at-nibble.result c.loop-n.n c.kid_of.result c.kid_of.ensures w.in_default.is c.nibble_at-nibble.ensures)))
+      ∙ ap (λ l. c.args.out.now ++ l) (sym (listed_to-past x.depth c.loop-n.n es x.entries (fresh_below c.args.version c.args.path.now x) (child_entries_none x c.of-nibble.result c.loop-n.n c.child_of.result c.child_of.ensures w.in_default.is c.of-nibble.ensures)))
 ]
 
 pub returns : goal.returns

@@ -6,7 +6,7 @@ use Rattle.jf_landing.specs.Walk.{listed, listed_to}
 use Rattle.jf_landing.specs.WalkLaws.{listed-same, listed-node, listed_to-none, listed_to-past, listed_to-child}
 use Rattle.jf_update.specs.Updates.{version_or}
 use Rattle.jf_update.specs.Below.{IsBelow, name_below}
-use Rattle.jf_update.proofs.Walks.{stale_kept, stale_gone, stale_child, kid_in_entries, small_of, kid_none, kid_some}
+use Rattle.jf_update.proofs.Walks.{stale_kept, stale_gone, stale_child, child_in_entries, small_of, child_entries_none, child_entries_some}
 use Rattle.jf_update.proofs.list.+list_stale.Goals as goal
 use Rattle.jf_update.proofs.list.+list_stale.Goals.{in-Some+in_ok-list_stale, in_default}
 
@@ -25,21 +25,21 @@ loop-n-init t c over =
     ∙ ap (λ l. c.args.out.now.items ++ l) (sym (listed_to-none x.depth (content (option_copied c.args.new)) x.entries (name_below c.args.path.now x)))
 
 pub loop-n-preserved : goal.loop-n-preserved
-loop-n-preserved t c over = elim c.match-kid_of.branch [
+loop-n-preserved t c over = elim c.match-child_of.branch [
   | in-Some+in_ok-list_stale w ↦
       let x = c.args.old.now in
       let y = option_copied c.args.new in
-      let below : IsBelow x c.loop-n.n (Some w.in-Some.child.now) = kid_some x c.nibble_at-nibble.result c.loop-n.n c.kid_of.result w.in-Some.child c.kid_of.ensures w.in-Some.is c.nibble_at-nibble.ensures in
-      let longer = w.step.ensures ∙ ap (λ n. c.args.path.now ++ n ∷ []) c.nibble_at-nibble.ensures in
+      let below : IsBelow x c.loop-n.n (Some w.in-Some.child.now) = child_entries_some x c.of-nibble.result c.loop-n.n c.child_of.result w.in-Some.child c.child_of.ensures w.in-Some.is c.of-nibble.ensures in
+      let longer = w.child.ensures ∙ ap (λ n. c.args.path.now ++ n ∷ []) c.of-nibble.ensures in
       ap (λ v. v.items) w.out-is
-      ∙ listed_to-child x.depth c.loop-n.n w.in-Some.child.now.depth (content y) (content (option_copied w.kid_in.result)) x.entries w.in-Some.child.now.entries (name_below c.args.path.now x) (name_below w.step.result w.in-Some.child.now) c.args.out.now.items c.loop-n.out.items _ (c.loop-n.invariant over)
-      below.placed.1 (kid_in_entries x y c.nibble_at-nibble.result c.loop-n.n (option_copied w.kid_in.result) c.requires.new w.kid_in.ensures c.nibble_at-nibble.ensures) below.entries
+      ∙ listed_to-child x.depth c.loop-n.n w.in-Some.child.now.depth (content y) (content (option_copied w.child_in.result)) x.entries w.in-Some.child.now.entries (name_below c.args.path.now x) (name_below w.child.result w.in-Some.child.now) c.args.out.now.items c.loop-n.out.items _ (c.loop-n.invariant over)
+      below.placed.1 (child_in_entries x y c.of-nibble.result c.loop-n.n (option_copied w.child_in.result) c.requires.new w.child_in.ensures c.of-nibble.ensures) below.entries
       (λ p. ap₂ (λ v q. let name : NodeName = record { version = version_or v; path = q } in name) (sym (below.versions p)) (ap (λ q. q ++ p) longer ∙ append_assoc c.args.path.now (c.loop-n.n ∷ []) p))
-      (w.in_ok-list_stale.ensures (stale_child c.args.version x y c.nibble_at-nibble.result c.loop-n.n w.in-Some.child.now (option_copied w.kid_in.result) c.requires.new over below w.kid_in.ensures c.nibble_at-nibble.ensures))
+      (w.in_ok-list_stale.ensures (stale_child c.args.version x y c.of-nibble.result c.loop-n.n w.in-Some.child.now (option_copied w.child_in.result) c.requires.new over below w.child_in.ensures c.of-nibble.ensures))
   | in_default w ↦
       let x = c.args.old.now in
       ap (λ v. v.items) w.out-is ∙ c.loop-n.invariant over
-      ∙ ap (λ l. c.args.out.now.items ++ l) (sym (listed_to-past x.depth c.loop-n.n (content (option_copied c.args.new)) x.entries (name_below c.args.path.now x) (kid_none x c.nibble_at-nibble.result c.loop-n.n c.kid_of.result c.kid_of.ensures w.in_default.is c.nibble_at-nibble.ensures)))
+      ∙ ap (λ l. c.args.out.now.items ++ l) (sym (listed_to-past x.depth c.loop-n.n (content (option_copied c.args.new)) x.entries (name_below c.args.path.now x) (child_entries_none x c.of-nibble.result c.loop-n.n c.child_of.result c.child_of.ensures w.in_default.is c.of-nibble.ensures)))
 ]
 
 pub returns : goal.returns

@@ -1,6 +1,6 @@
 use Rattle.std.proofs.Common.{arith}
-use Rattle.jf_hash.specs.RangeLaws.{pairs_within-few}
+use Rattle.jf_hash.specs.RangeLaws.{pairs_within-bounded}
 use Rattle.jf_hash.proofs.ranges.Ranges.updated_counted.Goals as goal
 
-pub returns-clause-few : goal.returns-clause-few
-returns-clause-few c = omega (arith, c.refresh-pairs.ensures.pairs 4 (omega arith) c.told-slots, pairs_within-few 4 c.args.slots.now c.args.changed.now)
+pub returns-clause-bounded : goal.returns-clause-bounded
+returns-clause-bounded c = omega (arith, c.refresh-pairs.ensures.pairs 4 (omega arith) c.told-slots, pairs_within-bounded 4 c.args.slots.now c.args.changed.now)

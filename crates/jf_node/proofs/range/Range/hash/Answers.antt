@@ -5,11 +5,11 @@ use Rattle.jf_hash.specs.Ranges.{IsRange}
 use Rattle.jf_node.proofs.RangePlaces.{placed, placed_leaf, kept_as, one_hash, node_several, node_range, range_hash_is}
 use Rattle.jf_node.proofs.range.Range.hash.Goals as goal
 
-pub sibling-requires-clause-inner : goal.sibling-requires-clause-inner
-sibling-requires-clause-inner c = node_several _ _ _ _ (placed _ _ _ _ _ c.self.invariant c.in-Places.is)
+pub range_hash-requires-clause-inner : goal.range_hash-requires-clause-inner
+range_hash-requires-clause-inner c = node_several _ _ _ _ (placed _ _ _ _ _ c.self.invariant c.in-Places.is)
 
-pub sibling-requires-clause-range : goal.sibling-requires-clause-range
-sibling-requires-clause-range c = subst (IsRange c.in-Places.start) (sym c.width.ensures) (node_range _ _ _ _ (placed _ _ _ _ _ c.self.invariant c.in-Places.is))
+pub range_hash-requires-clause-range : goal.range_hash-requires-clause-range
+range_hash-requires-clause-range c = subst (IsRange c.in-Places.start) (sym c.width.ensures) (node_range _ _ _ _ (placed _ _ _ _ _ c.self.invariant c.in-Places.is))
 
 pub returns-in-Nowhere : goal.returns-in-Nowhere
 returns-in-Nowhere c = c.empty.ensures ∙ sym (ap (λ v. part_root v.depth v.entries) (kept_as _ _ _ _ c.self.view_is c.in-Nowhere.is) ∙ part_root-none _)
@@ -20,4 +20,4 @@ returns-in-Leaf c =
 
 pub returns-in-Places : goal.returns-in-Places
 returns-in-Places c =
-    c.sibling.ensures c.in-Places.level c.width.ensures ∙ range_hash_is _ _ _ _ _ _ _ c.self.view_is c.self.invariant c.in-Places.is c.width.ensures
+    c.range_hash.ensures c.in-Places.level c.width.ensures ∙ range_hash_is _ _ _ _ _ _ _ c.self.view_is c.self.invariant c.in-Places.is c.width.ensures

@@ -1,7 +1,0 @@
-use Rattle.std.proofs.Common.{take}
-use Rattle.std.specs.List.{AllByRecursion}
-use Rattle.jf_path.specs.Keys.{IsKey}
-use Rattle.jf_hash.proofs.plain.know_keys.Given as goal
-
-abbrev pub invariant-loop-entry : goal.invariant-loop-entry
-invariant-loop-entry l = AllByRecursion (λ e. IsKey e.0) (take l.entry-index l.entries)

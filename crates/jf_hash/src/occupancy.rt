@@ -1,0 +1,38 @@
+// What a range of places holds.
+ghost use Rattle.std.specs.Prelude.{◌≡◌};
+ghost use Rattle.jf_hash.specs.Slots.{occupants, with_leaf};
+ghost use Rattle.jf_hash.specs.Ranges.{found};
+
+use crate::slot::Slot;
+use crate::tagged::Hash;
+
+// What a range of places holds: nothing, one leaf alone with its hash, or more.
+#[derive(Clone, Copy)]
+pub enum Occupancy {
+    Empty,
+    Lone(Hash),
+    Many,
+}
+
+impl Occupancy {
+    pub fn of(places: &[Slot]) -> Occupancy
+        ensures { found result ≡ occupants places.now }
+    {
+        match places.split_first() {
+            None => Occupancy::Empty,
+            Some((Slot::Absent, rest)) => Occupancy::of(rest),
+            Some((Slot::Leaf(hash), rest)) => Occupancy::of(rest).with_leaf(hash),
+            Some((Slot::Inner(_), _)) => Occupancy::Many,
+        }
+    }
+
+    // The same, and one leaf before.
+    fn with_leaf(self, hash: &Hash) -> Occupancy
+        ensures { found result ≡ with_leaf hash.now (found self) }
+    {
+        match self {
+            Occupancy::Empty => Occupancy::Lone(*hash),
+            _ => Occupancy::Many,
+        }
+    }
+}

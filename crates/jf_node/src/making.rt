@@ -1,0 +1,215 @@
+// The making of links: new ones, and ones made over others.
+ghost use Rattle.std.specs.Prelude.{◌≡◌, ◌*◌, ◌<◌, ◌≤◌, length, IfOk};
+ghost use Rattle.std.specs.List.{count_by};
+ghost use Rattle.jf_hash.specs.Hashes.{L, V};
+ghost use Rattle.jf_hash.specs.Ranges.{range_hashes};
+ghost use Rattle.jf_hash.specs.Slots.{slots_of};
+ghost use Rattle.jf_node.specs.Children.{joined, FitFrom, AreChildren, SameElsewhere, leaf_value, inner_value, moved_value, renewed_value};
+ghost use Rattle.jf_node.specs.LinkFacts.{BeginAlike};
+
+use crate::link::{Below, Body, Form, Link, Sixteen};
+use crate::view::Seen;
+use jf_hash::{Hash, Ranges};
+use jf_path::{Bytes, Key, Memory, know_bytes, know_key};
+use std::alloc::Global;
+use std::sync::Arc;
+
+// There are sixteen flags.
+fn know_length(flags: &[bool; 16])
+    ensures { length flags.now ≡ 16 }
+{
+    let _ = flags;
+}
+
+impl Link {
+    /// A leaf: one entry, of whose value the hash is given.
+    pub fn leaf(
+        alloc: Global,
+        version: u64,
+        depth: u64,
+        key: &Key,
+        value: &[u8],
+        value_hash: &Hash,
+    ) -> Result<Link, Memory>
+        requires depth { depth ≤ 64 }
+        requires short { length value.now ≤ 4096 }
+        requires hashed { value_hash.now ≡ V value.now }
+        ensures { IfOk result (λ x. x ≡ leaf_value version depth key.now value.now) }
+    {
+        let hash = jf_hash::leaf(key, value_hash);
+        Link::hashed_leaf(alloc, version, depth, key, value, value_hash, hash)
+    }
+
+    // A leaf, of which the hash is given too.
+    fn hashed_leaf(
+        alloc: Global,
+        version: u64,
+        depth: u64,
+        key: &Key,
+        value: &[u8],
+        value_hash: &Hash,
+        hash: Hash,
+    ) -> Result<Link, Memory>
+        requires depth { depth ≤ 64 }
+        requires short { length value.now ≤ 4096 }
+        requires hashed { value_hash.now ≡ V value.now }
+        requires hash { hash ≡ L key.now value_hash.now }
+        ensures { IfOk result (λ x. x ≡ leaf_value version depth key.now value.now) }
+    {
+        know_key(key);
+        know_bytes(value);
+        let value = Bytes::copy_of(alloc, value)?;
+        let node = Arc::new(
+            alloc,
+            Body {
+                version,
+                depth,
+                count: 1,
+                hash,
+                form: Form::Leaf {
+                    key: *key,
+                    value,
+                    value_hash: *value_hash,
+                },
+            },
+        )?;
+        Ok(Link { node })
+    }
+
+    /// An inner node over children one nibble deeper, each at its own nibble, with two entries or more. The refusal
+    /// `Memory` also means that they have 2^64 entries or more.
+    pub fn inner(alloc: Global, version: u64, depth: u64, children: Sixteen) -> Result<Link, Memory>
+        requires depth { depth < 64 }
+        requires children { FitFrom depth 0 children }
+        requires several { 2 ≤ length (joined children) }
+        requires alike { BeginAlike depth (joined children) }
+        ensures { IfOk result (λ x. x ≡ inner_value version depth children) }
+    {
+        let (link, _) = Link::inner_counted(alloc, version, depth, children)?;
+        Ok(link)
+    }
+
+    /// The same, and the number of pairs that were hashed for it: one for each range that holds more than one leaf.
+    pub fn inner_counted(
+        alloc: Global,
+        version: u64,
+        depth: u64,
+        children: Sixteen,
+    ) -> Result<(Link, u64), Memory>
+        requires depth { depth < 64 }
+        requires children { FitFrom depth 0 children }
+        requires several { 2 ≤ length (joined children) }
+        requires alike { BeginAlike depth (joined children) }
+        ensures link { IfOk result (λ r. r.0 ≡ inner_value version depth children) }
+        ensures once { IfOk result (λ r. r.1 ≤ 15) }
+    {
+        children.know();
+        let (ranges, pairs) = Ranges::of_counted(&children.slots());
+        let link = Link::over(alloc, version, depth, children, ranges)?;
+        Ok((link, pairs))
+    }
+
+    /// The same inner node over other children, of which at most those in `changed` have other entries. Only the
+    /// ranges with a changed child are hashed.
+    pub fn with_children(
+        &self,
+        alloc: Global,
+        version: u64,
+        children: Sixteen,
+        changed: &[bool; 16],
+    ) -> Result<Link, Memory>
+        requires inner { 2 ≤ length self.now.entries }
+        requires children { FitFrom self.now.depth 0 children }
+        requires several { 2 ≤ length (joined children) }
+        requires alike { BeginAlike self.now.depth (joined children) }
+        requires elsewhere { SameElsewhere changed.now self.now.depth self.now.entries (joined children) }
+        ensures { IfOk result (λ x. x ≡ inner_value version self.now.depth children) }
+    {
+        let (link, _) = self.with_children_counted(alloc, version, children, changed)?;
+        Ok(link)
+    }
+
+    /// The same, and the number of pairs that were hashed for it: one for each range with a changed child that holds
+    /// more than one leaf.
+    pub fn with_children_counted(
+        &self,
+        alloc: Global,
+        version: u64,
+        children: Sixteen,
+        changed: &[bool; 16],
+    ) -> Result<(Link, u64), Memory>
+        requires inner { 2 ≤ length self.now.entries }
+        requires children { FitFrom self.now.depth 0 children }
+        requires several { 2 ≤ length (joined children) }
+        requires alike { BeginAlike self.now.depth (joined children) }
+        requires elsewhere { SameElsewhere changed.now self.now.depth self.now.entries (joined children) }
+        ensures link { IfOk result (λ r. r.0 ≡ inner_value version self.now.depth children) }
+        ensures bounded { IfOk result (λ r. r.1 ≤ 4 * count_by (λ change. change) changed.now) }
+    {
+        self.know();
+        children.know();
+        know_length(changed);
+        let (ranges, pairs) = self.ranges().updated_counted(&children.slots(), changed);
+        let link = Link::over(alloc, version, self.depth(), children, ranges)?;
+        Ok((link, pairs))
+    }
+
+    // An inner node over its children, of which the hashes of all ranges are given.
+    fn over(
+        alloc: Global,
+        version: u64,
+        depth: u64,
+        children: Sixteen,
+        ranges: Ranges,
+    ) -> Result<Link, Memory>
+        requires children { AreChildren depth children }
+        requires alike { BeginAlike depth (joined children) }
+        requires hashed { ranges ≡ range_hashes (slots_of depth (joined children)) }
+        ensures { IfOk result (λ x. x ≡ inner_value version depth children) }
+    {
+        children.know();
+        let count = children.count().ok_or(Memory)?;
+        let hash = ranges.top();
+        let below = Box::new(alloc, Below { children, ranges })?;
+        let node = Arc::new(
+            alloc,
+            Body {
+                version,
+                depth,
+                count,
+                hash,
+                form: Form::Inner { below },
+            },
+        )?;
+        Ok(Link { node })
+    }
+
+    /// A leaf at another depth and of another version. Nothing is hashed.
+    pub fn at(&self, alloc: Global, version: u64, depth: u64) -> Result<Link, Memory>
+        requires one { length self.now.entries ≡ 1 }
+        requires depth { depth ≤ 64 }
+        ensures { IfOk result (λ x. x ≡ moved_value version depth self.now) }
+    {
+        match self.view() {
+            Seen::Leaf {
+                key,
+                value,
+                value_hash,
+            } => { Link::hashed_leaf(alloc, version, depth, key, value, value_hash, self.hash()) }
+            Seen::Inner { .. } => unreachable!(),
+        }
+    }
+
+    /// The same node of another version. Nothing is hashed.
+    pub fn renewed(&self, alloc: Global, version: u64) -> Result<Link, Memory>
+        ensures { IfOk result (λ x. x ≡ renewed_value version self.now) }
+    {
+        match self.view() {
+            Seen::Leaf { .. } => self.at(alloc, version, self.depth()),
+            Seen::Inner { children } => {
+                let children = children.share()?;
+                Link::over(alloc, version, self.depth(), children, *self.ranges())
+            }
+        }
+    }
+}

@@ -1,0 +1,17 @@
+// What a link shows of its node.
+use crate::link::Sixteen;
+use jf_hash::Hash;
+use jf_path::Key;
+
+/// What a link shows of its node: its one entry and the hash of its value, or its children.
+#[derive(Clone, Copy)]
+pub enum Seen<'a> {
+    Leaf {
+        key: &'a Key,
+        value: &'a [u8],
+        value_hash: &'a Hash,
+    },
+    Inner {
+        children: &'a Sixteen,
+    },
+}

@@ -1,0 +1,187 @@
+-- What building makes.
+use Rattle.std.proofs.Common.{◌≡◌, ℕ, zero, suc, ◌+◌, ◌-◌, ◌<◌, ◌≤◌, ◌≢◌, ◌==◌, true, false, cond, inl, inr, List, [], ◌∷◌, ◌++◌, length, get_or, set, take, drop, refl, sym, ap, ◌∙◌, subst, arith, Option, None, Some, length-append, length-drop, length-set, zero-add, append-nil, eq-or-lt_of_le, get_or-set_other, get_or-set_same, replicate, take_all, IfSome}
+use Rattle.std.proofs.lemmas.Bool.Decides.{nat_tests}
+use Rattle.std.specs.List.{flat_map}
+use Rattle.std.specs.Option.{option_copied}
+use denote.Ref.{Bor}
+use Rattle.jf_path.specs.Nibbles.{nibble}
+use Rattle.jf_hash.specs.Slots.{Part, with_nibble}
+use Rattle.jf_hash.specs.Filters.{All-filter}
+use Rattle.jf_node.specs.LinkValue.{LinkValue, version_at}
+use Rattle.jf_node.specs.LinkFacts.{BeginAlike}
+use Rattle.jf_node.specs.Children.{content, joined, HaveNibble, FitsAt, FitFrom, leaf_value, inner_value, moved_value}
+use Rattle.jf_node.specs.ChildLaws.{FitFrom-set}
+use Rattle.jf_node.specs.NodeVersions.{version-below}
+use Rattle.jf_landing.specs.Parts.{IsPart, IsPieceEnd, stepped, from_nibble}
+use Rattle.jf_landing.specs.PartLaws.{IsPart-with_nibble, from_nibble-zero}
+use Rattle.jf_landing.specs.PieceEnds.{cut_piece}
+use Rattle.jf_landing.specs.Unions as union
+use Rattle.jf_landing.specs.ChildEntryLaws.{sub-none}
+use Rattle.jf_landing.specs.VersionLaws.{built_one, topped_built}
+use Rattle.jf_update.specs.Hashed.{HashedValue, plain, AreHashed, IsHashed}
+use Rattle.jf_update.specs.Made.{IsAtDepth, Built, Topped, AreBuilt}
+use Rattle.jf_update.proofs.HashedLaws.{with_nibble-plain, unplain_part}
+
+abbrev Hashed : Type 0
+Hashed = List ℕ × HashedValue
+
+-- ---- unions
+
+joined-flat_map : (links : List (Option LinkValue)) → joined links ≡ flat_map content links
+joined-flat_map [] = refl
+joined-flat_map (x ∷ links) = ap (λ es. content x ++ es) (joined-flat_map links)
+
+-- children that have the part of each nibble have the whole
+pub joined_parts : (d : ℕ) (path : ℕ → ℕ) (es : Part) (links : List (Option LinkValue)) → IsPart d path es → length links ≡ 16 → ((k : ℕ) → k < 16 → content (get_or links k None) ≡ with_nibble d k es) → joined links ≡ es
+joined_parts d path es links part long h = joined-flat_map links ∙ union.joined_parts content None d path es links part long h
+
+-- behind places without a child the union begins with the first child
+pub joined-first : (links : List (Option LinkValue)) (n : ℕ) → n < length links → ((k : ℕ) → k < n → get_or links k None ≡ None) → joined links ≡ content (get_or links n None) ++ joined (drop (suc n) links)
+joined-first links n short before =
+    joined-flat_map links ∙ union.joined-first content None links n short (λ k lt. ap content (before k lt)) ∙ ap (λ es. content (get_or links n None) ++ es) (sym (joined-flat_map (drop (suc n) links)))
+
+pub joined-none : (links : List (Option LinkValue)) → ((k : ℕ) → k < length links → get_or links k None ≡ None) → joined links ≡ []
+joined-none links all = joined-flat_map links ∙ union.joined-none content None links (λ k lt. ap content (all k lt))
+
+-- the keys of a part begin alike
+pub part_agrees : {d : ℕ} {path : ℕ → ℕ} (es : Part) → IsPart d path es → BeginAlike d es
+part_agrees {path = path} es part = record { path = path; keys = part.agree }
+
+-- ---- one node
+
+pub built_none : (depth version : ℕ) → Built depth version [] None
+built_none depth version = record { entries = refl; placed = tt; versions = λ p some. absurd (some (sub-none depth p)) }
+
+pub built_leaf : (depth version : ℕ) (k v : List ℕ) (y : LinkValue) → y ≡ leaf_value version depth k v → Built depth version ((k, v) ∷ []) (Some y)
+built_leaf depth version k v y is =
+    subst (λ z. Built depth version ((k, v) ∷ []) (Some z)) (sym is) record { entries = refl; placed = refl; versions = built_one depth version ((k, v) ∷ []) (λ p. version_at p (Some (leaf_value version depth k v))) (omega arith) refl }
+
+pub topped_inner : (depth version : ℕ) (links : List (Option LinkValue)) (y : LinkValue) → y ≡ inner_value version depth links → Topped depth version links (Some y)
+topped_inner depth version links y is =
+    subst (λ z. Topped depth version links (Some z)) (sym is) record { entries = refl; placed = refl; versions = record { top = λ some. refl; children = λ n p many. version-below n p version links } }
+
+pub topped_none : (depth version : ℕ) (links : List (Option LinkValue)) → joined links ≡ [] → Topped depth version links None
+topped_none depth version links none = record { entries = sym none; placed = tt; versions = record { top = λ some. absurd (some none); children = λ n p many. absurd (let e = ap length none in omega arith) } }
+
+no_items : {X : Type 0} (xs : List X) → length xs ≡ 0 → xs ≡ []
+no_items [] e = refl
+no_items (x ∷ xs) e = absurd (omega arith)
+
+pub topped_moved : (depth version : ℕ) (links : List (Option LinkValue)) (x y : LinkValue) (rest : Part) → joined links ≡ x.entries ++ rest → length (joined links) < 2 → 1 ≤ length x.entries → y ≡ moved_value version depth x → Topped depth version links (Some y)
+topped_moved depth version links x y rest is few some moved =
+    let no_rest : rest ≡ [] = no_items rest (let e = ap length is in omega (arith, length-append x.entries rest)) in
+    subst (λ z. Topped depth version links (Some z)) (sym moved) record {
+      entries = sym (append-nil x.entries) ∙ ap (λ r. x.entries ++ r) (sym no_rest) ∙ sym is;
+      placed = refl;
+      versions = record { top = λ some. refl; children = λ n p many. absurd (omega arith) };
+    }
+
+-- ---- children
+
+all-with_nibble : (d n : ℕ) (es : Part) → HaveNibble d n (with_nibble d n es)
+all-with_nibble d n [] = tt
+all-with_nibble d n (e ∷ es) =
+    elim (nibble e.0 d == n) as (λ b. (nibble e.0 d == n) ≡ b → HaveNibble d n (cond b (e ∷ with_nibble d n es) (with_nibble d n es))) [
+      | true ↦ λ is. (grind (arith, nat_tests), all-with_nibble d n es)
+      | false ↦ λ is. all-with_nibble d n es
+    ] refl
+
+pub fits_part : (d n : ℕ) (es : Part) (y : Option LinkValue) → content y ≡ with_nibble d n es → IsAtDepth (d + 1) y → FitsAt d n y
+fits_part d n es None is at = tt
+fits_part d n es (Some y) is at = (at, subst (HaveNibble d n) (sym is) (all-with_nibble d n es))
+
+-- the children as far as nibble n
+pub record IsBuilding (depth version n start : ℕ) (xs : List Hashed) (links : List (Option LinkValue)) : Type 0 where
+  pub long : length links ≡ 16
+  pub fit : FitFrom depth 0 links
+  pub each : (k : ℕ) → k < n → Built (depth + 1) version (with_nibble depth k (plain xs)) (get_or links k None)
+  pub within : start ≤ length xs
+  pub rest : drop start xs ≡ from_nibble depth n xs
+
+drop_none : {X : Type 0} (b : ℕ) → drop {A = X} b [] ≡ []
+drop_none zero = refl
+drop_none (suc b) = refl
+
+pub drop_more : {X : Type 0} (a b : ℕ) (xs : List X) → drop b (drop a xs) ≡ drop (a + b) xs
+drop_more zero b xs = ap (λ k. drop k xs) (sym (zero-add b))
+drop_more (suc a) b [] = drop_none b ∙ sym (drop_none (suc a + b))
+drop_more (suc a) b (x ∷ xs) = drop_more a b xs ∙ ap (λ k. drop k (x ∷ xs)) (let e : suc (a + b) ≡ suc a + b = omega arith in e)
+
+pub building_more : (d v n start r : ℕ) (path : ℕ → ℕ) (xs : List Hashed) (links : List (Option LinkValue)) (child : Option LinkValue) → IsPart d path (plain xs) → n < 16 → IsBuilding d v n start xs links → IsPieceEnd d n r (drop start xs)
+    → Built (d + 1) v (plain (take r (drop start xs))) child → IsBuilding d v (n + 1) (start + r) xs (set links n child)
+building_more d v n start r path xs links child part small b end made =
+    let both = cut_piece d n r path xs (drop start xs) (unplain_part d path xs part) b.rest end in
+    let is : plain (take r (drop start xs)) ≡ with_nibble d n (plain xs) = ap plain both.0 ∙ sym (with_nibble-plain d n xs) in
+    let made_at : Built (d + 1) v (with_nibble d n (plain xs)) child = subst (λ es. Built (d + 1) v es child) is made in
+    let in_links : n < length links = omega (arith, b.long) in
+    record {
+      long = length-set links n child ∙ b.long;
+      fit = FitFrom-set d 0 n links child b.fit (subst (λ k. FitsAt d k child) (sym (zero-add n)) (fits_part d n (plain xs) child made_at.entries made_at.placed));
+      each = λ k lt. let le : k ≤ n = omega arith in elim (eq-or-lt_of_le le) [
+        | inl here ↦ subst (λ m. Built (d + 1) v (with_nibble d m (plain xs)) (get_or (set links n child) m None)) (sym here) (rw get_or-set_same made_at)
+        | inr before ↦ let ne : k ≢ n = omega arith in rw get_or-set_other (b.each k before)
+      ];
+      within = omega (arith, b.within, end.within, length-drop start xs);
+      rest = sym (drop_more start r xs) ∙ both.1;
+    }
+
+pub building_done : (d v start : ℕ) (xs : List Hashed) (links : List (Option LinkValue)) → IsBuilding d v 16 start xs links → AreBuilt d v (plain xs) links
+building_done d v start xs links b = record { long = b.long; fit = b.fit; each = b.each }
+
+pub joined_built : (d v : ℕ) (path : ℕ → ℕ) (es : Part) (links : List (Option LinkValue)) → IsPart d path es → AreBuilt d v es links → joined links ≡ es
+joined_built d v path es links part b = joined_parts d path es links part b.long (λ k lt. (b.each k lt).entries)
+
+pub piece_part : (d n start r : ℕ) (path : ℕ → ℕ) (xs : List Hashed) (v : ℕ) (links : List (Option LinkValue)) → IsPart d path (plain xs) → IsBuilding d v n start xs links → IsPieceEnd d n r (drop start xs) → IsPart (d + 1) (stepped d n path) (plain (take r (drop start xs)))
+piece_part d n start r path xs v links part b end =
+    let both = cut_piece d n r path xs (drop start xs) (unplain_part d path xs part) b.rest end in
+    subst (IsPart (d + 1) (stepped d n path)) (with_nibble-plain d n xs ∙ ap plain (sym both.0)) (IsPart-with_nibble d n path (plain xs) part)
+
+pub piece_hashed : (d n start r : ℕ) (path : ℕ → ℕ) (xs : List Hashed) (v : ℕ) (links : List (Option LinkValue)) → IsPart d path (plain xs) → AreHashed xs → IsBuilding d v n start xs links → IsPieceEnd d n r (drop start xs) → AreHashed (take r (drop start xs))
+piece_hashed d n start r path xs v links part hashed b end =
+    let both = cut_piece d n r path xs (drop start xs) (unplain_part d path xs part) b.rest end in
+    subst AreHashed (sym both.0) (All-filter (λ e. IsHashed e.1) (λ e. nibble e.0 d == n) xs hashed)
+
+pub built_len1 : (depth version : ℕ) (xs : List Hashed) (y : LinkValue) (d : Hashed) → 1 ≤ length xs → length xs < 2 → y ≡ leaf_value version depth (get_or xs 0 d).0 (get_or xs 0 d).1.0.now → Built depth version (plain xs) (Some y)
+built_len1 depth version [] y d long short is = absurd (omega arith)
+built_len1 depth version (x ∷ []) y d long short is = built_leaf depth version x.0 x.1.0.now y is
+built_len1 depth version (x ∷ z ∷ xs) y d long short is = absurd (omega arith)
+
+pub built_len0 : (depth version : ℕ) (xs : List Hashed) → length xs < 1 → Built depth version (plain xs) None
+built_len0 depth version [] short = built_none depth version
+built_len0 depth version (x ∷ xs) short = absurd (omega arith)
+
+fit_none : (d n k : ℕ) → FitFrom d n (replicate k None)
+fit_none d n zero = tt
+fit_none d n (suc k) = (tt, fit_none d (n + 1) k)
+
+pub building_start : (d v : ℕ) (xs : List Hashed) (links : List (Option LinkValue)) → links ≡ replicate 16 None → IsBuilding d v 0 0 xs links
+building_start d v xs links is = subst (IsBuilding d v 0 0 xs) (sym is) record { long = refl; fit = fit_none d 0 16; each = λ k lt. absurd (omega arith); within = omega arith; rest = sym (from_nibble-zero d xs) }
+
+-- a new node over new children
+pub built_inner : (depth version : ℕ) (path : ℕ → ℕ) (es : Part) (y : LinkValue) (links : List (Option LinkValue)) → 2 ≤ length es → IsPart depth path es → AreBuilt depth version es links → y ≡ inner_value version depth links → Built depth version es (Some y)
+built_inner depth version path es y links many part made is =
+    let all = joined_built depth version path es links part made in
+    let t = topped_inner depth version links y is in
+    record {
+      entries = t.entries ∙ all;
+      placed = t.placed;
+      versions = topped_built depth version es (λ n p. version_at p (get_or links n None)) (λ p. version_at p (Some y)) many (λ n lt. (made.each n lt).versions)
+          (record { top = λ some. t.versions.top (λ none. some (sym all ∙ none)); children = λ n p lots. t.versions.children n p (subst (λ fs. 2 ≤ length fs) (sym all) lots) });
+    }
+
+-- ---- ranges of a slice
+
+pub same_piece : {X : Type 0} (start r : ℕ) (xs : List X) → take ((start + r) - start) (drop start xs) ≡ take r (drop start xs)
+same_piece start r xs = ap (λ k. take k (drop start xs)) (let e : (start + r) - start ≡ r = omega arith in e)
+
+pub same_rest : {X : Type 0} (start : ℕ) (xs : List X) → take (length xs - start) (drop start xs) ≡ drop start xs
+same_rest start xs = take_all (length xs - start) (drop start xs) (omega (arith, length-drop start xs))
+
+pub end_in_rest : {X : Type 0} (d n r start : ℕ) (xs : List (List ℕ × X)) → IsPieceEnd d n r (take (length xs - start) (drop start xs)) → IsPieceEnd d n r (drop start xs)
+end_in_rest d n r start xs h = subst (IsPieceEnd d n r) (same_rest start xs) h
+
+-- the first child
+pub first_some : (links : List (Option LinkValue)) (n : ℕ) (r : Option (Bor LinkValue)) → option_copied r ≡ get_or links n None → n < length links → ((k : ℕ) → k < n → get_or links k None ≡ None)
+    → IfSome r (λ x. (rest : Part) × (joined links ≡ x.now.entries ++ rest))
+first_some links n None is short before = tt
+first_some links n (Some x) is short before = (joined (drop (suc n) links), joined-first links n short before ∙ ap (λ y. content y ++ joined (drop (suc n) links)) (sym is))

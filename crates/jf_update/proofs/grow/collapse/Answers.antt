@@ -1,5 +1,0 @@
-use Rattle.jf_update.proofs.Builds.{topped_inner}
-use Rattle.jf_update.proofs.grow.collapse.Goals as goal
-
-pub returns-then-count-ge2 : goal.returns-then-count-ge2
-returns-then-count-ge2 c = topped_inner c.args.old.now.depth c.args.version c.args.worked.children c.in_ok-link.link c.in_ok-link.ensures.link

@@ -1,0 +1,60 @@
+-- The update of a top: a node and lists.
+use Rattle.std.specs.Prelude.{◌≡◌, ℕ, ◌+◌, ◌≤◌, ◌∷◌, Option, Some, None, T}
+use Rattle.std.specs.FinMap.{is_sorted}
+use Rattle.std.specs.List.Sorted.{IsPermutation}
+use Rattle.jf_path.specs.Keys.{key_cmp}
+use Rattle.jf_path.specs.declared.name.NodeName.{NodeName}
+use Rattle.jf_hash.specs.Maps.{Batch}
+use Rattle.jf_hash.specs.Slots.{Part}
+use Rattle.jf_model.specs.Changes.{applied}
+use Rattle.jf_model.specs.Nodes.{Path}
+use Rattle.jf_node.specs.LinkValue.{LinkValue, version_at}
+use Rattle.jf_node.specs.LinkFacts.{IsLinkIf}
+use Rattle.jf_node.specs.Children.{content}
+use Rattle.jf_node.specs.Snapshots.{snapshot_of}
+use Rattle.jf_landing.specs.ChildEntries.{sub}
+use Rattle.jf_landing.specs.Versions.{HasVersion}
+use Rattle.jf_landing.specs.Walk.{with_root}
+use Rattle.jf_update.specs.Made.{IsAtDepth}
+use Rattle.jf_update.specs.Updates.{version_in}
+use Rattle.jf_update.specs.Below.{IsFreshOver, IsStaleOver}
+use Rattle.jf_update.specs.Plains.{fresh_under}
+use Rattle.jf_update.specs.declared.top.TopUpdate.{TopUpdate}
+
+abbrev pub IsOfVersion : ℕ → Option LinkValue → Type 0
+IsOfVersion version None = Unit {0}
+IsOfVersion version (Some y) = y.version ≡ version
+
+-- no node is newer
+abbrev pub NoneNewer : ℕ → Option LinkValue → Type 0
+NoneNewer head x = (path : Path) (v : ℕ) → version_at path x ≡ Some v → v ≤ head
+
+-- the name of a node of the old version
+abbrev pub old_name : ℕ → Option LinkValue → Path → NodeName
+old_name head old path = record { version = version_in (snapshot_of head old) path; path = path }
+
+abbrev pub IsFreshUnder : ℕ → Part → (Path → Option ℕ) → Option LinkValue → Type 0
+IsFreshUnder version es before None = Unit {0}
+IsFreshUnder version es before (Some x) = IsFreshOver version es before x
+
+abbrev pub IsStaleUnder : ℕ → Option LinkValue → Option LinkValue → Type 0
+IsStaleUnder version None y = Unit {0}
+IsStaleUnder version (Some x) y = IsStaleOver version x y
+
+-- the top after a landing over some entries
+pub record WasLanded (version : ℕ) (top : Option LinkValue) : Type 0 where
+  pub es : Part
+  pub before : Path → Option ℕ
+  pub sorted : T (is_sorted key_cmp es)
+  pub over : IsFreshUnder version es before top
+
+-- what a landing of a batch over the old top gives
+pub record IsTopUpdate (head : ℕ) (old : Option LinkValue) (bs : Batch) (l : TopUpdate) : Type 0 where
+  pub entries : content l.top ≡ applied (content old) bs
+  pub placed : IsAtDepth 0 l.top
+  pub own : IsOfVersion (head + 1) l.top
+  pub versions : (n : ℕ) (path : Path) → HasVersion (head + 1) (sub 0 (n ∷ path) (content old)) (sub 0 (n ∷ path) (content l.top)) (version_at (n ∷ path) old) (version_at (n ∷ path) l.top)
+  pub newest : NoneNewer (head + 1) l.top
+  pub sound : IsLinkIf l.top
+  pub fresh : l.fresh ≡ with_root (content old) (content l.top) (fresh_under (head + 1) l.top)
+  pub stale : IsPermutation (with_root (content l.top) (content old) (old_name head old)) l.stale

@@ -1,0 +1,40 @@
+// The child of a node at a nibble, if any.
+ghost use Rattle.std.specs.Prelude.{◌≡◌};
+ghost use Rattle.std.specs.Option.{option_copied};
+ghost use Rattle.jf_update.specs.Below.{IsBelow, IsBelowIf, IsKept};
+
+use jf_node::{Link, Seen};
+use jf_path::Nibble;
+
+/// The child at one nibble.
+pub(crate) fn child_of(link: &Link, n: Nibble) -> Option<&Link>
+    ensures { IsBelow link.now n (option_copied result) }
+{
+    match link.view() {
+        Seen::Leaf { .. } => None,
+        Seen::Inner { children } => children.get(n),
+    }
+}
+
+/// The child at one nibble, if there is a node.
+pub(crate) fn child_in(node: Option<&Link>, n: Nibble) -> Option<&Link>
+    ensures { IsBelowIf (option_copied node.entry) n (option_copied result) }
+{
+    match node {
+        None => None,
+        Some(link) => child_of(link, n),
+    }
+}
+
+/// Whether there is a node, and it was there before the landing of `version`.
+pub(crate) fn is_kept(node: Option<&Link>, version: u64) -> bool
+    ensures { IsKept (option_copied node.entry) version result }
+{
+    match node {
+        None => false,
+        Some(link) => {
+            link.know();
+            link.version() != version
+        }
+    }
+}

@@ -1,0 +1,163 @@
+// The update of a node.
+ghost use Rattle.std.specs.Prelude.{◌≡◌, ◌<◌, ◌≤◌, ◌++◌, ℕ, [], length, IfOk, IfNone, IfSome};
+ghost use Rattle.std.specs.Option.{option_copied};
+ghost use Rattle.jf_hash.specs.Slots.{Part};
+ghost use Rattle.jf_node.specs.Children.{content, joined, FitFrom, SameElsewhere};
+ghost use Rattle.jf_landing.specs.Parts.{IsPart};
+ghost use Rattle.jf_update.specs.Made.{IsAtDepth, Topped};
+ghost use Rattle.jf_update.specs.Outcomes.{AreParts, IsOutcome, AreOutcome, IsPlaced};
+
+use crate::leaf::update_leaf;
+use crate::outcome::{NewChildren, Outcome};
+use crate::piece::piece_end;
+use jf_node::{Link, Seen, Sixteen};
+use jf_path::{Bytes, Key, Memory, Nibble};
+use std::alloc::Global;
+
+/// The first child.
+fn first_child(children: &Sixteen) -> Option<&Link>
+    ensures none { IfNone result (joined children.now ≡ []) }
+    ensures some { IfSome result (λ x. (rest : Part) × (joined children.now ≡ x.now.entries ++ rest)) }
+{
+    children.know();
+    for n in 0..16 {
+        if let Some(child) = children.get(Nibble::of(n)) {
+            return Some(child);
+        }
+    }
+    None
+}
+
+/// The node over the new children of an inner node, in its place: none, the leaf alone, or an inner node. The pairs
+/// that are hashed for it are added to `pairs`.
+pub(crate) fn rebuild(
+    alloc: Global,
+    old: &Link,
+    made: NewChildren,
+    version: u64,
+    pairs: &mut u64,
+) -> Result<Option<Link>, Memory>
+    requires several { 2 ≤ length old.now.entries }
+    requires children { FitFrom old.now.depth 0 made.children }
+    requires part { (path : ℕ → ℕ) × IsPart old.now.depth path (joined made.children) }
+    requires kept { SameElsewhere made.changed old.now.depth old.now.entries (joined made.children) }
+    ensures { IfOk result (λ y. Topped old.now.depth version made.children y) }
+{
+    let NewChildren { children, changed } = made;
+    let count = children.count().ok_or(Memory)?;
+    if count >= 2 {
+        let (link, hashed) = old.with_children_counted(alloc, version, children, &changed)?;
+        *pairs = pairs.saturating_add(hashed);
+        return Ok(Some(link));
+    }
+    match first_child(&children) {
+        None => Ok(None),
+        Some(child) => {
+            // One entry, and a depth of at most 64.
+            child.know();
+            old.know();
+            let link = child.at(alloc, version, old.depth())?;
+            Ok(Some(link))
+        }
+    }
+}
+
+/// Updates the node `old`, or a place without a node, at a depth. The pairs that are hashed for it are added to
+/// `pairs`.
+#[cycle(node)]
+pub(crate) fn update_node(
+    alloc: Global,
+    old: Option<&Link>,
+    batch: &[(Key, Option<Bytes>)],
+    depth: u64,
+    version: u64,
+    pairs: &mut u64,
+) -> Result<Outcome, Memory>
+    requires depth { depth ≤ 64 }
+    requires placed { IsAtDepth depth (option_copied old) }
+    requires parts { AreParts depth (content (option_copied old)) batch.now }
+    ensures { IfOk result (λ r. IsOutcome depth version (option_copied old.entry) batch.now r) }
+{
+    if batch.is_empty() {
+        return Ok(Outcome::Same);
+    }
+    match old {
+        None => update_leaf(alloc, None, batch, depth, version, pairs),
+        Some(link) => match link.view() {
+            Seen::Leaf {
+                key,
+                value,
+                value_hash,
+            } => update_leaf(
+                alloc,
+                Some((key, (value, *value_hash))),
+                batch,
+                depth,
+                version,
+                pairs,
+            ),
+            Seen::Inner { children } => {
+                match update_children(alloc, children, batch, depth, version, pairs)? {
+                    None => Ok(Outcome::Same),
+                    Some(made) => {
+                        let top = rebuild(alloc, link, made, version, pairs)?;
+                        Ok(Outcome::New(top))
+                    }
+                }
+            }
+        },
+    }
+}
+
+/// Puts the outcome for a child in its place, and notes whether it is new.
+fn place(made: &mut NewChildren, n: Nibble, outcome: Outcome)
+    ensures { IsPlaced made.old n outcome made.new }
+{
+    if let Outcome::New(child) = outcome {
+        made.children.set(n, child);
+        made.changed[n.get() as usize] = true;
+    }
+}
+
+/// Updates the children of a node; `None` if the batch changes none of them. The pairs that are hashed for
+/// them are added to `pairs`.
+#[cycle(node)]
+fn update_children(
+    alloc: Global,
+    children: &Sixteen,
+    batch: &[(Key, Option<Bytes>)],
+    depth: u64,
+    version: u64,
+    pairs: &mut u64,
+) -> Result<Option<NewChildren>, Memory>
+    requires depth { depth < 64 }
+    requires children { FitFrom depth 0 children.now }
+    requires parts { AreParts depth (joined children.now) batch.now }
+    ensures { IfOk result (λ r. AreOutcome depth version children.now batch.now r) }
+{
+    children.know();
+    let mut made = NewChildren {
+        children: children.share()?,
+        changed: [false; 16],
+    };
+    let mut start = 0;
+    for n in 0..16 {
+        let nibble = Nibble::of(n);
+        let end = start + piece_end(&batch[start..], depth, nibble);
+        let outcome = update_node(
+            alloc,
+            children.get(nibble),
+            &batch[start..end],
+            depth + 1,
+            version,
+            pairs,
+        )?;
+        place(&mut made, nibble, outcome);
+        start = end;
+    }
+    if made.changed.contains(&true) {
+        Ok(Some(made))
+    } else {
+        Ok(None)
+    }
+}

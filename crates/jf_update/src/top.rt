@@ -1,0 +1,165 @@
+// The update of the top of a version, with the lists of what it writes and makes stale.
+ghost use Rattle.std.specs.Prelude.{◌≡◌, ℕ, ◌+◌, ◌<◌, ◌^◌, ◌∷◌, [], Option, IfOk, OnOk, T};
+ghost use Rattle.std.specs.Option.{option_copied};
+ghost use Rattle.std.specs.FinMap.{is_sorted};
+ghost use Rattle.std.specs.List.Sorted.{IsPermutation};
+ghost use Rattle.jf_path.specs.Keys.{key_cmp};
+ghost use Rattle.jf_hash.specs.Maps.{Batch};
+ghost use Rattle.jf_hash.specs.Slots.{Part};
+ghost use Rattle.jf_model.specs.Changes.{applied};
+ghost use Rattle.jf_model.specs.Nodes.{Path};
+ghost use Rattle.jf_node.specs.LinkFacts.{IsLinkIf};
+ghost use Rattle.jf_node.specs.Children.{content};
+ghost use Rattle.jf_landing.specs.Walk.{with_root};
+ghost use Rattle.jf_update.specs.Made.{IsAtDepth};
+ghost use Rattle.jf_update.specs.Outcomes.{AreParts};
+ghost use Rattle.jf_update.specs.Plains.{fresh_under};
+ghost use Rattle.jf_update.specs.TopUpdates.{IsTopUpdate, IsFreshUnder, IsStaleUnder, NoneNewer, WasLanded, old_name};
+
+use crate::list::{list_fresh, list_stale};
+use crate::node::update_node;
+use crate::outcome::Outcome;
+use crate::plain_node::plain_of;
+use crate::sorted::sorted_names;
+use jf_node::Link;
+use jf_path::{Bytes, FreshList, Key, Memory, NameList, NibblePath, NodeName, PlainNode};
+use std::alloc::Global;
+
+/// The top after an update, if any, the nodes that the update writes, and the names of those that it makes stale.
+#[derive(Drop)]
+pub(crate) struct TopUpdate {
+    pub(crate) top: Option<Link>,
+    pub(crate) fresh: FreshList,
+    pub(crate) stale: NameList,
+}
+
+/// The name of the top of a version.
+fn top_name(version: u64) -> NodeName
+    ensures version { result.version ≡ version }
+    ensures path { result.path ≡ [] }
+{
+    NodeName {
+        version,
+        path: NibblePath::empty(),
+    }
+}
+
+/// A list of one name.
+fn one_name(alloc: Global, name: NodeName) -> Result<NameList, Memory>
+    ensures { IfOk result (λ l. l ≡ name ∷ []) }
+{
+    let mut names = NameList::new(alloc);
+    names.push(name)?;
+    Ok(names)
+}
+
+/// A list of one node.
+fn one_node(alloc: Global, name: NodeName, node: PlainNode) -> Result<FreshList, Memory>
+    ensures { IfOk result (λ l. l ≡ (name, node) ∷ []) }
+{
+    let mut nodes = FreshList::new(alloc);
+    nodes.push((name, node))?;
+    Ok(nodes)
+}
+
+/// What a landing wrote: the top in any case.
+fn fresh_of(alloc: Global, top: Option<&Link>, version: u64) -> Result<FreshList, Memory>
+    requires top { IsAtDepth 0 (option_copied top) }
+    requires landed { WasLanded version (option_copied top) }
+    ensures node { OnOk result (IsLinkIf (option_copied top.entry)) }
+    ensures nodes { IfOk result (λ l. (es : Part) (before : Path → Option ℕ) → IsFreshUnder version es before (option_copied top.entry) → ¬ (es ≡ content (option_copied top.entry)) → l ≡ with_root es (content (option_copied top.entry)) (fresh_under version (option_copied top.entry))) }
+{
+    match top {
+        None => one_node(alloc, top_name(version), PlainNode::Null),
+        Some(link) => {
+            link.know();
+            let mut nodes = FreshList::new(alloc);
+            list_fresh(alloc, link, version, &NibblePath::empty(), &mut nodes)?;
+            Ok(nodes)
+        }
+    }
+}
+
+/// What a landing made stale: the old top in any case.
+fn stale_of(
+    alloc: Global,
+    old: Option<&Link>,
+    head: u64,
+    top: Option<&Link>,
+) -> Result<NameList, Memory>
+    requires head { head + 1 < 2 ^ 64 }
+    requires old { IsAtDepth 0 (option_copied old) }
+    requires top { IsAtDepth 0 (option_copied top) }
+    requires landed { IsStaleUnder (head + 1) (option_copied old) (option_copied top) }
+    requires sorted { T (is_sorted key_cmp (content (option_copied top))) }
+    requires other { ¬ (content (option_copied top) ≡ content (option_copied old)) }
+    ensures { IfOk result (λ l. IsPermutation (with_root (content (option_copied top.entry)) (content (option_copied old.entry)) (old_name head (option_copied old.entry))) l) }
+{
+    match old {
+        None => one_name(alloc, top_name(head)),
+        Some(link) => {
+            link.know();
+            let mut names = Vec::new(alloc);
+            list_stale(link, top, head + 1, &NibblePath::empty(), &mut names)?;
+            sorted_names(alloc, names)
+        }
+    }
+}
+
+/// A landing that changes no entry: the top alone is written anew.
+fn unchanged(alloc: Global, old: Option<&Link>, head: u64) -> Result<TopUpdate, Memory>
+    requires head { head + 1 < 2 ^ 64 }
+    requires old { IsAtDepth 0 (option_copied old) }
+    requires newest { NoneNewer head (option_copied old) }
+    ensures { IfOk result (λ l. (bs : Batch) → applied (content (option_copied old.entry)) bs ≡ content (option_copied old.entry) → IsTopUpdate head (option_copied old.entry) bs l) }
+{
+    match old {
+        None => {
+            let fresh = one_node(alloc, top_name(head + 1), PlainNode::Null)?;
+            let stale = one_name(alloc, top_name(head))?;
+            Ok(TopUpdate {
+                top: None,
+                fresh,
+                stale,
+            })
+        }
+        Some(link) => {
+            link.know();
+            let top = link.renewed(alloc, head + 1)?;
+            top.know();
+            let node = plain_of(alloc, &top)?;
+            let fresh = one_node(alloc, top_name(head + 1), node)?;
+            let stale = one_name(alloc, top_name(link.version()))?;
+            Ok(TopUpdate {
+                top: Some(top),
+                fresh,
+                stale,
+            })
+        }
+    }
+}
+
+/// Updates the top of a version, if any, by a batch.
+/// The pairs that are hashed for it are added to `pairs`.
+pub(crate) fn update_top(
+    alloc: Global,
+    old: Option<&Link>,
+    head: u64,
+    batch: &[(Key, Option<Bytes>)],
+    pairs: &mut u64,
+) -> Result<TopUpdate, Memory>
+    requires head { head + 1 < 2 ^ 64 }
+    requires old { IsAtDepth 0 (option_copied old) }
+    requires newest { NoneNewer head (option_copied old) }
+    requires parts { AreParts 0 (content (option_copied old)) batch.now }
+    ensures { IfOk result (λ l. IsTopUpdate head (option_copied old.entry) batch.now l) }
+{
+    match update_node(alloc, old, batch, 0, head + 1, pairs)? {
+        Outcome::Same => unchanged(alloc, old, head),
+        Outcome::New(top) => {
+            let fresh = fresh_of(alloc, top.as_ref(), head + 1)?;
+            let stale = stale_of(alloc, old, head, top.as_ref())?;
+            Ok(TopUpdate { top, fresh, stale })
+        }
+    }
+}
