@@ -1,7 +1,7 @@
 -- Each command of the grammar keeps the limits on values and chunks.
 use Rattle.std.specs.Prelude.{◌≡◌, ℕ, ◌≤◌, Bool, true, false, cond, ◌&&◌, nat_le, if◌then◌else◌, ◌==◌, List, [], ◌∷◌, length, Option, Some, None, option_map, option_and_then, codes}
 use Rattle.std.proofs.Common.{refl, subst, arith}
-use Rattle.jf_text.specs.Words.{words, is_word, both, unhex, name_of, value_of, bytes_within}
+use Rattle.jf_text.specs.Words.{max_chunk, words, is_word, both, unhex, name_of, value_of, bytes_within}
 use Rattle.jf_script.specs.Commands.{command_of, command_of_words, one_word, two_words, three_words, four_words, base_of, parent_of, id_of, stored_of}
 use Rattle.jf_text.specs.Words.{number, number_upto, number_from}
 use Rattle.jf_script.specs.declared.command.Base.{Base}
@@ -11,7 +11,7 @@ use Rattle.jf_script.specs.declared.command.Command.TheVariants as command
 -- a command's limits: `put` has a value of at most 4,096 bytes, and `chunk` asks for 1 to 1,000 entries
 abbrev pub IsBounded : Command → Type 0
 IsBounded (command.Put name value) = length value ≤ 4096
-IsBounded (command.Chunk on start count) = (1 ≤ count) × (count ≤ 1000)
+IsBounded (command.Chunk on start count) = (1 ≤ count) × (count ≤ max_chunk)
 IsBounded c = Unit {0}
 
 -- a command, if there is one, keeps its limits
@@ -104,17 +104,17 @@ from_within least most (Some n) h = at_least (nat_le least n) least n most (λ e
 number_within : (least most : ℕ) (w : List ℕ) → Within least most (number_from least most w)
 number_within least most w = from_within least most (number_upto most w) (upto_within most (number w))
 
-chunk_paired : (on : Base) (p q : Option ℕ) → Within 1 1000 q → Fine (both (λ start count. command.Chunk on start count) p q)
+chunk_paired : (on : Base) (p q : Option ℕ) → Within 1 max_chunk q → Fine (both (λ start count. command.Chunk on start count) p q)
 chunk_paired on (Some start) (Some count) h = h
 chunk_paired on (Some start) None h = tt
 chunk_paired on None q h = tt
 
-chunk_fine : (o : Option Base) (p q : Option ℕ) → Within 1 1000 q → Fine (option_and_then (λ on. both (λ start count. command.Chunk on start count) p q) o)
+chunk_fine : (o : Option Base) (p q : Option ℕ) → Within 1 max_chunk q → Fine (option_and_then (λ on. both (λ start count. command.Chunk on start count) p q) o)
 chunk_fine None p q h = tt
 chunk_fine (Some on) p q h = chunk_paired on p q h
 
 four_fine : (w a b c : List ℕ) → Fine (four_words w a b c)
-four_fine w a b c = chosen (is_word w (codes "chunk")) _ _ (chunk_fine (stored_of a) (number b) (number_from 1 1000 c) (number_within 1 1000 c)) tt
+four_fine w a b c = chosen (is_word w (codes "chunk")) _ _ (chunk_fine (stored_of a) (number b) (number_from 1 max_chunk c) (number_within 1 max_chunk c)) tt
 
 words_fine : (ws : List (List ℕ)) → Fine (command_of_words ws)
 words_fine [] = tt

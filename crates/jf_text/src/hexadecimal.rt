@@ -2,6 +2,7 @@
 ghost use Rattle.std.specs.Prelude.{◌≡◌, ◌≤◌, length, IfOk, IfSome};
 ghost use Rattle.jf_text.specs.Words.{digit, byte_of, unhex, bytes_within, name_of, hash_of, value_of};
 
+use crate::limits::MAX_NAME;
 use jf_path::{Bytes, Memory};
 use std::alloc::Global;
 
@@ -58,7 +59,7 @@ fn bytes_within(alloc: Global, least: u64, most: u64, word: &[u8]) -> Result<Opt
 pub fn name_of(alloc: Global, word: &[u8]) -> Result<Option<Bytes>, Memory>
     ensures { IfOk result (λ name. name ≡ name_of word.now) }
 {
-    bytes_within(alloc, 1, 128, word)
+    bytes_within(alloc, 1, MAX_NAME, word)
 }
 
 /// The value that a word writes: the sign `=`, then at most 4,096 bytes. `None` if the word is no value

@@ -7,10 +7,8 @@ ghost use Rattle.jf_verify.specs.Streams.{GetsFront, HasVerified};
 use crate::judging::Judge;
 use jf_io::{FetchFault, LineReader, Sink, Source, put_all};
 use jf_path::Bytes;
+use jf_text::MAX_LINE;
 use std::alloc::Global;
-
-/// The most bytes of a line that is read. A longer one is answered alike, whatever its bytes.
-const LINE_BYTES: usize = 8_500;
 
 /// How the judging of an input ended.
 #[derive(Clone, Copy, Debug, PartialEq, Eq)]
@@ -56,7 +54,7 @@ fn judge_lines<S: Source, K: Sink>(
     ensures write { result ≡ Err Verified.WriteFault → (K.faults sink.old < K.faults sink.new) ⊎ (K.faults sink.old ≡ 2 ^ 64 - 1) }
     ensures counts { (S.faults source.old ≤ S.faults source.new) × (K.faults sink.old ≤ K.faults sink.new) }
 {
-    let mut reader = LineReader::new(alloc, LINE_BYTES);
+    let mut reader = LineReader::new(alloc, MAX_LINE);
     let mut judge = Judge::new(alloc);
     let mut out = Bytes::new(alloc);
     // No source gives more lines than this.
