@@ -5,4 +5,4 @@ pub mod Turns
 pub mod Feeds
 pub mod LineByLine
 pub mod Folds
-pub mod SoFar
+pub mod Streamed

@@ -1,11 +1,13 @@
 -- One line, and those that come behind it.
-use Rattle.std.proofs.Common.{◌≡◌, ℕ, ◌+◌, true, List, ◌∷◌, ◌++◌, refl, ap}
+use Rattle.std.proofs.Common.{◌≡◌, ℕ, ◌+◌, true, List, ◌∷◌, ◌++◌, refl, ap, ◌∙◌}
 use Rattle.std.proofs.lemmas.List.{append_assoc}
 use Rattle.jf_text.specs.Words.{is_long}
+use Rattle.jf_input.specs.Feeds.{given_of}
+use Rattle.jf_input.proofs.Given.{given_alike}
 use Rattle.jf_verify.specs.declared.stage.Stage.{Stage}
 use Rattle.jf_verify.specs.declared.stage.Stage.TheVariants as stage
 use Rattle.jf_verify.specs.Verdicts.{Judging}
-use Rattle.jf_verify.specs.Steps.{State, said, after, line_step, rest}
+use Rattle.jf_verify.specs.Steps.{State, Step, said, after, line_step, rest}
 use Rattle.jf_verify.specs.Laws.{LongLinesAreAlike}
 
 -- what is written and what is still to be said are together the same behind a line
@@ -27,3 +29,9 @@ pub rest-long : LongLinesAreAlike
 unfolding rest
 rest-long s line other ls long too =
     ap (λ a. a.text ++ rest (record { at = s.at + 1; known = a.known; stage = a.stage }) ls) (long-alike s.at s.known s.stage line other long too)
+
+-- what a line is given stands for the whole of it
+pub takes-given : (s next : State) (line t : List ℕ) → next ≡ after s (given_of line) → t ≡ said s (given_of line) → (next ≡ after s line) × (t ≡ said s line)
+takes-given s next line t is said_is =
+    let same = given_alike (line_step s.at s.known s.stage) (long-alike s.at s.known s.stage) line in
+    (is ∙ ap (λ (a : Step). let x : State = record { at = s.at + 1; known = a.known; stage = a.stage } in x) same, said_is ∙ ap (λ (a : Step). a.text) same)

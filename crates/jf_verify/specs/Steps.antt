@@ -1,5 +1,5 @@
 -- An input that is judged line by line.
-use Rattle.std.specs.Prelude.{◌≡◌, ℕ, ◌+◌, ◌-◌, ◌==◌, if◌then◌else◌, List, [], ◌∷◌, ◌++◌, Option, Some, None}
+use Rattle.std.specs.Prelude.{◌≡◌, ℕ, ◌+◌, ◌-◌, ◌==◌, if◌then◌else◌, List, [], ◌∷◌, ◌++◌, Option, Some, None, Result, Ok, Err}
 use Rattle.jf_hash.specs.Hashes.{K}
 use Rattle.jf_collide.specs.declared.judged.Judged.{Judged}
 use Rattle.jf_blocks.specs.Reading.{line_read, first_of, named_of, claim_of, leaf_of, side_of}
@@ -130,3 +130,15 @@ end_text at (stage.Sides heading block) = syntax_text at
 unfoldable pub rest : State → List (List ℕ) → List ℕ
 rest s [] = end_text s.at s.stage
 rest s (line ∷ ls) = said s line ++ rest (after s line) ls
+
+-- ---- a machine that takes lines
+
+-- what a line makes of it and adds; after a refusal nothing is known of it
+abbrev pub TakesLine : {F : Type 0} → State → List ℕ → State → Result (List ℕ) F → Type 0
+TakesLine s line next (Ok text) = (next ≡ after s line) × (text ≡ said s line)
+TakesLine s line next (Err why) = Unit {0}
+
+-- what the end adds
+abbrev pub TakesEnd : {F : Type 0} → State → State → Result (List ℕ) F → Type 0
+TakesEnd s next (Ok text) = text ≡ rest s []
+TakesEnd s next (Err why) = Unit {0}

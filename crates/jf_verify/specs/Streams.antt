@@ -2,6 +2,8 @@
 use Rattle.std.specs.Prelude.{◌≡◌, ◌⊎◌, ℕ, ◌-◌, List, [], ◌∷◌, ◌++◌, take, length, Option, Some, option_map}
 use Rattle.jf_io.specs.Lines.{lines, whole_lines}
 use Rattle.jf_io.specs.LinesRead.{AreFirst}
+use Rattle.jf_input.specs.declared.feeding.Feeding.{Feeding}
+use Rattle.jf_input.specs.declared.feeding.Feeding.TheVariants as feeding
 use Rattle.jf_verify.specs.Verdicts.{verdicts}
 use Rattle.jf_verify.specs.Steps.{State, begun, said, after}
 use Rattle.jf_verify.specs.declared.stream.Verified.{Verified}
@@ -79,3 +81,11 @@ pub record Judges (how : Verified) (input : List ℕ) (source' text text' : Opti
 -- the rest of an input was judged into a text, if it is told
 abbrev pub HasVerified : Verified → Option (List ℕ) → Option (List ℕ) → Option (List ℕ) → Option (List ℕ) → Type 0
 HasVerified how source source' text text' = (input : List ℕ) → source ≡ Some input → Judges how input source' text text'
+
+-- how the judging ended, by how the judge was fed: it stops for want of memory alone
+abbrev pub verified_of : {F : Type 0} → Feeding F → Verified
+verified_of feeding.Done = verified.Done
+verified_of feeding.ReadFault = verified.ReadFault
+verified_of feeding.WriteFault = verified.WriteFault
+verified_of feeding.Memory = verified.Memory
+verified_of (feeding.Stopped why) = verified.Memory

@@ -7,6 +7,7 @@ use crate::answers::write_syntax;
 use crate::known::Known;
 use crate::reading::read_line;
 use crate::stage::Stage;
+use jf_input::LineMachine;
 use jf_path::{Bytes, Memory};
 use std::alloc::Global;
 use std::marker::Model;
@@ -110,6 +111,29 @@ impl Judge {
             Stage::Between => Ok(()),
             _ => write_syntax(self.at, out),
         }
+    }
+}
+
+impl LineMachine for Judge {
+    ghost use Rattle.std.specs.Prelude.{⊤};
+    ghost use Rattle.jf_verify.specs.Steps.{TakesLine, TakesEnd};
+
+    type Stop = Memory;
+
+    ghost ready = { λ _. ⊤ };
+
+    ghost takes = { λ s line next r. TakesLine s line next r };
+
+    ghost ends = { λ s next r. TakesEnd s next r };
+
+    fn take_line(&mut self, alloc: Global, line: &[u8], out: &mut Bytes) -> Result<(), Memory> {
+        self.line(alloc, line, out)?;
+        Ok(())
+    }
+
+    fn take_end(&mut self, alloc: Global, out: &mut Bytes) -> Result<(), Memory> {
+        self.end(alloc, out)?;
+        Ok(())
     }
 }
 
