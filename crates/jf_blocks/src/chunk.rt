@@ -1,5 +1,6 @@
 // The lines of a chunk block, each given without the byte that ends it. Its other lines are those of siblings.
 ghost use Rattle.std.specs.Prelude.{◌≡◌, ◌≤◌, length, IfOk, IfSome};
+ghost use Rattle.jf_path.specs.Limits.{max_value};
 ghost use Rattle.jf_text.specs.Words.{words};
 ghost use Rattle.jf_blocks.specs.Reading.{line_read, head_of, chunk_of, keyed_of, entry_of};
 
@@ -49,7 +50,7 @@ fn head_of(entries: &[u8], depth: &[u8], siblings: &[u8]) -> Option<ChunkHead>
 /// The key and the value that a line `entry KEY =VALUE` has. The value has at most 4,096 bytes.
 pub fn entry_line(alloc: Global, line: &[u8]) -> Result<Option<(Key, Bytes)>, Memory>
     ensures entry { IfOk result (λ entry. entry ≡ line_read entry_of line.now) }
-    ensures short { IfOk result (λ entry. IfSome entry (λ e. length e.1 ≤ 4096)) }
+    ensures short { IfOk result (λ entry. IfSome entry (λ e. length e.1 ≤ max_value)) }
 {
     if line.len() > MAX_LINE {
         return Ok(None);
@@ -63,7 +64,7 @@ pub fn entry_line(alloc: Global, line: &[u8]) -> Result<Option<(Key, Bytes)>, Me
 /// A key and a value.
 fn keyed_of(alloc: Global, key: &[u8], value: &[u8]) -> Result<Option<(Key, Bytes)>, Memory>
     ensures entry { IfOk result (λ entry. entry ≡ keyed_of (key.now, value.now)) }
-    ensures short { IfOk result (λ entry. IfSome entry (λ e. length e.1 ≤ 4096)) }
+    ensures short { IfOk result (λ entry. IfSome entry (λ e. length e.1 ≤ max_value)) }
 {
     let Some(key) = hash_of(key) else {
         return Ok(None);
