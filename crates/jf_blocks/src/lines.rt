@@ -1,4 +1,4 @@
-// The lines of a block, each given without the byte that ends it.
+// The lines of a proof block after its first, each given without its line feed (docs/FORMATS.md, Proof blocks).
 ghost use Rattle.std.specs.Prelude.{◌≡◌, IfOk};
 ghost use Rattle.jf_text.specs.Words.{words};
 ghost use Rattle.jf_blocks.specs.Reading.{line_read, named_of, claimed, claim_of, pair_of, leaf_of, side_of};
@@ -9,7 +9,7 @@ use jf_path::{Bytes, Key, Memory};
 use jf_text::{MAX_LINE, hash_of, is_word, name_of, value_of};
 use std::alloc::Global;
 
-/// The name that a line `name NAME` has.
+/// The name of a line `name NAME`. `None` for any other line, and for one of more than 8,500 bytes.
 pub fn name_line(alloc: Global, line: &[u8]) -> Result<Option<Bytes>, Memory>
     ensures { IfOk result (λ name. name ≡ line_read named_of line.now) }
 {
@@ -22,7 +22,7 @@ pub fn name_line(alloc: Global, line: &[u8]) -> Result<Option<Bytes>, Memory>
     }
 }
 
-/// What a line `claim =VALUE` or `claim none` claims.
+/// What a line `claim =VALUE` or `claim none` claims. `None` for any other line, and for one of more than 8,500 bytes.
 pub fn claim_line(alloc: Global, line: &[u8]) -> Result<Option<Option<Bytes>>, Memory>
     ensures { IfOk result (λ claim. claim ≡ line_read claim_of line.now) }
 {
@@ -35,7 +35,7 @@ pub fn claim_line(alloc: Global, line: &[u8]) -> Result<Option<Option<Bytes>>, M
     }
 }
 
-/// A value, or `none`.
+/// A word as a claim: a value, or its absence for `none`.
 fn claimed(alloc: Global, word: &[u8]) -> Result<Option<Option<Bytes>>, Memory>
     ensures { IfOk result (λ claim. claim ≡ claimed word.now) }
 {
@@ -45,7 +45,8 @@ fn claimed(alloc: Global, word: &[u8]) -> Result<Option<Option<Bytes>>, Memory>
     Ok(value_of(alloc, word)?.map(Some))
 }
 
-/// The leaf that a line `leaf KEY HASH` or `leaf none` tells of.
+/// The leaf of a line `leaf KEY HASH`, or its absence for `leaf none`. `None` for any other line, and for one of more
+/// than 8,500 bytes.
 pub fn leaf_line(line: &[u8]) -> Option<Option<(Key, Hash)>>
     ensures { result ≡ line_read leaf_of line.now }
 {
@@ -64,7 +65,7 @@ pub fn leaf_line(line: &[u8]) -> Option<Option<(Key, Hash)>>
     Some(Some(leaf))
 }
 
-/// A key and a hash.
+/// Two words as a key and a hash.
 fn pair_of(key: &[u8], hash: &[u8]) -> Option<(Key, Hash)>
     ensures { result ≡ pair_of (key.now, hash.now) }
 {
@@ -73,7 +74,7 @@ fn pair_of(key: &[u8], hash: &[u8]) -> Option<(Key, Hash)>
     Some((key, hash))
 }
 
-/// The hash that a line `side HASH` has.
+/// The hash of a line `side HASH`. `None` for any other line, and for one of more than 8,500 bytes.
 pub fn side_line(line: &[u8]) -> Option<Hash>
     ensures { result ≡ line_read side_of line.now }
 {
