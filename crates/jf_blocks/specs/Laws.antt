@@ -2,6 +2,7 @@
 use Rattle.std.specs.Prelude.{◌≡◌, ℕ, ◌+◌, ◌^◌, ◌<◌, ◌≤◌, length, List, ◌∷◌, ◌++◌, Option, Some, Ok, IfSome}
 use Rattle.std.specs.List.{AllByRecursion}
 use Rattle.hex.specs.Hex.{IsBytes}
+use Rattle.jf_path.specs.Limits.{max_value}
 use Rattle.jf_evidence.specs.declared.proof.Proof.{Proof}
 use Rattle.jf_evidence.specs.declared.range_proof.RangeProof.{RangeProof}
 use Rattle.jf_evidence.specs.Ranges.{Entries}
@@ -23,7 +24,7 @@ pub record IsTold (name : List ℕ) (claim : Option (List ℕ)) (proof : Proof) 
   pub bytes : IsBytes name
   pub least : 1 ≤ length name
   pub most : length name ≤ max_name
-  pub value : IfSome claim (λ v. IsBytes v × (length v ≤ 4096))
+  pub value : IfSome claim (λ v. IsBytes v × (length v ≤ max_value))
   pub leaf : IfSome proof.leaf (λ l. IsHash l.0 × IsHash l.1)
   pub siblings : AllByRecursion IsHash proof.siblings
 
@@ -42,7 +43,7 @@ RepliesBeginBlocks = (n siblings : ℕ) (rest : List ℕ) → n < 2 ^ 64 → sib
 
 -- what a chunk block can hold: keys of 32 bytes, values of at most 4,096, and siblings of 32
 pub record IsChunk (es : Entries) (proof : RangeProof) : Type 0 where
-  pub entries : AllByRecursion (λ e. IsHash e.0 × IsBytes e.1 × (length e.1 ≤ 4096)) es
+  pub entries : AllByRecursion (λ e. IsHash e.0 × IsBytes e.1 × (length e.1 ≤ max_value)) es
   pub siblings : AllByRecursion IsHash proof.siblings
 
 -- what the first line of a chunk block says

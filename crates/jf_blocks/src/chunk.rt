@@ -1,6 +1,7 @@
 // The first line and the entry lines of a chunk block, each given without its line feed (docs/FORMATS.md, Chunk
 // blocks).
 ghost use Rattle.std.specs.Prelude.{◌≡◌, ◌≤◌, length, IfOk, IfSome};
+ghost use Rattle.jf_path.specs.Limits.{max_value};
 ghost use Rattle.jf_text.specs.Words.{words};
 ghost use Rattle.jf_blocks.specs.Reading.{line_read, head_of, chunk_of, keyed_of, entry_of};
 
@@ -52,7 +53,7 @@ fn head_of(entries: &[u8], depth: &[u8], siblings: &[u8]) -> Option<ChunkHead>
 /// and for one of more than 8,500 bytes.
 pub fn entry_line(alloc: Global, line: &[u8]) -> Result<Option<(Key, Bytes)>, Memory>
     ensures entry { IfOk result (λ entry. entry ≡ line_read entry_of line.now) }
-    ensures short { IfOk result (λ entry. IfSome entry (λ e. length e.1 ≤ 4096)) }
+    ensures short { IfOk result (λ entry. IfSome entry (λ e. length e.1 ≤ max_value)) }
 {
     if line.len() > MAX_LINE {
         return Ok(None);
@@ -66,7 +67,7 @@ pub fn entry_line(alloc: Global, line: &[u8]) -> Result<Option<(Key, Bytes)>, Me
 /// Two words as a key and a value.
 fn keyed_of(alloc: Global, key: &[u8], value: &[u8]) -> Result<Option<(Key, Bytes)>, Memory>
     ensures entry { IfOk result (λ entry. entry ≡ keyed_of (key.now, value.now)) }
-    ensures short { IfOk result (λ entry. IfSome entry (λ e. length e.1 ≤ 4096)) }
+    ensures short { IfOk result (λ entry. IfSome entry (λ e. length e.1 ≤ max_value)) }
 {
     let Some(key) = hash_of(key) else {
         return Ok(None);

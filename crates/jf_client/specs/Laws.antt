@@ -2,6 +2,7 @@
 use Rattle.std.specs.Prelude.{◌≡◌, ℕ, ◌^◌, ◌<◌, ◌≤◌, false, length, List, ◌++◌, Option, Some, IfSome, codes}
 use Rattle.std.specs.FinMap.{get}
 use Rattle.hex.specs.Hex.{IsBytes}
+use Rattle.jf_path.specs.Limits.{max_value}
 use Rattle.jf_hash.specs.Hashes.{K}
 use Rattle.jf_model.specs.Versions.{IsVersions}
 use Rattle.jf_model.specs.States.{State}
@@ -28,7 +29,7 @@ pub record Fits (name : List ℕ) (value : Option (List ℕ)) : Type 0 where
   pub bytes : IsBytes name
   pub least : 1 ≤ length name
   pub most : length name ≤ max_name
-  pub small : IfSome value (λ v. length v ≤ 4096)
+  pub small : IfSome value (λ v. length v ≤ max_value)
 
 -- two lines ask for the root of a version and for the proof of a name in it
 pub record Asks (root_line prove_line : List ℕ) (on : Base) (name : List ℕ) : Type 0 where

@@ -1,6 +1,7 @@
 -- Each command of the grammar keeps the limits on values and chunks.
 use Rattle.std.specs.Prelude.{◌≡◌, ℕ, ◌≤◌, Bool, true, false, cond, ◌&&◌, nat_le, if◌then◌else◌, ◌==◌, List, [], ◌∷◌, length, Option, Some, None, option_map, option_and_then, codes}
 use Rattle.std.proofs.Common.{refl, subst, arith}
+use Rattle.jf_path.specs.Limits.{max_value}
 use Rattle.jf_text.specs.Words.{max_chunk, words, is_word, both, unhex, name_of, value_of, bytes_within}
 use Rattle.jf_script.specs.Commands.{command_of, command_of_words, one_word, two_words, three_words, four_words, base_of, parent_of, id_of, stored_of}
 use Rattle.jf_text.specs.Words.{number, number_upto, number_from}
@@ -10,7 +11,7 @@ use Rattle.jf_script.specs.declared.command.Command.TheVariants as command
 
 -- a command's limits: `put` has a value of at most 4,096 bytes, and `chunk` asks for 1 to 1,000 entries
 abbrev pub IsBounded : Command → Type 0
-IsBounded (command.Put name value) = length value ≤ 4096
+IsBounded (command.Put name value) = length value ≤ max_value
 IsBounded (command.Chunk on start count) = (1 ≤ count) × (count ≤ max_chunk)
 IsBounded c = Unit {0}
 
@@ -22,25 +23,25 @@ Fine (Some c) = IsBounded c
 -- a value, if there is one, has at most 4,096 bytes
 abbrev Short : Option (List ℕ) → Type 0
 Short None = Unit {0}
-Short (Some value) = length value ≤ 4096
+Short (Some value) = length value ≤ max_value
 
 both_so : (a b : Bool) (m n : ℕ) → (a && nat_le m n) ≡ true → m ≤ n
 both_so a b m n e = grind (arith)
 
-short_within : (o : Option (List ℕ)) → Short (option_and_then (λ bytes. if nat_le 0 (length bytes) && nat_le (length bytes) 4096 then Some bytes else None) o)
+short_within : (o : Option (List ℕ)) → Short (option_and_then (λ bytes. if nat_le 0 (length bytes) && nat_le (length bytes) max_value then Some bytes else None) o)
 short_within None = tt
 short_within (Some bytes) =
-    elim (nat_le 0 (length bytes) && nat_le (length bytes) 4096) as (λ b. (nat_le 0 (length bytes) && nat_le (length bytes) 4096) ≡ b → Short (cond b (Some bytes) None)) [
-      | true ↦ λ e. both_so (nat_le 0 (length bytes)) true (length bytes) 4096 e
+    elim (nat_le 0 (length bytes) && nat_le (length bytes) max_value) as (λ b. (nat_le 0 (length bytes) && nat_le (length bytes) max_value) ≡ b → Short (cond b (Some bytes) None)) [
+      | true ↦ λ e. both_so (nat_le 0 (length bytes)) true (length bytes) max_value e
       | false ↦ λ e. tt
     ] refl
 
 short_value : (w : List ℕ) → Short (value_of w)
 short_value [] = tt
-short_value (sign ∷ digits) = elim (sign == 61) as (λ b. Short (cond b (bytes_within 0 4096 digits) None)) [ true ↦ short_within (unhex digits) | false ↦ tt ]
+short_value (sign ∷ digits) = elim (sign == 61) as (λ b. Short (cond b (bytes_within 0 max_value digits) None)) [ true ↦ short_within (unhex digits) | false ↦ tt ]
 
 -- a value that is read has at most 4,096 bytes
-pub value_of-short : (w value : List ℕ) → value_of w ≡ Some value → length value ≤ 4096
+pub value_of-short : (w value : List ℕ) → value_of w ≡ Some value → length value ≤ max_value
 value_of-short w value e = subst Short e (short_value w)
 
 put_fine : (n v : Option (List ℕ)) → Short v → Fine (both (λ name value. command.Put name value) n v)

@@ -1,6 +1,7 @@
 // A session over a store of its own.
 ghost use Rattle.std.specs.Prelude.{◌≡◌, ◌⊎◌, ◌↔◌, ℕ, ◌+◌, ◌-◌, ◌<◌, ◌≤◌, ◌^◌, length, [], ◌∷◌, ◌++◌, Some, Err, IfOk, IfErr, OnOk, OnErr, IsErr, true, false};
 ghost use Rattle.std.specs.Option.{ForSome};
+ghost use Rattle.jf_path.specs.Limits.{max_value};
 ghost use Rattle.jf_disk.specs.Disk.{reads};
 ghost use Rattle.jf_disk.specs.declared.side.Side.{Side};
 ghost use Rattle.jf_model.specs.Versions.{IsVersions};
@@ -232,7 +233,7 @@ impl<D: Disk> Session<D> {
     // Sets the key of a name in what is pending.
     fn put(&mut self, alloc: Global, name: &[u8], value: &[u8]) -> Result<Reply, Stop>
         requires over { self.old.over ≡ false }
-        requires value { length value.now ≤ 4096 }
+        requires value { length value.now ≤ max_value }
         ensures ok { OnOk result (Does self.old self.new (put_answer self.old name.now value.now)) }
         ensures reply { IfOk result (λ r. r ≡ (put_answer self.old name.now value.now).reply) }
         ensures same { self.new.over ≡ false }

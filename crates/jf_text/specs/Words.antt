@@ -2,6 +2,7 @@
 use Rattle.std.specs.Prelude.{◌≡◌, ℕ, ◌+◌, ◌-◌, ◌*◌, ◌^◌, Bool, if◌then◌else◌, ◌==◌, ◌&&◌, nat_le, nat_lt, List, [], ◌∷◌, ◌++◌, length, take, Option, Some, None, option_and_then, decimal, bytes_eq, fold}
 use Rattle.std.specs.List.{slice_split, join_with_byte}
 use Rattle.hex.specs.Hex.{encode_lower}
+use Rattle.jf_path.specs.Limits.{max_value}
 
 -- ---- limits
 
@@ -99,7 +100,7 @@ hash_of w = bytes_within 32 32 w
 -- a value: the sign `=`, then at most 4,096 bytes
 abbrev pub value_of : List ℕ → Option (List ℕ)
 value_of [] = None
-value_of (sign ∷ digits) = if sign == 61 then bytes_within 0 4096 digits else None
+value_of (sign ∷ digits) = if sign == 61 then bytes_within 0 max_value digits else None
 
 -- the word that writes a value: `=` and its hexadecimal digits
 abbrev pub value_word : List ℕ → List ℕ
