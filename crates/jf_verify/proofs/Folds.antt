@@ -1,4 +1,4 @@
--- What lines are answered one after another, and those after them.
+-- The text that answers some lines, and then the lines after them.
 use Rattle.std.proofs.Common.{◌≡◌, ℕ, ◌-◌, List, [], ◌∷◌, ◌++◌, take, drop, length, refl, sym, ap, ◌∙◌, arith, append-nil, append_assoc, length-append, take_at, take-append-drop}
 use Rattle.jf_io.specs.Lines.{lines}
 use Rattle.jf_verify.specs.Verdicts.{verdicts}
@@ -25,7 +25,7 @@ pub said_all-more : (s : State) (ls : List (List ℕ)) (line : List ℕ) → sai
 unfolding said_all
 said_all-more s ls line = said_all-append s ls (line ∷ []) ∙ ap (λ t. said_all s ls ++ t) (append-nil (said (after_all s ls) line))
 
--- all that is still to be said is what these lines are answered and what is to be said after them
+-- the text for two lists of lines, one after the other, is the text for the first and then the text for the second
 pub rest-append : (s : State) (ls ms : List (List ℕ)) → rest s (ls ++ ms) ≡ said_all s ls ++ rest (after_all s ls) ms
 unfolding rest said_all after_all
 rest-append s [] ms = refl
@@ -44,7 +44,7 @@ verdicts-append input ls ms is = verdicts-rest input ∙ ap (rest begun) is ∙ 
 all_but_last : (ls : List (List ℕ)) (l : List ℕ) → take (length (ls ++ l ∷ []) - 1) (ls ++ l ∷ []) ≡ ls
 all_but_last ls l = take_at ls (l ∷ []) (length (ls ++ l ∷ []) - 1) (omega (arith, length-append ls (l ∷ [])))
 
--- after a line
+-- a text may stop after a line
 pub stops_after : (ls : List (List ℕ)) → StopsAtLine ls (answers_of ls)
 stops_after ls =
     let n = length ls - 1 in
@@ -55,7 +55,7 @@ stops_after ls =
       enough = ap (said_all begun) (sym (take-append-drop n ls)) ∙ said_all-append begun (take n ls) (drop n ls);
     }
 
--- in a line
+-- a text may stop in the answer to a line
 pub stops_in : (ls : List (List ℕ)) (line front missing : List ℕ) → front ++ missing ≡ said (after_all begun ls) line → StopsAtLine (ls ++ line ∷ []) (answers_of ls ++ front)
 stops_in ls line front missing whole = record {
   missing = missing;

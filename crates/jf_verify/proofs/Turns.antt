@@ -1,4 +1,4 @@
--- One line, and those that come behind it.
+-- One line, and those after it.
 use Rattle.std.proofs.Common.{◌≡◌, ℕ, ◌+◌, true, List, ◌∷◌, ◌++◌, refl, ap, ◌∙◌}
 use Rattle.std.proofs.lemmas.List.{append_assoc}
 use Rattle.jf_text.specs.Words.{is_long}
@@ -10,13 +10,13 @@ use Rattle.jf_verify.specs.Verdicts.{Judging}
 use Rattle.jf_verify.specs.Steps.{State, Step, said, after, line_step, rest}
 use Rattle.jf_verify.specs.Laws.{LongLinesAreAlike}
 
--- what is written and what is still to be said are together the same behind a line
+-- the text written and the text still to come are together the same before a line and after it
 pub rest-in_turn : (before written : List ℕ) (s next : State) (line : List ℕ) (ls : List (List ℕ)) → written ≡ before ++ said s line → next ≡ after s line
     → written ++ rest next ls ≡ before ++ rest s (line ∷ ls)
 unfolding rest
 rest-in_turn before written s next line ls e is = rw (e, is) (append_assoc before (said s line) (rest (after s line) ls))
 
--- a long line is like any other
+-- all long lines make the same step
 pub long-alike : (at : ℕ) (j : Judging) (s : Stage) (line other : List ℕ) → is_long line ≡ true → is_long other ≡ true → line_step at j s line ≡ line_step at j s other
 unfolding line_step
 long-alike at j stage.Between line other e h = rw (e, h) refl

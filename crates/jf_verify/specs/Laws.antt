@@ -13,15 +13,15 @@ use Rattle.jf_verify.specs.Steps.{State, begun, said, after, rest}
 abbrev pub VerdictsComeLineByLine : Type 0
 VerdictsComeLineByLine = (input : List ℕ) → verdicts input ≡ rest begun (lines input)
 
--- a line is answered before those that come behind it
+-- a line is answered before those after it
 abbrev pub LinesAreAnsweredInTurn : Type 0
 LinesAreAnsweredInTurn = (s : State) (line : List ℕ) (ls : List (List ℕ)) → rest s (line ∷ ls) ≡ said s line ++ rest (after s line) ls
 
--- of a long line it only counts that it is long
+-- all long lines are answered alike
 abbrev pub LongLinesAreAlike : Type 0
 LongLinesAreAlike = (s : State) (line other : List ℕ) (ls : List (List ℕ)) → IsTrue (is_long line) → IsTrue (is_long other) → rest s (line ∷ ls) ≡ rest s (other ∷ ls)
 
--- what is said of two accepted claims that contradict is two different lists with one SHA-256
+-- the text for two accepted claims that contradict gives two different lists of bytes with one SHA-256
 abbrev pub ContradictionsAreCollisions : Type 0
 ContradictionsAreCollisions = (a b : Accepted) → IsLeaf a.judged.proof.leaf → IsLeaf b.judged.proof.leaf → IsAccepted a → IsAccepted b → IsTrue (contradicts a b)
     → (x : List ℕ) × (y : List ℕ) × (contradiction_text a (Some b) ≡ collision_text (Some (x, y))) × IsCollision x y

@@ -9,7 +9,7 @@ use Rattle.jf_verify.specs.Steps.{State, begun, said, after}
 use Rattle.jf_verify.specs.declared.stream.Verified.{Verified}
 use Rattle.jf_verify.specs.declared.stream.Verified.TheVariants as verified
 
--- a front of these bytes was appended to a text, if it is told
+-- a front of these bytes was appended to a text, if that is known
 pub record GetsFront (old new : Option (List ℕ)) (bytes : List ℕ) : Type 0 where
   pub front : List ℕ
   pub missing : List ℕ
@@ -28,13 +28,13 @@ unfoldable pub said_all : State → List (List ℕ) → List ℕ
 said_all s [] = []
 said_all s (line ∷ ls) = said s line ++ said_all (after s line) ls
 
--- the same of the first lines of an input
+-- the text that answers the first lines of an input
 abbrev pub answers_of : List (List ℕ) → List ℕ
 answers_of ls = said_all begun ls
 
 -- ---- a text that stops on its way
 
--- a front of one text that has all of another
+-- a front of the text `most`, with all of the text `least`
 pub record IsFrontFrom (least most text : List ℕ) : Type 0 where
   pub missing : List ℕ
   pub front : most ≡ text ++ missing
@@ -45,26 +45,28 @@ pub record IsFrontFrom (least most text : List ℕ) : Type 0 where
 abbrev pub StopsAtLine : List (List ℕ) → List ℕ → Type 0
 StopsAtLine done text = IsFrontFrom (answers_of (take (length done - 1) done)) (answers_of done) text
 
--- all lines are answered, and of what the end of the input is answered a front is there
+-- all lines are answered, and of the text that answers the end of the input a front is there
 pub record StopsAtEnd (input left : List ℕ) (done : List (List ℕ)) (text : List ℕ) : Type 0 where
   pub over : left ≡ []
   pub all : done ≡ lines input
   pub text_is : IsFrontFrom (answers_of done) (verdicts input) text
 
+-- the text stops in the answer to a line, or in that to the end of the input
 abbrev pub Stops : List ℕ → List ℕ → List (List ℕ) → List ℕ → Type 0
 Stops input left done text = StopsAtLine done text ⊎ StopsAtEnd input left done text
 
 -- ---- how far an input was read, and what was written
 
--- by how it ended: all; exactly what the whole lines taken are answered; or a front of what the lines done are answered
+-- what was written, by how the judging ended: all verdicts; exactly the answers to the whole lines taken; or a front that
+-- stops in the answer to the last line done, or in that to the end of the input
 abbrev pub JudgedBy : Verified → List ℕ → List ℕ → List ℕ → List (List ℕ) → List ℕ → Type 0
 JudgedBy verified.Done input taken left done text = (left ≡ []) × (done ≡ lines input) × (text ≡ verdicts input)
 JudgedBy verified.ReadFault input taken left done text = (length done ≡ whole_lines taken) × (text ≡ answers_of done)
 JudgedBy verified.WriteFault input taken left done text = Stops input left done text
 JudgedBy verified.Memory input taken left done text = Stops input left done text
 
--- this was taken of an input and this is left, these lines are done, the first of those read, and this text was written:
--- in any case a front of all verdicts
+-- an input was judged as far as `how` says: all but `left` was taken, the lines done are the first of those read, and the
+-- text written is in any case a front of all verdicts
 pub record Judges (how : Verified) (input : List ℕ) (source' text text' : Option (List ℕ)) : Type 0 where
   pub taken : List ℕ
   pub left : List ℕ
@@ -78,7 +80,7 @@ pub record Judges (how : Verified) (input : List ℕ) (source' text text' : Opti
   pub missing : List ℕ
   pub front : written ++ missing ≡ verdicts input
 
--- the rest of an input was judged into a text, if it is told
+-- if the rest of an input is known, it was judged, and verdicts were appended to the text
 abbrev pub HasVerified : Verified → Option (List ℕ) → Option (List ℕ) → Option (List ℕ) → Option (List ℕ) → Type 0
 HasVerified how source source' text text' = (input : List ℕ) → source ≡ Some input → Judges how input source' text text'
 

@@ -6,18 +6,18 @@ pub fn verdicts_come_line_by_line()
     ensures { VerdictsComeLineByLine }
 {}
 
-/// A line is answered before those that come behind it.
+/// A line is answered before those after it.
 #[tactic(auto, unfolding(crate::specs::Steps::rest))]
 pub fn lines_are_answered_in_turn()
     ensures { LinesAreAnsweredInTurn }
 {}
 
-/// Of a long line it only counts that it is long, so its first 8,501 bytes stand for it.
+/// All lines of more than 8,500 bytes are answered alike, so the first 8,501 bytes of one stand for it.
 pub fn long_lines_are_alike()
     ensures { LongLinesAreAlike }
 {}
 
-/// What is said of two accepted claims that contradict is two different lists with one SHA-256.
+/// The text for two accepted claims that contradict gives two different lists of bytes with one SHA-256.
 pub fn contradictions_are_collisions()
     ensures { ContradictionsAreCollisions }
 {}
