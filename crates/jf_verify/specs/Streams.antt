@@ -1,11 +1,11 @@
 -- How far an input from a source was judged into a sink.
-use Rattle.std.specs.Prelude.{◌≡◌, ◌⊎◌, ℕ, ◌-◌, List, [], ◌∷◌, ◌++◌, take, length, Option, Some, option_map}
+use Rattle.std.specs.Prelude.{◌≡◌, ℕ, List, ◌++◌, Option, option_map, [], ◌∷◌, ◌-◌, take, length, ◌⊎◌, Some}
 use Rattle.jf_io.specs.Lines.{lines, whole_lines}
 use Rattle.jf_io.specs.LinesRead.{AreFirst}
 use Rattle.jf_input.specs.declared.feeding.Feeding.{Feeding}
 use Rattle.jf_input.specs.declared.feeding.Feeding.TheVariants as feeding
+use Rattle.jf_verify.specs.Steps.{StreamState, after_line, said, begun}
 use Rattle.jf_verify.specs.Verdicts.{verdicts}
-use Rattle.jf_verify.specs.Steps.{State, begun, said, after}
 use Rattle.jf_verify.specs.declared.stream.Verified.{Verified}
 use Rattle.jf_verify.specs.declared.stream.Verified.TheVariants as verified
 
@@ -17,23 +17,21 @@ pub record GetsFront (old new : Option (List ℕ)) (bytes : List ℕ) : Type 0 w
   pub appended : new ≡ option_map (λ t. t ++ front) old
 
 -- ---- what lines are answered, one after another
-
 -- what is known after these lines
-unfoldable pub after_all : State → List (List ℕ) → State
-after_all s [] = s
-after_all s (line ∷ ls) = after_all (after s line) ls
+unfoldable pub after_lines : StreamState → List (List ℕ) → StreamState
+after_lines s [] = s
+after_lines s (line ∷ ls) = after_lines (after_line s line) ls
 
 -- the text that answers these lines, with nothing for the end of an input
-unfoldable pub said_all : State → List (List ℕ) → List ℕ
+unfoldable pub said_all : StreamState → List (List ℕ) → List ℕ
 said_all s [] = []
-said_all s (line ∷ ls) = said s line ++ said_all (after s line) ls
+said_all s (line ∷ ls) = said s line ++ said_all (after_line s line) ls
 
 -- the text that answers the first lines of an input
 abbrev pub answers_of : List (List ℕ) → List ℕ
 answers_of ls = said_all begun ls
 
 -- ---- a text that stops on its way
-
 -- a front of the text `most`, with all of the text `least`
 pub record IsFrontFrom (least most text : List ℕ) : Type 0 where
   pub missing : List ℕ
@@ -56,7 +54,6 @@ abbrev pub Stops : List ℕ → List ℕ → List (List ℕ) → List ℕ → Ty
 Stops input left done text = StopsAtLine done text ⊎ StopsAtEnd input left done text
 
 -- ---- how far an input was read, and what was written
-
 -- what was written, by how the judging ended: all verdicts; exactly the answers to the whole lines taken; or a front that
 -- stops in the answer to the last line done, or in that to the end of the input
 abbrev pub JudgedBy : Verified → List ℕ → List ℕ → List ℕ → List (List ℕ) → List ℕ → Type 0
