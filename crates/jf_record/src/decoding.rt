@@ -3,9 +3,9 @@ ghost use Rattle.std.specs.Prelude.{◌≡◌, ◌⊎◌, Ok, Err, IfOk};
 ghost use Rattle.jf_record.specs.Spelling.{IsBatchSpelling};
 ghost use Rattle.jf_record.specs.Reading.{GivesDecoded, batch_record_in};
 
+use crate::commit::landing_of;
 use crate::fault::CommitFault;
 use crate::kinds::{LANDING, Record};
-use crate::landing::landing_of;
 use std::alloc::Global;
 
 // The record that is read from a payload of this kind.

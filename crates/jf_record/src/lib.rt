@@ -1,12 +1,12 @@
 //! The records of a journal, as payloads of a gated file. Each record has one spelling, and reading accepts no other.
 #![tactic(auto)]
 
+mod commit;
 mod decoding;
 mod encoding;
 mod fault;
 mod fields;
 mod kinds;
-mod landing;
 mod laws;
 
 pub use decoding::decode;

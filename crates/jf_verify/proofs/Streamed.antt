@@ -22,7 +22,7 @@ took_after F s next (line ∷ ls) text w =
       w.5 ∙ ap (λ t. t ++ w.2) w.3.1 ∙ ap (λ t. said s line ++ t) (more.1 ∙ ap (λ (m : StreamState). said_all m ls) w.3.0),
     )
 
--- a fault of the sink, or want of memory
+-- a fault of the sink, or out of memory
 abbrev IsStop : Verified → Type 0
 IsStop e = (e ≡ verified.WriteFault) ⊎ (e ≡ verified.Memory)
 
@@ -68,7 +68,7 @@ module _ (F : Type 0) (source source' text text' : Option (List ℕ)) (done : Li
   all_said reads input is =
       ap (λ (s : StreamState). answers_of done ++ said_to_end s []) mid_is ∙ sym (verdicts-append input done [] ((reads input is).1 ∙ sym (append-nil done)))
 
-  -- behind the last line
+  -- after the last line
   judged_end : (front missing : List ℕ) → front ++ missing ≡ said_to_end mid [] → Appends so_far text' front → ReadsAll source source' done → (e : Verified) → IsStop e → HasVerified e source source' text text'
   judged_end front missing whole more reads e stop input is =
       let r = reads input is in

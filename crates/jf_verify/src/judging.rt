@@ -93,7 +93,7 @@ impl Judge {
             mut known,
             stage,
         } = self;
-        let next = number_behind(at)?;
+        let next = number_after(at)?;
         let stage = read_line(alloc, &mut known, at, stage, line, out)?;
         Ok(Judge {
             at: next,
@@ -137,8 +137,8 @@ impl LineMachine for Judge {
     }
 }
 
-/// The number of the line behind line `at`.
-fn number_behind(at: u64) -> Result<u64, Memory>
+/// The number of the line after line `at`.
+fn number_after(at: u64) -> Result<u64, Memory>
     ensures { IfOk result (λ n. n ≡ at + 1) }
 {
     at.checked_add(1).ok_or(Memory)

@@ -1,4 +1,4 @@
-// An input from a source, judged into a sink.
+// The mode `verify` over devices: proof blocks from a source, and a line of verdict for each into a sink.
 ghost use Rattle.std.specs.Prelude.{◌≡◌, ℕ, ◌-◌, ◌<◌, ◌≤◌, ◌^◌, List, [], ◌++◌, Some, option_map};
 ghost use Rattle.jf_path.specs.Faults.{HasCause};
 ghost use Rattle.jf_verify.specs.Verdicts.{verdicts};
@@ -19,15 +19,16 @@ pub enum Verified {
     ReadFault,
     /// The sink failed.
     WriteFault,
-    /// Memory is wanting.
+    /// Out of memory.
     Memory,
 }
 
-/// Judges the lines of a source, and puts what each is answered into a sink before the next is looked at. Input is taken
-/// in large pieces, and nothing of it is kept but a line, a block that is begun and the accepted claims.
+/// Judges the proof blocks of a source (docs/FORMATS.md), and writes the verdict on each line into a sink before it looks
+/// at the next line. It takes input in pieces of 65,536 bytes, and keeps of it a line, the block that is begun, and the
+/// accepted claims.
 ///
-/// After a `ReadFault` the text has exactly what the whole lines taken are answered: a line that the fault cuts is not
-/// judged. After a `WriteFault`, or for want of memory, it has what the lines done are answered, the last maybe in part.
+/// After a `ReadFault` the text has exactly the verdicts on the whole lines taken; a line that the fault cuts is not judged.
+/// After a `WriteFault`, or out of memory, it has the verdicts on the lines done, the last perhaps in part.
 pub fn verify_stream<S: Source, K: Sink>(alloc: Global, source: &mut S, sink: &mut K) -> Verified
     ensures judged { HasVerified result (S.rest source.old) (S.rest source.new) (K.text sink.old) (K.text sink.new) }
     ensures done { (input : List ℕ) → S.rest source.old ≡ Some input → result ≡ Verified.Done → (S.rest source.new ≡ Some []) × (K.text sink.new ≡ option_map (λ t. t ++ verdicts input) (K.text sink.old)) }

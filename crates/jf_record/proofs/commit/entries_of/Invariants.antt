@@ -1,6 +1,6 @@
 use Rattle.std.proofs.Common.{◌≡◌, ◌-◌, ◌≤◌, [], length}
 use Rattle.jf_record.specs.Reading.{entries_at}
-use Rattle.jf_record.proofs.landing.entries_of.Given as goal
+use Rattle.jf_record.proofs.commit.entries_of.Given as goal
 
 abbrev pub invariant-loop : goal.invariant-loop
 invariant-loop l = record {

@@ -1,7 +1,7 @@
 use Rattle.std.proofs.Common.{sym, ap, ◌∙◌, ◌-◌, length, is_lt}
 use Rattle.std.specs.Prelude.{slice_get}
 use Rattle.jf_record.proofs.Above.{is_above-last}
-use Rattle.jf_record.proofs.landing.is_above.Goals as goal
+use Rattle.jf_record.proofs.commit.is_above.Goals as goal
 
 pub returns : goal.returns
 returns c =

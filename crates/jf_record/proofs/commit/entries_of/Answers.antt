@@ -3,7 +3,7 @@ use Rattle.std.proofs.lemmas.Result.{err_from_is_err_and}
 use Rattle.jf_record.specs.Reading.{entries_at}
 use Rattle.jf_record.specs.Views.{entry_view}
 use Rattle.jf_record.proofs.Loop.{goes_on, ends, ends_at_key, is_done}
-use Rattle.jf_record.proofs.landing.entries_of.Goals as goal
+use Rattle.jf_record.proofs.commit.entries_of.Goals as goal
 
 pub returns-in_err-entry : goal.returns-in_err-entry
 returns-in_err-entry c =

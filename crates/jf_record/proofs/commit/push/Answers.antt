@@ -1,6 +1,6 @@
 use Rattle.std.proofs.Common.{T, sym, subst, ◌∙◌}
 use Rattle.jf_record.proofs.Above.{put-above}
-use Rattle.jf_record.proofs.landing.push.Goals as goal
+use Rattle.jf_record.proofs.commit.push.Goals as goal
 
 pub returns-in-Ok-clause-ok : goal.returns-in-Ok-clause-ok
 returns-in-Ok-clause-ok c =
