@@ -12,7 +12,7 @@ use Rattle.jf_path.specs.declared.children.Child.{Child}
 use Rattle.jf_codec.specs.Spelling.{bitmap, leaves}
 use Rattle.jf_codec.specs.Reading.{has}
 
--- a child stands at nibble k
+-- one of the children stands at nibble k
 abbrev pub holds : List Child → ℕ → Bool
 holds [] k = false
 holds (c ∷ cs) k = (c.nibble == k) || holds cs k
@@ -26,7 +26,7 @@ split i n le = ap (λ k. 2 ^ k) (let e : n ≡ (n - i) + i = omega arith in e) �
 again_times : (m p q r : ℕ) → p ≡ q * r → m * p ≡ (m * q) * r
 again_times m p q r e = grind (arith, e)
 
--- what rises from i has no bit below i
+-- children that rise from nibble i have no bit below i
 pub multiple : (i : ℕ) (cs : List Child) → RiseFrom i cs → (m : ℕ) × (bitmap cs ≡ m * 2 ^ i)
 multiple i [] r = (0, omega arith)
 multiple i (c ∷ cs) r =
@@ -150,7 +150,7 @@ or_true : (a : Bool) → (a || true) ≡ true
 or_true true = refl
 or_true false = refl
 
--- a leaf is a child
+-- a leaf is one of the children
 pub leaf_holds : (cs : List Child) (k : ℕ) → holds (leaves cs) k ≡ true → holds cs k ≡ true
 leaf_holds [] k h = h
 leaf_holds (c ∷ cs) k h =
@@ -178,11 +178,11 @@ bit_from_has x y k e =
       ]
     ]
 
--- children at just the bits of a bitmap
+-- a bitmap equals bits that name just the same children
 pub bitmap_of_bits : (cs : List Child) (bits : ℕ) → RiseFrom 0 cs → AllByRecursion (λ c. c.nibble < 16) cs → bits < 2 ^ 16 → ((k : ℕ) → k < 16 → holds cs k ≡ has bits k) → bitmap cs ≡ bits
 bitmap_of_bits cs bits r all lt same = same_from_bits_below 16 (bitmap cs) bits (bitmap-small cs r all) lt (λ k below. bit_from_has (bitmap cs) bits k (has-holds 0 cs k r ∙ same k below))
 
--- bits that both have, where the second has none alone
+-- if y has no bit that x lacks, the lesser of their bits at a place is that of y
 least_bit : (x y k : ℕ) → (has y k ≡ true → has x k ≡ true) → min (bit_at x k) (bit_at y k) ≡ bit_at y k
 unfolding has
 least_bit x y k within =
@@ -230,7 +230,7 @@ count_of_one : count_ones 1 ≡ 1
 unfolding ones
 count_of_one = refl
 
--- one child has one bit, and two have more
+-- the bitmap of one child is a power of two, and that of more children isn't
 pub one_is_power : (n : ℕ) → is_power_of_two (2 ^ n + 0) ≡ true
 one_is_power n = ap (λ x. count_ones x == 1) (odd_times 0 0 n (omega arith) ∙ (let e : (0 * 2 + 1) * 2 ^ n ≡ 1 * 2 ^ n = refl in e)) ∙ ap (λ c. c == 1) (ones_times n 1 ∙ count_of_one)
 

@@ -1,4 +1,4 @@
--- Children that are read are those that were written, and what was written is read again.
+-- Reading children gives the children that were written, and only them.
 use Rattle.std.proofs.Common.{◌≡◌, ℕ, zero, suc, ◌+◌, ◌^◌, ◌<◌, ◌≤◌, ◌↔◌, ◌⊎◌, inl, inr, Bool, true, false, not, cond, ◌&&◌, ◌||◌, ◌==◌, IsTrue, List, [], ◌∷◌, ◌++◌, Result, Ok, Err, refl, sym, ap, ap₂, subst, ◌∙◌, append_assoc, arith, eq-eqb}
 use Rattle.std.specs.Bool.{beq}
 use Rattle.std.specs.List.{AllByRecursion, flat_map}
@@ -97,7 +97,7 @@ child_again fmt c rest is =
 
 -- ---- all children
 
--- children that stand at just the bits, from nibble i on
+-- children that stand at just the nibbles that the bitmaps name, from nibble i on
 pub record AreAt (fmt : Format) (exist leaf n i : ℕ) (cs : List Child) : Type 0 where
   pub sound : AllByRecursion (IsChild fmt) cs
   pub rise : RiseFrom i cs
@@ -169,7 +169,7 @@ children_take fmt exist leaf (suc n) i bytes x within fits e =
       | false ↦ λ none g. let r = children_take fmt exist leaf n (i + 1) bytes x (omega arith) fits g in (r.0, none_at fmt exist leaf n i x.0 none r.1)
     ] refl e
 
--- the bits from nibble i on are those of the children
+-- children that were written are read again
 pub children_again : (fmt : Format) (exist leaf n i : ℕ) (cs : List Child) (rest : List ℕ) → AllByRecursion (IsChild fmt) cs → RiseFrom i cs → i + n ≡ 16
     → ((k : ℕ) → i ≤ k → has exist k ≡ holds cs k) → ((k : ℕ) → i ≤ k → has leaf k ≡ holds (leaves cs) k) → children_at fmt exist leaf n i (flat_map (child_bytes fmt) cs ++ rest) ≡ Ok (cs, rest)
 unfolding children_at

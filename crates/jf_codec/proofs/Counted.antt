@@ -1,4 +1,4 @@
--- What a format keeps of a node that has a spelling in it is the node; and its children stand at nibbles.
+-- A node that can be spelled in a format is all that the format keeps of it, and its children stand at nibbles.
 use Rattle.std.proofs.Common.{◌≡◌, ℕ, ◌<◌, List, [], ◌∷◌, map, refl, sym, ap, ap₂, subst}
 use Rattle.std.specs.List.{AllByRecursion}
 use Rattle.jf_path.specs.declared.children.Child.{Child}

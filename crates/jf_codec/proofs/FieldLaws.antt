@@ -1,4 +1,4 @@
--- A field that is read is the field that was written, and what was written is read again.
+-- Reading a field gives the field that was written, and only that.
 use Rattle.std.proofs.Common.{◌≡◌, ℕ, zero, suc, ◌+◌, ◌^◌, ◌<◌, ◌≤◌, Bool, true, false, cond, ltb, List, [], ◌∷◌, ◌++◌, length, get_or, take, drop, Result, Ok, Err, refl, sym, ap, subst, ◌∙◌, append_assoc, arith, inl, inr}
 use Rattle.std.specs.Int.{Width, w16, w32, w64, byte_len, from_be_bytes, to_be_bytes}
 use Rattle.std.proofs.lemmas.Bool.{cases_lt, ltb-false, le-ltb}
@@ -10,7 +10,7 @@ use Rattle.jf_codec.specs.declared.fault.CodecFault.{CodecFault}
 use Rattle.jf_codec.specs.declared.fault.CodecFault.TheVariants as fault
 use Rattle.jf_codec.specs.Reading.{◌>>=◌, bytes_at, number_at, two_at, four_at, eight_at}
 
--- each number is a byte, place by place
+-- each number is a byte: it is below 256
 abbrev pub AreBytes : List ℕ → Type 0
 AreBytes bytes = (i : ℕ) → get_or bytes i 0 < 256
 
@@ -36,12 +36,12 @@ AreBytes-at_places [] h i = omega arith
 AreBytes-at_places (b ∷ bytes) h zero = h.0
 AreBytes-at_places (b ∷ bytes) h (suc i) = AreBytes-at_places bytes h.1 i
 
--- the value of a step that read something
+-- if two steps read something, the first one did
 pub bind_ok : {A B : Type 0} (r : Result A CodecFault) (f : A → Result B CodecFault) (y : B) → (r >>= f) ≡ Ok y → (x : A) × (r ≡ Ok x) × (f x ≡ Ok y)
 bind_ok (Ok x) f y e = (x, refl, e)
 bind_ok (Err d) f y e = absurd cc
 
--- a test that let it go on
+-- a check that let reading go on was false
 pub guard_ok : {A : Type 0} (b : Bool) (d : CodecFault) (r : Result A CodecFault) (y : A) → cond b (Err d) r ≡ Ok y → (b ≡ false) × (r ≡ Ok y)
 guard_ok true d r y e = absurd cc
 guard_ok false d r y e = (refl, e)
@@ -52,7 +52,7 @@ done x = Ok x
 pub ok_is : {A : Type 0} (x y : A) → done x ≡ done y → x ≡ y
 ok_is x y e = cc
 
--- what a reader took from the front
+-- what a reader took from the front of bytes
 pub record Takes (bytes text rest : List ℕ) : Type 0 where
   pub parts : bytes ≡ text ++ rest
   pub rest_fits : AreBytes rest
@@ -60,7 +60,7 @@ pub record Takes (bytes text rest : List ℕ) : Type 0 where
 pub Takes-then : (a x b y c : List ℕ) → Takes a x b → Takes b y c → Takes a (x ++ y) c
 Takes-then a x b y c p q = record { parts = p.parts ∙ ap (λ (t : List ℕ). x ++ t) q.parts ∙ sym (append_assoc x y c); rest_fits = q.rest_fits }
 
--- ---- so many bytes
+-- ---- a number of bytes
 
 pub bytes_take : (n : ℕ) (bytes : List ℕ) (x : List ℕ × List ℕ) → AreBytes bytes → bytes_at n bytes ≡ Ok x → Takes bytes x.0 x.1 × (length x.0 ≡ n) × AreBytes x.0
 bytes_take n bytes x fits e =

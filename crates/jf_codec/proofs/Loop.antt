@@ -1,4 +1,4 @@
--- Reading children one behind the other, as a loop does.
+-- Reading children one after the other, as the loop does.
 use Rattle.std.proofs.Common.{◌≡◌, ℕ, suc, ◌-◌, ◌+◌, ◌≤◌, ◌<◌, Bool, true, false, List, [], ◌∷◌, ◌++◌, Result, Ok, Err, refl, sym, ap, ◌∙◌, append_assoc, arith}
 use Rattle.std.proofs.lemmas.List.{append-nil}
 use Rattle.jf_path.specs.Nodes.{RiseFrom}
@@ -11,7 +11,7 @@ use Rattle.jf_codec.proofs.FieldLaws.{bind_ok, ok_is}
 abbrev pub Many : Type 0
 Many = Result (List Child × List ℕ) CodecFault
 
--- what was read before, and what is still read
+-- the children read so far, put before those still to be read
 abbrev pub with_front : List Child → Many → Many
 with_front front read = read >>= λ x. Ok (front ++ x.0, x.1)
 
@@ -50,7 +50,7 @@ is_done fmt exist leaf front i bytes total le so_far =
     let one : with_front front (children_at fmt exist leaf (16 - i) i bytes) ≡ Ok (front, bytes) = rw k (ap (λ (cs : List Child). Ok (cs, bytes)) (append-nil front)) in
     sym so_far ∙ one
 
--- children rise from the least nibble, and all are below i
+-- children rise from the least nibble on, and are all below i
 abbrev pub RiseBetween : ℕ → ℕ → List Child → Type 0
 RiseBetween least i [] = least ≤ i
 RiseBetween least i (c ∷ cs) = (least ≤ c.nibble) × RiseBetween (c.nibble + 1) i cs

@@ -1,4 +1,4 @@
--- A name that is read is the name that was written, and what was written is read again.
+-- Reading a name gives the name that was written, and only that.
 use Rattle.std.proofs.Common.{◌≡◌, ℕ, zero, suc, ◌+◌, ◌-◌, ◌*◌, ◌/◌, ◌%◌, ◌<◌, ◌≤◌, Bool, true, false, not, cond, ◌&&◌, ◌||◌, ◌==◌, ltb, List, [], ◌∷◌, ◌++◌, length, get_or, take, drop, Some, None, Result, Ok, Err, refl, sym, ap, ap₂, subst, ◌∙◌, append_assoc, arith, inl, inr, eq-eqb, IfOk}
 use Rattle.std.specs.List.{AllByRecursion}
 use Rattle.std.specs.Result.{result_err}
@@ -37,7 +37,7 @@ no_padding count bytes none odd =
     unturned true e = refl
     unturned false e = absurd cc
 
--- what is known of nibbles that were read
+-- nibbles that were read are a path's
 record AreNibbles (count : ℕ) (bytes : List ℕ) : Type 0 where
   path : IsPath (take count (halves bytes))
   same : count ∷ bytes ≡ path_bytes (take count (halves bytes))
@@ -62,7 +62,7 @@ fault_by_padding count bytes short long =
     let right : has_wrong_length (count ∷ bytes) ≡ false = ap₂ (λ a b. a || not b) (le-ltb 64 count short) (eq-eqb _ _ long) in
     ap (λ w. cond w (Some why.Length) (cond (has_padding (count ∷ bytes)) (Some why.Padding) None)) right
 
--- what is read, by what reading the path alone answers
+-- what reading gives, from the result of reading the path alone
 abbrev pub answer : Result (List ℕ) PathFault → List ℕ → Result (List ℕ × List ℕ) CodecFault
 answer (Ok path) rest = Ok (path, rest)
 answer (Err e) rest = Err fault.Path
@@ -132,7 +132,7 @@ unfolding name_at
 name_again name rest is =
     ap name_at (append_assoc (eight_bytes name.version) (path_bytes name.path) rest) ∙ rw (eight_again name.version (path_bytes name.path ++ rest) is.version, path_again name.path rest is.path) refl
 
--- ---- with the number of bytes
+-- ---- names with their length in bytes
 
 pub taken : (bytes text rest : List ℕ) → bytes ≡ text ++ rest → length bytes - length rest ≡ length text
 taken bytes text rest e = let l = ap length e ∙ length-append text rest in omega arith
@@ -140,7 +140,7 @@ taken bytes text rest e = let l = ap length e ∙ length-append text rest in ome
 pub left : (bytes text rest : List ℕ) → bytes ≡ text ++ rest → bytes ≡ text ++ drop (length bytes - length rest) bytes
 left bytes text rest e = e ∙ ap (λ (t : List ℕ). text ++ t) (sym (ap₂ (λ n (bs : List ℕ). drop n bs) (taken bytes text rest e) e ∙ drop_at text rest (length text) refl))
 
--- a name with which bytes begin, and the number of bytes that it takes
+-- bytes begin with the spelling of a name of this length
 pub record BeginsWithName (bytes : List ℕ) (x : NodeName × ℕ) : Type 0 where
   pub name : IsName x.0
   pub front : bytes ≡ name_bytes x.0 ++ drop x.1 bytes
@@ -160,7 +160,7 @@ name_counted bytes name rest is e =
 pub name_short : (bytes : List ℕ) (x : NodeName × List ℕ) → AreBytes bytes → name_at bytes ≡ Ok x → length x.1 ≤ length bytes
 name_short bytes x fits e = let t = name_takes bytes x fits e in let l = ap length t.0.parts ∙ length-append (name_bytes x.0) x.1 in omega arith
 
--- what a function that reads a name answers
+-- the name that a function returns is at the front of the bytes
 pub is_name_found : (bytes : List ℕ) (r : Result (NodeName × ℕ) CodecFault) → AreBytes bytes → Reads (λ x. x) r (counted bytes (name_at bytes))
     → IfOk r (λ x. IsName x.0 × (bytes ≡ name_bytes x.0 ++ drop x.1 bytes) × (x.1 ≡ length (name_bytes x.0)))
 is_name_found bytes (Ok x) fits reads = let f = name_found bytes x fits reads in (f.name, f.front, f.count)

@@ -1,4 +1,4 @@
--- A node that is read is the node that was written, and what was written is read again.
+-- Reading a node gives the node that was written, and only that.
 use Rattle.std.proofs.Common.{◌≡◌, ℕ, zero, suc, ◌+◌, ◌-◌, ◌^◌, ◌<◌, ◌≤◌, inl, inr, Bool, true, false, not, cond, ◌&&◌, ◌||◌, ◌==◌, List, [], ◌∷◌, ◌++◌, length, drop, Result, Ok, Err, IfOk, refl, sym, ap, ap₂, subst, ◌∙◌, append_assoc, arith, eq-eqb, true≢false, bit_and}
 use Rattle.std.specs.Int.{is_power_of_two}
 use Rattle.std.specs.List.{AllByRecursion, flat_map}
@@ -71,7 +71,7 @@ or_false : (a b : Bool) → (a || b) ≡ false → (a ≡ false) × (b ≡ false
 or_false true b e = absurd cc
 or_false false b e = (refl, e)
 
--- what is known of bitmaps that were read
+-- bitmaps that were read are those of an internal node
 pub record AreBitmaps (exist leaf : ℕ) : Type 0 where
   pub exist_fits : exist < 2 ^ 16
   pub leaf_fits : leaf < 2 ^ 16
@@ -223,7 +223,7 @@ in_format fmt (node.Inner cs) rest is = tagged fmt ((two_bytes (bitmap cs) ++ tw
 pub node_again : (n : PlainNode) (rest : List ℕ) → IsValid n → node_at (spelling n ++ rest) ≡ Ok (n, rest)
 node_again n rest is = in_format (format_of n) n rest is
 
--- ---- with the number of bytes, and whole
+-- ---- nodes with their length in bytes, and nodes that take all bytes
 
 pub node_short : (bytes : List ℕ) (x : PlainNode × List ℕ) → AreBytes bytes → node_at bytes ≡ Ok x → length x.1 ≤ length bytes
 node_short bytes x fits e = let t = node_takes bytes x fits e in let l = ap length t.0.parts ∙ length-append (spelling x.0) x.1 in omega arith

@@ -1,4 +1,4 @@
--- One spelling stands in front of bytes at most, and a node has one.
+-- Bytes begin with at most one spelling, and a node has one spelling.
 use Rattle.std.proofs.Common.{◌≡◌, ℕ, List, refl, sym, ap, ◌∙◌, subst}
 use Rattle.jf_path.specs.declared.name.NodeName.{NodeName}
 use Rattle.jf_path.specs.declared.node.PlainNode.{PlainNode}

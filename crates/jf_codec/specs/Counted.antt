@@ -1,4 +1,4 @@
--- Nodes without the counts of their children, as format 1 has them.
+-- What a format keeps of a node: format 1 has no counts of entries.
 use Rattle.std.specs.Prelude.{map}
 use Rattle.jf_path.specs.declared.children.Child.{Child}
 use Rattle.jf_path.specs.declared.node.PlainNode.{PlainNode}

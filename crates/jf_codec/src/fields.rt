@@ -1,4 +1,5 @@
-// Fields at the front of bytes, each with the bytes after it; and fields added at the end. Numbers have their highest byte first.
+// A field is read from the front of bytes and returned with the bytes after it, or added at the end of bytes. Numbers
+// have their highest byte first.
 ghost use Rattle.std.specs.Prelude.{◌≡◌, ◌++◌, OnOk, OnErr};
 ghost use Rattle.jf_codec.specs.Numbers.{two_bytes, four_bytes, eight_bytes};
 ghost use Rattle.jf_codec.specs.Reading.{Reads, bytes_at, two_at, four_at, eight_at};
@@ -7,7 +8,7 @@ use crate::fault::CodecFault;
 use byteorder::{BigEndian, ByteOrder};
 use jf_path::{Bytes, Key, Memory};
 
-/// The number in the first two bytes, and the bytes after it. `Short` if there are fewer.
+/// The number in the first two bytes, and the bytes after it. `Short` if there are fewer bytes.
 #[tactic(auto, unfolding(crate::specs::Reading::two_at))]
 pub fn u16_at(bytes: &[u8]) -> Result<(u16, &[u8]), CodecFault>
     ensures { Reads (λ x. (x.0, x.1.now)) result (two_at bytes.now) }
@@ -18,7 +19,7 @@ pub fn u16_at(bytes: &[u8]) -> Result<(u16, &[u8]), CodecFault>
     Ok((u16::from_be_bytes(*number), rest))
 }
 
-/// The number in the first four bytes, and the bytes after it. `Short` if there are fewer.
+/// The number in the first four bytes, and the bytes after it. `Short` if there are fewer bytes.
 #[tactic(auto, unfolding(crate::specs::Reading::four_at))]
 pub fn u32_at(bytes: &[u8]) -> Result<(u32, &[u8]), CodecFault>
     ensures { Reads (λ x. (x.0, x.1.now)) result (four_at bytes.now) }
@@ -29,7 +30,7 @@ pub fn u32_at(bytes: &[u8]) -> Result<(u32, &[u8]), CodecFault>
     Ok((u32::from_be_bytes(*number), rest))
 }
 
-/// The number in the first eight bytes, and the bytes after it. `Short` if there are fewer.
+/// The number in the first eight bytes, and the bytes after it. `Short` if there are fewer bytes.
 #[tactic(auto, unfolding(crate::specs::Reading::eight_at))]
 pub fn u64_at(bytes: &[u8]) -> Result<(u64, &[u8]), CodecFault>
     ensures { Reads (λ x. (x.0, x.1.now)) result (eight_at bytes.now) }
@@ -40,14 +41,14 @@ pub fn u64_at(bytes: &[u8]) -> Result<(u64, &[u8]), CodecFault>
     Ok((u64::from_be_bytes(*number), rest))
 }
 
-/// The key or hash in the first 32 bytes, and the bytes after it. `Short` if there are fewer.
+/// The key or hash in the first 32 bytes, and the bytes after it. `Short` if there are fewer bytes.
 pub fn key_at(bytes: &[u8]) -> Result<(&Key, &[u8]), CodecFault>
     ensures { Reads (λ x. (x.0.now, x.1.now)) result (bytes_at 32 bytes.now) }
 {
     bytes.split_first_chunk::<32>().ok_or(CodecFault::Short)
 }
 
-/// The first `count` bytes, and the bytes after them. `Short` if there are fewer.
+/// The first `count` bytes, and the bytes after them. `Short` if there are fewer bytes.
 pub fn front_of(count: usize, bytes: &[u8]) -> Result<(&[u8], &[u8]), CodecFault>
     ensures { Reads (λ x. (x.0.now, x.1.now)) result (bytes_at count bytes.now) }
 {
@@ -57,7 +58,7 @@ pub fn front_of(count: usize, bytes: &[u8]) -> Result<(&[u8], &[u8]), CodecFault
     Ok(bytes.split_at(count))
 }
 
-/// Adds a number in two bytes. A refusal leaves `out` as it was.
+/// Adds a number in two bytes. If memory runs out, `out` is unchanged.
 #[tactic(auto, unfolding(crate::specs::Numbers::two_bytes))]
 pub fn put_u16(out: &mut Bytes, number: u16) -> Result<(), Memory>
     ensures ok { OnOk result (out.new ≡ out.old ++ two_bytes number) }
@@ -68,7 +69,7 @@ pub fn put_u16(out: &mut Bytes, number: u16) -> Result<(), Memory>
     out.append(&bytes)
 }
 
-/// Adds a number in four bytes. A refusal leaves `out` as it was.
+/// Adds a number in four bytes. If memory runs out, `out` is unchanged.
 #[tactic(auto, unfolding(crate::specs::Numbers::four_bytes))]
 pub fn put_u32(out: &mut Bytes, number: u32) -> Result<(), Memory>
     ensures ok { OnOk result (out.new ≡ out.old ++ four_bytes number) }
@@ -79,7 +80,7 @@ pub fn put_u32(out: &mut Bytes, number: u32) -> Result<(), Memory>
     out.append(&bytes)
 }
 
-/// Adds a number in eight bytes. A refusal leaves `out` as it was.
+/// Adds a number in eight bytes. If memory runs out, `out` is unchanged.
 #[tactic(auto, unfolding(crate::specs::Numbers::eight_bytes))]
 pub fn put_u64(out: &mut Bytes, number: u64) -> Result<(), Memory>
     ensures ok { OnOk result (out.new ≡ out.old ++ eight_bytes number) }

@@ -1,10 +1,10 @@
-// The formats of internal nodes.
+// Internal nodes have two formats: the second one adds to each child the number of entries below it.
 
-/// How internal nodes are spelled.
+/// How internal nodes are written (docs/FORMATS.md, "Names and nodes in bytes").
 #[derive(Clone, Copy, Debug, PartialEq, Eq)]
 pub enum Format {
-    /// Without the counts of entries: tag 2.
+    /// Without counts of entries: tag 2.
     One,
-    /// With them: tag 3.
+    /// With a count of entries for each child: tag 3.
     Two,
 }

@@ -1,17 +1,17 @@
-// Laws on spellings, for proofs of code that stands on them. These functions do nothing when they run.
+// Laws of spellings, for proofs of code that uses them. These functions do nothing when they run.
 ghost use Rattle.jf_codec.specs.Laws.{OneNameInFront, OneNodeInFront, OneSpelling};
 
-/// Bytes begin with the spelling of one name at most.
+/// Bytes begin with the spelling of at most one name.
 pub fn one_name_in_front()
     ensures { OneNameInFront }
 {}
 
-/// Bytes begin with the spelling of one node at most.
+/// Bytes begin with the spelling of at most one node.
 pub fn one_node_in_front()
     ensures { OneNodeInFront }
 {}
 
-/// A node has one spelling, in whatever format it can be spelled.
+/// A node has the same one spelling in each format in which it can be spelled.
 pub fn one_spelling()
     ensures { OneSpelling }
 {}

@@ -1,5 +1,5 @@
-//! Names and nodes in bytes, in both formats of nodes. `specs/` says how each is spelled, and what is met in reading bytes
-//! that begin with no spelling.
+//! Names and nodes in bytes, in both formats of nodes. `specs/` says how each is spelled, and which fault a reader
+//! finds first in bytes that begin with no spelling.
 #![tactic(auto)]
 
 mod bitmaps;

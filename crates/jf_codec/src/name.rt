@@ -1,4 +1,4 @@
-// Names in bytes.
+// A name is a version in 8 bytes, a count of nibbles in one byte, and the nibbles, two a byte.
 ghost use Rattle.std.specs.Prelude.{◌≡◌, ◌++◌, List, ℕ, drop, length, IfOk, OnOk, OnErr, Ok};
 ghost use Rattle.jf_path.specs.Names.{IsName};
 ghost use Rattle.jf_path.specs.declared.name.NodeName.{NodeName};
@@ -11,7 +11,7 @@ use crate::fields::{front_of, put_u64, u64_at};
 use jf_path::{Bytes, Memory, NibblePath, NodeName};
 use std::alloc::Global;
 
-// A path after its count.
+// The path at the front of `bytes`: its count of nibbles, then the nibbles.
 #[tactic(auto, unfolding(crate::specs::Reading::path_at, crate::specs::Reading::nibbles_at))]
 fn path_of(bytes: &[u8]) -> Result<(NibblePath, &[u8]), CodecFault>
     ensures { Reads (λ x. (x.0, x.1.now)) result (path_at bytes.now) }
@@ -30,8 +30,8 @@ fn path_of(bytes: &[u8]) -> Result<(NibblePath, &[u8]), CodecFault>
     }
 }
 
-/// The name with which the bytes begin, and the bytes after it. Otherwise the first fault that is met from left to right:
-/// `Short` or `Path`.
+/// The name at the front of `bytes`, and the bytes after it. Otherwise the first fault from left to right: `Short` or
+/// `Path`.
 #[tactic(auto, unfolding(crate::specs::Reading::name_at))]
 pub fn name_at(bytes: &[u8]) -> Result<(NodeName, &[u8]), CodecFault>
     ensures { Reads (λ x. (x.0, x.1.now)) result (name_at bytes.now) }
@@ -43,7 +43,7 @@ pub fn name_at(bytes: &[u8]) -> Result<(NodeName, &[u8]), CodecFault>
     }
 }
 
-// A name, and the number of bytes that it takes.
+// The name at the front of `bytes`, and its length in bytes.
 fn measured(bytes: &[u8]) -> Result<(NodeName, usize), CodecFault>
     ensures { Reads (λ x. x) result (counted bytes.now (name_at bytes.now)) }
 {
@@ -53,8 +53,8 @@ fn measured(bytes: &[u8]) -> Result<(NodeName, usize), CodecFault>
     }
 }
 
-/// The name with which the bytes begin, and the number of bytes that it takes. Otherwise the first fault that is met from
-/// left to right: `Short` or `Path`.
+/// The name at the front of `bytes`, and its length in bytes. Otherwise the first fault from left to right: `Short` or
+/// `Path`.
 pub fn decode_name(bytes: &[u8]) -> Result<(NodeName, usize), CodecFault>
     ensures found { IfOk result (λ x. IsName x.0 × (bytes.now ≡ name_bytes x.0 ++ drop x.1 bytes.now) × (x.1 ≡ length (name_bytes x.0))) }
     ensures only { (name : NodeName) (rest : List ℕ) → IsName name → bytes.now ≡ name_bytes name ++ rest → result ≡ Ok (name, length (name_bytes name)) }
@@ -63,7 +63,7 @@ pub fn decode_name(bytes: &[u8]) -> Result<(NodeName, usize), CodecFault>
     measured(bytes)
 }
 
-/// Adds the one spelling of a name. A refusal leaves what was in `out`, and may leave more behind it.
+/// Adds the spelling of a name. If memory runs out, what was in `out` is unchanged, but a part of the name may follow.
 #[tactic(auto, using(crate::proofs::Adding::keeps_same, crate::proofs::Adding::keeps_more))]
 pub fn put_name(out: &mut Bytes, name: &NodeName) -> Result<(), Memory>
     ensures ok { OnOk result (out.new ≡ out.old ++ name_bytes name.now) }
@@ -75,7 +75,7 @@ pub fn put_name(out: &mut Bytes, name: &NodeName) -> Result<(), Memory>
     out.append(&path[..count])
 }
 
-/// Appends the one spelling of a name. A refusal leaves `out` as it was.
+/// Appends the spelling of a name, at most 41 bytes. If memory runs out, `out` is unchanged.
 pub fn encode_name(alloc: Global, name: &NodeName, out: &mut Bytes) -> Result<(), Memory>
     ensures ok { OnOk result (out.new ≡ out.old ++ name_bytes name.now) }
     ensures err { OnErr result (out.new ≡ out.old) }

@@ -1,4 +1,4 @@
-// Nodes from bytes.
+// Nodes are read from left to right: a tag, then the fields of a leaf or of an internal node.
 ghost use Rattle.std.specs.Prelude.{◌≡◌, ◌⊎◌, ◌++◌, ◌<◌, List, ℕ, drop, length, IfOk, Ok, Err};
 ghost use Rattle.jf_path.specs.declared.node.PlainNode.{PlainNode};
 ghost use Rattle.jf_codec.specs.Spelling.{IsValid, spelling};
@@ -12,7 +12,7 @@ use crate::tags::{COUNTED, INNER, LEAF, NULL};
 use jf_path::{Bytes, Child, Children, Nibble, PlainNode};
 use std::alloc::Global;
 
-// A value of at most 4,096 bytes after its length.
+// A value of at most 4,096 bytes, which follows its length in four bytes.
 #[tactic(auto, unfolding(crate::specs::Reading::value_at))]
 fn value_of(bytes: &[u8]) -> Result<(&[u8], &[u8]), CodecFault>
     ensures { Reads (λ x. (x.0.now, x.1.now)) result (value_at bytes.now) }
@@ -24,7 +24,7 @@ fn value_of(bytes: &[u8]) -> Result<(&[u8], &[u8]), CodecFault>
     front_of(length as usize, rest)
 }
 
-// A leaf after its tag.
+// The leaf after its tag.
 #[tactic(auto, unfolding(crate::specs::Reading::leaf_at))]
 fn leaf_of(alloc: Global, bytes: &[u8]) -> Result<(PlainNode, &[u8]), CodecFault>
     ensures { Gives (λ x. (x.0, x.1.now)) result (leaf_at bytes.now) }
@@ -35,7 +35,7 @@ fn leaf_of(alloc: Global, bytes: &[u8]) -> Result<(PlainNode, &[u8]), CodecFault
     Ok((PlainNode::Leaf { key: *key, value }, rest))
 }
 
-// The count of a child, 0 in format 1.
+// The count of a child; 0 in format 1, which has no counts.
 #[tactic(auto, unfolding(crate::specs::Reading::count_at))]
 fn count_of(format: Format, leaf: bool, bytes: &[u8]) -> Result<(u64, &[u8]), CodecFault>
     ensures { Reads (λ x. (x.0, x.1.now)) result (count_at format leaf bytes.now) }
@@ -75,7 +75,7 @@ fn child_of(
     Ok((child, rest))
 }
 
-// The children that the bitmaps name.
+// The children that the bitmaps name, in ascending order.
 fn children_of(
     alloc: Global,
     format: Format,
@@ -104,7 +104,7 @@ fn children_of(
     Ok((children, rest))
 }
 
-// An internal node after its tag.
+// The internal node after its tag.
 #[tactic(auto, unfolding(crate::specs::Reading::inner_at))]
 fn inner_of(alloc: Global, format: Format, bytes: &[u8]) -> Result<(PlainNode, &[u8]), CodecFault>
     ensures { Gives (λ x. (x.0, x.1.now)) result (inner_at format bytes.now) }
@@ -114,8 +114,7 @@ fn inner_of(alloc: Global, format: Format, bytes: &[u8]) -> Result<(PlainNode, &
     Ok((PlainNode::Inner { children }, rest))
 }
 
-/// The node with which the bytes begin, and the bytes after it. Otherwise the first fault that is met from left to right, or
-/// `Memory`.
+/// The node at the front of `bytes`, and the bytes after it. Otherwise the first fault from left to right, or `Memory`.
 #[tactic(auto, unfolding(crate::specs::Reading::node_at))]
 pub fn node_at(alloc: Global, bytes: &[u8]) -> Result<(PlainNode, &[u8]), CodecFault>
     ensures { Gives (λ x. (x.0, x.1.now)) result (node_at bytes.now) }
@@ -130,7 +129,7 @@ pub fn node_at(alloc: Global, bytes: &[u8]) -> Result<(PlainNode, &[u8]), CodecF
     }
 }
 
-// A node, and the number of bytes that it takes.
+// The node at the front of `bytes`, and its length in bytes.
 fn measured(alloc: Global, bytes: &[u8]) -> Result<(PlainNode, usize), CodecFault>
     ensures { Gives (λ x. x) result (counted bytes.now (node_at bytes.now)) }
 {
@@ -138,8 +137,8 @@ fn measured(alloc: Global, bytes: &[u8]) -> Result<(PlainNode, usize), CodecFaul
     Ok((node, bytes.len() - rest.len()))
 }
 
-/// The node with which the bytes begin, and the number of bytes that it takes. Otherwise the first fault that is met from
-/// left to right, or `Memory`.
+/// The node at the front of `bytes`, and its length in bytes. Otherwise the first fault from left to right, or
+/// `Memory`.
 pub fn decode_node(alloc: Global, bytes: &[u8]) -> Result<(PlainNode, usize), CodecFault>
     ensures found { IfOk result (λ x. IsValid x.0 × (bytes.now ≡ spelling x.0 ++ drop x.1 bytes.now) × (x.1 ≡ length (spelling x.0))) }
     ensures only { (node : PlainNode) (rest : List ℕ) → IsValid node → bytes.now ≡ spelling node ++ rest → Gives (λ x. x) result (Ok (node, length (spelling node))) }
@@ -148,8 +147,8 @@ pub fn decode_node(alloc: Global, bytes: &[u8]) -> Result<(PlainNode, usize), Co
     measured(alloc, bytes)
 }
 
-/// The node that all of the bytes spell. Otherwise the first fault that is met from left to right, `Rest` if bytes are
-/// left, or `Memory`.
+/// The node whose spelling all of `bytes` are. Otherwise the first fault from left to right, `Rest` if bytes are left
+/// over, or `Memory`.
 pub fn decode_whole(alloc: Global, bytes: &[u8]) -> Result<PlainNode, CodecFault>
     ensures found { IfOk result (λ node. IsValid node × (bytes.now ≡ spelling node)) }
     ensures only { (node : PlainNode) → IsValid node → bytes.now ≡ spelling node → Gives (λ x. x) result (Ok node) }
@@ -158,7 +157,7 @@ pub fn decode_whole(alloc: Global, bytes: &[u8]) -> Result<PlainNode, CodecFault
     whole_of(alloc, bytes)
 }
 
-// The node that is all of the bytes.
+// The node whose spelling all of `bytes` are.
 #[tactic(auto, unfolding(crate::specs::Reading::whole_in))]
 fn whole_of(alloc: Global, bytes: &[u8]) -> Result<PlainNode, CodecFault>
     ensures { Gives (λ node. node) result (whole_in bytes.now) }

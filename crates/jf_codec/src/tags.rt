@@ -1,4 +1,4 @@
-// The first bytes of nodes.
+// The first byte of a node's spelling, its tag, says which node it is.
 
 /// The root of the empty map.
 pub(crate) const NULL: u8 = 0;

@@ -1,4 +1,4 @@
-// Nodes to bytes.
+// A node is written in one format; in format 1 the counts of its children are left out.
 ghost use Rattle.std.specs.Prelude.{◌≡◌, ◌++◌, ◌∷◌, ◌<◌, ◌≤◌, [], length, flat_map, OnOk, OnErr};
 ghost use Rattle.std.specs.List.{AllByRecursion};
 ghost use Rattle.jf_codec.specs.Numbers.{four_bytes};
@@ -15,7 +15,7 @@ use crate::tags::{COUNTED, INNER, LEAF, NULL};
 use jf_path::{Bytes, Child, Key, Memory, PlainNode};
 use std::alloc::Global;
 
-// The format that a node of these children has: they have counts or not as the first of them.
+// The format of a node with these children: format 2 if the first of them has a count.
 fn format_of_children(children: &[Child]) -> Format
     ensures { result ≡ format_of_children children.now }
 {
@@ -25,7 +25,7 @@ fn format_of_children(children: &[Child]) -> Format
     }
 }
 
-// The format that a node has.
+// The format of a node; format 1 if it isn't an internal node.
 fn format_of(node: &PlainNode) -> Format
     ensures { result ≡ format_of node.now }
 {
@@ -35,7 +35,7 @@ fn format_of(node: &PlainNode) -> Format
     }
 }
 
-// The tag of internal nodes of a format.
+// The tag of an internal node of a format.
 fn tag_of(format: Format) -> u8
     ensures { result ≡ tag format }
 {
@@ -45,7 +45,7 @@ fn tag_of(format: Format) -> u8
     }
 }
 
-// The bitmaps of children.
+// The bitmaps of a node with these children.
 fn bitmaps_to(children: &[Child]) -> Bitmaps
     requires rise { RiseFrom 0 children.now }
     requires nibbles { AllByRecursion (λ c. c.nibble < 16) children.now }
@@ -126,8 +126,8 @@ fn put_leaf(out: &mut Bytes, key: &Key, value: &[u8]) -> Result<(), Memory>
     out.append(value)
 }
 
-/// Adds the one spelling that a node has in a format; format 1 leaves out its counts. What the format keeps of the node has
-/// to have a spelling. A refusal leaves what was in `out`, and may leave more behind it.
+/// Adds the spelling of a node in a format; format 1 leaves out its counts. What the format keeps of the node must have
+/// a spelling. If memory runs out, what was in `out` is unchanged, but a part of the node may follow it.
 #[tactic(auto, using(crate::proofs::Adding::keeps_same, crate::proofs::Adding::keeps_more), unfolding(crate::specs::Spelling::node_bytes))]
 pub fn put_node(out: &mut Bytes, format: Format, node: &PlainNode) -> Result<(), Memory>
     requires { IsNode format (in_format format node.now) }
@@ -141,9 +141,9 @@ pub fn put_node(out: &mut Bytes, format: Format, node: &PlainNode) -> Result<(),
     }
 }
 
-/// Appends the one spelling of a node that has one: a leaf's value has at most 4,096 bytes, and an internal node has a
-/// child, no single child that is a leaf, and counts that are all 0, or all at least 1 and 1 just for leaves. A refusal
-/// leaves `out` as it was.
+/// Appends the spelling of a node that has one: a leaf's value has at most 4,096 bytes, and an internal node has a
+/// child, no single child that is a leaf, and counts that are all 0, or all at least 1 and 1 just for leaves. If
+/// memory runs out, `out` is unchanged.
 pub fn encode_node(alloc: Global, node: &PlainNode, out: &mut Bytes) -> Result<(), Memory>
     requires { IsValid node.now }
     ensures ok { OnOk result (out.new ≡ out.old ++ spelling node.now) }

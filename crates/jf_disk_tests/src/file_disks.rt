@@ -1,4 +1,4 @@
-// Disks over real files.
+// Disks over real files: what a folder must be, what is read back, and what a failed sync does.
 use crate::steps::Step;
 use jf_disk::{AnyDisk, Disk, DiskFailed, FileDisk, FileRefused, MemDisk, Side};
 use std::alloc::Global;
@@ -6,14 +6,14 @@ use std::fs;
 use std::os::unix::fs::{MetadataExt, symlink};
 use std::test::Fail;
 
-// Makes a folder, empty.
+// Makes an empty folder.
 fn make(rt: &HostRuntime, folder: &str) -> Result<(), Fail> {
     let _ = fs::remove_dir_all(rt, folder);
     fs::create_dir(rt, folder)?;
     Ok(())
 }
 
-// Removes the folder of a test, which fails if something in it was not so.
+// Removes the folder of a test, and fails if something in the folder was not as it should be.
 fn end(rt: &HostRuntime, folder: &'static str, passed: bool) -> Result<(), Fail> {
     if !passed {
         return Err(Fail::new(folder));
@@ -35,7 +35,7 @@ fn make_files(rt: &HostRuntime, folder: &str) -> Result<(), Fail> {
     Ok(())
 }
 
-// Whether the file system refuses a folder.
+// Whether opening a folder is refused.
 fn is_refused(rt: &HostRuntime, folder: &str) -> bool {
     FileDisk::at(rt, rt.alloc(), folder).err() == Some(FileRefused::DiskFailed)
 }
@@ -51,10 +51,10 @@ fn take_step(disk: &mut FileDisk, step: Step) -> Result<u64, DiskFailed> {
     }
 }
 
-// A call, and what it returns.
+// A call, and what it should return.
 type Taken = (Step, Result<u64, DiskFailed>);
 
-// Whether these calls, one after another, return that.
+// Whether these calls, one after another, return what they should.
 fn takes(disk: &mut FileDisk, steps: &[Taken]) -> bool {
     for (step, want) in steps {
         if take_step(disk, *step) != *want {
@@ -64,12 +64,12 @@ fn takes(disk: &mut FileDisk, steps: &[Taken]) -> bool {
     true
 }
 
-// Whether a disk has made so many calls, of which so many failed.
+// Whether a disk has made this many calls, and this many of them failed.
 fn has_made(disk: &FileDisk, calls: u64, faults: u64) -> bool {
     disk.moment() == calls && disk.faults() == faults
 }
 
-// Empties a side and writes it anew, brings it to the device, and returns how many bytes it has.
+// Empties a side, writes it anew and syncs it, and returns its length.
 fn rewrite<D: Disk>(disk: &mut D, side: Side, bytes: &[u8]) -> Result<u64, DiskFailed> {
     disk.cut(side, 0)?;
     disk.write_at(side, 0, bytes)?;
@@ -77,7 +77,7 @@ fn rewrite<D: Disk>(disk: &mut D, side: Side, bytes: &[u8]) -> Result<u64, DiskF
     disk.len(side)
 }
 
-// A side, the bytes that are written to it, and nine bytes read from an offset on, of which those past the end stay dots.
+// A side, the bytes written to it, an offset, and nine bytes read from there; those past the end stay dots.
 type Rewriting = (Side, &'static [u8], u64, &'static [u8]);
 
 const REWRITINGS: &[Rewriting] = &[
@@ -139,7 +139,7 @@ const NEW: &[Taken] = &[
     (Step::Cut(Side::B, u64::MAX), Err(DiskFailed)),
 ];
 
-// Whether a side of a disk gives these eight bytes from an offset on, of which so many are the side's.
+// Whether a read at an offset gives these eight bytes, the first `count` of which are the side's.
 fn gives(disk: &mut FileDisk, side: Side, at: u64, count: usize, want: [u8; 8]) -> bool {
     let mut buf = [0; 8];
     disk.read(side, at, &mut buf) == Ok(count) && buf == want
@@ -155,7 +155,7 @@ fn is_as_it_was_written(rt: &HostRuntime, folder: &str) -> Result<bool, Fail> {
     Ok(gives(&mut disk, Side::B, 1, 3, *b"ept\0\0\0\0\0") && disk.len(Side::A) == Ok(0))
 }
 
-// Whether a folder is refused once it is removed.
+// Whether opening a folder is refused after it was removed.
 fn is_refused_without_it(rt: &HostRuntime, folder: &str) -> bool {
     let _ = fs::remove_dir_all(rt, folder);
     is_refused(rt, folder)
@@ -191,7 +191,7 @@ fn new_files_are_for_their_owner_alone(rt: HostRuntime) -> Result<(), Fail> {
     end(&rt, folder, alone)
 }
 
-// Whether a folder is refused as long as a disk stands over it.
+// Whether a folder is refused as long as a disk holds it.
 fn is_held(rt: &HostRuntime, folder: &str) -> Result<bool, Fail> {
     let held = open(rt, folder)?;
     let refused = is_refused(rt, folder);
@@ -212,7 +212,7 @@ fn a_folder_is_opened_once_at_a_time(rt: HostRuntime) -> Result<(), Fail> {
     end(&rt, folder, held)
 }
 
-// Whether a folder is refused after a link was put in the place of a file.
+// Whether a folder is refused after a link was put in place of a file.
 fn is_refused_with_link(
     rt: &HostRuntime,
     folder: &str,
@@ -224,14 +224,14 @@ fn is_refused_with_link(
     Ok(is_refused(rt, folder))
 }
 
-// Whether a folder is refused after a folder was put in the place of a file.
+// Whether a folder is refused after a folder was put in place of a file.
 fn is_refused_with_folder(rt: &HostRuntime, folder: &str, file: &str) -> Result<bool, Fail> {
     fs::remove_file(rt, file)?;
     fs::create_dir(rt, file)?;
     Ok(is_refused(rt, folder))
 }
 
-// Whether a folder is refused with a link to its side A in the place of a file, one to a device, and a folder.
+// Whether a folder is refused with a link to its side A in place of a file, one to a device, and a folder.
 fn is_refused_with_each(rt: &HostRuntime, folder: &str, file: &str) -> Result<bool, Fail> {
     Ok(
         is_refused_with_link(rt, folder, "a.jf", file)?
@@ -286,7 +286,7 @@ fn is_lost(disk: &mut FileDisk) -> bool {
     disk.len(Side::A).is_ok() && takes(disk, LOST) && has_made(disk, 7, 6)
 }
 
-// Makes a folder whose side A is a link to that.
+// Makes a folder whose side A is a link to `to`.
 fn make_link(rt: &HostRuntime, folder: &str, to: &str, a: &str) -> Result<(), Fail> {
     make(rt, folder)?;
     symlink(rt, to, a)?;
@@ -298,7 +298,7 @@ fn loses_a_side_alone(rt: &HostRuntime, folder: &str) -> Result<bool, Fail> {
     Ok(is_lost(&mut disk) && rewrite::<FileDisk>(&mut disk, Side::B, b"kept") == Ok(4))
 }
 
-// A file of the system that can be opened and never synced stands for a device that fails.
+// A file of the system that can be opened, but not synced, acts as a device that fails.
 #[test]
 fn a_side_is_lost_after_a_failed_sync(rt: HostRuntime) -> Result<(), Fail> {
     let folder = "jf_disk_lost";

@@ -4,7 +4,7 @@ use jf_disk::{Disk, DiskFailed, MemDisk, Side};
 use std::alloc::Global;
 use std::test::Fail;
 
-// A disk with this side A, with room for so many calls and written bytes, on which these calls fail.
+// A disk with this side A, with room for so many calls and written bytes, whose listed calls fail.
 fn mem_disk(
     alloc: Global,
     a: &[u8],
@@ -29,10 +29,10 @@ fn take_step(disk: &mut MemDisk, step: Step) -> Result<u64, DiskFailed> {
     }
 }
 
-// A call, and what it returns.
+// A call, and what it should return.
 type Taken = (Step, Result<u64, DiskFailed>);
 
-// Whether these calls, one after another, return that.
+// Whether these calls, one after another, return what they should.
 fn takes(disk: &mut MemDisk, steps: &[Taken]) -> bool {
     for (step, want) in steps {
         if take_step(disk, *step) != *want {
@@ -112,8 +112,8 @@ fn after(alloc: Global, a: &[u8], failing: &[u64], steps: &[Step]) -> Result<Box
     Ok(disk)
 }
 
-// A crash after so many calls, of whose unsynced bytes so many stand and all others are this one, and the bytes of both
-// sides then.
+// A crash after so many calls, which keeps so many unsynced bytes and turns all others into this byte; and the bytes
+// of both sides then.
 type Image = (u64, u64, u8, &'static [u8], &'static [u8]);
 
 fn leaves(alloc: Global, disk: &MemDisk, image: Image) -> Result<bool, Fail> {

@@ -1,4 +1,4 @@
--- Records with the standing to which they lead.
+-- The standing that records lead to.
 use Rattle.std.proofs.Common.{◌≡◌, List, [], ◌∷◌, ◌++◌, refl, sym, subst}
 use Rattle.std.proofs.lemmas.List.{map-append}
 use Rattle.jf_disk.specs.Disk.{Files}
@@ -19,7 +19,7 @@ use Rattle.jf_standing.specs.ItemLaws.{SpelledIsRead, ItemsLeadToSound}
 use Rattle.jf_files.specs.Files.{item, items, LeadToStanding, LeadTo, StandsFor, HoldsStanding}
 use Rattle.jf_files.proofs.Judging.{are_read}
 
--- one item more
+-- one more record leads on
 leads_on : (fmt : Format) (xs : List Item) (s a b : Standing) (y : Item) → Leads fmt s xs a → ItemFollows fmt a y b → Leads fmt s (xs ++ y ∷ []) b
 leads_on fmt [] s a b y is next = (b, subst (λ m. ItemFollows fmt m y b) is next, refl)
 leads_on fmt (x ∷ xs) s a b y is next = (is.0, is.1, leads_on fmt xs is.0 a b y is.2 next)
@@ -35,7 +35,7 @@ one_more spelling (x ∷ xs) fmt s s' y r leads is takes = (
   ),
 )
 
--- a first record that gives a standing has the kind of its format
+-- a record that gives a standing as the first has the checkpoint kind of its format
 first_kind : (fmt : Format) (r : Record) (s : Standing) (x : Framed) → Gives fmt r s → IsSpelling fmt r x.kind x.payload → x.kind ≡ checkpoint_kind fmt
 first_kind fmt («record».Floor floor) s x gives is = absurd gives
 first_kind fmt («record».NodeCommit c) s x gives is = absurd gives

@@ -1,4 +1,4 @@
--- Files stand for one value of sound versions, or they are damaged at one place.
+-- Files stand for one list of sound versions, or they are damaged at one first place.
 use Rattle.std.proofs.Common.{◌≡◌, ◌⊎◌, ◌↔◌, ℕ, true, ◌==◌, ◌||◌, arith, inl, inr, List, [], ◌∷◌, Option, Some, None, Ok, refl, sym, ap, ap₂, ◌∙◌, subst}
 use Rattle.std.proofs.lemmas.Bool.{eqb-true}
 use Rattle.std.proofs.lemmas.Bool.Decides.{eqb_tells}
@@ -40,14 +40,14 @@ has_format kind = (
   λ p. elim p.0 as (λ fmt. kind ≡ checkpoint_kind fmt → is_checkpoint kind ≡ true) [ format.One ↦ λ is. ap is_checkpoint is | format.Two ↦ λ is. ap is_checkpoint is ] p.1,
 )
 
--- a kind is that of one format
+-- a kind of checkpoint is that of one format
 one_format : (a b : Format) → checkpoint_kind a ≡ checkpoint_kind b → a ≡ b
 one_format format.One format.One is = refl
 one_format format.One format.Two is = absurd (omega (arith, is))
 one_format format.Two format.One is = absurd (omega (arith, is))
 one_format format.Two format.Two is = refl
 
--- ---- what is read is such
+-- ---- records that were read
 
 read_if : (P : Record → Type 0) (o : Option Record) → ((r : Record) → o ≡ Some r → P r) → IfSome o P
 read_if P None h = tt
@@ -98,16 +98,16 @@ module _ (known : SpelledIsRead) where
 
 -- ---- live records
 
--- they have begun
+-- live records are those of a begun side
 live_begun : (files : Files) (rs : List Framed) → HoldsLive files rs → is_begun rs ≡ true
 live_begun files rs h =
     subst (λ xs. is_begun xs ≡ true) h.live (elim (live_side h.a_records h.b_records) as (λ s. is_begun (records_of s h.a_records h.b_records) ≡ true) [ side.A ↦ h.a_begun | side.B ↦ h.b_begun ])
 
--- of one side
+-- the live records of two files are on one side
 one_side : (files : Files) (rs rs' : List Framed) (h : HoldsLive files rs) (k : HoldsLive files rs') → live_side h.a_records h.b_records ≡ live_side k.a_records k.b_records
 one_side files rs rs' h k = ap₂ live_side (same_ok _ _ (records files.a) h.a_held k.a_held) (same_ok _ _ (records files.b) h.b_held k.b_held)
 
--- and one generation
+-- the generation of two files is that of their live records
 pub generation_live : (files : Files) (rs : List Framed) → HoldsLive files rs → generation files ≡ generation_in rs
 unfolding generation
 generation_live files rs h = ap₂ (λ left right. generation_in (live_records (held left) (held right))) h.a_held h.b_held ∙ ap generation_in h.live
@@ -123,7 +123,7 @@ stand_for_one law known files v w a b = leads_once known law b.live v w (subst (
 pub stand_for_sound : ItemsLeadToSound → SpelledIsRead → (files : Files) (v : Versions) → StandsFor files v → IsVersions v
 stand_for_sound law known files v a = leads_sound known law a.live v a.leads
 
--- files that hold live records show no damage
+-- files that hold live records show no damage from outside
 undamaged : (files : Files) (rs : List Framed) (x : Side × ℕ) → HoldsLive files rs → outer_damage files ≡ Some x → ⊥
 undamaged files rs x h some = let e = sym (holds_undamaged files rs h) ∙ some in cc
 

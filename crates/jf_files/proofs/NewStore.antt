@@ -1,4 +1,4 @@
--- The files of a new store stand for one.
+-- The files of a new store stand for a new store.
 use Rattle.std.proofs.Common.{◌≡◌, ℕ, List, [], ◌∷◌, refl, sym, ap, ap₂, ◌∙◌, subst, arith}
 use Rattle.std.specs.Prelude.{map}
 use Rattle.std.specs.FinMap as fin
@@ -38,7 +38,7 @@ E_is = refl
 root_is : root fin.empty ≡ empty_root
 root_is = root-empty ∙ E_is
 
--- the map without entries has one node
+-- the empty map has one node
 one_path : nodes_below 64 0 [] ≡ ([], []) ∷ []
 unfolding nodes_below
 one_path = refl
@@ -57,7 +57,7 @@ with_node : nodes_by_name (map (node_of format.Two (λ path. 0)) (([], []) ∷ [
 unfolding plain_node
 with_node = refl
 
--- the checkpoint of a new store
+-- the checkpoint of a new store, written out
 pub first_is : checkpoint_of 1 (new_standing format.Two) ≡ first
 first_is = ap₂ (λ (r : List ℕ) (ns : List Named). «record».Checkpoint 1 0 0 0 (r ∷ []) ns) root_is (ap (λ (ps : List (Path × Part)). nodes_by_name (map (node_of format.Two (λ path. 0)) ps)) one_part ∙ with_node)
 

@@ -14,7 +14,7 @@ use Rattle.jf_payload.specs.declared.records.Record.TheVariants as «record»
 use Rattle.jf_standing.specs.Named.{Named}
 use Rattle.jf_files.specs.Files.{generation_in}
 
--- the number in front of others
+-- the number at the front of bytes, with more bytes after them
 number_of-append : (xs ys : List ℕ) → 8 ≤ length xs → number_of (xs ++ ys) ≡ number_of xs
 unfolding number_of
 number_of-append xs ys long =
@@ -24,7 +24,7 @@ number_of-append xs ys long =
 long-append : (xs ys : List ℕ) → 8 ≤ length xs → 8 ≤ length (xs ++ ys)
 long-append xs ys long = omega (arith, length-append xs ys)
 
--- a number in eight bytes
+-- the number in eight bytes is the one written there
 number_of-eight : (n : ℕ) → n < 2 ^ 64 → number_of (eight_bytes n) ≡ n
 unfolding number_of eight_bytes
 number_of-eight n fits = from_be_bytes-to_be_bytes_8 n fits
@@ -33,7 +33,7 @@ long-eight : (n : ℕ) → 8 ≤ length (eight_bytes n)
 unfolding eight_bytes
 long-eight n = omega arith
 
--- the first of six parts
+-- the number at the front of six parts is that of the first part
 first_part : (a b c d e f : List ℕ) → 8 ≤ length a → (number_of (a ++ b ++ c ++ d ++ e ++ f) ≡ number_of a) × (8 ≤ length (a ++ b ++ c ++ d ++ e ++ f))
 first_part a b c d e f long =
     let ab = long-append a b long in

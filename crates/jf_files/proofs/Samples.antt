@@ -1,4 +1,4 @@
--- Samples, by computing: the files of a new store, an append to them, and two switches, with a stop at each place.
+-- Computed samples: the files of a new store, an append to them, and two switches, with a crash at each place.
 use Rattle.std.proofs.Common.{◌≡◌, ℕ, true, false, List, [], ◌∷◌, ◌++◌, Some, Ok, refl}
 use Rattle.jf_disk.specs.Disk.{Files}
 use Rattle.jf_disk.specs.declared.side.Side.TheVariants as side
@@ -11,14 +11,14 @@ use Rattle.jf_files.specs.Files.{generation}
 abbrev files : List ℕ → List ℕ → Files
 files a b = record { a = a; b = b }
 
--- what is computed of two files: they hold these live records, of this generation
+-- two files hold these live records, of this generation
 abbrev Holds : List ℕ → List ℕ → List Framed → ℕ → Type 0
 Holds a b rs g = HoldsLive (files a b) rs × (generation (files a b) ≡ g)
 
 holds : (a b : List ℕ) (left right rs : List Framed) (g : ℕ) → records a ≡ Ok left → records b ≡ Ok right → is_begun left ≡ true → is_begun right ≡ true → are_level left right ≡ false → live_records left right ≡ rs → generation (files a b) ≡ g → Holds a b rs g
 holds a b left right rs g p q x y z live gen = (record { a_records = left; b_records = right; a_held = p; b_held = q; a_begun = x; b_begun = y; apart = z; live = live }, gen)
 
--- the front of a new store's side A, up to its last gate
+-- the bytes of a new store's side A before its last gate
 abbrev first_open : List ℕ
 first_open = 1 ∷ 5 ∷ in_eight 90 ++ new_store_payload
 
@@ -55,14 +55,14 @@ append_done = holds (first_open ++ 1 ∷ floor_frame) [] (first ∷ floor ∷ []
 
 -- ---- a switch to side B, which is empty: its first gate is written closed, then the frame after it, then the gate is opened
 
--- the frame of a checkpoint, of whose payload the generation alone is looked at here
+-- the frame of a checkpoint, of whose payload only the generation matters here
 abbrev checkpoint_frame : ℕ → List ℕ
 checkpoint_frame g = 5 ∷ in_eight 8 ++ in_eight g ++ 0 ∷ []
 
 abbrev checkpoint : ℕ → Framed
 checkpoint g = record { kind = 5; offset = 0; payload = in_eight g }
 
--- side A as it stands
+-- the bytes of side A before the switch
 abbrev side_a : List ℕ
 side_a = first_open ++ 1 ∷ floor_frame
 
@@ -96,7 +96,7 @@ back_done : Holds (1 ∷ checkpoint_frame 3) (1 ∷ checkpoint_frame 2) (checkpo
 unfolding generation records records_from size_of payload_of behind number_of
 back_done = holds (1 ∷ checkpoint_frame 3) (1 ∷ checkpoint_frame 2) (checkpoint 3 ∷ []) (checkpoint 2 ∷ []) (checkpoint 3 ∷ []) 3 refl refl refl refl refl refl refl
 
--- a gate that opens before what follows it is whole would be damage; so would a side of the same generation
+-- a gate that is opened before its record is whole is damage, and so is a second side of the same generation
 torn : outer_damage (files (1 ∷ 5 ∷ in_eight 8) (1 ∷ checkpoint_frame 2)) ≡ Some (side.A, 0)
 unfolding records records_from size_of payload_of behind number_of
 torn = refl

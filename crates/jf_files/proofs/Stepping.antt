@@ -1,4 +1,4 @@
--- What the records of each step make, and that a stop leaves the versions before or behind.
+-- What the records of each step lead to, and that a crash leaves the versions before or after the step.
 use Rattle.std.proofs.Common.{◌≡◌, ◌⊎◌, ℕ, inl, inr, List, [], ◌∷◌, refl, sym, ap, ◌∙◌, subst}
 use Rattle.jf_disk.specs.Disk.{History, Files, IsImage, reads}
 use Rattle.jf_disk.specs.Crashes.{LeavesNow, LeavesFiles}
@@ -50,7 +50,7 @@ checkpoints_follow spelling law = λ fmt s generation x sound is.
     let p = law fmt generation s sound in
     (checkpoint_leads spelling fmt (with_nodes (nodes_by_name s.nodes) s) x (checkpoint_of generation s) is p.0, p.2)
 
--- the checkpoint alone of a standing that is sound
+-- a checkpoint alone of a sound standing leads to its versions
 alone : SpelledIsSpelling → CheckpointsGive → (fmt : Format) (s : Standing) (generation : ℕ) (x : Framed) (v : Versions) → IsSound fmt s → versions_of s ≡ v → IsSpelling fmt (checkpoint_of generation s) x.kind x.payload → LeadTo (x ∷ []) v
 alone spelling law fmt s generation x v sound versions is =
     let p = checkpoints_follow spelling law fmt s generation x sound is in
@@ -69,7 +69,7 @@ first_follows spelling gives law = λ fmt generation x is.
     let i = law fmt in
     alone spelling gives fmt (new_standing fmt) generation x new_store i.0 i.1 is
 
--- ---- stops
+-- ---- crashes
 
 pub stops_by_records : StopsByRecords
 stops_by_records = λ step old new v rs rs' before behind stops.
@@ -78,7 +78,7 @@ stops_by_records = λ step old new v rs rs' before behind stops.
       | inr h ↦ inr (record { live = rs'; held = h; leads = behind })
     ]) stops
 
--- what is left of a pair in step stands for what its records lead to
+-- files in step with a pair stand for what its records lead to, and so does what a crash leaves of them
 in_step_stands : (new : History) (v : Versions) (p : Pair) (rs : List Framed) → LeadTo rs v → IsInStep p rs new.now → StandsFor (reads new) v × LeavesNow new (λ f. StandsFor f v)
 in_step_stands new v p rs leads k = (record { live = rs; held = in_step_holds p rs new k; leads = leads }, λ f image. record { live = rs; held = in_step_leaves p rs new k f image; leads = leads })
 
@@ -118,7 +118,7 @@ opens_by_records = λ old new v p x xs leads calm left k.
       live = λ rs held. (x ∷ xs, holds, subst (λ ys. LiveBehind Opens ys (x ∷ xs)) (holds_one (reads new) (x ∷ xs) rs holds (subst (λ files. HoldsLive files rs) (sym left.same) held)) refl);
     }
 
--- records that lead to a new store, with a checkpoint or without
+-- files without a record, or with the first checkpoint of a new store, stand for a new store
 either_new : (x : Framed) → LeadTo (x ∷ []) new_store → (f : Files) → HoldsLive f [] ⊎ HoldsLive f (x ∷ []) → StandsFor f new_store
 either_new x leads f (inl h) = record { live = []; held = h; leads = refl }
 either_new x leads f (inr h) = record { live = x ∷ []; held = h; leads = leads }

@@ -1,4 +1,4 @@
--- Files that are begun: a store on two files that hold no record.
+-- A store is begun on two files that hold no record.
 use Rattle.std.specs.Prelude.{◌⊎◌, []}
 use Rattle.jf_disk.specs.Disk.{History, IsImage, reads}
 use Rattle.jf_disk.specs.Crashes.{GoesOn, LeavesFiles}
@@ -6,13 +6,13 @@ use Rattle.jf_model.specs.Versions.{new_store}
 use Rattle.jf_pair.specs.Files.{HoldsLive}
 use Rattle.jf_files.specs.Files.{StandsFor}
 
--- files without a record are begun: a read stands for a new store still, and a crash since then leaves what it might have left
+-- files without a record were begun: they still stand for a new store, and a crash leaves what it could have left
 -- before, or files that stand for a new store
 pub record IsBegunOver (old new : History) : Type 0 where
   pub none : HoldsLive (reads old) []
   pub stands : StandsFor (reads new) new_store
   pub images : GoesOn old new (λ f. IsImage old.now f ⊎ StandsFor f new_store)
 
--- nothing is made of the files, or they held no record and are begun
+-- the files are unchanged, or they held no record and were begun
 abbrev pub LeavesOrBegins : History → History → Type 0
 LeavesOrBegins old new = LeavesFiles old new ⊎ IsBegunOver old new

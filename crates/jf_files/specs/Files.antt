@@ -1,4 +1,4 @@
--- The versions for which two files stand, or the first place of damage.
+-- The versions that two files stand for, or their first place of damage (docs/FORMATS.md, "Two files of records").
 use Rattle.std.specs.Prelude.{◌≡◌, ◌⊎◌, ℕ, List, [], ◌∷◌, map, Some, Result, Ok, Err}
 use Rattle.jf_disk.specs.Disk.{Files}
 use Rattle.jf_disk.specs.declared.side.Side.{Side}
@@ -12,26 +12,26 @@ use Rattle.jf_payload.specs.Reading.{spelled}
 use Rattle.jf_standing.specs.Standing.{Standing, versions_of}
 use Rattle.jf_standing.specs.Leading.{Item, AllLead, OneFailsAt}
 
--- what stands at the offset of a record in a file of a format: the record that its payload spells, or none
+-- a framed record as it is read in a format: its offset, and the record that its payload spells, or None
 abbrev pub item : Format → Framed → Item
 item fmt x = (x.offset, spelled fmt x.kind x.payload)
 
--- the same of records in their order
+-- framed records as they are read, in order
 abbrev pub items : Format → List Framed → List Item
 items fmt xs = map (item fmt) xs
 
--- records lead to a standing of a format: the first is a checkpoint of the format's kind and gives one, and each later
--- record is taken
+-- records lead to a standing of a format: the first is a checkpoint of the format's kind and gives a standing, and each
+-- later record is taken
 abbrev pub LeadToStanding : List Framed → Format → Standing → Type 0
 LeadToStanding [] fmt s = ⊥
 LeadToStanding (x ∷ xs) fmt s = (x.kind ≡ checkpoint_kind fmt) × AllLead fmt (item fmt x) (items fmt xs) s
 
--- records lead to versions: no record to those of a new store, others to those of the standing
+-- records lead to versions: an empty list of records leads to a new store, any other to the versions of its standing
 abbrev pub LeadTo : List Framed → Versions → Type 0
 LeadTo [] v = v ≡ new_store
 LeadTo (x ∷ xs) v = (fmt : Format) × (s : Standing) × LeadToStanding (x ∷ xs) fmt s × (v ≡ versions_of s)
 
--- the offset of the first of them that isn't sound
+-- the offset of the first record that isn't sound
 abbrev pub IsUnsoundAt : List Framed → ℕ → Type 0
 IsUnsoundAt [] at = ⊥
 IsUnsoundAt (x ∷ xs) at = (fmt : Format) × (x.kind ≡ checkpoint_kind fmt) × OneFailsAt fmt (item fmt x) (items fmt xs) at
@@ -42,11 +42,11 @@ pub record StandsFor (files : Files) (v : Versions) : Type 0 where
   pub held : HoldsLive files live
   pub leads : LeadTo live v
 
--- a live record is the first that isn't sound
+-- a live record is the first one that isn't sound
 abbrev pub IsDamagedWithin : Files → Side → ℕ → Type 0
 IsDamagedWithin files where_ at = (rs : List Framed) × (h : HoldsLive files rs) × (where_ ≡ live_side h.a_records h.b_records) × IsUnsoundAt rs at
 
--- the first place of damage: one that shows in gates, lengths and first records, or if none does, that of a live record
+-- the first place of damage: one in gates, lengths and first records; or if these are sound, that of a live record
 abbrev pub IsDamagedAt : Files → Side → ℕ → Type 0
 IsDamagedAt files where_ at = (outer_damage files ≡ Some (where_, at)) ⊎ IsDamagedWithin files where_ at
 
@@ -63,11 +63,11 @@ abbrev pub generation_in : List Framed → ℕ
 generation_in [] = 1
 generation_in (x ∷ xs) = generation_of (x ∷ xs)
 
--- the records of a side, none if its gates and lengths don't hold
+-- the records of a side; no records if its gates and lengths aren't whole
 abbrev pub held : Result (List Framed) ℕ → List Framed
 held (Ok rs) = rs
 held (Err at) = []
 
--- the generation of two files: that of the live records
+-- the generation of two files: that of their live records
 unfoldable pub generation : Files → ℕ
 generation files = generation_in (live_records (held (records files.a)) (held (records files.b)))

@@ -1,4 +1,4 @@
--- Laws on what files stand for.
+-- Laws of what files stand for.
 use Rattle.std.specs.Prelude.{◌≡◌, ◌↔◌, ◌⊎◌, ℕ, true, List, [], ◌∷◌, ◌++◌, Ok}
 use Rattle.jf_disk.specs.Disk.{Files, History, reads}
 use Rattle.jf_disk.specs.Crashes.{LeavesNow}
@@ -25,7 +25,7 @@ use Rattle.jf_files.specs.Steps.{IsCalm}
 abbrev pub CheckpointsHaveFormats : Type 0
 CheckpointsHaveFormats = (kind : ℕ) → (is_checkpoint kind ≡ true) ↔ ((fmt : Format) × (kind ≡ checkpoint_kind fmt))
 
--- a record that spells a checkpoint can begin a side, and has the checkpoint's generation
+-- a record that spells a checkpoint can begin a side, and the side's generation is the checkpoint's
 abbrev pub CheckpointsAreNumbered : Type 0
 CheckpointsAreNumbered =
     (fmt : Format) (generation base floor head : ℕ) (roots : List (List ℕ)) (nodes : List Named) (x : Framed) → IsSpelling fmt («record».Checkpoint generation base floor head roots nodes) x.kind x.payload
@@ -39,23 +39,23 @@ GenerationIsLive = (files : Files) (rs : List Framed) → HoldsLive files rs →
 abbrev pub NoRecordsAreNew : Type 0
 NoRecordsAreNew = (files : Files) → records files.a ≡ Ok [] → records files.b ≡ Ok [] → StandsFor files new_store
 
--- and so do the 101 bytes that the checkpoint of a new store, in the second format, makes of side A: with generation 1
+-- the 101 bytes that the checkpoint of a new store in format 2 makes of side A stand for a new store of generation 1
 abbrev pub NewStoreStands : Type 0
 NewStoreStands = StandsFor new_store_files new_store × (generation new_store_files ≡ 1) × (1 ∷ frame 5 (record_bytes format.Two (checkpoint_of 1 (new_standing format.Two))) ≡ new_store_bytes)
 
--- files stand for one value of versions at most
+-- files stand for at most one list of versions
 abbrev pub FilesStandForOne : Type 0
 FilesStandForOne = (files : Files) (v w : Versions) → StandsFor files v → StandsFor files w → v ≡ w
 
--- and that is sound
+-- the versions that files stand for are sound
 abbrev pub FilesStandForSound : Type 0
 FilesStandForSound = (files : Files) (v : Versions) → StandsFor files v → IsVersions v
 
--- damaged files stand for none
+-- damaged files stand for no versions
 abbrev pub DamageIsNoVersions : Type 0
 DamageIsNoVersions = (files : Files) (v : Versions) (where_ : Side) (at : ℕ) → StandsFor files v → IsDamagedAt files where_ at → ⊥
 
--- there is one first place of damage
+-- files have at most one first place of damage
 abbrev pub DamageHasOnePlace : Type 0
 DamageHasOnePlace =
     (files : Files) (where_ where_' : Side) (at at' : ℕ) → IsDamagedAt files where_ at → IsDamagedAt files where_' at' → (where_ ≡ where_') × (at ≡ at')
@@ -64,30 +64,30 @@ DamageHasOnePlace =
 abbrev pub FilesAreJudged : Type 0
 FilesAreJudged = (files : Files) → ((v : Versions) × StandsFor files v) ⊎ ((where_ : Side) × (at : ℕ) × IsDamagedAt files where_ at)
 
--- a disk whose files stand for versions is calm if all that a crash may leave stands for them
+-- a disk whose files stand for versions is calm if whatever a crash leaves stands for the same versions
 abbrev pub CalmBoth : Type 0
 CalmBoth = (h : History) (v : Versions) → StandsFor (reads h) v → LeavesNow h (λ f. StandsFor f v) → IsCalm h
 
--- ---- with the standing
+-- ---- files that hold a standing
 
--- files that hold one stand for its versions
+-- files that hold a standing stand for its versions
 abbrev pub HeldIsStoodFor : Type 0
 HeldIsStoodFor = (files : Files) (fmt : Format) (s : Standing) → HoldsStanding files fmt s → StandsFor files (versions_of s)
 
--- and files that hold a record and stand for versions hold one
+-- files that hold a record and stand for versions hold a standing
 abbrev pub StoodForIsHeld : Type 0
 StoodForIsHeld =
     (files : Files) (v : Versions) (x : Framed) (xs : List Framed) → StandsFor files v → HoldsLive files (x ∷ xs) → (fmt : Format) × (s : Standing) × HoldsStanding files fmt s × (v ≡ versions_of s)
 
--- which is sound
+-- the standing that files hold is sound, and so are its versions
 abbrev pub HeldIsSound : Type 0
 HeldIsSound = (files : Files) (fmt : Format) (s : Standing) → HoldsStanding files fmt s → IsSound fmt s × IsVersions (versions_of s)
 
--- one record after the others leads on
+-- one more record leads to what it makes of the standing before it
 abbrev pub OneMoreFollows : Type 0
 OneMoreFollows = (rs : List Framed) (fmt : Format) (s s' : Standing) (y : Framed) (r : Record) → LeadToStanding rs fmt s → IsSpelling fmt r y.kind y.payload → Takes fmt s r s' → LeadToStanding (rs ++ y ∷ []) fmt s'
 
--- a checkpoint alone leads to what it gives
+-- a checkpoint alone leads to the standing that it gives
 abbrev pub CheckpointAlone : Type 0
 CheckpointAlone = (fmt : Format) (s : Standing) (x : Framed) (r : Record) → IsSpelling fmt r x.kind x.payload → Gives fmt r s → LeadToStanding (x ∷ []) fmt s
 

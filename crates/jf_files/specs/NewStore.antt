@@ -6,7 +6,7 @@ use Rattle.jf_disk.specs.Disk.{Files}
 abbrev pub in_eight : ℕ → List ℕ
 in_eight n = replicate 7 0 ++ n ∷ []
 
--- the root of the map without entries
+-- the root of the empty map
 abbrev pub empty_root : List ℕ
 empty_root = 110 ∷ 52 ∷ 11 ∷ 156 ∷ 255 ∷ 179 ∷ 122 ∷ 152 ∷ 156 ∷ 165 ∷ 68 ∷ 230 ∷ 187 ∷ 120 ∷ 10 ∷ 44 ∷ 120 ∷ 144 ∷ 29 ∷ 63 ∷ 179 ∷ 55 ∷ 56 ∷ 118 ∷ 133 ∷ 17 ∷ 163 ∷ 6 ∷ 23 ∷ 175 ∷ 160 ∷ 29 ∷ []
 
@@ -18,6 +18,6 @@ new_store_payload = in_eight 1 ++ replicate 24 0 ++ empty_root ++ in_eight 1 ++ 
 abbrev pub new_store_bytes : List ℕ
 new_store_bytes = 1 ∷ 5 ∷ in_eight 90 ++ new_store_payload ++ 0 ∷ []
 
--- side B holds no byte
+-- side A holds these bytes, and side B is empty
 abbrev pub new_store_files : Files
 new_store_files = record { a = new_store_bytes; b = [] }

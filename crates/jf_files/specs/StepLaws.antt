@@ -1,4 +1,4 @@
--- Laws on the steps of a store: what their records make, and that a stop leaves the versions before or behind.
+-- Laws of the steps of a store: what their records lead to, and that a crash leaves the versions before or after.
 use Rattle.std.specs.Prelude.{◌≡◌, ℕ, ◌+◌, ◌<◌, ◌≤◌, ◌^◌, List, [], ◌∷◌, ◌++◌, length}
 use Rattle.std.specs.List.{AllByRecursion}
 use Rattle.std.specs.FinMap.{len}
@@ -26,13 +26,13 @@ use Rattle.jf_files.specs.Files.{LeadToStanding, LeadTo, StandsFor, generation_i
 use Rattle.jf_files.specs.Begun.{IsBegunOver}
 use Rattle.jf_files.specs.Steps.{Step, Opens, Lands, Prunes, Compacts, Imports, map_of_entries, versions_behind, generation_behind, LiveBehind, StopsWell, Succeeds}
 
--- the record of landings: one alone, or a group
+-- the record of landings: a landing alone, or a group
 abbrev pub landed_record : List Commit → Record
 landed_record [] = «record».Group []
 landed_record (c ∷ []) = «record».NodeCommit c
 landed_record (c ∷ d ∷ cs) = «record».Group (c ∷ d ∷ cs)
 
--- a record of landings of these batches in turn leads on to their versions
+-- a record of landings of these batches leads to the versions with these batches landed
 abbrev pub LandingsFollow : Type 0
 LandingsFollow =
     (rs : List Framed) (fmt : Format) (s : Standing) (bs : List Batch) (y : Framed) → LeadToStanding rs fmt s
@@ -40,61 +40,61 @@ LandingsFollow =
     → IsSpelling fmt (landed_record (landings_of fmt s bs)) y.kind y.payload
     → LeadToStanding (rs ++ y ∷ []) fmt (all_landed fmt s bs) × (versions_of (all_landed fmt s bs) ≡ versions_behind (Lands bs) (versions_of s))
 
--- a record of a floor leads on to the versions from it on
+-- a record of a floor leads to the versions from that floor on
 abbrev pub FloorsFollow : Type 0
 FloorsFollow =
     (rs : List Framed) (fmt : Format) (s : Standing) (floor : ℕ) (y : Framed) → LeadToStanding rs fmt s
     → IsSound fmt s → s.floor ≤ floor → floor ≤ s.head → IsSpelling fmt («record».Floor floor) y.kind y.payload
     → LeadToStanding (rs ++ y ∷ []) fmt (with_floor floor s) × (versions_of (with_floor floor s) ≡ versions_behind (Prunes floor) (versions_of s))
 
--- a checkpoint alone of a sound standing leads to the same nodes in the order of their names, and the same versions
+-- a checkpoint of a sound standing leads, alone, to the same nodes in the order of their names, and the same versions
 abbrev pub CheckpointsFollow : Type 0
 CheckpointsFollow =
     (fmt : Format) (s : Standing) (generation : ℕ) (x : Framed) → IsSound fmt s → IsSpelling fmt (checkpoint_of generation s) x.kind x.payload
     → LeadToStanding (x ∷ []) fmt (with_nodes (nodes_by_name s.nodes) s) × (versions_of (with_nodes (nodes_by_name s.nodes) s) ≡ versions_behind Compacts (versions_of s))
 
--- so a checkpoint with counts leads to the versions of what the file's format keeps of the standing
+-- a checkpoint in format 2 leads, alone, to the versions of what the file's format keeps of the standing
 abbrev pub CompactionsFollow : Type 0
 CompactionsFollow =
     (fmt : Format) (s : Standing) (generation : ℕ) (x : Framed) → IsSound format.Two s → IsSpelling format.Two (checkpoint_of generation s) x.kind x.payload → LeadTo (x ∷ []) (versions_behind Compacts (versions_of (standing_in fmt s)))
 
--- and so does that of one map, whatever the versions before, to these entries as one version
+-- a checkpoint of one map leads, alone, to that map as one version, whatever the versions before
 abbrev pub ImportsFollow : Type 0
 ImportsFollow =
     (fmt : Format) (version : ℕ) (es : List (List ℕ × List ℕ)) (generation : ℕ) (x : Framed) (v : Versions)
     → IsMap (map_of_entries es) → len (map_of_entries es) ≤ 2 ^ 63 → version < never → IsSpelling fmt (checkpoint_of generation (imported_standing fmt version (map_of_entries es))) x.kind x.payload
     → LeadTo (x ∷ []) (versions_behind (Imports version es) v)
 
--- the first checkpoint of a new store leads to what no record leads to
+-- the first checkpoint of a new store leads to a new store, as an empty list of records does
 abbrev pub FirstFollows : Type 0
 FirstFollows =
     (fmt : Format) (generation : ℕ) (x : Framed) → IsSpelling fmt (checkpoint_of generation (new_standing fmt)) x.kind x.payload
     → LeadTo (x ∷ []) (versions_behind Opens new_store)
 
--- where records lead to the versions before a step and others to those behind it, a stop between them stops well
+-- if crashes leave the live records `rs` or `rs'`, which lead to the versions before and after a step, it stops well
 abbrev pub StopsByRecords : Type 0
 StopsByRecords =
     (step : Step) (old new : History) (v : Versions) (rs rs' : List Framed) → LeadTo rs v → LeadTo rs' (versions_behind step v) → StopsBetween old new rs rs' → StopsWell step old new v
 
--- and once a pair of files is in step with the latter, the step has succeeded
+-- if a pair of files is then in step with `rs'`, the step has succeeded
 abbrev pub SucceedsByRecords : Type 0
 SucceedsByRecords =
     (step : Step) (old new : History) (v : Versions) (p : Pair) (rs rs' : List Framed) → LeadTo rs v → LeadTo rs' (versions_behind step v)
     → HoldsLive (reads old) rs → StopsBetween old new rs rs' → IsInStep p rs' new.now → generation_in rs' ≡ generation_behind step (generation_in rs) → LiveBehind step rs rs'
     → Succeeds step old new v
 
--- calls that make nothing of the files may come before a step, if each image stood for the versions
+-- calls that change nothing in the files may come before a step, if a crash before them leaves only files of its versions
 abbrev pub SucceedsAfterReading : Type 0
 SucceedsAfterReading =
     (step : Step) (old mid new : History) (v : Versions) → LeavesNow old (λ f. StandsFor f v) → LeavesFiles old mid → Succeeds step mid new v → Succeeds step old new v
 
--- an opening that finds records makes nothing of the files, and has then succeeded
+-- an opening that finds records has succeeded if it leaves the files unchanged
 abbrev pub OpensByRecords : Type 0
 OpensByRecords =
     (old new : History) (v : Versions) (p : Pair) (x : Framed) (xs : List Framed) → LeadTo (x ∷ xs) v
     → LeavesNow old (λ f. StandsFor f v) → LeavesFiles old new → IsInStep p (x ∷ xs) new.now → Succeeds Opens old new v
 
--- a first checkpoint on files without a record begins them, whatever becomes of it
+-- a first checkpoint on files without a record begins them, whether it succeeds or not
 abbrev pub BeginsByRecords : Type 0
 BeginsByRecords =
     (old mid new : History) (p : Pair) (x : Framed) → LeadTo (x ∷ []) new_store

@@ -1,4 +1,4 @@
--- What a step of a store makes of versions and of the records of its files, and what a stop in it may leave.
+-- What a step of a store makes of its versions and of its files' records, and what a crash in it may leave.
 use Rattle.std.specs.Prelude.{◌≡◌, ◌⊎◌, ℕ, ◌+◌, List, [], ◌∷◌, ◌++◌}
 use Rattle.std.specs.FinMap.{from_sorted}
 use Rattle.jf_disk.specs.Disk.{History, Files, IsImage, reads}
@@ -11,8 +11,8 @@ use Rattle.jf_codec.specs.declared.format.Format.TheVariants as format
 use Rattle.jf_payload.specs.Spelling.{checkpoint_kind}
 use Rattle.jf_files.specs.Files.{StandsFor, generation}
 
--- a store is opened, lands batches one after another, sets a later floor, writes a new generation, or takes one version
--- with these entries
+-- a step opens the store, lands batches one after another, sets a later floor, writes a new generation, or imports one
+-- version with these entries
 pub data Step : Type 0 where
   Opens : Step
   Lands : List Batch → Step
@@ -20,11 +20,11 @@ pub data Step : Type 0 where
   Compacts : Step
   Imports : ℕ → List (List ℕ × List ℕ) → Step
 
--- the map of entries in the order of their keys
+-- the map of entries that are in the order of their keys
 abbrev pub map_of_entries : List (List ℕ × List ℕ) → Map
 map_of_entries es = from_sorted es
 
--- the versions that the step's Ok gives
+-- the versions after a step that succeeds
 abbrev pub versions_behind : Step → Versions → Versions
 versions_behind Opens v = v
 versions_behind (Lands bs) v = land_all bs v
@@ -32,7 +32,7 @@ versions_behind (Prunes floor) v = pruned floor v
 versions_behind Compacts v = v
 versions_behind (Imports version es) v = imported version (map_of_entries es)
 
--- and the generation
+-- the generation after a step that succeeds
 abbrev pub generation_behind : Step → ℕ → ℕ
 generation_behind Opens g = g
 generation_behind (Lands bs) g = g
@@ -42,16 +42,16 @@ generation_behind (Imports version es) g = g + 1
 
 -- ---- records
 
--- one record more
+-- there is one more record
 abbrev pub HasOneMore : List Framed → List Framed → Type 0
 HasOneMore rs rs' = (y : Framed) × (rs' ≡ rs ++ y ∷ [])
 
--- one record alone, a checkpoint whose nodes are of the second format
+-- there is one record, a checkpoint in format 2
 abbrev pub IsOneCheckpoint : List Framed → Type 0
 IsOneCheckpoint rs = (x : Framed) × (rs ≡ x ∷ []) × (x.kind ≡ checkpoint_kind format.Two)
 
--- the live records that the step's Ok leaves: an opening writes a checkpoint if there was no record; a landing of batches and
--- a floor are one record more; a new generation and an import are a checkpoint alone
+-- the live records after a step that succeeds: an opening writes a checkpoint if there was no record; a landing of
+-- batches and a floor add one record; a new generation and an import leave a checkpoint alone
 abbrev pub LiveBehind : Step → List Framed → List Framed → Type 0
 LiveBehind Opens [] rs' = IsOneCheckpoint rs'
 LiveBehind Opens (x ∷ xs) rs' = rs' ≡ x ∷ xs
@@ -60,13 +60,13 @@ LiveBehind (Prunes floor) rs rs' = HasOneMore rs rs'
 LiveBehind Compacts rs rs' = IsOneCheckpoint rs'
 LiveBehind (Imports version es) rs rs' = IsOneCheckpoint rs'
 
--- ---- stops
+-- ---- crashes
 
--- a stop in the step leaves the versions before or behind it
+-- a crash in the step leaves the versions before or after it
 abbrev pub StopsWell : Step → History → History → Versions → Type 0
 StopsWell step old new v = GoesOn old new (λ f. StandsFor f v ⊎ StandsFor f (versions_behind step v))
 
--- and its Ok those behind it alone, with their generation and records
+-- the step succeeded: the files have the versions, generation and records after it, and a crash leaves nothing else
 pub record Succeeds (step : Step) (old new : History) (v : Versions) : Type 0 where
   pub stops : StopsWell step old new v
   pub stands : StandsFor (reads new) (versions_behind step v)
@@ -74,7 +74,7 @@ pub record Succeeds (step : Step) (old new : History) (v : Versions) : Type 0 wh
   pub generation_of : generation (reads new) ≡ generation_behind step (generation (reads old))
   pub live : (rs : List Framed) → HoldsLive (reads old) rs → (rs' : List Framed) × HoldsLive (reads new) rs' × LiveBehind step rs rs'
 
--- all that a crash may leave stands for what the files read stand for, and for nothing else
+-- whatever a crash leaves stands for what the files stand for, and for nothing else
 pub record IsCalm (h : History) : Type 0 where
   pub leaves : (v : Versions) → StandsFor (reads h) v → LeavesNow h (λ f. StandsFor f v)
   pub only : (f : Files) → IsImage h.now f → (v : Versions) → StandsFor f v → StandsFor (reads h) v

@@ -1,4 +1,4 @@
-// Laws on what files stand for. These functions do nothing when they run.
+// Laws of what files stand for. These functions do nothing when they run.
 ghost use Rattle.jf_files.specs.Laws.{CheckpointsHaveFormats, CheckpointsAreNumbered, GenerationIsLive, NoRecordsAreNew, NewStoreStands, FilesStandForOne, FilesStandForSound, DamageIsNoVersions, DamageHasOnePlace, FilesAreJudged, CalmBoth, HeldIsStoodFor, StoodForIsHeld, HeldIsSound, OneMoreFollows, CheckpointAlone, StandingsHaveVersions};
 
 use jf_payload::spelled_is_spelling;
@@ -12,7 +12,7 @@ pub fn checkpoints_have_formats()
     ensures { CheckpointsHaveFormats }
 {}
 
-/// A record that spells a checkpoint can begin a side, and has the checkpoint's generation.
+/// A record that spells a checkpoint can begin a side, and the side's generation is the checkpoint's.
 pub fn checkpoints_are_numbered()
     ensures { CheckpointsAreNumbered }
 {}
@@ -27,7 +27,7 @@ pub fn no_records_are_new()
     ensures { NoRecordsAreNew }
 {}
 
-/// The checkpoint of a new store makes 101 bytes of side A, which stand for a new store of generation 1.
+/// The checkpoint of a new store makes 101 bytes of side A, and these files stand for a new store of generation 1.
 pub fn new_store_stands()
     ensures { NewStoreStands }
 {
@@ -36,7 +36,7 @@ pub fn new_store_stands()
     new_is_sound();
 }
 
-/// Files stand for one value of versions at most.
+/// Files stand for at most one list of versions.
 pub fn files_stand_for_one()
     ensures { FilesStandForOne }
 {
@@ -60,7 +60,7 @@ pub fn damage_is_no_versions()
     spelled_is_read();
 }
 
-/// There is one first place of damage.
+/// Files have at most one first place of damage.
 pub fn damage_has_one_place()
     ensures { DamageHasOnePlace }
 {
@@ -76,7 +76,7 @@ pub fn files_are_judged()
     spelled_is_read();
 }
 
-/// A disk whose files stand for versions is calm if all that a crash may leave stands for them.
+/// A disk whose files stand for versions is calm if whatever a crash leaves stands for the same versions.
 pub fn calm_both()
     ensures { CalmBoth }
 {
@@ -102,7 +102,7 @@ pub fn held_is_sound()
     spelled_is_read();
 }
 
-/// Records with one more lead to what that one makes of the standing before.
+/// One more record leads to what it makes of the standing before it.
 pub fn one_more_follows()
     ensures { OneMoreFollows }
 {

@@ -1,5 +1,5 @@
-//! The versions that two files of records stand for, or the first place of damage; and what a stop in a step of a store may
-//! leave. Definitions with their laws.
+//! The versions that two files of records stand for, or their first place of damage; and what a crash in a step of a
+//! store may leave. Definitions with their laws.
 #![tactic(auto)]
 
 mod laws;

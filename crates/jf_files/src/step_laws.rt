@@ -1,4 +1,4 @@
-// Laws on the steps of a store. These functions do nothing when they run.
+// Laws of the steps of a store. These functions do nothing when they run.
 ghost use Rattle.jf_files.specs.StepLaws.{LandingsFollow, FloorsFollow, CheckpointsFollow, CompactionsFollow, ImportsFollow, FirstFollows, StopsByRecords, SucceedsByRecords, SucceedsAfterReading, OpensByRecords, BeginsByRecords};
 
 use jf_payload::spelled_is_spelling;
@@ -6,7 +6,7 @@ use jf_standing::{
     checkpoints_give, floors_prune, formats_are_sound, groups_land, imports_are_sound, new_is_sound,
 };
 
-/// A record of landings of batches in turn makes a version for each.
+/// A record of landings leads to the versions with these batches landed.
 pub fn landings_follow()
     ensures { LandingsFollow }
 {
@@ -14,7 +14,7 @@ pub fn landings_follow()
     groups_land();
 }
 
-/// A record of a floor leaves the versions from it on.
+/// A record of a floor leads to the versions from that floor on.
 pub fn floors_follow()
     ensures { FloorsFollow }
 {
@@ -22,7 +22,7 @@ pub fn floors_follow()
     floors_prune();
 }
 
-/// The checkpoint of a sound standing, alone, leads to the same nodes in order, and to the same versions.
+/// A checkpoint of a sound standing leads, alone, to the same nodes in the order of their names, and the same versions.
 pub fn checkpoints_follow()
     ensures { CheckpointsFollow }
 {
@@ -30,7 +30,7 @@ pub fn checkpoints_follow()
     checkpoints_give();
 }
 
-/// The checkpoint of a sound standing with counts, alone, leads to the versions of what a format keeps of it.
+/// A checkpoint in format 2 leads, alone, to the versions of what the file's format keeps of the standing.
 pub fn compactions_follow()
     ensures { CompactionsFollow }
 {
@@ -39,7 +39,7 @@ pub fn compactions_follow()
     formats_are_sound();
 }
 
-/// The checkpoint of one map, alone, leads to one version with that map.
+/// A checkpoint of one map leads, alone, to that map as one version.
 pub fn imports_follow()
     ensures { ImportsFollow }
 {
@@ -48,7 +48,7 @@ pub fn imports_follow()
     imports_are_sound();
 }
 
-/// The checkpoint of a new store leads to what no record leads to.
+/// The first checkpoint of a new store leads to a new store, as an empty list of records does.
 pub fn first_follows()
     ensures { FirstFollows }
 {
@@ -57,28 +57,28 @@ pub fn first_follows()
     new_is_sound();
 }
 
-/// A stop between records that lead to the versions before a step, and those that lead to the versions behind it, leaves
-/// one of the two.
+/// If crashes leave the live records from before a step or from after it, and these lead to the versions before and
+/// after it, the step stops well.
 pub fn stops_by_records()
     ensures { StopsByRecords }
 {}
 
-/// A step has succeeded once a pair of files is in step with records that lead to the versions behind it.
+/// A step has succeeded when a pair of files is in step with records that lead to the versions after it.
 pub fn succeeds_by_records()
     ensures { SucceedsByRecords }
 {}
 
-/// Calls that make nothing of the files may come before a step.
+/// Calls that change nothing in the files may come before a step.
 pub fn succeeds_after_reading()
     ensures { SucceedsAfterReading }
 {}
 
-/// An opening that finds records has succeeded once a pair of files is in step with them.
+/// An opening that finds records has succeeded when a pair of files is in step with them.
 pub fn opens_by_records()
     ensures { OpensByRecords }
 {}
 
-/// A first checkpoint on files without a record begins them, whatever becomes of it.
+/// A first checkpoint on files without a record begins them, whether it succeeds or not.
 pub fn begins_by_records()
     ensures { BeginsByRecords }
 {}

@@ -1,4 +1,4 @@
-// Names and nodes as worked bytes, and each refusal.
+// Names and nodes as worked bytes, and a table of each refusal.
 use jf_codec::{CodecFault, decode_name, decode_node, decode_whole, encode_name, encode_node};
 use jf_path::{Bytes, Child, Memory, Nibble, NibblePath, NodeName, PlainNode};
 use std::alloc::Global;
@@ -14,7 +14,7 @@ const ONE: &[u8] = &[0, 0, 0, 0, 0, 0, 0, 1];
 
 const TWO: &[u8] = &[0, 0, 0, 0, 0, 0, 0, 2];
 
-// Bytes of these parts.
+// The bytes of these parts, one after another.
 fn joined(alloc: Global, parts: &[&[u8]]) -> Result<Bytes, Memory> {
     let mut bytes = Bytes::new(alloc);
     for part in parts {
@@ -35,14 +35,14 @@ fn name(version: u64, nibbles: &[u8]) -> NodeName {
     NodeName { version, path }
 }
 
-// A name and its bytes.
+// The bytes of the name below.
 const FIVE: [u8; 11] = [0, 0, 0, 0, 0, 0, 0, 5, 3, 0xab, 0xc0];
 
 fn five() -> NodeName {
     name(5, &[0xa, 0xb, 0xc])
 }
 
-// Whether the name is written so after other bytes.
+// Whether the name is written as these bytes, after others.
 fn is_written(alloc: Global) -> Result<bool, Fail> {
     let mut out = Bytes::copy_of(alloc, b"before")?;
     encode_name(alloc, &five(), &mut out)?;
@@ -84,7 +84,7 @@ fn bytes_of_no_name_are_refused(rt: HostRuntime) {
     }
 }
 
-// Whether the bytes are a node, written again so after others, and read in front of one byte more as so many.
+// Whether the bytes are a node that is written as them again, after others, and read from them before one byte more.
 fn goes_there_and_back(alloc: Global, parts: &[&[u8]]) -> Result<bool, Fail> {
     let bytes = joined(alloc, parts)?;
     Ok(is_written_again(alloc, &bytes)? && is_read_in_front(alloc, &bytes)?)

@@ -1,4 +1,4 @@
-// The payload of a worked example, whose key is from `printf '\x04\x61' | sha256sum`, and what is refused.
+// The payload of a worked example, whose key is from `printf '\x04\x61' | sha256sum`, and a table of refused payloads.
 use jf_path::{Bytes, Key};
 use jf_record::{Record, RecordFault, decode, encode, encode_landing};
 use jf_split::Batch;
@@ -29,7 +29,7 @@ fn joined(alloc: Global, parts: &[&[u8]]) -> Result<Vec<u8>, AllocError> {
     Ok(bytes)
 }
 
-// The payload of a landing as version 1 that removes so many keys.
+// The payload of a commit of version 1 that removes so many keys.
 fn removals(alloc: Global, count: u16) -> Result<Vec<u8>, AllocError> {
     let mut payload = Vec::new(alloc);
     payload.extend_from_slice(&[0, 0, 0, 0, 0, 0, 0, 1, 0, 0, 0, 0, 0, 0])?;
@@ -48,7 +48,7 @@ fn is_written_again(alloc: Global, payload: &[u8], frame: &[u8]) -> Result<bool,
     Ok(written.as_slice() == frame)
 }
 
-// Whether the landing of the value is written as this frame.
+// Whether the commit of the value is written as this frame.
 fn is_written(alloc: Global, frame: &[u8]) -> Result<bool, Fail> {
     let mut batch = Batch::new(alloc);
     batch.put(alloc, &KEY, b"1")?;
@@ -63,7 +63,7 @@ fn is_value(batch: &Batch) -> bool {
     }
 }
 
-// Whether the payload is read as the landing of the value as version 1.
+// Whether the payload is read as the commit of the value as version 1.
 fn is_read(alloc: Global, payload: &[u8]) -> Result<bool, Fail> {
     let Record::BatchCommit { version, batch } = decode(alloc, 1, payload)?;
     Ok(version == 1 && is_value(&batch))
@@ -139,7 +139,7 @@ fn a_payload_cut_short_is_refused(rt: HostRuntime) -> Result<(), Fail> {
     Ok(())
 }
 
-// Whether a landing that removes so many keys is read.
+// Whether a commit that removes so many keys is read.
 fn is_taken(alloc: Global, count: u16) -> Result<bool, Fail> {
     let payload = removals(alloc, count)?;
     Ok(decode(alloc, 1, &payload).is_ok())

@@ -1,4 +1,4 @@
--- Where the first line feed of a list stands, seen from a later start and in front of more bytes, and a piece of input behind what is held.
+-- The first line feed of a list, sought from a later offset, or after bytes were moved or appended.
 use Rattle.std.proofs.Common.{◌≡◌, Option, Some, None, append_assoc, length-take, inl, inr, eq-or-lt_of_le, ℕ, zero, suc, ◌+◌, ◌-◌, ◌<◌, ◌≤◌, Bool, true, false, cond, not, List, [], ◌∷◌, ◌++◌, length, take, drop, refl, sym, ◌∙◌, ap, arith, length-drop}
 use Rattle.std.specs.Prelude.{option_map, unwrap_or, IfSome}
 use Rattle.std.specs.List.{position, position_or_len}
@@ -19,18 +19,18 @@ cond_le false r s h = omega arith
 or_len : (place size : ℕ) → place ≤ size → unwrap_or (cond (ltb place size) (Some place) None) size ≡ place
 or_len place size h = grind (arith, nat_tests)
 
--- the first place that passes, sought from a place on before which none does
+-- the first passing place, sought from a place k before which no place passes
 pub position_or_len_from : (p : ℕ → Bool) (xs : List ℕ) (k : ℕ) → k ≤ position_or_len p xs → position_or_len p xs ≡ k + position_or_len p (drop k xs)
 position_or_len_from p xs zero h = omega arith
 position_or_len_from p [] (suc k) h = absurd (omega arith)
 position_or_len_from p (x ∷ xs) (suc k) h = cond_from (not (p x)) k (position_or_len p xs) (position_or_len p (drop k xs)) h (position_or_len_from p xs k)
 
--- it is no further to the front where more stands behind
+-- appending bytes moves the first passing place no further to the front
 pub position_or_len-append-le : (p : ℕ → Bool) (xs ys : List ℕ) → position_or_len p xs ≤ position_or_len p (xs ++ ys)
 position_or_len-append-le p [] ys = omega arith
 position_or_len-append-le p (x ∷ xs) ys = cond_le (not (p x)) (position_or_len p xs) (position_or_len p (xs ++ ys)) (position_or_len-append-le p xs ys)
 
--- the first line feed from start on, sought from searched on
+-- the first line feed from `start` on is the first one from `searched` on
 pub first_line_feed_from : (bytes : List ℕ) (start searched : ℕ) → IsSearched bytes start searched
     → searched + position_or_len is_line_feed (drop searched bytes) ≡ start + position_or_len is_line_feed (drop start bytes)
 first_line_feed_from bytes start searched s =
@@ -42,11 +42,11 @@ first_line_feed_from bytes start searched s =
     let there : position_or_len is_line_feed (drop (start + k) bytes) ≡ position_or_len is_line_feed (drop searched bytes) = ap (λ (i : ℕ). position_or_len is_line_feed (drop i bytes)) same in
     omega (arith, s.from_start)
 
--- what `position` answers, or the length where it answers nothing
+-- what `position` returns, or the length if it returns `None`
 pub position-or_len : (p : ℕ → Bool) (xs : List ℕ) → unwrap_or (position p xs) (length xs) ≡ position_or_len p xs
 position-or_len p xs = or_len (position_or_len p xs) (length xs) (prefix_len-le-length (λ x. not (p x)) xs)
 
--- what is searched of held bytes, after they moved to the front and more came behind them
+-- how far held bytes are searched, after they moved to the front and more were appended
 pub is_searched-moved : (bytes held new : List ℕ) (start searched : ℕ) → IsSearched bytes start searched → held ≡ drop start bytes
     → take (length held) new ≡ held → IsSearched new 0 (searched - start)
 is_searched-moved bytes held new start searched s same front =
@@ -62,7 +62,7 @@ is_searched-moved bytes held new start searched s same front =
       without_feed = omega (arith, s.without_feed);
     }
 
--- bytes at whose back a piece was put, which a source that tells its bytes gave
+-- a piece appended to held bytes, given by a source whose bytes are known
 pub kept_behind : (before after : Option (List ℕ)) (held items buf room rest : List ℕ) (n : ℕ) → before ≡ Some rest
     → after ≡ option_map (drop n) before → IfSome before (λ all. (n ≤ length all) × (buf ≡ take n all ++ drop n room)) → items ≡ held ++ take n buf
     → (left : List ℕ) × (after ≡ Some left) × (items ++ left ≡ held ++ rest)
@@ -75,7 +75,7 @@ kept_behind before after held items buf room rest n told moved given put =
       rw (put, front, append_assoc, take-append-drop) refl,
     )
 
--- a list in which no place passes, and the same list
+-- a list that equals one in which no place passes
 pub nowhere : (p : ℕ → Bool) (xs ys : List ℕ) → (position_or_len p xs < length xs → ⊥) → ys ≡ xs → position_or_len p ys ≡ length ys
 nowhere p xs ys none same =
     rw same (elim (eq-or-lt_of_le (prefix_len-le-length (λ x. not (p x)) xs)) [ inl all ↦ all | inr some ↦ absurd (none some) ])

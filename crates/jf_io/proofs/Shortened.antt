@@ -1,4 +1,4 @@
--- Texts whose first line is held shortened: what is known of the one from the other.
+-- A text whose first line is held shortened: what follows for the text from what is held.
 use Rattle.std.proofs.Common.{◌≡◌, ◌⊎◌, inl, inr, ℕ, zero, suc, ◌+◌, ◌<◌, ◌≤◌, Bool, true, false, cond, not, List, [], ◌∷◌, ◌++◌, length, take, drop, Option, Some, refl, sym, ◌∙◌, ap, subst, arith, append_assoc, append-nil, length-append, length-take, length-drop}
 use Rattle.std.specs.List.{position_or_len, before_first, after_first}
 use Rattle.std.proofs.lemmas.List.{take-append-drop, take-append-le, take-take, drop-take}
@@ -14,7 +14,7 @@ behind_plain : (b : Bool) (n r s t : ℕ) → cond b (1 + r) 0 ≡ suc n → (r 
 behind_plain true n r s t h f = let same : s ≡ n + t = f (omega arith) in omega arith
 behind_plain false n r s t h f = absurd (omega arith)
 
--- the first place behind them
+-- the first passing place of xs ++ ys, if no place of xs passes, is found in ys
 pub position_or_len-append : (p : ℕ → Bool) (xs ys : List ℕ) → position_or_len p xs ≡ length xs → position_or_len p (xs ++ ys) ≡ length xs + position_or_len p ys
 position_or_len-append p [] ys h = omega arith
 position_or_len-append p (x ∷ xs) ys h =
@@ -24,18 +24,18 @@ front_cond : (b : Bool) (n r s : ℕ) → suc n ≤ cond b (1 + s) 0 → (n ≤ 
 front_cond true n r s h f = let same : r ≡ n = f (omega arith) in omega arith
 front_cond false n r s h f = absurd (omega arith)
 
--- a front that ends before the first place
+-- no place of xs passes if the first one of xs ++ ys comes after xs
 pub plain_front : (p : ℕ → Bool) (xs ys : List ℕ) → length xs ≤ position_or_len p (xs ++ ys) → position_or_len p xs ≡ length xs
 plain_front p [] ys h = refl
 plain_front p (x ∷ xs) ys h = front_cond (not (p x)) (length xs) (position_or_len p xs) (position_or_len p (xs ++ ys)) h (plain_front p xs ys)
 
--- a front of them
+-- a front of bytes without a line feed has no line feed
 pub take_plain : (n : ℕ) (xs : List ℕ) → position_or_len is_line_feed xs ≡ length xs → position_or_len is_line_feed (take n xs) ≡ length (take n xs)
 take_plain n xs h =
     let whole : position_or_len is_line_feed (take n xs ++ drop n xs) ≡ length xs = ap (position_or_len is_line_feed) (take-append-drop n xs) ∙ h in
     plain_front is_line_feed (take n xs) (drop n xs) (omega (arith, length-take n xs))
 
--- of them more than a limit were kept, behind those that were handed on
+-- keeping limit + 1 bytes from start on keeps the first limit + 1 bytes of those after start
 pub drop-short : (bytes new : List ℕ) (start limit : ℕ) → new ≡ take (start + limit + 1) bytes → drop start new ≡ take (limit + 1) (drop start bytes)
 drop-short bytes new start limit is =
     ap (drop start) is ∙ ap (λ n. drop start (take n bytes)) (let e : start + limit + 1 ≡ start + (limit + 1) = omega arith in e) ∙ drop-take start (limit + 1) bytes
@@ -64,7 +64,7 @@ after_behind xs ys h =
 
 -- ---- a text and what is held of it
 
--- all of it, at first
+-- a text held whole
 pub is_shortened-whole : (limit : ℕ) (text : List ℕ) → IsShortened limit text text
 is_shortened-whole limit text = record { front = []; gone = []; behind = text; text_is = refl; held_is = refl; is_plain = refl; is_long = λ some. absurd (omega arith) }
 
@@ -87,11 +87,11 @@ module _ (limit : ℕ) (text held : List ℕ) (s : IsShortened limit text held) 
   both_length : length (s.front ++ s.gone) ≡ length s.front + length s.gone
   both_length = length-append s.front s.gone
 
-  -- no line feed is held: there is none
+  -- if no line feed is held, the text has no line feed
   pub unfinished-text : position_or_len is_line_feed held ≡ length held → position_or_len is_line_feed text ≡ length text
   unfinished-text h = omega (arith, text_place, held_place, text_length, held_length, place_le is_line_feed s.behind)
 
-  -- a line feed is held: there is one, and what stands behind is held
+  -- if a line feed is held, the text has one, and the bytes after it are held as they are
   pub finished-text : position_or_len is_line_feed held < length held → position_or_len is_line_feed text < length text
   finished-text h = omega (arith, text_place, held_place, text_length, held_length)
 
@@ -100,7 +100,7 @@ module _ (limit : ℕ) (text held : List ℕ) (s : IsShortened limit text held) 
       ap (after_first is_line_feed) s.text_is ∙ after_behind (s.front ++ s.gone) s.behind s.is_plain
       ∙ sym (ap (after_first is_line_feed) s.held_is ∙ after_behind s.front s.behind front_is_plain)
 
-  -- the first line is held whole, or it and what is held of it are longer than the limit
+  -- the first line is held whole, or both it and what is held of it are longer than the limit
   pub first_line-text : (before_first is_line_feed text ≡ before_first is_line_feed held) ⊎ ((limit < length (before_first is_line_feed text)) × (limit < length (before_first is_line_feed held)))
   first_line-text = by_gone s.gone refl
     where
@@ -113,7 +113,7 @@ module _ (limit : ℕ) (text held : List ℕ) (s : IsShortened limit text held) 
             omega (arith, length-take (position_or_len is_line_feed held) held, held_place, held_length),
           )
 
-  -- a long front of both is the same
+  -- the first limit + 1 bytes held are those of the text
   fronts : take (limit + 1) held ≡ take (limit + 1) text
   fronts = by_gone s.gone refl
     where
@@ -124,7 +124,7 @@ module _ (limit : ℕ) (text held : List ℕ) (s : IsShortened limit text held) 
           ap (take (limit + 1)) s.held_is ∙ take-append-le (limit + 1) s.front s.behind (omega arith)
           ∙ sym (ap (take (limit + 1)) (s.text_is ∙ append_assoc s.front s.gone s.behind) ∙ take-append-le (limit + 1) s.front (s.gone ++ s.behind) (omega arith))
 
-  -- so the first bytes of both, one more than the limit, are the same
+  -- the first limit + 1 bytes of the first line held are those of the text's first line
   pub line_front-text : take (limit + 1) (before_first is_line_feed held) ≡ take (limit + 1) (before_first is_line_feed text)
   line_front-text = elim first_line-text [ inl same ↦ ap (take (limit + 1)) (sym same) | inr long ↦ both_long long.0 long.1 ]
     where
@@ -134,7 +134,7 @@ module _ (limit : ℕ) (text held : List ℕ) (s : IsShortened limit text held) 
           take-take (limit + 1) (position_or_len is_line_feed held) held (omega (arith, length-take (position_or_len is_line_feed held) held)) ∙ fronts
           ∙ sym (take-take (limit + 1) (position_or_len is_line_feed text) text (omega (arith, length-take (position_or_len is_line_feed text) text)))
 
-  -- something is held of what is something
+  -- if something is held, the text isn't empty
   pub some-text : 0 < length held → 0 < length text
   some-text h = omega (arith, text_length, held_length, both_length)
 
@@ -149,7 +149,7 @@ module _ (limit : ℕ) (text held : List ℕ) (s : IsShortened limit text held) 
       nothing [] e = refl
       nothing (x ∷ xs) e = absurd (omega arith)
 
-  -- an unfinished line is shortened, and more is taken behind it
+  -- an unfinished line is shortened, and taken bytes are put after it
   pub is_shortened-taken : position_or_len is_line_feed held ≡ length held → (taken : List ℕ) → IsShortened limit (text ++ taken) (take (limit + 1) held ++ taken)
   is_shortened-taken plain taken =
       let whole : take (limit + 1) text ++ drop (limit + 1) text ≡ text = take-append-drop (limit + 1) text in
@@ -163,17 +163,17 @@ module _ (limit : ℕ) (text held : List ℕ) (s : IsShortened limit text held) 
         is_long = λ some. omega (arith, length-drop (limit + 1) text, length-take (limit + 1) text);
       }
 
--- ---- pieces that were taken
+-- ---- pieces taken from a source
 
 same_behind : (xs a b : List ℕ) → xs ++ a ≡ xs ++ b → a ≡ b
 same_behind xs a b e = sym (drop_behind xs a 0) ∙ ap (drop (length xs + 0)) e ∙ drop_behind xs b 0
 
--- none yet
+-- no piece was taken yet
 pub is_fetched-none : (limit : ℕ) (text held : List ℕ) (source : Option (List ℕ)) → IsShortened limit text held → IsFetched limit text held source source
 is_fetched-none limit text held source s =
     record { taken = []; shortened = subst (λ t. IsShortened limit t held) (sym (append-nil text)) s; given = λ rest told. (rest, told, refl) }
 
--- one more, behind what is left of an unfinished line
+-- one more piece is taken, after an unfinished line was shortened
 pub is_fetched-more : (limit : ℕ) (text held held' : List ℕ) (before mid after : Option (List ℕ)) → IsFetched limit text held before mid
     → position_or_len is_line_feed held ≡ length held → take (length (take (limit + 1) held)) held' ≡ take (limit + 1) held
     → ((rest : List ℕ) → mid ≡ Some rest → (left : List ℕ) × (after ≡ Some left) × (held' ++ left ≡ take (limit + 1) held ++ rest))
@@ -193,7 +193,7 @@ is_fetched-more limit text held held' before mid after f plain front kept =
           (k.0, k.1, i.2 ∙ ap (λ t. f.taken ++ t) (sym cut) ∙ sym (append_assoc f.taken more k.0));
     }
 
--- the same in the steps of a reader: it finds no line, shortens what it holds, and takes a piece
+-- one more piece in the steps of a reader: it finds no line, shortens what it holds, and takes a piece
 pub is_fetched-step : (limit : ℕ) (text : List ℕ) (held found short new : Held) (before mid after : Option (List ℕ)) → IsFetched limit text held.bytes before mid → held.limit ≡ limit
     → found ≡ held → position_or_len is_line_feed found.bytes ≡ length found.bytes → short ≡ record found { bytes = take (found.limit + 1) found.bytes }
     → take (length short.bytes) new.bytes ≡ short.bytes → ((rest : List ℕ) → mid ≡ Some rest → (left : List ℕ) × (after ≡ Some left) × (new.bytes ++ left ≡ short.bytes ++ rest))
@@ -204,7 +204,7 @@ is_fetched-step limit text held found short new before mid after f most same pla
     is_fetched-more limit text held.bytes new.bytes before mid after f (subst (λ (h : Held). position_or_len is_line_feed h.bytes ≡ length h.bytes) same plain)
     (subst (λ (b : List ℕ). take (length b) new.bytes ≡ b) e front) (λ rest told. let k = kept rest told in (k.0, k.1, k.2 ∙ ap (λ b. b ++ rest) e))
 
--- what was shortened has no line feed either
+-- bytes without a line feed have none after they are shortened
 pub short_is_plain : (found short new : Held) → position_or_len is_line_feed found.bytes ≡ length found.bytes → short ≡ record found { bytes = take (found.limit + 1) found.bytes } → new ≡ short
     → position_or_len is_line_feed new.bytes ≡ length new.bytes
 short_is_plain found short new plain cut same =

@@ -1,24 +1,24 @@
--- The calls of a source or a sink in memory, some of which are told to fail.
+-- The calls of a source or a sink in memory, numbered from 0, of which listed ones fail.
 use Rattle.std.specs.Prelude.{ℕ, ◌+◌, ◌-◌, ◌^◌, min, List, Contains}
 
 -- the calls so far
 pub record CallsMade : Type 0 where
-  -- how many there were: the number of the next call, from 0
+  -- how many calls were made, which is the number of the next call
   pub made : ℕ
   -- the numbers of the calls that fail
   pub failing : List ℕ
-  -- how many failed
+  -- how many calls failed
   pub faults : ℕ
 
--- one more, and no more than the greatest number of 64 bits
+-- a count of 64 bits after one more call: it stays at the greatest number
 abbrev pub counted : ℕ → ℕ
 counted n = min (n + 1) (2 ^ 64 - 1)
 
--- the next call is told to fail
+-- the number of the next call is listed
 abbrev pub IsNextListed : CallsMade → Type 0
 IsNextListed calls = Contains calls.failing calls.made
 
--- after a call that did its work
+-- after a call that succeeded
 abbrev pub after_success : CallsMade → CallsMade
 after_success calls = record calls { made = counted calls.made }
 

@@ -1,4 +1,4 @@
--- Which bytes end a line, which bytes are known to end none, and what is held of lines that are longer than a limit.
+-- Lines of input: what ends a line, how far a search for its end has come, and what is held of a long line.
 use Rattle.std.specs.Prelude.{◌≡◌, ℕ, ◌+◌, ◌<◌, ◌≤◌, Bool, ◌==◌, List, ◌++◌, length, drop, Option, Some}
 use Rattle.std.specs.List.{position_or_len}
 
@@ -6,18 +6,18 @@ use Rattle.std.specs.List.{position_or_len}
 abbrev pub is_line_feed : ℕ → Bool
 is_line_feed b = b == 10
 
--- no line feed stands from start up to searched
+-- no line feed stands from `start` up to `searched`
 pub record IsSearched (bytes : List ℕ) (start searched : ℕ) : Type 0 where
   pub from_start : start ≤ searched
   pub within : searched ≤ length bytes
   pub without_feed : searched ≤ start + position_or_len is_line_feed (drop start bytes)
 
--- what a reader holds, and the most bytes of a line that it holds whole
+-- what a reader holds: `bytes`, and the most bytes of a line that is held whole
 pub record Held : Type 0 where
   pub limit : ℕ
   pub bytes : List ℕ
 
--- held is the text but for bytes that are gone from its first line, in front of which more than the limit are held
+-- `held` is `text`, but bytes of its first line may be gone after a front longer than the limit; `behind` is the rest
 pub record IsShortened (limit : ℕ) (text held : List ℕ) : Type 0 where
   pub front : List ℕ
   pub gone : List ℕ
@@ -27,7 +27,7 @@ pub record IsShortened (limit : ℕ) (text held : List ℕ) : Type 0 where
   pub is_plain : position_or_len is_line_feed (front ++ gone) ≡ length (front ++ gone)
   pub is_long : 0 < length gone → limit < length front
 
--- held is a text, but for such bytes, with the bytes behind it that a source gave
+-- `held` is `text` followed by the bytes `taken` from a source, shortened as above
 pub record IsFetched (limit : ℕ) (text held : List ℕ) (before after : Option (List ℕ)) : Type 0 where
   pub taken : List ℕ
   pub shortened : IsShortened limit (text ++ taken) held

@@ -1,19 +1,19 @@
--- What a sink in memory stands for, and what its next call does.
+-- A sink in memory as its callers see it, and what its next call does.
 use Rattle.std.specs.Prelude.{◌≡◌, ◌⊎◌, ℕ, ◌-◌, min, List, ◌++◌, length, take}
 use Rattle.jf_io.specs.Calls.{CallsMade, IsNextListed, after_success, after_fault}
 
 -- a sink in memory between two calls
 pub record Output : Type 0 where
-  -- the bytes that were taken
+  -- the bytes taken so far
   pub text : List ℕ
-  -- how many more bytes it has room for
+  -- how many more bytes it can take
   pub room : ℕ
   -- the most bytes that one call takes
   pub piece : ℕ
   -- the calls so far
   pub calls : CallsMade
 
--- the next call fails: it is told to, or no room is left
+-- the next call fails: it is listed, or no room is left
 abbrev pub FailsNextPut : Output → Type 0
 FailsNextPut output = IsNextListed output.calls ⊎ (output.room ≡ 0)
 

@@ -1,23 +1,23 @@
--- What a source in memory stands for, and what its next call does.
+-- A source in memory as its callers see it, and what its next call does.
 use Rattle.std.specs.Prelude.{◌≡◌, ◌⊎◌, ℕ, ◌+◌, ◌-◌, ◌^◌, min, List, length, drop}
 use Rattle.jf_io.specs.Calls.{CallsMade, IsNextListed, after_success, after_fault}
 
 -- a source in memory between two calls
 pub record Input : Type 0 where
-  -- the bytes that are still to come
+  -- the bytes still to come
   pub rest : List ℕ
-  -- how many bytes were given
+  -- how many bytes were given so far
   pub given : ℕ
   -- the most bytes that one call gives
   pub piece : ℕ
   -- the calls so far
   pub calls : CallsMade
 
--- the next call fails: it is told to, or no further byte could be counted
+-- the next call fails: it is listed, or the count of bytes given stands at its greatest
 abbrev pub FailsNextTake : Input → Type 0
 FailsNextTake input = IsNextListed input.calls ⊎ (input.given ≡ 2 ^ 64 - 1)
 
--- how many bytes the next call gives into so much room, unless it fails
+-- how many bytes the next call gives into a buffer of `room` bytes, unless it fails
 abbrev pub next_take_amount : Input → ℕ → ℕ
 next_take_amount input room = min (length input.rest) (min room input.piece)
 

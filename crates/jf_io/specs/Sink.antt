@@ -1,7 +1,7 @@
--- What a sink has taken where it didn't take all.
+-- What a sink has taken if it failed before all was put.
 use Rattle.std.specs.Prelude.{◌≡◌, ℕ, ◌<◌, List, ◌++◌, length, Option, option_map}
 
--- a front of these bytes, and not all of them, was appended to a text, where it is told
+-- a front of `bytes`, but not all of them, was appended to the text, if the text is known
 pub record IsCutShort (old new : Option (List ℕ)) (bytes : List ℕ) : Type 0 where
   pub front : List ℕ
   pub missing : List ℕ

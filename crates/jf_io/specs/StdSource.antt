@@ -1,7 +1,7 @@
--- What is known of a source whose bytes come from outside.
+-- A source over a reader of std has no known bytes: only its counts are known.
 use Rattle.std.specs.Prelude.{ℕ}
 
--- its counts
+-- the counts of a source
 pub record SourceCounts : Type 0 where
   -- how many bytes were given
   pub given : ℕ

@@ -1,4 +1,4 @@
-// What a signal interrupts is tried again.
+// System calls that a signal interrupts are tried again, up to a bound.
 
-/// How often a read, a write or a flush is begun in all while signals interrupt it.
+/// The most attempts of one read, write or flush. A signal that interrupts the last one is a fault.
 pub(crate) const ATTEMPTS: u32 = 1_000;

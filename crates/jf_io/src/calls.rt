@@ -1,13 +1,13 @@
-// The calls of a source or a sink in memory.
+// The calls of a source or a sink in memory are counted, and a list says which of them fail.
 ghost use Rattle.std.specs.Prelude.{◌≡◌, ◌⊎◌, ◌↔◌, ◌-◌, ◌<◌, ◌≤◌, ◌^◌, IsTrue, Contains};
 ghost use Rattle.jf_io.specs.Calls.{CallsMade, IsNextListed, after_success, after_fault};
 
 use crate::failed::IoFailed;
 use std::marker::Model;
 
-/// The calls so far, by whose numbers a source or a sink in memory is told to fail.
+/// The calls made so far, numbered from 0, the numbers of the calls that fail, and the count of failures.
 ///
-/// The number of calls and that of faults stand still at `u64::MAX`.
+/// Both counts stay at `u64::MAX` once they reach it.
 #[derive(Debug, Drop)]
 pub(crate) struct Calls {
     made: u64,
@@ -24,7 +24,7 @@ impl Model for Calls {
 }
 
 impl Calls {
-    /// No call so far. Those with these numbers, from 0, are to fail.
+    /// No call was made yet. The calls whose numbers are in `failing` will fail.
     pub(crate) fn new(failing: Vec<u64>) -> Calls
         ensures { result ≡ record { made = 0; failing = failing.items; faults = 0 } }
     {
@@ -42,7 +42,7 @@ impl Calls {
         self.faults
     }
 
-    /// Whether the next call is told to fail.
+    /// Whether the number of the next call is listed.
     pub(crate) fn is_next_listed(&self) -> bool
         ensures { IsTrue result ↔ IsNextListed self.now }
     {
@@ -68,7 +68,7 @@ impl Calls {
     }
 }
 
-// Whether the number is one of these.
+// Whether the list holds the number.
 fn contains(numbers: &[u64], number: u64) -> bool
     ensures { IsTrue result ↔ Contains numbers.now number }
 {

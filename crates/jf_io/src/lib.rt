@@ -1,4 +1,5 @@
-//! Where input comes from and where output goes: sources and sinks that count their faults, in memory and over std's readers and writers; and lines of input.
+//! Sources give input and sinks take output, piece by piece; both count their faults.
+//! They stand in memory, for tests, and over std's readers and writers. A line reader cuts the input into lines.
 #![tactic(auto)]
 
 mod attempts;

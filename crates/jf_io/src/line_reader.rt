@@ -1,4 +1,4 @@
-// Lines of input.
+// Lines of input: a line is the bytes up to a line feed (10), which is no part of it. The last line may lack one.
 ghost use Rattle.std.specs.Prelude.{◌≡◌, ◌==◌, ◌⊎◌, ◌↔◌, ℕ, ◌+◌, ◌-◌, ◌<◌, ◌≤◌, ◌^◌, List, [], ◌++◌, length, take, drop, true, false, Some, Ok, Err, IfOk, OnOk, OnErr, IsTrue, vec_len};
 ghost use Rattle.std.specs.List.{position, position_or_len, before_first, after_first};
 ghost use Rattle.jf_io.specs.LineReader.{is_line_feed, IsSearched, IsShortened, IsFetched};
@@ -7,28 +7,29 @@ use crate::source::Source;
 use std::alloc::Global;
 use std::marker::Model;
 
-// How many bytes are asked for at once.
+// The most bytes that one call asks a source for.
 const PIECE: usize = 65_536;
 
-/// Why no line could be fetched.
+/// Why no line was fetched.
 #[derive(Clone, Copy, Debug, PartialEq, Eq)]
 pub enum FetchFault {
-    /// The source failed in this call.
+    /// The source failed in this call. No line feed is held then.
     ReadFault,
-    /// Memory is wanting.
+    /// Out of memory.
     Memory,
 }
 
-/// Bytes that were taken from a source and not yet handed on, a line at a time. Input is taken in large pieces.
+/// Holds bytes that were taken from a source, and gives them out a line at a time.
+/// Input is taken in pieces of up to 65,536 bytes.
 ///
-/// A line of at most `limit` bytes is held whole. Of a longer one more than `limit` bytes are held, from its front, and
-/// the rest of it may have been let go as it came: whatever its length, no more than a piece is held beside them.
+/// A line of at most `limit` bytes is held whole. Of a longer line more than `limit` bytes from its front are held, and
+/// the rest may be dropped as it comes. So at most `limit` + 1 bytes and one piece are held, whatever a line's length.
 #[derive(Drop)]
 pub struct LineReader {
-    // what was taken and is kept, of which the bytes before `start` were handed on
+    // the bytes taken and kept; those before `start` were given out
     bytes: Vec<u8>,
     start: usize,
-    // no line feed stands from `start` up to here
+    // no line feed stands from `start` up to this offset
     searched: usize,
     // the most bytes of a line that is held whole
     limit: usize,
@@ -47,7 +48,7 @@ impl Model for LineReader {
 }
 
 impl LineReader {
-    /// A reader that holds nothing, for lines of which those of at most `limit` bytes are wanted whole.
+    /// A reader that holds nothing. A line of at most `limit` bytes will be held whole.
     pub fn new(alloc: Global, limit: usize) -> LineReader
         ensures { result ≡ record { limit = limit; bytes = [] } }
     {
@@ -59,12 +60,12 @@ impl LineReader {
         }
     }
 
-    /// Takes from the source until a line with its line feed is held or the input is at its end. `false` says that
-    /// nothing is left. Of a line longer than the limit, bytes after its front are let go.
+    /// Takes bytes from the source until a line with its line feed is held or the input ends. `false` means that the
+    /// input has ended and nothing is held. Bytes of a line past its first `limit` + 1 may be dropped.
     ///
-    /// After a `FetchFault` what was taken counts as held, and the next call goes on from there.
+    /// After a `FetchFault` the bytes taken so far are held, and the next call goes on from there.
     pub fn fetch<S: Source>(&mut self, source: &mut S) -> Result<bool, FetchFault>
-        // Nothing is lost but the back of a line that is longer than the limit, and nothing is invented, whatever the outcome.
+        // Whatever the outcome, no byte is invented, and only bytes of a line past its first `limit` + 1 are lost.
         ensures kept { (text : List ℕ) → IsShortened self.old.limit text self.old.bytes → IsFetched self.old.limit text self.new.bytes (S.rest source.old) (S.rest source.new) }
         ensures limit { self.new.limit ≡ self.old.limit }
         ensures small { length self.new.bytes ≤ self.new.limit + 1 + PIECE }
@@ -86,8 +87,8 @@ impl LineReader {
         }
     }
 
-    /// The line at the front, without its line feed: all that is held if it has none. Of a line longer than the limit
-    /// these are the first bytes, one more than the limit.
+    /// The first line held, without its line feed; all that is held if there is no line feed. Of a line longer than the
+    /// limit, its first `limit` + 1 bytes.
     pub fn line(&self) -> &[u8]
         ensures { result.now ≡ take (self.now.limit + 1) (before_first is_line_feed self.now.bytes) }
     {
@@ -100,14 +101,14 @@ impl LineReader {
         }
     }
 
-    /// Whether no line feed is held: the line at the front is then the last one of an input that is at its end.
+    /// Whether no line feed is held. At the end of the input this says that the line held is the last one.
     pub fn is_last(&self) -> bool
         ensures { IsTrue result ↔ (position_or_len is_line_feed self.now.bytes ≡ length self.now.bytes) }
     {
         line_end(&self.bytes, self.start, self.searched) == self.bytes.len()
     }
 
-    /// Lets the line at the front go, with its line feed.
+    /// Drops the first line held, with its line feed.
     pub fn advance(&mut self)
         ensures { self.new ≡ record self.old { bytes = after_first is_line_feed self.old.bytes } }
     {
@@ -116,14 +117,14 @@ impl LineReader {
         self.searched = self.start;
     }
 
-    // How many bytes are held.
+    // The number of bytes held.
     fn len(&self) -> usize
         ensures { result ≡ length self.now.bytes }
     {
         self.bytes.len() - self.start
     }
 
-    // Whether a line feed is held. What was searched isn't searched again.
+    // Whether a line feed is held. Each byte is searched once.
     fn finds_line(&mut self) -> bool
         ensures same { self.new ≡ self.old }
         ensures small { length self.new.bytes ≤ self.new.limit + 1 + PIECE }
@@ -133,7 +134,7 @@ impl LineReader {
         self.searched < self.bytes.len()
     }
 
-    // Lets go what is held of an unfinished line after the bytes that tell that it is longer than the limit.
+    // Drops the bytes of an unfinished line past its first `limit` + 1, which are enough to tell that it is too long.
     fn shorten(&mut self)
         requires { position_or_len is_line_feed self.old.bytes ≡ length self.old.bytes }
         ensures { self.new ≡ record self.old { bytes = take (self.old.limit + 1) self.old.bytes } }
@@ -144,7 +145,7 @@ impl LineReader {
         }
     }
 
-    // Takes a piece of input, and returns how many bytes it has. 0 is the end of the input.
+    // Takes a piece of input, and returns its number of bytes. 0 is the end of the input.
     fn take_piece<S: Source>(&mut self, source: &mut S) -> Result<usize, FetchFault>
         requires { length self.old.bytes ≤ self.old.limit + 1 }
         ensures kept { (rest : List ℕ) → S.rest source.old ≡ Some rest → (left : List ℕ) × (S.rest source.new ≡ Some left) × (self.new.bytes ++ left ≡ self.old.bytes ++ rest) }
@@ -165,7 +166,7 @@ impl LineReader {
     }
 }
 
-// The place of the first line feed from `start` on, or the length if there is none.
+// The offset of the first line feed from `start` on, or the length if there is no line feed.
 fn line_end(bytes: &[u8], start: usize, searched: usize) -> usize
     requires { IsSearched bytes.now start searched }
     ensures within { result ≤ length bytes.now }
@@ -174,7 +175,7 @@ fn line_end(bytes: &[u8], start: usize, searched: usize) -> usize
     searched + first_line_feed(&bytes[searched..])
 }
 
-// The place of the first line feed, or the length if there is none.
+// The offset of the first line feed, or the length if there is no line feed.
 fn first_line_feed(bytes: &[u8]) -> usize
     ensures within { result ≤ length bytes.now }
     ensures value { result ≡ position_or_len is_line_feed bytes.now }
@@ -182,14 +183,14 @@ fn first_line_feed(bytes: &[u8]) -> usize
     line_feed(bytes).unwrap_or(bytes.len())
 }
 
-// The place of the first line feed.
+// The offset of the first line feed.
 fn line_feed(bytes: &[u8]) -> Option<usize>
     ensures { result ≡ position (λ b. b == 10) bytes.now }
 {
     bytes.iter().position(|b| *b == b'\n')
 }
 
-// Lets the first `count` bytes go.
+// Drops the first `count` bytes.
 fn drop_front(bytes: &mut Vec<u8>, count: usize)
     requires { count ≤ vec_len bytes.old }
     ensures { bytes.new.items ≡ drop count bytes.old.items }
@@ -202,7 +203,7 @@ fn drop_front(bytes: &mut Vec<u8>, count: usize)
     bytes.truncate(kept);
 }
 
-// Appends a piece of input to these bytes, and returns how many bytes it has. 0 is the end of the input.
+// Appends a piece of input to `bytes`, and returns its number of bytes. 0 is the end of the input.
 fn append_piece<S: Source>(bytes: &mut Vec<u8>, source: &mut S) -> Result<usize, FetchFault>
     ensures front { take (length bytes.old.items) bytes.new.items ≡ bytes.old.items }
     ensures short { length bytes.new.items ≤ length bytes.old.items + PIECE }

@@ -1,4 +1,4 @@
-// A sink that keeps its text in memory.
+// A sink in memory, for tests: it can be made to fail at listed calls, and to take few bytes a call.
 ghost use Rattle.std.specs.Prelude.{◌≡◌, ◌⊎◌, ◌↔◌, ◌+◌, ◌-◌, ◌<◌, ◌≤◌, ◌^◌, [], ◌++◌, length, take, Some, IfOk, OnErr, IsErr, IsTrue, option_map};
 ghost use Rattle.jf_io.specs.MemSink.{Output, FailsNextPut, next_put_amount, after_put, after_failed_put};
 
@@ -9,7 +9,7 @@ use jf_path::Memory;
 use std::alloc::Global;
 use std::marker::Model;
 
-/// A sink that keeps its text in memory, takes a piece a call, and fails when it is told to or its room is used up.
+/// A sink that keeps its text in memory. A call takes at most a piece; it fails if it is listed or the room is used up.
 #[derive(Debug, Drop)]
 pub struct MemSink {
     text: Vec<u8>,
@@ -30,10 +30,10 @@ impl Model for MemSink {
 }
 
 impl MemSink {
-    /// A sink without text that has room for `room` bytes and takes at most `piece` of them a call. The calls to `put`
-    /// whose numbers, from 0, are listed in `failing` fail. From call number `u64::MAX` on each call has that number.
+    /// A sink with an empty text, which has room for `room` bytes and takes at most `piece` of them a call. The calls
+    /// to `put` whose numbers, from 0, are in `failing` fail. From call number `u64::MAX` on each call has that number.
     ///
-    /// All memory is taken here. If it is wanting, `failing` is dropped.
+    /// All memory is taken here. If there is too little, `failing` is dropped.
     pub fn new(alloc: Global, piece: usize, room: u64, failing: Vec<u64>) -> Result<MemSink, Memory>
         requires { 0 < piece }
         ensures { IfOk result (λ s. s ≡ record { text = []; room = room; piece = piece; calls = record { made = 0; failing = failing.items; faults = 0 } }) }
@@ -69,14 +69,14 @@ impl Sink for MemSink {
     fn put(&mut self, bytes: &[u8]) -> Result<usize, IoFailed>
         requires { 0 < length bytes.now }
 
-        // What each sink does.
+        // What every sink does.
         ensures count { IfOk result (λ n. (0 < n) × (n ≤ length bytes.now)) }
         ensures text { IfOk result (λ n. Some self.new.text ≡ option_map (λ t. t ++ take n bytes.now) (Some self.old.text)) }
         ensures same { OnErr result (Some self.new.text ≡ Some self.old.text) }
         ensures grows { self.old.calls.faults ≤ self.new.calls.faults }
         ensures cause { IsErr result → (self.old.calls.faults < self.new.calls.faults) ⊎ (self.old.calls.faults ≡ 2 ^ 64 - 1) }
 
-        // What this one does.
+        // What this sink does.
         ensures fails { IsErr result ↔ FailsNextPut self.old }
         ensures amount { IfOk result (λ n. n ≡ next_put_amount self.old bytes.now) }
         ensures ok { IfOk result (λ n. self.new ≡ after_put self.old n bytes.now) }
@@ -86,7 +86,7 @@ impl Sink for MemSink {
             return Err(self.calls.fail());
         }
         let count = bytes.len().min(self.piece.min(self.room as usize));
-        // The room is reserved, so this takes no memory.
+        // There is room for these bytes, so no memory is taken here and this can't fail.
         let _ = self.text.extend_from_slice(&bytes[..count]);
         self.room -= count as u64;
         self.calls.succeed();

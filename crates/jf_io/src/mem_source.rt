@@ -1,4 +1,4 @@
-// A source of bytes in memory.
+// A source in memory, for tests: it can be made to fail at listed calls, and to give few bytes a call.
 ghost use Rattle.std.specs.Prelude.{◌≡◌, ◌⊎◌, ◌↔◌, ◌+◌, ◌-◌, ◌<◌, ◌≤◌, ◌^◌, [], ◌++◌, length, take, drop, Some, IfSome, IfOk, OnOk, OnErr, IsErr, IsTrue, option_map};
 ghost use Rattle.jf_io.specs.MemSource.{Input, FailsNextTake, next_take_amount, after_take, after_failed_take};
 
@@ -8,7 +8,7 @@ use crate::source::Source;
 use jf_path::Bytes;
 use std::marker::Model;
 
-/// A source that gives bytes out of memory, a piece a call, and fails when it is told to.
+/// A source that gives bytes from memory, at most a piece a call, and fails at listed calls.
 #[derive(Debug, Drop)]
 pub struct MemSource {
     bytes: Bytes,
@@ -29,8 +29,8 @@ impl Model for MemSource {
 }
 
 impl MemSource {
-    /// A source of these bytes that gives at most `piece` of them a call. The calls to `take` whose numbers, from 0, are
-    /// listed in `failing` fail. From call number `u64::MAX` on each call has that number.
+    /// A source of `bytes` that gives at most `piece` of them a call. The calls to `take` whose numbers, from 0, are in
+    /// `failing` fail. From call number `u64::MAX` on each call has that number.
     pub fn new(bytes: Bytes, piece: usize, failing: Vec<u64>) -> MemSource
         requires { 0 < piece }
         ensures { result ≡ record { rest = bytes; given = 0; piece = piece; calls = record { made = 0; failing = failing.items; faults = 0 } } }
@@ -61,7 +61,7 @@ impl Source for MemSource {
     fn take(&mut self, buf: &mut [u8]) -> Result<usize, IoFailed>
         requires { 0 < length buf.old }
 
-        // What each source does.
+        // What every source does.
         ensures bound { IfOk result (λ n. n ≤ length buf.old) }
         ensures given { IfOk result (λ n. self.new.given ≡ self.old.given + n) }
         ensures bounded { OnOk result (self.new.given < 2 ^ 64) }
@@ -74,7 +74,7 @@ impl Source for MemSource {
         ensures grows { self.old.calls.faults ≤ self.new.calls.faults }
         ensures cause { IsErr result → (self.old.calls.faults < self.new.calls.faults) ⊎ (self.old.calls.faults ≡ 2 ^ 64 - 1) }
 
-        // What this one does.
+        // What this source does.
         ensures fails { IsErr result ↔ FailsNextTake self.old }
         ensures amount { IfOk result (λ n. n ≡ next_take_amount self.old (length buf.old)) }
         ensures ok { IfOk result (λ n. self.new ≡ after_take self.old n) }

@@ -1,20 +1,20 @@
-// Where output goes.
+// A sink is where output goes: a text that grows by the bytes that it takes.
 ghost use Rattle.std.specs.Prelude.{◌≡◌, ◌⊎◌, ℕ, ◌-◌, ◌<◌, ◌≤◌, ◌^◌, List, [], ◌++◌, length, take, Option, IfOk, OnOk, OnErr, IsOk, IsErr, option_map};
 ghost use Rattle.jf_io.specs.Sink.{IsCutShort};
 
 use crate::failed::IoFailed;
 
-/// A text that is taken piece by piece.
+/// A text that takes bytes piece by piece.
 pub trait Sink {
-    /// The text so far, if the sink tells it.
+    /// The text so far, if the sink's contract says what it is.
     ghost text: { Self → Option (List ℕ) };
 
-    /// The number of faults so far, which stands still at `u64::MAX`.
+    /// The number of failed calls so far, which stays at `u64::MAX`.
     ghost faults: { Self → ℕ };
 
-    /// Appends bytes from the front of these to the text, and returns how many, at least 1.
+    /// Appends a front of `bytes` to the text, and returns its number of bytes, at least 1.
     ///
-    /// After `IoFailed` a sink that tells its text has it as before; another may have taken any of the bytes.
+    /// After `IoFailed` a text that is known is unchanged; any other sink may have taken some or all of the bytes.
     fn put(&mut self, bytes: &[u8]) -> Result<usize, IoFailed>
         requires { 0 < length bytes.now }
         ensures count { IfOk result (λ n. (0 < n) × (n ≤ length bytes.now)) }
@@ -23,14 +23,14 @@ pub trait Sink {
         ensures grows { faults self.old ≤ faults self.new }
         ensures cause { IsErr result → (faults self.old < faults self.new) ⊎ (faults self.old ≡ 2 ^ 64 - 1) };
 
-    /// The number of faults so far, which stands still at `u64::MAX`.
+    /// The number of failed calls so far, which stays at `u64::MAX`.
     fn faults(&self) -> u64
         ensures { result ≡ faults self.now };
 }
 
-/// Puts all these bytes into the sink, in as many calls as it takes, and in none if there is no byte.
+/// Puts all of `bytes` into the sink, in as many calls of `put` as it takes. If there are no bytes, no call is made.
 ///
-/// After `IoFailed` a front of the bytes was put, and not all of them.
+/// After `IoFailed` a front of `bytes` was appended, but not all of them.
 pub fn put_all<K: Sink>(sink: &mut K, bytes: &[u8]) -> Result<(), IoFailed>
     ensures ok { OnOk result (K.text sink.new ≡ option_map (λ t. t ++ bytes.now) (K.text sink.old)) }
     ensures cut_short { OnErr result (IsCutShort (K.text sink.old) (K.text sink.new) bytes.now) }

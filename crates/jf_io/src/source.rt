@@ -1,23 +1,24 @@
-// Where input comes from.
+// A source is where input comes from: a list of bytes that is given out in order.
 ghost use Rattle.std.specs.Prelude.{◌≡◌, ◌⊎◌, ℕ, ◌+◌, ◌-◌, ◌<◌, ◌≤◌, ◌^◌, List, [], ◌++◌, length, take, drop, Option, IfSome, IfOk, OnOk, OnErr, IsErr, option_map};
 
 use crate::failed::IoFailed;
 
-/// An input that is given piece by piece.
+/// An input that is given out piece by piece.
 pub trait Source {
-    /// The bytes that are still to come, if the source tells them.
+    /// The bytes still to come, if the source's contract says what they are.
     ghost rest: { Self → Option (List ℕ) };
 
     /// The number of bytes given so far.
     ghost given: { Self → ℕ };
 
-    /// The number of faults so far, which stands still at `u64::MAX`.
+    /// The number of failed calls so far, which stays at `u64::MAX`.
     ghost faults: { Self → ℕ };
 
-    /// Moves the next bytes of the input into the front of `buf`, and returns how many. 0 is the end of the input.
+    /// Moves the next bytes of the input to the front of `buf`, and returns how many. 0 is the end of the input.
     ///
     /// A call on a source that has given `u64::MAX` bytes fails. After `IoFailed` the same bytes are still to come.
-    /// A source that doesn't tell its bytes may have written anything into `buf` then, and after the bytes that it gave.
+    /// A source whose bytes aren't known may then have written anything to `buf`; after `Ok` it may have written
+    /// anything past the bytes given.
     fn take(&mut self, buf: &mut [u8]) -> Result<usize, IoFailed>
         requires { 0 < length buf.old }
 
@@ -29,7 +30,7 @@ pub trait Source {
         ensures bytes { IfSome (rest self.old) (λ all. IfOk result (λ n. (n ≤ length all) × (buf.new ≡ take n all ++ drop n buf.old))) }
         ensures end { IfSome (rest self.old) (λ all. IfOk result (λ n. n ≡ 0 → all ≡ [])) }
 
-        // When it fails, and what stays.
+        // When a call fails, and what is unchanged then.
         ensures last { given self.old ≡ 2 ^ 64 - 1 → IsErr result }
         ensures same { OnErr result ((rest self.new ≡ rest self.old) × (given self.new ≡ given self.old)) }
         ensures kept { IfSome (rest self.old) (λ _. OnErr result (buf.new ≡ buf.old)) }
@@ -40,7 +41,7 @@ pub trait Source {
     fn taken(&self) -> u64
         ensures { result ≡ given self.now };
 
-    /// The number of faults so far, which stands still at `u64::MAX`.
+    /// The number of failed calls so far, which stays at `u64::MAX`.
     fn faults(&self) -> u64
         ensures { result ≡ faults self.now };
 }

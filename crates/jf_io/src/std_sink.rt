@@ -1,4 +1,4 @@
-// A sink over a writer of std.
+// A sink over one of std's writers. No contract says what text the writer holds.
 ghost use Rattle.std.specs.Prelude.{◌≡◌, ◌⊎◌, ◌-◌, ◌<◌, ◌≤◌, ◌^◌, length, None, IfOk};
 
 use crate::attempts::ATTEMPTS;
@@ -7,7 +7,7 @@ use crate::sink::Sink;
 use std::io::{self, ErrorKind, Write};
 use std::marker::Model;
 
-/// A sink whose bytes go to a writer, and which doesn't tell them. It is seen as its count of faults.
+/// A sink whose bytes go to a writer. Its model is its count of faults.
 #[derive(Drop)]
 pub struct StdSink<W> {
     writer: W,
@@ -23,7 +23,7 @@ impl<W> Model for StdSink<W> {
 }
 
 impl<W: Write> StdSink<W> {
-    /// A sink whose bytes go to this writer. Each `put` flushes it, so that no byte waits in a buffer when it returns.
+    /// A sink whose bytes go to `writer`. Each `put` flushes the writer, so that no byte waits in a buffer on return.
     pub fn new(writer: W) -> StdSink<W>
         ensures { result ≡ 0 }
     {
@@ -57,7 +57,7 @@ impl<W: Write> Sink for StdSink<W> {
     }
 }
 
-// Writes once and flushes.
+// Writes once, and flushes.
 fn write_through<W: Write>(writer: &mut W, bytes: &[u8]) -> io::Result<usize>
     ensures { IfOk result (λ n. n ≤ length bytes.now) }
 {
@@ -66,7 +66,7 @@ fn write_through<W: Write>(writer: &mut W, bytes: &[u8]) -> io::Result<usize>
     Ok(count)
 }
 
-// Writes once, and again if a signal interrupts it. It is a fault only if that is so in each attempt.
+// Writes once, and tries again if a signal interrupts it, up to `ATTEMPTS` times in all.
 fn write<W: Write>(writer: &mut W, bytes: &[u8]) -> io::Result<usize>
     ensures { IfOk result (λ n. n ≤ length bytes.now) }
 {
@@ -79,7 +79,7 @@ fn write<W: Write>(writer: &mut W, bytes: &[u8]) -> io::Result<usize>
     writer.write(bytes)
 }
 
-// Flushes, and again if a signal interrupts it.
+// Flushes, and tries again if a signal interrupts it, up to `ATTEMPTS` times in all.
 fn flush<W: Write>(writer: &mut W) -> io::Result<()> {
     for _ in 1..ATTEMPTS {
         match writer.flush() {

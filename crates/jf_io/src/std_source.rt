@@ -1,4 +1,4 @@
-// A source over a reader of std.
+// A source over one of std's readers. No contract says what bytes the reader gives.
 ghost use Rattle.std.specs.Prelude.{◌≡◌, ◌⊎◌, ℕ, ◌-◌, ◌<◌, ◌≤◌, ◌^◌, None, length, OnOk, IfOk};
 
 use crate::attempts::ATTEMPTS;
@@ -7,7 +7,7 @@ use crate::source::Source;
 use std::io::{self, ErrorKind, Read};
 use std::marker::Model;
 
-/// A source of the bytes that a reader gives, which it doesn't tell.
+/// A source of the bytes that a reader gives. Its model is its counts of bytes and of faults.
 #[derive(Drop)]
 pub struct StdSource<B> {
     reader: B,
@@ -24,7 +24,7 @@ impl<B> Model for StdSource<B> {
 }
 
 impl<B: Read> StdSource<B> {
-    /// A source of what this reader gives from here on.
+    /// A source of what `reader` gives from here on.
     pub fn new(reader: B) -> StdSource<B>
         ensures { result ≡ record { given = 0; faults = 0 } }
     {
@@ -76,7 +76,7 @@ impl<B: Read> Source for StdSource<B> {
     }
 }
 
-// Reads once, and again if a signal interrupts it. It is a fault only if that is so in each attempt.
+// Reads once, and tries again if a signal interrupts it, up to `ATTEMPTS` times in all.
 fn read<B: Read>(reader: &mut B, buf: &mut [u8]) -> io::Result<usize>
     ensures { IfOk result (λ n. n ≤ length buf.old) }
 {

@@ -1,4 +1,4 @@
--- What is known of answers, from what each call says.
+-- What follows for the results of many calls from what holds of each call.
 use Rattle.std.specs.Prelude.{◌≡◌, ◌<◌, ℕ, zero, suc, List, [], ◌∷◌, length, slice_index_or}
 use Rattle.std.specs.List.{AllZip}
 use Rattle.std.specs.Fn.{Shared, FnReturnsAt}
@@ -24,14 +24,14 @@ zip-at P (x ∷ xs) [] h i d e short = absurd h
 zip-at P (x ∷ xs) (y ∷ ys) h zero d e short = h.0
 zip-at P (x ∷ xs) (y ∷ ys) h (suc i) d e short = zip-at P xs ys h.1 i d e (omega arith)
 
--- there are as many answers as pieces
+-- there are as many results as pieces
 pub AnswersEach-length : {F T R : Type 0} {g : Shared F (Bor T × Unit {0}) R} {f : F} {xs : List T} {rs : List R} → AnswersEach g f xs rs → length rs ≡ length xs
 AnswersEach-length {g = g} {f = f} {xs = xs} {rs = rs} a = zip-length (λ x r. FnReturnsAt g f x r) xs rs a.each
 
--- what each call says holds of each piece and its answer
+-- what holds of each call holds of each piece and its result
 pub AnswersEach-pairs : {F T R : Type 0} {g : Shared F (Bor T × Unit {0}) R} {f : F} {xs : List T} {rs : List R} → AnswersEach g f xs rs → (P : T → R → Type 0) → ((x : T) (r : R) → FnReturnsAt g f x r → P x r) → AllZip P xs rs
 AnswersEach-pairs {g = g} {f = f} {xs = xs} {rs = rs} a P k = zip-weaker (λ x r. FnReturnsAt g f x r) P k xs rs a.each
 
--- and of the answer at each place
+-- what holds of each call holds of the piece and the result at each place
 pub AnswersEach-at : {F T R : Type 0} {g : Shared F (Bor T × Unit {0}) R} {f : F} {xs : List T} {rs : List R} → AnswersEach g f xs rs → (P : T → R → Type 0) → ((x : T) (r : R) → FnReturnsAt g f x r → P x r) → (i : ℕ) (d : T) (e : R) → i < length xs → P (slice_index_or xs i d) (slice_index_or rs i e)
 AnswersEach-at {xs = xs} {rs = rs} a P k = zip-at P xs rs (AnswersEach-pairs a P k)

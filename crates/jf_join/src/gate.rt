@@ -1,16 +1,16 @@
-// Where work may be held before it begins.
+// A gate is called before each piece of work begins; tests use it to hold work back.
 
-/// What is told of work before it begins. Each call returns; it may be slow, so that a caller can set the order in which
-/// work begins. Nothing rests on what it does.
+/// A gate is told of work before the work begins. Each call returns, though it may be slow, so that a caller can set
+/// the order in which work begins. No result depends on what a gate does.
 pub trait Gate: Sync {
-    /// The work on a piece is about to begin. Pieces are numbered from 0 on.
+    /// The work on this piece is about to begin. Pieces are numbered from 0.
     fn begin(&self, piece: u64);
 
-    /// A session is about to begin. Sessions are numbered from 0 on.
+    /// This session is about to begin. Sessions are numbered from 0.
     fn session(&self, number: u64);
 }
 
-/// A gate that holds nothing.
+/// A gate that returns at once.
 #[derive(Clone, Copy, Debug)]
 pub struct FreeGate;
 

@@ -1,5 +1,5 @@
-//! Pieces of work, each of them worked by the same function, with the answers in the order of the pieces; and the gate
-//! that is told of each piece and of each session before it begins.
+//! Applies one function to many pieces of work and returns the results in the order of the pieces. A gate is told of
+//! each piece, and of each session, before it begins.
 #![tactic(auto)]
 
 mod gate;

@@ -1,4 +1,4 @@
-// Pieces worked in order.
+// Results come in the order of the pieces, whoever works them and when.
 ghost use Rattle.std.specs.Prelude.{◌≡◌, ℕ, ◌<◌, ◌≤◌, length, IfOk, slice_index_or};
 ghost use Rattle.std.specs.Fn.{FnReturnsAt};
 ghost use denote.Ref.{Bor};
@@ -9,8 +9,8 @@ use jf_path::Memory;
 use std::alloc::Global;
 use std::thread::Threads;
 
-/// Works each piece by `f`: answer i is that of piece i. Before piece i is worked the gate is told its number, which is
-/// i. At most `workers` pieces are worked at once.
+/// Applies `f` to each piece: result i is that of piece i. Before piece i is worked the gate is told its number, i. At
+/// most `workers` pieces are worked at once.
 pub fn join_pieces<H: Threads + Sync, T: Sync, R: Send + Drop, G: Gate, F: Fn(&T) -> R + Sync>(
     rt: &H,
     alloc: Global,
@@ -34,7 +34,7 @@ pub fn join_pieces<H: Threads + Sync, T: Sync, R: Send + Drop, G: Gate, F: Fn(&T
     Ok(answers)
 }
 
-/// What `f` answers to a piece.
+/// What `f` returns for a piece.
 fn answer<T, R, F: Fn(&T) -> R>(f: &F, piece: &T) -> R
     requires { (p : Bor T) → p.now ≡ piece.now → F.pre f.now p }
     ensures { FnReturnsAt F.Fn f.now piece.now result }

@@ -1,4 +1,4 @@
--- One record more on the live side.
+-- One more record is appended to the live side.
 use Rattle.std.proofs.Common.{◌≡◌, ◌⊎◌, inl, inr, ◌<◌, List, [], ◌∷◌, ◌++◌, length, length-append, true, sym, ap, ◌∙◌, subst, arith, Ok}
 use Rattle.jf_disk.specs.Disk.{History, State, Files, IsImage, MayLeave, content, bytes_of, durable}
 use Rattle.jf_disk.specs.Crashes.{LeavesOnly, opposite}
@@ -11,7 +11,7 @@ use Rattle.jf_pair.specs.Files.{HoldsLive, IsOlder, generation_of}
 use Rattle.jf_pair.specs.FileLaws.{holds_of, begun_push, generation_push}
 use Rattle.jf_pair.specs.Pairs.{Pair, IsInStep, StopsBetween}
 
--- a side that stays as it was, without unsynced changes, is left with its records
+-- a synced side that no call changes is left with its records
 pub held_still : (w : Side) (old s : State) (f : Files) (rs : List Framed) → content w s ≡ content w old → content w old ≡ durable (content w old).bytes → records (content w old).bytes ≡ Ok rs → IsImage s f → records (bytes_of w f) ≡ Ok rs
 held_still w old s f rs same quiet held image =
     ap records (image_durable (content w old).bytes (bytes_of w f) (subst (λ c. MayLeave c (bytes_of w f)) (same ∙ quiet) (image_side w s f image))) ∙ held

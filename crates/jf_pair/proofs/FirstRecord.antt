@@ -1,4 +1,4 @@
--- A side that is begun, and then holds one record.
+-- A side is begun, and one record is appended to it.
 use Rattle.std.proofs.Common.{◌≡◌, ◌⊎◌, inl, inr, ℕ, ◌+◌, List, [], ◌∷◌, ◌++◌, length, append-nil, ap, ◌∙◌, arith, Ok}
 use Rattle.std.proofs.lemmas.List.{drop_all}
 use Rattle.jf_disk.specs.Disk.{History, Files, bytes_of, content, put_at}
@@ -9,7 +9,7 @@ use Rattle.jf_frame.specs.Framed.{Framed}
 use Rattle.jf_frame.specs.Framing.{records}
 use Rattle.jf_frame.specs.Logs.{WithOrWithout, SameOrNone, StopsInAppend, StopsInBegin}
 
--- the side holds the records of these bytes, none, or one
+-- the side holds the records of these bytes, no record, or the one new record
 abbrev pub SameNoneOrOne : Side → List ℕ → Framed → Files → Type 0
 SameNoneOrOne w bytes r f = SameOrNone w bytes f ⊎ (records (bytes_of w f) ≡ Ok (r ∷ []))
 
@@ -25,6 +25,6 @@ first_stops w h g k r a b =
     let begun = begin_stops w h g r a in
     (goes_further h g k (SameNoneOrOne w (content w h.now).bytes r) begun.0 (goes_weaker g k (WithOrWithout w [] r) (SameNoneOrOne w (content w h.now).bytes r) (append_left w (content w h.now).bytes r) b.images), other_further w h g k a.other b.other)
 
--- the gate and the frame over the one byte of a side that was begun
+-- the gate and the frame, written over the one byte of a begun side
 pub put_first : (frame b : List ℕ) → length b ≡ 1 → put_at 0 (1 ∷ frame) b ≡ 1 ∷ frame
 put_first frame b one = ap (λ t. (1 ∷ frame) ++ t) (drop_all (0 + length (1 ∷ frame)) b (omega arith)) ∙ append-nil (1 ∷ frame)

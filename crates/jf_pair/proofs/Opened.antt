@@ -1,4 +1,4 @@
--- A pair of files that were read.
+-- Two files that were synced and read make a pair in step with the disk.
 use Rattle.std.proofs.Common.{◌≡◌, ◌≢◌, ◌↔◌, ℕ, ◌<◌, List, [], ◌∷◌, length, true, false, sym, ap, ap₂, ◌∙◌, subst, arith, Some, Ok, Err, get_or}
 use Rattle.jf_disk.specs.Disk.{History, State, Content, content, durable, reads}
 use Rattle.jf_disk.specs.Crashes.{opposite}
@@ -12,7 +12,7 @@ use Rattle.jf_pair.specs.Files.{is_begun, are_level, live_side, records_of, dama
 use Rattle.jf_pair.specs.FileLaws.{older_of}
 use Rattle.jf_pair.specs.Pairs.{Pair, IsInStep}
 
--- a log that was read over a synced side and has records is ready
+-- a synced side with records is ready for the log that read it
 read_ready : (w : Side) (s : State) (log : Log) → IsReading log w (content w s).bytes → content w s ≡ durable (content w s).bytes → 0 < length log.records → IsReady w log.offset log.records s
 read_ready w s log read quiet some =
     let ends = ends_closed (content w s).bytes log.records read.held some in
@@ -28,7 +28,7 @@ read_ready w s log read quiet some =
     ends_closed bytes [] held some = absurd (omega arith)
     ends_closed bytes (r ∷ rs) held some = some_end bytes r rs held
 
--- what holds of both sides' records holds of either
+-- what holds of both sides' records holds of each
 of_both : (P : List Framed → Type 0) (w : Side) (left right : List Framed) → P left → P right → P (records_of w left right)
 of_both P side.A left right l r = l
 of_both P side.B left right l r = r
@@ -52,7 +52,7 @@ opened_here p live other left right s is l o left_begun right_begun apart read r
   ready = λ yes. subst (λ n. IsReady p.side n live.records s) (sym at) (read_ready p.side s live read quiet (some.0 yes));
 }
 
--- a disk is in step with a pair of this live side, on what was read
+-- the disk is in step with the pair that an opening makes
 pub opened_in_step : (w : Side) (p : Pair) (live other : Log) (left right : List Framed) (s : State)
     → p.side ≡ w → w ≡ live_side left right → live.records ≡ records_of w left right → other.records ≡ records_of (opposite w) left right
     → is_begun left ≡ true → is_begun right ≡ true → are_level left right ≡ false
@@ -63,13 +63,13 @@ opened_in_step w p live other left right s same is l o left_begun right_begun ap
     subst (λ p. IsInStep p live.records s) (ap (λ w. let q : Pair = record { side = w; is_live = p.is_live; offset = p.offset; failed = p.failed } in q) (sym same))
     (opened_here (record { side = w; is_live = p.is_live; offset = p.offset; failed = p.failed }) live other left right s is l o left_begun right_begun apart read read_other quiet quiet_other at some)
 
--- what was read of bytes was read of equal ones, which are then synced
+-- a log that read a side's bytes has read those of the synced side
 pub read_same : (log : Log) (w : Side) (s : State) (bytes : List ℕ) → content w s ≡ durable bytes → IsReading log w bytes → IsReading log w (content w s).bytes
 read_same log w s bytes e read = subst (IsReading log w) (sym (ap (λ (c : Content). c.bytes) e)) read
 
 pub synced_same : (w : Side) (s : State) (bytes : List ℕ) → content w s ≡ durable bytes → content w s ≡ durable (content w s).bytes
 synced_same w s bytes e = e ∙ ap (λ (c : Content). durable c.bytes) (sym e)
 
--- damage on side B beside a side A that holds records
+-- damage on side B, if side A holds records
 pub damaged_b : (h : History) (left : List Framed) (w : Side) (at : ℕ) → records h.now.a.bytes ≡ Ok left → w ≡ side.B → records h.now.b.bytes ≡ Err at → outer_damage (reads h) ≡ Some (w, at)
 damaged_b h left w at a is b = ap₂ damage_in a b ∙ ap (λ w. Some (w, at)) (sym is)

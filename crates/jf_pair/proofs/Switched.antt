@@ -1,4 +1,4 @@
--- A checkpoint on the side across.
+-- A checkpoint is written to the other side, which is then live.
 use Rattle.std.proofs.Common.{◌≡◌, ◌⊎◌, inl, inr, ℕ, Bool, ◌<◌, ◌≤◌, ◌&&◌, List, [], ◌∷◌, length, true, refl, sym, ap, ap₂, ◌∙◌, subst, arith, le-leb, Ok}
 use Rattle.jf_disk.specs.Disk.{History, State, Files, content, bytes_of, durable}
 use Rattle.jf_disk.specs.Crashes.{GoesOn, LeavesOnly, KeepsOther, opposite}
@@ -13,7 +13,7 @@ use Rattle.jf_pair.specs.Pairs.{Pair, IsInStep, StopsBetween}
 use Rattle.jf_pair.proofs.Appended.{held_still}
 use Rattle.jf_pair.proofs.FirstRecord.{SameNoneOrOne}
 
--- a checkpoint of a greater generation than these records
+-- a checkpoint of a greater generation than that of the records
 pub record IsNewer (r : Framed) (rs : List Framed) : Type 0 where
   pub begun : is_begun (r ∷ []) ≡ true
   pub newer : IsOlder rs (r ∷ [])

@@ -1,4 +1,4 @@
--- Laws on what two files hold.
+-- Which records two files hold, and that they hold some exactly if they aren't damaged.
 use Rattle.std.specs.Prelude.{◌≡◌, ◌≢◌, ℕ, ◌<◌, ◌≤◌, Bool, true, false, if◌then◌else◌, nat_lt, List, [], ◌∷◌, ◌++◌, length, Option, Some, None, Result, Ok, Err}
 use Rattle.std.proofs.Common.{inl, inr, refl, sym, ap, ap₂, ◌∙◌, arith, cond, lt-ltb, le-ltb, ltb-true, ltb-false, ne_eqb, eq-eqb, true≢false}
 use Rattle.jf_disk.specs.Disk.{Files, bytes_of}
@@ -33,7 +33,7 @@ live_right [] (o ∷ os) (inr lt) = absurd (omega arith)
 live_right (r ∷ rs) (o ∷ os) (inl none) = absurd (cc)
 live_right (r ∷ rs) (o ∷ os) (inr lt) = ap (λ b. records_of (cond b side.A side.B) (o ∷ os) (r ∷ rs)) (le-ltb _ _ (omega arith))
 
--- the live records are those of a side that the other side's are older than
+-- the live records are those of the side whose generation is greater
 pub holds_of : (w : Side) (f : Files) (rs others : List Framed) → records (bytes_of w f) ≡ Ok rs → records (bytes_of (opposite w) f) ≡ Ok others → is_begun rs ≡ true → is_begun others ≡ true → IsOlder others rs → HoldsLive f rs
 holds_of side.A f rs others held other begun other_begun older = record {
   a_records = rs;
@@ -56,7 +56,7 @@ holds_of side.B f rs others held other begun other_begun older = record {
   live = live_right rs others older;
 }
 
--- and that side is the live one
+-- the side whose generation is greater is the live one
 pub live_side_of : (w : Side) (rs others : List Framed) → IsOlder others rs → 0 < length rs → live_side (records_of w rs others) (records_of w others rs) ≡ w
 live_side_of w [] others older some = absurd (omega arith)
 live_side_of side.A (r ∷ rs) [] older some = refl
@@ -71,7 +71,7 @@ pub live_a_some : (left right : List Framed) → live_side left right ≡ side.A
 live_a_some [] right is = absurd (cc)
 live_a_some (a ∷ left) right is = omega arith
 
--- of two sides that aren't level the one that isn't live is older
+-- of two sides that don't have one generation, the one that isn't live is older
 pub older_of : (left right : List Framed) → are_level left right ≡ false → IsOlder (records_of (opposite (live_side left right)) left right) (live_records left right)
 older_of [] right apart = inl refl
 older_of (a ∷ left) [] apart = inl refl
@@ -84,7 +84,7 @@ older_of (a ∷ left) (b ∷ right) apart =
       | false ↦ λ ge. let le : m ≤ n = ltb-false _ _ ge in inr (omega arith)
     ] refl
 
--- one record more changes nothing of that
+-- one more record keeps a begun side begun
 pub begun_push : (rs : List Framed) (r : Framed) → 0 < length rs → is_begun (rs ++ r ∷ []) ≡ is_begun rs
 begun_push [] r some = absurd (omega arith)
 begun_push (x ∷ rs) r some = refl
@@ -98,15 +98,15 @@ generation_push (x ∷ rs) r some = refl
 pub same_ok : (xs ys : List Framed) (x : Result (List Framed) ℕ) → x ≡ Ok xs → x ≡ Ok ys → xs ≡ ys
 same_ok xs ys x a b = let e : Ok xs ≡ Ok ys = sym a ∙ b in cc
 
--- two files hold one list of live records at most
+-- two files hold at most one list of live records
 pub holds_one : (f : Files) (rs rs' : List Framed) → HoldsLive f rs → HoldsLive f rs' → rs ≡ rs'
 holds_one f rs rs' h h' = sym h.live ∙ ap₂ live_records (same_ok _ _ (records f.a) h.a_held h'.a_held) (same_ok _ _ (records f.b) h.b_held h'.b_held) ∙ h'.live
 
--- damage in first records
+-- the first place of damage in first records
 abbrev first_damage : Bool → Bool → Bool → Option (Side × ℕ)
 first_damage a b level = if a then (if b then (if level then Some (side.B, 0) else None) else Some (side.B, 0)) else Some (side.A, 0)
 
--- and then they aren't damaged
+-- files that hold live records aren't damaged
 pub holds_undamaged : (f : Files) (rs : List Framed) → HoldsLive f rs → outer_damage f ≡ None
 holds_undamaged f rs h =
     ap₂ damage_in h.a_held h.b_held

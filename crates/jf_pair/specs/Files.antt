@@ -1,4 +1,4 @@
--- What two files hold: gated records on each side, of which those of the live side, the one with the greater generation, count.
+-- What two files hold: records on each side. Those of the live side count, which has the greater generation.
 use Rattle.std.specs.Prelude.{◌≡◌, ◌⊎◌, ℕ, ◌<◌, Bool, true, false, ◌&&◌, ◌||◌, if◌then◌else◌, ◌==◌, nat_le, nat_lt, List, [], ◌∷◌, length, Option, Some, None, Result, Ok, Err}
 use Rattle.jf_disk.specs.Disk.{Files}
 use Rattle.jf_disk.specs.declared.side.Side.{Side}
@@ -10,17 +10,17 @@ use Rattle.jf_frame.specs.Framing.{records, number_of}
 abbrev pub is_checkpoint : ℕ → Bool
 is_checkpoint kind = kind == 4 || kind == 5
 
--- there is no record, or the first is of a checkpoint's kind and begins with a number of eight bytes
+-- there is no record, or the first one is a checkpoint whose payload has at least 8 bytes
 abbrev pub is_begun : List Framed → Bool
 is_begun [] = true
 is_begun (r ∷ rs) = is_checkpoint r.kind && nat_le 8 (length r.payload)
 
--- the number in the first eight bytes of the first payload; 0 without a record
+-- the generation: the number in the first eight bytes of the first payload; 0 without a record
 abbrev pub generation_of : List Framed → ℕ
 generation_of [] = 0
 generation_of (r ∷ rs) = number_of r.payload
 
--- both sides hold records, of one generation
+-- both sides hold records and have one generation
 abbrev pub are_level : List Framed → List Framed → Bool
 are_level [] right = false
 are_level (a ∷ left) [] = false
@@ -33,7 +33,7 @@ live_side [] right = side.B
 live_side (a ∷ left) [] = side.A
 live_side (a ∷ left) (b ∷ right) = if nat_lt (generation_of (b ∷ right)) (generation_of (a ∷ left)) then side.A else side.B
 
--- of two sides' records those of one
+-- of both sides' records, those of one side
 abbrev pub records_of : Side → List Framed → List Framed → List Framed
 records_of side.A left right = left
 records_of side.B left right = right
@@ -54,8 +54,8 @@ pub record HoldsLive (files : Files) (rs : List Framed) : Type 0 where
   pub apart : are_level a_records b_records ≡ false
   pub live : live_records a_records b_records ≡ rs
 
--- the first place of damage that shows before more of a payload is read than its generation: side A's gates and lengths,
--- then side B's; side A's first record, then side B's; two sides of one generation
+-- the first place of damage that shows without reading past a payload's generation, in this order: side A's gates and
+-- lengths, side B's; side A's first record, side B's; two sides of one generation
 abbrev pub damage_in : Result (List Framed) ℕ → Result (List Framed) ℕ → Option (Side × ℕ)
 damage_in (Err at) right = Some (side.A, at)
 damage_in (Ok left) (Err at) = Some (side.B, at)
@@ -66,10 +66,10 @@ damage_in (Ok left) (Ok right) =
     else Some (side.B, 0))
     else Some (side.A, 0)
 
--- the same of two files
+-- the first place of damage of two files
 abbrev pub outer_damage : Files → Option (Side × ℕ)
 outer_damage files = damage_in (records files.a) (records files.b)
 
--- the other side's records are none, or of a lesser generation
+-- the other side holds no record, or has a lesser generation
 abbrev pub IsOlder : List Framed → List Framed → Type 0
 IsOlder others rs = (others ≡ []) ⊎ (generation_of others < generation_of rs)

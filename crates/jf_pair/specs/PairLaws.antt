@@ -1,4 +1,4 @@
--- What callers conclude from a pair's contract.
+-- What follows from a pair's contract for its callers.
 use Rattle.std.specs.Prelude.{◌≡◌, ◌<◌, List, length, true, Ok}
 use Rattle.std.proofs.Common.{refl, ap, ap₂, ◌∙◌}
 use Rattle.jf_disk.specs.Disk.{History, State, Files, IsImage, bytes_of, content, durable, reads}
@@ -16,25 +16,25 @@ bytes_of-reads : (w : Side) (h : History) → bytes_of w (reads h) ≡ (content 
 bytes_of-reads side.A h = refl
 bytes_of-reads side.B h = refl
 
--- the records of a side without unsynced changes are left by a crash
+-- a crash leaves the records of a synced side
 pub held_quiet : (w : Side) (s : State) (f : Files) (rs : List Framed) → content w s ≡ durable (content w s).bytes → records (content w s).bytes ≡ Ok rs → IsImage s f → records (bytes_of w f) ≡ Ok rs
 held_quiet w s f rs quiet held image = ap records (image_quiet w s f quiet image) ∙ held
 
--- a disk in step with a pair reads its live records
+-- a disk in step with a pair holds the pair's live records
 pub in_step_holds : (p : Pair) (rs : List Framed) (h : History) → IsInStep p rs h.now → HoldsLive (reads h) rs
 in_step_holds p rs h k =
     holds_of p.side (reads h) rs k.others (ap records (bytes_of-reads p.side h) ∙ k.held) (ap records (bytes_of-reads (opposite p.side) h) ∙ k.held_across) k.begun k.begun_across k.older
 
--- and a crash leaves nothing else
+-- a crash leaves the pair's live records
 pub in_step_leaves : (p : Pair) (rs : List Framed) (h : History) → IsInStep p rs h.now → LeavesNow h (λ f. HoldsLive f rs)
 in_step_leaves p rs h k = λ f image.
     holds_of p.side f rs k.others (held_quiet p.side h.now f rs k.quiet k.held image) (held_quiet (opposite p.side) h.now f k.others k.quiet_across k.held_across image) k.begun k.begun_across k.older
 
--- a disk is in step with a pair on one list of live records
+-- a disk is in step with a pair for one list of live records
 pub in_step_one : (p : Pair) (rs rs' : List Framed) (s : State) → IsInStep p rs s → IsInStep p rs' s → rs ≡ rs'
 in_step_one p rs rs' s k k' = same_ok rs rs' (records (content p.side s).bytes) k.held k'.held
 
--- the side of a pair, if it is live, is the live one of the files
+-- the side of a pair in step, if it is live, is the live side of the files
 pub in_step_side : (p : Pair) (rs : List Framed) (h : History) (left right : List Framed) → IsInStep p rs h.now → p.is_live ≡ true → records (reads h).a ≡ Ok left → records (reads h).b ≡ Ok right → live_side left right ≡ p.side
 in_step_side p rs h left right k live a b = of_side p.side rs k.others left right (ap records (bytes_of-reads p.side h) ∙ k.held) (ap records (bytes_of-reads (opposite p.side) h) ∙ k.held_across) k.older (k.live.0 live) a b
   where

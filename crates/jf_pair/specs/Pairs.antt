@@ -1,4 +1,4 @@
--- A pair of files, and what a stop in its calls may leave.
+-- A pair of files as its callers see it, when a disk is in step with it, and what a crash in its calls may leave.
 use Rattle.std.specs.Prelude.{◌≡◌, ◌⊎◌, ◌↔◌, ℕ, ◌<◌, Bool, true, List, [], length, Option, Some, None, Ok}
 use Rattle.jf_disk.specs.Disk.{History, State, content, durable}
 use Rattle.jf_disk.specs.Crashes.{GoesOn, opposite}
@@ -8,16 +8,16 @@ use Rattle.jf_frame.specs.Framing.{records}
 use Rattle.jf_frame.specs.Logs.{Log, IsReady}
 use Rattle.jf_pair.specs.Files.{HoldsLive, is_begun, IsOlder}
 
--- what a pair shows: a side, and whether it is live; the offset of that side's closed gate; and whether a call met a fault.
--- The next checkpoint goes to the side across.
+-- a pair as its callers see it: a side, and whether it is live; the offset of that side's closed gate; and whether a
+-- call met a fault. The next checkpoint goes to the other side.
 pub record Pair : Type 0 where
   pub side : Side
   pub is_live : Bool
   pub offset : ℕ
   pub failed : Bool
 
--- a disk is in step with a pair: neither side has an unsynced change; the pair's side holds these records and, if it is
--- live, is ready for one more; the side across holds older ones or none
+-- a disk is in step with a pair: both sides are synced; the pair's side holds the records `rs` and, if it is live, is
+-- ready for one more; the other side holds records of a lesser generation, or no record
 pub record IsInStep (p : Pair) (rs : List Framed) (s : State) : Type 0 where
   pub others : List Framed
   pub quiet : content p.side s ≡ durable (content p.side s).bytes
@@ -30,11 +30,11 @@ pub record IsInStep (p : Pair) (rs : List Framed) (s : State) : Type 0 where
   pub live : (p.is_live ≡ true) ↔ (0 < length rs)
   pub ready : p.is_live ≡ true → IsReady p.side p.offset rs s
 
--- a stop leaves the former live records, or the latter
+-- a crash leaves the live records `rs` or the live records `rs'`
 abbrev pub StopsBetween : History → History → List Framed → List Framed → Type 0
 StopsBetween old new rs rs' = GoesOn old new (λ f. HoldsLive f rs ⊎ HoldsLive f rs')
 
--- the records of the log that an opening gives, if it gives one
+-- the records of the log that an opening returns; no record if it returns no log
 abbrev pub read_by : Option Log → List Framed
 read_by None = []
 read_by (Some log) = log.records

@@ -1,4 +1,4 @@
-// The calls after which a side holds one record alone.
+// A checkpoint is the first and only record of its side when it is written.
 ghost use Rattle.std.specs.Prelude.{◌≡◌, ◌⊎◌, ◌↔◌, ◌+◌, ◌≤◌, ℕ, List, [], ◌∷◌, length, true, false, Some, Ok, OnOk, IsErr};
 ghost use Rattle.jf_disk.specs.Disk.{History, CallsOn, bytes_of, content, durable};
 ghost use Rattle.jf_disk.specs.Crashes.{GoesOn, KeepsOther};

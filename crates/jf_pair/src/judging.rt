@@ -1,4 +1,4 @@
-// Which of two sides is live, or where their first records are damaged.
+// Which of two sides is live, by the generations of their first records, or where these are damaged.
 ghost use Rattle.std.specs.Prelude.{◌≡◌, ◌≢◌, ℕ, ◌≤◌, length, true, false, Some, Ok, Err, IfOk, OnOk};
 ghost use Rattle.jf_disk.specs.declared.side.Side.{Side};
 ghost use Rattle.jf_frame.specs.Framing.{number_of};
@@ -8,7 +8,7 @@ use crate::fault::PairFault;
 use jf_disk::Side;
 use jf_frame::Log;
 
-/// The live side of two that were read; or the first place of damage that shows in their first records.
+/// The live side of two that were read, or the first place of damage in their first records.
 pub(crate) fn judge(a: &Log, b: &Log) -> Result<Side, PairFault>
     ensures begun_a { OnOk result (is_begun a.now.records ≡ true) }
     ensures begun_b { OnOk result (is_begun b.now.records ≡ true) }
@@ -32,7 +32,7 @@ pub(crate) fn judge(a: &Log, b: &Log) -> Result<Side, PairFault>
     Ok(live_side(a, b))
 }
 
-/// Damage of side B's first record.
+/// The damage of a first record of side B: it begins at offset 0.
 fn on_b() -> PairFault
     ensures { result ≡ PairFault.Damaged Side.B 0 }
 {
@@ -42,7 +42,7 @@ fn on_b() -> PairFault
     }
 }
 
-/// Whether there is no record, or the first is of a checkpoint's kind and begins with a number of eight bytes.
+/// Whether there is no record, or the first one is a checkpoint whose payload has at least 8 bytes.
 #[tactic(auto, using(crate::proofs::First::begun_none, crate::proofs::First::begun_some))]
 fn is_begun(log: &Log) -> bool
     ensures { result ≡ is_begun log.now.records }
@@ -54,14 +54,14 @@ fn is_begun(log: &Log) -> bool
     is_checkpoint(first.kind) && first.payload.len() >= 8
 }
 
-/// Whether this is the kind of a checkpoint, in either format of nodes.
+/// Whether the kind is a checkpoint's: 4 with nodes of format 1, 5 with nodes of format 2.
 fn is_checkpoint(kind: u8) -> bool
     ensures { result ≡ is_checkpoint kind }
 {
     kind == 4 || kind == 5
 }
 
-/// The number in the first eight bytes of the first payload, or 0 without a record.
+/// The generation of a side: the first eight bytes of its first payload; 0 without a record.
 #[tactic(auto, using(crate::proofs::First::generation_none, crate::proofs::First::generation_some, crate::proofs::First::long_enough))]
 fn generation_of(log: &Log) -> u64
     requires { is_begun log.now.records ≡ true }
@@ -84,7 +84,7 @@ fn number_in(bytes: &[u8]) -> u64
     ])
 }
 
-/// Whether both sides hold records, of one generation.
+/// Whether both sides hold records and have one generation.
 fn are_level(a: &Log, b: &Log) -> bool
     requires a { is_begun a.now.records ≡ true }
     requires b { is_begun b.now.records ≡ true }

@@ -1,4 +1,4 @@
-// Both sides, synced and read.
+// Opening syncs both sides before it reads them, so that a later crash leaves what was read.
 ghost use Rattle.std.specs.Prelude.{◌≡◌, ◌+◌, ◌≤◌, false, Some, Err, IfOk, OnOk, IsErr, ℕ};
 ghost use Rattle.jf_disk.specs.Disk.{History, CallsOn, content, durable, reads};
 ghost use Rattle.jf_disk.specs.Crashes.{LeavesFiles, Idles};
@@ -51,7 +51,7 @@ fn sync_sides<D: Disk>(disk: &mut D) -> Result<(), DiskFault>
     Ok(())
 }
 
-/// Reads the records of a side, and says on which side they are damaged.
+/// Reads the records of a side. Damage is reported with the side.
 fn read_side<D: Disk>(alloc: Global, disk: &mut D, side: Side) -> Result<Log, PairFault>
     ensures fresh { IfOk result (λ log. (log.side ≡ side) × (log.failed ≡ false)) }
     ensures read { (h : History) → D.history disk.old ≡ Some h → IfOk result (λ log. IsReading log side (content side h.now).bytes) }

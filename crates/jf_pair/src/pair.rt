@@ -1,4 +1,4 @@
-// Two files of records, of which one is live.
+// A pair of files: checkpoints alternate between them, so that one is whole while the other is written anew.
 ghost use Rattle.std.specs.Prelude.{◌≡◌, ◌↔◌, ◌+◌, ◌<◌, ◌≤◌, ℕ, List, [], ◌∷◌, ◌++◌, length, true, false, Some, None, Err, IfOk, IfSome, OnOk, OnErr, IsErr};
 ghost use Rattle.jf_disk.specs.Disk.{History, CallsOn, content, reads, put_at};
 ghost use Rattle.jf_disk.specs.Crashes.{LeavesFiles, KeepsOther, opposite};
@@ -19,9 +19,9 @@ use std::alloc::Global;
 use std::marker::Model;
 use std::mem::swap;
 
-/// The two gated files of a disk. Once a checkpoint stands one of them is live; the other takes the next checkpoint. A
-/// checkpoint is a record of kind 4 or 5 whose payload begins with its generation, 8 bytes, the highest first
-/// (docs/FORMATS.md, "Two files of records").
+/// The two gated files of a disk. Once there is a checkpoint, one of them is live; the other takes the next
+/// checkpoint. A checkpoint is a record of kind 4 or 5 whose payload begins with its generation, 8 bytes, the highest
+/// first (docs/FORMATS.md, "Two files of records").
 #[derive(Debug, Drop)]
 pub struct Pair {
     live: Log,
@@ -42,9 +42,9 @@ impl Model for Pair {
 }
 
 impl Pair {
-    /// Syncs both sides and reads them. Returns the pair, and the live log with its records, or `None` if neither side
-    /// holds a record; the first checkpoint then goes to side A. Refused if the disk fails, if the files are damaged, and
-    /// if memory runs out. Whatever it returns, nothing is made of the files.
+    /// Syncs both sides and reads them. Returns the pair, and the live log with its records; `None` if neither side
+    /// holds a record, and the first checkpoint then goes to side A. Refused if the disk fails, if the files are
+    /// damaged, or if memory runs out. Whatever it returns, the files are unchanged.
     pub fn open<D: Disk>(alloc: Global, disk: &mut D) -> Result<(Pair, Option<Log>), PairFault>
         ensures in_step { (h : History) → D.history disk.old ≡ Some h → IfOk result (λ r. (g : History) × (D.history disk.new ≡ Some g) × IsInStep r.0 (read_by r.1) g.now) }
         ensures found { (h : History) → D.history disk.old ≡ Some h → IfOk result (λ r. HoldsLive (reads h) (read_by r.1)) }
@@ -66,7 +66,7 @@ impl Pair {
     }
 
     /// Adds a record, given as a whole frame, to the live side, by four calls on the disk. After a fault the pair is
-    /// failed: the live records are those before, with the new one or without it, and only a new opening tells which.
+    /// failed: the live records are those before, with the new one or without it, and only a new opening shows which.
     pub fn append<D: Disk>(&mut self, disk: &mut D, frame: &[u8]) -> Result<(), DiskFault>
         requires whole { (kind : ℕ) × (payload : List ℕ) × IsFrame frame.now kind payload }
         requires sound { self.old.failed ≡ false }
@@ -90,10 +90,10 @@ impl Pair {
         self.live.append(disk, frame)
     }
 
-    /// Begins the side across and writes a checkpoint there, given as a whole frame, of a greater generation if a side is
-    /// live. The side across is then live, with this one record; the other side stays as it was. If no side was live, this
-    /// is the first checkpoint. After a fault the pair is failed: the live records are those before, or the checkpoint alone, and only
-    /// a new opening tells which.
+    /// Begins the other side and writes a checkpoint there, given as a whole frame, of a greater generation if a side
+    /// is live. The other side is then live, with this one record, and the side that was live is unchanged. If no side
+    /// was live, this is the first checkpoint. After a fault the pair is failed: the live records are those before, or
+    /// the checkpoint alone, and only a new opening shows which.
     pub fn switch<D: Disk>(&mut self, disk: &mut D, frame: &[u8]) -> Result<(), DiskFault>
         requires whole { (kind : ℕ) × (payload : List ℕ) × IsFrame frame.now kind payload }
         requires checkpoint { (kind : ℕ) (payload : List ℕ) → IsFrame frame.now kind payload → (is_checkpoint kind ≡ true) × (8 ≤ length payload) }
@@ -121,14 +121,14 @@ impl Pair {
         Ok(())
     }
 
-    /// The live side, if there is one. The next checkpoint goes to the side across.
+    /// The live side, if a side is live. The next checkpoint goes to the other one.
     pub fn side(&self) -> Side
         ensures { result ≡ self.now.side }
     {
         self.live.side()
     }
 
-    /// Whether a side is live.
+    /// Whether a side is live: a checkpoint was found or written.
     pub fn is_live(&self) -> bool
         ensures { result ≡ self.now.is_live }
     {
@@ -143,7 +143,7 @@ impl Pair {
     }
 }
 
-/// The pair of a live log and the one across, and the live log if it has records.
+/// The pair of the live log and the other one, and the live log with its records if it has any.
 fn pair_of(alloc: Global, live: Log, other: Log) -> (Pair, Option<Log>)
     requires across { other.side ≡ opposite live.side }
     requires live { live.failed ≡ false }

@@ -1,10 +1,10 @@
--- Frames that the tests of pairs write.
+-- The frames that the tests of pairs write, and that they are frames.
 use Rattle.std.proofs.Common.{◌≡◌, ◌≤◌, List, ℕ, [], ◌∷◌, length, true, refl, ap, subst, arith}
 use Rattle.jf_frame.specs.Framing.{IsFrame, eight_bytes, number_of}
 use Rattle.jf_frame.specs.FramingLaws.{frame_is_of_one}
 use Rattle.jf_pair.specs.Files.{is_checkpoint}
 
--- a payload that has a number alone
+-- a number below 256 in eight bytes, as the payload of a checkpoint
 abbrev pub number : ℕ → List ℕ
 number n = 0 ∷ 0 ∷ 0 ∷ 0 ∷ 0 ∷ 0 ∷ 0 ∷ n ∷ []
 

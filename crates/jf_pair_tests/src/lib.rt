@@ -1,4 +1,4 @@
-//! Tests of two files of records, of which one is live.
+//! Tests of pairs of files of records, one of which is live.
 #![tactic(auto)]
 
 #[cfg(test)]

@@ -1,4 +1,4 @@
-// Two files byte by byte: what they are opened as, what is written to a folder, and what a stop leaves.
+// Two files byte by byte: what an opening finds, what is written to a folder, and what a crash leaves.
 ghost use Rattle.std.specs.Prelude.{◌≡◌, [], false};
 ghost use Rattle.jf_disk.specs.Memory.{history_of};
 ghost use Rattle.jf_pair.specs.Pairs.{IsInStep};
@@ -10,7 +10,7 @@ use std::alloc::Global;
 use std::fs;
 use std::test::Fail;
 
-// How many live records two files hold, if they hold any.
+// The number of live records that an opening of two files finds, or `None` if it finds none.
 type Opened = Result<Option<usize>, PairFault>;
 
 fn count_of(log: Option<Log>) -> Option<usize> {
@@ -33,8 +33,8 @@ fn count_in(alloc: Global, a: &[u8], b: &[u8]) -> Result<Opened, Fail> {
     Ok(count_on(alloc, &mut disk))
 }
 
-// Files of a checkpoint of generation 1; of one of generation 2 and a record more; of one record of another kind; and of a
-// record that breaks off.
+// Files: a checkpoint of generation 1; one of generation 2 and one more record; a first record of another kind; a
+// checkpoint with a payload of 7 bytes; a record that breaks off.
 const ONE: &[u8] = &[1, 4, 0, 0, 0, 0, 0, 0, 0, 8, 0, 0, 0, 0, 0, 0, 0, 1, 0];
 
 const TWO: &[u8] = &[
@@ -95,14 +95,14 @@ fn the_greater_generation_is_live(rt: HostRuntime) -> Result<(), Fail> {
     Ok(())
 }
 
-// Frames of checkpoints of generations 1 and 2, one of each kind, and of another record.
+// Frames: a checkpoint of generation 1, one of generation 2 of the other kind, and another record.
 const FIRST: [u8; 18] = [4, 0, 0, 0, 0, 0, 0, 0, 8, 0, 0, 0, 0, 0, 0, 0, 1, 0];
 
 const SECOND: [u8; 18] = [5, 0, 0, 0, 0, 0, 0, 0, 8, 0, 0, 0, 0, 0, 0, 0, 2, 0];
 
 const MORE: [u8; 13] = [7, 0, 0, 0, 0, 0, 0, 0, 3, 97, 98, 99, 0];
 
-// What the two files then are.
+// The bytes of both files after these frames were written.
 const SIDE_A: &[u8] = &[
     1, 4, 0, 0, 0, 0, 0, 0, 0, 8, 0, 0, 0, 0, 0, 0, 0, 1, 1, 7, 0, 0, 0, 0, 0, 0, 0, 3, 97, 98, 99,
     0,
@@ -156,7 +156,7 @@ fn checkpoints_go_to_the_sides_in_turn(rt: HostRuntime) -> Result<(), Fail> {
     Ok(())
 }
 
-// The same on a disk in memory that holds nothing.
+// Writes the same three frames to a disk in memory that holds nothing.
 fn write_memory(pair: &mut Pair, disk: &mut MemDisk) -> Result<(), DiskFault>
     requires sound { pair.old.failed ≡ false }
     requires in_step { IsInStep pair.old [] (history_of disk.old).now }
@@ -177,7 +177,7 @@ fn live_on(alloc: Global, disk: &mut MemDisk) -> Result<(), PairFault> {
     Ok(())
 }
 
-// A disk that held nothing and on which this call failed, if it was reached, and whether all was written.
+// An empty disk on which this call failed, if it was reached, after the frames were written, and whether all were.
 fn lived(alloc: Global, failing: u64) -> Result<(Box<MemDisk>, bool), Fail> {
     let listed = vec![in alloc; failing]?;
     let mut disk = MemDisk::new(alloc, Vec::new(alloc), Vec::new(alloc), 30, 80, listed)?;
@@ -185,10 +185,10 @@ fn lived(alloc: Global, failing: u64) -> Result<(Box<MemDisk>, bool), Fail> {
     Ok((Box::new(alloc, disk)?, is_written))
 }
 
-// How many unsynced bytes a crash keeps, and what it leaves for the others.
+// How many unsynced bytes a crash keeps, and the byte that all others become.
 const CRASHES: &[(u64, u8)] = &[(0, 0), (0, 1), (1, 0), (17, 0xff), (1 << 62, 0)];
 
-// Whether a crash at a moment leaves nothing, the first checkpoint, that and the record, or the second.
+// Whether a crash at a moment leaves no live record, one, or two: a list that was live at some time.
 fn leaves_a_list(
     alloc: Global,
     disk: &MemDisk,
@@ -231,8 +231,9 @@ fn stops_well(alloc: Global, failing: u64, moment: u64) -> Result<bool, Fail> {
     )
 }
 
-// A call that fails, and how many calls are then made. Opening makes six: sync twice, then length and read of each side.
-// A switch to an empty side makes seven: length, closed gate, sync, frame, sync, gate, sync. An append makes the last four.
+// A call that fails, and how many calls are made in all. Opening makes six: sync twice, then length and read of each
+// side. A switch to an empty side makes seven: length, closed gate, sync, frame, sync, gate, sync. An append makes the
+// last four.
 const STOPS: &[(u64, u64)] = &[
     (u64::MAX, 24),
     (0, 1),

@@ -1,4 +1,4 @@
--- Numbers, hashes, names and nodes are read just as they are spelled.
+-- Numbers, hashes, names and nodes are read exactly as they are spelled.
 use Rattle.std.proofs.Common.{◌≡◌, ℕ, ◌^◌, ◌<◌, true, false, cond, not, ◌==◌, List, [], ◌∷◌, ◌++◌, length, Some, None, Result, Ok, Err, refl, sym, ap, subst, ◌∙◌, arith}
 use Rattle.std.specs.List.{flat_map, AllByRecursion}
 use Rattle.std.specs.Result.{result_ok}
@@ -26,7 +26,7 @@ pub from_ok : {A : Type 0} (r : Result A CodecFault) (x : A) → result_ok r ≡
 from_ok (Ok y) x e = ap Ok (some_is y x e)
 from_ok (Err f) x e = absurd cc
 
--- ---- what is spelled is bytes
+-- ---- spellings are bytes
 
 IsBytes-two : (n : ℕ) → IsBytes (two_bytes n)
 unfolding two_bytes
@@ -101,7 +101,7 @@ name_spells = record {
 
 -- ---- nodes of a format
 
--- children with counts or not have that format
+-- children that have counts exactly as a format asks are of that format
 format_told : (fmt : Format) (cs : List Child) → is_counted fmt (has_counts cs) ≡ true → (cs ≡ [] → ⊥) → format_of_children cs ≡ fmt
 format_told fmt [] told some = absurd (some refl)
 format_told format.One (c ∷ cs) told some =
@@ -113,7 +113,7 @@ some_of : (cs : List Child) → AreEnough cs → cs ≡ [] → ⊥
 some_of [] enough e = enough
 some_of (c ∷ cs) enough e = absurd cc
 
--- a valid node that is in the format has its spelling there
+-- a node that can be spelled and is of a format has its spelling there
 valid_in : (fmt : Format) (n : PlainNode) → IsValid n → is_in fmt n ≡ true → IsNode fmt n × (spelling n ≡ node_bytes fmt n)
 unfolding node_bytes
 valid_in fmt node.Null is told = (tt, refl)
@@ -129,7 +129,7 @@ counted_in format.One (c ∷ cs) same some =
 counted_in format.Two (c ∷ cs) same some =
     elim (c.count == 0) as (λ b. cond b format.One format.Two ≡ format.Two → not b ≡ true) [ true ↦ λ e. absurd cc | false ↦ λ e. refl ] same
 
--- a node of the format is in it
+-- a node that can be spelled in a format is of that format
 node_in : (fmt : Format) (n : PlainNode) → IsNode fmt n → is_in fmt n ≡ true
 node_in fmt node.Null is = refl
 node_in fmt (node.Leaf key value) is = refl

@@ -1,4 +1,4 @@
--- What a format keeps of a record is spelled as the record, and is all of one that can be spelled in it.
+-- What a format keeps of a record has the record's spelling, and a record of the format is kept whole.
 use Rattle.std.proofs.Common.{◌≡◌, ℕ, ◌+◌, ◌^◌, ◌<◌, true, false, cond, List, [], ◌∷◌, ◌++◌, map, refl, ap, ap₂}
 use Rattle.std.specs.List.{flat_map, AllByRecursion}
 use Rattle.std.proofs.lemmas.List.{length-map}
@@ -44,7 +44,7 @@ node_kept format.One (node.Leaf key value) = refl
 node_kept format.One (node.Inner cs) = ap₂ (λ (h : List ℕ) (t : List ℕ). 2 ∷ h ++ t) (ap₂ (λ n m. two_bytes n ++ two_bytes m) (bitmap_kept cs) (leaves_kept cs)) (children_bytes cs)
 node_kept format.Two n = refl
 
--- ---- lists of them
+-- ---- lists of nodes
 
 abbrev fresh_in : Format → NodeName × PlainNode → NodeName × PlainNode
 fresh_in fmt x = (x.0, in_format fmt x.1)
@@ -105,7 +105,7 @@ record_same fmt («record».Group cs) is = ap (λ (ds : List Commit). «record»
 pub kept_is_spelled : KeptIsSpelled
 kept_is_spelled fmt r = (record_kept fmt r, kind_kept fmt r, record_same fmt r)
 
--- ---- what is to be written has a spelling
+-- ---- a record that is written has a spelling
 
 pub fresh_nodes : (fmt : Format) (xs : List (NodeName × PlainNode)) → AllByRecursion (λ x. IsName x.0 × IsNode fmt x.1) (map (fresh_in fmt) xs) → AllByRecursion (λ x. IsNode fmt (in_format fmt x.1)) xs
 fresh_nodes fmt [] all = tt

@@ -1,4 +1,4 @@
--- Reading values one behind the other, as a loop does.
+-- Reading values one after the other, as the loops do.
 use Rattle.std.proofs.Common.{◌≡◌, ℕ, suc, ◌-◌, ◌+◌, ◌≤◌, ◌<◌, Bool, true, false, List, [], ◌∷◌, ◌++◌, Option, Some, None, refl, sym, ◌∙◌, arith}
 use Rattle.jf_payload.specs.declared.fault.RecordFault.{RecordFault}
 use Rattle.jf_payload.specs.declared.fault.RecordFault.TheVariants as fault

@@ -1,4 +1,4 @@
--- Lists, landings, checkpoints and groups are read just as they are spelled.
+-- Lists, landings, checkpoints and groups are read exactly as they are spelled.
 use Rattle.std.proofs.Common.{◌≡◌, ℕ, ◌+◌, ◌-◌, ◌^◌, ◌<◌, ◌≤◌, Bool, true, IsTrue, List, [], ◌∷◌, ◌++◌, map, length, refl, sym, ap, ◌∙◌, arith}
 use Rattle.std.specs.List.{flat_map, AllByRecursion}
 use Rattle.std.proofs.lemmas.List.{map-append}
@@ -39,7 +39,7 @@ follow-front (c ∷ d ∷ front) back e = both_true _ _ (and_left _ _ e) (follow
 
 -- ---- lists
 
--- what is known of a list
+-- a list that was read: its length is within bounds, its items are sound, and they pass the test
 pub record IsList {X : Type 0} (within : ℕ → Bool) (test : List X → Bool) (I : X → Type 0) (xs : List X) : Type 0 where
   pub count : length xs < 2 ^ 64
   pub inside : within (length xs) ≡ true
@@ -126,7 +126,7 @@ group_spells fmt =
 abbrev pub numbers_bytes : Numbers → List ℕ
 numbers_bytes n = ((eight_bytes n.0.0.0 ++ eight_bytes n.0.0.1) ++ eight_bytes n.0.1) ++ eight_bytes n.1
 
--- what is known of the numbers
+-- the numbers of a checkpoint that was read
 pub record AreNumbers (n : Numbers) : Type 0 where
   pub generation_first : 1 ≤ n.0.0.0
   pub generation_last : n.0.0.0 ≤ 2 ^ 64 - 2
@@ -172,7 +172,7 @@ numbers_spells =
         let h = is.head_last in
         ((((omega arith, omega arith), omega arith), omega arith), numbers_within n is)
 
--- what a checkpoint spells, and what is known of it, part by part
+-- the parts of a checkpoint that was read, and what holds of each
 abbrev pub Whole : Type 0
 Whole = (Numbers × List (List ℕ)) × List (NodeName × PlainNode × ℕ)
 

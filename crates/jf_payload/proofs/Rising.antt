@@ -1,4 +1,4 @@
--- What stands last decides whether one more may follow.
+-- Whether an item may be added at the end of a list depends on the last item alone.
 use Rattle.std.proofs.Common.{◌≡◌, ℕ, zero, suc, ◌+◌, ◌-◌, Bool, true, false, ◌&&◌, ◌==◌, List, [], ◌∷◌, ◌++◌, map, length, Some, refl, sym, ap, ◌∙◌, is_lt, arith}
 use Rattle.std.specs.Prelude.{slice_get}
 use Rattle.std.proofs.lemmas.Option.{slice_get_within}
@@ -32,7 +32,7 @@ module _ {X : Type 0} (name : X → NodeName) (x : X) where
       let within = slice_get_within xs (length xs - 1) last there in
       after xs (length xs - 1) last there (omega arith) up
 
--- names by themselves
+-- a map that changes no name
 names-map : (names : List NodeName) → map (λ n. n) names ≡ names
 names-map [] = refl
 names-map (n ∷ names) = ap (λ (ns : List NodeName). n ∷ ns) (names-map names)

@@ -1,4 +1,4 @@
--- Readers that read just what a spelling writes, and how they are made of one another.
+-- Readers that read exactly what a spelling writes, and how to build them from one another.
 use Rattle.std.proofs.Common.{◌≡◌, ℕ, zero, suc, Bool, true, false, cond, ◌&&◌, IsTrue, List, [], ◌∷◌, ◌++◌, length, Option, Some, None, refl, sym, ap, subst, ◌∙◌, append_assoc}
 use Rattle.std.specs.List.{flat_map, AllByRecursion}
 use Rattle.std.proofs.lemmas.List.{append-nil}
@@ -6,18 +6,18 @@ use Rattle.jf_path.specs.Keys.{IsBytes}
 use Rattle.jf_codec.proofs.FieldLaws.{AreBytes, Takes, Takes-then}
 use Rattle.jf_payload.specs.Reading.{◌>>=◌, Front, both_at, only_if, seen_as, many_at}
 
--- what is read is spelled so, what is spelled so is read, and a spelling is bytes
+-- the reader `one` reads exactly the spellings of values with `Is`, and spellings are bytes
 pub record Spells {X : Type 0} (spell : X → List ℕ) (Is : X → Type 0) (one : Front X) : Type 0 where
   pub takes : (bytes : List ℕ) (x : X × List ℕ) → AreBytes bytes → one bytes ≡ Some x → Takes bytes (spell x.0) x.1 × Is x.0
   pub again : (x : X) (rest : List ℕ) → Is x → one (spell x ++ rest) ≡ Some (x, rest)
   pub fits : (x : X) → Is x → IsBytes (spell x)
 
--- the value of a step that read something
+-- if two steps read something, the first one did
 pub bind_some : {A B : Type 0} (r : Option A) (f : A → Option B) (y : B) → (r >>= f) ≡ Some y → (x : A) × (r ≡ Some x) × (f x ≡ Some y)
 bind_some (Some x) f y e = (x, refl, e)
 bind_some None f y e = absurd cc
 
--- a test that let it go on
+-- a check that let reading go on was true
 pub guard_kept : {A : Type 0} (b : Bool) (r : Option A) (y : A) → cond b r None ≡ Some y → (b ≡ true) × (r ≡ Some y)
 guard_kept true r y e = (refl, e)
 guard_kept false r y e = absurd cc
@@ -44,7 +44,7 @@ pub IsBytes-append : (xs ys : List ℕ) → IsBytes xs → IsBytes ys → IsByte
 IsBytes-append [] ys p q = q
 IsBytes-append (x ∷ xs) ys p q = (p.0, IsBytes-append xs ys p.1 q)
 
--- ---- a value, and another
+-- ---- a value, and a second one
 
 pub both_spells : {X Y : Type 0} (sx : X → List ℕ) (Ix : X → Type 0) (ox : Front X) (sy : Y → List ℕ) (Iy : X → Y → Type 0) (oy : X → Front Y)
     → Spells sx Ix ox → ((x : X) → Ix x → Spells sy (Iy x) (oy x)) → Spells (λ (p : X × Y). sx p.0 ++ sy p.1) (λ (p : X × Y). Ix p.0 × Iy p.0 p.1) (both_at ox oy)
@@ -73,7 +73,7 @@ only_spells {X} s I o test one = record {
   fits = λ x is. one.fits x is.0;
 }
 
--- ---- a value, as something else
+-- ---- a value seen through a function
 
 pub seen_spells : {X Y : Type 0} (sx : X → List ℕ) (Ix : X → Type 0) (ox : Front X) (view : X → Y) (back : Y → X) (sy : Y → List ℕ) (Iy : Y → Type 0)
     → Spells sx Ix ox → ((x : X) → Ix x → back (view x) ≡ x) → ((y : Y) → view (back y) ≡ y) → ((y : Y) → sx (back y) ≡ sy y) → ((y : Y) → Ix (back y) → Iy y) → ((y : Y) → Iy y → Ix (back y)) → Spells sy Iy (seen_as view ox)
@@ -88,9 +88,9 @@ seen_spells {X} {Y} sx Ix ox view back sy Iy one there again text to from = reco
   fits = λ y is. subst IsBytes (text y) (one.fits (back y) (from y is));
 }
 
--- ---- so many values
+-- ---- a number of values
 
--- what is known of values that were read behind others
+-- values that were read after those of a front
 record Reads {X : Type 0} (s : X → List ℕ) (I : X → Type 0) (test : List X → Bool) (n : ℕ) (front : List X) (bytes : List ℕ) (x : List X × List ℕ) : Type 0 where
   more : List X
   taken : Takes bytes (flat_map s more) x.1
@@ -119,7 +119,7 @@ many_take s I o test one (suc n) front bytes x bs ok e =
       passed = others.passed;
     }
 
--- a test that holds of a list holds of each front of it
+-- a test of lists that holds of each front of a list for which it holds
 abbrev pub HoldsOfFronts : {X : Type 0} → (List X → Bool) → Type 0
 HoldsOfFronts {X} test = (front back : List X) → test (front ++ back) ≡ true → test front ≡ true
 

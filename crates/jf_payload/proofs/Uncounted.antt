@@ -39,7 +39,7 @@ node-written format.One (node.Leaf key value) is = is
 node-written format.One (node.Inner cs) is = (enough cs is.0, rise_from 0 cs is.1, children cs is.2)
 node-written format.Two n is = is
 
--- ---- lists of them
+-- ---- lists of nodes
 
 fresh-written : (fmt : Format) (xs : List (NodeName × PlainNode)) → AllByRecursion (λ x. IsName x.0 × IsNode format.Two x.1) xs → AllByRecursion (λ (y : NodeName × PlainNode). IsName y.0 × IsNode fmt y.1) (map (λ x. (x.0, in_format fmt x.1)) xs)
 fresh-written fmt [] all = tt

@@ -1,4 +1,4 @@
--- A payload is read just as the record that it spells.
+-- Reading a payload gives exactly the record that it spells.
 use Rattle.std.proofs.Common.{◌≡◌, ℕ, ◌^◌, ◌<◌, ◌⊎◌, inl, inr, true, false, cond, ◌&&◌, ◌==◌, List, [], ◌∷◌, ◌++◌, length, Option, Some, None, Result, Ok, Err, refl, sym, ap, ap₂, subst, ◌∙◌}
 use Rattle.std.specs.Prelude.{IfOk, nat_lt}
 use Rattle.std.specs.List.{list_all}
@@ -19,7 +19,7 @@ use Rattle.jf_payload.proofs.Spells.{Spells, and_left, and_right, bind_some, gua
 use Rattle.jf_payload.proofs.FieldSpells.{number_spells}
 use Rattle.jf_payload.proofs.RecordSpells.{commit_spells, group_spells, Whole, IsWhole, whole_bytes, whole_at, whole_spells, whole_checkpoint, checkpoint_whole}
 
--- what was read as a record
+-- the content of a record that was read, and the record made of it
 record Took {X : Type 0} (s : X → List ℕ) (I : X → Type 0) (view : X → Record) (bytes : List ℕ) (x : Record × List ℕ) : Type 0 where
   value : X
   text : Takes bytes (s value) x.1
@@ -33,7 +33,7 @@ took s I o view bytes x one bs e =
     let same = some_is (view y.0.0, y.0.1) x y.2 in
     record { value = y.0.0; text = subst (λ (q : Record × List ℕ). Takes bytes (s y.0.0) q.1) same t.0; sound = t.1; is = sym (ap (λ (q : Record × List ℕ). q.0) same) }
 
--- what is known of a record that was read
+-- a record that was read
 record Read (fmt : Format) (kind : ℕ) (bytes : List ℕ) (x : Record × List ℕ) : Type 0 where
   text : Takes bytes (record_bytes fmt x.0) x.1
   sound : IsRecord fmt x.0
@@ -81,7 +81,7 @@ record_takes fmt kind bytes x bs e =
     not_floor : Option (Record × List ℕ)
     not_floor = cond (kind == 3) (seen_as (λ c. «record».NodeCommit c) (commit_at fmt) bytes) not_commit
 
--- ---- what is spelled is read
+-- ---- the spelling of a record is read
 
 seen_again : {X : Type 0} (s : X → List ℕ) (I : X → Type 0) (o : Front X) (view : X → Record) → Spells s I o → (x : X) (rest : List ℕ) → I x → seen_as view o (s x ++ rest) ≡ Some (view x, rest)
 seen_again s I o view one x rest is = rw (one.again x rest is) refl
@@ -121,7 +121,7 @@ whole_again fmt kind payload r s =
     in
     ap (λ q. q >>= λ x. cond (length x.1 == 0) (Some x.0) None) all
 
--- ---- a spelling is bytes
+-- ---- spellings are bytes
 
 record_fits : (fmt : Format) (r : Record) → IsRecord fmt r → IsBytes (record_bytes fmt r)
 unfolding record_bytes

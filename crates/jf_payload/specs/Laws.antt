@@ -1,4 +1,4 @@
--- Laws on the spellings of records.
+-- Laws of the spellings of records.
 use Rattle.std.specs.Prelude.{◌≡◌, ◌↔◌, ◌⊎◌, ℕ, List, Some}
 use Rattle.jf_codec.specs.declared.format.Format.{Format}
 use Rattle.jf_codec.specs.declared.format.Format.TheVariants as format
@@ -7,11 +7,11 @@ use Rattle.jf_payload.specs.Spelling.{kind_of, record_bytes, IsRecord, IsSpellin
 use Rattle.jf_payload.specs.Counted.{record_in}
 use Rattle.jf_payload.specs.Reading.{spelled}
 
--- what is read of a payload is the record that it spells
+-- `spelled` gives just the record that a payload spells
 abbrev pub SpelledIsSpelling : Type 0
 SpelledIsSpelling = (fmt : Format) (kind : ℕ) (payload : List ℕ) (r : Record) → (spelled fmt kind payload ≡ Some r) ↔ IsSpelling fmt r kind payload
 
--- a payload of a kind spells one record at most
+-- a payload of a kind spells at most one record
 abbrev pub OneRecord : Type 0
 OneRecord = (fmt : Format) (kind : ℕ) (payload : List ℕ) (r s : Record) → IsSpelling fmt r kind payload → IsSpelling fmt s kind payload → r ≡ s
 
@@ -19,14 +19,14 @@ OneRecord = (fmt : Format) (kind : ℕ) (payload : List ℕ) (r s : Record) → 
 abbrev pub OneSpelling : Type 0
 OneSpelling = (fmt : Format) (r : Record) (kind kind' : ℕ) (payload payload' : List ℕ) → IsSpelling fmt r kind payload → IsSpelling fmt r kind' payload' → (kind ≡ kind') × (payload ≡ payload')
 
--- numbers, bytes or not, spell a record or they don't
+-- any list of numbers spells a record or doesn't
 abbrev pub SpellingIsDecided : Type 0
 SpellingIsDecided = (fmt : Format) (kind : ℕ) (payload : List ℕ) → ((r : Record) × IsSpelling fmt r kind payload) ⊎ ((r : Record) → IsSpelling fmt r kind payload → ⊥)
 
--- what a format keeps of a record is spelled as the record, and is all of a record that can be spelled in it
+-- what a format keeps of a record has the record's spelling; a record that can be spelled in the format is kept whole
 abbrev pub KeptIsSpelled : Type 0
 KeptIsSpelled = (fmt : Format) (r : Record) → (record_bytes fmt (record_in fmt r) ≡ record_bytes fmt r) × (kind_of fmt (record_in fmt r) ≡ kind_of fmt r) × (IsRecord fmt r → record_in fmt r ≡ r)
 
--- what can be spelled in format 2 can be written in each format
+-- what can be spelled in format 2 can be written in both formats
 abbrev pub WrittenInBoth : Type 0
 WrittenInBoth = (fmt : Format) (r : Record) → IsRecord format.Two r → IsRecord fmt (record_in fmt r)

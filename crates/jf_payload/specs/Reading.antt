@@ -1,4 +1,4 @@
--- Reading a payload from left to right: a value and the bytes behind it, or None if no value is spelled there.
+-- Reading a payload from left to right: a value and the bytes after it, or None if no value is spelled.
 use Rattle.std.specs.Prelude.{◌≡◌, ℕ, zero, suc, ◌+◌, ◌-◌, ◌^◌, Bool, true, false, not, ◌&&◌, List, [], ◌∷◌, ◌++◌, map, length, Option, Some, None, Result, Ok, Err, nat_le, nat_lt, ◌==◌, if◌then◌else◌}
 use Rattle.std.specs.List.{list_all}
 use Rattle.std.specs.Result.{result_ok}
@@ -18,28 +18,28 @@ use Rattle.jf_payload.specs.declared.records.Record.{Record}
 use Rattle.jf_payload.specs.declared.records.Record.TheVariants as «record»
 
 infixl 10 ◌>>=◌
--- what comes behind a step, if the step reads something
+-- a step and then the next one, if the first step reads something
 abbrev pub ◌>>=◌ : {A B : Type 0} → Option A → (A → Option B) → Option B
 (Some x) >>= f = f x
 None >>= f = None
 
--- an error says that nothing is read, or that memory is wanting
+-- the errors of a function: `Bad` if nothing is read, or out of memory
 abbrev pub Fails : {Y : Type 0} → RecordFault → Option Y → Type 0
 Fails fault.Bad read = read ≡ None
 Fails fault.Memory read = Unit {0}
 
--- what a function returned, seen by view, is what is read, unless memory is wanting
+-- a function returned what reading gives, seen through `view`, or `Memory`
 abbrev pub Gives : {X Y : Type 0} → (X → Y) → Result X RecordFault → Option Y → Type 0
 Gives view (Ok x) read = read ≡ Some (view x)
 Gives view (Err e) read = Fails e read
 
--- a reader of values at the front of bytes
+-- a reader: it takes a value from the front of bytes
 abbrev pub Front : Type 0 → Type 0
 Front X = List ℕ → Option (X × List ℕ)
 
 -- ---- readers made of readers
 
--- a value, and another that may depend on it
+-- a value, and a second one that may depend on the first
 abbrev pub both_at : {X Y : Type 0} → Front X → (X → Front Y) → Front (X × Y)
 both_at one other bytes = do
   x ← one bytes
@@ -52,13 +52,13 @@ only_if test one bytes = do
   x ← one bytes
   if test x.0 then Some x else None
 
--- a value, as something else
+-- a value seen through `view`
 abbrev pub seen_as : {X Y : Type 0} → (X → Y) → Front X → Front Y
 seen_as view one bytes = do
   x ← one bytes
   Some (view x.0, x.1)
 
--- so many values behind those of a front, each of which may stand behind the ones before it
+-- n values after those of `front`; the values so far must pass the test `fits` each time
 unfoldable pub many_at : {X : Type 0} → (List X → Bool) → Front X → ℕ → List X → Front (List X)
 many_at fits one zero front bytes = Some (front, bytes)
 many_at fits one (suc n) front bytes = do
@@ -67,25 +67,29 @@ many_at fits one (suc n) front bytes = do
 
 -- ---- fields
 
+-- a number in eight bytes
 abbrev pub number_at : Front ℕ
 number_at bytes = result_ok (eight_at bytes)
 
+-- a hash of 32 bytes
 abbrev pub hash_at : Front (List ℕ)
 hash_at bytes = result_ok (bytes_at 32 bytes)
 
+-- the name of a node
 abbrev pub named_at : Front NodeName
 named_at bytes = result_ok (name_at bytes)
 
--- children with counts, by the first of them
+-- children have counts, which the first of them shows
 abbrev pub has_counts : List Child → Bool
 has_counts [] = false
 has_counts (c ∷ cs) = not (c.count == 0)
 
+-- whether children with counts, or without, are of a format
 abbrev pub is_counted : Format → Bool → Bool
 is_counted format.One counts = not counts
 is_counted format.Two counts = counts
 
--- an internal node has counts in format 2 alone
+-- an internal node has counts in format 2, and no counts in format 1
 abbrev pub is_in : Format → PlainNode → Bool
 is_in fmt node.Null = true
 is_in fmt (node.Leaf key value) = true
@@ -97,7 +101,7 @@ plain_at fmt = only_if (is_in fmt) (λ bytes. result_ok (node_at bytes))
 
 -- ---- lists
 
--- so many values behind their number
+-- a list: the number of values, within bounds, and the values
 abbrev pub list_at : {X : Type 0} → (ℕ → Bool) → (List X → Bool) → Front X → Front (List X)
 list_at within fits one = seen_as (λ x. x.1) (both_at (only_if within number_at) (λ n. many_at fits one n []))
 
@@ -109,13 +113,15 @@ any n = true
 unfoldable pub fresh_at : Format → Front (NodeName × PlainNode)
 fresh_at fmt = both_at named_at (λ name. plain_at fmt)
 
--- their names rise
+-- the names of nodes rise
 abbrev pub fresh_rise : List (NodeName × PlainNode) → Bool
 fresh_rise xs = rise (map (λ x. x.0) xs)
 
+-- a list of the nodes that a landing writes, whose names rise
 abbrev pub fresh_list_at : Format → Front (List (NodeName × PlainNode))
 fresh_list_at fmt = list_at any fresh_rise (fresh_at fmt)
 
+-- a list of names, which rise
 abbrev pub name_list_at : Front (List NodeName)
 name_list_at = list_at any rise named_at
 
@@ -123,33 +129,37 @@ name_list_at = list_at any rise named_at
 unfoldable pub live_at : Format → Front (NodeName × PlainNode × ℕ)
 live_at fmt = seen_as (λ x. (x.0.0, x.0.1, x.1)) (both_at (both_at named_at (λ name. plain_at fmt)) (λ x. number_at))
 
--- their names rise
+-- the names of nodes rise
 abbrev pub live_rise : List (NodeName × PlainNode × ℕ) → Bool
 live_rise xs = rise (map (λ x. x.0) xs)
 
+-- a list of the nodes of a checkpoint, whose names rise
 abbrev pub live_list_at : Format → Front (List (NodeName × PlainNode × ℕ))
 live_list_at fmt = list_at any live_rise (live_at fmt)
 
 -- ---- records
 
+-- the landing of these parts
 abbrev pub commit_from : ((ℕ × List ℕ) × List (NodeName × PlainNode)) × List NodeName → Commit
 commit_from x = record { version = x.0.0.0; root = x.0.0.1; fresh = x.0.1; stale = x.1 }
 
+-- a landing: version, root, the nodes that it writes, and the names that it marks stale
 unfoldable pub commit_at : Format → Front Commit
 commit_at fmt = seen_as commit_from (both_at (both_at (both_at number_at (λ version. hash_at)) (λ x. fresh_list_at fmt)) (λ x. name_list_at))
 
--- generation, base, floor and head
+-- the numbers of a checkpoint: generation, base, floor and head
 abbrev pub Numbers : Type 0
 Numbers = ((ℕ × ℕ) × ℕ) × ℕ
 
--- a generation from 1 on, base, floor and head in order, and none of them the last number
+-- generation at least 1; base, floor and head in order; generation and head at most 2^64 - 2
 abbrev pub are_within : Numbers → Bool
 are_within n = nat_le 1 n.0.0.0 && (nat_le n.0.0.0 (2 ^ 64 - 2) && (nat_le n.0.0.1 n.0.1 && (nat_le n.0.1 n.1 && nat_le n.1 (2 ^ 64 - 2))))
 
+-- the numbers of a checkpoint, in bounds and in order
 unfoldable pub numbers_at : Front Numbers
 numbers_at = only_if are_within (both_at (both_at (both_at number_at (λ x. number_at)) (λ x. number_at)) (λ x. number_at))
 
--- in any order
+-- hashes may come in any order
 abbrev pub any_hashes : List (List ℕ) → Bool
 any_hashes hs = true
 
@@ -157,20 +167,23 @@ any_hashes hs = true
 abbrev pub roots_at : Numbers → Front (List (List ℕ))
 roots_at n = many_at any_hashes hash_at (n.1 - n.0.0.1 + 1) []
 
+-- the checkpoint of these parts
 abbrev pub checkpoint_from : (Numbers × List (List ℕ)) × List (NodeName × PlainNode × ℕ) → Record
 checkpoint_from x = «record».Checkpoint x.0.0.0.0.0 x.0.0.0.0.1 x.0.0.0.1 x.0.0.1 x.0.1 x.1
 
+-- a checkpoint: its numbers, its roots, and its nodes
 unfoldable pub checkpoint_at : Format → Front Record
 checkpoint_at fmt = seen_as checkpoint_from (both_at (both_at numbers_at roots_at) (λ x. live_list_at fmt))
 
--- 2 to 1,024 landings whose versions rise by one
+-- a group has 2 to 1,024 landings
 abbrev pub is_group : ℕ → Bool
 is_group n = nat_le 2 n && nat_le n 1024
 
+-- a group: a list of landings whose versions rise by one
 unfoldable pub group_at : Format → Front (List Commit)
 group_at fmt = list_at is_group follow (commit_at fmt)
 
--- a record of a kind
+-- a record of a kind at the front of bytes
 unfoldable pub record_at : Format → ℕ → Front Record
 record_at fmt kind bytes =
     if kind == 2 then seen_as (λ floor. «record».Floor floor) number_at bytes
@@ -179,12 +192,12 @@ record_at fmt kind bytes =
     else if kind == checkpoint_kind fmt then checkpoint_at fmt bytes
     else None
 
--- all of the bytes, as a record
+-- a record of a kind that takes all of the bytes
 unfoldable pub whole_in : Format → ℕ → List ℕ → Option Record
 whole_in fmt kind bytes = do
   r ← record_at fmt kind bytes
   if length r.1 == 0 then Some r.0 else None
 
--- the record that a payload of a kind spells in a file of a format, None if it spells none or isn't bytes
+-- the record that a payload of a kind spells in a file of a format; None if it spells no record or isn't bytes
 unfoldable pub spelled : Format → ℕ → List ℕ → Option Record
 spelled fmt kind payload = if list_all (λ b. nat_lt b 256) payload then whole_in fmt kind payload else None

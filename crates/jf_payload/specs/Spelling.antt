@@ -1,4 +1,4 @@
--- The payloads of records, in both formats.
+-- The payloads of records, in both formats (docs/FORMATS.md, "Records of nodes in bytes").
 use Rattle.std.specs.Prelude.{◌≡◌, ℕ, ◌+◌, ◌-◌, ◌<◌, ◌≤◌, ◌^◌, Bool, true, ◌&&◌, ◌==◌, IsTrue, List, [], ◌∷◌, ◌++◌, map, flat_map, length}
 use Rattle.std.specs.List.{AllByRecursion}
 use Rattle.jf_path.specs.Keys.{IsKey}
@@ -13,15 +13,15 @@ use Rattle.jf_payload.specs.declared.records.Commit.{Commit}
 use Rattle.jf_payload.specs.declared.records.Record.{Record}
 use Rattle.jf_payload.specs.declared.records.Record.TheVariants as «record»
 
--- how many there are, and each of them
+-- a list: the number of items, and each item
 abbrev pub list_bytes : {X : Type 0} → (X → List ℕ) → List X → List ℕ
 list_bytes spell xs = eight_bytes (length xs) ++ flat_map spell xs
 
--- a node that is written: its name and the node
+-- a node that a landing writes: its name and the node
 abbrev pub fresh_bytes : Format → NodeName × PlainNode → List ℕ
 fresh_bytes fmt x = name_bytes x.0 ++ node_bytes fmt x.1
 
--- a node that is kept: its name, the node, and the version since which it is stale, 2^64 - 1 if it isn't
+-- a node of a checkpoint: its name, the node, and the version since which it is stale, 2^64 - 1 if it isn't
 abbrev pub live_bytes : Format → NodeName × PlainNode × ℕ → List ℕ
 live_bytes fmt x = name_bytes x.0 ++ node_bytes fmt x.1 ++ eight_bytes x.2
 
@@ -29,11 +29,12 @@ live_bytes fmt x = name_bytes x.0 ++ node_bytes fmt x.1 ++ eight_bytes x.2
 unfoldable pub commit_bytes : Format → Commit → List ℕ
 commit_bytes fmt c = eight_bytes c.version ++ c.root ++ list_bytes (fresh_bytes fmt) c.fresh ++ list_bytes name_bytes c.stale
 
--- the kind of a checkpoint tells the format of the file
+-- the kind of a checkpoint, which tells the format of the file
 abbrev pub checkpoint_kind : Format → ℕ
 checkpoint_kind format.One = 4
 checkpoint_kind format.Two = 5
 
+-- the kind of a record in a file of a format
 abbrev pub kind_of : Format → Record → ℕ
 kind_of fmt («record».Floor floor) = 2
 kind_of fmt («record».NodeCommit c) = 3
@@ -50,7 +51,7 @@ record_bytes fmt («record».Group cs) = list_bytes (commit_bytes fmt) cs
 
 -- ---- what can be spelled
 
--- a landing with a version and numbers of nodes of 64 bits, nodes of the format, and names in their order
+-- a landing can be spelled: version and counts have 64 bits, the nodes are of the format, and the names rise
 pub record IsCommit (fmt : Format) (c : Commit) : Type 0 where
   pub version : c.version < 2 ^ 64
   pub root : IsKey c.root
@@ -61,8 +62,8 @@ pub record IsCommit (fmt : Format) (c : Commit) : Type 0 where
   pub stale_count : length c.stale < 2 ^ 64
   pub stale_rise : IsTrue (rise c.stale)
 
--- a checkpoint with a generation from 1 on, base, floor and head in order, a root for each version from the base to the
--- head, nodes of the format, and names in their order; no generation and no version is the last number
+-- a checkpoint can be spelled: generation at least 1; base, floor and head in order; a root for each version from the
+-- base to the head; nodes of the format, whose names rise; generation and head at most 2^64 - 2
 pub record IsCheckpoint (fmt : Format) (generation base floor head : ℕ) (roots : List (List ℕ)) (nodes : List (NodeName × PlainNode × ℕ)) : Type 0 where
   pub generation_first : 1 ≤ generation
   pub generation_last : generation ≤ 2 ^ 64 - 2
@@ -75,27 +76,27 @@ pub record IsCheckpoint (fmt : Format) (generation base floor head : ℕ) (roots
   pub count : length nodes < 2 ^ 64
   pub names_rise : IsTrue (rise (map (λ n. n.0) nodes))
 
--- versions rise by one
+-- the versions of landings rise by one
 abbrev pub follow : List Commit → Bool
 follow [] = true
 follow (c ∷ []) = true
 follow (c ∷ d ∷ cs) = (d.version == c.version + 1) && follow (d ∷ cs)
 
--- 2 to 1,024 landings whose versions rise by one
+-- a group can be spelled: 2 to 1,024 landings, whose versions rise by one
 pub record IsGroup (fmt : Format) (cs : List Commit) : Type 0 where
   pub many : 2 ≤ length cs
   pub few : length cs ≤ 1024
   pub commits : AllByRecursion (IsCommit fmt) cs
   pub versions : IsTrue (follow cs)
 
--- what has a spelling in a format
+-- a record can be spelled in a format
 abbrev pub IsRecord : Format → Record → Type 0
 IsRecord fmt («record».Floor floor) = floor < 2 ^ 64
 IsRecord fmt («record».NodeCommit c) = IsCommit fmt c
 IsRecord fmt («record».Checkpoint generation base floor head roots nodes) = IsCheckpoint fmt generation base floor head roots nodes
 IsRecord fmt («record».Group cs) = IsGroup fmt cs
 
--- a record's spelling, by its kind
+-- a record is spelled by this kind and payload
 pub record IsSpelling (fmt : Format) (r : Record) (kind : ℕ) (payload : List ℕ) : Type 0 where
   pub sound : IsRecord fmt r
   pub kind_is : kind ≡ kind_of fmt r

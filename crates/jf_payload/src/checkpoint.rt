@@ -1,4 +1,4 @@
-// Checkpoints.
+// A checkpoint holds all nodes that are kept at one moment, so that the records before it aren't needed.
 ghost use Rattle.std.specs.Prelude.{◌≡◌, ◌≤◌, ◌<◌, ◌-◌, ◌^◌, IfOk};
 ghost use Rattle.jf_payload.specs.Reading.{Gives, numbers_at, are_within, checkpoint_at};
 
@@ -9,7 +9,7 @@ use crate::records::Record;
 use jf_codec::Format;
 use std::alloc::Global;
 
-/// The numbers with which a checkpoint begins.
+/// The numbers at the front of a checkpoint.
 #[derive(Clone, Copy)]
 struct Numbers {
     generation: u64,
@@ -18,7 +18,7 @@ struct Numbers {
     head: u64,
 }
 
-// Whether the generation is from 1 on, base, floor and head are in order, and neither generation nor head is the last number.
+// Whether the generation is at least 1; base, floor and head are in order; generation and head are at most 2^64 - 2.
 fn are_within(n: Numbers) -> bool
     ensures { result ≡ are_within (((n.generation, n.base), n.floor), n.head) }
 {
@@ -29,7 +29,7 @@ fn are_within(n: Numbers) -> bool
         && n.head < u64::MAX
 }
 
-// The numbers.
+// The four numbers at the front of a checkpoint.
 #[tactic(auto, unfolding(crate::specs::Reading::numbers_at))]
 fn numbers_of(bytes: &[u8]) -> Result<(Numbers, &[u8]), RecordFault>
     ensures read { Gives (λ x. ((((x.0.generation, x.0.base), x.0.floor), x.0.head), x.1.now)) result (numbers_at bytes.now) }

@@ -1,4 +1,4 @@
-// Lists of landings.
+// Several landings, the oldest first, are one record, so that a crash keeps all of them or loses all of them.
 ghost use Rattle.std.specs.Prelude.{◌≡◌, [], ◌∷◌, ◌++◌, length, OnOk, OnErr};
 
 use crate::records::Commit;
@@ -31,21 +31,21 @@ impl Commits {
         }
     }
 
-    /// How many there are.
+    /// The number of landings.
     pub fn len(&self) -> u64
         ensures { result ≡ length self.now }
     {
         self.commits.len() as u64
     }
 
-    /// The landings.
+    /// The landings, the oldest first.
     pub fn as_slice(&self) -> &[Commit]
         ensures { result.now ≡ self.now }
     {
         &self.commits
     }
 
-    /// Adds a landing at the end. A refusal drops it, and leaves the list as it was.
+    /// Adds a landing at the end. If memory runs out, the landing is dropped and the list is unchanged.
     pub fn push(&mut self, commit: Commit) -> Result<(), Memory>
         ensures ok { OnOk result (self.new ≡ self.old ++ commit ∷ []) }
         ensures err { OnErr result (self.new ≡ self.old) }

@@ -1,4 +1,4 @@
-// Records from payloads.
+// A record is read from its kind and all of its payload; a payload that isn't exactly so is bad.
 ghost use Rattle.std.specs.Prelude.{◌≡◌, ◌⊎◌, Ok, Err, IfOk};
 ghost use Rattle.jf_payload.specs.Spelling.{IsSpelling};
 ghost use Rattle.jf_payload.specs.Reading.{Gives, record_at, whole_in, spelled};
@@ -12,7 +12,7 @@ use crate::records::Record;
 use jf_codec::Format;
 use std::alloc::Global;
 
-// A record of a kind.
+// The record of a kind at the front of the bytes.
 #[tactic(auto, unfolding(crate::specs::Reading::record_at))]
 fn record_of(
     alloc: Global,
@@ -40,7 +40,7 @@ fn record_of(
     checkpoint_of(alloc, format, bytes)
 }
 
-// All of a payload.
+// The record of a kind whose spelling all of the payload is.
 #[tactic(auto, unfolding(crate::specs::Reading::whole_in))]
 fn whole_of(alloc: Global, format: Format, kind: u8, payload: &[u8]) -> Result<Record, RecordFault>
     ensures { Gives (λ r. r) result (whole_in format kind payload.now) }
@@ -52,8 +52,8 @@ fn whole_of(alloc: Global, format: Format, kind: u8, payload: &[u8]) -> Result<R
     Ok(record)
 }
 
-/// The record that a payload of this kind spells in a file of this format, all of the payload. `Bad` exactly if there is none:
-/// also if an internal node is of the other format, or if a checkpoint is of its kind.
+/// The record of this kind whose spelling all of `payload` is, in a file of this format. `Bad` only if there is no such
+/// record; an internal node or a checkpoint of the other format makes it so.
 pub fn decode(
     alloc: Global,
     kind: u8,

@@ -1,4 +1,4 @@
-// Records as frames.
+// Writing a record gives its whole frame, ready to be appended to a log.
 ghost use Rattle.std.specs.Prelude.{◌≡◌, ◌++◌, flat_map, length, IfOk, OnOk};
 ghost use Rattle.std.specs.List.{AllByRecursion};
 ghost use Rattle.jf_frame.specs.Framing.{IsFrame};
@@ -34,7 +34,7 @@ fn put_names(out: &mut Bytes, names: &[NodeName]) -> Result<(), Memory>
     Ok(())
 }
 
-// Adds each node with its name.
+// Adds each node after its name.
 fn put_fresh(out: &mut Bytes, format: Format, nodes: &[(NodeName, PlainNode)]) -> Result<(), Memory>
     requires { AllByRecursion (λ x. IsNode format (in_format format x.1)) nodes.now }
     ensures { OnOk result (out.new ≡ out.old ++ flat_map (fresh_bytes format) nodes.now) }
@@ -46,7 +46,7 @@ fn put_fresh(out: &mut Bytes, format: Format, nodes: &[(NodeName, PlainNode)]) -
     Ok(())
 }
 
-// Adds each node with its name and the version since which it is stale.
+// Adds each node after its name, and the version since which it is stale.
 fn put_live(
     out: &mut Bytes,
     format: Format,
@@ -132,7 +132,7 @@ fn kind_of(entry: &Record, format: Format) -> u8
     }
 }
 
-// Kind, length, payload, and a closed gate.
+// A frame: kind, length, payload, and a closed gate.
 #[tactic(auto, unfolding(jf_codec::specs::Numbers::eight_bytes, jf_frame::specs::Framing::eight_bytes))]
 fn frame_of(alloc: Global, kind: u8, payload: &[u8]) -> Result<Bytes, Memory>
     ensures { IfOk result (λ bytes. IsFrame bytes kind payload.now) }
@@ -145,8 +145,8 @@ fn frame_of(alloc: Global, kind: u8, payload: &[u8]) -> Result<Bytes, Memory>
     Ok(out)
 }
 
-/// The frame of a record in a file of this format: kind, length, payload, and a closed gate. Format 1 leaves out the counts of
-/// nodes. What the format keeps of the record has to have a spelling.
+/// The frame of a record in a file of this format: kind, length, payload, and a closed gate. Format 1 leaves out the
+/// counts of nodes. What the format keeps of the record must have a spelling.
 pub fn encode(alloc: Global, entry: &Record, format: Format) -> Result<Bytes, Memory>
     requires { IsRecord format (record_in format entry.now) }
     ensures { IfOk result (λ bytes. IsFrame bytes (kind_of format entry.now) (record_bytes format entry.now)) }

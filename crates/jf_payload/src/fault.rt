@@ -7,9 +7,9 @@ use jf_path::Memory;
 /// Why a payload is no record.
 #[derive(Clone, Copy, Debug, PartialEq, Eq)]
 pub enum RecordFault {
-    /// The payload is no spelling of that kind in that format, or the format has no such kind.
+    /// The payload isn't the spelling of a record of that kind in that format, or the format has no such kind.
     Bad,
-    /// Memory is wanting.
+    /// Out of memory.
     Memory,
 }
 

@@ -1,4 +1,5 @@
-// Fields at the front of a payload, each with the bytes after it.
+// A field is read from the front of a payload and returned with the bytes after it. `Bad` if the bytes begin with no
+// such field.
 ghost use Rattle.std.specs.Prelude.{◌≡◌};
 ghost use Rattle.std.specs.Result.{result_ok};
 ghost use Rattle.jf_codec.specs.Reading.{node_at};
@@ -9,7 +10,7 @@ use jf_codec::{CodecFault, Format, key_at, name_at, node_at, u64_at};
 use jf_path::{Child, Key, NodeName, PlainNode};
 use std::alloc::Global;
 
-/// A number.
+/// A number in eight bytes.
 pub(crate) fn number_of(bytes: &[u8]) -> Result<(u64, &[u8]), RecordFault>
     ensures { Gives (λ x. (x.0, x.1.now)) result (number_at bytes.now) }
 {
@@ -19,7 +20,7 @@ pub(crate) fn number_of(bytes: &[u8]) -> Result<(u64, &[u8]), RecordFault>
     }
 }
 
-/// A hash.
+/// A hash of 32 bytes.
 pub(crate) fn hash_of(bytes: &[u8]) -> Result<(&Key, &[u8]), RecordFault>
     ensures { Gives (λ x. (x.0.now, x.1.now)) result (hash_at bytes.now) }
 {
@@ -29,7 +30,7 @@ pub(crate) fn hash_of(bytes: &[u8]) -> Result<(&Key, &[u8]), RecordFault>
     }
 }
 
-/// A name.
+/// The name of a node.
 pub(crate) fn name_of(bytes: &[u8]) -> Result<(NodeName, &[u8]), RecordFault>
     ensures { Gives (λ x. (x.0, x.1.now)) result (named_at bytes.now) }
 {
@@ -39,7 +40,7 @@ pub(crate) fn name_of(bytes: &[u8]) -> Result<(NodeName, &[u8]), RecordFault>
     }
 }
 
-// Whether children have counts, by the first of them.
+// Whether children have counts, which the first of them shows.
 fn has_counts(children: &[Child]) -> bool
     ensures { result ≡ has_counts children.now }
 {
@@ -49,7 +50,7 @@ fn has_counts(children: &[Child]) -> bool
     }
 }
 
-// Whether the children of a format have counts, or not.
+// Whether children with counts, or without, are of a format.
 fn is_counted(format: Format, counts: bool) -> bool
     ensures { result ≡ is_counted format counts }
 {
@@ -80,7 +81,7 @@ fn any_node_of(alloc: Global, bytes: &[u8]) -> Result<(PlainNode, &[u8]), Record
     }
 }
 
-/// A node of the format.
+/// A node of a format.
 pub(crate) fn node_of(
     alloc: Global,
     format: Format,

@@ -1,4 +1,4 @@
-// A later floor as a frame.
+// The frame of a later floor is always 18 bytes, so it is made without taking memory.
 ghost use Rattle.std.specs.Prelude.{◌≡◌};
 ghost use Rattle.jf_frame.specs.Framing.{IsFrame};
 ghost use Rattle.jf_codec.specs.declared.format.Format.{Format};

@@ -1,4 +1,4 @@
-// Landings, one by itself or several.
+// A landing adds one version: its root, the nodes that it writes, and the names that it marks stale.
 ghost use Rattle.std.specs.Prelude.{◌≡◌, []};
 ghost use Rattle.jf_payload.specs.Spelling.{follow};
 ghost use Rattle.jf_payload.specs.Reading.{Gives, many_at, commit_at, group_at};
@@ -34,7 +34,7 @@ pub(crate) fn commit_of(
     Ok((commit, rest))
 }
 
-// So many landings whose versions rise by one.
+// `count` landings, whose versions rise by one.
 fn commits_of(
     alloc: Global,
     format: Format,
@@ -53,7 +53,7 @@ fn commits_of(
     Ok((commits, rest))
 }
 
-/// 2 to 1,024 landings whose versions rise by one, behind their number.
+/// A group: the number of landings, 2 to 1,024, and the landings, whose versions rise by one.
 #[tactic(auto, unfolding(crate::specs::Reading::group_at))]
 pub(crate) fn group_of(
     alloc: Global,

@@ -1,12 +1,12 @@
-// Laws on spellings, for proofs of code that stands on them. These functions do nothing when they run.
+// Laws of spellings, for proofs of code that uses them. These functions do nothing when they run.
 ghost use Rattle.jf_payload.specs.Laws.{SpelledIsSpelling, OneRecord, OneSpelling, SpellingIsDecided, KeptIsSpelled, WrittenInBoth};
 
-/// What is read of a payload is the record that it spells.
+/// `spelled` gives just the record that a payload spells.
 pub fn spelled_is_spelling()
     ensures { SpelledIsSpelling }
 {}
 
-/// A payload of a kind spells one record at most.
+/// A payload of a kind spells at most one record.
 pub fn one_record()
     ensures { OneRecord }
 {}
@@ -21,12 +21,12 @@ pub fn spelling_is_decided()
     ensures { SpellingIsDecided }
 {}
 
-/// What a format keeps of a record is spelled as the record, and is all of a record that can be spelled in it.
+/// What a format keeps of a record has the record's spelling; a record that can be spelled in the format is kept whole.
 pub fn kept_is_spelled()
     ensures { KeptIsSpelled }
 {}
 
-/// What can be spelled in format 2 can be written in each format.
+/// What can be spelled in format 2 can be written in both formats.
 pub fn written_in_both()
     ensures { WrittenInBoth }
 {}

@@ -1,5 +1,5 @@
-//! The records of a journal of nodes, and the payload that spells each in a file of either format: written in one way, and
-//! read exactly. `specs/` says how each is spelled.
+//! The records of a journal of nodes, and the payload that spells each in a file of either format. Each record has one
+//! spelling, and no other bytes are accepted. `specs/` says how each is spelled.
 #![tactic(auto)]
 
 mod checkpoint;

@@ -1,4 +1,4 @@
-// Lists behind the number of their items.
+// A list is the number of its items and then the items; in lists of names or nodes the names rise strictly.
 ghost use Rattle.std.specs.Prelude.{◌≡◌, []};
 ghost use Rattle.jf_path.specs.Names.{rise};
 ghost use Rattle.jf_payload.specs.Reading.{Gives, many_at, named_at, hash_at, fresh_at, live_at, any_hashes, fresh_rise, live_rise, fresh_list_at, name_list_at, live_list_at};
@@ -10,7 +10,7 @@ use jf_codec::Format;
 use jf_path::{FreshList, HashList, LiveList, NameList, NodeName, PlainNode};
 use std::alloc::Global;
 
-/// So many hashes.
+/// `count` hashes.
 pub(crate) fn hashes_of(
     alloc: Global,
     count: u64,
@@ -28,7 +28,7 @@ pub(crate) fn hashes_of(
     Ok((hashes, rest))
 }
 
-// So many names that rise.
+// `count` names, which rise.
 fn names_of(alloc: Global, count: u64, bytes: &[u8]) -> Result<(NameList, &[u8]), RecordFault>
     ensures { Gives (λ x. (x.0, x.1.now)) result (many_at rise named_at count [] bytes.now) }
 {
@@ -46,7 +46,7 @@ fn names_of(alloc: Global, count: u64, bytes: &[u8]) -> Result<(NameList, &[u8])
     Ok((names, rest))
 }
 
-/// Names that rise, behind their number.
+/// A list of names, which rise.
 pub(crate) fn name_list_of(alloc: Global, bytes: &[u8]) -> Result<(NameList, &[u8]), RecordFault>
     ensures { Gives (λ x. (x.0, x.1.now)) result (name_list_at bytes.now) }
 {
@@ -55,7 +55,7 @@ pub(crate) fn name_list_of(alloc: Global, bytes: &[u8]) -> Result<(NameList, &[u
     Ok((names, rest))
 }
 
-// A name, and its node.
+// A name and its node.
 #[tactic(auto, unfolding(crate::specs::Reading::fresh_at))]
 fn fresh_of(
     alloc: Global,
@@ -73,7 +73,7 @@ fn fresh_of(
     }
 }
 
-// So many nodes whose names rise.
+// `count` nodes, whose names rise.
 fn fresh_nodes_of(
     alloc: Global,
     format: Format,
@@ -92,7 +92,7 @@ fn fresh_nodes_of(
     Ok((nodes, rest))
 }
 
-/// Nodes whose names rise, behind their number.
+/// A list of nodes, whose names rise.
 pub(crate) fn fresh_list_of(
     alloc: Global,
     format: Format,
@@ -105,7 +105,7 @@ pub(crate) fn fresh_list_of(
     Ok((nodes, rest))
 }
 
-// A name, its node, and the version since which that is stale.
+// A name, its node, and the version since which the node is stale.
 #[tactic(auto, unfolding(crate::specs::Reading::live_at))]
 fn live_of(
     alloc: Global,
@@ -124,7 +124,7 @@ fn live_of(
     }
 }
 
-// So many nodes whose names rise.
+// `count` nodes with the versions since which they are stale, whose names rise.
 fn live_nodes_of(
     alloc: Global,
     format: Format,
@@ -143,7 +143,7 @@ fn live_nodes_of(
     Ok((nodes, rest))
 }
 
-/// Nodes with the versions since which they are stale, whose names rise, behind their number.
+/// A list of nodes with the versions since which they are stale, whose names rise.
 pub(crate) fn live_list_of(
     alloc: Global,
     format: Format,

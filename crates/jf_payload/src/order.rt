@@ -1,4 +1,4 @@
-// Whether what is read may stand behind what was read before, and adding it.
+// An item that was read is added to its list only if it may come after the last one.
 ghost use Rattle.std.specs.Prelude.{◌≡◌, ◌∷◌, ◌++◌, ◌+◌, ◌==◌, [], true, false, Err, OnOk, IsTrue};
 ghost use Rattle.jf_path.specs.Names.{rise};
 ghost use Rattle.jf_payload.specs.Spelling.{follow};
@@ -9,7 +9,7 @@ use crate::fault::RecordFault;
 use crate::records::Commit;
 use jf_path::{FreshList, LiveList, NameList, NodeName, PlainNode};
 
-// Whether names with this one behind them rise.
+// Whether the names rise with this one at the end.
 fn is_next_name(names: &NameList, name: &NodeName) -> bool
     ensures { result ≡ rise (names.now ++ name.now ∷ []) }
 {
@@ -19,7 +19,7 @@ fn is_next_name(names: &NameList, name: &NodeName) -> bool
     last.cmp(name).is_lt()
 }
 
-/// Adds a name behind the others if it is above them, and is `Bad` if it isn't.
+/// Adds a name at the end. `Bad` if it isn't above the names of the list.
 pub(crate) fn push_name(names: &mut NameList, name: NodeName) -> Result<(), RecordFault>
     ensures ok { OnOk result ((rise (names.old ++ name ∷ []) ≡ true) × (names.new ≡ names.old ++ name ∷ [])) }
     ensures bad { result ≡ Err RecordFault.Bad → rise (names.old ++ name ∷ []) ≡ false }
@@ -31,7 +31,7 @@ pub(crate) fn push_name(names: &mut NameList, name: NodeName) -> Result<(), Reco
     Ok(())
 }
 
-// Whether the names of nodes rise with this node behind them.
+// Whether the names of nodes rise with this node at the end.
 fn is_next_node(nodes: &FreshList, item: &(NodeName, PlainNode)) -> bool
     ensures { result ≡ fresh_rise (nodes.now ++ item.now ∷ []) }
 {
@@ -41,7 +41,7 @@ fn is_next_node(nodes: &FreshList, item: &(NodeName, PlainNode)) -> bool
     last.0.cmp(&item.0).is_lt()
 }
 
-/// Adds a node behind the others if its name is above theirs, and is `Bad` if it isn't.
+/// Adds a node at the end. `Bad` if its name isn't above those of the list.
 pub(crate) fn push_fresh(
     nodes: &mut FreshList,
     item: (NodeName, PlainNode),
@@ -56,7 +56,7 @@ pub(crate) fn push_fresh(
     Ok(())
 }
 
-// Whether the names of nodes rise with this node behind them.
+// Whether the names of nodes rise with this node at the end.
 fn is_next_live(nodes: &LiveList, item: &(NodeName, PlainNode, u64)) -> bool
     requires { live_rise nodes.now ≡ true }
     ensures { result ≡ live_rise (nodes.now ++ item.now ∷ []) }
@@ -67,7 +67,7 @@ fn is_next_live(nodes: &LiveList, item: &(NodeName, PlainNode, u64)) -> bool
     last.0.cmp(&item.0).is_lt()
 }
 
-/// Adds a node behind others whose names rise if its name is above theirs, and is `Bad` if it isn't.
+/// Adds a node at the end of a list whose names rise. `Bad` if its name isn't above those of the list.
 pub(crate) fn push_live(
     nodes: &mut LiveList,
     item: (NodeName, PlainNode, u64),
@@ -90,7 +90,7 @@ fn is_above_by_one(version: u64, last: u64) -> bool
     version > 0 && version - 1 == last
 }
 
-// Whether versions rise by one with this landing behind the others.
+// Whether the versions rise by one with this landing at the end.
 fn is_next_commit(commits: &Commits, commit: &Commit) -> bool
     requires { follow commits.now ≡ true }
     ensures { result ≡ follow (commits.now ++ commit.now ∷ []) }
@@ -101,7 +101,7 @@ fn is_next_commit(commits: &Commits, commit: &Commit) -> bool
     is_above_by_one(commit.version, last.version)
 }
 
-/// Adds a landing behind others whose versions rise by one if its version is the next, and is `Bad` if it isn't.
+/// Adds a landing at the end of a list whose versions rise by one. `Bad` if its version isn't the next one.
 pub(crate) fn push_commit(commits: &mut Commits, commit: Commit) -> Result<(), RecordFault>
     requires { follow commits.old ≡ true }
     ensures ok { OnOk result ((follow (commits.old ++ commit ∷ []) ≡ true) × (commits.new ≡ commits.old ++ commit ∷ [])) }

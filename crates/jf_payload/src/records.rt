@@ -1,4 +1,4 @@
-// Records of a journal of nodes.
+// The records of a journal of nodes (docs/FORMATS.md, "Records of nodes in bytes").
 use crate::commits::Commits;
 use jf_path::{FreshList, HashList, LiveList, NameList};
 
@@ -11,14 +11,15 @@ pub struct Commit {
     pub stale: NameList,
 }
 
-/// One record.
+/// One record of a journal.
 #[derive(Debug, Drop)]
 pub enum Record {
-    /// The versions below this one are gone.
+    /// A later floor: the versions below it are no longer kept.
     Floor(u64),
     /// A landing.
     NodeCommit(Commit),
-    /// All nodes that are kept, and the roots from the base to the head, the oldest first.
+    /// All nodes that are kept, and the roots from the base to the head, the oldest first. `nodes` are in the order of
+    /// their names, each with the version since which it is stale, 2^64 - 1 if it isn't.
     Checkpoint {
         generation: u64,
         base: u64,

@@ -1,4 +1,4 @@
-// Numbers as bytes, and what is too short.
+// Numbers are written with their highest byte first, and too few bytes are refused.
 use jf_codec::{CodecFault, front_of, key_at, put_u16, put_u32, put_u64, u16_at, u32_at, u64_at};
 use jf_path::Bytes;
 use std::alloc::Global;

@@ -1,11 +1,11 @@
-// How many landings a group has, and how long a value is.
+// The bounds of a group and of a value: how many landings, and how many bytes.
 use crate::parts::{HASH, KEY, LEAF, N0, N1, ROOT1};
 use jf_codec::Format;
 use jf_payload::{Record, decode};
 use std::alloc::{AllocError, Global};
 use std::test::Fail;
 
-// The payload of a group of so many landings from version 1 on, none of which writes a node.
+// The payload of a group of so many landings from version 1 on, which write no node.
 fn group(alloc: Global, count: u16) -> Result<Vec<u8>, AllocError> {
     let mut payload = Vec::new(alloc);
     payload.extend_from_slice(&(count as u64).to_be_bytes())?;

@@ -1,4 +1,4 @@
-// Parts of payloads, and payloads of parts.
+// Parts of payloads, as named bytes.
 use std::alloc::{AllocError, Global};
 
 pub(crate) const N0: &[u8] = &[0, 0, 0, 0, 0, 0, 0, 0];
@@ -34,16 +34,16 @@ pub(crate) const ROOT2: &[u8] = &[0, 0, 0, 0, 0, 0, 0, 2, 0];
 pub(crate) const UNDER1: &[u8] = &[0, 0, 0, 0, 0, 0, 0, 1, 1, 0x10];
 
 pub(crate) const NULL: &[u8] = &[0];
-// What stands before a leaf's value of one byte, and the value.
+// The tag of a leaf, which its key follows; and a value of one byte after its length.
 pub(crate) const LEAF: &[u8] = &[1];
 
 pub(crate) const VALUE: &[u8] = &[0, 0, 0, 1, 0x31];
-// What stands before two children, at nibbles 1 and 10, of which the last is a leaf.
+// The tag and bitmaps of two children, at nibbles 1 and 10, the second of which is a leaf, in format 1 and in format 2.
 pub(crate) const INNER: &[u8] = &[2, 4, 2, 4, 0];
 
 pub(crate) const COUNTED: &[u8] = &[3, 4, 2, 4, 0];
 
-// Bytes of these parts.
+// The bytes of these parts, one after another.
 pub(crate) fn joined(alloc: Global, parts: &[&[u8]]) -> Result<Vec<u8>, AllocError> {
     let mut bytes = Vec::new(alloc);
     for part in parts {

@@ -1,4 +1,4 @@
-// Worked payloads of each kind in both formats, written again and read.
+// Worked payloads of each kind in both formats: each is read and written again, and no shorter or longer one is read.
 use crate::parts::{
     COUNTED, EMPTY, HASH, INNER, KEY, LAST, LEAF, N0, N1, N2, N3, NEVER, NULL, ROOT0, ROOT1, ROOT2,
     UNDER1, VALUE, joined,
@@ -61,7 +61,7 @@ fn is_frame(alloc: Global, frame: &[u8], kind: u8, payload: &[u8]) -> Result<boo
     Ok(frame == expected.as_slice())
 }
 
-// Whether a payload is read as a record that is written so again.
+// Whether a payload is read as a record that is written as that payload again.
 fn is_written_again(alloc: Global, kind: u8, payload: &[u8], format: Format) -> Result<bool, Fail> {
     let record = decode(alloc, kind, payload, format)?;
     kept_is_spelled();
@@ -90,12 +90,12 @@ fn records_go_there_and_back(rt: HostRuntime) -> Result<(), Fail> {
     Ok(())
 }
 
-// Whether nothing is read of a payload.
+// Whether a payload is refused.
 pub(crate) fn is_refused(alloc: Global, kind: u8, payload: &[u8], format: Format) -> bool {
     matches!(decode(alloc, kind, payload, format), Err(RecordFault::Bad))
 }
 
-// Whether nothing is read of each front of a payload, and nothing of one byte more.
+// Whether each shorter front of a payload is refused, and the payload with one byte more.
 fn holds_no_other(alloc: Global, kind: u8, format: Format, parts: &[&[u8]]) -> Result<bool, Fail> {
     let mut payload = joined(alloc, parts)?;
     for end in 0..payload.len() {

@@ -1,4 +1,4 @@
-// Payloads that spell nothing: each bound, and each field that is wrong.
+// Tables of payloads that spell no record: each bound, and each field that is wrong.
 use crate::parts::{
     COUNTED, EMPTY, HASH, INNER, KEY, LAST, LEAF, N0, N1, N2, N3, NEVER, NULL, ROOT0, ROOT1, ROOT2,
     VALUE, joined,

@@ -1,4 +1,4 @@
--- A key above all of a batch: the last entry decides, and a put of it appends.
+-- A key above all keys of a batch: it is enough that it is above the last one, and putting it appends it.
 use Rattle.std.proofs.Common.{◌≡◌, ℕ, zero, suc, ◌-◌, Bool, true, false, ◌&&◌, T, List, [], ◌∷◌, ◌++◌, length, Option, Some, refl, sym, ap, subst, ◌∙◌, Ordering, Less, Equal, Greater, is_lt, arith}
 use Rattle.std.proofs.lemmas.Option.{slice_get_within}
 use Rattle.std.specs.Prelude.{slice_get}
@@ -32,7 +32,7 @@ is_less Less h = refl
 is_less Equal h = absurd h
 is_less Greater h = absurd h
 
--- a key below one that is below a third is below that
+-- the order of keys is transitive
 below_through : (x y z : List ℕ) → T (is_lt (key_cmp x y)) → T (is_lt (key_cmp y z)) → T (is_lt (key_cmp x z))
 below_through x y z p q = subst (λ o. T (is_lt o)) (sym (nat_list_cmp_total.trans x y z (is_less _ p) (is_less _ q))) tt
 
@@ -48,13 +48,13 @@ above_last key (f ∷ g ∷ es) (suc n) e sorted last long =
     same_second _ _ (λ above. below_through f.0 g.0 key (left_so _ _ (left_so _ _ sorted)) (left_so _ _ above))
     ∙ above_last key (g ∷ es) n e (right_so _ _ sorted) last (omega arith)
 
--- the last key decides whether a key is above all
+-- a key is above all keys of a sorted batch exactly if it is above the last one
 pub is_above-last : (key : List ℕ) (b : Batch) (e : List ℕ × Option (List ℕ)) → T (is_sorted key_cmp b) → slice_get b (length b - 1) ≡ Some e → is_above key b ≡ is_lt (key_cmp e.0 key)
 is_above-last key b e sorted last =
     let within = slice_get_within b (length b - 1) e last in
     above_last key b (length b - 1) e sorted last (omega arith)
 
--- to put a key above all is to append it
+-- putting a key that is above all keys appends it
 pub put-above : (key : List ℕ) (change : Option (List ℕ)) (b : Batch) → T (is_above key b) → put key_cmp key change b ≡ b ++ (key, change) ∷ []
 put-above key change [] above = refl
 put-above key change (e ∷ es) above =

@@ -1,4 +1,4 @@
--- A batch that takes entries at its end stays one that can be spelled.
+-- Appending entries to a batch that can be spelled gives one that can be.
 use Rattle.std.proofs.Common.{ℕ, ◌≤◌, Bool, true, false, ◌&&◌, T, List, [], ◌∷◌, ◌++◌, length, Option, is_lt}
 use Rattle.std.specs.Prelude.{IfSome}
 use Rattle.std.specs.List.{AllByRecursion}
@@ -34,7 +34,7 @@ below_later : (key : List ℕ) (b : Batch) (e : List ℕ × Option (List ℕ)) (
 below_later key [] e es below = left_so _ _ below
 below_later key (f ∷ fs) e es below = below_later key fs e es (right_so _ _ below)
 
--- in keys that rise, each is above those before it
+-- in a sorted batch each key is above all before it
 pub above-from_sorted : (b : Batch) (e : List ℕ × Option (List ℕ)) (es : Batch) → T (is_sorted key_cmp (b ++ e ∷ es)) → T (is_above e.0 b)
 above-from_sorted [] e es sorted = tt
 above-from_sorted (f ∷ fs) e es sorted = both _ _ (below_later f.0 fs e es (left_so _ _ sorted)) (above-from_sorted fs e es (right_so _ _ sorted))
@@ -43,7 +43,7 @@ all-push : {A : Type 0} (P : A → Type 0) (xs : List A) (x : A) → AllByRecurs
 all-push P [] x all here = (here, tt)
 all-push P (y ∷ ys) x all here = (all.0, all-push P ys x all.1 here)
 
--- what is kept of a batch while it grows
+-- what holds of the batch while it grows
 pub record IsGrown (b : Batch) : Type 0 where
   pub batch : IsBatch b
   pub values : AllByRecursion (λ e. IfSome e.1 (λ v. length v ≤ 4096)) b

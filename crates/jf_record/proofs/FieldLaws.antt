@@ -1,4 +1,4 @@
--- A field that is read is the field that was written, and what was written is read again.
+-- Reading a field gives the field that was written, and only that.
 use Rattle.std.proofs.Common.{◌≡◌, ℕ, zero, suc, ◌+◌, ◌^◌, ◌<◌, ◌≤◌, Bool, true, false, cond, ltb, List, [], ◌∷◌, ◌++◌, length, get_or, take, drop, Option, Some, None, refl, sym, ap, subst, ◌∙◌, append_assoc, arith, inl, inr}
 use Rattle.std.specs.Prelude.{IfSome}
 use Rattle.std.specs.Int.{Width, w32, w64, byte_len, from_be_bytes, to_be_bytes}
@@ -10,7 +10,7 @@ use Rattle.jf_frame.specs.Framing.{eight_bytes}
 use Rattle.jf_record.specs.Spelling.{four_bytes, change_bytes, entry_bytes}
 use Rattle.jf_record.specs.Reading.{◌>>=◌, bytes_at, number_at, four_at, eight_at, value_at, change_at, entry_at}
 
--- each number is a byte, place by place
+-- each number is a byte: it is below 256
 abbrev pub AreBytes : List ℕ → Type 0
 AreBytes bytes = (i : ℕ) → get_or bytes i 0 < 256
 
@@ -36,12 +36,12 @@ AreBytes-at_places [] h i = omega arith
 AreBytes-at_places (b ∷ bytes) h zero = h.0
 AreBytes-at_places (b ∷ bytes) h (suc i) = AreBytes-at_places bytes h.1 i
 
--- the value of a step that read something
+-- if two steps read something, the first one did
 pub bind_some : {A B : Type 0} (r : Option A) (f : A → Option B) (y : B) → (r >>= f) ≡ Some y → (x : A) × (r ≡ Some x) × (f x ≡ Some y)
 bind_some (Some x) f y e = (x, refl, e)
 bind_some None f y e = absurd cc
 
--- a test that let it go on
+-- a check that let reading go on was false
 pub guard_some : {A : Type 0} (b : Bool) (r : Option A) (y : A) → cond b None r ≡ Some y → (b ≡ false) × (r ≡ Some y)
 guard_some true r y e = absurd cc
 guard_some false r y e = (refl, e)
@@ -52,7 +52,7 @@ done x = Some x
 pub some_is : {A : Type 0} (x y : A) → done x ≡ done y → x ≡ y
 some_is x y e = cc
 
--- what a reader took from the front
+-- what a reader took from the front of bytes
 pub record Takes (bytes text rest : List ℕ) : Type 0 where
   pub parts : bytes ≡ text ++ rest
   pub rest_fits : AreBytes rest
@@ -60,7 +60,7 @@ pub record Takes (bytes text rest : List ℕ) : Type 0 where
 pub Takes-then : (a x b y c : List ℕ) → Takes a x b → Takes b y c → Takes a (x ++ y) c
 Takes-then a x b y c p q = record { parts = p.parts ∙ ap (λ (t : List ℕ). x ++ t) q.parts ∙ sym (append_assoc x y c); rest_fits = q.rest_fits }
 
--- ---- so many bytes
+-- ---- a number of bytes
 
 pub bytes_take : (n : ℕ) (bytes : List ℕ) (x : List ℕ × List ℕ) → AreBytes bytes → bytes_at n bytes ≡ Some x → Takes bytes x.0 x.1 × (length x.0 ≡ n) × AreBytes x.0
 bytes_take n bytes x fits e =
@@ -129,7 +129,7 @@ pub eight_again : (n : ℕ) (rest : List ℕ) → n < 2 ^ 64 → eight_at (eight
 unfolding eight_at eight_bytes
 eight_again n rest lt = number_again w64 (2 ^ 64) wide64 n rest lt
 
--- ---- a value behind its length
+-- ---- a value after its length
 
 pub value_takes : (bytes : List ℕ) (x : List ℕ × List ℕ) → AreBytes bytes → value_at bytes ≡ Some x → Takes bytes (four_bytes (length x.0) ++ x.0) x.1 × (length x.0 ≤ 4096) × AreBytes x.0
 unfolding value_at
@@ -150,7 +150,7 @@ value_again value rest short =
 
 -- ---- a removal, or a value
 
--- what is known of a change that was read
+-- a change that was read
 pub record IsChange (change : Option (List ℕ)) : Type 0 where
   pub short : IfSome change (λ v. length v ≤ 4096)
   pub bytes : IfSome change IsBytes
@@ -175,7 +175,7 @@ change_again (Some value) rest h = rw (value_again value rest h) refl
 
 -- ---- a key and its change
 
--- what is known of an entry that was read
+-- an entry that was read
 pub record IsEntry (e : List ℕ × Option (List ℕ)) : Type 0 where
   pub key : IsKey e.0
   pub short : IfSome e.1 (λ v. length v ≤ 4096)

@@ -1,4 +1,4 @@
--- The frame of a landing, as it is written part by part.
+-- The frame of a commit, as it is written part by part.
 use Rattle.std.proofs.Common.{◌≡◌, ℕ, ◌+◌, List, [], ◌∷◌, ◌++◌, length, refl, sym, ap, ◌∙◌, arith, append_assoc, length-append}
 use Rattle.std.specs.List.{flat_map}
 use Rattle.jf_hash.specs.Maps.{Batch}
@@ -20,7 +20,7 @@ length-landing version b = omega (arith, length-append (eight_bytes version ++ e
 regroup : (a v c f z : List ℕ) → (((a ++ v) ++ c) ++ f) ++ z ≡ (a ++ ((v ++ c) ++ f)) ++ z
 regroup a v c f z = simp append_assoc
 
--- kind, length, version, count, entries and gate, one behind the other
+-- the frame is kind, length, version, count, entries and gate, one after the other
 pub frame_parts : (version n : ℕ) (b : Batch) → n ≡ 16 + length (flat_map entry_bytes b)
     → (((([] ++ 1 ∷ []) ++ eight_bytes n) ++ eight_bytes version) ++ eight_bytes (length b)) ++ flat_map entry_bytes b ++ 0 ∷ [] ≡ frame 1 (landing_bytes version b)
 frame_parts version n b is =

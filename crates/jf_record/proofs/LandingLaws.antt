@@ -1,4 +1,4 @@
--- What is read as a landing is spelled so, and what is spelled so is read.
+-- Reading a commit gives the commit that was written, and only that.
 use Rattle.std.proofs.Common.{◌≡◌, ℕ, zero, suc, ◌^◌, ◌<◌, ◌≤◌, Bool, true, false, cond, ltb, eqb, T, List, [], ◌∷◌, ◌++◌, length, Option, Some, None, refl, sym, ap, subst, ◌∙◌, append_assoc, arith}
 use Rattle.std.specs.List.{flat_map, AllByRecursion}
 use Rattle.std.specs.FinMap.{is_sorted}
@@ -24,7 +24,7 @@ guard_kept : {A : Type 0} (b : Bool) (r : Option A) (y : A) → cond b r None �
 guard_kept true r y e = (refl, e)
 guard_kept false r y e = absurd cc
 
--- what the entries that were read are
+-- the entries that were read: how many, and their bytes
 record Reads (n : ℕ) (front : Batch) (bytes : List ℕ) (x : Batch × List ℕ) : Type 0 where
   more : Batch
   taken : Takes bytes (flat_map entry_bytes more) x.1
@@ -70,7 +70,7 @@ assembled bytes version n more b rest parts nothing same count =
     parts ∙ ap (λ (r : List ℕ). (eight_bytes version ++ eight_bytes n ++ flat_map entry_bytes more) ++ r) nothing ∙ append-nil (eight_bytes version ++ eight_bytes n ++ flat_map entry_bytes more)
     ∙ ap (λ (k : ℕ). eight_bytes version ++ eight_bytes k ++ flat_map entry_bytes more) (sym count) ∙ ap (λ (es : Batch). eight_bytes version ++ eight_bytes (length es) ++ flat_map entry_bytes es) (sym same)
 
--- what is read as a landing is spelled so
+-- bytes that read as a commit are its spelling
 pub landing_takes : (bytes : List ℕ) (x : ℕ × Batch) → AreBytes bytes → landing_in bytes ≡ Some x → (x.0 < 2 ^ 64) × IsLandable x.1 × (bytes ≡ landing_bytes x.0 x.1)
 unfolding landing_in landing_bytes
 landing_takes bytes x fits e =
@@ -92,7 +92,7 @@ landing_takes bytes x fits e =
     let landable = IsLandable-from_grown d.0.0 third.grown (omega (arith, counted, most)) in
     subst (λ (y : ℕ × Batch). (y.0 < 2 ^ 64) × IsLandable y.1 × (bytes ≡ eight_bytes y.0 ++ eight_bytes (length y.1) ++ flat_map entry_bytes y.1)) (some_is (a.0.0, d.0.0) x g.1) (first.1, landable, whole)
 
--- what is spelled as a landing is read
+-- the spelling of a commit reads as that commit
 pub landing_again : (version : ℕ) (b : Batch) → version < 2 ^ 64 → IsLandable b → landing_in (landing_bytes version b) ≡ Some (version, b)
 unfolding landing_in landing_bytes
 landing_again version b fits landable =

@@ -1,4 +1,4 @@
--- Reading entries one behind the other, as a loop does.
+-- Reading entries one after the other, as the loop does.
 use Rattle.std.proofs.Common.{◌≡◌, ℕ, suc, ◌-◌, ◌+◌, ◌≤◌, ◌<◌, true, false, List, [], ◌∷◌, ◌++◌, Option, Some, None, refl, sym, ◌∙◌, arith}
 use Rattle.jf_hash.specs.Maps.{Batch}
 use Rattle.jf_record.specs.declared.fault.RecordFault.{RecordFault}

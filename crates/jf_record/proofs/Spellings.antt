@@ -1,4 +1,4 @@
--- A record has one spelling, a payload spells one record at most, and whether it spells one is decided.
+-- A record has one spelling, a payload spells at most one record, and it is decided whether it spells one.
 use Rattle.std.proofs.Common.{◌≡◌, ℕ, ◌^◌, ◌<◌, ◌⊎◌, inl, inr, Bool, true, false, cond, eqb, List, [], ◌∷◌, ◌++◌, length, Option, Some, None, Result, Ok, Err, refl, sym, ap, subst, ◌∙◌, arith}
 use Rattle.std.specs.Prelude.{IfSome, IfOk}
 use Rattle.std.specs.List.{flat_map, AllByRecursion}
@@ -17,7 +17,7 @@ use Rattle.jf_record.proofs.FieldLaws.{AreBytes, AreBytes-at_places, IsBytes-fro
 use Rattle.jf_record.proofs.Batches.{IsLandable-entries}
 use Rattle.jf_record.proofs.LandingLaws.{landing_takes, landing_again}
 
--- ---- a spelling is bytes
+-- ---- spellings are bytes
 
 IsBytes-append : (xs ys : List ℕ) → IsBytes xs → IsBytes ys → IsBytes (xs ++ ys)
 IsBytes-append [] ys p q = q
@@ -41,22 +41,22 @@ IsBytes-entries (e ∷ es) h =
     subst IsBytes (sym (flat_map-cons entry_bytes e es))
     (IsBytes-append (entry_bytes e) (flat_map entry_bytes es) (IsBytes-append e.0 (change_bytes e.1) (IsBytes-from_places e.0 h.0.key.bytes) (IsBytes-change e.1 h.0.bytes)) (IsBytes-entries es h.1))
 
--- the spelling of a landing is bytes
+-- the spelling of a commit consists of bytes
 pub IsBytes-landing : (version : ℕ) (b : Batch) → IsLandable b → IsBytes (landing_bytes version b)
 unfolding landing_bytes
 IsBytes-landing version b landable =
     IsBytes-append (eight_bytes version ++ eight_bytes (length b)) (flat_map entry_bytes b) (IsBytes-append (eight_bytes version) (eight_bytes (length b)) (IsBytes-eight version) (IsBytes-eight (length b)))
     (IsBytes-entries b (IsLandable-entries b landable))
 
--- ---- landings
+-- ---- commits
 
--- one spelling is that of one landing
+-- a spelling is that of one commit
 pub one_landing : (v w : ℕ) (b c : Batch) → landing_bytes v b ≡ landing_bytes w c → IsLandable b → IsLandable c → v < 2 ^ 64 → w < 2 ^ 64 → (v ≡ w) × (b ≡ c)
 one_landing v w b c same first second v-fits w-fits =
     let pair : (v, b) ≡ (w, c) = some_is (v, b) (w, c) (sym (landing_again v b v-fits first) ∙ ap landing_in same ∙ landing_again w c w-fits second) in
     (ap (λ (p : ℕ × Batch). p.0) pair, ap (λ (p : ℕ × Batch). p.1) pair)
 
--- a landing that a payload spells
+-- a commit that a payload spells
 pub record SpellsLanding (payload : List ℕ) : Type 0 where
   pub version : ℕ
   pub batch : Batch
@@ -79,7 +79,7 @@ read_or_not payload fits (Some x) is =
 read_or_not payload fits None is =
     inr (λ (s : SpellsLanding payload). let again = sym is ∙ ap landing_in s.is ∙ landing_again s.version s.batch s.fits s.landable in absurd cc)
 
--- a list of numbers spells a landing, or it doesn't
+-- any list of numbers spells a commit or doesn't
 pub landing_or_not : (payload : List ℕ) → SpellsLanding payload ⊎ (SpellsLanding payload → ⊥)
 landing_or_not payload =
     elim (bytes_or_not payload) [
@@ -87,13 +87,13 @@ landing_or_not payload =
       | inr no_bytes ↦ inr (λ s. no_bytes (subst IsBytes (sym s.is) (IsBytes-landing s.version s.batch s.landable)))
     ]
 
--- ---- records of any kind
+-- ---- records of each kind
 
 guard_kept : {A : Type 0} (b : Bool) (r : Option A) (y : A) → cond b r None ≡ Some y → (b ≡ true) × (r ≡ Some y)
 guard_kept true r y e = (refl, e)
 guard_kept false r y e = absurd cc
 
--- what is read as a record is spelled so
+-- a payload that reads as a record is its spelling
 pub record_takes : (kind : ℕ) (payload : List ℕ) (r : Record) → AreBytes payload → record_in kind payload ≡ Some r → IsSpelling r kind payload
 record_takes kind payload r fits e =
     let g = guard_kept (eqb kind 1) (landing_in payload >>= λ l. Some («record».BatchCommit l.0 l.1)) r e in
@@ -101,14 +101,14 @@ record_takes kind payload r fits e =
     let found = landing_takes payload l.0 fits l.1 in
     subst (λ (r : Record). IsSpelling r kind payload) (some_is («record».BatchCommit l.0.0 l.0.1) r l.2) (record { sound = (found.0, found.1); kind_is = eqb-true _ _ g.0; payload_is = found.2 })
 
--- what is spelled as a record is read
+-- the spelling of a record reads as that record
 pub record_again : (kind : ℕ) (payload : List ℕ) (r : Record) → IsSpelling r kind payload → record_in kind payload ≡ Some r
 record_again kind payload («record».BatchCommit version batch) s =
     let is_one : eqb kind 1 ≡ true = eq-eqb _ _ s.kind_is in
     let read : landing_in payload ≡ Some (version, batch) = ap landing_in s.payload_is ∙ landing_again version batch s.sound.0 s.sound.1 in
     rw (is_one, read) refl
 
--- a payload of a kind spells one record at most
+-- a payload of a kind spells at most one record
 pub one_record : (kind : ℕ) (payload : List ℕ) (r s : Record) → IsSpelling r kind payload → IsSpelling s kind payload → r ≡ s
 one_record kind payload r s first second = some_is r s (sym (record_again kind payload r first) ∙ record_again kind payload s second)
 
@@ -118,7 +118,7 @@ spelled_landing kind payload («record».BatchCommit version batch) s = (s.kind_
 same_or_not : (m n : ℕ) → (m ≡ n) ⊎ (m ≡ n → ⊥)
 same_or_not m n = elim (eqb m n) as (λ b. eqb m n ≡ b → (m ≡ n) ⊎ (m ≡ n → ⊥)) [ true ↦ λ e. inl (eqb-true _ _ e) | false ↦ λ e. inr (λ same. let is = eq-eqb m n same in absurd cc) ] refl
 
--- a payload of a kind spells a record, or it doesn't
+-- a payload of a kind spells a record or doesn't
 pub record_or_not : (kind : ℕ) (payload : List ℕ) → ((r : Record) × IsSpelling r kind payload) ⊎ ((r : Record) → IsSpelling r kind payload → ⊥)
 record_or_not kind payload =
     elim (same_or_not kind 1) [

@@ -1,4 +1,4 @@
--- Reading a payload from left to right: a value and the bytes behind it, or None where no value is spelled.
+-- Reading a payload from left to right: a value and the bytes after it, or None if no value is spelled.
 use Rattle.std.specs.Prelude.{◌≡◌, ℕ, zero, suc, Bool, true, ◌&&◌, List, [], ◌∷◌, ◌++◌, length, take, drop, Option, Some, None, Result, Ok, Err, nat_lt, ◌==◌, if◌then◌else◌}
 use Rattle.std.specs.Ordering.{is_lt}
 use Rattle.std.specs.Int.{Width, w32, w64, byte_len, from_be_bytes}
@@ -10,27 +10,28 @@ use Rattle.jf_record.specs.declared.kinds.Record.{Record}
 use Rattle.jf_record.specs.declared.kinds.Record.TheVariants as «record»
 
 infixl 10 ◌>>=◌
--- what comes behind a step, where the step reads something
+-- a step and then the next one, if the first step reads something
 abbrev pub ◌>>=◌ : {A B : Type 0} → Option A → (A → Option B) → Option B
 (Some x) >>= f = f x
 None >>= f = None
 
--- an error says that nothing is read, or that memory is wanting
+-- the errors of a function: `Bad` if nothing is read, or out of memory
 abbrev pub Fails : {Y : Type 0} → RecordFault → Option Y → Type 0
 Fails fault.Bad read = read ≡ None
 Fails fault.Memory read = Unit {0}
 
--- what a function returned, seen by view, is what is read, unless memory is wanting
+-- a function returned what reading gives, seen through `view`, or `Memory`
 abbrev pub Gives : {X Y : Type 0} → (X → Y) → Result X RecordFault → Option Y → Type 0
 Gives view (Ok x) read = read ≡ Some (view x)
 Gives view (Err e) read = Fails e read
 
 -- ---- fields
 
--- so many bytes
+-- the first n bytes
 abbrev pub bytes_at : ℕ → List ℕ → Option (List ℕ × List ℕ)
 bytes_at n bytes = if nat_lt (length bytes) n then None else Some (take n bytes, drop n bytes)
 
+-- a number of the given width, the highest byte first
 abbrev pub number_at : Width → List ℕ → Option (ℕ × List ℕ)
 number_at w bytes = if nat_lt (length bytes) (byte_len w) then None else Some (from_be_bytes w (take (byte_len w) bytes), drop (byte_len w) bytes)
 
@@ -42,13 +43,13 @@ four_at bytes = number_at w32 bytes
 unfoldable pub eight_at : List ℕ → Option (ℕ × List ℕ)
 eight_at bytes = number_at w64 bytes
 
--- a value of at most 4,096 bytes behind its length
+-- a value: its length in four bytes, at most 4,096, then its bytes
 unfoldable pub value_at : List ℕ → Option (List ℕ × List ℕ)
 value_at bytes = do
   n ← four_at bytes
   if nat_lt 4096 n.0 then None else bytes_at n.0 n.1
 
--- a removal, or a value
+-- the change of a key: a removal, or a value
 unfoldable pub change_at : List ℕ → Option (Option (List ℕ) × List ℕ)
 change_at [] = None
 change_at (zero ∷ rest) = Some (None, rest)
@@ -64,21 +65,21 @@ entry_at bytes = do
   change ← change_at key.1
   Some ((key.0, change.0), change.1)
 
--- ---- a landing
+-- ---- a commit
 
--- the key is above each key of the batch
+-- the key is above all keys of the batch
 abbrev pub is_above : List ℕ → Batch → Bool
 is_above key [] = true
 is_above key (e ∷ es) = is_lt (key_cmp e.0 key) && is_above key es
 
--- so many entries behind those of a batch, each key above the ones before it
+-- so many entries after those of a batch, each key above all before it
 unfoldable pub entries_at : ℕ → Batch → List ℕ → Option (Batch × List ℕ)
 entries_at zero front bytes = Some (front, bytes)
 entries_at (suc n) front bytes = do
   e ← entry_at bytes
   if is_above e.0.0 front then entries_at n (front ++ e.0 ∷ []) e.1 else None
 
--- all of the bytes, as a version and a batch of at most 10,000 keys
+-- a commit that takes all of the bytes: a version and a batch of at most 10,000 keys
 unfoldable pub landing_in : List ℕ → Option (ℕ × Batch)
 landing_in bytes = do
   version ← eight_at bytes
@@ -86,6 +87,6 @@ landing_in bytes = do
   entries ← if nat_lt 10000 count.0 then None else entries_at count.0 [] count.1
   if length entries.1 == 0 then Some (version.0, entries.0) else None
 
--- all of a payload of a kind
+-- a record of this kind that takes all of the payload
 abbrev pub record_in : ℕ → List ℕ → Option Record
 record_in kind payload = if kind == 1 then (landing_in payload >>= λ l. Some («record».BatchCommit l.0 l.1)) else None

@@ -1,4 +1,4 @@
--- What the readers' values stand for.
+-- What a reader's borrowed values stand for.
 use Rattle.std.specs.Prelude.{ℕ, List, Option, option_map}
 use Rattle.jf_record.specs.declared.fields.Entry.{Entry}
 

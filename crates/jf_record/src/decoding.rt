@@ -1,4 +1,4 @@
-// Records from payloads.
+// A record is read from its kind and all of its payload; a payload that isn't exactly so is bad.
 ghost use Rattle.std.specs.Prelude.{◌≡◌, ◌⊎◌, Ok, Err, IfOk};
 ghost use Rattle.jf_record.specs.Spelling.{IsSpelling};
 ghost use Rattle.jf_record.specs.Reading.{Gives, record_in};
@@ -8,7 +8,7 @@ use crate::kinds::{LANDING, Record};
 use crate::landing::landing_of;
 use std::alloc::Global;
 
-// What is read of a payload of this kind.
+// The record that is read from a payload of this kind.
 fn record_of(alloc: Global, kind: u8, payload: &[u8]) -> Result<Record, RecordFault>
     ensures { Gives (λ r. r) result (record_in kind payload.now) }
 {
@@ -19,7 +19,7 @@ fn record_of(alloc: Global, kind: u8, payload: &[u8]) -> Result<Record, RecordFa
     Ok(Record::BatchCommit { version, batch })
 }
 
-/// The record that a payload of this kind spells, all of the payload.
+/// The record of this kind whose spelling all of `payload` is. `Bad` only if there is no such record.
 pub fn decode(alloc: Global, kind: u8, payload: &[u8]) -> Result<Record, RecordFault>
     ensures found { IfOk result (λ r. IsSpelling r kind payload.now) }
     ensures bad { result ≡ Err RecordFault.Bad → (r : Record) → IsSpelling r kind payload.now → ⊥ }

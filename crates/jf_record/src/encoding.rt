@@ -1,4 +1,4 @@
-// Records as frames.
+// Writing a record gives its whole frame, ready to be appended to a log.
 ghost use Rattle.std.specs.Prelude.{◌≡◌, ◌≤◌, ◌<◌, ◌++◌, ◌^◌, ◌*◌, ◌+◌, length, flat_map, IfOk, IfSome, OnOk};
 ghost use Rattle.jf_hash.specs.Maps.{IsBatch};
 ghost use Rattle.jf_frame.specs.Framing.{frame, eight_bytes};
@@ -20,7 +20,7 @@ pub fn encode(alloc: Global, entry: &Record) -> Result<Bytes, Memory>
     }
 }
 
-/// The frame of the landing of a batch as a version, by itself.
+/// The frame of the commit of a batch as a version, written straight from the batch.
 pub fn encode_landing(alloc: Global, version: u64, batch: &Batch) -> Result<Bytes, Memory>
     ensures { IfOk result (λ bytes. bytes ≡ frame 1 (landing_bytes version batch.now)) }
 {
@@ -36,7 +36,7 @@ pub fn encode_landing(alloc: Global, version: u64, batch: &Batch) -> Result<Byte
     Bytes::copy_of(alloc, &out)
 }
 
-// How many bytes the entries take.
+// The number of bytes that the entries take.
 fn entries_len(entries: &[(Key, Option<Bytes>)]) -> usize
     requires sound { IsBatch entries.now }
     requires limited { IsWithinLimits entries.now }
@@ -50,7 +50,7 @@ fn entries_len(entries: &[(Key, Option<Bytes>)]) -> usize
     len
 }
 
-// How many bytes an entry takes.
+// The number of bytes that an entry takes.
 fn entry_len(entry: &(Key, Option<Bytes>)) -> usize
     requires key { length entry.now.0 ≡ 32 }
     requires limited { IfSome entry.now.1 (λ v. length v ≤ 4096) }
@@ -72,7 +72,7 @@ fn put_u64(out: &mut Vec<u8>, number: u64) -> Result<(), Memory>
     Ok(())
 }
 
-// Adds a value after its length.
+// Adds a value: its length in four bytes, then its bytes.
 #[tactic(auto, unfolding(crate::specs::Spelling::four_bytes))]
 fn put_value(out: &mut Vec<u8>, value: &[u8]) -> Result<(), Memory>
     requires { length value.now ≤ 4096 }
@@ -83,7 +83,7 @@ fn put_value(out: &mut Vec<u8>, value: &[u8]) -> Result<(), Memory>
     Ok(())
 }
 
-// Adds a key and its change.
+// Adds a key and its change: 00 for a removal; or 01 and the value.
 fn put_entry(out: &mut Vec<u8>, entry: &(Key, Option<Bytes>)) -> Result<(), Memory>
     requires { IfSome entry.now.1 (λ v. length v ≤ 4096) }
     ensures { OnOk result (out.new.items ≡ out.old.items ++ entry_bytes entry.now) }

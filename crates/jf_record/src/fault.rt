@@ -7,9 +7,9 @@ use jf_path::Memory;
 /// Why a payload is no record.
 #[derive(Clone, Copy, Debug, PartialEq, Eq)]
 pub enum RecordFault {
-    /// The payload is no spelling of that kind, or the kind is none.
+    /// The payload isn't the spelling of a record of that kind, or no record has that kind.
     Bad,
-    /// Memory is wanting.
+    /// Out of memory.
     Memory,
 }
 

@@ -1,4 +1,5 @@
-// Fields at the front of bytes, each with the bytes after it.
+// A field is read from the front of bytes and returned with the bytes after it. `Bad` if the bytes begin with no such
+// field. Numbers have their highest byte first.
 ghost use Rattle.std.specs.Prelude.{◌≡◌, ◌≤◌, length, IfOk, IfSome, option_map};
 ghost use Rattle.jf_record.specs.Reading.{Gives, four_at, eight_at, value_at, change_at, entry_at};
 ghost use Rattle.jf_record.specs.Views.{entry_view};
@@ -7,7 +8,7 @@ use crate::fault::RecordFault;
 use crate::kinds::{MAX_VALUE, REMOVED, SET};
 use jf_path::Key;
 
-/// A key and its change, where they lie in a payload.
+/// A key and its change, borrowed from a payload. `None` is a removal.
 #[derive(Clone, Copy)]
 pub(crate) struct Entry<'a> {
     pub key: &'a Key,
@@ -36,7 +37,7 @@ pub(crate) fn u64_at(bytes: &[u8]) -> Result<(u64, &[u8]), RecordFault>
     Ok((u64::from_be_bytes(*number), rest))
 }
 
-// A value of at most 4,096 bytes, after its length.
+// A value of at most 4,096 bytes, which follows its length in four bytes.
 #[tactic(auto, unfolding(crate::specs::Reading::value_at))]
 fn value_of(bytes: &[u8]) -> Result<(&[u8], &[u8]), RecordFault>
     ensures read { Gives (λ x. (x.0.now, x.1.now)) result (value_at bytes.now) }
@@ -50,7 +51,7 @@ fn value_of(bytes: &[u8]) -> Result<(&[u8], &[u8]), RecordFault>
     Ok(rest.split_at(length))
 }
 
-// A removal, or a value.
+// The change of a key: a removal, or a value.
 #[tactic(auto, unfolding(crate::specs::Reading::change_at))]
 fn change_of(bytes: &[u8]) -> Result<(Option<&[u8]>, &[u8]), RecordFault>
     ensures read { Gives (λ x. (option_map (λ v. v.now) x.0, x.1.now)) result (change_at bytes.now) }

@@ -1,7 +1,7 @@
-// What a journal records, and the bytes that tell kinds and changes apart.
+// The records of a journal, and the bytes and limits of their format (docs/FORMATS.md, "The files of a folder").
 use jf_split::Batch;
 
-// The kind of a landing.
+// The kind of a commit.
 pub(crate) const LANDING: u8 = 1;
 
 // The byte after a key that is removed.
@@ -10,18 +10,18 @@ pub(crate) const REMOVED: u8 = 0;
 // The byte after a key that has a value.
 pub(crate) const SET: u8 = 1;
 
-// A gate that is closed.
+// The byte of a closed gate.
 pub(crate) const CLOSED: u8 = 0;
 
-// The most keys of a landing.
+// The most keys of a commit.
 pub(crate) const MAX_KEYS: u64 = 10_000;
 
 // The greatest length of a value, in bytes.
 pub(crate) const MAX_VALUE: usize = 4_096;
 
-/// What a journal records.
+/// A record of a journal. There is one kind.
 #[derive(Debug, Drop)]
 pub enum Record {
-    /// The landing of a batch as a version.
+    /// The commit of a batch as a version.
     BatchCommit { version: u64, batch: Batch },
 }

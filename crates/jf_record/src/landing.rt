@@ -1,4 +1,4 @@
-// The landing that a payload spells.
+// The payload of a commit: a version, a count of keys, and each key with its change, in strictly ascending order.
 ghost use Rattle.std.specs.Prelude.{◌≡◌, ◌≤◌, ◌<◌, [], ◌∷◌, ◌++◌, length, true, false, Err, IfSome, IsTrue, OnOk};
 ghost use Rattle.std.specs.FinMap.{put};
 ghost use Rattle.jf_path.specs.Keys.{key_cmp};
@@ -24,7 +24,7 @@ fn is_above(key: &Key, batch: &Batch) -> bool
     last.cmp(key).is_lt()
 }
 
-// Gives a key its change.
+// Adds an entry to the batch.
 fn add(alloc: Global, batch: &mut Batch, entry: &Entry<'_>) -> Result<(), BatchFault>
     requires limited { IfSome (entry_view entry.now).1 (λ v. length v ≤ 4096) }
     ensures ok { OnOk result (batch.new ≡ put key_cmp (entry_view entry.now).0 (entry_view entry.now).1 batch.old) }
@@ -36,7 +36,7 @@ fn add(alloc: Global, batch: &mut Batch, entry: &Entry<'_>) -> Result<(), BatchF
     }
 }
 
-// Adds an entry after those of a batch that has room, if its key is above theirs.
+// Adds an entry to a batch that has room, if its key is above all keys of the batch.
 fn push(alloc: Global, batch: &mut Batch, entry: &Entry<'_>) -> Result<(), RecordFault>
     requires room { length batch.old < 10000 }
     requires limited { IfSome (entry_view entry.now).1 (λ v. length v ≤ 4096) }
@@ -53,7 +53,7 @@ fn push(alloc: Global, batch: &mut Batch, entry: &Entry<'_>) -> Result<(), Recor
     }
 }
 
-// So many entries, whose keys ascend strictly.
+// `count` entries, whose keys ascend strictly.
 fn entries_of(alloc: Global, count: u64, bytes: &[u8]) -> Result<(Batch, &[u8]), RecordFault>
     requires { count ≤ 10000 }
     ensures { Gives (λ x. (x.0, x.1.now)) result (entries_at count [] bytes.now) }
@@ -68,7 +68,7 @@ fn entries_of(alloc: Global, count: u64, bytes: &[u8]) -> Result<(Batch, &[u8]),
     Ok((batch, rest))
 }
 
-/// The version and the batch that all of the bytes spell.
+/// The version and the batch whose spelling all of the bytes are.
 #[tactic(auto, unfolding(crate::specs::Reading::landing_in))]
 pub(crate) fn landing_of(alloc: Global, bytes: &[u8]) -> Result<(u64, Batch), RecordFault>
     ensures { Gives (λ x. x) result (landing_in bytes.now) }

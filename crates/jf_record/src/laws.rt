@@ -1,7 +1,7 @@
-// Laws on spellings, for proofs of code that stands on them. These functions do nothing when they run.
+// Laws of spellings, for proofs of code that uses them. These functions do nothing when they run.
 ghost use Rattle.jf_record.specs.Laws.{OneRecord, OneSpelling, SpellingIsDecided};
 
-/// A payload of a kind spells one record at most.
+/// A payload of a kind spells at most one record.
 pub fn one_record()
     ensures { OneRecord }
 {}

@@ -1,4 +1,4 @@
-//! The records of a journal, as payloads of a gated file: each written in one way, and read exactly.
+//! The records of a journal, as payloads of a gated file. Each record has one spelling, and reading accepts no other.
 #![tactic(auto)]
 
 mod decoding;

@@ -1,4 +1,4 @@
--- Marks are in a total order, and tie where they are equal.
+-- The order of marks is total, and marks tie only if they are equal.
 use Rattle.std.proofs.Common.{◌≡◌, true, false, not, cond, List, [], ◌∷◌, refl, sym, ap, ap₂, ◌∙◌, Ordering, Less, Equal, Greater, is_eq, nat_cmp}
 use Rattle.std.specs.Ordering.{ordering_then, eq_by_cmp}
 use Rattle.std.specs.Cmp.{IsTotalOrder}
@@ -21,7 +21,7 @@ both_equal Less s is = cc
 both_equal Equal s is = (refl, is)
 both_equal Greater s is = cc
 
--- only equal names tie, and only equal marks
+-- names tie only if they are equal
 name_cmp-exact : (a b : NodeName) → name_cmp a b ≡ Equal → a ≡ b
 name_cmp-exact a b is =
     let both = both_equal (nat_cmp a.version b.version) (slice_cmp nat_cmp a.path b.path) is in
@@ -37,14 +37,14 @@ Equal-from_is_eq Less is = cc
 Equal-from_is_eq Equal is = refl
 Equal-from_is_eq Greater is = cc
 
--- what is above a mark is another one
+-- removing a mark that is below all marks of a list changes nothing
 others-above : (m x : Mark) (marks : List Mark) → mark_cmp m x ≡ Equal → AllByRecursion (λ y. mark_cmp x y ≡ Less) marks → without_mark m marks ≡ marks
 others-above m x [] same above = refl
 others-above m x (y ∷ ys) same above =
     let other : eq_by_cmp mark_cmp m y ≡ false = ap is_eq (mark_cmp_total.congr m x y same ∙ above.0) in
     ap (λ b. cond (not b) (y ∷ without_mark m ys) (without_mark m ys)) other ∙ ap (λ zs. y ∷ zs) (others-above m x ys same above.1)
 
--- of ascending marks, those without the first that ties are the others
+-- removing the first mark that ties from an ascending list removes the mark
 pub remove_key-mark : (m : Mark) (marks : List Mark) → IsAscending marks → remove_key (eq_by_cmp mark_cmp m) marks ≡ without_mark m marks
 unfolding IsStrictlySortedBy
 remove_key-mark m [] ascending = refl

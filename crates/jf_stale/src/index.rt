@@ -1,4 +1,4 @@
-// The marks of stale nodes in their order.
+// The index tells which nodes may be deleted when the floor rises: those marked stale since a version up to it.
 ghost use Rattle.std.specs.Prelude.{◌≡◌, ◌≤◌, ◌<◌, ◌↔◌, [], ◌∷◌, length, All, Contains, IsTrue, IsNone, IfSome, IfNone, OnOk, OnErr};
 ghost use Rattle.std.specs.declared.cmp.Ordering.TheVariants.{Less};
 ghost use Rattle.jf_stale.specs.Marks.{IsAscending, mark_cmp, with_mark, without_mark};
@@ -8,8 +8,8 @@ use std::alloc::Global;
 use std::collections::BTreeSet;
 use std::marker::Model;
 
-/// Names of nodes, each beside the version since which it is stale: in the order of these versions, and then in that of
-/// the names, each pair once.
+/// The marks of stale nodes. A mark is a version and the name of the node that is stale since then. Marks are in
+/// ascending order, by version and then by name, each once.
 #[derive(Drop)]
 pub struct StaleIndex {
     marks: BTreeSet<(u64, NodeName)>,
@@ -27,7 +27,7 @@ impl Model for StaleIndex {
 }
 
 impl StaleIndex {
-    /// No mark.
+    /// An index without marks.
     pub fn new(alloc: Global) -> StaleIndex
         ensures { result ≡ [] }
     {
@@ -44,8 +44,8 @@ impl StaleIndex {
         self.marks.len() as u64
     }
 
-    /// Marks a node as stale since a version. A mark that is there already stays as it is. Without memory for it the index
-    /// is as it was.
+    /// Marks a node as stale since a version. A mark that is there already is kept once. If memory runs out, the index
+    /// is unchanged.
     pub fn mark(&mut self, since: u64, name: NodeName) -> Result<(), Memory>
         ensures ok { OnOk result (self.new ≡ with_mark (since, name) self.old) }
         ensures err { OnErr result (self.new ≡ self.old) }
@@ -54,7 +54,7 @@ impl StaleIndex {
         Ok(())
     }
 
-    /// Takes a mark away, and tells whether it was there.
+    /// Removes a mark, and returns whether it was there.
     pub fn unmark(&mut self, since: u64, name: &NodeName) -> bool
         ensures found { IsTrue result ↔ Contains self.old (since, name.now) }
         ensures others { self.new ≡ without_mark (since, name.now) self.old }
@@ -62,7 +62,7 @@ impl StaleIndex {
         self.marks.remove(&(since, *name))
     }
 
-    /// Takes the least mark away and answers it, if it is stale since a version of at most `floor`; none where no mark is.
+    /// Removes and returns the least mark, if its version is at most `floor`. `None` if no mark has such a version.
     pub fn take_upto(&mut self, floor: u64) -> Option<(u64, NodeName)>
         ensures taken { IfSome result (λ m. self.old ≡ m ∷ self.new) }
         ensures least { IfSome result (λ m. All (λ k. mark_cmp m k ≡ Less) self.new) }

@@ -1,4 +1,5 @@
-//! The marks of stale nodes: since which version, and which node. The least is taken first, up to a floor.
+//! The marks of stale nodes: the version since which a node is stale, and its name. The least mark is taken first, up
+//! to a floor.
 #![tactic(auto)]
 
 mod index;

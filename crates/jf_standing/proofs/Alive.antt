@@ -1,4 +1,4 @@
--- The one node that is alive at a path, and what a node depends on.
+-- The node that is alive at a path, of which there is at most one, and what a node depends on.
 use Rattle.std.proofs.Common.{◌≡◌, ℕ, ◌≤◌, Bool, true, List, [], ◌∷◌, map, filter, Contains, refl, ap}
 use Rattle.std.specs.Prelude.{slice_index_or}
 use Rattle.std.specs.List.{count_by}
@@ -16,14 +16,14 @@ first_version : (ns : List Named) (n : Named) → Contains ns n → ((m : Named)
 first_version [] n has one = absurd (none_in_nothing n has)
 first_version (m ∷ ns) n has one = ap (λ (k : Named). k.0.version) (one m (Contains-first m ns))
 
--- if at most one node is alive at a path, the version there is that of a node that is
+-- if at most one node is alive at a path, the version at that path is this node's
 pub version-of : (w : ℕ) (ns : List Named) (q : Path) (n : Named) → count_by (is_at q) (alive_at w ns) ≤ 1 → Contains (alive_at w ns) n → n.0.path ≡ q → version_at w ns q ≡ n.0.version
 version-of w ns q n few has at =
     let here = at-so q n at in
     first_version (filter (is_at q) (alive_at w ns)) n (Contains-filter (is_at q) (alive_at w ns) n has here)
     (λ m there. count-one (is_at q) (alive_at w ns) m n few (filter-Contains (is_at q) (alive_at w ns) m there) has (filter-passes (is_at q) (alive_at w ns) m there) here)
 
--- a node depends on the versions of those children that it has
+-- a node depends only on the versions of the children that it has
 pub plain_node-same : (counted : Bool) (v w : ℕ → ℕ) (d : ℕ) (es : Part) → ((i : ℕ) → parts_at d i es ≡ true → v i ≡ w i) → plain_node counted v d es ≡ plain_node counted w d es
 unfolding plain_node
 plain_node-same counted v w d [] h = refl

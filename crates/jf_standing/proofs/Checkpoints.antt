@@ -1,4 +1,4 @@
--- A checkpoint's list is sound exactly if it is what is built anew of the maps and versions that can be read off it.
+-- A checkpoint's nodes are sound exactly if they equal what is built anew from the maps and versions read off them.
 use Rattle.std.proofs.Common.{◌≡◌, ◌↔◌, ℕ, zero, suc, ◌+◌, ◌-◌, ◌<◌, ◌≤◌, ◌^◌, true, List, [], ◌∷◌, map, filter, drop, length, Contains, refl, sym, ap, ◌∙◌, subst, arith}
 use Rattle.std.proofs.lemmas.List.{length-drop, reverse-reverse}
 use Rattle.std.proofs.lemmas.List.Sorted.{Contains-permutation, IsPermutation-sym}
@@ -32,7 +32,7 @@ use Rattle.jf_standing.proofs.ByName.{nodes-moved}
 use Rattle.jf_standing.proofs.Built.{IsBuilt, built-maps}
 use Rattle.jf_standing.proofs.OneStanding.{same-standing}
 
--- ---- a version is that of a node alive, or 0
+-- ---- the version at a path: that of a node alive there, or 0
 
 first_low : (ns : List Named) (most : ℕ) → ((n : Named) → Contains ns n → n.0.version ≤ most) → slice_index_or (map (λ n. n.0.version) ns) 0 0 ≤ most
 first_low [] most low = omega arith
@@ -41,7 +41,7 @@ first_low (n ∷ ns) most low = low n (Contains-first n ns)
 pub version-at_most : (w : ℕ) (ns : List Named) (p : Path) → version_at w ns p ≤ w
 version-at_most w ns p = first_low (filter (is_at p) (alive_at w ns)) w (λ n has. (alive-tells w n (filter-passes (is_alive w) ns n (filter-Contains (is_at p) (alive_at w ns) n has))).0)
 
--- ---- what can be said of any list
+-- ---- any list of nodes
 
 module _ (fmt : Format) (s : Standing) (read : IsReadStanding s) (top : version_at s.floor s.nodes [] ≡ s.floor) (room : (w : ℕ) → s.floor ≤ w → w ≤ s.head → len (map_at w s.nodes) ≤ 2 ^ 63) where
   pub floor_built : IsBuilt fmt (λ w. map_at w s.nodes) (version_at s.floor s.nodes) s.base s.floor s.floor (floor_of fmt s)
@@ -65,7 +65,7 @@ module _ (fmt : Format) (s : Standing) (read : IsReadStanding s) (top : version_
         versions_are = λ p node. version-floor fmt s.base s.floor roots m version sound low last p node;
       }
 
-  -- it is built anew to the head
+  -- the standing built anew has the maps that were read off
   pub rebuilt-is : IsBuilt fmt (λ w. map_at w s.nodes) (version_at s.floor s.nodes) s.base s.floor s.head (rebuilt fmt s)
   rebuilt-is =
       let high = read.floor_low in
@@ -74,7 +74,7 @@ module _ (fmt : Format) (s : Standing) (read : IsReadStanding s) (top : version_
       subst (λ h. IsBuilt fmt (λ w. map_at w s.nodes) (version_at s.floor s.nodes) s.base s.floor h (rebuilt fmt s)) all
       (built-maps fmt (λ w. map_at w s.nodes) (version_at s.floor s.nodes) s.base s.floor (λ w. IsMap-map_at w s.nodes read.keys) (s.head - s.floor) s.floor (floor_of fmt s) (omega arith) (omega arith) (λ w up down. room w (omega arith) (omega arith)) floor_built)
 
-  -- so it is sound if that gives its roots and nodes
+  -- if the standing built anew has the same roots and nodes, the standing is sound
   pub rebuilt-sound : (rebuilt fmt s).roots ≡ s.roots → nodes_by_name (rebuilt fmt s).nodes ≡ s.nodes → IsSound fmt s
   rebuilt-sound same_roots same_nodes =
       let t = rebuilt fmt s in
@@ -85,7 +85,7 @@ module _ (fmt : Format) (s : Standing) (read : IsReadStanding s) (top : version_
       let sound = moved-sound fmt t (nodes_by_name t.nodes) is.sound (nodes-moved fmt t is.sound) in
       subst (IsSound fmt) (let e : with_nodes (nodes_by_name t.nodes) t ≡ s = λ i. record { base = b i; floor = f i; head = h i; roots = same_roots i; nodes = same_nodes i } in e) sound
 
--- ---- and what of a sound one
+-- ---- nodes of a sound standing
 
 drop-step : (i : ℕ) (xs : List (List ℕ)) (x : List ℕ) → i < length xs → slice_index_or xs i [] ≡ x → x ∷ drop (i + 1) xs ≡ drop i xs
 drop-step i [] x lt is = absurd (omega arith)
@@ -110,7 +110,7 @@ forth : (es : List (NodeName × (PlainNode × ℕ))) → map apart (map as_named
 forth [] = refl
 forth (e ∷ es) = ap (λ t. e ∷ t) (forth es)
 
--- nodes whose names rise are others in order, if they are the same ones
+-- nodes whose names rise are those of a list in order if both have the same nodes
 pub same-by_name : (xs ys : List Named) → IsTrue (rise (map (λ n. n.0) ys)) → ((n : Named) → Contains (nodes_by_name xs) n → Contains ys n) → ((n : Named) → Contains ys n → Contains (nodes_by_name xs) n) → nodes_by_name xs ≡ ys
 same-by_name xs ys rises there here =
     ap (map as_named) (same_sorted name_cmp name_cmp_total same_name-exact (by_name (map apart xs)) (map apart ys) (sorted-by_name (map apart xs)) (rise-sorted (map apart ys) (subst (λ ns. IsTrue (rise ns)) (sym (apart_names ys)) rises))
@@ -146,7 +146,7 @@ module _ (fmt : Format) (s : Standing) (read : IsReadStanding s) (sound : IsSoun
       built_roots fmt (λ w. map_at w s.nodes) s.roots s.head (s.head - s.floor) s.floor (floor_of fmt s) (omega arith) (omega arith) (λ v up down. (sound.versions v (omega arith) down).rooted)
       (drop-step (s.head - s.floor) s.roots (root (map_at s.floor s.nodes)) (omega arith) (sound.versions s.floor (omega arith) low).rooted)
 
--- together
+-- a standing that was read is sound exactly if it equals what is built anew from it
 pub checkpoint-decided : (fmt : Format) (s : Standing) → IsReadStanding s → IsSound fmt s ↔ ((version_at s.floor s.nodes [] ≡ s.floor) × ((w : ℕ) → s.floor ≤ w → w ≤ s.head → len (map_at w s.nodes) ≤ 2 ^ 63) × ((rebuilt fmt s).roots ≡ s.roots) × (nodes_by_name (rebuilt fmt s).nodes ≡ s.nodes))
 checkpoint-decided fmt s read = (
   λ sound. (sound.floor_root, (λ w low high. (sound.versions w low high).room), same-roots fmt s read sound, same-nodes fmt s read sound),

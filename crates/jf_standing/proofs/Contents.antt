@@ -1,4 +1,4 @@
--- What the nodes are after a landing of a map over a sound standing: those of the new map.
+-- After a landing of a map on a sound standing, the nodes alive are those of the new map.
 use Rattle.std.proofs.Common.{◌≡◌, ℕ, ◌+◌, ◌<◌, Bool, true, false, ◌&&◌, cond, List, [], ◌∷◌, ◌++◌, map, length, Contains, refl, sym, ap, ◌∙◌, subst, arith, true≢false}
 use Rattle.std.specs.List.{IsDistinct}
 use Rattle.std.specs.FinMap.{entries}
@@ -26,7 +26,7 @@ use Rattle.jf_standing.proofs.Written.{names-stale}
 use Rattle.jf_standing.proofs.Placed.{landing, placed}
 use Rattle.jf_standing.proofs.LeafMaps.{HasNodes, leaves-map, leaves-apart}
 
--- a node that isn't named and stands as before
+-- a node that stood before the landing and isn't named by it
 pub record IsKept (s : Standing) (m : Map) (n : Named) : Type 0 where
   pub stood : Contains s.nodes n
   pub alive : Contains (alive_at s.head s.nodes) n
@@ -36,7 +36,7 @@ module _ (fmt : Format) (s : Standing) (m : Map) (sound : IsSound fmt s) (keys :
   abbrev pub now : List Named
   now = behind (landing fmt s m sound keys own_keys last) s.nodes
 
-  -- a node alive after the landing was kept or is written by it
+  -- a node alive after the landing was kept, or is written by the landing
   pub alive-cases : {P : Type 0} (n : Named) → Contains (alive_at (s.head + 1) now) n → (IsKept s m n → P) → ((x : Path × Part) → Contains (fresh (head_map s) m) x → unmarked (written_node fmt s m x) ≡ n → P) → P
   alive-cases {P} n has kept written =
       let c = landing fmt s m sound keys own_keys last in
@@ -63,7 +63,7 @@ module _ (fmt : Format) (s : Standing) (m : Map) (sound : IsSound fmt s) (keys :
       rest true b is h = h
       rest false b is h = absurd (true≢false (sym is))
 
-  -- one that was kept is a node of both maps, with one part
+  -- a kept node is a node of both maps, with the same part
   kept_part : (n : Named) → IsKept s m n → (is_node 0 n.0.path (entries m) ≡ true) × (under 0 n.0.path (entries m) ≡ under 0 n.0.path (entries (head_map s))) × (is_node 0 n.0.path (entries (head_map s)) ≡ true)
   kept_part n kept =
       let node = test_so _ _ (stands fmt s sound s.head sound.floor_low (omega arith) n.0.path) (count-some (is_at n.0.path) (alive_at s.head s.nodes) n kept.alive (at-so n.0.path n refl)) in
@@ -85,7 +85,7 @@ module _ (fmt : Format) (s : Standing) (m : Map) (sound : IsSound fmt s) (keys :
       let fresh_q : is_fresh (entries (head_map s)) (entries m) q ≡ true = ap (λ p. is_fresh (entries (head_map s)) (entries m) p) (sym (ap (λ (z : Named). z.0.path) same ∙ at)) ∙ (listed-fresh (head_map s) m x has).0 in
       sym (ap (λ (z : Named). z.0.version) same) ∙ ap (λ b. cond b (s.head + 1) (version_at s.head s.nodes q)) (sym fresh_q))
 
-  -- each is the node of the new map at its path
+  -- each node alive after the landing is the node of the new map at its path
   pub contents : (n : Named) → Contains (alive_at (s.head + 1) now) n → n.1 ≡ plain_node (is_counted fmt) (λ i. version_after s m (n.0.path ++ i ∷ [])) (length n.0.path) (under 0 n.0.path (entries m))
   contents n has = alive-cases n has
       (λ kept.
@@ -105,7 +105,7 @@ module _ (fmt : Format) (s : Standing) (m : Map) (sound : IsSound fmt s) (keys :
   has_nodes : HasNodes (is_counted fmt) m (alive_at (s.head + 1) now)
   has_nodes n has = ((λ i. version_after s m (n.0.path ++ i ∷ [])), contents n has)
 
-  -- so the map after the landing is the one that was landed
+  -- the map after the landing is the map that was landed
   pub map-placed : map_at (s.head + 1) now ≡ m
   unfolding map_at
   map-placed = leaves-map (is_counted fmt) m (alive_at (s.head + 1) now) own_keys (placed fmt s m sound keys own_keys last) has_nodes

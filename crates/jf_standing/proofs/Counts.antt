@@ -1,4 +1,4 @@
--- How many elements of a list pass a test.
+-- The number of elements of a list that pass a test.
 use Rattle.std.proofs.Common.{◌≡◌, ◌+◌, ◌≤◌, Bool, true, false, ◌&&◌, cond, List, [], ◌∷◌, ◌++◌, map, filter, Contains, refl, sym, ap, ap₂, ◌∙◌, subst, arith}
 use Rattle.std.specs.List.{AllByRecursion, count_by}
 use Rattle.std.proofs.lemmas.List.Sums.{sum_by-cons, sum_by-append}
@@ -17,12 +17,12 @@ module _ {X : Type 0} where
   count-same p q [] h = refl
   count-same p q (x ∷ xs) h = count-cons p x xs ∙ ap₂ (λ b n. one b + n) h.0 (count-same p q xs h.1) ∙ sym (count-cons q x xs)
 
-  -- if none passes, none is counted
+  -- if no element passes, the count is 0
   pub count-none : (p : X → Bool) (xs : List X) → AllByRecursion (λ x. p x ≡ false) xs → count_by p xs ≡ 0
   count-none p [] h = refl
   count-none p (x ∷ xs) h = omega (arith, count-cons p x xs, one-false (p x) h.0, count-none p xs h.1)
 
-  -- what passes one test of those that pass another
+  -- counting the elements of a filtered list
   pub count-filter : (p q : X → Bool) (xs : List X) → count_by p (filter q xs) ≡ count_by (λ x. q x && p x) xs
   count-filter p q [] = refl
   count-filter p q (x ∷ xs) =
@@ -33,7 +33,7 @@ module _ {X : Type 0} where
       ])
       ∙ sym (count-cons (λ y. q y && p y) x xs)
 
-  -- if one passes, one is counted
+  -- if an element passes, the count is at least 1
   pub count-some : (p : X → Bool) (xs : List X) (x : X) → Contains xs x → p x ≡ true → 1 ≤ count_by p xs
   count-some p [] x has is = absurd (none_in_nothing x has)
   count-some p (y ∷ ys) x has is =
@@ -42,7 +42,7 @@ module _ {X : Type 0} where
       (λ same. omega (arith, here, one-true (p y) (ap p same ∙ is)))
       (λ later. let more = count-some p ys x later is in omega (arith, here, more))
 
-  -- and if one is counted, one passes
+  -- if the count is at least 1, some element passes
   pub count-which : (p : X → Bool) (xs : List X) → 1 ≤ count_by p xs → (x : X) × Contains xs x × (p x ≡ true)
   count-which p [] some = absurd (let none : count_by p [] ≡ 0 = refl in omega arith)
   count-which p (y ∷ ys) some =
@@ -54,7 +54,7 @@ module _ {X : Type 0} where
             (rest.0, Contains-later rest.0 y ys rest.1, rest.2)
       ] refl
 
-  -- if at most one is counted, two that pass are one
+  -- if the count is at most 1, two elements that pass are equal
   pub count-one : (p : X → Bool) (xs : List X) (x y : X) → count_by p xs ≤ 1 → Contains xs x → Contains xs y → p x ≡ true → p y ≡ true → x ≡ y
   count-one p [] x y few hx hy px py = absurd (none_in_nothing x hx)
   count-one p (z ∷ zs) x y few hx hy px py =
@@ -78,7 +78,7 @@ module _ {X : Type 0} where
       implied true b h = subst (λ c. 1 ≤ one c) (sym (h refl)) (omega arith)
       implied false b h = omega arith
 
-  -- and if it counts no more, it is the same test
+  -- if a weaker test counts no more elements, both tests agree on all of them
   pub count-squeeze : (p q : X → Bool) (xs : List X) → AllByRecursion (λ x. p x ≡ true → q x ≡ true) xs → count_by q xs ≤ count_by p xs → AllByRecursion (λ x. q x ≡ p x) xs
   count-squeeze p q [] h few = tt
   count-squeeze p q (x ∷ xs) h few =
@@ -96,7 +96,7 @@ module _ {X : Type 0} where
       ] refl
 
 module _ {X Y : Type 0} where
-  -- what passes of a list made of another
+  -- counting the elements of a mapped list
   pub count-map : (p : Y → Bool) (f : X → Y) (xs : List X) → count_by p (map f xs) ≡ count_by (λ x. p (f x)) xs
   count-map p f [] = refl
   count-map p f (x ∷ xs) = count-cons p (f x) (map f xs) ∙ ap (λ n. one (p (f x)) + n) (count-map p f xs) ∙ sym (count-cons (λ y. p (f y)) x xs)

@@ -1,4 +1,4 @@
--- A landing that was read is sound exactly if it is what a landing of the batch that is read off it writes.
+-- A landing that was read is sound exactly if it is a landing of the batch that is read off it.
 use Rattle.std.proofs.Common.{◌≡◌, ◌↔◌, ◌+◌, ◌<◌, ◌≤◌, ◌^◌, filter, sym, ap, ◌∙◌, subst, arith}
 use Rattle.std.specs.FinMap.{len}
 use Rattle.jf_path.specs.Keys.{IsKey, IsBytes}
@@ -19,7 +19,7 @@ use Rattle.jf_standing.proofs.Lands.{lands, continues}
 use Rattle.jf_standing.proofs.Batches.{by_key-IsBatch}
 use Rattle.jf_standing.proofs.ReadBack.{map-read}
 
--- the batch that is read off is one
+-- what is read off a landing is a batch
 pub read-IsBatch : (s : Standing) (c : Commit) → AreEntries (leaf_entries s.nodes) → AreEntries (fresh_leaves c) → IsBatch (batch_of s c)
 read-IsBatch s c keys own_keys = by_key-IsBatch (fresh_leaves c) (stale_leaves s c) own_keys (All-each_element _ (stale_leaves s c) (λ e has.
     let n = leaf-which (filter (λ n. is_named n.0 c.stale) s.nodes) e has in
@@ -28,12 +28,12 @@ read-IsBatch s c keys own_keys = by_key-IsBatch (fresh_leaves c) (stale_leaves s
 pub read-IsMap : (s : Standing) (c : Commit) → AreEntries (leaf_entries s.nodes) → AreEntries (fresh_leaves c) → IsMap (apply (head_map s) (batch_of s c))
 read-IsMap s c keys own_keys = IsMap-apply (head_map s) (batch_of s c) (IsMap-map_at s.head s.nodes keys) (read-IsBatch s c keys own_keys)
 
--- what leaves what is sound is a landing of the map after it
+-- a landing that leaves a sound standing is a landing of the map after it
 pub found : (fmt : Format) (s : Standing) (c : Commit) → IsSound fmt s → AreEntries (leaf_entries s.nodes) → AreEntries (fresh_leaves c) → IsInOrder c → Continues s c → IsSound fmt (with_commit c s) → c ≡ landing_of fmt s (map_at c.version (with_commit c s).nodes)
 found fmt s c sound keys own_keys order goes behind_sound =
     landing-found fmt s c sound goes behind_sound (IsMap-map_at s.head s.nodes keys) (subst IsMap (sym (map-read fmt s c sound goes behind_sound)) (read-IsMap s c keys own_keys)) order
 
--- and it is one of the batch that is read off
+-- a landing is sound exactly if it is a landing of the batch that is read off it
 pub decided : (fmt : Format) (s : Standing) (c : Commit) → IsSound fmt s → AreEntries (leaf_entries s.nodes) → AreEntries (fresh_leaves c) → IsInOrder c
     → (Continues s c × IsSound fmt (with_commit c s)) ↔ ((s.head + 1 < never) × (len (apply (head_map s) (batch_of s c)) ≤ 2 ^ 63) × (c ≡ landing_of fmt s (apply (head_map s) (batch_of s c))))
 decided fmt s c sound keys own_keys order = (

@@ -35,7 +35,7 @@ leaf_same format.One (node.Leaf key value) = refl
 leaf_same format.One (node.Inner cs) = refl
 leaf_same format.Two n = refl
 
--- a node of a map is what the format keeps of the one with counts
+-- a node of a map in a format is what the format keeps of the node with counts
 pub plain_node-in : (fmt : Format) (v : ℕ → ℕ) (d : ℕ) (es : Part) → plain_node (is_counted fmt) v d es ≡ in_format fmt (plain_node true v d es)
 plain_node-in format.One v d es = plain_node-uncounted v d es
 plain_node-in format.Two v d es = refl
@@ -57,7 +57,7 @@ module _ (fmt : Format) where
   stale_kept : (w : ℕ) (ns : List Named) → stale_at w (map kept ns) ≡ map kept (stale_at w ns)
   stale_kept w ns = filter-map (is_stale w) kept ns
 
-  -- the same maps
+  -- the maps are unchanged
   pub map_kept : (w : ℕ) (ns : List Named) → map_at w (map kept ns) ≡ map_at w ns
   unfolding map_at
   map_kept w ns = ap from_entries (ap leaf_entries (alive_kept w ns) ∙ leaves_kept (alive_at w ns))
@@ -66,7 +66,7 @@ module _ (fmt : Format) where
   numbers_kept [] = refl
   numbers_kept (n ∷ ns) = ap (λ vs. n.0.version ∷ vs) (numbers_kept ns)
 
-  -- and the same versions of nodes
+  -- the versions of nodes are unchanged
   pub version_kept : (w : ℕ) (ns : List Named) (p : Path) → version_at w (map kept ns) p ≡ version_at w ns p
   version_kept w ns p =
       ap (λ xs. slice_index_or (map (λ n. n.0.version) (filter (is_at p) xs)) 0 0) (alive_kept w ns)
@@ -84,7 +84,7 @@ module _ (fmt : Format) where
   stands_kept : (test : Path → ℕ) (before after : List Named) → after ≡ map kept before → ((p : Path) → count_by (is_at p) before ≡ test p) → (p : Path) → count_by (is_at p) after ≡ test p
   stands_kept test before after is stand p = ap (count_by (is_at p)) is ∙ count_kept p before ∙ stand p
 
-  -- ---- what is sound
+  -- ---- soundness
 
   node_kept : (w : ℕ) (ns : List Named) (n : Named) → IsNodeOf format.Two w ns n → IsNodeOf fmt w (map kept ns) (kept n)
   node_kept w ns n is =
@@ -164,7 +164,7 @@ module _ (fmt : Format) where
       let gone = ap (λ k. map (λ (x : Path × Part). name_at_head (standing_in fmt s) x.0) (stale k m)) (map_kept s.head s.nodes) ∙ names_kept s (stale (head_map s) m) in
       ap₂ (λ xs names. record { version = s.head + 1; root = root m; fresh = xs; stale = names }) written (ap in_order gone)
 
-  -- ---- what landings and floors make
+  -- ---- landings and floors on what a format keeps
 
   mark_kept : (c : Commit) (n : Named) → marked (commit_in fmt c) (kept n) ≡ kept (marked c n)
   mark_kept c n = elim (is_named n.0 c.stale) as (λ b. cond b (n.0, in_format fmt n.1, c.version) (kept n) ≡ kept (cond b (n.0, n.1, c.version) n)) [ true ↦ refl | false ↦ refl ]

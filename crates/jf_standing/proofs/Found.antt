@@ -1,4 +1,4 @@
--- A landing that leaves what is sound has written just what a landing of the map after it writes.
+-- A landing that leaves a sound standing has written exactly what a landing of the map after it writes.
 use Rattle.std.proofs.Common.{◌≡◌, ℕ, ◌+◌, ◌-◌, ◌≤◌, Bool, true, false, cond, inl, inr, List, [], ◌∷◌, ◌++◌, map, length, Contains, refl, sym, ap, ap₂, ◌∙◌, subst, arith, true≢false}
 use Rattle.std.proofs.lemmas.List.Elements.{Contains-append_cases, Contains-append_right}
 use Rattle.std.specs.Prelude.{IsTrue}
@@ -31,7 +31,7 @@ use Rattle.jf_standing.proofs.Names.{same_name-exact, rise-sorted}
 use Rattle.jf_standing.proofs.Freshness.{fresh-node, child-node, fresh-listed, listed-fresh, sorted-written}
 use Rattle.jf_standing.proofs.Numbers.{same_number, number_tells}
 
--- a node after a landing stood before, or is written by it
+-- a node after a landing stood before, or is written by the landing
 pub behind-cases : {P : Type 0} (c : Commit) (ns : List Named) (n : Named) → Contains (behind c ns) n → ((m : Named) → Contains ns m → marked c m ≡ n → P) → ((x : NodeName × PlainNode) → Contains c.fresh x → unmarked x ≡ n → P) → P
 behind-cases c ns n has stood own = elim (Contains-append_cases (map (marked c) ns) (map unmarked c.fresh) n has) [
   | inl left ↦ let m = map-which (marked c) ns n left in stood m.0 m.1 m.2
@@ -67,7 +67,7 @@ module _ (fmt : Format) (s : Standing) (c : Commit) (sound : IsSound fmt s) (goe
   pub few_before : (q : Path) → count_by (is_at q) (alive_at s.head s.nodes) ≤ 1
   few_before q = few-alive fmt s sound s.head sound.floor_low (omega arith) q
 
-  -- what is written is alive
+  -- a node that the landing writes is alive after it
   written_alive : (n : Named) → Contains (behind c s.nodes) n → n.0.version ≡ c.version → Contains (alive_at c.version (behind c s.nodes)) n
   written_alive n has at = behind-cases c s.nodes n has
       (λ m stood is. absurd (let low = version-low fmt s sound m stood in let same = ap (λ (k : NodeName). k.version) (sym (marked-name c m) ∙ ap (λ (k : Named). k.0) is) in let next = goes.next in omega arith))
@@ -101,7 +101,7 @@ module _ (fmt : Format) (s : Standing) (c : Commit) (sound : IsSound fmt s) (goe
             true≢false (sym (test_so _ _ (fresh_stand q) (count-some (is_at q) (written_at c.version (behind c s.nodes)) n.0 there (at-so q n.0 n.2))) ∙ is)))
       ] refl
 
-  -- each node that it writes is the one that a landing writes there
+  -- each node that the landing writes is the one that a landing of the map after it writes there
   pub fresh_found : (x : NodeName × PlainNode) → Contains c.fresh x → (is_fresh (entries (head_map s)) (entries landed_map) x.0.path ≡ true) × (x ≡ written_node fmt s landed_map (x.0.path, under 0 x.0.path (entries landed_map)))
   fresh_found x has =
       let p = x.0.path in

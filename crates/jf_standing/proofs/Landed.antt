@@ -1,4 +1,4 @@
--- A landing that leaves what is sound is a landing of the map after it.
+-- A landing that leaves a sound standing is a landing of the map after it.
 use Rattle.std.proofs.Common.{◌≡◌, ◌-◌, true, false, inl, inr, [], ◌∷◌, map, Contains, refl, sym, ap, ap₂, ◌∙◌, subst, arith}
 use Rattle.std.specs.Prelude.{slice_index_or}
 use Rattle.std.specs.FinMap.{entries}
@@ -30,7 +30,7 @@ module _ (fmt : Format) (s : Standing) (c : Commit) (sound : IsSound fmt s) (goe
   abbrev pub behind_map : Map
   behind_map = landed_map fmt s c sound goes behind_sound
 
-  -- a node that it names was alive, and is stale in the map after it
+  -- a node that the landing names was alive, and is stale in the map after it
   pub named_was : (n : Named) → Contains s.nodes n → is_named n.0 c.stale ≡ true → (is_alive s.head n ≡ true) × (is_fresh (entries behind_map) (entries (head_map s)) n.0.path ≡ true)
   named_was n has named =
       let next = goes.next in
@@ -42,7 +42,7 @@ module _ (fmt : Format) (s : Standing) (c : Commit) (sound : IsSound fmt s) (goe
         test_so _ _ (stale_stand fmt s c sound goes behind_sound n.0.path) (count-some (is_at n.0.path) (stale_at c.version (behind c s.nodes)) (marked c n) there (at-so n.0.path (marked c n) (ap (λ m. m.path) (marked-name c n)))),
       )
 
-  -- and a node that is stale in the map after it is named
+  -- a node that is stale in the map after the landing is named
   stale_is : (p : Path) → is_fresh (entries behind_map) (entries (head_map s)) p ≡ true → is_named (name_at_head s p) c.stale ≡ true
   stale_is p is =
       let next = goes.next in
@@ -77,7 +77,7 @@ module _ (fmt : Format) (s : Standing) (c : Commit) (sound : IsSound fmt s) (goe
         let x = map-which (λ (x : Path × Part). name_at_head s x.0) (stale (head_map s) behind_map) name (named-tells name (stale_names s behind_map) is) in
         sym (ap (λ k. is_named k c.stale) x.2) ∙ stale_is x.0.0 (listed-fresh behind_map (head_map s) x.0 x.1).0)
 
-    -- so it is a landing of the map after it
+    -- the landing is a landing of the map after it
     pub landing-found : IsMap behind_map → IsInOrder c → c ≡ landing_of fmt s behind_map
     landing-found own_keys order =
         let next = goes.next in

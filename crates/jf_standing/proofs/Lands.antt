@@ -1,4 +1,4 @@
--- A landing of a map over a sound standing leaves what is sound.
+-- A landing of a map on a sound standing leaves a sound standing.
 use Rattle.std.proofs.Common.{◌≡◌, ◌⊎◌, ℕ, suc, ◌+◌, ◌-◌, ◌<◌, ◌≤◌, ◌^◌, Bool, true, false, ◌&&◌, cond, ◌==◌, inl, inr, List, [], ◌∷◌, ◌++◌, map, length, Contains, refl, sym, ap, ap₂, ◌∙◌, subst, arith, true≢false}
 use Rattle.std.proofs.lemmas.Bool.{cases_lt}
 use Rattle.std.specs.Prelude.{slice_index_or, bytes_eq}
@@ -45,7 +45,7 @@ module _ (fmt : Format) (s : Standing) (m : Map) (sound : IsSound fmt s) (keys :
   pub version_own : (w : ℕ) (p : Path) → w ≤ s.head → version_at w own p ≡ version_at w s.nodes p
   version_own w p high = version-behind (landing_of fmt s m) w s.nodes p (omega arith) (fresh-own fmt s m) (still fmt s m sound keys own_keys last w high)
 
-  -- marks count as before at each path
+  -- marking nodes changes no count at a path
   count_marked : (p : Path) (ns : List Named) → count_by (is_at p) (map (marked (landing_of fmt s m)) ns) ≡ count_by (is_at p) ns
   count_marked p ns = count-map (is_at p) (marked (landing_of fmt s m)) ns ∙ count-same (λ n. is_at p (marked (landing_of fmt s m) n)) (is_at p) ns (All-each_element _ ns (λ n has. ap (λ k. bytes_eq k.path p) (marked-name (landing_of fmt s m) n)))
 
@@ -105,7 +105,7 @@ module _ (fmt : Format) (s : Standing) (m : Map) (sound : IsSound fmt s) (keys :
             ap (is_alive (w - 1)) (sym k.2) ∙ same ∙ stood);
       }
 
-  -- ---- the new one
+  -- ---- the new version
 
   map_new : map_at (s.head + 1) own ≡ m
   map_new = map-placed fmt s m sound keys own_keys last
@@ -166,7 +166,7 @@ module _ (fmt : Format) (s : Standing) (m : Map) (sound : IsSound fmt s) (keys :
         (λ x mine same. inl (sym (ap (λ (z : Named). z.2) same))));
   }
 
-  -- and goes on from the head
+  -- the landing continues from the head
   pub continues : Continues s (landing_of fmt s m)
   continues = record {
     next = refl;

@@ -15,7 +15,7 @@ use Rattle.jf_standing.proofs.Ordered.{find-Contains, Contains-find}
 none_not_some : {A : Type 0} (x : A) → None ≡ Some x → ⊥
 none_not_some x is = absurd (cc)
 
--- each entry is that of a leaf
+-- each of the entries is that of a leaf
 pub leaf-which : (ns : List Named) (e : List ℕ × List ℕ) → Contains (leaf_entries ns) e → (n : Named) × Contains ns n × (leaf_entry n.1 ≡ Some e)
 leaf-which [] e has = absurd (none_in_nothing e has)
 leaf-which (n ∷ ns) e has =
@@ -26,7 +26,7 @@ leaf-which (n ∷ ns) e has =
           (λ later. let m = leaf-which ns e later in (m.0, Contains-later m.0 n ns m.1, m.2))
     ] refl has
 
--- and each leaf has its entry
+-- the entry of each leaf is among the entries
 pub leaf-so : (ns : List Named) (n : Named) (e : List ℕ × List ℕ) → Contains ns n → leaf_entry n.1 ≡ Some e → Contains (leaf_entries ns) e
 leaf-so [] n e has is = absurd (none_in_nothing n has)
 leaf-so (m ∷ ns) n e has is = Contains-cases n m ns has
@@ -36,14 +36,14 @@ leaf-so (m ∷ ns) n e has is = Contains-cases n m ns has
       | Some f ↦ Contains-later e f (leaf_entries ns) (leaf-so ns n e later is)
     ])
 
--- what a map has is among the entries that it is made of
+-- the entries of a map are among those that it is made of
 pub from_entries-Contains : (es : List (List ℕ × List ℕ)) (e : List ℕ × List ℕ) → Contains (entries (from_entries {R = key_cmp} es)) e → Contains es e
 from_entries-Contains es e has =
     let m : Map = from_entries es in
     find-Contains key_cmp nat_list_cmp_total same_key-exact e.0 e.1 es
     (sym (fin.get-from_entries nat_list_cmp_total es e.0) ∙ fin.get-entries m e.0 ∙ Contains-find key_cmp nat_list_cmp_total same_key-exact (entries m) e (fin.entries_sorted m) has)
 
--- so it has keys and values if the leaves have
+-- the map at a version has keys and values if the leaves have
 pub IsMap-map_at : (w : ℕ) (ns : List Named) → AreEntries (leaf_entries ns) → IsMap (map_at w ns)
 unfolding map_at
 IsMap-map_at w ns sound = All-each_element _ (entries (from_entries (leaf_entries (alive_at w ns)))) (λ e has.

@@ -3,13 +3,13 @@ use Rattle.std.proofs.Common.{◌≡◌, ℕ, zero, suc, ◌<◌, Bool, true, fa
 use Rattle.std.specs.List.{AllByRecursion}
 use Rattle.jf_landing.specs.Elements.{Contains-first, Contains-later}
 
--- tests that follow from one another are one
+-- two tests that imply each other are equal
 pub same_test : (a b : Bool) → (a ≡ true → b ≡ true) → (b ≡ true → a ≡ true) → a ≡ b
 same_test true b h k = sym (h refl)
 same_test false true h k = k refl
 same_test false false h k = refl
 
--- a test in numbers
+-- a test as a number, 1 or 0
 abbrev pub one : Bool → ℕ
 one b = cond b 1 0
 
@@ -25,11 +25,11 @@ module _ {X : Type 0} where
   All-each_element P [] h = tt
   All-each_element P (x ∷ xs) h = (h x (Contains-first x xs), All-each_element P xs (λ y has. h y (Contains-later y x xs has)))
 
-  -- a list without an element has none
+  -- an empty list has no element
   pub none_in_nothing : (x : X) → Contains [] x → ⊥
   none_in_nothing x has = let lt = has.1 in omega arith
 
-  -- the first, or one of those after it
+  -- an element of a list is the first one or one of the rest
   pub Contains-cases : {P : Type 0} (x y : X) (ys : List X) → Contains (y ∷ ys) x → (y ≡ x → P) → (Contains ys x → P) → P
   Contains-cases {P} x y ys has first later = at has.0 has.1 has.2
     where
@@ -38,7 +38,7 @@ module _ {X : Type 0} where
       at (suc i) lt is = later (i, omega arith, is)
 
 module _ {X Y : Type 0} where
-  -- an element of a list made of another is made of an element
+  -- an element of a mapped list comes from an element
   pub map-which : (f : X → Y) (xs : List X) (y : Y) → Contains (map f xs) y → (x : X) × Contains xs x × (f x ≡ y)
   map-which f [] y has = absurd (none_in_nothing y has)
   map-which f (x ∷ xs) y has = Contains-cases y (f x) (map f xs) has

@@ -1,4 +1,4 @@
--- What a landing makes of the nodes that stand: it changes the versions since which some are stale, and nothing else.
+-- A landing changes the versions since which some nodes are stale, and nothing else of the nodes that stood before.
 use Rattle.std.proofs.Common.{◌≡◌, ℕ, ◌<◌, Bool, true, false, cond, List, [], ◌∷◌, ◌++◌, map, filter, Contains, refl, ap, ap₂, ◌∙◌, arith, append-nil}
 use Rattle.std.proofs.lemmas.List.Elements.{filter-append, Contains-append_left}
 use Rattle.std.proofs.lemmas.Bool.Decides.{nat_tests}
@@ -29,7 +29,7 @@ marked-yes c n is = ap (λ b. cond b (n.0, n.1, c.version) n) is
 pub marked-not : (c : Commit) (n : Named) → is_named n.0 c.stale ≡ false → marked c n ≡ n
 marked-not c n is = ap (λ b. cond b (n.0, n.1, c.version) n) is
 
--- what is alive before the landing stays alive then
+-- a node alive at an earlier version is still alive there after the landing
 pub alive-marked : (c : Commit) (w : ℕ) (n : Named) → w < c.version → is_alive w n ≡ true → is_alive w (marked c n) ≡ true
 alive-marked c w n low is = elim (is_named n.0 c.stale) as (λ b. is_alive w (cond b (n.0, n.1, c.version) n) ≡ true) [
   | true ↦ alive-so w (n.0, n.1, c.version) (alive-tells w n is).0 low
@@ -42,11 +42,11 @@ alive-marked c w n low is = elim (is_named n.0 c.stale) as (λ b. is_alive w (co
 abbrev pub behind : Commit → List Named → List Named
 behind c ns = map (marked c) ns ++ map unmarked c.fresh
 
--- those that stood stand
+-- a node that stood before stands after the landing, marked or not
 pub Contains-behind : (c : Commit) (ns : List Named) (n : Named) → Contains ns n → Contains (behind c ns) (marked c n)
 Contains-behind c ns n has = Contains-append_left (map (marked c) ns) (map unmarked c.fresh) (marked c n) (Contains-map (marked c) ns n has)
 
--- a test on names that the landing's own don't pass
+-- a filter that passes no node of the landing itself
 pub filter-behind : (test : Named → Bool) (c : Commit) (ns : List Named) → AllByRecursion (λ x. test (unmarked x) ≡ false) c.fresh → filter test (behind c ns) ≡ map (marked c) (filter (λ n. test (marked c n)) ns)
 filter-behind test c ns own =
     filter-append test (map (marked c) ns) (map unmarked c.fresh)
@@ -57,21 +57,21 @@ filter-behind test c ns own =
     none [] h = refl
     none (x ∷ xs) h = ap (λ b. cond b (unmarked x ∷ filter test (map unmarked xs)) (filter test (map unmarked xs))) h.0 ∙ none xs h.1
 
--- and one that it changes for none of those that stood
+-- a filter that passes no node of the landing itself, and that marks don't change
 pub filter-unchanged : (test : Named → Bool) (c : Commit) (ns : List Named) → AllByRecursion (λ x. test (unmarked x) ≡ false) c.fresh → AllByRecursion (λ n. test (marked c n) ≡ test n) ns → filter test (behind c ns) ≡ map (marked c) (filter test ns)
 filter-unchanged test c ns own same = filter-behind test c ns own ∙ ap (map (marked c)) (filter-same (λ n. test (marked c n)) test ns same)
 
--- none of the landing's own is alive before
+-- no node of the landing itself is alive at an earlier version
 pub none_alive : (c : Commit) (w : ℕ) (xs : List (NodeName × PlainNode)) → w < c.version → AllByRecursion (λ x. x.0.version ≡ c.version) xs → AllByRecursion (λ x. is_alive w (unmarked x) ≡ false) xs
 none_alive c w [] low own = tt
 none_alive c w (x ∷ xs) low own = (alive-not_yet w (unmarked x) (let at = own.0 in omega arith), none_alive c w xs low own.1)
 
--- or written before
+-- no node of the landing itself is written at an earlier version
 pub none_written : (c : Commit) (w : ℕ) (xs : List (NodeName × PlainNode)) → w < c.version → AllByRecursion (λ x. x.0.version ≡ c.version) xs → AllByRecursion (λ x. is_written w (unmarked x) ≡ false) xs
 none_written c w [] low own = tt
 none_written c w (x ∷ xs) low own = (let at = own.0 in grind (arith, nat_tests), none_written c w xs low own.1)
 
--- ---- what marks leave
+-- ---- what marks leave unchanged
 
 pub leaf_entries-marked : (c : Commit) (ns : List Named) → leaf_entries (map (marked c) ns) ≡ leaf_entries ns
 leaf_entries-marked c [] = refl
@@ -89,7 +89,7 @@ at-marked c p ns = filter-map (is_at p) (marked c) ns ∙ ap (map (marked c)) (f
     names [] = tt
     names (n ∷ ns) = (ap (λ x. is_at p (x, n.1, 0)) (marked-name c n), names ns)
 
--- if a landing changes nothing of who is alive at an earlier version, that version is as before
+-- if marks change no node's being alive at an earlier version, that version is unchanged
 pub alive-behind : (c : Commit) (w : ℕ) (ns : List Named) → w < c.version → AllByRecursion (λ x. x.0.version ≡ c.version) c.fresh → AllByRecursion (λ n. is_alive w (marked c n) ≡ is_alive w n) ns → alive_at w (behind c ns) ≡ map (marked c) (alive_at w ns)
 alive-behind c w ns low own same = filter-unchanged (is_alive w) c ns (none_alive c w c.fresh low own) same
 

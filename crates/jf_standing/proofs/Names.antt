@@ -1,4 +1,4 @@
--- Names in order, and lists of them.
+-- Names, lists of names, and their order.
 use Rattle.std.proofs.Common.{◌≡◌, Bool, true, false, ◌||◌, cond, is_some, List, [], ◌∷◌, map, Contains, Some, None, refl, sym, ap, ap₂, ◌∙◌, subst, T, true≢false, Ordering, Less, Equal, Greater, is_lt, is_eq, nat_cmp}
 use Rattle.std.specs.Prelude.{IsTrue}
 use Rattle.std.specs.Cmp.{tied_itself}
@@ -22,7 +22,7 @@ both_equal Less s is = absurd (cc)
 both_equal Equal s is = (refl, is)
 both_equal Greater s is = absurd (cc)
 
--- only equal names tie
+-- names tie only if they are equal
 pub same_name-exact : IsAntisymmetric name_cmp
 same_name-exact a b is =
     let both = both_equal (nat_cmp a.version b.version) (slice_cmp nat_cmp a.path b.path) is in
@@ -58,7 +58,7 @@ module _ {X : Type 0} where
   below_lower k l [] lt h = tt
   below_lower k l (e ∷ es) lt h = both_so _ _ (less_so _ (name_cmp_total.trans k l e.0 lt (Less-from_is_lt _ (left_so _ _ h)))) (below_lower k l es lt (right_so _ _ h))
 
-  -- names that rise are in order
+  -- names that rise are sorted
   pub rise-sorted : (es : List (NodeName × X)) → IsTrue (rise (map (λ e. e.0) es)) → T (is_sorted name_cmp es)
   rise-sorted [] h = tt
   rise-sorted (e ∷ []) h = tt
@@ -85,13 +85,13 @@ names-bare : (names : List NodeName) → map (λ (e : NodeName × Unit {0}). e.0
 names-bare [] = refl
 names-bare (n ∷ names) = ap (λ t. n ∷ t) (names-bare names)
 
--- names that rise are other names in order, if both have the same ones
+-- names that rise are those of a list in order if both have the same names
 pub same_names : (xs ys : List NodeName) → IsTrue (rise xs) → ((q : NodeName) → is_named q xs ≡ is_named q ys) → xs ≡ in_order ys
 same_names xs ys rises same =
     sym (names-bare xs)
     ∙ ap (map (λ (e : NodeName × Unit {0}). e.0)) (same_entries name_cmp name_cmp_total same_name-exact (bare xs) (by_name (bare ys)) (rise-sorted (bare xs) (subst (λ ns. IsTrue (rise ns)) (sym (names-bare xs)) rises)) (sorted-by_name (bare ys))
     (λ q. find-bare q xs ∙ ap (λ b. cond b (Some tt) None) (same q) ∙ sym (find-bare q ys) ∙ sym (find-by_name q (bare ys))))
 
--- names put in order are the same ones
+-- putting names in order keeps the same names
 pub named-in_order : (q : NodeName) (names : List NodeName) → is_named q (in_order names) ≡ is_named q names
 named-in_order q names = sym (is_some-find name_cmp q (by_name (bare names))) ∙ ap is_some (find-by_name q (bare names)) ∙ is_some-find name_cmp q (bare names) ∙ ap (is_named q) (names-bare names)

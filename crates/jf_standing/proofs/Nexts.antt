@@ -1,4 +1,4 @@
--- The function that gives what a record makes is the relation.
+-- The function `next_standing` gives exactly what a record makes.
 use Rattle.std.proofs.Common.{◌≡◌, ◌↔◌, ℕ, ◌+◌, ◌^◌, true, false, ◌&&◌, cond, nat_le, nat_lt, List, [], ◌∷◌, map, Some, None, refl, sym, ap, ap₂, ◌∙◌, subst}
 use Rattle.std.proofs.lemmas.Option.{same_Some}
 use Rattle.std.specs.List.{AllByRecursion}
@@ -26,7 +26,7 @@ use Rattle.jf_standing.proofs.Floors.{floored}
 use Rattle.jf_standing.proofs.Same.{commit-exact}
 use Rattle.jf_standing.proofs.Numbers.{le_tells, le_so, lt_tells, lt_so}
 
--- keys and values stay such after a landing
+-- after a landing keys still have 32 bytes and values still are bytes
 pub entries-behind : (s : Standing) (c : Commit) → AreEntries (leaf_entries s.nodes) → AreEntries (fresh_leaves c) → AreEntries (leaf_entries (with_commit c s).nodes)
 entries-behind s c keys own_keys = All-each_element _ (leaf_entries (behind c s.nodes)) (λ e has.
     let n = leaf-which (behind c s.nodes) e has in
@@ -34,7 +34,7 @@ entries-behind s c keys own_keys = All-each_element _ (leaf_entries (behind c s.
     (λ m stood same. All-of (λ f. IsKey f.0 × IsBytes f.1) (leaf_entries s.nodes) e keys (leaf-so s.nodes m e stood (ap leaf_entry (sym (marked-node c m) ∙ ap (λ (z : Named). z.1) same) ∙ n.2)))
     (λ x own same. All-of (λ f. IsKey f.0 × IsBytes f.1) (fresh_leaves c) e own_keys (leaf-so (map unmarked c.fresh) (unmarked x) e (Contains-map unmarked c.fresh x own) (ap (λ (z : Named). leaf_entry z.1) same ∙ n.2))))
 
--- and under a later floor
+-- under a later floor keys still have 32 bytes and values still are bytes
 pub entries-floored : (s : Standing) (floor : ℕ) → AreEntries (leaf_entries s.nodes) → AreEntries (leaf_entries (with_floor floor s).nodes)
 entries-floored s floor keys = All-each_element _ (leaf_entries (with_floor floor s).nodes) (λ e has.
     let n = leaf-which (with_floor floor s).nodes e has in

@@ -1,4 +1,4 @@
--- A sound standing is told by its maps and the versions of the nodes at its floor.
+-- Two sound standings with the same maps, and the same versions of nodes at the floor, have the same nodes.
 use Rattle.std.proofs.Common.{◌≡◌, ℕ, zero, suc, ◌+◌, ◌-◌, ◌<◌, ◌≤◌, true, false, cond, inl, inr, [], ◌∷◌, ◌++◌, length, Contains, refl, sym, ap, ap₂, ◌∙◌, subst, arith, true≢false}
 use Rattle.std.proofs.lemmas.Bool.{cases_lt}
 use Rattle.std.specs.FinMap.{entries}
@@ -19,7 +19,7 @@ use Rattle.jf_standing.proofs.Found.{test_so}
 use Rattle.jf_standing.proofs.Freshness.{stale-node, child-node}
 use Rattle.jf_standing.proofs.Numbers.{same_number, number_tells}
 
--- a node after a step has the version of the step where it was written, and otherwise the one before
+-- the version of a node after a step: that of the step if it wrote the node, otherwise the version before
 pub version-step : (fmt : Format) (s : Standing) → IsSound fmt s → (w : ℕ) → s.floor < w → w ≤ s.head → (p : Path) → is_node 0 p (entries (map_at w s.nodes)) ≡ true
     → version_at w s.nodes p ≡ cond (is_fresh (entries (map_at (w - 1) s.nodes)) (entries (map_at w s.nodes)) p) w (version_at (w - 1) s.nodes p)
 version-step fmt s sound w late high p node =
@@ -62,11 +62,11 @@ module _ (fmt : Format) (s t : Standing) (s_sound : IsSound fmt s) (t_sound : Is
       ] refl)
       ∙ sym (version-step fmt s s_sound w (omega arith) high p node)
 
-  -- at each version the nodes have the same versions
+  -- at each version the nodes of both standings have the same versions
   pub same_version : (w : ℕ) → s.floor ≤ w → w ≤ s.head → (p : Path) → is_node 0 p (entries (map_at w s.nodes)) ≡ true → version_at w t.nodes p ≡ version_at w s.nodes p
   same_version w low high p node = versions_from (w - s.floor) w (omega arith) high p node
 
--- a node alive at a version that goes stale at a later one where a node at its path does
+-- a node goes stale at the next version whose step makes the node at its path stale
 stale_alike : (fmt : Format) (t : Standing) → IsSound fmt t → (k : Named) → Contains t.nodes k → (x : ℕ) → t.floor < x → x ≤ t.head → k.0.version < x → x ≤ k.2 → is_fresh (entries (map_at x t.nodes)) (entries (map_at (x - 1) t.nodes)) k.0.path ≡ true → k.2 ≡ x
 stale_alike fmt t sound k has x late high written up is =
     let step = sound.steps x late high in
@@ -82,7 +82,7 @@ stale_alike fmt t sound k has x late high written up is =
 module _ (fmt : Format) (s t : Standing) (s_sound : IsSound fmt s) (t_sound : IsSound fmt t) (same_floor : t.floor ≡ s.floor) (same_head : t.head ≡ s.head)
     (same_maps : (w : ℕ) → s.floor ≤ w → w ≤ s.head → map_at w t.nodes ≡ map_at w s.nodes)
     (same_versions : (p : Path) → is_node 0 p (entries (map_at s.floor s.nodes)) ≡ true → version_at s.floor t.nodes p ≡ version_at s.floor s.nodes p) where
-  -- the node of the other standing at a node's place
+  -- the node of the other standing with the same name and content
   twin : (n : Named) → Contains s.nodes n → (w : ℕ) → s.floor ≤ w → w ≤ s.head → is_alive w n ≡ true → (k : Named) × Contains (alive_at w t.nodes) k × (k.0 ≡ n.0) × (k.1 ≡ n.1)
   twin n has w low high alive =
       let p = n.0.path in
@@ -103,7 +103,7 @@ module _ (fmt : Format) (s t : Standing) (s_sound : IsSound fmt s) (t_sound : Is
             ∙ sym (All-of _ (alive_at w s.nodes) n (s_sound.versions w low high).nodes n_in),
       )
 
-  -- is stale since the same version
+  -- both nodes are stale since the same version
   twin_since : (n k : Named) → Contains s.nodes n → Contains t.nodes k → k.0 ≡ n.0 → (w : ℕ) → s.floor ≤ w → w ≤ s.head → is_alive w n ≡ true → is_alive w k ≡ true → k.2 ≡ n.2
   twin_since n k has_n has_k same w low high alive_n alive_k =
       let tells_n = alive-tells w n alive_n in
@@ -141,7 +141,7 @@ module _ (fmt : Format) (s t : Standing) (s_sound : IsSound fmt s) (t_sound : Is
         ]
       ]
 
-  -- so each node of the one is one of the other
+  -- each node of one standing is a node of the other
   pub same-standing : (n : Named) → Contains s.nodes n → Contains t.nodes n
   same-standing n has = elim (cases_lt s.floor n.0.version) [
     | inl late ↦ at n.0.version (omega arith) (version-low fmt s s_sound n has) (alive-so n.0.version n (omega arith) (version-before fmt s s_sound n has))

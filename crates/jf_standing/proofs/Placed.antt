@@ -1,4 +1,4 @@
--- Where the nodes stand after a landing of a map over a sound standing, and what they are.
+-- After a landing of a map on a sound standing, a node stands at exactly each path of the new map.
 use Rattle.std.proofs.Common.{◌≡◌, ℕ, zero, suc, ◌+◌, ◌-◌, ◌<◌, ◌≤◌, Bool, true, false, ◌&&◌, cond, inl, inr, List, [], ◌∷◌, map, Contains, refl, sym, ap, ap₂, ◌∙◌, subst, arith, true≢false, is_eq}
 use Rattle.std.proofs.lemmas.Slice.Eq.{bytes_eq-Decides}
 use Rattle.std.specs.Prelude.{bytes_eq}
@@ -121,7 +121,7 @@ module _ (fmt : Format) (s : Standing) (m : Map) (sound : IsSound fmt s) (keys :
   pub still : (w : ℕ) → w ≤ s.head → AllByRecursion (λ n. is_alive w (marked landing n) ≡ is_alive w n) s.nodes
   still w low = All-each_element _ s.nodes (λ n has. alive-still fmt s m sound keys w low n has)
 
-  -- at the head before, the nodes stand as they stood
+  -- at the head before, the nodes stand as they did
   stood_before : StandAt (λ p. is_node 0 p (entries (head_map s))) (alive_at (s.head + 1 - 1) (behind landing s.nodes))
   stood_before = subst (λ w. StandAt (λ p. is_node 0 p (entries (head_map s))) (alive_at w (behind landing s.nodes))) (let e : s.head ≡ s.head + 1 - 1 = omega arith in e)
       (λ p. ap (count_by (is_at p)) (alive-behind landing s.head s.nodes (omega arith) (fresh-own fmt s m) (still s.head (omega arith)))
@@ -129,6 +129,6 @@ module _ (fmt : Format) (s : Standing) (m : Map) (sound : IsSound fmt s) (keys :
       ∙ count-same (λ n. is_at p (marked landing n)) (is_at p) (alive_at s.head s.nodes) (All-each_element _ (alive_at s.head s.nodes) (λ n has. ap (λ k. bytes_eq k.path p) (marked-name landing n)))
       ∙ stands fmt s sound s.head sound.floor_low (omega arith) p)
 
-  -- and after it as those of the new map
+  -- after the landing the nodes stand as those of the new map
   pub placed : StandAt (λ p. is_node 0 p (entries m)) (alive_at (s.head + 1) (behind landing s.nodes))
   placed = step-stands (behind landing s.nodes) (s.head + 1) (entries (head_map s)) (entries m) (omega arith) behind_before stood_before placed-fresh placed-stale

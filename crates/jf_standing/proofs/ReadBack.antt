@@ -34,7 +34,7 @@ module _ (fmt : Format) (s : Standing) (c : Commit) (sound : IsSound fmt s) (goe
   abbrev old_leaves : List (List ℕ × List ℕ)
   old_leaves = leaf_entries (alive_at s.head s.nodes)
 
-  -- a leaf after the landing is one that it writes, or one that was there and isn't named
+  -- a leaf after the landing is written by it, or stood before and isn't named
   leaf_cases : {P : Type 0} (e : List ℕ × List ℕ) → Contains new_leaves e → (Contains (fresh_leaves c) e → P) → ((k : Named) → Contains s.nodes k → is_named k.0 c.stale ≡ false → Contains (alive_at s.head s.nodes) k → leaf_entry k.1 ≡ Some e → P) → P
   leaf_cases {P} e has fresh old =
       let n = leaf-which (alive_at c.version (behind c s.nodes)) e has in
@@ -50,7 +50,7 @@ module _ (fmt : Format) (s : Standing) (c : Commit) (sound : IsSound fmt s) (goe
       ] refl)
       (λ x own same. fresh (leaf-so (map unmarked c.fresh) (unmarked x) e (Contains-map unmarked c.fresh x own) (ap (λ (z : Named). leaf_entry z.1) same ∙ n.2)))
 
-  -- a leaf that it writes is there
+  -- a leaf that the landing writes is a leaf after it
   fresh_there : (e : List ℕ × List ℕ) → Contains (fresh_leaves c) e → Contains new_leaves e
   fresh_there e has =
       let n = leaf-which (map unmarked c.fresh) e has in
@@ -59,7 +59,7 @@ module _ (fmt : Format) (s : Standing) (c : Commit) (sound : IsSound fmt s) (goe
       let alive : is_alive c.version n.0 ≡ true = ap (is_alive c.version) (sym x.2) ∙ alive-so c.version (unmarked x.0) (omega arith) behind_sound.head_last in
       leaf-so (alive_at c.version (behind c s.nodes)) n.0 e (Contains-filter (is_alive c.version) (behind c s.nodes) n.0 (Contains-append_right (map (marked c) s.nodes) (map unmarked c.fresh) n.0 n.1) alive) n.2
 
-  -- and so is one that was there and isn't named
+  -- a leaf that stood before and isn't named is a leaf after the landing
   old_there : (k : Named) (e : List ℕ × List ℕ) → Contains (alive_at s.head s.nodes) k → is_named k.0 c.stale ≡ false → leaf_entry k.1 ≡ Some e → Contains new_leaves e
   old_there k e has free is =
       let stood = filter-Contains (is_alive s.head) s.nodes k has in
@@ -111,7 +111,7 @@ module _ (fmt : Format) (s : Standing) (c : Commit) (sound : IsSound fmt s) (goe
     ] refl
   ] refl
 
-  -- so the map after it is the head's map with that batch
+  -- the map after the landing is the head's map with the batch applied
   pub map-read : map_at c.version (behind c s.nodes) ≡ apply (head_map s) (batch_of s c)
   unfolding map_at
   map-read = same_map (from_entries new_leaves) (apply (from_entries old_leaves) (batch_of s c)) (λ q.

@@ -1,4 +1,4 @@
--- What stands doesn't depend on the order of the nodes.
+-- The maps, versions and soundness of a standing don't depend on the order of its nodes.
 use Rattle.std.proofs.Common.{◌≡◌, ℕ, ◌+◌, ◌-◌, ◌<◌, ◌≤◌, ◌^◌, Bool, ◌&&◌, cond, inl, inr, List, [], ◌∷◌, ◌++◌, map, filter, length, Contains, Some, None, refl, sym, ap, ap₂, ◌∙◌, subst, arith}
 use Rattle.std.proofs.lemmas.Bool.{cases_lt}
 use Rattle.std.proofs.lemmas.List.Sums.{length-filter}
@@ -46,7 +46,7 @@ module _ {X : Type 0} (xs ys : List X) (moved : IsPermutation xs ys) where
   pub moved-back : (q : X → Bool) (x : X) → Contains (filter q ys) x → Contains (filter q xs) x
   moved-back q x has = Contains-filter q xs x (Contains-permutation ys xs x (IsPermutation-sym xs ys moved) (filter-Contains q ys x has)) (filter-passes q ys x has)
 
--- no version if none is there
+-- an empty list of nodes gives the version 0
 no_version : (ns : List Named) → length ns ≡ 0 → slice_index_or (map (λ n. n.0.version) ns) 0 0 ≡ 0
 no_version [] none = refl
 no_version (n ∷ ns) none = absurd (omega (arith, none))
@@ -74,7 +74,7 @@ module _ (fmt : Format) (s : Standing) (ns : List Named) (sound : IsSound fmt s)
     leaf_back : (e : List ℕ × List ℕ) → Contains (leaf_entries (alive_at w ns)) e → Contains (leaf_entries (alive_at w s.nodes)) e
     leaf_back e has = let n = leaf-which (alive_at w ns) e has in leaf-so (alive_at w s.nodes) n.0 e (back n.0 n.1) n.2
 
-    -- the map is as before
+    -- the map is unchanged
     pub map-moved : map_at w ns ≡ map_at w s.nodes
     unfolding map_at
     map-moved = same_map (from_entries (leaf_entries (alive_at w ns))) (from_entries (leaf_entries (alive_at w s.nodes))) (λ q.
@@ -90,7 +90,7 @@ module _ (fmt : Format) (s : Standing) (ns : List Named) (sound : IsSound fmt s)
         ] refl)
         ∙ sym (fin.get-from_entries nat_list_cmp_total old q))
 
-    -- and so is the version at each path
+    -- the version at each path is unchanged
     pub version-moved : (p : Path) → version_at w ns p ≡ version_at w s.nodes p
     version-moved p =
         let same = count-moved_filter s.nodes ns moved (is_at p) (is_alive w) in
@@ -126,7 +126,7 @@ module _ (fmt : Format) (s : Standing) (ns : List Named) (sound : IsSound fmt s)
         stood = All-each_element _ (stale_at w ns) (λ n has. All-of _ (stale_at w s.nodes) n step.stood (moved-back s.nodes ns moved (is_stale w) n has));
       }
 
-  -- what is sound stays so
+  -- a sound standing with its nodes reordered is sound
   pub moved-sound : IsSound fmt (with_nodes ns s)
   moved-sound = record {
     base_low = sound.base_low;
@@ -141,7 +141,7 @@ module _ (fmt : Format) (s : Standing) (ns : List Named) (sound : IsSound fmt s)
     gone = All-each_element _ ns (λ n has. All-of _ s.nodes n sound.gone (Contains-permutation ns s.nodes n (IsPermutation-sym s.nodes ns moved) has));
   }
 
-  -- with the same versions
+  -- a standing with its nodes reordered has the same versions
   pub moved-versions : versions_of (with_nodes ns s) ≡ versions_of s
   moved-versions =
       let low = sound.floor_low in

@@ -1,4 +1,4 @@
--- Names that rise, after a landing and under a floor.
+-- Names that rise still rise after a landing and under a floor.
 use Rattle.std.proofs.Common.{◌≡◌, ℕ, ◌<◌, Bool, true, false, ◌&&◌, cond, nat_lt, List, [], ◌∷◌, ◌++◌, map, filter, length, Contains, refl, sym, ap, ap₂, ◌∙◌, subst, arith, T, nat_cmp, Less}
 use Rattle.std.proofs.lemmas.List.{map-append}
 use Rattle.std.proofs.lemmas.Bool.Decides.{nat_tests}
@@ -40,7 +40,7 @@ so_true true h = refl
 so_true false h = absurd h
 
 module _ {X : Type 0} where
-  -- what is in order rises
+  -- sorted names rise
   pub sorted-rise : (es : List (NodeName × X)) → T (is_sorted name_cmp es) → IsTrue (rise (map (λ e. e.0) es))
   sorted-rise [] h = refl
   sorted-rise (e ∷ []) h = refl
@@ -57,7 +57,7 @@ module _ {X : Type 0} where
 nat_less : (n m : ℕ) → n < m → nat_cmp n m ≡ Less
 nat_less n m lt = grind (arith, nat_tests)
 
--- names alone, as entries
+-- nodes by name, as entries
 abbrev pairs : List Named → List (NodeName × (PlainNode × ℕ))
 pairs ns = map apart ns
 
@@ -71,7 +71,7 @@ pairs_sorted ns rises = rise-sorted (pairs ns) (subst (λ xs. IsTrue (rise xs)) 
 pairs_rise : (ns : List Named) → T (is_sorted name_cmp (pairs ns)) → IsTrue (rise (map (λ n. n.0) ns))
 pairs_rise ns sorted = subst (λ xs. IsTrue (rise xs)) (pair_names ns) (sorted-rise (pairs ns) sorted)
 
--- after a landing
+-- names still rise after a landing
 pub rise-behind : (fmt : Format) (s : Standing) (c : Commit) → IsSound fmt s → IsTrue (rise (map (λ n. n.0) s.nodes)) → Continues s c → IsInOrder c → IsTrue (rise (map (λ n. n.0) (with_commit c s).nodes))
 rise-behind fmt s c sound rises goes order =
     pairs_rise (map (marked c) s.nodes ++ map unmarked c.fresh) (subst (λ es. T (is_sorted name_cmp es)) (sym (map-append apart (map (marked c) s.nodes) (map unmarked c.fresh))) (sorted_append (pairs (map (marked c) s.nodes)) (pairs (map unmarked c.fresh))
@@ -106,7 +106,7 @@ module _ {X : Type 0} where
   sorted_filter p [] h = tt
   sorted_filter p (e ∷ es) h = elim (p e) as (λ b. T (is_sorted name_cmp (cond b (e ∷ filter p es) (filter p es)))) [ true ↦ both_so _ _ (below_filter e.0 p es (left_so _ _ h)) (sorted_filter p es (right_so _ _ h)) | false ↦ sorted_filter p es (right_so _ _ h) ]
 
--- and under a floor
+-- names still rise under a floor
 pub rise-floored : (s : Standing) (floor : ℕ) → IsTrue (rise (map (λ n. n.0) s.nodes)) → IsTrue (rise (map (λ n. n.0) (with_floor floor s).nodes))
 rise-floored s floor rises = pairs_rise (with_floor floor s).nodes (subst (λ es. T (is_sorted name_cmp es)) (same s.nodes) (sorted_filter (λ e. nat_lt floor e.1.1) (pairs s.nodes) (pairs_sorted s.nodes rises)))
   where
@@ -117,7 +117,7 @@ rise-floored s floor rises = pairs_rise (with_floor floor s).nodes (subst (λ es
       | false ↦ same ns
     ]
 
--- ---- what a landing of a map writes
+-- ---- the names that a landing of a map writes
 
 pub landing-read : (fmt : Format) (s : Standing) (m : Map) → IsMap m → IsReadCommit (landing_of fmt s m)
 landing-read fmt s m sound = (

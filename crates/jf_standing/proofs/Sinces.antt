@@ -1,4 +1,4 @@
--- In a sound standing each node is written before it goes stale.
+-- In a sound standing each node was written before it goes stale.
 use Rattle.std.proofs.Common.{◌≡◌, ℕ, ◌-◌, ◌<◌, ◌≤◌, true, false, inl, inr, Contains, refl, arith}
 use Rattle.std.proofs.lemmas.Bool.Decides.{nat_tests}
 use Rattle.std.specs.List.{AllByRecursion}
@@ -26,11 +26,11 @@ alive-not_yet w n low = grind (arith, nat_tests)
 
 -- ---- a sound standing
 
--- each node is at the head or before
+-- no node has a version above the head
 pub version-low : (fmt : Format) (s : Standing) → IsSound fmt s → (n : Named) → Contains s.nodes n → n.0.version ≤ s.head
 version-low fmt s sound n has = All-of (λ n. n.0.version ≤ s.head) s.nodes n sound.written has
 
--- none went stale at the floor or before
+-- no node went stale at the floor or before
 pub since-high : (fmt : Format) (s : Standing) → IsSound fmt s → (n : Named) → Contains s.nodes n → s.floor < n.2
 since-high fmt s sound n has = elim (All-of _ s.nodes n sound.gone has) [
   | inl none ↦ let low = sound.floor_low in let last = sound.head_last in omega arith

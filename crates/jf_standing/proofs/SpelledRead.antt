@@ -1,4 +1,4 @@
--- What a payload spells is what is known of records that were read.
+-- A record that a payload spells meets what is asked of a record that was read.
 use Rattle.std.proofs.Common.{ℕ, ◌^◌, ◌<◌, List, [], ◌∷◌, ◌++◌, map, reverse, sym, subst, ◌∙◌, arith}
 use Rattle.std.specs.List.{AllByRecursion, cons_option}
 use Rattle.std.proofs.lemmas.Grind.{reverse_onto}

@@ -21,7 +21,7 @@ balance : (v s w : ℕ) (b : Bool) → v < s → 1 ≤ w → one ((nat_le v w &&
 balance v s w true before some = grind (arith, nat_tests)
 balance v s w false before some = grind (arith, nat_tests)
 
--- what is alive and what went stale are as many as what was alive and what was written, at each path
+-- at each path as many nodes are alive or went stale at w as were alive before or were written at w
 pub step-balance : (ns : List Named) (w : ℕ) (p : Path) → 1 ≤ w → AllByRecursion (λ n. n.0.version < n.2) ns
     → count_by (is_at p) (alive_at w ns) + count_by (is_at p) (stale_at w ns) ≡ count_by (is_at p) (alive_at (w - 1) ns) + count_by (is_at p) (written_at w ns)
 step-balance ns w p some before =
@@ -30,7 +30,7 @@ step-balance ns w p some before =
     (All-weaker (λ n. n.0.version < n.2) _ (λ n lt. balance n.0.version n.2 w (is_at p n) lt some) ns before)
     ∙ sym (ap₂ (λ a b. a + b) (count-filter (is_at p) (is_alive (w - 1)) ns) (count-filter (is_at p) (is_written w) ns))
 
--- ---- and for one path of two maps
+-- ---- one path of two maps
 
 pub same_part-turned : (es fs : Part) → same_part es fs ≡ same_part fs es
 same_part-turned es fs = same_test (same_part es fs) (same_part fs es)
@@ -44,7 +44,7 @@ paths true false s = refl
 paths false true s = refl
 paths false false s = refl
 
--- the nodes of the new map and those that go stale are the nodes of the old map and the fresh ones, at each path
+-- at each path as many nodes are in the new map or went stale as are in the old map or are fresh
 pub path-balance : (old new : Part) (p : Path) → one (is_node 0 p new) + one (is_fresh new old p) ≡ one (is_node 0 p old) + one (is_fresh old new p)
 unfolding is_node is_fresh
 path-balance old new [] = refl
@@ -55,7 +55,7 @@ path-balance old new (i ∷ p) =
 
 -- ---- all versions
 
--- if the nodes of a map stand, and what is written and goes stale leads to another, its nodes stand
+-- if the nodes of one map stand, and a step leads to another, then the nodes of that one stand
 pub step-stands : (ns : List Named) (w : ℕ) (old new : Part) → 1 ≤ w → AllByRecursion (λ n. n.0.version < n.2) ns
     → StandAt (λ p. is_node 0 p old) (alive_at (w - 1) ns) → StandAt (is_fresh old new) (written_at w ns) → StandAt (is_fresh new old) (stale_at w ns)
     → StandAt (λ p. is_node 0 p new) (alive_at w ns)
@@ -68,6 +68,6 @@ stands_from fmt s sound (suc k) w at high =
     let step = sound.steps w (omega arith) high in
     step-stands s.nodes w (entries (map_at (w - 1) s.nodes)) (entries (map_at w s.nodes)) (omega arith) (versions-before fmt s sound) (stands_from fmt s sound k (w - 1) (omega arith) (omega arith)) step.fresh step.stale
 
--- at each version from floor to head
+-- at each version from floor to head the nodes of its map stand
 pub stands : (fmt : Format) (s : Standing) → IsSound fmt s → (w : ℕ) → s.floor ≤ w → w ≤ s.head → StandAt (λ p. is_node 0 p (entries (map_at w s.nodes))) (alive_at w s.nodes)
 stands fmt s sound w low high = stands_from fmt s sound (w - s.floor) w (omega arith) high

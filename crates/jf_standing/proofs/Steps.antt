@@ -1,4 +1,4 @@
--- A node one step below another: where it stands, and that the node above tells of it.
+-- A node one step below another: where it stands, and that the node above names it as a child.
 use Rattle.std.proofs.Common.{◌≡◌, ℕ, ◌+◌, ◌*◌, ◌<◌, Bool, true, false, not, ◌&&◌, ◌||◌, cond, ◌==◌, inl, inr, List, [], ◌∷◌, ◌++◌, length, refl, sym, ap, ap₂, ◌∙◌, arith}
 use Rattle.std.proofs.lemmas.Bool.{cases_lt}
 use Rattle.std.proofs.lemmas.Bool.Decides.{nat_tests}
@@ -15,7 +15,7 @@ use Rattle.jf_landing.specs.PartLaws.{with_nibble-past}
 
 -- ---- paths by their last step
 
--- the part one step further
+-- the part under a path with one more step
 pub under-step : (d : ℕ) (q : Path) (i : ℕ) (es : Part) → under d (q ++ i ∷ []) es ≡ with_nibble (d + length q) i (under d q es)
 unfolding under
 under-step d [] i es = ap (λ k. with_nibble k i es) (let e : d ≡ d + 0 = omega arith in e)
@@ -34,7 +34,7 @@ shift true true c e = refl
 shift true false c e = refl
 shift false b c e = refl
 
--- and whether there is a node
+-- whether there is a node at a path with one more step
 pub is_node-step : (d : ℕ) (q : Path) (i : ℕ) (es : Part) → is_node d (q ++ i ∷ []) es ≡ (is_node d q es && parts_at (d + length q) i (under d q es))
 unfolding is_node under
 is_node-step d [] i es = one_true (has_two es && has_one (with_nibble d i es)) ∙ ap (λ k. parts_at k i es) (let e : d ≡ d + 0 = omega arith in e)
@@ -43,7 +43,7 @@ is_node-step d (j ∷ q) i es =
     ap (λ b. has_two es && has_one part && b) (is_node-step (d + 1) q i part ∙ ap (λ k. is_node (d + 1) q part && parts_at k i (under (d + 1) q part)) (let e : (d + 1) + length q ≡ d + length (j ∷ q) = omega arith in e))
     ∙ shift (has_two es) (has_one part) (is_node (d + 1) q part) _
 
--- the front of a node's path is that of a node
+-- a node stands at each front of a node's path
 pub is_node-front : (d : ℕ) (q r : Path) (es : Part) → is_node d (q ++ r) es ≡ true → is_node d q es ≡ true
 unfolding is_node
 is_node-front d [] r es h = refl
@@ -52,7 +52,7 @@ is_node-front d (j ∷ q) r es h =
     let there = left_true (has_two es && has_one part) _ h in
     ap₂ (λ a b. a && b) there (is_node-front (d + 1) q r part (right_true (has_two es && has_one part) _ h))
 
--- ---- what a node tells of its children
+-- ---- the children that a node names
 
 -- whether a node has a child at a nibble
 abbrev pub has_child : ℕ → PlainNode → Bool

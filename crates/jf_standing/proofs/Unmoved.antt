@@ -1,4 +1,4 @@
--- A landing that leaves what is sound changes nothing of the versions before it.
+-- A landing that leaves a sound standing changes nothing of the versions before it.
 use Rattle.std.proofs.Common.{◌≡◌, ℕ, ◌+◌, ◌≤◌, Bool, true, false, ◌&&◌, List, map, length, Contains, refl, sym, ap, ap₂, ◌∙◌, subst, arith}
 use Rattle.std.proofs.lemmas.Slice.Eq.{bytes_eq-Decides}
 use Rattle.std.specs.List.{AllByRecursion, count_by}
@@ -19,20 +19,20 @@ use Rattle.jf_standing.proofs.Steps.{parts_at, has_child, has_child-plain}
 use Rattle.jf_standing.proofs.Closure.{same_nodes}
 use Rattle.jf_standing.proofs.Marks.{marked-name, marked-node, alive-marked, behind, Contains-behind}
 
--- a node at a path
+-- the path of a node that stands at a path
 pub at-tells : (p : Path) (n : Named) → is_at p n ≡ true → n.0.path ≡ p
 at-tells p n is = (bytes_eq-Decides n.0.path p).0 is
 
 pub at-so : (p : Path) (n : Named) → n.0.path ≡ p → is_at p n ≡ true
 at-so p n is = (bytes_eq-Decides n.0.path p).1 is
 
--- a node alive at a version tells of its children in the map
+-- a node alive at a version names exactly the children that it has in the map
 pub node-tells : (fmt : Format) (ns : List Named) (w : ℕ) (r : List ℕ) → IsVersion fmt ns w r → (n : Named) → Contains (alive_at w ns) n → (q : Path) → n.0.path ≡ q → (i : ℕ) → has_child i n.1 ≡ parts_at (0 + length q) i (under 0 q (entries (map_at w ns)))
 node-tells fmt ns w r version n has q at i =
     ap (has_child i) (All-of _ (alive_at w ns) n version.nodes has) ∙ has_child-plain (is_counted fmt) _ (length n.0.path) (under 0 n.0.path (entries (map_at w ns))) i
     ∙ ap (λ p. parts_at (length p) i (under 0 p (entries (map_at w ns)))) at ∙ ap (λ k. parts_at k i (under 0 q (entries (map_at w ns)))) (let e : length q ≡ 0 + length q = omega arith in e)
 
--- if there is a node of the map, one is alive
+-- if the map has a node at a path, a node is alive there
 pub alive-there : (fmt : Format) (s : Standing) → IsSound fmt s → (w : ℕ) → s.floor ≤ w → w ≤ s.head → (q : Path) → is_node 0 q (entries (map_at w s.nodes)) ≡ true → (n : Named) × Contains (alive_at w s.nodes) n × (n.0.path ≡ q)
 alive-there fmt s sound w low high q node =
     let counted = stands fmt s sound w low high q in
@@ -40,7 +40,7 @@ alive-there fmt s sound w low high q node =
     (which.0, which.1, at-tells q which.0 which.2)
 
 module _ (fmt : Format) (s : Standing) (c : Commit) (sound : IsSound fmt s) (goes : Continues s c) (behind_sound : IsSound fmt (with_commit c s)) where
-  -- the nodes of the new map are those of the map before, at each earlier version
+  -- at each earlier version, the nodes of the map after the landing are nodes of the map before it
   old_nodes : (w : ℕ) → s.floor ≤ w → w ≤ s.head → (p : Path) → is_node 0 p (entries (map_at w (behind c s.nodes))) ≡ true → is_node 0 p (entries (map_at w s.nodes)) ≡ true
   old_nodes w low high = same_nodes (entries (map_at w s.nodes)) (entries (map_at w (behind c s.nodes))) (λ q i here there below.
       let n = alive-there fmt s sound w low high q here in
@@ -76,7 +76,7 @@ module _ (fmt : Format) (s : Standing) (c : Commit) (sound : IsSound fmt s) (goe
       implied true b h = subst (λ c. 1 ≤ one c) (sym (h refl)) (omega arith)
       implied false b h = omega arith
 
-  -- so who is alive at an earlier version is as before
+  -- the landing changes no node's being alive at an earlier version
   pub unmoved : (w : ℕ) → s.floor ≤ w → w ≤ s.head → AllByRecursion (λ n. is_alive w (marked c n) ≡ is_alive w n) s.nodes
   unmoved w low high = All-each_element _ s.nodes (λ n has.
       let p = n.0.path in

@@ -1,4 +1,4 @@
--- A landing as an update of a snapshot gives it is the one of the standing, if the snapshot has the versions of the nodes.
+-- The landing that an update of a snapshot writes is that of the standing, if the snapshot has the nodes' versions.
 use Rattle.std.proofs.Common.{◌≡◌, ℕ, ◌+◌, ◌≤◌, true, false, cond, List, [], ◌∷◌, ◌++◌, map, length, refl, sym, ap, ap₂, ◌∙◌, subst, arith}
 use Rattle.std.proofs.lemmas.List.Sorted.{list_any-IsPermutation}
 use Rattle.std.specs.Prelude.{IsTrue}

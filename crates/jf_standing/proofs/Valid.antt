@@ -1,4 +1,4 @@
--- What a landing of a map writes has a spelling.
+-- All that a landing of a map writes has a spelling.
 use Rattle.std.proofs.Common.{◌≡◌, ℕ, zero, suc, ◌+◌, ◌-◌, ◌*◌, ◌<◌, ◌≤◌, ◌^◌, Bool, true, false, not, ◌&&◌, ◌||◌, cond, ◌==◌, List, [], ◌∷◌, ◌++◌, map, filter, length, Contains, refl, sym, ap, ap₂, ◌∙◌, subst, arith, true≢false}
 use Rattle.std.specs.List.{AllByRecursion, list_any, flat_map}
 use Rattle.std.specs.FinMap as fin
@@ -89,7 +89,7 @@ module _ (fmt : Format) (version : ℕ → ℕ) (d : ℕ) (es : Part) (few : len
     | false ↦ rise_each count (n + 1) least (omega arith)
   ]
 
-  -- each entry has its child
+  -- each entry is below one of the children
   listed : (cs : List Child) → 2 ≤ length es → plain_node (is_counted fmt) version d es ≡ node.Inner cs → (e : List ℕ × List ℕ) → Contains es e → list_any (λ c. c.nibble == nibble e.0 d) cs ≡ true
   listed cs two is e has =
       ap (has_child (nibble e.0 d)) (sym is) ∙ has_child-plain (is_counted fmt) version d es (nibble e.0 d)
@@ -145,14 +145,14 @@ module _ (fmt : Format) (version : ℕ → ℕ) (d : ℕ) (es : Part) (few : len
 
 -- ---- nodes
 
--- a node of a part with keys and short values
+-- a node of a part whose keys and values are within the limits has a spelling
 part_valid : (fmt : Format) (version : ℕ → ℕ) (d : ℕ) (es : Part) → length es < 2 ^ 64 → ((i : ℕ) → version i < 2 ^ 64) → AllByRecursion (λ (e : List ℕ × List ℕ). IsKey e.0 × IsBytes e.1 × (length e.1 ≤ 4096)) es → IsNode fmt (plain_node (is_counted fmt) version d es)
 unfolding plain_node
 part_valid fmt version d [] few versions all = tt
 part_valid fmt version d (e ∷ []) few versions all = all.0
 part_valid fmt version d (e ∷ f ∷ es) few versions all = inner_valid fmt version d (e ∷ f ∷ es) few versions (omega arith)
 
--- a node of a map
+-- a node of a map whose keys and values are within the limits has a spelling
 pub node-valid : (fmt : Format) (m : Map) (version : ℕ → ℕ) (p : Path) → AllByRecursion (λ (e : List ℕ × List ℕ). IsKey e.0 × IsBytes e.1 × (length e.1 ≤ 4096)) (entries m) → len m < 2 ^ 64 → ((i : ℕ) → version i < 2 ^ 64) → IsNode fmt (plain_node (is_counted fmt) version (length p) (under 0 p (entries m)))
 node-valid fmt m version p all few versions =
     part_valid fmt version (length p) (under 0 p (entries m)) (omega (arith, length-under 0 p (entries m), fin.len-entries m)) versions (All-each_element _ (under 0 p (entries m)) (λ e has. All-of _ (entries m) e all (under-Contains 0 p (entries m) e has)))

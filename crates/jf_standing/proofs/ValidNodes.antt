@@ -34,7 +34,7 @@ module _ (fmt : Format) (s : Standing) (sound : IsSound fmt s) where
         | inr late ↦ let up = late.0 in let down = late.1 in (n.2 - 1, omega arith, omega arith, alive-so (n.2 - 1) n (omega arith) (omega arith))
       ]
 
-  -- its version of being stale fits
+  -- the version since which a node is stale has 64 bits
   since_fits : (n : Named) → Contains s.nodes n → n.2 < 2 ^ 64
   since_fits n has =
       let last = sound.head_last in

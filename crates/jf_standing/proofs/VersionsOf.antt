@@ -1,4 +1,4 @@
--- The versions of a standing: they are sound, a landing makes one more, and a later floor prunes them.
+-- The versions of a standing: they are sound, a landing adds one, and a later floor prunes them.
 use Rattle.std.proofs.Common.{◌≡◌, ℕ, zero, suc, ◌+◌, ◌-◌, ◌<◌, ◌≤◌, ◌^◌, List, [], ◌∷◌, map, take, length, refl, sym, ap, ap₂, ◌∙◌, arith}
 use Rattle.std.proofs.lemmas.List.{length-map}
 use Rattle.std.specs.Prelude.{slice_index_or}
@@ -54,7 +54,7 @@ roots_down f (r ∷ rs) h (suc n) long deep is =
     ap₂ (λ x xs. x ∷ xs) (ap (λ i. slice_index_or (r ∷ rs) i []) (let e : 0 ≡ h - h = omega arith in e) ∙ is h (omega arith) (omega arith))
     (roots_down f rs (h - 1) n (omega arith) (omega arith) (λ w low high. ap (λ i. slice_index_or (r ∷ rs) i []) (let e : suc (h - 1 - w) ≡ h - w = omega arith in e) ∙ is w (omega arith) (omega arith)))
 
--- ---- what a standing stands for
+-- ---- the versions of a standing
 
 -- a sound standing has sound versions
 pub sound-versions : (fmt : Format) (s : Standing) → IsSound fmt s → AreEntries (leaf_entries s.nodes) → AllByRecursion IsKey s.roots → IsVersions (versions_of s)
@@ -78,7 +78,7 @@ sound-versions fmt s sound keys hashes =
 pub newest-head : (s : Standing) → newest (versions_of s) ≡ head_map s
 newest-head s = ap (λ n. slice_index_or (map (λ w. map_at w s.nodes) (down_from s.head n)) 0 fin.empty) (let e : s.head - s.floor + 1 ≡ suc (s.head - s.floor) = omega arith in e)
 
--- a sound landing makes one version more, with the map after it
+-- a landing that leaves a sound standing adds one version, with the map after it
 versions_after : (fmt : Format) (s : Standing) (c : Commit) (m : Map) → IsSound fmt s → Continues s c → IsSound fmt (with_commit c s) → map_at c.version (behind c s.nodes) ≡ m
     → versions_of (with_commit c s) ≡ record { base = s.base; floor = s.floor; head = s.head + 1; roots = root m ∷ s.roots; maps = m ∷ (versions_of s).maps }
 versions_after fmt s c m sound goes behind_sound read =
@@ -96,11 +96,11 @@ versions_after fmt s c m sound goes behind_sound read =
 landed_newest : (s : Standing) (b : Batch) → record { base = s.base; floor = s.floor; head = s.head + 1; roots = root (apply (head_map s) b) ∷ s.roots; maps = apply (head_map s) b ∷ (versions_of s).maps } ≡ landed b (versions_of s)
 landed_newest s b = ap (λ k. record { base = s.base; floor = s.floor; head = s.head + 1; roots = root (apply k b) ∷ s.roots; maps = apply k b ∷ (versions_of s).maps }) (sym (newest-head s))
 
--- by the batch that is read off it
+-- a landing adds one version by the batch that is read off it
 pub versions-landed : (fmt : Format) (s : Standing) (c : Commit) → IsSound fmt s → Continues s c → IsSound fmt (with_commit c s) → versions_of (with_commit c s) ≡ landed (batch_of s c) (versions_of s)
 versions-landed fmt s c sound goes behind_sound = versions_after fmt s c (apply (head_map s) (batch_of s c)) sound goes behind_sound (map-read fmt s c sound goes behind_sound) ∙ landed_newest s (batch_of s c)
 
--- and a landing of a batch by this batch
+-- a landing of a batch adds one version by that batch
 pub batch-landed : (fmt : Format) (s : Standing) (b : Batch) → IsSound fmt s → AreEntries (leaf_entries s.nodes) → IsBatch b → len (apply (head_map s) b) ≤ 2 ^ 63 → s.head + 1 < never
     → Continues s (landing_of fmt s (apply (head_map s) b)) × IsSound fmt (landed_on fmt (apply (head_map s) b) s) × (versions_of (landed_on fmt (apply (head_map s) b) s) ≡ landed b (versions_of s))
 batch-landed fmt s b sound keys batch room last =
@@ -111,7 +111,7 @@ batch-landed fmt s b sound keys batch room last =
     let behind_sound = lands fmt s m sound old own_keys last room in
     (goes, behind_sound, versions_after fmt s (landing_of fmt s m) m sound goes behind_sound (map-lands fmt s m sound old own_keys last) ∙ landed_newest s b)
 
--- a later floor prunes
+-- a later floor prunes the versions
 pub versions-floored : (s : Standing) (f : ℕ) → s.floor ≤ f → f ≤ s.head → versions_of (with_floor f s) ≡ pruned f (versions_of s)
 versions-floored s f rises within =
     ap (λ ms. record { base = s.base; floor = f; head = s.head; roots = s.roots; maps = ms })

@@ -60,7 +60,7 @@ module _ (fmt : Format) where
   by_name_kept : (ns : List Named) → nodes_by_name (map (kept fmt) ns) ≡ map (kept fmt) (nodes_by_name ns)
   by_name_kept ns = ap (λ es. map as_named (by_name es)) (apart_kept ns) ∙ ap (map as_named) (by_name-values rest_kept (map apart ns)) ∙ named_kept (by_name (map apart ns))
 
-  -- ---- what is built anew
+  -- ---- the standing built anew
 
   landed_kept : (m : Map) (u : Standing) → landed_on fmt m (standing_in fmt u) ≡ standing_in fmt (landed_on format.Two m u)
   landed_kept m u = ap (λ c. with_commit c (standing_in fmt u)) (landing_kept fmt u m) ∙ commit_kept fmt u (landing_of format.Two u m)
@@ -95,7 +95,7 @@ module _ (fmt : Format) where
       let ms = map (λ w. map_at w s.nodes) (up_from (s.floor + 1) (s.head - s.floor)) in
       ap (λ t. built fmt t ms) (floor_kept_of s) ∙ built_kept (floor_of format.Two s) ms
 
--- ---- it depends on the maps and the versions of nodes alone
+-- ---- the standing built anew depends on maps and versions of nodes alone
 
 nodes_same : (fmt : Format) (v w : Path → ℕ) (xs : List (Path × Part)) → ((p : Path) → v p ≡ w p) → map (node_of fmt v) xs ≡ map (node_of fmt w) xs
 nodes_same fmt v w [] same = refl

@@ -1,4 +1,4 @@
--- Standings built of maps: of one map, and of others landed on it in turn.
+-- Standings built from maps: from one map, and from later maps landed on it in turn.
 use Rattle.std.specs.Prelude.{ℕ, zero, suc, ◌+◌, ◌-◌, List, [], ◌∷◌, ◌++◌, map, reverse, drop, length}
 use Rattle.std.specs.FinMap as fin
 use Rattle.jf_path.specs.declared.name.NodeName.{NodeName}
@@ -17,15 +17,15 @@ use Rattle.jf_payload.specs.declared.records.Commit.{Commit}
 use Rattle.jf_payload.specs.declared.records.Record.{Record}
 use Rattle.jf_payload.specs.declared.records.Record.TheVariants as «record»
 
--- a node of a map, by the versions of all nodes
+-- a node of a map with its name, not stale; `version` gives the version of the node at each path
 abbrev pub node_of : Format → (Path → ℕ) → Path × Part → Named
 node_of fmt version x = (record { version = version x.0; path = x.0 }, plain_node (is_counted fmt) (λ i. version (x.0 ++ i ∷ [])) (length x.0) x.1, never)
 
--- one map
+-- a standing with one version, its floor: the nodes of one map
 abbrev pub floor_standing : Format → ℕ → ℕ → List (List ℕ) → Map → (Path → ℕ) → Standing
 floor_standing fmt base floor roots m version = record { base = base; floor = floor; head = floor; roots = roots; nodes = map (node_of fmt version) (nodes m) }
 
--- one map whose nodes are all of one version
+-- a standing of one map whose nodes are all of one version
 abbrev pub imported_standing : Format → ℕ → Map → Standing
 imported_standing fmt version m = floor_standing fmt version version (root m ∷ []) m (λ path. version)
 
@@ -33,43 +33,43 @@ imported_standing fmt version m = floor_standing fmt version version (root m ∷
 abbrev pub new_standing : Format → Standing
 new_standing fmt = imported_standing fmt 0 fin.empty
 
--- one map more
+-- a standing after the landing of one map
 abbrev pub landed_on : Format → Map → Standing → Standing
 landed_on fmt m s = with_commit (landing_of fmt s m) s
 
--- and others in turn
+-- a standing after the landings of maps, one after another
 abbrev pub built : Format → Standing → List Map → Standing
 built fmt s [] = s
 built fmt s (m ∷ ms) = built fmt (landed_on fmt m s) ms
 
--- the landings of batches in turn
+-- the landings of batches, one after another
 abbrev pub landings_of : Format → Standing → List Batch → List Commit
 landings_of fmt s [] = []
 landings_of fmt s (b ∷ bs) = landing_of fmt s (apply (head_map s) b) ∷ landings_of fmt (landed_on fmt (apply (head_map s) b) s) bs
 
--- what these landings leave
+-- a standing after the landings of batches, one after another
 abbrev pub all_landed : Format → Standing → List Batch → Standing
 all_landed fmt s [] = s
 all_landed fmt s (b ∷ bs) = all_landed fmt (landed_on fmt (apply (head_map s) b) s) bs
 
--- so many versions from w up
+-- the n versions from w up
 abbrev pub up_from : ℕ → ℕ → List ℕ
 up_from w zero = []
 up_from w (suc n) = w ∷ up_from (w + 1) n
 
--- the floor of a standing, built anew of what can be read off: the map there with the versions of its nodes, and the roots before
+-- the floor of a standing, built anew: the map there with the versions of its nodes, and the roots of earlier versions
 abbrev pub floor_of : Format → Standing → Standing
 floor_of fmt s = floor_standing fmt s.base s.floor (root (map_at s.floor s.nodes) ∷ drop (s.head - s.floor + 1) s.roots) (map_at s.floor s.nodes) (version_at s.floor s.nodes)
 
--- the whole of it, built anew: each later map landed on that floor in turn
+-- a standing built anew: each later map is landed on its floor, one after another
 abbrev pub rebuilt : Format → Standing → Standing
 rebuilt fmt s = built fmt (floor_of fmt s) (map (λ w. map_at w s.nodes) (up_from (s.floor + 1) (s.head - s.floor)))
 
--- a named node as a name and the rest
+-- a named node as a name and a value
 abbrev pub apart : Named → NodeName × (PlainNode × ℕ)
 apart n = (n.0, (n.1, n.2))
 
--- and back
+-- a name and a value as a named node
 abbrev pub as_named : NodeName × (PlainNode × ℕ) → Named
 as_named e = (e.0, e.1.0, e.1.1)
 

@@ -1,4 +1,4 @@
--- Laws on records, and on records one after another.
+-- Laws of records, one after another.
 use Rattle.std.specs.Prelude.{◌≡◌, ◌↔◌, ◌⊎◌, ℕ, List, Some}
 use Rattle.jf_payload.specs.Reading.{spelled}
 use Rattle.jf_model.specs.Versions.{IsVersions}
@@ -14,15 +14,15 @@ use Rattle.jf_standing.specs.Leading.{Item, AllLead, OneFailsAt, AreRead}
 use Rattle.jf_payload.specs.declared.records.Commit.{Commit}
 use Rattle.jf_payload.specs.declared.records.Record.{Record}
 
--- what a record makes of a sound standing is a function of it
+-- a record makes of a sound standing what the function `next_standing` says
 abbrev pub NextIsTakes : Type 0
 NextIsTakes = (fmt : Format) (s s' : Standing) (r : Record) → IsSound fmt s → AreEntries (leaf_entries s.nodes) → IsReadRecord r → (next_standing fmt s r ≡ Some s') ↔ Takes fmt s r s'
 
--- keys and values stay such after a landing
+-- after a landing keys still have 32 bytes and values still are bytes
 abbrev pub KeysStay : Type 0
 KeysStay = (s : Standing) (c : Commit) → AreEntries (leaf_entries s.nodes) → AreEntries (fresh_leaves c) → AreEntries (leaf_entries (with_commit c s).nodes)
 
--- what a first record gives is a function of it
+-- a first record gives what the function `begin` says
 abbrev pub BeginIsGives : Type 0
 BeginIsGives = (fmt : Format) (r : Record) (s : Standing) → IsReadFirst r → (begin fmt r ≡ Some s) ↔ Gives fmt r s
 
@@ -32,22 +32,22 @@ SpelledIsRead = (fmt : Format) (kind : ℕ) (payload : List ℕ) (r : Record) �
 
 -- ---- records one after another
 
--- they lead to a standing, or there is a first one that nothing sound follows
+-- records lead to a standing, or one of them is the first that isn't sound
 abbrev pub ItemsAreJudged : Type 0
 ItemsAreJudged = (fmt : Format) (x : Item) (xs : List Item) → AreRead x xs → ((s : Standing) × AllLead fmt x xs s) ⊎ ((at : ℕ) × OneFailsAt fmt x xs at)
 
--- they do not both lead to one and fail
+-- records that lead to a standing don't fail
 abbrev pub NeverBoth : Type 0
 NeverBoth = (fmt : Format) (x : Item) (xs : List Item) (s : Standing) (at : ℕ) → AreRead x xs → AllLead fmt x xs s → OneFailsAt fmt x xs at → ⊥
 
--- they lead to one standing at most
+-- records lead to at most one standing
 abbrev pub ItemsLeadToOne : Type 0
 ItemsLeadToOne = (fmt : Format) (x : Item) (xs : List Item) (s t : Standing) → AreRead x xs → AllLead fmt x xs s → AllLead fmt x xs t → s ≡ t
 
--- which is sound, and so are its versions
+-- the standing that records lead to is sound, and so are its versions
 abbrev pub ItemsLeadToSound : Type 0
 ItemsLeadToSound = (fmt : Format) (x : Item) (xs : List Item) (s : Standing) → AreRead x xs → AllLead fmt x xs s → IsSound fmt s × IsVersions (versions_of s)
 
--- they fail at one place at most
+-- records fail at no more than one offset
 abbrev pub ItemsFailOnce : Type 0
 ItemsFailOnce = (fmt : Format) (x : Item) (xs : List Item) (at at' : ℕ) → AreRead x xs → OneFailsAt fmt x xs at → OneFailsAt fmt x xs at' → at ≡ at'

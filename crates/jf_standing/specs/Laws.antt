@@ -1,4 +1,4 @@
--- Laws on standings: what stands in a sound one, and what landings and floors make of it.
+-- Laws of standings: which nodes stand in a sound one, and what landings and floors make of it.
 use Rattle.std.specs.Prelude.{◌≡◌, ◌↔◌, ℕ, ◌+◌, ◌<◌, ◌≤◌, ◌^◌, true, false, if◌then◌else◌, IsTrue, List, [], ◌∷◌, ◌++◌, map, length}
 use Rattle.std.specs.List.{AllByRecursion}
 use Rattle.std.specs.List.Sorted.{IsPermutation}
@@ -29,41 +29,41 @@ NodesStand =
     (fmt : Format) (s : Standing) (w : ℕ) → IsSound fmt s → s.floor ≤ w → w ≤ s.head
     → StandAt (λ p. is_node 0 p (entries (map_at w s.nodes))) (alive_at w s.nodes) × AllByRecursion (IsNodeOf fmt w s.nodes) (alive_at w s.nodes)
 
--- what a sound standing stands for is sound
+-- the versions of a sound standing are sound
 abbrev pub VersionsAreSound : Type 0
 VersionsAreSound = (fmt : Format) (s : Standing) → IsSound fmt s → AreEntries (leaf_entries s.nodes) → AllByRecursion IsKey s.roots → IsVersions (versions_of s)
 
--- a landing of a map over a sound standing goes on from its head, leaves what is sound, and that map is then the head's
+-- a landing of a map continues from the head of a sound standing and leaves a sound one, whose newest map is that map
 abbrev pub LandingsAreSound : Type 0
 LandingsAreSound =
     (fmt : Format) (s : Standing) (m : Map) → IsSound fmt s → AreEntries (leaf_entries s.nodes) → IsMap m → len m ≤ 2 ^ 63 → s.head + 1 < never
     → Continues s (landing_of fmt s m) × IsSound fmt (with_commit (landing_of fmt s m) s) × (map_at (s.head + 1) (with_commit (landing_of fmt s m) s).nodes ≡ m)
 
--- and what goes on from the head and leaves what is sound is a landing of the map that is then the head's
+-- a landing that continues from the head and leaves a sound standing is a landing of that standing's newest map
 abbrev pub SoundIsLanding : Type 0
 SoundIsLanding =
     (fmt : Format) (s : Standing) (c : Commit) → IsSound fmt s → AreEntries (leaf_entries s.nodes) → AreEntries (fresh_leaves c) → IsInOrder c → Continues s c → IsSound fmt (with_commit c s)
     → c ≡ landing_of fmt s (map_at c.version (with_commit c s).nodes)
 
--- so a landing that was read is decided by the batch that is read off it: it is sound exactly if a landing of that batch writes it
+-- a landing that was read leaves a sound standing exactly if it is a landing of the batch that is read off it
 abbrev pub LandingsAreDecided : Type 0
 LandingsAreDecided =
     (fmt : Format) (s : Standing) (c : Commit) → IsSound fmt s → AreEntries (leaf_entries s.nodes) → AreEntries (fresh_leaves c) → IsInOrder c
     → (Continues s c × IsSound fmt (with_commit c s)) ↔ ((s.head + 1 < never) × (len (apply (head_map s) (batch_of s c)) ≤ 2 ^ 63) × (c ≡ landing_of fmt s (apply (head_map s) (batch_of s c))))
 
--- which is a batch in any case
+-- what is read off a landing is a batch
 abbrev pub ReadIsBatch : Type 0
 ReadIsBatch = (s : Standing) (c : Commit) → AreEntries (leaf_entries s.nodes) → AreEntries (fresh_leaves c) → IsBatch (batch_of s c)
 
--- and it makes the next version
+-- a landing that leaves a sound standing makes the next version, by the batch that is read off it
 abbrev pub LandingsLand : Type 0
 LandingsLand = (fmt : Format) (s : Standing) (c : Commit) → IsSound fmt s → Continues s c → IsSound fmt (with_commit c s) → versions_of (with_commit c s) ≡ landed (batch_of s c) (versions_of s)
 
--- a later floor leaves what is sound, with the versions from it on
+-- a later floor leaves a sound standing, with the versions from it on
 abbrev pub FloorsPrune : Type 0
 FloorsPrune = (fmt : Format) (s : Standing) (floor : ℕ) → IsSound fmt s → s.floor ≤ floor → floor ≤ s.head → IsSound fmt (with_floor floor s) × (versions_of (with_floor floor s) ≡ pruned floor (versions_of s))
 
--- a landing of a batch leaves what is sound, with one version more by that batch
+-- a landing of a batch leaves a sound standing, with one more version by that batch
 abbrev pub BatchesLand : Type 0
 BatchesLand =
     (fmt : Format) (s : Standing) (b : Batch) → IsSound fmt s → AreEntries (leaf_entries s.nodes) → IsBatch b → len (apply (head_map s) b) ≤ 2 ^ 63 → s.head + 1 < never
@@ -75,23 +75,23 @@ GroupsLand =
     (fmt : Format) (s : Standing) (bs : List Batch) → IsSound fmt s → AreEntries (leaf_entries s.nodes) → AllByRecursion IsBatch bs → len (head_map s) + key_count bs ≤ 2 ^ 63 → s.head + length bs < never
     → TakesCommits fmt s (landings_of fmt s bs) (all_landed fmt s bs) × IsSound fmt (all_landed fmt s bs) × (versions_of (all_landed fmt s bs) ≡ land_all bs (versions_of s))
 
--- the names that a landing writes and makes stale rise, and its keys and values are such
+-- the names that a landing writes and marks stale rise, its keys have 32 bytes, and its values are bytes
 abbrev pub LandingsAreRead : Type 0
 LandingsAreRead = (fmt : Format) (s : Standing) (m : Map) → IsMap m → IsReadCommit (landing_of fmt s m)
 
--- and all of it has a spelling, if values have at most 4,096 bytes
+-- all that a landing writes has a spelling, if values have at most 4,096 bytes
 abbrev pub LandingsAreValid : Type 0
 LandingsAreValid =
     (fmt : Format) (s : Standing) (m : Map) → AreEntries (leaf_entries s.nodes) → IsMap m → AllByRecursion (λ (e : List ℕ × List ℕ). length e.1 ≤ 4096) (entries m) → len m ≤ 2 ^ 63 → s.head + 1 < never
     → AllByRecursion (λ x. IsName x.0 × IsNode fmt x.1) (landing_of fmt s m).fresh × AllByRecursion IsName (landing_of fmt s m).stale × IsKey (landing_of fmt s m).root
 
--- names that rise go on to rise after a landing and under a later floor
+-- names that rise still rise after a landing and under a later floor
 abbrev pub NamesRise : Type 0
 NamesRise =
     (fmt : Format) (s : Standing) (c : Commit) (floor : ℕ) → IsSound fmt s → IsTrue (rise (map (λ n. n.0) s.nodes)) → Continues s c → IsInOrder c
     → IsTrue (rise (map (λ n. n.0) (with_commit c s).nodes)) × IsTrue (rise (map (λ n. n.0) (with_floor floor s).nodes))
 
--- a batch adds no more entries than it has words
+-- a batch adds at most as many entries as it has changes
 abbrev pub RoomIsLeft : Type 0
 RoomIsLeft = (m : Map) (b : Batch) → len (apply m b) ≤ len m + length b
 
@@ -104,13 +104,13 @@ UpdatesAreLandings =
     → ((p : Path) → is_node 0 p (entries m) ≡ true → after p ≡ (if is_fresh (entries (head_map s)) (entries m) p then s.head + 1 else before p))
     → map (λ (x : Path × Part). (record { version = s.head + 1; path = x.0 }, plain_node (is_counted fmt) (λ i. after (x.0 ++ i ∷ [])) (length x.0) x.1)) (fresh (head_map s) m) ≡ (landing_of fmt s m).fresh
 
--- and so are the names of the nodes that are stale, once they are in order
+-- the names of the nodes that are stale by the versions of the snapshots, in order, are those of the landing
 abbrev pub StaleNamesAreLandings : Type 0
 StaleNamesAreLandings =
     (fmt : Format) (s : Standing) (m : Map) (before : Path → ℕ) (names : List NodeName)
     → ((p : Path) → is_node 0 p (entries (head_map s)) ≡ true → before p ≡ version_at s.head s.nodes p)
     → IsPermutation (map (λ (x : Path × Part). record { version = before x.0; path = x.0 }) (stale (head_map s) m)) names → IsTrue (rise names) → names ≡ (landing_of fmt s m).stale
 
--- a node without counts is the one with counts, with these taken away
+-- a node without counts is the node with counts, from which the counts are left out
 abbrev pub CountsAreExtra : Type 0
 CountsAreExtra = (version : ℕ → ℕ) (d : ℕ) (es : Part) → plain_node false version d es ≡ uncounted (plain_node true version d es)

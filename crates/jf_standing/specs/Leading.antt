@@ -1,4 +1,4 @@
--- Records one after another: what they lead to, or the first of them that nothing sound follows.
+-- Records one after another: the standing that they lead to, or the first of them that isn't sound.
 use Rattle.std.specs.Prelude.{◌≡◌, ◌⊎◌, ℕ, List, [], ◌∷◌, Option, Some, IfSome}
 use Rattle.std.specs.List.{AllByRecursion}
 use Rattle.jf_codec.specs.declared.format.Format.{Format}
@@ -8,36 +8,36 @@ use Rattle.jf_standing.specs.Next.{IsReadRecord}
 use Rattle.jf_standing.specs.Begin.{IsReadFirst}
 use Rattle.jf_payload.specs.declared.records.Record.{Record}
 
--- what stands at an offset: a record, or none that can be read
+-- an item of a journal: an offset, and the record there, or None if its payload spells no record
 abbrev pub Item : Type 0
 Item = ℕ × Option Record
 
--- the record that stands there is taken, after others
+-- the record of an item is taken, after others
 abbrev pub ItemFollows : Format → Standing → Item → Standing → Type 0
 ItemFollows fmt s x s' = (r : Record) × (x.1 ≡ Some r) × Takes fmt s r s'
 
--- the record that stands there gives a standing, as the first
+-- the record of an item gives a standing, as the first one
 abbrev pub ItemBegins : Format → Item → Standing → Type 0
 ItemBegins fmt x s = (r : Record) × (x.1 ≡ Some r) × Gives fmt r s
 
--- all records after the first
+-- the records after the first lead from one standing to another
 abbrev pub Leads : Format → Standing → List Item → Standing → Type 0
 Leads fmt s [] s' = s' ≡ s
 Leads fmt s (x ∷ xs) s' = (mid : Standing) × ItemFollows fmt s x mid × Leads fmt mid xs s'
 
--- the offset of the first record that nothing sound follows
+-- the offset of the first record that isn't taken
 abbrev pub FailsAt : Format → Standing → List Item → ℕ → Type 0
 FailsAt fmt s [] at = ⊥
 FailsAt fmt s (x ∷ xs) at = ((at ≡ x.0) × ((s' : Standing) → ItemFollows fmt s x s' → ⊥)) ⊎ ((mid : Standing) × ItemFollows fmt s x mid × FailsAt fmt mid xs at)
 
--- all records, with the first
+-- all records, with the first, lead to a standing
 abbrev pub AllLead : Format → Item → List Item → Standing → Type 0
 AllLead fmt x xs s' = (s : Standing) × ItemBegins fmt x s × Leads fmt s xs s'
 
--- the offset of the first of all records that is not sound
+-- the offset of the first of all records that isn't sound
 abbrev pub OneFailsAt : Format → Item → List Item → ℕ → Type 0
 OneFailsAt fmt x xs at = ((at ≡ x.0) × ((s : Standing) → ItemBegins fmt x s → ⊥)) ⊎ ((s : Standing) × ItemBegins fmt x s × FailsAt fmt s xs at)
 
--- what is known of items that were read
+-- what always holds of items that were read
 abbrev pub AreRead : Item → List Item → Type 0
 AreRead x xs = IfSome x.1 IsReadFirst × AllByRecursion (λ (y : Item). IfSome y.1 IsReadRecord) xs

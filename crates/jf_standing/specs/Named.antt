@@ -13,7 +13,7 @@ use Rattle.jf_model.specs.Nodes.{Path}
 abbrev pub Named : Type 0
 Named = NodeName × PlainNode × ℕ
 
--- the version that stands for none: a node that is not stale has it
+-- stands in place of the version since which a node is stale, if the node isn't stale
 abbrev pub never : ℕ
 never = 2 ^ 64 - 1
 
@@ -23,11 +23,11 @@ never = 2 ^ 64 - 1
 abbrev pub is_alive : ℕ → Named → Bool
 is_alive w n = nat_le n.0.version w && nat_lt w n.2
 
--- whether it was written at w
+-- whether a node was written at w
 abbrev pub is_written : ℕ → Named → Bool
 is_written w n = n.0.version == w
 
--- whether it went stale at w
+-- whether a node went stale at w
 abbrev pub is_stale : ℕ → Named → Bool
 is_stale w n = n.2 == w
 
@@ -35,11 +35,11 @@ is_stale w n = n.2 == w
 abbrev pub alive_at : ℕ → List Named → List Named
 alive_at w ns = filter (is_alive w) ns
 
--- those written at w
+-- the nodes written at w
 abbrev pub written_at : ℕ → List Named → List Named
 written_at w ns = filter (is_written w) ns
 
--- those that went stale at w
+-- the nodes that went stale at w
 abbrev pub stale_at : ℕ → List Named → List Named
 stale_at w ns = filter (is_stale w) ns
 
@@ -47,7 +47,7 @@ stale_at w ns = filter (is_stale w) ns
 abbrev pub is_at : Path → Named → Bool
 is_at p n = bytes_eq n.0.path p
 
--- the version of the node that is alive at w at a path, 0 if there is none
+-- the version of the node that is alive at w at a path, 0 if no node is
 abbrev pub version_at : ℕ → List Named → Path → ℕ
 version_at w ns p = slice_index_or (map (λ n. n.0.version) (filter (is_at p) (alive_at w ns))) 0 0
 
@@ -63,7 +63,7 @@ leaf_entry (node.Inner cs) = None
 abbrev pub leaf_entries : List Named → List (List ℕ × List ℕ)
 leaf_entries ns = filter_map (λ n. leaf_entry n.1) ns
 
--- keys of 32 bytes, and values that are bytes
+-- entries whose keys have 32 bytes and whose values are bytes
 abbrev pub AreEntries : List (List ℕ × List ℕ) → Type 0
 AreEntries es = AllByRecursion (λ e. IsKey e.0 × IsBytes e.1) es
 

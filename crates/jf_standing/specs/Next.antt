@@ -1,4 +1,4 @@
--- What a record makes of a sound standing, as a function: none if it is no sound successor.
+-- The standing that a record makes of a sound one, as a function: None if what it makes isn't sound.
 use Rattle.std.specs.Prelude.{◌≡◌, ℕ, ◌+◌, ◌-◌, ◌<◌, ◌≤◌, ◌^◌, Bool, ◌&&◌, if◌then◌else◌, nat_le, nat_lt, IsTrue, List, [], ◌∷◌, map, length, Option, Some, None}
 use Rattle.std.specs.List.{AllByRecursion}
 use Rattle.std.specs.FinMap.{len}
@@ -14,42 +14,42 @@ use Rattle.jf_payload.specs.declared.records.Commit.{Commit}
 use Rattle.jf_payload.specs.declared.records.Record.{Record}
 use Rattle.jf_payload.specs.declared.records.Record.TheVariants as «record»
 
--- whether a landing is what a landing of the batch that is read off it writes
+-- whether a landing writes exactly what a landing of the batch that is read off it writes
 abbrev pub is_next : Format → Standing → Commit → Bool
 is_next fmt s c =
     let m = apply (head_map s) (batch_of s c) in
     nat_lt (s.head + 1) never && (nat_le (len m) (2 ^ 63) && same_commit c (landing_of fmt s m))
 
--- what landings make in turn
+-- the standing after landings, one after another
 abbrev pub next_by_commits : Format → Standing → List Commit → Option Standing
 next_by_commits fmt s [] = Some s
 next_by_commits fmt s (c ∷ cs) = if is_next fmt s c then next_by_commits fmt (with_commit c s) cs else None
 
--- what a floor makes
+-- the standing after a later floor
 abbrev pub next_by_floor : Standing → ℕ → Option Standing
 next_by_floor s floor = if nat_le s.floor floor && nat_le floor s.head then Some (with_floor floor s) else None
 
--- what a record after the first makes
+-- the standing after a record that isn't the first
 abbrev pub next_standing : Format → Standing → Record → Option Standing
 next_standing fmt s («record».Floor floor) = next_by_floor s floor
 next_standing fmt s («record».NodeCommit c) = next_by_commits fmt s (c ∷ [])
 next_standing fmt s («record».Checkpoint generation base floor head roots nodes) = None
 next_standing fmt s («record».Group cs) = next_by_commits fmt s cs
 
--- ---- what is known of a record that was read
+-- ---- records that were read
 
--- names in order, keys of 32 bytes, values that are bytes
+-- a landing that was read: its names rise, its keys have 32 bytes, its values are bytes
 abbrev pub IsReadCommit : Commit → Type 0
 IsReadCommit c = IsInOrder c × AreEntries (fresh_leaves c)
 
--- what is known of a record after the first that was read: the same of each of its landings
+-- what always holds of a record that was read after the first one
 abbrev pub IsReadRecord : Record → Type 0
 IsReadRecord («record».Floor floor) = Unit {0}
 IsReadRecord («record».NodeCommit c) = IsReadCommit c
 IsReadRecord («record».Checkpoint generation base floor head roots nodes) = Unit {0}
 IsReadRecord («record».Group cs) = AllByRecursion IsReadCommit cs
 
--- numbers in order, a root for each version, of 32 bytes, keys and values, and names that rise
+-- a standing that was read: numbers in order, a root of 32 bytes for each version, keys of 32 bytes, names that rise
 pub record IsReadStanding (s : Standing) : Type 0 where
   pub base_low : s.base ≤ s.floor
   pub floor_low : s.floor ≤ s.head

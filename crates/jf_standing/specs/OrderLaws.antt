@@ -1,4 +1,4 @@
--- Laws on the order of nodes, on checkpoints, and on standings that are built of maps.
+-- Laws of the order of nodes, of checkpoints, and of standings built from maps.
 use Rattle.std.specs.Prelude.{◌≡◌, ◌↔◌, ℕ, ◌+◌, ◌<◌, ◌≤◌, ◌^◌, true, List, [], length, Contains}
 use Rattle.std.specs.List.{AllByRecursion}
 use Rattle.std.specs.List.Sorted.{IsPermutation}
@@ -26,13 +26,13 @@ CheckpointsGive =
     (fmt : Format) (generation : ℕ) (s : Standing) → IsSound fmt s
     → Gives fmt (checkpoint_of generation s) (with_nodes (nodes_by_name s.nodes) s) × IsPermutation s.nodes (nodes_by_name s.nodes) × (versions_of (with_nodes (nodes_by_name s.nodes) s) ≡ versions_of s)
 
--- nodes in order are sound exactly if they are what is built anew of the maps and versions that can be read off them
+-- nodes in order are sound exactly if they equal what is built anew from the maps and versions that are read off them
 abbrev pub CheckpointsAreDecided : Type 0
 CheckpointsAreDecided =
     (fmt : Format) (s : Standing) → IsReadStanding s
     → IsSound fmt s ↔ ((version_at s.floor s.nodes [] ≡ s.floor) × ((w : ℕ) → s.floor ≤ w → w ≤ s.head → len (map_at w s.nodes) ≤ 2 ^ 63) × ((rebuilt fmt s).roots ≡ s.roots) × (nodes_by_name (rebuilt fmt s).nodes ≡ s.nodes))
 
--- a sound standing is told by its maps and the versions of the nodes at its floor
+-- a sound standing follows from its maps and the versions of the nodes at its floor
 abbrev pub OneStanding : Type 0
 OneStanding =
     (fmt : Format) (s t : Standing) → IsSound fmt s → IsSound fmt t → t.floor ≡ s.floor → t.head ≡ s.head
@@ -40,7 +40,7 @@ OneStanding =
     → ((p : Path) → is_node 0 p (entries (map_at s.floor s.nodes)) ≡ true → version_at s.floor t.nodes p ≡ version_at s.floor s.nodes p)
     → (n : Named) → Contains s.nodes n → Contains t.nodes n
 
--- maps that are landed in turn on a sound standing leave a sound one
+-- maps landed in turn on a sound standing leave a sound standing
 abbrev pub BuiltIsSound : Type 0
 BuiltIsSound =
     (fmt : Format) (s : Standing) (ms : List Map) → IsSound fmt s → IsMap (map_at s.head s.nodes) → AllByRecursion (λ m. IsMap m × (len m ≤ 2 ^ 63)) ms → s.head + length ms < never

@@ -1,4 +1,4 @@
--- When nodes by name are those of maps, one for each version, each landed on the one before.
+-- A sound standing: its nodes are those of maps, one map for each version, each landed on the map before.
 use Rattle.std.specs.Prelude.{◌≡◌, ◌⊎◌, ℕ, ◌+◌, ◌-◌, ◌<◌, ◌≤◌, ◌^◌, Bool, true, false, cond, IsTrue, List, [], ◌∷◌, ◌++◌, map, length, count_by, slice_index_or}
 use Rattle.std.specs.List.{AllByRecursion, IsDistinct}
 use Rattle.std.specs.FinMap.{entries, len}
@@ -15,11 +15,11 @@ abbrev pub is_counted : Format → Bool
 is_counted format.One = false
 is_counted format.Two = true
 
--- one node at each path that the test picks, and none elsewhere
+-- exactly one node stands at each path that passes the test, and no node elsewhere
 abbrev pub StandAt : (Path → Bool) → List Named → Type 0
 StandAt test ns = (p : Path) → count_by (is_at p) ns ≡ cond (test p) 1 0
 
--- a node is the one that the map at w has at its path, by the versions of the nodes alive there
+-- a node is the one that the map at w has at its path, with the versions of the nodes alive at w
 abbrev pub IsNodeOf : Format → ℕ → List Named → Named → Type 0
 IsNodeOf fmt w ns n = n.1 ≡ plain_node (is_counted fmt) (λ i. version_at w ns (n.0.path ++ i ∷ [])) (length n.0.path) (under 0 n.0.path (entries (map_at w ns)))
 

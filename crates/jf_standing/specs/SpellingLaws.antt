@@ -1,4 +1,4 @@
--- Laws on landings and checkpoints as records that can be spelled.
+-- Laws of landings and checkpoints as records that have a spelling.
 use Rattle.std.specs.Prelude.{◌≡◌, ℕ, ◌+◌, ◌-◌, ◌<◌, ◌≤◌, ◌^◌, List, length}
 use Rattle.std.specs.List.{AllByRecursion}
 use Rattle.std.specs.FinMap.{entries, len}
@@ -14,7 +14,7 @@ use Rattle.jf_standing.specs.Sound.{IsSound}
 use Rattle.jf_standing.specs.Landing.{landing_of}
 use Rattle.jf_standing.specs.Building.{checkpoint_of}
 
--- what a landing writes is a record with a spelling, if values have at most 4,096 bytes, and its lists are counted in 64 bits
+-- a landing is a record with a spelling, if values have at most 4,096 bytes and its lists fewer than 2^64 items
 abbrev pub LandingsAreSpelled : Type 0
 LandingsAreSpelled =
     (fmt : Format) (s : Standing) (m : Map) → AreEntries (leaf_entries s.nodes) → IsMap m → AllByRecursion (λ (e : List ℕ × List ℕ). length e.1 ≤ 4096) (entries m) → len m ≤ 2 ^ 63 → s.head + 1 < never
@@ -24,7 +24,7 @@ LandingsAreSpelled =
 abbrev pub LandingsAreKept : Type 0
 LandingsAreKept = (fmt : Format) (s : Standing) (m : Map) → commit_in fmt (landing_of format.Two s m) ≡ landing_of fmt s m
 
--- the checkpoint of a sound standing is a record with a spelling, in the same way
+-- the checkpoint of a sound standing is a record with a spelling, if its values and numbers are in bounds
 abbrev pub CheckpointsAreSpelled : Type 0
 CheckpointsAreSpelled =
     (fmt : Format) (generation : ℕ) (s : Standing) → IsSound fmt s → AreEntries (leaf_entries s.nodes)

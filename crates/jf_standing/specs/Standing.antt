@@ -1,4 +1,4 @@
--- What records have made so far, and what one more makes of it.
+-- A standing: the named nodes that records have made, with base, floor, head and roots; and what a further record makes.
 use Rattle.std.specs.Prelude.{ℕ, zero, suc, ◌+◌, ◌-◌, Bool, if◌then◌else◌, nat_lt, List, [], ◌∷◌, ◌++◌, map, filter}
 use Rattle.std.specs.List.{list_any}
 use Rattle.std.specs.Ordering.{eq_by_cmp}
@@ -9,7 +9,7 @@ use Rattle.jf_model.specs.Versions.{Versions}
 use Rattle.jf_standing.specs.Named.{Named, never, map_at}
 use Rattle.jf_payload.specs.declared.records.Commit.{Commit}
 
--- what records have made: the numbers, the roots from the head down to the base, and all named nodes
+-- what records have made: base, floor and head, the roots from the head down to the base, and all named nodes
 pub record Standing : Type 0 where
   pub base : ℕ
   pub floor : ℕ
@@ -17,22 +17,22 @@ pub record Standing : Type 0 where
   pub roots : List (List ℕ)
   pub nodes : List Named
 
--- so many versions from w down
+-- the n versions from w down
 abbrev pub down_from : ℕ → ℕ → List ℕ
 down_from w zero = []
 down_from w (suc n) = w ∷ down_from (w - 1) n
 
--- the versions that it stands for: the map of each is that of the leaves alive there
+-- the versions of a standing: the map of each is that of the leaves alive there
 abbrev pub versions_of : Standing → Versions
 versions_of s = record { base = s.base; floor = s.floor; head = s.head; roots = s.roots; maps = map (λ w. map_at w s.nodes) (down_from s.head (s.head - s.floor + 1)) }
 
--- the same with other nodes
+-- a standing with other nodes
 abbrev pub with_nodes : List Named → Standing → Standing
 with_nodes ns s = record { base = s.base; floor = s.floor; head = s.head; roots = s.roots; nodes = ns }
 
 -- ---- records
 
--- whether a name is one of these
+-- whether a name is in a list
 abbrev pub is_named : NodeName → List NodeName → Bool
 is_named name names = list_any (eq_by_cmp name_cmp name) names
 

@@ -1,4 +1,4 @@
--- The records that a standing takes, one after another.
+-- Which records a standing takes, and what they make of it.
 use Rattle.std.specs.Prelude.{◌≡◌, ℕ, ◌+◌, ◌≤◌, IsTrue, List, [], ◌∷◌, map, reverse}
 use Rattle.std.specs.List.{AllByRecursion}
 use Rattle.jf_codec.specs.declared.format.Format.{Format}
@@ -8,29 +8,29 @@ use Rattle.jf_payload.specs.declared.records.Commit.{Commit}
 use Rattle.jf_payload.specs.declared.records.Record.{Record}
 use Rattle.jf_payload.specs.declared.records.Record.TheVariants as «record»
 
--- a landing goes on from the head: it and its nodes have the next version, and each name that it marks stale is that of a node that stands
+-- a landing continues from the head: it and its nodes have the next version, and it marks names of nodes stale
 pub record Continues (s : Standing) (c : Commit) : Type 0 where
   pub next : c.version ≡ s.head + 1
   pub fresh_own : AllByRecursion (λ x. x.0.version ≡ c.version) c.fresh
   pub stale_known : AllByRecursion (λ name. IsTrue (is_named name (map (λ n. n.0) s.nodes))) c.stale
 
--- landings in turn, each of which leaves what is sound
+-- landings one after another, each of which leaves a sound standing
 abbrev pub TakesCommits : Format → Standing → List Commit → Standing → Type 0
 TakesCommits fmt s [] s' = s' ≡ s
 TakesCommits fmt s (c ∷ cs) s' = Continues s c × IsSound fmt (with_commit c s) × TakesCommits fmt (with_commit c s) cs s'
 
--- a floor from the present one to the head, which leaves what is sound
+-- a floor from the present one to the head, which leaves a sound standing
 abbrev pub TakesFloor : Format → Standing → ℕ → Standing → Type 0
 TakesFloor fmt s floor s' = (s.floor ≤ floor) × (floor ≤ s.head) × IsSound fmt s' × (s' ≡ with_floor floor s)
 
--- a record after the first
+-- a record that isn't the first is taken
 abbrev pub Takes : Format → Standing → Record → Standing → Type 0
 Takes fmt s («record».Floor floor) s' = TakesFloor fmt s floor s'
 Takes fmt s («record».NodeCommit c) s' = TakesCommits fmt s (c ∷ []) s'
 Takes fmt s («record».Checkpoint generation base floor head roots nodes) s' = ⊥
 Takes fmt s («record».Group cs) s' = TakesCommits fmt s cs s'
 
--- the first record, which is a sound checkpoint, gives what it lists
+-- a first record gives the standing that it lists: it is a sound checkpoint
 abbrev pub Gives : Format → Record → Standing → Type 0
 Gives fmt («record».Floor floor) s = ⊥
 Gives fmt («record».NodeCommit c) s = ⊥

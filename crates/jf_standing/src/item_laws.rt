@@ -1,19 +1,19 @@
-// Laws on records one after another. These functions do nothing when they run.
+// Laws of records, one after another. These functions do nothing when they run.
 ghost use Rattle.jf_standing.specs.ItemLaws.{NextIsTakes, KeysStay, BeginIsGives, SpelledIsRead, ItemsAreJudged, NeverBoth, ItemsLeadToOne, ItemsLeadToSound, ItemsFailOnce};
 
 use jf_payload::spelled_is_spelling;
 
-/// What a record that was read makes of a sound standing is a function of it.
+/// A record that was read makes of a sound standing what the function `next_standing` says.
 pub fn next_is_takes()
     ensures { NextIsTakes }
 {}
 
-/// Nodes whose keys have 32 bytes, and whose values are bytes, stay such after a landing of such nodes.
+/// If all keys have 32 bytes and all values are bytes, this still holds after a landing that writes only such nodes.
 pub fn keys_stay()
     ensures { KeysStay }
 {}
 
-/// What a first record that was read gives is a function of it.
+/// A first record that was read gives what the function `begin` says.
 pub fn begin_is_gives()
     ensures { BeginIsGives }
 {}
@@ -25,17 +25,17 @@ pub fn spelled_is_read()
     spelled_is_spelling();
 }
 
-/// Records lead to a standing, or one of them is the first that nothing sound follows.
+/// Records lead to a standing, or one of them is the first that isn't sound.
 pub fn items_are_judged()
     ensures { ItemsAreJudged }
 {}
 
-/// Records that lead to a standing have no such first one.
+/// Records that lead to a standing don't fail.
 pub fn never_both()
     ensures { NeverBoth }
 {}
 
-/// Records lead to one standing at most.
+/// Records lead to at most one standing.
 pub fn items_lead_to_one()
     ensures { ItemsLeadToOne }
 {}
@@ -45,7 +45,7 @@ pub fn items_lead_to_sound()
     ensures { ItemsLeadToSound }
 {}
 
-/// The first record that nothing sound follows stands at one offset.
+/// Records fail at no more than one offset.
 pub fn items_fail_once()
     ensures { ItemsFailOnce }
 {}

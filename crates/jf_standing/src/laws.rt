@@ -1,4 +1,4 @@
-// Laws on standings, for proofs of code that stands on them. These functions do nothing when they run.
+// Laws of standings, for proofs of code that uses them. These functions do nothing when they run.
 ghost use Rattle.jf_standing.specs.Laws.{NodesStand, VersionsAreSound, LandingsAreSound, SoundIsLanding, LandingsAreDecided, ReadIsBatch, LandingsLand, BatchesLand, RoomIsLeft, UpdatesAreLandings, StaleNamesAreLandings, CountsAreExtra, FloorsPrune, GroupsLand, LandingsAreRead, LandingsAreValid, NamesRise};
 
 /// The nodes alive at a version are those of its map, one at each path.
@@ -11,7 +11,7 @@ pub fn versions_are_sound()
     ensures { VersionsAreSound }
 {}
 
-/// A landing of a map over a sound standing leaves a sound one, whose newest map is that map.
+/// A landing of a map on a sound standing leaves a sound standing, whose newest map is that map.
 pub fn landings_are_sound()
     ensures { LandingsAreSound }
 {}
@@ -31,22 +31,22 @@ pub fn read_is_batch()
     ensures { ReadIsBatch }
 {}
 
-/// A landing that leaves a sound standing makes one version more, by the batch that is read off it.
+/// A landing that leaves a sound standing makes one more version, by the batch that is read off it.
 pub fn landings_land()
     ensures { LandingsLand }
 {}
 
-/// A landing of a batch makes one version more by that batch.
+/// A landing of a batch makes one more version by that batch.
 pub fn batches_land()
     ensures { BatchesLand }
 {}
 
-/// A batch adds no more entries than it has words.
+/// A batch adds at most as many entries as it has changes.
 pub fn room_is_left()
     ensures { RoomIsLeft }
 {}
 
-/// The nodes that are made with the versions of a snapshot are those of the landing.
+/// The nodes made with the versions of a snapshot are those of the landing.
 pub fn updates_are_landings()
     ensures { UpdatesAreLandings }
 {}
@@ -56,12 +56,12 @@ pub fn stale_names_are_landings()
     ensures { StaleNamesAreLandings }
 {}
 
-/// A node without counts is the one with counts, with these taken away.
+/// A node without counts is the node with counts, from which the counts are left out.
 pub fn counts_are_extra()
     ensures { CountsAreExtra }
 {}
 
-/// A later floor leaves what is sound, with the versions from it on.
+/// A later floor leaves a sound standing, with the versions from it on.
 pub fn floors_prune()
     ensures { FloorsPrune }
 {}
@@ -71,12 +71,12 @@ pub fn groups_land()
     ensures { GroupsLand }
 {}
 
-/// The names that a landing writes rise, and so do those that it makes stale; its keys have 32 bytes, its values are bytes.
+/// The names that a landing writes and marks stale rise, its keys have 32 bytes, and its values are bytes.
 pub fn landings_are_read()
     ensures { LandingsAreRead }
 {}
 
-/// Names that rise go on to rise after a landing and under a later floor.
+/// Names that rise still rise after a landing and under a later floor.
 pub fn names_rise()
     ensures { NamesRise }
 {}

@@ -1,5 +1,5 @@
-//! What the records of a journal of nodes make, one after another: nodes by name, each with the version since which it is
-//! stale, when these are sound, and what a landing writes. Definitions with their laws.
+//! What the records of a journal of nodes make, one after another: nodes by name, each with the version since which it
+//! is stale; when these nodes are sound; and what a landing writes. Definitions with their laws.
 #![tactic(auto)]
 
 mod format_laws;

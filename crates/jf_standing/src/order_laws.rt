@@ -1,4 +1,4 @@
-// Laws on the order of nodes and on checkpoints. These functions do nothing when they run.
+// Laws of the order of nodes and of checkpoints. These functions do nothing when they run.
 ghost use Rattle.jf_standing.specs.OrderLaws.{OrderIsFree, CheckpointsGive, CheckpointsAreDecided, OneStanding, BuiltIsSound, ImportsAreSound, NewIsSound, NodesAreValid, NodesAreKept};
 
 /// What nodes stand for doesn't depend on their order.
@@ -11,7 +11,7 @@ pub fn checkpoints_give()
     ensures { CheckpointsGive }
 {}
 
-/// Nodes that were read are sound exactly if they are what is built anew of the maps and versions that are read off them.
+/// Nodes that were read are sound exactly if they equal what is built anew from their maps and versions.
 pub fn checkpoints_are_decided()
     ensures { CheckpointsAreDecided }
 {}
@@ -21,7 +21,7 @@ pub fn one_standing()
     ensures { OneStanding }
 {}
 
-/// Maps that are landed in turn on a sound standing leave a sound one.
+/// Maps landed in turn on a sound standing leave a sound standing.
 pub fn built_is_sound()
     ensures { BuiltIsSound }
 {}

@@ -1,7 +1,7 @@
-// Laws on landings and checkpoints as records. These functions do nothing when they run.
+// Laws of landings and checkpoints as records. These functions do nothing when they run.
 ghost use Rattle.jf_standing.specs.SpellingLaws.{LandingsAreSpelled, LandingsAreKept, CheckpointsAreSpelled};
 
-/// What a landing writes is a record that has a spelling, if values have at most 4,096 bytes.
+/// A landing is a record that has a spelling, if values have at most 4,096 bytes.
 pub fn landings_are_spelled()
     ensures { LandingsAreSpelled }
 {}

@@ -1,4 +1,4 @@
--- By the laws on what is read.
+-- The clauses follow from the laws of reading names.
 use Rattle.std.proofs.Common.{arith}
 use Rattle.jf_codec.proofs.Names.{is_name_found, is_only_name}
 use Rattle.jf_codec.proofs.name.decode_name.Goals as goal

@@ -1,4 +1,4 @@
--- What is left is no longer than the whole.
+-- The bytes after a name are no more than all bytes, so their difference is a length.
 use Rattle.std.proofs.Common.{arith}
 use Rattle.jf_codec.proofs.Names.{name_short}
 use Rattle.jf_codec.proofs.name.measured.Goals as goal

@@ -1,4 +1,4 @@
--- The count and the packed bytes are those of a path.
+-- The count and the packed nibbles that were read are those of a path.
 use Rattle.std.proofs.Common.{◌≡◌, ℕ, ◌<◌, ◌∷◌, get_or, ap, ◌∙◌, arith, rules}
 use Rattle.jf_codec.specs.Reading.{path_at}
 use Rattle.jf_codec.proofs.Names.{answer, path_answer, front_is, in_front}

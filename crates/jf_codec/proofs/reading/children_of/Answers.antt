@@ -1,4 +1,4 @@
--- One nibble after the other.
+-- Each round reads the child at one nibble, if there is one.
 use Rattle.std.proofs.Common.{◌≡◌, ◌∷◌, [], ◌++◌, inr, sym, ap₂, ◌∙◌}
 use Rattle.jf_codec.specs.Reading.{child_at, children_at}
 use Rattle.jf_codec.proofs.Loop.{passes, goes_on, ends, is_done, rise_push, between_push, between_next, child_named}

@@ -1,4 +1,4 @@
--- What was read and what is still read is the whole, and the children rise.
+-- The children read so far and those still to be read are all children, and they rise.
 use Rattle.std.proofs.Common.{◌≡◌, ◌-◌}
 use Rattle.jf_codec.specs.Reading.{children_at}
 use Rattle.jf_codec.proofs.Loop.{with_front, RiseBetween}

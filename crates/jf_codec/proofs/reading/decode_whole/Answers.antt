@@ -1,4 +1,4 @@
--- By the laws on what is read.
+-- The clauses follow from the laws of reading nodes.
 use Rattle.std.proofs.Common.{arith}
 use Rattle.jf_codec.proofs.Nodes.{is_whole_found, is_only_whole}
 use Rattle.jf_codec.proofs.reading.decode_whole.Goals as goal

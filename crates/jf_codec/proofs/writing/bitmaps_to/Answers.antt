@@ -1,4 +1,4 @@
--- No sum is above that of all bits.
+-- No sum of bits is above that of all sixteen.
 use Rattle.std.proofs.Common.{rules}
 use Rattle.jf_codec.proofs.Bits.{bit_fits, leaf_bit_fits}
 use Rattle.jf_codec.proofs.writing.bitmaps_to.Goals as goal

@@ -1,4 +1,4 @@
--- What is gathered, and what is still to come, is the whole.
+-- The bits gathered so far and those of the children still to come make the whole bitmap.
 use Rattle.std.proofs.Common.{◌≡◌, ◌+◌, drop}
 use Rattle.jf_codec.specs.Spelling.{bitmap, leaves}
 use Rattle.jf_codec.proofs.writing.bitmaps_to.Given as goal

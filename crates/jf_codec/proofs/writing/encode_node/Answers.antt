@@ -1,4 +1,4 @@
--- A node is all that its format keeps of it.
+-- A node is all that its own format keeps of it.
 use Rattle.std.proofs.Common.{sym, subst}
 use Rattle.jf_codec.specs.Spelling.{IsNode}
 use Rattle.jf_codec.proofs.Counted.{in_format-same}

@@ -1,4 +1,4 @@
--- The children stand at nibbles, as what the format keeps of them does.
+-- The children of a node stand at nibbles, since those that the format keeps do.
 use Rattle.std.proofs.Common.{subst}
 use Rattle.jf_codec.specs.Spelling.{IsNode}
 use Rattle.jf_codec.specs.Counted.{in_format}

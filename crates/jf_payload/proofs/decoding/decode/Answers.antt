@@ -1,4 +1,4 @@
--- By the laws on what is read.
+-- The clauses follow from the laws of reading records.
 use Rattle.std.proofs.Common.{arith}
 use Rattle.jf_payload.proofs.WholeRecords.{is_exact, is_found, is_bad, is_only}
 use Rattle.jf_payload.proofs.decoding.decode.Goals as goal

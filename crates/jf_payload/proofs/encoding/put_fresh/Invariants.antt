@@ -1,4 +1,4 @@
--- What stands before the present one is written.
+-- The nodes before the present one are written.
 use Rattle.std.proofs.Common.{◌≡◌, ◌++◌, take}
 use Rattle.std.specs.List.{flat_map}
 use Rattle.jf_payload.specs.Spelling.{fresh_bytes}

@@ -1,4 +1,4 @@
--- What was read and what is still read is the whole.
+-- The landings read so far and those still to be read are all landings.
 use Rattle.std.proofs.Common.{◌≡◌, ◌-◌, [], true}
 use Rattle.jf_payload.specs.Spelling.{follow}
 use Rattle.jf_payload.specs.Reading.{many_at, commit_at}

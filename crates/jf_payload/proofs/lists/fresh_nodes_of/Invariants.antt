@@ -1,4 +1,4 @@
--- What was read and what is still read is the whole.
+-- The nodes read so far and those still to be read are all nodes.
 use Rattle.std.proofs.Common.{◌≡◌, ◌-◌, []}
 use Rattle.jf_payload.specs.Reading.{many_at, fresh_at, fresh_rise}
 use Rattle.jf_payload.proofs.lists.fresh_nodes_of.Given as goal

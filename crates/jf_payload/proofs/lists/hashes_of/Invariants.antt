@@ -1,4 +1,4 @@
--- What was read and what is still read is the whole.
+-- The hashes read so far and those still to be read are all hashes.
 use Rattle.std.proofs.Common.{◌≡◌, ◌-◌, []}
 use Rattle.jf_payload.specs.Reading.{many_at, hash_at, any_hashes}
 use Rattle.jf_payload.proofs.lists.hashes_of.Given as goal

@@ -1,4 +1,4 @@
--- One behind the other.
+-- Each round reads one more node.
 use Rattle.std.proofs.Common.{[], Err, ap}
 use Rattle.std.proofs.lemmas.Result.{err_from_is_err_and}
 use Rattle.jf_payload.specs.Reading.{many_at, live_at, live_rise}

@@ -1,4 +1,4 @@
--- One behind the other.
+-- Each round reads one more name.
 use Rattle.std.proofs.Common.{[], Err, ap}
 use Rattle.std.proofs.lemmas.Result.{err_from_is_err_and}
 use Rattle.jf_path.specs.Names.{rise}

@@ -1,4 +1,4 @@
--- What was read and what is still read is the whole.
+-- The names read so far and those still to be read are all names.
 use Rattle.std.proofs.Common.{◌≡◌, ◌-◌, []}
 use Rattle.jf_path.specs.Names.{rise}
 use Rattle.jf_payload.specs.Reading.{many_at, named_at}

@@ -1,4 +1,4 @@
--- The last version decides.
+-- Versions rise by one with one more at the end if it is the last one plus one.
 use Rattle.std.proofs.Common.{sym, ap, ◌∙◌, ◌-◌, length}
 use Rattle.std.specs.Prelude.{slice_get}
 use Rattle.jf_payload.proofs.Rising.{follow-after}

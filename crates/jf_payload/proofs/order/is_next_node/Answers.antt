@@ -1,4 +1,4 @@
--- The last name decides.
+-- The names of nodes rise with one more at the end if it is above the last one.
 use Rattle.std.proofs.Common.{sym, ap, ◌∙◌, ◌-◌, length, is_lt}
 use Rattle.std.specs.Prelude.{slice_get}
 use Rattle.jf_path.specs.declared.name.NodeName.{NodeName}

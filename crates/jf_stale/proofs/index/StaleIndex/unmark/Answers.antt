@@ -1,4 +1,4 @@
--- A mark that ties is the mark, and the first that ties is the only one.
+-- Two marks that tie are equal, so the first mark that ties is the only one to remove.
 use Rattle.std.proofs.Common.{◌≡◌, ◌↔◌, Contains, IsTrue, sym, ap, ◌∙◌, subst}
 use Rattle.std.specs.Ordering.{eq_by_cmp}
 use Rattle.std.specs.List.{list_any}
