@@ -7,7 +7,7 @@ use Rattle.jf_landing.specs.ChildEntryLaws.{sub-few, sub-many, sub-past}
 use Rattle.jf_landing.specs.SameParts.{same_or_other}
 use Rattle.jf_landing.specs.Versions.{HasVersion, HaveVersions, AllNew, IsNewTop}
 
--- `Versioned` holds also of equal parts and versions
+-- `HasVersion` holds also of equal parts and versions
 pub moved : (version : ℕ) (a b : Part) (c e : Option ℕ) (a' b' : Part) (c' e' : Option ℕ) → HasVersion version a b c e → a' ≡ a → b' ≡ b → c' ≡ c → e' ≡ e → HasVersion version a' b' c' e'
 moved version a b c e a' b' c' e' h p q r s = record {
   kept = λ some same. s ∙ h.kept (λ none. some (q ∙ none)) (sym p ∙ same ∙ q) ∙ sym r;

@@ -11,6 +11,7 @@ use Rattle.jf_journal.specs.Standing.{StandsFor}
 use Rattle.jf_journal.specs.Steps.{Opens, StopsWell, IsCalm}
 use Rattle.jf_journal.specs.Laws.{FilesStandForOne}
 use Rattle.jf_engine.specs.Engines.{IsSettledOn}
+use Rattle.jf_engine.specs.Keeping.{Device}
 use Rattle.jf_session.specs.Sessions.{Session}
 use Rattle.jf_answers.specs.Own.{Own}
 use Rattle.jf_answers.specs.Answers.{answer}
@@ -80,14 +81,15 @@ opened_front v es g k low high t f settled lasts within dated le left =
     ]
 
 -- what is known of a run behind an opening gives that it is safe since a moment from which on its images are front images
-run_from : (h : History) (v : Versions) (e : End) (s : Session) (rest rest' text text' : Option (List ℕ)) (before history : Option History) (m f head moment faults from : ℕ) (es : List Entry)
-    → FilesStandForOne → before ≡ Some h → StandsFor (reads h) v → IsBegun s before m f head → (run : HasRun e s rest rest' text text' history moment faults es)
+run_from : (h : History) (v : Versions) (e : End) (s : Session) (rest rest' text text' : Option (List ℕ)) (disk : Device) (history : Option History) (head moment faults from : ℕ) (es : List Entry)
+    → FilesStandForOne → disk.history ≡ Some h → StandsFor (reads h) v → IsBegun s disk head → (run : HasRun e s rest rest' text text' history moment faults es)
     → ((g k : History) → s.history ≡ Some g → IsSettledOn g v → Outlasts (opened v 1) g k es → AreWithin s.moment run.ran.mid.moment (moments_of es) → (t : ℕ) → from ≤ t → (x : Files) → LeftSince k t x → IsFrontImage x t (opened v 1) es)
-    → IsSafeSince from history v es (own_after s run.ran.done) run.ran.next (status_of e) f faults
-run_from h v e s rest rest' text text' before history m f head moment faults from es one told stands begun run front =
-    let there = begun.settled h told in
+    → IsSafeSince from history v es (own_after s run.ran.done) run.ran.next (status_of e) disk.faults faults
+run_from h v e s rest rest' text text' disk history head moment faults from es one told stands begun run front =
+    let there = begun.opening.settled h told in
+    let faults_on : disk.faults ≤ s.faults = begun.opening.faults in
     let g = there.0 in
-    let all_is : s.state.all ≡ v = one (reads h) s.state.all v (begun.found h told) stands in
+    let all_is : s.state.all ≡ v = one (reads h) s.state.all v (begun.opening.found h told) stands in
     let state_is : s.state ≡ opened v 1 = begun.state ∙ ap (λ w. opened w 1) all_is in
     let es_are : es ≡ run.ran.advances.added = added_are e s rest rest' text text' history moment faults es begun.entries run in
     let settled : IsSettledOn g v = subst (λ w. IsSettledOn g w) all_is there.2 in
@@ -95,25 +97,25 @@ run_from h v e s rest rest' text text' before history m f head moment faults fro
     let lasts : Outlasts (opened v 1) g went.0 es = subst (λ x. Outlasts x g went.0 es) state_is (subst (λ xs. Outlasts s.state g went.0 xs) (sym es_are) went.2) in
     let within : AreWithin s.moment run.ran.mid.moment (moments_of es) = subst (λ xs. AreWithin s.moment run.ran.mid.moment (moments_of xs)) (sym es_are) run.ran.advances.dated in
     let own = own_after s run.ran.done in
-    let safe : IsSafeSince from run.last.history v es own run.ran.next (status_of e) f run.last.faults =
-    ends_safe e v es run.ran.mid run.last run.ran.next went.0 from f own run.ran.ends went.1
-    (run.ran.advances.replayed ∙ ap (λ xs. replay s.state xs) (sym es_are) ∙ ap (λ x. replay x es) state_is) run.ran.advances.own (omega (arith, begun.faults_on, run.ran.advances.faults))
+    let safe : IsSafeSince from run.last.history v es own run.ran.next (status_of e) disk.faults run.last.faults =
+    ends_safe e v es run.ran.mid run.last run.ran.next went.0 from disk.faults own run.ran.ends went.1
+    (run.ran.advances.replayed ∙ ap (λ xs. replay s.state xs) (sym es_are) ∙ ap (λ x. replay x es) state_is) run.ran.advances.own (omega (arith, faults_on, run.ran.advances.faults))
     (front g went.0 there.1 settled lasts within) in
-    subst (λ x. IsSafeSince from x v es own run.ran.next (status_of e) f faults) (sym run.ends.history_is) (subst (λ n. IsSafeSince from run.last.history v es own run.ran.next (status_of e) f n) (sym run.ends.faults_are) safe)
+    subst (λ x. IsSafeSince from x v es own run.ran.next (status_of e) disk.faults faults) (sym run.ends.history_is) (subst (λ n. IsSafeSince from run.last.history v es own run.ran.next (status_of e) disk.faults n) (sym run.ends.faults_are) safe)
 
 -- at every moment of a run over a calm disk's files, the opening included
-pub run_safe : (h : History) (v : Versions) (e : End) (s : Session) (rest rest' text text' : Option (List ℕ)) (before history : Option History) (m f head moment faults : ℕ) (es : List Entry)
-    → FilesStandForOne → before ≡ Some h → length h.before ≡ m → IsCalm h → StandsFor (reads h) v → IsBegun s before m f head → (run : HasRun e s rest rest' text text' history moment faults es)
-    → IsSafeSince m history v es (own_after s run.ran.done) run.ran.next (status_of e) f faults
-run_safe h v e s rest rest' text text' before history m f head moment faults es one told dated calm stands begun run =
-    let opening = begun.stops h v told calm stands in
-    run_from h v e s rest rest' text text' before history m f head moment faults m es one told stands begun run
-    (λ g k told_g settled lasts within t since x left. run_front v es h g k s.moment run.ran.mid.moment t x (subst (λ y. StopsWell Opens h y v) (told_one s.history opening.0 g opening.1 told_g) opening.2) calm stands lasts within (begun.dated g told_g) (omega (arith, dated, since)) left)
+pub run_safe : (h : History) (v : Versions) (e : End) (s : Session) (rest rest' text text' : Option (List ℕ)) (disk : Device) (history : Option History) (head moment faults : ℕ) (es : List Entry)
+    → FilesStandForOne → disk.history ≡ Some h → length h.before ≡ disk.moment → IsCalm h → StandsFor (reads h) v → IsBegun s disk head → (run : HasRun e s rest rest' text text' history moment faults es)
+    → IsSafeSince disk.moment history v es (own_after s run.ran.done) run.ran.next (status_of e) disk.faults faults
+run_safe h v e s rest rest' text text' disk history head moment faults es one told dated calm stands begun run =
+    let opening = begun.opening.disk h told in
+    run_from h v e s rest rest' text text' disk history head moment faults disk.moment es one told stands begun run
+    (λ g k told_g settled lasts within t since x left. run_front v es h g k s.moment run.ran.mid.moment t x (subst (λ y. StopsWell Opens h y v) (told_one s.history opening.0 g opening.1 told_g) (opening.2.stops v calm stands)) calm stands lasts within (begun.dated g told_g) (omega (arith, dated, since)) left)
 
 -- on any disk, from the moment on at which the store was open
-pub run_opened_safe : (h : History) (v : Versions) (e : End) (s : Session) (rest rest' text text' : Option (List ℕ)) (before history : Option History) (m f head moment faults : ℕ) (es : List Entry)
-    → FilesStandForOne → before ≡ Some h → StandsFor (reads h) v → IsBegun s before m f head → (run : HasRun e s rest rest' text text' history moment faults es)
-    → IsSafeSince s.moment history v es (own_after s run.ran.done) run.ran.next (status_of e) f faults
-run_opened_safe h v e s rest rest' text text' before history m f head moment faults es one told stands begun run =
-    run_from h v e s rest rest' text text' before history m f head moment faults s.moment es one told stands begun run
+pub run_opened_safe : (h : History) (v : Versions) (e : End) (s : Session) (rest rest' text text' : Option (List ℕ)) (disk : Device) (history : Option History) (head moment faults : ℕ) (es : List Entry)
+    → FilesStandForOne → disk.history ≡ Some h → StandsFor (reads h) v → IsBegun s disk head → (run : HasRun e s rest rest' text text' history moment faults es)
+    → IsSafeSince s.moment history v es (own_after s run.ran.done) run.ran.next (status_of e) disk.faults faults
+run_opened_safe h v e s rest rest' text text' disk history head moment faults es one told stands begun run =
+    run_from h v e s rest rest' text text' disk history head moment faults s.moment es one told stands begun run
     (λ g k told_g settled lasts within t since x left. opened_front v es g k s.moment run.ran.mid.moment t x settled lasts within (begun.dated g told_g) since left)

@@ -1,6 +1,6 @@
 // The words of a command line.
-ghost use Rattle.std.specs.Prelude.{◌≡◌, map, string_bytes, IfOk};
-ghost use Rattle.jf_run.specs.Commands.{workers, is_over, option_workers, mode_of};
+ghost use Rattle.std.specs.Prelude.{◌≡◌, IfOk};
+ghost use Rattle.jf_run.specs.Commands.{workers, is_over, option_workers, asked, word_bytes};
 
 use clap::error::ErrorKind;
 use clap::{Arg, ArgAction, Command};
@@ -27,7 +27,7 @@ pub enum Mode {
 
 /// What the words of a command line ask for. None says that they are none of the program's; an error, that memory ran out.
 pub fn mode_of(alloc: Global, words: &[String]) -> Result<Option<Mode>, AllocError>
-    ensures { IfOk result (λ r. r ≡ mode_of (map (λ w. string_bytes w) words.now)) }
+    ensures { IfOk result (λ r. r ≡ asked words.now) }
 {
     match words {
         [mode, rest @ ..] if mode.as_str() == "run" => {
@@ -41,7 +41,7 @@ pub fn mode_of(alloc: Global, words: &[String]) -> Result<Option<Mode>, AllocErr
 
 // Whether no option and no word stands here: nothing, or `--` with nothing behind it.
 fn is_over(words: &[String]) -> bool
-    ensures { result ≡ is_over (map (λ w. string_bytes w) words.now) }
+    ensures { result ≡ is_over (word_bytes words.now) }
 {
     match words {
         [] => true,
@@ -52,7 +52,7 @@ fn is_over(words: &[String]) -> bool
 
 // The number of workers of the words behind a mode that has no word of its own.
 fn option_workers(alloc: Global, words: &[String]) -> Result<Option<u64>, AllocError>
-    ensures { IfOk result (λ r. r ≡ option_workers (map (λ w. string_bytes w) words.now)) }
+    ensures { IfOk result (λ r. r ≡ option_workers (word_bytes words.now)) }
 {
     let option = Arg::new(alloc, "workers")
         .long("workers")

@@ -1,16 +1,12 @@
 // A session over a store of its own.
 ghost use Rattle.std.specs.Prelude.{◌≡◌, ◌⊎◌, ◌↔◌, ℕ, ◌+◌, ◌-◌, ◌<◌, ◌≤◌, ◌^◌, length, [], ◌∷◌, ◌++◌, Some, Err, IfOk, IfErr, OnOk, OnErr, IsErr, true, false};
-ghost use Rattle.jf_disk.specs.Disk.{History, reads};
-ghost use Rattle.jf_disk.specs.Moments.{Extends};
+ghost use Rattle.std.specs.Option.{ForSome};
+ghost use Rattle.jf_disk.specs.Disk.{reads};
 ghost use Rattle.jf_disk.specs.declared.side.Side.{Side};
-ghost use Rattle.jf_model.specs.Versions.{Versions, IsVersions};
+ghost use Rattle.jf_model.specs.Versions.{IsVersions};
 ghost use Rattle.jf_model.specs.States.{opened};
-ghost use Rattle.jf_disk.specs.Crashes.{KeepsOther};
-ghost use Rattle.jf_journal.specs.Standing.{StandsFor, IsDamagedAt, generation};
-ghost use Rattle.jf_journal.specs.Steps.{Opens, StopsWell, IsCalm};
-ghost use Rattle.jf_journal.specs.Begun.{IsBegunOver};
-ghost use Rattle.jf_engine.specs.Engines.{IsSettledOn};
-ghost use Rattle.jf_disk.specs.Crashes.{LeavesFiles};
+ghost use Rattle.jf_journal.specs.Standing.{IsDamagedAt};
+ghost use Rattle.jf_engine.specs.Keeping.{HasOpened, HasRefused, device};
 ghost use Rattle.jf_answers.specs.Own.{begun};
 ghost use Rattle.jf_answers.specs.Answers.{answer};
 ghost use Rattle.jf_answers.specs.Runs.{answer_text};
@@ -21,7 +17,7 @@ ghost use Rattle.jf_script.specs.Bounds.{IsBounded};
 use crate::answer::write_answer;
 use crate::stop::Stop;
 use jf_disk::Disk;
-use jf_engine::{Engine, EngineFault, Landed, OpenFault, OpenRefused};
+use jf_engine::{Engine, EngineFault, Landed, OpenRefused};
 use jf_hash::key_of;
 use jf_join::Gate;
 use jf_model::{Entry, Landing, Ledger};
@@ -68,24 +64,11 @@ impl<D: Disk> Session<D> {
         alloc: Global,
         disk: D,
     ) -> Result<Session<D>, OpenRefused<D>>
-        ensures found { (h : History) → D.history disk ≡ Some h → IfOk result (λ s. StandsFor (reads h) s.state.all) }
+        ensures opened { IfOk result (λ s. HasOpened (device (D.history disk) (D.moment disk) (D.faults disk)) (device s.history s.moment s.faults) s.state.all) }
+        ensures refused { IfErr result (λ e. HasRefused (device (D.history disk) (D.moment disk) (D.faults disk)) (device (D.history e.disk) (D.moment e.disk) (D.faults e.disk)) e.why) }
+        ensures damage { ForSome (D.history disk) (λ h. (side : Side) (at : ℕ) → IsDamagedAt (reads h) side at → IsErr result) }
         ensures sound { IfOk result (λ s. IsVersions s.state.all) }
         ensures state { IfOk result (λ s. (s.state ≡ opened s.state.all 1) × (s.own ≡ begun 0) × (s.entries ≡ []) × (s.over ≡ false)) }
-        ensures settled { (h : History) → D.history disk ≡ Some h → IfOk result (λ s. (g : History) × (s.history ≡ Some g) × IsSettledOn g s.state.all × (generation (reads g) ≡ generation (reads h))) }
-        ensures stands_on { (h : History) (v : Versions) → D.history disk ≡ Some h → StandsFor (reads h) v → IfOk result (λ s. (g : History) × (s.history ≡ Some g) × StandsFor (reads g) v) }
-        ensures stands_on_err { (h : History) (v : Versions) → D.history disk ≡ Some h → StandsFor (reads h) v → IfErr result (λ e. (g : History) × (D.history e.disk ≡ Some g) × StandsFor (reads g) v) }
-        ensures damaged { (h : History) (side : Side) (at : ℕ) → D.history disk ≡ Some h → IfErr result (λ e. e.why ≡ OpenFault.Damaged side at → IsDamagedAt (reads h) side at) }
-        ensures damaged_told { (h : History) (side : Side) (at : ℕ) → D.history disk ≡ Some h → IsDamagedAt (reads h) side at → IsErr result × IfErr result (λ e. (e.why ≡ OpenFault.Damaged side at) ⊎ ((e.why ≡ OpenFault.DiskFault) ⊎ (e.why ≡ OpenFault.Memory))) }
-        ensures left { (h : History) → D.history disk ≡ Some h → IfErr result (λ e. (g : History) × (D.history e.disk ≡ Some g) × (LeavesFiles h g ⊎ ((e.why ≡ OpenFault.DiskFault) × IsBegunOver h g))) }
-        ensures extends { (h : History) → D.history disk ≡ Some h → IfOk result (λ s. (g : History) × (s.history ≡ Some g) × Extends h g) }
-        ensures extends_err { (h : History) → D.history disk ≡ Some h → IfErr result (λ e. (g : History) × (D.history e.disk ≡ Some g) × Extends h g) }
-        ensures other { (h : History) → D.history disk ≡ Some h → IfOk result (λ s. (g : History) × (s.history ≡ Some g) × KeepsOther Side.A h g) }
-        ensures other_err { (h : History) → D.history disk ≡ Some h → IfErr result (λ e. (g : History) × (D.history e.disk ≡ Some g) × KeepsOther Side.A h g) }
-        ensures stops { (h : History) (v : Versions) → D.history disk ≡ Some h → IsCalm h → StandsFor (reads h) v → IfOk result (λ s. (g : History) × (s.history ≡ Some g) × StopsWell Opens h g v) }
-        ensures stops_err { (h : History) (v : Versions) → D.history disk ≡ Some h → IsCalm h → StandsFor (reads h) v → IfErr result (λ e. (g : History) × (D.history e.disk ≡ Some g) × StopsWell Opens h g v) }
-        ensures cause { IfErr result (λ e. e.why ≡ OpenFault.DiskFault → (D.faults disk < D.faults e.disk) ⊎ (D.faults disk ≡ 2 ^ 64 - 1)) }
-        ensures counts { IfOk result (λ s. (D.moment disk ≤ s.moment) × (D.faults disk ≤ s.faults)) }
-        ensures counts_err { IfErr result (λ e. (D.moment disk ≤ D.moment e.disk) × (D.faults disk ≤ D.faults e.disk)) }
     {
         let engine = Engine::<D>::open(rt, alloc, disk)?;
         engine.know();

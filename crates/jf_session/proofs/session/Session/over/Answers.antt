@@ -7,5 +7,5 @@ of_error : {T E : Type 0} (r : Result T E) (e : E) (P : E → Type 0) → IsErrA
 of_error (Ok x) e P is p = tt
 of_error (Err x) e P is p = subst P (sym is) p
 
-pub returns-in_err-engine-clause-left : goal.returns-in_err-engine-clause-left
-returns-in_err-engine-clause-left g c = λ h told. of_error _ _ _ c.from_residual.ensures.1 (c.in_err-engine.ensures.left h told)
+pub returns-in_err-engine-clause-refused : goal.returns-in_err-engine-clause-refused
+returns-in_err-engine-clause-refused g c = of_error _ _ _ c.from_residual.ensures.1 c.in_err-engine.ensures.refused

@@ -1,0 +1,154 @@
+-- What a call promises that opened no store: for want of memory, for words that are none of the program's, after an input was judged, or after a refusal.
+use Rattle.std.proofs.Common.{◌≡◌, ◌⊎◌, inl, inr, ◌≤◌, [], Option, Some, None, refl, sym, subst, ap, ◌∙◌, IsTrue, le_refl, true≢false}
+use Rattle.std.specs.Prelude.{IfSome, IfNone, IsFalse, is_some}
+use Rattle.jf_disk.specs.Disk.{reads}
+use Rattle.jf_disk.specs.Moments.{same_extends}
+use Rattle.jf_model.specs.Entries.{moments_of}
+use Rattle.jf_journal.specs.Laws.{DamageIsNoVersions}
+use Rattle.jf_engine.specs.Keeping.{Device, HasRefused}
+use Rattle.jf_engine.specs.declared.fault.OpenFault.{OpenFault}
+use Rattle.jf_session.specs.Sessions.{Rose}
+use Rattle.jf_session.specs.Runs.{AreWithin}
+use Rattle.jf_run.specs.Calls.{Devices, ProgramCall}
+use Rattle.jf_run.specs.Commands.{opens, is_verify, is_closing, status_of_refusal}
+use Rattle.jf_run.specs.Judging.{HasJudged}
+use Rattle.jf_run.specs.Promises.{Stands, IsClosedCall, IsOpenedCall, GoesForward, KeepsPromises}
+use Rattle.jf_run.specs.declared.words.Mode.{Mode}
+use Rattle.jf_run.specs.declared.words.Mode.TheVariants as mode
+use Rattle.jf_run.specs.declared.status.Status.TheVariants as status
+use Rattle.jf_run.proofs.Complete.{steady, refused_for_memory}
+use Rattle.jf_run.proofs.Judged.{judged_nothing, judged_well, judged_words, judged_disk, judged_files}
+use Rattle.jf_run.proofs.Standing.{left_as_is, stands-none, damage-told}
+use Rattle.jf_run.proofs.Statuses.{damage_told, refusal_closes, refused_words, refused_read, refused_write, refused_disk}
+
+-- no store is opened to judge an input
+pub verify_opens_none : (o : Option Mode) → IsTrue (is_verify o) → IsFalse (opens o)
+verify_opens_none None e = absurd (true≢false (sym e))
+verify_opens_none (Some (mode.Run n)) e = absurd (true≢false (sym e))
+verify_opens_none (Some mode.Verify) e = refl
+
+-- a call that left the disk as it was is closed
+closed_untouched : (c : ProgramCall) → c.after.disk ≡ c.before.disk → c.entries ≡ [] → (IsFalse (is_verify c.asks) → IsTrue (is_closing c.status)) → IsClosedCall c
+closed_untouched c same none ending = record {
+  ending = ending;
+  entries = none;
+  left = λ h told. (h, ap (λ (d : Device). d.history) same ∙ told, inl (left_as_is h));
+  stands = λ h told. (h, ap (λ (d : Device). d.history) same ∙ told, λ v stands. stands);
+  stops = λ h told. (h, ap (λ (d : Device). d.history) same ∙ told, λ v calm stands. record { more = []; grows = refl; each = tt });
+}
+
+forward_untouched : (c : ProgramCall) → c.after.disk ≡ c.before.disk → c.entries ≡ [] → c.before.source_faults ≤ c.after.source_faults → c.before.sink_faults ≤ c.after.sink_faults → GoesForward c
+forward_untouched c same none source sink =
+    let moment : c.before.disk.moment ≤ c.after.disk.moment = subst (λ (d : Device). c.before.disk.moment ≤ d.moment) (sym same) (le_refl c.before.disk.moment) in
+    record {
+      extends = λ h told. (h, ap (λ (d : Device). d.history) same ∙ told, same_extends h);
+      dated = subst (λ es. AreWithin c.before.disk.moment c.after.disk.moment (moments_of es)) (sym none) moment;
+      moment = moment;
+      disk_faults = subst (λ (d : Device). c.before.disk.faults ≤ d.faults) (sym same) (le_refl c.before.disk.faults);
+      source_faults = source;
+      sink_faults = sink;
+    }
+
+-- no call was made on a device, for want of memory
+pub memory_keeps : (c : ProgramCall) → c.after ≡ c.before → c.start ≡ None → c.entries ≡ [] → c.status ≡ status.Memory → KeepsPromises c
+memory_keeps c same start none memory =
+    let disk : c.after.disk ≡ c.before.disk = ap (λ (d : Devices). d.disk) same in
+    record {
+      words = record { usage = λ e. absurd (cc); usage_told = λ e. inr memory; start = λ e. start };
+      causes = record { read = λ e. absurd (cc); write = λ e. absurd (cc); disk = λ e. absurd (cc) };
+      damage = record { damaged = λ h told where_ at e. absurd (cc); damaged_told = λ h told where_ at words here. inr (inr memory) };
+      forward = forward_untouched c disk none (subst (λ (d : Devices). c.before.source_faults ≤ d.source_faults) (sym same) (le_refl c.before.source_faults))
+          (subst (λ (d : Devices). c.before.sink_faults ≤ d.sink_faults) (sym same) (le_refl c.before.sink_faults));
+      files = record {
+        stands = λ h told v stands sound. subst (λ es. Stands c.after.disk.history v es) (sym none) (stands-none h v c.after.disk.history (ap (λ (d : Device). d.history) disk ∙ told) stands);
+        complete = λ h told v stands some a b d. inr memory;
+      };
+      closed = subst (λ o. IfNone o (IsClosedCall c)) (sym start) (closed_untouched c disk none (λ e. subst (λ s. IsTrue (is_closing s)) (sym memory) refl));
+      judged = λ e. record {
+        start = start;
+        entries = none;
+        judged = subst (λ s. HasJudged s c.before.rest c.after.rest c.before.text c.after.text) (sym memory)
+            (subst (λ (d : Devices). HasJudged status.Memory c.before.rest d.rest c.before.text d.text) (sym same) (judged_nothing c.before.rest c.before.text));
+        complete = λ a b. inr memory;
+      };
+      opened = subst (λ o. IfSome o (IsOpenedCall c)) (sym start) tt;
+    }
+
+-- no call was made on a device, for words that are none of the program's
+pub usage_keeps : (c : ProgramCall) → c.after ≡ c.before → c.start ≡ None → c.entries ≡ [] → c.status ≡ status.Usage → c.asks ≡ None → KeepsPromises c
+usage_keeps c same start none usage asks =
+    let disk : c.after.disk ≡ c.before.disk = ap (λ (d : Devices). d.disk) same in
+    record {
+      words = record { usage = λ e. asks; usage_told = λ e. inl usage; start = λ e. start };
+      causes = record { read = λ e. absurd (cc); write = λ e. absurd (cc); disk = λ e. absurd (cc) };
+      damage = record { damaged = λ h told where_ at e. absurd (cc); damaged_told = λ h told where_ at words here. absurd (true≢false (sym words ∙ ap opens asks)) };
+      forward = forward_untouched c disk none (subst (λ (d : Devices). c.before.source_faults ≤ d.source_faults) (sym same) (le_refl c.before.source_faults))
+          (subst (λ (d : Devices). c.before.sink_faults ≤ d.sink_faults) (sym same) (le_refl c.before.sink_faults));
+      files = record {
+        stands = λ h told v stands sound. subst (λ es. Stands c.after.disk.history v es) (sym none) (stands-none h v c.after.disk.history (ap (λ (d : Device). d.history) disk ∙ told) stands);
+        complete = λ h told v stands some a b d. absurd (true≢false (sym some ∙ ap (λ (o : Option Mode). is_some o) asks));
+      };
+      closed = subst (λ o. IfNone o (IsClosedCall c)) (sym start) (closed_untouched c disk none (λ e. subst (λ s. IsTrue (is_closing s)) (sym usage) refl));
+      judged = λ e. absurd (true≢false (sym e ∙ ap is_verify asks));
+      opened = subst (λ o. IfSome o (IsOpenedCall c)) (sym start) tt;
+    }
+
+-- an input was judged
+pub judged_keeps : (c : ProgramCall) → c.after.disk ≡ c.before.disk → c.start ≡ None → c.entries ≡ [] → IsTrue (is_verify c.asks) → HasJudged c.status c.before.rest c.after.rest c.before.text c.after.text
+    → (c.status ≡ status.ReadFault → Rose c.before.source_faults c.after.source_faults) → (c.status ≡ status.WriteFault → Rose c.before.sink_faults c.after.sink_faults)
+    → c.before.source_faults ≤ c.after.source_faults → c.before.sink_faults ≤ c.after.sink_faults → KeepsPromises c
+judged_keeps c same start none verify j read write source sink = record {
+  words = record { usage = λ e. absurd (judged_words j.end c.status j.how_is e); usage_told = λ e. absurd (true≢false (sym verify ∙ ap is_verify e)); start = λ e. start };
+  causes = record { read = read; write = write; disk = λ e. absurd (judged_disk j.end c.status j.how_is e) };
+  damage = record {
+    damaged = λ h told where_ at e. absurd (judged_files j.end c.status where_ at j.how_is e);
+    damaged_told = λ h told where_ at words here. absurd (true≢false (sym words ∙ verify_opens_none c.asks verify));
+  };
+  forward = forward_untouched c same none source sink;
+  files = record {
+    stands = λ h told v stands sound. subst (λ es. Stands c.after.disk.history v es) (sym none) (stands-none h v c.after.disk.history (ap (λ (d : Device). d.history) same ∙ told) stands);
+    complete = λ h told v stands some a b d. judged_well j.end c.status j.how_is (λ r. steady c.before.source_faults c.after.source_faults a.0 a.1 (read r)) (λ w. steady c.before.sink_faults c.after.sink_faults b.0 b.1 (write w));
+  };
+  closed = subst (λ o. IfNone o (IsClosedCall c)) (sym start) (closed_untouched c same none (λ e. absurd (true≢false (sym verify ∙ e))));
+  judged = λ e. record {
+    start = start;
+    entries = none;
+    judged = j;
+    complete = λ a b. judged_well j.end c.status j.how_is (λ r. steady c.before.source_faults c.after.source_faults a.0 a.1 (read r)) (λ w. steady c.before.sink_faults c.after.sink_faults b.0 b.1 (write w));
+  };
+  opened = subst (λ o. IfSome o (IsOpenedCall c)) (sym start) tt;
+}
+
+-- the store was not opened
+pub refused_keeps : (c : ProgramCall) (why : OpenFault) → DamageIsNoVersions → c.start ≡ None → c.entries ≡ [] → IsTrue (opens c.asks) → c.status ≡ status_of_refusal why → HasRefused c.before.disk c.after.disk why
+    → c.before.source_faults ≤ c.after.source_faults → c.before.sink_faults ≤ c.after.sink_faults → KeepsPromises c
+refused_keeps c why none_stand start none runs is r source sink = record {
+  words = record { usage = λ e. absurd (refused_words why (sym is ∙ e)); usage_told = λ e. absurd (true≢false (sym runs ∙ ap opens e)); start = λ e. start };
+  causes = record { read = λ e. absurd (refused_read why (sym is ∙ e)); write = λ e. absurd (refused_write why (sym is ∙ e)); disk = λ e. r.cause (refused_disk why (sym is ∙ e)) };
+  damage = record {
+    damaged = λ h told where_ at e. r.damaged h told where_ at (damage_told why where_ at (sym is ∙ e));
+    damaged_told = λ h told where_ at words here. subst (λ s. (s ≡ status.Damaged where_ at) ⊎ ((s ≡ status.DiskFault) ⊎ (s ≡ status.Memory))) (sym is) (damage-told why where_ at (r.damaged_told h told where_ at here));
+  };
+  forward = record {
+    extends = λ h told. let d = r.disk h told in (d.0, d.1, d.2.extends);
+    dated = subst (λ es. AreWithin c.before.disk.moment c.after.disk.moment (moments_of es)) (sym none) r.moment;
+    moment = r.moment;
+    disk_faults = r.faults;
+    source_faults = source;
+    sink_faults = sink;
+  };
+  files = record {
+    stands = λ h told v stands sound. let d = r.disk h told in subst (λ es. Stands c.after.disk.history v es) (sym none) (stands-none d.0 v c.after.disk.history d.1 (d.2.stands v stands));
+    complete = λ h told v stands some ss ks ds.
+        inr (is ∙ refused_for_memory why (λ where_ at damaged. none_stand (reads h) v where_ at stands (r.damaged h told where_ at damaged)) (λ fault. steady c.before.disk.faults c.after.disk.faults ds.0 ds.1 (r.cause fault)));
+  };
+  closed = subst (λ o. IfNone o (IsClosedCall c)) (sym start) (record {
+    ending = λ e. subst (λ s. IsTrue (is_closing s)) (sym is) (refusal_closes why);
+    entries = none;
+    left = λ h told. let w = r.left h told in (w.0, w.1, elim w.2 [ inl left ↦ inl left | inr begun ↦ inr (is ∙ ap status_of_refusal begun.0, begun.1) ]);
+    stands = λ h told. let d = r.disk h told in (d.0, d.1, d.2.stands);
+    stops = λ h told. let d = r.disk h told in (d.0, d.1, d.2.stops);
+  });
+  judged = λ e. absurd (true≢false (sym runs ∙ verify_opens_none c.asks e));
+  opened = subst (λ o. IfSome o (IsOpenedCall c)) (sym start) tt;
+}
