@@ -13,7 +13,7 @@ use std::sync::Wait;
 use std::thread::Threads;
 use std::{env, io};
 
-/// How many calls a disk in memory has room for, and how many written bytes.
+/// The room of a disk in memory: calls, and written bytes.
 const MEM_CALLS: u64 = 1 << 20;
 
 const MEM_BYTES: u64 = 1 << 27;
@@ -24,7 +24,7 @@ fn main(rt: HostRuntime) -> ExitCode {
     ExitCode::from(status.code())
 }
 
-// Runs the words of the command line over the devices that they name.
+// Opens the disk that the first word names, and runs the other words over it, standard input and standard output.
 fn status_of_args<R: Runtime + Files<File = File> + AllocGlobal + Threads + Wait + Sync>(
     rt: &R,
 ) -> Status {

@@ -1,4 +1,4 @@
--- Blocks that were written are read back.
+-- A proof block that was written is read back as what was written.
 use Rattle.std.proofs.Common.{◌≡◌, ℕ, ◌+◌, ◌^◌, ◌<◌, ◌≤◌, true, List, [], ◌∷◌, ◌++◌, length, length-append, Option, Some, None, Ok, option_map, option_and_then, is_some, ◌&&◌, if◌then◌else◌, codes, decimal, refl, ap, ◌∙◌, arith}
 use Rattle.std.specs.List.{AllByRecursion, join_with_byte}
 use Rattle.std.proofs.lemmas.List.{append_assoc}
@@ -17,7 +17,7 @@ use Rattle.jf_text.proofs.NumbersBack.{number-back, number_upto-back, length-dec
 use Rattle.jf_text.proofs.HexBack.{is_plain-hex}
 use Rattle.jf_blocks.proofs.LinesBack.{line_read-join, length-hex, hash-back, name-back, claim-back, leaf-back, side-back}
 
--- siblings
+-- the lines of siblings are read back
 pub sides-back : (hs : List (List ℕ)) (at : ℕ) (rest : List ℕ) → AllByRecursion IsHash hs
     → lines_by side_of (length hs) (record { at = at; left = lines (side_lines hs ++ rest) }) ≡ Ok (hs, record { at = at + length hs; left = lines rest })
 unfolding lines_by
@@ -29,7 +29,7 @@ sides-back (s ∷ hs) at rest h =
     let e : at + 1 + length hs ≡ at + length (s ∷ hs) = omega arith in
     rw (append_assoc line (side_lines hs) rest, one, others, e) refl
 
--- one reading behind another
+-- two readings, one after the other
 pub joined : {X Y : Type 0} (r : Read X) (f : X → Place → Read Y) (x : X) (p : Place) (y : Read Y) → r ≡ Ok (x, p) → f x p ≡ y → and_then r f ≡ y
 joined r f x p y e h = rw e h
 
@@ -57,12 +57,12 @@ proof_block-back name claim proof at rest told =
 all_plain-head : (siblings : ℕ) → siblings < 2 ^ 64 → all_plain (codes "ok" ∷ codes "proof" ∷ decimal siblings ∷ []) ≡ true
 all_plain-head siblings h = rw (is_plain-decimal siblings h) refl
 
--- a number and `ok` are left out
+-- the words `n ok` at the front are skipped
 pub left_out : (o : Option ℕ) (n : ℕ) (all ws : List (List ℕ)) → o ≡ Some n → (if is_some o && is_word (codes "ok") (codes "ok") then ws else all) ≡ ws
 left_out None n all ws e = cc e
 left_out (Some m) n all ws e = refl
 
--- what the words behind them say
+-- what the words after `n ok` say
 abbrev first_from : List (List ℕ) → Option FirstLine
 first_from ws =
     elim (option_and_then hash_of (word_after (codes "root") ws)) [

@@ -1,4 +1,4 @@
--- A reading stops at a line no earlier than where it begins, and leaves no more lines than it had.
+-- The line at which a reading stops is no earlier than its first, and no more lines remain after it than before.
 use Rattle.std.proofs.Common.{ℕ, zero, suc, ◌≤◌, List, [], ◌∷◌, length, Option, Some, None, Ok, Err, arith}
 use Rattle.jf_blocks.specs.Reading.{Place, Read, Block, Chunk, and_then, gives, matched, line_read, line_by, lines_by, named_of, claim_of, leaf_of, side_of, proof_block, entry_of, chunk_body}
 use Rattle.jf_blocks.specs.declared.chunk.ChunkHead.{ChunkHead}

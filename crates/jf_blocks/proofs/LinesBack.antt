@@ -1,4 +1,4 @@
--- Lines that were written are read back.
+-- Each line of a block that was written is read back as what was written.
 use Rattle.std.proofs.Common.{◌≡◌, ℕ, ◌+◌, ◌*◌, ◌≤◌, true, false, List, [], ◌∷◌, ◌++◌, length, Option, Some, None, Ok, IfSome, codes, refl, ap, ◌∙◌, arith, length-append}
 use Rattle.std.specs.List.{join_with_byte}
 use Rattle.std.proofs.lemmas.List.{append_assoc}
@@ -19,7 +19,7 @@ use Rattle.jf_text.proofs.HexBack.{is_plain-hex, bytes_within-back}
 not_long : (line : List ℕ) → length line ≤ 8500 → is_long line ≡ false
 not_long line h = grind (arith, nat_tests)
 
--- what a line's words say is what the line says
+-- a line joined from words is read by these words
 pub line_read-join : {X : Type 0} (f : List (List ℕ) → Option X) (x : X) (w : List ℕ) (ws : List (List ℕ)) → is_plain w ≡ true → all_plain ws ≡ true
     → length (join_with_byte 32 (w ∷ ws)) ≤ 8500 → f (w ∷ ws) ≡ Some x → line_read f (join_with_byte 32 (w ∷ ws)) ≡ Some x
 line_read-join f x w ws h hs short e = rw (not_long (join_with_byte 32 (w ∷ ws)) short, words-join w ws h hs) e

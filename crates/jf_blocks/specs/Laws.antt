@@ -1,4 +1,4 @@
--- What holds of all blocks, as statements for calls that do nothing and ensure them.
+-- Statements about all blocks: what was written is read back. Calls that do nothing ensure them.
 use Rattle.std.specs.Prelude.{◌≡◌, ℕ, ◌+◌, ◌^◌, ◌<◌, ◌≤◌, length, List, ◌∷◌, ◌++◌, Option, Some, Ok, IfSome}
 use Rattle.std.specs.List.{AllByRecursion}
 use Rattle.hex.specs.Hex.{IsBytes}
@@ -13,11 +13,11 @@ use Rattle.jf_blocks.specs.Reading.{line_read, first_of, proof_block, chunk_of, 
 use Rattle.jf_blocks.specs.declared.chunk.ChunkHead.{ChunkHead}
 use Rattle.jf_blocks.specs.declared.first.FirstLine.TheVariants as first
 
--- 32 bytes
+-- a hash: 32 bytes
 abbrev pub IsHash : List ℕ → Type 0
 IsHash h = (length h ≡ 32) × IsBytes h
 
--- what a block tells of: a name of 1 to 128 bytes, a value of at most 4,096, and a leaf and siblings of 32
+-- what a proof block can hold: a name of 1 to 128 bytes, a value of at most 4,096, and keys and hashes of 32
 pub record IsTold (name : List ℕ) (claim : Option (List ℕ)) (proof : Proof) : Type 0 where
   pub bytes : IsBytes name
   pub least : 1 ≤ length name
@@ -26,7 +26,7 @@ pub record IsTold (name : List ℕ) (claim : Option (List ℕ)) (proof : Proof) 
   pub leaf : IfSome proof.leaf (λ l. IsHash l.0 × IsHash l.1)
   pub siblings : AllByRecursion IsHash proof.siblings
 
--- a block that was written is read as what was written, and what stands behind it is left
+-- a proof block that was written is read as what was written, and the lines after it are still to be read
 abbrev pub BlocksAreReadBack : Type 0
 BlocksAreReadBack = (name : List ℕ) (claim : Option (List ℕ)) (proof : Proof) (at : ℕ) (rest : List ℕ) → IsTold name claim proof
     → proof_block (length proof.siblings) (record { at = at; left = lines (proof_lines name claim proof ++ rest) })
@@ -39,16 +39,16 @@ RepliesBeginBlocks = (n siblings : ℕ) (rest : List ℕ) → n < 2 ^ 64 → sib
 
 -- ---- chunks
 
--- what a chunk block tells of: keys of 32 bytes, values of at most 4,096, and siblings of 32
+-- what a chunk block can hold: keys of 32 bytes, values of at most 4,096, and siblings of 32
 pub record IsChunk (es : Entries) (proof : RangeProof) : Type 0 where
   pub entries : AllByRecursion (λ e. IsHash e.0 × IsBytes e.1 × (length e.1 ≤ 4096)) es
   pub siblings : AllByRecursion IsHash proof.siblings
 
--- what its first line says
+-- what the first line of a chunk block says
 abbrev pub head : Entries → RangeProof → ChunkHead
 head es proof = record { entries = length es; depth = proof.depth; siblings = length proof.siblings }
 
--- a chunk block that was written is read as what was written, and what stands behind it is left
+-- a chunk block that was written is read as what was written, and the lines after it are still to be read
 abbrev pub ChunksAreReadBack : Type 0
 ChunksAreReadBack = (es : Entries) (proof : RangeProof) (at : ℕ) (rest : List ℕ) → IsChunk es proof
     → chunk_body (head es proof) (record { at = at; left = lines (chunk_lines es proof ++ rest) })

@@ -1,4 +1,5 @@
-// The lines of a chunk block, each given without the byte that ends it. Its other lines are those of siblings.
+// The first line and the entry lines of a chunk block, each given without its line feed (docs/FORMATS.md, Chunk
+// blocks).
 ghost use Rattle.std.specs.Prelude.{◌≡◌, ◌≤◌, length, IfOk, IfSome};
 ghost use Rattle.jf_text.specs.Words.{words};
 ghost use Rattle.jf_blocks.specs.Reading.{line_read, head_of, chunk_of, keyed_of, entry_of};
@@ -13,7 +14,7 @@ use std::alloc::Global;
 /// The most entries that a block may have.
 const MAX_ENTRIES: u64 = 1_000;
 
-/// The greatest depth that a first line may tell, in bits.
+/// The greatest depth that a first line may have, in bits.
 const MAX_DEPTH: u64 = MAX_SIBLINGS;
 
 /// What the first line of a chunk block says.
@@ -27,7 +28,8 @@ pub struct ChunkHead {
     pub siblings: u64,
 }
 
-/// What a line `chunk C D S` says, or `n ok chunk C D S`: how many entries, the depth, how many siblings.
+/// What a line `chunk C D S` or `n ok chunk C D S` says. `None` for any other line, and for one of more than 8,500
+/// bytes.
 pub fn chunk_line(line: &[u8]) -> Option<ChunkHead>
     ensures { result ≡ line_read chunk_of line.now }
 {
@@ -39,7 +41,7 @@ pub fn chunk_line(line: &[u8]) -> Option<ChunkHead>
     head_of(entries, depth, siblings)
 }
 
-/// Three numbers.
+/// Three words as the numbers of a first line, each within its limit.
 fn head_of(entries: &[u8], depth: &[u8], siblings: &[u8]) -> Option<ChunkHead>
     ensures { result ≡ head_of (entries.now, depth.now, siblings.now) }
 {
@@ -53,7 +55,8 @@ fn head_of(entries: &[u8], depth: &[u8], siblings: &[u8]) -> Option<ChunkHead>
     })
 }
 
-/// The key and the value that a line `entry KEY =VALUE` has. The value has at most 4,096 bytes.
+/// The key and the value of a line `entry KEY =VALUE`. The value has at most 4,096 bytes. `None` for any other line,
+/// and for one of more than 8,500 bytes.
 pub fn entry_line(alloc: Global, line: &[u8]) -> Result<Option<(Key, Bytes)>, Memory>
     ensures entry { IfOk result (λ entry. entry ≡ line_read entry_of line.now) }
     ensures short { IfOk result (λ entry. IfSome entry (λ e. length e.1 ≤ 4096)) }
@@ -67,7 +70,7 @@ pub fn entry_line(alloc: Global, line: &[u8]) -> Result<Option<(Key, Bytes)>, Me
     }
 }
 
-/// A key and a value.
+/// Two words as a key and a value.
 fn keyed_of(alloc: Global, key: &[u8], value: &[u8]) -> Result<Option<(Key, Bytes)>, Memory>
     ensures entry { IfOk result (λ entry. entry ≡ keyed_of (key.now, value.now)) }
     ensures short { IfOk result (λ entry. IfSome entry (λ e. length e.1 ≤ 4096)) }

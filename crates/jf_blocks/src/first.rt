@@ -1,4 +1,4 @@
-// The lines that stand between blocks.
+// A line between proof blocks: `root HASH` sets the root, and `proof S` begins a block. Each may begin with `n ok`.
 ghost use Rattle.std.specs.Prelude.{◌≡◌, ◌&&◌, [], is_some, option_and_then, codes};
 ghost use Rattle.std.specs.Option.{option_map_or};
 ghost use Rattle.jf_text.specs.Words.{words, is_word, number, number_upto, hash_of};
@@ -21,7 +21,8 @@ pub enum FirstLine {
     Proof(u64),
 }
 
-/// What a line between blocks says, which is given without the byte that ends it.
+/// What a line between blocks says. The line is given without its line feed. `None` for any other line, and for one of
+/// more than 8,500 bytes.
 pub fn first_line(line: &[u8]) -> Option<FirstLine>
     ensures { result ≡ line_read first_of line.now }
 {
@@ -36,7 +37,7 @@ pub fn first_line(line: &[u8]) -> Option<FirstLine>
     Some(FirstLine::Proof(siblings))
 }
 
-/// The line behind the words `n ok`, if it has them and more, or the line as it is.
+/// The line after the words `n ok`, or the whole line if it doesn't begin so. `None` if nothing follows `n ok`.
 pub(crate) fn without_number(line: &[u8]) -> Option<&[u8]>
     ensures { option_map_or (λ rest. words rest.now) result [] ≡ without_number (words line.now) }
 {
@@ -59,14 +60,14 @@ fn is_numbered(first: &[u8], second: &[u8]) -> bool
     number_from(0, u64::MAX, first).is_some() && is_word(second, b"ok")
 }
 
-/// The hash behind `root`.
+/// The hash after `root`.
 fn root_of(text: &[u8]) -> Option<Hash>
     ensures { result ≡ option_and_then hash_of (word_after (codes "root") (words text.now)) }
 {
     hash_of(word_after(b"root", text)?)
 }
 
-/// The number behind `proof`.
+/// The number after `proof`.
 fn count_of(text: &[u8]) -> Option<u64>
     ensures { result ≡ option_and_then (number_upto 65535) (word_after (codes "proof") (words text.now)) }
 {

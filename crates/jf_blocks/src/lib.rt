@@ -1,5 +1,5 @@
-//! Blocks of lines, written and read: a claim on one key with its proof, and a chunk of entries with the proof of the last
-//! one. `specs/` has the format.
+//! Blocks of lines, written and read: a claim on one key with its proof, and a chunk of entries with the proof of the
+//! last one. `specs/` has their format.
 #![tactic(auto)]
 
 mod chunk;

@@ -1,4 +1,4 @@
-// The lines of a block, each given without the byte that ends it.
+// The lines of a proof block after its first, each given without its line feed (docs/FORMATS.md, Proof blocks).
 ghost use Rattle.std.specs.Prelude.{◌≡◌, IfOk};
 ghost use Rattle.jf_text.specs.Words.{words};
 ghost use Rattle.jf_blocks.specs.Reading.{line_read, named_of, claimed, claim_of, pair_of, leaf_of, side_of};
@@ -12,7 +12,7 @@ use std::alloc::Global;
 /// The greatest number of bytes of a line that may match.
 pub(crate) const LONGEST: usize = 8500;
 
-/// The name that a line `name NAME` has.
+/// The name of a line `name NAME`. `None` for any other line, and for one of more than 8,500 bytes.
 pub fn name_line(alloc: Global, line: &[u8]) -> Result<Option<Bytes>, Memory>
     ensures { IfOk result (λ name. name ≡ line_read named_of line.now) }
 {
@@ -25,7 +25,7 @@ pub fn name_line(alloc: Global, line: &[u8]) -> Result<Option<Bytes>, Memory>
     }
 }
 
-/// What a line `claim =VALUE` or `claim none` claims.
+/// What a line `claim =VALUE` or `claim none` claims. `None` for any other line, and for one of more than 8,500 bytes.
 pub fn claim_line(alloc: Global, line: &[u8]) -> Result<Option<Option<Bytes>>, Memory>
     ensures { IfOk result (λ claim. claim ≡ line_read claim_of line.now) }
 {
@@ -38,7 +38,7 @@ pub fn claim_line(alloc: Global, line: &[u8]) -> Result<Option<Option<Bytes>>, M
     }
 }
 
-/// A value, or `none`.
+/// A word as a claim: a value, or its absence for `none`.
 fn claimed(alloc: Global, word: &[u8]) -> Result<Option<Option<Bytes>>, Memory>
     ensures { IfOk result (λ claim. claim ≡ claimed word.now) }
 {
@@ -48,7 +48,8 @@ fn claimed(alloc: Global, word: &[u8]) -> Result<Option<Option<Bytes>>, Memory>
     Ok(value_of(alloc, word)?.map(Some))
 }
 
-/// The leaf that a line `leaf KEY HASH` or `leaf none` tells of.
+/// The leaf of a line `leaf KEY HASH`, or its absence for `leaf none`. `None` for any other line, and for one of more
+/// than 8,500 bytes.
 pub fn leaf_line(line: &[u8]) -> Option<Option<(Key, Hash)>>
     ensures { result ≡ line_read leaf_of line.now }
 {
@@ -67,7 +68,7 @@ pub fn leaf_line(line: &[u8]) -> Option<Option<(Key, Hash)>>
     Some(Some(leaf))
 }
 
-/// A key and a hash.
+/// Two words as a key and a hash.
 fn pair_of(key: &[u8], hash: &[u8]) -> Option<(Key, Hash)>
     ensures { result ≡ pair_of (key.now, hash.now) }
 {
@@ -76,7 +77,7 @@ fn pair_of(key: &[u8], hash: &[u8]) -> Option<(Key, Hash)>
     Some((key, hash))
 }
 
-/// The hash that a line `side HASH` has.
+/// The hash of a line `side HASH`. `None` for any other line, and for one of more than 8,500 bytes.
 pub fn side_line(line: &[u8]) -> Option<Hash>
     ensures { result ≡ line_read side_of line.now }
 {

@@ -1,4 +1,4 @@
-// The words behind a keyword.
+// A line of a block is a keyword and the words after it.
 ghost use Rattle.std.specs.Prelude.{◌≡◌, [], ◌∷◌};
 ghost use Rattle.std.specs.Option.{option_copied, option_map, option_map_or};
 ghost use Rattle.jf_text.specs.Words.{words, is_word};
@@ -6,7 +6,7 @@ ghost use Rattle.jf_blocks.specs.Reading.{word_after, two_after, three_after};
 
 use jf_text::{is_word, split_word};
 
-/// The one word behind a keyword, where the text is just the two.
+/// The word after a keyword, if the text is just these two words.
 pub(crate) fn word_after<'a>(keyword: &[u8], text: &'a [u8]) -> Option<&'a [u8]>
     ensures { option_copied result ≡ word_after keyword.now (words text.now) }
 {
@@ -22,7 +22,7 @@ pub(crate) fn word_after<'a>(keyword: &[u8], text: &'a [u8]) -> Option<&'a [u8]>
     }
 }
 
-/// The two words behind a keyword, where the text is just the three.
+/// The two words after a keyword, if the text is just these three words.
 pub(crate) fn two_after<'a>(keyword: &[u8], text: &'a [u8]) -> Option<(&'a [u8], &'a [u8])>
     ensures { option_map (λ p. (p.0.now, p.1.now)) result ≡ two_after keyword.now (words text.now) }
 {
@@ -42,7 +42,7 @@ pub(crate) fn two_after<'a>(keyword: &[u8], text: &'a [u8]) -> Option<(&'a [u8],
     }
 }
 
-/// The three words behind a keyword, where the text is just the four.
+/// The three words after a keyword, if the text is just these four words.
 pub(crate) fn three_after<'a>(
     keyword: &[u8],
     text: &'a [u8],

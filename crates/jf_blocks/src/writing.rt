@@ -1,4 +1,5 @@
-// Proof blocks as text.
+// A proof block after its first line: the lines of the name, the claim and the leaf, then a line `side HASH` for each
+// sibling.
 ghost use Rattle.std.specs.Prelude.{◌≡◌, ◌∷◌, ◌++◌, [], codes, OnOk, OnErr};
 ghost use Rattle.std.specs.Option.{option_copied};
 ghost use Rattle.hex.specs.Hex.{encode_lower};
@@ -12,7 +13,7 @@ use jf_path::{Bytes, Key, Memory};
 use jf_text::write_hex;
 
 /// Appends a proof block without its first line: the name, what is claimed of it, and the proof, the lowest sibling
-/// first. A refusal leaves the text as it was.
+/// first. If memory runs out, the text is unchanged (docs/FORMATS.md, Proof blocks).
 pub fn write_proof(
     name: &[u8],
     claim: Option<&[u8]>,
@@ -83,7 +84,7 @@ pub(crate) fn write_sides(siblings: &[Hash], out: &mut Bytes) -> Result<(), Memo
     Ok(())
 }
 
-/// Appends bytes in hexadecimal behind a label, and ends the line.
+/// Appends a label and bytes in hexadecimal, and ends the line.
 pub(crate) fn write_hex_line(label: &[u8], bytes: &[u8], out: &mut Bytes) -> Result<(), Memory>
     ensures ok { OnOk result (out.new ≡ out.old ++ (label.now ++ (encode_lower bytes.now ++ 10 ∷ []))) }
     ensures err { OnErr result (Extends out.old out.new) }

@@ -1,4 +1,4 @@
--- The hash of a range by what stands in it.
+-- The hash of a range of places, from what stands in it and from the hashes of its halves.
 use Rattle.std.specs.Prelude.{◌≡◌, ℕ, zero, suc, ◌+◌, ◌-◌, ◌%◌, ◌/◌, ◌^◌, ◌<◌, ◌≤◌, List, [], ◌∷◌, length, take, drop, slice_index_or}
 use Rattle.std.proofs.Common.{refl, sym, ap, ap₂, ◌∙◌, arith, pow-suc, length-take-le, length-drop}
 use Rattle.jf_hash.specs.Hashes.{E, N}
@@ -8,7 +8,7 @@ use Rattle.jf_hash.specs.RangeLaws.{some_power, fits_all, range_level}
 use Rattle.jf_hash.specs.declared.slot.Slot.{Slot}
 use Rattle.jf_hash.specs.declared.slot.Slot.TheVariants as slot
 
--- without more than one leaf the range has no need of its halves
+-- the hash of a range with no more than one leaf doesn't come from its halves
 pub range_hash-empty : (level : ℕ) (slots : List Slot) → Empty ≡ occupants slots → E ≡ range_hash level slots
 unfolding range_hash
 range_hash-empty zero slots is = ap (λ s. occupants_hash s (place_hash slots)) is
@@ -19,7 +19,7 @@ unfolding range_hash
 range_hash-lone zero slots hash is = ap (λ s. occupants_hash s (place_hash slots)) is
 range_hash-lone (suc level) slots hash is = ap (λ s. occupants_hash s (N (range_hash level (take (2 ^ level) slots)) (range_hash level (drop (2 ^ level) slots)))) is
 
--- a range of one place
+-- the hash of a range of one place
 pub range_hash-one : (level : ℕ) (slots : List Slot) (d : Slot) → Many ≡ occupants slots → length slots ≡ 1 → length slots ≡ 2 ^ level → level ≤ 4 → place_hash (slice_index_or slots 0 d ∷ []) ≡ range_hash level slots
 unfolding range_hash
 range_hash-one zero [] d is one long small = absurd (omega arith)
@@ -31,7 +31,7 @@ range_hash-one (suc (suc (suc zero))) slots d is one long small = absurd (omega 
 range_hash-one (suc (suc (suc (suc zero)))) slots d is one long small = absurd (omega arith)
 range_hash-one (suc (suc (suc (suc (suc n))))) slots d is one long small = absurd (omega arith)
 
--- half of a range of two places or more
+-- `half` is the width of each half of a range of 2 ^ level places, two or more
 pub record IsHalf (level half : ℕ) : Type 0 where
   pub is : half ≡ 2 ^ (level - 1)
   pub twice : 2 ^ level ≡ half + half
@@ -45,7 +45,7 @@ halves (suc (suc (suc zero))) n small some is = record { is = omega arith; twice
 halves (suc (suc (suc (suc zero)))) n small some is = record { is = omega arith; twice = omega arith; some = omega arith }
 halves (suc (suc (suc (suc (suc n))))) m small some is = absurd (omega arith)
 
--- the hash of a range by those of its halves
+-- the hash of a range, from those of its halves
 pub range_hash-halves : (level half : ℕ) (slots : List Slot) → 0 < level → half ≡ 2 ^ (level - 1)
     → occupants_hash (occupants slots) (N (range_hash (level - 1) (take half slots)) (range_hash (level - 1) (drop half slots))) ≡ range_hash level slots
 unfolding range_hash
@@ -75,7 +75,7 @@ range_within start width range =
     let l = range_level start width range in
     omega (arith, l.2, fits_all l.0 start l.1 (sym (ap (λ w. start % w) l.2) ∙ range.aligned) range.within)
 
--- so its level is at most 4
+-- the level of a range is at most 4
 pub small_range : (start width level : ℕ) → IsRange start width → width ≡ 2 ^ level → level ≤ 4
 small_range start width level range is = small_level level (omega (arith, is, range_within start width range))
 

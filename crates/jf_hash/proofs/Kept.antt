@@ -1,4 +1,4 @@
--- The hashes that are kept of the ranges within a range: where they stand, and what stays of them.
+-- The hashes that a node keeps of its ranges: where each stands in the list, and which are unchanged.
 use Rattle.std.specs.Prelude.{◌≡◌, ℕ, zero, suc, ◌+◌, ◌-◌, ◌^◌, ◌<◌, ◌≤◌, Bool, true, false, List, [], ◌∷◌, ◌++◌, length, take, drop, replicate}
 use Rattle.std.proofs.Common.{refl, sym, ap, ap₂, ◌∙◌, arith, length-append, length-drop, take_at, drop_at, append_assoc, set}
 use Rattle.std.proofs.lemmas.List.{drop_all, set_split}
@@ -41,7 +41,7 @@ agree_drop (suc n) [] (c ∷ changed) slots h = absurd h
 agree_drop (suc n) (o ∷ olds) [] slots h = absurd h
 agree_drop (suc n) (o ∷ olds) (c ∷ changed) [] h = absurd h
 
--- if each place changed, any places may have been there before
+-- if each place changed, nothing is asked of the places before
 pub agree_all : (old : Slot) (n : ℕ) (slots : List Slot) → length slots ≡ n → Agree (replicate n old) (replicate n true) slots
 agree_all old zero [] long = tt
 agree_all old zero (s ∷ slots) long = absurd (omega arith)
@@ -71,7 +71,7 @@ right_of : (level : ℕ) (slots : List Slot) (n : ℕ) → n + 1 ≡ 2 ^ level �
 right_of level slots n is =
     ap (take n) (rest_of level slots n is) ∙ take_at (hashes_within level (drop (2 ^ level) slots)) _ n (omega (arith, length-hashes_within level (drop (2 ^ level) slots)))
 
--- the hashes within the halves, of a range that isn't one place
+-- the hashes within a range of two places or more are those within its halves, and its own
 pub within_halves : (level half : ℕ) (slots : List Slot) (hashes : List (List ℕ)) → 0 < level → half ≡ 2 ^ (level - 1) → 1 ≤ half → hashes ≡ hashes_within level slots
     → (take (half - 1) hashes ≡ hashes_within (level - 1) (take half slots)) × (take (half - 1) (drop (half - 1) hashes) ≡ hashes_within (level - 1) (drop half slots))
 within_halves zero half slots hashes some is one at = absurd (omega arith)
@@ -83,7 +83,7 @@ within_halves (suc level) half slots hashes some is one at =
       ap (λ t. take (half - 1) (drop (half - 1) t)) at ∙ right_of level slots (half - 1) n ∙ ap₂ (λ k n. hashes_within k (drop n slots)) (sym e) (sym h),
     )
 
--- a range that is hashed again by its halves
+-- a range is hashed again from its halves
 pub hashed_over : (level half : ℕ) (slots : List Slot) (left right hash : List ℕ) (lefts rights : List (List ℕ)) → 0 < level → half ≡ 2 ^ (level - 1)
     → (left ≡ range_hash (level - 1) (take half slots)) × (lefts ≡ hashes_within (level - 1) (take half slots))
     → (right ≡ range_hash (level - 1) (drop half slots)) × (rights ≡ hashes_within (level - 1) (drop half slots))
@@ -106,7 +106,7 @@ none_hashes = refl
 -- ---- both halves are written in place, and then the last
 
 module _ {X : Type 0} (half : ℕ) (hashes lefts : List X) (some : 1 ≤ half) (room : length hashes + 1 ≡ half + half) (left_room : length lefts + 1 ≡ half) where
-  -- what stands behind the first half
+  -- the list after the hashes of the first half
   pub behind_left : take (length hashes - 1 - (half - 1)) (drop (half - 1) (lefts ++ drop (half - 1) hashes)) ≡ take (half - 1) (drop (half - 1) hashes)
   behind_left =
       ap₂ take (let e : length hashes - 1 - (half - 1) ≡ half - 1 = omega (arith, some, room) in e) (drop_at lefts (drop (half - 1) hashes) (half - 1) (omega (arith, left_room)))

@@ -45,7 +45,7 @@ first_apart (suc n) x y lt below =
       | inl e ↦ (0, omega arith, record { above = λ i up. same_above x y i e up; low = (last_bit x y e lt).0; high = (last_bit x y e lt).1 })
     ]
 
--- where two lists of one length first differ
+-- p is the first place at which two lists of one length differ, where the first list is less
 pub record Differ (a b : List ℕ) (p : ℕ) : Type 0 where
   pub within : p < length a
   pub before : (q : ℕ) → q < p → slice_index a q ≡ slice_index b q
@@ -73,7 +73,7 @@ first_differ (x ∷ a) (y ∷ b) long is =
       | Greater ↦ λ r is. absurd (cc)
     ] refl is
 
--- the first bit in which two keys differ, the first key's 0
+-- i is the first bit in which two keys differ, where the first key has 0
 pub record FirstBit (a b : List ℕ) (i : ℕ) : Type 0 where
   pub within : i < 8 * length a
   pub before : (j : ℕ) → j < i → bit a j ≡ bit b j
@@ -123,7 +123,7 @@ keys_apart a b ka kb same lt =
     let long = ka.long in
     true≢false (sym f.1.one_there ∙ sym (same f.0 (omega arith)) ∙ f.1.zero_there)
 
--- keys with the same bits are one
+-- keys with the same bits are equal
 pub same_bits : (a b : List ℕ) → IsKey a → IsKey b → ((i : ℕ) → i < 256 → bit a i ≡ bit b i) → a ≡ b
 same_bits a b ka kb same = elim (key_cmp a b) as (λ r. key_cmp a b ≡ r → a ≡ b) [
   | Less ↦ λ is. absurd (keys_apart a b ka kb same is)
@@ -131,7 +131,7 @@ same_bits a b ka kb same = elim (key_cmp a b) as (λ r. key_cmp a b ≡ r → a 
   | Greater ↦ λ is. absurd (keys_apart b a kb ka (λ i lt. sym (same i lt)) (key_cmp-turned a b Greater is))
 ] refl
 
--- under a path of 256 bits there is one key
+-- if two different keys agree in their first d bits, d is below 256
 pub two_keys : (d : ℕ) (path : ℕ → Bool) (a b : List ℕ) → IsKey a → IsKey b → ((i : ℕ) → i < d → bit a i ≡ path i) → ((i : ℕ) → i < d → bit b i ≡ path i) → ¬ (a ≡ b) → d < 256
 two_keys d path a b ka kb pa pb differ = elim (cases_lt d 256) [
   | inl lt ↦ lt

@@ -24,7 +24,7 @@ unfolding digest_bytes
 digest_is_bytes h zero = tt
 digest_is_bytes h (suc n) = bytes_append (digest_bytes h n) _ (digest_is_bytes h n) (word_bytes (slice_index h n))
 
--- the form by place
+-- a list of bytes has a byte at each place
 by_place : (xs : List ℕ) → AllByRecursion (λ x. x < 256) xs → (i : ℕ) → slice_index xs i < 256
 by_place [] p i = omega arith
 by_place (x ∷ xs) p zero = p.0

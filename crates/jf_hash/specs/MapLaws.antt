@@ -1,4 +1,4 @@
--- What maps answer, without a key and behind a batch.
+-- What a map has at a key, after one was removed and after a batch was applied.
 use Rattle.std.specs.Prelude.{◌≡◌, ℕ, Bool, true, false, cond, not, T, List, [], ◌∷◌, Option, Some, None}
 use Rattle.std.proofs.Common.{refl, sym, ap, ◌∙◌, subst, Less, Equal, Greater, Ordering, is_eq}
 use Rattle.std.specs.FinMap as map
@@ -10,7 +10,7 @@ use Rattle.jf_path.specs.Keys.{key_cmp}
 use Rattle.jf_hash.specs.Maps.{Map, Batch, change, apply, same_key}
 use Rattle.jf_hash.specs.KeyOrder.{same_key-exact, below-first, below-later, below-rest, sorted-rest}
 
--- maps that answer alike are one
+-- maps with the same value at each key are equal
 pub same_map : (m n : Map) → ((q : List ℕ) → map.get m q ≡ map.get n q) → m ≡ n
 same_map m n h = map.same_map nat_list_cmp_total same_key-exact m n h
 
@@ -18,7 +18,7 @@ turned : {A : Type 0} (b : Bool) (x y : A) → cond (not b) x y ≡ cond b y x
 turned true x y = refl
 turned false x y = refl
 
--- what stands in a map without a key
+-- the entries of a map from which a key was removed
 pub entries-remove : (m : Map) (k : List ℕ) → entries (map.remove m k) ≡ where_key key_cmp (λ x. not (same_key k x)) (entries m)
 entries-remove m k =
     let p : List ℕ → Bool = λ x. not (same_key k x) in
@@ -31,7 +31,7 @@ get-change : (m : Map) (k : List ℕ) (v : Option (List ℕ)) (q : List ℕ) →
 get-change m k (Some v) q = map.get-insert nat_list_cmp_total m k v q
 get-change m k None q = map.get-remove nat_list_cmp_total m k q
 
--- the last word of a list on a key: the value that it gives, or none, or the value before where it has no word on it
+-- what a key has after changes are made in order: what the last change of it says, or what it had `before` if no change is of it
 abbrev pub said : List ℕ → Batch → Option (List ℕ) → Option (List ℕ)
 said q [] before = before
 said q (e ∷ es) before = said q es (cond (same_key q e.0) e.1 before)
@@ -51,12 +51,12 @@ unsaid q [] before below = refl
 unsaid q (e ∷ es) before below =
     ap (λ o. said q es (cond (is_eq o) e.1 before)) (below-first q e es below) ∙ unsaid q es before (below-later q e es below)
 
--- what a key has, by what a batch says of it and what it had
+-- what a key has after a batch: what the batch says of it, or what it had before
 abbrev pub value_after : Option (Option (List ℕ)) → Option (List ℕ) → Option (List ℕ)
 value_after None before = before
 value_after (Some v) before = v
 
--- a batch in order says one thing of a key
+-- a batch whose keys rise strictly has at most one change of a key
 pub said-find : (q : List ℕ) (b : Batch) (before : Option (List ℕ)) → T (is_sorted key_cmp b) → said q b before ≡ value_after (find key_cmp q b) before
 said-find q [] before sorted = refl
 said-find q (e ∷ es) before sorted =
@@ -65,6 +65,6 @@ said-find q (e ∷ es) before sorted =
       | false ↦ λ is. said-find q es before (sorted-rest e es sorted)
     ] refl
 
--- a key that a batch names has what the batch gives, or nothing, and every other key has what it had
+-- after a batch, its keys have the values that it gives or are absent, and every other key has what it had
 pub get-apply-sorted : (m : Map) (b : Batch) (q : List ℕ) → T (is_sorted key_cmp b) → map.get (apply m b) q ≡ value_after (find key_cmp q b) (map.get m q)
 get-apply-sorted m b q sorted = get-apply m b q ∙ said-find q b (map.get m q) sorted

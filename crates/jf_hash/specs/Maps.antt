@@ -1,4 +1,4 @@
--- Maps from keys to values, batches, and what a batch makes of a map.
+-- Maps from keys to values, batches of changes, and a map after a batch.
 use Rattle.std.specs.Prelude.{ℕ, Bool, T, List, [], ◌∷◌, Option, Some, None, IfSome}
 use Rattle.std.specs.FinMap as map
 use Rattle.std.specs.FinMap.{FinMap, entries, is_sorted}
@@ -10,30 +10,30 @@ use Rattle.jf_path.specs.Keys.{key_cmp, IsKey, IsBytes}
 abbrev pub Map : Type 0
 Map = FinMap key_cmp (List ℕ)
 
--- a batch as its entries, in the order of their keys: a value, or None to remove
+-- a batch of changes: for each key a value, or None to remove it
 abbrev pub Batch : Type 0
 Batch = List (List ℕ × Option (List ℕ))
 
--- each key has 32 bytes, each value is bytes
+-- a map of the store: each key has 32 bytes, and each value is bytes
 abbrev pub IsMap : Map → Type 0
 IsMap m = AllByRecursion (λ e. IsKey e.0 × IsBytes e.1) (entries m)
 
--- keys of 32 bytes, rising strictly, and values that are bytes
+-- a batch of the store: keys of 32 bytes that rise strictly, and values that are bytes
 pub record IsBatch (b : Batch) : Type 0 where
   pub sorted : T (is_sorted key_cmp b)
   pub keys : AllByRecursion (λ e. IsKey e.0) b
   pub values : AllByRecursion (λ e. IfSome e.1 IsBytes) b
 
--- what one entry of a batch makes of a map
+-- a map after one change: the key has this value, or is removed
 abbrev pub change : List ℕ → Option (List ℕ) → Map → Map
 change key (Some value) m = map.insert m key value
 change key None m = map.remove m key
 
--- what a batch makes of a map: its keys have the values it gives or are absent, and every other key is as before
+-- a map after a batch: the batch's keys have the values it gives or are absent, and every other key is as before
 unfoldable pub apply : Map → Batch → Map
 apply m [] = m
 apply m (e ∷ es) = apply (change e.0 e.1 m) es
 
--- whether two keys are one
+-- whether two keys are equal
 abbrev pub same_key : List ℕ → List ℕ → Bool
 same_key = eq_by_cmp key_cmp

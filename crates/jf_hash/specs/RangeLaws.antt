@@ -1,4 +1,4 @@
--- The hashes of all ranges, one by one.
+-- Where the hash of each range stands among the fifteen, and how many pairs are hashed for them.
 use Rattle.std.specs.Prelude.{◌≡◌, ℕ, zero, suc, ◌+◌, ◌-◌, ◌%◌, ◌^◌, ◌<◌, ◌≤◌, ◌*◌, Bool, true, false, cond, ◌&&◌, List, [], ◌∷◌, ◌++◌, ◌⊎◌, length, take, drop}
 use Rattle.std.proofs.Common.{refl, sym, ap, ap₂, ◌∙◌, arith, pow-suc, length-append, length-take-le, length-drop, take_all, take-take, drop-drop, append_assoc, get_or, inl, inr, eq-or-lt_of_le}
 use Rattle.std.proofs.lemmas.List.{drop-take, get_or_append_left, get_or-append-add}
@@ -33,7 +33,7 @@ last_at [] x (suc n) d is = absurd (omega arith)
 last_at (y ∷ xs) x zero d is = absurd (omega arith)
 last_at (y ∷ xs) x (suc n) d is = last_at xs x n d (omega arith)
 
--- the last is that of the whole
+-- the last hash is that of the whole range
 pub within_whole : (level : ℕ) (slots : List Slot) (n : ℕ) (d : List ℕ) → 0 < level → n + 2 ≡ 2 ^ level → get_or (hashes_within level slots) n d ≡ range_hash level slots
 unfolding hashes_within
 within_whole zero slots n d some is = absurd (omega arith)
@@ -43,13 +43,14 @@ within_whole (suc level) slots n d some is =
     ap (λ t. get_or t n d) (sym (append_assoc left right (range_hash (suc level) slots ∷ [])))
     ∙ last_at (left ++ right) (range_hash (suc level) slots) n d (omega (arith, pow-suc 2 level, length-append left right, length-hashes_within level (take (2 ^ level) slots), length-hashes_within level (drop (2 ^ level) slots)))
 
--- ---- where a range stands: in the first half, or behind it
+-- ---- where a range stands: in the first half, or after it
 
--- a range of 2 ^ l places within 2 ^ suc t, which are more
+-- a range of 2 ^ l places that stands in the first half of 2 ^ suc t places
 pub record InLeft (t l start : ℕ) : Type 0 where
   pub fits : start + 2 ^ l ≤ 2 ^ t
   pub before : range_index start (2 ^ l) + 1 < 2 ^ t
 
+-- a range of 2 ^ l places that stands in the second half of 2 ^ suc t places
 pub record InRight (t l start : ℕ) : Type 0 where
   pub behind : 2 ^ t ≤ start
   pub aligned : (start - 2 ^ t) % 2 ^ l ≡ 0
@@ -166,13 +167,13 @@ range_index-small (suc (suc (suc zero))) start some small aligned lt = omega ari
 range_index-small (suc (suc (suc (suc zero)))) start some small aligned lt = omega arith
 range_index-small (suc (suc (suc (suc (suc n))))) start some small aligned lt = absurd (omega arith)
 
--- the last is that of all places
+-- the last of the fifteen hashes is that of all places
 pub range_hashes-top : (slots : List Slot) (d : List ℕ) → get_or (range_hashes slots) 14 d ≡ range_hash 4 slots
 range_hashes-top slots d = within_whole 4 slots 14 d (omega arith) refl
 
 -- ---- how many pairs are hashed
 
--- none if no place changed
+-- no pair is hashed if no place changed
 pub has_change-take : (n : ℕ) (changes : List Bool) → has_change changes ≡ false → has_change (take n changes) ≡ false
 has_change-take zero changes none = refl
 has_change-take (suc n) [] none = refl
@@ -229,7 +230,7 @@ pairs_within-one (suc (suc (suc zero))) slots changes is small = absurd (omega a
 pairs_within-one (suc (suc (suc (suc zero)))) slots changes is small = absurd (omega arith)
 pairs_within-one (suc (suc (suc (suc (suc n))))) slots changes is small = absurd (omega arith)
 
--- of a range with a changed place that isn't one place
+-- the pairs of a range with a changed place are those of its halves, and its own if it holds more than one leaf
 pub pairs_within-halves : (level half : ℕ) (slots : List Slot) (changes : List Bool) → 0 < level → half ≡ 2 ^ (level - 1) → has_change changes ≡ true
     → pairs_within (level - 1) (take half slots) (take half changes) + pairs_within (level - 1) (drop half slots) (drop half changes) + cond (is_more (occupants slots)) 1 0 ≡ pairs_within level slots changes
 unfolding pairs_within

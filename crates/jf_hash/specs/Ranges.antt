@@ -16,17 +16,17 @@ pub record IsRange (start width : ℕ) : Type 0 where
 abbrev pub lies_in : ℕ → ℕ → ℕ → Bool
 lies_in start width place = nat_le start place && nat_lt place (start + width)
 
--- those whose nibble d lies in a range of places
+-- the entries whose nibble d lies in a range of places
 abbrev pub in_range : {X : Type 0} → ℕ → ℕ → ℕ → List (List ℕ × X) → List (List ℕ × X)
 in_range d start width es = filter (λ e. lies_in start width (nibble e.0 d)) es
 
--- whether more than one leaf stands there
+-- whether a range holds more than one leaf
 abbrev pub is_more : Occupants → Bool
 is_more Empty = false
 is_more (Lone hash) = false
 is_more Many = true
 
--- what the program found in a range
+-- what a range holds, from what the program found in it
 abbrev pub found : Occupancy → Occupants
 found occupancy.Empty = Empty
 found (occupancy.Lone hash) = Lone hash
@@ -37,11 +37,11 @@ unfoldable pub hashes_within : ℕ → List Slot → List (List ℕ)
 hashes_within zero slots = []
 hashes_within (suc level) slots = hashes_within level (take (2 ^ level) slots) ++ (hashes_within level (drop (2 ^ level) slots) ++ range_hash (suc level) slots ∷ [])
 
--- those of the sixteen places of a node: fifteen
+-- the fifteen hashes that a node keeps: those of the ranges of its sixteen places
 abbrev pub range_hashes : List Slot → List (List ℕ)
 range_hashes slots = hashes_within 4 slots
 
--- where the hash of a range stands among the fifteen: after those of the ranges before it and of the ranges within it
+-- the place of a range's hash among the fifteen: after the hashes of the ranges before it and within it
 abbrev pub range_index : ℕ → ℕ → ℕ
 range_index start width = start / 2 + start / 4 + start / 8 + (width - 2)
 

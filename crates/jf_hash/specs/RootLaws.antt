@@ -1,4 +1,4 @@
--- Roots by their parts, and those of small maps.
+-- The root of a part from those of its halves, and the roots of maps of no entry and of one.
 use Rattle.std.specs.Prelude.{◌≡◌, ℕ, suc, ◌+◌, ◌-◌, ◌<◌, ◌≤◌, Bool, true, false, not, cond, List, [], ◌∷◌, map, filter, length}
 use Rattle.std.proofs.Common.{refl, sym, ap, ap₂, ◌∙◌, arith}
 use Rattle.std.specs.FinMap as fin
@@ -34,12 +34,12 @@ pub root-part_root : (m : Map) → root m ≡ part_root 0 (entries m)
 unfolding root part_root
 root-part_root m = refl
 
--- leaves stand for entries one by one
+-- there are as many leaves as entries
 pub length-leaves : (es : List (List ℕ × List ℕ)) → length (map leaf_of es) ≡ length es
 length-leaves [] = refl
 length-leaves (e ∷ es) = ap suc (length-leaves es)
 
--- and are kept by a test on keys as these are
+-- a test on keys keeps the leaves of the entries that it keeps
 pub filter-leaves : (p : List ℕ → Bool) (es : List (List ℕ × List ℕ)) → filter (λ e. p e.0) (map leaf_of es) ≡ map leaf_of (filter (λ e. p e.0) es)
 filter-leaves p [] = refl
 filter-leaves p (e ∷ es) =
@@ -62,7 +62,7 @@ part_root-split d es lt two =
     leaves_root-split d (map leaf_of es) lt (rw (length-leaves es) two)
     ∙ ap₂ (λ l r. N (leaves_root (d + 1) l) (leaves_root (d + 1) r)) (filter-leaves (λ k. not (bit k d)) es) (filter-leaves (λ k. bit k d) es)
 
--- maps that answer alike have one root
+-- maps with the same value at each key have the same root
 pub same_root : (m n : Map) → ((q : List ℕ) → fin.get m q ≡ fin.get n q) → root m ≡ root n
 same_root m n h = ap root (same_map m n h)
 

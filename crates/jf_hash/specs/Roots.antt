@@ -1,11 +1,11 @@
--- The root of a map.
+-- The root of a map: the hash of the binary tree over its keys (docs/FORMATS.md, Keys and roots).
 use Rattle.std.specs.Prelude.{ℕ, zero, suc, ◌+◌, ◌-◌, not, List, [], ◌∷◌, map, filter}
 use Rattle.std.specs.FinMap.{entries}
 use Rattle.jf_path.specs.Keys.{bit}
 use Rattle.jf_hash.specs.Hashes.{E, L, N, V}
 use Rattle.jf_hash.specs.Maps.{Map}
 
--- a key and the hash of its value
+-- a leaf: a key and the hash of its value
 abbrev pub Leaf : Type 0
 Leaf = List ℕ × List ℕ
 

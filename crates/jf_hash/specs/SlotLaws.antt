@@ -1,4 +1,4 @@
--- The hash of a range of places is the root of the entries that stand in it; so that of all places is the root of the part.
+-- The hash of a range of places is the root of the entries that stand in it, and the hash of all places is the root of the part.
 use Rattle.std.specs.Prelude.{◌≡◌, ℕ, zero, suc, ◌+◌, ◌-◌, ◌*◌, ◌/◌, ◌%◌, ◌^◌, ◌<◌, ◌≤◌, ◌==◌, Bool, true, false, not, cond, ◌&&◌, List, [], ◌∷◌, ◌++◌, map, filter, length, take, drop, slice_index}
 use Rattle.std.proofs.Common.{refl, sym, ap, ap₂, ◌∙◌, arith, take-take, drop-drop, take-append-drop, take_all, pow-suc}
 use Rattle.std.proofs.lemmas.List.{drop_more, take-map, drop-map, drop-take}
@@ -81,7 +81,7 @@ ones-in_range d l start j es small at aligned =
 
 -- ---- what stands in a range
 
--- what stands in two ranges together
+-- what two ranges hold together
 abbrev both : Occupants → Occupants → Occupants
 both Empty other = other
 both (Lone hash) other = with_leaf hash other
@@ -107,7 +107,7 @@ occupants-append (slot.Absent ∷ xs) ys = occupants-append xs ys
 occupants-append (slot.Leaf hash ∷ xs) ys = ap (with_leaf hash) (occupants-append xs ys) ∙ sym (both-with_leaf hash (occupants xs) (occupants ys))
 occupants-append (slot.Inner hash ∷ xs) ys = refl
 
--- what stands for entries
+-- what a range with these entries holds
 abbrev occupants_of : Part → Occupants
 occupants_of [] = Empty
 occupants_of (e ∷ []) = Lone (L e.0 (V e.1))
@@ -118,7 +118,7 @@ occupants_of-more e [] = refl
 occupants_of-more e (f ∷ []) = refl
 occupants_of-more e (f ∷ g ∷ es) = refl
 
--- by a test and its opposite
+-- entries hold what those that pass a test and those that fail it hold together
 occupants_of-halves : (test : List ℕ × List ℕ → Bool) (es : Part) → occupants_of es ≡ both (occupants_of (filter (λ e. not (test e)) es)) (occupants_of (filter test es))
 occupants_of-halves test [] = refl
 occupants_of-halves test (e ∷ es) =
@@ -202,7 +202,7 @@ occupants-range (suc l) d start es small lt aligned =
     (occupants-range l d (start + 2 ^ l) es (omega arith) h.1 h.2 ∙ ap occupants_of (sym (ones-in_range d l start j es (omega arith) at aligned)))
     ∙ sym (occupants_of-halves (λ e. bit e.0 j) (in_range d start (2 ^ suc l) es))
 
--- a root by what stands for the entries
+-- the root of entries, from what a range with them holds
 part_root-occupants : (j : ℕ) (es : Part) → j < 256 → occupants_hash (occupants_of es) (N (part_root (j + 1) (zeros j es)) (part_root (j + 1) (ones j es))) ≡ part_root j es
 part_root-occupants j [] lt = sym (part_root-none j)
 part_root-occupants j (e ∷ []) lt = sym (part_root-one j e.0 e.1)

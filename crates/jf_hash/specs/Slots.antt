@@ -10,15 +10,15 @@ use Rattle.jf_hash.specs.declared.slot.Slot.TheVariants as slot
 abbrev pub Part : Type 0
 Part = List (List ℕ × List ℕ)
 
--- the nibbles
+-- the sixteen nibbles in their order
 abbrev pub all_nibbles : List ℕ
 all_nibbles = 0 ∷ 1 ∷ 2 ∷ 3 ∷ 4 ∷ 5 ∷ 6 ∷ 7 ∷ 8 ∷ 9 ∷ 10 ∷ 11 ∷ 12 ∷ 13 ∷ 14 ∷ 15 ∷ []
 
--- those whose nibble d is i
+-- the entries whose nibble d is i
 abbrev pub with_nibble : {X : Type 0} → ℕ → ℕ → List (List ℕ × X) → List (List ℕ × X)
 with_nibble d i es = filter (λ e. nibble e.0 d == i) es
 
--- what stands for a part whose keys agree in their first d bits
+-- what stands at a place whose entries agree in their first d bits: nothing, a leaf, or an internal node, with its hash
 abbrev pub slot_of : ℕ → Part → Slot
 slot_of d [] = slot.Absent
 slot_of d (e ∷ []) = slot.Leaf (part_root d (e ∷ []))
@@ -36,11 +36,13 @@ pub data Occupants : Type 0 where
   Lone : List ℕ → Occupants
   Many : Occupants
 
+-- what a range holds with one more leaf, of this hash
 abbrev pub with_leaf : List ℕ → Occupants → Occupants
 with_leaf hash Empty = Lone hash
 with_leaf hash (Lone other) = Many
 with_leaf hash Many = Many
 
+-- what a list of places holds
 abbrev pub occupants : List Slot → Occupants
 occupants [] = Empty
 occupants (slot.Absent ∷ slots) = occupants slots
@@ -54,13 +56,13 @@ place_hash (slot.Absent ∷ slots) = E
 place_hash (slot.Leaf hash ∷ slots) = hash
 place_hash (slot.Inner hash ∷ slots) = hash
 
--- E for nothing, the leaf's hash for one leaf, else what is given
+-- the hash of a range by what it holds: E for nothing, a lone leaf's own hash, and `more` for more
 abbrev pub occupants_hash : Occupants → List ℕ → List ℕ
 occupants_hash Empty more = E
 occupants_hash (Lone hash) more = hash
 occupants_hash Many more = more
 
--- the hash of a range of 2 ^ level places: E without a child, the hash of a leaf that is alone in it or of its only place, else N of its halves
+-- the hash of a range of 2 ^ level places: E without a child; a lone leaf's own hash; the hash of its only place; otherwise N of the hashes of its halves
 unfoldable pub range_hash : ℕ → List Slot → List ℕ
 range_hash zero slots = occupants_hash (occupants slots) (place_hash slots)
 range_hash (suc level) slots = occupants_hash (occupants slots) (N (range_hash level (take (2 ^ level) slots)) (range_hash level (drop (2 ^ level) slots)))

@@ -1,4 +1,4 @@
--- A part falls into the entries whose next bit is 0 and, behind them, those where it is 1.
+-- A part is the entries whose next bit is 0 and, after them, those where it is 1.
 use Rattle.std.proofs.Common.{◌≡◌, ℕ, zero, suc, ◌+◌, ◌<◌, ◌≤◌, Bool, true, false, not, cond, ◌==◌, ◌⊎◌, inl, inr, List, [], ◌∷◌, ◌++◌, length, take, drop, get_or, refl, sym, ap, ap₂, ◌∙◌, arith, T, Less, true≢false, eq-or-lt_of_le}
 use Rattle.std.proofs.lemmas.List.{take-append-drop}
 use Rattle.std.specs.List.{AllByRecursion}
@@ -16,13 +16,13 @@ lt-or-le a zero = inr (omega arith)
 lt-or-le zero (suc b) = inl (omega arith)
 lt-or-le (suc a) (suc b) = elim (lt-or-le a b) [ inl h ↦ inl (omega arith) | inr h ↦ inr (omega arith) ]
 
--- where two keys under one path first differ
+-- two keys under one path first differ at a bit after it
 pub apart_at : (d : ℕ) (a b : List ℕ) (path : ℕ → Bool) → IsKey a → IsKey b → key_cmp a b ≡ Less → ((i : ℕ) → i < d → bit a i ≡ path i) → ((i : ℕ) → i < d → bit b i ≡ path i) → (i : ℕ) × (d ≤ i) × FirstBit a b i
 apart_at d a b path ka kb lt pa pb =
     let f = first_bit a b (ka.long ∙ sym kb.long) kb.bytes lt in
     (f.0, elim (lt-or-le f.0 d) [ inr le ↦ le | inl early ↦ absurd (true≢false (sym f.1.one_there ∙ pb f.0 early ∙ sym (pa f.0 early) ∙ f.1.zero_there)) ], f.1)
 
--- behind a key with the bit come keys with the bit
+-- after a key whose next bit is 1 come only such keys
 stays_one : (d : ℕ) (a b : List ℕ) (path : ℕ → Bool) → IsKey a → IsKey b → key_cmp a b ≡ Less → ((i : ℕ) → i < d → bit a i ≡ path i) → ((i : ℕ) → i < d → bit b i ≡ path i) → bit a d ≡ true → bit b d ≡ true
 stays_one d a b path ka kb lt pa pb one =
     let f = apart_at d a b path ka kb lt pa pb in
@@ -57,11 +57,11 @@ module _ {X : Type 0} where
       let rest = cut_at d p path es (record { within = omega arith; before = λ k x lt. f.before (suc k) x (omega arith); at = λ x lt. f.at x (omega arith) }) (sorted-rest e es sorted) keys.1 agree.1 in
       (ap (λ b. cond (not b) (e ∷ zeros d es) (zeros d es)) here ∙ ap (λ t. e ∷ t) rest.0, ap (λ b. cond b (e ∷ ones d es) (ones d es)) here ∙ rest.1)
 
-  -- where the first entry with bit 1 stands, the halves part
+  -- the halves of a part meet at the first entry whose bit is 1
   pub zeros_ones : (d p : ℕ) (es : List (List ℕ × X)) → IsPart d es → IsFirstOne d p es → (zeros d es ≡ take p es) × (ones d es ≡ drop p es)
   zeros_ones d p es part f = cut_at d p part.path es f part.sorted part.keys part.agree
 
-  -- two entries differ in some bit
+  -- a part of two entries or more has a next bit
   pub deeper : (d : ℕ) (es : List (List ℕ × X)) → IsPart d es → 2 ≤ length es → d < 256
   deeper d [] part two = absurd (omega arith)
   deeper d (e ∷ []) part two = absurd (omega arith)
@@ -85,7 +85,7 @@ module _ {X : Type 0} where
         | false ↦ λ is. (one_more d path false e.0 all.0 is, agree_zero d path es all.1)
       ] refl
 
-  -- under a path that is named, each half is under the path with its bit
+  -- each half of the part under a path is under the path with the half's bit added
   pub IsUnder-ones : (d : ℕ) (path : ℕ → Bool) (es : List (List ℕ × X)) → IsUnder d path es → IsUnder (d + 1) (λ i. cond (i == d) true (path i)) (ones d es)
   IsUnder-ones d path es h = record {
     sorted = is_sorted-where_key key_cmp (λ k. bit k d) es h.sorted;
@@ -100,14 +100,14 @@ module _ {X : Type 0} where
     agree = agree_zero d path es h.agree;
   }
 
-  -- a part is under some path, and what is under a path is a part
+  -- the entries under a path are a part, and each part is under some path
   pub IsPart-under : (d : ℕ) (path : ℕ → Bool) (es : List (List ℕ × X)) → IsUnder d path es → IsPart d es
   IsPart-under d path es h = record { sorted = h.sorted; keys = h.keys; path = path; agree = h.agree }
 
   pub IsUnder-part : (d : ℕ) (es : List (List ℕ × X)) (part : IsPart d es) → IsUnder d part.path es
   IsUnder-part d es part = record { sorted = part.sorted; keys = part.keys; agree = part.agree }
 
-  -- each half of a part is one
+  -- each half of a part is a part, one bit deeper
   pub ones_part : (d : ℕ) (es : List (List ℕ × X)) → IsPart d es → IsPart (d + 1) (ones d es)
   ones_part d es part = IsPart-under (d + 1) _ (ones d es) (IsUnder-ones d part.path es (IsUnder-part d es part))
 
@@ -118,7 +118,7 @@ module _ {X : Type 0} where
   none_before d p e es is f zero x lt = is
   none_before d p e es is f (suc k) x lt = f.before k x (omega arith)
 
-  -- somewhere the first entry with bit 1 stands
+  -- there is a place of the first entry with bit 1, which may be the end of the list
   pub first_one : (d : ℕ) (es : List (List ℕ × X)) → (p : ℕ) × IsFirstOne d p es
   first_one d [] = (0, record { within = omega arith; before = λ k x lt. absurd (omega arith); at = λ x lt. absurd (omega arith) })
   first_one d (e ∷ es) = elim (bit e.0 d) as (λ b. bit e.0 d ≡ b → (p : ℕ) × IsFirstOne d p (e ∷ es)) [
@@ -126,14 +126,14 @@ module _ {X : Type 0} where
     | false ↦ λ is. let f = first_one d es in (suc f.0, record { within = let w = f.1.within in omega arith; before = none_before d f.0 e es is f.1; at = λ x lt. f.1.at x (omega arith) })
   ] refl
 
-  -- those with bit 0, and then those with bit 1, are all
+  -- the entries with bit 0, and then those with bit 1, are all entries
   pub zeros-append-ones : (d : ℕ) (es : List (List ℕ × X)) → IsPart d es → zeros d es ++ ones d es ≡ es
   zeros-append-ones d es part =
       let f = first_one d es in
       let cut = zeros_ones d f.0 es part f.1 in
       ap₂ (λ (a b : List (List ℕ × X)). a ++ b) cut.0 cut.1 ∙ take-append-drop f.0 es
 
-  -- each half has its bit
+  -- each key of a half has the half's bit
   pub HaveBit-zeros : (d : ℕ) (es : List (List ℕ × X)) → HaveBit d false (zeros d es)
   HaveBit-zeros d [] = tt
   HaveBit-zeros d (e ∷ es) = elim (bit e.0 d) as (λ b. bit e.0 d ≡ b → HaveBit d false (cond (not b) (e ∷ zeros d es) (zeros d es))) [

@@ -1,6 +1,6 @@
 //! The tagged hashes, the root of a map computed as it is defined, and the hashes of a node's sixteen places and of the
-//! ranges of them. `specs/` says what keys, maps and batches are, what a batch makes of a map, what the root of a map is,
-//! and how it comes from the hash of a range of places, with the laws of each.
+//! ranges of them. `specs/` says what maps, batches and roots are, what a map is after a batch, and how a root comes
+//! from the hashes of ranges of places.
 #![tactic(auto)]
 
 mod occupancy;

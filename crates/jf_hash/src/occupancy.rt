@@ -1,4 +1,4 @@
-// What a range of places holds.
+// A range of places holds no leaf, one, or more; an internal node counts as more.
 ghost use Rattle.std.specs.Prelude.{◌≡◌};
 ghost use Rattle.jf_hash.specs.Slots.{occupants, with_leaf};
 ghost use Rattle.jf_hash.specs.Ranges.{found};
@@ -6,7 +6,7 @@ ghost use Rattle.jf_hash.specs.Ranges.{found};
 use crate::slot::Slot;
 use crate::tagged::Hash;
 
-// What a range of places holds: nothing, one leaf alone with its hash, or more.
+/// What a range of places holds: nothing, one leaf alone with its hash, or more.
 #[derive(Clone, Copy)]
 pub enum Occupancy {
     Empty,
@@ -26,7 +26,7 @@ impl Occupancy {
         }
     }
 
-    // The same, and one leaf before.
+    // What the range holds with one more leaf in front of it, of this hash.
     fn with_leaf(self, hash: &Hash) -> Occupancy
         ensures { found result ≡ with_leaf hash.now (found self) }
     {

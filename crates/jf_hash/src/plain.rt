@@ -1,4 +1,4 @@
-// The root of a map by the recursion that defines it.
+// The root of a map, computed by the recursion on the bits of keys that defines it.
 ghost use Rattle.std.specs.Prelude.{◌≡◌, ◌+◌, ◌<◌, ◌≤◌, length, T};
 ghost use Rattle.std.specs.FinMap.{is_sorted};
 ghost use Rattle.jf_path.specs.Keys.{bit, key_cmp};
@@ -8,7 +8,7 @@ ghost use Rattle.jf_hash.specs.Parts.{IsPart, IsFirstOne};
 use crate::tagged::{Hash, empty, inner, leaf};
 use jf_path::{bit, know_entries};
 
-// Where the entries whose bit `depth` is 1 begin.
+// The place of the first entry whose bit `depth` is 1, or the number of entries if there is none.
 fn first_one(entries: &[(Hash, Hash)], depth: usize) -> usize
     requires { depth < 256 }
     ensures { IsFirstOne depth result entries.now }
@@ -21,7 +21,7 @@ fn first_one(entries: &[(Hash, Hash)], depth: usize) -> usize
     entries.len()
 }
 
-// The root of a part of a map, of whose keys the first `depth` bits agree.
+// The root of entries whose keys agree in their first `depth` bits.
 fn part_root(entries: &[(Hash, Hash)], depth: usize) -> Hash
     requires part { IsPart depth entries.now }
     ensures { result ≡ leaves_root depth entries.now }
@@ -38,7 +38,8 @@ fn part_root(entries: &[(Hash, Hash)], depth: usize) -> Hash
     }
 }
 
-/// The root of a map, of whose entries the keys, rising strictly, and the hashes of the values are given.
+/// The root of a map, from its keys, which rise strictly, and the hashes of their values (docs/FORMATS.md, Keys and
+/// roots).
 pub fn plain_root(entries: &[(Hash, Hash)]) -> Hash
     requires { T (is_sorted key_cmp entries.now) }
     ensures { result ≡ leaves_root 0 entries.now }

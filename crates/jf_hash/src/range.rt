@@ -1,4 +1,5 @@
-// The hash of a range of the sixteen places of a node.
+// A range of a node's sixteen places has 1, 2, 4, 8 or 16 of them, from a multiple of its width on. Its hash is the
+// root of the entries there.
 ghost use Rattle.std.specs.Prelude.{◌≡◌, ℕ, ◌*◌, ◌^◌, ◌<◌, ◌≤◌, [], ◌∷◌, length, take, drop};
 ghost use Rattle.jf_hash.specs.Hashes.{E};
 ghost use Rattle.jf_hash.specs.Roots.{part_root};
@@ -9,7 +10,7 @@ use crate::occupancy::Occupancy;
 use crate::slot::Slot;
 use crate::tagged::{Hash, empty, inner};
 
-// The hash of what one place holds; `none` is that of no entry.
+// The hash of what one place holds; `none` is the hash of no entry.
 pub fn hash_at(place: &Slot, none: &Hash) -> Hash
     requires { none.now ≡ E }
     ensures { result ≡ place_hash (place.now ∷ []) }
@@ -37,9 +38,10 @@ fn hash_of(places: &[Slot]) -> Hash
     }
 }
 
-/// The hash of the range of `width` places from place `start` on of a node: the hash of no entry if
-/// it holds no child; the hash of a lone leaf; if the range is one place, the hash of the internal node there; otherwise
-/// that of the pair of its halves. For all sixteen places this is the hash of the node.
+/// The hash of a range of a node's places, which has `width` places from place `start` on: the hash of no entry if no
+/// child is there; a lone leaf's own hash; an internal node's own hash if the range is just its place; otherwise the
+/// hash of the pair of its halves. For all sixteen places this is the hash of the node (docs/FORMATS.md, Keys and
+/// roots).
 pub fn sixteen(children: &[Slot; 16], start: usize, width: usize) -> Hash
     requires range { IsRange start width }
     ensures value { (level : ℕ) → width ≡ 2 ^ level → result ≡ range_hash level (take width (drop start children.now)) }

@@ -42,8 +42,8 @@ fn any_changed(changed: &[bool]) -> bool
     }
 }
 
-// The hash of a range by those of its halves, which are hashed as a pair only if it holds more than one leaf; and
-// the number of pairs that were hashed for it.
+// The hash of a range from those of its halves, and the number of pairs that were hashed for it. The halves are hashed
+// as a pair only if the range holds more than one leaf.
 fn hash_over(places: &[Slot], left: &Hash, right: &Hash, none: &Hash) -> (Hash, u64)
     requires { none.now ≡ E }
     ensures value { result.0 ≡ occupants_hash (occupants places.now) (N left.now right.now) }
@@ -56,8 +56,8 @@ fn hash_over(places: &[Slot], left: &Hash, right: &Hash, none: &Hash) -> (Hash, 
     }
 }
 
-// Makes the hashes of the ranges within a range those of its places as they are now; `changed` says which of these
-// changed. Returns the hash of the whole, and the number of pairs that were hashed.
+// Brings the hashes of the ranges within a range up to date with its places; `changed` says which places changed.
+// Returns the hash of the whole range, and the number of pairs that were hashed.
 fn refresh(places: &[Slot], changed: &[bool], hashes: &mut [Hash], none: &Hash) -> (Hash, u64)
     requires changes { length changed.now ≡ length places.now }
     requires room { length hashes.old + 1 ≡ length places.now }
@@ -99,7 +99,8 @@ impl Ranges {
         Ranges::of_counted(slots).0
     }
 
-    /// The same, and the number of pairs that were hashed, one for each range that holds more than one leaf.
+    /// The hashes of the ranges of these places, and the number of pairs that were hashed: one for each range of two
+    /// places or more that holds more than one leaf.
     pub fn of_counted(slots: &[Slot; 16]) -> (Ranges, u64)
         ensures value { result.0 ≡ range_hashes slots.now }
         ensures pairs { result.1 ≡ pairs_within 4 slots.now (replicate 16 true) }
@@ -111,7 +112,7 @@ impl Ranges {
         (Ranges { hashes }, pairs)
     }
 
-    /// The hashes of the ranges of these places, of which only those in `changed` are others than before. Only ranges
+    /// The hashes of the ranges of these places, of which only those in `changed` may differ from before. Only ranges
     /// with a changed place are hashed again, and of these only those that hold more than one leaf.
     pub fn updated(&self, slots: &[Slot; 16], changed: &[bool; 16]) -> Ranges
         ensures { (olds : List Slot) → self.now ≡ range_hashes olds → Agree olds changed.now slots.now → result ≡ range_hashes slots.now }
@@ -119,7 +120,7 @@ impl Ranges {
         self.updated_counted(slots, changed).0
     }
 
-    /// The same, and the number of pairs that were hashed.
+    /// The hashes that `updated` returns, and the number of pairs that were hashed.
     pub fn updated_counted(&self, slots: &[Slot; 16], changed: &[bool; 16]) -> (Ranges, u64)
         ensures value { (olds : List Slot) → self.now ≡ range_hashes olds → Agree olds changed.now slots.now → result.0 ≡ range_hashes slots.now }
         ensures pairs { result.1 ≡ pairs_within 4 slots.now changed.now }
@@ -142,7 +143,7 @@ impl Ranges {
         self.hashes[start / 2 + start / 4 + start / 8 + (width - 2)]
     }
 
-    /// The hash of all places, which is that of the node.
+    /// The hash of all places, which is the hash of the node.
     pub fn top(&self) -> Hash
         ensures entry { result ≡ slice_index_or self.now 14 [] }
         ensures value { (slots : List Slot) → self.now ≡ range_hashes slots → result ≡ range_hash 4 slots }

@@ -1,7 +1,7 @@
-// One place of a node.
+// A node has sixteen places, one for each nibble that may follow.
 use crate::tagged::Hash;
 
-/// What stands at one of the sixteen places of a node: nothing, a leaf with its hash, or an internal node with its hash.
+/// What stands at one place of a node: nothing, a leaf with its hash, or an internal node with its hash.
 #[derive(Clone, Copy, Debug, PartialEq, Eq)]
 pub enum Slot {
     Absent,

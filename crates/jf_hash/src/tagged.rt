@@ -1,4 +1,4 @@
-// The tagged hashes.
+// A tagged hash is the SHA-256 of a tag byte, 0 to 4, and then of what is hashed (docs/FORMATS.md, Keys and roots).
 ghost use Rattle.std.specs.Prelude.{◌≡◌};
 ghost use Rattle.jf_hash.specs.Hashes.{E, L, N, V, K};
 
@@ -7,7 +7,7 @@ use sha2::{Digest, Sha256};
 /// A SHA-256 hash (FIPS 180-4): 32 bytes.
 pub type Hash = [u8; 32];
 
-// The hash of no entry, as it is computed by the proof of `empty`.
+// The hash of no entry. The proof of `empty` computes it.
 const NO_ENTRY: Hash = [
     0x6e, 0x34, 0x0b, 0x9c, 0xff, 0xb3, 0x7a, 0x98, 0x9c, 0xa5, 0x44, 0xe6, 0xbb, 0x78, 0x0a, 0x2c,
     0x78, 0x90, 0x1d, 0x3f, 0xb3, 0x37, 0x38, 0x76, 0x85, 0x11, 0xa3, 0x06, 0x17, 0xaf, 0xa0, 0x1d,
@@ -31,7 +31,8 @@ pub fn leaf(key: &Hash, value_hash: &Hash) -> Hash
     hasher.finalize()
 }
 
-/// The hash of a pair of parts: of the byte 2, the hash of the keys whose next bit is 0, and that of the others.
+/// The hash of a pair: of the byte 2, the hash of the part whose next bit is 0, and the hash of the part whose next bit
+/// is 1.
 #[tactic(auto, unfolding(crate::specs::Hashes::N))]
 pub fn inner(left: &Hash, right: &Hash) -> Hash
     ensures { result ≡ N left.now right.now }

@@ -1,4 +1,4 @@
--- Lines with their line feeds, and what stands behind them.
+-- Lines with their line feeds, and the bytes after them.
 use Rattle.std.proofs.Common.{◌≡◌, ℕ, ◌+◌, ◌<◌, cond, List, [], ◌∷◌, ◌++◌, length, refl, sym, ap, ◌∙◌, arith, append_assoc}
 use Rattle.std.specs.List.{AllByRecursion, onto_first}
 use Rattle.jf_io.specs.Lines.{lines, whole_lines}

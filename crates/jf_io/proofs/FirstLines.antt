@@ -1,4 +1,4 @@
--- The lines that were done of an input, what is held after them, and what is left: how far the input was read.
+-- How far an input was read: the lines that are done, the bytes held after them, and the bytes still to come.
 use Rattle.std.proofs.Common.{◌≡◌, ℕ, zero, suc, ◌<◌, ◌≤◌, true, false, cond, List, [], ◌∷◌, ◌++◌, take, length, refl, sym, ap, ◌∙◌, subst, arith, le_refl, append_assoc, append-nil, length-append, take_all, take_at}
 use Rattle.std.specs.Prelude.{◌==◌}
 use Rattle.std.specs.List.{AllByRecursion}
@@ -17,7 +17,7 @@ enough_front [] ms n le = omega arith
 enough_front (l ∷ ls) ms zero le = absurd (omega arith)
 enough_front (l ∷ ls) ms (suc n) le = omega (arith, enough_front ls ms n (omega arith))
 
--- of what was taken, which begins with these lines
+-- lines that were taken with their line feeds are the first lines read
 first_parts : (ls : List (List ℕ)) (held left : List ℕ) → AllByRecursion IsPlain ls → (length ls ≤ length (lines_read (ended ls ++ held) left)) × (take (length ls) (lines_read (ended ls ++ held) left) ≡ ls)
 first_parts ls held left p =
     let all = ended ls ++ held in
@@ -31,25 +31,25 @@ first_parts ls held left p =
 pub first_lines : (ls : List (List ℕ)) (held left : List ℕ) → AllByRecursion IsPlain ls → AreFirst (ended ls ++ held) left ls
 first_lines ls held left p = let both = first_parts ls held left p in record { enough = both.0; are = both.1 }
 
--- all lines are the first of an input of which nothing is left
+-- if no byte is still to come, all lines taken are the first lines of the input
 pub all_first : (taken : List ℕ) (ls : List (List ℕ)) → lines taken ≡ ls → AreFirst taken [] ls
 all_first taken ls e = record { enough = omega (arith, ap length e); are = rw e (take_all (length ls) ls (le_refl (length ls))) }
 
--- where no line feed is held, the lines done are all that end with one
+-- if no line feed is held, the lines done are all that end with one
 pub whole_taken : (ls : List (List ℕ)) (held : List ℕ) → AllByRecursion IsPlain ls → IsPlain held → length ls ≡ whole_lines (ended ls ++ held)
 whole_taken ls held plain p = omega (arith, whole_front ls held plain, whole_none held p)
 
--- what was taken, with one line more that ends with its line feed
+-- what was taken, after one more line that ends with its line feed
 pub next_taken : (ls : List (List ℕ)) (held l behind : List ℕ) → held ≡ l ++ 10 ∷ behind → ended ls ++ held ≡ ended (ls ++ l ∷ []) ++ behind
 next_taken ls held l behind cut =
     ap (λ t. ended ls ++ t) (cut ∙ sym (append_assoc l (10 ∷ []) behind)) ∙ sym (append_assoc (ended ls) (l ++ 10 ∷ []) behind) ∙ ap (λ t. t ++ behind) (sym (ended-more ls l))
 
 module _ (all : List ℕ) (ls : List (List ℕ)) (held left : List ℕ) (plain : AllByRecursion IsPlain ls) (is : all ≡ ended ls ++ held ++ left) where
-  -- after the lines done come those of what is held and left
+  -- after the lines done come those of the bytes held and still to come
   pub lines_to_come : lines all ≡ ls ++ lines (held ++ left)
   lines_to_come = ap lines (is ∙ append_assoc (ended ls) held left) ∙ lines_front ls (held ++ left) plain
 
-  -- one line more, with its line feed
+  -- one more line is done, with its line feed
   pub next_line : (l behind : List ℕ) → held ≡ l ++ 10 ∷ behind → all ≡ ended (ls ++ l ∷ []) ++ behind ++ left
   next_line l behind cut = is ∙ ap (λ t. t ++ left) (next_taken ls held l behind cut)
 

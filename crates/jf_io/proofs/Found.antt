@@ -1,4 +1,4 @@
--- A line that stands at the front of what is held is the first one of what is held and left.
+-- A line at the front of what is held is the first line of the bytes held and still to come.
 use Rattle.std.proofs.Common.{◌≡◌, ◌⊎◌, inl, inr, ℕ, ◌+◌, ◌<◌, List, [], ◌∷◌, ◌++◌, drop, length, Option, Some, refl, sym, ap, ◌∙◌, arith, append_assoc, append-nil, eq-or-lt_of_le}
 use Rattle.std.proofs.lemmas.List.{drop_all}
 use Rattle.std.specs.List.{position_or_len, before_first, after_first}
@@ -9,12 +9,12 @@ use Rattle.jf_io.specs.Inputs.{IsPlain, IsFound}
 use Rattle.jf_io.proofs.Plain.{place_le, front_plain, front_split, front_whole, held_plain}
 use Rattle.jf_io.proofs.EndedLines.{lines_nil, lines_one, lines_last}
 
--- what is held may be shortened
+-- a line that is found in a shortened text is found in the whole text
 pub found_whole : (limit : ℕ) (source : Option (List ℕ)) (whole held : List ℕ) → IsShortened limit whole held → IsFound held source → IsFound whole source
 found_whole limit source whole held short (inl cut) = inl (finished-text limit whole held short cut)
 found_whole limit source whole held short (inr last) = inr (some-text limit whole held short last.0, last.1)
 
--- it ends with a line feed, or is all there is
+-- the line found ends with a line feed, or no byte is still to come
 pub where_of : (held : List ℕ) (rest : Option (List ℕ)) → IsFound held rest
     → (position_or_len is_line_feed held < length held) ⊎ ((position_or_len is_line_feed held ≡ length held) × (0 < length held) × ((left : List ℕ) → rest ≡ Some left → left ≡ []))
 where_of held rest (inl cut) = inl cut
@@ -28,7 +28,7 @@ pub last_of : (held : List ℕ) (rest : Option (List ℕ)) → position_or_len i
 last_of held rest whole (inl cut) = absurd (omega arith)
 last_of held rest whole (inr last) = (whole, last.0, last.1)
 
--- behind a line without a line feed there is nothing
+-- nothing is held after a line without a line feed
 pub after_whole : (held : List ℕ) → position_or_len is_line_feed held ≡ length held → after_first is_line_feed held ≡ []
 after_whole held e = ap (λ n. drop (n + 1) held) e ∙ drop_all (length held + 1) held (omega arith)
 
@@ -47,7 +47,7 @@ last_line held whole some =
     ap lines (append-nil held) ∙ one_line held (held_plain held whole) some ∙ ap (λ l. l ∷ []) (sym (front_whole held whole))
     ∙ ap (λ ls. before_first is_line_feed held ∷ ls) (sym (ap (λ a. lines (a ++ [])) (after_whole held whole) ∙ lines_nil))
 
--- the lines to come are the one that was found and those behind it
+-- the lines to come are the one that was found and those after it
 pub lines_found : (held left : List ℕ) → IsFound held (Some left) → lines (held ++ left) ≡ before_first is_line_feed held ∷ lines (after_first is_line_feed held ++ left)
 lines_found held left found = elim (where_of held (Some left) found) [
   | inl cut ↦ cut_line held left cut

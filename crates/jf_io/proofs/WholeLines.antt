@@ -1,4 +1,4 @@
--- Bytes in pieces, and their lines.
+-- The lines of bytes that come in two parts, and how many of them end with 0A.
 use Rattle.std.proofs.Common.{◌≡◌, ℕ, ◌+◌, ◌==◌, Bool, true, false, cond, List, [], ◌∷◌, ◌++◌, length, take, refl, sym, ap, ◌∙◌, arith, take_all}
 use Rattle.std.proofs.lemmas.List.{take-append-le}
 use Rattle.std.proofs.lemmas.List.Sums.{sum_by-append, sum_by-cons}
@@ -22,7 +22,7 @@ unfolding lines
 has_line [] = tt
 has_line (x ∷ xs) = elim (x == 10) as (λ b. HasLine (cond b ([] ∷ lines (xs ++ 10 ∷ [])) (onto_first x (lines (xs ++ 10 ∷ []))))) [ true ↦ tt | false ↦ onto_has x (lines (xs ++ 10 ∷ [])) ]
 
--- behind a 0A the lines go on by themselves
+-- after a 0A the lines are those of the bytes that follow
 pub lines-append : (xs ys : List ℕ) → lines (xs ++ 10 ∷ ys) ≡ lines (xs ++ 10 ∷ []) ++ lines ys
 unfolding lines
 lines-append [] ys = refl
@@ -36,14 +36,14 @@ not_one : (t : Bool) (n : ℕ) → cond t 1 0 + n ≡ 0 → t ≡ false
 not_one true n h = absurd (omega arith)
 not_one false n h = refl
 
--- a byte in front
+-- one more byte in front
 pub whole_lines-cons : (b : ℕ) (bytes : List ℕ) → whole_lines (b ∷ bytes) ≡ cond (b == 10) 1 0 + whole_lines bytes
 whole_lines-cons b bytes = sum_by-cons (λ x. cond (x == 10) 1 0) b bytes
 
 pub whole_lines-append : (xs ys : List ℕ) → whole_lines (xs ++ ys) ≡ whole_lines xs + whole_lines ys
 whole_lines-append xs ys = sum_by-append (λ x. cond (x == 10) 1 0) xs ys
 
--- what is no 0A, and has none behind it
+-- bytes without 0A begin with another byte, and have no 0A after it
 no_feed : (b : ℕ) (bytes : List ℕ) → whole_lines (b ∷ bytes) ≡ 0 → ((b == 10) ≡ false) × (whole_lines bytes ≡ 0)
 no_feed b bytes h =
     let e = whole_lines-cons b bytes in
@@ -61,7 +61,7 @@ lines-one (b ∷ bytes) h =
     let none = no_feed b bytes h in
     rw (none.0, lines-one bytes none.1) (onto_one b bytes)
 
--- the first line
+-- the first line ends at the first 0A
 pub lines-first : (line rest : List ℕ) → whole_lines line ≡ 0 → lines (line ++ 10 ∷ rest) ≡ line ∷ lines rest
 unfolding lines
 lines-first [] rest h = refl
@@ -69,7 +69,7 @@ lines-first (b ∷ line) rest h =
     let none = no_feed b line h in
     rw (none.0, lines-first line rest none.1) refl
 
--- as many lines as 0A
+-- a byte put onto the first line makes no new line
 length-onto : (b : ℕ) (ls : List (List ℕ)) → HasLine ls → length (onto_first b ls) ≡ length ls
 length-onto b [] h = absurd h
 length-onto b (l ∷ ls) h = refl
@@ -85,7 +85,7 @@ length-lines (b ∷ front) =
     length-lines_step b (lines (front ++ 10 ∷ [])) (whole_lines (front ++ 10 ∷ [])) (b == 10) (has_line front) (length-lines front)
     ∙ sym (whole_lines-cons b (front ++ 10 ∷ []))
 
--- the whole lines
+-- the lines that end with 0A are those of the bytes up to the last 0A
 pub take-lines : (front rest : List ℕ) → whole_lines rest ≡ 0
     → take (whole_lines (front ++ 10 ∷ rest)) (lines (front ++ 10 ∷ rest)) ≡ lines (front ++ 10 ∷ [])
 take-lines front rest h =

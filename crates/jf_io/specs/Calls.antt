@@ -1,7 +1,7 @@
 -- The calls of a source or a sink in memory, numbered from 0, of which listed ones fail.
 use Rattle.std.specs.Prelude.{ℕ, ◌+◌, ◌-◌, ◌^◌, min, List, Contains}
 
--- the calls so far
+-- the calls made so far, and the numbers of those that fail
 pub record CallsMade : Type 0 where
   -- how many calls were made, which is the number of the next call
   pub made : ℕ

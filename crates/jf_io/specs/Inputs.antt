@@ -3,11 +3,11 @@ use Rattle.std.specs.Prelude.{◌≡◌, ◌⊎◌, ℕ, ◌<◌, false, ◌==�
 use Rattle.std.specs.List.{AllByRecursion, position_or_len}
 use Rattle.jf_io.specs.LineReader.{is_line_feed}
 
--- no line feed
+-- a line's own bytes: no line feed among them
 abbrev pub IsPlain : List ℕ → Type 0
 IsPlain l = AllByRecursion (λ b. (b == 10) ≡ false) l
 
--- lines with their line feeds
+-- the bytes of lines, each with its line feed
 abbrev pub ended : List (List ℕ) → List ℕ
 ended [] = []
 ended (l ∷ ls) = l ++ 10 ∷ ended ls

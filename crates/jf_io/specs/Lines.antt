@@ -1,4 +1,4 @@
--- Bytes as lines.
+-- How bytes are cut into lines: each ends with 0A, and the last one may lack it.
 use Rattle.std.specs.Prelude.{ℕ, if◌then◌else◌, ◌==◌, List, [], ◌∷◌, count_by}
 use Rattle.std.specs.List.{onto_first}
 
@@ -7,7 +7,7 @@ unfoldable pub lines : List ℕ → List (List ℕ)
 lines [] = []
 lines (b ∷ bytes) = if b == 10 then [] ∷ lines bytes else onto_first b (lines bytes)
 
--- bytes without 0A as lines
+-- the lines of bytes without 0A: one, or no line if there are no bytes
 abbrev pub one_line : List ℕ → List (List ℕ)
 one_line [] = []
 one_line (b ∷ bytes) = (b ∷ bytes) ∷ []

@@ -2,7 +2,7 @@
 use Rattle.std.specs.Prelude.{◌≡◌, ℕ, ◌≤◌, if◌then◌else◌, ◌==◌, List, take, length}
 use Rattle.jf_io.specs.Lines.{lines, whole_lines}
 
--- the lines of what was taken that were read to their ends: a cut last line is none unless nothing is left
+-- the lines of what was taken that were read to their ends: an unfinished last line counts only if no byte is still to come
 abbrev pub lines_read : List ℕ → List ℕ → List (List ℕ)
 lines_read taken left = if length left == 0 then lines taken else take (whole_lines taken) (lines taken)
 

@@ -49,7 +49,7 @@ impl Calls {
         contains(&self.failing, self.made)
     }
 
-    /// Counts a call that did its work.
+    /// Counts a call that succeeded.
     pub(crate) fn succeed(&mut self)
         ensures { self.new ≡ after_success self.old }
     {

@@ -2,17 +2,17 @@
 ghost use Rattle.std.specs.Prelude.{◌≡◌, ℕ, List, [], ◌∷◌, ◌++◌, length, take};
 ghost use Rattle.jf_io.specs.Lines.{lines, one_line, whole_lines};
 
-/// Bytes without a line feed are one line, or none where there are no bytes.
+/// Bytes without a line feed are one line, or no line if there are no bytes.
 pub fn bytes_without_feed_are_one_line()
     ensures { (bytes : List ℕ) → whole_lines bytes ≡ 0 → lines bytes ≡ one_line bytes }
 {}
 
-/// Up to the first line feed stands the first line.
+/// The first line ends at the first line feed.
 pub fn first_line_ends_at_first_feed()
     ensures { (line rest : List ℕ) → whole_lines line ≡ 0 → lines (line ++ 10 ∷ rest) ≡ line ∷ lines rest }
 {}
 
-/// Behind a line feed the lines go on by themselves.
+/// After a line feed the lines are those of the bytes that follow.
 pub fn lines_go_on_behind_a_feed()
     ensures { (front rest : List ℕ) → lines (front ++ 10 ∷ rest) ≡ lines (front ++ 10 ∷ []) ++ lines rest }
 {}
@@ -22,7 +22,7 @@ pub fn whole_lines_count_lines()
     ensures { (front : List ℕ) → length (lines (front ++ 10 ∷ [])) ≡ whole_lines (front ++ 10 ∷ []) }
 {}
 
-/// The whole lines are those of the bytes up to the last line feed.
+/// The lines that end with a line feed are those of the bytes up to the last line feed.
 pub fn whole_lines_come_first()
     ensures { (front rest : List ℕ) → whole_lines rest ≡ 0
         → take (whole_lines (front ++ 10 ∷ rest)) (lines (front ++ 10 ∷ rest)) ≡ lines (front ++ 10 ∷ []) }

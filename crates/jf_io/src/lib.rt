@@ -1,5 +1,5 @@
-//! Sources give input and sinks take output, piece by piece; both count their faults.
-//! They stand in memory, for tests, and over std's readers and writers. A line reader cuts the input into lines.
+//! Sources give input and sinks take output, piece by piece; both count their faults. There are sources and sinks in
+//! memory, for tests, and over std's readers and writers. A line reader cuts input into lines.
 #![tactic(auto)]
 
 mod attempts;

@@ -1,4 +1,4 @@
--- What holds of the entries of a range, by what holds of those of its stored node.
+-- What holds of the entries of a range, from what holds of the entries of its stored node.
 use Rattle.std.specs.Prelude.{◌≡◌, ◌<◌, ◌≤◌, ◌+◌, ◌-◌, ◌*◌, ◌/◌, ◌%◌, ◌^◌, ℕ, zero, suc, Bool, true, false, cond, List, [], ◌∷◌, length}
 use Rattle.std.proofs.Common.{arith, refl, sym, ap, ◌∙◌, subst, inl, inr}
 use Rattle.std.proofs.lemmas.Bool.{cases_lt}
@@ -29,7 +29,7 @@ same_digit true false is = absurd (omega (arith, is))
 same_digit false true is = absurd (omega (arith, is))
 same_digit false false is = refl
 
--- what a nibble's bit of weight 2 ^ l is
+-- the bit of a nibble that is bit i of the key
 weight_at : (key : List ℕ) (i : ℕ) → nibble key (i / 4) / 2 ^ (3 - i % 4) % 2 ≡ digit (bit key i)
 weight_at key i = weight key (i / 4) (3 - i % 4) i (omega arith) (omega arith)
 
@@ -58,12 +58,12 @@ high_bits (suc (suc (suc zero))) (suc (suc (suc zero))) start n le lt aligned th
 high_bits (suc (suc (suc (suc level)))) l start n le lt aligned there = absurd (omega arith)
 high_bits level (suc (suc (suc (suc l)))) start n le lt aligned there = absurd (omega arith)
 
--- a key of a range of places: its first nibbles are those of a path, and its next lies there
+-- a key in a range of places: its first nibbles are those of a path, and its next nibble lies in the range
 record LiesIn (d start level : ℕ) (path : ℕ → ℕ) (key : List ℕ) : Type 0 where
   before : (i : ℕ) → i < d → nibble key i ≡ path i
   there : lies_in start (2 ^ level) (nibble key d) ≡ true
 
--- two such keys agree in the bits that tell this range from the others
+-- two keys in a range agree in the bits that tell this range from the others
 alike : (d start level : ℕ) (path : ℕ → ℕ) (a b : List ℕ) → level ≤ 4 → start % 2 ^ level ≡ 0 → LiesIn d start level path a → LiesIn d start level path b → (i : ℕ) → i < 4 * d + (4 - level) → bit a i ≡ bit b i
 alike d start level path a b narrow aligned la lb i lt = elim (cases_lt (i / 4) d) [
   | inl before ↦ same_nibble a b i (la.before (i / 4) before ∙ sym (lb.before (i / 4) before))
@@ -75,7 +75,7 @@ alike d start level path a b narrow aligned la lb i lt = elim (cases_lt (i / 4) 
       same_digit (bit a i) (bit b i) (sym (at a la.there) ∙ at b lb.there)
 ]
 
--- the entries of a range lie in it
+-- the keys of a range's entries lie in it
 lie_there : (d start level : ℕ) (path : ℕ → ℕ) (es : Part) → AllByRecursion (λ e. (i : ℕ) → i < d → nibble e.0 i ≡ path i) es → AllByRecursion (λ e. LiesIn d start level path e.0) (in_range d start (2 ^ level) es)
 lie_there d start level path [] all = tt
 lie_there d start level path (e ∷ es) all =
@@ -84,7 +84,7 @@ lie_there d start level path (e ∷ es) all =
       | false ↦ λ is. lie_there d start level path es all.1
     ] refl
 
--- the bits of the first key
+-- the bits of the first entry's key
 abbrev first_bits : Part → ℕ → Bool
 first_bits [] i = false
 first_bits (e ∷ es) i = bit e.0 i
@@ -144,7 +144,7 @@ several_known depth x start level p link =
       short = All-filter (λ e. length e.1 ≤ 4096) (λ e. test e.0) x.entries link.entries.short;
     }
 
--- by how it is kept
+-- what holds of a range without an entry, of a leaf's, and of one over places
 pub known_nowhere : (v : RangeValue) (depth : ℕ) (place : Place) → range_value depth place ≡ v → IsPlaced depth place → place ≡ Nowhere → IsRangeValue v
 known_nowhere v depth place seen h is = subst IsRangeValue (sym (kept_as v depth place Nowhere seen is)) (none_known depth (placed_nowhere depth place h is))
 

@@ -1,4 +1,4 @@
--- What a range of places has, and what its halves have.
+-- The entries of a range of places, and those of its halves.
 use Rattle.std.specs.Prelude.{◌≡◌, ◌<◌, ◌≤◌, ◌+◌, ◌-◌, ◌*◌, ◌%◌, ◌^◌, ℕ, zero, suc, Bool, true, false, cond, List, [], ◌∷◌, length, take, drop, Option, Some, None}
 use Rattle.std.proofs.Common.{arith, refl, sym, ap, ap₂, ◌∙◌, subst, get_or}
 use Rattle.std.specs.FinMap.{find}
@@ -34,7 +34,7 @@ one_hash d e [] one = absurd (omega arith)
 one_hash d e (x ∷ []) one = part_root-one d x.0 x.1 ∙ sym (part_root-one e x.0 x.1)
 one_hash d e (x ∷ y ∷ es) one = absurd (omega arith)
 
--- all places have all entries
+-- the range of all places has all entries
 pub in_all : (d : ℕ) (es : Part) → in_range d 0 (2 ^ 4) es ≡ es
 in_all d [] = refl
 in_all d (e ∷ es) = ap₂ (λ b t. cond b (e ∷ t) t) (any (nibble e.0 d) (nibble-small e.0 d)) (in_all d es)
@@ -49,7 +49,7 @@ in_few d start width (e ∷ es) =
     let rest = in_few d start width es in
     elim (lies_in start width (nibble e.0 d)) as (λ b. length (cond b (e ∷ in_range d start width es) (in_range d start width es)) ≤ length (e ∷ es)) [ true ↦ omega arith | false ↦ omega arith ]
 
--- all places of an inner node
+-- all places of an inner node are a range with two entries or more
 pub all_of_node : (x : LinkValue) (depth : ℕ) → IsLink x → ¬ (length x.entries ≡ 1) → depth ≡ 4 * x.depth → ArePlaces depth x 0 4
 all_of_node x depth link more deep =
     let two : 2 ≤ length x.entries = omega (arith, link.entries.some) in
@@ -96,7 +96,7 @@ upper_half depth x start level half h is =
 
 -- ---- one place, and several
 
--- the node of some places
+-- the node of the binary tree for some places of a stored node
 abbrev pub among : LinkValue → ℕ → ℕ → RangeValue
 among x start level = record { depth = 4 * x.depth + (4 - level); entries = in_range x.depth start (2 ^ level) x.entries }
 
@@ -105,7 +105,7 @@ at_one x links start level shows small one =
     let long = shows.children.long in
     ap (λ l. in_range x.depth start (2 ^ l) x.entries) one ∙ ap (in_range x.depth start 1) shows.entries ∙ one_place x.depth start links shows.children.fit (omega arith)
 
--- at one place no child stands, or one
+-- the node for one place has no entry, or is the top of the child there
 pub one_none : (x : LinkValue) (links : List (Option LinkValue)) (start level d : ℕ) → ShowsInner x links → start < 16 → level ≡ 0 → d ≡ x.depth → None ≡ get_or links start None → record { depth = 4 * d + (4 - level); entries = [] } ≡ among x start level
 one_none x links start level d shows small one deep is =
     ap₂ (λ k es. record { depth = 4 * k + (4 - level); entries = es }) deep (sym (at_one x links start level shows small one ∙ ap content (sym is)))
@@ -116,12 +116,12 @@ one_some x child links start level shows small one is =
     let deep : 4 * child.depth ≡ 4 * x.depth + (4 - level) = omega arith in
     ap₂ (λ k es. record { depth = k; entries = es }) deep (sym (at_one x links start level shows small one ∙ ap content (sym is)))
 
--- what is found is what stands there
+-- what is found at some places are the children there
 pub found_there : (x : LinkValue) (links : List (Option LinkValue)) (start level width : ℕ) (f : Found) → ShowsInner x links → width ≡ 2 ^ level → IsFound (joined (take width (drop start links))) f → IsFound (in_range x.depth start (2 ^ level) x.entries) f
 found_there x links start level width f shows wide h =
     subst (λ es. IsFound es f) (sym (ap₂ (in_range x.depth start) (sym wide) shows.entries ∙ in_range-joined x.depth start width links shows.children.fit)) h
 
--- several entries at several places
+-- two entries or more at several places
 pub several_places : (x : LinkValue) (start level depth d : ℕ) → IsLink x → 2 ≤ length x.entries → level ≤ 4 → ¬ (level ≡ 0) → start % 2 ^ level ≡ 0 → start < 16 → d ≡ x.depth → depth ≡ 4 * d + (4 - level) → 2 ≤ length (in_range x.depth start (2 ^ level) x.entries) → ArePlaces depth x start level
 several_places x start level depth d link inner small wide aligned within deep is two = record {
   wide = omega arith;
@@ -145,14 +145,14 @@ range_ends level start width small aligned within is = subst (λ w. start + w �
 
 -- ---- keys
 
--- a key is found among the entries of a range where its nibble lies there
+-- a key is found among the entries of a range if its nibble lies there
 pub find-in_range : (d start width : ℕ) (key : List ℕ) (es : Part) → find key_cmp key (in_range d start width es) ≡ cond (lies_in start width (nibble key d)) (find key_cmp key es) None
 find-in_range d start width key es =
     find-where_key key_cmp (λ k. lies_in start width (nibble k d)) key (λ x e. ap (λ k. lies_in start width (nibble k d)) (sym (same_key-exact key x e))) es
 
 -- ---- how a range is kept
 
--- what is known of a range over some places
+-- what holds of a range over some places
 pub placed : (depth : ℕ) (place : Place) (link : Bor LinkValue) (start level : ℕ) → IsPlaced depth place → place ≡ Places link start level → ArePlaces depth link.now start level
 placed depth place link start level h is = subst (IsPlaced depth) is h
 
@@ -162,11 +162,11 @@ placed_leaf depth place link h is = subst (IsPlaced depth) is h
 pub placed_nowhere : (depth : ℕ) (place : Place) → IsPlaced depth place → place ≡ Nowhere → depth ≤ 256
 placed_nowhere depth place h is = subst (IsPlaced depth) is h
 
--- the range by what it is kept as
+-- a range has the value of the place at which it is kept
 pub kept_as : (v : RangeValue) (depth : ℕ) (place other : Place) → range_value depth place ≡ v → place ≡ other → v ≡ range_value depth other
 kept_as v depth place other seen is = sym seen ∙ ap (range_value depth) is
 
--- a key is found in places where its nibble lies there
+-- a key is found at some places if its nibble lies there
 pub find_places : (v : RangeValue) (depth start level d n w : ℕ) (place : Place) (link : Bor LinkValue) (key : List ℕ) (b : Bool) → range_value depth place ≡ v → place ≡ Places link start level
     → d ≡ link.now.depth → n ≡ nibble key d → w ≡ 2 ^ level → b ≡ lies_in start w n → find key_cmp key v.entries ≡ cond b (find key_cmp key link.now.entries) None
 find_places v depth start level d n w place link key b seen is deep nib wide test =
@@ -179,7 +179,7 @@ find_places v depth start level d n w place link key b seen is deep nib wide tes
 pub pred_is : (level : ℕ) → 1 ≤ level → level ≡ suc (level - 1)
 pred_is level h = omega arith
 
--- the lower half and the upper half are those by the next bit
+-- the lower half of the places has the entries whose next bit is 0, and the upper half those where it is 1
 pub lower_is : (v : RangeValue) (depth start level : ℕ) (place : Place) (link : Bor LinkValue) → range_value depth place ≡ v → IsPlaced depth place → place ≡ Places link start level → among link.now start (level - 1) ≡ record { depth = v.depth + 1; entries = zeros v.depth v.entries }
 lower_is v depth start level place link seen h is =
     let p = placed depth place link start level h is in
@@ -198,7 +198,7 @@ upper_is v depth start level half place link seen h is wide =
 pub halves_of : (depth start level : ℕ) (x : LinkValue) → ArePlaces depth x start level → Halved start (level - 1)
 halves_of depth start level x p = halved (level - 1) start (omega (arith, p.narrow, p.wide)) p.within (subst (λ l. start % 2 ^ l ≡ 0) (pred_is level p.wide) p.aligned)
 
--- the hash of places is that of the node
+-- the hash of the places is that of the node
 pub range_hash_is : (v : RangeValue) (depth start level width : ℕ) (place : Place) (link : Bor LinkValue) → range_value depth place ≡ v → IsPlaced depth place → place ≡ Places link start level → width ≡ 2 ^ level
     → part_root (4 * link.now.depth + (4 - level)) (in_range link.now.depth start width link.now.entries) ≡ part_root v.depth v.entries
 range_hash_is v depth start level width place link seen h is wide =
@@ -210,7 +210,7 @@ places_end depth start level width place link h is wide =
     let p = placed depth place link start level h is in
     range_ends level start width p.narrow p.aligned p.within wide
 
--- a key is found in a leaf
+-- a range over a leaf finds the keys that the leaf has
 pub find_leaf : (v : RangeValue) (depth : ℕ) (place : Place) (link : Bor LinkValue) (key : List ℕ) → range_value depth place ≡ v → place ≡ Leaf link → find key_cmp key link.now.entries ≡ find key_cmp key v.entries
 find_leaf v depth place link key seen is = ap (λ x. find key_cmp key x.entries) (sym (kept_as v depth place _ seen is))
 
@@ -219,11 +219,11 @@ find_leaf v depth place link key seen is = ap (λ x. find key_cmp key x.entries)
 same_count : (x : LinkValue) (links : List (Option LinkValue)) (start width : ℕ) → ShowsInner x links → joined (take width (drop start links)) ≡ in_range x.depth start width x.entries
 same_count x links start width shows = sym (ap (in_range x.depth start width) shows.entries ∙ in_range-joined x.depth start width links shows.children.fit)
 
--- the entries at some places are no more than 64 bits count
+-- some places have fewer than 2 ^ 64 entries
 pub some_fit : (x : LinkValue) (links : List (Option LinkValue)) (start width : ℕ) → ShowsInner x links → IsLink x → length (joined (take width (drop start links))) < 2 ^ 64
 some_fit x links start width shows link = omega (arith, ap length (same_count x links start width shows), in_few x.depth start width x.entries, link.bounded)
 
--- and as many as those of the range
+-- the children at some places have as many entries as the range
 pub count_is : (v : RangeValue) (depth start level width : ℕ) (place : Place) (link : Bor LinkValue) (links : List (Option LinkValue)) → range_value depth place ≡ v → place ≡ Places link start level → width ≡ 2 ^ level → ShowsInner link.now links
     → length (joined (take width (drop start links))) ≡ length v.entries
 count_is v depth start level width place link links seen is wide shows =

@@ -1,4 +1,4 @@
--- The versions of the nodes below a node are those of its children, and exactly the nodes have one.
+-- The versions of the nodes below a node are those of its children's nodes, and exactly the nodes have a version.
 use Rattle.std.proofs.Common.{◌≡◌, ℕ, zero, suc, ◌+◌, ◌<◌, ◌≤◌, true, false, cond, ◌&&◌, inl, inr, List, [], ◌∷◌, ◌++◌, length, get_or, map, refl, sym, ap, ◌∙◌, subst, arith, Less, Equal, Greater, nat_cmp, Ordering, Option, None, Some, zero-add}
 use Rattle.std.proofs.lemmas.List.{get_or_past}
 use Rattle.std.specs.Option.{is_some}
@@ -12,6 +12,7 @@ use Rattle.jf_node.specs.LinkFacts.{NodesHaveVersions, IsLink, IsLinkIf}
 use Rattle.jf_node.specs.Children.{content, joined, child_versions, versions_from, FitsAt, AreChildren, leaf_value, inner_value, renewed_value}
 use Rattle.jf_node.specs.ChildLaws.{FitFrom-at, below-or-past, with_nibble-child}
 
+-- a node's path and its version
 abbrev PathVersion : Type 0
 PathVersion = Path × ℕ
 
@@ -75,7 +76,7 @@ from-at n zero k p (x ∷ links) is =
 from-at n (suc at) k p (x ∷ links) is =
     find-right (k ∷ p) (child_versions n x) (versions_from (n + 1) links) (of-other n k p x (λ e. omega arith)) ∙ from-at (n + 1) at k p links (omega arith)
 
--- a node one step down is the child's
+-- the version of a node below a child is the one that the child has
 pub version-below : (n : ℕ) (p : Path) (version : ℕ) (links : List (Option LinkValue)) → version_among (n ∷ p) (([], version) ∷ versions_from 0 links) ≡ version_at p (get_or links n None)
 version-below n p version links = from-at 0 n n p links (sym (zero-add n))
 

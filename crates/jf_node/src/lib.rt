@@ -1,5 +1,5 @@
-//! Shared nodes of a sixteen-way tree over the entries of a map, the nodes of the binary tree as ranges of their places, and
-//! the snapshot of a version: a link to the top one.
+//! Shared nodes of a sixteen-way tree over the entries of a map, the nodes of the binary tree as ranges of their
+//! places, and the snapshot of a version: a link to the top node.
 #![tactic(auto)]
 
 mod found;

@@ -1,4 +1,4 @@
-// The making of links: new ones, and ones made over others.
+// Links are made from an entry, from children, or from an older link.
 ghost use Rattle.std.specs.Prelude.{◌≡◌, ◌*◌, ◌<◌, ◌≤◌, length, IfOk};
 ghost use Rattle.std.specs.List.{count_by};
 ghost use Rattle.jf_hash.specs.Hashes.{L, V};
@@ -22,7 +22,7 @@ fn know_length(flags: &[bool; 16])
 }
 
 impl Link {
-    /// A leaf: one entry, of whose value the hash is given.
+    /// A leaf of one entry. The caller gives the hash of its value, which isn't hashed again.
     pub fn leaf(
         alloc: Global,
         version: u64,
@@ -40,7 +40,7 @@ impl Link {
         Link::hashed_leaf(alloc, version, depth, key, value, value_hash, hash)
     }
 
-    // A leaf, of which the hash is given too.
+    // A leaf whose own hash is given too.
     fn hashed_leaf(
         alloc: Global,
         version: u64,
@@ -76,8 +76,8 @@ impl Link {
         Ok(Link { node })
     }
 
-    /// An inner node over children one nibble deeper, each at its own nibble, with two entries or more. The refusal
-    /// `Memory` also means that they have 2^64 entries or more.
+    /// An inner node over children one nibble deeper, each at its own nibble, with two entries or more. `Memory` also
+    /// means that there are 2^64 entries or more.
     pub fn inner(alloc: Global, version: u64, depth: u64, children: Sixteen) -> Result<Link, Memory>
         requires depth { depth < 64 }
         requires children { FitFrom depth 0 children }
@@ -89,7 +89,8 @@ impl Link {
         Ok(link)
     }
 
-    /// The same, and the number of pairs that were hashed for it: one for each range that holds more than one leaf.
+    /// The node that `inner` returns, and the number of pairs that were hashed for it: one for each range that holds
+    /// more than one leaf.
     pub fn inner_counted(
         alloc: Global,
         version: u64,
@@ -109,7 +110,7 @@ impl Link {
         Ok((link, pairs))
     }
 
-    /// The same inner node over other children, of which at most those in `changed` have other entries. Only the
+    /// The inner node over new children, of which only those in `changed` may have other entries than this node's. Only
     /// ranges with a changed child are hashed.
     pub fn with_children(
         &self,
@@ -129,8 +130,8 @@ impl Link {
         Ok(link)
     }
 
-    /// The same, and the number of pairs that were hashed for it: one for each range with a changed child that holds
-    /// more than one leaf.
+    /// The node that `with_children` returns, and the number of pairs that were hashed for it: one for each range with
+    /// a changed child that holds more than one leaf.
     pub fn with_children_counted(
         &self,
         alloc: Global,
@@ -154,7 +155,7 @@ impl Link {
         Ok((link, pairs))
     }
 
-    // An inner node over its children, of which the hashes of all ranges are given.
+    // An inner node over its children. The hashes of all ranges of them are given.
     fn over(
         alloc: Global,
         version: u64,
@@ -200,7 +201,7 @@ impl Link {
         }
     }
 
-    /// The same node of another version. Nothing is hashed.
+    /// This node written anew by another version. Nothing is hashed.
     pub fn renewed(&self, alloc: Global, version: u64) -> Result<Link, Memory>
         ensures { IfOk result (λ x. x ≡ renewed_value version self.now) }
     {

@@ -33,7 +33,7 @@ pub(crate) enum Place<'a> {
 }
 
 impl<'a> Place<'a> {
-    // The same place, kept.
+    // The same place, kept with its stored node.
     fn share(self) -> Result<SharedPlace, Memory>
         ensures { IfOk result (λ p. IsSharedAs p self.entry) }
     {
@@ -51,8 +51,9 @@ impl<'a> Place<'a> {
     }
 }
 
-/// A node of the binary tree, seen inside a stored node: the entries whose keys begin with some bits. A stored inner node
-/// has fifteen of them, one for each range of two places or more, and a place is the node of the child there.
+/// A node of the binary tree, seen inside a stored node: the entries whose keys begin with some bits. A stored inner
+/// node has fifteen of them, one for each range of two places or more. A range of one place is the top of the child
+/// there.
 #[derive(Drop)]
 pub struct Range<'a> {
     pub(crate) depth: u64,
@@ -71,7 +72,7 @@ impl<'a> Model for Range<'a> {
     ghost invariant = { λ r. IsPlaced r.depth r.place };
 }
 
-// How many places a range has.
+// The number of places of a range.
 fn width(level: usize) -> usize
     requires { level ≤ 4 }
     ensures { result ≡ 2 ^ level }
@@ -87,7 +88,7 @@ fn lies_in(start: usize, width: usize, place: usize) -> bool
     start <= place && place < start + width
 }
 
-// A bit of the key of a leaf, by which its entry is in one half.
+// Bit `depth` of the key of a leaf, which says in which half its entry is.
 fn leaf_bit(link: &Link, depth: u64) -> bool
     requires one { length link.now.entries ≡ 1 }
     requires depth { depth < 256 }
@@ -101,7 +102,7 @@ fn leaf_bit(link: &Link, depth: u64) -> bool
 }
 
 impl<'a> Range<'a> {
-    /// The node of no entry.
+    /// A node without entries.
     pub fn empty(depth: u64) -> Range<'a>
         requires { depth ≤ 256 }
         ensures { result ≡ record { depth = depth; entries = [] } }
@@ -112,7 +113,7 @@ impl<'a> Range<'a> {
         }
     }
 
-    // The node of the entry of a leaf.
+    // The node of a leaf's entry.
     fn leaf(depth: u64, link: &'a Link) -> Range<'a>
         requires one { length link.now.entries ≡ 1 }
         requires depth { depth ≤ 256 }
@@ -183,7 +184,7 @@ impl<'a> Range<'a> {
         }
     }
 
-    /// What holds of each range.
+    /// Ensures what holds of every range. Changes nothing.
     pub fn know(&self)
         ensures { IsRangeValue self.now }
     {
@@ -201,7 +202,7 @@ impl<'a> Range<'a> {
         self.depth
     }
 
-    /// What it holds.
+    /// What it holds: no entry, one, or more.
     pub fn state(&self) -> RangeState<'a>
         ensures entries { IsState self.now.entries result }
         ensures deep { 2 ≤ length self.now.entries → self.now.depth < 256 }
@@ -224,7 +225,7 @@ impl<'a> Range<'a> {
         }
     }
 
-    /// Its hash: nothing is hashed.
+    /// Its hash. Nothing is hashed.
     pub fn hash(&self) -> Hash
         ensures { result ≡ part_root self.now.depth self.now.entries }
     {
@@ -273,7 +274,7 @@ impl<'a> Range<'a> {
         }
     }
 
-    /// Both halves, that of the entries whose next bit is 0 first.
+    /// Both halves: first the entries whose next bit is 0, then those where it is 1.
     pub fn halves(&self) -> (Range<'a>, Range<'a>)
         requires { self.now.depth < 256 }
         ensures zeros { result.0 ≡ record { depth = self.now.depth + 1; entries = zeros self.now.depth self.now.entries } }

@@ -1,4 +1,4 @@
-// What a link shows of its node.
+// What a link shows of its node: an entry or children.
 use crate::link::Sixteen;
 use jf_hash::Hash;
 use jf_path::Key;

@@ -1,4 +1,4 @@
--- One bit more that two keys have in common, or not.
+-- The next bit of two keys: they agree in it, or their common bits end before it.
 use Rattle.std.proofs.Common.{◌≡◌, ℕ, suc, ◌+◌, ◌-◌, ◌<◌, Bool, true, false, not, cond, List, ap, ap₂, ◌∙◌, sym, arith, true≢false}
 use Rattle.std.specs.Bool.{beq}
 use Rattle.jf_path.specs.Keys.{bit}
@@ -12,7 +12,7 @@ chosen : (t : Bool) (n x : ℕ) → n ≡ cond t x 0 → (not t ≡ false → n 
 chosen true n x e = (λ h. e, λ h. absurd (true≢false (sym h)))
 chosen false n x e = (λ h. absurd (true≢false h), λ h. e)
 
--- the bits x and y of two keys at place i
+-- equal bits at place i are common, and the count goes on after them; different bits end it
 step : (i : ℕ) (a b : List ℕ) (x y : Bool) → i < 256 → x ≡ bit a i → y ≡ bit b i → common_from (256 - i) i a b ≡ cond (beq x y) (1 + common_from (256 - (i + 1)) (i + 1) a b) 0
 step i a b x y lt ex ey = next i a b lt ∙ ap₂ (λ s t. cond (beq s t) (1 + common_from (256 - (i + 1)) (i + 1) a b) 0) (sym ex) (sym ey)
 

@@ -1,11 +1,11 @@
--- Half a byte of a key is its nibble, and so with the halves of any bytes.
+-- Each half of a byte of a key is a nibble, and each half of any byte is a number below 16.
 use Rattle.std.proofs.Common.{◌≡◌, ℕ, ◌/◌, ◌%◌, ◌<◌, List, get_or, sym, ◌∙◌, arith, inl, inr}
 use Rattle.std.proofs.lemmas.Bool.{cases_eq}
 use Rattle.jf_path.specs.Nibbles.{nibble}
 use Rattle.jf_path.specs.NibbleLaws.{nibble-even, nibble-odd}
 use Rattle.jf_path.specs.PathLaws.{halves, get_or-halves-even, get_or-halves-odd}
 
--- a number that is half i of these bytes
+-- n is half i of these bytes, from the high half of the first
 pub record IsHalf (bytes : List ℕ) (i n : ℕ) : Type 0 where
   pub even : i % 2 ≡ 0 → n ≡ get_or bytes (i / 2) 0 / 16
   pub odd : i % 2 ≡ 1 → n ≡ get_or bytes (i / 2) 0 % 16

@@ -1,4 +1,4 @@
--- A kept path, read and with one nibble more.
+-- A path in its 64 cells: what is read from them, and one more nibble.
 use Rattle.std.proofs.Common.{◌≡◌, ℕ, zero, suc, ◌+◌, ◌-◌, ◌*◌, ◌<◌, List, [], ◌∷◌, length, take, drop, set, get_or, replicate, refl, sym, ap, ap₂, ◌∙◌, arith, subst, inl, inr, length-set}
 use Rattle.std.specs.List.{AllByRecursion}
 use Rattle.std.proofs.lemmas.Bool.{cases_lt}
@@ -19,7 +19,7 @@ drop-one-more zero xs = refl
 drop-one-more (suc i) [] = refl
 drop-one-more (suc i) (x ∷ xs) = drop-one-more i xs
 
--- one nibble more is kept
+-- one more nibble is put into the next cell
 pub IsKept-push : (count : ℕ) (cells : List ℕ) (n : ℕ) → count < 64 → n < 16 → IsKept count cells → IsKept (count + 1) (set cells count n)
 IsKept-push count cells n room small kept = record {
   short = omega arith;
@@ -43,7 +43,7 @@ zeros_past (suc n) (suc i) = zeros_past n i
 pub IsKept-none : IsKept 0 (zeros 64)
 IsKept-none = record { short = omega arith; long = refl; small = λ i. subst (λ n. n < 16) (sym (zeros_past 64 i)) (omega arith); zeros = refl }
 
--- a cell is the nibble there, or zero
+-- a cell holds the nibble at its place, or zero after the path
 pub kept_cell : (count : ℕ) (cells : List ℕ) (i : ℕ) → IsKept count cells → get_or cells i 0 ≡ get_or (take count cells) i 0
 kept_cell count cells i kept =
     elim (cases_lt i count) [
@@ -59,11 +59,11 @@ all_small zero cells small = tt
 all_small (suc count) [] small = tt
 all_small (suc count) (c ∷ cells) small = (small 0, all_small count cells (λ i. small (suc i)))
 
--- what is kept is a path
+-- the nibbles in the cells are a path
 pub kept_path : (count : ℕ) (cells : List ℕ) → IsKept count cells → IsPath (take count cells)
 kept_path count cells kept = record { short = let short = kept.short in omega (arith, length-take count cells); nibbles = all_small count cells kept.small }
 
--- two cells are a byte of the path
+-- two cells make a byte of the path
 pub kept_byte : (count : ℕ) (cells : List ℕ) (j : ℕ) → IsKept count cells → get_or (packed (take count cells)) j 0 ≡ get_or cells (2 * j) 0 * 16 + get_or cells (2 * j + 1) 0
 kept_byte count cells j kept =
     get_or-packed (take count cells) j (2 * j) (2 * j + 1) refl refl

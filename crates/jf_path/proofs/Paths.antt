@@ -1,4 +1,4 @@
--- Bytes with no fault, and the bytes of a path.
+-- The bytes without a fault are those of paths.
 use Rattle.std.proofs.Common.{◌≡◌, ℕ, zero, suc, ◌+◌, ◌*◌, ◌/◌, ◌%◌, ◌<◌, ◌≤◌, Bool, true, false, not, ◌&&◌, ◌||◌, ◌==◌, ltb, List, [], ◌∷◌, length, take, drop, set, ◌++◌, get_or, length-take, Option, Some, None, refl, sym, ap, ap₂, ◌∙◌, arith, inl, inr, eq-eqb}
 use Rattle.std.proofs.lemmas.Bool.{cases_eq, ne_eqb, le-ltb, lt-ltb, ltb-false, eqb-true, not-false}
 use Rattle.jf_path.specs.declared.fault.PathFault.{PathFault}
@@ -7,7 +7,7 @@ use Rattle.jf_path.specs.Paths.{IsPath, packed, path_bytes, path_fault, has_padd
 use Rattle.jf_path.specs.Checks.{first_of}
 use Rattle.jf_path.specs.PathLaws.{halves, length-packed, get_or-packed, packed-take-halves, take-halves-packed, length-halves}
 
--- the fault by its two tests
+-- the fault, from the tests for a wrong length and for padding
 abbrev judged : Bool → Bool → Option PathFault
 judged wrong padding = first_of ((wrong, Length) ∷ (padding, Padding) ∷ [])
 
@@ -63,17 +63,17 @@ no_fault_in_path path is =
 some_none : {X : Type 0} (x : X) → Some x ≡ None → ⊥
 some_none x e = cc
 
--- bytes with a fault are those of no path
+-- bytes with a fault are the bytes of no path
 pub refused_is_no_path : {G : Type 0} (bytes : List ℕ) (fault : PathFault) → path_fault bytes ≡ Some fault → (path : List ℕ) → IsPath path → bytes ≡ path_bytes path → G
 refused_is_no_path bytes fault refused path is same = absurd (some_none fault (sym refused ∙ ap path_fault same ∙ no_fault_in_path path is))
 
--- bytes with no fault are those of their nibbles
+-- bytes without a fault are the bytes of their nibbles
 pub bytes_of_halves : (count : ℕ) (bytes : List ℕ) → length bytes ≡ (count + 1) / 2 → (count % 2 ≡ 1 → get_or bytes (count / 2) 0 % 16 ≡ 0) → count ∷ bytes ≡ path_bytes (take count (halves bytes))
 unfolding path_bytes
 bytes_of_halves count bytes long end =
     ap₂ (λ n (bs : List ℕ). n ∷ bs) (let l = length-take count (halves bytes) in omega (arith, length-halves bytes, l)) (sym (packed-take-halves count bytes long end))
 
--- a path that has these bytes is that of their nibbles
+-- a path with these bytes has their nibbles
 pub path_of_halves : (count : ℕ) (bytes path : List ℕ) → IsPath path → count ∷ bytes ≡ path_bytes path → take count (halves bytes) ≡ path
 unfolding path_bytes
 path_of_halves count bytes path is same =
@@ -81,7 +81,7 @@ path_of_halves count bytes path is same =
     let rest : bytes ≡ packed path = ap (λ (bs : List ℕ). drop 1 bs) same in
     ap₂ (λ n (bs : List ℕ). take n (halves bs)) long rest ∙ take-halves-packed path is.nibbles
 
--- what is known of bytes with no fault
+-- bytes without a fault: a count of at most 64, as many bytes as it needs, and no padding
 pub record IsSound (count : ℕ) (bytes : List ℕ) : Type 0 where
   pub short : count ≤ 64
   pub long : length bytes ≡ (count + 1) / 2
@@ -115,7 +115,7 @@ sound count bytes none =
       end = λ odd. eqb-true _ _ (and_not_false (count % 2 == 1) (get_or bytes (count / 2) 0 % 16 == 0) tests.1 (eq-eqb _ _ odd));
     }
 
--- one byte more is copied
+-- one more byte is copied
 pub copy_more : (i : ℕ) (to from : List ℕ) (b : ℕ) → i < length from → i < length to → b ≡ get_or from i 0 → set (take i from ++ drop i to) i b ≡ take (i + 1) from ++ drop (i + 1) to
 copy_more i [] from b within room e = absurd (omega arith)
 copy_more i (x ∷ to) [] b within room e = absurd (omega arith)

@@ -1,15 +1,15 @@
--- How a path is kept: in 64 cells, its nibbles first and zeros behind them.
+-- How a path is kept: in 64 cells, its nibbles first and zeros after them.
 use Rattle.std.proofs.Common.{◌≡◌, ℕ, ◌-◌, ◌<◌, ◌≤◌, List, ◌++◌, length, take, drop, get_or, replicate, sym, ap, ap₂, ◌∙◌, arith}
 use Rattle.std.proofs.lemmas.List.{length-take, take-append-drop}
 
--- so many nibbles, and zeros
+-- the first `count` of 64 cells are nibbles, and the cells after them are zero
 pub record IsKept (count : ℕ) (cells : List ℕ) : Type 0 where
   pub short : count ≤ 64
   pub long : length cells ≡ 64
   pub small : (i : ℕ) → get_or cells i 0 < 16
   pub zeros : drop count cells ≡ replicate (64 - count) 0
 
--- the nibbles give the cells and the count again
+-- the cells and the count are known from the nibbles alone
 pub kept_again : {X : Type 0} (make : List ℕ → ℕ → X) (count : ℕ) (cells : List ℕ) → IsKept count cells
     → make (take count cells ++ replicate (64 - length (take count cells)) 0) (length (take count cells)) ≡ make cells count
 kept_again make count cells kept =

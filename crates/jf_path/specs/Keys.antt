@@ -9,15 +9,15 @@ use Rattle.std.specs.declared.cmp.Ordering.{Ordering}
 unfoldable pub bit : List ℕ → ℕ → Bool
 bit key i = slice_index key (i / 8) / 2 ^ (7 - i % 8) % 2 == 1
 
--- keys stand in the order of their bytes
+-- the order of keys: that of their lists of bytes
 abbrev pub key_cmp : List ℕ → List ℕ → Ordering
 key_cmp = slice_cmp nat_cmp
 
--- 32 bytes
+-- a key: 32 bytes
 pub record IsKey (k : List ℕ) : Type 0 where
   pub long : length k ≡ 32
   pub bytes : (i : ℕ) → slice_index k i < 256
 
--- each number is a byte
+-- each number of the list is a byte
 abbrev pub IsBytes : List ℕ → Type 0
 IsBytes bytes = AllByRecursion (λ b. b < 256) bytes

@@ -1,4 +1,4 @@
--- Names are in a total order, and tie where they are equal.
+-- The order of node names is total, and only equal names tie.
 use Rattle.std.proofs.Common.{◌≡◌, Bool, ◌&&◌, ◌==◌, ap, ap₂, Ordering, Less, Equal, Greater, is_eq, nat_cmp}
 use Rattle.std.specs.Ordering.{ordering_then}
 use Rattle.std.specs.Cmp.{IsTotalOrder, unsigned_ties}

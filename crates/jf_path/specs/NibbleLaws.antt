@@ -1,4 +1,4 @@
--- A nibble is half a byte.
+-- A nibble of a key is half of one of its bytes.
 use Rattle.std.proofs.Common.{◌≡◌, ℕ, zero, suc, ◌+◌, ◌*◌, ◌/◌, ◌%◌, ◌-◌, ◌^◌, ◌<◌, ◌==◌, Bool, true, false, List, slice_index, refl, ap₂, ◌∙◌, arith}
 use Rattle.jf_path.specs.Keys.{bit}
 use Rattle.jf_path.specs.Nibbles.{digit, nibble}
@@ -23,7 +23,7 @@ nibble-even key i byte e =
     let p = i / 2 in
     omega (arith, bit_digit key p 7 (4 * i) (omega arith) (omega arith), bit_digit key p 6 (4 * i + 1) (omega arith) (omega arith), bit_digit key p 5 (4 * i + 2) (omega arith) (omega arith), bit_digit key p 4 (4 * i + 3) (omega arith) (omega arith))
 
--- an odd nibble is the low half
+-- an odd nibble is the low half of a byte
 pub nibble-odd : (key : List ℕ) (i : ℕ) → i % 2 ≡ 1 → nibble key i ≡ slice_index key (i / 2) % 16
 unfolding nibble
 nibble-odd key i e =

@@ -3,7 +3,7 @@ use Rattle.std.proofs.Common.{◌≡◌, ℕ, zero, suc, ◌+◌, ◌*◌, ◌/�
 use Rattle.std.specs.List.{AllByRecursion}
 use Rattle.jf_path.specs.Paths.{packed, path_bytes}
 
--- each byte's high half, and its low half
+-- the halves of bytes, the high half of each first
 abbrev pub halves : List ℕ → List ℕ
 halves [] = []
 halves (b ∷ bytes) = b / 16 ∷ b % 16 ∷ halves bytes
@@ -39,7 +39,7 @@ get_or-packed (n ∷ []) (suc j) i k ei ek = rw (let f : i ≡ suc (suc (2 * j))
 get_or-packed (n ∷ m ∷ path) zero i k ei ek = rw (ei, let g : k ≡ 1 = omega arith in g) refl
 get_or-packed (n ∷ m ∷ path) (suc j) i k ei ek = rw (let f : i ≡ suc (suc (2 * j)) = omega arith in f, let g : k ≡ suc (suc (2 * j + 1)) = omega arith in g) (get_or-packed path j (2 * j) (2 * j + 1) refl refl)
 
--- the nibbles of a packed path are its own
+-- a packed path has the path's own nibbles
 pub take-halves-packed : (path : List ℕ) → AllByRecursion (λ n. n < 16) path → take (length path) (halves (packed path)) ≡ path
 take-halves-packed [] all = refl
 take-halves-packed (n ∷ []) all = ap (λ h. h ∷ []) (omega arith)
@@ -49,7 +49,7 @@ take-halves-packed (n ∷ m ∷ path) all =
     let low : (n * 16 + m) % 16 ≡ m = omega arith in
     rw (high, low) (ap (λ (xs : List ℕ). n ∷ m ∷ xs) (take-halves-packed path all.1.1))
 
--- so many bytes, with nothing behind an odd end, are those of their nibbles
+-- bytes for n nibbles, with zero padding if n is odd, are their nibbles packed
 pub packed-take-halves : (n : ℕ) (bytes : List ℕ) → length bytes ≡ (n + 1) / 2 → (n % 2 ≡ 1 → get_or bytes (n / 2) 0 % 16 ≡ 0) → packed (take n (halves bytes)) ≡ bytes
 packed-take-halves zero [] long end = refl
 packed-take-halves zero (b ∷ bytes) long end = absurd (omega arith)

@@ -1,11 +1,11 @@
-// A list of bytes.
+// A list of bytes that can grow.
 ghost use Rattle.std.specs.Prelude.{◌≡◌, [], ◌∷◌, ◌++◌, length, take, OnOk, OnErr, IfOk};
 
 use crate::memory::Memory;
 use std::alloc::Global;
 use std::marker::Model;
 
-/// A list of bytes.
+/// A list of bytes that can grow.
 #[derive(Debug, Drop)]
 pub struct Bytes {
     bytes: Vec<u8>,
@@ -20,7 +20,7 @@ impl Model for Bytes {
 }
 
 impl Bytes {
-    /// No bytes.
+    /// An empty list.
     pub fn new(alloc: Global) -> Bytes
         ensures { result ≡ [] }
     {
@@ -29,7 +29,7 @@ impl Bytes {
         }
     }
 
-    /// No bytes, with room for this many.
+    /// An empty list with room for `n` bytes.
     pub fn with_capacity(alloc: Global, n: u64) -> Result<Bytes, Memory>
         ensures { IfOk result (λ b. b ≡ []) }
     {
@@ -47,7 +47,7 @@ impl Bytes {
         })
     }
 
-    /// How many there are.
+    /// The number of bytes.
     pub fn len(&self) -> u64
         ensures { result ≡ length self.now }
     {
@@ -61,7 +61,7 @@ impl Bytes {
         &self.bytes
     }
 
-    /// Adds a byte at the end.
+    /// Adds a byte at the end. If memory runs out, the list is unchanged.
     pub fn push(&mut self, byte: u8) -> Result<(), Memory>
         ensures ok { OnOk result (self.new ≡ self.old ++ byte ∷ []) }
         ensures err { OnErr result (self.new ≡ self.old) }
@@ -70,7 +70,7 @@ impl Bytes {
         Ok(())
     }
 
-    /// Adds bytes at the end.
+    /// Adds bytes at the end. If memory runs out, the list is unchanged.
     pub fn append(&mut self, from: &[u8]) -> Result<(), Memory>
         ensures ok { OnOk result (self.new ≡ self.old ++ from.now) }
         ensures err { OnErr result (self.new ≡ self.old) }
@@ -79,7 +79,7 @@ impl Bytes {
         Ok(())
     }
 
-    /// Takes room for this many bytes more.
+    /// Takes room for `additional` more bytes. The list is unchanged, even if memory runs out.
     pub fn reserve(&mut self, additional: u64) -> Result<(), Memory>
         ensures { self.new ≡ self.old }
     {
@@ -87,14 +87,14 @@ impl Bytes {
         Ok(())
     }
 
-    /// Forgets the bytes after the first `len`, and keeps their room.
+    /// Drops the bytes after the first `len`, and keeps their room.
     pub fn truncate(&mut self, len: u64)
         ensures { self.new ≡ take len self.old }
     {
         self.bytes.truncate(len as usize);
     }
 
-    /// Forgets the bytes, and keeps their room.
+    /// Drops all bytes, and keeps their room.
     pub fn clear(&mut self)
         ensures { self.new ≡ [] }
     {

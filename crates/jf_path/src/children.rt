@@ -1,4 +1,4 @@
-// The children of a node.
+// The children of an internal node: at most one for each of the 16 nibbles.
 ghost use Rattle.std.specs.Prelude.{◌≡◌, [], ◌∷◌, ◌++◌, length, OnOk, OnErr};
 ghost use Rattle.jf_path.specs.Nodes.{RiseFrom};
 
@@ -7,7 +7,7 @@ use crate::nibbles::Nibble;
 use std::alloc::Global;
 use std::marker::Model;
 
-/// What an internal node holds of a child: its place, the version that wrote it, its hash, whether it is a leaf, and the
+/// What an internal node says of a child: its place, the version that wrote it, its hash, whether it is a leaf, and the
 /// number of entries below it, 0 if the node is of format 1, which has no counts.
 #[derive(Clone, Copy, Debug, PartialEq, Eq)]
 pub struct Child {
@@ -38,7 +38,7 @@ impl Model for Children {
 }
 
 impl Children {
-    /// No child.
+    /// An empty list.
     pub fn new(alloc: Global) -> Children
         ensures { result ≡ [] }
     {
@@ -47,7 +47,7 @@ impl Children {
         }
     }
 
-    /// How many there are.
+    /// The number of children.
     pub fn len(&self) -> u64
         ensures { result ≡ length self.now }
     {
@@ -62,7 +62,7 @@ impl Children {
         &self.children
     }
 
-    /// Adds a child after the others. A refusal leaves the list unchanged.
+    /// Adds a child after all that are there. If memory runs out, the list is unchanged.
     pub fn push(&mut self, child: Child) -> Result<(), Memory>
         requires { RiseFrom 0 (self.old ++ child ∷ []) }
         ensures ok { OnOk result (self.new ≡ self.old ++ child ∷ []) }

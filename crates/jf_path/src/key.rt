@@ -1,11 +1,11 @@
-// Keys, their bits and their nibbles.
+// A key is 32 bytes: 256 bits, or 64 nibbles of 4 bits, both counted from the highest bit of the first byte.
 ghost use Rattle.std.specs.Prelude.{◌≡◌, ◌<◌};
 ghost use Rattle.jf_path.specs.Keys.{bit};
 ghost use Rattle.jf_path.specs.Nibbles.{nibble, common_bits};
 
 use crate::nibbles::Nibble;
 
-/// The place of a value in the tree: 32 bytes, in the order of lists.
+/// The place of a value in the tree: 32 bytes. Keys have the order of lists of bytes.
 pub type Key = [u8; 32];
 
 /// Bit `i` of a key, from 0, the highest bit of the first byte, to 255.
@@ -25,7 +25,7 @@ pub fn nibble(key: &Key, i: usize) -> Nibble
     Nibble::half(key, i)
 }
 
-/// The number of leading bits in which two keys agree, 256 if they are one key.
+/// The number of leading bits in which two keys agree, 256 if they are equal.
 pub fn common_bits(a: &Key, b: &Key) -> u64
     ensures { result ≡ common_bits a.now b.now }
 {

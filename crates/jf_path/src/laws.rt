@@ -1,4 +1,4 @@
-// What the types of keys, bytes and entries say of them. These functions change nothing.
+// What follows from the types of keys, bytes and entries. These functions change nothing.
 ghost use Rattle.std.specs.Prelude.{ℕ, ◌<◌, slice_index};
 ghost use Rattle.std.specs.List.{AllByRecursion};
 ghost use Rattle.jf_path.specs.Keys.{IsBytes, IsKey};

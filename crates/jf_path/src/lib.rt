@@ -1,5 +1,5 @@
-//! Keys, their bits and nibbles, paths and names of nodes, plain nodes and lists of them, bytes, and the refusal for lack
-//! of memory: what every other crate is made of.
+//! What every other crate is made of: keys, their bits and nibbles; paths and names of nodes; plain nodes and lists of
+//! them; bytes; and the fault `Memory`.
 #![tactic(auto)]
 
 mod bytes;

@@ -31,7 +31,7 @@ impl HashList {
         }
     }
 
-    /// How many there are.
+    /// The number of elements.
     pub fn len(&self) -> u64
         ensures { result ≡ length self.now }
     {
@@ -45,7 +45,7 @@ impl HashList {
         &self.hashes
     }
 
-    /// Adds a hash at the end. A refusal leaves the list unchanged.
+    /// Adds a hash at the end. If memory runs out, the list is unchanged.
     pub fn push(&mut self, hash: [u8; 32]) -> Result<(), Memory>
         ensures ok { OnOk result (self.new ≡ self.old ++ hash ∷ []) }
         ensures err { OnErr result (self.new ≡ self.old) }
@@ -79,7 +79,7 @@ impl Pairs {
         }
     }
 
-    /// How many there are.
+    /// The number of elements.
     pub fn len(&self) -> u64
         ensures { result ≡ length self.now }
     {
@@ -93,7 +93,7 @@ impl Pairs {
         &self.pairs
     }
 
-    /// Adds a key and its value at the end. A refusal drops them, and leaves the list unchanged.
+    /// Adds a key and its value at the end. If memory runs out, they are dropped, and the list is unchanged.
     pub fn push(&mut self, pair: (Key, Bytes)) -> Result<(), Memory>
         ensures ok { OnOk result (self.new ≡ self.old ++ pair ∷ []) }
         ensures err { OnErr result (self.new ≡ self.old) }

@@ -1,4 +1,4 @@
-// The refusal for lack of memory.
+// The one fault for running out of memory.
 use std::alloc::{AllocError, AllocFailed};
 
 /// Out of memory. What the call was given is unchanged, unless the call says otherwise.

@@ -1,9 +1,8 @@
-// Names of nodes.
+// A node's name: the version that wrote it, and its path from the root.
 use crate::path::NibblePath;
 use std::cmp::Ordering;
 
-/// The name of a node: the version that wrote it, and its path. Names stand in the order of their versions, and those of
-/// one version in the order of their paths.
+/// The name of a node: the version that wrote it, and its path. Names are ordered by version, and then by path.
 #[derive(Clone, Copy, Debug, PartialEq, Eq)]
 pub struct NodeName {
     pub version: u64,

@@ -1,9 +1,9 @@
-// Four bits of a key.
+// A nibble is four bits of a key: half a byte.
 ghost use Rattle.std.specs.Prelude.{◌≡◌, ◌/◌, ◌%◌, ◌<◌, ◌↔◌, length, slice_index, IfSome, IsSome};
 
 use std::marker::Model;
 
-/// A number from 0 to 15.
+/// Four bits, as a number from 0 to 15.
 #[derive(Clone, Copy, Debug, PartialEq, Eq, PartialOrd, Ord)]
 pub struct Nibble {
     number: u8,

@@ -1,4 +1,4 @@
-// Lists of nodes and of their names.
+// Lists of named nodes, and lists of names alone.
 ghost use Rattle.std.specs.Prelude.{◌≡◌, [], ◌∷◌, ◌++◌, length, map, IsTrue, OnOk, OnErr};
 ghost use Rattle.jf_path.specs.Names.{rise};
 
@@ -8,7 +8,7 @@ use crate::node::PlainNode;
 use std::alloc::Global;
 use std::marker::Model;
 
-/// The nodes that a landing writes, with their names, in the order of these.
+/// The nodes that a landing writes, with their names, in the order of the names.
 #[derive(Debug, Drop)]
 pub struct FreshList {
     nodes: Vec<(NodeName, PlainNode)>,
@@ -38,7 +38,7 @@ impl FreshList {
         }
     }
 
-    /// How many there are.
+    /// The number of elements.
     pub fn len(&self) -> u64
         ensures { result ≡ length self.now }
     {
@@ -53,7 +53,7 @@ impl FreshList {
         &self.nodes
     }
 
-    /// Adds a node after the others. A refusal drops it, and leaves the list unchanged.
+    /// Adds a node after all that are there. If memory runs out, it is dropped, and the list is unchanged.
     pub fn push(&mut self, item: (NodeName, PlainNode)) -> Result<(), Memory>
         requires { IsTrue (rise (map (λ x. x.0) (self.old ++ item ∷ []))) }
         ensures ok { OnOk result (self.new ≡ self.old ++ item ∷ []) }
@@ -64,7 +64,7 @@ impl FreshList {
     }
 }
 
-/// Names of nodes in their order.
+/// Names of nodes, in the order of names.
 #[derive(Debug, Drop)]
 pub struct NameList {
     names: Vec<NodeName>,
@@ -93,7 +93,7 @@ impl NameList {
         }
     }
 
-    /// How many there are.
+    /// The number of elements.
     pub fn len(&self) -> u64
         ensures { result ≡ length self.now }
     {
@@ -108,7 +108,7 @@ impl NameList {
         &self.names
     }
 
-    /// Adds a name after the others. A refusal leaves the list unchanged.
+    /// Adds a name after all that are there. If memory runs out, the list is unchanged.
     pub fn push(&mut self, name: NodeName) -> Result<(), Memory>
         requires { IsTrue (rise (self.old ++ name ∷ [])) }
         ensures ok { OnOk result (self.new ≡ self.old ++ name ∷ []) }
@@ -119,7 +119,7 @@ impl NameList {
     }
 }
 
-/// Nodes with their names and the versions since which they are stale, u64::MAX for none, in any order.
+/// Nodes in any order, with their names and the versions from which on they are stale, `u64::MAX` if they aren't.
 #[derive(Debug, Drop)]
 pub struct LiveList {
     nodes: Vec<(NodeName, PlainNode, u64)>,
@@ -145,7 +145,7 @@ impl LiveList {
         }
     }
 
-    /// How many there are.
+    /// The number of elements.
     pub fn len(&self) -> u64
         ensures { result ≡ length self.now }
     {
@@ -159,7 +159,7 @@ impl LiveList {
         &self.nodes
     }
 
-    /// Adds a node at the end. A refusal drops it, and leaves the list unchanged.
+    /// Adds a node at the end. If memory runs out, it is dropped, and the list is unchanged.
     pub fn push(&mut self, item: (NodeName, PlainNode, u64)) -> Result<(), Memory>
         ensures ok { OnOk result (self.new ≡ self.old ++ item ∷ []) }
         ensures err { OnErr result (self.new ≡ self.old) }

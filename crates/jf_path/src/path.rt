@@ -1,4 +1,5 @@
-// Paths of nibbles.
+// A path is the way from the root to a node, one nibble a step. Its bytes are those of docs/FORMATS.md, Names and nodes
+// in bytes.
 ghost use Rattle.std.specs.Prelude.{◌≡◌, [], ◌∷◌, ◌++◌, ◌+◌, ◌*◌, ◌/◌, ◌<◌, ◌≤◌, ◌==◌, List, ℕ, length, drop, take, slice_index, IfOk, Ok};
 ghost use Rattle.std.specs.List.{starts_with};
 ghost use Rattle.std.specs.Result.{result_err};
@@ -11,10 +12,10 @@ use crate::nibbles::Nibble;
 use std::cmp::Ordering;
 use std::marker::Model;
 
-// The most nibbles of a path, which are those of a key.
+// The most nibbles of a path: as many as a key has.
 const MAX_NIBBLES: usize = 64;
 
-/// A way from the root down: at most 64 nibbles, in the order of lists.
+/// The way from the root to a node: at most 64 nibbles. Paths have the order of lists of nibbles.
 #[derive(Clone, Copy, Debug)]
 pub struct NibblePath {
     nibbles: [u8; 64],
@@ -37,7 +38,7 @@ impl Model for NibblePath {
 }
 
 impl NibblePath {
-    /// The path of no nibble.
+    /// The empty path, which is the root's.
     pub fn empty() -> NibblePath
         ensures { result ≡ [] }
     {
@@ -74,7 +75,7 @@ impl NibblePath {
         Nibble::of(self.nibbles[i])
     }
 
-    /// One nibble more.
+    /// Adds a nibble at the end.
     pub fn push(&mut self, n: Nibble)
         requires { length self.old < 64 }
         ensures { self.new ≡ self.old ++ n ∷ [] }
@@ -93,15 +94,15 @@ impl NibblePath {
         path
     }
 
-    /// Whether the path goes through the end of `front`, or stops there.
+    /// Whether the path begins with all nibbles of `front`.
     pub fn starts_with(&self, front: &NibblePath) -> bool
         ensures { result ≡ starts_with (λ n m. n == m) self.now front.now }
     {
         self.as_slice().starts_with(front.as_slice())
     }
 
-    /// Writes the count and the nibbles, two a byte, the first high, with a zero at an odd end. Returns the number
-    /// of these bytes, at most 33; the bytes after them are unchanged.
+    /// Writes the number of nibbles, and the nibbles two to a byte, the first in the high half; an odd last byte has a
+    /// zero low half. Returns the number of bytes, 1 to 33; the bytes after them are unchanged.
     pub fn to_bytes(&self, out: &mut [u8; 33]) -> usize
         ensures value { result ≡ length (path_bytes self.now) }
         ensures bytes { out.new ≡ path_bytes self.now ++ drop result out.old }
@@ -114,7 +115,7 @@ impl NibblePath {
         bytes + 1
     }
 
-    /// The path of these bytes, which are its count and its nibbles, with nothing after them.
+    /// The path of these bytes, as `to_bytes` writes them, with nothing after them.
     pub fn from_bytes(bytes: &[u8]) -> Result<NibblePath, PathFault>
         ensures value { IfOk result (λ path. bytes.now ≡ path_bytes path) }
         ensures found { (path : List ℕ) → IsPath path → bytes.now ≡ path_bytes path → result ≡ Ok path }
@@ -130,7 +131,7 @@ impl NibblePath {
         }
     }
 
-    // The first nibbles of these bytes.
+    // The path of the first `count` nibbles of these bytes.
     fn of_halves(bytes: &[u8], count: usize) -> NibblePath
         requires short { count ≤ 64 }
         requires there { count ≤ 2 * length bytes.now }
@@ -160,7 +161,7 @@ impl NibblePath {
     }
 }
 
-// Why these bytes aren't so many nibbles.
+// Why these bytes aren't `count` packed nibbles, if they aren't.
 fn fault_of(count: usize, packed: &[u8]) -> Option<PathFault>
     ensures { result ≡ path_fault (count ∷ packed.now) }
 {

@@ -1,4 +1,4 @@
-//! What the tests of a command line's words stand on: runs over disks, sources and sinks in memory, and roots of small maps.
+//! Shared by the tests of the top call: runs over disks, sources and sinks in memory, and roots of small maps.
 #![tactic(auto)]
 
 pub mod play;

@@ -1,4 +1,4 @@
-// Words that are run over a disk, and what they gave.
+// A run of a command line's words over a disk, and what it wrote.
 use crate::roots::with_roots;
 use jf_disk::{Disk, MemDisk};
 use jf_io::{MemSink, MemSource};
@@ -10,7 +10,8 @@ use std::sync::Wait;
 use std::test::Fail;
 use std::thread::Threads;
 
-/// What a run gave: the disk, the text, how it ended, the head at opening, and how many entries it made.
+/// What a run returned: its disk, the text that it wrote, its status, the version at opening if a store was opened, and
+/// how many entries it made.
 #[derive(Drop)]
 pub struct Played<D> {
     pub disk: Box<D>,
@@ -20,7 +21,8 @@ pub struct Played<D> {
     pub entries: u64,
 }
 
-/// How many bytes the source gives a call at most, and which calls of the source and of the sink fail, from 0.
+/// The most bytes that the source gives in a call, and the numbers, from 0, of the calls of the source and of the sink
+/// that fail.
 #[derive(Clone, Copy)]
 pub struct Faults {
     pub piece: usize,
@@ -28,14 +30,14 @@ pub struct Faults {
     pub sink: &'static [u64],
 }
 
-/// A source of pieces of 100 bytes, and no call that fails.
+/// Pieces of 100 bytes, and no call fails.
 pub const NO_FAULTS: Faults = Faults {
     piece: 100,
     source: &[],
     sink: &[],
 };
 
-/// A disk with these sides, of which the listed calls fail.
+/// A disk in memory whose sides hold `a` and `b`. The calls whose numbers, from 0, are in `failing` fail.
 pub fn disk_of(alloc: Global, a: &[u8], b: &[u8], failing: &[u64]) -> Result<Box<MemDisk>, Fail> {
     let disk = MemDisk::new(
         alloc,
@@ -48,12 +50,12 @@ pub fn disk_of(alloc: Global, a: &[u8], b: &[u8], failing: &[u64]) -> Result<Box
     Ok(Box::new(alloc, disk)?)
 }
 
-/// A disk with this side A, of which the listed calls fail.
+/// A disk in memory whose side A holds `a`, and whose side B is empty. The calls whose numbers are in `failing` fail.
 pub fn new_disk(alloc: Global, a: &[u8], failing: &[u64]) -> Result<Box<MemDisk>, Fail> {
     disk_of(alloc, a, b"", failing)
 }
 
-/// A source of a script, in pieces, some calls of which fail.
+/// A source of the script, with the pieces and failing calls of `faults`.
 pub fn new_source(alloc: Global, script: &[u8], faults: Faults) -> Result<Box<MemSource>, Fail> {
     let source = MemSource::new(
         Bytes::copy_of(alloc, script)?,
@@ -63,18 +65,18 @@ pub fn new_source(alloc: Global, script: &[u8], faults: Faults) -> Result<Box<Me
     Ok(Box::new(alloc, source)?)
 }
 
-/// A sink that takes a few bytes a call, some calls of which fail.
+/// A sink that takes at most 7 bytes in a call, with the failing calls of `faults`.
 pub fn new_sink(alloc: Global, faults: Faults) -> Result<Box<MemSink>, Fail> {
     let sink = MemSink::new(alloc, 7, 200_000, faults.sink.to_vec(alloc)?)?;
     Ok(Box::new(alloc, sink)?)
 }
 
-/// The list of one word.
+/// A list of this one word.
 pub fn one_word(alloc: Global, word: &str) -> Result<Vec<String>, Fail> {
     Ok(vec![in alloc; String::from_str(alloc, word)?]?)
 }
 
-/// Runs words over a disk.
+/// Runs the words over a disk, a source and a sink.
 pub fn run_over<D: Disk + Drop, H: Threads + Wait + Sync>(
     rt: &H,
     alloc: Global,
@@ -107,7 +109,7 @@ fn unpacked<D: Disk + Drop>(
     })
 }
 
-/// Runs words over a disk, with a source and a sink that take a few bytes a call.
+/// Runs the words over a disk and a script, and returns what was written.
 pub fn play_words<D: Disk + Drop, H: Threads + Wait + Sync>(
     rt: &H,
     alloc: Global,
@@ -122,7 +124,7 @@ pub fn play_words<D: Disk + Drop, H: Threads + Wait + Sync>(
     unpacked(alloc, ended, sink.text().to_vec(alloc)?)
 }
 
-/// The same with one word.
+/// Runs one word over a disk and a script.
 pub fn play<D: Disk + Drop, H: Threads + Wait + Sync>(
     rt: &H,
     alloc: Global,
@@ -135,13 +137,14 @@ pub fn play<D: Disk + Drop, H: Threads + Wait + Sync>(
     play_words(rt, alloc, disk, &words, script, faults)
 }
 
-/// Whether a run ended so, over a store that was opened at this version, if one was, and wrote this text.
+/// Whether a run ended with this status, opened the store at version `start` (`None`: opened no store), and wrote this
+/// text.
 pub fn has_ended<D>(played: &Played<D>, status: Status, start: Option<u64>, text: &[u8]) -> bool {
     played.status == status && played.start == start && played.text.as_slice() == text
 }
 
-/// Runs a script over a disk, and hands the disk back. It fails if the run does not end well, opens another version or
-/// writes another text.
+/// Runs a script over a disk, and returns the disk. Fails unless the run ends well, opens the store at version `opened`
+/// and writes the text `want`.
 pub fn answers<D: Disk + Drop, H: Threads + Wait + Sync>(
     rt: &H,
     alloc: Global,
@@ -157,7 +160,7 @@ pub fn answers<D: Disk + Drop, H: Threads + Wait + Sync>(
     Ok(played.disk)
 }
 
-/// The same over a new disk, which is then let go.
+/// Runs a script over a new disk. Fails unless the run ends well and writes the text `want`.
 pub fn is_answered<H: Threads + Wait + Sync>(
     rt: &H,
     alloc: Global,
@@ -169,7 +172,7 @@ pub fn is_answered<H: Threads + Wait + Sync>(
     Ok(())
 }
 
-/// The same, with letters for roots in the replies.
+/// Runs a script over a new disk, as `is_answered` does, with letters for the roots in `want`.
 pub fn is_told<H: Threads + Wait + Sync>(
     rt: &H,
     alloc: Global,

@@ -23,8 +23,8 @@ fn root_of(letter: u8) -> Option<&'static str> {
     }
 }
 
-/// A text with the root of the empty map for E, of `put 61 =31` for R, of `put 61 =` for B, and of `put 61 =31` with
-/// `put 62 =32` for P.
+/// The text with roots in place of letters: E is the root of the empty map, R of `put 61 =31`, B of `put 61 =`, and P
+/// of `put 61 =31` with `put 62 =32`.
 pub fn with_roots(alloc: Global, text: &str) -> Result<Vec<u8>, Fail> {
     let mut whole = Vec::new(alloc);
     for byte in text.bytes() {

@@ -1,4 +1,4 @@
--- The honest proof in a node of the binary tree, by that in its half.
+-- The honest proof in a node of the binary tree, from the proof in one half.
 use Rattle.std.specs.Prelude.{◌≡◌, ◌<◌, ◌≤◌, ◌+◌, ℕ, Bool, true, false, not, cond, List, [], ◌∷◌, map, length, Some, None, Result, Ok, Err, IfOk}
 use Rattle.std.proofs.Common.{arith, refl, sym, ap, ap₂, ◌∙◌}
 use Rattle.std.specs.FinMap.{entries}
@@ -38,7 +38,7 @@ split_at d key es false is deep two =
     (ap (λ b. cond b (zeros d (map leaf_of es)) (ones d (map leaf_of es))) is ∙ filter-leaves (λ k. bit k d) es)
     ∙ ap (under_root (honest_from (d + 1) key (map leaf_of (zeros d es)))) (root_of (d + 1) (ones d es))
 
--- by the half that has the key, and the hash of the other
+-- the proof is that in the half that has the key, with the hash of the other half
 pub proof_more : (d : ℕ) (key hash : List ℕ) (es : Part) (b : Bool) (proof : Proof) (half other : RangeValue) → bit key d ≡ b → d < 256 → 2 ≤ length es
     → half ≡ record { depth = d + 1; entries = cond b (ones d es) (zeros d es) } → other ≡ record { depth = d + 1; entries = cond b (zeros d es) (ones d es) }
     → proof ≡ honest_from half.depth key (map leaf_of half.entries) → hash ≡ part_root other.depth other.entries → under_root proof hash ≡ honest_from d key (map leaf_of es)
@@ -50,7 +50,7 @@ pub honest-entries : (m : Map) (key : List ℕ) (v : RangeValue) → v ≡ recor
 unfolding honest
 honest-entries m key v is = ap (λ w. honest_from w.depth key (map leaf_of w.entries)) is
 
--- a result by another spelling of its proof
+-- a result whose proof equals another
 pub ok_is : {E : Type 0} (r : Result Proof E) (p q : Proof) → p ≡ q → IfOk r (λ x. x ≡ p) → IfOk r (λ x. x ≡ q)
 ok_is (Ok x) p q is h = h ∙ is
 ok_is (Err e) p q is h = tt

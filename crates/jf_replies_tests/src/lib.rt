@@ -1,4 +1,4 @@
-//! Tests of what the lines of a script are answered, and of the verdicts on proofs, by values from outside.
+//! Tests of the replies to the lines of a script, and of the verdicts on proofs, against values from outside.
 #![tactic(auto)]
 
 #[cfg(test)]

@@ -1,10 +1,10 @@
-// Roots of maps whose keys part at the first nibble or at the second, by Python's `hashlib`. The keys of the names 61 and 69
-// share their first nibble and no second; that of 62 shares none.
+// Roots of maps whose keys differ at the first nibble or at the second, from Python's `hashlib`. The keys of the names
+// 61 and 69 agree in the first nibble only; the key of 62 differs from both in the first.
 use jf_play::play::is_answered;
 use std::test::Fail;
 
-// Two keys that share a nibble, of which one is put again; one of two is removed; a commit of nothing; three keys, and none
-// again.
+// Two keys that agree in a nibble, of which one is put again; one of two is removed; a commit of nothing; three keys,
+// which are all removed.
 const ROWS: &[(&str, &str)] = &[
     (
         "put 61 =01\n\

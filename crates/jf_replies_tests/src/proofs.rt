@@ -1,9 +1,9 @@
-// Proofs of names in the head and in old versions, by values from Python's hashlib.
+// Proofs of names in the head and in old versions, with values from Python's `hashlib`.
 use jf_play::play::is_answered;
 use std::test::Fail;
 
-// No entry; one; two, whose keys agree in one bit; six, of which two agree in
-// the first nibble; and two that agree in three nibbles.
+// Maps of no entry; of one; of two, whose keys agree in one bit; of six, of which two agree in the first nibble; and of
+// two that agree in three nibbles.
 const ROWS: &[(&str, &str)] = &[
     (
         "prove head 61\n",

@@ -25,7 +25,7 @@ const FUTURE: &[(&str, &str)] = &[
     ("root v-1", "3 no syntax\n"),
 ];
 
-// Runs a line after three landings of nothing.
+// Runs a line after three commits of nothing. Fails unless its reply is `want`.
 fn is_told_at_3<H: Threads + Wait + Sync>(
     rt: &H,
     alloc: Global,
@@ -47,7 +47,7 @@ fn versions_above_the_head_are_future(rt: HostRuntime) -> Result<(), Fail> {
 }
 
 const OUTSIDE: &[&[u8]] = &[
-    // Not as the grammar has it.
+    // Lines outside the grammar.
     b"",
     b" ",
     b"session",
@@ -98,7 +98,7 @@ const OUTSIDE: &[&[u8]] = &[
     b"root\xffhead",
     b"\xff\xfe\x80",
     b"get head \xc3\xa4",
-    // In the grammar, and not answered yet.
+    // Lines in the grammar that aren't answered yet.
     b"get f0 61",
     b"get p0 61",
     b"root f0",
@@ -117,7 +117,8 @@ const OUTSIDE: &[&[u8]] = &[
     b"nth head 0",
 ];
 
-// Runs a line between a `put` and its `commit`, and reads the value of the `put`.
+// Runs a line between a `put` and its `commit`, and then reads the value of the `put`. Fails unless the replies are
+// `want`.
 fn is_between<H: Threads + Wait + Sync>(
     rt: &H,
     alloc: Global,
@@ -152,7 +153,7 @@ const LONG: &[(usize, &str)] = &[
 
 const STARTS: &[&[u8]] = &[b"put 61 =31", b"\xff", b"root head "];
 
-// A line of this length that begins so, and `root head`.
+// A line of `length` bytes that begins with `start`, and the line `root head`.
 fn long_script(alloc: Global, start: &[u8], length: usize) -> Result<Vec<u8>, Fail> {
     let mut script = start.to_vec(alloc)?;
     for _ in start.len()..length {
@@ -162,7 +163,7 @@ fn long_script(alloc: Global, start: &[u8], length: usize) -> Result<Vec<u8>, Fa
     Ok(script)
 }
 
-// Runs lines of this length.
+// Runs lines of `length` bytes. Fails unless the replies are `want`.
 fn is_skipped<H: Threads + Wait + Sync>(
     rt: &H,
     alloc: Global,

@@ -1,4 +1,4 @@
-// Proof blocks that are judged with no store, by values from Python's hashlib.
+// Proof blocks that are judged without a store, with values from Python's `hashlib`.
 use jf_disk::{Disk, MemDisk, Side};
 use jf_play::play::{Faults, NO_FAULTS, Played, has_ended, new_disk, play};
 use jf_play::roots::{EMPTY, ONE};
@@ -24,22 +24,22 @@ fn replies(alloc: Global, root: &str, claim: &str) -> Result<Vec<u8>, Fail> {
     Ok(text)
 }
 
-// Side A of a disk that nobody is to touch.
+// Side A of a disk that no run may touch.
 const UNTOUCHED: &[u8] = b"\x01\x07\0";
 
-// Whether a disk had no call and no fault, and side A holds what it held.
+// Whether a disk had no call and no fault, and side A is unchanged.
 fn is_untouched(disk: &MemDisk) -> bool {
     disk.moment() == 0 && disk.faults() == 0 && disk.bytes(Side::A) == UNTOUCHED
 }
 
-// The root and the claim of a block, and its verdict.
+// The root and the claim of a proof block, and the verdict on it.
 const BLOCKS: &[(&str, &str, &str)] = &[
     (ONE, CLAIM, "accepted\n"),
     (ONE, "claim =32\n", "refused 2\n"),
     (EMPTY, CLAIM, "refused 4\n"),
 ];
 
-// Whether a block gets this verdict, over a damaged disk whose first call would fail.
+// Whether a block gets the verdict `want`, over a damaged disk whose first call would fail.
 fn is_judged<H: Threads + Wait + Sync>(
     rt: &H,
     alloc: Global,
@@ -65,7 +65,7 @@ fn replies_are_judged_with_no_store(rt: HostRuntime) -> Result<(), Fail> {
     Ok(())
 }
 
-// Runs `verify` over a new disk.
+// Runs `verify` over a new disk, with the faults of the source and the sink.
 fn judged<H: Threads + Wait + Sync>(
     rt: &H,
     alloc: Global,
@@ -82,7 +82,7 @@ fn judged<H: Threads + Wait + Sync>(
     )
 }
 
-// The second call of the source or of the sink fails; how the judging ends, and what it wrote.
+// The second call of the source or of the sink fails: the status of the judging, and what it wrote.
 const FAULTS: &[(Faults, Status, &str)] = &[
     (
         Faults {
@@ -134,7 +134,7 @@ fn what_was_judged_before_a_fault_is_told(rt: HostRuntime) -> Result<(), Fail> {
     Ok(())
 }
 
-// What is written by a run that proves a name which is there, and one which is not.
+// The replies of a run that proves a name that is there, and one that isn't.
 fn proved<H: Threads + Wait + Sync>(rt: &H, alloc: Global) -> Result<Vec<u8>, Fail> {
     let script = b"put 61 =31\ncommit\nroot v1\nprove v1 61\nprove v1 62\n";
     let disk = new_disk(alloc, b"", &[])?;

@@ -1,4 +1,4 @@
-// The longest names, values and lines, and the most names of a batch.
+// The bounds of scripts: the longest names, values and lines, and the most names of a batch.
 use jf_play::play::{NO_FAULTS, has_ended, is_answered, new_disk, play};
 use jf_run::status::Status;
 use std::alloc::Global;
@@ -6,7 +6,7 @@ use std::sync::Wait;
 use std::test::Fail;
 use std::thread::Threads;
 
-// A text, and another after it some number of times.
+// Appends `more` to the text, `times` times.
 fn extended(text: &mut Vec<u8>, more: &[u8], times: usize) -> Result<(), Fail> {
     for _ in 0..times {
         text.extend_from_slice(more)?;
@@ -14,7 +14,7 @@ fn extended(text: &mut Vec<u8>, more: &[u8], times: usize) -> Result<(), Fail> {
     Ok(())
 }
 
-// `put` of a name and a value of so many bytes.
+// A `put` whose name has `name` bytes and whose value has `value` bytes.
 fn put_line(alloc: Global, name: usize, value: usize) -> Result<Vec<u8>, Fail> {
     let mut line = b"put ".to_vec(alloc)?;
     extended(&mut line, b"61", name)?;
@@ -34,7 +34,7 @@ const LENGTHS: &[(usize, usize, &str)] = &[
     (1, 4247, "0 no long\n"),
 ];
 
-// Whether a line over a new store gets this reply, and makes no entry.
+// Whether a line over a new store gets the reply `want`, and makes no entry.
 fn is_replied<H: Threads + Wait + Sync>(
     rt: &H,
     alloc: Global,
@@ -60,24 +60,25 @@ fn names_and_values_have_their_longest(rt: HostRuntime) -> Result<(), Fail> {
     Ok(())
 }
 
-// How many names a batch has at most.
+// The most names of a batch.
 const FULL: u64 = 10_000;
 
-// `put` of a name that no other number has.
+// Appends a `put` of the name of this number. Different numbers have different names.
 fn add_put(alloc: Global, script: &mut Vec<u8>, number: u64) -> Result<(), Fail> {
     let line = format!(in alloc; "put {number:08} =\n")?;
     script.extend_from_slice(line.as_bytes())?;
     Ok(())
 }
 
-// The reply to a `put` with which a batch has so many names.
+// Appends the reply to a `put` after which the batch has `names` names.
 fn add_pending(alloc: Global, text: &mut Vec<u8>, names: u64) -> Result<(), Fail> {
     let line = format!(in alloc; "0 ok pending {names}\n")?;
     text.extend_from_slice(line.as_bytes())?;
     Ok(())
 }
 
-// `put` of as many names as a batch has at most, of another and of one of them again, and `del` of the same two.
+// `put` of the most names that a batch may have, then of one more name and of a name that is there, and `del` of these
+// two.
 fn full_script(alloc: Global) -> Result<Vec<u8>, Fail> {
     let mut script = Vec::new(alloc);
     for number in 1..=FULL {
@@ -87,10 +88,10 @@ fn full_script(alloc: Global) -> Result<Vec<u8>, Fail> {
     Ok(script)
 }
 
-// The replies to the last four lines of that script.
+// The replies to the last four lines of `full_script`.
 const LAST: &[u8] = b"0 no pending\n0 ok pending 10000\n0 no pending\n0 ok pending 10000\n";
 
-// The replies to that script.
+// The replies to `full_script`.
 fn full_replies(alloc: Global) -> Result<Vec<u8>, Fail> {
     let mut text = Vec::new(alloc);
     for names in 1..=FULL {

@@ -1,4 +1,4 @@
-// Scripts over a folder.
+// Scripts over a real folder, which is opened again for each.
 use jf_disk::FileDisk;
 use jf_play::play::answers;
 use jf_play::roots::with_roots;
@@ -11,7 +11,7 @@ use std::thread::Threads;
 
 const FOLDER: &str = "jellystore_folder";
 
-// Scripts that are run over one folder, the version at which each opens, and what it writes.
+// Scripts that are run over one folder, the version at which each run opens it, and the replies.
 const SCRIPTS: &[(&str, u64, &str)] = &[
     (
         "put 61 =31\ncommit\n",
@@ -28,7 +28,7 @@ fn opened_disk<H: Files<File = File>>(rt: &H, alloc: Global) -> Result<Box<FileD
     Ok(Box::new(alloc, disk)?)
 }
 
-// Opens the folder, and runs a script over it that writes this text.
+// Runs a script over the folder. Fails unless the run opens it at version `opened` and writes the text `want`.
 fn is_opened<H: Files<File = File> + Threads + Wait + Sync>(
     rt: &H,
     alloc: Global,

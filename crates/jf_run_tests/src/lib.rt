@@ -1,4 +1,4 @@
-//! Tests of the words of a command line, run over a disk, a source and a sink in memory, and over a folder.
+//! Tests of the top call: the words of a command line, run over a disk in memory and over a folder.
 #![tactic(auto)]
 
 #[cfg(test)]

@@ -8,7 +8,7 @@ use std::sync::Wait;
 use std::test::Fail;
 use std::thread::Threads;
 
-// Scripts over a new store, and what is written.
+// Scripts over a new store, and their replies. E and R stand for roots, as in `with_roots`.
 const LINES: &[(&str, &str)] = &[
     ("", ""),
     ("root head\n", "0 ok root E\n"),
@@ -39,7 +39,7 @@ fn lines_are_answered(rt: HostRuntime) -> Result<(), Fail> {
 const LANDED: &[u8] =
     b"\x01\x01\0\0\0\0\0\0\0\x36\0\0\0\0\0\0\0\x01\0\0\0\0\0\0\0\x01\x19\xd5\xf5\x7c\x8e\x8b\x3c\xd7\x60\xf8\x53\xbb\x8d\x79\x00\xd6\x8e\x10\xef\x02\x67\x43\x83\xde\x65\xa9\xb4\xd6\x5e\x41\x9b\x26\x01\0\0\0\x01\x31\0";
 
-// Whether side A of a disk holds these bytes, and side B none.
+// Whether side A of a disk holds these bytes, and side B is empty.
 fn holds(disk: &MemDisk, a: &[u8]) -> bool {
     disk.bytes(Side::A) == a && disk.bytes(Side::B).is_empty()
 }
@@ -51,7 +51,7 @@ fn landed<H: Threads + Wait + Sync>(rt: &H, alloc: Global) -> Result<Box<MemDisk
     answers(rt, alloc, disk, b"put 61 =31\ncommit\n", 0, &want)
 }
 
-// That disk, opened again for a landing of nothing.
+// The disk of `landed`, opened again for a commit of nothing.
 fn landed_again<H: Threads + Wait + Sync>(
     rt: &H,
     alloc: Global,
@@ -88,7 +88,7 @@ const DAMAGED: Status = Status::Damaged {
     offset: 0,
 };
 
-// A run that is stopped: side A, the word and the faults, and how the run ends, at which version it opened, and what it
+// A run that is stopped: side A, the word and the faults, then its status, the version at which it opened, and what it
 // wrote.
 #[derive(Clone, Copy)]
 struct Stop {
@@ -143,13 +143,13 @@ const STOPPED: &[Stop] = &[
     },
 ];
 
-// Whether a run was stopped so, with no entry and no fault of the disk.
+// Whether a run ended as `stop` says, with no entry and no fault of the disk.
 fn has_stopped(played: &Played<MemDisk>, stop: &Stop) -> bool {
     let calm = played.entries == 0 && played.disk.faults() == 0;
     calm && has_ended(played, stop.status, stop.start, stop.text.as_bytes())
 }
 
-// Runs a word that is to be stopped so.
+// Whether a run of the word ends as `stop` says.
 fn is_stopped<H: Threads + Wait + Sync>(rt: &H, alloc: Global, stop: &Stop) -> Result<bool, Fail> {
     let disk = new_disk(alloc, stop.file, &[])?;
     let script = b"put 61 =31\ncommit\n";

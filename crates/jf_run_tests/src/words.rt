@@ -1,4 +1,4 @@
-// Lists of words: what they ask for, how they end, and that wrong ones touch nothing.
+// Lists of words: what they ask for, how their runs end, and that wrong words touch nothing.
 use jf_disk::{Disk, MemDisk, Side};
 use jf_play::play::{Faults, NO_FAULTS, Played, disk_of, has_ended, new_disk, play_words};
 use jf_run::status::Status;
@@ -8,7 +8,7 @@ use std::sync::Wait;
 use std::test::Fail;
 use std::thread::Threads;
 
-// The words of a line, with one space between each two.
+// The words of a line, which has one space between each two.
 fn words_of(alloc: Global, line: &str) -> Result<Vec<String>, Fail> {
     let mut words = Vec::new(alloc);
     for word in line.split(' ') {
@@ -17,7 +17,7 @@ fn words_of(alloc: Global, line: &str) -> Result<Vec<String>, Fail> {
     Ok(words)
 }
 
-// Lines, and the workers of the run that they ask for, if they ask for one.
+// Lines of words, and the number of workers of the run that they ask for. `None`: they ask for no run.
 const RUNS: &[(&str, Option<u64>)] = &[
     ("run", Some(4)),
     ("run --", Some(4)),
@@ -65,7 +65,7 @@ const RUNS: &[(&str, Option<u64>)] = &[
     ("walk", None),
 ];
 
-// Lines, and whether they ask for judging.
+// Lines of words, and whether they ask for `verify`.
 const JUDGINGS: &[(&str, bool)] = &[
     ("verify", true),
     ("verify --", true),
@@ -78,7 +78,7 @@ const JUDGINGS: &[(&str, bool)] = &[
     ("Verify", false),
 ];
 
-// How a run of these words over an empty disk and an empty script ends.
+// The status of a run of these words over an empty disk and an empty script.
 fn end_of<H: Threads + Wait + Sync>(
     rt: &H,
     alloc: Global,
@@ -88,7 +88,7 @@ fn end_of<H: Threads + Wait + Sync>(
     Ok(play_words(rt, alloc, disk, words, b"", NO_FAULTS)?.status)
 }
 
-// How words that ask for this mode end.
+// The status of a run of words that ask for this mode.
 fn status_of(mode: Option<Mode>) -> Status {
     match mode {
         Some(_) => Status::Done,
@@ -96,7 +96,7 @@ fn status_of(mode: Option<Mode>) -> Status {
     }
 }
 
-// Whether words ask for this mode, and end as such words do.
+// Whether words ask for this mode, and their run ends with the status of this mode.
 fn are_taken<H: Threads + Wait + Sync>(
     rt: &H,
     alloc: Global,
@@ -106,7 +106,7 @@ fn are_taken<H: Threads + Wait + Sync>(
     Ok(mode_of(alloc, words)? == mode && end_of(rt, alloc, words)? == status_of(mode))
 }
 
-// The same of the words of a line.
+// What `are_taken` says of the words of a line.
 fn is_taken<H: Threads + Wait + Sync>(
     rt: &H,
     alloc: Global,
@@ -117,7 +117,7 @@ fn is_taken<H: Threads + Wait + Sync>(
     are_taken(rt, alloc, &words, mode)
 }
 
-// The mode of words that ask for a run with so many workers, or of words that ask for nothing.
+// The mode of words that ask for a run with this number of workers, or for no mode.
 fn run_by(workers: Option<u64>) -> Option<Mode> {
     match workers {
         Some(workers) => Some(Mode::Run { workers }),
@@ -140,7 +140,7 @@ fn takes_no_empty_list_of_words(rt: HostRuntime) -> Result<(), Fail> {
     Ok(())
 }
 
-// The mode of words that ask for judging, or of words that ask for nothing.
+// The mode of words that ask for `verify`, or for no mode.
 fn judging(judges: bool) -> Option<Mode> {
     if judges { Some(Mode::Verify) } else { None }
 }
@@ -161,24 +161,24 @@ const FAILING: Faults = Faults {
     sink: &[0],
 };
 
-// The sides of a disk that nobody is to touch.
+// The sides of a disk that no run may touch.
 const A: &[u8] = b"\x01\x07\0";
 
 const B: &[u8] = b"\x5a";
 
-// Whether a disk had no call and no fault, and holds what it held.
+// Whether a disk had no call and no fault, and its sides are unchanged.
 fn is_untouched(disk: &MemDisk) -> bool {
     let calm = disk.moment() == 0 && disk.faults() == 0;
     calm && disk.bytes(Side::A) == A && disk.bytes(Side::B) == B
 }
 
-// Whether a run of wrong words ended so, with nothing written and no call of the disk.
+// Whether a run of wrong words ended with `Usage`, nothing written, and no call of the disk.
 fn is_refused(played: &Played<MemDisk>) -> bool {
     let ended = has_ended(played, Status::Usage, None, b"");
     ended && played.entries == 0 && is_untouched(&played.disk)
 }
 
-// Runs wrong words over a damaged disk, a source and a sink whose first calls would fail.
+// Whether wrong words touch nothing: the disk is damaged, and the first calls of the source and the sink would fail.
 fn touches_nothing<H: Threads + Wait + Sync>(
     rt: &H,
     alloc: Global,
@@ -189,7 +189,7 @@ fn touches_nothing<H: Threads + Wait + Sync>(
     Ok(is_refused(&played))
 }
 
-// The same with the words of a line.
+// What `touches_nothing` says of the words of a line.
 fn line_touches_nothing<H: Threads + Wait + Sync>(
     rt: &H,
     alloc: Global,

@@ -163,7 +163,7 @@ all_plain-words (reply.No refusal.Last) h = refl
 text_words : (n : ℕ) (r : Reply) → n < 2 ^ 64 → IsInRange r → words (join_with_byte 32 (decimal n ∷ reply_words r)) ≡ decimal n ∷ reply_words r
 text_words n r small range = words-join (decimal n) (reply_words r) (is_plain-decimal n small) (all_plain-words r range)
 
--- a text tells its number and its reply
+-- equal texts have equal numbers and equal replies
 pub reply_text-distinct : (n m : ℕ) (r q : Reply) → n < 2 ^ 64 → m < 2 ^ 64 → IsInRange r → IsInRange q → reply_text n r ≡ reply_text m q → (n ≡ m) × (r ≡ q)
 unfolding reply_text
 reply_text-distinct n m r q hn hm hr hq e =

@@ -1,4 +1,4 @@
--- Texts that are written piece by piece.
+-- Texts are written piece by piece.
 use Rattle.std.proofs.Common.{◌≡◌, ℕ, ◌+◌, ◌/◌, ◌%◌, ◌<◌, ◌≤◌, List, [], ◌∷◌, ◌++◌, length, take, get_or, slice_index, decimal, refl, sym, ap, ◌∙◌, arith, length-append, take_all}
 use Rattle.std.proofs.lemmas.List.{append_assoc, take_more, append-nil, take-append-le, take-take}
 use Rattle.hex.specs.Hex.{encode_with, encode_lower, lower_digits}
@@ -16,12 +16,12 @@ spaced-append : (ws vs : List (List ℕ)) → spaced (ws ++ vs) ≡ spaced ws ++
 spaced-append [] vs = refl
 spaced-append (w ∷ ws) vs = ap (λ text. 32 ∷ w ++ text) (spaced-append ws vs) ∙ ap (λ text. 32 ∷ text) (sym (append_assoc w (spaced ws) (spaced vs)))
 
--- a reply's text in the pieces in which it is written
+-- a reply's text is its number, its words with a space before each, and 0A
 pub reply_text-pieces : (n : ℕ) (r : Reply) → reply_text n r ≡ (decimal n ++ spaced (reply_words r)) ++ 10 ∷ []
 unfolding reply_text
 reply_text-pieces n r = ap (λ text. text ++ 10 ∷ []) (join-spaced (decimal n) (reply_words r))
 
--- what stands behind more text stands behind the text
+-- what begins with a longer text begins with its front
 pub Extends-behind : (before more middle after : List ℕ) → middle ≡ before ++ more → Extends middle after → Extends before after
 Extends-behind before more middle after e h =
     let long : length before ≤ length middle = omega (arith, ap length e, length-append before more) in
@@ -30,6 +30,6 @@ Extends-behind before more middle after e h =
     ∙ take-append-le (length before) before more (omega arith)
     ∙ take_all (length before) before (omega arith)
 
--- words in two parts
+-- words are spaced in two parts as they are in one
 pub spaced-two : (before : List ℕ) (ws vs : List (List ℕ)) → (before ++ spaced ws) ++ spaced vs ≡ before ++ spaced (ws ++ vs)
 spaced-two before ws vs = append_assoc before (spaced ws) (spaced vs) ∙ ap (λ text. before ++ text) (sym (spaced-append ws vs))

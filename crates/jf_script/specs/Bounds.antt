@@ -1,4 +1,4 @@
--- What a command of the grammar puts, and asks for, is within its bounds.
+-- Each command of the grammar keeps the limits on values and chunks.
 use Rattle.std.specs.Prelude.{◌≡◌, ℕ, ◌≤◌, Bool, true, false, cond, ◌&&◌, nat_le, if◌then◌else◌, ◌==◌, List, [], ◌∷◌, length, Option, Some, None, option_map, option_and_then, codes}
 use Rattle.std.proofs.Common.{refl, subst, arith}
 use Rattle.jf_text.specs.Words.{words, is_word, both, unhex, name_of, value_of, bytes_within}
@@ -8,16 +8,18 @@ use Rattle.jf_script.specs.declared.command.Base.{Base}
 use Rattle.jf_script.specs.declared.command.Command.{Command}
 use Rattle.jf_script.specs.declared.command.Command.TheVariants as command
 
--- a value that is put has at most 4,096 bytes, and a chunk has 1 to 1,000 entries
+-- a command's limits: `put` has a value of at most 4,096 bytes, and `chunk` asks for 1 to 1,000 entries
 abbrev pub IsBounded : Command → Type 0
 IsBounded (command.Put name value) = length value ≤ 4096
 IsBounded (command.Chunk on start count) = (1 ≤ count) × (count ≤ 1000)
 IsBounded c = Unit {0}
 
+-- a command, if there is one, keeps its limits
 abbrev Fine : Option Command → Type 0
 Fine None = Unit {0}
 Fine (Some c) = IsBounded c
 
+-- a value, if there is one, has at most 4,096 bytes
 abbrev Short : Option (List ℕ) → Type 0
 Short None = Unit {0}
 Short (Some value) = length value ≤ 4096
@@ -78,7 +80,7 @@ three_fine w a b =
     (chosen (is_word w (codes "prove")) _ _ (paired (λ on name. command.Prove on name) (λ x y. tt) (stored_of a) (name_of b))
     (chosen (is_word w (codes "nth")) _ _ (paired (λ on place. command.Nth on place) (λ x y. tt) (stored_of a) (number b)) tt)))
 
--- a number, if it is there, from `least` to `most`
+-- a number, if there is one, is from `least` to `most`
 abbrev Within : ℕ → ℕ → Option ℕ → Type 0
 Within least most None = Unit {0}
 Within least most (Some n) = (least ≤ n) × (n ≤ most)
@@ -122,7 +124,7 @@ words_fine (w ∷ a ∷ b ∷ []) = three_fine w a b
 words_fine (w ∷ a ∷ b ∷ c ∷ []) = four_fine w a b c
 words_fine (w ∷ a ∷ b ∷ c ∷ d ∷ ws) = tt
 
--- the command of a line is bounded
+-- the command of a line keeps its limits
 pub command_of-IsBounded : (line : List ℕ) (c : Command) → command_of line ≡ Some c → IsBounded c
 unfolding command_of
 command_of-IsBounded line c is = subst Fine is (words_fine (words line))

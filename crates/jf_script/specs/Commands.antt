@@ -1,4 +1,4 @@
--- The grammar of a script.
+-- The grammar of a script's lines (docs/FORMATS.md, Scripts).
 use Rattle.std.specs.Prelude.{ℕ, Bool, false, ◌||◌, if◌then◌else◌, ◌==◌, List, [], ◌∷◌, Option, Some, None, option_map, option_and_then, codes}
 use Rattle.jf_text.specs.Words.{words, is_word, both, number, number_from, name_of, value_of}
 use Rattle.jf_script.specs.declared.command.Base.{Base}
@@ -6,7 +6,7 @@ use Rattle.jf_script.specs.declared.command.Base.TheVariants as base
 use Rattle.jf_script.specs.declared.command.Command.{Command}
 use Rattle.jf_script.specs.declared.command.Command.TheVariants as command
 
--- a letter and a number
+-- the base of a letter and a number: `vN` a version, `fN` a fork, `pN` a pinned place
 abbrev pub numbered : ℕ → List ℕ → Option Base
 numbered letter digits =
     if letter == 118 then option_map (λ n. base.Version n) (number digits)
@@ -14,7 +14,7 @@ numbered letter digits =
     else if letter == 112 then option_map (λ n. base.Place n) (number digits)
     else None
 
--- `head`, or `v`, `f` or `p` and a number
+-- the base that a word names: `head`, `vN`, `fN` or `pN`
 unfoldable pub base_of : List ℕ → Option Base
 base_of [] = None
 base_of (letter ∷ digits) = if is_word (letter ∷ digits) (codes "head") then Some base.Head else numbered letter digits
@@ -26,33 +26,33 @@ no_fork (base.Version n) = Some (base.Version n)
 no_fork (base.Fork n) = None
 no_fork (base.Place n) = Some (base.Place n)
 
--- the head or a fork
+-- a base that is the head or a fork
 abbrev pub head_or_fork : Base → Option Base
 head_or_fork base.Head = Some base.Head
 head_or_fork (base.Version n) = None
 head_or_fork (base.Fork n) = Some (base.Fork n)
 head_or_fork (base.Place n) = None
 
--- the id of a fork
+-- the id of a base that is a fork
 abbrev pub fork_id : Base → Option ℕ
 fork_id base.Head = None
 fork_id (base.Version n) = None
 fork_id (base.Fork n) = Some n
 fork_id (base.Place n) = None
 
--- `head`, `v` or `p`: a base that is no fork
+-- a stored base: `head`, `vN` or `pN`
 abbrev pub stored_of : List ℕ → Option Base
 stored_of w = option_and_then no_fork (base_of w)
 
--- what a fork is made on
+-- what a fork is made on: `head` or `fN`
 abbrev pub parent_of : List ℕ → Option Base
 parent_of w = option_and_then head_or_fork (base_of w)
 
--- `f` and the id of a fork
+-- the id of a fork, from `fN`
 abbrev pub id_of : List ℕ → Option ℕ
 id_of w = option_and_then fork_id (base_of w)
 
--- commands of one word
+-- the command of a line of one word
 abbrev pub one_word : List ℕ → Option Command
 one_word w =
     if is_word w (codes "commit") then Some command.Commit
@@ -60,7 +60,7 @@ one_word w =
     else if is_word w (codes "status") then Some command.Status
     else None
 
--- commands of two words
+-- the command of a line of two words
 abbrev pub two_words : List ℕ → List ℕ → Option Command
 two_words w a =
     if is_word w (codes "del") then option_map (λ name. command.Del name) (name_of a)
@@ -74,7 +74,7 @@ two_words w a =
     else if is_word w (codes "prune") then option_map (λ n. command.Prune n) (number a)
     else None
 
--- commands of three words
+-- the command of a line of three words
 abbrev pub three_words : List ℕ → List ℕ → List ℕ → Option Command
 three_words w a b =
     if is_word w (codes "put") then both (λ name value. command.Put name value) (name_of a) (value_of b)
@@ -83,7 +83,7 @@ three_words w a b =
     else if is_word w (codes "nth") then both (λ on place. command.Nth on place) (stored_of a) (number b)
     else None
 
--- the command of four words
+-- the command of a line of four words
 abbrev pub four_words : List ℕ → List ℕ → List ℕ → List ℕ → Option Command
 four_words w a b c =
     if is_word w (codes "chunk") then option_and_then (λ on. both (λ start count. command.Chunk on start count) (number b) (number_from 1 1000 c)) (stored_of a) else None
@@ -97,7 +97,7 @@ command_of_words (w ∷ a ∷ b ∷ []) = three_words w a b
 command_of_words (w ∷ a ∷ b ∷ c ∷ []) = four_words w a b c
 command_of_words (w ∷ a ∷ b ∷ c ∷ d ∷ ws) = None
 
--- the words of a command with a name
+-- whether the words begin as a command with a name does
 abbrev pub takes_name : List (List ℕ) → Bool
 takes_name [] = false
 takes_name (w ∷ []) = false

@@ -1,4 +1,4 @@
--- Replies as text.
+-- The text of replies (docs/FORMATS.md, Replies).
 use Rattle.std.specs.Prelude.{◌≡◌, ℕ, ◌^◌, ◌<◌, length, take, List, [], ◌∷◌, Some, None, codes, decimal}
 use Rattle.hex.specs.Hex.{encode_lower, IsBytes}
 use Rattle.jf_text.specs.Words.{line_text, value_word}
@@ -7,11 +7,11 @@ use Rattle.jf_script.specs.declared.reply.Refusal.TheVariants as refusal
 use Rattle.jf_script.specs.declared.reply.Reply.{Reply}
 use Rattle.jf_script.specs.declared.reply.Reply.TheVariants as reply
 
--- a fork as it is named
+-- the word for a fork: `f` and its id
 abbrev pub fork_word : ℕ → List ℕ
 fork_word id = 102 ∷ decimal id
 
--- why a command was refused, in words
+-- the words for a refusal, after `no`
 abbrev pub refusal_words : Refusal → List (List ℕ)
 refusal_words refusal.Syntax = codes "syntax" ∷ []
 refusal_words refusal.Long = codes "long" ∷ []
@@ -27,7 +27,7 @@ refusal_words refusal.ForksFull = codes "forksfull" ∷ []
 refusal_words (refusal.Range count) = codes "range" ∷ decimal count ∷ []
 refusal_words refusal.Last = codes "last" ∷ []
 
--- a reply in words
+-- the words of a reply, after its number
 abbrev pub reply_words : Reply → List (List ℕ)
 reply_words (reply.Pending count) = codes "ok" ∷ codes "pending" ∷ decimal count ∷ []
 reply_words (reply.Commit version root) = codes "ok" ∷ codes "commit" ∷ decimal version ∷ encode_lower root ∷ []
@@ -50,11 +50,11 @@ reply_words (reply.Status base floor retired head kept forks generation) =
     ∷ codes "kept" ∷ decimal kept ∷ codes "forks" ∷ decimal forks ∷ codes "generation" ∷ decimal generation ∷ []
 reply_words (reply.No why) = codes "no" ∷ refusal_words why
 
--- a number, the words of the reply, and 0A
+-- the line of a reply: a number, the reply's words, and 0A
 unfoldable pub reply_text : ℕ → Reply → List ℕ
 reply_text n r = line_text (decimal n ∷ reply_words r)
 
--- numbers below 2 ^ 64
+-- the numbers of a refusal are below 2 ^ 64
 abbrev pub RefusalInRange : Refusal → Type 0
 RefusalInRange refusal.Syntax = Unit {0}
 RefusalInRange refusal.Long = Unit {0}
@@ -70,7 +70,7 @@ RefusalInRange refusal.ForksFull = Unit {0}
 RefusalInRange (refusal.Range count) = count < 2 ^ 64
 RefusalInRange refusal.Last = Unit {0}
 
--- numbers below 2 ^ 64, roots and values of bytes
+-- the numbers of a reply are below 2 ^ 64, and its roots and values are bytes
 abbrev pub IsInRange : Reply → Type 0
 IsInRange (reply.Pending count) = count < 2 ^ 64
 IsInRange (reply.Commit version root) = (version < 2 ^ 64) × IsBytes root

@@ -1,11 +1,11 @@
-// Words as bases.
+// Words that name a base: `head`, `vN` for a version, `fN` for a fork, `pN` for a pinned place.
 ghost use Rattle.std.specs.Prelude.{◌≡◌};
 ghost use Rattle.jf_script.specs.Commands.{base_of, stored_of, parent_of, id_of};
 
 use crate::command::Base;
 use jf_text::{is_word, number_of};
 
-/// `head`, or `v`, `f` or `p` and a number.
+/// The base that a word names: `head`, `vN`, `fN` or `pN`.
 #[tactic(auto, unfolding(crate::specs::Commands::base_of))]
 pub(crate) fn base_of(word: &[u8]) -> Option<Base>
     ensures { result ≡ base_of word.now }
@@ -22,7 +22,7 @@ pub(crate) fn base_of(word: &[u8]) -> Option<Base>
     }
 }
 
-/// A base that is no fork.
+/// A base that is no fork: `head`, `vN` or `pN`.
 pub(crate) fn stored_of(word: &[u8]) -> Option<Base>
     ensures { result ≡ stored_of word.now }
 {
@@ -32,7 +32,7 @@ pub(crate) fn stored_of(word: &[u8]) -> Option<Base>
     }
 }
 
-/// What a fork may be made on: the head or a fork.
+/// What a fork may be made on: `head` or `fN`.
 pub(crate) fn parent_of(word: &[u8]) -> Option<Base>
     ensures { result ≡ parent_of word.now }
 {
@@ -43,7 +43,7 @@ pub(crate) fn parent_of(word: &[u8]) -> Option<Base>
     }
 }
 
-/// The id of a fork.
+/// The id of a fork, from `fN`.
 pub(crate) fn id_of(word: &[u8]) -> Option<u64>
     ensures { result ≡ id_of word.now }
 {

@@ -1,4 +1,4 @@
-// Why a line is no command.
+// A line is refused if it is too long or outside the grammar, or if memory runs out.
 
 /// Why a line is no command.
 #[derive(Clone, Copy, Debug, PartialEq, Eq)]
@@ -7,6 +7,6 @@ pub enum LineFault {
     Syntax,
     /// The line has more than 8,500 bytes.
     LineTooLong,
-    /// Memory is wanting.
+    /// Out of memory.
     Memory,
 }

@@ -1,4 +1,4 @@
-// Lines as commands.
+// A line of a script is one to four words: a keyword, and what the command takes.
 ghost use Rattle.std.specs.Prelude.{◌≡◌, ◌⊎◌, ◌↔◌, [], ◌∷◌, Some, None, Err, IfOk, IsTrue, OnErr, codes, false};
 ghost use Rattle.jf_text.specs.Words.{is_long, is_word, words, both, number, name_of, value_of};
 ghost use Rattle.jf_script.specs.Commands.{command_of, takes_name, stored_of, one_word, two_words, three_words, four_words};
@@ -10,10 +10,11 @@ use jf_path::Memory;
 use jf_text::{is_word, name_of, number_from, number_of, split_word, value_of};
 use std::alloc::Global;
 
-/// The greatest number of bytes of a line.
+/// The most bytes of a line that is read.
 const LONGEST: usize = 8500;
 
-/// The command of a line, which is given without the byte that ends it. Only a command with a name needs memory.
+/// The command of a line, which is given without its line feed. Only a command with a name needs memory. The grammar is
+/// that of docs/FORMATS.md, Scripts.
 pub fn read_line(alloc: Global, line: &[u8]) -> Result<Command, LineFault>
     ensures found { IfOk result (λ c. command_of line.now ≡ Some c) }
     ensures short { IfOk result (λ c. is_long line.now ≡ false) }

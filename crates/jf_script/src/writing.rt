@@ -1,4 +1,4 @@
-// Replies as text.
+// A reply's line is the number of entries so far, the reply's words, and a line feed.
 ghost use Rattle.std.specs.Prelude.{◌≡◌, ◌∷◌, ◌++◌, [], codes, decimal, OnOk, OnErr};
 ghost use Rattle.hex.specs.Hex.{encode_lower};
 ghost use Rattle.jf_text.specs.Words.{spaced, Extends};
@@ -8,8 +8,8 @@ use crate::reply::{Refusal, Reply};
 use jf_path::{Bytes, Memory};
 use jf_text::{write_hex, write_number};
 
-/// Appends the line of a reply: the number of entries seen, the reply's words, and a line feed. A refusal leaves
-/// the text as it was.
+/// Appends the line of a reply: `seen`, the number of entries so far, the reply's words, and a line feed. If memory
+/// runs out, the text is unchanged (docs/FORMATS.md, Replies).
 pub fn write_reply(seen: u64, reply: &Reply, out: &mut Bytes) -> Result<(), Memory>
     ensures ok { OnOk result (out.new ≡ out.old ++ reply_text seen reply.now) }
     ensures err { OnErr result (out.new ≡ out.old) }
@@ -88,7 +88,7 @@ fn write_words(reply: &Reply, out: &mut Bytes) -> Result<(), Memory>
     }
 }
 
-/// Appends the first half of the store's numbers: its versions.
+/// Appends the first half of the reply to `status`: the store's versions.
 fn write_bounds(
     base: u64,
     floor: u64,
@@ -105,7 +105,7 @@ fn write_bounds(
     write_number(b" head ", head, out)
 }
 
-/// Appends the other half.
+/// Appends the other half of the reply to `status`.
 fn write_sizes(kept: u64, forks: u64, generation: u64, out: &mut Bytes) -> Result<(), Memory>
     ensures ok { OnOk result (out.new ≡ out.old ++ spaced (codes "kept" ∷ decimal kept ∷ codes "forks" ∷ decimal forks ∷ codes "generation" ∷ decimal generation ∷ [])) }
     ensures err { OnErr result (Extends out.old out.new) }
@@ -137,7 +137,7 @@ fn write_refusal(refusal: Refusal, out: &mut Bytes) -> Result<(), Memory>
     }
 }
 
-/// Appends a number and a root behind a label.
+/// Appends a label, a number and a root.
 fn write_rooted(label: &[u8], number: u64, root: &[u8; 32], out: &mut Bytes) -> Result<(), Memory>
     ensures ok { OnOk result (out.new ≡ out.old ++ (label.now ++ decimal number ++ 32 ∷ encode_lower root.now)) }
     ensures err { OnErr result (Extends out.old out.new) }

@@ -1,4 +1,4 @@
--- The pieces of a front of a batch, and of a front that is longer by one piece.
+-- The pieces of the first entries of a batch, and of a front that is longer by one piece.
 use Rattle.std.proofs.Common.{◌≡◌, ℕ, ◌+◌, ◌-◌, ◌<◌, ◌≤◌, true, false, eqb, List, [], ◌∷◌, ◌++◌, length, get_or, take, drop, refl, sym, ap, ap₂, ◌∙◌, subst, arith, inl, inr, length-append, length-drop, eq-eqb}
 use Rattle.std.specs.List.{filter, slice_range, All, AllPairs, AllWithin}
 use Rattle.std.proofs.lemmas.Bool.{cases_lt}
@@ -19,7 +19,7 @@ eqb-less a b lt = grind (arith, nat_tests)
 eqb-greater : (a b : ℕ) → b < a → eqb a b ≡ false
 eqb-greater a b lt = grind (arith, nat_tests)
 
--- entries with lesser nibbles, and entries with one greater nibble
+-- entries whose nibbles are less than n have none with nibble n
 none_above : (depth m n : ℕ) (b : Batch) → m ≤ n → All (λ e. nibble e.0 depth < m) b → with_nibble depth n b ≡ []
 none_above depth m n b le low =
     filter_none (λ e. eqb (nibble e.0 depth) n) b (All-weaker (λ e. nibble e.0 depth < m) (λ e. eqb (nibble e.0 depth) n ≡ false) (λ e lt. eqb-less (nibble e.0 depth) n (omega arith)) b low)
@@ -38,12 +38,12 @@ entries_of-append xs ys p some within =
     ap (take (p.end - p.start)) (drop-append-le p.start xs ys (omega arith))
     ∙ take-append-le (p.end - p.start) (drop p.start xs) ys (omega (arith, length-drop p.start xs))
 
--- what stands behind a front
+-- a piece that begins after a front has the entries after it
 entries_of-rest : (xs ys : Batch) (p : Piece) → p.start ≡ length xs → p.end ≡ length xs + length ys → entries_of (xs ++ ys) p ≡ ys
 entries_of-rest xs ys p start end =
     ap (take (p.end - p.start)) (drop_at xs ys p.start (sym start)) ∙ take_all (p.end - p.start) ys (omega arith)
 
--- a piece that is not empty has a nibble that is there
+-- if all nibbles are below n, so is the nibble of a piece that isn't empty
 nibble-below : (depth n : ℕ) (b : Batch) (p : Piece) → p.start < p.end → p.end ≤ length b → entries_of b p ≡ with_nibble depth p.nibble b → All (λ e. nibble e.0 depth < n) b → p.nibble < n
 nibble-below depth n b p some within exact low = elim (cases_lt p.nibble n) [
   | inl less ↦ less
@@ -54,7 +54,7 @@ Tile-push : (from to : ℕ) (ps : List Piece) (p : Piece) → Tile from to ps �
 Tile-push from to [] p tile at some = (at ∙ sym tile, some, refl)
 Tile-push from to (q ∷ ps) p tile at some = (tile.0, tile.1, Tile-push q.end to ps p tile.2 at some)
 
--- behind entries with lesser nibbles, entries with one nibble are one piece more
+-- entries with one nibble, after entries with lesser ones, are one more piece
 ArePieces-push : (depth : ℕ) (xs ys : Batch) (ps : List Piece) (p : Piece) → ArePieces depth xs ps → p.start ≡ length xs → p.end ≡ length xs + length ys → p.start < p.end → All (λ e. nibble e.0 depth < p.nibble) xs → All (λ e. nibble e.0 depth ≡ p.nibble) ys → ArePieces depth (xs ++ ys) (ps ++ p ∷ [])
 ArePieces-push depth xs ys ps p are start end some low same =
     let each = Tile-each 0 (length xs) ps are.tiled in
@@ -71,7 +71,7 @@ ArePieces-push depth xs ys ps p are start end some low same =
           ∙ sym (split p.nibble ∙ ap₂ (λ es fs. es ++ fs) (none_above depth p.nibble p.nibble xs (omega arith) low) (all_same depth p.nibble ys same)));
     }
 
--- a front and the piece behind it are a longer front
+-- a front and the piece after it are a longer front
 take_part : (b : Batch) (s e : ℕ) → s ≤ e → take e b ≡ take s b ++ slice_range b s e
 take_part b s e le =
     let joins : s + (e - s) ≡ e = omega arith in
@@ -86,7 +86,7 @@ module _ (P : List ℕ × Rattle.std.specs.Prelude.Option (List ℕ) → Type 0)
       let below : k < e - s = omega (arith, length-take-le (e - s) (drop s b) (omega (arith, length-drop s b))) in
       subst P (sym (get_or-take (e - s) (drop s b) k d below ∙ get_or-drop s b k d)) (within (s + k) d (omega arith) (omega arith))
 
--- the pieces of a front, and the piece behind it
+-- the pieces of a front, and the piece after it, are the pieces of the longer front
 pub pieces_more : (depth : ℕ) (b : Batch) (ps : List Piece) (p : Piece) → ArePieces depth (take p.start b) ps → p.start < p.end → p.end ≤ length b → AllWithin (λ e. nibble e.0 depth < p.nibble) b 0 p.start → AllWithin (λ e. nibble e.0 depth ≡ p.nibble) b p.start p.end → ArePieces depth (take p.end b) (ps ++ p ∷ [])
 pieces_more depth b ps p are some within low same =
     let front = length-take-le p.start b (omega arith) in
@@ -96,7 +96,7 @@ pieces_more depth b ps p are some within low same =
     (All-front (λ e. nibble e.0 depth < p.nibble) b p.start (omega arith) low)
     (All-part (λ e. nibble e.0 depth ≡ p.nibble) b p.start p.end (omega arith) within same))
 
--- what stands before the end of a piece has a lesser nibble than what begins there
+-- the entries before the end of a piece have lesser nibbles than those from there on
 pub front_below : (depth n : ℕ) (b : Batch) (s e : ℕ) → AllWithin (λ x. nibble x.0 depth < n) b 0 s → AllWithin (λ x. nibble x.0 depth ≡ n) b s e → AllWithin (λ x. n < nibble x.0 depth) b e (length b) → e < length b → AllWithin (λ x. nibble x.0 depth < nibble (get_or b e x).0 depth) b 0 e
 front_below depth n b s e low same other lt = λ k d _ below.
     let above = other e (get_or b k d) (omega arith) lt in

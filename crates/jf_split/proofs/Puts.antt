@@ -1,4 +1,4 @@
--- What a put makes of a batch, by the place of its key.
+-- A batch after a put, by whether its key is there already and by its place.
 use Rattle.std.proofs.Common.{◌≡◌, ℕ, zero, suc, ◌<◌, ◌≤◌, true, false, cond, ◌&&◌, List, [], ◌∷◌, length, set, refl, sym, ap, ◌∙◌, subst, arith, T, Less, Greater, is_eq, is_none, is_some, Option, None, Some, IfSome, IsSome, true≢false, nat_le}
 use Rattle.std.specs.List.{insert}
 use Rattle.std.specs.FinMap.{put, find, is_sorted}
@@ -15,7 +15,7 @@ use Rattle.jf_split.specs.BatchLaws.{IsBatch-put, IsWithinLimits-put}
 
 -- ---- a key that is there
 
--- a place behind the first entry, seen from there
+-- a place after the first entry, counted among the entries after it
 place_in_rest : (k : List ℕ) (e : List ℕ × Option (List ℕ)) (b : Batch) (i : ℕ) → IsPlaceOf k (e ∷ b) (suc i) → IsPlaceOf k b i
 place_in_rest k e b i place = record { within = omega (arith, place.within); same = λ d. place.same d }
 
@@ -44,13 +44,13 @@ found k (e ∷ es) (suc i) place = elim (is_eq (key_cmp k e.0)) as (λ t. is_non
   | false ↦ found k es i (place_in_rest k e es i place)
 ]
 
--- there is always room for it
+-- a key that is there always has room
 pub is_full-place : (k : List ℕ) (b : Batch) (i : ℕ) → IsPlaceOf k b i → is_full k b ≡ false
 is_full-place k b i place = ap (λ t. nat_le 10000 (length b) && t) (found k b i place) ∙ elim (nat_le 10000 (length b)) as (λ t. (t && false) ≡ false) [ true ↦ refl | false ↦ refl ]
 
 -- ---- a key that is new
 
--- a gap behind the first entry, seen from there
+-- a gap after the first entry, counted among the entries after it
 gap_in_rest : (k : List ℕ) (e : List ℕ × Option (List ℕ)) (b : Batch) (i : ℕ) → IsGapFor k (e ∷ b) (suc i) → IsGapFor k b i
 gap_in_rest k e b i gap = record {
   within = omega (arith, gap.within);
@@ -58,7 +58,7 @@ gap_in_rest k e b i gap = record {
   behind = λ j d le lt. gap.behind (suc j) d (omega arith) (omega arith);
 }
 
--- an entry stands at its place and moves those behind
+-- a new entry is inserted at the gap of its key
 pub put-gap : (k : List ℕ) (v : Option (List ℕ)) (b : Batch) (i : ℕ) → IsGapFor k b i → put key_cmp k v b ≡ insert b i (k, v)
 put-gap k v [] zero gap = refl
 put-gap k v [] (suc i) gap = refl
@@ -79,7 +79,7 @@ none_behind k e b gap = record {
   behind = λ j d le lt. gap.behind (suc j) d (omega arith) (omega arith);
 }
 
--- no entry has it
+-- no entry has a key that has a gap
 pub find-gap : (k : List ℕ) (b : Batch) (i : ℕ) → IsGapFor k b i → find key_cmp k b ≡ None
 find-gap k [] i gap = refl
 find-gap k (e ∷ es) zero gap = ap (λ t. cond t (Some e.1) (find key_cmp k es)) (first_differs k e es 0 gap) ∙ find-gap k es 0 (none_behind k e es gap)
@@ -88,24 +88,24 @@ find-gap k (e ∷ es) (suc i) gap = ap (λ t. cond t (Some e.1) (find key_cmp k 
 pub not_there : (k : List ℕ) (b : Batch) (i : ℕ) → IsGapFor k b i → IsSome (find key_cmp k b) → ⊥
 not_there k b i gap there = true≢false (sym there ∙ ap is_some (find-gap k b i gap))
 
--- there is room for it while fewer than 10,000 are there
+-- a new key has room while there are fewer than 10,000
 pub is_full-gap : (k : List ℕ) (b : Batch) (i : ℕ) → IsGapFor k b i → is_full k b ≡ nat_le 10000 (length b)
 is_full-gap k b i gap = ap (λ t. nat_le 10000 (length b) && t) (ap is_none (find-gap k b i gap)) ∙ elim (nat_le 10000 (length b)) as (λ t. (t && true) ≡ t) [ true ↦ refl | false ↦ refl ]
 
 -- ---- what a batch keeps
 
 module _ (k q : List ℕ) (v : Option (List ℕ)) (b : Batch) (i : ℕ) (key : IsKey k) (bytes : IfSome v IsBytes) (short : IfSome v (λ w. length w ≤ 4096)) (batch : IsBatch b × IsWithinLimits b) where
-  -- where there is room
+  -- a put for which there is room keeps the batch's rules and limits
   put_batch : is_full k b ≡ false → IsBatch (put key_cmp k v b) × IsWithinLimits (put key_cmp k v b)
   put_batch room = (IsBatch-put k v b key bytes batch.0, IsWithinLimits-put k v b batch.0.sorted room short batch.1)
 
-  -- what the code does to a key that is there, q being the key that its entry has
+  -- setting the entry of a key that is there is a put, q being the key in that entry
   pub set-put : IsPlaceOf k b i → q ≡ k → set b i (q, v) ≡ put key_cmp k v b
   set-put place same = ap (λ x. set b i (x, v)) same ∙ sym (put-place k v b i batch.0.sorted place)
 
   pub set_batch : IsPlaceOf k b i → q ≡ k → IsBatch (set b i (q, v)) × IsWithinLimits (set b i (q, v))
   set_batch place same = subst (λ x. IsBatch x × IsWithinLimits x) (sym (set-put place same)) (put_batch (is_full-place k b i place))
 
-  -- and to one that is new
+  -- inserting a new entry keeps the batch's rules and limits
   pub insert_batch : IsGapFor k b i → length b < 10000 → IsBatch (insert b i (k, v)) × IsWithinLimits (insert b i (k, v))
   insert_batch gap room = subst (λ x. IsBatch x × IsWithinLimits x) (put-gap k v b i gap) (put_batch (is_full-gap k b i gap ∙ lt-leb 10000 (length b) room))

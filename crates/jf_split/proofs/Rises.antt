@@ -1,4 +1,4 @@
--- Of two keys that begin with the same nibbles the lesser one has no greater nibble behind them.
+-- If two keys begin with the same nibbles, the lesser key has no greater nibble after them.
 use Rattle.std.proofs.Common.{◌≡◌, ℕ, zero, suc, ◌+◌, ◌*◌, ◌/◌, ◌%◌, ◌<◌, ◌≤◌, List, [], ◌∷◌, length, get_or, slice_index, subst, arith, Less, Ordering, Option, eq-or-lt_of_le, inl, inr}
 use Rattle.std.specs.Ordering.{nat_cmp, ordering_then}
 use Rattle.std.specs.Cmp.Lexicographic.{slice_cmp}
@@ -13,15 +13,15 @@ use Rattle.jf_hash.specs.Maps.{Batch, IsBatch}
 use Rattle.jf_hash.specs.KeyOrder.{sorted-rises}
 use Rattle.jf_split.specs.Pieces.{AgreeBefore}
 
--- a lesser first number is no greater
+-- the lesser of two lists has no greater first number
 first_no_greater : (x y : ℕ) (o : Ordering) → ordering_then (nat_cmp x y) o ≡ Less → x ≤ y
 first_no_greater x y o less = grind (arith, nat_tests)
 
--- where the first numbers are one, the rest decide
+-- if the first numbers are equal, the rest decide
 rest_less : (x y : ℕ) (o : Ordering) → x ≡ y → ordering_then (nat_cmp x y) o ≡ Less → o ≡ Less
 rest_less x y o same less = grind (arith, nat_tests)
 
--- of two lists that agree before place m, the lesser has no greater number there
+-- if two lists agree before place m, the lesser has no greater number there
 pub slice_cmp-place : (a b : List ℕ) (m : ℕ) → slice_cmp nat_cmp a b ≡ Less → m < length a → m < length b → ((i : ℕ) → i < m → get_or a i 0 ≡ get_or b i 0) → get_or a m 0 ≤ get_or b m 0
 slice_cmp-place [] b m less la lb same = absurd (omega arith)
 slice_cmp-place (x ∷ a) [] m less la lb same = absurd (omega arith)
@@ -45,7 +45,7 @@ byte_same : (a b : List ℕ) (d p : ℕ) → IsKey a → IsKey b → ((i : ℕ) 
 byte_same a b d p ka kb same within =
     omega (arith, high a p ka, high b p kb, low a p, low b p, same (2 * p) (omega arith), same (2 * p + 1) (omega arith))
 
--- of two keys that agree in their first nibbles, the lesser has no greater nibble behind them
+-- if two keys agree in their first nibbles, the lesser has no greater nibble after them
 pub nibble-no_greater : (a b : List ℕ) (d : ℕ) → IsKey a → IsKey b → d < 64 → ((i : ℕ) → i < d → nibble a i ≡ nibble b i) → key_cmp a b ≡ Less → nibble a d ≤ nibble b d
 nibble-no_greater a b d ka kb within same less =
     let p = d / 2 in
@@ -64,7 +64,7 @@ key_at [] i e keys lt = absurd (omega arith)
 key_at (f ∷ fs) zero e keys lt = keys.0
 key_at (f ∷ fs) (suc i) e keys lt = key_at fs i e keys.1 (omega arith)
 
--- along a batch whose keys agree in their first nibbles, the nibble behind them does not fall
+-- if the keys of a batch agree in their first nibbles, the nibble after them doesn't fall along the batch
 pub IsNonDecreasingBy-nibble : (depth : ℕ) (b : Batch) → depth < 64 → IsBatch b → AgreeBefore depth b → IsNonDecreasingBy (λ e. nibble e.0 depth) b
 IsNonDecreasingBy-nibble depth b within batch agree = λ i j e le lt. elim (eq-or-lt_of_le le) [
   | inl here ↦ subst (λ m. nibble (get_or b i e).0 depth ≤ nibble (get_or b m e).0 depth) here (omega arith)

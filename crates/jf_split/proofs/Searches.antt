@@ -1,4 +1,4 @@
--- A binary search of a batch ends at the place of the key, or where it would stand.
+-- A binary search of a batch ends at the place of the key, or at its gap.
 use Rattle.std.proofs.Common.{◌≡◌, ℕ, ◌<◌, ◌≤◌, List, length, get_or, sym, subst, arith, T, Less, Equal, Greater, Ordering, Option, Result, Ok, Err, refl, IfOk, IfErr, eq-or-lt_of_le, inl, inr}
 use Rattle.std.specs.Ordering.{ordering_index}
 use Rattle.std.specs.List.Sorted.{IsSearchInRange, IsBinarySearchResult}

@@ -1,4 +1,4 @@
--- What is known of a batch, and of one that takes one change more.
+-- A batch names no key twice, and keeps its rules and limits with one more change.
 use Rattle.std.proofs.Common.{◌≡◌, ℕ, ◌+◌, ◌≤◌, Bool, true, false, not, cond, ◌&&◌, List, [], ◌∷◌, length, refl, sym, ap, ◌∙◌, subst, arith, T, Less, Equal, Greater, Option, None, Some, IfSome, is_none, is_some, is_eq, map, nat_le, true≢false}
 use Rattle.std.proofs.lemmas.Bool.{leb-false}
 use Rattle.std.specs.List.{AllByRecursion, IsDistinct}
@@ -10,7 +10,7 @@ use Rattle.jf_hash.specs.Maps.{Batch, IsBatch, same_key}
 use Rattle.jf_hash.specs.KeyOrder.{same_key-exact, below-first, below-later, below-rest, sorted-rest}
 use Rattle.jf_split.specs.Limits.{IsWithinLimits, is_full}
 
--- what holds of each entry and of the new one holds of each entry behind a put
+-- what holds of each entry and of the new one holds of each entry after a put
 all-put : (P : List ℕ × Option (List ℕ) → Type 0) (k : List ℕ) (v : Option (List ℕ)) (b : Batch) → P (k, v) → AllByRecursion P b → AllByRecursion P (put key_cmp k v b)
 all-put P k v [] here all = (here, tt)
 all-put P k v (e ∷ es) here all =
@@ -27,7 +27,7 @@ differs_from_all k (e ∷ es) below = (ap is_eq (below-first k e es below), diff
 pub IsBatch-none : IsBatch []
 IsBatch-none = record { sorted = tt; keys = tt; values = tt }
 
--- a batch that takes a key and bytes is a batch
+-- a batch stays a batch when it takes a key of 32 bytes and a value of bytes, or a removal
 pub IsBatch-put : (k : List ℕ) (v : Option (List ℕ)) (b : Batch) → IsKey k → IfSome v IsBytes → IsBatch b → IsBatch (put key_cmp k v b)
 IsBatch-put k v b key bytes batch = record {
   sorted = is_sorted-put key_cmp nat_list_cmp_total k v b batch.sorted;
@@ -44,7 +44,7 @@ IsDistinct-keys (e ∷ es) sorted = (differs_from_all e.0 es (below-rest e es so
 pub IsWithinLimits-none : IsWithinLimits []
 IsWithinLimits-none = record { keys = omega arith; values = tt }
 
--- where fewer are there or the key is not new, one entry more stays within the limit
+-- if there are fewer entries than the limit or the key isn't new, a put stays within the limit
 room_for : (most n : ℕ) (absent : Bool) → (nat_le most n && absent) ≡ false → n ≤ most → cond (not absent) n (n + 1) ≤ most
 room_for most n false room within = within
 room_for most n true room within = elim (nat_le most n) as (λ b. nat_le most n ≡ b → (b && true) ≡ false → n + 1 ≤ most) [

@@ -1,4 +1,4 @@
--- What a filter keeps where all pass, and where none does.
+-- What a filter keeps if all elements pass, and if no element passes.
 use Rattle.std.proofs.Common.{◌≡◌, Bool, true, false, List, [], ◌∷◌, refl, ap}
 use Rattle.std.specs.List.{filter, All}
 use Rattle.std.proofs.lemmas.List.Elements.{All-head, All-tail}

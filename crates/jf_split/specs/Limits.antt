@@ -1,15 +1,15 @@
--- How much a batch may hold.
+-- The limits of a batch (docs/FORMATS.md, Replies: `no pending`).
 use Rattle.std.specs.Prelude.{ℕ, ◌≤◌, Bool, ◌&&◌, nat_le, is_none, List, length, IfSome}
 use Rattle.std.specs.List.{AllByRecursion}
 use Rattle.std.specs.FinMap.{find}
 use Rattle.jf_path.specs.Keys.{key_cmp}
 use Rattle.jf_hash.specs.Maps.{Batch}
 
--- at most 10,000 keys, and values of at most 4,096 bytes
+-- a batch within its limits: at most 10,000 keys, and values of at most 4,096 bytes
 pub record IsWithinLimits (b : Batch) : Type 0 where
   pub keys : length b ≤ 10000
   pub values : AllByRecursion (λ e. IfSome e.1 (λ v. length v ≤ 4096)) b
 
--- the key is new to the batch, and 10,000 are there
+-- whether a batch is full for a key: the key is new, and 10,000 are there
 abbrev pub is_full : List ℕ → Batch → Bool
 is_full key b = nat_le 10000 (length b) && is_none (find key_cmp key b)

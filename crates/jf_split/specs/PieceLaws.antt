@@ -16,7 +16,7 @@ use Rattle.jf_split.specs.Filters.{filter_none}
 eqb-differs : (a b : ℕ) → a ≢ b → eqb a b ≡ false
 eqb-differs a b other = grind (arith, nat_tests)
 
--- a range ends no earlier than it begins
+-- ranges that follow one another end no earlier than they begin
 pub Tile-rises : (from to : ℕ) (ps : List Piece) → Tile from to ps → from ≤ to
 Tile-rises from to [] tile = omega arith
 Tile-rises from to (p ∷ ps) tile = omega (arith, tile.0, tile.1, Tile-rises p.end to ps tile.2)
@@ -57,7 +57,7 @@ joined_none depth n b (p ∷ ps) exact other =
     filter-append (λ e. eqb (nibble e.0 depth) n) (entries_of b p) (flat_map (entries_of b) ps)
     ∙ ap₂ (λ xs ys. xs ++ ys) none (joined_none depth n b ps (All-tail (λ q. entries_of b q ≡ with_nibble depth q.nibble b) p ps exact) (All-tail (λ q. q.nibble ≢ n) p ps other))
 
--- a nibble that no piece has no key has
+-- if no piece has a nibble, no key has it
 pub with_nibble-absent : (depth n : ℕ) (b : Batch) (ps : List Piece) → ArePieces depth b ps → All (λ p. p.nibble ≢ n) ps → with_nibble depth n b ≡ []
 with_nibble-absent depth n b ps are other =
     ap (with_nibble depth n) (sym (flat_map-pieces depth b ps are)) ∙ joined_none depth n b ps are.exact other

@@ -1,4 +1,4 @@
--- The pieces into which a batch falls at a depth: one for each nibble that its keys have there.
+-- The pieces of a batch at a depth: one for each nibble that its keys have there.
 use Rattle.std.specs.Prelude.{◌≡◌, ℕ, ◌<◌, ◌==◌, List, [], ◌∷◌, length, filter, All, AllPairs}
 use Rattle.std.specs.List.{slice_range}
 use Rattle.jf_path.specs.Nibbles.{nibble}
@@ -17,7 +17,7 @@ with_nibble depth n b = filter (λ e. nibble e.0 depth == n) b
 abbrev pub entries_of : Batch → Piece → Batch
 entries_of b p = slice_range b p.start p.end
 
--- each range begins where the one before it ends, none is empty, and together they go from one place to another
+-- ranges that follow one another: each begins at the end of the one before, no range is empty, and together they go from `from` to `to`
 abbrev pub Tile : ℕ → ℕ → List Piece → Type 0
 Tile from to [] = from ≡ to
 Tile from to (p ∷ ps) = (p.start ≡ from) × (p.start < p.end) × Tile p.end to ps

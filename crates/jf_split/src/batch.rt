@@ -17,8 +17,8 @@ use std::marker::Model;
 // The most keys that a batch holds.
 const MAX_KEYS: usize = 10_000;
 
-/// What is to be changed: keys in their order, each once and at most 10,000, with a value of at most
-/// 4,096 bytes, or with none, which removes the key.
+/// A batch of changes: at most 10,000 keys in their order, each once, with a value of at most 4,096 bytes or with
+/// `None`, which removes the key.
 #[derive(Debug, Drop)]
 pub struct Batch {
     entries: Vec<(Key, Option<Bytes>)>,
@@ -38,7 +38,7 @@ impl Model for Batch {
 }
 
 impl Batch {
-    /// A batch of no key.
+    /// An empty batch.
     pub fn new(alloc: Global) -> Batch
         ensures { result ≡ [] }
     {
@@ -54,7 +54,7 @@ impl Batch {
         self.entries.len()
     }
 
-    /// The keys in their order, each with its value, or with none.
+    /// The keys in their order, each with its value, or with `None` if it is removed.
     pub fn as_slice(&self) -> &[(Key, Option<Bytes>)]
         ensures entries { result.now ≡ self.now }
         ensures sound { IsBatch self.now }
@@ -64,7 +64,7 @@ impl Batch {
         &self.entries
     }
 
-    /// The same batch once more.
+    /// A copy of the batch.
     pub fn copy(&self, alloc: Global) -> Result<Batch, Memory>
         ensures { IfOk result (λ b. b ≡ self.now) }
     {
@@ -75,8 +75,8 @@ impl Batch {
         Ok(Batch { entries })
     }
 
-    /// The pieces into which the batch falls at a depth in nibbles, where all keys have the same nibbles before it: one
-    /// for each nibble that they have there, in order, at most sixteen.
+    /// The pieces of the batch at a depth in nibbles, before which all keys must agree: one for each nibble that the
+    /// keys have there, in their order, at most sixteen.
     pub fn pieces_at(&self, alloc: Global, depth: usize) -> Result<Vec<Piece>, Memory>
         requires depth { depth < 64 }
         requires agree { AgreeBefore depth self.now }
@@ -85,7 +85,7 @@ impl Batch {
         pieces_of(alloc, &self.entries, depth)
     }
 
-    /// Sets a key to a value of at most 4,096 bytes. A refusal leaves the batch unchanged.
+    /// Sets a key to a value of at most 4,096 bytes. After a `BatchFault` the batch is unchanged.
     pub fn put(&mut self, alloc: Global, key: &Key, value: &[u8]) -> Result<(), BatchFault>
         requires { length value.now ≤ 4096 }
         ensures ok { OnOk result (self.new ≡ put key_cmp key.now (Some value.now) self.old) }
@@ -97,7 +97,8 @@ impl Batch {
         self.set(key, Some(value))
     }
 
-    /// Lets a key be removed. A refusal leaves the batch unchanged, and a key that is there is never refused.
+    /// Says that a key is to be removed. After a `BatchFault` the batch is unchanged. A key that is there already is
+    /// never refused.
     pub fn del(&mut self, _alloc: Global, key: &Key) -> Result<(), BatchFault>
         ensures ok { OnOk result (self.new ≡ put key_cmp key.now None self.old) }
         ensures full { result ≡ Err BatchFault.Full → IsTrue (is_full key.now self.old) }
@@ -108,7 +109,7 @@ impl Batch {
         self.set(key, None)
     }
 
-    // Gives a key its value, or none.
+    // Sets a key to its value, or to `None`.
     fn set(&mut self, key: &Key, value: Option<Bytes>) -> Result<(), BatchFault>
         requires bytes { IfSome value IsBytes }
         requires limited { IfSome value (λ v. length v ≤ 4096) }

@@ -5,7 +5,7 @@ ghost use Rattle.jf_split.specs.declared.fault.BatchFault.TheVariants as fault;
 use jf_path::Memory;
 use std::alloc::AllocFailed;
 
-/// Why a batch takes no key. The batch is unchanged.
+/// Why a batch refuses a key. The batch is unchanged.
 #[derive(Clone, Copy, Debug, PartialEq, Eq)]
 pub enum BatchFault {
     /// The key is new, and 10,000 are there.

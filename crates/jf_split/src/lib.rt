@@ -1,5 +1,5 @@
-//! Batches: what is to be changed, sorted by key. `specs/` says what a batch may hold, and what is known of one that
-//! takes one change more.
+//! Batches of changes, sorted by key, and their pieces by nibble. `specs/` has the limits of a batch and says what its
+//! pieces are.
 #![tactic(auto)]
 
 mod batch;

@@ -21,7 +21,7 @@ impl Model for BatchList {
 }
 
 impl BatchList {
-    /// No batch.
+    /// An empty list.
     pub fn new(alloc: Global) -> BatchList
         ensures { result ≡ [] }
     {
@@ -30,7 +30,7 @@ impl BatchList {
         }
     }
 
-    /// How many there are.
+    /// The number of batches.
     pub fn len(&self) -> u64
         ensures { result ≡ length self.now }
     {
@@ -44,7 +44,7 @@ impl BatchList {
         &self.batches
     }
 
-    /// Adds a batch at the end. A refused batch is dropped, and the list is unchanged.
+    /// Adds a batch at the end. If memory runs out, the batch is dropped, and the list is unchanged.
     pub fn push(&mut self, batch: Batch) -> Result<(), Memory>
         ensures ok { OnOk result (self.new ≡ self.old ++ batch ∷ []) }
         ensures err { OnErr result (self.new ≡ self.old) }

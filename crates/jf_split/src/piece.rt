@@ -1,4 +1,4 @@
-// The pieces of a batch.
+// A piece of a batch is the entries whose keys have one nibble at a depth.
 ghost use Rattle.std.specs.Prelude.{◌≡◌, ◌<◌, ◌≤◌, length, IfOk};
 ghost use Rattle.std.specs.List.{AllWithin, HoldsAt};
 ghost use Rattle.std.specs.List.Sorted.{IsNonDecreasingBy};
@@ -16,7 +16,7 @@ pub struct Piece {
     pub end: usize,
 }
 
-// The pieces of entries whose nibbles at a depth do not fall.
+// The pieces of entries whose nibbles at a depth don't fall.
 pub(crate) fn pieces_of(
     alloc: Global,
     entries: &[(Key, Option<Bytes>)],
@@ -37,7 +37,7 @@ pub(crate) fn pieces_of(
     Ok(pieces)
 }
 
-// Where the piece ends that begins at `start`, and whose keys have nibble `here`.
+// The end of the piece that begins at place `start`, whose keys have the nibble `here`.
 fn end_of_piece(entries: &[(Key, Option<Bytes>)], depth: usize, start: usize, here: Nibble) -> usize
     requires depth { depth < 64 }
     requires rising { IsNonDecreasingBy (λ e. nibble e.0 depth) entries.now }

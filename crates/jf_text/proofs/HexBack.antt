@@ -1,4 +1,4 @@
--- Hexadecimal text is plain, and read as the bytes that were written.
+-- Hexadecimal text has no space or line feed, and is read back as the bytes that were written.
 use Rattle.std.proofs.Common.{◌≡◌, ℕ, zero, suc, ◌+◌, ◌*◌, ◌/◌, ◌%◌, ◌<◌, ◌≤◌, ◌==◌, ◌&&◌, nat_le, Bool, true, false, List, [], ◌∷◌, length, slice_index, Option, Some, None, inl, inr, refl, sym, ap, ◌∙◌, arith}
 use Rattle.std.proofs.lemmas.Bool.{and_parts, cases_eq, cases_lt, eqb-true}
 use Rattle.std.proofs.lemmas.Bool.Decides.{nat_tests}
@@ -67,6 +67,6 @@ unhex-back (b ∷ bytes) h = rw (byte-back b (h 0), unhex-back bytes (λ i. h (s
 within : (least most n : ℕ) → least ≤ n → n ≤ most → (nat_le least n && nat_le n most) ≡ true
 within least most n low high = grind (arith, nat_tests)
 
--- as many bytes as are asked for
+-- a number of bytes within the bounds is read back
 pub bytes_within-back : (least most : ℕ) (bytes : List ℕ) → IsBytes bytes → least ≤ length bytes → length bytes ≤ most → bytes_within least most (encode_lower bytes) ≡ Some bytes
 bytes_within-back least most bytes h low high = rw (unhex-back bytes h, within least most (length bytes) low high) refl

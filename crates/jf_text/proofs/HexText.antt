@@ -1,34 +1,34 @@
--- Hexadecimal text read by pairs of digits.
+-- Hexadecimal text is read two digits at a time.
 use Rattle.std.proofs.Common.{◌≡◌, ℕ, ◌+◌, ◌*◌, ◌/◌, ◌%◌, ◌<◌, ◌≤◌, ◌⊎◌, ◌&&◌, nat_le, if◌then◌else◌, option_and_then, List, [], ◌∷◌, ◌++◌, length, drop, get_or, Option, Some, None, inl, inr, refl, sym, ap, ◌∙◌, arith}
 use Rattle.std.proofs.lemmas.Bool.Decides.{nat_tests}
 use Rattle.std.proofs.lemmas.List.{append_assoc, append-nil, drop_all, drop_more}
 use Rattle.jf_text.specs.Words.{both, byte_of, unhex, bytes_within}
 
--- bytes before those that are still to be read
+-- the bytes read so far, followed by those still to be read
 abbrev pub behind : List ℕ → Option (List ℕ) → Option (List ℕ)
 behind front (Some rest) = Some (front ++ rest)
 behind front None = None
 
--- nothing behind
+-- if the rest can't be read, nothing is read
 both-none : (b : Option ℕ) → both ◌∷◌ b None ≡ None
 both-none None = refl
 both-none (Some b) = refl
 
--- an odd number of digits
+-- an odd number of digits can't be read
 pub unhex-odd : (w : List ℕ) → length w % 2 ≡ 1 → unhex w ≡ None
 unfolding unhex
 unhex-odd [] h = absurd (omega arith)
 unhex-odd (high ∷ []) h = refl
 unhex-odd (high ∷ low ∷ rest) h = rw (unhex-odd rest (omega arith)) (both-none (byte_of high low))
 
--- both are there
+-- if a byte and the rest give bytes, both are there
 both-some : (b : Option ℕ) (o : Option (List ℕ)) (bytes : List ℕ) → both ◌∷◌ b o ≡ Some bytes
     → (byte : ℕ) × (rest : List ℕ) × (b ≡ Some byte) × (o ≡ Some rest) × (bytes ≡ byte ∷ rest)
 both-some None o bytes h = cc h
 both-some (Some byte) None bytes h = cc h
 both-some (Some byte) (Some rest) bytes h = (byte, rest, refl, refl, cc h)
 
--- the bytes are half as many as the digits
+-- there are half as many bytes as digits
 pub unhex-length : (w bytes : List ℕ) → unhex w ≡ Some bytes → length w ≡ 2 * length bytes
 unfolding unhex
 unhex-length [] bytes h = let e : [] ≡ bytes = cc h in rw (sym e) refl
@@ -38,7 +38,7 @@ unhex-length (high ∷ low ∷ rest) bytes h =
     let more = unhex-length rest parts.1 parts.3 in
     rw (parts.4) (omega arith)
 
--- two digits more
+-- the rest at 2 * i begins with the next two digits
 pub unhex-drop : (w : List ℕ) (i : ℕ) → 2 * i + 1 < length w
     → unhex (drop (2 * i) w) ≡ both ◌∷◌ (byte_of (get_or w (2 * i) 0) (get_or w (2 * i + 1) 0)) (unhex (drop (2 * (i + 1)) w))
 unfolding unhex
@@ -48,31 +48,31 @@ unhex-drop w i h =
     let two : 2 * i + 1 + 1 ≡ 2 * (i + 1) = omega arith in
     rw (a, b, two) refl
 
--- a byte more is read
+-- a byte is moved from the rest to those read
 pub behind-byte : (front : List ℕ) (byte : ℕ) (rest : Option (List ℕ)) → behind front (both ◌∷◌ (Some byte) rest) ≡ behind (front ++ byte ∷ []) rest
 behind-byte front byte None = refl
 behind-byte front byte (Some rest) = ap Some (sym (append_assoc front (byte ∷ []) rest))
 
--- the next two digits are a byte
+-- the next two digits are a byte, which is added to those read
 pub unhex-more : (w front : List ℕ) (i byte : ℕ) → 2 * i + 1 < length w → byte_of (get_or w (2 * i) 0) (get_or w (2 * i + 1) 0) ≡ Some byte
     → unhex w ≡ behind front (unhex (drop (2 * i) w)) → unhex w ≡ behind (front ++ byte ∷ []) (unhex (drop (2 * (i + 1)) w))
 unhex-more w front i byte h e so_far =
     let rest : Option (List ℕ) = unhex (drop (2 * (i + 1)) w) in
     so_far ∙ ap (behind front) (unhex-drop w i h ∙ ap (λ b. both ◌∷◌ b rest) e) ∙ behind-byte front byte rest
 
--- the next two digits are none
+-- if the next two digits are no byte, the word can't be read
 pub unhex-bad : (w front : List ℕ) (i : ℕ) → 2 * i + 1 < length w → byte_of (get_or w (2 * i) 0) (get_or w (2 * i + 1) 0) ≡ None
     → unhex w ≡ behind front (unhex (drop (2 * i) w)) → unhex w ≡ None
 unhex-bad w front i h e so_far =
     let rest : Option (List ℕ) = unhex (drop (2 * (i + 1)) w) in
     so_far ∙ ap (behind front) (unhex-drop w i h ∙ ap (λ b. both ◌∷◌ b rest) e)
 
--- all is read
+-- once all digits are read, the bytes read are those of the word
 pub unhex-all : (w front : List ℕ) (i : ℕ) → length w ≤ 2 * i → unhex w ≡ behind front (unhex (drop (2 * i) w)) → Some front ≡ unhex w
 unfolding unhex
 unhex-all w front i h e = sym (e ∙ ap (λ t. behind front (unhex t)) (drop_all (2 * i) w h) ∙ ap Some (append-nil front))
 
--- as many bytes as are asked for
+-- a number of bytes within the bounds is kept
 within-kept : (least most n : ℕ) (o : Option (List ℕ)) → ((bytes : List ℕ) → o ≡ Some bytes → length bytes ≡ n) → least ≤ n → n ≤ most
     → option_and_then (λ bytes. if nat_le least (length bytes) && nat_le (length bytes) most then Some bytes else None) o ≡ o
 within-kept least most n None long low high = refl
@@ -82,7 +82,7 @@ pub bytes_within-kept : (least most : ℕ) (w : List ℕ) → least ≤ length w
 bytes_within-kept least most w low high =
     within-kept least most (length w / 2) (unhex w) (λ bytes e. let h = unhex-length w bytes e in omega arith) low high
 
--- fewer or more
+-- fewer or more bytes are refused
 within-none : (least most n : ℕ) (o : Option (List ℕ)) → ((bytes : List ℕ) → o ≡ Some bytes → length bytes ≡ n) → (n < least) ⊎ (most < n)
     → option_and_then (λ bytes. if nat_le least (length bytes) && nat_le (length bytes) most then Some bytes else None) o ≡ None
 within-none least most n None long out = refl

@@ -1,4 +1,4 @@
--- Hexadecimal text that is written byte by byte.
+-- Hexadecimal text is written byte by byte.
 use Rattle.std.proofs.Common.{◌≡◌, ℕ, ◌+◌, ◌/◌, ◌%◌, ◌<◌, List, [], ◌∷◌, ◌++◌, length, take, get_or, slice_index, refl, sym}
 use Rattle.std.proofs.lemmas.List.{append_assoc, take_more, append-nil}
 use Rattle.hex.specs.Hex.{encode_with, encode_lower, lower_digits}
@@ -12,7 +12,7 @@ encode_with-one : (t : List ℕ) (b : ℕ) → encode_with t (b ∷ []) ≡ slic
 unfolding encode_with
 encode_with-one t b = refl
 
--- one byte more, as two digits
+-- one more byte adds two digits
 pub encode-more : (before out bytes : List ℕ) (i : ℕ) → i < length bytes → out ≡ before ++ encode_lower (take i bytes)
     → (out ++ slice_index lower_digits (get_or bytes i 0 / 16) ∷ []) ++ slice_index lower_digits (get_or bytes i 0 % 16) ∷ [] ≡ before ++ encode_lower (take (i + 1) bytes)
 encode-more before out bytes i h e =
@@ -21,7 +21,7 @@ encode-more before out bytes i h e =
     rw (e, more, encode_with-append lower_digits (take i bytes) (byte ∷ []), encode_with-one lower_digits byte)
     (simp append_assoc)
 
--- nothing yet
+-- before the first byte nothing is added
 pub encode-none : (out bytes : List ℕ) → out ≡ out ++ encode_lower (take 0 bytes)
 unfolding encode_with
 encode-none out bytes = sym (append-nil out)

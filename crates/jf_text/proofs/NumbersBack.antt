@@ -1,4 +1,4 @@
--- Numbers within bounds that leave none out, and numbers read back from their text.
+-- Bounds that every number meets, and numbers read back from their text.
 use Rattle.std.proofs.Common.{◌≡◌, ℕ, ◌+◌, ◌-◌, ◌*◌, ◌%◌, ◌^◌, ◌<◌, ◌≤◌, ◌&&◌, nat_le, nat_lt, Bool, true, false, cond, if◌then◌else◌, List, [], ◌∷◌, ◌++◌, length, Option, Some, None, option_and_then, is_some, bytes_eq, decimal, refl, ◌∙◌, arith}
 use Rattle.std.proofs.lemmas.Fmt.{decimal_by_steps, length-decimal-le}
 use Rattle.std.proofs.lemmas.Grind.{fold-append}
@@ -31,7 +31,7 @@ number_upto-all w =
 pub number_from-all : (w : List ℕ) → number_from 0 (2 ^ 64 - 1) w ≡ number w
 number_from-all w = number_from-zero (2 ^ 64 - 1) w ∙ number_upto-all w
 
--- a word that is no number is none within all
+-- with bounds that every number meets, only a word that is no number is refused
 pub is_some-none : (b t : Bool) (o : Option ℕ) (w : List ℕ) → b ≡ is_some o → o ≡ number_from 0 (2 ^ 64 - 1) w → b ≡ false → b ≡ (is_some (number w) && t)
 is_some-none b t o w e from no_number = let n : is_some (number w) ≡ false = cc (number_from-all w) in rw (n, no_number) refl
 
@@ -61,6 +61,6 @@ at_most n most h = grind (arith, nat_tests)
 pub number_upto-back : (most n : ℕ) → n < 2 ^ 64 → n ≤ most → number_upto most (decimal n) ≡ Some n
 number_upto-back most n h few = rw (number-back n h, at_most n most few) refl
 
--- a number's text isn't long
+-- the text of a number has at most 20 digits
 pub length-decimal : (n : ℕ) → n < 2 ^ 64 → length (decimal n) ≤ 20
 length-decimal n h = length-decimal-le 20 n (omega arith) (omega arith) h

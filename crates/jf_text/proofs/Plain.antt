@@ -5,12 +5,12 @@ use Rattle.std.proofs.lemmas.Fmt.{decimal_by_steps}
 use Rattle.std.proofs.lemmas.Bool.Decides.{nat_tests}
 use Rattle.jf_text.specs.Words.{words}
 
--- without this byte
+-- the byte stands nowhere in the list
 abbrev pub without : ℕ → List ℕ → Bool
 without c [] = true
 without c (b ∷ w) = if b == c then false else without c w
 
--- without a space and without a line feed
+-- a plain word: no byte is a space or a line feed
 abbrev pub is_plain : List ℕ → Bool
 is_plain w = if without 32 w then without 10 w else false
 
@@ -18,7 +18,7 @@ abbrev pub all_plain : List (List ℕ) → Bool
 all_plain [] = true
 all_plain (w ∷ ws) = if is_plain w then all_plain ws else false
 
--- the two parts of a test
+-- if a test in two parts passes, both parts pass
 pub both_pass : (s t : Bool) → (if s then t else false) ≡ true → (s ≡ true) × (t ≡ true)
 both_pass true t h = (refl, h)
 both_pass false t h = cc h

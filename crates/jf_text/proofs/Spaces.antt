@@ -12,7 +12,7 @@ use Rattle.jf_text.specs.Words.{words}
 abbrev pub HasNoSpace : List ℕ → Type 0
 HasNoSpace bytes = All (λ b. (b == 32) ≡ false) bytes
 
--- no space below a place
+-- a front in which no space was found has no space
 no_space-take : (line : List ℕ) (i : ℕ) → i ≤ length line → Nowhere (Passes (is_byte 32) line) 0 i → HasNoSpace (take i line)
 no_space-take line i h none =
     λ k d lt.
@@ -20,7 +20,7 @@ no_space-take line i h none =
     let same : get_or (take i line) k d ≡ get_or line k 0 = get_or-take i line k d below ∙ get_or_default_zero line k d (omega arith) in
     false_from_ne_true (get_or (take i line) k d == 32) (rw same (none k (omega arith) below))
 
--- up to the first space stands the first word
+-- the first word ends at the first space
 pub words-at : (line : List ℕ) (i : ℕ) → NoneBefore (Passes (is_byte 32) line) 0 (length line) i × Passes (is_byte 32) line i → words line ≡ take i line ∷ words (drop (i + 1) line)
 unfolding words
 words-at line i h =
@@ -36,7 +36,7 @@ unfolding words
 words-whole line none =
     slice_split_none (λ b. b == 32) line (rw (take_all (length line) line (omega arith)) at (no_space-take line (length line) (omega arith) none))
 
--- there is a word
+-- every line has at least one word
 pub words-some : (line : List ℕ) → (w : List ℕ) × (ws : List (List ℕ)) × (words line ≡ w ∷ ws)
 unfolding words
 words-some [] = ([], [], refl)

@@ -1,11 +1,11 @@
-// Words as bytes.
+// Words of hexadecimal digits, `0` to `9` and `a` to `f`, two to a byte, as bytes.
 ghost use Rattle.std.specs.Prelude.{◌≡◌, ◌≤◌, length, IfOk, IfSome};
 ghost use Rattle.jf_text.specs.Words.{digit, byte_of, unhex, bytes_within, name_of, hash_of, value_of};
 
 use jf_path::{Bytes, Memory};
 use std::alloc::Global;
 
-/// The value of a lower case digit.
+/// The value of a hexadecimal digit, or `None` for any other byte. Upper case is refused.
 fn digit(byte: u8) -> Option<u8>
     ensures { result ≡ digit byte }
 {
@@ -16,7 +16,7 @@ fn digit(byte: u8) -> Option<u8>
     }
 }
 
-/// The byte of two digits.
+/// The byte that two digits write, the high half first.
 fn byte_of(high: u8, low: u8) -> Option<u8>
     ensures { result ≡ byte_of high low }
 {
@@ -25,7 +25,7 @@ fn byte_of(high: u8, low: u8) -> Option<u8>
     Some(high * 16 + low)
 }
 
-/// The bytes of an even number of digits.
+/// The bytes that a word writes, or `None` if it isn't an even number of digits.
 fn unhexed(alloc: Global, word: &[u8]) -> Result<Option<Bytes>, Memory>
     ensures { IfOk result (λ bytes. bytes ≡ unhex word.now) }
 {
@@ -43,7 +43,7 @@ fn unhexed(alloc: Global, word: &[u8]) -> Result<Option<Bytes>, Memory>
     Ok(Some(bytes))
 }
 
-/// The bytes of a word's digits, where they are `least` to `most`.
+/// The bytes that a word writes, or `None` if it isn't hexadecimal or there aren't `least` to `most` of them.
 fn bytes_within(alloc: Global, least: u64, most: u64, word: &[u8]) -> Result<Option<Bytes>, Memory>
     ensures { IfOk result (λ bytes. bytes ≡ bytes_within least most word.now) }
 {
@@ -54,14 +54,15 @@ fn bytes_within(alloc: Global, least: u64, most: u64, word: &[u8]) -> Result<Opt
     unhexed(alloc, word)
 }
 
-/// A name, of 1 to 128 bytes.
+/// The name that a word writes, of 1 to 128 bytes. `None` if the word is no name (docs/FORMATS.md, Scripts).
 pub fn name_of(alloc: Global, word: &[u8]) -> Result<Option<Bytes>, Memory>
     ensures { IfOk result (λ name. name ≡ name_of word.now) }
 {
     bytes_within(alloc, 1, 128, word)
 }
 
-/// A value, of at most 4,096 bytes behind a sign `=`.
+/// The value that a word writes: the sign `=`, then at most 4,096 bytes. `None` if the word is no value
+/// (docs/FORMATS.md, Scripts).
 pub fn value_of(alloc: Global, word: &[u8]) -> Result<Option<Bytes>, Memory>
     ensures value { IfOk result (λ value. value ≡ value_of word.now) }
     ensures short { IfOk result (λ value. IfSome value (λ v. length v ≤ 4096)) }
@@ -72,7 +73,7 @@ pub fn value_of(alloc: Global, word: &[u8]) -> Result<Option<Bytes>, Memory>
     }
 }
 
-/// A key or a hash, of 32 bytes.
+/// The 32 bytes of a key or a hash that a word writes. `None` if the word isn't 64 digits.
 pub fn hash_of(word: &[u8]) -> Option<[u8; 32]>
     ensures { result ≡ hash_of word.now }
 {

@@ -1,4 +1,5 @@
-//! Words of a line: numbers in decimal and bytes in hexadecimal, read and written. `specs/` says what each word stands for.
+//! The words of a line: numbers in decimal and bytes in hexadecimal, read and written. `specs/` says what each word
+//! stands for.
 #![tactic(auto)]
 
 mod hexadecimal;

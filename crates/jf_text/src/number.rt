@@ -1,10 +1,11 @@
-// Words as numbers.
+// Decimal words, without a sign or a leading zero, as numbers below 2^64.
 ghost use Rattle.std.specs.Prelude.{◌≡◌};
 ghost use Rattle.jf_text.specs.Words.{number, number_from};
 
 use itoa::Buffer;
 
-/// The number whose decimal text a word is.
+/// The number whose decimal text is this word. `None` if there is no such number below 2^64: a sign and a leading zero
+/// are refused.
 pub fn number_of(word: &[u8]) -> Option<u64>
     ensures { result ≡ number word.now }
 {
@@ -22,7 +23,7 @@ pub fn number_of(word: &[u8]) -> Option<u64>
     }
 }
 
-/// A number from `least` to `most`.
+/// The number that a word writes, or `None` if it writes no number or one that isn't from `least` to `most`.
 pub fn number_from(least: u64, most: u64, word: &[u8]) -> Option<u64>
     ensures { result ≡ number_from least most word.now }
 {

@@ -1,11 +1,11 @@
-// A line as words.
+// The words of a line are the pieces between its spaces, so two spaces in a row have an empty word between them.
 ghost use Rattle.std.specs.Prelude.{◌≡◌, [], ◌∷◌};
 ghost use Rattle.std.specs.Option.{option_map_or};
 ghost use Rattle.jf_text.specs.Words.{words, is_word};
 
 use memchr::memchr;
 
-/// What stands before the first space, and what stands behind it if there is one.
+/// The bytes before the first space, and the bytes after it, or `None` if there is no space.
 pub fn split_word(text: &[u8]) -> (&[u8], Option<&[u8]>)
     ensures { words text.now ≡ result.0.now ∷ option_map_or (λ rest. words rest.now) result.1 [] }
 {

@@ -1,4 +1,4 @@
-// Numbers and bytes as text.
+// Numbers are written in decimal, and bytes in hexadecimal with lower case digits.
 ghost use Rattle.std.specs.Prelude.{◌≡◌, ◌++◌, decimal, OnOk, OnErr};
 ghost use Rattle.hex.specs.Hex.{encode_lower};
 ghost use Rattle.jf_text.specs.Words.{Extends};
@@ -6,10 +6,11 @@ ghost use Rattle.jf_text.specs.Words.{Extends};
 use itoa::Buffer;
 use jf_path::{Bytes, Memory};
 
-/// The lower case digits, by their values.
+/// The hexadecimal digits, in the order of their values.
 const DIGITS: &[u8; 16] = b"0123456789abcdef";
 
-/// Appends a number in decimal behind a label. A refusal leaves the text that was there, and maybe more behind it.
+/// Appends a label and a number in decimal. If memory runs out, the text that was there is unchanged, perhaps with part
+/// of the new text after it.
 pub fn write_number(label: &[u8], number: u64, out: &mut Bytes) -> Result<(), Memory>
     ensures ok { OnOk result (out.new ≡ out.old ++ (label.now ++ decimal number)) }
     ensures err { OnErr result (Extends out.old out.new) }
@@ -19,7 +20,8 @@ pub fn write_number(label: &[u8], number: u64, out: &mut Bytes) -> Result<(), Me
     out.append(text.format(number).as_bytes())
 }
 
-/// Appends bytes in hexadecimal behind a label. A refusal leaves the text that was there, and maybe more behind it.
+/// Appends a label and bytes in hexadecimal. If memory runs out, the text that was there is unchanged, perhaps with
+/// part of the new text after it.
 pub fn write_hex(label: &[u8], bytes: &[u8], out: &mut Bytes) -> Result<(), Memory>
     ensures ok { OnOk result (out.new ≡ out.old ++ (label.now ++ encode_lower bytes.now)) }
     ensures err { OnErr result (Extends out.old out.new) }

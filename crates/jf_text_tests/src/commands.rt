@@ -1,4 +1,4 @@
-// Lines with their commands.
+// Lines of a script, and the commands that they are read as.
 use jf_script::read_line;
 use std::test::Fail;
 
@@ -113,7 +113,7 @@ fn refuses_lines_outside_the_grammar(rt: HostRuntime) -> Result<(), Fail> {
     Ok(())
 }
 
-// A line of `head`, so many times the byte `61`, and `tail`.
+// A line of `head`, the text `61` for each of `bytes` bytes, and `tail`.
 fn long_line(rt: &HostRuntime, head: &str, bytes: usize, tail: &str) -> Result<Vec<u8>, Fail> {
     let mut line = Vec::from_slice(rt.alloc(), head.as_bytes())?;
     for _ in 0..bytes {
@@ -200,7 +200,7 @@ fn is_read(rt: &HostRuntime, line: &str, wanted: &str) -> Result<(), Fail> {
     }
 }
 
-// A head, so many bytes `61`, a tail, and how the printed command begins.
+// A head, how many bytes `61` follow it, a tail, and how the printed command begins.
 const BOUNDS: &[(&str, usize, &str, &str)] = &[
     ("del ", 128, "", "Ok(Del"),
     ("del ", 129, "", "Err(Syntax)"),

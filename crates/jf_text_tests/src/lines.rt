@@ -6,7 +6,7 @@ use std::test::Fail;
 
 const LIMIT: usize = 8_500;
 
-// A source of these bytes, in pieces of at most so many, whose call number `failing` fails.
+// A source of these bytes, in pieces of at most `piece` bytes, whose call number `failing` fails.
 fn source_of(
     alloc: Global,
     bytes: &[u8],
@@ -18,19 +18,19 @@ fn source_of(
     Ok(Box::new(alloc, source)?)
 }
 
-// Whether the next line is this one. It is let go.
+// Whether the next line is this one, which is then dropped.
 fn goes_on_with(reader: &mut LineReader, source: &mut MemSource, line: &[u8]) -> bool {
     let goes_on = reader.fetch(source) == Ok(true) && reader.line() == line;
     reader.advance();
     goes_on
 }
 
-// Whether no line is left.
+// Whether there are no more lines.
 fn is_at_end(reader: &mut LineReader, source: &mut MemSource) -> bool {
     reader.fetch(source) == Ok(false) && reader.line().is_empty()
 }
 
-// Whether these lines come, and none after them.
+// Whether these lines come, and no more after them.
 fn ends_with(reader: &mut LineReader, source: &mut MemSource, lines: &[&[u8]]) -> bool {
     for line in lines {
         if !goes_on_with(reader, source, line) {
@@ -40,7 +40,7 @@ fn ends_with(reader: &mut LineReader, source: &mut MemSource, lines: &[&[u8]]) -
     is_at_end(reader, source)
 }
 
-// Whether a text, in pieces of at most so many bytes, is handed on as these lines.
+// Whether a text, in pieces of at most `piece` bytes, is read as these lines.
 fn is_handed_on(alloc: Global, text: &[u8], piece: usize, lines: &[&[u8]]) -> Result<bool, Fail> {
     let mut source = source_of(alloc, text, piece, u64::MAX)?;
     let mut reader = LineReader::new(alloc, LIMIT);
@@ -92,7 +92,7 @@ fn goes_on_after_a_fault(rt: HostRuntime) -> Result<(), Fail> {
     Ok(())
 }
 
-// These bytes with a line of so many after them, and then these.
+// The bytes `front`, then a line of `len` bytes, then the bytes `back`.
 fn long_text(alloc: Global, front: &[u8], len: usize, back: &[u8]) -> Result<Vec<u8>, Fail> {
     let mut text = front.to_vec(alloc)?;
     for i in 0..len {
@@ -102,7 +102,7 @@ fn long_text(alloc: Global, front: &[u8], len: usize, back: &[u8]) -> Result<Vec
     Ok(text)
 }
 
-// Whether a line of so many bytes is handed on whole, before another and as the last one.
+// Whether a line of `len` bytes is read whole, before another and as the last one.
 fn is_held_whole(alloc: Global, len: usize, piece: usize) -> Result<bool, Fail> {
     let line = long_text(alloc, b"", len, b"")?;
     let text = long_text(alloc, b"", len, b"\nb")?;
@@ -126,7 +126,7 @@ fn holds_lines_whole_up_to_the_limit(rt: HostRuntime) -> Result<(), Fail> {
     Ok(())
 }
 
-// Whether of a line of so many bytes the front alone is handed on, and then the next lines.
+// Whether only the front of a line of `len` bytes is read, and then the next lines.
 fn is_skipped(alloc: Global, len: usize, piece: usize) -> Result<bool, Fail> {
     let front = long_text(alloc, b"", LIMIT + 1, b"")?;
     let text = long_text(alloc, b"", len, b"\nbehind\n\nlast")?;
@@ -154,12 +154,12 @@ fn skips_the_rest_of_a_longer_line(rt: HostRuntime) -> Result<(), Fail> {
     Ok(())
 }
 
-// Whether the front of a longer line is held, and no line feed.
+// Whether the front of a line over the limit is held, without a line feed.
 fn is_last_and_longer(reader: &mut LineReader, source: &mut MemSource) -> bool {
     reader.fetch(source) == Ok(true) && reader.line().len() == LIMIT + 1 && reader.is_last()
 }
 
-// Whether a last line of so many bytes is skipped that has no line feed.
+// Whether a last line of `len` bytes, without a line feed, is skipped.
 fn is_skipped_at_end(alloc: Global, len: usize, piece: usize) -> Result<bool, Fail> {
     let text = long_text(alloc, b"first\n", len, b"")?;
     let mut source = source_of(alloc, &text, piece, u64::MAX)?;
@@ -191,7 +191,7 @@ fn skips_a_line_without_line_feed(rt: HostRuntime) -> Result<(), Fail> {
     Ok(())
 }
 
-// A source of a line of 200,000 bytes and another after it, which fails within the former.
+// A source of a line of 200,000 bytes and another after it, which fails within the first one.
 fn faulty_source(alloc: Global) -> Result<Box<MemSource>, Fail> {
     let text = long_text(alloc, b"", 200_000, b"\nbehind")?;
     source_of(alloc, &text, 4_096, 10)

@@ -1,16 +1,16 @@
-// Sinks in memory, with room or without.
+// Sinks in memory, with enough room and with too little.
 use jf_io::{IoFailed, MemSink, Sink, put_all};
 use std::alloc::Global;
 use std::test::Fail;
 
-// A sink that takes at most 3 bytes a call and has this room, whose call number `failing` fails.
+// A sink with this room that takes at most 3 bytes in a call, and whose call number `failing` fails.
 fn sink_of(alloc: Global, room: u64, failing: u64) -> Result<Box<MemSink>, Fail> {
     let failing = [failing].to_vec(alloc)?;
     let sink = MemSink::new(alloc, 3, room, failing)?;
     Ok(Box::new(alloc, sink)?)
 }
 
-// What is put, what that returns, and the text and the faults then.
+// What is put, what the call returns, and the text and the number of faults after it.
 type Put = (&'static [u8], Result<usize, IoFailed>, &'static [u8], u64);
 
 const PUTS: &[Put] = &[
@@ -34,7 +34,8 @@ fn takes_pieces_until_the_room_is_used_up(rt: HostRuntime) -> Result<(), Fail> {
     Ok(())
 }
 
-// Whether putting all of `abcdefg` into this room, where this call fails, returns that and leaves this text.
+// Whether putting all of `abcdefg` into a sink with this room and this failing call returns `want`, with this text
+// after it.
 fn is_put(
     alloc: Global,
     room: u64,

@@ -1,9 +1,9 @@
-// Sources in memory.
+// Sources in memory, in pieces and with failing calls.
 use jf_io::{IoFailed, MemSource, Source};
 use jf_path::Bytes;
 use std::test::Fail;
 
-// The room for a take, what it returns, the buffer then, and the counts of bytes and of faults.
+// The room for a take, what it returns, and the buffer and the counts of bytes and of faults after it.
 type Take = (usize, Result<usize, IoFailed>, &'static [u8], u64, u64);
 
 const TAKES: &[Take] = &[

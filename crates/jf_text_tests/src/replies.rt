@@ -1,10 +1,10 @@
-// Replies with their texts.
+// Replies, and the lines that they are written as.
 use jf_path::Bytes;
 use jf_script::{Refusal, Reply, write_reply};
 use std::alloc::Global;
 use std::test::Fail;
 
-// Fails unless the reply is written as this text.
+// Fails unless the reply is written as the text `wanted`.
 fn is_written(alloc: Global, seen: u64, reply: Reply, wanted: &str) -> Result<(), Fail> {
     let mut out = Bytes::new(alloc);
     write_reply(seen, &reply, &mut out)?;

@@ -39,7 +39,7 @@ impl Write for Narrow {
     }
 }
 
-// Puts three texts, and returns the number of faults.
+// Puts three texts into a sink, and returns its number of faults.
 fn put_three<K: Sink>(sink: &mut K) -> Result<u64, IoFailed> {
     put_all(sink, b"abc")?;
     put_all(sink, b"")?;
@@ -55,7 +55,8 @@ fn hands_all_bytes_to_the_writer(rt: HostRuntime) -> Result<(), Fail> {
     Ok(())
 }
 
-// What putting five bytes into a writer with this room, that flushes or not, comes to, and the number of faults.
+// What putting five bytes into a writer with this room returns, and the number of faults. `flushes` says whether its
+// flush succeeds.
 fn put_five(room: usize, flushes: bool) -> (Result<(), IoFailed>, u64) {
     let mut sink = StdSink::new(Narrow {
         room,

@@ -2,10 +2,11 @@
 use jf_io::{IoFailed, Source, StdSource};
 use std::io::{self, ErrorKind, Read};
 
-// How often a read is begun in all while signals interrupt it.
+// The attempts of one read while signals interrupt it, as in `jf_io`.
 const ATTEMPTS: u32 = 1_000;
 
-// A reader whose reads are `abcd`, a fault and `abcd`, after so many that signals interrupt.
+// A reader whose first `interrupted` reads are interrupted by signals, and whose next reads are `abcd`, a fault and
+// `abcd`.
 #[derive(Drop)]
 struct Faulty {
     interrupted: u32,
@@ -35,7 +36,7 @@ fn faulty_source(interrupted: u32) -> StdSource<Faulty> {
     })
 }
 
-// Whether the next take returns this, and the counts of bytes and of faults are these then.
+// Whether the next take returns this, and the counts of bytes and of faults are these after it.
 fn takes<S: Source>(
     source: &mut S,
     want: Result<usize, IoFailed>,
@@ -45,7 +46,7 @@ fn takes<S: Source>(
     source.take(&mut [0; 3]) == want && source.taken() == taken && source.faults() == faults
 }
 
-// Whether the next take gives so many bytes, the buffer is this then, and so many bytes were taken in all.
+// Whether the next take gives `count` bytes, the buffer is `want` after it, and `taken` bytes were taken in all.
 fn gives<S: Source>(source: &mut S, count: usize, want: [u8; 3], taken: u64) -> bool {
     let mut buf = [0; 3];
     source.take(&mut buf) == Ok(count)

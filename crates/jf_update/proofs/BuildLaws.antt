@@ -1,4 +1,4 @@
--- What building makes.
+-- New nodes have exactly the entries that they are built from.
 use Rattle.std.proofs.Common.{◌≡◌, ℕ, zero, suc, ◌+◌, ◌-◌, ◌<◌, ◌≤◌, ◌≢◌, ◌==◌, true, false, cond, inl, inr, List, [], ◌∷◌, ◌++◌, length, get_or, set, take, drop, refl, sym, ap, ◌∙◌, subst, arith, Option, None, Some, length-append, length-drop, length-set, zero-add, append-nil, eq-or-lt_of_le, get_or-set_other, get_or-set_same, replicate, take_all, IfSome}
 use Rattle.std.proofs.lemmas.Bool.Decides.{nat_tests}
 use Rattle.std.specs.List.{flat_map}
@@ -31,11 +31,11 @@ joined-flat_map : (links : List (Option LinkValue)) → joined links ≡ flat_ma
 joined-flat_map [] = refl
 joined-flat_map (x ∷ links) = ap (λ es. content x ++ es) (joined-flat_map links)
 
--- children that have the part of each nibble have the whole
+-- children that have the entries of each nibble have all entries
 pub joined_parts : (d : ℕ) (path : ℕ → ℕ) (es : Part) (links : List (Option LinkValue)) → IsPart d path es → length links ≡ 16 → ((k : ℕ) → k < 16 → content (get_or links k None) ≡ with_nibble d k es) → joined links ≡ es
 joined_parts d path es links part long h = joined-flat_map links ∙ union.joined_parts content None d path es links part long h
 
--- behind places without a child the union begins with the first child
+-- the entries of all children begin with those of the first child
 pub joined-first : (links : List (Option LinkValue)) (n : ℕ) → n < length links → ((k : ℕ) → k < n → get_or links k None ≡ None) → joined links ≡ content (get_or links n None) ++ joined (drop (suc n) links)
 joined-first links n short before =
     joined-flat_map links ∙ union.joined-first content None links n short (λ k lt. ap content (before k lt)) ∙ ap (λ es. content (get_or links n None) ++ es) (sym (joined-flat_map (drop (suc n) links)))
@@ -43,7 +43,7 @@ joined-first links n short before =
 pub joined-none : (links : List (Option LinkValue)) → ((k : ℕ) → k < length links → get_or links k None ≡ None) → joined links ≡ []
 joined-none links all = joined-flat_map links ∙ union.joined-none content None links (λ k lt. ap content (all k lt))
 
--- the keys of a part begin alike
+-- the keys of a part begin with the same nibbles
 pub part_agrees : {d : ℕ} {path : ℕ → ℕ} (es : Part) → IsPart d path es → BeginAlike d es
 part_agrees {path = path} es part = record { path = path; keys = part.agree }
 
@@ -90,7 +90,7 @@ pub fits_part : (d n : ℕ) (es : Part) (y : Option LinkValue) → content y ≡
 fits_part d n es None is at = tt
 fits_part d n es (Some y) is at = (at, subst (HaveNibble d n) (sym is) (all-with_nibble d n es))
 
--- the children as far as nibble n
+-- the children that are built before nibble n
 pub record IsBuilding (depth version n start : ℕ) (xs : List Hashed) (links : List (Option LinkValue)) : Type 0 where
   pub long : length links ≡ 16
   pub fit : FitFrom depth 0 links
@@ -180,7 +180,7 @@ same_rest start xs = take_all (length xs - start) (drop start xs) (omega (arith,
 pub end_in_rest : {X : Type 0} (d n r start : ℕ) (xs : List (List ℕ × X)) → IsPieceEnd d n r (take (length xs - start) (drop start xs)) → IsPieceEnd d n r (drop start xs)
 end_in_rest d n r start xs h = subst (IsPieceEnd d n r) (same_rest start xs) h
 
--- the first child
+-- the entries of all children begin with those of the first child that is found
 pub first_some : (links : List (Option LinkValue)) (n : ℕ) (r : Option (Bor LinkValue)) → option_copied r ≡ get_or links n None → n < length links → ((k : ℕ) → k < n → get_or links k None ≡ None)
     → IfSome r (λ x. (rest : Part) × (joined links ≡ x.now.entries ++ rest))
 first_some links n None is short before = tt

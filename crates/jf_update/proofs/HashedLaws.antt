@@ -16,7 +16,7 @@ use Rattle.jf_update.specs.Outcomes.{AreShort}
 abbrev Hashed : Type 0
 Hashed = List ℕ × HashedValue
 
--- one entry more
+-- one more entry
 pub plain-push : (xs : List Hashed) (x : Hashed) → plain (xs ++ x ∷ []) ≡ plain xs ++ plain_entry x ∷ []
 plain-push [] x = refl
 plain-push (y ∷ xs) x = ap (λ t. plain_entry y ∷ t) (plain-push xs x)
@@ -25,13 +25,13 @@ pub AreHashed-push : (xs : List Hashed) (x : Hashed) → AreHashed xs → IsHash
 AreHashed-push [] x h k = (k, tt)
 AreHashed-push (y ∷ xs) x h k = (h.0, AreHashed-push xs x h.1 k)
 
--- the value at a place of a batch is short
+-- the value at each place of a batch has at most 4,096 bytes
 pub short_at : (bs : Batch) (i : ℕ) (item : Change) (v : List ℕ) → AreShort bs → i < length bs → item ≡ get_or bs i item → item.1 ≡ Some v → length v ≤ 4096
 short_at [] i item v h within at is = absurd (omega arith)
 short_at (b ∷ bs) zero item v h within at is = let here : b.1 ≡ Some v = ap (λ (c : Change). c.1) (sym at) ∙ is in subst (λ o. IfSome o (λ w. length w ≤ 4096)) here h.0
 short_at (b ∷ bs) (suc i) item v h within at is = short_at bs i item v h.1 (omega arith) at is
 
--- those with a nibble
+-- the entries with a nibble, with hashes and without
 pub with_nibble-plain : (d n : ℕ) (xs : List Hashed) → with_nibble d n (plain xs) ≡ plain (with_nibble d n xs)
 with_nibble-plain d n [] = refl
 with_nibble-plain d n (x ∷ xs) =
@@ -52,7 +52,7 @@ unplain_all : (P : List ℕ → Type 0) (xs : List Hashed) → AllByRecursion (�
 unplain_all P [] h = tt
 unplain_all P (x ∷ xs) h = (h.0, unplain_all P xs h.1)
 
--- they are a part where the entries are
+-- entries with hashes are a part if the entries themselves are
 pub unplain_part : (d : ℕ) (path : ℕ → ℕ) (xs : List Hashed) → IsPart d path (plain xs) → IsPart d path xs
 unplain_part d path xs h = record {
   sorted = subst T (unplain_sorted xs) h.sorted;

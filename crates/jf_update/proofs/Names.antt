@@ -1,4 +1,4 @@
--- Names that rise.
+-- Lists of names that rise strictly.
 use Rattle.std.proofs.Common.{◌≡◌, ℕ, suc, ◌+◌, ◌<◌, Bool, true, false, ◌&&◌, List, [], ◌∷◌, ◌++◌, length, take, drop, get_or, refl, sym, ap, ◌∙◌, subst, arith, IsTrue, Less, Equal, Greater, Ordering, is_lt, is_eq, true≢false}
 use Rattle.std.proofs.Math.Seq.{take-suc}
 use Rattle.std.proofs.lemmas.List.{take-append-drop}
@@ -27,7 +27,7 @@ above r Less e low other = absurd (true≢false low)
 above r Equal e low other = absurd (true≢false (sym (ap is_eq e) ∙ other))
 above r Greater e low other = ap is_lt e
 
--- names in order, no two of which are one
+-- distinct names in order rise strictly
 pub rise-sorted : (xs : List NodeName) → IsSorted name_cmp xs → IsDistinct (eq_by_cmp name_cmp) xs → IsTrue (rise xs)
 rise-sorted [] sorted distinct = refl
 rise-sorted (x ∷ []) sorted distinct = refl
@@ -36,11 +36,11 @@ rise-sorted (x ∷ z ∷ xs) sorted distinct =
     (above (name_cmp x z) (name_cmp z x) (name_cmp_total.antisymm x z) (sorted 0 x (omega arith) (omega arith)) (IsDistinct-head (eq_by_cmp name_cmp) x (z ∷ xs) distinct).0)
     (rise-sorted (z ∷ xs) (λ k d low high. subst (λ j. is_lt (name_cmp (get_or (x ∷ z ∷ xs) j d) (get_or (x ∷ z ∷ xs) (suc k) d)) ≡ false) (let e : suc k + 1 ≡ suc (k + 1) = omega arith in e) (sorted (suc k) d (omega arith) (omega arith))) (IsDistinct-tail (eq_by_cmp name_cmp) x (z ∷ xs) distinct))
 
--- names in order that were distinct before they were moved
+-- distinct names rise strictly after they are sorted
 pub rise-moved : (xs ys : List NodeName) → IsPermutation xs ys → IsSorted name_cmp ys → IsDistinct (eq_by_cmp name_cmp) xs → IsTrue (rise ys)
 rise-moved xs ys moved sorted distinct = rise-sorted ys sorted (IsDistinct-IsPermutation (eq_by_cmp name_cmp) (eq_by_cmp_equiv name_cmp_total).symm xs ys moved distinct)
 
--- one more of names that rise
+-- one more name, after those before it
 pub rise-next : (xs : List NodeName) (i : ℕ) (x : NodeName) → i < length xs → x ≡ get_or xs i x → IsTrue (rise xs) → IsTrue (rise (take i xs ++ x ∷ []))
 rise-next xs i x within at rises =
     let next : take (suc i) xs ≡ take i xs ++ x ∷ [] = take-suc xs i x within ∙ ap (λ y. take i xs ++ y ∷ []) (sym at) in

@@ -1,4 +1,4 @@
--- What an update makes of the children of a node.
+-- A node is updated by updating its children.
 use Rattle.std.proofs.Common.{◌≡◌, ℕ, zero, suc, ◌+◌, ◌-◌, ◌<◌, ◌≤◌, Bool, true, false, ◌==◌, inl, inr, List, [], ◌∷◌, ◌++◌, length, get_or, set, take, drop, refl, sym, ap, ap₂, ◌∙◌, subst, arith, Option, None, Some, length-drop, length-set, zero-add, eq-or-lt_of_le, get_or-set_other, get_or-set_same, true≢false, replicate, Result, Ok, Err, IfOk}
 use Rattle.std.proofs.lemmas.List.{set-get_or, get_or_past}
 use Rattle.std.proofs.lemmas.Bool.{cases_lt}
@@ -29,7 +29,7 @@ use Rattle.jf_update.proofs.BuildLaws.{joined_parts, fits_part, drop_more, same_
 
 -- ---- children
 
--- a child has the part at its nibble
+-- a child has the entries with its nibble
 pub child_part : (d n : ℕ) (links : List (Option LinkValue)) → length links ≡ 16 → FitFrom d 0 links → with_nibble d n (joined links) ≡ content (get_or links n None)
 child_part d n links long fit = elim (cases_lt n 16) [
   | inl small ↦ with_nibble-joined d 0 n n links None fit (omega arith) (omega arith)
@@ -82,7 +82,7 @@ updating_start d v olds news bs changed long fit is none = subst (λ ls. IsUpdat
   rest = sym (from_nibble-zero d bs);
 })
 
--- one child updated
+-- one more child is updated
 updating_one : (d v n start r : ℕ) (path : ℕ → ℕ) (olds news news' : List (Option LinkValue)) (y : Option LinkValue) (bs : Batch) (changed changed' : List Bool) (change : Bool) → IsPart d path bs → n < 16 → IsUpdating d v n start olds bs news changed → IsPieceEnd d n r (drop start bs)
     → IsNodeUpdate (d + 1) v (get_or olds n None) (with_nibble d n bs) y → FitsAt d n y → news' ≡ set news n y → changed' ≡ set changed n change
     → (change ≡ false → content y ≡ content (get_or olds n None))
@@ -117,7 +117,7 @@ updating_one d v n start r path olds news news' y bs changed changed' change par
       rest = sym (drop_more start r bs) ∙ (cut_piece d n r path bs (drop start bs) part w.rest end).1;
     }
 
--- the children's entries when all are worked
+-- the entries of all children once each is updated
 updated_parts : (d v : ℕ) (path : ℕ → ℕ) (olds news : List (Option LinkValue)) (bs : Batch) (changed : List Bool) → length olds ≡ 16 → FitFrom d 0 olds → IsPart d path (joined olds) → IsPart d path bs → AreNewChildren d v olds bs news changed → joined news ≡ applied (joined olds) bs
 updated_parts d v path olds news bs changed long fit part batch w =
     joined_parts d path (applied (joined olds) bs) news (IsPart-applied d path (joined olds) bs part batch) w.long
@@ -145,19 +145,19 @@ one_of_them [] on = absurd (true≢false (sym on))
 one_of_them (true ∷ changes) on = (0, omega arith, refl)
 one_of_them (false ∷ changes) on = let more = one_of_them changes on in (suc more.0, (let lt = more.1 in omega arith), more.2)
 
--- nothing is changed
+-- if no child changed, the batch changes nothing
 pub none_changed : (d v start : ℕ) (path : ℕ → ℕ) (olds news : List (Option LinkValue)) (bs : Batch) (changed : List Bool) → length olds ≡ 16 → FitFrom d 0 olds → IsPart d path (joined olds) → IsPart d path bs → IsUpdating d v 16 start olds bs news changed → list_any (λ m. beq m true) changed ≡ false → applied (joined olds) bs ≡ joined olds
 none_changed d v start path olds news bs changed long fit part batch w off =
     sym (updated_parts d v path olds news bs changed long fit part batch (updating_done d v start olds news bs changed w)) ∙ same_joined news olds (w.long ∙ sym long) (λ k lt. w.same k (omega (arith, w.long)) (none_of_them changed off k))
 
--- something is
+-- if a child changed, the batch changes something
 pub some_changed : (d v start : ℕ) (path : ℕ → ℕ) (olds news : List (Option LinkValue)) (bs : Batch) (changed : List Bool) → length olds ≡ 16 → FitFrom d 0 olds → IsPart d path (joined olds) → IsPart d path bs → IsUpdating d v 16 start olds bs news changed → list_any (λ m. beq m true) changed ≡ true → ¬ (applied (joined olds) bs ≡ joined olds)
 some_changed d v start path olds news bs changed long fit part batch w on same =
     let x = one_of_them changed on in
     let is = updated_parts d v path olds news bs changed long fit part batch (updating_done d v start olds news bs changed w) in
     w.differ x.0 (omega (arith, x.1, w.changes)) x.2 (sym (child_part d x.0 news w.long w.fit) ∙ ap (with_nibble d x.0) (is ∙ same) ∙ child_part d x.0 olds long fit)
 
--- a child that did not change has the entries of before
+-- a child that didn't change has the same entries as before
 pub same_elsewhere : (d v : ℕ) (olds news : List (Option LinkValue)) (es : Part) (bs : Batch) (changed : List Bool) → length olds ≡ 16 → FitFrom d 0 olds → es ≡ joined olds → AreNewChildren d v olds bs news changed → SameElsewhere changed d es (joined news)
 same_elsewhere d v olds news es bs changed long fit is w i lt off =
     ap (with_nibble d i) is ∙ child_part d i olds long fit ∙ sym (w.same i lt off) ∙ sym (child_part d i news w.long w.fit)
@@ -192,7 +192,7 @@ updating_more d v n start r path olds now next (New y) bs piece long fit part ba
     (λ off. absurd (true≢false off))
     (λ on e. out.1 (sym out.0.entries ∙ e))
 
--- ---- a worked node over its worked children
+-- ---- a node over its updated children
 
 pub worked_top : (d v : ℕ) (path : ℕ → ℕ) (x : LinkValue) (y : Option LinkValue) (olds news : List (Option LinkValue)) (bs : Batch) (changed : List Bool) → x.depth ≡ d → ShowsInner x olds
     → IsPart d path x.entries → IsPart d path bs → AreNewChildren d v olds bs news changed → ¬ (applied (joined olds) bs ≡ joined olds) → Topped d v news y → IsOutcome d v (Some x) bs (New y)
@@ -224,7 +224,7 @@ worked_top d v path x y olds news bs changed at shows part batch w differ t =
         subst (λ es. HaveVersions (d + 1) v es b (λ p. version_at p (get_or olds n None)) (λ p. version_at p (get_or news n None))) (sym p)
         (subst (λ es. HaveVersions (d + 1) v (content (get_or olds n None)) es (λ p. version_at p (get_or olds n None)) (λ p. version_at p (get_or news n None))) (sym q) h)
 
--- over one entry or none
+-- the outcome over a leaf, or over a place without a node
 pub leaf_outcome : (d v : ℕ) (x : Option LinkValue) (es : Part) (bs : Batch) (p : Outcome) → content x ≡ es → length es < 2 → IsLeafOutcome d v es bs p → IsOutcome d v x bs p
 leaf_outcome d v x es bs Same is few out = ap (λ es. applied es bs) is ∙ out ∙ sym is
 leaf_outcome d v x es bs (New y) is few out =
@@ -242,7 +242,7 @@ pub ok_outcome : {E : Type 0} (d v : ℕ) (x : Option LinkValue) (es : Part) (bs
 ok_outcome d v x es bs (Ok p) is few out = leaf_outcome d v x es bs p is few out
 ok_outcome d v x es bs (Err e) is few out = tt
 
--- ---- what a child is given
+-- ---- what is asked of the update of a child
 
 pub child_parts : (d v n start r : ℕ) (olds news : List (Option LinkValue)) (o : Option LinkValue) (bs : Batch) (changed : List Bool) → length olds ≡ 16 → FitFrom d 0 olds → AreParts d (joined olds) bs → IsUpdating d v n start olds bs news changed → IsPieceEnd d n r (drop start bs) → o ≡ get_or olds n None
     → AreParts (d + 1) (content o) (take ((start + r) - start) (drop start bs))

@@ -1,4 +1,4 @@
--- Names made of paths that rise.
+-- Names made of rising paths rise.
 use Rattle.std.proofs.Common.{◌≡◌, ℕ, ◌-◌, true, false, inl, inr, List, [], ◌∷◌, map, refl, sym, ap, ap₂, ◌∙◌, subst, T, IsTrue, Less, Equal, Greater, Ordering, is_lt, is_eq, nat_cmp}
 use Rattle.std.specs.FinMap as fin
 use Rattle.std.specs.FinMap.{is_sorted}
@@ -24,7 +24,7 @@ use Rattle.jf_update.proofs.Names.{both_true}
 abbrev pub name_at : ℕ → Path → NodeName
 name_at version path = record { version = version; path = path }
 
--- the walk over sorted entries, by the maps of them
+-- the walk over sorted entries lists the fresh nodes of their maps
 pub with_root-sorted : {X : Type 0} (old new : Part) (f : Path → X) → T (is_sorted key_cmp old) → T (is_sorted key_cmp new) → with_root old new f ≡ map (λ (x : Path × Part). f x.0) (fresh (fin.from_sorted old) (fin.from_sorted new))
 with_root-sorted old new f a b =
     ap₂ (λ p q. with_root p q f) (sym (fin.entries-from_sorted key_cmp old a)) (sym (fin.entries-from_sorted key_cmp new b)) ∙ with_root-fresh (fin.from_sorted old) (fin.from_sorted new) f
@@ -42,7 +42,7 @@ rise_paths version f same (x ∷ y ∷ xs) sorted =
     (ap₂ (λ a b. is_lt (name_cmp a b)) (same x.0) (same y.0) ∙ less_names version x.0 y.0 (below-first x.0 y xs (below-rest x (y ∷ xs) sorted)))
     (rise_paths version f same (y ∷ xs) (sorted-rest x (y ∷ xs) sorted))
 
--- what is listed below a top rises
+-- the names that are listed below a top rise strictly
 pub rise_listed : (version d : ℕ) (old new : Part) (f : Path → NodeName × PlainNode) → T (is_sorted key_cmp old) → T (is_sorted key_cmp new) → d ≡ 0 → ((p : Path) → (f p).0 ≡ name_at version p) → IsTrue (rise (map (λ (e : NodeName × PlainNode). e.0) (listed (64 - d) d old new f)))
 rise_listed version d old new f a b at same = elim (some_entry new) [
   | inl none ↦ rises (ap (λ n. listed (64 - d) d old n f) none ∙ listed-gone (64 - d) d old f) refl
@@ -74,7 +74,7 @@ unfolding IsDistinct
 distinct_paths v [] sorted = tt
 distinct_paths v (x ∷ xs) sorted = (others v (v x.0) x.0 xs (below-rest x xs sorted), distinct_paths v xs (sorted-rest x xs sorted))
 
--- the names of what is listed from the top are distinct
+-- the names of the nodes listed from the top are distinct
 pub distinct_walk : (v : Path → ℕ) (old new : Part) (names : List NodeName) → names ≡ with_root old new (λ p. name_at (v p) p) → T (is_sorted key_cmp old) → T (is_sorted key_cmp new) → IsDistinct (eq_by_cmp name_cmp) names
 distinct_walk v old new names is a b =
     subst (IsDistinct (eq_by_cmp name_cmp)) (sym (is ∙ with_root-sorted old new (λ p. name_at (v p) p) a b)) (distinct_paths v (fresh (fin.from_sorted old) (fin.from_sorted new)) (sorted-fresh (fin.from_sorted old) (fin.from_sorted new)))

@@ -1,4 +1,4 @@
--- Nodes by themselves.
+-- Nodes as they are written: each by itself, with what it says of its children.
 use Rattle.std.proofs.Common.{◌≡◌, ℕ, zero, suc, ◌+◌, ◌*◌, ◌≤◌, ◌==◌, Bool, true, false, not, cond, inl, inr, ◌⊎◌, List, [], ◌∷◌, ◌++◌, length, refl, sym, ap, ap₂, ◌∙◌, subst, arith, Some}
 use Rattle.std.proofs.lemmas.Bool.Decides.{nat_tests}
 use Rattle.jf_path.specs.Nodes.{RiseFrom}
@@ -19,7 +19,7 @@ use Rattle.jf_update.specs.Updates.{version_or}
 use Rattle.jf_update.specs.Below.{IsBelow}
 use Rattle.jf_update.specs.Plains.{plain_at, children_list}
 
--- a node at a path through a child is one below the child
+-- a node at a path through a child is the node at the rest of the path below the child
 pub plain-child : (x : LinkValue) (n : ℕ) (c : LinkValue) (p : Path) → IsBelow x n (Some c) → plain_at x (n ∷ p) ≡ plain_at c p
 plain-child x n c p is =
     let at : x.depth + length (n ∷ p) ≡ c.depth + length p = omega (arith, is.placed.1) in
@@ -45,7 +45,7 @@ some_child d n v count hash (e ∷ []) some long is = ap₂ (λ (h : List ℕ) (
 some_child d n v count hash (e ∷ f ∷ part) some long is =
     ap₂ (λ (h : List ℕ) (k : ℕ). one n v h (k == 1) k) is long ∙ ap (λ (b : Bool). one n v (part_root (4 * (d + 1)) (e ∷ f ∷ part)) b (length (e ∷ f ∷ part))) (eq_one (length part))
 
--- what is pushed is the child at the nibble
+-- what is added to the list is the child at the nibble
 pub child_is : (x : LinkValue) (n k : ℕ) (c : LinkValue) (v count : ℕ) (hash : List ℕ) → 2 ≤ length x.entries → IsBelow x n (Some c) → IsLink c → n ≡ k → v ≡ c.version → count ≡ length c.entries → hash ≡ part_root (4 * c.depth) c.entries
     → one k v hash (count == 1) count ≡ child_at true (versions_below x) x.depth x.entries n
 child_is x n k c v count hash many is link at own long hashed =
@@ -71,7 +71,7 @@ rise_weaker : (n m : ℕ) (cs : List Child) → n ≤ m → RiseFrom m cs → Ri
 rise_weaker n m [] le h = tt
 rise_weaker n m (c ∷ cs) le h = (let at = h.0 in omega arith, h.1)
 
--- nothing, or one child at the nibble
+-- an empty list, or one child at the nibble
 abbrev IsOneAt : ℕ → List Child → Type 0
 IsOneAt n cs = (cs ≡ []) ⊎ ((c : Child) × (cs ≡ c ∷ []) × (c.nibble ≡ n))
 
@@ -91,7 +91,7 @@ rise_each (suc count) n g last one le =
           (let at = some.2 in (omega arith, subst (λ m. RiseFrom (m + 1) (each_from count (n + 1) g ++ last ∷ [])) (sym some.2) rest))
     ]
 
--- one child more behind those of lesser nibbles
+-- one more child, after those with lesser nibbles
 pub children_rise : (x : LinkValue) (n : ℕ) (list : List Child) (c : Child) → list ≡ each_from n 0 (child_at true (versions_below x) x.depth x.entries) → c.nibble ≡ n → RiseFrom 0 (list ++ c ∷ [])
 children_rise x n list c is at = subst (λ cs. RiseFrom 0 (cs ++ c ∷ [])) (sym is) (rise_each n 0 (child_at true (versions_below x) x.depth x.entries) c (one_child x) (omega (arith, at)))
 

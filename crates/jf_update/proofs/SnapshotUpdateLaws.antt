@@ -1,4 +1,4 @@
--- The update of a snapshot, from that of its top.
+-- The update of a snapshot, from the update of its top.
 use Rattle.std.proofs.Common.{◌≡◌, ℕ, ◌+◌, true, cond, [], ◌∷◌, ◌++◌, length, refl, sym, ap, ap₂, ◌∙◌, subst, arith, Option, None, Some}
 use Rattle.std.proofs.lemmas.List.{length-map}
 use Rattle.std.specs.FinMap as fin
@@ -36,7 +36,7 @@ use Rattle.jf_update.specs.Plains.{fresh_under}
 use Rattle.jf_update.specs.TopUpdates.{IsTopUpdate, IsOfVersion, NoneNewer, old_name}
 use Rattle.jf_update.specs.declared.top.TopUpdate.{TopUpdate}
 
--- ---- what the top of a snapshot meets
+-- ---- what holds of the top of a snapshot
 
 pub top_placed : (version : ℕ) (old : Option LinkValue) → IsTopIf version old → IsAtDepth 0 old
 top_placed version None top = tt
@@ -54,7 +54,7 @@ top_parts head old b sound top batch limits = record {
   short = limits.values;
 }
 
--- and a landing's top meets
+-- the top after a landing meets what is asked of a top
 pub landed_top : (head : ℕ) (old : Option LinkValue) (b : Batch) (l : TopUpdate) → IsTopUpdate head old b l → IsTopIf (head + 1) l.top
 landed_top head old b l update_top = all l.top update_top.placed update_top.own update_top.newest
   where

@@ -1,4 +1,4 @@
--- The update of a top, from what the update of its node gives.
+-- The update of a top, from the update of its node.
 use Rattle.std.proofs.Common.{◌≡◌, ℕ, ◌+◌, ◌-◌, ◌≤◌, inl, inr, List, [], ◌∷◌, ◌++◌, map, refl, sym, ap, ap₂, ◌∙◌, subst, arith, Option, None, Some, T, IsTrue, Result, Ok, Err, IfOk}
 use Rattle.std.proofs.lemmas.List.Sorted.{IsPermutation-refl}
 use Rattle.std.specs.FinMap.{is_sorted}
@@ -77,7 +77,7 @@ stale_some head old top x front out names is placed link bare none listing under
     (listing (subst (λ o. IsStaleUnder (head + 1) o top) is under) ∙ ap (λ o. o ++ listed (64 - x.depth) x.depth (content top) x.entries (name_below front x)) none)
     ∙ ap (λ o. with_root (content top) (content o) (old_name head o)) (sym is)
 
--- the names of what is stale are distinct
+-- the names of the stale nodes are distinct
 pub stale_distinct : (head : ℕ) (old : Option LinkValue) (new : Part) (names : List NodeName) → names ≡ with_root new (content old) (old_name head old) → T (is_sorted key_cmp new) → T (is_sorted key_cmp (content old)) → IsDistinct (eq_by_cmp name_cmp) names
 stale_distinct head old new names is a b = distinct_walk (version_in (snapshot_of head old)) new (content old) names is a b
 
@@ -179,7 +179,7 @@ changed head old bs l newest sound out fresh stale = record {
   stale = stale;
 }
 
--- ---- what the steps are given
+-- ---- what is asked of the steps
 
 pub was_landed : (head : ℕ) (old top seen : Option LinkValue) (bs : Batch) → NoneNewer head old → AreParts 0 (content old) bs → IsOutcome 0 (head + 1) old bs (New top) → seen ≡ top → WasLanded (head + 1) seen
 was_landed head old top seen bs newest parts out is = subst (WasLanded (head + 1)) (sym is) record {

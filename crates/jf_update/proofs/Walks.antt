@@ -40,7 +40,7 @@ one_below : (d : ℕ) (c : Option LinkValue) → IsAtDepth (d + 1) c → d < 64 
 one_below d None placed deep = tt
 one_below d (Some c) placed deep = (deep, placed)
 
--- an inner node has those that it shows
+-- an inner node has the children that it shows
 pub inner_below : (x : LinkValue) (n : ℕ) (links : List (Option LinkValue)) (c : Option LinkValue) → ShowsInner x links → c ≡ get_or links n None → IsBelow x n c
 inner_below x n links c shows is =
     let several = shows.children.several in
@@ -65,7 +65,7 @@ small_of x link = elim (cases_lt (length x.entries) 2) [ inl few ↦ inr few | i
 some_is : (a b : ℕ) → Some a ≡ Some b → a ≡ b
 some_is a b e = cc
 
--- whether a node has the new version is whether it differs
+-- a node has the new version exactly if its entries differ from before
 pub is_new : (version : ℕ) (es : Part) (before : Path → Option ℕ) (x : LinkValue) → IsLink x → IsFreshOver version es before x → x.version ≡ version → differs es x.entries ≡ true
 is_new version es before x link over is = elim (differs_or_same es x.entries link.entries.some) [
   | inl differ ↦ differ
@@ -78,7 +78,7 @@ is_old version es before x link over other = elim (differs_or_same es x.entries 
   | inr same ↦ same
 ]
 
--- a landing below a node is a landing over its child
+-- a landing over a node is a landing over each of its children
 pub child_over : (version : ℕ) (es : Part) (before : Path → Option ℕ) (x : LinkValue) (n : ℕ) (c : LinkValue) → IsFreshOver version es before x → IsBelow x n (Some c) → IsFreshOver version (child_entries x.depth n es) (λ p. before (n ∷ p)) c
 child_over version es before x n c over is = record {
   versioned = λ p. moved version _ _ _ _ _ _ _ _ (over.versioned (n ∷ p))
@@ -89,7 +89,7 @@ child_over version es before x n c over is = record {
   older = λ p. over.older (n ∷ p);
 }
 
--- ---- what is written may be listed behind others
+-- ---- the nodes written may be listed after others
 
 map-append : (xs ys : List (NodeName × PlainNode)) → map (λ (e : NodeName × PlainNode). e.0) (xs ++ ys) ≡ map (λ (e : NodeName × PlainNode). e.0) xs ++ map (λ (e : NodeName × PlainNode). e.0) ys
 map-append [] ys = refl
@@ -115,7 +115,7 @@ module _ {X : Type 0} where
       let g : ℕ → List X = λ m. child_list d m old new f in
       (each_from (16 - n) (0 + n) g, ap (λ k. f [] ∷ each_from k 0 g) (let e : 16 ≡ n + (16 - n) = omega arith in e) ∙ ap (λ t. f [] ∷ t) (each_front n (16 - n) 0 g))
 
--- where a node differs, all lists of it up to a child rise behind the others
+-- if a node differs, its lists up to a child rise after the nodes listed before
 prefix_rises : (out : List (NodeName × PlainNode)) (version : ℕ) (front : Path) (x : LinkValue) (n : ℕ) (now : List (NodeName × PlainNode)) → (w : WouldRise out version front x) → IsLink x → x.version ≡ version → n ≤ 16 → now ≡ out ++ listed_to x.depth n w.es x.entries (fresh_below version front x)
     → IsTrue (rise (map (λ (e : NodeName × PlainNode). e.0) now))
 prefix_rises out version front x n now w link own within is =
@@ -126,12 +126,12 @@ prefix_rises out version front x n now w link own within is =
     ∙ sym (append_assoc out (listed_to x.depth n w.es x.entries f) cut.0) ∙ ap (λ t. t ++ cut.0) (sym is) in
     front_rises _ now cut.0 whole w.names
 
--- the node itself
+-- the node itself rises after the nodes listed before
 pub top_rises : (out : List (NodeName × PlainNode)) (version : ℕ) (front : Path) (x : LinkValue) (item : NodeName × PlainNode) → WouldRise out version front x → IsLink x → x.version ≡ version → item ≡ fresh_below version front x [] → IsTrue (rise (map (λ (e : NodeName × PlainNode). e.0) (out ++ item ∷ [])))
 unfolding listed_to
 top_rises out version front x item w link own is = prefix_rises out version front x 0 (out ++ item ∷ []) w link own (omega arith) (ap (λ e. out ++ e ∷ []) is)
 
--- and what is below its child
+-- the nodes below a child rise after those listed before
 pub child_rises : (out now : List (NodeName × PlainNode)) (version : ℕ) (front further : Path) (x : LinkValue) (n : ℕ) (c : LinkValue) → WouldRise out version front x → IsLink x → x.version ≡ version → n < 16 → IsBelow x n (Some c) → further ≡ front ++ n ∷ []
     → ((es : Part) (before : Path → Option ℕ) → IsFreshOver version es before x → now ≡ out ++ listed_to x.depth n es x.entries (fresh_below version front x)) → WouldRise now version further c
 child_rises out now version front further x n c w link own small is longer so_far = record {

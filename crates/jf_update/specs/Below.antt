@@ -1,4 +1,4 @@
--- The child of a node at a nibble, and what a landing does below a node.
+-- The child of a node at a nibble, and the nodes below a node after a landing.
 use Rattle.std.specs.Prelude.{◌≡◌, ℕ, ◌+◌, ◌<◌, Bool, true, false, ◌++◌, ◌∷◌, Option, Some, None}
 use Rattle.jf_path.specs.declared.name.NodeName.{NodeName}
 use Rattle.jf_hash.specs.Slots.{Part}
@@ -10,6 +10,7 @@ use Rattle.jf_landing.specs.ChildEntries.{child_entries}
 use Rattle.jf_landing.specs.Versions.{HaveVersions}
 use Rattle.jf_update.specs.Updates.{version_or}
 
+-- a child is one nibble deeper than its node
 abbrev pub IsOneBelow : ℕ → Option LinkValue → Type 0
 IsOneBelow depth None = Unit {0}
 IsOneBelow depth (Some c) = (depth < 64) × (c.depth ≡ depth + 1)
@@ -20,25 +21,26 @@ pub record IsBelow (x : LinkValue) (n : ℕ) (c : Option LinkValue) : Type 0 whe
   pub placed : IsOneBelow x.depth c
   pub versions : (path : Path) → version_at (n ∷ path) (Some x) ≡ version_at path c
 
+-- c is the child at nibble n of an optional node
 abbrev pub IsBelowIf : Option LinkValue → ℕ → Option LinkValue → Type 0
 IsBelowIf None n c = c ≡ None
 IsBelowIf (Some y) n c = IsBelow y n c
 
--- x after a landing over the entries es; before gives the versions that the nodes of es had
+-- x stands, after the landing of `version`, where the entries es stood; `before` gives the versions of their nodes
 pub record IsFreshOver (version : ℕ) (es : Part) (before : Path → Option ℕ) (x : LinkValue) : Type 0 where
   pub versioned : HaveVersions x.depth version es x.entries before (λ p. version_at p (Some x))
   pub older : (path : Path) → ¬ (before path ≡ Some version)
 
--- x, and y in its place after a landing
+-- y stands in the place of x after the landing of `version`
 pub record IsStaleOver (version : ℕ) (x : LinkValue) (y : Option LinkValue) : Type 0 where
   pub versioned : HaveVersions x.depth version x.entries (content y) (λ p. version_at p (Some x)) (λ p. version_at p y)
   pub older : (path : Path) → ¬ (version_at path (Some x) ≡ Some version)
 
--- whether there is a node that was there before the landing
+-- `kept` says whether there is a node that was there before the landing of `version`
 abbrev pub IsKept : Option LinkValue → ℕ → Bool → Type 0
 IsKept None version kept = kept ≡ false
 IsKept (Some y) version kept = IsLink y × (kept ≡ true → ¬ (y.version ≡ version)) × (kept ≡ false → y.version ≡ version)
 
--- the name of a node below x, where x stands at a path
+-- the name of the node at a path below x, if x stands at the path `front`
 abbrev pub name_below : Path → LinkValue → Path → NodeName
 name_below front x path = record { version = version_or (version_at path (Some x)); path = front ++ path }

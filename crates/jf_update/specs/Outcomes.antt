@@ -1,4 +1,4 @@
--- What an update makes of the nodes below a path.
+-- The nodes below a path after a batch.
 use Rattle.std.specs.Prelude.{◌≡◌, ℕ, ◌+◌, ◌<◌, ◌≤◌, true, false, Bool, List, length, Option, Some, None, IfSome, slice_index_or, slice_set}
 use Rattle.std.specs.List.{AllByRecursion}
 use Rattle.jf_hash.specs.Maps.{Batch}
@@ -13,44 +13,46 @@ use Rattle.jf_update.specs.declared.outcome.NewChildren.{NewChildren}
 use Rattle.jf_update.specs.declared.outcome.Outcome.{Outcome}
 use Rattle.jf_update.specs.declared.outcome.Outcome.TheVariants.{Same, New}
 
--- each value has at most 4,096 bytes
+-- each value of a batch has at most 4,096 bytes
 abbrev pub AreShort : Batch → Type 0
 AreShort bs = AllByRecursion (λ e. IfSome e.1 (λ v. length v ≤ 4096)) bs
 
--- entries and a batch below one path
+-- entries and a batch whose keys all begin with one path
 pub record AreParts (depth : ℕ) (es : Part) (bs : Batch) : Type 0 where
   pub path : ℕ → ℕ
   pub entries : IsPart depth path es
   pub batch : IsPart depth path bs
   pub short : AreShort bs
 
--- y is what the batch makes of x
+-- y is the node x after the batch: its entries, its depth and the versions of its nodes
 pub record IsNodeUpdate (depth version : ℕ) (x : Option LinkValue) (bs : Batch) (y : Option LinkValue) : Type 0 where
   pub entries : content y ≡ applied (content x) bs
   pub placed : IsAtDepth depth y
   pub versions : HaveVersions depth version (content x) (content y) (λ p. version_at p x) (λ p. version_at p y)
 
+-- the outcome of a batch over a node: unchanged, or the node after the batch
 abbrev pub IsOutcome : ℕ → ℕ → Option LinkValue → Batch → Outcome → Type 0
 IsOutcome depth version x bs Same = applied (content x) bs ≡ content x
 IsOutcome depth version x bs (New y) = IsNodeUpdate depth version x bs y × ¬ (applied (content x) bs ≡ content x)
 
--- the same over one entry or none
+-- the outcome of a batch over at most one entry: unchanged, or all nodes new
 abbrev pub IsLeafOutcome : ℕ → ℕ → Part → Batch → Outcome → Type 0
 IsLeafOutcome depth version es bs Same = applied es bs ≡ es
 IsLeafOutcome depth version es bs (New y) = Built depth version (applied es bs) y × ¬ (applied es bs ≡ es)
 
--- the children after a batch; those that did not change have the entries of before
+-- the children after a batch; those that didn't change have the same entries as before
 pub record AreNewChildren (depth version : ℕ) (olds : List (Option LinkValue)) (bs : Batch) (news : List (Option LinkValue)) (changed : List Bool) : Type 0 where
   pub long : length news ≡ 16
   pub fit : FitFrom depth 0 news
   pub each : (k : ℕ) → k < 16 → IsNodeUpdate (depth + 1) version (slice_index_or olds k None) (with_nibble depth k bs) (slice_index_or news k None)
   pub same : (k : ℕ) → k < 16 → slice_index_or changed k false ≡ false → content (slice_index_or news k None) ≡ content (slice_index_or olds k None)
 
+-- the outcome of a batch over the children of a node: unchanged, or the children after the batch
 abbrev pub AreOutcome : ℕ → ℕ → List (Option LinkValue) → Batch → Option NewChildren → Type 0
 AreOutcome depth version olds bs None = applied (joined olds) bs ≡ joined olds
 AreOutcome depth version olds bs (Some w) = AreNewChildren depth version olds bs w.children w.changed × ¬ (applied (joined olds) bs ≡ joined olds)
 
--- an outcome in its place among the children
+-- the children after the outcome for the child at nibble n
 abbrev pub IsPlaced : NewChildren → ℕ → Outcome → NewChildren → Type 0
 IsPlaced w n Same now = (now.children ≡ w.children) × (now.changed ≡ w.changed)
 IsPlaced w n (New y) now = (now.children ≡ slice_set w.children n y) × (now.changed ≡ slice_set w.changed n true)

@@ -1,4 +1,4 @@
--- Nodes by themselves below a link.
+-- Nodes as they are written: each by itself, with what it says of its children.
 use Rattle.std.specs.Prelude.{ℕ, ◌+◌, ◌-◌, true, List, [], ◌∷◌, ◌++◌, length, map, Option, Some, None, IsTrue}
 use Rattle.jf_path.specs.Names.{rise}
 use Rattle.jf_path.specs.declared.children.Child.{Child}
@@ -13,27 +13,28 @@ use Rattle.jf_landing.specs.Walk.{each_from, listed}
 use Rattle.jf_update.specs.Updates.{version_or}
 use Rattle.jf_update.specs.Below.{IsFreshOver}
 
--- the node at a path below a link
+-- the node by itself at a path below a link
 abbrev pub plain_at : LinkValue → Path → PlainNode
 plain_at x path = plain_node true (λ n. version_or (version_at (path ++ n ∷ []) (Some x))) (x.depth + length path) (sub x.depth path x.entries)
 
--- what a link holds of its children
+-- what an inner node says of its children, in the order of their nibbles
 abbrev pub children_list : LinkValue → List Child
 children_list x = each_from 16 0 (child_at true (λ n. version_or (version_at (n ∷ []) (Some x))) x.depth x.entries)
 
--- the same if there may be no node
+-- the node by itself at a path below an optional link; the root of the empty map if there is no link
 abbrev pub plain_under : Option LinkValue → Path → PlainNode
 plain_under None path = node.Null
 plain_under (Some y) path = plain_at y path
 
--- a node that a landing writes below a link, if the link stands at a path, and below the top
+-- a node that a landing writes below a link, with its name, if the link stands at the path `front`
 abbrev pub fresh_below : ℕ → Path → LinkValue → Path → NodeName × PlainNode
 fresh_below version front x path = (record { version = version; path = front ++ path }, plain_at x path)
 
+-- a node that a landing writes below an optional top, with its name
 abbrev pub fresh_under : ℕ → Option LinkValue → Path → NodeName × PlainNode
 fresh_under version top path = (record { version = version; path = path }, plain_under top path)
 
--- the nodes that a landing writes from a link down may be listed after others
+-- the nodes that a landing writes from a link down may be listed after those in `out`: the names rise
 pub record WouldRise (out : List (NodeName × PlainNode)) (version : ℕ) (front : Path) (x : LinkValue) : Type 0 where
   pub es : Part
   pub before : Path → Option ℕ

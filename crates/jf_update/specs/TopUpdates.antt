@@ -1,4 +1,4 @@
--- The update of a top: a node and lists.
+-- The update of a top: the new top node, and the lists of fresh and stale nodes.
 use Rattle.std.specs.Prelude.{◌≡◌, ℕ, ◌+◌, ◌≤◌, ◌∷◌, Option, Some, None, T}
 use Rattle.std.specs.FinMap.{is_sorted}
 use Rattle.std.specs.List.Sorted.{IsPermutation}
@@ -21,34 +21,37 @@ use Rattle.jf_update.specs.Below.{IsFreshOver, IsStaleOver}
 use Rattle.jf_update.specs.Plains.{fresh_under}
 use Rattle.jf_update.specs.declared.top.TopUpdate.{TopUpdate}
 
+-- an optional top has this version
 abbrev pub IsOfVersion : ℕ → Option LinkValue → Type 0
 IsOfVersion version None = Unit {0}
 IsOfVersion version (Some y) = y.version ≡ version
 
--- no node is newer
+-- no node below a link is newer than this version
 abbrev pub NoneNewer : ℕ → Option LinkValue → Type 0
 NoneNewer head x = (path : Path) (v : ℕ) → version_at path x ≡ Some v → v ≤ head
 
--- the name of a node of the old version
+-- the name under which the old version has the node at a path
 abbrev pub old_name : ℕ → Option LinkValue → Path → NodeName
 old_name head old path = record { version = version_in (snapshot_of head old) path; path = path }
 
+-- an optional top stands, after the landing of `version`, where the entries es stood
 abbrev pub IsFreshUnder : ℕ → Part → (Path → Option ℕ) → Option LinkValue → Type 0
 IsFreshUnder version es before None = Unit {0}
 IsFreshUnder version es before (Some x) = IsFreshOver version es before x
 
+-- y stands in the place of the old top, if any, after the landing of `version`
 abbrev pub IsStaleUnder : ℕ → Option LinkValue → Option LinkValue → Type 0
 IsStaleUnder version None y = Unit {0}
 IsStaleUnder version (Some x) y = IsStaleOver version x y
 
--- the top after a landing over some entries
+-- a top was made by a landing over some sorted entries
 pub record WasLanded (version : ℕ) (top : Option LinkValue) : Type 0 where
   pub es : Part
   pub before : Path → Option ℕ
   pub sorted : T (is_sorted key_cmp es)
   pub over : IsFreshUnder version es before top
 
--- what a landing of a batch over the old top gives
+-- what a landing of a batch over the old top returns: the new top, its versions, and the lists of fresh and stale nodes
 pub record IsTopUpdate (head : ℕ) (old : Option LinkValue) (bs : Batch) (l : TopUpdate) : Type 0 where
   pub entries : content l.top ≡ applied (content old) bs
   pub placed : IsAtDepth 0 l.top

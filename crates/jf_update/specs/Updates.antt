@@ -1,4 +1,4 @@
--- What a batch makes of a snapshot.
+-- The update of a snapshot by a batch: what it returns, in one record.
 use Rattle.std.specs.Prelude.{◌≡◌, ℕ, ◌+◌, ◌*◌, ◌≤◌, true, if◌then◌else◌, List, [], ◌∷◌, ◌++◌, length, map, Option, Some, None, IsTrue}
 use Rattle.std.specs.FinMap.{entries}
 use Rattle.std.specs.List.Sorted.{IsPermutation}
@@ -21,7 +21,7 @@ version_or (Some v) = v
 abbrev pub version_in : SnapshotValue → Path → ℕ
 version_in s path = version_or (snapshot_version_at path s)
 
--- a node that a landing writes: by its name, with its children as the new snapshot has them
+-- a node that a landing writes: its name, and the node by itself with the versions of its children in the new snapshot
 abbrev pub written_node : SnapshotValue → Path × Part → NodeName × PlainNode
 written_node s x = (record { version = s.version; path = x.0 }, plain_node true (λ i. version_in s (x.0 ++ i ∷ [])) (length x.0) x.1)
 
@@ -33,9 +33,9 @@ written_nodes old new s = map (written_node s) (fresh old new)
 abbrev pub stale_names : Map → Map → SnapshotValue → List NodeName
 stale_names old new head = map (λ x. record { version = version_in head x.0; path = x.0 }) (stale old new)
 
--- u is what the batch makes of the snapshot: its map after the batch as the next version, with the root of that map, the
--- nodes that are written and the names of those that are stale; each node that isn't fresh keeps its version; and a batch of
--- n keys writes at most 66 n + 1 nodes
+-- u is the update of the snapshot by the batch: the map after the batch as the next version, its root, the nodes that
+-- are written and the names of those that are stale; each node that isn't fresh keeps its version; and a batch of n
+-- keys writes at most 66 n + 1 nodes
 pub record IsUpdate (head : SnapshotValue) (b : Batch) (u : Update) : Type 0 where
   pub map : u.snapshot.map ≡ apply head.map b
   pub version : u.snapshot.version ≡ head.version + 1

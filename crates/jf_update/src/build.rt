@@ -1,4 +1,4 @@
-// The building of new nodes from entries.
+// New nodes are built from entries: no node, a leaf, or an inner node over the entries of each nibble.
 ghost use Rattle.std.specs.Prelude.{◌<◌, ◌≤◌, ℕ, IfOk};
 ghost use Rattle.jf_landing.specs.Parts.{IsPart};
 ghost use Rattle.jf_update.specs.Hashed.{plain, AreHashed};
@@ -10,7 +10,8 @@ use jf_node::{Link, Sixteen};
 use jf_path::{Key, Memory, Nibble};
 use std::alloc::Global;
 
-/// New nodes for entries in order. The pairs that are hashed for them are added to `pairs`.
+/// New nodes for entries in the order of their keys, at a depth in nibbles. The number of pairs hashed for them is
+/// added to `pairs`.
 #[cycle(build)]
 pub(crate) fn build(
     alloc: Global,
@@ -39,7 +40,7 @@ pub(crate) fn build(
     }
 }
 
-/// New nodes for entries in order, one nibble further down.
+/// The new children of a node for entries in the order of their keys, one nibble deeper than the node.
 #[cycle(build)]
 fn build_children(
     alloc: Global,

@@ -1,4 +1,4 @@
-// The child of a node at a nibble, if any.
+// The child of a node at a nibble, and whether a node was there before a landing.
 ghost use Rattle.std.specs.Prelude.{◌≡◌};
 ghost use Rattle.std.specs.Option.{option_copied};
 ghost use Rattle.jf_update.specs.Below.{IsBelow, IsBelowIf, IsKept};
@@ -6,7 +6,7 @@ ghost use Rattle.jf_update.specs.Below.{IsBelow, IsBelowIf, IsKept};
 use jf_node::{Link, Seen};
 use jf_path::Nibble;
 
-/// The child at one nibble.
+/// The child of a node at nibble `n`, if there is one.
 pub(crate) fn child_of(link: &Link, n: Nibble) -> Option<&Link>
     ensures { IsBelow link.now n (option_copied result) }
 {
@@ -16,7 +16,7 @@ pub(crate) fn child_of(link: &Link, n: Nibble) -> Option<&Link>
     }
 }
 
-/// The child at one nibble, if there is a node.
+/// The child of an optional node at nibble `n`, if there is one.
 pub(crate) fn child_in(node: Option<&Link>, n: Nibble) -> Option<&Link>
     ensures { IsBelowIf (option_copied node.entry) n (option_copied result) }
 {

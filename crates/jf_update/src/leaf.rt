@@ -16,7 +16,7 @@ use jf_path::{Bytes, Key, Memory};
 use std::alloc::Global;
 use std::cmp::Ordering;
 
-/// How many keys of the batch are below `key`.
+/// The number of keys of the batch that are below `key`.
 fn place_of(key: &Key, batch: &[(Key, Option<Bytes>)]) -> usize
     ensures { IsPlace key.now batch.now result }
 {
@@ -52,7 +52,7 @@ fn hash_of(own: Option<(&Key, HashedValue<'_>)>, bytes: &[u8]) -> Hash
     jf_hash::value(bytes)
 }
 
-/// Appends what the batch puts.
+/// Appends the entries that the batch puts.
 fn push_puts<'a>(
     entries: &mut Vec<(Key, HashedValue<'a>)>,
     own: Option<(&Key, HashedValue<'_>)>,

@@ -1,5 +1,5 @@
-//! The update of a snapshot by a batch: the next snapshot, the nodes that this writes, and the names of those that it makes
-//! stale.
+//! The update of a snapshot by a batch: the next snapshot, the nodes that it writes, and the names of the nodes that it
+//! makes stale.
 #![tactic(auto)]
 
 mod build;

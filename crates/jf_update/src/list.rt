@@ -1,4 +1,4 @@
-// The walks over what an update made: they list the nodes that it writes and those that it makes stale, in the order of paths.
+// Walks that list, in the order of paths, the nodes that an update wrote and those that it made stale.
 ghost use Rattle.std.specs.Prelude.{◌≡◌, ℕ, ◌-◌, ◌++◌, Option, length, OnOk};
 ghost use Rattle.std.specs.Option.{option_copied};
 ghost use Rattle.jf_hash.specs.Slots.{Part};
@@ -46,8 +46,8 @@ pub(crate) fn list_fresh(
     Ok(())
 }
 
-/// Appends the names of the nodes from `old` down that a landing made stale; `new` stands in its place, and `path` leads
-/// to it.
+/// Appends the names of the nodes from `old` down that a landing made stale. The node `new` stands in its place, and
+/// `path` leads to it.
 pub(crate) fn list_stale(
     old: &Link,
     new: Option<&Link>,

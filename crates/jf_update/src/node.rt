@@ -1,4 +1,4 @@
-// The update of a node.
+// A node is updated by its children, and put over them again if one of them changed.
 ghost use Rattle.std.specs.Prelude.{◌≡◌, ◌<◌, ◌≤◌, ◌++◌, ℕ, [], length, IfOk, IfNone, IfSome};
 ghost use Rattle.std.specs.Option.{option_copied};
 ghost use Rattle.jf_hash.specs.Slots.{Part};
@@ -14,7 +14,7 @@ use jf_node::{Link, Seen, Sixteen};
 use jf_path::{Bytes, Key, Memory, Nibble};
 use std::alloc::Global;
 
-/// The first child.
+/// The child with the least nibble, if there is one.
 fn first_child(children: &Sixteen) -> Option<&Link>
     ensures none { IfNone result (joined children.now ≡ []) }
     ensures some { IfSome result (λ x. (rest : Part) × (joined children.now ≡ x.now.entries ++ rest)) }
@@ -28,8 +28,8 @@ fn first_child(children: &Sixteen) -> Option<&Link>
     None
 }
 
-/// The node over the new children of an inner node, in its place: none, the leaf alone, or an inner node. The pairs
-/// that are hashed for it are added to `pairs`.
+/// The node that takes the place of `old`, over its new children: no node, a leaf moved up, or an inner node. The
+/// number of pairs hashed for it is added to `pairs`.
 pub(crate) fn rebuild(
     alloc: Global,
     old: &Link,
@@ -62,7 +62,7 @@ pub(crate) fn rebuild(
     }
 }
 
-/// Updates the node `old`, or a place without a node, at a depth. The pairs that are hashed for it are added to
+/// Updates the node `old`, or a place without a node, at a depth. The number of pairs hashed for it is added to
 /// `pairs`.
 #[cycle(node)]
 pub(crate) fn update_node(
@@ -119,8 +119,8 @@ fn place(made: &mut NewChildren, n: Nibble, outcome: Outcome)
     }
 }
 
-/// Updates the children of a node; `None` if the batch changes none of them. The pairs that are hashed for
-/// them are added to `pairs`.
+/// Updates the children of a node. Returns `None` if the batch changes none of them. The number of pairs hashed for
+/// them is added to `pairs`.
 #[cycle(node)]
 fn update_children(
     alloc: Global,

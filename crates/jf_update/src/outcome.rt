@@ -1,13 +1,13 @@
-// What an update of a node gives.
+// The outcome of an update of a node, or of its children.
 
 use jf_node::{Link, Sixteen};
 
-/// What an update of a node, or of a place without one, gives.
+/// The outcome of an update of a node, or of a place without one.
 #[derive(Drop)]
 pub(crate) enum Outcome {
     /// The entries are unchanged.
     Same,
-    /// The entries changed: the new node, or none.
+    /// The entries changed: the new node, or `None` if no entry remains.
     New(Option<Link>),
 }
 

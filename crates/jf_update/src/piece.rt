@@ -4,7 +4,7 @@ ghost use Rattle.jf_landing.specs.Parts.{IsPieceEnd};
 
 use jf_path::{Key, Nibble, nibble};
 
-/// How many of these begin with nibble `n` at a depth, before the first that doesn't.
+/// The number of entries at the front of `items` whose keys have nibble `n` at a depth.
 pub(crate) fn piece_end<V>(items: &[(Key, V)], depth: u64, n: Nibble) -> usize
     requires { depth < 64 }
     ensures { IsPieceEnd depth n result items.now }

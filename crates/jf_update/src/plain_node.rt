@@ -7,7 +7,7 @@ use jf_node::{Link, Seen};
 use jf_path::{Bytes, Child, Children, Memory, Nibble, PlainNode};
 use std::alloc::Global;
 
-/// What an inner node writes of its children.
+/// What an inner node says of its children, as it is written.
 fn children_of(alloc: Global, link: &Link) -> Result<Children, Memory>
     requires { 2 ≤ length link.now.entries }
     ensures { IfOk result (λ r. r ≡ children_list link.now) }
@@ -30,7 +30,7 @@ fn children_of(alloc: Global, link: &Link) -> Result<Children, Memory>
     Ok(list)
 }
 
-/// The node by itself.
+/// The node by itself, as it is written.
 pub(crate) fn plain_of(alloc: Global, link: &Link) -> Result<PlainNode, Memory>
     ensures { IfOk result (λ r. r ≡ plain_at link.now []) }
 {

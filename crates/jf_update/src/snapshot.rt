@@ -1,4 +1,4 @@
-// The update of a snapshot.
+// The update of a snapshot: the public calls of this crate.
 ghost use Rattle.std.specs.Prelude.{◌-◌, ◌^◌, ◌<◌, ◌≤◌, IfOk};
 ghost use Rattle.jf_update.specs.Updates.{IsUpdate};
 
@@ -10,9 +10,9 @@ use jf_split::Batch;
 use std::alloc::Global;
 use std::thread::Threads;
 
-/// The version that a batch makes of `head`. Only nodes below which the batch changes something are made anew, and the
-/// top; every other node is shared with `head`. A value is hashed if the batch puts one that wasn't there, and a node
-/// if it is new. For now `rt`, `workers` and `gate` are not used: the caller's thread does the work.
+/// The version after `head`, with the batch applied. Only the top and the nodes below which the batch changes something
+/// are made anew; every other node is shared with `head`. A value is hashed if the batch puts one that wasn't there,
+/// and a node if it is new. For now `rt`, `workers` and `gate` are not used: the caller's thread does the work.
 pub fn update<H: Threads + Sync, G: Gate>(
     rt: &H,
     alloc: Global,
@@ -30,9 +30,9 @@ pub fn update<H: Threads + Sync, G: Gate>(
     Ok(update)
 }
 
-/// The same, and the number of pairs of hashes that were hashed for it, each into the hash of a range of children of a
-/// new node; the hashes of values and of leaves aren't counted. It is the code's own count: each making of a node adds
-/// what it hashed.
+/// The update that `update` returns, and the number of pairs of hashes that were hashed for it, each into the hash of a
+/// range of a new node's places. The hashes of values and of leaves aren't counted. It is the code's own count, with no
+/// clause on it: each making of a node adds what it hashed.
 pub fn update_counted<H: Threads + Sync, G: Gate>(
     rt: &H,
     alloc: Global,

@@ -1,4 +1,4 @@
-// The sorting of names.
+// The names of stale nodes are listed by path, and sorted by version and path.
 ghost use Rattle.std.specs.Prelude.{IfOk};
 ghost use Rattle.std.specs.List.{IsDistinct};
 ghost use Rattle.std.specs.List.Sorted.{IsPermutation};
@@ -8,7 +8,7 @@ ghost use Rattle.jf_path.specs.Names.{name_cmp};
 use jf_path::{Memory, NameList, NodeName};
 use std::alloc::Global;
 
-/// Distinct names in their order.
+/// The names, which are distinct, sorted.
 pub(crate) fn sorted_names(alloc: Global, mut names: Vec<NodeName>) -> Result<NameList, Memory>
     requires { IsDistinct (eq_by_cmp name_cmp) names.items }
     ensures { IfOk result (λ l. IsPermutation names.items l) }

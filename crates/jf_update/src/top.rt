@@ -25,7 +25,7 @@ use jf_node::Link;
 use jf_path::{Bytes, FreshList, Key, Memory, NameList, NibblePath, NodeName, PlainNode};
 use std::alloc::Global;
 
-/// The top after an update, if any, the nodes that the update writes, and the names of those that it makes stale.
+/// The top node after an update, if any, the nodes that the update writes, and the names of those that it makes stale.
 #[derive(Drop)]
 pub(crate) struct TopUpdate {
     pub(crate) top: Option<Link>,
@@ -33,7 +33,7 @@ pub(crate) struct TopUpdate {
     pub(crate) stale: NameList,
 }
 
-/// The name of the top of a version.
+/// The name of the top that a version wrote.
 fn top_name(version: u64) -> NodeName
     ensures version { result.version ≡ version }
     ensures path { result.path ≡ [] }
@@ -62,7 +62,7 @@ fn one_node(alloc: Global, name: NodeName, node: PlainNode) -> Result<FreshList,
     Ok(nodes)
 }
 
-/// What a landing wrote: the top in any case.
+/// The nodes that a landing wrote: at least the top.
 fn fresh_of(alloc: Global, top: Option<&Link>, version: u64) -> Result<FreshList, Memory>
     requires top { IsAtDepth 0 (option_copied top) }
     requires landed { WasLanded version (option_copied top) }
@@ -80,7 +80,7 @@ fn fresh_of(alloc: Global, top: Option<&Link>, version: u64) -> Result<FreshList
     }
 }
 
-/// What a landing made stale: the old top in any case.
+/// The names of the nodes that a landing made stale: at least the old top.
 fn stale_of(
     alloc: Global,
     old: Option<&Link>,
@@ -139,8 +139,7 @@ fn unchanged(alloc: Global, old: Option<&Link>, head: u64) -> Result<TopUpdate, 
     }
 }
 
-/// Updates the top of a version, if any, by a batch.
-/// The pairs that are hashed for it are added to `pairs`.
+/// Updates the top of a version, if any, by a batch. The number of pairs hashed for it is added to `pairs`.
 pub(crate) fn update_top(
     alloc: Global,
     old: Option<&Link>,

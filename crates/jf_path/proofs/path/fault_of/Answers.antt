@@ -1,4 +1,4 @@
--- Each test by itself.
+-- Both tests fail or hold as the definition's do.
 use Rattle.std.proofs.Common.{sym, rules}
 use Rattle.jf_path.proofs.Paths.{fault_of_count, fault_of_length, fault_of_padding, no_fault}
 use Rattle.jf_path.proofs.path.fault_of.Goals.{then-count-gt-MAX_NIBBLES-via-then-count-gt-MAX_NIBBLES, then-count-gt-MAX_NIBBLES-via-else-count-gt-MAX_NIBBLES+then-packed-count, else-count-eq1-via-then-count-eq1+else-packed-count-ne0, else-count-eq1-via-else-count-eq1}

@@ -1,4 +1,4 @@
--- what is left of the way leads from the present hash to where the whole leads
+-- the rest of the way leads from the present hash to the end of the whole way
 use Rattle.std.proofs.Common.{◌≡◌, drop}
 use Rattle.jf_evidence.specs.Proofs.{climb}
 use Rattle.jf_proof.proofs.climbing.climb.Given as goal

@@ -1,4 +1,4 @@
--- One piece more, and at the end the front is the whole.
+-- Each step adds one more piece, and at the end the front is the whole batch.
 use Rattle.std.proofs.Common.{◌<◌, take, get_or, sym, ap, ◌∙◌, subst}
 use Rattle.std.specs.List.{AllWithin}
 use Rattle.std.proofs.lemmas.List.{get_or_read}

@@ -1,4 +1,4 @@
--- The pieces so far are those of the front, whose nibbles are below the one that begins behind it.
+-- The pieces so far are those of the front, whose nibbles are below the next one.
 use Rattle.std.proofs.Common.{◌<◌, ◌≤◌, ◌-◌, length, take, get_or}
 use Rattle.std.specs.List.{AllWithin}
 use Rattle.jf_path.specs.Nibbles.{nibble}

@@ -1,4 +1,4 @@
--- Two cells are a byte.
+-- Two cells make a byte.
 use Rattle.std.proofs.Common.{sym, ◌∙◌, ap, slice_index}
 use Rattle.jf_path.specs.Paths.{packed}
 use Rattle.jf_path.proofs.Kept.{kept_byte}

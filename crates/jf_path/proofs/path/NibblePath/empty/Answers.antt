@@ -1,4 +1,4 @@
--- No nibble, and 64 zeros.
+-- The empty path is 64 zero cells.
 use Rattle.jf_path.proofs.Kept.{IsKept-none}
 use Rattle.jf_path.proofs.path.NibblePath.empty.Goals as goal
 

@@ -1,4 +1,4 @@
--- A path that has these bytes is the one that is found.
+-- The only path with these bytes is the one returned.
 use Rattle.std.proofs.Common.{◌≡◌, ◌∷◌, length, sym, ap, ◌∙◌, rules, Ok}
 use Rattle.jf_path.specs.Paths.{path_bytes, path_fault}
 use Rattle.jf_path.proofs.Paths.{refused_is_no_path, fault_of_none, sound, bytes_of_halves, path_of_halves}

@@ -1,4 +1,4 @@
--- One half more.
+-- One more half of a byte is put into its cell.
 use Rattle.std.proofs.Common.{◌<◌, length, take, sym, ap, ◌∙◌, arith, ◌∷◌, ◌++◌, []}
 use Rattle.std.proofs.lemmas.List.{take_more}
 use Rattle.jf_path.specs.PathLaws.{halves, length-halves}

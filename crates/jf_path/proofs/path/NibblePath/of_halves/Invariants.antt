@@ -1,4 +1,4 @@
--- So many halves of the bytes.
+-- The cells so far hold the first halves of the bytes.
 use Rattle.std.proofs.Common.{◌≡◌, take}
 use Rattle.jf_path.specs.PathLaws.{halves}
 use Rattle.jf_path.proofs.path.NibblePath.of_halves.Given as goal

@@ -1,4 +1,4 @@
--- One nibble more.
+-- One more nibble of the key is put into its cell.
 use Rattle.std.proofs.Common.{◌≡◌, ◌<◌, length, map, sym, ap, subst, ◌∙◌, arith, ◌∷◌, ◌++◌, [], rules}
 use Rattle.std.specs.List.{range_with_len}
 use Rattle.std.proofs.lemmas.List.FromFn.{map-range_with_len_more, length-map-range_with_len}

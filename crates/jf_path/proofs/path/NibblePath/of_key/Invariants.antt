@@ -1,4 +1,4 @@
--- So many nibbles of the key.
+-- The cells so far hold the first nibbles of the key.
 use Rattle.std.proofs.Common.{◌≡◌, map}
 use Rattle.std.specs.List.{range_with_len}
 use Rattle.jf_path.specs.Nibbles.{nibble}

@@ -1,4 +1,4 @@
--- The cell behind the nibbles takes one more.
+-- The cell after the last nibble takes one more.
 use Rattle.std.proofs.Common.{rules}
 use Rattle.jf_path.proofs.Kept.{IsKept-push}
 use Rattle.jf_path.proofs.path.NibblePath.push.Goals as goal

@@ -1,4 +1,4 @@
--- Byte by byte.
+-- The bytes of the path are written one by one.
 use Rattle.std.proofs.Common.{◌≡◌, ◌+◌, ◌/◌, ◌++◌, length, take, drop, set, sym, ap, ◌∙◌, arith, rules}
 use Rattle.std.proofs.lemmas.List.{take_all}
 use Rattle.jf_path.specs.Paths.{path_bytes}

@@ -1,4 +1,4 @@
--- The first bytes are those of the path, and the others stand.
+-- The first bytes are those of the path, and the bytes after them are unchanged.
 use Rattle.std.proofs.Common.{◌≡◌, ◌+◌, ◌++◌, take, drop}
 use Rattle.jf_path.specs.Paths.{path_bytes}
 use Rattle.jf_path.proofs.path.NibblePath.to_bytes.Given as goal

@@ -1,4 +1,4 @@
--- Along the keys of a batch that agree before a depth the nibble there does not fall.
+-- If the keys of a batch agree before a depth, the nibble there doesn't fall along the batch.
 use Rattle.std.proofs.Common.{sym, subst}
 use Rattle.std.specs.List.Sorted.{IsNonDecreasingBy}
 use Rattle.jf_path.specs.Nibbles.{nibble}
