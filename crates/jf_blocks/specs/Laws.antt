@@ -2,14 +2,16 @@
 use Rattle.std.specs.Prelude.{◌≡◌, ℕ, ◌+◌, ◌^◌, ◌<◌, ◌≤◌, length, List, ◌∷◌, ◌++◌, Option, Some, Ok, IfSome}
 use Rattle.std.specs.List.{AllByRecursion}
 use Rattle.hex.specs.Hex.{IsBytes}
+use Rattle.jf_path.specs.Limits.{max_value}
 use Rattle.jf_evidence.specs.declared.proof.Proof.{Proof}
 use Rattle.jf_evidence.specs.declared.range_proof.RangeProof.{RangeProof}
 use Rattle.jf_evidence.specs.Ranges.{Entries}
 use Rattle.jf_io.specs.Lines.{lines}
+use Rattle.jf_text.specs.Words.{max_name, max_chunk}
 use Rattle.jf_script.specs.Replies.{reply_text}
 use Rattle.jf_script.specs.declared.reply.Reply.TheVariants as reply
 use Rattle.jf_blocks.specs.Blocks.{proof_lines, chunk_lines}
-use Rattle.jf_blocks.specs.Reading.{line_read, first_of, proof_block, chunk_of, chunk_body}
+use Rattle.jf_blocks.specs.Reading.{max_siblings, line_read, first_of, proof_block, chunk_of, chunk_body}
 use Rattle.jf_blocks.specs.declared.chunk.ChunkHead.{ChunkHead}
 use Rattle.jf_blocks.specs.declared.first.FirstLine.TheVariants as first
 
@@ -21,8 +23,8 @@ IsHash h = (length h ≡ 32) × IsBytes h
 pub record IsTold (name : List ℕ) (claim : Option (List ℕ)) (proof : Proof) : Type 0 where
   pub bytes : IsBytes name
   pub least : 1 ≤ length name
-  pub most : length name ≤ 128
-  pub value : IfSome claim (λ v. IsBytes v × (length v ≤ 4096))
+  pub most : length name ≤ max_name
+  pub value : IfSome claim (λ v. IsBytes v × (length v ≤ max_value))
   pub leaf : IfSome proof.leaf (λ l. IsHash l.0 × IsHash l.1)
   pub siblings : AllByRecursion IsHash proof.siblings
 
@@ -34,14 +36,14 @@ BlocksAreReadBack = (name : List ℕ) (claim : Option (List ℕ)) (proof : Proof
 
 -- the reply of a proof is read as the first line of its block
 abbrev pub RepliesBeginBlocks : Type 0
-RepliesBeginBlocks = (n siblings : ℕ) (rest : List ℕ) → n < 2 ^ 64 → siblings ≤ 65535
+RepliesBeginBlocks = (n siblings : ℕ) (rest : List ℕ) → n < 2 ^ 64 → siblings ≤ max_siblings
     → (line : List ℕ) × (lines (reply_text n (reply.Proof siblings) ++ rest) ≡ line ∷ lines rest) × (line_read first_of line ≡ Some (first.Proof siblings))
 
 -- ---- chunks
 
 -- what a chunk block can hold: keys of 32 bytes, values of at most 4,096, and siblings of 32
 pub record IsChunk (es : Entries) (proof : RangeProof) : Type 0 where
-  pub entries : AllByRecursion (λ e. IsHash e.0 × IsBytes e.1 × (length e.1 ≤ 4096)) es
+  pub entries : AllByRecursion (λ e. IsHash e.0 × IsBytes e.1 × (length e.1 ≤ max_value)) es
   pub siblings : AllByRecursion IsHash proof.siblings
 
 -- what the first line of a chunk block says
@@ -56,7 +58,7 @@ ChunksAreReadBack = (es : Entries) (proof : RangeProof) (at : ℕ) (rest : List 
 
 -- the reply of a chunk is read as the first line of its block
 abbrev pub RepliesBeginChunks : Type 0
-RepliesBeginChunks = (n entries depth siblings : ℕ) (rest : List ℕ) → n < 2 ^ 64 → entries ≤ 1000 → depth ≤ 65535 → siblings ≤ 65535
+RepliesBeginChunks = (n entries depth siblings : ℕ) (rest : List ℕ) → n < 2 ^ 64 → entries ≤ max_chunk → depth ≤ max_siblings → siblings ≤ max_siblings
     → (line : List ℕ) × (lines (reply_text n (reply.Chunk entries depth siblings) ++ rest) ≡ line ∷ lines rest)
     × (line_read chunk_of line ≡ Some (record { entries = entries; depth = depth; siblings = siblings }))
 

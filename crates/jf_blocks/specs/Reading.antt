@@ -3,10 +3,14 @@ use Rattle.std.specs.Prelude.{ℕ, zero, suc, ◌+◌, if◌then◌else◌, ◌&
 use Rattle.jf_evidence.specs.declared.proof.Proof.{Proof}
 use Rattle.jf_evidence.specs.declared.range_proof.RangeProof.{RangeProof}
 use Rattle.jf_evidence.specs.Ranges.{Entry, Entries}
-use Rattle.jf_text.specs.Words.{words, is_word, is_long, both, number, number_upto, name_of, hash_of, value_of}
+use Rattle.jf_text.specs.Words.{max_chunk, words, is_word, is_long, both, number, number_upto, name_of, hash_of, value_of}
 use Rattle.jf_blocks.specs.declared.chunk.ChunkHead.{ChunkHead}
 use Rattle.jf_blocks.specs.declared.first.FirstLine.{FirstLine}
 use Rattle.jf_blocks.specs.declared.first.FirstLine.TheVariants as first
+
+-- the most siblings of a block, and the greatest depth of a chunk's proof
+abbrev pub max_siblings : ℕ
+max_siblings = 65535
 
 -- ---- the words of a line
 
@@ -48,7 +52,7 @@ root_of ws = option_and_then hash_of (word_after (codes "root") (without_number 
 
 -- the first line of a proof block: `proof` and how many siblings follow
 abbrev pub count_of : List (List ℕ) → Option ℕ
-count_of ws = option_and_then (number_upto 65535) (word_after (codes "proof") (without_number ws))
+count_of ws = option_and_then (number_upto max_siblings) (word_after (codes "proof") (without_number ws))
 
 -- a line between blocks: it sets the root or begins a proof block
 abbrev pub first_of : List (List ℕ) → Option FirstLine
@@ -84,7 +88,7 @@ side_of ws = option_and_then hash_of (word_after (codes "side") ws)
 
 -- three words as the number of entries, the depth in bits and the number of siblings
 abbrev pub head_of : List ℕ × List ℕ × List ℕ → Option ChunkHead
-head_of p = option_and_then (λ n. both (λ d s. record { entries = n; depth = d; siblings = s }) (number_upto 65535 p.1) (number_upto 65535 p.2)) (number_upto 1000 p.0)
+head_of p = option_and_then (λ n. both (λ d s. record { entries = n; depth = d; siblings = s }) (number_upto max_siblings p.1) (number_upto max_siblings p.2)) (number_upto max_chunk p.0)
 
 -- the first line of a chunk block: `chunk` and its three numbers
 abbrev pub chunk_of : List (List ℕ) → Option ChunkHead

@@ -1,30 +1,24 @@
 // The first line and the entry lines of a chunk block, each given without its line feed (docs/FORMATS.md, Chunk
 // blocks).
 ghost use Rattle.std.specs.Prelude.{◌≡◌, ◌≤◌, length, IfOk, IfSome};
+ghost use Rattle.jf_path.specs.Limits.{max_value};
 ghost use Rattle.jf_text.specs.Words.{words};
 ghost use Rattle.jf_blocks.specs.Reading.{line_read, head_of, chunk_of, keyed_of, entry_of};
 
 use crate::first::{MAX_SIBLINGS, without_number};
-use crate::lines::LONGEST;
 use crate::word::{three_after, two_after};
 use jf_path::{Bytes, Key, Memory};
-use jf_text::{hash_of, number_from, value_of};
+use jf_text::{MAX_CHUNK, MAX_LINE, hash_of, number_from, value_of};
 use std::alloc::Global;
-
-/// The most entries that a block may have.
-const MAX_ENTRIES: u64 = 1_000;
-
-/// The greatest depth that a first line may have, in bits.
-const MAX_DEPTH: u64 = MAX_SIBLINGS;
 
 /// What the first line of a chunk block says.
 #[derive(Clone, Copy, Debug, PartialEq, Eq)]
 pub struct ChunkHead {
-    /// How many entries follow, at most 1,000.
+    /// How many entries follow, at most `MAX_CHUNK` of `jf_text`.
     pub entries: u64,
-    /// The depth of the proof in bits, at most 65,535.
+    /// The depth of the proof in bits, at most [`MAX_SIBLINGS`].
     pub depth: u64,
-    /// How many siblings follow, at most 65,535.
+    /// How many siblings follow, at most [`MAX_SIBLINGS`].
     pub siblings: u64,
 }
 
@@ -33,7 +27,7 @@ pub struct ChunkHead {
 pub fn chunk_line(line: &[u8]) -> Option<ChunkHead>
     ensures { result ≡ line_read chunk_of line.now }
 {
-    if line.len() > LONGEST {
+    if line.len() > MAX_LINE {
         return None;
     }
     let text = without_number(line)?;
@@ -45,8 +39,8 @@ pub fn chunk_line(line: &[u8]) -> Option<ChunkHead>
 fn head_of(entries: &[u8], depth: &[u8], siblings: &[u8]) -> Option<ChunkHead>
     ensures { result ≡ head_of (entries.now, depth.now, siblings.now) }
 {
-    let entries = number_from(0, MAX_ENTRIES, entries)?;
-    let depth = number_from(0, MAX_DEPTH, depth)?;
+    let entries = number_from(0, MAX_CHUNK, entries)?;
+    let depth = number_from(0, MAX_SIBLINGS, depth)?;
     let siblings = number_from(0, MAX_SIBLINGS, siblings)?;
     Some(ChunkHead {
         entries,
@@ -59,9 +53,9 @@ fn head_of(entries: &[u8], depth: &[u8], siblings: &[u8]) -> Option<ChunkHead>
 /// and for one of more than 8,500 bytes.
 pub fn entry_line(alloc: Global, line: &[u8]) -> Result<Option<(Key, Bytes)>, Memory>
     ensures entry { IfOk result (λ entry. entry ≡ line_read entry_of line.now) }
-    ensures short { IfOk result (λ entry. IfSome entry (λ e. length e.1 ≤ 4096)) }
+    ensures short { IfOk result (λ entry. IfSome entry (λ e. length e.1 ≤ max_value)) }
 {
-    if line.len() > LONGEST {
+    if line.len() > MAX_LINE {
         return Ok(None);
     }
     match two_after(b"entry", line) {
@@ -73,7 +67,7 @@ pub fn entry_line(alloc: Global, line: &[u8]) -> Result<Option<(Key, Bytes)>, Me
 /// Two words as a key and a value.
 fn keyed_of(alloc: Global, key: &[u8], value: &[u8]) -> Result<Option<(Key, Bytes)>, Memory>
     ensures entry { IfOk result (λ entry. entry ≡ keyed_of (key.now, value.now)) }
-    ensures short { IfOk result (λ entry. IfSome entry (λ e. length e.1 ≤ 4096)) }
+    ensures short { IfOk result (λ entry. IfSome entry (λ e. length e.1 ≤ max_value)) }
 {
     let Some(key) = hash_of(key) else {
         return Ok(None);

@@ -2,22 +2,21 @@
 ghost use Rattle.std.specs.Prelude.{◌≡◌, ◌&&◌, [], is_some, option_and_then, codes};
 ghost use Rattle.std.specs.Option.{option_map_or};
 ghost use Rattle.jf_text.specs.Words.{words, is_word, number, number_upto, hash_of};
-ghost use Rattle.jf_blocks.specs.Reading.{line_read, first_of, without_number, word_after};
+ghost use Rattle.jf_blocks.specs.Reading.{max_siblings, line_read, first_of, without_number, word_after};
 
-use crate::lines::LONGEST;
 use crate::word::word_after;
 use jf_hash::Hash;
-use jf_text::{hash_of, is_word, number_from, split_word};
+use jf_text::{MAX_LINE, hash_of, is_word, number_from, split_word};
 
-/// The most siblings that a block may have.
-pub(crate) const MAX_SIBLINGS: u64 = 65_535;
+/// The most siblings that a block may have, and the greatest depth in bits that a chunk's first line may tell.
+pub const MAX_SIBLINGS: u64 = 65_535;
 
 /// What the first line of a block, or a line that sets the root, says.
 #[derive(Clone, Copy, Debug, PartialEq, Eq)]
 pub enum FirstLine {
     /// The root that the blocks to come are judged by.
     Root(Hash),
-    /// A block with this many siblings begins, at most 65,535.
+    /// A block with this many siblings begins, at most [`MAX_SIBLINGS`].
     Proof(u64),
 }
 
@@ -26,7 +25,7 @@ pub enum FirstLine {
 pub fn first_line(line: &[u8]) -> Option<FirstLine>
     ensures { result ≡ line_read first_of line.now }
 {
-    if line.len() > LONGEST {
+    if line.len() > MAX_LINE {
         return None;
     }
     let text = without_number(line)?;
@@ -69,7 +68,7 @@ fn root_of(text: &[u8]) -> Option<Hash>
 
 /// The number after `proof`.
 fn count_of(text: &[u8]) -> Option<u64>
-    ensures { result ≡ option_and_then (number_upto 65535) (word_after (codes "proof") (words text.now)) }
+    ensures { result ≡ option_and_then (number_upto max_siblings) (word_after (codes "proof") (words text.now)) }
 {
     number_from(0, MAX_SIBLINGS, word_after(b"proof", text)?)
 }

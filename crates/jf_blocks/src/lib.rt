@@ -12,7 +12,7 @@ mod writing;
 
 pub use chunk::{ChunkHead, chunk_line, entry_line};
 pub use chunk_text::write_chunk;
-pub use first::{FirstLine, first_line};
+pub use first::{FirstLine, MAX_SIBLINGS, first_line};
 pub use laws::{
     blocks_are_read_back, chunks_are_read_back, replies_begin_blocks, replies_begin_chunks,
     replies_set_roots,

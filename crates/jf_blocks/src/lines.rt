@@ -6,17 +6,14 @@ ghost use Rattle.jf_blocks.specs.Reading.{line_read, named_of, claimed, claim_of
 use crate::word::{two_after, word_after};
 use jf_hash::Hash;
 use jf_path::{Bytes, Key, Memory};
-use jf_text::{hash_of, is_word, name_of, value_of};
+use jf_text::{MAX_LINE, hash_of, is_word, name_of, value_of};
 use std::alloc::Global;
-
-/// The greatest number of bytes of a line that may match.
-pub(crate) const LONGEST: usize = 8500;
 
 /// The name of a line `name NAME`. `None` for any other line, and for one of more than 8,500 bytes.
 pub fn name_line(alloc: Global, line: &[u8]) -> Result<Option<Bytes>, Memory>
     ensures { IfOk result (λ name. name ≡ line_read named_of line.now) }
 {
-    if line.len() > LONGEST {
+    if line.len() > MAX_LINE {
         return Ok(None);
     }
     match word_after(b"name", line) {
@@ -29,7 +26,7 @@ pub fn name_line(alloc: Global, line: &[u8]) -> Result<Option<Bytes>, Memory>
 pub fn claim_line(alloc: Global, line: &[u8]) -> Result<Option<Option<Bytes>>, Memory>
     ensures { IfOk result (λ claim. claim ≡ line_read claim_of line.now) }
 {
-    if line.len() > LONGEST {
+    if line.len() > MAX_LINE {
         return Ok(None);
     }
     match word_after(b"claim", line) {
@@ -53,7 +50,7 @@ fn claimed(alloc: Global, word: &[u8]) -> Result<Option<Option<Bytes>>, Memory>
 pub fn leaf_line(line: &[u8]) -> Option<Option<(Key, Hash)>>
     ensures { result ≡ line_read leaf_of line.now }
 {
-    if line.len() > LONGEST {
+    if line.len() > MAX_LINE {
         return None;
     }
     if let Some(word) = word_after(b"leaf", line) {
@@ -81,7 +78,7 @@ fn pair_of(key: &[u8], hash: &[u8]) -> Option<(Key, Hash)>
 pub fn side_line(line: &[u8]) -> Option<Hash>
     ensures { result ≡ line_read side_of line.now }
 {
-    if line.len() > LONGEST {
+    if line.len() > MAX_LINE {
         return None;
     }
     hash_of(word_after(b"side", line)?)

@@ -2,10 +2,11 @@
 use Rattle.std.specs.Prelude.{◌≡◌, ℕ, ◌^◌, ◌<◌, ◌≤◌, false, length, List, ◌++◌, Option, Some, IfSome, codes}
 use Rattle.std.specs.FinMap.{get}
 use Rattle.hex.specs.Hex.{IsBytes}
+use Rattle.jf_path.specs.Limits.{max_value}
 use Rattle.jf_hash.specs.Hashes.{K}
 use Rattle.jf_model.specs.Versions.{IsVersions}
 use Rattle.jf_model.specs.States.{State}
-use Rattle.jf_text.specs.Words.{is_long}
+use Rattle.jf_text.specs.Words.{max_name, is_long}
 use Rattle.jf_script.specs.Commands.{command_of}
 use Rattle.jf_script.specs.declared.command.Base.{Base}
 use Rattle.jf_script.specs.declared.command.Base.TheVariants as base
@@ -23,12 +24,12 @@ IsKept s (base.Version w) = (s.retired ≤ w) × (w ≤ s.all.head)
 IsKept s (base.Fork id) = ⊥
 IsKept s (base.Place place) = ⊥
 
--- a name of 1 to 128 bytes, and a value, if there is one, of at most 4,096: what lines can carry
+-- a name, and a value, if there is one, that are no longer than they may be: what lines can carry
 pub record Fits (name : List ℕ) (value : Option (List ℕ)) : Type 0 where
   pub bytes : IsBytes name
   pub least : 1 ≤ length name
-  pub most : length name ≤ 128
-  pub small : IfSome value (λ v. length v ≤ 4096)
+  pub most : length name ≤ max_name
+  pub small : IfSome value (λ v. length v ≤ max_value)
 
 -- two lines ask for the root of a version and for the proof of a name in it
 pub record Asks (root_line prove_line : List ℕ) (on : Base) (name : List ℕ) : Type 0 where

@@ -2,6 +2,7 @@
 use Rattle.std.specs.Prelude.{◌≡◌, ℕ, zero, suc, ◌+◌, ◌-◌, ◌/◌, Bool, not, ◌&&◌, ◌||◌, ◌⊎◌, List, [], ◌∷◌, length, take, drop, Result, Ok, Err, nat_lt, ◌==◌, if◌then◌else◌, bit_and}
 use Rattle.std.specs.Bool.{beq}
 use Rattle.std.specs.Int.{Width, w16, w32, w64, byte_len, from_be_bytes, bit_at, is_power_of_two}
+use Rattle.jf_path.specs.Limits.{max_value}
 use Rattle.jf_path.specs.Paths.{has_padding}
 use Rattle.jf_path.specs.PathLaws.{halves}
 use Rattle.jf_path.specs.declared.name.NodeName.{NodeName}
@@ -79,7 +80,7 @@ name_at bytes = do
 unfoldable pub value_at : List ℕ → Result (List ℕ × List ℕ) CodecFault
 value_at bytes = do
   n ← four_at bytes
-  if nat_lt 4096 n.0 then Err fault.Length else bytes_at n.0 n.1
+  if nat_lt max_value n.0 then Err fault.Length else bytes_at n.0 n.1
 
 -- a leaf, after its tag: its key of 32 bytes, then its value
 unfoldable pub leaf_at : List ℕ → Result (PlainNode × List ℕ) CodecFault

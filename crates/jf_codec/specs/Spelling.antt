@@ -1,6 +1,7 @@
 -- Names and nodes in bytes (docs/FORMATS.md, "Names and nodes in bytes").
 use Rattle.std.specs.Prelude.{◌≡◌, ℕ, ◌+◌, ◌<◌, ◌≤◌, ◌^◌, ◌↔◌, Bool, false, ◌==◌, if◌then◌else◌, IsTrue, List, [], ◌∷◌, ◌++◌, filter, flat_map, length}
 use Rattle.std.specs.List.{AllByRecursion}
+use Rattle.jf_path.specs.Limits.{max_value}
 use Rattle.jf_path.specs.Keys.{IsKey, IsBytes}
 use Rattle.jf_path.specs.Paths.{path_bytes}
 use Rattle.jf_path.specs.Nodes.{RiseFrom}
@@ -70,7 +71,7 @@ AreEnough (c ∷ d ∷ cs) = Unit {0}
 -- a node can be spelled in a format
 abbrev pub IsNode : Format → PlainNode → Type 0
 IsNode fmt node.Null = Unit {0}
-IsNode fmt (node.Leaf key value) = IsKey key × IsBytes value × (length value ≤ 4096)
+IsNode fmt (node.Leaf key value) = IsKey key × IsBytes value × (length value ≤ max_value)
 IsNode fmt (node.Inner cs) = AreEnough cs × RiseFrom 0 cs × AllByRecursion (IsChild fmt) cs
 
 -- the format of children: format 2 if the first of them has a count

@@ -9,7 +9,7 @@ use crate::fault::CodecFault;
 use crate::fields::{front_of, key_at, u32_at, u64_at};
 use crate::format::Format;
 use crate::tags::{COUNTED, INNER, LEAF, NULL};
-use jf_path::{Bytes, Child, Children, Nibble, PlainNode};
+use jf_path::{Bytes, Child, Children, MAX_VALUE, Nibble, PlainNode};
 use std::alloc::Global;
 
 // A value of at most 4,096 bytes, which follows its length in four bytes.
@@ -18,7 +18,7 @@ fn value_of(bytes: &[u8]) -> Result<(&[u8], &[u8]), CodecFault>
     ensures { Reads (λ x. (x.0.now, x.1.now)) result (value_at bytes.now) }
 {
     let (length, rest) = u32_at(bytes)?;
-    if length > 4_096 {
+    if u64::from(length) > MAX_VALUE {
         return Err(CodecFault::Length);
     }
     front_of(length as usize, rest)

@@ -1,6 +1,7 @@
 // A node is written in one format; in format 1 the counts of its children are left out.
 ghost use Rattle.std.specs.Prelude.{◌≡◌, ◌++◌, ◌∷◌, ◌<◌, ◌≤◌, [], length, flat_map, OnOk, OnErr};
 ghost use Rattle.std.specs.List.{AllByRecursion};
+ghost use Rattle.jf_path.specs.Limits.{max_value};
 ghost use Rattle.jf_codec.specs.Numbers.{four_bytes};
 ghost use Rattle.jf_path.specs.Nodes.{RiseFrom};
 ghost use Rattle.jf_path.specs.declared.node.PlainNode.TheVariants as node;
@@ -116,7 +117,7 @@ fn put_inner(out: &mut Bytes, format: Format, children: &[Child]) -> Result<(), 
 // Adds a leaf.
 #[tactic(auto, using(crate::proofs::Adding::keeps_same, crate::proofs::Adding::keeps_more))]
 fn put_leaf(out: &mut Bytes, key: &Key, value: &[u8]) -> Result<(), Memory>
-    requires { length value.now ≤ 4096 }
+    requires { length value.now ≤ max_value }
     ensures ok { OnOk result (out.new ≡ out.old ++ 1 ∷ key.now ++ four_bytes (length value.now) ++ value.now) }
     ensures err { OnErr result (Keeps out.old out.new) }
 {

@@ -1,6 +1,8 @@
 // The table of forks: all live forks, and the limits on them.
 ghost use Rattle.std.specs.Prelude.{◌≡◌, ℕ, true, ◌+◌, ◌^◌, ◌<◌, ◌≤◌, ◌∷◌, ◌++◌, [], length, map, IfOk, IfErr, IfSome, OnOk, OnErr, Some, None, Err};
 ghost use Rattle.std.specs.Result.{result_err};
+ghost use Rattle.jf_split.specs.Limits.{max_keys};
+ghost use Rattle.jf_path.specs.Limits.{max_forks};
 ghost use Rattle.jf_hash.specs.Maps.{Map, apply};
 ghost use Rattle.jf_hash.specs.Roots.{root};
 ghost use Rattle.jf_model.specs.Batches.{key_count};
@@ -15,16 +17,11 @@ use crate::live::{LiveFork, is_live, push_first, tree_of, tree_over};
 use jf_hash::Hash;
 use jf_model::Parent;
 use jf_node::Snapshot;
+use jf_path::MAX_FORKS;
 use jf_spec::SpecTree;
-use jf_split::{Batch, BatchList};
+use jf_split::{Batch, BatchList, MAX_KEYS};
 use std::alloc::Global;
 use std::marker::Model;
-
-// The most forks that may be live.
-const MAX_LIVE: usize = 1_024;
-
-// The most keys that may land together.
-const MAX_KEYS: u64 = 10_000;
 
 /// A new fork: its number, and the root of its map.
 #[derive(Clone, Copy, Debug, PartialEq, Eq)]
@@ -155,7 +152,7 @@ impl ForkTable {
                 return Some(fault);
             }
         }
-        if self.live.len() >= MAX_LIVE {
+        if self.live.len() as u64 >= MAX_FORKS {
             Some(ForkFault::Full)
         } else {
             None
@@ -167,7 +164,7 @@ impl ForkTable {
     pub fn chain(&self, alloc: Global, id: u64) -> Result<BatchList, ForkFault>
         ensures chain { IfOk result (λ list. list ≡ batches (chain (forks_of self.now.live) id)) }
         ensures may { OnOk result (chain_fault id self.now ≡ None) }
-        ensures bounded { IfOk result (λ list. (1 ≤ length list) × (length list ≤ 1024) × (key_count list ≤ 10000)) }
+        ensures bounded { IfOk result (λ list. (1 ≤ length list) × (length list ≤ max_forks) × (key_count list ≤ max_keys)) }
         ensures refused { RefusedBy (chain_fault id self.now) result }
     {
         if let Some(fault) = self.chain_fault(id) {
@@ -186,7 +183,7 @@ impl ForkTable {
             return Some(fault);
         }
         let keys = chain_keys(&self.live, id);
-        if keys > MAX_KEYS {
+        if keys > MAX_KEYS as u64 {
             Some(ForkFault::TooMany(keys))
         } else {
             None

@@ -2,6 +2,8 @@
 use Rattle.std.specs.Prelude.{◌≡◌, ℕ, ◌+◌, ◌-◌, ◌<◌, ◌≤◌, ◌^◌, IsTrue, List, [], ◌∷◌, ◌++◌, length}
 use Rattle.std.proofs.Common.{refl}
 use Rattle.std.specs.FinMap as fin
+use Rattle.jf_split.specs.Limits.{max_keys}
+use Rattle.jf_path.specs.Limits.{max_forks}
 use Rattle.jf_hash.specs.Maps.{Batch, apply, IsBatch}
 use Rattle.jf_hash.specs.Roots.{root}
 use Rattle.jf_model.specs.Batches.{key_count}
@@ -53,14 +55,14 @@ IsLive s id = IsTrue (is_among id s.forks)
 pub record IsMaking (s : State) (fork : ℕ) (parent : Parent) (batch : Batch) (r : List ℕ) : Type 0 where
   pub next : fork ≡ s.made
   pub stands : IsTrue (is_parent parent s.forks)
-  pub room : length s.forks < 1024
+  pub room : length s.forks < max_forks
   pub sound : IsBatch batch
   pub rooted : r ≡ root (apply (parent_map (newest s.all) s.forks parent) batch)
 
 -- what may land: a batch, or a live fork whose chain has at most 10,000 keys
 abbrev pub MayLand : State → Landing → Type 0
 MayLand s (landing.Direct batch) = IsBatch batch
-MayLand s (landing.Fork id) = IsLive s id × (key_count (batches (chain s.forks id)) ≤ 10000)
+MayLand s (landing.Fork id) = IsLive s id × (key_count (batches (chain s.forks id)) ≤ max_keys)
 
 -- a landing starts from a map of at most 2^62 entries, and makes a version for each of its batches
 pub record IsLanding (s : State) (version : ℕ) (how : Landing) (r : List ℕ) : Type 0 where

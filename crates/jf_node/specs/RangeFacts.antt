@@ -1,6 +1,7 @@
 -- What holds of every range, whoever made it.
 use Rattle.std.specs.Prelude.{◌^◌, ◌<◌, ◌≤◌, length}
 use Rattle.std.specs.List.{AllByRecursion}
+use Rattle.jf_path.specs.Limits.{max_value}
 use Rattle.jf_path.specs.Keys.{IsBytes}
 use Rattle.jf_hash.specs.Parts.{IsPart}
 use Rattle.jf_node.specs.RangeValue.{RangeValue}
@@ -13,4 +14,4 @@ pub record IsRangeValue (v : RangeValue) : Type 0 where
   pub bounded : length v.entries < 2 ^ 64
   pub part : IsPart v.depth v.entries
   pub values : AllByRecursion (λ e. IsBytes e.1) v.entries
-  pub short : AllByRecursion (λ e. length e.1 ≤ 4096) v.entries
+  pub short : AllByRecursion (λ e. length e.1 ≤ max_value) v.entries

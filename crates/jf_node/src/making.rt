@@ -1,6 +1,7 @@
 // Links are made from an entry, from children, or from an older link.
 ghost use Rattle.std.specs.Prelude.{◌≡◌, ◌*◌, ◌<◌, ◌≤◌, length, IfOk};
 ghost use Rattle.std.specs.List.{count_by};
+ghost use Rattle.jf_path.specs.Limits.{max_value};
 ghost use Rattle.jf_hash.specs.Hashes.{L, V};
 ghost use Rattle.jf_hash.specs.Ranges.{range_hashes};
 ghost use Rattle.jf_hash.specs.Slots.{slots_of};
@@ -32,7 +33,7 @@ impl Link {
         value_hash: &Hash,
     ) -> Result<Link, Memory>
         requires depth { depth ≤ 64 }
-        requires short { length value.now ≤ 4096 }
+        requires short { length value.now ≤ max_value }
         requires hashed { value_hash.now ≡ V value.now }
         ensures { IfOk result (λ x. x ≡ leaf_value version depth key.now value.now) }
     {
@@ -51,7 +52,7 @@ impl Link {
         hash: Hash,
     ) -> Result<Link, Memory>
         requires depth { depth ≤ 64 }
-        requires short { length value.now ≤ 4096 }
+        requires short { length value.now ≤ max_value }
         requires hashed { value_hash.now ≡ V value.now }
         requires hash { hash ≡ L key.now value_hash.now }
         ensures { IfOk result (λ x. x ≡ leaf_value version depth key.now value.now) }

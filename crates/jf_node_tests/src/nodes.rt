@@ -187,7 +187,8 @@ fn a_leaf_is_moved(rt: HostRuntime) -> Result<(), Fail> {
 fn has_ranges(link: &Link) -> bool
     requires { 2 ≤ length link.now.entries }
 {
-    link.range_hash(0, 1) == empty() && link.hash() == inner(&link.range_hash(0, 8), &link.range_hash(8, 8))
+    link.range_hash(0, 1) == empty()
+        && link.hash() == inner(&link.range_hash(0, 8), &link.range_hash(8, 8))
 }
 
 #[test]

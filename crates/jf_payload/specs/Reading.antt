@@ -2,6 +2,7 @@
 use Rattle.std.specs.Prelude.{◌≡◌, ℕ, zero, suc, ◌+◌, ◌-◌, ◌^◌, Bool, true, false, not, ◌&&◌, List, [], ◌∷◌, ◌++◌, map, length, Option, Some, None, Result, Ok, Err, nat_le, nat_lt, ◌==◌, if◌then◌else◌}
 use Rattle.std.specs.List.{list_all}
 use Rattle.std.specs.Result.{result_ok}
+use Rattle.jf_path.specs.Limits.{max_forks}
 use Rattle.jf_path.specs.Names.{rise}
 use Rattle.jf_path.specs.declared.name.NodeName.{NodeName}
 use Rattle.jf_path.specs.declared.children.Child.{Child}
@@ -177,7 +178,7 @@ checkpoint_at fmt = seen_as checkpoint_from (both_at (both_at numbers_at roots_a
 
 -- a group has 2 to 1,024 landings
 abbrev pub is_group : ℕ → Bool
-is_group n = nat_le 2 n && nat_le n 1024
+is_group n = nat_le 2 n && nat_le n max_forks
 
 -- a group: a list of landings whose versions rise by one
 unfoldable pub group_at : Format → Front (List Commit)

@@ -1,6 +1,7 @@
 -- The payloads of records, in both formats (docs/FORMATS.md, "Records of nodes in bytes").
 use Rattle.std.specs.Prelude.{◌≡◌, ℕ, ◌+◌, ◌-◌, ◌<◌, ◌≤◌, ◌^◌, Bool, true, ◌&&◌, ◌==◌, IsTrue, List, [], ◌∷◌, ◌++◌, map, flat_map, length}
 use Rattle.std.specs.List.{AllByRecursion}
+use Rattle.jf_path.specs.Limits.{max_forks}
 use Rattle.jf_path.specs.Keys.{IsKey}
 use Rattle.jf_path.specs.Names.{IsName, rise}
 use Rattle.jf_path.specs.declared.name.NodeName.{NodeName}
@@ -85,7 +86,7 @@ follow (c ∷ d ∷ cs) = (d.version == c.version + 1) && follow (d ∷ cs)
 -- a group can be spelled: 2 to 1,024 landings, whose versions rise by one
 pub record IsGroup (fmt : Format) (cs : List Commit) : Type 0 where
   pub many : 2 ≤ length cs
-  pub few : length cs ≤ 1024
+  pub few : length cs ≤ max_forks
   pub commits : AllByRecursion (IsCommit fmt) cs
   pub versions : IsTrue (follow cs)
 

@@ -10,6 +10,7 @@ use crate::lists::{fresh_list_of, name_list_of};
 use crate::order::push_commit;
 use crate::records::Commit;
 use jf_codec::Format;
+use jf_path::MAX_FORKS;
 use std::alloc::Global;
 
 /// A landing.
@@ -63,7 +64,7 @@ pub(crate) fn group_of(
     ensures { Gives (λ x. (x.0, x.1.now)) result (group_at format bytes.now) }
 {
     let (count, rest) = number_of(bytes)?;
-    if count < 2 || count > 1_024 {
+    if count < 2 || count > MAX_FORKS {
         return Err(RecordFault::Bad);
     }
     let (commits, rest) = commits_of(alloc, format, count, rest)?;

@@ -4,6 +4,7 @@ use Rattle.std.specs.declared.cmp.Ordering.TheVariants.{Less}
 use Rattle.std.specs.List.{AllByRecursion}
 use Rattle.std.specs.FinMap as fin
 use Rattle.std.specs.FinMap.{is_sorted, entries, find}
+use Rattle.jf_path.specs.Limits.{max_value}
 use Rattle.jf_path.specs.Keys.{key_cmp, IsKey, IsBytes}
 use Rattle.jf_hash.specs.Maps.{Map}
 
@@ -11,7 +12,7 @@ use Rattle.jf_hash.specs.Maps.{Map}
 pub record AreEntries (es : List (List ℕ × List ℕ)) : Type 0 where
   pub sorted : T (is_sorted key_cmp es)
   pub sound : AllByRecursion (λ e. IsKey e.0 × IsBytes e.1) es
-  pub short : AllByRecursion (λ e. length e.1 ≤ 4096) es
+  pub short : AllByRecursion (λ e. length e.1 ≤ max_value) es
 
 -- the map of entries
 abbrev pub map_of_entries : List (List ℕ × List ℕ) → Map
@@ -41,4 +42,4 @@ with_put k None es = es
 
 -- each value has at most 4,096 bytes
 abbrev pub IsShort : Map → Type 0
-IsShort m = AllByRecursion (λ e. length e.1 ≤ 4096) (entries m)
+IsShort m = AllByRecursion (λ e. length e.1 ≤ max_value) (entries m)

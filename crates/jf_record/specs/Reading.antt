@@ -2,6 +2,8 @@
 use Rattle.std.specs.Prelude.{◌≡◌, ℕ, zero, suc, Bool, true, ◌&&◌, List, [], ◌∷◌, ◌++◌, length, take, drop, Option, Some, None, Result, Ok, Err, nat_lt, ◌==◌, if◌then◌else◌}
 use Rattle.std.specs.Ordering.{is_lt}
 use Rattle.std.specs.Int.{Width, w32, w64, byte_len, from_be_bytes}
+use Rattle.jf_split.specs.Limits.{max_keys}
+use Rattle.jf_path.specs.Limits.{max_value}
 use Rattle.jf_path.specs.Keys.{key_cmp}
 use Rattle.jf_hash.specs.Maps.{Batch}
 use Rattle.jf_record.specs.declared.fault.RecordFault.{RecordFault}
@@ -47,7 +49,7 @@ eight_at bytes = number_at w64 bytes
 unfoldable pub value_at : List ℕ → Option (List ℕ × List ℕ)
 value_at bytes = do
   n ← four_at bytes
-  if nat_lt 4096 n.0 then None else bytes_at n.0 n.1
+  if nat_lt max_value n.0 then None else bytes_at n.0 n.1
 
 -- the change of a key: a removal, or a value
 unfoldable pub change_at : List ℕ → Option (Option (List ℕ) × List ℕ)
@@ -84,7 +86,7 @@ unfoldable pub landing_in : List ℕ → Option (ℕ × Batch)
 landing_in bytes = do
   version ← eight_at bytes
   count ← eight_at version.1
-  entries ← if nat_lt 10000 count.0 then None else entries_at count.0 [] count.1
+  entries ← if nat_lt max_keys count.0 then None else entries_at count.0 [] count.1
   if length entries.1 == 0 then Some (version.0, entries.0) else None
 
 -- a record of this kind that takes all of the payload

@@ -1,5 +1,6 @@
 // Writing a record gives its whole frame, ready to be appended to a log.
 ghost use Rattle.std.specs.Prelude.{◌≡◌, ◌≤◌, ◌<◌, ◌++◌, ◌^◌, ◌*◌, ◌+◌, length, flat_map, IfOk, IfSome, OnOk};
+ghost use Rattle.jf_path.specs.Limits.{max_value};
 ghost use Rattle.jf_hash.specs.Maps.{IsBatch};
 ghost use Rattle.jf_frame.specs.Framing.{frame, eight_bytes};
 ghost use Rattle.jf_record.specs.Spelling.{kind_of, record_bytes, landing_bytes, entry_bytes, four_bytes, IsRecord};
@@ -53,7 +54,7 @@ fn entries_len(entries: &[(Key, Option<Bytes>)]) -> usize
 // The number of bytes that an entry takes.
 fn entry_len(entry: &(Key, Option<Bytes>)) -> usize
     requires key { length entry.now.0 ≡ 32 }
-    requires limited { IfSome entry.now.1 (λ v. length v ≤ 4096) }
+    requires limited { IfSome entry.now.1 (λ v. length v ≤ max_value) }
     ensures len { result ≡ length (entry_bytes entry.now) }
     ensures bounded { result ≤ 4133 }
 {
@@ -75,7 +76,7 @@ fn put_u64(out: &mut Vec<u8>, number: u64) -> Result<(), Memory>
 // Adds a value: its length in four bytes, then its bytes.
 #[tactic(auto, unfolding(crate::specs::Spelling::four_bytes))]
 fn put_value(out: &mut Vec<u8>, value: &[u8]) -> Result<(), Memory>
-    requires { length value.now ≤ 4096 }
+    requires { length value.now ≤ max_value }
     ensures { OnOk result (out.new.items ≡ out.old.items ++ four_bytes (length value.now) ++ value.now) }
 {
     out.extend_from_slice(&(value.len() as u32).to_be_bytes())?;
@@ -85,7 +86,7 @@ fn put_value(out: &mut Vec<u8>, value: &[u8]) -> Result<(), Memory>
 
 // Adds a key and its change: 00 for a removal; or 01 and the value.
 fn put_entry(out: &mut Vec<u8>, entry: &(Key, Option<Bytes>)) -> Result<(), Memory>
-    requires { IfSome entry.now.1 (λ v. length v ≤ 4096) }
+    requires { IfSome entry.now.1 (λ v. length v ≤ max_value) }
     ensures { OnOk result (out.new.items ≡ out.old.items ++ entry_bytes entry.now) }
 {
     out.extend_from_slice(&entry.0)?;

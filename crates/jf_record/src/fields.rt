@@ -1,12 +1,13 @@
 // A field is read from the front of bytes and returned with the bytes after it. `Bad` if the bytes begin with no such
 // field. Numbers have their highest byte first.
 ghost use Rattle.std.specs.Prelude.{◌≡◌, ◌≤◌, length, IfOk, IfSome, option_map};
+ghost use Rattle.jf_path.specs.Limits.{max_value};
 ghost use Rattle.jf_record.specs.Reading.{Gives, four_at, eight_at, value_at, change_at, entry_at};
 ghost use Rattle.jf_record.specs.Views.{entry_view};
 
 use crate::fault::RecordFault;
-use crate::kinds::{MAX_VALUE, REMOVED, SET};
-use jf_path::Key;
+use crate::kinds::{REMOVED, SET};
+use jf_path::{Key, MAX_VALUE};
 
 /// A key and its change, borrowed from a payload. `None` is a removal.
 #[derive(Clone, Copy)]
@@ -41,11 +42,11 @@ pub(crate) fn u64_at(bytes: &[u8]) -> Result<(u64, &[u8]), RecordFault>
 #[tactic(auto, unfolding(crate::specs::Reading::value_at))]
 fn value_of(bytes: &[u8]) -> Result<(&[u8], &[u8]), RecordFault>
     ensures read { Gives (λ x. (x.0.now, x.1.now)) result (value_at bytes.now) }
-    ensures limited { IfOk result (λ x. length x.0.now ≤ 4096) }
+    ensures limited { IfOk result (λ x. length x.0.now ≤ max_value) }
 {
     let (length, rest) = u32_at(bytes)?;
     let length = length as usize;
-    if length > MAX_VALUE || rest.len() < length {
+    if length as u64 > MAX_VALUE || rest.len() < length {
         return Err(RecordFault::Bad);
     }
     Ok(rest.split_at(length))
@@ -55,7 +56,7 @@ fn value_of(bytes: &[u8]) -> Result<(&[u8], &[u8]), RecordFault>
 #[tactic(auto, unfolding(crate::specs::Reading::change_at))]
 fn change_of(bytes: &[u8]) -> Result<(Option<&[u8]>, &[u8]), RecordFault>
     ensures read { Gives (λ x. (option_map (λ v. v.now) x.0, x.1.now)) result (change_at bytes.now) }
-    ensures limited { IfOk result (λ x. IfSome (option_map (λ v. v.now) x.0) (λ v. length v ≤ 4096)) }
+    ensures limited { IfOk result (λ x. IfSome (option_map (λ v. v.now) x.0) (λ v. length v ≤ max_value)) }
 {
     match bytes {
         [REMOVED, rest @ ..] => Ok((None, rest)),
@@ -71,7 +72,7 @@ fn change_of(bytes: &[u8]) -> Result<(Option<&[u8]>, &[u8]), RecordFault>
 #[tactic(auto, unfolding(crate::specs::Reading::entry_at))]
 pub(crate) fn entry_of(bytes: &[u8]) -> Result<(Entry<'_>, &[u8]), RecordFault>
     ensures read { Gives (λ x. (entry_view x.0, x.1.now)) result (entry_at bytes.now) }
-    ensures limited { IfOk result (λ x. IfSome (entry_view x.0).1 (λ v. length v ≤ 4096)) }
+    ensures limited { IfOk result (λ x. IfSome (entry_view x.0).1 (λ v. length v ≤ max_value)) }
 {
     let Some((key, rest)) = bytes.split_first_chunk::<32>() else {
         return Err(RecordFault::Bad);

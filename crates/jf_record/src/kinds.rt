@@ -13,12 +13,6 @@ pub(crate) const SET: u8 = 1;
 // The byte of a closed gate.
 pub(crate) const CLOSED: u8 = 0;
 
-// The most keys of a commit.
-pub(crate) const MAX_KEYS: u64 = 10_000;
-
-// The greatest length of a value, in bytes.
-pub(crate) const MAX_VALUE: usize = 4_096;
-
 /// A record of a journal. There is one kind.
 #[derive(Debug, Drop)]
 pub enum Record {

@@ -1,16 +1,16 @@
 // The payload of a commit: a version, a count of keys, and each key with its change, in strictly ascending order.
 ghost use Rattle.std.specs.Prelude.{◌≡◌, ◌≤◌, ◌<◌, [], ◌∷◌, ◌++◌, length, true, false, Err, IfSome, IsTrue, OnOk};
 ghost use Rattle.std.specs.FinMap.{put};
+ghost use Rattle.jf_path.specs.Limits.{max_value};
 ghost use Rattle.jf_path.specs.Keys.{key_cmp};
-ghost use Rattle.jf_split.specs.Limits.{is_full};
+ghost use Rattle.jf_split.specs.Limits.{max_keys, is_full};
 ghost use Rattle.jf_record.specs.Reading.{Gives, is_above, entries_at, landing_in};
 ghost use Rattle.jf_record.specs.Views.{entry_view};
 
 use crate::fault::RecordFault;
 use crate::fields::{Entry, entry_of, u64_at};
-use crate::kinds::MAX_KEYS;
 use jf_path::Key;
-use jf_split::{Batch, BatchFault};
+use jf_split::{Batch, BatchFault, MAX_KEYS};
 use std::alloc::Global;
 
 // Whether the key is above each key of the batch.
@@ -26,7 +26,7 @@ fn is_above(key: &Key, batch: &Batch) -> bool
 
 // Adds an entry to the batch.
 fn add(alloc: Global, batch: &mut Batch, entry: &Entry<'_>) -> Result<(), BatchFault>
-    requires limited { IfSome (entry_view entry.now).1 (λ v. length v ≤ 4096) }
+    requires limited { IfSome (entry_view entry.now).1 (λ v. length v ≤ max_value) }
     ensures ok { OnOk result (batch.new ≡ put key_cmp (entry_view entry.now).0 (entry_view entry.now).1 batch.old) }
     ensures full { result ≡ Err BatchFault.Full → IsTrue (is_full (entry_view entry.now).0 batch.old) }
 {
@@ -38,8 +38,8 @@ fn add(alloc: Global, batch: &mut Batch, entry: &Entry<'_>) -> Result<(), BatchF
 
 // Adds an entry to a batch that has room, if its key is above all keys of the batch.
 fn push(alloc: Global, batch: &mut Batch, entry: &Entry<'_>) -> Result<(), RecordFault>
-    requires room { length batch.old < 10000 }
-    requires limited { IfSome (entry_view entry.now).1 (λ v. length v ≤ 4096) }
+    requires room { length batch.old < max_keys }
+    requires limited { IfSome (entry_view entry.now).1 (λ v. length v ≤ max_value) }
     ensures ok { OnOk result ((is_above (entry_view entry.now).0 batch.old ≡ true) × (batch.new ≡ batch.old ++ entry_view entry.now ∷ [])) }
     ensures bad { result ≡ Err RecordFault.Bad → is_above (entry_view entry.now).0 batch.old ≡ false }
 {
@@ -55,7 +55,7 @@ fn push(alloc: Global, batch: &mut Batch, entry: &Entry<'_>) -> Result<(), Recor
 
 // `count` entries, whose keys ascend strictly.
 fn entries_of(alloc: Global, count: u64, bytes: &[u8]) -> Result<(Batch, &[u8]), RecordFault>
-    requires { count ≤ 10000 }
+    requires { count ≤ max_keys }
     ensures { Gives (λ x. (x.0, x.1.now)) result (entries_at count [] bytes.now) }
 {
     let mut batch = Batch::new(alloc);
@@ -75,7 +75,7 @@ pub(crate) fn landing_of(alloc: Global, bytes: &[u8]) -> Result<(u64, Batch), Re
 {
     let (version, rest) = u64_at(bytes)?;
     let (count, rest) = u64_at(rest)?;
-    if count > MAX_KEYS {
+    if count > MAX_KEYS as u64 {
         return Err(RecordFault::Bad);
     }
     let (batch, rest) = entries_of(alloc, count, rest)?;

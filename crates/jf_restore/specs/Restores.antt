@@ -1,6 +1,7 @@
 -- What adding a chunk changes in a restore, and when a restore is whole.
 use Rattle.std.specs.Prelude.{◌≡◌, ◌≢◌, ℕ, ◌≤◌, ◌++◌, length, Some, None}
 use Rattle.std.specs.List.{AllByRecursion}
+use Rattle.jf_path.specs.Limits.{max_value}
 use Rattle.jf_hash.specs.Roots.{part_root}
 use Rattle.jf_evidence.specs.declared.range_proof.RangeProof.{RangeProof}
 use Rattle.jf_evidence.specs.declared.range_proof.RangeFault.TheVariants as fault
@@ -11,7 +12,7 @@ use Rattle.jf_restore.specs.declared.refused.RestoreRefused.TheVariants as refus
 
 -- each value has at most 4,096 bytes
 abbrev pub AreShort : Entries → Type 0
-AreShort es = AllByRecursion (λ e. length e.1 ≤ 4096) es
+AreShort es = AllByRecursion (λ e. length e.1 ≤ max_value) es
 
 -- the restore with more entries after its own
 abbrev pub with_more : RestoreValue → Entries → RestoreValue

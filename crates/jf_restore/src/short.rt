@@ -2,9 +2,7 @@
 ghost use Rattle.std.specs.Prelude.{◌↔◌, IsTrue};
 ghost use Rattle.jf_restore.specs.Restores.{AreShort};
 
-use jf_path::{Bytes, Key, Pairs};
-
-const MAX_VALUE: u64 = 4096;
+use jf_path::{Bytes, Key, MAX_VALUE, Pairs};
 
 /// Whether each value has at most 4,096 bytes, as the values of a chunk must have before it is added.
 pub fn are_short(entries: &Pairs) -> bool

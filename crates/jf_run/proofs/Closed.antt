@@ -1,4 +1,4 @@
--- What a call promises that opened no store: for want of memory, for words that are none of the program's, after an input was judged, or after a refusal.
+-- What a call promises that opened no store: out of memory, for words that aren't taken, to judge, or after a refusal.
 use Rattle.std.proofs.Common.{◌≡◌, ◌⊎◌, inl, inr, ◌≤◌, [], Option, Some, None, refl, sym, subst, ap, ◌∙◌, IsTrue, le_refl, true≢false}
 use Rattle.std.specs.Prelude.{IfSome, IfNone, IsFalse, is_some}
 use Rattle.jf_disk.specs.Disk.{reads}
@@ -27,7 +27,7 @@ verify_opens_none None e = absurd (true≢false (sym e))
 verify_opens_none (Some (mode.Run n)) e = absurd (true≢false (sym e))
 verify_opens_none (Some mode.Verify) e = refl
 
--- a call that left the disk as it was is closed
+-- a call that left the disk unchanged and has no entries is closed
 closed_untouched : (c : ProgramCall) → c.after.disk ≡ c.before.disk → c.entries ≡ [] → (IsFalse (is_verify c.asks) → IsTrue (is_closing c.status)) → IsClosedCall c
 closed_untouched c same none ending = record {
   ending = ending;
@@ -49,7 +49,7 @@ forward_untouched c same none source sink =
       sink_faults = sink;
     }
 
--- no call was made on a device, for want of memory
+-- memory ran out before a call was made on a device
 pub memory_keeps : (c : ProgramCall) → c.after ≡ c.before → c.start ≡ None → c.entries ≡ [] → c.status ≡ status.Memory → KeepsPromises c
 memory_keeps c same start none memory =
     let disk : c.after.disk ≡ c.before.disk = ap (λ (d : Devices). d.disk) same in
@@ -74,7 +74,7 @@ memory_keeps c same start none memory =
       opened = subst (λ o. IfSome o (IsOpenedCall c)) (sym start) tt;
     }
 
--- no call was made on a device, for words that are none of the program's
+-- no call was made on a device, as the program doesn't take the words
 pub usage_keeps : (c : ProgramCall) → c.after ≡ c.before → c.start ≡ None → c.entries ≡ [] → c.status ≡ status.Usage → c.asks ≡ None → KeepsPromises c
 usage_keeps c same start none usage asks =
     let disk : c.after.disk ≡ c.before.disk = ap (λ (d : Devices). d.disk) same in

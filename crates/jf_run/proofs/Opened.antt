@@ -24,7 +24,7 @@ use Rattle.jf_run.proofs.Statuses.{no_damage, no_usage, read_told, write_told, f
 no_fault : (s : Status) → IsFalse (is_disk_fault s) → s ≡ status.DiskFault → ⊥
 no_fault s other is = true≢false (sym (ap is_disk_fault is) ∙ other)
 
--- a session that was begun over the disk, and its run
+-- a session that was begun over the disk, and its run, make an opened call
 pub opened_call : (c : ProgramCall) (head : ℕ) (s : Session) (e : End) → IsBegun s c.before.disk head → c.status ≡ status_of e
     → HasRun e s c.before.rest c.after.rest c.before.text c.after.text c.after.disk.history c.after.disk.moment c.after.disk.faults c.entries
     → FilesStandForOne → ((h : History) → c.before.disk.history ≡ Some h → length h.before ≡ c.before.disk.moment) → IsOpenedCall c head

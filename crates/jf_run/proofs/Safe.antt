@@ -1,4 +1,4 @@
--- At every moment of a run a stop leaves a first part of its entries, or all of them and that of the first line without a reply.
+-- A crash at any moment of a run leaves a first part of its entries, or all and that of the first line without a reply.
 use Rattle.std.proofs.Common.{◌≡◌, ◌⊎◌, inl, inr, ℕ, ◌≤◌, List, [], ◌∷◌, length, Option, Some, refl, sym, subst, ap, ◌∙◌, arith}
 use Rattle.jf_disk.specs.Disk.{History, Files, LeftSince, reads}
 use Rattle.jf_disk.specs.Moments.{all_states, left_now}
@@ -27,7 +27,7 @@ use Rattle.jf_run.proofs.Counting.{told_one}
 use Rattle.jf_run.proofs.Statuses.{rose_later}
 use Rattle.jf_run.proofs.Stopping.{left-within, opened-left, Outlasts-left, front-none, front-all}
 
--- the images of an opening and of a run behind it
+-- the images of an opening and of the run after it are front images
 run_front : (v : Versions) (es : List Entry) (h g k : History) (low high t : ℕ) (f : Files) → StopsWell Opens h g v → IsCalm h → StandsFor (reads h) v → Outlasts (opened v 1) g k es
     → AreWithin low high (moments_of es) → length g.before ≡ low → length h.before ≤ t → LeftSince k t f → IsFrontImage f t (opened v 1) es
 run_front v es h g k low high t f opening calm stands lasts within dated le left =
@@ -36,7 +36,7 @@ run_front v es h g k low high t f opening calm stands lasts within dated le left
       | inr before ↦ front-none v es t low high f within (omega (arith, left-within t (all_states g) f before, dated)) (opened-left h g v t f opening calm stands le before)
     ]
 
--- the end of a run changes no front image, but by a fault of the disk
+-- a run whose images are front images is safe to its end, also if the disk fails there
 ends_safe : (e : End) (v : Versions) (es : List Entry) (mid new : Session) (next : Option (List ℕ)) (k : History) (from faults : ℕ) (own : Own) → EndsBy e mid new next → mid.history ≡ Some k
     → mid.state ≡ replay (opened v 1) es → mid.own ≡ own → faults ≤ mid.faults → ((t : ℕ) → from ≤ t → (f : Files) → LeftSince k t f → IsFrontImage f t (opened v 1) es)
     → IsSafeSince from new.history v es own next (status_of e) faults new.faults
@@ -71,7 +71,7 @@ ends_safe end.DiskFault v es mid new next k from faults own ends told state own_
 ends_safe end.Broken v es mid new next k from faults own ends told state own_is le front = absurd ends
 ends_safe end.Memory v es mid new next k from faults own ends told state own_is le front = record { history = k; told = ends.history ∙ told; leaves = λ t since f left. inl (front t since f left) }
 
--- the images of a run since the store was open
+-- the images of a run since the store was open are front images
 opened_front : (v : Versions) (es : List Entry) (g k : History) (low high t : ℕ) (f : Files) → IsSettledOn g v → Outlasts (opened v 1) g k es → AreWithin low high (moments_of es)
     → length g.before ≡ low → low ≤ t → LeftSince k t f → IsFrontImage f t (opened v 1) es
 opened_front v es g k low high t f settled lasts within dated le left =
@@ -80,7 +80,7 @@ opened_front v es g k low high t f settled lasts within dated le left =
       | inr before ↦ front-none v es t low high f within (omega (arith, left-within t (all_states g) f before, dated)) (settled.leaves f (left_now g t f (omega (arith, dated, le)) before))
     ]
 
--- what is known of a run behind an opening gives that it is safe since a moment from which on its images are front images
+-- a run after an opening is safe since a moment if its images from then on are front images
 run_from : (h : History) (v : Versions) (e : End) (s : Session) (rest rest' text text' : Option (List ℕ)) (disk : Device) (history : Option History) (head moment faults from : ℕ) (es : List Entry)
     → FilesStandForOne → disk.history ≡ Some h → StandsFor (reads h) v → IsBegun s disk head → (run : HasRun e s rest rest' text text' history moment faults es)
     → ((g k : History) → s.history ≡ Some g → IsSettledOn g v → Outlasts (opened v 1) g k es → AreWithin s.moment run.ran.mid.moment (moments_of es) → (t : ℕ) → from ≤ t → (x : Files) → LeftSince k t x → IsFrontImage x t (opened v 1) es)
@@ -103,7 +103,7 @@ run_from h v e s rest rest' text text' disk history head moment faults from es o
     (front g went.0 there.1 settled lasts within) in
     subst (λ x. IsSafeSince from x v es own run.ran.next (status_of e) disk.faults faults) (sym run.ends.history_is) (subst (λ n. IsSafeSince from run.last.history v es own run.ran.next (status_of e) disk.faults n) (sym run.ends.faults_are) safe)
 
--- at every moment of a run over a calm disk's files, the opening included
+-- over a calm disk's files a run is safe at every moment, the opening included
 pub run_safe : (h : History) (v : Versions) (e : End) (s : Session) (rest rest' text text' : Option (List ℕ)) (disk : Device) (history : Option History) (head moment faults : ℕ) (es : List Entry)
     → FilesStandForOne → disk.history ≡ Some h → length h.before ≡ disk.moment → IsCalm h → StandsFor (reads h) v → IsBegun s disk head → (run : HasRun e s rest rest' text text' history moment faults es)
     → IsSafeSince disk.moment history v es (own_after s run.ran.done) run.ran.next (status_of e) disk.faults faults
@@ -112,7 +112,7 @@ run_safe h v e s rest rest' text text' disk history head moment faults es one to
     run_from h v e s rest rest' text text' disk history head moment faults disk.moment es one told stands begun run
     (λ g k told_g settled lasts within t since x left. run_front v es h g k s.moment run.ran.mid.moment t x (subst (λ y. StopsWell Opens h y v) (told_one s.history opening.0 g opening.1 told_g) (opening.2.stops v calm stands)) calm stands lasts within (begun.dated g told_g) (omega (arith, dated, since)) left)
 
--- on any disk, from the moment on at which the store was open
+-- on any disk a run is safe from the moment on at which the store was open
 pub run_opened_safe : (h : History) (v : Versions) (e : End) (s : Session) (rest rest' text text' : Option (List ℕ)) (disk : Device) (history : Option History) (head moment faults : ℕ) (es : List Entry)
     → FilesStandForOne → disk.history ≡ Some h → StandsFor (reads h) v → IsBegun s disk head → (run : HasRun e s rest rest' text text' history moment faults es)
     → IsSafeSince s.moment history v es (own_after s run.ran.done) run.ran.next (status_of e) disk.faults faults

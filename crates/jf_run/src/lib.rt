@@ -1,4 +1,5 @@
-//! The words of a command line, run over devices that the caller gives: what the program promises.
+//! The program's top call: the words of a command line are run over devices that the caller gives. Here stands all that
+//! such a call promises.
 #![tactic(auto)]
 
 mod judge_input;

@@ -1,4 +1,4 @@
-// The words of a command line, run over devices that the caller gives.
+// The top call of the program: the words of a command line say what is done with source, sink and disk.
 ghost use Rattle.std.specs.Prelude.{◌≡◌, IfNone, IsFalse};
 ghost use Rattle.jf_engine.specs.Keeping.{device};
 ghost use Rattle.jf_run.specs.Commands.{asked, opens, is_verify};
@@ -18,14 +18,25 @@ use std::alloc::Global;
 use std::sync::Wait;
 use std::thread::Threads;
 
-/// Runs the words of a command line: `run`, with `--workers N` or without, answers the script of the source into the
-/// sink, over the store of the disk; `verify` judges the proof blocks of the source, and touches no disk.
+/// Runs the words of a command line over a source, a sink and a disk (docs/FORMATS.md, "Calling the program").
 ///
-/// `kept` is what every call promises, as one record of a `ProgramCall`: if a store was opened (`IsOpenedCall`), replies
-/// and entries are those of the lines done; after a crash at any moment the files hold some first part of the landings
-/// that includes every acknowledged one, or all of them and the one of the first line without a reply; unless the disk
-/// failed, they hold all of them. If no store was opened (`IsClosedCall`), the files mean what they meant before; only a
-/// failed call may have begun files without a record. In the mode `verify` the verdicts were written (`IsJudgedCall`).
+/// - `run` opens the store on the disk, and answers the script of the source into the sink. `--workers N`, 1 to 64,
+///   says how many threads may work at once; it never changes the output.
+/// - `verify` judges the proof blocks of the source, and writes the verdicts into the sink. No call is made on the
+///   disk.
+/// - For other words the call returns `Usage`, or `Memory` if memory runs out. No device is touched.
+///
+/// The disk is handed back in every case. The clause `kept` is one record with all promises of a call
+/// (docs/PROMISES.md, "The top call"):
+///
+/// - If a store was opened (`IsOpenedCall`), replies and entries are those of the lines done. After a crash at any
+///   moment the files hold a first part of the landings that includes every acknowledged one; if the disk failed, they
+///   may instead hold all landings and the one that the first line without a reply asked for. On a disk that wasn't
+///   calm before the call, this holds from the opening on. If the disk didn't fail, the files hold all landings at the
+///   end.
+/// - If no store was opened (`IsClosedCall`), there are no entries and the files are unchanged. One exception: a call
+///   that ends with `DiskFault` may have begun files without a record, which still hold no record.
+/// - In the mode `verify` (`IsJudgedCall`), the verdicts were written, as far as the status says.
 pub fn run_words<S: Source, K: Sink, D: Disk, H: Threads + Wait + Sync>(
     rt: &H,
     alloc: Global,

@@ -1,4 +1,4 @@
-// How the program ends.
+// How a call of the program ended, and the exit status that says so.
 ghost use Rattle.std.specs.Prelude.{◌≡◌};
 ghost use Rattle.jf_run.specs.Commands.{code_of, status_of, status_of_verified, status_of_refusal};
 
@@ -8,12 +8,12 @@ use jf_model::Ledger;
 use jf_session::End;
 use jf_verify::Verified;
 
-/// How a call of the program ended.
+/// How a call of the program ended (docs/FORMATS.md, "Calling the program").
 #[derive(Clone, Copy, Debug, PartialEq, Eq)]
 pub enum Status {
-    /// All output was written, and the input was read to its end.
+    /// The input was read to its end, and all replies or verdicts were written.
     Done,
-    /// The words are none of the program's. Nothing was touched.
+    /// The program doesn't take these words. No device was touched.
     Usage,
     /// The source failed in this call.
     ReadFault,
@@ -21,14 +21,15 @@ pub enum Status {
     WriteFault,
     /// The disk failed in this call.
     DiskFault,
-    /// The files stand for no versions; this is the first place of damage, in bytes from the side's start.
+    /// The files stand for no versions, and are unchanged. This is the first place of damage, in bytes from the side's
+    /// start.
     Damaged { side: Side, offset: u64 },
-    /// Memory is wanting.
+    /// Memory ran out.
     Memory,
 }
 
-/// What a call of the program hands back: how it ended, the disk, the entries of its ledger, and the head at opening,
-/// or None where no store was opened.
+/// What a call of the program hands back: how it ended, the disk, the entries of its ledger, and the newest version
+/// when the store was opened, or `None` if no store was opened.
 #[derive(Drop)]
 pub struct Ended<D> {
     pub status: Status,
@@ -38,7 +39,7 @@ pub struct Ended<D> {
 }
 
 impl Status {
-    /// The status of a script's run.
+    /// The status after a script's run. A disk that failed in an earlier call is `DiskFault` too.
     pub fn of_end(end: End) -> Status
         ensures { result ≡ status_of end }
     {
@@ -51,7 +52,7 @@ impl Status {
         }
     }
 
-    /// The status of an input that was judged.
+    /// The status after an input was judged.
     pub fn of_verified(end: Verified) -> Status
         ensures { result ≡ status_of_verified end }
     {
@@ -63,7 +64,7 @@ impl Status {
         }
     }
 
-    /// The status of a store that was not opened.
+    /// The status if the store could not be opened.
     pub fn of_refusal(why: OpenFault) -> Status
         ensures { result ≡ status_of_refusal why }
     {
@@ -74,7 +75,7 @@ impl Status {
         }
     }
 
-    /// The exit status of the process.
+    /// The exit status of the process: 0 to 5, or 7.
     pub fn code(self) -> u8
         ensures { result ≡ code_of self }
     {

@@ -1,4 +1,4 @@
-// The words of a command line.
+// What the words of a command line ask for: a mode, and for `run` a number of workers.
 ghost use Rattle.std.specs.Prelude.{◌≡◌, IfOk};
 ghost use Rattle.jf_run.specs.Commands.{workers, is_over, option_workers, asked, word_bytes};
 
@@ -7,7 +7,7 @@ use clap::{Arg, ArgAction, Command};
 use jf_text::number_from;
 use std::alloc::{AllocError, Global};
 
-/// The number of workers where none is asked for.
+/// The number of workers if the option isn't given.
 const DEFAULT_WORKERS: u64 = 4;
 
 /// The most workers that may be asked for.
@@ -16,16 +16,17 @@ const MAX_WORKERS: u64 = 64;
 /// What a command line asks for.
 #[derive(Clone, Copy, Debug, PartialEq, Eq)]
 pub enum Mode {
-    /// A script is answered.
+    /// A script is to be answered, over a store.
     Run {
         /// How many threads may work at once, 1 to 64.
         workers: u64,
     },
-    /// Proof blocks are judged, with no store.
+    /// Proof blocks are to be judged, without a store.
     Verify,
 }
 
-/// What the words of a command line ask for. None says that they are none of the program's; an error, that memory ran out.
+/// What the words of a command line ask for (docs/FORMATS.md, "Calling the program"), or `None` if the program doesn't
+/// take them. Refused only if memory runs out.
 pub fn mode_of(alloc: Global, words: &[String]) -> Result<Option<Mode>, AllocError>
     ensures { IfOk result (λ r. r ≡ asked words.now) }
 {
@@ -39,7 +40,7 @@ pub fn mode_of(alloc: Global, words: &[String]) -> Result<Option<Mode>, AllocErr
     }
 }
 
-// Whether no option and no word stands here: nothing, or `--` with nothing behind it.
+// Whether nothing more is asked for: there is no word, or only `--`.
 fn is_over(words: &[String]) -> bool
     ensures { result ≡ is_over (word_bytes words.now) }
 {
@@ -50,14 +51,14 @@ fn is_over(words: &[String]) -> bool
     }
 }
 
-// The number of workers of the words behind a mode that has no word of its own.
+// The number of workers that the words after `run` ask for, or `None` if the program doesn't take them.
 fn option_workers(alloc: Global, words: &[String]) -> Result<Option<u64>, AllocError>
     ensures { IfOk result (λ r. r ≡ option_workers (word_bytes words.now)) }
 {
     let option = Arg::new(alloc, "workers")
         .long("workers")
         .action(ArgAction::Set);
-    // The words are those behind the mode, and a word for help is none of the program's.
+    // The words are those after the mode, and the program takes no word for help.
     let command = Command::new(alloc, "run")
         .no_binary_name(true)
         .disable_help_flag(true)
@@ -74,7 +75,7 @@ fn option_workers(alloc: Global, words: &[String]) -> Result<Option<u64>, AllocE
     }
 }
 
-// A number of workers.
+// A number of workers, from 1 to 64.
 fn workers(word: &[u8]) -> Option<u64>
     ensures { result ≡ workers word.now }
 {

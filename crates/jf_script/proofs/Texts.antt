@@ -1,7 +1,6 @@
 -- Texts are written piece by piece.
-use Rattle.std.proofs.Common.{◌≡◌, ℕ, ◌+◌, ◌/◌, ◌%◌, ◌<◌, ◌≤◌, List, [], ◌∷◌, ◌++◌, length, take, get_or, slice_index, decimal, refl, sym, ap, ◌∙◌, arith, length-append, take_all}
-use Rattle.std.proofs.lemmas.List.{append_assoc, take_more, append-nil, take-append-le, take-take}
-use Rattle.hex.specs.Hex.{encode_with, encode_lower, lower_digits}
+use Rattle.std.proofs.Common.{◌≡◌, ℕ, ◌≤◌, List, [], ◌∷◌, ◌++◌, length, take, decimal, refl, sym, ap, ◌∙◌, arith, length-append, take_all}
+use Rattle.std.proofs.lemmas.List.{append_assoc, append-nil, take-append-le, take-take}
 use Rattle.std.specs.List.{join_with_byte}
 use Rattle.jf_text.specs.Words.{spaced}
 use Rattle.jf_text.specs.Words.{Extends}

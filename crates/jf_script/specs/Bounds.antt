@@ -1,7 +1,8 @@
 -- Each command of the grammar keeps the limits on values and chunks.
 use Rattle.std.specs.Prelude.{◌≡◌, ℕ, ◌≤◌, Bool, true, false, cond, ◌&&◌, nat_le, if◌then◌else◌, ◌==◌, List, [], ◌∷◌, length, Option, Some, None, option_map, option_and_then, codes}
 use Rattle.std.proofs.Common.{refl, subst, arith}
-use Rattle.jf_text.specs.Words.{words, is_word, both, unhex, name_of, value_of, bytes_within}
+use Rattle.jf_path.specs.Limits.{max_value}
+use Rattle.jf_text.specs.Words.{max_chunk, words, is_word, both, unhex, name_of, value_of, bytes_within}
 use Rattle.jf_script.specs.Commands.{command_of, command_of_words, one_word, two_words, three_words, four_words, base_of, parent_of, id_of, stored_of}
 use Rattle.jf_text.specs.Words.{number, number_upto, number_from}
 use Rattle.jf_script.specs.declared.command.Base.{Base}
@@ -10,8 +11,8 @@ use Rattle.jf_script.specs.declared.command.Command.TheVariants as command
 
 -- a command's limits: `put` has a value of at most 4,096 bytes, and `chunk` asks for 1 to 1,000 entries
 abbrev pub IsBounded : Command → Type 0
-IsBounded (command.Put name value) = length value ≤ 4096
-IsBounded (command.Chunk on start count) = (1 ≤ count) × (count ≤ 1000)
+IsBounded (command.Put name value) = length value ≤ max_value
+IsBounded (command.Chunk on start count) = (1 ≤ count) × (count ≤ max_chunk)
 IsBounded c = Unit {0}
 
 -- a command, if there is one, keeps its limits
@@ -22,25 +23,25 @@ Fine (Some c) = IsBounded c
 -- a value, if there is one, has at most 4,096 bytes
 abbrev Short : Option (List ℕ) → Type 0
 Short None = Unit {0}
-Short (Some value) = length value ≤ 4096
+Short (Some value) = length value ≤ max_value
 
 both_so : (a b : Bool) (m n : ℕ) → (a && nat_le m n) ≡ true → m ≤ n
 both_so a b m n e = grind (arith)
 
-short_within : (o : Option (List ℕ)) → Short (option_and_then (λ bytes. if nat_le 0 (length bytes) && nat_le (length bytes) 4096 then Some bytes else None) o)
+short_within : (o : Option (List ℕ)) → Short (option_and_then (λ bytes. if nat_le 0 (length bytes) && nat_le (length bytes) max_value then Some bytes else None) o)
 short_within None = tt
 short_within (Some bytes) =
-    elim (nat_le 0 (length bytes) && nat_le (length bytes) 4096) as (λ b. (nat_le 0 (length bytes) && nat_le (length bytes) 4096) ≡ b → Short (cond b (Some bytes) None)) [
-      | true ↦ λ e. both_so (nat_le 0 (length bytes)) true (length bytes) 4096 e
+    elim (nat_le 0 (length bytes) && nat_le (length bytes) max_value) as (λ b. (nat_le 0 (length bytes) && nat_le (length bytes) max_value) ≡ b → Short (cond b (Some bytes) None)) [
+      | true ↦ λ e. both_so (nat_le 0 (length bytes)) true (length bytes) max_value e
       | false ↦ λ e. tt
     ] refl
 
 short_value : (w : List ℕ) → Short (value_of w)
 short_value [] = tt
-short_value (sign ∷ digits) = elim (sign == 61) as (λ b. Short (cond b (bytes_within 0 4096 digits) None)) [ true ↦ short_within (unhex digits) | false ↦ tt ]
+short_value (sign ∷ digits) = elim (sign == 61) as (λ b. Short (cond b (bytes_within 0 max_value digits) None)) [ true ↦ short_within (unhex digits) | false ↦ tt ]
 
 -- a value that is read has at most 4,096 bytes
-pub value_of-short : (w value : List ℕ) → value_of w ≡ Some value → length value ≤ 4096
+pub value_of-short : (w value : List ℕ) → value_of w ≡ Some value → length value ≤ max_value
 value_of-short w value e = subst Short e (short_value w)
 
 put_fine : (n v : Option (List ℕ)) → Short v → Fine (both (λ name value. command.Put name value) n v)
@@ -104,17 +105,17 @@ from_within least most (Some n) h = at_least (nat_le least n) least n most (λ e
 number_within : (least most : ℕ) (w : List ℕ) → Within least most (number_from least most w)
 number_within least most w = from_within least most (number_upto most w) (upto_within most (number w))
 
-chunk_paired : (on : Base) (p q : Option ℕ) → Within 1 1000 q → Fine (both (λ start count. command.Chunk on start count) p q)
+chunk_paired : (on : Base) (p q : Option ℕ) → Within 1 max_chunk q → Fine (both (λ start count. command.Chunk on start count) p q)
 chunk_paired on (Some start) (Some count) h = h
 chunk_paired on (Some start) None h = tt
 chunk_paired on None q h = tt
 
-chunk_fine : (o : Option Base) (p q : Option ℕ) → Within 1 1000 q → Fine (option_and_then (λ on. both (λ start count. command.Chunk on start count) p q) o)
+chunk_fine : (o : Option Base) (p q : Option ℕ) → Within 1 max_chunk q → Fine (option_and_then (λ on. both (λ start count. command.Chunk on start count) p q) o)
 chunk_fine None p q h = tt
 chunk_fine (Some on) p q h = chunk_paired on p q h
 
 four_fine : (w a b c : List ℕ) → Fine (four_words w a b c)
-four_fine w a b c = chosen (is_word w (codes "chunk")) _ _ (chunk_fine (stored_of a) (number b) (number_from 1 1000 c) (number_within 1 1000 c)) tt
+four_fine w a b c = chosen (is_word w (codes "chunk")) _ _ (chunk_fine (stored_of a) (number b) (number_from 1 max_chunk c) (number_within 1 max_chunk c)) tt
 
 words_fine : (ws : List (List ℕ)) → Fine (command_of_words ws)
 words_fine [] = tt

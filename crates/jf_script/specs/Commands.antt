@@ -1,6 +1,6 @@
 -- The grammar of a script's lines (docs/FORMATS.md, Scripts).
 use Rattle.std.specs.Prelude.{ℕ, Bool, false, ◌||◌, if◌then◌else◌, ◌==◌, List, [], ◌∷◌, Option, Some, None, option_map, option_and_then, codes}
-use Rattle.jf_text.specs.Words.{words, is_word, both, number, number_from, name_of, value_of}
+use Rattle.jf_text.specs.Words.{max_chunk, words, is_word, both, number, number_from, name_of, value_of}
 use Rattle.jf_script.specs.declared.command.Base.{Base}
 use Rattle.jf_script.specs.declared.command.Base.TheVariants as base
 use Rattle.jf_script.specs.declared.command.Command.{Command}
@@ -86,7 +86,7 @@ three_words w a b =
 -- the command of a line of four words
 abbrev pub four_words : List ℕ → List ℕ → List ℕ → List ℕ → Option Command
 four_words w a b c =
-    if is_word w (codes "chunk") then option_and_then (λ on. both (λ start count. command.Chunk on start count) (number b) (number_from 1 1000 c)) (stored_of a) else None
+    if is_word w (codes "chunk") then option_and_then (λ on. both (λ start count. command.Chunk on start count) (number b) (number_from 1 max_chunk c)) (stored_of a) else None
 
 -- the command of these words, if they are in the grammar
 abbrev pub command_of_words : List (List ℕ) → Option Command

@@ -1,5 +1,5 @@
 -- The text of replies (docs/FORMATS.md, Replies).
-use Rattle.std.specs.Prelude.{◌≡◌, ℕ, ◌^◌, ◌<◌, length, take, List, [], ◌∷◌, Some, None, codes, decimal}
+use Rattle.std.specs.Prelude.{ℕ, ◌^◌, ◌<◌, List, [], ◌∷◌, Some, None, codes, decimal}
 use Rattle.hex.specs.Hex.{encode_lower, IsBytes}
 use Rattle.jf_text.specs.Words.{line_text, value_word}
 use Rattle.jf_script.specs.declared.reply.Refusal.{Refusal}

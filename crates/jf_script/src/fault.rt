@@ -3,9 +3,9 @@
 /// Why a line is no command.
 #[derive(Clone, Copy, Debug, PartialEq, Eq)]
 pub enum LineFault {
-    /// The line has at most 8,500 bytes and isn't in the grammar.
+    /// The line has at most [`MAX_LINE`](jf_text::MAX_LINE) bytes and isn't in the grammar.
     Syntax,
-    /// The line has more than 8,500 bytes.
+    /// The line has more bytes.
     LineTooLong,
     /// Out of memory.
     Memory,

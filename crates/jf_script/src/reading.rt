@@ -7,11 +7,10 @@ use crate::base::{base_of, id_of, parent_of, stored_of};
 use crate::command::Command;
 use crate::fault::LineFault;
 use jf_path::Memory;
-use jf_text::{is_word, name_of, number_from, number_of, split_word, value_of};
+use jf_text::{
+    MAX_CHUNK, MAX_LINE, is_word, name_of, number_from, number_of, split_word, value_of,
+};
 use std::alloc::Global;
-
-/// The most bytes of a line that is read.
-const LONGEST: usize = 8500;
 
 /// The command of a line, which is given without its line feed. Only a command with a name needs memory. The grammar is
 /// that of docs/FORMATS.md, Scripts.
@@ -23,7 +22,7 @@ pub fn read_line(alloc: Global, line: &[u8]) -> Result<Command, LineFault>
     ensures refused { is_long line.now ≡ false → command_of line.now ≡ None → (result ≡ Err LineFault.Syntax) ⊎ (result ≡ Err LineFault.Memory) }
     ensures memory { result ≡ Err LineFault.Memory → IsTrue (takes_name (words line.now)) }
 {
-    if line.len() > LONGEST {
+    if line.len() > MAX_LINE {
         return Err(LineFault::LineTooLong);
     }
     match command_of(alloc, line) {
@@ -133,7 +132,7 @@ fn four_words(word: &[u8], a: &[u8], b: &[u8], c: &[u8]) -> Option<Command>
     }
     let base = stored_of(a)?;
     let start = number_of(b)?;
-    let count = number_from(1, 1000, c)?;
+    let count = number_from(1, MAX_CHUNK, c)?;
     Some(Command::Chunk { base, start, count })
 }
 

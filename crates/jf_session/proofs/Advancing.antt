@@ -1,4 +1,4 @@
--- Lines one behind another: what was done for some, and then for one more.
+-- Lines one after another: what was done for some, and then for one more.
 use Rattle.std.proofs.Common.{◌≡◌, ℕ, ◌<◌, ◌≤◌, Bool, true, false, cond, Option, Some, None, IfSome, List, [], ◌∷◌, ◌++◌, map, length, refl, sym, ap, ap₂, ◌∙◌, subst, arith, le_refl, append_assoc, append-nil}
 use Rattle.std.specs.Prelude.{flat_map, option_to_list}
 use Rattle.std.specs.List.{concat}
@@ -30,7 +30,7 @@ abbrev after_option : Option Entry → State → State
 after_option None s = s
 after_option (Some e) s = after e s
 
--- its entry has no moment, and makes its state
+-- the entry of an answer has no moment yet, and makes the state of the answer
 record IsSound (s : State) (a : Answer) : Type 0 where
   undated : IfSome a.entry (λ e. timeless e ≡ e)
   made : a.state ≡ after_option a.entry s
@@ -123,7 +123,7 @@ module _ (old : Session) (ls : List (List ℕ)) (s : Session) (line : List ℕ) 
       ap text_of run_more ∙ ap concat (map_append (λ (a : Answer). answer_text a.state.count a) (run_of old ls).answers (a ∷ []))
       ∙ concat_append (texts_of (run_of old ls)) (answer_text a.state.count a ∷ []) ∙ ap (λ t. text_of (run_of old ls) ++ t) (append-nil (answer_text a.state.count a))
 
--- nothing done
+-- no line is done yet
 pub advances_none : (s : Session) → Advances s s []
 unfolding answers_from replay
 advances_none s = record {
@@ -150,7 +150,7 @@ timeless_at m (entry.Dropped owner fork) = refl
 timeless_at m (entry.Retired owner bound floor) = refl
 timeless_at m (entry.Compacted owner generation) = refl
 
--- with no entry
+-- one line more, without an entry
 advances_same : (old s new : Session) (ls : List (List ℕ)) (line : List ℕ) (a : Answer) → a ≡ answer s.state s.own line → a.entry ≡ None → Advances old s ls → Does s new a → Advances old new (ls ++ line ∷ [])
 advances_same old s new ls line a is none v d =
     let d' = subst (λ (a : Answer). Does s new a) is d in
@@ -172,7 +172,7 @@ advances_same old s new ls line a is none v d =
       disk = λ h told settled. let g = v.disk h told settled in (g.0, disk.history ∙ g.1, g.2);
     }
 
--- with a landing
+-- one line more, with a landing
 advances_landing : (old s new : Session) (ls : List (List ℕ)) (line : List ℕ) (owner version moment : ℕ) (batch : Batch) (r : List ℕ) → IsDatedBy s → IsDatedBy new
     → (answer s.state s.own line).entry ≡ Some (entry.Landed owner version (landing.Direct batch) r moment) → Advances old s ls → Does s new (answer s.state s.own line) → Advances old new (ls ++ line ∷ [])
 advances_landing old s new ls line owner version moment batch r dated dated' some v d =

@@ -74,7 +74,7 @@ prove-read s (base.Place place) name e = absurd (cc)
 
 -- ---- chunks
 
--- the first of causes and then of others
+-- the first cause that holds of two lists, one after the other
 first_of-more : {X : Type 0} (cs ds : List (Bool × X)) → first_of (cs ++ ds) ≡ elim (first_of cs) as (λ x. Option X) [ Some why ↦ Some why | None ↦ first_of ds ]
 first_of-more [] ds = refl
 first_of-more {X} (c ∷ cs) ds =
@@ -94,7 +94,7 @@ chunk-refused s (base.Version w) start count why e =
 chunk-refused s (base.Fork id) start count why e = refused_so s refusal.Syntax why e
 chunk-refused s (base.Place place) start count why e = refused_so s refusal.Syntax why e
 
--- what a chunk is answered where its base is read, by whether its place is beyond the entries
+-- the answer to a chunk whose base is read, by whether its place is beyond the entries
 abbrev chunk_by : Session → Base → ℕ → ℕ → Bool → Answer
 chunk_by s b start count beyond = by_refusal s (command.Chunk b start count) (cond beyond (Some (refusal.Range (len (base_map s.state s.own b)))) None)
 
@@ -112,7 +112,7 @@ is_beyond n start h = grind (arith, nat_tests)
 is_within : (n start : ℕ) → start < n → nat_le n start ≡ false
 is_within n start h = grind (arith, nat_tests)
 
--- the map that was found is that of the base
+-- a place beyond the entries of the map that was found is beyond those of the base
 pub chunk-beyond : (s : Session) (b : Base) (start count : ℕ) (m : Map) (n : ℕ) → read_refusal s b ≡ None → m ≡ base_map s.state s.own b → n ≡ len m → n ≤ start
     → chunk_answer s b start count ≡ replied (reply.No (refusal.Range n)) s.state s.own
 chunk-beyond s b start count m n read is number beyond =

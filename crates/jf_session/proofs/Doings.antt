@@ -24,14 +24,14 @@ use Rattle.jf_script.specs.declared.reply.Refusal.TheVariants as refusal
 use Rattle.jf_session.specs.Sessions.{Session, shown, Does, Tries, Rose, commit_answer}
 use Rattle.jf_session.proofs.Said.{set_command, set-full, set-room, commit-done, commit-ledger, commit-head, commit-keys}
 
--- a reply that changes what is pending alone
+-- a reply that changes only what is pending
 pub replied_does : (e : Engine) (es : List Entry) (p q : Batch) (over : Bool) (r : Reply) → Does (shown e es p over) (shown e es q over) (replied r (shown e es p over).state (with_pending q (shown e es p over).own))
 replied_does e es p q over r = record { state = refl; own = refl; entries = refl; legal = tt; disk = record { history = refl; moment = refl; faults = refl } }
 
 pub refused_does : (e : Engine) (es : List Entry) (p : Batch) (over : Bool) (r : Reply) (a : Answer) → a ≡ replied r (shown e es p over).state (shown e es p over).own → Does (shown e es p over) (shown e es p over) a
 refused_does e es p over r a is = subst (λ a. Does (shown e es p over) (shown e es p over) a) (sym is) (replied_does e es p p over r)
 
--- what a `put` or a `del` is answered
+-- the answer to a `put` or a `del`
 abbrev pub set_answer : Session → List ℕ → Option (List ℕ) → Answer
 set_answer s name o = answer_command s.state s.own (set_command name o)
 
@@ -49,7 +49,7 @@ set_count e es p q over name o room is =
 length_snoc : {X : Type 0} (xs : List X) (x : X) → length (xs ++ x ∷ []) ≡ length xs + 1
 length_snoc xs x = length-append xs (x ∷ [])
 
--- what a landing's answer is
+-- the version, root and moment that a landing returns
 pub record IsAnswer (e e' : Engine) (p : Batch) (version moment : ℕ) (r : List ℕ) : Type 0 where
   pub versions : e'.versions ≡ landed p e.versions
   pub version_is : version ≡ e'.versions.head

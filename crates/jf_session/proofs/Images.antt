@@ -1,4 +1,4 @@
--- What a stop may leave of a history that grows by a landing.
+-- What a crash may leave of a history that grows by a landing.
 use Rattle.std.proofs.Common.{◌≡◌, ◌⊎◌, inl, inr, ℕ, suc, ◌+◌, ◌<◌, ◌≤◌, Bool, true, false, cond, List, [], ◌∷◌, ◌++◌, take, length, refl, sym, ap, ◌∙◌, subst, arith, le_refl, length-append, append_assoc, take_all}
 use Rattle.std.proofs.lemmas.List.{take-append-le}
 use Rattle.std.specs.Prelude.{nat_le, ◌==◌}
@@ -76,7 +76,7 @@ module _ (s : State) (es : List Entry) (owner version moment : ℕ) (b : Batch) 
     stands = subst (λ (l : List Entry). StandsFor f (replay s l).all) (sym (take_all (length es) es (le_refl (length es)))) stands;
   })
 
-  -- and of those behind it
+  -- an image of the versions after it
   front_behind : (f : Files) (t : ℕ) → StandsFor f (landed b (replay s es).all) → IsFrontImage f t s es'
   front_behind f t stands = record {
     count = length es';
@@ -110,7 +110,7 @@ append_covered s es [] ys n c d = d
 append_covered s es (x ∷ xs) ys n c d =
     (λ f i. subst (λ t. IsFrontImage f t s es) (let e : n + length ys + length xs ≡ n + length (xs ++ ys) = omega (arith, length-append xs ys) in e) (c.0 f i), append_covered s es xs ys n c.1 d)
 
--- a history that outlasted entries, and then a landing
+-- a history that outlasts entries, and then a landing, outlasts these entries and its own
 pub outlasts_landing : (s : State) (h g k : History) (es : List Entry) (owner version moment : ℕ) (b : Batch) (r : List ℕ)
     → Outlasts s h g es → Succeeds (Lands (b ∷ [])) g k (replay s es).all → length k.before ≡ moment → length g.before < moment → Outlasts s h k (es ++ landing_at owner b version r moment ∷ [])
 outlasts_landing s h g k es owner version moment b r o step dated later =
@@ -134,7 +134,7 @@ outlasts_landing s h g k es owner version moment b r o step dated later =
       };
     }
 
--- a history that goes no further
+-- a settled history that goes no further outlasts no entries
 pub outlasts_none : (s : State) (h : History) → IsSettledOn h s.all → Outlasts s h h []
 unfolding replay
 outlasts_none s h settled = record { more = []; grows = refl; covered = tt; settled = settled }

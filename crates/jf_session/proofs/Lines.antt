@@ -1,4 +1,4 @@
--- What a line is answered, by what reading it gives.
+-- The answer to a line, by what reading it gives.
 use Rattle.std.proofs.Common.{◌≡◌, ◌∙◌, ℕ, false, cond, Option, List, refl, ap}
 use Rattle.jf_model.specs.States.{State}
 use Rattle.jf_answers.specs.Own.{Own}

@@ -14,7 +14,7 @@ use Rattle.jf_script.specs.declared.command.Command.TheVariants as command
 use Rattle.jf_script.specs.declared.reply.Refusal.TheVariants as refusal
 use Rattle.jf_script.specs.declared.reply.Reply.TheVariants as reply
 
--- a `put` of a value, or a `del`
+-- the command that a value stands for: a `put` of it, or without one a `del`
 abbrev pub set_command : List ℕ → Option (List ℕ) → Command
 set_command name (Some value) = command.Put name value
 set_command name None = command.Del name
@@ -29,7 +29,7 @@ unfolding refused_by
 set-room s own name (Some value) e = ap (λ b. elim (cond b (Some refusal.Pending) None) as (λ x. Answer) [ Some why ↦ replied (reply.No why) s own | None ↦ changed name (Some value) s own ]) e
 set-room s own name None e = ap (λ b. elim (cond b (Some refusal.Pending) None) as (λ x. Answer) [ Some why ↦ replied (reply.No why) s own | None ↦ changed name None s own ]) e
 
--- what a commit is answered, by its three tests
+-- the answer to a commit, by its three tests
 abbrev pub commit_by : State → Own → Bool → Bool → Bool → Answer
 commit_by s own full last large =
     elim (cond full (Some refusal.Last) (cond last (Some refusal.Last) (cond large (Some refusal.Last) None))) as (λ x. Answer) [ Some why ↦ replied (reply.No why) s own | None ↦ committed s own ]

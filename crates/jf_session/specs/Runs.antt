@@ -18,12 +18,12 @@ use Rattle.jf_session.specs.declared.running.End.TheVariants as end
 
 -- ---- moments and images
 
--- moments rise strictly, from above one up to another
+-- moments rise strictly: the first is above `low`, and the last at most `high`
 abbrev pub AreWithin : ℕ → ℕ → List ℕ → Type 0
 AreWithin low high [] = low ≤ high
 AreWithin low high (m ∷ ms) = (low < m) × AreWithin m high ms
 
--- a landing that was acknowledged by moment t
+-- whether an entry is a landing that was acknowledged by moment t
 abbrev pub is_acknowledged : ℕ → Entry → Bool
 is_acknowledged t (entry.Landed owner version how root moment) = nat_le moment t
 is_acknowledged t (entry.Made owner fork parent batch root) = false
@@ -31,26 +31,27 @@ is_acknowledged t (entry.Dropped owner fork) = false
 is_acknowledged t (entry.Retired owner bound floor) = false
 is_acknowledged t (entry.Compacted owner generation) = false
 
--- the place, counted from 1, of the last that passes the test, or 0
+-- the place, counted from 1, of the last entry that passes the test, or 0 if no entry does
 abbrev pub last_place : (Entry → Bool) → List Entry → ℕ
 last_place test [] = 0
 last_place test (e ∷ es) =
     let later = last_place test es in
     if later == 0 then (if test e then 1 else 0) else later + 1
 
--- an image stands for the versions behind a first part of the entries that has all that was acknowledged by t
+-- an image stands for the versions after a first part of the entries that has all that was acknowledged by t
 pub record IsFrontImage (image : Files) (t : ℕ) (s : State) (es : List Entry) : Type 0 where
   pub count : ℕ
   pub acknowledged : last_place (is_acknowledged t) es ≤ count
   pub within : count ≤ length es
   pub stands : StandsFor image (replay s (take count es)).all
 
--- each image of states, the newest first, is such a one at its moment, where n states stand before them
+-- each image of these states, the newest first, is a front image at the state's moment; n states came before them
 abbrev pub AreCovered : State → List Entry → List DiskState → ℕ → Type 0
 AreCovered s es [] n = Unit {0}
 AreCovered s es (x ∷ xs) n = ((f : Files) → IsImage x f → IsFrontImage f (n + length xs) s es) × AreCovered s es xs n
 
--- a history goes on over these entries: a stop at any moment leaves a first part of them, and now there are all
+-- `new` extends `old` over these entries: a crash in an added state leaves a first part of them, with all acknowledged by
+-- then, and a crash now leaves all
 pub record Outlasts (s : State) (old new : History) (es : List Entry) : Type 0 where
   pub more : List DiskState
   pub grows : all_states new ≡ more ++ all_states old
@@ -63,11 +64,11 @@ IsDatedBy s = (h : History) → s.history ≡ Some h → length h.before ≡ s.m
 
 -- ---- lines answered and done
 
--- what lines are answered by a session
+-- what a session answers to these lines, and what it has come to after them, by definition
 abbrev pub run_of : Session → List (List ℕ) → Run
 run_of s ls = answers_from s.state s.own ls
 
--- these lines were answered and done, one behind another
+-- these lines were answered and done, one after another
 pub record Advances (old new : Session) (ls : List (List ℕ)) : Type 0 where
   pub state : new.state ≡ (run_of old ls).state
   pub own : new.own ≡ (run_of old ls).own
@@ -91,6 +92,7 @@ ReadsBy end.DiskFault taken left ls next = slice_get (lines_read taken left) (le
 ReadsBy end.Broken taken left ls next = ⊥
 ReadsBy end.Memory taken left ls next = Unit {0}
 
+-- of an input all but `left` was taken; these lines are the first of those read, as many as the end of the run says
 pub record Reads (e : End) (all left : List ℕ) (ls : List (List ℕ)) (next : Option (List ℕ)) : Type 0 where
   pub taken : List ℕ
   pub split : all ≡ taken ++ left
@@ -103,13 +105,14 @@ pub record Reads (e : End) (all left : List ℕ) (ls : List (List ℕ)) (next : 
 abbrev pub IsWhole : Run → List ℕ → Type 0
 IsWhole r text = text ≡ text_of r
 
--- a front of the text of all lines done, with the text of all of them but the last
+-- a front of the text of all lines done, with all of the text of those before the last
 pub record IsCut (r before : Run) (text : List ℕ) : Type 0 where
   pub missing : List ℕ
   pub front : text_of r ≡ text ++ missing
   pub more : List ℕ
   pub enough : text ≡ text_of before ++ more
 
+-- what was written for the lines done, by how the run ended
 abbrev pub WritesBy : End → Session → List (List ℕ) → List ℕ → Type 0
 WritesBy end.Done s ls text = IsWhole (run_of s ls) text
 WritesBy end.ReadFault s ls text = IsWhole (run_of s ls) text
@@ -118,6 +121,7 @@ WritesBy end.DiskFault s ls text = IsWhole (run_of s ls) text
 WritesBy end.Broken s ls text = ⊥
 WritesBy end.Memory s ls text = IsCut (run_of s ls) (run_of s (take (length ls - 1) ls)) text
 
+-- a run appended its text to the output, if that is known
 pub record Writes (e : End) (s : Session) (ls : List (List ℕ)) (old new : Option (List ℕ)) : Type 0 where
   pub text : List ℕ
   pub by : WritesBy e s ls text
@@ -125,7 +129,7 @@ pub record Writes (e : End) (s : Session) (ls : List (List ℕ)) (old new : Opti
 
 -- ---- a run
 
--- how the session stands at the end, behind the lines done
+-- the session at the end, against the one after the lines done: unchanged, or the disk failed at the next line
 abbrev pub EndsBy : End → Session → Session → Option (List ℕ) → Type 0
 EndsBy end.Done mid new next = Stays mid new
 EndsBy end.ReadFault mid new next = Stays mid new
@@ -134,7 +138,7 @@ EndsBy end.DiskFault mid new next = (line : List ℕ) × (next ≡ Some line) ×
 EndsBy end.Broken mid new next = ⊥
 EndsBy end.Memory mid new next = Stays mid new
 
--- a run over the rest of an input, into a text
+-- a run over the rest of an input, whose replies are appended to a text
 pub record Ran (e : End) (old new : Session) (rest rest' text text' : Option (List ℕ)) : Type 0 where
   pub done : List (List ℕ)
   pub next : Option (List ℕ)

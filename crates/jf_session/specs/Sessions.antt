@@ -19,8 +19,8 @@ use Rattle.jf_script.specs.declared.command.Command.TheVariants as command
 use Rattle.jf_script.specs.declared.reply.Refusal.{Refusal}
 use Rattle.jf_script.specs.declared.reply.Refusal.TheVariants as refusal
 
--- what a session shows: the state of its store, its own part, its entries; the disk's history, where it is told, moment
--- and count of faults; and whether it is over
+-- what a session shows: the state of its store, what it keeps for itself, its entries; the disk's history, if it is known,
+-- moment and count of faults; and whether it is over
 pub record Session : Type 0 where
   pub state : State
   pub own : Own
@@ -42,11 +42,11 @@ shown engine entries pending over = record {
   over = over;
 }
 
--- a count of faults that rose, or stood at its end
+-- a count of faults that rose, or was at its highest value
 abbrev pub Rose : ℕ → ℕ → Type 0
 Rose old new = (old < new) ⊎ (old ≡ 2 ^ 64 - 1)
 
--- nothing changed but that the session may be over
+-- nothing changed, except that the session may be over
 pub record Stays (old new : Session) : Type 0 where
   pub state : new.state ≡ old.state
   pub own : new.own ≡ old.own
@@ -55,12 +55,12 @@ pub record Stays (old new : Session) : Type 0 where
   pub moment : new.moment ≡ old.moment
   pub faults : new.faults ≡ old.faults
 
--- the entry, if there is one, stands behind the others, with this moment
+-- the entry, if there is one, was appended to the others, with this moment
 abbrev pub Adds : Option Entry → ℕ → List Entry → List Entry → Type 0
 Adds None moment old new = new ≡ old
 Adds (Some e) moment old new = new ≡ old ++ at_moment moment e ∷ []
 
--- a batch was landed
+-- a batch was landed on the disk
 pub record LandsOnDisk (batch : Batch) (old new : Session) : Type 0 where
   pub later : old.moment < new.moment
   pub faults : old.faults ≤ new.faults
@@ -72,7 +72,7 @@ pub record LeavesDisk (old new : Session) : Type 0 where
   pub moment : new.moment ≡ old.moment
   pub faults : new.faults ≡ old.faults
 
--- what an entry, or none, makes of the disk
+-- what a line did on the disk, by its entry: it landed a batch, or without an entry it touched nothing
 abbrev pub DiskFollows : Option Entry → Session → Session → Type 0
 DiskFollows None old new = LeavesDisk old new
 DiskFollows (Some (entry.Landed owner version (landing.Direct batch) r moment)) old new = LandsOnDisk batch old new
@@ -90,7 +90,7 @@ pub record Does (old new : Session) (a : Answer) : Type 0 where
   pub legal : IfSome a.entry (IsLegal old.state)
   pub disk : DiskFollows a.entry old new
 
--- the disk failed in what the line would have landed
+-- the disk failed in the landing that the line asked for; entries and state are those from before
 pub record Tries (old new : Session) (a : Answer) : Type 0 where
   pub attempt : Entry
   pub tried : a.entry ≡ Some attempt
@@ -103,35 +103,42 @@ pub record Tries (old new : Session) (a : Answer) : Type 0 where
   pub faults : old.faults ≤ new.faults
   pub disk : (h : History) → old.history ≡ Some h → (g : History) × (new.history ≡ Some g) × StopsWell (Lands (old.own.pending ∷ [])) h g old.state.all
 
--- what a session's commands are answered
+-- the answer to a command
 abbrev pub command_answer : Session → Command → Answer
 command_answer s c = answer_to (Some c) s.state s.own
 
+-- the answer to `put`
 abbrev pub put_answer : Session → List ℕ → List ℕ → Answer
 put_answer s name value = answer_command s.state s.own (command.Put name value)
 
+-- the answer to `commit`
 abbrev pub commit_answer : Session → Answer
 commit_answer s = answer_command s.state s.own command.Commit
 
+-- the answer to `del`
 abbrev pub del_answer : Session → List ℕ → Answer
 del_answer s name = answer_command s.state s.own (command.Del name)
 
+-- the answer to `get`
 abbrev pub get_answer : Session → Base → List ℕ → Answer
 get_answer s b name = command_answer s (command.Get b name)
 
+-- the answer to `root`
 abbrev pub root_answer : Session → Base → Answer
 root_answer s b = command_answer s (command.Root b)
 
+-- the answer to `prove`
 abbrev pub prove_answer : Session → Base → List ℕ → Answer
 prove_answer s b name = command_answer s (command.Prove b name)
 
+-- the answer to `chunk`
 abbrev pub chunk_answer : Session → Base → ℕ → ℕ → Answer
 chunk_answer s b start count = command_answer s (command.Chunk b start count)
 
--- why a version is not read, if it isn't
+-- why a version may not be read, or None if it may
 abbrev pub version_refusal : Session → ℕ → Option Refusal
 version_refusal s w = first_of (version_causes s.state w)
 
--- why a base is not read, if it isn't: one that can't be read yet is outside the grammar
+-- why a base may not be read, or None if it may; one that can't be read yet is outside the grammar
 abbrev pub read_refusal : Session → Base → Option Refusal
 read_refusal s b = if is_readable b then first_of (base_causes s.state s.own b) else Some refusal.Syntax

@@ -1,4 +1,4 @@
-// An answer as text: the line of a reply, and the block behind it.
+// An answer as text: the line of a reply, and the block after it (docs/FORMATS.md, "Replies").
 ghost use Rattle.std.specs.Prelude.{◌≡◌, ℕ, ◌<◌, ◌≤◌, ◌++◌, length, IfOk, IfErr, OnOk, OnErr};
 ghost use Rattle.std.specs.FinMap.{get, len};
 ghost use Rattle.jf_hash.specs.Hashes.{K};
@@ -16,7 +16,7 @@ use jf_range::{RangeAsk, prove_range};
 use jf_script::{Reply, write_reply};
 use std::alloc::Global;
 
-// Appends the line of a reply, and a block behind it. A refusal leaves the text as it was.
+// Appends the line of a reply, and a block after it. If memory runs out, the text is unchanged.
 pub(crate) fn write_answer(
     seen: u64,
     reply: &Reply,
@@ -37,7 +37,7 @@ pub(crate) fn write_answer(
     }
 }
 
-// Appends what a snapshot says of a name and the proof of it, and tells how many siblings the proof has.
+// Appends what a snapshot says of a name and the proof of it, and returns how many siblings the proof has.
 pub(crate) fn write_proof_of(
     alloc: Global,
     snapshot: &Snapshot,
@@ -53,7 +53,7 @@ pub(crate) fn write_proof_of(
     Ok(proof.siblings.len())
 }
 
-// Appends the entries of a snapshot from a place on with the proof of the last one, and tells what their reply is.
+// Appends the entries of a snapshot from a place on with their proof, and returns the reply to them.
 pub(crate) fn write_chunk_of(
     alloc: Global,
     snapshot: &Snapshot,

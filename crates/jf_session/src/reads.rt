@@ -1,4 +1,4 @@
-// What a session reads in the head and in the versions that are kept.
+// The commands that read: in the head, and in every version from the retired bound on.
 ghost use Rattle.std.specs.Prelude.{◌≡◌, ◌≤◌, ◌++◌, Some, None, Err, IfOk, IfErr, OnOk, OnErr};
 ghost use Rattle.std.specs.Option.{option_copied};
 ghost use Rattle.jf_model.specs.Versions.{map_of};
@@ -16,7 +16,7 @@ use jf_script::{Base, Refusal, Reply};
 use std::alloc::Global;
 
 impl<D: Disk> Session<D> {
-    // The value of a name in what a base names.
+    // Answers `get`: the value of a name in the version that a base names.
     pub(crate) fn get(&self, alloc: Global, base: Base, name: &[u8]) -> Result<Reply, Stop>
         ensures ok { OnOk result (Does self.now self.now (get_answer self.now base name.now)) }
         ensures reply { IfOk result (λ r. r ≡ (get_answer self.now base name.now).reply) }
@@ -32,7 +32,7 @@ impl<D: Disk> Session<D> {
         }
     }
 
-    // The root of what a base names.
+    // Answers `root`: the root of the version that a base names.
     pub(crate) fn root(&self, base: Base) -> Reply
         ensures reply { result ≡ (root_answer self.now base).reply }
         ensures does { Does self.now self.now (root_answer self.now base) }
@@ -46,7 +46,8 @@ impl<D: Disk> Session<D> {
         Reply::Root { root }
     }
 
-    // The proof of a name in what a base names, whose lines are appended to `block`.
+    // Answers `prove`: what the version that a base names says of a name. The lines of the proof are appended to
+    // `block`.
     pub(crate) fn prove(
         &self,
         alloc: Global,
@@ -70,7 +71,8 @@ impl<D: Disk> Session<D> {
         }
     }
 
-    // The entries of what a base names from a place on, with their proof, whose lines are appended to `block`.
+    // Answers `chunk`: the entries from a place on in the version that a base names. Their lines, and those of their
+    // proof, are appended to `block`.
     pub(crate) fn chunk(
         &self,
         alloc: Global,
@@ -114,7 +116,7 @@ impl<D: Disk> Session<D> {
         }
     }
 
-    // The same version, or why it isn't read.
+    // This version, or why it isn't read: it is above the head, or below the retired bound.
     fn kept(&self, version: u64) -> Result<u64, Refusal>
         ensures refused { IfErr result (λ why. version_refusal self.now version ≡ Some why) }
         ensures read { IfOk result (λ w. version_refusal self.now version ≡ None) }
@@ -133,7 +135,7 @@ impl<D: Disk> Session<D> {
     }
 }
 
-// A copy of a value that is there.
+// A copy of a value, if there is one.
 fn copied(alloc: Global, value: Option<&[u8]>) -> Result<Option<Bytes>, Memory>
     ensures { IfOk result (λ v. v ≡ option_copied value.entry) }
 {

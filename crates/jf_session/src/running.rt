@@ -13,11 +13,9 @@ use jf_io::{FetchFault, LineReader, Sink, Source, put_all};
 use jf_join::Gate;
 use jf_model::Ledger;
 use jf_path::Bytes;
+use jf_text::MAX_LINE;
 use std::alloc::Global;
 use std::thread::Threads;
-
-// The most bytes of a line that is read. A longer one is answered alike, whatever its bytes.
-const LINE_BYTES: usize = 8_500;
 
 /// How a run over a script ended.
 #[derive(Clone, Copy, Debug, PartialEq, Eq)]
@@ -91,7 +89,7 @@ fn answer_all<S: Source, K: Sink, D: Disk, H: Threads + Sync, G: Gate>(
     ensures source_counts { S.faults source.old ≤ S.faults source.new }
     ensures sink_counts { K.faults sink.old ≤ K.faults sink.new }
 {
-    let mut reader = LineReader::new(alloc, LINE_BYTES);
+    let mut reader = LineReader::new(alloc, MAX_LINE);
     let mut out = Bytes::new(alloc);
     // No source gives more lines than this.
     for _turn in 0..u64::MAX {

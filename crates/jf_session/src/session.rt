@@ -1,6 +1,7 @@
-// A session over a store of its own.
+// A session answers a script's lines, one by one, over a store of its own.
 ghost use Rattle.std.specs.Prelude.{◌≡◌, ◌⊎◌, ◌↔◌, ℕ, ◌+◌, ◌-◌, ◌<◌, ◌≤◌, ◌^◌, length, [], ◌∷◌, ◌++◌, Some, Err, IfOk, IfErr, OnOk, OnErr, IsErr, true, false};
 ghost use Rattle.std.specs.Option.{ForSome};
+ghost use Rattle.jf_path.specs.Limits.{max_value};
 ghost use Rattle.jf_disk.specs.Disk.{reads};
 ghost use Rattle.jf_disk.specs.declared.side.Side.{Side};
 ghost use Rattle.jf_model.specs.Versions.{IsVersions};
@@ -32,7 +33,7 @@ use std::thread::Threads;
 /// The most entries of a ledger.
 const MAX_ENTRIES: u64 = 1 << 62;
 
-/// One script over a store of its own.
+/// One script over a store of its own: the store, the entries of its ledger, and what is pending for the next commit.
 pub struct Session<D: Disk> {
     pub(crate) engine: Engine<D>,
     entries: Vec<Entry>,
@@ -56,9 +57,16 @@ impl<D: Disk> Model for Session<D> {
 }
 
 impl<D: Disk> Session<D> {
-    /// Opens the files of a disk, for a session without a line so far. A refusal hands the disk back. Nothing was made
-    /// of its files then, whatever they hold, with one exception: after `DiskFault` files without a record may be begun
-    /// in part, and still hold none. Side B is unchanged.
+    /// Opens the store that the files of a disk hold, for a session that has done no line yet: no entries, and nothing
+    /// is pending. Files without a record are begun, as a new store. Side B is unchanged.
+    ///
+    /// A refusal hands the disk back:
+    ///
+    /// - `Damaged`: the files stand for no versions. It gives the first place of damage, in bytes from the side's
+    ///   start. The files are unchanged.
+    /// - `DiskFault`: a call on the disk failed. The files are unchanged, or they held no record and were begun in
+    ///   part; they still hold no record then.
+    /// - `Memory`: memory ran out. The files are unchanged.
     pub fn over<H: Threads + Sync>(
         rt: &H,
         alloc: Global,
@@ -87,10 +95,18 @@ impl<D: Disk> Session<D> {
         self.engine.head()
     }
 
-    /// Answers a line, a landing with at most this many workers: the line of its reply, and the block behind it where
-    /// there is one, are appended to `out`. After a refusal `out` is as before and the session is over. On `DiskFault`
-    /// the line would have landed what is pending. On `Memory` the line was done and its reply is missing, or nothing
-    /// was done.
+    /// Does what one line asks for and answers it; the line is given without the byte that ends it (docs/FORMATS.md,
+    /// "Scripts" and "Replies"). The reply's line, and the block after it if there is one, are appended to `out`. A
+    /// line outside the grammar and a command that is refused have a reply too. At most `workers` threads work on a
+    /// landing, 1 to 64.
+    ///
+    /// After an error the session is over, and `out` is unchanged:
+    ///
+    /// - `DiskFault`: the disk failed in the landing that the line asked for. Entries and versions are those from
+    ///   before, and what is pending is still pending. A crash leaves these versions, or these and the new one.
+    /// - `Memory`: memory ran out. Either nothing was done, or the line was done and only its reply is missing.
+    ///
+    /// `Broken` never comes: a session that isn't over has a store that isn't broken.
     pub fn step<H: Threads + Sync, G: Gate>(
         &mut self,
         rt: &H,
@@ -129,7 +145,7 @@ impl<D: Disk> Session<D> {
         }
     }
 
-    /// Ends the session: its disk, and its entries.
+    /// Ends the session, and hands back its disk and its entries. What is pending is dropped.
     pub fn end(self) -> (D, Ledger)
         ensures history { D.history result.0 ≡ self.history }
         ensures moment { D.moment result.0 ≡ self.moment }
@@ -145,14 +161,14 @@ impl<D: Disk> Session<D> {
         (engine.into_disk(), Ledger::of(entries))
     }
 
-    /// What holds of every session: the history has a state for each moment.
+    /// What holds of every session, for proofs: the history has a state for each moment.
     pub fn know_dated(&self)
         ensures { IsDatedBy self.now }
     {
         self.engine.know();
     }
 
-    // The reply to a line, which is done where the reply says so. The lines behind that of the reply are appended to
+    // Does a line, and returns the reply to it. The lines that follow the reply, if there are any, are appended to
     // `block`.
     fn answered<H: Threads + Sync, G: Gate>(
         &mut self,
@@ -183,7 +199,8 @@ impl<D: Disk> Session<D> {
         self.obeyed(rt, alloc, &command, workers, gate, block)
     }
 
-    // The reply to a command. One that isn't built is answered as a line outside the grammar.
+    // Does a command, and returns the reply to it. One that isn't built yet is answered like a line outside the
+    // grammar.
     fn obeyed<H: Threads + Sync, G: Gate>(
         &mut self,
         rt: &H,
@@ -229,10 +246,10 @@ impl<D: Disk> Session<D> {
         }
     }
 
-    // Sets the key of a name in what is pending.
+    // Answers `put`: in what is pending, the key of the name has this value.
     fn put(&mut self, alloc: Global, name: &[u8], value: &[u8]) -> Result<Reply, Stop>
         requires over { self.old.over ≡ false }
-        requires value { length value.now ≤ 4096 }
+        requires value { length value.now ≤ max_value }
         ensures ok { OnOk result (Does self.old self.new (put_answer self.old name.now value.now)) }
         ensures reply { IfOk result (λ r. r ≡ (put_answer self.old name.now value.now).reply) }
         ensures same { self.new.over ≡ false }
@@ -249,7 +266,7 @@ impl<D: Disk> Session<D> {
         })
     }
 
-    // Lets the key of a name be removed by what is pending.
+    // Answers `del`: what is pending removes the key of the name.
     fn del(&mut self, alloc: Global, name: &[u8]) -> Result<Reply, Stop>
         requires { self.old.over ≡ false }
         ensures ok { OnOk result (Does self.old self.new (del_answer self.old name.now)) }
@@ -268,7 +285,7 @@ impl<D: Disk> Session<D> {
         })
     }
 
-    // Lands what is pending. Room for its entry is made before the disk is touched.
+    // Answers `commit`: lands what is pending. Room for its entry is made before the disk is touched.
     fn commit<H: Threads + Sync, G: Gate>(
         &mut self,
         rt: &H,

@@ -5,10 +5,11 @@ use Rattle.std.specs.List.{AllByRecursion, IsDistinct}
 use Rattle.std.specs.FinMap.{put, find, is_sorted}
 use Rattle.std.specs.FinMap.Entries.{by_order, below_all, is_sorted-put, length-put}
 use Rattle.std.specs.Cmp.Lexicographic.{nat_list_cmp_total}
+use Rattle.jf_path.specs.Limits.{max_value}
 use Rattle.jf_path.specs.Keys.{key_cmp, IsKey, IsBytes}
 use Rattle.jf_hash.specs.Maps.{Batch, IsBatch, same_key}
 use Rattle.jf_hash.specs.KeyOrder.{same_key-exact, below-first, below-later, below-rest, sorted-rest}
-use Rattle.jf_split.specs.Limits.{IsWithinLimits, is_full}
+use Rattle.jf_split.specs.Limits.{max_keys, IsWithinLimits, is_full}
 
 -- what holds of each entry and of the new one holds of each entry after a put
 all-put : (P : List ℕ × Option (List ℕ) → Type 0) (k : List ℕ) (v : Option (List ℕ)) (b : Batch) → P (k, v) → AllByRecursion P b → AllByRecursion P (put key_cmp k v b)
@@ -57,8 +58,8 @@ turned None x y = refl
 turned (Some v) x y = refl
 
 -- a batch that is not full for a key stays within the limits when it takes it
-pub IsWithinLimits-put : (k : List ℕ) (v : Option (List ℕ)) (b : Batch) → T (is_sorted key_cmp b) → is_full k b ≡ false → IfSome v (λ w. length w ≤ 4096) → IsWithinLimits b → IsWithinLimits (put key_cmp k v b)
+pub IsWithinLimits-put : (k : List ℕ) (v : Option (List ℕ)) (b : Batch) → T (is_sorted key_cmp b) → is_full k b ≡ false → IfSome v (λ w. length w ≤ max_value) → IsWithinLimits b → IsWithinLimits (put key_cmp k v b)
 IsWithinLimits-put k v b sorted room short limits = record {
-  keys = subst (λ n. n ≤ 10000) (sym (length-put key_cmp nat_list_cmp_total k v b sorted ∙ turned (find key_cmp k b) (length b) (length b + 1))) (room_for 10000 (length b) (is_none (find key_cmp k b)) room limits.keys);
-  values = all-put (λ e. IfSome e.1 (λ w. length w ≤ 4096)) k v b short limits.values;
+  keys = subst (λ n. n ≤ max_keys) (sym (length-put key_cmp nat_list_cmp_total k v b sorted ∙ turned (find key_cmp k b) (length b) (length b + 1))) (room_for max_keys (length b) (is_none (find key_cmp k b)) room limits.keys);
+  values = all-put (λ e. IfSome e.1 (λ w. length w ≤ max_value)) k v b short limits.values;
 }

@@ -2,6 +2,7 @@
 ghost use Rattle.std.specs.Prelude.{◌≡◌, ◌⊎◌, [], ◌≤◌, ◌<◌, length, OnOk, OnErr, IfOk, IfErr, IfSome, IsSome, IsOk, Some, None, Err, IsTrue, T, map};
 ghost use Rattle.std.specs.List.{IsDistinct};
 ghost use Rattle.std.specs.FinMap.{put, find, is_sorted};
+ghost use Rattle.jf_path.specs.Limits.{max_value};
 ghost use Rattle.jf_path.specs.Keys.{key_cmp, IsBytes};
 ghost use Rattle.jf_hash.specs.Maps.{IsBatch, same_key};
 ghost use Rattle.jf_split.specs.Limits.{IsWithinLimits, is_full};
@@ -14,8 +15,8 @@ use jf_path::{Bytes, Key, Memory};
 use std::alloc::Global;
 use std::marker::Model;
 
-// The most keys that a batch holds.
-const MAX_KEYS: usize = 10_000;
+/// The most keys that a batch holds, and batches that land together.
+pub const MAX_KEYS: usize = 10_000;
 
 /// A batch of changes: at most 10,000 keys in their order, each once, with a value of at most 4,096 bytes or with
 /// `None`, which removes the key.
@@ -87,7 +88,7 @@ impl Batch {
 
     /// Sets a key to a value of at most 4,096 bytes. After a `BatchFault` the batch is unchanged.
     pub fn put(&mut self, alloc: Global, key: &Key, value: &[u8]) -> Result<(), BatchFault>
-        requires { length value.now ≤ 4096 }
+        requires { length value.now ≤ max_value }
         ensures ok { OnOk result (self.new ≡ put key_cmp key.now (Some value.now) self.old) }
         ensures full { result ≡ Err BatchFault.Full → IsTrue (is_full key.now self.old) }
         ensures room { IsTrue (is_full key.now self.old) → (result ≡ Err BatchFault.Full) ⊎ (result ≡ Err BatchFault.Memory) }
@@ -112,7 +113,7 @@ impl Batch {
     // Sets a key to its value, or to `None`.
     fn set(&mut self, key: &Key, value: Option<Bytes>) -> Result<(), BatchFault>
         requires bytes { IfSome value IsBytes }
-        requires limited { IfSome value (λ v. length v ≤ 4096) }
+        requires limited { IfSome value (λ v. length v ≤ max_value) }
         ensures ok { OnOk result (self.new ≡ put key_cmp key.now value self.old) }
         ensures full { result ≡ Err BatchFault.Full → IsTrue (is_full key.now self.old) }
         ensures room { IsTrue (is_full key.now self.old) → (result ≡ Err BatchFault.Full) ⊎ (result ≡ Err BatchFault.Memory) }

@@ -7,7 +7,7 @@ mod fault;
 mod list;
 mod piece;
 
-pub use batch::Batch;
+pub use batch::{Batch, MAX_KEYS};
 pub use fault::BatchFault;
 pub use list::BatchList;
 pub use piece::Piece;

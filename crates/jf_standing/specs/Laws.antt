@@ -3,6 +3,7 @@ use Rattle.std.specs.Prelude.{◌≡◌, ◌↔◌, ℕ, ◌+◌, ◌<◌, ◌�
 use Rattle.std.specs.List.{AllByRecursion}
 use Rattle.std.specs.List.Sorted.{IsPermutation}
 use Rattle.std.specs.FinMap.{entries, len}
+use Rattle.jf_path.specs.Limits.{max_value}
 use Rattle.jf_path.specs.Keys.{IsKey}
 use Rattle.jf_path.specs.Names.{IsName, rise}
 use Rattle.jf_path.specs.declared.name.NodeName.{NodeName}
@@ -82,7 +83,7 @@ LandingsAreRead = (fmt : Format) (s : Standing) (m : Map) → IsMap m → IsRead
 -- all that a landing writes has a spelling, if values have at most 4,096 bytes
 abbrev pub LandingsAreValid : Type 0
 LandingsAreValid =
-    (fmt : Format) (s : Standing) (m : Map) → AreEntries (leaf_entries s.nodes) → IsMap m → AllByRecursion (λ (e : List ℕ × List ℕ). length e.1 ≤ 4096) (entries m) → len m ≤ 2 ^ 63 → s.head + 1 < never
+    (fmt : Format) (s : Standing) (m : Map) → AreEntries (leaf_entries s.nodes) → IsMap m → AllByRecursion (λ (e : List ℕ × List ℕ). length e.1 ≤ max_value) (entries m) → len m ≤ 2 ^ 63 → s.head + 1 < never
     → AllByRecursion (λ x. IsName x.0 × IsNode fmt x.1) (landing_of fmt s m).fresh × AllByRecursion IsName (landing_of fmt s m).stale × IsKey (landing_of fmt s m).root
 
 -- names that rise still rise after a landing and under a later floor

@@ -3,6 +3,7 @@ use Rattle.std.specs.Prelude.{◌≡◌, ◌↔◌, ℕ, ◌+◌, ◌<◌, ◌�
 use Rattle.std.specs.List.{AllByRecursion}
 use Rattle.std.specs.List.Sorted.{IsPermutation}
 use Rattle.std.specs.FinMap.{entries, len}
+use Rattle.jf_path.specs.Limits.{max_value}
 use Rattle.jf_path.specs.Names.{IsName}
 use Rattle.jf_hash.specs.Maps.{Map, IsMap}
 use Rattle.jf_model.specs.Nodes.{Path, is_node, kept}
@@ -58,7 +59,7 @@ NewIsSound = (fmt : Format) → IsSound fmt (new_standing fmt) × (versions_of (
 abbrev pub NodesAreValid : Type 0
 NodesAreValid =
     (fmt : Format) (s : Standing) → IsSound fmt s → AreEntries (leaf_entries s.nodes)
-    → ((w : ℕ) → s.floor ≤ w → w ≤ s.head → AllByRecursion (λ (e : List ℕ × List ℕ). length e.1 ≤ 4096) (entries (map_at w s.nodes)))
+    → ((w : ℕ) → s.floor ≤ w → w ≤ s.head → AllByRecursion (λ (e : List ℕ × List ℕ). length e.1 ≤ max_value) (entries (map_at w s.nodes)))
     → AllByRecursion (λ n. IsName n.0 × IsNode fmt n.1 × (n.2 < 2 ^ 64)) s.nodes
 
 -- a sound standing has as many nodes as its versions keep

@@ -2,6 +2,7 @@
 use Rattle.std.specs.Prelude.{◌≡◌, ℕ, ◌+◌, ◌-◌, ◌<◌, ◌≤◌, ◌^◌, List, length}
 use Rattle.std.specs.List.{AllByRecursion}
 use Rattle.std.specs.FinMap.{entries, len}
+use Rattle.jf_path.specs.Limits.{max_value}
 use Rattle.jf_path.specs.Keys.{IsKey}
 use Rattle.jf_hash.specs.Maps.{Map, IsMap}
 use Rattle.jf_codec.specs.declared.format.Format.{Format}
@@ -17,7 +18,7 @@ use Rattle.jf_standing.specs.Building.{checkpoint_of}
 -- a landing is a record with a spelling, if values have at most 4,096 bytes and its lists fewer than 2^64 items
 abbrev pub LandingsAreSpelled : Type 0
 LandingsAreSpelled =
-    (fmt : Format) (s : Standing) (m : Map) → AreEntries (leaf_entries s.nodes) → IsMap m → AllByRecursion (λ (e : List ℕ × List ℕ). length e.1 ≤ 4096) (entries m) → len m ≤ 2 ^ 63 → s.head + 1 < never
+    (fmt : Format) (s : Standing) (m : Map) → AreEntries (leaf_entries s.nodes) → IsMap m → AllByRecursion (λ (e : List ℕ × List ℕ). length e.1 ≤ max_value) (entries m) → len m ≤ 2 ^ 63 → s.head + 1 < never
     → length (landing_of fmt s m).fresh < 2 ^ 64 → length (landing_of fmt s m).stale < 2 ^ 64 → IsCommit fmt (landing_of fmt s m)
 
 -- what a format keeps of a landing with counts is the landing in that format
@@ -28,5 +29,5 @@ LandingsAreKept = (fmt : Format) (s : Standing) (m : Map) → commit_in fmt (lan
 abbrev pub CheckpointsAreSpelled : Type 0
 CheckpointsAreSpelled =
     (fmt : Format) (generation : ℕ) (s : Standing) → IsSound fmt s → AreEntries (leaf_entries s.nodes)
-    → ((w : ℕ) → s.floor ≤ w → w ≤ s.head → AllByRecursion (λ (e : List ℕ × List ℕ). length e.1 ≤ 4096) (entries (map_at w s.nodes)))
+    → ((w : ℕ) → s.floor ≤ w → w ≤ s.head → AllByRecursion (λ (e : List ℕ × List ℕ). length e.1 ≤ max_value) (entries (map_at w s.nodes)))
     → 1 ≤ generation → generation ≤ 2 ^ 64 - 2 → AllByRecursion IsKey s.roots → length s.nodes < 2 ^ 64 → IsRecord fmt (checkpoint_of generation s)

@@ -2,6 +2,21 @@
 use Rattle.std.specs.Prelude.{◌≡◌, ℕ, ◌+◌, ◌-◌, ◌*◌, ◌^◌, Bool, if◌then◌else◌, ◌==◌, ◌&&◌, nat_le, nat_lt, List, [], ◌∷◌, ◌++◌, length, take, Option, Some, None, option_and_then, decimal, bytes_eq, fold}
 use Rattle.std.specs.List.{slice_split, join_with_byte}
 use Rattle.hex.specs.Hex.{encode_lower}
+use Rattle.jf_path.specs.Limits.{max_value}
+
+-- ---- limits
+
+-- the most bytes of a line
+abbrev pub max_line : ℕ
+max_line = 8500
+
+-- the most bytes of a name
+abbrev pub max_name : ℕ
+max_name = 128
+
+-- the most entries of a chunk
+abbrev pub max_chunk : ℕ
+max_chunk = 1000
 
 -- ---- words
 
@@ -24,7 +39,7 @@ is_word w v = bytes_eq w v
 
 -- whether a line has more than 8,500 bytes
 abbrev pub is_long : List ℕ → Bool
-is_long line = nat_lt 8500 (length line)
+is_long line = nat_lt max_line (length line)
 
 -- a function applied to two values, if both are there
 abbrev pub both : {X Y Z : Type 0} → (X → Y → Z) → Option X → Option Y → Option Z
@@ -76,7 +91,7 @@ bytes_within least most w = option_and_then (λ bytes. if nat_le least (length b
 
 -- a name: 1 to 128 bytes
 abbrev pub name_of : List ℕ → Option (List ℕ)
-name_of w = bytes_within 1 128 w
+name_of w = bytes_within 1 max_name w
 
 -- a hash or a key: 32 bytes
 abbrev pub hash_of : List ℕ → Option (List ℕ)
@@ -85,7 +100,7 @@ hash_of w = bytes_within 32 32 w
 -- a value: the sign `=`, then at most 4,096 bytes
 abbrev pub value_of : List ℕ → Option (List ℕ)
 value_of [] = None
-value_of (sign ∷ digits) = if sign == 61 then bytes_within 0 4096 digits else None
+value_of (sign ∷ digits) = if sign == 61 then bytes_within 0 max_value digits else None
 
 -- the word that writes a value: `=` and its hexadecimal digits
 abbrev pub value_word : List ℕ → List ℕ

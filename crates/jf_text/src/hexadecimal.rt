@@ -1,8 +1,10 @@
 // Words of hexadecimal digits, `0` to `9` and `a` to `f`, two to a byte, as bytes.
 ghost use Rattle.std.specs.Prelude.{◌≡◌, ◌≤◌, length, IfOk, IfSome};
+ghost use Rattle.jf_path.specs.Limits.{max_value};
 ghost use Rattle.jf_text.specs.Words.{digit, byte_of, unhex, bytes_within, name_of, hash_of, value_of};
 
-use jf_path::{Bytes, Memory};
+use crate::limits::MAX_NAME;
+use jf_path::{Bytes, MAX_VALUE, Memory};
 use std::alloc::Global;
 
 /// The value of a hexadecimal digit, or `None` for any other byte. Upper case is refused.
@@ -58,17 +60,17 @@ fn bytes_within(alloc: Global, least: u64, most: u64, word: &[u8]) -> Result<Opt
 pub fn name_of(alloc: Global, word: &[u8]) -> Result<Option<Bytes>, Memory>
     ensures { IfOk result (λ name. name ≡ name_of word.now) }
 {
-    bytes_within(alloc, 1, 128, word)
+    bytes_within(alloc, 1, MAX_NAME, word)
 }
 
 /// The value that a word writes: the sign `=`, then at most 4,096 bytes. `None` if the word is no value
 /// (docs/FORMATS.md, Scripts).
 pub fn value_of(alloc: Global, word: &[u8]) -> Result<Option<Bytes>, Memory>
     ensures value { IfOk result (λ value. value ≡ value_of word.now) }
-    ensures short { IfOk result (λ value. IfSome value (λ v. length v ≤ 4096)) }
+    ensures short { IfOk result (λ value. IfSome value (λ v. length v ≤ max_value)) }
 {
     match word {
-        [b'=', digits @ ..] => bytes_within(alloc, 0, 4096, digits),
+        [b'=', digits @ ..] => bytes_within(alloc, 0, MAX_VALUE, digits),
         _ => Ok(None),
     }
 }

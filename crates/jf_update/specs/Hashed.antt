@@ -2,6 +2,7 @@
 use Rattle.std.specs.Prelude.{◌≡◌, ℕ, ◌≤◌, List, [], ◌∷◌, Option, Some, None, length, map}
 use Rattle.std.specs.List.{AllByRecursion}
 use denote.Ref.{Bor}
+use Rattle.jf_path.specs.Limits.{max_value}
 use Rattle.jf_hash.specs.Hashes.{V}
 use Rattle.jf_hash.specs.Slots.{Part}
 
@@ -19,7 +20,7 @@ plain es = map plain_entry es
 
 -- the hash is that of the value, which has at most 4,096 bytes
 abbrev pub IsHashed : HashedValue → Type 0
-IsHashed v = (v.1 ≡ V v.0.now) × (length v.0.now ≤ 4096)
+IsHashed v = (v.1 ≡ V v.0.now) × (length v.0.now ≤ max_value)
 
 -- each entry has the hash of its value
 abbrev pub AreHashed : List (List ℕ × HashedValue) → Type 0

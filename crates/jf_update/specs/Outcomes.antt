@@ -1,6 +1,7 @@
 -- The nodes below a path after a batch.
 use Rattle.std.specs.Prelude.{◌≡◌, ℕ, ◌+◌, ◌<◌, ◌≤◌, true, false, Bool, List, length, Option, Some, None, IfSome, slice_index_or, slice_set}
 use Rattle.std.specs.List.{AllByRecursion}
+use Rattle.jf_path.specs.Limits.{max_value}
 use Rattle.jf_hash.specs.Maps.{Batch}
 use Rattle.jf_hash.specs.Slots.{Part, with_nibble}
 use Rattle.jf_model.specs.Changes.{applied}
@@ -15,7 +16,7 @@ use Rattle.jf_update.specs.declared.outcome.Outcome.TheVariants.{Same, New}
 
 -- each value of a batch has at most 4,096 bytes
 abbrev pub AreShort : Batch → Type 0
-AreShort bs = AllByRecursion (λ e. IfSome e.1 (λ v. length v ≤ 4096)) bs
+AreShort bs = AllByRecursion (λ e. IfSome e.1 (λ v. length v ≤ max_value)) bs
 
 -- entries and a batch whose keys all begin with one path
 pub record AreParts (depth : ℕ) (es : Part) (bs : Batch) : Type 0 where

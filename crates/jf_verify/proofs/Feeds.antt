@@ -15,7 +15,7 @@ without-below (b ∷ text) (suc i) none =
     let other : (b == 10) ≡ false = false_from_ne_true (b == 10) (none 0 (omega arith)) in
     rw (other, without-below text i (λ k lt h. none (suc k) (omega arith) h)) refl
 
--- up to the first line feed
+-- the first line ends at the first line feed
 pub lines-at : (text : List ℕ) (i : ℕ) → NoneBefore (Passes (is_byte 10) text) 0 (length text) i × Passes (is_byte 10) text i → lines text ≡ take i text ∷ lines (drop (i + 1) text)
 lines-at text i h =
     let e : get_or text i 0 ≡ 10 = eqb-true (get_or text i 0) 10 h.1 in
@@ -32,7 +32,7 @@ unfolding lines
 lines-plain b [] h = rw (plain_first b [] h).0 refl
 lines-plain b (d ∷ text) h = let parts = plain_first b (d ∷ text) h in rw (parts.0, lines-plain d text parts.1) refl
 
--- without a line feed
+-- a text without a line feed is one line
 pub lines-whole : (text : List ℕ) → 0 < length text → Nowhere (Passes (is_byte 10) text) 0 (length text) → lines text ≡ take (length text) text ∷ lines (drop (length text + 1) text)
 unfolding lines
 lines-whole [] some none = absurd (omega arith)

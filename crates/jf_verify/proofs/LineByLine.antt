@@ -1,4 +1,4 @@
--- An input that is judged as a whole is answered as line by line.
+-- An input has the same verdicts judged as a whole and line by line.
 use Rattle.std.proofs.Common.{◌≡◌, ℕ, zero, suc, ◌+◌, ◌-◌, ◌≤◌, ◌==◌, false, cond, List, [], ◌∷◌, ◌++◌, length, drop, length-drop, Option, Some, None, Ok, Err, refl, sym, ap, ◌∙◌, arith}
 use Rattle.std.proofs.lemmas.List.{append_assoc, append-nil, drop-drop, drop_all}
 use Rattle.std.proofs.lemmas.Bool.Decides.{nat_tests}
@@ -16,19 +16,19 @@ use Rattle.jf_verify.specs.Steps.{State, Step, keeps, no_match, silent, whole, s
 use Rattle.jf_verify.specs.Laws.{VerdictsComeLineByLine}
 use Rattle.jf_blocks.proofs.Bounds.{Bounded, proof_block-bounded}
 
--- a step, and then the lines that come
+-- the text of a step, and then of the lines after it
 abbrev goes : Step → ℕ → List (List ℕ) → List ℕ
 goes step at ls = step.text ++ rest (record { at = at + 1; known = step.known; stage = step.stage }) ls
 
--- an answer, and then the lines behind it
+-- the text of an answer, and then of the lines after it
 abbrev goes_from : Said → List ℕ
 goes_from s = s.text ++ rest (record { at = s.place.at; known = s.known; stage = stage.Between }) s.place.left
 
--- a block is read or not, and then come the lines behind it
+-- the text of a block that was read or not, and then of the lines after it
 abbrev answered : List ℕ → Judging → Place → Read Block → List ℕ
 answered root j p r = goes_from (say_block root j p r)
 
--- ---- places behind a first line
+-- ---- places after a first line
 
 abbrev Follows : Place → ℕ → List (List ℕ) → Type 0
 Follows p at left = (k : ℕ) × (at ≡ p.at + k) × (left ≡ drop k p.left)
@@ -167,7 +167,7 @@ pub verdicts-rest : VerdictsComeLineByLine
 unfolding verdicts
 verdicts-rest input = verdicts_from-rest (length (lines input)) nothing_known 1 (lines input) (omega arith)
 
--- behind the last line all is said
+-- after the last line all verdicts are written
 pub all_read : (before written text : List ℕ) (start : ℕ) (s : State) → length text ≤ start → written ++ rest s (lines (drop start text)) ≡ before ++ rest begun (lines text)
     → written ++ rest s [] ≡ before ++ verdicts text
 unfolding lines

@@ -1,20 +1,22 @@
--- One line, and those that come behind it.
-use Rattle.std.proofs.Common.{◌≡◌, ℕ, ◌+◌, true, List, ◌∷◌, ◌++◌, refl, ap}
+-- One line, and those after it.
+use Rattle.std.proofs.Common.{◌≡◌, ℕ, ◌+◌, true, List, ◌∷◌, ◌++◌, refl, ap, ◌∙◌}
 use Rattle.std.proofs.lemmas.List.{append_assoc}
 use Rattle.jf_text.specs.Words.{is_long}
+use Rattle.jf_input.specs.Feeds.{given_of}
+use Rattle.jf_input.proofs.Given.{given_alike}
 use Rattle.jf_verify.specs.declared.stage.Stage.{Stage}
 use Rattle.jf_verify.specs.declared.stage.Stage.TheVariants as stage
 use Rattle.jf_verify.specs.Verdicts.{Judging}
-use Rattle.jf_verify.specs.Steps.{State, said, after, line_step, rest}
+use Rattle.jf_verify.specs.Steps.{State, Step, said, after, line_step, rest}
 use Rattle.jf_verify.specs.Laws.{LongLinesAreAlike}
 
--- what is written and what is still to be said are together the same behind a line
+-- the text written and the text still to come are together the same before a line and after it
 pub rest-in_turn : (before written : List ℕ) (s next : State) (line : List ℕ) (ls : List (List ℕ)) → written ≡ before ++ said s line → next ≡ after s line
     → written ++ rest next ls ≡ before ++ rest s (line ∷ ls)
 unfolding rest
 rest-in_turn before written s next line ls e is = rw (e, is) (append_assoc before (said s line) (rest (after s line) ls))
 
--- a long line is like any other
+-- all long lines make the same step
 pub long-alike : (at : ℕ) (j : Judging) (s : Stage) (line other : List ℕ) → is_long line ≡ true → is_long other ≡ true → line_step at j s line ≡ line_step at j s other
 unfolding line_step
 long-alike at j stage.Between line other e h = rw (e, h) refl
@@ -27,3 +29,9 @@ pub rest-long : LongLinesAreAlike
 unfolding rest
 rest-long s line other ls long too =
     ap (λ a. a.text ++ rest (record { at = s.at + 1; known = a.known; stage = a.stage }) ls) (long-alike s.at s.known s.stage line other long too)
+
+-- what a line is given stands for the whole of it
+pub takes-given : (s next : State) (line t : List ℕ) → next ≡ after s (given_of line) → t ≡ said s (given_of line) → (next ≡ after s line) × (t ≡ said s line)
+takes-given s next line t is said_is =
+    let same = given_alike (line_step s.at s.known s.stage) (long-alike s.at s.known s.stage) line in
+    (is ∙ ap (λ (a : Step). let x : State = record { at = s.at + 1; known = a.known; stage = a.stage } in x) same, said_is ∙ ap (λ (a : Step). a.text) same)

@@ -1,5 +1,5 @@
--- An input that is judged line by line.
-use Rattle.std.specs.Prelude.{◌≡◌, ℕ, ◌+◌, ◌-◌, ◌==◌, if◌then◌else◌, List, [], ◌∷◌, ◌++◌, Option, Some, None}
+-- An input that is judged line by line: what is known between two lines, and what one line makes of it.
+use Rattle.std.specs.Prelude.{◌≡◌, ℕ, ◌+◌, ◌-◌, ◌==◌, if◌then◌else◌, List, [], ◌∷◌, ◌++◌, Option, Some, None, Result, Ok, Err}
 use Rattle.jf_hash.specs.Hashes.{K}
 use Rattle.jf_collide.specs.declared.judged.Judged.{Judged}
 use Rattle.jf_blocks.specs.Reading.{line_read, first_of, named_of, claim_of, leaf_of, side_of}
@@ -20,40 +20,40 @@ pub record State : Type 0 where
 abbrev pub begun : State
 begun = record { at = 1; known = nothing_known; stage = stage.Between }
 
--- what a line is answered, and what is known and how far a block is read behind it
+-- the text that answers a line, and after the line what is known and how far a block is read
 pub record Step : Type 0 where
   pub text : List ℕ
   pub known : Judging
   pub stage : Stage
 
--- a step that was made: what is said is written, and what is known and how far a block is read is as the step says
+-- a step was made: its text is appended, and what is known and how far a block is read are as it says
 abbrev pub IsMade : Step → List ℕ → List ℕ → Judging → Stage → Type 0
 IsMade step before written known next = (written ≡ before ++ step.text) × (known ≡ step.known) × (next ≡ step.stage)
 
 -- ---- lines that add nothing to what is known
 
--- what a line is answered, and how far a block is read behind it
+-- the text that answers a line, and how far a block is read after it
 pub record Turn : Type 0 where
   pub text : List ℕ
   pub stage : Stage
 
--- a turn that was taken
+-- a turn was taken: its text is appended, and the block is read as far as it says
 abbrev pub IsTaken : Turn → List ℕ → List ℕ → Stage → Type 0
 IsTaken turn before written next = (written ≡ before ++ turn.text) × (next ≡ turn.stage)
 
--- nothing is added
+-- a turn as a step that adds nothing to what is known
 abbrev pub keeps : Judging → Turn → Step
 keeps j turn = record { text = turn.text; known = j; stage = turn.stage }
 
--- the line doesn't match
+-- the line doesn't match: it is named, and reading goes on between blocks
 abbrev pub no_match : ℕ → Turn
 no_match at = record { text = syntax_text at; stage = stage.Between }
 
--- nothing is said, and reading goes on
+-- nothing is written, and reading goes on
 abbrev pub silent : Stage → Turn
 silent s = record { text = []; stage = s }
 
--- a block begins, where a root was set
+-- a block begins if a root was set; if not, its first line doesn't match
 abbrev pub begins : ℕ → ℕ → Option (List ℕ) → Turn
 begins at n None = no_match at
 begins at n (Some root) = silent (stage.Name (record { root = root; missing = n }))
@@ -80,7 +80,7 @@ first_step at j (Some (first.Proof n)) = keeps j (begins at n j.root)
 abbrev pub whole : Judging → List ℕ → Judged → Step
 whole j root block = let a = judged root j.claims block in record { text = a.0; known = record { root = j.root; claims = a.1 }; stage = stage.Between }
 
--- what was read of a block: it is whole where no sibling is missing
+-- what was read of a block: it is whole if no sibling is missing
 abbrev pub sided : Judging → Heading → Judged → Step
 sided j heading block = if heading.missing == 0 then whole j heading.root block else keeps j (silent (stage.Sides heading block))
 
@@ -93,7 +93,7 @@ leaf_step at j heading key claim (Some leaf) = sided j heading (record { key = k
 abbrev pub with_side : Judged → List ℕ → Judged
 with_side block h = record { key = block.key; claim = block.claim; proof = record { leaf = block.proof.leaf; siblings = block.proof.siblings ++ h ∷ [] } }
 
--- and one less to come
+-- one sibling less to come
 abbrev pub one_less : Heading → Heading
 one_less heading = record { root = heading.root; missing = heading.missing - 1 }
 
@@ -102,7 +102,7 @@ abbrev pub side_step : ℕ → Judging → Heading → Judged → Option (List �
 side_step at j heading block None = keeps j (no_match at)
 side_step at j heading block (Some h) = sided j (one_less heading) (with_side block h)
 
--- a line, by how far a block is read
+-- what a line makes, by how far a block is read
 unfoldable pub line_step : ℕ → Judging → Stage → List ℕ → Step
 line_step at j stage.Between line = first_step at j (line_read first_of line)
 line_step at j (stage.Name heading) line = keeps j (name_turn at heading (line_read named_of line))
@@ -114,11 +114,11 @@ line_step at j (stage.Sides heading block) line = side_step at j heading block (
 abbrev pub said : State → List ℕ → List ℕ
 said s line = (line_step s.at s.known s.stage line).text
 
--- what is known behind it
+-- what is known after one line
 abbrev pub after : State → List ℕ → State
 after s line = let a = line_step s.at s.known s.stage line in record { at = s.at + 1; known = a.known; stage = a.stage }
 
--- what is said where the lines end: nothing between blocks
+-- the text that answers the end of the input: nothing between blocks
 abbrev pub end_text : ℕ → Stage → List ℕ
 end_text at stage.Between = []
 end_text at (stage.Name heading) = syntax_text at
@@ -130,3 +130,15 @@ end_text at (stage.Sides heading block) = syntax_text at
 unfoldable pub rest : State → List (List ℕ) → List ℕ
 rest s [] = end_text s.at s.stage
 rest s (line ∷ ls) = said s line ++ rest (after s line) ls
+
+-- ---- a machine that takes lines
+
+-- what a line makes of it and adds; after a refusal nothing is known of it
+abbrev pub TakesLine : {F : Type 0} → State → List ℕ → State → Result (List ℕ) F → Type 0
+TakesLine s line next (Ok text) = (next ≡ after s line) × (text ≡ said s line)
+TakesLine s line next (Err why) = Unit {0}
+
+-- what the end adds
+abbrev pub TakesEnd : {F : Type 0} → State → State → Result (List ℕ) F → Type 0
+TakesEnd s next (Ok text) = text ≡ rest s []
+TakesEnd s next (Err why) = Unit {0}

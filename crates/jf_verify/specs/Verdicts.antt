@@ -1,4 +1,4 @@
--- What is said of proof texts.
+-- The text that answers an input of roots and proof blocks (docs/FORMATS.md, "Judging proofs").
 use Rattle.std.specs.Prelude.{ℕ, zero, suc, ◌+◌, ◌-◌, Bool, true, false, not, ◌&&◌, List, [], ◌∷◌, ◌++◌, drop, length, find, Option, Some, None, Ok, Err, codes, decimal, bytes_eq}
 use Rattle.hex.specs.Hex.{encode_lower}
 use Rattle.jf_hash.specs.Hashes.{K}
@@ -21,14 +21,14 @@ pub record Judging : Type 0 where
 
 -- ---- one block
 
--- the number of a check that fails
+-- the number of the check that failed
 abbrev pub fault_number : ProofFault → ℕ
 fault_number fault.TooDeep = 1
 fault_number fault.WrongLeaf = 2
 fault_number fault.WrongPrefix = 3
 fault_number fault.WrongRoot = 4
 
--- `refused` and the number of the check
+-- the line `refused`, with the number of the check
 abbrev pub refused_text : ProofFault → List ℕ
 refused_text why = line_text (codes "refused" ∷ decimal (fault_number why) ∷ [])
 
@@ -47,12 +47,12 @@ contradicts a b = bytes_eq b.root a.root && bytes_eq b.judged.key a.judged.key &
 abbrev pub contradicted : Accepted → List Accepted → Option Accepted
 contradicted a claims = find (contradicts a) claims
 
--- `collision` and the two lists
+-- the line `collision` with two lists of bytes, or nothing
 abbrev pub collision_text : Option (List ℕ × List ℕ) → List ℕ
 collision_text None = []
 collision_text (Some pair) = line_text (codes "collision" ∷ encode_lower pair.0 ∷ encode_lower pair.1 ∷ [])
 
--- where a claim and an earlier one come apart
+-- the line with the first lists in which a claim and an earlier one differ
 abbrev pub contradiction_text : Accepted → Option Accepted → List ℕ
 contradiction_text a None = []
 contradiction_text a (Some b) = collision_text (clash a.judged.key b.judged.claim b.judged.proof a.judged.claim a.judged.proof)
@@ -72,30 +72,30 @@ judged root claims j =
 
 -- ---- what comes next
 
--- `syntax` and the number of a line
+-- the line `syntax`, with the number of a line
 abbrev pub syntax_text : ℕ → List ℕ
 syntax_text at = line_text (codes "syntax" ∷ decimal at ∷ [])
 
--- what stands behind line `at`
+-- the place after line `at`
 abbrev pub behind : ℕ → Place → Place
 behind at p = record { at = at + 1; left = drop (at + 1 - p.at) p.left }
 
--- one answer, what is known after it, and the place behind
+-- the text that answers a root or a block, what is known after it, and the place after it
 pub record Said : Type 0 where
   pub text : List ℕ
   pub known : Judging
   pub place : Place
 
--- line `at` is the first that doesn't match
+-- line `at` is the first that doesn't match: it is named, and reading goes on after it
 abbrev pub wrong_at : ℕ → Judging → Place → Said
 wrong_at at j p = record { text = syntax_text at; known = j; place = behind at p }
 
--- a block was read, or one of its lines doesn't match
+-- a block was read and is judged, or one of its lines doesn't match
 abbrev pub say_block : List ℕ → Judging → Place → Read Block → Said
 say_block root j p (Err at) = wrong_at at j p
 say_block root j p (Ok b) = let a = judged root j.claims (judged_of b.0) in record { text = a.0; known = record { root = j.root; claims = a.1 }; place = b.1 }
 
--- the place p is that of the first line, and q is behind it
+-- what a first line makes: a root, a block, or no match. Its place is p, and q is the one after it
 abbrev pub say : Judging → Place → Place → Option FirstLine → Said
 say j p q None = wrong_at p.at j p
 say j p q (Some (first.Root root)) = record { text = []; known = record { root = Some root; claims = j.claims }; place = q }
@@ -103,13 +103,13 @@ say j p q (Some (first.Proof n)) = elim j.root [ None ↦ wrong_at p.at j p | So
 
 -- ---- all of the input
 
--- the number n isn't below that of the lines left
+-- the text that answers the lines from a place on; n is at least their number
 unfoldable pub verdicts_from : ℕ → Judging → Place → List ℕ
 verdicts_from zero j p = []
 verdicts_from (suc n) j p =
     elim p.left [ [] ↦ [] | line ∷ rest ↦ let s = say j p (record { at = p.at + 1; left = rest }) (line_read first_of line) in s.text ++ verdicts_from n s.known s.place ]
 
--- nothing is set and nothing accepted
+-- no root is set, and no claim is accepted
 abbrev pub nothing_known : Judging
 nothing_known = record { root = None; claims = [] }
 

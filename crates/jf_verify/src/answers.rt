@@ -1,4 +1,4 @@
-// Answers as text.
+// The verdicts as lines. If memory runs out, a part of a line may have been appended.
 ghost use Rattle.std.specs.Prelude.{◌≡◌, ◌++◌, ◌∷◌, [], Some, codes, OnOk, OnErr};
 ghost use Rattle.std.specs.Prelude.{decimal};
 ghost use Rattle.jf_text.specs.Words.{line_text, Extends};
@@ -8,7 +8,7 @@ use jf_path::{Bytes, Memory};
 use jf_proof::ProofFault;
 use jf_text::{write_hex, write_number};
 
-/// The number of a check that fails.
+/// The number of the check that failed, from 1 to 4.
 fn fault_number(why: ProofFault) -> u64
     ensures { result ≡ fault_number why }
 {
@@ -20,7 +20,7 @@ fn fault_number(why: ProofFault) -> u64
     }
 }
 
-/// Appends why a claim is refused.
+/// Appends the line of a claim that is refused, with the number of the check that failed.
 pub(crate) fn write_refused(why: ProofFault, out: &mut Bytes) -> Result<(), Memory>
     ensures ok { OnOk result (out.new ≡ out.old ++ refused_text why) }
     ensures err { OnErr result (Extends out.old out.new) }
@@ -28,7 +28,7 @@ pub(crate) fn write_refused(why: ProofFault, out: &mut Bytes) -> Result<(), Memo
     write_numbered(b"refused ", fault_number(why), out)
 }
 
-/// Appends the number of a line that doesn't match.
+/// Appends the line that names line `at`, which doesn't match.
 pub(crate) fn write_syntax(at: u64, out: &mut Bytes) -> Result<(), Memory>
     ensures ok { OnOk result (out.new ≡ out.old ++ syntax_text at) }
     ensures err { OnErr result (Extends out.old out.new) }
@@ -36,7 +36,7 @@ pub(crate) fn write_syntax(at: u64, out: &mut Bytes) -> Result<(), Memory>
     write_numbered(b"syntax ", at, out)
 }
 
-/// Appends two lists with one hash.
+/// Appends the line of two lists of bytes that have one hash.
 pub(crate) fn write_collision(first: &[u8], second: &[u8], out: &mut Bytes) -> Result<(), Memory>
     ensures ok { OnOk result (out.new ≡ out.old ++ collision_text (Some (first.now, second.now))) }
     ensures err { OnErr result (Extends out.old out.new) }
@@ -46,7 +46,7 @@ pub(crate) fn write_collision(first: &[u8], second: &[u8], out: &mut Bytes) -> R
     out.push(b'\n')
 }
 
-/// Appends a number behind a label, and ends the line.
+/// Appends a label and a number after it, and ends the line.
 fn write_numbered(label: &[u8], number: u64, out: &mut Bytes) -> Result<(), Memory>
     ensures ok { OnOk result (out.new ≡ out.old ++ (label.now ++ (decimal number ++ 10 ∷ []))) }
     ensures err { OnErr result (Extends out.old out.new) }

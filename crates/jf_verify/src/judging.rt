@@ -7,14 +7,15 @@ use crate::answers::write_syntax;
 use crate::known::Known;
 use crate::reading::read_line;
 use crate::stage::Stage;
+use jf_input::LineMachine;
 use jf_path::{Bytes, Memory};
 use std::alloc::Global;
 use std::marker::Model;
 use std::mem::replace;
 
-/// Judges the lines of an input one after another, each given without the byte that ends it. Of a line of more than 8,500
-/// bytes the first 8,501 will do. A refusal, for want of memory or where lines can no more be counted in 64 bits, leaves
-/// the text as it was, and a judge that has read nothing.
+/// Judges the lines of an input one after another (docs/FORMATS.md, "Judging proofs"). Each line is given without the
+/// byte that ends it; of a line of more than 8,500 bytes the first 8,501 are enough. A call is refused if memory runs
+/// out or the number of the next line doesn't fit in 64 bits. Then the text is unchanged, and the judge is as new.
 #[derive(Drop)]
 pub struct Judge {
     at: u64,
@@ -31,7 +32,7 @@ impl Model for Judge {
 }
 
 impl Judge {
-    /// Nothing is read yet.
+    /// A judge that has read no line.
     pub fn new(alloc: Global) -> Judge
         ensures { result ≡ begun }
     {
@@ -42,7 +43,7 @@ impl Judge {
         }
     }
 
-    /// Reads the next line, and appends what it is answered.
+    /// Reads the next line, and appends the text that answers it.
     pub fn line(&mut self, alloc: Global, line: &[u8], out: &mut Bytes) -> Result<(), Memory>
         ensures said { OnOk result (out.new ≡ out.old ++ said self.old line.now) }
         ensures after { OnOk result (self.new ≡ after self.old line.now) }
@@ -63,7 +64,7 @@ impl Judge {
         }
     }
 
-    /// Appends what is answered where the input ends, and begins anew.
+    /// Appends the text that answers the end of the input. The judge is then as new.
     #[tactic(auto, unfolding(crate::specs::Steps::rest))]
     pub fn end(&mut self, alloc: Global, out: &mut Bytes) -> Result<(), Memory>
         ensures ok { OnOk result (out.new ≡ out.old ++ rest self.old []) }
@@ -81,7 +82,7 @@ impl Judge {
         }
     }
 
-    /// The judge behind one line more.
+    /// The judge after one line more. If it is refused, a part of the text may have been appended.
     fn behind(self, alloc: Global, line: &[u8], out: &mut Bytes) -> Result<Judge, Memory>
         ensures said { OnOk result (out.new ≡ out.old ++ said self line.now) }
         ensures after { IfOk result (λ judge. judge ≡ after self line.now) }
@@ -101,7 +102,7 @@ impl Judge {
         })
     }
 
-    /// Appends what is answered where the input ends.
+    /// Appends the text that answers the end of the input.
     fn write_end(self, out: &mut Bytes) -> Result<(), Memory>
         ensures ok { OnOk result (out.new ≡ out.old ++ end_text self.at self.stage) }
         ensures err { OnErr result (Extends out.old out.new) }
@@ -110,6 +111,29 @@ impl Judge {
             Stage::Between => Ok(()),
             _ => write_syntax(self.at, out),
         }
+    }
+}
+
+impl LineMachine for Judge {
+    ghost use Rattle.std.specs.Prelude.{⊤};
+    ghost use Rattle.jf_verify.specs.Steps.{TakesLine, TakesEnd};
+
+    type Stop = Memory;
+
+    ghost ready = { λ _. ⊤ };
+
+    ghost takes = { λ s line next r. TakesLine s line next r };
+
+    ghost ends = { λ s next r. TakesEnd s next r };
+
+    fn take_line(&mut self, alloc: Global, line: &[u8], out: &mut Bytes) -> Result<(), Memory> {
+        self.line(alloc, line, out)?;
+        Ok(())
+    }
+
+    fn take_end(&mut self, alloc: Global, out: &mut Bytes) -> Result<(), Memory> {
+        self.end(alloc, out)?;
+        Ok(())
     }
 }
 

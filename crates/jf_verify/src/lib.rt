@@ -1,5 +1,5 @@
-//! Proof texts that are judged: roots and proof blocks as lines, and what is answered to each. `specs/` says what, of all
-//! of an input and line by line.
+//! Proof texts are judged with nothing but the roots that stand in them. Roots and proof blocks come as lines, and each
+//! block gets a verdict. `specs/` defines the verdicts twice: on a whole input, and line by line.
 #![tactic(auto)]
 
 mod accepted;

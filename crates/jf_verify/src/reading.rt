@@ -1,4 +1,4 @@
-// One line more.
+// What one line more makes of a judge, by how far the present block is read.
 ghost use Rattle.std.specs.Prelude.{IfOk, OnErr};
 ghost use Rattle.jf_text.specs.Words.{Extends};
 ghost use Rattle.jf_blocks.specs.Reading.{line_read, first_of, named_of, claim_of};
@@ -14,8 +14,8 @@ use jf_path::{Bytes, HashList, Key, Memory};
 use jf_proof::Proof;
 use std::alloc::Global;
 
-/// Reads line `at`, appends what it is answered, and tells how far a block is read behind it. A refusal leaves the text
-/// that was there, and maybe half an answer behind it.
+/// Reads line `at`, appends the text that answers it, and returns how far a block is read after it. If memory runs out,
+/// a part of that text may have been appended.
 #[tactic(auto, unfolding(crate::specs::Steps::line_step))]
 pub(crate) fn read_line(
     alloc: Global,
@@ -47,7 +47,7 @@ pub(crate) fn read_line(
     }
 }
 
-/// A line that doesn't match.
+/// A line that doesn't match: it is named, and reading goes on between blocks.
 fn wrong(at: u64, out: &mut Bytes) -> Result<Stage, Memory>
     ensures ok { IfOk result (λ next. IsTaken (no_match at) out.old out.new next) }
     ensures err { OnErr result (Extends out.old out.new) }
@@ -139,7 +139,7 @@ fn side(
     go_on(alloc, known, heading, judged, out)
 }
 
-/// What was read of a block: it is judged where no sibling is missing.
+/// What was read of a block: it is judged if no sibling is missing.
 fn go_on(
     alloc: Global,
     known: &mut Known,

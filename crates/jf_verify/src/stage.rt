@@ -1,9 +1,9 @@
-// How far a block is read.
+// A block comes line by line. Between two lines a judge keeps what it has read of the block.
 use jf_collide::Judged;
 use jf_hash::Hash;
 use jf_path::{Bytes, Key};
 
-/// What stands over a block.
+/// What is known of a block since its first line.
 #[derive(Clone, Copy, Debug)]
 pub struct Heading {
     /// The root that the block is judged under.

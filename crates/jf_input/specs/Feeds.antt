@@ -1,0 +1,81 @@
+-- What a machine that takes lines makes of the lines of an input, and what it adds to a text.
+use Rattle.std.specs.Prelude.{◌≡◌, ◌⊎◌, ℕ, ◌+◌, List, [], ◌∷◌, ◌++◌, take, length, Option, Some, option_map, Result, Ok, Err}
+use Rattle.jf_io.specs.Sink.{IsCutShort}
+use Rattle.jf_io.specs.Lines.{lines, whole_lines}
+use Rattle.jf_io.specs.LinesRead.{AreFirst}
+use Rattle.jf_text.specs.Words.{max_line}
+use Rattle.jf_input.specs.declared.feeding.Feeding.{Feeding}
+use Rattle.jf_input.specs.declared.feeding.Feeding.TheVariants as feeding
+
+-- what a machine is given of a line: of a long one so much of its front that it is seen to be long
+abbrev pub given_of : List ℕ → List ℕ
+given_of line = take (max_line + 1) line
+
+-- these lines were taken one after another, and this text is what they add
+abbrev pub Took : {M F : Type 0} → (M → List ℕ → M → Result (List ℕ) F → Type 0) → M → List (List ℕ) → M → List ℕ → Type 0
+Took takes old [] new text = (new ≡ old) × (text ≡ [])
+Took takes old (line ∷ ls) new text = (mid : _) × (t : List ℕ) × (more : List ℕ) × takes old line mid (Ok t) × Took takes mid ls new more × (text ≡ t ++ more)
+
+-- this was appended to a text, if it is told
+abbrev pub Appends : Option (List ℕ) → Option (List ℕ) → List ℕ → Type 0
+Appends old new text = new ≡ option_map (λ t. t ++ text) old
+
+-- ---- how far an input was read
+
+-- this was taken of an input, and these lines are the first of it, each read to its end
+pub record HasRead (input left : List ℕ) (ls : List (List ℕ)) : Type 0 where
+  pub taken : List ℕ
+  pub split : input ≡ taken ++ left
+  pub first : AreFirst taken left ls
+  pub behind : List (List ℕ)
+  pub lines_are : lines input ≡ ls ++ behind
+
+-- the same of a source, if it tells its bytes
+abbrev pub Reads : Option (List ℕ) → Option (List ℕ) → List (List ℕ) → Type 0
+Reads source source' ls = (input : List ℕ) → source ≡ Some input → (left : List ℕ) × (source' ≡ Some left) × HasRead input left ls
+
+-- nothing is left, and these are all lines
+abbrev pub ReadsAll : Option (List ℕ) → Option (List ℕ) → List (List ℕ) → Type 0
+ReadsAll source source' ls = (input : List ℕ) → source ≡ Some input → (source' ≡ Some []) × (lines input ≡ ls)
+
+-- these are all lines whose ends were taken
+abbrev pub ReadsWhole : Option (List ℕ) → Option (List ℕ) → List (List ℕ) → Type 0
+ReadsWhole source source' ls = (input : List ℕ) → source ≡ Some input → (left : List ℕ) × (source' ≡ Some left) × (r : HasRead input left ls) × (length ls ≡ whole_lines r.taken)
+
+-- ---- how it ended
+
+-- at a line: what it adds was cut short, or the machine stopped in it
+abbrev pub EndsAtLine : {M F : Type 0} → (M → List ℕ → M → Result (List ℕ) F → Type 0) → Feeding F → M → List ℕ → M → Option (List ℕ) → Option (List ℕ) → Type 0
+EndsAtLine takes feeding.WriteFault old line new text text' = (t : List ℕ) × takes old line new (Ok t) × IsCutShort text text' t
+EndsAtLine takes (feeding.Stopped why) old line new text text' = takes old line new (Err why) × (text' ≡ text)
+EndsAtLine takes feeding.Done old line new text text' = ⊥
+EndsAtLine takes feeding.ReadFault old line new text text' = ⊥
+EndsAtLine takes feeding.Memory old line new text text' = ⊥
+
+-- behind the last line: all was added, or the same
+abbrev pub EndsBehind : {M F : Type 0} → (M → M → Result (List ℕ) F → Type 0) → Feeding F → M → M → Option (List ℕ) → Option (List ℕ) → Type 0
+EndsBehind ends feeding.Done old new text text' = (t : List ℕ) × ends old new (Ok t) × Appends text text' t
+EndsBehind ends feeding.WriteFault old new text text' = (t : List ℕ) × ends old new (Ok t) × IsCutShort text text' t
+EndsBehind ends (feeding.Stopped why) old new text text' = ends old new (Err why) × (text' ≡ text)
+EndsBehind ends feeding.ReadFault old new text text' = ⊥
+EndsBehind ends feeding.Memory old new text text' = ⊥
+
+-- between two lines: the source failed, or there was no memory for the next line
+abbrev pub EndsBetween : {F : Type 0} → Feeding F → Option (List ℕ) → Option (List ℕ) → List (List ℕ) → Type 0
+EndsBetween feeding.ReadFault source source' done = ReadsWhole source source' done
+EndsBetween feeding.Memory source source' done = Reads source source' done
+EndsBetween feeding.Done source source' done = ⊥
+EndsBetween feeding.WriteFault source source' done = ⊥
+EndsBetween (feeding.Stopped why) source source' done = ⊥
+
+-- the lines of a source were taken by a machine and what they add written, up to where it ended
+pub record Fed {M F : Type 0} (takes : M → List ℕ → M → Result (List ℕ) F → Type 0) (ends : M → M → Result (List ℕ) F → Type 0) (how : Feeding F) (old new : M) (source source' text text' : Option (List ℕ)) : Type 0 where
+  pub done : List (List ℕ)
+  pub mid : M
+  pub said : List ℕ
+  pub took : Took takes old done mid said
+  pub text_so_far : Option (List ℕ)
+  pub written : Appends text text_so_far said
+  pub ended : ((new ≡ mid) × (text' ≡ text_so_far) × EndsBetween how source source' done)
+      ⊎ ((line : List ℕ) × EndsAtLine takes how mid line new text_so_far text' × Reads source source' (done ++ line ∷ []))
+      ⊎ (EndsBehind ends how mid new text_so_far text' × ReadsAll source source' done)

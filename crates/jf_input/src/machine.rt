@@ -1,0 +1,35 @@
+// What takes an input line by line.
+ghost use Rattle.std.specs.Prelude.{◌≡◌, ℕ, List, ◌++◌, Result, Ok, Err, OnOk, IfErr};
+ghost use Rattle.jf_input.specs.Feeds.{given_of};
+
+use jf_path::Bytes;
+use std::alloc::Global;
+
+/// What takes the lines of an input one after another, and adds to a text at each of them.
+pub trait LineMachine {
+    /// Why it stops before the end of the input.
+    type Stop;
+
+    /// It takes what comes next.
+    ghost ready: { Self → Type 0 };
+
+    /// What a line makes of it, and what it adds there, or why it stops.
+    ghost takes: { Self → List ℕ → Self → Result (List ℕ) Self.Stop → Type 0 };
+
+    /// What the end of the input makes of it, in the same way.
+    ghost ends: { Self → Self → Result (List ℕ) Self.Stop → Type 0 };
+
+    /// Takes the next line, given without the byte that ends it, and appends what it adds. Of a line of more than 8,500
+    /// bytes it is given the first 8,501.
+    fn take_line(&mut self, alloc: Global, line: &[u8], out: &mut Bytes) -> Result<(), Self::Stop>
+        requires { ready self.old }
+        ensures ok { OnOk result ((t : List ℕ) × (out.new ≡ out.old ++ t) × ((whole : List ℕ) → line.now ≡ given_of whole → takes self.old whole self.new (Ok t))) }
+        ensures ready { OnOk result (ready self.new) }
+        ensures err { (whole : List ℕ) → line.now ≡ given_of whole → IfErr result (λ why. takes self.old whole self.new (Err why)) };
+
+    /// Takes the end of the input, and appends what it adds.
+    fn take_end(&mut self, alloc: Global, out: &mut Bytes) -> Result<(), Self::Stop>
+        requires { ready self.old }
+        ensures ok { OnOk result ((t : List ℕ) × (out.new ≡ out.old ++ t) × ends self.old self.new (Ok t)) }
+        ensures err { IfErr result (λ why. ends self.old self.new (Err why)) };
+}
