@@ -1,5 +1,5 @@
 -- The answer to `prune`, by the floor that it gets.
-use Rattle.std.specs.Prelude.{ℕ, min, max, List, [], ◌∷◌, Option, Some, None}
+use Rattle.std.specs.Prelude.{ℕ, min, List, [], ◌∷◌, Option, Some, None, max}
 use Rattle.jf_model.specs.States.{State}
 use Rattle.jf_model.specs.declared.entries.Entry.TheVariants as entry
 use Rattle.jf_script.specs.declared.reply.Reply.TheVariants as reply
@@ -17,5 +17,5 @@ abbrev pub next_floor : ℕ → State → Own → ℕ
 next_floor upto s own = max s.floor (below_pins upto own.pins)
 
 -- the answer that retires the versions below a bound, with this floor
-abbrev pub pruned : ℕ → ℕ → State → Own → Answer
-pruned upto floor s own = entered (reply.Prune upto floor) (entry.Retired own.number upto floor) s own
+abbrev pub retired_below : ℕ → ℕ → State → Own → Answer
+retired_below upto floor s own = entered (reply.Prune upto floor) (entry.Retired own.number upto floor) s own

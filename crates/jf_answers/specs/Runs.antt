@@ -1,11 +1,10 @@
 -- The answers to lines, one after another.
-use Rattle.std.specs.Prelude.{◌≡◌, ℕ, List, [], ◌∷◌, ◌++◌, map, flat_map, option_to_list}
+use Rattle.std.specs.Prelude.{List, ℕ, [], ◌∷◌, ◌++◌, map, flat_map, option_to_list}
 use Rattle.std.specs.List.{concat}
-use Rattle.std.proofs.Common.{refl, ap}
 use Rattle.jf_model.specs.States.{State}
 use Rattle.jf_model.specs.declared.entries.Entry.{Entry}
 use Rattle.jf_script.specs.Replies.{reply_text}
-use Rattle.jf_answers.specs.Own.{Own, begun}
+use Rattle.jf_answers.specs.Own.{Own, begun_session}
 use Rattle.jf_answers.specs.Answers.{Answer, answer}
 
 -- the answers to lines, and the state and own part after them
@@ -24,7 +23,7 @@ answers_from s own (line ∷ ls) =
 
 -- the answers to all lines of a session that runs alone
 abbrev pub answers : State → List (List ℕ) → Run
-answers s ls = answers_from s (begun 0) ls
+answers s ls = answers_from s (begun_session 0) ls
 
 -- the text of an answer: the reply's line, with a number, and its block
 abbrev pub answer_text : ℕ → Answer → List ℕ
@@ -39,11 +38,10 @@ abbrev pub text_of : Run → List ℕ
 text_of r = concat (texts_of r)
 
 -- the entries that the lines gave, in their order
-abbrev pub entries_of : Run → List Entry
-entries_of r = flat_map (λ a. option_to_list a.entry) r.answers
+abbrev pub run_entries : Run → List Entry
+run_entries r = flat_map (λ a. option_to_list a.entry) r.answers
 
 -- ---- laws
-
 -- a run and then another, which ends as the second does
 abbrev pub followed_by : Run → Run → Run
 followed_by r q = record { answers = r.answers ++ q.answers; state = q.state; own = q.own }
@@ -51,9 +49,3 @@ followed_by r q = record { answers = r.answers ++ q.answers; state = q.state; ow
 -- a run with one more answer before its own
 abbrev pub with_first : Answer → Run → Run
 with_first a r = record { answers = a ∷ r.answers; state = r.state; own = r.own }
-
--- the answers to lines followed by other lines
-pub answers_from-append : (s : State) (own : Own) (ls ms : List (List ℕ)) → answers_from s own (ls ++ ms) ≡ followed_by (answers_from s own ls) (answers_from (answers_from s own ls).state (answers_from s own ls).own ms)
-unfolding answers_from
-answers_from-append s own [] ms = refl
-answers_from-append s own (line ∷ ls) ms = ap (with_first (answer s own line)) (answers_from-append (answer s own line).state (answer s own line).own ls ms)

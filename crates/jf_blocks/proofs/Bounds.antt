@@ -1,6 +1,6 @@
 -- The line at which a reading stops is no earlier than its first, and no more lines remain after it than before.
-use Rattle.std.proofs.Common.{ℕ, zero, suc, ◌≤◌, List, [], ◌∷◌, length, Option, Some, None, Ok, Err, arith}
-use Rattle.jf_blocks.specs.Reading.{Place, Read, Block, Chunk, and_then, gives, matched, line_read, line_by, lines_by, named_of, claim_of, leaf_of, side_of, proof_block, entry_of, chunk_body}
+use Rattle.std.proofs.Common.{◌≤◌, length, Ok, Err, arith, ℕ, List, ◌∷◌, Option, Some, None, [], zero, suc}
+use Rattle.jf_blocks.specs.Reading.{Place, Read, gives, and_then, matched, line_read, line_by, lines_by, Block, named_of, claim_of, leaf_line_of, side_of, proof_block, Chunk, entry_of, chunk_body}
 use Rattle.jf_blocks.specs.declared.chunk.ChunkHead.{ChunkHead}
 
 abbrev pub Bounded : {X : Type 0} → Place → Read X → Type 0
@@ -40,7 +40,7 @@ unfolding proof_block
 proof_block-bounded n p =
     and_then-bounded p (line_by named_of p) _ (line_by-bounded named_of p) (λ name q.
     and_then-bounded q (line_by claim_of q) _ (line_by-bounded claim_of q) (λ claim r.
-    and_then-bounded r (line_by leaf_of r) _ (line_by-bounded leaf_of r) (λ leaf s.
+    and_then-bounded r (line_by leaf_line_of r) _ (line_by-bounded leaf_line_of r) (λ leaf s.
     and_then-bounded s (lines_by side_of n s) _ (lines_by-bounded side_of n s) (λ sides t. same-bounded {X = Block} (name, claim, record { leaf = leaf; siblings = sides }) t))))
 
 pub chunk_body-bounded : (head : ChunkHead) (p : Place) → Bounded p (chunk_body head p)

@@ -1,11 +1,11 @@
 -- How lines, proof blocks and chunk blocks are read (docs/FORMATS.md, Proof blocks and Chunk blocks).
-use Rattle.std.specs.Prelude.{ℕ, zero, suc, ◌+◌, if◌then◌else◌, ◌&&◌, is_some, List, [], ◌∷◌, Option, Some, None, Result, Ok, Err, option_map, option_and_then, codes}
+use Rattle.std.specs.Prelude.{ℕ, if◌then◌else◌, List, [], ◌∷◌, Option, Some, None, ◌&&◌, is_some, codes, option_and_then, option_map, Result, Ok, Err, ◌+◌, zero, suc}
+use Rattle.jf_evidence.specs.Ranges.{Entry, Entries}
 use Rattle.jf_evidence.specs.declared.proof.Proof.{Proof}
 use Rattle.jf_evidence.specs.declared.range_proof.RangeProof.{RangeProof}
-use Rattle.jf_evidence.specs.Ranges.{Entry, Entries}
-use Rattle.jf_text.specs.Words.{max_chunk, words, is_word, is_long, both, number, number_upto, name_of, hash_of, value_of}
-use Rattle.jf_blocks.specs.declared.chunk.ChunkHead.{ChunkHead}
+use Rattle.jf_text.specs.Words.{is_word, number, hash_of, number_upto, name_of, value_of, both, max_chunk, words, is_long}
 use Rattle.jf_blocks.specs.declared.first.FirstLine.{FirstLine}
+use Rattle.jf_blocks.specs.declared.chunk.ChunkHead.{ChunkHead}
 use Rattle.jf_blocks.specs.declared.first.FirstLine.TheVariants as first
 
 -- the most siblings of a block, and the greatest depth of a chunk's proof
@@ -13,7 +13,6 @@ abbrev pub max_siblings : ℕ
 max_siblings = 65535
 
 -- ---- the words of a line
-
 -- the word after a keyword, if the line has just these two
 abbrev pub word_after : List ℕ → List (List ℕ) → Option (List ℕ)
 word_after keyword [] = None
@@ -45,18 +44,17 @@ without_number (n ∷ []) = n ∷ []
 without_number (n ∷ ok ∷ ws) = if is_some (number n) && is_word ok (codes "ok") then ws else n ∷ ok ∷ ws
 
 -- ---- lines by their words
-
 -- a line that sets the root: `root` and a hash
-abbrev pub root_of : List (List ℕ) → Option (List ℕ)
-root_of ws = option_and_then hash_of (word_after (codes "root") (without_number ws))
+abbrev pub root_line_of : List (List ℕ) → Option (List ℕ)
+root_line_of ws = option_and_then hash_of (word_after (codes "root") (without_number ws))
 
 -- the first line of a proof block: `proof` and how many siblings follow
 abbrev pub count_of : List (List ℕ) → Option ℕ
 count_of ws = option_and_then (number_upto max_siblings) (word_after (codes "proof") (without_number ws))
 
 -- a line between blocks: it sets the root or begins a proof block
-abbrev pub first_of : List (List ℕ) → Option FirstLine
-first_of ws = elim (root_of ws) [ Some root ↦ Some (first.Root root) | None ↦ option_map (λ n. first.Proof n) (count_of ws) ]
+abbrev pub first_line_of : List (List ℕ) → Option FirstLine
+first_line_of ws = elim (root_line_of ws) [ Some root ↦ Some (first.Root root) | None ↦ option_map (λ n. first.Proof n) (count_of ws) ]
 
 -- the line of a name: `name` and the name
 abbrev pub named_of : List (List ℕ) → Option (List ℕ)
@@ -75,8 +73,8 @@ abbrev pub pair_of : List ℕ × List ℕ → Option (List ℕ × List ℕ)
 pair_of p = both (λ key hash. (key, hash)) (hash_of p.0) (hash_of p.1)
 
 -- the line of a leaf: `leaf`, and `none` or a key and a hash
-abbrev pub leaf_of : List (List ℕ) → Option (Option (List ℕ × List ℕ))
-leaf_of ws =
+abbrev pub leaf_line_of : List (List ℕ) → Option (Option (List ℕ × List ℕ))
+leaf_line_of ws =
     elim (word_after (codes "leaf") ws) [
       | Some w ↦ if is_word w (codes "none") then Some None else None
       | None ↦ option_map (λ leaf. Some leaf) (option_and_then pair_of (two_after (codes "leaf") ws))
@@ -107,15 +105,14 @@ abbrev pub line_read : {X : Type 0} → (List (List ℕ) → Option X) → List 
 line_read f line = if is_long line then None else f (words line)
 
 -- ---- lines one after another
-
 -- a place in the input: the number of the next line, counted from 1, and the lines from it on
 pub record Place : Type 0 where
   pub at : ℕ
   pub left : List (List ℕ)
 
 -- the place at the first line
-abbrev pub start : List (List ℕ) → Place
-start ls = record { at = 1; left = ls }
+abbrev pub first_place : List (List ℕ) → Place
+first_place ls = record { at = 1; left = ls }
 
 -- the result of a reading: what was read and the place after it, or the number of the first line that doesn't match or is missing
 abbrev pub Read : Type 0 → Type 0
@@ -145,7 +142,6 @@ lines_by f zero p = gives [] p
 lines_by f (suc n) p = and_then (line_by f p) (λ x q. and_then (lines_by f n q) (λ xs r. gives (x ∷ xs) r))
 
 -- ---- a proof block after its first line
-
 -- what a proof block holds: the name, the claim and the proof
 abbrev pub Block : Type 0
 Block = List ℕ × Option (List ℕ) × Proof
@@ -153,11 +149,10 @@ Block = List ℕ × Option (List ℕ) × Proof
 -- a proof block after its first line: a name, a claim, a leaf and this many siblings
 unfoldable pub proof_block : ℕ → Place → Read Block
 proof_block siblings p =
-    and_then (line_by named_of p) (λ name q. and_then (line_by claim_of q) (λ claim r. and_then (line_by leaf_of r) (λ leaf s.
+    and_then (line_by named_of p) (λ name q. and_then (line_by claim_of q) (λ claim r. and_then (line_by leaf_line_of r) (λ leaf s.
     and_then (lines_by side_of siblings s) (λ sides t. gives (name, claim, record { leaf = leaf; siblings = sides }) t))))
 
 -- ---- a chunk block
-
 -- what a chunk block holds: the entries and the proof of the last one
 abbrev pub Chunk : Type 0
 Chunk = Entries × RangeProof

@@ -2,7 +2,7 @@
 ghost use Rattle.std.specs.Prelude.{◌≡◌, ◌&&◌, [], is_some, option_and_then, codes};
 ghost use Rattle.std.specs.Option.{option_map_or};
 ghost use Rattle.jf_text.specs.Words.{words, is_word, number, number_upto, hash_of};
-ghost use Rattle.jf_blocks.specs.Reading.{max_siblings, line_read, first_of, without_number, word_after};
+ghost use Rattle.jf_blocks.specs.Reading.{max_siblings, line_read, first_line_of, without_number, word_after};
 
 use crate::word::word_after;
 use jf_hash::Hash;
@@ -23,7 +23,7 @@ pub enum FirstLine {
 /// What a line between blocks says. The line is given without its line feed. `None` for any other line, and for one of
 /// more than 8,500 bytes.
 pub fn first_line(line: &[u8]) -> Option<FirstLine>
-    ensures { result ≡ line_read first_of line.now }
+    ensures { result ≡ line_read first_line_of line.now }
 {
     if line.len() > MAX_LINE {
         return None;

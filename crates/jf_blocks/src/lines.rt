@@ -1,7 +1,7 @@
 // The lines of a proof block after its first, each given without its line feed (docs/FORMATS.md, Proof blocks).
 ghost use Rattle.std.specs.Prelude.{◌≡◌, IfOk};
 ghost use Rattle.jf_text.specs.Words.{words};
-ghost use Rattle.jf_blocks.specs.Reading.{line_read, named_of, claimed, claim_of, pair_of, leaf_of, side_of};
+ghost use Rattle.jf_blocks.specs.Reading.{line_read, named_of, claimed, claim_of, pair_of, leaf_line_of, side_of};
 
 use crate::word::{two_after, word_after};
 use jf_hash::Hash;
@@ -48,7 +48,7 @@ fn claimed(alloc: Global, word: &[u8]) -> Result<Option<Option<Bytes>>, Memory>
 /// The leaf of a line `leaf KEY HASH`, or its absence for `leaf none`. `None` for any other line, and for one of more
 /// than 8,500 bytes.
 pub fn leaf_line(line: &[u8]) -> Option<Option<(Key, Hash)>>
-    ensures { result ≡ line_read leaf_of line.now }
+    ensures { result ≡ line_read leaf_line_of line.now }
 {
     if line.len() > MAX_LINE {
         return None;

@@ -1,17 +1,17 @@
 -- Lending a place, joining it and parting from it keep the rule.
-use Rattle.std.proofs.Common.{◌≡◌, ℕ, ◌<◌, ◌≤◌, ◌≢◌, List, [], ◌∷◌, ◌++◌, length, set, drop, sym, refl, ap, ◌∙◌, subst, ⊎_elim, arith, le_refl, length-set}
-use mathlib.Core.Option.{none, some}
 use lib.ListN.{get_elem?}
-use Rattle.atomic_table.specs.Table.{step, keeps, Allows, Splits, Joins}
+use mathlib.Core.Option.{some, none}
+use Rattle.std.proofs.Common.{ℕ, ◌≢◌, ◌∙◌, refl, List, [], ◌∷◌, sym, ap, ◌≡◌, ◌≤◌, ◌++◌, length, set, subst, ⊎_elim, length-set, drop, ◌<◌, le_refl, arith}
 use Rattle.atomic_table.proofs.Lists.{at_set}
+use Rattle.atomic_table.specs.Table.{Splits, Joins, step, keeps, Allows}
+use Rattle.jf_board.specs.Rule.{Account, PlaceFits, JoinedFit, IsAbsent, ViewFits, IsSoundAccount, IsWritten, BoardState, IsBoard, Below, least, Has, PrunerFits}
 use Rattle.jf_board.specs.declared.views.PlaceView.{PlaceView}
-use Rattle.jf_board.specs.declared.views.PrunerView.{PrunerView}
 use Rattle.jf_board.specs.declared.views.View.{View}
 use Rattle.jf_board.specs.declared.views.View.TheVariants.{Pins, Prunes, Spent}
-use Rattle.jf_board.specs.Rule.{BoardState, Below, Has, least, Account, IsWritten, IsSound, PlaceFits, IsAbsent, JoinedFit, ViewFits, IsBoard, PrunerFits}
-use Rattle.jf_board.specs.Steps.{learned, JoinedAnnounced, joined_for_scan, joined_for_good, parted, first_joined, last_joined, NumbersAreGiven}
-use Rattle.jf_board.proofs.Lists.{put, put_at, put_else, at_end}
-use Rattle.jf_board.proofs.Moving.{SeatState, unmoved, place_at, pruner_at, number_given}
+use Rattle.jf_board.specs.declared.views.PrunerView.{PrunerView}
+use Rattle.jf_board.specs.Steps.{parted, first_joined, last_joined, joined_for_scan, joined_for_good, JoinedAnnounced, NumbersAreGiven, learned, BoardSeat}
+use Rattle.jf_board.proofs.Lists.{put, put_else, put_at, at_end}
+use Rattle.jf_board.proofs.Moving.{place_at, pruner_at, number_given, unmoved}
 use Rattle.jf_board.proofs.Pruning.{paced, placed_paced, joined_paced, paced_else}
 
 -- the account in which the number n is at the seat `to`
@@ -43,7 +43,7 @@ seat_else p n to id (Prunes q) other r = record { alone = r.alone; count_is = r.
 seat_else p n to id Spent other r = tt
 
 -- which seat has a number changes nothing of cut, low and holds
-same_sound : (p : Account) (n to : ℕ) → IsSound p → IsSound (reseated p n to)
+same_sound : (p : Account) (n to : ℕ) → IsSoundAccount p → IsSoundAccount (reseated p n to)
 same_sound p n to r = record { cut_gate = r.cut_gate; cut_pins = r.cut_pins; low_gate = r.low_gate; low_pins = r.low_pins; unnumbered = r.unnumbered; no_versions = r.no_versions; listed = r.listed }
 
 -- which seat has a number changes nothing of the words
@@ -51,7 +51,7 @@ same_worded : (passes : ℕ) (p : Account) (n to : ℕ) (ws : List ℕ) → IsWr
 same_worded passes p n to ws r = record { wide = r.wide; gate_is = r.gate_is; cut_is = r.cut_is; count_is = r.count_is; pins_are = r.pins_are }
 
 -- a seat's view is cut in two, under the account p
-cut_in_two : (passes : ℕ) (s : BoardState) (r : IsBoard passes s) (p : Account) (id : ℕ) (v left right : View) → get_elem? s.views id ≡ some v → IsWritten passes p s.words → IsSound p → p.count ≤ passes
+cut_in_two : (passes : ℕ) (s : BoardState) (r : IsBoard passes s) (p : Account) (id : ℕ) (v left right : View) → get_elem? s.views id ≡ some v → IsWritten passes p s.words → IsSoundAccount p → p.count ≤ passes
     → ViewFits p id left → ViewFits p (length s.views) right → ((j : ℕ) (u : View) → j ≢ id → ViewFits r.account j u → ViewFits p j u) → IsBoard passes record { words = s.words; homes = s.homes; views = set s.views id left ++ right ∷ [] }
 cut_in_two passes s r p id v left right at written sound few mine new others = record {
   account = p;
@@ -145,11 +145,11 @@ joined_announced p id pairs [] knows r = tt
 joined_announced p id pairs (g ∷ gs) knows r = ((λ version has. subst (λ (xs : List ℕ). Has xs version) (sym r.0.announced) (knows (g.number, version) has)), joined_announced p id pairs gs knows r.2)
 
 -- each number at which a pin was loaded was given to a place
-numbers_given : (p : Account) (id : ℕ) (q : PrunerView) → IsSound p → PrunerFits p id q → NumbersAreGiven q
+numbers_given : (p : Account) (id : ℕ) (q : PrunerView) → IsSoundAccount p → PrunerFits p id q → NumbersAreGiven q
 numbers_given p id q sound fit t has = subst (λ (k : ℕ). t.0 < k) (sym fit.count_is) (number_given p t.0 t.1 sound (fit.pairs t has))
 
 -- a load tells the pruner what joined places announced
-pub learns : (passes slots id : ℕ) (me : SeatState) (q : PrunerView) → me.0 ≡ Prunes q → Allows (IsBoard passes) slots id me 0 (λ x. x) (learned (step slots 0 0 0 none) me)
+pub learns : (passes slots id : ℕ) (me : BoardSeat) (q : PrunerView) → me.0 ≡ Prunes q → Allows (IsBoard passes) slots id me 0 (λ x. x) (learned (step slots 0 0 0 none) me)
 learns passes slots id me q is s r _ at _ = let fit = pruner_at passes s r id me.0 q is at in let p = r.account in (
   me.0,
   keeps,

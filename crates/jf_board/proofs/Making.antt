@@ -1,19 +1,19 @@
 -- A new board keeps the rule, and giving out numbers keeps it.
-use Rattle.std.proofs.Common.{◌≡◌, ℕ, zero, suc, ◌+◌, ◌*◌, ◌%◌, ◌^◌, ◌<◌, ◌≤◌, ◌≢◌, List, [], ◌∷◌, length, get_or, set, replicate, sym, refl, ◌∙◌, subst, arith, le_refl, length-set, get_or-set_other, get_or-set_same}
-use mathlib.Core.Option.{Option, none, some, some-injective, some-ne-none}
-use Rattle.std.proofs.lemmas.List.{length-replicate}
 use lib.ListN.{get_elem?}
+use mathlib.Core.Option.{none, some, some-injective, some-ne-none, Option}
+use Rattle.std.proofs.Common.{ℕ, ◌+◌, List, set, ◌∙◌, arith, length-set, get_or-set_other, get_or-set_same, ◌<◌, [], ◌∷◌, ◌≢◌, ◌≡◌, ◌*◌, sym, refl, ◌%◌, ◌^◌, get_or, subst, zero, suc, ◌≤◌, length, le_refl, replicate}
+use Rattle.std.proofs.lemmas.List.{length-replicate}
 use Rattle.atomic_table.specs.Table.{step, keeps, stepped, Allows}
-use Rattle.jf_board.specs.declared.views.Hold.TheVariants.{Free}
+use Rattle.jf_board.specs.Rule.{Account, IsWritten, PlaceFits, JoinedFit, IsAbsent, ViewFits, IsSoundAccount, IsBoard, opening_view}
 use Rattle.jf_board.specs.declared.views.PlaceView.{PlaceView}
-use Rattle.jf_board.specs.declared.views.PrunerView.{PrunerView}
-use Rattle.jf_board.specs.declared.views.Size.{Size}
+use Rattle.jf_board.specs.Steps.{numbered, newly_numbered, numbering, BoardSeat}
 use Rattle.jf_board.specs.declared.views.View.{View}
 use Rattle.jf_board.specs.declared.views.View.TheVariants.{Pins, Prunes, Spent}
-use Rattle.jf_board.specs.Rule.{Account, IsWritten, IsSound, PlaceFits, IsAbsent, JoinedFit, ViewFits, IsBoard, opened}
-use Rattle.jf_board.specs.Steps.{newly_numbered, numbered, numbering}
-use Rattle.jf_board.proofs.Lists.{put, put_at, put_else, free_at}
-use Rattle.jf_board.proofs.Moving.{SeatState, seat_state, moved, pruner_at}
+use Rattle.jf_board.specs.declared.views.Hold.TheVariants.{Free}
+use Rattle.jf_board.specs.declared.views.PrunerView.{PrunerView}
+use Rattle.jf_board.specs.declared.views.Size.{Size}
+use Rattle.jf_board.proofs.Lists.{put, put_else, put_at, free_at}
+use Rattle.jf_board.proofs.Moving.{with_view, moved, pruner_at}
 
 -- the account with one more number, which is at the seat id
 abbrev counted : Account → ℕ → ℕ → Account
@@ -50,7 +50,7 @@ count_else p count to id (Prunes q) up other r = absurd (other r.alone)
 count_else p count to id Spent up other r = tt
 
 -- a place with the next number agrees
-new_place : (p : Account) (id c : ℕ) → c ≡ p.count → IsSound p → PlaceFits (counted p (c + 1) id) id (newly_numbered c)
+new_place : (p : Account) (id c : ℕ) → c ≡ p.count → IsSoundAccount p → PlaceFits (counted p (c + 1) id) id (newly_numbered c)
 new_place p id c found r = record {
   numbered = omega arith;
   mine = put_at p.seat p.count id c found;
@@ -62,7 +62,7 @@ new_place p id c found r = record {
 }
 
 -- the pruner may give out one more number
-pub numbers : (passes slots id : ℕ) (me : SeatState) (q : PrunerView) → me.0 ≡ Prunes q → q.count < passes → passes < 2 ^ 32 → Allows (IsBoard passes) slots id me 2 (λ x. (x + 1) % 2 ^ 64) (numbered (step slots 2 1 0 none) me)
+pub numbers : (passes slots id : ℕ) (me : BoardSeat) (q : PrunerView) → me.0 ≡ Prunes q → q.count < passes → passes < 2 ^ 32 → Allows (IsBoard passes) slots id me 2 (λ x. (x + 1) % 2 ^ 64) (numbered (step slots 2 1 0 none) me)
 numbers passes slots id me q is room small s r _ at _ =
     let fit = pruner_at passes s r id me.0 q is at in let p = r.account in let c : ℕ = q.count in let found : c ≡ p.count = fit.count_is in let word : get_or s.words 2 0 ≡ p.count = r.written.count_is in
     let bound : passes < 4294967296 = small in let up : (get_or s.words 2 0 + 1) % 18446744073709551616 ≡ c + 1 = omega arith in let w : View = Prunes (numbering q) in (
@@ -84,18 +84,18 @@ numbers passes slots id me q is room small s r _ at _ =
           }
           (λ j u other f. count_else p (c + 1) id j u (omega arith) (λ e. other (e ∙ sym fit.alone)) f)),
       λ q' is'. let same : Prunes q ≡ Prunes q' = sym is ∙ is' in let qq : q ≡ q' = cc in
-          subst (λ (z : PrunerView). (get_or s.words 2 0 ≡ z.count) × (seat_state w me ≡ seat_state (Prunes (numbering z)) me)) qq (word ∙ sym found, refl),
+          subst (λ (z : PrunerView). (get_or s.words 2 0 ≡ z.count) × (with_view w me ≡ with_view (Prunes (numbering z)) me)) qq (word ∙ sym found, refl),
     )
 
 -- the first seat agrees with an account that has given no numbers
-first_only : (size : Size) (id : ℕ) (v : View) → get_elem? (opened size ∷ []) id ≡ some v → ViewFits record { gate = size.gate; cut = size.gate; count = 0; low = size.gate; scanned = 0; pruner = 0; seat = λ _. 0; hold = λ _. Free; versions = λ _. [] } id v
-first_only size zero v e = subst (ViewFits record { gate = size.gate; cut = size.gate; count = 0; low = size.gate; scanned = 0; pruner = 0; seat = λ _. 0; hold = λ _. Free; versions = λ _. [] } 0) (some-injective (opened size) v e)
+first_only : (size : Size) (id : ℕ) (v : View) → get_elem? (opening_view size ∷ []) id ≡ some v → ViewFits record { gate = size.gate; cut = size.gate; count = 0; low = size.gate; scanned = 0; pruner = 0; seat = λ _. 0; hold = λ _. Free; versions = λ _. [] } id v
+first_only size zero v e = subst (ViewFits record { gate = size.gate; cut = size.gate; count = 0; low = size.gate; scanned = 0; pruner = 0; seat = λ _. 0; hold = λ _. Free; versions = λ _. [] } 0) (some-injective (opening_view size) v e)
     record { alone = refl; gate_is = refl; cut_is = refl; count_is = refl; low_is = refl; scanned_is = refl; pairs = λ t has. absurd (some-ne-none t (sym has.1)); joined = tt }
 first_only size (suc id) v e = absurd (some-ne-none v (sym e))
 
 -- words of a gate, a cut and zeros begin a board
 pub opens : (size : Size) (ws : List ℕ) (homes : List (Option (Unit {0}))) → length ws ≡ 8 * size.passes + 3 → get_or ws 0 0 ≡ size.gate → get_or ws 1 0 ≡ size.gate → ((k : ℕ) → 2 ≤ k → get_or ws k 0 ≡ 0)
-    → IsBoard size.passes record { words = ws; homes = homes; views = opened size ∷ [] }
+    → IsBoard size.passes record { words = ws; homes = homes; views = opening_view size ∷ [] }
 opens size ws homes wide gate cut zeros = record {
   account = record { gate = size.gate; cut = size.gate; count = 0; low = size.gate; scanned = 0; pruner = 0; seat = λ _. 0; hold = λ _. Free; versions = λ _. [] };
   written = record { wide = wide; gate_is = gate; cut_is = cut; count_is = zeros 2 (omega arith); pins_are = λ k l. zeros (k + 3) (omega arith) };
@@ -111,6 +111,6 @@ zeros_from g n (suc zero) l = absurd (omega arith)
 zeros_from g n (suc (suc k)) l = free_at 0 n k
 
 -- the words that the code makes begin a board
-pub opens_new : (passes gate : ℕ) (ws : List ℕ) → ws ≡ gate ∷ gate ∷ replicate (8 * passes + 1) 0 → IsBoard passes record { words = ws; homes = []; views = opened record { passes = passes; gate = gate } ∷ [] }
-opens_new passes gate ws e = subst (λ (z : List ℕ). IsBoard passes record { words = z; homes = []; views = opened record { passes = passes; gate = gate } ∷ [] }) (sym e)
+pub opens_new : (passes gate : ℕ) (ws : List ℕ) → ws ≡ gate ∷ gate ∷ replicate (8 * passes + 1) 0 → IsBoard passes record { words = ws; homes = []; views = opening_view record { passes = passes; gate = gate } ∷ [] }
+opens_new passes gate ws e = subst (λ (z : List ℕ). IsBoard passes record { words = z; homes = []; views = opening_view record { passes = passes; gate = gate } ∷ [] }) (sym e)
     (opens record { passes = passes; gate = gate } (gate ∷ gate ∷ replicate (8 * passes + 1) 0) [] (omega (arith, length-replicate {A = ℕ} (8 * passes + 1) 0)) refl refl (zeros_from gate (8 * passes + 1)))

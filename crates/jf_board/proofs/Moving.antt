@@ -1,28 +1,24 @@
 -- A step changes words and the view of its own seat.
-use Rattle.std.proofs.Common.{◌≡◌, ℕ, ◌<◌, ◌≤◌, arith, ◌≢◌, List, get_or, set, sym, subst, ⊎_elim}
-use mathlib.Core.Logic.{dite}
-use native.Mathlib.Decide.{dec_lt}
-use mathlib.Core.Option.{some, some-ne-none}
 use lib.ListN.{get_elem?}
 use lib.Seq.{set-get_or}
-use Rattle.atomic_table.specs.Table.{Me}
+use mathlib.Core.Logic.{dite}
+use mathlib.Core.Option.{some, some-ne-none}
+use native.Mathlib.Decide.{dec_lt}
+use Rattle.std.proofs.Common.{◌≡◌, ℕ, ◌≤◌, ◌≢◌, List, set, sym, subst, ⊎_elim, get_or, ◌<◌, arith}
 use Rattle.atomic_table.proofs.Lists.{at_set}
-use Rattle.jf_board.specs.declared.views.PlaceView.{PlaceView}
-use Rattle.jf_board.specs.declared.views.PrunerView.{PrunerView}
 use Rattle.jf_board.specs.declared.views.View.{View}
+use Rattle.jf_board.specs.Steps.{BoardSeat}
+use Rattle.jf_board.specs.Rule.{BoardState, Account, IsWritten, IsSoundAccount, ViewFits, IsBoard, PlaceFits, PrunerFits, Has}
+use Rattle.jf_board.specs.declared.views.PlaceView.{PlaceView}
 use Rattle.jf_board.specs.declared.views.View.TheVariants.{Pins, Prunes}
-use Rattle.jf_board.specs.Rule.{BoardState, Account, IsWritten, IsSound, PlaceFits, PrunerFits, ViewFits, IsBoard, Has}
-
--- the view of a seat; it carries no slot
-abbrev pub SeatState : Type 0
-SeatState = Me (Unit {0}) View
+use Rattle.jf_board.specs.declared.views.PrunerView.{PrunerView}
 
 -- a seat with another view
-abbrev pub seat_state : View → SeatState → SeatState
-seat_state w m = (w, m.1)
+abbrev pub with_view : View → BoardSeat → BoardSeat
+with_view w m = (w, m.1)
 
 -- a seat has the new view w, under the account p
-pub moved : (passes : ℕ) (s : BoardState) (r : IsBoard passes s) (p : Account) (ws : List ℕ) (id : ℕ) (v w : View) → get_elem? s.views id ≡ some v → IsWritten passes p ws → IsSound p → p.count ≤ passes → ViewFits p id w
+pub moved : (passes : ℕ) (s : BoardState) (r : IsBoard passes s) (p : Account) (ws : List ℕ) (id : ℕ) (v w : View) → get_elem? s.views id ≡ some v → IsWritten passes p ws → IsSoundAccount p → p.count ≤ passes → ViewFits p id w
     → ((j : ℕ) (u : View) → j ≢ id → ViewFits r.account j u → ViewFits p j u) → IsBoard passes record { words = ws; homes = s.homes; views = set s.views id w }
 moved passes s r p ws id v w at written sound even mine others = record {
   account = p;
@@ -34,7 +30,7 @@ moved passes s r p ws id v w at written sound even mine others = record {
 }
 
 -- a step that changes no word keeps the rule, if it changes the view of its own seat alone
-pub unmoved : (passes : ℕ) (s : BoardState) (r : IsBoard passes s) (p : Account) (i id : ℕ) (v w : View) → get_elem? s.views id ≡ some v → IsWritten passes p s.words → IsSound p → p.count ≤ passes → ViewFits p id w
+pub unmoved : (passes : ℕ) (s : BoardState) (r : IsBoard passes s) (p : Account) (i id : ℕ) (v w : View) → get_elem? s.views id ≡ some v → IsWritten passes p s.words → IsSoundAccount p → p.count ≤ passes → ViewFits p id w
     → ((j : ℕ) (u : View) → j ≢ id → ViewFits r.account j u → ViewFits p j u) → IsBoard passes record { words = set s.words i (get_or s.words i 0); homes = s.homes; views = set s.views id w }
 unmoved passes s r p i id v w at written sound even mine others = moved passes s r p (set s.words i (get_or s.words i 0)) id v w at (subst (IsWritten passes p) (sym (set-get_or s.words i 0)) written) sound even mine others
 
@@ -51,6 +47,6 @@ pub number_below : (passes : ℕ) (s : BoardState) (r : IsBoard passes s) → r.
 number_below passes s r = r.few
 
 -- a number with an announced version is given
-pub number_given : (p : Account) (n version : ℕ) → IsSound p → Has (p.versions n) version → n < p.count
+pub number_given : (p : Account) (n version : ℕ) → IsSoundAccount p → Has (p.versions n) version → n < p.count
 number_given p n version sound has = dite (dec_lt n p.count) (λ l. l)
     (λ no. absurd (some-ne-none version (sym (subst (λ (xs : List ℕ). get_elem? xs has.0 ≡ some version) (sound.no_versions n (omega arith)) has.1))))

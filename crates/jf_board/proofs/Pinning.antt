@@ -1,27 +1,27 @@
 -- What a place knows after it announced, confirmed or withdrew.
-use Rattle.std.proofs.Common.{◌≡◌, ◌≢◌, ℕ, ◌+◌, ◌<◌, ◌≤◌, cond, List, [], ◌∷◌, ◌++◌, length, get_or, set, Option, Some, None, sym, refl, ap, ◌∙◌, subst, arith, le-leb, get_or-set_same}
-use Rattle.std.proofs.lemmas.List.{set-set}
 use lib.Seq.{set-get_or}
+use Rattle.std.proofs.Common.{◌≡◌, ℕ, ◌<◌, ◌≤◌, cond, List, length, get_or, set, ap, ◌∙◌, arith, le-leb, get_or-set_same, sym, Option, Some, None, ◌≢◌, refl, subst, ◌+◌, [], ◌∷◌, ◌++◌}
+use Rattle.std.proofs.lemmas.List.{set-set}
+use Rattle.atomic_table.specs.Seated.{TableId}
 use Rattle.jf_board.specs.declared.views.Hold.{Hold}
 use Rattle.jf_board.specs.declared.views.Hold.TheVariants.{Free, Announced, Confirmed}
 use Rattle.jf_board.specs.declared.views.PlaceView.{PlaceView}
-use Rattle.atomic_table.specs.Seated.{TableId}
-use Rattle.jf_board.specs.States.{AreNew, PlaceState, Agrees, IsLeastFree, pinned_at, refused_at}
+use Rattle.jf_board.specs.States.{pinned_at, refused_at, Agrees, IsLeastFree, AreNewPlaces, PlaceState}
+use Rattle.jf_board.specs.Steps.{confirmed_from, announcing, confirming, with_hold, newly_numbered}
 use Rattle.jf_board.specs.Refusals.{RefusedPin}
 use Rattle.jf_board.specs.declared.pin_refused.PinRefused.TheVariants.{Retired}
-use Rattle.jf_board.specs.Steps.{newly_numbered, judged, announcing, confirming, with_hold}
 
 -- a version announced is confirmed if the gate is at most it
 pub confirmed_view : (v : PlaceView) (i version gate : ℕ) → i < 8 → length v.holds ≡ 8 → gate ≤ version → confirming (announcing v i version) gate ≡ pinned_at v i version gate
 confirmed_view v i version gate small eight le = let A : Hold = Announced version in
     let was : get_or (set v.holds i A) i Free ≡ A = get_or-set_same v.holds i A Free (omega arith) in
-    let now : judged gate (get_or (set v.holds i A) i Free) ≡ Confirmed version = ap (judged gate) was ∙ ap (λ b. cond b (Confirmed version) A) (le-leb gate version le) in
-    let same : set (set v.holds i A) i (judged gate (get_or (set v.holds i A) i Free)) ≡ set v.holds i (Confirmed version) = ap (set (set v.holds i A) i) now ∙ set-set v.holds i A (Confirmed version) in
+    let now : confirmed_from gate (get_or (set v.holds i A) i Free) ≡ Confirmed version = ap (confirmed_from gate) was ∙ ap (λ b. cond b (Confirmed version) A) (le-leb gate version le) in
+    let same : set (set v.holds i A) i (confirmed_from gate (get_or (set v.holds i A) i Free)) ≡ set v.holds i (Confirmed version) = ap (set (set v.holds i A) i) now ∙ set-set v.holds i A (Confirmed version) in
     ap (λ (hs : List Hold). record (pinned_at v i version gate) { holds = hs }) same
 
 -- a version announced, not confirmed and withdrawn leaves all holds unchanged
 pub refused_view : (v : PlaceView) (i version gate : ℕ) → get_or v.holds i Free ≡ Free → with_hold (confirming (announcing v i version) gate) i Free ≡ refused_at v i version gate
-refused_view v i version gate free = let A : Hold = Announced version in let h : Hold = judged gate (get_or (set v.holds i A) i Free) in
+refused_view v i version gate free = let A : Hold = Announced version in let h : Hold = confirmed_from gate (get_or (set v.holds i A) i Free) in
     let same : set (set (set v.holds i A) i h) i Free ≡ v.holds = set-set (set v.holds i A) i h Free ∙ (set-set v.holds i A Free ∙ (ap (set v.holds i) (sym free) ∙ set-get_or v.holds i Free)) in
     ap (λ (hs : List Hold). record (refused_at v i version gate) { holds = hs }) same
 
@@ -57,6 +57,6 @@ pin_refused w v x y z i version gate same free over e e' e'' = (
 )
 
 -- a list of new places is longer by the next new place
-pub new_longer : (board : TableId) (ps : List PlaceState) (p : PlaceState) (n : ℕ) → AreNew board ps n → p.board ≡ board → p.known ≡ newly_numbered (n + length ps) → AreNew board (ps ++ p ∷ []) n
+pub new_longer : (board : TableId) (ps : List PlaceState) (p : PlaceState) (n : ℕ) → AreNewPlaces board ps n → p.board ≡ board → p.known ≡ newly_numbered (n + length ps) → AreNewPlaces board (ps ++ p ∷ []) n
 new_longer board [] p n new here known = (here, known ∙ ap newly_numbered (omega arith), tt)
 new_longer board (q ∷ ps) p n new here known = (new.0, new.1, new_longer board ps p (n + 1) new.2 here (known ∙ ap newly_numbered (omega arith)))

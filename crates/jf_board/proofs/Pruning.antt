@@ -1,19 +1,19 @@
 -- Raising, cutting and scanning keep the rule.
-use Rattle.std.proofs.Common.{◌≡◌, ℕ, ◌+◌, ◌-◌, ◌*◌, ◌/◌, ◌<◌, ◌≤◌, ◌≢◌, ◌⊎◌, max, List, [], ◌∷◌, length, get_or, set, sym, refl, ap, ◌∙◌, subst, ⊎_elim, arith, le_refl, length-append, length-set, get_or-set_other, get_or-set_same}
 use mathlib.Core.Logic.{dite}
 use mathlib.Core.Option.{none}
-use native.Mathlib.Decide.{ℕ_discrete, dec_lt}
+use native.Mathlib.Decide.{dec_lt, ℕ_discrete}
+use Rattle.std.proofs.Common.{ℕ, ◌≤◌, arith, List, [], ◌∷◌, ◌≢◌, ◌+◌, ◌-◌, set, ◌∙◌, length-set, get_or-set_other, get_or-set_same, ◌≡◌, sym, refl, ap, le_refl, ◌⊎◌, subst, ⊎_elim, max, ◌*◌, length, ◌/◌, ◌<◌, get_or, length-append}
 use Rattle.atomic_table.specs.Table.{step, keeps, Allows}
-use Rattle.jf_board.specs.declared.views.Hold.{Hold}
-use Rattle.jf_board.specs.declared.views.Hold.TheVariants.{Free, Announced, Confirmed}
+use Rattle.jf_board.specs.Rule.{Account, PlaceFits, JoinedFit, ViewFits, IsWritten, IsBoard, Below, least, word_of, lower, Has, Listed}
+use Rattle.jf_board.specs.Steps.{scanned, raising, gate_raised, BoardSeat, cut_made, JoinedHold, BelowJoined, scanning}
 use Rattle.jf_board.specs.declared.views.PlaceView.{PlaceView}
-use Rattle.jf_board.specs.declared.views.PrunerView.{PrunerView}
 use Rattle.jf_board.specs.declared.views.View.{View}
 use Rattle.jf_board.specs.declared.views.View.TheVariants.{Pins, Prunes, Spent}
-use Rattle.jf_board.specs.Rule.{word_of, Below, Has, Listed, lower, least, Account, IsWritten, PlaceFits, JoinedFit, ViewFits, IsBoard}
-use Rattle.jf_board.specs.Steps.{raising, scanning, raised, scanned, cut_made, JoinedHold, BelowJoined}
-use Rattle.jf_board.proofs.Lists.{lower_le, lower_word, least_snoc, pairs_after}
-use Rattle.jf_board.proofs.Moving.{SeatState, seat_state, moved, unmoved, number_below, pruner_at}
+use Rattle.jf_board.specs.declared.views.PrunerView.{PrunerView}
+use Rattle.jf_board.specs.declared.views.Hold.{Hold}
+use Rattle.jf_board.specs.declared.views.Hold.TheVariants.{Free, Announced, Confirmed}
+use Rattle.jf_board.proofs.Moving.{with_view, moved, pruner_at, number_below, unmoved}
+use Rattle.jf_board.proofs.Lists.{lower_word, lower_le, least_snoc, pairs_after}
 
 -- the account with another gate, cut, low and number of pin words scanned
 abbrev pub paced : Account → ℕ → ℕ → ℕ → ℕ → Account
@@ -45,7 +45,7 @@ written_gate passes p ws gate low scanned r = let wide = r.wide in record {
 }
 
 -- the pruner may raise the gate
-pub raises : (passes slots id gate : ℕ) (me : SeatState) (q : PrunerView) → me.0 ≡ Prunes q → q.gate ≤ gate → Allows (IsBoard passes) slots id me 0 (λ _. gate) (λ _. raised (step slots 0 gate 0 none) me gate)
+pub raises : (passes slots id gate : ℕ) (me : BoardSeat) (q : PrunerView) → me.0 ≡ Prunes q → q.gate ≤ gate → Allows (IsBoard passes) slots id me 0 (λ _. gate) (λ _. gate_raised (step slots 0 gate 0 none) me gate)
 raises passes slots id gate me q is up s r _ at _ =
     let fit = pruner_at passes s r id me.0 q is at in let p = r.account in let was = fit.gate_is in let w : PrunerView = raising q gate in let cut = r.sound.cut_gate in (
       Prunes w,
@@ -55,7 +55,7 @@ raises passes slots id gate me q is up s r _ at _ =
           record { cut_gate = omega arith; cut_pins = r.sound.cut_pins; low_gate = le_refl gate; low_pins = λ k l. absurd (omega arith); unnumbered = r.sound.unnumbered; no_versions = r.sound.no_versions; listed = r.sound.listed } r.few
           record { alone = fit.alone; count_is = fit.count_is; gate_is = refl; cut_is = fit.cut_is; low_is = refl; scanned_is = refl; pairs = fit.pairs; joined = joined_paced p gate p.cut gate 0 id q.joined (omega arith) fit.joined }
           (λ j u other f. paced_else p gate p.cut gate 0 j u (omega arith) (λ e. other (e ∙ sym fit.alone)) f),
-      λ q' is'. let same : Prunes q ≡ Prunes q' = sym is ∙ is' in let qq : q ≡ q' = cc in ap (λ (z : PrunerView). seat_state (Prunes (raising z gate)) me) qq,
+      λ q' is'. let same : Prunes q ≡ Prunes q' = sym is ∙ is' in let qq : q ≡ q' = cc in ap (λ (z : PrunerView). with_view (Prunes (raising z gate)) me) qq,
     )
 
 -- the words after a new cut is set
@@ -77,7 +77,7 @@ pub max_is : (a b : ℕ) → (max a b ≡ a) ⊎ (max a b ≡ b)
 max_is a b = grind arith
 
 -- the pruner may set the cut to the greater of cut and low if it loaded all words
-pub cuts : (passes slots id : ℕ) (me : SeatState) (q : PrunerView) (cut : ℕ) → me.0 ≡ Prunes q → length q.loaded ≡ 8 * passes → cut ≡ max q.cut (least q.gate q.loaded)
+pub cuts : (passes slots id : ℕ) (me : BoardSeat) (q : PrunerView) (cut : ℕ) → me.0 ≡ Prunes q → length q.loaded ≡ 8 * passes → cut ≡ max q.cut (least q.gate q.loaded)
     → Allows (IsBoard passes) slots id me 1 (λ _. cut) (λ _. cut_made (step slots 1 cut 0 none) me cut)
 cuts passes slots id me q cut is whole up s r _ at _ =
     let fit = pruner_at passes s r id me.0 q is at in let p = r.account in let w : PrunerView = record q { cut = cut } in let few = number_below passes s r in let all : p.scanned ≡ 8 * passes = sym fit.scanned_is ∙ whole in
@@ -91,7 +91,7 @@ cuts passes slots id me q cut is whole up s r _ at _ =
           record { cut_gate = omega arith; cut_pins = λ k. subst (λ (z : ℕ). Below z (p.hold k)) (sym now) (below_max p.cut p.low (max p.cut p.low) (p.hold k) (max_is p.cut p.low) (r.sound.cut_pins k) (low_pins k)); low_gate = r.sound.low_gate; low_pins = r.sound.low_pins; unnumbered = r.sound.unnumbered; no_versions = r.sound.no_versions; listed = r.sound.listed } r.few
           record { alone = fit.alone; count_is = fit.count_is; gate_is = fit.gate_is; cut_is = refl; low_is = fit.low_is; scanned_is = fit.scanned_is; pairs = fit.pairs; joined = joined_paced p p.gate cut p.low p.scanned id q.joined (le_refl p.gate) fit.joined }
           (λ j u other f. paced_else p p.gate cut p.low p.scanned j u (le_refl p.gate) (λ e. other (e ∙ sym fit.alone)) f),
-      λ q' is'. let same : Prunes q ≡ Prunes q' = sym is ∙ is' in let qq : q ≡ q' = cc in ap (λ (z : PrunerView). seat_state (Prunes (record z { cut = cut })) me) qq,
+      λ q' is'. let same : Prunes q ≡ Prunes q' = sym is ∙ is' in let qq : q ≡ q' = cc in ap (λ (z : PrunerView). with_view (Prunes (record z { cut = cut })) me) qq,
     )
 
 -- a number is at most a confirmed version if a greater one is
@@ -123,7 +123,7 @@ below_joined p id m [] low r = tt
 below_joined p id m (g ∷ gs) low r = ((λ i small. subst (Below m) (sym (r.0.holds i small)) (low (8 * g.number + i))), below_joined p id m gs low r.2)
 
 -- the pruner may load the next pin word
-pub scans : (passes slots id k : ℕ) (me : SeatState) (q : PrunerView) → me.0 ≡ Prunes q → length q.loaded ≡ k → k < 8 * passes → Allows (IsBoard passes) slots id me (k + 3) (λ x. x) (scanned (step slots (k + 3) 0 0 none) me)
+pub scans : (passes slots id k : ℕ) (me : BoardSeat) (q : PrunerView) → me.0 ≡ Prunes q → length q.loaded ≡ k → k < 8 * passes → Allows (IsBoard passes) slots id me (k + 3) (λ x. x) (scanned (step slots (k + 3) 0 0 none) me)
 scans passes slots id k me q is long inside s r _ at _ =
     let fit = pruner_at passes s r id me.0 q is at in let p = r.account in let x : ℕ = get_or s.words (k + 3) 0 in let w : PrunerView = scanning q k x in
     let found : x ≡ word_of (p.hold k) = r.written.pins_are k inside in let low : ℕ = lower p.low x in let less = lower_le p.low x in let low_gate = r.sound.low_gate in let at_k : p.scanned ≡ k = sym fit.scanned_is ∙ long in (
@@ -152,5 +152,5 @@ scans passes slots id k me q is long inside s r _ at _ =
           }
           (λ j u other f. paced_else p p.gate p.cut low (k + 1) j u (le_refl p.gate) (λ e. other (e ∙ sym fit.alone)) f),
       λ q' k' is' word. let same : Prunes q ≡ Prunes q' = sym is ∙ is' in let qq : q ≡ q' = cc in let kk : k ≡ k' = omega arith in
-          subst (λ (z : PrunerView × ℕ). (seat_state (Prunes w) me ≡ seat_state (Prunes (scanning z.0 z.1 x)) me) × JoinedHold z.0.joined z.1 x × BelowJoined z.0.cut z.0.joined) (λ i. (qq i, kk i)) (refl, joined_hold p id k x q.joined found fit.joined, below_joined p id q.cut q.joined (λ j. subst (λ (z : ℕ). Below z (p.hold j)) (sym fit.cut_is) (r.sound.cut_pins j)) fit.joined),
+          subst (λ (z : PrunerView × ℕ). (with_view (Prunes w) me ≡ with_view (Prunes (scanning z.0 z.1 x)) me) × JoinedHold z.0.joined z.1 x × BelowJoined z.0.cut z.0.joined) (λ i. (qq i, kk i)) (refl, joined_hold p id k x q.joined found fit.joined, below_joined p id q.cut q.joined (λ j. subst (λ (z : ℕ). Below z (p.hold j)) (sym fit.cut_is) (r.sound.cut_pins j)) fit.joined),
     )

@@ -1,16 +1,16 @@
 -- The rule of a board, which holds in every schedule between any two steps.
 -- Its words are the gate, the cut, the count of numbers given, and then eight pin words for each number.
-use Rattle.std.specs.Prelude.{◌≡◌, ◌≢◌, ℕ, ◌+◌, ◌-◌, ◌*◌, ◌/◌, ◌<◌, ◌≤◌, ◌==◌, cond, min, List, [], ◌∷◌, length, slice_index, slice_index_or}
-use mathlib.Core.Option.{some}
 use lib.ListN.{get_elem?}
+use mathlib.Core.Option.{some}
+use Rattle.std.specs.Prelude.{ℕ, slice_index, ◌+◌, ◌*◌, slice_index_or, ◌≤◌, ◌≡◌, List, ◌-◌, ◌==◌, cond, min, [], ◌∷◌, ◌<◌, length, ◌/◌, ◌≢◌}
 use Rattle.atomic_table.specs.Table.{State}
+use Rattle.jf_board.specs.declared.views.View.{View}
 use Rattle.jf_board.specs.declared.views.Hold.{Hold}
 use Rattle.jf_board.specs.declared.views.Hold.TheVariants.{Free, Announced, Confirmed}
 use Rattle.jf_board.specs.declared.views.PlaceView.{PlaceView}
 use Rattle.jf_board.specs.declared.views.PrunerView.{PrunerView}
-use Rattle.jf_board.specs.declared.views.Size.{Size}
-use Rattle.jf_board.specs.declared.views.View.{View}
 use Rattle.jf_board.specs.declared.views.View.TheVariants.{Pins, Prunes, Spent}
+use Rattle.jf_board.specs.declared.views.Size.{Size}
 
 -- the words, and the view of each seat
 abbrev pub BoardState : Type 0
@@ -115,7 +115,6 @@ pub record PairsAreAnnounced (s : BoardState) : Type 0 where
   pub given : (id : ℕ) (q : PrunerView) (pair : ℕ × ℕ) → PrunesAt s id q → Has q.pairs pair → pair.0 < count_in s
 
 -- The steps keep the five points in one form: an account of the board, which the words and each view agree with.
-
 -- what the words say and who has which number: what each pin word holds, and of each number its seat and the versions that it announced
 pub record Account : Type 0 where
   pub gate : ℕ
@@ -137,7 +136,7 @@ pub record IsWritten (passes : ℕ) (p : Account) (words : List ℕ) : Type 0 wh
   pub pins_are : (k : ℕ) → k < 8 * passes → slice_index words (k + 3) ≡ word_of (p.hold k)
 
 -- cut and low are at most the gate and what is confirmed; what is not numbered holds nothing; what is held was announced
-pub record IsSound (p : Account) : Type 0 where
+pub record IsSoundAccount (p : Account) : Type 0 where
   pub cut_gate : p.cut ≤ p.gate
   pub cut_pins : (k : ℕ) → Below p.cut (p.hold k)
   pub low_gate : p.low ≤ p.gate
@@ -187,10 +186,10 @@ ViewFits p id Spent = Unit {0}
 pub record IsBoard (passes : ℕ) (s : BoardState) : Type 0 where
   pub account : Account
   pub written : IsWritten passes account s.words
-  pub sound : IsSound account
+  pub sound : IsSoundAccount account
   pub few : account.count ≤ passes
   pub each : (id : ℕ) (v : View) → get_elem? s.views id ≡ some v → ViewFits account id v
 
 -- the view of the first seat, which makes the places and is then the pruner's
-abbrev pub opened : Size → View
-opened size = Prunes record { gate = size.gate; cut = size.gate; count = 0; loaded = []; pairs = []; joined = [] }
+abbrev pub opening_view : Size → View
+opening_view size = Prunes record { gate = size.gate; cut = size.gate; count = 0; loaded = []; pairs = []; joined = [] }

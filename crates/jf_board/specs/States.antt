@@ -1,15 +1,15 @@
 -- What contracts see of a place and of the pruner.
-use Rattle.std.specs.Prelude.{◌≡◌, ℕ, ◌+◌, ◌<◌, ◌≢◌, List, [], ◌∷◌, ◌++◌, length, slice_set, Option, Some, None}
+use Rattle.std.specs.Prelude.{[], ◌≡◌, ℕ, Option, Some, None, ◌<◌, ◌+◌, ◌∷◌, ◌++◌, slice_set, ◌≢◌, length, List}
 use Rattle.atomic_table.specs.Seated.{TableId}
 use Rattle.atomic_table.specs.declared.shared.Seat.{Seat}
-use Rattle.jf_board.specs.declared.views.Hold.{Hold}
-use Rattle.jf_board.specs.declared.views.Hold.TheVariants.{Free, Confirmed}
 use Rattle.jf_board.specs.declared.views.PlaceView.{PlaceView}
 use Rattle.jf_board.specs.declared.views.PrunerView.{PrunerView}
 use Rattle.jf_board.specs.declared.views.View.{View}
 use Rattle.jf_board.specs.declared.views.View.TheVariants.{Pins, Prunes, Spent}
-use Rattle.jf_board.specs.Rule.{hold_at}
 use Rattle.jf_board.specs.Steps.{newly_numbered}
+use Rattle.jf_board.specs.declared.views.Hold.{Hold}
+use Rattle.jf_board.specs.declared.views.Hold.TheVariants.{Free, Confirmed}
+use Rattle.jf_board.specs.Rule.{hold_at}
 
 -- a place: of which board, and what it knows
 pub record PlaceState : Type 0 where
@@ -28,14 +28,14 @@ place_of (Prunes q) = newly_numbered 0
 place_of Spent = newly_numbered 0
 
 -- a pruner's view that knows nothing, for a seat that is not the pruner's
-abbrev pub nothing_known : PrunerView
-nothing_known = record { gate = 0; cut = 0; count = 0; loaded = []; pairs = []; joined = [] }
+abbrev pub no_pruner : PrunerView
+no_pruner = record { gate = 0; cut = 0; count = 0; loaded = []; pairs = []; joined = [] }
 
 -- the pruner's view that a seat has
 abbrev pub pruner_of : View → PrunerView
-pruner_of (Pins v) = nothing_known
+pruner_of (Pins v) = no_pruner
 pruner_of (Prunes q) = q
-pruner_of Spent = nothing_known
+pruner_of Spent = no_pruner
 
 -- the copy in memory agrees with one of the eight: between calls it is free or confirmed, never merely announced
 abbrev pub Agrees : Option ℕ → Hold → Type 0
@@ -55,8 +55,8 @@ abbrev pub refused_at : PlaceView → ℕ → ℕ → ℕ → PlaceView
 refused_at v i version gate = record v { gate = gate; latest = i; announced = v.announced ++ version ∷ [] }
 
 -- the seat is that of the place with the number n
-abbrev pub IsPlace : Seat (Unit {0}) View → ℕ → Type 0
-IsPlace s n = (s.me ≡ (Pins (place_of s.me.0), [])) × ((place_of s.me.0).number ≡ n)
+abbrev pub IsPlaceSeat : Seat (Unit {0}) View → ℕ → Type 0
+IsPlaceSeat s n = (s.me ≡ (Pins (place_of s.me.0), [])) × ((place_of s.me.0).number ≡ n)
 
 -- the seat is the pruner's
 abbrev pub IsPruner : Seat (Unit {0}) View → Type 0
@@ -79,6 +79,6 @@ abbrev pub new_pruner : ℕ → ℕ → PrunerView
 new_pruner gate count = record { gate = gate; cut = gate; count = count; loaded = []; pairs = []; joined = [] }
 
 -- the list is of places of the board that hold nothing, numbered from n on
-abbrev pub AreNew : TableId → List PlaceState → ℕ → Type 0
-AreNew board [] n = Unit {0}
-AreNew board (p ∷ ps) n = (p.board ≡ board) × (p.known ≡ newly_numbered n) × AreNew board ps (n + 1)
+abbrev pub AreNewPlaces : TableId → List PlaceState → ℕ → Type 0
+AreNewPlaces board [] n = Unit {0}
+AreNewPlaces board (p ∷ ps) n = (p.board ≡ board) × (p.known ≡ newly_numbered n) × AreNewPlaces board ps (n + 1)

@@ -1,17 +1,17 @@
 -- The steps of a board: what each makes of its seat's view, and what it tells.
-use Rattle.std.specs.Prelude.{◌≡◌, ℕ, ◌+◌, ◌-◌, ◌*◌, ◌/◌, ◌<◌, ◌==◌, leb, cond, List, [], ◌∷◌, ◌++◌, drop, replicate, slice_set}
+use Rattle.std.specs.Prelude.{ℕ, [], replicate, slice_set, ◌+◌, ◌∷◌, ◌++◌, leb, cond, ◌-◌, ◌/◌, ◌==◌, drop, ◌≡◌, ◌*◌, ◌<◌, List}
 use Rattle.atomic_table.specs.Table.{Me, Step}
-use Rattle.jf_board.specs.declared.views.Hold.{Hold}
+use Rattle.jf_board.specs.declared.views.View.{View}
 use Rattle.jf_board.specs.declared.views.Hold.TheVariants.{Free, Announced, Confirmed}
 use Rattle.jf_board.specs.declared.views.PlaceView.{PlaceView}
+use Rattle.jf_board.specs.declared.views.Hold.{Hold}
+use Rattle.jf_board.specs.Rule.{hold_at, word_of, Has, Below}
 use Rattle.jf_board.specs.declared.views.PrunerView.{PrunerView}
-use Rattle.jf_board.specs.declared.views.View.{View}
-use Rattle.jf_board.specs.declared.views.View.TheVariants.{Pins, Prunes, Spent}
-use Rattle.jf_board.specs.Rule.{Has, Below, word_of, hold_at}
+use Rattle.jf_board.specs.declared.views.View.TheVariants.{Prunes, Pins, Spent}
 
 -- the view of a seat; it carries no slot
-abbrev SeatState : Type 0
-SeatState = Me (Unit {0}) View
+abbrev pub BoardSeat : Type 0
+BoardSeat = Me (Unit {0}) View
 
 -- one step on the table: which word, and the operands
 abbrev TableStep : Type 0
@@ -30,14 +30,14 @@ abbrev pub announcing : PlaceView → ℕ → ℕ → PlaceView
 announcing v i version = record v { latest = i; holds = slice_set v.holds i (Announced version); announced = v.announced ++ version ∷ [] }
 
 -- an announced version is confirmed if the gate is at most it
-abbrev pub judged : ℕ → Hold → Hold
-judged gate Free = Free
-judged gate (Announced version) = cond (leb gate version) (Confirmed version) (Announced version)
-judged gate (Confirmed version) = Confirmed version
+abbrev pub confirmed_from : ℕ → Hold → Hold
+confirmed_from gate Free = Free
+confirmed_from gate (Announced version) = cond (leb gate version) (Confirmed version) (Announced version)
+confirmed_from gate (Confirmed version) = Confirmed version
 
 -- the place loads the gate: what it announced last is confirmed if the gate is at most it
 abbrev pub confirming : PlaceView → ℕ → PlaceView
-confirming v gate = record v { gate = gate; holds = slice_set v.holds v.latest (judged gate (hold_at v v.latest)) }
+confirming v gate = record v { gate = gate; holds = slice_set v.holds v.latest (confirmed_from gate (hold_at v v.latest)) }
 
 -- the pruner sets the gate, and no pin word counts as loaded any more
 abbrev pub raising : PrunerView → ℕ → PrunerView
@@ -83,35 +83,35 @@ JoinedAnnounced pairs [] = Unit {0}
 JoinedAnnounced pairs (v ∷ vs) = ((version : ℕ) → Has pairs (v.number, version) → Has v.announced version) × JoinedAnnounced pairs vs
 
 -- the number is the old count
-abbrev pub numbered : TableStep → SeatState → ℕ → SeatState → Type 0
+abbrev pub numbered : TableStep → BoardSeat → ℕ → BoardSeat → Type 0
 numbered st m r m' = (q : PrunerView) → m.0 ≡ Prunes q → (r ≡ q.count) × (m' ≡ (Prunes (numbering q), m.1))
 
 -- the word of the place i goes from 0 to version + 1
-abbrev pub announced : TableStep → SeatState → ℕ → SeatState → Type 0
+abbrev pub announced : TableStep → BoardSeat → ℕ → BoardSeat → Type 0
 announced st m r m' = (v : PlaceView) (i version : ℕ) → m.0 ≡ Pins v → st.word ≡ 8 * v.number + i + 3 → st.first ≡ version + 1 → m' ≡ (Pins (announcing v i version), m.1)
 
 -- the gate is loaded
-abbrev pub confirmed : TableStep → SeatState → ℕ → SeatState → Type 0
+abbrev pub confirmed : TableStep → BoardSeat → ℕ → BoardSeat → Type 0
 confirmed st m r m' = (v : PlaceView) → m.0 ≡ Pins v → m' ≡ (Pins (confirming v r), m.1)
 
 -- the word of the place i goes to 0
-abbrev pub withdrawn : TableStep → SeatState → ℕ → SeatState → Type 0
+abbrev pub withdrawn : TableStep → BoardSeat → ℕ → BoardSeat → Type 0
 withdrawn st m r m' = (v : PlaceView) (i : ℕ) → m.0 ≡ Pins v → st.word ≡ 8 * v.number + i + 3 → m' ≡ (Pins (with_hold v i Free), m.1)
 
 -- the gate word is set
-abbrev pub raised : TableStep → SeatState → ℕ → SeatState → Type 0
-raised st m r m' = (q : PrunerView) → m.0 ≡ Prunes q → m' ≡ (Prunes (raising q st.first), m.1)
+abbrev pub gate_raised : TableStep → BoardSeat → ℕ → BoardSeat → Type 0
+gate_raised st m r m' = (q : PrunerView) → m.0 ≡ Prunes q → m' ≡ (Prunes (raising q st.first), m.1)
 
 -- the next pin word is loaded; the cut is at most what joined places have confirmed
-abbrev pub scanned : TableStep → SeatState → ℕ → SeatState → Type 0
+abbrev pub scanned : TableStep → BoardSeat → ℕ → BoardSeat → Type 0
 scanned st m r m' = (q : PrunerView) (k : ℕ) → m.0 ≡ Prunes q → st.word ≡ k + 3 → (m' ≡ (Prunes (scanning q k r), m.1)) × JoinedHold q.joined k r × BelowJoined q.cut q.joined
 
 -- the cut word is set
-abbrev pub cut_made : TableStep → SeatState → ℕ → SeatState → Type 0
+abbrev pub cut_made : TableStep → BoardSeat → ℕ → BoardSeat → Type 0
 cut_made st m r m' = (q : PrunerView) → m.0 ≡ Prunes q → m' ≡ (Prunes (record q { cut = st.first }), m.1)
 
 -- each place that joined the pruner announced all that the pruner loaded at its number
-abbrev pub learned : TableStep → SeatState → ℕ → SeatState → Type 0
+abbrev pub learned : TableStep → BoardSeat → ℕ → BoardSeat → Type 0
 learned st m r m' = (q : PrunerView) → m.0 ≡ Prunes q → (m' ≡ m) × JoinedAnnounced q.pairs q.joined × NumbersAreGiven q
 
 -- the pruner takes in the view of a place, and begins a scan

@@ -1,7 +1,7 @@
 // Making a board: its words, its numbered places and its pruner.
 ghost use Rattle.std.specs.Prelude.{◌≡◌, ℕ, ◌+◌, ◌*◌, ◌<◌, ◌≤◌, ◌∷◌, ◌++◌, [], length, replicate, slice_index, IfOk, OnOk};
 ghost use Rattle.jf_board.specs.Steps.{newly_numbered};
-ghost use Rattle.jf_board.specs.States.{pruner_of, IsPruner, new_pruner, AreNew};
+ghost use Rattle.jf_board.specs.States.{pruner_of, IsPruner, new_pruner, AreNewPlaces};
 
 use crate::board::Board;
 use crate::memory::Memory;
@@ -52,7 +52,7 @@ fn new_places(
     requires own { seat.old.table_id ≡ board.now }
     requires pruner { IsPruner seat.old × ((pruner_of seat.old.me.0).joined ≡ []) × ((pruner_of seat.old.me.0).count ≡ 0) }
     ensures seat { OnOk result ((seat.new.table_id ≡ seat.old.table_id) × IsPruner seat.new) }
-    ensures places { IfOk result (λ v. (8 * length v.items + 3 ≡ board.now.words) × AreNew board.now v.items 0 × (pruner_of seat.new.me.0 ≡ record (pruner_of seat.old.me.0) { count = length v.items })) }
+    ensures places { IfOk result (λ v. (8 * length v.items + 3 ≡ board.now.words) × AreNewPlaces board.now v.items 0 × (pruner_of seat.new.me.0 ≡ record (pruner_of seat.old.me.0) { count = length v.items })) }
 {
     let mut places = Vec::new(alloc);
     for _ in 0..board.passes {
@@ -67,7 +67,7 @@ impl Board {
     pub fn new(alloc: Global, passes: u64, gate: u64) -> Result<(Board, Vec<Place>, Pruner), Memory>
         requires { (1 ≤ passes) × (passes ≤ 16) }
         ensures words { IfOk result (λ r. r.0.words ≡ 8 * passes + 3) }
-        ensures places { IfOk result (λ r. (length r.1.items ≡ passes) × AreNew r.0 r.1.items 0) }
+        ensures places { IfOk result (λ r. (length r.1.items ≡ passes) × AreNewPlaces r.0 r.1.items 0) }
         ensures pruner { IfOk result (λ r. (r.2.board ≡ r.0) × (r.2.known ≡ new_pruner gate passes)) }
     {
         let words = opening_words(alloc, passes, gate)?;

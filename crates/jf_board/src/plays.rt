@@ -1,5 +1,5 @@
 // What each step on the table tells the seat that takes it.
-ghost use Rattle.jf_board.specs.Steps.{numbered, announced, confirmed, withdrawn, raised, scanned, cut_made, learned, joined_for_scan, joined_for_good, parted, last_joined};
+ghost use Rattle.jf_board.specs.Steps.{numbered, announced, confirmed, withdrawn, gate_raised, scanned, cut_made, learned, joined_for_scan, joined_for_good, parted, last_joined};
 
 use crate::views::View;
 use atomic_table::{Join, Play, Split};
@@ -31,7 +31,7 @@ impl Play<(), View> for Withdraw {
 pub(crate) struct Raise;
 
 impl Play<(), View> for Raise {
-    ghost then = { raised };
+    ghost then = { gate_raised };
 }
 
 pub(crate) struct Scan;

@@ -5,9 +5,9 @@ use atomic_table::TableRule;
 pub struct BoardRule;
 
 impl TableRule<(), View, Size> for BoardRule {
-    ghost use Rattle.jf_board.specs.Rule.{IsBoard, opened};
+    ghost use Rattle.jf_board.specs.Rule.{IsBoard, opening_view};
 
     ghost holds = { λ size. IsBoard size.passes };
 
-    ghost first = { opened };
+    ghost first = { opening_view };
 }

@@ -4,7 +4,7 @@ ghost use Rattle.jf_board.specs.declared.views.Hold.TheVariants.{Free};
 ghost use Rattle.jf_board.specs.declared.views.View.TheVariants.{Pins, Prunes, Spent};
 ghost use Rattle.jf_board.specs.Rule.{least};
 ghost use Rattle.jf_board.specs.Steps.{announcing, confirming, with_hold, raising, numbering, scanning, JoinedHold, JoinedAnnounced, BelowJoined, NumbersAreGiven, with_own, with_joined, without_own};
-ghost use Rattle.jf_board.specs.States.{place_of, pruner_of, IsPlace, IsPruner};
+ghost use Rattle.jf_board.specs.States.{place_of, pruner_of, IsPlaceSeat, IsPruner};
 
 use crate::board::Board;
 use crate::plays::{
@@ -23,7 +23,7 @@ pub(crate) fn announce(
     version: u64,
 )
     requires own { seat.old.table_id ≡ board.now }
-    requires place { IsPlace seat.old number × (place < 8) }
+    requires place { IsPlaceSeat seat.old number × (place < 8) }
     requires room { (8 * number + 11 ≤ board.now.words) × (number < 16) }
     requires version { version < 2 ^ 64 - 1 }
     ensures { (seat.new.table_id ≡ seat.old.table_id) × (seat.new.me ≡ (Pins (announcing (place_of seat.old.me.0) place version), [])) }
@@ -38,7 +38,7 @@ pub(crate) fn announce(
 // Writes 0, nothing pinned, into a pin word.
 pub(crate) fn withdraw(board: &Board, seat: &mut Seat<(), View>, number: u64, place: usize)
     requires own { seat.old.table_id ≡ board.now }
-    requires place { IsPlace seat.old number × (place < 8) }
+    requires place { IsPlaceSeat seat.old number × (place < 8) }
     requires room { (8 * number + 11 ≤ board.now.words) × (number < 16) }
     ensures { (seat.new.table_id ≡ seat.old.table_id) × (seat.new.me ≡ (Pins (with_hold (place_of seat.old.me.0) place Free), [])) }
 {
@@ -49,7 +49,7 @@ pub(crate) fn withdraw(board: &Board, seat: &mut Seat<(), View>, number: u64, pl
 // Loads the gate.
 pub(crate) fn confirm(board: &Board, seat: &mut Seat<(), View>) -> u64
     requires own { seat.old.table_id ≡ board.now }
-    requires place { IsPlace seat.old (place_of seat.old.me.0).number }
+    requires place { IsPlaceSeat seat.old (place_of seat.old.me.0).number }
     ensures { (seat.new.table_id ≡ seat.old.table_id) × (seat.new.me ≡ (Pins (confirming (place_of seat.old.me.0) result), [])) }
 {
     board.table.shared.load::<Confirm>(seat, 0)
@@ -102,7 +102,7 @@ pub(crate) fn load_pin(board: &Board, seat: &mut Seat<(), View>, k: usize) -> u6
 // Moves the view of a place to a new seat.
 pub(crate) fn lend(board: &Board, seat: &mut Seat<(), View>) -> Seat<(), View>
     requires own { seat.old.table_id ≡ board.now }
-    requires place { IsPlace seat.old (place_of seat.old.me.0).number }
+    requires place { IsPlaceSeat seat.old (place_of seat.old.me.0).number }
     ensures seat { seat.new.table_id ≡ seat.old.table_id }
     ensures lent { (result.table_id ≡ seat.old.table_id) × (result.me ≡ seat.old.me) }
 {
@@ -112,7 +112,7 @@ pub(crate) fn lend(board: &Board, seat: &mut Seat<(), View>) -> Seat<(), View>
 // The pruner takes in the view of a place, and begins a scan.
 pub(crate) fn join_for_scan(board: &Board, seat: &mut Seat<(), View>, place: Seat<(), View>)
     requires own { (seat.old.table_id ≡ board.now) × (place.table_id ≡ board.now) }
-    requires both { IsPruner seat.old × IsPlace place (place_of place.me.0).number }
+    requires both { IsPruner seat.old × IsPlaceSeat place (place_of place.me.0).number }
     ensures { (seat.new.table_id ≡ seat.old.table_id) × (seat.new.me ≡ (Prunes (with_own (pruner_of seat.old.me.0) (place_of place.me.0)), [])) }
 {
     board.table.shared.join_seat::<JoinForScan>(seat, place);
@@ -121,7 +121,7 @@ pub(crate) fn join_for_scan(board: &Board, seat: &mut Seat<(), View>, place: Sea
 // The pruner takes in the view of a place for good. The place announced all that the pruner loaded at its number.
 pub(crate) fn join_for_good(board: &Board, seat: &mut Seat<(), View>, place: Seat<(), View>)
     requires own { (seat.old.table_id ≡ board.now) × (place.table_id ≡ board.now) }
-    requires both { IsPruner seat.old × IsPlace place (place_of place.me.0).number }
+    requires both { IsPruner seat.old × IsPlaceSeat place (place_of place.me.0).number }
     ensures seat { (seat.new.table_id ≡ seat.old.table_id) × (seat.new.me ≡ (Prunes (with_joined (pruner_of seat.old.me.0) (place_of place.me.0)), [])) }
     ensures announced { JoinedAnnounced (pruner_of seat.old.me.0).pairs (place_of place.me.0 ∷ []) }
     ensures given { NumbersAreGiven (pruner_of seat.old.me.0) }

@@ -1,13 +1,13 @@
 -- What lines of chunk blocks come to, all together.
-use Rattle.std.specs.Prelude.{ℕ, zero, suc, ◌+◌, ◌==◌, if◌then◌else◌, List, [], ◌∷◌, ◌++◌, length, Option, Some, None, Result, Ok, Err}
+use Rattle.std.specs.Prelude.{ℕ, ◌+◌, List, ◌++◌, Some, None, Result, Ok, Err, zero, suc, [], ◌∷◌, length, ◌==◌, if◌then◌else◌, Option}
 use Rattle.jf_evidence.specs.Ranges.{Entries, range_refusal}
-use Rattle.jf_blocks.specs.Reading.{Place, Chunk, start, chunk_block}
+use Rattle.jf_blocks.specs.Reading.{Chunk, Place, chunk_block, first_place}
 use Rattle.jf_chunks.specs.declared.fault.BlockFault.{BlockFault}
 use Rattle.jf_chunks.specs.declared.fault.BlockFault.TheVariants as fault
 
 -- known entries and then those of a block, whose first line has this number, if it is accepted after them
-abbrev pub accepted : List ℕ → ℕ → Entries → Chunk → Result Entries BlockFault
-accepted root at known chunk = elim (range_refusal root known chunk.0 chunk.1) [ None ↦ Ok (known ++ chunk.0) | Some why ↦ Err (fault.Chunk at why) ]
+abbrev pub accepted_chunk : List ℕ → ℕ → Entries → Chunk → Result Entries BlockFault
+accepted_chunk root at known chunk = elim (range_refusal root known chunk.0 chunk.1) [ None ↦ Ok (known ++ chunk.0) | Some why ↦ Err (fault.Chunk at why) ]
 
 -- known entries and then those of all blocks, each accepted after those before it, or the first refusal. n is at least the number of lines that remain
 unfoldable pub chunks_from : ℕ → List ℕ → Entries → Place → Result Entries BlockFault
@@ -18,13 +18,13 @@ chunks_from (suc n) root known p =
       | line ∷ rest ↦
           elim (chunk_block p) [
             | Err at ↦ Err (fault.Line at)
-            | Ok b ↦ elim (accepted root p.at known b.0) [ Err why ↦ Err why | Ok all ↦ chunks_from n root all b.1 ]
+            | Ok b ↦ elim (accepted_chunk root p.at known b.0) [ Err why ↦ Err why | Ok all ↦ chunks_from n root all b.1 ]
           ]
     ]
 
 -- what all lines come to, numbered from 1
 abbrev pub chunks : List ℕ → Entries → List (List ℕ) → Result Entries BlockFault
-chunks root known ls = chunks_from (length ls) root known (start ls)
+chunks root known ls = chunks_from (length ls) root known (first_place ls)
 
 -- the refusal that the first n lines decide, whatever follows them: a line that is missing after them may still come
 abbrev pub decided : ℕ → Result Entries BlockFault → Option BlockFault

@@ -1,6 +1,6 @@
 // Chunk blocks that are read line by line, as docs/FORMATS.md gives them.
 ghost use Rattle.std.specs.Prelude.{◌≡◌, ◌⊎◌, None, Ok, OnOk, OnErr};
-ghost use Rattle.jf_chunks.specs.Steps.{begun, after, answer_of, end_of, out_of_memory, refusal_of};
+ghost use Rattle.jf_chunks.specs.Steps.{begun_restoring, restoring_after, answer_of, restored_at_end, out_of_memory, refusal_at_stage};
 
 use crate::fault::BlockFault;
 use crate::reading::read_line;
@@ -25,9 +25,9 @@ pub struct Blocks {
 }
 
 impl Model for Blocks {
-    ghost use Rattle.jf_chunks.specs.Steps.{State, IsShort};
+    ghost use Rattle.jf_chunks.specs.Steps.{Restoring, IsShort};
 
-    ghost Value = { State };
+    ghost Value = { Restoring };
 
     ghost view = { λ b. record { restore = b.restore; at = b.at; stage = b.stage } };
 
@@ -37,7 +37,7 @@ impl Model for Blocks {
 impl Blocks {
     /// Begins before the first line. The blocks are to be added to what `restore` has.
     pub fn new(alloc: Global, restore: Restore) -> Blocks
-        ensures { result ≡ begun restore }
+        ensures { result ≡ begun_restoring restore }
     {
         Blocks {
             alloc,
@@ -51,7 +51,7 @@ impl Blocks {
     /// is out of memory, what was added before stays.
     pub fn line(&mut self, line: &[u8]) -> Result<(), BlockFault>
         ensures answer { result ≡ answer_of self.new.stage }
-        ensures after { (self.new ≡ after self.old line.now) ⊎ ((refusal_of self.old.stage ≡ None) × (self.new ≡ out_of_memory self.old)) }
+        ensures after { (self.new ≡ restoring_after self.old line.now) ⊎ ((refusal_at_stage self.old.stage ≡ None) × (self.new ≡ out_of_memory self.old)) }
     {
         if let Stage::Refused(why) = self.stage {
             return Err(why);
@@ -64,7 +64,7 @@ impl Blocks {
 
     /// Ends the lines. Returns what is restored, if they were whole blocks that were all accepted.
     pub fn end(self) -> Result<Restore, BlockFault>
-        ensures { result ≡ end_of self }
+        ensures { result ≡ restored_at_end self }
     {
         let Blocks {
             alloc: _,
@@ -82,7 +82,7 @@ impl Blocks {
     /// Goes on by one line. If it is out of memory, no later line is read.
     fn behind(&mut self, line: &[u8]) -> Result<(), Memory>
         requires { answer_of self.old.stage ≡ Ok tt }
-        ensures ok { OnOk result (self.new ≡ after self.old line.now) }
+        ensures ok { OnOk result (self.new ≡ restoring_after self.old line.now) }
         ensures err { OnErr result (self.new ≡ out_of_memory self.old) }
     {
         let stage = replace(&mut self.stage, Stage::Refused(BlockFault::Memory));

@@ -1,5 +1,5 @@
 // Laws on lines of chunk blocks, for proofs of code that stands on them. These functions do nothing when they run.
-ghost use Rattle.jf_chunks.specs.Laws.{ChunksComeLineByLine, RefusalsComeAtTheirLine, RefusalsStay, LongLinesAreAlike};
+ghost use Rattle.jf_chunks.specs.Laws.{ChunksComeLineByLine, RefusalsComeAtTheirLine, RefusalsStay, LongChunkLinesAreAlike};
 
 /// Lines read one by one give what they give all together.
 pub fn chunks_come_line_by_line()
@@ -18,5 +18,5 @@ pub fn refusals_stay()
 
 /// All lines of more than 8,500 bytes give the same.
 pub fn long_lines_are_alike()
-    ensures { LongLinesAreAlike }
+    ensures { LongChunkLinesAreAlike }
 {}

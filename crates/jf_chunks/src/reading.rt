@@ -1,8 +1,8 @@
 // What one line makes of a block and of the restore.
 ghost use Rattle.std.specs.Prelude.{◌≡◌, IfOk, OnErr};
 ghost use Rattle.jf_blocks.specs.Reading.{line_read, chunk_of, entry_of, side_of};
-ghost use Rattle.jf_restore.specs.Restores.{AreShort};
-ghost use Rattle.jf_chunks.specs.Steps.{IsMade, IsShort, line_step, first_step, block_step, entry_step, side_step, settled, whole};
+ghost use Rattle.jf_restore.specs.Restores.{HaveShortValues};
+ghost use Rattle.jf_chunks.specs.Steps.{IsRestoredBy, IsShort, restoring_line_step, head_step, block_step, entry_step, sibling_step, taken_if_whole, taken_whole};
 
 use crate::fault::BlockFault;
 use crate::stage::{Begun, Stage};
@@ -14,7 +14,7 @@ use std::alloc::Global;
 
 /// Reads line `at`, adds the block if this is its last line, and returns how far the blocks are read after it. If the
 /// line or the block is refused, or memory runs out, the restore is unchanged.
-#[tactic(auto, unfolding(crate::specs::Steps::line_step))]
+#[tactic(auto, unfolding(crate::specs::Steps::restoring_line_step))]
 pub(crate) fn read_line(
     alloc: Global,
     restore: &mut Restore,
@@ -23,7 +23,7 @@ pub(crate) fn read_line(
     line: &[u8],
 ) -> Result<Stage, Memory>
     requires { IsShort stage }
-    ensures ok { IfOk result (λ next. IsMade (line_step restore.old at stage line.now) restore.new next) }
+    ensures ok { IfOk result (λ next. IsRestoredBy (restoring_line_step restore.old at stage line.now) restore.new next) }
     ensures short { IfOk result (λ next. IsShort next) }
     ensures err { OnErr result (restore.new ≡ restore.old) }
 {
@@ -36,7 +36,7 @@ pub(crate) fn read_line(
 
 /// Reads the first line of a block.
 fn begin(alloc: Global, restore: &mut Restore, at: u64, line: &[u8]) -> Result<Stage, Memory>
-    ensures ok { IfOk result (λ next. IsMade (first_step restore.old at (line_read chunk_of line.now)) restore.new next) }
+    ensures ok { IfOk result (λ next. IsRestoredBy (head_step restore.old at (line_read chunk_of line.now)) restore.new next) }
     ensures short { IfOk result (λ next. IsShort next) }
     ensures err { OnErr result (restore.new ≡ restore.old) }
 {
@@ -65,8 +65,8 @@ fn go_on(
     begun: Begun,
     line: &[u8],
 ) -> Result<Stage, Memory>
-    requires { AreShort begun.entries }
-    ensures ok { IfOk result (λ next. IsMade (block_step restore.old at begun line.now) restore.new next) }
+    requires { HaveShortValues begun.entries }
+    ensures ok { IfOk result (λ next. IsRestoredBy (block_step restore.old at begun line.now) restore.new next) }
     ensures short { IfOk result (λ next. IsShort next) }
     ensures err { OnErr result (restore.new ≡ restore.old) }
 {
@@ -85,8 +85,8 @@ fn entry(
     begun: Begun,
     line: &[u8],
 ) -> Result<Stage, Memory>
-    requires { AreShort begun.entries }
-    ensures ok { IfOk result (λ next. IsMade (entry_step restore.old at begun (line_read entry_of line.now)) restore.new next) }
+    requires { HaveShortValues begun.entries }
+    ensures ok { IfOk result (λ next. IsRestoredBy (entry_step restore.old at begun (line_read entry_of line.now)) restore.new next) }
     ensures short { IfOk result (λ next. IsShort next) }
     ensures err { OnErr result (restore.new ≡ restore.old) }
 {
@@ -103,8 +103,8 @@ fn entry(
 
 /// Reads the line of a sibling.
 fn side(restore: &mut Restore, at: u64, begun: Begun, line: &[u8]) -> Result<Stage, Memory>
-    requires { AreShort begun.entries }
-    ensures ok { IfOk result (λ next. IsMade (side_step restore.old at begun (line_read side_of line.now)) restore.new next) }
+    requires { HaveShortValues begun.entries }
+    ensures ok { IfOk result (λ next. IsRestoredBy (sibling_step restore.old at begun (line_read side_of line.now)) restore.new next) }
     ensures short { IfOk result (λ next. IsShort next) }
     ensures err { OnErr result (restore.new ≡ restore.old) }
 {
@@ -121,8 +121,8 @@ fn side(restore: &mut Restore, at: u64, begun: Begun, line: &[u8]) -> Result<Sta
 
 /// Adds what was read of a block, if no line of it is missing.
 fn settle(restore: &mut Restore, begun: Begun) -> Result<Stage, Memory>
-    requires { AreShort begun.entries }
-    ensures ok { IfOk result (λ next. IsMade (settled restore.old begun) restore.new next) }
+    requires { HaveShortValues begun.entries }
+    ensures ok { IfOk result (λ next. IsRestoredBy (taken_if_whole restore.old begun) restore.new next) }
     ensures short { IfOk result (λ next. IsShort next) }
     ensures err { OnErr result (restore.new ≡ restore.old) }
 {
@@ -134,8 +134,8 @@ fn settle(restore: &mut Restore, begun: Begun) -> Result<Stage, Memory>
 
 /// Adds a whole block.
 fn add(restore: &mut Restore, begun: &Begun) -> Result<Stage, Memory>
-    requires { AreShort begun.now.entries }
-    ensures ok { IfOk result (λ next. IsMade (whole restore.old begun.now) restore.new next) }
+    requires { HaveShortValues begun.now.entries }
+    ensures ok { IfOk result (λ next. IsRestoredBy (taken_whole restore.old begun.now) restore.new next) }
     ensures short { IfOk result (λ next. IsShort next) }
     ensures err { OnErr result (restore.new ≡ restore.old) }
 {

@@ -1,18 +1,18 @@
 -- Judging one proof block after a root was set.
-use Rattle.std.proofs.Common.{◌≡◌, ℕ, zero, suc, ◌+◌, List, [], ◌∷◌, ◌++◌, length, Option, Some, None, Ok, codes, refl, ap, ◌∙◌, append-nil}
+use Rattle.std.proofs.Common.{◌≡◌, ℕ, suc, ◌+◌, List, ◌∷◌, ◌++◌, Some, ap, Option, Ok, ◌∙◌, zero, [], refl, None, codes, length, append-nil}
 use Rattle.jf_hash.specs.Hashes.{K}
-use Rattle.jf_evidence.specs.Proofs.{refusal}
+use Rattle.jf_io.specs.Lines.{lines}
 use Rattle.jf_evidence.specs.declared.proof.Proof.{Proof}
+use Rattle.jf_evidence.specs.Proofs.{refusal}
 use Rattle.jf_evidence.specs.declared.proof.ProofFault.{ProofFault}
 use Rattle.jf_collide.specs.declared.judged.Judged.{Judged}
-use Rattle.jf_io.specs.Lines.{lines}
 use Rattle.jf_text.specs.Words.{line_text}
-use Rattle.jf_blocks.specs.Reading.{Place, start, line_read, first_of, proof_block}
+use Rattle.jf_blocks.specs.Reading.{line_read, first_line_of, Place, proof_block, first_place}
 use Rattle.jf_blocks.specs.declared.first.FirstLine.TheVariants as first
+use Rattle.jf_verify.specs.Verdicts.{Judging, say, verdicts_from, say_block, judged, judged_of, refused_text, contradicted, contradiction_text, nothing_known, verdicts}
 use Rattle.jf_verify.specs.declared.accepted.Accepted.{Accepted}
-use Rattle.jf_verify.specs.Verdicts.{Judging, say, say_block, refused_text, contradicted, contradiction_text, judged, judged_of, verdicts_from, nothing_known, verdicts}
 
-root_step : (n at : ℕ) (j : Judging) (line : List ℕ) (ls : List (List ℕ)) (root : List ℕ) → line_read first_of line ≡ Some (first.Root root)
+root_step : (n at : ℕ) (j : Judging) (line : List ℕ) (ls : List (List ℕ)) (root : List ℕ) → line_read first_line_of line ≡ Some (first.Root root)
     → verdicts_from (suc n) j (record { at = at; left = line ∷ ls }) ≡ verdicts_from n (record { root = Some root; claims = j.claims }) (record { at = at + 1; left = ls })
 unfolding verdicts_from
 root_step n at j line ls root e =
@@ -23,7 +23,7 @@ abbrev knows : List ℕ → List Accepted → Judging
 knows root claims = record { root = Some root; claims = claims }
 
 block_step : (n at : ℕ) (root : List ℕ) (claims : List Accepted) (line : List ℕ) (ls : List (List ℕ)) (k : ℕ) (name : List ℕ) (claim : Option (List ℕ)) (proof : Proof) (place : Place)
-    → line_read first_of line ≡ Some (first.Proof k) → proof_block k (record { at = at + 1; left = ls }) ≡ Ok ((name, claim, proof), place)
+    → line_read first_line_of line ≡ Some (first.Proof k) → proof_block k (record { at = at + 1; left = ls }) ≡ Ok ((name, claim, proof), place)
     → verdicts_from (suc n) (knows root claims) (record { at = at; left = line ∷ ls })
     ≡ (judged root claims (judged_of (name, claim, proof))).0 ++ verdicts_from n (knows root (judged root claims (judged_of (name, claim, proof))).1) place
 unfolding verdicts_from
@@ -47,12 +47,12 @@ judged-first root j e =
     ] in r.0) e
 
 pub verdicts-of_one : (input first_line second_line : List ℕ) (ls : List (List ℕ)) (root : List ℕ) (k : ℕ) (name : List ℕ) (claim : Option (List ℕ)) (proof : Proof) (at : ℕ)
-    → lines input ≡ first_line ∷ second_line ∷ ls → line_read first_of first_line ≡ Some (first.Root root) → line_read first_of second_line ≡ Some (first.Proof k)
+    → lines input ≡ first_line ∷ second_line ∷ ls → line_read first_line_of first_line ≡ Some (first.Root root) → line_read first_line_of second_line ≡ Some (first.Proof k)
     → proof_block k (record { at = 3; left = ls }) ≡ Ok ((name, claim, proof), record { at = at; left = [] }) → refusal root (K name) claim proof ≡ None
     → verdicts input ≡ codes "accepted\n"
 unfolding verdicts
 verdicts-of_one input first_line second_line ls root k name claim proof at is sets begins read accepted =
     let j : Judged = judged_of (name, claim, proof) in
-    ap (λ xs. verdicts_from (length xs) nothing_known (start xs)) is ∙ root_step (length (second_line ∷ ls)) 1 nothing_known first_line (second_line ∷ ls) root sets
+    ap (λ xs. verdicts_from (length xs) nothing_known (first_place xs)) is ∙ root_step (length (second_line ∷ ls)) 1 nothing_known first_line (second_line ∷ ls) root sets
     ∙ block_step (length ls) 2 root [] second_line ls k name claim proof (record { at = at; left = [] }) begins read
     ∙ ap (λ t. (judged root [] j).0 ++ t) (end_step (length ls) (knows root (judged root [] j).1) at) ∙ append-nil (judged root [] j).0 ∙ judged-first root j accepted

@@ -1,43 +1,42 @@
 -- The replies to `root` and to `prove`, and how they are judged.
-use Rattle.std.proofs.Common.{◌≡◌, ℕ, zero, suc, ◌+◌, ◌-◌, ◌^◌, ◌<◌, false, cond, nat_lt, List, [], ◌∷◌, ◌++◌, length, slice_index_or, Option, Some, None, Ok, codes, refl, sym, ap, ap₂, ◌∙◌, arith, append-nil}
+use Rattle.std.proofs.Common.{◌≡◌, ℕ, false, nat_lt, List, None, refl, arith, cond, Some, ap, ◌∙◌, Option, [], zero, suc, ◌-◌, ◌∷◌, slice_index_or, ◌+◌, ◌^◌, ◌<◌, ◌++◌, length, Ok, codes, sym, append-nil, ap₂}
 use Rattle.std.proofs.lemmas.Bool.Decides.{nat_tests}
-use Rattle.std.specs.List.{AllByRecursion}
 use Rattle.std.specs.FinMap as fin
-use Rattle.jf_hash.specs.Hashes.{K}
-use Rattle.jf_hash.specs.Maps.{Map, IsMap}
+use Rattle.std.specs.List.{AllByRecursion}
 use Rattle.jf_hash.specs.Roots.{root}
-use Rattle.jf_model.specs.Versions.{IsVersions}
-use Rattle.jf_model.specs.VersionLaws.{empty-IsMap, newest-IsMap, root-IsKey}
+use Rattle.jf_hash.specs.Maps.{Map, IsMap}
+use Rattle.jf_hash.specs.Hashes.{K}
 use Rattle.jf_model.specs.States.{State}
-use Rattle.jf_evidence.specs.Proofs.{honest}
-use Rattle.jf_evidence.specs.ProofLaws.{honest-short}
-use Rattle.jf_evidence.specs.Laws.{HonestClaimsAreAccepted}
+use Rattle.jf_model.specs.Versions.{IsVersions}
+use Rattle.jf_model.proofs.VersionLaws.{empty-IsMap, newest-IsMap, root-IsKey}
 use Rattle.jf_io.specs.Lines.{lines}
-use Rattle.jf_io.proofs.EndedLines.{lines_nil}
+use Rattle.jf_io.proofs.EndedLines.{lines-none}
+use Rattle.jf_evidence.specs.Proofs.{honest}
+use Rattle.jf_evidence.specs.Laws.{HonestClaimsAreAccepted}
+use Rattle.jf_evidence.proofs.ProofLaws.{honest-short}
 use Rattle.jf_text.specs.Words.{is_long}
-use Rattle.jf_script.specs.Commands.{command_of}
-use Rattle.jf_script.specs.Replies.{reply_text}
 use Rattle.jf_script.specs.declared.command.Base.{Base}
-use Rattle.jf_script.specs.declared.command.Base.TheVariants as base
+use Rattle.jf_script.specs.Commands.{command_of}
 use Rattle.jf_script.specs.declared.command.Command.{Command}
-use Rattle.jf_script.specs.declared.command.Command.TheVariants as command
 use Rattle.jf_script.specs.declared.reply.Refusal.{Refusal}
+use Rattle.jf_script.specs.Replies.{reply_text}
+use Rattle.jf_script.specs.declared.command.Base.TheVariants as base
+use Rattle.jf_script.specs.declared.command.Command.TheVariants as command
 use Rattle.jf_script.specs.declared.reply.Reply.TheVariants as reply
 use Rattle.jf_blocks.specs.Blocks.{proof_lines}
 use Rattle.jf_blocks.specs.Reading.{proof_block}
 use Rattle.jf_blocks.specs.Laws.{BlocksAreReadBack, RepliesBeginBlocks, RepliesSetRoots}
 use Rattle.jf_verify.specs.Verdicts.{verdicts}
 use Rattle.jf_answers.specs.Own.{Own}
-use Rattle.jf_answers.specs.Refusals.{base_map, refused_by}
-use Rattle.jf_answers.specs.Answers.{Answer, answer, answer_command, answer_to, done, replied, too_long, proved}
+use Rattle.jf_answers.specs.Refusals.{refused_by, base_map}
+use Rattle.jf_answers.specs.Answers.{answer, answer_to, too_long, Answer, answer_command, granted, replied, proved}
 use Rattle.jf_answers.specs.Runs.{answer_text}
-use Rattle.jf_client.specs.Laws.{IsKept, Fits, HonestRepliesAreAccepted}
+use Rattle.jf_client.specs.Laws.{IsKeptBase, FitsLine, HonestRepliesAreAccepted}
 use Rattle.jf_client.proofs.Told.{hash_of_key, honest-told}
 use Rattle.jf_client.proofs.Judged.{verdicts-of_one}
 
 -- ---- the answers to the two lines
-
-not_refused : (s : State) (own : Own) (on : Base) (name : List ℕ) → IsKept s on → (refused_by s own (command.Root on) ≡ None) × (refused_by s own (command.Prove on name) ≡ None)
+not_refused : (s : State) (own : Own) (on : Base) (name : List ℕ) → IsKeptBase s on → (refused_by s own (command.Root on) ≡ None) × (refused_by s own (command.Prove on name) ≡ None)
 unfolding refused_by
 not_refused s own base.Head name kept = (refl, refl)
 not_refused s own (base.Version w) name kept =
@@ -53,39 +52,37 @@ answered : (s : State) (own : Own) (line : List ℕ) (c : Command) → is_long l
 unfolding answer
 answered s own line c short read = ap (λ b. cond b (too_long s own) (answer_to (command_of line) s own)) short ∙ ap (λ o. answer_to o s own) read
 
-unrefused : (s : State) (own : Own) (c : Command) → refused_by s own c ≡ None → answer_command s own c ≡ done c s own
-unrefused s own c free = ap (λ (o : Option Refusal). elim o as (λ x. Answer) [ Some why ↦ replied (reply.No why) s own | None ↦ done c s own ]) free
+unrefused : (s : State) (own : Own) (c : Command) → refused_by s own c ≡ None → answer_command s own c ≡ granted c s own
+unrefused s own c free = ap (λ (o : Option Refusal). elim o as (λ x. Answer) [ Some why ↦ replied (reply.No why) s own | None ↦ granted c s own ]) free
 
-root_to : (s : State) (own : Own) (on : Base) → IsKept s on → answer_to (Some (command.Root on)) s own ≡ replied (reply.Root (root (base_map s own on))) s own
+root_to : (s : State) (own : Own) (on : Base) → IsKeptBase s on → answer_to (Some (command.Root on)) s own ≡ replied (reply.Root (root (base_map s own on))) s own
 root_to s own base.Head kept = unrefused s own (command.Root base.Head) (not_refused s own base.Head [] kept).0
 root_to s own (base.Version w) kept = unrefused s own (command.Root (base.Version w)) (not_refused s own (base.Version w) [] kept).0
 root_to s own (base.Fork id) kept = absurd kept
 root_to s own (base.Place place) kept = absurd kept
 
-prove_to : (s : State) (own : Own) (on : Base) (name : List ℕ) → IsKept s on → answer_to (Some (command.Prove on name)) s own ≡ proved (base_map s own on) name s own
+prove_to : (s : State) (own : Own) (on : Base) (name : List ℕ) → IsKeptBase s on → answer_to (Some (command.Prove on name)) s own ≡ proved (base_map s own on) name s own
 prove_to s own base.Head name kept = unrefused s own (command.Prove base.Head name) (not_refused s own base.Head name kept).1
 prove_to s own (base.Version w) name kept = unrefused s own (command.Prove (base.Version w) name) (not_refused s own (base.Version w) name kept).1
 prove_to s own (base.Fork id) name kept = absurd kept
 prove_to s own (base.Place place) name kept = absurd kept
 
 -- ---- the maps of versions
-
 map-at : (i : ℕ) (ms : List Map) → AllByRecursion IsMap ms → IsMap (slice_index_or ms i fin.empty)
 map-at i [] all = empty-IsMap
 map-at zero (m ∷ ms) all = all.0
 map-at (suc i) (m ∷ ms) all = map-at i ms all.1
 
-base-IsMap : (s : State) (own : Own) (on : Base) → IsVersions s.all → IsKept s on → IsMap (base_map s own on)
+base-IsMap : (s : State) (own : Own) (on : Base) → IsVersions s.all → IsKeptBase s on → IsMap (base_map s own on)
 base-IsMap s own base.Head sound kept = newest-IsMap s.all sound
 base-IsMap s own (base.Version w) sound kept = map-at (s.all.head - w) s.all.maps sound.sound
 base-IsMap s own (base.Fork id) sound kept = absurd kept
 base-IsMap s own (base.Place place) sound kept = absurd kept
 
 -- ---- the two replies
-
 module _ (back : BlocksAreReadBack) (begins : RepliesBeginBlocks) (sets : RepliesSetRoots) (accepted : HonestClaimsAreAccepted) where
   -- the replies over any map
-  map_replies : (m : Map) (name : List ℕ) (a b : ℕ) → IsMap m → Fits name (fin.get m (K name)) → a < 2 ^ 64 → b < 2 ^ 64
+  map_replies : (m : Map) (name : List ℕ) (a b : ℕ) → IsMap m → FitsLine name (fin.get m (K name)) → a < 2 ^ 64 → b < 2 ^ 64
       → verdicts (reply_text a (reply.Root (root m)) ++ (reply_text b (reply.Proof (length (honest m (K name)).siblings)) ++ proof_lines name (fin.get m (K name)) (honest m (K name)))) ≡ codes "accepted\n"
   map_replies m name a b is_map fits small small' =
       let claim = fin.get m (K name) in
@@ -98,7 +95,7 @@ module _ (back : BlocksAreReadBack) (begins : RepliesBeginBlocks) (sets : Replie
       verdicts-of_one (reply_text a (reply.Root (root m)) ++ more) one.0 two.0 (lines block) (root m) k name claim proof (3 + 3 + k)
       (one.1 ∙ ap (λ ls. one.0 ∷ ls) two.1) one.2 two.2
       (ap (λ t. proof_block k (record { at = 3; left = lines t })) (sym (append-nil block)) ∙ back name claim proof 3 [] (honest-told m name is_map fits)
-      ∙ ap (λ ls. Ok ((name, claim, proof), record { at = 3 + 3 + k; left = ls })) lines_nil)
+      ∙ ap (λ ls. Ok ((name, claim, proof), record { at = 3 + 3 + k; left = ls })) lines-none)
       (accepted m (K name) is_map)
 
   pub replies-accepted : HonestRepliesAreAccepted

@@ -1,23 +1,24 @@
 -- The honest proof of what a map says of a name fits into a block.
-use Rattle.std.proofs.Common.{ℕ, zero, suc, ◌+◌, ◌-◌, ◌<◌, ◌≤◌, Bool, true, false, cond, List, [], ◌∷◌, ◌++◌, map, length, slice_index, Option, Some, None, IfSome, sym, subst, arith}
-use Rattle.std.specs.List.{AllByRecursion, filter}
+use Rattle.std.proofs.Common.{ℕ, List, zero, suc, ◌-◌, ◌<◌, [], ◌∷◌, slice_index, arith, true, false, cond, Some, IfSome, Option, sym, subst, None, ◌+◌, map, ◌++◌, ◌≤◌, length}
+use Rattle.std.specs.FinMap.{find, entries}
 use Rattle.std.specs.FinMap as fin
-use Rattle.std.specs.FinMap.{entries, find}
+use Rattle.std.specs.List.{AllByRecursion}
 use Rattle.hex.specs.Hex.{IsBytes}
-use Rattle.jf_path.specs.Keys.{bit, key_cmp, IsKey}
-use Rattle.jf_hash.specs.Hashes.{K, V}
-use Rattle.jf_hash.specs.HashLaws.{E-IsKey, L-IsKey, N-IsKey, V-IsKey}
-use Rattle.jf_hash.specs.Maps.{Map, IsMap, same_key}
-use Rattle.jf_hash.specs.Roots.{Leaf, leaf_of, zeros, ones, root_below, leaves_root}
-use Rattle.jf_evidence.specs.Proofs.{leaves, near, far, honest, honest_from, honest_below}
+use Rattle.jf_path.specs.Keys.{IsKey, key_cmp, bit}
+use Rattle.jf_path.proofs.FilterLaws.{All-filter}
+use Rattle.jf_hash.specs.Maps.{same_key, Map, IsMap}
+use Rattle.jf_hash.specs.Roots.{Leaf, zeros, ones, leaf_of, root_below, leaves_root}
+use Rattle.jf_hash.specs.Hashes.{V, K}
+use Rattle.jf_hash.proofs.HashLaws.{V-IsKey}
+use Rattle.jf_hash.proofs.RootLaws.{root_below-IsKey}
+use Rattle.jf_evidence.specs.Proofs.{near, honest_below, far, leaves, honest, honest_from}
 use Rattle.jf_blocks.specs.Laws.{IsHash, IsTold}
-use Rattle.jf_client.specs.Laws.{Fits}
+use Rattle.jf_client.specs.Laws.{FitsLine}
 
 pub hash_of_key : (k : List ℕ) → IsKey k → IsHash k
 hash_of_key k h = (h.long, h.bytes)
 
 -- ---- values
-
 byte-at : (v : List ℕ) (i : ℕ) → AllByRecursion (λ b. b < 256) v → slice_index v i < 256
 byte-at [] i h = omega arith
 byte-at (b ∷ v) zero h = h.0
@@ -36,13 +37,8 @@ both_of P Q None p q = tt
 both_of P Q (Some v) p q = (p, q)
 
 -- ---- leaves
-
-filtered : (P : Leaf → Type 0) (p : Leaf → Bool) (es : List Leaf) → AllByRecursion P es → AllByRecursion P (filter p es)
-filtered P p [] all = tt
-filtered P p (e ∷ es) all = elim (p e) as (λ b. AllByRecursion P (cond b (e ∷ filter p es) (filter p es))) [ true ↦ (all.0, filtered P p es all.1) | false ↦ filtered P p es all.1 ]
-
 near_all : (P : Leaf → Type 0) (d : ℕ) (key : List ℕ) (es : List Leaf) → AllByRecursion P es → AllByRecursion P (near key d es)
-near_all P d key es all = elim (bit key d) as (λ b. AllByRecursion P (cond b (ones d es) (zeros d es))) [ true ↦ filtered P _ es all | false ↦ filtered P _ es all ]
+near_all P d key es all = elim (bit key d) as (λ b. AllByRecursion P (cond b (ones d es) (zeros d es))) [ true ↦ All-filter P _ es all | false ↦ All-filter P _ es all ]
 
 honest_leaf : (P : Leaf → Type 0) (n d : ℕ) (key : List ℕ) (es : List Leaf) → AllByRecursion P es → IfSome (honest_below n d key es).leaf P
 unfolding honest_below
@@ -60,14 +56,6 @@ leaves_hashes [] all = tt
 leaves_hashes (e ∷ es) all = ((hash_of_key e.0 all.0.0, hash_of_key (V e.1) (V-IsKey e.1)), leaves_hashes es all.1)
 
 -- ---- siblings
-
-root_below-IsKey : (n d : ℕ) (es : List Leaf) → IsKey (root_below n d es)
-unfolding root_below
-root_below-IsKey n d [] = E-IsKey
-root_below-IsKey n d (e ∷ []) = L-IsKey e.0 e.1
-root_below-IsKey zero d (e ∷ f ∷ es) = E-IsKey
-root_below-IsKey (suc n) d (e ∷ f ∷ es) = N-IsKey _ _
-
 leaves_root-IsHash : (d : ℕ) (es : List Leaf) → IsHash (leaves_root d es)
 unfolding leaves_root
 leaves_root-IsHash d es = hash_of_key (root_below (256 - d) d es) (root_below-IsKey (256 - d) d es)
@@ -86,8 +74,7 @@ honest_siblings (suc n) d key (e ∷ f ∷ es) =
     (leaves_root-IsHash (d + 1) (far key d (e ∷ f ∷ es)))
 
 -- ---- all of it
-
-pub honest-told : (m : Map) (name : List ℕ) → IsMap m → Fits name (fin.get m (K name)) → IsTold name (fin.get m (K name)) (honest m (K name))
+pub honest-told : (m : Map) (name : List ℕ) → IsMap m → FitsLine name (fin.get m (K name)) → IsTold name (fin.get m (K name)) (honest m (K name))
 unfolding honest honest_from
 honest-told m name is_map fits = record {
   bytes = fits.bytes;

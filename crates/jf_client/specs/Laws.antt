@@ -1,14 +1,14 @@
 -- A client that judges replies without a map, as a statement for a call that does nothing and ensures it.
-use Rattle.std.specs.Prelude.{◌≡◌, ℕ, ◌^◌, ◌<◌, ◌≤◌, false, length, List, ◌++◌, Option, Some, IfSome, codes}
+use Rattle.std.specs.Prelude.{◌≤◌, ℕ, length, List, Option, IfSome, ◌≡◌, false, Some, ◌^◌, ◌<◌, ◌++◌, codes}
 use Rattle.std.specs.FinMap.{get}
 use Rattle.hex.specs.Hex.{IsBytes}
 use Rattle.jf_path.specs.Limits.{max_value}
 use Rattle.jf_hash.specs.Hashes.{K}
-use Rattle.jf_model.specs.Versions.{IsVersions}
 use Rattle.jf_model.specs.States.{State}
+use Rattle.jf_model.specs.Versions.{IsVersions}
 use Rattle.jf_text.specs.Words.{max_name, is_long}
-use Rattle.jf_script.specs.Commands.{command_of}
 use Rattle.jf_script.specs.declared.command.Base.{Base}
+use Rattle.jf_script.specs.Commands.{command_of}
 use Rattle.jf_script.specs.declared.command.Base.TheVariants as base
 use Rattle.jf_script.specs.declared.command.Command.TheVariants as command
 use Rattle.jf_verify.specs.Verdicts.{verdicts}
@@ -18,14 +18,14 @@ use Rattle.jf_answers.specs.Answers.{answer}
 use Rattle.jf_answers.specs.Runs.{answer_text}
 
 -- the head, or a version that is neither above the head nor retired
-abbrev pub IsKept : State → Base → Type 0
-IsKept s base.Head = Unit {0}
-IsKept s (base.Version w) = (s.retired ≤ w) × (w ≤ s.all.head)
-IsKept s (base.Fork id) = ⊥
-IsKept s (base.Place place) = ⊥
+abbrev pub IsKeptBase : State → Base → Type 0
+IsKeptBase s base.Head = Unit {0}
+IsKeptBase s (base.Version w) = (s.retired ≤ w) × (w ≤ s.all.head)
+IsKeptBase s (base.Fork id) = ⊥
+IsKeptBase s (base.Place place) = ⊥
 
 -- a name, and a value, if there is one, that are no longer than they may be: what lines can carry
-pub record Fits (name : List ℕ) (value : Option (List ℕ)) : Type 0 where
+pub record FitsLine (name : List ℕ) (value : Option (List ℕ)) : Type 0 where
   pub bytes : IsBytes name
   pub least : 1 ≤ length name
   pub most : length name ≤ max_name
@@ -41,5 +41,5 @@ pub record Asks (root_line prove_line : List ℕ) (on : Base) (name : List ℕ) 
 -- for each kept version and each name, whether the map has it or not: the two replies, with any numbers, are judged accepted
 abbrev pub HonestRepliesAreAccepted : Type 0
 HonestRepliesAreAccepted = (s : State) (own : Own) (on : Base) (name root_line prove_line : List ℕ) (m n : ℕ)
-    → IsVersions s.all → IsKept s on → Fits name (get (base_map s own on) (K name)) → Asks root_line prove_line on name → m < 2 ^ 64 → n < 2 ^ 64
+    → IsVersions s.all → IsKeptBase s on → FitsLine name (get (base_map s own on) (K name)) → Asks root_line prove_line on name → m < 2 ^ 64 → n < 2 ^ 64
     → verdicts (answer_text m (answer s own root_line) ++ answer_text n (answer s own prove_line)) ≡ codes "accepted\n"

@@ -1,15 +1,17 @@
 -- The bits of a bitmap are the nibbles of its children.
-use Rattle.std.proofs.Common.{◌≡◌, ℕ, zero, suc, ◌+◌, ◌-◌, ◌*◌, ◌/◌, ◌%◌, ◌^◌, ◌<◌, ◌≤◌, Bool, true, false, cond, ◌||◌, ◌==◌, ◌⊎◌, inl, inr, List, [], ◌∷◌, length, get_or, drop, refl, sym, ap, ap₂, subst, ◌∙◌, arith, eq-eqb, min, true≢false, bit_and, count_ones, pow-suc}
-use Rattle.std.specs.Int.{bit_at, is_power_of_two}
-use Rattle.std.specs.List.{AllByRecursion}
-use Rattle.std.proofs.lemmas.Bool.{cases_eq, cases_lt, ne_eqb, eqb-true}
+use lib.Count.{ones_step, ones}
+use Rattle.std.proofs.Common.{ℕ, Bool, false, ◌||◌, ◌==◌, List, [], ◌∷◌, ◌≡◌, ◌+◌, ◌*◌, arith, ◌-◌, ◌^◌, ◌≤◌, ap, ◌∙◌, ◌<◌, refl, ap₂, zero, suc, pow-suc, inl, inr, sym, subst, eq-eqb, true, cond, ◌%◌, length, get_or, drop, ◌⊎◌, true≢false, min, bit_and, ◌/◌, count_ones}
+use Rattle.std.proofs.lemmas.Bool.{ne_eqb, cases_eq, cases_lt, eqb-true}
 use Rattle.std.proofs.lemmas.List.{drop_more}
 use Rattle.std.proofs.lemmas.Nat.{pow-add, zero_from_ones}
-use Rattle.std.proofs.lemmas.Nat.Bits.{bit_at-zero, bit_at-pow_same, bit_at-pow_other, bit_at_cat_low, bit_at_cat_high, bit_at-lt, bit_at_and, same_from_bits, same_from_bits_below}
-use lib.Count.{ones, ones_step}
-use Rattle.jf_path.specs.Nodes.{RiseFrom}
+use Rattle.std.proofs.lemmas.Nat.Bits.{bit_at-zero, bit_at-pow_same, bit_at-pow_other, bit_at_cat_low, bit_at_cat_high, bit_at-lt, same_from_bits_below, bit_at_and, same_from_bits}
+use Rattle.std.specs.Int.{bit_at, is_power_of_two}
+use Rattle.std.specs.List.{AllByRecursion}
 use Rattle.jf_path.specs.declared.children.Child.{Child}
-use Rattle.jf_codec.specs.Spelling.{bitmap, leaves}
+use Rattle.jf_path.specs.Nodes.{ChildrenRiseFrom}
+use Rattle.jf_path.proofs.NodeLaws.{RiseFrom-weaker}
+use Rattle.jf_path.proofs.BoolLaws.{or_true}
+use Rattle.jf_codec.specs.Spelling.{bitmap, leaf_children}
 use Rattle.jf_codec.specs.Reading.{has}
 
 -- one of the children stands at nibble k
@@ -27,7 +29,7 @@ again_times : (m p q r : ℕ) → p ≡ q * r → m * p ≡ (m * q) * r
 again_times m p q r e = grind (arith, e)
 
 -- children that rise from nibble i have no bit below i
-pub multiple : (i : ℕ) (cs : List Child) → RiseFrom i cs → (m : ℕ) × (bitmap cs ≡ m * 2 ^ i)
+pub multiple : (i : ℕ) (cs : List Child) → ChildrenRiseFrom i cs → (m : ℕ) × (bitmap cs ≡ m * 2 ^ i)
 multiple i [] r = (0, omega arith)
 multiple i (c ∷ cs) r =
     let t = multiple (c.nibble + 1) cs r.1 in
@@ -37,7 +39,7 @@ multiple i (c ∷ cs) r =
       times (2 ^ c.nibble) (bitmap cs) (2 ^ (c.nibble - i)) (t.0 * 2 ^ d) (2 ^ i) (split i c.nibble r.0) (t.1 ∙ again_times t.0 (2 ^ (c.nibble + 1)) (2 ^ d) (2 ^ i) (split i (c.nibble + 1) le)),
     )
 
-pub low_none : (i : ℕ) (cs : List Child) (k : ℕ) → RiseFrom i cs → k < i → holds cs k ≡ false
+pub low_none : (i : ℕ) (cs : List Child) (k : ℕ) → ChildrenRiseFrom i cs → k < i → holds cs k ≡ false
 low_none i [] k r lt = refl
 low_none i (c ∷ cs) k r lt =
     ap₂ (λ a b. a || b) (ne_eqb c.nibble k (λ e. let l = r.0 in omega arith)) (low_none (c.nibble + 1) cs k r.1 (let l = r.0 in omega arith))
@@ -54,7 +56,7 @@ same_bit : (x y k : ℕ) → bit_at x k ≡ bit_at y k → has x k ≡ has y k
 unfolding has
 same_bit x y k e = ap (λ b. b == 1) e
 
-pub has-holds : (i : ℕ) (cs : List Child) (k : ℕ) → RiseFrom i cs → has (bitmap cs) k ≡ holds cs k
+pub has-holds : (i : ℕ) (cs : List Child) (k : ℕ) → ChildrenRiseFrom i cs → has (bitmap cs) k ≡ holds cs k
 has-holds i [] k r = one_bit 0 k 0 (bit_at-zero k)
 has-holds i (c ∷ cs) k r =
     let n = c.nibble in
@@ -78,7 +80,6 @@ has-holds i (c ∷ cs) k r =
     ]
 
 -- ---- no bitmap is above sixteen bits
-
 below_next : (n : ℕ) → 2 ^ (n + 1) ≡ 2 ^ n * 2
 below_next n = ap (λ k. 2 ^ k) (let e : n + 1 ≡ suc n = omega arith in e) ∙ pow-suc 2 n
 
@@ -89,7 +90,7 @@ grows (suc d) i = let g = grows d i in let p = below_next (i + d) in subst (λ k
 grows_to : (i n : ℕ) → i ≤ n → 2 ^ i ≤ 2 ^ n
 grows_to i n le = subst (λ k. 2 ^ i ≤ 2 ^ k) (let e : i + (n - i) ≡ n = omega arith in e) (grows (n - i) i)
 
-bounded : (i : ℕ) (cs : List Child) → i ≤ 16 → RiseFrom i cs → AllByRecursion (λ c. c.nibble < 16) cs → bitmap cs + 2 ^ i ≤ 2 ^ 16
+bounded : (i : ℕ) (cs : List Child) → i ≤ 16 → ChildrenRiseFrom i cs → AllByRecursion (λ c. c.nibble < 16) cs → bitmap cs + 2 ^ i ≤ 2 ^ 16
 bounded i [] le r all = let g = grows_to i 16 le in omega arith
 bounded i (c ∷ cs) le r all =
     let rest = bounded (c.nibble + 1) cs (let lt = all.0 in omega arith) r.1 all.1 in
@@ -97,65 +98,56 @@ bounded i (c ∷ cs) le r all =
     let g = grows_to i c.nibble r.0 in
     omega arith
 
-pub bitmap-small : (cs : List Child) → RiseFrom 0 cs → AllByRecursion (λ c. c.nibble < 16) cs → bitmap cs < 65536
+pub bitmap-small : (cs : List Child) → ChildrenRiseFrom 0 cs → AllByRecursion (λ c. c.nibble < 16) cs → bitmap cs < 65536
 bitmap-small cs r all = let b = bounded 0 cs (omega arith) r all in omega arith
 
-pub leaves-le : (cs : List Child) → bitmap (leaves cs) ≤ bitmap cs
-leaves-le [] = omega arith
-leaves-le (c ∷ cs) =
-    let rest = leaves-le cs in
-    elim c.leaf as (λ b. bitmap (cond b (c ∷ leaves cs) (leaves cs)) ≤ 2 ^ c.nibble + bitmap cs) [ true ↦ omega arith | false ↦ omega arith ]
+pub leaf_children-le : (cs : List Child) → bitmap (leaf_children cs) ≤ bitmap cs
+leaf_children-le [] = omega arith
+leaf_children-le (c ∷ cs) =
+    let rest = leaf_children-le cs in
+    elim c.leaf as (λ b. bitmap (cond b (c ∷ leaf_children cs) (leaf_children cs)) ≤ 2 ^ c.nibble + bitmap cs) [ true ↦ omega arith | false ↦ omega arith ]
 
 shifted_fits : (total e p : ℕ) → e + p ≤ total → total < 65536 → e + 1 * p % 65536 < 65536
 shifted_fits total e p le lt = omega arith
 
-pub bit_fits : (cs : List Child) (i e : ℕ) (d c : Child) (n : ℕ) → i < length cs → RiseFrom 0 cs → AllByRecursion (λ c. c.nibble < 16) cs → c ≡ get_or cs i d → n ≡ c.nibble → e + bitmap (drop i cs) ≡ bitmap cs → e + 1 * 2 ^ n % 65536 < 65536
+pub bit_fits : (cs : List Child) (i e : ℕ) (d c : Child) (n : ℕ) → i < length cs → ChildrenRiseFrom 0 cs → AllByRecursion (λ c. c.nibble < 16) cs → c ≡ get_or cs i d → n ≡ c.nibble → e + bitmap (drop i cs) ≡ bitmap cs → e + 1 * 2 ^ n % 65536 < 65536
 bit_fits cs i e d c n within r all is nib so_far =
     let cell : drop i cs ≡ c ∷ drop (i + 1) cs = drop_more cs i d within ∙ ap (λ (x : Child). x ∷ drop (i + 1) cs) (sym is) in
     let sum : e + (2 ^ c.nibble + bitmap (drop (i + 1) cs)) ≡ bitmap cs = ap (λ (xs : List Child). e + bitmap xs) (sym cell) ∙ so_far in
     subst (λ k. e + 1 * 2 ^ k % 65536 < 65536) (sym nib) (shifted_fits (bitmap cs) e (2 ^ c.nibble) (omega arith) (bitmap-small cs r all))
 
-pub leaf_bit_fits : (cs : List Child) (i e : ℕ) (d c : Child) (n : ℕ) → i < length cs → RiseFrom 0 cs → AllByRecursion (λ c. c.nibble < 16) cs → c ≡ get_or cs i d → n ≡ c.nibble → c.leaf ≡ true → e + bitmap (leaves (drop i cs)) ≡ bitmap (leaves cs)
+pub leaf_bit_fits : (cs : List Child) (i e : ℕ) (d c : Child) (n : ℕ) → i < length cs → ChildrenRiseFrom 0 cs → AllByRecursion (λ c. c.nibble < 16) cs → c ≡ get_or cs i d → n ≡ c.nibble → c.leaf ≡ true → e + bitmap (leaf_children (drop i cs)) ≡ bitmap (leaf_children cs)
     → e + 1 * 2 ^ n % 65536 < 65536
 leaf_bit_fits cs i e d c n within r all is nib leaf so_far =
     let cell : drop i cs ≡ c ∷ drop (i + 1) cs = drop_more cs i d within ∙ ap (λ (x : Child). x ∷ drop (i + 1) cs) (sym is) in
-    let one : bitmap (leaves (drop i cs)) ≡ 2 ^ c.nibble + bitmap (leaves (drop (i + 1) cs)) =
-    ap (λ (xs : List Child). bitmap (leaves xs)) cell ∙ ap (λ b. bitmap (cond b (c ∷ leaves (drop (i + 1) cs)) (leaves (drop (i + 1) cs)))) leaf
+    let one : bitmap (leaf_children (drop i cs)) ≡ 2 ^ c.nibble + bitmap (leaf_children (drop (i + 1) cs)) =
+    ap (λ (xs : List Child). bitmap (leaf_children xs)) cell ∙ ap (λ b. bitmap (cond b (c ∷ leaf_children (drop (i + 1) cs)) (leaf_children (drop (i + 1) cs)))) leaf
     in
-    let most = leaves-le cs in
+    let most = leaf_children-le cs in
     let small = bitmap-small cs r all in
-    subst (λ k. e + 1 * 2 ^ k % 65536 < 65536) (sym nib) (shifted_fits (bitmap (leaves cs)) e (2 ^ c.nibble) (omega arith) (omega arith))
+    subst (λ k. e + 1 * 2 ^ k % 65536 < 65536) (sym nib) (shifted_fits (bitmap (leaf_children cs)) e (2 ^ c.nibble) (omega arith) (omega arith))
 
 -- ---- the two bitmaps of a node agree with its children
-
-rise_weaker : (i j : ℕ) (cs : List Child) → i ≤ j → RiseFrom j cs → RiseFrom i cs
-rise_weaker i j [] le r = tt
-rise_weaker i j (c ∷ cs) le r = (let l = r.0 in omega arith, r.1)
-
-pub rise_leaves : (i : ℕ) (cs : List Child) → RiseFrom i cs → RiseFrom i (leaves cs)
+pub rise_leaves : (i : ℕ) (cs : List Child) → ChildrenRiseFrom i cs → ChildrenRiseFrom i (leaf_children cs)
 rise_leaves i [] r = tt
 rise_leaves i (c ∷ cs) r =
     let rest = rise_leaves (c.nibble + 1) cs r.1 in
-    elim c.leaf as (λ b. RiseFrom i (cond b (c ∷ leaves cs) (leaves cs))) [
+    elim c.leaf as (λ b. ChildrenRiseFrom i (cond b (c ∷ leaf_children cs) (leaf_children cs))) [
       | true ↦ (r.0, rest)
-      | false ↦ rise_weaker i (c.nibble + 1) (leaves cs) (let l = r.0 in omega arith) rest
+      | false ↦ RiseFrom-weaker i (c.nibble + 1) (leaf_children cs) (let l = r.0 in omega arith) rest
     ]
 
-pub small_leaves : (cs : List Child) → AllByRecursion (λ c. c.nibble < 16) cs → AllByRecursion (λ c. c.nibble < 16) (leaves cs)
+pub small_leaves : (cs : List Child) → AllByRecursion (λ c. c.nibble < 16) cs → AllByRecursion (λ c. c.nibble < 16) (leaf_children cs)
 small_leaves [] all = tt
 small_leaves (c ∷ cs) all =
-    elim c.leaf as (λ b. AllByRecursion (λ c. c.nibble < 16) (cond b (c ∷ leaves cs) (leaves cs))) [ true ↦ (all.0, small_leaves cs all.1) | false ↦ small_leaves cs all.1 ]
-
-or_true : (a : Bool) → (a || true) ≡ true
-or_true true = refl
-or_true false = refl
+    elim c.leaf as (λ b. AllByRecursion (λ c. c.nibble < 16) (cond b (c ∷ leaf_children cs) (leaf_children cs))) [ true ↦ (all.0, small_leaves cs all.1) | false ↦ small_leaves cs all.1 ]
 
 -- a leaf is one of the children
-pub leaf_holds : (cs : List Child) (k : ℕ) → holds (leaves cs) k ≡ true → holds cs k ≡ true
+pub leaf_holds : (cs : List Child) (k : ℕ) → holds (leaf_children cs) k ≡ true → holds cs k ≡ true
 leaf_holds [] k h = h
 leaf_holds (c ∷ cs) k h =
-    elim c.leaf as (λ b. holds (cond b (c ∷ leaves cs) (leaves cs)) k ≡ true → ((c.nibble == k) || holds cs k) ≡ true) [
-      | true ↦ λ g. elim (c.nibble == k) as (λ t. (t || holds (leaves cs) k) ≡ true → (t || holds cs k) ≡ true) [ true ↦ λ x. refl | false ↦ λ x. leaf_holds cs k x ] g
+    elim c.leaf as (λ b. holds (cond b (c ∷ leaf_children cs) (leaf_children cs)) k ≡ true → ((c.nibble == k) || holds cs k) ≡ true) [
+      | true ↦ λ g. elim (c.nibble == k) as (λ t. (t || holds (leaf_children cs) k) ≡ true → (t || holds cs k) ≡ true) [ true ↦ λ x. refl | false ↦ λ x. leaf_holds cs k x ] g
       | false ↦ λ g. ap (λ t. (c.nibble == k) || t) (leaf_holds cs k g) ∙ or_true (c.nibble == k)
     ] h
 
@@ -179,7 +171,7 @@ bit_from_has x y k e =
     ]
 
 -- a bitmap equals bits that name just the same children
-pub bitmap_of_bits : (cs : List Child) (bits : ℕ) → RiseFrom 0 cs → AllByRecursion (λ c. c.nibble < 16) cs → bits < 2 ^ 16 → ((k : ℕ) → k < 16 → holds cs k ≡ has bits k) → bitmap cs ≡ bits
+pub bitmap_of_bits : (cs : List Child) (bits : ℕ) → ChildrenRiseFrom 0 cs → AllByRecursion (λ c. c.nibble < 16) cs → bits < 2 ^ 16 → ((k : ℕ) → k < 16 → holds cs k ≡ has bits k) → bitmap cs ≡ bits
 bitmap_of_bits cs bits r all lt same = same_from_bits_below 16 (bitmap cs) bits (bitmap-small cs r all) lt (λ k below. bit_from_has (bitmap cs) bits k (has-holds 0 cs k r ∙ same k below))
 
 -- if y has no bit that x lacks, the lesser of their bits at a place is that of y
@@ -191,10 +183,10 @@ least_bit x y k within =
       | inr y1 ↦ let x1 = eqb-true (bit_at x k) 1 (within (ap (λ b. b == 1) y1)) in omega arith
     ]
 
-pub and_of_leaves : (cs : List Child) → RiseFrom 0 cs → bit_and (bitmap cs) (bitmap (leaves cs)) ≡ bitmap (leaves cs)
+pub and_of_leaves : (cs : List Child) → ChildrenRiseFrom 0 cs → bit_and (bitmap cs) (bitmap (leaf_children cs)) ≡ bitmap (leaf_children cs)
 and_of_leaves cs r =
-    same_from_bits _ _ (λ k. bit_at_and (bitmap cs) (bitmap (leaves cs)) k
-    ∙ least_bit (bitmap cs) (bitmap (leaves cs)) k (λ h. has-holds 0 cs k r ∙ leaf_holds cs k (sym (has-holds 0 (leaves cs) k (rise_leaves 0 cs r)) ∙ h)))
+    same_from_bits _ _ (λ k. bit_at_and (bitmap cs) (bitmap (leaf_children cs)) k
+    ∙ least_bit (bitmap cs) (bitmap (leaf_children cs)) k (λ h. has-holds 0 cs k r ∙ leaf_holds cs k (sym (has-holds 0 (leaf_children cs) k (rise_leaves 0 cs r)) ∙ h)))
 
 pub within_and : (x y k : ℕ) → bit_and x y ≡ y → has y k ≡ true → has x k ≡ true
 unfolding has
@@ -204,27 +196,26 @@ within_and x y k e h =
     eq-eqb (bit_at x k) 1 (let lt = bit_at-lt x k in omega arith)
 
 -- ---- powers of two
-
 ones_double : (x : ℕ) → count_ones (x * 2) ≡ count_ones x
 ones_double x = ones_step (x * 2) ∙ ap₂ (λ a b. a + count_ones b) (let e : x * 2 % 2 ≡ 0 = omega arith in e) (let e : x * 2 / 2 ≡ x = omega arith in e) ∙ (let e : 0 + count_ones x ≡ count_ones x = omega arith in e)
 
-two_behind : (x q : ℕ) → x * (q * 2) ≡ x * q * 2
-two_behind x q = grind arith
+two_last : (x q : ℕ) → x * (q * 2) ≡ x * q * 2
+two_last x q = grind arith
 
 ones_times : (k x : ℕ) → count_ones (x * 2 ^ k) ≡ count_ones x
 ones_times zero x = ap count_ones (let e : x * 1 ≡ x = omega arith in e)
 ones_times (suc k) x =
     let p = pow-suc 2 k in
-    ap count_ones (let e : x * 2 ^ suc k ≡ x * 2 ^ k * 2 = ap (λ q. x * q) p ∙ two_behind x (2 ^ k) in e) ∙ ones_double (x * 2 ^ k) ∙ ones_times k x
+    ap count_ones (let e : x * 2 ^ suc k ≡ x * 2 ^ k * 2 = ap (λ q. x * q) p ∙ two_last x (2 ^ k) in e) ∙ ones_double (x * 2 ^ k) ∙ ones_times k x
 
 ones_odd : (x : ℕ) → count_ones (x * 2 + 1) ≡ 1 + count_ones x
 ones_odd x = ones_step (x * 2 + 1) ∙ ap₂ (λ a b. a + count_ones b) (let e : (x * 2 + 1) % 2 ≡ 1 = omega arith in e) (let e : (x * 2 + 1) / 2 ≡ x = omega arith in e)
 
-odd_behind : (p m : ℕ) → p + m * (p * 2) ≡ (m * 2 + 1) * p
-odd_behind p m = grind arith
+odd_after : (p m : ℕ) → p + m * (p * 2) ≡ (m * 2 + 1) * p
+odd_after p m = grind arith
 
 odd_times : (b m n : ℕ) → b ≡ m * 2 ^ (n + 1) → 2 ^ n + b ≡ (m * 2 + 1) * 2 ^ n
-odd_times b m n e = ap (λ x. 2 ^ n + x) (e ∙ ap (λ q. m * q) (below_next n)) ∙ odd_behind (2 ^ n) m
+odd_times b m n e = ap (λ x. 2 ^ n + x) (e ∙ ap (λ q. m * q) (below_next n)) ∙ odd_after (2 ^ n) m
 
 count_of_one : count_ones 1 ≡ 1
 unfolding ones
@@ -234,7 +225,7 @@ count_of_one = refl
 pub one_is_power : (n : ℕ) → is_power_of_two (2 ^ n + 0) ≡ true
 one_is_power n = ap (λ x. count_ones x == 1) (odd_times 0 0 n (omega arith) ∙ (let e : (0 * 2 + 1) * 2 ^ n ≡ 1 * 2 ^ n = refl in e)) ∙ ap (λ c. c == 1) (ones_times n 1 ∙ count_of_one)
 
-pub two_is_no_power : (c d : Child) (cs : List Child) → RiseFrom 0 (c ∷ d ∷ cs) → is_power_of_two (bitmap (c ∷ d ∷ cs)) ≡ false
+pub two_is_no_power : (c d : Child) (cs : List Child) → ChildrenRiseFrom 0 (c ∷ d ∷ cs) → is_power_of_two (bitmap (c ∷ d ∷ cs)) ≡ false
 two_is_no_power c d cs r =
     let n = c.nibble in
     let t = multiple (n + 1) (d ∷ cs) r.1 in

@@ -1,27 +1,23 @@
 -- Reading children gives the children that were written, and only them.
-use Rattle.std.proofs.Common.{◌≡◌, ℕ, zero, suc, ◌+◌, ◌^◌, ◌<◌, ◌≤◌, ◌↔◌, ◌⊎◌, inl, inr, Bool, true, false, not, cond, ◌&&◌, ◌||◌, ◌==◌, IsTrue, List, [], ◌∷◌, ◌++◌, Result, Ok, Err, refl, sym, ap, ap₂, subst, ◌∙◌, append_assoc, arith, eq-eqb}
+use Rattle.std.proofs.Common.{◌≡◌, Bool, true, false, not, refl, ℕ, zero, suc, ◌^◌, ◌<◌, ◌≤◌, ◌==◌, sym, ◌∙◌, arith, eq-eqb, ◌↔◌, ◌||◌, IsTrue, ap, ap₂, cond, List, [], Ok, Err, subst, ◌+◌, ◌++◌, append_assoc, ◌&&◌, ◌∷◌, ◌⊎◌, inl, inr, Result}
+use Rattle.std.proofs.lemmas.Bool.{eqb-true, eqb-false, or_parts, ne_eqb, cases_lt}
+use Rattle.std.proofs.lemmas.List.Concat.{flat_map-cons}
 use Rattle.std.specs.Bool.{beq}
 use Rattle.std.specs.List.{AllByRecursion, flat_map}
-use Rattle.std.proofs.lemmas.Bool.{cases_lt, ne_eqb, eqb-true, eqb-false}
-use Rattle.std.proofs.lemmas.List.Concat.{flat_map-cons}
-use Rattle.jf_codec.specs.Numbers.{eight_bytes}
-use Rattle.jf_path.specs.Nodes.{RiseFrom}
+use Rattle.jf_path.specs.Numbers.{eight_bytes}
 use Rattle.jf_path.specs.declared.children.Child.{Child}
+use Rattle.jf_path.specs.Nodes.{ChildrenRiseFrom}
+use Rattle.jf_path.proofs.ByteLaws.{AreBytes, Takes, Takes-then}
+use Rattle.jf_codec.specs.Spelling.{IsCount, count_bytes, IsChild, child_bytes, leaf_children}
+use Rattle.jf_codec.specs.Reading.{is_wrong_count, eight_at, count_at, ◌>>=◌, bytes_at, child_at, has, children_at}
 use Rattle.jf_codec.specs.declared.format.Format.{Format}
-use Rattle.jf_codec.specs.declared.format.Format.TheVariants as format
 use Rattle.jf_codec.specs.declared.fault.CodecFault.{CodecFault}
+use Rattle.jf_codec.specs.declared.format.Format.TheVariants as format
 use Rattle.jf_codec.specs.declared.fault.CodecFault.TheVariants as fault
-use Rattle.jf_codec.specs.Spelling.{count_bytes, child_bytes, leaves, IsCount, IsChild}
-use Rattle.jf_codec.specs.Reading.{◌>>=◌, bytes_at, eight_at, has, is_wrong_count, count_at, child_at, children_at}
-use Rattle.jf_codec.proofs.FieldLaws.{AreBytes, Takes, Takes-then, bind_ok, guard_ok, ok_is, bytes_take, bytes_again, eight_takes, eight_again}
+use Rattle.jf_codec.proofs.FieldLaws.{bind_ok, guard_ok, ok_is, eight_takes, eight_again, bytes_take, bytes_again}
 use Rattle.jf_codec.proofs.Bits.{holds, low_none, rise_leaves}
 
 -- ---- counts
-
-or_false : (a b : Bool) → (a || b) ≡ false → (a ≡ false) × (b ≡ false)
-or_false true b e = absurd cc
-or_false false b e = (refl, e)
-
 agree : (leaf one : Bool) → not (beq leaf one) ≡ false → leaf ≡ one
 agree true true e = refl
 agree true false e = absurd cc
@@ -34,7 +30,7 @@ beq_same false = refl
 
 count_right : (leaf : Bool) (count : ℕ) → count < 2 ^ 64 → is_wrong_count leaf count ≡ false → IsCount format.Two leaf count
 count_right leaf count lt right =
-    let parts = or_false (count == 0) (not (beq leaf (count == 1))) right in
+    let parts = or_parts (count == 0) (not (beq leaf (count == 1))) right in
     let some = eqb-false count 0 parts.0 in
     let same = agree leaf (count == 1) parts.1 in
     (positive count some, lt, (λ h. eqb-true count 1 (sym same ∙ h), λ e. same ∙ eq-eqb count 1 e))
@@ -68,7 +64,6 @@ count_again format.One leaf count rest is = ap (λ n. Ok (n, rest)) (sym is)
 count_again format.Two leaf count rest is = rw (eight_again count rest is.1, count_not_wrong leaf count is) refl
 
 -- ---- a child
-
 pub record IsChildAt (fmt : Format) (i : ℕ) (leaf : Bool) (c : Child) : Type 0 where
   pub child : IsChild fmt c
   pub nibble : c.nibble ≡ i
@@ -96,15 +91,14 @@ child_again fmt c rest is =
     ∙ rw (eight_again c.version (count_bytes fmt c.count ++ (c.hash ++ rest)) is.version, count_again fmt c.leaf c.count (c.hash ++ rest) is.count, bytes_again 32 c.hash rest is.hash.long) refl
 
 -- ---- all children
-
 -- children that stand at just the nibbles that the bitmaps name, from nibble i on
 pub record AreAt (fmt : Format) (exist leaf n i : ℕ) (cs : List Child) : Type 0 where
   pub sound : AllByRecursion (IsChild fmt) cs
-  pub rise : RiseFrom i cs
+  pub rise : ChildrenRiseFrom i cs
   pub bits : (k : ℕ) → i ≤ k → k < i + n → holds cs k ≡ has exist k
-  pub leaf_bits : (k : ℕ) → i ≤ k → k < i + n → holds (leaves cs) k ≡ (has exist k && has leaf k)
+  pub leaf_bits : (k : ℕ) → i ≤ k → k < i + n → holds (leaf_children cs) k ≡ (has exist k && has leaf k)
 
-rise_from_next : (i : ℕ) (cs : List Child) → RiseFrom (i + 1) cs → RiseFrom i cs
+rise_from_next : (i : ℕ) (cs : List Child) → ChildrenRiseFrom (i + 1) cs → ChildrenRiseFrom i cs
 rise_from_next i [] r = tt
 rise_from_next i (c ∷ cs) r = (let l = r.0 in omega arith, r.1)
 
@@ -120,14 +114,14 @@ none_at fmt exist leaf n i cs none a = record {
     | inr later ↦ a.bits k later (omega arith)
   ];
   leaf_bits = λ k le lt. elim (at_next i k le) [
-    | inl e ↦ low_none (i + 1) (leaves cs) k (rise_leaves (i + 1) cs a.rise) (omega arith) ∙ sym (ap (λ b. b && has leaf k) (ap (has exist) (sym e) ∙ none))
+    | inl e ↦ low_none (i + 1) (leaf_children cs) k (rise_leaves (i + 1) cs a.rise) (omega arith) ∙ sym (ap (λ b. b && has leaf k) (ap (has exist) (sym e) ∙ none))
     | inr later ↦ a.leaf_bits k later (omega arith)
   ];
 }
 
 one_at : (fmt : Format) (exist leaf n i : ℕ) (c : Child) (cs : List Child) → has exist i ≡ true → IsChildAt fmt i (has leaf i) c → AreAt fmt exist leaf n (i + 1) cs → AreAt fmt exist leaf (suc n) i (c ∷ cs)
 one_at fmt exist leaf n i c cs there is a =
-    let above : RiseFrom (c.nibble + 1) cs = subst (λ j. RiseFrom (j + 1) cs) (sym is.nibble) a.rise in
+    let above : ChildrenRiseFrom (c.nibble + 1) cs = subst (λ j. ChildrenRiseFrom (j + 1) cs) (sym is.nibble) a.rise in
     record {
       sound = (is.child, a.sound);
       rise = (let e = is.nibble in omega arith, above);
@@ -137,17 +131,17 @@ one_at fmt exist leaf n i c cs there is a =
       ];
       leaf_bits = λ k le lt. elim (at_next i k le) [
         | inl e ↦
-            leaf_here c cs k (is.nibble ∙ e) (low_none (i + 1) (leaves cs) k (rise_leaves (i + 1) cs a.rise) (omega arith)) ∙ is.leaf_is
+            leaf_here c cs k (is.nibble ∙ e) (low_none (i + 1) (leaf_children cs) k (rise_leaves (i + 1) cs a.rise) (omega arith)) ∙ is.leaf_is
             ∙ ap (has leaf) e ∙ sym (ap (λ b. b && has leaf k) (ap (has exist) (sym e) ∙ there))
         | inr later ↦ leaf_later c cs k (λ e. let m = is.nibble in omega arith) ∙ a.leaf_bits k later (omega arith)
       ];
     }
   where
-    leaf_here : (d : Child) (ds : List Child) (k : ℕ) → d.nibble ≡ k → holds (leaves ds) k ≡ false → holds (leaves (d ∷ ds)) k ≡ d.leaf
-    leaf_here d ds k e none = elim d.leaf as (λ b. holds (cond b (d ∷ leaves ds) (leaves ds)) k ≡ b) [ true ↦ ap (λ t. t || holds (leaves ds) k) (eq-eqb d.nibble k e) | false ↦ none ]
+    leaf_here : (d : Child) (ds : List Child) (k : ℕ) → d.nibble ≡ k → holds (leaf_children ds) k ≡ false → holds (leaf_children (d ∷ ds)) k ≡ d.leaf
+    leaf_here d ds k e none = elim d.leaf as (λ b. holds (cond b (d ∷ leaf_children ds) (leaf_children ds)) k ≡ b) [ true ↦ ap (λ t. t || holds (leaf_children ds) k) (eq-eqb d.nibble k e) | false ↦ none ]
 
-    leaf_later : (d : Child) (ds : List Child) (k : ℕ) → (d.nibble ≡ k → ⊥) → holds (leaves (d ∷ ds)) k ≡ holds (leaves ds) k
-    leaf_later d ds k ne = elim d.leaf as (λ b. holds (cond b (d ∷ leaves ds) (leaves ds)) k ≡ holds (leaves ds) k) [ true ↦ ap (λ t. t || holds (leaves ds) k) (ne_eqb d.nibble k ne) | false ↦ refl ]
+    leaf_later : (d : Child) (ds : List Child) (k : ℕ) → (d.nibble ≡ k → ⊥) → holds (leaf_children (d ∷ ds)) k ≡ holds (leaf_children ds) k
+    leaf_later d ds k ne = elim d.leaf as (λ b. holds (cond b (d ∷ leaf_children ds) (leaf_children ds)) k ≡ holds (leaf_children ds) k) [ true ↦ ap (λ t. t || holds (leaf_children ds) k) (ne_eqb d.nibble k ne) | false ↦ refl ]
 
 pub children_take : (fmt : Format) (exist leaf n i : ℕ) (bytes : List ℕ) (x : List Child × List ℕ) → i + n ≤ 16 → AreBytes bytes → children_at fmt exist leaf n i bytes ≡ Ok x
     → Takes bytes (flat_map (child_bytes fmt) x.0) x.1 × AreAt fmt exist leaf n i x.0
@@ -170,8 +164,8 @@ children_take fmt exist leaf (suc n) i bytes x within fits e =
     ] refl e
 
 -- children that were written are read again
-pub children_again : (fmt : Format) (exist leaf n i : ℕ) (cs : List Child) (rest : List ℕ) → AllByRecursion (IsChild fmt) cs → RiseFrom i cs → i + n ≡ 16
-    → ((k : ℕ) → i ≤ k → has exist k ≡ holds cs k) → ((k : ℕ) → i ≤ k → has leaf k ≡ holds (leaves cs) k) → children_at fmt exist leaf n i (flat_map (child_bytes fmt) cs ++ rest) ≡ Ok (cs, rest)
+pub children_again : (fmt : Format) (exist leaf n i : ℕ) (cs : List Child) (rest : List ℕ) → AllByRecursion (IsChild fmt) cs → ChildrenRiseFrom i cs → i + n ≡ 16
+    → ((k : ℕ) → i ≤ k → has exist k ≡ holds cs k) → ((k : ℕ) → i ≤ k → has leaf k ≡ holds (leaf_children cs) k) → children_at fmt exist leaf n i (flat_map (child_bytes fmt) cs ++ rest) ≡ Ok (cs, rest)
 unfolding children_at
 children_again fmt exist leaf zero i [] rest sound r within bits leaf_bits = refl
 children_again fmt exist leaf zero i (c ∷ cs) rest sound r within bits leaf_bits = absurd (let l = r.0 in let s = sound.0.nibble in omega arith)
@@ -181,8 +175,8 @@ children_again fmt exist leaf (suc n) i (c ∷ cs) rest sound r within bits leaf
     elim (at_next i c.nibble r.0) [
       | inl here ↦
           let there : has exist i ≡ true = bits i (omega arith) ∙ ap (λ b. b || holds cs i) (eq-eqb c.nibble i (sym here)) in
-          let next : RiseFrom (i + 1) cs = subst (λ j. RiseFrom (j + 1) cs) (sym here) r.1 in
-          let leaf_is : has leaf i ≡ c.leaf = leaf_bits i (omega arith) ∙ leaf_of c cs i (sym here) (low_none (i + 1) (leaves cs) i (rise_leaves (i + 1) cs next) (omega arith)) in
+          let next : ChildrenRiseFrom (i + 1) cs = subst (λ j. ChildrenRiseFrom (j + 1) cs) (sym here) r.1 in
+          let leaf_is : has leaf i ≡ c.leaf = leaf_bits i (omega arith) ∙ leaf_of c cs i (sym here) (low_none (i + 1) (leaf_children cs) i (rise_leaves (i + 1) cs next) (omega arith)) in
           let text : flat_map (child_bytes fmt) (c ∷ cs) ++ rest ≡ child_bytes fmt c ++ (flat_map (child_bytes fmt) cs ++ rest) =
           ap (λ (t : List ℕ). t ++ rest) (flat_map-cons (child_bytes fmt) c cs) ∙ append_assoc (child_bytes fmt c) (flat_map (child_bytes fmt) cs) rest
           in
@@ -197,8 +191,8 @@ children_again fmt exist leaf (suc n) i (c ∷ cs) rest sound r within bits leaf
           (children_again fmt exist leaf n (i + 1) (c ∷ cs) rest sound (later, r.1) (omega arith) (λ k le. bits k (omega arith)) (λ k le. leaf_bits k (omega arith)))
     ]
   where
-    leaf_of : (d : Child) (ds : List Child) (k : ℕ) → d.nibble ≡ k → holds (leaves ds) k ≡ false → holds (leaves (d ∷ ds)) k ≡ d.leaf
-    leaf_of d ds k e none = elim d.leaf as (λ b. holds (cond b (d ∷ leaves ds) (leaves ds)) k ≡ b) [ true ↦ ap (λ t. t || holds (leaves ds) k) (eq-eqb d.nibble k e) | false ↦ none ]
+    leaf_of : (d : Child) (ds : List Child) (k : ℕ) → d.nibble ≡ k → holds (leaf_children ds) k ≡ false → holds (leaf_children (d ∷ ds)) k ≡ d.leaf
+    leaf_of d ds k e none = elim d.leaf as (λ b. holds (cond b (d ∷ leaf_children ds) (leaf_children ds)) k ≡ b) [ true ↦ ap (λ t. t || holds (leaf_children ds) k) (eq-eqb d.nibble k e) | false ↦ none ]
 
-    leaf_not : (d : Child) (ds : List Child) (k : ℕ) → (d.nibble ≡ k → ⊥) → holds (leaves (d ∷ ds)) k ≡ holds (leaves ds) k
-    leaf_not d ds k ne = elim d.leaf as (λ b. holds (cond b (d ∷ leaves ds) (leaves ds)) k ≡ holds (leaves ds) k) [ true ↦ ap (λ t. t || holds (leaves ds) k) (ne_eqb d.nibble k ne) | false ↦ refl ]
+    leaf_not : (d : Child) (ds : List Child) (k : ℕ) → (d.nibble ≡ k → ⊥) → holds (leaf_children (d ∷ ds)) k ≡ holds (leaf_children ds) k
+    leaf_not d ds k ne = elim d.leaf as (λ b. holds (cond b (d ∷ leaf_children ds) (leaf_children ds)) k ≡ holds (leaf_children ds) k) [ true ↦ ap (λ t. t || holds (leaf_children ds) k) (ne_eqb d.nibble k ne) | false ↦ refl ]

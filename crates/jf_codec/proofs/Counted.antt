@@ -1,13 +1,13 @@
 -- A node that can be spelled in a format is all that the format keeps of it, and its children stand at nibbles.
-use Rattle.std.proofs.Common.{◌≡◌, ℕ, ◌<◌, List, [], ◌∷◌, map, refl, sym, ap, ap₂, subst}
+use Rattle.std.proofs.Common.{◌≡◌, ℕ, refl, sym, subst, List, [], ◌∷◌, map, ap₂, ap, ◌<◌}
 use Rattle.std.specs.List.{AllByRecursion}
 use Rattle.jf_path.specs.declared.children.Child.{Child}
 use Rattle.jf_path.specs.declared.node.PlainNode.{PlainNode}
 use Rattle.jf_path.specs.declared.node.PlainNode.TheVariants as node
-use Rattle.jf_codec.specs.declared.format.Format.{Format}
-use Rattle.jf_codec.specs.declared.format.Format.TheVariants as format
 use Rattle.jf_codec.specs.Spelling.{IsChild, IsNode}
 use Rattle.jf_codec.specs.Counted.{uncounted_child, in_format}
+use Rattle.jf_codec.specs.declared.format.Format.{Format}
+use Rattle.jf_codec.specs.declared.format.Format.TheVariants as format
 
 child_same : (c : Child) (n : ℕ) → n ≡ c.count → record { nibble = c.nibble; version = c.version; hash = c.hash; leaf = c.leaf; count = n } ≡ c
 child_same c n e = subst (λ (k : ℕ). record { nibble = c.nibble; version = c.version; hash = c.hash; leaf = c.leaf; count = k } ≡ c) (sym e) refl
@@ -23,8 +23,7 @@ in_format-same format.One (node.Inner cs) is = ap (λ (ds : List Child). node.In
 in_format-same format.Two n is = refl
 
 -- ---- nibbles
-
-nibbles_of : (fmt : Format) (cs : List Child) → AllByRecursion (IsChild fmt) cs → AllByRecursion (λ c. c.nibble < 16) cs
+pub nibbles_of : (fmt : Format) (cs : List Child) → AllByRecursion (IsChild fmt) cs → AllByRecursion (λ c. c.nibble < 16) cs
 nibbles_of fmt [] all = tt
 nibbles_of fmt (c ∷ cs) all = (all.0.nibble, nibbles_of fmt cs all.1)
 

@@ -1,40 +1,14 @@
 -- Reading a field gives the field that was written, and only that.
-use Rattle.std.proofs.Common.{◌≡◌, ℕ, zero, suc, ◌+◌, ◌^◌, ◌<◌, ◌≤◌, Bool, true, false, cond, ltb, List, [], ◌∷◌, ◌++◌, length, get_or, take, drop, Result, Ok, Err, refl, sym, ap, subst, ◌∙◌, append_assoc, arith, inl, inr}
-use Rattle.std.specs.Int.{Width, w16, w32, w64, byte_len, from_be_bytes, to_be_bytes}
-use Rattle.std.proofs.lemmas.Bool.{cases_lt, ltb-false, le-ltb}
-use Rattle.std.proofs.lemmas.List.{take_at, drop_at, take-append-drop, length-append, length-take, get_or-drop, get_or-take, get_or_past}
-use Rattle.std.proofs.lemmas.Nat.{be_bytes_2, be_bytes_4, be_bytes_8, from_be_bytes-to_be_bytes_2, from_be_bytes-to_be_bytes_4, from_be_bytes-to_be_bytes_8}
-use Rattle.jf_path.specs.Keys.{IsBytes}
-use Rattle.jf_codec.specs.Numbers.{two_bytes, four_bytes, eight_bytes}
+use Rattle.std.proofs.Common.{◌≡◌, Result, Ok, Err, refl, Bool, true, false, cond, ℕ, ◌≤◌, ltb, List, length, take, drop, sym, subst, arith, ◌+◌, ◌++◌, ◌<◌, ◌^◌, ap, ◌∙◌}
+use Rattle.std.proofs.lemmas.Bool.{ltb-false, le-ltb}
+use Rattle.std.proofs.lemmas.List.{take-append-drop, length-take, take_at, drop_at, length-append}
+use Rattle.std.proofs.lemmas.Nat.{be_bytes_4, from_be_bytes-to_be_bytes_4, be_bytes_2, from_be_bytes-to_be_bytes_2, be_bytes_8, from_be_bytes-to_be_bytes_8}
+use Rattle.std.specs.Int.{Width, byte_len, from_be_bytes, to_be_bytes, w32, w16, w64}
+use Rattle.jf_path.specs.Numbers.{two_bytes, four_bytes, eight_bytes}
+use Rattle.jf_path.proofs.ByteLaws.{AreBytes, AreBytes-drop, AreBytes-take, Takes}
 use Rattle.jf_codec.specs.declared.fault.CodecFault.{CodecFault}
-use Rattle.jf_codec.specs.declared.fault.CodecFault.TheVariants as fault
 use Rattle.jf_codec.specs.Reading.{◌>>=◌, bytes_at, number_at, two_at, four_at, eight_at}
-
--- each number is a byte: it is below 256
-abbrev pub AreBytes : List ℕ → Type 0
-AreBytes bytes = (i : ℕ) → get_or bytes i 0 < 256
-
-pub AreBytes-drop : (n : ℕ) (bytes : List ℕ) → AreBytes bytes → AreBytes (drop n bytes)
-AreBytes-drop n bytes h i = rw get_or-drop (h (n + i))
-
-pub AreBytes-take : (n : ℕ) (bytes : List ℕ) → AreBytes bytes → AreBytes (take n bytes)
-AreBytes-take n bytes h i =
-    elim (cases_lt i n) [
-      | inl lt ↦ rw (get_or-take n bytes i 0 lt) (h i)
-      | inr le ↦ rw (get_or_past (take n bytes) i 0 (omega (arith, length-take n bytes))) (omega arith)
-    ]
-
-pub AreBytes-rest : (b : ℕ) (bytes : List ℕ) → AreBytes (b ∷ bytes) → AreBytes bytes
-AreBytes-rest b bytes h i = h (suc i)
-
-pub IsBytes-from_places : (bytes : List ℕ) → AreBytes bytes → IsBytes bytes
-IsBytes-from_places [] h = tt
-IsBytes-from_places (b ∷ bytes) h = (h 0, IsBytes-from_places bytes (AreBytes-rest b bytes h))
-
-pub AreBytes-at_places : (bytes : List ℕ) → IsBytes bytes → AreBytes bytes
-AreBytes-at_places [] h i = omega arith
-AreBytes-at_places (b ∷ bytes) h zero = h.0
-AreBytes-at_places (b ∷ bytes) h (suc i) = AreBytes-at_places bytes h.1 i
+use Rattle.jf_codec.specs.declared.fault.CodecFault.TheVariants as fault
 
 -- if two steps read something, the first one did
 pub bind_ok : {A B : Type 0} (r : Result A CodecFault) (f : A → Result B CodecFault) (y : B) → (r >>= f) ≡ Ok y → (x : A) × (r ≡ Ok x) × (f x ≡ Ok y)
@@ -52,16 +26,7 @@ done x = Ok x
 pub ok_is : {A : Type 0} (x y : A) → done x ≡ done y → x ≡ y
 ok_is x y e = cc
 
--- what a reader took from the front of bytes
-pub record Takes (bytes text rest : List ℕ) : Type 0 where
-  pub parts : bytes ≡ text ++ rest
-  pub rest_fits : AreBytes rest
-
-pub Takes-then : (a x b y c : List ℕ) → Takes a x b → Takes b y c → Takes a (x ++ y) c
-Takes-then a x b y c p q = record { parts = p.parts ∙ ap (λ (t : List ℕ). x ++ t) q.parts ∙ sym (append_assoc x y c); rest_fits = q.rest_fits }
-
 -- ---- a number of bytes
-
 pub bytes_take : (n : ℕ) (bytes : List ℕ) (x : List ℕ × List ℕ) → AreBytes bytes → bytes_at n bytes ≡ Ok x → Takes bytes x.0 x.1 × (length x.0 ≡ n) × AreBytes x.0
 bytes_take n bytes x fits e =
     let g = guard_ok (ltb (length bytes) n) fault.Short (Ok (take n bytes, drop n bytes)) x e in
@@ -75,7 +40,6 @@ bytes_again n text rest len =
     rw (long, take_at text rest n len, drop_at text rest n len) refl
 
 -- ---- numbers
-
 record IsWide (w : Width) (limit : ℕ) : Type 0 where
   len : (n : ℕ) → length (to_be_bytes w n) ≡ byte_len w
   back : (bytes : List ℕ) → length bytes ≡ byte_len w → AreBytes bytes → to_be_bytes w (from_be_bytes w bytes) ≡ bytes

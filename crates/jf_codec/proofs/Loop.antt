@@ -1,11 +1,11 @@
 -- Reading children one after the other, as the loop does.
-use Rattle.std.proofs.Common.{◌≡◌, ℕ, suc, ◌-◌, ◌+◌, ◌≤◌, ◌<◌, Bool, true, false, List, [], ◌∷◌, ◌++◌, Result, Ok, Err, refl, sym, ap, ◌∙◌, append_assoc, arith}
+use Rattle.std.proofs.Common.{ℕ, List, Result, ◌+◌, ◌++◌, Ok, ◌≡◌, [], ◌∷◌, Err, refl, ap, append_assoc, suc, ◌-◌, ◌<◌, arith, false, sym, ◌∙◌, true, ◌≤◌, Bool}
 use Rattle.std.proofs.lemmas.List.{append-nil}
-use Rattle.jf_path.specs.Nodes.{RiseFrom}
 use Rattle.jf_path.specs.declared.children.Child.{Child}
-use Rattle.jf_codec.specs.declared.format.Format.{Format}
+use Rattle.jf_path.specs.Nodes.{ChildrenRiseFrom}
 use Rattle.jf_codec.specs.declared.fault.CodecFault.{CodecFault}
-use Rattle.jf_codec.specs.Reading.{◌>>=◌, has, bytes_at, eight_at, count_at, child_at, children_at}
+use Rattle.jf_codec.specs.Reading.{◌>>=◌, children_at, has, child_at, bytes_at, eight_at, count_at}
+use Rattle.jf_codec.specs.declared.format.Format.{Format}
 use Rattle.jf_codec.proofs.FieldLaws.{bind_ok, ok_is}
 
 abbrev pub Many : Type 0
@@ -55,7 +55,7 @@ abbrev pub RiseBetween : ℕ → ℕ → List Child → Type 0
 RiseBetween least i [] = least ≤ i
 RiseBetween least i (c ∷ cs) = (least ≤ c.nibble) × RiseBetween (c.nibble + 1) i cs
 
-pub rise_push : (least i : ℕ) (cs : List Child) (c : Child) → c.nibble ≡ i → RiseBetween least i cs → RiseFrom least (cs ++ c ∷ [])
+pub rise_push : (least i : ℕ) (cs : List Child) (c : Child) → c.nibble ≡ i → RiseBetween least i cs → ChildrenRiseFrom least (cs ++ c ∷ [])
 rise_push least i [] c e r = (omega arith, tt)
 rise_push least i (d ∷ cs) c e r = (r.0, rise_push (d.nibble + 1) i cs c e r.1)
 

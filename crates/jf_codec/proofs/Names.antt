@@ -1,21 +1,22 @@
 -- Reading a name gives the name that was written, and only that.
-use Rattle.std.proofs.Common.{◌≡◌, ℕ, zero, suc, ◌+◌, ◌-◌, ◌*◌, ◌/◌, ◌%◌, ◌<◌, ◌≤◌, Bool, true, false, not, cond, ◌&&◌, ◌||◌, ◌==◌, ltb, List, [], ◌∷◌, ◌++◌, length, get_or, take, drop, Some, None, Result, Ok, Err, refl, sym, ap, ap₂, subst, ◌∙◌, append_assoc, arith, inl, inr, eq-eqb, IfOk}
+use Rattle.std.proofs.Common.{ℕ, ◌/◌, ◌<◌, arith, zero, suc, ◌-◌, List, [], ◌∷◌, take, ◌≡◌, ◌%◌, Bool, true, false, not, ◌==◌, get_or, refl, sym, ◌∙◌, inl, inr, eq-eqb, ◌+◌, ◌≤◌, length, ap₂, subst, cond, Ok, Err, ◌||◌, Some, None, ap, Result, ltb, drop, ◌++◌, ◌*◌, ◌&&◌, append_assoc, IfOk}
+use Rattle.std.proofs.lemmas.Bool.{and_cases, eqb-true, le-ltb, ltb-false, cases_eq, ne_eqb}
+use Rattle.std.proofs.lemmas.List.{length-take, get_or_past, length-append, drop_at}
 use Rattle.std.specs.List.{AllByRecursion}
 use Rattle.std.specs.Result.{result_err}
-use Rattle.std.proofs.lemmas.Bool.{cases_eq, ne_eqb, ltb-false, le-ltb, and_cases, eqb-true}
-use Rattle.std.proofs.lemmas.List.{length-append, length-take, get_or_past, drop_at}
-use Rattle.jf_codec.specs.Numbers.{eight_bytes}
-use Rattle.jf_path.specs.Names.{IsName}
-use Rattle.jf_path.specs.Paths.{IsPath, packed, path_bytes, path_fault, has_padding, has_wrong_length}
-use Rattle.jf_path.specs.PathLaws.{halves, length-halves, length-packed, get_or-packed, take-halves-packed, packed-take-halves}
+use Rattle.jf_path.specs.Paths.{halves, has_padding, IsPath, path_bytes, path_fault, has_wrong_length, packed}
 use Rattle.jf_path.specs.declared.fault.PathFault.{PathFault}
-use Rattle.jf_path.specs.declared.fault.PathFault.TheVariants as why
+use Rattle.jf_path.specs.Numbers.{eight_bytes}
+use Rattle.jf_path.specs.Names.{IsName}
 use Rattle.jf_path.specs.declared.name.NodeName.{NodeName}
+use Rattle.jf_path.specs.declared.fault.PathFault.TheVariants as why
+use Rattle.jf_path.proofs.ByteLaws.{AreBytes, AreBytes-rest, Takes, Takes-then}
+use Rattle.jf_path.proofs.PathLaws.{length-halves, packed-take-halves, get_or-packed, length-packed, take-halves-packed}
+use Rattle.jf_codec.specs.Reading.{bytes_at, nibbles_at, path_at, ◌>>=◌, eight_at, name_at, counted, Reads}
 use Rattle.jf_codec.specs.declared.fault.CodecFault.{CodecFault}
-use Rattle.jf_codec.specs.declared.fault.CodecFault.TheVariants as fault
 use Rattle.jf_codec.specs.Spelling.{name_bytes}
-use Rattle.jf_codec.specs.Reading.{◌>>=◌, Reads, bytes_at, eight_at, nibbles_at, path_at, name_at, counted}
-use Rattle.jf_codec.proofs.FieldLaws.{AreBytes, AreBytes-rest, Takes, Takes-then, bind_ok, guard_ok, ok_is, bytes_take, bytes_again, eight_takes, eight_again}
+use Rattle.jf_codec.specs.declared.fault.CodecFault.TheVariants as fault
+use Rattle.jf_codec.proofs.FieldLaws.{bytes_take, guard_ok, ok_is, bind_ok, bytes_again, eight_takes, eight_again}
 
 half_of_byte : (b : ℕ) → b < 256 → b / 16 < 16
 half_of_byte b lt = omega arith
@@ -63,21 +64,21 @@ fault_by_padding count bytes short long =
     ap (λ w. cond w (Some why.Length) (cond (has_padding (count ∷ bytes)) (Some why.Padding) None)) right
 
 -- what reading gives, from the result of reading the path alone
-abbrev pub answer : Result (List ℕ) PathFault → List ℕ → Result (List ℕ × List ℕ) CodecFault
-answer (Ok path) rest = Ok (path, rest)
-answer (Err e) rest = Err fault.Path
+abbrev pub answer_by_path : Result (List ℕ) PathFault → List ℕ → Result (List ℕ × List ℕ) CodecFault
+answer_by_path (Ok path) rest = Ok (path, rest)
+answer_by_path (Err e) rest = Err fault.Path
 
-when_err : (s : Result (List ℕ) PathFault) (rest : List ℕ) → result_err s ≡ Some why.Padding → answer s rest ≡ Err fault.Path
+when_err : (s : Result (List ℕ) PathFault) (rest : List ℕ) → result_err s ≡ Some why.Padding → answer_by_path s rest ≡ Err fault.Path
 when_err (Ok path) rest e = absurd cc
 when_err (Err f) rest e = refl
 
 pub path_answer : (count : ℕ) (bytes front : List ℕ) (r : Result (List ℕ) PathFault) (x : List ℕ × List ℕ) → count ≤ 64 → bytes_at ((count + 1) / 2) bytes ≡ Ok x → front ≡ count ∷ x.0 → AreBytes bytes
-    → ((path : List ℕ) → IsPath path → front ≡ path_bytes path → r ≡ Ok path) → result_err r ≡ path_fault front → path_at (count ∷ bytes) ≡ answer r x.1
+    → ((path : List ℕ) → IsPath path → front ≡ path_bytes path → r ≡ Ok path) → result_err r ≡ path_fault front → path_at (count ∷ bytes) ≡ answer_by_path r x.1
 path_answer count bytes front r x short read is fits found refused =
     let t = bytes_take ((count + 1) / 2) bytes x fits read in
-    path_by_padding count bytes x short read ∙ (elim (has_padding (count ∷ x.0)) as (λ b. has_padding (count ∷ x.0) ≡ b → cond b (Err fault.Path) (Ok (take count (halves x.0), x.1)) ≡ answer r x.1) [
+    path_by_padding count bytes x short read ∙ (elim (has_padding (count ∷ x.0)) as (λ b. has_padding (count ∷ x.0) ≡ b → cond b (Err fault.Path) (Ok (take count (halves x.0), x.1)) ≡ answer_by_path r x.1) [
       | true ↦ λ p. sym (when_err r x.1 (refused ∙ ap path_fault is ∙ fault_by_padding count x.0 short t.1 ∙ ap (λ b. cond b (Some why.Padding) None) p))
-      | false ↦ λ p. let good = nibbles_read count x.0 short t.1 t.2 p in sym (ap (λ s. answer s x.1) (found _ good.path (is ∙ good.same)))
+      | false ↦ λ p. let good = nibbles_read count x.0 short t.1 t.2 p in sym (ap (λ s. answer_by_path s x.1) (found _ good.path (is ∙ good.same)))
     ] refl)
 
 pub in_front : (bytes : List ℕ) (count : ℕ) (rest : List ℕ) → bytes ≡ count ∷ rest → AreBytes bytes → AreBytes rest
@@ -133,7 +134,6 @@ name_again name rest is =
     ap name_at (append_assoc (eight_bytes name.version) (path_bytes name.path) rest) ∙ rw (eight_again name.version (path_bytes name.path ++ rest) is.version, path_again name.path rest is.path) refl
 
 -- ---- names with their length in bytes
-
 pub taken : (bytes text rest : List ℕ) → bytes ≡ text ++ rest → length bytes - length rest ≡ length text
 taken bytes text rest e = let l = ap length e ∙ length-append text rest in omega arith
 

@@ -1,4 +1,3 @@
-pub mod Numbers
 pub mod Adding
 pub mod Spelling
 pub mod Counted

@@ -1,22 +1,21 @@
 -- Reading from left to right: a value and the bytes after it, or the first fault.
-use Rattle.std.specs.Prelude.{◌≡◌, ℕ, zero, suc, ◌+◌, ◌-◌, ◌/◌, Bool, not, ◌&&◌, ◌||◌, ◌⊎◌, List, [], ◌∷◌, length, take, drop, Result, Ok, Err, nat_lt, ◌==◌, if◌then◌else◌, bit_and}
+use Rattle.std.specs.Prelude.{Result, Ok, Err, ◌≡◌, ◌⊎◌, ℕ, List, length, take, drop, nat_lt, if◌then◌else◌, ◌+◌, ◌/◌, ◌∷◌, [], Bool, ◌==◌, not, ◌&&◌, ◌||◌, bit_and, zero, suc, ◌-◌}
 use Rattle.std.specs.Bool.{beq}
-use Rattle.std.specs.Int.{Width, w16, w32, w64, byte_len, from_be_bytes, bit_at, is_power_of_two}
-use Rattle.jf_path.specs.Limits.{max_value}
-use Rattle.jf_path.specs.Paths.{has_padding}
-use Rattle.jf_path.specs.PathLaws.{halves}
+use Rattle.std.specs.Int.{Width, byte_len, from_be_bytes, w16, w32, w64, bit_at, is_power_of_two}
+use Rattle.jf_path.specs.Paths.{has_padding, halves}
 use Rattle.jf_path.specs.declared.name.NodeName.{NodeName}
-use Rattle.jf_path.specs.declared.children.Child.{Child}
+use Rattle.jf_path.specs.Limits.{max_value}
 use Rattle.jf_path.specs.declared.node.PlainNode.{PlainNode}
+use Rattle.jf_path.specs.declared.children.Child.{Child}
 use Rattle.jf_path.specs.declared.node.PlainNode.TheVariants as node
-use Rattle.jf_codec.specs.declared.format.Format.{Format}
-use Rattle.jf_codec.specs.declared.format.Format.TheVariants as format
 use Rattle.jf_codec.specs.declared.fault.CodecFault.{CodecFault}
+use Rattle.jf_codec.specs.declared.format.Format.{Format}
 use Rattle.jf_codec.specs.declared.fault.CodecFault.TheVariants as fault
+use Rattle.jf_codec.specs.declared.format.Format.TheVariants as format
 
 -- what reading gives: a value, or a fault
-abbrev pub Read : Type 0 → Type 0
-Read A = Result A CodecFault
+abbrev pub ReadOrFault : Type 0 → Type 0
+ReadOrFault A = Result A CodecFault
 
 infixl 10 ◌>>=◌
 -- a step and then the next one, if the first step reads something
@@ -30,12 +29,11 @@ Reads view (Ok x) read = read ≡ Ok (view x)
 Reads view (Err e) read = read ≡ Err e
 
 -- a function returned what reading gives, or `Memory`
-abbrev pub Gives : {X Y : Type 0} → (X → Y) → Result X CodecFault → Result Y CodecFault → Type 0
-Gives view (Ok x) read = read ≡ Ok (view x)
-Gives view (Err e) read = (e ≡ fault.Memory) ⊎ (read ≡ Err e)
+abbrev pub ReadsGivenMemory : {X Y : Type 0} → (X → Y) → Result X CodecFault → Result Y CodecFault → Type 0
+ReadsGivenMemory view (Ok x) read = read ≡ Ok (view x)
+ReadsGivenMemory view (Err e) read = (e ≡ fault.Memory) ⊎ (read ≡ Err e)
 
 -- ---- fields
-
 -- the first n bytes
 abbrev pub bytes_at : ℕ → List ℕ → Result (List ℕ × List ℕ) CodecFault
 bytes_at n bytes = if nat_lt (length bytes) n then Err fault.Short else Ok (take n bytes, drop n bytes)
@@ -55,7 +53,6 @@ unfoldable pub eight_at : List ℕ → Result (ℕ × List ℕ) CodecFault
 eight_at bytes = number_at w64 bytes
 
 -- ---- names
-
 -- a path's nibbles, two a byte, with a zero low half after an odd number of them
 unfoldable pub nibbles_at : ℕ → List ℕ → Result (List ℕ × List ℕ) CodecFault
 nibbles_at count bytes = do
@@ -75,7 +72,6 @@ name_at bytes = do
   Ok (record { version = version.0; path = path.0 }, path.1)
 
 -- ---- leaves
-
 -- a value: its length in four bytes, at most 4,096, then its bytes
 unfoldable pub value_at : List ℕ → Result (List ℕ × List ℕ) CodecFault
 value_at bytes = do
@@ -90,7 +86,6 @@ leaf_at bytes = do
   Ok (node.Leaf key.0 value.0, value.1)
 
 -- ---- internal nodes
-
 -- the bitmap has the bit of nibble i
 unfoldable pub has : ℕ → ℕ → Bool
 has bits i = bit_at bits i == 1
@@ -139,7 +134,6 @@ inner_at fmt bytes = do
   Ok (node.Inner cs.0, cs.1)
 
 -- ---- nodes
-
 -- a node: its tag, and what follows it
 unfoldable pub node_at : List ℕ → Result (PlainNode × List ℕ) CodecFault
 node_at [] = Err fault.Short

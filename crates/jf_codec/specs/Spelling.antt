@@ -1,15 +1,15 @@
 -- Names and nodes in bytes (docs/FORMATS.md, "Names and nodes in bytes").
-use Rattle.std.specs.Prelude.{◌≡◌, ℕ, ◌+◌, ◌<◌, ◌≤◌, ◌^◌, ◌↔◌, Bool, false, ◌==◌, if◌then◌else◌, IsTrue, List, [], ◌∷◌, ◌++◌, filter, flat_map, length}
+use Rattle.std.specs.Prelude.{ℕ, ◌+◌, List, ◌++◌, [], ◌^◌, ◌∷◌, filter, flat_map, length, ◌≡◌, ◌<◌, ◌≤◌, ◌↔◌, Bool, IsTrue, false, ◌==◌, if◌then◌else◌}
 use Rattle.std.specs.List.{AllByRecursion}
-use Rattle.jf_path.specs.Limits.{max_value}
-use Rattle.jf_path.specs.Keys.{IsKey, IsBytes}
 use Rattle.jf_path.specs.Paths.{path_bytes}
-use Rattle.jf_path.specs.Nodes.{RiseFrom}
 use Rattle.jf_path.specs.declared.name.NodeName.{NodeName}
+use Rattle.jf_path.specs.Numbers.{eight_bytes, two_bytes, four_bytes}
 use Rattle.jf_path.specs.declared.children.Child.{Child}
 use Rattle.jf_path.specs.declared.node.PlainNode.{PlainNode}
+use Rattle.jf_path.specs.Keys.{IsKey, IsBytes}
+use Rattle.jf_path.specs.Limits.{max_value}
+use Rattle.jf_path.specs.Nodes.{ChildrenRiseFrom}
 use Rattle.jf_path.specs.declared.node.PlainNode.TheVariants as node
-use Rattle.jf_codec.specs.Numbers.{two_bytes, four_bytes, eight_bytes}
 use Rattle.jf_codec.specs.declared.format.Format.{Format}
 use Rattle.jf_codec.specs.declared.format.Format.TheVariants as format
 
@@ -18,7 +18,6 @@ abbrev pub name_bytes : NodeName → List ℕ
 name_bytes name = eight_bytes name.version ++ path_bytes name.path
 
 -- ---- nodes
-
 -- the tag of an internal node
 abbrev pub tag : Format → ℕ
 tag format.One = 2
@@ -39,17 +38,16 @@ bitmap [] = 0
 bitmap (c ∷ cs) = 2 ^ c.nibble + bitmap cs
 
 -- the children that are leaves
-abbrev pub leaves : List Child → List Child
-leaves cs = filter (λ c. c.leaf) cs
+abbrev pub leaf_children : List Child → List Child
+leaf_children cs = filter (λ c. c.leaf) cs
 
 -- a node in a format: a tag, and what follows it
 unfoldable pub node_bytes : Format → PlainNode → List ℕ
 node_bytes fmt node.Null = 0 ∷ []
 node_bytes fmt (node.Leaf key value) = 1 ∷ key ++ four_bytes (length value) ++ value
-node_bytes fmt (node.Inner cs) = tag fmt ∷ two_bytes (bitmap cs) ++ two_bytes (bitmap (leaves cs)) ++ flat_map (child_bytes fmt) cs
+node_bytes fmt (node.Inner cs) = tag fmt ∷ two_bytes (bitmap cs) ++ two_bytes (bitmap (leaf_children cs)) ++ flat_map (child_bytes fmt) cs
 
 -- ---- what can be spelled
-
 -- in format 1 a child has no count; in format 2 its count is at least 1, and 1 just for a leaf
 abbrev pub IsCount : Format → Bool → ℕ → Type 0
 IsCount format.One leaf count = count ≡ 0
@@ -72,7 +70,7 @@ AreEnough (c ∷ d ∷ cs) = Unit {0}
 abbrev pub IsNode : Format → PlainNode → Type 0
 IsNode fmt node.Null = Unit {0}
 IsNode fmt (node.Leaf key value) = IsKey key × IsBytes value × (length value ≤ max_value)
-IsNode fmt (node.Inner cs) = AreEnough cs × RiseFrom 0 cs × AllByRecursion (IsChild fmt) cs
+IsNode fmt (node.Inner cs) = AreEnough cs × ChildrenRiseFrom 0 cs × AllByRecursion (IsChild fmt) cs
 
 -- the format of children: format 2 if the first of them has a count
 abbrev pub format_of_children : List Child → Format

@@ -1,7 +1,7 @@
 // A field is read from the front of bytes and returned with the bytes after it, or added at the end of bytes. Numbers
 // have their highest byte first.
 ghost use Rattle.std.specs.Prelude.{◌≡◌, ◌++◌, OnOk, OnErr};
-ghost use Rattle.jf_codec.specs.Numbers.{two_bytes, four_bytes, eight_bytes};
+ghost use Rattle.jf_path.specs.Numbers.{two_bytes, four_bytes, eight_bytes};
 ghost use Rattle.jf_codec.specs.Reading.{Reads, bytes_at, two_at, four_at, eight_at};
 
 use crate::fault::CodecFault;
@@ -59,7 +59,7 @@ pub fn front_of(count: usize, bytes: &[u8]) -> Result<(&[u8], &[u8]), CodecFault
 }
 
 /// Adds a number in two bytes. If memory runs out, `out` is unchanged.
-#[tactic(auto, unfolding(crate::specs::Numbers::two_bytes))]
+#[tactic(auto, unfolding(jf_path::specs::Numbers::two_bytes))]
 pub fn put_u16(out: &mut Bytes, number: u16) -> Result<(), Memory>
     ensures ok { OnOk result (out.new ≡ out.old ++ two_bytes number) }
     ensures err { OnErr result (out.new ≡ out.old) }
@@ -70,7 +70,7 @@ pub fn put_u16(out: &mut Bytes, number: u16) -> Result<(), Memory>
 }
 
 /// Adds a number in four bytes. If memory runs out, `out` is unchanged.
-#[tactic(auto, unfolding(crate::specs::Numbers::four_bytes))]
+#[tactic(auto, unfolding(jf_path::specs::Numbers::four_bytes))]
 pub fn put_u32(out: &mut Bytes, number: u32) -> Result<(), Memory>
     ensures ok { OnOk result (out.new ≡ out.old ++ four_bytes number) }
     ensures err { OnErr result (out.new ≡ out.old) }
@@ -81,7 +81,7 @@ pub fn put_u32(out: &mut Bytes, number: u32) -> Result<(), Memory>
 }
 
 /// Adds a number in eight bytes. If memory runs out, `out` is unchanged.
-#[tactic(auto, unfolding(crate::specs::Numbers::eight_bytes))]
+#[tactic(auto, unfolding(jf_path::specs::Numbers::eight_bytes))]
 pub fn put_u64(out: &mut Bytes, number: u64) -> Result<(), Memory>
     ensures ok { OnOk result (out.new ≡ out.old ++ eight_bytes number) }
     ensures err { OnErr result (out.new ≡ out.old) }

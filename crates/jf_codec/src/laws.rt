@@ -1,5 +1,5 @@
 // Laws of spellings, for proofs of code that uses them. These functions do nothing when they run.
-ghost use Rattle.jf_codec.specs.Laws.{OneNameInFront, OneNodeInFront, OneSpelling};
+ghost use Rattle.jf_codec.specs.Laws.{OneNameInFront, OneNodeInFront, OneNodeSpelling};
 
 /// Bytes begin with the spelling of at most one name.
 pub fn one_name_in_front()
@@ -13,5 +13,5 @@ pub fn one_node_in_front()
 
 /// A node has the same one spelling in each format in which it can be spelled.
 pub fn one_spelling()
-    ensures { OneSpelling }
+    ensures { OneNodeSpelling }
 {}

@@ -2,7 +2,7 @@
 ghost use Rattle.std.specs.Prelude.{◌≡◌, ◌⊎◌, ◌++◌, ◌<◌, List, ℕ, drop, length, IfOk, Ok, Err};
 ghost use Rattle.jf_path.specs.declared.node.PlainNode.{PlainNode};
 ghost use Rattle.jf_codec.specs.Spelling.{IsValid, spelling};
-ghost use Rattle.jf_codec.specs.Reading.{Reads, Gives, value_at, leaf_at, count_at, child_at, children_at, inner_at, node_at, whole_in, counted};
+ghost use Rattle.jf_codec.specs.Reading.{Reads, ReadsGivenMemory, value_at, leaf_at, count_at, child_at, children_at, inner_at, node_at, whole_in, counted};
 
 use crate::bitmaps::{Bitmaps, bitmaps_of, has};
 use crate::fault::CodecFault;
@@ -27,7 +27,7 @@ fn value_of(bytes: &[u8]) -> Result<(&[u8], &[u8]), CodecFault>
 // The leaf after its tag.
 #[tactic(auto, unfolding(crate::specs::Reading::leaf_at))]
 fn leaf_of(alloc: Global, bytes: &[u8]) -> Result<(PlainNode, &[u8]), CodecFault>
-    ensures { Gives (λ x. (x.0, x.1.now)) result (leaf_at bytes.now) }
+    ensures { ReadsGivenMemory (λ x. (x.0, x.1.now)) result (leaf_at bytes.now) }
 {
     let (key, rest) = key_at(bytes)?;
     let (value, rest) = value_of(rest)?;
@@ -82,7 +82,7 @@ fn children_of(
     bits: Bitmaps,
     bytes: &[u8],
 ) -> Result<(Children, &[u8]), CodecFault>
-    ensures { Gives (λ x. (x.0, x.1.now)) result (children_at format bits.exist bits.leaf 16 0 bytes.now) }
+    ensures { ReadsGivenMemory (λ x. (x.0, x.1.now)) result (children_at format bits.exist bits.leaf 16 0 bytes.now) }
 {
     let mut children = Children::new(alloc);
     let mut rest = bytes;
@@ -107,7 +107,7 @@ fn children_of(
 // The internal node after its tag.
 #[tactic(auto, unfolding(crate::specs::Reading::inner_at))]
 fn inner_of(alloc: Global, format: Format, bytes: &[u8]) -> Result<(PlainNode, &[u8]), CodecFault>
-    ensures { Gives (λ x. (x.0, x.1.now)) result (inner_at format bytes.now) }
+    ensures { ReadsGivenMemory (λ x. (x.0, x.1.now)) result (inner_at format bytes.now) }
 {
     let (bits, rest) = bitmaps_of(bytes)?;
     let (children, rest) = children_of(alloc, format, bits, rest)?;
@@ -117,7 +117,7 @@ fn inner_of(alloc: Global, format: Format, bytes: &[u8]) -> Result<(PlainNode, &
 /// The node at the front of `bytes`, and the bytes after it. Otherwise the first fault from left to right, or `Memory`.
 #[tactic(auto, unfolding(crate::specs::Reading::node_at))]
 pub fn node_at(alloc: Global, bytes: &[u8]) -> Result<(PlainNode, &[u8]), CodecFault>
-    ensures { Gives (λ x. (x.0, x.1.now)) result (node_at bytes.now) }
+    ensures { ReadsGivenMemory (λ x. (x.0, x.1.now)) result (node_at bytes.now) }
 {
     match bytes {
         [] => Err(CodecFault::Short),
@@ -131,7 +131,7 @@ pub fn node_at(alloc: Global, bytes: &[u8]) -> Result<(PlainNode, &[u8]), CodecF
 
 // The node at the front of `bytes`, and its length in bytes.
 fn measured(alloc: Global, bytes: &[u8]) -> Result<(PlainNode, usize), CodecFault>
-    ensures { Gives (λ x. x) result (counted bytes.now (node_at bytes.now)) }
+    ensures { ReadsGivenMemory (λ x. x) result (counted bytes.now (node_at bytes.now)) }
 {
     let (node, rest) = node_at(alloc, bytes)?;
     Ok((node, bytes.len() - rest.len()))
@@ -141,8 +141,8 @@ fn measured(alloc: Global, bytes: &[u8]) -> Result<(PlainNode, usize), CodecFaul
 /// `Memory`.
 pub fn decode_node(alloc: Global, bytes: &[u8]) -> Result<(PlainNode, usize), CodecFault>
     ensures found { IfOk result (λ x. IsValid x.0 × (bytes.now ≡ spelling x.0 ++ drop x.1 bytes.now) × (x.1 ≡ length (spelling x.0))) }
-    ensures only { (node : PlainNode) (rest : List ℕ) → IsValid node → bytes.now ≡ spelling node ++ rest → Gives (λ x. x) result (Ok (node, length (spelling node))) }
-    ensures exact { Gives (λ x. x) result (counted bytes.now (node_at bytes.now)) }
+    ensures only { (node : PlainNode) (rest : List ℕ) → IsValid node → bytes.now ≡ spelling node ++ rest → ReadsGivenMemory (λ x. x) result (Ok (node, length (spelling node))) }
+    ensures exact { ReadsGivenMemory (λ x. x) result (counted bytes.now (node_at bytes.now)) }
 {
     measured(alloc, bytes)
 }
@@ -151,8 +151,8 @@ pub fn decode_node(alloc: Global, bytes: &[u8]) -> Result<(PlainNode, usize), Co
 /// over, or `Memory`.
 pub fn decode_whole(alloc: Global, bytes: &[u8]) -> Result<PlainNode, CodecFault>
     ensures found { IfOk result (λ node. IsValid node × (bytes.now ≡ spelling node)) }
-    ensures only { (node : PlainNode) → IsValid node → bytes.now ≡ spelling node → Gives (λ x. x) result (Ok node) }
-    ensures exact { Gives (λ node. node) result (whole_in bytes.now) }
+    ensures only { (node : PlainNode) → IsValid node → bytes.now ≡ spelling node → ReadsGivenMemory (λ x. x) result (Ok node) }
+    ensures exact { ReadsGivenMemory (λ node. node) result (whole_in bytes.now) }
 {
     whole_of(alloc, bytes)
 }
@@ -160,7 +160,7 @@ pub fn decode_whole(alloc: Global, bytes: &[u8]) -> Result<PlainNode, CodecFault
 // The node whose spelling all of `bytes` are.
 #[tactic(auto, unfolding(crate::specs::Reading::whole_in))]
 fn whole_of(alloc: Global, bytes: &[u8]) -> Result<PlainNode, CodecFault>
-    ensures { Gives (λ node. node) result (whole_in bytes.now) }
+    ensures { ReadsGivenMemory (λ node. node) result (whole_in bytes.now) }
 {
     let (node, rest) = node_at(alloc, bytes)?;
     if !rest.is_empty() {

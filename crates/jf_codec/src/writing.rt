@@ -2,11 +2,11 @@
 ghost use Rattle.std.specs.Prelude.{◌≡◌, ◌++◌, ◌∷◌, ◌<◌, ◌≤◌, [], length, flat_map, OnOk, OnErr};
 ghost use Rattle.std.specs.List.{AllByRecursion};
 ghost use Rattle.jf_path.specs.Limits.{max_value};
-ghost use Rattle.jf_codec.specs.Numbers.{four_bytes};
-ghost use Rattle.jf_path.specs.Nodes.{RiseFrom};
+ghost use Rattle.jf_path.specs.Numbers.{four_bytes};
+ghost use Rattle.jf_path.specs.Nodes.{ChildrenRiseFrom};
 ghost use Rattle.jf_path.specs.declared.node.PlainNode.TheVariants as node;
 ghost use Rattle.jf_codec.specs.Adding.{Keeps};
-ghost use Rattle.jf_codec.specs.Spelling.{IsNode, IsValid, spelling, node_bytes, child_bytes, count_bytes, bitmap, leaves, format_of, format_of_children, tag};
+ghost use Rattle.jf_codec.specs.Spelling.{IsNode, IsValid, spelling, node_bytes, child_bytes, count_bytes, bitmap, leaf_children, format_of, format_of_children, tag};
 ghost use Rattle.jf_codec.specs.Counted.{in_format};
 
 use crate::bitmaps::Bitmaps;
@@ -48,10 +48,10 @@ fn tag_of(format: Format) -> u8
 
 // The bitmaps of a node with these children.
 fn bitmaps_to(children: &[Child]) -> Bitmaps
-    requires rise { RiseFrom 0 children.now }
+    requires rise { ChildrenRiseFrom 0 children.now }
     requires nibbles { AllByRecursion (λ c. c.nibble < 16) children.now }
     ensures exist { result.exist ≡ bitmap children.now }
-    ensures leaf { result.leaf ≡ bitmap (leaves children.now) }
+    ensures leaf { result.leaf ≡ bitmap (leaf_children children.now) }
 {
     let mut bits = Bitmaps { exist: 0, leaf: 0 };
     for child in children {
@@ -102,7 +102,7 @@ fn put_children(out: &mut Bytes, format: Format, children: &[Child]) -> Result<(
 // Adds an internal node.
 #[tactic(auto, using(crate::proofs::Adding::keeps_same, crate::proofs::Adding::keeps_more), unfolding(crate::specs::Spelling::node_bytes))]
 fn put_inner(out: &mut Bytes, format: Format, children: &[Child]) -> Result<(), Memory>
-    requires rise { RiseFrom 0 children.now }
+    requires rise { ChildrenRiseFrom 0 children.now }
     requires nibbles { AllByRecursion (λ c. c.nibble < 16) children.now }
     ensures ok { OnOk result (out.new ≡ out.old ++ node_bytes format (node.Inner children.now)) }
     ensures err { OnErr result (Keeps out.old out.new) }

@@ -1,18 +1,24 @@
 -- Proofs of a chunk: what the entries up to a last key come to, the checks on a chunk, and the honest one.
-use Rattle.std.specs.Prelude.{ℕ, zero, suc, ◌+◌, ◌-◌, Bool, not, ◌||◌, if◌then◌else◌, ◌==◌, nat_le, nat_lt, List, [], ◌∷◌, ◌++◌, take, drop, length, bytes_eq, Option, None}
+use Rattle.std.specs.Prelude.{ℕ, List, [], ◌∷◌, None, ◌-◌, take, length, zero, suc, ◌+◌, if◌then◌else◌, Bool, not, ◌++◌, drop, ◌||◌, ◌==◌, nat_lt, nat_le, bytes_eq, Option}
+use Rattle.std.specs.FinMap.{is_sorted, entries}
+use Rattle.std.specs.List.{last_or, list_any}
 use Rattle.std.specs.Option.{unwrap_or}
-use Rattle.std.specs.List.{list_any, last_or}
-use Rattle.std.specs.FinMap.{entries, is_sorted}
 use Rattle.jf_path.specs.Keys.{bit, key_cmp}
 use Rattle.jf_path.specs.Nibbles.{common_bits}
 use Rattle.jf_path.specs.Checks.{first_of}
 use Rattle.jf_hash.specs.Hashes.{L, N, V}
-use Rattle.jf_hash.specs.Maps.{Map}
 use Rattle.jf_hash.specs.Roots.{zeros, ones, part_root}
-use Rattle.jf_evidence.specs.Proofs.{honest}
+use Rattle.jf_hash.specs.Maps.{Map}
 use Rattle.jf_evidence.specs.declared.range_proof.RangeProof.{RangeProof}
 use Rattle.jf_evidence.specs.declared.range_proof.RangeFault.{RangeFault}
+use Rattle.jf_evidence.specs.Proofs.{honest}
 use Rattle.jf_evidence.specs.declared.range_proof.RangeFault.TheVariants as fault
+
+-- ---- the highest sibling first
+-- the first of hashes, or the empty list if there is none
+abbrev pub first_hash : List (List ℕ) → List ℕ
+first_hash [] = []
+first_hash (t ∷ ts) = t
 
 -- a key and its value
 abbrev pub Entry : Type 0
@@ -39,7 +45,6 @@ abbrev pub last_hash : List (List ℕ) → List ℕ
 last_hash xs = unwrap_or (last_or None xs) []
 
 -- ---- what a chunk comes to
-
 -- the root of entries that agree in their first d bits, by n bits more of the last one's key: at its end the last entry's leaf; at a 0 bit the right sibling of that bit,
 -- which stands after those of the lower bits; at a 1 bit the entries whose bit is 0 are all there
 unfoldable pub range_root_below : ℕ → ℕ → List ℕ → Entries → List (List ℕ) → List ℕ
@@ -53,7 +58,6 @@ unfoldable pub range_root : Entries → RangeProof → List ℕ
 range_root es proof = range_root_below proof.depth 0 (last_key es) es proof.siblings
 
 -- ---- checks
-
 -- the number of 0 bits among n bits of a key, from bit d on
 unfoldable pub zero_bits : ℕ → ℕ → List ℕ → ℕ
 zero_bits zero d key = 0
@@ -81,7 +85,6 @@ range_refusal root known fresh proof =
     ∷ (not (bytes_eq (range_root (known ++ fresh) proof) root), fault.WrongRoot) ∷ [])
 
 -- ---- the honest chunk
-
 -- the entries of a map from a place on, as many as asked or as there are
 abbrev pub chunk_entries : Map → ℕ → ℕ → Entries
 chunk_entries m start count = take count (drop start (entries m))

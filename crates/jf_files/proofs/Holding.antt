@@ -1,20 +1,20 @@
 -- The standing that records lead to.
-use Rattle.std.proofs.Common.{◌≡◌, List, [], ◌∷◌, ◌++◌, refl, sym, subst}
+use Rattle.std.proofs.Common.{List, [], ◌∷◌, ◌++◌, refl, subst, sym, ◌≡◌}
 use Rattle.std.proofs.lemmas.List.{map-append}
-use Rattle.jf_disk.specs.Disk.{Files}
 use Rattle.jf_model.specs.Versions.{Versions, IsVersions}
+use Rattle.jf_disk.specs.Disk.{Files}
 use Rattle.jf_frame.specs.Framed.{Framed}
 use Rattle.jf_pair.specs.Files.{HoldsLive}
-use Rattle.jf_pair.specs.FileLaws.{holds_one}
+use Rattle.jf_pair.proofs.FileLaws.{holds_one}
 use Rattle.jf_codec.specs.declared.format.Format.{Format}
-use Rattle.jf_payload.specs.Spelling.{checkpoint_kind, IsSpelling}
+use Rattle.jf_payload.specs.Spelling.{IsSpelling, checkpoint_kind}
 use Rattle.jf_payload.specs.Laws.{SpelledIsSpelling}
 use Rattle.jf_payload.specs.declared.records.Record.{Record}
 use Rattle.jf_payload.specs.declared.records.Record.TheVariants as «record»
 use Rattle.jf_standing.specs.Standing.{Standing, versions_of}
-use Rattle.jf_standing.specs.Sound.{IsSound}
-use Rattle.jf_standing.specs.Taking.{Takes, Gives}
 use Rattle.jf_standing.specs.Leading.{Item, ItemFollows, Leads}
+use Rattle.jf_standing.specs.Taking.{TakesRecord, GivesStanding}
+use Rattle.jf_standing.specs.Sound.{IsSound}
 use Rattle.jf_standing.specs.ItemLaws.{SpelledIsRead, ItemsLeadToSound}
 use Rattle.jf_files.specs.Files.{item, items, LeadToStanding, LeadTo, StandsFor, HoldsStanding}
 use Rattle.jf_files.proofs.Judging.{are_read}
@@ -24,7 +24,7 @@ leads_on : (fmt : Format) (xs : List Item) (s a b : Standing) (y : Item) → Lea
 leads_on fmt [] s a b y is next = (b, subst (λ m. ItemFollows fmt m y b) is next, refl)
 leads_on fmt (x ∷ xs) s a b y is next = (is.0, is.1, leads_on fmt xs is.0 a b y is.2 next)
 
-pub one_more : SpelledIsSpelling → (rs : List Framed) (fmt : Format) (s s' : Standing) (y : Framed) (r : Record) → LeadToStanding rs fmt s → IsSpelling fmt r y.kind y.payload → Takes fmt s r s' → LeadToStanding (rs ++ y ∷ []) fmt s'
+pub one_more : SpelledIsSpelling → (rs : List Framed) (fmt : Format) (s s' : Standing) (y : Framed) (r : Record) → LeadToStanding rs fmt s → IsSpelling fmt r y.kind y.payload → TakesRecord fmt s r s' → LeadToStanding (rs ++ y ∷ []) fmt s'
 one_more spelling [] fmt s s' y r leads is takes = absurd leads
 one_more spelling (x ∷ xs) fmt s s' y r leads is takes = (
   leads.0,
@@ -36,13 +36,13 @@ one_more spelling (x ∷ xs) fmt s s' y r leads is takes = (
 )
 
 -- a record that gives a standing as the first has the checkpoint kind of its format
-first_kind : (fmt : Format) (r : Record) (s : Standing) (x : Framed) → Gives fmt r s → IsSpelling fmt r x.kind x.payload → x.kind ≡ checkpoint_kind fmt
+first_kind : (fmt : Format) (r : Record) (s : Standing) (x : Framed) → GivesStanding fmt r s → IsSpelling fmt r x.kind x.payload → x.kind ≡ checkpoint_kind fmt
 first_kind fmt («record».Floor floor) s x gives is = absurd gives
 first_kind fmt («record».NodeCommit c) s x gives is = absurd gives
 first_kind fmt («record».Checkpoint generation base floor head roots nodes) s x gives is = is.kind_is
 first_kind fmt («record».Group cs) s x gives is = absurd gives
 
-pub checkpoint_leads : SpelledIsSpelling → (fmt : Format) (s : Standing) (x : Framed) (r : Record) → IsSpelling fmt r x.kind x.payload → Gives fmt r s → LeadToStanding (x ∷ []) fmt s
+pub checkpoint_leads : SpelledIsSpelling → (fmt : Format) (s : Standing) (x : Framed) (r : Record) → IsSpelling fmt r x.kind x.payload → GivesStanding fmt r s → LeadToStanding (x ∷ []) fmt s
 checkpoint_leads spelling fmt s x r is gives = (first_kind fmt r s x gives is, (s, (r, (spelling fmt x.kind x.payload r).1 is, gives), refl))
 
 pub have_versions : (rs : List Framed) (fmt : Format) (s : Standing) → LeadToStanding rs fmt s → LeadTo rs (versions_of s)

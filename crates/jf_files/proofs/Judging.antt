@@ -1,36 +1,35 @@
 -- Files stand for one list of sound versions, or they are damaged at one first place.
-use Rattle.std.proofs.Common.{◌≡◌, ◌⊎◌, ◌↔◌, ℕ, true, ◌==◌, ◌||◌, arith, inl, inr, List, [], ◌∷◌, Option, Some, None, Ok, refl, sym, ap, ap₂, ◌∙◌, subst}
+use Rattle.std.specs.Prelude.{IfSome}
+use Rattle.std.proofs.Common.{◌≡◌, ◌↔◌, ℕ, true, ◌==◌, ◌||◌, inl, inr, sym, ap, ◌∙◌, arith, refl, Option, Some, None, List, [], ◌∷◌, ◌⊎◌, subst, ap₂, Ok}
 use Rattle.std.proofs.lemmas.Bool.{eqb-true}
 use Rattle.std.proofs.lemmas.Bool.Decides.{eqb_tells}
 use Rattle.std.proofs.lemmas.Option.{same_Some}
-use Rattle.std.specs.Prelude.{IfSome}
-use Rattle.std.specs.List.{AllByRecursion}
 use Rattle.std.specs.Cmp.{first_so}
+use Rattle.std.specs.List.{AllByRecursion}
+use Rattle.jf_model.specs.Versions.{Versions, new_store, IsVersions}
+use Rattle.jf_model.proofs.VersionLaws.{new_store-IsVersions}
 use Rattle.jf_disk.specs.Disk.{Files, History, reads}
-use Rattle.jf_disk.specs.Crashes.{LeavesNow}
 use Rattle.jf_disk.specs.declared.side.Side.{Side}
+use Rattle.jf_disk.specs.Crashes.{LeavesNow}
 use Rattle.jf_disk.specs.declared.side.Side.TheVariants as side
-use Rattle.jf_model.specs.Versions.{Versions, IsVersions, new_store}
-use Rattle.jf_model.specs.VersionLaws.{new_store-IsVersions}
-use Rattle.jf_frame.specs.Framing.{records}
 use Rattle.jf_frame.specs.Framed.{Framed}
-use Rattle.jf_pair.specs.Files.{is_checkpoint, is_begun, live_side, live_records, records_of, HoldsLive, outer_damage}
-use Rattle.jf_pair.specs.FileLaws.{same_ok, holds_one, holds_undamaged, undamaged_holds}
+use Rattle.jf_frame.specs.Framing.{records}
+use Rattle.jf_pair.specs.Files.{is_checkpoint, is_begun, live_side, records_of, HoldsLive, live_records, outer_damage}
+use Rattle.jf_pair.proofs.FileLaws.{same_ok, holds_one, holds_undamaged, undamaged_holds}
 use Rattle.jf_codec.specs.declared.format.Format.{Format}
 use Rattle.jf_codec.specs.declared.format.Format.TheVariants as format
 use Rattle.jf_payload.specs.Spelling.{checkpoint_kind}
-use Rattle.jf_payload.specs.Reading.{spelled}
 use Rattle.jf_payload.specs.declared.records.Record.{Record}
-use Rattle.jf_standing.specs.Standing.{versions_of}
+use Rattle.jf_payload.specs.Reading.{spelled}
 use Rattle.jf_standing.specs.Next.{IsReadRecord}
+use Rattle.jf_standing.specs.Leading.{Item, AreRead, AllLead, OneFailsAt}
+use Rattle.jf_standing.specs.ItemLaws.{SpelledIsRead, ItemsAreJudged, ItemsLeadToOne, ItemsLeadToSound, NeverBoth, ItemsFailOnce}
 use Rattle.jf_standing.specs.Begin.{IsReadFirst}
-use Rattle.jf_standing.specs.Leading.{Item, AllLead, OneFailsAt, AreRead}
-use Rattle.jf_standing.specs.ItemLaws.{SpelledIsRead, ItemsAreJudged, NeverBoth, ItemsLeadToOne, ItemsLeadToSound, ItemsFailOnce}
-use Rattle.jf_files.specs.Files.{item, items, LeadTo, IsUnsoundAt, StandsFor, IsDamagedAt, held, generation_in, generation}
+use Rattle.jf_standing.specs.Standing.{versions_of}
+use Rattle.jf_files.specs.Files.{items, item, LeadTo, IsUnsoundAt, held, generation_in, generation, StandsFor, IsDamagedAt}
 use Rattle.jf_files.specs.Steps.{IsCalm}
 
 -- ---- the kinds of a checkpoint
-
 pub has_format : (kind : ℕ) → (is_checkpoint kind ≡ true) ↔ ((fmt : Format) × (kind ≡ checkpoint_kind fmt))
 has_format kind = (
   λ is. elim (eqb_tells kind 4) [
@@ -48,7 +47,6 @@ one_format format.Two format.One is = absurd (omega (arith, is))
 one_format format.Two format.Two is = refl
 
 -- ---- records that were read
-
 read_if : (P : Record → Type 0) (o : Option Record) → ((r : Record) → o ≡ Some r → P r) → IfSome o P
 read_if P None h = tt
 read_if P (Some r) h = h r refl
@@ -62,7 +60,6 @@ module _ (known : SpelledIsRead) (fmt : Format) where
   are_read x xs = (read_if IsReadFirst (spelled fmt x.kind x.payload) (λ r is. (known fmt x.kind x.payload r is).0), all_read xs)
 
 -- ---- records
-
 module _ (known : SpelledIsRead) where
   leads_or_fails : ItemsAreJudged → (xs : List Framed) → is_begun xs ≡ true → ((v : Versions) × LeadTo xs v) ⊎ ((at : ℕ) × IsUnsoundAt xs at)
   leads_or_fails law [] begun = inl (new_store, refl)
@@ -97,7 +94,6 @@ module _ (known : SpelledIsRead) where
       law a.0 (item a.0 x) (items a.0 xs) at at' (are_read known a.0 x xs) a.2 (subst (λ fmt. OneFailsAt fmt (item fmt x) (items fmt xs) at') same b.2)
 
 -- ---- live records
-
 -- live records are those of a begun side
 live_begun : (files : Files) (rs : List Framed) → HoldsLive files rs → is_begun rs ≡ true
 live_begun files rs h =
@@ -113,7 +109,6 @@ unfolding generation
 generation_live files rs h = ap₂ (λ left right. generation_in (live_records (held left) (held right))) h.a_held h.b_held ∙ ap generation_in h.live
 
 -- ---- files
-
 pub no_records : (files : Files) → records files.a ≡ Ok [] → records files.b ≡ Ok [] → StandsFor files new_store
 no_records files a b = record { live = []; held = record { a_records = []; b_records = []; a_held = a; b_held = b; a_begun = refl; b_begun = refl; apart = refl; live = refl }; leads = refl }
 

@@ -1,32 +1,32 @@
 -- The files of a new store stand for a new store.
-use Rattle.std.proofs.Common.{◌≡◌, ℕ, List, [], ◌∷◌, refl, sym, ap, ap₂, ◌∙◌, subst, arith}
 use Rattle.std.specs.Prelude.{map}
+use Rattle.std.proofs.Common.{◌≡◌, refl, ◌∙◌, [], ◌∷◌, ap, List, ℕ, ap₂, subst, arith, sym}
 use Rattle.std.specs.FinMap as fin
 use Rattle.sha2.specs.Sha256.{sha256, digest_bytes, hash_after, compress, rounds, schedule, first_words}
-use Rattle.jf_path.specs.Keys.{IsKey}
 use Rattle.jf_path.specs.Paths.{path_bytes}
+use Rattle.jf_path.specs.Numbers.{eight_bytes, eight_bytes as frame_eight}
+use Rattle.jf_path.specs.Keys.{IsKey}
 use Rattle.jf_path.specs.declared.node.PlainNode.TheVariants as node
 use Rattle.jf_hash.specs.Hashes.{E}
-use Rattle.jf_hash.specs.HashLaws.{E-IsKey}
-use Rattle.jf_hash.specs.Slots.{Part}
 use Rattle.jf_hash.specs.Roots.{root}
-use Rattle.jf_hash.specs.RootLaws.{entries-empty, root-empty}
-use Rattle.jf_model.specs.Nodes.{Path, nodes, nodes_below, plain_node}
+use Rattle.jf_hash.specs.Slots.{Part}
+use Rattle.jf_hash.proofs.RootLaws.{root-empty, entries-empty}
+use Rattle.jf_hash.proofs.HashLaws.{E-IsKey}
+use Rattle.jf_model.specs.Nodes.{nodes, nodes_below, plain_node, Path}
+use Rattle.jf_model.proofs.NodeLaws.{nodes-none}
 use Rattle.jf_frame.specs.Framed.{Framed}
-use Rattle.jf_frame.specs.Framing.{frame, records, records_from, size_of, payload_of, behind, number_of}
-use Rattle.jf_frame.specs.Framing.{eight_bytes as frame_eight}
+use Rattle.jf_frame.specs.Framing.{records, records_from, size_of, payload_of, after_record, number_of, frame}
 use Rattle.jf_pair.specs.Files.{HoldsLive}
-use Rattle.jf_codec.specs.Numbers.{eight_bytes}
 use Rattle.jf_codec.specs.Spelling.{node_bytes}
 use Rattle.jf_codec.specs.declared.format.Format.TheVariants as format
+use Rattle.jf_payload.specs.declared.records.Record.{Record}
 use Rattle.jf_payload.specs.Spelling.{record_bytes, IsCheckpoint, IsSpelling}
 use Rattle.jf_payload.specs.Laws.{SpelledIsSpelling}
-use Rattle.jf_payload.specs.declared.records.Record.{Record}
 use Rattle.jf_payload.specs.declared.records.Record.TheVariants as «record»
 use Rattle.jf_standing.specs.Named.{Named, never}
 use Rattle.jf_standing.specs.Building.{node_of, nodes_by_name, new_standing, checkpoint_of}
 use Rattle.jf_standing.specs.OrderLaws.{CheckpointsGive, NewIsSound}
-use Rattle.jf_files.specs.NewStore.{empty_root, new_store_payload, new_store_bytes, new_store_files}
+use Rattle.jf_files.specs.NewStore.{empty_root, new_store_payload, new_store_files, new_store_bytes}
 use Rattle.jf_files.specs.Files.{generation}
 use Rattle.jf_files.specs.Laws.{NewStoreStands}
 use Rattle.jf_files.proofs.Stepping.{first_follows}
@@ -38,14 +38,9 @@ E_is = refl
 root_is : root fin.empty ≡ empty_root
 root_is = root-empty ∙ E_is
 
--- the empty map has one node
-one_path : nodes_below 64 0 [] ≡ ([], []) ∷ []
-unfolding nodes_below
-one_path = refl
-
 one_part : nodes fin.empty ≡ ([], []) ∷ []
 unfolding nodes
-one_part = ap (nodes_below 64 0) entries-empty ∙ one_path
+one_part = ap (nodes_below 64 0) entries-empty ∙ nodes-none
 
 abbrev one_node : List Named
 one_node = (record { version = 0; path = [] }, node.Null, never) ∷ []
@@ -86,11 +81,11 @@ first_spelled : IsSpelling format.Two (checkpoint_of 1 (new_standing format.Two)
 first_spelled = subst (λ r. IsSpelling format.Two r 5 new_store_payload) (sym first_is) (record { sound = first_sound; kind_is = refl; payload_is = sym first_bytes })
 
 holds_first : HoldsLive new_store_files (framed_first ∷ [])
-unfolding records records_from size_of payload_of behind number_of
+unfolding records records_from size_of payload_of after_record number_of
 holds_first = record { a_records = framed_first ∷ []; b_records = []; a_held = refl; b_held = refl; a_begun = refl; b_begun = refl; apart = refl; live = refl }
 
 first_generation : generation new_store_files ≡ 1
-unfolding generation records records_from size_of payload_of behind number_of
+unfolding generation records records_from size_of payload_of after_record number_of
 first_generation = refl
 
 framed_bytes : 1 ∷ frame 5 new_store_payload ≡ new_store_bytes

@@ -1,12 +1,13 @@
 -- A record that spells a checkpoint begins with its generation.
-use Rattle.std.proofs.Common.{◌≡◌, ℕ, ◌<◌, ◌≤◌, ◌^◌, Bool, true, false, ◌&&◌, List, [], ◌∷◌, ◌++◌, length, length-append, take, drop, nat_le, refl, sym, ap, ◌∙◌, subst, append_assoc, take_at, take-append-drop, length-take-le, le-leb, arith}
-use Rattle.std.proofs.lemmas.Nat.{from_be_bytes-to_be_bytes_8}
 use Rattle.std.specs.Prelude.{flat_map}
+use Rattle.std.proofs.Common.{◌≡◌, ℕ, ◌≤◌, List, ◌++◌, length, take, drop, sym, ap, ◌∙◌, append_assoc, take_at, take-append-drop, length-take-le, arith, length-append, ◌<◌, ◌^◌, true, refl, [], ◌∷◌, nat_le, subst, le-leb}
+use Rattle.std.proofs.lemmas.Bool.{and_from}
+use Rattle.std.proofs.lemmas.Nat.{from_be_bytes-to_be_bytes_8}
 use Rattle.std.specs.Int.{from_be_bytes, w64}
-use Rattle.jf_frame.specs.Framed.{Framed}
+use Rattle.jf_path.specs.Numbers.{eight_bytes}
 use Rattle.jf_frame.specs.Framing.{number_of}
+use Rattle.jf_frame.specs.Framed.{Framed}
 use Rattle.jf_pair.specs.Files.{is_checkpoint, is_begun}
-use Rattle.jf_codec.specs.Numbers.{eight_bytes}
 use Rattle.jf_codec.specs.declared.format.Format.{Format}
 use Rattle.jf_codec.specs.declared.format.Format.TheVariants as format
 use Rattle.jf_payload.specs.Spelling.{checkpoint_kind, list_bytes, live_bytes, record_bytes, IsSpelling}
@@ -48,10 +49,6 @@ is_kind : (fmt : Format) → is_checkpoint (checkpoint_kind fmt) ≡ true
 is_kind format.One = refl
 is_kind format.Two = refl
 
-both_true : (a b : Bool) → a ≡ true → b ≡ true → (a && b) ≡ true
-both_true true b x y = y
-both_true false b x y = x
-
 pub are_numbered : (fmt : Format) (generation base floor head : ℕ) (roots : List (List ℕ)) (nodes : List Named) (x : Framed)
     → IsSpelling fmt («record».Checkpoint generation base floor head roots nodes) x.kind x.payload
     → (is_begun (x ∷ []) ≡ true) × (generation_in (x ∷ []) ≡ generation)
@@ -59,6 +56,6 @@ unfolding record_bytes
 are_numbered fmt generation base floor head roots nodes x is =
     let p = first_part (eight_bytes generation) (eight_bytes base) (eight_bytes floor) (eight_bytes head) (flat_map (λ h. h) roots) (list_bytes (live_bytes fmt) nodes) (long-eight generation) in
     let last = is.sound.generation_last in (
-      both_true (is_checkpoint x.kind) (nat_le 8 (length x.payload)) (ap is_checkpoint is.kind_is ∙ is_kind fmt) (le-leb 8 (length x.payload) (subst (λ bytes. 8 ≤ length bytes) (sym is.payload_is) p.1)),
+      and_from (is_checkpoint x.kind) (nat_le 8 (length x.payload)) (ap is_checkpoint is.kind_is ∙ is_kind fmt) (le-leb 8 (length x.payload) (subst (λ bytes. 8 ≤ length bytes) (sym is.payload_is) p.1)),
       ap number_of is.payload_is ∙ p.0 ∙ number_of-eight generation (omega arith),
     )

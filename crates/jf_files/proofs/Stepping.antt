@@ -1,36 +1,36 @@
 -- What the records of each step lead to, and that a crash leaves the versions before or after the step.
-use Rattle.std.proofs.Common.{◌≡◌, ◌⊎◌, ℕ, inl, inr, List, [], ◌∷◌, refl, sym, ap, ◌∙◌, subst}
-use Rattle.jf_disk.specs.Disk.{History, Files, IsImage, reads}
+use Rattle.std.proofs.Common.{List, [], ◌∷◌, refl, ◌≡◌, ℕ, sym, ◌∙◌, ◌⊎◌, inl, inr, ap, subst}
+use Rattle.jf_hash.specs.Maps.{map_of_entries}
+use Rattle.jf_model.specs.Versions.{Versions, imported, new_store}
+use Rattle.jf_disk.specs.Disk.{History, reads, IsImage, Files}
 use Rattle.jf_disk.specs.Crashes.{LeavesNow, LeavesFiles}
-use Rattle.jf_disk.specs.CrashLaws.{goes_weaker, goes_further, goes_now}
-use Rattle.jf_model.specs.Versions.{Versions, new_store, imported}
+use Rattle.jf_disk.proofs.CrashLaws.{goes_weaker, goes_further, goes_now}
 use Rattle.jf_frame.specs.Framed.{Framed}
 use Rattle.jf_pair.specs.Files.{HoldsLive}
-use Rattle.jf_pair.specs.FileLaws.{holds_one}
 use Rattle.jf_pair.specs.Pairs.{Pair, IsInStep}
-use Rattle.jf_pair.specs.PairLaws.{in_step_holds, in_step_leaves}
+use Rattle.jf_pair.proofs.PairLaws.{in_step_holds, in_step_leaves}
+use Rattle.jf_pair.proofs.FileLaws.{holds_one}
 use Rattle.jf_codec.specs.declared.format.Format.{Format}
 use Rattle.jf_codec.specs.declared.format.Format.TheVariants as format
-use Rattle.jf_standing.specs.Standing.{Standing, versions_of, with_floor, with_nodes}
-use Rattle.jf_standing.specs.Sound.{IsSound}
-use Rattle.jf_standing.specs.Taking.{TakesCommits, Takes}
-use Rattle.jf_standing.specs.Building.{imported_standing, new_standing, nodes_by_name, checkpoint_of, landings_of, all_landed}
-use Rattle.jf_standing.specs.Laws.{GroupsLand, FloorsPrune}
-use Rattle.jf_standing.specs.FormatLaws.{standing_in, FormatsAreSound}
-use Rattle.jf_standing.specs.OrderLaws.{CheckpointsGive, ImportsAreSound, NewIsSound}
-use Rattle.jf_payload.specs.Spelling.{IsSpelling}
-use Rattle.jf_payload.specs.Laws.{SpelledIsSpelling}
 use Rattle.jf_payload.specs.declared.records.Commit.{Commit}
+use Rattle.jf_payload.specs.Laws.{SpelledIsSpelling}
+use Rattle.jf_payload.specs.Spelling.{IsSpelling}
 use Rattle.jf_payload.specs.declared.records.Record.TheVariants as «record»
-use Rattle.jf_files.specs.Files.{LeadTo, StandsFor, generation}
-use Rattle.jf_files.specs.Steps.{Step, Opens, map_of_entries, versions_behind, generation_behind, LiveBehind, StopsWell}
+use Rattle.jf_standing.specs.Standing.{Standing, with_floor, with_nodes, versions_of}
+use Rattle.jf_standing.specs.Taking.{TakesCommits, TakesRecord}
+use Rattle.jf_standing.specs.Building.{landings_of, all_landed, nodes_by_name, checkpoint_of, imported_standing, new_standing}
+use Rattle.jf_standing.specs.Laws.{GroupsLand, FloorsPrune}
+use Rattle.jf_standing.specs.OrderLaws.{CheckpointsGive, ImportsAreSound, NewIsSound}
+use Rattle.jf_standing.specs.Sound.{IsSound}
+use Rattle.jf_standing.specs.FormatLaws.{standing_in, FormatsAreSound}
 use Rattle.jf_files.specs.StepLaws.{landed_record, LandingsFollow, FloorsFollow, CheckpointsFollow, CompactionsFollow, ImportsFollow, FirstFollows, StopsByRecords, SucceedsByRecords, SucceedsAfterReading, OpensByRecords, BeginsByRecords}
-use Rattle.jf_files.proofs.Judging.{generation_live}
+use Rattle.jf_files.specs.Files.{generation, LeadTo, StandsFor}
+use Rattle.jf_files.specs.Steps.{versions_after_step, generation_after_step, LiveAfter, StoreStep, StopsWell, Opens}
 use Rattle.jf_files.proofs.Holding.{one_more, checkpoint_leads}
+use Rattle.jf_files.proofs.Judging.{generation_live}
 
 -- ---- records
-
-takes_landed : (fmt : Format) (s s' : Standing) (cs : List Commit) → TakesCommits fmt s cs s' → Takes fmt s (landed_record cs) s'
+takes_landed : (fmt : Format) (s s' : Standing) (cs : List Commit) → TakesCommits fmt s cs s' → TakesRecord fmt s (landed_record cs) s'
 takes_landed fmt s s' [] takes = takes
 takes_landed fmt s s' (c ∷ []) takes = takes
 takes_landed fmt s s' (c ∷ d ∷ cs) takes = takes
@@ -70,10 +70,9 @@ first_follows spelling gives law = λ fmt generation x is.
     alone spelling gives fmt (new_standing fmt) generation x new_store i.0 i.1 is
 
 -- ---- crashes
-
 pub stops_by_records : StopsByRecords
 stops_by_records = λ step old new v rs rs' before behind stops.
-    goes_weaker old new (λ f. HoldsLive f rs ⊎ HoldsLive f rs') (λ f. StandsFor f v ⊎ StandsFor f (versions_behind step v)) (λ f held. elim held [
+    goes_weaker old new (λ f. HoldsLive f rs ⊎ HoldsLive f rs') (λ f. StandsFor f v ⊎ StandsFor f (versions_after_step step v)) (λ f held. elim held [
       | inl h ↦ inl (record { live = rs; held = h; leads = before })
       | inr h ↦ inr (record { live = rs'; held = h; leads = behind })
     ]) stops
@@ -84,25 +83,25 @@ in_step_stands new v p rs leads k = (record { live = rs; held = in_step_holds p 
 
 pub succeeds_by_records : SucceedsByRecords
 succeeds_by_records = λ step old new v p rs rs' before behind holds stops k same_generation live.
-    let now = in_step_stands new (versions_behind step v) p rs' behind k in
+    let now = in_step_stands new (versions_after_step step v) p rs' behind k in
     let holds' = in_step_holds p rs' new k in
     record {
       stops = stops_by_records step old new v rs rs' before behind stops;
       stands = now.0;
       leaves = now.1;
-      generation_of = generation_live (reads new) rs' holds' ∙ same_generation ∙ ap (generation_behind step) (sym (generation_live (reads old) rs holds));
-      live = λ qs held. (rs', holds', subst (λ xs. LiveBehind step xs rs') (holds_one (reads old) rs qs holds held) live);
+      generation_of = generation_live (reads new) rs' holds' ∙ same_generation ∙ ap (generation_after_step step) (sym (generation_live (reads old) rs holds));
+      live = λ qs held. (rs', holds', subst (λ xs. LiveAfter step xs rs') (holds_one (reads old) rs qs holds held) live);
     }
 
-reading_stops : (step : Step) (old mid : History) (v : Versions) → LeavesNow old (λ f. StandsFor f v) → LeavesFiles old mid → StopsWell step old mid v
-reading_stops step old mid v calm left = goes_weaker old mid (IsImage old.now) (λ f. StandsFor f v ⊎ StandsFor f (versions_behind step v)) (λ f image. inl (calm f image)) left.images
+reading_stops : (step : StoreStep) (old mid : History) (v : Versions) → LeavesNow old (λ f. StandsFor f v) → LeavesFiles old mid → StopsWell step old mid v
+reading_stops step old mid v calm left = goes_weaker old mid (IsImage old.now) (λ f. StandsFor f v ⊎ StandsFor f (versions_after_step step v)) (λ f image. inl (calm f image)) left.images
 
 pub succeeds_after_reading : SucceedsAfterReading
 succeeds_after_reading = λ step old mid new v calm left then_. record {
-  stops = goes_further old mid new (λ f. StandsFor f v ⊎ StandsFor f (versions_behind step v)) (reading_stops step old mid v calm left) then_.stops;
+  stops = goes_further old mid new (λ f. StandsFor f v ⊎ StandsFor f (versions_after_step step v)) (reading_stops step old mid v calm left) then_.stops;
   stands = then_.stands;
   leaves = then_.leaves;
-  generation_of = then_.generation_of ∙ ap (λ files. generation_behind step (generation files)) left.same;
+  generation_of = then_.generation_of ∙ ap (λ files. generation_after_step step (generation files)) left.same;
   live = λ rs held. then_.live rs (subst (λ files. HoldsLive files rs) (sym left.same) held);
 }
 
@@ -115,7 +114,7 @@ opens_by_records = λ old new v p x xs leads calm left k.
       stands = now.0;
       leaves = now.1;
       generation_of = ap generation left.same;
-      live = λ rs held. (x ∷ xs, holds, subst (λ ys. LiveBehind Opens ys (x ∷ xs)) (holds_one (reads new) (x ∷ xs) rs holds (subst (λ files. HoldsLive files rs) (sym left.same) held)) refl);
+      live = λ rs held. (x ∷ xs, holds, subst (λ ys. LiveAfter Opens ys (x ∷ xs)) (holds_one (reads new) (x ∷ xs) rs holds (subst (λ files. HoldsLive files rs) (sym left.same) held)) refl);
     }
 
 -- files without a record, or with the first checkpoint of a new store, stand for a new store

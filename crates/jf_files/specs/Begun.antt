@@ -1,8 +1,8 @@
 -- A store is begun on two files that hold no record.
 use Rattle.std.specs.Prelude.{◌⊎◌, []}
-use Rattle.jf_disk.specs.Disk.{History, IsImage, reads}
-use Rattle.jf_disk.specs.Crashes.{GoesOn, LeavesFiles}
 use Rattle.jf_model.specs.Versions.{new_store}
+use Rattle.jf_disk.specs.Disk.{History, IsImage, reads}
+use Rattle.jf_disk.specs.Crashes.{GoesOn}
 use Rattle.jf_pair.specs.Files.{HoldsLive}
 use Rattle.jf_files.specs.Files.{StandsFor}
 
@@ -12,7 +12,3 @@ pub record IsBegunOver (old new : History) : Type 0 where
   pub none : HoldsLive (reads old) []
   pub stands : StandsFor (reads new) new_store
   pub images : GoesOn old new (λ f. IsImage old.now f ⊎ StandsFor f new_store)
-
--- the files are unchanged, or they held no record and were begun
-abbrev pub LeavesOrBegins : History → History → Type 0
-LeavesOrBegins old new = LeavesFiles old new ⊎ IsBegunOver old new

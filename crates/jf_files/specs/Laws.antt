@@ -1,24 +1,24 @@
 -- Laws of what files stand for.
-use Rattle.std.specs.Prelude.{◌≡◌, ◌↔◌, ◌⊎◌, ℕ, true, List, [], ◌∷◌, ◌++◌, Ok}
+use Rattle.std.specs.Prelude.{◌≡◌, ◌↔◌, ℕ, true, List, [], ◌∷◌, Ok, ◌⊎◌, ◌++◌}
+use Rattle.jf_model.specs.Versions.{new_store, Versions, IsVersions}
 use Rattle.jf_disk.specs.Disk.{Files, History, reads}
-use Rattle.jf_disk.specs.Crashes.{LeavesNow}
 use Rattle.jf_disk.specs.declared.side.Side.{Side}
-use Rattle.jf_model.specs.Versions.{Versions, IsVersions, new_store}
-use Rattle.jf_frame.specs.Framing.{frame, records}
+use Rattle.jf_disk.specs.Crashes.{LeavesNow}
 use Rattle.jf_frame.specs.Framed.{Framed}
+use Rattle.jf_frame.specs.Framing.{records, frame}
 use Rattle.jf_pair.specs.Files.{is_checkpoint, is_begun, HoldsLive}
 use Rattle.jf_codec.specs.declared.format.Format.{Format}
 use Rattle.jf_codec.specs.declared.format.Format.TheVariants as format
-use Rattle.jf_standing.specs.Named.{Named}
-use Rattle.jf_standing.specs.Standing.{Standing, versions_of}
-use Rattle.jf_standing.specs.Sound.{IsSound}
-use Rattle.jf_standing.specs.Taking.{Takes, Gives}
-use Rattle.jf_payload.specs.Spelling.{checkpoint_kind, record_bytes, IsSpelling}
+use Rattle.jf_payload.specs.Spelling.{checkpoint_kind, IsSpelling, record_bytes}
 use Rattle.jf_payload.specs.declared.records.Record.{Record}
 use Rattle.jf_payload.specs.declared.records.Record.TheVariants as «record»
+use Rattle.jf_standing.specs.Named.{Named}
 use Rattle.jf_standing.specs.Building.{new_standing, checkpoint_of}
+use Rattle.jf_standing.specs.Standing.{Standing, versions_of}
+use Rattle.jf_standing.specs.Sound.{IsSound}
+use Rattle.jf_standing.specs.Taking.{TakesRecord, GivesStanding}
+use Rattle.jf_files.specs.Files.{generation_in, generation, StandsFor, IsDamagedAt, HoldsStanding, LeadToStanding, LeadTo}
 use Rattle.jf_files.specs.NewStore.{new_store_bytes, new_store_files}
-use Rattle.jf_files.specs.Files.{LeadToStanding, LeadTo, StandsFor, IsDamagedAt, HoldsStanding, generation_in, generation}
 use Rattle.jf_files.specs.Steps.{IsCalm}
 
 -- a checkpoint's kinds are those of the two formats
@@ -69,7 +69,6 @@ abbrev pub CalmBoth : Type 0
 CalmBoth = (h : History) (v : Versions) → StandsFor (reads h) v → LeavesNow h (λ f. StandsFor f v) → IsCalm h
 
 -- ---- files that hold a standing
-
 -- files that hold a standing stand for its versions
 abbrev pub HeldIsStoodFor : Type 0
 HeldIsStoodFor = (files : Files) (fmt : Format) (s : Standing) → HoldsStanding files fmt s → StandsFor files (versions_of s)
@@ -85,11 +84,11 @@ HeldIsSound = (files : Files) (fmt : Format) (s : Standing) → HoldsStanding fi
 
 -- one more record leads to what it makes of the standing before it
 abbrev pub OneMoreFollows : Type 0
-OneMoreFollows = (rs : List Framed) (fmt : Format) (s s' : Standing) (y : Framed) (r : Record) → LeadToStanding rs fmt s → IsSpelling fmt r y.kind y.payload → Takes fmt s r s' → LeadToStanding (rs ++ y ∷ []) fmt s'
+OneMoreFollows = (rs : List Framed) (fmt : Format) (s s' : Standing) (y : Framed) (r : Record) → LeadToStanding rs fmt s → IsSpelling fmt r y.kind y.payload → TakesRecord fmt s r s' → LeadToStanding (rs ++ y ∷ []) fmt s'
 
 -- a checkpoint alone leads to the standing that it gives
 abbrev pub CheckpointAlone : Type 0
-CheckpointAlone = (fmt : Format) (s : Standing) (x : Framed) (r : Record) → IsSpelling fmt r x.kind x.payload → Gives fmt r s → LeadToStanding (x ∷ []) fmt s
+CheckpointAlone = (fmt : Format) (s : Standing) (x : Framed) (r : Record) → IsSpelling fmt r x.kind x.payload → GivesStanding fmt r s → LeadToStanding (x ∷ []) fmt s
 
 -- records that lead to a standing lead to its versions
 abbrev pub StandingsHaveVersions : Type 0

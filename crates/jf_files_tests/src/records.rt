@@ -1,6 +1,6 @@
 // The payload of a worked example, whose key is from `printf '\x04\x61' | sha256sum`, and a table of refused payloads.
 use jf_path::{Bytes, Key};
-use jf_record::{Record, RecordFault, decode, encode, encode_landing};
+use jf_record::{CommitFault, Record, decode, encode, encode_landing};
 use jf_split::Batch;
 use std::alloc::{AllocError, Global};
 use std::test::Fail;
@@ -114,7 +114,7 @@ const REFUSED: &[(&str, u8, &[&[u8]])] = &[
 ];
 
 fn is_refused(alloc: Global, kind: u8, payload: &[u8]) -> bool {
-    matches!(decode(alloc, kind, payload), Err(RecordFault::Bad))
+    matches!(decode(alloc, kind, payload), Err(CommitFault::Bad))
 }
 
 fn are_refused(alloc: Global, kind: u8, parts: &[&[u8]]) -> Result<bool, Fail> {

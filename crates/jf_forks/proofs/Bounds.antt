@@ -1,15 +1,15 @@
 -- The forks that land together are no more than are live, and have at most 10,000 keys.
 use Rattle.std.specs.Prelude.{nat_le, nat_lt}
-use Rattle.std.proofs.Common.{◌≡◌, ◌≤◌, ◌+◌, ℕ, true, false, true≢false, cond, ◌==◌, List, [], ◌∷◌, ◌++◌, length, Option, None, Some, refl, sym, ap, ◌∙◌, arith, subst, length-append}
-use Rattle.std.proofs.lemmas.List.{length-map}
+use Rattle.std.proofs.Common.{◌≡◌, ◌≤◌, ℕ, true, true≢false, List, [], ◌∷◌, length, sym, arith, ◌+◌, ◌++◌, length-append, false, cond, ◌==◌, Option, None, Some, refl, ap, ◌∙◌, subst}
 use Rattle.std.proofs.lemmas.Bool.Decides.{nat_tests}
+use Rattle.std.proofs.lemmas.List.{length-map}
 use Rattle.jf_hash.specs.Maps.{Batch}
-use Rattle.jf_model.specs.Batches.{key_count}
-use Rattle.jf_model.specs.Forks.{Fork, of_parent, is_among, chain, batches}
+use Rattle.jf_model.specs.Forks.{Fork, is_among, of_parent, chain, batches}
 use Rattle.jf_model.specs.declared.entries.Parent.{Parent}
+use Rattle.jf_model.specs.Batches.{key_count}
 use Rattle.jf_model.specs.declared.entries.Parent.TheVariants as parent
-use Rattle.jf_forks.specs.ForkLists.{on_own}
-use Rattle.jf_forks.specs.Tables.{Grown, Table, IsTable, forks_of, first_of, missing, keys_of, chain_fault}
+use Rattle.jf_model.proofs.ForkLists.{on_own}
+use Rattle.jf_forks.specs.Tables.{first_fault, Table, forks_of, missing, Grown, IsTable, keys_of, chain_fault}
 use Rattle.jf_forks.specs.declared.fault.ForkFault.{ForkFault}
 use Rattle.jf_forks.specs.declared.fault.ForkFault.TheVariants as fault
 
@@ -30,7 +30,7 @@ chain-short (f ∷ fs) y =
       | false ↦ omega (arith, chain-short fs y)
     ]
 
-first_none : (o p : Option ForkFault) → first_of o p ≡ None → (o ≡ None) × (p ≡ None)
+first_none : (o p : Option ForkFault) → first_fault o p ≡ None → (o ≡ None) × (p ≡ None)
 first_none None p h = (refl, h)
 first_none (Some f) p h = absurd (cc)
 

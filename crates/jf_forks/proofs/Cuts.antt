@@ -1,21 +1,20 @@
 -- Lists of live forks whose back is worked from a place on, the oldest fork first.
-use Rattle.std.proofs.Common.{◌≡◌, ◌<◌, ◌≤◌, ◌+◌, ◌-◌, ℕ, zero, suc, Bool, true, false, cond, not, ◌||◌, ◌&&◌, ◌==◌, List, [], ◌∷◌, map, length, take, drop, get_or, set, refl, sym, ap, ap₂, ◌∙◌, arith, subst, add-one, length-drop, take_all}
-use Rattle.std.specs.List.{remove}
-use Rattle.std.proofs.lemmas.List.{drop_more, take-take, get_or-take, drop-map, take-set, drop-set, map-set}
-use Rattle.std.proofs.lemmas.Bool.{ne_eqb, eq-eqb}
+use Rattle.std.proofs.Common.{◌≡◌, ℕ, zero, suc, List, [], ◌∷◌, take, refl, ap, ◌<◌, length, drop, arith, ◌+◌, ◌-◌, sym, ◌∙◌, add-one, ◌≤◌, map, get_or, ap₂, set, subst, true, false, cond, ◌||◌, ◌==◌, length-drop, take_all, Bool, not, ◌&&◌}
+use Rattle.std.proofs.lemmas.Bool.{eq-eqb, ne_eqb}
+use Rattle.std.proofs.lemmas.List.{take-take, get_or-take, drop_more, take-set, drop-set, drop-map, map-set}
 use Rattle.std.specs.FinMap as fin
-use Rattle.jf_model.specs.Forks.{Fork, of_parent, is_among, is_parent, AreForks, descends, on_head, drop_count}
+use Rattle.std.specs.List.{remove}
+use Rattle.jf_model.specs.Forks.{AreForks, Fork, descends, drop_count, is_parent, is_among, on_head, of_parent}
 use Rattle.jf_model.specs.declared.entries.Parent.{Parent}
 use Rattle.jf_model.specs.declared.entries.Parent.TheVariants as parent
-use Rattle.jf_forks.specs.Tables.{Grown, forks_of, kept, landed}
-use Rattle.jf_forks.specs.TableLaws.{forks_of-kept, forks_of-landed}
+use Rattle.jf_forks.specs.Tables.{Grown, forks_of, grown_without, grown_settled}
 use Rattle.jf_forks.specs.Worked.{Worked}
-use Rattle.jf_forks.specs.Lives.{grown}
 use Rattle.jf_forks.specs.declared.live.LiveFork.{LiveFork}
+use Rattle.jf_forks.specs.Lives.{grown}
+use Rattle.jf_forks.proofs.TableLaws.{forks_of-grown_without, forks_of-grown_settled}
 use Rattle.jf_forks.proofs.Stays.{stays_is, on_none, on_it, on_other}
 
 -- ---- lists
-
 module _ {X : Type 0} where
   take_removed : (xs : List X) (i : ℕ) → take i (remove xs i) ≡ take i xs
   take_removed [] zero = refl
@@ -23,13 +22,13 @@ module _ {X : Type 0} where
   take_removed (x ∷ xs) zero = refl
   take_removed (x ∷ xs) (suc i) = ap (λ t. x ∷ t) (take_removed xs i)
 
-  drop_behind : (xs : List X) (i : ℕ) → i < length xs → drop i (remove xs i) ≡ drop (suc i) xs
-  drop_behind [] i lt = absurd (omega arith)
-  drop_behind (x ∷ xs) zero lt = refl
-  drop_behind (x ∷ xs) (suc i) lt = drop_behind xs i (omega arith)
+  drop_after : (xs : List X) (i : ℕ) → i < length xs → drop i (remove xs i) ≡ drop (suc i) xs
+  drop_after [] i lt = absurd (omega arith)
+  drop_after (x ∷ xs) zero lt = refl
+  drop_after (x ∷ xs) (suc i) lt = drop_after xs i (omega arith)
 
   drop_removed : (xs : List X) (i : ℕ) → i < length xs → drop i (remove xs i) ≡ drop (i + 1) xs
-  drop_removed xs i lt = drop_behind xs i lt ∙ ap (λ k. drop k xs) (sym (add-one i))
+  drop_removed xs i lt = drop_after xs i lt ∙ ap (λ k. drop k xs) (sym (add-one i))
 
   length_removed : (xs : List X) (i : ℕ) → i < length xs → i ≤ length (remove xs i)
   length_removed [] i lt = absurd (omega arith)
@@ -43,7 +42,6 @@ map_removed h (x ∷ xs) zero = refl
 map_removed h (x ∷ xs) (suc i) = ap (λ t. h x ∷ t) (map_removed h xs i)
 
 -- ---- one more fork
-
 -- at the end of the list nothing is worked yet
 pub worked_none : (at : ℕ) (work : List Grown → List Grown) (gs : List Grown) → at ≡ length gs → work [] ≡ [] → Worked at work gs gs
 worked_none at work gs is none = record { front = refl; back = past at gs is ∙ sym none ∙ ap work (sym (past at gs is)); within = omega arith }
@@ -95,7 +93,6 @@ module _ (at : ℕ) (work : List Grown → List Grown) (old new : List Grown) (w
       long_set (h ∷ gs) (suc i) g = ap suc (long_set gs i g)
 
 -- ---- the forks after a place
-
 pub length_map : {X Y : Type 0} (h : X → Y) (xs : List X) → length (map h xs) ≡ length xs
 length_map h [] = refl
 length_map h (x ∷ xs) = ap suc (length_map h xs)
@@ -104,8 +101,8 @@ no_fork : Grown
 no_fork = record { fork = record { id = 0; parent = parent.Head; batch = [] }; map = fin.empty }
 
 -- the forks after a place are forks too
-pub forks_behind : (at bound : ℕ) (gs : List Grown) → at < length gs → AreForks bound (forks_of (drop at gs)) → (b : ℕ) × AreForks b (forks_of (drop (at + 1) gs))
-forks_behind at bound gs lt sound =
+pub forks_after : (at bound : ℕ) (gs : List Grown) → at < length gs → AreForks bound (forks_of (drop at gs)) → (b : ℕ) × AreForks b (forks_of (drop (at + 1) gs))
+forks_after at bound gs lt sound =
     let h : AreForks bound (forks_of (get_or gs at no_fork ∷ drop (at + 1) gs)) = subst (λ hs. AreForks bound (forks_of hs)) (drop_more gs at no_fork lt) sound in
     (_, h.2)
 
@@ -147,21 +144,21 @@ module _ (at id bound : ℕ) (xs ys : List LiveFork) (x : LiveFork) (work : List
   forks_here = subst (λ gs. AreForks bound (forks_of gs)) here sound
 
   -- the forks after the place are worked
-  pub behind : map grown (take (length ys - (at + 1)) (drop (at + 1) ys)) ≡ work (drop (at + 1) (map grown xs))
-  behind = ap (map grown) (take_all (length ys - (at + 1)) (drop (at + 1) ys) (omega (arith, length-drop (at + 1) ys))) ∙ sym (drop-map grown (at + 1) ys) ∙ w.back
+  pub worked_after : map grown (take (length ys - (at + 1)) (drop (at + 1) ys)) ≡ work (drop (at + 1) (map grown xs))
+  worked_after = ap (map grown) (take_all (length ys - (at + 1)) (drop (at + 1) ys) (omega (arith, length-drop (at + 1) ys))) ∙ sym (drop-map grown (at + 1) ys) ∙ w.back
 
   -- the worked forks after the place are forks
-  pub behind_forks : (zs : List LiveFork) → zs ≡ ys → (b : ℕ) → AreForks b (forks_of (work (drop (at + 1) (map grown xs)))) → AreForks b (forks_of (map grown (take (length zs - (at + 1)) (drop (at + 1) zs))))
-  behind_forks zs same b h = subst (λ gs. AreForks b (forks_of gs)) (sym (ap (λ ls. map grown (take (length ls - (at + 1)) (drop (at + 1) ls))) same ∙ behind)) h
+  pub after_forks : (zs : List LiveFork) → zs ≡ ys → (b : ℕ) → AreForks b (forks_of (work (drop (at + 1) (map grown xs)))) → AreForks b (forks_of (map grown (take (length zs - (at + 1)) (drop (at + 1) zs))))
+  after_forks zs same b h = subst (λ gs. AreForks b (forks_of gs)) (sym (ap (λ ls. map grown (take (length ls - (at + 1)) (drop (at + 1) ls))) same ∙ worked_after)) h
 
   -- the test of a fork by the forks after it in the list
   pub tested : (t : Bool) (p : Parent) (zs : List LiveFork) → zs ≡ ys → t ≡ (not (x.id == id) && is_parent p (forks_of (map grown (take (length zs - (at + 1)) (drop (at + 1) zs))))) → t ≡ (not (x.id == id) && is_parent p (forks_of (work (drop (at + 1) (map grown xs)))))
   tested t p zs same h =
-      h ∙ ap (λ ls. not (x.id == id) && is_parent p (forks_of (map grown (take (length ls - (at + 1)) (drop (at + 1) ls))))) same ∙ ap (λ gs. not (x.id == id) && is_parent p (forks_of gs)) behind
+      h ∙ ap (λ ls. not (x.id == id) && is_parent p (forks_of (map grown (take (length ls - (at + 1)) (drop (at + 1) ls))))) same ∙ ap (λ gs. not (x.id == id) && is_parent p (forks_of gs)) worked_after
 
   pub looked_up : (t : Bool) (q : ℕ) (zs : List LiveFork) → zs ≡ ys → t ≡ is_among q (forks_of (map grown (take (length zs - (at + 1)) (drop (at + 1) zs)))) → t ≡ is_among q (forks_of (work (drop (at + 1) (map grown xs))))
   looked_up t q zs same h =
-      h ∙ ap (λ ls. is_among q (forks_of (map grown (take (length ls - (at + 1)) (drop (at + 1) ls))))) same ∙ ap (λ gs. is_among q (forks_of gs)) behind
+      h ∙ ap (λ ls. is_among q (forks_of (map grown (take (length ls - (at + 1)) (drop (at + 1) ls))))) same ∙ ap (λ gs. is_among q (forks_of gs)) worked_after
 
   -- the fork looked at is the one at the place
   pub same_item : (m : LiveFork) → m ≡ get_or ys at m → m ≡ x
@@ -177,18 +174,17 @@ module _ (at id bound : ℕ) (xs ys : List LiveFork) (x : LiveFork) (work : List
   set_worked y h = subst (Worked at work (map grown xs)) (sym (map-set grown ys at y)) (worked_set at work (map grown xs) (map grown ys) w (grown x) (grown y) within (ap (λ g. work (g ∷ drop (at + 1) (map grown xs))) same_here ∙ h))
 
 -- ---- one fork when id is dropped
-
-module _ (id : ℕ) (g : Grown) (gs : List Grown) (bound : ℕ) (sound : AreForks bound (g.fork ∷ forks_of gs)) (t : Bool) (test : t ≡ (not (g.fork.id == id) && is_parent g.fork.parent (forks_of (kept id gs)))) where
+module _ (id : ℕ) (g : Grown) (gs : List Grown) (bound : ℕ) (sound : AreForks bound (g.fork ∷ forks_of gs)) (t : Bool) (test : t ≡ (not (g.fork.id == id) && is_parent g.fork.parent (forks_of (grown_without id gs)))) where
   goes_is : (g.fork.id == id || descends id (forks_of gs) g.fork) ≡ not t
   goes_is =
       stays_is g.fork.id id g.fork (forks_of gs) sound.2 sound.1
-      ∙ ap not (ap (λ fs. not (g.fork.id == id) && is_parent g.fork.parent fs) (sym (forks_of-kept id gs)) ∙ sym test)
+      ∙ ap not (ap (λ fs. not (g.fork.id == id) && is_parent g.fork.parent fs) (sym (forks_of-grown_without id gs)) ∙ sym test)
 
-  pub kept_stays : t ≡ true → kept id (g ∷ gs) ≡ g ∷ kept id gs
-  kept_stays is = ap (λ b. cond b (kept id gs) (g ∷ kept id gs)) (goes_is ∙ ap not is)
+  pub kept_stays : t ≡ true → grown_without id (g ∷ gs) ≡ g ∷ grown_without id gs
+  kept_stays is = ap (λ b. cond b (grown_without id gs) (g ∷ grown_without id gs)) (goes_is ∙ ap not is)
 
-  pub kept_goes : t ≡ false → kept id (g ∷ gs) ≡ kept id gs
-  kept_goes is = ap (λ b. cond b (kept id gs) (g ∷ kept id gs)) (goes_is ∙ ap not is)
+  pub kept_goes : t ≡ false → grown_without id (g ∷ gs) ≡ grown_without id gs
+  kept_goes is = ap (λ b. cond b (grown_without id gs) (g ∷ grown_without id gs)) (goes_is ∙ ap not is)
 
   pub count_stays : t ≡ true → drop_count id (g.fork ∷ forks_of gs) ≡ drop_count id (forks_of gs)
   count_stays is = ap (λ b. cond b (1 + drop_count id (forks_of gs)) (drop_count id (forks_of gs))) (goes_is ∙ ap not is)
@@ -197,30 +193,29 @@ module _ (id : ℕ) (g : Grown) (gs : List Grown) (bound : ℕ) (sound : AreFork
   count_goes is = ap (λ b. cond b (1 + drop_count id (forks_of gs)) (drop_count id (forks_of gs))) (goes_is ∙ ap not is)
 
 -- ---- one fork when id has landed
-
 module _ (id : ℕ) (g : Grown) (gs : List Grown) (bound : ℕ) (sound : AreForks bound (g.fork ∷ forks_of gs)) where
-  pub landed_head : g.fork.parent ≡ parent.Head → landed id (g ∷ gs) ≡ landed id gs
-  landed_head is = ap (λ b. cond b (record { fork = on_head id g.fork; map = g.map } ∷ landed id gs) (landed id gs)) (on_none id g.fork (forks_of gs) is)
+  pub landed_head : g.fork.parent ≡ parent.Head → grown_settled id (g ∷ gs) ≡ grown_settled id gs
+  landed_head is = ap (λ b. cond b (record { fork = on_head id g.fork; map = g.map } ∷ grown_settled id gs) (grown_settled id gs)) (on_none id g.fork (forks_of gs) is)
 
-  pub landed_child : (q : ℕ) (h : Grown) → g.fork.parent ≡ parent.Fork q → q ≡ id → h ≡ record { fork = record { id = g.fork.id; parent = parent.Head; batch = g.fork.batch }; map = g.map } → landed id (g ∷ gs) ≡ h ∷ landed id gs
+  pub landed_child : (q : ℕ) (h : Grown) → g.fork.parent ≡ parent.Fork q → q ≡ id → h ≡ record { fork = record { id = g.fork.id; parent = parent.Head; batch = g.fork.batch }; map = g.map } → grown_settled id (g ∷ gs) ≡ h ∷ grown_settled id gs
   landed_child q h is same new =
-      ap (λ b. cond b (record { fork = on_head id g.fork; map = g.map } ∷ landed id gs) (landed id gs)) (on_it id q g.fork (forks_of gs) is same sound.1)
-      ∙ ap (λ p. record { fork = record { id = g.fork.id; parent = p; batch = g.fork.batch }; map = g.map } ∷ landed id gs)
+      ap (λ b. cond b (record { fork = on_head id g.fork; map = g.map } ∷ grown_settled id gs) (grown_settled id gs)) (on_it id q g.fork (forks_of gs) is same sound.1)
+      ∙ ap (λ p. record { fork = record { id = g.fork.id; parent = p; batch = g.fork.batch }; map = g.map } ∷ grown_settled id gs)
       (ap (λ p. of_parent parent.Head (λ k. cond (k == id) parent.Head (parent.Fork k)) p) is ∙ ap (λ b. cond b parent.Head (parent.Fork q)) (eq-eqb q id same))
-      ∙ ap (λ x. x ∷ landed id gs) (sym new)
+      ∙ ap (λ x. x ∷ grown_settled id gs) (sym new)
 
-  stands_is : (q : ℕ) → g.fork.parent ≡ parent.Fork q → ¬ (q ≡ id) → descends id (forks_of gs) g.fork ≡ is_among q (forks_of (landed id gs))
-  stands_is q is other = on_other g.fork.id id q g.fork (forks_of gs) sound.2 is (ne_eqb q id other) sound.1 ∙ ap (is_among q) (sym (forks_of-landed id gs))
+  stands_is : (q : ℕ) → g.fork.parent ≡ parent.Fork q → ¬ (q ≡ id) → descends id (forks_of gs) g.fork ≡ is_among q (forks_of (grown_settled id gs))
+  stands_is q is other = on_other g.fork.id id q g.fork (forks_of gs) sound.2 is (ne_eqb q id other) sound.1 ∙ ap (is_among q) (sym (forks_of-grown_settled id gs))
 
-  pub landed_stays : (q : ℕ) → g.fork.parent ≡ parent.Fork q → ¬ (q ≡ id) → is_among q (forks_of (landed id gs)) ≡ true → landed id (g ∷ gs) ≡ g ∷ landed id gs
+  pub landed_stays : (q : ℕ) → g.fork.parent ≡ parent.Fork q → ¬ (q ≡ id) → is_among q (forks_of (grown_settled id gs)) ≡ true → grown_settled id (g ∷ gs) ≡ g ∷ grown_settled id gs
   landed_stays q is other among =
-      ap (λ b. cond b (record { fork = on_head id g.fork; map = g.map } ∷ landed id gs) (landed id gs)) (stands_is q is other ∙ among)
-      ∙ ap (λ p. record { fork = record { id = g.fork.id; parent = p; batch = g.fork.batch }; map = g.map } ∷ landed id gs)
+      ap (λ b. cond b (record { fork = on_head id g.fork; map = g.map } ∷ grown_settled id gs) (grown_settled id gs)) (stands_is q is other ∙ among)
+      ∙ ap (λ p. record { fork = record { id = g.fork.id; parent = p; batch = g.fork.batch }; map = g.map } ∷ grown_settled id gs)
       (ap (λ p. of_parent parent.Head (λ k. cond (k == id) parent.Head (parent.Fork k)) p) is ∙ ap (λ b. cond b parent.Head (parent.Fork q)) (ne_eqb q id other) ∙ sym is)
 
-  pub landed_goes : (q : ℕ) → g.fork.parent ≡ parent.Fork q → ¬ (q ≡ id) → is_among q (forks_of (landed id gs)) ≡ false → landed id (g ∷ gs) ≡ landed id gs
-  landed_goes q is other none = ap (λ b. cond b (record { fork = on_head id g.fork; map = g.map } ∷ landed id gs) (landed id gs)) (stands_is q is other ∙ none)
+  pub landed_goes : (q : ℕ) → g.fork.parent ≡ parent.Fork q → ¬ (q ≡ id) → is_among q (forks_of (grown_settled id gs)) ≡ false → grown_settled id (g ∷ gs) ≡ grown_settled id gs
+  landed_goes q is other none = ap (λ b. cond b (record { fork = on_head id g.fork; map = g.map } ∷ grown_settled id gs) (grown_settled id gs)) (stands_is q is other ∙ none)
 
 -- a fork, with the head as its parent
-abbrev pub head_of : LiveFork → Grown
-head_of f = record { fork = record { id = f.id; parent = parent.Head; batch = f.batch }; map = f.tree }
+abbrev pub grown_on_head : LiveFork → Grown
+grown_on_head f = record { fork = record { id = f.id; parent = parent.Head; batch = f.batch }; map = f.tree }

@@ -4,3 +4,4 @@ pub mod Stays
 pub mod Cuts
 pub mod Tabled
 pub mod Bounds
+pub mod TableLaws

@@ -1,11 +1,11 @@
 -- The numbers of live forks fall, so that those above a number stand before all others.
-use Rattle.std.proofs.Common.{◌≡◌, ◌<◌, ◌≤◌, ◌+◌, ℕ, zero, suc, true, false, cond, ◌||◌, ◌==◌, ltb, Some, List, [], ◌∷◌, ◌++◌, map, length, drop, get_or, refl, sym, ap, ◌∙◌, arith, subst}
+use Rattle.std.proofs.Common.{◌<◌, ℕ, zero, suc, List, [], ◌∷◌, map, length, get_or, arith, ◌≤◌, ◌≡◌, true, ltb, ◌+◌, false, cond, ◌||◌, ◌==◌, Some, ◌++◌, drop, refl, sym, ap, ◌∙◌, subst}
 use Rattle.std.proofs.lemmas.Bool.{ne_eqb}
 use Rattle.std.proofs.lemmas.Bool.Decides.{nat_tests}
-use Rattle.std.specs.List.Sorted.{IsPartitionPoint, IsPartitionedBy}
-use Rattle.jf_model.specs.Forks.{of_parent, is_among, AreForks, chain}
-use Rattle.jf_forks.specs.ForkLists.{none_above}
-use Rattle.jf_forks.specs.Tables.{forks_of, map_of}
+use Rattle.std.specs.List.Sorted.{IsPartitionedBy, IsPartitionPoint}
+use Rattle.jf_model.specs.Forks.{AreForks, of_parent, is_among, chain}
+use Rattle.jf_model.proofs.ForkLists.{none_above}
+use Rattle.jf_forks.specs.Tables.{forks_of, map_of_fork}
 use Rattle.jf_forks.specs.Lives.{grown, IsFrom}
 use Rattle.jf_forks.specs.declared.live.LiveFork.{LiveFork}
 
@@ -52,7 +52,7 @@ from_point id bound (suc p) (x ∷ xs) sound within point =
     record {
       among = rest.among ∙ sym (ap (λ b. b || is_among id (forks_of (map grown xs))) other);
       chained = rest.chained ∙ sym (ap (λ b. cond b (of_parent [] (chain (forks_of (map grown xs))) x.parent ++ (grown x).fork ∷ []) (chain (forks_of (map grown xs)) id)) other);
-      mapped = rest.mapped ∙ sym (ap (λ b. cond b (Some x.tree) (map_of id (map grown xs))) other);
+      mapped = rest.mapped ∙ sym (ap (λ b. cond b (Some x.tree) (map_of_fork id (map grown xs))) other);
       stands = λ m h. rest.stands m h.1;
       forks = rest.forks;
       short = let e = rest.short in omega arith;

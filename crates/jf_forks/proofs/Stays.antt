@@ -1,13 +1,13 @@
 -- Which forks stay when one is dropped or has landed, by whether their parents stay.
-use Rattle.std.proofs.Common.{◌≡◌, ◌≤◌, ℕ, Bool, true, false, cond, not, ◌||◌, ◌&&◌, ◌==◌, List, [], ◌∷◌, ◌++◌, refl, sym, ap, ◌∙◌, subst, true≢false, le_refl}
+use Rattle.std.proofs.Common.{◌≡◌, Bool, true, false, not, refl, ◌||◌, ℕ, cond, ◌==◌, List, [], ◌∷◌, sym, ap, ◌∙◌, ◌≤◌, ◌++◌, subst, true≢false, le_refl, ◌&&◌}
 use Rattle.std.proofs.lemmas.Bool.{eqb-true}
-use Rattle.jf_model.specs.Forks.{Fork, of_parent, is_among, is_parent, AreForks, chain, descends, on_head, without, settled}
+use Rattle.jf_path.proofs.BoolLaws.{or_false_right}
+use Rattle.jf_model.specs.Forks.{Fork, is_among, descends, without, of_parent, AreForks, chain, is_parent, on_head, settled}
 use Rattle.jf_model.specs.declared.entries.Parent.{Parent}
 use Rattle.jf_model.specs.declared.entries.Parent.TheVariants as parent
-use Rattle.jf_forks.specs.ForkLists.{or_false_right, any_last, none_above, on_own}
+use Rattle.jf_model.proofs.ForkLists.{any_last, none_above, on_own}
 
 -- ---- which forks stay, by their parents
-
 twice : (b : Bool) → not (not b) ≡ b
 twice true = refl
 twice false = refl
@@ -62,7 +62,6 @@ stays_is bound id f fs sound up = with_parent f.parent up
         ]
 
 -- ---- which forks stand on the one that has landed
-
 fewer_settled : (p id : ℕ) (fs : List Fork) → is_among p fs ≡ false → is_among p (settled id fs) ≡ false
 fewer_settled p id [] none = refl
 fewer_settled p id (f ∷ fs) none =

@@ -7,7 +7,7 @@ ghost use Rattle.jf_hash.specs.Maps.{Map, apply};
 ghost use Rattle.jf_hash.specs.Roots.{root};
 ghost use Rattle.jf_model.specs.Batches.{key_count};
 ghost use Rattle.jf_model.specs.Forks.{batches, chain, drop_count, fork_map, is_among, parent_map};
-ghost use Rattle.jf_forks.specs.Tables.{Table, IsTable, StandsOver, forks_of, map_of, missing, missing_parent, making_fault, chain_fault, kept, landed, RefusedBy};
+ghost use Rattle.jf_forks.specs.Tables.{Table, IsTable, StandsOver, forks_of, map_of_fork, missing, missing_parent, making_fault, chain_fault, grown_without, grown_settled, RefusedBy};
 ghost use Rattle.jf_forks.specs.declared.fault.ForkFault.TheVariants as fault;
 
 use crate::chain::{chain_keys, push_chain};
@@ -95,7 +95,7 @@ impl ForkTable {
     pub fn tree(&self, id: u64) -> Result<&SpecTree, ForkFault>
         ensures refused { result_err result ≡ missing id self.now }
         ensures map { IfOk result (λ t. (m : Map) → StandsOver m self.now → t.now ≡ fork_map m (forks_of self.now.live) id) }
-        ensures kept { IfOk result (λ t. map_of id self.now.live ≡ Some t.now) }
+        ensures kept { IfOk result (λ t. map_of_fork id self.now.live ≡ Some t.now) }
     {
         if id >= self.made {
             return Err(ForkFault::Unknown);
@@ -195,9 +195,9 @@ impl ForkTable {
     pub fn drop_fork(&mut self, id: u64) -> Result<u64, ForkFault>
         ensures refused { result_err result ≡ missing id self.old }
         ensures count { IfOk result (λ n. n ≡ drop_count id (forks_of self.old.live)) }
-        ensures ok { OnOk result (self.new ≡ record { made = self.old.made; live = kept id self.old.live }) }
+        ensures ok { OnOk result (self.new ≡ record { made = self.old.made; live = grown_without id self.old.live }) }
         ensures stands { (m : Map) → StandsOver m self.old → StandsOver m self.new }
-        ensures same { (y : ℕ) → is_among y (forks_of self.new.live) ≡ true → map_of y self.new.live ≡ map_of y self.old.live }
+        ensures same { (y : ℕ) → is_among y (forks_of self.new.live) ≡ true → map_of_fork y self.new.live ≡ map_of_fork y self.old.live }
         ensures err { OnErr result (self.new ≡ self.old) }
     {
         if let Err(fault) = self.find(id) {
@@ -212,8 +212,8 @@ impl ForkTable {
     pub fn settle(&mut self, fork: Option<u64>)
         requires { IfSome fork (λ id. chain_fault id self.old ≡ None) }
         ensures none { fork ≡ None → self.new ≡ record { made = self.old.made; live = [] } }
-        ensures some { (id : ℕ) → fork ≡ Some id → self.new ≡ record { made = self.old.made; live = landed id self.old.live } }
-        ensures same { (y : ℕ) → is_among y (forks_of self.new.live) ≡ true → map_of y self.new.live ≡ map_of y self.old.live }
+        ensures some { (id : ℕ) → fork ≡ Some id → self.new ≡ record { made = self.old.made; live = grown_settled id self.old.live } }
+        ensures same { (y : ℕ) → is_among y (forks_of self.new.live) ≡ true → map_of_fork y self.new.live ≡ map_of_fork y self.old.live }
         ensures stands { (m : Map) (id : ℕ) → fork ≡ Some id → StandsOver m self.old → StandsOver (fork_map m (forks_of self.old.live) id) self.new }
     {
         match fork {

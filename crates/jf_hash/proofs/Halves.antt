@@ -1,12 +1,12 @@
 -- The hash of a range of places, from what stands in it and from the hashes of its halves.
-use Rattle.std.specs.Prelude.{◌≡◌, ℕ, zero, suc, ◌+◌, ◌-◌, ◌%◌, ◌/◌, ◌^◌, ◌<◌, ◌≤◌, List, [], ◌∷◌, length, take, drop, slice_index_or}
-use Rattle.std.proofs.Common.{refl, sym, ap, ap₂, ◌∙◌, arith, pow-suc, length-take-le, length-drop}
+use Rattle.std.specs.Prelude.{◌≡◌, ℕ, zero, suc, ◌-◌, ◌^◌, List, take, drop, ◌≤◌, [], ◌∷◌, length, slice_index_or, ◌+◌, ◌/◌, ◌<◌, ◌%◌}
+use Rattle.std.proofs.Common.{ap, arith, ap₂, ◌∙◌, pow-suc, sym, length-take-le, length-drop, refl}
 use Rattle.jf_hash.specs.Hashes.{E, N}
-use Rattle.jf_hash.specs.Slots.{Empty, Lone, Many, occupants, occupants_hash, place_hash, range_hash}
-use Rattle.jf_hash.specs.Ranges.{IsRange}
-use Rattle.jf_hash.specs.RangeLaws.{some_power, fits_all, range_level}
+use Rattle.jf_hash.specs.Slots.{Empty, occupants, occupants_hash, place_hash, range_hash, Lone, Many}
 use Rattle.jf_hash.specs.declared.slot.Slot.{Slot}
+use Rattle.jf_hash.specs.Ranges.{IsRange}
 use Rattle.jf_hash.specs.declared.slot.Slot.TheVariants as slot
+use Rattle.jf_hash.proofs.RangeLaws.{some_power, fits_all, range_level}
 
 -- the hash of a range with no more than one leaf doesn't come from its halves
 pub range_hash-empty : (level : ℕ) (slots : List Slot) → Empty ≡ occupants slots → E ≡ range_hash level slots
@@ -32,12 +32,12 @@ range_hash-one (suc (suc (suc (suc zero)))) slots d is one long small = absurd (
 range_hash-one (suc (suc (suc (suc (suc n))))) slots d is one long small = absurd (omega arith)
 
 -- `half` is the width of each half of a range of 2 ^ level places, two or more
-pub record IsHalf (level half : ℕ) : Type 0 where
+pub record IsHalfOfRange (level half : ℕ) : Type 0 where
   pub is : half ≡ 2 ^ (level - 1)
   pub twice : 2 ^ level ≡ half + half
   pub some : 1 ≤ half
 
-pub halves : (level n : ℕ) → level ≤ 4 → 0 < level → n ≡ 2 ^ level → IsHalf level (n / 2)
+pub halves : (level n : ℕ) → level ≤ 4 → 0 < level → n ≡ 2 ^ level → IsHalfOfRange level (n / 2)
 halves zero n small some is = absurd (omega arith)
 halves (suc zero) n small some is = record { is = omega arith; twice = omega arith; some = omega arith }
 halves (suc (suc zero)) n small some is = record { is = omega arith; twice = omega arith; some = omega arith }

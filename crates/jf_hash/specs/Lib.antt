@@ -1,16 +1,7 @@
 pub mod Hashes
-pub mod HashLaws
-pub mod KeyOrder
-pub mod Filters
 pub mod Maps
-pub mod MapLaws
 pub mod Parts
-pub mod Bits
 pub mod Roots
-pub mod RootLaws
-pub mod Split
 pub mod Slots
 pub mod Ranges
-pub mod SlotLaws
-pub mod RangeLaws
 pub mod Codes

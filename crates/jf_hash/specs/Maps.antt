@@ -1,7 +1,7 @@
 -- Maps from keys to values, batches of changes, and a map after a batch.
-use Rattle.std.specs.Prelude.{ℕ, Bool, T, List, [], ◌∷◌, Option, Some, None, IfSome}
+use Rattle.std.specs.Prelude.{ℕ, List, Option, T, IfSome, Some, None, [], ◌∷◌, Bool}
+use Rattle.std.specs.FinMap.{FinMap, from_sorted, entries, is_sorted}
 use Rattle.std.specs.FinMap as map
-use Rattle.std.specs.FinMap.{FinMap, entries, is_sorted}
 use Rattle.std.specs.List.{AllByRecursion}
 use Rattle.std.specs.Ordering.{eq_by_cmp}
 use Rattle.jf_path.specs.Keys.{key_cmp, IsKey, IsBytes}
@@ -9,6 +9,10 @@ use Rattle.jf_path.specs.Keys.{key_cmp, IsKey, IsBytes}
 -- a map from keys to values
 abbrev pub Map : Type 0
 Map = FinMap key_cmp (List ℕ)
+
+-- the map of entries that are in the order of their keys
+abbrev pub map_of_entries : List (List ℕ × List ℕ) → Map
+map_of_entries es = from_sorted es
 
 -- a batch of changes: for each key a value, or None to remove it
 abbrev pub Batch : Type 0

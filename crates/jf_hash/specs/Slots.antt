@@ -1,9 +1,9 @@
 -- The sixteen places of a node, and the hash of a range of them.
-use Rattle.std.specs.Prelude.{ℕ, zero, suc, ◌+◌, ◌*◌, ◌^◌, ◌==◌, List, [], ◌∷◌, map, filter, take, drop}
+use Rattle.std.specs.Prelude.{ℕ, List, [], ◌∷◌, ◌==◌, filter, ◌+◌, ◌*◌, map, zero, suc, ◌^◌, take, drop, nat_le}
 use Rattle.jf_path.specs.Nibbles.{nibble}
-use Rattle.jf_hash.specs.Hashes.{E, N}
 use Rattle.jf_hash.specs.Roots.{part_root}
 use Rattle.jf_hash.specs.declared.slot.Slot.{Slot}
+use Rattle.jf_hash.specs.Hashes.{E, N}
 use Rattle.jf_hash.specs.declared.slot.Slot.TheVariants as slot
 
 -- entries of a map, in the order of their keys
@@ -29,7 +29,6 @@ unfoldable pub slots_of : ℕ → Part → List Slot
 slots_of d es = map (λ i. slot_of (4 * (d + 1)) (with_nibble d i es)) all_nibbles
 
 -- ---- a range of places
-
 -- what a range holds: nothing, one leaf alone with its hash, or more; an internal node counts as more
 pub data Occupants : Type 0 where
   Empty : Occupants
@@ -66,3 +65,7 @@ occupants_hash Many more = more
 unfoldable pub range_hash : ℕ → List Slot → List ℕ
 range_hash zero slots = occupants_hash (occupants slots) (place_hash slots)
 range_hash (suc level) slots = occupants_hash (occupants slots) (N (range_hash level (take (2 ^ level) slots)) (range_hash level (drop (2 ^ level) slots)))
+
+-- the entries whose nibble at a depth is n or more
+abbrev pub from_nibble : {X : Type 0} → ℕ → ℕ → List (List ℕ × X) → List (List ℕ × X)
+from_nibble depth n es = filter (λ e. nat_le n (nibble e.0 depth)) es

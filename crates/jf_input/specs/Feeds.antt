@@ -1,8 +1,8 @@
 -- What a machine that takes lines makes of the lines of an input, and what it adds to a text.
-use Rattle.std.specs.Prelude.{◌≡◌, ◌⊎◌, ℕ, ◌+◌, List, [], ◌∷◌, ◌++◌, take, length, Option, Some, option_map, Result, Ok, Err}
-use Rattle.jf_io.specs.Sink.{IsCutShort}
+use Rattle.std.specs.Prelude.{ℕ, ◌+◌, List, take, ◌≡◌, [], ◌∷◌, ◌++◌, Result, Ok, Option, option_map, Some, length, Err, ◌⊎◌}
 use Rattle.jf_io.specs.Lines.{lines, whole_lines}
 use Rattle.jf_io.specs.LinesRead.{AreFirst}
+use Rattle.jf_io.specs.Sink.{IsCutShort}
 use Rattle.jf_text.specs.Words.{max_line}
 use Rattle.jf_input.specs.declared.feeding.Feeding.{Feeding}
 use Rattle.jf_input.specs.declared.feeding.Feeding.TheVariants as feeding
@@ -21,7 +21,6 @@ abbrev pub Appends : Option (List ℕ) → Option (List ℕ) → List ℕ → Ty
 Appends old new text = new ≡ option_map (λ t. t ++ text) old
 
 -- ---- how far an input was read
-
 -- this was taken of an input, and these lines are the first of it, each read to its end
 pub record HasRead (input left : List ℕ) (ls : List (List ℕ)) : Type 0 where
   pub taken : List ℕ
@@ -31,8 +30,8 @@ pub record HasRead (input left : List ℕ) (ls : List (List ℕ)) : Type 0 where
   pub lines_are : lines input ≡ ls ++ behind
 
 -- the same of a source, if it tells its bytes
-abbrev pub Reads : Option (List ℕ) → Option (List ℕ) → List (List ℕ) → Type 0
-Reads source source' ls = (input : List ℕ) → source ≡ Some input → (left : List ℕ) × (source' ≡ Some left) × HasRead input left ls
+abbrev pub ReadsLinesOf : Option (List ℕ) → Option (List ℕ) → List (List ℕ) → Type 0
+ReadsLinesOf source source' ls = (input : List ℕ) → source ≡ Some input → (left : List ℕ) × (source' ≡ Some left) × HasRead input left ls
 
 -- nothing is left, and these are all lines
 abbrev pub ReadsAll : Option (List ℕ) → Option (List ℕ) → List (List ℕ) → Type 0
@@ -43,7 +42,6 @@ abbrev pub ReadsWhole : Option (List ℕ) → Option (List ℕ) → List (List �
 ReadsWhole source source' ls = (input : List ℕ) → source ≡ Some input → (left : List ℕ) × (source' ≡ Some left) × (r : HasRead input left ls) × (length ls ≡ whole_lines r.taken)
 
 -- ---- how it ended
-
 -- at a line: what it adds was cut short, or the machine stopped in it
 abbrev pub EndsAtLine : {M F : Type 0} → (M → List ℕ → M → Result (List ℕ) F → Type 0) → Feeding F → M → List ℕ → M → Option (List ℕ) → Option (List ℕ) → Type 0
 EndsAtLine takes feeding.WriteFault old line new text text' = (t : List ℕ) × takes old line new (Ok t) × IsCutShort text text' t
@@ -53,17 +51,17 @@ EndsAtLine takes feeding.ReadFault old line new text text' = ⊥
 EndsAtLine takes feeding.Memory old line new text text' = ⊥
 
 -- behind the last line: all was added, or the same
-abbrev pub EndsBehind : {M F : Type 0} → (M → M → Result (List ℕ) F → Type 0) → Feeding F → M → M → Option (List ℕ) → Option (List ℕ) → Type 0
-EndsBehind ends feeding.Done old new text text' = (t : List ℕ) × ends old new (Ok t) × Appends text text' t
-EndsBehind ends feeding.WriteFault old new text text' = (t : List ℕ) × ends old new (Ok t) × IsCutShort text text' t
-EndsBehind ends (feeding.Stopped why) old new text text' = ends old new (Err why) × (text' ≡ text)
-EndsBehind ends feeding.ReadFault old new text text' = ⊥
-EndsBehind ends feeding.Memory old new text text' = ⊥
+abbrev pub EndsAfter : {M F : Type 0} → (M → M → Result (List ℕ) F → Type 0) → Feeding F → M → M → Option (List ℕ) → Option (List ℕ) → Type 0
+EndsAfter ends feeding.Done old new text text' = (t : List ℕ) × ends old new (Ok t) × Appends text text' t
+EndsAfter ends feeding.WriteFault old new text text' = (t : List ℕ) × ends old new (Ok t) × IsCutShort text text' t
+EndsAfter ends (feeding.Stopped why) old new text text' = ends old new (Err why) × (text' ≡ text)
+EndsAfter ends feeding.ReadFault old new text text' = ⊥
+EndsAfter ends feeding.Memory old new text text' = ⊥
 
 -- between two lines: the source failed, or there was no memory for the next line
 abbrev pub EndsBetween : {F : Type 0} → Feeding F → Option (List ℕ) → Option (List ℕ) → List (List ℕ) → Type 0
 EndsBetween feeding.ReadFault source source' done = ReadsWhole source source' done
-EndsBetween feeding.Memory source source' done = Reads source source' done
+EndsBetween feeding.Memory source source' done = ReadsLinesOf source source' done
 EndsBetween feeding.Done source source' done = ⊥
 EndsBetween feeding.WriteFault source source' done = ⊥
 EndsBetween (feeding.Stopped why) source source' done = ⊥
@@ -77,5 +75,5 @@ pub record Fed {M F : Type 0} (takes : M → List ℕ → M → Result (List ℕ
   pub text_so_far : Option (List ℕ)
   pub written : Appends text text_so_far said
   pub ended : ((new ≡ mid) × (text' ≡ text_so_far) × EndsBetween how source source' done)
-      ⊎ ((line : List ℕ) × EndsAtLine takes how mid line new text_so_far text' × Reads source source' (done ++ line ∷ []))
-      ⊎ (EndsBehind ends how mid new text_so_far text' × ReadsAll source source' done)
+      ⊎ ((line : List ℕ) × EndsAtLine takes how mid line new text_so_far text' × ReadsLinesOf source source' (done ++ line ∷ []))
+      ⊎ (EndsAfter ends how mid new text_so_far text' × ReadsAll source source' done)

@@ -1,6 +1,7 @@
 // The lines of a source, taken by a machine, and what they add, written into a sink.
-ghost use Rattle.std.specs.Prelude.{◌≡◌, ◌⊎◌, ◌-◌, ◌<◌, ◌≤◌, ◌^◌, Err, OnOk, IfErr, List, ℕ, Ok};
-ghost use Rattle.jf_input.specs.Feeds.{given_of, Appends, EndsAtLine, EndsBehind, Fed};
+ghost use Rattle.std.specs.Prelude.{◌≡◌, ◌-◌, ◌<◌, ◌≤◌, ◌^◌, Err, OnOk, IfErr, List, ℕ, Ok};
+ghost use Rattle.jf_path.specs.Faults.{HasCause};
+ghost use Rattle.jf_input.specs.Feeds.{given_of, Appends, EndsAtLine, EndsAfter, Fed};
 
 use crate::machine::LineMachine;
 use jf_io::{FetchFault, LineReader, Sink, Source, put_all};
@@ -32,8 +33,8 @@ pub fn feed<M: LineMachine, S: Source, K: Sink>(
 ) -> Feeding<M::Stop>
     requires { M.ready machine.old }
     ensures fed { Fed M.takes M.ends result machine.old machine.new (S.rest source.old) (S.rest source.new) (K.text sink.old) (K.text sink.new) }
-    ensures read { result ≡ Feeding.ReadFault → (S.faults source.old < S.faults source.new) ⊎ (S.faults source.old ≡ 2 ^ 64 - 1) }
-    ensures write { result ≡ Feeding.WriteFault → (K.faults sink.old < K.faults sink.new) ⊎ (K.faults sink.old ≡ 2 ^ 64 - 1) }
+    ensures read { result ≡ Feeding.ReadFault → HasCause (S.faults source.old) (S.faults source.new) }
+    ensures write { result ≡ Feeding.WriteFault → HasCause (K.faults sink.old) (K.faults sink.new) }
     ensures source_counts { S.faults source.old ≤ S.faults source.new }
     ensures sink_counts { K.faults sink.old ≤ K.faults sink.new }
 {
@@ -73,7 +74,7 @@ fn feed_line<M: LineMachine, K: Sink>(
     ensures ready { OnOk result (M.ready machine.new) }
     ensures err { (whole : List ℕ) → line.now ≡ given_of whole → IfErr result (λ how. EndsAtLine M.takes how machine.old whole machine.new (K.text sink.old) (K.text sink.new)) }
     ensures read { result ≡ Err Feeding.ReadFault → ⊥ }
-    ensures write { result ≡ Err Feeding.WriteFault → (K.faults sink.old < K.faults sink.new) ⊎ (K.faults sink.old ≡ 2 ^ 64 - 1) }
+    ensures write { result ≡ Err Feeding.WriteFault → HasCause (K.faults sink.old) (K.faults sink.new) }
     ensures grows { K.faults sink.old ≤ K.faults sink.new }
 {
     out.clear();
@@ -95,8 +96,8 @@ fn feed_end<M: LineMachine, K: Sink>(
     out: &mut Bytes,
 ) -> Feeding<M::Stop>
     requires { M.ready machine.old }
-    ensures ended { EndsBehind M.ends result machine.old machine.new (K.text sink.old) (K.text sink.new) }
-    ensures write { result ≡ Feeding.WriteFault → (K.faults sink.old < K.faults sink.new) ⊎ (K.faults sink.old ≡ 2 ^ 64 - 1) }
+    ensures ended { EndsAfter M.ends result machine.old machine.new (K.text sink.old) (K.text sink.new) }
+    ensures write { result ≡ Feeding.WriteFault → HasCause (K.faults sink.old) (K.faults sink.new) }
     ensures grows { K.faults sink.old ≤ K.faults sink.new }
 {
     out.clear();

@@ -1,9 +1,9 @@
 -- Lines with their line feeds, and the bytes after them.
-use Rattle.std.proofs.Common.{◌≡◌, ℕ, ◌+◌, ◌<◌, cond, List, [], ◌∷◌, ◌++◌, length, refl, sym, ap, ◌∙◌, arith, append_assoc}
+use Rattle.std.proofs.Common.{◌≡◌, ℕ, ◌+◌, List, [], ◌∷◌, ◌++◌, refl, sym, ap, ◌∙◌, append_assoc, cond, ◌<◌, length, arith}
 use Rattle.std.specs.List.{AllByRecursion, onto_first}
+use Rattle.jf_io.specs.Inputs.{ended, IsPlain}
 use Rattle.jf_io.specs.Lines.{lines, whole_lines}
 use Rattle.jf_io.proofs.WholeLines.{whole_lines-cons}
-use Rattle.jf_io.specs.Inputs.{IsPlain, ended}
 
 pub ended-more : (ls : List (List ℕ)) (l : List ℕ) → ended (ls ++ l ∷ []) ≡ ended ls ++ (l ++ 10 ∷ [])
 ended-more [] l = refl
@@ -14,10 +14,9 @@ plain_more [] l a p = (p, tt)
 plain_more (k ∷ ls) l a p = (a.0, plain_more ls l a.1 p)
 
 -- ---- lines
-
-pub lines_nil : lines [] ≡ []
+pub lines-none : lines [] ≡ []
 unfolding lines
-lines_nil = refl
+lines-none = refl
 
 pub lines_one : (l x : List ℕ) → IsPlain l → lines (l ++ 10 ∷ x) ≡ l ∷ lines x
 unfolding lines
@@ -40,7 +39,6 @@ last_lines ls [] p q some = absurd (omega arith)
 last_lines ls (b ∷ l) p q some = lines_front ls (b ∷ l) p ∙ ap (λ t. ls ++ t) (lines_last b l q)
 
 -- ---- how many end with a line feed
-
 whole_one : (l x : List ℕ) → IsPlain l → whole_lines (l ++ 10 ∷ x) ≡ 1 + whole_lines x
 whole_one [] x p = whole_lines-cons 10 x
 whole_one (b ∷ l) x p = whole_lines-cons b (l ++ 10 ∷ x) ∙ ap (λ t. cond t 1 0 + whole_lines (l ++ 10 ∷ x)) p.0 ∙ omega (arith, whole_one l x p.1)

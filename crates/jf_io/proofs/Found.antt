@@ -1,21 +1,21 @@
 -- A line at the front of what is held is the first line of the bytes held and still to come.
-use Rattle.std.proofs.Common.{◌≡◌, ◌⊎◌, inl, inr, ℕ, ◌+◌, ◌<◌, List, [], ◌∷◌, ◌++◌, drop, length, Option, Some, refl, sym, ap, ◌∙◌, arith, append_assoc, append-nil, eq-or-lt_of_le}
+use Rattle.std.proofs.Common.{inl, inr, ℕ, List, Option, ◌≡◌, ◌⊎◌, ◌<◌, [], length, Some, eq-or-lt_of_le, arith, ◌+◌, drop, ap, ◌∙◌, ◌∷◌, ◌++◌, append_assoc, sym, append-nil, refl}
 use Rattle.std.proofs.lemmas.List.{drop_all}
-use Rattle.std.specs.List.{position_or_len, before_first, after_first}
-use Rattle.jf_io.specs.LineReader.{is_line_feed, IsShortened}
-use Rattle.jf_io.proofs.Shortened.{finished-text, some-text}
+use Rattle.std.specs.List.{position_or_len, after_first, before_first}
+use Rattle.jf_io.specs.LineReader.{IsShortened, is_line_feed}
+use Rattle.jf_io.specs.Inputs.{IsLineFound, IsPlain}
 use Rattle.jf_io.specs.Lines.{lines}
-use Rattle.jf_io.specs.Inputs.{IsPlain, IsFound}
+use Rattle.jf_io.proofs.Shortened.{finished-text, some-text}
 use Rattle.jf_io.proofs.Plain.{place_le, front_plain, front_split, front_whole, held_plain}
-use Rattle.jf_io.proofs.EndedLines.{lines_nil, lines_one, lines_last}
+use Rattle.jf_io.proofs.EndedLines.{lines_one, lines_last, lines-none}
 
 -- a line that is found in a shortened text is found in the whole text
-pub found_whole : (limit : ℕ) (source : Option (List ℕ)) (whole held : List ℕ) → IsShortened limit whole held → IsFound held source → IsFound whole source
+pub found_whole : (limit : ℕ) (source : Option (List ℕ)) (whole held : List ℕ) → IsShortened limit whole held → IsLineFound held source → IsLineFound whole source
 found_whole limit source whole held short (inl cut) = inl (finished-text limit whole held short cut)
 found_whole limit source whole held short (inr last) = inr (some-text limit whole held short last.0, last.1)
 
 -- the line found ends with a line feed, or no byte is still to come
-pub where_of : (held : List ℕ) (rest : Option (List ℕ)) → IsFound held rest
+pub where_of : (held : List ℕ) (rest : Option (List ℕ)) → IsLineFound held rest
     → (position_or_len is_line_feed held < length held) ⊎ ((position_or_len is_line_feed held ≡ length held) × (0 < length held) × ((left : List ℕ) → rest ≡ Some left → left ≡ []))
 where_of held rest (inl cut) = inl cut
 where_of held rest (inr last) = elim (eq-or-lt_of_le (place_le held)) [ inl whole ↦ inr (whole, last.0, last.1) | inr cut ↦ inl cut ]
@@ -23,7 +23,7 @@ where_of held rest (inr last) = elim (eq-or-lt_of_le (place_le held)) [ inl whol
 pub cut_of : (held : List ℕ) → (position_or_len is_line_feed held ≡ length held → ⊥) → position_or_len is_line_feed held < length held
 cut_of held more = elim (eq-or-lt_of_le (place_le held)) [ inl whole ↦ absurd (more whole) | inr cut ↦ cut ]
 
-pub last_of : (held : List ℕ) (rest : Option (List ℕ)) → position_or_len is_line_feed held ≡ length held → IsFound held rest
+pub last_of : (held : List ℕ) (rest : Option (List ℕ)) → position_or_len is_line_feed held ≡ length held → IsLineFound held rest
     → (position_or_len is_line_feed held ≡ length held) × (0 < length held) × ((left : List ℕ) → rest ≡ Some left → left ≡ [])
 last_of held rest whole (inl cut) = absurd (omega arith)
 last_of held rest whole (inr last) = (whole, last.0, last.1)
@@ -45,10 +45,10 @@ one_line (b ∷ l) p some = lines_last b l p
 last_line : (held : List ℕ) → position_or_len is_line_feed held ≡ length held → 0 < length held → lines (held ++ []) ≡ before_first is_line_feed held ∷ lines (after_first is_line_feed held ++ [])
 last_line held whole some =
     ap lines (append-nil held) ∙ one_line held (held_plain held whole) some ∙ ap (λ l. l ∷ []) (sym (front_whole held whole))
-    ∙ ap (λ ls. before_first is_line_feed held ∷ ls) (sym (ap (λ a. lines (a ++ [])) (after_whole held whole) ∙ lines_nil))
+    ∙ ap (λ ls. before_first is_line_feed held ∷ ls) (sym (ap (λ a. lines (a ++ [])) (after_whole held whole) ∙ lines-none))
 
 -- the lines to come are the one that was found and those after it
-pub lines_found : (held left : List ℕ) → IsFound held (Some left) → lines (held ++ left) ≡ before_first is_line_feed held ∷ lines (after_first is_line_feed held ++ left)
+pub lines_found : (held left : List ℕ) → IsLineFound held (Some left) → lines (held ++ left) ≡ before_first is_line_feed held ∷ lines (after_first is_line_feed held ++ left)
 lines_found held left found = elim (where_of held (Some left) found) [
   | inl cut ↦ cut_line held left cut
   | inr last ↦ let none : left ≡ [] = last.2 left refl in

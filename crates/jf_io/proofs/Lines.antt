@@ -1,11 +1,11 @@
 -- The first line feed of a list, sought from a later offset, or after bytes were moved or appended.
-use Rattle.std.proofs.Common.{◌≡◌, Option, Some, None, append_assoc, length-take, inl, inr, eq-or-lt_of_le, ℕ, zero, suc, ◌+◌, ◌-◌, ◌<◌, ◌≤◌, Bool, true, false, cond, not, List, [], ◌∷◌, ◌++◌, length, take, drop, refl, sym, ◌∙◌, ap, arith, length-drop}
-use Rattle.std.specs.Prelude.{option_map, unwrap_or, IfSome}
-use Rattle.std.specs.List.{position, position_or_len}
 use lib.Dec.{ltb}
-use Rattle.std.proofs.lemmas.List.{take_all, take-append-drop, take-append-le, drop-drop}
+use Rattle.std.specs.Prelude.{unwrap_or, option_map, IfSome}
+use Rattle.std.proofs.Common.{◌≡◌, ℕ, suc, ◌+◌, ◌≤◌, Bool, true, false, cond, arith, Some, None, zero, not, List, [], ◌∷◌, drop, ◌-◌, ◌++◌, ap, length, length-take, take, sym, ◌∙◌, length-drop, Option, append_assoc, refl, inl, inr, eq-or-lt_of_le, ◌<◌}
 use Rattle.std.proofs.lemmas.Bool.Decides.{nat_tests}
+use Rattle.std.proofs.lemmas.List.{drop-drop, take-append-drop, take_all, take-append-le}
 use Rattle.std.proofs.lemmas.List.Sums.{prefix_len-le-length}
+use Rattle.std.specs.List.{position_or_len, position}
 use Rattle.jf_io.specs.LineReader.{is_line_feed, IsSearched}
 
 cond_from : (b : Bool) (k r s : ℕ) → suc k ≤ cond b (1 + r) 0 → (k ≤ r → r ≡ k + s) → cond b (1 + r) 0 ≡ suc k + s
@@ -63,10 +63,10 @@ is_searched-moved bytes held new start searched s same front =
     }
 
 -- a piece appended to held bytes, given by a source whose bytes are known
-pub kept_behind : (before after : Option (List ℕ)) (held items buf room rest : List ℕ) (n : ℕ) → before ≡ Some rest
+pub kept_after : (before after : Option (List ℕ)) (held items buf room rest : List ℕ) (n : ℕ) → before ≡ Some rest
     → after ≡ option_map (drop n) before → IfSome before (λ all. (n ≤ length all) × (buf ≡ take n all ++ drop n room)) → items ≡ held ++ take n buf
     → (left : List ℕ) × (after ≡ Some left) × (items ++ left ≡ held ++ rest)
-kept_behind before after held items buf room rest n told moved given put =
+kept_after before after held items buf room rest n told moved given put =
     let now : (n ≤ length rest) × (buf ≡ take n rest ++ drop n room) = rw told at given in
     let fits : n ≤ length rest = now.0 in
     let front : take n buf ≡ take n rest = rw (now.1, take-append-le n (take n rest) (drop n room) (omega (arith, length-take n rest)), take_all n (take n rest) (omega (arith, length-take n rest))) refl in (

@@ -1,24 +1,23 @@
 -- A text whose first line is held shortened: what follows for the text from what is held.
-use Rattle.std.proofs.Common.{◌≡◌, ◌⊎◌, inl, inr, ℕ, zero, suc, ◌+◌, ◌<◌, ◌≤◌, Bool, true, false, cond, not, List, [], ◌∷◌, ◌++◌, length, take, drop, Option, Some, refl, sym, ◌∙◌, ap, subst, arith, append_assoc, append-nil, length-append, length-take, length-drop}
-use Rattle.std.specs.List.{position_or_len, before_first, after_first}
-use Rattle.std.proofs.lemmas.List.{take-append-drop, take-append-le, take-take, drop-take}
+use Rattle.std.proofs.Common.{ℕ, ◌≤◌, Bool, not, List, length, ◌≡◌, suc, ◌+◌, true, false, cond, arith, [], ◌∷◌, ◌++◌, refl, take, drop, ◌∙◌, ap, length-take, length-drop, length-append, ◌<◌, sym, ◌⊎◌, inl, inr, append-nil, append_assoc, zero, Option, subst, Some}
+use Rattle.std.proofs.lemmas.List.{take-append-drop, drop-take, take-append-le, take-take}
 use Rattle.std.proofs.lemmas.List.Sums.{prefix_len-le-length}
-use Rattle.jf_io.specs.LineReader.{is_line_feed, IsSearched, Held, IsShortened, IsFetched}
+use Rattle.std.specs.List.{position_or_len, after_first, before_first}
+use Rattle.jf_io.specs.LineReader.{is_line_feed, IsSearched, IsShortened, IsFetched, Held}
 
 place_le : (p : ℕ → Bool) (xs : List ℕ) → position_or_len p xs ≤ length xs
 place_le p xs = prefix_len-le-length (λ x. not (p x)) xs
 
 -- ---- lists in which no place passes
-
-behind_plain : (b : Bool) (n r s t : ℕ) → cond b (1 + r) 0 ≡ suc n → (r ≡ n → s ≡ n + t) → cond b (1 + s) 0 ≡ suc n + t
-behind_plain true n r s t h f = let same : s ≡ n + t = f (omega arith) in omega arith
-behind_plain false n r s t h f = absurd (omega arith)
+after_plain : (b : Bool) (n r s t : ℕ) → cond b (1 + r) 0 ≡ suc n → (r ≡ n → s ≡ n + t) → cond b (1 + s) 0 ≡ suc n + t
+after_plain true n r s t h f = let same : s ≡ n + t = f (omega arith) in omega arith
+after_plain false n r s t h f = absurd (omega arith)
 
 -- the first passing place of xs ++ ys, if no place of xs passes, is found in ys
 pub position_or_len-append : (p : ℕ → Bool) (xs ys : List ℕ) → position_or_len p xs ≡ length xs → position_or_len p (xs ++ ys) ≡ length xs + position_or_len p ys
 position_or_len-append p [] ys h = omega arith
 position_or_len-append p (x ∷ xs) ys h =
-    behind_plain (not (p x)) (length xs) (position_or_len p xs) (position_or_len p (xs ++ ys)) (position_or_len p ys) h (position_or_len-append p xs ys)
+    after_plain (not (p x)) (length xs) (position_or_len p xs) (position_or_len p (xs ++ ys)) (position_or_len p ys) h (position_or_len-append p xs ys)
 
 front_cond : (b : Bool) (n r s : ℕ) → suc n ≤ cond b (1 + s) 0 → (n ≤ s → r ≡ n) → cond b (1 + r) 0 ≡ suc n
 front_cond true n r s h f = let same : r ≡ n = f (omega arith) in omega arith
@@ -52,18 +51,17 @@ is_searched-short bytes new start limit searched plain fits is at =
       without_feed = omega (arith, length-take (limit + 1) (drop start bytes), length-drop start bytes);
     }
 
-drop_behind : (xs ys : List ℕ) (k : ℕ) → drop (length xs + k) (xs ++ ys) ≡ drop k ys
-drop_behind [] ys k = ap (λ n. drop n ys) (let e : 0 + k ≡ k = omega arith in e)
-drop_behind (x ∷ xs) ys k = ap (λ n. drop n (x ∷ xs ++ ys)) (let e : suc (length xs) + k ≡ suc (length xs + k) = omega arith in e) ∙ drop_behind xs ys k
+drop_after : (xs ys : List ℕ) (k : ℕ) → drop (length xs + k) (xs ++ ys) ≡ drop k ys
+drop_after [] ys k = ap (λ n. drop n ys) (let e : 0 + k ≡ k = omega arith in e)
+drop_after (x ∷ xs) ys k = ap (λ n. drop n (x ∷ xs ++ ys)) (let e : suc (length xs) + k ≡ suc (length xs + k) = omega arith in e) ∙ drop_after xs ys k
 
-after_behind : (xs ys : List ℕ) → position_or_len is_line_feed xs ≡ length xs → after_first is_line_feed (xs ++ ys) ≡ after_first is_line_feed ys
-after_behind xs ys h =
+after_after : (xs ys : List ℕ) → position_or_len is_line_feed xs ≡ length xs → after_first is_line_feed (xs ++ ys) ≡ after_first is_line_feed ys
+after_after xs ys h =
     let place = position_or_len-append is_line_feed xs ys h in
     ap (λ n. drop n (xs ++ ys)) (let e : position_or_len is_line_feed (xs ++ ys) + 1 ≡ length xs + (position_or_len is_line_feed ys + 1) = omega arith in e)
-    ∙ drop_behind xs ys (position_or_len is_line_feed ys + 1)
+    ∙ drop_after xs ys (position_or_len is_line_feed ys + 1)
 
 -- ---- a text and what is held of it
-
 -- a text held whole
 pub is_shortened-whole : (limit : ℕ) (text : List ℕ) → IsShortened limit text text
 is_shortened-whole limit text = record { front = []; gone = []; behind = text; text_is = refl; held_is = refl; is_plain = refl; is_long = λ some. absurd (omega arith) }
@@ -97,8 +95,8 @@ module _ (limit : ℕ) (text held : List ℕ) (s : IsShortened limit text held) 
 
   pub after_first-text : after_first is_line_feed text ≡ after_first is_line_feed held
   after_first-text =
-      ap (after_first is_line_feed) s.text_is ∙ after_behind (s.front ++ s.gone) s.behind s.is_plain
-      ∙ sym (ap (after_first is_line_feed) s.held_is ∙ after_behind s.front s.behind front_is_plain)
+      ap (after_first is_line_feed) s.text_is ∙ after_after (s.front ++ s.gone) s.behind s.is_plain
+      ∙ sym (ap (after_first is_line_feed) s.held_is ∙ after_after s.front s.behind front_is_plain)
 
   -- the first line is held whole, or both it and what is held of it are longer than the limit
   pub first_line-text : (before_first is_line_feed text ≡ before_first is_line_feed held) ⊎ ((limit < length (before_first is_line_feed text)) × (limit < length (before_first is_line_feed held)))
@@ -164,9 +162,8 @@ module _ (limit : ℕ) (text held : List ℕ) (s : IsShortened limit text held) 
       }
 
 -- ---- pieces taken from a source
-
-same_behind : (xs a b : List ℕ) → xs ++ a ≡ xs ++ b → a ≡ b
-same_behind xs a b e = sym (drop_behind xs a 0) ∙ ap (drop (length xs + 0)) e ∙ drop_behind xs b 0
+same_after : (xs a b : List ℕ) → xs ++ a ≡ xs ++ b → a ≡ b
+same_after xs a b e = sym (drop_after xs a 0) ∙ ap (drop (length xs + 0)) e ∙ drop_after xs b 0
 
 -- no piece was taken yet
 pub is_fetched-none : (limit : ℕ) (text held : List ℕ) (source : Option (List ℕ)) → IsShortened limit text held → IsFetched limit text held source source
@@ -189,7 +186,7 @@ is_fetched-more limit text held held' before mid after f plain front kept =
       given = λ rest told.
           let i = f.given rest told in
           let k = kept i.0 i.1 in
-          let cut : more ++ k.0 ≡ i.0 = same_behind short (more ++ k.0) i.0 (sym (append_assoc short more k.0) ∙ ap (λ t. t ++ k.0) whole ∙ k.2) in
+          let cut : more ++ k.0 ≡ i.0 = same_after short (more ++ k.0) i.0 (sym (append_assoc short more k.0) ∙ ap (λ t. t ++ k.0) whole ∙ k.2) in
           (k.0, k.1, i.2 ∙ ap (λ t. f.taken ++ t) (sym cut) ∙ sym (append_assoc f.taken more k.0));
     }
 

@@ -1,5 +1,5 @@
 -- What was put into a sink in several calls, and a count of faults that rose in one of them.
-use Rattle.std.proofs.Common.{◌≡◌, ◌⊎◌, inl, inr, ℕ, ◌-◌, ◌<◌, ◌≤◌, ◌^◌, Option, Some, None, option_map, List, [], ◌++◌, refl, sym, ap, ◌∙◌, arith, append_assoc, append-nil, eq-or-lt_of_le}
+use Rattle.std.proofs.Common.{◌≡◌, ℕ, ◌-◌, Option, Some, None, option_map, List, [], ◌++◌, refl, sym, ap, append-nil, append_assoc, ◌⊎◌, inl, inr, ◌<◌, ◌≤◌, ◌^◌, ◌∙◌, arith, eq-or-lt_of_le}
 
 -- if nothing was put, the text is unchanged
 pub nothing_written : (text : Option (List ℕ)) → text ≡ option_map (λ t. t ++ []) text
@@ -12,6 +12,6 @@ written_more None a b = refl
 written_more (Some t) a b = ap (λ x. Some x) (append_assoc t a b)
 
 -- a count that rose in a later call rose in all
-pub rose_behind : (a b c : ℕ) → a ≤ b → b ≤ c → (b < c) ⊎ (b ≡ 2 ^ 64 - 1) → (a < c) ⊎ (a ≡ 2 ^ 64 - 1)
-rose_behind a b c le le' (inl lt) = inl (omega arith)
-rose_behind a b c le le' (inr last) = elim (eq-or-lt_of_le le) [ inl same ↦ inr (same ∙ last) | inr lt ↦ inl (omega arith) ]
+pub rose_after : (a b c : ℕ) → a ≤ b → b ≤ c → (b < c) ⊎ (b ≡ 2 ^ 64 - 1) → (a < c) ⊎ (a ≡ 2 ^ 64 - 1)
+rose_after a b c le le' (inl lt) = inl (omega arith)
+rose_after a b c le le' (inr last) = elim (eq-or-lt_of_le le) [ inl same ↦ inr (same ∙ last) | inr lt ↦ inl (omega arith) ]

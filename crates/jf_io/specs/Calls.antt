@@ -1,5 +1,5 @@
 -- The calls of a source or a sink in memory, numbered from 0, of which listed ones fail.
-use Rattle.std.specs.Prelude.{ℕ, ◌+◌, ◌-◌, ◌^◌, min, List, Contains}
+use Rattle.std.specs.Prelude.{ℕ, List, ◌+◌, ◌-◌, ◌^◌, min, Contains}
 
 -- the calls made so far, and the numbers of those that fail
 pub record CallsMade : Type 0 where
@@ -11,8 +11,8 @@ pub record CallsMade : Type 0 where
   pub faults : ℕ
 
 -- a count of 64 bits after one more call: it stays at the greatest number
-abbrev pub counted : ℕ → ℕ
-counted n = min (n + 1) (2 ^ 64 - 1)
+abbrev pub counted_up : ℕ → ℕ
+counted_up n = min (n + 1) (2 ^ 64 - 1)
 
 -- the number of the next call is listed
 abbrev pub IsNextListed : CallsMade → Type 0
@@ -20,8 +20,8 @@ IsNextListed calls = Contains calls.failing calls.made
 
 -- after a call that succeeded
 abbrev pub after_success : CallsMade → CallsMade
-after_success calls = record calls { made = counted calls.made }
+after_success calls = record calls { made = counted_up calls.made }
 
 -- after a call that failed
 abbrev pub after_fault : CallsMade → CallsMade
-after_fault calls = record calls { made = counted calls.made; faults = counted calls.faults }
+after_fault calls = record calls { made = counted_up calls.made; faults = counted_up calls.faults }

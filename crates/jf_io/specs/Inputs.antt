@@ -1,5 +1,5 @@
 -- Bytes as lines, and where the line at the front of what is held ends.
-use Rattle.std.specs.Prelude.{◌≡◌, ◌⊎◌, ℕ, ◌<◌, false, ◌==◌, List, [], ◌∷◌, ◌++◌, length, Option, Some}
+use Rattle.std.specs.Prelude.{◌≡◌, ℕ, false, ◌==◌, List, [], ◌∷◌, ◌++◌, ◌⊎◌, ◌<◌, length, Option, Some}
 use Rattle.std.specs.List.{AllByRecursion, position_or_len}
 use Rattle.jf_io.specs.LineReader.{is_line_feed}
 
@@ -13,5 +13,5 @@ ended [] = []
 ended (l ∷ ls) = l ++ 10 ∷ ended ls
 
 -- a line stands at the front of what is held: it ends with a line feed, or the source is at its end
-abbrev pub IsFound : List ℕ → Option (List ℕ) → Type 0
-IsFound held source = (position_or_len is_line_feed held < length held) ⊎ ((0 < length held) × ((left : List ℕ) → source ≡ Some left → left ≡ []))
+abbrev pub IsLineFound : List ℕ → Option (List ℕ) → Type 0
+IsLineFound held source = (position_or_len is_line_feed held < length held) ⊎ ((0 < length held) × ((left : List ℕ) → source ≡ Some left → left ≡ []))

@@ -1,5 +1,6 @@
 // The calls of a source or a sink in memory are counted, and a list says which of them fail.
-ghost use Rattle.std.specs.Prelude.{◌≡◌, ◌⊎◌, ◌↔◌, ◌-◌, ◌<◌, ◌≤◌, ◌^◌, IsTrue, Contains};
+ghost use Rattle.std.specs.Prelude.{◌≡◌, ◌↔◌, ◌-◌, ◌<◌, ◌≤◌, ◌^◌, IsTrue, Contains};
+ghost use Rattle.jf_path.specs.Faults.{HasCause};
 ghost use Rattle.jf_io.specs.Calls.{CallsMade, IsNextListed, after_success, after_fault};
 
 use crate::failed::IoFailed;
@@ -60,7 +61,7 @@ impl Calls {
     pub(crate) fn fail(&mut self) -> IoFailed
         ensures counted { self.new ≡ after_fault self.old }
         ensures grows { self.old.faults ≤ self.new.faults }
-        ensures rises { (self.old.faults < self.new.faults) ⊎ (self.old.faults ≡ 2 ^ 64 - 1) }
+        ensures rises { HasCause self.old.faults self.new.faults }
     {
         self.made = self.made.saturating_add(1);
         self.faults = self.faults.saturating_add(1);

@@ -1,6 +1,7 @@
 // Lines of input: a line is the bytes up to a line feed (10), which is no part of it. The last line may lack one.
 ghost use Rattle.std.specs.Prelude.{◌≡◌, ◌==◌, ◌⊎◌, ◌↔◌, ℕ, ◌+◌, ◌-◌, ◌<◌, ◌≤◌, ◌^◌, List, [], ◌++◌, length, take, drop, true, false, Some, Ok, Err, IfOk, OnOk, OnErr, IsTrue, vec_len};
 ghost use Rattle.std.specs.List.{position, position_or_len, before_first, after_first};
+ghost use Rattle.jf_path.specs.Faults.{HasCause};
 ghost use Rattle.jf_io.specs.LineReader.{is_line_feed, IsSearched, IsShortened, IsFetched};
 
 use crate::source::Source;
@@ -73,7 +74,7 @@ impl LineReader {
         ensures found { result ≡ Ok true → (position_or_len is_line_feed self.new.bytes < length self.new.bytes) ⊎ ((0 < length self.new.bytes) × ((left : List ℕ) → S.rest source.new ≡ Some left → left ≡ [])) }
         ensures ended { result ≡ Ok false → (self.new.bytes ≡ []) × ((left : List ℕ) → S.rest source.new ≡ Some left → left ≡ []) }
         ensures unfinished { result ≡ Err FetchFault.ReadFault → position_or_len is_line_feed self.new.bytes ≡ length self.new.bytes }
-        ensures cause { result ≡ Err FetchFault.ReadFault → (S.faults source.old < S.faults source.new) ⊎ (S.faults source.old ≡ 2 ^ 64 - 1) }
+        ensures cause { result ≡ Err FetchFault.ReadFault → HasCause (S.faults source.old) (S.faults source.new) }
         ensures grows { S.faults source.old ≤ S.faults source.new }
     {
         loop {
@@ -156,7 +157,7 @@ impl LineReader {
         ensures end { IfOk result (λ n. n ≡ 0 → (self.new ≡ self.old) × ((left : List ℕ) → S.rest source.new ≡ Some left → left ≡ [])) }
         ensures given { IfOk result (λ n. S.given source.new ≡ S.given source.old + n) }
         ensures bounded { OnOk result (S.given source.new < 2 ^ 64) }
-        ensures cause { result ≡ Err FetchFault.ReadFault → (S.faults source.old < S.faults source.new) ⊎ (S.faults source.old ≡ 2 ^ 64 - 1) }
+        ensures cause { result ≡ Err FetchFault.ReadFault → HasCause (S.faults source.old) (S.faults source.new) }
         ensures grows { S.faults source.old ≤ S.faults source.new }
     {
         drop_front(&mut self.bytes, self.start);
@@ -212,7 +213,7 @@ fn append_piece<S: Source>(bytes: &mut Vec<u8>, source: &mut S) -> Result<usize,
     ensures end { IfOk result (λ n. n ≡ 0 → (bytes.new.items ≡ bytes.old.items) × ((left : List ℕ) → S.rest source.new ≡ Some left → left ≡ [])) }
     ensures given { IfOk result (λ n. S.given source.new ≡ S.given source.old + n) }
     ensures bounded { OnOk result (S.given source.new < 2 ^ 64) }
-    ensures cause { result ≡ Err FetchFault.ReadFault → (S.faults source.old < S.faults source.new) ⊎ (S.faults source.old ≡ 2 ^ 64 - 1) }
+    ensures cause { result ≡ Err FetchFault.ReadFault → HasCause (S.faults source.old) (S.faults source.new) }
     ensures grows { S.faults source.old ≤ S.faults source.new }
 {
     let len = bytes.len();

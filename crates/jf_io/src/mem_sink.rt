@@ -1,5 +1,6 @@
 // A sink in memory, for tests: it can be made to fail at listed calls, and to take few bytes a call.
-ghost use Rattle.std.specs.Prelude.{◌≡◌, ◌⊎◌, ◌↔◌, ◌+◌, ◌-◌, ◌<◌, ◌≤◌, ◌^◌, [], ◌++◌, length, take, Some, IfOk, OnErr, IsErr, IsTrue, option_map};
+ghost use Rattle.std.specs.Prelude.{◌≡◌, ◌↔◌, ◌+◌, ◌-◌, ◌<◌, ◌≤◌, ◌^◌, [], ◌++◌, length, take, Some, IfOk, OnErr, IsErr, IsTrue, option_map};
+ghost use Rattle.jf_path.specs.Faults.{HasCause};
 ghost use Rattle.jf_io.specs.MemSink.{Output, FailsNextPut, next_put_amount, after_put, after_failed_put};
 
 use crate::calls::Calls;
@@ -74,7 +75,7 @@ impl Sink for MemSink {
         ensures text { IfOk result (λ n. Some self.new.text ≡ option_map (λ t. t ++ take n bytes.now) (Some self.old.text)) }
         ensures same { OnErr result (Some self.new.text ≡ Some self.old.text) }
         ensures grows { self.old.calls.faults ≤ self.new.calls.faults }
-        ensures cause { IsErr result → (self.old.calls.faults < self.new.calls.faults) ⊎ (self.old.calls.faults ≡ 2 ^ 64 - 1) }
+        ensures cause { IsErr result → HasCause self.old.calls.faults self.new.calls.faults }
 
         // What this sink does.
         ensures fails { IsErr result ↔ FailsNextPut self.old }

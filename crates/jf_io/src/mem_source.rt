@@ -1,5 +1,6 @@
 // A source in memory, for tests: it can be made to fail at listed calls, and to give few bytes a call.
-ghost use Rattle.std.specs.Prelude.{◌≡◌, ◌⊎◌, ◌↔◌, ◌+◌, ◌-◌, ◌<◌, ◌≤◌, ◌^◌, [], ◌++◌, length, take, drop, Some, IfSome, IfOk, OnOk, OnErr, IsErr, IsTrue, option_map};
+ghost use Rattle.std.specs.Prelude.{◌≡◌, ◌↔◌, ◌+◌, ◌-◌, ◌<◌, ◌≤◌, ◌^◌, [], ◌++◌, length, take, drop, Some, IfSome, IfOk, OnOk, OnErr, IsErr, IsTrue, option_map};
+ghost use Rattle.jf_path.specs.Faults.{HasCause};
 ghost use Rattle.jf_io.specs.MemSource.{Input, FailsNextTake, next_take_amount, after_take, after_failed_take};
 
 use crate::calls::Calls;
@@ -72,7 +73,7 @@ impl Source for MemSource {
         ensures same { OnErr result ((Some self.new.rest ≡ Some self.old.rest) × (self.new.given ≡ self.old.given)) }
         ensures kept { IfSome (Some self.old.rest) (λ _. OnErr result (buf.new ≡ buf.old)) }
         ensures grows { self.old.calls.faults ≤ self.new.calls.faults }
-        ensures cause { IsErr result → (self.old.calls.faults < self.new.calls.faults) ⊎ (self.old.calls.faults ≡ 2 ^ 64 - 1) }
+        ensures cause { IsErr result → HasCause self.old.calls.faults self.new.calls.faults }
 
         // What this source does.
         ensures fails { IsErr result ↔ FailsNextTake self.old }

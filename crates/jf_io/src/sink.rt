@@ -1,5 +1,6 @@
 // A sink is where output goes: a text that grows by the bytes that it takes.
-ghost use Rattle.std.specs.Prelude.{◌≡◌, ◌⊎◌, ℕ, ◌-◌, ◌<◌, ◌≤◌, ◌^◌, List, [], ◌++◌, length, take, Option, IfOk, OnOk, OnErr, IsOk, IsErr, option_map};
+ghost use Rattle.std.specs.Prelude.{◌≡◌, ℕ, ◌-◌, ◌<◌, ◌≤◌, ◌^◌, List, [], ◌++◌, length, take, Option, IfOk, OnOk, OnErr, IsOk, IsErr, option_map};
+ghost use Rattle.jf_path.specs.Faults.{HasCause};
 ghost use Rattle.jf_io.specs.Sink.{IsCutShort};
 
 use crate::failed::IoFailed;
@@ -21,7 +22,7 @@ pub trait Sink {
         ensures text { IfOk result (λ n. text self.new ≡ option_map (λ t. t ++ take n bytes.now) (text self.old)) }
         ensures same { OnErr result (text self.new ≡ text self.old) }
         ensures grows { faults self.old ≤ faults self.new }
-        ensures cause { IsErr result → (faults self.old < faults self.new) ⊎ (faults self.old ≡ 2 ^ 64 - 1) };
+        ensures cause { IsErr result → HasCause (faults self.old) (faults self.new) };
 
     /// The number of failed calls so far, which stays at `u64::MAX`.
     fn faults(&self) -> u64
@@ -36,7 +37,7 @@ pub fn put_all<K: Sink>(sink: &mut K, bytes: &[u8]) -> Result<(), IoFailed>
     ensures cut_short { OnErr result (IsCutShort (K.text sink.old) (K.text sink.new) bytes.now) }
     ensures nothing_to_put { bytes.now ≡ [] → IsOk result × (sink.new ≡ sink.old) }
     ensures grows { K.faults sink.old ≤ K.faults sink.new }
-    ensures cause { IsErr result → (K.faults sink.old < K.faults sink.new) ⊎ (K.faults sink.old ≡ 2 ^ 64 - 1) }
+    ensures cause { IsErr result → HasCause (K.faults sink.old) (K.faults sink.new) }
 {
     let mut done = 0;
     while done < bytes.len() {

@@ -1,5 +1,6 @@
 // A source is where input comes from: a list of bytes that is given out in order.
-ghost use Rattle.std.specs.Prelude.{◌≡◌, ◌⊎◌, ℕ, ◌+◌, ◌-◌, ◌<◌, ◌≤◌, ◌^◌, List, [], ◌++◌, length, take, drop, Option, IfSome, IfOk, OnOk, OnErr, IsErr, option_map};
+ghost use Rattle.std.specs.Prelude.{◌≡◌, ℕ, ◌+◌, ◌-◌, ◌<◌, ◌≤◌, ◌^◌, List, [], ◌++◌, length, take, drop, Option, IfSome, IfOk, OnOk, OnErr, IsErr, option_map};
+ghost use Rattle.jf_path.specs.Faults.{HasCause};
 
 use crate::failed::IoFailed;
 
@@ -35,7 +36,7 @@ pub trait Source {
         ensures same { OnErr result ((rest self.new ≡ rest self.old) × (given self.new ≡ given self.old)) }
         ensures kept { IfSome (rest self.old) (λ _. OnErr result (buf.new ≡ buf.old)) }
         ensures grows { faults self.old ≤ faults self.new }
-        ensures cause { IsErr result → (faults self.old < faults self.new) ⊎ (faults self.old ≡ 2 ^ 64 - 1) };
+        ensures cause { IsErr result → HasCause (faults self.old) (faults self.new) };
 
     /// The number of bytes given so far.
     fn taken(&self) -> u64

@@ -1,5 +1,6 @@
 // A sink over one of std's writers. No contract says what text the writer holds.
-ghost use Rattle.std.specs.Prelude.{◌≡◌, ◌⊎◌, ◌-◌, ◌<◌, ◌≤◌, ◌^◌, length, None, IfOk};
+ghost use Rattle.std.specs.Prelude.{◌≡◌, ◌-◌, ◌<◌, ◌≤◌, ◌^◌, length, None, IfOk};
+ghost use Rattle.jf_path.specs.Faults.{HasCause};
 
 use crate::attempts::ATTEMPTS;
 use crate::failed::IoFailed;
@@ -33,7 +34,7 @@ impl<W: Write> StdSink<W> {
     // Counts a fault.
     fn fail(&mut self) -> IoFailed
         ensures grows { self.old ≤ self.new }
-        ensures rises { (self.old < self.new) ⊎ (self.old ≡ 2 ^ 64 - 1) }
+        ensures rises { HasCause self.old self.new }
     {
         self.faults = self.faults.saturating_add(1);
         IoFailed

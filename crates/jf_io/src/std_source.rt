@@ -1,5 +1,6 @@
 // A source over one of std's readers. No contract says what bytes the reader gives.
-ghost use Rattle.std.specs.Prelude.{◌≡◌, ◌⊎◌, ℕ, ◌-◌, ◌<◌, ◌≤◌, ◌^◌, None, length, OnOk, IfOk};
+ghost use Rattle.std.specs.Prelude.{◌≡◌, ℕ, ◌-◌, ◌<◌, ◌≤◌, ◌^◌, None, length, OnOk, IfOk};
+ghost use Rattle.jf_path.specs.Faults.{HasCause};
 
 use crate::attempts::ATTEMPTS;
 use crate::failed::IoFailed;
@@ -39,7 +40,7 @@ impl<B: Read> StdSource<B> {
     fn fail(&mut self) -> IoFailed
         ensures given { self.new.given ≡ self.old.given }
         ensures grows { self.old.faults ≤ self.new.faults }
-        ensures rises { (self.old.faults < self.new.faults) ⊎ (self.old.faults ≡ 2 ^ 64 - 1) }
+        ensures rises { HasCause self.old.faults self.new.faults }
     {
         self.faults = self.faults.saturating_add(1);
         IoFailed

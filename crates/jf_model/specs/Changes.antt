@@ -1,16 +1,15 @@
 -- How a batch changes the entries of a map.
-use Rattle.std.specs.Prelude.{◌≡◌, ℕ, Bool, true, false, cond, not, T, List, [], ◌∷◌, filter, Option, Some, None, IfSome}
-use Rattle.std.proofs.Common.{refl, sym, ap, ◌∙◌, subst, Less, Equal, Greater}
-use Rattle.std.specs.List.{AllByRecursion}
-use Rattle.std.specs.FinMap as fin
-use Rattle.std.specs.FinMap.{entries, find, put, is_sorted}
-use Rattle.std.specs.FinMap.Entries.{by_order, where_key, is_sorted-put, is_sorted-where_key, find-put, find-where_key, same_entries}
-use Rattle.std.specs.Cmp.{eq_by_cmp_equiv, Equal-is}
-use Rattle.std.specs.Cmp.Lexicographic.{nat_list_cmp_total}
-use Rattle.jf_path.specs.Keys.{key_cmp, IsKey, IsBytes}
-use Rattle.jf_hash.specs.KeyOrder.{same_key-exact}
-use Rattle.jf_hash.specs.Maps.{Map, Batch, IsMap, IsBatch, change, apply, same_key}
-use Rattle.jf_hash.specs.MapLaws.{entries-remove, said}
+use Rattle.std.specs.Prelude.{ℕ, List, ◌∷◌, Option, Some, None, not, []}
+use Rattle.std.specs.FinMap.{put}
+use Rattle.std.specs.FinMap.Entries.{where_key}
+use Rattle.jf_path.specs.Keys.{key_cmp}
+use Rattle.jf_hash.specs.Slots.{Part}
+use Rattle.jf_hash.specs.Maps.{same_key, Batch}
+
+-- the put of a change, if it is one with a value, followed by entries
+abbrev pub with_put : List ℕ → Option (List ℕ) → Part → Part
+with_put key (Some value) es = (key, value) ∷ es
+with_put key None es = es
 
 -- a key and its value
 abbrev pub MapEntry : Type 0
@@ -25,137 +24,3 @@ changed k None es = where_key key_cmp (λ x. not (same_key k x)) es
 unfoldable pub applied : List MapEntry → Batch → List MapEntry
 applied es [] = es
 applied es (e ∷ b) = applied (changed e.0 e.1 es) b
-
-entries-change : (k : List ℕ) (v : Option (List ℕ)) (m : Map) → entries (change k v m) ≡ changed k v (entries m)
-entries-change k (Some v) m = fin.entries-insert nat_list_cmp_total m k v
-entries-change k None m = entries-remove m k
-
--- the entries of a map after a batch are its entries changed by the batch
-pub entries-apply : (m : Map) (b : Batch) → entries (apply m b) ≡ applied (entries m) b
-unfolding apply applied
-entries-apply m [] = refl
-entries-apply m (e ∷ b) = entries-apply (change e.0 e.1 m) b ∙ ap (λ es. applied es b) (entries-change e.0 e.1 m)
-
-sorted-changed : (k : List ℕ) (v : Option (List ℕ)) (es : List MapEntry) → T (is_sorted key_cmp es) → T (is_sorted key_cmp (changed k v es))
-sorted-changed k (Some v) es h = is_sorted-put key_cmp nat_list_cmp_total k v es h
-sorted-changed k None es h = is_sorted-where_key key_cmp (λ x. not (same_key k x)) es h
-
--- changed entries stay in the order of their keys
-pub sorted-applied : (es : List MapEntry) (b : Batch) → T (is_sorted key_cmp es) → T (is_sorted key_cmp (applied es b))
-unfolding applied
-sorted-applied es [] h = h
-sorted-applied es (e ∷ b) h = sorted-applied (changed e.0 e.1 es) b (sorted-changed e.0 e.1 es h)
-
-module _ (P : MapEntry → Type 0) where
-  all-put : (k v : List ℕ) (es : List MapEntry) → P (k, v) → AllByRecursion P es → AllByRecursion P (put key_cmp k v es)
-  all-put k v [] p h = (p, tt)
-  all-put k v (e ∷ es) p h =
-      elim (key_cmp k e.0) as (λ r. key_cmp k e.0 ≡ r → AllByRecursion P (by_order r ((k, v) ∷ e ∷ es) ((e.0, v) ∷ es) (e ∷ put key_cmp k v es))) [
-        | Less ↦ λ is. (p, h)
-        | Equal ↦ λ is. (subst (λ q. P (q, v)) (same_key-exact k e.0 is) p, h.1)
-        | Greater ↦ λ is. (h.0, all-put k v es p h.1)
-      ] refl
-
-  all-where_key : (test : List ℕ → Bool) (es : List MapEntry) → AllByRecursion P es → AllByRecursion P (where_key key_cmp test es)
-  all-where_key test [] h = tt
-  all-where_key test (e ∷ es) h =
-      elim (test e.0) as (λ b. AllByRecursion P (cond b (e ∷ where_key key_cmp test es) (where_key key_cmp test es))) [
-        | true ↦ (h.0, all-where_key test es h.1)
-        | false ↦ all-where_key test es h.1
-      ]
-
-  all-changed : (k : List ℕ) (v : Option (List ℕ)) (es : List MapEntry) → IfSome v (λ w. P (k, w)) → AllByRecursion P es → AllByRecursion P (changed k v es)
-  all-changed k (Some v) es p h = all-put k v es p h
-  all-changed k None es p h = all-where_key (λ x. not (same_key k x)) es h
-
-  -- what holds of each entry, and of each entry that the batch puts, holds of each entry after it
-  pub all-applied : (es : List MapEntry) (b : Batch) → AllByRecursion P es → AllByRecursion (λ e. IfSome e.1 (λ w. P (e.0, w))) b → AllByRecursion P (applied es b)
-  unfolding applied
-  all-applied es [] h p = h
-  all-applied es (e ∷ b) h p = all-applied (changed e.0 e.1 es) b (all-changed e.0 e.1 es p.0 h) p.1
-
-sound_put : (k : List ℕ) (v : Option (List ℕ)) → IsKey k → IfSome v IsBytes → IfSome v (λ w. IsKey k × IsBytes w)
-sound_put k None key bytes = tt
-sound_put k (Some v) key bytes = (key, bytes)
-
-sound_puts : (b : Batch) → AllByRecursion (λ e. IsKey e.0) b → AllByRecursion (λ e. IfSome e.1 IsBytes) b → AllByRecursion (λ e. IfSome e.1 (λ w. IsKey e.0 × IsBytes w)) b
-sound_puts [] h k = tt
-sound_puts (e ∷ b) h k = (sound_put e.0 e.1 h.0 k.0, sound_puts b h.1 k.1)
-
--- after a batch each entry still has a key and bytes
-pub sound-applied : (es : List MapEntry) (b : Batch) → AllByRecursion (λ e. IsKey e.0 × IsBytes e.1) es → IsBatch b → AllByRecursion (λ e. IsKey e.0 × IsBytes e.1) (applied es b)
-sound-applied es b h batch = all-applied (λ e. IsKey e.0 × IsBytes e.1) es b h (sound_puts b batch.keys batch.values)
-
-pub IsMap-apply : (m : Map) (b : Batch) → IsMap m → IsBatch b → IsMap (apply m b)
-IsMap-apply m b h batch = subst (λ es. AllByRecursion (λ e. IsKey e.0 × IsBytes e.1) es) (sym (entries-apply m b)) (sound-applied (entries m) b h batch)
-
--- ---- what holds of keys
-
-put_keys : (P : List ℕ → Type 0) (b : Batch) → AllByRecursion (λ e. P e.0) b → AllByRecursion (λ e. IfSome e.1 (λ w. P e.0)) b
-put_keys P [] h = tt
-put_keys P (e ∷ b) h = (elim e.1 as (λ v. IfSome v (λ w. P e.0)) [ None ↦ tt | Some w ↦ h.0 ], put_keys P b h.1)
-
--- what holds of the keys of all entries and of a batch holds of the keys after it
-pub all_keys-applied : (P : List ℕ → Type 0) (es : List MapEntry) (b : Batch) → AllByRecursion (λ e. P e.0) es → AllByRecursion (λ e. P e.0) b → AllByRecursion (λ e. P e.0) (applied es b)
-all_keys-applied P es b h k = all-applied (λ e. P e.0) es b h (put_keys P b k)
-
--- ---- one key, and some keys
-
-turned : {A : Type 0} (b : Bool) (x y : A) → cond (not b) x y ≡ cond b y x
-turned true x y = refl
-turned false x y = refl
-
-find-changed : (q k : List ℕ) (v : Option (List ℕ)) (es : List MapEntry) → find key_cmp q (changed k v es) ≡ cond (same_key q k) v (find key_cmp q es)
-find-changed q k (Some v) es = find-put key_cmp nat_list_cmp_total q k v es
-find-changed q k None es =
-    find-where_key key_cmp (λ x. not (same_key k x)) q (λ x e. ap (λ x. not (same_key k x)) (sym (same_key-exact q x e))) es
-    ∙ turned (same_key k q) (find key_cmp q es) None ∙ ap (λ b. cond b None (find key_cmp q es)) ((eq_by_cmp_equiv nat_list_cmp_total).symm k q)
-
--- the value of a key after a batch is what the batch's last change of it says, or what it was
-pub find-applied : (q : List ℕ) (es : List MapEntry) (b : Batch) → find key_cmp q (applied es b) ≡ said q b (find key_cmp q es)
-unfolding applied
-find-applied q es [] = refl
-find-applied q es (e ∷ b) = find-applied q (changed e.0 e.1 es) b ∙ ap (said q b) (find-changed q e.0 e.1 es)
-
--- a batch without changes changes nothing
-pub applied-none : (es : List MapEntry) → applied es [] ≡ es
-unfolding applied
-applied-none es = refl
-
--- a batch of one change is that change
-pub applied-word : (es : List MapEntry) (k : List ℕ) (v : Option (List ℕ)) → applied es ((k, v) ∷ []) ≡ changed k v es
-unfolding applied
-applied-word es k v = refl
-
--- the changes on some keys say of a key among them what all changes say
-said-part : (p : List ℕ → Bool) (q : List ℕ) (bs : Batch) (before : Option (List ℕ)) → said q (filter (λ e. p e.0) bs) (cond (p q) before None) ≡ cond (p q) (said q bs before) None
-said-part p q [] before = refl
-said-part p q (b ∷ bs) before =
-    elim (same_key q b.0) as (λ t. same_key q b.0 ≡ t → said q (cond (p b.0) (b ∷ filter (λ e. p e.0) bs) (filter (λ e. p e.0) bs)) (cond (p q) before None) ≡ cond (p q) (said q bs (cond t b.1 before)) None) [
-      | true ↦ λ is.
-          let same : p b.0 ≡ p q = ap p (sym (same_key-exact q b.0 ((Equal-is _).0 is))) in
-          ap (λ c. said q (cond c (b ∷ filter (λ e. p e.0) bs) (filter (λ e. p e.0) bs)) (cond (p q) before None)) same
-          ∙ (elim (p q) as (λ c. p q ≡ c → said q (cond c (b ∷ filter (λ e. p e.0) bs) (filter (λ e. p e.0) bs)) (cond c before None) ≡ cond c (said q bs b.1) None) [
-            | true ↦ λ inside. ap (λ t. said q (filter (λ e. p e.0) bs) (cond t b.1 before)) is
-                ∙ ap (λ c. said q (filter (λ e. p e.0) bs) (cond c b.1 None)) (sym inside) ∙ said-part p q bs b.1 ∙ ap (λ c. cond c (said q bs b.1) None) inside
-            | false ↦ λ outside. ap (λ c. said q (filter (λ e. p e.0) bs) (cond c b.1 None)) (sym outside) ∙ said-part p q bs b.1 ∙ ap (λ c. cond c (said q bs b.1) None) outside
-          ] refl)
-      | false ↦ λ is. elim (p b.0) as (λ c. said q (cond c (b ∷ filter (λ e. p e.0) bs) (filter (λ e. p e.0) bs)) (cond (p q) before None) ≡ cond (p q) (said q bs before) None) [
-        | true ↦ ap (λ t. said q (filter (λ e. p e.0) bs) (cond t b.1 (cond (p q) before None))) is ∙ said-part p q bs before
-        | false ↦ said-part p q bs before
-      ]
-    ] refl
-
--- after a batch, the entries on some keys are those entries after the batch's changes on these keys
-pub filter-applied : (p : List ℕ → Bool) (es : List MapEntry) (b : Batch) → T (is_sorted key_cmp es) → filter (λ e. p e.0) (applied es b) ≡ applied (filter (λ e. p e.0) es) (filter (λ e. p e.0) b)
-filter-applied p es b sorted =
-    let alike : (q x : List ℕ) → key_cmp q x ≡ Equal → p x ≡ p q = λ q x e. ap p (sym (same_key-exact q x e)) in
-    same_entries key_cmp nat_list_cmp_total same_key-exact _ _
-    (is_sorted-where_key key_cmp p (applied es b) (sorted-applied es b sorted))
-    (sorted-applied (filter (λ e. p e.0) es) (filter (λ e. p e.0) b) (is_sorted-where_key key_cmp p es sorted))
-    (λ q.
-    find-where_key key_cmp p q (alike q) (applied es b)
-    ∙ ap (λ o. cond (p q) o None) (find-applied q es b)
-    ∙ sym (said-part p q b (find key_cmp q es))
-    ∙ ap (said q (filter (λ e. p e.0) b)) (sym (find-where_key key_cmp p q (alike q) es))
-    ∙ sym (find-applied q (filter (λ e. p e.0) es) (filter (λ e. p e.0) b)))

@@ -1,19 +1,18 @@
 -- Entries: when each is legal, and the state that it makes.
-use Rattle.std.specs.Prelude.{◌≡◌, ℕ, ◌+◌, ◌-◌, ◌<◌, ◌≤◌, ◌^◌, IsTrue, List, [], ◌∷◌, ◌++◌, length}
-use Rattle.std.proofs.Common.{refl}
+use Rattle.std.specs.Prelude.{List, [], ◌∷◌, ◌+◌, ℕ, IsTrue, ◌≡◌, ◌<◌, length, ◌≤◌, ◌-◌, ◌^◌}
 use Rattle.std.specs.FinMap as fin
-use Rattle.jf_split.specs.Limits.{max_keys}
 use Rattle.jf_path.specs.Limits.{max_forks}
 use Rattle.jf_hash.specs.Maps.{Batch, apply, IsBatch}
 use Rattle.jf_hash.specs.Roots.{root}
-use Rattle.jf_model.specs.Batches.{key_count}
-use Rattle.jf_model.specs.Versions.{Versions, newest, land_all}
-use Rattle.jf_model.specs.Forks.{Fork, is_parent, is_among, chain, batches, parent_map, without, settled}
+use Rattle.jf_split.specs.Limits.{max_keys}
+use Rattle.jf_model.specs.Forks.{chain, batches, Fork, settled, without, is_among, is_parent, parent_map}
 use Rattle.jf_model.specs.States.{State}
-use Rattle.jf_model.specs.declared.entries.Parent.{Parent}
 use Rattle.jf_model.specs.declared.entries.Landing.{Landing}
-use Rattle.jf_model.specs.declared.entries.Landing.TheVariants as landing
+use Rattle.jf_model.specs.Versions.{Versions, land_all, newest}
 use Rattle.jf_model.specs.declared.entries.Entry.{Entry}
+use Rattle.jf_model.specs.declared.entries.Parent.{Parent}
+use Rattle.jf_model.specs.Batches.{key_count}
+use Rattle.jf_model.specs.declared.entries.Landing.TheVariants as landing
 use Rattle.jf_model.specs.declared.entries.Entry.TheVariants as entry
 
 -- the batches that a landing lands, one version each
@@ -46,7 +45,6 @@ replay s [] = s
 replay s (e ∷ es) = replay (after e s) es
 
 -- ---- legal entries
-
 -- the fork is live
 abbrev pub IsLive : State → ℕ → Type 0
 IsLive s id = IsTrue (is_among id s.forks)
@@ -65,7 +63,7 @@ MayLand s (landing.Direct batch) = IsBatch batch
 MayLand s (landing.Fork id) = IsLive s id × (key_count (batches (chain s.forks id)) ≤ max_keys)
 
 -- a landing starts from a map of at most 2^62 entries, and makes a version for each of its batches
-pub record IsLanding (s : State) (version : ℕ) (how : Landing) (r : List ℕ) : Type 0 where
+pub record IsLandedEntry (s : State) (version : ℕ) (how : Landing) (r : List ℕ) : Type 0 where
   pub may : MayLand s how
   pub small : fin.len (newest s.all) ≤ 2 ^ 62
   pub next : version ≡ s.all.head + length (landed_batches s how)
@@ -86,7 +84,7 @@ IsCompacting s generation = (generation ≡ s.generation + 1) × (generation ≤
 -- an entry fits the state
 abbrev pub IsLegalStep : State → Entry → Type 0
 IsLegalStep s (entry.Made owner fork parent batch r) = IsMaking s fork parent batch r
-IsLegalStep s (entry.Landed owner version how r moment) = IsLanding s version how r
+IsLegalStep s (entry.Landed owner version how r moment) = IsLandedEntry s version how r
 IsLegalStep s (entry.Dropped owner fork) = IsLive s fork
 IsLegalStep s (entry.Retired owner bound floor) = IsRetiring s bound floor
 IsLegalStep s (entry.Compacted owner generation) = IsCompacting s generation
@@ -101,7 +99,6 @@ AreLegal s [] = Unit {0}
 AreLegal s (e ∷ es) = IsLegal s e × AreLegal (after e s) es
 
 -- ---- moments
-
 -- the moments at which the landings were acknowledged
 abbrev pub moments_of : List Entry → List ℕ
 moments_of [] = []
@@ -122,7 +119,6 @@ pub record IsHistory (s : State) (es : List Entry) : Type 0 where
   pub moments : RiseFrom 0 (moments_of es)
 
 -- ---- what an entry names
-
 -- the number of the session that made the entry
 abbrev pub owner_of : Entry → ℕ
 owner_of (entry.Made owner fork parent batch r) = owner
@@ -142,19 +138,3 @@ at_moment t (entry.Compacted owner generation) = entry.Compacted owner generatio
 -- the entry without its moment
 abbrev pub timeless : Entry → Entry
 timeless e = at_moment 0 e
-
--- ---- laws
-
-pub replay-append : (s : State) (es fs : List Entry) → replay s (es ++ fs) ≡ replay (replay s es) fs
-unfolding replay
-replay-append s [] fs = refl
-replay-append s (e ∷ es) fs = replay-append (after e s) es fs
-
-pub AreLegal-append : (s : State) (es fs : List Entry) → AreLegal s es → AreLegal (replay s es) fs → AreLegal s (es ++ fs)
-unfolding replay
-AreLegal-append s [] fs h k = k
-AreLegal-append s (e ∷ es) fs h k = (h.0, AreLegal-append (after e s) es fs h.1 k)
-
-pub AreLegal-front : (s : State) (es fs : List Entry) → AreLegal s (es ++ fs) → AreLegal s es
-AreLegal-front s [] fs h = tt
-AreLegal-front s (e ∷ es) fs h = (h.0, AreLegal-front (after e s) es fs h.1)

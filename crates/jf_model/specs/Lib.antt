@@ -1,12 +1,13 @@
 pub mod Changes
 pub mod Batches
 pub mod Versions
-pub mod VersionLaws
 pub mod Forks
-pub mod ForkLaws
 pub mod States
 pub mod Entries
-pub mod EntryLaws
 pub mod Nodes
-pub mod NodeLaws
 pub mod VersionCodes
+pub mod Parts
+pub mod Puts
+pub mod Walk
+pub mod NodeVersions
+pub mod ChildEntries

@@ -1,15 +1,13 @@
 -- The nodes of a map, and the nodes that a landing writes and marks stale.
-use Rattle.std.specs.Prelude.{◌≡◌, ℕ, zero, suc, ◌+◌, ◌*◌, Bool, true, false, not, ◌&&◌, if◌then◌else◌, List, [], ◌∷◌, map, filter, flat_map, length, bytes_eq}
-use Rattle.std.proofs.Common.{refl, ap, ◌∙◌}
+use Rattle.std.specs.Prelude.{ℕ, List, ◌+◌, [], ◌∷◌, Bool, true, false, ◌&&◌, bytes_eq, not, zero, suc, if◌then◌else◌, map, flat_map, filter, length, ◌*◌}
 use Rattle.std.specs.FinMap.{entries}
 use Rattle.jf_path.specs.declared.children.Child.{Child}
 use Rattle.jf_path.specs.declared.node.PlainNode.{PlainNode}
 use Rattle.jf_path.specs.declared.node.PlainNode.TheVariants as node
+use Rattle.jf_hash.specs.Slots.{Part, with_nibble, all_nibbles}
 use Rattle.jf_hash.specs.Maps.{Map}
 use Rattle.jf_hash.specs.Roots.{part_root}
-use Rattle.jf_hash.specs.RootLaws.{entries-empty}
-use Rattle.jf_hash.specs.Slots.{Part, all_nibbles, with_nibble}
-use Rattle.jf_model.specs.Versions.{Versions, new_store}
+use Rattle.jf_model.specs.Versions.{Versions}
 
 -- the nibbles from the top down to a node
 abbrev pub Path : Type 0
@@ -72,14 +70,13 @@ node_count (m ∷ []) = length (nodes m)
 node_count (m ∷ n ∷ ms) = length (fresh n m) + node_count (n ∷ ms)
 
 -- the number of nodes that a store keeps for its versions
-unfoldable pub kept : Versions → ℕ
-kept v = node_count v.maps
+unfoldable pub kept_nodes : Versions → ℕ
+kept_nodes v = node_count v.maps
 
 -- ---- a node by itself
-
 -- the child of a node of d nibbles at nibble i, or nothing if no entry stands there
-abbrev pub child_at : Bool → (ℕ → ℕ) → ℕ → Part → ℕ → List Child
-child_at counted version d es i =
+abbrev pub child_in_node : Bool → (ℕ → ℕ) → ℕ → Part → ℕ → List Child
+child_in_node counted version d es i =
     let part = with_nibble d i es in
     if has_one part then record { nibble = i; version = version i; hash = part_root (4 * (d + 1)) part; leaf = not (has_two part); count = if counted then length part else 0 } ∷ [] else []
 
@@ -87,15 +84,4 @@ child_at counted version d es i =
 unfoldable pub plain_node : Bool → (ℕ → ℕ) → ℕ → Part → PlainNode
 plain_node counted version d [] = node.Null
 plain_node counted version d (e ∷ []) = node.Leaf e.0 e.1
-plain_node counted version d (e ∷ f ∷ es) = node.Inner (flat_map (child_at counted version d (e ∷ f ∷ es)) all_nibbles)
-
--- ---- laws
-
-nodes-none : nodes_below 64 0 [] ≡ ([], []) ∷ []
-unfolding nodes_below
-nodes-none = refl
-
--- a new store keeps one node
-pub kept-new_store : kept new_store ≡ 1
-unfolding kept nodes
-kept-new_store = ap (λ es. length (nodes_below 64 0 es)) entries-empty ∙ ap length nodes-none
+plain_node counted version d (e ∷ f ∷ es) = node.Inner (flat_map (child_in_node counted version d (e ∷ f ∷ es)) all_nibbles)

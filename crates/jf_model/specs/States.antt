@@ -1,9 +1,8 @@
 -- The state of a run: what its entries have made so far.
-use Rattle.std.specs.Prelude.{◌≡◌, ℕ, ◌≤◌, List, [], ◌∷◌, length, take}
-use Rattle.std.proofs.Common.{refl, ap, sym, ◌∙◌, le_refl}
+use Rattle.std.specs.Prelude.{ℕ, List, [], ◌≤◌}
 use Rattle.std.specs.List.{AllByRecursion}
 use Rattle.jf_hash.specs.Maps.{IsBatch}
-use Rattle.jf_model.specs.Versions.{Versions, IsVersions, pruned}
+use Rattle.jf_model.specs.Versions.{Versions, pruned, IsVersions}
 use Rattle.jf_model.specs.Forks.{Fork, AreForks}
 
 -- All versions from the floor at opening on, which are never dropped; the present floor; and what the files don't hold:
@@ -33,18 +32,3 @@ pub record IsState (s : State) : Type 0 where
   pub retired_low : s.retired ≤ s.all.head
   pub live : AreForks s.made s.forks
   pub batches : AllByRecursion (λ f. IsBatch f.batch) s.forks
-
--- ---- laws
-
-take-all : {X : Type 0} (xs : List X) → take (length xs) xs ≡ xs
-take-all [] = refl
-take-all (x ∷ xs) = ap (λ t. x ∷ t) (take-all xs)
-
--- a store that was opened has the versions that were found
-pub versions-opened : (v : Versions) (g : ℕ) → IsVersions v → versions (opened v g) ≡ v
-versions-opened v g sound =
-    ap (λ ms. record { base = v.base; floor = v.floor; head = v.head; roots = v.roots; maps = ms }) (ap (λ n. take n v.maps) (sym sound.map_each) ∙ take-all v.maps)
-
--- the state of a store that was opened is sound
-pub opened-IsState : (v : Versions) (g : ℕ) → IsVersions v → IsState (opened v g)
-opened-IsState v g sound = record { sound = sound; first = le_refl v.floor; floor_low = le_refl v.floor; retired_low = sound.floor_first; live = tt; batches = tt }

@@ -1,36 +1,35 @@
 -- What holds of the entries of a range, from what holds of the entries of its stored node.
-use Rattle.std.specs.Prelude.{◌≡◌, ◌<◌, ◌≤◌, ◌+◌, ◌-◌, ◌*◌, ◌/◌, ◌%◌, ◌^◌, ℕ, zero, suc, Bool, true, false, cond, List, [], ◌∷◌, length}
-use Rattle.std.proofs.Common.{arith, refl, sym, ap, ◌∙◌, subst, inl, inr}
+use denote.Ref.{Bor}
+use Rattle.std.specs.Prelude.{◌≡◌, Bool, true, false, ◌-◌, ◌/◌, ◌%◌, ◌^◌, ℕ, List, ◌<◌, ◌≤◌, zero, suc, ◌+◌, ◌*◌, cond, [], ◌∷◌, length}
+use Rattle.std.proofs.Common.{arith, refl, sym, ap, ◌∙◌, inl, inr, subst}
 use Rattle.std.proofs.lemmas.Bool.{cases_lt}
 use Rattle.std.proofs.lemmas.Bool.Decides.{nat_tests}
-use Rattle.std.specs.List.{AllByRecursion}
 use Rattle.std.specs.FinMap.Entries.{is_sorted-where_key}
+use Rattle.std.specs.List.{AllByRecursion}
+use Rattle.jf_path.specs.Nibbles.{bit_number, nibble}
 use Rattle.jf_path.specs.Keys.{bit, key_cmp, IsKey, IsBytes}
-use Rattle.jf_path.specs.Nibbles.{digit, nibble}
-use Rattle.jf_hash.specs.Filters.{All-filter}
-use Rattle.jf_hash.specs.Slots.{Part}
-use Rattle.jf_hash.specs.SlotLaws.{weight}
+use Rattle.jf_path.proofs.FilterLaws.{All-filter}
 use Rattle.jf_hash.specs.Ranges.{lies_in, in_range}
+use Rattle.jf_hash.specs.Slots.{Part}
+use Rattle.jf_hash.proofs.SlotLaws.{weight}
+use Rattle.jf_node.specs.RangeFacts.{IsRangeValue}
 use Rattle.jf_node.specs.LinkValue.{LinkValue}
 use Rattle.jf_node.specs.LinkFacts.{IsLink}
 use Rattle.jf_node.specs.Placed.{ArePlaces, IsPlaced, range_value}
 use Rattle.jf_node.specs.RangeValue.{RangeValue}
-use Rattle.jf_node.specs.RangeFacts.{IsRangeValue}
 use Rattle.jf_node.specs.declared.range.Place.{Place}
 use Rattle.jf_node.specs.declared.range.Place.TheVariants.{Nowhere, Leaf, Places}
-use denote.Ref.{Bor}
-use Rattle.jf_node.proofs.RangePlaces.{in_few, placed, placed_leaf, placed_nowhere, kept_as}
+use Rattle.jf_node.proofs.RangePlaces.{in_few, placed_nowhere, kept_as, placed_leaf, placed}
 
 -- ---- the bits of keys in a range of places
-
-same_digit : (a b : Bool) → digit a ≡ digit b → a ≡ b
+same_digit : (a b : Bool) → bit_number a ≡ bit_number b → a ≡ b
 same_digit true true is = refl
 same_digit true false is = absurd (omega (arith, is))
 same_digit false true is = absurd (omega (arith, is))
 same_digit false false is = refl
 
 -- the bit of a nibble that is bit i of the key
-weight_at : (key : List ℕ) (i : ℕ) → nibble key (i / 4) / 2 ^ (3 - i % 4) % 2 ≡ digit (bit key i)
+weight_at : (key : List ℕ) (i : ℕ) → nibble key (i / 4) / 2 ^ (3 - i % 4) % 2 ≡ bit_number (bit key i)
 weight_at key i = weight key (i / 4) (3 - i % 4) i (omega arith) (omega arith)
 
 -- keys with the same nibble have the same bits in it
@@ -70,7 +69,7 @@ alike d start level path a b narrow aligned la lb i lt = elim (cases_lt (i / 4) 
   | inr past ↦
       let here : i / 4 ≡ d = omega arith in
       let up : level ≤ 3 - i % 4 = omega arith in
-      let at : (key : List ℕ) → lies_in start (2 ^ level) (nibble key d) ≡ true → start / 2 ^ (3 - i % 4) % 2 ≡ digit (bit key i) =
+      let at : (key : List ℕ) → lies_in start (2 ^ level) (nibble key d) ≡ true → start / 2 ^ (3 - i % 4) % 2 ≡ bit_number (bit key i) =
       λ key there. sym (high_bits level (3 - i % 4) start (nibble key d) up (omega arith) aligned there) ∙ ap (λ k. nibble key k / 2 ^ (3 - i % 4) % 2) (sym here) ∙ weight_at key i in
       same_digit (bit a i) (bit b i) (sym (at a la.there) ∙ at b lb.there)
 ]
@@ -98,7 +97,6 @@ agree_all d start level path [] narrow aligned all = tt
 agree_all d start level path (e ∷ es) narrow aligned all = ((λ i lt. refl), agree_first d start level path e.0 es narrow aligned all.0 all.1)
 
 -- ---- what holds of a range
-
 none_known : (depth : ℕ) → depth ≤ 256 → IsRangeValue (record { depth = depth; entries = [] })
 none_known depth le = record {
   depth = le;

@@ -1,32 +1,32 @@
 -- The entries of a range of places, and those of its halves.
-use Rattle.std.specs.Prelude.{◌≡◌, ◌<◌, ◌≤◌, ◌+◌, ◌-◌, ◌*◌, ◌%◌, ◌^◌, ℕ, zero, suc, Bool, true, false, cond, List, [], ◌∷◌, length, take, drop, Option, Some, None}
-use Rattle.std.proofs.Common.{arith, refl, sym, ap, ap₂, ◌∙◌, subst, get_or}
+use denote.Ref.{Bor}
+use Rattle.std.specs.Prelude.{◌≡◌, ◌-◌, ℕ, [], ◌∷◌, length, ◌<◌, ◌^◌, true, cond, ◌≤◌, false, ◌*◌, ◌+◌, ◌%◌, zero, suc, List, Option, None, Some, take, drop, Bool}
+use Rattle.std.proofs.Common.{arith, sym, ◌∙◌, refl, ap₂, subst, ap, get_or}
+use Rattle.std.proofs.lemmas.Bool.Decides.{nat_tests}
 use Rattle.std.specs.FinMap.{find}
 use Rattle.std.specs.FinMap.Entries.{find-where_key}
-use Rattle.std.proofs.lemmas.Bool.Decides.{nat_tests}
-use Rattle.jf_path.specs.Keys.{key_cmp}
 use Rattle.jf_path.specs.Nibbles.{nibble}
-use Rattle.jf_path.specs.NibbleLaws.{nibble-small}
-use Rattle.jf_hash.specs.KeyOrder.{same_key-exact}
+use Rattle.jf_path.specs.Keys.{key_cmp}
+use Rattle.jf_path.proofs.NibbleLaws.{nibble-small}
 use Rattle.jf_hash.specs.Roots.{part_root, zeros, ones}
-use Rattle.jf_hash.specs.RootLaws.{part_root-one}
 use Rattle.jf_hash.specs.Slots.{Part}
-use Rattle.jf_hash.specs.SlotLaws.{zeros-in_range, ones-in_range}
 use Rattle.jf_hash.specs.Ranges.{lies_in, in_range, IsRange}
-use Rattle.jf_hash.specs.RangeLaws.{IsRange-of_level, fits_all}
+use Rattle.jf_hash.proofs.RootLaws.{part_root-one}
+use Rattle.jf_hash.proofs.RangeLaws.{IsRange-of_level, fits_all}
+use Rattle.jf_hash.proofs.SlotLaws.{zeros-in_range, ones-in_range}
+use Rattle.jf_hash.proofs.KeyOrder.{same_key-exact}
 use Rattle.jf_node.specs.LinkValue.{LinkValue}
 use Rattle.jf_node.specs.LinkFacts.{IsLink}
-use Rattle.jf_node.specs.Children.{content, joined}
-use Rattle.jf_node.specs.ChildLaws.{child_depth}
-use Rattle.jf_node.specs.Shown.{ShowsInner}
 use Rattle.jf_node.specs.Placed.{ArePlaces, IsPlaced, range_value}
-use Rattle.jf_node.specs.declared.range.Place.{Place}
-use Rattle.jf_node.specs.declared.range.Place.TheVariants.{Nowhere, Leaf, Places}
-use denote.Ref.{Bor}
-use Rattle.jf_node.specs.RangeStates.{IsFound}
 use Rattle.jf_node.specs.RangeValue.{RangeValue}
+use Rattle.jf_node.specs.Children.{content, joined}
+use Rattle.jf_node.specs.Shown.{ShowsInner}
+use Rattle.jf_node.specs.RangeStates.{IsFound}
 use Rattle.jf_node.specs.declared.found.Found.{Found}
-use Rattle.jf_node.specs.InRanges.{in_range-joined, one_place}
+use Rattle.jf_node.specs.declared.range.Place.{Place}
+use Rattle.jf_node.specs.declared.range.Place.TheVariants.{Places, Leaf, Nowhere}
+use Rattle.jf_node.proofs.InRanges.{one_place, in_range-joined}
+use Rattle.jf_node.proofs.ChildLaws.{child_depth}
 
 -- the hash of one entry is the same at each depth
 pub one_hash : (d e : ℕ) (es : Part) → length es ≡ 1 → part_root d es ≡ part_root e es
@@ -71,7 +71,6 @@ pub node_range : (depth : ℕ) (x : LinkValue) (start level : ℕ) → ArePlaces
 node_range depth x start level h = IsRange-of_level level start h.narrow h.aligned h.within
 
 -- ---- halves
-
 pub record Halved (start level : ℕ) : Type 0 where
   pub lower : start % 2 ^ level ≡ 0
   pub upper : (start + 2 ^ level) % 2 ^ level ≡ 0
@@ -95,7 +94,6 @@ upper_half depth x start level half h is =
     ap (λ l. ones depth (in_range x.depth start (2 ^ l) x.entries)) is ∙ ones-in_range x.depth half start depth x.entries (omega (arith, h.narrow)) (omega (arith, h.deep, h.narrow)) aligned
 
 -- ---- one place, and several
-
 -- the node of the binary tree for some places of a stored node
 abbrev pub among : LinkValue → ℕ → ℕ → RangeValue
 among x start level = record { depth = 4 * x.depth + (4 - level); entries = in_range x.depth start (2 ^ level) x.entries }
@@ -144,14 +142,12 @@ pub range_ends : (level start width : ℕ) → level ≤ 4 → start % 2 ^ level
 range_ends level start width small aligned within is = subst (λ w. start + w ≤ 16) (sym is) (fits_all level start small aligned within)
 
 -- ---- keys
-
 -- a key is found among the entries of a range if its nibble lies there
 pub find-in_range : (d start width : ℕ) (key : List ℕ) (es : Part) → find key_cmp key (in_range d start width es) ≡ cond (lies_in start width (nibble key d)) (find key_cmp key es) None
 find-in_range d start width key es =
     find-where_key key_cmp (λ k. lies_in start width (nibble k d)) key (λ x e. ap (λ k. lies_in start width (nibble k d)) (sym (same_key-exact key x e))) es
 
 -- ---- how a range is kept
-
 -- what holds of a range over some places
 pub placed : (depth : ℕ) (place : Place) (link : Bor LinkValue) (start level : ℕ) → IsPlaced depth place → place ≡ Places link start level → ArePlaces depth link.now start level
 placed depth place link start level h is = subst (IsPlaced depth) is h
@@ -175,7 +171,6 @@ find_places v depth start level d n w place link key b seen is deep nib wide tes
     ∙ ap (λ t. cond t (find key_cmp key link.now.entries) None) (ap₂ (λ m k. lies_in start m k) (sym wide) (ap (nibble key) (sym deep) ∙ sym nib) ∙ sym test)
 
 -- ---- the halves of places
-
 pub pred_is : (level : ℕ) → 1 ≤ level → level ≡ suc (level - 1)
 pred_is level h = omega arith
 
@@ -215,7 +210,6 @@ pub find_leaf : (v : RangeValue) (depth : ℕ) (place : Place) (link : Bor LinkV
 find_leaf v depth place link key seen is = ap (λ x. find key_cmp key x.entries) (sym (kept_as v depth place _ seen is))
 
 -- ---- counts
-
 same_count : (x : LinkValue) (links : List (Option LinkValue)) (start width : ℕ) → ShowsInner x links → joined (take width (drop start links)) ≡ in_range x.depth start width x.entries
 same_count x links start width shows = sym (ap (in_range x.depth start width) shows.entries ∙ in_range-joined x.depth start width links shows.children.fit)
 

@@ -4,15 +4,9 @@ pub mod LinkFacts
 pub mod Levels
 pub mod Bodies
 pub mod Falls
-pub mod ChildLaws
-pub mod NodeVersions
 pub mod Shown
 pub mod SnapshotValue
 pub mod Snapshots
-pub mod ShownLaws
-pub mod SnapshotLaws
-pub mod PlaceLaws
-pub mod InRanges
 pub mod RangeValue
 pub mod RangeFacts
 pub mod Placed

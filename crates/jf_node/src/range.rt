@@ -7,7 +7,7 @@ ghost use Rattle.jf_hash.specs.Roots.{part_root, zeros, ones};
 ghost use Rattle.jf_hash.specs.Ranges.{in_range, lies_in};
 ghost use Rattle.jf_node.specs.Placed.{ArePlaces};
 ghost use Rattle.jf_node.specs.RangeFacts.{IsRangeValue};
-ghost use Rattle.jf_node.specs.RangeStates.{IsState};
+ghost use Rattle.jf_node.specs.RangeStates.{IsRangeState};
 ghost use Rattle.jf_node.specs.SharedPlaces.{IsSharedAs};
 
 use crate::found::{Found, child_at};
@@ -204,7 +204,7 @@ impl<'a> Range<'a> {
 
     /// What it holds: no entry, one, or more.
     pub fn state(&self) -> RangeState<'a>
-        ensures entries { IsState self.now.entries result }
+        ensures entries { IsRangeState self.now.entries result }
         ensures deep { 2 ≤ length self.now.entries → self.now.depth < 256 }
     {
         match self.place {

@@ -3,3 +3,5 @@ pub mod FirstRecord
 pub mod Opened
 pub mod Appended
 pub mod Switched
+pub mod FileLaws
+pub mod PairLaws

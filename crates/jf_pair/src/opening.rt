@@ -1,6 +1,6 @@
 // Opening syncs both sides before it reads them, so that a later crash leaves what was read.
 ghost use Rattle.std.specs.Prelude.{◌≡◌, ◌+◌, ◌≤◌, false, Some, Err, IfOk, OnOk, IsErr, ℕ};
-ghost use Rattle.jf_disk.specs.Disk.{History, CallsOn, content, durable, reads};
+ghost use Rattle.jf_disk.specs.Disk.{History, CallsOn, content_on, durable, reads};
 ghost use Rattle.jf_disk.specs.Crashes.{LeavesFiles, Idles};
 ghost use Rattle.jf_disk.specs.declared.side.Side.{Side};
 ghost use Rattle.jf_frame.specs.Framing.{records};
@@ -54,8 +54,8 @@ fn sync_sides<D: Disk>(disk: &mut D) -> Result<(), DiskFault>
 /// Reads the records of a side. Damage is reported with the side.
 fn read_side<D: Disk>(alloc: Global, disk: &mut D, side: Side) -> Result<Log, PairFault>
     ensures fresh { IfOk result (λ log. (log.side ≡ side) × (log.failed ≡ false)) }
-    ensures read { (h : History) → D.history disk.old ≡ Some h → IfOk result (λ log. IsReading log side (content side h.now).bytes) }
-    ensures damaged { (h : History) (s : Side) (at : ℕ) → D.history disk.old ≡ Some h → result ≡ Err (PairFault.Damaged s at) → (s ≡ side) × (records (content side h.now).bytes ≡ Err at) }
+    ensures read { (h : History) → D.history disk.old ≡ Some h → IfOk result (λ log. IsReading log side (content_on side h.now).bytes) }
+    ensures damaged { (h : History) (s : Side) (at : ℕ) → D.history disk.old ≡ Some h → result ≡ Err (PairFault.Damaged s at) → (s ≡ side) × (records (content_on side h.now).bytes ≡ Err at) }
     ensures idle { (h : History) → D.history disk.old ≡ Some h → (g : History) × (D.history disk.new ≡ Some g) × Idles h g }
     ensures calls { CallsOn (D.history disk.old) (D.moment disk.old) (D.faults disk.old) (D.history disk.new) (D.moment disk.new) (D.faults disk.new) (result ≡ Err PairFault.DiskFault) }
     ensures two { OnOk result (D.moment disk.new ≡ D.moment disk.old + 2) }

@@ -1,6 +1,6 @@
 // A pair of files: checkpoints alternate between them, so that one is whole while the other is written anew.
 ghost use Rattle.std.specs.Prelude.{◌≡◌, ◌↔◌, ◌+◌, ◌<◌, ◌≤◌, ℕ, List, [], ◌∷◌, ◌++◌, length, true, false, Some, None, Err, IfOk, IfSome, OnOk, OnErr, IsErr};
-ghost use Rattle.jf_disk.specs.Disk.{History, CallsOn, content, reads, put_at};
+ghost use Rattle.jf_disk.specs.Disk.{History, CallsOn, content_on, reads, put_at};
 ghost use Rattle.jf_disk.specs.Crashes.{LeavesFiles, KeepsOther, opposite};
 ghost use Rattle.jf_disk.specs.declared.side.Side.{Side};
 ghost use Rattle.jf_frame.specs.Framed.{Framed};
@@ -75,7 +75,7 @@ impl Pair {
         ensures ok { (h : History) (rs : List Framed) (kind : ℕ) (payload : List ℕ) → D.history disk.old ≡ Some h → IsInStep self.old rs h.now → IsFrame frame.now kind payload
             → OnOk result ((g : History) × (D.history disk.new ≡ Some g) × IsInStep self.new (rs ++ framed self.old.offset kind payload ∷ []) g.now) }
         ensures written { (h : History) (rs : List Framed) → D.history disk.old ≡ Some h → IsInStep self.old rs h.now
-            → OnOk result ((g : History) × (D.history disk.new ≡ Some g) × ((content self.old.side g.now).bytes ≡ put_at self.old.offset (1 ∷ frame.now) (content self.old.side h.now).bytes)) }
+            → OnOk result ((g : History) × (D.history disk.new ≡ Some g) × ((content_on self.old.side g.now).bytes ≡ put_at self.old.offset (1 ∷ frame.now) (content_on self.old.side h.now).bytes)) }
         ensures stop { (h : History) (rs : List Framed) (kind : ℕ) (payload : List ℕ) → D.history disk.old ≡ Some h → IsInStep self.old rs h.now → IsFrame frame.now kind payload
             → (g : History) × (D.history disk.new ≡ Some g) × StopsBetween h g rs (rs ++ framed self.old.offset kind payload ∷ []) }
         ensures other { (h : History) (rs : List Framed) → D.history disk.old ≡ Some h → IsInStep self.old rs h.now → (g : History) × (D.history disk.new ≡ Some g) × KeepsOther self.old.side h g }
@@ -102,7 +102,7 @@ impl Pair {
         requires newer { (h : History) (rs : List Framed) (kind : ℕ) (payload : List ℕ) → D.history disk.old ≡ Some h → IsInStep self.old rs h.now → IsFrame frame.now kind payload → self.old.is_live ≡ true → generation_of rs < number_of payload }
         ensures ok { (h : History) (kind : ℕ) (payload : List ℕ) → D.history disk.old ≡ Some h → IsFrame frame.now kind payload
             → OnOk result ((g : History) × (D.history disk.new ≡ Some g) × IsInStep self.new (framed 0 kind payload ∷ []) g.now) }
-        ensures written { (h : History) → D.history disk.old ≡ Some h → OnOk result ((g : History) × (D.history disk.new ≡ Some g) × ((content self.new.side g.now).bytes ≡ 1 ∷ frame.now)) }
+        ensures written { (h : History) → D.history disk.old ≡ Some h → OnOk result ((g : History) × (D.history disk.new ≡ Some g) × ((content_on self.new.side g.now).bytes ≡ 1 ∷ frame.now)) }
         ensures stop { (h : History) (rs : List Framed) (kind : ℕ) (payload : List ℕ) → D.history disk.old ≡ Some h → IsInStep self.old rs h.now → IsFrame frame.now kind payload
             → (g : History) × (D.history disk.new ≡ Some g) × StopsBetween h g rs (framed 0 kind payload ∷ []) }
         ensures other { (h : History) → D.history disk.old ≡ Some h → (g : History) × (D.history disk.new ≡ Some g) × KeepsOther (opposite self.old.side) h g }

@@ -1,7 +1,8 @@
 -- The frames that the tests of pairs write, and that they are frames.
-use Rattle.std.proofs.Common.{◌≡◌, ◌≤◌, List, ℕ, [], ◌∷◌, length, true, refl, ap, subst, arith}
-use Rattle.jf_frame.specs.Framing.{IsFrame, eight_bytes, number_of}
-use Rattle.jf_frame.specs.FramingLaws.{frame_is_of_one}
+use Rattle.std.proofs.Common.{List, ℕ, [], ◌∷◌, refl, arith, ◌≡◌, ◌≤◌, length, true, subst, ap}
+use Rattle.jf_path.specs.Numbers.{eight_bytes}
+use Rattle.jf_frame.specs.Framing.{IsFrame, number_of}
+use Rattle.jf_frame.proofs.FramingLaws.{frame_is_of_one}
 use Rattle.jf_pair.specs.Files.{is_checkpoint}
 
 -- a number below 256 in eight bytes, as the payload of a checkpoint

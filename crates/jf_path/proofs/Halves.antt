@@ -1,9 +1,10 @@
 -- Each half of a byte of a key is a nibble, and each half of any byte is a number below 16.
-use Rattle.std.proofs.Common.{◌≡◌, ℕ, ◌/◌, ◌%◌, ◌<◌, List, get_or, sym, ◌∙◌, arith, inl, inr}
+use Rattle.std.proofs.Common.{◌≡◌, ℕ, ◌/◌, ◌%◌, List, get_or, ◌<◌, sym, ◌∙◌, arith, inl, inr}
 use Rattle.std.proofs.lemmas.Bool.{cases_eq}
 use Rattle.jf_path.specs.Nibbles.{nibble}
-use Rattle.jf_path.specs.NibbleLaws.{nibble-even, nibble-odd}
-use Rattle.jf_path.specs.PathLaws.{halves, get_or-halves-even, get_or-halves-odd}
+use Rattle.jf_path.specs.Paths.{halves}
+use Rattle.jf_path.proofs.NibbleLaws.{nibble-even, nibble-odd}
+use Rattle.jf_path.proofs.PathLaws.{get_or-halves-even, get_or-halves-odd}
 
 -- n is half i of these bytes, from the high half of the first
 pub record IsHalf (bytes : List ℕ) (i n : ℕ) : Type 0 where

@@ -1,4 +1,13 @@
 mod CommonBits
 pub mod Halves
-pub mod Kept
+pub mod PaddedPaths
 pub mod Paths
+pub mod NibbleLaws
+pub mod PathLaws
+pub mod BoolLaws
+pub mod OrderLaws
+pub mod OptionLaws
+pub mod ListLaws
+pub mod FilterLaws
+pub mod ByteLaws
+pub mod NodeLaws

@@ -1,27 +1,19 @@
 -- The bytes without a fault are those of paths.
-use Rattle.std.proofs.Common.{◌≡◌, ℕ, zero, suc, ◌+◌, ◌*◌, ◌/◌, ◌%◌, ◌<◌, ◌≤◌, Bool, true, false, not, ◌&&◌, ◌||◌, ◌==◌, ltb, List, [], ◌∷◌, length, take, drop, set, ◌++◌, get_or, length-take, Option, Some, None, refl, sym, ap, ap₂, ◌∙◌, arith, inl, inr, eq-eqb}
-use Rattle.std.proofs.lemmas.Bool.{cases_eq, ne_eqb, le-ltb, lt-ltb, ltb-false, eqb-true, not-false}
+use Rattle.std.proofs.Common.{Bool, [], ◌∷◌, Option, ◌≡◌, ℕ, List, ap₂, true, false, length, Some, refl, arith, ◌<◌, ltb, ◌+◌, ◌/◌, not, ap, ◌≤◌, ◌||◌, eq-eqb, ◌%◌, ◌&&◌, get_or, ◌==◌, None, inl, inr, zero, suc, ◌*◌, sym, ◌∙◌, take, length-take, drop, set, ◌++◌}
+use Rattle.std.proofs.lemmas.Bool.{lt-ltb, or_left, ne_eqb, or_right, le-ltb, cases_eq, ltb-false, eqb-true, not-false, or_parts}
 use Rattle.jf_path.specs.declared.fault.PathFault.{PathFault}
 use Rattle.jf_path.specs.declared.fault.PathFault.TheVariants.{Length, Padding}
-use Rattle.jf_path.specs.Paths.{IsPath, packed, path_bytes, path_fault, has_padding, has_wrong_length}
 use Rattle.jf_path.specs.Checks.{first_of}
-use Rattle.jf_path.specs.PathLaws.{halves, length-packed, get_or-packed, packed-take-halves, take-halves-packed, length-halves}
+use Rattle.jf_path.specs.Paths.{path_fault, has_padding, has_wrong_length, IsPath, packed, path_bytes, halves}
+use Rattle.jf_path.proofs.PathLaws.{length-packed, get_or-packed, packed-take-halves, length-halves, take-halves-packed}
 
 -- the fault, from the tests for a wrong length and for padding
-abbrev judged : Bool → Bool → Option PathFault
-judged wrong padding = first_of ((wrong, Length) ∷ (padding, Padding) ∷ [])
+abbrev fault_by_tests : Bool → Bool → Option PathFault
+fault_by_tests wrong padding = first_of ((wrong, Length) ∷ (padding, Padding) ∷ [])
 
-by_tests : (bytes : List ℕ) (wrong padding : Bool) → has_wrong_length bytes ≡ wrong → has_padding bytes ≡ padding → path_fault bytes ≡ judged wrong padding
+by_tests : (bytes : List ℕ) (wrong padding : Bool) → has_wrong_length bytes ≡ wrong → has_padding bytes ≡ padding → path_fault bytes ≡ fault_by_tests wrong padding
 unfolding path_fault
-by_tests bytes wrong padding w p = ap₂ judged w p
-
-or_left : (a b : Bool) → a ≡ true → (a || b) ≡ true
-or_left true b e = refl
-or_left false b e = absurd cc
-
-or_right : (a b : Bool) → b ≡ true → (a || b) ≡ true
-or_right true b e = refl
-or_right false b e = e
+by_tests bytes wrong padding w p = ap₂ fault_by_tests w p
 
 pub fault_of_none : (bytes : List ℕ) → length bytes ≡ 0 → path_fault bytes ≡ Some Length
 fault_of_none [] none = by_tests [] true false refl refl
@@ -82,31 +74,27 @@ path_of_halves count bytes path is same =
     ap₂ (λ n (bs : List ℕ). take n (halves bs)) long rest ∙ take-halves-packed path is.nibbles
 
 -- bytes without a fault: a count of at most 64, as many bytes as it needs, and no padding
-pub record IsSound (count : ℕ) (bytes : List ℕ) : Type 0 where
+pub record IsSoundPath (count : ℕ) (bytes : List ℕ) : Type 0 where
   pub short : count ≤ 64
   pub long : length bytes ≡ (count + 1) / 2
   pub there : count ≤ 2 * length bytes
   pub end : count % 2 ≡ 1 → get_or bytes (count / 2) 0 % 16 ≡ 0
 
-test_false : (a b : Bool) → judged a b ≡ None → (a ≡ false) × (b ≡ false)
+test_false : (a b : Bool) → fault_by_tests a b ≡ None → (a ≡ false) × (b ≡ false)
 test_false true b e = absurd (some_none Length e)
 test_false false true e = absurd (some_none Padding e)
 test_false false false e = (refl, refl)
-
-or_false : (a b : Bool) → (a || b) ≡ false → (a ≡ false) × (b ≡ false)
-or_false true b e = absurd cc
-or_false false b e = (refl, e)
 
 and_not_false : (a b : Bool) → (a && not b) ≡ false → a ≡ true → b ≡ true
 and_not_false a true e is = refl
 and_not_false true false e is = absurd cc
 and_not_false false false e is = absurd cc
 
-pub sound : (count : ℕ) (bytes : List ℕ) → path_fault (count ∷ bytes) ≡ None → IsSound count bytes
+pub sound : (count : ℕ) (bytes : List ℕ) → path_fault (count ∷ bytes) ≡ None → IsSoundPath count bytes
 unfolding path_fault
 sound count bytes none =
     let tests = test_false (has_wrong_length (count ∷ bytes)) (has_padding (count ∷ bytes)) none in
-    let first = or_false (ltb 64 count) (not (length bytes == (count + 1) / 2)) tests.0 in
+    let first = or_parts (ltb 64 count) (not (length bytes == (count + 1) / 2)) tests.0 in
     let same : length bytes ≡ (count + 1) / 2 = eqb-true _ _ (not-false _ first.1) in
     record {
       short = ltb-false 64 count first.0;
@@ -124,9 +112,9 @@ copy_more (suc i) (x ∷ to) (y ∷ from) b within room e =
     let more : suc i + 1 ≡ suc (i + 1) = omega arith in
     ap (λ (zs : List ℕ). y ∷ zs) (copy_more i to from b (omega arith) (omega arith) e) ∙ ap (λ n. take n (y ∷ from) ++ drop n (x ∷ to)) (sym more)
 
-pub byte_behind_count : (path : List ℕ) (i : ℕ) → get_or (path_bytes path) (i + 1) 0 ≡ get_or (packed path) i 0
+pub byte_after_count : (path : List ℕ) (i : ℕ) → get_or (path_bytes path) (i + 1) 0 ≡ get_or (packed path) i 0
 unfolding path_bytes
-byte_behind_count path i = ap (λ n. get_or (length path ∷ packed path) n 0) (let e : i + 1 ≡ suc i = omega arith in e)
+byte_after_count path i = ap (λ n. get_or (length path ∷ packed path) n 0) (let e : i + 1 ≡ suc i = omega arith in e)
 
 pub count_in_front : (path : List ℕ) → get_or (path_bytes path) 0 0 ≡ length path
 unfolding path_bytes

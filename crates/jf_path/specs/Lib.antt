@@ -1,11 +1,11 @@
 pub mod Limits
 pub mod Keys
 pub mod Nibbles
-pub mod NibbleLaws
 pub mod Checks
 pub mod Paths
-pub mod PathLaws
-pub mod Kept
+pub mod PaddedPath
 pub mod Names
 pub mod NameLaws
 pub mod Nodes
+pub mod Numbers
+pub mod Faults

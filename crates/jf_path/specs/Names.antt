@@ -1,7 +1,7 @@
 -- Names of nodes, and their order: by version, and then by path.
 use Rattle.std.specs.Prelude.{◌^◌, ◌<◌, Bool, true, ◌&&◌, List, [], ◌∷◌}
-use Rattle.std.specs.Ordering.{nat_cmp, ordering_then, is_lt}
 use Rattle.std.specs.Cmp.Lexicographic.{slice_cmp}
+use Rattle.std.specs.Ordering.{nat_cmp, ordering_then, is_lt}
 use Rattle.std.specs.declared.cmp.Ordering.{Ordering}
 use Rattle.jf_path.specs.Paths.{IsPath}
 use Rattle.jf_path.specs.declared.name.NodeName.{NodeName}
@@ -16,7 +16,7 @@ abbrev pub name_cmp : NodeName → NodeName → Ordering
 name_cmp a b = ordering_then (nat_cmp a.version b.version) (slice_cmp nat_cmp a.path b.path)
 
 -- whether each name is below the next
-abbrev pub rise : List NodeName → Bool
-rise [] = true
-rise (a ∷ []) = true
-rise (a ∷ b ∷ names) = is_lt (name_cmp a b) && rise (b ∷ names)
+abbrev pub are_rising : List NodeName → Bool
+are_rising [] = true
+are_rising (a ∷ []) = true
+are_rising (a ∷ b ∷ names) = is_lt (name_cmp a b) && are_rising (b ∷ names)

@@ -1,15 +1,15 @@
 -- The nibbles of a key, and how far two keys agree.
-use Rattle.std.specs.Prelude.{ℕ, zero, suc, ◌+◌, ◌*◌, Bool, cond, List}
+use Rattle.std.specs.Prelude.{ℕ, Bool, cond, ◌+◌, ◌*◌, List, zero, suc}
 use Rattle.std.specs.Bool.{beq}
 use Rattle.jf_path.specs.Keys.{bit}
 
 -- the number that a bit stands for
-abbrev pub digit : Bool → ℕ
-digit b = cond b 1 0
+abbrev pub bit_number : Bool → ℕ
+bit_number b = cond b 1 0
 
 -- nibble i of a key: its bits from 4 i to 4 i + 3, the highest first
 unfoldable pub nibble : List ℕ → ℕ → ℕ
-nibble key i = 8 * digit (bit key (4 * i)) + 4 * digit (bit key (4 * i + 1)) + 2 * digit (bit key (4 * i + 2)) + digit (bit key (4 * i + 3))
+nibble key i = 8 * bit_number (bit key (4 * i)) + 4 * bit_number (bit key (4 * i + 1)) + 2 * bit_number (bit key (4 * i + 2)) + bit_number (bit key (4 * i + 3))
 
 -- in how many bits two keys agree before they differ, of the n bits from bit i on
 unfoldable pub common_from : ℕ → ℕ → List ℕ → List ℕ → ℕ

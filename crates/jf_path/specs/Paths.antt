@@ -1,10 +1,16 @@
 -- Paths from the root to a node, as nibbles and as bytes (docs/FORMATS.md, Names and nodes in bytes).
-use Rattle.std.specs.Prelude.{ℕ, ◌+◌, ◌*◌, ◌/◌, ◌%◌, ◌<◌, ◌≤◌, Bool, true, false, not, ◌&&◌, ◌||◌, ◌==◌, nat_lt, List, [], ◌∷◌, map, length, slice_index, Option}
+use Rattle.std.specs.Prelude.{◌<◌, ◌≤◌, length, map, ◌+◌, ◌*◌, Bool, true, not, ◌||◌, ◌==◌, nat_lt, false, ◌&&◌, slice_index, Option}
+use Rattle.std.proofs.Common.{ℕ, ◌/◌, ◌%◌, List, [], ◌∷◌}
 use Rattle.std.specs.List.{AllByRecursion, range_with_len}
 use Rattle.jf_path.specs.Nibbles.{nibble}
 use Rattle.jf_path.specs.Checks.{first_of}
 use Rattle.jf_path.specs.declared.fault.PathFault.{PathFault}
 use Rattle.jf_path.specs.declared.fault.PathFault.TheVariants.{Length, Padding}
+
+-- the halves of bytes, the high half of each first
+abbrev pub halves : List ℕ → List ℕ
+halves [] = []
+halves (b ∷ bytes) = b / 16 ∷ b % 16 ∷ halves bytes
 
 -- a path: at most 64 nibbles
 pub record IsPath (path : List ℕ) : Type 0 where

@@ -1,6 +1,6 @@
 // The children of an internal node: at most one for each of the 16 nibbles.
 ghost use Rattle.std.specs.Prelude.{◌≡◌, [], ◌∷◌, ◌++◌, length, OnOk, OnErr};
-ghost use Rattle.jf_path.specs.Nodes.{RiseFrom};
+ghost use Rattle.jf_path.specs.Nodes.{ChildrenRiseFrom};
 
 use crate::memory::Memory;
 use crate::nibbles::Nibble;
@@ -30,11 +30,11 @@ impl Model for Children {
 
     ghost Value = { List Child };
 
-    ghost use Rattle.jf_path.specs.Nodes.{RiseFrom};
+    ghost use Rattle.jf_path.specs.Nodes.{ChildrenRiseFrom};
 
     ghost view = { λ c. c.children.items };
 
-    ghost invariant = { λ c. RiseFrom 0 c.children.items };
+    ghost invariant = { λ c. ChildrenRiseFrom 0 c.children.items };
 }
 
 impl Children {
@@ -57,14 +57,14 @@ impl Children {
     /// The children.
     pub fn as_slice(&self) -> &[Child]
         ensures value { result.now ≡ self.now }
-        ensures rise { RiseFrom 0 self.now }
+        ensures rise { ChildrenRiseFrom 0 self.now }
     {
         &self.children
     }
 
     /// Adds a child after all that are there. If memory runs out, the list is unchanged.
     pub fn push(&mut self, child: Child) -> Result<(), Memory>
-        requires { RiseFrom 0 (self.old ++ child ∷ []) }
+        requires { ChildrenRiseFrom 0 (self.old ++ child ∷ []) }
         ensures ok { OnOk result (self.new ≡ self.old ++ child ∷ []) }
         ensures err { OnErr result (self.new ≡ self.old) }
     {

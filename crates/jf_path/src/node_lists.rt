@@ -1,6 +1,6 @@
 // Lists of named nodes, and lists of names alone.
 ghost use Rattle.std.specs.Prelude.{◌≡◌, [], ◌∷◌, ◌++◌, length, map, IsTrue, OnOk, OnErr};
-ghost use Rattle.jf_path.specs.Names.{rise};
+ghost use Rattle.jf_path.specs.Names.{are_rising};
 
 use crate::memory::Memory;
 use crate::name::NodeName;
@@ -21,11 +21,11 @@ impl Model for FreshList {
 
     ghost Value = { List (NodeName × PlainNode) };
 
-    ghost use Rattle.jf_path.specs.Names.{rise};
+    ghost use Rattle.jf_path.specs.Names.{are_rising};
 
     ghost view = { λ l. l.nodes.items };
 
-    ghost invariant = { λ l. IsTrue (rise (map (λ x. x.0) l.nodes.items)) };
+    ghost invariant = { λ l. IsTrue (are_rising (map (λ x. x.0) l.nodes.items)) };
 }
 
 impl FreshList {
@@ -48,14 +48,14 @@ impl FreshList {
     /// The names and nodes.
     pub fn as_slice(&self) -> &[(NodeName, PlainNode)]
         ensures value { result.now ≡ self.now }
-        ensures rise { IsTrue (rise (map (λ x. x.0) self.now)) }
+        ensures rise { IsTrue (are_rising (map (λ x. x.0) self.now)) }
     {
         &self.nodes
     }
 
     /// Adds a node after all that are there. If memory runs out, it is dropped, and the list is unchanged.
     pub fn push(&mut self, item: (NodeName, PlainNode)) -> Result<(), Memory>
-        requires { IsTrue (rise (map (λ x. x.0) (self.old ++ item ∷ []))) }
+        requires { IsTrue (are_rising (map (λ x. x.0) (self.old ++ item ∷ []))) }
         ensures ok { OnOk result (self.new ≡ self.old ++ item ∷ []) }
         ensures err { OnErr result (self.new ≡ self.old) }
     {
@@ -76,11 +76,11 @@ impl Model for NameList {
 
     ghost Value = { List NodeName };
 
-    ghost use Rattle.jf_path.specs.Names.{rise};
+    ghost use Rattle.jf_path.specs.Names.{are_rising};
 
     ghost view = { λ l. l.names.items };
 
-    ghost invariant = { λ l. IsTrue (rise l.names.items) };
+    ghost invariant = { λ l. IsTrue (are_rising l.names.items) };
 }
 
 impl NameList {
@@ -103,14 +103,14 @@ impl NameList {
     /// The names.
     pub fn as_slice(&self) -> &[NodeName]
         ensures value { result.now ≡ self.now }
-        ensures rise { IsTrue (rise self.now) }
+        ensures rise { IsTrue (are_rising self.now) }
     {
         &self.names
     }
 
     /// Adds a name after all that are there. If memory runs out, the list is unchanged.
     pub fn push(&mut self, name: NodeName) -> Result<(), Memory>
-        requires { IsTrue (rise (self.old ++ name ∷ [])) }
+        requires { IsTrue (are_rising (self.old ++ name ∷ [])) }
         ensures ok { OnOk result (self.new ≡ self.old ++ name ∷ []) }
         ensures err { OnErr result (self.new ≡ self.old) }
     {

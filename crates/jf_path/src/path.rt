@@ -4,7 +4,7 @@ ghost use Rattle.std.specs.Prelude.{◌≡◌, [], ◌∷◌, ◌++◌, ◌+◌,
 ghost use Rattle.std.specs.List.{starts_with};
 ghost use Rattle.std.specs.Result.{result_err};
 ghost use Rattle.jf_path.specs.Paths.{IsPath, key_path, packed, path_bytes, path_fault};
-ghost use Rattle.jf_path.specs.PathLaws.{halves};
+ghost use Rattle.jf_path.specs.Paths.{halves};
 
 use crate::fault::PathFault;
 use crate::key::{Key, nibble};
@@ -24,13 +24,13 @@ pub struct NibblePath {
 
 impl Model for NibblePath {
     ghost use Rattle.std.specs.Prelude.{List, ℕ, ◌-◌, ◌++◌, take, length, replicate};
-    ghost use Rattle.jf_path.specs.Kept.{IsKept, kept_again};
+    ghost use Rattle.jf_path.specs.PaddedPath.{ArePaddedNibbles, kept_again};
 
     ghost Value = { List ℕ };
 
     ghost view = { λ p. take p.count p.nibbles };
 
-    ghost invariant = { λ p. IsKept p.count p.nibbles };
+    ghost invariant = { λ p. ArePaddedNibbles p.count p.nibbles };
 
     ghost inverse = { λ p. record { nibbles = p ++ replicate (64 - length p) 0; count = length p } };
 

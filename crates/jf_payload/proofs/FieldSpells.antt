@@ -1,33 +1,35 @@
 -- Numbers, hashes, names and nodes are read exactly as they are spelled.
-use Rattle.std.proofs.Common.{◌≡◌, ℕ, ◌^◌, ◌<◌, true, false, cond, not, ◌==◌, List, [], ◌∷◌, ◌++◌, length, Some, None, Result, Ok, Err, refl, sym, ap, subst, ◌∙◌, arith}
-use Rattle.std.specs.List.{flat_map, AllByRecursion}
+use Rattle.std.proofs.Common.{◌≡◌, Some, Result, Ok, Err, ap, ℕ, arith, ◌<◌, List, [], ◌∷◌, ◌++◌, length, ◌^◌, true, false, cond, not, ◌==◌, refl, subst, None, sym, ◌∙◌}
+use Rattle.std.proofs.lemmas.Option.{same_Some}
+use Rattle.std.specs.List.{AllByRecursion, flat_map}
 use Rattle.std.specs.Result.{result_ok}
-use Rattle.jf_path.specs.Keys.{IsKey, IsBytes}
-use Rattle.jf_path.specs.Names.{IsName}
+use Rattle.jf_path.specs.Keys.{IsBytes, IsKey}
+use Rattle.jf_path.specs.Numbers.{two_bytes, four_bytes, eight_bytes}
 use Rattle.jf_path.specs.Paths.{packed, path_bytes}
-use Rattle.jf_path.specs.declared.children.Child.{Child}
+use Rattle.jf_path.specs.Names.{IsName}
 use Rattle.jf_path.specs.declared.name.NodeName.{NodeName}
+use Rattle.jf_path.specs.declared.children.Child.{Child}
 use Rattle.jf_path.specs.declared.node.PlainNode.{PlainNode}
 use Rattle.jf_path.specs.declared.node.PlainNode.TheVariants as node
-use Rattle.jf_codec.specs.Numbers.{two_bytes, four_bytes, eight_bytes}
-use Rattle.jf_codec.specs.Spelling.{name_bytes, node_bytes, child_bytes, count_bytes, bitmap, leaves, tag, format_of_children, IsChild, AreEnough, IsNode, IsValid, spelling}
-use Rattle.jf_codec.specs.Reading.{bytes_at, eight_at, name_at, node_at}
-use Rattle.jf_codec.specs.declared.format.Format.{Format}
-use Rattle.jf_codec.specs.declared.format.Format.TheVariants as format
+use Rattle.jf_path.proofs.ByteLaws.{IsBytes-append, IsBytes-from_places, Takes}
+use Rattle.jf_path.proofs.OptionLaws.{guard_kept}
 use Rattle.jf_codec.specs.declared.fault.CodecFault.{CodecFault}
-use Rattle.jf_codec.proofs.FieldLaws.{IsBytes-from_places, Takes, bytes_take, bytes_again, eight_takes, eight_again}
+use Rattle.jf_codec.specs.Spelling.{name_bytes, count_bytes, child_bytes, IsChild, tag, node_bytes, bitmap, leaf_children, IsNode, format_of_children, AreEnough, IsValid, spelling}
+use Rattle.jf_codec.specs.declared.format.Format.{Format}
+use Rattle.jf_codec.specs.Reading.{eight_at, bytes_at, name_at, node_at}
+use Rattle.jf_codec.specs.declared.format.Format.TheVariants as format
+use Rattle.jf_codec.proofs.FieldLaws.{eight_takes, eight_again, bytes_take, bytes_again}
 use Rattle.jf_codec.proofs.Names.{name_takes, name_again}
-use Rattle.jf_codec.proofs.Nodes.{node_takes, node_again, counted_format}
+use Rattle.jf_codec.proofs.Nodes.{counted_format, node_takes, node_again}
 use Rattle.jf_codec.proofs.Spellings.{one_spelling}
-use Rattle.jf_payload.specs.Reading.{number_at, hash_at, named_at, plain_at, has_counts, is_counted, is_in}
-use Rattle.jf_payload.proofs.Spells.{Spells, IsBytes-append, bind_some, guard_kept, some_is}
+use Rattle.jf_payload.specs.Reading.{long_at, hash_at, named_at, has_counts, counts_fit, is_in, format_node_at}
+use Rattle.jf_payload.proofs.Spells.{Spells, bind_some}
 
 pub from_ok : {A : Type 0} (r : Result A CodecFault) (x : A) → result_ok r ≡ Some x → r ≡ Ok x
-from_ok (Ok y) x e = ap Ok (some_is y x e)
+from_ok (Ok y) x e = ap Ok (same_Some y x e)
 from_ok (Err f) x e = absurd cc
 
 -- ---- spellings are bytes
-
 IsBytes-two : (n : ℕ) → IsBytes (two_bytes n)
 unfolding two_bytes
 IsBytes-two n = (omega arith, (omega arith, tt))
@@ -74,11 +76,10 @@ IsBytes-node fmt node.Null is = (omega arith, tt)
 IsBytes-node fmt (node.Leaf key value) is =
     (omega arith, IsBytes-append (key ++ four_bytes (length value)) value (IsBytes-append key (four_bytes (length value)) (IsBytes-hash key is.0) (IsBytes-four (length value))) is.1)
 IsBytes-node fmt (node.Inner cs) is =
-    (tag_fits fmt, IsBytes-append (two_bytes (bitmap cs) ++ two_bytes (bitmap (leaves cs))) (flat_map (child_bytes fmt) cs) (IsBytes-append (two_bytes (bitmap cs)) (two_bytes (bitmap (leaves cs))) (IsBytes-two (bitmap cs)) (IsBytes-two (bitmap (leaves cs)))) (IsBytes-children fmt cs is.2))
+    (tag_fits fmt, IsBytes-append (two_bytes (bitmap cs) ++ two_bytes (bitmap (leaf_children cs))) (flat_map (child_bytes fmt) cs) (IsBytes-append (two_bytes (bitmap cs)) (two_bytes (bitmap (leaf_children cs))) (IsBytes-two (bitmap cs)) (IsBytes-two (bitmap (leaf_children cs)))) (IsBytes-children fmt cs is.2))
 
 -- ---- fields
-
-pub number_spells : Spells eight_bytes (λ n. n < 2 ^ 64) number_at
+pub number_spells : Spells eight_bytes (λ n. n < 2 ^ 64) long_at
 number_spells = record {
   takes = λ bytes x bs e. eight_takes bytes x bs (from_ok (eight_at bytes) x e);
   again = λ n rest lt. ap result_ok (eight_again n rest lt);
@@ -100,9 +101,8 @@ name_spells = record {
 }
 
 -- ---- nodes of a format
-
 -- children that have counts exactly as a format asks are of that format
-format_told : (fmt : Format) (cs : List Child) → is_counted fmt (has_counts cs) ≡ true → (cs ≡ [] → ⊥) → format_of_children cs ≡ fmt
+format_told : (fmt : Format) (cs : List Child) → counts_fit fmt (has_counts cs) ≡ true → (cs ≡ [] → ⊥) → format_of_children cs ≡ fmt
 format_told fmt [] told some = absurd (some refl)
 format_told format.One (c ∷ cs) told some =
     elim (c.count == 0) as (λ b. not (not b) ≡ true → cond b format.One format.Two ≡ format.One) [ true ↦ λ e. refl | false ↦ λ e. absurd cc ] told
@@ -122,7 +122,7 @@ valid_in fmt (node.Inner cs) is told =
     let same = format_told fmt cs told (some_of cs is.0) in
     (subst (λ f. IsNode f (node.Inner cs)) same is, ap (λ f. node_bytes f (node.Inner cs)) same)
 
-counted_in : (fmt : Format) (cs : List Child) → format_of_children cs ≡ fmt → (cs ≡ [] → ⊥) → is_counted fmt (has_counts cs) ≡ true
+counted_in : (fmt : Format) (cs : List Child) → format_of_children cs ≡ fmt → (cs ≡ [] → ⊥) → counts_fit fmt (has_counts cs) ≡ true
 counted_in fmt [] same some = absurd (some refl)
 counted_in format.One (c ∷ cs) same some =
     elim (c.count == 0) as (λ b. cond b format.One format.Two ≡ format.One → not (not b) ≡ true) [ true ↦ λ e. refl | false ↦ λ e. absurd cc ] same
@@ -136,14 +136,14 @@ node_in fmt (node.Leaf key value) is = refl
 node_in fmt (node.Inner []) is = absurd is.0
 node_in fmt (node.Inner (c ∷ cs)) is = counted_in fmt (c ∷ cs) (counted_format fmt (c ∷ cs) is.0 is.2) (λ e. absurd cc)
 
-pub node_spells : (fmt : Format) → Spells (node_bytes fmt) (IsNode fmt) (plain_at fmt)
+pub node_spells : (fmt : Format) → Spells (node_bytes fmt) (IsNode fmt) (format_node_at fmt)
 node_spells fmt = record {
   takes = λ bytes x bs e.
       let y = bind_some (result_ok (node_at bytes)) (λ y. cond (is_in fmt y.0) (Some y) None) x e in
       let g = guard_kept (is_in fmt y.0.0) (Some y.0) x y.2 in
       let t = node_takes bytes y.0 bs (from_ok (node_at bytes) y.0 y.1) in
       let v = valid_in fmt y.0.0 t.1 g.0 in
-      subst (λ (z : PlainNode × List ℕ). Takes bytes (node_bytes fmt z.0) z.1 × IsNode fmt z.0) (some_is y.0 x g.1) (subst (λ (s : List ℕ). Takes bytes s y.0.1) v.1 t.0, v.0);
+      subst (λ (z : PlainNode × List ℕ). Takes bytes (node_bytes fmt z.0) z.1 × IsNode fmt z.0) (same_Some y.0 x g.1) (subst (λ (s : List ℕ). Takes bytes s y.0.1) v.1 t.0, v.0);
   again = λ n rest is.
       let o = one_spelling fmt n is in
       let read : node_at (node_bytes fmt n ++ rest) ≡ Ok (n, rest) = ap (λ (s : List ℕ). node_at (s ++ rest)) (sym o.1) ∙ node_again n rest o.0 in

@@ -4,6 +4,6 @@ pub mod Rising
 pub mod FieldSpells
 pub mod RecordSpells
 pub mod WholeRecords
-pub mod Kept
+pub mod FormatLaws
 pub mod Uncounted
 pub mod Samples

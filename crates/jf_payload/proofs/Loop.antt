@@ -1,8 +1,8 @@
 -- Reading values one after the other, as the loops do.
-use Rattle.std.proofs.Common.{◌≡◌, ℕ, suc, ◌-◌, ◌+◌, ◌≤◌, ◌<◌, Bool, true, false, List, [], ◌∷◌, ◌++◌, Option, Some, None, refl, sym, ◌∙◌, arith}
+use Rattle.std.proofs.Common.{◌≡◌, ℕ, suc, ◌-◌, ◌+◌, ◌<◌, Bool, true, List, [], ◌∷◌, ◌++◌, Option, Some, refl, sym, ◌∙◌, arith, None, false, ◌≤◌}
+use Rattle.jf_payload.specs.Reading.{Front, many_at, FailsToRead}
 use Rattle.jf_payload.specs.declared.fault.RecordFault.{RecordFault}
 use Rattle.jf_payload.specs.declared.fault.RecordFault.TheVariants as fault
-use Rattle.jf_payload.specs.Reading.{Front, Fails, many_at}
 
 module _ {X : Type 0} (test : List X → Bool) (one : Front X) (front : List X) (count i : ℕ) (bytes : List ℕ) (total : Option (List X × List ℕ)) (so_far : many_at test one (count - i) front bytes ≡ total) where
   pub goes_on : (x : X) (after : List ℕ) → i < count → one bytes ≡ Some (x, after) → test (front ++ x ∷ []) ≡ true → many_at test one (count - (i + 1)) (front ++ x ∷ []) after ≡ total
@@ -12,7 +12,7 @@ module _ {X : Type 0} (test : List X → Bool) (one : Front X) (front : List X) 
       let step : many_at test one (count - i) front bytes ≡ many_at test one (count - (i + 1)) (front ++ x ∷ []) after = rw (k, read, passed) refl in
       sym step ∙ so_far
 
-  pub ends : (f : RecordFault) → i < count → Fails f (one bytes) → Fails f total
+  pub ends : (f : RecordFault) → i < count → FailsToRead f (one bytes) → FailsToRead f total
   unfolding many_at
   ends fault.Memory lt read = tt
   ends fault.Bad lt read =
@@ -20,10 +20,10 @@ module _ {X : Type 0} (test : List X → Bool) (one : Front X) (front : List X) 
       let step : many_at test one (count - i) front bytes ≡ None = rw (k, read) refl in
       sym so_far ∙ step
 
-  pub ends_behind : (f : RecordFault) (x : X) (after : List ℕ) → i < count → one bytes ≡ Some (x, after) → (f ≡ fault.Bad → test (front ++ x ∷ []) ≡ false) → Fails f total
+  pub ends_after : (f : RecordFault) (x : X) (after : List ℕ) → i < count → one bytes ≡ Some (x, after) → (f ≡ fault.Bad → test (front ++ x ∷ []) ≡ false) → FailsToRead f total
   unfolding many_at
-  ends_behind fault.Memory x after lt read failed = tt
-  ends_behind fault.Bad x after lt read failed =
+  ends_after fault.Memory x after lt read failed = tt
+  ends_after fault.Bad x after lt read failed =
       let k : count - i ≡ suc (count - (i + 1)) = omega arith in
       let step : many_at test one (count - i) front bytes ≡ None = rw (k, read, failed refl) refl in
       sym so_far ∙ step

@@ -1,20 +1,18 @@
 -- Worked records as bytes. The expected bytes come from an encoder written apart from this one.
-use Rattle.std.specs.Prelude.{◌≡◌, true, List, ℕ, [], ◌∷◌, refl}
-use Rattle.jf_path.specs.Paths.{path_bytes}
+use Rattle.std.specs.Prelude.{List, ℕ, [], ◌∷◌, ◌≡◌, refl, true}
 use Rattle.jf_path.specs.declared.name.NodeName.{NodeName}
+use Rattle.jf_path.specs.Paths.{path_bytes}
+use Rattle.jf_path.specs.Numbers.{eight_bytes, four_bytes, two_bytes}
 use Rattle.jf_path.specs.declared.node.PlainNode.TheVariants as node
 use Rattle.jf_frame.specs.Framing.{frame}
-use Rattle.jf_frame.specs.Framing as framing
-use Rattle.jf_codec.specs.Numbers.{two_bytes, four_bytes, eight_bytes}
 use Rattle.jf_codec.specs.Spelling.{node_bytes}
 use Rattle.jf_codec.specs.declared.format.Format.{Format}
 use Rattle.jf_codec.specs.declared.format.Format.TheVariants as format
 use Rattle.jf_payload.specs.declared.records.Record.{Record}
+use Rattle.jf_payload.specs.Spelling.{kind_of, record_bytes, commit_bytes}
 use Rattle.jf_payload.specs.declared.records.Record.TheVariants as «record»
-use Rattle.jf_payload.specs.Spelling.{kind_of, commit_bytes, record_bytes}
 
 -- ---- a new store, a landing of one leaf on it, and all of it compacted
-
 -- the root of the empty map
 abbrev no_entry : List ℕ
 no_entry = 110 ∷ 52 ∷ 11 ∷ 156 ∷ 255 ∷ 179 ∷ 122 ∷ 152 ∷ 156 ∷ 165 ∷ 68 ∷ 230 ∷ 187 ∷ 120 ∷ 10 ∷ 44 ∷ 120 ∷ 144 ∷ 29 ∷ 63 ∷ 179 ∷ 55 ∷ 56 ∷ 118 ∷ 133 ∷ 17 ∷ 163 ∷ 6 ∷ 23 ∷ 175 ∷ 160 ∷ 29 ∷ []
@@ -32,17 +30,17 @@ root_name version = record { version = version; path = [] }
 abbrev never : ℕ
 never = 18446744073709551615
 
-abbrev new_store : Record
-new_store = «record».Checkpoint 1 0 0 0 (no_entry ∷ []) ((root_name 0, node.Null, never) ∷ [])
+abbrev new_store_record : Record
+new_store_record = «record».Checkpoint 1 0 0 0 (no_entry ∷ []) ((root_name 0, node.Null, never) ∷ [])
 
 -- the 101 bytes of side A of a new store
-new_store_in_2 : 1 ∷ frame (kind_of format.Two new_store) (record_bytes format.Two new_store) ≡ 1 ∷ 5 ∷ 0 ∷ 0 ∷ 0 ∷ 0 ∷ 0 ∷ 0 ∷ 0 ∷ 90 ∷ 0 ∷ 0 ∷ 0 ∷ 0 ∷ 0 ∷ 0 ∷ 0 ∷ 1 ∷ 0 ∷ 0 ∷ 0 ∷ 0 ∷ 0 ∷ 0 ∷ 0 ∷ 0 ∷ 0 ∷ 0 ∷ 0 ∷ 0 ∷ 0 ∷ 0 ∷ 0 ∷ 0 ∷ 0 ∷ 0 ∷ 0 ∷ 0 ∷ 0 ∷ 0 ∷ 0 ∷ 0 ∷ 110 ∷ 52 ∷ 11 ∷ 156 ∷ 255 ∷ 179 ∷ 122 ∷ 152 ∷ 156 ∷ 165 ∷ 68 ∷ 230 ∷ 187 ∷ 120 ∷ 10 ∷ 44 ∷ 120 ∷ 144 ∷ 29 ∷ 63 ∷ 179 ∷ 55 ∷ 56 ∷ 118 ∷ 133 ∷ 17 ∷ 163 ∷ 6 ∷ 23 ∷ 175 ∷ 160 ∷ 29 ∷ 0 ∷ 0 ∷ 0 ∷ 0 ∷ 0 ∷ 0 ∷ 0 ∷ 1 ∷ 0 ∷ 0 ∷ 0 ∷ 0 ∷ 0 ∷ 0 ∷ 0 ∷ 0 ∷ 0 ∷ 0 ∷ 255 ∷ 255 ∷ 255 ∷ 255 ∷ 255 ∷ 255 ∷ 255 ∷ 255 ∷ 0 ∷ []
-unfolding record_bytes eight_bytes framing.eight_bytes node_bytes path_bytes
+new_store_in_2 : 1 ∷ frame (kind_of format.Two new_store_record) (record_bytes format.Two new_store_record) ≡ 1 ∷ 5 ∷ 0 ∷ 0 ∷ 0 ∷ 0 ∷ 0 ∷ 0 ∷ 0 ∷ 90 ∷ 0 ∷ 0 ∷ 0 ∷ 0 ∷ 0 ∷ 0 ∷ 0 ∷ 1 ∷ 0 ∷ 0 ∷ 0 ∷ 0 ∷ 0 ∷ 0 ∷ 0 ∷ 0 ∷ 0 ∷ 0 ∷ 0 ∷ 0 ∷ 0 ∷ 0 ∷ 0 ∷ 0 ∷ 0 ∷ 0 ∷ 0 ∷ 0 ∷ 0 ∷ 0 ∷ 0 ∷ 0 ∷ 110 ∷ 52 ∷ 11 ∷ 156 ∷ 255 ∷ 179 ∷ 122 ∷ 152 ∷ 156 ∷ 165 ∷ 68 ∷ 230 ∷ 187 ∷ 120 ∷ 10 ∷ 44 ∷ 120 ∷ 144 ∷ 29 ∷ 63 ∷ 179 ∷ 55 ∷ 56 ∷ 118 ∷ 133 ∷ 17 ∷ 163 ∷ 6 ∷ 23 ∷ 175 ∷ 160 ∷ 29 ∷ 0 ∷ 0 ∷ 0 ∷ 0 ∷ 0 ∷ 0 ∷ 0 ∷ 1 ∷ 0 ∷ 0 ∷ 0 ∷ 0 ∷ 0 ∷ 0 ∷ 0 ∷ 0 ∷ 0 ∷ 0 ∷ 255 ∷ 255 ∷ 255 ∷ 255 ∷ 255 ∷ 255 ∷ 255 ∷ 255 ∷ 0 ∷ []
+unfolding record_bytes eight_bytes node_bytes path_bytes
 new_store_in_2 = refl
 
 -- a new store in format 1
-new_store_in_1 : 1 ∷ frame (kind_of format.One new_store) (record_bytes format.One new_store) ≡ 1 ∷ 4 ∷ 0 ∷ 0 ∷ 0 ∷ 0 ∷ 0 ∷ 0 ∷ 0 ∷ 90 ∷ 0 ∷ 0 ∷ 0 ∷ 0 ∷ 0 ∷ 0 ∷ 0 ∷ 1 ∷ 0 ∷ 0 ∷ 0 ∷ 0 ∷ 0 ∷ 0 ∷ 0 ∷ 0 ∷ 0 ∷ 0 ∷ 0 ∷ 0 ∷ 0 ∷ 0 ∷ 0 ∷ 0 ∷ 0 ∷ 0 ∷ 0 ∷ 0 ∷ 0 ∷ 0 ∷ 0 ∷ 0 ∷ 110 ∷ 52 ∷ 11 ∷ 156 ∷ 255 ∷ 179 ∷ 122 ∷ 152 ∷ 156 ∷ 165 ∷ 68 ∷ 230 ∷ 187 ∷ 120 ∷ 10 ∷ 44 ∷ 120 ∷ 144 ∷ 29 ∷ 63 ∷ 179 ∷ 55 ∷ 56 ∷ 118 ∷ 133 ∷ 17 ∷ 163 ∷ 6 ∷ 23 ∷ 175 ∷ 160 ∷ 29 ∷ 0 ∷ 0 ∷ 0 ∷ 0 ∷ 0 ∷ 0 ∷ 0 ∷ 1 ∷ 0 ∷ 0 ∷ 0 ∷ 0 ∷ 0 ∷ 0 ∷ 0 ∷ 0 ∷ 0 ∷ 0 ∷ 255 ∷ 255 ∷ 255 ∷ 255 ∷ 255 ∷ 255 ∷ 255 ∷ 255 ∷ 0 ∷ []
-unfolding record_bytes eight_bytes framing.eight_bytes node_bytes path_bytes
+new_store_in_1 : 1 ∷ frame (kind_of format.One new_store_record) (record_bytes format.One new_store_record) ≡ 1 ∷ 4 ∷ 0 ∷ 0 ∷ 0 ∷ 0 ∷ 0 ∷ 0 ∷ 0 ∷ 90 ∷ 0 ∷ 0 ∷ 0 ∷ 0 ∷ 0 ∷ 0 ∷ 0 ∷ 1 ∷ 0 ∷ 0 ∷ 0 ∷ 0 ∷ 0 ∷ 0 ∷ 0 ∷ 0 ∷ 0 ∷ 0 ∷ 0 ∷ 0 ∷ 0 ∷ 0 ∷ 0 ∷ 0 ∷ 0 ∷ 0 ∷ 0 ∷ 0 ∷ 0 ∷ 0 ∷ 0 ∷ 0 ∷ 110 ∷ 52 ∷ 11 ∷ 156 ∷ 255 ∷ 179 ∷ 122 ∷ 152 ∷ 156 ∷ 165 ∷ 68 ∷ 230 ∷ 187 ∷ 120 ∷ 10 ∷ 44 ∷ 120 ∷ 144 ∷ 29 ∷ 63 ∷ 179 ∷ 55 ∷ 56 ∷ 118 ∷ 133 ∷ 17 ∷ 163 ∷ 6 ∷ 23 ∷ 175 ∷ 160 ∷ 29 ∷ 0 ∷ 0 ∷ 0 ∷ 0 ∷ 0 ∷ 0 ∷ 0 ∷ 1 ∷ 0 ∷ 0 ∷ 0 ∷ 0 ∷ 0 ∷ 0 ∷ 0 ∷ 0 ∷ 0 ∷ 0 ∷ 255 ∷ 255 ∷ 255 ∷ 255 ∷ 255 ∷ 255 ∷ 255 ∷ 255 ∷ 0 ∷ []
+unfolding record_bytes eight_bytes node_bytes path_bytes
 new_store_in_1 = refl
 
 abbrev first_landing : Record
@@ -50,7 +48,7 @@ first_landing = «record».NodeCommit (record { version = 1; root = one_entry; f
 
 -- the 122 bytes of a landing of one leaf on a new store, the same in both formats
 landing_of_a_leaf : (fmt : Format) → frame (kind_of fmt first_landing) (record_bytes fmt first_landing) ≡ 3 ∷ 0 ∷ 0 ∷ 0 ∷ 0 ∷ 0 ∷ 0 ∷ 0 ∷ 112 ∷ 0 ∷ 0 ∷ 0 ∷ 0 ∷ 0 ∷ 0 ∷ 0 ∷ 1 ∷ 155 ∷ 183 ∷ 44 ∷ 57 ∷ 241 ∷ 61 ∷ 43 ∷ 81 ∷ 46 ∷ 163 ∷ 78 ∷ 174 ∷ 153 ∷ 162 ∷ 143 ∷ 109 ∷ 128 ∷ 122 ∷ 19 ∷ 74 ∷ 177 ∷ 37 ∷ 232 ∷ 145 ∷ 114 ∷ 49 ∷ 12 ∷ 111 ∷ 110 ∷ 167 ∷ 47 ∷ 143 ∷ 0 ∷ 0 ∷ 0 ∷ 0 ∷ 0 ∷ 0 ∷ 0 ∷ 1 ∷ 0 ∷ 0 ∷ 0 ∷ 0 ∷ 0 ∷ 0 ∷ 0 ∷ 1 ∷ 0 ∷ 1 ∷ 25 ∷ 213 ∷ 245 ∷ 124 ∷ 142 ∷ 139 ∷ 60 ∷ 215 ∷ 96 ∷ 248 ∷ 83 ∷ 187 ∷ 141 ∷ 121 ∷ 0 ∷ 214 ∷ 142 ∷ 16 ∷ 239 ∷ 2 ∷ 103 ∷ 67 ∷ 131 ∷ 222 ∷ 101 ∷ 169 ∷ 180 ∷ 214 ∷ 94 ∷ 65 ∷ 155 ∷ 38 ∷ 0 ∷ 0 ∷ 0 ∷ 1 ∷ 49 ∷ 0 ∷ 0 ∷ 0 ∷ 0 ∷ 0 ∷ 0 ∷ 0 ∷ 1 ∷ 0 ∷ 0 ∷ 0 ∷ 0 ∷ 0 ∷ 0 ∷ 0 ∷ 0 ∷ 0 ∷ 0 ∷ []
-unfolding record_bytes commit_bytes eight_bytes four_bytes framing.eight_bytes node_bytes path_bytes
+unfolding record_bytes commit_bytes eight_bytes four_bytes node_bytes path_bytes
 landing_of_a_leaf fmt = refl
 
 abbrev compacted : Record
@@ -59,11 +57,10 @@ compacted =
 
 -- a checkpoint of that store after one more landing, which changes nothing
 compacted_in_2 : frame (kind_of format.Two compacted) (record_bytes format.Two compacted) ≡ 5 ∷ 0 ∷ 0 ∷ 0 ∷ 0 ∷ 0 ∷ 0 ∷ 1 ∷ 8 ∷ 0 ∷ 0 ∷ 0 ∷ 0 ∷ 0 ∷ 0 ∷ 0 ∷ 2 ∷ 0 ∷ 0 ∷ 0 ∷ 0 ∷ 0 ∷ 0 ∷ 0 ∷ 0 ∷ 0 ∷ 0 ∷ 0 ∷ 0 ∷ 0 ∷ 0 ∷ 0 ∷ 0 ∷ 0 ∷ 0 ∷ 0 ∷ 0 ∷ 0 ∷ 0 ∷ 0 ∷ 2 ∷ 110 ∷ 52 ∷ 11 ∷ 156 ∷ 255 ∷ 179 ∷ 122 ∷ 152 ∷ 156 ∷ 165 ∷ 68 ∷ 230 ∷ 187 ∷ 120 ∷ 10 ∷ 44 ∷ 120 ∷ 144 ∷ 29 ∷ 63 ∷ 179 ∷ 55 ∷ 56 ∷ 118 ∷ 133 ∷ 17 ∷ 163 ∷ 6 ∷ 23 ∷ 175 ∷ 160 ∷ 29 ∷ 155 ∷ 183 ∷ 44 ∷ 57 ∷ 241 ∷ 61 ∷ 43 ∷ 81 ∷ 46 ∷ 163 ∷ 78 ∷ 174 ∷ 153 ∷ 162 ∷ 143 ∷ 109 ∷ 128 ∷ 122 ∷ 19 ∷ 74 ∷ 177 ∷ 37 ∷ 232 ∷ 145 ∷ 114 ∷ 49 ∷ 12 ∷ 111 ∷ 110 ∷ 167 ∷ 47 ∷ 143 ∷ 155 ∷ 183 ∷ 44 ∷ 57 ∷ 241 ∷ 61 ∷ 43 ∷ 81 ∷ 46 ∷ 163 ∷ 78 ∷ 174 ∷ 153 ∷ 162 ∷ 143 ∷ 109 ∷ 128 ∷ 122 ∷ 19 ∷ 74 ∷ 177 ∷ 37 ∷ 232 ∷ 145 ∷ 114 ∷ 49 ∷ 12 ∷ 111 ∷ 110 ∷ 167 ∷ 47 ∷ 143 ∷ 0 ∷ 0 ∷ 0 ∷ 0 ∷ 0 ∷ 0 ∷ 0 ∷ 3 ∷ 0 ∷ 0 ∷ 0 ∷ 0 ∷ 0 ∷ 0 ∷ 0 ∷ 0 ∷ 0 ∷ 0 ∷ 0 ∷ 0 ∷ 0 ∷ 0 ∷ 0 ∷ 0 ∷ 0 ∷ 1 ∷ 0 ∷ 0 ∷ 0 ∷ 0 ∷ 0 ∷ 0 ∷ 0 ∷ 1 ∷ 0 ∷ 1 ∷ 25 ∷ 213 ∷ 245 ∷ 124 ∷ 142 ∷ 139 ∷ 60 ∷ 215 ∷ 96 ∷ 248 ∷ 83 ∷ 187 ∷ 141 ∷ 121 ∷ 0 ∷ 214 ∷ 142 ∷ 16 ∷ 239 ∷ 2 ∷ 103 ∷ 67 ∷ 131 ∷ 222 ∷ 101 ∷ 169 ∷ 180 ∷ 214 ∷ 94 ∷ 65 ∷ 155 ∷ 38 ∷ 0 ∷ 0 ∷ 0 ∷ 1 ∷ 49 ∷ 0 ∷ 0 ∷ 0 ∷ 0 ∷ 0 ∷ 0 ∷ 0 ∷ 2 ∷ 0 ∷ 0 ∷ 0 ∷ 0 ∷ 0 ∷ 0 ∷ 0 ∷ 2 ∷ 0 ∷ 1 ∷ 25 ∷ 213 ∷ 245 ∷ 124 ∷ 142 ∷ 139 ∷ 60 ∷ 215 ∷ 96 ∷ 248 ∷ 83 ∷ 187 ∷ 141 ∷ 121 ∷ 0 ∷ 214 ∷ 142 ∷ 16 ∷ 239 ∷ 2 ∷ 103 ∷ 67 ∷ 131 ∷ 222 ∷ 101 ∷ 169 ∷ 180 ∷ 214 ∷ 94 ∷ 65 ∷ 155 ∷ 38 ∷ 0 ∷ 0 ∷ 0 ∷ 1 ∷ 49 ∷ 255 ∷ 255 ∷ 255 ∷ 255 ∷ 255 ∷ 255 ∷ 255 ∷ 255 ∷ 0 ∷ []
-unfolding record_bytes eight_bytes four_bytes framing.eight_bytes node_bytes path_bytes
+unfolding record_bytes eight_bytes four_bytes node_bytes path_bytes
 compacted_in_2 = refl
 
 -- ---- each kind, with internal nodes
-
 -- a later floor
 a_floor : record_bytes format.Two («record».Floor 7) ≡ (0 ∷ 0 ∷ 0 ∷ 0 ∷ 0 ∷ 0 ∷ 0 ∷ 7 ∷ [])
 unfolding record_bytes commit_bytes eight_bytes four_bytes two_bytes node_bytes path_bytes

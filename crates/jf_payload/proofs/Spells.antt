@@ -1,10 +1,12 @@
 -- Readers that read exactly what a spelling writes, and how to build them from one another.
-use Rattle.std.proofs.Common.{◌≡◌, ℕ, zero, suc, Bool, true, false, cond, ◌&&◌, IsTrue, List, [], ◌∷◌, ◌++◌, length, Option, Some, None, refl, sym, ap, subst, ◌∙◌, append_assoc}
-use Rattle.std.specs.List.{flat_map, AllByRecursion}
+use Rattle.std.proofs.Common.{◌≡◌, ℕ, List, ◌++◌, Some, Option, None, refl, ap, subst, ◌∙◌, append_assoc, Bool, cond, IsTrue, sym, true, length, zero, suc, [], ◌∷◌}
 use Rattle.std.proofs.lemmas.List.{append-nil}
+use Rattle.std.proofs.lemmas.Option.{same_Some}
+use Rattle.std.specs.List.{flat_map, AllByRecursion}
 use Rattle.jf_path.specs.Keys.{IsBytes}
-use Rattle.jf_codec.proofs.FieldLaws.{AreBytes, Takes, Takes-then}
-use Rattle.jf_payload.specs.Reading.{◌>>=◌, Front, both_at, only_if, seen_as, many_at}
+use Rattle.jf_path.proofs.ByteLaws.{AreBytes, Takes, Takes-then, IsBytes-append}
+use Rattle.jf_path.proofs.OptionLaws.{guard_kept}
+use Rattle.jf_payload.specs.Reading.{Front, ◌>>=◌, both_at, only_if, seen_as, many_at}
 
 -- the reader `one` reads exactly the spellings of values with `Is`, and spellings are bytes
 pub record Spells {X : Type 0} (spell : X → List ℕ) (Is : X → Type 0) (one : Front X) : Type 0 where
@@ -17,35 +19,7 @@ pub bind_some : {A B : Type 0} (r : Option A) (f : A → Option B) (y : B) → (
 bind_some (Some x) f y e = (x, refl, e)
 bind_some None f y e = absurd cc
 
--- a check that let reading go on was true
-pub guard_kept : {A : Type 0} (b : Bool) (r : Option A) (y : A) → cond b r None ≡ Some y → (b ≡ true) × (r ≡ Some y)
-guard_kept true r y e = (refl, e)
-guard_kept false r y e = absurd cc
-
-abbrev done : {A : Type 0} → A → Option A
-done x = Some x
-
-pub some_is : {A : Type 0} (x y : A) → done x ≡ done y → x ≡ y
-some_is x y e = cc
-
-pub and_left : (a b : Bool) → (a && b) ≡ true → a ≡ true
-and_left true b e = refl
-and_left false b e = absurd cc
-
-pub and_right : (a b : Bool) → (a && b) ≡ true → b ≡ true
-and_right true b e = e
-and_right false b e = absurd cc
-
-pub both_true : (a b : Bool) → a ≡ true → b ≡ true → (a && b) ≡ true
-both_true true b p q = q
-both_true false b p q = absurd cc
-
-pub IsBytes-append : (xs ys : List ℕ) → IsBytes xs → IsBytes ys → IsBytes (xs ++ ys)
-IsBytes-append [] ys p q = q
-IsBytes-append (x ∷ xs) ys p q = (p.0, IsBytes-append xs ys p.1 q)
-
 -- ---- a value, and a second one
-
 pub both_spells : {X Y : Type 0} (sx : X → List ℕ) (Ix : X → Type 0) (ox : Front X) (sy : Y → List ℕ) (Iy : X → Y → Type 0) (oy : X → Front Y)
     → Spells sx Ix ox → ((x : X) → Ix x → Spells sy (Iy x) (oy x)) → Spells (λ (p : X × Y). sx p.0 ++ sy p.1) (λ (p : X × Y). Ix p.0 × Iy p.0 p.1) (both_at ox oy)
 both_spells {X} {Y} sx Ix ox sy Iy oy first second = record {
@@ -54,27 +28,25 @@ both_spells {X} {Y} sx Ix ox sy Iy oy first second = record {
       let y = bind_some (oy x.0.0 x.0.1) (λ y. Some ((x.0.0, y.0), y.1)) p x.2 in
       let a = first.takes bytes x.0 bs x.1 in
       let b = (second x.0.0 a.1).takes x.0.1 y.0 a.0.rest_fits y.1 in
-      subst (λ (q : (X × Y) × List ℕ). Takes bytes (sx q.0.0 ++ sy q.0.1) q.1 × (Ix q.0.0 × Iy q.0.0 q.0.1)) (some_is ((x.0.0, y.0.0), y.0.1) p y.2)
+      subst (λ (q : (X × Y) × List ℕ). Takes bytes (sx q.0.0 ++ sy q.0.1) q.1 × (Ix q.0.0 × Iy q.0.0 q.0.1)) (same_Some ((x.0.0, y.0.0), y.0.1) p y.2)
       (Takes-then bytes (sx x.0.0) x.0.1 (sy y.0.0) y.0.1 a.0 b.0, (a.1, b.1));
   again = λ p rest is. ap (both_at ox oy) (append_assoc (sx p.0) (sy p.1) rest) ∙ rw (first.again p.0 (sy p.1 ++ rest) is.0, (second p.0 is.0).again p.1 rest is.1) refl;
   fits = λ p is. IsBytes-append (sx p.0) (sy p.1) (first.fits p.0 is.0) ((second p.0 is.0).fits p.1 is.1);
 }
 
 -- ---- a value that passes a test
-
 pub only_spells : {X : Type 0} (s : X → List ℕ) (I : X → Type 0) (o : Front X) (test : X → Bool) → Spells s I o → Spells s (λ x. I x × IsTrue (test x)) (only_if test o)
 only_spells {X} s I o test one = record {
   takes = λ bytes p bs e.
       let x = bind_some (o bytes) (λ x. cond (test x.0) (Some x) None) p e in
       let g = guard_kept (test x.0.0) (Some x.0) p x.2 in
       let a = one.takes bytes x.0 bs x.1 in
-      subst (λ (q : X × List ℕ). Takes bytes (s q.0) q.1 × (I q.0 × IsTrue (test q.0))) (some_is x.0 p g.1) (a.0, (a.1, g.0));
+      subst (λ (q : X × List ℕ). Takes bytes (s q.0) q.1 × (I q.0 × IsTrue (test q.0))) (same_Some x.0 p g.1) (a.0, (a.1, g.0));
   again = λ x rest is. rw (one.again x rest is.0, is.1) refl;
   fits = λ x is. one.fits x is.0;
 }
 
 -- ---- a value seen through a function
-
 pub seen_spells : {X Y : Type 0} (sx : X → List ℕ) (Ix : X → Type 0) (ox : Front X) (view : X → Y) (back : Y → X) (sy : Y → List ℕ) (Iy : Y → Type 0)
     → Spells sx Ix ox → ((x : X) → Ix x → back (view x) ≡ x) → ((y : Y) → view (back y) ≡ y) → ((y : Y) → sx (back y) ≡ sy y) → ((y : Y) → Ix (back y) → Iy y) → ((y : Y) → Iy y → Ix (back y)) → Spells sy Iy (seen_as view ox)
 seen_spells {X} {Y} sx Ix ox view back sy Iy one there again text to from = record {
@@ -82,16 +54,15 @@ seen_spells {X} {Y} sx Ix ox view back sy Iy one there again text to from = reco
       let x = bind_some (ox bytes) (λ x. Some (view x.0, x.1)) p e in
       let a = one.takes bytes x.0 bs x.1 in
       let same : sx x.0.0 ≡ sy (view x.0.0) = ap sx (sym (there x.0.0 a.1)) ∙ text (view x.0.0) in
-      subst (λ (q : Y × List ℕ). Takes bytes (sy q.0) q.1 × Iy q.0) (some_is (view x.0.0, x.0.1) p x.2)
+      subst (λ (q : Y × List ℕ). Takes bytes (sy q.0) q.1 × Iy q.0) (same_Some (view x.0.0, x.0.1) p x.2)
       (subst (λ (t : List ℕ). Takes bytes t x.0.1) same a.0, to (view x.0.0) (subst Ix (sym (there x.0.0 a.1)) a.1));
   again = λ y rest is. ap (λ (t : List ℕ). seen_as view ox (t ++ rest)) (sym (text y)) ∙ rw (one.again (back y) rest (from y is)) (ap (λ (z : Y). Some (z, rest)) (again y));
   fits = λ y is. subst IsBytes (text y) (one.fits (back y) (from y is));
 }
 
 -- ---- a number of values
-
 -- values that were read after those of a front
-record Reads {X : Type 0} (s : X → List ℕ) (I : X → Type 0) (test : List X → Bool) (n : ℕ) (front : List X) (bytes : List ℕ) (x : List X × List ℕ) : Type 0 where
+record ReadsSoMany {X : Type 0} (s : X → List ℕ) (I : X → Type 0) (test : List X → Bool) (n : ℕ) (front : List X) (bytes : List ℕ) (x : List X × List ℕ) : Type 0 where
   more : List X
   taken : Takes bytes (flat_map s more) x.1
   behind : x.0 ≡ front ++ more
@@ -100,11 +71,11 @@ record Reads {X : Type 0} (s : X → List ℕ) (I : X → Type 0) (test : List X
   passed : test x.0 ≡ true
 
 many_take : {X : Type 0} (s : X → List ℕ) (I : X → Type 0) (o : Front X) (test : List X → Bool) → Spells s I o → (n : ℕ) (front : List X) (bytes : List ℕ) (x : List X × List ℕ)
-    → AreBytes bytes → test front ≡ true → many_at test o n front bytes ≡ Some x → Reads s I test n front bytes x
+    → AreBytes bytes → test front ≡ true → many_at test o n front bytes ≡ Some x → ReadsSoMany s I test n front bytes x
 unfolding many_at
 many_take s I o test one zero front bytes x bs ok e =
-    let same = some_is (front, bytes) x e in
-    subst (λ y. Reads s I test 0 front bytes y) same (record { more = []; taken = record { parts = refl; rest_fits = bs }; behind = sym (append-nil front); count = refl; all = tt; passed = ok })
+    let same = same_Some (front, bytes) x e in
+    subst (λ y. ReadsSoMany s I test 0 front bytes y) same (record { more = []; taken = record { parts = refl; rest_fits = bs }; behind = sym (append-nil front); count = refl; all = tt; passed = ok })
 many_take s I o test one (suc n) front bytes x bs ok e =
     let a = bind_some (o bytes) (λ y. cond (test (front ++ y.0 ∷ [])) (many_at test o n (front ++ y.0 ∷ []) y.1) None) x e in
     let g = guard_kept (test (front ++ a.0.0 ∷ [])) (many_at test o n (front ++ a.0.0 ∷ []) a.0.1) x a.2 in

@@ -1,31 +1,30 @@
 -- A record that can be spelled in format 2 can be written in format 1.
-use Rattle.std.proofs.Common.{◌≡◌, ℕ, ◌+◌, ◌^◌, ◌<◌, ◌≤◌, ◌&&◌, ◌==◌, List, [], ◌∷◌, map, length, refl, sym, ap, ap₂, subst, ◌∙◌}
-use Rattle.std.specs.List.{AllByRecursion}
+use Rattle.std.proofs.Common.{List, [], ◌∷◌, map, ℕ, ◌+◌, refl, ◌^◌, ◌<◌, ◌≡◌, ap₂, length, sym, subst, ap, ◌∙◌, ◌&&◌, ◌==◌, ◌≤◌}
 use Rattle.std.proofs.lemmas.List.{length-map}
-use Rattle.jf_path.specs.Names.{IsName, rise}
-use Rattle.jf_path.specs.Nodes.{RiseFrom}
+use Rattle.std.specs.List.{AllByRecursion}
 use Rattle.jf_path.specs.declared.children.Child.{Child}
-use Rattle.jf_path.specs.declared.name.NodeName.{NodeName}
+use Rattle.jf_path.specs.Nodes.{ChildrenRiseFrom}
 use Rattle.jf_path.specs.declared.node.PlainNode.{PlainNode}
+use Rattle.jf_path.specs.Names.{IsName, are_rising}
+use Rattle.jf_path.specs.declared.name.NodeName.{NodeName}
 use Rattle.jf_path.specs.declared.node.PlainNode.TheVariants as node
-use Rattle.jf_codec.specs.Spelling.{IsChild, AreEnough, IsNode}
+use Rattle.jf_codec.specs.Spelling.{AreEnough, IsChild, IsNode}
 use Rattle.jf_codec.specs.Counted.{uncounted_child, in_format}
 use Rattle.jf_codec.specs.declared.format.Format.{Format}
 use Rattle.jf_codec.specs.declared.format.Format.TheVariants as format
+use Rattle.jf_payload.specs.Counted.{nodes_in, commit_in}
 use Rattle.jf_payload.specs.declared.records.Commit.{Commit}
-use Rattle.jf_payload.specs.declared.records.Record.TheVariants as «record»
-use Rattle.jf_payload.specs.Spelling.{follow, IsCommit}
-use Rattle.jf_payload.specs.Counted.{commit_in, nodes_in}
+use Rattle.jf_payload.specs.Spelling.{IsCommit, follow}
 use Rattle.jf_payload.specs.Laws.{WrittenInBoth}
+use Rattle.jf_payload.specs.declared.records.Record.TheVariants as «record»
 
 -- ---- nodes
-
 enough : (cs : List Child) → AreEnough cs → AreEnough (map uncounted_child cs)
 enough [] h = h
 enough (c ∷ []) h = h
 enough (c ∷ d ∷ cs) h = tt
 
-rise_from : (least : ℕ) (cs : List Child) → RiseFrom least cs → RiseFrom least (map uncounted_child cs)
+rise_from : (least : ℕ) (cs : List Child) → ChildrenRiseFrom least cs → ChildrenRiseFrom least (map uncounted_child cs)
 rise_from least [] r = tt
 rise_from least (c ∷ cs) r = (r.0, rise_from (c.nibble + 1) cs r.1)
 
@@ -40,7 +39,6 @@ node-written format.One (node.Inner cs) is = (enough cs is.0, rise_from 0 cs is.
 node-written format.Two n is = is
 
 -- ---- lists of nodes
-
 fresh-written : (fmt : Format) (xs : List (NodeName × PlainNode)) → AllByRecursion (λ x. IsName x.0 × IsNode format.Two x.1) xs → AllByRecursion (λ (y : NodeName × PlainNode). IsName y.0 × IsNode fmt y.1) (map (λ x. (x.0, in_format fmt x.1)) xs)
 fresh-written fmt [] all = tt
 fresh-written fmt (x ∷ xs) all = ((all.0.0, node-written fmt x.1 all.0.1), fresh-written fmt xs all.1)
@@ -57,14 +55,13 @@ short : {X : Type 0} (f : X → X) (xs : List X) (n : ℕ) → length xs < n →
 short f xs n lt = subst (λ (k : ℕ). k < n) (sym (length-map xs f)) lt
 
 -- ---- records
-
 commit-written : (fmt : Format) (c : Commit) → IsCommit format.Two c → IsCommit fmt (commit_in fmt c)
 commit-written fmt c is = record {
   version = is.version;
   root = is.root;
   fresh = fresh-written fmt c.fresh is.fresh;
   fresh_count = short (λ x. (x.0, in_format fmt x.1)) c.fresh (2 ^ 64) is.fresh_count;
-  fresh_rise = ap rise (map-twice (λ (x : NodeName × PlainNode). (x.0, in_format fmt x.1)) (λ x. x.0) (λ x. refl) c.fresh) ∙ is.fresh_rise;
+  fresh_rise = ap are_rising (map-twice (λ (x : NodeName × PlainNode). (x.0, in_format fmt x.1)) (λ x. x.0) (λ x. refl) c.fresh) ∙ is.fresh_rise;
   stale = is.stale;
   stale_count = is.stale_count;
   stale_rise = is.stale_rise;
@@ -92,7 +89,7 @@ written_in_both fmt («record».Checkpoint generation base floor head roots node
   hashes = is.hashes;
   nodes_fit = live-written fmt nodes is.nodes_fit;
   count = short (λ x. (x.0, in_format fmt x.1, x.2)) nodes (2 ^ 64) is.count;
-  names_rise = ap rise (map-twice (λ (x : NodeName × PlainNode × ℕ). (x.0, in_format fmt x.1, x.2)) (λ x. x.0) (λ x. refl) nodes) ∙ is.names_rise;
+  names_rise = ap are_rising (map-twice (λ (x : NodeName × PlainNode × ℕ). (x.0, in_format fmt x.1, x.2)) (λ x. x.0) (λ x. refl) nodes) ∙ is.names_rise;
 }
 written_in_both fmt («record».Group cs) is = record {
   many = subst (λ (n : ℕ). 2 ≤ n) (sym (length-map cs (commit_in fmt))) is.many;

@@ -1,12 +1,12 @@
 -- The payloads of records, in both formats (docs/FORMATS.md, "Records of nodes in bytes").
-use Rattle.std.specs.Prelude.{◌≡◌, ℕ, ◌+◌, ◌-◌, ◌<◌, ◌≤◌, ◌^◌, Bool, true, ◌&&◌, ◌==◌, IsTrue, List, [], ◌∷◌, ◌++◌, map, flat_map, length}
+use Rattle.std.specs.Prelude.{ℕ, ◌+◌, List, ◌++◌, flat_map, length, ◌<◌, ◌^◌, IsTrue, map, ◌≡◌, ◌-◌, ◌≤◌, Bool, true, ◌&&◌, ◌==◌, [], ◌∷◌}
 use Rattle.std.specs.List.{AllByRecursion}
-use Rattle.jf_path.specs.Limits.{max_forks}
-use Rattle.jf_path.specs.Keys.{IsKey}
-use Rattle.jf_path.specs.Names.{IsName, rise}
+use Rattle.jf_path.specs.Numbers.{eight_bytes}
 use Rattle.jf_path.specs.declared.name.NodeName.{NodeName}
 use Rattle.jf_path.specs.declared.node.PlainNode.{PlainNode}
-use Rattle.jf_codec.specs.Numbers.{eight_bytes}
+use Rattle.jf_path.specs.Keys.{IsKey}
+use Rattle.jf_path.specs.Names.{IsName, are_rising}
+use Rattle.jf_path.specs.Limits.{max_forks}
 use Rattle.jf_codec.specs.Spelling.{name_bytes, node_bytes, IsNode}
 use Rattle.jf_codec.specs.declared.format.Format.{Format}
 use Rattle.jf_codec.specs.declared.format.Format.TheVariants as format
@@ -51,17 +51,16 @@ record_bytes fmt («record».Checkpoint generation base floor head roots nodes) 
 record_bytes fmt («record».Group cs) = list_bytes (commit_bytes fmt) cs
 
 -- ---- what can be spelled
-
 -- a landing can be spelled: version and counts have 64 bits, the nodes are of the format, and the names rise
 pub record IsCommit (fmt : Format) (c : Commit) : Type 0 where
   pub version : c.version < 2 ^ 64
   pub root : IsKey c.root
   pub fresh : AllByRecursion (λ x. IsName x.0 × IsNode fmt x.1) c.fresh
   pub fresh_count : length c.fresh < 2 ^ 64
-  pub fresh_rise : IsTrue (rise (map (λ x. x.0) c.fresh))
+  pub fresh_rise : IsTrue (are_rising (map (λ x. x.0) c.fresh))
   pub stale : AllByRecursion IsName c.stale
   pub stale_count : length c.stale < 2 ^ 64
-  pub stale_rise : IsTrue (rise c.stale)
+  pub stale_rise : IsTrue (are_rising c.stale)
 
 -- a checkpoint can be spelled: generation at least 1; base, floor and head in order; a root for each version from the
 -- base to the head; nodes of the format, whose names rise; generation and head at most 2^64 - 2
@@ -75,7 +74,7 @@ pub record IsCheckpoint (fmt : Format) (generation base floor head : ℕ) (roots
   pub hashes : AllByRecursion IsKey roots
   pub nodes_fit : AllByRecursion (λ n. IsName n.0 × IsNode fmt n.1 × (n.2 < 2 ^ 64)) nodes
   pub count : length nodes < 2 ^ 64
-  pub names_rise : IsTrue (rise (map (λ n. n.0) nodes))
+  pub names_rise : IsTrue (are_rising (map (λ n. n.0) nodes))
 
 -- the versions of landings rise by one
 abbrev pub follow : List Commit → Bool

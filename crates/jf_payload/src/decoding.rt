@@ -1,7 +1,7 @@
 // A record is read from its kind and all of its payload; a payload that isn't exactly so is bad.
 ghost use Rattle.std.specs.Prelude.{◌≡◌, ◌⊎◌, Ok, Err, IfOk};
 ghost use Rattle.jf_payload.specs.Spelling.{IsSpelling};
-ghost use Rattle.jf_payload.specs.Reading.{Gives, record_at, whole_in, spelled};
+ghost use Rattle.jf_payload.specs.Reading.{Gives, record_at, whole_record_in, spelled};
 
 use crate::checkpoint::checkpoint_of;
 use crate::fault::RecordFault;
@@ -41,9 +41,9 @@ fn record_of(
 }
 
 // The record of a kind whose spelling all of the payload is.
-#[tactic(auto, unfolding(crate::specs::Reading::whole_in))]
+#[tactic(auto, unfolding(crate::specs::Reading::whole_record_in))]
 fn whole_of(alloc: Global, format: Format, kind: u8, payload: &[u8]) -> Result<Record, RecordFault>
-    ensures { Gives (λ r. r) result (whole_in format kind payload.now) }
+    ensures { Gives (λ r. r) result (whole_record_in format kind payload.now) }
 {
     let (record, rest) = record_of(alloc, format, kind, payload)?;
     if !rest.is_empty() {

@@ -3,7 +3,7 @@ ghost use Rattle.std.specs.Prelude.{◌≡◌, ◌++◌, flat_map, length, IfOk,
 ghost use Rattle.std.specs.List.{AllByRecursion};
 ghost use Rattle.jf_frame.specs.Framing.{IsFrame};
 ghost use Rattle.jf_codec.specs.Spelling.{name_bytes, IsNode};
-ghost use Rattle.jf_codec.specs.Numbers.{eight_bytes};
+ghost use Rattle.jf_path.specs.Numbers.{eight_bytes};
 ghost use Rattle.jf_codec.specs.Counted.{in_format};
 ghost use Rattle.jf_payload.specs.Spelling.{IsRecord, kind_of, record_bytes, commit_bytes, fresh_bytes, live_bytes, list_bytes};
 ghost use Rattle.jf_payload.specs.Counted.{record_in};
@@ -133,7 +133,7 @@ fn kind_of(entry: &Record, format: Format) -> u8
 }
 
 // A frame: kind, length, payload, and a closed gate.
-#[tactic(auto, unfolding(jf_codec::specs::Numbers::eight_bytes, jf_frame::specs::Framing::eight_bytes))]
+#[tactic(auto, unfolding(jf_path::specs::Numbers::eight_bytes))]
 fn frame_of(alloc: Global, kind: u8, payload: &[u8]) -> Result<Bytes, Memory>
     ensures { IfOk result (λ bytes. IsFrame bytes kind payload.now) }
 {

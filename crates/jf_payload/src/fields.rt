@@ -3,7 +3,7 @@
 ghost use Rattle.std.specs.Prelude.{◌≡◌};
 ghost use Rattle.std.specs.Result.{result_ok};
 ghost use Rattle.jf_codec.specs.Reading.{node_at};
-ghost use Rattle.jf_payload.specs.Reading.{Gives, number_at, hash_at, named_at, plain_at, is_counted, has_counts, is_in};
+ghost use Rattle.jf_payload.specs.Reading.{Gives, long_at, hash_at, named_at, format_node_at, counts_fit, has_counts, is_in};
 
 use crate::fault::RecordFault;
 use jf_codec::{CodecFault, Format, key_at, name_at, node_at, u64_at};
@@ -12,7 +12,7 @@ use std::alloc::Global;
 
 /// A number in eight bytes.
 pub(crate) fn number_of(bytes: &[u8]) -> Result<(u64, &[u8]), RecordFault>
-    ensures { Gives (λ x. (x.0, x.1.now)) result (number_at bytes.now) }
+    ensures { Gives (λ x. (x.0, x.1.now)) result (long_at bytes.now) }
 {
     match u64_at(bytes) {
         Ok((number, rest)) => Ok((number, rest)),
@@ -52,7 +52,7 @@ fn has_counts(children: &[Child]) -> bool
 
 // Whether children with counts, or without, are of a format.
 fn is_counted(format: Format, counts: bool) -> bool
-    ensures { result ≡ is_counted format counts }
+    ensures { result ≡ counts_fit format counts }
 {
     match format {
         Format::One => !counts,
@@ -87,7 +87,7 @@ pub(crate) fn node_of(
     format: Format,
     bytes: &[u8],
 ) -> Result<(PlainNode, &[u8]), RecordFault>
-    ensures { Gives (λ x. (x.0, x.1.now)) result (plain_at format bytes.now) }
+    ensures { Gives (λ x. (x.0, x.1.now)) result (format_node_at format bytes.now) }
 {
     let (node, rest) = any_node_of(alloc, bytes)?;
     if !is_in(format, &node) {

@@ -8,7 +8,7 @@ ghost use Rattle.jf_payload.specs.declared.records.Record.TheVariants as «recor
 use crate::kinds::{CLOSED, FLOOR};
 
 /// The frame of a later floor, which is the same in both formats.
-#[tactic(auto, unfolding(crate::specs::Spelling::record_bytes, jf_codec::specs::Numbers::eight_bytes, jf_frame::specs::Framing::eight_bytes))]
+#[tactic(auto, unfolding(crate::specs::Spelling::record_bytes, jf_path::specs::Numbers::eight_bytes))]
 pub fn encode_floor(floor: u64) -> [u8; 18]
     ensures { (fmt : Format) → IsFrame result (kind_of fmt («record».Floor floor)) (record_bytes fmt («record».Floor floor)) }
 {

@@ -1,6 +1,6 @@
 // A list is the number of its items and then the items; in lists of names or nodes the names rise strictly.
 ghost use Rattle.std.specs.Prelude.{◌≡◌, []};
-ghost use Rattle.jf_path.specs.Names.{rise};
+ghost use Rattle.jf_path.specs.Names.{are_rising};
 ghost use Rattle.jf_payload.specs.Reading.{Gives, many_at, named_at, hash_at, fresh_at, live_at, any_hashes, fresh_rise, live_rise, fresh_list_at, name_list_at, live_list_at};
 
 use crate::fault::RecordFault;
@@ -30,7 +30,7 @@ pub(crate) fn hashes_of(
 
 // `count` names, which rise.
 fn names_of(alloc: Global, count: u64, bytes: &[u8]) -> Result<(NameList, &[u8]), RecordFault>
-    ensures { Gives (λ x. (x.0, x.1.now)) result (many_at rise named_at count [] bytes.now) }
+    ensures { Gives (λ x. (x.0, x.1.now)) result (many_at are_rising named_at count [] bytes.now) }
 {
     let mut names = NameList::new(alloc);
     let mut rest = bytes;

@@ -1,6 +1,6 @@
 // An item that was read is added to its list only if it may come after the last one.
 ghost use Rattle.std.specs.Prelude.{◌≡◌, ◌∷◌, ◌++◌, ◌+◌, ◌==◌, [], true, false, Err, OnOk, IsTrue};
-ghost use Rattle.jf_path.specs.Names.{rise};
+ghost use Rattle.jf_path.specs.Names.{are_rising};
 ghost use Rattle.jf_payload.specs.Spelling.{follow};
 ghost use Rattle.jf_payload.specs.Reading.{fresh_rise, live_rise};
 
@@ -11,7 +11,7 @@ use jf_path::{FreshList, LiveList, NameList, NodeName, PlainNode};
 
 // Whether the names rise with this one at the end.
 fn is_next_name(names: &NameList, name: &NodeName) -> bool
-    ensures { result ≡ rise (names.now ++ name.now ∷ []) }
+    ensures { result ≡ are_rising (names.now ++ name.now ∷ []) }
 {
     let Some(last) = names.as_slice().last() else {
         return true;
@@ -21,8 +21,8 @@ fn is_next_name(names: &NameList, name: &NodeName) -> bool
 
 /// Adds a name at the end. `Bad` if it isn't above the names of the list.
 pub(crate) fn push_name(names: &mut NameList, name: NodeName) -> Result<(), RecordFault>
-    ensures ok { OnOk result ((rise (names.old ++ name ∷ []) ≡ true) × (names.new ≡ names.old ++ name ∷ [])) }
-    ensures bad { result ≡ Err RecordFault.Bad → rise (names.old ++ name ∷ []) ≡ false }
+    ensures ok { OnOk result ((are_rising (names.old ++ name ∷ []) ≡ true) × (names.new ≡ names.old ++ name ∷ [])) }
+    ensures bad { result ≡ Err RecordFault.Bad → are_rising (names.old ++ name ∷ []) ≡ false }
 {
     if !is_next_name(names, &name) {
         return Err(RecordFault::Bad);

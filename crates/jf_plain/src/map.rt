@@ -7,7 +7,8 @@ ghost use Rattle.jf_path.specs.Keys.{key_cmp};
 ghost use Rattle.jf_hash.specs.Maps.{IsMap, apply};
 ghost use Rattle.jf_hash.specs.Roots.{root, leaf_of};
 ghost use Rattle.jf_model.specs.Changes.{applied};
-ghost use Rattle.jf_plain.specs.Entries.{IsShort, IsPlaceOf, IsCountBelow, IsCountAt, with_put};
+ghost use Rattle.jf_plain.specs.Entries.{HasShortValues, IsPlaceInMap, IsCountBelow, IsCountAt};
+ghost use Rattle.jf_model.specs.Changes.{with_put};
 
 use jf_hash::{Hash, plain_root, value};
 use jf_path::{Bytes, Key, Memory};
@@ -26,7 +27,8 @@ impl Model for PlainMap {
     ghost use Rattle.jf_path.specs.Keys.{key_cmp};
     ghost use Rattle.jf_hash.specs.Maps.{Map};
     ghost use Rattle.jf_hash.specs.Codes.{map_code};
-    ghost use Rattle.jf_plain.specs.Entries.{map_of_entries, AreEntries};
+    ghost use Rattle.jf_hash.specs.Maps.{map_of_entries};
+    ghost use Rattle.jf_plain.specs.Entries.{AreMapEntries};
 
     ghost Value = { Map };
 
@@ -34,7 +36,7 @@ impl Model for PlainMap {
 
     ghost view = { λ m. map_of_entries m.entries.items };
 
-    ghost invariant = { λ m. AreEntries m.entries.items };
+    ghost invariant = { λ m. AreMapEntries m.entries.items };
 }
 
 impl PlainMap {
@@ -81,7 +83,7 @@ impl PlainMap {
     /// What holds of each map, for proofs; it does nothing when it runs.
     pub fn know_sound(&self)
         ensures sound { IsMap self.now }
-        ensures short { IsShort self.now }
+        ensures short { HasShortValues self.now }
     {
         let _ = &self.entries;
     }
@@ -90,7 +92,7 @@ impl PlainMap {
 /// The place of a key among entries in the order of their keys, or `None` if it isn't there.
 fn place_of(entries: &[(Key, Bytes)], key: &Key) -> Option<usize>
     requires { T (is_sorted key_cmp entries.now) }
-    ensures { IsPlaceOf key.now entries.now result }
+    ensures { IsPlaceInMap key.now entries.now result }
 {
     entries.binary_search_by_key(key, key_of).ok()
 }

@@ -33,11 +33,11 @@ impl Model for PlainVersions {
 
     ghost coded = { versions_code };
 
-    ghost use Rattle.jf_plain.specs.Kept.{kept, AreKept};
+    ghost use Rattle.jf_plain.specs.KeptMaps.{versions_of_list, AreKeptVersions};
 
-    ghost view = { λ v. kept v.versions.items };
+    ghost view = { λ v. versions_of_list v.versions.items };
 
-    ghost invariant = { λ v. AreKept v.versions.items };
+    ghost invariant = { λ v. AreKeptVersions v.versions.items };
 }
 
 impl PlainVersions {

@@ -1,17 +1,17 @@
 -- The honest proof in a node of the binary tree, from the proof in one half.
-use Rattle.std.specs.Prelude.{◌≡◌, ◌<◌, ◌≤◌, ◌+◌, ℕ, Bool, true, false, not, cond, List, [], ◌∷◌, map, length, Some, None, Result, Ok, Err, IfOk}
-use Rattle.std.proofs.Common.{arith, refl, sym, ap, ap₂, ◌∙◌}
+use Rattle.std.specs.Prelude.{◌≡◌, ℕ, List, [], map, None, ◌∷◌, Some, ◌<◌, ◌≤◌, ◌+◌, Bool, true, false, not, cond, length, Result, Ok, Err, IfOk}
+use Rattle.std.proofs.Common.{sym, ap, ◌∙◌, refl, arith, ap₂}
 use Rattle.std.specs.FinMap.{entries}
 use Rattle.jf_path.specs.Keys.{bit}
+use Rattle.jf_hash.specs.Roots.{leaf_of, leaves_root, part_root, zeros, ones}
+use Rattle.jf_hash.specs.Slots.{Part}
 use Rattle.jf_hash.specs.Hashes.{V}
 use Rattle.jf_hash.specs.Maps.{Map}
-use Rattle.jf_hash.specs.Roots.{leaf_of, zeros, ones, leaves_root, part_root}
-use Rattle.jf_hash.specs.RootLaws.{length-leaves, filter-leaves}
-use Rattle.jf_hash.specs.Slots.{Part}
-use Rattle.jf_evidence.specs.Proofs.{alone, under_root, honest, honest_from}
-use Rattle.jf_evidence.specs.ProofLaws.{honest_from-none, honest_from-one, honest_from-split}
-use Rattle.jf_evidence.specs.declared.proof.Proof.{Proof}
+use Rattle.jf_hash.proofs.RootLaws.{length-leaves, filter-leaves}
 use Rattle.jf_node.specs.RangeValue.{RangeValue}
+use Rattle.jf_evidence.specs.Proofs.{alone, honest_from, under_root, honest}
+use Rattle.jf_evidence.specs.declared.proof.Proof.{Proof}
+use Rattle.jf_evidence.proofs.ProofLaws.{honest_from-none, honest_from-one, honest_from-split}
 
 pub proof_none : (d : ℕ) (key : List ℕ) (es : Part) → es ≡ [] → alone None ≡ honest_from d key (map leaf_of es)
 proof_none d key es none = sym (ap (λ fs. honest_from d key (map leaf_of fs)) none ∙ honest_from-none d key)

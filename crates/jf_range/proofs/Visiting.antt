@@ -1,22 +1,21 @@
 -- The nodes that are looked at when a range is copied, child by child.
-use Rattle.std.specs.Prelude.{◌≡◌, ℕ, ◌+◌, ◌-◌, ◌*◌, ◌<◌, ◌≤◌, min, List, take, drop, length, Option, Some, None}
-use Rattle.std.proofs.Common.{sym, ap, ◌∙◌, subst, arith, ◌⊎◌, inl, inr, add-mul, mul_comm, get_or, length-take, length-drop}
-use Rattle.std.proofs.lemmas.Nat.{mul-le}
+use Rattle.std.specs.Prelude.{ℕ, ◌+◌, ◌*◌, ◌≡◌, ◌-◌, ◌≤◌, min, ◌<◌, take, drop, length, List, Option, Some, None}
+use Rattle.std.proofs.Common.{arith, ◌⊎◌, inl, inr, ap, ◌∙◌, subst, add-mul, mul_comm, length-take, length-drop, sym, get_or}
 use Rattle.std.proofs.lemmas.Bool.{cases_lt}
-use Rattle.jf_evidence.specs.Ranges.{Entries}
+use Rattle.std.proofs.lemmas.Nat.{mul-le}
 use Rattle.jf_node.specs.LinkValue.{LinkValue}
 use Rattle.jf_node.specs.Children.{content, joined}
-use Rattle.jf_node.specs.ChildLaws.{length-joined-more, length-joined-take}
 use Rattle.jf_node.specs.Shown.{ShowsInner}
-use Rattle.jf_range.proofs.Walks.{IsWalked}
+use Rattle.jf_node.proofs.ChildLaws.{length-joined-more, length-joined-take}
+use Rattle.jf_evidence.specs.Ranges.{Entries}
 use Rattle.jf_range.specs.Visits.{copied, ends_inside, most_nodes}
+use Rattle.jf_range.proofs.Walks.{IsWalked}
 
 -- what a node of a height costs besides itself
 abbrev pub below : ℕ → ℕ → ℕ → ℕ → ℕ
 below height skip room n = copied skip room n * (height + 1) + ends_inside skip room n * (16 * height)
 
 -- ---- one more child, with m entries after n
-
 copied-more : (skip room n m : ℕ) → copied skip room (n + m) ≡ copied skip room n + copied (skip - n) (room - copied skip room n) m
 copied-more skip room n m = omega arith
 
@@ -65,7 +64,6 @@ below-grows height skip room n m le =
     omega (arith, mul-le (copied skip room n) (height + 1) (copied skip room m) (height + 1) some (omega arith), mul-le (ends_inside skip room n) (16 * height) (ends_inside skip room m) (16 * height) ends (omega arith))
 
 -- ---- the node over them
-
 -- the cost of one more level
 above : (t e h : ℕ) → t * (h + 1 + 1) + e * (16 * (h + 1)) ≡ t + 16 * e + (t * (h + 1) + e * (16 * h))
 above t e h =
@@ -99,7 +97,6 @@ most-nodes_top height skip room n low =
     omega (arith, mul-le (copied skip room n) (height + 1) (copied skip room n) 65 (omega arith) (omega arith), mul-le (ends_inside skip room n) (16 * height) 2 1024 ends (omega arith))
 
 -- ---- child by child
-
 -- the steps after the first i children of a node were looked at, which have n entries
 abbrev pub AreVisited : ℕ → ℕ → ℕ → ℕ → ℕ → ℕ → ℕ → Type 0
 AreVisited height skip room n i old steps = (steps ≤ old + 1 + i + below height skip room n) × (steps ≤ old + 1 + n + below height skip room n)

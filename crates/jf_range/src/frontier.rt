@@ -8,7 +8,7 @@ ghost use Rattle.jf_hash.specs.Roots.{leaf_of, part_root};
 ghost use Rattle.jf_evidence.specs.Proofs.{start_of};
 ghost use Rattle.jf_evidence.specs.Ranges.{Entries, range_root, zero_bits};
 ghost use Rattle.jf_range.specs.Ways.{padded, raised};
-ghost use Rattle.jf_range.specs.Frontiers.{frontier_of, rises_behind, IsAscending};
+ghost use Rattle.jf_range.specs.Frontiers.{frontier_of, rises_after, IsAscending};
 
 use crate::climbing::{climb, climb_between};
 use crate::hashing::{Subject, hash};
@@ -85,7 +85,7 @@ impl Frontier {
 
     /// Makes this the frontier of more entries, whose keys ascend from the last one on. A step is one hash computed.
     pub fn extend<L: Ledger>(&mut self, entries: &[(Key, Bytes)], steps: &mut Steps<L>)
-        requires { T (rises_behind self.old.last entries.now) }
+        requires { T (rises_after self.old.last entries.now) }
         ensures value { (es : Entries) → self.old ≡ frontier_of es → IsAscending (es ++ entries.now) → self.new ≡ frontier_of (es ++ entries.now) }
         ensures last { self.new.last ≡ last_or self.old.last (map leaf_of entries.now) }
         ensures cost { steps.new ≤ steps.old + 257 * length entries.now }

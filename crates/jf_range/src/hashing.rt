@@ -1,7 +1,7 @@
 // The one place of the crate where hashes are computed; each is a step.
 ghost use Rattle.std.specs.Prelude.{◌≡◌, ◌+◌, ◌<◌};
 ghost use Rattle.jf_evidence.specs.Proofs.{join};
-ghost use Rattle.jf_range.specs.Subjects.{hash_of};
+ghost use Rattle.jf_range.specs.Subjects.{subject_hash};
 
 use jf_hash::{Hash, inner, leaf, value};
 use jf_path::{Key, bit};
@@ -18,7 +18,7 @@ pub(crate) enum Subject<'a> {
 
 // The one call that computes hashes.
 pub(crate) fn hash<L: Ledger>(of: Subject<'_>, steps: &mut Steps<L>) -> Hash
-    ensures value { result ≡ hash_of of.entry }
+    ensures value { result ≡ subject_hash of.entry }
     ensures step { steps.new ≡ steps.old + 1 }
 {
     steps.tick();

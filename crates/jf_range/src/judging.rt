@@ -3,7 +3,7 @@ ghost use Rattle.std.specs.Prelude.{◌≡◌, ◌≢◌, ◌+◌, ◌*◌, ◌�
 ghost use Rattle.jf_evidence.specs.Ranges.{Entries, range_refusal};
 ghost use Rattle.jf_evidence.specs.declared.range_proof.RangeFault.TheVariants as fault;
 ghost use Rattle.jf_range.specs.Frontiers.{frontier_of, IsAscending};
-ghost use Rattle.jf_range.specs.Judgements.{IsAccepted};
+ghost use Rattle.jf_range.specs.Judgements.{IsAcceptedRange};
 
 use crate::checks::{is_crowded, is_miscounted, rises_behind};
 use crate::frontier::Frontier;
@@ -24,7 +24,7 @@ impl Frontier {
         proof: &RangeProof,
         steps: &mut Steps<L>,
     ) -> Result<Frontier, RangeFault>
-        ensures judged { (known : Entries) → self.now ≡ frontier_of known → IsAscending known → MatchResult result (IsAccepted root.now known fresh.now proof.now) (λ why. range_refusal root.now known fresh.now proof.now ≡ Some why) }
+        ensures judged { (known : Entries) → self.now ≡ frontier_of known → IsAscending known → MatchResult result (IsAcceptedRange root.now known fresh.now proof.now) (λ why. range_refusal root.now known fresh.now proof.now ≡ Some why) }
         ensures cost { steps.new ≤ steps.old + 257 * (length fresh.now + 1) }
         ensures idle { IfErr result (λ why. why ≢ fault.WrongRoot → steps.new ≡ steps.old) }
     {

@@ -1,34 +1,23 @@
 -- Appending entries to a batch that can be spelled gives one that can be.
-use Rattle.std.proofs.Common.{ℕ, ◌≤◌, Bool, true, false, ◌&&◌, T, List, [], ◌∷◌, ◌++◌, length, Option, is_lt}
 use Rattle.std.specs.Prelude.{IfSome}
-use Rattle.std.specs.List.{AllByRecursion}
+use Rattle.std.proofs.Common.{ℕ, T, List, [], ◌∷◌, ◌++◌, Option, is_lt, ◌≤◌, length}
 use Rattle.std.specs.FinMap.{is_sorted}
 use Rattle.std.specs.FinMap.Entries.{below_all}
+use Rattle.std.specs.List.{AllByRecursion}
 use Rattle.jf_path.specs.Keys.{key_cmp, IsKey, IsBytes}
+use Rattle.jf_path.proofs.BoolLaws.{both_so, left_so, right_so}
 use Rattle.jf_hash.specs.Maps.{Batch, IsBatch}
-use Rattle.jf_record.specs.Spelling.{IsLandable}
 use Rattle.jf_record.specs.Reading.{is_above}
+use Rattle.jf_record.specs.Spelling.{IsLandable}
 use Rattle.jf_record.proofs.FieldLaws.{IsEntry}
 
-both : (a b : Bool) → T a → T b → T (a && b)
-both true b p q = q
-both false b p q = p
-
-left_so : (a b : Bool) → T (a && b) → T a
-left_so true b h = tt
-left_so false b h = absurd h
-
-right_so : (a b : Bool) → T (a && b) → T b
-right_so true b h = h
-right_so false b h = absurd h
-
 below_all-push : (key : List ℕ) (b : Batch) (e : List ℕ × Option (List ℕ)) → T (below_all key_cmp key b) → T (is_lt (key_cmp key e.0)) → T (below_all key_cmp key (b ++ e ∷ []))
-below_all-push key [] e below less = both _ _ less tt
-below_all-push key (f ∷ fs) e below less = both _ _ (left_so _ _ below) (below_all-push key fs e (right_so _ _ below) less)
+below_all-push key [] e below less = both_so _ _ less tt
+below_all-push key (f ∷ fs) e below less = both_so _ _ (left_so _ _ below) (below_all-push key fs e (right_so _ _ below) less)
 
 is_sorted-push : (b : Batch) (e : List ℕ × Option (List ℕ)) → T (is_sorted key_cmp b) → T (is_above e.0 b) → T (is_sorted key_cmp (b ++ e ∷ []))
 is_sorted-push [] e sorted above = tt
-is_sorted-push (f ∷ fs) e sorted above = both _ _ (below_all-push f.0 fs e (left_so _ _ sorted) (left_so _ _ above)) (is_sorted-push fs e (right_so _ _ sorted) (right_so _ _ above))
+is_sorted-push (f ∷ fs) e sorted above = both_so _ _ (below_all-push f.0 fs e (left_so _ _ sorted) (left_so _ _ above)) (is_sorted-push fs e (right_so _ _ sorted) (right_so _ _ above))
 
 below_later : (key : List ℕ) (b : Batch) (e : List ℕ × Option (List ℕ)) (es : Batch) → T (below_all key_cmp key (b ++ e ∷ es)) → T (is_lt (key_cmp key e.0))
 below_later key [] e es below = left_so _ _ below
@@ -37,7 +26,7 @@ below_later key (f ∷ fs) e es below = below_later key fs e es (right_so _ _ be
 -- in a sorted batch each key is above all before it
 pub above-from_sorted : (b : Batch) (e : List ℕ × Option (List ℕ)) (es : Batch) → T (is_sorted key_cmp (b ++ e ∷ es)) → T (is_above e.0 b)
 above-from_sorted [] e es sorted = tt
-above-from_sorted (f ∷ fs) e es sorted = both _ _ (below_later f.0 fs e es (left_so _ _ sorted)) (above-from_sorted fs e es (right_so _ _ sorted))
+above-from_sorted (f ∷ fs) e es sorted = both_so _ _ (below_later f.0 fs e es (left_so _ _ sorted)) (above-from_sorted fs e es (right_so _ _ sorted))
 
 all-push : {A : Type 0} (P : A → Type 0) (xs : List A) (x : A) → AllByRecursion P xs → P x → AllByRecursion P (xs ++ x ∷ [])
 all-push P [] x all here = (here, tt)

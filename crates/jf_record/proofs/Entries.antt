@@ -1,12 +1,13 @@
 -- The entries of a batch: the lengths of their keys and values, and how many bytes each takes.
-use Rattle.std.proofs.Common.{◌≡◌, ℕ, ◌+◌, ◌≤◌, List, [], ◌∷◌, ◌++◌, length, All, Some, None, arith, length-append}
 use Rattle.std.specs.Prelude.{IfSome}
-use Rattle.std.specs.List.{AllByRecursion}
+use Rattle.std.proofs.Common.{◌≡◌, [], ◌∷◌, length, All, ◌≤◌, ℕ, List, None, arith, length-append, ◌+◌, ◌++◌, Some}
 use Rattle.std.proofs.lemmas.List.Elements.{All-from_recursion}
+use Rattle.std.specs.List.{AllByRecursion}
 use Rattle.jf_path.specs.Keys.{IsKey}
+use Rattle.jf_path.specs.Numbers.{four_bytes}
 use Rattle.jf_hash.specs.Maps.{Batch, IsBatch}
 use Rattle.jf_split.specs.Limits.{IsWithinLimits}
-use Rattle.jf_record.specs.Spelling.{entry_bytes, four_bytes}
+use Rattle.jf_record.specs.Spelling.{entry_bytes}
 
 keys_long : (b : Batch) → AllByRecursion (λ e. IsKey e.0) b → AllByRecursion (λ e. length e.0 ≡ 32) b
 keys_long [] h = tt

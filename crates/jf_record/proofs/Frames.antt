@@ -1,13 +1,11 @@
 -- The frame of a commit, as it is written part by part.
-use Rattle.std.proofs.Common.{◌≡◌, ℕ, ◌+◌, List, [], ◌∷◌, ◌++◌, length, refl, sym, ap, ◌∙◌, arith, append_assoc, length-append}
+use Rattle.std.proofs.Common.{◌≡◌, ℕ, ◌+◌, ◌++◌, length, refl, arith, length-append, List, append_assoc, [], ◌∷◌, sym, ap, ◌∙◌}
 use Rattle.std.specs.List.{flat_map}
+use Rattle.jf_path.specs.Numbers.{eight_bytes}
 use Rattle.jf_hash.specs.Maps.{Batch}
-use Rattle.jf_frame.specs.Framing.{frame, eight_bytes}
+use Rattle.jf_frame.specs.Framing.{frame}
+use Rattle.jf_frame.proofs.Spelling.{length-eight}
 use Rattle.jf_record.specs.Spelling.{entry_bytes, landing_bytes}
-
-pub length-eight : (n : ℕ) → length (eight_bytes n) ≡ 8
-unfolding eight_bytes
-length-eight n = refl
 
 landing-is : (version : ℕ) (b : Batch) → eight_bytes version ++ eight_bytes (length b) ++ flat_map entry_bytes b ≡ landing_bytes version b
 unfolding landing_bytes

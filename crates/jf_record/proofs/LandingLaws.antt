@@ -1,47 +1,41 @@
 -- Reading a commit gives the commit that was written, and only that.
-use Rattle.std.proofs.Common.{◌≡◌, ℕ, zero, suc, ◌^◌, ◌<◌, ◌≤◌, Bool, true, false, cond, ltb, eqb, T, List, [], ◌∷◌, ◌++◌, length, Option, Some, None, refl, sym, ap, subst, ◌∙◌, append_assoc, arith}
-use Rattle.std.specs.List.{flat_map, AllByRecursion}
-use Rattle.std.specs.FinMap.{is_sorted}
+use Rattle.std.proofs.Common.{◌≡◌, ℕ, List, ◌++◌, length, zero, suc, cond, [], ◌∷◌, Some, None, refl, sym, ap, subst, ◌∙◌, append_assoc, T, ◌^◌, ◌<◌, ◌≤◌, ltb, eqb, arith, false}
 use Rattle.std.proofs.lemmas.Bool.{eqb-true, ltb-false, le-ltb}
+use Rattle.std.proofs.lemmas.Float.{T_from_true}
 use Rattle.std.proofs.lemmas.List.{append-nil, nil_from_length}
 use Rattle.std.proofs.lemmas.List.Concat.{flat_map-cons}
+use Rattle.std.proofs.lemmas.Option.{same_Some}
+use Rattle.std.specs.FinMap.{is_sorted}
+use Rattle.std.specs.List.{flat_map, AllByRecursion}
 use Rattle.jf_path.specs.Keys.{key_cmp}
+use Rattle.jf_path.specs.Numbers.{eight_bytes}
+use Rattle.jf_path.proofs.ByteLaws.{Takes, AreBytes, Takes-then}
+use Rattle.jf_path.proofs.OptionLaws.{guard_kept}
+use Rattle.jf_path.proofs.BoolLaws.{true_from_T}
 use Rattle.jf_hash.specs.Maps.{Batch}
-use Rattle.jf_frame.specs.Framing.{eight_bytes}
 use Rattle.jf_record.specs.Spelling.{entry_bytes, landing_bytes, IsLandable}
-use Rattle.jf_record.specs.Reading.{◌>>=◌, is_above, eight_at, entry_at, entries_at, landing_in}
-use Rattle.jf_record.proofs.FieldLaws.{AreBytes, bind_some, guard_some, some_is, Takes, Takes-then, eight_takes, eight_again, IsEntry, entry_takes, entry_again}
-use Rattle.jf_record.proofs.Batches.{IsGrown, IsGrown-none, IsGrown-push, above-from_sorted, IsLandable-entries, IsLandable-from_grown}
-
-from_true : (b : Bool) → b ≡ true → T b
-from_true b e = subst T (sym e) tt
-
-is_true : (b : Bool) → T b → b ≡ true
-is_true true h = refl
-is_true false h = absurd h
-
-guard_kept : {A : Type 0} (b : Bool) (r : Option A) (y : A) → cond b r None ≡ Some y → (b ≡ true) × (r ≡ Some y)
-guard_kept true r y e = (refl, e)
-guard_kept false r y e = absurd cc
+use Rattle.jf_record.specs.Reading.{is_above, entry_at, entries_at, ◌>>=◌, read_eight, landing_in}
+use Rattle.jf_record.proofs.Batches.{IsGrown, IsGrown-push, above-from_sorted, IsGrown-none, IsLandable-from_grown, IsLandable-entries}
+use Rattle.jf_record.proofs.FieldLaws.{bind_some, entry_takes, IsEntry, entry_again, guard_some, eight_takes, eight_again}
 
 -- the entries that were read: how many, and their bytes
-record Reads (n : ℕ) (front : Batch) (bytes : List ℕ) (x : Batch × List ℕ) : Type 0 where
+record ReadsEntries (n : ℕ) (front : Batch) (bytes : List ℕ) (x : Batch × List ℕ) : Type 0 where
   more : Batch
   taken : Takes bytes (flat_map entry_bytes more) x.1
   behind : x.0 ≡ front ++ more
   count : length more ≡ n
   grown : IsGrown x.0
 
-entries_take : (n : ℕ) (front : Batch) (bytes : List ℕ) (x : Batch × List ℕ) → AreBytes bytes → IsGrown front → entries_at n front bytes ≡ Some x → Reads n front bytes x
+entries_take : (n : ℕ) (front : Batch) (bytes : List ℕ) (x : Batch × List ℕ) → AreBytes bytes → IsGrown front → entries_at n front bytes ≡ Some x → ReadsEntries n front bytes x
 unfolding entries_at
 entries_take zero front bytes x fits grown e =
-    subst (λ (y : Batch × List ℕ). Reads 0 front bytes y) (some_is (front, bytes) x e)
+    subst (λ (y : Batch × List ℕ). ReadsEntries 0 front bytes y) (same_Some (front, bytes) x e)
     (record { more = []; taken = record { parts = refl; rest_fits = fits }; behind = sym (append-nil front); count = refl; grown = grown })
 entries_take (suc n) front bytes x fits grown e =
     let a = bind_some (entry_at bytes) (λ e. cond (is_above e.0.0 front) (entries_at n (front ++ e.0 ∷ []) e.1) None) x e in
     let g = guard_kept (is_above a.0.0.0 front) (entries_at n (front ++ a.0.0 ∷ []) a.0.1) x a.2 in
     let first = entry_takes bytes a.0 fits a.1 in
-    let others = entries_take n (front ++ a.0.0 ∷ []) a.0.1 x first.0.rest_fits (IsGrown-push front a.0.0 grown first.1 (from_true _ g.0)) g.1 in
+    let others = entries_take n (front ++ a.0.0 ∷ []) a.0.1 x first.0.rest_fits (IsGrown-push front a.0.0 grown first.1 (T_from_true _ g.0)) g.1 in
     let both = Takes-then bytes (entry_bytes a.0.0) a.0.1 (flat_map entry_bytes others.more) x.1 first.0 others.taken in
     record {
       more = a.0.0 ∷ others.more;
@@ -56,7 +50,7 @@ unfolding entries_at
 entries_again front [] rest fits sorted = ap (λ (b : Batch). Some (b, rest)) (sym (append-nil front))
 entries_again front (e ∷ es) rest fits sorted =
     let regrouped : flat_map entry_bytes (e ∷ es) ++ rest ≡ entry_bytes e ++ (flat_map entry_bytes es ++ rest) = ap (λ (x : List ℕ). x ++ rest) (flat_map-cons entry_bytes e es) ∙ append_assoc (entry_bytes e) (flat_map entry_bytes es) rest in
-    let above = is_true (is_above e.0 front) (above-from_sorted front e es sorted) in
+    let above = true_from_T (is_above e.0 front) (above-from_sorted front e es sorted) in
     let joined : (front ++ e ∷ []) ++ es ≡ front ++ e ∷ es = append_assoc front (e ∷ []) es in
     let others = entries_again (front ++ e ∷ []) es rest fits.1 (subst (λ (b : Batch). T (is_sorted key_cmp b)) (sym joined) sorted) in
     ap (entries_at (suc (length es)) front) regrouped ∙ rw (entry_again e (flat_map entry_bytes es ++ rest) fits.0, above, others) (ap (λ (b : Batch). Some (b, rest)) joined)
@@ -75,8 +69,8 @@ pub landing_takes : (bytes : List ℕ) (x : ℕ × Batch) → AreBytes bytes →
 unfolding landing_in landing_bytes
 landing_takes bytes x fits e =
     let last = λ (v : ℕ) (es : Batch × List ℕ). cond (eqb (length es.1) 0) (Some (v, es.0)) None in
-    let a = bind_some (eight_at bytes) (λ v. eight_at v.1 >>= λ n. cond (ltb 10000 n.0) None (entries_at n.0 [] n.1) >>= λ es. last v.0 es) x e in
-    let b = bind_some (eight_at a.0.1) (λ n. cond (ltb 10000 n.0) None (entries_at n.0 [] n.1) >>= λ es. last a.0.0 es) x a.2 in
+    let a = bind_some (read_eight bytes) (λ v. read_eight v.1 >>= λ n. cond (ltb 10000 n.0) None (entries_at n.0 [] n.1) >>= λ es. last v.0 es) x e in
+    let b = bind_some (read_eight a.0.1) (λ n. cond (ltb 10000 n.0) None (entries_at n.0 [] n.1) >>= λ es. last a.0.0 es) x a.2 in
     let d = bind_some (cond (ltb 10000 b.0.0) None (entries_at b.0.0 [] b.0.1)) (last a.0.0) x b.2 in
     let few = guard_some (ltb 10000 b.0.0) (entries_at b.0.0 [] b.0.1) d.0 d.1 in
     let g = guard_kept (eqb (length d.0.1) 0) (Some (a.0.0, d.0.0)) x d.2 in
@@ -90,7 +84,7 @@ landing_takes bytes x fits e =
     let whole = assembled bytes a.0.0 b.0.0 third.more d.0.0 d.0.1 all.parts nothing third.behind third.count in
     let most : b.0.0 ≤ 10000 = ltb-false _ _ few.0 in
     let landable = IsLandable-from_grown d.0.0 third.grown (omega (arith, counted, most)) in
-    subst (λ (y : ℕ × Batch). (y.0 < 2 ^ 64) × IsLandable y.1 × (bytes ≡ eight_bytes y.0 ++ eight_bytes (length y.1) ++ flat_map entry_bytes y.1)) (some_is (a.0.0, d.0.0) x g.1) (first.1, landable, whole)
+    subst (λ (y : ℕ × Batch). (y.0 < 2 ^ 64) × IsLandable y.1 × (bytes ≡ eight_bytes y.0 ++ eight_bytes (length y.1) ++ flat_map entry_bytes y.1)) (same_Some (a.0.0, d.0.0) x g.1) (first.1, landable, whole)
 
 -- the spelling of a commit reads as that commit
 pub landing_again : (version : ℕ) (b : Batch) → version < 2 ^ 64 → IsLandable b → landing_in (landing_bytes version b) ≡ Some (version, b)

@@ -1,9 +1,9 @@
 -- Reading entries one after the other, as the loop does.
-use Rattle.std.proofs.Common.{◌≡◌, ℕ, suc, ◌-◌, ◌+◌, ◌≤◌, ◌<◌, true, false, List, [], ◌∷◌, ◌++◌, Option, Some, None, refl, sym, ◌∙◌, arith}
+use Rattle.std.proofs.Common.{◌≡◌, ℕ, suc, ◌-◌, ◌+◌, ◌<◌, true, List, [], ◌∷◌, ◌++◌, Option, Some, refl, sym, ◌∙◌, arith, None, false, ◌≤◌}
 use Rattle.jf_hash.specs.Maps.{Batch}
-use Rattle.jf_record.specs.declared.fault.RecordFault.{RecordFault}
-use Rattle.jf_record.specs.declared.fault.RecordFault.TheVariants as fault
-use Rattle.jf_record.specs.Reading.{Fails, is_above, entry_at, entries_at}
+use Rattle.jf_record.specs.Reading.{is_above, entry_at, entries_at, FailsToDecode}
+use Rattle.jf_record.specs.declared.fault.CommitFault.{CommitFault}
+use Rattle.jf_record.specs.declared.fault.CommitFault.TheVariants as fault
 
 pub goes_on : (front : Batch) (count i : ℕ) (bytes : List ℕ) (e : List ℕ × Option (List ℕ)) (after : List ℕ) (total : Option (Batch × List ℕ)) → i < count → entry_at bytes ≡ Some (e, after) → is_above e.0 front ≡ true
     → entries_at (count - i) front bytes ≡ total → entries_at (count - (i + 1)) (front ++ e ∷ []) after ≡ total
@@ -13,7 +13,7 @@ goes_on front count i bytes e after total lt read above so_far =
     let one : entries_at (count - i) front bytes ≡ entries_at (count - (i + 1)) (front ++ e ∷ []) after = rw (k, read, above) refl in
     sym one ∙ so_far
 
-pub ends : (f : RecordFault) (front : Batch) (count i : ℕ) (bytes : List ℕ) (total : Option (Batch × List ℕ)) → i < count → Fails f (entry_at bytes) → entries_at (count - i) front bytes ≡ total → Fails f total
+pub ends : (f : CommitFault) (front : Batch) (count i : ℕ) (bytes : List ℕ) (total : Option (Batch × List ℕ)) → i < count → FailsToDecode f (entry_at bytes) → entries_at (count - i) front bytes ≡ total → FailsToDecode f total
 unfolding entries_at
 ends fault.Memory front count i bytes total lt read so_far = tt
 ends fault.Bad front count i bytes total lt read so_far =
@@ -21,8 +21,8 @@ ends fault.Bad front count i bytes total lt read so_far =
     let one : entries_at (count - i) front bytes ≡ None = rw (k, read) refl in
     sym so_far ∙ one
 
-pub ends_at_key : (f : RecordFault) (front : Batch) (count i : ℕ) (bytes : List ℕ) (e : List ℕ × Option (List ℕ)) (after : List ℕ) (total : Option (Batch × List ℕ)) → i < count → entry_at bytes ≡ Some (e, after)
-    → (f ≡ fault.Bad → is_above e.0 front ≡ false) → entries_at (count - i) front bytes ≡ total → Fails f total
+pub ends_at_key : (f : CommitFault) (front : Batch) (count i : ℕ) (bytes : List ℕ) (e : List ℕ × Option (List ℕ)) (after : List ℕ) (total : Option (Batch × List ℕ)) → i < count → entry_at bytes ≡ Some (e, after)
+    → (f ≡ fault.Bad → is_above e.0 front ≡ false) → entries_at (count - i) front bytes ≡ total → FailsToDecode f total
 unfolding entries_at
 ends_at_key fault.Memory front count i bytes e after total lt read not_above so_far = tt
 ends_at_key fault.Bad front count i bytes e after total lt read not_above so_far =

@@ -1,28 +1,26 @@
 -- A record has one spelling, a payload spells at most one record, and it is decided whether it spells one.
-use Rattle.std.proofs.Common.{◌≡◌, ℕ, ◌^◌, ◌<◌, ◌⊎◌, inl, inr, Bool, true, false, cond, eqb, List, [], ◌∷◌, ◌++◌, length, Option, Some, None, Result, Ok, Err, refl, sym, ap, subst, ◌∙◌, arith}
 use Rattle.std.specs.Prelude.{IfSome, IfOk}
-use Rattle.std.specs.List.{flat_map, AllByRecursion}
-use Rattle.std.proofs.lemmas.Bool.{cases_lt, eqb-true, eq-eqb}
+use Rattle.std.proofs.Common.{ℕ, arith, List, length, Option, Some, None, [], ◌∷◌, sym, subst, ◌++◌, ◌≡◌, ◌^◌, ◌<◌, ap, ◌∙◌, ◌⊎◌, inl, inr, refl, eqb, true, Result, Ok, Err}
+use Rattle.std.proofs.lemmas.Bool.{cases_lt, eqb-true, eq-eqb, cases_eq}
 use Rattle.std.proofs.lemmas.List.Concat.{flat_map-cons}
+use Rattle.std.proofs.lemmas.Option.{same_Some}
+use Rattle.std.specs.List.{flat_map, AllByRecursion}
 use Rattle.jf_path.specs.Keys.{IsBytes}
+use Rattle.jf_path.specs.Numbers.{four_bytes, eight_bytes}
+use Rattle.jf_path.proofs.ByteLaws.{IsBytes-append, IsBytes-from_places, AreBytes-at_places, AreBytes}
+use Rattle.jf_path.proofs.OptionLaws.{guard_kept}
 use Rattle.jf_hash.specs.Maps.{Batch}
-use Rattle.jf_frame.specs.Framing.{eight_bytes}
-use Rattle.jf_record.specs.declared.fault.RecordFault.{RecordFault}
-use Rattle.jf_record.specs.declared.fault.RecordFault.TheVariants as fault
+use Rattle.jf_record.specs.Spelling.{change_bytes, entry_bytes, landing_bytes, IsLandable, IsBatchSpelling}
+use Rattle.jf_record.specs.Reading.{landing_in, ◌>>=◌, batch_record_in, GivesDecoded}
 use Rattle.jf_record.specs.declared.kinds.Record.{Record}
+use Rattle.jf_record.specs.declared.fault.CommitFault.{CommitFault}
 use Rattle.jf_record.specs.declared.kinds.Record.TheVariants as «record»
-use Rattle.jf_record.specs.Spelling.{four_bytes, change_bytes, entry_bytes, landing_bytes, IsLandable, IsSpelling}
-use Rattle.jf_record.specs.Reading.{◌>>=◌, Gives, landing_in, record_in}
-use Rattle.jf_record.proofs.FieldLaws.{AreBytes, AreBytes-at_places, IsBytes-from_places, bind_some, some_is, IsEntry}
+use Rattle.jf_record.specs.declared.fault.CommitFault.TheVariants as fault
+use Rattle.jf_record.proofs.FieldLaws.{IsEntry, bind_some}
 use Rattle.jf_record.proofs.Batches.{IsLandable-entries}
-use Rattle.jf_record.proofs.LandingLaws.{landing_takes, landing_again}
+use Rattle.jf_record.proofs.LandingLaws.{landing_again, landing_takes}
 
 -- ---- spellings are bytes
-
-IsBytes-append : (xs ys : List ℕ) → IsBytes xs → IsBytes ys → IsBytes (xs ++ ys)
-IsBytes-append [] ys p q = q
-IsBytes-append (x ∷ xs) ys p q = (p.0, IsBytes-append xs ys p.1 q)
-
 IsBytes-four : (n : ℕ) → IsBytes (four_bytes n)
 unfolding four_bytes
 IsBytes-four n = (omega arith, (omega arith, (omega arith, (omega arith, tt))))
@@ -49,11 +47,10 @@ IsBytes-landing version b landable =
     (IsBytes-entries b (IsLandable-entries b landable))
 
 -- ---- commits
-
 -- a spelling is that of one commit
 pub one_landing : (v w : ℕ) (b c : Batch) → landing_bytes v b ≡ landing_bytes w c → IsLandable b → IsLandable c → v < 2 ^ 64 → w < 2 ^ 64 → (v ≡ w) × (b ≡ c)
 one_landing v w b c same first second v-fits w-fits =
-    let pair : (v, b) ≡ (w, c) = some_is (v, b) (w, c) (sym (landing_again v b v-fits first) ∙ ap landing_in same ∙ landing_again w c w-fits second) in
+    let pair : (v, b) ≡ (w, c) = same_Some (v, b) (w, c) (sym (landing_again v b v-fits first) ∙ ap landing_in same ∙ landing_again w c w-fits second) in
     (ap (λ (p : ℕ × Batch). p.0) pair, ap (λ (p : ℕ × Batch). p.1) pair)
 
 -- a commit that a payload spells
@@ -88,40 +85,32 @@ landing_or_not payload =
     ]
 
 -- ---- records of each kind
-
-guard_kept : {A : Type 0} (b : Bool) (r : Option A) (y : A) → cond b r None ≡ Some y → (b ≡ true) × (r ≡ Some y)
-guard_kept true r y e = (refl, e)
-guard_kept false r y e = absurd cc
-
 -- a payload that reads as a record is its spelling
-pub record_takes : (kind : ℕ) (payload : List ℕ) (r : Record) → AreBytes payload → record_in kind payload ≡ Some r → IsSpelling r kind payload
+pub record_takes : (kind : ℕ) (payload : List ℕ) (r : Record) → AreBytes payload → batch_record_in kind payload ≡ Some r → IsBatchSpelling r kind payload
 record_takes kind payload r fits e =
     let g = guard_kept (eqb kind 1) (landing_in payload >>= λ l. Some («record».BatchCommit l.0 l.1)) r e in
     let l = bind_some (landing_in payload) (λ l. Some («record».BatchCommit l.0 l.1)) r g.1 in
     let found = landing_takes payload l.0 fits l.1 in
-    subst (λ (r : Record). IsSpelling r kind payload) (some_is («record».BatchCommit l.0.0 l.0.1) r l.2) (record { sound = (found.0, found.1); kind_is = eqb-true _ _ g.0; payload_is = found.2 })
+    subst (λ (r : Record). IsBatchSpelling r kind payload) (same_Some («record».BatchCommit l.0.0 l.0.1) r l.2) (record { sound = (found.0, found.1); kind_is = eqb-true _ _ g.0; payload_is = found.2 })
 
 -- the spelling of a record reads as that record
-pub record_again : (kind : ℕ) (payload : List ℕ) (r : Record) → IsSpelling r kind payload → record_in kind payload ≡ Some r
+pub record_again : (kind : ℕ) (payload : List ℕ) (r : Record) → IsBatchSpelling r kind payload → batch_record_in kind payload ≡ Some r
 record_again kind payload («record».BatchCommit version batch) s =
     let is_one : eqb kind 1 ≡ true = eq-eqb _ _ s.kind_is in
     let read : landing_in payload ≡ Some (version, batch) = ap landing_in s.payload_is ∙ landing_again version batch s.sound.0 s.sound.1 in
     rw (is_one, read) refl
 
 -- a payload of a kind spells at most one record
-pub one_record : (kind : ℕ) (payload : List ℕ) (r s : Record) → IsSpelling r kind payload → IsSpelling s kind payload → r ≡ s
-one_record kind payload r s first second = some_is r s (sym (record_again kind payload r first) ∙ record_again kind payload s second)
+pub one_record : (kind : ℕ) (payload : List ℕ) (r s : Record) → IsBatchSpelling r kind payload → IsBatchSpelling s kind payload → r ≡ s
+one_record kind payload r s first second = same_Some r s (sym (record_again kind payload r first) ∙ record_again kind payload s second)
 
-spelled_landing : (kind : ℕ) (payload : List ℕ) (r : Record) → IsSpelling r kind payload → (kind ≡ 1) × SpellsLanding payload
+spelled_landing : (kind : ℕ) (payload : List ℕ) (r : Record) → IsBatchSpelling r kind payload → (kind ≡ 1) × SpellsLanding payload
 spelled_landing kind payload («record».BatchCommit version batch) s = (s.kind_is, record { version = version; batch = batch; fits = s.sound.0; landable = s.sound.1; is = s.payload_is })
 
-same_or_not : (m n : ℕ) → (m ≡ n) ⊎ (m ≡ n → ⊥)
-same_or_not m n = elim (eqb m n) as (λ b. eqb m n ≡ b → (m ≡ n) ⊎ (m ≡ n → ⊥)) [ true ↦ λ e. inl (eqb-true _ _ e) | false ↦ λ e. inr (λ same. let is = eq-eqb m n same in absurd cc) ] refl
-
 -- a payload of a kind spells a record or doesn't
-pub record_or_not : (kind : ℕ) (payload : List ℕ) → ((r : Record) × IsSpelling r kind payload) ⊎ ((r : Record) → IsSpelling r kind payload → ⊥)
+pub record_or_not : (kind : ℕ) (payload : List ℕ) → ((r : Record) × IsBatchSpelling r kind payload) ⊎ ((r : Record) → IsBatchSpelling r kind payload → ⊥)
 record_or_not kind payload =
-    elim (same_or_not kind 1) [
+    elim (cases_eq kind 1) [
       | inl one ↦ elim (landing_or_not payload) [
         | inl s ↦ inl («record».BatchCommit s.version s.batch, record { sound = (s.fits, s.landable); kind_is = one; payload_is = s.is })
         | inr none ↦ inr (λ r spells. none (spelled_landing kind payload r spells).1)
@@ -130,12 +119,11 @@ record_or_not kind payload =
     ]
 
 -- ---- decoding
-
-pub is_found : (kind : ℕ) (payload : List ℕ) (r : Result Record RecordFault) → AreBytes payload → Gives (λ r. r) r (record_in kind payload) → IfOk r (λ r. IsSpelling r kind payload)
+pub is_found : (kind : ℕ) (payload : List ℕ) (r : Result Record CommitFault) → AreBytes payload → GivesDecoded (λ r. r) r (batch_record_in kind payload) → IfOk r (λ r. IsBatchSpelling r kind payload)
 is_found kind payload (Ok r) fits given = record_takes kind payload r fits given
 is_found kind payload (Err e) fits given = tt
 
-pub is_only : (kind : ℕ) (payload : List ℕ) (result : Result Record RecordFault) → Gives (λ r. r) result (record_in kind payload) → (r : Record) → IsSpelling r kind payload → (result ≡ Ok r) ⊎ (result ≡ Err fault.Memory)
-is_only kind payload (Ok s) given r spells = inl (ap Ok (some_is s r (sym given ∙ record_again kind payload r spells)))
+pub is_only : (kind : ℕ) (payload : List ℕ) (result : Result Record CommitFault) → GivesDecoded (λ r. r) result (batch_record_in kind payload) → (r : Record) → IsBatchSpelling r kind payload → (result ≡ Ok r) ⊎ (result ≡ Err fault.Memory)
+is_only kind payload (Ok s) given r spells = inl (ap Ok (same_Some s r (sym given ∙ record_again kind payload r spells)))
 is_only kind payload (Err fault.Memory) given r spells = inr refl
 is_only kind payload (Err fault.Bad) given r spells = let read = record_again kind payload r spells in absurd cc

@@ -1,14 +1,14 @@
 -- Reading a payload from left to right: a value and the bytes after it, or None if no value is spelled.
-use Rattle.std.specs.Prelude.{◌≡◌, ℕ, zero, suc, Bool, true, ◌&&◌, List, [], ◌∷◌, ◌++◌, length, take, drop, Option, Some, None, Result, Ok, Err, nat_lt, ◌==◌, if◌then◌else◌}
+use Rattle.std.specs.Prelude.{Option, Some, None, ◌≡◌, Result, Ok, Err, ℕ, List, length, take, drop, nat_lt, if◌then◌else◌, zero, suc, [], ◌∷◌, Bool, true, ◌&&◌, ◌++◌, ◌==◌}
+use Rattle.std.specs.Int.{Width, byte_len, from_be_bytes, w32, w64}
 use Rattle.std.specs.Ordering.{is_lt}
-use Rattle.std.specs.Int.{Width, w32, w64, byte_len, from_be_bytes}
-use Rattle.jf_split.specs.Limits.{max_keys}
 use Rattle.jf_path.specs.Limits.{max_value}
 use Rattle.jf_path.specs.Keys.{key_cmp}
 use Rattle.jf_hash.specs.Maps.{Batch}
-use Rattle.jf_record.specs.declared.fault.RecordFault.{RecordFault}
-use Rattle.jf_record.specs.declared.fault.RecordFault.TheVariants as fault
+use Rattle.jf_split.specs.Limits.{max_keys}
+use Rattle.jf_record.specs.declared.fault.CommitFault.{CommitFault}
 use Rattle.jf_record.specs.declared.kinds.Record.{Record}
+use Rattle.jf_record.specs.declared.fault.CommitFault.TheVariants as fault
 use Rattle.jf_record.specs.declared.kinds.Record.TheVariants as «record»
 
 infixl 10 ◌>>=◌
@@ -18,57 +18,55 @@ abbrev pub ◌>>=◌ : {A B : Type 0} → Option A → (A → Option B) → Opti
 None >>= f = None
 
 -- the errors of a function: `Bad` if nothing is read, or out of memory
-abbrev pub Fails : {Y : Type 0} → RecordFault → Option Y → Type 0
-Fails fault.Bad read = read ≡ None
-Fails fault.Memory read = Unit {0}
+abbrev pub FailsToDecode : {Y : Type 0} → CommitFault → Option Y → Type 0
+FailsToDecode fault.Bad read = read ≡ None
+FailsToDecode fault.Memory read = Unit {0}
 
 -- a function returned what reading gives, seen through `view`, or `Memory`
-abbrev pub Gives : {X Y : Type 0} → (X → Y) → Result X RecordFault → Option Y → Type 0
-Gives view (Ok x) read = read ≡ Some (view x)
-Gives view (Err e) read = Fails e read
+abbrev pub GivesDecoded : {X Y : Type 0} → (X → Y) → Result X CommitFault → Option Y → Type 0
+GivesDecoded view (Ok x) read = read ≡ Some (view x)
+GivesDecoded view (Err e) read = FailsToDecode e read
 
 -- ---- fields
-
 -- the first n bytes
-abbrev pub bytes_at : ℕ → List ℕ → Option (List ℕ × List ℕ)
-bytes_at n bytes = if nat_lt (length bytes) n then None else Some (take n bytes, drop n bytes)
+abbrev pub read_bytes : ℕ → List ℕ → Option (List ℕ × List ℕ)
+read_bytes n bytes = if nat_lt (length bytes) n then None else Some (take n bytes, drop n bytes)
 
 -- a number of the given width, the highest byte first
-abbrev pub number_at : Width → List ℕ → Option (ℕ × List ℕ)
-number_at w bytes = if nat_lt (length bytes) (byte_len w) then None else Some (from_be_bytes w (take (byte_len w) bytes), drop (byte_len w) bytes)
+abbrev pub read_number : Width → List ℕ → Option (ℕ × List ℕ)
+read_number w bytes = if nat_lt (length bytes) (byte_len w) then None else Some (from_be_bytes w (take (byte_len w) bytes), drop (byte_len w) bytes)
 
 -- a number in four bytes
-unfoldable pub four_at : List ℕ → Option (ℕ × List ℕ)
-four_at bytes = number_at w32 bytes
+unfoldable pub read_four : List ℕ → Option (ℕ × List ℕ)
+read_four bytes = read_number w32 bytes
 
 -- a number in eight bytes
-unfoldable pub eight_at : List ℕ → Option (ℕ × List ℕ)
-eight_at bytes = number_at w64 bytes
+unfoldable pub read_eight : List ℕ → Option (ℕ × List ℕ)
+read_eight bytes = read_number w64 bytes
 
 -- a value: its length in four bytes, at most 4,096, then its bytes
-unfoldable pub value_at : List ℕ → Option (List ℕ × List ℕ)
-value_at bytes = do
-  n ← four_at bytes
-  if nat_lt max_value n.0 then None else bytes_at n.0 n.1
+unfoldable pub read_value : List ℕ → Option (List ℕ × List ℕ)
+read_value bytes = do
+  n ← read_four bytes
+  if nat_lt max_value n.0 then None else read_bytes n.0 n.1
 
 -- the change of a key: a removal, or a value
 unfoldable pub change_at : List ℕ → Option (Option (List ℕ) × List ℕ)
 change_at [] = None
 change_at (zero ∷ rest) = Some (None, rest)
 change_at (suc zero ∷ rest) = do
-  value ← value_at rest
+  value ← read_value rest
   Some (Some value.0, value.1)
 change_at (suc (suc tag) ∷ rest) = None
 
 -- a key and its change
 unfoldable pub entry_at : List ℕ → Option ((List ℕ × Option (List ℕ)) × List ℕ)
 entry_at bytes = do
-  key ← bytes_at 32 bytes
+  key ← read_bytes 32 bytes
   change ← change_at key.1
   Some ((key.0, change.0), change.1)
 
 -- ---- a commit
-
 -- the key is above all keys of the batch
 abbrev pub is_above : List ℕ → Batch → Bool
 is_above key [] = true
@@ -84,11 +82,11 @@ entries_at (suc n) front bytes = do
 -- a commit that takes all of the bytes: a version and a batch of at most 10,000 keys
 unfoldable pub landing_in : List ℕ → Option (ℕ × Batch)
 landing_in bytes = do
-  version ← eight_at bytes
-  count ← eight_at version.1
+  version ← read_eight bytes
+  count ← read_eight version.1
   entries ← if nat_lt max_keys count.0 then None else entries_at count.0 [] count.1
   if length entries.1 == 0 then Some (version.0, entries.0) else None
 
 -- a record of this kind that takes all of the payload
-abbrev pub record_in : ℕ → List ℕ → Option Record
-record_in kind payload = if kind == 1 then (landing_in payload >>= λ l. Some («record».BatchCommit l.0 l.1)) else None
+abbrev pub batch_record_in : ℕ → List ℕ → Option Record
+batch_record_in kind payload = if kind == 1 then (landing_in payload >>= λ l. Some («record».BatchCommit l.0 l.1)) else None

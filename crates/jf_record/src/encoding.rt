@@ -2,8 +2,10 @@
 ghost use Rattle.std.specs.Prelude.{◌≡◌, ◌≤◌, ◌<◌, ◌++◌, ◌^◌, ◌*◌, ◌+◌, length, flat_map, IfOk, IfSome, OnOk};
 ghost use Rattle.jf_path.specs.Limits.{max_value};
 ghost use Rattle.jf_hash.specs.Maps.{IsBatch};
-ghost use Rattle.jf_frame.specs.Framing.{frame, eight_bytes};
-ghost use Rattle.jf_record.specs.Spelling.{kind_of, record_bytes, landing_bytes, entry_bytes, four_bytes, IsRecord};
+ghost use Rattle.jf_frame.specs.Framing.{frame};
+ghost use Rattle.jf_path.specs.Numbers.{eight_bytes};
+ghost use Rattle.jf_record.specs.Spelling.{batch_kind_of, batch_record_bytes, landing_bytes, entry_bytes, IsBatchRecord};
+ghost use Rattle.jf_path.specs.Numbers.{four_bytes};
 ghost use Rattle.jf_split.specs.Limits.{IsWithinLimits};
 
 use crate::kinds::{CLOSED, LANDING, REMOVED, Record, SET};
@@ -13,8 +15,8 @@ use std::alloc::Global;
 
 /// The frame of a record: kind, length, payload, and a closed gate.
 pub fn encode(alloc: Global, entry: &Record) -> Result<Bytes, Memory>
-    requires { IsRecord entry.now }
-    ensures { IfOk result (λ bytes. bytes ≡ frame (kind_of entry.now) (record_bytes entry.now)) }
+    requires { IsBatchRecord entry.now }
+    ensures { IfOk result (λ bytes. bytes ≡ frame (batch_kind_of entry.now) (batch_record_bytes entry.now)) }
 {
     match entry {
         Record::BatchCommit { version, batch } => encode_landing(alloc, *version, batch),
@@ -65,7 +67,7 @@ fn entry_len(entry: &(Key, Option<Bytes>)) -> usize
 }
 
 // Adds a number in eight bytes.
-#[tactic(auto, unfolding(jf_frame::specs::Framing::eight_bytes))]
+#[tactic(auto, unfolding(jf_path::specs::Numbers::eight_bytes))]
 fn put_u64(out: &mut Vec<u8>, number: u64) -> Result<(), Memory>
     ensures { OnOk result (out.new.items ≡ out.old.items ++ eight_bytes number) }
 {
@@ -74,7 +76,7 @@ fn put_u64(out: &mut Vec<u8>, number: u64) -> Result<(), Memory>
 }
 
 // Adds a value: its length in four bytes, then its bytes.
-#[tactic(auto, unfolding(crate::specs::Spelling::four_bytes))]
+#[tactic(auto, unfolding(jf_path::specs::Numbers::four_bytes))]
 fn put_value(out: &mut Vec<u8>, value: &[u8]) -> Result<(), Memory>
     requires { length value.now ≤ max_value }
     ensures { OnOk result (out.new.items ≡ out.old.items ++ four_bytes (length value.now) ++ value.now) }

@@ -4,10 +4,10 @@ ghost use Rattle.std.specs.FinMap.{put};
 ghost use Rattle.jf_path.specs.Limits.{max_value};
 ghost use Rattle.jf_path.specs.Keys.{key_cmp};
 ghost use Rattle.jf_split.specs.Limits.{max_keys, is_full};
-ghost use Rattle.jf_record.specs.Reading.{Gives, is_above, entries_at, landing_in};
+ghost use Rattle.jf_record.specs.Reading.{GivesDecoded, is_above, entries_at, landing_in};
 ghost use Rattle.jf_record.specs.Views.{entry_view};
 
-use crate::fault::RecordFault;
+use crate::fault::CommitFault;
 use crate::fields::{Entry, entry_of, u64_at};
 use jf_path::Key;
 use jf_split::{Batch, BatchFault, MAX_KEYS};
@@ -37,26 +37,26 @@ fn add(alloc: Global, batch: &mut Batch, entry: &Entry<'_>) -> Result<(), BatchF
 }
 
 // Adds an entry to a batch that has room, if its key is above all keys of the batch.
-fn push(alloc: Global, batch: &mut Batch, entry: &Entry<'_>) -> Result<(), RecordFault>
+fn push(alloc: Global, batch: &mut Batch, entry: &Entry<'_>) -> Result<(), CommitFault>
     requires room { length batch.old < max_keys }
     requires limited { IfSome (entry_view entry.now).1 (λ v. length v ≤ max_value) }
     ensures ok { OnOk result ((is_above (entry_view entry.now).0 batch.old ≡ true) × (batch.new ≡ batch.old ++ entry_view entry.now ∷ [])) }
-    ensures bad { result ≡ Err RecordFault.Bad → is_above (entry_view entry.now).0 batch.old ≡ false }
+    ensures bad { result ≡ Err CommitFault.Bad → is_above (entry_view entry.now).0 batch.old ≡ false }
 {
     if !is_above(entry.key, batch) {
-        return Err(RecordFault::Bad);
+        return Err(CommitFault::Bad);
     }
     match add(alloc, batch, entry) {
         Ok(()) => Ok(()),
-        Err(BatchFault::Memory) => Err(RecordFault::Memory),
+        Err(BatchFault::Memory) => Err(CommitFault::Memory),
         Err(BatchFault::Full) => unreachable!(),
     }
 }
 
 // `count` entries, whose keys ascend strictly.
-fn entries_of(alloc: Global, count: u64, bytes: &[u8]) -> Result<(Batch, &[u8]), RecordFault>
+fn entries_of(alloc: Global, count: u64, bytes: &[u8]) -> Result<(Batch, &[u8]), CommitFault>
     requires { count ≤ max_keys }
-    ensures { Gives (λ x. (x.0, x.1.now)) result (entries_at count [] bytes.now) }
+    ensures { GivesDecoded (λ x. (x.0, x.1.now)) result (entries_at count [] bytes.now) }
 {
     let mut batch = Batch::new(alloc);
     let mut rest = bytes;
@@ -70,17 +70,17 @@ fn entries_of(alloc: Global, count: u64, bytes: &[u8]) -> Result<(Batch, &[u8]),
 
 /// The version and the batch whose spelling all of the bytes are.
 #[tactic(auto, unfolding(crate::specs::Reading::landing_in))]
-pub(crate) fn landing_of(alloc: Global, bytes: &[u8]) -> Result<(u64, Batch), RecordFault>
-    ensures { Gives (λ x. x) result (landing_in bytes.now) }
+pub(crate) fn landing_of(alloc: Global, bytes: &[u8]) -> Result<(u64, Batch), CommitFault>
+    ensures { GivesDecoded (λ x. x) result (landing_in bytes.now) }
 {
     let (version, rest) = u64_at(bytes)?;
     let (count, rest) = u64_at(rest)?;
     if count > MAX_KEYS as u64 {
-        return Err(RecordFault::Bad);
+        return Err(CommitFault::Bad);
     }
     let (batch, rest) = entries_of(alloc, count, rest)?;
     if !rest.is_empty() {
-        return Err(RecordFault::Bad);
+        return Err(CommitFault::Bad);
     }
     Ok((version, batch))
 }

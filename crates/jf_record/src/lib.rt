@@ -11,6 +11,6 @@ mod laws;
 
 pub use decoding::decode;
 pub use encoding::{encode, encode_landing};
-pub use fault::RecordFault;
+pub use fault::CommitFault;
 pub use kinds::Record;
 pub use laws::{one_record, one_spelling, spelling_is_decided};

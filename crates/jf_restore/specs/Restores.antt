@@ -1,18 +1,18 @@
 -- What adding a chunk changes in a restore, and when a restore is whole.
-use Rattle.std.specs.Prelude.{◌≡◌, ◌≢◌, ℕ, ◌≤◌, ◌++◌, length, Some, None}
+use Rattle.std.specs.Prelude.{◌≤◌, length, ◌++◌, ◌≡◌, None, Some, ◌≢◌, ℕ}
 use Rattle.std.specs.List.{AllByRecursion}
 use Rattle.jf_path.specs.Limits.{max_value}
 use Rattle.jf_hash.specs.Roots.{part_root}
+use Rattle.jf_evidence.specs.Ranges.{Entries, range_refusal}
 use Rattle.jf_evidence.specs.declared.range_proof.RangeProof.{RangeProof}
 use Rattle.jf_evidence.specs.declared.range_proof.RangeFault.TheVariants as fault
-use Rattle.jf_evidence.specs.Ranges.{Entries, range_refusal}
 use Rattle.jf_restore.specs.RestoreValue.{RestoreValue}
 use Rattle.jf_restore.specs.declared.refused.RestoreRefused.{RestoreRefused}
 use Rattle.jf_restore.specs.declared.refused.RestoreRefused.TheVariants as refused
 
 -- each value has at most 4,096 bytes
-abbrev pub AreShort : Entries → Type 0
-AreShort es = AllByRecursion (λ e. length e.1 ≤ max_value) es
+abbrev pub HaveShortValues : Entries → Type 0
+HaveShortValues es = AllByRecursion (λ e. length e.1 ≤ max_value) es
 
 -- the restore with more entries after its own
 abbrev pub with_more : RestoreValue → Entries → RestoreValue

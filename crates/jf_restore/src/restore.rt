@@ -1,7 +1,7 @@
 // A restore under way: the entries added so far, and their frontier.
 ghost use Rattle.std.specs.Prelude.{◌≡◌, ◌+◌, ◌-◌, ◌*◌, ◌^◌, ◌<◌, ◌≤◌, [], length, IfErr, MatchResult};
 ghost use Rattle.jf_hash.specs.Roots.{part_root};
-ghost use Rattle.jf_restore.specs.Restores.{IsAdded, IsNotAdded, IsWhole, IsNotWhole, IsUnhashed, AreShort};
+ghost use Rattle.jf_restore.specs.Restores.{IsAdded, IsNotAdded, IsWhole, IsNotWhole, IsUnhashed, HaveShortValues};
 
 use crate::copies::add_copies;
 use crate::refused::RestoreRefused;
@@ -28,13 +28,13 @@ impl Model for Restore {
     ghost use Rattle.std.specs.Prelude.{◌≡◌, ◌-◌, ◌^◌, ◌<◌};
     ghost use Rattle.jf_range.specs.Frontiers.{frontier_of, IsAscending};
     ghost use Rattle.jf_restore.specs.RestoreValue.{RestoreValue};
-    ghost use Rattle.jf_restore.specs.Restores.{AreShort};
+    ghost use Rattle.jf_restore.specs.Restores.{HaveShortValues};
 
     ghost Value = { RestoreValue };
 
     ghost view = { λ r. record { version = r.version; root = r.root; entries = r.entries } };
 
-    ghost invariant = { λ r. (r.frontier ≡ frontier_of r.entries) × IsAscending r.entries × AreShort r.entries × (r.version < 2 ^ 64 - 1) };
+    ghost invariant = { λ r. (r.frontier ≡ frontier_of r.entries) × IsAscending r.entries × HaveShortValues r.entries × (r.version < 2 ^ 64 - 1) };
 }
 
 impl Restore {
@@ -55,7 +55,7 @@ impl Restore {
     /// Adds the entries of a chunk, whose values have at most 4,096 bytes each, if it is accepted after those that were
     /// added before. After a refusal the restore is unchanged.
     pub fn add(&mut self, fresh: &Pairs, proof: &RangeProof) -> Result<(), RestoreRefused>
-        requires { AreShort fresh.now }
+        requires { HaveShortValues fresh.now }
         ensures { MatchResult result (λ _. IsAdded self.old self.new fresh.now proof.now) (λ why. IsNotAdded self.old self.new fresh.now proof.now why) }
     {
         self.add_uncounted::<Brand>(fresh, proof, Blank::new(1))
@@ -69,7 +69,7 @@ impl Restore {
         proof: &RangeProof,
         steps: &mut Steps<L>,
     ) -> Result<(), RestoreRefused>
-        requires { AreShort fresh.now }
+        requires { HaveShortValues fresh.now }
         ensures added { MatchResult result (λ _. IsAdded self.old self.new fresh.now proof.now) (λ why. IsNotAdded self.old self.new fresh.now proof.now why) }
         ensures cost { steps.new ≤ steps.old + 257 * (length fresh.now + 1) }
         ensures idle { IfErr result (λ why. IsUnhashed why → steps.new ≡ steps.old) }
@@ -91,7 +91,7 @@ impl Restore {
         proof: &RangeProof,
         blank: Blank,
     ) -> Result<(), RestoreRefused>
-        requires short { AreShort fresh.now }
+        requires short { HaveShortValues fresh.now }
         requires name { blank.name ≡ L.name }
         requires parts { blank.parts ≡ L.parts }
         requires positive { 0 < blank.parts }

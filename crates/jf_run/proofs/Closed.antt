@@ -1,24 +1,25 @@
 -- What a call promises that opened no store: out of memory, for words that aren't taken, to judge, or after a refusal.
-use Rattle.std.proofs.Common.{◌≡◌, ◌⊎◌, inl, inr, ◌≤◌, [], Option, Some, None, refl, sym, subst, ap, ◌∙◌, IsTrue, le_refl, true≢false}
-use Rattle.std.specs.Prelude.{IfSome, IfNone, IsFalse, is_some}
-use Rattle.jf_disk.specs.Disk.{reads}
-use Rattle.jf_disk.specs.Moments.{same_extends}
+use Rattle.std.specs.Prelude.{IsFalse, IfSome, IfNone, is_some}
+use Rattle.std.proofs.Common.{Option, Some, None, refl, sym, IsTrue, true≢false, ◌≡◌, inl, [], ap, ◌∙◌, ◌≤◌, subst, le_refl, inr, ◌⊎◌}
+use Rattle.jf_path.specs.Faults.{HasCause}
 use Rattle.jf_model.specs.Entries.{moments_of}
-use Rattle.jf_journal.specs.Laws.{DamageIsNoVersions}
+use Rattle.jf_disk.specs.Disk.{reads}
+use Rattle.jf_disk.proofs.CrashLaws.{leaves_nowhere}
+use Rattle.jf_disk.proofs.MomentLaws.{same_extends}
+use Rattle.jf_journal.specs.Laws.{LogDamageIsNoVersions}
 use Rattle.jf_engine.specs.Keeping.{Device, HasRefused}
 use Rattle.jf_engine.specs.declared.fault.OpenFault.{OpenFault}
-use Rattle.jf_session.specs.Sessions.{Rose}
 use Rattle.jf_session.specs.Runs.{AreWithin}
-use Rattle.jf_run.specs.Calls.{Devices, ProgramCall}
 use Rattle.jf_run.specs.Commands.{opens, is_verify, is_closing, status_of_refusal}
-use Rattle.jf_run.specs.Judging.{HasJudged}
-use Rattle.jf_run.specs.Promises.{Stands, IsClosedCall, IsOpenedCall, GoesForward, KeepsPromises}
 use Rattle.jf_run.specs.declared.words.Mode.{Mode}
+use Rattle.jf_run.specs.Calls.{ProgramCall, Devices}
+use Rattle.jf_run.specs.Promises.{IsClosedCall, GoesForward, Stands, IsOpenedCall, KeepsPromises}
+use Rattle.jf_run.specs.Judging.{HasJudged}
 use Rattle.jf_run.specs.declared.words.Mode.TheVariants as mode
 use Rattle.jf_run.specs.declared.status.Status.TheVariants as status
-use Rattle.jf_run.proofs.Complete.{steady, refused_for_memory}
 use Rattle.jf_run.proofs.Judged.{judged_nothing, judged_well, judged_words, judged_disk, judged_files}
-use Rattle.jf_run.proofs.Standing.{left_as_is, stands-none, damage-told}
+use Rattle.jf_run.proofs.Standing.{stands-none, damage-told}
+use Rattle.jf_run.proofs.Complete.{steady, refused_for_memory}
 use Rattle.jf_run.proofs.Statuses.{damage_told, refusal_closes, refused_words, refused_read, refused_write, refused_disk}
 
 -- no store is opened to judge an input
@@ -32,7 +33,7 @@ closed_untouched : (c : ProgramCall) → c.after.disk ≡ c.before.disk → c.en
 closed_untouched c same none ending = record {
   ending = ending;
   entries = none;
-  left = λ h told. (h, ap (λ (d : Device). d.history) same ∙ told, inl (left_as_is h));
+  left = λ h told. (h, ap (λ (d : Device). d.history) same ∙ told, inl (leaves_nowhere h));
   stands = λ h told. (h, ap (λ (d : Device). d.history) same ∙ told, λ v stands. stands);
   stops = λ h told. (h, ap (λ (d : Device). d.history) same ∙ told, λ v calm stands. record { more = []; grows = refl; each = tt });
 }
@@ -95,7 +96,7 @@ usage_keeps c same start none usage asks =
 
 -- an input was judged
 pub judged_keeps : (c : ProgramCall) → c.after.disk ≡ c.before.disk → c.start ≡ None → c.entries ≡ [] → IsTrue (is_verify c.asks) → HasJudged c.status c.before.rest c.after.rest c.before.text c.after.text
-    → (c.status ≡ status.ReadFault → Rose c.before.source_faults c.after.source_faults) → (c.status ≡ status.WriteFault → Rose c.before.sink_faults c.after.sink_faults)
+    → (c.status ≡ status.ReadFault → HasCause c.before.source_faults c.after.source_faults) → (c.status ≡ status.WriteFault → HasCause c.before.sink_faults c.after.sink_faults)
     → c.before.source_faults ≤ c.after.source_faults → c.before.sink_faults ≤ c.after.sink_faults → KeepsPromises c
 judged_keeps c same start none verify j read write source sink = record {
   words = record { usage = λ e. absurd (judged_words j.end c.status j.how_is e); usage_told = λ e. absurd (true≢false (sym verify ∙ ap is_verify e)); start = λ e. start };
@@ -120,7 +121,7 @@ judged_keeps c same start none verify j read write source sink = record {
 }
 
 -- the store was not opened
-pub refused_keeps : (c : ProgramCall) (why : OpenFault) → DamageIsNoVersions → c.start ≡ None → c.entries ≡ [] → IsTrue (opens c.asks) → c.status ≡ status_of_refusal why → HasRefused c.before.disk c.after.disk why
+pub refused_keeps : (c : ProgramCall) (why : OpenFault) → LogDamageIsNoVersions → c.start ≡ None → c.entries ≡ [] → IsTrue (opens c.asks) → c.status ≡ status_of_refusal why → HasRefused c.before.disk c.after.disk why
     → c.before.source_faults ≤ c.after.source_faults → c.before.sink_faults ≤ c.after.sink_faults → KeepsPromises c
 refused_keeps c why none_stand start none runs is r source sink = record {
   words = record { usage = λ e. absurd (refused_words why (sym is ∙ e)); usage_told = λ e. absurd (true≢false (sym runs ∙ ap opens e)); start = λ e. start };

@@ -1,22 +1,23 @@
 -- What a call promises that opened the store.
-use Rattle.std.proofs.Common.{◌≡◌, ◌⊎◌, ℕ, ◌≤◌, Some, sym, subst, ap, ◌∙◌, length, IsTrue, true≢false}
-use Rattle.std.specs.Prelude.{IfSome, IfNone, IsFalse}
+use Rattle.std.specs.Prelude.{IsFalse, IfSome, IfNone}
+use Rattle.std.proofs.Common.{◌≡◌, sym, ap, ◌∙◌, true≢false, ℕ, Some, subst, length, ◌⊎◌, ◌≤◌, IsTrue}
+use Rattle.jf_path.specs.Faults.{HasCause}
 use Rattle.jf_disk.specs.Disk.{History, reads}
-use Rattle.jf_journal.specs.Laws.{FilesStandForOne, DamageIsNoVersions}
-use Rattle.jf_session.specs.Sessions.{Session, Rose}
+use Rattle.jf_journal.specs.Laws.{LogsStandForOne, LogDamageIsNoVersions}
+use Rattle.jf_session.specs.Sessions.{Session}
 use Rattle.jf_session.specs.Runs.{HasRun}
 use Rattle.jf_session.specs.declared.running.End.{End}
 use Rattle.jf_session.specs.declared.running.End.TheVariants as end
-use Rattle.jf_run.specs.Calls.{ProgramCall}
-use Rattle.jf_run.specs.Commands.{opens, is_disk_fault, status_of}
-use Rattle.jf_run.specs.Promises.{IsBegun, own_after, IsClosedCall, IsOpenedCall, KeepsPromises}
-use Rattle.jf_run.specs.Stops.{IsSafeSince}
+use Rattle.jf_run.specs.Commands.{is_disk_fault, status_of, opens}
 use Rattle.jf_run.specs.declared.status.Status.{Status}
+use Rattle.jf_run.specs.Calls.{ProgramCall}
+use Rattle.jf_run.specs.Promises.{IsBegun, own_after, IsOpenedCall, IsClosedCall, KeepsPromises}
+use Rattle.jf_run.specs.Stops.{IsSafeSince}
 use Rattle.jf_run.specs.declared.status.Status.TheVariants as status
-use Rattle.jf_run.proofs.Closed.{verify_opens_none}
-use Rattle.jf_run.proofs.Complete.{steady, ends_well, is_legal, is_settled}
-use Rattle.jf_run.proofs.Counting.{run_extends, run_counts, run_dated, run_landings}
+use Rattle.jf_run.proofs.Complete.{is_legal, is_settled, steady, ends_well}
+use Rattle.jf_run.proofs.Counting.{run_landings, run_extends, run_counts, run_dated}
 use Rattle.jf_run.proofs.Safe.{run_safe, run_opened_safe}
+use Rattle.jf_run.proofs.Closed.{verify_opens_none}
 use Rattle.jf_run.proofs.Standing.{settled-stands, run_generation}
 use Rattle.jf_run.proofs.Statuses.{no_damage, no_usage, read_told, write_told, fault_rose}
 
@@ -27,7 +28,7 @@ no_fault s other is = true≢false (sym (ap is_disk_fault is) ∙ other)
 -- a session that was begun over the disk, and its run, make an opened call
 pub opened_call : (c : ProgramCall) (head : ℕ) (s : Session) (e : End) → IsBegun s c.before.disk head → c.status ≡ status_of e
     → HasRun e s c.before.rest c.after.rest c.before.text c.after.text c.after.disk.history c.after.disk.moment c.after.disk.faults c.entries
-    → FilesStandForOne → ((h : History) → c.before.disk.history ≡ Some h → length h.before ≡ c.before.disk.moment) → IsOpenedCall c head
+    → LogsStandForOne → ((h : History) → c.before.disk.history ≡ Some h → length h.before ≡ c.before.disk.moment) → IsOpenedCall c head
 opened_call c head s e begun is run one dated = record {
   session = s;
   opened_ = begun;
@@ -45,15 +46,15 @@ opened_call c head s e begun is run one dated = record {
 
 pub opened_keeps : (c : ProgramCall) (head : ℕ) (s : Session) (e : End) → IsBegun s c.before.disk head → c.status ≡ status_of e
     → HasRun e s c.before.rest c.after.rest c.before.text c.after.text c.after.disk.history c.after.disk.moment c.after.disk.faults c.entries
-    → FilesStandForOne → ((h : History) → c.before.disk.history ≡ Some h → length h.before ≡ c.before.disk.moment)
-    → DamageIsNoVersions → c.start ≡ Some head → IsTrue (opens c.asks)
-    → (e ≡ end.ReadFault → Rose c.before.source_faults c.after.source_faults) → (e ≡ end.WriteFault → Rose c.before.sink_faults c.after.sink_faults)
+    → LogsStandForOne → ((h : History) → c.before.disk.history ≡ Some h → length h.before ≡ c.before.disk.moment)
+    → LogDamageIsNoVersions → c.start ≡ Some head → IsTrue (opens c.asks)
+    → (e ≡ end.ReadFault → HasCause c.before.source_faults c.after.source_faults) → (e ≡ end.WriteFault → HasCause c.before.sink_faults c.after.sink_faults)
     → c.before.source_faults ≤ c.after.source_faults → c.before.sink_faults ≤ c.after.sink_faults → KeepsPromises c
 opened_keeps c head s e begun is run one dated none_stand start runs read write source sink =
     let o = opened_call c head s e begun is run one dated in
     let faults_on : c.before.disk.faults ≤ s.faults = begun.opening.faults in
     let counts = run_counts e s _ _ _ _ _ _ _ _ _ _ begun run in
-    let rose : status_of e ≡ status.DiskFault → Rose c.before.disk.faults c.after.disk.faults = fault_rose e s _ _ _ _ _ _ _ c.before.disk.faults _ faults_on run in
+    let rose : status_of e ≡ status.DiskFault → HasCause c.before.disk.faults c.after.disk.faults = fault_rose e s _ _ _ _ _ _ _ c.before.disk.faults _ faults_on run in
     record {
       words = record { usage = λ u. absurd (no_usage e (sym is ∙ u)); usage_told = λ n. absurd (true≢false (sym runs ∙ ap opens n)); start = λ n. absurd (true≢false (sym runs ∙ n)) };
       causes = record { read = λ r. read (read_told e (sym is ∙ r)); write = λ w. write (write_told e (sym is ∙ w)); disk = λ d. rose (sym is ∙ d) };

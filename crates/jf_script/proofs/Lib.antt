@@ -2,3 +2,4 @@ pub mod ManyWords
 pub mod Texts
 pub mod ReplyTexts
 pub mod Samples
+pub mod BoundLaws

@@ -1,23 +1,22 @@
 -- Replies are read back from their words, so distinct replies have distinct texts.
-use Rattle.std.proofs.Common.{◌≡◌, ℕ, ◌^◌, ◌<◌, true, if◌then◌else◌, List, [], ◌∷◌, Some, None, drop, codes, decimal, slice_index_or, refl, sym, ap, ◌∙◌}
-use Rattle.std.specs.Str.Parse.{digits_value}
-use Rattle.std.specs.Result.{result_unwrap_or}
-use Rattle.std.specs.List.{join_with_byte}
+use Rattle.std.proofs.Common.{ℕ, List, [], slice_index_or, drop, ◌≡◌, ◌^◌, ◌<◌, decimal, ap, if◌then◌else◌, codes, Some, None, refl, true, ◌∷◌, sym, ◌∙◌}
 use Rattle.std.proofs.lemmas.Fmt.{decimal_is_IsNumeral}
 use Rattle.std.proofs.lemmas.List.{append_cancel_right}
-use Rattle.hex.specs.Hex.{encode_lower, decode_of, IsBytes}
+use Rattle.std.specs.List.{join_with_byte}
+use Rattle.std.specs.Result.{result_unwrap_or}
+use Rattle.std.specs.Str.Parse.{digits_value}
 use Rattle.hex.proofs.HexLemmas.{decode_of-encode_lower}
-use Rattle.jf_text.specs.Words.{words, is_word}
-use Rattle.jf_text.proofs.Plain.{all_plain, words-join, is_plain-decimal}
-use Rattle.jf_text.proofs.HexBack.{is_plain-hex}
-use Rattle.jf_script.specs.Replies.{reply_text, reply_words, IsInRange}
+use Rattle.hex.specs.Hex.{decode_of, encode_lower, IsBytes}
+use Rattle.jf_text.specs.Words.{is_word, words}
+use Rattle.jf_text.proofs.Plain.{all_plain, is_plain-decimal, words-join}
+use Rattle.jf_text.proofs.HexReadBack.{is_plain-hex}
 use Rattle.jf_script.specs.declared.reply.Refusal.{Refusal}
-use Rattle.jf_script.specs.declared.reply.Refusal.TheVariants as refusal
 use Rattle.jf_script.specs.declared.reply.Reply.{Reply}
+use Rattle.jf_script.specs.Replies.{reply_words, IsInRange, reply_text}
+use Rattle.jf_script.specs.declared.reply.Refusal.TheVariants as refusal
 use Rattle.jf_script.specs.declared.reply.Reply.TheVariants as reply
 
 -- ---- what stands at a place among words
-
 abbrev word_at : ℕ → List (List ℕ) → List ℕ
 word_at k ws = slice_index_or ws k []
 
@@ -27,17 +26,17 @@ number_in w = digits_value 10 w
 abbrev bytes_in : List ℕ → List ℕ
 bytes_in w = result_unwrap_or (decode_of w) []
 
-abbrev number_at : ℕ → List (List ℕ) → ℕ
-number_at k ws = number_in (word_at k ws)
+abbrev number_in_word : ℕ → List (List ℕ) → ℕ
+number_in_word k ws = number_in (word_at k ws)
 
 abbrev fork_at : ℕ → List (List ℕ) → ℕ
 fork_at k ws = number_in (drop 1 (word_at k ws))
 
-abbrev bytes_at : ℕ → List (List ℕ) → List ℕ
-bytes_at k ws = bytes_in (word_at k ws)
+abbrev bytes_in_word : ℕ → List (List ℕ) → List ℕ
+bytes_in_word k ws = bytes_in (word_at k ws)
 
-abbrev value_at : ℕ → List (List ℕ) → List ℕ
-value_at k ws = bytes_in (drop 1 (word_at k ws))
+abbrev value_in_word : ℕ → List (List ℕ) → List ℕ
+value_in_word k ws = bytes_in (drop 1 (word_at k ws))
 
 number-back : (n : ℕ) → n < 2 ^ 64 → number_in (decimal n) ≡ n
 number-back n h = (decimal_is_IsNumeral n h).1
@@ -46,7 +45,6 @@ bytes-back : (bytes : List ℕ) → IsBytes bytes → bytes_in (encode_lower byt
 bytes-back bytes h = ap (λ r. result_unwrap_or r []) (decode_of-encode_lower bytes h)
 
 -- ---- replies read back
-
 abbrev refusal_in : List ℕ → List (List ℕ) → Refusal
 refusal_in kind ws =
     if is_word kind (codes "syntax") then refusal.Syntax else
@@ -54,35 +52,35 @@ refusal_in kind ws =
     if is_word kind (codes "pending") then refusal.Pending else
     if is_word kind (codes "unknown") then refusal.Unknown else
     if is_word kind (codes "gone") then refusal.Gone else
-    if is_word kind (codes "keys") then refusal.Keys (number_at 0 ws) else
-    if is_word kind (codes "future") then refusal.Future (number_at 0 ws) else
-    if is_word kind (codes "retired") then refusal.Retired (number_at 0 ws) else
+    if is_word kind (codes "keys") then refusal.Keys (number_in_word 0 ws) else
+    if is_word kind (codes "future") then refusal.Future (number_in_word 0 ws) else
+    if is_word kind (codes "retired") then refusal.Retired (number_in_word 0 ws) else
     if is_word kind (codes "pinsfull") then refusal.PinsFull else
     if is_word kind (codes "nopin") then refusal.NoPin else
     if is_word kind (codes "forksfull") then refusal.ForksFull else
-    if is_word kind (codes "range") then refusal.Range (number_at 0 ws) else
+    if is_word kind (codes "range") then refusal.Range (number_in_word 0 ws) else
     if is_word kind (codes "last") then refusal.Last else
     refusal.Syntax
 
 abbrev done_in : List ℕ → List (List ℕ) → Reply
 done_in kind ws =
-    if is_word kind (codes "pending") then reply.Pending (number_at 0 ws) else
-    if is_word kind (codes "commit") then reply.Commit (number_at 0 ws) (bytes_at 1 ws) else
-    if is_word kind (codes "fork") then reply.Fork (fork_at 0 ws) (bytes_at 1 ws) else
-    if is_word kind (codes "land") then reply.Land (number_at 0 ws) (bytes_at 1 ws) else
-    if is_word kind (codes "drop") then reply.Drop (number_at 0 ws) else
-    if is_word kind (codes "root") then reply.Root (bytes_at 0 ws) else
-    if is_word kind (codes "proof") then reply.Proof (number_at 0 ws) else
-    if is_word kind (codes "chunk") then reply.Chunk (number_at 0 ws) (number_at 1 ws) (number_at 2 ws) else
-    if is_word kind (codes "count") then reply.Count (number_at 0 ws) else
-    if is_word kind (codes "nth") then reply.Nth (bytes_at 0 ws) (value_at 1 ws) else
-    if is_word kind (codes "pin") then reply.Pin (number_at 0 ws) else
-    if is_word kind (codes "unpin") then reply.Unpin (number_at 0 ws) else
-    if is_word kind (codes "prune") then reply.Prune (number_at 0 ws) (number_at 1 ws) else
-    if is_word kind (codes "compact") then reply.Compact (number_at 0 ws) else
+    if is_word kind (codes "pending") then reply.Pending (number_in_word 0 ws) else
+    if is_word kind (codes "commit") then reply.Commit (number_in_word 0 ws) (bytes_in_word 1 ws) else
+    if is_word kind (codes "fork") then reply.Fork (fork_at 0 ws) (bytes_in_word 1 ws) else
+    if is_word kind (codes "land") then reply.Land (number_in_word 0 ws) (bytes_in_word 1 ws) else
+    if is_word kind (codes "drop") then reply.Drop (number_in_word 0 ws) else
+    if is_word kind (codes "root") then reply.Root (bytes_in_word 0 ws) else
+    if is_word kind (codes "proof") then reply.Proof (number_in_word 0 ws) else
+    if is_word kind (codes "chunk") then reply.Chunk (number_in_word 0 ws) (number_in_word 1 ws) (number_in_word 2 ws) else
+    if is_word kind (codes "count") then reply.Count (number_in_word 0 ws) else
+    if is_word kind (codes "nth") then reply.Nth (bytes_in_word 0 ws) (value_in_word 1 ws) else
+    if is_word kind (codes "pin") then reply.Pin (number_in_word 0 ws) else
+    if is_word kind (codes "unpin") then reply.Unpin (number_in_word 0 ws) else
+    if is_word kind (codes "prune") then reply.Prune (number_in_word 0 ws) (number_in_word 1 ws) else
+    if is_word kind (codes "compact") then reply.Compact (number_in_word 0 ws) else
     if is_word kind (codes "none") then reply.Value None else
-    if is_word kind (codes "value") then reply.Value (Some (value_at 0 ws)) else
-    if is_word kind (codes "status") then reply.Status (number_at 1 ws) (number_at 3 ws) (number_at 5 ws) (number_at 7 ws) (number_at 9 ws) (number_at 11 ws) (number_at 13 ws) else
+    if is_word kind (codes "value") then reply.Value (Some (value_in_word 0 ws)) else
+    if is_word kind (codes "status") then reply.Status (number_in_word 1 ws) (number_in_word 3 ws) (number_in_word 5 ws) (number_in_word 7 ws) (number_in_word 9 ws) (number_in_word 11 ws) (number_in_word 13 ws) else
     reply.No refusal.Syntax
 
 reply_in : List (List ℕ) → Reply
@@ -123,7 +121,6 @@ reply_in-words (reply.No (refusal.Range count)) h = rw (number-back count h) ref
 reply_in-words (reply.No refusal.Last) h = refl
 
 -- ---- texts read back
-
 all_plain-words : (r : Reply) → IsInRange r → all_plain (reply_words r) ≡ true
 all_plain-words (reply.Pending count) h = rw (is_plain-decimal count h) refl
 all_plain-words (reply.Commit version root) h = rw (is_plain-decimal version h.0, is_plain-hex root h.1) refl
@@ -167,6 +164,6 @@ unfolding reply_text
 reply_text-distinct n m r q hn hm hr hq e =
     let lines : join_with_byte 32 (decimal n ∷ reply_words r) ≡ join_with_byte 32 (decimal m ∷ reply_words q) = append_cancel_right _ _ (10 ∷ []) e in
     let same : decimal n ∷ reply_words r ≡ decimal m ∷ reply_words q = sym (text_words n r hn hr) ∙ ap words lines ∙ text_words m q hm hq in (
-      sym (number-back n hn) ∙ ap (number_at 0) same ∙ number-back m hm,
+      sym (number-back n hn) ∙ ap (number_in_word 0) same ∙ number-back m hm,
       sym (reply_in-words r hr) ∙ ap (λ ws. reply_in (drop 1 ws)) same ∙ reply_in-words q hq,
     )

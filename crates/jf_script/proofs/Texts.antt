@@ -1,9 +1,8 @@
 -- Texts are written piece by piece.
-use Rattle.std.proofs.Common.{◌≡◌, ℕ, ◌≤◌, List, [], ◌∷◌, ◌++◌, length, take, decimal, refl, sym, ap, ◌∙◌, arith, length-append, take_all}
-use Rattle.std.proofs.lemmas.List.{append_assoc, append-nil, take-append-le, take-take}
+use Rattle.std.proofs.Common.{◌≡◌, ℕ, List, [], ◌∷◌, ◌++◌, sym, ap, refl, ◌∙◌, decimal, ◌≤◌, length, take, arith, length-append, take_all}
+use Rattle.std.proofs.lemmas.List.{append-nil, append_assoc, take-append-le, take-take}
 use Rattle.std.specs.List.{join_with_byte}
-use Rattle.jf_text.specs.Words.{spaced}
-use Rattle.jf_text.specs.Words.{Extends}
+use Rattle.jf_text.specs.Words.{spaced, Extends}
 use Rattle.jf_script.specs.Replies.{reply_text, reply_words}
 use Rattle.jf_script.specs.declared.reply.Reply.{Reply}
 
@@ -21,8 +20,8 @@ unfolding reply_text
 reply_text-pieces n r = ap (λ text. text ++ 10 ∷ []) (join-spaced (decimal n) (reply_words r))
 
 -- what begins with a longer text begins with its front
-pub Extends-behind : (before more middle after : List ℕ) → middle ≡ before ++ more → Extends middle after → Extends before after
-Extends-behind before more middle after e h =
+pub Extends-after : (before more middle after : List ℕ) → middle ≡ before ++ more → Extends middle after → Extends before after
+Extends-after before more middle after e h =
     let long : length before ≤ length middle = omega (arith, ap length e, length-append before more) in
     sym (take-take (length before) (length middle) after long)
     ∙ ap (take (length before)) (h ∙ e)

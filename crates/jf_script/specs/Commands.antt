@@ -1,14 +1,14 @@
 -- The grammar of a script's lines (docs/FORMATS.md, Scripts).
-use Rattle.std.specs.Prelude.{ℕ, Bool, false, ◌||◌, if◌then◌else◌, ◌==◌, List, [], ◌∷◌, Option, Some, None, option_map, option_and_then, codes}
-use Rattle.jf_text.specs.Words.{max_chunk, words, is_word, both, number, number_from, name_of, value_of}
+use Rattle.std.specs.Prelude.{ℕ, if◌then◌else◌, ◌==◌, List, Option, None, option_map, [], ◌∷◌, Some, codes, option_and_then, Bool, false, ◌||◌}
+use Rattle.jf_text.specs.Words.{number, is_word, name_of, both, value_of, max_chunk, number_from, words}
 use Rattle.jf_script.specs.declared.command.Base.{Base}
-use Rattle.jf_script.specs.declared.command.Base.TheVariants as base
 use Rattle.jf_script.specs.declared.command.Command.{Command}
+use Rattle.jf_script.specs.declared.command.Base.TheVariants as base
 use Rattle.jf_script.specs.declared.command.Command.TheVariants as command
 
 -- the base of a letter and a number: `vN` a version, `fN` a fork, `pN` a pinned place
-abbrev pub numbered : ℕ → List ℕ → Option Base
-numbered letter digits =
+abbrev pub base_numbered : ℕ → List ℕ → Option Base
+base_numbered letter digits =
     if letter == 118 then option_map (λ n. base.Version n) (number digits)
     else if letter == 102 then option_map (λ n. base.Fork n) (number digits)
     else if letter == 112 then option_map (λ n. base.Place n) (number digits)
@@ -17,7 +17,7 @@ numbered letter digits =
 -- the base that a word names: `head`, `vN`, `fN` or `pN`
 unfoldable pub base_of : List ℕ → Option Base
 base_of [] = None
-base_of (letter ∷ digits) = if is_word (letter ∷ digits) (codes "head") then Some base.Head else numbered letter digits
+base_of (letter ∷ digits) = if is_word (letter ∷ digits) (codes "head") then Some base.Head else base_numbered letter digits
 
 -- a base that is no fork
 abbrev pub no_fork : Base → Option Base

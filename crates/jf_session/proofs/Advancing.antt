@@ -1,41 +1,43 @@
 -- Lines one after another: what was done for some, and then for one more.
-use Rattle.std.proofs.Common.{◌≡◌, ℕ, ◌<◌, ◌≤◌, Bool, true, false, cond, Option, Some, None, IfSome, List, [], ◌∷◌, ◌++◌, map, length, refl, sym, ap, ap₂, ◌∙◌, subst, arith, le_refl, append_assoc, append-nil}
-use Rattle.std.specs.Prelude.{flat_map, option_to_list}
+use Rattle.std.specs.Prelude.{option_to_list}
+use Rattle.std.proofs.Common.{Option, Some, None, ◌≡◌, IfSome, refl, Bool, true, false, cond, ℕ, List, [], ◌∷◌, ◌++◌, map, ap, ◌<◌, arith, le_refl, sym, ap₂, ◌∙◌, append-nil, ◌≤◌, subst, length, append_assoc}
+use Rattle.std.proofs.lemmas.List.Concat.{flat_map-append}
+use Rattle.std.proofs.lemmas.List.Folds.{concat-append}
 use Rattle.std.specs.List.{concat}
 use Rattle.jf_hash.specs.Maps.{Batch}
 use Rattle.jf_model.specs.States.{State}
-use Rattle.jf_model.specs.Entries.{after, replay, IsLegal, at_moment, timeless, moments_of}
-use Rattle.jf_model.specs.EntryLaws.{AreLegal-push, replay-push, after-at_moment, legal-at_moment, moments_of-append}
+use Rattle.jf_model.specs.Entries.{after, timeless, replay, at_moment, moments_of, IsLegal}
 use Rattle.jf_model.specs.declared.entries.Entry.{Entry}
 use Rattle.jf_model.specs.declared.entries.Entry.TheVariants as entry
 use Rattle.jf_model.specs.declared.entries.Landing.TheVariants as landing
-use Rattle.jf_journal.specs.Steps.{Lands, Succeeds}
+use Rattle.jf_model.proofs.EntryLaws.{AreLegal-push, replay-push, after-at_moment, legal-at_moment, moments_of-append}
+use Rattle.jf_journal.specs.Steps.{Lands, LogSucceeds}
+use Rattle.jf_text.specs.Words.{is_long}
+use Rattle.jf_script.specs.declared.command.Command.{Command}
+use Rattle.jf_script.specs.declared.reply.Refusal.{Refusal}
+use Rattle.jf_script.specs.Commands.{command_of}
+use Rattle.jf_script.specs.declared.command.Command.TheVariants as command
+use Rattle.jf_script.specs.declared.reply.Reply.TheVariants as reply
+use Rattle.jf_answers.specs.Answers.{Answer, granted, replied, answer_command, not_read, answer_to, answer, too_long}
 use Rattle.jf_answers.specs.Own.{Own}
 use Rattle.jf_answers.specs.Refusals.{refused_by, is_built}
-use Rattle.jf_answers.specs.Answers.{Answer, answer, answer_to, answer_command, not_read, too_long, done, replied}
-use Rattle.jf_answers.specs.Runs.{Run, answers_from, answers_from-append, followed_by, answer_text, text_of, texts_of, entries_of}
-use Rattle.jf_text.specs.Words.{is_long}
-use Rattle.jf_script.specs.Commands.{command_of}
-use Rattle.jf_script.specs.declared.command.Command.{Command}
-use Rattle.jf_script.specs.declared.command.Command.TheVariants as command
-use Rattle.jf_script.specs.declared.reply.Refusal.{Refusal}
-use Rattle.jf_script.specs.declared.reply.Reply.TheVariants as reply
-use Rattle.jf_session.specs.Sessions.{Session, Does, Stays, Adds, DiskFollows}
-use Rattle.jf_session.specs.Runs.{Advances, AreWithin, run_of, IsDatedBy}
-use Rattle.jf_session.proofs.Images.{outlasts_landing, outlasts_none}
+use Rattle.jf_answers.specs.Runs.{Run, answers_from, followed_by, run_entries, answer_text, text_of, texts_of}
+use Rattle.jf_answers.proofs.RunLaws.{answers_from-append}
+use Rattle.jf_session.specs.Runs.{AreWithin, run_of, Advances, IsDatedBy}
+use Rattle.jf_session.specs.Sessions.{Session, Does, Adds, DiskFollows, Stays}
+use Rattle.jf_session.proofs.Images.{outlasts_none, outlasts_landing}
 
 -- ---- what holds of each answer
-
 abbrev after_option : Option Entry → State → State
 after_option None s = s
 after_option (Some e) s = after e s
 
 -- the entry of an answer has no moment yet, and makes the state of the answer
-record IsSound (s : State) (a : Answer) : Type 0 where
+record MakesItsState (s : State) (a : Answer) : Type 0 where
   undated : IfSome a.entry (λ e. timeless e ≡ e)
   made : a.state ≡ after_option a.entry s
 
-done_sound : (c : Command) (s : State) (own : Own) → IsSound s (done c s own)
+done_sound : (c : Command) (s : State) (own : Own) → MakesItsState s (granted c s own)
 done_sound (command.Put name value) s own = record { undated = tt; made = refl }
 done_sound command.Commit s own = record { undated = refl; made = refl }
 done_sound (command.Root on) s own = record { undated = tt; made = refl }
@@ -54,42 +56,32 @@ done_sound (command.Prune upto) s own = record { undated = tt; made = refl }
 done_sound command.Compact s own = record { undated = tt; made = refl }
 done_sound command.Status s own = record { undated = tt; made = refl }
 
-command_sound : (o : Option Refusal) (c : Command) (s : State) (own : Own) → IsSound s (elim o as (λ x. Answer) [ Some why ↦ replied (reply.No why) s own | None ↦ done c s own ])
+command_sound : (o : Option Refusal) (c : Command) (s : State) (own : Own) → MakesItsState s (elim o as (λ x. Answer) [ Some why ↦ replied (reply.No why) s own | None ↦ granted c s own ])
 command_sound None c s own = done_sound c s own
 command_sound (Some why) c s own = record { undated = tt; made = refl }
 
-built_sound : (b : Bool) (c : Command) (s : State) (own : Own) → IsSound s (cond b (answer_command s own c) (not_read s own))
+built_sound : (b : Bool) (c : Command) (s : State) (own : Own) → MakesItsState s (cond b (answer_command s own c) (not_read s own))
 built_sound true c s own = command_sound (refused_by s own c) c s own
 built_sound false c s own = record { undated = tt; made = refl }
 
-to_sound : (o : Option Command) (s : State) (own : Own) → IsSound s (answer_to o s own)
+to_sound : (o : Option Command) (s : State) (own : Own) → MakesItsState s (answer_to o s own)
 to_sound None s own = record { undated = tt; made = refl }
 to_sound (Some c) s own = built_sound (is_built c) c s own
 
-answer_sound : (s : State) (own : Own) (line : List ℕ) → IsSound s (answer s own line)
+answer_sound : (s : State) (own : Own) (line : List ℕ) → MakesItsState s (answer s own line)
 unfolding answer
-answer_sound s own line = elim (is_long line) as (λ b. IsSound s (cond b (too_long s own) (answer_to (command_of line) s own))) [ true ↦ record { undated = tt; made = refl } | false ↦ to_sound (command_of line) s own ]
+answer_sound s own line = elim (is_long line) as (λ b. MakesItsState s (cond b (too_long s own) (answer_to (command_of line) s own))) [ true ↦ record { undated = tt; made = refl } | false ↦ to_sound (command_of line) s own ]
 
 -- ---- lists
-
 pub map_append : {X Y : Type 0} (f : X → Y) (xs ys : List X) → map f (xs ++ ys) ≡ map f xs ++ map f ys
 map_append f [] ys = refl
 map_append f (x ∷ xs) ys = ap (λ t. f x ∷ t) (map_append f xs ys)
-
-flat_append : {X Y : Type 0} (f : X → List Y) (xs ys : List X) → flat_map f (xs ++ ys) ≡ flat_map f xs ++ flat_map f ys
-flat_append f [] ys = refl
-flat_append f (x ∷ xs) ys = ap (λ t. f x ++ t) (flat_append f xs ys) ∙ sym (append_assoc (f x) (flat_map f xs) (flat_map f ys))
-
-pub concat_append : (xs ys : List (List ℕ)) → concat (xs ++ ys) ≡ concat xs ++ concat ys
-concat_append [] ys = refl
-concat_append (x ∷ xs) ys = ap (λ t. x ++ t) (concat_append xs ys) ∙ sym (append_assoc x (concat xs) (concat ys))
 
 within_more : (a b c : ℕ) (ms : List ℕ) → AreWithin a b ms → b < c → AreWithin a c (ms ++ c ∷ [])
 within_more a b c [] w lt = (omega (arith, w), le_refl c)
 within_more a b c (m ∷ ms) w lt = (w.0, within_more m b c ms w.1 lt)
 
 -- ---- one line more
-
 one : State → Own → List ℕ → Run
 one s own line = answers_from s own (line ∷ [])
 
@@ -110,18 +102,18 @@ module _ (old : Session) (ls : List (List ℕ)) (s : Session) (line : List ℕ) 
   unfolding answers_from
   own_more = sym (ap (λ (r : Run). r.own) run_more)
 
-  entries_more : entries_of (run_of old (ls ++ line ∷ [])) ≡ entries_of (run_of old ls) ++ option_to_list a.entry
+  entries_more : run_entries (run_of old (ls ++ line ∷ [])) ≡ run_entries (run_of old ls) ++ option_to_list a.entry
   unfolding answers_from
   entries_more =
-      ap entries_of run_more ∙ flat_append (λ (a : Answer). option_to_list a.entry) (run_of old ls).answers (a ∷ [])
-      ∙ ap (λ t. entries_of (run_of old ls) ++ t) (append-nil (option_to_list a.entry))
+      ap run_entries run_more ∙ flat_map-append (λ (a : Answer). option_to_list a.entry) (run_of old ls).answers (a ∷ [])
+      ∙ ap (λ t. run_entries (run_of old ls) ++ t) (append-nil (option_to_list a.entry))
 
   -- the text of one line more
   pub text_more : text_of (run_of old (ls ++ line ∷ [])) ≡ text_of (run_of old ls) ++ answer_text a.state.count a
   unfolding answers_from
   text_more =
       ap text_of run_more ∙ ap concat (map_append (λ (a : Answer). answer_text a.state.count a) (run_of old ls).answers (a ∷ []))
-      ∙ concat_append (texts_of (run_of old ls)) (answer_text a.state.count a ∷ []) ∙ ap (λ t. text_of (run_of old ls) ++ t) (append-nil (answer_text a.state.count a))
+      ∙ concat-append (texts_of (run_of old ls)) (answer_text a.state.count a ∷ []) ∙ ap (λ t. text_of (run_of old ls) ++ t) (append-nil (answer_text a.state.count a))
 
 -- no line is done yet
 pub advances_none : (s : Session) → Advances s s []
@@ -164,7 +156,7 @@ advances_same old s new ls line a is none v d =
       own = d'.own ∙ own_more old ls s line v.state v.own;
       added = v.added;
       entries = adds ∙ v.entries;
-      timeless_are = v.timeless_are ∙ sym (entries_more old ls s line v.state v.own ∙ ap (λ o. entries_of (run_of old ls) ++ option_to_list o) none' ∙ append-nil (entries_of (run_of old ls)));
+      timeless_are = v.timeless_are ∙ sym (entries_more old ls s line v.state v.own ∙ ap (λ o. run_entries (run_of old ls) ++ option_to_list o) none' ∙ append-nil (run_entries (run_of old ls)));
       replayed = d'.state ∙ made ∙ v.replayed;
       legal = v.legal;
       dated = subst (λ (m : ℕ). AreWithin old.moment m (moments_of v.added)) (sym disk.moment) v.dated;
@@ -190,7 +182,7 @@ advances_landing old s new ls line owner version moment batch r dated dated' som
       added = v.added ++ y ∷ [];
       entries = adds ∙ ap (λ t. t ++ y ∷ []) v.entries ∙ append_assoc old.entries v.added (y ∷ []);
       timeless_are = map_append timeless v.added (y ∷ []) ∙ ap₂ (λ t z. t ++ z ∷ []) v.timeless_are (timeless_at new.moment x ∙ undated)
-          ∙ sym (entries_more old ls s line v.state v.own ∙ ap (λ o. entries_of (run_of old ls) ++ option_to_list o) some);
+          ∙ sym (entries_more old ls s line v.state v.own ∙ ap (λ o. run_entries (run_of old ls) ++ option_to_list o) some);
       replayed = d.state ∙ made ∙ sym (after-at_moment new.moment x s.state) ∙ ap (after y) v.replayed ∙ sym (replay-push old.state v.added y);
       legal = AreLegal-push old.state v.added y v.legal (subst (λ (t : State). IsLegal t y) v.replayed (legal-at_moment new.moment x s.state legal));
       dated = subst (λ ms. AreWithin old.moment new.moment ms) (sym (moments_of-append v.added (y ∷ []))) (within_more old.moment s.moment new.moment (moments_of v.added) v.dated disk.later);
@@ -199,7 +191,7 @@ advances_landing old s new ls line owner version moment batch r dated dated' som
           let g = v.disk h told settled in
           let k = disk.disk g.0 g.1 in
           let late : length g.0.before < new.moment = subst (λ (n : ℕ). n < new.moment) (sym (dated g.0 g.1)) disk.later in
-          (k.0, k.1, outlasts_landing old.state h g.0 k.0 v.added owner version new.moment batch r g.2 (subst (λ (t : State). Succeeds (Lands (batch ∷ [])) g.0 k.0 t.all) v.replayed k.2) (dated' k.0 k.1) late);
+          (k.0, k.1, outlasts_landing old.state h g.0 k.0 v.added owner version new.moment batch r g.2 (subst (λ (t : State). LogSucceeds (Lands (batch ∷ [])) g.0 k.0 t.all) v.replayed k.2) (dated' k.0 k.1) late);
     }
 
 -- one line more was answered and done

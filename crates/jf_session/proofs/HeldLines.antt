@@ -5,7 +5,7 @@ use Rattle.std.proofs.lemmas.Bool.{lt-ltb, cases_lt}
 use Rattle.std.proofs.lemmas.List.{take_all}
 use Rattle.jf_io.specs.LineReader.{is_line_feed, Held, IsShortened, IsFetched}
 use Rattle.jf_io.specs.Sink.{IsCutShort}
-use Rattle.jf_io.specs.Inputs.{IsFound}
+use Rattle.jf_io.specs.Inputs.{IsLineFound}
 use Rattle.jf_io.proofs.Found.{found_whole, where_of, cut_of, last_of}
 use Rattle.jf_io.proofs.Shortened.{is_shortened-whole, line_front-text, unfinished-text, finished-text, after_first-text, none-text}
 use Rattle.jf_model.specs.States.{State}
@@ -16,7 +16,7 @@ use Rattle.jf_text.specs.Words.{is_long}
 use Rattle.jf_session.specs.Sessions.{Session, Does, Stays, Tries}
 use Rattle.jf_session.specs.Runs.{IsDatedBy, Ran}
 use Rattle.jf_session.specs.declared.running.End.TheVariants as end
-use Rattle.jf_session.proofs.Sofar.{Sofar, sofar_none, sofar_taken, sofar_line, ran_done, ran_unread, ran_wanting, ran_last, ran_cut, ran_silent, ran_undone, ran_faulted}
+use Rattle.jf_session.proofs.Progress.{Sofar, sofar_none, sofar_taken, sofar_line, ran_done, ran_unread, ran_wanting, ran_last, ran_cut, ran_silent, ran_undone, ran_faulted}
 
 -- the lines so far were answered and written, and of the bytes behind them this is held
 pub record SofarHeld (old s : Session) (rest rest' text text' : Option (List ℕ)) (held : List ℕ) : Type 0 where
@@ -92,24 +92,24 @@ module _ (old s : Session) (rest rest' text text' : Option (List ℕ)) (held : L
           (sofar_line old s rest rest' text text' f.whole f.sofar real refl s' text'' dated (finished-text 8500 f.whole held f.shortened (cut_of held more)) (does d) (put w));
     }
 
-    pub held_last : position_or_len is_line_feed held ≡ length held → IsFound held rest' → Does s s' a → text'' ≡ option_map (λ t. t ++ answer_text s'.state.count a) text'
+    pub held_last : position_or_len is_line_feed held ≡ length held → IsLineFound held rest' → Does s s' a → text'' ≡ option_map (λ t. t ++ answer_text s'.state.count a) text'
         → Ran end.Done old s' rest rest' text text''
     held_last plain found d w =
         ran_last old s rest rest' text text' f.whole f.sofar real refl s' text'' dated
         (last_of f.whole rest' (unfinished-text 8500 f.whole held f.shortened plain) (found_whole 8500 rest' f.whole held f.shortened found)) (does d) (put w)
 
-    pub held_cut : IsFound held rest' → Does s s' a → IsCutShort text' text'' (answer_text s'.state.count a) → Ran end.WriteFault old s' rest rest' text text''
+    pub held_cut : IsLineFound held rest' → Does s s' a → IsCutShort text' text'' (answer_text s'.state.count a) → Ran end.WriteFault old s' rest rest' text text''
     held_cut found d c =
         ran_cut old s rest rest' text text' f.whole f.sofar real refl s' text'' dated (where_of f.whole rest' (found_whole 8500 rest' f.whole held f.shortened found)) (does d)
         (subst (λ (x : Answer). IsCutShort text' text'' (answer_text s'.state.count x)) said c)
 
-    pub held_silent : IsFound held rest' → Does s s' a → text'' ≡ text' → Ran end.Memory old s' rest rest' text text''
+    pub held_silent : IsLineFound held rest' → Does s s' a → text'' ≡ text' → Ran end.Memory old s' rest rest' text text''
     held_silent found d same =
         ran_silent old s rest rest' text text' f.whole f.sofar real refl s' text'' dated (where_of f.whole rest' (found_whole 8500 rest' f.whole held f.shortened found)) (does d) same
 
     pub held_undone : Stays s s' → text'' ≡ text' → Ran end.Memory old s' rest rest' text text''
     held_undone t same = ran_undone old s rest rest' text text' f.whole f.sofar real refl s' text'' dated t same
 
-    pub held_faulted : IsFound held rest' → Tries s s' a → text'' ≡ text' → Ran end.DiskFault old s' rest rest' text text''
+    pub held_faulted : IsLineFound held rest' → Tries s s' a → text'' ≡ text' → Ran end.DiskFault old s' rest rest' text text''
     held_faulted found t same =
         ran_faulted old s rest rest' text text' f.whole f.sofar real refl s' text'' dated (where_of f.whole rest' (found_whole 8500 rest' f.whole held f.shortened found)) (tries t) same

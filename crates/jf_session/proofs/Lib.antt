@@ -1,10 +1,10 @@
-pub mod Said
-pub mod Doings
-pub mod Pushed
+pub mod CommandLaws
+pub mod StepLaws
+pub mod PushLaws
 pub mod Lines
-pub mod Bases
+pub mod ReadLaws
 pub mod Images
 pub mod Advancing
 pub mod Input
-pub mod Sofar
+pub mod Progress
 pub mod HeldLines

@@ -1,23 +1,22 @@
 -- What a run over a script makes of a session, of its input and of its output.
-use Rattle.std.specs.Prelude.{◌≡◌, ℕ, ◌+◌, ◌-◌, ◌<◌, ◌≤◌, Bool, false, if◌then◌else◌, ◌==◌, nat_le, List, [], ◌∷◌, ◌++◌, map, take, length, slice_get, Option, Some, option_map}
-use Rattle.jf_disk.specs.Disk.{History, State as DiskState, Files, IsImage}
-use Rattle.jf_disk.specs.Moments.{all_states}
-use Rattle.jf_model.specs.States.{State}
-use Rattle.jf_model.specs.Entries.{AreLegal, replay, timeless, moments_of}
+use Rattle.std.specs.Prelude.{ℕ, ◌<◌, ◌≤◌, List, [], ◌∷◌, Bool, false, nat_le, ◌+◌, if◌then◌else◌, ◌==◌, take, length, ◌≡◌, ◌++◌, Some, map, slice_get, Option, ◌-◌, option_map}
 use Rattle.jf_model.specs.declared.entries.Entry.{Entry}
+use Rattle.jf_model.specs.States.{State}
+use Rattle.jf_model.specs.Entries.{replay, AreLegal, timeless, moments_of}
 use Rattle.jf_model.specs.declared.entries.Entry.TheVariants as entry
-use Rattle.jf_journal.specs.Standing.{StandsFor}
-use Rattle.jf_engine.specs.Engines.{IsSettledOn}
 use Rattle.jf_io.specs.Lines.{whole_lines}
 use Rattle.jf_io.specs.LinesRead.{lines_read, AreFirst}
+use Rattle.jf_disk.specs.Disk.{Files, DiskState, IsImage, History}
+use Rattle.jf_disk.specs.Moments.{all_states}
+use Rattle.jf_journal.specs.Standing.{LogsStandFor}
+use Rattle.jf_engine.specs.Engines.{IsSettledOn}
+use Rattle.jf_answers.specs.Runs.{Run, answers_from, run_entries, text_of}
 use Rattle.jf_answers.specs.Answers.{answer}
-use Rattle.jf_answers.specs.Runs.{Run, answers_from, text_of, entries_of}
 use Rattle.jf_session.specs.Sessions.{Session, Stays, Tries}
 use Rattle.jf_session.specs.declared.running.End.{End}
 use Rattle.jf_session.specs.declared.running.End.TheVariants as end
 
 -- ---- moments and images
-
 -- moments rise strictly: the first is above `low`, and the last at most `high`
 abbrev pub AreWithin : ℕ → ℕ → List ℕ → Type 0
 AreWithin low high [] = low ≤ high
@@ -43,7 +42,7 @@ pub record IsFrontImage (image : Files) (t : ℕ) (s : State) (es : List Entry) 
   pub count : ℕ
   pub acknowledged : last_place (is_acknowledged t) es ≤ count
   pub within : count ≤ length es
-  pub stands : StandsFor image (replay s (take count es)).all
+  pub stands : LogsStandFor image (replay s (take count es)).all
 
 -- each image of these states, the newest first, is a front image at the state's moment; n states came before them
 abbrev pub AreCovered : State → List Entry → List DiskState → ℕ → Type 0
@@ -63,7 +62,6 @@ abbrev pub IsDatedBy : Session → Type 0
 IsDatedBy s = (h : History) → s.history ≡ Some h → length h.before ≡ s.moment
 
 -- ---- lines answered and done
-
 -- what a session answers to these lines, and what it has come to after them, by definition
 abbrev pub run_of : Session → List (List ℕ) → Run
 run_of s ls = answers_from s.state s.own ls
@@ -74,7 +72,7 @@ pub record Advances (old new : Session) (ls : List (List ℕ)) : Type 0 where
   pub own : new.own ≡ (run_of old ls).own
   pub added : List Entry
   pub entries : new.entries ≡ old.entries ++ added
-  pub timeless_are : map timeless added ≡ entries_of (run_of old ls)
+  pub timeless_are : map timeless added ≡ run_entries (run_of old ls)
   pub replayed : new.state ≡ replay old.state added
   pub legal : AreLegal old.state added
   pub dated : AreWithin old.moment new.moment (moments_of added)
@@ -82,7 +80,6 @@ pub record Advances (old new : Session) (ls : List (List ℕ)) : Type 0 where
   pub disk : (h : History) → old.history ≡ Some h → IsSettledOn h old.state.all → (g : History) × (new.history ≡ Some g) × Outlasts old.state h g added
 
 -- ---- the lines that were read
-
 -- how far the input was read, by how the run ended; the next line is the one at which the disk failed
 abbrev pub ReadsBy : End → List ℕ → List ℕ → List (List ℕ) → Option (List ℕ) → Type 0
 ReadsBy end.Done taken left ls next = (left ≡ []) × (length ls ≡ length (lines_read taken left))
@@ -93,17 +90,16 @@ ReadsBy end.Broken taken left ls next = ⊥
 ReadsBy end.Memory taken left ls next = Unit {0}
 
 -- of an input all but `left` was taken; these lines are the first of those read, as many as the end of the run says
-pub record Reads (e : End) (all left : List ℕ) (ls : List (List ℕ)) (next : Option (List ℕ)) : Type 0 where
+pub record ReadsLines (e : End) (all left : List ℕ) (ls : List (List ℕ)) (next : Option (List ℕ)) : Type 0 where
   pub taken : List ℕ
   pub split : all ≡ taken ++ left
   pub first : AreFirst taken left ls
   pub far : ReadsBy e taken left ls next
 
 -- ---- what was written
-
 -- the text of all lines done
-abbrev pub IsWhole : Run → List ℕ → Type 0
-IsWhole r text = text ≡ text_of r
+abbrev pub IsWholeText : Run → List ℕ → Type 0
+IsWholeText r text = text ≡ text_of r
 
 -- a front of the text of all lines done, with all of the text of those before the last
 pub record IsCut (r before : Run) (text : List ℕ) : Type 0 where
@@ -114,10 +110,10 @@ pub record IsCut (r before : Run) (text : List ℕ) : Type 0 where
 
 -- what was written for the lines done, by how the run ended
 abbrev pub WritesBy : End → Session → List (List ℕ) → List ℕ → Type 0
-WritesBy end.Done s ls text = IsWhole (run_of s ls) text
-WritesBy end.ReadFault s ls text = IsWhole (run_of s ls) text
+WritesBy end.Done s ls text = IsWholeText (run_of s ls) text
+WritesBy end.ReadFault s ls text = IsWholeText (run_of s ls) text
 WritesBy end.WriteFault s ls text = IsCut (run_of s ls) (run_of s (take (length ls - 1) ls)) text
-WritesBy end.DiskFault s ls text = IsWhole (run_of s ls) text
+WritesBy end.DiskFault s ls text = IsWholeText (run_of s ls) text
 WritesBy end.Broken s ls text = ⊥
 WritesBy end.Memory s ls text = IsCut (run_of s ls) (run_of s (take (length ls - 1) ls)) text
 
@@ -128,7 +124,6 @@ pub record Writes (e : End) (s : Session) (ls : List (List ℕ)) (old new : Opti
   pub appended : new ≡ option_map (λ t. t ++ text) old
 
 -- ---- a run
-
 -- the session at the end, against the one after the lines done: unchanged, or the disk failed at the next line
 abbrev pub EndsBy : End → Session → Session → Option (List ℕ) → Type 0
 EndsBy end.Done mid new next = Stays mid new
@@ -146,7 +141,7 @@ pub record Ran (e : End) (old new : Session) (rest rest' text text' : Option (Li
   pub advances : Advances old mid done
   pub ends : EndsBy e mid new next
   pub writes : Writes e old done text text'
-  pub reads : (all : List ℕ) → rest ≡ Some all → (left : List ℕ) × (rest' ≡ Some left) × Reads e all left done next
+  pub reads : (all : List ℕ) → rest ≡ Some all → (left : List ℕ) × (rest' ≡ Some left) × ReadsLines e all left done next
 
 -- what a session hands back at its end: the disk's history, moment and count of faults, and the entries
 pub record IsEndOf (s : Session) (history : Option History) (moment faults : ℕ) (entries : List Entry) : Type 0 where

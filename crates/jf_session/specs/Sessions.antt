@@ -1,23 +1,24 @@
 -- One script over a store of its own: what the session has come to, and what a line makes of it.
-use Rattle.std.specs.Prelude.{◌≡◌, ◌⊎◌, ℕ, ◌-◌, ◌<◌, ◌≤◌, ◌^◌, Bool, if◌then◌else◌, List, [], ◌∷◌, ◌++◌, length, Option, Some, None, IfSome}
+use Rattle.std.specs.Prelude.{ℕ, Bool, List, Option, [], length, ◌≡◌, ◌∷◌, ◌++◌, Some, None, ◌<◌, ◌≤◌, IfSome, if◌then◌else◌}
+use Rattle.jf_path.specs.Faults.{HasCause}
 use Rattle.jf_path.specs.Checks.{first_of}
-use Rattle.jf_disk.specs.Disk.{History}
 use Rattle.jf_hash.specs.Maps.{Batch}
 use Rattle.jf_model.specs.States.{State}
-use Rattle.jf_model.specs.Entries.{IsLegal, at_moment}
 use Rattle.jf_model.specs.declared.entries.Entry.{Entry}
+use Rattle.jf_model.specs.Entries.{at_moment, IsLegal}
 use Rattle.jf_model.specs.declared.entries.Entry.TheVariants as entry
 use Rattle.jf_model.specs.declared.entries.Landing.TheVariants as landing
-use Rattle.jf_journal.specs.Steps.{Lands, StopsWell, Succeeds}
+use Rattle.jf_disk.specs.Disk.{History}
+use Rattle.jf_journal.specs.Steps.{Lands, LogSucceeds, LogStopsWell}
 use Rattle.jf_engine.specs.Engines.{Engine}
-use Rattle.jf_answers.specs.Own.{Own, no_pins}
-use Rattle.jf_answers.specs.Refusals.{base_causes, version_causes, is_readable}
-use Rattle.jf_answers.specs.Answers.{Answer, answer_command, answer_to}
-use Rattle.jf_script.specs.declared.command.Base.{Base}
 use Rattle.jf_script.specs.declared.command.Command.{Command}
-use Rattle.jf_script.specs.declared.command.Command.TheVariants as command
+use Rattle.jf_script.specs.declared.command.Base.{Base}
 use Rattle.jf_script.specs.declared.reply.Refusal.{Refusal}
+use Rattle.jf_script.specs.declared.command.Command.TheVariants as command
 use Rattle.jf_script.specs.declared.reply.Refusal.TheVariants as refusal
+use Rattle.jf_answers.specs.Own.{Own, no_pins}
+use Rattle.jf_answers.specs.Answers.{Answer, answer_to, answer_command}
+use Rattle.jf_answers.specs.Refusals.{version_causes, base_causes, is_readable}
 
 -- what a session shows: the state of its store, what it keeps for itself, its entries; the disk's history, if it is known,
 -- moment and count of faults; and whether it is over
@@ -31,8 +32,8 @@ pub record Session : Type 0 where
   pub over : Bool
 
 -- the session over a store, with the entries so far and what is pending
-abbrev pub shown : Engine → List Entry → Batch → Bool → Session
-shown engine entries pending over = record {
+abbrev pub session_over : Engine → List Entry → Batch → Bool → Session
+session_over engine entries pending over = record {
   state = record { all = engine.versions; floor = engine.versions.floor; retired = engine.versions.floor; generation = 1; count = length entries; made = 0; forks = [] };
   own = record { number = 0; pending = pending; pins = no_pins };
   entries = entries;
@@ -41,10 +42,6 @@ shown engine entries pending over = record {
   faults = engine.faults;
   over = over;
 }
-
--- a count of faults that rose, or was at its highest value
-abbrev pub Rose : ℕ → ℕ → Type 0
-Rose old new = (old < new) ⊎ (old ≡ 2 ^ 64 - 1)
 
 -- nothing changed, except that the session may be over
 pub record Stays (old new : Session) : Type 0 where
@@ -64,7 +61,7 @@ Adds (Some e) moment old new = new ≡ old ++ at_moment moment e ∷ []
 pub record LandsOnDisk (batch : Batch) (old new : Session) : Type 0 where
   pub later : old.moment < new.moment
   pub faults : old.faults ≤ new.faults
-  pub disk : (h : History) → old.history ≡ Some h → (g : History) × (new.history ≡ Some g) × Succeeds (Lands (batch ∷ [])) h g old.state.all
+  pub disk : (h : History) → old.history ≡ Some h → (g : History) × (new.history ≡ Some g) × LogSucceeds (Lands (batch ∷ [])) h g old.state.all
 
 -- the disk was not touched
 pub record LeavesDisk (old new : Session) : Type 0 where
@@ -98,10 +95,10 @@ pub record Tries (old new : Session) (a : Answer) : Type 0 where
   pub state : new.state ≡ old.state
   pub own : new.own ≡ old.own
   pub entries : new.entries ≡ old.entries
-  pub rose : Rose old.faults new.faults
+  pub rose : HasCause old.faults new.faults
   pub moment : old.moment ≤ new.moment
   pub faults : old.faults ≤ new.faults
-  pub disk : (h : History) → old.history ≡ Some h → (g : History) × (new.history ≡ Some g) × StopsWell (Lands (old.own.pending ∷ [])) h g old.state.all
+  pub disk : (h : History) → old.history ≡ Some h → (g : History) × (new.history ≡ Some g) × LogStopsWell (Lands (old.own.pending ∷ [])) h g old.state.all
 
 -- the answer to a command
 abbrev pub command_answer : Session → Command → Answer

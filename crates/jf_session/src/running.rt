@@ -1,5 +1,6 @@
 // A script from a source, answered into a sink.
 ghost use Rattle.std.specs.Prelude.{◌≡◌, ◌⊎◌, ◌-◌, ◌<◌, ◌≤◌, ◌^◌, ◌++◌, Err, Ok, OnOk, OnErr, IfErr, true, false, option_map};
+ghost use Rattle.jf_path.specs.Faults.{HasCause};
 ghost use Rattle.jf_io.specs.Sink.{IsCutShort};
 ghost use Rattle.jf_answers.specs.Answers.{answer};
 ghost use Rattle.jf_answers.specs.Runs.{answer_text};
@@ -56,8 +57,8 @@ pub fn run<S: Source, K: Sink, D: Disk, H: Threads + Sync, G: Gate>(
     requires some { 1 ≤ workers }
     requires few { workers ≤ 64 }
     ensures ran { HasRun result.end session (S.rest source.old) (S.rest source.new) (K.text sink.old) (K.text sink.new) (D.history result.disk) (D.moment result.disk) (D.faults result.disk) result.entries }
-    ensures read { result.end ≡ End.ReadFault → (S.faults source.old < S.faults source.new) ⊎ (S.faults source.old ≡ 2 ^ 64 - 1) }
-    ensures write { result.end ≡ End.WriteFault → (K.faults sink.old < K.faults sink.new) ⊎ (K.faults sink.old ≡ 2 ^ 64 - 1) }
+    ensures read { result.end ≡ End.ReadFault → HasCause (S.faults source.old) (S.faults source.new) }
+    ensures write { result.end ≡ End.WriteFault → HasCause (K.faults sink.old) (K.faults sink.new) }
     ensures source_counts { S.faults source.old ≤ S.faults source.new }
     ensures sink_counts { K.faults sink.old ≤ K.faults sink.new }
 {
@@ -84,8 +85,8 @@ fn answer_all<S: Source, K: Sink, D: Disk, H: Threads + Sync, G: Gate>(
     requires few { workers ≤ 64 }
     ensures done { OnOk result (Ran End.Done session.old session.new (S.rest source.old) (S.rest source.new) (K.text sink.old) (K.text sink.new)) }
     ensures ended { IfErr result (λ e. Ran e session.old session.new (S.rest source.old) (S.rest source.new) (K.text sink.old) (K.text sink.new)) }
-    ensures read { result ≡ Err End.ReadFault → (S.faults source.old < S.faults source.new) ⊎ (S.faults source.old ≡ 2 ^ 64 - 1) }
-    ensures write { result ≡ Err End.WriteFault → (K.faults sink.old < K.faults sink.new) ⊎ (K.faults sink.old ≡ 2 ^ 64 - 1) }
+    ensures read { result ≡ Err End.ReadFault → HasCause (S.faults source.old) (S.faults source.new) }
+    ensures write { result ≡ Err End.WriteFault → HasCause (K.faults sink.old) (K.faults sink.new) }
     ensures source_counts { S.faults source.old ≤ S.faults source.new }
     ensures sink_counts { K.faults sink.old ≤ K.faults sink.new }
 {
@@ -140,7 +141,7 @@ fn answer_line<K: Sink, D: Disk, H: Threads + Sync, G: Gate>(
     ensures goes_on { OnOk result (session.new.over ≡ false) }
     ensures write { result ≡ Err End.WriteFault → Does session.old session.new (answer session.old.state session.old.own line.now)
         × IsCutShort (K.text sink.old) (K.text sink.new) (answer_text session.new.state.count (answer session.old.state session.old.own line.now)) }
-    ensures write_cause { result ≡ Err End.WriteFault → (K.faults sink.old < K.faults sink.new) ⊎ (K.faults sink.old ≡ 2 ^ 64 - 1) }
+    ensures write_cause { result ≡ Err End.WriteFault → HasCause (K.faults sink.old) (K.faults sink.new) }
     ensures disk { result ≡ Err End.DiskFault → Tries session.old session.new (answer session.old.state session.old.own line.now) × (K.text sink.new ≡ K.text sink.old) }
     ensures memory { result ≡ Err End.Memory → (Stays session.old session.new ⊎ Does session.old session.new (answer session.old.state session.old.own line.now)) × (K.text sink.new ≡ K.text sink.old) }
     ensures only { OnErr result ((result ≡ Err End.WriteFault) ⊎ ((result ≡ Err End.DiskFault) ⊎ (result ≡ Err End.Memory))) }

@@ -6,14 +6,14 @@ ghost use Rattle.jf_disk.specs.Disk.{reads};
 ghost use Rattle.jf_disk.specs.declared.side.Side.{Side};
 ghost use Rattle.jf_model.specs.Versions.{IsVersions};
 ghost use Rattle.jf_model.specs.States.{opened};
-ghost use Rattle.jf_journal.specs.Standing.{IsDamagedAt};
+ghost use Rattle.jf_journal.specs.Standing.{IsLogDamagedAt};
 ghost use Rattle.jf_engine.specs.Keeping.{HasOpened, HasRefused, device};
-ghost use Rattle.jf_answers.specs.Own.{begun};
+ghost use Rattle.jf_answers.specs.Own.{begun_session};
 ghost use Rattle.jf_answers.specs.Answers.{answer};
 ghost use Rattle.jf_answers.specs.Runs.{answer_text};
 ghost use Rattle.jf_session.specs.Runs.{IsDatedBy};
 ghost use Rattle.jf_session.specs.Sessions.{Does, Stays, Tries, command_answer, put_answer, del_answer, commit_answer};
-ghost use Rattle.jf_script.specs.Bounds.{IsBounded};
+ghost use Rattle.jf_script.specs.Bounds.{IsBoundedCommand};
 
 use crate::answer::write_answer;
 use crate::stop::Stop;
@@ -45,13 +45,13 @@ impl<D: Disk> Model for Session<D> {
     ghost use Rattle.std.specs.Prelude.{◌≡◌, ◌⊎◌, true, false};
     ghost use Rattle.std.specs.Coded.{codes};
     ghost use Rattle.jf_hash.specs.Codes.{map_code};
-    ghost use Rattle.jf_session.specs.Sessions.{Session, shown};
+    ghost use Rattle.jf_session.specs.Sessions.{Session, session_over};
 
     ghost Value = { Session };
 
     ghost coded = { Prim.hlevel (codes, map_code) };
 
-    ghost view = { λ s. shown s.engine s.entries.items s.pending s.over };
+    ghost view = { λ s. session_over s.engine s.entries.items s.pending s.over };
 
     ghost invariant = { λ s. (s.over ≡ true) ⊎ (s.engine.broken ≡ false) };
 }
@@ -74,9 +74,9 @@ impl<D: Disk> Session<D> {
     ) -> Result<Session<D>, OpenRefused<D>>
         ensures opened { IfOk result (λ s. HasOpened (device (D.history disk) (D.moment disk) (D.faults disk)) (device s.history s.moment s.faults) s.state.all) }
         ensures refused { IfErr result (λ e. HasRefused (device (D.history disk) (D.moment disk) (D.faults disk)) (device (D.history e.disk) (D.moment e.disk) (D.faults e.disk)) e.why) }
-        ensures damage { ForSome (D.history disk) (λ h. (side : Side) (at : ℕ) → IsDamagedAt (reads h) side at → IsErr result) }
+        ensures damage { ForSome (D.history disk) (λ h. (side : Side) (at : ℕ) → IsLogDamagedAt (reads h) side at → IsErr result) }
         ensures sound { IfOk result (λ s. IsVersions s.state.all) }
-        ensures state { IfOk result (λ s. (s.state ≡ opened s.state.all 1) × (s.own ≡ begun 0) × (s.entries ≡ []) × (s.over ≡ false)) }
+        ensures state { IfOk result (λ s. (s.state ≡ opened s.state.all 1) × (s.own ≡ begun_session 0) × (s.entries ≡ []) × (s.over ≡ false)) }
     {
         let engine = Engine::<D>::open(rt, alloc, disk)?;
         engine.know();
@@ -213,7 +213,7 @@ impl<D: Disk> Session<D> {
         requires over { self.old.over ≡ false }
         requires some { 1 ≤ workers }
         requires few { workers ≤ 64 }
-        requires bounded { IsBounded command.now }
+        requires bounded { IsBoundedCommand command.now }
         ensures ok { OnOk result (Does self.old self.new (command_answer self.old command.now)) }
         ensures reply { IfOk result (λ r. r ≡ (command_answer self.old command.now).reply) }
         ensures block { OnOk result (block.new ≡ block.old ++ (command_answer self.old command.now).block) }

@@ -1,6 +1,6 @@
 // Worked tables of boards, and a pinner and a pruner in two threads.
 ghost use Rattle.std.specs.Prelude.{◌≡◌, ◌+◌, ◌≤◌, IfSome};
-ghost use Rattle.jf_board.specs.States.{AreNew};
+ghost use Rattle.jf_board.specs.States.{AreNewPlaces};
 
 use jf_board::{Board, Held, PinRefused, Place, Pruner, Scan};
 use std::alloc::Global;
@@ -12,9 +12,9 @@ use std::thread::Threads;
 // Takes the place with the greatest number of those that remain.
 #[tactic(auto, using(crate::proofs::Places::last_place))]
 fn take_last(board: &Board, places: &mut Vec<Place>) -> Option<Place>
-    requires { AreNew board.now places.old.items 0 }
+    requires { AreNewPlaces board.now places.old.items 0 }
     ensures place { IfSome result (λ p. p.board ≡ board.now) }
-    ensures others { AreNew board.now places.new.items 0 }
+    ensures others { AreNewPlaces board.now places.new.items 0 }
 {
     places.pop()
 }

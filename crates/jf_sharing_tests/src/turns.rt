@@ -1,6 +1,6 @@
 ghost use Rattle.std.specs.Prelude.{◌≡◌, ℕ, ◌+◌, ◌<◌, ◌≤◌, [], ◌∷◌, ◌++◌, length, IsTrue, IfOk, IfSome, None};
-ghost use Rattle.jf_turn.specs.Lists.{Has};
-ghost use Rattle.jf_turn.specs.Seats.{IsSeatOf, AreNew};
+ghost use Rattle.jf_turn.specs.Lists.{HasElement};
+ghost use Rattle.jf_turn.specs.Seats.{IsSeatOf, AreNewSeats};
 
 use jf_turn::{Seat, Told, Turn, TurnRefused};
 use std::alloc::Global;
@@ -60,7 +60,7 @@ fn new_turn(
     seats: u64,
 ) -> Result<(Turn<Marks>, Vec<Seat<Marks>>), TurnRefused<Marks>>
     requires { (1 ≤ seats) × (seats ≤ 16) }
-    ensures { IfOk result (λ r. (r.0.seats ≡ seats) × (length r.1.items ≡ seats) × (1 ≤ seats) × AreNew r.0 r.1.items 0) }
+    ensures { IfOk result (λ r. (r.0.seats ≡ seats) × (length r.1.items ≡ seats) × (1 ≤ seats) × AreNewSeats r.0 r.1.items 0) }
 {
     let marks = Marks {
         marks: Vec::new(alloc),
@@ -72,10 +72,10 @@ fn new_turn(
 
 // Joins all seats into one, which stands for the numbers of all.
 fn gather(turn: &Turn<Marks>, mut seats: Vec<Seat<Marks>>) -> Seat<Marks>
-    requires new { AreNew turn.now seats.items 0 }
+    requires new { AreNewSeats turn.now seats.items 0 }
     requires many { (length seats.items ≡ turn.now.seats) × (1 ≤ turn.now.seats) }
     ensures own { IsSeatOf result turn.now × (result.taken ≡ None) }
-    ensures all { (n : ℕ) → n < turn.now.seats → Has result.numbers n }
+    ensures all { (n : ℕ) → n < turn.now.seats → HasElement result.numbers n }
 {
     let Some(mut seat) = seats.pop() else {
         unreachable!()
@@ -88,7 +88,7 @@ fn gather(turn: &Turn<Marks>, mut seats: Vec<Seat<Marks>>) -> Seat<Marks>
 
 // Joins the seats and ends the turn.
 fn close_at_once(turn: Turn<Marks>, seats: Vec<Seat<Marks>>) -> Marks
-    requires new { AreNew turn seats.items 0 }
+    requires new { AreNewSeats turn seats.items 0 }
     requires many { (length seats.items ≡ turn.seats) × (1 ≤ turn.seats) }
 {
     let seat = gather(&turn, seats);

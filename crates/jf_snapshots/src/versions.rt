@@ -24,13 +24,13 @@ pub struct SnapshotVersions {
 impl Model for SnapshotVersions {
     ghost use Rattle.jf_model.specs.Versions.{Versions};
     ghost use Rattle.jf_model.specs.VersionCodes.{versions_code};
-    ghost use Rattle.jf_snapshots.specs.Kept.{kept, AreKept};
+    ghost use Rattle.jf_snapshots.specs.KeptSnapshots.{versions_of_snapshots, AreKept};
 
     ghost Value = { Versions };
 
     ghost coded = { versions_code };
 
-    ghost view = { λ v. kept v.snapshots.items };
+    ghost view = { λ v. versions_of_snapshots v.snapshots.items };
 
     ghost invariant = { λ v. AreKept v.snapshots.items };
 }

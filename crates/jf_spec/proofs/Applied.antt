@@ -1,12 +1,13 @@
 -- Applying a batch to entries whose keys begin with the same bits.
-use Rattle.std.proofs.Common.{◌≡◌, ◌<◌, ℕ, Bool, not, T}
+use Rattle.std.proofs.Common.{◌≡◌, ℕ, not, T, ◌<◌, Bool}
 use Rattle.std.specs.FinMap.{is_sorted}
 use Rattle.jf_path.specs.Keys.{bit, key_cmp, IsKey}
 use Rattle.jf_hash.specs.Maps.{Batch}
-use Rattle.jf_hash.specs.Parts.{IsUnder}
 use Rattle.jf_hash.specs.Roots.{zeros, ones}
 use Rattle.jf_hash.specs.Slots.{Part}
-use Rattle.jf_model.specs.Changes.{applied, sorted-applied, all_keys-applied, filter-applied}
+use Rattle.jf_hash.specs.Parts.{IsUnder}
+use Rattle.jf_model.specs.Changes.{applied}
+use Rattle.jf_model.proofs.ChangeLaws.{filter-applied, sorted-applied, all_keys-applied}
 
 -- after a batch, each half of the entries is that half after the batch's changes in it
 pub zeros-applied : (d : ℕ) (es : Part) (bs : Batch) → T (is_sorted key_cmp es) → zeros d (applied es bs) ≡ applied (zeros d es) (zeros d bs)

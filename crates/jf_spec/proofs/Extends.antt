@@ -1,39 +1,37 @@
 -- The steps of an extension: what each requires, and what they give together.
-use Rattle.std.proofs.Common.{◌≡◌, ◌<◌, ◌≤◌, ◌+◌, ◌-◌, ℕ, true, false, not, cond, List, [], ◌∷◌, ◌++◌, length, take, drop, get_or, refl, sym, ap, ap₂, ◌∙◌, arith, subst, Option, None, Some, Result, Ok, Err, IfOk, take_all, length-drop, length-take-le, is_eq}
-use Rattle.std.specs.FinMap.Entries.{by_order}
+use Rattle.std.proofs.Common.{◌≡◌, ℕ, take, ◌-◌, length, drop, sym, ◌∙◌, ◌+◌, subst, ap, ap₂, false, true, ◌++◌, arith, length-drop, length-take-le, ◌<◌, ◌≤◌, Result, Ok, Err, IfOk, [], ◌∷◌, not, cond, List, Option, None, Some, is_eq, refl, get_or}
 use Rattle.std.specs.Cmp.{tied_itself}
 use Rattle.std.specs.Cmp.Lexicographic.{nat_list_cmp_total}
+use Rattle.std.specs.FinMap.Entries.{by_order}
 use Rattle.jf_path.specs.Keys.{key_cmp}
+use Rattle.jf_path.proofs.ListLaws.{take-rest}
 use Rattle.jf_hash.specs.Maps.{Batch}
-use Rattle.jf_hash.specs.Bits.{two_keys}
 use Rattle.jf_hash.specs.Parts.{IsFirstOne, HaveBit}
 use Rattle.jf_hash.specs.Roots.{zeros, ones}
 use Rattle.jf_hash.specs.Slots.{Part}
-use Rattle.jf_model.specs.Changes.{changed, applied, applied-none, applied-word}
+use Rattle.jf_hash.proofs.Bits.{two_keys}
+use Rattle.jf_model.specs.Changes.{applied, changed}
+use Rattle.jf_model.proofs.ChangeLaws.{applied-none, applied-word}
 use Rattle.jf_node.specs.RangeValue.{RangeValue}
-use Rattle.jf_spec.specs.Parts.{AreParts}
-use Rattle.jf_spec.specs.Held.{IsOnly, HasOther}
+use Rattle.jf_spec.specs.Parts.{AreUnderOnePath}
 use Rattle.jf_spec.specs.Costs.{most_steps}
-use Rattle.jf_spec.proofs.PartHalves.{AreParts-zeros, AreParts-ones, applied-halves, HaveBit-applied_zeros, HaveBit-applied_ones, batch_halves, deeper_under}
+use Rattle.jf_spec.specs.Held.{IsOnly, HasOther}
+use Rattle.jf_spec.proofs.PartHalves.{batch_halves, AreUnderOnePath-zeros, AreUnderOnePath-ones, HaveBit-applied_zeros, HaveBit-applied_ones, applied-halves, deeper_under}
 use Rattle.jf_spec.proofs.Steps.{first_steps, both_steps}
 
--- all of a batch from a place on is its rest
-whole : (p : ℕ) (bs : Batch) → take (length bs - p) (drop p bs) ≡ drop p bs
-whole p bs = take_all (length bs - p) (drop p bs) (omega (arith, length-drop p bs))
-
-module _ (d p : ℕ) (es : Part) (bs : Batch) (parts : AreParts d es bs) (first : IsFirstOne d p bs) where
+module _ (d p : ℕ) (es : Part) (bs : Batch) (parts : AreUnderOnePath d es bs) (first : IsFirstOne d p bs) where
   zero_batch : zeros d bs ≡ take p bs
   zero_batch = (batch_halves d p es bs parts first).0
 
   one_batch : ones d bs ≡ take (length bs - p) (drop p bs)
-  one_batch = (batch_halves d p es bs parts first).1 ∙ sym (whole p bs)
+  one_batch = (batch_halves d p es bs parts first).1 ∙ sym (take-rest p bs)
 
   -- each half of the batch and each half of the node are parts
-  pub zero_parts : (z : RangeValue) → z ≡ record { depth = d + 1; entries = zeros d es } → AreParts z.depth z.entries (take p bs)
-  zero_parts z is = subst (λ w. AreParts w.depth w.entries (take p bs)) (sym is) (subst (AreParts (d + 1) (zeros d es)) zero_batch (AreParts-zeros d es bs parts))
+  pub zero_parts : (z : RangeValue) → z ≡ record { depth = d + 1; entries = zeros d es } → AreUnderOnePath z.depth z.entries (take p bs)
+  zero_parts z is = subst (λ w. AreUnderOnePath w.depth w.entries (take p bs)) (sym is) (subst (AreUnderOnePath (d + 1) (zeros d es)) zero_batch (AreUnderOnePath-zeros d es bs parts))
 
-  pub one_parts : (o : RangeValue) → o ≡ record { depth = d + 1; entries = ones d es } → AreParts o.depth o.entries (take (length bs - p) (drop p bs))
-  one_parts o is = subst (λ w. AreParts w.depth w.entries (take (length bs - p) (drop p bs))) (sym is) (subst (AreParts (d + 1) (ones d es)) one_batch (AreParts-ones d es bs parts))
+  pub one_parts : (o : RangeValue) → o ≡ record { depth = d + 1; entries = ones d es } → AreUnderOnePath o.depth o.entries (take (length bs - p) (drop p bs))
+  one_parts o is = subst (λ w. AreUnderOnePath w.depth w.entries (take (length bs - p) (drop p bs))) (sym is) (subst (AreUnderOnePath (d + 1) (ones d es)) one_batch (AreUnderOnePath-ones d es bs parts))
 
   zero_new : (z y : RangeValue) → z ≡ record { depth = d + 1; entries = zeros d es } → y ≡ record { depth = z.depth; entries = applied z.entries (take p bs) } → y.entries ≡ applied (zeros d es) (zeros d bs)
   zero_new z y is made = ap (λ w. w.entries) made ∙ ap₂ applied (ap (λ w. w.entries) is) (sym zero_batch)
@@ -54,7 +52,7 @@ module _ (d p : ℕ) (es : Part) (bs : Batch) (parts : AreParts d es bs) (first 
   both_new z y o x zis ymade ois xmade = ap₂ (λ a b. a ++ b) (zero_new z y zis ymade) (one_new o x ois xmade) ∙ applied-halves d es bs parts
 
   both_long : length bs ≡ length (take p bs) + length (take (length bs - p) (drop p bs))
-  both_long = let w = first.within in omega (arith, length-take-le p bs w, ap length (whole p bs), length-drop p bs)
+  both_long = let w = first.within in omega (arith, length-take-le p bs w, ap length (take-rest p bs), length-drop p bs)
 
   -- the number of steps after the first half, and after both
   pub steps_first : (z : RangeValue) (start taken after : ℕ) → d < 256 → 1 ≤ length bs → z ≡ record { depth = d + 1; entries = zeros d es } → taken ≡ start + 1 → after ≤ taken + most_steps z.depth (length (take p bs)) → after ≤ start + most_steps d (length bs)
@@ -69,7 +67,6 @@ module _ (d p : ℕ) (es : Part) (bs : Batch) (parts : AreParts d es bs) (first 
       (subst (λ j. last ≤ after + most_steps j (length (take (length bs - p) (drop p bs)))) (ap (λ w. w.depth) ois) k)
 
 -- ---- a batch of at most one key
-
 -- a result's entries may be given in another form
 pub ok_is : {E : Type 0} (r : Result RangeValue E) (v w : RangeValue) → v ≡ w → IfOk r (λ x. x ≡ v) → IfOk r (λ x. x ≡ w)
 ok_is (Ok x) v w is h = h ∙ is
@@ -95,14 +92,14 @@ only_applied b es (c ∷ []) only some short is = applied-word [] b.0 b.1 ∙ ch
 only_applied b es (c ∷ e ∷ bs) only some short is = absurd (omega arith)
 
 -- if the node has an entry of another key, there is a bit below its depth
-pub other_deep : (d : ℕ) (b : List ℕ × Option (List ℕ)) (es : Part) (bs : Batch) → HasOther b.0 es → AreParts d es bs → 1 ≤ length bs → b ≡ get_or bs 0 b → d < 256
+pub other_deep : (d : ℕ) (b : List ℕ × Option (List ℕ)) (es : Part) (bs : Batch) → HasOther b.0 es → AreUnderOnePath d es bs → 1 ≤ length bs → b ≡ get_or bs 0 b → d < 256
 other_deep d b [] bs other parts some is = absurd other
 other_deep d b (e ∷ es) [] other parts some is = absurd (omega arith)
 other_deep d b (e ∷ []) (c ∷ bs) other parts some is =
     two_keys d parts.path e.0 c.0 parts.entries.keys.0 parts.batch.keys.0 parts.entries.agree.0 parts.batch.agree.0 (λ same. other (same ∙ sym (ap (λ x. x.0) is)))
 other_deep d b (e ∷ f ∷ es) (c ∷ bs) other parts some is = deeper_under d parts.path (e ∷ f ∷ es) parts.entries (omega arith)
 
-pub several_deep : (d : ℕ) (es : Part) (bs : Batch) → AreParts d es bs → 2 ≤ length bs → d < 256
+pub several_deep : (d : ℕ) (es : Part) (bs : Batch) → AreUnderOnePath d es bs → 2 ≤ length bs → d < 256
 several_deep d es bs parts two = deeper_under d parts.path bs parts.batch two
 
 -- a removal leaves a node without entries unchanged

@@ -1,25 +1,26 @@
 -- What the nodes of each form have: entries, hash and values.
-use Rattle.std.proofs.Common.{◌≡◌, ◌≤◌, ◌<◌, ◌+◌, ℕ, Bool, true, false, cond, List, [], ◌∷◌, ◌++◌, length, not, append-nil, refl, sym, ap, ap₂, ◌∙◌, subst, None, Some, Ordering, Less, Equal, Greater, true≢false, Global}
+use Rattle.std.proofs.Common.{◌≡◌, ℕ, [], ◌∷◌, sym, ap, ◌∙◌, Global, subst, Bool, cond, List, None, Some, true, false, refl, not, ◌+◌, ◌++◌, append-nil, ap₂, true≢false, ◌≤◌, ◌<◌, length}
 use Rattle.std.proofs.lemmas.List.Elements.{filter-append}
 use Rattle.std.specs.FinMap.{find}
 use Rattle.std.specs.Ordering.{is_eq}
 use Rattle.std.specs.declared.sync.Arc.{Arc}
-use Rattle.jf_path.specs.Keys.{bit, key_cmp}
-use Rattle.jf_hash.specs.Hashes.{L, N, V}
-use Rattle.jf_hash.specs.KeyOrder.{same_key-exact}
+use Rattle.jf_path.specs.Keys.{key_cmp, bit}
+use Rattle.jf_path.proofs.OrderLaws.{Equal-from_is_eq}
+use Rattle.jf_hash.specs.Hashes.{L, V, N}
+use Rattle.jf_hash.specs.Roots.{part_root, ones, zeros}
 use Rattle.jf_hash.specs.Parts.{HaveBit}
-use Rattle.jf_hash.specs.Roots.{part_root, zeros, ones}
-use Rattle.jf_hash.specs.RootLaws.{part_root-one, part_root-split}
 use Rattle.jf_hash.specs.Slots.{Part}
+use Rattle.jf_hash.proofs.RootLaws.{part_root-one, part_root-split}
+use Rattle.jf_hash.proofs.KeyOrder.{same_key-exact}
+use Rattle.jf_hash.proofs.Finds.{find-right, find-left}
 use Rattle.jf_node.specs.RangeValue.{RangeValue}
-use Rattle.jf_spec.specs.Forms.{IsSoundForm, AreHalves, node_value}
+use Rattle.jf_spec.specs.Forms.{node_value, IsSoundTreeForm, AreHalves}
 use Rattle.jf_spec.specs.declared.node.Form.{Form}
 use Rattle.jf_spec.specs.declared.node.Form.TheVariants.{Leaf, Branch}
 use Rattle.jf_spec.specs.declared.node.LeafBody.{LeafBody}
 use Rattle.jf_spec.specs.declared.node.BranchBody.{BranchBody}
 
 -- ---- an entry
-
 module _ (v : RangeValue) (depth : ℕ) (form : Form) (leaf : Arc LeafBody Global) (b : LeafBody) (seen : node_value depth form ≡ v) (is : form ≡ Leaf leaf) (inside : b ≡ leaf.value) where
   pub leaf_is : v ≡ record { depth = depth; entries = (b.key, b.value) ∷ [] }
   leaf_is = sym seen ∙ ap (node_value depth) is ∙ ap (λ (x : LeafBody). leaf_value x) (sym inside)
@@ -27,9 +28,9 @@ module _ (v : RangeValue) (depth : ℕ) (form : Form) (leaf : Arc LeafBody Globa
       leaf_value : LeafBody → RangeValue
       leaf_value x = record { depth = depth; entries = (x.key, x.value) ∷ [] }
 
-  pub leaf_hash : IsSoundForm depth form → b.hash ≡ part_root v.depth v.entries
+  pub leaf_hash : IsSoundTreeForm depth form → b.hash ≡ part_root v.depth v.entries
   leaf_hash sound =
-      let own : leaf.value.hash ≡ L leaf.value.key (V leaf.value.value) = (subst (IsSoundForm depth) is sound).1 in
+      let own : leaf.value.hash ≡ L leaf.value.key (V leaf.value.value) = (subst (IsSoundTreeForm depth) is sound).1 in
       subst (λ (x : LeafBody). x.hash ≡ L x.key (V x.value)) (sym inside) own ∙ sym (part_root-one depth b.key b.value) ∙ ap (λ w. part_root w.depth w.entries) (sym leaf_is)
 
   -- a node of one entry has the value of that entry's key alone
@@ -37,31 +38,13 @@ module _ (v : RangeValue) (depth : ℕ) (form : Form) (leaf : Arc LeafBody Globa
   find_own key t test = ap (λ w. find key_cmp key w.entries) leaf_is ∙ ap (λ c. cond c (Some b.value) None) test
 
 -- ---- halves
-
-so_equal : (o : Ordering) → is_eq o ≡ true → o ≡ Equal
-so_equal Less h = absurd (cc)
-so_equal Equal h = refl
-so_equal Greater h = absurd (cc)
-
 find-other : (d : ℕ) (b : Bool) (key : List ℕ) (es : Part) → HaveBit d b es → ¬ (bit key d ≡ b) → find key_cmp key es ≡ None
 find-other d b key [] h other = refl
 find-other d b key (e ∷ es) h other =
     elim (is_eq (key_cmp key e.0)) as (λ t. is_eq (key_cmp key e.0) ≡ t → cond t (Some e.1) (find key_cmp key es) ≡ None) [
-      | true ↦ λ is. absurd (other (ap (λ k. bit k d) (same_key-exact key e.0 (so_equal _ is)) ∙ h.0))
+      | true ↦ λ is. absurd (other (ap (λ k. bit k d) (same_key-exact key e.0 (Equal-from_is_eq _ is)) ∙ h.0))
       | false ↦ λ is. find-other d b key es h.1 other
     ] refl
-
-find-left : (key : List ℕ) (es fs : Part) → find key_cmp key fs ≡ None → find key_cmp key (es ++ fs) ≡ find key_cmp key es
-find-left key [] fs h = h
-find-left key (e ∷ es) fs h = ap (λ r. cond (is_eq (key_cmp key e.0)) (Some e.1) r) (find-left key es fs h)
-
-find-right : (key : List ℕ) (es fs : Part) → find key_cmp key es ≡ None → find key_cmp key (es ++ fs) ≡ find key_cmp key fs
-find-right key [] fs h = refl
-find-right key (e ∷ es) fs h =
-    elim (is_eq (key_cmp key e.0)) as (λ b. cond b (Some e.1) (find key_cmp key es) ≡ None → cond b (Some e.1) (find key_cmp key (es ++ fs)) ≡ find key_cmp key fs) [
-      | true ↦ λ no. (cc)
-      | false ↦ λ no. find-right key es fs no
-    ] h
 
 -- all entries of a half have its bit
 kept_all : (d : ℕ) (es : Part) → HaveBit d true es → ones d es ≡ es
@@ -97,26 +80,26 @@ module _ (v : RangeValue) (depth : ℕ) (form : Form) (branch : Arc BranchBody G
       branch_value : BranchBody → RangeValue
       branch_value x = record { depth = depth; entries = x.zeros.entries ++ x.ones.entries }
 
-  pub branch_halves : IsSoundForm depth form → AreHalves depth b.zeros b.ones b.hash
-  branch_halves sound = subst (λ (x : BranchBody). AreHalves depth x.zeros x.ones x.hash) (sym inside) (subst (IsSoundForm depth) is sound)
+  pub branch_halves : IsSoundTreeForm depth form → AreHalves depth b.zeros b.ones b.hash
+  branch_halves sound = subst (λ (x : BranchBody). AreHalves depth x.zeros x.ones x.hash) (sym inside) (subst (IsSoundTreeForm depth) is sound)
 
   -- a key is found in the half of its next bit
-  pub find_ones : (key : List ℕ) → IsSoundForm depth form → bit key depth ≡ true → find key_cmp key v.entries ≡ find key_cmp key b.ones.entries
+  pub find_ones : (key : List ℕ) → IsSoundTreeForm depth form → bit key depth ≡ true → find key_cmp key v.entries ≡ find key_cmp key b.ones.entries
   find_ones key sound one =
       ap (λ w. find key_cmp key w.entries) branch_is ∙ find-right key b.zeros.entries b.ones.entries (find-other depth false key b.zeros.entries (branch_halves sound).zeros (λ e. true≢false (sym one ∙ e)))
 
-  pub find_zeros : (key : List ℕ) → IsSoundForm depth form → bit key depth ≡ false → find key_cmp key v.entries ≡ find key_cmp key b.zeros.entries
+  pub find_zeros : (key : List ℕ) → IsSoundTreeForm depth form → bit key depth ≡ false → find key_cmp key v.entries ≡ find key_cmp key b.zeros.entries
   find_zeros key sound zero =
       ap (λ w. find key_cmp key w.entries) branch_is ∙ find-left key b.zeros.entries b.ones.entries (find-other depth true key b.ones.entries (branch_halves sound).ones (λ e. true≢false (sym e ∙ zero)))
 
   -- a branch's halves are the entries by their next bit
-  pub zeros_is : IsSoundForm depth form → b.zeros ≡ record { depth = v.depth + 1; entries = zeros v.depth v.entries }
+  pub zeros_is : IsSoundTreeForm depth form → b.zeros ≡ record { depth = v.depth + 1; entries = zeros v.depth v.entries }
   zeros_is sound =
       let h = branch_halves sound in
       range_at (depth + 1) b.zeros h.zeros_deep ∙ ap (λ es. record { depth = depth + 1; entries = es }) (sym (zeros_of depth b.zeros.entries b.ones.entries h.zeros h.ones))
       ∙ ap (λ w. record { depth = w.depth + 1; entries = zeros w.depth w.entries }) (sym branch_is)
 
-  pub ones_is : IsSoundForm depth form → b.ones ≡ record { depth = v.depth + 1; entries = ones v.depth v.entries }
+  pub ones_is : IsSoundTreeForm depth form → b.ones ≡ record { depth = v.depth + 1; entries = ones v.depth v.entries }
   ones_is sound =
       let h = branch_halves sound in
       range_at (depth + 1) b.ones h.ones_deep ∙ ap (λ es. record { depth = depth + 1; entries = es }) (sym (ones_of depth b.zeros.entries b.ones.entries h.zeros h.ones))

@@ -1,19 +1,20 @@
 -- The map of a tree by its top.
-use Rattle.std.proofs.Common.{◌≡◌, ◌<◌, ◌≤◌, ◌+◌, ◌-◌, ◌*◌, ℕ, false, List, [], ◌∷◌, refl, sym, ap, ◌∙◌, arith, subst}
-use Rattle.std.specs.List.{AllByRecursion}
-use Rattle.std.specs.FinMap as fin
+use Rattle.std.proofs.Common.{◌≡◌, sym, ◌∙◌, ap, refl, subst, ℕ, List, ◌-◌, ◌<◌, false, [], ◌∷◌, arith, ◌≤◌, ◌+◌, ◌*◌}
 use Rattle.std.specs.FinMap.{entries, find}
-use Rattle.jf_path.specs.Keys.{key_cmp, IsKey, IsBytes, bit}
-use Rattle.jf_hash.specs.Maps.{Map, Batch, IsMap, IsBatch, apply}
-use Rattle.jf_hash.specs.MapLaws.{same_map}
+use Rattle.std.specs.FinMap as fin
+use Rattle.std.specs.List.{AllByRecursion}
+use Rattle.jf_path.specs.Keys.{key_cmp, bit, IsKey}
+use Rattle.jf_hash.specs.Maps.{Map, IsMap, Batch, IsBatch, apply}
 use Rattle.jf_hash.specs.Roots.{root, part_root}
-use Rattle.jf_hash.specs.RootLaws.{root-part_root}
-use Rattle.jf_hash.specs.Slots.{Part}
-use Rattle.jf_model.specs.Changes.{applied, entries-apply, sorted-applied, all_keys-applied}
+use Rattle.jf_hash.proofs.MapLaws.{same_map}
+use Rattle.jf_hash.proofs.SlotLaws.{keys_are_keys}
+use Rattle.jf_hash.proofs.RootLaws.{root-part_root}
+use Rattle.jf_model.specs.Changes.{applied}
+use Rattle.jf_model.proofs.ChangeLaws.{sorted-applied, all_keys-applied, entries-apply}
 use Rattle.jf_node.specs.RangeValue.{RangeValue}
-use Rattle.jf_spec.specs.Parts.{AreParts}
-use Rattle.jf_spec.specs.Costs.{most_steps}
 use Rattle.jf_spec.specs.Trees.{IsTree}
+use Rattle.jf_spec.specs.Parts.{AreUnderOnePath}
+use Rattle.jf_spec.specs.Costs.{most_steps}
 
 -- a map is that of its entries
 pub map_of : (m : Map) → fin.from_sorted (entries m) ≡ m
@@ -22,13 +23,9 @@ map_of m = same_map (fin.from_sorted (entries m)) m (λ q. fin.get-from_sorted k
 pub entries_of : (top : RangeValue) (m : Map) → fin.from_sorted top.entries ≡ m → IsTree top → entries m ≡ top.entries
 entries_of top m seen tree = ap entries (sym seen) ∙ fin.entries-from_sorted key_cmp top.entries tree.sorted
 
-keys_of : (es : Part) → AllByRecursion (λ e. IsKey e.0 × IsBytes e.1) es → AllByRecursion (λ e. IsKey e.0) es
-keys_of [] h = tt
-keys_of (e ∷ es) h = (h.0.0, keys_of es h.1)
-
 -- the top of a map is a tree
 pub tree_of_map : (top : RangeValue) (m : Map) → top ≡ record { depth = 0; entries = entries m } → IsMap m → IsTree top
-tree_of_map top m is sound = subst IsTree (sym is) (record { depth = refl; sorted = fin.entries_sorted m; keys = keys_of (entries m) sound })
+tree_of_map top m is sound = subst IsTree (sym is) (record { depth = refl; sorted = fin.entries_sorted m; keys = keys_are_keys (entries m) sound })
 
 pub map_of_top : (top : RangeValue) (m : Map) → top ≡ record { depth = 0; entries = entries m } → fin.from_sorted top.entries ≡ m
 map_of_top top m is = ap (λ t. fin.from_sorted t.entries) is ∙ map_of m
@@ -44,7 +41,7 @@ agree_none d [] none = tt
 agree_none d (e ∷ es) none = ((λ i lt. absurd (omega arith)), agree_none d es none)
 
 -- a tree and a batch are parts
-pub parts_of : (top : RangeValue) (bs : Batch) → IsTree top → IsBatch bs → AreParts top.depth top.entries bs
+pub parts_of : (top : RangeValue) (bs : Batch) → IsTree top → IsBatch bs → AreUnderOnePath top.depth top.entries bs
 parts_of top bs tree batch = record {
   path = λ i. false;
   entries = record { sorted = tree.sorted; keys = tree.keys; agree = agree_none top.depth top.entries tree.depth };

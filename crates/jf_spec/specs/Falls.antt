@@ -1,15 +1,15 @@
 -- How deep a form is nested: at most 257 levels, less its depth.
 use Rattle.std.specs.Prelude.{◌≤◌, ℕ, max}
 use Rattle.std.proofs.Common.{arith}
-use Rattle.jf_spec.specs.Forms.{IsSoundForm, node_value, levels}
+use Rattle.jf_spec.specs.Forms.{IsSoundTreeForm, node_value, tree_levels}
 use Rattle.jf_spec.specs.declared.node.Form.{Form}
 use Rattle.jf_spec.specs.declared.node.Form.TheVariants.{Stored, Leaf, Branch}
 use Rattle.jf_spec.specs.declared.node.Node.TheDeep.{deep-Form}
 
-form_falls : (depth : ℕ) (f : Form) → IsSoundForm depth f → deep-Form f ≤ levels (node_value depth f)
+form_falls : (depth : ℕ) (f : Form) → IsSoundTreeForm depth f → deep-Form f ≤ tree_levels (node_value depth f)
 form_falls depth (Stored range) h = omega arith
 form_falls depth (Leaf leaf) h = omega arith
 form_falls depth (Branch branch) h = omega (arith, h.deep, h.zeros_deep, h.ones_deep)
 
-pub falls : (depth : ℕ) (f : Form) → IsSoundForm depth f → max (deep-Form f) 0 ≤ levels (node_value depth f)
-falls depth f h = omega (arith, form_falls depth f h)
+pub tree_falls : (depth : ℕ) (f : Form) → IsSoundTreeForm depth f → max (deep-Form f) 0 ≤ tree_levels (node_value depth f)
+tree_falls depth f h = omega (arith, form_falls depth f h)

@@ -1,9 +1,9 @@
 -- The three forms in which a node of a speculative tree is kept.
-use Rattle.std.specs.Prelude.{◌≡◌, ℕ, ◌+◌, ◌-◌, ◌<◌, ◌≤◌, true, false, List, [], ◌∷◌, ◌++◌, length}
-use Rattle.jf_hash.specs.Hashes.{L, V}
+use Rattle.std.specs.Prelude.{◌+◌, [], ◌∷◌, ◌++◌, ◌≡◌, ℕ, ◌<◌, ◌≤◌, true, false, List, length, ◌-◌}
+use Rattle.jf_hash.specs.Slots.{Part}
 use Rattle.jf_hash.specs.Parts.{HaveBit}
 use Rattle.jf_hash.specs.Roots.{part_root}
-use Rattle.jf_hash.specs.Slots.{Part}
+use Rattle.jf_hash.specs.Hashes.{L, V}
 use Rattle.jf_node.specs.RangeValue.{RangeValue}
 use Rattle.jf_spec.specs.declared.node.Form.{Form}
 use Rattle.jf_spec.specs.declared.node.Form.TheVariants.{Stored, Leaf, Branch}
@@ -25,15 +25,15 @@ pub record AreHalves (depth : ℕ) (left right : RangeValue) (hash : List ℕ) :
   pub hashed : hash ≡ part_root depth (left.entries ++ right.entries)
 
 -- what holds of a form at its depth
-abbrev pub IsSoundForm : ℕ → Form → Type 0
-IsSoundForm depth (Stored range) = (depth ≤ 256) × (range.depth ≡ depth)
-IsSoundForm depth (Leaf leaf) = (depth ≤ 256) × (leaf.value.hash ≡ L leaf.value.key (V leaf.value.value))
-IsSoundForm depth (Branch branch) = AreHalves depth branch.value.zeros branch.value.ones branch.value.hash
+abbrev pub IsSoundTreeForm : ℕ → Form → Type 0
+IsSoundTreeForm depth (Stored range) = (depth ≤ 256) × (range.depth ≡ depth)
+IsSoundTreeForm depth (Leaf leaf) = (depth ≤ 256) × (leaf.value.hash ≡ L leaf.value.key (V leaf.value.value))
+IsSoundTreeForm depth (Branch branch) = AreHalves depth branch.value.zeros branch.value.ones branch.value.hash
 
 -- a node as contracts see it: its depth and its entries
 abbrev pub node_value : ℕ → Form → RangeValue
 node_value depth form = record { depth = depth; entries = form_entries form }
 
 -- how many levels a node may have
-abbrev pub levels : RangeValue → ℕ
-levels v = 257 - v.depth
+abbrev pub tree_levels : RangeValue → ℕ
+tree_levels v = 257 - v.depth

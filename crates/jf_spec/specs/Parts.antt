@@ -5,7 +5,7 @@ use Rattle.jf_hash.specs.Parts.{IsUnder}
 use Rattle.jf_hash.specs.Slots.{Part}
 
 -- the entries and the batch have all their keys under one path
-pub record AreParts (depth : ℕ) (es : Part) (bs : Batch) : Type 0 where
+pub record AreUnderOnePath (depth : ℕ) (es : Part) (bs : Batch) : Type 0 where
   pub path : ℕ → Bool
   pub entries : IsUnder depth path es
   pub batch : IsUnder depth path bs

@@ -2,7 +2,7 @@
 ghost use Rattle.std.specs.Prelude.{◌≡◌, ◌+◌, ◌<◌, ◌≤◌, true, false, ◌∷◌, [], ◌++◌, length, IfOk, min};
 ghost use Rattle.jf_hash.specs.Roots.{zeros, ones};
 ghost use Rattle.jf_hash.specs.Parts.{HaveBit};
-ghost use Rattle.jf_spec.specs.Forms.{form_entries, IsSoundForm};
+ghost use Rattle.jf_spec.specs.Forms.{form_entries, IsSoundTreeForm};
 ghost use Rattle.jf_spec.specs.declared.node.Form.TheVariants as form;
 
 use crate::held::Held;
@@ -39,7 +39,7 @@ fn stored_halves(range: &SharedRange) -> Result<Halves, Memory>
 // The halves of the node of one entry at a depth.
 fn leaf_halves(depth: u64, leaf: &Arc<LeafBody, Global>) -> Result<Halves, Memory>
     requires depth { depth < 256 }
-    requires sound { IsSoundForm depth (form.Leaf leaf.now) }
+    requires sound { IsSoundTreeForm depth (form.Leaf leaf.now) }
     ensures zeros { IfOk result (λ h. h.zeros ≡ record { depth = depth + 1; entries = zeros depth (form_entries (form.Leaf leaf.now)) }) }
     ensures ones { IfOk result (λ h. h.ones ≡ record { depth = depth + 1; entries = ones depth (form_entries (form.Leaf leaf.now)) }) }
 {

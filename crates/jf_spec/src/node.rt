@@ -4,7 +4,7 @@ ghost use Rattle.std.specs.Option.{option_copied};
 ghost use Rattle.std.specs.FinMap.{find};
 ghost use Rattle.jf_path.specs.Keys.{key_cmp};
 ghost use Rattle.jf_hash.specs.Roots.{part_root};
-ghost use Rattle.jf_spec.specs.Held.{Holds};
+ghost use Rattle.jf_spec.specs.Held.{HoldsEntries};
 
 use crate::held::Held;
 use jf_hash::Hash;
@@ -52,17 +52,17 @@ impl Model for Node {
 
     ghost Value = { RangeValue };
 
-    ghost use Rattle.jf_spec.specs.Forms.{node_value, levels, IsSoundForm};
+    ghost use Rattle.jf_spec.specs.Forms.{node_value, tree_levels, IsSoundTreeForm};
 
     ghost view = { λ n. node_value n.depth n.form };
 
-    ghost invariant = { λ n. IsSoundForm n.depth n.form };
+    ghost invariant = { λ n. IsSoundTreeForm n.depth n.form };
 
-    ghost size = { levels };
+    ghost size = { tree_levels };
 
-    ghost use Rattle.jf_spec.specs.Falls.{falls};
+    ghost use Rattle.jf_spec.specs.Falls.{tree_falls};
 
-    ghost size_decreases = { λ n h. falls n.depth n.form h };
+    ghost size_decreases = { λ n h. tree_falls n.depth n.form h };
 }
 
 impl Node {
@@ -134,7 +134,7 @@ impl Node {
 
     // What the node holds.
     pub(crate) fn held(&self) -> Held<'_>
-        ensures { Holds self.now.entries result }
+        ensures { HoldsEntries self.now.entries result }
     {
         match &self.form {
             Form::Stored(range) => match range.range().state() {

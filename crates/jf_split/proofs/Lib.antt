@@ -3,3 +3,5 @@ pub mod Searches
 pub mod Rises
 pub mod PieceSteps
 pub mod Ends
+pub mod BatchLaws
+pub mod PieceLaws

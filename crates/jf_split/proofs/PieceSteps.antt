@@ -1,17 +1,18 @@
 -- The pieces of the first entries of a batch, and of a front that is longer by one piece.
-use Rattle.std.proofs.Common.{◌≡◌, ℕ, ◌+◌, ◌-◌, ◌<◌, ◌≤◌, true, false, eqb, List, [], ◌∷◌, ◌++◌, length, get_or, take, drop, refl, sym, ap, ap₂, ◌∙◌, subst, arith, inl, inr, length-append, length-drop, eq-eqb}
-use Rattle.std.specs.List.{filter, slice_range, All, AllPairs, AllWithin}
+use Rattle.std.proofs.Common.{◌≡◌, ℕ, ◌-◌, ◌<◌, false, eqb, arith, ◌≤◌, [], true, eq-eqb, ◌+◌, ◌++◌, length, take, drop, ap, ◌∙◌, length-drop, sym, inl, inr, List, ◌∷◌, refl, get_or, ap₂, subst, length-append}
 use Rattle.std.proofs.lemmas.Bool.{cases_lt}
 use Rattle.std.proofs.lemmas.Bool.Decides.{nat_tests}
-use Rattle.std.proofs.lemmas.List.{append-nil, take-append-le, drop-append-le, drop_at, take_all, take-take, take-append-drop, drop-take, length-take-le, get_or-take, get_or-drop}
-use Rattle.std.proofs.lemmas.List.Elements.{All-push, All-weaker, filter-append}
+use Rattle.std.proofs.lemmas.List.{take-append-le, drop-append-le, drop_at, take_all, length-take-le, append-nil, take-take, take-append-drop, drop-take, get_or-take, get_or-drop}
+use Rattle.std.proofs.lemmas.List.Elements.{All-weaker, All-push, filter-append}
 use Rattle.std.proofs.lemmas.List.Quantifiers.{all_pairs_push}
+use Rattle.std.specs.List.{All, slice_range, AllWithin, filter, AllPairs}
 use Rattle.jf_path.specs.Nibbles.{nibble}
+use Rattle.jf_path.proofs.FilterLaws.{filter_none, filter_all}
 use Rattle.jf_hash.specs.Maps.{Batch}
+use Rattle.jf_hash.specs.Slots.{with_nibble}
 use Rattle.jf_split.specs.declared.piece.Piece.{Piece}
-use Rattle.jf_split.specs.Pieces.{ArePieces, Tile, entries_of, with_nibble}
-use Rattle.jf_split.specs.PieceLaws.{Tile-each}
-use Rattle.jf_split.specs.Filters.{filter_all, filter_none}
+use Rattle.jf_split.specs.Pieces.{entries_of, Tile, ArePieces}
+use Rattle.jf_split.proofs.PieceLaws.{Tile-each}
 
 eqb-less : (a b : ℕ) → a < b → eqb a b ≡ false
 eqb-less a b lt = grind (arith, nat_tests)
@@ -20,8 +21,8 @@ eqb-greater : (a b : ℕ) → b < a → eqb a b ≡ false
 eqb-greater a b lt = grind (arith, nat_tests)
 
 -- entries whose nibbles are less than n have none with nibble n
-none_above : (depth m n : ℕ) (b : Batch) → m ≤ n → All (λ e. nibble e.0 depth < m) b → with_nibble depth n b ≡ []
-none_above depth m n b le low =
+no_nibble_above : (depth m n : ℕ) (b : Batch) → m ≤ n → All (λ e. nibble e.0 depth < m) b → with_nibble depth n b ≡ []
+no_nibble_above depth m n b le low =
     filter_none (λ e. eqb (nibble e.0 depth) n) b (All-weaker (λ e. nibble e.0 depth < m) (λ e. eqb (nibble e.0 depth) n ≡ false) (λ e lt. eqb-less (nibble e.0 depth) n (omega arith)) b low)
 
 none_below : (depth m n : ℕ) (b : Batch) → n < m → All (λ e. nibble e.0 depth ≡ m) b → with_nibble depth n b ≡ []
@@ -47,7 +48,7 @@ entries_of-rest xs ys p start end =
 nibble-below : (depth n : ℕ) (b : Batch) (p : Piece) → p.start < p.end → p.end ≤ length b → entries_of b p ≡ with_nibble depth p.nibble b → All (λ e. nibble e.0 depth < n) b → p.nibble < n
 nibble-below depth n b p some within exact low = elim (cases_lt p.nibble n) [
   | inl less ↦ less
-  | inr le ↦ absurd (omega (arith, ap length (exact ∙ none_above depth n p.nibble b le low), length-take-le (p.end - p.start) (drop p.start b) (omega (arith, length-drop p.start b))))
+  | inr le ↦ absurd (omega (arith, ap length (exact ∙ no_nibble_above depth n p.nibble b le low), length-take-le (p.end - p.start) (drop p.start b) (omega (arith, length-drop p.start b))))
 ]
 
 Tile-push : (from to : ℕ) (ps : List Piece) (p : Piece) → Tile from to ps → p.start ≡ to → p.start < p.end → Tile from p.end (ps ++ p ∷ [])
@@ -68,7 +69,7 @@ ArePieces-push depth xs ys ps p are start end some low same =
           entries_of-append xs ys q (each k d lt).0 (each k d lt).1 ∙ are.exact k d lt
           ∙ sym (split q.nibble ∙ ap (λ es. with_nibble depth q.nibble xs ++ es) (none_below depth p.nibble q.nibble ys (below k d lt) same) ∙ append-nil (with_nibble depth q.nibble xs)))
           (entries_of-rest xs ys p start end
-          ∙ sym (split p.nibble ∙ ap₂ (λ es fs. es ++ fs) (none_above depth p.nibble p.nibble xs (omega arith) low) (all_same depth p.nibble ys same)));
+          ∙ sym (split p.nibble ∙ ap₂ (λ es fs. es ++ fs) (no_nibble_above depth p.nibble p.nibble xs (omega arith) low) (all_same depth p.nibble ys same)));
     }
 
 -- a front and the piece after it are a longer front

@@ -1,20 +1,19 @@
 -- A batch after a put, by whether its key is there already and by its place.
-use Rattle.std.proofs.Common.{◌≡◌, ℕ, zero, suc, ◌<◌, ◌≤◌, true, false, cond, ◌&&◌, List, [], ◌∷◌, length, set, refl, sym, ap, ◌∙◌, subst, arith, T, Less, Greater, is_eq, is_none, is_some, Option, None, Some, IfSome, IsSome, true≢false, nat_le}
-use Rattle.std.specs.List.{insert}
-use Rattle.std.specs.FinMap.{put, find, is_sorted}
-use Rattle.std.specs.FinMap.Entries.{by_order}
+use Rattle.std.proofs.Common.{ℕ, suc, List, ◌∷◌, arith, Option, ◌≡◌, subst, T, Less, Greater, zero, [], set, ap, ◌∙◌, true, false, cond, refl, is_eq, is_none, Some, ◌&&◌, length, nat_le, None, sym, is_some, IsSome, true≢false, ◌≤◌, IfSome, ◌<◌}
+use Rattle.std.proofs.lemmas.Bool.{lt-leb}
 use Rattle.std.specs.Cmp.{tied_itself}
 use Rattle.std.specs.Cmp.Lexicographic.{nat_list_cmp_total}
-use Rattle.std.proofs.lemmas.Bool.{lt-leb}
+use Rattle.std.specs.FinMap.{is_sorted, put, find}
+use Rattle.std.specs.FinMap.Entries.{by_order}
+use Rattle.std.specs.List.{insert}
 use Rattle.jf_path.specs.Keys.{key_cmp, IsKey, IsBytes}
 use Rattle.jf_hash.specs.Maps.{Batch, IsBatch}
-use Rattle.jf_hash.specs.KeyOrder.{key_cmp-turned, below-rest, below-each, sorted-rest}
-use Rattle.jf_split.specs.Limits.{IsWithinLimits, is_full}
+use Rattle.jf_hash.proofs.KeyOrder.{key_cmp-turned, below-rest, below-each, sorted-rest}
 use Rattle.jf_split.specs.Places.{IsPlaceOf, IsGapFor}
-use Rattle.jf_split.specs.BatchLaws.{IsBatch-put, IsWithinLimits-put}
+use Rattle.jf_split.specs.Limits.{is_full, IsWithinLimits}
+use Rattle.jf_split.proofs.BatchLaws.{IsBatch-put, IsWithinLimits-put}
 
 -- ---- a key that is there
-
 -- a place after the first entry, counted among the entries after it
 place_in_rest : (k : List ℕ) (e : List ℕ × Option (List ℕ)) (b : Batch) (i : ℕ) → IsPlaceOf k (e ∷ b) (suc i) → IsPlaceOf k b i
 place_in_rest k e b i place = record { within = omega (arith, place.within); same = λ d. place.same d }
@@ -49,7 +48,6 @@ pub is_full-place : (k : List ℕ) (b : Batch) (i : ℕ) → IsPlaceOf k b i →
 is_full-place k b i place = ap (λ t. nat_le 10000 (length b) && t) (found k b i place) ∙ elim (nat_le 10000 (length b)) as (λ t. (t && false) ≡ false) [ true ↦ refl | false ↦ refl ]
 
 -- ---- a key that is new
-
 -- a gap after the first entry, counted among the entries after it
 gap_in_rest : (k : List ℕ) (e : List ℕ × Option (List ℕ)) (b : Batch) (i : ℕ) → IsGapFor k (e ∷ b) (suc i) → IsGapFor k b i
 gap_in_rest k e b i gap = record {
@@ -72,8 +70,8 @@ first_differs : (k : List ℕ) (e : List ℕ × Option (List ℕ)) (b : Batch) (
 first_differs k e b zero gap = ap is_eq (key_cmp-turned e.0 k Greater (gap.behind 0 e (omega arith) (omega arith)))
 first_differs k e b (suc i) gap = ap is_eq (key_cmp-turned e.0 k Less (gap.before 0 e (omega arith)))
 
-none_behind : (k : List ℕ) (e : List ℕ × Option (List ℕ)) (b : Batch) → IsGapFor k (e ∷ b) 0 → IsGapFor k b 0
-none_behind k e b gap = record {
+none_after : (k : List ℕ) (e : List ℕ × Option (List ℕ)) (b : Batch) → IsGapFor k (e ∷ b) 0 → IsGapFor k b 0
+none_after k e b gap = record {
   within = omega arith;
   before = λ j d lt. absurd (omega arith);
   behind = λ j d le lt. gap.behind (suc j) d (omega arith) (omega arith);
@@ -82,7 +80,7 @@ none_behind k e b gap = record {
 -- no entry has a key that has a gap
 pub find-gap : (k : List ℕ) (b : Batch) (i : ℕ) → IsGapFor k b i → find key_cmp k b ≡ None
 find-gap k [] i gap = refl
-find-gap k (e ∷ es) zero gap = ap (λ t. cond t (Some e.1) (find key_cmp k es)) (first_differs k e es 0 gap) ∙ find-gap k es 0 (none_behind k e es gap)
+find-gap k (e ∷ es) zero gap = ap (λ t. cond t (Some e.1) (find key_cmp k es)) (first_differs k e es 0 gap) ∙ find-gap k es 0 (none_after k e es gap)
 find-gap k (e ∷ es) (suc i) gap = ap (λ t. cond t (Some e.1) (find key_cmp k es)) (first_differs k e es (suc i) gap) ∙ find-gap k es i (gap_in_rest k e es i gap)
 
 pub not_there : (k : List ℕ) (b : Batch) (i : ℕ) → IsGapFor k b i → IsSome (find key_cmp k b) → ⊥
@@ -93,7 +91,6 @@ pub is_full-gap : (k : List ℕ) (b : Batch) (i : ℕ) → IsGapFor k b i → is
 is_full-gap k b i gap = ap (λ t. nat_le 10000 (length b) && t) (ap is_none (find-gap k b i gap)) ∙ elim (nat_le 10000 (length b)) as (λ t. (t && true) ≡ t) [ true ↦ refl | false ↦ refl ]
 
 -- ---- what a batch keeps
-
 module _ (k q : List ℕ) (v : Option (List ℕ)) (b : Batch) (i : ℕ) (key : IsKey k) (bytes : IfSome v IsBytes) (short : IfSome v (λ w. length w ≤ 4096)) (batch : IsBatch b × IsWithinLimits b) where
   -- a put for which there is room keeps the batch's rules and limits
   put_batch : is_full k b ≡ false → IsBatch (put key_cmp k v b) × IsWithinLimits (put key_cmp k v b)

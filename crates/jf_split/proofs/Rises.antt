@@ -1,16 +1,16 @@
 -- If two keys begin with the same nibbles, the lesser key has no greater nibble after them.
-use Rattle.std.proofs.Common.{◌≡◌, ℕ, zero, suc, ◌+◌, ◌*◌, ◌/◌, ◌%◌, ◌<◌, ◌≤◌, List, [], ◌∷◌, length, get_or, slice_index, subst, arith, Less, Ordering, Option, eq-or-lt_of_le, inl, inr}
-use Rattle.std.specs.Ordering.{nat_cmp, ordering_then}
+use Rattle.std.proofs.Common.{◌≡◌, ℕ, ◌≤◌, arith, Less, Ordering, zero, suc, ◌<◌, List, [], ◌∷◌, length, get_or, ◌*◌, ◌/◌, slice_index, subst, ◌+◌, ◌%◌, inl, inr, Option, eq-or-lt_of_le}
+use Rattle.std.proofs.lemmas.Bool.{cases_eq}
+use Rattle.std.proofs.lemmas.Bool.Decides.{nat_tests}
 use Rattle.std.specs.Cmp.Lexicographic.{slice_cmp}
 use Rattle.std.specs.List.{AllByRecursion}
 use Rattle.std.specs.List.Sorted.{IsNonDecreasingBy}
-use Rattle.std.proofs.lemmas.Bool.{cases_eq}
-use Rattle.std.proofs.lemmas.Bool.Decides.{nat_tests}
-use Rattle.jf_path.specs.Keys.{key_cmp, IsKey}
+use Rattle.std.specs.Ordering.{nat_cmp, ordering_then}
+use Rattle.jf_path.specs.Keys.{IsKey, key_cmp}
 use Rattle.jf_path.specs.Nibbles.{nibble}
-use Rattle.jf_path.specs.NibbleLaws.{nibble-even, nibble-odd}
+use Rattle.jf_path.proofs.NibbleLaws.{nibble-even, nibble-odd}
 use Rattle.jf_hash.specs.Maps.{Batch, IsBatch}
-use Rattle.jf_hash.specs.KeyOrder.{sorted-rises}
+use Rattle.jf_hash.proofs.KeyOrder.{sorted-rises}
 use Rattle.jf_split.specs.Pieces.{AgreeBefore}
 
 -- the lesser of two lists has no greater first number

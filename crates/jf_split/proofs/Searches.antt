@@ -1,27 +1,12 @@
 -- A binary search of a batch ends at the place of the key, or at its gap.
-use Rattle.std.proofs.Common.{◌≡◌, ℕ, ◌<◌, ◌≤◌, List, length, get_or, sym, subst, arith, T, Less, Equal, Greater, Ordering, Option, Result, Ok, Err, refl, IfOk, IfErr, eq-or-lt_of_le, inl, inr}
-use Rattle.std.specs.Ordering.{ordering_index}
-use Rattle.std.specs.List.Sorted.{IsSearchInRange, IsBinarySearchResult}
+use Rattle.std.proofs.Common.{ℕ, ◌<◌, ◌≤◌, List, length, get_or, subst, arith, T, Option, eq-or-lt_of_le, inl, inr, Result, Ok, Err, IfOk, IfErr}
 use Rattle.std.specs.FinMap.{is_sorted}
-use Rattle.std.specs.Cmp.Lexicographic.{nat_list_cmp_total}
+use Rattle.std.specs.List.Sorted.{IsSearchInRange, IsBinarySearchResult}
+use Rattle.std.specs.Ordering.{ordering_index}
 use Rattle.jf_path.specs.Keys.{key_cmp}
 use Rattle.jf_hash.specs.Maps.{Batch}
-use Rattle.jf_hash.specs.KeyOrder.{same_key-exact, sorted-rises}
+use Rattle.jf_hash.proofs.KeyOrder.{sorted-rises, no_higher, same_key-exact}
 use Rattle.jf_split.specs.Places.{IsPlaceOf, IsGapFor}
-
-highest : (o : Ordering) → ordering_index o ≤ 2
-highest Less = omega arith
-highest Equal = omega arith
-highest Greater = omega arith
-
--- a lesser key compares no higher
-no_higher : (a b k : List ℕ) → key_cmp a b ≡ Less → ordering_index (key_cmp a k) ≤ ordering_index (key_cmp b k)
-no_higher a b k lt =
-    elim (key_cmp b k) as (λ r. key_cmp b k ≡ r → ordering_index (key_cmp a k) ≤ ordering_index r) [
-      | Less ↦ λ is. subst (λ r. ordering_index r ≤ 0) (sym (nat_list_cmp_total.trans a b k lt is)) (omega arith)
-      | Equal ↦ λ is. subst (λ r. ordering_index r ≤ 1) (sym (subst (λ q. key_cmp a q ≡ Less) (same_key-exact b k is) lt)) (omega arith)
-      | Greater ↦ λ is. highest (key_cmp a k)
-    ] refl
 
 no_fall : (k : List ℕ) (b : Batch) (i j : ℕ) (d : List ℕ × Option (List ℕ)) → T (is_sorted key_cmp b) → i ≤ j → j < length b → ordering_index (key_cmp (get_or b i d).0 k) ≤ ordering_index (key_cmp (get_or b j d).0 k)
 no_fall k b i j d sorted le within = elim (eq-or-lt_of_le le) [

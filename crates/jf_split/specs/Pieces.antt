@@ -1,17 +1,14 @@
 -- The pieces of a batch at a depth: one for each nibble that its keys have there.
-use Rattle.std.specs.Prelude.{◌≡◌, ℕ, ◌<◌, ◌==◌, List, [], ◌∷◌, length, filter, All, AllPairs}
+use Rattle.std.specs.Prelude.{◌≡◌, ℕ, ◌<◌, AllPairs, List, [], ◌∷◌, length, All}
 use Rattle.std.specs.List.{slice_range}
 use Rattle.jf_path.specs.Nibbles.{nibble}
 use Rattle.jf_hash.specs.Maps.{Batch}
+use Rattle.jf_hash.specs.Slots.{with_nibble}
 use Rattle.jf_split.specs.declared.piece.Piece.{Piece}
 
 -- any two keys have the same first `depth` nibbles
 abbrev pub AgreeBefore : ℕ → Batch → Type 0
 AgreeBefore depth b = AllPairs (λ e f. (i : ℕ) → i < depth → nibble e.0 i ≡ nibble f.0 i) b
-
--- the entries whose keys have nibble n at a depth, in their order
-abbrev pub with_nibble : ℕ → ℕ → Batch → Batch
-with_nibble depth n b = filter (λ e. nibble e.0 depth == n) b
 
 -- the entries from a piece's start up to its end
 abbrev pub entries_of : Batch → Piece → Batch

@@ -1,7 +1,7 @@
 // The index tells which nodes may be deleted when the floor rises: those marked stale since a version up to it.
 ghost use Rattle.std.specs.Prelude.{◌≡◌, ◌≤◌, ◌<◌, ◌↔◌, [], ◌∷◌, length, All, Contains, IsTrue, IsNone, IfSome, IfNone, OnOk, OnErr};
 ghost use Rattle.std.specs.declared.cmp.Ordering.TheVariants.{Less};
-ghost use Rattle.jf_stale.specs.Marks.{IsAscending, mark_cmp, with_mark, without_mark};
+ghost use Rattle.jf_stale.specs.Marks.{AreAscendingMarks, mark_cmp, with_mark, without_mark};
 
 use jf_path::{Memory, NodeName};
 use std::alloc::Global;
@@ -17,13 +17,13 @@ pub struct StaleIndex {
 
 impl Model for StaleIndex {
     ghost use Rattle.std.specs.Prelude.{List};
-    ghost use Rattle.jf_stale.specs.Marks.{Mark, IsAscending};
+    ghost use Rattle.jf_stale.specs.Marks.{Mark, AreAscendingMarks};
 
     ghost Value = { List Mark };
 
     ghost view = { λ s. s.marks.keys };
 
-    ghost invariant = { λ s. IsAscending s.marks.keys };
+    ghost invariant = { λ s. AreAscendingMarks s.marks.keys };
 }
 
 impl StaleIndex {
@@ -39,7 +39,7 @@ impl StaleIndex {
     /// The number of marks.
     pub fn len(&self) -> u64
         ensures count { result ≡ length self.now }
-        ensures ascending { IsAscending self.now }
+        ensures ascending { AreAscendingMarks self.now }
     {
         self.marks.len() as u64
     }

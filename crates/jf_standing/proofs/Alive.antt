@@ -1,16 +1,17 @@
 -- The node that is alive at a path, of which there is at most one, and what a node depends on.
-use Rattle.std.proofs.Common.{◌≡◌, ℕ, ◌≤◌, Bool, true, List, [], ◌∷◌, map, filter, Contains, refl, ap}
 use Rattle.std.specs.Prelude.{slice_index_or}
+use Rattle.std.proofs.Common.{◌≡◌, List, [], ◌∷◌, map, Contains, ap, ℕ, ◌≤◌, filter, Bool, true, refl}
 use Rattle.std.specs.List.{count_by}
+use Rattle.jf_path.proofs.ListLaws.{Contains-first}
+use Rattle.jf_path.proofs.FilterLaws.{Contains-filter, filter-Contains, filter-passes}
 use Rattle.jf_hash.specs.Slots.{Part}
 use Rattle.jf_model.specs.Nodes.{Path, plain_node}
-use Rattle.jf_landing.specs.Elements.{Contains-first, Contains-filter, filter-Contains, filter-passes}
-use Rattle.jf_landing.specs.PlainLaws.{plain_node-versions}
+use Rattle.jf_walk.proofs.PlainLaws.{plain_node-versions}
 use Rattle.jf_standing.specs.Named.{Named, is_at, alive_at, version_at}
 use Rattle.jf_standing.proofs.Lists.{none_in_nothing}
 use Rattle.jf_standing.proofs.Counts.{count-one}
-use Rattle.jf_standing.proofs.Steps.{parts_at}
 use Rattle.jf_standing.proofs.Unmoved.{at-so}
+use Rattle.jf_standing.proofs.Steps.{parts_at}
 
 first_version : (ns : List Named) (n : Named) → Contains ns n → ((m : Named) → Contains ns m → m ≡ n) → slice_index_or (map (λ m. m.0.version) ns) 0 0 ≡ n.0.version
 first_version [] n has one = absurd (none_in_nothing n has)

@@ -1,39 +1,39 @@
 -- A checkpoint's nodes are sound exactly if they equal what is built anew from the maps and versions read off them.
-use Rattle.std.proofs.Common.{◌≡◌, ◌↔◌, ℕ, zero, suc, ◌+◌, ◌-◌, ◌<◌, ◌≤◌, ◌^◌, true, List, [], ◌∷◌, map, filter, drop, length, Contains, refl, sym, ap, ◌∙◌, subst, arith}
+use Rattle.std.specs.Prelude.{slice_index_or, IsTrue}
+use Rattle.std.proofs.Common.{ℕ, ◌-◌, ◌≤◌, List, [], ◌∷◌, map, Contains, arith, filter, ◌≡◌, ◌+◌, ◌<◌, ◌^◌, true, drop, refl, subst, zero, suc, length, sym, ap, ◌∙◌, ◌↔◌}
 use Rattle.std.proofs.lemmas.List.{length-drop, reverse-reverse}
 use Rattle.std.proofs.lemmas.List.Sorted.{Contains-permutation, IsPermutation-sym}
-use Rattle.std.specs.Prelude.{IsTrue, slice_index_or}
-use Rattle.std.specs.List.Sorted.{IsPermutation}
 use Rattle.std.specs.FinMap.{entries, len}
-use Rattle.jf_path.specs.Names.{name_cmp, rise}
-use Rattle.jf_path.specs.NameLaws.{name_cmp_total}
+use Rattle.std.specs.List.Sorted.{IsPermutation}
 use Rattle.jf_path.specs.declared.name.NodeName.{NodeName}
 use Rattle.jf_path.specs.declared.node.PlainNode.{PlainNode}
-use Rattle.jf_hash.specs.Maps.{Map, IsMap}
+use Rattle.jf_path.specs.Names.{name_cmp, are_rising}
+use Rattle.jf_path.specs.NameLaws.{name_cmp_total}
+use Rattle.jf_path.proofs.ListLaws.{Contains-first, Contains-map}
+use Rattle.jf_path.proofs.FilterLaws.{filter-Contains, filter-passes}
+use Rattle.jf_hash.specs.Maps.{IsMap, Map}
 use Rattle.jf_hash.specs.Roots.{root}
 use Rattle.jf_model.specs.Nodes.{Path, is_node}
 use Rattle.jf_codec.specs.declared.format.Format.{Format}
-use Rattle.jf_landing.specs.Elements.{Contains-first, Contains-map, filter-Contains, filter-passes}
-use Rattle.jf_standing.specs.Named.{Named, never, is_alive, is_at, alive_at, version_at, map_at}
-use Rattle.jf_standing.specs.Order.{by_name}
-use Rattle.jf_standing.specs.Standing.{Standing, versions_of, with_nodes}
-use Rattle.jf_standing.specs.Sound.{IsSound}
-use Rattle.jf_standing.specs.Taking.{Gives}
+use Rattle.jf_standing.specs.Named.{Named, is_alive, is_at, alive_at, version_at, never, map_at}
+use Rattle.jf_standing.specs.Standing.{Standing, with_nodes, versions_of}
 use Rattle.jf_standing.specs.Next.{IsReadStanding}
-use Rattle.jf_standing.specs.Building.{landed_on, built, up_from, floor_of, rebuilt, apart, as_named, nodes_by_name, checkpoint_of}
-use Rattle.jf_standing.proofs.Lists.{map-which}
+use Rattle.jf_standing.specs.Building.{floor_of, rebuilt, nodes_by_name, landed_on, built, up_from, apart, as_named, checkpoint_of}
+use Rattle.jf_standing.specs.Sound.{IsSound}
+use Rattle.jf_standing.specs.Order.{by_name}
+use Rattle.jf_standing.specs.Taking.{GivesStanding}
 use Rattle.jf_standing.proofs.Sinces.{alive-tells}
-use Rattle.jf_standing.proofs.Ordered.{same_sorted}
-use Rattle.jf_standing.proofs.Names.{same_name-exact, rise-sorted, sorted-by_name}
 use Rattle.jf_standing.proofs.Leaves.{IsMap-map_at}
 use Rattle.jf_standing.proofs.Floor.{floor-sound, map-floor, version-floor}
+use Rattle.jf_standing.proofs.Built.{IsBuilt, built-maps}
 use Rattle.jf_standing.proofs.Reordered.{moved-sound, moved-versions}
 use Rattle.jf_standing.proofs.ByName.{nodes-moved}
-use Rattle.jf_standing.proofs.Built.{IsBuilt, built-maps}
+use Rattle.jf_standing.proofs.Lists.{map-which}
+use Rattle.jf_standing.proofs.Ordered.{same_sorted}
+use Rattle.jf_standing.proofs.Names.{same_name-exact, are_rising-sorted, sorted-by_name}
 use Rattle.jf_standing.proofs.OneStanding.{same-standing}
 
 -- ---- the version at a path: that of a node alive there, or 0
-
 first_low : (ns : List Named) (most : ℕ) → ((n : Named) → Contains ns n → n.0.version ≤ most) → slice_index_or (map (λ n. n.0.version) ns) 0 0 ≤ most
 first_low [] most low = omega arith
 first_low (n ∷ ns) most low = low n (Contains-first n ns)
@@ -42,7 +42,6 @@ pub version-at_most : (w : ℕ) (ns : List Named) (p : Path) → version_at w ns
 version-at_most w ns p = first_low (filter (is_at p) (alive_at w ns)) w (λ n has. (alive-tells w n (filter-passes (is_alive w) ns n (filter-Contains (is_at p) (alive_at w ns) n has))).0)
 
 -- ---- any list of nodes
-
 module _ (fmt : Format) (s : Standing) (read : IsReadStanding s) (top : version_at s.floor s.nodes [] ≡ s.floor) (room : (w : ℕ) → s.floor ≤ w → w ≤ s.head → len (map_at w s.nodes) ≤ 2 ^ 63) where
   pub floor_built : IsBuilt fmt (λ w. map_at w s.nodes) (version_at s.floor s.nodes) s.base s.floor s.floor (floor_of fmt s)
   floor_built =
@@ -86,7 +85,6 @@ module _ (fmt : Format) (s : Standing) (read : IsReadStanding s) (top : version_
       subst (IsSound fmt) (let e : with_nodes (nodes_by_name t.nodes) t ≡ s = λ i. record { base = b i; floor = f i; head = h i; roots = same_roots i; nodes = same_nodes i } in e) sound
 
 -- ---- nodes of a sound standing
-
 drop-step : (i : ℕ) (xs : List (List ℕ)) (x : List ℕ) → i < length xs → slice_index_or xs i [] ≡ x → x ∷ drop (i + 1) xs ≡ drop i xs
 drop-step i [] x lt is = absurd (omega arith)
 drop-step zero (y ∷ ys) x lt is = ap (λ z. z ∷ ys) (sym is)
@@ -111,9 +109,9 @@ forth [] = refl
 forth (e ∷ es) = ap (λ t. e ∷ t) (forth es)
 
 -- nodes whose names rise are those of a list in order if both have the same nodes
-pub same-by_name : (xs ys : List Named) → IsTrue (rise (map (λ n. n.0) ys)) → ((n : Named) → Contains (nodes_by_name xs) n → Contains ys n) → ((n : Named) → Contains ys n → Contains (nodes_by_name xs) n) → nodes_by_name xs ≡ ys
+pub same-by_name : (xs ys : List Named) → IsTrue (are_rising (map (λ n. n.0) ys)) → ((n : Named) → Contains (nodes_by_name xs) n → Contains ys n) → ((n : Named) → Contains ys n → Contains (nodes_by_name xs) n) → nodes_by_name xs ≡ ys
 same-by_name xs ys rises there here =
-    ap (map as_named) (same_sorted name_cmp name_cmp_total same_name-exact (by_name (map apart xs)) (map apart ys) (sorted-by_name (map apart xs)) (rise-sorted (map apart ys) (subst (λ ns. IsTrue (rise ns)) (sym (apart_names ys)) rises))
+    ap (map as_named) (same_sorted name_cmp name_cmp_total same_name-exact (by_name (map apart xs)) (map apart ys) (sorted-by_name (map apart xs)) (are_rising-sorted (map apart ys) (subst (λ ns. IsTrue (are_rising ns)) (sym (apart_names ys)) rises))
     (λ e has. Contains-map apart ys (as_named e) (there (as_named e) (Contains-map as_named (by_name (map apart xs)) e has)))
     (λ e has.
     let n = map-which apart ys e has in
@@ -154,8 +152,7 @@ checkpoint-decided fmt s read = (
 )
 
 -- ---- the checkpoint of a sound standing
-
-pub checkpoint-given : (fmt : Format) (generation : ℕ) (s : Standing) → IsSound fmt s → Gives fmt (checkpoint_of generation s) (with_nodes (nodes_by_name s.nodes) s) × IsPermutation s.nodes (nodes_by_name s.nodes) × (versions_of (with_nodes (nodes_by_name s.nodes) s) ≡ versions_of s)
+pub checkpoint-given : (fmt : Format) (generation : ℕ) (s : Standing) → IsSound fmt s → GivesStanding fmt (checkpoint_of generation s) (with_nodes (nodes_by_name s.nodes) s) × IsPermutation s.nodes (nodes_by_name s.nodes) × (versions_of (with_nodes (nodes_by_name s.nodes) s) ≡ versions_of s)
 checkpoint-given fmt generation s sound =
     let moved = nodes-moved fmt s sound in
     ((moved-sound fmt s (nodes_by_name s.nodes) sound moved, ap (λ rs. record { base = s.base; floor = s.floor; head = s.head; roots = rs; nodes = nodes_by_name s.nodes }) (sym (reverse-reverse s.roots))), moved, moved-versions fmt s (nodes_by_name s.nodes) sound moved)

@@ -1,47 +1,48 @@
 -- After a landing of a map on a sound standing, the nodes alive are those of the new map.
-use Rattle.std.proofs.Common.{◌≡◌, ℕ, ◌+◌, ◌<◌, Bool, true, false, ◌&&◌, cond, List, [], ◌∷◌, ◌++◌, map, length, Contains, refl, sym, ap, ◌∙◌, subst, arith, true≢false}
-use Rattle.std.specs.List.{IsDistinct}
+use Rattle.std.proofs.Common.{◌≡◌, false, Contains, ◌+◌, ◌<◌, List, Bool, true, ◌&&◌, refl, sym, ap, ◌∙◌, subst, arith, true≢false, cond, [], ◌∷◌, ◌++◌, length, ℕ, map}
 use Rattle.std.specs.FinMap.{entries}
+use Rattle.std.specs.List.{IsDistinct}
+use Rattle.jf_path.proofs.FilterLaws.{Contains-filter, filter-Contains, filter-passes}
+use Rattle.jf_path.proofs.ListLaws.{All-of}
 use Rattle.jf_hash.specs.Maps.{Map, IsMap, same_key}
 use Rattle.jf_hash.specs.Slots.{Part}
-use Rattle.jf_model.specs.Nodes.{Path, under, is_node, is_fresh, plain_node, fresh}
+use Rattle.jf_model.specs.Nodes.{is_fresh, Path, fresh, under, is_node, plain_node}
 use Rattle.jf_codec.specs.declared.format.Format.{Format}
-use Rattle.jf_landing.specs.Elements.{All-of, Contains-filter, filter-Contains, filter-passes}
-use Rattle.jf_standing.specs.Named.{Named, never, is_alive, is_at, alive_at, version_at, leaf_entries, map_at}
+use Rattle.jf_standing.specs.Named.{Named, alive_at, never, is_alive, is_at, version_at, map_at, leaf_entries}
 use Rattle.jf_standing.specs.Standing.{Standing, is_named, unmarked}
-use Rattle.jf_standing.specs.Sound.{is_counted, IsSound}
-use Rattle.jf_standing.specs.Landing.{head_map, version_after, written_node}
-use Rattle.jf_standing.proofs.Lists.{one-true, map-which}
-use Rattle.jf_standing.proofs.Counts.{count-some, count-which}
+use Rattle.jf_standing.specs.Landing.{head_map, written_node, version_after}
+use Rattle.jf_standing.specs.Sound.{IsSound, is_counted}
+use Rattle.jf_standing.proofs.Marks.{nodes_after_commit, marked-yes, marked-not}
+use Rattle.jf_standing.proofs.Placed.{landing, placed}
+use Rattle.jf_standing.proofs.Lists.{map-which, one-true}
 use Rattle.jf_standing.proofs.Sinces.{alive-tells, alive-so, alive-not, version-low}
+use Rattle.jf_standing.proofs.Found.{nodes_after_commit-cases, test_so}
+use Rattle.jf_standing.proofs.Written.{names-stale}
+use Rattle.jf_standing.proofs.Counts.{count-some, count-which}
 use Rattle.jf_standing.proofs.Stands.{stands}
-use Rattle.jf_standing.proofs.Marks.{marked-yes, marked-not, behind}
-use Rattle.jf_standing.proofs.Unmoved.{at-tells, at-so}
+use Rattle.jf_standing.proofs.Unmoved.{at-so, at-tells}
+use Rattle.jf_standing.proofs.Freshness.{stale-node, kept-both, listed-fresh, kept-step, same-step, child-node}
 use Rattle.jf_standing.proofs.Alive.{version-of, plain_node-same}
 use Rattle.jf_standing.proofs.Unique.{few-alive, few-stand}
-use Rattle.jf_standing.proofs.Found.{behind-cases, test_so}
 use Rattle.jf_standing.proofs.Steps.{parts_at}
-use Rattle.jf_standing.proofs.Freshness.{stale-node, kept-both, kept-step, same-step, child-node, listed-fresh}
-use Rattle.jf_standing.proofs.Written.{names-stale}
-use Rattle.jf_standing.proofs.Placed.{landing, placed}
 use Rattle.jf_standing.proofs.LeafMaps.{HasNodes, leaves-map, leaves-apart}
 
 -- a node that stood before the landing and isn't named by it
-pub record IsKept (s : Standing) (m : Map) (n : Named) : Type 0 where
+pub record StandsUnnamed (s : Standing) (m : Map) (n : Named) : Type 0 where
   pub stood : Contains s.nodes n
   pub alive : Contains (alive_at s.head s.nodes) n
   pub stays : is_fresh (entries m) (entries (head_map s)) n.0.path ≡ false
 
 module _ (fmt : Format) (s : Standing) (m : Map) (sound : IsSound fmt s) (keys : IsMap (head_map s)) (own_keys : IsMap m) (last : s.head + 1 < never) where
   abbrev pub now : List Named
-  now = behind (landing fmt s m sound keys own_keys last) s.nodes
+  now = nodes_after_commit (landing fmt s m sound keys own_keys last) s.nodes
 
   -- a node alive after the landing was kept, or is written by the landing
-  pub alive-cases : {P : Type 0} (n : Named) → Contains (alive_at (s.head + 1) now) n → (IsKept s m n → P) → ((x : Path × Part) → Contains (fresh (head_map s) m) x → unmarked (written_node fmt s m x) ≡ n → P) → P
+  pub alive-cases : {P : Type 0} (n : Named) → Contains (alive_at (s.head + 1) now) n → (StandsUnnamed s m n → P) → ((x : Path × Part) → Contains (fresh (head_map s) m) x → unmarked (written_node fmt s m x) ≡ n → P) → P
   alive-cases {P} n has kept written =
       let c = landing fmt s m sound keys own_keys last in
       let n_alive = filter-passes (is_alive (s.head + 1)) now n has in
-      behind-cases c s.nodes n (filter-Contains (is_alive (s.head + 1)) now n has)
+      nodes_after_commit-cases c s.nodes n (filter-Contains (is_alive (s.head + 1)) now n has)
       (λ k stood same. elim (is_named k.0 c.stale) as (λ b. is_named k.0 c.stale ≡ b → P) [
         | true ↦ λ named. absurd (true≢false (sym n_alive ∙ ap (is_alive (s.head + 1)) (sym same ∙ marked-yes c k named) ∙ alive-not (s.head + 1) (k.0, k.1, s.head + 1) (omega arith)))
         | false ↦ λ free.
@@ -64,7 +65,7 @@ module _ (fmt : Format) (s : Standing) (m : Map) (sound : IsSound fmt s) (keys :
       rest false b is h = absurd (true≢false (sym is))
 
   -- a kept node is a node of both maps, with the same part
-  kept_part : (n : Named) → IsKept s m n → (is_node 0 n.0.path (entries m) ≡ true) × (under 0 n.0.path (entries m) ≡ under 0 n.0.path (entries (head_map s))) × (is_node 0 n.0.path (entries (head_map s)) ≡ true)
+  kept_part : (n : Named) → StandsUnnamed s m n → (is_node 0 n.0.path (entries m) ≡ true) × (under 0 n.0.path (entries m) ≡ under 0 n.0.path (entries (head_map s))) × (is_node 0 n.0.path (entries (head_map s)) ≡ true)
   kept_part n kept =
       let node = test_so _ _ (stands fmt s sound s.head sound.floor_low (omega arith) n.0.path) (count-some (is_at n.0.path) (alive_at s.head s.nodes) n kept.alive (at-so n.0.path n refl)) in
       let both = stale-node (entries m) (entries (head_map s)) n.0.path node kept.stays in

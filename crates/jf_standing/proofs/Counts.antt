@@ -1,9 +1,9 @@
 -- The number of elements of a list that pass a test.
-use Rattle.std.proofs.Common.{◌≡◌, ◌+◌, ◌≤◌, Bool, true, false, ◌&&◌, cond, List, [], ◌∷◌, ◌++◌, map, filter, Contains, refl, sym, ap, ap₂, ◌∙◌, subst, arith}
-use Rattle.std.specs.List.{AllByRecursion, count_by}
+use Rattle.std.proofs.Common.{◌≡◌, ◌+◌, Bool, List, ◌∷◌, ◌++◌, [], refl, sym, ap₂, ◌∙◌, false, arith, true, ◌&&◌, cond, filter, ap, ◌≤◌, Contains, subst, map}
 use Rattle.std.proofs.lemmas.List.Sums.{sum_by-cons, sum_by-append}
-use Rattle.jf_landing.specs.Elements.{Contains-first, Contains-later}
-use Rattle.jf_standing.proofs.Lists.{one, one-true, one-false, Contains-cases, none_in_nothing}
+use Rattle.std.specs.List.{count_by, AllByRecursion}
+use Rattle.jf_path.proofs.ListLaws.{Contains-first, Contains-later}
+use Rattle.jf_standing.proofs.Lists.{one, one-false, one-true, Contains-cases, none_in_nothing}
 
 module _ {X : Type 0} where
   pub count-cons : (p : X → Bool) (x : X) (xs : List X) → count_by p (x ∷ xs) ≡ one (p x) + count_by p xs

@@ -1,23 +1,24 @@
 -- A landing that was read is sound exactly if it is a landing of the batch that is read off it.
-use Rattle.std.proofs.Common.{◌≡◌, ◌↔◌, ◌+◌, ◌<◌, ◌≤◌, ◌^◌, filter, sym, ap, ◌∙◌, subst, arith}
+use Rattle.std.proofs.Common.{filter, ◌≡◌, sym, subst, ◌↔◌, ◌+◌, ◌<◌, ◌≤◌, ◌^◌, ap, ◌∙◌, arith}
 use Rattle.std.specs.FinMap.{len}
 use Rattle.jf_path.specs.Keys.{IsKey, IsBytes}
-use Rattle.jf_hash.specs.Maps.{IsMap, IsBatch, apply}
-use Rattle.jf_model.specs.Changes.{IsMap-apply}
+use Rattle.jf_path.proofs.ListLaws.{All-of}
+use Rattle.jf_path.proofs.FilterLaws.{filter-Contains}
+use Rattle.jf_hash.specs.Maps.{IsBatch, IsMap, apply}
+use Rattle.jf_model.proofs.ChangeLaws.{IsMap-apply}
 use Rattle.jf_codec.specs.declared.format.Format.{Format}
-use Rattle.jf_landing.specs.Elements.{All-of, filter-Contains}
-use Rattle.jf_standing.specs.Named.{never, leaf_entries, AreEntries, map_at}
-use Rattle.jf_standing.specs.Standing.{Standing, is_named, with_commit}
-use Rattle.jf_standing.specs.Sound.{IsSound}
-use Rattle.jf_standing.specs.Landing.{head_map, fresh_leaves, stale_leaves, batch_of, landing_of, IsInOrder}
-use Rattle.jf_standing.specs.Taking.{Continues}
 use Rattle.jf_payload.specs.declared.records.Commit.{Commit}
+use Rattle.jf_standing.specs.Named.{leaf_entries, AreEntries, map_at, never}
+use Rattle.jf_standing.specs.Standing.{Standing, is_named, with_commit}
+use Rattle.jf_standing.specs.Landing.{fresh_leaves, stale_leaves, batch_of, head_map, landing_of, IsInOrder}
+use Rattle.jf_standing.specs.Sound.{IsSound}
+use Rattle.jf_standing.specs.Taking.{Continues}
 use Rattle.jf_standing.proofs.Lists.{All-each_element}
 use Rattle.jf_standing.proofs.Leaves.{leaf-which, leaf-so, IsMap-map_at}
-use Rattle.jf_standing.proofs.Landed.{landing-found}
-use Rattle.jf_standing.proofs.Lands.{lands, continues}
 use Rattle.jf_standing.proofs.Batches.{by_key-IsBatch}
+use Rattle.jf_standing.proofs.Landed.{landing-found}
 use Rattle.jf_standing.proofs.ReadBack.{map-read}
+use Rattle.jf_standing.proofs.Lands.{lands, continues}
 
 -- what is read off a landing is a batch
 pub read-IsBatch : (s : Standing) (c : Commit) → AreEntries (leaf_entries s.nodes) → AreEntries (fresh_leaves c) → IsBatch (batch_of s c)

@@ -1,39 +1,40 @@
 -- A landing that leaves a sound standing has written exactly what a landing of the map after it writes.
-use Rattle.std.proofs.Common.{◌≡◌, ℕ, ◌+◌, ◌-◌, ◌≤◌, Bool, true, false, cond, inl, inr, List, [], ◌∷◌, ◌++◌, map, length, Contains, refl, sym, ap, ap₂, ◌∙◌, subst, arith, true≢false}
-use Rattle.std.proofs.lemmas.List.Elements.{Contains-append_cases, Contains-append_right}
 use Rattle.std.specs.Prelude.{IsTrue}
-use Rattle.std.specs.List.{count_by}
+use Rattle.std.proofs.Common.{◌≡◌, ◌-◌, inl, inr, List, map, Contains, ℕ, ◌≤◌, Bool, true, false, cond, refl, arith, ap, ◌∙◌, subst, sym, ◌+◌, true≢false, [], ◌∷◌, ◌++◌, length, ap₂}
+use Rattle.std.proofs.lemmas.List.Elements.{Contains-append_cases, Contains-append_right}
 use Rattle.std.specs.FinMap.{entries}
-use Rattle.jf_path.specs.Names.{name_cmp, rise}
-use Rattle.jf_path.specs.NameLaws.{name_cmp_total}
+use Rattle.std.specs.List.{count_by}
 use Rattle.jf_path.specs.declared.name.NodeName.{NodeName}
 use Rattle.jf_path.specs.declared.node.PlainNode.{PlainNode}
+use Rattle.jf_path.specs.Names.{name_cmp, are_rising}
+use Rattle.jf_path.specs.NameLaws.{name_cmp_total}
+use Rattle.jf_path.proofs.FilterLaws.{Contains-filter, filter-Contains, filter-passes}
+use Rattle.jf_path.proofs.ListLaws.{All-of, Contains-map}
 use Rattle.jf_hash.specs.Maps.{Map, IsMap}
-use Rattle.jf_model.specs.Nodes.{Path, under, is_node, is_fresh, fresh}
+use Rattle.jf_model.specs.Nodes.{is_fresh, Path, is_node, under, fresh}
 use Rattle.jf_codec.specs.declared.format.Format.{Format}
-use Rattle.jf_landing.specs.FreshOrder.{sorted-fresh}
-use Rattle.jf_landing.specs.Elements.{All-of, Contains-filter, Contains-map, filter-Contains, filter-passes}
-use Rattle.jf_standing.specs.Named.{Named, is_alive, is_written, is_at, alive_at, written_at, stale_at, version_at, map_at}
-use Rattle.jf_standing.specs.Standing.{Standing, is_named, marked, unmarked, with_commit}
-use Rattle.jf_standing.specs.Sound.{is_counted, StandAt, IsSound, IsStep}
-use Rattle.jf_standing.specs.Landing.{head_map, version_after, written_node}
-use Rattle.jf_standing.specs.Taking.{Continues}
 use Rattle.jf_payload.specs.declared.records.Commit.{Commit}
-use Rattle.jf_standing.proofs.Lists.{one-true, map-which}
-use Rattle.jf_standing.proofs.Counts.{count-some, count-which}
-use Rattle.jf_standing.proofs.Sinces.{alive-tells, alive-so, alive-not, version-low}
-use Rattle.jf_standing.proofs.Marks.{marked-name, marked-yes, marked-not, behind, map-behind}
-use Rattle.jf_standing.proofs.Unmoved.{at-tells, at-so, alive-there, unmoved}
+use Rattle.jf_walk.proofs.FreshOrder.{sorted-fresh}
+use Rattle.jf_standing.specs.Named.{Named, map_at, written_at, stale_at, is_at, alive_at, is_alive, is_written, version_at}
+use Rattle.jf_standing.specs.Standing.{marked, unmarked, Standing, with_commit, is_named}
+use Rattle.jf_standing.specs.Sound.{IsSound, IsStep, StandAt, is_counted}
+use Rattle.jf_standing.specs.Taking.{Continues}
+use Rattle.jf_standing.specs.Landing.{head_map, version_after, written_node}
+use Rattle.jf_standing.proofs.Lists.{map-which, one-true}
+use Rattle.jf_standing.proofs.Marks.{nodes_after_commit, map-nodes_after_commit, marked-name, marked-yes, marked-not}
+use Rattle.jf_standing.proofs.Unmoved.{unmoved, at-tells, at-so, alive-there}
 use Rattle.jf_standing.proofs.Unique.{few-alive}
+use Rattle.jf_standing.proofs.Sinces.{alive-so, version-low, alive-tells, alive-not}
+use Rattle.jf_standing.proofs.Counts.{count-some, count-which}
 use Rattle.jf_standing.proofs.Alive.{version-of, plain_node-same}
-use Rattle.jf_standing.proofs.Ordered.{same_sorted}
-use Rattle.jf_standing.proofs.Names.{same_name-exact, rise-sorted}
-use Rattle.jf_standing.proofs.Freshness.{fresh-node, child-node, fresh-listed, listed-fresh, sorted-written}
 use Rattle.jf_standing.proofs.Numbers.{same_number, number_tells}
+use Rattle.jf_standing.proofs.Ordered.{same_sorted}
+use Rattle.jf_standing.proofs.Names.{same_name-exact, are_rising-sorted}
+use Rattle.jf_standing.proofs.Freshness.{fresh-node, child-node, fresh-listed, listed-fresh, sorted-written}
 
 -- a node after a landing stood before, or is written by the landing
-pub behind-cases : {P : Type 0} (c : Commit) (ns : List Named) (n : Named) → Contains (behind c ns) n → ((m : Named) → Contains ns m → marked c m ≡ n → P) → ((x : NodeName × PlainNode) → Contains c.fresh x → unmarked x ≡ n → P) → P
-behind-cases c ns n has stood own = elim (Contains-append_cases (map (marked c) ns) (map unmarked c.fresh) n has) [
+pub nodes_after_commit-cases : {P : Type 0} (c : Commit) (ns : List Named) (n : Named) → Contains (nodes_after_commit c ns) n → ((m : Named) → Contains ns m → marked c m ≡ n → P) → ((x : NodeName × PlainNode) → Contains c.fresh x → unmarked x ≡ n → P) → P
+nodes_after_commit-cases c ns n has stood own = elim (Contains-append_cases (map (marked c) ns) (map unmarked c.fresh) n has) [
   | inl left ↦ let m = map-which (marked c) ns n left in stood m.0 m.1 m.2
   | inr right ↦ let x = map-which unmarked c.fresh n right in own x.0 x.1 x.2
 ]
@@ -45,48 +46,48 @@ test_so false n is some = absurd (omega (arith, is, some))
 module _ (fmt : Format) (s : Standing) (c : Commit) (sound : IsSound fmt s) (goes : Continues s c) (behind_sound : IsSound fmt (with_commit c s)) where
   -- the map after the landing
   abbrev pub landed_map : Map
-  landed_map = map_at c.version (behind c s.nodes)
+  landed_map = map_at c.version (nodes_after_commit c s.nodes)
 
-  step : IsStep (behind c s.nodes) c.version
+  step : IsStep (nodes_after_commit c s.nodes) c.version
   step = behind_sound.steps c.version (let next = goes.next in let low = sound.floor_low in omega arith) (omega arith)
 
-  pub map_before : map_at (c.version - 1) (behind c s.nodes) ≡ head_map s
+  pub map_before : map_at (c.version - 1) (nodes_after_commit c s.nodes) ≡ head_map s
   map_before =
-      ap (λ v. map_at v (behind c s.nodes)) (let next = goes.next in let e : c.version - 1 ≡ s.head = omega arith in e)
-      ∙ map-behind c s.head s.nodes (let next = goes.next in omega arith) goes.fresh_own (unmoved fmt s c sound goes behind_sound s.head sound.floor_low (omega arith))
+      ap (λ v. map_at v (nodes_after_commit c s.nodes)) (let next = goes.next in let e : c.version - 1 ≡ s.head = omega arith in e)
+      ∙ map-nodes_after_commit c s.head s.nodes (let next = goes.next in omega arith) goes.fresh_own (unmoved fmt s c sound goes behind_sound s.head sound.floor_low (omega arith))
 
-  pub fresh_stand : StandAt (is_fresh (entries (head_map s)) (entries landed_map)) (written_at c.version (behind c s.nodes))
-  fresh_stand = subst (λ m. StandAt (is_fresh (entries m) (entries landed_map)) (written_at c.version (behind c s.nodes))) map_before step.fresh
+  pub fresh_stand : StandAt (is_fresh (entries (head_map s)) (entries landed_map)) (written_at c.version (nodes_after_commit c s.nodes))
+  fresh_stand = subst (λ m. StandAt (is_fresh (entries m) (entries landed_map)) (written_at c.version (nodes_after_commit c s.nodes))) map_before step.fresh
 
-  pub stale_stand : StandAt (is_fresh (entries landed_map) (entries (head_map s))) (stale_at c.version (behind c s.nodes))
-  stale_stand = subst (λ m. StandAt (is_fresh (entries landed_map) (entries m)) (stale_at c.version (behind c s.nodes))) map_before step.stale
+  pub stale_stand : StandAt (is_fresh (entries landed_map) (entries (head_map s))) (stale_at c.version (nodes_after_commit c s.nodes))
+  stale_stand = subst (λ m. StandAt (is_fresh (entries landed_map) (entries m)) (stale_at c.version (nodes_after_commit c s.nodes))) map_before step.stale
 
-  pub few : (q : Path) → count_by (is_at q) (alive_at c.version (behind c s.nodes)) ≤ 1
+  pub few : (q : Path) → count_by (is_at q) (alive_at c.version (nodes_after_commit c s.nodes)) ≤ 1
   few q = few-alive fmt (with_commit c s) behind_sound c.version (let next = goes.next in let low = sound.floor_low in omega arith) (omega arith) q
 
   pub few_before : (q : Path) → count_by (is_at q) (alive_at s.head s.nodes) ≤ 1
   few_before q = few-alive fmt s sound s.head sound.floor_low (omega arith) q
 
   -- a node that the landing writes is alive after it
-  written_alive : (n : Named) → Contains (behind c s.nodes) n → n.0.version ≡ c.version → Contains (alive_at c.version (behind c s.nodes)) n
-  written_alive n has at = behind-cases c s.nodes n has
+  written_alive : (n : Named) → Contains (nodes_after_commit c s.nodes) n → n.0.version ≡ c.version → Contains (alive_at c.version (nodes_after_commit c s.nodes)) n
+  written_alive n has at = nodes_after_commit-cases c s.nodes n has
       (λ m stood is. absurd (let low = version-low fmt s sound m stood in let same = ap (λ (k : NodeName). k.version) (sym (marked-name c m) ∙ ap (λ (k : Named). k.0) is) in let next = goes.next in omega arith))
-      (λ x own is. Contains-filter (is_alive c.version) (behind c s.nodes) n has (ap (is_alive c.version) (sym is) ∙ alive-so c.version (unmarked x) (let v = ap (λ (k : Named). k.0.version) is in omega arith) behind_sound.head_last))
+      (λ x own is. Contains-filter (is_alive c.version) (nodes_after_commit c s.nodes) n has (ap (is_alive c.version) (sym is) ∙ alive-so c.version (unmarked x) (let v = ap (λ (k : Named). k.0.version) is in omega arith) behind_sound.head_last))
 
-  pub version_found : (q : Path) → is_node 0 q (entries landed_map) ≡ true → version_at c.version (behind c s.nodes) q ≡ version_after s landed_map q
+  pub version_found : (q : Path) → is_node 0 q (entries landed_map) ≡ true → version_at c.version (nodes_after_commit c s.nodes) q ≡ version_after s landed_map q
   version_found q node =
       let next = goes.next in
       let low = sound.floor_low in
       let n = alive-there fmt (with_commit c s) behind_sound c.version (omega arith) (omega arith) q node in
-      let n_in = filter-Contains (is_alive c.version) (behind c s.nodes) n.0 n.1 in
-      let n_alive = filter-passes (is_alive c.version) (behind c s.nodes) n.0 n.1 in
-      elim (is_fresh (entries (head_map s)) (entries landed_map) q) as (λ b. is_fresh (entries (head_map s)) (entries landed_map) q ≡ b → version_at c.version (behind c s.nodes) q ≡ cond b (s.head + 1) (version_at s.head s.nodes q)) [
+      let n_in = filter-Contains (is_alive c.version) (nodes_after_commit c s.nodes) n.0 n.1 in
+      let n_alive = filter-passes (is_alive c.version) (nodes_after_commit c s.nodes) n.0 n.1 in
+      elim (is_fresh (entries (head_map s)) (entries landed_map) q) as (λ b. is_fresh (entries (head_map s)) (entries landed_map) q ≡ b → version_at c.version (nodes_after_commit c s.nodes) q ≡ cond b (s.head + 1) (version_at s.head s.nodes q)) [
         | true ↦ λ is.
-            let m = count-which (is_at q) (written_at c.version (behind c s.nodes)) (omega (arith, fresh_stand q, one-true _ is)) in
-            let m_in = filter-Contains (is_written c.version) (behind c s.nodes) m.0 m.1 in
-            let m_at = number_tells m.0.0.version c.version (filter-passes (is_written c.version) (behind c s.nodes) m.0 m.1) in
-            version-of c.version (behind c s.nodes) q m.0 (few q) (written_alive m.0 m_in m_at) (at-tells q m.0 m.2) ∙ m_at ∙ next
-        | false ↦ λ is. version-of c.version (behind c s.nodes) q n.0 (few q) n.1 n.2 ∙ behind-cases c s.nodes n.0 n_in
+            let m = count-which (is_at q) (written_at c.version (nodes_after_commit c s.nodes)) (omega (arith, fresh_stand q, one-true _ is)) in
+            let m_in = filter-Contains (is_written c.version) (nodes_after_commit c s.nodes) m.0 m.1 in
+            let m_at = number_tells m.0.0.version c.version (filter-passes (is_written c.version) (nodes_after_commit c s.nodes) m.0 m.1) in
+            version-of c.version (nodes_after_commit c s.nodes) q m.0 (few q) (written_alive m.0 m_in m_at) (at-tells q m.0 m.2) ∙ m_at ∙ next
+        | false ↦ λ is. version-of c.version (nodes_after_commit c s.nodes) q n.0 (few q) n.1 n.2 ∙ nodes_after_commit-cases c s.nodes n.0 n_in
             (λ m stood same. elim (is_named m.0 c.stale) as (λ b. is_named m.0 c.stale ≡ b → n.0.0.version ≡ version_at s.head s.nodes q) [
               | true ↦ λ named. absurd (true≢false (sym n_alive ∙ ap (is_alive c.version) (sym same ∙ marked-yes c m named) ∙ alive-not c.version (m.0, m.1, c.version) (omega arith)))
               | false ↦ λ free.
@@ -97,8 +98,8 @@ module _ (fmt : Format) (s : Standing) (c : Commit) (sound : IsSound fmt s) (goe
             ] refl)
             (λ x own same. absurd (
             let v : n.0.0.version ≡ c.version = ap (λ (k : Named). k.0.version) (sym same) ∙ All-of (λ x. x.0.version ≡ c.version) c.fresh x goes.fresh_own own in
-            let there = Contains-filter (is_written c.version) (behind c s.nodes) n.0 n_in (same_number n.0.0.version c.version v) in
-            true≢false (sym (test_so _ _ (fresh_stand q) (count-some (is_at q) (written_at c.version (behind c s.nodes)) n.0 there (at-so q n.0 n.2))) ∙ is)))
+            let there = Contains-filter (is_written c.version) (nodes_after_commit c s.nodes) n.0 n_in (same_number n.0.0.version c.version v) in
+            true≢false (sym (test_so _ _ (fresh_stand q) (count-some (is_at q) (written_at c.version (nodes_after_commit c s.nodes)) n.0 there (at-so q n.0 n.2))) ∙ is)))
       ] refl
 
   -- each node that the landing writes is the one that a landing of the map after it writes there
@@ -109,19 +110,19 @@ module _ (fmt : Format) (s : Standing) (c : Commit) (sound : IsSound fmt s) (goe
       let low = sound.floor_low in
       let v = All-of (λ x. x.0.version ≡ c.version) c.fresh x goes.fresh_own has in
       let stood = Contains-append_right (map (marked c) s.nodes) (map unmarked c.fresh) (unmarked x) (Contains-map unmarked c.fresh x has) in
-      let there = Contains-filter (is_written c.version) (behind c s.nodes) (unmarked x) stood (same_number x.0.version c.version v) in
-      let is = test_so _ _ (fresh_stand p) (count-some (is_at p) (written_at c.version (behind c s.nodes)) (unmarked x) there (at-so p (unmarked x) refl)) in
+      let there = Contains-filter (is_written c.version) (nodes_after_commit c s.nodes) (unmarked x) stood (same_number x.0.version c.version v) in
+      let is = test_so _ _ (fresh_stand p) (count-some (is_at p) (written_at c.version (nodes_after_commit c s.nodes)) (unmarked x) there (at-so p (unmarked x) refl)) in
       let node = fresh-node (entries (head_map s)) (entries landed_map) p is in
-      let content = All-of _ (alive_at c.version (behind c s.nodes)) (unmarked x) (behind_sound.versions c.version (omega arith) (omega arith)).nodes (written_alive (unmarked x) stood v) in (
+      let content = All-of _ (alive_at c.version (nodes_after_commit c s.nodes)) (unmarked x) (behind_sound.versions c.version (omega arith) (omega arith)).nodes (written_alive (unmarked x) stood v) in (
         is,
         ap₂ (λ k y. (record { version = k; path = p }, y)) (v ∙ next)
-            (content ∙ plain_node-same (is_counted fmt) (λ i. version_at c.version (behind c s.nodes) (p ++ i ∷ [])) (λ i. version_after s landed_map (p ++ i ∷ [])) (length p) (under 0 p (entries landed_map)) (λ i some. version_found (p ++ i ∷ []) (child-node (entries landed_map) p i node some))),
+            (content ∙ plain_node-same (is_counted fmt) (λ i. version_at c.version (nodes_after_commit c s.nodes) (p ++ i ∷ [])) (λ i. version_after s landed_map (p ++ i ∷ [])) (length p) (under 0 p (entries landed_map)) (λ i some. version_found (p ++ i ∷ []) (child-node (entries landed_map) p i node some))),
       )
 
-  module _ (own_keys : IsMap landed_map) (fresh_rise : IsTrue (rise (map (λ x. x.0) c.fresh))) where
+  module _ (own_keys : IsMap landed_map) (fresh_rise : IsTrue (are_rising (map (λ x. x.0) c.fresh))) where
     pub fresh_equal : c.fresh ≡ map (written_node fmt s landed_map) (fresh (head_map s) landed_map)
     fresh_equal = same_sorted name_cmp name_cmp_total same_name-exact c.fresh (map (written_node fmt s landed_map) (fresh (head_map s) landed_map))
-        (rise-sorted c.fresh fresh_rise)
+        (are_rising-sorted c.fresh fresh_rise)
         (sorted-written fmt s landed_map (fresh (head_map s) landed_map) (sorted-fresh (head_map s) landed_map))
         (λ x has.
         let found = fresh_found x has in
@@ -129,10 +130,10 @@ module _ (fmt : Format) (s : Standing) (c : Commit) (sound : IsSound fmt s) (goe
         (λ y has.
         let x = map-which (written_node fmt s landed_map) (fresh (head_map s) landed_map) y has in
         let is = listed-fresh (head_map s) landed_map x.0 x.1 in
-        let n = count-which (is_at x.0.0) (written_at c.version (behind c s.nodes)) (omega (arith, fresh_stand x.0.0, one-true _ is.0)) in
-        let n_in = filter-Contains (is_written c.version) (behind c s.nodes) n.0 n.1 in
-        let n_at = number_tells n.0.0.version c.version (filter-passes (is_written c.version) (behind c s.nodes) n.0 n.1) in
-        behind-cases c s.nodes n.0 n_in
+        let n = count-which (is_at x.0.0) (written_at c.version (nodes_after_commit c s.nodes)) (omega (arith, fresh_stand x.0.0, one-true _ is.0)) in
+        let n_in = filter-Contains (is_written c.version) (nodes_after_commit c s.nodes) n.0 n.1 in
+        let n_at = number_tells n.0.0.version c.version (filter-passes (is_written c.version) (nodes_after_commit c s.nodes) n.0 n.1) in
+        nodes_after_commit-cases c s.nodes n.0 n_in
         (λ m stood same. absurd (let up = version-low fmt s sound m stood in let v = ap (λ (k : NodeName). k.version) (sym (marked-name c m) ∙ ap (λ (k : Named). k.0) same) in let next = goes.next in omega arith))
         (λ z own same.
         let at : z.0.path ≡ x.0.0 = ap (λ (k : Named). k.0.path) same ∙ at-tells x.0.0 n.0 n.2 in

@@ -1,49 +1,49 @@
 -- A landing of a map on a sound standing leaves a sound standing.
-use Rattle.std.proofs.Common.{◌≡◌, ◌⊎◌, ℕ, suc, ◌+◌, ◌-◌, ◌<◌, ◌≤◌, ◌^◌, Bool, true, false, ◌&&◌, cond, ◌==◌, inl, inr, List, [], ◌∷◌, ◌++◌, map, length, Contains, refl, sym, ap, ap₂, ◌∙◌, subst, arith, true≢false}
+use Rattle.std.specs.Prelude.{bytes_eq, slice_index_or}
+use Rattle.std.proofs.Common.{◌+◌, ◌<◌, List, ◌≡◌, ℕ, ◌-◌, ◌≤◌, map, arith, ap, ◌∙◌, ◌==◌, Bool, true, false, ◌&&◌, cond, Contains, refl, sym, true≢false, suc, [], ◌∷◌, ◌^◌, ◌++◌, length, subst, ◌⊎◌, inl, inr, ap₂}
 use Rattle.std.proofs.lemmas.Bool.{cases_lt}
-use Rattle.std.specs.Prelude.{slice_index_or, bytes_eq}
-use Rattle.std.specs.List.{IsDistinct, count_by}
 use Rattle.std.specs.FinMap.{entries, len}
+use Rattle.std.specs.List.{count_by, IsDistinct}
+use Rattle.jf_path.proofs.ListLaws.{All-of, Contains-map}
+use Rattle.jf_path.proofs.FilterLaws.{filter-Contains, filter-passes}
 use Rattle.jf_hash.specs.Maps.{Map, IsMap, same_key}
 use Rattle.jf_hash.specs.Roots.{root}
 use Rattle.jf_hash.specs.Slots.{Part}
-use Rattle.jf_model.specs.Nodes.{Path, under, is_node, is_fresh, plain_node, stale}
+use Rattle.jf_model.specs.Nodes.{Path, under, plain_node, is_fresh, stale, is_node}
 use Rattle.jf_codec.specs.declared.format.Format.{Format}
-use Rattle.jf_landing.specs.Elements.{All-of, Contains-map, filter-Contains, filter-passes}
-use Rattle.jf_standing.specs.Named.{Named, never, is_alive, is_written, is_stale, is_at, alive_at, written_at, stale_at, version_at, leaf_entries, map_at}
-use Rattle.jf_standing.specs.Standing.{Standing, is_named, marked, with_commit}
-use Rattle.jf_standing.specs.Sound.{is_counted, StandAt, IsVersion, IsStep, IsSound}
-use Rattle.jf_standing.specs.Landing.{head_map, version_after, name_at_head, stale_names, landing_of}
+use Rattle.jf_standing.specs.Named.{Named, never, alive_at, map_at, version_at, is_at, is_written, written_at, is_alive, is_stale, stale_at, leaf_entries}
+use Rattle.jf_standing.specs.Standing.{Standing, marked, is_named, with_commit}
+use Rattle.jf_standing.specs.Sound.{IsSound, StandAt, is_counted, IsVersion, IsStep}
+use Rattle.jf_standing.specs.Landing.{head_map, landing_of, version_after, name_at_head, stale_names}
 use Rattle.jf_standing.specs.Taking.{Continues}
+use Rattle.jf_standing.proofs.Contents.{now, map-placed, contents, version-placed, apart-placed}
+use Rattle.jf_standing.proofs.Marks.{alive-nodes_after_commit, map-nodes_after_commit, version-nodes_after_commit, marked-name, filter-unchanged, none_written, marked-node, leaf_entries-marked, marked-yes, marked-not}
+use Rattle.jf_standing.proofs.Placed.{still, fresh-own, placed, placed-fresh, placed-stale}
 use Rattle.jf_standing.proofs.Lists.{All-each_element, map-which}
 use Rattle.jf_standing.proofs.Counts.{count-map, count-same, count-some}
 use Rattle.jf_standing.proofs.Sinces.{alive-tells, alive-so, version-low}
-use Rattle.jf_standing.proofs.Marks.{marked-name, marked-node, marked-yes, marked-not, filter-unchanged, none_written, leaf_entries-marked, alive-behind, map-behind, version-behind}
-use Rattle.jf_standing.proofs.Unmoved.{at-so, alive-there}
-use Rattle.jf_standing.proofs.Alive.{version-of, plain_node-same}
-use Rattle.jf_standing.proofs.Unique.{few-alive}
-use Rattle.jf_standing.proofs.Found.{behind-cases, test_so}
-use Rattle.jf_standing.proofs.Names.{named-tells, named-so, named-in_order}
-use Rattle.jf_standing.proofs.Freshness.{fresh-node, child-node, listed-fresh}
 use Rattle.jf_standing.proofs.Written.{names-stale}
-use Rattle.jf_standing.proofs.Placed.{still, fresh-own, placed, placed-fresh, placed-stale}
-use Rattle.jf_standing.proofs.Contents.{now, contents, version-placed, map-placed, apart-placed}
-use Rattle.jf_standing.proofs.Numbers.{number_tells, other_number}
+use Rattle.jf_standing.proofs.Numbers.{other_number, number_tells}
+use Rattle.jf_standing.proofs.Alive.{plain_node-same, version-of}
+use Rattle.jf_standing.proofs.Unmoved.{at-so, alive-there}
+use Rattle.jf_standing.proofs.Found.{test_so, nodes_after_commit-cases}
+use Rattle.jf_standing.proofs.Freshness.{child-node, fresh-node, listed-fresh}
+use Rattle.jf_standing.proofs.Unique.{few-alive}
+use Rattle.jf_standing.proofs.Names.{named-tells, named-so, named-in_order}
 
 module _ (fmt : Format) (s : Standing) (m : Map) (sound : IsSound fmt s) (keys : IsMap (head_map s)) (own_keys : IsMap m) (last : s.head + 1 < never) where
   abbrev pub own : List Named
   own = now fmt s m sound keys own_keys last
 
   -- ---- an earlier version
-
   alive_own : (w : ℕ) → w ≤ s.head → alive_at w own ≡ map (marked (landing_of fmt s m)) (alive_at w s.nodes)
-  alive_own w high = alive-behind (landing_of fmt s m) w s.nodes (omega arith) (fresh-own fmt s m) (still fmt s m sound keys own_keys last w high)
+  alive_own w high = alive-nodes_after_commit (landing_of fmt s m) w s.nodes (omega arith) (fresh-own fmt s m) (still fmt s m sound keys own_keys last w high)
 
   pub map_own : (w : ℕ) → w ≤ s.head → map_at w own ≡ map_at w s.nodes
-  map_own w high = map-behind (landing_of fmt s m) w s.nodes (omega arith) (fresh-own fmt s m) (still fmt s m sound keys own_keys last w high)
+  map_own w high = map-nodes_after_commit (landing_of fmt s m) w s.nodes (omega arith) (fresh-own fmt s m) (still fmt s m sound keys own_keys last w high)
 
   pub version_own : (w : ℕ) (p : Path) → w ≤ s.head → version_at w own p ≡ version_at w s.nodes p
-  version_own w p high = version-behind (landing_of fmt s m) w s.nodes p (omega arith) (fresh-own fmt s m) (still fmt s m sound keys own_keys last w high)
+  version_own w p high = version-nodes_after_commit (landing_of fmt s m) w s.nodes p (omega arith) (fresh-own fmt s m) (still fmt s m sound keys own_keys last w high)
 
   -- marking nodes changes no count at a path
   count_marked : (p : Path) (ns : List Named) → count_by (is_at p) (map (marked (landing_of fmt s m)) ns) ≡ count_by (is_at p) ns
@@ -106,7 +106,6 @@ module _ (fmt : Format) (s : Standing) (m : Map) (sound : IsSound fmt s) (keys :
       }
 
   -- ---- the new version
-
   map_new : map_at (s.head + 1) own ≡ m
   map_new = map-placed fmt s m sound keys own_keys last
 
@@ -132,13 +131,12 @@ module _ (fmt : Format) (s : Standing) (m : Map) (sound : IsSound fmt s) (keys :
     stale = subst (λ a. StandAt (is_fresh (entries (map_at (s.head + 1) own)) (entries a)) (stale_at (s.head + 1) own)) (sym map_before) (subst (λ b. StandAt (is_fresh (entries b) (entries (head_map s))) (stale_at (s.head + 1) own)) (sym map_new) (placed-stale fmt s m sound keys own_keys last));
     stood = All-each_element _ (stale_at (s.head + 1) own) (λ n has.
         let at = number_tells n.2 (s.head + 1) (filter-passes (is_stale (s.head + 1)) own n has) in
-        behind-cases (landing_of fmt s m) s.nodes n (filter-Contains (is_stale (s.head + 1)) own n has)
+        nodes_after_commit-cases (landing_of fmt s m) s.nodes n (filter-Contains (is_stale (s.head + 1)) own n has)
         (λ k stood same. alive-so (s.head + 1 - 1) n (let low = version-low fmt s sound k stood in let v = ap (λ z. z.version) (sym (marked-name (landing_of fmt s m) k) ∙ ap (λ (z : Named). z.0) same) in omega arith) (omega arith))
         (λ x mine same. absurd (let since = ap (λ (z : Named). z.2) same in omega arith)));
   }
 
   -- ---- all versions
-
   pub lands : len m ≤ 2 ^ 63 → IsSound fmt (with_commit (landing_of fmt s m) s)
   lands room = record {
     base_low = sound.base_low;
@@ -155,10 +153,10 @@ module _ (fmt : Format) (s : Standing) (m : Map) (sound : IsSound fmt s) (keys :
       | inl new ↦ subst (IsStep own) (let e : s.head + 1 ≡ w = omega arith in e) new_step
       | inr old ↦ old_step w low old
     ];
-    written = All-each_element _ own (λ n has. behind-cases (landing_of fmt s m) s.nodes n has
+    written = All-each_element _ own (λ n has. nodes_after_commit-cases (landing_of fmt s m) s.nodes n has
         (λ k stood same. let low = version-low fmt s sound k stood in let v = ap (λ z. z.version) (sym (marked-name (landing_of fmt s m) k) ∙ ap (λ (z : Named). z.0) same) in omega arith)
         (λ x mine same. let at = All-of (λ x. x.0.version ≡ s.head + 1) (landing_of fmt s m).fresh x (fresh-own fmt s m) mine in let v = ap (λ (z : Named). z.0.version) same in omega arith));
-    gone = All-each_element _ own (λ n has. behind-cases (landing_of fmt s m) s.nodes n has
+    gone = All-each_element _ own (λ n has. nodes_after_commit-cases (landing_of fmt s m) s.nodes n has
         (λ k stood same. elim (is_named k.0 (landing_of fmt s m).stale) as (λ b. is_named k.0 (landing_of fmt s m).stale ≡ b → (n.2 ≡ never) ⊎ ((s.floor < n.2) × (n.2 ≤ s.head + 1))) [
           | true ↦ λ named. let at = ap (λ (z : Named). z.2) (sym (marked-yes (landing_of fmt s m) k named) ∙ same) in let low = sound.floor_low in inr (omega arith, omega arith)
           | false ↦ λ free. let at = ap (λ (z : Named). z.2) (sym (marked-not (landing_of fmt s m) k free) ∙ same) in elim (All-of _ s.nodes k sound.gone stood) [ inl none ↦ inl (omega arith) | inr late ↦ let up = late.0 in let down = late.1 in inr (omega arith, omega arith) ]

@@ -1,19 +1,17 @@
 -- The entries of the leaves of a list, and the map that they make.
-use Rattle.std.proofs.Common.{◌≡◌, ℕ, List, [], ◌∷◌, Contains, Some, None, refl, sym, ap, ◌∙◌, subst}
-use Rattle.std.specs.List.{cons_option}
-use Rattle.std.specs.FinMap as fin
-use Rattle.std.specs.FinMap.{entries, from_entries}
+use Rattle.std.proofs.Common.{◌≡◌, ℕ, List, [], ◌∷◌, Contains, Some, None, refl, ap, ◌∙◌, sym, subst}
 use Rattle.std.specs.Cmp.Lexicographic.{nat_list_cmp_total}
+use Rattle.std.specs.FinMap.{entries, from_entries}
+use Rattle.std.specs.FinMap as fin
+use Rattle.std.specs.List.{cons_option}
 use Rattle.jf_path.specs.Keys.{key_cmp, IsKey, IsBytes}
-use Rattle.jf_hash.specs.KeyOrder.{same_key-exact}
+use Rattle.jf_path.proofs.ListLaws.{Contains-first, Contains-later, All-of}
+use Rattle.jf_path.proofs.FilterLaws.{filter-Contains}
 use Rattle.jf_hash.specs.Maps.{Map, IsMap}
-use Rattle.jf_landing.specs.Elements.{All-of, Contains-first, Contains-later, filter-Contains}
-use Rattle.jf_standing.specs.Named.{Named, is_alive, alive_at, leaf_entry, leaf_entries, AreEntries, map_at}
+use Rattle.jf_hash.proofs.KeyOrder.{same_key-exact}
+use Rattle.jf_standing.specs.Named.{Named, leaf_entry, leaf_entries, is_alive, alive_at, AreEntries, map_at}
 use Rattle.jf_standing.proofs.Lists.{Contains-cases, none_in_nothing, All-each_element}
 use Rattle.jf_standing.proofs.Ordered.{find-Contains, Contains-find}
-
-none_not_some : {A : Type 0} (x : A) → None ≡ Some x → ⊥
-none_not_some x is = absurd (cc)
 
 -- each of the entries is that of a leaf
 pub leaf-which : (ns : List Named) (e : List ℕ × List ℕ) → Contains (leaf_entries ns) e → (n : Named) × Contains ns n × (leaf_entry n.1 ≡ Some e)

@@ -1,7 +1,7 @@
 -- What holds of each element of a list.
-use Rattle.std.proofs.Common.{◌≡◌, ℕ, zero, suc, ◌<◌, Bool, true, false, cond, List, [], ◌∷◌, map, length, get_or, Contains, refl, sym, ap, arith}
+use Rattle.std.proofs.Common.{◌≡◌, Bool, true, false, refl, sym, ℕ, cond, ap, List, [], ◌∷◌, Contains, arith, zero, suc, ◌<◌, length, get_or, map}
 use Rattle.std.specs.List.{AllByRecursion}
-use Rattle.jf_landing.specs.Elements.{Contains-first, Contains-later}
+use Rattle.jf_path.proofs.ListLaws.{Contains-first, Contains-later}
 
 -- two tests that imply each other are equal
 pub same_test : (a b : Bool) → (a ≡ true → b ≡ true) → (b ≡ true → a ≡ true) → a ≡ b

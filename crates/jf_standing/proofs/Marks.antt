@@ -1,22 +1,21 @@
 -- A landing changes the versions since which some nodes are stale, and nothing else of the nodes that stood before.
-use Rattle.std.proofs.Common.{◌≡◌, ℕ, ◌<◌, Bool, true, false, cond, List, [], ◌∷◌, ◌++◌, map, filter, Contains, refl, ap, ap₂, ◌∙◌, arith, append-nil}
-use Rattle.std.proofs.lemmas.List.Elements.{filter-append, Contains-append_left}
-use Rattle.std.proofs.lemmas.Bool.Decides.{nat_tests}
 use Rattle.std.specs.Prelude.{slice_index_or}
-use Rattle.std.specs.List.{cons_option, AllByRecursion}
+use Rattle.std.proofs.Common.{◌≡◌, true, false, cond, refl, ap, ℕ, ◌<◌, List, ◌++◌, map, Contains, Bool, [], ◌∷◌, filter, ap₂, ◌∙◌, append-nil, arith}
+use Rattle.std.proofs.lemmas.Bool.Decides.{nat_tests}
+use Rattle.std.proofs.lemmas.List.Elements.{Contains-append_left, filter-append}
 use Rattle.std.specs.FinMap.{from_entries}
+use Rattle.std.specs.List.{AllByRecursion, cons_option}
 use Rattle.jf_path.specs.declared.name.NodeName.{NodeName}
 use Rattle.jf_path.specs.declared.node.PlainNode.{PlainNode}
+use Rattle.jf_path.proofs.ListLaws.{Contains-map}
+use Rattle.jf_path.proofs.FilterLaws.{filter-map, filter-same}
 use Rattle.jf_model.specs.Nodes.{Path}
-use Rattle.jf_landing.specs.Elements.{Contains-map}
-use Rattle.jf_landing.specs.Filters.{filter-map, filter-same}
-use Rattle.jf_standing.specs.Named.{Named, is_alive, is_written, is_at, alive_at, version_at, leaf_entry, leaf_entries, map_at}
-use Rattle.jf_standing.specs.Standing.{is_named, marked, unmarked}
 use Rattle.jf_payload.specs.declared.records.Commit.{Commit}
+use Rattle.jf_standing.specs.Named.{Named, is_alive, is_written, leaf_entry, leaf_entries, is_at, alive_at, map_at, version_at}
+use Rattle.jf_standing.specs.Standing.{is_named, marked, unmarked}
 use Rattle.jf_standing.proofs.Sinces.{alive-tells, alive-so, alive-not_yet}
 
 -- ---- one node
-
 pub marked-name : (c : Commit) (n : Named) → (marked c n).0 ≡ n.0
 marked-name c n = elim (is_named n.0 c.stale) as (λ b. (cond b (n.0, n.1, c.version) n).0 ≡ n.0) [ true ↦ refl | false ↦ refl ]
 
@@ -37,18 +36,17 @@ alive-marked c w n low is = elim (is_named n.0 c.stale) as (λ b. is_alive w (co
 ]
 
 -- ---- all nodes
-
 -- the nodes after a landing
-abbrev pub behind : Commit → List Named → List Named
-behind c ns = map (marked c) ns ++ map unmarked c.fresh
+abbrev pub nodes_after_commit : Commit → List Named → List Named
+nodes_after_commit c ns = map (marked c) ns ++ map unmarked c.fresh
 
 -- a node that stood before stands after the landing, marked or not
-pub Contains-behind : (c : Commit) (ns : List Named) (n : Named) → Contains ns n → Contains (behind c ns) (marked c n)
-Contains-behind c ns n has = Contains-append_left (map (marked c) ns) (map unmarked c.fresh) (marked c n) (Contains-map (marked c) ns n has)
+pub Contains-nodes_after_commit : (c : Commit) (ns : List Named) (n : Named) → Contains ns n → Contains (nodes_after_commit c ns) (marked c n)
+Contains-nodes_after_commit c ns n has = Contains-append_left (map (marked c) ns) (map unmarked c.fresh) (marked c n) (Contains-map (marked c) ns n has)
 
 -- a filter that passes no node of the landing itself
-pub filter-behind : (test : Named → Bool) (c : Commit) (ns : List Named) → AllByRecursion (λ x. test (unmarked x) ≡ false) c.fresh → filter test (behind c ns) ≡ map (marked c) (filter (λ n. test (marked c n)) ns)
-filter-behind test c ns own =
+pub filter-nodes_after_commit : (test : Named → Bool) (c : Commit) (ns : List Named) → AllByRecursion (λ x. test (unmarked x) ≡ false) c.fresh → filter test (nodes_after_commit c ns) ≡ map (marked c) (filter (λ n. test (marked c n)) ns)
+filter-nodes_after_commit test c ns own =
     filter-append test (map (marked c) ns) (map unmarked c.fresh)
     ∙ ap₂ (λ a b. a ++ b) (filter-map test (marked c) ns) (none c.fresh own)
     ∙ append-nil (map (marked c) (filter (λ n. test (marked c n)) ns))
@@ -58,8 +56,8 @@ filter-behind test c ns own =
     none (x ∷ xs) h = ap (λ b. cond b (unmarked x ∷ filter test (map unmarked xs)) (filter test (map unmarked xs))) h.0 ∙ none xs h.1
 
 -- a filter that passes no node of the landing itself, and that marks don't change
-pub filter-unchanged : (test : Named → Bool) (c : Commit) (ns : List Named) → AllByRecursion (λ x. test (unmarked x) ≡ false) c.fresh → AllByRecursion (λ n. test (marked c n) ≡ test n) ns → filter test (behind c ns) ≡ map (marked c) (filter test ns)
-filter-unchanged test c ns own same = filter-behind test c ns own ∙ ap (map (marked c)) (filter-same (λ n. test (marked c n)) test ns same)
+pub filter-unchanged : (test : Named → Bool) (c : Commit) (ns : List Named) → AllByRecursion (λ x. test (unmarked x) ≡ false) c.fresh → AllByRecursion (λ n. test (marked c n) ≡ test n) ns → filter test (nodes_after_commit c ns) ≡ map (marked c) (filter test ns)
+filter-unchanged test c ns own same = filter-nodes_after_commit test c ns own ∙ ap (map (marked c)) (filter-same (λ n. test (marked c n)) test ns same)
 
 -- no node of the landing itself is alive at an earlier version
 pub none_alive : (c : Commit) (w : ℕ) (xs : List (NodeName × PlainNode)) → w < c.version → AllByRecursion (λ x. x.0.version ≡ c.version) xs → AllByRecursion (λ x. is_alive w (unmarked x) ≡ false) xs
@@ -72,7 +70,6 @@ none_written c w [] low own = tt
 none_written c w (x ∷ xs) low own = (let at = own.0 in grind (arith, nat_tests), none_written c w xs low own.1)
 
 -- ---- what marks leave unchanged
-
 pub leaf_entries-marked : (c : Commit) (ns : List Named) → leaf_entries (map (marked c) ns) ≡ leaf_entries ns
 leaf_entries-marked c [] = refl
 leaf_entries-marked c (n ∷ ns) =
@@ -90,13 +87,13 @@ at-marked c p ns = filter-map (is_at p) (marked c) ns ∙ ap (map (marked c)) (f
     names (n ∷ ns) = (ap (λ x. is_at p (x, n.1, 0)) (marked-name c n), names ns)
 
 -- if marks change no node's being alive at an earlier version, that version is unchanged
-pub alive-behind : (c : Commit) (w : ℕ) (ns : List Named) → w < c.version → AllByRecursion (λ x. x.0.version ≡ c.version) c.fresh → AllByRecursion (λ n. is_alive w (marked c n) ≡ is_alive w n) ns → alive_at w (behind c ns) ≡ map (marked c) (alive_at w ns)
-alive-behind c w ns low own same = filter-unchanged (is_alive w) c ns (none_alive c w c.fresh low own) same
+pub alive-nodes_after_commit : (c : Commit) (w : ℕ) (ns : List Named) → w < c.version → AllByRecursion (λ x. x.0.version ≡ c.version) c.fresh → AllByRecursion (λ n. is_alive w (marked c n) ≡ is_alive w n) ns → alive_at w (nodes_after_commit c ns) ≡ map (marked c) (alive_at w ns)
+alive-nodes_after_commit c w ns low own same = filter-unchanged (is_alive w) c ns (none_alive c w c.fresh low own) same
 
-pub map-behind : (c : Commit) (w : ℕ) (ns : List Named) → w < c.version → AllByRecursion (λ x. x.0.version ≡ c.version) c.fresh → AllByRecursion (λ n. is_alive w (marked c n) ≡ is_alive w n) ns → map_at w (behind c ns) ≡ map_at w ns
+pub map-nodes_after_commit : (c : Commit) (w : ℕ) (ns : List Named) → w < c.version → AllByRecursion (λ x. x.0.version ≡ c.version) c.fresh → AllByRecursion (λ n. is_alive w (marked c n) ≡ is_alive w n) ns → map_at w (nodes_after_commit c ns) ≡ map_at w ns
 unfolding map_at
-map-behind c w ns low own same = ap from_entries (ap leaf_entries (alive-behind c w ns low own same) ∙ leaf_entries-marked c (alive_at w ns))
+map-nodes_after_commit c w ns low own same = ap from_entries (ap leaf_entries (alive-nodes_after_commit c w ns low own same) ∙ leaf_entries-marked c (alive_at w ns))
 
-pub version-behind : (c : Commit) (w : ℕ) (ns : List Named) (p : Path) → w < c.version → AllByRecursion (λ x. x.0.version ≡ c.version) c.fresh → AllByRecursion (λ n. is_alive w (marked c n) ≡ is_alive w n) ns → version_at w (behind c ns) p ≡ version_at w ns p
-version-behind c w ns p low own same =
-    ap (λ xs. slice_index_or xs 0 0) (ap (λ xs. map (λ (n : Named). n.0.version) (filter (is_at p) xs)) (alive-behind c w ns low own same) ∙ ap (map (λ (n : Named). n.0.version)) (at-marked c p (alive_at w ns)) ∙ versions-marked c (filter (is_at p) (alive_at w ns)))
+pub version-nodes_after_commit : (c : Commit) (w : ℕ) (ns : List Named) (p : Path) → w < c.version → AllByRecursion (λ x. x.0.version ≡ c.version) c.fresh → AllByRecursion (λ n. is_alive w (marked c n) ≡ is_alive w n) ns → version_at w (nodes_after_commit c ns) p ≡ version_at w ns p
+version-nodes_after_commit c w ns p low own same =
+    ap (λ xs. slice_index_or xs 0 0) (ap (λ xs. map (λ (n : Named). n.0.version) (filter (is_at p) xs)) (alive-nodes_after_commit c w ns low own same) ∙ ap (map (λ (n : Named). n.0.version)) (at-marked c p (alive_at w ns)) ∙ versions-marked c (filter (is_at p) (alive_at w ns)))

@@ -1,36 +1,37 @@
 -- The function `next_standing` gives exactly what a record makes.
-use Rattle.std.proofs.Common.{◌≡◌, ◌↔◌, ℕ, ◌+◌, ◌^◌, true, false, ◌&&◌, cond, nat_le, nat_lt, List, [], ◌∷◌, map, Some, None, refl, sym, ap, ap₂, ◌∙◌, subst}
+use Rattle.std.proofs.Common.{map, sym, ap, ◌∙◌, ℕ, nat_lt, ◌≡◌, ◌↔◌, ◌+◌, ◌^◌, true, ◌&&◌, nat_le, ap₂, false, cond, List, [], ◌∷◌, Some, None, refl, subst}
 use Rattle.std.proofs.lemmas.Option.{same_Some}
-use Rattle.std.specs.List.{AllByRecursion}
 use Rattle.std.specs.FinMap.{len}
+use Rattle.std.specs.List.{AllByRecursion}
 use Rattle.jf_path.specs.Keys.{IsKey, IsBytes}
+use Rattle.jf_path.proofs.ListLaws.{All-of, Contains-map}
+use Rattle.jf_path.proofs.FilterLaws.{filter-Contains}
+use Rattle.jf_path.proofs.BoolLaws.{left_true, right_true}
 use Rattle.jf_hash.specs.Maps.{Map, apply}
 use Rattle.jf_codec.specs.declared.format.Format.{Format}
-use Rattle.jf_landing.specs.Both.{left_true, right_true}
-use Rattle.jf_landing.specs.Elements.{All-of, Contains-map, filter-Contains}
-use Rattle.jf_standing.specs.Named.{Named, never, leaf_entry, leaf_entries, AreEntries}
-use Rattle.jf_standing.specs.Standing.{Standing, unmarked, with_commit, with_floor}
-use Rattle.jf_standing.specs.Sound.{IsSound}
-use Rattle.jf_standing.specs.Landing.{head_map, fresh_leaves, batch_of, landing_of}
-use Rattle.jf_standing.specs.Taking.{Continues, TakesCommits, TakesFloor, Takes}
-use Rattle.jf_standing.specs.Next.{is_next, next_by_commits, next_by_floor, next_standing, IsReadCommit, IsReadRecord}
 use Rattle.jf_payload.specs.declared.records.Commit.{Commit}
 use Rattle.jf_payload.specs.declared.records.Record.{Record}
 use Rattle.jf_payload.specs.declared.records.Record.TheVariants as «record»
+use Rattle.jf_standing.specs.Named.{Named, leaf_entry, leaf_entries, AreEntries, never}
+use Rattle.jf_standing.specs.Standing.{Standing, unmarked, with_commit, with_floor}
+use Rattle.jf_standing.specs.Landing.{fresh_leaves, head_map, batch_of, landing_of}
+use Rattle.jf_standing.specs.Sound.{IsSound}
+use Rattle.jf_standing.specs.Taking.{Continues, TakesCommits, TakesFloor, TakesRecord}
+use Rattle.jf_standing.specs.Next.{is_next, IsReadCommit, next_by_commits, next_by_floor, next_standing, IsReadRecord}
 use Rattle.jf_standing.proofs.Lists.{All-each_element}
-use Rattle.jf_standing.proofs.Marks.{behind, marked-node}
-use Rattle.jf_standing.proofs.Found.{behind-cases}
+use Rattle.jf_standing.proofs.Marks.{nodes_after_commit, marked-node}
+use Rattle.jf_standing.proofs.Found.{nodes_after_commit-cases}
 use Rattle.jf_standing.proofs.Leaves.{leaf-which, leaf-so}
 use Rattle.jf_standing.proofs.Decided.{decided}
-use Rattle.jf_standing.proofs.Floors.{floored}
 use Rattle.jf_standing.proofs.Same.{commit-exact}
 use Rattle.jf_standing.proofs.Numbers.{le_tells, le_so, lt_tells, lt_so}
+use Rattle.jf_standing.proofs.Floors.{floored}
 
 -- after a landing keys still have 32 bytes and values still are bytes
-pub entries-behind : (s : Standing) (c : Commit) → AreEntries (leaf_entries s.nodes) → AreEntries (fresh_leaves c) → AreEntries (leaf_entries (with_commit c s).nodes)
-entries-behind s c keys own_keys = All-each_element _ (leaf_entries (behind c s.nodes)) (λ e has.
-    let n = leaf-which (behind c s.nodes) e has in
-    behind-cases c s.nodes n.0 n.1
+pub entries-nodes_after_commit : (s : Standing) (c : Commit) → AreEntries (leaf_entries s.nodes) → AreEntries (fresh_leaves c) → AreEntries (leaf_entries (with_commit c s).nodes)
+entries-nodes_after_commit s c keys own_keys = All-each_element _ (leaf_entries (nodes_after_commit c s.nodes)) (λ e has.
+    let n = leaf-which (nodes_after_commit c s.nodes) e has in
+    nodes_after_commit-cases c s.nodes n.0 n.1
     (λ m stood same. All-of (λ f. IsKey f.0 × IsBytes f.1) (leaf_entries s.nodes) e keys (leaf-so s.nodes m e stood (ap leaf_entry (sym (marked-node c m) ∙ ap (λ (z : Named). z.1) same) ∙ n.2)))
     (λ x own same. All-of (λ f. IsKey f.0 × IsBytes f.1) (fresh_leaves c) e own_keys (leaf-so (map unmarked c.fresh) (unmarked x) e (Contains-map unmarked c.fresh x own) (ap (λ (z : Named). leaf_entry z.1) same ∙ n.2))))
 
@@ -57,10 +58,10 @@ commits-taken fmt [] s s' sound keys read = (λ is. sym (same_Some s s' is), λ 
 commits-taken fmt (c ∷ cs) s s' sound keys read =
     let by = next-decided fmt s c sound keys read.0 in (
       λ is. elim (is_next fmt s c) as (λ b. is_next fmt s c ≡ b → cond b (next_by_commits fmt (with_commit c s) cs) None ≡ Some s' → TakesCommits fmt s (c ∷ cs) s') [
-        | true ↦ λ yes_it rest. let both = by.0 yes_it in (both.0, both.1, (commits-taken fmt cs (with_commit c s) s' both.1 (entries-behind s c keys read.0.1) read.1).0 rest)
+        | true ↦ λ yes_it rest. let both = by.0 yes_it in (both.0, both.1, (commits-taken fmt cs (with_commit c s) s' both.1 (entries-nodes_after_commit s c keys read.0.1) read.1).0 rest)
         | false ↦ λ no_it rest. absurd (none rest)
       ] refl is,
-      λ is. ap (λ b. cond b (next_by_commits fmt (with_commit c s) cs) None) (by.1 (is.0, is.1)) ∙ (commits-taken fmt cs (with_commit c s) s' is.1 (entries-behind s c keys read.0.1) read.1).1 is.2,
+      λ is. ap (λ b. cond b (next_by_commits fmt (with_commit c s) cs) None) (by.1 (is.0, is.1)) ∙ (commits-taken fmt cs (with_commit c s) s' is.1 (entries-nodes_after_commit s c keys read.0.1) read.1).1 is.2,
     )
   where
     none : None ≡ Some s' → ⊥
@@ -82,7 +83,7 @@ floor-taken fmt s s' floor sound = (
     none : None ≡ Some s' → ⊥
     none is = absurd (cc)
 
-pub next-taken : (fmt : Format) (s s' : Standing) (r : Record) → IsSound fmt s → AreEntries (leaf_entries s.nodes) → IsReadRecord r → (next_standing fmt s r ≡ Some s') ↔ Takes fmt s r s'
+pub next-taken : (fmt : Format) (s s' : Standing) (r : Record) → IsSound fmt s → AreEntries (leaf_entries s.nodes) → IsReadRecord r → (next_standing fmt s r ≡ Some s') ↔ TakesRecord fmt s r s'
 next-taken fmt s s' («record».Floor floor) sound keys read = floor-taken fmt s s' floor sound
 next-taken fmt s s' («record».NodeCommit c) sound keys read = commits-taken fmt (c ∷ []) s s' sound keys (read, tt)
 next-taken fmt s s' («record».Checkpoint generation base floor head roots nodes) sound keys read = (λ is. absurd (cc), λ is. absurd is)

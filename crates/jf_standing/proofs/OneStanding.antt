@@ -1,23 +1,24 @@
 -- Two sound standings with the same maps, and the same versions of nodes at the floor, have the same nodes.
-use Rattle.std.proofs.Common.{◌≡◌, ℕ, zero, suc, ◌+◌, ◌-◌, ◌<◌, ◌≤◌, true, false, cond, inl, inr, [], ◌∷◌, ◌++◌, length, Contains, refl, sym, ap, ap₂, ◌∙◌, subst, arith, true≢false}
+use Rattle.std.proofs.Common.{◌≡◌, ℕ, zero, suc, ◌+◌, ◌-◌, ◌<◌, ◌≤◌, true, false, cond, inl, inr, refl, sym, ap, ap₂, ◌∙◌, subst, arith, true≢false, [], ◌∷◌, ◌++◌, length, Contains}
 use Rattle.std.proofs.lemmas.Bool.{cases_lt}
 use Rattle.std.specs.FinMap.{entries}
-use Rattle.jf_model.specs.Nodes.{Path, under, is_node, is_fresh, plain_node}
+use Rattle.jf_path.proofs.FilterLaws.{Contains-filter, filter-Contains, filter-passes}
+use Rattle.jf_path.proofs.ListLaws.{All-of}
+use Rattle.jf_model.specs.Nodes.{Path, is_node, is_fresh, under, plain_node}
 use Rattle.jf_codec.specs.declared.format.Format.{Format}
-use Rattle.jf_landing.specs.Elements.{All-of, Contains-filter, filter-Contains, filter-passes}
-use Rattle.jf_standing.specs.Named.{Named, is_alive, is_written, is_stale, is_at, alive_at, written_at, stale_at, version_at, map_at}
+use Rattle.jf_standing.specs.Named.{is_alive, is_written, is_at, written_at, version_at, map_at, Named, is_stale, alive_at, stale_at}
 use Rattle.jf_standing.specs.Standing.{Standing}
-use Rattle.jf_standing.specs.Sound.{is_counted, IsSound}
+use Rattle.jf_standing.specs.Sound.{IsSound, is_counted}
 use Rattle.jf_standing.proofs.Lists.{one-true}
 use Rattle.jf_standing.proofs.Counts.{count-some, count-which, count-one}
-use Rattle.jf_standing.proofs.Sinces.{alive-tells, alive-so, version-low, version-before, since-high}
-use Rattle.jf_standing.proofs.Stands.{stands}
+use Rattle.jf_standing.proofs.Sinces.{alive-tells, alive-so, version-before, version-low, since-high}
 use Rattle.jf_standing.proofs.Unmoved.{at-tells, at-so, alive-there}
 use Rattle.jf_standing.proofs.Alive.{version-of, plain_node-same}
 use Rattle.jf_standing.proofs.Unique.{few-alive}
 use Rattle.jf_standing.proofs.Found.{test_so}
 use Rattle.jf_standing.proofs.Freshness.{stale-node, child-node}
 use Rattle.jf_standing.proofs.Numbers.{same_number, number_tells}
+use Rattle.jf_standing.proofs.Stands.{stands}
 
 -- the version of a node after a step: that of the step if it wrote the node, otherwise the version before
 pub version-step : (fmt : Format) (s : Standing) → IsSound fmt s → (w : ℕ) → s.floor < w → w ≤ s.head → (p : Path) → is_node 0 p (entries (map_at w s.nodes)) ≡ true

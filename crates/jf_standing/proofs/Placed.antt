@@ -1,39 +1,39 @@
 -- After a landing of a map on a sound standing, a node stands at exactly each path of the new map.
-use Rattle.std.proofs.Common.{◌≡◌, ℕ, zero, suc, ◌+◌, ◌-◌, ◌<◌, ◌≤◌, Bool, true, false, ◌&&◌, cond, inl, inr, List, [], ◌∷◌, map, Contains, refl, sym, ap, ap₂, ◌∙◌, subst, arith, true≢false, is_eq}
-use Rattle.std.proofs.lemmas.Slice.Eq.{bytes_eq-Decides}
 use Rattle.std.specs.Prelude.{bytes_eq}
-use Rattle.std.specs.List.{AllByRecursion, count_by}
-use Rattle.std.specs.Ordering.{eq_by_cmp}
+use Rattle.std.proofs.Common.{◌≡◌, ℕ, zero, suc, ◌≤◌, Bool, true, false, refl, sym, arith, true≢false, ◌-◌, ap, ◌∙◌, is_eq, ◌+◌, List, [], ◌∷◌, map, ◌<◌, ◌&&◌, cond, inl, inr, Contains, ap₂, subst}
+use Rattle.std.proofs.lemmas.Slice.Eq.{bytes_eq-Decides}
 use Rattle.std.specs.Cmp.{tied_itself}
-use Rattle.std.specs.FinMap.{entries}
 use Rattle.std.specs.Cmp.Lexicographic.{nat_list_cmp_total}
+use Rattle.std.specs.FinMap.{entries}
+use Rattle.std.specs.List.{count_by, AllByRecursion}
+use Rattle.std.specs.Ordering.{eq_by_cmp}
 use Rattle.jf_path.specs.Keys.{key_cmp}
-use Rattle.jf_hash.specs.KeyOrder.{same_key-exact}
+use Rattle.jf_path.proofs.OrderLaws.{Equal-from_is_eq}
+use Rattle.jf_path.proofs.ListLaws.{All-of}
 use Rattle.jf_hash.specs.Maps.{Map, IsMap}
 use Rattle.jf_hash.specs.Slots.{Part}
-use Rattle.jf_model.specs.Nodes.{Path, under, is_node, is_fresh, fresh}
+use Rattle.jf_hash.proofs.KeyOrder.{same_key-exact}
+use Rattle.jf_model.specs.Nodes.{Path, under, is_fresh, fresh, is_node}
 use Rattle.jf_codec.specs.declared.format.Format.{Format}
-use Rattle.jf_landing.specs.Elements.{All-of}
-use Rattle.jf_landing.specs.FreshOrder.{sorted-fresh}
-use Rattle.jf_standing.specs.Named.{Named, never, is_alive, is_written, is_stale, is_at, alive_at, written_at, stale_at}
-use Rattle.jf_standing.specs.Standing.{Standing, is_named, marked, unmarked}
-use Rattle.jf_standing.specs.Sound.{StandAt, IsSound}
-use Rattle.jf_standing.specs.Landing.{head_map, written_node, landing_of}
 use Rattle.jf_payload.specs.declared.records.Commit.{Commit}
-use Rattle.jf_standing.proofs.Lists.{one, one-true, same_test, All-each_element}
-use Rattle.jf_standing.proofs.Counts.{count-none, count-append, count-filter, count-map, count-same, count-some, count-which}
+use Rattle.jf_walk.proofs.FreshOrder.{sorted-fresh}
+use Rattle.jf_standing.specs.Standing.{Standing, marked, unmarked, is_named}
+use Rattle.jf_standing.specs.Landing.{written_node, head_map, landing_of}
+use Rattle.jf_standing.specs.Named.{never, Named, is_written, is_at, written_at, is_stale, is_alive, stale_at, alive_at}
+use Rattle.jf_standing.specs.Sound.{IsSound, StandAt}
+use Rattle.jf_standing.proofs.Lists.{one, same_test, All-each_element, one-true}
+use Rattle.jf_standing.proofs.Counts.{count-same, count-some, count-which, count-none, count-append, count-filter, count-map}
+use Rattle.jf_standing.proofs.Ordered.{count-sorted}
+use Rattle.jf_standing.proofs.Freshness.{fresh-listed, listed-fresh, fresh-node}
 use Rattle.jf_standing.proofs.Sinces.{version-low, version-before}
-use Rattle.jf_standing.proofs.Stands.{stands, step-stands}
-use Rattle.jf_standing.proofs.Marks.{marked-name, behind, alive-behind}
-use Rattle.jf_standing.proofs.Unmoved.{at-tells}
-use Rattle.jf_standing.proofs.Found.{behind-cases}
-use Rattle.jf_standing.proofs.Ordered.{count-sorted, eq_tells}
-use Rattle.jf_standing.proofs.Freshness.{fresh-node, fresh-listed, listed-fresh}
-use Rattle.jf_standing.proofs.Written.{names-stale, alive-still}
+use Rattle.jf_standing.proofs.Marks.{marked-name, nodes_after_commit, alive-nodes_after_commit}
 use Rattle.jf_standing.proofs.Numbers.{same_number, other_number}
+use Rattle.jf_standing.proofs.Stands.{stands, step-stands}
+use Rattle.jf_standing.proofs.Unmoved.{at-tells}
+use Rattle.jf_standing.proofs.Written.{names-stale, alive-still}
+use Rattle.jf_standing.proofs.Found.{nodes_after_commit-cases}
 
 -- ---- counts of paths that are written
-
 pub count_is : (b : Bool) (n : ℕ) → n ≤ 1 → (b ≡ true → 1 ≤ n) → (1 ≤ n → b ≡ true) → n ≡ one b
 count_is true n few up down = let some = up refl in omega arith
 count_is false zero few up down = refl
@@ -42,7 +42,7 @@ count_is false (suc n) few up down = absurd (true≢false (sym (down (omega arit
 pub same_path : (p q : Path) → bytes_eq q p ≡ eq_by_cmp key_cmp p q
 same_path p q = same_test (bytes_eq q p) (eq_by_cmp key_cmp p q)
     (λ is. ap (λ r. is_eq (key_cmp p r)) ((bytes_eq-Decides q p).0 is) ∙ ap is_eq (tied_itself nat_list_cmp_total p))
-    (λ is. (bytes_eq-Decides q p).1 (sym (same_key-exact p q (eq_tells _ is))))
+    (λ is. (bytes_eq-Decides q p).1 (sym (same_key-exact p q (Equal-from_is_eq _ is))))
 
 -- a landing writes one node at each path that is fresh
 listed-count : (old new : Map) (p : Path) → IsMap new → count_by (λ (x : Path × Part). bytes_eq x.0 p) (fresh old new) ≡ one (is_fresh (entries old) (entries new) p)
@@ -64,8 +64,7 @@ module _ (fmt : Format) (s : Standing) (m : Map) (sound : IsSound fmt s) (keys :
   landing = landing_of fmt s m
 
   -- ---- paths
-
-  pub placed-fresh : StandAt (is_fresh (entries (head_map s)) (entries m)) (written_at (s.head + 1) (behind landing s.nodes))
+  pub placed-fresh : StandAt (is_fresh (entries (head_map s)) (entries m)) (written_at (s.head + 1) (nodes_after_commit landing s.nodes))
   placed-fresh p =
       let test : Named → Bool = λ n. is_written (s.head + 1) n && is_at p n in
       let old : count_by test (map (marked landing) s.nodes) ≡ 0 = count-map test (marked landing) s.nodes ∙ count-none (λ n. test (marked landing n)) s.nodes (All-each_element _ s.nodes (λ n has.
@@ -75,7 +74,7 @@ module _ (fmt : Format) (s : Standing) (m : Map) (sound : IsSound fmt s) (keys :
       ∙ count-map (λ x. test (unmarked x)) (written_node fmt s m) (fresh (head_map s) m)
       ∙ count-same (λ x. test (unmarked (written_node fmt s m x))) (λ (x : Path × Part). bytes_eq x.0 p) (fresh (head_map s) m) (All-each_element _ (fresh (head_map s) m) (λ x has. ap (λ b. b && bytes_eq x.0 p) (same_number (s.head + 1) (s.head + 1) refl)))
       ∙ listed-count (head_map s) m p own_keys in
-      omega (arith, old, new, count-filter (is_at p) (is_written (s.head + 1)) (behind landing s.nodes), count-append test (map (marked landing) s.nodes) (map unmarked landing.fresh))
+      omega (arith, old, new, count-filter (is_at p) (is_written (s.head + 1)) (nodes_after_commit landing s.nodes), count-append test (map (marked landing) s.nodes) (map unmarked landing.fresh))
 
   stale_marked : (n : Named) → Contains s.nodes n → is_stale (s.head + 1) (marked landing n) ≡ is_named n.0 landing.stale
   stale_marked n has = elim (is_named n.0 landing.stale) as (λ b. is_stale (s.head + 1) (cond b (n.0, n.1, s.head + 1) n) ≡ b) [
@@ -83,7 +82,7 @@ module _ (fmt : Format) (s : Standing) (m : Map) (sound : IsSound fmt s) (keys :
     | false ↦ other_number n.2 (s.head + 1) (elim (All-of _ s.nodes n sound.gone has) [ inl none ↦ (λ is. omega arith) | inr late ↦ (λ is. let up = late.1 in omega arith) ])
   ]
 
-  pub placed-stale : StandAt (is_fresh (entries m) (entries (head_map s))) (stale_at (s.head + 1) (behind landing s.nodes))
+  pub placed-stale : StandAt (is_fresh (entries m) (entries (head_map s))) (stale_at (s.head + 1) (nodes_after_commit landing s.nodes))
   placed-stale p =
       let test : Named → Bool = λ n. is_stale (s.head + 1) n && is_at p n in
       let gone = is_fresh (entries m) (entries (head_map s)) p in
@@ -96,7 +95,7 @@ module _ (fmt : Format) (s : Standing) (m : Map) (sound : IsSound fmt s) (keys :
       let there = stands fmt s sound s.head sound.floor_low (omega arith) p in
       let all = count-filter (is_at p) (is_alive s.head) s.nodes in
       let counted : count_by (λ n. gone && (is_alive s.head n && is_at p n)) s.nodes ≡ one gone = under_test gone (λ n. is_alive s.head n && is_at p n) s.nodes (λ is. sym all ∙ there ∙ one-true _ (fresh-node (entries m) (entries (head_map s)) p is)) in
-      omega (arith, old, new, counted, count-filter (is_at p) (is_stale (s.head + 1)) (behind landing s.nodes), count-append test (map (marked landing) s.nodes) (map unmarked landing.fresh))
+      omega (arith, old, new, counted, count-filter (is_at p) (is_stale (s.head + 1)) (nodes_after_commit landing s.nodes), count-append test (map (marked landing) s.nodes) (map unmarked landing.fresh))
     where
       swapped : (a b x y : Bool) → (b ≡ true → x ≡ y) → ((a && x) && b) ≡ (y && (a && b))
       swapped true true x y same = (let e = same refl in elim x as (λ z. (z && true) ≡ z) [ true ↦ refl | false ↦ refl ]) ∙ same refl ∙ (elim y as (λ z. z ≡ (z && true)) [ true ↦ refl | false ↦ refl ])
@@ -107,8 +106,8 @@ module _ (fmt : Format) (s : Standing) (m : Map) (sound : IsSound fmt s) (keys :
       under_test true test ns is = is refl
       under_test false test ns is = count-none (λ n. false) ns (All-each_element _ ns (λ n has. refl))
 
-  behind_before : AllByRecursion (λ n. n.0.version < n.2) (behind landing s.nodes)
-  behind_before = All-each_element _ (behind landing s.nodes) (λ n has. behind-cases landing s.nodes n has
+  after_before : AllByRecursion (λ n. n.0.version < n.2) (nodes_after_commit landing s.nodes)
+  after_before = All-each_element _ (nodes_after_commit landing s.nodes) (λ n has. nodes_after_commit-cases landing s.nodes n has
       (λ k stood same. subst (λ (z : Named). z.0.version < z.2) same (marked_before k stood))
       (λ x own same. subst (λ (z : Named). z.0.version < z.2) same (let v = All-of (λ x. x.0.version ≡ s.head + 1) landing.fresh x (fresh-own fmt s m) own in omega arith)))
     where
@@ -122,13 +121,13 @@ module _ (fmt : Format) (s : Standing) (m : Map) (sound : IsSound fmt s) (keys :
   still w low = All-each_element _ s.nodes (λ n has. alive-still fmt s m sound keys w low n has)
 
   -- at the head before, the nodes stand as they did
-  stood_before : StandAt (λ p. is_node 0 p (entries (head_map s))) (alive_at (s.head + 1 - 1) (behind landing s.nodes))
-  stood_before = subst (λ w. StandAt (λ p. is_node 0 p (entries (head_map s))) (alive_at w (behind landing s.nodes))) (let e : s.head ≡ s.head + 1 - 1 = omega arith in e)
-      (λ p. ap (count_by (is_at p)) (alive-behind landing s.head s.nodes (omega arith) (fresh-own fmt s m) (still s.head (omega arith)))
+  stood_before : StandAt (λ p. is_node 0 p (entries (head_map s))) (alive_at (s.head + 1 - 1) (nodes_after_commit landing s.nodes))
+  stood_before = subst (λ w. StandAt (λ p. is_node 0 p (entries (head_map s))) (alive_at w (nodes_after_commit landing s.nodes))) (let e : s.head ≡ s.head + 1 - 1 = omega arith in e)
+      (λ p. ap (count_by (is_at p)) (alive-nodes_after_commit landing s.head s.nodes (omega arith) (fresh-own fmt s m) (still s.head (omega arith)))
       ∙ count-map (is_at p) (marked landing) (alive_at s.head s.nodes)
       ∙ count-same (λ n. is_at p (marked landing n)) (is_at p) (alive_at s.head s.nodes) (All-each_element _ (alive_at s.head s.nodes) (λ n has. ap (λ k. bytes_eq k.path p) (marked-name landing n)))
       ∙ stands fmt s sound s.head sound.floor_low (omega arith) p)
 
   -- after the landing the nodes stand as those of the new map
-  pub placed : StandAt (λ p. is_node 0 p (entries m)) (alive_at (s.head + 1) (behind landing s.nodes))
-  placed = step-stands (behind landing s.nodes) (s.head + 1) (entries (head_map s)) (entries m) (omega arith) behind_before stood_before placed-fresh placed-stale
+  pub placed : StandAt (λ p. is_node 0 p (entries m)) (alive_at (s.head + 1) (nodes_after_commit landing s.nodes))
+  placed = step-stands (nodes_after_commit landing s.nodes) (s.head + 1) (entries (head_map s)) (entries m) (omega arith) after_before stood_before placed-fresh placed-stale

@@ -1,35 +1,36 @@
 -- The batch that is read off a sound landing leads to the map after it.
-use Rattle.std.proofs.Common.{◌≡◌, ℕ, ◌<◌, true, false, inl, inr, List, ◌++◌, map, filter, Contains, Some, None, refl, sym, ap, ◌∙◌, arith, true≢false}
+use Rattle.std.proofs.Common.{ℕ, List, ◌≡◌, true, false, map, Contains, Some, refl, sym, ap, ◌∙◌, arith, true≢false, ◌<◌, inl, inr, None, filter, ◌++◌}
 use Rattle.std.proofs.lemmas.List.Elements.{Contains-append_right}
-use Rattle.std.specs.FinMap as fin
-use Rattle.std.specs.FinMap.{from_entries, find}
 use Rattle.std.specs.Cmp.Lexicographic.{nat_list_cmp_total}
+use Rattle.std.specs.FinMap.{find, from_entries}
+use Rattle.std.specs.FinMap as fin
 use Rattle.jf_path.specs.Keys.{key_cmp}
-use Rattle.jf_hash.specs.KeyOrder.{same_key-exact}
+use Rattle.jf_path.proofs.FilterLaws.{Contains-filter, filter-Contains, filter-passes}
+use Rattle.jf_path.proofs.ListLaws.{Contains-map, All-of}
 use Rattle.jf_hash.specs.Maps.{apply}
-use Rattle.jf_hash.specs.MapLaws.{same_map, get-apply-sorted, value_after}
+use Rattle.jf_hash.proofs.KeyOrder.{same_key-exact}
+use Rattle.jf_hash.proofs.MapLaws.{value_after, same_map, get-apply-sorted}
 use Rattle.jf_codec.specs.declared.format.Format.{Format}
-use Rattle.jf_landing.specs.Elements.{All-of, Contains-filter, Contains-map, filter-Contains, filter-passes}
-use Rattle.jf_standing.specs.Named.{Named, is_alive, alive_at, leaf_entry, leaf_entries, map_at}
-use Rattle.jf_standing.specs.Standing.{Standing, is_named, marked, unmarked, with_commit}
-use Rattle.jf_standing.specs.Sound.{IsSound}
-use Rattle.jf_standing.specs.Landing.{head_map, fresh_leaves, stale_leaves, batch_of}
-use Rattle.jf_standing.specs.Taking.{Continues}
 use Rattle.jf_payload.specs.declared.records.Commit.{Commit}
-use Rattle.jf_standing.proofs.Lists.{map-which}
+use Rattle.jf_standing.specs.Named.{alive_at, leaf_entries, Named, is_alive, leaf_entry, map_at}
+use Rattle.jf_standing.specs.Standing.{Standing, with_commit, is_named, unmarked, marked}
+use Rattle.jf_standing.specs.Sound.{IsSound}
+use Rattle.jf_standing.specs.Taking.{Continues}
+use Rattle.jf_standing.specs.Landing.{fresh_leaves, stale_leaves, batch_of, head_map}
+use Rattle.jf_standing.proofs.Marks.{nodes_after_commit, marked-yes, marked-not, Contains-nodes_after_commit}
 use Rattle.jf_standing.proofs.Sinces.{alive-tells, alive-so, alive-not, version-low}
-use Rattle.jf_standing.proofs.Marks.{marked-yes, marked-not, behind, Contains-behind}
-use Rattle.jf_standing.proofs.Found.{behind-cases}
-use Rattle.jf_standing.proofs.Landed.{named_was}
-use Rattle.jf_standing.proofs.Ordered.{find-Contains}
+use Rattle.jf_standing.proofs.Found.{nodes_after_commit-cases}
 use Rattle.jf_standing.proofs.Leaves.{leaf-which, leaf-so}
-use Rattle.jf_standing.proofs.LeafMaps.{found_some}
+use Rattle.jf_standing.proofs.Lists.{map-which}
 use Rattle.jf_standing.proofs.Distinct.{distinct-find, one-leaf}
-use Rattle.jf_standing.proofs.Batches.{sorted-by_key, said-put, said-removal, said-nothing, puts_of, removals_of}
+use Rattle.jf_standing.proofs.Ordered.{find-Contains}
+use Rattle.jf_standing.proofs.LeafMaps.{found_some}
+use Rattle.jf_standing.proofs.Landed.{named_was}
+use Rattle.jf_standing.proofs.Batches.{said-put, said-removal, said-nothing, sorted-by_key, puts_of, removals_of}
 
 module _ (fmt : Format) (s : Standing) (c : Commit) (sound : IsSound fmt s) (goes : Continues s c) (behind_sound : IsSound fmt (with_commit c s)) where
   abbrev new_leaves : List (List ℕ × List ℕ)
-  new_leaves = leaf_entries (alive_at c.version (behind c s.nodes))
+  new_leaves = leaf_entries (alive_at c.version (nodes_after_commit c s.nodes))
 
   abbrev old_leaves : List (List ℕ × List ℕ)
   old_leaves = leaf_entries (alive_at s.head s.nodes)
@@ -37,9 +38,9 @@ module _ (fmt : Format) (s : Standing) (c : Commit) (sound : IsSound fmt s) (goe
   -- a leaf after the landing is written by it, or stood before and isn't named
   leaf_cases : {P : Type 0} (e : List ℕ × List ℕ) → Contains new_leaves e → (Contains (fresh_leaves c) e → P) → ((k : Named) → Contains s.nodes k → is_named k.0 c.stale ≡ false → Contains (alive_at s.head s.nodes) k → leaf_entry k.1 ≡ Some e → P) → P
   leaf_cases {P} e has fresh old =
-      let n = leaf-which (alive_at c.version (behind c s.nodes)) e has in
-      let alive = filter-passes (is_alive c.version) (behind c s.nodes) n.0 n.1 in
-      behind-cases c s.nodes n.0 (filter-Contains (is_alive c.version) (behind c s.nodes) n.0 n.1)
+      let n = leaf-which (alive_at c.version (nodes_after_commit c s.nodes)) e has in
+      let alive = filter-passes (is_alive c.version) (nodes_after_commit c s.nodes) n.0 n.1 in
+      nodes_after_commit-cases c s.nodes n.0 (filter-Contains (is_alive c.version) (nodes_after_commit c s.nodes) n.0 n.1)
       (λ k stood same. elim (is_named k.0 c.stale) as (λ b. is_named k.0 c.stale ≡ b → P) [
         | true ↦ λ named. absurd (true≢false (sym alive ∙ ap (is_alive c.version) (sym same ∙ marked-yes c k named) ∙ alive-not c.version (k.0, k.1, c.version) (omega arith)))
         | false ↦ λ free.
@@ -57,7 +58,7 @@ module _ (fmt : Format) (s : Standing) (c : Commit) (sound : IsSound fmt s) (goe
       let x = map-which unmarked c.fresh n.0 n.1 in
       let v = All-of (λ x. x.0.version ≡ c.version) c.fresh x.0 goes.fresh_own x.1 in
       let alive : is_alive c.version n.0 ≡ true = ap (is_alive c.version) (sym x.2) ∙ alive-so c.version (unmarked x.0) (omega arith) behind_sound.head_last in
-      leaf-so (alive_at c.version (behind c s.nodes)) n.0 e (Contains-filter (is_alive c.version) (behind c s.nodes) n.0 (Contains-append_right (map (marked c) s.nodes) (map unmarked c.fresh) n.0 n.1) alive) n.2
+      leaf-so (alive_at c.version (nodes_after_commit c s.nodes)) n.0 e (Contains-filter (is_alive c.version) (nodes_after_commit c s.nodes) n.0 (Contains-append_right (map (marked c) s.nodes) (map unmarked c.fresh) n.0 n.1) alive) n.2
 
   -- a leaf that stood before and isn't named is a leaf after the landing
   old_there : (k : Named) (e : List ℕ × List ℕ) → Contains (alive_at s.head s.nodes) k → is_named k.0 c.stale ≡ false → leaf_entry k.1 ≡ Some e → Contains new_leaves e
@@ -68,8 +69,8 @@ module _ (fmt : Format) (s : Standing) (c : Commit) (sound : IsSound fmt s) (goe
       let next = goes.next in
       let last = behind_sound.head_last in
       let up : c.version < k.2 = elim (All-of _ s.nodes k sound.gone stood) [ inl none ↦ omega arith | inr late ↦ absurd (let a = late.1 in let b = tells.1 in omega arith) ] in
-      leaf-so (alive_at c.version (behind c s.nodes)) (marked c k) e
-      (Contains-filter (is_alive c.version) (behind c s.nodes) (marked c k) (Contains-behind c s.nodes k stood) (ap (is_alive c.version) same ∙ alive-so c.version k (let low = tells.0 in omega arith) up))
+      leaf-so (alive_at c.version (nodes_after_commit c s.nodes)) (marked c k) e
+      (Contains-filter (is_alive c.version) (nodes_after_commit c s.nodes) (marked c k) (Contains-nodes_after_commit c s.nodes k stood) (ap (is_alive c.version) same ∙ alive-so c.version k (let low = tells.0 in omega arith) up))
       (ap (λ (z : Named). leaf_entry z.1) same ∙ is)
 
   found : (q : List ℕ) (v : List ℕ) → Contains new_leaves (q, v) → find key_cmp q new_leaves ≡ Some v
@@ -112,7 +113,7 @@ module _ (fmt : Format) (s : Standing) (c : Commit) (sound : IsSound fmt s) (goe
   ] refl
 
   -- the map after the landing is the head's map with the batch applied
-  pub map-read : map_at c.version (behind c s.nodes) ≡ apply (head_map s) (batch_of s c)
+  pub map-read : map_at c.version (nodes_after_commit c s.nodes) ≡ apply (head_map s) (batch_of s c)
   unfolding map_at
   map-read = same_map (from_entries new_leaves) (apply (from_entries old_leaves) (batch_of s c)) (λ q.
       fin.get-from_entries nat_list_cmp_total new_leaves q ∙ said q

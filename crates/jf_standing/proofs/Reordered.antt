@@ -10,13 +10,14 @@ use Rattle.std.specs.FinMap as fin
 use Rattle.std.specs.FinMap.{entries, from_entries, find, len}
 use Rattle.std.specs.Cmp.Lexicographic.{nat_list_cmp_total}
 use Rattle.jf_path.specs.Keys.{key_cmp}
-use Rattle.jf_hash.specs.KeyOrder.{same_key-exact}
-use Rattle.jf_hash.specs.MapLaws.{same_map}
+use Rattle.jf_hash.proofs.KeyOrder.{same_key-exact}
+use Rattle.jf_hash.proofs.MapLaws.{same_map}
 use Rattle.jf_hash.specs.Maps.{same_key}
 use Rattle.jf_hash.specs.Roots.{root}
 use Rattle.jf_model.specs.Nodes.{Path, under, is_node, is_fresh, plain_node}
 use Rattle.jf_codec.specs.declared.format.Format.{Format}
-use Rattle.jf_landing.specs.Elements.{All-of, Contains-filter, filter-Contains, filter-passes}
+use Rattle.jf_path.proofs.ListLaws.{All-of}
+use Rattle.jf_path.proofs.FilterLaws.{Contains-filter, filter-Contains, filter-passes}
 use Rattle.jf_standing.specs.Named.{Named, is_alive, is_written, is_stale, is_at, alive_at, stale_at, version_at, leaf_entries, map_at}
 use Rattle.jf_standing.specs.Standing.{Standing, versions_of, with_nodes}
 use Rattle.jf_standing.specs.Sound.{is_counted, IsVersion, IsStep, IsSound}

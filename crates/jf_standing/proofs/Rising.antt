@@ -1,50 +1,46 @@
 -- Names that rise still rise after a landing and under a floor.
-use Rattle.std.proofs.Common.{◌≡◌, ℕ, ◌<◌, Bool, true, false, ◌&&◌, cond, nat_lt, List, [], ◌∷◌, ◌++◌, map, filter, length, Contains, refl, sym, ap, ap₂, ◌∙◌, subst, arith, T, nat_cmp, Less}
-use Rattle.std.proofs.lemmas.List.{map-append}
-use Rattle.std.proofs.lemmas.Bool.Decides.{nat_tests}
 use Rattle.std.specs.Prelude.{IsTrue}
+use Rattle.std.proofs.Common.{◌&&◌, List, [], ◌∷◌, map, refl, ap₂, T, ◌++◌, ℕ, ◌≡◌, ap, sym, subst, ◌<◌, ◌∙◌, arith, nat_cmp, Bool, true, false, cond, filter, nat_lt, length, Contains}
+use Rattle.std.proofs.lemmas.List.{map-append}
+use Rattle.std.specs.Cmp.Lexicographic.{slice_cmp}
+use Rattle.std.specs.FinMap.{is_sorted, entries}
+use Rattle.std.specs.FinMap.Entries.{below_all}
 use Rattle.std.specs.List.{AllByRecursion}
 use Rattle.std.specs.Ordering.{ordering_then}
-use Rattle.std.specs.Cmp.Lexicographic.{slice_cmp}
-use Rattle.std.specs.FinMap.{entries, is_sorted}
-use Rattle.std.specs.FinMap.Entries.{below_all}
-use Rattle.jf_path.specs.Keys.{IsKey, IsBytes}
-use Rattle.jf_path.specs.Names.{name_cmp, rise}
+use Rattle.jf_path.specs.Names.{name_cmp, are_rising}
 use Rattle.jf_path.specs.declared.name.NodeName.{NodeName}
 use Rattle.jf_path.specs.declared.node.PlainNode.{PlainNode}
+use Rattle.jf_path.specs.Keys.{IsKey, IsBytes}
+use Rattle.jf_path.proofs.BoolLaws.{left_so, right_so, true_from_T, both_so}
+use Rattle.jf_path.proofs.OrderLaws.{is_lt-from_Less, nat_less}
+use Rattle.jf_path.proofs.ListLaws.{All-of, Contains-first}
 use Rattle.jf_hash.specs.Maps.{Map, IsMap}
 use Rattle.jf_model.specs.Nodes.{fresh}
 use Rattle.jf_codec.specs.declared.format.Format.{Format}
-use Rattle.jf_landing.specs.Both.{left_so, right_so, both_so, less_so}
-use Rattle.jf_landing.specs.Elements.{All-of, Contains-first}
-use Rattle.jf_landing.specs.FreshOrder.{sorted-fresh}
-use Rattle.jf_standing.specs.Named.{Named, leaf_entry}
-use Rattle.jf_standing.specs.Order.{by_name, bare}
-use Rattle.jf_standing.specs.Standing.{Standing, marked, unmarked, with_commit, with_floor}
-use Rattle.jf_standing.specs.Sound.{is_counted, IsSound}
-use Rattle.jf_standing.specs.Landing.{head_map, written_node, stale_names, landing_of, fresh_leaves, IsInOrder}
-use Rattle.jf_standing.specs.Taking.{Continues}
-use Rattle.jf_standing.specs.Building.{apart}
-use Rattle.jf_standing.specs.Next.{IsReadCommit}
 use Rattle.jf_payload.specs.declared.records.Commit.{Commit}
+use Rattle.jf_walk.proofs.FreshOrder.{sorted-fresh}
+use Rattle.jf_standing.specs.Named.{Named, leaf_entry}
+use Rattle.jf_standing.specs.Building.{apart}
+use Rattle.jf_standing.specs.Standing.{Standing, marked, unmarked, with_commit, with_floor}
+use Rattle.jf_standing.specs.Sound.{IsSound, is_counted}
+use Rattle.jf_standing.specs.Landing.{IsInOrder, head_map, written_node, stale_names, landing_of, fresh_leaves}
+use Rattle.jf_standing.specs.Taking.{Continues}
+use Rattle.jf_standing.specs.Order.{by_name, bare}
+use Rattle.jf_standing.specs.Next.{IsReadCommit}
+use Rattle.jf_standing.proofs.Names.{are_rising-sorted, sorted-by_name}
 use Rattle.jf_standing.proofs.Lists.{All-each_element, map-which}
 use Rattle.jf_standing.proofs.Marks.{marked-name}
 use Rattle.jf_standing.proofs.Sinces.{version-low}
-use Rattle.jf_standing.proofs.Names.{rise-sorted, sorted-by_name}
 use Rattle.jf_standing.proofs.Leaves.{leaf-which}
 use Rattle.jf_standing.proofs.LeafPaths.{leaf-plain, under-Contains}
 use Rattle.jf_standing.proofs.Freshness.{sorted-written, listed-fresh}
 
-so_true : (b : Bool) → T b → b ≡ true
-so_true true h = refl
-so_true false h = absurd h
-
 module _ {X : Type 0} where
   -- sorted names rise
-  pub sorted-rise : (es : List (NodeName × X)) → T (is_sorted name_cmp es) → IsTrue (rise (map (λ e. e.0) es))
-  sorted-rise [] h = refl
-  sorted-rise (e ∷ []) h = refl
-  sorted-rise (e ∷ f ∷ es) h = ap₂ (λ a b. a && b) (so_true _ (left_so _ _ (left_so _ _ h))) (sorted-rise (f ∷ es) (right_so _ _ h))
+  pub sorted-are_rising : (es : List (NodeName × X)) → T (is_sorted name_cmp es) → IsTrue (are_rising (map (λ e. e.0) es))
+  sorted-are_rising [] h = refl
+  sorted-are_rising (e ∷ []) h = refl
+  sorted-are_rising (e ∷ f ∷ es) h = ap₂ (λ a b. a && b) (true_from_T _ (left_so _ _ (left_so _ _ h))) (sorted-are_rising (f ∷ es) (right_so _ _ h))
 
   below_append : (k : NodeName) (xs ys : List (NodeName × X)) → T (below_all name_cmp k xs) → T (below_all name_cmp k ys) → T (below_all name_cmp k (xs ++ ys))
   below_append k [] ys h j = j
@@ -54,9 +50,6 @@ module _ {X : Type 0} where
   sorted_append [] ys h k a = k
   sorted_append (x ∷ xs) ys h k a = both_so _ _ (below_append x.0 xs ys (left_so _ _ h) a.0) (sorted_append xs ys (right_so _ _ h) k a.1)
 
-nat_less : (n m : ℕ) → n < m → nat_cmp n m ≡ Less
-nat_less n m lt = grind (arith, nat_tests)
-
 -- nodes by name, as entries
 abbrev pairs : List Named → List (NodeName × (PlainNode × ℕ))
 pairs ns = map apart ns
@@ -65,18 +58,18 @@ pair_names : (ns : List Named) → map (λ e. e.0) (pairs ns) ≡ map (λ n. n.0
 pair_names [] = refl
 pair_names (n ∷ ns) = ap (λ t. n.0 ∷ t) (pair_names ns)
 
-pairs_sorted : (ns : List Named) → IsTrue (rise (map (λ n. n.0) ns)) → T (is_sorted name_cmp (pairs ns))
-pairs_sorted ns rises = rise-sorted (pairs ns) (subst (λ xs. IsTrue (rise xs)) (sym (pair_names ns)) rises)
+pairs_sorted : (ns : List Named) → IsTrue (are_rising (map (λ n. n.0) ns)) → T (is_sorted name_cmp (pairs ns))
+pairs_sorted ns rises = are_rising-sorted (pairs ns) (subst (λ xs. IsTrue (are_rising xs)) (sym (pair_names ns)) rises)
 
-pairs_rise : (ns : List Named) → T (is_sorted name_cmp (pairs ns)) → IsTrue (rise (map (λ n. n.0) ns))
-pairs_rise ns sorted = subst (λ xs. IsTrue (rise xs)) (pair_names ns) (sorted-rise (pairs ns) sorted)
+pairs_rise : (ns : List Named) → T (is_sorted name_cmp (pairs ns)) → IsTrue (are_rising (map (λ n. n.0) ns))
+pairs_rise ns sorted = subst (λ xs. IsTrue (are_rising xs)) (pair_names ns) (sorted-are_rising (pairs ns) sorted)
 
 -- names still rise after a landing
-pub rise-behind : (fmt : Format) (s : Standing) (c : Commit) → IsSound fmt s → IsTrue (rise (map (λ n. n.0) s.nodes)) → Continues s c → IsInOrder c → IsTrue (rise (map (λ n. n.0) (with_commit c s).nodes))
-rise-behind fmt s c sound rises goes order =
+pub are_rising-after : (fmt : Format) (s : Standing) (c : Commit) → IsSound fmt s → IsTrue (are_rising (map (λ n. n.0) s.nodes)) → Continues s c → IsInOrder c → IsTrue (are_rising (map (λ n. n.0) (with_commit c s).nodes))
+are_rising-after fmt s c sound rises goes order =
     pairs_rise (map (marked c) s.nodes ++ map unmarked c.fresh) (subst (λ es. T (is_sorted name_cmp es)) (sym (map-append apart (map (marked c) s.nodes) (map unmarked c.fresh))) (sorted_append (pairs (map (marked c) s.nodes)) (pairs (map unmarked c.fresh))
-    (pairs_sorted (map (marked c) s.nodes) (subst (λ xs. IsTrue (rise xs)) (sym (names_marked s.nodes)) rises))
-    (pairs_sorted (map unmarked c.fresh) (subst (λ xs. IsTrue (rise xs)) (sym (names_unmarked c.fresh)) order.fresh))
+    (pairs_sorted (map (marked c) s.nodes) (subst (λ xs. IsTrue (are_rising xs)) (sym (names_marked s.nodes)) rises))
+    (pairs_sorted (map unmarked c.fresh) (subst (λ xs. IsTrue (are_rising xs)) (sym (names_unmarked c.fresh)) order.fresh))
     (All-each_element _ (pairs (map (marked c) s.nodes)) (λ e has.
     let k = map-which apart (map (marked c) s.nodes) e has in
     let n = map-which (marked c) s.nodes k.0 k.1 in
@@ -95,7 +88,7 @@ rise-behind fmt s c sound rises goes order =
 
     all_above : (k : NodeName) (xs : List (NodeName × PlainNode)) → AllByRecursion (λ x. x.0.version ≡ c.version) xs → k.version < c.version → T (below_all name_cmp k (pairs (map unmarked xs)))
     all_above k [] own lt = tt
-    all_above k (x ∷ xs) own lt = both_so _ _ (less_so _ (ap (λ r. ordering_then r (slice_cmp nat_cmp k.path x.0.path)) (nat_less k.version x.0.version (let at = own.0 in omega arith)))) (all_above k xs own.1 lt)
+    all_above k (x ∷ xs) own lt = both_so _ _ (is_lt-from_Less _ (ap (λ r. ordering_then r (slice_cmp nat_cmp k.path x.0.path)) (nat_less k.version x.0.version (let at = own.0 in omega arith)))) (all_above k xs own.1 lt)
 
 module _ {X : Type 0} where
   below_filter : (k : NodeName) (p : NodeName × X → Bool) (es : List (NodeName × X)) → T (below_all name_cmp k es) → T (below_all name_cmp k (filter p es))
@@ -107,8 +100,8 @@ module _ {X : Type 0} where
   sorted_filter p (e ∷ es) h = elim (p e) as (λ b. T (is_sorted name_cmp (cond b (e ∷ filter p es) (filter p es)))) [ true ↦ both_so _ _ (below_filter e.0 p es (left_so _ _ h)) (sorted_filter p es (right_so _ _ h)) | false ↦ sorted_filter p es (right_so _ _ h) ]
 
 -- names still rise under a floor
-pub rise-floored : (s : Standing) (floor : ℕ) → IsTrue (rise (map (λ n. n.0) s.nodes)) → IsTrue (rise (map (λ n. n.0) (with_floor floor s).nodes))
-rise-floored s floor rises = pairs_rise (with_floor floor s).nodes (subst (λ es. T (is_sorted name_cmp es)) (same s.nodes) (sorted_filter (λ e. nat_lt floor e.1.1) (pairs s.nodes) (pairs_sorted s.nodes rises)))
+pub are_rising-floored : (s : Standing) (floor : ℕ) → IsTrue (are_rising (map (λ n. n.0) s.nodes)) → IsTrue (are_rising (map (λ n. n.0) (with_floor floor s).nodes))
+are_rising-floored s floor rises = pairs_rise (with_floor floor s).nodes (subst (λ es. T (is_sorted name_cmp es)) (same s.nodes) (sorted_filter (λ e. nat_lt floor e.1.1) (pairs s.nodes) (pairs_sorted s.nodes rises)))
   where
     same : (ns : List Named) → filter (λ e. nat_lt floor e.1.1) (pairs ns) ≡ pairs (filter (λ n. nat_lt floor n.2) ns)
     same [] = refl
@@ -118,12 +111,11 @@ rise-floored s floor rises = pairs_rise (with_floor floor s).nodes (subst (λ es
     ]
 
 -- ---- the names that a landing of a map writes
-
 pub landing-read : (fmt : Format) (s : Standing) (m : Map) → IsMap m → IsReadCommit (landing_of fmt s m)
 landing-read fmt s m sound = (
   record {
-    fresh = sorted-rise (map (written_node fmt s m) (fresh (head_map s) m)) (sorted-written fmt s m (fresh (head_map s) m) (sorted-fresh (head_map s) m));
-    stale = sorted-rise (by_name (bare (stale_names s m))) (sorted-by_name (bare (stale_names s m)));
+    fresh = sorted-are_rising (map (written_node fmt s m) (fresh (head_map s) m)) (sorted-written fmt s m (fresh (head_map s) m) (sorted-fresh (head_map s) m));
+    stale = sorted-are_rising (by_name (bare (stale_names s m))) (sorted-by_name (bare (stale_names s m)));
   },
   All-each_element _ (fresh_leaves (landing_of fmt s m)) (λ e has.
       let n = leaf-which (map unmarked (landing_of fmt s m).fresh) e has in

@@ -1,17 +1,17 @@
 -- In a sound standing each node was written before it goes stale.
-use Rattle.std.proofs.Common.{◌≡◌, ℕ, ◌-◌, ◌<◌, ◌≤◌, true, false, inl, inr, Contains, refl, arith}
+use Rattle.std.proofs.Common.{◌≡◌, ℕ, ◌-◌, ◌<◌, ◌≤◌, true, arith, false, Contains, inl, inr, refl}
 use Rattle.std.proofs.lemmas.Bool.Decides.{nat_tests}
 use Rattle.std.specs.List.{AllByRecursion}
+use Rattle.jf_path.proofs.ListLaws.{All-of}
+use Rattle.jf_path.proofs.FilterLaws.{Contains-filter}
 use Rattle.jf_codec.specs.declared.format.Format.{Format}
-use Rattle.jf_landing.specs.Elements.{All-of, Contains-filter}
 use Rattle.jf_standing.specs.Named.{Named, is_alive, is_stale}
 use Rattle.jf_standing.specs.Standing.{Standing}
 use Rattle.jf_standing.specs.Sound.{IsSound}
-use Rattle.jf_standing.proofs.Lists.{All-each_element}
 use Rattle.jf_standing.proofs.Numbers.{same_number}
+use Rattle.jf_standing.proofs.Lists.{All-each_element}
 
 -- ---- tests on the two versions of a node
-
 pub alive-tells : (w : ℕ) (n : Named) → is_alive w n ≡ true → (n.0.version ≤ w) × (w < n.2)
 alive-tells w n is = (grind (arith, nat_tests), grind (arith, nat_tests))
 
@@ -25,7 +25,6 @@ pub alive-not_yet : (w : ℕ) (n : Named) → w < n.0.version → is_alive w n �
 alive-not_yet w n low = grind (arith, nat_tests)
 
 -- ---- a sound standing
-
 -- no node has a version above the head
 pub version-low : (fmt : Format) (s : Standing) → IsSound fmt s → (n : Named) → Contains s.nodes n → n.0.version ≤ s.head
 version-low fmt s sound n has = All-of (λ n. n.0.version ≤ s.head) s.nodes n sound.written has

@@ -1,20 +1,20 @@
 -- A record that a payload spells meets what is asked of a record that was read.
-use Rattle.std.proofs.Common.{ℕ, ◌^◌, ◌<◌, List, [], ◌∷◌, ◌++◌, map, reverse, sym, subst, ◌∙◌, arith}
-use Rattle.std.specs.List.{AllByRecursion, cons_option}
+use Rattle.std.proofs.Common.{ℕ, List, ◌^◌, ◌<◌, [], ◌∷◌, map, ◌++◌, reverse, sym, subst, ◌∙◌, arith}
 use Rattle.std.proofs.lemmas.Grind.{reverse_onto}
 use Rattle.std.proofs.lemmas.List.{length-reverse}
-use Rattle.jf_path.specs.Keys.{IsKey}
+use Rattle.std.specs.List.{cons_option, AllByRecursion}
+use Rattle.jf_path.specs.declared.node.PlainNode.{PlainNode}
 use Rattle.jf_path.specs.Names.{IsName}
 use Rattle.jf_path.specs.declared.name.NodeName.{NodeName}
-use Rattle.jf_path.specs.declared.node.PlainNode.{PlainNode}
+use Rattle.jf_path.specs.Keys.{IsKey}
 use Rattle.jf_path.specs.declared.node.PlainNode.TheVariants as node
 use Rattle.jf_codec.specs.Spelling.{IsNode}
 use Rattle.jf_codec.specs.declared.format.Format.{Format}
 use Rattle.jf_payload.specs.declared.records.Commit.{Commit}
+use Rattle.jf_payload.specs.Spelling.{IsCommit, IsRecord}
 use Rattle.jf_payload.specs.declared.records.Record.{Record}
 use Rattle.jf_payload.specs.declared.records.Record.TheVariants as «record»
-use Rattle.jf_payload.specs.Spelling.{IsCommit, IsRecord}
-use Rattle.jf_standing.specs.Named.{Named, leaf_entry, leaf_entries, AreEntries}
+use Rattle.jf_standing.specs.Named.{leaf_entry, AreEntries, Named, leaf_entries}
 use Rattle.jf_standing.specs.Standing.{unmarked}
 use Rattle.jf_standing.specs.Next.{IsReadCommit, IsReadRecord}
 use Rattle.jf_standing.specs.Begin.{IsReadFirst}
@@ -32,13 +32,13 @@ fresh-entries : (fmt : Format) (xs : List (NodeName × PlainNode)) → AllByRecu
 fresh-entries fmt [] all = tt
 fresh-entries fmt (x ∷ xs) all = entry-of fmt x.1 (leaf_entries (map unmarked xs)) all.0.1 (fresh-entries fmt xs all.1)
 
-All-behind : {X : Type 0} (P : X → Type 0) (xs : List X) (x : X) → AllByRecursion P xs → P x → AllByRecursion P (xs ++ x ∷ [])
-All-behind P [] x all here = (here, tt)
-All-behind P (y ∷ ys) x all here = (all.0, All-behind P ys x all.1 here)
+All-after : {X : Type 0} (P : X → Type 0) (xs : List X) (x : X) → AllByRecursion P xs → P x → AllByRecursion P (xs ++ x ∷ [])
+All-after P [] x all here = (here, tt)
+All-after P (y ∷ ys) x all here = (all.0, All-after P ys x all.1 here)
 
 pub All-reverse : {X : Type 0} (P : X → Type 0) (xs : List X) → AllByRecursion P xs → AllByRecursion P (reverse xs)
 All-reverse P [] all = tt
-All-reverse {X} P (x ∷ xs) all = subst (λ (ys : List X). AllByRecursion P ys) (sym (reverse_onto xs x [])) (All-behind P (reverse xs) x (All-reverse P xs all.1) all.0)
+All-reverse {X} P (x ∷ xs) all = subst (λ (ys : List X). AllByRecursion P ys) (sym (reverse_onto xs x [])) (All-after P (reverse xs) x (All-reverse P xs all.1) all.0)
 
 read-commit : (fmt : Format) (c : Commit) → IsCommit fmt c → IsReadCommit c
 read-commit fmt c is = (record { fresh = is.fresh_rise; stale = is.stale_rise }, fresh-entries fmt c.fresh is.fresh)

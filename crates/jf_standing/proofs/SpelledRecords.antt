@@ -1,37 +1,36 @@
 -- Landings and checkpoints are records that have a spelling.
-use Rattle.std.proofs.Common.{◌≡◌, ℕ, ◌+◌, ◌^◌, ◌<◌, IsTrue, List, [], ◌∷◌, ◌++◌, map, length, refl, sym, ap, ap₂, subst, ◌∙◌, arith}
+use Rattle.std.proofs.Common.{arith, ◌≡◌, ◌+◌, [], ◌∷◌, ◌++◌, length, refl, sym, ap, List, map, ap₂, ℕ, IsTrue, ◌∙◌, ◌^◌, ◌<◌, subst}
 use Rattle.std.proofs.lemmas.List.{length-reverse}
 use Rattle.std.proofs.lemmas.List.Sorted.{Contains-permutation, IsPermutation-sym, length_permutation}
-use Rattle.jf_path.specs.Keys.{IsKey}
-use Rattle.jf_path.specs.Names.{IsName, rise}
-use Rattle.jf_path.specs.declared.name.NodeName.{NodeName}
 use Rattle.jf_path.specs.declared.node.PlainNode.{PlainNode}
+use Rattle.jf_path.specs.declared.name.NodeName.{NodeName}
+use Rattle.jf_path.specs.Names.{are_rising, IsName}
+use Rattle.jf_path.specs.Keys.{IsKey}
+use Rattle.jf_path.proofs.ListLaws.{All-of}
 use Rattle.jf_hash.specs.Maps.{Map}
 use Rattle.jf_hash.specs.Slots.{Part}
-use Rattle.jf_model.specs.Nodes.{Path, fresh}
-use Rattle.jf_codec.specs.Spelling.{IsNode}
-use Rattle.jf_codec.specs.Counted.{in_format}
+use Rattle.jf_model.specs.Nodes.{fresh, Path}
 use Rattle.jf_codec.specs.declared.format.Format.{Format}
+use Rattle.jf_codec.specs.Spelling.{IsNode}
 use Rattle.jf_codec.specs.declared.format.Format.TheVariants as format
-use Rattle.jf_landing.specs.Elements.{All-of}
-use Rattle.jf_standing.specs.Named.{Named}
-use Rattle.jf_standing.specs.Order.{by_name}
-use Rattle.jf_standing.specs.Standing.{Standing}
-use Rattle.jf_standing.specs.Landing.{head_map, version_after, written_node, landing_of}
-use Rattle.jf_standing.specs.Building.{apart, as_named, nodes_by_name}
+use Rattle.jf_payload.proofs.FormatLaws.{node_in}
 use Rattle.jf_standing.specs.SpellingLaws.{LandingsAreSpelled, LandingsAreKept, CheckpointsAreSpelled}
-use Rattle.jf_standing.proofs.Lists.{All-each_element}
+use Rattle.jf_standing.specs.Standing.{Standing}
+use Rattle.jf_standing.specs.Landing.{version_after, written_node, head_map, landing_of}
+use Rattle.jf_standing.specs.Named.{Named}
+use Rattle.jf_standing.specs.Building.{as_named, apart, nodes_by_name}
+use Rattle.jf_standing.specs.Order.{by_name}
 use Rattle.jf_standing.proofs.Leaves.{IsMap-map_at}
-use Rattle.jf_standing.proofs.Names.{sorted-by_name}
-use Rattle.jf_standing.proofs.Rising.{sorted-rise, landing-read}
+use Rattle.jf_standing.proofs.Rising.{landing-read, sorted-are_rising}
 use Rattle.jf_standing.proofs.Valid.{fresh-valid, stale-valid, root-valid}
+use Rattle.jf_standing.proofs.Counted.{plain_node-uncounted}
+use Rattle.jf_standing.proofs.Names.{sorted-by_name}
+use Rattle.jf_standing.proofs.Lists.{All-each_element}
 use Rattle.jf_standing.proofs.ValidNodes.{nodes-valid}
 use Rattle.jf_standing.proofs.ByName.{nodes-moved}
-use Rattle.jf_standing.proofs.Counted.{plain_node-uncounted}
 use Rattle.jf_standing.proofs.SpelledRead.{All-reverse}
 
 -- ---- landings
-
 pub landing-spelled : LandingsAreSpelled
 landing-spelled fmt s m keys sound short room last few fewer =
     let read = landing-read fmt s m sound in
@@ -45,9 +44,6 @@ landing-spelled fmt s m keys sound short room last few fewer =
       stale_count = fewer;
       stale_rise = read.0.stale;
     }
-
-abbrev node_in : Format → NodeName × PlainNode → NodeName × PlainNode
-node_in fmt y = (y.0, in_format fmt y.1)
 
 written-kept : (fmt : Format) (s : Standing) (m : Map) (x : Path × Part) → node_in fmt (written_node format.Two s m x) ≡ written_node fmt s m x
 written-kept format.One s m x =
@@ -63,13 +59,12 @@ landing-kept fmt s m =
     ap (λ (ys : List (NodeName × PlainNode)). record { version = (landing_of fmt s m).version; root = (landing_of fmt s m).root; fresh = ys; stale = (landing_of fmt s m).stale }) (all-kept fmt s m (fresh (head_map s) m))
 
 -- ---- checkpoints
-
 named-names : (es : List (NodeName × (PlainNode × ℕ))) → map (λ (n : Named). n.0) (map as_named es) ≡ map (λ e. e.0) es
 named-names [] = refl
 named-names (e ∷ es) = ap (λ (ns : List NodeName). e.0 ∷ ns) (named-names es)
 
-pub nodes-rise : (ns : List Named) → IsTrue (rise (map (λ (n : Named). n.0) (nodes_by_name ns)))
-nodes-rise ns = ap rise (named-names (by_name (map apart ns))) ∙ sorted-rise (by_name (map apart ns)) (sorted-by_name (map apart ns))
+pub nodes-are_rising : (ns : List Named) → IsTrue (are_rising (map (λ (n : Named). n.0) (nodes_by_name ns)))
+nodes-are_rising ns = ap are_rising (named-names (by_name (map apart ns))) ∙ sorted-are_rising (by_name (map apart ns)) (sorted-by_name (map apart ns))
 
 pub checkpoint-spelled : CheckpointsAreSpelled
 checkpoint-spelled fmt generation s sound keys short first last hashes few =
@@ -85,5 +80,5 @@ checkpoint-spelled fmt generation s sound keys short first last hashes few =
       hashes = All-reverse IsKey s.roots hashes;
       nodes_fit = All-each_element _ (nodes_by_name s.nodes) (λ n has. All-of (λ (k : Named). IsName k.0 × IsNode fmt k.1 × (k.2 < 2 ^ 64)) s.nodes n valid (Contains-permutation (nodes_by_name s.nodes) s.nodes n (IsPermutation-sym s.nodes (nodes_by_name s.nodes) moved) has));
       count = subst (λ (k : ℕ). k < 2 ^ 64) (sym (length_permutation s.nodes (nodes_by_name s.nodes) moved)) few;
-      names_rise = nodes-rise s.nodes;
+      names_rise = nodes-are_rising s.nodes;
     }

@@ -1,22 +1,21 @@
 -- In a sound standing the nodes alive at a version stand at exactly the paths of the nodes of its map.
-use Rattle.std.proofs.Common.{◌≡◌, ℕ, zero, suc, ◌+◌, ◌-◌, ◌<◌, ◌≤◌, Bool, true, false, not, ◌&&◌, ◌==◌, nat_le, nat_lt, List, [], ◌∷◌, refl, sym, ap, ap₂, ◌∙◌, subst, arith}
+use Rattle.std.proofs.Common.{◌≡◌, ℕ, ◌+◌, ◌-◌, ◌<◌, ◌≤◌, Bool, true, false, ◌&&◌, ◌==◌, nat_le, nat_lt, arith, List, sym, ap₂, ◌∙◌, ap, not, refl, [], ◌∷◌, zero, suc, subst}
 use Rattle.std.proofs.lemmas.Bool.Decides.{nat_tests}
-use Rattle.std.specs.List.{AllByRecursion, count_by}
 use Rattle.std.specs.FinMap.{entries}
+use Rattle.std.specs.List.{AllByRecursion, count_by}
+use Rattle.jf_path.proofs.ListLaws.{All-weaker}
 use Rattle.jf_hash.specs.Slots.{Part}
-use Rattle.jf_model.specs.Nodes.{Path, under, is_node, same_part, is_fresh}
+use Rattle.jf_model.specs.Nodes.{Path, same_part, under, is_node, is_fresh}
 use Rattle.jf_codec.specs.declared.format.Format.{Format}
-use Rattle.jf_landing.specs.AllLaws.{All-weaker}
-use Rattle.jf_landing.specs.SameParts.{same_part-exact, same_part-refl}
+use Rattle.jf_walk.proofs.SameParts.{same_part-exact, same_part-refl}
 use Rattle.jf_standing.specs.Named.{Named, is_alive, is_written, is_stale, is_at, alive_at, written_at, stale_at, map_at}
-use Rattle.jf_standing.specs.Standing.{Standing}
 use Rattle.jf_standing.specs.Sound.{StandAt, IsSound}
+use Rattle.jf_standing.specs.Standing.{Standing}
 use Rattle.jf_standing.proofs.Lists.{one, same_test}
 use Rattle.jf_standing.proofs.Counts.{count-filter, count-balance}
 use Rattle.jf_standing.proofs.Sinces.{versions-before}
 
 -- ---- one version further, for one node
-
 balance : (v s w : ℕ) (b : Bool) → v < s → 1 ≤ w → one ((nat_le v w && nat_lt w s) && b) + one ((s == w) && b) ≡ one ((nat_le v (w - 1) && nat_lt (w - 1) s) && b) + one ((v == w) && b)
 balance v s w true before some = grind (arith, nat_tests)
 balance v s w false before some = grind (arith, nat_tests)
@@ -31,7 +30,6 @@ step-balance ns w p some before =
     ∙ sym (ap₂ (λ a b. a + b) (count-filter (is_at p) (is_alive (w - 1)) ns) (count-filter (is_at p) (is_written w) ns))
 
 -- ---- one path of two maps
-
 pub same_part-turned : (es fs : Part) → same_part es fs ≡ same_part fs es
 same_part-turned es fs = same_test (same_part es fs) (same_part fs es)
     (λ is. ap (λ x. same_part fs x) (same_part-exact es fs is) ∙ same_part-refl fs)
@@ -54,7 +52,6 @@ path-balance old new (i ∷ p) =
     ap (λ s. one a + one (b && not (a && s))) (same_part-turned (under 0 (i ∷ p) new) (under 0 (i ∷ p) old)) ∙ paths a b (same_part (under 0 (i ∷ p) old) (under 0 (i ∷ p) new))
 
 -- ---- all versions
-
 -- if the nodes of one map stand, and a step leads to another, then the nodes of that one stand
 pub step-stands : (ns : List Named) (w : ℕ) (old new : Part) → 1 ≤ w → AllByRecursion (λ n. n.0.version < n.2) ns
     → StandAt (λ p. is_node 0 p old) (alive_at (w - 1) ns) → StandAt (is_fresh old new) (written_at w ns) → StandAt (is_fresh new old) (stale_at w ns)

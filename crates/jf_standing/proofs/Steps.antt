@@ -1,20 +1,19 @@
 -- A node one step below another: where it stands, and that the node above names it as a child.
-use Rattle.std.proofs.Common.{◌≡◌, ℕ, ◌+◌, ◌*◌, ◌<◌, Bool, true, false, not, ◌&&◌, ◌||◌, cond, ◌==◌, inl, inr, List, [], ◌∷◌, ◌++◌, length, refl, sym, ap, ap₂, ◌∙◌, arith}
+use Rattle.std.proofs.Common.{◌≡◌, ℕ, ◌+◌, [], ◌∷◌, ◌++◌, length, ap, ◌∙◌, arith, Bool, ◌&&◌, true, false, refl, ap₂, ◌==◌, ◌||◌, cond, ◌*◌, not, List, ◌<◌, inl, inr, sym}
 use Rattle.std.proofs.lemmas.Bool.{cases_lt}
 use Rattle.std.proofs.lemmas.Bool.Decides.{nat_tests}
 use Rattle.std.proofs.lemmas.List.Folds.{list_any-append}
 use Rattle.std.specs.List.{list_any, flat_map}
-use Rattle.jf_path.specs.declared.children.Child.{Child}
 use Rattle.jf_path.specs.declared.node.PlainNode.{PlainNode}
+use Rattle.jf_path.specs.declared.children.Child.{Child}
 use Rattle.jf_path.specs.declared.node.PlainNode.TheVariants as node
+use Rattle.jf_path.proofs.BoolLaws.{left_true, right_true}
+use Rattle.jf_hash.specs.Slots.{Part, with_nibble, all_nibbles}
 use Rattle.jf_hash.specs.Roots.{part_root}
-use Rattle.jf_hash.specs.Slots.{Part, all_nibbles, with_nibble}
-use Rattle.jf_model.specs.Nodes.{Path, under, has_one, has_two, is_node, child_at, plain_node}
-use Rattle.jf_landing.specs.Both.{left_true, right_true}
-use Rattle.jf_landing.specs.PartLaws.{with_nibble-past}
+use Rattle.jf_model.specs.Nodes.{Path, under, has_one, has_two, is_node, child_in_node, plain_node}
+use Rattle.jf_walk.proofs.PartLaws.{with_nibble-past}
 
 -- ---- paths by their last step
-
 -- the part under a path with one more step
 pub under-step : (d : ℕ) (q : Path) (i : ℕ) (es : Part) → under d (q ++ i ∷ []) es ≡ with_nibble (d + length q) i (under d q es)
 unfolding under
@@ -53,7 +52,6 @@ is_node-front d (j ∷ q) r es h =
     ap₂ (λ a b. a && b) there (is_node-front (d + 1) q r part (right_true (has_two es && has_one part) _ h))
 
 -- ---- the children that a node names
-
 -- whether a node has a child at a nibble
 abbrev pub has_child : ℕ → PlainNode → Bool
 has_child i node.Null = false
@@ -64,7 +62,7 @@ lone : (test : Child → Bool) (b : Bool) (c : Child) → list_any test (cond b 
 lone test true c = elim (test c) as (λ t. (t || false) ≡ (t && true)) [ true ↦ refl | false ↦ refl ]
 lone test false c = elim (test c) as (λ t. false ≡ (t && false)) [ true ↦ refl | false ↦ refl ]
 
-child_listed : (counted : Bool) (version : ℕ → ℕ) (d : ℕ) (es : Part) (i j : ℕ) → list_any (λ c. c.nibble == i) (child_at counted version d es j) ≡ ((j == i) && has_one (with_nibble d i es))
+child_listed : (counted : Bool) (version : ℕ → ℕ) (d : ℕ) (es : Part) (i j : ℕ) → list_any (λ c. c.nibble == i) (child_in_node counted version d es j) ≡ ((j == i) && has_one (with_nibble d i es))
 child_listed counted version d es i j =
     let part = with_nibble d j es in
     lone (λ c. c.nibble == i) (has_one part) (record { nibble = j; version = version j; hash = part_root (4 * (d + 1)) part; leaf = not (has_two part); count = cond counted (length part) 0 })
@@ -73,10 +71,10 @@ child_listed counted version d es i j =
       | false ↦ λ is. refl
     ] refl)
 
-children_listed : (counted : Bool) (version : ℕ → ℕ) (d : ℕ) (es : Part) (i : ℕ) (js : List ℕ) → list_any (λ c. c.nibble == i) (flat_map (child_at counted version d es) js) ≡ (list_any (λ j. j == i) js && has_one (with_nibble d i es))
+children_listed : (counted : Bool) (version : ℕ → ℕ) (d : ℕ) (es : Part) (i : ℕ) (js : List ℕ) → list_any (λ c. c.nibble == i) (flat_map (child_in_node counted version d es) js) ≡ (list_any (λ j. j == i) js && has_one (with_nibble d i es))
 children_listed counted version d es i [] = refl
 children_listed counted version d es i (j ∷ js) =
-    list_any-append (λ c. c.nibble == i) (child_at counted version d es j) (flat_map (child_at counted version d es) js)
+    list_any-append (λ c. c.nibble == i) (child_in_node counted version d es j) (flat_map (child_in_node counted version d es) js)
     ∙ ap₂ (λ a b. a || b) (child_listed counted version d es i j) (children_listed counted version d es i js)
     ∙ joined (j == i) (list_any (λ j. j == i) js) (has_one (with_nibble d i es))
   where

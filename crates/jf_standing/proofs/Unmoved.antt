@@ -1,23 +1,24 @@
 -- A landing that leaves a sound standing changes nothing of the versions before it.
-use Rattle.std.proofs.Common.{◌≡◌, ℕ, ◌+◌, ◌≤◌, Bool, true, false, ◌&&◌, List, map, length, Contains, refl, sym, ap, ap₂, ◌∙◌, subst, arith}
+use Rattle.std.proofs.Common.{◌≡◌, true, ℕ, ◌+◌, List, length, Contains, ap, ◌∙◌, arith, ◌≤◌, sym, Bool, false, ◌&&◌, map, refl, subst, ap₂}
 use Rattle.std.proofs.lemmas.Slice.Eq.{bytes_eq-Decides}
-use Rattle.std.specs.List.{AllByRecursion, count_by}
 use Rattle.std.specs.FinMap.{entries}
+use Rattle.std.specs.List.{count_by, AllByRecursion}
+use Rattle.jf_path.proofs.ListLaws.{All-of}
+use Rattle.jf_path.proofs.FilterLaws.{Contains-filter, filter-Contains, filter-passes}
+use Rattle.jf_path.proofs.BoolLaws.{left_true, right_true}
 use Rattle.jf_model.specs.Nodes.{Path, under, is_node}
 use Rattle.jf_codec.specs.declared.format.Format.{Format}
-use Rattle.jf_landing.specs.Both.{left_true, right_true}
-use Rattle.jf_landing.specs.Elements.{All-of, Contains-filter, filter-Contains, filter-passes}
-use Rattle.jf_standing.specs.Named.{Named, is_alive, is_at, alive_at, map_at}
-use Rattle.jf_standing.specs.Standing.{Standing, marked, unmarked, with_commit}
-use Rattle.jf_standing.specs.Sound.{is_counted, IsVersion, IsSound}
-use Rattle.jf_standing.specs.Taking.{Continues}
 use Rattle.jf_payload.specs.declared.records.Commit.{Commit}
-use Rattle.jf_standing.proofs.Lists.{one, one-true, All-each_element}
-use Rattle.jf_standing.proofs.Counts.{count-append, count-filter, count-map, count-same, count-which, count-squeeze}
-use Rattle.jf_standing.proofs.Stands.{stands}
+use Rattle.jf_standing.specs.Named.{Named, is_at, alive_at, map_at, is_alive}
+use Rattle.jf_standing.specs.Sound.{is_counted, IsVersion, IsSound}
+use Rattle.jf_standing.specs.Standing.{Standing, marked, with_commit, unmarked}
+use Rattle.jf_standing.specs.Taking.{Continues}
 use Rattle.jf_standing.proofs.Steps.{parts_at, has_child, has_child-plain}
+use Rattle.jf_standing.proofs.Lists.{one-true, one, All-each_element}
+use Rattle.jf_standing.proofs.Counts.{count-which, count-append, count-filter, count-map, count-same, count-squeeze}
+use Rattle.jf_standing.proofs.Stands.{stands}
 use Rattle.jf_standing.proofs.Closure.{same_nodes}
-use Rattle.jf_standing.proofs.Marks.{marked-name, marked-node, alive-marked, behind, Contains-behind}
+use Rattle.jf_standing.proofs.Marks.{marked-name, marked-node, alive-marked, nodes_after_commit, Contains-nodes_after_commit}
 
 -- the path of a node that stands at a path
 pub at-tells : (p : Path) (n : Named) → is_at p n ≡ true → n.0.path ≡ p
@@ -41,20 +42,20 @@ alive-there fmt s sound w low high q node =
 
 module _ (fmt : Format) (s : Standing) (c : Commit) (sound : IsSound fmt s) (goes : Continues s c) (behind_sound : IsSound fmt (with_commit c s)) where
   -- at each earlier version, the nodes of the map after the landing are nodes of the map before it
-  old_nodes : (w : ℕ) → s.floor ≤ w → w ≤ s.head → (p : Path) → is_node 0 p (entries (map_at w (behind c s.nodes))) ≡ true → is_node 0 p (entries (map_at w s.nodes)) ≡ true
-  old_nodes w low high = same_nodes (entries (map_at w s.nodes)) (entries (map_at w (behind c s.nodes))) (λ q i here there below.
+  old_nodes : (w : ℕ) → s.floor ≤ w → w ≤ s.head → (p : Path) → is_node 0 p (entries (map_at w (nodes_after_commit c s.nodes))) ≡ true → is_node 0 p (entries (map_at w s.nodes)) ≡ true
+  old_nodes w low high = same_nodes (entries (map_at w s.nodes)) (entries (map_at w (nodes_after_commit c s.nodes))) (λ q i here there below.
       let n = alive-there fmt s sound w low high q here in
       let stood = filter-Contains (is_alive w) s.nodes n.0 n.1 in
       let alive = alive-marked c w n.0 (let next = goes.next in omega arith) (filter-passes (is_alive w) s.nodes n.0 n.1) in
-      let stands_yet = Contains-filter (is_alive w) (behind c s.nodes) (marked c n.0) (Contains-behind c s.nodes n.0 stood) alive in
+      let stands_yet = Contains-filter (is_alive w) (nodes_after_commit c s.nodes) (marked c n.0) (Contains-nodes_after_commit c s.nodes n.0 stood) alive in
       let next = goes.next in
       sym (node-tells fmt s.nodes w _ (sound.versions w low high) n.0 n.1 q n.2 i)
       ∙ ap (has_child i) (sym (marked-node c n.0))
-      ∙ node-tells fmt (behind c s.nodes) w _ (behind_sound.versions w low (omega arith)) (marked c n.0) stands_yet q (ap (λ m. m.path) (marked-name c n.0) ∙ n.2) i
+      ∙ node-tells fmt (nodes_after_commit c s.nodes) w _ (behind_sound.versions w low (omega arith)) (marked c n.0) stands_yet q (ap (λ m. m.path) (marked-name c n.0) ∙ n.2) i
       ∙ below)
 
-  few_behind : (w : ℕ) → s.floor ≤ w → w ≤ s.head → (p : Path) → count_by (λ n. is_alive w (marked c n) && is_at p n) s.nodes ≤ count_by (λ n. is_alive w n && is_at p n) s.nodes
-  few_behind w low high p =
+  few_after : (w : ℕ) → s.floor ≤ w → w ≤ s.head → (p : Path) → count_by (λ n. is_alive w (marked c n) && is_at p n) s.nodes ≤ count_by (λ n. is_alive w n && is_at p n) s.nodes
+  few_after w low high p =
       let next = goes.next in
       let there = stands fmt (with_commit c s) behind_sound w low (omega arith) p in
       let here = stands fmt s sound w low high p in
@@ -66,10 +67,10 @@ module _ (fmt : Format) (s : Standing) (c : Commit) (sound : IsSound fmt s) (goe
         here,
         kept,
         same,
-        count-filter (is_at p) (is_alive w) (behind c s.nodes),
+        count-filter (is_at p) (is_alive w) (nodes_after_commit c s.nodes),
         count-filter (is_at p) (is_alive w) s.nodes,
         count-append (λ n. is_alive w n && is_at p n) (map (marked c) s.nodes) (map unmarked c.fresh),
-        implied (is_node 0 p (entries (map_at w (behind c s.nodes)))) (is_node 0 p (entries (map_at w s.nodes))) (old_nodes w low high p),
+        implied (is_node 0 p (entries (map_at w (nodes_after_commit c s.nodes)))) (is_node 0 p (entries (map_at w s.nodes))) (old_nodes w low high p),
       )
     where
       implied : (a b : Bool) → (a ≡ true → b ≡ true) → one a ≤ one b
@@ -84,7 +85,7 @@ module _ (fmt : Format) (s : Standing) (c : Commit) (sound : IsSound fmt s) (goe
       let at = at-so p n refl in
       let squeezed = count-squeeze (λ n. is_alive w n && is_at p n) (λ n. is_alive w (marked c n) && is_at p n) s.nodes
       (All-each_element _ s.nodes (λ m there is. ap₂ (λ a b. a && b) (alive-marked c w m (omega arith) (left_true _ _ is)) (right_true (is_alive w m) _ is)))
-      (few_behind w low high p) in
+      (few_after w low high p) in
       sym (alone (is_alive w (marked c n)) (is_at p n) at) ∙ All-of _ s.nodes n squeezed has ∙ alone (is_alive w n) (is_at p n) at)
     where
       alone : (a b : Bool) → b ≡ true → (a && b) ≡ a

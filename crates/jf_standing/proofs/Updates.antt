@@ -1,30 +1,30 @@
 -- The landing that an update of a snapshot writes is that of the standing, if the snapshot has the nodes' versions.
-use Rattle.std.proofs.Common.{◌≡◌, ℕ, ◌+◌, ◌≤◌, true, false, cond, List, [], ◌∷◌, ◌++◌, map, length, refl, sym, ap, ap₂, ◌∙◌, subst, arith}
-use Rattle.std.proofs.lemmas.List.Sorted.{list_any-IsPermutation}
 use Rattle.std.specs.Prelude.{IsTrue}
+use Rattle.std.proofs.Common.{◌≡◌, ℕ, ◌+◌, true, false, cond, List, [], ◌∷◌, ◌++◌, map, length, refl, sym, ap, ap₂, ◌∙◌, subst, ◌≤◌, arith}
+use Rattle.std.proofs.lemmas.List.Sorted.{list_any-IsPermutation}
+use Rattle.std.specs.FinMap.{entries, len}
+use Rattle.std.specs.FinMap as fin
 use Rattle.std.specs.List.{AllByRecursion}
 use Rattle.std.specs.List.Sorted.{IsPermutation}
 use Rattle.std.specs.Ordering.{eq_by_cmp}
-use Rattle.std.specs.FinMap as fin
-use Rattle.std.specs.FinMap.{entries, len}
-use Rattle.jf_path.specs.Names.{name_cmp, rise}
 use Rattle.jf_path.specs.declared.name.NodeName.{NodeName}
 use Rattle.jf_path.specs.declared.node.PlainNode.{PlainNode}
+use Rattle.jf_path.specs.Names.{name_cmp, are_rising}
 use Rattle.jf_hash.specs.Maps.{Map, Batch, apply}
 use Rattle.jf_hash.specs.Slots.{Part}
-use Rattle.jf_model.specs.Changes.{entries-apply}
 use Rattle.jf_model.specs.Nodes.{Path, is_node, is_fresh, plain_node, fresh, stale}
+use Rattle.jf_model.proofs.ChangeLaws.{entries-apply}
 use Rattle.jf_codec.specs.declared.format.Format.{Format}
-use Rattle.jf_landing.specs.PartChanges.{length-applied}
+use Rattle.jf_walk.proofs.PartChanges.{length-applied}
 use Rattle.jf_standing.specs.Named.{version_at}
 use Rattle.jf_standing.specs.Standing.{Standing}
 use Rattle.jf_standing.specs.Sound.{is_counted}
-use Rattle.jf_standing.specs.Landing.{head_map, version_after, written_node, name_at_head, stale_names, landing_of}
+use Rattle.jf_standing.specs.Landing.{head_map, version_after, written_node, landing_of, name_at_head, stale_names}
 use Rattle.jf_standing.proofs.Lists.{All-each_element}
 use Rattle.jf_standing.proofs.Alive.{plain_node-same}
-use Rattle.jf_standing.proofs.Names.{same_names}
 use Rattle.jf_standing.proofs.Steps.{parts_at}
 use Rattle.jf_standing.proofs.Freshness.{fresh-node, stale-node, child-node, listed-fresh}
+use Rattle.jf_standing.proofs.Names.{same_names}
 
 map_same : {X Y : Type 0} (f g : X → Y) (xs : List X) → AllByRecursion (λ x. f x ≡ g x) xs → map f xs ≡ map g xs
 map_same f g [] h = refl
@@ -48,7 +48,7 @@ module _ (fmt : Format) (s : Standing) (m : Map) (before after : Path → ℕ)
       version_is (x.0 ++ i ∷ []) (child-node (entries m) x.0 i node (ap (λ es. parts_at (length x.0) i es) (sym listed.1) ∙ some))))))
 
 module _ (fmt : Format) (s : Standing) (m : Map) (before : Path → ℕ) where
-  pub stale-update : (names : List NodeName) → ((p : Path) → is_node 0 p (entries (head_map s)) ≡ true → before p ≡ version_at s.head s.nodes p) → IsPermutation (map (λ (x : Path × Part). record { version = before x.0; path = x.0 }) (stale (head_map s) m)) names → IsTrue (rise names) → names ≡ (landing_of fmt s m).stale
+  pub stale-update : (names : List NodeName) → ((p : Path) → is_node 0 p (entries (head_map s)) ≡ true → before p ≡ version_at s.head s.nodes p) → IsPermutation (map (λ (x : Path × Part). record { version = before x.0; path = x.0 }) (stale (head_map s) m)) names → IsTrue (are_rising names) → names ≡ (landing_of fmt s m).stale
   stale-update names was moved rises =
       let same : map (λ (x : Path × Part). record { version = before x.0; path = x.0 }) (stale (head_map s) m) ≡ stale_names s m =
       map_same _ (λ (x : Path × Part). name_at_head s x.0) (stale (head_map s) m) (All-each_element _ (stale (head_map s) m) (λ x has.
@@ -56,6 +56,5 @@ module _ (fmt : Format) (s : Standing) (m : Map) (before : Path → ℕ) where
       same_names names (stale_names s m) rises (λ q. sym (list_any-IsPermutation (eq_by_cmp name_cmp q) (stale_names s m) names (subst (λ ns. IsPermutation ns names) same moved)))
 
 -- ---- room
-
 pub len-apply : (m : Map) (b : Batch) → len (apply m b) ≤ len m + length b
 len-apply m b = omega (arith, length-applied (entries m) b, fin.len-entries m, fin.len-entries (apply m b), ap length (entries-apply m b))

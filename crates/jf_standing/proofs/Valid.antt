@@ -1,59 +1,48 @@
 -- All that a landing of a map writes has a spelling.
-use Rattle.std.proofs.Common.{◌≡◌, ℕ, zero, suc, ◌+◌, ◌-◌, ◌*◌, ◌<◌, ◌≤◌, ◌^◌, Bool, true, false, not, ◌&&◌, ◌||◌, cond, ◌==◌, List, [], ◌∷◌, ◌++◌, map, filter, length, Contains, refl, sym, ap, ap₂, ◌∙◌, subst, arith, true≢false}
-use Rattle.std.specs.List.{AllByRecursion, list_any, flat_map}
-use Rattle.std.specs.FinMap as fin
+use Rattle.std.proofs.Common.{ℕ, ◌-◌, map, ◌+◌, ◌≤◌, ◌==◌, List, [], ◌∷◌, length, arith, ◌≡◌, ◌<◌, ◌^◌, not, true, cond, refl, sym, true≢false, ◌*◌, false, zero, suc, ◌++◌, ◌&&◌, Contains, ap, ap₂, ◌∙◌, Bool, filter, ◌||◌, subst}
 use Rattle.std.specs.FinMap.{entries, len}
+use Rattle.std.specs.FinMap as fin
+use Rattle.std.specs.List.{AllByRecursion, flat_map, list_any}
 use Rattle.jf_path.specs.Keys.{IsKey, IsBytes}
-use Rattle.jf_path.specs.Names.{IsName}
 use Rattle.jf_path.specs.Nibbles.{nibble}
-use Rattle.jf_path.specs.Nodes.{RiseFrom}
 use Rattle.jf_path.specs.declared.children.Child.{Child}
+use Rattle.jf_path.specs.Nodes.{ChildrenRiseFrom}
+use Rattle.jf_path.specs.Names.{IsName}
 use Rattle.jf_path.specs.declared.name.NodeName.{NodeName}
 use Rattle.jf_path.specs.declared.node.PlainNode.{PlainNode}
 use Rattle.jf_path.specs.declared.node.PlainNode.TheVariants as node
-use Rattle.jf_hash.specs.Hashes.{E, L, N}
-use Rattle.jf_hash.specs.HashLaws.{sha256-IsKey}
+use Rattle.jf_path.proofs.FilterLaws.{length-filter_le, Contains-filter}
+use Rattle.jf_path.proofs.ListLaws.{All-append, Contains-first, Contains-later, All-of}
+use Rattle.jf_hash.specs.Roots.{leaves_root, leaf_of, part_root}
+use Rattle.jf_hash.specs.Slots.{Part, with_nibble, all_nibbles}
 use Rattle.jf_hash.specs.Maps.{Map, IsMap}
-use Rattle.jf_hash.specs.Roots.{Leaf, root_below, leaves_root, leaf_of, part_root}
-use Rattle.jf_hash.specs.Slots.{Part, all_nibbles, with_nibble}
-use Rattle.jf_model.specs.Nodes.{Path, under, has_one, has_two, child_at, plain_node, is_fresh, fresh, stale}
-use Rattle.jf_model.specs.VersionLaws.{root-IsKey}
-use Rattle.jf_codec.specs.Spelling.{IsCount, IsChild, AreEnough, IsNode}
+use Rattle.jf_hash.proofs.RootLaws.{root_below-IsKey}
+use Rattle.jf_model.specs.Nodes.{Path, under, has_two, has_one, child_in_node, plain_node, is_fresh, fresh, stale}
+use Rattle.jf_model.specs.Walk.{each_from}
+use Rattle.jf_model.proofs.VersionLaws.{root-IsKey}
+use Rattle.jf_codec.specs.Spelling.{IsChild, IsCount, AreEnough, IsNode}
 use Rattle.jf_codec.specs.declared.format.Format.{Format}
 use Rattle.jf_codec.specs.declared.format.Format.TheVariants as format
-use Rattle.jf_landing.specs.AllLaws.{All-append}
-use Rattle.jf_landing.specs.Elements.{All-of, Contains-first, Contains-later, Contains-filter}
-use Rattle.jf_landing.specs.Filters.{length-filter_le}
-use Rattle.jf_landing.specs.NodePaths.{IsPath-is_node}
-use Rattle.jf_landing.specs.PlainLaws.{plain_node-many}
-use Rattle.jf_landing.specs.Walk.{each_from}
-use Rattle.jf_standing.specs.Named.{never, version_at}
-use Rattle.jf_standing.specs.Standing.{Standing}
+use Rattle.jf_walk.proofs.PlainLaws.{plain_node-many}
+use Rattle.jf_walk.proofs.NodePaths.{IsPath-is_node}
 use Rattle.jf_standing.specs.Sound.{is_counted}
-use Rattle.jf_standing.specs.Landing.{head_map, version_after, written_node, name_at_head, stale_names, landing_of}
-use Rattle.jf_standing.proofs.Lists.{All-each_element, map-which, none_in_nothing}
+use Rattle.jf_standing.specs.Named.{version_at, never}
+use Rattle.jf_standing.specs.Standing.{Standing}
+use Rattle.jf_standing.specs.Landing.{head_map, version_after, written_node, landing_of, name_at_head, stale_names}
+use Rattle.jf_standing.proofs.Lists.{none_in_nothing, All-each_element, map-which}
 use Rattle.jf_standing.proofs.Numbers.{same_number, number_tells}
-use Rattle.jf_standing.proofs.Names.{named-tells, named-so, named-in_order}
 use Rattle.jf_standing.proofs.Steps.{has_child, has_child-plain}
 use Rattle.jf_standing.proofs.LeafPaths.{under-Contains}
-use Rattle.jf_standing.proofs.Freshness.{fresh-node, listed-fresh}
 use Rattle.jf_standing.proofs.Checkpoints.{version-at_most}
+use Rattle.jf_standing.proofs.Freshness.{fresh-node, listed-fresh}
+use Rattle.jf_standing.proofs.Names.{named-tells, named-so, named-in_order}
 
 -- ---- hashes
-
-below_IsKey : (n d : ℕ) (es : List Leaf) → IsKey (root_below n d es)
-unfolding root_below E L N
-below_IsKey n d [] = sha256-IsKey _
-below_IsKey n d (e ∷ []) = sha256-IsKey _
-below_IsKey zero d (e ∷ f ∷ es) = sha256-IsKey _
-below_IsKey (suc n) d (e ∷ f ∷ es) = sha256-IsKey _
-
 part_root-IsKey : (d : ℕ) (es : Part) → IsKey (part_root d es)
 unfolding part_root leaves_root
-part_root-IsKey d es = below_IsKey (256 - d) d (map leaf_of es)
+part_root-IsKey d es = root_below-IsKey (256 - d) d (map leaf_of es)
 
 -- ---- children
-
 length-under : (d : ℕ) (p : Path) (es : Part) → length (under d p es) ≤ length es
 unfolding under
 length-under d [] es = omega arith
@@ -69,7 +58,7 @@ module _ (fmt : Format) (version : ℕ → ℕ) (d : ℕ) (es : Part) (few : len
   counted format.Two (e ∷ []) short some = (omega arith, omega arith, (λ is. refl, λ is. refl))
   counted format.Two (e ∷ f ∷ part) short some = (omega arith, short, (λ is. absurd (true≢false (sym is)), λ is. absurd (omega (arith, is))))
 
-  child_good : (i : ℕ) → i < 16 → AllByRecursion IsGood (child_at (is_counted fmt) version d es i)
+  child_good : (i : ℕ) → i < 16 → AllByRecursion IsGood (child_in_node (is_counted fmt) version d es i)
   child_good i small =
       let part = with_nibble d i es in
       let c : Child = record { nibble = i; version = version i; hash = part_root (4 * (d + 1)) part; leaf = not (has_two part); count = cond (is_counted fmt) (length part) 0 } in
@@ -78,13 +67,13 @@ module _ (fmt : Format) (version : ℕ → ℕ) (d : ℕ) (es : Part) (few : len
         | false ↦ λ none. tt
       ] refl
 
-  children_good : (is : List ℕ) → AllByRecursion (λ i. i < 16) is → AllByRecursion IsGood (flat_map (child_at (is_counted fmt) version d es) is)
+  children_good : (is : List ℕ) → AllByRecursion (λ i. i < 16) is → AllByRecursion IsGood (flat_map (child_in_node (is_counted fmt) version d es) is)
   children_good [] h = tt
-  children_good (i ∷ is) h = All-append IsGood (child_at (is_counted fmt) version d es i) (flat_map (child_at (is_counted fmt) version d es) is) (child_good i h.0) (children_good is h.1)
+  children_good (i ∷ is) h = All-append IsGood (child_in_node (is_counted fmt) version d es i) (flat_map (child_in_node (is_counted fmt) version d es) is) (child_good i h.0) (children_good is h.1)
 
-  rise_each : (count n least : ℕ) → least ≤ n → RiseFrom least (each_from count n (child_at (is_counted fmt) version d es))
+  rise_each : (count n least : ℕ) → least ≤ n → ChildrenRiseFrom least (each_from count n (child_in_node (is_counted fmt) version d es))
   rise_each zero n least low = tt
-  rise_each (suc count) n least low = elim (has_one (with_nibble d n es)) as (λ b. RiseFrom least (cond b (record { nibble = n; version = version n; hash = part_root (4 * (d + 1)) (with_nibble d n es); leaf = not (has_two (with_nibble d n es)); count = cond (is_counted fmt) (length (with_nibble d n es)) 0 } ∷ []) [] ++ each_from count (n + 1) (child_at (is_counted fmt) version d es))) [
+  rise_each (suc count) n least low = elim (has_one (with_nibble d n es)) as (λ b. ChildrenRiseFrom least (cond b (record { nibble = n; version = version n; hash = part_root (4 * (d + 1)) (with_nibble d n es); leaf = not (has_two (with_nibble d n es)); count = cond (is_counted fmt) (length (with_nibble d n es)) 0 } ∷ []) [] ++ each_from count (n + 1) (child_in_node (is_counted fmt) version d es))) [
     | true ↦ (low, rise_each count (n + 1) (n + 1) (omega arith))
     | false ↦ rise_each count (n + 1) least (omega arith)
   ]
@@ -138,13 +127,12 @@ module _ (fmt : Format) (version : ℕ → ℕ) (d : ℕ) (es : Part) (few : len
 
   inner_valid : 2 ≤ length es → IsNode fmt (plain_node (is_counted fmt) version d es)
   inner_valid two =
-      let cs = each_from 16 0 (child_at (is_counted fmt) version d es) in
+      let cs = each_from 16 0 (child_in_node (is_counted fmt) version d es) in
       let is = plain_node-many (is_counted fmt) version d es two in
       let good = children_good all_nibbles nibbles_small in
       subst (IsNode fmt) (sym is) (enough cs two is good, rise_each 16 0 0 (omega arith), only_children cs good)
 
 -- ---- nodes
-
 -- a node of a part whose keys and values are within the limits has a spelling
 part_valid : (fmt : Format) (version : ℕ → ℕ) (d : ℕ) (es : Part) → length es < 2 ^ 64 → ((i : ℕ) → version i < 2 ^ 64) → AllByRecursion (λ (e : List ℕ × List ℕ). IsKey e.0 × IsBytes e.1 × (length e.1 ≤ 4096)) es → IsNode fmt (plain_node (is_counted fmt) version d es)
 unfolding plain_node
@@ -158,7 +146,6 @@ node-valid fmt m version p all few versions =
     part_valid fmt version (length p) (under 0 p (entries m)) (omega (arith, length-under 0 p (entries m), fin.len-entries m)) versions (All-each_element _ (under 0 p (entries m)) (λ e has. All-of _ (entries m) e all (under-Contains 0 p (entries m) e has)))
 
 -- ---- a landing
-
 version_low : (s : Standing) (m : Map) (p : Path) → version_after s m p ≤ s.head + 1
 version_low s m p = elim (is_fresh (entries (head_map s)) (entries m) p) as (λ b. cond b (s.head + 1) (version_at s.head s.nodes p) ≤ s.head + 1) [ true ↦ omega arith | false ↦ omega (arith, version-at_most s.head s.nodes p) ]
 

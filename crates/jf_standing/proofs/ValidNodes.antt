@@ -1,22 +1,23 @@
 -- The named nodes of a sound standing have a spelling.
-use Rattle.std.proofs.Common.{◌≡◌, ℕ, ◌-◌, ◌<◌, ◌≤◌, ◌^◌, true, false, cond, inl, inr, List, [], ◌∷◌, ◌++◌, length, Contains, refl, sym, subst, arith}
-use Rattle.std.specs.List.{AllByRecursion, count_by}
+use Rattle.std.proofs.Common.{◌≡◌, ℕ, ◌-◌, ◌≤◌, true, inl, inr, Contains, arith, ◌<◌, ◌^◌, false, cond, refl, List, [], ◌∷◌, ◌++◌, length, sym, subst}
 use Rattle.std.specs.FinMap.{entries}
+use Rattle.std.specs.List.{count_by, AllByRecursion}
 use Rattle.jf_path.specs.Keys.{IsKey, IsBytes}
 use Rattle.jf_path.specs.Names.{IsName}
+use Rattle.jf_path.proofs.ListLaws.{All-of}
+use Rattle.jf_path.proofs.FilterLaws.{Contains-filter}
 use Rattle.jf_model.specs.Nodes.{is_node}
-use Rattle.jf_codec.specs.Spelling.{IsNode}
 use Rattle.jf_codec.specs.declared.format.Format.{Format}
-use Rattle.jf_landing.specs.Elements.{All-of, Contains-filter}
-use Rattle.jf_landing.specs.NodePaths.{IsPath-is_node}
-use Rattle.jf_standing.specs.Named.{Named, is_alive, is_at, alive_at, version_at, leaf_entries, AreEntries, map_at}
+use Rattle.jf_codec.specs.Spelling.{IsNode}
+use Rattle.jf_walk.proofs.NodePaths.{IsPath-is_node}
+use Rattle.jf_standing.specs.Named.{Named, is_alive, is_at, alive_at, map_at, version_at, leaf_entries, AreEntries}
 use Rattle.jf_standing.specs.Standing.{Standing}
-use Rattle.jf_standing.specs.Sound.{IsNodeOf, IsSound}
-use Rattle.jf_standing.proofs.Lists.{All-each_element}
-use Rattle.jf_standing.proofs.Counts.{count-some}
+use Rattle.jf_standing.specs.Sound.{IsSound, IsNodeOf}
 use Rattle.jf_standing.proofs.Sinces.{alive-so, version-low, version-before}
+use Rattle.jf_standing.proofs.Counts.{count-some}
 use Rattle.jf_standing.proofs.Stands.{stands}
 use Rattle.jf_standing.proofs.Unmoved.{at-so}
+use Rattle.jf_standing.proofs.Lists.{All-each_element}
 use Rattle.jf_standing.proofs.Leaves.{IsMap-map_at}
 use Rattle.jf_standing.proofs.Checkpoints.{version-at_most}
 use Rattle.jf_standing.proofs.Valid.{node-valid}

@@ -1,32 +1,31 @@
 -- The versions of a standing: they are sound, a landing adds one, and a later floor prunes them.
-use Rattle.std.proofs.Common.{◌≡◌, ℕ, zero, suc, ◌+◌, ◌-◌, ◌<◌, ◌≤◌, ◌^◌, List, [], ◌∷◌, map, take, length, refl, sym, ap, ap₂, ◌∙◌, arith}
-use Rattle.std.proofs.lemmas.List.{length-map}
 use Rattle.std.specs.Prelude.{slice_index_or}
-use Rattle.std.specs.List.{AllByRecursion}
-use Rattle.std.specs.FinMap as fin
+use Rattle.std.proofs.Common.{◌≡◌, ℕ, zero, suc, ◌-◌, length, refl, ap, ◌+◌, ◌<◌, ◌≤◌, ◌∷◌, map, ap₂, arith, take, List, [], ◌∙◌, sym, ◌^◌}
+use Rattle.std.proofs.lemmas.List.{length-map}
 use Rattle.std.specs.FinMap.{len}
+use Rattle.std.specs.FinMap as fin
+use Rattle.std.specs.List.{AllByRecursion}
 use Rattle.jf_path.specs.Keys.{IsKey}
-use Rattle.jf_hash.specs.Maps.{Map, Batch, IsMap, IsBatch, apply}
+use Rattle.jf_hash.specs.Maps.{Map, IsMap, Batch, apply, IsBatch}
 use Rattle.jf_hash.specs.Roots.{root}
-use Rattle.jf_model.specs.Changes.{IsMap-apply}
 use Rattle.jf_model.specs.Versions.{IsVersions, newest, landed, pruned}
+use Rattle.jf_model.proofs.ChangeLaws.{IsMap-apply}
 use Rattle.jf_codec.specs.declared.format.Format.{Format}
-use Rattle.jf_standing.specs.Named.{never, leaf_entries, AreEntries, map_at}
-use Rattle.jf_standing.specs.Standing.{Standing, down_from, versions_of, with_commit, with_floor}
+use Rattle.jf_payload.specs.declared.records.Commit.{Commit}
+use Rattle.jf_standing.specs.Standing.{down_from, Standing, versions_of, with_commit, with_floor}
+use Rattle.jf_standing.specs.Named.{leaf_entries, AreEntries, map_at, never}
 use Rattle.jf_standing.specs.Sound.{IsSound}
 use Rattle.jf_standing.specs.Landing.{head_map, batch_of, landing_of}
-use Rattle.jf_standing.specs.Building.{landed_on}
 use Rattle.jf_standing.specs.Taking.{Continues}
-use Rattle.jf_payload.specs.declared.records.Commit.{Commit}
-use Rattle.jf_standing.proofs.Lands.{lands, continues, map-lands}
+use Rattle.jf_standing.specs.Building.{landed_on}
 use Rattle.jf_standing.proofs.Leaves.{IsMap-map_at}
-use Rattle.jf_standing.proofs.Marks.{behind, map-behind}
+use Rattle.jf_standing.proofs.Marks.{nodes_after_commit, map-nodes_after_commit}
 use Rattle.jf_standing.proofs.Unmoved.{unmoved}
 use Rattle.jf_standing.proofs.ReadBack.{map-read}
+use Rattle.jf_standing.proofs.Lands.{lands, continues, map-lands}
 use Rattle.jf_standing.proofs.Floors.{map-floored}
 
 -- ---- versions from a head down
-
 pub length-down : (h n : ℕ) → length (down_from h n) ≡ n
 length-down h zero = refl
 length-down h (suc n) = ap suc (length-down (h - 1) n)
@@ -55,7 +54,6 @@ roots_down f (r ∷ rs) h (suc n) long deep is =
     (roots_down f rs (h - 1) n (omega arith) (omega arith) (λ w low high. ap (λ i. slice_index_or (r ∷ rs) i []) (let e : suc (h - 1 - w) ≡ h - w = omega arith in e) ∙ is w (omega arith) (omega arith)))
 
 -- ---- the versions of a standing
-
 -- a sound standing has sound versions
 pub sound-versions : (fmt : Format) (s : Standing) → IsSound fmt s → AreEntries (leaf_entries s.nodes) → AllByRecursion IsKey s.roots → IsVersions (versions_of s)
 sound-versions fmt s sound keys hashes =
@@ -79,7 +77,7 @@ pub newest-head : (s : Standing) → newest (versions_of s) ≡ head_map s
 newest-head s = ap (λ n. slice_index_or (map (λ w. map_at w s.nodes) (down_from s.head n)) 0 fin.empty) (let e : s.head - s.floor + 1 ≡ suc (s.head - s.floor) = omega arith in e)
 
 -- a landing that leaves a sound standing adds one version, with the map after it
-versions_after : (fmt : Format) (s : Standing) (c : Commit) (m : Map) → IsSound fmt s → Continues s c → IsSound fmt (with_commit c s) → map_at c.version (behind c s.nodes) ≡ m
+versions_after : (fmt : Format) (s : Standing) (c : Commit) (m : Map) → IsSound fmt s → Continues s c → IsSound fmt (with_commit c s) → map_at c.version (nodes_after_commit c s.nodes) ≡ m
     → versions_of (with_commit c s) ≡ record { base = s.base; floor = s.floor; head = s.head + 1; roots = root m ∷ s.roots; maps = m ∷ (versions_of s).maps }
 versions_after fmt s c m sound goes behind_sound read =
     let next = goes.next in
@@ -87,10 +85,10 @@ versions_after fmt s c m sound goes behind_sound read =
     let rooted : c.root ≡ root m = ap (λ i. slice_index_or (c.root ∷ s.roots) i []) (let e : 0 ≡ c.version - c.version = omega arith in e) ∙ (behind_sound.versions c.version (omega arith) (omega arith)).rooted ∙ ap root read in
     let count : c.version - s.floor + 1 ≡ suc (s.head - s.floor + 1) = omega arith in
     let down : c.version - 1 ≡ s.head = omega arith in
-    let maps : map (λ w. map_at w (behind c s.nodes)) (down_from c.version (c.version - s.floor + 1)) ≡ m ∷ map (λ w. map_at w s.nodes) (down_from s.head (s.head - s.floor + 1)) =
-    ap (λ n. map (λ w. map_at w (behind c s.nodes)) (down_from c.version n)) count
-    ∙ ap₂ (λ k h. k ∷ map (λ w. map_at w (behind c s.nodes)) (down_from h (s.head - s.floor + 1))) read down
-    ∙ ap (λ ms. m ∷ ms) (same_down (λ w. map_at w (behind c s.nodes)) (λ w. map_at w s.nodes) s.head (s.head - s.floor + 1) (λ w up high. map-behind c w s.nodes (omega arith) goes.fresh_own (unmoved fmt s c sound goes behind_sound w (omega arith) high))) in
+    let maps : map (λ w. map_at w (nodes_after_commit c s.nodes)) (down_from c.version (c.version - s.floor + 1)) ≡ m ∷ map (λ w. map_at w s.nodes) (down_from s.head (s.head - s.floor + 1)) =
+    ap (λ n. map (λ w. map_at w (nodes_after_commit c s.nodes)) (down_from c.version n)) count
+    ∙ ap₂ (λ k h. k ∷ map (λ w. map_at w (nodes_after_commit c s.nodes)) (down_from h (s.head - s.floor + 1))) read down
+    ∙ ap (λ ms. m ∷ ms) (same_down (λ w. map_at w (nodes_after_commit c s.nodes)) (λ w. map_at w s.nodes) s.head (s.head - s.floor + 1) (λ w up high. map-nodes_after_commit c w s.nodes (omega arith) goes.fresh_own (unmoved fmt s c sound goes behind_sound w (omega arith) high))) in
     λ i. record { base = s.base; floor = s.floor; head = next i; roots = rooted i ∷ s.roots; maps = maps i }
 
 landed_newest : (s : Standing) (b : Batch) → record { base = s.base; floor = s.floor; head = s.head + 1; roots = root (apply (head_map s) b) ∷ s.roots; maps = apply (head_map s) b ∷ (versions_of s).maps } ≡ landed b (versions_of s)

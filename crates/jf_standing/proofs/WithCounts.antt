@@ -1,33 +1,32 @@
 -- A sound standing of a format is what the format keeps of a sound one with counts.
-use Rattle.std.proofs.Common.{◌≡◌, ℕ, ◌+◌, ◌-◌, ◌≤◌, ◌^◌, List, [], ◌∷◌, ◌++◌, map, length, drop, refl, sym, ap, ap₂, ◌∙◌, subst, Less, Equal, Greater}
 use Rattle.std.specs.Prelude.{IsTrue}
+use Rattle.std.proofs.Common.{◌≡◌, ◌-◌, List, [], ◌∷◌, map, refl, ap, Less, Equal, Greater, ◌∙◌, ℕ, ap₂, ◌+◌, ◌++◌, length, drop, sym, subst, ◌≤◌, ◌^◌}
 use Rattle.std.specs.FinMap.{put, len}
 use Rattle.std.specs.FinMap.Entries.{by_order}
-use Rattle.jf_path.specs.Names.{name_cmp, rise}
 use Rattle.jf_path.specs.declared.name.NodeName.{NodeName}
+use Rattle.jf_path.specs.Names.{name_cmp, are_rising}
 use Rattle.jf_path.specs.declared.node.PlainNode.{PlainNode}
 use Rattle.jf_hash.specs.Maps.{Map, Batch, apply}
-use Rattle.jf_hash.specs.Roots.{root}
 use Rattle.jf_hash.specs.Slots.{Part}
+use Rattle.jf_hash.specs.Roots.{root}
 use Rattle.jf_model.specs.Nodes.{Path, nodes}
 use Rattle.jf_codec.specs.Counted.{in_format}
 use Rattle.jf_codec.specs.declared.format.Format.{Format}
 use Rattle.jf_codec.specs.declared.format.Format.TheVariants as format
 use Rattle.jf_payload.specs.Counted.{commit_in}
-use Rattle.jf_standing.specs.Named.{Named, never, leaf_entries, AreEntries, version_at, map_at}
 use Rattle.jf_standing.specs.Order.{by_name}
-use Rattle.jf_standing.specs.Standing.{Standing, with_nodes, with_commit}
+use Rattle.jf_standing.specs.Named.{Named, never, version_at, map_at, leaf_entries, AreEntries}
+use Rattle.jf_standing.specs.Building.{apart, as_named, nodes_by_name, landed_on, built, landings_of, all_landed, node_of, floor_of, up_from, rebuilt}
+use Rattle.jf_standing.specs.Standing.{Standing, with_commit, with_nodes}
+use Rattle.jf_standing.specs.Landing.{landing_of, head_map}
+use Rattle.jf_standing.specs.FormatLaws.{standing_in, with_counts}
 use Rattle.jf_standing.specs.Sound.{is_counted, IsSound}
 use Rattle.jf_standing.specs.Next.{IsReadStanding}
-use Rattle.jf_standing.specs.Landing.{head_map, landing_of}
-use Rattle.jf_standing.specs.Building.{node_of, landed_on, landings_of, all_landed, built, up_from, floor_of, rebuilt, apart, as_named, nodes_by_name}
-use Rattle.jf_standing.proofs.Checkpoints.{checkpoint-decided}
-use Rattle.jf_standing.specs.FormatLaws.{standing_in, with_counts}
+use Rattle.jf_standing.proofs.Formats.{named_in_format, landing_kept, commit_kept, map_kept, plain_node-in, version_kept, leaves_kept}
 use Rattle.jf_standing.proofs.Alive.{plain_node-same}
-use Rattle.jf_standing.proofs.Formats.{kept, plain_node-in, leaves_kept, map_kept, version_kept, landing_kept, commit_kept}
+use Rattle.jf_standing.proofs.Checkpoints.{checkpoint-decided}
 
 -- ---- order
-
 module _ {X Y : Type 0} (g : X → Y) where
   abbrev on_value : NodeName × X → NodeName × Y
   on_value e = (e.0, g e.1)
@@ -49,19 +48,18 @@ module _ (fmt : Format) where
   abbrev rest_kept : PlainNode × ℕ → PlainNode × ℕ
   rest_kept x = (in_format fmt x.0, x.1)
 
-  apart_kept : (ns : List Named) → map apart (map (kept fmt) ns) ≡ map (on_value rest_kept) (map apart ns)
+  apart_kept : (ns : List Named) → map apart (map (named_in_format fmt) ns) ≡ map (on_value rest_kept) (map apart ns)
   apart_kept [] = refl
-  apart_kept (n ∷ ns) = ap (λ t. apart (kept fmt n) ∷ t) (apart_kept ns)
+  apart_kept (n ∷ ns) = ap (λ t. apart (named_in_format fmt n) ∷ t) (apart_kept ns)
 
-  named_kept : (es : List (NodeName × (PlainNode × ℕ))) → map as_named (map (on_value rest_kept) es) ≡ map (kept fmt) (map as_named es)
+  named_kept : (es : List (NodeName × (PlainNode × ℕ))) → map as_named (map (on_value rest_kept) es) ≡ map (named_in_format fmt) (map as_named es)
   named_kept [] = refl
-  named_kept (e ∷ es) = ap (λ t. kept fmt (as_named e) ∷ t) (named_kept es)
+  named_kept (e ∷ es) = ap (λ t. named_in_format fmt (as_named e) ∷ t) (named_kept es)
 
-  by_name_kept : (ns : List Named) → nodes_by_name (map (kept fmt) ns) ≡ map (kept fmt) (nodes_by_name ns)
+  by_name_kept : (ns : List Named) → nodes_by_name (map (named_in_format fmt) ns) ≡ map (named_in_format fmt) (nodes_by_name ns)
   by_name_kept ns = ap (λ es. map as_named (by_name es)) (apart_kept ns) ∙ ap (map as_named) (by_name-values rest_kept (map apart ns)) ∙ named_kept (by_name (map apart ns))
 
   -- ---- the standing built anew
-
   landed_kept : (m : Map) (u : Standing) → landed_on fmt m (standing_in fmt u) ≡ standing_in fmt (landed_on format.Two m u)
   landed_kept m u = ap (λ c. with_commit c (standing_in fmt u)) (landing_kept fmt u m) ∙ commit_kept fmt u (landing_of format.Two u m)
 
@@ -82,7 +80,7 @@ module _ (fmt : Format) where
       ∙ ap (λ t. all_landed fmt t bs) (landed_kept (apply (head_map s) b) s)
       ∙ all_landed_kept (landed_on format.Two (apply (head_map s) b) s) bs
 
-  floor_nodes_kept : (version : Path → ℕ) (xs : List (Path × Part)) → map (node_of fmt version) xs ≡ map (kept fmt) (map (node_of format.Two version) xs)
+  floor_nodes_kept : (version : Path → ℕ) (xs : List (Path × Part)) → map (node_of fmt version) xs ≡ map (named_in_format fmt) (map (node_of format.Two version) xs)
   floor_nodes_kept version [] = refl
   floor_nodes_kept version (x ∷ xs) =
       ap₂ (λ (n : PlainNode) ns. (record { version = version x.0; path = x.0 }, n, never) ∷ ns) (plain_node-in fmt (λ i. version (x.0 ++ i ∷ [])) (length x.0) x.1) (floor_nodes_kept version xs)
@@ -96,7 +94,6 @@ module _ (fmt : Format) where
       ap (λ t. built fmt t ms) (floor_kept_of s) ∙ built_kept (floor_of format.Two s) ms
 
 -- ---- the standing built anew depends on maps and versions of nodes alone
-
 nodes_same : (fmt : Format) (v w : Path → ℕ) (xs : List (Path × Part)) → ((p : Path) → v p ≡ w p) → map (node_of fmt v) xs ≡ map (node_of fmt w) xs
 nodes_same fmt v w [] same = refl
 nodes_same fmt v w (x ∷ xs) same =
@@ -116,13 +113,12 @@ rebuilt_same fmt s ns maps versions =
     (maps_same ns s.nodes (up_from (s.floor + 1) (s.head - s.floor)) maps)
 
 -- ---- the standing with counts
-
-names_kept : (fmt : Format) (ns : List Named) → map (λ n. n.0) (map (kept fmt) ns) ≡ map (λ n. n.0) ns
+names_kept : (fmt : Format) (ns : List Named) → map (λ n. n.0) (map (named_in_format fmt) ns) ≡ map (λ n. n.0) ns
 names_kept fmt [] = refl
 names_kept fmt (n ∷ ns) = ap (λ names. n.0 ∷ names) (names_kept fmt ns)
 
 module _ (fmt : Format) (s : Standing) (read : IsReadStanding s) (sound : IsSound fmt s) where
-  nodes_are : map (kept fmt) (with_counts s).nodes ≡ s.nodes
+  nodes_are : map (named_in_format fmt) (with_counts s).nodes ≡ s.nodes
   nodes_are =
       let facts = (checkpoint-decided fmt s read).0 sound in
       sym (by_name_kept fmt (rebuilt format.Two s).nodes) ∙ ap (λ (t : Standing). nodes_by_name t.nodes) (sym (rebuilt_kept fmt s)) ∙ facts.3
@@ -144,7 +140,7 @@ module _ (fmt : Format) (s : Standing) (read : IsReadStanding s) (sound : IsSoun
     root_each = read.root_each;
     hashes = read.hashes;
     keys = subst AreEntries (ap leaf_entries (sym nodes_are) ∙ leaves_kept fmt (with_counts s).nodes) read.keys;
-    rises = subst (λ names. IsTrue (rise names)) (ap (map (λ n. n.0)) (sym nodes_are) ∙ names_kept fmt (with_counts s).nodes) read.rises;
+    rises = subst (λ names. IsTrue (are_rising names)) (ap (map (λ n. n.0)) (sym nodes_are) ∙ names_kept fmt (with_counts s).nodes) read.rises;
   }
 
   pub counts_sound : IsSound format.Two (with_counts s)

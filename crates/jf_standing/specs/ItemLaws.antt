@@ -1,22 +1,22 @@
 -- Laws of records, one after another.
-use Rattle.std.specs.Prelude.{◌≡◌, ◌↔◌, ◌⊎◌, ℕ, List, Some}
-use Rattle.jf_payload.specs.Reading.{spelled}
+use Rattle.std.specs.Prelude.{◌≡◌, ◌↔◌, Some, ℕ, List, ◌⊎◌}
 use Rattle.jf_model.specs.Versions.{IsVersions}
 use Rattle.jf_codec.specs.declared.format.Format.{Format}
+use Rattle.jf_payload.specs.declared.records.Record.{Record}
+use Rattle.jf_payload.specs.declared.records.Commit.{Commit}
+use Rattle.jf_payload.specs.Reading.{spelled}
 use Rattle.jf_standing.specs.Named.{leaf_entries, AreEntries}
-use Rattle.jf_standing.specs.Standing.{Standing, versions_of, with_commit}
+use Rattle.jf_standing.specs.Standing.{Standing, with_commit, versions_of}
 use Rattle.jf_standing.specs.Sound.{IsSound}
-use Rattle.jf_standing.specs.Landing.{fresh_leaves}
-use Rattle.jf_standing.specs.Taking.{Takes, Gives}
+use Rattle.jf_standing.specs.Taking.{TakesRecord, GivesStanding}
 use Rattle.jf_standing.specs.Next.{next_standing, IsReadRecord}
+use Rattle.jf_standing.specs.Landing.{fresh_leaves}
 use Rattle.jf_standing.specs.Begin.{begin, IsReadFirst}
 use Rattle.jf_standing.specs.Leading.{Item, AllLead, OneFailsAt, AreRead}
-use Rattle.jf_payload.specs.declared.records.Commit.{Commit}
-use Rattle.jf_payload.specs.declared.records.Record.{Record}
 
 -- a record makes of a sound standing what the function `next_standing` says
 abbrev pub NextIsTakes : Type 0
-NextIsTakes = (fmt : Format) (s s' : Standing) (r : Record) → IsSound fmt s → AreEntries (leaf_entries s.nodes) → IsReadRecord r → (next_standing fmt s r ≡ Some s') ↔ Takes fmt s r s'
+NextIsTakes = (fmt : Format) (s s' : Standing) (r : Record) → IsSound fmt s → AreEntries (leaf_entries s.nodes) → IsReadRecord r → (next_standing fmt s r ≡ Some s') ↔ TakesRecord fmt s r s'
 
 -- after a landing keys still have 32 bytes and values still are bytes
 abbrev pub KeysStay : Type 0
@@ -24,14 +24,13 @@ KeysStay = (s : Standing) (c : Commit) → AreEntries (leaf_entries s.nodes) →
 
 -- a first record gives what the function `begin` says
 abbrev pub BeginIsGives : Type 0
-BeginIsGives = (fmt : Format) (r : Record) (s : Standing) → IsReadFirst r → (begin fmt r ≡ Some s) ↔ Gives fmt r s
+BeginIsGives = (fmt : Format) (r : Record) (s : Standing) → IsReadFirst r → (begin fmt r ≡ Some s) ↔ GivesStanding fmt r s
 
 -- what a payload spells has names in order, keys of 32 bytes, values that are bytes, and numbers within their bounds
 abbrev pub SpelledIsRead : Type 0
 SpelledIsRead = (fmt : Format) (kind : ℕ) (payload : List ℕ) (r : Record) → spelled fmt kind payload ≡ Some r → IsReadFirst r × IsReadRecord r
 
 -- ---- records one after another
-
 -- records lead to a standing, or one of them is the first that isn't sound
 abbrev pub ItemsAreJudged : Type 0
 ItemsAreJudged = (fmt : Format) (x : Item) (xs : List Item) → AreRead x xs → ((s : Standing) × AllLead fmt x xs s) ⊎ ((at : ℕ) × OneFailsAt fmt x xs at)

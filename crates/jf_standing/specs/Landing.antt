@@ -1,20 +1,20 @@
 -- What a landing of a map writes, and the batch that is read off a landing.
-use Rattle.std.specs.Prelude.{ℕ, ◌+◌, if◌then◌else◌, IsTrue, List, [], ◌∷◌, ◌++◌, map, filter, length, Some, None}
+use Rattle.std.specs.Prelude.{ℕ, ◌+◌, if◌then◌else◌, [], ◌∷◌, ◌++◌, length, List, map, filter, Some, None, IsTrue}
 use Rattle.std.specs.FinMap.{entries, put}
-use Rattle.jf_path.specs.Keys.{key_cmp}
-use Rattle.jf_path.specs.Names.{rise}
 use Rattle.jf_path.specs.declared.name.NodeName.{NodeName}
 use Rattle.jf_path.specs.declared.node.PlainNode.{PlainNode}
+use Rattle.jf_path.specs.Keys.{key_cmp}
+use Rattle.jf_path.specs.Names.{are_rising}
 use Rattle.jf_hash.specs.Maps.{Map, Batch}
-use Rattle.jf_hash.specs.Roots.{root}
 use Rattle.jf_hash.specs.Slots.{Part}
-use Rattle.jf_model.specs.Nodes.{Path, is_fresh, fresh, stale, plain_node}
+use Rattle.jf_hash.specs.Roots.{root}
+use Rattle.jf_model.specs.Nodes.{Path, is_fresh, plain_node, stale, fresh}
 use Rattle.jf_codec.specs.declared.format.Format.{Format}
-use Rattle.jf_standing.specs.Named.{version_at, leaf_entries, map_at}
-use Rattle.jf_standing.specs.Standing.{Standing, is_named, unmarked}
+use Rattle.jf_payload.specs.declared.records.Commit.{Commit}
+use Rattle.jf_standing.specs.Named.{map_at, version_at, leaf_entries}
+use Rattle.jf_standing.specs.Standing.{Standing, unmarked, is_named}
 use Rattle.jf_standing.specs.Sound.{is_counted}
 use Rattle.jf_standing.specs.Order.{in_order}
-use Rattle.jf_payload.specs.declared.records.Commit.{Commit}
 
 -- the map at the head
 abbrev pub head_map : Standing → Map
@@ -41,7 +41,6 @@ abbrev pub landing_of : Format → Standing → Map → Commit
 landing_of fmt s m = record { version = s.head + 1; root = root m; fresh = map (written_node fmt s m) (fresh (head_map s) m); stale = in_order (stale_names s m) }
 
 -- ---- the batch that is read off a landing
-
 -- the entries of the leaves that a landing writes
 abbrev pub fresh_leaves : Commit → List (List ℕ × List ℕ)
 fresh_leaves c = leaf_entries (map unmarked c.fresh)
@@ -60,8 +59,7 @@ abbrev pub batch_of : Standing → Commit → Batch
 batch_of s c = by_key (map (λ e. (e.0, Some e.1)) (fresh_leaves c) ++ map (λ e. (e.0, None)) (stale_leaves s c))
 
 -- ---- landings that were read
-
 -- the names that a landing writes rise, and so do those that it marks stale
 pub record IsInOrder (c : Commit) : Type 0 where
-  pub fresh : IsTrue (rise (map (λ x. x.0) c.fresh))
-  pub stale : IsTrue (rise c.stale)
+  pub fresh : IsTrue (are_rising (map (λ x. x.0) c.fresh))
+  pub stale : IsTrue (are_rising c.stale)

@@ -1,28 +1,28 @@
 -- Laws of standings: which nodes stand in a sound one, and what landings and floors make of it.
-use Rattle.std.specs.Prelude.{◌≡◌, ◌↔◌, ℕ, ◌+◌, ◌<◌, ◌≤◌, ◌^◌, true, false, if◌then◌else◌, IsTrue, List, [], ◌∷◌, ◌++◌, map, length}
+use Rattle.std.specs.Prelude.{ℕ, ◌≤◌, ◌≡◌, ◌+◌, ◌<◌, ◌^◌, ◌↔◌, List, length, IsTrue, map, true, if◌then◌else◌, [], ◌∷◌, ◌++◌, false}
+use Rattle.std.specs.FinMap.{entries, len}
 use Rattle.std.specs.List.{AllByRecursion}
 use Rattle.std.specs.List.Sorted.{IsPermutation}
-use Rattle.std.specs.FinMap.{entries, len}
-use Rattle.jf_path.specs.Limits.{max_value}
 use Rattle.jf_path.specs.Keys.{IsKey}
-use Rattle.jf_path.specs.Names.{IsName, rise}
+use Rattle.jf_path.specs.Limits.{max_value}
+use Rattle.jf_path.specs.Names.{IsName, are_rising}
 use Rattle.jf_path.specs.declared.name.NodeName.{NodeName}
-use Rattle.jf_hash.specs.Maps.{Map, Batch, IsMap, IsBatch, apply}
+use Rattle.jf_hash.specs.Maps.{Map, IsMap, apply, IsBatch, Batch}
 use Rattle.jf_hash.specs.Slots.{Part}
+use Rattle.jf_model.specs.Nodes.{is_node, Path, is_fresh, plain_node, fresh, stale}
+use Rattle.jf_model.specs.Versions.{IsVersions, landed, pruned, land_all}
 use Rattle.jf_model.specs.Batches.{key_count}
-use Rattle.jf_model.specs.Versions.{land_all, IsVersions, landed, pruned}
-use Rattle.jf_model.specs.Nodes.{Path, is_node, is_fresh, plain_node, fresh, stale}
-use Rattle.jf_codec.specs.Spelling.{IsNode}
 use Rattle.jf_codec.specs.declared.format.Format.{Format}
-use Rattle.jf_standing.specs.Next.{IsReadCommit}
-use Rattle.jf_standing.specs.Building.{landings_of, all_landed, landed_on}
-use Rattle.jf_standing.specs.Taking.{TakesCommits, Continues}
-use Rattle.jf_standing.specs.Named.{never, alive_at, version_at, leaf_entries, AreEntries, map_at}
-use Rattle.jf_standing.specs.Standing.{Standing, versions_of, with_commit, with_floor}
-use Rattle.jf_standing.specs.Sound.{is_counted, StandAt, IsNodeOf, IsSound}
-use Rattle.jf_standing.specs.Landing.{head_map, fresh_leaves, batch_of, landing_of, IsInOrder}
+use Rattle.jf_codec.specs.Spelling.{IsNode}
 use Rattle.jf_codec.specs.Counted.{uncounted}
 use Rattle.jf_payload.specs.declared.records.Commit.{Commit}
+use Rattle.jf_standing.specs.Named.{alive_at, map_at, leaf_entries, AreEntries, never, version_at}
+use Rattle.jf_standing.specs.Standing.{Standing, versions_of, with_commit, with_floor}
+use Rattle.jf_standing.specs.Sound.{StandAt, IsNodeOf, IsSound, is_counted}
+use Rattle.jf_standing.specs.Taking.{Continues, TakesCommits}
+use Rattle.jf_standing.specs.Landing.{landing_of, fresh_leaves, IsInOrder, head_map, batch_of}
+use Rattle.jf_standing.specs.Building.{landed_on, landings_of, all_landed}
+use Rattle.jf_standing.specs.Next.{IsReadCommit}
 
 -- at each version from floor to head the nodes that are alive stand at exactly the paths of the nodes of the map, and are these
 abbrev pub NodesStand : Type 0
@@ -89,8 +89,8 @@ LandingsAreValid =
 -- names that rise still rise after a landing and under a later floor
 abbrev pub NamesRise : Type 0
 NamesRise =
-    (fmt : Format) (s : Standing) (c : Commit) (floor : ℕ) → IsSound fmt s → IsTrue (rise (map (λ n. n.0) s.nodes)) → Continues s c → IsInOrder c
-    → IsTrue (rise (map (λ n. n.0) (with_commit c s).nodes)) × IsTrue (rise (map (λ n. n.0) (with_floor floor s).nodes))
+    (fmt : Format) (s : Standing) (c : Commit) (floor : ℕ) → IsSound fmt s → IsTrue (are_rising (map (λ n. n.0) s.nodes)) → Continues s c → IsInOrder c
+    → IsTrue (are_rising (map (λ n. n.0) (with_commit c s).nodes)) × IsTrue (are_rising (map (λ n. n.0) (with_floor floor s).nodes))
 
 -- a batch adds at most as many entries as it has changes
 abbrev pub RoomIsLeft : Type 0
@@ -110,7 +110,7 @@ abbrev pub StaleNamesAreLandings : Type 0
 StaleNamesAreLandings =
     (fmt : Format) (s : Standing) (m : Map) (before : Path → ℕ) (names : List NodeName)
     → ((p : Path) → is_node 0 p (entries (head_map s)) ≡ true → before p ≡ version_at s.head s.nodes p)
-    → IsPermutation (map (λ (x : Path × Part). record { version = before x.0; path = x.0 }) (stale (head_map s) m)) names → IsTrue (rise names) → names ≡ (landing_of fmt s m).stale
+    → IsPermutation (map (λ (x : Path × Part). record { version = before x.0; path = x.0 }) (stale (head_map s) m)) names → IsTrue (are_rising names) → names ≡ (landing_of fmt s m).stale
 
 -- a node without counts is the node with counts, from which the counts are left out
 abbrev pub CountsAreExtra : Type 0

@@ -1,12 +1,12 @@
 -- Records one after another: the standing that they lead to, or the first of them that isn't sound.
-use Rattle.std.specs.Prelude.{◌≡◌, ◌⊎◌, ℕ, List, [], ◌∷◌, Option, Some, IfSome}
+use Rattle.std.specs.Prelude.{ℕ, Option, ◌≡◌, Some, List, [], ◌∷◌, ◌⊎◌, IfSome}
 use Rattle.std.specs.List.{AllByRecursion}
 use Rattle.jf_codec.specs.declared.format.Format.{Format}
+use Rattle.jf_payload.specs.declared.records.Record.{Record}
 use Rattle.jf_standing.specs.Standing.{Standing}
-use Rattle.jf_standing.specs.Taking.{Takes, Gives}
+use Rattle.jf_standing.specs.Taking.{TakesRecord, GivesStanding}
 use Rattle.jf_standing.specs.Next.{IsReadRecord}
 use Rattle.jf_standing.specs.Begin.{IsReadFirst}
-use Rattle.jf_payload.specs.declared.records.Record.{Record}
 
 -- an item of a journal: an offset, and the record there, or None if its payload spells no record
 abbrev pub Item : Type 0
@@ -14,11 +14,11 @@ Item = ℕ × Option Record
 
 -- the record of an item is taken, after others
 abbrev pub ItemFollows : Format → Standing → Item → Standing → Type 0
-ItemFollows fmt s x s' = (r : Record) × (x.1 ≡ Some r) × Takes fmt s r s'
+ItemFollows fmt s x s' = (r : Record) × (x.1 ≡ Some r) × TakesRecord fmt s r s'
 
 -- the record of an item gives a standing, as the first one
 abbrev pub ItemBegins : Format → Item → Standing → Type 0
-ItemBegins fmt x s = (r : Record) × (x.1 ≡ Some r) × Gives fmt r s
+ItemBegins fmt x s = (r : Record) × (x.1 ≡ Some r) × GivesStanding fmt r s
 
 -- the records after the first lead from one standing to another
 abbrev pub Leads : Format → Standing → List Item → Standing → Type 0

@@ -1,18 +1,18 @@
 -- The standing that a record makes of a sound one, as a function: None if what it makes isn't sound.
-use Rattle.std.specs.Prelude.{◌≡◌, ℕ, ◌+◌, ◌-◌, ◌<◌, ◌≤◌, ◌^◌, Bool, ◌&&◌, if◌then◌else◌, nat_le, nat_lt, IsTrue, List, [], ◌∷◌, map, length, Option, Some, None}
-use Rattle.std.specs.List.{AllByRecursion}
+use Rattle.std.specs.Prelude.{◌+◌, ◌^◌, Bool, ◌&&◌, nat_le, nat_lt, if◌then◌else◌, List, [], ◌∷◌, Option, Some, None, ℕ, ◌≡◌, ◌-◌, ◌<◌, ◌≤◌, IsTrue, map, length}
 use Rattle.std.specs.FinMap.{len}
+use Rattle.std.specs.List.{AllByRecursion}
 use Rattle.jf_path.specs.Keys.{IsKey}
-use Rattle.jf_path.specs.Names.{rise}
+use Rattle.jf_path.specs.Names.{are_rising}
 use Rattle.jf_hash.specs.Maps.{apply}
 use Rattle.jf_codec.specs.declared.format.Format.{Format}
-use Rattle.jf_standing.specs.Named.{never, leaf_entries, AreEntries}
-use Rattle.jf_standing.specs.Standing.{Standing, with_commit, with_floor}
-use Rattle.jf_standing.specs.Landing.{head_map, fresh_leaves, batch_of, landing_of, IsInOrder}
-use Rattle.jf_standing.specs.Same.{same_commit}
 use Rattle.jf_payload.specs.declared.records.Commit.{Commit}
 use Rattle.jf_payload.specs.declared.records.Record.{Record}
 use Rattle.jf_payload.specs.declared.records.Record.TheVariants as «record»
+use Rattle.jf_standing.specs.Named.{never, AreEntries, leaf_entries}
+use Rattle.jf_standing.specs.Standing.{Standing, with_commit, with_floor}
+use Rattle.jf_standing.specs.Landing.{head_map, batch_of, landing_of, fresh_leaves, IsInOrder}
+use Rattle.jf_standing.specs.Same.{same_commit}
 
 -- whether a landing writes exactly what a landing of the batch that is read off it writes
 abbrev pub is_next : Format → Standing → Commit → Bool
@@ -37,7 +37,6 @@ next_standing fmt s («record».Checkpoint generation base floor head roots node
 next_standing fmt s («record».Group cs) = next_by_commits fmt s cs
 
 -- ---- records that were read
-
 -- a landing that was read: its names rise, its keys have 32 bytes, its values are bytes
 abbrev pub IsReadCommit : Commit → Type 0
 IsReadCommit c = IsInOrder c × AreEntries (fresh_leaves c)
@@ -57,4 +56,4 @@ pub record IsReadStanding (s : Standing) : Type 0 where
   pub root_each : length s.roots ≡ s.head - s.base + 1
   pub hashes : AllByRecursion IsKey s.roots
   pub keys : AreEntries (leaf_entries s.nodes)
-  pub rises : IsTrue (rise (map (λ n. n.0) s.nodes))
+  pub rises : IsTrue (are_rising (map (λ n. n.0) s.nodes))

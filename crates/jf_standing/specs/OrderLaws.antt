@@ -1,21 +1,21 @@
 -- Laws of the order of nodes, of checkpoints, and of standings built from maps.
-use Rattle.std.specs.Prelude.{◌≡◌, ◌↔◌, ℕ, ◌+◌, ◌<◌, ◌≤◌, ◌^◌, true, List, [], length, Contains}
+use Rattle.std.specs.Prelude.{◌≡◌, List, ℕ, ◌↔◌, ◌≤◌, ◌^◌, [], true, Contains, ◌+◌, ◌<◌, length}
+use Rattle.std.specs.FinMap.{len, entries}
 use Rattle.std.specs.List.{AllByRecursion}
 use Rattle.std.specs.List.Sorted.{IsPermutation}
-use Rattle.std.specs.FinMap.{entries, len}
 use Rattle.jf_path.specs.Limits.{max_value}
 use Rattle.jf_path.specs.Names.{IsName}
 use Rattle.jf_hash.specs.Maps.{Map, IsMap}
-use Rattle.jf_model.specs.Nodes.{Path, is_node, kept}
-use Rattle.jf_model.specs.Versions.{new_store, imported}
-use Rattle.jf_codec.specs.Spelling.{IsNode}
+use Rattle.jf_model.specs.Nodes.{Path, is_node, kept_nodes}
+use Rattle.jf_model.specs.Versions.{imported, new_store}
 use Rattle.jf_codec.specs.declared.format.Format.{Format}
-use Rattle.jf_standing.specs.Named.{Named, never, version_at, leaf_entries, AreEntries, map_at}
+use Rattle.jf_codec.specs.Spelling.{IsNode}
+use Rattle.jf_standing.specs.Named.{Named, version_at, map_at, never, leaf_entries, AreEntries}
 use Rattle.jf_standing.specs.Standing.{Standing, versions_of, with_nodes}
 use Rattle.jf_standing.specs.Sound.{IsSound}
-use Rattle.jf_standing.specs.Taking.{Gives}
+use Rattle.jf_standing.specs.Taking.{GivesStanding}
+use Rattle.jf_standing.specs.Building.{nodes_by_name, checkpoint_of, rebuilt, built, imported_standing, new_standing}
 use Rattle.jf_standing.specs.Next.{IsReadStanding}
-use Rattle.jf_standing.specs.Building.{built, rebuilt, imported_standing, new_standing, nodes_by_name, checkpoint_of}
 
 -- what nodes stand for does not depend on their order
 abbrev pub OrderIsFree : Type 0
@@ -25,7 +25,7 @@ OrderIsFree = (fmt : Format) (s : Standing) (ns : List Named) → IsSound fmt s 
 abbrev pub CheckpointsGive : Type 0
 CheckpointsGive =
     (fmt : Format) (generation : ℕ) (s : Standing) → IsSound fmt s
-    → Gives fmt (checkpoint_of generation s) (with_nodes (nodes_by_name s.nodes) s) × IsPermutation s.nodes (nodes_by_name s.nodes) × (versions_of (with_nodes (nodes_by_name s.nodes) s) ≡ versions_of s)
+    → GivesStanding fmt (checkpoint_of generation s) (with_nodes (nodes_by_name s.nodes) s) × IsPermutation s.nodes (nodes_by_name s.nodes) × (versions_of (with_nodes (nodes_by_name s.nodes) s) ≡ versions_of s)
 
 -- nodes in order are sound exactly if they equal what is built anew from the maps and versions that are read off them
 abbrev pub CheckpointsAreDecided : Type 0
@@ -64,4 +64,4 @@ NodesAreValid =
 
 -- a sound standing has as many nodes as its versions keep
 abbrev pub NodesAreKept : Type 0
-NodesAreKept = (fmt : Format) (s : Standing) → IsReadStanding s → IsSound fmt s → length s.nodes ≡ kept (versions_of s)
+NodesAreKept = (fmt : Format) (s : Standing) → IsReadStanding s → IsSound fmt s → length s.nodes ≡ kept_nodes (versions_of s)

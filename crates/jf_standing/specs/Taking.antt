@@ -1,12 +1,12 @@
 -- Which records a standing takes, and what they make of it.
-use Rattle.std.specs.Prelude.{◌≡◌, ℕ, ◌+◌, ◌≤◌, IsTrue, List, [], ◌∷◌, map, reverse}
+use Rattle.std.specs.Prelude.{◌≡◌, ◌+◌, IsTrue, map, List, [], ◌∷◌, ℕ, ◌≤◌, reverse}
 use Rattle.std.specs.List.{AllByRecursion}
 use Rattle.jf_codec.specs.declared.format.Format.{Format}
-use Rattle.jf_standing.specs.Standing.{Standing, is_named, with_commit, with_floor}
-use Rattle.jf_standing.specs.Sound.{IsSound}
 use Rattle.jf_payload.specs.declared.records.Commit.{Commit}
 use Rattle.jf_payload.specs.declared.records.Record.{Record}
 use Rattle.jf_payload.specs.declared.records.Record.TheVariants as «record»
+use Rattle.jf_standing.specs.Standing.{Standing, is_named, with_commit, with_floor}
+use Rattle.jf_standing.specs.Sound.{IsSound}
 
 -- a landing continues from the head: it and its nodes have the next version, and it marks names of nodes stale
 pub record Continues (s : Standing) (c : Commit) : Type 0 where
@@ -24,15 +24,15 @@ abbrev pub TakesFloor : Format → Standing → ℕ → Standing → Type 0
 TakesFloor fmt s floor s' = (s.floor ≤ floor) × (floor ≤ s.head) × IsSound fmt s' × (s' ≡ with_floor floor s)
 
 -- a record that isn't the first is taken
-abbrev pub Takes : Format → Standing → Record → Standing → Type 0
-Takes fmt s («record».Floor floor) s' = TakesFloor fmt s floor s'
-Takes fmt s («record».NodeCommit c) s' = TakesCommits fmt s (c ∷ []) s'
-Takes fmt s («record».Checkpoint generation base floor head roots nodes) s' = ⊥
-Takes fmt s («record».Group cs) s' = TakesCommits fmt s cs s'
+abbrev pub TakesRecord : Format → Standing → Record → Standing → Type 0
+TakesRecord fmt s («record».Floor floor) s' = TakesFloor fmt s floor s'
+TakesRecord fmt s («record».NodeCommit c) s' = TakesCommits fmt s (c ∷ []) s'
+TakesRecord fmt s («record».Checkpoint generation base floor head roots nodes) s' = ⊥
+TakesRecord fmt s («record».Group cs) s' = TakesCommits fmt s cs s'
 
 -- a first record gives the standing that it lists: it is a sound checkpoint
-abbrev pub Gives : Format → Record → Standing → Type 0
-Gives fmt («record».Floor floor) s = ⊥
-Gives fmt («record».NodeCommit c) s = ⊥
-Gives fmt («record».Checkpoint generation base floor head roots nodes) s = IsSound fmt s × (s ≡ record { base = base; floor = floor; head = head; roots = reverse roots; nodes = nodes })
-Gives fmt («record».Group cs) s = ⊥
+abbrev pub GivesStanding : Format → Record → Standing → Type 0
+GivesStanding fmt («record».Floor floor) s = ⊥
+GivesStanding fmt («record».NodeCommit c) s = ⊥
+GivesStanding fmt («record».Checkpoint generation base floor head roots nodes) s = IsSound fmt s × (s ≡ record { base = base; floor = floor; head = head; roots = reverse roots; nodes = nodes })
+GivesStanding fmt («record».Group cs) s = ⊥

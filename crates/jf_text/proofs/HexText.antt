@@ -1,13 +1,13 @@
 -- Hexadecimal text is read two digits at a time.
-use Rattle.std.proofs.Common.{◌≡◌, ℕ, ◌+◌, ◌*◌, ◌/◌, ◌%◌, ◌<◌, ◌≤◌, ◌⊎◌, ◌&&◌, nat_le, if◌then◌else◌, option_and_then, List, [], ◌∷◌, ◌++◌, length, drop, get_or, Option, Some, None, inl, inr, refl, sym, ap, ◌∙◌, arith}
+use Rattle.std.proofs.Common.{ℕ, ◌+◌, List, ◌++◌, Option, Some, None, ◌≡◌, ◌∷◌, refl, ◌%◌, [], length, arith, ◌*◌, sym, ◌<◌, drop, get_or, ap, ◌∙◌, ◌≤◌, ◌&&◌, nat_le, if◌then◌else◌, option_and_then, ◌/◌, ◌⊎◌, inl, inr}
 use Rattle.std.proofs.lemmas.Bool.Decides.{nat_tests}
-use Rattle.std.proofs.lemmas.List.{append_assoc, append-nil, drop_all, drop_more}
+use Rattle.std.proofs.lemmas.List.{drop_more, append_assoc, append-nil, drop_all}
 use Rattle.jf_text.specs.Words.{both, byte_of, unhex, bytes_within}
 
 -- the bytes read so far, followed by those still to be read
-abbrev pub behind : List ℕ → Option (List ℕ) → Option (List ℕ)
-behind front (Some rest) = Some (front ++ rest)
-behind front None = None
+abbrev pub with_bytes_before : List ℕ → Option (List ℕ) → Option (List ℕ)
+with_bytes_before front (Some rest) = Some (front ++ rest)
+with_bytes_before front None = None
 
 -- if the rest can't be read, nothing is read
 both-none : (b : Option ℕ) → both ◌∷◌ b None ≡ None
@@ -49,28 +49,28 @@ unhex-drop w i h =
     rw (a, b, two) refl
 
 -- a byte is moved from the rest to those read
-pub behind-byte : (front : List ℕ) (byte : ℕ) (rest : Option (List ℕ)) → behind front (both ◌∷◌ (Some byte) rest) ≡ behind (front ++ byte ∷ []) rest
-behind-byte front byte None = refl
-behind-byte front byte (Some rest) = ap Some (sym (append_assoc front (byte ∷ []) rest))
+pub with_bytes_before-byte : (front : List ℕ) (byte : ℕ) (rest : Option (List ℕ)) → with_bytes_before front (both ◌∷◌ (Some byte) rest) ≡ with_bytes_before (front ++ byte ∷ []) rest
+with_bytes_before-byte front byte None = refl
+with_bytes_before-byte front byte (Some rest) = ap Some (sym (append_assoc front (byte ∷ []) rest))
 
 -- the next two digits are a byte, which is added to those read
 pub unhex-more : (w front : List ℕ) (i byte : ℕ) → 2 * i + 1 < length w → byte_of (get_or w (2 * i) 0) (get_or w (2 * i + 1) 0) ≡ Some byte
-    → unhex w ≡ behind front (unhex (drop (2 * i) w)) → unhex w ≡ behind (front ++ byte ∷ []) (unhex (drop (2 * (i + 1)) w))
+    → unhex w ≡ with_bytes_before front (unhex (drop (2 * i) w)) → unhex w ≡ with_bytes_before (front ++ byte ∷ []) (unhex (drop (2 * (i + 1)) w))
 unhex-more w front i byte h e so_far =
     let rest : Option (List ℕ) = unhex (drop (2 * (i + 1)) w) in
-    so_far ∙ ap (behind front) (unhex-drop w i h ∙ ap (λ b. both ◌∷◌ b rest) e) ∙ behind-byte front byte rest
+    so_far ∙ ap (with_bytes_before front) (unhex-drop w i h ∙ ap (λ b. both ◌∷◌ b rest) e) ∙ with_bytes_before-byte front byte rest
 
 -- if the next two digits are no byte, the word can't be read
 pub unhex-bad : (w front : List ℕ) (i : ℕ) → 2 * i + 1 < length w → byte_of (get_or w (2 * i) 0) (get_or w (2 * i + 1) 0) ≡ None
-    → unhex w ≡ behind front (unhex (drop (2 * i) w)) → unhex w ≡ None
+    → unhex w ≡ with_bytes_before front (unhex (drop (2 * i) w)) → unhex w ≡ None
 unhex-bad w front i h e so_far =
     let rest : Option (List ℕ) = unhex (drop (2 * (i + 1)) w) in
-    so_far ∙ ap (behind front) (unhex-drop w i h ∙ ap (λ b. both ◌∷◌ b rest) e)
+    so_far ∙ ap (with_bytes_before front) (unhex-drop w i h ∙ ap (λ b. both ◌∷◌ b rest) e)
 
 -- once all digits are read, the bytes read are those of the word
-pub unhex-all : (w front : List ℕ) (i : ℕ) → length w ≤ 2 * i → unhex w ≡ behind front (unhex (drop (2 * i) w)) → Some front ≡ unhex w
+pub unhex-all : (w front : List ℕ) (i : ℕ) → length w ≤ 2 * i → unhex w ≡ with_bytes_before front (unhex (drop (2 * i) w)) → Some front ≡ unhex w
 unfolding unhex
-unhex-all w front i h e = sym (e ∙ ap (λ t. behind front (unhex t)) (drop_all (2 * i) w h) ∙ ap Some (append-nil front))
+unhex-all w front i h e = sym (e ∙ ap (λ t. with_bytes_before front (unhex t)) (drop_all (2 * i) w h) ∙ ap Some (append-nil front))
 
 -- a number of bytes within the bounds is kept
 within-kept : (least most n : ℕ) (o : Option (List ℕ)) → ((bytes : List ℕ) → o ≡ Some bytes → length bytes ≡ n) → least ≤ n → n ≤ most

@@ -5,4 +5,4 @@ pub mod HexText
 pub mod HashText
 pub mod HexWritten
 pub mod Plain
-pub mod HexBack
+pub mod HexReadBack

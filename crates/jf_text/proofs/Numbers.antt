@@ -1,24 +1,24 @@
 -- Words as numbers: the value never falls as more digits are read, and each number has exactly one text.
-use Rattle.std.proofs.Common.{◌≡◌, ℕ, ◌+◌, ◌-◌, ◌*◌, ◌^◌, ◌<◌, ◌≤◌, true, false, List, [], ◌∷◌, ◌++◌, Some, None, fold, decimal, arith, bytes_eq, take, drop, length, get_or, ap}
-use Rattle.std.proofs.lemmas.Grind.{fold-append}
-use Rattle.std.proofs.lemmas.List.Sums.{fold_more}
-use Rattle.std.proofs.lemmas.List.{take-append-drop}
+use Rattle.std.proofs.Common.{ℕ, ◌+◌, ◌-◌, ◌*◌, List, fold, ◌≤◌, [], ◌∷◌, arith, ◌≡◌, ◌++◌, ◌<◌, take, drop, length, get_or, ap, ◌^◌, None, true, Some, decimal, bytes_eq, false}
 use Rattle.std.proofs.lemmas.Bool.Decides.{nat_tests}
+use Rattle.std.proofs.lemmas.Grind.{fold-append}
+use Rattle.std.proofs.lemmas.List.{take-append-drop}
+use Rattle.std.proofs.lemmas.List.Sums.{fold_more}
 use Rattle.jf_text.specs.Words.{digits_value, number}
 
 -- the value of digits that follow a number
-abbrev value_behind : ℕ → List ℕ → ℕ
-value_behind n w = fold (λ m c. m * 10 + (c - 48)) n w
+abbrev value_after_digits : ℕ → List ℕ → ℕ
+value_after_digits n w = fold (λ m c. m * 10 + (c - 48)) n w
 
-value_behind-le : (w : List ℕ) (n : ℕ) → n ≤ value_behind n w
-value_behind-le [] n = omega arith
-value_behind-le (c ∷ w) n = let h = value_behind-le w (n * 10 + (c - 48)) in omega arith
+value_after_digits-le : (w : List ℕ) (n : ℕ) → n ≤ value_after_digits n w
+value_after_digits-le [] n = omega arith
+value_after_digits-le (c ∷ w) n = let h = value_after_digits-le w (n * 10 + (c - 48)) in omega arith
 
 -- the first digits have no greater value than all of them
 pub digits_value-append : (v w : List ℕ) → digits_value v ≤ digits_value (v ++ w)
 digits_value-append v w =
-    let e : digits_value (v ++ w) ≡ value_behind (digits_value v) w = fold-append (λ m c. m * 10 + (c - 48)) 0 v w in
-    let h = value_behind-le w (digits_value v) in omega arith
+    let e : digits_value (v ++ w) ≡ value_after_digits (digits_value v) w = fold-append (λ m c. m * 10 + (c - 48)) 0 v w in
+    let h = value_after_digits-le w (digits_value v) in omega arith
 
 -- the digits up to and including a place have no greater value than all of them
 pub digits_value-more : (w : List ℕ) (i : ℕ) → i < length w → digits_value (take i w) * 10 + (get_or w i 0 - 48) ≤ digits_value w

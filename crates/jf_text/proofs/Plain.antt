@@ -1,74 +1,63 @@
 -- Words without a space or a line feed.
-use Rattle.std.proofs.Common.{◌≡◌, ℕ, ◌+◌, ◌%◌, ◌^◌, ◌<◌, ◌==◌, Bool, true, false, if◌then◌else◌, List, [], ◌∷◌, ◌++◌, decimal, refl, ap, ◌∙◌, arith}
-use Rattle.std.specs.List.{join_with_byte}
-use Rattle.std.proofs.lemmas.Fmt.{decimal_by_steps}
+use Rattle.std.proofs.Common.{ℕ, ◌==◌, Bool, true, false, if◌then◌else◌, List, [], ◌∷◌, ◌≡◌, refl, ◌+◌, ◌++◌, ap, ◌∙◌, ◌%◌, ◌^◌, ◌<◌, decimal, arith}
 use Rattle.std.proofs.lemmas.Bool.Decides.{nat_tests}
+use Rattle.std.proofs.lemmas.Fmt.{decimal_by_steps}
+use Rattle.std.specs.List.{join_with_byte}
+use Rattle.jf_path.proofs.BoolLaws.{not_and_passes, both_pass}
 use Rattle.jf_text.specs.Words.{words}
 
 -- the byte stands nowhere in the list
-abbrev pub without : ℕ → List ℕ → Bool
-without c [] = true
-without c (b ∷ w) = if b == c then false else without c w
+abbrev pub is_without : ℕ → List ℕ → Bool
+is_without c [] = true
+is_without c (b ∷ w) = if b == c then false else is_without c w
 
 -- a plain word: no byte is a space or a line feed
 abbrev pub is_plain : List ℕ → Bool
-is_plain w = if without 32 w then without 10 w else false
+is_plain w = if is_without 32 w then is_without 10 w else false
 
 abbrev pub all_plain : List (List ℕ) → Bool
 all_plain [] = true
 all_plain (w ∷ ws) = if is_plain w then all_plain ws else false
 
--- if a test in two parts passes, both parts pass
-pub both_pass : (s t : Bool) → (if s then t else false) ≡ true → (s ≡ true) × (t ≡ true)
-both_pass true t h = (refl, h)
-both_pass false t h = cc h
-
-pub not_and_passes : (s t : Bool) → (if s then false else t) ≡ true → (s ≡ false) × (t ≡ true)
-not_and_passes true t h = cc h
-not_and_passes false t h = (refl, h)
-
 -- ---- words
-
-words-one : (w : List ℕ) → without 32 w ≡ true → words w ≡ w ∷ []
+words-one : (w : List ℕ) → is_without 32 w ≡ true → words w ≡ w ∷ []
 unfolding words
 words-one [] h = refl
-words-one (b ∷ w) h = let parts = not_and_passes (b == 32) (without 32 w) h in rw (parts.0, words-one w parts.1) refl
+words-one (b ∷ w) h = let parts = not_and_passes (b == 32) (is_without 32 w) h in rw (parts.0, words-one w parts.1) refl
 
-words-first : (w rest : List ℕ) → without 32 w ≡ true → words (w ++ 32 ∷ rest) ≡ w ∷ words rest
+words-first : (w rest : List ℕ) → is_without 32 w ≡ true → words (w ++ 32 ∷ rest) ≡ w ∷ words rest
 unfolding words
 words-first [] rest h = refl
-words-first (b ∷ w) rest h = let parts = not_and_passes (b == 32) (without 32 w) h in rw (parts.0, words-first w rest parts.1) refl
+words-first (b ∷ w) rest h = let parts = not_and_passes (b == 32) (is_without 32 w) h in rw (parts.0, words-first w rest parts.1) refl
 
 -- joined words are cut as they were joined
 pub words-join : (w : List ℕ) (ws : List (List ℕ)) → is_plain w ≡ true → all_plain ws ≡ true → words (join_with_byte 32 (w ∷ ws)) ≡ w ∷ ws
-words-join w [] h hs = words-one w (both_pass (without 32 w) (without 10 w) h).0
+words-join w [] h hs = words-one w (both_pass (is_without 32 w) (is_without 10 w) h).0
 words-join w (v ∷ vs) h hs =
     let parts = both_pass (is_plain v) (all_plain vs) hs in
-    words-first w (join_with_byte 32 (v ∷ vs)) (both_pass (without 32 w) (without 10 w) h).0 ∙ ap (λ ws. w ∷ ws) (words-join v vs parts.0 parts.1)
+    words-first w (join_with_byte 32 (v ∷ vs)) (both_pass (is_without 32 w) (is_without 10 w) h).0 ∙ ap (λ ws. w ∷ ws) (words-join v vs parts.0 parts.1)
 
 -- ---- joined words are plain but for spaces
+is_without-append : (c : ℕ) (v w : List ℕ) → is_without c v ≡ true → is_without c w ≡ true → is_without c (v ++ w) ≡ true
+is_without-append c [] w h k = k
+is_without-append c (b ∷ v) w h k = let parts = not_and_passes (b == c) (is_without c v) h in rw parts.0 (is_without-append c v w parts.1 k)
 
-without-append : (c : ℕ) (v w : List ℕ) → without c v ≡ true → without c w ≡ true → without c (v ++ w) ≡ true
-without-append c [] w h k = k
-without-append c (b ∷ v) w h k = let parts = not_and_passes (b == c) (without c v) h in rw parts.0 (without-append c v w parts.1 k)
-
-pub without-join : (w : List ℕ) (ws : List (List ℕ)) → is_plain w ≡ true → all_plain ws ≡ true → without 10 (join_with_byte 32 (w ∷ ws)) ≡ true
-without-join w [] h hs = (both_pass (without 32 w) (without 10 w) h).1
-without-join w (v ∷ vs) h hs =
+pub is_without-join : (w : List ℕ) (ws : List (List ℕ)) → is_plain w ≡ true → all_plain ws ≡ true → is_without 10 (join_with_byte 32 (w ∷ ws)) ≡ true
+is_without-join w [] h hs = (both_pass (is_without 32 w) (is_without 10 w) h).1
+is_without-join w (v ∷ vs) h hs =
     let parts = both_pass (is_plain v) (all_plain vs) hs in
-    without-append 10 w (32 ∷ join_with_byte 32 (v ∷ vs)) (both_pass (without 32 w) (without 10 w) h).1 (without-join v vs parts.0 parts.1)
+    is_without-append 10 w (32 ∷ join_with_byte 32 (v ∷ vs)) (both_pass (is_without 32 w) (is_without 10 w) h).1 (is_without-join v vs parts.0 parts.1)
 
 -- ---- numbers are plain
+is_without-push : (c b : ℕ) (w : List ℕ) → is_without c w ≡ true → (b == c) ≡ false → is_without c (w ++ b ∷ []) ≡ true
+is_without-push c b w h e = is_without-append c w (b ∷ []) h (rw e refl)
 
-without-push : (c b : ℕ) (w : List ℕ) → without c w ≡ true → (b == c) ≡ false → without c (w ++ b ∷ []) ≡ true
-without-push c b w h e = without-append c w (b ∷ []) h (rw e refl)
-
-without-decimal : (c n : ℕ) → c < 48 → n < 2 ^ 64 → without c (decimal n) ≡ true
-without-decimal c n small h =
-    decimal_by_steps (λ _ ds. without c ds ≡ true)
+is_without-decimal : (c n : ℕ) → c < 48 → n < 2 ^ 64 → is_without c (decimal n) ≡ true
+is_without-decimal c n small h =
+    decimal_by_steps (λ _ ds. is_without c ds ≡ true)
     (λ m digit. let e : (48 + m == c) ≡ false = grind (arith, nat_tests) in rw e refl)
-    (λ m ds large so_far. let e : (48 + m % 10 == c) ≡ false = grind (arith, nat_tests) in without-push c (48 + m % 10) ds so_far e)
+    (λ m ds large so_far. let e : (48 + m % 10 == c) ≡ false = grind (arith, nat_tests) in is_without-push c (48 + m % 10) ds so_far e)
     n h
 
 pub is_plain-decimal : (n : ℕ) → n < 2 ^ 64 → is_plain (decimal n) ≡ true
-is_plain-decimal n h = rw (without-decimal 32 n (omega arith) h) (without-decimal 10 n (omega arith) h)
+is_plain-decimal n h = rw (is_without-decimal 32 n (omega arith) h) (is_without-decimal 10 n (omega arith) h)

@@ -1,17 +1,17 @@
 -- What clauses see of seats that take, are joined, or are new.
-use Rattle.std.proofs.Common.{◌≡◌, ℕ, zero, suc, ◌+◌, ◌<◌, ◌≤◌, cond, leb, ltb, Bool, true, false, List, [], ◌∷◌, ◌++◌, length, drop, Option, Some, None, sym, refl, ap, ◌∙◌, subst, ⊎_elim, arith}
-use mathlib.Core.Option as maybe
-use Rattle.std.proofs.lemmas.Bool.Decides.{leb_tells}
 use lib.ListN.{get_elem?}
-use Rattle.atomic_table.specs.Seated.{TableId}
+use mathlib.Core.Option as maybe
+use Rattle.std.proofs.Common.{◌≡◌, ℕ, List, [], Option, Some, None, refl, ◌∷◌, zero, suc, ◌+◌, drop, sym, subst, arith, ◌<◌, ◌≤◌, cond, leb, true, false, length, ap, ⊎_elim, Bool, ltb, ◌++◌, ◌∙◌}
+use Rattle.std.proofs.lemmas.Bool.Decides.{leb_tells}
 use Rattle.atomic_table.proofs.Lists.{at_longer}
+use Rattle.atomic_table.specs.Seated.{TableId}
 use Rattle.jf_turn.specs.declared.view.Stage.{Stage}
 use Rattle.jf_turn.specs.declared.view.Stage.TheVariants.{Spent, Idle, Opening, Holding}
+use Rattle.jf_turn.specs.Seats.{Carries, taken_at, seat_state, OthersFollow, TurnState, IsMaker, new_seat, SeatState, AreNewSeats}
+use Rattle.jf_turn.specs.Lists.{longer, StartsWith, shorter, HasElement}
 use Rattle.jf_turn.specs.declared.view.SeatView.{SeatView}
-use Rattle.jf_turn.specs.Lists.{Has, StartsWith, longer, shorter}
 use Rattle.jf_turn.specs.Rule.{OwnAreSeen}
-use Rattle.jf_turn.specs.Steps.{joined}
-use Rattle.jf_turn.specs.Seats.{Carries, taken_at, seat_state, SeatState, TurnState, AreNew, IsMaker, new_seat, OthersFollow}
+use Rattle.jf_turn.specs.Steps.{views_joined}
 use Rattle.jf_turn.proofs.Lists.{starts_self, within}
 
 module _ {E V : Type 0} where
@@ -59,10 +59,10 @@ module _ {V E O : Type 0} (list : V → List E) (names : E → ℕ) (origin_of :
 
 module _ {E O V : Type 0} where
   abbrev Told : SeatView E O × List (ℕ × Option V) → ℕ → ℕ → Type 0
-  Told m number seen = (number ≡ m.0.number) × (seen ≡ length m.0.seen) × Carries m.0.stage m.1 × Has m.0.numbers m.0.number
+  Told m number seen = (number ≡ m.0.number) × (seen ≡ length m.0.seen) × Carries m.0.stage m.1 × HasElement m.0.numbers m.0.number
 
   -- what a seat keeps beside its token, after the join
-  pub told_joined : (v w : SeatView E O) (m : SeatView E O × List (ℕ × Option V)) (number seen : ℕ) → m ≡ (joined v w, []) → v.stage ≡ Idle → number ≡ v.number → Has v.numbers v.number → seen ≡ length (longer v.seen w.seen) → Told m number seen
+  pub told_joined : (v w : SeatView E O) (m : SeatView E O × List (ℕ × Option V)) (number seen : ℕ) → m ≡ (views_joined v w, []) → v.stage ≡ Idle → number ≡ v.number → HasElement v.numbers v.number → seen ≡ length (longer v.seen w.seen) → Told m number seen
   told_joined v w m number seen e idle n has s = subst (λ x. Told x number seen) (sym e) (n, s, subst (λ (st : Stage E). Carries {V = V} st []) (sym idle) refl, (has.0, at_longer v.numbers w.numbers has.0 v.number has.1))
 
 module _ {E O : Type 0} where
@@ -71,31 +71,31 @@ module _ {E O : Type 0} where
   maker_is_new t id v n same m = λ i. record { turn = same i; origin = m.6 i; number = m.2 i; numbers = m.3 i; seen = m.5 i; taken = taken_at (m.0 i) }
 
   -- a list of new seats is longer by the next new seat
-  pub new_longer : (t : TurnState O) (ss : List (SeatState E O)) (s : SeatState E O) (n m : ℕ) → AreNew t ss n → m ≡ n + length ss → s ≡ new_seat t m → AreNew t (ss ++ s ∷ []) n
+  pub new_longer : (t : TurnState O) (ss : List (SeatState E O)) (s : SeatState E O) (n m : ℕ) → AreNewSeats t ss n → m ≡ n + length ss → s ≡ new_seat t m → AreNewSeats t (ss ++ s ∷ []) n
   new_longer t [] s n m new at is = let same : m ≡ n = omega arith in (is ∙ ap (new_seat t) same, tt)
   new_longer t (x ∷ ss) s n m new at is = (new.0, new_longer t ss s (n + 1) m new.1 (omega arith) is)
 
 module _ {E : Type 0} (names : E → ℕ) where
   -- what a joined seat knows of the numbers of the seat that had seen the shorter list
-  abbrev Kept : Bool → List E → List E → List ℕ → List ℕ → Type 0
-  Kept b xs ys ns ms = (n : ℕ) → Has (cond b ns ms) n → (k : ℕ) (e : E) → get_elem? (cond b ys xs) k ≡ maybe.some e → names e ≡ n → k < length (cond b xs ys)
+  abbrev NumbersAreKnown : Bool → List E → List E → List ℕ → List ℕ → Type 0
+  NumbersAreKnown b xs ys ns ms = (n : ℕ) → HasElement (cond b ns ms) n → (k : ℕ) (e : E) → get_elem? (cond b ys xs) k ≡ maybe.some e → names e ≡ n → k < length (cond b xs ys)
 
   abbrev pub After : List E → List ℕ → List E → Type 0
-  After seen ns entries = (e : E) → Has (drop (length seen) entries) e → ¬ (Has ns (names e))
+  After seen ns entries = (e : E) → HasElement (drop (length seen) entries) e → ¬ (HasElement ns (names e))
 
   none_after : (xs : List E) (ns : List ℕ) → After xs ns xs
   none_after xs ns e has own =
       let at = at_drop xs (length xs) has.0 e has.1 in let in_it = within xs (length xs + has.0) e at in omega arith
 
-  kept_after : (xs ys : List E) (ns : List ℕ) → ((n : ℕ) → Has ns n → (k : ℕ) (e : E) → get_elem? ys k ≡ maybe.some e → names e ≡ n → k < length xs) → After xs ns ys
+  kept_after : (xs ys : List E) (ns : List ℕ) → ((n : ℕ) → HasElement ns n → (k : ℕ) (e : E) → get_elem? ys k ≡ maybe.some e → names e ≡ n → k < length xs) → After xs ns ys
   kept_after xs ys ns kept e has own = let less = kept (names e) own (length xs + has.0) e (at_drop ys (length xs) has.0 e has.1) refl in omega arith
 
-  pub both_follow_by : (b : Bool) (xs ys : List E) (ns ms : List ℕ) → Kept b xs ys ns ms → After xs ns (cond b ys xs) × After ys ms (cond b ys xs)
+  pub both_follow_by : (b : Bool) (xs ys : List E) (ns ms : List ℕ) → NumbersAreKnown b xs ys ns ms → After xs ns (cond b ys xs) × After ys ms (cond b ys xs)
   both_follow_by true xs ys ns ms kept = (kept_after xs ys ns kept, none_after ys ms)
   both_follow_by false xs ys ns ms kept = (none_after xs ns, kept_after ys xs ms kept)
 
 module _ {E O : Type 0} (names : E → ℕ) where
   -- after what either of two joined seats has seen, no entry is its own
-  pub both_follow : (v w : SeatView E O) → ((n : ℕ) → Has (joined v w).other_numbers n → (k : ℕ) (e : E) → get_elem? (joined v w).seen k ≡ maybe.some e → names e ≡ n → k < length (joined v w).other_seen)
-      → After names v.seen v.numbers (joined v w).seen × After names w.seen w.numbers (joined v w).seen
+  pub both_follow : (v w : SeatView E O) → ((n : ℕ) → HasElement (views_joined v w).other_numbers n → (k : ℕ) (e : E) → get_elem? (views_joined v w).seen k ≡ maybe.some e → names e ≡ n → k < length (views_joined v w).other_seen)
+      → After names v.seen v.numbers (views_joined v w).seen × After names w.seen w.numbers (views_joined v w).seen
   both_follow v w kept = both_follow_by names (ltb (length v.seen) (length w.seen)) v.seen w.seen v.numbers w.numbers kept

@@ -1,22 +1,22 @@
 -- Each step of a turn keeps its rule.
-use Rattle.std.proofs.Common.{◌≡◌, ℕ, zero, suc, ◌+◌, ◌*◌, ◌%◌, ◌^◌, ◌<◌, ◌≤◌, ◌≢◌, cond, eqb, ltb, leb, Bool, true, false, List, [], ◌∷◌, ◌++◌, length, get_or, set, Option, Some, None, sym, refl, ap, ◌∙◌, subst, ⊎_elim, arith, le_refl, length-set, get_or-set_other, get_or-set_same, eq-eqb, ne_eqb}
+use lib.ListN.{get_elem?}
+use lib.Seq.{set-get_or}
 use mathlib.Core.Logic.{dite}
 use mathlib.Core.Option as maybe
 use native.Mathlib.Decide.{ℕ_discrete}
-use Rattle.std.proofs.lemmas.Bool.Decides.{leb_tells}
-use lib.ListN.{get_elem?}
-use lib.Seq.{set-get_or}
 use prog.Atomic.{either}
-use Rattle.atomic_table.specs.Table.{State, Me, step, keeps, takes, gives, put_back, rest, stepped, Allows, Splits, Joins, Final, Seen}
+use Rattle.std.proofs.Common.{ℕ, List, Option, [], ◌∷◌, sym, ◌≡◌, ◌^◌, ◌<◌, ◌≤◌, ◌≢◌, length, get_or, set, ◌∙◌, subst, ⊎_elim, ◌+◌, ◌*◌, ◌%◌, eqb, Some, refl, ap, arith, length-set, get_or-set_other, get_or-set_same, eq-eqb, ne_eqb, None, ◌++◌, suc, true, false, cond, leb, le_refl, Bool, ltb, zero}
+use Rattle.std.proofs.lemmas.Bool.Decides.{leb_tells}
 use Rattle.atomic_table.proofs.Lists.{at_set, set_here, at_longer}
-use Rattle.jf_turn.specs.declared.view.Stage.{Stage}
-use Rattle.jf_turn.specs.declared.view.Stage.TheVariants.{Spent, Idle, Opening, Holding}
+use Rattle.atomic_table.specs.Table.{State, Me, step, keeps, takes, stepped, Allows, gives, put_back, rest, Splits, Joins, Final, Seen}
 use Rattle.jf_turn.specs.declared.view.SeatView.{SeatView}
-use Rattle.jf_turn.specs.Lists.{Has, StartsWith, longer}
-use Rattle.jf_turn.specs.Rule.{Hand, free, held_by, turn_word, Account, IsHome, OwnAreSeen, FitsHand, IsSeat, FitsTurn, IsTurn, first_view}
-use Rattle.jf_turn.specs.Steps.{at_stage, released_seat, minted, claimed, born, moved, released, numbered, compared, first_of, maker_left, seat_right, joined, spent}
+use Rattle.jf_turn.specs.Rule.{IsTurn, TurnAccount, FitsTurn, Hand, FitsHand, IsSeat, turn_word, IsHome, free, held_by, OwnAreSeen, first_view}
+use Rattle.jf_turn.specs.declared.view.Stage.{Stage}
+use Rattle.jf_turn.specs.Lists.{HasElement, StartsWith, longer}
+use Rattle.jf_turn.specs.declared.view.Stage.TheVariants.{Spent, Idle, Opening, Holding}
+use Rattle.jf_turn.specs.Steps.{at_stage, turn_claimed, born, moved, released_seat, released, minted, seat_numbered, first_or_zero, maker_left, seat_right, compared, views_joined, spent}
 use Rattle.jf_turn.proofs.Words.{free_of_even}
-use Rattle.jf_turn.proofs.Lists.{put, put_at, put_else, at_end, within, some_at, at_append, has_cons, has_append, has_left, has_right, starts_self, starts_more, prefix_of, prefix_whole}
+use Rattle.jf_turn.proofs.Lists.{at_append, starts_more, within, starts_self, put, put_else, has_cons, put_at, at_end, prefix_of, some_at, prefix_whole, has_append, has_left, has_right}
 
 module _ {V E O : Type 0} (list : V → List E) (names : E → ℕ) (origin_of : V → O) (seats : ℕ) (start : O) where
   abbrev W : Type 0
@@ -43,21 +43,21 @@ module _ {V E O : Type 0} (list : V → List E) (names : E → ℕ) (origin_of :
   abbrev Rule : St → Type 0
   Rule = IsTurn list names origin_of seats start
 
-  abbrev Fit : Account E O → Homes → ℕ → W → Type 0
+  abbrev Fit : TurnAccount E O → Homes → ℕ → W → Type 0
   Fit = FitsTurn list names origin_of
 
   abbrev Stand : List E → Homes → W → Hand → Stage E → Type 0
   Stand = FitsHand list names origin_of
 
-  abbrev Sit : Account E O → ℕ → W → Type 0
+  abbrev Sit : TurnAccount E O → ℕ → W → Type 0
   Sit = IsSeat list names origin_of
 
   -- a view that keeps no numbers of another seat
-  no_others : (n : ℕ) → Has [] n → ⊥
+  no_others : (n : ℕ) → HasElement [] n → ⊥
   no_others n has = maybe.some-ne-none n (sym has.1)
 
   -- a seat has the new view w, under the account p
-  placed : (s : St) (r : Rule s) (p : Account E O) (ws : List ℕ) (hs : Homes) (id : ℕ) (v w : W) → get_elem? s.views id ≡ maybe.some v → length ws ≡ 2 → get_or ws 0 0 ≡ turn_word p.hand (length p.entries) → get_or ws 1 0 ≡ p.given → p.given ≤ seats → length p.entries ≤ 2 ^ 62
+  placed : (s : St) (r : Rule s) (p : TurnAccount E O) (ws : List ℕ) (hs : Homes) (id : ℕ) (v w : W) → get_elem? s.views id ≡ maybe.some v → length ws ≡ 2 → get_or ws 0 0 ≡ turn_word p.hand (length p.entries) → get_or ws 1 0 ≡ p.given → p.given ≤ seats → length p.entries ≤ 2 ^ 62
       → p.origin ≡ r.account.origin → IsHome list names origin_of p hs p.hand → ((k : ℕ) (e : E) → get_elem? p.entries k ≡ maybe.some e → names e < p.given) → Fit p hs id w → ((j : ℕ) (u : W) → j ≢ id → Fit r.account s.homes j u → Fit p hs j u)
       → Rule record { words = ws; homes = hs; views = set s.views id w }
   placed s r p ws hs id v w at wide turn_is count_is few bounded from home named mine others = record {
@@ -79,27 +79,27 @@ module _ {V E O : Type 0} (list : V → List E) (names : E → ℕ) (origin_of :
   sits_at s r id v here at = (r.each id v at).0 here
 
   -- no number is one for which two seats stand
-  apart : (p : Account E O) (id j n : ℕ) (u : W) → p.seat_of n ≡ id → j ≢ id → Sit p j u → Has u.numbers n → ⊥
+  apart : (p : TurnAccount E O) (id j n : ℕ) (u : W) → p.seat_of n ≡ id → j ≢ id → Sit p j u → HasElement u.numbers n → ⊥
   apart p id j n u own other sit has = other (sym (sit.numbers n has).1 ∙ own)
 
   -- another seat still agrees after a seat takes the turn
-  taken_else : (entries : List E) (hs hs' : Homes) (n : ℕ) (u : W) (st : Stage E) → (st ≢ Spent → Has u.numbers n → ⊥) → Stand entries hs u free st → Stand entries hs' u (held_by n) st
+  taken_else : (entries : List E) (hs hs' : Homes) (n : ℕ) (u : W) (st : Stage E) → (st ≢ Spent → HasElement u.numbers n → ⊥) → Stand entries hs u free st → Stand entries hs' u (held_by n) st
   taken_else entries hs hs' n u Spent not s = tt
   taken_else entries hs hs' n u Idle not s = (not (λ e. cc), s)
   taken_else entries hs hs' n u Opening not s = absurd s
   taken_else entries hs hs' n u (Holding l) not s = absurd s
 
-  sit_same : (p : Account E O) (h : Hand) (id : ℕ) (v : W) (st : Stage E) → Sit p id v → Sit (record p { hand = h }) id (at_stage v st)
+  sit_same : (p : TurnAccount E O) (h : Hand) (id : ℕ) (v : W) (st : Stage E) → Sit p id v → Sit (record p { hand = h }) id (at_stage v st)
   sit_same p h id v st r = record { seen = r.seen; other_seen = r.other_seen; others = λ n has. absurd (no_others n has); origin = r.origin; numbers = r.numbers; maker = r.maker }
 
-  sit_hand : (p : Account E O) (h : Hand) (id : ℕ) (v : W) → Sit p id v → Sit (record p { hand = h }) id v
+  sit_hand : (p : TurnAccount E O) (h : Hand) (id : ℕ) (v : W) → Sit p id v → Sit (record p { hand = h }) id v
   sit_hand p h id v r = record { seen = r.seen; other_seen = r.other_seen; others = r.others; origin = r.origin; numbers = r.numbers; maker = r.maker }
 
   away_here : (v : W) → v.stage ≡ Idle → v.stage ≢ Spent
   away_here v e g = cc
 
-  pub claims : (slots id old : ℕ) (me : M) → me.0.stage ≡ Idle → Has me.0.numbers me.0.number → old % 2 ≡ 0 → 0 < slots
-      → Allows Rule slots id me 0 (λ x. either (eqb x old) (old + 1) x) (claimed list names origin_of (step slots 0 old (old + 1) maybe.none) me)
+  pub claims : (slots id old : ℕ) (me : M) → me.0.stage ≡ Idle → HasElement me.0.numbers me.0.number → old % 2 ≡ 0 → 0 < slots
+      → Allows Rule slots id me 0 (λ x. either (eqb x old) (old + 1) x) (turn_claimed list names origin_of (step slots 0 old (old + 1) maybe.none) me)
   claims slots id old me away own even deep s r len at _ = let x : ℕ = get_or s.words 0 0 in let p = r.account in let v = me.0 in dite (ℕ_discrete x old)
       (λ hit.
       let is_free : p.hand ≡ free = free_of_even p.hand (length p.entries) x r.turn_is (ap (λ (z : ℕ). z % 2) hit ∙ even) in
@@ -107,7 +107,7 @@ module _ {V E O : Type 0} (list : V → List E) (names : E → ℕ) (origin_of :
       let sit = sits_at s r id v (away_here v away) at in
       let fit = r.each id v at in
       let mine : OwnAreSeen list names origin_of p.entries v = subst (λ (z : Hand × Stage E). Stand p.entries s.homes v z.0 z.1) (λ i. (is_free i, away i)) fit.1 in
-      let p' : Account E O = record p { hand = held_by v.number } in let w : W = at_stage v (Holding (list y)) in let hs : Homes = set s.homes 0 maybe.none in
+      let p' : TurnAccount E O = record p { hand = held_by v.number } in let w : W = at_stage v (Holding (list y)) in let hs : Homes = set s.homes 0 maybe.none in
       let wide = r.wide in let turn : x ≡ 2 * length p.entries = r.turn_is ∙ ap (λ h. turn_word h (length p.entries)) is_free in
       let same : (v.number < p.given) × (p.seat_of v.number ≡ id) = sit.numbers v.number own in (
         w,
@@ -132,22 +132,22 @@ module _ {V E O : Type 0} (list : V → List E) (names : E → ℕ) (origin_of :
       ))
 
   -- the holder of the turn is held for one of its numbers, and keeps the turn's list
-  holder_of : (entries l : List E) (hs : Homes) (v : W) (h : Hand) → Stand entries hs v h (Holding l) → (n : ℕ) × (h ≡ held_by n) × Has v.numbers n × (l ≡ entries)
+  holder_of : (entries l : List E) (hs : Homes) (v : W) (h : Hand) → Stand entries hs v h (Holding l) → (n : ℕ) × (h ≡ held_by n) × HasElement v.numbers n × (l ≡ entries)
   holder_of entries l hs v free s = absurd s
   holder_of entries l hs v (held_by n) s = (n, refl, s.0, s.1)
 
-  born_of : (entries : List E) (hs : Homes) (v : W) (h : Hand) → Stand entries hs v h Opening → (n : ℕ) × (h ≡ held_by n) × Has v.numbers n × (entries ≡ []) × (get_elem? hs 0 ≡ maybe.some (maybe.some None))
+  born_of : (entries : List E) (hs : Homes) (v : W) (h : Hand) → Stand entries hs v h Opening → (n : ℕ) × (h ≡ held_by n) × HasElement v.numbers n × (entries ≡ []) × (get_elem? hs 0 ≡ maybe.some (maybe.some None))
   born_of entries hs v free s = absurd s
   born_of entries hs v (held_by n) s = (n, refl, s.0, s.1, s.2)
 
   -- if the holder of the number n does a step, no other seat holds the turn
-  held_else : (entries entries' : List E) (hs hs' : Homes) (n : ℕ) (u : W) (st : Stage E) → (st ≢ Spent → Has u.numbers n → ⊥) → (st ≢ Spent → OwnAreSeen list names origin_of entries u → OwnAreSeen list names origin_of entries' u) → Stand entries hs u (held_by n) st → Stand entries' hs' u (held_by n) st
+  held_else : (entries entries' : List E) (hs hs' : Homes) (n : ℕ) (u : W) (st : Stage E) → (st ≢ Spent → HasElement u.numbers n → ⊥) → (st ≢ Spent → OwnAreSeen list names origin_of entries u → OwnAreSeen list names origin_of entries' u) → Stand entries hs u (held_by n) st → Stand entries' hs' u (held_by n) st
   held_else entries entries' hs hs' n u Spent not own s = tt
   held_else entries entries' hs hs' n u Idle not own s = (s.0, own (λ e. cc) s.1)
   held_else entries entries' hs hs' n u Opening not own s = absurd (not (λ e. cc) s.0)
   held_else entries entries' hs hs' n u (Holding l) not own s = absurd (not (λ e. cc) s.0)
 
-  freed_else : (entries : List E) (hs hs' : Homes) (n : ℕ) (u : W) (st : Stage E) → (st ≢ Spent → Has u.numbers n → ⊥) → Stand entries hs u (held_by n) st → Stand entries hs' u free st
+  freed_else : (entries : List E) (hs hs' : Homes) (n : ℕ) (u : W) (st : Stage E) → (st ≢ Spent → HasElement u.numbers n → ⊥) → Stand entries hs u (held_by n) st → Stand entries hs' u free st
   freed_else entries hs hs' n u Spent not s = tt
   freed_else entries hs hs' n u Idle not s = s.1
   freed_else entries hs hs' n u Opening not s = absurd (not (λ e. cc) s.0)
@@ -179,26 +179,26 @@ module _ {V E O : Type 0} (list : V → List E) (names : E → ℕ) (origin_of :
   one_carried c y y' e f = let both : carries (0, Some y) ≡ carries (0, Some y') = sym e ∙ f in let pair : pairs (0, Some y) ≡ pairs (0, Some y') = cc in let some : Some y ≡ Some y' = ap (λ z. z.1) pair in cc
 
   -- the turn's list grows, by entries that name the holder's number
-  pub moves : (slots id : ℕ) (me : M) (l : List E) (y : V) (more : List E) (word : ℕ) → me.0.stage ≡ Holding l → me.1 ≡ (0, Some y) ∷ [] → list y ≡ l ++ more → ((e : E) → Has more e → names e ≡ me.0.number) → Has me.0.numbers me.0.number → word ≡ 2 * length (list y) + 1 → length (list y) ≤ 2 ^ 62
+  pub moves : (slots id : ℕ) (me : M) (l : List E) (y : V) (more : List E) (word : ℕ) → me.0.stage ≡ Holding l → me.1 ≡ (0, Some y) ∷ [] → list y ≡ l ++ more → ((e : E) → HasElement more e → names e ≡ me.0.number) → HasElement me.0.numbers me.0.number → word ≡ 2 * length (list y) + 1 → length (list y) ≤ 2 ^ 62
       → Allows Rule slots id me 0 (λ _. word) (λ _. moved list names origin_of (step slots 0 word 0 maybe.none) me word)
   moves slots id me l y more word stage carried grows named mine is_word small s r len at _ =
       let p = r.account in let v = me.0 in let fit = r.each id v at in let sit = sits_at s r id v (holds_here v l stage) at in
       let b = holder_of p.entries l s.homes v p.hand (subst (Stand p.entries s.homes v p.hand) stage fit.1) in let n : ℕ = b.0 in let is = b.1 in let own : p.seat_of n ≡ id = (sit.numbers n b.2).1 in let given = sit.numbers v.number mine in
       let grown : list y ≡ p.entries ++ more = grows ∙ ap (λ xs. xs ++ more) b.3 in
-      let p' : Account E O = record p { entries = list y } in let w : W = at_stage v (Holding (list y)) in let starts : (xs : List E) → StartsWith p.entries xs → StartsWith (list y) xs = λ xs t. subst (λ ys. StartsWith ys xs) (sym grown) (starts_more p.entries more xs t) in
+      let p' : TurnAccount E O = record p { entries = list y } in let w : W = at_stage v (Holding (list y)) in let starts : (xs : List E) → StartsWith p.entries xs → StartsWith (list y) xs = λ xs t. subst (λ ys. StartsWith ys xs) (sym grown) (starts_more p.entries more xs t) in
       let owned : (j : ℕ) (u : W) → j ≢ id → Sit p j u → OwnAreSeen list names origin_of p.entries u → OwnAreSeen list names origin_of (list y) u = λ j u other su o k e there has. ⊎_elim (λ (h : get_elem? p.entries k ≡ maybe.some e). o k e h has)
-      (λ (h : Has more e). absurd (apart p id j v.number u given.1 other su (subst (Has u.numbers) (named e h) has))) (at_append p.entries more k e (subst (λ ys. get_elem? ys k ≡ maybe.some e) grown there)) in
-      let others_on : (j : ℕ) (u : W) → j ≢ id → Sit p j u → (m : ℕ) → Has u.other_numbers m → Has u.numbers m × ((k : ℕ) (e : E) → get_elem? (list y) k ≡ maybe.some e → names e ≡ m → k < length u.other_seen) = λ j u other su m has. (
+      (λ (h : HasElement more e). absurd (apart p id j v.number u given.1 other su (subst (HasElement u.numbers) (named e h) has))) (at_append p.entries more k e (subst (λ ys. get_elem? ys k ≡ maybe.some e) grown there)) in
+      let others_on : (j : ℕ) (u : W) → j ≢ id → Sit p j u → (m : ℕ) → HasElement u.other_numbers m → HasElement u.numbers m × ((k : ℕ) (e : E) → get_elem? (list y) k ≡ maybe.some e → names e ≡ m → k < length u.other_seen) = λ j u other su m has. (
         (su.others m has).0,
         λ k e there name. ⊎_elim (λ (h : get_elem? p.entries k ≡ maybe.some e). (su.others m has).1 k e h name)
-            (λ (h : Has more e). absurd (apart p id j v.number u given.1 other su (subst (Has u.numbers) (sym name ∙ named e h) (su.others m has).0))) (at_append p.entries more k e (subst (λ ys. get_elem? ys k ≡ maybe.some e) grown there)),
+            (λ (h : HasElement more e). absurd (apart p id j v.number u given.1 other su (subst (HasElement u.numbers) (sym name ∙ named e h) (su.others m has).0))) (at_append p.entries more k e (subst (λ ys. get_elem? ys k ≡ maybe.some e) grown there)),
       ) in (
         w,
         keeps,
         tt,
         placed s r p' (set s.words 0 word) s.homes id v w at (length-set s.words 0 word ∙ r.wide) (get_or-set_same s.words 0 word 0 (let wide = r.wide in omega arith) ∙ (is_word ∙ sym (ap (λ h. turn_word h (length (list y))) is))) (get_or-set_other s.words 0 1 word 0 (λ e. omega arith) ∙ r.count_is) r.few small refl
             (subst (IsHome list names origin_of p' s.homes) (sym is) (subst (IsHome list names origin_of p s.homes) is r.home))
-            (λ k e there. ⊎_elim (λ (h : get_elem? p.entries k ≡ maybe.some e). r.named k e h) (λ (h : Has more e). subst (λ z. z < p.given) (sym (named e h)) given.0) (at_append p.entries more k e (subst (λ ys. get_elem? ys k ≡ maybe.some e) grown there)))
+            (λ k e there. ⊎_elim (λ (h : get_elem? p.entries k ≡ maybe.some e). r.named k e h) (λ (h : HasElement more e). subst (λ z. z < p.given) (sym (named e h)) given.0) (at_append p.entries more k e (subst (λ ys. get_elem? ys k ≡ maybe.some e) grown there)))
             ((λ _. record { seen = starts v.seen sit.seen; other_seen = starts v.other_seen sit.other_seen; others = λ n has. absurd (no_others n has); origin = sit.origin; numbers = sit.numbers; maker = sit.maker }), subst (λ h. Stand (list y) s.homes w h (Holding (list y))) (sym is) (b.2, refl))
             (λ j u other f. (
               (λ here. let su = f.0 here in record { seen = starts u.seen su.seen; other_seen = starts u.other_seen su.other_seen; others = others_on j u other su; origin = su.origin; numbers = su.numbers; maker = su.maker }),
@@ -213,7 +213,7 @@ module _ {V E O : Type 0} (list : V → List E) (names : E → ℕ) (origin_of :
   releases slots id me y word stage carried from is_word deep s r len at _ =
       let p = r.account in let v = me.0 in let l : List E = list y in let fit = r.each id v at in let sit = sits_at s r id v (holds_here v l stage) at in
       let b = holder_of p.entries l s.homes v p.hand (subst (Stand p.entries s.homes v p.hand) stage fit.1) in let n : ℕ = b.0 in let is = b.1 in let own : p.seat_of n ≡ id = (sit.numbers n b.2).1 in
-      let p' : Account E O = record p { hand = free } in let w : W = released_seat v l in let hs : Homes = put_back s.homes me.1 in
+      let p' : TurnAccount E O = record p { hand = free } in let w : W = released_seat v l in let hs : Homes = put_back s.homes me.1 in
       let same_origin : origin_of y ≡ p.origin = (let e : Some (origin_of y) ≡ Some p.origin = sym from ∙ sit.origin in cc) in (
         w,
         gives,
@@ -226,7 +226,7 @@ module _ {V E O : Type 0} (list : V → List E) (names : E → ℕ) (origin_of :
         λ y' c. let same : y ≡ y' = one_carried me.1 y y' carried c in subst (λ (z : SeatView E O × List (ℕ × Option V)). z ≡ (released_seat v (list y'), [])) (λ i. (released_seat v (list (sym same i)), ap rest (sym carried) i)) refl,
       )
 
-  sit_count : (p : Account E O) (id j : ℕ) (u : W) → j ≢ p.maker → Sit p j u → Sit (record p { given = p.given + 1; seat_of = put p.seat_of p.given id }) j u
+  sit_count : (p : TurnAccount E O) (id j : ℕ) (u : W) → j ≢ p.maker → Sit p j u → Sit (record p { given = p.given + 1; seat_of = put p.seat_of p.given id }) j u
   sit_count p id j u other r = record {
     seen = r.seen;
     other_seen = r.other_seen;
@@ -236,21 +236,21 @@ module _ {V E O : Type 0} (list : V → List E) (names : E → ℕ) (origin_of :
     maker = λ e. absurd (other (r.maker e).1);
   }
 
-  minted_here : (p : Account E O) (hs : Homes) (v : W) (h : Hand) → v.given ≡ p.given → IsHome list names origin_of p hs h → ((k : ℕ) (e : E) → get_elem? p.entries k ≡ maybe.some e → names e < p.given) → Stand p.entries hs v h Idle → Stand p.entries hs (minted v) h Idle
+  minted_here : (p : TurnAccount E O) (hs : Homes) (v : W) (h : Hand) → v.given ≡ p.given → IsHome list names origin_of p hs h → ((k : ℕ) (e : E) → get_elem? p.entries k ≡ maybe.some e → names e < p.given) → Stand p.entries hs v h Idle → Stand p.entries hs (minted v) h Idle
   minted_here p hs v free e home named own = λ k x there has. let less = named k x there in ⊎_elim (λ (t : v.given ≡ names x). absurd (omega arith)) (λ t. own k x there t) (has_cons v.given v.numbers (names x) has)
   minted_here p hs v (held_by n) e home named s = (
     (λ has. ⊎_elim (λ (t : v.given ≡ n). absurd (omega arith)) (λ t. s.0 t) (has_cons v.given v.numbers n has)),
     λ k x there has. let less = named k x there in ⊎_elim (λ (t : v.given ≡ names x). absurd (omega arith)) (λ t. s.1 k x there t) (has_cons v.given v.numbers (names x) has),
   )
 
-  same_home : (p : Account E O) (given : ℕ) (seat_of : ℕ → ℕ) (hs : Homes) (h : Hand) → p.given ≤ given → IsHome list names origin_of p hs h → IsHome list names origin_of (record p { given = given; seat_of = seat_of }) hs h
+  same_home : (p : TurnAccount E O) (given : ℕ) (seat_of : ℕ → ℕ) (hs : Homes) (h : Hand) → p.given ≤ given → IsHome list names origin_of p hs h → IsHome list names origin_of (record p { given = given; seat_of = seat_of }) hs h
   same_home p given seat_of hs free le home = home
   same_home p given seat_of hs (held_by n) le less = omega arith
 
-  pub mints : (slots id : ℕ) (me : M) → me.0.stage ≡ Idle → me.0.is_maker ≡ true → me.0.given < seats → seats < 2 ^ 32 → Allows Rule slots id me 1 (λ x. (x + 1) % 2 ^ 64) (numbered list names origin_of (step slots 1 1 0 maybe.none) me)
+  pub mints : (slots id : ℕ) (me : M) → me.0.stage ≡ Idle → me.0.is_maker ≡ true → me.0.given < seats → seats < 2 ^ 32 → Allows Rule slots id me 1 (λ x. (x + 1) % 2 ^ 64) (seat_numbered list names origin_of (step slots 1 1 0 maybe.none) me)
   mints slots id me away is_maker room small s r len at _ =
       let p = r.account in let v = me.0 in let fit = r.each id v at in let sit = sits_at s r id v (away_here v away) at in let maker = sit.maker is_maker in let c : ℕ = v.given in let found : get_or s.words 1 0 ≡ p.given = r.count_is in let mine = maker.0 in
-      let bound : seats < 4294967296 = small in let up : (get_or s.words 1 0 + 1) % 18446744073709551616 ≡ p.given + 1 = omega arith in let w : W = minted v in let p' : Account E O = record p { given = p.given + 1; seat_of = put p.seat_of p.given id } in (
+      let bound : seats < 4294967296 = small in let up : (get_or s.words 1 0 + 1) % 18446744073709551616 ≡ p.given + 1 = omega arith in let w : W = minted v in let p' : TurnAccount E O = record p { given = p.given + 1; seat_of = put p.seat_of p.given id } in (
         w,
         keeps,
         tt,
@@ -272,14 +272,14 @@ module _ {V E O : Type 0} (list : V → List E) (names : E → ℕ) (origin_of :
       )
 
   -- a seat of one number of the maker's
-  split_fits : (entries : List E) (hs : Homes) (v w : W) (h : Hand) → ((n : ℕ) → Has w.numbers n → Has v.numbers n) → w.seen ≡ v.seen → Stand entries hs v h Idle → Stand entries hs w h Idle
+  split_fits : (entries : List E) (hs : Homes) (v w : W) (h : Hand) → ((n : ℕ) → HasElement w.numbers n → HasElement v.numbers n) → w.seen ≡ v.seen → Stand entries hs v h Idle → Stand entries hs w h Idle
   split_fits entries hs v w free sub same own = λ k e there has. subst (λ (xs : List E). k < length xs) (sym same) (own k e there (sub (names e) has))
   split_fits entries hs v w (held_by n) sub same s = ((λ has. s.0 (sub n has)), λ k e there has. subst (λ (xs : List E). k < length xs) (sym same) (s.1 k e there (sub (names e) has)))
 
-  one_of : (x n : ℕ) → Has (x ∷ []) n → x ≡ n
+  one_of : (x n : ℕ) → HasElement (x ∷ []) n → x ≡ n
   one_of x n has = ⊎_elim (λ t. t) (λ t. absurd (maybe.some-ne-none n (sym t.1))) (has_cons x [] n has)
 
-  sit_owner : (p : Account E O) (n to id j : ℕ) (u : W) → p.seat_of n ≡ id → j ≢ id → Sit p j u → Sit (record p { seat_of = put p.seat_of n to }) j u
+  sit_owner : (p : TurnAccount E O) (n to id j : ℕ) (u : W) → p.seat_of n ≡ id → j ≢ id → Sit p j u → Sit (record p { seat_of = put p.seat_of n to }) j u
   sit_owner p n to id j u own other r = record {
     seen = r.seen;
     other_seen = r.other_seen;
@@ -289,7 +289,7 @@ module _ {V E O : Type 0} (list : V → List E) (names : E → ℕ) (origin_of :
     maker = r.maker;
   }
 
-  other_home : (p : Account E O) (seat_of : ℕ → ℕ) (hs : Homes) (h : Hand) → IsHome list names origin_of p hs h → IsHome list names origin_of (record p { seat_of = seat_of }) hs h
+  other_home : (p : TurnAccount E O) (seat_of : ℕ → ℕ) (hs : Homes) (h : Hand) → IsHome list names origin_of p hs h → IsHome list names origin_of (record p { seat_of = seat_of }) hs h
   other_home p seat_of hs free home = home
   other_home p seat_of hs (held_by n) less = less
 
@@ -297,12 +297,12 @@ module _ {V E O : Type 0} (list : V → List E) (names : E → ℕ) (origin_of :
       → Rule record { words = s.words; homes = s.homes; views = set s.views id (maker_left v) ++ seat_right v ∷ [] }
   splits_in s r id v n away has_two apart_numbers at =
       let p = r.account in let new : ℕ = length s.views in let fit = r.each id v at in let sit = sits_at s r id v (away_here v away) at in let l : W = maker_left v in let w : W = seat_right v in
-      let first : first_of v.numbers ≡ n = ap first_of has_two in let mine : Has v.numbers v.number = subst (λ xs. Has xs v.number) (sym has_two) (1, refl) in let own = sit.numbers v.number mine in
-      let in_left : (m : ℕ) → Has l.numbers m → Has v.numbers m = λ m has. subst (λ xs. Has xs m) (sym has_two) (0, ap (λ (z : ℕ). maybe.some z) (sym first ∙ one_of (first_of v.numbers) m has)) in
-      let in_right : (m : ℕ) → Has w.numbers m → Has v.numbers m = λ m has. subst (λ xs. Has xs m) (sym has_two) (1, ap (λ (z : ℕ). maybe.some z) (one_of v.number m has)) in
-      let p' : Account E O = record p { seat_of = put p.seat_of v.number new } in let here : Stand p.entries s.homes v p.hand Idle = subst (Stand p.entries s.homes v p.hand) away fit.1 in
+      let first : first_or_zero v.numbers ≡ n = ap first_or_zero has_two in let mine : HasElement v.numbers v.number = subst (λ xs. HasElement xs v.number) (sym has_two) (1, refl) in let own = sit.numbers v.number mine in
+      let in_left : (m : ℕ) → HasElement l.numbers m → HasElement v.numbers m = λ m has. subst (λ xs. HasElement xs m) (sym has_two) (0, ap (λ (z : ℕ). maybe.some z) (sym first ∙ one_of (first_or_zero v.numbers) m has)) in
+      let in_right : (m : ℕ) → HasElement w.numbers m → HasElement v.numbers m = λ m has. subst (λ xs. HasElement xs m) (sym has_two) (1, ap (λ (z : ℕ). maybe.some z) (one_of v.number m has)) in
+      let p' : TurnAccount E O = record p { seat_of = put p.seat_of v.number new } in let here : Stand p.entries s.homes v p.hand Idle = subst (Stand p.entries s.homes v p.hand) away fit.1 in
       let left_fits : Fit p' s.homes id l = (
-        (λ _. record { seen = sit.seen; other_seen = sit.other_seen; others = λ n has. absurd (no_others n has); origin = sit.origin; numbers = λ m has. let t = sit.numbers m (in_left m has) in (t.0, put_else p.seat_of v.number new m (λ e. apart_numbers ((sym first ∙ one_of (first_of v.numbers) m has) ∙ e)) ∙ t.1); maker = sit.maker }),
+        (λ _. record { seen = sit.seen; other_seen = sit.other_seen; others = λ n has. absurd (no_others n has); origin = sit.origin; numbers = λ m has. let t = sit.numbers m (in_left m has) in (t.0, put_else p.seat_of v.number new m (λ e. apart_numbers ((sym first ∙ one_of (first_or_zero v.numbers) m has) ∙ e)) ∙ t.1); maker = sit.maker }),
         subst (Stand p.entries s.homes l p.hand) (sym away) (split_fits p.entries s.homes v l p.hand in_left refl here),
       ) in
       let right_fits : Fit p' s.homes new w = (
@@ -337,12 +337,12 @@ module _ {V E O : Type 0} (list : V → List E) (names : E → ℕ) (origin_of :
     (refl, (λ le. prefix_of p.entries v.seen v.other_seen sit.seen sit.other_seen le), λ n has k e there name. (sit.others n has).1 k e (subst (λ (xs : List E). get_elem? xs k ≡ maybe.some e) (sym sit.seen.1) (at_longer v.seen sit.seen.0 k e there)) name),
   )
 
-  is_at_home : (p : Account E O) (hs : Homes) (v : W) (h : Hand) → p.given ≤ seats → ((n : ℕ) → n < seats → Has v.numbers n) → IsHome list names origin_of p hs h → Stand p.entries hs v h Idle → IsHome list names origin_of p hs free × OwnAreSeen list names origin_of p.entries v
+  is_at_home : (p : TurnAccount E O) (hs : Homes) (v : W) (h : Hand) → p.given ≤ seats → ((n : ℕ) → n < seats → HasElement v.numbers n) → IsHome list names origin_of p hs h → Stand p.entries hs v h Idle → IsHome list names origin_of p hs free × OwnAreSeen list names origin_of p.entries v
   is_at_home p hs v free few all home own = (home, own)
   is_at_home p hs v (held_by n) few all less s = absurd (s.0 (all n (omega arith)))
 
   -- at the end: the value at home stands for what the seat of all numbers has seen
-  pub closes : (s : St) (id : ℕ) (v : W) → Rule s → get_elem? s.views id ≡ maybe.some v → v.stage ≡ Idle → ((n : ℕ) → n < seats → Has v.numbers n)
+  pub closes : (s : St) (id : ℕ) (v : W) → Rule s → get_elem? s.views id ≡ maybe.some v → v.stage ≡ Idle → ((n : ℕ) → n < seats → HasElement v.numbers n)
       → (y : V) × (get_elem? s.homes 0 ≡ maybe.some (maybe.some (Some y))) × (list y ≡ v.seen) × (origin_of y ≡ start)
   closes s id v r at away all =
       let p = r.account in let fit = r.each id v at in let sit = sits_at s r id v (away_here v away) at in
@@ -374,7 +374,7 @@ module _ {V E O : Type 0} (list : V → List E) (names : E → ℕ) (origin_of :
   handed_not : (seat_of : ℕ → ℕ) (other id n : ℕ) → seat_of n ≢ other → handed seat_of other id n ≡ seat_of n
   handed_not seat_of other id n e = ap (λ b. cond b id (seat_of n)) (ne_eqb (seat_of n) other e)
 
-  joined_fits : (entries : List E) (hs : Homes) (v w : W) (h : Hand) → Stand entries hs v h Idle → Stand entries hs w h Idle → Stand entries hs (joined v w) h Idle
+  joined_fits : (entries : List E) (hs : Homes) (v w : W) (h : Hand) → Stand entries hs v h Idle → Stand entries hs w h Idle → Stand entries hs (views_joined v w) h Idle
   joined_fits entries hs v w free a b = λ k e there has. let x = longer_first v.seen w.seen in let y = longer_second v.seen w.seen in
       ⊎_elim (λ t. let i = a k e there t in omega arith) (λ t. let i = b k e there t in omega arith) (has_append v.numbers w.numbers (names e) has)
   joined_fits entries hs v w (held_by n) a b = (
@@ -387,7 +387,7 @@ module _ {V E O : Type 0} (list : V → List E) (names : E → ℕ) (origin_of :
   spent_fits entries hs free = tt
   spent_fits entries hs (held_by n) = tt
 
-  sit_handed : (p : Account E O) (other id j : ℕ) (u : W) → j ≢ other → Sit p j u → Sit (record p { seat_of = handed p.seat_of other id }) j u
+  sit_handed : (p : TurnAccount E O) (other id j : ℕ) (u : W) → j ≢ other → Sit p j u → Sit (record p { seat_of = handed p.seat_of other id }) j u
   sit_handed p other id j u apart_seats r = record {
     seen = r.seen;
     other_seen = r.other_seen;
@@ -403,17 +403,17 @@ module _ {V E O : Type 0} (list : V → List E) (names : E → ℕ) (origin_of :
 
   -- what the seat of the shorter list had seen has all entries that name a number of its own
   others_joined : (entries : List E) (v w : W) → OwnAreSeen list names origin_of entries v → OwnAreSeen list names origin_of entries w → (b : Bool)
-      → (n : ℕ) → Has (cond b v.numbers w.numbers) n → Has (v.numbers ++ w.numbers) n × ((k : ℕ) (e : E) → get_elem? entries k ≡ maybe.some e → names e ≡ n → k < length (cond b v.seen w.seen))
-  others_joined entries v w a c true n has = (has_left v.numbers w.numbers n has, λ k e there name. a k e there (subst (Has v.numbers) (sym name) has))
-  others_joined entries v w a c false n has = (has_right v.numbers w.numbers n has, λ k e there name. c k e there (subst (Has w.numbers) (sym name) has))
+      → (n : ℕ) → HasElement (cond b v.numbers w.numbers) n → HasElement (v.numbers ++ w.numbers) n × ((k : ℕ) (e : E) → get_elem? entries k ≡ maybe.some e → names e ≡ n → k < length (cond b v.seen w.seen))
+  others_joined entries v w a c true n has = (has_left v.numbers w.numbers n has, λ k e there name. a k e there (subst (HasElement v.numbers) (sym name) has))
+  others_joined entries v w a c false n has = (has_right v.numbers w.numbers n has, λ k e there name. c k e there (subst (HasElement w.numbers) (sym name) has))
 
-  pub joins : (id other : ℕ) (v w : W) → v.stage ≡ Idle → w.stage ≡ Idle → Joins Rule id v other w (joined v w) spent
+  pub joins : (id other : ℕ) (v w : W) → v.stage ≡ Idle → w.stage ≡ Idle → Joins Rule id v other w (views_joined v w) spent
   joins id other v w away away' s r at two there =
-      let p = r.account in let x : W = joined v w in
+      let p = r.account in let x : W = views_joined v w in
       let was : get_elem? s.views other ≡ maybe.some w = ⊎_elim (λ (t : (other ≡ id) × (x ≡ w)). absurd (two t.0)) (λ (t : (other ≢ id) × (get_elem? s.views other ≡ maybe.some w)). t.1) (at_set s.views id other x w there) in
       let a = sits_at s r id v (away_here v away) at in let b = sits_at s r other w (away_here w away') was in
       let sa : Stand p.entries s.homes v p.hand Idle = subst (Stand p.entries s.homes v p.hand) away (r.each id v at).1 in let sb : Stand p.entries s.homes w p.hand Idle = subst (Stand p.entries s.homes w p.hand) away' (r.each other w was).1 in
-      let p' : Account E O = record p { seat_of = handed p.seat_of other id } in
+      let p' : TurnAccount E O = record p { seat_of = handed p.seat_of other id } in
       let both_fit : Fit p' s.homes id x = (
         (λ _. record {
           seen = either_list (StartsWith p.entries) (ltb (length v.seen) (length w.seen)) w.seen v.seen b.seen a.seen;
@@ -462,6 +462,6 @@ module _ {V E O : Type 0} (list : V → List E) (names : E → ℕ) (origin_of :
   }
 
   -- what is found in the slot at the end
-  pub ended : (ws : List ℕ) (xs : List (Option V)) (found : Option V) (id : ℕ) (v : W) → Final (Seen Rule id v) ws xs → get_elem? xs 0 ≡ maybe.some found → v.stage ≡ Idle → ((n : ℕ) → n < seats → Has v.numbers n)
+  pub ended : (ws : List ℕ) (xs : List (Option V)) (found : Option V) (id : ℕ) (v : W) → Final (Seen Rule id v) ws xs → get_elem? xs 0 ≡ maybe.some found → v.stage ≡ Idle → ((n : ℕ) → n < seats → HasElement v.numbers n)
       → (y : V) × (found ≡ Some y) × (list y ≡ v.seen) × (origin_of y ≡ start)
   ended ws xs found id v f is away all = let t = closes f.0 id v f.1.0 f.1.1 away all in (t.0, maybe.some-injective found (Some t.0) (sym is ∙ f.4 0 (Some t.0) t.1), t.2, t.3)

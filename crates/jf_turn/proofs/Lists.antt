@@ -1,10 +1,10 @@
 -- Functions that change at one number, and lists that begin others.
-use Rattle.std.proofs.Common.{◌≡◌, ℕ, zero, suc, ◌<◌, ◌≤◌, ◌≢◌, ◌⊎◌, cond, eqb, List, [], ◌∷◌, ◌++◌, length, sym, refl, ap, ◌∙◌, inl, inr, ⊎_elim, arith, eq-eqb, ne_eqb, append_assoc, length-append}
+use lib.ListN.{get_elem?}
 use mathlib.Core.List.{append-nil}
 use mathlib.Core.Option.{some, some-injective, some-ne-none}
-use lib.ListN.{get_elem?}
+use Rattle.std.proofs.Common.{ℕ, cond, eqb, ◌≡◌, ap, eq-eqb, ◌≢◌, ne_eqb, zero, suc, ◌⊎◌, List, [], ◌∷◌, ◌++◌, length, sym, refl, inl, inr, ⊎_elim, arith, ◌<◌, ◌∙◌, append_assoc, ◌≤◌, length-append}
 use Rattle.atomic_table.proofs.Lists.{at_longer}
-use Rattle.jf_turn.specs.Lists.{Has, StartsWith}
+use Rattle.jf_turn.specs.Lists.{HasElement, StartsWith}
 
 module _ {A : Type 0} where
   abbrev pub put : (ℕ → A) → ℕ → A → ℕ → A
@@ -33,19 +33,19 @@ module _ {A : Type 0} where
   some_at (x ∷ xs) (suc j) h = some_at xs j (omega arith)
 
   -- an element of two lists in a row
-  pub at_append : (l m : List A) (j : ℕ) (b : A) → get_elem? (l ++ m) j ≡ some b → (get_elem? l j ≡ some b) ⊎ Has m b
+  pub at_append : (l m : List A) (j : ℕ) (b : A) → get_elem? (l ++ m) j ≡ some b → (get_elem? l j ≡ some b) ⊎ HasElement m b
   at_append [] m j b e = inr (j, e)
   at_append (x ∷ xs) m zero b e = inl e
   at_append (x ∷ xs) m (suc j) b e = at_append xs m j b e
 
-  has_at : (x : A) (xs : List A) (y : A) (k : ℕ) → get_elem? (x ∷ xs) k ≡ some y → (x ≡ y) ⊎ Has xs y
+  has_at : (x : A) (xs : List A) (y : A) (k : ℕ) → get_elem? (x ∷ xs) k ≡ some y → (x ≡ y) ⊎ HasElement xs y
   has_at x xs y zero e = inl (some-injective x y e)
   has_at x xs y (suc k) e = inr (k, e)
 
-  pub has_cons : (x : A) (xs : List A) (y : A) → Has (x ∷ xs) y → (x ≡ y) ⊎ Has xs y
+  pub has_cons : (x : A) (xs : List A) (y : A) → HasElement (x ∷ xs) y → (x ≡ y) ⊎ HasElement xs y
   has_cons x xs y h = has_at x xs y h.0 h.1
 
-  pub has_append : (xs ys : List A) (y : A) → Has (xs ++ ys) y → Has xs y ⊎ Has ys y
+  pub has_append : (xs ys : List A) (y : A) → HasElement (xs ++ ys) y → HasElement xs y ⊎ HasElement ys y
   has_append xs ys y h = ⊎_elim (λ e. inl (h.0, e)) (λ t. inr t) (at_append xs ys h.0 y h.1)
 
   pub starts_self : (l : List A) → StartsWith l l
@@ -71,9 +71,9 @@ module _ {A : Type 0} where
   pub prefix_whole : (entries a : List A) → StartsWith entries a → length entries ≤ length a → entries ≡ a
   prefix_whole entries a s l = let r = front_first a entries s.0 [] (sym s.1 ∙ sym (append-nil entries)) l in whole entries a s.0 r.0 s.1 r.1
 
-  pub has_left : (xs ys : List A) (y : A) → Has xs y → Has (xs ++ ys) y
+  pub has_left : (xs ys : List A) (y : A) → HasElement xs y → HasElement (xs ++ ys) y
   has_left xs ys y h = (h.0, at_longer xs ys h.0 y h.1)
 
-  pub has_right : (xs ys : List A) (y : A) → Has ys y → Has (xs ++ ys) y
+  pub has_right : (xs ys : List A) (y : A) → HasElement ys y → HasElement (xs ++ ys) y
   has_right [] ys y h = h
   has_right (x ∷ xs) ys y h = let r = has_right xs ys y h in (suc r.0, r.1)

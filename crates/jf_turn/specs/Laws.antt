@@ -1,12 +1,12 @@
 -- What follows from the rule of a turn.
-use Rattle.std.specs.Prelude.{◌≡◌, ◌≢◌, ◌⊎◌, ℕ, ◌+◌, ◌*◌, ◌%◌, ◌<◌, ◌≤◌, List, length, slice_index, Option, Some}
-use mathlib.Core.Option.{some}
 use lib.ListN.{get_elem?}
+use mathlib.Core.Option.{some}
+use Rattle.std.specs.Prelude.{◌≡◌, ◌≢◌, ℕ, ◌*◌, ◌%◌, ◌<◌, List, length, slice_index, Option, Some, ◌+◌, ◌⊎◌, ◌≤◌}
 use Rattle.atomic_table.specs.Table.{State}
 use Rattle.jf_turn.specs.declared.view.Stage.{Stage}
 use Rattle.jf_turn.specs.declared.view.Stage.TheVariants.{Spent, Idle, Opening, Holding}
 use Rattle.jf_turn.specs.declared.view.SeatView.{SeatView}
-use Rattle.jf_turn.specs.Lists.{Has, StartsWith}
+use Rattle.jf_turn.specs.Lists.{HasElement, StartsWith}
 use Rattle.jf_turn.specs.Rule.{IsTurn, OwnAreSeen}
 
 -- a seat at this stage has the turn
@@ -27,7 +27,7 @@ module _ {V E O : Type 0} (list : V → List E) (names : E → ℕ) (origin_of :
       (seats : ℕ) (start : O) (s : State (Option V) (SeatView E O)) → IsTurn list names origin_of seats start s → slice_index s.words 0 % 2 ≡ 0
       → (y : V) × (get_elem? s.homes 0 ≡ some (some (Some y))) × (slice_index s.words 0 ≡ 2 * length (list y)) × (origin_of y ≡ start)
       × ((place : ℕ) (v : SeatView E O) → IsThere s place v → ¬ (HasTurn v.stage) × StartsWith (list y) v.seen × OwnAreSeen list names origin_of (list y) v)
-      × ((e : E) → Has (list y) e → names e < slice_index s.words 1)
+      × ((e : E) → HasElement (list y) e → names e < slice_index s.words 1)
 
   -- two seats that have the turn are the same seat
   abbrev pub OneSeatHolds : Type 0
@@ -38,7 +38,7 @@ module _ {V E O : Type 0} (list : V → List E) (names : E → ℕ) (origin_of :
   abbrev pub HolderKeepsTheList : Type 0
   HolderKeepsTheList = (seats : ℕ) (start : O) (s : State (Option V) (SeatView E O)) → IsTurn list names origin_of seats start s
       → (i : ℕ) (v : SeatView E O) (l : List E) → IsThere s i v → v.stage ≡ Holding l
-      → (slice_index s.words 0 ≡ 2 * length l + 1) × ((j : ℕ) (w : SeatView E O) → IsThere s j w → StartsWith l w.seen) × ((e : E) → Has l e → names e < slice_index s.words 1)
+      → (slice_index s.words 0 ≡ 2 * length l + 1) × ((j : ℕ) (w : SeatView E O) → IsThere s j w → StartsWith l w.seen) × ((e : E) → HasElement l e → names e < slice_index s.words 1)
 
   -- of the lists that two seats have seen, one begins the other
   abbrev pub SeenListsAgree : Type 0
@@ -48,13 +48,13 @@ module _ {V E O : Type 0} (list : V → List E) (names : E → ℕ) (origin_of :
   -- two seats that stand for one number are the same seat
   abbrev pub SeatsStandApart : Type 0
   SeatsStandApart = (seats : ℕ) (start : O) (s : State (Option V) (SeatView E O)) → IsTurn list names origin_of seats start s
-      → (i j : ℕ) (v w : SeatView E O) (n : ℕ) → IsThere s i v → IsThere s j w → Has v.numbers n → Has w.numbers n → i ≡ j
+      → (i j : ℕ) (v w : SeatView E O) (n : ℕ) → IsThere s i v → IsThere s j w → HasElement v.numbers n → HasElement w.numbers n → i ≡ j
 
   -- the numbers that a seat stands for, and those that the entries name which it has seen, lie below the count of given numbers, which is at most the number of seats; and the seat has the turn's origin
   abbrev pub NumbersWereGiven : Type 0
   NumbersWereGiven = (seats : ℕ) (start : O) (s : State (Option V) (SeatView E O)) → IsTurn list names origin_of seats start s
       → (slice_index s.words 1 ≤ seats)
-      × ((i : ℕ) (v : SeatView E O) → IsThere s i v → ((n : ℕ) → Has v.numbers n → n < slice_index s.words 1) × ((e : E) → Has v.seen e → names e < slice_index s.words 1) × (v.origin ≡ Some start))
+      × ((i : ℕ) (v : SeatView E O) → IsThere s i v → ((n : ℕ) → HasElement v.numbers n → n < slice_index s.words 1) × ((e : E) → HasElement v.seen e → names e < slice_index s.words 1) × (v.origin ≡ Some start))
 
   -- an entry that any seat has seen, or that the holder's list has, and that names a number of a seat without the turn, is one that this seat has seen
   abbrev pub OwnEntriesAreSeen : Type 0

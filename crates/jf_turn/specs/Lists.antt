@@ -1,12 +1,12 @@
 -- Lists that hold a value, and lists that begin with another.
-use Rattle.std.specs.Prelude.{◌≡◌, ℕ, List, ◌++◌, length, cond, ltb}
-use mathlib.Core.Option.{some}
 use lib.ListN.{get_elem?}
+use mathlib.Core.Option.{some}
+use Rattle.std.specs.Prelude.{◌≡◌, ℕ, List, ◌++◌, length, cond, ltb}
 
 module _ {A : Type 0} where
   -- the value stands in the list
-  abbrev pub Has : List A → A → Type 0
-  Has xs x = (k : ℕ) × (get_elem? xs k ≡ some x)
+  abbrev pub HasElement : List A → A → Type 0
+  HasElement xs x = (k : ℕ) × (get_elem? xs k ≡ some x)
 
   -- the whole list begins with the front
   abbrev pub StartsWith : List A → List A → Type 0

@@ -1,10 +1,10 @@
 -- What clauses see of a turn and of its seats.
-use Rattle.std.specs.Prelude.{◌≡◌, ℕ, ◌+◌, true, List, [], ◌∷◌, ◌++◌, drop, length, Option, Some, None}
+use Rattle.std.specs.Prelude.{ℕ, List, Option, ◌≡◌, Some, [], ◌∷◌, None, ◌+◌, drop, length, ◌++◌, true}
 use Rattle.atomic_table.specs.Seated.{TableId}
+use Rattle.jf_turn.specs.Lists.{HasElement, longer}
 use Rattle.jf_turn.specs.declared.view.Stage.{Stage}
 use Rattle.jf_turn.specs.declared.view.Stage.TheVariants.{Spent, Idle, Opening, Holding}
 use Rattle.jf_turn.specs.declared.view.SeatView.{SeatView}
-use Rattle.jf_turn.specs.Lists.{Has, longer}
 
 -- which turn it is, its number of seats, and the origin of the value that it was made with
 pub record TurnState (O : Type 0) : Type 0 where
@@ -31,17 +31,17 @@ module _ {E O : Type 0} where
   new_seat t n = record { turn = t.id; origin = Some t.origin; number = n; numbers = n ∷ []; seen = []; taken = None }
 
   -- new seats with the numbers from n on
-  abbrev pub AreNew : TurnState O → List (SeatState E O) → ℕ → Type 0
-  AreNew t [] n = Unit {0}
-  AreNew t (s ∷ ss) n = (s ≡ new_seat t n) × AreNew t ss (n + 1)
+  abbrev pub AreNewSeats : TurnState O → List (SeatState E O) → ℕ → Type 0
+  AreNewSeats t [] n = Unit {0}
+  AreNewSeats t (s ∷ ss) n = (s ≡ new_seat t n) × AreNewSeats t ss (n + 1)
 
   -- no entry after those that the seat has seen names a number that it stands for
   abbrev pub OthersFollow : (E → ℕ) → SeatState E O → List E → Type 0
-  OthersFollow names s entries = (e : E) → Has (drop (length s.seen) entries) e → ¬ (Has s.numbers (names e))
+  OthersFollow names s entries = (e : E) → HasElement (drop (length s.seen) entries) e → ¬ (HasElement s.numbers (names e))
 
   -- the entries go on from those that the seat took, by entries that name its number
   abbrev pub MayGive : (E → ℕ) → SeatState E O → List E → Type 0
-  MayGive names s entries = (took : List E) × (more : List E) × (s.taken ≡ Some took) × (entries ≡ took ++ more) × ((e : E) → Has more e → names e ≡ s.number)
+  MayGive names s entries = (took : List E) × (more : List E) × (s.taken ≡ Some took) × (entries ≡ took ++ more) × ((e : E) → HasElement more e → names e ≡ s.number)
 
   -- the seat after it took the turn, with these entries
   abbrev pub taking : SeatState E O → List E → SeatState E O
@@ -56,7 +56,6 @@ module _ {E O : Type 0} where
   joining s other = record s { numbers = s.numbers ++ other.numbers; seen = longer s.seen other.seen }
 
 -- ---- how a seat's view is shown, and what a seat has out of the turn's slot
-
 -- the list that a seat holds
 abbrev pub taken_at : {E : Type 0} → Stage E → Option (List E)
 taken_at Spent = None

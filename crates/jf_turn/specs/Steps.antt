@@ -1,12 +1,12 @@
 -- What each kind of step tells the seat that does it, and what it makes of the seat's view.
-use Rattle.std.specs.Prelude.{◌≡◌, ◌≢◌, ℕ, ◌+◌, ◌^◌, ◌<◌, ◌≤◌, false, List, [], ◌∷◌, ◌++◌, length, Option, Some, None}
+use lib.ListN.{get_elem?}
+use mathlib.Core.Option.{some}
+use Rattle.std.specs.Prelude.{[], List, ◌+◌, ◌∷◌, ℕ, Option, ◌≡◌, ◌≢◌, ◌^◌, ◌≤◌, length, Some, None, ◌<◌, false, ◌++◌}
 use Rattle.atomic_table.specs.Table.{Me, Step}
 use Rattle.jf_turn.specs.declared.view.Stage.{Stage}
-use Rattle.jf_turn.specs.declared.view.Stage.TheVariants.{Spent, Idle, Holding}
 use Rattle.jf_turn.specs.declared.view.SeatView.{SeatView}
-use mathlib.Core.Option.{some}
-use lib.ListN.{get_elem?}
-use Rattle.jf_turn.specs.Lists.{Has, StartsWith, longer, shorter, shorter_numbers}
+use Rattle.jf_turn.specs.declared.view.Stage.TheVariants.{Idle, Holding, Spent}
+use Rattle.jf_turn.specs.Lists.{StartsWith, HasElement, longer, shorter, shorter_numbers}
 use Rattle.jf_turn.specs.Rule.{OwnAreSeen}
 
 module _ {E O : Type 0} where
@@ -31,8 +31,8 @@ module _ {V E O : Type 0} (list : V → List E) (names : E → ℕ) (origin_of :
   At = Step (Option V)
 
   -- claim: the seat holds the turn, with the value y, or nothing changed
-  abbrev pub claimed : At → Sat → ℕ → Sat → Type 0
-  claimed st m r m' =
+  abbrev pub turn_claimed : At → Sat → ℕ → Sat → Type 0
+  turn_claimed st m r m' =
       (r ≡ st.first → (y : V) × (m' ≡ (at_stage m.0 (Holding (list y)), (0, Some y) ∷ m.1)) × StartsWith (list y) m.0.seen × OwnAreSeen list names origin_of (list y) m.0 × (m.0.origin ≡ Some (origin_of y)) × (length (list y) ≤ 2 ^ 62))
       × (r ≢ st.first → m' ≡ m)
 
@@ -49,32 +49,32 @@ module _ {V E O : Type 0} (list : V → List E) (names : E → ℕ) (origin_of :
   released st m r m' = (y : V) → m.1 ≡ (0, Some y) ∷ [] → m' ≡ (released_seat m.0 (list y), [])
 
   -- number: the count rises by one, and the old count is the number that was given
-  abbrev pub numbered : At → Sat → ℕ → Sat → Type 0
-  numbered st m r m' = (r ≡ m.0.given) × (m' ≡ (minted m.0, m.1))
+  abbrev pub seat_numbered : At → Sat → ℕ → Sat → Type 0
+  seat_numbered st m r m' = (r ≡ m.0.given) × (m' ≡ (minted m.0, m.1))
 
   -- of two lists that a joined seat has seen, the shorter begins the longer, and no entry after it names a number of the seat that had seen the shorter
   abbrev pub compared : At → Sat → ℕ → Sat → Type 0
   compared st m r m' =
       (m' ≡ m) × (length m.0.other_seen ≤ length m.0.seen → StartsWith m.0.seen m.0.other_seen)
-      × ((n : ℕ) → Has m.0.other_numbers n → (k : ℕ) (e : E) → get_elem? m.0.seen k ≡ some e → names e ≡ n → k < length m.0.other_seen)
+      × ((n : ℕ) → HasElement m.0.other_numbers n → (k : ℕ) (e : E) → get_elem? m.0.seen k ≡ some e → names e ≡ n → k < length m.0.other_seen)
 
 -- the first number, or 0
-abbrev pub first_of : List ℕ → ℕ
-first_of [] = 0
-first_of (n ∷ ns) = n
+abbrev pub first_or_zero : List ℕ → ℕ
+first_or_zero [] = 0
+first_or_zero (n ∷ ns) = n
 
 module _ {E O : Type 0} where
   -- split: the maker keeps the number that it gave out last
   abbrev pub maker_left : SeatView E O → SeatView E O
-  maker_left v = record v { number = first_of v.numbers; numbers = first_of v.numbers ∷ []; other_numbers = [] }
+  maker_left v = record v { number = first_or_zero v.numbers; numbers = first_or_zero v.numbers ∷ []; other_numbers = [] }
 
   -- seating: the new seat has the number that the maker had
   abbrev pub seat_right : SeatView E O → SeatView E O
   seat_right v = record { number = v.number; numbers = v.number ∷ []; seen = v.seen; other_seen = []; other_numbers = []; stage = Idle; origin = v.origin; is_maker = false; given = 0 }
 
   -- join: one seat stands for the numbers of both, and has seen the longer list
-  abbrev pub joined : SeatView E O → SeatView E O → SeatView E O
-  joined v w = record v { numbers = v.numbers ++ w.numbers; seen = longer v.seen w.seen; other_seen = shorter v.seen w.seen; other_numbers = shorter_numbers v.seen w.seen v.numbers w.numbers }
+  abbrev pub views_joined : SeatView E O → SeatView E O → SeatView E O
+  views_joined v w = record v { numbers = v.numbers ++ w.numbers; seen = longer v.seen w.seen; other_seen = shorter v.seen w.seen; other_numbers = shorter_numbers v.seen w.seen v.numbers w.numbers }
 
   -- join: the other seat is spent
   abbrev pub spent : SeatView E O

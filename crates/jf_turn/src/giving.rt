@@ -1,7 +1,7 @@
 //! How a value is brought home, and the turn becomes free.
 ghost use Rattle.std.specs.Prelude.{◌≡◌, ◌+◌, ◌*◌, ◌≤◌, [], ◌∷◌, ◌++◌, length, Some, None};
 ghost use Rattle.jf_turn.specs.declared.view.Stage.TheVariants.{Opening, Holding};
-ghost use Rattle.jf_turn.specs.Lists.{Has};
+ghost use Rattle.jf_turn.specs.Lists.{HasElement};
 ghost use Rattle.jf_turn.specs.Steps.{at_stage, released_seat};
 
 use crate::steps::{Birth, Move, Release};
@@ -43,8 +43,8 @@ pub(crate) fn bring<V: Told>(
     value: V,
 )
     requires own { token.old.table_id ≡ turn.now.id }
-    requires holds { (l : _) × (more : _) × (token.old.me.0.stage ≡ Holding l) × (V.list value ≡ l ++ more) × ((e : V.Entry) → Has more e → V.names e ≡ token.old.me.0.number) }
-    requires empty { (token.old.me.1 ≡ (0, None) ∷ []) × Has token.old.me.0.numbers token.old.me.0.number }
+    requires holds { (l : _) × (more : _) × (token.old.me.0.stage ≡ Holding l) × (V.list value ≡ l ++ more) × ((e : V.Entry) → HasElement more e → V.names e ≡ token.old.me.0.number) }
+    requires empty { (token.old.me.1 ≡ (0, None) ∷ []) × HasElement token.old.me.0.numbers token.old.me.0.number }
     requires origin { token.old.me.0.origin ≡ Some (V.origin value) }
     requires few { length (V.list value) ≤ 4611686018427387904 }
     ensures { (token.new.table_id ≡ token.old.table_id) × (token.new.me ≡ (released_seat token.old.me.0 (V.list value), [])) }

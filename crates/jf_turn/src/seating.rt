@@ -3,8 +3,8 @@ ghost use Rattle.std.specs.Prelude.{◌≡◌, ℕ, ◌+◌, ◌<◌, true, [], 
 ghost use mathlib.Core.Option.{some};
 ghost use lib.ListN.{get_elem?};
 ghost use Rattle.jf_turn.specs.declared.view.Stage.TheVariants.{Idle};
-ghost use Rattle.jf_turn.specs.Lists.{Has, StartsWith};
-ghost use Rattle.jf_turn.specs.Steps.{minted, maker_left, seat_right, joined};
+ghost use Rattle.jf_turn.specs.Lists.{HasElement, StartsWith};
+ghost use Rattle.jf_turn.specs.Steps.{minted, maker_left, seat_right, views_joined};
 
 use crate::steps::{Both, Compare, Number, Seating};
 use crate::told::Told;
@@ -36,9 +36,9 @@ pub(crate) fn join<V: Told>(
 )
     requires own { (token.old.table_id ≡ turn.now.id) × (other.table_id ≡ turn.now.id) }
     requires idle { (token.old.me.0.stage ≡ Idle) × (token.old.me.1 ≡ []) × (other.me.0.stage ≡ Idle) × (other.me.1 ≡ []) }
-    ensures both { (token.new.table_id ≡ token.old.table_id) × (token.new.me ≡ (joined token.old.me.0 other.me.0, [])) }
-    ensures prefix { StartsWith (joined token.old.me.0 other.me.0).seen (joined token.old.me.0 other.me.0).other_seen }
-    ensures others { (n : ℕ) → Has (joined token.old.me.0 other.me.0).other_numbers n → (k : ℕ) (e : V.Entry) → get_elem? (joined token.old.me.0 other.me.0).seen k ≡ some e → V.names e ≡ n → k < length (joined token.old.me.0 other.me.0).other_seen }
+    ensures both { (token.new.table_id ≡ token.old.table_id) × (token.new.me ≡ (views_joined token.old.me.0 other.me.0, [])) }
+    ensures prefix { StartsWith (views_joined token.old.me.0 other.me.0).seen (views_joined token.old.me.0 other.me.0).other_seen }
+    ensures others { (n : ℕ) → HasElement (views_joined token.old.me.0 other.me.0).other_numbers n → (k : ℕ) (e : V.Entry) → get_elem? (views_joined token.old.me.0 other.me.0).seen k ≡ some e → V.names e ≡ n → k < length (views_joined token.old.me.0 other.me.0).other_seen }
 {
     turn.table.shared.join_seat::<Both>(token, other);
     turn.table.shared.load::<Compare>(token, 0);

@@ -1,5 +1,5 @@
 //! What each kind of step on the table tells the seat that takes it.
-ghost use Rattle.jf_turn.specs.Steps.{claimed, born, moved, released, numbered, compared, maker_left, seat_right, joined, spent};
+ghost use Rattle.jf_turn.specs.Steps.{turn_claimed, born, moved, released, seat_numbered, compared, maker_left, seat_right, views_joined, spent};
 
 use crate::told::Told;
 use crate::view::SeatView;
@@ -9,7 +9,7 @@ use atomic_table::{Join, Play, Split};
 pub(crate) struct Claim;
 
 impl<V: Told> Play<Option<V>, SeatView<V::Entry, V::Origin>> for Claim {
-    ghost then = { claimed V.list V.names V.origin };
+    ghost then = { turn_claimed V.list V.names V.origin };
 }
 
 /// The first seat takes the empty slot.
@@ -37,7 +37,7 @@ impl<V: Told> Play<Option<V>, SeatView<V::Entry, V::Origin>> for Release {
 pub(crate) struct Number;
 
 impl<V: Told> Play<Option<V>, SeatView<V::Entry, V::Origin>> for Number {
-    ghost then = { numbered V.list V.names V.origin };
+    ghost then = { seat_numbered V.list V.names V.origin };
 }
 
 /// A load, by which a joined seat learns that the shorter list begins the longer, and that no entry after it names a
@@ -61,7 +61,7 @@ impl<E, O> Split<SeatView<E, O>> for Seating {
 pub(crate) struct Both;
 
 impl<E, O> Join<SeatView<E, O>> for Both {
-    ghost both = { joined };
+    ghost both = { views_joined };
 
     ghost spent = { spent };
 }

@@ -1,38 +1,38 @@
 -- New nodes have exactly the entries that they are built from.
-use Rattle.std.proofs.Common.{◌≡◌, ℕ, zero, suc, ◌+◌, ◌-◌, ◌<◌, ◌≤◌, ◌≢◌, ◌==◌, true, false, cond, inl, inr, List, [], ◌∷◌, ◌++◌, length, get_or, set, take, drop, refl, sym, ap, ◌∙◌, subst, arith, Option, None, Some, length-append, length-drop, length-set, zero-add, append-nil, eq-or-lt_of_le, get_or-set_other, get_or-set_same, replicate, take_all, IfSome}
+use denote.Ref.{Bor}
+use Rattle.std.proofs.Common.{ℕ, List, ◌≡◌, ◌+◌, ◌-◌, [], ◌∷◌, ◌++◌, refl, ap, Option, ◌<◌, length, get_or, ◌∙◌, None, suc, drop, sym, subst, arith, Some, ◌≤◌, length-append, append-nil, ◌==◌, true, false, cond, zero, zero-add, ◌≢◌, inl, inr, set, take, length-drop, length-set, eq-or-lt_of_le, get_or-set_other, get_or-set_same, replicate, take_all, IfSome}
 use Rattle.std.proofs.lemmas.Bool.Decides.{nat_tests}
+use Rattle.std.proofs.lemmas.List.{nil_from_length}
 use Rattle.std.specs.List.{flat_map}
 use Rattle.std.specs.Option.{option_copied}
-use denote.Ref.{Bor}
 use Rattle.jf_path.specs.Nibbles.{nibble}
-use Rattle.jf_hash.specs.Slots.{Part, with_nibble}
-use Rattle.jf_hash.specs.Filters.{All-filter}
-use Rattle.jf_node.specs.LinkValue.{LinkValue, version_at}
+use Rattle.jf_path.proofs.FilterLaws.{All-filter}
+use Rattle.jf_hash.specs.Slots.{Part, with_nibble, from_nibble}
+use Rattle.jf_model.specs.Parts.{IsPartUnder, IsPieceEnd}
+use Rattle.jf_walk.proofs.Unions as union
+use Rattle.jf_walk.proofs.ChildEntryLaws.{sub-none}
+use Rattle.jf_walk.proofs.VersionLaws.{built_one, topped_built}
+use Rattle.jf_walk.proofs.PieceEnds.{cut_piece}
+use Rattle.jf_walk.proofs.PartLaws.{stepped, IsPartUnder-with_nibble, from_nibble-zero}
+use Rattle.jf_node.specs.LinkValue.{LinkValue, link_version_at}
+use Rattle.jf_node.specs.Children.{content, joined, leaf_value, inner_value, moved_value, HaveNibble, FitsAt, FitFrom}
 use Rattle.jf_node.specs.LinkFacts.{BeginAlike}
-use Rattle.jf_node.specs.Children.{content, joined, HaveNibble, FitsAt, FitFrom, leaf_value, inner_value, moved_value}
-use Rattle.jf_node.specs.ChildLaws.{FitFrom-set}
-use Rattle.jf_node.specs.NodeVersions.{version-below}
-use Rattle.jf_landing.specs.Parts.{IsPart, IsPieceEnd, stepped, from_nibble}
-use Rattle.jf_landing.specs.PartLaws.{IsPart-with_nibble, from_nibble-zero}
-use Rattle.jf_landing.specs.PieceEnds.{cut_piece}
-use Rattle.jf_landing.specs.Unions as union
-use Rattle.jf_landing.specs.ChildEntryLaws.{sub-none}
-use Rattle.jf_landing.specs.VersionLaws.{built_one, topped_built}
+use Rattle.jf_node.proofs.NodeVersions.{version-below}
+use Rattle.jf_node.proofs.ChildLaws.{FitFrom-set}
 use Rattle.jf_update.specs.Hashed.{HashedValue, plain, AreHashed, IsHashed}
-use Rattle.jf_update.specs.Made.{IsAtDepth, Built, Topped, AreBuilt}
+use Rattle.jf_update.specs.Made.{Built, Topped, IsAtDepth, AreBuilt}
 use Rattle.jf_update.proofs.HashedLaws.{with_nibble-plain, unplain_part}
 
 abbrev Hashed : Type 0
 Hashed = List ℕ × HashedValue
 
 -- ---- unions
-
 joined-flat_map : (links : List (Option LinkValue)) → joined links ≡ flat_map content links
 joined-flat_map [] = refl
 joined-flat_map (x ∷ links) = ap (λ es. content x ++ es) (joined-flat_map links)
 
 -- children that have the entries of each nibble have all entries
-pub joined_parts : (d : ℕ) (path : ℕ → ℕ) (es : Part) (links : List (Option LinkValue)) → IsPart d path es → length links ≡ 16 → ((k : ℕ) → k < 16 → content (get_or links k None) ≡ with_nibble d k es) → joined links ≡ es
+pub joined_parts : (d : ℕ) (path : ℕ → ℕ) (es : Part) (links : List (Option LinkValue)) → IsPartUnder d path es → length links ≡ 16 → ((k : ℕ) → k < 16 → content (get_or links k None) ≡ with_nibble d k es) → joined links ≡ es
 joined_parts d path es links part long h = joined-flat_map links ∙ union.joined_parts content None d path es links part long h
 
 -- the entries of all children begin with those of the first child
@@ -44,17 +44,16 @@ pub joined-none : (links : List (Option LinkValue)) → ((k : ℕ) → k < lengt
 joined-none links all = joined-flat_map links ∙ union.joined-none content None links (λ k lt. ap content (all k lt))
 
 -- the keys of a part begin with the same nibbles
-pub part_agrees : {d : ℕ} {path : ℕ → ℕ} (es : Part) → IsPart d path es → BeginAlike d es
+pub part_agrees : {d : ℕ} {path : ℕ → ℕ} (es : Part) → IsPartUnder d path es → BeginAlike d es
 part_agrees {path = path} es part = record { path = path; keys = part.agree }
 
 -- ---- one node
-
 pub built_none : (depth version : ℕ) → Built depth version [] None
 built_none depth version = record { entries = refl; placed = tt; versions = λ p some. absurd (some (sub-none depth p)) }
 
 pub built_leaf : (depth version : ℕ) (k v : List ℕ) (y : LinkValue) → y ≡ leaf_value version depth k v → Built depth version ((k, v) ∷ []) (Some y)
 built_leaf depth version k v y is =
-    subst (λ z. Built depth version ((k, v) ∷ []) (Some z)) (sym is) record { entries = refl; placed = refl; versions = built_one depth version ((k, v) ∷ []) (λ p. version_at p (Some (leaf_value version depth k v))) (omega arith) refl }
+    subst (λ z. Built depth version ((k, v) ∷ []) (Some z)) (sym is) record { entries = refl; placed = refl; versions = built_one depth version ((k, v) ∷ []) (λ p. link_version_at p (Some (leaf_value version depth k v))) (omega arith) refl }
 
 pub topped_inner : (depth version : ℕ) (links : List (Option LinkValue)) (y : LinkValue) → y ≡ inner_value version depth links → Topped depth version links (Some y)
 topped_inner depth version links y is =
@@ -63,13 +62,9 @@ topped_inner depth version links y is =
 pub topped_none : (depth version : ℕ) (links : List (Option LinkValue)) → joined links ≡ [] → Topped depth version links None
 topped_none depth version links none = record { entries = sym none; placed = tt; versions = record { top = λ some. absurd (some none); children = λ n p many. absurd (let e = ap length none in omega arith) } }
 
-no_items : {X : Type 0} (xs : List X) → length xs ≡ 0 → xs ≡ []
-no_items [] e = refl
-no_items (x ∷ xs) e = absurd (omega arith)
-
 pub topped_moved : (depth version : ℕ) (links : List (Option LinkValue)) (x y : LinkValue) (rest : Part) → joined links ≡ x.entries ++ rest → length (joined links) < 2 → 1 ≤ length x.entries → y ≡ moved_value version depth x → Topped depth version links (Some y)
 topped_moved depth version links x y rest is few some moved =
-    let no_rest : rest ≡ [] = no_items rest (let e = ap length is in omega (arith, length-append x.entries rest)) in
+    let no_rest : rest ≡ [] = nil_from_length rest (let e = ap length is in omega (arith, length-append x.entries rest)) in
     subst (λ z. Topped depth version links (Some z)) (sym moved) record {
       entries = sym (append-nil x.entries) ∙ ap (λ r. x.entries ++ r) (sym no_rest) ∙ sym is;
       placed = refl;
@@ -77,7 +72,6 @@ topped_moved depth version links x y rest is few some moved =
     }
 
 -- ---- children
-
 all-with_nibble : (d n : ℕ) (es : Part) → HaveNibble d n (with_nibble d n es)
 all-with_nibble d n [] = tt
 all-with_nibble d n (e ∷ es) =
@@ -107,7 +101,7 @@ drop_more zero b xs = ap (λ k. drop k xs) (sym (zero-add b))
 drop_more (suc a) b [] = drop_none b ∙ sym (drop_none (suc a + b))
 drop_more (suc a) b (x ∷ xs) = drop_more a b xs ∙ ap (λ k. drop k (x ∷ xs)) (let e : suc (a + b) ≡ suc a + b = omega arith in e)
 
-pub building_more : (d v n start r : ℕ) (path : ℕ → ℕ) (xs : List Hashed) (links : List (Option LinkValue)) (child : Option LinkValue) → IsPart d path (plain xs) → n < 16 → IsBuilding d v n start xs links → IsPieceEnd d n r (drop start xs)
+pub building_more : (d v n start r : ℕ) (path : ℕ → ℕ) (xs : List Hashed) (links : List (Option LinkValue)) (child : Option LinkValue) → IsPartUnder d path (plain xs) → n < 16 → IsBuilding d v n start xs links → IsPieceEnd d n r (drop start xs)
     → Built (d + 1) v (plain (take r (drop start xs))) child → IsBuilding d v (n + 1) (start + r) xs (set links n child)
 building_more d v n start r path xs links child part small b end made =
     let both = cut_piece d n r path xs (drop start xs) (unplain_part d path xs part) b.rest end in
@@ -128,15 +122,15 @@ building_more d v n start r path xs links child part small b end made =
 pub building_done : (d v start : ℕ) (xs : List Hashed) (links : List (Option LinkValue)) → IsBuilding d v 16 start xs links → AreBuilt d v (plain xs) links
 building_done d v start xs links b = record { long = b.long; fit = b.fit; each = b.each }
 
-pub joined_built : (d v : ℕ) (path : ℕ → ℕ) (es : Part) (links : List (Option LinkValue)) → IsPart d path es → AreBuilt d v es links → joined links ≡ es
+pub joined_built : (d v : ℕ) (path : ℕ → ℕ) (es : Part) (links : List (Option LinkValue)) → IsPartUnder d path es → AreBuilt d v es links → joined links ≡ es
 joined_built d v path es links part b = joined_parts d path es links part b.long (λ k lt. (b.each k lt).entries)
 
-pub piece_part : (d n start r : ℕ) (path : ℕ → ℕ) (xs : List Hashed) (v : ℕ) (links : List (Option LinkValue)) → IsPart d path (plain xs) → IsBuilding d v n start xs links → IsPieceEnd d n r (drop start xs) → IsPart (d + 1) (stepped d n path) (plain (take r (drop start xs)))
+pub piece_part : (d n start r : ℕ) (path : ℕ → ℕ) (xs : List Hashed) (v : ℕ) (links : List (Option LinkValue)) → IsPartUnder d path (plain xs) → IsBuilding d v n start xs links → IsPieceEnd d n r (drop start xs) → IsPartUnder (d + 1) (stepped d n path) (plain (take r (drop start xs)))
 piece_part d n start r path xs v links part b end =
     let both = cut_piece d n r path xs (drop start xs) (unplain_part d path xs part) b.rest end in
-    subst (IsPart (d + 1) (stepped d n path)) (with_nibble-plain d n xs ∙ ap plain (sym both.0)) (IsPart-with_nibble d n path (plain xs) part)
+    subst (IsPartUnder (d + 1) (stepped d n path)) (with_nibble-plain d n xs ∙ ap plain (sym both.0)) (IsPartUnder-with_nibble d n path (plain xs) part)
 
-pub piece_hashed : (d n start r : ℕ) (path : ℕ → ℕ) (xs : List Hashed) (v : ℕ) (links : List (Option LinkValue)) → IsPart d path (plain xs) → AreHashed xs → IsBuilding d v n start xs links → IsPieceEnd d n r (drop start xs) → AreHashed (take r (drop start xs))
+pub piece_hashed : (d n start r : ℕ) (path : ℕ → ℕ) (xs : List Hashed) (v : ℕ) (links : List (Option LinkValue)) → IsPartUnder d path (plain xs) → AreHashed xs → IsBuilding d v n start xs links → IsPieceEnd d n r (drop start xs) → AreHashed (take r (drop start xs))
 piece_hashed d n start r path xs v links part hashed b end =
     let both = cut_piece d n r path xs (drop start xs) (unplain_part d path xs part) b.rest end in
     subst AreHashed (sym both.0) (All-filter (λ e. IsHashed e.1) (λ e. nibble e.0 d == n) xs hashed)
@@ -158,19 +152,18 @@ pub building_start : (d v : ℕ) (xs : List Hashed) (links : List (Option LinkVa
 building_start d v xs links is = subst (IsBuilding d v 0 0 xs) (sym is) record { long = refl; fit = fit_none d 0 16; each = λ k lt. absurd (omega arith); within = omega arith; rest = sym (from_nibble-zero d xs) }
 
 -- a new node over new children
-pub built_inner : (depth version : ℕ) (path : ℕ → ℕ) (es : Part) (y : LinkValue) (links : List (Option LinkValue)) → 2 ≤ length es → IsPart depth path es → AreBuilt depth version es links → y ≡ inner_value version depth links → Built depth version es (Some y)
+pub built_inner : (depth version : ℕ) (path : ℕ → ℕ) (es : Part) (y : LinkValue) (links : List (Option LinkValue)) → 2 ≤ length es → IsPartUnder depth path es → AreBuilt depth version es links → y ≡ inner_value version depth links → Built depth version es (Some y)
 built_inner depth version path es y links many part made is =
     let all = joined_built depth version path es links part made in
     let t = topped_inner depth version links y is in
     record {
       entries = t.entries ∙ all;
       placed = t.placed;
-      versions = topped_built depth version es (λ n p. version_at p (get_or links n None)) (λ p. version_at p (Some y)) many (λ n lt. (made.each n lt).versions)
+      versions = topped_built depth version es (λ n p. link_version_at p (get_or links n None)) (λ p. link_version_at p (Some y)) many (λ n lt. (made.each n lt).versions)
           (record { top = λ some. t.versions.top (λ none. some (sym all ∙ none)); children = λ n p lots. t.versions.children n p (subst (λ fs. 2 ≤ length fs) (sym all) lots) });
     }
 
 -- ---- ranges of a slice
-
 pub same_piece : {X : Type 0} (start r : ℕ) (xs : List X) → take ((start + r) - start) (drop start xs) ≡ take r (drop start xs)
 same_piece start r xs = ap (λ k. take k (drop start xs)) (let e : (start + r) - start ≡ r = omega arith in e)
 

@@ -1,15 +1,15 @@
 -- Entries with the hashes of their values, seen as entries.
-use Rattle.std.proofs.Common.{◌≡◌, ℕ, zero, suc, ◌<◌, ◌≤◌, true, false, cond, ◌&&◌, ◌==◌, List, [], ◌∷◌, ◌++◌, length, get_or, refl, sym, ap, ap₂, ◌∙◌, subst, arith, T, Some, IfSome}
-use Rattle.std.specs.List.{AllByRecursion}
+use Rattle.std.proofs.Common.{ℕ, List, ◌≡◌, [], ◌∷◌, ◌++◌, refl, ap, zero, suc, ◌<◌, ◌≤◌, length, get_or, sym, ◌∙◌, subst, arith, Some, IfSome, true, false, cond, ◌==◌, ◌&&◌, ap₂, T}
 use Rattle.std.specs.FinMap.{is_sorted}
 use Rattle.std.specs.FinMap.Entries.{below_all}
+use Rattle.std.specs.List.{AllByRecursion}
 use Rattle.std.specs.Ordering.{is_lt}
-use Rattle.jf_path.specs.Keys.{key_cmp, IsKey}
 use Rattle.jf_path.specs.Nibbles.{nibble}
+use Rattle.jf_path.specs.Keys.{key_cmp, IsKey}
 use Rattle.jf_hash.specs.Maps.{Batch}
 use Rattle.jf_hash.specs.Slots.{with_nibble}
-use Rattle.jf_landing.specs.Parts.{IsPart}
-use Rattle.jf_landing.specs.Puts.{Change}
+use Rattle.jf_model.specs.Puts.{Change}
+use Rattle.jf_model.specs.Parts.{IsPartUnder}
 use Rattle.jf_update.specs.Hashed.{HashedValue, plain_entry, plain, IsHashed, AreHashed}
 use Rattle.jf_update.specs.Outcomes.{AreShort}
 
@@ -53,7 +53,7 @@ unplain_all P [] h = tt
 unplain_all P (x ∷ xs) h = (h.0, unplain_all P xs h.1)
 
 -- entries with hashes are a part if the entries themselves are
-pub unplain_part : (d : ℕ) (path : ℕ → ℕ) (xs : List Hashed) → IsPart d path (plain xs) → IsPart d path xs
+pub unplain_part : (d : ℕ) (path : ℕ → ℕ) (xs : List Hashed) → IsPartUnder d path (plain xs) → IsPartUnder d path xs
 unplain_part d path xs h = record {
   sorted = subst T (unplain_sorted xs) h.sorted;
   keys = unplain_all IsKey xs h.keys;

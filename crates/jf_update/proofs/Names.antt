@@ -1,26 +1,26 @@
 -- Lists of names that rise strictly.
-use Rattle.std.proofs.Common.{◌≡◌, ℕ, suc, ◌+◌, ◌<◌, Bool, true, false, ◌&&◌, List, [], ◌∷◌, ◌++◌, length, take, drop, get_or, refl, sym, ap, ◌∙◌, subst, arith, IsTrue, Less, Equal, Greater, Ordering, is_lt, is_eq, true≢false}
+use Rattle.std.proofs.Common.{Bool, true, false, ◌&&◌, IsTrue, ◌+◌, List, [], ◌∷◌, ◌++◌, refl, is_lt, ◌≡◌, sym, ap, ◌∙◌, Less, Equal, Greater, Ordering, is_eq, true≢false, suc, get_or, subst, arith, ℕ, ◌<◌, length, take, drop}
 use Rattle.std.proofs.Math.Seq.{take-suc}
-use Rattle.std.proofs.lemmas.List.{take-append-drop}
-use Rattle.std.proofs.lemmas.Map.Keys.{IsDistinct-IsPermutation, IsDistinct-head, IsDistinct-tail}
 use Rattle.std.proofs.lemmas.Cmp.{eq_by_cmp_equiv}
+use Rattle.std.proofs.lemmas.List.{take-append-drop}
+use Rattle.std.proofs.lemmas.Map.Keys.{IsDistinct-head, IsDistinct-tail, IsDistinct-IsPermutation}
 use Rattle.std.specs.List.{IsDistinct}
-use Rattle.std.specs.List.Sorted.{IsPermutation, IsSorted}
-use Rattle.std.specs.Ordering.{eq_by_cmp, ordering_reverse}
+use Rattle.std.specs.List.Sorted.{IsSorted, IsPermutation}
+use Rattle.std.specs.Ordering.{ordering_reverse, eq_by_cmp}
 use Rattle.jf_path.specs.declared.name.NodeName.{NodeName}
-use Rattle.jf_path.specs.Names.{name_cmp, rise}
+use Rattle.jf_path.specs.Names.{name_cmp, are_rising}
 use Rattle.jf_path.specs.NameLaws.{name_cmp_total}
-use Rattle.jf_landing.specs.Both.{left_true, right_true}
+use Rattle.jf_path.proofs.BoolLaws.{left_true, right_true}
 
 pub both_true : (a b : Bool) → IsTrue a → IsTrue b → IsTrue (a && b)
 both_true true b p q = q
 both_true false b p q = p
 
 -- the front of names that rise
-pub rise-front : (xs ys : List NodeName) → IsTrue (rise (xs ++ ys)) → IsTrue (rise xs)
-rise-front [] ys h = refl
-rise-front (x ∷ []) ys h = refl
-rise-front (x ∷ z ∷ xs) ys h = both_true _ _ (left_true _ _ h) (rise-front (z ∷ xs) ys (right_true (is_lt (name_cmp x z)) _ h))
+pub are_rising-front : (xs ys : List NodeName) → IsTrue (are_rising (xs ++ ys)) → IsTrue (are_rising xs)
+are_rising-front [] ys h = refl
+are_rising-front (x ∷ []) ys h = refl
+are_rising-front (x ∷ z ∷ xs) ys h = both_true _ _ (left_true _ _ h) (are_rising-front (z ∷ xs) ys (right_true (is_lt (name_cmp x z)) _ h))
 
 above : (r s : Ordering) → r ≡ ordering_reverse s → is_lt s ≡ false → is_eq r ≡ false → is_lt r ≡ true
 above r Less e low other = absurd (true≢false low)
@@ -28,20 +28,20 @@ above r Equal e low other = absurd (true≢false (sym (ap is_eq e) ∙ other))
 above r Greater e low other = ap is_lt e
 
 -- distinct names in order rise strictly
-pub rise-sorted : (xs : List NodeName) → IsSorted name_cmp xs → IsDistinct (eq_by_cmp name_cmp) xs → IsTrue (rise xs)
-rise-sorted [] sorted distinct = refl
-rise-sorted (x ∷ []) sorted distinct = refl
-rise-sorted (x ∷ z ∷ xs) sorted distinct =
+pub are_rising-sorted : (xs : List NodeName) → IsSorted name_cmp xs → IsDistinct (eq_by_cmp name_cmp) xs → IsTrue (are_rising xs)
+are_rising-sorted [] sorted distinct = refl
+are_rising-sorted (x ∷ []) sorted distinct = refl
+are_rising-sorted (x ∷ z ∷ xs) sorted distinct =
     both_true _ _
     (above (name_cmp x z) (name_cmp z x) (name_cmp_total.antisymm x z) (sorted 0 x (omega arith) (omega arith)) (IsDistinct-head (eq_by_cmp name_cmp) x (z ∷ xs) distinct).0)
-    (rise-sorted (z ∷ xs) (λ k d low high. subst (λ j. is_lt (name_cmp (get_or (x ∷ z ∷ xs) j d) (get_or (x ∷ z ∷ xs) (suc k) d)) ≡ false) (let e : suc k + 1 ≡ suc (k + 1) = omega arith in e) (sorted (suc k) d (omega arith) (omega arith))) (IsDistinct-tail (eq_by_cmp name_cmp) x (z ∷ xs) distinct))
+    (are_rising-sorted (z ∷ xs) (λ k d low high. subst (λ j. is_lt (name_cmp (get_or (x ∷ z ∷ xs) j d) (get_or (x ∷ z ∷ xs) (suc k) d)) ≡ false) (let e : suc k + 1 ≡ suc (k + 1) = omega arith in e) (sorted (suc k) d (omega arith) (omega arith))) (IsDistinct-tail (eq_by_cmp name_cmp) x (z ∷ xs) distinct))
 
 -- distinct names rise strictly after they are sorted
-pub rise-moved : (xs ys : List NodeName) → IsPermutation xs ys → IsSorted name_cmp ys → IsDistinct (eq_by_cmp name_cmp) xs → IsTrue (rise ys)
-rise-moved xs ys moved sorted distinct = rise-sorted ys sorted (IsDistinct-IsPermutation (eq_by_cmp name_cmp) (eq_by_cmp_equiv name_cmp_total).symm xs ys moved distinct)
+pub are_rising-moved : (xs ys : List NodeName) → IsPermutation xs ys → IsSorted name_cmp ys → IsDistinct (eq_by_cmp name_cmp) xs → IsTrue (are_rising ys)
+are_rising-moved xs ys moved sorted distinct = are_rising-sorted ys sorted (IsDistinct-IsPermutation (eq_by_cmp name_cmp) (eq_by_cmp_equiv name_cmp_total).symm xs ys moved distinct)
 
 -- one more name, after those before it
-pub rise-next : (xs : List NodeName) (i : ℕ) (x : NodeName) → i < length xs → x ≡ get_or xs i x → IsTrue (rise xs) → IsTrue (rise (take i xs ++ x ∷ []))
-rise-next xs i x within at rises =
+pub are_rising-next : (xs : List NodeName) (i : ℕ) (x : NodeName) → i < length xs → x ≡ get_or xs i x → IsTrue (are_rising xs) → IsTrue (are_rising (take i xs ++ x ∷ []))
+are_rising-next xs i x within at rises =
     let next : take (suc i) xs ≡ take i xs ++ x ∷ [] = take-suc xs i x within ∙ ap (λ y. take i xs ++ y ∷ []) (sym at) in
-    subst (λ ns. IsTrue (rise ns)) next (rise-front (take (suc i) xs) (drop (suc i) xs) (subst (λ ns. IsTrue (rise ns)) (sym (take-append-drop (suc i) xs)) rises))
+    subst (λ ns. IsTrue (are_rising ns)) next (are_rising-front (take (suc i) xs) (drop (suc i) xs) (subst (λ ns. IsTrue (are_rising ns)) (sym (take-append-drop (suc i) xs)) rises))

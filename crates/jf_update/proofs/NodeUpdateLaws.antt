@@ -1,34 +1,34 @@
 -- A node is updated by updating its children.
-use Rattle.std.proofs.Common.{◌≡◌, ℕ, zero, suc, ◌+◌, ◌-◌, ◌<◌, ◌≤◌, Bool, true, false, ◌==◌, inl, inr, List, [], ◌∷◌, ◌++◌, length, get_or, set, take, drop, refl, sym, ap, ap₂, ◌∙◌, subst, arith, Option, None, Some, length-drop, length-set, zero-add, eq-or-lt_of_le, get_or-set_other, get_or-set_same, true≢false, replicate, Result, Ok, Err, IfOk}
-use Rattle.std.proofs.lemmas.List.{set-get_or, get_or_past}
+use Rattle.std.proofs.Common.{◌≡◌, ℕ, ◌-◌, inl, inr, List, length, get_or, sym, ap, ◌∙◌, arith, Option, None, ◌+◌, Some, ◌<◌, subst, zero-add, ◌≤◌, Bool, true, false, drop, zero, suc, refl, replicate, set, length-drop, length-set, eq-or-lt_of_le, get_or-set_other, get_or-set_same, [], ◌∷◌, ◌++◌, ap₂, true≢false, take, Result, Ok, Err, IfOk, ◌==◌}
 use Rattle.std.proofs.lemmas.Bool.{cases_lt}
-use Rattle.std.specs.List.{list_any}
+use Rattle.std.proofs.lemmas.List.{get_or_past, set-get_or}
 use Rattle.std.specs.Bool.{beq}
+use Rattle.std.specs.List.{list_any}
 use Rattle.jf_path.specs.Nibbles.{nibble}
+use Rattle.jf_path.proofs.FilterLaws.{All-filter}
+use Rattle.jf_hash.specs.Slots.{with_nibble, from_nibble, Part}
 use Rattle.jf_hash.specs.Maps.{Batch}
-use Rattle.jf_hash.specs.Slots.{Part, with_nibble}
-use Rattle.jf_hash.specs.Filters.{All-filter}
-use Rattle.jf_model.specs.Changes.{applied, applied-none}
-use Rattle.jf_node.specs.LinkValue.{LinkValue, version_at, version_among}
-use Rattle.jf_node.specs.Children.{content, joined, FitsAt, FitFrom, SameElsewhere}
-use Rattle.jf_node.specs.ChildLaws.{FitFrom-set, FitFrom-at, with_nibble-joined}
-use Rattle.jf_node.specs.NodeVersions.{version-below}
+use Rattle.jf_model.specs.Parts.{IsPartUnder, IsPieceEnd}
+use Rattle.jf_model.specs.Changes.{applied}
+use Rattle.jf_model.specs.NodeVersions.{HaveVersions}
+use Rattle.jf_model.proofs.ChangeLaws.{applied-none}
+use Rattle.jf_walk.proofs.PartLaws.{with_nibble-past, from_nibble-zero, stepped, IsPartUnder-with_nibble}
+use Rattle.jf_walk.proofs.PieceEnds.{cut_piece}
+use Rattle.jf_walk.proofs.PartChanges.{with_nibble-applied, IsPartUnder-applied}
+use Rattle.jf_walk.proofs.VersionLaws.{same_versioned, topped_versioned, built_versioned}
+use Rattle.jf_node.specs.LinkValue.{LinkValue, link_version_at, version_among}
+use Rattle.jf_node.specs.Children.{content, joined, FitFrom, FitsAt, SameElsewhere}
 use Rattle.jf_node.specs.Shown.{ShowsInner}
-use Rattle.jf_landing.specs.Parts.{IsPart, IsPieceEnd, stepped, from_nibble}
-use Rattle.jf_landing.specs.PartLaws.{IsPart-with_nibble, from_nibble-zero, with_nibble-past}
-use Rattle.jf_landing.specs.PartChanges.{with_nibble-applied, IsPart-applied}
-use Rattle.jf_landing.specs.PieceEnds.{cut_piece}
-use Rattle.jf_landing.specs.VersionLaws.{same_versioned, built_versioned, topped_versioned}
-use Rattle.jf_landing.specs.Versions.{HaveVersions}
+use Rattle.jf_node.proofs.ChildLaws.{with_nibble-joined, FitFrom-at, FitFrom-set}
+use Rattle.jf_node.proofs.NodeVersions.{version-below}
 use Rattle.jf_update.specs.Made.{IsAtDepth, Topped}
-use Rattle.jf_update.specs.Outcomes.{AreParts, AreShort, IsNodeUpdate, IsOutcome, IsLeafOutcome, AreNewChildren, AreOutcome, IsPlaced}
+use Rattle.jf_update.specs.Outcomes.{IsNodeUpdate, AreNewChildren, IsOutcome, IsOutcomePlaced, IsLeafOutcome, AreParts, AreShort, AreOutcome}
 use Rattle.jf_update.specs.declared.outcome.NewChildren.{NewChildren}
 use Rattle.jf_update.specs.declared.outcome.Outcome.{Outcome}
 use Rattle.jf_update.specs.declared.outcome.Outcome.TheVariants.{Same, New}
-use Rattle.jf_update.proofs.BuildLaws.{joined_parts, fits_part, drop_more, same_piece}
+use Rattle.jf_update.proofs.BuildLaws.{drop_more, joined_parts, fits_part, same_piece}
 
 -- ---- children
-
 -- a child has the entries with its nibble
 pub child_part : (d n : ℕ) (links : List (Option LinkValue)) → length links ≡ 16 → FitFrom d 0 links → with_nibble d n (joined links) ≡ content (get_or links n None)
 child_part d n links long fit = elim (cases_lt n 16) [
@@ -50,7 +50,6 @@ child_placed d n links long fit = elim (cases_lt n 16) [
 ]
 
 -- ---- the children as far as nibble n
-
 pub record IsUpdating (depth version n start : ℕ) (olds : List (Option LinkValue)) (bs : Batch) (news : List (Option LinkValue)) (changed : List Bool) : Type 0 where
   pub long : length news ≡ 16
   pub changes : length changed ≡ 16
@@ -83,7 +82,7 @@ updating_start d v olds news bs changed long fit is none = subst (λ ls. IsUpdat
 })
 
 -- one more child is updated
-updating_one : (d v n start r : ℕ) (path : ℕ → ℕ) (olds news news' : List (Option LinkValue)) (y : Option LinkValue) (bs : Batch) (changed changed' : List Bool) (change : Bool) → IsPart d path bs → n < 16 → IsUpdating d v n start olds bs news changed → IsPieceEnd d n r (drop start bs)
+updating_one : (d v n start r : ℕ) (path : ℕ → ℕ) (olds news news' : List (Option LinkValue)) (y : Option LinkValue) (bs : Batch) (changed changed' : List Bool) (change : Bool) → IsPartUnder d path bs → n < 16 → IsUpdating d v n start olds bs news changed → IsPieceEnd d n r (drop start bs)
     → IsNodeUpdate (d + 1) v (get_or olds n None) (with_nibble d n bs) y → FitsAt d n y → news' ≡ set news n y → changed' ≡ set changed n change
     → (change ≡ false → content y ≡ content (get_or olds n None))
     → (change ≡ true → ¬ (content y ≡ content (get_or olds n None)))
@@ -118,9 +117,9 @@ updating_one d v n start r path olds news news' y bs changed changed' change par
     }
 
 -- the entries of all children once each is updated
-updated_parts : (d v : ℕ) (path : ℕ → ℕ) (olds news : List (Option LinkValue)) (bs : Batch) (changed : List Bool) → length olds ≡ 16 → FitFrom d 0 olds → IsPart d path (joined olds) → IsPart d path bs → AreNewChildren d v olds bs news changed → joined news ≡ applied (joined olds) bs
+updated_parts : (d v : ℕ) (path : ℕ → ℕ) (olds news : List (Option LinkValue)) (bs : Batch) (changed : List Bool) → length olds ≡ 16 → FitFrom d 0 olds → IsPartUnder d path (joined olds) → IsPartUnder d path bs → AreNewChildren d v olds bs news changed → joined news ≡ applied (joined olds) bs
 updated_parts d v path olds news bs changed long fit part batch w =
-    joined_parts d path (applied (joined olds) bs) news (IsPart-applied d path (joined olds) bs part batch) w.long
+    joined_parts d path (applied (joined olds) bs) news (IsPartUnder-applied d path (joined olds) bs part batch) w.long
     (λ k lt. (w.each k lt).entries ∙ ap (λ es. applied es (with_nibble d k bs)) (sym (child_part d k olds long fit)) ∙ sym (with_nibble-applied d k (joined olds) bs part.sorted))
 
 pub updating_done : (d v start : ℕ) (olds news : List (Option LinkValue)) (bs : Batch) (changed : List Bool) → IsUpdating d v 16 start olds bs news changed → AreNewChildren d v olds bs news changed
@@ -133,7 +132,6 @@ same_joined (x ∷ xs) [] e h = absurd (omega arith)
 same_joined (x ∷ xs) (y ∷ ys) e h = ap₂ (λ a b. a ++ b) (h 0 (omega arith)) (same_joined xs ys (omega arith) (λ k lt. h (suc k) (omega arith)))
 
 -- ---- whether any changed
-
 none_of_them : (changes : List Bool) → list_any (λ m. beq m true) changes ≡ false → (k : ℕ) → get_or changes k false ≡ false
 none_of_them [] off k = refl
 none_of_them (true ∷ changes) off k = absurd (true≢false off)
@@ -146,12 +144,12 @@ one_of_them (true ∷ changes) on = (0, omega arith, refl)
 one_of_them (false ∷ changes) on = let more = one_of_them changes on in (suc more.0, (let lt = more.1 in omega arith), more.2)
 
 -- if no child changed, the batch changes nothing
-pub none_changed : (d v start : ℕ) (path : ℕ → ℕ) (olds news : List (Option LinkValue)) (bs : Batch) (changed : List Bool) → length olds ≡ 16 → FitFrom d 0 olds → IsPart d path (joined olds) → IsPart d path bs → IsUpdating d v 16 start olds bs news changed → list_any (λ m. beq m true) changed ≡ false → applied (joined olds) bs ≡ joined olds
+pub none_changed : (d v start : ℕ) (path : ℕ → ℕ) (olds news : List (Option LinkValue)) (bs : Batch) (changed : List Bool) → length olds ≡ 16 → FitFrom d 0 olds → IsPartUnder d path (joined olds) → IsPartUnder d path bs → IsUpdating d v 16 start olds bs news changed → list_any (λ m. beq m true) changed ≡ false → applied (joined olds) bs ≡ joined olds
 none_changed d v start path olds news bs changed long fit part batch w off =
     sym (updated_parts d v path olds news bs changed long fit part batch (updating_done d v start olds news bs changed w)) ∙ same_joined news olds (w.long ∙ sym long) (λ k lt. w.same k (omega (arith, w.long)) (none_of_them changed off k))
 
 -- if a child changed, the batch changes something
-pub some_changed : (d v start : ℕ) (path : ℕ → ℕ) (olds news : List (Option LinkValue)) (bs : Batch) (changed : List Bool) → length olds ≡ 16 → FitFrom d 0 olds → IsPart d path (joined olds) → IsPart d path bs → IsUpdating d v 16 start olds bs news changed → list_any (λ m. beq m true) changed ≡ true → ¬ (applied (joined olds) bs ≡ joined olds)
+pub some_changed : (d v start : ℕ) (path : ℕ → ℕ) (olds news : List (Option LinkValue)) (bs : Batch) (changed : List Bool) → length olds ≡ 16 → FitFrom d 0 olds → IsPartUnder d path (joined olds) → IsPartUnder d path bs → IsUpdating d v 16 start olds bs news changed → list_any (λ m. beq m true) changed ≡ true → ¬ (applied (joined olds) bs ≡ joined olds)
 some_changed d v start path olds news bs changed long fit part batch w on same =
     let x = one_of_them changed on in
     let is = updated_parts d v path olds news bs changed long fit part batch (updating_done d v start olds news bs changed w) in
@@ -163,18 +161,17 @@ same_elsewhere d v olds news es bs changed long fit is w i lt off =
     ap (with_nibble d i) is ∙ child_part d i olds long fit ∙ sym (w.same i lt off) ∙ sym (child_part d i news w.long w.fit)
 
 -- ---- an outcome in its place
-
 set_same : (changes : List Bool) (n : ℕ) → get_or changes n false ≡ false → changes ≡ set changes n false
 set_same changes n is = sym (ap (set changes n) (sym is) ∙ set-get_or changes n false)
 
-pub updating_more : (d v n start r : ℕ) (path : ℕ → ℕ) (olds : List (Option LinkValue)) (w w' : NewChildren) (p : Outcome) (bs piece : Batch) → length olds ≡ 16 → FitFrom d 0 olds → IsPart d path (joined olds) → IsPart d path bs → n < 16 → IsUpdating d v n start olds bs w.children w.changed → IsPieceEnd d n r (drop start bs)
-    → piece ≡ take r (drop start bs) → IsOutcome (d + 1) v (get_or olds n None) piece p → IsPlaced w n p w' → IsUpdating d v (n + 1) (start + r) olds bs w'.children w'.changed
+pub updating_more : (d v n start r : ℕ) (path : ℕ → ℕ) (olds : List (Option LinkValue)) (w w' : NewChildren) (p : Outcome) (bs piece : Batch) → length olds ≡ 16 → FitFrom d 0 olds → IsPartUnder d path (joined olds) → IsPartUnder d path bs → n < 16 → IsUpdating d v n start olds bs w.children w.changed → IsPieceEnd d n r (drop start bs)
+    → piece ≡ take r (drop start bs) → IsOutcome (d + 1) v (get_or olds n None) piece p → IsOutcomePlaced w n p w' → IsUpdating d v (n + 1) (start + r) olds bs w'.children w'.changed
 updating_more d v n start r path olds now next Same bs piece long fit part batch small w end is out put =
     let old = get_or olds n None in
     let at : with_nibble d n bs ≡ piece = sym (is ∙ (cut_piece d n r path bs (drop start bs) batch w.rest end).0) in
     let kept : get_or now.children n None ≡ old = w.left n (omega arith) in
     updating_one d v n start r path olds now.children next.children old bs now.changed next.changed false batch small w end
-    record { entries = sym (ap (applied (content old)) at ∙ out); placed = child_placed d n olds long fit; versions = same_versioned v (d + 1) (content old) (λ p. version_at p old) }
+    record { entries = sym (ap (applied (content old)) at ∙ out); placed = child_placed d n olds long fit; versions = same_versioned v (d + 1) (content old) (λ p. link_version_at p old) }
     (fits d n olds long fit small)
     (put.0 ∙ sym (ap (set now.children n) (sym kept) ∙ set-get_or now.children n None))
     (put.1 ∙ set_same now.changed n (w.unchanged n (omega arith)))
@@ -193,23 +190,22 @@ updating_more d v n start r path olds now next (New y) bs piece long fit part ba
     (λ on e. out.1 (sym out.0.entries ∙ e))
 
 -- ---- a node over its updated children
-
 pub worked_top : (d v : ℕ) (path : ℕ → ℕ) (x : LinkValue) (y : Option LinkValue) (olds news : List (Option LinkValue)) (bs : Batch) (changed : List Bool) → x.depth ≡ d → ShowsInner x olds
-    → IsPart d path x.entries → IsPart d path bs → AreNewChildren d v olds bs news changed → ¬ (applied (joined olds) bs ≡ joined olds) → Topped d v news y → IsOutcome d v (Some x) bs (New y)
+    → IsPartUnder d path x.entries → IsPartUnder d path bs → AreNewChildren d v olds bs news changed → ¬ (applied (joined olds) bs ≡ joined olds) → Topped d v news y → IsOutcome d v (Some x) bs (New y)
 worked_top d v path x y olds news bs changed at shows part batch w differ t =
     let is = shows.entries in
     let long = shows.children.long in
     let fit : FitFrom d 0 olds = subst (λ k. FitFrom k 0 olds) at shows.children.fit in
     let several = shows.children.several in
-    let part' : IsPart d path (joined olds) = subst (IsPart d path) is part in
+    let part' : IsPartUnder d path (joined olds) = subst (IsPartUnder d path) is part in
     let made : joined news ≡ applied (joined olds) bs = updated_parts d v path olds news bs changed long fit part' batch w in
     let other : ¬ (applied x.entries bs ≡ x.entries) = λ e. differ (ap (λ es. applied es bs) (sym is) ∙ e ∙ is) in
     let now : content y ≡ applied x.entries bs = t.entries ∙ made ∙ ap (λ es. applied es bs) (sym is) in (
       record {
         entries = now;
         placed = t.placed;
-        versions = subst (λ es. HaveVersions d v x.entries es (λ p. version_at p (Some x)) (λ p. version_at p y)) (sym t.entries)
-            (topped_versioned d v x.entries (joined news) (λ n p. version_at p (get_or olds n None)) (λ n p. version_at p (get_or news n None)) (λ p. version_at p (Some x)) (λ p. version_at p y)
+        versions = subst (λ es. HaveVersions d v x.entries es (λ p. link_version_at p (Some x)) (λ p. link_version_at p y)) (sym t.entries)
+            (topped_versioned d v x.entries (joined news) (λ n p. link_version_at p (get_or olds n None)) (λ n p. link_version_at p (get_or news n None)) (λ p. link_version_at p (Some x)) (λ p. link_version_at p y)
             (omega (arith, ap length is)) (λ e. other (sym now ∙ t.entries ∙ e))
             (λ n p lt. ap (version_among (n ∷ p)) shows.versions ∙ version-below n p x.version olds)
             (λ n lt. versioned_at n (with_nibble d n x.entries) (with_nibble d n (joined news)) (ap (with_nibble d n) is ∙ child_part d n olds long fit) (child_part d n news w.long w.fit) (w.each n lt).versions)
@@ -218,11 +214,11 @@ worked_top d v path x y olds news bs changed at shows part batch w differ t =
       other,
     )
   where
-    versioned_at : (n : ℕ) (a b : Part) → a ≡ content (get_or olds n None) → b ≡ content (get_or news n None) → HaveVersions (d + 1) v (content (get_or olds n None)) (content (get_or news n None)) (λ p. version_at p (get_or olds n None)) (λ p. version_at p (get_or news n None))
-        → HaveVersions (d + 1) v a b (λ p. version_at p (get_or olds n None)) (λ p. version_at p (get_or news n None))
+    versioned_at : (n : ℕ) (a b : Part) → a ≡ content (get_or olds n None) → b ≡ content (get_or news n None) → HaveVersions (d + 1) v (content (get_or olds n None)) (content (get_or news n None)) (λ p. link_version_at p (get_or olds n None)) (λ p. link_version_at p (get_or news n None))
+        → HaveVersions (d + 1) v a b (λ p. link_version_at p (get_or olds n None)) (λ p. link_version_at p (get_or news n None))
     versioned_at n a b p q h =
-        subst (λ es. HaveVersions (d + 1) v es b (λ p. version_at p (get_or olds n None)) (λ p. version_at p (get_or news n None))) (sym p)
-        (subst (λ es. HaveVersions (d + 1) v (content (get_or olds n None)) es (λ p. version_at p (get_or olds n None)) (λ p. version_at p (get_or news n None))) (sym q) h)
+        subst (λ es. HaveVersions (d + 1) v es b (λ p. link_version_at p (get_or olds n None)) (λ p. link_version_at p (get_or news n None))) (sym p)
+        (subst (λ es. HaveVersions (d + 1) v (content (get_or olds n None)) es (λ p. link_version_at p (get_or olds n None)) (λ p. link_version_at p (get_or news n None))) (sym q) h)
 
 -- the outcome over a leaf, or over a place without a node
 pub leaf_outcome : (d v : ℕ) (x : Option LinkValue) (es : Part) (bs : Batch) (p : Outcome) → content x ≡ es → length es < 2 → IsLeafOutcome d v es bs p → IsOutcome d v x bs p
@@ -232,8 +228,8 @@ leaf_outcome d v x es bs (New y) is few out =
       record {
         entries = now;
         placed = out.0.placed;
-        versions = subst (λ fs. HaveVersions d v (content x) fs (λ p. version_at p x) (λ p. version_at p y)) (sym out.0.entries)
-            (built_versioned d v (content x) (applied es bs) (λ p. version_at p x) (λ p. version_at p y) (subst (λ es. length es < 2) (sym is) few) (λ e. out.1 (e ∙ is)) out.0.versions);
+        versions = subst (λ fs. HaveVersions d v (content x) fs (λ p. link_version_at p x) (λ p. link_version_at p y)) (sym out.0.entries)
+            (built_versioned d v (content x) (applied es bs) (λ p. link_version_at p x) (λ p. link_version_at p y) (subst (λ es. length es < 2) (sym is) few) (λ e. out.1 (e ∙ is)) out.0.versions);
       },
       (λ e. out.1 (ap (λ es. applied es bs) (sym is) ∙ e ∙ is)),
     )
@@ -243,15 +239,14 @@ ok_outcome d v x es bs (Ok p) is few out = leaf_outcome d v x es bs p is few out
 ok_outcome d v x es bs (Err e) is few out = tt
 
 -- ---- what is asked of the update of a child
-
 pub child_parts : (d v n start r : ℕ) (olds news : List (Option LinkValue)) (o : Option LinkValue) (bs : Batch) (changed : List Bool) → length olds ≡ 16 → FitFrom d 0 olds → AreParts d (joined olds) bs → IsUpdating d v n start olds bs news changed → IsPieceEnd d n r (drop start bs) → o ≡ get_or olds n None
     → AreParts (d + 1) (content o) (take ((start + r) - start) (drop start bs))
 child_parts d v n start r olds news o bs changed long fit parts w end is =
     let piece = same_piece start r bs ∙ (cut_piece d n r parts.path bs (drop start bs) parts.batch w.rest end).0 in
     record {
       path = stepped d n parts.path;
-      entries = subst (IsPart (d + 1) (stepped d n parts.path)) (child_part d n olds long fit ∙ ap content (sym is)) (IsPart-with_nibble d n parts.path (joined olds) parts.entries);
-      batch = subst (IsPart (d + 1) (stepped d n parts.path)) (sym piece) (IsPart-with_nibble d n parts.path bs parts.batch);
+      entries = subst (IsPartUnder (d + 1) (stepped d n parts.path)) (child_part d n olds long fit ∙ ap content (sym is)) (IsPartUnder-with_nibble d n parts.path (joined olds) parts.entries);
+      batch = subst (IsPartUnder (d + 1) (stepped d n parts.path)) (sym piece) (IsPartUnder-with_nibble d n parts.path bs parts.batch);
       short = subst AreShort (sym piece) (All-filter _ (λ e. nibble e.0 d == n) bs parts.short);
     }
 
@@ -260,7 +255,6 @@ empty_applied es [] e = applied-none es
 empty_applied es (b ∷ bs) e = absurd (omega arith)
 
 -- ---- from an inner node to its children and back
-
 pub inner_parts : (d : ℕ) (old : Option LinkValue) (x : LinkValue) (olds : List (Option LinkValue)) (bs : Batch) → old ≡ Some x → ShowsInner x olds → AreParts d (content old) bs → AreParts d (joined olds) bs
 inner_parts d old x olds bs is shows parts = subst (λ es. AreParts d es bs) (ap content is ∙ shows.entries) parts
 
@@ -285,11 +279,11 @@ pub outcome_at : (d v : ℕ) (olds : List (Option LinkValue)) (bs : Batch) (o : 
 outcome_at d v olds bs o w is out = subst (AreOutcome d v olds bs) is out
 
 pub inner_agree : (d v : ℕ) (old : Option LinkValue) (x : LinkValue) (olds : List (Option LinkValue)) (w : NewChildren) (bs : Batch) → old ≡ Some x → IsAtDepth d old → ShowsInner x olds
-    → AreParts d (content old) bs → AreOutcome d v olds bs (Some w) → (path : ℕ → ℕ) × IsPart x.depth path (joined w.children)
+    → AreParts d (content old) bs → AreOutcome d v olds bs (Some w) → (path : ℕ → ℕ) × IsPartUnder x.depth path (joined w.children)
 inner_agree d v old x olds w bs is placed shows parts out =
     let at : x.depth ≡ d = depth_of d old x is placed in
     let parts' = inner_parts d old x olds bs is shows parts in (
       parts'.path,
-      subst (λ k. IsPart k parts'.path (joined w.children)) (sym at)
-          (subst (IsPart d parts'.path) (sym (updated_parts d v parts'.path olds w.children bs w.changed shows.children.long (subst (λ k. FitFrom k 0 olds) at shows.children.fit) parts'.entries parts'.batch out.0)) (IsPart-applied d parts'.path (joined olds) bs parts'.entries parts'.batch)),
+      subst (λ k. IsPartUnder k parts'.path (joined w.children)) (sym at)
+          (subst (IsPartUnder d parts'.path) (sym (updated_parts d v parts'.path olds w.children bs w.changed shows.children.long (subst (λ k. FitFrom k 0 olds) at shows.children.fit) parts'.entries parts'.batch out.0)) (IsPartUnder-applied d parts'.path (joined olds) bs parts'.entries parts'.batch)),
     )

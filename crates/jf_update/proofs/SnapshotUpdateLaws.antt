@@ -1,43 +1,41 @@
 -- The update of a snapshot, from the update of its top.
-use Rattle.std.proofs.Common.{◌≡◌, ℕ, ◌+◌, true, cond, [], ◌∷◌, ◌++◌, length, refl, sym, ap, ap₂, ◌∙◌, subst, arith, Option, None, Some}
+use Rattle.std.proofs.Common.{ℕ, Option, None, Some, subst, ◌+◌, ◌≡◌, refl, ◌∷◌, true, [], ◌++◌, length, sym, ap, ap₂, ◌∙◌, arith, cond}
 use Rattle.std.proofs.lemmas.List.{length-map}
-use Rattle.std.specs.FinMap as fin
-use Rattle.std.specs.FinMap.{entries, find}
+use Rattle.std.specs.FinMap.{entries}
 use Rattle.std.specs.List.Sorted.{IsPermutation}
-use Rattle.jf_path.specs.Keys.{key_cmp}
 use Rattle.jf_path.specs.declared.name.NodeName.{NodeName}
 use Rattle.jf_path.specs.declared.node.PlainNode.{PlainNode}
-use Rattle.jf_hash.specs.MapLaws.{same_map}
-use Rattle.jf_hash.specs.Maps.{Map, Batch, IsBatch, apply}
-use Rattle.jf_hash.specs.Roots.{root}
+use Rattle.jf_hash.specs.Maps.{Batch, IsBatch, Map, apply}
 use Rattle.jf_hash.specs.Slots.{Part}
-use Rattle.jf_model.specs.Changes.{applied, entries-apply}
-use Rattle.jf_model.specs.Nodes.{Path, is_node, is_fresh, fresh, plain_node}
+use Rattle.jf_hash.specs.Roots.{root}
+use Rattle.jf_hash.proofs.MapLaws.{map-from_entries}
 use Rattle.jf_split.specs.Limits.{IsWithinLimits}
-use Rattle.jf_node.specs.LinkValue.{LinkValue, version_at}
+use Rattle.jf_model.specs.Parts.{IsPartUnder}
+use Rattle.jf_model.specs.Nodes.{Path, plain_node, is_node, is_fresh, fresh}
+use Rattle.jf_model.specs.ChildEntries.{sub}
+use Rattle.jf_model.specs.Walk.{with_root}
+use Rattle.jf_model.specs.Changes.{applied}
+use Rattle.jf_model.proofs.ChangeLaws.{entries-apply}
+use Rattle.jf_walk.proofs.FreshBound.{IsPartUnder-map, IsPartUnder-batch, length-fresh}
+use Rattle.jf_walk.proofs.ChildEntryLaws.{sub-none}
+use Rattle.jf_walk.proofs.FreshParts.{with_root-fresh_parts}
+use Rattle.jf_walk.proofs.FreshLaws.{with_root-fresh}
+use Rattle.jf_walk.proofs.FreshVersions.{HasVersion-is_fresh}
+use Rattle.jf_walk.proofs.VersionLaws.{moved}
+use Rattle.jf_node.specs.LinkValue.{LinkValue, link_version_at}
+use Rattle.jf_node.specs.Snapshots.{IsTopIf, IsSnapshot, IsTopOf, snapshot_of, snapshot_version_at}
 use Rattle.jf_node.specs.Children.{content}
-use Rattle.jf_node.specs.SnapshotLaws.{entries-snapshot_of}
 use Rattle.jf_node.specs.SnapshotValue.{SnapshotValue}
-use Rattle.jf_node.specs.Snapshots.{snapshot_of, snapshot_version_at, IsSnapshot, IsTopIf, IsTopOf}
 use Rattle.jf_node.specs.declared.update.Update.{Update}
-use Rattle.jf_landing.specs.FreshBound.{IsPart-map, IsPart-batch, length-fresh}
-use Rattle.jf_landing.specs.FreshLaws.{with_root-fresh}
-use Rattle.jf_landing.specs.FreshParts.{with_root-fresh_parts}
-use Rattle.jf_landing.specs.FreshVersions.{HasVersion-is_fresh}
-use Rattle.jf_landing.specs.ChildEntries.{sub}
-use Rattle.jf_landing.specs.ChildEntryLaws.{sub-none}
-use Rattle.jf_landing.specs.Parts.{IsPart}
-use Rattle.jf_landing.specs.VersionLaws.{moved}
-use Rattle.jf_landing.specs.Walk.{with_root}
-use Rattle.jf_update.specs.Updates.{version_in, written_node, written_nodes, stale_names, IsUpdate}
+use Rattle.jf_node.proofs.SnapshotLaws.{entries-snapshot_of}
 use Rattle.jf_update.specs.Made.{IsAtDepth}
+use Rattle.jf_update.specs.TopUpdates.{NoneNewer, IsTopUpdate, IsOfVersion, old_name}
 use Rattle.jf_update.specs.Outcomes.{AreParts}
-use Rattle.jf_update.specs.Plains.{fresh_under}
-use Rattle.jf_update.specs.TopUpdates.{IsTopUpdate, IsOfVersion, NoneNewer, old_name}
 use Rattle.jf_update.specs.declared.top.TopUpdate.{TopUpdate}
+use Rattle.jf_update.specs.Updates.{version_in, written_node_in, written_nodes, stale_names_in, IsUpdate}
+use Rattle.jf_update.specs.Plains.{fresh_under}
 
 -- ---- what holds of the top of a snapshot
-
 pub top_placed : (version : ℕ) (old : Option LinkValue) → IsTopIf version old → IsAtDepth 0 old
 top_placed version None top = tt
 top_placed version (Some x) top = top.depth
@@ -49,8 +47,8 @@ top_newest version (Some x) top p v e = top.newest p v e
 pub top_parts : (head : SnapshotValue) (old : Option LinkValue) (b : Batch) → IsSnapshot head → IsTopOf head old → IsBatch b → IsWithinLimits b → AreParts 0 (content old) b
 top_parts head old b sound top batch limits = record {
   path = λ i. 0;
-  entries = subst (IsPart 0 (λ i. 0)) top.same (IsPart-map (λ i. 0) head.map sound.map);
-  batch = IsPart-batch (λ i. 0) b batch;
+  entries = subst (IsPartUnder 0 (λ i. 0)) top.same (IsPartUnder-map (λ i. 0) head.map sound.map);
+  batch = IsPartUnder-batch (λ i. 0) b batch;
   short = limits.values;
 }
 
@@ -63,21 +61,16 @@ landed_top head old b l update_top = all l.top update_top.placed update_top.own 
     all (Some x) placed own newest = record { depth = placed; version = own; newest = newest }
 
 -- ---- maps
-
-map_by_entries : (m n : Map) → entries m ≡ entries n → m ≡ n
-map_by_entries m n is = same_map m n (λ q. fin.get-entries m q ∙ ap (find key_cmp q) is ∙ sym (fin.get-entries n q))
-
 version-snapshot_of : (version : ℕ) (top : Option LinkValue) → (snapshot_of version top).version ≡ version
 version-snapshot_of version None = refl
 version-snapshot_of version (Some x) = refl
 
-version_below : (version n : ℕ) (p : Path) (top : Option LinkValue) → snapshot_version_at (n ∷ p) (snapshot_of version top) ≡ version_at (n ∷ p) top
+version_below : (version n : ℕ) (p : Path) (top : Option LinkValue) → snapshot_version_at (n ∷ p) (snapshot_of version top) ≡ link_version_at (n ∷ p) top
 version_below version n p None = refl
 version_below version n p (Some x) = refl
 
 -- ---- what is written
-
-written_at : (version : ℕ) (top : Option LinkValue) (es : Part) (p : Path) → content top ≡ es → IsAtDepth 0 top → fresh_under version top p ≡ written_node (snapshot_of version top) (p, sub 0 p es)
+written_at : (version : ℕ) (top : Option LinkValue) (es : Part) (p : Path) → content top ≡ es → IsAtDepth 0 top → fresh_under version top p ≡ written_node_in (snapshot_of version top) (p, sub 0 p es)
 unfolding plain_node
 written_at version None es p is placed =
     let name : NodeName = record { version = version; path = p } in
@@ -92,14 +85,13 @@ written_at version (Some y) es p is placed =
 written_all : (version : ℕ) (top : Option LinkValue) (m m' : Map) → content top ≡ entries m' → IsAtDepth 0 top → with_root (entries m) (entries m') (fresh_under version top) ≡ written_nodes m m' (snapshot_of version top)
 written_all version top m m' is placed =
     let s = snapshot_of version top in
-    let g : Path → Part → NodeName × PlainNode = λ p part. written_node s (p, part) in
+    let g : Path → Part → NodeName × PlainNode = λ p part. written_node_in s (p, part) in
     let same : fresh_under version top ≡ (λ (p : Path). g p (sub 0 p (entries m'))) = λ i p. written_at version top (entries m') p is placed i in
     ap (with_root (entries m) (entries m')) same ∙ with_root-fresh_parts m m' g
 
 -- ---- which version each node has
-
 versions_at : (version : ℕ) (head now : SnapshotValue) (old top : Option LinkValue) (m' : Map) (path : Path) → now ≡ snapshot_of version top → head ≡ snapshot_of head.version old → entries head.map ≡ content old → content top ≡ entries m' → IsSnapshot now → now.version ≡ version
-    → ((n : ℕ) (p : Path) → is_node 0 (n ∷ p) (entries m') ≡ true → version_at (n ∷ p) top ≡ cond (is_fresh (entries head.map) (entries m') (n ∷ p)) (Some version) (version_at (n ∷ p) old))
+    → ((n : ℕ) (p : Path) → is_node 0 (n ∷ p) (entries m') ≡ true → link_version_at (n ∷ p) top ≡ cond (is_fresh (entries head.map) (entries m') (n ∷ p)) (Some version) (link_version_at (n ∷ p) old))
     → is_node 0 path (entries m') ≡ true → snapshot_version_at path now ≡ cond (is_fresh (entries head.map) (entries m') path) (Some version) (snapshot_version_at path head)
 unfolding is_fresh
 versions_at version head now old top m' [] is was same made sound own below node = sound.root ∙ ap (λ v. Some v) own
@@ -108,7 +100,6 @@ versions_at version head now old top m' (n ∷ p) is was same made sound own bel
     ∙ ap (λ o. cond (is_fresh (entries head.map) (entries m') (n ∷ p)) (Some version) o) (sym (ap (snapshot_version_at (n ∷ p)) was ∙ version_below head.version n p old))
 
 -- ---- the whole
-
 pub updated : (head : SnapshotValue) (old : Option LinkValue) (b : Batch) (l : TopUpdate) (u : Update) → IsSnapshot head → IsTopOf head old → IsBatch b → IsTopUpdate head.version old b l
     → u.snapshot ≡ snapshot_of (head.version + 1) l.top → IsSnapshot u.snapshot → u.root ≡ root u.snapshot.map → u.fresh ≡ l.fresh → u.stale ≡ l.stale → IsUpdate head b u
 updated head old b l u sound top batch update_top is now rooted fresh_is stale_is =
@@ -116,7 +107,7 @@ updated head old b l u sound top batch update_top is now rooted fresh_is stale_i
     let m = head.map in
     let m' = apply m b in
     let made : content l.top ≡ entries m' = update_top.entries ∙ ap (λ es. applied es b) (sym top.same) ∙ sym (entries-apply m b) in
-    let map_is : u.snapshot.map ≡ m' = ap (λ (s : SnapshotValue). s.map) is ∙ map_by_entries (snapshot_of v l.top).map m' (entries-snapshot_of v l.top update_top.sound ∙ made) in
+    let map_is : u.snapshot.map ≡ m' = ap (λ (s : SnapshotValue). s.map) is ∙ map-from_entries (snapshot_of v l.top).map m' (entries-snapshot_of v l.top update_top.sound ∙ made) in
     let version_is : u.snapshot.version ≡ v = ap (λ (s : SnapshotValue). s.version) is ∙ version-snapshot_of v l.top in
     let nodes : u.fresh ≡ written_nodes m m' u.snapshot =
     fresh_is ∙ update_top.fresh ∙ ap₂ (λ a c. with_root a c (fresh_under v l.top)) (sym top.same) made ∙ written_all v l.top m m' made update_top.placed ∙ ap (written_nodes m m') (sym is) in
@@ -126,10 +117,10 @@ updated head old b l u sound top batch update_top is now rooted fresh_is stale_i
       root = rooted ∙ ap root map_is;
       fresh = nodes;
       stale = subst (λ ns. IsPermutation ns u.stale)
-          (ap₂ (λ a c. with_root a c (old_name head.version old)) made (sym top.same) ∙ with_root-fresh m' m (old_name head.version old) ∙ ap (stale_names m m') (sym top.value))
+          (ap₂ (λ a c. with_root a c (old_name head.version old)) made (sym top.same) ∙ with_root-fresh m' m (old_name head.version old) ∙ ap (stale_names_in m m') (sym top.value))
           (subst (λ ns. IsPermutation (with_root (content l.top) (content old) (old_name head.version old)) ns) (sym stale_is) update_top.stale);
       versions = λ path node. versions_at v head u.snapshot old l.top m' path is top.value top.same made now version_is
-          (λ n p is_there. HasVersion-is_fresh v (entries m) (entries m') n p (version_at (n ∷ p) old) (version_at (n ∷ p) l.top)
+          (λ n p is_there. HasVersion-is_fresh v (entries m) (entries m') n p (link_version_at (n ∷ p) old) (link_version_at (n ∷ p) l.top)
           (moved v _ _ _ _ _ _ _ _ (update_top.versions n p) (ap (sub 0 (n ∷ p)) top.same) (ap (sub 0 (n ∷ p)) (sym made)) refl refl) is_there) node;
-      bound = omega (arith, ap length nodes, length-map (fresh m m') (written_node u.snapshot), length-fresh m b sound.map batch);
+      bound = omega (arith, ap length nodes, length-map (fresh m m') (written_node_in u.snapshot), length-fresh m b sound.map batch);
     }

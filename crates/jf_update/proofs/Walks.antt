@@ -1,33 +1,32 @@
 -- Walks over the nodes that a landing writes and makes stale.
-use Rattle.std.proofs.Common.{◌≡◌, ℕ, zero, suc, ◌+◌, ◌-◌, ◌<◌, ◌≤◌, Bool, true, false, inl, inr, ◌⊎◌, List, [], ◌∷◌, ◌++◌, length, get_or, map, refl, sym, ap, ap₂, ◌∙◌, subst, arith, true≢false, Option, None, Some, append_assoc, IsTrue}
+use denote.Ref.{Bor}
+use Rattle.std.proofs.Common.{ℕ, ◌-◌, List, ◌∷◌, length, sym, ap, arith, None, ◌+◌, ◌<◌, Option, Some, ◌≡◌, get_or, ◌∙◌, subst, [], inl, inr, ◌⊎◌, true, refl, ◌++◌, map, IsTrue, zero, suc, append_assoc, ◌≤◌, ap₂, Bool, true≢false, false}
 use Rattle.std.proofs.lemmas.Bool.{cases_lt}
 use Rattle.std.specs.Option.{option_copied}
-use denote.Ref.{Bor}
-use Rattle.jf_path.specs.Names.{rise}
 use Rattle.jf_path.specs.declared.name.NodeName.{NodeName}
 use Rattle.jf_path.specs.declared.node.PlainNode.{PlainNode}
-use Rattle.jf_hash.specs.Slots.{Part, with_nibble}
+use Rattle.jf_path.specs.Names.{are_rising}
+use Rattle.jf_hash.specs.Slots.{with_nibble, Part}
+use Rattle.jf_model.specs.ChildEntries.{child_entries, sub}
 use Rattle.jf_model.specs.Nodes.{Path}
-use Rattle.jf_node.specs.LinkValue.{LinkValue, version_at, version_among}
-use Rattle.jf_node.specs.LinkFacts.{IsLink}
-use Rattle.jf_node.specs.Children.{content}
-use Rattle.jf_node.specs.NodeVersions.{version-below}
+use Rattle.jf_model.specs.Walk.{differs, each_from, listed}
+use Rattle.jf_walk.proofs.ChildEntryLaws.{child_entries-few, child_entries-many, sub-none}
+use Rattle.jf_walk.proofs.SameParts.{differs_or_same, not_empty, differs-other}
+use Rattle.jf_walk.proofs.VersionLaws.{moved}
+use Rattle.jf_walk.proofs.WalkLaws.{child_list, listed_to, listed-node, listed_to-child}
+use Rattle.jf_node.specs.LinkValue.{LinkValue, version_among, link_version_at}
 use Rattle.jf_node.specs.Shown.{ShowsLeaf, ShowsInner}
-use Rattle.jf_landing.specs.ChildEntries.{child_entries, sub}
-use Rattle.jf_landing.specs.ChildEntryLaws.{child_entries-few, child_entries-many, sub-none}
-use Rattle.jf_landing.specs.SameParts.{differs_or_same, differs-other, not_empty}
-use Rattle.jf_landing.specs.VersionLaws.{moved}
-use Rattle.jf_landing.specs.Walk.{differs, each_from, listed, child_list, listed_to}
-use Rattle.jf_landing.specs.WalkLaws.{listed-node, listed_to-child}
+use Rattle.jf_node.specs.Children.{content}
+use Rattle.jf_node.specs.LinkFacts.{IsLink}
+use Rattle.jf_node.proofs.NodeVersions.{version-below}
+use Rattle.jf_update.specs.Below.{IsBelow, IsOneBelow, IsFreshOver, TellsIfOlder, IsStaleOver, IsBelowIf}
 use Rattle.jf_update.specs.Made.{IsAtDepth}
-use Rattle.jf_update.specs.Below.{IsBelow, IsOneBelow, IsBelowIf, IsKept, IsFreshOver, IsStaleOver}
 use Rattle.jf_update.specs.Plains.{fresh_below, WouldRise}
-use Rattle.jf_update.proofs.Names.{rise-front}
-use Rattle.jf_update.proofs.PlainNodes.{plain-child}
 use Rattle.jf_update.proofs.NodeUpdateLaws.{child_part, child_placed}
+use Rattle.jf_update.proofs.Names.{are_rising-front}
+use Rattle.jf_update.proofs.PlainNodes.{plain-child}
 
 -- ---- children
-
 -- a leaf has no child
 pub leaf_below : (x : LinkValue) (n : ℕ) (k v h : List ℕ) → ShowsLeaf x k v h → IsBelow x n None
 leaf_below x n k v h shows = record {
@@ -48,7 +47,7 @@ inner_below x n links c shows is =
     record {
       entries = ap content is ∙ sym (child_part x.depth n links long shows.children.fit) ∙ ap (with_nibble x.depth n) (sym shows.entries) ∙ sym (child_entries-many x.depth n x.entries (omega (arith, ap length shows.entries)));
       placed = one_below x.depth c (subst (IsAtDepth (x.depth + 1)) (sym is) (child_placed x.depth n links long shows.children.fit)) shows.children.deep;
-      versions = λ p. ap (version_among (n ∷ p)) shows.versions ∙ version-below n p x.version links ∙ ap (version_at p) (sym is);
+      versions = λ p. ap (version_among (n ∷ p)) shows.versions ∙ version-below n p x.version links ∙ ap (link_version_at p) (sym is);
     }
 
 pub child_entries_none : (x : LinkValue) (n k : ℕ) (r : Option (Bor LinkValue)) → IsBelow x n (option_copied r) → r ≡ None → n ≡ k → child_entries x.depth k x.entries ≡ []
@@ -58,7 +57,6 @@ pub child_entries_some : (x : LinkValue) (n k : ℕ) (r : Option (Bor LinkValue)
 child_entries_some x n k r c is some at = subst (λ m. IsBelow x m (Some c.now)) at (subst (λ o. IsBelow x n (option_copied o)) some is)
 
 -- ---- one step of a walk
-
 pub small_of : (x : LinkValue) → IsLink x → (x.depth < 64) ⊎ (length x.entries < 2)
 small_of x link = elim (cases_lt (length x.entries) 2) [ inl few ↦ inr few | inr many ↦ inl (link.inner many) ]
 
@@ -90,14 +88,13 @@ child_over version es before x n c over is = record {
 }
 
 -- ---- the nodes written may be listed after others
-
 map-append : (xs ys : List (NodeName × PlainNode)) → map (λ (e : NodeName × PlainNode). e.0) (xs ++ ys) ≡ map (λ (e : NodeName × PlainNode). e.0) xs ++ map (λ (e : NodeName × PlainNode). e.0) ys
 map-append [] ys = refl
 map-append (x ∷ xs) ys = ap (λ t. x.0 ∷ t) (map-append xs ys)
 
 -- the front of a list whose names rise
-pub front_rises : (all front back : List (NodeName × PlainNode)) → all ≡ front ++ back → IsTrue (rise (map (λ (e : NodeName × PlainNode). e.0) all)) → IsTrue (rise (map (λ (e : NodeName × PlainNode). e.0) front))
-front_rises all front back is rises = rise-front (map (λ (e : NodeName × PlainNode). e.0) front) (map (λ (e : NodeName × PlainNode). e.0) back) (subst (λ ns. IsTrue (rise ns)) (ap (λ es. map (λ (e : NodeName × PlainNode). e.0) es) is ∙ map-append front back) rises)
+pub front_rises : (all front back : List (NodeName × PlainNode)) → all ≡ front ++ back → IsTrue (are_rising (map (λ (e : NodeName × PlainNode). e.0) all)) → IsTrue (are_rising (map (λ (e : NodeName × PlainNode). e.0) front))
+front_rises all front back is rises = are_rising-front (map (λ (e : NodeName × PlainNode). e.0) front) (map (λ (e : NodeName × PlainNode). e.0) back) (subst (λ ns. IsTrue (are_rising ns)) (ap (λ es. map (λ (e : NodeName × PlainNode). e.0) es) is ∙ map-append front back) rises)
 
 module _ {X : Type 0} where
   each_front : (count more n : ℕ) (g : ℕ → List X) → each_from (count + more) n g ≡ each_from count n g ++ each_from more (n + count) g
@@ -117,7 +114,7 @@ module _ {X : Type 0} where
 
 -- if a node differs, its lists up to a child rise after the nodes listed before
 prefix_rises : (out : List (NodeName × PlainNode)) (version : ℕ) (front : Path) (x : LinkValue) (n : ℕ) (now : List (NodeName × PlainNode)) → (w : WouldRise out version front x) → IsLink x → x.version ≡ version → n ≤ 16 → now ≡ out ++ listed_to x.depth n w.es x.entries (fresh_below version front x)
-    → IsTrue (rise (map (λ (e : NodeName × PlainNode). e.0) now))
+    → IsTrue (are_rising (map (λ (e : NodeName × PlainNode). e.0) now))
 prefix_rises out version front x n now w link own within is =
     let f : Path → NodeName × PlainNode = fresh_below version front x in
     let cut = listed_to-front x.depth n w.es x.entries f within in
@@ -127,7 +124,7 @@ prefix_rises out version front x n now w link own within is =
     front_rises _ now cut.0 whole w.names
 
 -- the node itself rises after the nodes listed before
-pub top_rises : (out : List (NodeName × PlainNode)) (version : ℕ) (front : Path) (x : LinkValue) (item : NodeName × PlainNode) → WouldRise out version front x → IsLink x → x.version ≡ version → item ≡ fresh_below version front x [] → IsTrue (rise (map (λ (e : NodeName × PlainNode). e.0) (out ++ item ∷ [])))
+pub top_rises : (out : List (NodeName × PlainNode)) (version : ℕ) (front : Path) (x : LinkValue) (item : NodeName × PlainNode) → WouldRise out version front x → IsLink x → x.version ≡ version → item ≡ fresh_below version front x [] → IsTrue (are_rising (map (λ (e : NodeName × PlainNode). e.0) (out ++ item ∷ [])))
 unfolding listed_to
 top_rises out version front x item w link own is = prefix_rises out version front x 0 (out ++ item ∷ []) w link own (omega arith) (ap (λ e. out ++ e ∷ []) is)
 
@@ -147,21 +144,20 @@ child_rises out now version front further x n c w link own small is longer so_fa
     below_step p = ap₂ (λ q r. (record { version = version; path = q }, r)) (ap (λ q. q ++ p) longer ∙ append_assoc front (n ∷ []) p) (sym (plain-child x n c p is))
 
 -- ---- what is stale
-
-pub stale_kept : (version : ℕ) (x : LinkValue) (y : Option LinkValue) (kept : Bool) → IsStaleOver version x y → IsKept y version kept → kept ≡ true → content y ≡ x.entries
+pub stale_kept : (version : ℕ) (x : LinkValue) (y : Option LinkValue) (kept : Bool) → IsStaleOver version x y → TellsIfOlder y version kept → kept ≡ true → content y ≡ x.entries
 stale_kept version x None kept over is on = absurd (true≢false (sym on ∙ is))
 stale_kept version x (Some y) kept over is on = elim (differs_or_same x.entries y.entries is.0.entries.some) [
   | inl differ ↦ absurd (is.1 on (some_is y.version version (sym is.0.own ∙ (over.versioned []).fresh (not_empty y.entries is.0.entries.some) (differs-other x.entries y.entries differ))))
   | inr same ↦ sym same
 ]
 
-pub stale_gone : (version : ℕ) (x : LinkValue) (y : Option LinkValue) (kept : Bool) → 1 ≤ length x.entries → IsStaleOver version x y → IsKept y version kept → kept ≡ false → differs (content y) x.entries ≡ true
+pub stale_gone : (version : ℕ) (x : LinkValue) (y : Option LinkValue) (kept : Bool) → 1 ≤ length x.entries → IsStaleOver version x y → TellsIfOlder y version kept → kept ≡ false → differs (content y) x.entries ≡ true
 stale_gone version x y kept some over is off = elim (differs_or_same (content y) x.entries some) [
   | inl differ ↦ differ
   | inr same ↦ absurd (never y over is same)
 ]
   where
-    never : (y : Option LinkValue) → IsStaleOver version x y → IsKept y version kept → content y ≡ x.entries → ⊥
+    never : (y : Option LinkValue) → IsStaleOver version x y → TellsIfOlder y version kept → content y ≡ x.entries → ⊥
     never None over is same = not_empty x.entries some (sym same)
     never (Some y) over is same = over.older [] (sym ((over.versioned []).kept (not_empty y.entries is.0.entries.some) (sym same)) ∙ is.0.own ∙ ap (λ v. Some v) (is.2 off))
 

@@ -1,13 +1,13 @@
 -- The child of a node at a nibble, and the nodes below a node after a landing.
-use Rattle.std.specs.Prelude.{◌≡◌, ℕ, ◌+◌, ◌<◌, Bool, true, false, ◌++◌, ◌∷◌, Option, Some, None}
+use Rattle.std.specs.Prelude.{◌≡◌, ℕ, ◌+◌, ◌<◌, Option, Some, None, ◌∷◌, Bool, true, false, ◌++◌}
 use Rattle.jf_path.specs.declared.name.NodeName.{NodeName}
 use Rattle.jf_hash.specs.Slots.{Part}
 use Rattle.jf_model.specs.Nodes.{Path}
-use Rattle.jf_node.specs.LinkValue.{LinkValue, version_at}
-use Rattle.jf_node.specs.LinkFacts.{IsLink}
+use Rattle.jf_model.specs.ChildEntries.{child_entries}
+use Rattle.jf_model.specs.NodeVersions.{HaveVersions}
+use Rattle.jf_node.specs.LinkValue.{LinkValue, link_version_at}
 use Rattle.jf_node.specs.Children.{content}
-use Rattle.jf_landing.specs.ChildEntries.{child_entries}
-use Rattle.jf_landing.specs.Versions.{HaveVersions}
+use Rattle.jf_node.specs.LinkFacts.{IsLink}
 use Rattle.jf_update.specs.Updates.{version_or}
 
 -- a child is one nibble deeper than its node
@@ -19,7 +19,7 @@ IsOneBelow depth (Some c) = (depth < 64) × (c.depth ≡ depth + 1)
 pub record IsBelow (x : LinkValue) (n : ℕ) (c : Option LinkValue) : Type 0 where
   pub entries : content c ≡ child_entries x.depth n x.entries
   pub placed : IsOneBelow x.depth c
-  pub versions : (path : Path) → version_at (n ∷ path) (Some x) ≡ version_at path c
+  pub versions : (path : Path) → link_version_at (n ∷ path) (Some x) ≡ link_version_at path c
 
 -- c is the child at nibble n of an optional node
 abbrev pub IsBelowIf : Option LinkValue → ℕ → Option LinkValue → Type 0
@@ -28,19 +28,19 @@ IsBelowIf (Some y) n c = IsBelow y n c
 
 -- x stands, after the landing of `version`, where the entries es stood; `before` gives the versions of their nodes
 pub record IsFreshOver (version : ℕ) (es : Part) (before : Path → Option ℕ) (x : LinkValue) : Type 0 where
-  pub versioned : HaveVersions x.depth version es x.entries before (λ p. version_at p (Some x))
+  pub versioned : HaveVersions x.depth version es x.entries before (λ p. link_version_at p (Some x))
   pub older : (path : Path) → ¬ (before path ≡ Some version)
 
 -- y stands in the place of x after the landing of `version`
 pub record IsStaleOver (version : ℕ) (x : LinkValue) (y : Option LinkValue) : Type 0 where
-  pub versioned : HaveVersions x.depth version x.entries (content y) (λ p. version_at p (Some x)) (λ p. version_at p y)
-  pub older : (path : Path) → ¬ (version_at path (Some x) ≡ Some version)
+  pub versioned : HaveVersions x.depth version x.entries (content y) (λ p. link_version_at p (Some x)) (λ p. link_version_at p y)
+  pub older : (path : Path) → ¬ (link_version_at path (Some x) ≡ Some version)
 
 -- `kept` says whether there is a node that was there before the landing of `version`
-abbrev pub IsKept : Option LinkValue → ℕ → Bool → Type 0
-IsKept None version kept = kept ≡ false
-IsKept (Some y) version kept = IsLink y × (kept ≡ true → ¬ (y.version ≡ version)) × (kept ≡ false → y.version ≡ version)
+abbrev pub TellsIfOlder : Option LinkValue → ℕ → Bool → Type 0
+TellsIfOlder None version kept = kept ≡ false
+TellsIfOlder (Some y) version kept = IsLink y × (kept ≡ true → ¬ (y.version ≡ version)) × (kept ≡ false → y.version ≡ version)
 
 -- the name of the node at a path below x, if x stands at the path `front`
 abbrev pub name_below : Path → LinkValue → Path → NodeName
-name_below front x path = record { version = version_or (version_at path (Some x)); path = front ++ path }
+name_below front x path = record { version = version_or (link_version_at path (Some x)); path = front ++ path }

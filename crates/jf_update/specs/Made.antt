@@ -1,9 +1,9 @@
 -- The nodes that the steps of an update make.
-use Rattle.std.specs.Prelude.{◌≡◌, ℕ, ◌+◌, ◌<◌, List, length, Option, Some, None, slice_index_or}
+use Rattle.std.specs.Prelude.{◌≡◌, ℕ, Option, Some, None, List, slice_index_or, ◌+◌, ◌<◌, length}
 use Rattle.jf_hash.specs.Slots.{Part, with_nibble}
-use Rattle.jf_node.specs.LinkValue.{LinkValue, version_at}
+use Rattle.jf_model.specs.NodeVersions.{AllNew, IsNewTop}
+use Rattle.jf_node.specs.LinkValue.{LinkValue, link_version_at}
 use Rattle.jf_node.specs.Children.{content, joined, FitFrom}
-use Rattle.jf_landing.specs.Versions.{AllNew, IsNewTop}
 
 -- an optional node is at this depth
 abbrev pub IsAtDepth : ℕ → Option LinkValue → Type 0
@@ -14,13 +14,13 @@ IsAtDepth depth (Some x) = x.depth ≡ depth
 pub record Built (depth version : ℕ) (es : Part) (y : Option LinkValue) : Type 0 where
   pub entries : content y ≡ es
   pub placed : IsAtDepth depth y
-  pub versions : AllNew depth version es (λ p. version_at p y)
+  pub versions : AllNew depth version es (λ p. link_version_at p y)
 
 -- y is the top over these children: no node, a leaf moved up, or a new inner node
 pub record Topped (depth version : ℕ) (links : List (Option LinkValue)) (y : Option LinkValue) : Type 0 where
   pub entries : content y ≡ joined links
   pub placed : IsAtDepth depth y
-  pub versions : IsNewTop version (joined links) (λ n p. version_at p (slice_index_or links n None)) (λ p. version_at p y)
+  pub versions : IsNewTop version (joined links) (λ n p. link_version_at p (slice_index_or links n None)) (λ p. link_version_at p y)
 
 -- sixteen children that are built new from the entries es
 pub record AreBuilt (depth version : ℕ) (es : Part) (links : List (Option LinkValue)) : Type 0 where

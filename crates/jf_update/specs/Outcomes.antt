@@ -1,18 +1,18 @@
 -- The nodes below a path after a batch.
-use Rattle.std.specs.Prelude.{◌≡◌, ℕ, ◌+◌, ◌<◌, ◌≤◌, true, false, Bool, List, length, Option, Some, None, IfSome, slice_index_or, slice_set}
+use Rattle.std.specs.Prelude.{◌≤◌, length, IfSome, ℕ, ◌≡◌, Option, ◌+◌, ◌<◌, false, Bool, List, None, slice_index_or, Some, true, slice_set}
 use Rattle.std.specs.List.{AllByRecursion}
 use Rattle.jf_path.specs.Limits.{max_value}
 use Rattle.jf_hash.specs.Maps.{Batch}
 use Rattle.jf_hash.specs.Slots.{Part, with_nibble}
+use Rattle.jf_model.specs.Parts.{IsPartUnder}
 use Rattle.jf_model.specs.Changes.{applied}
-use Rattle.jf_node.specs.LinkValue.{LinkValue, version_at}
-use Rattle.jf_node.specs.Children.{content, joined, FitFrom}
-use Rattle.jf_landing.specs.Parts.{IsPart}
-use Rattle.jf_landing.specs.Versions.{HaveVersions}
+use Rattle.jf_model.specs.NodeVersions.{HaveVersions}
+use Rattle.jf_node.specs.LinkValue.{LinkValue, link_version_at}
+use Rattle.jf_node.specs.Children.{content, FitFrom, joined}
 use Rattle.jf_update.specs.Made.{IsAtDepth, Built}
-use Rattle.jf_update.specs.declared.outcome.NewChildren.{NewChildren}
 use Rattle.jf_update.specs.declared.outcome.Outcome.{Outcome}
 use Rattle.jf_update.specs.declared.outcome.Outcome.TheVariants.{Same, New}
+use Rattle.jf_update.specs.declared.outcome.NewChildren.{NewChildren}
 
 -- each value of a batch has at most 4,096 bytes
 abbrev pub AreShort : Batch → Type 0
@@ -21,15 +21,15 @@ AreShort bs = AllByRecursion (λ e. IfSome e.1 (λ v. length v ≤ max_value)) b
 -- entries and a batch whose keys all begin with one path
 pub record AreParts (depth : ℕ) (es : Part) (bs : Batch) : Type 0 where
   pub path : ℕ → ℕ
-  pub entries : IsPart depth path es
-  pub batch : IsPart depth path bs
+  pub entries : IsPartUnder depth path es
+  pub batch : IsPartUnder depth path bs
   pub short : AreShort bs
 
 -- y is the node x after the batch: its entries, its depth and the versions of its nodes
 pub record IsNodeUpdate (depth version : ℕ) (x : Option LinkValue) (bs : Batch) (y : Option LinkValue) : Type 0 where
   pub entries : content y ≡ applied (content x) bs
   pub placed : IsAtDepth depth y
-  pub versions : HaveVersions depth version (content x) (content y) (λ p. version_at p x) (λ p. version_at p y)
+  pub versions : HaveVersions depth version (content x) (content y) (λ p. link_version_at p x) (λ p. link_version_at p y)
 
 -- the outcome of a batch over a node: unchanged, or the node after the batch
 abbrev pub IsOutcome : ℕ → ℕ → Option LinkValue → Batch → Outcome → Type 0
@@ -54,6 +54,6 @@ AreOutcome depth version olds bs None = applied (joined olds) bs ≡ joined olds
 AreOutcome depth version olds bs (Some w) = AreNewChildren depth version olds bs w.children w.changed × ¬ (applied (joined olds) bs ≡ joined olds)
 
 -- the children after the outcome for the child at nibble n
-abbrev pub IsPlaced : NewChildren → ℕ → Outcome → NewChildren → Type 0
-IsPlaced w n Same now = (now.children ≡ w.children) × (now.changed ≡ w.changed)
-IsPlaced w n (New y) now = (now.children ≡ slice_set w.children n y) × (now.changed ≡ slice_set w.changed n true)
+abbrev pub IsOutcomePlaced : NewChildren → ℕ → Outcome → NewChildren → Type 0
+IsOutcomePlaced w n Same now = (now.children ≡ w.children) × (now.changed ≡ w.changed)
+IsOutcomePlaced w n (New y) now = (now.children ≡ slice_set w.children n y) × (now.changed ≡ slice_set w.changed n true)

@@ -1,25 +1,25 @@
 -- Nodes as they are written: each by itself, with what it says of its children.
-use Rattle.std.specs.Prelude.{ℕ, ◌+◌, ◌-◌, true, List, [], ◌∷◌, ◌++◌, length, map, Option, Some, None, IsTrue}
-use Rattle.jf_path.specs.Names.{rise}
+use Rattle.std.specs.Prelude.{◌+◌, true, [], ◌∷◌, ◌++◌, length, Some, List, Option, None, ℕ, ◌-◌, map, IsTrue}
+use Rattle.jf_path.specs.declared.node.PlainNode.{PlainNode}
 use Rattle.jf_path.specs.declared.children.Child.{Child}
 use Rattle.jf_path.specs.declared.name.NodeName.{NodeName}
-use Rattle.jf_path.specs.declared.node.PlainNode.{PlainNode}
+use Rattle.jf_path.specs.Names.{are_rising}
 use Rattle.jf_path.specs.declared.node.PlainNode.TheVariants as node
 use Rattle.jf_hash.specs.Slots.{Part}
-use Rattle.jf_model.specs.Nodes.{Path, child_at, plain_node}
-use Rattle.jf_node.specs.LinkValue.{LinkValue, version_at}
-use Rattle.jf_landing.specs.ChildEntries.{sub}
-use Rattle.jf_landing.specs.Walk.{each_from, listed}
+use Rattle.jf_model.specs.Nodes.{Path, plain_node, child_in_node}
+use Rattle.jf_model.specs.ChildEntries.{sub}
+use Rattle.jf_model.specs.Walk.{each_from, listed}
+use Rattle.jf_node.specs.LinkValue.{LinkValue, link_version_at}
 use Rattle.jf_update.specs.Updates.{version_or}
 use Rattle.jf_update.specs.Below.{IsFreshOver}
 
 -- the node by itself at a path below a link
 abbrev pub plain_at : LinkValue → Path → PlainNode
-plain_at x path = plain_node true (λ n. version_or (version_at (path ++ n ∷ []) (Some x))) (x.depth + length path) (sub x.depth path x.entries)
+plain_at x path = plain_node true (λ n. version_or (link_version_at (path ++ n ∷ []) (Some x))) (x.depth + length path) (sub x.depth path x.entries)
 
 -- what an inner node says of its children, in the order of their nibbles
 abbrev pub children_list : LinkValue → List Child
-children_list x = each_from 16 0 (child_at true (λ n. version_or (version_at (n ∷ []) (Some x))) x.depth x.entries)
+children_list x = each_from 16 0 (child_in_node true (λ n. version_or (link_version_at (n ∷ []) (Some x))) x.depth x.entries)
 
 -- the node by itself at a path below an optional link; the root of the empty map if there is no link
 abbrev pub plain_under : Option LinkValue → Path → PlainNode
@@ -39,4 +39,4 @@ pub record WouldRise (out : List (NodeName × PlainNode)) (version : ℕ) (front
   pub es : Part
   pub before : Path → Option ℕ
   pub over : IsFreshOver version es before x
-  pub names : IsTrue (rise (map (λ e. e.0) (out ++ listed (64 - x.depth) x.depth es x.entries (fresh_below version front x))))
+  pub names : IsTrue (are_rising (map (λ e. e.0) (out ++ listed (64 - x.depth) x.depth es x.entries (fresh_below version front x))))

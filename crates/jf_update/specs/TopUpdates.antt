@@ -1,23 +1,23 @@
 -- The update of a top: the new top node, and the lists of fresh and stale nodes.
-use Rattle.std.specs.Prelude.{◌≡◌, ℕ, ◌+◌, ◌≤◌, ◌∷◌, Option, Some, None, T}
+use Rattle.std.specs.Prelude.{◌≡◌, ℕ, Option, Some, None, ◌≤◌, T, ◌+◌, ◌∷◌}
 use Rattle.std.specs.FinMap.{is_sorted}
 use Rattle.std.specs.List.Sorted.{IsPermutation}
-use Rattle.jf_path.specs.Keys.{key_cmp}
 use Rattle.jf_path.specs.declared.name.NodeName.{NodeName}
-use Rattle.jf_hash.specs.Maps.{Batch}
+use Rattle.jf_path.specs.Keys.{key_cmp}
 use Rattle.jf_hash.specs.Slots.{Part}
-use Rattle.jf_model.specs.Changes.{applied}
+use Rattle.jf_hash.specs.Maps.{Batch}
 use Rattle.jf_model.specs.Nodes.{Path}
-use Rattle.jf_node.specs.LinkValue.{LinkValue, version_at}
+use Rattle.jf_model.specs.Changes.{applied}
+use Rattle.jf_model.specs.ChildEntries.{sub}
+use Rattle.jf_model.specs.NodeVersions.{HasVersion}
+use Rattle.jf_model.specs.Walk.{with_root}
+use Rattle.jf_node.specs.LinkValue.{LinkValue, link_version_at}
+use Rattle.jf_node.specs.Snapshots.{snapshot_of}
 use Rattle.jf_node.specs.LinkFacts.{IsLinkIf}
 use Rattle.jf_node.specs.Children.{content}
-use Rattle.jf_node.specs.Snapshots.{snapshot_of}
-use Rattle.jf_landing.specs.ChildEntries.{sub}
-use Rattle.jf_landing.specs.Versions.{HasVersion}
-use Rattle.jf_landing.specs.Walk.{with_root}
-use Rattle.jf_update.specs.Made.{IsAtDepth}
 use Rattle.jf_update.specs.Updates.{version_in}
 use Rattle.jf_update.specs.Below.{IsFreshOver, IsStaleOver}
+use Rattle.jf_update.specs.Made.{IsAtDepth}
 use Rattle.jf_update.specs.Plains.{fresh_under}
 use Rattle.jf_update.specs.declared.top.TopUpdate.{TopUpdate}
 
@@ -28,7 +28,7 @@ IsOfVersion version (Some y) = y.version ≡ version
 
 -- no node below a link is newer than this version
 abbrev pub NoneNewer : ℕ → Option LinkValue → Type 0
-NoneNewer head x = (path : Path) (v : ℕ) → version_at path x ≡ Some v → v ≤ head
+NoneNewer head x = (path : Path) (v : ℕ) → link_version_at path x ≡ Some v → v ≤ head
 
 -- the name under which the old version has the node at a path
 abbrev pub old_name : ℕ → Option LinkValue → Path → NodeName
@@ -56,7 +56,7 @@ pub record IsTopUpdate (head : ℕ) (old : Option LinkValue) (bs : Batch) (l : T
   pub entries : content l.top ≡ applied (content old) bs
   pub placed : IsAtDepth 0 l.top
   pub own : IsOfVersion (head + 1) l.top
-  pub versions : (n : ℕ) (path : Path) → HasVersion (head + 1) (sub 0 (n ∷ path) (content old)) (sub 0 (n ∷ path) (content l.top)) (version_at (n ∷ path) old) (version_at (n ∷ path) l.top)
+  pub versions : (n : ℕ) (path : Path) → HasVersion (head + 1) (sub 0 (n ∷ path) (content old)) (sub 0 (n ∷ path) (content l.top)) (link_version_at (n ∷ path) old) (link_version_at (n ∷ path) l.top)
   pub newest : NoneNewer (head + 1) l.top
   pub sound : IsLinkIf l.top
   pub fresh : l.fresh ≡ with_root (content old) (content l.top) (fresh_under (head + 1) l.top)

@@ -1,13 +1,13 @@
 -- The update of a snapshot by a batch: what it returns, in one record.
-use Rattle.std.specs.Prelude.{◌≡◌, ℕ, ◌+◌, ◌*◌, ◌≤◌, true, if◌then◌else◌, List, [], ◌∷◌, ◌++◌, length, map, Option, Some, None, IsTrue}
+use Rattle.std.specs.Prelude.{ℕ, Option, Some, None, ◌+◌, true, [], ◌∷◌, ◌++◌, length, List, map, ◌≡◌, ◌*◌, ◌≤◌, if◌then◌else◌, IsTrue}
 use Rattle.std.specs.FinMap.{entries}
 use Rattle.std.specs.List.Sorted.{IsPermutation}
 use Rattle.jf_path.specs.declared.name.NodeName.{NodeName}
 use Rattle.jf_path.specs.declared.node.PlainNode.{PlainNode}
+use Rattle.jf_hash.specs.Slots.{Part}
 use Rattle.jf_hash.specs.Maps.{Map, Batch, apply}
 use Rattle.jf_hash.specs.Roots.{root}
-use Rattle.jf_hash.specs.Slots.{Part}
-use Rattle.jf_model.specs.Nodes.{Path, is_node, is_fresh, fresh, stale, plain_node}
+use Rattle.jf_model.specs.Nodes.{Path, plain_node, fresh, stale, is_node, is_fresh}
 use Rattle.jf_node.specs.SnapshotValue.{SnapshotValue}
 use Rattle.jf_node.specs.Snapshots.{snapshot_version_at}
 use Rattle.jf_node.specs.declared.update.Update.{Update}
@@ -22,16 +22,16 @@ abbrev pub version_in : SnapshotValue → Path → ℕ
 version_in s path = version_or (snapshot_version_at path s)
 
 -- a node that a landing writes: its name, and the node by itself with the versions of its children in the new snapshot
-abbrev pub written_node : SnapshotValue → Path × Part → NodeName × PlainNode
-written_node s x = (record { version = s.version; path = x.0 }, plain_node true (λ i. version_in s (x.0 ++ i ∷ [])) (length x.0) x.1)
+abbrev pub written_node_in : SnapshotValue → Path × Part → NodeName × PlainNode
+written_node_in s x = (record { version = s.version; path = x.0 }, plain_node true (λ i. version_in s (x.0 ++ i ∷ [])) (length x.0) x.1)
 
 -- the nodes that a landing of the new map over the old one writes
 abbrev pub written_nodes : Map → Map → SnapshotValue → List (NodeName × PlainNode)
-written_nodes old new s = map (written_node s) (fresh old new)
+written_nodes old new s = map (written_node_in s) (fresh old new)
 
 -- the names under which the old snapshot has the nodes that the landing marks stale
-abbrev pub stale_names : Map → Map → SnapshotValue → List NodeName
-stale_names old new head = map (λ x. record { version = version_in head x.0; path = x.0 }) (stale old new)
+abbrev pub stale_names_in : Map → Map → SnapshotValue → List NodeName
+stale_names_in old new head = map (λ x. record { version = version_in head x.0; path = x.0 }) (stale old new)
 
 -- u is the update of the snapshot by the batch: the map after the batch as the next version, its root, the nodes that
 -- are written and the names of those that are stale; each node that isn't fresh keeps its version; and a batch of n
@@ -41,7 +41,7 @@ pub record IsUpdate (head : SnapshotValue) (b : Batch) (u : Update) : Type 0 whe
   pub version : u.snapshot.version ≡ head.version + 1
   pub root : u.root ≡ root (apply head.map b)
   pub fresh : u.fresh ≡ written_nodes head.map (apply head.map b) u.snapshot
-  pub stale : IsPermutation (stale_names head.map (apply head.map b) head) u.stale
+  pub stale : IsPermutation (stale_names_in head.map (apply head.map b) head) u.stale
   pub versions : (path : Path) → IsTrue (is_node 0 path (entries (apply head.map b)))
       → snapshot_version_at path u.snapshot ≡ (if is_fresh (entries head.map) (entries (apply head.map b)) path then Some (head.version + 1) else snapshot_version_at path head)
   pub bound : length u.fresh ≤ 66 * length b + 1

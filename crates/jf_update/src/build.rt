@@ -1,6 +1,6 @@
 // New nodes are built from entries: no node, a leaf, or an inner node over the entries of each nibble.
 ghost use Rattle.std.specs.Prelude.{◌<◌, ◌≤◌, ℕ, IfOk};
-ghost use Rattle.jf_landing.specs.Parts.{IsPart};
+ghost use Rattle.jf_model.specs.Parts.{IsPartUnder};
 ghost use Rattle.jf_update.specs.Hashed.{plain, AreHashed};
 ghost use Rattle.jf_update.specs.Made.{Built, AreBuilt};
 
@@ -21,7 +21,7 @@ pub(crate) fn build(
     pairs: &mut u64,
 ) -> Result<Option<Link>, Memory>
     requires depth { depth ≤ 64 }
-    requires part { (path : ℕ → ℕ) × IsPart depth path (plain entries.now) }
+    requires part { (path : ℕ → ℕ) × IsPartUnder depth path (plain entries.now) }
     requires hashed { AreHashed entries.now }
     ensures { IfOk result (λ y. Built depth version (plain entries.now) y) }
 {
@@ -50,7 +50,7 @@ fn build_children(
     pairs: &mut u64,
 ) -> Result<Sixteen, Memory>
     requires depth { depth < 64 }
-    requires part { (path : ℕ → ℕ) × IsPart depth path (plain entries.now) }
+    requires part { (path : ℕ → ℕ) × IsPartUnder depth path (plain entries.now) }
     requires hashed { AreHashed entries.now }
     ensures { IfOk result (λ y. AreBuilt depth version (plain entries.now) y) }
 {

@@ -1,7 +1,7 @@
 // The child of a node at a nibble, and whether a node was there before a landing.
 ghost use Rattle.std.specs.Prelude.{◌≡◌};
 ghost use Rattle.std.specs.Option.{option_copied};
-ghost use Rattle.jf_update.specs.Below.{IsBelow, IsBelowIf, IsKept};
+ghost use Rattle.jf_update.specs.Below.{IsBelow, IsBelowIf, TellsIfOlder};
 
 use jf_node::{Link, Seen};
 use jf_path::Nibble;
@@ -28,7 +28,7 @@ pub(crate) fn child_in(node: Option<&Link>, n: Nibble) -> Option<&Link>
 
 /// Whether there is a node, and it was there before the landing of `version`.
 pub(crate) fn is_kept(node: Option<&Link>, version: u64) -> bool
-    ensures { IsKept (option_copied node.entry) version result }
+    ensures { TellsIfOlder (option_copied node.entry) version result }
 {
     match node {
         None => false,

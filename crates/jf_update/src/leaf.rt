@@ -4,7 +4,7 @@ ghost use Rattle.std.specs.FinMap.{is_sorted};
 ghost use Rattle.jf_path.specs.Keys.{key_cmp};
 ghost use Rattle.jf_hash.specs.Hashes.{V};
 ghost use Rattle.jf_model.specs.Changes.{applied};
-ghost use Rattle.jf_landing.specs.Puts.{puts, IsPlace, IsFirstKey};
+ghost use Rattle.jf_model.specs.Puts.{puts, IsPlace, IsFirstKey};
 ghost use Rattle.jf_update.specs.Hashed.{plain, AreHashed, IsHashedOwn, own_entries};
 ghost use Rattle.jf_update.specs.Outcomes.{AreParts, AreShort, IsLeafOutcome};
 

@@ -4,7 +4,7 @@ ghost use Rattle.std.specs.Option.{option_copied};
 ghost use Rattle.jf_hash.specs.Slots.{Part};
 ghost use Rattle.jf_model.specs.Nodes.{Path};
 ghost use Rattle.jf_node.specs.Children.{content};
-ghost use Rattle.jf_landing.specs.Walk.{listed};
+ghost use Rattle.jf_model.specs.Walk.{listed};
 ghost use Rattle.jf_update.specs.Below.{IsFreshOver, IsStaleOver, name_below};
 ghost use Rattle.jf_update.specs.Made.{IsAtDepth};
 ghost use Rattle.jf_update.specs.Plains.{fresh_below, WouldRise};

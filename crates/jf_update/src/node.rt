@@ -3,9 +3,9 @@ ghost use Rattle.std.specs.Prelude.{◌≡◌, ◌<◌, ◌≤◌, ◌++◌, ℕ
 ghost use Rattle.std.specs.Option.{option_copied};
 ghost use Rattle.jf_hash.specs.Slots.{Part};
 ghost use Rattle.jf_node.specs.Children.{content, joined, FitFrom, SameElsewhere};
-ghost use Rattle.jf_landing.specs.Parts.{IsPart};
+ghost use Rattle.jf_model.specs.Parts.{IsPartUnder};
 ghost use Rattle.jf_update.specs.Made.{IsAtDepth, Topped};
-ghost use Rattle.jf_update.specs.Outcomes.{AreParts, IsOutcome, AreOutcome, IsPlaced};
+ghost use Rattle.jf_update.specs.Outcomes.{AreParts, IsOutcome, AreOutcome, IsOutcomePlaced};
 
 use crate::leaf::update_leaf;
 use crate::outcome::{NewChildren, Outcome};
@@ -39,7 +39,7 @@ pub(crate) fn rebuild(
 ) -> Result<Option<Link>, Memory>
     requires several { 2 ≤ length old.now.entries }
     requires children { FitFrom old.now.depth 0 made.children }
-    requires part { (path : ℕ → ℕ) × IsPart old.now.depth path (joined made.children) }
+    requires part { (path : ℕ → ℕ) × IsPartUnder old.now.depth path (joined made.children) }
     requires kept { SameElsewhere made.changed old.now.depth old.now.entries (joined made.children) }
     ensures { IfOk result (λ y. Topped old.now.depth version made.children y) }
 {
@@ -111,7 +111,7 @@ pub(crate) fn update_node(
 
 /// Puts the outcome for a child in its place, and notes whether it is new.
 fn place(made: &mut NewChildren, n: Nibble, outcome: Outcome)
-    ensures { IsPlaced made.old n outcome made.new }
+    ensures { IsOutcomePlaced made.old n outcome made.new }
 {
     if let Outcome::New(child) = outcome {
         made.children.set(n, child);

@@ -1,6 +1,6 @@
 // A piece of a list: the entries whose keys have one nibble, which stand one after another.
 ghost use Rattle.std.specs.Prelude.{◌<◌};
-ghost use Rattle.jf_landing.specs.Parts.{IsPieceEnd};
+ghost use Rattle.jf_model.specs.Parts.{IsPieceEnd};
 
 use jf_path::{Key, Nibble, nibble};
 

@@ -10,7 +10,7 @@ ghost use Rattle.jf_model.specs.Changes.{applied};
 ghost use Rattle.jf_model.specs.Nodes.{Path};
 ghost use Rattle.jf_node.specs.LinkFacts.{IsLinkIf};
 ghost use Rattle.jf_node.specs.Children.{content};
-ghost use Rattle.jf_landing.specs.Walk.{with_root};
+ghost use Rattle.jf_model.specs.Walk.{with_root};
 ghost use Rattle.jf_update.specs.Made.{IsAtDepth};
 ghost use Rattle.jf_update.specs.Outcomes.{AreParts};
 ghost use Rattle.jf_update.specs.Plains.{fresh_under};

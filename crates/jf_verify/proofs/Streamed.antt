@@ -1,25 +1,25 @@
 -- An input whose lines were taken by a judge, as one that was judged.
-use Rattle.std.proofs.Common.{◌≡◌, ◌⊎◌, inl, inr, ℕ, List, [], ◌∷◌, ◌++◌, Option, Some, option_map, refl, sym, ap, ◌∙◌, subst, append_assoc, append-nil}
-use Rattle.jf_input.specs.Feeds.{Took, Appends, HasRead, Reads, ReadsAll, Fed}
+use Rattle.std.proofs.Common.{◌≡◌, ℕ, List, [], ◌∷◌, ◌++◌, ap, ◌∙◌, ◌⊎◌, inl, inr, sym, subst, Option, option_map, append_assoc, Some, append-nil, refl}
+use Rattle.jf_io.proofs.Written.{written_more, nothing_written}
+use Rattle.jf_io.proofs.FirstLines.{all_first}
+use Rattle.jf_input.specs.Feeds.{Took, Appends, ReadsLinesOf, ReadsAll, HasRead, Fed}
 use Rattle.jf_input.specs.declared.feeding.Feeding.{Feeding}
 use Rattle.jf_input.specs.declared.feeding.Feeding.TheVariants as feeding
-use Rattle.jf_io.proofs.FirstLines.{all_first}
-use Rattle.jf_io.proofs.Written.{nothing_written, written_more}
-use Rattle.jf_verify.specs.Verdicts.{verdicts}
-use Rattle.jf_verify.specs.Steps.{State, begun, said, rest, TakesLine, TakesEnd}
-use Rattle.jf_verify.specs.Streams.{GetsFront, after_all, said_all, answers_of, Stops, JudgedBy, Judges, HasVerified, verified_of}
+use Rattle.jf_verify.specs.Steps.{StreamState, said, TakesLine, begun, said_to_end, TakesEnd}
+use Rattle.jf_verify.specs.Streams.{after_lines, said_all, Stops, JudgedBy, answers_of, HasVerified, Judges, verified_of, GetsFront}
 use Rattle.jf_verify.specs.declared.stream.Verified.{Verified}
+use Rattle.jf_verify.specs.Verdicts.{verdicts}
 use Rattle.jf_verify.specs.declared.stream.Verified.TheVariants as verified
-use Rattle.jf_verify.proofs.Folds.{said_all-more, verdicts-append, stops_after, stops_in}
+use Rattle.jf_verify.proofs.Folds.{said_all-more, verdicts-append, stops_in, stops_after}
 
 -- what the lines make of a judge, and what they add
-took_after : (F : Type 0) (s next : State) (ls : List (List ℕ)) (text : List ℕ) → Took {F = F} TakesLine s ls next text → (next ≡ after_all s ls) × (text ≡ said_all s ls)
-unfolding after_all said_all
+took_after : (F : Type 0) (s next : StreamState) (ls : List (List ℕ)) (text : List ℕ) → Took {F = F} TakesLine s ls next text → (next ≡ after_lines s ls) × (text ≡ said_all s ls)
+unfolding after_lines said_all
 took_after F s next [] text w = w
 took_after F s next (line ∷ ls) text w =
     let more = took_after F w.0 next ls w.2 w.4 in (
-      more.0 ∙ ap (λ (m : State). after_all m ls) w.3.0,
-      w.5 ∙ ap (λ t. t ++ w.2) w.3.1 ∙ ap (λ t. said s line ++ t) (more.1 ∙ ap (λ (m : State). said_all m ls) w.3.0),
+      more.0 ∙ ap (λ (m : StreamState). after_lines m ls) w.3.0,
+      w.5 ∙ ap (λ t. t ++ w.2) w.3.1 ∙ ap (λ t. said s line ++ t) (more.1 ∙ ap (λ (m : StreamState). said_all m ls) w.3.0),
     )
 
 -- a fault of the sink, or want of memory
@@ -30,8 +30,8 @@ judged_stop : (e : Verified) → IsStop e → (input taken left : List ℕ) (don
 judged_stop e (inl is) input taken left done text stops = subst (λ (v : Verified). JudgedBy v input taken left done text) (sym is) stops
 judged_stop e (inr is) input taken left done text stops = subst (λ (v : Verified). JudgedBy v input taken left done text) (sym is) stops
 
-module _ (F : Type 0) (source source' text text' : Option (List ℕ)) (done : List (List ℕ)) (mid : State) (add : List ℕ) (took : Took {F = F} TakesLine begun done mid add) (so_far : Option (List ℕ)) (put : Appends text so_far add) where
-  mid_is : mid ≡ after_all begun done
+module _ (F : Type 0) (source source' text text' : Option (List ℕ)) (done : List (List ℕ)) (mid : StreamState) (add : List ℕ) (took : Took {F = F} TakesLine begun done mid add) (so_far : Option (List ℕ)) (put : Appends text so_far add) where
+  mid_is : mid ≡ after_lines begun done
   mid_is = (took_after F begun mid done add took).0
 
   written : so_far ≡ option_map (λ t. t ++ answers_of done) text
@@ -42,12 +42,12 @@ module _ (F : Type 0) (source source' text text' : Option (List ℕ)) (done : Li
   written_front front more = more ∙ ap (option_map (λ t. t ++ front)) written ∙ written_more text (answers_of done) front
 
   -- in a line
-  judged_line : (line front missing : List ℕ) → front ++ missing ≡ said mid line → Appends so_far text' front → Reads source source' (done ++ line ∷ []) → (e : Verified) → IsStop e → HasVerified e source source' text text'
+  judged_line : (line front missing : List ℕ) → front ++ missing ≡ said mid line → Appends so_far text' front → ReadsLinesOf source source' (done ++ line ∷ []) → (e : Verified) → IsStop e → HasVerified e source source' text text'
   judged_line line front missing whole more reads e stop input is =
       let r = reads input is in
       let ls = done ++ line ∷ [] in
-      let next = rest (after_all begun ls) r.2.behind in
-      let whole' : front ++ missing ≡ said (after_all begun done) line = whole ∙ ap (λ (m : State). said m line) mid_is in
+      let next = said_to_end (after_lines begun ls) r.2.behind in
+      let whole' : front ++ missing ≡ said (after_lines begun done) line = whole ∙ ap (λ (m : StreamState). said m line) mid_is in
       record {
         taken = r.2.taken;
         left = r.0;
@@ -60,16 +60,16 @@ module _ (F : Type 0) (source source' text text' : Option (List ℕ)) (done : Li
         by = judged_stop e stop input r.2.taken r.0 ls (answers_of done ++ front) (inl (stops_in done line front missing whole'));
         missing = missing ++ next;
         front = append_assoc (answers_of done) front (missing ++ next)
-            ∙ ap (λ t. answers_of done ++ t) (sym (append_assoc front missing next) ∙ ap (λ t. t ++ next) whole') ∙ sym (append_assoc (answers_of done) (said (after_all begun done) line) next)
+            ∙ ap (λ t. answers_of done ++ t) (sym (append_assoc front missing next) ∙ ap (λ t. t ++ next) whole') ∙ sym (append_assoc (answers_of done) (said (after_lines begun done) line) next)
             ∙ ap (λ t. t ++ next) (sym (said_all-more begun done line)) ∙ sym (verdicts-append input ls r.2.behind r.2.lines_are);
       }
 
-  all_said : ReadsAll source source' done → (input : List ℕ) → source ≡ Some input → answers_of done ++ rest mid [] ≡ verdicts input
+  all_said : ReadsAll source source' done → (input : List ℕ) → source ≡ Some input → answers_of done ++ said_to_end mid [] ≡ verdicts input
   all_said reads input is =
-      ap (λ (s : State). answers_of done ++ rest s []) mid_is ∙ sym (verdicts-append input done [] ((reads input is).1 ∙ sym (append-nil done)))
+      ap (λ (s : StreamState). answers_of done ++ said_to_end s []) mid_is ∙ sym (verdicts-append input done [] ((reads input is).1 ∙ sym (append-nil done)))
 
   -- behind the last line
-  judged_end : (front missing : List ℕ) → front ++ missing ≡ rest mid [] → Appends so_far text' front → ReadsAll source source' done → (e : Verified) → IsStop e → HasVerified e source source' text text'
+  judged_end : (front missing : List ℕ) → front ++ missing ≡ said_to_end mid [] → Appends so_far text' front → ReadsAll source source' done → (e : Verified) → IsStop e → HasVerified e source source' text text'
   judged_end front missing whole more reads e stop input is =
       let r = reads input is in
       let all = answers_of done ++ front in
@@ -101,12 +101,12 @@ module _ (F : Type 0) (source source' text text' : Option (List ℕ)) (done : Li
     written = answers_of done;
     appended = same ∙ written;
     by = by;
-    missing = rest (after_all begun done) r.behind;
+    missing = said_to_end (after_lines begun done) r.behind;
     front = sym (verdicts-append input done r.behind r.lines_are);
   }
 
   -- all of it
-  judged_all : (t : List ℕ) → t ≡ rest mid [] → Appends so_far text' t → ReadsAll source source' done → HasVerified verified.Done source source' text text'
+  judged_all : (t : List ℕ) → t ≡ said_to_end mid [] → Appends so_far text' t → ReadsAll source source' done → HasVerified verified.Done source source' text text'
   judged_all t whole more reads input is =
       let r = reads input is in
       let said_is : answers_of done ++ t ≡ verdicts input = ap (λ x. answers_of done ++ x) whole ∙ all_said reads input is in
@@ -125,8 +125,7 @@ module _ (F : Type 0) (source source' text text' : Option (List ℕ)) (done : Li
       }
 
 -- ---- by how it was fed
-
-module _ {F : Type 0} {last : State} {source source' text text' : Option (List ℕ)} where
+module _ {F : Type 0} {last : StreamState} {source source' text text' : Option (List ℕ)} where
   pub judged_done : Fed {F = F} TakesLine TakesEnd feeding.Done begun last source source' text text' → HasVerified verified.Done source source' text text'
   judged_done f = elim f.ended [
     | inl b ↦ absurd b.2
@@ -160,7 +159,7 @@ module _ {F : Type 0} {last : State} {source source' text text' : Option (List �
     | inl b ↦ absurd b.2
     | inr e ↦ elim e [
       | inl l ↦ judged_line F source source' text text' f.done f.mid f.said f.took f.text_so_far f.written l.0 [] (said f.mid l.0) refl (l.1.1 ∙ nothing_written f.text_so_far) l.2 verified.Memory (inr refl)
-      | inr a ↦ judged_end F source source' text text' f.done f.mid f.said f.took f.text_so_far f.written [] (rest f.mid []) refl (a.0.1 ∙ nothing_written f.text_so_far) a.1 verified.Memory (inr refl)
+      | inr a ↦ judged_end F source source' text text' f.done f.mid f.said f.took f.text_so_far f.written [] (said_to_end f.mid []) refl (a.0.1 ∙ nothing_written f.text_so_far) a.1 verified.Memory (inr refl)
     ]
   ]
 
@@ -186,7 +185,6 @@ write_fault_of feeding.Memory e = absurd (cc)
 write_fault_of (feeding.Stopped why) e = absurd (cc)
 
 -- ---- what follows of any end
-
 pub verified_done : (how : Verified) (source source' text text' : Option (List ℕ)) → HasVerified how source source' text text' → (input : List ℕ) → source ≡ Some input → how ≡ verified.Done
     → (source' ≡ Some []) × (text' ≡ option_map (λ t. t ++ verdicts input) text)
 verified_done how source source' text text' v input is done =

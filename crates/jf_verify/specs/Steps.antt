@@ -1,37 +1,36 @@
 -- An input that is judged line by line: what is known between two lines, and what one line makes of it.
-use Rattle.std.specs.Prelude.{◌≡◌, ℕ, ◌+◌, ◌-◌, ◌==◌, if◌then◌else◌, List, [], ◌∷◌, ◌++◌, Option, Some, None, Result, Ok, Err}
+use Rattle.std.specs.Prelude.{ℕ, List, ◌≡◌, ◌+◌, ◌++◌, [], Option, Some, None, ◌==◌, if◌then◌else◌, ◌∷◌, ◌-◌, Result, Ok, Err}
 use Rattle.jf_hash.specs.Hashes.{K}
 use Rattle.jf_collide.specs.declared.judged.Judged.{Judged}
-use Rattle.jf_blocks.specs.Reading.{line_read, first_of, named_of, claim_of, leaf_of, side_of}
 use Rattle.jf_blocks.specs.declared.first.FirstLine.{FirstLine}
+use Rattle.jf_blocks.specs.Reading.{line_read, first_line_of, named_of, claim_of, leaf_line_of, side_of}
 use Rattle.jf_blocks.specs.declared.first.FirstLine.TheVariants as first
-use Rattle.jf_verify.specs.declared.stage.Heading.{Heading}
 use Rattle.jf_verify.specs.declared.stage.Stage.{Stage}
+use Rattle.jf_verify.specs.Verdicts.{Judging, nothing_known, syntax_text, judged}
+use Rattle.jf_verify.specs.declared.stage.Heading.{Heading}
 use Rattle.jf_verify.specs.declared.stage.Stage.TheVariants as stage
-use Rattle.jf_verify.specs.Verdicts.{Judging, judged, syntax_text, nothing_known}
 
 -- what is known between two lines: the number of the next one, what was set and accepted, and how far a block is read
-pub record State : Type 0 where
+pub record StreamState : Type 0 where
   pub at : ℕ
   pub known : Judging
   pub stage : Stage
 
 -- nothing is read yet
-abbrev pub begun : State
+abbrev pub begun : StreamState
 begun = record { at = 1; known = nothing_known; stage = stage.Between }
 
 -- the text that answers a line, and after the line what is known and how far a block is read
-pub record Step : Type 0 where
+pub record StreamStep : Type 0 where
   pub text : List ℕ
   pub known : Judging
   pub stage : Stage
 
 -- a step was made: its text is appended, and what is known and how far a block is read are as it says
-abbrev pub IsMade : Step → List ℕ → List ℕ → Judging → Stage → Type 0
+abbrev pub IsMade : StreamStep → List ℕ → List ℕ → Judging → Stage → Type 0
 IsMade step before written known next = (written ≡ before ++ step.text) × (known ≡ step.known) × (next ≡ step.stage)
 
 -- ---- lines that add nothing to what is known
-
 -- the text that answers a line, and how far a block is read after it
 pub record Turn : Type 0 where
   pub text : List ℕ
@@ -42,7 +41,7 @@ abbrev pub IsTaken : Turn → List ℕ → List ℕ → Stage → Type 0
 IsTaken turn before written next = (written ≡ before ++ turn.text) × (next ≡ turn.stage)
 
 -- a turn as a step that adds nothing to what is known
-abbrev pub keeps : Judging → Turn → Step
+abbrev pub keeps : Judging → Turn → StreamStep
 keeps j turn = record { text = turn.text; known = j; stage = turn.stage }
 
 -- the line doesn't match: it is named, and reading goes on between blocks
@@ -69,23 +68,22 @@ claim_turn at heading key None = no_match at
 claim_turn at heading key (Some claim) = silent (stage.Leaf heading key claim)
 
 -- ---- other lines
-
 -- a line between blocks
-abbrev pub first_step : ℕ → Judging → Option FirstLine → Step
+abbrev pub first_step : ℕ → Judging → Option FirstLine → StreamStep
 first_step at j None = keeps j (no_match at)
 first_step at j (Some (first.Root root)) = record { text = []; known = record { root = Some root; claims = j.claims }; stage = stage.Between }
 first_step at j (Some (first.Proof n)) = keeps j (begins at n j.root)
 
 -- a whole block is judged
-abbrev pub whole : Judging → List ℕ → Judged → Step
+abbrev pub whole : Judging → List ℕ → Judged → StreamStep
 whole j root block = let a = judged root j.claims block in record { text = a.0; known = record { root = j.root; claims = a.1 }; stage = stage.Between }
 
 -- what was read of a block: it is whole if no sibling is missing
-abbrev pub sided : Judging → Heading → Judged → Step
+abbrev pub sided : Judging → Heading → Judged → StreamStep
 sided j heading block = if heading.missing == 0 then whole j heading.root block else keeps j (silent (stage.Sides heading block))
 
 -- the line of a leaf
-abbrev pub leaf_step : ℕ → Judging → Heading → List ℕ → Option (List ℕ) → Option (Option (List ℕ × List ℕ)) → Step
+abbrev pub leaf_step : ℕ → Judging → Heading → List ℕ → Option (List ℕ) → Option (Option (List ℕ × List ℕ)) → StreamStep
 leaf_step at j heading key claim None = keeps j (no_match at)
 leaf_step at j heading key claim (Some leaf) = sided j heading (record { key = key; claim = claim; proof = record { leaf = leaf; siblings = [] } })
 
@@ -98,25 +96,25 @@ abbrev pub one_less : Heading → Heading
 one_less heading = record { root = heading.root; missing = heading.missing - 1 }
 
 -- the line of a sibling
-abbrev pub side_step : ℕ → Judging → Heading → Judged → Option (List ℕ) → Step
+abbrev pub side_step : ℕ → Judging → Heading → Judged → Option (List ℕ) → StreamStep
 side_step at j heading block None = keeps j (no_match at)
 side_step at j heading block (Some h) = sided j (one_less heading) (with_side block h)
 
 -- what a line makes, by how far a block is read
-unfoldable pub line_step : ℕ → Judging → Stage → List ℕ → Step
-line_step at j stage.Between line = first_step at j (line_read first_of line)
+unfoldable pub line_step : ℕ → Judging → Stage → List ℕ → StreamStep
+line_step at j stage.Between line = first_step at j (line_read first_line_of line)
 line_step at j (stage.Name heading) line = keeps j (name_turn at heading (line_read named_of line))
 line_step at j (stage.Claim heading key) line = keeps j (claim_turn at heading key (line_read claim_of line))
-line_step at j (stage.Leaf heading key claim) line = leaf_step at j heading key claim (line_read leaf_of line)
+line_step at j (stage.Leaf heading key claim) line = leaf_step at j heading key claim (line_read leaf_line_of line)
 line_step at j (stage.Sides heading block) line = side_step at j heading block (line_read side_of line)
 
 -- the text that answers one line
-abbrev pub said : State → List ℕ → List ℕ
+abbrev pub said : StreamState → List ℕ → List ℕ
 said s line = (line_step s.at s.known s.stage line).text
 
 -- what is known after one line
-abbrev pub after : State → List ℕ → State
-after s line = let a = line_step s.at s.known s.stage line in record { at = s.at + 1; known = a.known; stage = a.stage }
+abbrev pub after_line : StreamState → List ℕ → StreamState
+after_line s line = let a = line_step s.at s.known s.stage line in record { at = s.at + 1; known = a.known; stage = a.stage }
 
 -- the text that answers the end of the input: nothing between blocks
 abbrev pub end_text : ℕ → Stage → List ℕ
@@ -127,18 +125,17 @@ end_text at (stage.Leaf heading key claim) = syntax_text at
 end_text at (stage.Sides heading block) = syntax_text at
 
 -- the text that answers the lines still to come
-unfoldable pub rest : State → List (List ℕ) → List ℕ
-rest s [] = end_text s.at s.stage
-rest s (line ∷ ls) = said s line ++ rest (after s line) ls
+unfoldable pub said_to_end : StreamState → List (List ℕ) → List ℕ
+said_to_end s [] = end_text s.at s.stage
+said_to_end s (line ∷ ls) = said s line ++ said_to_end (after_line s line) ls
 
 -- ---- a machine that takes lines
-
 -- what a line makes of it and adds; after a refusal nothing is known of it
-abbrev pub TakesLine : {F : Type 0} → State → List ℕ → State → Result (List ℕ) F → Type 0
-TakesLine s line next (Ok text) = (next ≡ after s line) × (text ≡ said s line)
+abbrev pub TakesLine : {F : Type 0} → StreamState → List ℕ → StreamState → Result (List ℕ) F → Type 0
+TakesLine s line next (Ok text) = (next ≡ after_line s line) × (text ≡ said s line)
 TakesLine s line next (Err why) = Unit {0}
 
 -- what the end adds
-abbrev pub TakesEnd : {F : Type 0} → State → State → Result (List ℕ) F → Type 0
-TakesEnd s next (Ok text) = text ≡ rest s []
+abbrev pub TakesEnd : {F : Type 0} → StreamState → StreamState → Result (List ℕ) F → Type 0
+TakesEnd s next (Ok text) = text ≡ said_to_end s []
 TakesEnd s next (Err why) = Unit {0}

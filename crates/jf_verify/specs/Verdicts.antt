@@ -1,15 +1,15 @@
 -- The text that answers an input of roots and proof blocks (docs/FORMATS.md, "Judging proofs").
-use Rattle.std.specs.Prelude.{ℕ, zero, suc, ◌+◌, ◌-◌, Bool, true, false, not, ◌&&◌, List, [], ◌∷◌, ◌++◌, drop, length, find, Option, Some, None, Ok, Err, codes, decimal, bytes_eq}
+use Rattle.std.specs.Prelude.{ℕ, List, Option, [], ◌∷◌, codes, decimal, Bool, true, false, Some, None, bytes_eq, not, ◌&&◌, find, ◌+◌, ◌++◌, ◌-◌, drop, Ok, Err, zero, suc, length}
 use Rattle.hex.specs.Hex.{encode_lower}
 use Rattle.jf_hash.specs.Hashes.{K}
-use Rattle.jf_evidence.specs.Proofs.{refusal}
-use Rattle.jf_evidence.specs.Clashes.{clash}
+use Rattle.jf_io.specs.Lines.{lines}
 use Rattle.jf_evidence.specs.declared.proof.ProofFault.{ProofFault}
+use Rattle.jf_evidence.specs.Clashes.{clash}
+use Rattle.jf_evidence.specs.Proofs.{refusal}
 use Rattle.jf_evidence.specs.declared.proof.ProofFault.TheVariants as fault
 use Rattle.jf_collide.specs.declared.judged.Judged.{Judged}
-use Rattle.jf_io.specs.Lines.{lines}
 use Rattle.jf_text.specs.Words.{line_text}
-use Rattle.jf_blocks.specs.Reading.{Place, Read, Block, start, line_read, first_of, proof_block}
+use Rattle.jf_blocks.specs.Reading.{Block, Place, Read, proof_block, line_read, first_line_of, first_place}
 use Rattle.jf_blocks.specs.declared.first.FirstLine.{FirstLine}
 use Rattle.jf_blocks.specs.declared.first.FirstLine.TheVariants as first
 use Rattle.jf_verify.specs.declared.accepted.Accepted.{Accepted}
@@ -20,7 +20,6 @@ pub record Judging : Type 0 where
   pub claims : List Accepted
 
 -- ---- one block
-
 -- the number of the check that failed
 abbrev pub fault_number : ProofFault → ℕ
 fault_number fault.TooDeep = 1
@@ -71,14 +70,13 @@ judged root claims j =
     ]
 
 -- ---- what comes next
-
 -- the line `syntax`, with the number of a line
 abbrev pub syntax_text : ℕ → List ℕ
 syntax_text at = line_text (codes "syntax" ∷ decimal at ∷ [])
 
 -- the place after line `at`
-abbrev pub behind : ℕ → Place → Place
-behind at p = record { at = at + 1; left = drop (at + 1 - p.at) p.left }
+abbrev pub place_after : ℕ → Place → Place
+place_after at p = record { at = at + 1; left = drop (at + 1 - p.at) p.left }
 
 -- the text that answers a root or a block, what is known after it, and the place after it
 pub record Said : Type 0 where
@@ -88,7 +86,7 @@ pub record Said : Type 0 where
 
 -- line `at` is the first that doesn't match: it is named, and reading goes on after it
 abbrev pub wrong_at : ℕ → Judging → Place → Said
-wrong_at at j p = record { text = syntax_text at; known = j; place = behind at p }
+wrong_at at j p = record { text = syntax_text at; known = j; place = place_after at p }
 
 -- a block was read and is judged, or one of its lines doesn't match
 abbrev pub say_block : List ℕ → Judging → Place → Read Block → Said
@@ -102,12 +100,11 @@ say j p q (Some (first.Root root)) = record { text = []; known = record { root =
 say j p q (Some (first.Proof n)) = elim j.root [ None ↦ wrong_at p.at j p | Some root ↦ say_block root j p (proof_block n q) ]
 
 -- ---- all of the input
-
 -- the text that answers the lines from a place on; n is at least their number
 unfoldable pub verdicts_from : ℕ → Judging → Place → List ℕ
 verdicts_from zero j p = []
 verdicts_from (suc n) j p =
-    elim p.left [ [] ↦ [] | line ∷ rest ↦ let s = say j p (record { at = p.at + 1; left = rest }) (line_read first_of line) in s.text ++ verdicts_from n s.known s.place ]
+    elim p.left [ [] ↦ [] | line ∷ rest ↦ let s = say j p (record { at = p.at + 1; left = rest }) (line_read first_line_of line) in s.text ++ verdicts_from n s.known s.place ]
 
 -- no root is set, and no claim is accepted
 abbrev pub nothing_known : Judging
@@ -115,4 +112,4 @@ nothing_known = record { root = None; claims = [] }
 
 -- the text that answers an input
 unfoldable pub verdicts : List ℕ → List ℕ
-verdicts input = verdicts_from (length (lines input)) nothing_known (start (lines input))
+verdicts input = verdicts_from (length (lines input)) nothing_known (first_place (lines input))

@@ -1,7 +1,7 @@
 // An input that is judged line by line.
 ghost use Rattle.std.specs.Prelude.{◌≡◌, ℕ, ◌+◌, List, [], ◌∷◌, ◌++◌, IfOk, OnOk, OnErr};
 ghost use Rattle.jf_text.specs.Words.{Extends};
-ghost use Rattle.jf_verify.specs.Steps.{State, begun, said, after, rest, end_text};
+ghost use Rattle.jf_verify.specs.Steps.{StreamState, begun, said, after_line, said_to_end, end_text};
 
 use crate::answers::write_syntax;
 use crate::known::Known;
@@ -24,9 +24,9 @@ pub struct Judge {
 }
 
 impl Model for Judge {
-    ghost use Rattle.jf_verify.specs.Steps.{State};
+    ghost use Rattle.jf_verify.specs.Steps.{StreamState};
 
-    ghost Value = { State };
+    ghost Value = { StreamState };
 
     ghost view = { λ j. record { at = j.at; known = j.known; stage = j.stage } };
 }
@@ -46,8 +46,8 @@ impl Judge {
     /// Reads the next line, and appends the text that answers it.
     pub fn line(&mut self, alloc: Global, line: &[u8], out: &mut Bytes) -> Result<(), Memory>
         ensures said { OnOk result (out.new ≡ out.old ++ said self.old line.now) }
-        ensures after { OnOk result (self.new ≡ after self.old line.now) }
-        ensures rest { OnOk result ((ls : List (List ℕ)) → out.new ++ rest self.new ls ≡ out.old ++ rest self.old (line.now ∷ ls)) }
+        ensures after { OnOk result (self.new ≡ after_line self.old line.now) }
+        ensures rest { OnOk result ((ls : List (List ℕ)) → out.new ++ said_to_end self.new ls ≡ out.old ++ said_to_end self.old (line.now ∷ ls)) }
         ensures err { OnErr result ((out.new ≡ out.old) × (self.new ≡ begun)) }
     {
         let before = out.len();
@@ -65,9 +65,9 @@ impl Judge {
     }
 
     /// Appends the text that answers the end of the input. The judge is then as new.
-    #[tactic(auto, unfolding(crate::specs::Steps::rest))]
+    #[tactic(auto, unfolding(crate::specs::Steps::said_to_end))]
     pub fn end(&mut self, alloc: Global, out: &mut Bytes) -> Result<(), Memory>
-        ensures ok { OnOk result (out.new ≡ out.old ++ rest self.old []) }
+        ensures ok { OnOk result (out.new ≡ out.old ++ said_to_end self.old []) }
         ensures err { OnErr result (out.new ≡ out.old) }
         ensures begun { self.new ≡ begun }
     {
@@ -85,7 +85,7 @@ impl Judge {
     /// The judge after one line more. If it is refused, a part of the text may have been appended.
     fn behind(self, alloc: Global, line: &[u8], out: &mut Bytes) -> Result<Judge, Memory>
         ensures said { OnOk result (out.new ≡ out.old ++ said self line.now) }
-        ensures after { IfOk result (λ judge. judge ≡ after self line.now) }
+        ensures after { IfOk result (λ judge. judge ≡ after_line self line.now) }
         ensures err { OnErr result (Extends out.old out.new) }
     {
         let Judge {

@@ -1,7 +1,7 @@
 // What one line more makes of a judge, by how far the present block is read.
 ghost use Rattle.std.specs.Prelude.{IfOk, OnErr};
 ghost use Rattle.jf_text.specs.Words.{Extends};
-ghost use Rattle.jf_blocks.specs.Reading.{line_read, first_of, named_of, claim_of};
+ghost use Rattle.jf_blocks.specs.Reading.{line_read, first_line_of, named_of, claim_of};
 ghost use Rattle.jf_verify.specs.Steps.{IsMade, IsTaken, no_match, begins, first_step, name_turn, claim_turn, sided, with_side, one_less, line_step};
 
 use crate::answers::write_syntax;
@@ -58,7 +58,7 @@ fn wrong(at: u64, out: &mut Bytes) -> Result<Stage, Memory>
 
 /// A line between blocks.
 fn between(known: &mut Known, at: u64, line: &[u8], out: &mut Bytes) -> Result<Stage, Memory>
-    ensures ok { IfOk result (λ next. IsMade (first_step at known.old (line_read first_of line.now)) out.old out.new known.new next) }
+    ensures ok { IfOk result (λ next. IsMade (first_step at known.old (line_read first_line_of line.now)) out.old out.new known.new next) }
     ensures err { OnErr result (Extends out.old out.new) }
 {
     match first_line(line) {

@@ -1,5 +1,6 @@
 // An input from a source, judged into a sink.
-ghost use Rattle.std.specs.Prelude.{◌≡◌, ◌⊎◌, ℕ, ◌-◌, ◌<◌, ◌≤◌, ◌^◌, List, [], ◌++◌, Some, option_map};
+ghost use Rattle.std.specs.Prelude.{◌≡◌, ℕ, ◌-◌, ◌<◌, ◌≤◌, ◌^◌, List, [], ◌++◌, Some, option_map};
+ghost use Rattle.jf_path.specs.Faults.{HasCause};
 ghost use Rattle.jf_verify.specs.Verdicts.{verdicts};
 ghost use Rattle.jf_verify.specs.Streams.{GetsFront, HasVerified, verified_of};
 
@@ -31,8 +32,8 @@ pub fn verify_stream<S: Source, K: Sink>(alloc: Global, source: &mut S, sink: &m
     ensures judged { HasVerified result (S.rest source.old) (S.rest source.new) (K.text sink.old) (K.text sink.new) }
     ensures done { (input : List ℕ) → S.rest source.old ≡ Some input → result ≡ Verified.Done → (S.rest source.new ≡ Some []) × (K.text sink.new ≡ option_map (λ t. t ++ verdicts input) (K.text sink.old)) }
     ensures front { (input : List ℕ) → S.rest source.old ≡ Some input → GetsFront (K.text sink.old) (K.text sink.new) (verdicts input) }
-    ensures read { result ≡ Verified.ReadFault → (S.faults source.old < S.faults source.new) ⊎ (S.faults source.old ≡ 2 ^ 64 - 1) }
-    ensures write { result ≡ Verified.WriteFault → (K.faults sink.old < K.faults sink.new) ⊎ (K.faults sink.old ≡ 2 ^ 64 - 1) }
+    ensures read { result ≡ Verified.ReadFault → HasCause (S.faults source.old) (S.faults source.new) }
+    ensures write { result ≡ Verified.WriteFault → HasCause (K.faults sink.old) (K.faults sink.new) }
     ensures counts { (S.faults source.old ≤ S.faults source.new) × (K.faults sink.old ≤ K.faults sink.new) }
 {
     let mut judge = Judge::new(alloc);

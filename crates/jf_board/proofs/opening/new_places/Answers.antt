@@ -1,6 +1,6 @@
 use Rattle.std.proofs.Common.{◌≡◌, ℕ, ◌+◌, ◌∙◌, List, [], ◌∷◌, length, ap, sym, subst, arith, length-append}
 use Rattle.jf_board.specs.declared.views.PrunerView.{PrunerView}
-use Rattle.jf_board.specs.States.{pruner_of, AreNew, PlaceState}
+use Rattle.jf_board.specs.States.{pruner_of, AreNewPlaces, PlaceState}
 use Rattle.jf_board.specs.Steps.{newly_numbered}
 use Rattle.jf_board.proofs.Pinning.{new_longer}
 use Rattle.jf_board.proofs.opening.new_places.Goals as goal
@@ -15,5 +15,5 @@ loop-preserved c =
       size = i.size;
       few = i.few;
       many = len ∙ ap (λ (z : ℕ). z + 1) i.many;
-      new = subst (λ (xs : List PlaceState). AreNew c.args.board.now xs 0) (sym p.items) (new_longer c.args.board.now c.loop.places.items c.new_place.result 0 i.new n.place.0 (n.place.1 ∙ ap newly_numbered (counted ∙ omega arith)));
+      new = subst (λ (xs : List PlaceState). AreNewPlaces c.args.board.now xs 0) (sym p.items) (new_longer c.args.board.now c.loop.places.items c.new_place.result 0 i.new n.place.0 (n.place.1 ∙ ap newly_numbered (counted ∙ omega arith)));
     }

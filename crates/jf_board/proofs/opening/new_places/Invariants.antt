@@ -1,5 +1,5 @@
 use Rattle.std.proofs.Common.{◌≡◌, ◌+◌, ◌*◌, ◌≤◌, length}
-use Rattle.jf_board.specs.States.{pruner_of, IsPruner, AreNew}
+use Rattle.jf_board.specs.States.{pruner_of, IsPruner, AreNewPlaces}
 use Rattle.jf_board.proofs.opening.new_places.Given as goal
 
 abbrev pub invariant-loop : goal.invariant-loop
@@ -10,5 +10,5 @@ invariant-loop l = record {
   size : 8 * l.end + 3 ≡ l.board.words;
   few : l.end ≤ 16;
   many : length l.places.items ≡ l.counter;
-  new : AreNew l.board l.places.items 0;
+  new : AreNewPlaces l.board l.places.items 0;
 }

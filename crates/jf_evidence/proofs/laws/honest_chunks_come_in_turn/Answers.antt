@@ -1,4 +1,4 @@
-use Rattle.jf_evidence.specs.ChunkTurns.{come-in-turn}
+use Rattle.jf_evidence.proofs.ChunkTurns.{come-in-turn}
 use Rattle.jf_evidence.proofs.laws.honest_chunks_come_in_turn.Goals as goal
 
 pub returns : goal.returns

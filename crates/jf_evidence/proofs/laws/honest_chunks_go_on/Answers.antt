@@ -1,4 +1,4 @@
-use Rattle.jf_evidence.specs.ChunkTurns.{goes-on}
+use Rattle.jf_evidence.proofs.ChunkTurns.{goes-on}
 use Rattle.jf_evidence.proofs.laws.honest_chunks_go_on.Goals as goal
 
 pub returns : goal.returns

@@ -1,9 +1,9 @@
 use Rattle.std.proofs.Common.{rules, ◌≡◌, ℕ, ◌+◌, ◌-◌, ◌<◌, ◌≤◌, ◌∙◌, sym, ap₂, length, take, drop, take_all, length-drop, arith, List, [], ◌∷◌, get_or, subst}
 use Rattle.jf_hash.specs.Hashes.{E, L, N}
 use Rattle.jf_hash.specs.Roots.{Leaf, leaves_root}
-use Rattle.jf_hash.specs.RootLaws.{leaves_root-none, leaves_root-one, leaves_root-split}
+use Rattle.jf_hash.proofs.RootLaws.{leaves_root-none, leaves_root-one, leaves_root-split}
 use Rattle.jf_hash.specs.Parts.{IsPart, IsFirstOne}
-use Rattle.jf_hash.specs.Split.{deeper, zeros_ones, zeros_part, ones_part}
+use Rattle.jf_hash.proofs.Split.{deeper, zeros_ones, zeros_part, ones_part}
 use Rattle.jf_hash.proofs.plain.+part_root.Goals as goal
 
 whole : (p : ℕ) (es : List Leaf) → take (length es - p) (drop p es) ≡ drop p es

@@ -1,6 +1,6 @@
 use Rattle.std.proofs.Common.{◌≡◌, ◌+◌, ◌-◌, ◌∙◌, ap, ap₂, arith, length, take, drop, take_all}
 use Rattle.jf_hash.specs.Slots.{range_hash}
-use Rattle.jf_hash.specs.SlotLaws.{range_hash-all}
+use Rattle.jf_hash.proofs.SlotLaws.{range_hash-all}
 use Rattle.jf_hash.proofs.Halves.{range_within, small_range, length-places}
 use Rattle.jf_hash.proofs.range.sixteen.Goals as goal
 

@@ -2,9 +2,9 @@ use Rattle.std.proofs.Common.{get_or, ◌≡◌, ℕ, List, ◌+◌, ◌-◌, �
 use Rattle.std.proofs.lemmas.List.{take_rest}
 use Rattle.jf_hash.specs.Slots.{range_hash}
 use Rattle.jf_hash.specs.Ranges.{Agree, hashes_within, pairs_within}
-use Rattle.jf_hash.specs.RangeLaws.{length-hashes_within, within_whole, pairs_within-none, pairs_within-one, pairs_within-halves}
+use Rattle.jf_hash.proofs.RangeLaws.{length-hashes_within, within_whole, pairs_within-none, pairs_within-one, pairs_within-halves}
 use Rattle.jf_hash.proofs.Halves.{halves, not_one, hash_at-one}
-use Rattle.jf_hash.proofs.Kept.{agree_same, agree_take, agree_drop, within_halves, hashed_over, hashes_within-zero, behind_left, all_written}
+use Rattle.jf_hash.proofs.RangeHashes.{agree_same, agree_take, agree_drop, within_halves, hashed_over, hashes_within-zero, after_left, all_written}
 use Rattle.jf_hash.specs.declared.slot.Slot.{Slot}
 use Rattle.jf_hash.proofs.ranges.+refresh.Goals as goal
 
@@ -39,7 +39,7 @@ returns-clause-value t c level olds small long at agree =
     let left_room : length c.refresh-below_left.new.hashes + 1 ≡ half = room_of (level - 1) half (take half slots) c.refresh-below_left.new.hashes h.is left.1 in
     let room : length hashes + 1 ≡ half + half = c.requires.room ∙ long ∙ h.twice in
     let right = c.refresh-below_right.ensures.value (level - 1) (drop half olds) (omega arith) back_long
-    (behind_left half hashes c.refresh-below_left.new.hashes h.some room left_room ∙ before.1)
+    (after_left half hashes c.refresh-below_left.new.hashes h.some room left_room ∙ before.1)
     (subst (λ b. Agree (drop half olds) b (take (length slots - half) (drop half slots))) (sym changed_back) (subst (Agree (drop half olds) (drop half changed)) (sym slots_back) (agree_drop half olds changed slots agree))) in
     let right_room : length c.refresh-below_right.new.hashes + 1 ≡ half = room_of (level - 1) half (take (length slots - half) (drop half slots)) c.refresh-below_right.new.hashes h.is right.1 in
     let all = hashed_over level half slots c.refresh-below_left.result.0 c.refresh-below_right.result.0 c.hash_over-here.result.0 c.refresh-below_left.new.hashes c.refresh-below_right.new.hashes some h.is left

@@ -1,5 +1,5 @@
 use Rattle.std.proofs.Common.{ap, le_refl, Ok, Err, arith}
-use Rattle.jf_input.proofs.SoFar.{so_far_none, so_far_fetched, so_far_line, fed_unread, fed_wanting, at_end_none, at_end_line, fed_at_line, fed_behind}
+use Rattle.jf_input.proofs.Progress.{so_far_none, so_far_fetched, so_far_line, fed_unread, fed_wanting, at_end_none, at_end_line, fed_at_line, fed_behind}
 use Rattle.jf_input.proofs.feeding.feed.Goals as goal
 
 pub loop-turn-init : goal.loop-turn-init

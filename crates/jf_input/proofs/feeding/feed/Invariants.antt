@@ -1,5 +1,5 @@
 use Rattle.std.proofs.Common.{◌≤◌}
-use Rattle.jf_input.proofs.SoFar.{SoFar}
+use Rattle.jf_input.proofs.Progress.{SoFar}
 use Rattle.jf_input.proofs.feeding.feed.Given as goal
 
 -- the lines so far were taken, and what they add written

@@ -1,10 +1,10 @@
 use Rattle.std.proofs.Common.{◌≡◌, ◌+◌, ◌≤◌, [], ◌∷◌, length, sym, arith, ap, ap₂, ◌∙◌, subst, Some}
 use Rattle.std.proofs.lemmas.Result.{on_ok_weaker}
 use Rattle.std.specs.Prelude.{OnOk}
-use Rattle.jf_disk.specs.Disk.{History, Content, content, put_at}
-use Rattle.jf_disk.specs.CrashLaws.{told_same}
+use Rattle.jf_disk.specs.Disk.{History, Content, content_on, put_at}
+use Rattle.jf_disk.proofs.CrashLaws.{told_same}
 use Rattle.jf_frame.specs.Logs.{IsReady, StopsInAppend, framed}
-use Rattle.jf_frame.specs.LogLaws.{begun_ready, length-begun}
+use Rattle.jf_frame.proofs.LogLaws.{begun_ready, length-begun}
 use Rattle.jf_pair.proofs.FirstRecord.{first_stops, put_first}
 use Rattle.jf_pair.proofs.checkpoint.write_first.Goals as goal
 
@@ -26,15 +26,15 @@ returns-clause-written g c = λ h told.
     let same : c.begin.new.self.side ≡ w = c.in_ok-begin.ensures.same.side in
     let zero : c.begin.new.self.offset ≡ 0 = c.in_ok-begin.ensures.offset in
     let x = c.in_ok-begin.ensures.bytes h told in
-    let bytes = (content w h.now).bytes in
+    let bytes = (content_on w h.now).bytes in
     let ready = subst (λ s. IsReady s c.begin.new.self.offset [] x.0.now) (sym same) (subst (λ n. IsReady w n [] x.0.now) (sym zero) (begun_ready w x.0.now bytes x.2)) in
-    let one : length (content w x.0.now).bytes ≡ 1 = ap (λ (c : Content). length c.bytes) x.2 ∙ length-begun bytes in
-    let all : put_at c.begin.new.self.offset (1 ∷ frame) (content c.begin.new.self.side x.0.now).bytes ≡ 1 ∷ frame = ap₂ (λ n s. put_at n (1 ∷ frame) (content s x.0.now).bytes) zero same ∙ put_first frame (content w x.0.now).bytes one in
+    let one : length (content_on w x.0.now).bytes ≡ 1 = ap (λ (c : Content). length c.bytes) x.2 ∙ length-begun bytes in
+    let all : put_at c.begin.new.self.offset (1 ∷ frame) (content_on c.begin.new.self.side x.0.now).bytes ≡ 1 ∷ frame = ap₂ (λ n s. put_at n (1 ∷ frame) (content_on s x.0.now).bytes) zero same ∙ put_first frame (content_on w x.0.now).bytes one in
     on_ok_weaker
-    {P = (k : History) × (g.D.Disk.history c.append.new.disk ≡ Some k) × ((content c.begin.new.self.side k.now).bytes ≡ put_at c.begin.new.self.offset (1 ∷ frame) (content c.begin.new.self.side x.0.now).bytes)}
-    {Q = (k : History) × (g.D.Disk.history c.append.new.disk ≡ Some k) × ((content w k.now).bytes ≡ 1 ∷ frame)}
+    {P = (k : History) × (g.D.Disk.history c.append.new.disk ≡ Some k) × ((content_on c.begin.new.self.side k.now).bytes ≡ put_at c.begin.new.self.offset (1 ∷ frame) (content_on c.begin.new.self.side x.0.now).bytes)}
+    {Q = (k : History) × (g.D.Disk.history c.append.new.disk ≡ Some k) × ((content_on w k.now).bytes ≡ 1 ∷ frame)}
     c.append.result
-    (λ y. (y.0, y.1, ap (λ s. (content s y.0.now).bytes) (sym same) ∙ y.2 ∙ all))
+    (λ y. (y.0, y.1, ap (λ s. (content_on s y.0.now).bytes) (sym same) ∙ y.2 ∙ all))
     (c.append.ensures.written x.0 [] c.requires.whole.0 c.requires.whole.1 x.1 ready c.requires.whole.2)
 
 pub returns-clause-stop : goal.returns-clause-stop

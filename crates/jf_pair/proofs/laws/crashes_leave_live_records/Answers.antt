@@ -1,4 +1,4 @@
-use Rattle.jf_pair.specs.PairLaws.{in_step_holds, in_step_leaves}
+use Rattle.jf_pair.proofs.PairLaws.{in_step_holds, in_step_leaves}
 use Rattle.jf_pair.proofs.laws.crashes_leave_live_records.Goals as goal
 
 pub returns : goal.returns

@@ -1,4 +1,4 @@
-use Rattle.jf_pair.specs.FileLaws.{holds_one}
+use Rattle.jf_pair.proofs.FileLaws.{holds_one}
 use Rattle.jf_pair.proofs.laws.files_hold_one_list.Goals as goal
 
 pub returns : goal.returns

@@ -1,4 +1,4 @@
-use Rattle.jf_pair.specs.PairLaws.{in_step_side}
+use Rattle.jf_pair.proofs.PairLaws.{in_step_side}
 use Rattle.jf_pair.proofs.laws.live_side_is_the_pairs.Goals as goal
 
 pub returns : goal.returns

@@ -1,4 +1,4 @@
-use Rattle.jf_pair.specs.FileLaws.{holds_undamaged, undamaged_holds}
+use Rattle.jf_pair.proofs.FileLaws.{holds_undamaged, undamaged_holds}
 use Rattle.jf_pair.proofs.laws.undamaged_files_hold_records.Goals as goal
 
 pub returns : goal.returns

@@ -1,12 +1,12 @@
 use Rattle.std.proofs.Common.{◌≡◌, ◌<◌, [], ◌∷◌, refl, sym, ◌∙◌, subst, arith}
 use Rattle.jf_disk.specs.Disk.{History}
-use Rattle.jf_disk.specs.CrashLaws.{told_same}
+use Rattle.jf_disk.proofs.CrashLaws.{told_same}
 use Rattle.jf_disk.specs.Memory.{history_of}
 use Rattle.jf_frame.specs.Framing.{number_of}
 use Rattle.jf_frame.specs.Logs.{framed}
 use Rattle.jf_pair.specs.Files.{generation_of}
 use Rattle.jf_pair.specs.Pairs.{IsInStep}
-use Rattle.jf_pair.specs.PairLaws.{in_step_one}
+use Rattle.jf_pair.proofs.PairLaws.{in_step_one}
 use Rattle.jf_pair_tests.proofs.Samples.{number, first, second, more, is_one, number_one, number_two, same_payload}
 use Rattle.jf_pair_tests.proofs.pairs.write_memory.Goals as goal
 

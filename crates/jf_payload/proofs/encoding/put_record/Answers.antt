@@ -2,7 +2,7 @@
 use Rattle.std.proofs.Common.{subst}
 use Rattle.jf_payload.specs.Spelling.{IsRecord}
 use Rattle.jf_payload.specs.Counted.{record_in}
-use Rattle.jf_payload.proofs.Kept.{fresh_nodes, live_nodes, group_nodes}
+use Rattle.jf_payload.proofs.FormatLaws.{fresh_nodes, live_nodes, group_nodes}
 use Rattle.jf_payload.proofs.encoding.put_record.Goals as goal
 
 pub put_commit-requires : goal.put_commit-requires

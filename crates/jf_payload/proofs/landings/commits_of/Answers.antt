@@ -3,7 +3,7 @@ use Rattle.std.proofs.Common.{[], Err, ap}
 use Rattle.std.proofs.lemmas.Result.{err_from_is_err_and}
 use Rattle.jf_payload.specs.Spelling.{follow}
 use Rattle.jf_payload.specs.Reading.{many_at, commit_at}
-use Rattle.jf_payload.proofs.Loop.{goes_on, ends, ends_behind, is_done}
+use Rattle.jf_payload.proofs.Loop.{goes_on, ends, ends_after, is_done}
 use Rattle.jf_payload.proofs.landings.commits_of.Goals as goal
 
 pub returns-in_err-commit : goal.returns-in_err-commit
@@ -14,7 +14,7 @@ returns-in_err-commit c =
 pub returns-in_err-push_commit : goal.returns-in_err-push_commit
 returns-in_err-push_commit c =
     let p = err_from_is_err_and c.from_residual-in_err-push_commit.result c.from_residual-in_err-push_commit.ensures.1 in
-    rw (p.1, p.2) (ends_behind follow (commit_at c.args.format) c.loop.commits c.args.count c.loop.counter c.loop.rest.now (many_at follow (commit_at c.args.format) c.args.count [] c.args.bytes.now) c.loop.invariant.same c.in_err-push_commit.field-0.0 c.in_ok-commit.commit c.in_ok-commit.after.now c.loop-test.true c.in_ok-commit.ensures (λ is. c.in_err-push_commit.ensures.bad (ap Err is)))
+    rw (p.1, p.2) (ends_after follow (commit_at c.args.format) c.loop.commits c.args.count c.loop.counter c.loop.rest.now (many_at follow (commit_at c.args.format) c.args.count [] c.args.bytes.now) c.loop.invariant.same c.in_err-push_commit.field-0.0 c.in_ok-commit.commit c.in_ok-commit.after.now c.loop-test.true c.in_ok-commit.ensures (λ is. c.in_err-push_commit.ensures.bad (ap Err is)))
 
 pub loop-preserved : goal.loop-preserved
 loop-preserved c =

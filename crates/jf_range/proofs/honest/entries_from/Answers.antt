@@ -1,7 +1,7 @@
 use Rattle.std.proofs.Common.{arith, length, ◌-◌, ap, subst, Some}
 use Rattle.std.specs.Option.{option_copied}
 use Rattle.jf_node.specs.Snapshots.{IsTopOf}
-use Rattle.jf_node.specs.SnapshotLaws.{len-top}
+use Rattle.jf_node.proofs.SnapshotLaws.{len-top}
 use Rattle.jf_range.proofs.Visiting.{most-nodes_top}
 use Rattle.jf_range.proofs.honest.entries_from.Goals as goal
 use Rattle.jf_range.proofs.honest.entries_from.Goals.{in-Some+in_ok-copy_range, in_default}

@@ -1,7 +1,7 @@
 use Rattle.std.proofs.Common.{ℕ, List, [], ◌∷◌, codes, decimal, ◌∙◌}
 use Rattle.std.proofs.lemmas.List.{append-nil}
 use Rattle.std.proofs.lemmas.Result.{on_ok_weaker, on_err_weaker}
-use Rattle.jf_script.proofs.Texts.{Extends-behind, spaced-two}
+use Rattle.jf_script.proofs.Texts.{Extends-after, spaced-two}
 use Rattle.jf_script.proofs.writing.write_words.Goals as goal
 
 pub returns-in-Pending-clause-ok : goal.returns-in-Pending-clause-ok
@@ -21,4 +21,4 @@ returns-in_ok-write_bounds-in-Status-clause-ok c =
 
 pub returns-in_ok-append-in-No-clause-err : goal.returns-in_ok-append-in-No-clause-err
 returns-in_ok-append-in-No-clause-err c =
-    on_err_weaker c.write_refusal.result (Extends-behind c.args.out.now _ c.append-in-No.new.self _ c.in_ok-append-in-No.ensures.ok) c.write_refusal.ensures.err
+    on_err_weaker c.write_refusal.result (Extends-after c.args.out.now _ c.append-in-No.new.self _ c.in_ok-append-in-No.ensures.ok) c.write_refusal.ensures.err

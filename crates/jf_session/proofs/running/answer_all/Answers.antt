@@ -4,7 +4,7 @@ use Rattle.jf_session.specs.declared.running.End.{End}
 use Rattle.jf_session.specs.declared.running.End.TheVariants as end
 use Rattle.std.specs.List.{before_first}
 use Rattle.jf_io.specs.LineReader.{Held, is_line_feed}
-use Rattle.jf_io.proofs.Written.{rose_behind}
+use Rattle.jf_io.proofs.Written.{rose_after}
 use Rattle.jf_session.proofs.HeldLines.{SofarHeld, held_none, held_fetched, held_line, held_done, held_unread, held_wanting, held_last, held_cut, held_silent, held_undone, held_faulted}
 use Rattle.jf_session.proofs.running.answer_all.Goals as goal
 
@@ -41,7 +41,7 @@ returns-in-Err-ReadFault-clause-ended g c =
 
 pub returns-in-Err-ReadFault-clause-read : goal.returns-in-Err-ReadFault-clause-read
 returns-in-Err-ReadFault-clause-read g c = λ e.
-    rose_behind _ _ _ c.loop-turn.invariant.source_faults c.fetch.ensures.grows (c.in-Err-ReadFault.ensures.cause (ap (λ e. Err e) c.in-Err-ReadFault.field-0-is))
+    rose_after _ _ _ c.loop-turn.invariant.source_faults c.fetch.ensures.grows (c.in-Err-ReadFault.ensures.cause (ap (λ e. Err e) c.in-Err-ReadFault.field-0-is))
 
 pub returns-in-Err-Memory-clause-ended : goal.returns-in-Err-Memory-clause-ended
 returns-in-Err-Memory-clause-ended g c =
@@ -114,4 +114,4 @@ returns-in-Err-clause-ended g c =
     ]
 
 pub returns-in-Err-clause-write : goal.returns-in-Err-clause-write
-returns-in-Err-clause-write g c = λ e. rose_behind _ _ _ c.loop-turn.invariant.sink_faults c.answer_line.ensures.grows (c.in-Err.ensures.write_cause e)
+returns-in-Err-clause-write g c = λ e. rose_after _ _ _ c.loop-turn.invariant.sink_faults c.answer_line.ensures.grows (c.in-Err.ensures.write_cause e)

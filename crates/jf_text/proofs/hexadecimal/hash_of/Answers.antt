@@ -1,19 +1,19 @@
 use Rattle.std.proofs.Common.{◌≡◌, Some, take, take_all, length-set, sym, ap, ◌∙◌, refl, arith}
 use Rattle.jf_text.specs.Words.{unhex}
 use Rattle.jf_text.proofs.HexText.{unhex-bad, unhex-all}
-use Rattle.jf_text.proofs.HashText.{hash_of-other, behind-none, behind-more, hash_of-bytes, hash_of-none}
+use Rattle.jf_text.proofs.HashText.{hash_of-other, with_bytes_before-none, with_bytes_before-more, hash_of-bytes, hash_of-none}
 use Rattle.jf_text.proofs.hexadecimal.hash_of.Goals as goal
 
 pub returns-then-word-ne64 : goal.returns-then-word-ne64
 returns-then-word-ne64 c = hash_of-other c.args.word.now c.if-word-ne64.true
 
 pub pairs-init : goal.pairs-init
-pairs-init c = (refl, behind-none (unhex c.args.word.now))
+pairs-init c = (refl, with_bytes_before-none (unhex c.args.word.now))
 
 pub pairs-preserved : goal.pairs-preserved
 pairs-preserved c = (
   length-set c.pairs.hash c.pairs.i c.in-Some.byte ∙ c.pairs.invariant.0,
-  behind-more c.args.word.now c.pairs.hash c.pairs.i c.in-Some.byte (omega arith) (omega arith) (sym c.byte_of.ensures ∙ c.in-Some.is) c.pairs.invariant.1,
+  with_bytes_before-more c.args.word.now c.pairs.hash c.pairs.i c.in-Some.byte (omega arith) (omega arith) (sym c.byte_of.ensures ∙ c.in-Some.is) c.pairs.invariant.1,
 )
 
 pub returns-in_default : goal.returns-in_default

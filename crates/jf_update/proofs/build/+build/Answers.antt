@@ -1,7 +1,7 @@
 use Rattle.std.proofs.Common.{arith, rules, ◌≡◌, ◌<◌, ◌+◌, ◌-◌, length, sym, ap, subst, take, drop, set}
 use Rattle.jf_node.specs.LinkFacts.{BeginAlike}
-use Rattle.jf_landing.specs.Parts.{IsPart, IsPieceEnd, stepped}
-use Rattle.jf_landing.specs.PartLaws.{deeper}
+use Rattle.jf_model.specs.Parts.{IsPartUnder, IsPieceEnd}
+use Rattle.jf_walk.proofs.PartLaws.{stepped, deeper}
 use Rattle.jf_update.specs.Made.{Built}
 use Rattle.jf_update.specs.Hashed.{plain, AreHashed}
 use Rattle.jf_update.proofs.HashedLaws.{length-plain}
@@ -43,7 +43,7 @@ build_children-build-requires t c =
     let cut = sym (same_piece c.loop-n.start c.piece_end.result es) in
     let end : IsPieceEnd c.args.depth c.loop-n.n c.piece_end.result (drop c.loop-n.start es) =
     subst (λ n. IsPieceEnd c.args.depth n c.piece_end.result (drop c.loop-n.start es)) c.of-nibble.ensures (end_in_rest _ _ _ c.loop-n.start es c.piece_end.ensures) in
-    let piece = subst (λ xs. IsPart (c.args.depth + 1) (stepped c.args.depth c.loop-n.n c.requires.part.0) (plain xs)) cut (piece_part c.args.depth c.loop-n.n c.loop-n.start c.piece_end.result c.requires.part.0 es c.args.version c.loop-n.children c.requires.part.1 c.loop-n.invariant end) in
+    let piece = subst (λ xs. IsPartUnder (c.args.depth + 1) (stepped c.args.depth c.loop-n.n c.requires.part.0) (plain xs)) cut (piece_part c.args.depth c.loop-n.n c.loop-n.start c.piece_end.result c.requires.part.0 es c.args.version c.loop-n.children c.requires.part.1 c.loop-n.invariant end) in
     let hashed = subst AreHashed cut (piece_hashed c.args.depth c.loop-n.n c.loop-n.start c.piece_end.result c.requires.part.0 es c.args.version c.loop-n.children c.requires.part.1 c.requires.hashed c.loop-n.invariant end) in
     (search rules, (omega arith, ((_, piece), hashed)))
 

@@ -1,5 +1,5 @@
 use Rattle.std.proofs.Common.{sym, ap, ◌∙◌}
-use Rattle.jf_landing.specs.OneEntry.{same_only, other_key, other_value}
+use Rattle.jf_walk.proofs.OneEntry.{same_only, other_key, other_value}
 use Rattle.jf_update.specs.Hashed.{plain_entry, own_entries}
 use Rattle.jf_update.proofs.leaf.is_same.Goals as goal
 

@@ -1,8 +1,8 @@
 use Rattle.std.proofs.Common.{◌++◌, ◌∙◌, ap, sym}
 use Rattle.jf_model.specs.Changes.{applied}
-use Rattle.jf_landing.specs.Puts.{puts}
-use Rattle.jf_landing.specs.PutLaws.{some_own, no_own}
-use Rattle.jf_landing.specs.OneEntry.{applied-puts, merged_own}
+use Rattle.jf_model.specs.Puts.{puts}
+use Rattle.jf_walk.proofs.PutLaws.{some_own, no_own}
+use Rattle.jf_walk.proofs.OneEntry.{applied-puts, merged_own}
 use Rattle.jf_update.specs.Hashed.{plain, own_entries}
 use Rattle.jf_update.proofs.HashedLaws.{plain-push}
 use Rattle.jf_update.proofs.leaf.merged.Goals as goal

@@ -1,5 +1,5 @@
 use Rattle.std.proofs.Common.{arith, ◌∙◌, ap, subst, ◌++◌, ◌∷◌, [], sym, length}
-use Rattle.jf_landing.specs.PutLaws.{push_step, push_some, push_none}
+use Rattle.jf_walk.proofs.PutLaws.{push_step, push_some, push_none}
 use Rattle.jf_update.specs.Hashed.{plain, AreHashed}
 use Rattle.jf_update.proofs.HashedLaws.{plain-push, AreHashed-push, short_at}
 use Rattle.jf_update.proofs.leaf.push_puts.Goals as goal

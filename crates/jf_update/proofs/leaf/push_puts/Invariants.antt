@@ -1,5 +1,5 @@
 use Rattle.std.proofs.Common.{◌≡◌, ◌++◌, take}
-use Rattle.jf_landing.specs.Puts.{puts}
+use Rattle.jf_model.specs.Puts.{puts}
 use Rattle.jf_update.specs.Hashed.{plain, AreHashed}
 use Rattle.jf_update.proofs.leaf.push_puts.Given as goal
 

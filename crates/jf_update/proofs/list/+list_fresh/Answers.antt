@@ -1,9 +1,9 @@
 use Rattle.std.proofs.Common.{◌≡◌, ◌+◌, ◌-◌, ◌++◌, ◌∷◌, [], length, arith, rules, sym, ap, ap₂, ◌∙◌, append-nil, append_assoc, length-append, refl, Some}
 use Rattle.jf_path.specs.declared.node.PlainNode.{PlainNode}
 use Rattle.jf_model.specs.Nodes.{Path}
-use Rattle.jf_landing.specs.ChildEntries.{child_entries}
-use Rattle.jf_landing.specs.Walk.{listed, listed_to}
-use Rattle.jf_landing.specs.WalkLaws.{listed-same, listed-node, listed_to-none, listed_to-past, listed_to-child}
+use Rattle.jf_model.specs.ChildEntries.{child_entries}
+use Rattle.jf_model.specs.Walk.{listed}
+use Rattle.jf_walk.proofs.WalkLaws.{listed_to, listed-same, listed-node, listed_to-none, listed_to-past, listed_to-child}
 use Rattle.jf_update.specs.Below.{IsBelow}
 use Rattle.jf_update.specs.Plains.{fresh_below}
 use Rattle.jf_update.proofs.PlainNodes.{plain-child}

@@ -1,7 +1,7 @@
 use Rattle.std.proofs.Common.{◌≡◌, ℕ, ◌-◌, ◌++◌, Option}
 use Rattle.jf_hash.specs.Slots.{Part}
 use Rattle.jf_model.specs.Nodes.{Path}
-use Rattle.jf_landing.specs.Walk.{listed_to}
+use Rattle.jf_walk.proofs.WalkLaws.{listed_to}
 use Rattle.jf_update.specs.Below.{IsFreshOver}
 use Rattle.jf_update.specs.Plains.{fresh_below}
 use Rattle.jf_update.proofs.list.+list_fresh.Given as goal

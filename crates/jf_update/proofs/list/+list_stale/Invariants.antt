@@ -1,7 +1,7 @@
 use Rattle.std.proofs.Common.{◌≡◌, ◌-◌, ◌++◌}
 use Rattle.std.specs.Option.{option_copied}
 use Rattle.jf_node.specs.Children.{content}
-use Rattle.jf_landing.specs.Walk.{listed_to}
+use Rattle.jf_walk.proofs.WalkLaws.{listed_to}
 use Rattle.jf_update.specs.Below.{IsStaleOver, name_below}
 use Rattle.jf_update.proofs.list.+list_stale.Given as goal
 

@@ -1,9 +1,9 @@
 use Rattle.std.proofs.Common.{arith, rules, ◌≡◌, ◌+◌, ◌-◌, None, get_or, sym, ap, ◌∙◌, subst, refl, take, drop, eqb-true}
 use Rattle.std.specs.Option.{option_copied}
 use Rattle.jf_node.specs.Children.{content}
-use Rattle.jf_landing.specs.Parts.{IsPieceEnd}
+use Rattle.jf_model.specs.Parts.{IsPieceEnd}
 use Rattle.jf_update.specs.Made.{IsAtDepth}
-use Rattle.jf_update.specs.Outcomes.{IsOutcome, IsPlaced}
+use Rattle.jf_update.specs.Outcomes.{IsOutcome, IsOutcomePlaced}
 use Rattle.jf_update.proofs.BuildLaws.{end_in_rest, same_piece}
 use Rattle.jf_update.proofs.NodeUpdateLaws.{IsUpdating, updating_start, updating_more, updating_done, none_changed, some_changed, child_placed, child_parts, empty_applied, outcome_at, ok_outcome, inner_outcome, inner_agree, inner_kept}
 use Rattle.jf_update.proofs.node.+node.Goals as goal
@@ -34,7 +34,7 @@ update_children-loop-n-preserved t c =
     subst (λ n. IsPieceEnd c.args.depth n c.piece_end.result (drop c.loop-n.start c.args.batch.now)) c.of-nibble.ensures (end_in_rest _ _ _ c.loop-n.start c.args.batch.now c.piece_end.ensures) in
     let piece = take ((c.loop-n.start + c.piece_end.result) - c.loop-n.start) (drop c.loop-n.start c.args.batch.now) in
     let out : IsOutcome (c.args.depth + 1) c.args.version (option_copied c.get.result) piece c.in_ok-outcome.outcome = c.in_ok-outcome.ensures in
-    let put : IsPlaced c.loop-n.made c.loop-n.n c.in_ok-outcome.outcome c.place.new.made = subst (λ n. IsPlaced c.loop-n.made n c.in_ok-outcome.outcome c.place.new.made) c.of-nibble.ensures c.place.ensures in
+    let put : IsOutcomePlaced c.loop-n.made c.loop-n.n c.in_ok-outcome.outcome c.place.new.made = subst (λ n. IsOutcomePlaced c.loop-n.made n c.in_ok-outcome.outcome c.place.new.made) c.of-nibble.ensures c.place.ensures in
     updating_more c.args.depth c.args.version c.loop-n.n c.loop-n.start c.piece_end.result c.requires.parts.path olds c.loop-n.made c.place.new.made c.in_ok-outcome.outcome c.args.batch.now piece c.know.ensures.long c.requires.children c.requires.parts.entries c.requires.parts.batch (omega arith) c.loop-n.invariant end
     (same_piece c.loop-n.start c.piece_end.result c.args.batch.now)
     (subst (λ o. IsOutcome (c.args.depth + 1) c.args.version o piece c.in_ok-outcome.outcome) (c.get.ensures ∙ ap (λ n. get_or olds n None) c.of-nibble.ensures) out)

@@ -2,7 +2,7 @@ use Rattle.std.proofs.Common.{ap, ap₂, ◌∙◌, ◌∷◌, []}
 use Rattle.std.specs.Option.{option_copied}
 use Rattle.jf_path.specs.declared.node.PlainNode.TheVariants as node
 use Rattle.jf_update.proofs.TopUpdateLaws.{ok_weaker, top_would_rise, fresh_none, fresh_some}
-use Rattle.jf_update.proofs.PathNames.{name_at}
+use Rattle.jf_update.proofs.PathNames.{name_of_path}
 use Rattle.jf_update.proofs.top.fresh_of.Goals as goal
 
 pub list_fresh-requires-clause-rising : goal.list_fresh-requires-clause-rising
@@ -11,7 +11,7 @@ list_fresh-requires-clause-rising c = top_would_rise c.args.version (option_copi
 pub returns-in-None-clause-nodes : goal.returns-in-None-clause-nodes
 returns-in-None-clause-nodes c =
     ok_weaker _ _
-    (λ l is es before under other. fresh_none c.args.version (option_copied c.args.top) l (ap option_copied c.in-None.is) (is ∙ ap₂ (λ v p. (name_at v p, node.Null) ∷ []) c.top_name.ensures.version c.top_name.ensures.path) es)
+    (λ l is es before under other. fresh_none c.args.version (option_copied c.args.top) l (ap option_copied c.in-None.is) (is ∙ ap₂ (λ v p. (name_of_path v p, node.Null) ∷ []) c.top_name.ensures.version c.top_name.ensures.path) es)
     c.one_node.result c.one_node.ensures
 
 pub returns-in_ok-list_fresh-in-Some-clause-nodes : goal.returns-in_ok-list_fresh-in-Some-clause-nodes

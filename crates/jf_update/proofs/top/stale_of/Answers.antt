@@ -3,7 +3,7 @@ use Rattle.std.specs.List.Sorted.{IsPermutation}
 use Rattle.std.specs.Option.{option_copied}
 use Rattle.jf_node.specs.Children.{content}
 use Rattle.jf_update.proofs.TopUpdateLaws.{ok_weaker, stale_none, stale_some, stale_distinct, sorted_link}
-use Rattle.jf_update.proofs.PathNames.{name_at}
+use Rattle.jf_update.proofs.PathNames.{name_of_path}
 use Rattle.jf_update.proofs.top.stale_of.Goals as goal
 
 pub sorted_names-requires : goal.sorted_names-requires
@@ -15,7 +15,7 @@ sorted_names-requires c =
 pub returns-in-None : goal.returns-in-None
 returns-in-None c =
     ok_weaker _ _
-    (λ l is. stale_none c.args.head (option_copied c.args.old) (option_copied c.args.top) l (ap option_copied c.in-None.is) (is ∙ ap₂ (λ v p. name_at v p ∷ []) c.top_name.ensures.version c.top_name.ensures.path))
+    (λ l is. stale_none c.args.head (option_copied c.args.old) (option_copied c.args.top) l (ap option_copied c.in-None.is) (is ∙ ap₂ (λ v p. name_of_path v p ∷ []) c.top_name.ensures.version c.top_name.ensures.path))
     c.one_name.result c.one_name.ensures
 
 pub returns-in_ok-list_stale-in-Some : goal.returns-in_ok-list_stale-in-Some

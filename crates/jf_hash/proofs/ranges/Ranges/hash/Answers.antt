@@ -1,9 +1,9 @@
 use Rattle.std.proofs.Common.{◌≡◌, ℕ, zero, suc, ◌+◌, ◌-◌, ◌*◌, ◌%◌, ◌^◌, ◌<◌, ◌≤◌, ◌∙◌, sym, ap, subst, arith, [], take, drop, get_or}
 use Rattle.jf_hash.specs.Roots.{part_root}
 use Rattle.jf_hash.specs.Slots.{slots_of, range_hash}
-use Rattle.jf_hash.specs.SlotLaws.{length-slots_of, range_hash-slots_of}
+use Rattle.jf_hash.proofs.SlotLaws.{length-slots_of, range_hash-slots_of}
 use Rattle.jf_hash.specs.Ranges.{IsRange, in_range, range_hashes, range_index}
-use Rattle.jf_hash.specs.RangeLaws.{range_level, range_hashes-at, range_index-small}
+use Rattle.jf_hash.proofs.RangeLaws.{range_level, range_hashes-at, range_index-small}
 use Rattle.jf_hash.proofs.Halves.{small_range}
 use Rattle.jf_hash.proofs.ranges.Ranges.hash.Goals as goal
 

@@ -1,6 +1,6 @@
 use Rattle.std.proofs.Common.{◌∙◌, ap, arith, replicate}
 use Rattle.jf_hash.specs.declared.slot.Slot.TheVariants as slot
-use Rattle.jf_hash.proofs.Kept.{agree_all, none_hashes}
+use Rattle.jf_hash.proofs.RangeHashes.{agree_all, none_hashes}
 use Rattle.jf_hash.proofs.ranges.Ranges.of_counted.Goals as goal
 
 -- the ranges are made as if no child had been there and each place had changed

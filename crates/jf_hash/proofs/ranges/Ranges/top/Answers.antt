@@ -1,7 +1,7 @@
 use Rattle.std.proofs.Common.{◌∙◌, ap, [], get_or}
 use Rattle.jf_hash.specs.Slots.{slots_of}
-use Rattle.jf_hash.specs.SlotLaws.{range_hash-all}
-use Rattle.jf_hash.specs.RangeLaws.{range_hashes-top}
+use Rattle.jf_hash.proofs.SlotLaws.{range_hash-all}
+use Rattle.jf_hash.proofs.RangeLaws.{range_hashes-top}
 use Rattle.jf_hash.proofs.ranges.Ranges.top.Goals as goal
 
 pub returns-clause-value : goal.returns-clause-value

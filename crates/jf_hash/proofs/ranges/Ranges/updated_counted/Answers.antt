@@ -1,5 +1,5 @@
 use Rattle.std.proofs.Common.{arith}
-use Rattle.jf_hash.specs.RangeLaws.{pairs_within-bounded}
+use Rattle.jf_hash.proofs.RangeLaws.{pairs_within-bounded}
 use Rattle.jf_hash.proofs.ranges.Ranges.updated_counted.Goals as goal
 
 pub returns-clause-bounded : goal.returns-clause-bounded

@@ -1,6 +1,6 @@
 use Rattle.std.proofs.Common.{◌∙◌, ap, sym, take, drop}
 use Rattle.jf_hash.specs.Slots.{slots_of, range_hash}
-use Rattle.jf_node.specs.PlaceLaws.{place_root}
+use Rattle.jf_node.proofs.PlaceLaws.{place_root}
 use Rattle.jf_node.proofs.link.Link.range_hash.Goals as goal
 
 pub returns-in-Inner : goal.returns-in-Inner

@@ -1,6 +1,6 @@
 use Rattle.std.proofs.Common.{sym, ◌∙◌, ap, subst}
 use Rattle.jf_hash.specs.Roots.{part_root}
-use Rattle.jf_hash.specs.RootLaws.{part_root-none}
+use Rattle.jf_hash.proofs.RootLaws.{part_root-none}
 use Rattle.jf_hash.specs.Ranges.{IsRange}
 use Rattle.jf_node.proofs.RangePlaces.{placed, placed_leaf, kept_as, one_hash, node_several, node_range, range_hash_is}
 use Rattle.jf_node.proofs.range.Range.hash.Goals as goal

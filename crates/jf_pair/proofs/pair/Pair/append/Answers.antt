@@ -2,7 +2,7 @@ use Rattle.std.proofs.Common.{◌≡◌, [], ◌∷◌, ◌++◌, sym, ap, ◌�
 use Rattle.std.proofs.lemmas.Result.{on_ok_weaker}
 use Rattle.jf_disk.specs.Disk.{History}
 use Rattle.jf_disk.specs.Crashes.{KeepsOther}
-use Rattle.jf_disk.specs.CrashLaws.{told_same}
+use Rattle.jf_disk.proofs.CrashLaws.{told_same}
 use Rattle.jf_frame.specs.Logs.{IsReady, StopsInAppend, framed}
 use Rattle.jf_pair.specs.Pairs.{Pair, IsInStep}
 use Rattle.jf_pair.proofs.Appended.{append_stops, append_in_step}

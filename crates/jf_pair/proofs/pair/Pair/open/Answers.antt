@@ -1,11 +1,11 @@
 use Rattle.std.proofs.Common.{refl, sym, ap, ◌∙◌, subst, true≢false}
 use Rattle.jf_disk.specs.Disk.{reads}
-use Rattle.jf_disk.specs.CrashLaws.{told_same}
+use Rattle.jf_disk.proofs.CrashLaws.{told_same}
 use Rattle.jf_disk.specs.declared.side.Side.TheVariants as side
 use Rattle.jf_pair.specs.Files.{HoldsLive}
-use Rattle.jf_pair.specs.FileLaws.{live_a_some}
+use Rattle.jf_pair.proofs.FileLaws.{live_a_some}
 use Rattle.jf_pair.specs.Pairs.{IsInStep, read_by}
-use Rattle.jf_pair.specs.PairLaws.{in_step_holds}
+use Rattle.jf_pair.proofs.PairLaws.{in_step_holds}
 use Rattle.jf_pair.proofs.Opened.{opened_in_step, read_same, synced_same}
 use Rattle.jf_pair.proofs.pair.Pair.open.Goals as goal
 

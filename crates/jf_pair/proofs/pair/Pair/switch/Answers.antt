@@ -1,7 +1,7 @@
 use Rattle.std.proofs.Common.{◌≡◌, [], ◌∷◌, refl, sym, ap, ◌∙◌, subst}
-use Rattle.jf_disk.specs.Disk.{History, content}
+use Rattle.jf_disk.specs.Disk.{History, content_on}
 use Rattle.jf_disk.specs.Crashes.{GoesOn, KeepsOther, opposite}
-use Rattle.jf_disk.specs.CrashLaws.{told_same}
+use Rattle.jf_disk.proofs.CrashLaws.{told_same}
 use Rattle.jf_frame.specs.Logs.{Log, IsReady, framed}
 use Rattle.jf_pair.specs.Pairs.{Pair}
 use Rattle.jf_pair.proofs.FirstRecord.{SameNoneOrOne}
@@ -15,7 +15,7 @@ returns-in_err-write_first-clause-stop g c = λ h rs kind payload told kept is.
     let to : c.self.inside.other.side ≡ opposite p.side = c.self.invariant ∙ ap (λ (p : Pair). opposite p.side) c.self.view_is in
     let x = c.write_first.ensures.stop h kind payload told is in
     let n = is_newer kind payload rs p h.now kept (c.requires.checkpoint kind payload is) (c.requires.newer h rs kind payload told kept is) in
-    (x.0, x.1, switch_stops p rs h x.0 r kept n (subst (λ w. GoesOn h x.0 (SameNoneOrOne w (content w h.now).bytes r)) to x.2) (subst (λ w. KeepsOther w h x.0) to x.3))
+    (x.0, x.1, switch_stops p rs h x.0 r kept n (subst (λ w. GoesOn h x.0 (SameNoneOrOne w (content_on w h.now).bytes r)) to x.2) (subst (λ w. KeepsOther w h x.0) to x.3))
 
 pub returns-in_err-write_first-clause-other : goal.returns-in_err-write_first-clause-other
 returns-in_err-write_first-clause-other g c = λ h told.
@@ -30,7 +30,7 @@ returns-clause-stop g c = λ h rs kind payload told kept is.
     let to : c.self.inside.other.side ≡ opposite p.side = c.self.invariant ∙ ap (λ (p : Pair). opposite p.side) c.self.view_is in
     let x = c.write_first.ensures.stop h kind payload told is in
     let n = is_newer kind payload rs p h.now kept (c.requires.checkpoint kind payload is) (c.requires.newer h rs kind payload told kept is) in
-    (x.0, x.1, switch_stops p rs h x.0 r kept n (subst (λ w. GoesOn h x.0 (SameNoneOrOne w (content w h.now).bytes r)) to x.2) (subst (λ w. KeepsOther w h x.0) to x.3))
+    (x.0, x.1, switch_stops p rs h x.0 r kept n (subst (λ w. GoesOn h x.0 (SameNoneOrOne w (content_on w h.now).bytes r)) to x.2) (subst (λ w. KeepsOther w h x.0) to x.3))
 
 pub returns-clause-other : goal.returns-clause-other
 returns-clause-other g c = λ h told.

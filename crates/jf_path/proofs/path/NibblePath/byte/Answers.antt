@@ -1,7 +1,7 @@
 -- Two cells make a byte.
 use Rattle.std.proofs.Common.{sym, ◌∙◌, ap, slice_index}
 use Rattle.jf_path.specs.Paths.{packed}
-use Rattle.jf_path.proofs.Kept.{kept_byte}
+use Rattle.jf_path.proofs.PaddedPaths.{kept_byte}
 use Rattle.jf_path.proofs.path.NibblePath.byte.Goals as goal
 
 pub returns : goal.returns

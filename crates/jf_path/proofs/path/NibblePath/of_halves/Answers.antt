@@ -1,7 +1,8 @@
 -- One more half of a byte is put into its cell.
 use Rattle.std.proofs.Common.{◌<◌, length, take, sym, ap, ◌∙◌, arith, ◌∷◌, ◌++◌, []}
 use Rattle.std.proofs.lemmas.List.{take_more}
-use Rattle.jf_path.specs.PathLaws.{halves, length-halves}
+use Rattle.jf_path.specs.Paths.{halves}
+use Rattle.jf_path.proofs.PathLaws.{length-halves}
 use Rattle.jf_path.proofs.Halves.{half_halves}
 use Rattle.jf_path.proofs.path.NibblePath.of_halves.Goals as goal
 

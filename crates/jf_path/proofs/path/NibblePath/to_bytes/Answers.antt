@@ -2,9 +2,9 @@
 use Rattle.std.proofs.Common.{◌≡◌, ◌+◌, ◌/◌, ◌++◌, length, take, drop, set, sym, ap, ◌∙◌, arith, rules}
 use Rattle.std.proofs.lemmas.List.{take_all}
 use Rattle.jf_path.specs.Paths.{path_bytes}
-use Rattle.jf_path.specs.PathLaws.{length-path_bytes}
-use Rattle.jf_path.proofs.Kept.{kept_count}
-use Rattle.jf_path.proofs.Paths.{copy_more, byte_behind_count, count_in_front}
+use Rattle.jf_path.proofs.PathLaws.{length-path_bytes}
+use Rattle.jf_path.proofs.PaddedPaths.{kept_count}
+use Rattle.jf_path.proofs.Paths.{copy_more, byte_after_count, count_in_front}
 use Rattle.jf_path.proofs.path.NibblePath.to_bytes.Goals as goal
 
 pub loop-i-init : goal.loop-i-init
@@ -18,7 +18,7 @@ loop-i-preserved c =
     let same : length c.args.self.now ≡ c.self.inside.count = ap length (sym c.self.view_is) ∙ count in
     ap (λ xs. set xs (c.loop-i.i + 1) c.byte.result) c.loop-i.invariant
     ∙ copy_more (c.loop-i.i + 1) c.args.out.now (path_bytes c.args.self.now) c.byte.result
-    (omega (arith, length-path_bytes c.args.self.now, same, c.loop-i-test.true)) (omega (arith, c.told-out, c.self.invariant.short, c.loop-i-test.true)) (c.byte.ensures ∙ sym (byte_behind_count c.args.self.now c.loop-i.i))
+    (omega (arith, length-path_bytes c.args.self.now, same, c.loop-i-test.true)) (omega (arith, c.told-out, c.self.invariant.short, c.loop-i-test.true)) (c.byte.ensures ∙ sym (byte_after_count c.args.self.now c.loop-i.i))
 
 pub returns-clause-value : goal.returns-clause-value
 returns-clause-value c =

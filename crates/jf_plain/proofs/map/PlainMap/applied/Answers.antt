@@ -1,14 +1,14 @@
 use Rattle.std.proofs.Common.{ap, sym, ◌∙◌, subst}
-use Rattle.jf_hash.specs.Maps.{apply}
+use Rattle.jf_hash.specs.Maps.{apply, map_of_entries}
 use Rattle.jf_model.specs.Changes.{applied}
-use Rattle.jf_plain.specs.Entries.{AreEntries, map_of_entries}
+use Rattle.jf_plain.specs.Entries.{AreMapEntries}
 use Rattle.jf_plain.proofs.Views.{are-applied, applied-of}
 use Rattle.jf_plain.proofs.map.PlainMap.applied.Goals as goal
 
 pub invariant_of-result : goal.invariant_of-result
 invariant_of-result c =
     let is = c.in_ok-merged.ensures ∙ ap (λ es. applied es c.as_slice.result.now) c.deref.ensures.value ∙ ap (applied c.self.inside.entries.items) c.as_slice.ensures.entries in
-    subst AreEntries (sym is) (are-applied c.self.inside.entries.items c.args.batch.now c.self.invariant c.as_slice.ensures.sound c.as_slice.ensures.limited)
+    subst AreMapEntries (sym is) (are-applied c.self.inside.entries.items c.args.batch.now c.self.invariant c.as_slice.ensures.sound c.as_slice.ensures.limited)
 
 pub returns : goal.returns
 returns c =

@@ -1,4 +1,4 @@
-use Rattle.jf_plain.proofs.Histories.{kept-one, are-one}
+use Rattle.jf_plain.proofs.Histories.{versions_of_list-one, are-one}
 use Rattle.jf_plain.proofs.versions.PlainVersions.new.Goals as goal
 
 pub invariant_of-result : goal.invariant_of-result
@@ -7,4 +7,4 @@ invariant_of-result c =
 
 pub returns : goal.returns
 returns c =
-    kept-one c.push.new.self.items c.new-versions.result.items (record { map = c.new-map.result; root = c.in_ok-root.root }) c.new-versions.ensures.items c.in_ok-push.ensures.items c.new-map.ensures c.in_ok-root.ensures
+    versions_of_list-one c.push.new.self.items c.new-versions.result.items (record { map = c.new-map.result; root = c.in_ok-root.root }) c.new-versions.ensures.items c.in_ok-push.ensures.items c.new-map.ensures c.in_ok-root.ensures

@@ -1,9 +1,10 @@
 use Rattle.std.proofs.Common.{◌≡◌, ◌∙◌, ◌++◌, ap, sym, subst, append-nil, OnOk, IfOk, None, Err}
-use Rattle.jf_answers.specs.Answers.{Answer, answer, answer-long}
+use Rattle.jf_answers.specs.Answers.{Answer, answer}
+use Rattle.jf_answers.proofs.AnswerLaws.{answer-long}
 use Rattle.jf_script.specs.declared.reply.Refusal.TheVariants as refusal
 use Rattle.jf_script.specs.declared.reply.Reply.TheVariants as reply
 use Rattle.jf_session.specs.Sessions.{Does, Tries}
-use Rattle.jf_script.specs.Bounds.{command_of-IsBounded}
+use Rattle.jf_script.proofs.BoundLaws.{command_of-IsBoundedCommand}
 use Rattle.jf_session.proofs.Lines.{answer-short, replied_stays}
 use Rattle.jf_session.proofs.session.Session.answered.Goals as goal
 
@@ -66,4 +67,4 @@ returns-clause-fault g c =
     λ fault. subst (λ (a : Answer). Tries s c.obeyed.new.self a) (sym e) (c.obeyed.ensures.fault fault)
 
 pub obeyed-requires-clause-bounded : goal.obeyed-requires-clause-bounded
-obeyed-requires-clause-bounded g c = λ κs le. command_of-IsBounded c.args.line.now _ c.in-Ok.ensures.found
+obeyed-requires-clause-bounded g c = λ κs le. command_of-IsBoundedCommand c.args.line.now _ c.in-Ok.ensures.found

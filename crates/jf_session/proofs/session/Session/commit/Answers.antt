@@ -5,8 +5,8 @@ use Rattle.jf_model.specs.declared.entries.Entry.TheVariants as entry
 use Rattle.jf_model.specs.declared.entries.Landing.TheVariants as landing
 use Rattle.jf_engine.specs.declared.fault.EngineFault.TheVariants as fault
 use Rattle.jf_session.specs.Sessions.{Session}
-use Rattle.jf_session.proofs.Doings.{landed_does, landed_reply, head_does, head_reply, fault_tries}
-use Rattle.jf_session.proofs.Pushed.{pushed, whole_of, below_last, not_above}
+use Rattle.jf_session.proofs.StepLaws.{landed_does, landed_reply, head_does, head_reply, fault_tries}
+use Rattle.jf_session.proofs.PushLaws.{pushed, whole_of, below_last, not_above}
 use Rattle.jf_session.proofs.session.Session.commit.Goals as goal
 
 pub returns-in-Ok-clause-ok : goal.returns-in-Ok-clause-ok

@@ -1,6 +1,6 @@
 use Rattle.std.proofs.Common.{◌∙◌, ap, inl, inr, None}
 use Rattle.jf_script.specs.declared.reply.Reply.TheVariants as reply
-use Rattle.jf_session.proofs.Doings.{full_does, full_reply, room_does, room_reply}
+use Rattle.jf_session.proofs.StepLaws.{full_does, full_reply, room_does, room_reply}
 use Rattle.jf_session.proofs.session.Session.del.Goals as goal
 
 pub returns-in-Err-Full-clause-ok : goal.returns-in-Err-Full-clause-ok

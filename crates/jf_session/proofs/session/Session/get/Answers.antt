@@ -1,7 +1,7 @@
 use Rattle.std.proofs.Common.{◌∙◌, ap, sym}
 use Rattle.jf_answers.specs.Answers.{Answer}
 use Rattle.jf_session.specs.Sessions.{Session}
-use Rattle.jf_session.proofs.Bases.{get-refused, get-value}
+use Rattle.jf_session.proofs.ReadLaws.{get-refused, get-value}
 use Rattle.jf_session.proofs.session.Session.get.Goals as goal
 
 pub returns-in-Err-clause-reply : goal.returns-in-Err-clause-reply

@@ -2,7 +2,7 @@ use Rattle.std.proofs.Common.{◌≡◌, Some, ap, sym, ◌∙◌, ◌++◌, app
 use Rattle.std.specs.Option.{option_copied}
 use Rattle.jf_answers.specs.Answers.{Answer}
 use Rattle.jf_session.specs.Sessions.{Session}
-use Rattle.jf_session.proofs.Bases.{prove-refused, prove-reply, prove-block, snapshot-map}
+use Rattle.jf_session.proofs.ReadLaws.{prove-refused, prove-reply, prove-block, snapshot-map}
 use Rattle.jf_session.proofs.session.Session.prove.Goals as goal
 
 pub returns-in-Err-clause-reply : goal.returns-in-Err-clause-reply

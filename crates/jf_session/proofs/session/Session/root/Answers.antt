@@ -1,7 +1,7 @@
 use Rattle.std.proofs.Common.{◌≡◌, Some, ap, sym, rules}
 use Rattle.jf_answers.specs.Answers.{Answer}
 use Rattle.jf_session.specs.Sessions.{Session}
-use Rattle.jf_session.proofs.Bases.{root-refused, root-value}
+use Rattle.jf_session.proofs.ReadLaws.{root-refused, root-value}
 use Rattle.jf_session.proofs.session.Session.root.Goals as goal
 
 pub returns-in-Err-clause-reply : goal.returns-in-Err-clause-reply

@@ -1,6 +1,6 @@
 use Rattle.std.proofs.Common.{subst, sym, ap, ◌∙◌, ◌+◌}
 use Rattle.jf_hash.specs.Maps.{apply}
-use Rattle.jf_snapshots.specs.Kept.{AreKept}
+use Rattle.jf_snapshots.specs.KeptSnapshots.{AreKept}
 use Rattle.jf_snapshots.proofs.Histories.{are-landed}
 use Rattle.jf_snapshots.proofs.versions.SnapshotVersions.land.Goals as goal
 

@@ -1,7 +1,7 @@
 use Rattle.std.proofs.Common.{subst, T}
 use Rattle.std.specs.FinMap.{is_sorted}
 use Rattle.jf_path.specs.Keys.{key_cmp}
-use Rattle.jf_split.specs.BatchLaws.{IsDistinct-keys}
+use Rattle.jf_split.proofs.BatchLaws.{IsDistinct-keys}
 use Rattle.jf_split.proofs.batch.Batch.as_slice.Goals as goal
 
 pub returns-clause-distinct : goal.returns-clause-distinct

@@ -5,7 +5,8 @@ use Rattle.std.specs.List.{list_any}
 use Rattle.std.specs.Cmp.{eq_by_cmp_equiv}
 use Rattle.std.proofs.lemmas.Map.Views.{Contains-from_any, list_any-from_Contains}
 use Rattle.jf_stale.specs.Marks.{Mark, mark_cmp, without_mark}
-use Rattle.jf_stale.specs.MarkLaws.{mark_cmp_total, mark_cmp-exact, Equal-from_is_eq, remove_key-mark}
+use Rattle.jf_stale.proofs.MarkLaws.{mark_cmp_total, mark_cmp-exact, remove_key-mark}
+use Rattle.jf_path.proofs.OrderLaws.{Equal-from_is_eq}
 use Rattle.jf_stale.proofs.index.StaleIndex.unmark.Goals as goal
 
 pub returns-clause-found : goal.returns-clause-found

@@ -1,0 +1,142 @@
+-- What holds of every answer, whichever commands are built.
+use Rattle.std.specs.Prelude.{◌≡◌, Option, Some, None, Bool, true, false, cond, ℕ, List, IfSome, IsTrue}
+use Rattle.std.proofs.Common.{refl, ap, sym, ◌∙◌}
+use Rattle.std.specs.List.{AllByRecursion}
+use Rattle.jf_model.specs.States.{State}
+use Rattle.jf_model.specs.declared.entries.Entry.{Entry}
+use Rattle.jf_model.specs.Entries.{after, owner_of, timeless}
+use Rattle.jf_model.specs.declared.entries.Entry.TheVariants as entry
+use Rattle.jf_text.specs.Words.{is_long}
+use Rattle.jf_script.specs.declared.command.Command.{Command}
+use Rattle.jf_script.specs.declared.reply.Refusal.{Refusal}
+use Rattle.jf_script.specs.Commands.{command_of}
+use Rattle.jf_script.specs.declared.command.Command.TheVariants as command
+use Rattle.jf_script.specs.declared.reply.Reply.TheVariants as reply
+use Rattle.jf_answers.specs.Own.{Own}
+use Rattle.jf_answers.specs.Answers.{Answer, granted, replied, answer_to, answer, too_long}
+use Rattle.jf_answers.specs.Prunings.{retired_below, next_floor}
+use Rattle.jf_answers.specs.Refusals.{is_built, refused_by}
+use Rattle.jf_answers.specs.OwnLines.{pin_of_command, pin_of}
+
+-- versions are retired by `prune` alone, with the floor that the own pins let it have
+abbrev pub IsPruned : State → Own → Answer → Entry → Type 0
+IsPruned s own a (entry.Retired owner bound floor) = a ≡ retired_below bound (next_floor bound s own) s own
+IsPruned s own a (entry.Made owner fork parent batch root) = Unit {0}
+IsPruned s own a (entry.Landed owner version how root moment) = Unit {0}
+IsPruned s own a (entry.Dropped owner fork) = Unit {0}
+IsPruned s own a (entry.Compacted owner generation) = Unit {0}
+
+-- the entry of an answer has the session's number and no moment, and makes the state after it
+pub record IsOf (s : State) (own : Own) (a : Answer) (e : Entry) : Type 0 where
+  pub state : a.state ≡ after e s
+  pub owned : owner_of e ≡ own.number
+  pub undated : timeless e ≡ e
+  pub pruned_so : IsPruned s own a e
+
+-- without an entry the state is unchanged
+abbrev pub Follows : State → Own → Answer → Option Entry → Type 0
+Follows s own a None = a.state ≡ s
+Follows s own a (Some e) = IsOf s own a e
+
+-- an answer's state follows from its entry, and the own part keeps its number
+pub record IsSoundAnswer (s : State) (own : Own) (a : Answer) : Type 0 where
+  pub follows : Follows s own a a.entry
+  pub number : a.own.number ≡ own.number
+
+-- ---- single answers
+sound_done : (c : Command) (s : State) (own : Own) → IsSoundAnswer s own (granted c s own)
+sound_done (command.Put name value) s own = record { follows = refl; number = refl }
+sound_done (command.Del name) s own = record { follows = refl; number = refl }
+sound_done command.Commit s own = record { follows = record { state = refl; owned = refl; undated = refl; pruned_so = tt }; number = refl }
+sound_done (command.Fork on) s own = record { follows = refl; number = refl }
+sound_done (command.Land id) s own = record { follows = refl; number = refl }
+sound_done (command.Drop id) s own = record { follows = refl; number = refl }
+sound_done (command.Get on name) s own = record { follows = refl; number = refl }
+sound_done (command.Root on) s own = record { follows = refl; number = refl }
+sound_done (command.Prove on name) s own = record { follows = refl; number = refl }
+sound_done (command.Chunk on start count) s own = record { follows = refl; number = refl }
+sound_done (command.Count on) s own = record { follows = refl; number = refl }
+sound_done (command.Nth on place) s own = record { follows = refl; number = refl }
+sound_done (command.Pin version) s own = record { follows = refl; number = refl }
+sound_done (command.Unpin place) s own = record { follows = refl; number = refl }
+sound_done (command.Prune upto) s own = record { follows = refl; number = refl }
+sound_done command.Compact s own = record { follows = refl; number = refl }
+sound_done command.Status s own = record { follows = refl; number = refl }
+
+sound_command : (o : Option Refusal) (c : Command) (s : State) (own : Own) → IsSoundAnswer s own (elim o as (λ x. Answer) [ Some why ↦ replied (reply.No why) s own | None ↦ granted c s own ])
+sound_command None c s own = sound_done c s own
+sound_command (Some why) c s own = record { follows = refl; number = refl }
+
+sound_if : (s : State) (own : Own) (b : Bool) (x y : Answer) → IsSoundAnswer s own x → IsSoundAnswer s own y → IsSoundAnswer s own (cond b x y)
+sound_if s own true x y h k = h
+sound_if s own false x y h k = k
+
+sound_to : (o : Option Command) (s : State) (own : Own) → IsSoundAnswer s own (answer_to o s own)
+sound_to None s own = record { follows = refl; number = refl }
+sound_to (Some c) s own = sound_if s own (is_built c) _ _ (sound_command (refused_by s own c) c s own) (record { follows = refl; number = refl })
+
+pub answer-IsSoundAnswer : (s : State) (own : Own) (line : List ℕ) → IsSoundAnswer s own (answer s own line)
+unfolding answer
+answer-IsSoundAnswer s own line = sound_if s own (is_long line) _ _ (record { follows = refl; number = refl }) (sound_to (command_of line) s own)
+
+-- a `prune` with the floor that the own pins let it have is sound
+pub retired_below-IsSoundAnswer : (upto : ℕ) (s : State) (own : Own) → IsSoundAnswer s own (retired_below upto (next_floor upto s own) s own)
+retired_below-IsSoundAnswer upto s own = record { follows = record { state = refl; owned = refl; undated = refl; pruned_so = refl }; number = refl }
+
+-- ---- pins
+-- each version pinned has the property P
+abbrev pub EachPin : (ℕ → Type 0) → Own → Type 0
+EachPin P own = AllByRecursion (λ pin. IfSome pin P) own.pins
+
+module _ (P : ℕ → Type 0) where
+  pins_done : (c : Command) (s : State) (own : Own) → IfSome (pin_of_command (Some c)) P → EachPin P own → EachPin P (granted c s own).own
+  pins_done (command.Put name value) s own named h = h
+  pins_done (command.Del name) s own named h = h
+  pins_done command.Commit s own named h = h
+  pins_done (command.Fork on) s own named h = h
+  pins_done (command.Land id) s own named h = h
+  pins_done (command.Drop id) s own named h = h
+  pins_done (command.Get on name) s own named h = h
+  pins_done (command.Root on) s own named h = h
+  pins_done (command.Prove on name) s own named h = h
+  pins_done (command.Chunk on start count) s own named h = h
+  pins_done (command.Count on) s own named h = h
+  pins_done (command.Nth on place) s own named h = h
+  pins_done (command.Pin version) s own named h = h
+  pins_done (command.Unpin place) s own named h = h
+  pins_done (command.Prune upto) s own named h = h
+  pins_done command.Compact s own named h = h
+  pins_done command.Status s own named h = h
+
+  pins_command : (o : Option Refusal) (c : Command) (s : State) (own : Own) → IfSome (pin_of_command (Some c)) P → EachPin P own
+      → EachPin P (elim o as (λ x. Answer) [ Some why ↦ replied (reply.No why) s own | None ↦ granted c s own ]).own
+  pins_command None c s own named h = pins_done c s own named h
+  pins_command (Some why) c s own named h = h
+
+  pins_if : (b : Bool) (x y : Answer) → EachPin P x.own → EachPin P y.own → EachPin P (cond b x y).own
+  pins_if true x y h k = h
+  pins_if false x y h k = k
+
+  pins_to : (o : Option Command) (s : State) (own : Own) → IfSome (pin_of_command o) P → EachPin P own → EachPin P (answer_to o s own).own
+  pins_to None s own named h = h
+  pins_to (Some c) s own named h = pins_if (is_built c) _ _ (pins_command (refused_by s own c) c s own named h) h
+
+  pins_line : (long : Bool) (o : Option Command) (s : State) (own : Own) (x : Answer) → IfSome (cond long None (pin_of_command o)) P → EachPin P own → EachPin P x.own
+      → EachPin P (cond long x (answer_to o s own)).own
+  pins_line true o s own x named h k = k
+  pins_line false o s own x named h k = pins_to o s own named h
+
+  -- each version pinned after a line was pinned before, or the line names it
+  pub answer-EachPin : (s : State) (own : Own) (line : List ℕ) → IfSome (pin_of line) P → EachPin P own → EachPin P (answer s own line).own
+  unfolding answer pin_of
+  answer-EachPin s own line named h = pins_line (is_long line) (command_of line) s own _ named h h
+
+-- ---- laws
+-- all long lines have the same answer
+pub answer-long : (s : State) (own : Own) (line : List ℕ) → IsTrue (is_long line) → answer s own line ≡ too_long s own
+unfolding answer
+answer-long s own line long = ap (λ b. cond b (too_long s own) (answer_to (command_of line) s own)) long
+
+-- the answer to a long line doesn't depend on what the line says
+pub answer-both_long : (s : State) (own : Own) (line other : List ℕ) → IsTrue (is_long line) → IsTrue (is_long other) → answer s own line ≡ answer s own other
+answer-both_long s own line other long long' = answer-long s own line long ∙ sym (answer-long s own other long')

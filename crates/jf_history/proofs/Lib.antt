@@ -1,3 +1,0 @@
-pub mod Pins
-pub mod OneSession
-pub mod Samples

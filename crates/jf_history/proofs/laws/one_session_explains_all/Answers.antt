@@ -1,5 +1,0 @@
-use Rattle.jf_history.proofs.OneSession.{one_session_all}
-use Rattle.jf_history.proofs.laws.one_session_explains_all.Goals as goal
-
-pub returns : goal.returns
-returns c = one_session_all

@@ -1,6 +1,0 @@
-//! What it means that one legal history explains the outputs of several sessions, as definitions, with their laws.
-#![tactic(auto)]
-
-mod laws;
-
-pub use laws::{one_session_explains_all, one_session_explains_itself};

@@ -1,5 +1,0 @@
-use Rattle.jf_landing.specs.NodesListed.{fresh-exact}
-use Rattle.jf_landing.proofs.laws.fresh_are_listed.Goals as goal
-
-pub returns : goal.returns
-returns c = λ m m' path part. fresh-exact m m' (path, part)

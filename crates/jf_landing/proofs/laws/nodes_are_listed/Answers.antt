@@ -1,5 +1,0 @@
-use Rattle.jf_landing.specs.NodesListed.{nodes-exact}
-use Rattle.jf_landing.proofs.laws.nodes_are_listed.Goals as goal
-
-pub returns : goal.returns
-returns c = λ m path part. nodes-exact m (path, part)

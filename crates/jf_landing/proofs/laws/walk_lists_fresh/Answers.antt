@@ -1,5 +1,0 @@
-use Rattle.jf_landing.specs.FreshLaws.{with_root-fresh}
-use Rattle.jf_landing.proofs.laws.walk_lists_fresh.Goals as goal
-
-pub returns : goal.returns
-returns c = λ m m'. with_root-fresh m m' (λ path. path)

@@ -1,0 +1,7 @@
+-- What a test lets through.
+use Rattle.std.proofs.Common.{◌≡◌, Bool, true, false, cond, Option, Some, None, refl}
+
+-- a check that let reading go on was true
+pub guard_kept : {A : Type 0} (b : Bool) (r : Option A) (y : A) → cond b r None ≡ Some y → (b ≡ true) × (r ≡ Some y)
+guard_kept true r y e = (refl, e)
+guard_kept false r y e = absurd cc
