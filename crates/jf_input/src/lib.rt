@@ -1,6 +1,5 @@
-//! Inputs whose lines are taken one after another: what the line at the front of what is held is among the lines of the
-//! input, as definitions, with lemmas in `proofs/`; and one loop that hands the lines of a source to a machine and what it
-//! adds to a sink.
+//! One loop over the lines of an input: it hands each line of a source to a machine, and writes into a sink what the
+//! machine adds there, before it looks at the next line.
 #![tactic(auto)]
 
 mod feeding;
