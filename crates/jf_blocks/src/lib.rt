@@ -10,7 +10,7 @@ mod lines;
 mod word;
 mod writing;
 
-pub use chunk::{ChunkHead, chunk_line, entry_line};
+pub use chunk::{ChunkHead, MAX_DEPTH, chunk_line, entry_line};
 pub use chunk_text::write_chunk;
 pub use first::{FirstLine, MAX_SIBLINGS, first_line};
 pub use laws::{

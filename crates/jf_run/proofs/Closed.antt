@@ -7,7 +7,7 @@ use Rattle.jf_disk.specs.Disk.{reads}
 use Rattle.jf_disk.proofs.CrashLaws.{leaves_nowhere}
 use Rattle.jf_disk.proofs.MomentLaws.{same_extends}
 use Rattle.jf_journal.specs.Laws.{LogDamageIsNoVersions}
-use Rattle.jf_engine.specs.Keeping.{Device, HasRefused}
+use Rattle.jf_engine.specs.Keeping.{DiskView, HasRefused}
 use Rattle.jf_engine.specs.declared.fault.OpenFault.{OpenFault}
 use Rattle.jf_session.specs.Runs.{AreWithin}
 use Rattle.jf_run.specs.Commands.{opens, is_verify, is_closing, status_of_refusal}
@@ -33,19 +33,19 @@ closed_untouched : (c : ProgramCall) → c.after.disk ≡ c.before.disk → c.en
 closed_untouched c same none ending = record {
   ending = ending;
   entries = none;
-  left = λ h told. (h, ap (λ (d : Device). d.history) same ∙ told, inl (leaves_nowhere h));
-  stands = λ h told. (h, ap (λ (d : Device). d.history) same ∙ told, λ v stands. stands);
-  stops = λ h told. (h, ap (λ (d : Device). d.history) same ∙ told, λ v calm stands. record { more = []; grows = refl; each = tt });
+  left = λ h told. (h, ap (λ (d : DiskView). d.history) same ∙ told, inl (leaves_nowhere h));
+  stands = λ h told. (h, ap (λ (d : DiskView). d.history) same ∙ told, λ v stands. stands);
+  stops = λ h told. (h, ap (λ (d : DiskView). d.history) same ∙ told, λ v calm stands. record { more = []; grows = refl; each = tt });
 }
 
 forward_untouched : (c : ProgramCall) → c.after.disk ≡ c.before.disk → c.entries ≡ [] → c.before.source_faults ≤ c.after.source_faults → c.before.sink_faults ≤ c.after.sink_faults → GoesForward c
 forward_untouched c same none source sink =
-    let moment : c.before.disk.moment ≤ c.after.disk.moment = subst (λ (d : Device). c.before.disk.moment ≤ d.moment) (sym same) (le_refl c.before.disk.moment) in
+    let moment : c.before.disk.moment ≤ c.after.disk.moment = subst (λ (d : DiskView). c.before.disk.moment ≤ d.moment) (sym same) (le_refl c.before.disk.moment) in
     record {
-      extends = λ h told. (h, ap (λ (d : Device). d.history) same ∙ told, same_extends h);
+      extends = λ h told. (h, ap (λ (d : DiskView). d.history) same ∙ told, same_extends h);
       dated = subst (λ es. AreWithin c.before.disk.moment c.after.disk.moment (moments_of es)) (sym none) moment;
       moment = moment;
-      disk_faults = subst (λ (d : Device). c.before.disk.faults ≤ d.faults) (sym same) (le_refl c.before.disk.faults);
+      disk_faults = subst (λ (d : DiskView). c.before.disk.faults ≤ d.faults) (sym same) (le_refl c.before.disk.faults);
       source_faults = source;
       sink_faults = sink;
     }
@@ -61,7 +61,7 @@ memory_keeps c same start none memory =
       forward = forward_untouched c disk none (subst (λ (d : Devices). c.before.source_faults ≤ d.source_faults) (sym same) (le_refl c.before.source_faults))
           (subst (λ (d : Devices). c.before.sink_faults ≤ d.sink_faults) (sym same) (le_refl c.before.sink_faults));
       files = record {
-        stands = λ h told v stands sound. subst (λ es. Stands c.after.disk.history v es) (sym none) (stands-none h v c.after.disk.history (ap (λ (d : Device). d.history) disk ∙ told) stands);
+        stands = λ h told v stands sound. subst (λ es. Stands c.after.disk.history v es) (sym none) (stands-none h v c.after.disk.history (ap (λ (d : DiskView). d.history) disk ∙ told) stands);
         complete = λ h told v stands some a b d. inr memory;
       };
       closed = subst (λ o. IfNone o (IsClosedCall c)) (sym start) (closed_untouched c disk none (λ e. subst (λ s. IsTrue (is_closing s)) (sym memory) refl));
@@ -86,7 +86,7 @@ usage_keeps c same start none usage asks =
       forward = forward_untouched c disk none (subst (λ (d : Devices). c.before.source_faults ≤ d.source_faults) (sym same) (le_refl c.before.source_faults))
           (subst (λ (d : Devices). c.before.sink_faults ≤ d.sink_faults) (sym same) (le_refl c.before.sink_faults));
       files = record {
-        stands = λ h told v stands sound. subst (λ es. Stands c.after.disk.history v es) (sym none) (stands-none h v c.after.disk.history (ap (λ (d : Device). d.history) disk ∙ told) stands);
+        stands = λ h told v stands sound. subst (λ es. Stands c.after.disk.history v es) (sym none) (stands-none h v c.after.disk.history (ap (λ (d : DiskView). d.history) disk ∙ told) stands);
         complete = λ h told v stands some a b d. absurd (true≢false (sym some ∙ ap (λ (o : Option Mode). is_some o) asks));
       };
       closed = subst (λ o. IfNone o (IsClosedCall c)) (sym start) (closed_untouched c disk none (λ e. subst (λ s. IsTrue (is_closing s)) (sym usage) refl));
@@ -107,7 +107,7 @@ judged_keeps c same start none verify j read write source sink = record {
   };
   forward = forward_untouched c same none source sink;
   files = record {
-    stands = λ h told v stands sound. subst (λ es. Stands c.after.disk.history v es) (sym none) (stands-none h v c.after.disk.history (ap (λ (d : Device). d.history) same ∙ told) stands);
+    stands = λ h told v stands sound. subst (λ es. Stands c.after.disk.history v es) (sym none) (stands-none h v c.after.disk.history (ap (λ (d : DiskView). d.history) same ∙ told) stands);
     complete = λ h told v stands some a b d. judged_well j.end c.status j.how_is (λ r. steady c.before.source_faults c.after.source_faults a.0 a.1 (read r)) (λ w. steady c.before.sink_faults c.after.sink_faults b.0 b.1 (write w));
   };
   closed = subst (λ o. IfNone o (IsClosedCall c)) (sym start) (closed_untouched c same none (λ e. absurd (true≢false (sym verify ∙ e))));

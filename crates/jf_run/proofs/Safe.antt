@@ -12,7 +12,7 @@ use Rattle.jf_journal.specs.Standing.{LogsStandFor}
 use Rattle.jf_journal.specs.Steps.{Opens, LogStopsWell, IsCalmLog}
 use Rattle.jf_journal.specs.Laws.{LogsStandForOne}
 use Rattle.jf_engine.specs.Engines.{IsSettledOn}
-use Rattle.jf_engine.specs.Keeping.{Device}
+use Rattle.jf_engine.specs.Keeping.{DiskView}
 use Rattle.jf_answers.specs.Own.{Own}
 use Rattle.jf_answers.specs.Answers.{answer}
 use Rattle.jf_session.specs.Runs.{Outlasts, AreWithin, IsFrontImage, EndsBy, HasRun}
@@ -82,7 +82,7 @@ opened_front v es g k low high t f settled lasts within dated le left =
     ]
 
 -- a run after an opening is safe since a moment if its images from then on are front images
-run_from : (h : History) (v : Versions) (e : End) (s : Session) (rest rest' text text' : Option (List ℕ)) (disk : Device) (history : Option History) (head moment faults from : ℕ) (es : List Entry)
+run_from : (h : History) (v : Versions) (e : End) (s : Session) (rest rest' text text' : Option (List ℕ)) (disk : DiskView) (history : Option History) (head moment faults from : ℕ) (es : List Entry)
     → LogsStandForOne → disk.history ≡ Some h → LogsStandFor (reads h) v → IsBegun s disk head → (run : HasRun e s rest rest' text text' history moment faults es)
     → ((g k : History) → s.history ≡ Some g → IsSettledOn g v → Outlasts (opened v 1) g k es → AreWithin s.moment run.ran.mid.moment (moments_of es) → (t : ℕ) → from ≤ t → (x : Files) → LeftSince k t x → IsFrontImage x t (opened v 1) es)
     → IsSafeSince from history v es (own_after s run.ran.done) run.ran.next (status_of e) disk.faults faults
@@ -105,7 +105,7 @@ run_from h v e s rest rest' text text' disk history head moment faults from es o
     subst (λ x. IsSafeSince from x v es own run.ran.next (status_of e) disk.faults faults) (sym run.ends.history_is) (subst (λ n. IsSafeSince from run.last.history v es own run.ran.next (status_of e) disk.faults n) (sym run.ends.faults_are) safe)
 
 -- over a calm disk's files a run is safe at every moment, the opening included
-pub run_safe : (h : History) (v : Versions) (e : End) (s : Session) (rest rest' text text' : Option (List ℕ)) (disk : Device) (history : Option History) (head moment faults : ℕ) (es : List Entry)
+pub run_safe : (h : History) (v : Versions) (e : End) (s : Session) (rest rest' text text' : Option (List ℕ)) (disk : DiskView) (history : Option History) (head moment faults : ℕ) (es : List Entry)
     → LogsStandForOne → disk.history ≡ Some h → length h.before ≡ disk.moment → IsCalmLog h → LogsStandFor (reads h) v → IsBegun s disk head → (run : HasRun e s rest rest' text text' history moment faults es)
     → IsSafeSince disk.moment history v es (own_after s run.ran.done) run.ran.next (status_of e) disk.faults faults
 run_safe h v e s rest rest' text text' disk history head moment faults es one told dated calm stands begun run =
@@ -114,7 +114,7 @@ run_safe h v e s rest rest' text text' disk history head moment faults es one to
     (λ g k told_g settled lasts within t since x left. run_front v es h g k s.moment run.ran.mid.moment t x (subst (λ y. LogStopsWell Opens h y v) (told_one s.history opening.0 g opening.1 told_g) (opening.2.stops v calm stands)) calm stands lasts within (begun.dated g told_g) (omega (arith, dated, since)) left)
 
 -- on any disk a run is safe from the moment on at which the store was open
-pub run_opened_safe : (h : History) (v : Versions) (e : End) (s : Session) (rest rest' text text' : Option (List ℕ)) (disk : Device) (history : Option History) (head moment faults : ℕ) (es : List Entry)
+pub run_opened_safe : (h : History) (v : Versions) (e : End) (s : Session) (rest rest' text text' : Option (List ℕ)) (disk : DiskView) (history : Option History) (head moment faults : ℕ) (es : List Entry)
     → LogsStandForOne → disk.history ≡ Some h → LogsStandFor (reads h) v → IsBegun s disk head → (run : HasRun e s rest rest' text text' history moment faults es)
     → IsSafeSince s.moment history v es (own_after s run.ran.done) run.ran.next (status_of e) disk.faults faults
 run_opened_safe h v e s rest rest' text text' disk history head moment faults es one told stands begun run =

@@ -1,14 +1,14 @@
 -- A call of the program, as its contract sees it: what its devices show before and after it, and what it returned.
 use Rattle.std.specs.Prelude.{◌≡◌, ℕ, ◌-◌, ◌<◌, ◌^◌, List, Option}
 use Rattle.jf_model.specs.declared.entries.Entry.{Entry}
-use Rattle.jf_engine.specs.Keeping.{Device}
+use Rattle.jf_engine.specs.Keeping.{DiskView}
 use Rattle.jf_run.specs.declared.status.Status.{Status}
 use Rattle.jf_run.specs.declared.words.Mode.{Mode}
 
 -- what the devices show: the disk; the bytes that the source still has, if they are known, and its count of faults; the
 -- bytes that the sink was given, if they are known, and its count of faults
 pub record Devices : Type 0 where
-  pub disk : Device
+  pub disk : DiskView
   pub rest : Option (List ℕ)
   pub source_faults : ℕ
   pub text : Option (List ℕ)

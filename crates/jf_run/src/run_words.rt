@@ -1,6 +1,6 @@
 // The top call of the program: the words of a command line say what is done with source, sink and disk.
 ghost use Rattle.std.specs.Prelude.{◌≡◌, IfNone, IsFalse};
-ghost use Rattle.jf_engine.specs.Keeping.{device};
+ghost use Rattle.jf_engine.specs.Keeping.{disk_view};
 ghost use Rattle.jf_run.specs.Commands.{asked, opens, is_verify};
 ghost use Rattle.jf_run.specs.Promises.{KeepsPromises};
 
@@ -50,14 +50,14 @@ pub fn run_words<S: Source, K: Sink, D: Disk, H: Threads + Wait + Sync>(
     ensures kept { KeepsPromises (record {
       asks = asked words.now;
       before = record {
-        disk = device (D.history disk) (D.moment disk) (D.faults disk);
+        disk = disk_view (D.history disk) (D.moment disk) (D.faults disk);
         rest = S.rest source.old;
         source_faults = S.faults source.old;
         text = K.text sink.old;
         sink_faults = K.faults sink.old;
       };
       after = record {
-        disk = device (D.history result.disk) (D.moment result.disk) (D.faults result.disk);
+        disk = disk_view (D.history result.disk) (D.moment result.disk) (D.faults result.disk);
         rest = S.rest source.new;
         source_faults = S.faults source.new;
         text = K.text sink.new;

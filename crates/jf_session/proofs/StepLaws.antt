@@ -23,29 +23,29 @@ use Rattle.jf_script.specs.declared.reply.Reply.TheVariants as reply
 use Rattle.jf_script.specs.declared.reply.Refusal.TheVariants as refusal
 use Rattle.jf_answers.specs.Own.{with_pending}
 use Rattle.jf_answers.specs.Answers.{replied, Answer, answer_command, pending_changed, committed}
-use Rattle.jf_session.specs.Sessions.{session_over, Does, Session, commit_answer, Tries}
+use Rattle.jf_session.specs.Sessions.{session_on, Does, Session, commit_answer, Tries}
 use Rattle.jf_session.proofs.CommandLaws.{set_command, set-room, commit-done, set-full, commit-ledger, commit-head, commit-keys}
 
 -- a reply that changes only what is pending
-pub replied_does : (e : Engine) (es : List Entry) (p q : Batch) (over : Bool) (r : Reply) → Does (session_over e es p over) (session_over e es q over) (replied r (session_over e es p over).state (with_pending q (session_over e es p over).own))
+pub replied_does : (e : Engine) (es : List Entry) (p q : Batch) (over : Bool) (r : Reply) → Does (session_on e es p over) (session_on e es q over) (replied r (session_on e es p over).state (with_pending q (session_on e es p over).own))
 replied_does e es p q over r = record { state = refl; own = refl; entries = refl; legal = tt; disk = record { history = refl; moment = refl; faults = refl } }
 
-pub refused_does : (e : Engine) (es : List Entry) (p : Batch) (over : Bool) (r : Reply) (a : Answer) → a ≡ replied r (session_over e es p over).state (session_over e es p over).own → Does (session_over e es p over) (session_over e es p over) a
-refused_does e es p over r a is = subst (λ a. Does (session_over e es p over) (session_over e es p over) a) (sym is) (replied_does e es p p over r)
+pub refused_does : (e : Engine) (es : List Entry) (p : Batch) (over : Bool) (r : Reply) (a : Answer) → a ≡ replied r (session_on e es p over).state (session_on e es p over).own → Does (session_on e es p over) (session_on e es p over) a
+refused_does e es p over r a is = subst (λ a. Does (session_on e es p over) (session_on e es p over) a) (sym is) (replied_does e es p p over r)
 
 -- the answer to a `put` or a `del`
 abbrev pub set_answer : Session → List ℕ → Option (List ℕ) → Answer
 set_answer s name o = answer_command s.state s.own (set_command name o)
 
-pub set_does : (e : Engine) (es : List Entry) (p q : Batch) (over : Bool) (name : List ℕ) (o : Option (List ℕ)) → is_full (K name) p ≡ false → q ≡ put key_cmp (K name) o p → Does (session_over e es p over) (session_over e es q over) (set_answer (session_over e es p over) name o)
+pub set_does : (e : Engine) (es : List Entry) (p q : Batch) (over : Bool) (name : List ℕ) (o : Option (List ℕ)) → is_full (K name) p ≡ false → q ≡ put key_cmp (K name) o p → Does (session_on e es p over) (session_on e es q over) (set_answer (session_on e es p over) name o)
 set_does e es p q over name o room is =
-    let s = session_over e es p over in
+    let s = session_on e es p over in
     let b = put key_cmp (K name) o p in
-    subst (λ a. Does s (session_over e es q over) a) (sym (set-room s.state s.own name o room)) (subst (λ q. Does s (session_over e es q over) (pending_changed name o s.state s.own)) (sym is) (replied_does e es p b over (reply.Pending (length b))))
+    subst (λ a. Does s (session_on e es q over) a) (sym (set-room s.state s.own name o room)) (subst (λ q. Does s (session_on e es q over) (pending_changed name o s.state s.own)) (sym is) (replied_does e es p b over (reply.Pending (length b))))
 
-pub set_count : (e : Engine) (es : List Entry) (p q : Batch) (over : Bool) (name : List ℕ) (o : Option (List ℕ)) → is_full (K name) p ≡ false → q ≡ put key_cmp (K name) o p → reply.Pending (length q) ≡ (set_answer (session_over e es p over) name o).reply
+pub set_count : (e : Engine) (es : List Entry) (p q : Batch) (over : Bool) (name : List ℕ) (o : Option (List ℕ)) → is_full (K name) p ≡ false → q ≡ put key_cmp (K name) o p → reply.Pending (length q) ≡ (set_answer (session_on e es p over) name o).reply
 set_count e es p q over name o room is =
-    let s = session_over e es p over in
+    let s = session_on e es p over in
     ap (λ q. reply.Pending (length q)) is ∙ ap (λ (a : Answer). a.reply) (sym (set-room s.state s.own name o room))
 
 -- the version, root and moment that a landing returns
@@ -58,11 +58,11 @@ pub record IsAnswer (e e' : Engine) (p : Batch) (version moment : ℕ) (r : List
 abbrev entry_of_landing : Engine → Batch → Entry
 entry_of_landing e p = entry.Landed 0 (e.versions.head + 1) (landing.Direct p) (root (apply (newest e.versions) p)) 0
 
-pub legal_landing : (e : Engine) (es : List Entry) (p : Batch) (over : Bool) → IsBatch p → length es < 2 ^ 62 → e.versions.head < 2 ^ 64 - 2 → len (newest e.versions) ≤ 2 ^ 62 → IsLegal (session_over e es p over).state (entry_of_landing e p)
+pub legal_landing : (e : Engine) (es : List Entry) (p : Batch) (over : Bool) → IsBatch p → length es < 2 ^ 62 → e.versions.head < 2 ^ 64 - 2 → len (newest e.versions) ≤ 2 ^ 62 → IsLegal (session_on e es p over).state (entry_of_landing e p)
 legal_landing e es p over sound room more small = (room, record { may = sound; small = small; next = refl; bounded = omega arith; rooted = refl })
 
 landed_state : (e : Engine) (v : Versions) (es : List Entry) (x : Entry) (p : Batch) (over : Bool) (mo fa : ℕ) (hi : Option History) (br : Bool) → v ≡ landed p e.versions
-    → (session_over (record { history = hi; moment = mo; faults = fa; versions = v; broken = br }) (es ++ x ∷ []) [] over).state ≡ after (entry_of_landing e p) (session_over e es p over).state
+    → (session_on (record { history = hi; moment = mo; faults = fa; versions = v; broken = br }) (es ++ x ∷ []) [] over).state ≡ after (entry_of_landing e p) (session_on e es p over).state
 unfolding after
 landed_state e v es x p over mo fa hi br is =
     ap₂ (λ (v : Versions) (n : ℕ). let s : State = record { all = v; floor = v.floor; retired = v.floor; generation = 1; count = n; made = 0; forks = [] } in s) is (length_push es x)
@@ -78,11 +78,11 @@ pub commit_does : (e e' : Engine) (es : List Entry) (p : Batch) (over : Bool) (v
     → length es < 2 ^ 62 → e.versions.head < 2 ^ 64 - 2 → len (newest e.versions) ≤ 2 ^ 62 → IsBatch p → IsAnswer e e' p version moment r
     → e.moment < e'.moment → e.faults ≤ e'.faults
     → ((h : History) → e.history ≡ Some h → (g : History) × (e'.history ≡ Some g) × LogSucceeds (Lands (p ∷ [])) h g e.versions)
-    → Does (session_over e es p over) (session_over e' (es ++ entry.Landed 0 version (landing.Direct p) r moment ∷ []) [] over) (commit_answer (session_over e es p over))
+    → Does (session_on e es p over) (session_on e' (es ++ entry.Landed 0 version (landing.Direct p) r moment ∷ []) [] over) (commit_answer (session_on e es p over))
 commit_does e e' es p over version moment r room more small room' more' small' sound a later faults disk =
-    let s = session_over e es p over in
+    let s = session_on e es p over in
     let x = entry.Landed 0 version (landing.Direct p) r moment in
-    let t = session_over e' (es ++ x ∷ []) [] over in
+    let t = session_on e' (es ++ x ∷ []) [] over in
     let done : Does s t (committed s.state s.own) = record {
       state = landed_state e e'.versions es x p over e'.moment e'.faults e'.history e'.broken a.versions;
       own = refl;
@@ -93,9 +93,9 @@ commit_does e e' es p over version moment r room more small room' more' small' s
     subst (λ a. Does s t a) (sym (commit-done s.state s.own room more small)) done
 
 pub commit_reply : (e e' : Engine) (es : List Entry) (p : Batch) (over : Bool) (version moment : ℕ) (r : List ℕ)
-    → nat_le (2 ^ 62) (length es) ≡ false → nat_le (2 ^ 64 - 2) e.versions.head ≡ false → nat_lt (2 ^ 62) (len (newest e.versions)) ≡ false → IsAnswer e e' p version moment r → reply.Commit version r ≡ (commit_answer (session_over e es p over)).reply
+    → nat_le (2 ^ 62) (length es) ≡ false → nat_le (2 ^ 64 - 2) e.versions.head ≡ false → nat_lt (2 ^ 62) (len (newest e.versions)) ≡ false → IsAnswer e e' p version moment r → reply.Commit version r ≡ (commit_answer (session_on e es p over)).reply
 commit_reply e e' es p over version moment r room more small a =
-    let s = session_over e es p over in
+    let s = session_on e es p over in
     ap₂ reply.Commit (a.version_is ∙ ap (λ (v : Versions). v.head) a.versions) (a.root_is ∙ ap (λ (v : Versions). root (newest v)) a.versions) ∙ ap (λ (a : Answer). a.reply) (sym (commit-done s.state s.own room more small))
 
 pub commit_tries : (e e' : Engine) (es : List Entry) (p : Batch) (over over' : Bool)
@@ -103,9 +103,9 @@ pub commit_tries : (e e' : Engine) (es : List Entry) (p : Batch) (over over' : B
     → length es < 2 ^ 62 → e.versions.head < 2 ^ 64 - 2 → len (newest e.versions) ≤ 2 ^ 62 → IsBatch p
     → e'.versions ≡ e.versions → HasCause e.faults e'.faults → e.moment ≤ e'.moment → e.faults ≤ e'.faults
     → ((h : History) → e.history ≡ Some h → (g : History) × (e'.history ≡ Some g) × LogStopsWell (Lands (p ∷ [])) h g e.versions)
-    → Tries (session_over e es p over) (session_over e' es p over') (commit_answer (session_over e es p over))
+    → Tries (session_on e es p over) (session_on e' es p over') (commit_answer (session_on e es p over))
 commit_tries e e' es p over over' room more small room' more' small' sound same rose moment faults disk =
-    let s = session_over e es p over in
+    let s = session_on e es p over in
     record {
       attempt = entry_of_landing e p;
       tried = ap (λ (a : Answer). a.entry) (commit-done s.state s.own room more small);
@@ -136,26 +136,26 @@ pub large_test : (n m : ℕ) → m < n → nat_lt m n ≡ true
 large_test n m lt = grind (arith)
 
 -- ---- as the code finds it: the session is what its parts show
-module _ (e : Engine) (es : List Entry) (p : Batch) (over : Bool) (s : Session) (is : session_over e es p over ≡ s) where
+module _ (e : Engine) (es : List Entry) (p : Batch) (over : Bool) (s : Session) (is : session_on e es p over ≡ s) where
   abbrev old : Session
-  old = session_over e es p over
+  old = session_on e es p over
 
   pub same_does : (new : Session) (f : Session → Answer) → Does old new (f old) → Does s new (f s)
   same_does new f d = subst (λ t. Does t new (f t)) is d
 
-  pub full_does : (q : Batch) (name : List ℕ) (o : Option (List ℕ)) (k : List ℕ) → k ≡ K name → IsTrue (is_full k p) → q ≡ p → Does s (session_over e es q over) (set_answer s name o)
+  pub full_does : (q : Batch) (name : List ℕ) (o : Option (List ℕ)) (k : List ℕ) → k ≡ K name → IsTrue (is_full k p) → q ≡ p → Does s (session_on e es q over) (set_answer s name o)
   full_does q name o k key full same =
-      same_does (session_over e es q over) (λ t. set_answer t name o)
-      (subst (λ q. Does old (session_over e es q over) (set_answer old name o)) (sym same)
+      same_does (session_on e es q over) (λ t. set_answer t name o)
+      (subst (λ q. Does old (session_on e es q over) (set_answer old name o)) (sym same)
       (refused_does e es p over (reply.No refusal.Pending) (set_answer old name o) (set-full old.state old.own name o (ap (λ k. is_full k p) (sym key) ∙ full))))
 
   pub full_reply : (name : List ℕ) (o : Option (List ℕ)) (k : List ℕ) → k ≡ K name → IsTrue (is_full k p) → reply.No refusal.Pending ≡ (set_answer s name o).reply
   full_reply name o k key full =
       ap (λ (a : Answer). a.reply) (sym (set-full old.state old.own name o (ap (λ k. is_full k p) (sym key) ∙ full))) ∙ ap (λ (t : Session). (set_answer t name o).reply) is
 
-  pub room_does : (q : Batch) (name : List ℕ) (o : Option (List ℕ)) (k : List ℕ) → k ≡ K name → (IsTrue (is_full k p) → ⊥) → q ≡ put key_cmp k o p → Does s (session_over e es q over) (set_answer s name o)
+  pub room_does : (q : Batch) (name : List ℕ) (o : Option (List ℕ)) (k : List ℕ) → k ≡ K name → (IsTrue (is_full k p) → ⊥) → q ≡ put key_cmp k o p → Does s (session_on e es q over) (set_answer s name o)
   room_does q name o k key room made =
-      same_does (session_over e es q over) (λ t. set_answer t name o)
+      same_does (session_on e es q over) (λ t. set_answer t name o)
       (set_does e es p q over name o (ap (λ k. is_full k p) (sym key) ∙ not_full (is_full k p) room) (made ∙ ap (λ k. put key_cmp k o p) key))
 
   pub room_reply : (q : Batch) (name : List ℕ) (o : Option (List ℕ)) (k : List ℕ) → k ≡ K name → (IsTrue (is_full k p) → ⊥) → q ≡ put key_cmp k o p → reply.Pending (length q) ≡ (set_answer s name o).reply
@@ -163,17 +163,17 @@ module _ (e : Engine) (es : List Entry) (p : Batch) (over : Bool) (s : Session) 
       set_count e es p q over name o (ap (λ k. is_full k p) (sym key) ∙ not_full (is_full k p) room) (made ∙ ap (λ k. put key_cmp k o p) key)
       ∙ ap (λ (t : Session). (set_answer t name o).reply) is
 
-  pub ledger_does : 2 ^ 62 ≤ length es → Does s (session_over e es p over) (commit_answer s)
-  ledger_does full = same_does (session_over e es p over) commit_answer (refused_does e es p over (reply.No refusal.Last) (commit_answer old) (commit-ledger old.state old.own (above_test (length es) (2 ^ 62) full)))
+  pub ledger_does : 2 ^ 62 ≤ length es → Does s (session_on e es p over) (commit_answer s)
+  ledger_does full = same_does (session_on e es p over) commit_answer (refused_does e es p over (reply.No refusal.Last) (commit_answer old) (commit-ledger old.state old.own (above_test (length es) (2 ^ 62) full)))
 
   pub ledger_reply : 2 ^ 62 ≤ length es → reply.No refusal.Last ≡ (commit_answer s).reply
   ledger_reply full = ap (λ (a : Answer). a.reply) (sym (commit-ledger old.state old.own (above_test (length es) (2 ^ 62) full))) ∙ ap (λ (t : Session). (commit_answer t).reply) is
 
-  last_does : (e' : Engine) (es' : List Entry) → e' ≡ e → es' ≡ es → commit_answer old ≡ replied (reply.No refusal.Last) old.state old.own → Does s (session_over e' es' p over) (commit_answer s)
+  last_does : (e' : Engine) (es' : List Entry) → e' ≡ e → es' ≡ es → commit_answer old ≡ replied (reply.No refusal.Last) old.state old.own → Does s (session_on e' es' p over) (commit_answer s)
   last_does e' es' same kept refused =
-      subst (λ es'. Does s (session_over e' es' p over) (commit_answer s)) (sym kept)
-      (subst (λ e'. Does s (session_over e' es p over) (commit_answer s)) (sym same)
-      (same_does (session_over e es p over) commit_answer (refused_does e es p over (reply.No refusal.Last) (commit_answer old) refused)))
+      subst (λ es'. Does s (session_on e' es' p over) (commit_answer s)) (sym kept)
+      (subst (λ e'. Does s (session_on e' es p over) (commit_answer s)) (sym same)
+      (same_does (session_on e es p over) commit_answer (refused_does e es p over (reply.No refusal.Last) (commit_answer old) refused)))
 
   last_reply : commit_answer old ≡ replied (reply.No refusal.Last) old.state old.own → reply.No refusal.Last ≡ (commit_answer s).reply
   last_reply refused = ap (λ (a : Answer). a.reply) (sym refused) ∙ ap (λ (t : Session). (commit_answer t).reply) is
@@ -186,7 +186,7 @@ module _ (e : Engine) (es : List Entry) (p : Batch) (over : Bool) (s : Session) 
   no_more (inl last) = commit-head old.state old.own (above_test e.versions.head (2 ^ 64 - 2) (omega arith))
   no_more (inr large) = commit-keys old.state old.own (large_test (len (newest e.versions)) (2 ^ 62) large)
 
-  pub head_does : (e' : Engine) (es' : List Entry) → e' ≡ e → es' ≡ es → IsNoMore → Does s (session_over e' es' p over) (commit_answer s)
+  pub head_does : (e' : Engine) (es' : List Entry) → e' ≡ e → es' ≡ es → IsNoMore → Does s (session_on e' es' p over) (commit_answer s)
   head_does e' es' same kept why = last_does e' es' same kept (no_more why)
 
   pub head_reply : IsNoMore → reply.No refusal.Last ≡ (commit_answer s).reply
@@ -195,11 +195,11 @@ module _ (e : Engine) (es : List Entry) (p : Batch) (over : Bool) (s : Session) 
   pub landed_does : (e' : Engine) (es' : List Entry) (q : Batch) (version moment : ℕ) (r : List ℕ)
       → length es < 2 ^ 62 → e.versions.head < 2 ^ 64 - 2 → len (newest e.versions) ≤ 2 ^ 62 → IsBatch p → IsAnswer e e' p version moment r → e.moment < e'.moment → e.faults ≤ e'.faults
       → ((h : History) → e.history ≡ Some h → (g : History) × (e'.history ≡ Some g) × LogSucceeds (Lands (p ∷ [])) h g e.versions)
-      → es' ≡ es ++ entry.Landed 0 version (landing.Direct p) r moment ∷ [] → q ≡ [] → Does s (session_over e' es' q over) (commit_answer s)
+      → es' ≡ es ++ entry.Landed 0 version (landing.Direct p) r moment ∷ [] → q ≡ [] → Does s (session_on e' es' q over) (commit_answer s)
   landed_does e' es' q version moment r room more small sound a later faults disk grown none =
-      same_does (session_over e' es' q over) commit_answer
-      (subst (λ es'. Does old (session_over e' es' q over) (commit_answer old)) (sym grown)
-      (subst (λ q. Does old (session_over e' (es ++ entry.Landed 0 version (landing.Direct p) r moment ∷ []) q over) (commit_answer old)) (sym none)
+      same_does (session_on e' es' q over) commit_answer
+      (subst (λ es'. Does old (session_on e' es' q over) (commit_answer old)) (sym grown)
+      (subst (λ q. Does old (session_on e' (es ++ entry.Landed 0 version (landing.Direct p) r moment ∷ []) q over) (commit_answer old)) (sym none)
       (commit_does e e' es p over version moment r (below_test (length es) (2 ^ 62) room) (below_test e.versions.head (2 ^ 64 - 2) more) (small_test (len (newest e.versions)) (2 ^ 62) small) room more small sound a later faults disk)))
 
   pub landed_reply : (e' : Engine) (version moment : ℕ) (r : List ℕ) → length es < 2 ^ 62 → e.versions.head < 2 ^ 64 - 2 → len (newest e.versions) ≤ 2 ^ 62 → IsAnswer e e' p version moment r → reply.Commit version r ≡ (commit_answer s).reply
@@ -207,8 +207,8 @@ module _ (e : Engine) (es : List Entry) (p : Batch) (over : Bool) (s : Session) 
       commit_reply e e' es p over version moment r (below_test (length es) (2 ^ 62) room) (below_test e.versions.head (2 ^ 64 - 2) more) (small_test (len (newest e.versions)) (2 ^ 62) small) a ∙ ap (λ (t : Session). (commit_answer t).reply) is
 
   pub fault_tries : (e' : Engine) (es' : List Entry) (over' : Bool) → es' ≡ es → length es < 2 ^ 62 → e.versions.head < 2 ^ 64 - 2 → len (newest e.versions) ≤ 2 ^ 62 → IsBatch p → e'.versions ≡ e.versions → HasCause e.faults e'.faults → e.moment ≤ e'.moment → e.faults ≤ e'.faults
-      → ((h : History) → e.history ≡ Some h → (g : History) × (e'.history ≡ Some g) × LogStopsWell (Lands (p ∷ [])) h g e.versions) → Tries s (session_over e' es' p over') (commit_answer s)
+      → ((h : History) → e.history ≡ Some h → (g : History) × (e'.history ≡ Some g) × LogStopsWell (Lands (p ∷ [])) h g e.versions) → Tries s (session_on e' es' p over') (commit_answer s)
   fault_tries e' es' over' kept room more small sound same rose moment faults disk =
-      subst (λ es'. Tries s (session_over e' es' p over') (commit_answer s)) (sym kept)
-      (subst (λ t. Tries t (session_over e' es p over') (commit_answer t)) is
+      subst (λ es'. Tries s (session_on e' es' p over') (commit_answer s)) (sym kept)
+      (subst (λ t. Tries t (session_on e' es p over') (commit_answer t)) is
       (commit_tries e e' es p over over' (below_test (length es) (2 ^ 62) room) (below_test e.versions.head (2 ^ 64 - 2) more) (small_test (len (newest e.versions)) (2 ^ 62) small) room more small sound same rose moment faults disk))

@@ -32,8 +32,8 @@ pub record Session : Type 0 where
   pub over : Bool
 
 -- the session over a store, with the entries so far and what is pending
-abbrev pub session_over : Engine → List Entry → Batch → Bool → Session
-session_over engine entries pending over = record {
+abbrev pub session_on : Engine → List Entry → Batch → Bool → Session
+session_on engine entries pending over = record {
   state = record { all = engine.versions; floor = engine.versions.floor; retired = engine.versions.floor; generation = 1; count = length entries; made = 0; forks = [] };
   own = record { number = 0; pending = pending; pins = no_pins };
   entries = entries;

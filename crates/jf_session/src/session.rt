@@ -7,7 +7,7 @@ ghost use Rattle.jf_disk.specs.declared.side.Side.{Side};
 ghost use Rattle.jf_model.specs.Versions.{IsVersions};
 ghost use Rattle.jf_model.specs.States.{opened};
 ghost use Rattle.jf_journal.specs.Standing.{IsLogDamagedAt};
-ghost use Rattle.jf_engine.specs.Keeping.{HasOpened, HasRefused, device};
+ghost use Rattle.jf_engine.specs.Keeping.{HasOpened, HasRefused, disk_view};
 ghost use Rattle.jf_answers.specs.Own.{begun_session};
 ghost use Rattle.jf_answers.specs.Answers.{answer};
 ghost use Rattle.jf_answers.specs.Runs.{answer_text};
@@ -45,13 +45,13 @@ impl<D: Disk> Model for Session<D> {
     ghost use Rattle.std.specs.Prelude.{◌≡◌, ◌⊎◌, true, false};
     ghost use Rattle.std.specs.Coded.{codes};
     ghost use Rattle.jf_hash.specs.Codes.{map_code};
-    ghost use Rattle.jf_session.specs.Sessions.{Session, session_over};
+    ghost use Rattle.jf_session.specs.Sessions.{Session, session_on};
 
     ghost Value = { Session };
 
     ghost coded = { Prim.hlevel (codes, map_code) };
 
-    ghost view = { λ s. session_over s.engine s.entries.items s.pending s.over };
+    ghost view = { λ s. session_on s.engine s.entries.items s.pending s.over };
 
     ghost invariant = { λ s. (s.over ≡ true) ⊎ (s.engine.broken ≡ false) };
 }
@@ -72,8 +72,8 @@ impl<D: Disk> Session<D> {
         alloc: Global,
         disk: D,
     ) -> Result<Session<D>, OpenRefused<D>>
-        ensures opened { IfOk result (λ s. HasOpened (device (D.history disk) (D.moment disk) (D.faults disk)) (device s.history s.moment s.faults) s.state.all) }
-        ensures refused { IfErr result (λ e. HasRefused (device (D.history disk) (D.moment disk) (D.faults disk)) (device (D.history e.disk) (D.moment e.disk) (D.faults e.disk)) e.why) }
+        ensures opened { IfOk result (λ s. HasOpened (disk_view (D.history disk) (D.moment disk) (D.faults disk)) (disk_view s.history s.moment s.faults) s.state.all) }
+        ensures refused { IfErr result (λ e. HasRefused (disk_view (D.history disk) (D.moment disk) (D.faults disk)) (disk_view (D.history e.disk) (D.moment e.disk) (D.faults e.disk)) e.why) }
         ensures damage { ForSome (D.history disk) (λ h. (side : Side) (at : ℕ) → IsLogDamagedAt (reads h) side at → IsErr result) }
         ensures sound { IfOk result (λ s. IsVersions s.state.all) }
         ensures state { IfOk result (λ s. (s.state ≡ opened s.state.all 1) × (s.own ≡ begun_session 0) × (s.entries ≡ []) × (s.over ≡ false)) }
