@@ -5,6 +5,4 @@ pub mod Lines
 pub mod ReadLaws
 pub mod Images
 pub mod Advancing
-pub mod Input
-pub mod Progress
-pub mod HeldLines
+pub mod Taken

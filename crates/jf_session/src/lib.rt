@@ -6,6 +6,7 @@ mod reads;
 mod running;
 mod session;
 mod stop;
+mod taking;
 
 pub use running::{End, SoloRan, run};
 pub use session::Session;
