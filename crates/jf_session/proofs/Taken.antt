@@ -17,7 +17,7 @@ use Rattle.jf_answers.specs.Runs.{answers_from, answer_text, text_of, texts_of}
 use Rattle.jf_answers.proofs.RunLaws.{answers_from-append}
 use Rattle.jf_session.specs.Sessions.{Session, Does, Stays, Tries}
 use Rattle.jf_session.specs.Runs.{Advances, run_of, IsCut, Ran}
-use Rattle.jf_session.specs.Taking.{IsDone, TakesLine, TakesEnd, Steps, end_of}
+use Rattle.jf_session.specs.Taking.{IsDone, AnswersLine, AnswersEnd, Steps, end_of_feeding}
 use Rattle.jf_session.specs.declared.running.End.TheVariants as end
 use Rattle.jf_session.specs.declared.stop.Stop.{Stop}
 use Rattle.jf_session.specs.declared.stop.Stop.TheVariants as stop
@@ -38,7 +38,7 @@ given_answer s line whole given = ap (answer s.state s.own) given ∙ given_alik
 done_given : (s new : Session) (line whole : List ℕ) → line ≡ given_of whole → IsDone s line new → IsDone s whole new
 done_given s new line whole given d = (subst (λ (a : Answer). Does s new a) (given_answer s line whole given) d.0, d.1, d.2)
 
-pub took_ok : (s new : Session) (line out out' : List ℕ) (r : Result (Unit {0}) Stop) → Steps s line out r new out' → OnOk r ((t : List ℕ) × (out' ≡ out ++ t) × ((whole : List ℕ) → line ≡ given_of whole → TakesLine s whole new (Ok t)))
+pub took_ok : (s new : Session) (line out out' : List ℕ) (r : Result (Unit {0}) Stop) → Steps s line out r new out' → OnOk r ((t : List ℕ) × (out' ≡ out ++ t) × ((whole : List ℕ) → line ≡ given_of whole → AnswersLine s whole new (Ok t)))
 took_ok s new line out out' (Ok done) d = (
   answer_text new.state.count (answer s.state s.own line),
   d.2,
@@ -46,7 +46,7 @@ took_ok s new line out out' (Ok done) d = (
 )
 took_ok s new line out out' (Err why) d = tt
 
-pub took_err : (s new : Session) (line out out' : List ℕ) (r : Result (Unit {0}) Stop) → Steps s line out r new out' → (whole : List ℕ) → line ≡ given_of whole → IfErr r (λ why. TakesLine s whole new (Err why))
+pub took_err : (s new : Session) (line out out' : List ℕ) (r : Result (Unit {0}) Stop) → Steps s line out r new out' → (whole : List ℕ) → line ≡ given_of whole → IfErr r (λ why. AnswersLine s whole new (Err why))
 took_err s new line out out' (Ok done) d whole given = tt
 took_err s new line out out' (Err stop.DiskFault) d whole given = subst (λ (a : Answer). Tries s new a) (given_answer s line whole given) d
 took_err s new line out out' (Err stop.Broken) d whole given = d
@@ -63,7 +63,7 @@ line_text old m new done line v d =
 one_done : (old m new : Session) (done : List (List ℕ)) (line : List ℕ) → Advances old m done → IsDone m line new → Advances old new (done ++ line ∷ [])
 one_done old m new done line v d = advances_line old m new done line d.1 d.2 v d.0
 
-took_more : (old m new : Session) (done ls : List (List ℕ)) (said : List ℕ) → Advances old m done → Took TakesLine m ls new said
+took_more : (old m new : Session) (done ls : List (List ℕ)) (said : List ℕ) → Advances old m done → Took AnswersLine m ls new said
     → Advances old new (done ++ ls) × (text_of (run_of old (done ++ ls)) ≡ text_of (run_of old done) ++ said)
 took_more old m new done [] said v w = (
   subst (λ (s : Session). Advances old s (done ++ [])) (sym w.0) (subst (λ (ls : List (List ℕ)). Advances old m ls) (sym (append-nil done)) v),
@@ -77,7 +77,7 @@ took_more old m new done (line ∷ ls) said v w =
           ∙ append_assoc before w.1 w.2 ∙ ap (λ t. before ++ t) (sym w.5),
     )
 
-took_all : (old new : Session) (ls : List (List ℕ)) (said : List ℕ) → Took TakesLine old ls new said → Advances old new ls × (text_of (run_of old ls) ≡ said)
+took_all : (old new : Session) (ls : List (List ℕ)) (said : List ℕ) → Took AnswersLine old ls new said → Advances old new ls × (text_of (run_of old ls) ≡ said)
 unfolding answers_from
 took_all old new ls said w = took_more old old new [] ls said (advances_none old) w
 
@@ -133,7 +133,7 @@ stays : (s : Session) → Stays s s
 stays s = record { state = refl; own = refl; entries = refl; history = refl; moment = refl; faults = refl }
 
 module _ (old new : Session) (rest rest' text text' : Option (List ℕ)) where
-  ran_fed : (how : Feeding Stop) → Fed TakesLine TakesEnd how old new rest rest' text text' → Ran (end_of how) old new rest rest' text text'
+  ran_fed : (how : Feeding Stop) → Fed AnswersLine AnswersEnd how old new rest rest' text text' → Ran (end_of_feeding how) old new rest rest' text text'
   ran_fed feeding.Done f =
       let w = took_all old f.mid f.done f.said f.took in
       elim f.ended [
@@ -270,30 +270,30 @@ module _ (old new : Session) (rest rest' text text' : Option (List ℕ)) where
 -- ---- what takes lines shows a session
 module _ {M : Type 0} (shown : M → Session) where
   abbrev Takes : M → List ℕ → M → Result (List ℕ) Stop → Type 0
-  Takes m line new r = TakesLine (shown m) line (shown new) r
+  Takes m line new r = AnswersLine (shown m) line (shown new) r
 
   abbrev Ends : M → M → Result (List ℕ) Stop → Type 0
-  Ends m new r = TakesEnd (shown m) (shown new) r
+  Ends m new r = AnswersEnd (shown m) (shown new) r
 
-  took_shown : (m new : M) (ls : List (List ℕ)) (said : List ℕ) → Took Takes m ls new said → Took TakesLine (shown m) ls (shown new) said
+  took_shown : (m new : M) (ls : List (List ℕ)) (said : List ℕ) → Took Takes m ls new said → Took AnswersLine (shown m) ls (shown new) said
   took_shown m new [] said w = (ap shown w.0, w.1)
   took_shown m new (line ∷ ls) said w = (shown w.0, w.1, w.2, w.3, took_shown w.0 new ls w.2 w.4, w.5)
 
-  line_shown : (how : Feeding Stop) (m new : M) (line : List ℕ) (text text' : Option (List ℕ)) → EndsAtLine Takes how m line new text text' → EndsAtLine TakesLine how (shown m) line (shown new) text text'
+  line_shown : (how : Feeding Stop) (m new : M) (line : List ℕ) (text text' : Option (List ℕ)) → EndsAtLine Takes how m line new text text' → EndsAtLine AnswersLine how (shown m) line (shown new) text text'
   line_shown feeding.Done m new line text text' e = e
   line_shown feeding.ReadFault m new line text text' e = e
   line_shown feeding.WriteFault m new line text text' e = e
   line_shown feeding.Memory m new line text text' e = e
   line_shown (feeding.Stopped why) m new line text text' e = e
 
-  end_shown : (how : Feeding Stop) (m new : M) (text text' : Option (List ℕ)) → EndsAfter Ends how m new text text' → EndsAfter TakesEnd how (shown m) (shown new) text text'
+  end_shown : (how : Feeding Stop) (m new : M) (text text' : Option (List ℕ)) → EndsAfter Ends how m new text text' → EndsAfter AnswersEnd how (shown m) (shown new) text text'
   end_shown feeding.Done m new text text' e = e
   end_shown feeding.ReadFault m new text text' e = e
   end_shown feeding.WriteFault m new text text' e = e
   end_shown feeding.Memory m new text text' e = e
   end_shown (feeding.Stopped why) m new text text' e = e
 
-  fed_shown : (how : Feeding Stop) (old new : M) (rest rest' text text' : Option (List ℕ)) → Fed Takes Ends how old new rest rest' text text' → Fed TakesLine TakesEnd how (shown old) (shown new) rest rest' text text'
+  fed_shown : (how : Feeding Stop) (old new : M) (rest rest' text text' : Option (List ℕ)) → Fed Takes Ends how old new rest rest' text text' → Fed AnswersLine AnswersEnd how (shown old) (shown new) rest rest' text text'
   fed_shown how old new rest rest' text text' f = record {
     done = f.done;
     mid = shown f.mid;
@@ -310,12 +310,12 @@ module _ {M : Type 0} (shown : M → Session) where
     ];
   }
 
-  pub ran_shown : (how : Feeding Stop) (old new : M) (rest rest' text text' : Option (List ℕ)) → Fed Takes Ends how old new rest rest' text text' → Ran (end_of how) (shown old) (shown new) rest rest' text text'
+  pub ran_shown : (how : Feeding Stop) (old new : M) (rest rest' text text' : Option (List ℕ)) → Fed Takes Ends how old new rest rest' text text' → Ran (end_of_feeding how) (shown old) (shown new) rest rest' text text'
   ran_shown how old new rest rest' text text' f = ran_fed (shown old) (shown new) rest rest' text text' how (fed_shown how old new rest rest' text text' f)
 
 -- ---- what ended it
 
-pub read_fault_of : (how : Feeding Stop) → end_of how ≡ end.ReadFault → how ≡ feeding.ReadFault
+pub read_fault_of : (how : Feeding Stop) → end_of_feeding how ≡ end.ReadFault → how ≡ feeding.ReadFault
 read_fault_of feeding.Done e = absurd (cc)
 read_fault_of feeding.ReadFault e = refl
 read_fault_of feeding.WriteFault e = absurd (cc)
@@ -324,7 +324,7 @@ read_fault_of (feeding.Stopped stop.DiskFault) e = absurd (cc)
 read_fault_of (feeding.Stopped stop.Broken) e = absurd (cc)
 read_fault_of (feeding.Stopped stop.Memory) e = absurd (cc)
 
-pub write_fault_of : (how : Feeding Stop) → end_of how ≡ end.WriteFault → how ≡ feeding.WriteFault
+pub write_fault_of : (how : Feeding Stop) → end_of_feeding how ≡ end.WriteFault → how ≡ feeding.WriteFault
 write_fault_of feeding.Done e = absurd (cc)
 write_fault_of feeding.ReadFault e = absurd (cc)
 write_fault_of feeding.WriteFault e = refl

@@ -16,23 +16,23 @@ use Rattle.jf_session.specs.declared.stop.Stop.TheVariants as stop
 abbrev pub IsDone : Session → List ℕ → Session → Type 0
 IsDone s line new = Does s new (answer s.state s.own line) × IsDatedBy s × IsDatedBy new
 
--- what a line makes of it, and its reply, or why it stops
-abbrev pub TakesLine : Session → List ℕ → Session → Result (List ℕ) Stop → Type 0
-TakesLine s line new (Ok text) = IsDone s line new × (text ≡ answer_text new.state.count (answer s.state s.own line))
-TakesLine s line new (Err stop.DiskFault) = Tries s new (answer s.state s.own line)
-TakesLine s line new (Err stop.Broken) = ⊥
-TakesLine s line new (Err stop.Memory) = Stays s new ⊎ IsDone s line new
+-- what a line makes of a session, and the reply, or why the session stops
+abbrev pub AnswersLine : Session → List ℕ → Session → Result (List ℕ) Stop → Type 0
+AnswersLine s line new (Ok text) = IsDone s line new × (text ≡ answer_text new.state.count (answer s.state s.own line))
+AnswersLine s line new (Err stop.DiskFault) = Tries s new (answer s.state s.own line)
+AnswersLine s line new (Err stop.Broken) = ⊥
+AnswersLine s line new (Err stop.Memory) = Stays s new ⊎ IsDone s line new
 
--- nothing is said at the end
-abbrev pub TakesEnd : Session → Session → Result (List ℕ) Stop → Type 0
-TakesEnd s new (Ok text) = (text ≡ []) × Stays s new
-TakesEnd s new (Err why) = ⊥
+-- at the end of the input nothing is written, and the session is unchanged
+abbrev pub AnswersEnd : Session → Session → Result (List ℕ) Stop → Type 0
+AnswersEnd s new (Ok text) = (text ≡ []) × Stays s new
+AnswersEnd s new (Err why) = ⊥
 
 -- ---- the call that does a line
 -- the same with a text before and after it, to which the reply is appended
 abbrev pub Steps : Session → List ℕ → List ℕ → Result (Unit {0}) Stop → Session → List ℕ → Type 0
 Steps s line out (Ok done) new out' = IsDone s line new × (new.over ≡ false) × (out' ≡ out ++ answer_text new.state.count (answer s.state s.own line))
-Steps s line out (Err why) new out' = TakesLine s line new (Err why)
+Steps s line out (Err why) new out' = AnswersLine s line new (Err why)
 
 -- calls may be made on a session that isn't over, and do lines
 abbrev pub AreSteps : {T : Type 0} → (T → Session) → (MutBor T → Bor (List ℕ) → MutBor (List ℕ) → Type 0) → (MutBor T → Bor (List ℕ) → MutBor (List ℕ) → Result (Unit {0}) Stop → MutBor T → MutBor (List ℕ) → Type 0) → Type 0
@@ -41,11 +41,11 @@ AreSteps {T} shown pre post =
     × ((s : MutBor T) (line : Bor (List ℕ)) (out : MutBor (List ℕ)) (r : Result (Unit {0}) Stop) (s' : MutBor T) (out' : MutBor (List ℕ)) → post s line out r s' out' → Steps (shown s.now) line.now out.now r (shown s'.now) out'.now)
 
 -- ---- how a run ended
-abbrev pub end_of : Feeding Stop → End
-end_of feeding.Done = end.Done
-end_of feeding.ReadFault = end.ReadFault
-end_of feeding.WriteFault = end.WriteFault
-end_of feeding.Memory = end.Memory
-end_of (feeding.Stopped stop.DiskFault) = end.DiskFault
-end_of (feeding.Stopped stop.Broken) = end.Broken
-end_of (feeding.Stopped stop.Memory) = end.Memory
+abbrev pub end_of_feeding : Feeding Stop → End
+end_of_feeding feeding.Done = end.Done
+end_of_feeding feeding.ReadFault = end.ReadFault
+end_of_feeding feeding.WriteFault = end.WriteFault
+end_of_feeding feeding.Memory = end.Memory
+end_of_feeding (feeding.Stopped stop.DiskFault) = end.DiskFault
+end_of_feeding (feeding.Stopped stop.Broken) = end.Broken
+end_of_feeding (feeding.Stopped stop.Memory) = end.Memory

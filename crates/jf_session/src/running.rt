@@ -2,7 +2,7 @@
 ghost use Rattle.std.specs.Prelude.{◌≡◌, ◌≤◌, false};
 ghost use Rattle.jf_path.specs.Faults.{HasCause};
 ghost use Rattle.jf_session.specs.Runs.{HasRun};
-ghost use Rattle.jf_session.specs.Taking.{Steps, end_of};
+ghost use Rattle.jf_session.specs.Taking.{Steps, end_of_feeding};
 
 use crate::session::Session;
 use crate::stop::Stop;
@@ -29,19 +29,20 @@ pub enum End {
     DiskFault,
     /// The disk failed in an earlier call on the same store.
     Broken,
-    /// Memory is wanting.
+    /// Out of memory.
     Memory,
 }
 
-/// What a run over a script hands back: the disk, the entries of the ledger, and how it ended.
+/// What a run over a script hands back: the disk, the entries that it made, in order, and how it ended.
 pub struct SoloRan<D> {
     pub disk: D,
     pub entries: Ledger,
     pub end: End,
 }
 
-/// Answers the lines of a source into a sink, each before the next is looked at, and a landing with at most this many
-/// workers. Input is taken in large pieces.
+/// Answers the lines of a script (docs/FORMATS.md) from a source into a sink: each reply is written before the next line
+/// is looked at. A landing takes at most this many workers, 1 to 64. Input is taken in pieces of 65,536 bytes. After a
+/// fault of the source, the sink or the disk, or out of memory, the run ends; the entries made so far are handed back.
 pub fn run<S: Source, K: Sink, D: Disk, H: Threads + Sync, G: Gate>(
     rt: &H,
     alloc: Global,
@@ -65,15 +66,15 @@ pub fn run<S: Source, K: Sink, D: Disk, H: Threads + Sync, G: Gate>(
         ensures { Steps session.old line.now out.old result session.new out.new }
     { answer_line(rt, alloc, session, line, workers, gate, out) };
     let mut taking = Taking { session, step };
-    let end = end_of(feed(alloc, &mut taking, source, sink));
+    let end = end_of_feeding(feed(alloc, &mut taking, source, sink));
     let Taking { session, step: _ } = taking;
     let (disk, entries) = session.end();
     SoloRan { disk, entries, end }
 }
 
 // How a run ended.
-fn end_of(how: Feeding<Stop>) -> End
-    ensures { result ≡ end_of how }
+fn end_of_feeding(how: Feeding<Stop>) -> End
+    ensures { result ≡ end_of_feeding how }
 {
     match how {
         Feeding::Done => End::Done,

@@ -30,15 +30,15 @@ pub(crate) struct Taking<T, F> {
 
 impl<T: Shows, F: Fn(&mut T, &[u8], &mut Bytes) -> Result<(), Stop>> LineMachine for Taking<T, F> {
     ghost use Rattle.std.specs.Prelude.{◌≡◌, false};
-    ghost use Rattle.jf_session.specs.Taking.{AreSteps, TakesLine, TakesEnd};
+    ghost use Rattle.jf_session.specs.Taking.{AreSteps, AnswersLine, AnswersEnd};
 
     type Stop = Stop;
 
     ghost ready = { λ t. ((T.shown t.session).over ≡ false) × AreSteps T.shown (F.pre t.step) (F.post t.step) };
 
-    ghost takes = { λ t line next r. TakesLine (T.shown t.session) line (T.shown next.session) r };
+    ghost takes = { λ t line next r. AnswersLine (T.shown t.session) line (T.shown next.session) r };
 
-    ghost ends = { λ t next r. TakesEnd (T.shown t.session) (T.shown next.session) r };
+    ghost ends = { λ t next r. AnswersEnd (T.shown t.session) (T.shown next.session) r };
 
     fn take_line(&mut self, _alloc: Global, line: &[u8], out: &mut Bytes) -> Result<(), Stop> {
         (self.step)(&mut self.session, line, out)

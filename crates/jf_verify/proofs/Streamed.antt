@@ -5,7 +5,7 @@ use Rattle.jf_io.proofs.FirstLines.{all_first}
 use Rattle.jf_input.specs.Feeds.{Took, Appends, ReadsLinesOf, ReadsAll, HasRead, Fed}
 use Rattle.jf_input.specs.declared.feeding.Feeding.{Feeding}
 use Rattle.jf_input.specs.declared.feeding.Feeding.TheVariants as feeding
-use Rattle.jf_verify.specs.Steps.{StreamState, said, TakesLine, begun, said_to_end, TakesEnd}
+use Rattle.jf_verify.specs.Steps.{StreamState, said, JudgesLine, begun, said_to_end, JudgesEnd}
 use Rattle.jf_verify.specs.Streams.{after_lines, said_all, Stops, JudgedBy, answers_of, HasVerified, Judges, verified_of, GetsFront}
 use Rattle.jf_verify.specs.declared.stream.Verified.{Verified}
 use Rattle.jf_verify.specs.Verdicts.{verdicts}
@@ -13,7 +13,7 @@ use Rattle.jf_verify.specs.declared.stream.Verified.TheVariants as verified
 use Rattle.jf_verify.proofs.Folds.{said_all-more, verdicts-append, stops_in, stops_after}
 
 -- what the lines make of a judge, and what they add
-took_after : (F : Type 0) (s next : StreamState) (ls : List (List ℕ)) (text : List ℕ) → Took {F = F} TakesLine s ls next text → (next ≡ after_lines s ls) × (text ≡ said_all s ls)
+took_after : (F : Type 0) (s next : StreamState) (ls : List (List ℕ)) (text : List ℕ) → Took {F = F} JudgesLine s ls next text → (next ≡ after_lines s ls) × (text ≡ said_all s ls)
 unfolding after_lines said_all
 took_after F s next [] text w = w
 took_after F s next (line ∷ ls) text w =
@@ -30,7 +30,7 @@ judged_stop : (e : Verified) → IsStop e → (input taken left : List ℕ) (don
 judged_stop e (inl is) input taken left done text stops = subst (λ (v : Verified). JudgedBy v input taken left done text) (sym is) stops
 judged_stop e (inr is) input taken left done text stops = subst (λ (v : Verified). JudgedBy v input taken left done text) (sym is) stops
 
-module _ (F : Type 0) (source source' text text' : Option (List ℕ)) (done : List (List ℕ)) (mid : StreamState) (add : List ℕ) (took : Took {F = F} TakesLine begun done mid add) (so_far : Option (List ℕ)) (put : Appends text so_far add) where
+module _ (F : Type 0) (source source' text text' : Option (List ℕ)) (done : List (List ℕ)) (mid : StreamState) (add : List ℕ) (took : Took {F = F} JudgesLine begun done mid add) (so_far : Option (List ℕ)) (put : Appends text so_far add) where
   mid_is : mid ≡ after_lines begun done
   mid_is = (took_after F begun mid done add took).0
 
@@ -126,25 +126,25 @@ module _ (F : Type 0) (source source' text text' : Option (List ℕ)) (done : Li
 
 -- ---- by how it was fed
 module _ {F : Type 0} {last : StreamState} {source source' text text' : Option (List ℕ)} where
-  pub judged_done : Fed {F = F} TakesLine TakesEnd feeding.Done begun last source source' text text' → HasVerified verified.Done source source' text text'
+  pub judged_done : Fed {F = F} JudgesLine JudgesEnd feeding.Done begun last source source' text text' → HasVerified verified.Done source source' text text'
   judged_done f = elim f.ended [
     | inl b ↦ absurd b.2
     | inr e ↦ elim e [ inl l ↦ absurd l.1 | inr a ↦ judged_all F source source' text text' f.done f.mid f.said f.took f.text_so_far f.written a.0.0 a.0.1 a.0.2 a.1 ]
   ]
 
-  pub judged_unread : Fed {F = F} TakesLine TakesEnd feeding.ReadFault begun last source source' text text' → HasVerified verified.ReadFault source source' text text'
+  pub judged_unread : Fed {F = F} JudgesLine JudgesEnd feeding.ReadFault begun last source source' text text' → HasVerified verified.ReadFault source source' text text'
   judged_unread f = elim f.ended [
     | inl b ↦ λ input is. let r = b.2 input is in judged_between F source source' text text' f.done f.mid f.said f.took f.text_so_far f.written input is verified.ReadFault r.0 r.1 r.2 (r.3, refl) b.1
     | inr e ↦ elim e [ inl l ↦ absurd l.1 | inr a ↦ absurd a.0 ]
   ]
 
-  pub judged_wanting : Fed {F = F} TakesLine TakesEnd feeding.Memory begun last source source' text text' → HasVerified verified.Memory source source' text text'
+  pub judged_wanting : Fed {F = F} JudgesLine JudgesEnd feeding.Memory begun last source source' text text' → HasVerified verified.Memory source source' text text'
   judged_wanting f = elim f.ended [
     | inl b ↦ λ input is. let r = b.2 input is in judged_between F source source' text text' f.done f.mid f.said f.took f.text_so_far f.written input is verified.Memory r.0 r.1 r.2 (inl (stops_after f.done)) b.1
     | inr e ↦ elim e [ inl l ↦ absurd l.1 | inr a ↦ absurd a.0 ]
   ]
 
-  pub judged_cut : Fed {F = F} TakesLine TakesEnd feeding.WriteFault begun last source source' text text' → HasVerified verified.WriteFault source source' text text'
+  pub judged_cut : Fed {F = F} JudgesLine JudgesEnd feeding.WriteFault begun last source source' text text' → HasVerified verified.WriteFault source source' text text'
   judged_cut f = elim f.ended [
     | inl b ↦ absurd b.2
     | inr e ↦ elim e [
@@ -154,7 +154,7 @@ module _ {F : Type 0} {last : StreamState} {source source' text text' : Option (
     ]
   ]
 
-  pub judged_stopped : (why : F) → Fed {F = F} TakesLine TakesEnd (feeding.Stopped why) begun last source source' text text' → HasVerified verified.Memory source source' text text'
+  pub judged_stopped : (why : F) → Fed {F = F} JudgesLine JudgesEnd (feeding.Stopped why) begun last source source' text text' → HasVerified verified.Memory source source' text text'
   judged_stopped why f = elim f.ended [
     | inl b ↦ absurd b.2
     | inr e ↦ elim e [
@@ -163,7 +163,7 @@ module _ {F : Type 0} {last : StreamState} {source source' text text' : Option (
     ]
   ]
 
-  pub judged : (how : Feeding F) → Fed {F = F} TakesLine TakesEnd how begun last source source' text text' → HasVerified (verified_of how) source source' text text'
+  pub judged : (how : Feeding F) → Fed {F = F} JudgesLine JudgesEnd how begun last source source' text text' → HasVerified (verified_of how) source source' text text'
   judged feeding.Done f = judged_done f
   judged feeding.ReadFault f = judged_unread f
   judged feeding.WriteFault f = judged_cut f

@@ -131,11 +131,11 @@ said_to_end s (line ∷ ls) = said s line ++ said_to_end (after_line s line) ls
 
 -- ---- a machine that takes lines
 -- what a line makes of it and adds; after a refusal nothing is known of it
-abbrev pub TakesLine : {F : Type 0} → StreamState → List ℕ → StreamState → Result (List ℕ) F → Type 0
-TakesLine s line next (Ok text) = (next ≡ after_line s line) × (text ≡ said s line)
-TakesLine s line next (Err why) = Unit {0}
+abbrev pub JudgesLine : {F : Type 0} → StreamState → List ℕ → StreamState → Result (List ℕ) F → Type 0
+JudgesLine s line next (Ok text) = (next ≡ after_line s line) × (text ≡ said s line)
+JudgesLine s line next (Err why) = Unit {0}
 
 -- what the end adds
-abbrev pub TakesEnd : {F : Type 0} → StreamState → StreamState → Result (List ℕ) F → Type 0
-TakesEnd s next (Ok text) = text ≡ said_to_end s []
-TakesEnd s next (Err why) = Unit {0}
+abbrev pub JudgesEnd : {F : Type 0} → StreamState → StreamState → Result (List ℕ) F → Type 0
+JudgesEnd s next (Ok text) = text ≡ said_to_end s []
+JudgesEnd s next (Err why) = Unit {0}

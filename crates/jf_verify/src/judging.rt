@@ -116,15 +116,15 @@ impl Judge {
 
 impl LineMachine for Judge {
     ghost use Rattle.std.specs.Prelude.{⊤};
-    ghost use Rattle.jf_verify.specs.Steps.{TakesLine, TakesEnd};
+    ghost use Rattle.jf_verify.specs.Steps.{JudgesLine, JudgesEnd};
 
     type Stop = Memory;
 
     ghost ready = { λ _. ⊤ };
 
-    ghost takes = { λ s line next r. TakesLine s line next r };
+    ghost takes = { λ s line next r. JudgesLine s line next r };
 
-    ghost ends = { λ s next r. TakesEnd s next r };
+    ghost ends = { λ s next r. JudgesEnd s next r };
 
     fn take_line(&mut self, alloc: Global, line: &[u8], out: &mut Bytes) -> Result<(), Memory> {
         self.line(alloc, line, out)?;

@@ -13,12 +13,12 @@ returns-clause-ran g c =
     record {
       last = c.feed.new.machine.session;
       ends = record { history_is = c.end-disk.ensures.history; moment_is = c.end-disk.ensures.moment; faults_are = c.end-disk.ensures.faults; entries_are = c.end-disk.ensures.entries };
-      ran = subst (λ (e : End). Ran e c.args.session c.feed.new.machine.session source source' text text') (sym c.end_of-end.ensures)
+      ran = subst (λ (e : End). Ran e c.args.session c.feed.new.machine.session source source' text text') (sym c.end_of_feeding-end.ensures)
           (ran_shown (λ t. t.session) c.feed.result _ c.feed.new.machine source source' text text' c.feed.ensures.fed);
     }
 
 pub returns-clause-read : goal.returns-clause-read
-returns-clause-read g c = λ e. c.feed.ensures.read (read_fault_of c.feed.result (sym c.end_of-end.ensures ∙ e))
+returns-clause-read g c = λ e. c.feed.ensures.read (read_fault_of c.feed.result (sym c.end_of_feeding-end.ensures ∙ e))
 
 pub returns-clause-write : goal.returns-clause-write
-returns-clause-write g c = λ e. c.feed.ensures.write (write_fault_of c.feed.result (sym c.end_of-end.ensures ∙ e))
+returns-clause-write g c = λ e. c.feed.ensures.write (write_fault_of c.feed.result (sym c.end_of_feeding-end.ensures ∙ e))

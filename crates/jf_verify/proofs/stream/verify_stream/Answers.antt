@@ -1,6 +1,6 @@
 use Rattle.std.proofs.Common.{sym, subst, ◌∙◌}
 use Rattle.jf_input.specs.Feeds.{Fed}
-use Rattle.jf_verify.specs.Steps.{StreamState, TakesLine, TakesEnd}
+use Rattle.jf_verify.specs.Steps.{StreamState, JudgesLine, JudgesEnd}
 use Rattle.jf_verify.specs.Streams.{HasVerified}
 use Rattle.jf_verify.specs.declared.stream.Verified.{Verified}
 use Rattle.jf_verify.proofs.Streamed.{judged, read_fault_of, write_fault_of, verified_done, verified_front}
@@ -13,7 +13,7 @@ returns-clause-judged g c =
     let text = g.K.Sink.text c.args.sink.now in
     let text' = g.K.Sink.text c.feed.new.sink in
     subst (λ (v : Verified). HasVerified v source source' text text') (sym c.verified_of.ensures)
-    (judged c.feed.result (subst (λ (s : StreamState). Fed TakesLine TakesEnd c.feed.result s c.feed.new.machine source source' text text') c.new-judge.ensures c.feed.ensures.fed))
+    (judged c.feed.result (subst (λ (s : StreamState). Fed JudgesLine JudgesEnd c.feed.result s c.feed.new.machine source source' text text') c.new-judge.ensures c.feed.ensures.fed))
 
 pub returns-clause-done : goal.returns-clause-done
 returns-clause-done g c =
