@@ -1,4 +1,4 @@
--- Laws on a disk in memory meets the laws: one state for each moment, a crash may leave what a read gives, no side is too long.
+-- Laws on a disk in memory: one state for each moment, a crash may leave what a read gives, and no side is too long.
 use Rattle.std.specs.Prelude.{◌≡◌, ◌+◌, ◌-◌, List, [], ◌∷◌, ◌++◌, refl}
 use Rattle.std.proofs.Common.{arith}
 use Rattle.jf_disk.specs.Disk.{History, next}
