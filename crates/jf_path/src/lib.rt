@@ -15,6 +15,7 @@ mod nibbles;
 mod node;
 mod node_lists;
 mod path;
+mod shared_bytes;
 
 pub use bytes::Bytes;
 pub use children::{Child, Children};
@@ -29,3 +30,4 @@ pub use nibbles::Nibble;
 pub use node::PlainNode;
 pub use node_lists::{FreshList, LiveList, NameList};
 pub use path::NibblePath;
+pub use shared_bytes::SharedBytes;
