@@ -11,7 +11,7 @@ ghost use Rattle.jf_plain.specs.Entries.{HasShortValues, IsPlaceInMap, IsCountBe
 ghost use Rattle.jf_model.specs.Changes.{with_put};
 
 use jf_hash::{Hash, plain_root, value};
-use jf_path::{Bytes, Key, Memory};
+use jf_path::{Bytes, Key, Memory, SharedBytes};
 use jf_split::Batch;
 use std::alloc::Global;
 use std::marker::Model;
@@ -156,7 +156,7 @@ fn push_put(
     alloc: Global,
     entries: &mut Vec<(Key, Bytes)>,
     key: &Key,
-    put: &Option<Bytes>,
+    put: &Option<SharedBytes>,
 ) -> Result<(), Memory>
     ensures { OnOk result (entries.new.items ≡ entries.old.items ++ with_put key.now put.now []) }
 {
@@ -170,7 +170,7 @@ fn push_put(
 fn merged(
     alloc: Global,
     entries: &[(Key, Bytes)],
-    batch: &[(Key, Option<Bytes>)],
+    batch: &[(Key, Option<SharedBytes>)],
 ) -> Result<Vec<(Key, Bytes)>, Memory>
     requires entries { T (is_sorted key_cmp entries.now) }
     requires batch { T (is_sorted key_cmp batch.now) }

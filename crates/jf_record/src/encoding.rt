@@ -9,7 +9,7 @@ ghost use Rattle.jf_path.specs.Numbers.{four_bytes};
 ghost use Rattle.jf_split.specs.Limits.{IsWithinLimits};
 
 use crate::kinds::{CLOSED, LANDING, REMOVED, Record, SET};
-use jf_path::{Bytes, Key, Memory};
+use jf_path::{Bytes, Key, Memory, SharedBytes};
 use jf_split::Batch;
 use std::alloc::Global;
 
@@ -40,7 +40,7 @@ pub fn encode_landing(alloc: Global, version: u64, batch: &Batch) -> Result<Byte
 }
 
 // The number of bytes that the entries take.
-fn entries_len(entries: &[(Key, Option<Bytes>)]) -> usize
+fn entries_len(entries: &[(Key, Option<SharedBytes>)]) -> usize
     requires sound { IsBatch entries.now }
     requires limited { IsWithinLimits entries.now }
     ensures len { result ≡ length (flat_map entry_bytes entries.now) }
@@ -54,7 +54,7 @@ fn entries_len(entries: &[(Key, Option<Bytes>)]) -> usize
 }
 
 // The number of bytes that an entry takes.
-fn entry_len(entry: &(Key, Option<Bytes>)) -> usize
+fn entry_len(entry: &(Key, Option<SharedBytes>)) -> usize
     requires key { length entry.now.0 ≡ 32 }
     requires limited { IfSome entry.now.1 (λ v. length v ≤ max_value) }
     ensures len { result ≡ length (entry_bytes entry.now) }
@@ -87,7 +87,7 @@ fn put_value(out: &mut Vec<u8>, value: &[u8]) -> Result<(), Memory>
 }
 
 // Adds a key and its change: 00 for a removal; or 01 and the value.
-fn put_entry(out: &mut Vec<u8>, entry: &(Key, Option<Bytes>)) -> Result<(), Memory>
+fn put_entry(out: &mut Vec<u8>, entry: &(Key, Option<SharedBytes>)) -> Result<(), Memory>
     requires { IfSome entry.now.1 (λ v. length v ≤ max_value) }
     ensures { OnOk result (out.new.items ≡ out.old.items ++ entry_bytes entry.now) }
 {
@@ -105,7 +105,7 @@ fn put_entry(out: &mut Vec<u8>, entry: &(Key, Option<Bytes>)) -> Result<(), Memo
 }
 
 // Adds each key and its change.
-fn put_entries(out: &mut Vec<u8>, entries: &[(Key, Option<Bytes>)]) -> Result<(), Memory>
+fn put_entries(out: &mut Vec<u8>, entries: &[(Key, Option<SharedBytes>)]) -> Result<(), Memory>
     requires { IsWithinLimits entries.now }
     ensures { OnOk result (out.new.items ≡ out.old.items ++ flat_map entry_bytes entries.now) }
 {

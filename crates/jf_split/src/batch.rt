@@ -11,7 +11,7 @@ ghost use Rattle.jf_split.specs.Places.{IsPlaceOf, IsGapFor};
 
 use crate::fault::BatchFault;
 use crate::piece::{Piece, pieces_of};
-use jf_path::{Bytes, Key, Memory};
+use jf_path::{Key, Memory, SharedBytes};
 use std::alloc::Global;
 use std::marker::Model;
 
@@ -22,7 +22,7 @@ pub const MAX_KEYS: usize = 10_000;
 /// `None`, which removes the key.
 #[derive(Debug, Drop)]
 pub struct Batch {
-    entries: Vec<(Key, Option<Bytes>)>,
+    entries: Vec<(Key, Option<SharedBytes>)>,
 }
 
 impl Model for Batch {
@@ -56,7 +56,7 @@ impl Batch {
     }
 
     /// The keys in their order, each with its value, or with `None` if it is removed.
-    pub fn as_slice(&self) -> &[(Key, Option<Bytes>)]
+    pub fn as_slice(&self) -> &[(Key, Option<SharedBytes>)]
         ensures entries { result.now ≡ self.now }
         ensures sound { IsBatch self.now }
         ensures distinct { IsDistinct same_key (map (λ e. e.0) self.now) }
@@ -65,13 +65,13 @@ impl Batch {
         &self.entries
     }
 
-    /// A copy of the batch.
+    /// A copy of the batch, which shares its values.
     pub fn copy(&self, alloc: Global) -> Result<Batch, Memory>
         ensures { IfOk result (λ b. b ≡ self.now) }
     {
         let mut entries = Vec::with_capacity(alloc, self.entries.len())?;
         for (key, value) in &self.entries {
-            entries.push((*key, copy_of(alloc, value)?))?;
+            entries.push((*key, share_if(value)?))?;
         }
         Ok(Batch { entries })
     }
@@ -94,7 +94,7 @@ impl Batch {
         ensures room { IsTrue (is_full key.now self.old) → (result ≡ Err BatchFault.Full) ⊎ (result ≡ Err BatchFault.Memory) }
         ensures err { OnErr result (self.new ≡ self.old) }
     {
-        let value = Bytes::copy_of(alloc, value)?;
+        let value = SharedBytes::copy_of(alloc, value)?;
         self.set(key, Some(value))
     }
 
@@ -111,7 +111,7 @@ impl Batch {
     }
 
     // Sets a key to its value, or to `None`.
-    fn set(&mut self, key: &Key, value: Option<Bytes>) -> Result<(), BatchFault>
+    fn set(&mut self, key: &Key, value: Option<SharedBytes>) -> Result<(), BatchFault>
         requires bytes { IfSome value IsBytes }
         requires limited { IfSome value (λ v. length v ≤ max_value) }
         ensures ok { OnOk result (self.new ≡ put key_cmp key.now value self.old) }
@@ -132,7 +132,7 @@ impl Batch {
 }
 
 // The place of the key, or the place that it would have.
-fn place_of(entries: &[(Key, Option<Bytes>)], key: &Key) -> Result<usize, usize>
+fn place_of(entries: &[(Key, Option<SharedBytes>)], key: &Key) -> Result<usize, usize>
     requires { T (is_sorted key_cmp entries.now) }
     ensures found { IfOk result (IsPlaceOf key.now entries.now) }
     ensures absent { IfErr result (IsGapFor key.now entries.now) }
@@ -141,18 +141,18 @@ fn place_of(entries: &[(Key, Option<Bytes>)], key: &Key) -> Result<usize, usize>
 }
 
 // The key of an entry.
-fn key_of(entry: &(Key, Option<Bytes>)) -> Key
+fn key_of(entry: &(Key, Option<SharedBytes>)) -> Key
     ensures { result ≡ entry.now.0 }
 {
     entry.0
 }
 
-// A copy of a value, if there is one.
-fn copy_of(alloc: Global, value: &Option<Bytes>) -> Result<Option<Bytes>, Memory>
+// One more owner of a value, if there is one.
+fn share_if(value: &Option<SharedBytes>) -> Result<Option<SharedBytes>, Memory>
     ensures { IfOk result (λ v. v ≡ value.now) }
 {
     match value {
-        Some(bytes) => Ok(Some(Bytes::copy_of(alloc, bytes.as_slice())?)),
+        Some(bytes) => Ok(Some(bytes.share()?)),
         None => Ok(None),
     }
 }

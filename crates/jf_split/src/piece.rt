@@ -5,7 +5,7 @@ ghost use Rattle.std.specs.List.Sorted.{IsNonDecreasingBy};
 ghost use Rattle.jf_path.specs.Nibbles.{nibble};
 ghost use Rattle.jf_split.specs.Pieces.{ArePieces};
 
-use jf_path::{Bytes, Key, Memory, Nibble, nibble};
+use jf_path::{Key, Memory, Nibble, SharedBytes, nibble};
 use std::alloc::Global;
 
 /// The entries of a batch, from place `start` up to place `end`, whose keys have this nibble at some depth.
@@ -19,7 +19,7 @@ pub struct Piece {
 // The pieces of entries whose nibbles at a depth don't fall.
 pub(crate) fn pieces_of(
     alloc: Global,
-    entries: &[(Key, Option<Bytes>)],
+    entries: &[(Key, Option<SharedBytes>)],
     depth: usize,
 ) -> Result<Vec<Piece>, Memory>
     requires depth { depth < 64 }
@@ -38,7 +38,7 @@ pub(crate) fn pieces_of(
 }
 
 // The end of the piece that begins at place `start`, whose keys have the nibble `here`.
-fn end_of_piece(entries: &[(Key, Option<Bytes>)], depth: usize, start: usize, here: Nibble) -> usize
+fn end_of_piece(entries: &[(Key, Option<SharedBytes>)], depth: usize, start: usize, here: Nibble) -> usize
     requires depth { depth < 64 }
     requires rising { IsNonDecreasingBy (λ e. nibble e.0 depth) entries.now }
     requires within { start < length entries.now }
@@ -52,7 +52,7 @@ fn end_of_piece(entries: &[(Key, Option<Bytes>)], depth: usize, start: usize, he
 }
 
 // The nibble of an entry's key.
-fn nibble_at(entry: &(Key, Option<Bytes>), depth: usize) -> Nibble
+fn nibble_at(entry: &(Key, Option<SharedBytes>), depth: usize) -> Nibble
     requires { depth < 64 }
     ensures { result ≡ nibble entry.now.0 depth }
 {

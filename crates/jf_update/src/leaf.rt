@@ -12,12 +12,12 @@ use crate::build::build;
 use crate::hashed_value::HashedValue;
 use crate::outcome::Outcome;
 use jf_hash::Hash;
-use jf_path::{Bytes, Key, Memory};
+use jf_path::{Key, Memory, SharedBytes};
 use std::alloc::Global;
 use std::cmp::Ordering;
 
 /// The number of keys of the batch that are below `key`.
-fn place_of(key: &Key, batch: &[(Key, Option<Bytes>)]) -> usize
+fn place_of(key: &Key, batch: &[(Key, Option<SharedBytes>)]) -> usize
     ensures { IsPlace key.now batch.now result }
 {
     for (i, change) in batch.iter().enumerate() {
@@ -29,7 +29,7 @@ fn place_of(key: &Key, batch: &[(Key, Option<Bytes>)]) -> usize
 }
 
 /// Whether the first change is a change of `key`.
-fn is_first_key(key: &Key, batch: &[(Key, Option<Bytes>)]) -> bool
+fn is_first_key(key: &Key, batch: &[(Key, Option<SharedBytes>)]) -> bool
     ensures { IsFirstKey key.now batch.now result }
 {
     match batch.first() {
@@ -56,7 +56,7 @@ fn hash_of(own: Option<(&Key, HashedValue<'_>)>, bytes: &[u8]) -> Hash
 fn push_puts<'a>(
     entries: &mut Vec<(Key, HashedValue<'a>)>,
     own: Option<(&Key, HashedValue<'_>)>,
-    batch: &'a [(Key, Option<Bytes>)],
+    batch: &'a [(Key, Option<SharedBytes>)],
 ) -> Result<(), Memory>
     requires own { IsHashedOwn own }
     requires short { AreShort batch.now }
@@ -77,7 +77,7 @@ fn push_puts<'a>(
 fn merged<'a>(
     alloc: Global,
     own: Option<(&'a Key, HashedValue<'a>)>,
-    batch: &'a [(Key, Option<Bytes>)],
+    batch: &'a [(Key, Option<SharedBytes>)],
 ) -> Result<Vec<(Key, HashedValue<'a>)>, Memory>
     requires sorted { T (is_sorted key_cmp batch.now) }
     requires short { AreShort batch.now }
@@ -118,7 +118,7 @@ fn is_same(own: Option<(&Key, HashedValue<'_>)>, entries: &[(Key, HashedValue<'_
 pub(crate) fn update_leaf(
     alloc: Global,
     own: Option<(&Key, HashedValue<'_>)>,
-    batch: &[(Key, Option<Bytes>)],
+    batch: &[(Key, Option<SharedBytes>)],
     depth: u64,
     version: u64,
     pairs: &mut u64,

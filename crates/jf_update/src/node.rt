@@ -11,7 +11,7 @@ use crate::leaf::update_leaf;
 use crate::outcome::{NewChildren, Outcome};
 use crate::piece::piece_end;
 use jf_node::{Link, Seen, Sixteen};
-use jf_path::{Bytes, Key, Memory, Nibble};
+use jf_path::{Key, Memory, Nibble, SharedBytes};
 use std::alloc::Global;
 
 /// The child with the least nibble, if there is one.
@@ -68,7 +68,7 @@ pub(crate) fn rebuild(
 pub(crate) fn update_node(
     alloc: Global,
     old: Option<&Link>,
-    batch: &[(Key, Option<Bytes>)],
+    batch: &[(Key, Option<SharedBytes>)],
     depth: u64,
     version: u64,
     pairs: &mut u64,
@@ -125,7 +125,7 @@ fn place(made: &mut NewChildren, n: Nibble, outcome: Outcome)
 fn update_children(
     alloc: Global,
     children: &Sixteen,
-    batch: &[(Key, Option<Bytes>)],
+    batch: &[(Key, Option<SharedBytes>)],
     depth: u64,
     version: u64,
     pairs: &mut u64,

@@ -22,7 +22,7 @@ use crate::outcome::Outcome;
 use crate::plain_node::plain_of;
 use crate::sorted::sorted_names;
 use jf_node::Link;
-use jf_path::{Bytes, FreshList, Key, Memory, NameList, NibblePath, NodeName, PlainNode};
+use jf_path::{FreshList, Key, Memory, NameList, NibblePath, NodeName, PlainNode, SharedBytes};
 use std::alloc::Global;
 
 /// The top node after an update, if any, the nodes that the update writes, and the names of those that it makes stale.
@@ -144,7 +144,7 @@ pub(crate) fn update_top(
     alloc: Global,
     old: Option<&Link>,
     head: u64,
-    batch: &[(Key, Option<Bytes>)],
+    batch: &[(Key, Option<SharedBytes>)],
     pairs: &mut u64,
 ) -> Result<TopUpdate, Memory>
     requires head { head + 1 < 2 ^ 64 }

@@ -4,7 +4,7 @@ use crate::roots::root_of;
 use jf_hash::{Hash, key_of, value};
 use jf_join::FreeGate;
 use jf_node::Snapshot;
-use jf_path::{Bytes, Key, Memory};
+use jf_path::{Key, Memory, SharedBytes};
 use jf_split::{Batch, BatchFault};
 use jf_update::{Update, update_counted};
 use std::alloc::Global;
@@ -88,7 +88,7 @@ fn snapshot_of(counted: Box<Counted>) -> Snapshot {
 }
 
 // The keys that are put, with the hashes of their values.
-fn hashed(alloc: Global, batch: &[(Key, Option<Bytes>)]) -> Result<Vec<(Key, Hash)>, Memory> {
+fn hashed(alloc: Global, batch: &[(Key, Option<SharedBytes>)]) -> Result<Vec<(Key, Hash)>, Memory> {
     let mut entries = Vec::new(alloc);
     for (key, bytes) in batch {
         if let Some(bytes) = bytes {
