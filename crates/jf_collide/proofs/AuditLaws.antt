@@ -1,4 +1,4 @@
--- Laws on an audit has one answer, and a claim that isn't the map's is caught by the honest one.
+-- An audit has one answer, and a claim that isn't the map's is caught by the honest one.
 use Rattle.std.specs.Prelude.{ℕ, Option, Some, None, List, ◌≡◌}
 use Rattle.std.proofs.Common.{sym, ap, ◌∙◌, refl}
 use Rattle.jf_hash.specs.Roots.{root}

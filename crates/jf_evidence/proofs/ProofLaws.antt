@@ -1,4 +1,4 @@
--- Laws on the honest proof of a key comes to the root of the map and has at most 256 siblings, whatever the key.
+-- The honest proof of a key comes to the root of the map and has at most 256 siblings, whatever the key.
 use Rattle.std.specs.Prelude.{◌≡◌, ℕ, ◌-◌, List, [], None, ◌∷◌, Some, suc, ◌+◌, ◌≤◌, length, ◌<◌, ◌++◌, true, false, cond, zero}
 use Rattle.std.proofs.Common.{refl, arith, ap, ◌∙◌, length-append, sym}
 use Rattle.jf_path.specs.Keys.{bit}

@@ -7,7 +7,7 @@ use Rattle.std.proofs.lemmas.List.{drop-take, get_or_append_left, get_or-append-
 use Rattle.std.proofs.lemmas.List.Sums.{sum_by-cons, sum_by-take-drop}
 use Rattle.std.specs.List.{count_by}
 use Rattle.jf_hash.specs.Slots.{range_hash, occupants}
-use Rattle.jf_hash.specs.Ranges.{hashes_within, range_index, IsRange, range_hashes, has_change, is_more, pairs_within}
+use Rattle.jf_hash.specs.Ranges.{hashes_within, range_index, IsRange, range_hashes, has_change, is_many, pairs_within}
 use Rattle.jf_hash.specs.declared.slot.Slot.{Slot}
 
 pub some_power : (level : ℕ) → 1 ≤ 2 ^ level
@@ -190,7 +190,7 @@ pairs_within-none (suc level) slots changes none =
       arith,
       pairs_within-none level (take (2 ^ level) slots) (take (2 ^ level) changes) (has_change-take (2 ^ level) changes none),
       pairs_within-none level (drop (2 ^ level) slots) (drop (2 ^ level) changes) (has_change-drop (2 ^ level) changes none),
-      ap {B = ℕ} (λ b. cond (b && is_more (occupants slots)) 1 0) none,
+      ap {B = ℕ} (λ b. cond (b && is_many (occupants slots)) 1 0) none,
     )
 
 at_most_changes : (more : Bool) (changes : List Bool) → cond (has_change changes && more) 1 0 ≤ count_by (λ change. change) changes
@@ -215,7 +215,7 @@ pairs_within-bounded zero slots changes = omega arith
 pairs_within-bounded (suc level) slots changes =
     together level (count_by (λ change. change) (take (2 ^ level) changes)) (count_by (λ change. change) (drop (2 ^ level) changes)) (count_by (λ change. change) changes) _ _ _
     (pairs_within-bounded level (take (2 ^ level) slots) (take (2 ^ level) changes)) (pairs_within-bounded level (drop (2 ^ level) slots) (drop (2 ^ level) changes))
-    (sum_by-take-drop (λ change. cond change 1 0) changes (2 ^ level)) (at_most_changes (is_more (occupants slots)) changes)
+    (sum_by-take-drop (λ change. cond change 1 0) changes (2 ^ level)) (at_most_changes (is_many (occupants slots)) changes)
 
 pub pairs_within-one : (level : ℕ) (slots : List Slot) (changes : List Bool) → 2 ^ level ≡ 1 → level ≤ 4 → pairs_within level slots changes ≡ 0
 unfolding pairs_within
@@ -228,11 +228,11 @@ pairs_within-one (suc (suc (suc (suc (suc n))))) slots changes is small = absurd
 
 -- the pairs of a range with a changed place are those of its halves, and its own if it holds more than one leaf
 pub pairs_within-halves : (level half : ℕ) (slots : List Slot) (changes : List Bool) → 0 < level → half ≡ 2 ^ (level - 1) → has_change changes ≡ true
-    → pairs_within (level - 1) (take half slots) (take half changes) + pairs_within (level - 1) (drop half slots) (drop half changes) + cond (is_more (occupants slots)) 1 0 ≡ pairs_within level slots changes
+    → pairs_within (level - 1) (take half slots) (take half changes) + pairs_within (level - 1) (drop half slots) (drop half changes) + cond (is_many (occupants slots)) 1 0 ≡ pairs_within level slots changes
 unfolding pairs_within
 pairs_within-halves zero half slots changes some is change = absurd (omega arith)
 pairs_within-halves (suc level) half slots changes some is change =
     let e : suc level - 1 ≡ level = omega arith in
     let h : half ≡ 2 ^ level = is ∙ ap (λ k. 2 ^ k) e in
-    ap₂ (λ k n. pairs_within k (take n slots) (take n changes) + pairs_within k (drop n slots) (drop n changes) + cond (is_more (occupants slots)) 1 0) e h
-    ∙ ap {B = ℕ} (λ b. pairs_within level (take (2 ^ level) slots) (take (2 ^ level) changes) + pairs_within level (drop (2 ^ level) slots) (drop (2 ^ level) changes) + cond (b && is_more (occupants slots)) 1 0) (sym change)
+    ap₂ (λ k n. pairs_within k (take n slots) (take n changes) + pairs_within k (drop n slots) (drop n changes) + cond (is_many (occupants slots)) 1 0) e h
+    ∙ ap {B = ℕ} (λ b. pairs_within level (take (2 ^ level) slots) (take (2 ^ level) changes) + pairs_within level (drop (2 ^ level) slots) (drop (2 ^ level) changes) + cond (b && is_many (occupants slots)) 1 0) (sym change)

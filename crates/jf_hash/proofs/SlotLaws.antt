@@ -65,29 +65,29 @@ ones-in_range d l start j es small at aligned =
 
 -- ---- what stands in a range
 -- what two ranges hold together
-abbrev stand_of_both : Occupants → Occupants → Occupants
-stand_of_both Empty other = other
-stand_of_both (Lone hash) other = with_leaf hash other
-stand_of_both Many other = Many
+abbrev occupants_of_both : Occupants → Occupants → Occupants
+occupants_of_both Empty other = other
+occupants_of_both (Lone hash) other = with_leaf hash other
+occupants_of_both Many other = Many
 
-stand_of_both-with_leaf : (hash : List ℕ) (a b : Occupants) → stand_of_both (with_leaf hash a) b ≡ with_leaf hash (stand_of_both a b)
-stand_of_both-with_leaf hash Empty b = refl
-stand_of_both-with_leaf hash (Lone other) Empty = refl
-stand_of_both-with_leaf hash (Lone other) (Lone more) = refl
-stand_of_both-with_leaf hash (Lone other) Many = refl
-stand_of_both-with_leaf hash Many b = refl
+occupants_of_both-with_leaf : (hash : List ℕ) (a b : Occupants) → occupants_of_both (with_leaf hash a) b ≡ with_leaf hash (occupants_of_both a b)
+occupants_of_both-with_leaf hash Empty b = refl
+occupants_of_both-with_leaf hash (Lone other) Empty = refl
+occupants_of_both-with_leaf hash (Lone other) (Lone more) = refl
+occupants_of_both-with_leaf hash (Lone other) Many = refl
+occupants_of_both-with_leaf hash Many b = refl
 
-leaf_after : (hash : List ℕ) (a b : Occupants) → stand_of_both a (with_leaf hash b) ≡ with_leaf hash (stand_of_both a b)
+leaf_after : (hash : List ℕ) (a b : Occupants) → occupants_of_both a (with_leaf hash b) ≡ with_leaf hash (occupants_of_both a b)
 leaf_after hash Empty b = refl
 leaf_after hash (Lone other) Empty = refl
 leaf_after hash (Lone other) (Lone more) = refl
 leaf_after hash (Lone other) Many = refl
 leaf_after hash Many b = refl
 
-occupants-append : (xs ys : List Slot) → occupants (xs ++ ys) ≡ stand_of_both (occupants xs) (occupants ys)
+occupants-append : (xs ys : List Slot) → occupants (xs ++ ys) ≡ occupants_of_both (occupants xs) (occupants ys)
 occupants-append [] ys = refl
 occupants-append (slot.Absent ∷ xs) ys = occupants-append xs ys
-occupants-append (slot.Leaf hash ∷ xs) ys = ap (with_leaf hash) (occupants-append xs ys) ∙ sym (stand_of_both-with_leaf hash (occupants xs) (occupants ys))
+occupants-append (slot.Leaf hash ∷ xs) ys = ap (with_leaf hash) (occupants-append xs ys) ∙ sym (occupants_of_both-with_leaf hash (occupants xs) (occupants ys))
 occupants-append (slot.Inner hash ∷ xs) ys = refl
 
 -- what a range with these entries holds
@@ -102,15 +102,15 @@ occupants_of-more e (f ∷ []) = refl
 occupants_of-more e (f ∷ g ∷ es) = refl
 
 -- entries hold what those that pass a test and those that fail it hold together
-occupants_of-halves : (test : List ℕ × List ℕ → Bool) (es : Part) → occupants_of es ≡ stand_of_both (occupants_of (filter (λ e. not (test e)) es)) (occupants_of (filter test es))
+occupants_of-halves : (test : List ℕ × List ℕ → Bool) (es : Part) → occupants_of es ≡ occupants_of_both (occupants_of (filter (λ e. not (test e)) es)) (occupants_of (filter test es))
 occupants_of-halves test [] = refl
 occupants_of-halves test (e ∷ es) =
     let zero_es = filter (λ e. not (test e)) es in
     let one_es = filter test es in
     occupants_of-more e es ∙ ap (with_leaf (L e.0 (V e.1))) (occupants_of-halves test es)
-    ∙ elim (test e) as (λ b. with_leaf (L e.0 (V e.1)) (stand_of_both (occupants_of zero_es) (occupants_of one_es)) ≡ stand_of_both (occupants_of (cond (not b) (e ∷ zero_es) zero_es)) (occupants_of (cond b (e ∷ one_es) one_es))) [
-      | true ↦ sym (ap (stand_of_both (occupants_of zero_es)) (occupants_of-more e one_es) ∙ leaf_after (L e.0 (V e.1)) (occupants_of zero_es) (occupants_of one_es))
-      | false ↦ sym (ap (λ s. stand_of_both s (occupants_of one_es)) (occupants_of-more e zero_es) ∙ stand_of_both-with_leaf (L e.0 (V e.1)) (occupants_of zero_es) (occupants_of one_es))
+    ∙ elim (test e) as (λ b. with_leaf (L e.0 (V e.1)) (occupants_of_both (occupants_of zero_es) (occupants_of one_es)) ≡ occupants_of_both (occupants_of (cond (not b) (e ∷ zero_es) zero_es)) (occupants_of (cond b (e ∷ one_es) one_es))) [
+      | true ↦ sym (ap (occupants_of_both (occupants_of zero_es)) (occupants_of-more e one_es) ∙ leaf_after (L e.0 (V e.1)) (occupants_of zero_es) (occupants_of one_es))
+      | false ↦ sym (ap (λ s. occupants_of_both s (occupants_of one_es)) (occupants_of-more e zero_es) ∙ occupants_of_both-with_leaf (L e.0 (V e.1)) (occupants_of zero_es) (occupants_of one_es))
     ]
 
 -- ---- one place
@@ -179,7 +179,7 @@ occupants-range (suc l) d start es small lt aligned =
     let j : ℕ = 4 * d + (3 - l) in
     let at : j + l ≡ 4 * d + 3 = omega arith in
     ap occupants (halved l start (slots_of d es)) ∙ occupants-append (places start (2 ^ l) (slots_of d es)) (places (start + 2 ^ l) (2 ^ l) (slots_of d es))
-    ∙ ap₂ stand_of_both (occupants-range l d start es (omega arith) lt h.0 ∙ ap occupants_of (sym (zeros-in_range d l start j es (omega arith) at aligned)))
+    ∙ ap₂ occupants_of_both (occupants-range l d start es (omega arith) lt h.0 ∙ ap occupants_of (sym (zeros-in_range d l start j es (omega arith) at aligned)))
     (occupants-range l d (start + 2 ^ l) es (omega arith) h.1 h.2 ∙ ap occupants_of (sym (ones-in_range d l start j es (omega arith) at aligned)))
     ∙ sym (occupants_of-halves (λ e. bit e.0 j) (in_range d start (2 ^ suc l) es))
 

@@ -21,10 +21,10 @@ abbrev pub in_range : {X : Type 0} → ℕ → ℕ → ℕ → List (List ℕ ×
 in_range d start width es = filter (λ e. lies_in start width (nibble e.0 d)) es
 
 -- whether a range holds more than one leaf
-abbrev pub is_more : Occupants → Bool
-is_more Empty = false
-is_more (Lone hash) = false
-is_more Many = true
+abbrev pub is_many : Occupants → Bool
+is_many Empty = false
+is_many (Lone hash) = false
+is_many Many = true
 
 -- what a range holds, from what the program found in it
 abbrev pub found : Occupancy → Occupants
@@ -60,4 +60,4 @@ has_change (change ∷ changes) = change || has_change changes
 unfoldable pub pairs_within : ℕ → List Slot → List Bool → ℕ
 pairs_within zero slots changes = 0
 pairs_within (suc level) slots changes =
-    pairs_within level (take (2 ^ level) slots) (take (2 ^ level) changes) + pairs_within level (drop (2 ^ level) slots) (drop (2 ^ level) changes) + cond (has_change changes && is_more (occupants slots)) 1 0
+    pairs_within level (take (2 ^ level) slots) (take (2 ^ level) changes) + pairs_within level (drop (2 ^ level) slots) (drop (2 ^ level) changes) + cond (has_change changes && is_many (occupants slots)) 1 0

@@ -4,7 +4,7 @@ ghost use Rattle.std.specs.List.{count_by};
 ghost use Rattle.jf_hash.specs.Hashes.{E, N};
 ghost use Rattle.jf_hash.specs.Roots.{part_root};
 ghost use Rattle.jf_hash.specs.Slots.{Part, slots_of, occupants, occupants_hash, range_hash};
-ghost use Rattle.jf_hash.specs.Ranges.{Agree, IsRange, has_change, in_range, is_more, hashes_within, pairs_within, range_hashes, range_index};
+ghost use Rattle.jf_hash.specs.Ranges.{Agree, IsRange, has_change, in_range, is_many, hashes_within, pairs_within, range_hashes, range_index};
 ghost use Rattle.jf_hash.specs.declared.slot.Slot.{Slot};
 
 use crate::occupancy::Occupancy;
@@ -47,7 +47,7 @@ fn any_changed(changed: &[bool]) -> bool
 fn hash_over(places: &[Slot], left: &Hash, right: &Hash, none: &Hash) -> (Hash, u64)
     requires { none.now ≡ E }
     ensures value { result.0 ≡ occupants_hash (occupants places.now) (N left.now right.now) }
-    ensures pairs { result.1 ≡ cond (is_more (occupants places.now)) 1 0 }
+    ensures pairs { result.1 ≡ cond (is_many (occupants places.now)) 1 0 }
 {
     match Occupancy::of(places) {
         Occupancy::Empty => (*none, 0),

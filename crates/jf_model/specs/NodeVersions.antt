@@ -5,13 +5,13 @@ use Rattle.jf_model.specs.Nodes.{Path}
 use Rattle.jf_model.specs.ChildEntries.{sub}
 
 -- a node whose part is as before keeps its version, and any other has the new one
-pub record HasVersion (version : ℕ) (old new : Part) (before now : Option ℕ) : Type 0 where
+pub record VersionFollows (version : ℕ) (old new : Part) (before now : Option ℕ) : Type 0 where
   pub kept : ¬ (new ≡ []) → old ≡ new → now ≡ before
   pub fresh : ¬ (new ≡ []) → ¬ (old ≡ new) → now ≡ Some version
 
 -- each node below two parts is so versioned, by the versions at each path before and now
-abbrev pub HaveVersions : ℕ → ℕ → Part → Part → (Path → Option ℕ) → (Path → Option ℕ) → Type 0
-HaveVersions depth version old new before now = (path : Path) → HasVersion version (sub depth path old) (sub depth path new) (before path) (now path)
+abbrev pub VersionsFollow : ℕ → ℕ → Part → Part → (Path → Option ℕ) → (Path → Option ℕ) → Type 0
+VersionsFollow depth version old new before now = (path : Path) → VersionFollows version (sub depth path old) (sub depth path new) (before path) (now path)
 
 -- each node below a part has the new version
 abbrev pub AllNew : ℕ → ℕ → Part → (Path → Option ℕ) → Type 0

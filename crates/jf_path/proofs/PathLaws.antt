@@ -1,4 +1,4 @@
--- Laws on a path has one spelling in bytes, and bytes with no fault spell a path.
+-- A path has one spelling in bytes, and bytes with no fault spell a path.
 use Rattle.std.proofs.Common.{◌≡◌, ℕ, ◌*◌, List, [], ◌∷◌, length, refl, arith, zero, suc, ◌/◌, get_or, ◌+◌, ◌%◌, ◌<◌, take, ap, sym, ap₂, ◌∙◌, drop}
 use Rattle.std.specs.List.{AllByRecursion}
 use Rattle.jf_path.specs.Paths.{halves, packed, path_bytes}

@@ -1,7 +1,6 @@
 -- Counts of faults.
 use Rattle.std.specs.Prelude.{◌≡◌, ◌⊎◌, ℕ, ◌-◌, ◌<◌, ◌^◌}
 
--- ---- what calls promise besides
 -- a count rose, or stood at its greatest
 abbrev pub HasCause : ℕ → ℕ → Type 0
 HasCause old new = (old < new) ⊎ (old ≡ 2 ^ 64 - 1)

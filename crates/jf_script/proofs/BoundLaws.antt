@@ -1,4 +1,4 @@
--- Laws on each command of the grammar keeps the limits on values and chunks.
+-- Each command of the grammar keeps the limits on values and chunks.
 use Rattle.std.specs.Prelude.{Option, Some, None, ℕ, ◌≤◌, List, length, ◌≡◌, Bool, true, ◌&&◌, nat_le, false, cond, if◌then◌else◌, option_and_then, ◌==◌, [], ◌∷◌, option_map, codes}
 use Rattle.std.proofs.Common.{arith, refl, subst}
 use Rattle.jf_path.specs.Limits.{max_value}

@@ -10,7 +10,7 @@ use Rattle.jf_hash.specs.Slots.{with_nibble, from_nibble, Part}
 use Rattle.jf_hash.specs.Maps.{Batch}
 use Rattle.jf_model.specs.Parts.{IsPartUnder, IsPieceEnd}
 use Rattle.jf_model.specs.Changes.{applied}
-use Rattle.jf_model.specs.NodeVersions.{HaveVersions}
+use Rattle.jf_model.specs.NodeVersions.{VersionsFollow}
 use Rattle.jf_model.proofs.ChangeLaws.{applied-none}
 use Rattle.jf_walk.proofs.PartLaws.{with_nibble-past, from_nibble-zero, stepped, IsPartUnder-with_nibble}
 use Rattle.jf_walk.proofs.PieceEnds.{cut_piece}
@@ -204,7 +204,7 @@ worked_top d v path x y olds news bs changed at shows part batch w differ t =
       record {
         entries = now;
         placed = t.placed;
-        versions = subst (λ es. HaveVersions d v x.entries es (λ p. link_version_at p (Some x)) (λ p. link_version_at p y)) (sym t.entries)
+        versions = subst (λ es. VersionsFollow d v x.entries es (λ p. link_version_at p (Some x)) (λ p. link_version_at p y)) (sym t.entries)
             (topped_versioned d v x.entries (joined news) (λ n p. link_version_at p (get_or olds n None)) (λ n p. link_version_at p (get_or news n None)) (λ p. link_version_at p (Some x)) (λ p. link_version_at p y)
             (omega (arith, ap length is)) (λ e. other (sym now ∙ t.entries ∙ e))
             (λ n p lt. ap (version_among (n ∷ p)) shows.versions ∙ version-below n p x.version olds)
@@ -214,11 +214,11 @@ worked_top d v path x y olds news bs changed at shows part batch w differ t =
       other,
     )
   where
-    versioned_at : (n : ℕ) (a b : Part) → a ≡ content (get_or olds n None) → b ≡ content (get_or news n None) → HaveVersions (d + 1) v (content (get_or olds n None)) (content (get_or news n None)) (λ p. link_version_at p (get_or olds n None)) (λ p. link_version_at p (get_or news n None))
-        → HaveVersions (d + 1) v a b (λ p. link_version_at p (get_or olds n None)) (λ p. link_version_at p (get_or news n None))
+    versioned_at : (n : ℕ) (a b : Part) → a ≡ content (get_or olds n None) → b ≡ content (get_or news n None) → VersionsFollow (d + 1) v (content (get_or olds n None)) (content (get_or news n None)) (λ p. link_version_at p (get_or olds n None)) (λ p. link_version_at p (get_or news n None))
+        → VersionsFollow (d + 1) v a b (λ p. link_version_at p (get_or olds n None)) (λ p. link_version_at p (get_or news n None))
     versioned_at n a b p q h =
-        subst (λ es. HaveVersions (d + 1) v es b (λ p. link_version_at p (get_or olds n None)) (λ p. link_version_at p (get_or news n None))) (sym p)
-        (subst (λ es. HaveVersions (d + 1) v (content (get_or olds n None)) es (λ p. link_version_at p (get_or olds n None)) (λ p. link_version_at p (get_or news n None))) (sym q) h)
+        subst (λ es. VersionsFollow (d + 1) v es b (λ p. link_version_at p (get_or olds n None)) (λ p. link_version_at p (get_or news n None))) (sym p)
+        (subst (λ es. VersionsFollow (d + 1) v (content (get_or olds n None)) es (λ p. link_version_at p (get_or olds n None)) (λ p. link_version_at p (get_or news n None))) (sym q) h)
 
 -- the outcome over a leaf, or over a place without a node
 pub leaf_outcome : (d v : ℕ) (x : Option LinkValue) (es : Part) (bs : Batch) (p : Outcome) → content x ≡ es → length es < 2 → IsLeafOutcome d v es bs p → IsOutcome d v x bs p
@@ -228,7 +228,7 @@ leaf_outcome d v x es bs (New y) is few out =
       record {
         entries = now;
         placed = out.0.placed;
-        versions = subst (λ fs. HaveVersions d v (content x) fs (λ p. link_version_at p x) (λ p. link_version_at p y)) (sym out.0.entries)
+        versions = subst (λ fs. VersionsFollow d v (content x) fs (λ p. link_version_at p x) (λ p. link_version_at p y)) (sym out.0.entries)
             (built_versioned d v (content x) (applied es bs) (λ p. link_version_at p x) (λ p. link_version_at p y) (subst (λ es. length es < 2) (sym is) few) (λ e. out.1 (e ∙ is)) out.0.versions);
       },
       (λ e. out.1 (ap (λ es. applied es bs) (sym is) ∙ e ∙ is)),

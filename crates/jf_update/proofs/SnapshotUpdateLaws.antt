@@ -20,7 +20,7 @@ use Rattle.jf_walk.proofs.FreshBound.{IsPartUnder-map, IsPartUnder-batch, length
 use Rattle.jf_walk.proofs.ChildEntryLaws.{sub-none}
 use Rattle.jf_walk.proofs.FreshParts.{with_root-fresh_parts}
 use Rattle.jf_walk.proofs.FreshLaws.{with_root-fresh}
-use Rattle.jf_walk.proofs.FreshVersions.{HasVersion-is_fresh}
+use Rattle.jf_walk.proofs.FreshVersions.{VersionFollows-is_fresh}
 use Rattle.jf_walk.proofs.VersionLaws.{moved}
 use Rattle.jf_node.specs.LinkValue.{LinkValue, link_version_at}
 use Rattle.jf_node.specs.Snapshots.{IsTopIf, IsSnapshot, IsTopOf, snapshot_of, snapshot_version_at}
@@ -120,7 +120,7 @@ updated head old b l u sound top batch update_top is now rooted fresh_is stale_i
           (ap₂ (λ a c. with_root a c (old_name head.version old)) made (sym top.same) ∙ with_root-fresh m' m (old_name head.version old) ∙ ap (stale_names_in m m') (sym top.value))
           (subst (λ ns. IsPermutation (with_root (content l.top) (content old) (old_name head.version old)) ns) (sym stale_is) update_top.stale);
       versions = λ path node. versions_at v head u.snapshot old l.top m' path is top.value top.same made now version_is
-          (λ n p is_there. HasVersion-is_fresh v (entries m) (entries m') n p (link_version_at (n ∷ p) old) (link_version_at (n ∷ p) l.top)
+          (λ n p is_there. VersionFollows-is_fresh v (entries m) (entries m') n p (link_version_at (n ∷ p) old) (link_version_at (n ∷ p) l.top)
           (moved v _ _ _ _ _ _ _ _ (update_top.versions n p) (ap (sub 0 (n ∷ p)) top.same) (ap (sub 0 (n ∷ p)) (sym made)) refl refl) is_there) node;
       bound = omega (arith, ap length nodes, length-map (fresh m m') (written_node_in u.snapshot), length-fresh m b sound.map batch);
     }

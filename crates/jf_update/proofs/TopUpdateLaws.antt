@@ -17,7 +17,7 @@ use Rattle.jf_model.specs.Nodes.{Path, is_node}
 use Rattle.jf_model.specs.Walk.{listed, with_root}
 use Rattle.jf_model.specs.Changes.{applied}
 use Rattle.jf_model.specs.ChildEntries.{sub}
-use Rattle.jf_model.specs.NodeVersions.{HaveVersions}
+use Rattle.jf_model.specs.NodeVersions.{VersionsFollow}
 use Rattle.jf_model.proofs.ChangeLaws.{sorted-applied}
 use Rattle.jf_walk.proofs.WalkLaws.{with_root-gone, with_root-from_listed, with_root-same}
 use Rattle.jf_walk.proofs.ChildEntryLaws.{sub-none}
@@ -130,18 +130,18 @@ unchanged_some head old x y bs l newest is placed link top sound renew fresh sta
     }
 
 -- ---- a landing that changes something
-pub fresh_landed : (version : ℕ) (old top : Option LinkValue) → IsAtDepth 0 top → HaveVersions 0 version (content old) (content top) (λ p. link_version_at p old) (λ p. link_version_at p top) → ((p : Path) → ¬ (link_version_at p old ≡ Some version)) → IsFreshUnder version (content old) (λ p. link_version_at p old) top
+pub fresh_landed : (version : ℕ) (old top : Option LinkValue) → IsAtDepth 0 top → VersionsFollow 0 version (content old) (content top) (λ p. link_version_at p old) (λ p. link_version_at p top) → ((p : Path) → ¬ (link_version_at p old ≡ Some version)) → IsFreshUnder version (content old) (λ p. link_version_at p old) top
 fresh_landed version old None at v older = tt
-fresh_landed version old (Some y) at v older = record { versioned = subst (λ d. HaveVersions d version (content old) y.entries (λ p. link_version_at p old) (λ p. link_version_at p (Some y))) (sym at) v; older = older }
+fresh_landed version old (Some y) at v older = record { versioned = subst (λ d. VersionsFollow d version (content old) y.entries (λ p. link_version_at p old) (λ p. link_version_at p (Some y))) (sym at) v; older = older }
 
-pub stale_landed : (version : ℕ) (old top : Option LinkValue) → IsAtDepth 0 old → HaveVersions 0 version (content old) (content top) (λ p. link_version_at p old) (λ p. link_version_at p top) → ((p : Path) → ¬ (link_version_at p old ≡ Some version)) → IsStaleUnder version old top
+pub stale_landed : (version : ℕ) (old top : Option LinkValue) → IsAtDepth 0 old → VersionsFollow 0 version (content old) (content top) (λ p. link_version_at p old) (λ p. link_version_at p top) → ((p : Path) → ¬ (link_version_at p old ≡ Some version)) → IsStaleUnder version old top
 stale_landed version None top at v older = tt
-stale_landed version (Some x) top at v older = record { versioned = subst (λ d. HaveVersions d version x.entries (content top) (λ p. link_version_at p (Some x)) (λ p. link_version_at p top)) (sym at) v; older = older }
+stale_landed version (Some x) top at v older = record { versioned = subst (λ d. VersionsFollow d version x.entries (content top) (λ p. link_version_at p (Some x)) (λ p. link_version_at p top)) (sym at) v; older = older }
 
 pub older_of : (head : ℕ) (old : Option LinkValue) → NoneNewer head old → (p : Path) → ¬ (link_version_at p old ≡ Some (head + 1))
 older_of head old newest p e = let le = newest p (head + 1) e in omega arith
 
-landed_newest : (head : ℕ) (old top : Option LinkValue) → IsAtDepth 0 top → NoneNewer head old → IsLinkIf top → HaveVersions 0 (head + 1) (content old) (content top) (λ p. link_version_at p old) (λ p. link_version_at p top) → NoneNewer (head + 1) top
+landed_newest : (head : ℕ) (old top : Option LinkValue) → IsAtDepth 0 top → NoneNewer head old → IsLinkIf top → VersionsFollow 0 (head + 1) (content old) (content top) (λ p. link_version_at p old) (λ p. link_version_at p top) → NoneNewer (head + 1) top
 landed_newest head old None at newest sound versions p v e = absurd (cc)
 landed_newest head old (Some y) at newest sound versions p v e = elim (some_entry (sub 0 p y.entries)) [
   | inl none ↦ absurd (unversioned none)

@@ -4,7 +4,7 @@ use Rattle.jf_path.specs.declared.name.NodeName.{NodeName}
 use Rattle.jf_hash.specs.Slots.{Part}
 use Rattle.jf_model.specs.Nodes.{Path}
 use Rattle.jf_model.specs.ChildEntries.{child_entries}
-use Rattle.jf_model.specs.NodeVersions.{HaveVersions}
+use Rattle.jf_model.specs.NodeVersions.{VersionsFollow}
 use Rattle.jf_node.specs.LinkValue.{LinkValue, link_version_at}
 use Rattle.jf_node.specs.Children.{content}
 use Rattle.jf_node.specs.LinkFacts.{IsLink}
@@ -28,12 +28,12 @@ IsBelowIf (Some y) n c = IsBelow y n c
 
 -- x stands, after the landing of `version`, where the entries es stood; `before` gives the versions of their nodes
 pub record IsFreshOver (version : ℕ) (es : Part) (before : Path → Option ℕ) (x : LinkValue) : Type 0 where
-  pub versioned : HaveVersions x.depth version es x.entries before (λ p. link_version_at p (Some x))
+  pub versioned : VersionsFollow x.depth version es x.entries before (λ p. link_version_at p (Some x))
   pub older : (path : Path) → ¬ (before path ≡ Some version)
 
 -- y stands in the place of x after the landing of `version`
 pub record IsStaleOver (version : ℕ) (x : LinkValue) (y : Option LinkValue) : Type 0 where
-  pub versioned : HaveVersions x.depth version x.entries (content y) (λ p. link_version_at p (Some x)) (λ p. link_version_at p y)
+  pub versioned : VersionsFollow x.depth version x.entries (content y) (λ p. link_version_at p (Some x)) (λ p. link_version_at p y)
   pub older : (path : Path) → ¬ (link_version_at path (Some x) ≡ Some version)
 
 -- `kept` says whether there is a node that was there before the landing of `version`

@@ -6,7 +6,7 @@ use Rattle.jf_hash.specs.Maps.{Batch}
 use Rattle.jf_hash.specs.Slots.{Part, with_nibble}
 use Rattle.jf_model.specs.Parts.{IsPartUnder}
 use Rattle.jf_model.specs.Changes.{applied}
-use Rattle.jf_model.specs.NodeVersions.{HaveVersions}
+use Rattle.jf_model.specs.NodeVersions.{VersionsFollow}
 use Rattle.jf_node.specs.LinkValue.{LinkValue, link_version_at}
 use Rattle.jf_node.specs.Children.{content, FitFrom, joined}
 use Rattle.jf_update.specs.Made.{IsAtDepth, Built}
@@ -29,7 +29,7 @@ pub record AreParts (depth : ℕ) (es : Part) (bs : Batch) : Type 0 where
 pub record IsNodeUpdate (depth version : ℕ) (x : Option LinkValue) (bs : Batch) (y : Option LinkValue) : Type 0 where
   pub entries : content y ≡ applied (content x) bs
   pub placed : IsAtDepth depth y
-  pub versions : HaveVersions depth version (content x) (content y) (λ p. link_version_at p x) (λ p. link_version_at p y)
+  pub versions : VersionsFollow depth version (content x) (content y) (λ p. link_version_at p x) (λ p. link_version_at p y)
 
 -- the outcome of a batch over a node: unchanged, or the node after the batch
 abbrev pub IsOutcome : ℕ → ℕ → Option LinkValue → Batch → Outcome → Type 0

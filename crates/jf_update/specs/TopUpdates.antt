@@ -9,7 +9,7 @@ use Rattle.jf_hash.specs.Maps.{Batch}
 use Rattle.jf_model.specs.Nodes.{Path}
 use Rattle.jf_model.specs.Changes.{applied}
 use Rattle.jf_model.specs.ChildEntries.{sub}
-use Rattle.jf_model.specs.NodeVersions.{HasVersion}
+use Rattle.jf_model.specs.NodeVersions.{VersionFollows}
 use Rattle.jf_model.specs.Walk.{with_root}
 use Rattle.jf_node.specs.LinkValue.{LinkValue, link_version_at}
 use Rattle.jf_node.specs.Snapshots.{snapshot_of}
@@ -56,7 +56,7 @@ pub record IsTopUpdate (head : ℕ) (old : Option LinkValue) (bs : Batch) (l : T
   pub entries : content l.top ≡ applied (content old) bs
   pub placed : IsAtDepth 0 l.top
   pub own : IsOfVersion (head + 1) l.top
-  pub versions : (n : ℕ) (path : Path) → HasVersion (head + 1) (sub 0 (n ∷ path) (content old)) (sub 0 (n ∷ path) (content l.top)) (link_version_at (n ∷ path) old) (link_version_at (n ∷ path) l.top)
+  pub versions : (n : ℕ) (path : Path) → VersionFollows (head + 1) (sub 0 (n ∷ path) (content old)) (sub 0 (n ∷ path) (content l.top)) (link_version_at (n ∷ path) old) (link_version_at (n ∷ path) l.top)
   pub newest : NoneNewer (head + 1) l.top
   pub sound : IsLinkIf l.top
   pub fresh : l.fresh ≡ with_root (content old) (content l.top) (fresh_under (head + 1) l.top)

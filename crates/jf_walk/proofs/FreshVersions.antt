@@ -3,7 +3,7 @@ use Rattle.std.proofs.Common.{◌≡◌, ℕ, true, false, not, ◌&&◌, ◌∷
 use Rattle.jf_hash.specs.Slots.{Part}
 use Rattle.jf_model.specs.Nodes.{Path, under, is_node, same_part, is_fresh}
 use Rattle.jf_model.specs.ChildEntries.{sub}
-use Rattle.jf_model.specs.NodeVersions.{HasVersion}
+use Rattle.jf_model.specs.NodeVersions.{VersionFollows}
 use Rattle.jf_walk.proofs.SameParts.{same_part-refl, same_part-exact, same_or_other}
 use Rattle.jf_walk.proofs.SubLaws.{sub-under, is_node-sub, sub-is_node_below}
 
@@ -29,8 +29,8 @@ is_fresh-other old new n p node other =
     ] refl)
 
 -- each node below the top has the new version if it is fresh, and otherwise the version that it had
-pub HasVersion-is_fresh : (version : ℕ) (old new : Part) (n : ℕ) (p : Path) (before now : Option ℕ) → HasVersion version (sub 0 (n ∷ p) old) (sub 0 (n ∷ p) new) before now → is_node 0 (n ∷ p) new ≡ true → now ≡ cond (is_fresh old new (n ∷ p)) (Some version) before
-HasVersion-is_fresh version old new n p before now h node = elim (same_or_other (sub 0 (n ∷ p) old) (sub 0 (n ∷ p) new)) [
+pub VersionFollows-is_fresh : (version : ℕ) (old new : Part) (n : ℕ) (p : Path) (before now : Option ℕ) → VersionFollows version (sub 0 (n ∷ p) old) (sub 0 (n ∷ p) new) before now → is_node 0 (n ∷ p) new ≡ true → now ≡ cond (is_fresh old new (n ∷ p)) (Some version) before
+VersionFollows-is_fresh version old new n p before now h node = elim (same_or_other (sub 0 (n ∷ p) old) (sub 0 (n ∷ p) new)) [
   | inl same ↦ h.kept (sub-is_node_below 0 n p new node) same ∙ ap (λ b. cond b (Some version) before) (sym (is_fresh-same old new n p node same))
   | inr other ↦ h.fresh (sub-is_node_below 0 n p new node) other ∙ ap (λ b. cond b (Some version) before) (sym (is_fresh-other old new n p node other))
 ]
