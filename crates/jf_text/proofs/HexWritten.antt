@@ -1,6 +1,7 @@
--- Hexadecimal text is written byte by byte.
-use Rattle.std.proofs.Common.{◌≡◌, ℕ, ◌+◌, ◌/◌, ◌%◌, ◌<◌, List, [], ◌∷◌, ◌++◌, length, take, get_or, slice_index, refl, sym}
-use Rattle.std.proofs.lemmas.List.{append_assoc, take_more, append-nil}
+-- Hexadecimal text is written in parts.
+use Rattle.std.proofs.Common.{arith, ◌≡◌, ◌∙◌, ap, ℕ, ◌-◌, ◌≤◌, List, [], ◌∷◌, ◌++◌, take, drop, refl, sym}
+use Rattle.std.proofs.lemmas.List.{append_assoc, append-nil}
+use Rattle.std.proofs.Math.Seq.{take-add}
 use Rattle.hex.specs.Hex.{encode_with, encode_lower, lower_digits}
 
 encode_with-append : (t xs ys : List ℕ) → encode_with t (xs ++ ys) ≡ encode_with t xs ++ encode_with t ys
@@ -8,20 +9,16 @@ unfolding encode_with
 encode_with-append t [] ys = refl
 encode_with-append t (x ∷ xs) ys = rw (encode_with-append t xs ys) refl
 
-encode_with-one : (t : List ℕ) (b : ℕ) → encode_with t (b ∷ []) ≡ slice_index t (b / 16) ∷ slice_index t (b % 16) ∷ []
-unfolding encode_with
-encode_with-one t b = refl
-
--- one more byte adds two digits
-pub encode-more : (before out bytes : List ℕ) (i : ℕ) → i < length bytes → out ≡ before ++ encode_lower (take i bytes)
-    → (out ++ slice_index lower_digits (get_or bytes i 0 / 16) ∷ []) ++ slice_index lower_digits (get_or bytes i 0 % 16) ∷ [] ≡ before ++ encode_lower (take (i + 1) bytes)
-encode-more before out bytes i h e =
-    let byte : ℕ = get_or bytes i 0 in
-    let more = take_more bytes i 0 h in
-    rw (e, more, encode_with-append lower_digits (take i bytes) (byte ∷ []), encode_with-one lower_digits byte)
+-- one more part adds its digits
+pub encode-more : (before out bytes : List ℕ) (start end : ℕ) → start ≤ end → out ≡ before ++ encode_lower (take start bytes)
+    → out ++ encode_lower (take (end - start) (drop start bytes)) ≡ before ++ encode_lower (take end bytes)
+encode-more before out bytes start end le e =
+    let whole : take end bytes ≡ take start bytes ++ take (end - start) (drop start bytes) =
+    ap (λ n. take n bytes) (omega (arith, le)) ∙ take-add start (end - start) bytes in
+    rw (e, whole, encode_with-append lower_digits (take start bytes) (take (end - start) (drop start bytes)))
     (simp append_assoc)
 
--- before the first byte nothing is added
+-- before the first part nothing is added
 pub encode-none : (out bytes : List ℕ) → out ≡ out ++ encode_lower (take 0 bytes)
 unfolding encode_with
 encode-none out bytes = sym (append-nil out)

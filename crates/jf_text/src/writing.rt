@@ -1,13 +1,14 @@
 // Numbers are written in decimal, and bytes in hexadecimal with lower case digits.
-ghost use Rattle.std.specs.Prelude.{◌≡◌, ◌++◌, decimal, OnOk, OnErr};
+ghost use Rattle.std.specs.Prelude.{◌≡◌, ◌≤◌, ◌++◌, length, decimal, OnOk, OnErr};
 ghost use Rattle.hex.specs.Hex.{encode_lower};
 ghost use Rattle.jf_text.specs.Words.{Extends};
 
+use hex::encode_to_slice;
 use itoa::Buffer;
 use jf_path::{Bytes, Memory};
 
-/// The hexadecimal digits, in the order of their values.
-const DIGITS: &[u8; 16] = b"0123456789abcdef";
+// The most bytes that are written in one piece.
+const PART: usize = 32;
 
 /// Appends a label and a number in decimal. If memory runs out, the text that was there is unchanged, perhaps with part
 /// of the new text after it.
@@ -27,9 +28,25 @@ pub fn write_hex(label: &[u8], bytes: &[u8], out: &mut Bytes) -> Result<(), Memo
     ensures err { OnErr result (Extends out.old out.new) }
 {
     out.append(label)?;
-    for byte in bytes {
-        out.push(DIGITS[usize::from(byte / 16)])?;
-        out.push(DIGITS[usize::from(byte % 16)])?;
+    let mut start = 0;
+    'parts: while start < bytes.len() {
+        let end = bytes.len().min(start + PART);
+        write_part(&bytes[start..end], out)?;
+        start = end;
     }
     Ok(())
+}
+
+// Appends at most 32 bytes in hexadecimal, as one piece.
+fn write_part(bytes: &[u8], out: &mut Bytes) -> Result<(), Memory>
+    requires { length bytes.now ≤ 32 }
+    ensures ok { OnOk result (out.new ≡ out.old ++ encode_lower bytes.now) }
+    ensures err { OnErr result (out.new ≡ out.old) }
+{
+    let mut digits = [0; 2 * PART];
+    let text = &mut digits[..2 * bytes.len()];
+    if encode_to_slice(bytes, text).is_err() {
+        unreachable!();
+    }
+    out.append(text)
 }
