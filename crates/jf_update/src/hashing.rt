@@ -34,7 +34,10 @@ pub fn value_hashes<H: Threads + Sync>(
 }
 
 /// The hashes of the values, in the caller's thread.
-fn hashes_in_order(alloc: Global, entries: &[(Key, Option<SharedBytes>)]) -> Result<Vec<Hash>, Memory>
+fn hashes_in_order(
+    alloc: Global,
+    entries: &[(Key, Option<SharedBytes>)],
+) -> Result<Vec<Hash>, Memory>
     ensures { IfOk result (λ v. AreValueHashes entries.now v.items) }
 {
     let mut hashes = Vec::with_capacity(alloc, entries.len())?;
