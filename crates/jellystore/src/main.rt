@@ -3,6 +3,7 @@
 
 use jf_disk::{AnyDisk, FileDisk, FileRefused, MemDisk, Side};
 use jf_io::{StdSink, StdSource};
+use jf_join::FreeGate;
 use jf_run::run_words::run_words;
 use jf_run::status::{Ended, Status};
 use std::fs::File;
@@ -58,7 +59,15 @@ fn status_of_args<R: Runtime + Files<File = File> + AllocGlobal + Threads + Wait
         disk: _,
         entries: _,
         start: _,
-    } = run_words(rt, rt.alloc(), &words, &mut source, &mut sink, disk);
+    } = run_words(
+        rt,
+        rt.alloc(),
+        &words,
+        &mut source,
+        &mut sink,
+        disk,
+        &FreeGate,
+    );
     status
 }
 

@@ -1,16 +1,17 @@
 // Results come in the order of the pieces, whoever works them and when.
-ghost use Rattle.std.specs.Prelude.{◌≡◌, ℕ, ◌<◌, ◌≤◌, length, IfOk, slice_index_or};
+ghost use Rattle.std.specs.Prelude.{◌≡◌, ℕ, ◌+◌, ◌^◌, ◌<◌, ◌≤◌, length, IfOk, slice_index_or};
 ghost use Rattle.std.specs.Fn.{FnReturnsAt};
+ghost use Rattle.std.specs.Thread.{IsSync, IsSend};
 ghost use denote.Ref.{Bor};
 ghost use Rattle.jf_join.specs.Answers.{AnswersEach, TakesEach};
 
 use crate::gate::Gate;
 use jf_path::Memory;
 use std::alloc::Global;
-use std::thread::Threads;
+use std::thread::{Threads, join};
 
 /// Applies `f` to each piece: result i is that of piece i. Before piece i is worked the gate is told its number, i. At
-/// most `workers` pieces are worked at once.
+/// most `workers` pieces are worked at once, each in a thread of its own where one can be made.
 pub fn join_pieces<H: Threads + Sync, T: Sync, R: Send + Drop, G: Gate, F: Fn(&T) -> R + Sync>(
     rt: &H,
     alloc: Global,
@@ -24,11 +25,63 @@ pub fn join_pieces<H: Threads + Sync, T: Sync, R: Send + Drop, G: Gate, F: Fn(&T
     requires callable { TakesEach F.Fn f.now pieces.now }
     ensures { IfOk result (λ v. AnswersEach F.Fn f.now pieces.now v.items) }
 {
-    let _ = rt;
-    let _ = workers;
-    let mut answers = Vec::new(alloc);
-    for (number, piece) in pieces.iter().enumerate() {
-        gate.begin(number as u64);
+    join_from(rt, alloc, pieces, 0, workers, gate, f)
+}
+
+/// The results of pieces of which the first has the number `first`. Pieces and workers are halved at each step, and the
+/// halves are worked side by side; so the stack grows with the logarithm of the number of workers.
+#[cycle(halves)]
+fn join_from<H: Threads + Sync, T: Sync, R: Send + Drop, G: Gate, F: Fn(&T) -> R + Sync>(
+    rt: &H,
+    alloc: Global,
+    pieces: &[T],
+    first: u64,
+    workers: u64,
+    gate: &G,
+    f: &F,
+) -> Result<Vec<R>, Memory>
+    requires positive { 1 ≤ workers }
+    requires numbered { first + length pieces.now < 2 ^ 64 }
+    requires callable { TakesEach F.Fn f.now pieces.now }
+    ensures { IfOk result (λ v. AnswersEach F.Fn f.now pieces.now v.items) }
+{
+    if workers == 1 || pieces.len() < 2 {
+        return work_in_order(alloc, pieces, first, gate, f);
+    }
+    let fewer = workers / 2;
+    let others = workers - fewer;
+    let (front, back) = pieces.split_at(pieces.len() / 2);
+    let middle = first + front.len() as u64;
+    let left = move || -> Result<Vec<R>, Memory>
+        requires { IsSync H.row × IsSync T.row × IsSend R.row × IsSync G.row × IsSync F.row × (1 ≤ fewer) × (first + length front.now < 2 ^ 64) × TakesEach F.Fn f.now front.now }
+        ensures { IfOk result (λ v. AnswersEach F.Fn f.entry.now front.entry.now v.items) }
+    { join_from(rt, alloc, front, first, fewer, gate, f) };
+    let right = move || -> Result<Vec<R>, Memory>
+        requires { IsSync H.row × IsSync T.row × IsSend R.row × IsSync G.row × IsSync F.row × (1 ≤ others) × (middle + length back.now < 2 ^ 64) × TakesEach F.Fn f.now back.now }
+        ensures { IfOk result (λ v. AnswersEach F.Fn f.entry.now back.entry.now v.items) }
+    { join_from(rt, alloc, back, middle, others, gate, f) };
+    let (left, right) = join(rt, left, right);
+    let mut answers = left?;
+    let mut rest = right?;
+    answers.append(&mut rest)?;
+    Ok(answers)
+}
+
+/// The results of pieces of which the first has the number `first`, worked one after another in the caller's thread.
+fn work_in_order<T, R: Drop, G: Gate, F: Fn(&T) -> R>(
+    alloc: Global,
+    pieces: &[T],
+    first: u64,
+    gate: &G,
+    f: &F,
+) -> Result<Vec<R>, Memory>
+    requires numbered { first + length pieces.now < 2 ^ 64 }
+    requires callable { TakesEach F.Fn f.now pieces.now }
+    ensures { IfOk result (λ v. AnswersEach F.Fn f.now pieces.now v.items) }
+{
+    let mut answers = Vec::with_capacity(alloc, pieces.len())?;
+    for (place, piece) in pieces.iter().enumerate() {
+        gate.begin(first + place as u64);
         answers.push(answer(f, piece))?;
     }
     Ok(answers)

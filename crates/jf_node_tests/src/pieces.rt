@@ -101,3 +101,46 @@ fn a_free_gate_lets_all_work_begin(rt: HostRuntime) -> Result<(), Fail> {
     assert!(rt; answers.as_slice() == [false, true].as_slice());
     Ok(())
 }
+
+// How often the first piece looks for the second before it goes on alone.
+const TURNS: u64 = 100_000_000;
+
+// Holds the first piece back until the second has begun, and tells whether it saw that.
+#[derive(Drop)]
+struct Meeting {
+    second: AtomicU64,
+    met: AtomicU64,
+}
+
+impl Gate for Meeting {
+    fn begin(&self, piece: u64) {
+        if piece != 0 {
+            self.second.store(1, SeqCst);
+            return;
+        }
+        for _ in 0..TURNS {
+            if self.second.load(SeqCst) == 1 {
+                self.met.store(1, SeqCst);
+                return;
+            }
+        }
+    }
+
+    fn session(&self, _number: u64) {}
+}
+
+// Whether two pieces met that two workers worked.
+fn two_meet<H: Threads + Sync>(rt: &H, alloc: Global) -> Result<bool, Fail> {
+    let gate = Meeting {
+        second: AtomicU64::new(0),
+        met: AtomicU64::new(0),
+    };
+    let answers = join_pieces(rt, alloc, &[5, 6], 2, &gate, &|piece: &u64| *piece)?;
+    Ok(answers.as_slice() == [5, 6].as_slice() && gate.met.load(SeqCst) == 1)
+}
+
+#[test]
+fn two_pieces_are_in_flight_at_once(rt: HostRuntime) -> Result<(), Fail> {
+    assert!(rt; two_meet(&rt, rt.alloc())?);
+    Ok(())
+}

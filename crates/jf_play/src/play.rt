@@ -2,6 +2,7 @@
 use crate::roots::with_roots;
 use jf_disk::{Disk, MemDisk};
 use jf_io::{MemSink, MemSource};
+use jf_join::{FreeGate, Gate};
 use jf_path::Bytes;
 use jf_run::run_words::run_words;
 use jf_run::status::{Ended, Status};
@@ -76,7 +77,21 @@ pub fn one_word(alloc: Global, word: &str) -> Result<Vec<String>, Fail> {
     Ok(vec![in alloc; String::from_str(alloc, word)?]?)
 }
 
-/// Runs the words over a disk, a source and a sink.
+/// Runs the words over a disk, a source and a sink. The gate is told of each piece of work.
+pub fn run_gated<D: Disk + Drop, H: Threads + Wait + Sync, G: Gate>(
+    rt: &H,
+    alloc: Global,
+    disk: Box<D>,
+    words: &[String],
+    source: &mut MemSource,
+    sink: &mut MemSink,
+    gate: &G,
+) -> Result<Box<Ended<D>>, Fail> {
+    let ended = run_words(rt, alloc, words, source, sink, Box::into_inner(disk), gate);
+    Ok(Box::new(alloc, ended)?)
+}
+
+/// Runs the words over a disk, a source and a sink, with a gate that holds nothing back.
 pub fn run_over<D: Disk + Drop, H: Threads + Wait + Sync>(
     rt: &H,
     alloc: Global,
@@ -85,8 +100,7 @@ pub fn run_over<D: Disk + Drop, H: Threads + Wait + Sync>(
     source: &mut MemSource,
     sink: &mut MemSink,
 ) -> Result<Box<Ended<D>>, Fail> {
-    let ended = run_words(rt, alloc, words, source, sink, Box::into_inner(disk));
-    Ok(Box::new(alloc, ended)?)
+    run_gated(rt, alloc, disk, words, source, sink, &FreeGate)
 }
 
 fn unpacked<D: Disk + Drop>(
@@ -121,6 +135,22 @@ pub fn play_words<D: Disk + Drop, H: Threads + Wait + Sync>(
     let mut source = new_source(alloc, script, faults)?;
     let mut sink = new_sink(alloc, faults)?;
     let ended = run_over(rt, alloc, disk, words, &mut source, &mut sink)?;
+    unpacked(alloc, ended, sink.text().to_vec(alloc)?)
+}
+
+/// Runs the words over a disk and a script with no faults, and returns what was written. The gate is told of each piece
+/// of work.
+pub fn play_gated<D: Disk + Drop, H: Threads + Wait + Sync, G: Gate>(
+    rt: &H,
+    alloc: Global,
+    disk: Box<D>,
+    words: &[String],
+    script: &[u8],
+    gate: &G,
+) -> Result<Played<D>, Fail> {
+    let mut source = new_source(alloc, script, NO_FAULTS)?;
+    let mut sink = new_sink(alloc, NO_FAULTS)?;
+    let ended = run_gated(rt, alloc, disk, words, &mut source, &mut sink, gate)?;
     unpacked(alloc, ended, sink.text().to_vec(alloc)?)
 }
 

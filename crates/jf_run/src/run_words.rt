@@ -10,7 +10,7 @@ use crate::words::{Mode, mode_of};
 use jf_disk::{Disk, know_dated};
 use jf_engine::OpenRefused;
 use jf_io::{Sink, Source};
-use jf_join::FreeGate;
+use jf_join::Gate;
 use jf_journal::{damage_is_no_versions, files_stand_for_one};
 use jf_model::Ledger;
 use jf_session::{Session, SoloRan, run};
@@ -21,7 +21,8 @@ use std::thread::Threads;
 /// Runs the words of a command line over a source, a sink and a disk (docs/FORMATS.md, "Calling the program").
 ///
 /// - `run` opens the store on the disk, and answers the script of the source into the sink. `--workers N`, 1 to 64,
-///   says how many threads may work at once; it never changes the output.
+///   says how many threads may work at once on the pieces of a landing; unless N is 1, the values of a large batch are
+///   hashed by several threads too. The gate is told of each piece before it begins. Neither changes the output.
 /// - `verify` judges the proof blocks of the source, and writes the verdicts into the sink. No call is made on the
 ///   disk.
 /// - For other words the call returns `Usage`, or `Memory` if memory runs out. No device is touched.
@@ -37,13 +38,14 @@ use std::thread::Threads;
 /// - If no store was opened (`IsClosedCall`), there are no entries and the files are unchanged. One exception: a call
 ///   that ends with `DiskFault` may have begun files without a record, which still hold no record.
 /// - In the mode `verify` (`IsJudgedCall`), the verdicts were written, as far as the status says.
-pub fn run_words<S: Source, K: Sink, D: Disk, H: Threads + Wait + Sync>(
+pub fn run_words<S: Source, K: Sink, D: Disk, H: Threads + Wait + Sync, G: Gate>(
     rt: &H,
     alloc: Global,
     words: &[String],
     source: &mut S,
     sink: &mut K,
     disk: D,
+    gate: &G,
 ) -> Ended<D>
     ensures untouched { IsFalse (opens (asked words.now)) → result.disk ≡ disk }
     ensures silent { IsFalse (is_verify (asked words.now)) → IfNone result.start ((source.new ≡ source.old) × (sink.new ≡ sink.old)) }
@@ -112,7 +114,7 @@ pub fn run_words<S: Source, K: Sink, D: Disk, H: Threads + Wait + Sync>(
     };
     session.know_dated();
     let head = session.head();
-    let SoloRan { disk, entries, end } = run(rt, alloc, session, source, sink, workers, &FreeGate);
+    let SoloRan { disk, entries, end } = run(rt, alloc, session, source, sink, workers, gate);
     Ended {
         status: Status::of_end(end),
         disk,

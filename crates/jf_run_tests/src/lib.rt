@@ -9,3 +9,5 @@ mod folders;
 mod runs;
 #[cfg(test)]
 mod words;
+#[cfg(test)]
+mod workers;

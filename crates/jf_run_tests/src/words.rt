@@ -9,7 +9,7 @@ use std::test::Fail;
 use std::thread::Threads;
 
 // The words of a line, which has one space between each two.
-fn words_of(alloc: Global, line: &str) -> Result<Vec<String>, Fail> {
+pub fn words_of(alloc: Global, line: &str) -> Result<Vec<String>, Fail> {
     let mut words = Vec::new(alloc);
     for word in line.split(' ') {
         words.push(String::from_str(alloc, word)?)?;

@@ -5,6 +5,7 @@
 mod build;
 mod child;
 mod hashed_value;
+mod hashing;
 mod leaf;
 mod list;
 mod node;
@@ -15,5 +16,6 @@ mod snapshot;
 mod sorted;
 mod top;
 
+pub use hashing::value_hashes;
 pub use jf_node::Update;
 pub use snapshot::{update, update_counted};
