@@ -81,10 +81,6 @@ range_hash-few zero slots few = first_hash-few slots _ few
 range_hash-few (suc level) slots few = first_hash-few slots _ few
 
 -- ---- one place
-pub no_level : (level : ℕ) → 2 ^ level ≡ 1 → level ≤ 4 → level ≡ 0
-no_level zero is small = refl
-no_level (suc level) is small = absurd (omega (arith, pow-suc 2 level, some_power level))
-
 pub range_hash-place : (slots : List Slot) → length slots ≡ 1 → first_hash slots ≡ range_hash 0 slots
 unfolding range_hash
 range_hash-place [] long = absurd (omega arith)

@@ -60,15 +60,6 @@ agree_all old (suc n) [] long = absurd (omega arith)
 agree_all old (suc n) (s ∷ slots) long = (λ e. absurd (cc), agree_all old n slots (omega arith))
 
 -- ---- the hashes within a range: those within its halves, and its own
-pub kept_within-zero : (level : ℕ) (slots : List Slot) → 2 ^ level ≡ 1 → level ≤ 4 → kept_within level slots ≡ []
-unfolding kept_within
-kept_within-zero zero slots is small = refl
-kept_within-zero (suc zero) slots is small = absurd (omega arith)
-kept_within-zero (suc (suc zero)) slots is small = absurd (omega arith)
-kept_within-zero (suc (suc (suc zero))) slots is small = absurd (omega arith)
-kept_within-zero (suc (suc (suc (suc zero)))) slots is small = absurd (omega arith)
-kept_within-zero (suc (suc (suc (suc (suc n))))) slots is small = absurd (omega arith)
-
 left_of : (level : ℕ) (slots : List Slot) (n : ℕ) → n + 1 ≡ 2 ^ level → take n (kept_within (suc level) slots) ≡ kept_within level (take (2 ^ level) slots)
 unfolding kept_within
 left_of level slots n is = take_at (kept_within level (take (2 ^ level) slots)) _ n (omega (arith, length-kept_within level (take (2 ^ level) slots)))
