@@ -1,6 +1,8 @@
+pub mod Bitmaps
 pub mod LinkValue
 pub mod Children
 pub mod LinkFacts
+pub mod BranchFacts
 pub mod Levels
 pub mod Bodies
 pub mod Falls
