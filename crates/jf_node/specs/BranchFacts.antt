@@ -1,7 +1,7 @@
 -- How an inner node keeps its children: which places have a child, which of them are leaves, and the links there.
 use Rattle.std.specs.Prelude.{◌≡◌, ◌==◌, Bool, true, false, List, Option, Some, None, length, map}
 use Rattle.std.specs.List.{AllByRecursion, count_by}
-use Rattle.jf_node.specs.Bitmaps.{spread}
+use Rattle.jf_path.specs.Bitmaps.{spread}
 use Rattle.jf_node.specs.LinkValue.{LinkValue}
 use Rattle.jf_node.specs.LinkFacts.{IsLink}
 

@@ -1,4 +1,3 @@
-pub mod Bitmaps
 pub mod LinkValue
 pub mod Children
 pub mod LinkFacts

@@ -1,14 +1,13 @@
 // The children of an inner node. A bitmap says at which places there is one, and only those take room.
 ghost use Rattle.std.specs.Prelude.{◌≡◌, ℕ, ◌+◌, ◌<◌, ◌≤◌, ◌^◌, ◌++◌, IfOk, List, Option, None, OnOk, Some, [], ◌∷◌, length, map, take, drop, slice_index_or};
 ghost use Rattle.std.specs.Option.{option_copied, SomeIff};
-ghost use Rattle.jf_node.specs.Bitmaps.{present};
+ghost use Rattle.jf_path.specs.Bitmaps.{present};
 ghost use Rattle.jf_node.specs.BranchFacts.{is_there, is_leaf_child};
 ghost use Rattle.jf_node.specs.Children.{joined};
 ghost use Rattle.jf_node.specs.LinkFacts.{IsLinkIf};
 
-use crate::bitmap::Bitmap;
 use crate::link::{Branches, Link, Sixteen};
-use jf_path::{Memory, Nibble};
+use jf_path::{Bitmap, Memory, Nibble};
 use std::alloc::Global;
 
 impl Branches {

@@ -2,7 +2,6 @@
 //! places, and the snapshot of a version: a link to the top node.
 #![tactic(auto)]
 
-mod bitmap;
 mod branches;
 mod found;
 mod link;

@@ -9,11 +9,10 @@ ghost use Rattle.jf_hash.specs.Slots.{slots_of};
 ghost use Rattle.jf_node.specs.Children.{content, joined, FitFrom, AreChildren, SameElsewhere, leaf_value, inner_value, moved_value, renewed_value};
 ghost use Rattle.jf_node.specs.LinkFacts.{BeginAlike};
 
-use crate::bitmap::Bitmap;
 use crate::link::{Body, Branches, Form, Link, Sixteen};
 use crate::view::Seen;
 use jf_hash::{Hash, Ranges};
-use jf_path::{Key, Memory, Nibble, SharedBytes, know_bytes, know_key};
+use jf_path::{Bitmap, Key, Memory, Nibble, SharedBytes, know_bytes, know_key};
 use std::alloc::Global;
 use std::sync::Arc;
 
@@ -266,8 +265,8 @@ fn recounted(
     old: Option<&Link>,
     new: Option<&Link>,
 ) -> Result<u64, Memory>
-    requires part { length (content (option_copied old.entry)) ≤ total }
-    requires same { changed ≡ false → content (option_copied old.entry) ≡ content (option_copied new.entry) }
+    requires part { length (content (option_copied old)) ≤ total }
+    requires same { changed ≡ false → content (option_copied old) ≡ content (option_copied new) }
     ensures { IfOk result (λ n. n + length (content (option_copied old.entry)) ≡ total + length (content (option_copied new.entry))) }
 {
     if !changed {
