@@ -11,3 +11,4 @@ pub mod ListLaws
 pub mod FilterLaws
 pub mod ByteLaws
 pub mod NodeLaws
+pub mod BitmapLaws

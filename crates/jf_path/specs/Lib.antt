@@ -9,3 +9,4 @@ pub mod NameLaws
 pub mod Nodes
 pub mod Numbers
 pub mod Faults
+pub mod Bitmaps

@@ -2,6 +2,7 @@
 //! them; bytes; and the fault `Memory`.
 #![tactic(auto)]
 
+mod bitmap;
 mod bytes;
 mod children;
 mod fault;
@@ -17,6 +18,7 @@ mod node_lists;
 mod path;
 mod shared_bytes;
 
+pub use bitmap::Bitmap;
 pub use bytes::Bytes;
 pub use children::{Child, Children};
 pub use fault::PathFault;
