@@ -1,14 +1,15 @@
 -- The children that a bitmap spreads over places: each at its place, and those at some places together.
-use Rattle.std.specs.Prelude.{◌≡◌, ◌<◌, ◌≤◌, ◌+◌, ◌==◌, ℕ, zero, suc, Bool, true, false, cond, List, [], ◌∷◌, ◌++◌, Option, Some, None, length, map, take, drop, refl}
+use Rattle.std.specs.Prelude.{◌≡◌, ◌<◌, ◌≤◌, ◌+◌, ◌==◌, ℕ, zero, suc, Bool, true, false, cond, List, [], ◌∷◌, ◌++◌, Option, Some, None, length, map, take, drop, refl, slice_get}
 use Rattle.std.specs.List.{AllByRecursion, count_by}
-use Rattle.std.proofs.Common.{arith, sym, ap, ap₂, ◌∙◌, get_or, append-nil, add-one, length-append}
+use Rattle.std.specs.Option.{is_some}
+use Rattle.std.proofs.Common.{arith, sym, subst, ap, ap₂, ◌∙◌, get_or, append-nil, add-one, length-append}
 use Rattle.std.proofs.Math.Seq.{take-suc}
 use Rattle.std.proofs.lemmas.Bool.Decides.{nat_tests}
-use Rattle.std.proofs.lemmas.List.{take-map, drop-map, get_or-take, get_or-drop}
+use Rattle.std.proofs.lemmas.List.{length-map, take-map, drop-map, get_or-take, get_or-drop}
 use Rattle.jf_path.specs.Bitmaps.{spread, present}
-use Rattle.jf_node.specs.BranchFacts.{AreBranches, is_there, is_leaf_child}
+use Rattle.jf_path.proofs.BitmapLaws.{count_by-clear, count_by-set, rank-lt, spread-here, get_or-spread, length-spread, spread-present, count_by-is_some}
+use Rattle.jf_node.specs.BranchFacts.{AreBranches, is_leaf_child}
 use Rattle.jf_node.specs.Children.{content, joined}
-use Rattle.jf_node.specs.Falls.{count_skips, count_takes}
 use Rattle.jf_node.specs.LinkFacts.{IsLink, IsLinkIf}
 use Rattle.jf_node.specs.LinkValue.{LinkValue}
 
@@ -16,44 +17,18 @@ use Rattle.jf_node.specs.LinkValue.{LinkValue}
 abbrev pub count : List Bool → ℕ
 count bits = count_by (λ bit. bit) bits
 
--- ---- one place
-pub length-spread : (bits : List Bool) (xs : List LinkValue) → length (spread bits xs) ≡ length bits
-unfolding spread
-length-spread [] xs = refl
-length-spread (false ∷ bits) xs = omega (arith, length-spread bits xs)
-length-spread (true ∷ bits) [] = omega (arith, length-spread bits [])
-length-spread (true ∷ bits) (x ∷ xs) = omega (arith, length-spread bits xs)
-
--- a place with a bit has fewer bits before it than there are
-pub rank_small : (bits : List Bool) (i : ℕ) → get_or bits i false ≡ true → count (take i bits) < count bits
-rank_small [] i is = absurd (cc)
-rank_small (true ∷ bits) zero is = omega (arith, count_takes bits)
-rank_small (false ∷ bits) zero is = absurd (cc)
-rank_small (true ∷ bits) (suc i) is = omega (arith, count_takes bits, count_takes (take i bits), rank_small bits i is)
-rank_small (false ∷ bits) (suc i) is = omega (arith, count_skips bits, count_skips (take i bits), rank_small bits i is)
+-- ---- each child
+-- within a list, what would stand in place of a missing element makes no difference
+pub any_default : (xs : List (Option LinkValue)) (i : ℕ) (d e : Option LinkValue) → i < length xs → get_or xs i d ≡ get_or xs i e
+any_default [] i d e small = absurd (omega (arith, small))
+any_default (x ∷ xs) zero d e small = refl
+any_default (x ∷ xs) (suc i) d e small = any_default xs i d e (omega (arith, small))
 
 -- there is no child at a place without a bit
 pub spread-none : (bits : List Bool) (xs : List LinkValue) (i : ℕ) → get_or bits i false ≡ false → get_or (spread bits xs) i None ≡ None
-unfolding spread
-spread-none [] xs i is = refl
-spread-none (false ∷ bits) xs zero is = refl
-spread-none (false ∷ bits) xs (suc i) is = spread-none bits xs i is
-spread-none (true ∷ bits) [] zero is = refl
-spread-none (true ∷ bits) [] (suc i) is = spread-none bits [] i is
-spread-none (true ∷ bits) (x ∷ xs) zero is = absurd (cc)
-spread-none (true ∷ bits) (x ∷ xs) (suc i) is = spread-none bits xs i is
+spread-none bits xs i off = get_or-spread bits xs i ∙ ap (λ b. cond b (slice_get xs (count (take i bits))) None) off
 
--- the child at a place with a bit is the one after those of the bits before it
-pub spread-some : (bits : List Bool) (xs : List LinkValue) (i : ℕ) (d : LinkValue) → count bits ≡ length xs → get_or bits i false ≡ true → get_or (spread bits xs) i None ≡ Some (get_or xs (count (take i bits)) d)
-unfolding spread
-spread-some [] xs i d many is = absurd (cc)
-spread-some (false ∷ bits) xs zero d many is = absurd (cc)
-spread-some (false ∷ bits) xs (suc i) d many is = spread-some bits xs i d (sym (count_skips bits) ∙ many) is ∙ ap (λ r. Some (get_or xs r d)) (sym (count_skips (take i bits)))
-spread-some (true ∷ bits) [] i d many is = absurd (omega (arith, many, count_takes bits))
-spread-some (true ∷ bits) (x ∷ xs) zero d many is = refl
-spread-some (true ∷ bits) (x ∷ xs) (suc i) d many is =
-    spread-some bits xs i d (omega (arith, many, count_takes bits)) is ∙ ap (λ r. Some (get_or (x ∷ xs) r d)) (let e : suc (count (take i bits)) ≡ count (take (suc i) (true ∷ bits)) = omega (arith, count_takes (take i bits)) in e)
-
+-- what holds of each link holds of the child at each place
 pub each-spread : (bits : List Bool) (xs : List LinkValue) (i : ℕ) → AllByRecursion IsLink xs → IsLinkIf (get_or (spread bits xs) i None)
 unfolding spread
 each-spread [] xs i h = tt
@@ -65,18 +40,6 @@ each-spread (true ∷ bits) (x ∷ xs) zero h = h.0
 each-spread (true ∷ bits) (x ∷ xs) (suc i) h = each-spread bits xs i h.1
 
 -- ---- children that are packed
-pub spread-present : (xs : List (Option LinkValue)) → spread (map is_there xs) (present xs) ≡ xs
-unfolding spread, present
-spread-present [] = refl
-spread-present (None ∷ xs) = ap (λ r. None ∷ r) (spread-present xs)
-spread-present (Some x ∷ xs) = ap (λ r. Some x ∷ r) (spread-present xs)
-
-pub count-there : (xs : List (Option LinkValue)) → count (map is_there xs) ≡ length (present xs)
-unfolding present
-count-there [] = refl
-count-there (None ∷ xs) = count_skips (map is_there xs) ∙ count-there xs
-count-there (Some x ∷ xs) = omega (arith, count_takes (map is_there xs), count-there xs)
-
 pub each-present : (xs : List (Option LinkValue)) → AllByRecursion IsLinkIf xs → AllByRecursion IsLink (present xs)
 unfolding present
 each-present [] h = tt
@@ -100,6 +63,34 @@ same_bits f [] (x ∷ xs) long h = absurd (omega (arith, long))
 same_bits f (b ∷ bits) [] long h = absurd (omega (arith, long))
 same_bits f (b ∷ bits) (x ∷ xs) long h = ap₂ (λ c r. c ∷ r) (h 0 (omega arith)) (same_bits f bits xs (omega (arith, long)) (λ k lt. h (suc k) (omega (arith, lt))))
 
+pub present-none : present {X = LinkValue} [] ≡ []
+unfolding present
+present-none = refl
+
+pub push_none : (xs : List LinkValue) (child : Option LinkValue) → child ≡ None → xs ≡ xs ++ present (child ∷ [])
+unfolding present
+push_none xs child is = sym (ap (λ c. xs ++ present (c ∷ [])) is ∙ append-nil xs)
+
+pub push_some : (xs : List LinkValue) (child : Option LinkValue) (x : LinkValue) → child ≡ Some x → xs ++ x ∷ [] ≡ xs ++ present (child ∷ [])
+unfolding present
+push_some xs child x is = sym (ap (λ c. xs ++ present (c ∷ [])) is)
+
+pub all_by_place : (P : Option LinkValue → Type 0) (links : List (Option LinkValue)) → ((k : ℕ) → k < length links → P (get_or links k None)) → AllByRecursion P links
+all_by_place P [] h = tt
+all_by_place P (x ∷ links) h = (h 0 (omega arith), all_by_place P links (λ k lt. h (suc k) (omega (arith, lt))))
+
+-- children that are packed stand for themselves
+pub packed_is : (xs : List (Option LinkValue)) (there : List Bool) (links : List LinkValue) → there ≡ map is_some xs → links ≡ present xs → spread there links ≡ xs
+packed_is xs there links e f = ap₂ spread e f ∙ spread-present xs
+
+pub packed_sound : (xs : List (Option LinkValue)) (there leaves : List Bool) (links : List LinkValue) → length xs ≡ 16 → ((k : ℕ) → k < 16 → IsLinkIf (get_or xs k None)) → there ≡ map is_some xs → leaves ≡ map is_leaf_child xs → links ≡ present xs → AreBranches there leaves links
+packed_sound xs there leaves links long each e g f = record {
+  long = ap length e ∙ length-map xs is_some ∙ long;
+  many = ap (λ bits. count bits) e ∙ count_by-is_some xs ∙ ap length (sym f);
+  lone = g ∙ ap (map is_leaf_child) (sym (packed_is xs there links e f));
+  each = subst (AllByRecursion IsLink) (sym f) (each-present xs (all_by_place IsLinkIf xs (λ k lt. each k (omega (arith, lt, long)))));
+}
+
 -- ---- some places
 -- the links to the children at the places from `start` on
 abbrev pub among : List Bool → List LinkValue → ℕ → ℕ → List LinkValue
@@ -110,32 +101,32 @@ unfolding spread
 spread-take [] xs zero = refl
 spread-take [] xs (suc width) = refl
 spread-take (b ∷ bits) xs zero = refl
-spread-take (false ∷ bits) xs (suc width) = ap (λ r. None ∷ r) (spread-take bits xs width ∙ ap (λ n. spread (take width bits) (take n xs)) (sym (count_skips (take width bits))))
+spread-take (false ∷ bits) xs (suc width) = ap (λ r. None ∷ r) (spread-take bits xs width ∙ ap (λ n. spread (take width bits) (take n xs)) (sym (count_by-clear (take width bits))))
 spread-take (true ∷ bits) [] (suc width) =
     ap (λ r. None ∷ r) (spread-take bits [] width ∙ ap (spread (take width bits)) (take_none (count (take width bits))))
     ∙ ap (λ xs. spread (true ∷ take width bits) xs) (sym (take_none (count (take (suc width) (true ∷ bits)))))
   where
-    take_none : (n : ℕ) → take n ([] : List LinkValue) ≡ []
+    take_none : (n : ℕ) → take {A = LinkValue} n [] ≡ []
     take_none zero = refl
     take_none (suc n) = refl
 spread-take (true ∷ bits) (x ∷ xs) (suc width) =
     ap (λ r. Some x ∷ r) (spread-take bits xs width)
-    ∙ ap (λ n. spread (true ∷ take width bits) (take n (x ∷ xs))) (let e : suc (count (take width bits)) ≡ count (take (suc width) (true ∷ bits)) = omega (arith, count_takes (take width bits)) in e)
+    ∙ ap (λ n. spread (true ∷ take width bits) (take n (x ∷ xs))) (let e : suc (count (take width bits)) ≡ count (take (suc width) (true ∷ bits)) = omega (arith, count_by-set (take width bits)) in e)
 
 spread-drop : (bits : List Bool) (xs : List LinkValue) (start : ℕ) → drop start (spread bits xs) ≡ spread (drop start bits) (drop (count (take start bits)) xs)
 unfolding spread
 spread-drop [] xs zero = refl
 spread-drop [] xs (suc start) = refl
 spread-drop (b ∷ bits) xs zero = refl
-spread-drop (false ∷ bits) xs (suc start) = spread-drop bits xs start ∙ ap (λ n. spread (drop start bits) (drop n xs)) (sym (count_skips (take start bits)))
+spread-drop (false ∷ bits) xs (suc start) = spread-drop bits xs start ∙ ap (λ n. spread (drop start bits) (drop n xs)) (sym (count_by-clear (take start bits)))
 spread-drop (true ∷ bits) [] (suc start) =
     spread-drop bits [] start ∙ ap (spread (drop start bits)) (drop_none (count (take start bits)) ∙ sym (drop_none (count (take (suc start) (true ∷ bits)))))
   where
-    drop_none : (n : ℕ) → drop n ([] : List LinkValue) ≡ []
+    drop_none : (n : ℕ) → drop {A = LinkValue} n [] ≡ []
     drop_none zero = refl
     drop_none (suc n) = refl
 spread-drop (true ∷ bits) (x ∷ xs) (suc start) =
-    spread-drop bits xs start ∙ ap (λ n. spread (drop start bits) (drop n (x ∷ xs))) (let e : suc (count (take start bits)) ≡ count (take (suc start) (true ∷ bits)) = omega (arith, count_takes (take start bits)) in e)
+    spread-drop bits xs start ∙ ap (λ n. spread (drop start bits) (drop n (x ∷ xs))) (let e : suc (count (take start bits)) ≡ count (take (suc start) (true ∷ bits)) = omega (arith, count_by-set (take start bits)) in e)
 
 -- the children at some places
 pub spread-among : (bits : List Bool) (xs : List LinkValue) (start width : ℕ) → take width (drop start (spread bits xs)) ≡ spread (take width (drop start bits)) (among bits xs start width)
@@ -144,9 +135,9 @@ spread-among bits xs start width = ap (take width) (spread-drop bits xs start) �
 count-parts : (bits : List Bool) (n : ℕ) → count (take n bits) + count (drop n bits) ≡ count bits
 count-parts [] zero = refl
 count-parts [] (suc n) = refl
-count-parts (b ∷ bits) zero = refl
-count-parts (true ∷ bits) (suc n) = omega (arith, count_takes bits, count_takes (take n bits), count-parts bits n)
-count-parts (false ∷ bits) (suc n) = omega (arith, count_skips bits, count_skips (take n bits), count-parts bits n)
+count-parts (b ∷ bits) zero = omega arith
+count-parts (true ∷ bits) (suc n) = omega (arith, count_by-set bits, count_by-set (take n bits), count-parts bits n)
+count-parts (false ∷ bits) (suc n) = omega (arith, count_by-clear bits, count_by-clear (take n bits), count-parts bits n)
 
 -- there are as many links at some places as bits
 pub ends : (bits : List Bool) (start width : ℕ) → count (take start bits) + count (take width (drop start bits)) ≤ count bits
@@ -158,7 +149,7 @@ length-taken (suc n) [] h = absurd (omega arith)
 length-taken (suc n) (x ∷ xs) h = omega (arith, length-taken n xs (omega arith))
 
 length-dropped : (n : ℕ) (xs : List LinkValue) → n ≤ length xs → n + length (drop n xs) ≡ length xs
-length-dropped zero xs h = refl
+length-dropped zero xs h = omega arith
 length-dropped (suc n) [] h = absurd (omega arith)
 length-dropped (suc n) (x ∷ xs) h = omega (arith, length-dropped n xs (omega arith))
 
@@ -185,9 +176,9 @@ pub joined-spread : (bits : List Bool) (xs : List LinkValue) → count bits ≡ 
 unfolding spread
 joined-spread [] [] many = refl
 joined-spread [] (x ∷ xs) many = absurd (omega (arith, many))
-joined-spread (false ∷ bits) xs many = joined-spread bits xs (sym (count_skips bits) ∙ many)
-joined-spread (true ∷ bits) [] many = absurd (omega (arith, many, count_takes bits))
-joined-spread (true ∷ bits) (x ∷ xs) many = ap (λ r. x.entries ++ r) (joined-spread bits xs (omega (arith, many, count_takes bits)))
+joined-spread (false ∷ bits) xs many = joined-spread bits xs (sym (count_by-clear bits) ∙ many)
+joined-spread (true ∷ bits) [] many = absurd (omega (arith, many, count_by-set bits))
+joined-spread (true ∷ bits) (x ∷ xs) many = ap (λ r. x.entries ++ r) (joined-spread bits xs (omega (arith, many, count_by-set bits)))
 
 pub joined-among : (bits : List Bool) (xs : List LinkValue) (start width : ℕ) → count bits ≡ length xs → joined (take width (drop start (spread bits xs))) ≡ joined (map Some (among bits xs start width))
 joined-among bits xs start width many =
@@ -198,14 +189,14 @@ leaves-spread : (bits : List Bool) (xs : List LinkValue) → count bits ≡ leng
 unfolding spread
 leaves-spread [] [] many = refl
 leaves-spread [] (x ∷ xs) many = absurd (omega (arith, many))
-leaves-spread (false ∷ bits) xs many = count_skips (map is_leaf_child (spread bits xs)) ∙ leaves-spread bits xs (sym (count_skips bits) ∙ many)
-leaves-spread (true ∷ bits) [] many = absurd (omega (arith, many, count_takes bits))
+leaves-spread (false ∷ bits) xs many = count_by-clear (map is_leaf_child (spread bits xs)) ∙ leaves-spread bits xs (sym (count_by-clear bits) ∙ many)
+leaves-spread (true ∷ bits) [] many = absurd (omega (arith, many, count_by-set bits))
 leaves-spread (true ∷ bits) (x ∷ xs) many =
-    one (length x.entries == 1) (map is_leaf_child (spread bits xs)) (map is_leaf_child (map Some xs)) (leaves-spread bits xs (omega (arith, many, count_takes bits)))
+    one (length x.entries == 1) (map is_leaf_child (spread bits xs)) (map is_leaf_child (map Some xs)) (leaves-spread bits xs (omega (arith, many, count_by-set bits)))
   where
-    one : (b : Bool) (as bs : List Bool) → count as ≡ count bs → count (b ∷ as) ≡ count (b ∷ bs)
-    one true as bs e = omega (arith, count_takes as, count_takes bs, e)
-    one false as bs e = omega (arith, count_skips as, count_skips bs, e)
+    one : (b : Bool) (cs bs : List Bool) → count cs ≡ count bs → count (b ∷ cs) ≡ count (b ∷ bs)
+    one true cs bs e = omega (arith, count_by-set cs, count_by-set bs, e)
+    one false cs bs e = omega (arith, count_by-clear cs, count_by-clear bs, e)
 
 leaves-among : (bits : List Bool) (xs : List LinkValue) (start width : ℕ) → count bits ≡ length xs → count (take width (drop start (map is_leaf_child (spread bits xs)))) ≡ count (map is_leaf_child (map Some (among bits xs start width)))
 leaves-among bits xs start width many =
@@ -245,8 +236,8 @@ more_of (y ∷ z ∷ ys) all some h =
 
 -- places without a bit have no entry
 pub found_nothing : (bits leaves : List Bool) (xs : List LinkValue) (start width n : ℕ) → AreBranches bits leaves xs → n ≡ count (take width (drop start bits)) → n ≡ 0 → joined (take width (drop start (spread bits xs))) ≡ []
-found_nothing bits leaves xs start width n h is zero =
-    joined-among bits xs start width h.many ∙ none_of (among bits xs start width) (length-among bits xs start width h.many ∙ sym is ∙ zero)
+found_nothing bits leaves xs start width n h is empty =
+    joined-among bits xs start width h.many ∙ none_of (among bits xs start width) (length-among bits xs start width h.many ∙ sym is ∙ empty)
 
 -- one bit, of a leaf
 pub found_leaf : (bits leaves : List Bool) (xs : List LinkValue) (start width n m : ℕ) (d : LinkValue) → AreBranches bits leaves xs → n ≡ count (take width (drop start bits)) → n ≡ 1 → m ≡ count (take width (drop start leaves)) → m ≡ 1

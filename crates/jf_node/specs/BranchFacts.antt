@@ -1,15 +1,11 @@
 -- How an inner node keeps its children: which places have a child, which of them are leaves, and the links there.
-use Rattle.std.specs.Prelude.{◌≡◌, ◌==◌, Bool, true, false, List, Option, Some, None, length, map}
+use Rattle.std.specs.Prelude.{◌≡◌, ◌==◌, Bool, false, List, Option, Some, None, length, map}
 use Rattle.std.specs.List.{AllByRecursion, count_by}
 use Rattle.jf_path.specs.Bitmaps.{spread}
 use Rattle.jf_node.specs.LinkValue.{LinkValue}
 use Rattle.jf_node.specs.LinkFacts.{IsLink}
 
--- whether there is a child, and whether it is a leaf, which has one entry
-abbrev pub is_there : Option LinkValue → Bool
-is_there None = false
-is_there (Some x) = true
-
+-- whether there is a child that is a leaf, which has one entry
 abbrev pub is_leaf_child : Option LinkValue → Bool
 is_leaf_child None = false
 is_leaf_child (Some x) = length x.entries == 1

@@ -1,8 +1,8 @@
 // The children of an inner node. A bitmap says at which places there is one, and only those take room.
 ghost use Rattle.std.specs.Prelude.{◌≡◌, ℕ, ◌+◌, ◌<◌, ◌≤◌, ◌^◌, ◌++◌, IfOk, List, Option, None, OnOk, Some, [], ◌∷◌, length, map, take, drop, slice_index_or};
-ghost use Rattle.std.specs.Option.{option_copied, SomeIff};
+ghost use Rattle.std.specs.Option.{is_some, option_copied, SomeIff};
 ghost use Rattle.jf_path.specs.Bitmaps.{present};
-ghost use Rattle.jf_node.specs.BranchFacts.{is_there, is_leaf_child};
+ghost use Rattle.jf_node.specs.BranchFacts.{is_leaf_child};
 ghost use Rattle.jf_node.specs.Children.{joined};
 ghost use Rattle.jf_node.specs.LinkFacts.{IsLinkIf};
 
@@ -88,16 +88,6 @@ impl Branches {
     }
 }
 
-// Whether there is a child.
-fn is_there(child: &Option<Link>) -> bool
-    ensures { result ≡ is_there child.now }
-{
-    match child {
-        None => false,
-        Some(_) => true,
-    }
-}
-
 // Whether there is a child that is a leaf.
 fn is_leaf_child(child: &Option<Link>) -> bool
     ensures { result ≡ is_leaf_child child.now }
@@ -110,12 +100,12 @@ fn is_leaf_child(child: &Option<Link>) -> bool
 
 // The places at which there is a child.
 fn places_of_children(children: &Sixteen) -> Bitmap
-    ensures { result ≡ map is_there children.now }
+    ensures { result ≡ map is_some children.now }
 {
     children.know();
     let mut there = Bitmap::none();
     for n in 0..16 {
-        there.set(n, is_there(&children.links[n]));
+        there.set(n, children.links[n].is_some());
     }
     there
 }

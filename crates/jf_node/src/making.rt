@@ -149,7 +149,7 @@ impl Link {
         let count = self.recount(&children, changed)?;
         let (ranges, pairs) = self
             .ranges()
-            .updated_counted(&children.slots(), &changed.flags);
+            .updated_counted(&children.slots(), &flags_of(changed));
         let link = Link::over(alloc, version, self.depth(), children, ranges, count)?;
         Ok((link, pairs))
     }
@@ -274,4 +274,16 @@ fn recounted(
     }
     let rest = total - count_of(old);
     rest.checked_add(count_of(new)).ok_or(Memory)
+}
+
+// The bits as flags.
+fn flags_of(changed: Bitmap) -> [bool; 16]
+    ensures { result ≡ changed }
+{
+    changed.know();
+    let mut flags = [false; 16];
+    for n in 0..16 {
+        flags[n] = changed.has(n);
+    }
+    flags
 }
