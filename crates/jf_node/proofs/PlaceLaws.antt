@@ -48,13 +48,6 @@ same_places depth changed old new long same =
     get_or-slots_of depth k old small ∙ ap (slot_of (4 * (depth + 1))) (same k small unchanged) ∙ sym (get_or-slots_of depth k new small))
 
 -- ---- one place
-one_wide : (level : ℕ) → 1 ≡ 2 ^ level → level ≡ 0
+pub one_wide : (level : ℕ) → 1 ≡ 2 ^ level → level ≡ 0
 one_wide zero e = refl
 one_wide (suc level) e = absurd (omega (arith, pow-suc 2 level))
-
--- the hash of one place is the root of the entries there
-pub place_root : (depth start width level : ℕ) (es : Part) → depth < 64 → start < 16 → width ≡ 1 → width ≡ 2 ^ level → range_hash level (take width (drop start (slots_of depth es))) ≡ part_root (4 * depth + (4 - level)) (in_range depth start width es)
-place_root depth start width level es deep small one wide =
-    let zeroth : level ≡ 0 = one_wide level (sym one ∙ wide) in
-    subst (λ w. range_hash level (take w (drop start (slots_of depth es))) ≡ part_root (4 * depth + (4 - level)) (in_range depth start w es)) (sym wide)
-    (range_hash-slots_of level depth start es (omega arith) deep small (subst (λ l. start % 2 ^ l ≡ 0) (sym zeroth) (omega arith)))

@@ -15,4 +15,4 @@ returns c =
     ap (λ xs. joined (take c.args.width (drop c.args.start xs))) (sym c.self.view_is)
     ∙ joined-among there items c.args.start c.args.width c.self.invariant.many
     ∙ ap₂ (λ k r. joined (map (λ x. Some x) (take k (drop r items)))) many (sym c.rank-first.ensures)
-    ∙ ?
+    ∙ ap (λ xs. joined (map (λ x. Some x) (take (first + c.count-many.result - first) (drop first xs)))) (sym c.deref.ensures.value)
