@@ -1,20 +1,25 @@
 // Links are made from an entry, from children, or from an older link.
-ghost use Rattle.std.specs.Prelude.{◌≡◌, ◌*◌, ◌<◌, ◌≤◌, ◌+◌, false, length, IfOk};
+ghost use Rattle.std.specs.Prelude.{◌≡◌, ℕ, ◌*◌, ◌<◌, ◌≤◌, ◌+◌, false, List, Option, length, IfOk};
 ghost use Rattle.std.specs.List.{count_by};
 ghost use Rattle.std.specs.Option.{option_copied};
 ghost use Rattle.jf_path.specs.Limits.{max_value};
 ghost use Rattle.jf_hash.specs.Hashes.{L, V};
-ghost use Rattle.jf_hash.specs.Ranges.{range_hashes};
+ghost use Rattle.jf_hash.specs.Ranges.{kept_hashes};
+ghost use Rattle.jf_hash.specs.Roots.{part_root};
 ghost use Rattle.jf_hash.specs.Slots.{slots_of};
 ghost use Rattle.jf_node.specs.Children.{content, joined, FitFrom, AreChildren, SameElsewhere, leaf_value, inner_value, moved_value, renewed_value};
 ghost use Rattle.jf_node.specs.LinkFacts.{BeginAlike};
+ghost use Rattle.jf_node.specs.LinkValue.{LinkValue};
 
 use crate::link::{Body, Branches, Form, Link, Sixteen};
 use crate::view::Seen;
-use jf_hash::{Hash, Ranges};
+use jf_hash::{Hash, Ranges, empty};
 use jf_path::{Bitmap, Key, Memory, Nibble, SharedBytes, know_bytes, know_key};
+use jf_steps::Steps;
 use std::alloc::Global;
+use std::marker::Brand;
 use std::sync::Arc;
+use std::sync::ledger::{Blank, Ledger};
 
 impl Link {
     /// A leaf of one entry. The caller gives the hash of its value, which isn't hashed again.
@@ -80,30 +85,50 @@ impl Link {
         requires alike { BeginAlike depth (joined children) }
         ensures { IfOk result (λ x. x ≡ inner_value version depth children) }
     {
-        let (link, _) = Link::inner_counted(alloc, version, depth, children)?;
-        Ok(link)
+        Link::inner_uncounted::<Brand>(alloc, version, depth, children, Blank::new(1))
     }
 
-    /// The node that `inner` returns, and the number of pairs that were hashed for it: one for each range that holds
-    /// more than one leaf.
-    pub fn inner_counted(
+    /// The node that `inner` returns, with the pairs counted that are hashed for it: one for each range that holds more
+    /// than one leaf.
+    pub fn inner_counted<L: Ledger>(
         alloc: Global,
         version: u64,
         depth: u64,
         children: Sixteen,
-    ) -> Result<(Link, u64), Memory>
+        steps: &mut Steps<L>,
+    ) -> Result<Link, Memory>
         requires depth { depth < 64 }
         requires children { FitFrom depth 0 children }
         requires several { 2 ≤ length (joined children) }
         requires alike { BeginAlike depth (joined children) }
-        ensures link { IfOk result (λ r. r.0 ≡ inner_value version depth children) }
-        ensures once { IfOk result (λ r. r.1 ≤ 15) }
+        ensures link { IfOk result (λ x. x ≡ inner_value version depth children) }
+        ensures once { steps.new ≤ steps.old + 15 }
     {
         children.know();
         let count = children.count().ok_or(Memory)?;
-        let (ranges, pairs) = Ranges::of_counted(&children.slots());
-        let link = Link::over(alloc, version, depth, children, ranges, count)?;
-        Ok((link, pairs))
+        let ranges = Ranges::of_counted(alloc, &children.slots(), steps)?;
+        Link::over(alloc, version, depth, children, ranges, count)
+    }
+
+    // The inner node, with the pairs counted in a ledger of their own.
+    fn inner_uncounted<L: Ledger>(
+        alloc: Global,
+        version: u64,
+        depth: u64,
+        children: Sixteen,
+        blank: Blank,
+    ) -> Result<Link, Memory>
+        requires name { blank.name ≡ L.name }
+        requires parts { blank.parts ≡ L.parts }
+        requires positive { 0 < blank.parts }
+        requires depth { depth < 64 }
+        requires children { FitFrom depth 0 children }
+        requires several { 2 ≤ length (joined children) }
+        requires alike { BeginAlike depth (joined children) }
+        ensures { IfOk result (λ x. x ≡ inner_value version depth children) }
+    {
+        let mut steps = Steps::<L>::new(blank);
+        Link::inner_counted(alloc, version, depth, children, &mut steps)
     }
 
     /// The inner node over new children, of which only those in `changed` may have other entries than this node's. Only
@@ -122,36 +147,58 @@ impl Link {
         requires elsewhere { SameElsewhere changed self.now.depth self.now.entries (joined children) }
         ensures { IfOk result (λ x. x ≡ inner_value version self.now.depth children) }
     {
-        let (link, _) = self.with_children_counted(alloc, version, children, changed)?;
-        Ok(link)
+        self.with_children_uncounted::<Brand>(alloc, version, children, changed, Blank::new(1))
     }
 
-    /// The node that `with_children` returns, and the number of pairs that were hashed for it: one for each range with
-    /// a changed child that holds more than one leaf.
-    pub fn with_children_counted(
+    /// The node that `with_children` returns, with the pairs counted that are hashed for it: one for each range with a
+    /// changed child that holds more than one leaf.
+    pub fn with_children_counted<L: Ledger>(
         &self,
         alloc: Global,
         version: u64,
         children: Sixteen,
         changed: Bitmap,
-    ) -> Result<(Link, u64), Memory>
+        steps: &mut Steps<L>,
+    ) -> Result<Link, Memory>
         requires inner { 2 ≤ length self.now.entries }
         requires children { FitFrom self.now.depth 0 children }
         requires several { 2 ≤ length (joined children) }
         requires alike { BeginAlike self.now.depth (joined children) }
         requires elsewhere { SameElsewhere changed self.now.depth self.now.entries (joined children) }
-        ensures link { IfOk result (λ r. r.0 ≡ inner_value version self.now.depth children) }
-        ensures bounded { IfOk result (λ r. r.1 ≤ 4 * count_by (λ change. change) changed) }
+        ensures link { IfOk result (λ x. x ≡ inner_value version self.now.depth children) }
+        ensures bounded { steps.new ≤ steps.old + 4 * count_by (λ bit. bit) changed }
     {
         self.know();
         children.know();
         changed.know();
         let count = self.recount(&children, changed)?;
-        let (ranges, pairs) = self
+        let ranges = self
             .ranges()
-            .updated_counted(&children.slots(), &flags_of(changed));
-        let link = Link::over(alloc, version, self.depth(), children, ranges, count)?;
-        Ok((link, pairs))
+            .updated_counted(alloc, &children.slots(), changed, steps)?;
+        Link::over(alloc, version, self.depth(), children, ranges, count)
+    }
+
+    // The node over new children, with the pairs counted in a ledger of their own.
+    fn with_children_uncounted<L: Ledger>(
+        &self,
+        alloc: Global,
+        version: u64,
+        children: Sixteen,
+        changed: Bitmap,
+        blank: Blank,
+    ) -> Result<Link, Memory>
+        requires name { blank.name ≡ L.name }
+        requires parts { blank.parts ≡ L.parts }
+        requires positive { 0 < blank.parts }
+        requires inner { 2 ≤ length self.now.entries }
+        requires children { FitFrom self.now.depth 0 children }
+        requires several { 2 ≤ length (joined children) }
+        requires alike { BeginAlike self.now.depth (joined children) }
+        requires elsewhere { SameElsewhere changed self.now.depth self.now.entries (joined children) }
+        ensures { IfOk result (λ x. x ≡ inner_value version self.now.depth children) }
+    {
+        let mut steps = Steps::<L>::new(blank);
+        self.with_children_counted(alloc, version, children, changed, &mut steps)
     }
 
     // The number of entries of new children, of which only those in `changed` may have other entries than this node's.
@@ -188,12 +235,12 @@ impl Link {
     ) -> Result<Link, Memory>
         requires children { AreChildren depth children }
         requires alike { BeginAlike depth (joined children) }
-        requires hashed { ranges ≡ range_hashes (slots_of depth (joined children)) }
+        requires hashed { ranges ≡ kept_hashes (slots_of depth (joined children)) }
         requires counted { count ≡ length (joined children) }
         ensures { IfOk result (λ x. x ≡ inner_value version depth children) }
     {
         children.know();
-        let hash = ranges.top();
+        let hash = top_of(&ranges);
         let children = Branches::of(alloc, children)?;
         let node = Arc::new(
             alloc,
@@ -235,14 +282,8 @@ impl Link {
             Seen::Leaf { .. } => self.at(alloc, version, self.depth()),
             Seen::Inner { children } => {
                 let children = children.share()?;
-                Link::over(
-                    alloc,
-                    version,
-                    self.depth(),
-                    children,
-                    *self.ranges(),
-                    self.count(),
-                )
+                let ranges = self.ranges().copy(alloc)?;
+                Link::over(alloc, version, self.depth(), children, ranges, self.count())
             }
         }
     }
@@ -276,14 +317,12 @@ fn recounted(
     rest.checked_add(count_of(new)).ok_or(Memory)
 }
 
-// The bits as flags.
-fn flags_of(changed: Bitmap) -> [bool; 16]
-    ensures { result ≡ changed }
+// The hash of an inner node, which it keeps among those of its ranges.
+fn top_of(ranges: &Ranges) -> Hash
+    ensures { (depth : ℕ) (links : List (Option LinkValue)) → AreChildren depth links → ranges.now ≡ kept_hashes (slots_of depth (joined links)) → result ≡ part_root (4 * depth) (joined links) }
 {
-    changed.know();
-    let mut flags = [false; 16];
-    for n in 0..16 {
-        flags[n] = changed.has(n);
+    match ranges.top() {
+        Some(hash) => *hash,
+        None => empty(),
     }
-    flags
 }
