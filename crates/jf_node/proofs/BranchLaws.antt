@@ -7,9 +7,9 @@ use Rattle.std.proofs.Math.Seq.{take-suc}
 use Rattle.std.proofs.lemmas.Bool.Decides.{nat_tests}
 use Rattle.std.proofs.lemmas.List.{length-map, take-map, drop-map, get_or-take, get_or-drop}
 use Rattle.jf_path.specs.Bitmaps.{spread, present}
-use Rattle.jf_path.proofs.BitmapLaws.{count_by-clear, count_by-set, rank-lt, spread-here, get_or-spread, length-spread, spread-present, count_by-is_some}
+use Rattle.jf_path.proofs.BitmapLaws.{count_by-clear, count_by-set, get_or-spread, spread-present, count_by-is_some}
 use Rattle.jf_node.specs.BranchFacts.{AreBranches, is_leaf_child}
-use Rattle.jf_node.specs.Children.{content, joined}
+use Rattle.jf_node.specs.Children.{joined}
 use Rattle.jf_node.specs.LinkFacts.{IsLink, IsLinkIf}
 use Rattle.jf_node.specs.LinkValue.{LinkValue}
 

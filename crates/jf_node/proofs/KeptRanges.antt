@@ -1,12 +1,12 @@
 -- Which hashes a node keeps of its ranges: those of the ranges with more than one entry.
-use Rattle.std.specs.Prelude.{◌≡◌, ◌*◌, ◌<◌, ◌≤◌, ℕ, zero, suc, true, cond, List, [], ◌∷◌, ◌++◌, Option, Some, None, length, map, take, drop}
-use Rattle.std.proofs.Common.{arith, refl, sym, ap, subst, ◌∙◌, get_or}
+use Rattle.std.specs.Prelude.{◌≡◌, ◌*◌, ◌≤◌, ℕ, zero, suc, true, cond, List, [], ◌∷◌, ◌++◌, Option, Some, None, length, map, take, drop}
+use Rattle.std.proofs.Common.{arith, refl, sym, ap, ◌∙◌, get_or}
 use Rattle.std.proofs.lemmas.List.{length-map, take-map, drop-map}
 use Rattle.jf_hash.specs.Slots.{Part, Occupants, Empty, Lone, Many, occupants, range_hash, with_leaf, slot_of, slots_of}
 use Rattle.jf_hash.specs.Ranges.{is_many, kept_hash, in_range}
 use Rattle.jf_hash.specs.declared.slot.Slot.{Slot}
 use Rattle.jf_hash.specs.declared.slot.Slot.TheVariants.{Absent}
-use Rattle.jf_node.specs.Children.{content, joined, child_slot, AreChildren}
+use Rattle.jf_node.specs.Children.{joined, child_slot, AreChildren}
 use Rattle.jf_node.specs.LinkValue.{LinkValue}
 use Rattle.jf_node.specs.Shown.{ShowsInner}
 use Rattle.jf_node.proofs.InRanges.{in_range-joined}

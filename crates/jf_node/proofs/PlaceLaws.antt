@@ -1,13 +1,12 @@
 -- The places of a node are known from its children.
-use Rattle.std.specs.Prelude.{◌≡◌, ◌+◌, ◌*◌, ℕ, Option, Some, None, ◌<◌, ◌-◌, List, length, Bool, false, [], ◌∷◌, ◌^◌, ◌%◌}
-use Rattle.std.proofs.Common.{refl, ap, arith, sym, ◌∙◌, get_or, suc, zero, pow-suc, subst, take, drop}
+use Rattle.std.specs.Prelude.{◌≡◌, ◌+◌, ◌*◌, ℕ, Option, Some, None, ◌<◌, List, length, Bool, false, [], ◌∷◌, ◌^◌}
+use Rattle.std.proofs.Common.{refl, ap, arith, sym, ◌∙◌, get_or, suc, zero, pow-suc}
 use Rattle.std.proofs.lemmas.List.FromFn.{fill_by_all, get_or-map-range_with_len}
-use Rattle.jf_hash.specs.Slots.{slot_of, with_nibble, slots_of, Part, range_hash}
+use Rattle.jf_hash.specs.Slots.{slot_of, with_nibble, slots_of, Part}
 use Rattle.jf_hash.specs.declared.slot.Slot.{Slot}
 use Rattle.jf_hash.specs.declared.slot.Slot.TheVariants.{Absent}
-use Rattle.jf_hash.specs.Ranges.{Agree, in_range}
-use Rattle.jf_hash.specs.Roots.{part_root}
-use Rattle.jf_hash.proofs.SlotLaws.{length-slots_of, range_hash-slots_of}
+use Rattle.jf_hash.specs.Ranges.{Agree}
+use Rattle.jf_hash.proofs.SlotLaws.{length-slots_of}
 use Rattle.jf_node.specs.LinkValue.{LinkValue}
 use Rattle.jf_node.specs.Children.{content, child_slot, FitsAt, joined, AreChildren, SameElsewhere}
 use Rattle.jf_node.proofs.ChildLaws.{FitFrom-at, with_nibble-joined}

@@ -1,5 +1,5 @@
 -- the links so far are those of the first places, and the children after them have not moved
-use Rattle.std.proofs.Common.{◌≡◌, ◌<◌, ◌≤◌, ℕ, None, length, get_or, take}
+use Rattle.std.proofs.Common.{◌≡◌, ◌≤◌, ℕ, None, length, get_or, take}
 use Rattle.jf_path.specs.Bitmaps.{present}
 use Rattle.jf_node.proofs.branches.packed.Given as goal
 

@@ -1,4 +1,4 @@
-use Rattle.std.proofs.Common.{arith, sym, ◌∙◌}
+use Rattle.std.proofs.Common.{arith}
 use Rattle.jf_node.proofs.ChildLaws.{same_links}
 use Rattle.jf_node.proofs.link.Branches.share.Goals as goal
 

@@ -1,6 +1,6 @@
-use Rattle.std.proofs.Common.{sym, ◌∙◌, subst, length, ◌≤◌, refl}
+use Rattle.std.proofs.Common.{sym, ◌∙◌, refl}
 use Rattle.jf_node.specs.declared.found.Found.TheVariants as found
-use Rattle.jf_node.proofs.RangePlaces.{one_none, one_some, found_there, several_places, among_is, two_of, range_ends}
+use Rattle.jf_node.proofs.RangePlaces.{one_none, one_some, found_there, several_places, among_is, range_ends}
 use Rattle.jf_node.proofs.range.Range.among.Goals as goal
 
 pub at-requires : goal.at-requires
