@@ -1,11 +1,11 @@
 -- The hash of a range of places, from what stands in it and from the hashes of its halves.
 use Rattle.std.specs.Prelude.{◌≡◌, ℕ, zero, suc, ◌-◌, ◌^◌, List, take, drop, ◌≤◌, [], ◌∷◌, length, slice_index_or, ◌+◌, ◌/◌, ◌<◌, ◌%◌}
-use Rattle.std.proofs.Common.{ap, arith, ap₂, ◌∙◌, pow-suc, sym, length-take-le, length-drop, refl}
+use Rattle.std.proofs.Common.{ap, arith, ap₂, ◌∙◌, pow-suc, sym, length-take-le, length-drop, take-take, drop-drop}
+use Rattle.std.proofs.lemmas.List.{drop-take}
 use Rattle.jf_hash.specs.Hashes.{E, N}
 use Rattle.jf_hash.specs.Slots.{Empty, occupants, occupants_hash, place_hash, range_hash, Lone, Many}
 use Rattle.jf_hash.specs.declared.slot.Slot.{Slot}
 use Rattle.jf_hash.specs.Ranges.{IsRange}
-use Rattle.jf_hash.specs.declared.slot.Slot.TheVariants as slot
 use Rattle.jf_hash.proofs.RangeLaws.{some_power, fits_all, range_level}
 
 -- the hash of a range with no more than one leaf doesn't come from its halves
@@ -82,16 +82,14 @@ small_range start width level range is = small_level level (omega (arith, is, ra
 pub length-places : {X : Type 0} (start width : ℕ) (xs : List X) → length xs ≡ 16 → start + width ≤ 16 → length (take width (drop start xs)) ≡ width
 length-places start width xs long within = length-take-le width (drop start xs) (omega (arith, length-drop start xs))
 
--- the hash at a place is that of a range of this place alone
-pub hash_at-one : (level : ℕ) (slots : List Slot) (d : Slot) → length slots ≡ 1 → 2 ^ level ≡ 1 → level ≤ 4 → place_hash (slice_index_or slots 0 d ∷ []) ≡ range_hash level slots
-unfolding range_hash
-hash_at-one zero [] d one level small = absurd (omega arith)
-hash_at-one zero (slot.Absent ∷ []) d one level small = refl
-hash_at-one zero (slot.Leaf hash ∷ []) d one level small = refl
-hash_at-one zero (slot.Inner hash ∷ []) d one level small = refl
-hash_at-one zero (place ∷ other ∷ slots) d one level small = absurd (omega arith)
-hash_at-one (suc zero) slots d one level small = absurd (omega arith)
-hash_at-one (suc (suc zero)) slots d one level small = absurd (omega arith)
-hash_at-one (suc (suc (suc zero))) slots d one level small = absurd (omega arith)
-hash_at-one (suc (suc (suc (suc zero)))) slots d one level small = absurd (omega arith)
-hash_at-one (suc (suc (suc (suc (suc n))))) slots d one level small = absurd (omega arith)
+-- ---- the halves of a range of a longer list
+pub left_half : {X : Type 0} (half width start : ℕ) (xs : List X) → half + half ≡ width → take half (drop start xs) ≡ take half (take width (drop start xs))
+left_half half width start xs both = sym (take-take half width (drop start xs) (omega arith))
+
+pub right_half : {X : Type 0} (half width start : ℕ) (xs : List X) → half + half ≡ width → take (width - half) (drop (start + half) xs) ≡ drop half (take width (drop start xs))
+right_half half width start xs both =
+    ap (take (width - half)) (sym (drop-drop half start xs)) ∙ sym (drop-take half (width - half) (drop start xs)) ∙ ap (λ n. drop half (take n (drop start xs))) (let e : half + (width - half) ≡ width = omega arith in e)
+
+-- a range as the program cuts it
+pub whole_range : {X : Type 0} (start width : ℕ) (xs : List X) → take (start + width - start) (drop start xs) ≡ take width (drop start xs)
+whole_range start width xs = ap (λ n. take n (drop start xs)) (let e : start + width - start ≡ width = omega arith in e)

@@ -1,5 +1,5 @@
 -- The order of keys, and lists of entries whose keys rise strictly.
-use Rattle.std.proofs.Common.{◌≡◌, ℕ, List, ap, ◌∙◌, Ordering, ◌∷◌, T, Less, zero, suc, ◌<◌, [], length, get_or, arith, ◌-◌, ◌≤◌, sym, subst, Equal, Greater, refl}
+use Rattle.std.proofs.Common.{◌≡◌, ℕ, List, ap, ◌∙◌, Ordering, ◌∷◌, T, Less, zero, suc, ◌<◌, [], length, get_or, arith, ◌≤◌, sym, subst, Equal, Greater, refl}
 use Rattle.std.specs.Cmp.Lexicographic.{nat_list_cmp_total}
 use Rattle.std.specs.FinMap.{is_sorted}
 use Rattle.std.specs.FinMap as fin

@@ -1,5 +1,5 @@
 -- What a map has at a key, after one was removed and after a batch was applied.
-use Rattle.std.specs.Prelude.{◌≡◌, ℕ, List, ◌-◌, Bool, cond, not, None, Option, Some, [], ◌∷◌, T, true, false}
+use Rattle.std.specs.Prelude.{◌≡◌, ℕ, List, Bool, cond, not, None, Option, Some, [], ◌∷◌, T, true, false}
 use Rattle.std.proofs.Common.{sym, ap, ◌∙◌, refl, is_eq, subst}
 use Rattle.std.specs.Cmp.{eq_by_cmp_equiv}
 use Rattle.std.specs.Cmp.Lexicographic.{nat_list_cmp_total}

@@ -1,16 +1,16 @@
 -- The hashes that a node keeps of its ranges: where each stands in the list, and which are unchanged.
 use borrow.Rule.Slice.PartMut.{put_mid}
-use Rattle.std.specs.Prelude.{◌≡◌, Bool, true, false, List, [], ◌∷◌, ℕ, zero, suc, take, drop, length, replicate, ◌-◌, ◌^◌, ◌≤◌, ◌+◌, ◌++◌, ◌<◌}
-use Rattle.std.proofs.Common.{refl, ap₂, arith, take_at, drop_at, ap, ◌∙◌, sym, length-append, length-drop, append_assoc, set}
+use Rattle.std.specs.Prelude.{◌≡◌, Bool, true, false, cond, Option, Some, None, List, [], ◌∷◌, ℕ, zero, suc, take, drop, length, replicate, ◌-◌, ◌^◌, ◌≤◌, ◌+◌, ◌++◌, ◌<◌}
+use Rattle.std.proofs.Common.{refl, subst, ap₂, arith, take_at, drop_at, ap, ◌∙◌, sym, length-append, length-drop, append_assoc, set}
 use Rattle.std.proofs.lemmas.List.{drop_all, set_split}
 use Rattle.std.proofs.lemmas.Slice.{take-put_mid, drop-put_mid}
-use Rattle.jf_hash.specs.Ranges.{Agree, has_change, hashes_within, range_hashes}
+use Rattle.jf_hash.specs.Ranges.{Agree, has_change, is_many, kept_hash, kept_within}
 use Rattle.jf_hash.specs.declared.slot.Slot.{Slot}
-use Rattle.jf_hash.specs.Slots.{range_hash, occupants, occupants_hash}
-use Rattle.jf_hash.specs.Hashes.{N, E}
+use Rattle.jf_hash.specs.Slots.{Occupants, Empty, Lone, Many, range_hash, occupants, occupants_hash}
+use Rattle.jf_hash.specs.Hashes.{N}
 use Rattle.jf_hash.specs.declared.slot.Slot.TheVariants as slot
-use Rattle.jf_hash.proofs.RangeLaws.{length-hashes_within}
-use Rattle.jf_hash.proofs.Halves.{range_hash-halves}
+use Rattle.jf_hash.proofs.RangeLaws.{length-kept_within}
+use Rattle.jf_hash.proofs.Halves.{range_hash-halves, left_half, right_half}
 
 -- ---- places that are as they were
 pub agree_same : (olds : List Slot) (changed : List Bool) (slots : List Slot) → Agree olds changed slots → has_change changed ≡ false → olds ≡ slots
@@ -40,6 +40,18 @@ agree_drop (suc n) [] (c ∷ changed) slots h = absurd h
 agree_drop (suc n) (o ∷ olds) [] slots h = absurd h
 agree_drop (suc n) (o ∷ olds) (c ∷ changed) [] h = absurd h
 
+pub agree_left : (half width start : ℕ) (olds : List Slot) (changed : List Bool) (slots : List Slot) → half + half ≡ width → Agree olds (take width (drop start changed)) (take width (drop start slots))
+    → Agree (take half olds) (take half (drop start changed)) (take half (drop start slots))
+agree_left half width start olds changed slots both h =
+    subst (λ bits. Agree (take half olds) bits (take half (drop start slots))) (sym (left_half half width start changed both))
+    (subst (Agree (take half olds) (take half (take width (drop start changed)))) (sym (left_half half width start slots both)) (agree_take half olds (take width (drop start changed)) (take width (drop start slots)) h))
+
+pub agree_right : (half width start : ℕ) (olds : List Slot) (changed : List Bool) (slots : List Slot) → half + half ≡ width → Agree olds (take width (drop start changed)) (take width (drop start slots))
+    → Agree (drop half olds) (take (width - half) (drop (start + half) changed)) (take (width - half) (drop (start + half) slots))
+agree_right half width start olds changed slots both h =
+    subst (λ bits. Agree (drop half olds) bits (take (width - half) (drop (start + half) slots))) (sym (right_half half width start changed both))
+    (subst (Agree (drop half olds) (drop half (take width (drop start changed)))) (sym (right_half half width start slots both)) (agree_drop half olds (take width (drop start changed)) (take width (drop start slots)) h))
+
 -- if each place changed, nothing is asked of the places before
 pub agree_all : (old : Slot) (n : ℕ) (slots : List Slot) → length slots ≡ n → Agree (replicate n old) (replicate n true) slots
 agree_all old zero [] long = tt
@@ -48,58 +60,56 @@ agree_all old (suc n) [] long = absurd (omega arith)
 agree_all old (suc n) (s ∷ slots) long = (λ e. absurd (cc), agree_all old n slots (omega arith))
 
 -- ---- the hashes within a range: those within its halves, and its own
-pub hashes_within-zero : (level : ℕ) (slots : List Slot) → 2 ^ level ≡ 1 → level ≤ 4 → hashes_within level slots ≡ []
-unfolding hashes_within
-hashes_within-zero zero slots is small = refl
-hashes_within-zero (suc zero) slots is small = absurd (omega arith)
-hashes_within-zero (suc (suc zero)) slots is small = absurd (omega arith)
-hashes_within-zero (suc (suc (suc zero))) slots is small = absurd (omega arith)
-hashes_within-zero (suc (suc (suc (suc zero)))) slots is small = absurd (omega arith)
-hashes_within-zero (suc (suc (suc (suc (suc n))))) slots is small = absurd (omega arith)
+left_of : (level : ℕ) (slots : List Slot) (n : ℕ) → n + 1 ≡ 2 ^ level → take n (kept_within (suc level) slots) ≡ kept_within level (take (2 ^ level) slots)
+unfolding kept_within
+left_of level slots n is = take_at (kept_within level (take (2 ^ level) slots)) _ n (omega (arith, length-kept_within level (take (2 ^ level) slots)))
 
-left_of : (level : ℕ) (slots : List Slot) (n : ℕ) → n + 1 ≡ 2 ^ level → take n (hashes_within (suc level) slots) ≡ hashes_within level (take (2 ^ level) slots)
-unfolding hashes_within
-left_of level slots n is = take_at (hashes_within level (take (2 ^ level) slots)) _ n (omega (arith, length-hashes_within level (take (2 ^ level) slots)))
+rest_of : (level : ℕ) (slots : List Slot) (n : ℕ) → n + 1 ≡ 2 ^ level → drop n (kept_within (suc level) slots) ≡ kept_within level (drop (2 ^ level) slots) ++ kept_hash (suc level) slots ∷ []
+unfolding kept_within
+rest_of level slots n is = drop_at (kept_within level (take (2 ^ level) slots)) _ n (omega (arith, length-kept_within level (take (2 ^ level) slots)))
 
-rest_of : (level : ℕ) (slots : List Slot) (n : ℕ) → n + 1 ≡ 2 ^ level → drop n (hashes_within (suc level) slots) ≡ hashes_within level (drop (2 ^ level) slots) ++ range_hash (suc level) slots ∷ []
-unfolding hashes_within
-rest_of level slots n is = drop_at (hashes_within level (take (2 ^ level) slots)) _ n (omega (arith, length-hashes_within level (take (2 ^ level) slots)))
-
-right_of : (level : ℕ) (slots : List Slot) (n : ℕ) → n + 1 ≡ 2 ^ level → take n (drop n (hashes_within (suc level) slots)) ≡ hashes_within level (drop (2 ^ level) slots)
+right_of : (level : ℕ) (slots : List Slot) (n : ℕ) → n + 1 ≡ 2 ^ level → take n (drop n (kept_within (suc level) slots)) ≡ kept_within level (drop (2 ^ level) slots)
 right_of level slots n is =
-    ap (take n) (rest_of level slots n is) ∙ take_at (hashes_within level (drop (2 ^ level) slots)) _ n (omega (arith, length-hashes_within level (drop (2 ^ level) slots)))
+    ap (take n) (rest_of level slots n is) ∙ take_at (kept_within level (drop (2 ^ level) slots)) _ n (omega (arith, length-kept_within level (drop (2 ^ level) slots)))
 
 -- the hashes within a range of two places or more are those within its halves, and its own
-pub within_halves : (level half : ℕ) (slots : List Slot) (hashes : List (List ℕ)) → 0 < level → half ≡ 2 ^ (level - 1) → 1 ≤ half → hashes ≡ hashes_within level slots
-    → (take (half - 1) hashes ≡ hashes_within (level - 1) (take half slots)) × (take (half - 1) (drop (half - 1) hashes) ≡ hashes_within (level - 1) (drop half slots))
+pub within_halves : (level half : ℕ) (slots : List Slot) (hashes : List (Option (List ℕ))) → 0 < level → half ≡ 2 ^ (level - 1) → 1 ≤ half → hashes ≡ kept_within level slots
+    → (take (half - 1) hashes ≡ kept_within (level - 1) (take half slots)) × (take (half - 1) (drop (half - 1) hashes) ≡ kept_within (level - 1) (drop half slots))
 within_halves zero half slots hashes some is one at = absurd (omega arith)
 within_halves (suc level) half slots hashes some is one at =
     let e : suc level - 1 ≡ level = omega arith in
     let h : half ≡ 2 ^ level = is ∙ ap (λ k. 2 ^ k) e in
     let n : (half - 1) + 1 ≡ 2 ^ level = omega arith in (
-      ap (take (half - 1)) at ∙ left_of level slots (half - 1) n ∙ ap₂ (λ k n. hashes_within k (take n slots)) (sym e) (sym h),
-      ap (λ t. take (half - 1) (drop (half - 1) t)) at ∙ right_of level slots (half - 1) n ∙ ap₂ (λ k n. hashes_within k (drop n slots)) (sym e) (sym h),
+      ap (take (half - 1)) at ∙ left_of level slots (half - 1) n ∙ ap₂ (λ k n. kept_within k (take n slots)) (sym e) (sym h),
+      ap (λ t. take (half - 1) (drop (half - 1) t)) at ∙ right_of level slots (half - 1) n ∙ ap₂ (λ k n. kept_within k (drop n slots)) (sym e) (sym h),
     )
 
--- a range is hashed again from its halves
-pub hashed_over : (level half : ℕ) (slots : List Slot) (left right hash : List ℕ) (lefts rights : List (List ℕ)) → 0 < level → half ≡ 2 ^ (level - 1)
-    → (left ≡ range_hash (level - 1) (take half slots)) × (lefts ≡ hashes_within (level - 1) (take half slots))
-    → (right ≡ range_hash (level - 1) (drop half slots)) × (rights ≡ hashes_within (level - 1) (drop half slots))
-    → hash ≡ occupants_hash (occupants slots) (N left right) → (hash ≡ range_hash level slots) × (lefts ++ (rights ++ hash ∷ []) ≡ hashes_within level slots)
-unfolding hashes_within
-hashed_over zero half slots left right hash lefts rights some is a b h = absurd (omega arith)
-hashed_over (suc level) half slots left right hash lefts rights some is a b h =
+-- a range of more than one leaf is hashed again from its halves
+pub hashed_over : (level half : ℕ) (slots : List Slot) (left right hash : List ℕ) (lefts rights : List (Option (List ℕ))) → 0 < level → half ≡ 2 ^ (level - 1) → is_many (occupants slots) ≡ true
+    → (left ≡ range_hash (level - 1) (take half slots)) × (lefts ≡ kept_within (level - 1) (take half slots))
+    → (right ≡ range_hash (level - 1) (drop half slots)) × (rights ≡ kept_within (level - 1) (drop half slots))
+    → hash ≡ N left right → (hash ≡ range_hash level slots) × (lefts ++ (rights ++ Some hash ∷ []) ≡ kept_within level slots)
+unfolding kept_within
+hashed_over zero half slots left right hash lefts rights some is many a b h = absurd (omega arith)
+hashed_over (suc level) half slots left right hash lefts rights some is many a b h =
     let e : suc level - 1 ≡ level = omega arith in
     let at : half ≡ 2 ^ level = is ∙ ap (λ k. 2 ^ k) e in
-    let hashed : hash ≡ range_hash (suc level) slots = h ∙ ap₂ (λ x y. occupants_hash (occupants slots) (N x y)) a.0 b.0 ∙ range_hash-halves (suc level) half slots some is in (
+    let hashed : hash ≡ range_hash (suc level) slots =
+    h ∙ ap₂ N a.0 b.0 ∙ sym (many_hash (occupants slots) (N (range_hash (suc level - 1) (take half slots)) (range_hash (suc level - 1) (drop half slots))) many) ∙ range_hash-halves (suc level) half slots some is in
+    let kept : Some hash ≡ kept_hash (suc level) slots = ap Some hashed ∙ ap (λ b. cond b (Some (range_hash (suc level) slots)) None) (sym many) in (
       hashed,
-      ap₂ (λ xs ys. xs ++ (ys ++ hash ∷ [])) (a.1 ∙ ap₂ (λ k n. hashes_within k (take n slots)) e at) (b.1 ∙ ap₂ (λ k n. hashes_within k (drop n slots)) e at)
-          ∙ ap (λ x. hashes_within level (take (2 ^ level) slots) ++ (hashes_within level (drop (2 ^ level) slots) ++ x ∷ [])) hashed,
+      ap₂ (λ xs ys. xs ++ (ys ++ Some hash ∷ [])) (a.1 ∙ ap₂ (λ k n. kept_within k (take n slots)) e at) (b.1 ∙ ap₂ (λ k n. kept_within k (drop n slots)) e at)
+          ∙ ap (λ x. kept_within level (take (2 ^ level) slots) ++ (kept_within level (drop (2 ^ level) slots) ++ x ∷ [])) kept,
     )
+  where
+    many_hash : (o : Occupants) (more : List ℕ) → is_many o ≡ true → occupants_hash o more ≡ more
+    many_hash Empty more many = absurd cc
+    many_hash (Lone hash) more many = absurd cc
+    many_hash Many more many = refl
 
-pub none_hashes : replicate 15 E ≡ range_hashes (replicate 16 slot.Absent)
-unfolding hashes_within range_hash
-none_hashes = refl
+pub kept_within-none : replicate 15 None ≡ kept_within 4 (replicate 16 slot.Absent)
+unfolding kept_within
+kept_within-none = refl
 
 -- ---- both halves are written in place, and then the last
 module _ {X : Type 0} (half : ℕ) (hashes lefts : List X) (some : 1 ≤ half) (room : length hashes + 1 ≡ half + half) (left_room : length lefts + 1 ≡ half) where

@@ -1,30 +1,30 @@
--- Where the hash of each range stands among the fifteen, and how many pairs are hashed for them.
-use Rattle.std.specs.Prelude.{ℕ, zero, suc, ◌-◌, ◌^◌, ◌≤◌, ◌≡◌, ◌+◌, List, [], ◌∷◌, ◌++◌, length, take, drop, ◌<◌, ◌%◌, ◌⊎◌, Bool, true, false, cond, ◌&&◌, ◌*◌}
+-- Where what is kept of each range stands among the fifteen, and how many pairs are hashed for them.
+use Rattle.std.specs.Prelude.{ℕ, zero, suc, ◌-◌, ◌^◌, ◌≤◌, ◌≡◌, ◌+◌, Option, None, List, [], ◌∷◌, ◌++◌, length, take, drop, ◌<◌, ◌%◌, ◌⊎◌, Bool, true, false, cond, ◌&&◌, ◌*◌}
 use Rattle.std.proofs.Common.{arith, pow-suc, refl, length-append, get_or, sym, ap, ◌∙◌, append_assoc, inl, inr, ap₂, length-take-le, length-drop, take_all, take-take, drop-drop, eq-or-lt_of_le}
 use Rattle.std.proofs.Math.Nat.{mul-add}
 use Rattle.std.proofs.lemmas.Bool.{cases_lt}
 use Rattle.std.proofs.lemmas.List.{drop-take, get_or_append_left, get_or-append-add}
 use Rattle.std.proofs.lemmas.List.Sums.{sum_by-cons, sum_by-take-drop}
 use Rattle.std.specs.List.{count_by}
-use Rattle.jf_hash.specs.Slots.{range_hash, occupants}
-use Rattle.jf_hash.specs.Ranges.{hashes_within, range_index, IsRange, range_hashes, has_change, is_many, pairs_within}
+use Rattle.jf_hash.specs.Slots.{occupants}
+use Rattle.jf_hash.specs.Ranges.{kept_hash, kept_within, range_index, IsRange, kept_hashes, has_change, is_many, pairs_within}
 use Rattle.jf_hash.specs.declared.slot.Slot.{Slot}
 
 pub some_power : (level : ℕ) → 1 ≤ 2 ^ level
 some_power zero = omega arith
 some_power (suc level) = omega (arith, pow-suc 2 level, some_power level)
 
-pub length-hashes_within : (level : ℕ) (slots : List Slot) → length (hashes_within level slots) + 1 ≡ 2 ^ level
-unfolding hashes_within
-length-hashes_within zero slots = refl
-length-hashes_within (suc level) slots =
+pub length-kept_within : (level : ℕ) (slots : List Slot) → length (kept_within level slots) + 1 ≡ 2 ^ level
+unfolding kept_within
+length-kept_within zero slots = refl
+length-kept_within (suc level) slots =
     omega (
       arith,
       pow-suc 2 level,
-      length-hashes_within level (take (2 ^ level) slots),
-      length-hashes_within level (drop (2 ^ level) slots),
-      length-append (hashes_within level (take (2 ^ level) slots)) (hashes_within level (drop (2 ^ level) slots) ++ range_hash (suc level) slots ∷ []),
-      length-append (hashes_within level (drop (2 ^ level) slots)) (range_hash (suc level) slots ∷ []),
+      length-kept_within level (take (2 ^ level) slots),
+      length-kept_within level (drop (2 ^ level) slots),
+      length-append (kept_within level (take (2 ^ level) slots)) (kept_within level (drop (2 ^ level) slots) ++ kept_hash (suc level) slots ∷ []),
+      length-append (kept_within level (drop (2 ^ level) slots)) (kept_hash (suc level) slots ∷ []),
     )
 
 pub last_at : {X : Type 0} (xs : List X) (x : X) (n : ℕ) (d : X) → n ≡ length xs → get_or (xs ++ x ∷ []) n d ≡ x
@@ -33,15 +33,15 @@ last_at [] x (suc n) d is = absurd (omega arith)
 last_at (y ∷ xs) x zero d is = absurd (omega arith)
 last_at (y ∷ xs) x (suc n) d is = last_at xs x n d (omega arith)
 
--- the last hash is that of the whole range
-pub within_whole : (level : ℕ) (slots : List Slot) (n : ℕ) (d : List ℕ) → 0 < level → n + 2 ≡ 2 ^ level → get_or (hashes_within level slots) n d ≡ range_hash level slots
-unfolding hashes_within
+-- what is kept of the whole range stands last
+pub within_whole : (level : ℕ) (slots : List Slot) (n : ℕ) (d : Option (List ℕ)) → 0 < level → n + 2 ≡ 2 ^ level → get_or (kept_within level slots) n d ≡ kept_hash level slots
+unfolding kept_within
 within_whole zero slots n d some is = absurd (omega arith)
 within_whole (suc level) slots n d some is =
-    let left = hashes_within level (take (2 ^ level) slots) in
-    let right = hashes_within level (drop (2 ^ level) slots) in
-    ap (λ t. get_or t n d) (sym (append_assoc left right (range_hash (suc level) slots ∷ [])))
-    ∙ last_at (left ++ right) (range_hash (suc level) slots) n d (omega (arith, pow-suc 2 level, length-append left right, length-hashes_within level (take (2 ^ level) slots), length-hashes_within level (drop (2 ^ level) slots)))
+    let left = kept_within level (take (2 ^ level) slots) in
+    let right = kept_within level (drop (2 ^ level) slots) in
+    ap (λ t. get_or t n d) (sym (append_assoc left right (kept_hash (suc level) slots ∷ [])))
+    ∙ last_at (left ++ right) (kept_hash (suc level) slots) n d (omega (arith, pow-suc 2 level, length-append left right, length-kept_within level (take (2 ^ level) slots), length-kept_within level (drop (2 ^ level) slots)))
 
 -- ---- where a range stands: in the first half, or after it
 -- a range of 2 ^ l places that stands in the first half of 2 ^ suc t places
@@ -88,32 +88,32 @@ in_half t l start some within small aligned fits = elim (cases_lt start (2 ^ t))
     right (suc (suc (suc zero))) (suc (suc (suc (suc l)))) some within small aligned fits h = absurd (omega arith)
     right (suc (suc (suc (suc t)))) l some within small aligned fits h = absurd (omega arith)
 
-within_at : (top l start : ℕ) (slots : List Slot) (d : List ℕ) → 1 ≤ l → l ≤ top → top ≤ 4 → start % 2 ^ l ≡ 0 → start + 2 ^ l ≤ 2 ^ top → length slots ≡ 2 ^ top
-    → get_or (hashes_within top slots) (range_index start (2 ^ l)) d ≡ range_hash l (take (2 ^ l) (drop start slots))
-unfolding hashes_within
+within_at : (top l start : ℕ) (slots : List Slot) (d : Option (List ℕ)) → 1 ≤ l → l ≤ top → top ≤ 4 → start % 2 ^ l ≡ 0 → start + 2 ^ l ≤ 2 ^ top → length slots ≡ 2 ^ top
+    → get_or (kept_within top slots) (range_index start (2 ^ l)) d ≡ kept_hash l (take (2 ^ l) (drop start slots))
+unfolding kept_within
 within_at zero l start slots d some within small aligned fits long = absurd (omega arith)
 within_at (suc t) l start slots d some within small aligned fits long =
-    let lefts = hashes_within t (take (2 ^ t) slots) in
-    let rights = hashes_within t (drop (2 ^ t) slots) in
-    let left_long = length-hashes_within t (take (2 ^ t) slots) in
-    let right_long = length-hashes_within t (drop (2 ^ t) slots) in
+    let lefts = kept_within t (take (2 ^ t) slots) in
+    let rights = kept_within t (drop (2 ^ t) slots) in
+    let left_long = length-kept_within t (take (2 ^ t) slots) in
+    let right_long = length-kept_within t (drop (2 ^ t) slots) in
     elim (eq-or-lt_of_le within) [
       | inl whole ↦
           let none : start ≡ 0 = omega (arith, ap (λ k. 2 ^ k) whole, fits) in
           let at : range_index start (2 ^ l) + 2 ≡ 2 ^ suc t = ap (λ s. range_index s (2 ^ l) + 2) none ∙ omega (arith, ap (λ k. 2 ^ k) whole, pow-suc 2 t, some_power t) in
           within_whole (suc t) slots (range_index start (2 ^ l)) d (omega arith) at
-          ∙ ap₂ (λ k xs. range_hash k xs) (sym whole) (sym (ap₂ (λ n s. take n (drop s slots)) (ap (λ k. 2 ^ k) whole) none ∙ take_all (2 ^ suc t) slots (omega (arith, long))))
+          ∙ ap₂ (λ k xs. kept_hash k xs) (sym whole) (sym (ap₂ (λ n s. take n (drop s slots)) (ap (λ k. 2 ^ k) whole) none ∙ take_all (2 ^ suc t) slots (omega (arith, long))))
       | inr less ↦ elim (in_half t l start some (omega arith) (omega arith) aligned fits) [
         | inl left ↦
-            get_or_append_left lefts (rights ++ range_hash (suc t) slots ∷ []) d (range_index start (2 ^ l)) (omega (arith, left.before, left_long))
+            get_or_append_left lefts (rights ++ kept_hash (suc t) slots ∷ []) d (range_index start (2 ^ l)) (omega (arith, left.before, left_long))
             ∙ within_at t l start (take (2 ^ t) slots) d some (omega arith) (omega arith) aligned left.fits (length-take-le (2 ^ t) slots (omega (arith, long, pow-suc 2 t)))
-            ∙ ap (range_hash l) (part_taken (2 ^ l) start (2 ^ t) slots left.fits)
+            ∙ ap (kept_hash l) (part_taken (2 ^ l) start (2 ^ t) slots left.fits)
         | inr right ↦
-            ap (λ n. get_or (lefts ++ (rights ++ range_hash (suc t) slots ∷ [])) n d) (let e : range_index start (2 ^ l) ≡ length lefts + range_index (start - 2 ^ t) (2 ^ l) = omega (arith, right.index, left_long) in e)
-            ∙ get_or-append-add lefts (rights ++ range_hash (suc t) slots ∷ []) (range_index (start - 2 ^ t) (2 ^ l)) d
-            ∙ get_or_append_left rights (range_hash (suc t) slots ∷ []) d (range_index (start - 2 ^ t) (2 ^ l)) (omega (arith, right.before, right_long))
+            ap (λ n. get_or (lefts ++ (rights ++ kept_hash (suc t) slots ∷ [])) n d) (let e : range_index start (2 ^ l) ≡ length lefts + range_index (start - 2 ^ t) (2 ^ l) = omega (arith, right.index, left_long) in e)
+            ∙ get_or-append-add lefts (rights ++ kept_hash (suc t) slots ∷ []) (range_index (start - 2 ^ t) (2 ^ l)) d
+            ∙ get_or_append_left rights (kept_hash (suc t) slots ∷ []) d (range_index (start - 2 ^ t) (2 ^ l)) (omega (arith, right.before, right_long))
             ∙ within_at t l (start - 2 ^ t) (drop (2 ^ t) slots) d some (omega arith) (omega arith) right.aligned right.fits (length-drop (2 ^ t) slots ∙ omega (arith, long, pow-suc 2 t))
-            ∙ ap (λ xs. range_hash l (take (2 ^ l) xs)) (drop-drop (start - 2 ^ t) (2 ^ t) slots ∙ ap (λ n. drop n slots) (let e : 2 ^ t + (start - 2 ^ t) ≡ start = omega (arith, right.behind) in e))
+            ∙ ap (λ xs. kept_hash l (take (2 ^ l) xs)) (drop-drop (start - 2 ^ t) (2 ^ t) slots ∙ ap (λ n. drop n slots) (let e : 2 ^ t + (start - 2 ^ t) ≡ start = omega (arith, right.behind) in e))
       ]
     ]
   where
@@ -141,7 +141,7 @@ IsRange-of_level (suc (suc (suc zero))) start small aligned lt = record { wide =
 IsRange-of_level (suc (suc (suc (suc zero)))) start small aligned lt = record { wide = inr (inr (inr (inr refl))); aligned = aligned; within = lt }
 IsRange-of_level (suc (suc (suc (suc (suc n))))) start small aligned lt = absurd (omega arith)
 
--- ---- what the fifteen hashes are
+-- ---- what the fifteen are
 pub fits_all : (level start : ℕ) → level ≤ 4 → start % 2 ^ level ≡ 0 → start < 16 → start + 2 ^ level ≤ 16
 fits_all zero start small aligned lt = omega arith
 fits_all (suc zero) start small aligned lt = omega arith
@@ -149,12 +149,6 @@ fits_all (suc (suc zero)) start small aligned lt = omega arith
 fits_all (suc (suc (suc zero))) start small aligned lt = omega arith
 fits_all (suc (suc (suc (suc zero)))) start small aligned lt = omega arith
 fits_all (suc (suc (suc (suc (suc n))))) start small aligned lt = absurd (omega arith)
-
--- each range has its hash at its place
-pub range_hashes-at : (level start : ℕ) (slots : List Slot) (d : List ℕ) → 1 ≤ level → level ≤ 4 → start % 2 ^ level ≡ 0 → start < 16 → length slots ≡ 16
-    → get_or (range_hashes slots) (range_index start (2 ^ level)) d ≡ range_hash level (take (2 ^ level) (drop start slots))
-range_hashes-at level start slots d some small aligned lt long =
-    within_at 4 level start slots d some small (omega arith) aligned (fits_all level start small aligned lt) long
 
 pub range_index-small : (level start : ℕ) → 1 ≤ level → level ≤ 4 → start % 2 ^ level ≡ 0 → start < 16 → range_index start (2 ^ level) < 15
 range_index-small zero start some small aligned lt = absurd (omega arith)
@@ -164,9 +158,16 @@ range_index-small (suc (suc (suc zero))) start some small aligned lt = omega ari
 range_index-small (suc (suc (suc (suc zero)))) start some small aligned lt = omega arith
 range_index-small (suc (suc (suc (suc (suc n))))) start some small aligned lt = absurd (omega arith)
 
--- the last of the fifteen hashes is that of all places
-pub range_hashes-top : (slots : List Slot) (d : List ℕ) → get_or (range_hashes slots) 14 d ≡ range_hash 4 slots
-range_hashes-top slots d = within_whole 4 slots 14 d (omega arith) refl
+-- what is kept of each range stands at its place
+pub kept_hashes-at : (level start : ℕ) (slots : List Slot) (d : Option (List ℕ)) → 1 ≤ level → level ≤ 4 → start % 2 ^ level ≡ 0 → start < 16 → length slots ≡ 16
+    → get_or (kept_hashes slots) (range_index start (2 ^ level)) d ≡ kept_hash level (take (2 ^ level) (drop start slots))
+kept_hashes-at level start slots d some small aligned lt long =
+    get_or_append_left (kept_within 4 slots) (None ∷ []) d (range_index start (2 ^ level)) (omega (arith, range_index-small level start some small aligned lt, length-kept_within 4 slots))
+    ∙ within_at 4 level start slots d some small (omega arith) aligned (fits_all level start small aligned lt) long
+
+-- the last of the fifteen is that of all places
+pub kept_hashes-top : (slots : List Slot) (d : Option (List ℕ)) → get_or (kept_hashes slots) 14 d ≡ kept_hash 4 slots
+kept_hashes-top slots d = get_or_append_left (kept_within 4 slots) (None ∷ []) d 14 (omega (arith, length-kept_within 4 slots)) ∙ within_whole 4 slots 14 d (omega arith) refl
 
 -- ---- how many pairs are hashed
 -- no pair is hashed if no place changed
@@ -226,13 +227,13 @@ pairs_within-one (suc (suc (suc zero))) slots changes is small = absurd (omega a
 pairs_within-one (suc (suc (suc (suc zero)))) slots changes is small = absurd (omega arith)
 pairs_within-one (suc (suc (suc (suc (suc n))))) slots changes is small = absurd (omega arith)
 
--- the pairs of a range with a changed place are those of its halves, and its own if it holds more than one leaf
-pub pairs_within-halves : (level half : ℕ) (slots : List Slot) (changes : List Bool) → 0 < level → half ≡ 2 ^ (level - 1) → has_change changes ≡ true
-    → pairs_within (level - 1) (take half slots) (take half changes) + pairs_within (level - 1) (drop half slots) (drop half changes) + cond (is_many (occupants slots)) 1 0 ≡ pairs_within level slots changes
+-- the pairs of a range with a changed place and more than one leaf are those of its halves, and its own
+pub pairs_within-halves : (level half : ℕ) (slots : List Slot) (changes : List Bool) → 0 < level → half ≡ 2 ^ (level - 1) → has_change changes ≡ true → is_many (occupants slots) ≡ true
+    → pairs_within (level - 1) (take half slots) (take half changes) + pairs_within (level - 1) (drop half slots) (drop half changes) + 1 ≡ pairs_within level slots changes
 unfolding pairs_within
-pairs_within-halves zero half slots changes some is change = absurd (omega arith)
-pairs_within-halves (suc level) half slots changes some is change =
+pairs_within-halves zero half slots changes some is change many = absurd (omega arith)
+pairs_within-halves (suc level) half slots changes some is change many =
     let e : suc level - 1 ≡ level = omega arith in
     let h : half ≡ 2 ^ level = is ∙ ap (λ k. 2 ^ k) e in
-    ap₂ (λ k n. pairs_within k (take n slots) (take n changes) + pairs_within k (drop n slots) (drop n changes) + cond (is_many (occupants slots)) 1 0) e h
-    ∙ ap {B = ℕ} (λ b. pairs_within level (take (2 ^ level) slots) (take (2 ^ level) changes) + pairs_within level (drop (2 ^ level) slots) (drop (2 ^ level) changes) + cond (b && is_many (occupants slots)) 1 0) (sym change)
+    ap₂ (λ k n. pairs_within k (take n slots) (take n changes) + pairs_within k (drop n slots) (drop n changes) + 1) e h
+    ∙ ap₂ {C = ℕ} (λ b m. pairs_within level (take (2 ^ level) slots) (take (2 ^ level) changes) + pairs_within level (drop (2 ^ level) slots) (drop (2 ^ level) changes) + cond (b && m) 1 0) (sym change) (sym many)

@@ -1,5 +1,5 @@
--- Ranges of the places of a node: which there are, the entries of the part that stand in one, and the hashes of all of them.
-use Rattle.std.specs.Prelude.{◌≡◌, ℕ, zero, suc, ◌+◌, ◌-◌, ◌/◌, ◌%◌, ◌^◌, ◌<◌, Bool, true, false, cond, ◌&&◌, ◌||◌, ◌⊎◌, nat_le, nat_lt, List, [], ◌∷◌, ◌++◌, filter, take, drop}
+-- Ranges of the places of a node: which there are, the entries of the part that stand in one, and the hashes that are kept of them.
+use Rattle.std.specs.Prelude.{◌≡◌, ℕ, zero, suc, ◌+◌, ◌-◌, ◌/◌, ◌%◌, ◌^◌, ◌<◌, Bool, true, false, cond, ◌&&◌, ◌||◌, ◌⊎◌, nat_le, nat_lt, Option, Some, None, List, [], ◌∷◌, ◌++◌, filter, take, drop}
 use Rattle.jf_path.specs.Nibbles.{nibble}
 use Rattle.jf_hash.specs.Slots.{Occupants, Empty, Lone, Many, occupants, range_hash}
 use Rattle.jf_hash.specs.declared.slot.Slot.{Slot}
@@ -32,16 +32,20 @@ found occupancy.Empty = Empty
 found (occupancy.Lone hash) = Lone hash
 found occupancy.Many = Many
 
--- the hashes of the ranges of two places or more among 2 ^ level, each after those of its halves
-unfoldable pub hashes_within : ℕ → List Slot → List (List ℕ)
-hashes_within zero slots = []
-hashes_within (suc level) slots = hashes_within level (take (2 ^ level) slots) ++ (hashes_within level (drop (2 ^ level) slots) ++ range_hash (suc level) slots ∷ [])
+-- the hash that is kept of a range of 2 ^ level places: none if it holds one leaf alone or nothing
+abbrev pub kept_hash : ℕ → List Slot → Option (List ℕ)
+kept_hash level slots = cond (is_many (occupants slots)) (Some (range_hash level slots)) None
 
--- the fifteen hashes that a node keeps: those of the ranges of its sixteen places
-abbrev pub range_hashes : List Slot → List (List ℕ)
-range_hashes slots = hashes_within 4 slots
+-- what is kept of the ranges of two places or more among 2 ^ level, each after its halves
+unfoldable pub kept_within : ℕ → List Slot → List (Option (List ℕ))
+kept_within zero slots = []
+kept_within (suc level) slots = kept_within level (take (2 ^ level) slots) ++ (kept_within level (drop (2 ^ level) slots) ++ kept_hash (suc level) slots ∷ [])
 
--- the place of a range's hash among the fifteen: after the hashes of the ranges before it and within it
+-- what a node keeps of the ranges of its sixteen places: fifteen, and the last of sixteen is always empty
+abbrev pub kept_hashes : List Slot → List (Option (List ℕ))
+kept_hashes slots = kept_within 4 slots ++ None ∷ []
+
+-- the place of a range among the fifteen: after the ranges before it and within it
 abbrev pub range_index : ℕ → ℕ → ℕ
 range_index start width = start / 2 + start / 4 + start / 8 + (width - 2)
 

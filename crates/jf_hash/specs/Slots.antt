@@ -1,5 +1,5 @@
 -- The sixteen places of a node, and the hash of a range of them.
-use Rattle.std.specs.Prelude.{ℕ, List, [], ◌∷◌, ◌==◌, filter, ◌+◌, ◌*◌, map, zero, suc, ◌^◌, take, drop, nat_le}
+use Rattle.std.specs.Prelude.{ℕ, Bool, true, false, List, [], ◌∷◌, ◌==◌, filter, ◌+◌, ◌*◌, map, zero, suc, ◌^◌, take, drop, nat_le}
 use Rattle.jf_path.specs.Nibbles.{nibble}
 use Rattle.jf_hash.specs.Roots.{part_root}
 use Rattle.jf_hash.specs.declared.slot.Slot.{Slot}
@@ -28,6 +28,18 @@ slot_of d (e ∷ f ∷ es) = slot.Inner (part_root d (e ∷ f ∷ es))
 unfoldable pub slots_of : ℕ → Part → List Slot
 slots_of d es = map (λ i. slot_of (4 * (d + 1)) (with_nibble d i es)) all_nibbles
 
+-- whether a child stands at a place
+abbrev pub is_occupied : Slot → Bool
+is_occupied slot.Absent = false
+is_occupied (slot.Leaf hash) = true
+is_occupied (slot.Inner hash) = true
+
+-- whether a leaf stands at a place
+abbrev pub holds_leaf : Slot → Bool
+holds_leaf slot.Absent = false
+holds_leaf (slot.Leaf hash) = true
+holds_leaf (slot.Inner hash) = false
+
 -- ---- a range of places
 -- what a range holds: nothing, one leaf alone with its hash, or more; an internal node counts as more
 pub data Occupants : Type 0 where
@@ -54,6 +66,13 @@ place_hash [] = E
 place_hash (slot.Absent ∷ slots) = E
 place_hash (slot.Leaf hash ∷ slots) = hash
 place_hash (slot.Inner hash ∷ slots) = hash
+
+-- the hash of the first child of a list of places, or E without a child
+abbrev pub first_hash : List Slot → List ℕ
+first_hash [] = E
+first_hash (slot.Absent ∷ slots) = first_hash slots
+first_hash (slot.Leaf hash ∷ slots) = hash
+first_hash (slot.Inner hash ∷ slots) = hash
 
 -- the hash of a range by what it holds: E for nothing, a lone leaf's own hash, and `more` for more
 abbrev pub occupants_hash : Occupants → List ℕ → List ℕ

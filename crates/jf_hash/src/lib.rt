@@ -4,9 +4,11 @@
 #![tactic(auto)]
 
 mod occupancy;
+mod occupied;
 mod plain;
 mod range;
 mod ranges;
+mod refreshing;
 mod slot;
 mod tagged;
 

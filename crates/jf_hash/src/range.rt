@@ -11,7 +11,7 @@ use crate::slot::Slot;
 use crate::tagged::{Hash, empty, inner};
 
 // The hash of what one place holds; `none` is the hash of no entry.
-pub fn hash_at(place: &Slot, none: &Hash) -> Hash
+fn hash_at(place: &Slot, none: &Hash) -> Hash
     requires { none.now ≡ E }
     ensures { result ≡ place_hash (place.now ∷ []) }
 {

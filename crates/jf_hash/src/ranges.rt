@@ -1,154 +1,241 @@
 // The hashes of the ranges of a node's places, kept so that a change hashes few of them again.
-ghost use Rattle.std.specs.Prelude.{◌≡◌, ℕ, ◌+◌, ◌-◌, ◌*◌, ◌^◌, ◌<◌, ◌≤◌, cond, true, [], List, length, replicate, take, drop, slice_index_or};
+ghost use Rattle.std.specs.Prelude.{◌≡◌, ℕ, ◌+◌, ◌-◌, ◌*◌, ◌^◌, ◌<◌, ◌≤◌, true, None, List, length, replicate, take, drop, slice_index_or, map, is_some, IfSome, IfOk, option_copied};
 ghost use Rattle.std.specs.List.{count_by};
-ghost use Rattle.jf_hash.specs.Hashes.{E, N};
+ghost use Rattle.jf_path.specs.Bitmaps.{present};
 ghost use Rattle.jf_hash.specs.Roots.{part_root};
-ghost use Rattle.jf_hash.specs.Slots.{Part, slots_of, occupants, occupants_hash, range_hash};
-ghost use Rattle.jf_hash.specs.Ranges.{Agree, IsRange, has_change, in_range, is_many, hashes_within, pairs_within, range_hashes, range_index};
+ghost use Rattle.jf_hash.specs.Slots.{Part, slots_of};
+ghost use Rattle.jf_hash.specs.Ranges.{Agree, IsRange, in_range, kept_hash, kept_hashes, pairs_within, range_index};
 ghost use Rattle.jf_hash.specs.declared.slot.Slot.{Slot};
 
-use crate::occupancy::Occupancy;
-use crate::range::hash_at;
+use crate::occupied::Occupied;
+use crate::refreshing::refresh;
 use crate::slot::Slot;
-use crate::tagged::{Hash, empty, inner};
-use std::marker::Model;
+use crate::tagged::Hash;
+use jf_path::{Bitmap, Memory};
+use jf_steps::Steps;
+use std::alloc::Global;
+use std::marker::{Brand, Model};
+use std::sync::ledger::{Blank, Ledger};
 
-/// The hashes of the fifteen ranges of two places or more of a node, each after those of its halves.
-#[derive(Clone, Copy, Debug, PartialEq, Eq)]
+/// The hashes of those ranges of two places or more of a node that hold more than one leaf, each after those of its
+/// halves. Of the other ranges nothing is kept: a lone leaf has its own hash. For each of the fifteen ranges a bit says
+/// whether its hash is there.
+#[derive(Debug, Drop)]
 pub struct Ranges {
-    hashes: [Hash; 15],
+    kept: Bitmap,
+    hashes: Vec<Hash>,
 }
 
 impl Model for Ranges {
-    ghost use Rattle.std.specs.Prelude.{List, ℕ};
-    ghost use Rattle.std.proofs.Common.{refl};
+    ghost use Rattle.std.specs.Prelude.{List, Option, ℕ, ◌≡◌, length};
+    ghost use Rattle.std.specs.List.{count_by};
+    ghost use Rattle.jf_path.specs.Bitmaps.{spread};
 
-    ghost Value = { List (List ℕ) };
+    ghost Value = { List (Option (List ℕ)) };
 
-    ghost view = { λ r. r.hashes };
+    ghost view = { λ r. spread r.kept r.hashes.items };
 
-    ghost inverse = { λ hashes. record { hashes = hashes } };
-
-    ghost inverse_ok = { λ r h. refl };
+    ghost invariant = { λ r. count_by (λ bit. bit) r.kept ≡ length r.hashes.items };
 }
 
-// Whether a place changed.
-fn any_changed(changed: &[bool]) -> bool
-    ensures { result ≡ has_change changed.now }
+// Which of these are there.
+fn which(hashes: &[Option<Hash>; 16]) -> Bitmap
+    ensures { result ≡ map is_some hashes.now }
 {
-    match changed.split_first() {
-        None => false,
-        Some((change, rest)) => *change || any_changed(rest),
+    let mut there = Bitmap::none();
+    for i in 0..16 {
+        there.set(i, hashes[i].is_some());
     }
+    there
 }
 
-// The hash of a range from those of its halves, and the number of pairs that were hashed for it. The halves are hashed
-// as a pair only if the range holds more than one leaf.
-fn hash_over(places: &[Slot], left: &Hash, right: &Hash, none: &Hash) -> (Hash, u64)
-    requires { none.now ≡ E }
-    ensures value { result.0 ≡ occupants_hash (occupants places.now) (N left.now right.now) }
-    ensures pairs { result.1 ≡ cond (is_many (occupants places.now)) 1 0 }
+// Those that are there, `count` of them, in room for so many.
+fn collect(alloc: Global, hashes: &[Option<Hash>; 16], count: usize) -> Result<Vec<Hash>, Memory>
+    ensures { IfOk result (λ v. v.items ≡ present hashes.now) }
 {
-    match Occupancy::of(places) {
-        Occupancy::Empty => (*none, 0),
-        Occupancy::Lone(hash) => (hash, 0),
-        Occupancy::Many => (inner(left, right), 1),
+    let mut there = Vec::with_capacity(alloc, count)?;
+    for i in 0..16 {
+        if let Some(hash) = hashes[i] {
+            there.push(hash)?;
+        }
     }
-}
-
-// Brings the hashes of the ranges within a range up to date with its places; `changed` says which places changed.
-// Returns the hash of the whole range, and the number of pairs that were hashed.
-fn refresh(places: &[Slot], changed: &[bool], hashes: &mut [Hash], none: &Hash) -> (Hash, u64)
-    requires changes { length changed.now ≡ length places.now }
-    requires room { length hashes.old + 1 ≡ length places.now }
-    requires none { none.now ≡ E }
-    ensures value { (level : ℕ) (olds : List Slot) → level ≤ 4 → length places.now ≡ 2 ^ level → hashes.old ≡ hashes_within level olds → Agree olds changed.now places.now → (result.0 ≡ range_hash level places.now) × (hashes.new ≡ hashes_within level places.now) }
-    ensures pairs { (level : ℕ) → level ≤ 4 → length places.now ≡ 2 ^ level → result.1 ≡ pairs_within level places.now changed.now }
-    ensures once { result.1 ≤ length hashes.old }
-{
-    if places.len() == 1 {
-        return (hash_at(&places[0], none), 0);
-    }
-    let last = hashes.len() - 1;
-    if !any_changed(changed) {
-        return (hashes[last], 0);
-    }
-    let half = places.len() / 2;
-    let (left, below_left) = refresh(
-        &places[..half],
-        &changed[..half],
-        &mut hashes[..half - 1],
-        none,
-    );
-    let (right, below_right) = refresh(
-        &places[half..],
-        &changed[half..],
-        &mut hashes[half - 1..last],
-        none,
-    );
-    let (hash, here) = hash_over(places, &left, &right, none);
-    hashes[last] = hash;
-    (hash, below_left + below_right + here)
+    Ok(there)
 }
 
 impl Ranges {
     /// The hashes of the ranges of these places.
-    pub fn of(slots: &[Slot; 16]) -> Ranges
-        ensures { result ≡ range_hashes slots.now }
+    pub fn of(alloc: Global, slots: &[Slot; 16]) -> Result<Ranges, Memory>
+        ensures { IfOk result (λ r. r ≡ kept_hashes slots.now) }
     {
-        Ranges::of_counted(slots).0
+        Ranges::of_uncounted::<Brand>(alloc, slots, Blank::new(1))
     }
 
-    /// The hashes of the ranges of these places, and the number of pairs that were hashed: one for each range of two
-    /// places or more that holds more than one leaf.
-    pub fn of_counted(slots: &[Slot; 16]) -> (Ranges, u64)
-        ensures value { result.0 ≡ range_hashes slots.now }
-        ensures pairs { result.1 ≡ pairs_within 4 slots.now (replicate 16 true) }
-        ensures once { result.1 ≤ 15 }
+    /// The hashes that `of` returns, with the pairs counted that are hashed: one for each range of two places or more
+    /// that holds more than one leaf.
+    pub fn of_counted<L: Ledger>(
+        alloc: Global,
+        slots: &[Slot; 16],
+        steps: &mut Steps<L>,
+    ) -> Result<Ranges, Memory>
+        ensures value { IfOk result (λ r. r ≡ kept_hashes slots.now) }
+        ensures pairs { steps.new ≡ steps.old + pairs_within 4 slots.now (replicate 16 true) }
+        ensures once { steps.new ≤ steps.old + 15 }
     {
-        let none = empty();
-        let mut hashes = [none; 15];
-        let (_, pairs) = refresh(slots, &[true; 16], &mut hashes, &none);
-        (Ranges { hashes }, pairs)
+        let mut hashes = [None; 16];
+        refresh(
+            slots,
+            &Occupied::of(slots),
+            Bitmap::all(),
+            0,
+            16,
+            &mut hashes[..15],
+            steps,
+        );
+        Ranges::from_places(alloc, &hashes)
+    }
+
+    // The hashes, with the pairs counted in a ledger of their own.
+    fn of_uncounted<L: Ledger>(
+        alloc: Global,
+        slots: &[Slot; 16],
+        blank: Blank,
+    ) -> Result<Ranges, Memory>
+        requires name { blank.name ≡ L.name }
+        requires parts { blank.parts ≡ L.parts }
+        requires positive { 0 < blank.parts }
+        ensures { IfOk result (λ r. r ≡ kept_hashes slots.now) }
+    {
+        let mut steps = Steps::<L>::new(blank);
+        Ranges::of_counted(alloc, slots, &mut steps)
     }
 
     /// The hashes of the ranges of these places, of which only those in `changed` may differ from before. Only ranges
     /// with a changed place are hashed again, and of these only those that hold more than one leaf.
-    pub fn updated(&self, slots: &[Slot; 16], changed: &[bool; 16]) -> Ranges
-        ensures { (olds : List Slot) → self.now ≡ range_hashes olds → Agree olds changed.now slots.now → result ≡ range_hashes slots.now }
+    pub fn updated(
+        &self,
+        alloc: Global,
+        slots: &[Slot; 16],
+        changed: Bitmap,
+    ) -> Result<Ranges, Memory>
+        ensures { (olds : List Slot) → self.now ≡ kept_hashes olds → Agree olds changed slots.now → IfOk result (λ r. r ≡ kept_hashes slots.now) }
     {
-        self.updated_counted(slots, changed).0
+        self.updated_uncounted::<Brand>(alloc, slots, changed, Blank::new(1))
     }
 
-    /// The hashes that `updated` returns, and the number of pairs that were hashed.
-    pub fn updated_counted(&self, slots: &[Slot; 16], changed: &[bool; 16]) -> (Ranges, u64)
-        ensures value { (olds : List Slot) → self.now ≡ range_hashes olds → Agree olds changed.now slots.now → result.0 ≡ range_hashes slots.now }
-        ensures pairs { result.1 ≡ pairs_within 4 slots.now changed.now }
-        ensures bounded { result.1 ≤ 4 * count_by (λ change. change) changed.now }
+    /// The hashes that `updated` returns, with the pairs counted that are hashed.
+    pub fn updated_counted<L: Ledger>(
+        &self,
+        alloc: Global,
+        slots: &[Slot; 16],
+        changed: Bitmap,
+        steps: &mut Steps<L>,
+    ) -> Result<Ranges, Memory>
+        ensures value { (olds : List Slot) → self.now ≡ kept_hashes olds → Agree olds changed slots.now → IfOk result (λ r. r ≡ kept_hashes slots.now) }
+        ensures pairs { steps.new ≡ steps.old + pairs_within 4 slots.now changed }
+        ensures bounded { steps.new ≤ steps.old + 4 * count_by (λ bit. bit) changed }
     {
-        let none = empty();
-        let mut hashes = self.hashes;
-        let (_, pairs) = refresh(slots, changed, &mut hashes, &none);
-        (Ranges { hashes }, pairs)
+        changed.know();
+        let mut hashes = self.spread();
+        refresh(
+            slots,
+            &Occupied::of(slots),
+            changed,
+            0,
+            16,
+            &mut hashes[..15],
+            steps,
+        );
+        Ranges::from_places(alloc, &hashes)
     }
 
-    /// The hash of the range of `width` places, two or more, from place `start` on.
-    pub fn hash(&self, start: usize, width: usize) -> Hash
+    // The hashes, with the pairs counted in a ledger of their own.
+    fn updated_uncounted<L: Ledger>(
+        &self,
+        alloc: Global,
+        slots: &[Slot; 16],
+        changed: Bitmap,
+        blank: Blank,
+    ) -> Result<Ranges, Memory>
+        requires name { blank.name ≡ L.name }
+        requires parts { blank.parts ≡ L.parts }
+        requires positive { 0 < blank.parts }
+        ensures { (olds : List Slot) → self.now ≡ kept_hashes olds → Agree olds changed slots.now → IfOk result (λ r. r ≡ kept_hashes slots.now) }
+    {
+        let mut steps = Steps::<L>::new(blank);
+        self.updated_counted(alloc, slots, changed, &mut steps)
+    }
+
+    // These hashes, without room for those that aren't there.
+    fn from_places(alloc: Global, hashes: &[Option<Hash>; 16]) -> Result<Ranges, Memory>
+        ensures { IfOk result (λ r. r ≡ hashes.now) }
+    {
+        let kept = which(hashes);
+        let hashes = collect(alloc, hashes, kept.count(0, 16))?;
+        Ok(Ranges { kept, hashes })
+    }
+
+    // Changes nothing, and tells that there are sixteen places.
+    fn know(&self)
+        ensures { length self.now ≡ 16 }
+    {
+        self.kept.know();
+    }
+
+    // The hashes, each at its place.
+    fn spread(&self) -> [Option<Hash>; 16]
+        ensures value { result ≡ self.now }
+        ensures long { length result ≡ 16 }
+    {
+        self.know();
+        let mut hashes = [None; 16];
+        for i in 0..16 {
+            hashes[i] = self.at(i).copied();
+        }
+        hashes
+    }
+
+    // The hash at a place, if it is there.
+    fn at(&self, place: usize) -> Option<&Hash>
+        requires { place < 16 }
+        ensures { option_copied result ≡ slice_index_or self.now place None }
+    {
+        if self.kept.has(place) {
+            Some(&self.hashes[self.kept.rank(place)])
+        } else {
+            None
+        }
+    }
+
+    /// The hash of the range of `width` places, two or more, from place `start` on, if the range holds more than one
+    /// leaf.
+    pub fn hash(&self, start: usize, width: usize) -> Option<&Hash>
         requires range { IsRange start width }
         requires wide { 2 ≤ width }
-        ensures entry { result ≡ slice_index_or self.now (range_index start width) [] }
-        ensures value { (slots : List Slot) (level : ℕ) → length slots ≡ 16 → self.now ≡ range_hashes slots → width ≡ 2 ^ level → result ≡ range_hash level (take width (drop start slots)) }
-        ensures root { (d : ℕ) (es : Part) (level : ℕ) → d < 64 → self.now ≡ range_hashes (slots_of d es) → width ≡ 2 ^ level → result ≡ part_root (4 * d + (4 - level)) (in_range d start width es) }
+        ensures entry { option_copied result ≡ slice_index_or self.now (range_index start width) None }
+        ensures value { (slots : List Slot) (level : ℕ) → length slots ≡ 16 → self.now ≡ kept_hashes slots → width ≡ 2 ^ level → option_copied result ≡ kept_hash level (take width (drop start slots)) }
+        ensures root { (d : ℕ) (es : Part) (level : ℕ) → d < 64 → self.now ≡ kept_hashes (slots_of d es) → width ≡ 2 ^ level → IfSome (option_copied result) (λ hash. hash ≡ part_root (4 * d + (4 - level)) (in_range d start width es)) }
     {
-        self.hashes[start / 2 + start / 4 + start / 8 + (width - 2)]
+        self.at(start / 2 + start / 4 + start / 8 + (width - 2))
     }
 
-    /// The hash of all places, which is the hash of the node.
-    pub fn top(&self) -> Hash
-        ensures entry { result ≡ slice_index_or self.now 14 [] }
-        ensures value { (slots : List Slot) → self.now ≡ range_hashes slots → result ≡ range_hash 4 slots }
-        ensures root { (d : ℕ) (es : Part) → d < 64 → self.now ≡ range_hashes (slots_of d es) → result ≡ part_root (4 * d) es }
+    /// The hash of all places, which is the hash of the node, if it holds more than one leaf.
+    pub fn top(&self) -> Option<&Hash>
+        ensures entry { option_copied result ≡ slice_index_or self.now 14 None }
+        ensures value { (slots : List Slot) → length slots ≡ 16 → self.now ≡ kept_hashes slots → option_copied result ≡ kept_hash 4 slots }
+        ensures root { (d : ℕ) (es : Part) → d < 64 → self.now ≡ kept_hashes (slots_of d es) → IfSome (option_copied result) (λ hash. hash ≡ part_root (4 * d) es) }
     {
-        self.hashes[14]
+        self.at(14)
+    }
+
+    /// A copy of these hashes.
+    pub fn copy(&self, alloc: Global) -> Result<Ranges, Memory>
+        ensures { IfOk result (λ r. r ≡ self.now) }
+    {
+        let mut hashes = Vec::with_capacity(alloc, self.hashes.len())?;
+        hashes.extend_from_slice(&self.hashes)?;
+        Ok(Ranges {
+            kept: self.kept,
+            hashes,
+        })
     }
 }

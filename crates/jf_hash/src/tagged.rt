@@ -1,5 +1,6 @@
 // A tagged hash is the SHA-256 of a tag byte, 0 to 4, and then of what is hashed (docs/FORMATS.md, Keys and roots).
-ghost use Rattle.std.specs.Prelude.{◌≡◌};
+ghost use Rattle.std.specs.Prelude.{◌≡◌, ◌∷◌, ◌++◌};
+ghost use Rattle.sha2.specs.Sha256.{sha256};
 ghost use Rattle.jf_hash.specs.Hashes.{E, L, N, V, K};
 
 use sha2::{Digest, Sha256};
@@ -20,15 +21,23 @@ pub fn empty() -> Hash
     NO_ENTRY
 }
 
+// The hash of a tag and two hashes. They are laid out as one message, of which the first block is hashed where it
+// stands.
+fn tagged_pair(tag: u8, first: &Hash, second: &Hash) -> Hash
+    ensures { result ≡ sha256 (tag ∷ first.now ++ second.now) }
+{
+    let mut message = [tag; 65];
+    message[1..33].copy_from_slice(first);
+    message[33..].copy_from_slice(second);
+    Sha256::digest(&message)
+}
+
 /// The hash of a leaf: of the byte 1, a key and the hash of its value.
 #[tactic(auto, unfolding(crate::specs::Hashes::L))]
 pub fn leaf(key: &Hash, value_hash: &Hash) -> Hash
     ensures { result ≡ L key.now value_hash.now }
 {
-    let mut hasher = Sha256::new_with_prefix(&[1u8]);
-    hasher.update(key);
-    hasher.update(value_hash);
-    hasher.finalize()
+    tagged_pair(1, key, value_hash)
 }
 
 /// The hash of a pair: of the byte 2, the hash of the part whose next bit is 0, and the hash of the part whose next bit
@@ -37,10 +46,7 @@ pub fn leaf(key: &Hash, value_hash: &Hash) -> Hash
 pub fn inner(left: &Hash, right: &Hash) -> Hash
     ensures { result ≡ N left.now right.now }
 {
-    let mut hasher = Sha256::new_with_prefix(&[2u8]);
-    hasher.update(left);
-    hasher.update(right);
-    hasher.finalize()
+    tagged_pair(2, left, right)
 }
 
 /// The hash of a value: of the byte 3 and the value.

@@ -4,6 +4,8 @@
 #[cfg(test)]
 mod batches;
 #[cfg(test)]
+mod bitmaps;
+#[cfg(test)]
 mod hashes;
 #[cfg(test)]
 mod lists;

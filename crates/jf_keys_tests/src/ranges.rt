@@ -4,6 +4,9 @@ ghost use Rattle.std.specs.Prelude.{IsTrue};
 ghost use Rattle.jf_hash.specs.Ranges.{IsRange};
 
 use jf_hash::{Hash, Ranges, Slot, sixteen};
+use jf_path::{Bitmap, Memory};
+use std::alloc::Global;
+use std::test::Fail;
 
 // The empty hash: that of the byte 0.
 const EMPTY: Hash = [
@@ -208,29 +211,77 @@ fn changed_slots() -> [Slot; 16] {
     slots
 }
 
-fn changed_at_5() -> [bool; 16] {
-    let mut changed = [false; 16];
-    changed[5] = true;
+fn changed_at_5() -> Bitmap {
+    let mut changed = Bitmap::none();
+    changed.set(5, true);
     changed
 }
 
-// Whether the hashes are those of the changed places, of which two pairs were hashed.
-fn is_hashed_anew(before: &Ranges, after: &Ranges) -> bool {
-    let slots = changed_slots();
-    *after == Ranges::of(&slots) && before.updated_counted(&slots, &changed_at_5()).1 == 2
+// The ranges of two places or more.
+const WIDE: &[(usize, usize)] = &[
+    (0, 2),
+    (2, 2),
+    (4, 2),
+    (6, 2),
+    (8, 2),
+    (10, 2),
+    (12, 2),
+    (14, 2),
+    (0, 4),
+    (4, 4),
+    (8, 4),
+    (12, 4),
+    (0, 8),
+    (8, 8),
+    (0, 16),
+];
+
+// Whether the same is kept of a range.
+fn has_same(one: &Ranges, other: &Ranges, start: usize, width: usize) -> bool {
+    width >= 2
+        && is_range(start, width)
+        && one.hash(start, width).copied() == other.hash(start, width).copied()
+}
+
+fn are_same(one: &Ranges, other: &Ranges) -> bool {
+    for (start, width) in WIDE {
+        if !has_same(one, other, *start, *width) {
+            return false;
+        }
+    }
+    true
+}
+
+// Whether the hashes are those of the changed places.
+fn is_hashed_anew(alloc: Global, after: &Ranges) -> Result<bool, Memory> {
+    let anew = Ranges::of(alloc, &changed_slots())?;
+    Ok(are_same(after, &anew))
+}
+
+fn is_copied(alloc: Global, ranges: &Ranges) -> Result<bool, Memory> {
+    let copy = ranges.copy(alloc)?;
+    Ok(are_same(ranges, &copy))
 }
 
 fn has_changed_hashes(before: &Ranges, after: &Ranges) -> bool {
-    after.hash(4, 2) == TWOS
-        && after.hash(0, 8) == LOW_HALF
-        && after.hash(8, 8) == before.hash(8, 8)
-        && after.top() == TOP
+    after.hash(4, 2).is_none()
+        && after.hash(0, 8).copied() == Some(LOW_HALF)
+        && after.hash(8, 8).copied() == before.hash(8, 8).copied()
+        && after.top().copied() == Some(TOP)
 }
 
 #[test]
-fn a_change_leaves_the_hashes_of_the_changed_places(rt: HostRuntime) {
-    let before = Ranges::of(&APART);
-    let after = before.updated(&changed_slots(), &changed_at_5());
-    assert!(rt; is_hashed_anew(&before, &after));
+fn a_change_leaves_the_hashes_of_the_changed_places(rt: HostRuntime) -> Result<(), Fail> {
+    let before = Ranges::of(rt.alloc(), &APART)?;
+    let after = before.updated(rt.alloc(), &changed_slots(), changed_at_5())?;
+    assert!(rt; is_hashed_anew(rt.alloc(), &after)?);
     assert!(rt; has_changed_hashes(&before, &after));
+    Ok(())
+}
+
+#[test]
+fn a_copy_has_the_same_hashes(rt: HostRuntime) -> Result<(), Fail> {
+    let ranges = Ranges::of(rt.alloc(), &APART)?;
+    assert!(rt; is_copied(rt.alloc(), &ranges)?);
+    Ok(())
 }

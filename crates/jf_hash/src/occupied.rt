@@ -1,0 +1,45 @@
+// What stands in a range of places is told by counting the bits of two maps.
+ghost use Rattle.std.specs.Prelude.{◌≡◌, ◌+◌, ◌≤◌, List, Bool, map, take, drop};
+ghost use Rattle.jf_hash.specs.Slots.{occupants, is_occupied, holds_leaf};
+ghost use Rattle.jf_hash.specs.Ranges.{is_many};
+ghost use Rattle.jf_hash.specs.declared.slot.Slot.{Slot};
+
+use crate::slot::Slot;
+use jf_path::Bitmap;
+
+/// At which of a node's places a child stands, and at which of them a leaf.
+#[derive(Clone, Copy)]
+pub struct Occupied {
+    children: Bitmap,
+    leaves: Bitmap,
+}
+
+impl Occupied {
+    /// What these places hold.
+    pub fn of(slots: &[Slot; 16]) -> Occupied
+        ensures children { result.children ≡ map is_occupied slots.now }
+        ensures leaves { result.leaves ≡ map holds_leaf slots.now }
+    {
+        let mut children = Bitmap::none();
+        let mut leaves = Bitmap::none();
+        for i in 0..16 {
+            let (child, leaf) = match slots[i] {
+                Slot::Absent => (false, false),
+                Slot::Leaf(_) => (true, true),
+                Slot::Inner(_) => (true, false),
+            };
+            children.set(i, child);
+            leaves.set(i, leaf);
+        }
+        Occupied { children, leaves }
+    }
+
+    /// Whether a range holds more than one leaf; an internal node counts as more.
+    pub fn is_many(&self, start: usize, width: usize) -> bool
+        requires { start + width ≤ 16 }
+        ensures { (slots : List Slot) → self.now.children ≡ map is_occupied slots → self.now.leaves ≡ map holds_leaf slots → result ≡ is_many (occupants (take width (drop start slots))) }
+    {
+        let children = self.children.count(start, width);
+        children > 1 || children == 1 && self.leaves.count(start, width) == 0
+    }
+}
