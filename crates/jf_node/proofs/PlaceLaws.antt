@@ -1,13 +1,12 @@
 -- The places of a node are known from its children.
-use Rattle.std.specs.Prelude.{◌≡◌, ◌+◌, ◌*◌, ℕ, Option, Some, None, ◌<◌, ◌-◌, List, length, Bool, false, [], ◌∷◌, ◌^◌, ◌%◌}
-use Rattle.std.proofs.Common.{refl, ap, arith, sym, ◌∙◌, get_or, suc, zero, pow-suc, subst, take, drop}
+use Rattle.std.specs.Prelude.{◌≡◌, ◌+◌, ◌*◌, ℕ, Option, Some, None, ◌<◌, List, length, Bool, false, [], ◌∷◌, ◌^◌}
+use Rattle.std.proofs.Common.{refl, ap, arith, sym, ◌∙◌, get_or, suc, zero, pow-suc}
 use Rattle.std.proofs.lemmas.List.FromFn.{fill_by_all, get_or-map-range_with_len}
-use Rattle.jf_hash.specs.Slots.{slot_of, with_nibble, slots_of, Part, range_hash}
+use Rattle.jf_hash.specs.Slots.{slot_of, with_nibble, slots_of, Part}
 use Rattle.jf_hash.specs.declared.slot.Slot.{Slot}
 use Rattle.jf_hash.specs.declared.slot.Slot.TheVariants.{Absent}
-use Rattle.jf_hash.specs.Ranges.{Agree, in_range}
-use Rattle.jf_hash.specs.Roots.{part_root}
-use Rattle.jf_hash.proofs.SlotLaws.{length-slots_of, range_hash-slots_of}
+use Rattle.jf_hash.specs.Ranges.{Agree}
+use Rattle.jf_hash.proofs.SlotLaws.{length-slots_of}
 use Rattle.jf_node.specs.LinkValue.{LinkValue}
 use Rattle.jf_node.specs.Children.{content, child_slot, FitsAt, joined, AreChildren, SameElsewhere}
 use Rattle.jf_node.proofs.ChildLaws.{FitFrom-at, with_nibble-joined}
@@ -48,13 +47,6 @@ same_places depth changed old new long same =
     get_or-slots_of depth k old small ∙ ap (slot_of (4 * (depth + 1))) (same k small unchanged) ∙ sym (get_or-slots_of depth k new small))
 
 -- ---- one place
-one_wide : (level : ℕ) → 1 ≡ 2 ^ level → level ≡ 0
+pub one_wide : (level : ℕ) → 1 ≡ 2 ^ level → level ≡ 0
 one_wide zero e = refl
 one_wide (suc level) e = absurd (omega (arith, pow-suc 2 level))
-
--- the hash of one place is the root of the entries there
-pub place_root : (depth start width level : ℕ) (es : Part) → depth < 64 → start < 16 → width ≡ 1 → width ≡ 2 ^ level → range_hash level (take width (drop start (slots_of depth es))) ≡ part_root (4 * depth + (4 - level)) (in_range depth start width es)
-place_root depth start width level es deep small one wide =
-    let zeroth : level ≡ 0 = one_wide level (sym one ∙ wide) in
-    subst (λ w. range_hash level (take w (drop start (slots_of depth es))) ≡ part_root (4 * depth + (4 - level)) (in_range depth start w es)) (sym wide)
-    (range_hash-slots_of level depth start es (omega arith) deep small (subst (λ l. start % 2 ^ l ≡ 0) (sym zeroth) (omega arith)))

@@ -8,10 +8,11 @@ use Rattle.std.specs.FinMap.Entries.{find-where_key}
 use Rattle.jf_path.specs.Nibbles.{nibble}
 use Rattle.jf_path.specs.Keys.{key_cmp}
 use Rattle.jf_path.proofs.NibbleLaws.{nibble-small}
+use Rattle.jf_hash.specs.Hashes.{E}
 use Rattle.jf_hash.specs.Roots.{part_root, zeros, ones}
 use Rattle.jf_hash.specs.Slots.{Part}
 use Rattle.jf_hash.specs.Ranges.{lies_in, in_range, IsRange}
-use Rattle.jf_hash.proofs.RootLaws.{part_root-one}
+use Rattle.jf_hash.proofs.RootLaws.{part_root-none, part_root-one}
 use Rattle.jf_hash.proofs.RangeLaws.{IsRange-of_level, fits_all}
 use Rattle.jf_hash.proofs.SlotLaws.{zeros-in_range, ones-in_range}
 use Rattle.jf_hash.proofs.KeyOrder.{same_key-exact}
@@ -27,6 +28,7 @@ use Rattle.jf_node.specs.declared.range.Place.{Place}
 use Rattle.jf_node.specs.declared.range.Place.TheVariants.{Places, Leaf, Nowhere}
 use Rattle.jf_node.proofs.InRanges.{one_place, in_range-joined}
 use Rattle.jf_node.proofs.ChildLaws.{child_depth}
+use Rattle.jf_node.proofs.PlaceLaws.{one_wide}
 
 -- the hash of one entry is the same at each depth
 pub one_hash : (d e : ℕ) (es : Part) → length es ≡ 1 → part_root d es ≡ part_root e es
@@ -210,7 +212,7 @@ pub find_leaf : (v : RangeValue) (depth : ℕ) (place : Place) (link : Bor LinkV
 find_leaf v depth place link key seen is = ap (λ x. find key_cmp key x.entries) (sym (kept_as v depth place _ seen is))
 
 -- ---- counts
-same_count : (x : LinkValue) (links : List (Option LinkValue)) (start width : ℕ) → ShowsInner x links → joined (take width (drop start links)) ≡ in_range x.depth start width x.entries
+pub same_count : (x : LinkValue) (links : List (Option LinkValue)) (start width : ℕ) → ShowsInner x links → joined (take width (drop start links)) ≡ in_range x.depth start width x.entries
 same_count x links start width shows = sym (ap (in_range x.depth start width) shows.entries ∙ in_range-joined x.depth start width links shows.children.fit)
 
 -- some places have fewer than 2 ^ 64 entries
@@ -222,3 +224,29 @@ pub count_is : (v : RangeValue) (depth start level width : ℕ) (place : Place) 
     → length (joined (take width (drop start links))) ≡ length v.entries
 count_is v depth start level width place link links seen is wide shows =
     ap length (same_count link.now links start width shows) ∙ ap (λ w. length (in_range link.now.depth start w link.now.entries)) wide ∙ ap (λ w. length w.entries) (sym (kept_as v depth place _ seen is))
+
+-- ---- hashes
+-- the entries at one place are those of the child there
+place_is : (x : LinkValue) (links : List (Option LinkValue)) (start width : ℕ) (child : Option LinkValue) → ShowsInner x links → start < 16 → width ≡ 1 → child ≡ get_or links start None → in_range x.depth start width x.entries ≡ content child
+place_is x links start width child shows small one is =
+    ap (λ w. in_range x.depth start w x.entries) one ∙ ap (in_range x.depth start 1) shows.entries
+    ∙ one_place x.depth start links shows.children.fit (omega (arith, shows.children.long, small)) ∙ ap content (sym is)
+
+-- the hash of one place is that of the child there, or of nothing
+pub place_none : (x : LinkValue) (links : List (Option LinkValue)) (start width d : ℕ) → ShowsInner x links → start < 16 → width ≡ 1 → None ≡ get_or links start None → E ≡ part_root d (in_range x.depth start width x.entries)
+place_none x links start width d shows small one is = sym (ap (part_root d) (place_is x links start width None shows small one is) ∙ part_root-none d)
+
+pub place_some : (x : LinkValue) (links : List (Option LinkValue)) (start width level : ℕ) (child : LinkValue) → ShowsInner x links → start < 16 → width ≡ 1 → width ≡ 2 ^ level → Some child ≡ get_or links start None
+    → part_root (4 * child.depth) child.entries ≡ part_root (4 * x.depth + (4 - level)) (in_range x.depth start width x.entries)
+place_some x links start width level child shows small one wide is =
+    let deep : 4 * child.depth ≡ 4 * x.depth + (4 - level) = omega (arith, child_depth x.depth start links child shows.children small (sym is), one_wide level (sym one ∙ wide)) in
+    ap₂ part_root deep (sym (place_is x links start width (Some child) shows small one is))
+
+-- the hash of places without a child, and of those with one leaf
+pub places_none : (x : LinkValue) (links : List (Option LinkValue)) (start width d : ℕ) → ShowsInner x links → joined (take width (drop start links)) ≡ [] → E ≡ part_root d (in_range x.depth start width x.entries)
+places_none x links start width d shows none = sym (ap (part_root d) (sym (same_count x links start width shows) ∙ none) ∙ part_root-none d)
+
+pub places_leaf : (x : LinkValue) (links : List (Option LinkValue)) (start width d : ℕ) (child : LinkValue) → ShowsInner x links → (joined (take width (drop start links)) ≡ child.entries) × (length (joined (take width (drop start links))) ≡ 1)
+    → part_root (4 * child.depth) child.entries ≡ part_root d (in_range x.depth start width x.entries)
+places_leaf x links start width d child shows alone =
+    one_hash (4 * child.depth) d child.entries (sym (ap length alone.0) ∙ alone.1) ∙ ap (part_root d) (sym alone.0 ∙ same_count x links start width shows)

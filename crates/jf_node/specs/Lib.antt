@@ -1,6 +1,7 @@
 pub mod LinkValue
 pub mod Children
 pub mod LinkFacts
+pub mod BranchFacts
 pub mod Levels
 pub mod Bodies
 pub mod Falls

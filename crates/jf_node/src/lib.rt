@@ -2,6 +2,7 @@
 //! places, and the snapshot of a version: a link to the top node.
 #![tactic(auto)]
 
+mod branches;
 mod found;
 mod link;
 mod making;
@@ -13,7 +14,7 @@ mod state;
 mod update;
 mod view;
 
-pub use link::{Link, Sixteen};
+pub use link::{Branches, Link, Sixteen};
 pub use range::Range;
 pub use shared::SharedRange;
 pub use snapshot::Snapshot;

@@ -1,26 +1,25 @@
 // Links are made from an entry, from children, or from an older link.
-ghost use Rattle.std.specs.Prelude.{◌≡◌, ◌*◌, ◌<◌, ◌≤◌, length, IfOk};
+ghost use Rattle.std.specs.Prelude.{◌≡◌, ℕ, ◌*◌, ◌<◌, ◌≤◌, ◌+◌, false, List, Option, length, IfOk};
 ghost use Rattle.std.specs.List.{count_by};
+ghost use Rattle.std.specs.Option.{option_copied};
 ghost use Rattle.jf_path.specs.Limits.{max_value};
 ghost use Rattle.jf_hash.specs.Hashes.{L, V};
-ghost use Rattle.jf_hash.specs.Ranges.{range_hashes};
+ghost use Rattle.jf_hash.specs.Ranges.{kept_hashes};
+ghost use Rattle.jf_hash.specs.Roots.{part_root};
 ghost use Rattle.jf_hash.specs.Slots.{slots_of};
-ghost use Rattle.jf_node.specs.Children.{joined, FitFrom, AreChildren, SameElsewhere, leaf_value, inner_value, moved_value, renewed_value};
+ghost use Rattle.jf_node.specs.Children.{content, joined, FitFrom, AreChildren, SameElsewhere, leaf_value, inner_value, moved_value, renewed_value};
 ghost use Rattle.jf_node.specs.LinkFacts.{BeginAlike};
+ghost use Rattle.jf_node.specs.LinkValue.{LinkValue};
 
-use crate::link::{Below, Body, Form, Link, Sixteen};
+use crate::link::{Body, Branches, Form, Link, Sixteen};
 use crate::view::Seen;
-use jf_hash::{Hash, Ranges};
-use jf_path::{Bytes, Key, Memory, know_bytes, know_key};
+use jf_hash::{Hash, Ranges, empty};
+use jf_path::{Bitmap, Key, Memory, Nibble, SharedBytes, know_bytes, know_key};
+use jf_steps::Steps;
 use std::alloc::Global;
+use std::marker::Brand;
 use std::sync::Arc;
-
-// There are sixteen flags.
-fn know_length(flags: &[bool; 16])
-    ensures { length flags.now ≡ 16 }
-{
-    let _ = flags;
-}
+use std::sync::ledger::{Blank, Ledger};
 
 impl Link {
     /// A leaf of one entry. The caller gives the hash of its value, which isn't hashed again.
@@ -29,7 +28,7 @@ impl Link {
         version: u64,
         depth: u64,
         key: &Key,
-        value: &[u8],
+        value: &SharedBytes,
         value_hash: &Hash,
     ) -> Result<Link, Memory>
         requires depth { depth ≤ 64 }
@@ -47,7 +46,7 @@ impl Link {
         version: u64,
         depth: u64,
         key: &Key,
-        value: &[u8],
+        value: &SharedBytes,
         value_hash: &Hash,
         hash: Hash,
     ) -> Result<Link, Memory>
@@ -58,8 +57,8 @@ impl Link {
         ensures { IfOk result (λ x. x ≡ leaf_value version depth key.now value.now) }
     {
         know_key(key);
-        know_bytes(value);
-        let value = Bytes::copy_of(alloc, value)?;
+        know_bytes(value.as_slice());
+        let value = value.share()?;
         let node = Arc::new(
             alloc,
             Body {
@@ -86,29 +85,50 @@ impl Link {
         requires alike { BeginAlike depth (joined children) }
         ensures { IfOk result (λ x. x ≡ inner_value version depth children) }
     {
-        let (link, _) = Link::inner_counted(alloc, version, depth, children)?;
-        Ok(link)
+        Link::inner_uncounted::<Brand>(alloc, version, depth, children, Blank::new(1))
     }
 
-    /// The node that `inner` returns, and the number of pairs that were hashed for it: one for each range that holds
-    /// more than one leaf.
-    pub fn inner_counted(
+    /// The node that `inner` returns, with the pairs counted that are hashed for it: one for each range that holds more
+    /// than one leaf.
+    pub fn inner_counted<L: Ledger>(
         alloc: Global,
         version: u64,
         depth: u64,
         children: Sixteen,
-    ) -> Result<(Link, u64), Memory>
+        steps: &mut Steps<L>,
+    ) -> Result<Link, Memory>
         requires depth { depth < 64 }
         requires children { FitFrom depth 0 children }
         requires several { 2 ≤ length (joined children) }
         requires alike { BeginAlike depth (joined children) }
-        ensures link { IfOk result (λ r. r.0 ≡ inner_value version depth children) }
-        ensures once { IfOk result (λ r. r.1 ≤ 15) }
+        ensures link { IfOk result (λ x. x ≡ inner_value version depth children) }
+        ensures once { steps.new ≤ steps.old + 15 }
     {
         children.know();
-        let (ranges, pairs) = Ranges::of_counted(&children.slots());
-        let link = Link::over(alloc, version, depth, children, ranges)?;
-        Ok((link, pairs))
+        let count = children.count().ok_or(Memory)?;
+        let ranges = Ranges::of_counted(alloc, &children.slots(), steps)?;
+        Link::over(alloc, version, depth, children, ranges, count)
+    }
+
+    // The inner node, with the pairs counted in a ledger of their own.
+    fn inner_uncounted<L: Ledger>(
+        alloc: Global,
+        version: u64,
+        depth: u64,
+        children: Sixteen,
+        blank: Blank,
+    ) -> Result<Link, Memory>
+        requires name { blank.name ≡ L.name }
+        requires parts { blank.parts ≡ L.parts }
+        requires positive { 0 < blank.parts }
+        requires depth { depth < 64 }
+        requires children { FitFrom depth 0 children }
+        requires several { 2 ≤ length (joined children) }
+        requires alike { BeginAlike depth (joined children) }
+        ensures { IfOk result (λ x. x ≡ inner_value version depth children) }
+    {
+        let mut steps = Steps::<L>::new(blank);
+        Link::inner_counted(alloc, version, depth, children, &mut steps)
     }
 
     /// The inner node over new children, of which only those in `changed` may have other entries than this node's. Only
@@ -118,61 +138,110 @@ impl Link {
         alloc: Global,
         version: u64,
         children: Sixteen,
-        changed: &[bool; 16],
+        changed: Bitmap,
     ) -> Result<Link, Memory>
         requires inner { 2 ≤ length self.now.entries }
         requires children { FitFrom self.now.depth 0 children }
         requires several { 2 ≤ length (joined children) }
         requires alike { BeginAlike self.now.depth (joined children) }
-        requires elsewhere { SameElsewhere changed.now self.now.depth self.now.entries (joined children) }
+        requires elsewhere { SameElsewhere changed self.now.depth self.now.entries (joined children) }
         ensures { IfOk result (λ x. x ≡ inner_value version self.now.depth children) }
     {
-        let (link, _) = self.with_children_counted(alloc, version, children, changed)?;
-        Ok(link)
+        self.with_children_uncounted::<Brand>(alloc, version, children, changed, Blank::new(1))
     }
 
-    /// The node that `with_children` returns, and the number of pairs that were hashed for it: one for each range with
-    /// a changed child that holds more than one leaf.
-    pub fn with_children_counted(
+    /// The node that `with_children` returns, with the pairs counted that are hashed for it: one for each range with a
+    /// changed child that holds more than one leaf.
+    pub fn with_children_counted<L: Ledger>(
         &self,
         alloc: Global,
         version: u64,
         children: Sixteen,
-        changed: &[bool; 16],
-    ) -> Result<(Link, u64), Memory>
+        changed: Bitmap,
+        steps: &mut Steps<L>,
+    ) -> Result<Link, Memory>
         requires inner { 2 ≤ length self.now.entries }
         requires children { FitFrom self.now.depth 0 children }
         requires several { 2 ≤ length (joined children) }
         requires alike { BeginAlike self.now.depth (joined children) }
-        requires elsewhere { SameElsewhere changed.now self.now.depth self.now.entries (joined children) }
-        ensures link { IfOk result (λ r. r.0 ≡ inner_value version self.now.depth children) }
-        ensures bounded { IfOk result (λ r. r.1 ≤ 4 * count_by (λ change. change) changed.now) }
+        requires elsewhere { SameElsewhere changed self.now.depth self.now.entries (joined children) }
+        ensures link { IfOk result (λ x. x ≡ inner_value version self.now.depth children) }
+        ensures bounded { steps.new ≤ steps.old + 4 * count_by (λ bit. bit) changed }
     {
         self.know();
         children.know();
-        know_length(changed);
-        let (ranges, pairs) = self.ranges().updated_counted(&children.slots(), changed);
-        let link = Link::over(alloc, version, self.depth(), children, ranges)?;
-        Ok((link, pairs))
+        changed.know();
+        let count = self.recount(&children, changed)?;
+        let ranges = self
+            .ranges()
+            .updated_counted(alloc, &children.slots(), changed, steps)?;
+        Link::over(alloc, version, self.depth(), children, ranges, count)
     }
 
-    // An inner node over its children. The hashes of all ranges of them are given.
+    // The node over new children, with the pairs counted in a ledger of their own.
+    fn with_children_uncounted<L: Ledger>(
+        &self,
+        alloc: Global,
+        version: u64,
+        children: Sixteen,
+        changed: Bitmap,
+        blank: Blank,
+    ) -> Result<Link, Memory>
+        requires name { blank.name ≡ L.name }
+        requires parts { blank.parts ≡ L.parts }
+        requires positive { 0 < blank.parts }
+        requires inner { 2 ≤ length self.now.entries }
+        requires children { FitFrom self.now.depth 0 children }
+        requires several { 2 ≤ length (joined children) }
+        requires alike { BeginAlike self.now.depth (joined children) }
+        requires elsewhere { SameElsewhere changed self.now.depth self.now.entries (joined children) }
+        ensures { IfOk result (λ x. x ≡ inner_value version self.now.depth children) }
+    {
+        let mut steps = Steps::<L>::new(blank);
+        self.with_children_counted(alloc, version, children, changed, &mut steps)
+    }
+
+    // The number of entries of new children, of which only those in `changed` may have other entries than this node's.
+    // Only those are looked at.
+    fn recount(&self, children: &Sixteen, changed: Bitmap) -> Result<u64, Memory>
+        requires inner { 2 ≤ length self.now.entries }
+        requires children { FitFrom self.now.depth 0 children.now }
+        requires elsewhere { SameElsewhere changed self.now.depth self.now.entries (joined children.now) }
+        ensures { IfOk result (λ n. n ≡ length (joined children.now)) }
+    {
+        match self.view() {
+            Seen::Leaf { .. } => unreachable!(),
+            Seen::Inner { children: old } => {
+                children.know();
+                let mut total = self.count();
+                for n in 0..16u8 {
+                    let n = Nibble::of(n);
+                    let change = changed.has(n.get() as usize);
+                    total = recounted(total, change, old.get(n), children.get(n))?;
+                }
+                Ok(total)
+            }
+        }
+    }
+
+    // An inner node over its children. The hashes of all ranges of them are given, and the number of their entries.
     fn over(
         alloc: Global,
         version: u64,
         depth: u64,
         children: Sixteen,
         ranges: Ranges,
+        count: u64,
     ) -> Result<Link, Memory>
         requires children { AreChildren depth children }
         requires alike { BeginAlike depth (joined children) }
-        requires hashed { ranges ≡ range_hashes (slots_of depth (joined children)) }
+        requires hashed { ranges ≡ kept_hashes (slots_of depth (joined children)) }
+        requires counted { count ≡ length (joined children) }
         ensures { IfOk result (λ x. x ≡ inner_value version depth children) }
     {
         children.know();
-        let count = children.count().ok_or(Memory)?;
-        let hash = ranges.top();
-        let below = Box::new(alloc, Below { children, ranges })?;
+        let hash = top_of(&ranges);
+        let children = Branches::of(alloc, children)?;
         let node = Arc::new(
             alloc,
             Body {
@@ -180,7 +249,7 @@ impl Link {
                 depth,
                 count,
                 hash,
-                form: Form::Inner { below },
+                form: Form::Inner { children, ranges },
             },
         )?;
         Ok(Link { node })
@@ -195,9 +264,12 @@ impl Link {
         match self.view() {
             Seen::Leaf {
                 key,
-                value,
                 value_hash,
-            } => { Link::hashed_leaf(alloc, version, depth, key, value, value_hash, self.hash()) }
+                ..
+            } => {
+                let value = self.shared_value();
+                Link::hashed_leaf(alloc, version, depth, key, value, value_hash, self.hash())
+            }
             Seen::Inner { .. } => unreachable!(),
         }
     }
@@ -210,8 +282,47 @@ impl Link {
             Seen::Leaf { .. } => self.at(alloc, version, self.depth()),
             Seen::Inner { children } => {
                 let children = children.share()?;
-                Link::over(alloc, version, self.depth(), children, *self.ranges())
+                let ranges = self.ranges().copy(alloc)?;
+                Link::over(alloc, version, self.depth(), children, ranges, self.count())
             }
         }
+    }
+}
+
+// The number of entries of an optional child.
+fn count_of(child: Option<&Link>) -> u64
+    ensures { result ≡ length (content (option_copied child.entry)) }
+{
+    match child {
+        None => 0,
+        Some(link) => link.count(),
+    }
+}
+
+// A number of entries after one child took the place of another. The children are looked at only if they may differ.
+fn recounted(
+    total: u64,
+    changed: bool,
+    old: Option<&Link>,
+    new: Option<&Link>,
+) -> Result<u64, Memory>
+    requires part { length (content (option_copied old)) ≤ total }
+    requires same { changed ≡ false → content (option_copied old) ≡ content (option_copied new) }
+    ensures { IfOk result (λ n. n + length (content (option_copied old.entry)) ≡ total + length (content (option_copied new.entry))) }
+{
+    if !changed {
+        return Ok(total);
+    }
+    let rest = total - count_of(old);
+    rest.checked_add(count_of(new)).ok_or(Memory)
+}
+
+// The hash of an inner node, which it keeps among those of its ranges.
+fn top_of(ranges: &Ranges) -> Hash
+    ensures { (depth : ℕ) (links : List (Option LinkValue)) → AreChildren depth links → ranges.now ≡ kept_hashes (slots_of depth (joined links)) → result ≡ part_root (4 * depth) (joined links) }
+{
+    match ranges.top() {
+        Some(hash) => *hash,
+        None => empty(),
     }
 }

@@ -170,13 +170,7 @@ impl<'a> Range<'a> {
                 } else {
                     match Found::at(children, start, width(level)) {
                         Found::Nothing => Range::empty(depth),
-                        Found::One(child) => {
-                            if child.count() == 1 {
-                                Range::leaf(depth, child)
-                            } else {
-                                Range::places(depth, link, start, level)
-                            }
-                        }
+                        Found::Leaf(child) => Range::leaf(depth, child),
                         Found::More => Range::places(depth, link, start, level),
                     }
                 }

@@ -1,5 +1,5 @@
 // What a link shows of its node: an entry or children.
-use crate::link::Sixteen;
+use crate::link::Branches;
 use jf_hash::Hash;
 use jf_path::Key;
 
@@ -12,6 +12,6 @@ pub enum Seen<'a> {
         value_hash: &'a Hash,
     },
     Inner {
-        children: &'a Sixteen,
+        children: &'a Branches,
     },
 }

@@ -5,8 +5,8 @@ ghost use Rattle.jf_node.specs.Children.{joined, FitFrom, FitsAt, leaf_value};
 ghost use Rattle.jf_node.specs.LinkFacts.{BeginAlike};
 
 use jf_hash::{Hash, empty, inner, leaf, plain_root, value};
-use jf_node::{Link, Range, Seen, Sixteen, Snapshot, Update};
-use jf_path::{Key, Memory, Nibble, nibble};
+use jf_node::{Branches, Link, Range, Seen, Sixteen, Snapshot, Update};
+use jf_path::{Bitmap, Key, Memory, Nibble, SharedBytes, nibble};
 use std::alloc::Global;
 use std::test::Fail;
 
@@ -27,7 +27,8 @@ fn one(alloc: Global, depth: u64, key: &Key, bytes: &[u8]) -> Result<Link, Memor
     requires short { length bytes.now ≤ 4096 }
     ensures { IfOk result (λ x. x ≡ leaf_value 1 depth key.now bytes.now) }
 {
-    Link::leaf(alloc, 1, depth, key, bytes, &value(bytes))
+    let shared = SharedBytes::copy_of(alloc, bytes)?;
+    Link::leaf(alloc, 1, depth, key, &shared, &value(bytes))
 }
 
 // Leaves at the nibbles at which two keys part.
@@ -100,7 +101,7 @@ fn has(link: &Link, key: &Key, bytes: &[u8]) -> bool {
 }
 
 // A node made again over the same children.
-fn again(alloc: Global, link: &Link, changed: &[bool; 16]) -> Result<Link, Memory>
+fn again(alloc: Global, link: &Link, changed: Bitmap) -> Result<Link, Memory>
     ensures { IfOk result (λ x. (x.entries ≡ link.now.entries) × (x.depth ≡ link.now.depth)) }
 {
     match link.view() {
@@ -144,7 +145,7 @@ fn two_keys_part_at_their_last_nibble(rt: HostRuntime) -> Result<(), Fail> {
 }
 
 // Whether the node over the same children has the same hash.
-fn keeps_its_hash(alloc: Global, link: &Link, changed: &[bool; 16]) -> Result<bool, Memory> {
+fn keeps_its_hash(alloc: Global, link: &Link, changed: Bitmap) -> Result<bool, Memory> {
     let made = again(alloc, link, changed)?;
     Ok(made.hash() == link.hash())
 }
@@ -157,8 +158,8 @@ fn is_renewed(alloc: Global, link: &Link) -> Result<bool, Memory> {
 
 // Whether a node keeps its hash, with no child changed, with all changed, and in another version.
 fn is_made_again(alloc: Global, link: &Link) -> Result<bool, Memory> {
-    let none = keeps_its_hash(alloc, link, &[false; 16])?;
-    let all = keeps_its_hash(alloc, link, &[true; 16])?;
+    let none = keeps_its_hash(alloc, link, Bitmap::none())?;
+    let all = keeps_its_hash(alloc, link, Bitmap::all())?;
     Ok(none && all && is_renewed(alloc, link)?)
 }
 
@@ -237,6 +238,7 @@ fn passes_between_threads<T: Send + Sync>() {}
 fn links_and_what_holds_them_pass_between_threads(_rt: HostRuntime) -> Result<(), Fail> {
     passes_between_threads::<Link>();
     passes_between_threads::<Sixteen>();
+    passes_between_threads::<Branches>();
     passes_between_threads::<Snapshot>();
     passes_between_threads::<Update>();
     Ok(())

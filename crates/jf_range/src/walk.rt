@@ -4,7 +4,7 @@ ghost use Rattle.std.specs.Prelude.{◌≡◌, ◌+◌, ◌-◌, ◌<◌, ◌≤
 ghost use Rattle.std.specs.Option.{option_copied};
 ghost use Rattle.jf_range.specs.Visits.{most_nodes};
 
-use jf_node::{Link, Seen, Sixteen};
+use jf_node::{Branches, Link, Seen};
 use jf_path::{Bytes, Memory, Nibble, Pairs};
 use jf_steps::Steps;
 use std::alloc::Global;
@@ -50,7 +50,7 @@ pub(crate) fn copy_range<L: Ledger>(
 }
 
 // The child at a place.
-fn child_at(children: &Sixteen, place: u8) -> Option<&Link>
+fn child_at(children: &Branches, place: u8) -> Option<&Link>
     requires { place < 16 }
     ensures { option_copied result ≡ slice_index_or children.now place None }
 {
