@@ -12,6 +12,8 @@ mod lists;
 #[cfg(test)]
 mod paths;
 #[cfg(test)]
+mod pendings;
+#[cfg(test)]
 mod pieces;
 #[cfg(test)]
 mod ranges;

@@ -29,14 +29,14 @@ pub fn encode_landing(alloc: Global, version: u64, batch: &Batch) -> Result<Byte
 {
     let entries = batch.as_slice();
     let length = 16 + entries_len(entries);
-    let mut out = Vec::with_capacity(alloc, length + 10)?;
+    let mut out = Bytes::with_capacity(alloc, length as u64 + 10)?;
     out.push(LANDING)?;
     put_u64(&mut out, length as u64)?;
     put_u64(&mut out, version)?;
     put_u64(&mut out, entries.len() as u64)?;
     put_entries(&mut out, entries)?;
     out.push(CLOSED)?;
-    Bytes::copy_of(alloc, &out)
+    Ok(out)
 }
 
 // The number of bytes that the entries take.
@@ -68,30 +68,28 @@ fn entry_len(entry: &(Key, Option<SharedBytes>)) -> usize
 
 // Adds a number in eight bytes.
 #[tactic(auto, unfolding(jf_path::specs::Numbers::eight_bytes))]
-fn put_u64(out: &mut Vec<u8>, number: u64) -> Result<(), Memory>
-    ensures { OnOk result (out.new.items ≡ out.old.items ++ eight_bytes number) }
+fn put_u64(out: &mut Bytes, number: u64) -> Result<(), Memory>
+    ensures { OnOk result (out.new ≡ out.old ++ eight_bytes number) }
 {
-    out.extend_from_slice(&number.to_be_bytes())?;
-    Ok(())
+    out.append(&number.to_be_bytes())
 }
 
 // Adds a value: its length in four bytes, then its bytes.
 #[tactic(auto, unfolding(jf_path::specs::Numbers::four_bytes))]
-fn put_value(out: &mut Vec<u8>, value: &[u8]) -> Result<(), Memory>
+fn put_value(out: &mut Bytes, value: &[u8]) -> Result<(), Memory>
     requires { length value.now ≤ max_value }
-    ensures { OnOk result (out.new.items ≡ out.old.items ++ four_bytes (length value.now) ++ value.now) }
+    ensures { OnOk result (out.new ≡ out.old ++ four_bytes (length value.now) ++ value.now) }
 {
-    out.extend_from_slice(&(value.len() as u32).to_be_bytes())?;
-    out.extend_from_slice(value)?;
-    Ok(())
+    out.append(&(value.len() as u32).to_be_bytes())?;
+    out.append(value)
 }
 
 // Adds a key and its change: 00 for a removal; or 01 and the value.
-fn put_entry(out: &mut Vec<u8>, entry: &(Key, Option<SharedBytes>)) -> Result<(), Memory>
+fn put_entry(out: &mut Bytes, entry: &(Key, Option<SharedBytes>)) -> Result<(), Memory>
     requires { IfSome entry.now.1 (λ v. length v ≤ max_value) }
-    ensures { OnOk result (out.new.items ≡ out.old.items ++ entry_bytes entry.now) }
+    ensures { OnOk result (out.new ≡ out.old ++ entry_bytes entry.now) }
 {
-    out.extend_from_slice(&entry.0)?;
+    out.append(&entry.0)?;
     match &entry.1 {
         None => {
             out.push(REMOVED)?;
@@ -105,9 +103,9 @@ fn put_entry(out: &mut Vec<u8>, entry: &(Key, Option<SharedBytes>)) -> Result<()
 }
 
 // Adds each key and its change.
-fn put_entries(out: &mut Vec<u8>, entries: &[(Key, Option<SharedBytes>)]) -> Result<(), Memory>
+fn put_entries(out: &mut Bytes, entries: &[(Key, Option<SharedBytes>)]) -> Result<(), Memory>
     requires { IsWithinLimits entries.now }
-    ensures { OnOk result (out.new.items ≡ out.old.items ++ flat_map entry_bytes entries.now) }
+    ensures { OnOk result (out.new ≡ out.old ++ flat_map entry_bytes entries.now) }
 {
     for entry in entries {
         put_entry(out, entry)?;

@@ -22,12 +22,11 @@ use jf_engine::{Engine, EngineFault, Landed, OpenRefused};
 use jf_hash::key_of;
 use jf_join::Gate;
 use jf_model::{Entry, Landing, Ledger};
-use jf_path::{Bytes, Memory};
+use jf_path::{Bytes, Memory, SharedBytes};
 use jf_script::{Command, LineFault, Refusal, Reply, read_line};
-use jf_split::{Batch, BatchFault};
+use jf_split::{BatchFault, Pending};
 use std::alloc::Global;
 use std::marker::Model;
-use std::mem;
 use std::thread::Threads;
 
 /// The most entries of a ledger.
@@ -37,7 +36,7 @@ const MAX_ENTRIES: u64 = 1 << 62;
 pub struct Session<D: Disk> {
     pub(crate) engine: Engine<D>,
     entries: Vec<Entry>,
-    pending: Batch,
+    pending: Pending,
     over: bool,
 }
 
@@ -83,7 +82,7 @@ impl<D: Disk> Session<D> {
         Ok(Session {
             engine,
             entries: Vec::new(alloc),
-            pending: Batch::new(alloc),
+            pending: Pending::new(alloc),
             over: false,
         })
     }
@@ -196,7 +195,7 @@ impl<D: Disk> Session<D> {
             Err(LineFault::LineTooLong) => return Ok(Reply::No(Refusal::Long)),
             Err(LineFault::Memory) => return Err(Stop::Memory),
         };
-        self.obeyed(rt, alloc, &command, workers, gate, block)
+        self.obeyed(rt, alloc, command, workers, gate, block)
     }
 
     // Does a command, and returns the reply to it. One that isn't built yet is answered like a line outside the
@@ -205,7 +204,7 @@ impl<D: Disk> Session<D> {
         &mut self,
         rt: &H,
         alloc: Global,
-        command: &Command,
+        command: Command,
         workers: u64,
         gate: &G,
         block: &mut Bytes,
@@ -213,25 +212,23 @@ impl<D: Disk> Session<D> {
         requires over { self.old.over ≡ false }
         requires some { 1 ≤ workers }
         requires few { workers ≤ 64 }
-        requires bounded { IsBoundedCommand command.now }
-        ensures ok { OnOk result (Does self.old self.new (command_answer self.old command.now)) }
-        ensures reply { IfOk result (λ r. r ≡ (command_answer self.old command.now).reply) }
-        ensures block { OnOk result (block.new ≡ block.old ++ (command_answer self.old command.now).block) }
+        requires bounded { IsBoundedCommand command }
+        ensures ok { OnOk result (Does self.old self.new (command_answer self.old command)) }
+        ensures reply { IfOk result (λ r. r ≡ (command_answer self.old command).reply) }
+        ensures block { OnOk result (block.new ≡ block.old ++ (command_answer self.old command).block) }
         ensures same { OnOk result (self.new.over ≡ false) }
         ensures memory { result ≡ Err Stop.Memory → Stays self.old self.new }
-        ensures fault { result ≡ Err Stop.DiskFault → Tries self.old self.new (command_answer self.old command.now) }
+        ensures fault { result ≡ Err Stop.DiskFault → Tries self.old self.new (command_answer self.old command) }
         ensures sole { result ≡ Err Stop.Broken → ⊥ }
     {
         match command {
-            Command::Put { name, value } => self.put(alloc, name.as_slice(), value.as_slice()),
+            Command::Put { name, value } => self.put(alloc, name.as_slice(), value),
             Command::Del { name } => self.del(alloc, name.as_slice()),
             Command::Commit => self.commit(rt, alloc, workers, gate),
-            Command::Get { base, name } => self.get(alloc, *base, name.as_slice()),
-            Command::Root { base } => Ok(self.root(*base)),
-            Command::Prove { base, name } => self.prove(alloc, *base, name.as_slice(), block),
-            Command::Chunk { base, start, count } => {
-                self.chunk(alloc, *base, *start, *count, block)
-            }
+            Command::Get { base, name } => self.get(alloc, base, name.as_slice()),
+            Command::Root { base } => Ok(self.root(base)),
+            Command::Prove { base, name } => self.prove(alloc, base, name.as_slice(), block),
+            Command::Chunk { base, start, count } => self.chunk(alloc, base, start, count, block),
             // None of these is built yet.
             Command::Fork { .. }
             | Command::Land { .. }
@@ -246,16 +243,20 @@ impl<D: Disk> Session<D> {
         }
     }
 
-    // Answers `put`: in what is pending, the key of the name has this value.
-    fn put(&mut self, alloc: Global, name: &[u8], value: &[u8]) -> Result<Reply, Stop>
+    // Answers `put`: in what is pending, the key of the name has this value, which is taken over and not copied.
+    fn put(&mut self, alloc: Global, name: &[u8], value: Bytes) -> Result<Reply, Stop>
         requires over { self.old.over ≡ false }
-        requires value { length value.now ≤ max_value }
-        ensures ok { OnOk result (Does self.old self.new (put_answer self.old name.now value.now)) }
-        ensures reply { IfOk result (λ r. r ≡ (put_answer self.old name.now value.now).reply) }
+        requires value { length value ≤ max_value }
+        ensures ok { OnOk result (Does self.old self.new (put_answer self.old name.now value)) }
+        ensures reply { IfOk result (λ r. r ≡ (put_answer self.old name.now value).reply) }
         ensures same { self.new.over ≡ false }
         ensures memory { OnErr result (Stays self.old self.new) }
         ensures only { OnErr result (result ≡ Err Stop.Memory) }
     {
+        let value = match SharedBytes::of(alloc, value) {
+            Ok(value) => value,
+            Err(Memory) => return Err(Stop::Memory),
+        };
         match self.pending.put(alloc, &key_of(name), value) {
             Ok(()) => {}
             Err(BatchFault::Full) => return Ok(Reply::No(Refusal::Pending)),
@@ -285,7 +286,7 @@ impl<D: Disk> Session<D> {
         })
     }
 
-    // Answers `commit`: lands what is pending. Room for its entry is made before the disk is touched.
+    // Answers `commit`: lands what is pending. Its batch, and room for its entry, are made before the disk is touched.
     fn commit<H: Threads + Sync, G: Gate>(
         &mut self,
         rt: &H,
@@ -309,12 +310,15 @@ impl<D: Disk> Session<D> {
         if self.entries.reserve(1).is_err() {
             return Err(Stop::Memory);
         }
+        let batch = match self.pending.batch(alloc) {
+            Ok(batch) => batch,
+            Err(Memory) => return Err(Stop::Memory),
+        };
         self.engine.know();
-        let _ = self.pending.as_slice();
-        match self.engine.land(rt, alloc, &self.pending, workers, gate) {
+        let _ = batch.as_slice();
+        match self.engine.land(rt, alloc, &batch, workers, gate) {
             Ok(landed) => {
                 let root = landed.root;
-                let batch = mem::replace(&mut self.pending, Batch::new(alloc));
                 let _ = self.entries.push(Entry::Landed {
                     owner: 0,
                     version: landed.version,
@@ -322,6 +326,7 @@ impl<D: Disk> Session<D> {
                     root,
                     moment: landed.moment,
                 });
+                self.pending.clear();
                 Ok(Reply::Commit {
                     version: landed.version,
                     root,

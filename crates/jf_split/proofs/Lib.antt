@@ -5,3 +5,4 @@ pub mod PieceSteps
 pub mod Ends
 pub mod BatchLaws
 pub mod PieceLaws
+pub mod Gathered

@@ -13,6 +13,7 @@ use crate::fault::BatchFault;
 use crate::piece::{Piece, pieces_of};
 use jf_path::{Key, Memory, SharedBytes};
 use std::alloc::Global;
+use std::cmp::Ordering;
 use std::marker::Model;
 
 /// The most keys that a batch holds, and batches that land together.
@@ -22,7 +23,7 @@ pub const MAX_KEYS: usize = 10_000;
 /// `None`, which removes the key.
 #[derive(Debug, Drop)]
 pub struct Batch {
-    entries: Vec<(Key, Option<SharedBytes>)>,
+    pub(crate) entries: Vec<(Key, Option<SharedBytes>)>,
 }
 
 impl Model for Batch {
@@ -137,18 +138,32 @@ fn place_of(entries: &[(Key, Option<SharedBytes>)], key: &Key) -> Result<usize, 
     ensures found { IfOk result (IsPlaceOf key.now entries.now) }
     ensures absent { IfErr result (IsGapFor key.now entries.now) }
 {
-    entries.binary_search_by_key(key, key_of)
+    if is_above_all(entries, key) {
+        return Err(entries.len());
+    }
+    entries.binary_search_by(|entry| order_of(entry, key))
 }
 
-// The key of an entry.
-fn key_of(entry: &(Key, Option<SharedBytes>)) -> Key
-    ensures { result ≡ entry.now.0 }
+// Whether the key is above all keys of the entries, which rise.
+fn is_above_all(entries: &[(Key, Option<SharedBytes>)], key: &Key) -> bool
+    requires { T (is_sorted key_cmp entries.now) }
+    ensures { IsTrue result → IsGapFor key.now entries.now (length entries.now) }
 {
-    entry.0
+    match entries.last() {
+        Some(entry) => order_of(entry, key).is_lt(),
+        None => true,
+    }
+}
+
+// How an entry's key compares to a key. Nothing is copied.
+fn order_of(entry: &(Key, Option<SharedBytes>), key: &Key) -> Ordering
+    ensures { result ≡ key_cmp entry.now.0 key.now }
+{
+    entry.0.cmp(key)
 }
 
 // One more owner of a value, if there is one.
-fn share_if(value: &Option<SharedBytes>) -> Result<Option<SharedBytes>, Memory>
+pub(crate) fn share_if(value: &Option<SharedBytes>) -> Result<Option<SharedBytes>, Memory>
     ensures { IfOk result (λ v. v ≡ value.now) }
 {
     match value {

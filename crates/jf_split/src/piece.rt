@@ -38,7 +38,12 @@ pub(crate) fn pieces_of(
 }
 
 // The end of the piece that begins at place `start`, whose keys have the nibble `here`.
-fn end_of_piece(entries: &[(Key, Option<SharedBytes>)], depth: usize, start: usize, here: Nibble) -> usize
+fn end_of_piece(
+    entries: &[(Key, Option<SharedBytes>)],
+    depth: usize,
+    start: usize,
+    here: Nibble,
+) -> usize
     requires depth { depth < 64 }
     requires rising { IsNonDecreasingBy (λ e. nibble e.0 depth) entries.now }
     requires within { start < length entries.now }

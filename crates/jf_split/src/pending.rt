@@ -1,0 +1,118 @@
+// Changes that are being gathered in any order, until they are made a batch.
+ghost use Rattle.std.specs.Prelude.{◌≡◌, ◌⊎◌, [], ◌≤◌, length, OnOk, OnErr, IfOk, IfSome, IsSome, IsOk, Some, None, Err, IsTrue};
+ghost use Rattle.std.specs.FinMap.{put, find};
+ghost use Rattle.jf_path.specs.Limits.{max_value};
+ghost use Rattle.jf_path.specs.Keys.{key_cmp, IsBytes};
+ghost use Rattle.jf_split.specs.Limits.{is_full};
+
+use crate::batch::{Batch, MAX_KEYS, share_if};
+use crate::fault::BatchFault;
+use jf_path::{Key, Memory, SharedBytes, know_bytes};
+use std::alloc::Global;
+use std::collections::BTreeMap;
+use std::marker::Model;
+
+/// Changes for a batch: at most 10,000 keys, each once, with a value of at most 4,096 bytes or with `None`, which
+/// removes the key. They may come in any order: a change takes a walk down a tree, and moves no other change.
+#[derive(Drop)]
+pub struct Pending {
+    entries: BTreeMap<Key, Option<SharedBytes>>,
+}
+
+impl Model for Pending {
+    ghost use Rattle.std.specs.Prelude.{List, ℕ, Option};
+
+    ghost Value = { List (List ℕ × Option (List ℕ)) };
+
+    ghost use Rattle.jf_hash.specs.Maps.{IsBatch};
+    ghost use Rattle.jf_split.specs.Limits.{IsWithinLimits};
+
+    ghost view = { λ p. p.entries.entries };
+
+    ghost invariant = { λ p. IsBatch p.entries.entries × IsWithinLimits p.entries.entries };
+}
+
+impl Pending {
+    /// No changes.
+    pub fn new(alloc: Global) -> Pending
+        ensures { result ≡ [] }
+    {
+        Pending {
+            entries: BTreeMap::new(alloc),
+        }
+    }
+
+    /// The number of keys.
+    pub fn len(&self) -> usize
+        ensures { result ≡ length self.now }
+    {
+        self.entries.len()
+    }
+
+    /// Sets a key to a value of at most 4,096 bytes, which is taken over. After a `BatchFault` the changes are as
+    /// before.
+    pub fn put(&mut self, _alloc: Global, key: &Key, value: SharedBytes) -> Result<(), BatchFault>
+        requires { length value ≤ max_value }
+        ensures ok { OnOk result (self.new ≡ put key_cmp key.now (Some value) self.old) }
+        ensures full { result ≡ Err BatchFault.Full → IsTrue (is_full key.now self.old) }
+        ensures room { IsTrue (is_full key.now self.old) → (result ≡ Err BatchFault.Full) ⊎ (result ≡ Err BatchFault.Memory) }
+        ensures err { OnErr result (self.new ≡ self.old) }
+    {
+        know_bytes(value.as_slice());
+        self.set(key, Some(value))
+    }
+
+    /// Says that a key is to be removed. After a `BatchFault` the changes are as before. A key that is there already is
+    /// never refused.
+    pub fn del(&mut self, _alloc: Global, key: &Key) -> Result<(), BatchFault>
+        ensures ok { OnOk result (self.new ≡ put key_cmp key.now None self.old) }
+        ensures full { result ≡ Err BatchFault.Full → IsTrue (is_full key.now self.old) }
+        ensures room { IsTrue (is_full key.now self.old) → (result ≡ Err BatchFault.Full) ⊎ (result ≡ Err BatchFault.Memory) }
+        ensures present { IsSome (find key_cmp key.now self.old) → IsOk result }
+        ensures err { OnErr result (self.new ≡ self.old) }
+    {
+        self.set(key, None)
+    }
+
+    /// The batch of these changes, which shares their values.
+    pub fn batch(&self, alloc: Global) -> Result<Batch, Memory>
+        ensures { IfOk result (λ b. b ≡ self.now) }
+    {
+        let mut entries = Vec::with_capacity(alloc, self.entries.len())?;
+        for (key, value) in &self.entries {
+            entries.push((*key, share_if(value)?))?;
+        }
+        Ok(Batch { entries })
+    }
+
+    /// Drops all changes.
+    pub fn clear(&mut self)
+        ensures { self.new ≡ [] }
+    {
+        self.entries.clear();
+    }
+
+    // Sets a key to its value, or to `None`.
+    fn set(&mut self, key: &Key, value: Option<SharedBytes>) -> Result<(), BatchFault>
+        requires bytes { IfSome value IsBytes }
+        requires limited { IfSome value (λ v. length v ≤ max_value) }
+        ensures ok { OnOk result (self.new ≡ put key_cmp key.now value self.old) }
+        ensures full { result ≡ Err BatchFault.Full → IsTrue (is_full key.now self.old) }
+        ensures room { IsTrue (is_full key.now self.old) → (result ≡ Err BatchFault.Full) ⊎ (result ≡ Err BatchFault.Memory) }
+        ensures present { IsSome (find key_cmp key.now self.old) → IsOk result }
+        ensures err { OnErr result (self.new ≡ self.old) }
+    {
+        if self.is_full(key) {
+            return Err(BatchFault::Full);
+        }
+        self.entries.insert(*key, value)?;
+        Ok(())
+    }
+
+    // Whether the key is new, and 10,000 are there.
+    fn is_full(&self, key: &Key) -> bool
+        ensures { result ≡ is_full key.now self.now }
+    {
+        self.entries.len() >= MAX_KEYS && !self.entries.contains_key(key)
+    }
+}
