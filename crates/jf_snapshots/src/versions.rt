@@ -9,7 +9,7 @@ use jf_join::Gate;
 use jf_node::Snapshot;
 use jf_path::Memory;
 use jf_split::Batch;
-use jf_update::update;
+use jf_update::{advance, value_hashes};
 use std::alloc::Global;
 use std::marker::Model;
 use std::thread::Threads;
@@ -110,9 +110,11 @@ impl SnapshotVersions {
         ensures ok { OnOk result (self.new ≡ landed batch.now self.old) }
         ensures err { OnErr result (self.new ≡ self.old) }
     {
-        let update = update(rt, alloc, self.newest(), batch, workers, gate)?;
-        update.snapshot.know();
-        self.snapshots.push(update.snapshot)?;
+        let entries = batch.as_slice();
+        let hashes = value_hashes(rt, alloc, entries, workers)?;
+        let snapshot = advance(rt, alloc, self.newest(), entries, &hashes, workers, gate)?;
+        snapshot.know();
+        self.snapshots.push(snapshot)?;
         Ok(())
     }
 

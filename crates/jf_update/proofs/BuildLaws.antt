@@ -1,30 +1,29 @@
 -- New nodes have exactly the entries that they are built from.
 use denote.Ref.{Bor}
-use Rattle.std.proofs.Common.{ℕ, List, ◌≡◌, ◌+◌, ◌-◌, [], ◌∷◌, ◌++◌, refl, ap, Option, ◌<◌, length, get_or, ◌∙◌, None, suc, drop, sym, subst, arith, Some, ◌≤◌, length-append, append-nil, ◌==◌, true, false, cond, zero, zero-add, ◌≢◌, inl, inr, set, take, length-drop, length-set, eq-or-lt_of_le, get_or-set_other, get_or-set_same, replicate, take_all, IfSome}
+use Rattle.std.proofs.Common.{ℕ, List, ◌≡◌, ◌+◌, ◌-◌, [], ◌∷◌, ◌++◌, refl, ap, Option, ◌<◌, length, get_or, ◌∙◌, None, suc, drop, sym, subst, arith, Some, ◌≤◌, length-append, append-nil, ◌==◌, true, false, cond, zero, zero-add, ◌≢◌, inl, inr, set, take, length-drop, length-set, ap₂, eq-or-lt_of_le, get_or-set_other, get_or-set_same, replicate, take_all, IfSome}
 use Rattle.std.proofs.lemmas.Bool.Decides.{nat_tests}
 use Rattle.std.proofs.lemmas.List.{nil_from_length}
 use Rattle.std.specs.List.{flat_map}
 use Rattle.std.specs.Option.{option_copied}
 use Rattle.jf_path.specs.Nibbles.{nibble}
-use Rattle.jf_path.proofs.FilterLaws.{All-filter}
+use Rattle.jf_path.proofs.FilterLaws.{All-filter, length-filter_le}
+use Rattle.jf_hash.specs.Maps.{Batch}
 use Rattle.jf_hash.specs.Slots.{Part, with_nibble, from_nibble}
 use Rattle.jf_model.specs.Parts.{IsPartUnder, IsPieceEnd}
 use Rattle.jf_walk.proofs.Unions as union
 use Rattle.jf_walk.proofs.ChildEntryLaws.{sub-none}
 use Rattle.jf_walk.proofs.VersionLaws.{built_one, topped_built}
 use Rattle.jf_walk.proofs.PieceEnds.{cut_piece}
+use Rattle.jf_model.specs.Changes.{applied}
+use Rattle.jf_walk.proofs.PartChanges.{with_nibble-applied}
 use Rattle.jf_walk.proofs.PartLaws.{stepped, IsPartUnder-with_nibble, from_nibble-zero}
 use Rattle.jf_node.specs.LinkValue.{LinkValue, link_version_at}
 use Rattle.jf_node.specs.Children.{content, joined, leaf_value, inner_value, moved_value, HaveNibble, FitsAt, FitFrom}
 use Rattle.jf_node.specs.LinkFacts.{BeginAlike}
 use Rattle.jf_node.proofs.NodeVersions.{version-below}
 use Rattle.jf_node.proofs.ChildLaws.{FitFrom-set}
-use Rattle.jf_update.specs.Hashed.{HashedValue, plain, AreHashed, IsHashed}
 use Rattle.jf_update.specs.Made.{Built, Topped, IsAtDepth, AreBuilt}
-use Rattle.jf_update.proofs.HashedLaws.{with_nibble-plain, unplain_part}
-
-abbrev Hashed : Type 0
-Hashed = List ℕ × HashedValue
+use Rattle.jf_update.specs.Outcomes.{AreParts, AreShort}
 
 -- ---- unions
 joined-flat_map : (links : List (Option LinkValue)) → joined links ≡ flat_map content links
@@ -84,13 +83,24 @@ pub fits_part : (d n : ℕ) (es : Part) (y : Option LinkValue) → content y ≡
 fits_part d n es None is at = tt
 fits_part d n es (Some y) is at = (at, subst (HaveNibble d n) (sym is) (all-with_nibble d n es))
 
--- the children that are built before nibble n
-pub record IsBuilding (depth version n start : ℕ) (xs : List Hashed) (links : List (Option LinkValue)) : Type 0 where
+-- ---- ranges of a slice
+pub same_piece : {X : Type 0} (start r : ℕ) (xs : List X) → take ((start + r) - start) (drop start xs) ≡ take r (drop start xs)
+same_piece start r xs = ap (λ k. take k (drop start xs)) (let e : (start + r) - start ≡ r = omega arith in e)
+
+pub same_rest : {X : Type 0} (start : ℕ) (xs : List X) → take (length xs - start) (drop start xs) ≡ drop start xs
+same_rest start xs = take_all (length xs - start) (drop start xs) (omega (arith, length-drop start xs))
+
+pub end_in_rest : {X : Type 0} (d n r start : ℕ) (xs : List (List ℕ × X)) → IsPieceEnd d n r (take (length xs - start) (drop start xs)) → IsPieceEnd d n r (drop start xs)
+end_in_rest d n r start xs h = subst (IsPieceEnd d n r) (same_rest start xs) h
+
+-- ---- children one after another
+-- the children that are built before nibble n: es are the entries after the batch bs
+pub record IsBuilding (depth version n start : ℕ) (es : Part) (bs : Batch) (links : List (Option LinkValue)) : Type 0 where
   pub long : length links ≡ 16
   pub fit : FitFrom depth 0 links
-  pub each : (k : ℕ) → k < n → Built (depth + 1) version (with_nibble depth k (plain xs)) (get_or links k None)
-  pub within : start ≤ length xs
-  pub rest : drop start xs ≡ from_nibble depth n xs
+  pub each : (k : ℕ) → k < n → Built (depth + 1) version (with_nibble depth k es) (get_or links k None)
+  pub within : start ≤ length bs
+  pub rest : drop start bs ≡ from_nibble depth n bs
 
 drop_none : {X : Type 0} (b : ℕ) → drop {A = X} b [] ≡ []
 drop_none zero = refl
@@ -101,55 +111,65 @@ drop_more zero b xs = ap (λ k. drop k xs) (sym (zero-add b))
 drop_more (suc a) b [] = drop_none b ∙ sym (drop_none (suc a + b))
 drop_more (suc a) b (x ∷ xs) = drop_more a b xs ∙ ap (λ k. drop k (x ∷ xs)) (let e : suc (a + b) ≡ suc a + b = omega arith in e)
 
-pub building_more : (d v n start r : ℕ) (path : ℕ → ℕ) (xs : List Hashed) (links : List (Option LinkValue)) (child : Option LinkValue) → IsPartUnder d path (plain xs) → n < 16 → IsBuilding d v n start xs links → IsPieceEnd d n r (drop start xs)
-    → Built (d + 1) v (plain (take r (drop start xs))) child → IsBuilding d v (n + 1) (start + r) xs (set links n child)
-building_more d v n start r path xs links child part small b end made =
-    let both = cut_piece d n r path xs (drop start xs) (unplain_part d path xs part) b.rest end in
-    let is : plain (take r (drop start xs)) ≡ with_nibble d n (plain xs) = ap plain both.0 ∙ sym (with_nibble-plain d n xs) in
-    let made_at : Built (d + 1) v (with_nibble d n (plain xs)) child = subst (λ es. Built (d + 1) v es child) is made in
+pub building_more : (d v n start r : ℕ) (path : ℕ → ℕ) (es : Part) (bs : Batch) (links : List (Option LinkValue)) (child : Option LinkValue) → IsPartUnder d path bs → n < 16 → IsBuilding d v n start es bs links → IsPieceEnd d n r (drop start bs)
+    → Built (d + 1) v (with_nibble d n es) child → IsBuilding d v (n + 1) (start + r) es bs (set links n child)
+building_more d v n start r path es bs links child part small b end made =
+    let both = cut_piece d n r path bs (drop start bs) part b.rest end in
     let in_links : n < length links = omega (arith, b.long) in
     record {
       long = length-set links n child ∙ b.long;
-      fit = FitFrom-set d 0 n links child b.fit (subst (λ k. FitsAt d k child) (sym (zero-add n)) (fits_part d n (plain xs) child made_at.entries made_at.placed));
+      fit = FitFrom-set d 0 n links child b.fit (subst (λ k. FitsAt d k child) (sym (zero-add n)) (fits_part d n es child made.entries made.placed));
       each = λ k lt. let le : k ≤ n = omega arith in elim (eq-or-lt_of_le le) [
-        | inl here ↦ subst (λ m. Built (d + 1) v (with_nibble d m (plain xs)) (get_or (set links n child) m None)) (sym here) (rw get_or-set_same made_at)
+        | inl here ↦ subst (λ m. Built (d + 1) v (with_nibble d m es) (get_or (set links n child) m None)) (sym here) (rw get_or-set_same made)
         | inr before ↦ let ne : k ≢ n = omega arith in rw get_or-set_other (b.each k before)
       ];
-      within = omega (arith, b.within, end.within, length-drop start xs);
-      rest = sym (drop_more start r xs) ∙ both.1;
+      within = omega (arith, b.within, end.within, length-drop start bs);
+      rest = sym (drop_more start r bs) ∙ both.1;
     }
 
-pub building_done : (d v start : ℕ) (xs : List Hashed) (links : List (Option LinkValue)) → IsBuilding d v 16 start xs links → AreBuilt d v (plain xs) links
-building_done d v start xs links b = record { long = b.long; fit = b.fit; each = b.each }
+pub building_done : (d v start : ℕ) (es : Part) (bs : Batch) (links : List (Option LinkValue)) → IsBuilding d v 16 start es bs links → AreBuilt d v es links
+building_done d v start es bs links b = record { long = b.long; fit = b.fit; each = b.each }
 
 pub joined_built : (d v : ℕ) (path : ℕ → ℕ) (es : Part) (links : List (Option LinkValue)) → IsPartUnder d path es → AreBuilt d v es links → joined links ≡ es
 joined_built d v path es links part b = joined_parts d path es links part b.long (λ k lt. (b.each k lt).entries)
 
-pub piece_part : (d n start r : ℕ) (path : ℕ → ℕ) (xs : List Hashed) (v : ℕ) (links : List (Option LinkValue)) → IsPartUnder d path (plain xs) → IsBuilding d v n start xs links → IsPieceEnd d n r (drop start xs) → IsPartUnder (d + 1) (stepped d n path) (plain (take r (drop start xs)))
-piece_part d n start r path xs v links part b end =
-    let both = cut_piece d n r path xs (drop start xs) (unplain_part d path xs part) b.rest end in
-    subst (IsPartUnder (d + 1) (stepped d n path)) (with_nibble-plain d n xs ∙ ap plain (sym both.0)) (IsPartUnder-with_nibble d n path (plain xs) part)
+-- ---- what is asked of a piece
+-- entries and changes below one nibble
+pub piece_parts : (d n start r : ℕ) (es own : Part) (bs : Batch) → AreParts d es bs → drop start bs ≡ from_nibble d n bs → IsPieceEnd d n r (drop start bs) → own ≡ with_nibble d n es → AreParts (d + 1) own (take ((start + r) - start) (drop start bs))
+piece_parts d n start r es own bs parts rest end is =
+    let piece = same_piece start r bs ∙ (cut_piece d n r parts.path bs (drop start bs) parts.batch rest end).0 in
+    record {
+      path = stepped d n parts.path;
+      entries = subst (IsPartUnder (d + 1) (stepped d n parts.path)) (sym is) (IsPartUnder-with_nibble d n parts.path es parts.entries);
+      batch = subst (IsPartUnder (d + 1) (stepped d n parts.path)) (sym piece) (IsPartUnder-with_nibble d n parts.path bs parts.batch);
+      short = subst AreShort (sym piece) (All-filter _ (λ e. nibble e.0 d == n) bs parts.short);
+    }
 
-pub piece_hashed : (d n start r : ℕ) (path : ℕ → ℕ) (xs : List Hashed) (v : ℕ) (links : List (Option LinkValue)) → IsPartUnder d path (plain xs) → AreHashed xs → IsBuilding d v n start xs links → IsPieceEnd d n r (drop start xs) → AreHashed (take r (drop start xs))
-piece_hashed d n start r path xs v links part hashed b end =
-    let both = cut_piece d n r path xs (drop start xs) (unplain_part d path xs part) b.rest end in
-    subst AreHashed (sym both.0) (All-filter (λ e. IsHashed e.1) (λ e. nibble e.0 d == n) xs hashed)
+-- the entries with one nibble, after the changes of this piece
+pub piece_applied : (d n start r : ℕ) (es own : Part) (bs : Batch) → AreParts d es bs → drop start bs ≡ from_nibble d n bs → IsPieceEnd d n r (drop start bs) → own ≡ with_nibble d n es → applied own (take ((start + r) - start) (drop start bs)) ≡ with_nibble d n (applied es bs)
+piece_applied d n start r es own bs parts rest end is =
+    ap₂ applied is (same_piece start r bs ∙ (cut_piece d n r parts.path bs (drop start bs) parts.batch rest end).0) ∙ sym (with_nibble-applied d n es bs parts.entries.sorted)
 
-pub built_len1 : (depth version : ℕ) (xs : List Hashed) (y : LinkValue) (d : Hashed) → 1 ≤ length xs → length xs < 2 → y ≡ leaf_value version depth (get_or xs 0 d).0 (get_or xs 0 d).1.0.now → Built depth version (plain xs) (Some y)
-built_len1 depth version [] y d long short is = absurd (omega arith)
-built_len1 depth version (x ∷ []) y d long short is = built_leaf depth version x.0 x.1.0.now y is
-built_len1 depth version (x ∷ z ∷ xs) y d long short is = absurd (omega arith)
+pub few_at : (d n : ℕ) (es own : Part) → length es < 2 → own ≡ with_nibble d n es → length own < 2
+few_at d n es own few is = omega (arith, ap length is, length-filter_le (λ (e : List ℕ × List ℕ). nibble e.0 d == n) es)
 
-pub built_len0 : (depth version : ℕ) (xs : List Hashed) → length xs < 1 → Built depth version (plain xs) None
-built_len0 depth version [] short = built_none depth version
-built_len0 depth version (x ∷ xs) short = absurd (omega arith)
+-- ---- one entry, or none
+pub built_kept : (depth version : ℕ) (es : Part) (x y : LinkValue) → es ≡ x.entries → length x.entries ≡ 1 → y ≡ moved_value version depth x → Built depth version es (Some y)
+built_kept depth version es x y is one moved =
+    subst (λ z. Built depth version es (Some z)) (sym moved) record { entries = sym is; placed = refl; versions = built_one depth version es (λ p. link_version_at p (Some (moved_value version depth x))) (omega (arith, ap length is)) refl }
+
+pub built_put : (depth version : ℕ) (es : Part) (k v : List ℕ) (y : LinkValue) → es ≡ (k, v) ∷ [] → y ≡ leaf_value version depth k v → Built depth version es (Some y)
+built_put depth version es k v y is at = subst (λ fs. Built depth version fs (Some y)) (sym is) (built_leaf depth version k v y at)
+
+pub built_nothing : (depth version : ℕ) (es : Part) → es ≡ [] → Built depth version es None
+built_nothing depth version es is = subst (λ fs. Built depth version fs None) (sym is) (built_none depth version)
 
 fit_none : (d n k : ℕ) → FitFrom d n (replicate k None)
 fit_none d n zero = tt
 fit_none d n (suc k) = (tt, fit_none d (n + 1) k)
 
-pub building_start : (d v : ℕ) (xs : List Hashed) (links : List (Option LinkValue)) → links ≡ replicate 16 None → IsBuilding d v 0 0 xs links
-building_start d v xs links is = subst (IsBuilding d v 0 0 xs) (sym is) record { long = refl; fit = fit_none d 0 16; each = λ k lt. absurd (omega arith); within = omega arith; rest = sym (from_nibble-zero d xs) }
+pub building_start : (d v : ℕ) (es : Part) (bs : Batch) (links : List (Option LinkValue)) → links ≡ replicate 16 None → IsBuilding d v 0 0 es bs links
+building_start d v es bs links is = subst (IsBuilding d v 0 0 es bs) (sym is) record { long = refl; fit = fit_none d 0 16; each = λ k lt. absurd (omega arith); within = omega arith; rest = sym (from_nibble-zero d bs) }
 
 -- a new node over new children
 pub built_inner : (depth version : ℕ) (path : ℕ → ℕ) (es : Part) (y : LinkValue) (links : List (Option LinkValue)) → 2 ≤ length es → IsPartUnder depth path es → AreBuilt depth version es links → y ≡ inner_value version depth links → Built depth version es (Some y)
@@ -162,16 +182,6 @@ built_inner depth version path es y links many part made is =
       versions = topped_built depth version es (λ n p. link_version_at p (get_or links n None)) (λ p. link_version_at p (Some y)) many (λ n lt. (made.each n lt).versions)
           (record { top = λ some. t.versions.top (λ none. some (sym all ∙ none)); children = λ n p lots. t.versions.children n p (subst (λ fs. 2 ≤ length fs) (sym all) lots) });
     }
-
--- ---- ranges of a slice
-pub same_piece : {X : Type 0} (start r : ℕ) (xs : List X) → take ((start + r) - start) (drop start xs) ≡ take r (drop start xs)
-same_piece start r xs = ap (λ k. take k (drop start xs)) (let e : (start + r) - start ≡ r = omega arith in e)
-
-pub same_rest : {X : Type 0} (start : ℕ) (xs : List X) → take (length xs - start) (drop start xs) ≡ drop start xs
-same_rest start xs = take_all (length xs - start) (drop start xs) (omega (arith, length-drop start xs))
-
-pub end_in_rest : {X : Type 0} (d n r start : ℕ) (xs : List (List ℕ × X)) → IsPieceEnd d n r (take (length xs - start) (drop start xs)) → IsPieceEnd d n r (drop start xs)
-end_in_rest d n r start xs h = subst (IsPieceEnd d n r) (same_rest start xs) h
 
 -- the entries of all children begin with those of the first child that is found
 pub first_some : (links : List (Option LinkValue)) (n : ℕ) (r : Option (Bor LinkValue)) → option_copied r ≡ get_or links n None → n < length links → ((k : ℕ) → k < n → get_or links k None ≡ None)

@@ -1,5 +1,5 @@
 pub mod Names
-pub mod HashedLaws
+pub mod RemainderLaws
 pub mod BuildLaws
 pub mod NodeUpdateLaws
 pub mod PlainNodes

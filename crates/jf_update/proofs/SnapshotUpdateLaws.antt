@@ -29,10 +29,10 @@ use Rattle.jf_node.specs.SnapshotValue.{SnapshotValue}
 use Rattle.jf_node.specs.declared.update.Update.{Update}
 use Rattle.jf_node.proofs.SnapshotLaws.{entries-snapshot_of}
 use Rattle.jf_update.specs.Made.{IsAtDepth}
-use Rattle.jf_update.specs.TopUpdates.{NoneNewer, IsTopUpdate, IsOfVersion, old_name}
-use Rattle.jf_update.specs.Outcomes.{AreParts}
+use Rattle.jf_update.specs.TopUpdates.{NoneNewer, IsNextTop, IsTopUpdate, IsOfVersion, old_name}
+use Rattle.jf_update.specs.Outcomes.{AreParts, AreShort}
 use Rattle.jf_update.specs.declared.top.TopUpdate.{TopUpdate}
-use Rattle.jf_update.specs.Updates.{version_in, written_node_in, written_nodes, stale_names_in, IsUpdate}
+use Rattle.jf_update.specs.Updates.{version_in, written_node_in, written_nodes, stale_names_in, IsNextSnapshot, IsUpdate}
 use Rattle.jf_update.specs.Plains.{fresh_under}
 
 -- ---- what holds of the top of a snapshot
@@ -44,21 +44,30 @@ pub top_newest : (version : ℕ) (old : Option LinkValue) → IsTopIf version ol
 top_newest version None top p v e = absurd (cc)
 top_newest version (Some x) top p v e = top.newest p v e
 
-pub top_parts : (head : SnapshotValue) (old : Option LinkValue) (b : Batch) → IsSnapshot head → IsTopOf head old → IsBatch b → IsWithinLimits b → AreParts 0 (content old) b
-top_parts head old b sound top batch limits = record {
+pub change_parts : (head : SnapshotValue) (old : Option LinkValue) (b : Batch) → IsSnapshot head → IsTopOf head old → IsBatch b → AreShort b → AreParts 0 (content old) b
+change_parts head old b sound top batch short = record {
   path = λ i. 0;
   entries = subst (IsPartUnder 0 (λ i. 0)) top.same (IsPartUnder-map (λ i. 0) head.map sound.map);
   batch = IsPartUnder-batch (λ i. 0) b batch;
-  short = limits.values;
+  short = short;
 }
 
+pub top_parts : (head : SnapshotValue) (old : Option LinkValue) (b : Batch) → IsSnapshot head → IsTopOf head old → IsBatch b → IsWithinLimits b → AreParts 0 (content old) b
+top_parts head old b sound top batch limits = change_parts head old b sound top batch limits.values
+
 -- the top after a landing meets what is asked of a top
-pub landed_top : (head : ℕ) (old : Option LinkValue) (b : Batch) (l : TopUpdate) → IsTopUpdate head old b l → IsTopIf (head + 1) l.top
-landed_top head old b l update_top = all l.top update_top.placed update_top.own update_top.newest
+pub next_if : (head : ℕ) (old : Option LinkValue) (b : Batch) (top : Option LinkValue) → IsNextTop head old b top → IsTopIf (head + 1) top
+next_if head old b top next = all top next.placed next.own next.newest
   where
     all : (top : Option LinkValue) → IsAtDepth 0 top → IsOfVersion (head + 1) top → NoneNewer (head + 1) top → IsTopIf (head + 1) top
     all None placed own newest = tt
     all (Some x) placed own newest = record { depth = placed; version = own; newest = newest }
+
+pub next_of : (head : ℕ) (old : Option LinkValue) (b : Batch) (l : TopUpdate) → IsTopUpdate head old b l → IsNextTop head old b l.top
+next_of head old b l u = record { entries = u.entries; placed = u.placed; own = u.own; versions = u.versions; newest = u.newest; sound = u.sound }
+
+pub landed_top : (head : ℕ) (old : Option LinkValue) (b : Batch) (l : TopUpdate) → IsTopUpdate head old b l → IsTopIf (head + 1) l.top
+landed_top head old b l u = next_if head old b l.top (next_of head old b l u)
 
 -- ---- maps
 version-snapshot_of : (version : ℕ) (top : Option LinkValue) → (snapshot_of version top).version ≡ version
@@ -100,27 +109,39 @@ versions_at version head now old top m' (n ∷ p) is was same made sound own bel
     ∙ ap (λ o. cond (is_fresh (entries head.map) (entries m') (n ∷ p)) (Some version) o) (sym (ap (snapshot_version_at (n ∷ p)) was ∙ version_below head.version n p old))
 
 -- ---- the whole
+pub advanced : (head : SnapshotValue) (old : Option LinkValue) (b : Batch) (top : Option LinkValue) (s : SnapshotValue) → IsSnapshot head → IsTopOf head old → IsNextTop head.version old b top → s ≡ snapshot_of (head.version + 1) top → IsSnapshot s → IsNextSnapshot head b s
+advanced head old b top s sound was next is now =
+    let v = head.version + 1 in
+    let m = head.map in
+    let m' = apply m b in
+    let made : content top ≡ entries m' = next.entries ∙ ap (λ es. applied es b) (sym was.same) ∙ sym (entries-apply m b) in
+    let version_is : s.version ≡ v = ap (λ (s : SnapshotValue). s.version) is ∙ version-snapshot_of v top in
+    record {
+      map = ap (λ (s : SnapshotValue). s.map) is ∙ map-from_entries (snapshot_of v top).map m' (entries-snapshot_of v top next.sound ∙ made);
+      version = version_is;
+      versions = λ path node. versions_at v head s old top m' path is was.value was.same made now version_is
+          (λ n p is_there. VersionFollows-is_fresh v (entries m) (entries m') n p (link_version_at (n ∷ p) old) (link_version_at (n ∷ p) top)
+          (moved v _ _ _ _ _ _ _ _ (next.versions n p) (ap (sub 0 (n ∷ p)) was.same) (ap (sub 0 (n ∷ p)) (sym made)) refl refl) is_there) node;
+    }
+
 pub updated : (head : SnapshotValue) (old : Option LinkValue) (b : Batch) (l : TopUpdate) (u : Update) → IsSnapshot head → IsTopOf head old → IsBatch b → IsTopUpdate head.version old b l
     → u.snapshot ≡ snapshot_of (head.version + 1) l.top → IsSnapshot u.snapshot → u.root ≡ root u.snapshot.map → u.fresh ≡ l.fresh → u.stale ≡ l.stale → IsUpdate head b u
 updated head old b l u sound top batch update_top is now rooted fresh_is stale_is =
     let v = head.version + 1 in
     let m = head.map in
     let m' = apply m b in
+    let next = advanced head old b l.top u.snapshot sound top (next_of head.version old b l update_top) is now in
     let made : content l.top ≡ entries m' = update_top.entries ∙ ap (λ es. applied es b) (sym top.same) ∙ sym (entries-apply m b) in
-    let map_is : u.snapshot.map ≡ m' = ap (λ (s : SnapshotValue). s.map) is ∙ map-from_entries (snapshot_of v l.top).map m' (entries-snapshot_of v l.top update_top.sound ∙ made) in
-    let version_is : u.snapshot.version ≡ v = ap (λ (s : SnapshotValue). s.version) is ∙ version-snapshot_of v l.top in
     let nodes : u.fresh ≡ written_nodes m m' u.snapshot =
     fresh_is ∙ update_top.fresh ∙ ap₂ (λ a c. with_root a c (fresh_under v l.top)) (sym top.same) made ∙ written_all v l.top m m' made update_top.placed ∙ ap (written_nodes m m') (sym is) in
     record {
-      map = map_is;
-      version = version_is;
-      root = rooted ∙ ap root map_is;
+      map = next.map;
+      version = next.version;
+      root = rooted ∙ ap root next.map;
       fresh = nodes;
       stale = subst (λ ns. IsPermutation ns u.stale)
           (ap₂ (λ a c. with_root a c (old_name head.version old)) made (sym top.same) ∙ with_root-fresh m' m (old_name head.version old) ∙ ap (stale_names_in m m') (sym top.value))
           (subst (λ ns. IsPermutation (with_root (content l.top) (content old) (old_name head.version old)) ns) (sym stale_is) update_top.stale);
-      versions = λ path node. versions_at v head u.snapshot old l.top m' path is top.value top.same made now version_is
-          (λ n p is_there. VersionFollows-is_fresh v (entries m) (entries m') n p (link_version_at (n ∷ p) old) (link_version_at (n ∷ p) l.top)
-          (moved v _ _ _ _ _ _ _ _ (update_top.versions n p) (ap (sub 0 (n ∷ p)) top.same) (ap (sub 0 (n ∷ p)) (sym made)) refl refl) is_there) node;
+      versions = next.versions;
       bound = omega (arith, ap length nodes, length-map (fresh m m') (written_node_in u.snapshot), length-fresh m b sound.map batch);
     }

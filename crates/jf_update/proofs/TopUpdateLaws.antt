@@ -30,7 +30,7 @@ use Rattle.jf_node.specs.Snapshots.{snapshot_of}
 use Rattle.jf_node.proofs.NodeVersions.{version-renewed}
 use Rattle.jf_update.specs.Made.{IsAtDepth}
 use Rattle.jf_update.specs.Plains.{fresh_below, WouldRise, fresh_under, plain_at}
-use Rattle.jf_update.specs.TopUpdates.{IsFreshUnder, WasLanded, old_name, IsStaleUnder, NoneNewer, IsTopUpdate, IsOfVersion}
+use Rattle.jf_update.specs.TopUpdates.{IsFreshUnder, WasLanded, old_name, IsStaleUnder, NoneNewer, IsNextTop, IsTopUpdate, IsOfVersion}
 use Rattle.jf_update.specs.Below.{IsFreshOver, IsStaleOver, name_below}
 use Rattle.jf_update.specs.Updates.{version_or, version_in}
 use Rattle.jf_update.specs.declared.top.TopUpdate.{TopUpdate}
@@ -206,3 +206,40 @@ changed_all head old seen shown bs l newest out a b sound fresh stale =
     changed head old bs l newest (subst IsLinkIf a sound) out
     (subst (λ o. (es : Part) (before : Path → Option ℕ) → IsFreshUnder (head + 1) es before o → ¬ (es ≡ content o) → l.fresh ≡ with_root es (content o) (fresh_under (head + 1) o)) a fresh)
     (subst (λ o. IsPermutation (with_root (content o) (content old) (old_name head old)) l.stale) b stale)
+
+-- ---- the new top alone
+pub next_none : (head : ℕ) (old : Option LinkValue) (bs : Batch) → old ≡ None → applied (content old) bs ≡ content old → IsNextTop head old bs None
+next_none head old bs is same = record {
+  entries = sym (same ∙ ap content is);
+  placed = tt;
+  own = tt;
+  versions = λ n p. let nothing = sub-none 1 p in record { kept = λ some eq. absurd (some nothing); fresh = λ some other. absurd (some nothing) };
+  newest = λ p v e. absurd (cc);
+  sound = tt;
+}
+
+pub next_renewed : (head : ℕ) (old : Option LinkValue) (x y : LinkValue) (bs : Batch) → NoneNewer head old → old ≡ Some x → IsAtDepth 0 old → IsLink x → IsLink y → y ≡ renewed_value (head + 1) x → applied (content old) bs ≡ content old → IsNextTop head old bs (Some y)
+next_renewed head old x y bs newest is placed link sound renew same =
+    let at : content old ≡ x.entries = ap content is in
+    let now : y.entries ≡ x.entries = ap (λ (z : LinkValue). z.entries) renew in
+    record {
+      entries = now ∙ sym (same ∙ at);
+      placed = ap (λ (z : LinkValue). z.depth) renew ∙ subst (IsAtDepth 0) is placed;
+      own = ap (λ (z : LinkValue). z.version) renew;
+      versions = λ n p. record {
+        kept = λ some eq. ap (λ z. link_version_at (n ∷ p) (Some z)) renew ∙ version-renewed (head + 1) n p x link ∙ ap (link_version_at (n ∷ p)) (sym is);
+        fresh = λ some other. absurd (other (ap (sub 0 (n ∷ p)) (at ∙ sym now)));
+      };
+      newest = λ p v e. renewed_newest head old x p v newest is link (ap (λ z. link_version_at p (Some z)) (sym renew) ∙ e);
+      sound = sound;
+    }
+
+pub next_changed : (head : ℕ) (old top : Option LinkValue) (bs : Batch) → NoneNewer head old → IsLinkIf top → IsOutcome 0 (head + 1) old bs (New top) → IsNextTop head old bs top
+next_changed head old top bs newest sound out = record {
+  entries = out.0.entries;
+  placed = out.0.placed;
+  own = has_version head old top bs out.0 out.1 sound;
+  versions = λ n p. out.0.versions (n ∷ p);
+  newest = landed_newest head old top out.0.placed newest sound out.0.versions;
+  sound = sound;
+}

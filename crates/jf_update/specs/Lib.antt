@@ -1,5 +1,5 @@
 pub mod Updates
-pub mod Hashed
+pub mod Remainders
 pub mod Made
 pub mod Outcomes
 pub mod Below

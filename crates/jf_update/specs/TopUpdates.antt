@@ -51,6 +51,15 @@ pub record WasLanded (version : ℕ) (top : Option LinkValue) : Type 0 where
   pub sorted : T (is_sorted key_cmp es)
   pub over : IsFreshUnder version es before top
 
+-- the new top after changes of the old one: its entries, its version and those of the nodes below it
+pub record IsNextTop (head : ℕ) (old : Option LinkValue) (bs : Batch) (top : Option LinkValue) : Type 0 where
+  pub entries : content top ≡ applied (content old) bs
+  pub placed : IsAtDepth 0 top
+  pub own : IsOfVersion (head + 1) top
+  pub versions : (n : ℕ) (path : Path) → VersionFollows (head + 1) (sub 0 (n ∷ path) (content old)) (sub 0 (n ∷ path) (content top)) (link_version_at (n ∷ path) old) (link_version_at (n ∷ path) top)
+  pub newest : NoneNewer (head + 1) top
+  pub sound : IsLinkIf top
+
 -- what a landing of a batch over the old top returns: the new top, its versions, and the lists of fresh and stale nodes
 pub record IsTopUpdate (head : ℕ) (old : Option LinkValue) (bs : Batch) (l : TopUpdate) : Type 0 where
   pub entries : content l.top ≡ applied (content old) bs

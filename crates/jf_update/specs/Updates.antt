@@ -33,6 +33,14 @@ written_nodes old new s = map (written_node_in s) (fresh old new)
 abbrev pub stale_names_in : Map → Map → SnapshotValue → List NodeName
 stale_names_in old new head = map (λ x. record { version = version_in head x.0; path = x.0 }) (stale old new)
 
+-- s is the snapshot after the changes: the map after them as the next version, in which each node that isn't fresh keeps
+-- its version
+pub record IsNextSnapshot (head : SnapshotValue) (b : Batch) (s : SnapshotValue) : Type 0 where
+  pub map : s.map ≡ apply head.map b
+  pub version : s.version ≡ head.version + 1
+  pub versions : (path : Path) → IsTrue (is_node 0 path (entries (apply head.map b)))
+      → snapshot_version_at path s ≡ (if is_fresh (entries head.map) (entries (apply head.map b)) path then Some (head.version + 1) else snapshot_version_at path head)
+
 -- u is the update of the snapshot by the batch: the map after the batch as the next version, its root, the nodes that
 -- are written and the names of those that are stale; each node that isn't fresh keeps its version; and a batch of n
 -- keys writes at most 66 n + 1 nodes

@@ -2,9 +2,7 @@
 //! makes stale.
 #![tactic(auto)]
 
-mod build;
 mod child;
-mod hashed_value;
 mod hashing;
 mod leaf;
 mod list;
@@ -12,10 +10,11 @@ mod node;
 mod outcome;
 mod piece;
 mod plain_node;
+mod remainder;
 mod snapshot;
 mod sorted;
 mod top;
 
 pub use hashing::value_hashes;
 pub use jf_node::Update;
-pub use snapshot::{update, update_counted};
+pub use snapshot::{advance, update};

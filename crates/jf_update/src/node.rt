@@ -6,10 +6,12 @@ ghost use Rattle.jf_node.specs.Children.{content, joined, FitFrom, SameElsewhere
 ghost use Rattle.jf_model.specs.Parts.{IsPartUnder};
 ghost use Rattle.jf_update.specs.Made.{IsAtDepth, Topped};
 ghost use Rattle.jf_update.specs.Outcomes.{AreParts, IsOutcome, AreOutcome, IsOutcomePlaced};
+ghost use Rattle.jf_update.specs.ValueHashes.{AreValueHashes};
 
 use crate::leaf::update_leaf;
 use crate::outcome::{NewChildren, Outcome};
-use crate::piece::piece_end;
+use crate::piece::{hashes_in, piece_end};
+use jf_hash::Hash;
 use jf_node::{Link, Seen, Sixteen};
 use jf_path::{Key, Memory, Nibble, SharedBytes};
 use std::alloc::Global;
@@ -28,14 +30,12 @@ fn first_child(children: &Sixteen) -> Option<&Link>
     None
 }
 
-/// The node that takes the place of `old`, over its new children: no node, a leaf moved up, or an inner node. The
-/// number of pairs hashed for it is added to `pairs`.
+/// The node that takes the place of `old`, over its new children: no node, a leaf moved up, or an inner node.
 pub(crate) fn rebuild(
     alloc: Global,
     old: &Link,
     made: NewChildren,
     version: u64,
-    pairs: &mut u64,
 ) -> Result<Option<Link>, Memory>
     requires several { 2 ≤ length old.now.entries }
     requires children { FitFrom old.now.depth 0 made.children }
@@ -46,8 +46,7 @@ pub(crate) fn rebuild(
     let NewChildren { children, changed } = made;
     let count = children.count().ok_or(Memory)?;
     if count >= 2 {
-        let (link, hashed) = old.with_children_counted(alloc, version, children, &changed)?;
-        *pairs = pairs.saturating_add(hashed);
+        let link = old.with_children(alloc, version, children, &changed)?;
         return Ok(Some(link));
     }
     match first_child(&children) {
@@ -62,45 +61,34 @@ pub(crate) fn rebuild(
     }
 }
 
-/// Updates the node `old`, or a place without a node, at a depth. The number of pairs hashed for it is added to
-/// `pairs`.
+/// Updates the node `old`, or a place without a node, at a depth.
 #[cycle(node)]
 pub(crate) fn update_node(
     alloc: Global,
     old: Option<&Link>,
-    batch: &[(Key, Option<SharedBytes>)],
+    entries: &[(Key, Option<SharedBytes>)],
+    hashes: &[Hash],
     depth: u64,
     version: u64,
-    pairs: &mut u64,
 ) -> Result<Outcome, Memory>
     requires depth { depth ≤ 64 }
     requires placed { IsAtDepth depth (option_copied old) }
-    requires parts { AreParts depth (content (option_copied old)) batch.now }
-    ensures { IfOk result (λ r. IsOutcome depth version (option_copied old.entry) batch.now r) }
+    requires parts { AreParts depth (content (option_copied old)) entries.now }
+    requires hashed { AreValueHashes entries.now hashes.now }
+    ensures { IfOk result (λ r. IsOutcome depth version (option_copied old.entry) entries.now r) }
 {
-    if batch.is_empty() {
+    if entries.is_empty() {
         return Ok(Outcome::Same);
     }
     match old {
-        None => update_leaf(alloc, None, batch, depth, version, pairs),
+        None => update_leaf(alloc, None, entries, hashes, depth, version),
         Some(link) => match link.view() {
-            Seen::Leaf {
-                key,
-                value,
-                value_hash,
-            } => update_leaf(
-                alloc,
-                Some((key, (value, *value_hash))),
-                batch,
-                depth,
-                version,
-                pairs,
-            ),
+            Seen::Leaf { .. } => update_leaf(alloc, Some(link), entries, hashes, depth, version),
             Seen::Inner { children } => {
-                match update_children(alloc, children, batch, depth, version, pairs)? {
+                match update_children(alloc, children, entries, hashes, depth, version)? {
                     None => Ok(Outcome::Same),
                     Some(made) => {
-                        let top = rebuild(alloc, link, made, version, pairs)?;
+                        let top = rebuild(alloc, link, made, version)?;
                         Ok(Outcome::New(top))
                     }
                 }
@@ -119,21 +107,21 @@ fn place(made: &mut NewChildren, n: Nibble, outcome: Outcome)
     }
 }
 
-/// Updates the children of a node. Returns `None` if the batch changes none of them. The number of pairs hashed for
-/// them is added to `pairs`.
+/// Updates the children of a node. Returns `None` if none of them changes.
 #[cycle(node)]
 fn update_children(
     alloc: Global,
     children: &Sixteen,
-    batch: &[(Key, Option<SharedBytes>)],
+    entries: &[(Key, Option<SharedBytes>)],
+    hashes: &[Hash],
     depth: u64,
     version: u64,
-    pairs: &mut u64,
 ) -> Result<Option<NewChildren>, Memory>
     requires depth { depth < 64 }
     requires children { FitFrom depth 0 children.now }
-    requires parts { AreParts depth (joined children.now) batch.now }
-    ensures { IfOk result (λ r. AreOutcome depth version children.now batch.now r) }
+    requires parts { AreParts depth (joined children.now) entries.now }
+    requires hashed { AreValueHashes entries.now hashes.now }
+    ensures { IfOk result (λ r. AreOutcome depth version children.now entries.now r) }
 {
     children.know();
     let mut made = NewChildren {
@@ -143,14 +131,14 @@ fn update_children(
     let mut start = 0;
     for n in 0..16 {
         let nibble = Nibble::of(n);
-        let end = start + piece_end(&batch[start..], depth, nibble);
+        let end = start + piece_end(&entries[start..], depth, nibble);
         let outcome = update_node(
             alloc,
             children.get(nibble),
-            &batch[start..end],
+            &entries[start..end],
+            hashes_in(hashes, start, end),
             depth + 1,
             version,
-            pairs,
         )?;
         place(&mut made, nibble, outcome);
         start = end;

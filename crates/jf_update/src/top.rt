@@ -13,14 +13,16 @@ ghost use Rattle.jf_node.specs.Children.{content};
 ghost use Rattle.jf_model.specs.Walk.{with_root};
 ghost use Rattle.jf_update.specs.Made.{IsAtDepth};
 ghost use Rattle.jf_update.specs.Outcomes.{AreParts};
+ghost use Rattle.jf_update.specs.ValueHashes.{AreValueHashes};
 ghost use Rattle.jf_update.specs.Plains.{fresh_under};
-ghost use Rattle.jf_update.specs.TopUpdates.{IsTopUpdate, IsFreshUnder, IsStaleUnder, NoneNewer, WasLanded, old_name};
+ghost use Rattle.jf_update.specs.TopUpdates.{IsNextTop, IsTopUpdate, IsFreshUnder, IsStaleUnder, NoneNewer, WasLanded, old_name};
 
 use crate::list::{list_fresh, list_stale};
 use crate::node::update_node;
 use crate::outcome::Outcome;
 use crate::plain_node::plain_of;
 use crate::sorted::sorted_names;
+use jf_hash::Hash;
 use jf_node::Link;
 use jf_path::{FreshList, Key, Memory, NameList, NibblePath, NodeName, PlainNode, SharedBytes};
 use std::alloc::Global;
@@ -139,21 +141,73 @@ fn unchanged(alloc: Global, old: Option<&Link>, head: u64) -> Result<TopUpdate, 
     }
 }
 
-/// Updates the top of a version, if any, by a batch. The number of pairs hashed for it is added to `pairs`.
+/// Ensures what holds of every link. Changes nothing.
+fn know_top(top: &Option<Link>)
+    ensures { IsLinkIf top.now }
+{
+    if let Some(link) = top {
+        link.know();
+    }
+}
+
+/// The top of a version, written anew by the next one.
+fn renewed_top(alloc: Global, old: Option<&Link>, head: u64) -> Result<Option<Link>, Memory>
+    requires head { head + 1 < 2 ^ 64 }
+    requires old { IsAtDepth 0 (option_copied old) }
+    requires newest { NoneNewer head (option_copied old) }
+    ensures { IfOk result (λ top. (bs : Batch) → applied (content (option_copied old.entry)) bs ≡ content (option_copied old.entry) → IsNextTop head (option_copied old.entry) bs top) }
+{
+    match old {
+        None => Ok(None),
+        Some(link) => {
+            link.know();
+            let top = link.renewed(alloc, head + 1)?;
+            top.know();
+            Ok(Some(top))
+        }
+    }
+}
+
+/// The top after changes of the version `head`, whose top is `old`, if any.
+pub(crate) fn next_top(
+    alloc: Global,
+    old: Option<&Link>,
+    head: u64,
+    entries: &[(Key, Option<SharedBytes>)],
+    hashes: &[Hash],
+) -> Result<Option<Link>, Memory>
+    requires head { head + 1 < 2 ^ 64 }
+    requires old { IsAtDepth 0 (option_copied old) }
+    requires newest { NoneNewer head (option_copied old) }
+    requires parts { AreParts 0 (content (option_copied old)) entries.now }
+    requires hashed { AreValueHashes entries.now hashes.now }
+    ensures { IfOk result (λ top. IsNextTop head (option_copied old.entry) entries.now top) }
+{
+    match update_node(alloc, old, entries, hashes, 0, head + 1)? {
+        Outcome::Same => renewed_top(alloc, old, head),
+        Outcome::New(top) => {
+            know_top(&top);
+            Ok(top)
+        }
+    }
+}
+
+/// Updates the top of a version, if any, by a batch.
 pub(crate) fn update_top(
     alloc: Global,
     old: Option<&Link>,
     head: u64,
-    batch: &[(Key, Option<SharedBytes>)],
-    pairs: &mut u64,
+    entries: &[(Key, Option<SharedBytes>)],
+    hashes: &[Hash],
 ) -> Result<TopUpdate, Memory>
     requires head { head + 1 < 2 ^ 64 }
     requires old { IsAtDepth 0 (option_copied old) }
     requires newest { NoneNewer head (option_copied old) }
-    requires parts { AreParts 0 (content (option_copied old)) batch.now }
-    ensures { IfOk result (λ l. IsTopUpdate head (option_copied old.entry) batch.now l) }
+    requires parts { AreParts 0 (content (option_copied old)) entries.now }
+    requires hashed { AreValueHashes entries.now hashes.now }
+    ensures { IfOk result (λ l. IsTopUpdate head (option_copied old.entry) entries.now l) }
 {
-    match update_node(alloc, old, batch, 0, head + 1, pairs)? {
+    match update_node(alloc, old, entries, hashes, 0, head + 1)? {
         Outcome::Same => unchanged(alloc, old, head),
         Outcome::New(top) => {
             let fresh = fresh_of(alloc, top.as_ref(), head + 1)?;

@@ -1,12 +1,12 @@
-// Landings over many keys: the root is compared with that of the whole map, and what a landing of one key hashes and
-// writes is counted.
+// Landings over many keys: the root is compared with that of the whole map, and what a landing of one key writes is
+// counted.
 use crate::roots::root_of;
 use jf_hash::{Hash, key_of, value};
 use jf_join::FreeGate;
 use jf_node::Snapshot;
 use jf_path::{Key, Memory, SharedBytes};
 use jf_split::{Batch, BatchFault};
-use jf_update::{Update, update_counted};
+use jf_update::{Update, update};
 use std::alloc::Global;
 use std::test::Fail;
 use std::thread::Threads;
@@ -59,13 +59,6 @@ fn one(alloc: Global, n: u32, put: bool) -> Result<Batch, BatchFault> {
     Ok(batch)
 }
 
-// A version, and the number of pairs hashed for it.
-#[derive(Drop)]
-struct Counted {
-    update: Update,
-    pairs: u64,
-}
-
 // Lands a batch as the next version, one below 100. It is boxed: whoever holds it then holds one value, not all that it
 // is made of.
 fn next<H: Threads + Sync>(
@@ -73,17 +66,16 @@ fn next<H: Threads + Sync>(
     alloc: Global,
     head: &Snapshot,
     batch: &Batch,
-) -> Result<Box<Counted>, Memory> {
+) -> Result<Box<Update>, Memory> {
     if head.version() >= 99 {
         return Err(Memory);
     }
-    let (update, pairs) = update_counted(rt, alloc, head, batch, 1, &FreeGate)?;
-    Ok(Box::new(alloc, Counted { update, pairs })?)
+    let landed = update(rt, alloc, head, batch, 1, &FreeGate)?;
+    Ok(Box::new(alloc, landed)?)
 }
 
-fn snapshot_of(counted: Box<Counted>) -> Snapshot {
-    let Counted { update, .. } = Box::into_inner(counted);
-    let Update { snapshot, .. } = update;
+fn snapshot_of(update: Box<Update>) -> Snapshot {
+    let Update { snapshot, .. } = Box::into_inner(update);
     snapshot
 }
 
@@ -107,7 +99,7 @@ fn have_root<H: Threads + Sync>(rt: &H, alloc: Global) -> Result<bool, Fail> {
     let batch = many(alloc, 0)?;
     let entries = hashed(alloc, batch.as_slice())?;
     let landed = next(rt, alloc, &Snapshot::empty(0), &batch)?;
-    Ok(has_map(&landed.update, &entries))
+    Ok(has_map(&landed, &entries))
 }
 
 // Lands 10,000 keys on a version, which becomes the next one.
@@ -132,9 +124,9 @@ fn full<H: Threads + Sync>(rt: &H, alloc: Global) -> Result<Snapshot, Fail> {
     Ok(head)
 }
 
-// Whether at most 40 pairs were hashed, and at most 12 nodes written.
-fn is_light(landed: &Counted) -> bool {
-    landed.pairs != 0 && landed.pairs <= 40 && landed.update.fresh.as_slice().len() <= 12
+// Whether at most 12 nodes were written.
+fn is_light(landed: &Update) -> bool {
+    landed.fresh.as_slice().len() <= 12
 }
 
 // Lands one change on a version, which becomes the next one, and returns whether it was light.
@@ -169,7 +161,7 @@ fn all_light<H: Threads + Sync>(rt: &H, alloc: Global) -> Result<bool, Fail> {
 }
 
 #[test]
-fn one_key_over_many_hashes_few_pairs_and_writes_few_nodes(rt: HostRuntime) -> Result<(), Fail> {
+fn one_key_over_many_writes_few_nodes(rt: HostRuntime) -> Result<(), Fail> {
     assert!(rt; all_light(&rt, rt.alloc())?);
     Ok(())
 }

@@ -9,4 +9,4 @@ abbrev pub decreases-update_children : goal.decreases-update_children
 decreases-update_children l = 2 * (64 - l.depth)
 
 abbrev pub invariant-update_children-loop-n : goal.invariant-update_children-loop-n
-invariant-update_children-loop-n l = IsUpdating l.depth l.version l.n l.start l.children l.batch l.made.children l.made.changed
+invariant-update_children-loop-n l = IsUpdating l.depth l.version l.n l.start l.children l.entries l.made.children l.made.changed
