@@ -2,8 +2,7 @@
 use Rattle.std.proofs.Common.{◌≡◌, ℕ, ◌-◌, inl, inr, List, length, get_or, sym, ap, ◌∙◌, arith, Option, None, ◌+◌, Some, ◌<◌, subst, zero-add, ◌≤◌, Bool, true, false, drop, zero, suc, refl, replicate, set, length-drop, length-set, eq-or-lt_of_le, get_or-set_other, get_or-set_same, [], ◌∷◌, ◌++◌, ap₂, true≢false, take, Result, Ok, Err, IfOk, ◌==◌}
 use Rattle.std.proofs.lemmas.Bool.{cases_lt}
 use Rattle.std.proofs.lemmas.List.{get_or_past, set-get_or}
-use Rattle.std.specs.Bool.{beq}
-use Rattle.std.specs.List.{list_any}
+use Rattle.jf_hash.specs.Ranges.{has_change}
 use Rattle.jf_path.specs.Nibbles.{nibble}
 use Rattle.jf_path.proofs.FilterLaws.{All-filter}
 use Rattle.jf_hash.specs.Slots.{with_nibble, from_nibble, Part}
@@ -132,24 +131,24 @@ same_joined (x ∷ xs) [] e h = absurd (omega arith)
 same_joined (x ∷ xs) (y ∷ ys) e h = ap₂ (λ a b. a ++ b) (h 0 (omega arith)) (same_joined xs ys (omega arith) (λ k lt. h (suc k) (omega arith)))
 
 -- ---- whether any changed
-none_of_them : (changes : List Bool) → list_any (λ m. beq m true) changes ≡ false → (k : ℕ) → get_or changes k false ≡ false
+none_of_them : (changes : List Bool) → has_change changes ≡ false → (k : ℕ) → get_or changes k false ≡ false
 none_of_them [] off k = refl
 none_of_them (true ∷ changes) off k = absurd (true≢false off)
 none_of_them (false ∷ changes) off zero = refl
 none_of_them (false ∷ changes) off (suc k) = none_of_them changes off k
 
-one_of_them : (changes : List Bool) → list_any (λ m. beq m true) changes ≡ true → (k : ℕ) × (k < length changes) × (get_or changes k false ≡ true)
+one_of_them : (changes : List Bool) → has_change changes ≡ true → (k : ℕ) × (k < length changes) × (get_or changes k false ≡ true)
 one_of_them [] on = absurd (true≢false (sym on))
 one_of_them (true ∷ changes) on = (0, omega arith, refl)
 one_of_them (false ∷ changes) on = let more = one_of_them changes on in (suc more.0, (let lt = more.1 in omega arith), more.2)
 
 -- if no child changed, the batch changes nothing
-pub none_changed : (d v start : ℕ) (path : ℕ → ℕ) (olds news : List (Option LinkValue)) (bs : Batch) (changed : List Bool) → length olds ≡ 16 → FitFrom d 0 olds → IsPartUnder d path (joined olds) → IsPartUnder d path bs → IsUpdating d v 16 start olds bs news changed → list_any (λ m. beq m true) changed ≡ false → applied (joined olds) bs ≡ joined olds
+pub none_changed : (d v start : ℕ) (path : ℕ → ℕ) (olds news : List (Option LinkValue)) (bs : Batch) (changed : List Bool) → length olds ≡ 16 → FitFrom d 0 olds → IsPartUnder d path (joined olds) → IsPartUnder d path bs → IsUpdating d v 16 start olds bs news changed → has_change changed ≡ false → applied (joined olds) bs ≡ joined olds
 none_changed d v start path olds news bs changed long fit part batch w off =
     sym (updated_parts d v path olds news bs changed long fit part batch (updating_done d v start olds news bs changed w)) ∙ same_joined news olds (w.long ∙ sym long) (λ k lt. w.same k (omega (arith, w.long)) (none_of_them changed off k))
 
 -- if a child changed, the batch changes something
-pub some_changed : (d v start : ℕ) (path : ℕ → ℕ) (olds news : List (Option LinkValue)) (bs : Batch) (changed : List Bool) → length olds ≡ 16 → FitFrom d 0 olds → IsPartUnder d path (joined olds) → IsPartUnder d path bs → IsUpdating d v 16 start olds bs news changed → list_any (λ m. beq m true) changed ≡ true → ¬ (applied (joined olds) bs ≡ joined olds)
+pub some_changed : (d v start : ℕ) (path : ℕ → ℕ) (olds news : List (Option LinkValue)) (bs : Batch) (changed : List Bool) → length olds ≡ 16 → FitFrom d 0 olds → IsPartUnder d path (joined olds) → IsPartUnder d path bs → IsUpdating d v 16 start olds bs news changed → has_change changed ≡ true → ¬ (applied (joined olds) bs ≡ joined olds)
 some_changed d v start path olds news bs changed long fit part batch w on same =
     let x = one_of_them changed on in
     let is = updated_parts d v path olds news bs changed long fit part batch (updating_done d v start olds news bs changed w) in

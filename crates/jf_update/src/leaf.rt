@@ -61,7 +61,7 @@ fn build(
             Ok(Some(link))
         }
         Remainder::Put(key, value, value_hash) => {
-            let link = Link::leaf(alloc, version, depth, key, value.as_slice(), value_hash)?;
+            let link = Link::leaf(alloc, version, depth, key, value, value_hash)?;
             Ok(Some(link))
         }
         Remainder::Several => {

@@ -1,6 +1,7 @@
 // A node is updated by its children, and put over them again if one of them changed.
 ghost use Rattle.std.specs.Prelude.{◌≡◌, ◌<◌, ◌≤◌, ◌++◌, ℕ, [], length, IfOk, IfNone, IfSome};
 ghost use Rattle.std.specs.Option.{option_copied};
+ghost use Rattle.jf_hash.specs.Ranges.{has_change};
 ghost use Rattle.jf_hash.specs.Slots.{Part};
 ghost use Rattle.jf_node.specs.Children.{content, joined, FitFrom, SameElsewhere};
 ghost use Rattle.jf_model.specs.Parts.{IsPartUnder};
@@ -12,8 +13,8 @@ use crate::leaf::update_leaf;
 use crate::outcome::{NewChildren, Outcome};
 use crate::piece::{hashes_in, piece_end};
 use jf_hash::Hash;
-use jf_node::{Link, Seen, Sixteen};
-use jf_path::{Key, Memory, Nibble, SharedBytes};
+use jf_node::{Branches, Link, Seen, Sixteen};
+use jf_path::{Bitmap, Key, Memory, Nibble, SharedBytes};
 use std::alloc::Global;
 
 /// The child with the least nibble, if there is one.
@@ -46,7 +47,7 @@ pub(crate) fn rebuild(
     let NewChildren { children, changed } = made;
     let count = children.count().ok_or(Memory)?;
     if count >= 2 {
-        let link = old.with_children(alloc, version, children, &changed)?;
+        let link = old.with_children(alloc, version, children, changed)?;
         return Ok(Some(link));
     }
     match first_child(&children) {
@@ -103,15 +104,23 @@ fn place(made: &mut NewChildren, n: Nibble, outcome: Outcome)
 {
     if let Outcome::New(child) = outcome {
         made.children.set(n, child);
-        made.changed[n.get() as usize] = true;
+        made.changed.set(n.get() as usize, true);
     }
+}
+
+/// Whether a child is new.
+fn has_changed(changed: Bitmap) -> bool
+    ensures { result ≡ has_change changed }
+{
+    changed.know();
+    changed.count(0, 16) > 0
 }
 
 /// Updates the children of a node. Returns `None` if none of them changes.
 #[cycle(node)]
 fn update_children(
     alloc: Global,
-    children: &Sixteen,
+    children: &Branches,
     entries: &[(Key, Option<SharedBytes>)],
     hashes: &[Hash],
     depth: u64,
@@ -126,7 +135,7 @@ fn update_children(
     children.know();
     let mut made = NewChildren {
         children: children.share()?,
-        changed: [false; 16],
+        changed: Bitmap::none(),
     };
     let mut start = 0;
     for n in 0..16 {
@@ -143,7 +152,7 @@ fn update_children(
         place(&mut made, nibble, outcome);
         start = end;
     }
-    if made.changed.contains(&true) {
+    if has_changed(made.changed) {
         Ok(Some(made))
     } else {
         Ok(None)

@@ -1,6 +1,7 @@
 // The outcome of an update of a node, or of its children.
 
 use jf_node::{Link, Sixteen};
+use jf_path::Bitmap;
 
 /// The outcome of an update of a node, or of a place without one.
 #[derive(Drop)]
@@ -15,5 +16,5 @@ pub(crate) enum Outcome {
 #[derive(Drop)]
 pub(crate) struct NewChildren {
     pub(crate) children: Sixteen,
-    pub(crate) changed: [bool; 16],
+    pub(crate) changed: Bitmap,
 }

@@ -49,19 +49,19 @@ update_children-loop-n-preserved t c =
     (subst (λ o. IsOutcome (c.args.depth + 1) c.args.version o piece c.in_ok-outcome.outcome) (c.get.ensures ∙ ap (λ n. get_or olds n None) c.of-nibble.ensures) out)
     put
 
-pub update_children-returns-then-contains : goal.update_children-returns-then-contains
-update_children-returns-then-contains t c =
+pub update_children-returns-then-has_changed : goal.update_children-returns-then-has_changed
+update_children-returns-then-has_changed t c =
     let e : c.loop-n.n ≡ 16 = omega arith in
     let w = subst (λ n. IsUpdating c.args.depth c.args.version n c.loop-n.start c.args.children.now c.args.entries.now c.loop-n.made.children c.loop-n.made.changed) e c.loop-n.invariant in (
       updating_done _ _ _ _ _ _ _ w,
-      some_changed c.args.depth c.args.version c.loop-n.start c.requires.parts.path c.args.children.now c.loop-n.made.children c.args.entries.now c.loop-n.made.changed c.know.ensures.long c.requires.children c.requires.parts.entries c.requires.parts.batch w (sym c.contains.ensures.value ∙ c.if-contains.true),
+      some_changed c.args.depth c.args.version c.loop-n.start c.requires.parts.path c.args.children.now c.loop-n.made.children c.args.entries.now c.loop-n.made.changed c.know.ensures.long c.requires.children c.requires.parts.entries c.requires.parts.batch w (sym c.has_changed.ensures ∙ c.if-has_changed.true),
     )
 
-pub update_children-returns-else-contains : goal.update_children-returns-else-contains
-update_children-returns-else-contains t c =
+pub update_children-returns-else-has_changed : goal.update_children-returns-else-has_changed
+update_children-returns-else-has_changed t c =
     let e : c.loop-n.n ≡ 16 = omega arith in
     let w = subst (λ n. IsUpdating c.args.depth c.args.version n c.loop-n.start c.args.children.now c.args.entries.now c.loop-n.made.children c.loop-n.made.changed) e c.loop-n.invariant in
-    none_changed c.args.depth c.args.version c.loop-n.start c.requires.parts.path c.args.children.now c.loop-n.made.children c.args.entries.now c.loop-n.made.changed c.know.ensures.long c.requires.children c.requires.parts.entries c.requires.parts.batch w (sym c.contains.ensures.value ∙ c.if-contains.false)
+    none_changed c.args.depth c.args.version c.loop-n.start c.requires.parts.path c.args.children.now c.loop-n.made.children c.args.entries.now c.loop-n.made.changed c.know.ensures.long c.requires.children c.requires.parts.entries c.requires.parts.batch w (sym c.has_changed.ensures ∙ c.if-has_changed.false)
 
 pub update_node-returns-then-is_empty : goal.update_node-returns-then-is_empty
 update_node-returns-then-is_empty t c = empty_applied _ c.args.entries.now (eqb-true _ _ (sym c.is_empty.ensures ∙ c.if-is_empty.true))

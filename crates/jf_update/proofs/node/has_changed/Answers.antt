@@ -1,0 +1,2 @@
+use Rattle.std.proofs.Common.{◌≡◌}
+use Rattle.jf_update.proofs.node.has_changed.Goals as goal
