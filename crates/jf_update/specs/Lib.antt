@@ -5,3 +5,4 @@ pub mod Outcomes
 pub mod Below
 pub mod Plains
 pub mod TopUpdates
+pub mod Restored

@@ -11,9 +11,11 @@ mod node;
 mod outcome;
 mod piece;
 mod plain_node;
+mod restore;
 mod snapshot;
 mod sorted;
 mod top;
 
 pub use jf_node::Update;
+pub use restore::{RestoreFault, restored};
 pub use snapshot::{update, update_counted};
