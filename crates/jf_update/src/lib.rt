@@ -11,10 +11,12 @@ mod outcome;
 mod piece;
 mod plain_node;
 mod remainder;
+mod restore;
 mod snapshot;
 mod sorted;
 mod top;
 
 pub use hashing::value_hashes;
 pub use jf_node::Update;
+pub use restore::{RestoreFault, restored};
 pub use snapshot::{advance, update};
