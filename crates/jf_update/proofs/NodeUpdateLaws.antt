@@ -1,8 +1,11 @@
 -- A node is updated by updating its children.
-use Rattle.std.proofs.Common.{◌≡◌, ℕ, ◌-◌, inl, inr, List, length, get_or, sym, ap, ◌∙◌, arith, Option, None, ◌+◌, Some, ◌<◌, subst, zero-add, ◌≤◌, Bool, true, false, drop, zero, suc, refl, replicate, set, length-drop, length-set, eq-or-lt_of_le, get_or-set_other, get_or-set_same, [], ◌∷◌, ◌++◌, ap₂, true≢false, take, Result, Ok, Err, IfOk, ◌==◌}
+use Rattle.std.proofs.Common.{nat_lt, take_all, ◌≡◌, ℕ, ◌-◌, inl, inr, List, length, get_or, sym, ap, ◌∙◌, arith, Option, None, ◌+◌, Some, ◌<◌, subst, zero-add, ◌≤◌, Bool, true, false, drop, zero, suc, refl, replicate, set, length-drop, length-set, eq-or-lt_of_le, get_or-set_other, get_or-set_same, [], ◌∷◌, ◌++◌, ap₂, true≢false, take, Result, Ok, Err, IfOk, ◌==◌}
 use Rattle.std.proofs.lemmas.Bool.{cases_lt}
+use Rattle.std.proofs.lemmas.Bool.Decides.{nat_tests}
 use Rattle.std.proofs.lemmas.List.{get_or_past, set-get_or}
+use Rattle.std.specs.List.{count_by}
 use Rattle.jf_hash.specs.Ranges.{has_change}
+use Rattle.jf_hash.proofs.Changes.{has_change-count, has_change-counted}
 use Rattle.jf_path.specs.Nibbles.{nibble}
 use Rattle.jf_path.proofs.FilterLaws.{All-filter}
 use Rattle.jf_hash.specs.Slots.{with_nibble, from_nibble, Part}
@@ -141,6 +144,14 @@ one_of_them : (changes : List Bool) → has_change changes ≡ true → (k : ℕ
 one_of_them [] on = absurd (true≢false (sym on))
 one_of_them (true ∷ changes) on = (0, omega arith, refl)
 one_of_them (false ∷ changes) on = let more = one_of_them changes on in (suc more.0, (let lt = more.1 in omega arith), more.2)
+
+positive : (n : ℕ) → true ≡ nat_lt 0 (suc n)
+positive n = grind (arith, nat_tests)
+
+-- whether a child changed, by how many did
+pub told_change : (changes : List Bool) (n : ℕ) → length changes ≡ 16 → n ≡ count_by (λ bit. bit) (take 16 changes) → nat_lt 0 n ≡ has_change changes
+told_change changes zero long is = sym (has_change-count changes (sym (is ∙ ap (count_by (λ bit. bit)) (take_all 16 changes (omega (arith, long))))))
+told_change changes (suc n) long is = sym (positive n) ∙ sym (has_change-counted changes (λ none. absurd (omega (arith, is ∙ ap (count_by (λ bit. bit)) (take_all 16 changes (omega (arith, long))) ∙ none))))
 
 -- if no child changed, the batch changes nothing
 pub none_changed : (d v start : ℕ) (path : ℕ → ℕ) (olds news : List (Option LinkValue)) (bs : Batch) (changed : List Bool) → length olds ≡ 16 → FitFrom d 0 olds → IsPartUnder d path (joined olds) → IsPartUnder d path bs → IsUpdating d v 16 start olds bs news changed → has_change changed ≡ false → applied (joined olds) bs ≡ joined olds

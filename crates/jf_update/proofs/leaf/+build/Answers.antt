@@ -48,7 +48,7 @@ build-returns-in_ok-link-in-Old t c =
 
 pub build-returns-in_ok-link-in-Put : goal.build-returns-in_ok-link-in-Put
 build-returns-in_ok-link-in-Put t c =
-    built_put c.args.depth c.args.version _ c.in-Put.key.now c.in-Put.value.now c.in_ok-link-in-Put.link c.in-Put.ensures.0 (subst (λ v. c.in_ok-link-in-Put.link ≡ leaf_value c.args.version c.args.depth c.in-Put.key.now v) c.as_slice.ensures c.in_ok-link-in-Put.ensures)
+    built_put c.args.depth c.args.version _ c.in-Put.key.now c.in-Put.value.now c.in_ok-link-in-Put.link c.in-Put.ensures.0 c.in_ok-link-in-Put.ensures
 
 pub build-returns-in_ok-link-in-Several : goal.build-returns-in_ok-link-in-Several
 build-returns-in_ok-link-in-Several t c =

@@ -11,7 +11,7 @@ use Rattle.jf_update.proofs.NodeUpdateLaws.{IsUpdating, updating_start, updating
 use Rattle.jf_update.proofs.node.+node.Goals as goal
 
 pub update_children-loop-n-init : goal.update_children-loop-n-init
-update_children-loop-n-init t c = updating_start c.args.depth c.args.version c.args.children.now _ c.args.entries.now _ c.know.ensures.long c.requires.children c.in_ok-share.ensures refl
+update_children-loop-n-init t c = updating_start c.args.depth c.args.version c.args.children.now _ c.args.entries.now _ c.know.ensures.long c.requires.children c.in_ok-share.ensures c.none.ensures
 
 pub update_children-update_node-requires : goal.update_children-update_node-requires
 update_children-update_node-requires t c =
