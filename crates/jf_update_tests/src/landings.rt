@@ -11,16 +11,16 @@ use std::test::Fail;
 use std::thread::Threads;
 
 // The byte that a key is made of, and the byte put as its value, or None if the key is removed.
-type Change = (u8, Option<u8>);
+pub(crate) type Change = (u8, Option<u8>);
 
 const WORKERS: &[u64] = &[1, 2, 7, 64];
 
-const LOW: u8 = 0x10;
+pub(crate) const LOW: u8 = 0x10;
 
 // Its key has only the first nibble of that of `LOW`.
-const NEAR: u8 = 0x1f;
+pub(crate) const NEAR: u8 = 0x1f;
 
-const FAR: u8 = 0xa0;
+pub(crate) const FAR: u8 = 0xa0;
 
 // A batch, the map after it, the lengths of the paths of the nodes that it writes, and the versions and lengths of the
 // paths of those that it makes stale.
@@ -111,7 +111,7 @@ fn hashed(alloc: Global, entries: &[(u8, u8)]) -> Result<Vec<(Key, Hash)>, Memor
 
 // Lands a batch as the next version. It is boxed: whoever holds it then holds one value, not all that it is made of,
 // which the check of a test would go through at each call.
-fn next<H: Threads + Sync>(
+pub(crate) fn next<H: Threads + Sync>(
     rt: &H,
     alloc: Global,
     head: &Snapshot,

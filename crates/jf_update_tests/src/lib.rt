@@ -6,6 +6,8 @@ mod landings;
 #[cfg(test)]
 mod many_keys;
 #[cfg(test)]
+mod restoring;
+#[cfg(test)]
 mod roots;
 #[cfg(test)]
 mod versions;

@@ -9,7 +9,7 @@ use jf_path::Key;
 use std::cmp::Ordering;
 
 // Whether a key is below all of these.
-fn is_below(key: &Key, entries: &[(Key, Hash)]) -> bool
+fn is_below<V>(key: &Key, entries: &[(Key, V)]) -> bool
     ensures { result ≡ below_all key_cmp key.now entries.now }
 {
     match entries.split_first() {
@@ -22,7 +22,7 @@ fn is_below(key: &Key, entries: &[(Key, Hash)]) -> bool
 }
 
 // Whether the keys ascend strictly.
-fn is_rising(entries: &[(Key, Hash)]) -> bool
+pub(crate) fn is_rising<V>(entries: &[(Key, V)]) -> bool
     ensures { result ≡ is_sorted key_cmp entries.now }
 {
     match entries.split_first() {
