@@ -1,14 +1,11 @@
-// Runs with several workers: pieces of one landing are in flight at once, and no number of workers changes what is
-// written.
+// Runs with several workers: no number of workers changes what is written.
 use crate::words::words_of;
 use jf_disk::{MemDisk, Side};
-use jf_join::{FreeGate, Gate};
+use jf_join::FreeGate;
 use jf_play::play::{Played, new_disk, play_gated};
 use jf_run::status::Status;
 use std::alloc::Global;
 use std::sync::Wait;
-use std::sync::atomic::AtomicU64;
-use std::sync::atomic::Ordering::SeqCst;
 use std::test::Fail;
 use std::thread::Threads;
 
@@ -33,83 +30,6 @@ fn script_of(alloc: Global, batches: &[Lines]) -> Result<Vec<u8>, Fail> {
         add_batch(alloc, &mut script, lines)?;
     }
     Ok(script)
-}
-
-// How often the first piece looks for the second before it goes on alone.
-const TURNS: u64 = 100_000_000;
-
-// Holds the first piece of a landing back until the second has begun, and tells whether it saw that.
-#[derive(Drop)]
-struct Meeting {
-    second: AtomicU64,
-    met: AtomicU64,
-}
-
-impl Meeting {
-    fn new() -> Meeting {
-        Meeting {
-            second: AtomicU64::new(0),
-            met: AtomicU64::new(0),
-        }
-    }
-
-    fn has_met(&self) -> bool {
-        self.met.load(SeqCst) == 1
-    }
-}
-
-impl Gate for Meeting {
-    fn begin(&self, piece: u64) {
-        if piece == 1 {
-            self.second.store(1, SeqCst);
-        }
-        if piece != 0 {
-            return;
-        }
-        for _ in 0..TURNS {
-            if self.second.load(SeqCst) == 1 {
-                self.met.store(1, SeqCst);
-                return;
-            }
-        }
-    }
-
-    fn session(&self, _number: u64) {}
-}
-
-// Names under each first nibble of a key, put into an empty store and put again.
-const TWICE: &[Lines] = &[("put", 0, 200, " =31"), ("put", 0, 200, " =32")];
-
-// Whether a run ended well with two entries.
-fn has_landed_two(played: &Played<MemDisk>) -> bool {
-    played.status == Status::Done && played.entries == 2
-}
-
-// Whether the words and the script make two entries on a new store.
-fn land_two<H: Threads + Wait + Sync>(
-    rt: &H,
-    alloc: Global,
-    words: &[String],
-    script: &[u8],
-    gate: &Meeting,
-) -> Result<bool, Fail> {
-    let disk = new_disk(alloc, b"", &[])?;
-    let played = play_gated(rt, alloc, disk, words, script, gate)?;
-    Ok(has_landed_two(&played))
-}
-
-// Whether two pieces of a landing on a store that isn't empty meet if two workers work them.
-fn two_meet<H: Threads + Wait + Sync>(rt: &H, alloc: Global, gate: &Meeting) -> Result<bool, Fail> {
-    let words = words_of(alloc, "run --workers 2")?;
-    let script = script_of(alloc, TWICE)?;
-    Ok(land_two(rt, alloc, &words, &script, gate)? && gate.has_met())
-}
-
-#[test]
-fn two_pieces_meet(rt: HostRuntime) -> Result<(), Fail> {
-    let gate = Meeting::new();
-    assert!(rt; two_meet(&rt, rt.alloc(), &gate)?);
-    Ok(())
 }
 
 // Large batches and small ones, with values put again, removals, and a removal of nothing.
