@@ -3,7 +3,7 @@ use Rattle.std.specs.Prelude.{◌≡◌, ℕ, zero, suc, ◌+◌, ◌-◌, ◌^�
 use Rattle.std.proofs.Common.{arith, refl, ap, ap₂, ◌∙◌, sym, inl, inr, pow-suc}
 use Rattle.std.proofs.lemmas.List.{replicate-append-replicate}
 use Rattle.std.proofs.lemmas.Option.{get_or_from_slice_get, slice_get-get_or}
-use Rattle.jf_hash.specs.Slots.{Occupants, Empty, Lone, Many, with_leaf, occupants, occupants_hash, first_hash, range_hash}
+use Rattle.jf_hash.specs.Slots.{Occupants, Empty, Lone, Many, with_leaf, occupants, occupants_hash, first_child_hash, range_hash}
 use Rattle.jf_hash.specs.Ranges.{is_many, has_change, kept_hash, kept_within, pairs_within}
 use Rattle.jf_hash.specs.declared.slot.Slot.{Slot}
 use Rattle.jf_hash.specs.declared.slot.Slot.TheVariants as slot
@@ -69,19 +69,19 @@ pairs_within-few (suc level) slots changes few =
     not_here false b is = refl
 
 -- its hash is that of its first child
-first_hash-few : (slots : List Slot) (more : List ℕ) → is_many (occupants slots) ≡ false → first_hash slots ≡ occupants_hash (occupants slots) more
-first_hash-few [] more few = refl
-first_hash-few (slot.Absent ∷ slots) more few = first_hash-few slots more few
-first_hash-few (slot.Leaf hash ∷ slots) more few = ap (λ o. occupants_hash (with_leaf hash o) more) (sym (leaf_alone hash (occupants slots) few))
-first_hash-few (slot.Inner hash ∷ slots) more few = absurd cc
+first_child_hash-few : (slots : List Slot) (more : List ℕ) → is_many (occupants slots) ≡ false → first_child_hash slots ≡ occupants_hash (occupants slots) more
+first_child_hash-few [] more few = refl
+first_child_hash-few (slot.Absent ∷ slots) more few = first_child_hash-few slots more few
+first_child_hash-few (slot.Leaf hash ∷ slots) more few = ap (λ o. occupants_hash (with_leaf hash o) more) (sym (leaf_alone hash (occupants slots) few))
+first_child_hash-few (slot.Inner hash ∷ slots) more few = absurd cc
 
-pub range_hash-few : (level : ℕ) (slots : List Slot) → is_many (occupants slots) ≡ false → first_hash slots ≡ range_hash level slots
+pub range_hash-few : (level : ℕ) (slots : List Slot) → is_many (occupants slots) ≡ false → first_child_hash slots ≡ range_hash level slots
 unfolding range_hash
-range_hash-few zero slots few = first_hash-few slots _ few
-range_hash-few (suc level) slots few = first_hash-few slots _ few
+range_hash-few zero slots few = first_child_hash-few slots _ few
+range_hash-few (suc level) slots few = first_child_hash-few slots _ few
 
 -- ---- one place
-pub range_hash-place : (slots : List Slot) → length slots ≡ 1 → first_hash slots ≡ range_hash 0 slots
+pub range_hash-place : (slots : List Slot) → length slots ≡ 1 → first_child_hash slots ≡ range_hash 0 slots
 unfolding range_hash
 range_hash-place [] long = absurd (omega arith)
 range_hash-place (slot.Absent ∷ []) long = refl
@@ -122,7 +122,7 @@ hash-kept level slots kept hash are e = at level (ap last_of (sym are) ∙ e)
     at (suc level) e = some_kept (is_many (occupants slots)) hash (range_hash (suc level) slots) (whole_kept level slots (Some hash) e)
 
 pub hash-not_kept : (level : ℕ) (slots : List Slot) (kept : List (Option (List ℕ))) → length slots ≡ 2 ^ level → kept ≡ kept_within level slots
-    → (slice_get kept (length kept - 1) ≡ None) ⊎ (slice_get kept (length kept - 1) ≡ Some None) → first_hash slots ≡ range_hash level slots
+    → (slice_get kept (length kept - 1) ≡ None) ⊎ (slice_get kept (length kept - 1) ≡ Some None) → first_child_hash slots ≡ range_hash level slots
 hash-not_kept zero slots kept long are e = range_hash-place slots (long ∙ refl)
 hash-not_kept (suc level) slots kept long are e = elim e [
   | inl none ↦ absurd (no_last level slots (ap last_of (sym are) ∙ none))
@@ -131,14 +131,14 @@ hash-not_kept (suc level) slots kept long are e = elim e [
 
 -- ---- what is kept of a range that isn't hashed
 pub kept_within-cleared : (level n : ℕ) (slots : List Slot) → level ≤ 4 → n + 1 ≡ 2 ^ level → length slots ≡ 2 ^ level → (2 ^ level ≡ 1) ⊎ (is_many (occupants slots) ≡ false)
-    → (first_hash slots ≡ range_hash level slots) × (replicate n None ≡ kept_within level slots)
+    → (first_child_hash slots ≡ range_hash level slots) × (replicate n None ≡ kept_within level slots)
 unfolding kept_within
 kept_within-cleared level n slots small room long why = elim why [
   | inl one ↦ at_place level small room long one
   | inr few ↦ (range_hash-few level slots few, ap (λ k. replicate k None) (let e : n ≡ 2 ^ level - 1 = omega (arith, room) in e) ∙ sym (kept_within-few level slots few))
 ]
   where
-    at_place : (level : ℕ) → level ≤ 4 → n + 1 ≡ 2 ^ level → length slots ≡ 2 ^ level → 2 ^ level ≡ 1 → (first_hash slots ≡ range_hash level slots) × (replicate n None ≡ kept_within level slots)
+    at_place : (level : ℕ) → level ≤ 4 → n + 1 ≡ 2 ^ level → length slots ≡ 2 ^ level → 2 ^ level ≡ 1 → (first_child_hash slots ≡ range_hash level slots) × (replicate n None ≡ kept_within level slots)
     at_place zero small room long one = (range_hash-place slots (long ∙ refl), ap (λ k. replicate k None) (let e : n ≡ 0 = omega (arith, room) in e))
     at_place (suc level) small room long one = absurd (omega (arith, pow-suc 2 level, some_power level))
 

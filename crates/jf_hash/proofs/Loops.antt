@@ -1,24 +1,12 @@
 -- Lists that a loop makes place by place.
-use Rattle.std.specs.Prelude.{◌≡◌, ℕ, ◌+◌, ◌<◌, Option, Some, None, List, [], ◌∷◌, ◌++◌, length, replicate, map, take, get_or, set}
-use Rattle.std.proofs.Common.{arith, refl, ap, ap₂, ◌∙◌, sym, take_all}
-use Rattle.std.proofs.lemmas.List.{take_more, take_more_set, replicate-append-replicate, map-append, append-nil}
+use Rattle.std.specs.Prelude.{◌≡◌, ℕ, ◌+◌, ◌<◌, Option, Some, None, List, [], ◌∷◌, ◌++◌, length, take, get_or, set}
+use Rattle.std.proofs.Common.{refl, ap, ap₂, ◌∙◌, sym}
+use Rattle.std.proofs.lemmas.List.{take_more, take_more_set, append-nil}
 use Rattle.jf_path.specs.Bitmaps.{present}
 
 -- one more place is written
-pub more_mapped : {X Y : Type 0} (f : X → Y) (xs : List X) (ys : List Y) (i : ℕ) (d : X) (y : Y) → i < length xs → i < length ys → take i ys ≡ map f (take i xs) → y ≡ f (get_or xs i d)
-    → take (i + 1) (set ys i y) ≡ map f (take (i + 1) xs)
-more_mapped f xs ys i d y lt room so is =
-    take_more_set ys i y room ∙ ap₂ (λ zs z. zs ++ z ∷ []) so is ∙ sym (map-append f (take i xs) (get_or xs i d ∷ [])) ∙ ap (map f) (sym (take_more xs i d lt))
-
 pub more_copied : {X : Type 0} (xs ys : List X) (i : ℕ) (d y : X) → i < length xs → i < length ys → take i ys ≡ take i xs → y ≡ get_or xs i d → take (i + 1) (set ys i y) ≡ take (i + 1) xs
 more_copied xs ys i d y lt room so is = take_more_set ys i y room ∙ ap₂ (λ zs z. zs ++ z ∷ []) so is ∙ sym (take_more xs i d lt)
-
-pub more_cleared : {X : Type 0} (x : X) (ys : List X) (i : ℕ) → i < length ys → take i ys ≡ replicate i x → take (i + 1) (set ys i x) ≡ replicate (i + 1) x
-more_cleared x ys i room so = take_more_set ys i x room ∙ ap (λ zs. zs ++ x ∷ []) so ∙ replicate-append-replicate i 1 x
-
--- all places are written
-pub all_of : {X : Type 0} (n : ℕ) (xs ys : List X) → length xs ≡ n → take n xs ≡ ys → xs ≡ ys
-all_of n xs ys long is = sym (take_all n xs (omega (arith, long))) ∙ is
 
 -- one more item is there, or not
 present-append : {X : Type 0} (xs ys : List (Option X)) → present (xs ++ ys) ≡ present xs ++ present ys

@@ -68,11 +68,11 @@ place_hash (slot.Leaf hash ∷ slots) = hash
 place_hash (slot.Inner hash ∷ slots) = hash
 
 -- the hash of the first child of a list of places, or E without a child
-abbrev pub first_hash : List Slot → List ℕ
-first_hash [] = E
-first_hash (slot.Absent ∷ slots) = first_hash slots
-first_hash (slot.Leaf hash ∷ slots) = hash
-first_hash (slot.Inner hash ∷ slots) = hash
+abbrev pub first_child_hash : List Slot → List ℕ
+first_child_hash [] = E
+first_child_hash (slot.Absent ∷ slots) = first_child_hash slots
+first_child_hash (slot.Leaf hash ∷ slots) = hash
+first_child_hash (slot.Inner hash ∷ slots) = hash
 
 -- the hash of a range by what it holds: E for nothing, a lone leaf's own hash, and `more` for more
 abbrev pub occupants_hash : Occupants → List ℕ → List ℕ

@@ -1,7 +1,7 @@
 // The hashes that are kept of a node's ranges are brought up to date with its places, from the smallest range on.
 ghost use Rattle.std.specs.Prelude.{◌≡◌, ℕ, ◌+◌, ◌^◌, ◌≤◌, None, List, length, map, replicate, take, drop};
 ghost use Rattle.jf_hash.specs.Hashes.{N};
-ghost use Rattle.jf_hash.specs.Slots.{first_hash, is_occupied, holds_leaf, range_hash};
+ghost use Rattle.jf_hash.specs.Slots.{first_child_hash, is_occupied, holds_leaf, range_hash};
 ghost use Rattle.jf_hash.specs.Ranges.{Agree, kept_within, pairs_within};
 ghost use Rattle.jf_hash.specs.declared.slot.Slot.{Slot};
 
@@ -22,12 +22,12 @@ fn hash_pair<L: Ledger>(left: &Hash, right: &Hash, steps: &mut Steps<L>) -> Hash
 }
 
 // The hash of the first child of these places, or that of no entry without a child.
-fn first_hash(places: &[Slot]) -> Hash
-    ensures { result ≡ first_hash places.now }
+fn first_child_hash(places: &[Slot]) -> Hash
+    ensures { result ≡ first_child_hash places.now }
 {
     match places.split_first() {
         None => empty(),
-        Some((Slot::Absent, rest)) => first_hash(rest),
+        Some((Slot::Absent, rest)) => first_child_hash(rest),
         Some((Slot::Leaf(hash) | Slot::Inner(hash), _)) => *hash,
     }
 }
@@ -38,8 +38,8 @@ fn hash_in(places: &[Slot], kept: &[Option<Hash>]) -> Hash
 {
     match kept.last() {
         Some(Some(hash)) => *hash,
-        Some(None) => first_hash(places),
-        None => first_hash(places),
+        Some(None) => first_child_hash(places),
+        None => first_child_hash(places),
     }
 }
 
@@ -78,7 +78,7 @@ pub fn refresh<L: Ledger>(
     }
     if width == 1 || !occupied.is_many(start, width) {
         clear(kept);
-        return first_hash(places);
+        return first_child_hash(places);
     }
     let half = width / 2;
     let last = kept.len() - 1;

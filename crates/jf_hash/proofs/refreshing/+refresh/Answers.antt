@@ -1,5 +1,5 @@
 use Rattle.std.proofs.Common.{◌≡◌, ℕ, List, Option, Some, ◌+◌, ◌-◌, ◌/◌, ◌^◌, ◌<◌, ◌∙◌, sym, ap, ap₂, arith, inl, inr, length, take, drop}
-use Rattle.jf_hash.specs.Slots.{first_hash, range_hash}
+use Rattle.jf_hash.specs.Slots.{first_child_hash, range_hash}
 use Rattle.jf_hash.specs.Ranges.{kept_within, pairs_within}
 use Rattle.jf_hash.proofs.RangeLaws.{length-kept_within, pairs_within-none, pairs_within-one, pairs_within-halves}
 use Rattle.jf_hash.proofs.Halves.{halves, not_one, length-places, left_half, right_half, whole_range}
@@ -33,7 +33,7 @@ returns-then-width-eq1-clause-value g t c level olds small long at agree =
       | then-width-eq1-via-then-width-eq1 w ↦ inl (sym long ∙ w.if-width-eq1.true)
       | then-width-eq1-via-else-width-eq1+then-not-is_many w ↦ inr (sym (w.is_many.ensures c.args.slots.now c.requires.children c.requires.leaves) ∙ w.if-not-is_many.true)
     ]) in
-    (c.first_hash.ensures ∙ ap first_hash (whole_range c.args.start c.args.width c.args.slots.now) ∙ all.0, c.clear.ensures ∙ all.1)
+    (c.first_child_hash.ensures ∙ ap first_child_hash (whole_range c.args.start c.args.width c.args.slots.now) ∙ all.0, c.clear.ensures ∙ all.1)
 
 pub returns-then-width-eq1-clause-pairs : goal.returns-then-width-eq1-clause-pairs
 returns-then-width-eq1-clause-pairs g t c level small long =

@@ -8,8 +8,8 @@ returns-in-Some-Some c level small long are =
 
 pub returns-in-Some-None : goal.returns-in-Some-None
 returns-in-Some-None c level small long are =
-    c.first_hash.ensures ∙ hash-not_kept level c.args.places.now c.args.kept.now long are (inr (sym c.last.ensures.value ∙ ap option_copied c.in-Some-None.is ∙ ap Some c.in-Some-None.field-0-is))
+    c.first_child_hash.ensures ∙ hash-not_kept level c.args.places.now c.args.kept.now long are (inr (sym c.last.ensures.value ∙ ap option_copied c.in-Some-None.is ∙ ap Some c.in-Some-None.field-0-is))
 
 pub returns-in-None : goal.returns-in-None
 returns-in-None c level small long are =
-    c.first_hash-in-None.ensures ∙ hash-not_kept level c.args.places.now c.args.kept.now long are (inl (sym c.last.ensures.value ∙ ap option_copied c.in-None.is))
+    c.first_child_hash-in-None.ensures ∙ hash-not_kept level c.args.places.now c.args.kept.now long are (inl (sym c.last.ensures.value ∙ ap option_copied c.in-None.is))
