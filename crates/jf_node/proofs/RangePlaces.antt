@@ -136,10 +136,6 @@ several_places x start level depth d link inner small wide aligned within deep i
 pub among_is : (x : LinkValue) (start level d : ℕ) (es : Part) → d ≡ x.depth → es ≡ in_range x.depth start (2 ^ level) x.entries → record { depth = 4 * d + (4 - level); entries = es } ≡ among x start level
 among_is x start level d es deep is = ap₂ (λ k fs. record { depth = 4 * k + (4 - level); entries = fs }) deep is
 
--- a node that is no leaf has two entries or more
-pub two_of : (x : LinkValue) (n : ℕ) → IsLink x → n ≡ length x.entries → ¬ (n ≡ 1) → 2 ≤ length x.entries
-two_of x n link is more = omega (arith, link.entries.some)
-
 pub range_ends : (level start width : ℕ) → level ≤ 4 → start % 2 ^ level ≡ 0 → start < 16 → width ≡ 2 ^ level → start + width ≤ 16
 range_ends level start width small aligned within is = subst (λ w. start + w ≤ 16) (sym is) (fits_all level start small aligned within)
 
@@ -206,10 +202,6 @@ pub places_end : (depth start level width : ℕ) (place : Place) (link : Bor Lin
 places_end depth start level width place link h is wide =
     let p = placed depth place link start level h is in
     range_ends level start width p.narrow p.aligned p.within wide
-
--- a range over a leaf finds the keys that the leaf has
-pub find_leaf : (v : RangeValue) (depth : ℕ) (place : Place) (link : Bor LinkValue) (key : List ℕ) → range_value depth place ≡ v → place ≡ Leaf link → find key_cmp key link.now.entries ≡ find key_cmp key v.entries
-find_leaf v depth place link key seen is = ap (λ x. find key_cmp key x.entries) (sym (kept_as v depth place _ seen is))
 
 -- ---- counts
 pub same_count : (x : LinkValue) (links : List (Option LinkValue)) (start width : ℕ) → ShowsInner x links → joined (take width (drop start links)) ≡ in_range x.depth start width x.entries
