@@ -8,6 +8,7 @@ use jf_run::run_words::run_words;
 use jf_run::status::{Ended, Status};
 use std::fs::File;
 use std::io::ErrorKind;
+use std::mem::ManuallyDrop;
 use std::process::ExitCode;
 use std::rt::{Files, Runtime};
 use std::sync::Wait;
@@ -57,8 +58,9 @@ fn status_of_args<R: Runtime + Files<File = File> + AllocGlobal + Threads + Wait
     let Ended {
         status,
         disk: _,
-        entries: _,
+        entries,
         start: _,
+        memory,
     } = run_words(
         rt,
         rt.alloc(),
@@ -68,6 +70,8 @@ fn status_of_args<R: Runtime + Files<File = File> + AllocGlobal + Threads + Wait
         disk,
         &FreeGate,
     );
+    // The process ends now, and the system takes all of its memory at once.
+    let _ = ManuallyDrop::new((entries, memory));
     status
 }
 

@@ -113,6 +113,7 @@ fn unpacked<D: Disk + Drop>(
         disk,
         entries,
         start,
+        memory: _,
     } = Box::into_inner(ended);
     Ok(Played {
         disk: Box::new(alloc, disk)?,

@@ -79,6 +79,7 @@ pub fn run_words<S: Source, K: Sink, D: Disk, H: Threads + Wait + Sync, G: Gate>
                 disk,
                 entries: Ledger::new(alloc),
                 start: None,
+                memory: None,
             };
         }
         Err(_) => {
@@ -87,6 +88,7 @@ pub fn run_words<S: Source, K: Sink, D: Disk, H: Threads + Wait + Sync, G: Gate>
                 disk,
                 entries: Ledger::new(alloc),
                 start: None,
+                memory: None,
             };
         }
         Ok(Some(Mode::Verify)) => {
@@ -96,6 +98,7 @@ pub fn run_words<S: Source, K: Sink, D: Disk, H: Threads + Wait + Sync, G: Gate>
                 disk,
                 entries: Ledger::new(alloc),
                 start: None,
+                memory: None,
             };
         }
     };
@@ -109,16 +112,23 @@ pub fn run_words<S: Source, K: Sink, D: Disk, H: Threads + Wait + Sync, G: Gate>
                 disk,
                 entries: Ledger::new(alloc),
                 start: None,
+                memory: None,
             };
         }
     };
     session.know_dated();
     let head = session.head();
-    let SoloRan { disk, entries, end } = run(rt, alloc, session, source, sink, workers, gate);
+    let SoloRan {
+        disk,
+        entries,
+        end,
+        memory,
+    } = run(rt, alloc, session, source, sink, workers, gate);
     Ended {
         status: Status::of_end(end),
         disk,
         entries,
         start: Some(head),
+        memory: Some(memory),
     }
 }

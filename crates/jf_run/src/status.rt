@@ -3,7 +3,7 @@ ghost use Rattle.std.specs.Prelude.{◌≡◌};
 ghost use Rattle.jf_run.specs.Commands.{code_of, status_of, status_of_verified, status_of_refusal};
 
 use jf_disk::Side;
-use jf_engine::OpenFault;
+use jf_engine::{OpenFault, StoreMemory};
 use jf_model::Ledger;
 use jf_session::End;
 use jf_verify::Verified;
@@ -29,13 +29,14 @@ pub enum Status {
 }
 
 /// What a call of the program hands back: how it ended, the disk, the entries of its ledger, and the newest version
-/// when the store was opened, or `None` if no store was opened.
+/// when the store was opened and what the store has in memory, or `None` if no store was opened.
 #[derive(Drop)]
 pub struct Ended<D> {
     pub status: Status,
     pub disk: D,
     pub entries: Ledger,
     pub start: Option<u64>,
+    pub memory: Option<StoreMemory>,
 }
 
 impl Status {

@@ -8,6 +8,7 @@ use crate::session::Session;
 use crate::stop::Stop;
 use crate::taking::{Taking, answer_line};
 use jf_disk::Disk;
+use jf_engine::StoreMemory;
 use jf_input::{Feeding, feed};
 use jf_io::{Sink, Source};
 use jf_join::Gate;
@@ -33,11 +34,13 @@ pub enum End {
     Memory,
 }
 
-/// What a run over a script hands back: the disk, the entries that it made, in order, and how it ended.
+/// What a run over a script hands back: the disk, the entries that it made, in order, how it ended, and what its store
+/// has in memory.
 pub struct SoloRan<D> {
     pub disk: D,
     pub entries: Ledger,
     pub end: End,
+    pub memory: StoreMemory,
 }
 
 /// Answers the lines of a script (docs/FORMATS.md) from a source into a sink: each reply is written before the next line
@@ -68,8 +71,13 @@ pub fn run<S: Source, K: Sink, D: Disk, H: Threads + Sync, G: Gate>(
     let mut taking = Taking { session, step };
     let end = end_of_feeding(feed(alloc, &mut taking, source, sink));
     let Taking { session, step: _ } = taking;
-    let (disk, entries) = session.end();
-    SoloRan { disk, entries, end }
+    let (disk, entries, memory) = session.end();
+    SoloRan {
+        disk,
+        entries,
+        end,
+        memory,
+    }
 }
 
 // How a run ended.

@@ -18,7 +18,7 @@ ghost use Rattle.jf_script.specs.Bounds.{IsBoundedCommand};
 use crate::answer::write_answer;
 use crate::stop::Stop;
 use jf_disk::Disk;
-use jf_engine::{Engine, EngineFault, Landed, OpenRefused};
+use jf_engine::{Engine, EngineFault, Landed, OpenRefused, StoreMemory};
 use jf_hash::key_of;
 use jf_join::Gate;
 use jf_model::{Entry, Landing, Ledger};
@@ -144,8 +144,9 @@ impl<D: Disk> Session<D> {
         }
     }
 
-    /// Ends the session, and hands back its disk and its entries. What is pending is dropped.
-    pub fn end(self) -> (D, Ledger)
+    /// Ends the session, and hands back its disk, its entries and what its store has in memory. What is pending is
+    /// dropped.
+    pub fn end(self) -> (D, Ledger, StoreMemory)
         ensures history { D.history result.0 ≡ self.history }
         ensures moment { D.moment result.0 ≡ self.moment }
         ensures faults { D.faults result.0 ≡ self.faults }
@@ -157,7 +158,8 @@ impl<D: Disk> Session<D> {
             pending: _,
             over: _,
         } = self;
-        (engine.into_disk(), Ledger::of(entries))
+        let (disk, memory) = engine.into_parts();
+        (disk, Ledger::of(entries), memory)
     }
 
     /// What holds of every session, for proofs: the history has a state for each moment.
