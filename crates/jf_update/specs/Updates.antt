@@ -41,6 +41,10 @@ pub record IsNextSnapshot (head : SnapshotValue) (b : Batch) (s : SnapshotValue)
   pub versions : (path : Path) → IsTrue (is_node 0 path (entries (apply head.map b)))
       → snapshot_version_at path s ≡ (if is_fresh (entries head.map) (entries (apply head.map b)) path then Some (head.version + 1) else snapshot_version_at path head)
 
+-- new is the snapshot after some changes of the old one
+abbrev pub IsNextOf : SnapshotValue → SnapshotValue → Type 0
+IsNextOf old new = (b : Batch) × IsNextSnapshot old b new
+
 -- u is the update of the snapshot by the batch: the map after the batch as the next version, its root, the nodes that
 -- are written and the names of those that are stale; each node that isn't fresh keeps its version; and a batch of n
 -- keys writes at most 66 n + 1 nodes
