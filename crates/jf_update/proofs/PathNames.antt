@@ -1,5 +1,5 @@
 -- Names made of rising paths rise.
-use Rattle.std.proofs.Common.{ℕ, ◌≡◌, ◌-◌, map, sym, ap₂, ◌∙◌, T, true, ap, Less, is_lt, List, [], ◌∷◌, refl, IsTrue, inl, inr, subst, false, Equal, Greater, Ordering, is_eq, nat_cmp}
+use Rattle.std.proofs.Common.{ℕ, ◌≡◌, map, sym, ap₂, ◌∙◌, T, true, ap, Less, is_lt, List, [], ◌∷◌, refl, IsTrue, subst, false, Equal, Greater, Ordering, is_eq, nat_cmp}
 use Rattle.std.proofs.lemmas.Cmp.{nat_cmp_total}
 use Rattle.std.specs.Cmp.{tied_itself}
 use Rattle.std.specs.FinMap.{is_sorted}

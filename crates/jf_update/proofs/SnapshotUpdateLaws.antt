@@ -34,7 +34,7 @@ use Rattle.jf_node.proofs.SnapshotLaws.{entries-snapshot_of}
 use Rattle.jf_update.specs.Made.{IsAtDepth, IsOfVersion}
 use Rattle.jf_update.specs.TopUpdates.{NoneNewer, IsNextTop, IsFreshUnder, IsStaleUnder, WasLanded, old_name}
 use Rattle.jf_update.specs.Outcomes.{AreParts, AreShort}
-use Rattle.jf_update.specs.Updates.{version_in, written_node_in, written_nodes, stale_names_in, IsNextSnapshot, IsNextOf, IsUpdate}
+use Rattle.jf_update.specs.Updates.{version_in, written_node_in, written_nodes, stale_names_in, IsNextSnapshot, IsNextOf, IsFreshCount, IsUpdate}
 use Rattle.jf_update.specs.Plains.{fresh_under}
 
 -- ---- what holds of the top of a snapshot
@@ -145,7 +145,7 @@ older_than : (old new : SnapshotValue) (path : Path) → IsSnapshot old → IsNe
 older_than old new path sound next e = let le = sound.newest path new.version e in omega (arith, le, next.1.version)
 
 -- the top of the next snapshot stands where the entries of the old one stood
-pub fresh_top : (old new : SnapshotValue) (top : Option LinkValue) → IsSnapshot old → IsTopOf new top → IsNextOf old new → IsFreshUnder new.version (entries old.map) (λ p. snapshot_version_at p old) top
+fresh_top : (old new : SnapshotValue) (top : Option LinkValue) → IsSnapshot old → IsTopOf new top → IsNextOf old new → IsFreshUnder new.version (entries old.map) (λ p. snapshot_version_at p old) top
 fresh_top old new top sound is next = under top (top_placed new.version top is.top) (λ n p. moved new.version _ _ _ _ _ _ _ _ (below_next old new n p next) refl (ap (sub 0 (n ∷ p)) (sym is.same)) refl (version_top new top n p is))
   where
     under : (top : Option LinkValue) → IsAtDepth 0 top
@@ -180,12 +180,12 @@ pub sorted_top : (s : SnapshotValue) (top : Option LinkValue) → IsTopOf s top 
 sorted_top s top is = subst (λ es. T (is_sorted key_cmp es)) is.same (fin.entries_sorted s.map)
 
 -- what is listed from the top down are the nodes that the landing wrote
-pub listed_written : (old new : SnapshotValue) (top : Option LinkValue) (nodes : List (NodeName × PlainNode)) → IsTopOf new top → nodes ≡ with_root (entries old.map) (content top) (fresh_under new.version top) → nodes ≡ written_nodes old.map new.map new
+listed_written : (old new : SnapshotValue) (top : Option LinkValue) (nodes : List (NodeName × PlainNode)) → IsTopOf new top → nodes ≡ with_root (entries old.map) (content top) (fresh_under new.version top) → nodes ≡ written_nodes old.map new.map new
 listed_written old new top nodes is at =
     at ∙ ap (λ es. with_root (entries old.map) es (fresh_under new.version top)) (sym is.same) ∙ written_all new.version top old.map new.map (sym is.same) (top_placed new.version top is.top) ∙ ap (written_nodes old.map new.map) (sym is.value)
 
 -- and the names of those that it made stale
-pub listed_stale : (old new : SnapshotValue) (was top : Option LinkValue) (names : List NodeName) → IsTopOf old was → IsTopOf new top → IsPermutation (with_root (content top) (content was) (old_name old.version was)) names → IsPermutation (stale_names_in old.map new.map old) names
+listed_stale : (old new : SnapshotValue) (was top : Option LinkValue) (names : List NodeName) → IsTopOf old was → IsTopOf new top → IsPermutation (with_root (content top) (content was) (old_name old.version was)) names → IsPermutation (stale_names_in old.map new.map old) names
 listed_stale old new was top names at is moved = subst (λ ns. IsPermutation ns names)
     (ap₂ (λ a c. with_root a c (old_name old.version was)) (sym is.same) (sym at.same) ∙ with_root-fresh new.map old.map (old_name old.version was) ∙ ap (stale_names_in old.map new.map) (sym at.value)) moved
 
@@ -200,17 +200,20 @@ pub landed_names : (old new : SnapshotValue) (was top : Option LinkValue) (head 
     → IsPermutation (with_root (content top) (content was) (old_name head was)) names → IsPermutation (stale_names_in old.map new.map old) names
 landed_names old new was top head names at is own moved = listed_stale old new was top names at is (subst (λ h. IsPermutation (with_root (content top) (content was) (old_name h was)) names) own moved)
 
+-- a batch of n keys writes at most 66 n + 1 nodes
+pub written_count : (old new : SnapshotValue) (nodes : List (NodeName × PlainNode)) → IsSnapshot old → nodes ≡ written_nodes old.map new.map new → IsFreshCount old new (length nodes)
+written_count old new nodes sound is b batch next =
+    omega (arith, ap length is, length-map (fresh old.map new.map) (written_node_in new), ap (λ m. length (fresh old.map m)) next.map, length-fresh old.map b sound.map batch)
+
 -- the next snapshot, with what its landing wrote and made stale
-pub updated : (head : SnapshotValue) (b : Batch) (u : Update) → IsSnapshot head → IsBatch b → IsNextSnapshot head b u.snapshot → u.root ≡ root u.snapshot.map
-    → u.fresh ≡ written_nodes head.map u.snapshot.map u.snapshot → IsPermutation (stale_names_in head.map u.snapshot.map head) u.stale → IsUpdate head b u
-updated head b u sound batch next rooted fresh_is stale_is =
-    let nodes : u.fresh ≡ written_nodes head.map (apply head.map b) u.snapshot = fresh_is ∙ ap (λ m. written_nodes head.map m u.snapshot) next.map in
-    record {
-      map = next.map;
-      version = next.version;
-      root = rooted ∙ ap root next.map;
-      fresh = nodes;
-      stale = subst (λ m. IsPermutation (stale_names_in head.map m head) u.stale) next.map stale_is;
-      versions = next.versions;
-      bound = omega (arith, ap length nodes, length-map (fresh head.map (apply head.map b)) (written_node_in u.snapshot), length-fresh head.map b sound.map batch);
-    }
+pub updated : (head : SnapshotValue) (b : Batch) (u : Update) → IsBatch b → IsNextSnapshot head b u.snapshot → u.root ≡ root u.snapshot.map
+    → u.fresh ≡ written_nodes head.map u.snapshot.map u.snapshot → IsPermutation (stale_names_in head.map u.snapshot.map head) u.stale → IsFreshCount head u.snapshot (length u.fresh) → IsUpdate head b u
+updated head b u batch next rooted fresh_is stale_is bound = record {
+  map = next.map;
+  version = next.version;
+  root = rooted ∙ ap root next.map;
+  fresh = fresh_is ∙ ap (λ m. written_nodes head.map m u.snapshot) next.map;
+  stale = subst (λ m. IsPermutation (stale_names_in head.map m head) u.stale) next.map stale_is;
+  versions = next.versions;
+  bound = bound b batch next;
+}

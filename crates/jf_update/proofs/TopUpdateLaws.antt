@@ -1,5 +1,5 @@
 -- The update of a top, from the update of its node.
-use Rattle.std.proofs.Common.{Result, Ok, Err, IfOk, ◌≡◌, ℕ, ◌+◌, ◌-◌, List, [], ◌++◌, map, sym, ap, subst, Option, Some, IsTrue, ◌∷◌, ◌∙◌, None, T, ◌≤◌, arith, refl, ap₂, inl, inr}
+use Rattle.std.proofs.Common.{Result, Ok, Err, IfOk, ◌≡◌, ℕ, ◌+◌, List, [], ◌++◌, map, sym, ap, subst, Option, Some, IsTrue, ◌∷◌, ◌∙◌, None, T, ◌≤◌, arith, inl, inr}
 use Rattle.std.proofs.lemmas.List.Sorted.{IsPermutation-refl}
 use Rattle.std.specs.FinMap.{is_sorted}
 use Rattle.std.specs.List.{IsDistinct}
@@ -14,11 +14,10 @@ use Rattle.jf_path.specs.declared.node.PlainNode.TheVariants as node
 use Rattle.jf_hash.specs.Slots.{Part}
 use Rattle.jf_hash.specs.Maps.{Batch}
 use Rattle.jf_model.specs.Nodes.{Path, is_node}
-use Rattle.jf_model.specs.Walk.{listed, with_root}
+use Rattle.jf_model.specs.Walk.{with_root}
 use Rattle.jf_model.specs.Changes.{applied}
 use Rattle.jf_model.specs.ChildEntries.{sub}
 use Rattle.jf_model.specs.NodeVersions.{VersionsFollow}
-use Rattle.jf_model.proofs.ChangeLaws.{sorted-applied}
 use Rattle.jf_walk.proofs.WalkLaws.{with_root-gone}
 use Rattle.jf_walk.proofs.ChildEntryLaws.{sub-none}
 use Rattle.jf_walk.proofs.SameParts.{same_or_other, some_entry, not_empty}
@@ -33,7 +32,7 @@ use Rattle.jf_update.specs.Plains.{fresh_below, WouldRise, fresh_under, plain_at
 use Rattle.jf_update.specs.TopUpdates.{IsFreshUnder, WasLanded, old_name, IsStaleUnder, NoneNewer, IsNextTop}
 use Rattle.jf_update.specs.Below.{IsFreshBelow, IsStaleBelow, from_node, name_below}
 use Rattle.jf_update.specs.Updates.{version_or, version_in}
-use Rattle.jf_update.specs.Outcomes.{IsNodeUpdate, IsOutcome, AreParts}
+use Rattle.jf_update.specs.Outcomes.{IsNodeUpdate, IsOutcome}
 use Rattle.jf_update.specs.declared.outcome.Outcome.TheVariants.{New}
 use Rattle.jf_update.proofs.Walks.{with_root-from_node}
 use Rattle.jf_update.proofs.PathNames.{name_of_path, rise_from, distinct_walk}

@@ -1,9 +1,9 @@
 // The update of a snapshot: the public calls of this crate.
-ghost use Rattle.std.specs.Prelude.{◌≡◌, ◌-◌, ◌^◌, ◌<◌, ◌≤◌, IfOk};
+ghost use Rattle.std.specs.Prelude.{◌≡◌, ◌-◌, ◌^◌, ◌<◌, ◌≤◌, length, IfOk};
 ghost use Rattle.std.specs.List.Sorted.{IsPermutation};
 ghost use Rattle.jf_hash.specs.Maps.{IsBatch};
 ghost use Rattle.jf_update.specs.Outcomes.{AreShort};
-ghost use Rattle.jf_update.specs.Updates.{IsNextSnapshot, IsNextOf, IsUpdate, written_nodes, stale_names_in};
+ghost use Rattle.jf_update.specs.Updates.{IsNextSnapshot, IsNextOf, IsFreshCount, IsUpdate, written_nodes, stale_names_in};
 ghost use Rattle.jf_update.specs.ValueHashes.{AreValueHashes};
 
 use crate::hashing::value_hashes;
@@ -52,6 +52,7 @@ pub fn written(alloc: Global, old: &Snapshot, new: &Snapshot) -> Result<Written,
     requires next { IsNextOf old.now new.now }
     ensures fresh { IfOk result (λ w. w.fresh ≡ written_nodes old.now.map new.now.map new.now) }
     ensures stale { IfOk result (λ w. IsPermutation (stale_names_in old.now.map new.now.map old.now) w.stale) }
+    ensures bound { IfOk result (λ w. IsFreshCount old.now new.now (length w.fresh)) }
 {
     old.know();
     let fresh = fresh_of(alloc, new.top(), new.version())?;
@@ -73,7 +74,6 @@ pub fn update<H: Threads + Sync, G: Gate>(
     requires bounded { workers ≤ 64 }
     ensures { IfOk result (IsUpdate head.now batch.now) }
 {
-    head.know();
     let entries = batch.as_slice();
     let hashes = value_hashes(rt, alloc, entries, workers)?;
     let snapshot = advance(rt, alloc, head, entries, &hashes, workers, gate)?;

@@ -1,9 +1,8 @@
-use Rattle.std.proofs.Common.{◌≡◌, ◌-◌, ◌++◌, ◌∷◌, [], Some, arith, sym, ap, ap₂, ◌∙◌, append-nil, append_assoc}
+use Rattle.std.proofs.Common.{◌≡◌, ◌++◌, ◌∷◌, [], Some, arith, sym, ap, ap₂, ◌∙◌, append-nil, append_assoc}
 use Rattle.std.specs.Option.{option_copied}
 use Rattle.jf_path.specs.declared.name.NodeName.{NodeName}
 use Rattle.jf_node.specs.Children.{content}
-use Rattle.jf_model.specs.Walk.{listed}
-use Rattle.jf_walk.proofs.WalkLaws.{listed_to, listed-same, listed-node, listed_to-none, listed_to-past, listed_to-child}
+use Rattle.jf_walk.proofs.WalkLaws.{listed_to, listed_to-none, listed_to-past, listed_to-child}
 use Rattle.jf_update.specs.Updates.{version_or}
 use Rattle.jf_update.specs.Below.{IsBelow, name_below}
 use Rattle.jf_update.proofs.Walks.{stale_listed, from_node-listed_to, tells_kept, tells_new, stale_child, child_in_entries, child_in_sound, child_entries_none, child_entries_some}

@@ -16,5 +16,5 @@ written-requires g c = record { next = (c.as_slice-entries.result.now, c.in_ok-s
 
 pub returns : goal.returns
 returns g c =
-    updated c.args.head.now c.args.batch.now _ c.know.ensures c.as_slice-entries.ensures.sound (subst (λ b. IsNextSnapshot c.args.head.now b c.in_ok-snapshot.snapshot) c.as_slice-entries.ensures.entries c.in_ok-snapshot.ensures) c.root.ensures
-    c.in_ok-fresh.ensures.fresh c.in_ok-fresh.ensures.stale
+    updated c.args.head.now c.args.batch.now _ c.as_slice-entries.ensures.sound (subst (λ b. IsNextSnapshot c.args.head.now b c.in_ok-snapshot.snapshot) c.as_slice-entries.ensures.entries c.in_ok-snapshot.ensures) c.root.ensures
+    c.in_ok-fresh.ensures.fresh c.in_ok-fresh.ensures.stale c.in_ok-fresh.ensures.bound

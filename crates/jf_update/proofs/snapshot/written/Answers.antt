@@ -2,7 +2,7 @@ use Rattle.std.proofs.Common.{subst, sym}
 use Rattle.std.specs.Option.{option_copied}
 use Rattle.jf_update.specs.Made.{IsOfVersion}
 use Rattle.jf_update.specs.TopUpdates.{IsStaleUnder, WasLanded}
-use Rattle.jf_update.proofs.SnapshotUpdateLaws.{top_placed, top_own, was_landed, stale_top, sorted_top, landed_nodes, landed_names}
+use Rattle.jf_update.proofs.SnapshotUpdateLaws.{top_placed, top_own, was_landed, stale_top, sorted_top, landed_nodes, landed_names, written_count}
 use Rattle.jf_update.proofs.snapshot.written.Goals as goal
 
 pub fresh_of-requires-clause-top : goal.fresh_of-requires-clause-top
@@ -36,3 +36,7 @@ returns-clause-fresh c = landed_nodes c.args.old.now c.args.new.now (option_copi
 
 pub returns-clause-stale : goal.returns-clause-stale
 returns-clause-stale c = landed_names c.args.old.now c.args.new.now (option_copied c.top-2.result) (option_copied c.top-3.result) c.version-2.result _ c.top-2.ensures c.top-3.ensures c.version-2.ensures c.in_ok-stale.ensures
+
+pub returns-clause-bound : goal.returns-clause-bound
+returns-clause-bound c =
+    written_count c.args.old.now c.args.new.now _ c.know.ensures (landed_nodes c.args.old.now c.args.new.now (option_copied c.top.result) c.version.result _ c.know.ensures c.top.ensures c.requires.next c.version.ensures c.in_ok-fresh.ensures)
