@@ -68,10 +68,7 @@ fn have_same_names(some: &[(NodeName, PlainNode)], others: &[(NodeName, PlainNod
 
 fn are_same(update: &Update, landed: &Landed) -> bool {
     update.root == landed.snapshot.root()
-        && have_same_names(
-            update.fresh.as_slice(),
-            landed.lists.fresh.as_slice(),
-        )
+        && have_same_names(update.fresh.as_slice(), landed.lists.fresh.as_slice())
         && update.stale.as_slice() == landed.lists.stale.as_slice()
 }
 
