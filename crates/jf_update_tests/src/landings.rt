@@ -89,7 +89,7 @@ const OF_TWO_VERSIONS: &[Landing] = &[
     ),
 ];
 
-fn batch_of(alloc: Global, changes: &[Change]) -> Result<Batch, Fail> {
+pub(crate) fn batch_of(alloc: Global, changes: &[Change]) -> Result<Batch, Fail> {
     let mut batch = Batch::new(alloc);
     for (key, byte) in changes {
         match byte {

@@ -10,4 +10,6 @@ mod restoring;
 #[cfg(test)]
 mod roots;
 #[cfg(test)]
+mod two_calls;
+#[cfg(test)]
 mod versions;
