@@ -1,14 +1,16 @@
 -- The entries in a range of places are those of the children there.
 use Rattle.std.specs.Prelude.{◌≡◌, ◌<◌, ◌≤◌, ◌+◌, ℕ, true, false, cond, List, [], ◌∷◌, Bool, Option, Some, None, ◌++◌, zero, suc, take, drop, length}
-use Rattle.std.proofs.Common.{arith, refl, ap₂, ◌∙◌, ap, sym, get_or, append-nil}
+use Rattle.std.proofs.Common.{arith, refl, ap₂, ◌∙◌, ap, sym, get_or, append-nil, add-one, length-drop}
+use Rattle.std.proofs.Math.Seq.{take-suc}
 use Rattle.std.proofs.lemmas.Bool.Decides.{nat_tests}
-use Rattle.std.proofs.lemmas.List.{drop_more}
+use Rattle.std.proofs.lemmas.List.{drop_more, get_or-drop}
 use Rattle.std.proofs.lemmas.List.Elements.{filter-append}
 use Rattle.jf_path.specs.Nibbles.{nibble}
 use Rattle.jf_hash.specs.Ranges.{lies_in, in_range}
 use Rattle.jf_hash.specs.Slots.{Part}
 use Rattle.jf_node.specs.Children.{HaveNibble, content, FitsAt, joined, FitFrom}
 use Rattle.jf_node.specs.LinkValue.{LinkValue}
+use Rattle.jf_node.proofs.ChildLaws.{joined-append}
 
 -- ---- one child
 lies : (start width n : ℕ) → start ≤ n → n < start + width → lies_in start width n ≡ true
@@ -68,3 +70,13 @@ in_range-joined depth start width links fit = further_on depth start width 0 sta
 pub one_place : (depth n : ℕ) (links : List (Option LinkValue)) → FitFrom depth 0 links → n < length links → in_range depth n 1 (joined links) ≡ content (get_or links n None)
 one_place depth n links fit small =
     in_range-joined depth n 1 links fit ∙ ap (λ xs. joined (take 1 xs)) (drop_more links n None small) ∙ append-nil (content (get_or links n None))
+
+-- ---- the children from a place on, one by one
+-- one more child
+pub joined-more : (links : List (Option LinkValue)) (start i : ℕ) (child : Option LinkValue) → start + i < length links → child ≡ get_or links (start + i) None
+    → joined (take (i + 1) (drop start links)) ≡ joined (take i (drop start links)) ++ content child
+joined-more links start i child small is =
+    let front = take i (drop start links) in
+    ap (λ k. joined (take k (drop start links))) (add-one i) ∙ ap joined (take-suc (drop start links) i None (omega (arith, length-drop start links)))
+    ∙ joined-append front (get_or (drop start links) i None ∷ []) ∙ ap (λ r. joined front ++ r) (append-nil (content (get_or (drop start links) i None)))
+    ∙ ap (λ x. joined front ++ content x) (get_or-drop start links i None ∙ sym is)
