@@ -35,8 +35,8 @@ const REFUSED: &[&[u64]] = &[
 
 // The snapshot of version 2, made by two landings.
 fn landed<H: Threads + Sync>(rt: &H, alloc: Global) -> Result<Box<Update>, Fail> {
-    let first = next(rt, alloc, &Snapshot::empty(0), FIRST)?;
-    next(rt, alloc, &first.snapshot, SECOND)
+    let first = next(rt, alloc, &Snapshot::empty(0), FIRST, 1)?;
+    next(rt, alloc, &first.snapshot, SECOND, 1)
 }
 
 // Appends the versions of the nodes from a link down, in the order of their paths.
