@@ -1,5 +1,5 @@
 -- What changes leave where one leaf stood, or nothing.
-use Rattle.std.specs.Prelude.{◌≡◌, ℕ, ◌+◌, ◌<◌, ◌≤◌, List, [], ◌∷◌, length, take, slice_index_or, IsSome}
+use Rattle.std.specs.Prelude.{◌≡◌, ℕ, ◌+◌, ◌<◌, ◌≤◌, [], ◌∷◌, length, take, slice_index_or, IsSome}
 use Rattle.jf_path.specs.Limits.{max_value}
 use Rattle.jf_hash.specs.Hashes.{V}
 use Rattle.jf_hash.specs.Maps.{Batch}

@@ -13,6 +13,8 @@ use std::thread::Threads;
 // The byte that a key is made of, and the byte put as its value, or None if the key is removed.
 type Change = (u8, Option<u8>);
 
+const WORKERS: &[u64] = &[1, 2, 7, 64];
+
 const LOW: u8 = 0x10;
 
 // Its key has only the first nibble of that of `LOW`.
@@ -114,12 +116,13 @@ fn next<H: Threads + Sync>(
     alloc: Global,
     head: &Snapshot,
     changes: &[Change],
+    workers: u64,
 ) -> Result<Box<Update>, Fail> {
-    if head.version() >= 9 {
-        return Err(Fail::new("too many versions"));
+    if head.version() >= 9 || workers == 0 || workers > 64 {
+        return Err(Fail::new("too many versions, or no number of workers"));
     }
     let batch = batch_of(alloc, changes)?;
-    let landed = update(rt, alloc, head, &batch, 1, &FreeGate)?;
+    let landed = update(rt, alloc, head, &batch, workers, &FreeGate)?;
     Ok(Box::new(alloc, landed)?)
 }
 
@@ -159,8 +162,9 @@ fn lands<H: Threads + Sync>(
     alloc: Global,
     head: &mut Snapshot,
     landing: &Landing,
+    workers: u64,
 ) -> Result<bool, Fail> {
-    let update = next(rt, alloc, head, landing.0)?;
+    let update = next(rt, alloc, head, landing.0, workers)?;
     let entries = hashed(alloc, landing.1)?;
     let same = has_map(&update, &entries)
         && are_written(update.fresh.as_slice(), landing.2)
@@ -170,14 +174,28 @@ fn lands<H: Threads + Sync>(
 }
 
 // How many landings, one after another from an empty map, come out as expected before the first that doesn't.
-fn land_so<H: Threads + Sync>(rt: &H, alloc: Global, landings: &[Landing]) -> Result<usize, Fail> {
+fn land_by<H: Threads + Sync>(
+    rt: &H,
+    alloc: Global,
+    landings: &[Landing],
+    workers: u64,
+) -> Result<usize, Fail> {
     let mut head = Snapshot::empty(0);
     for (i, landing) in landings.iter().enumerate() {
-        if !lands(rt, alloc, &mut head, landing)? {
+        if !lands(rt, alloc, &mut head, landing, workers)? {
             return Ok(i);
         }
     }
     Ok(landings.len())
+}
+
+// The least that `land_by` returns for these numbers of workers.
+fn land_so<H: Threads + Sync>(rt: &H, alloc: Global, landings: &[Landing]) -> Result<usize, Fail> {
+    let mut least = landings.len();
+    for workers in WORKERS {
+        least = least.min(land_by(rt, alloc, landings, *workers)?);
+    }
+    Ok(least)
 }
 
 #[test]

@@ -1,8 +1,8 @@
-use Rattle.std.proofs.Common.{arith, rules, ◌≡◌, ◌<◌, ◌≤◌, ◌+◌, ◌-◌, length, length-drop, sym, ap, ◌∙◌, subst, take, drop, set}
+use Rattle.std.proofs.Common.{arith, rules, ◌≡◌, ◌<◌, ◌+◌, ◌-◌, length, length-drop, sym, ap, ◌∙◌, subst, take, drop, set}
 use Rattle.std.specs.Option.{option_copied}
-use Rattle.jf_hash.specs.Slots.{Part, with_nibble}
+use Rattle.jf_hash.specs.Slots.{with_nibble}
 use Rattle.jf_model.specs.Changes.{applied}
-use Rattle.jf_model.specs.Parts.{IsPartUnder, IsPieceEnd}
+use Rattle.jf_model.specs.Parts.{IsPieceEnd}
 use Rattle.jf_node.specs.Children.{content, leaf_value}
 use Rattle.jf_node.specs.LinkFacts.{BeginAlike}
 use Rattle.jf_path.proofs.ListLaws.{take-rest}

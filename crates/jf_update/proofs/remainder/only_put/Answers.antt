@@ -1,5 +1,4 @@
-use Rattle.std.proofs.Common.{arith, sym, ap, ◌∙◌, subst, suc, ◌+◌, ◌≡◌}
-use Rattle.jf_update.specs.Remainders.{IsFirstPut}
+use Rattle.std.proofs.Common.{arith}
 use Rattle.jf_update.proofs.RemainderLaws.{hashes_long, only_is, two_puts, short_at, hashed_at}
 use Rattle.jf_update.proofs.remainder.only_put.Goals as goal
 

@@ -1,4 +1,4 @@
-use Rattle.std.proofs.Common.{ap, subst, sym}
+use Rattle.std.proofs.Common.{ap}
 use Rattle.std.specs.Option.{option_copied}
 use Rattle.jf_update.proofs.TopUpdateLaws.{next_none, next_renewed}
 use Rattle.jf_update.proofs.top.renewed_top.Goals as goal
