@@ -7,3 +7,4 @@ pub mod Walks
 pub mod PathNames
 pub mod TopUpdateLaws
 pub mod SnapshotUpdateLaws
+pub mod WideLaws

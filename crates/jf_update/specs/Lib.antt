@@ -6,3 +6,4 @@ pub mod Below
 pub mod Plains
 pub mod TopUpdates
 pub mod ValueHashes
+pub mod Wide

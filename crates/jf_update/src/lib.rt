@@ -14,6 +14,7 @@ mod remainder;
 mod snapshot;
 mod sorted;
 mod top;
+mod wide;
 
 pub use hashing::value_hashes;
 pub use jf_node::Update;

@@ -98,7 +98,7 @@ pub(crate) fn update_node(
 }
 
 /// Puts the outcome for a child in its place, and notes whether it is new.
-fn place(made: &mut NewChildren, n: Nibble, outcome: Outcome)
+pub(crate) fn place(made: &mut NewChildren, n: Nibble, outcome: Outcome)
     ensures { IsOutcomePlaced made.old n outcome made.new }
 {
     if let Outcome::New(child) = outcome {
@@ -109,7 +109,7 @@ fn place(made: &mut NewChildren, n: Nibble, outcome: Outcome)
 
 /// Updates the children of a node. Returns `None` if none of them changes.
 #[cycle(node)]
-fn update_children(
+pub(crate) fn update_children(
     alloc: Global,
     children: &Sixteen,
     entries: &[(Key, Option<SharedBytes>)],
