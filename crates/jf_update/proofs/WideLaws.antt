@@ -1,8 +1,8 @@
 -- Pieces of changes one after another, and their outcomes put in place.
-use Rattle.std.proofs.Common.{ℕ, List, ◌≡◌, ◌+◌, ◌-◌, [], ◌∷◌, ◌++◌, refl, ap, ◌∙◌, sym, subst, zero, suc, ◌<◌, ◌≤◌, length, length-drop, length-set, get_or, get_or-set_other, get_or-set_same, arith, Bool, true, false, true≢false, Some, None, Option, take, drop, set, replicate, inl, inr, ◌⊎◌, eq-or-lt_of_le, zero-add}
+use Rattle.std.proofs.Common.{ℕ, List, ◌≡◌, ◌+◌, ◌-◌, [], ◌∷◌, ◌++◌, refl, ap, ◌∙◌, sym, subst, zero, suc, ◌<◌, ◌≤◌, length, length-drop, length-set, get_or, get_or-set_other, get_or-set_same, arith, Bool, true, false, true≢false, Some, None, Option, take, drop, set, replicate, inl, inr, ◌⊎◌, eq-or-lt_of_le, zero-add, add-one}
 use Rattle.std.proofs.lemmas.Bool.{cases_lt}
 use Rattle.std.proofs.lemmas.List.{get_or_past}
-use Rattle.std.specs.List.{AllByRecursion, AllZip}
+use Rattle.std.specs.List.{AllByRecursion, AllZip, remove}
 use Rattle.jf_path.proofs.ListLaws.{All-append}
 use Rattle.jf_hash.specs.Maps.{Batch}
 use Rattle.jf_hash.specs.Slots.{Part, with_nibble, from_nibble}
@@ -231,3 +231,20 @@ zip_long R [] [] h = refl
 zip_long R [] (y ∷ ys) h = absurd h
 zip_long R (x ∷ xs) [] h = absurd h
 zip_long R (x ∷ xs) (y ∷ ys) h = ap suc (zip_long R xs ys h.1)
+
+-- ---- a loop over pieces that takes the first outcome each time
+rest_at : {X : Type 0} (xs : List X) (i : ℕ) (x : X) → i < length xs → x ≡ get_or xs i x → drop i xs ≡ x ∷ drop (suc i) xs
+rest_at [] i x lt at = absurd (omega arith)
+rest_at (y ∷ ys) zero x lt at = ap (λ z. z ∷ ys) (sym at)
+rest_at (y ∷ ys) (suc i) x lt at = rest_at ys i x (omega arith) at
+
+first_left : {X Y : Type 0} (R : X → Y → Type 0) (x : X) (xs : List X) (ys more : List Y) (y : Y) → AllZip R (x ∷ xs) ys → y ≡ get_or ys 0 y → more ≡ remove ys 0 → R x y × AllZip R xs more
+first_left R x xs [] more y h is gone = absurd h
+first_left R x xs (z ∷ ys) more y h is gone = (subst (R x) (sym is) h.0, subst (AllZip R xs) (sym gone) h.1)
+
+pub next_left : {X Y : Type 0} (R : X → Y → Type 0) (ps : List X) (rs more : List Y) (i : ℕ) (p : X) (r : Y) → AllZip R (drop i ps) rs → i < length ps → p ≡ get_or ps i p → r ≡ get_or rs 0 r → more ≡ remove rs 0 → R p r × AllZip R (drop (i + 1) ps) more
+next_left R ps rs more i p r h lt at is gone =
+    first_left R p (drop (i + 1) ps) rs more r (subst (λ xs. AllZip R xs rs) (rest_at ps i p lt at ∙ ap (λ k. p ∷ drop k ps) (sym (add-one i))) h) is gone
+
+pub some_left : {X Y : Type 0} (R : X → Y → Type 0) (ps : List X) (rs : List Y) (i : ℕ) → AllZip R (drop i ps) rs → i < length ps → 0 < length rs
+some_left R ps rs i h lt = omega (arith, zip_long R (drop i ps) rs h, length-drop i ps)

@@ -78,17 +78,18 @@ fn place_all(
     requires outcomes { AllZip (λ p r. IfOk r (IsPieceOutcome depth version children.now entries.now p)) pieces.now outcomes.items }
     ensures { IfOk result (λ r. AreOutcome depth version children.now entries.now r) }
 {
-    let _ = pieces;
     let _ = entries;
     let _ = depth;
     let _ = version;
     children.know();
+    let mut outcomes = outcomes;
     let mut made = NewChildren {
         children: children.share()?,
         changed: [false; 16],
     };
-    for outcome in outcomes {
-        let PieceOutcome { nibble, outcome } = outcome?;
+    for piece in pieces {
+        let _ = piece;
+        let PieceOutcome { nibble, outcome } = outcomes.remove(0)?;
         place(&mut made, nibble, outcome);
     }
     if made.changed.contains(&true) {
