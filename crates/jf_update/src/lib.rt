@@ -15,6 +15,7 @@ mod restore;
 mod snapshot;
 mod sorted;
 mod top;
+mod wide;
 
 pub use hashing::value_hashes;
 pub use jf_node::Update;
