@@ -9,3 +9,4 @@ pub mod TopUpdateLaws
 pub mod SnapshotUpdateLaws
 pub mod RestoreLaws
 pub mod WideLaws
+pub mod WideBuildLaws

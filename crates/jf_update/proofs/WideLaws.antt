@@ -1,15 +1,17 @@
 -- Pieces of changes one after another, and their outcomes put in place.
-use Rattle.std.proofs.Common.{ℕ, List, ◌≡◌, ◌+◌, ◌-◌, [], ◌∷◌, ◌++◌, refl, ap, ◌∙◌, sym, subst, zero, suc, ◌<◌, ◌≤◌, length, length-drop, length-set, get_or, get_or-set_other, get_or-set_same, arith, Bool, true, false, true≢false, Some, None, Option, take, drop, set, replicate, inl, inr, ◌⊎◌, eq-or-lt_of_le, zero-add, add-one}
+use Rattle.std.proofs.Common.{ℕ, List, ◌≡◌, ◌+◌, ◌-◌, [], ◌∷◌, ◌++◌, refl, ap, ◌∙◌, sym, subst, zero, suc, ◌<◌, ◌≤◌, length, length-drop, length-set, get_or, get_or-set_other, get_or-set_same, arith, Bool, true, false, true≢false, ◌==◌, Some, None, Option, take, drop, set, replicate, inl, inr, ◌⊎◌, eq-or-lt_of_le, zero-add, add-one}
 use Rattle.std.proofs.lemmas.Bool.{cases_lt}
 use Rattle.std.proofs.lemmas.List.{get_or_past}
 use Rattle.std.specs.List.{AllByRecursion, AllZip, remove}
+use Rattle.jf_path.specs.Nibbles.{nibble}
+use Rattle.jf_path.proofs.FilterLaws.{All-filter}
 use Rattle.jf_path.proofs.ListLaws.{All-append}
 use Rattle.jf_hash.specs.Maps.{Batch}
 use Rattle.jf_hash.specs.Slots.{Part, with_nibble, from_nibble}
 use Rattle.jf_split.specs.declared.piece.Piece.{Piece}
 use Rattle.jf_model.specs.Parts.{IsPartUnder, IsPieceEnd}
 use Rattle.jf_model.specs.Changes.{applied}
-use Rattle.jf_walk.proofs.PartLaws.{from_nibble-zero, from_nibble-past}
+use Rattle.jf_walk.proofs.PartLaws.{from_nibble-zero, from_nibble-past, stepped, IsPartUnder-with_nibble}
 use Rattle.jf_walk.proofs.PieceEnds.{cut_piece}
 use Rattle.jf_walk.proofs.PartChanges.{with_nibble-applied}
 use Rattle.jf_walk.proofs.VersionLaws.{same_versioned}
@@ -17,10 +19,9 @@ use Rattle.jf_node.specs.LinkValue.{LinkValue, link_version_at}
 use Rattle.jf_node.specs.Children.{content, joined, FitFrom, FitsAt}
 use Rattle.jf_node.proofs.ChildLaws.{FitFrom-set}
 use Rattle.jf_update.specs.Made.{IsAtDepth}
-use Rattle.jf_update.specs.Outcomes.{AreParts, IsNodeUpdate, IsOutcome, IsOutcomePlaced}
+use Rattle.jf_update.specs.Outcomes.{AreParts, AreShort, IsNodeUpdate, IsOutcome, IsOutcomePlaced}
 use Rattle.jf_update.specs.Wide.{IsPieceOf, HasNibble, ArePiecesOf, IsPieceOutcome}
 use Rattle.jf_update.specs.declared.outcome.NewChildren.{NewChildren}
-use Rattle.jf_update.specs.declared.outcome.PieceOutcome.{PieceOutcome}
 use Rattle.jf_update.specs.declared.outcome.Outcome.{Outcome}
 use Rattle.jf_update.specs.declared.outcome.Outcome.TheVariants.{Same, New}
 use Rattle.jf_update.proofs.BuildLaws.{drop_more, fits_part}
@@ -109,7 +110,7 @@ placing_start d v olds news bs ps changed long fit is none = subst (λ ls. IsPla
   done = λ i p lt. absurd (omega arith);
 })
 
-same_or_not : (k m : ℕ) → (k ≡ m) ⊎ (¬ (k ≡ m))
+pub same_or_not : (k m : ℕ) → (k ≡ m) ⊎ (¬ (k ≡ m))
 same_or_not k m = elim (cases_lt k m) [
   | inl below ↦ inr (λ e. omega arith)
   | inr above ↦ elim (eq-or-lt_of_le above) [ inl same ↦ inl (sym same) | inr past ↦ inr (λ e. omega arith) ]
@@ -181,12 +182,11 @@ placed_outcome d v n olds w w' bs ps p (New y) long fit parts h lt at small out 
     (λ k other. ap (λ ls. get_or ls k None) put.0 ∙ get_or-set_other w.children m k y None other)
     (λ k other. ap (λ ms. get_or ms k false) put.1 ∙ get_or-set_other w.changed m k true false other)
 
-pub placing_more : (d v n : ℕ) (olds : List (Option LinkValue)) (w w' : NewChildren) (bs : Batch) (ps : List Piece) (p : Piece) (r : PieceOutcome) → length olds ≡ 16 → FitFrom d 0 olds → AreParts d (joined olds) bs → IsPlacing d v n olds bs ps w.children w.changed → n < length ps → p ≡ get_or ps n p
-    → IsPieceOutcome d v olds bs p r → IsOutcomePlaced w r.nibble r.outcome w' → IsPlacing d v (n + 1) olds bs ps w'.children w'.changed
-placing_more d v n olds w w' bs ps p r long fit parts h lt at out put =
-    placed_outcome d v n olds w w' bs ps p r.outcome long fit parts h lt at out.small out.outcome (subst (λ m. IsOutcomePlaced w m r.outcome w') out.nibble put)
+pub placing_more : (d v n : ℕ) (olds : List (Option LinkValue)) (w w' : NewChildren) (bs : Batch) (ps : List Piece) (p : Piece) (r : Outcome) → length olds ≡ 16 → FitFrom d 0 olds → AreParts d (joined olds) bs → IsPlacing d v n olds bs ps w.children w.changed → n < length ps → p ≡ get_or ps n p
+    → IsPieceOutcome d v olds bs p r → IsOutcomePlaced w p.nibble r w' → IsPlacing d v (n + 1) olds bs ps w'.children w'.changed
+placing_more d v n olds w w' bs ps p r long fit parts h lt at out put = placed_outcome d v n olds w w' bs ps p r long fit parts h lt at out.small out.outcome put
 
-place_in : (k : ℕ) (ps : List Piece) (d : Piece) → HasNibble k ps → (i : ℕ) × (i < length ps) × ((get_or ps i d).nibble ≡ k)
+pub place_in : (k : ℕ) (ps : List Piece) (d : Piece) → HasNibble k ps → (i : ℕ) × (i < length ps) × ((get_or ps i d).nibble ≡ k)
 place_in k [] d h = absurd h
 place_in k (p ∷ ps) d (inl h) = (0, omega arith, h)
 place_in k (p ∷ ps) d (inr h) = let more = place_in k ps d h in (suc more.0, (let lt = more.1 in omega arith), more.2)
@@ -245,6 +245,15 @@ first_left R x xs (z ∷ ys) more y h is gone = (subst (R x) (sym is) h.0, subst
 pub next_left : {X Y : Type 0} (R : X → Y → Type 0) (ps : List X) (rs more : List Y) (i : ℕ) (p : X) (r : Y) → AllZip R (drop i ps) rs → i < length ps → p ≡ get_or ps i p → r ≡ get_or rs 0 r → more ≡ remove rs 0 → R p r × AllZip R (drop (i + 1) ps) more
 next_left R ps rs more i p r h lt at is gone =
     first_left R p (drop (i + 1) ps) rs more r (subst (λ xs. AllZip R xs rs) (rest_at ps i p lt at ∙ ap (λ k. p ∷ drop k ps) (sym (add-one i))) h) is gone
+
+-- what is asked of the changes of a piece, and of the entries with its nibble
+pub parts_of_piece : (d n : ℕ) (es own : Part) (bs piece : Batch) → AreParts d es bs → piece ≡ with_nibble d n bs → own ≡ with_nibble d n es → AreParts (d + 1) own piece
+parts_of_piece d n es own bs piece parts exact is = record {
+  path = stepped d n parts.path;
+  entries = subst (IsPartUnder (d + 1) (stepped d n parts.path)) (sym is) (IsPartUnder-with_nibble d n parts.path es parts.entries);
+  batch = subst (IsPartUnder (d + 1) (stepped d n parts.path)) (sym exact) (IsPartUnder-with_nibble d n parts.path bs parts.batch);
+  short = subst AreShort (sym exact) (All-filter _ (λ e. nibble e.0 d == n) bs parts.short);
+}
 
 pub some_left : {X Y : Type 0} (R : X → Y → Type 0) (ps : List X) (rs : List Y) (i : ℕ) → AllZip R (drop i ps) rs → i < length ps → 0 < length rs
 some_left R ps rs i h lt = omega (arith, zip_long R (drop i ps) rs h, length-drop i ps)

@@ -1,7 +1,7 @@
 // The outcome of an update of a node, or of its children.
 
 use jf_node::{Link, Sixteen};
-use jf_path::{Bitmap, Nibble};
+use jf_path::Bitmap;
 
 /// The outcome of an update of a node, or of a place without one.
 #[derive(Drop)]
@@ -17,11 +17,4 @@ pub(crate) enum Outcome {
 pub(crate) struct NewChildren {
     pub(crate) children: Sixteen,
     pub(crate) changed: Bitmap,
-}
-
-/// The outcome of an update of the child at a nibble.
-#[derive(Drop)]
-pub(crate) struct PieceOutcome {
-    pub(crate) nibble: Nibble,
-    pub(crate) outcome: Outcome,
 }

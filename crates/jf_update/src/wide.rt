@@ -1,72 +1,31 @@
 // An update by several workers: the changes below each nibble are a piece of work of their own.
-ghost use Rattle.std.specs.Prelude.{◌≤◌, ◌<◌, ℕ, IfOk};
+ghost use Rattle.std.specs.Prelude.{◌≤◌, ◌<◌, IfOk};
 ghost use Rattle.std.specs.List.{AllZip};
 ghost use Rattle.std.specs.Option.{option_copied};
 ghost use Rattle.std.specs.Thread.{IsSync};
-ghost use Rattle.jf_model.specs.Parts.{IsPartUnder};
 ghost use Rattle.jf_node.specs.Children.{content, joined, FitFrom};
 ghost use Rattle.jf_update.specs.Made.{IsAtDepth};
 ghost use Rattle.jf_update.specs.Outcomes.{AreParts, IsOutcome, AreOutcome};
 ghost use Rattle.jf_update.specs.Wide.{IsPieceOf, ArePiecesOf, IsPieceOutcome};
 ghost use Rattle.jf_update.specs.ValueHashes.{AreValueHashes};
 
-use crate::node::{has_changed, place, rebuild, update_children, update_node};
-use crate::outcome::{NewChildren, Outcome, PieceOutcome};
-use crate::piece::{hashes_in, piece_end};
+use crate::node::{has_changed, place, rebuild, update_node};
+use crate::outcome::{NewChildren, Outcome};
+use crate::piece::{hashes_in, pieces_in, workers_each, workers_for};
+use crate::wide_leaf::update_leaf_wide;
 use jf_hash::Hash;
 use jf_join::{Gate, join_pieces};
 use jf_node::{Branches, Link, Seen};
-use jf_path::{Bitmap, Key, Memory, Nibble, SharedBytes};
+use jf_path::{Bitmap, Key, Memory, SharedBytes};
 use jf_split::Piece;
 use std::alloc::Global;
 use std::thread::Threads;
-
-/// A piece of more changes than this is cut again.
-const MOST_KEYS: usize = 1_024;
-
-/// The pieces of changes at a depth that aren't empty, in the order of their nibbles.
-fn pieces_in(
-    alloc: Global,
-    entries: &[(Key, Option<SharedBytes>)],
-    depth: u64,
-) -> Result<Vec<Piece>, Memory>
-    requires depth { depth < 64 }
-    requires part { (path : ℕ → ℕ) × IsPartUnder depth path entries.now }
-    ensures { IfOk result (λ ps. ArePiecesOf depth entries.now ps.items) }
-{
-    let mut pieces = Vec::new(alloc);
-    let mut start = 0;
-    for n in 0..16 {
-        let nibble = Nibble::of(n);
-        let end = start + piece_end(&entries[start..], depth, nibble);
-        if end > start {
-            pieces.push(Piece { nibble, start, end })?;
-        }
-        start = end;
-    }
-    Ok(pieces)
-}
-
-/// The number of workers that each of so many pieces may have, if all of them have `workers`.
-fn workers_each(workers: u64, pieces: usize) -> u64
-    requires positive { 1 ≤ workers }
-    requires bounded { workers ≤ 64 }
-    ensures positive { 1 ≤ result }
-    ensures bounded { result ≤ 64 }
-{
-    let pieces = pieces as u64;
-    if pieces == 0 || pieces >= workers {
-        1
-    } else {
-        workers / pieces
-    }
-}
 
 /// Puts the outcomes of the pieces in their places. Returns `None` if none of the children changes.
 fn place_all(
     children: &Branches,
     pieces: &[Piece],
-    outcomes: Vec<Result<PieceOutcome, Memory>>,
+    outcomes: Vec<Result<Outcome, Memory>>,
     entries: &[(Key, Option<SharedBytes>)],
     depth: u64,
     version: u64,
@@ -88,9 +47,8 @@ fn place_all(
         changed: Bitmap::none(),
     };
     for piece in pieces {
-        let _ = piece;
-        let PieceOutcome { nibble, outcome } = outcomes.remove(0)?;
-        place(&mut made, nibble, outcome);
+        let outcome = outcomes.remove(0)?;
+        place(&mut made, piece.nibble, outcome);
     }
     if has_changed(made.changed) {
         Ok(Some(made))
@@ -124,9 +82,21 @@ pub(crate) fn update_wide<H: Threads + Sync, G: Gate>(
         return update_node(alloc, old, entries, hashes, depth, version);
     }
     match old {
-        None => update_node(alloc, old, entries, hashes, depth, version),
+        None => update_leaf_wide(
+            rt, alloc, None, entries, hashes, depth, version, workers, gate,
+        ),
         Some(link) => match link.view() {
-            Seen::Leaf { .. } => update_node(alloc, old, entries, hashes, depth, version),
+            Seen::Leaf { .. } => update_leaf_wide(
+                rt,
+                alloc,
+                Some(link),
+                entries,
+                hashes,
+                depth,
+                version,
+                workers,
+                gate,
+            ),
             Seen::Inner { children } => {
                 match update_pieces(
                     rt, alloc, children, entries, hashes, depth, version, workers, gate,
@@ -164,11 +134,8 @@ fn update_pieces<H: Threads + Sync, G: Gate>(
     ensures { IfOk result (λ r. AreOutcome depth version children.now entries.now r) }
 {
     let pieces = pieces_in(alloc, entries, depth)?;
-    if pieces.len() < 2 && entries.len() <= MOST_KEYS {
-        return update_children(alloc, children, entries, hashes, depth, version);
-    }
     let each = workers_each(workers, pieces.len());
-    let work = |piece: &Piece| -> Result<PieceOutcome, Memory>
+    let work = |piece: &Piece| -> Result<Outcome, Memory>
         requires { IsSync H.row × IsSync G.row × (1 ≤ each) × (each ≤ 64) × (depth < 64) × FitFrom depth 0 children.now × AreParts depth (joined children.now) entries.now × AreValueHashes entries.now hashes.now × IsPieceOf depth entries.now piece.now }
         ensures { IfOk result (IsPieceOutcome depth version children.entry.now entries.entry.now piece.now) }
     { update_piece(rt, alloc, children, piece, entries, hashes, depth, version, each, gate) };
@@ -189,7 +156,7 @@ fn update_piece<H: Threads + Sync, G: Gate>(
     version: u64,
     workers: u64,
     gate: &G,
-) -> Result<PieceOutcome, Memory>
+) -> Result<Outcome, Memory>
     requires positive { 1 ≤ workers }
     requires bounded { workers ≤ 64 }
     requires depth { depth < 64 }
@@ -203,8 +170,8 @@ fn update_piece<H: Threads + Sync, G: Gate>(
     let child = children.get(piece.nibble);
     let part = &entries[piece.start..piece.end];
     let part_hashes = hashes_in(hashes, piece.start, piece.end);
-    let share = if part.len() > MOST_KEYS { workers } else { 1 };
-    let outcome = update_wide(
+    let share = workers_for(workers, part.len());
+    update_wide(
         rt,
         alloc,
         child,
@@ -214,7 +181,5 @@ fn update_piece<H: Threads + Sync, G: Gate>(
         version,
         share,
         gate,
-    )?;
-    let nibble = piece.nibble;
-    Ok(PieceOutcome { nibble, outcome })
+    )
 }

@@ -2,8 +2,8 @@ use Rattle.std.proofs.Common.{arith, refl, ◌+◌, ◌≡◌, sym, ap, ◌∙�
 use Rattle.jf_model.specs.Parts.{IsPieceEnd}
 use Rattle.jf_update.proofs.BuildLaws.{end_in_rest}
 use Rattle.jf_update.proofs.WideLaws.{IsCutting, cutting_start, cutting_more, cutting_none}
-use Rattle.jf_update.proofs.wide.pieces_in.Goals as goal
-use Rattle.jf_update.proofs.wide.pieces_in.Goals.{then-end-start+in_ok-push, else-end-start}
+use Rattle.jf_update.proofs.piece.pieces_in.Goals as goal
+use Rattle.jf_update.proofs.piece.pieces_in.Goals.{then-end-start+in_ok-push, else-end-start}
 
 pub loop-n-init : goal.loop-n-init
 loop-n-init c = cutting_start c.args.depth c.args.entries.now _ c.new-pieces.ensures.items
