@@ -80,19 +80,35 @@ impl Gate for Meeting {
 // Names under each first nibble of a key, put into an empty store and put again.
 const TWICE: &[Lines] = &[("put", 0, 200, " =31"), ("put", 0, 200, " =32")];
 
+// Whether a run ended well with two entries.
+fn has_landed_two(played: &Played<MemDisk>) -> bool {
+    played.status == Status::Done && played.entries == 2
+}
+
+// Whether the words and the script make two entries on a new store.
+fn land_two<H: Threads + Wait + Sync>(
+    rt: &H,
+    alloc: Global,
+    words: &[String],
+    script: &[u8],
+    gate: &Meeting,
+) -> Result<bool, Fail> {
+    let disk = new_disk(alloc, b"", &[])?;
+    let played = play_gated(rt, alloc, disk, words, script, gate)?;
+    Ok(has_landed_two(&played))
+}
+
 // Whether two pieces of a landing on a store that isn't empty meet if two workers work them.
-fn two_meet<H: Threads + Wait + Sync>(rt: &H, alloc: Global) -> Result<bool, Fail> {
-    let gate = Meeting::new();
+fn two_meet<H: Threads + Wait + Sync>(rt: &H, alloc: Global, gate: &Meeting) -> Result<bool, Fail> {
     let words = words_of(alloc, "run --workers 2")?;
     let script = script_of(alloc, TWICE)?;
-    let disk = new_disk(alloc, b"", &[])?;
-    let played = play_gated(rt, alloc, disk, &words, &script, &gate)?;
-    Ok(played.status == Status::Done && played.entries == 2 && gate.has_met())
+    Ok(land_two(rt, alloc, &words, &script, gate)? && gate.has_met())
 }
 
 #[test]
 fn two_pieces_meet(rt: HostRuntime) -> Result<(), Fail> {
-    assert!(rt; two_meet(&rt, rt.alloc())?);
+    let gate = Meeting::new();
+    assert!(rt; two_meet(&rt, rt.alloc(), &gate)?);
     Ok(())
 }
 
@@ -112,6 +128,12 @@ fn roomy_disk(alloc: Global) -> Result<Box<MemDisk>, Fail> {
     Ok(Box::new(alloc, disk)?)
 }
 
+// The words that ask for a run with this number of workers.
+fn words_by(alloc: Global, workers: u64) -> Result<Vec<String>, Fail> {
+    let line = format!(in alloc; "run --workers {workers}")?;
+    words_of(alloc, line.as_str())
+}
+
 // A run of a script with this number of workers.
 fn played_by<H: Threads + Wait + Sync>(
     rt: &H,
@@ -119,9 +141,9 @@ fn played_by<H: Threads + Wait + Sync>(
     workers: u64,
     script: &[u8],
 ) -> Result<Played<MemDisk>, Fail> {
-    let line = format!(in alloc; "run --workers {workers}")?;
-    let words = words_of(alloc, line.as_str())?;
-    play_gated(rt, alloc, roomy_disk(alloc)?, &words, script, &FreeGate)
+    let words = words_by(alloc, workers)?;
+    let disk = roomy_disk(alloc)?;
+    play_gated(rt, alloc, disk, &words, script, &FreeGate)
 }
 
 // Whether two runs ended well, wrote the same replies and left the same bytes.
@@ -144,15 +166,24 @@ fn is_same<H: Threads + Wait + Sync>(
     Ok(are_same(alone, &played))
 }
 
+// Whether the runs with one worker, and with this number, are the same and made an entry of each batch.
+fn change_nothing<H: Threads + Wait + Sync>(
+    rt: &H,
+    alloc: Global,
+    workers: u64,
+    script: &[u8],
+) -> Result<bool, Fail> {
+    let alone = played_by(rt, alloc, 1, script)?;
+    let same = is_same(rt, alloc, &alone, workers, script)?;
+    Ok(same && alone.entries == BATCHES.len() as u64)
+}
+
 #[test]
 fn no_number_of_workers_changes_what_is_written(rt: HostRuntime) -> Result<(), Fail> {
-    let alloc = rt.alloc();
-    let script = script_of(alloc, BATCHES)?;
-    let alone = played_by(&rt, alloc, 1, &script)?;
-    assert_eq!(rt; alone.entries, BATCHES.len() as u64);
+    let script = script_of(rt.alloc(), BATCHES)?;
     for workers in &[2, 7, 64] {
         assert!(rt;
-            is_same(&rt, alloc, &alone, *workers, &script)?,
+            change_nothing(&rt, rt.alloc(), *workers, &script)?,
             "{workers} workers"
         );
     }
