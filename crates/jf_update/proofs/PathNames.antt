@@ -1,5 +1,5 @@
 -- Names made of rising paths rise.
-use Rattle.std.proofs.Common.{ℕ, ◌≡◌, ◌-◌, map, sym, ap₂, ◌∙◌, T, true, ap, Less, is_lt, List, [], ◌∷◌, refl, IsTrue, inl, inr, subst, false, Equal, Greater, Ordering, is_eq, nat_cmp}
+use Rattle.std.proofs.Common.{ℕ, ◌≡◌, map, sym, ap₂, ◌∙◌, T, true, ap, Less, is_lt, List, [], ◌∷◌, refl, IsTrue, subst, false, Equal, Greater, Ordering, is_eq, nat_cmp}
 use Rattle.std.proofs.lemmas.Cmp.{nat_cmp_total}
 use Rattle.std.specs.Cmp.{tied_itself}
 use Rattle.std.specs.FinMap.{is_sorted}
@@ -14,12 +14,12 @@ use Rattle.jf_path.specs.declared.node.PlainNode.{PlainNode}
 use Rattle.jf_hash.specs.Slots.{Part}
 use Rattle.jf_hash.proofs.KeyOrder.{below-first, below-rest, sorted-rest, below-later}
 use Rattle.jf_model.specs.Nodes.{Path, fresh}
-use Rattle.jf_model.specs.Walk.{with_root, listed}
+use Rattle.jf_model.specs.Walk.{with_root}
 use Rattle.jf_walk.proofs.FreshLaws.{with_root-fresh}
 use Rattle.jf_walk.proofs.FreshOrder.{sorted-fresh}
-use Rattle.jf_walk.proofs.SameParts.{some_entry, differs_or_same}
-use Rattle.jf_walk.proofs.WalkLaws.{listed-same, listed-gone, listed-with_root}
+use Rattle.jf_update.specs.Below.{from_node}
 use Rattle.jf_update.proofs.Names.{both_true}
+use Rattle.jf_update.proofs.Walks.{from_node-with_root}
 
 abbrev pub name_of_path : ℕ → Path → NodeName
 name_of_path version path = record { version = version; path = path }
@@ -41,18 +41,12 @@ rise_paths version f same (x ∷ y ∷ xs) sorted =
     (ap₂ (λ a b. is_lt (name_cmp a b)) (same x.0) (same y.0) ∙ less_names version x.0 y.0 (below-first x.0 y xs (below-rest x (y ∷ xs) sorted)))
     (rise_paths version f same (y ∷ xs) (sorted-rest x (y ∷ xs) sorted))
 
--- the names that are listed below a top rise strictly
-pub rise_listed : (version d : ℕ) (old new : Part) (f : Path → NodeName × PlainNode) → T (is_sorted key_cmp old) → T (is_sorted key_cmp new) → d ≡ 0 → ((p : Path) → (f p).0 ≡ name_of_path version p) → IsTrue (are_rising (map (λ (e : NodeName × PlainNode). e.0) (listed (64 - d) d old new f)))
-rise_listed version d old new f a b at same = elim (some_entry new) [
-  | inl none ↦ rises (ap (λ n. listed (64 - d) d old n f) none ∙ listed-gone (64 - d) d old f) refl
-  | inr some ↦ elim (differs_or_same old new some) [
-    | inr is ↦ rises (ap (λ o. listed (64 - d) d o new f) is ∙ listed-same (64 - d) d new f) refl
-    | inl differ ↦ rises (ap (λ k. listed (64 - k) k old new f) at ∙ listed-with_root old new f differ ∙ with_root-sorted old new f a b) (rise_paths version f same _ (sorted-fresh (fin.from_sorted old) (fin.from_sorted new)))
-  ]
-]
-  where
-    rises : {xs ys : List (NodeName × PlainNode)} → xs ≡ ys → IsTrue (are_rising (map (λ (e : NodeName × PlainNode). e.0) ys)) → IsTrue (are_rising (map (λ (e : NodeName × PlainNode). e.0) xs))
-    rises is h = subst (λ es. IsTrue (are_rising (map (λ (e : NodeName × PlainNode). e.0) es))) (sym is) h
+-- the names that are listed from a top on rise strictly
+pub rise_from : (version d : ℕ) (old new : Part) (f : Path → NodeName × PlainNode) → T (is_sorted key_cmp old) → T (is_sorted key_cmp new) → d ≡ 0 → ((p : Path) → (f p).0 ≡ name_of_path version p) → IsTrue (are_rising (map (λ (e : NodeName × PlainNode). e.0) (from_node d old new f)))
+rise_from version d old new f a b at same =
+    subst (λ es. IsTrue (are_rising (map (λ (e : NodeName × PlainNode). e.0) es)))
+    (sym (ap (λ k. from_node k old new f) at ∙ from_node-with_root old new f ∙ with_root-sorted old new f a b))
+    (rise_paths version f same _ (sorted-fresh (fin.from_sorted old) (fin.from_sorted new)))
 
 -- ---- names of different paths differ
 then_less : (o : Ordering) → is_eq (ordering_then o Less) ≡ false

@@ -10,6 +10,11 @@ abbrev pub IsAtDepth : ℕ → Option LinkValue → Type 0
 IsAtDepth depth None = Unit {0}
 IsAtDepth depth (Some x) = x.depth ≡ depth
 
+-- an optional node has this version
+abbrev pub IsOfVersion : ℕ → Option LinkValue → Type 0
+IsOfVersion version None = Unit {0}
+IsOfVersion version (Some x) = x.version ≡ version
+
 -- y is built new from the entries es: all its nodes have the new version
 pub record Built (depth version : ℕ) (es : Part) (y : Option LinkValue) : Type 0 where
   pub entries : content y ≡ es

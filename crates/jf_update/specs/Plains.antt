@@ -1,5 +1,5 @@
 -- Nodes as they are written: each by itself, with what it says of its children.
-use Rattle.std.specs.Prelude.{◌+◌, true, [], ◌∷◌, ◌++◌, length, Some, List, Option, None, ℕ, ◌-◌, map, IsTrue}
+use Rattle.std.specs.Prelude.{◌+◌, true, [], ◌∷◌, ◌++◌, length, Some, List, Option, None, ℕ, map, IsTrue, ◌≡◌}
 use Rattle.jf_path.specs.declared.node.PlainNode.{PlainNode}
 use Rattle.jf_path.specs.declared.children.Child.{Child}
 use Rattle.jf_path.specs.declared.name.NodeName.{NodeName}
@@ -8,10 +8,10 @@ use Rattle.jf_path.specs.declared.node.PlainNode.TheVariants as node
 use Rattle.jf_hash.specs.Slots.{Part}
 use Rattle.jf_model.specs.Nodes.{Path, plain_node, child_in_node}
 use Rattle.jf_model.specs.ChildEntries.{sub}
-use Rattle.jf_model.specs.Walk.{each_from, listed}
+use Rattle.jf_model.specs.Walk.{each_from}
 use Rattle.jf_node.specs.LinkValue.{LinkValue, link_version_at}
 use Rattle.jf_update.specs.Updates.{version_or}
-use Rattle.jf_update.specs.Below.{IsFreshOver}
+use Rattle.jf_update.specs.Below.{IsFreshBelow, from_node}
 
 -- the node by itself at a path below a link
 abbrev pub plain_at : LinkValue → Path → PlainNode
@@ -38,5 +38,5 @@ fresh_under version top path = (record { version = version; path = path }, plain
 pub record WouldRise (out : List (NodeName × PlainNode)) (version : ℕ) (front : Path) (x : LinkValue) : Type 0 where
   pub es : Part
   pub before : Path → Option ℕ
-  pub over : IsFreshOver version es before x
-  pub names : IsTrue (are_rising (map (λ e. e.0) (out ++ listed (64 - x.depth) x.depth es x.entries (fresh_below version front x))))
+  pub below : IsFreshBelow version es before x
+  pub names : x.version ≡ version → IsTrue (are_rising (map (λ e. e.0) (out ++ from_node x.depth es x.entries (fresh_below version front x))))

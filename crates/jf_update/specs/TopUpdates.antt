@@ -1,7 +1,6 @@
--- The update of a top: the new top node, and the lists of fresh and stale nodes.
+-- The new top of a version, and the lists of fresh and stale nodes from the top down.
 use Rattle.std.specs.Prelude.{◌≡◌, ℕ, Option, Some, None, ◌≤◌, T, ◌+◌, ◌∷◌}
 use Rattle.std.specs.FinMap.{is_sorted}
-use Rattle.std.specs.List.Sorted.{IsPermutation}
 use Rattle.jf_path.specs.declared.name.NodeName.{NodeName}
 use Rattle.jf_path.specs.Keys.{key_cmp}
 use Rattle.jf_hash.specs.Slots.{Part}
@@ -10,21 +9,13 @@ use Rattle.jf_model.specs.Nodes.{Path}
 use Rattle.jf_model.specs.Changes.{applied}
 use Rattle.jf_model.specs.ChildEntries.{sub}
 use Rattle.jf_model.specs.NodeVersions.{VersionFollows}
-use Rattle.jf_model.specs.Walk.{with_root}
 use Rattle.jf_node.specs.LinkValue.{LinkValue, link_version_at}
 use Rattle.jf_node.specs.Snapshots.{snapshot_of}
 use Rattle.jf_node.specs.LinkFacts.{IsLinkIf}
 use Rattle.jf_node.specs.Children.{content}
 use Rattle.jf_update.specs.Updates.{version_in}
-use Rattle.jf_update.specs.Below.{IsFreshOver, IsStaleOver}
-use Rattle.jf_update.specs.Made.{IsAtDepth}
-use Rattle.jf_update.specs.Plains.{fresh_under}
-use Rattle.jf_update.specs.declared.top.TopUpdate.{TopUpdate}
-
--- an optional top has this version
-abbrev pub IsOfVersion : ℕ → Option LinkValue → Type 0
-IsOfVersion version None = Unit {0}
-IsOfVersion version (Some y) = y.version ≡ version
+use Rattle.jf_update.specs.Below.{IsFreshBelow, IsStaleBelow}
+use Rattle.jf_update.specs.Made.{IsAtDepth, IsOfVersion}
 
 -- no node below a link is newer than this version
 abbrev pub NoneNewer : ℕ → Option LinkValue → Type 0
@@ -37,12 +28,12 @@ old_name head old path = record { version = version_in (snapshot_of head old) pa
 -- an optional top stands, after the landing of `version`, where the entries es stood
 abbrev pub IsFreshUnder : ℕ → Part → (Path → Option ℕ) → Option LinkValue → Type 0
 IsFreshUnder version es before None = Unit {0}
-IsFreshUnder version es before (Some x) = IsFreshOver version es before x
+IsFreshUnder version es before (Some x) = IsFreshBelow version es before x
 
 -- y stands in the place of the old top, if any, after the landing of `version`
 abbrev pub IsStaleUnder : ℕ → Option LinkValue → Option LinkValue → Type 0
 IsStaleUnder version None y = Unit {0}
-IsStaleUnder version (Some x) y = IsStaleOver version x y
+IsStaleUnder version (Some x) y = IsStaleBelow version x y
 
 -- a top was made by a landing over some sorted entries
 pub record WasLanded (version : ℕ) (top : Option LinkValue) : Type 0 where
@@ -59,14 +50,3 @@ pub record IsNextTop (head : ℕ) (old : Option LinkValue) (bs : Batch) (top : O
   pub versions : (n : ℕ) (path : Path) → VersionFollows (head + 1) (sub 0 (n ∷ path) (content old)) (sub 0 (n ∷ path) (content top)) (link_version_at (n ∷ path) old) (link_version_at (n ∷ path) top)
   pub newest : NoneNewer (head + 1) top
   pub sound : IsLinkIf top
-
--- what a landing of a batch over the old top returns: the new top, its versions, and the lists of fresh and stale nodes
-pub record IsTopUpdate (head : ℕ) (old : Option LinkValue) (bs : Batch) (l : TopUpdate) : Type 0 where
-  pub entries : content l.top ≡ applied (content old) bs
-  pub placed : IsAtDepth 0 l.top
-  pub own : IsOfVersion (head + 1) l.top
-  pub versions : (n : ℕ) (path : Path) → VersionFollows (head + 1) (sub 0 (n ∷ path) (content old)) (sub 0 (n ∷ path) (content l.top)) (link_version_at (n ∷ path) old) (link_version_at (n ∷ path) l.top)
-  pub newest : NoneNewer (head + 1) l.top
-  pub sound : IsLinkIf l.top
-  pub fresh : l.fresh ≡ with_root (content old) (content l.top) (fresh_under (head + 1) l.top)
-  pub stale : IsPermutation (with_root (content l.top) (content old) (old_name head old)) l.stale

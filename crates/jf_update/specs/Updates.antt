@@ -5,7 +5,7 @@ use Rattle.std.specs.List.Sorted.{IsPermutation}
 use Rattle.jf_path.specs.declared.name.NodeName.{NodeName}
 use Rattle.jf_path.specs.declared.node.PlainNode.{PlainNode}
 use Rattle.jf_hash.specs.Slots.{Part}
-use Rattle.jf_hash.specs.Maps.{Map, Batch, apply}
+use Rattle.jf_hash.specs.Maps.{Map, Batch, IsBatch, apply}
 use Rattle.jf_hash.specs.Roots.{root}
 use Rattle.jf_model.specs.Nodes.{Path, plain_node, fresh, stale, is_node, is_fresh}
 use Rattle.jf_node.specs.SnapshotValue.{SnapshotValue}
@@ -40,6 +40,14 @@ pub record IsNextSnapshot (head : SnapshotValue) (b : Batch) (s : SnapshotValue)
   pub version : s.version ≡ head.version + 1
   pub versions : (path : Path) → IsTrue (is_node 0 path (entries (apply head.map b)))
       → snapshot_version_at path s ≡ (if is_fresh (entries head.map) (entries (apply head.map b)) path then Some (head.version + 1) else snapshot_version_at path head)
+
+-- new is the snapshot after some changes of the old one
+abbrev pub IsNextOf : SnapshotValue → SnapshotValue → Type 0
+IsNextOf old new = (b : Batch) × IsNextSnapshot old b new
+
+-- so many nodes are fresh in new over old: at most 66 n + 1 for a batch of n keys that makes new of old
+abbrev pub IsFreshCount : SnapshotValue → SnapshotValue → ℕ → Type 0
+IsFreshCount old new count = (b : Batch) → IsBatch b → IsNextSnapshot old b new → count ≤ 66 * length b + 1
 
 -- u is the update of the snapshot by the batch: the map after the batch as the next version, its root, the nodes that
 -- are written and the names of those that are stale; each node that isn't fresh keeps its version; and a batch of n

@@ -12,7 +12,10 @@ pub(crate) fn child_of(link: &Link, n: Nibble) -> Option<&Link>
 {
     match link.view() {
         Seen::Leaf { .. } => None,
-        Seen::Inner { children } => children.get(n),
+        Seen::Inner { children } => {
+            children.know();
+            children.get(n)
+        }
     }
 }
 

@@ -6,6 +6,7 @@ mod child;
 mod hashing;
 mod leaf;
 mod list;
+mod lists;
 mod node;
 mod outcome;
 mod piece;
@@ -20,5 +21,6 @@ mod wide_leaf;
 
 pub use hashing::value_hashes;
 pub use jf_node::Update;
+pub use lists::Written;
 pub use restore::{RestoreFault, restored};
-pub use snapshot::{advance, update};
+pub use snapshot::{advance, update, written};

@@ -1,12 +1,11 @@
 // Walks that list, in the order of paths, the nodes that an update wrote and those that it made stale.
-ghost use Rattle.std.specs.Prelude.{◌≡◌, ℕ, ◌-◌, ◌++◌, Option, length, OnOk};
+ghost use Rattle.std.specs.Prelude.{◌≡◌, ℕ, ◌++◌, Option, length, OnOk};
 ghost use Rattle.std.specs.Option.{option_copied};
 ghost use Rattle.jf_hash.specs.Slots.{Part};
 ghost use Rattle.jf_model.specs.Nodes.{Path};
 ghost use Rattle.jf_node.specs.Children.{content};
-ghost use Rattle.jf_model.specs.Walk.{listed};
-ghost use Rattle.jf_update.specs.Below.{IsFreshOver, IsStaleOver, name_below};
-ghost use Rattle.jf_update.specs.Made.{IsAtDepth};
+ghost use Rattle.jf_update.specs.Below.{IsFreshBelow, IsStaleBelow, from_node, name_below};
+ghost use Rattle.jf_update.specs.Made.{IsAtDepth, IsOfVersion};
 ghost use Rattle.jf_update.specs.Plains.{fresh_below, WouldRise};
 
 use crate::child::{child_in, child_of, is_kept};
@@ -15,7 +14,8 @@ use jf_node::Link;
 use jf_path::{FreshList, Memory, Nibble, NibblePath, NodeName};
 use std::alloc::Global;
 
-/// Appends the nodes from `link` down that a landing wrote; `path` leads to it.
+/// Appends the nodes from `link` down that a landing wrote; `path` leads to it. If it has the version of the landing, it
+/// is one of them.
 pub(crate) fn list_fresh(
     alloc: Global,
     link: &Link,
@@ -25,7 +25,8 @@ pub(crate) fn list_fresh(
 ) -> Result<(), Memory>
     requires path { length path.now ≡ link.now.depth }
     requires rising { WouldRise out.old version path.now link.now }
-    ensures { OnOk result ((es : Part) (before : Path → Option ℕ) → IsFreshOver version es before link.now → out.new ≡ out.old ++ listed (64 - link.now.depth) link.now.depth es link.now.entries (fresh_below version path.now link.now)) }
+    ensures kept { OnOk result (¬ (link.now.version ≡ version) → out.new ≡ out.old) }
+    ensures listed { OnOk result (link.now.version ≡ version → (es : Part) (before : Path → Option ℕ) → IsFreshBelow version es before link.now → out.new ≡ out.old ++ from_node link.now.depth es link.now.entries (fresh_below version path.now link.now)) }
 {
     link.know();
     if link.version() != version {
@@ -46,8 +47,8 @@ pub(crate) fn list_fresh(
     Ok(())
 }
 
-/// Appends the names of the nodes from `old` down that a landing made stale. The node `new` stands in its place, and
-/// `path` leads to it.
+/// Appends the names of the nodes from `old` down that a landing made stale: none if the node `new`, which stands in its
+/// place, was there before; and otherwise that of `old` first. `path` leads to it.
 pub(crate) fn list_stale(
     old: &Link,
     new: Option<&Link>,
@@ -57,7 +58,8 @@ pub(crate) fn list_stale(
 ) -> Result<(), Memory>
     requires path { length path.now ≡ old.now.depth }
     requires new { IsAtDepth old.now.depth (option_copied new) }
-    ensures { OnOk result (IsStaleOver version old.now (option_copied new.entry) → out.new.items ≡ out.old.items ++ listed (64 - old.now.depth) old.now.depth (content (option_copied new.entry)) old.now.entries (name_below path.now old.now)) }
+    ensures kept { OnOk result (¬ IsOfVersion version (option_copied new.entry) → out.new.items ≡ out.old.items) }
+    ensures listed { OnOk result (IsOfVersion version (option_copied new.entry) → IsStaleBelow version old.now (option_copied new.entry) → out.new.items ≡ out.old.items ++ from_node old.now.depth (content (option_copied new.entry)) old.now.entries (name_below path.now old.now)) }
 {
     if is_kept(new, version) {
         return Ok(());

@@ -1,5 +1,5 @@
-// The update of the top of a version, with the lists of what it writes and makes stale.
-ghost use Rattle.std.specs.Prelude.{◌≡◌, ℕ, ◌+◌, ◌<◌, ◌^◌, ◌∷◌, [], Option, IfOk, OnOk, T};
+// The top of the next version, and what a landing writes and makes stale from the top down.
+ghost use Rattle.std.specs.Prelude.{◌≡◌, ℕ, ◌+◌, ◌<◌, ◌^◌, ◌∷◌, [], Option, IfOk, T};
 ghost use Rattle.std.specs.Option.{option_copied};
 ghost use Rattle.std.specs.FinMap.{is_sorted};
 ghost use Rattle.std.specs.List.Sorted.{IsPermutation};
@@ -11,135 +11,20 @@ ghost use Rattle.jf_model.specs.Nodes.{Path};
 ghost use Rattle.jf_node.specs.LinkFacts.{IsLinkIf};
 ghost use Rattle.jf_node.specs.Children.{content};
 ghost use Rattle.jf_model.specs.Walk.{with_root};
-ghost use Rattle.jf_update.specs.Made.{IsAtDepth};
+ghost use Rattle.jf_update.specs.Made.{IsAtDepth, IsOfVersion};
 ghost use Rattle.jf_update.specs.Outcomes.{AreParts};
 ghost use Rattle.jf_update.specs.ValueHashes.{AreValueHashes};
 ghost use Rattle.jf_update.specs.Plains.{fresh_under};
-ghost use Rattle.jf_update.specs.TopUpdates.{IsNextTop, IsTopUpdate, IsFreshUnder, IsStaleUnder, NoneNewer, WasLanded, old_name};
+ghost use Rattle.jf_update.specs.TopUpdates.{IsNextTop, IsFreshUnder, IsStaleUnder, NoneNewer, WasLanded, old_name};
 
 use crate::list::{list_fresh, list_stale};
 use crate::node::update_node;
 use crate::outcome::Outcome;
-use crate::plain_node::plain_of;
 use crate::sorted::sorted_names;
 use jf_hash::Hash;
 use jf_node::Link;
 use jf_path::{FreshList, Key, Memory, NameList, NibblePath, NodeName, PlainNode, SharedBytes};
 use std::alloc::Global;
-
-/// The top node after an update, if any, the nodes that the update writes, and the names of those that it makes stale.
-#[derive(Drop)]
-pub(crate) struct TopUpdate {
-    pub(crate) top: Option<Link>,
-    pub(crate) fresh: FreshList,
-    pub(crate) stale: NameList,
-}
-
-/// The name of the top that a version wrote.
-fn top_name(version: u64) -> NodeName
-    ensures version { result.version ≡ version }
-    ensures path { result.path ≡ [] }
-{
-    NodeName {
-        version,
-        path: NibblePath::empty(),
-    }
-}
-
-/// A list of one name.
-fn one_name(alloc: Global, name: NodeName) -> Result<NameList, Memory>
-    ensures { IfOk result (λ l. l ≡ name ∷ []) }
-{
-    let mut names = NameList::new(alloc);
-    names.push(name)?;
-    Ok(names)
-}
-
-/// A list of one node.
-fn one_node(alloc: Global, name: NodeName, node: PlainNode) -> Result<FreshList, Memory>
-    ensures { IfOk result (λ l. l ≡ (name, node) ∷ []) }
-{
-    let mut nodes = FreshList::new(alloc);
-    nodes.push((name, node))?;
-    Ok(nodes)
-}
-
-/// The nodes that a landing wrote: at least the top.
-fn fresh_of(alloc: Global, top: Option<&Link>, version: u64) -> Result<FreshList, Memory>
-    requires top { IsAtDepth 0 (option_copied top) }
-    requires landed { WasLanded version (option_copied top) }
-    ensures node { OnOk result (IsLinkIf (option_copied top.entry)) }
-    ensures nodes { IfOk result (λ l. (es : Part) (before : Path → Option ℕ) → IsFreshUnder version es before (option_copied top.entry) → ¬ (es ≡ content (option_copied top.entry)) → l ≡ with_root es (content (option_copied top.entry)) (fresh_under version (option_copied top.entry))) }
-{
-    match top {
-        None => one_node(alloc, top_name(version), PlainNode::Null),
-        Some(link) => {
-            link.know();
-            let mut nodes = FreshList::new(alloc);
-            list_fresh(alloc, link, version, &NibblePath::empty(), &mut nodes)?;
-            Ok(nodes)
-        }
-    }
-}
-
-/// The names of the nodes that a landing made stale: at least the old top.
-fn stale_of(
-    alloc: Global,
-    old: Option<&Link>,
-    head: u64,
-    top: Option<&Link>,
-) -> Result<NameList, Memory>
-    requires head { head + 1 < 2 ^ 64 }
-    requires old { IsAtDepth 0 (option_copied old) }
-    requires top { IsAtDepth 0 (option_copied top) }
-    requires landed { IsStaleUnder (head + 1) (option_copied old) (option_copied top) }
-    requires sorted { T (is_sorted key_cmp (content (option_copied top))) }
-    requires other { ¬ (content (option_copied top) ≡ content (option_copied old)) }
-    ensures { IfOk result (λ l. IsPermutation (with_root (content (option_copied top.entry)) (content (option_copied old.entry)) (old_name head (option_copied old.entry))) l) }
-{
-    match old {
-        None => one_name(alloc, top_name(head)),
-        Some(link) => {
-            link.know();
-            let mut names = Vec::new(alloc);
-            list_stale(link, top, head + 1, &NibblePath::empty(), &mut names)?;
-            sorted_names(alloc, names)
-        }
-    }
-}
-
-/// A landing that changes no entry: the top alone is written anew.
-fn unchanged(alloc: Global, old: Option<&Link>, head: u64) -> Result<TopUpdate, Memory>
-    requires head { head + 1 < 2 ^ 64 }
-    requires old { IsAtDepth 0 (option_copied old) }
-    requires newest { NoneNewer head (option_copied old) }
-    ensures { IfOk result (λ l. (bs : Batch) → applied (content (option_copied old.entry)) bs ≡ content (option_copied old.entry) → IsTopUpdate head (option_copied old.entry) bs l) }
-{
-    match old {
-        None => {
-            let fresh = one_node(alloc, top_name(head + 1), PlainNode::Null)?;
-            let stale = one_name(alloc, top_name(head))?;
-            Ok(TopUpdate {
-                top: None,
-                fresh,
-                stale,
-            })
-        }
-        Some(link) => {
-            link.know();
-            let top = link.renewed(alloc, head + 1)?;
-            top.know();
-            let node = plain_of(alloc, &top)?;
-            let fresh = one_node(alloc, top_name(head + 1), node)?;
-            let stale = one_name(alloc, top_name(link.version()))?;
-            Ok(TopUpdate {
-                top: Some(top),
-                fresh,
-                stale,
-            })
-        }
-    }
-}
 
 /// Ensures what holds of every link. Changes nothing.
 fn know_top(top: &Option<Link>)
@@ -192,27 +77,76 @@ pub(crate) fn next_top(
     }
 }
 
-/// Updates the top of a version, if any, by a batch.
-pub(crate) fn update_top(
+/// The name of the top that a version wrote.
+fn top_name(version: u64) -> NodeName
+    ensures version { result.version ≡ version }
+    ensures path { result.path ≡ [] }
+{
+    NodeName {
+        version,
+        path: NibblePath::empty(),
+    }
+}
+
+/// A list of one name.
+fn one_name(alloc: Global, name: NodeName) -> Result<NameList, Memory>
+    ensures { IfOk result (λ l. l ≡ name ∷ []) }
+{
+    let mut names = NameList::new(alloc);
+    names.push(name)?;
+    Ok(names)
+}
+
+/// A list of one node.
+fn one_node(alloc: Global, name: NodeName, node: PlainNode) -> Result<FreshList, Memory>
+    ensures { IfOk result (λ l. l ≡ (name, node) ∷ []) }
+{
+    let mut nodes = FreshList::new(alloc);
+    nodes.push((name, node))?;
+    Ok(nodes)
+}
+
+/// The nodes that the landing of `version` wrote: at least the top.
+pub(crate) fn fresh_of(alloc: Global, top: Option<&Link>, version: u64) -> Result<FreshList, Memory>
+    requires top { IsAtDepth 0 (option_copied top) }
+    requires own { IsOfVersion version (option_copied top) }
+    requires landed { WasLanded version (option_copied top) }
+    ensures { IfOk result (λ l. (es : Part) (before : Path → Option ℕ) → IsFreshUnder version es before (option_copied top.entry) → l ≡ with_root es (content (option_copied top.entry)) (fresh_under version (option_copied top.entry))) }
+{
+    match top {
+        None => one_node(alloc, top_name(version), PlainNode::Null),
+        Some(link) => {
+            link.know();
+            let mut nodes = FreshList::new(alloc);
+            list_fresh(alloc, link, version, &NibblePath::empty(), &mut nodes)?;
+            Ok(nodes)
+        }
+    }
+}
+
+/// The names of the nodes of the version `head`, whose top is `old`, that the landing of `version` made stale: at least
+/// the old top.
+pub(crate) fn stale_of(
     alloc: Global,
     old: Option<&Link>,
     head: u64,
-    entries: &[(Key, Option<SharedBytes>)],
-    hashes: &[Hash],
-) -> Result<TopUpdate, Memory>
-    requires head { head + 1 < 2 ^ 64 }
+    top: Option<&Link>,
+    version: u64,
+) -> Result<NameList, Memory>
     requires old { IsAtDepth 0 (option_copied old) }
-    requires newest { NoneNewer head (option_copied old) }
-    requires parts { AreParts 0 (content (option_copied old)) entries.now }
-    requires hashed { AreValueHashes entries.now hashes.now }
-    ensures { IfOk result (λ l. IsTopUpdate head (option_copied old.entry) entries.now l) }
+    requires top { IsAtDepth 0 (option_copied top) }
+    requires own { IsOfVersion version (option_copied top) }
+    requires landed { IsStaleUnder version (option_copied old) (option_copied top) }
+    requires sorted { T (is_sorted key_cmp (content (option_copied top))) }
+    ensures { IfOk result (λ l. IsPermutation (with_root (content (option_copied top.entry)) (content (option_copied old.entry)) (old_name head (option_copied old.entry))) l) }
 {
-    match update_node(alloc, old, entries, hashes, 0, head + 1)? {
-        Outcome::Same => unchanged(alloc, old, head),
-        Outcome::New(top) => {
-            let fresh = fresh_of(alloc, top.as_ref(), head + 1)?;
-            let stale = stale_of(alloc, old, head, top.as_ref())?;
-            Ok(TopUpdate { top, fresh, stale })
+    match old {
+        None => one_name(alloc, top_name(head)),
+        Some(link) => {
+            link.know();
+            let mut names = Vec::new(alloc);
+            list_stale(link, top, version, &NibblePath::empty(), &mut names)?;
+            sorted_names(alloc, names)
         }
     }
 }

@@ -11,7 +11,7 @@ use std::test::Fail;
 use std::thread::Threads;
 
 // The byte that a key is made of, and the byte put as its value, or None if the key is removed.
-type Change = (u8, Option<u8>);
+pub(crate) type Change = (u8, Option<u8>);
 
 const WORKERS: &[u64] = &[1, 2, 7, 64];
 
@@ -89,7 +89,7 @@ const OF_TWO_VERSIONS: &[Landing] = &[
     ),
 ];
 
-fn batch_of(alloc: Global, changes: &[Change]) -> Result<Batch, Fail> {
+pub(crate) fn batch_of(alloc: Global, changes: &[Change]) -> Result<Batch, Fail> {
     let mut batch = Batch::new(alloc);
     for (key, byte) in changes {
         match byte {

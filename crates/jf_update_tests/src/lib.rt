@@ -8,4 +8,6 @@ mod many_keys;
 #[cfg(test)]
 mod roots;
 #[cfg(test)]
+mod two_calls;
+#[cfg(test)]
 mod versions;

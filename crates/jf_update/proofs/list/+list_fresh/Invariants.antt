@@ -2,7 +2,7 @@ use Rattle.std.proofs.Common.{◌≡◌, ℕ, ◌-◌, ◌++◌, Option}
 use Rattle.jf_hash.specs.Slots.{Part}
 use Rattle.jf_model.specs.Nodes.{Path}
 use Rattle.jf_walk.proofs.WalkLaws.{listed_to}
-use Rattle.jf_update.specs.Below.{IsFreshOver}
+use Rattle.jf_update.specs.Below.{IsFreshBelow}
 use Rattle.jf_update.specs.Plains.{fresh_below}
 use Rattle.jf_update.proofs.list.+list_fresh.Given as goal
 
@@ -10,4 +10,4 @@ abbrev pub decreases-list_fresh : goal.decreases-list_fresh
 decreases-list_fresh l = 65 - l.link.now.depth
 
 abbrev pub invariant-loop-n : goal.invariant-loop-n
-invariant-loop-n l = (es : Part) (before : Path → Option ℕ) → IsFreshOver l.version es before l.link → l.out ≡ l.fn.out ++ listed_to l.link.depth l.n es l.link.entries (fresh_below l.version l.path l.link)
+invariant-loop-n l = (es : Part) (before : Path → Option ℕ) → IsFreshBelow l.version es before l.link → l.out ≡ l.fn.out ++ listed_to l.link.depth l.n es l.link.entries (fresh_below l.version l.path l.link)

@@ -1,25 +1,20 @@
-use Rattle.std.proofs.Common.{◌+◌, ap, sym, subst, ◌∙◌, refl}
-use Rattle.std.specs.Option.{option_copied}
-use Rattle.jf_node.specs.Children.{content}
-use Rattle.jf_node.specs.Snapshots.{snapshot_of, IsTopIf}
-use Rattle.jf_update.specs.TopUpdates.{IsTopUpdate}
-use Rattle.jf_update.specs.Outcomes.{AreParts}
-use Rattle.jf_update.proofs.SnapshotUpdateLaws.{top_parts, landed_top, updated}
+use Rattle.std.proofs.Common.{sym, subst}
+use Rattle.jf_hash.specs.Maps.{IsBatch}
+use Rattle.jf_update.specs.Updates.{IsNextSnapshot}
+use Rattle.jf_update.specs.Outcomes.{AreShort}
+use Rattle.jf_update.proofs.SnapshotUpdateLaws.{updated}
 use Rattle.jf_update.proofs.snapshot.update.Goals as goal
 
-pub update_top-requires-clause-parts : goal.update_top-requires-clause-parts
-update_top-requires-clause-parts g c =
-    subst (AreParts 0 (content (option_copied c.top.result))) (sym c.as_slice-entries.ensures.entries) (top_parts c.args.head.now (option_copied c.top.result) c.args.batch.now c.know.ensures c.top.ensures c.as_slice-entries.ensures.sound c.as_slice-entries.ensures.limited)
+pub advance-requires-clause-batch : goal.advance-requires-clause-batch
+advance-requires-clause-batch g c κs le = subst IsBatch (sym c.as_slice-entries.ensures.entries) c.as_slice-entries.ensures.sound
 
-pub of-snapshot-requires : goal.of-snapshot-requires
-of-snapshot-requires g c =
-    subst (λ v. IsTopIf (v + 1) c.in_ok-new_top.new_top.top) (c.version.ensures ∙ sym c.version-2.ensures) (landed_top c.version.result (option_copied c.top.result) c.as_slice-entries.result.now c.in_ok-new_top.new_top c.in_ok-new_top.ensures)
+pub advance-requires-clause-short : goal.advance-requires-clause-short
+advance-requires-clause-short g c κs le = subst AreShort (sym c.as_slice-entries.ensures.entries) c.as_slice-entries.ensures.limited.values
+
+pub written-requires : goal.written-requires
+written-requires g c = record { next = (c.as_slice-entries.result.now, c.in_ok-snapshot.ensures) }
 
 pub returns : goal.returns
 returns g c =
-    let old = option_copied c.top.result in
-    let l = c.in_ok-new_top.new_top in
-    let same : IsTopUpdate c.args.head.now.version old c.args.batch.now l =
-    subst (λ bs. IsTopUpdate c.args.head.now.version old bs l) c.as_slice-entries.ensures.entries (subst (λ v. IsTopUpdate v old c.as_slice-entries.result.now l) c.version.ensures c.in_ok-new_top.ensures) in
-    updated c.args.head.now old c.args.batch.now l _ c.know.ensures c.top.ensures c.as_slice-entries.ensures.sound same
-    (c.of-snapshot.ensures ∙ ap (λ v. snapshot_of (v + 1) l.top) c.version-2.ensures) c.know-2.ensures c.root.ensures refl refl
+    updated c.args.head.now c.args.batch.now _ c.as_slice-entries.ensures.sound (subst (λ b. IsNextSnapshot c.args.head.now b c.in_ok-snapshot.snapshot) c.as_slice-entries.ensures.entries c.in_ok-snapshot.ensures) c.root.ensures
+    c.in_ok-fresh.ensures.fresh c.in_ok-fresh.ensures.stale c.in_ok-fresh.ensures.bound

@@ -8,12 +8,12 @@ use Rattle.jf_update.proofs.top.fresh_of.Goals as goal
 pub list_fresh-requires-clause-rising : goal.list_fresh-requires-clause-rising
 list_fresh-requires-clause-rising c = top_would_rise c.args.version (option_copied c.args.top) c.in-Some.link.now _ _ (ap option_copied c.in-Some.is) c.requires.landed c.requires.top c.know.ensures c.new-nodes.ensures c.empty.ensures
 
-pub returns-in-None-clause-nodes : goal.returns-in-None-clause-nodes
-returns-in-None-clause-nodes c =
+pub returns-in-None : goal.returns-in-None
+returns-in-None c =
     ok_weaker _ _
-    (λ l is es before under other. fresh_none c.args.version (option_copied c.args.top) l (ap option_copied c.in-None.is) (is ∙ ap₂ (λ v p. (name_of_path v p, node.Null) ∷ []) c.top_name.ensures.version c.top_name.ensures.path) es)
+    (λ l is es before under. fresh_none c.args.version (option_copied c.args.top) l (ap option_copied c.in-None.is) (is ∙ ap₂ (λ v p. (name_of_path v p, node.Null) ∷ []) c.top_name.ensures.version c.top_name.ensures.path) es)
     c.one_node.result c.one_node.ensures
 
-pub returns-in_ok-list_fresh-in-Some-clause-nodes : goal.returns-in_ok-list_fresh-in-Some-clause-nodes
-returns-in_ok-list_fresh-in-Some-clause-nodes c es before under other =
-    fresh_some c.args.version (option_copied c.args.top) c.in-Some.link.now c.empty.result c.new-nodes.result _ (ap option_copied c.in-Some.is) c.requires.top c.know.ensures c.empty.ensures c.new-nodes.ensures c.in_ok-list_fresh-in-Some.ensures es before under other
+pub returns-in_ok-list_fresh-in-Some : goal.returns-in_ok-list_fresh-in-Some
+returns-in_ok-list_fresh-in-Some c es before under =
+    fresh_some c.args.version (option_copied c.args.top) c.in-Some.link.now c.empty.result c.new-nodes.result _ (ap option_copied c.in-Some.is) c.requires.top c.requires.own c.empty.ensures c.new-nodes.ensures c.in_ok-list_fresh-in-Some.ensures.listed es before under

@@ -1,0 +1,110 @@
+// `advance` and then `written` return what `update` returns: the same root, and the same names of nodes.
+use crate::landings::{Change, batch_of};
+use jf_join::FreeGate;
+use jf_node::Snapshot;
+use jf_path::{NodeName, PlainNode};
+use jf_split::Batch;
+use jf_update::{Update, Written, advance, update, value_hashes, written};
+use std::alloc::Global;
+use std::test::Fail;
+use std::thread::Threads;
+
+// Landings one after another: two keys, nothing, a removal that leaves one leaf, one that leaves nothing, and nothing
+// again.
+const LANDINGS: &[&[Change]] = &[
+    &[(0x10, Some(b'a')), (0x1f, Some(b'b'))],
+    &[(0x10, Some(b'a')), (0xa0, None)],
+    &[(0x1f, None)],
+    &[(0x10, None)],
+    &[(0xa0, None)],
+];
+
+// A version, with what its landing wrote and made stale.
+#[derive(Drop)]
+struct Landed {
+    snapshot: Snapshot,
+    lists: Written,
+}
+
+// Lands a batch as the next version, in two calls.
+fn in_two_calls<H: Threads + Sync>(
+    rt: &H,
+    alloc: Global,
+    head: &Snapshot,
+    batch: &Batch,
+) -> Result<Box<Landed>, Fail> {
+    if head.version() >= 9 {
+        return Err(Fail::new("too many versions"));
+    }
+    let entries = batch.as_slice();
+    let hashes = value_hashes(rt, alloc, entries, 1)?;
+    let snapshot = advance(rt, alloc, head, entries, &hashes, 1, &FreeGate)?;
+    let lists = written(alloc, head, &snapshot)?;
+    Ok(Box::new(alloc, Landed { snapshot, lists })?)
+}
+
+// Lands a batch as the next version, in one call.
+fn in_one_call<H: Threads + Sync>(
+    rt: &H,
+    alloc: Global,
+    head: &Snapshot,
+    batch: &Batch,
+) -> Result<Box<Update>, Fail> {
+    if head.version() >= 9 {
+        return Err(Fail::new("too many versions"));
+    }
+    let landed = update(rt, alloc, head, batch, 1, &FreeGate)?;
+    Ok(Box::new(alloc, landed)?)
+}
+
+fn have_same_names(some: &[(NodeName, PlainNode)], others: &[(NodeName, PlainNode)]) -> bool {
+    for (one, other) in some.iter().zip(others) {
+        if one.0 != other.0 {
+            return false;
+        }
+    }
+    some.len() == others.len()
+}
+
+fn are_same(update: &Update, landed: &Landed) -> bool {
+    update.root == landed.snapshot.root()
+        && have_same_names(update.fresh.as_slice(), landed.lists.fresh.as_slice())
+        && update.stale.as_slice() == landed.lists.stale.as_slice()
+}
+
+fn snapshot_of(landed: Box<Landed>) -> Snapshot {
+    let Landed { snapshot, .. } = Box::into_inner(landed);
+    snapshot
+}
+
+// Lands changes on a version, which becomes the next one, and returns whether it comes out the same both ways.
+fn lands_alike<H: Threads + Sync>(
+    rt: &H,
+    alloc: Global,
+    head: &mut Snapshot,
+    changes: &[Change],
+) -> Result<bool, Fail> {
+    let batch = batch_of(alloc, changes)?;
+    let update = in_one_call(rt, alloc, head, &batch)?;
+    let landed = in_two_calls(rt, alloc, head, &batch)?;
+    let same = are_same(&update, &landed);
+    *head = snapshot_of(landed);
+    Ok(same)
+}
+
+// How many landings come out the same before the first that doesn't.
+fn alike<H: Threads + Sync>(rt: &H, alloc: Global) -> Result<usize, Fail> {
+    let mut head = Snapshot::empty(0);
+    for (i, changes) in LANDINGS.iter().enumerate() {
+        if !lands_alike(rt, alloc, &mut head, changes)? {
+            return Ok(i);
+        }
+    }
+    Ok(LANDINGS.len())
+}
+
+#[test]
+fn two_calls_return_what_one_does(rt: HostRuntime) -> Result<(), Fail> {
+    assert!(rt; alike(&rt, rt.alloc())? == 5);
+    Ok(())
+}
