@@ -173,8 +173,7 @@ placed_outcome d v n olds w w' bs ps p (New y) long fit parts h lt at small out 
     let on : get_or w'.changed m false ≡ true = ap (λ ms. get_or ms m false) put.1 ∙ get_or-set_same w.changed m true false (omega (arith, h.changes)) in
     placed_one d v n olds w.children w'.children bs ps w.changed w'.changed p h lt at (ap length put.0 ∙ length-set w.children m y ∙ h.long) (ap length put.1 ∙ length-set w.changed m true ∙ h.changes)
     (subst (FitFrom d 0) (sym put.0) (FitFrom-set d 0 m w.children y h.fit (subst (λ k. FitsAt d k y) (sym (zero-add m))
-      (fits_part d m (applied (joined olds) bs) y (out.0.entries ∙ ap (λ es. applied es (with_nibble d m bs)) (sym (child_part d m olds long fit)) ∙ sym (with_nibble-applied d m (joined olds) bs parts.entries.sorted)) out.0.placed))))
-    (
+    (fits_part d m (applied (joined olds) bs) y (out.0.entries ∙ ap (λ es. applied es (with_nibble d m bs)) (sym (child_part d m olds long fit)) ∙ sym (with_nibble-applied d m (joined olds) bs parts.entries.sorted)) out.0.placed)))) (
       subst (λ z. IsNodeUpdate (d + 1) v (get_or olds m None) (with_nibble d m bs) z) (sym here) out.0,
       (λ off. absurd (true≢false (sym on ∙ off))),
       (λ is e. out.1 (sym out.0.entries ∙ ap content (sym here) ∙ e)),

@@ -138,7 +138,11 @@ fn update_pieces<H: Threads + Sync, G: Gate>(
     let work = |piece: &Piece| -> Result<Outcome, Memory>
         requires { IsSync H.row × IsSync G.row × (1 ≤ each) × (each ≤ 64) × (depth < 64) × FitFrom depth 0 children.now × AreParts depth (joined children.now) entries.now × AreValueHashes entries.now hashes.now × IsPieceOf depth entries.now piece.now }
         ensures { IfOk result (IsPieceOutcome depth version children.entry.now entries.entry.now piece.now) }
-    { update_piece(rt, alloc, children, piece, entries, hashes, depth, version, each, gate) };
+    {
+        update_piece(
+            rt, alloc, children, piece, entries, hashes, depth, version, each, gate,
+        )
+    };
     let outcomes = join_pieces(rt, alloc, &pieces, workers, gate, &work)?;
     place_all(children, &pieces, outcomes, entries, depth, version)
 }

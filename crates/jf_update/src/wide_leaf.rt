@@ -130,7 +130,11 @@ fn build_pieces<H: Threads + Sync, G: Gate>(
     let work = |piece: &Piece| -> Result<Option<Link>, Memory>
         requires { IsSync H.row × IsSync G.row × (1 ≤ each) × (each ≤ 64) × (depth < 64) × (length (content (option_copied own)) < 2) × AreParts depth (content (option_copied own)) entries.now × AreValueHashes entries.now hashes.now × IsPieceOf depth entries.now piece.now }
         ensures { IfOk result (IsPieceBuilt depth version (applied (content (option_copied own.entry)) entries.entry.now) piece.now) }
-    { build_piece(rt, alloc, own, piece, entries, hashes, depth, version, each, gate) };
+    {
+        build_piece(
+            rt, alloc, own, piece, entries, hashes, depth, version, each, gate,
+        )
+    };
     let built = join_pieces(rt, alloc, &pieces, workers, gate, &work)?;
     place_built(alloc, own, &pieces, built, entries, hashes, depth, version)
 }

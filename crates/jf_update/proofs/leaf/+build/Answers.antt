@@ -3,7 +3,7 @@ use Rattle.std.specs.Option.{option_copied}
 use Rattle.jf_hash.specs.Slots.{with_nibble}
 use Rattle.jf_model.specs.Changes.{applied}
 use Rattle.jf_model.specs.Parts.{IsPieceEnd}
-use Rattle.jf_node.specs.Children.{content, leaf_value}
+use Rattle.jf_node.specs.Children.{content}
 use Rattle.jf_node.specs.LinkFacts.{BeginAlike}
 use Rattle.jf_path.proofs.ListLaws.{take-rest}
 use Rattle.jf_walk.proofs.PartLaws.{deeper}

@@ -1,4 +1,4 @@
-use Rattle.std.proofs.Common.{arith, rules, ◌≡◌, ◌+◌, ◌-◌, None, get_or, sym, ap, ◌∙◌, subst, refl, take, drop, eqb-true, length, length-drop}
+use Rattle.std.proofs.Common.{arith, rules, ◌≡◌, ◌+◌, ◌-◌, None, get_or, sym, ap, ◌∙◌, subst, take, drop, eqb-true, length, length-drop}
 use Rattle.std.specs.Option.{option_copied}
 use Rattle.jf_node.specs.Children.{content}
 use Rattle.jf_model.specs.Parts.{IsPieceEnd}

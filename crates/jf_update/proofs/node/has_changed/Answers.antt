@@ -1,4 +1,3 @@
-use Rattle.std.proofs.Common.{◌≡◌}
 use Rattle.jf_update.proofs.NodeUpdateLaws.{told_change}
 use Rattle.jf_update.proofs.node.has_changed.Goals as goal
 

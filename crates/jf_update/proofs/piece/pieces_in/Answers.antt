@@ -1,4 +1,4 @@
-use Rattle.std.proofs.Common.{arith, refl, ◌+◌, ◌≡◌, sym, ap, ◌∙◌, subst, drop}
+use Rattle.std.proofs.Common.{arith, refl, ◌+◌, sym, ap, ◌∙◌, subst, drop}
 use Rattle.jf_model.specs.Parts.{IsPieceEnd}
 use Rattle.jf_update.proofs.BuildLaws.{end_in_rest}
 use Rattle.jf_update.proofs.WideLaws.{IsCutting, cutting_start, cutting_more, cutting_none}

@@ -1,4 +1,4 @@
-use Rattle.std.proofs.Common.{arith, ◌≡◌, ◌≤◌, ◌+◌, ◌-◌, length, sym, ap, ◌∙◌, subst, IfOk, None, get_or}
+use Rattle.std.proofs.Common.{arith, ◌+◌, ◌-◌, length, sym, ap, ◌∙◌, subst, IfOk}
 use Rattle.std.specs.List.{AllZip}
 use Rattle.std.specs.Option.{option_copied}
 use Rattle.jf_join.proofs.AnswerLaws.{AnswersEach-pairs}

@@ -1,4 +1,4 @@
-use Rattle.std.proofs.Common.{arith, ◌≡◌, ◌≤◌, length, sym, ◌∙◌, subst, IfOk}
+use Rattle.std.proofs.Common.{arith, ◌≡◌, length, sym, ◌∙◌, subst, IfOk}
 use Rattle.std.proofs.lemmas.Result.{IfOk-at_ok}
 use Rattle.jf_update.specs.Wide.{IsPieceOutcome}
 use Rattle.jf_update.proofs.NodeUpdateLaws.{updating_done, none_changed, some_changed}

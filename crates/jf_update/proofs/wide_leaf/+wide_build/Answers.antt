@@ -1,4 +1,4 @@
-use Rattle.std.proofs.Common.{arith, ◌≡◌, ◌≤◌, ◌<◌, ◌+◌, ◌-◌, length, sym, ap, ◌∙◌, subst, IfOk}
+use Rattle.std.proofs.Common.{arith, ◌-◌, length, sym, ap, ◌∙◌, subst, IfOk}
 use Rattle.std.proofs.lemmas.Result.{IfOk-weaker}
 use Rattle.std.specs.List.{AllZip}
 use Rattle.std.specs.Option.{option_copied}
@@ -8,7 +8,6 @@ use Rattle.jf_node.specs.Children.{content}
 use Rattle.jf_node.specs.LinkFacts.{BeginAlike}
 use Rattle.jf_walk.proofs.PartLaws.{deeper}
 use Rattle.jf_walk.proofs.PartChanges.{IsPartUnder-applied}
-use Rattle.jf_update.specs.Made.{Built}
 use Rattle.jf_update.specs.Wide.{IsPieceBuilt}
 use Rattle.jf_update.proofs.BuildLaws.{built_nothing, built_kept, built_put, built_inner, few_at, joined_built, part_agrees}
 use Rattle.jf_update.proofs.RemainderLaws.{hashes_cut, hashes_long}

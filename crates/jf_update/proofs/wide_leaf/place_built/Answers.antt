@@ -1,4 +1,4 @@
-use Rattle.std.proofs.Common.{arith, ◌≡◌, ◌≤◌, length, subst, IfOk}
+use Rattle.std.proofs.Common.{arith, ◌≡◌, length, subst, IfOk}
 use Rattle.std.proofs.lemmas.Result.{IfOk-at_ok}
 use Rattle.std.specs.Option.{option_copied}
 use Rattle.jf_model.specs.Changes.{applied}
