@@ -8,3 +8,5 @@ pub mod PathNames
 pub mod TopUpdateLaws
 pub mod SnapshotUpdateLaws
 pub mod RestoreLaws
+pub mod WideLaws
+pub mod WideBuildLaws

@@ -64,7 +64,7 @@ pub record IsUpdating (depth version n start : ℕ) (olds : List (Option LinkVal
   pub within : start ≤ length bs
   pub rest : drop start bs ≡ from_nibble depth n bs
 
-no_change : (n k : ℕ) → get_or (replicate n false) k false ≡ false
+pub no_change : (n k : ℕ) → get_or (replicate n false) k false ≡ false
 no_change zero k = refl
 no_change (suc n) zero = refl
 no_change (suc n) (suc k) = no_change n k

@@ -66,7 +66,7 @@ nothing_put k (Some v) off = absurd (true≢false off)
 pub puts_more : (bs : Batch) (i : ℕ) (item : Change) → i < length bs → item ≡ get_or bs i item → is_some item.1 ≡ false → puts (take i bs) ≡ [] → puts (take (i + 1) bs) ≡ []
 puts_more bs i item lt at off none = sym (push_step [] [] [] bs i item (sym none) lt at (sym (nothing_put item.0 item.1 off)))
 
-get_or-any : {X : Type 0} (xs : List X) (i : ℕ) (a b : X) → i < length xs → get_or xs i a ≡ get_or xs i b
+pub get_or-any : {X : Type 0} (xs : List X) (i : ℕ) (a b : X) → i < length xs → get_or xs i a ≡ get_or xs i b
 get_or-any [] i a b lt = absurd (omega arith)
 get_or-any (x ∷ xs) zero a b lt = refl
 get_or-any (x ∷ xs) (suc i) a b lt = get_or-any xs i a b (omega arith)

@@ -79,26 +79,26 @@ pub record IsStaleOver (version : ℕ) (x : LinkValue) (y : Option LinkValue) : 
   pub versioned : VersionsFollow x.depth version x.entries (content y) (λ p. link_version_at p (Some x)) (λ p. link_version_at p y)
   pub older : (path : Path) → ¬ (link_version_at path (Some x) ≡ Some version)
 
-pub fresh_below_of : (version : ℕ) (es : Part) (before : Path → Option ℕ) (x : LinkValue) → IsFreshOver version es before x → IsFreshBelow version es before x
+fresh_below_of : (version : ℕ) (es : Part) (before : Path → Option ℕ) (x : LinkValue) → IsFreshOver version es before x → IsFreshBelow version es before x
 fresh_below_of version es before x over = record { versioned = λ n p. over.versioned (n ∷ p); older = λ n p. over.older (n ∷ p) }
 
-pub stale_below_of : (version : ℕ) (x : LinkValue) (y : Option LinkValue) → IsStaleOver version x y → IsStaleBelow version x y
+stale_below_of : (version : ℕ) (x : LinkValue) (y : Option LinkValue) → IsStaleOver version x y → IsStaleBelow version x y
 stale_below_of version x y over = record { versioned = λ n p. over.versioned (n ∷ p); older = λ n p. over.older (n ∷ p) }
 
-pub small_of : (x : LinkValue) → IsLink x → (x.depth < 64) ⊎ (length x.entries < 2)
+small_of : (x : LinkValue) → IsLink x → (x.depth < 64) ⊎ (length x.entries < 2)
 small_of x link = elim (cases_lt (length x.entries) 2) [ inl few ↦ inr few | inr many ↦ inl (link.inner many) ]
 
 some_is : (a b : ℕ) → Some a ≡ Some b → a ≡ b
 some_is a b e = cc
 
 -- a node has the new version exactly if its entries differ from before
-pub is_new : (version : ℕ) (es : Part) (before : Path → Option ℕ) (x : LinkValue) → IsLink x → IsFreshOver version es before x → x.version ≡ version → differs es x.entries ≡ true
+is_new : (version : ℕ) (es : Part) (before : Path → Option ℕ) (x : LinkValue) → IsLink x → IsFreshOver version es before x → x.version ≡ version → differs es x.entries ≡ true
 is_new version es before x link over is = elim (differs_or_same es x.entries link.entries.some) [
   | inl differ ↦ differ
   | inr same ↦ absurd (over.older [] (sym ((over.versioned []).kept (not_empty x.entries link.entries.some) same) ∙ link.own ∙ ap (λ v. Some v) is))
 ]
 
-pub is_old : (version : ℕ) (es : Part) (before : Path → Option ℕ) (x : LinkValue) → IsLink x → IsFreshOver version es before x → ¬ (x.version ≡ version) → es ≡ x.entries
+is_old : (version : ℕ) (es : Part) (before : Path → Option ℕ) (x : LinkValue) → IsLink x → IsFreshOver version es before x → ¬ (x.version ≡ version) → es ≡ x.entries
 is_old version es before x link over other = elim (differs_or_same es x.entries link.entries.some) [
   | inl differ ↦ absurd (other (some_is x.version version (sym link.own ∙ (over.versioned []).fresh (not_empty x.entries link.entries.some) (differs-other es x.entries differ))))
   | inr same ↦ same

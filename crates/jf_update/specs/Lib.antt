@@ -7,3 +7,4 @@ pub mod Plains
 pub mod TopUpdates
 pub mod ValueHashes
 pub mod Restored
+pub mod Wide

@@ -18,7 +18,7 @@ use jf_path::{Key, Memory, Nibble, SharedBytes, nibble};
 use std::alloc::Global;
 
 /// The leaf, if its key has nibble `n` at a depth.
-fn own_at(own: Option<&Link>, depth: u64, n: Nibble) -> Option<&Link>
+pub(crate) fn own_at(own: Option<&Link>, depth: u64, n: Nibble) -> Option<&Link>
     requires depth { depth < 64 }
     requires few { length (content (option_copied own)) < 2 }
     ensures { content (option_copied result) ≡ with_nibble depth n (content (option_copied own.entry)) }
@@ -40,7 +40,7 @@ fn own_at(own: Option<&Link>, depth: u64, n: Nibble) -> Option<&Link>
 
 /// The new nodes where the leaf `own` stood, or nothing, after changes of keys below the same path.
 #[cycle(build)]
-fn build(
+pub(crate) fn build(
     alloc: Global,
     own: Option<&Link>,
     entries: &[(Key, Option<SharedBytes>)],
@@ -74,7 +74,7 @@ fn build(
 
 /// The new children of a node that takes the place of the leaf `own`, or of nothing.
 #[cycle(build)]
-fn build_children(
+pub(crate) fn build_children(
     alloc: Global,
     own: Option<&Link>,
     entries: &[(Key, Option<SharedBytes>)],

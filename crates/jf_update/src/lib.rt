@@ -16,6 +16,8 @@ mod restore;
 mod snapshot;
 mod sorted;
 mod top;
+mod wide;
+mod wide_leaf;
 
 pub use hashing::value_hashes;
 pub use jf_node::Update;

@@ -47,8 +47,8 @@ pub(crate) fn list_fresh(
     Ok(())
 }
 
-/// Appends the names of the nodes from `old` down that a landing made stale. The node `new` stands in its place, and
-/// `path` leads to it.
+/// Appends the names of the nodes from `old` down that a landing made stale: none if the node `new`, which stands in its
+/// place, was there before; and otherwise that of `old` first. `path` leads to it.
 pub(crate) fn list_stale(
     old: &Link,
     new: Option<&Link>,

@@ -99,7 +99,7 @@ pub(crate) fn update_node(
 }
 
 /// Puts the outcome for a child in its place, and notes whether it is new.
-fn place(made: &mut NewChildren, n: Nibble, outcome: Outcome)
+pub(crate) fn place(made: &mut NewChildren, n: Nibble, outcome: Outcome)
     ensures { IsOutcomePlaced made.old n outcome made.new }
 {
     if let Outcome::New(child) = outcome {
@@ -109,7 +109,7 @@ fn place(made: &mut NewChildren, n: Nibble, outcome: Outcome)
 }
 
 /// Whether a child is new.
-fn has_changed(changed: Bitmap) -> bool
+pub(crate) fn has_changed(changed: Bitmap) -> bool
     ensures { result ≡ has_change changed }
 {
     changed.know();
@@ -118,7 +118,7 @@ fn has_changed(changed: Bitmap) -> bool
 
 /// Updates the children of a node. Returns `None` if none of them changes.
 #[cycle(node)]
-fn update_children(
+pub(crate) fn update_children(
     alloc: Global,
     children: &Branches,
     entries: &[(Key, Option<SharedBytes>)],

@@ -1,9 +1,16 @@
-// A piece of a list: the entries whose keys have one nibble, which stand one after another.
-ghost use Rattle.std.specs.Prelude.{◌≡◌, ◌-◌, ◌<◌, ◌≤◌, length, take, drop};
-ghost use Rattle.jf_model.specs.Parts.{IsPieceEnd};
+// A piece of a list: the entries whose keys have one nibble, which stand one after another. Several workers take a piece
+// each.
+ghost use Rattle.std.specs.Prelude.{◌≡◌, ◌-◌, ◌<◌, ◌≤◌, ℕ, length, take, drop, IfOk};
+ghost use Rattle.jf_model.specs.Parts.{IsPartUnder, IsPieceEnd};
+ghost use Rattle.jf_update.specs.Wide.{ArePiecesOf};
 
 use jf_hash::Hash;
-use jf_path::{Key, Nibble, nibble};
+use jf_path::{Key, Memory, Nibble, SharedBytes, nibble};
+use jf_split::Piece;
+use std::alloc::Global;
+
+/// A piece of more changes than this is cut again.
+const MOST_KEYS: usize = 1_024;
 
 /// The number of entries at the front of `items` whose keys have nibble `n` at a depth.
 pub(crate) fn piece_end<V>(items: &[(Key, V)], depth: u64, n: Nibble) -> usize
@@ -25,4 +32,52 @@ pub(crate) fn hashes_in(hashes: &[Hash], start: usize, end: usize) -> &[Hash]
     ensures { result.now ≡ take (end - start) (drop start hashes.now) }
 {
     &hashes[start..end]
+}
+
+/// The pieces of changes at a depth that aren't empty, in the order of their nibbles.
+pub(crate) fn pieces_in(
+    alloc: Global,
+    entries: &[(Key, Option<SharedBytes>)],
+    depth: u64,
+) -> Result<Vec<Piece>, Memory>
+    requires depth { depth < 64 }
+    requires part { (path : ℕ → ℕ) × IsPartUnder depth path entries.now }
+    ensures { IfOk result (λ ps. ArePiecesOf depth entries.now ps.items) }
+{
+    let mut pieces = Vec::new(alloc);
+    let mut start = 0;
+    for n in 0..16 {
+        let nibble = Nibble::of(n);
+        let end = start + piece_end(&entries[start..], depth, nibble);
+        if end > start {
+            pieces.push(Piece { nibble, start, end })?;
+        }
+        start = end;
+    }
+    Ok(pieces)
+}
+
+/// The number of workers that each of so many pieces may have, if all of them have `workers`.
+pub(crate) fn workers_each(workers: u64, pieces: usize) -> u64
+    requires positive { 1 ≤ workers }
+    requires bounded { workers ≤ 64 }
+    ensures positive { 1 ≤ result }
+    ensures bounded { result ≤ 64 }
+{
+    let pieces = pieces as u64;
+    if pieces == 0 || pieces >= workers {
+        1
+    } else {
+        workers / pieces
+    }
+}
+
+/// The number of workers of a piece of so many changes, which may have `workers`.
+pub(crate) fn workers_for(workers: u64, changes: usize) -> u64
+    requires positive { 1 ≤ workers }
+    requires bounded { workers ≤ 64 }
+    ensures positive { 1 ≤ result }
+    ensures bounded { result ≤ 64 }
+{
+    if changes > MOST_KEYS { workers } else { 1 }
 }

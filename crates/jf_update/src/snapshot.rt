@@ -19,7 +19,8 @@ use std::thread::Threads;
 
 /// The version after `head`, with the changes applied; `hashes` has the hash of each value at the place of its change.
 /// Only the top and the nodes below which something changes are made anew; every other node is shared with `head`. A
-/// node is hashed if it is new. For now `rt`, `workers` and `gate` are not used: the caller's thread does the work.
+/// node is hashed if it is new. With more workers than one, the changes with each first nibble are a piece of work, of
+/// which the gate is told; a piece of more than 1,024 changes is cut again by the next nibble if workers are left for it.
 pub fn advance<H: Threads + Sync, G: Gate>(
     rt: &H,
     alloc: Global,
@@ -37,11 +38,17 @@ pub fn advance<H: Threads + Sync, G: Gate>(
     requires hashed { AreValueHashes entries.now hashes.now }
     ensures { IfOk result (IsNextSnapshot head.now entries.now) }
 {
-    let _ = rt;
-    let _ = gate;
-    let _ = workers;
     head.know();
-    let top = next_top(alloc, head.top(), head.version(), entries, hashes)?;
+    let top = next_top(
+        rt,
+        alloc,
+        head.top(),
+        head.version(),
+        entries,
+        hashes,
+        workers,
+        gate,
+    )?;
     let snapshot = Snapshot::of(head.version() + 1, top);
     snapshot.know();
     Ok(snapshot)

@@ -1,5 +1,5 @@
 // The top of the next version, and what a landing writes and makes stale from the top down.
-ghost use Rattle.std.specs.Prelude.{◌≡◌, ℕ, ◌+◌, ◌<◌, ◌^◌, ◌∷◌, [], Option, IfOk, T};
+ghost use Rattle.std.specs.Prelude.{◌≡◌, ℕ, ◌+◌, ◌<◌, ◌≤◌, ◌^◌, ◌∷◌, [], Option, IfOk, T};
 ghost use Rattle.std.specs.Option.{option_copied};
 ghost use Rattle.std.specs.FinMap.{is_sorted};
 ghost use Rattle.std.specs.List.Sorted.{IsPermutation};
@@ -18,13 +18,15 @@ ghost use Rattle.jf_update.specs.Plains.{fresh_under};
 ghost use Rattle.jf_update.specs.TopUpdates.{IsNextTop, IsFreshUnder, IsStaleUnder, NoneNewer, WasLanded, old_name};
 
 use crate::list::{list_fresh, list_stale};
-use crate::node::update_node;
 use crate::outcome::Outcome;
 use crate::sorted::sorted_names;
+use crate::wide::update_wide;
 use jf_hash::Hash;
+use jf_join::Gate;
 use jf_node::Link;
 use jf_path::{FreshList, Key, Memory, NameList, NibblePath, NodeName, PlainNode, SharedBytes};
 use std::alloc::Global;
+use std::thread::Threads;
 
 /// Ensures what holds of every link. Changes nothing.
 fn know_top(top: &Option<Link>)
@@ -53,14 +55,19 @@ fn renewed_top(alloc: Global, old: Option<&Link>, head: u64) -> Result<Option<Li
     }
 }
 
-/// The top after changes of the version `head`, whose top is `old`, if any.
-pub(crate) fn next_top(
+/// The top after changes of the version `head`, whose top is `old`, if any, by at most this many workers.
+pub(crate) fn next_top<H: Threads + Sync, G: Gate>(
+    rt: &H,
     alloc: Global,
     old: Option<&Link>,
     head: u64,
     entries: &[(Key, Option<SharedBytes>)],
     hashes: &[Hash],
+    workers: u64,
+    gate: &G,
 ) -> Result<Option<Link>, Memory>
+    requires positive { 1 ≤ workers }
+    requires bounded { workers ≤ 64 }
     requires head { head + 1 < 2 ^ 64 }
     requires old { IsAtDepth 0 (option_copied old) }
     requires newest { NoneNewer head (option_copied old) }
@@ -68,7 +75,7 @@ pub(crate) fn next_top(
     requires hashed { AreValueHashes entries.now hashes.now }
     ensures { IfOk result (λ top. IsNextTop head (option_copied old.entry) entries.now top) }
 {
-    match update_node(alloc, old, entries, hashes, 0, head + 1)? {
+    match update_wide(rt, alloc, old, entries, hashes, 0, head + 1, workers, gate)? {
         Outcome::Same => renewed_top(alloc, old, head),
         Outcome::New(top) => {
             know_top(&top);

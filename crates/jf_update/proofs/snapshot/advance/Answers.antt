@@ -6,7 +6,7 @@ use Rattle.jf_update.proofs.SnapshotUpdateLaws.{change_parts, next_if, advanced}
 use Rattle.jf_update.proofs.snapshot.advance.Goals as goal
 
 pub next_top-requires-clause-parts : goal.next_top-requires-clause-parts
-next_top-requires-clause-parts g c = change_parts c.args.head.now (option_copied c.top.result) c.args.entries.now c.know.ensures c.top.ensures c.requires.batch c.requires.short
+next_top-requires-clause-parts g c κs within = change_parts c.args.head.now (option_copied c.top.result) c.args.entries.now c.know.ensures c.top.ensures c.requires.batch c.requires.short
 
 pub of-snapshot-requires : goal.of-snapshot-requires
 of-snapshot-requires g c =

@@ -1,0 +1,37 @@
+-- The pieces of changes that several workers take, and their outcomes.
+use Rattle.std.specs.Prelude.{◌≡◌, ℕ, ◌+◌, ◌-◌, ◌<◌, ◌≤◌, ◌⊎◌, List, [], ◌∷◌, length, take, drop, Option, None, slice_index_or}
+use Rattle.std.specs.List.{AllByRecursion}
+use Rattle.jf_hash.specs.Maps.{Batch}
+use Rattle.jf_hash.specs.Slots.{Part, with_nibble}
+use Rattle.jf_split.specs.declared.piece.Piece.{Piece}
+use Rattle.jf_node.specs.LinkValue.{LinkValue}
+use Rattle.jf_update.specs.Made.{Built}
+use Rattle.jf_update.specs.Outcomes.{IsOutcome}
+use Rattle.jf_update.specs.declared.outcome.Outcome.{Outcome}
+
+-- a piece is exactly the changes with its nibble
+pub record IsPieceOf (depth : ℕ) (bs : Batch) (p : Piece) : Type 0 where
+  pub small : p.nibble < 16
+  pub rising : p.start ≤ p.end
+  pub within : p.end ≤ length bs
+  pub exact : take (p.end - p.start) (drop p.start bs) ≡ with_nibble depth p.nibble bs
+
+-- one of the pieces has nibble k
+abbrev pub HasNibble : ℕ → List Piece → Type 0
+HasNibble k [] = ⊥
+HasNibble k (p ∷ ps) = (p.nibble ≡ k) ⊎ HasNibble k ps
+
+-- pieces of changes, and no change has the nibble of none of them
+pub record ArePiecesOf (depth : ℕ) (bs : Batch) (ps : List Piece) : Type 0 where
+  pub pieces : AllByRecursion (IsPieceOf depth bs) ps
+  pub whole : (k : ℕ) → k < 16 → HasNibble k ps ⊎ (with_nibble depth k bs ≡ [])
+
+-- the outcome of a piece is that of its changes over the child at its nibble
+pub record IsPieceOutcome (depth version : ℕ) (olds : List (Option LinkValue)) (bs : Batch) (p : Piece) (r : Outcome) : Type 0 where
+  pub small : p.nibble < 16
+  pub outcome : IsOutcome (depth + 1) version (slice_index_or olds p.nibble None) (with_nibble depth p.nibble bs) r
+
+-- what is built for a piece has, of the entries es after all changes, those with its nibble
+pub record IsPieceBuilt (depth version : ℕ) (es : Part) (p : Piece) (y : Option LinkValue) : Type 0 where
+  pub small : p.nibble < 16
+  pub built : Built (depth + 1) version (with_nibble depth p.nibble es) y
