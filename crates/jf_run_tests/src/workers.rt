@@ -1,11 +1,14 @@
-// Runs with several workers: no number of workers changes what is written.
+// Runs with several workers: pieces of one landing are in flight at once, and no number of workers changes what is
+// written.
 use crate::words::words_of;
 use jf_disk::{MemDisk, Side};
-use jf_join::FreeGate;
+use jf_join::{FreeGate, Gate};
 use jf_play::play::{Played, new_disk, play_gated};
 use jf_run::status::Status;
 use std::alloc::Global;
 use std::sync::Wait;
+use std::sync::atomic::AtomicU64;
+use std::sync::atomic::Ordering::SeqCst;
 use std::test::Fail;
 use std::thread::Threads;
 
@@ -30,6 +33,81 @@ fn script_of(alloc: Global, batches: &[Lines]) -> Result<Vec<u8>, Fail> {
         add_batch(alloc, &mut script, lines)?;
     }
     Ok(script)
+}
+
+// How often the first piece looks for the second before it goes on alone.
+const TURNS: u64 = 100_000_000;
+
+// Holds the first piece of a landing back until the second has begun, and tells whether it saw that.
+#[derive(Drop)]
+struct Meeting {
+    second: AtomicU64,
+    met: AtomicU64,
+}
+
+impl Meeting {
+    fn new() -> Meeting {
+        Meeting {
+            second: AtomicU64::new(0),
+            met: AtomicU64::new(0),
+        }
+    }
+
+    fn has_met(&self) -> bool {
+        self.met.load(SeqCst) == 1
+    }
+}
+
+impl Gate for Meeting {
+    fn begin(&self, piece: u64) {
+        if piece == 1 {
+            self.second.store(1, SeqCst);
+        }
+        if piece != 0 {
+            return;
+        }
+        for _ in 0..TURNS {
+            if self.second.load(SeqCst) == 1 {
+                self.met.store(1, SeqCst);
+                return;
+            }
+        }
+    }
+
+    fn session(&self, _number: u64) {}
+}
+
+// The first landing of a store: two names whose keys differ in the first nibble.
+const TWO: &[u8] = b"put 61 =01\nput 62 =02\ncommit\n";
+
+// Names under each first nibble of a key, put into an empty store and put again.
+const TWICE: &[Lines] = &[("put", 0, 200, " =31"), ("put", 0, 200, " =32")];
+
+// Whether a script makes so many entries on a new store, worked by two workers, and the first two pieces of a landing meet.
+fn meet<H: Threads + Wait + Sync>(
+    rt: &H,
+    alloc: Global,
+    script: &[u8],
+    entries: u64,
+) -> Result<bool, Fail> {
+    let gate = Meeting::new();
+    let words = words_of(alloc, "run --workers 2")?;
+    let disk = new_disk(alloc, b"", &[])?;
+    let played = play_gated(rt, alloc, disk, &words, script, &gate)?;
+    Ok(played.status == Status::Done && played.entries == entries && gate.has_met())
+}
+
+#[test]
+fn two_pieces_meet(rt: HostRuntime) -> Result<(), Fail> {
+    assert!(rt; meet(&rt, rt.alloc(), TWO, 1)?);
+    Ok(())
+}
+
+#[test]
+fn two_pieces_meet_over_nodes(rt: HostRuntime) -> Result<(), Fail> {
+    let script = script_of(rt.alloc(), TWICE)?;
+    assert!(rt; meet(&rt, rt.alloc(), &script, 2)?);
+    Ok(())
 }
 
 // Large batches and small ones, with values put again, removals, and a removal of nothing.
