@@ -80,35 +80,56 @@ impl Gate for Meeting {
 // Names under each first nibble of a key, put into an empty store and put again.
 const TWICE: &[Lines] = &[("put", 0, 200, " =31"), ("put", 0, 200, " =32")];
 
-// Whether a run ended well with two entries.
-fn has_landed_two(played: &Played<MemDisk>) -> bool {
-    played.status == Status::Done && played.entries == 2
+// Two names whose keys have different first nibbles, put into an empty store.
+const TWO_NAMES: &[u8] = b"put 00000000 =01\nput 00000001 =02\ncommit\n";
+
+// Whether a run ended well with so many entries.
+fn has_landed(played: &Played<MemDisk>, entries: u64) -> bool {
+    played.status == Status::Done && played.entries == entries
 }
 
-// Whether the words and the script make two entries on a new store.
-fn land_two<H: Threads + Wait + Sync>(
+// Whether the words and the script make so many entries on a new store.
+fn lands<H: Threads + Wait + Sync>(
     rt: &H,
     alloc: Global,
     words: &[String],
     script: &[u8],
+    entries: u64,
     gate: &Meeting,
 ) -> Result<bool, Fail> {
     let disk = new_disk(alloc, b"", &[])?;
     let played = play_gated(rt, alloc, disk, words, script, gate)?;
-    Ok(has_landed_two(&played))
+    Ok(has_landed(&played, entries))
 }
 
 // Whether two pieces of a landing on a store that isn't empty meet if two workers work them.
 fn two_meet<H: Threads + Wait + Sync>(rt: &H, alloc: Global, gate: &Meeting) -> Result<bool, Fail> {
     let words = words_of(alloc, "run --workers 2")?;
     let script = script_of(alloc, TWICE)?;
-    Ok(land_two(rt, alloc, &words, &script, gate)? && gate.has_met())
+    Ok(lands(rt, alloc, &words, &script, 2, gate)? && gate.has_met())
+}
+
+// Whether two pieces of the first landing on an empty store meet if two workers work them.
+fn first_two_meet<H: Threads + Wait + Sync>(
+    rt: &H,
+    alloc: Global,
+    gate: &Meeting,
+) -> Result<bool, Fail> {
+    let words = words_of(alloc, "run --workers 2")?;
+    Ok(lands(rt, alloc, &words, TWO_NAMES, 1, gate)? && gate.has_met())
 }
 
 #[test]
 fn two_pieces_meet(rt: HostRuntime) -> Result<(), Fail> {
     let gate = Meeting::new();
     assert!(rt; two_meet(&rt, rt.alloc(), &gate)?);
+    Ok(())
+}
+
+#[test]
+fn two_pieces_meet_on_an_empty_store(rt: HostRuntime) -> Result<(), Fail> {
+    let gate = Meeting::new();
+    assert!(rt; first_two_meet(&rt, rt.alloc(), &gate)?);
     Ok(())
 }
 
