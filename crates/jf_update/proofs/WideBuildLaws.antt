@@ -1,5 +1,5 @@
 -- The new children that several workers build, put in place.
-use Rattle.std.proofs.Common.{ℕ, List, ◌≡◌, ◌+◌, ◌-◌, [], ap, ap₂, ◌∙◌, sym, subst, zero, suc, ◌<◌, ◌≤◌, length, length-set, get_or, get_or-set_other, get_or-set_same, arith, T, None, Option, set, take, drop, inl, inr, ◌⊎◌, eq-or-lt_of_le, zero-add}
+use Rattle.std.proofs.Common.{ℕ, List, ◌≡◌, ◌+◌, ◌-◌, [], ap, ap₂, ◌∙◌, sym, subst, ◌<◌, ◌≤◌, length, length-set, get_or, get_or-set_other, get_or-set_same, arith, T, None, Option, set, take, drop, inl, inr, ◌⊎◌, eq-or-lt_of_le, zero-add}
 use Rattle.std.specs.FinMap.{is_sorted}
 use Rattle.jf_path.specs.Keys.{key_cmp}
 use Rattle.jf_hash.specs.Maps.{Batch}

@@ -1,5 +1,5 @@
 -- Pieces of changes one after another, and their outcomes put in place.
-use Rattle.std.proofs.Common.{ℕ, List, ◌≡◌, ◌+◌, ◌-◌, [], ◌∷◌, ◌++◌, refl, ap, ◌∙◌, sym, subst, zero, suc, ◌<◌, ◌≤◌, length, length-drop, length-set, get_or, get_or-set_other, get_or-set_same, arith, Bool, true, false, true≢false, ◌==◌, Some, None, Option, take, drop, set, replicate, inl, inr, ◌⊎◌, eq-or-lt_of_le, zero-add, add-one}
+use Rattle.std.proofs.Common.{ℕ, List, ◌≡◌, ◌+◌, ◌-◌, [], ◌∷◌, ◌++◌, refl, ap, ◌∙◌, sym, subst, zero, suc, ◌<◌, ◌≤◌, length, length-drop, length-set, get_or, get_or-set_other, get_or-set_same, arith, Bool, true, false, true≢false, ◌==◌, None, Option, take, drop, replicate, inl, inr, ◌⊎◌, eq-or-lt_of_le, zero-add, add-one}
 use Rattle.std.proofs.lemmas.Bool.{cases_lt}
 use Rattle.std.proofs.lemmas.List.{get_or_past}
 use Rattle.std.specs.List.{AllByRecursion, AllZip, remove}
@@ -18,7 +18,6 @@ use Rattle.jf_walk.proofs.VersionLaws.{same_versioned}
 use Rattle.jf_node.specs.LinkValue.{LinkValue, link_version_at}
 use Rattle.jf_node.specs.Children.{content, joined, FitFrom, FitsAt}
 use Rattle.jf_node.proofs.ChildLaws.{FitFrom-set}
-use Rattle.jf_update.specs.Made.{IsAtDepth}
 use Rattle.jf_update.specs.Outcomes.{AreParts, AreShort, IsNodeUpdate, IsOutcome, IsOutcomePlaced}
 use Rattle.jf_update.specs.Wide.{IsPieceOf, HasNibble, ArePiecesOf, IsPieceOutcome}
 use Rattle.jf_update.specs.declared.outcome.NewChildren.{NewChildren}
