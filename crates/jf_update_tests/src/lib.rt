@@ -2,6 +2,8 @@
 #![tactic(auto)]
 
 #[cfg(test)]
+mod by_workers;
+#[cfg(test)]
 mod landings;
 #[cfg(test)]
 mod many_keys;
