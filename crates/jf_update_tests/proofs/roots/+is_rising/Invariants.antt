@@ -2,4 +2,4 @@ use Rattle.std.proofs.Common.{length}
 use Rattle.jf_update_tests.proofs.roots.+is_rising.Given as goal
 
 abbrev pub decreases-is_rising : goal.decreases-is_rising
-decreases-is_rising l = length l.entries.now
+decreases-is_rising g l = length l.entries.now
