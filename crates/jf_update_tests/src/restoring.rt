@@ -1,5 +1,5 @@
 // A snapshot built anew from its entries and the versions of its nodes.
-ghost use Rattle.std.specs.Prelude.{◌≡◌, ◌≤◌, IfOk, length, map};
+ghost use Rattle.std.specs.Prelude.{true, ◌≡◌, ◌≤◌, IfOk, length, map};
 ghost use Rattle.std.specs.List.{AllByRecursion};
 ghost use Rattle.jf_hash.specs.Hashes.{V};
 ghost use Rattle.jf_update.specs.Restored.{AreShortEntries};
