@@ -1,14 +1,15 @@
 // Proofs of the map without entries, and of maps of one entry.
 use jf_hash::{Hash, key_of, value};
 use jf_node::{Link, Snapshot};
-use jf_path::{Key, Memory};
+use jf_path::{Key, Memory, SharedBytes};
 use jf_proof::{Proof, prove, verify};
 use std::alloc::Global;
 use std::test::Fail;
 
 // The map that has `one` at a key.
 fn one(alloc: Global, key: &Hash) -> Result<Snapshot, Memory> {
-    let top = Link::leaf(alloc, 1, 0, key, b"one", &value(b"one"))?;
+    let shared = SharedBytes::copy_of(alloc, b"one")?;
+    let top = Link::leaf(alloc, 1, 0, key, &shared, &value(b"one"))?;
     Ok(Snapshot::of(1, Some(top)))
 }
 

@@ -6,7 +6,7 @@ use jf_forks::{ForkFault, ForkTable};
 use jf_hash::value;
 use jf_model::Parent;
 use jf_node::{Link, Snapshot};
-use jf_path::Memory;
+use jf_path::{Memory, SharedBytes};
 use jf_split::{Batch, BatchFault};
 use std::alloc::Global;
 use std::test::Fail;
@@ -27,7 +27,8 @@ pub(crate) fn batch_of(alloc: Global, word: Option<(u8, Option<u8>)>) -> Result<
 
 // A head of one entry.
 pub(crate) fn head_of_one(alloc: Global, key: u8, byte: u8) -> Result<Snapshot, Memory> {
-    let top = Link::leaf(alloc, 1, 0, &[key; 32], &[byte], &value(&[byte]))?;
+    let shared = SharedBytes::copy_of(alloc, &[byte])?;
+    let top = Link::leaf(alloc, 1, 0, &[key; 32], &shared, &value(&[byte]))?;
     Ok(Snapshot::of(1, Some(top)))
 }
 

@@ -1,7 +1,7 @@
 // Trees over batches: their roots against Python's `hashlib`, and that the tree before is unchanged.
 use jf_hash::{Hash, value};
 use jf_node::{Link, Snapshot};
-use jf_path::{Key, Memory};
+use jf_path::{Key, Memory, SharedBytes};
 use jf_spec::SpecTree;
 use jf_split::Batch;
 use std::alloc::Global;
@@ -84,7 +84,8 @@ fn key_of(fill: u8, last: u8) -> Key {
 }
 
 fn stored(alloc: Global) -> Result<SpecTree, Memory> {
-    let top = Link::leaf(alloc, 1, 0, &key_of(0x10, 0x10), b"a", &value(b"a"))?;
+    let shared = SharedBytes::copy_of(alloc, b"a")?;
+    let top = Link::leaf(alloc, 1, 0, &key_of(0x10, 0x10), &shared, &value(b"a"))?;
     SpecTree::on(&Snapshot::of(1, Some(top)))
 }
 

@@ -4,6 +4,7 @@ use crate::given::is_answered;
 use jf_hash::{Hash, key_of, value};
 use jf_join::FreeGate;
 use jf_node::{Link, Snapshot};
+use jf_path::SharedBytes;
 use jf_range::{RangeAsk, prove_range};
 use jf_restore::Restore;
 use jf_split::{Batch, BatchFault};
@@ -78,7 +79,8 @@ fn a_map_of_no_entry_has_no_chunk_and_one_of_one_entry_has_one(
 ) -> Result<(), Fail> {
     let alloc = rt.alloc();
     let none = Snapshot::empty(1);
-    let top = Link::leaf(alloc, 1, 0, &key_of(b"x"), b"one", &value(b"one"))?;
+    let shared = SharedBytes::copy_of(alloc, b"one")?;
+    let top = Link::leaf(alloc, 1, 0, &key_of(b"x"), &shared, &value(b"one"))?;
     let one = Snapshot::of(1, Some(top));
     assert!(rt; is_chunk(alloc, &none, (0, 1), Err(RangeAsk::Beyond(0))));
     assert!(rt; is_chunk(alloc, &one, (0, 5), Ok((1, 0, 0))));
