@@ -102,25 +102,25 @@ fn a_free_gate_lets_all_work_begin(rt: HostRuntime) -> Result<(), Fail> {
     Ok(())
 }
 
-// How often the first piece looks for the second before it goes on alone.
+// How often a piece looks for the other before it goes on alone.
 const TURNS: u64 = 100_000_000;
 
-// Holds the first piece back until the second has begun, and tells whether it saw that.
+// Holds each of two pieces back until the other has begun too, and counts how many of them saw that.
 #[derive(Drop)]
 struct Meeting {
-    second: AtomicU64,
+    begun: [AtomicU64; 2],
     met: AtomicU64,
 }
 
 impl Gate for Meeting {
     fn begin(&self, piece: u64) {
-        if piece != 0 {
-            self.second.store(1, SeqCst);
+        if piece > 1 {
             return;
         }
+        self.begun[piece as usize].store(1, SeqCst);
         for _ in 0..TURNS {
-            if self.second.load(SeqCst) == 1 {
-                self.met.store(1, SeqCst);
+            if self.begun[1 - piece as usize].load(SeqCst) == 1 {
+                self.met.fetch_add(1, SeqCst);
                 return;
             }
         }
@@ -129,18 +129,21 @@ impl Gate for Meeting {
     fn session(&self, _number: u64) {}
 }
 
-// Whether two pieces met that two workers worked.
-fn two_meet<H: Threads + Sync>(rt: &H, alloc: Global) -> Result<bool, Fail> {
+// How many of two pieces saw the other, if two workers work them.
+fn meetings<H: Threads + Sync>(rt: &H, alloc: Global) -> Result<u64, Fail> {
     let gate = Meeting {
-        second: AtomicU64::new(0),
+        begun: [AtomicU64::new(0), AtomicU64::new(0)],
         met: AtomicU64::new(0),
     };
     let answers = join_pieces(rt, alloc, &[5, 6], 2, &gate, &|piece: &u64| *piece)?;
-    Ok(answers.as_slice() == [5, 6].as_slice() && gate.met.load(SeqCst) == 1)
+    if answers.as_slice() != [5, 6].as_slice() {
+        return Err(Fail::new("other answers"));
+    }
+    Ok(gate.met.load(SeqCst))
 }
 
 #[test]
 fn two_pieces_are_in_flight_at_once(rt: HostRuntime) -> Result<(), Fail> {
-    assert!(rt; two_meet(&rt, rt.alloc())?);
+    assert!(rt; meetings(&rt, rt.alloc())? == 2);
     Ok(())
 }

@@ -35,12 +35,14 @@ fn script_of(alloc: Global, batches: &[Lines]) -> Result<Vec<u8>, Fail> {
     Ok(script)
 }
 
-// How often the first piece looks for the second before it goes on alone.
+// How often a piece looks for the other before it goes on alone.
 const TURNS: u64 = 100_000_000;
 
-// Holds the first piece of a landing back until the second has begun, and tells whether it saw that.
+// Holds each of the first two pieces of a landing back until the other has begun too, and counts how often one of them saw
+// that. So a landing counts two exactly if both were in flight at once.
 #[derive(Drop)]
 struct Meeting {
+    first: AtomicU64,
     second: AtomicU64,
     met: AtomicU64,
 }
@@ -48,75 +50,61 @@ struct Meeting {
 impl Meeting {
     fn new() -> Meeting {
         Meeting {
+            first: AtomicU64::new(0),
             second: AtomicU64::new(0),
             met: AtomicU64::new(0),
         }
     }
 
-    fn has_met(&self) -> bool {
-        self.met.load(SeqCst) == 1
+    // Waits until the other piece has come as often as this one.
+    fn meet(&self, own: &AtomicU64, other: &AtomicU64) {
+        let before = own.fetch_add(1, SeqCst);
+        for _ in 0..TURNS {
+            if other.load(SeqCst) > before {
+                self.met.fetch_add(1, SeqCst);
+                return;
+            }
+        }
     }
 }
 
 impl Gate for Meeting {
     fn begin(&self, piece: u64) {
-        if piece == 1 {
-            self.second.store(1, SeqCst);
-        }
-        if piece != 0 {
-            return;
-        }
-        for _ in 0..TURNS {
-            if self.second.load(SeqCst) == 1 {
-                self.met.store(1, SeqCst);
-                return;
-            }
+        if piece == 0 {
+            self.meet(&self.first, &self.second);
+        } else if piece == 1 {
+            self.meet(&self.second, &self.first);
         }
     }
 
     fn session(&self, _number: u64) {}
 }
 
-// The first landing of a store: two names whose keys differ in the first nibble.
-const TWO: &[u8] = b"put 61 =01\nput 62 =02\ncommit\n";
+// Two landings, on an empty store and over nodes, of two names whose keys differ in the first nibble.
+const TWO: &[u8] = b"put 61 =01\nput 62 =02\ncommit\nput 61 =03\nput 62 =04\ncommit\n";
 
-// Names under each first nibble of a key, put into an empty store and put again.
-const TWICE: &[Lines] = &[("put", 0, 200, " =31"), ("put", 0, 200, " =32")];
-
-// Whether a script makes so many entries on a new store, worked by two workers, and the first two pieces of a landing meet.
-fn meet<H: Threads + Wait + Sync>(
-    rt: &H,
-    alloc: Global,
-    script: &[u8],
-    entries: u64,
-) -> Result<bool, Fail> {
+// How often a piece of these landings met the other, if two workers work them, and how many entries they made.
+fn meetings<H: Threads + Wait + Sync>(rt: &H, alloc: Global) -> Result<(u64, u64), Fail> {
     let gate = Meeting::new();
     let words = words_of(alloc, "run --workers 2")?;
     let disk = new_disk(alloc, b"", &[])?;
-    let played = play_gated(rt, alloc, disk, &words, script, &gate)?;
-    Ok(played.status == Status::Done && played.entries == entries && gate.has_met())
+    let played = play_gated(rt, alloc, disk, &words, TWO, &gate)?;
+    Ok((gate.met.load(SeqCst), played.entries))
 }
 
 #[test]
 fn two_pieces_meet(rt: HostRuntime) -> Result<(), Fail> {
-    assert!(rt; meet(&rt, rt.alloc(), TWO, 1)?);
-    Ok(())
-}
-
-#[test]
-fn two_pieces_meet_over_nodes(rt: HostRuntime) -> Result<(), Fail> {
-    let script = script_of(rt.alloc(), TWICE)?;
-    assert!(rt; meet(&rt, rt.alloc(), &script, 2)?);
+    assert!(rt; meetings(&rt, rt.alloc())? == (4, 2));
     Ok(())
 }
 
 // Large batches and small ones, with values put again, removals, and a removal of nothing.
 const BATCHES: &[Lines] = &[
-    ("put", 0, 2500, " =31"),
+    ("put", 0, 10_000, " =31"),
     ("put", 1000, 1600, " =3233"),
     ("del", 1500, 2000, ""),
     ("put", 2400, 2401, " ="),
-    ("del", 9000, 9001, ""),
+    ("del", 19_000, 19_001, ""),
 ];
 
 // A disk in memory with room for these batches.
