@@ -1,5 +1,5 @@
--- What was put into a sink in several calls, and a count of faults that rose in one of them.
-use Rattle.std.proofs.Common.{◌≡◌, ℕ, ◌-◌, Option, Some, None, option_map, List, [], ◌++◌, refl, sym, ap, append-nil, append_assoc, ◌⊎◌, inl, inr, ◌<◌, ◌≤◌, ◌^◌, ◌∙◌, arith, eq-or-lt_of_le}
+-- What was put into a sink in several calls.
+use Rattle.std.proofs.Common.{◌≡◌, ℕ, Option, Some, None, option_map, List, [], ◌++◌, refl, sym, ap, append-nil, append_assoc}
 
 -- if nothing was put, the text is unchanged
 pub nothing_written : (text : Option (List ℕ)) → text ≡ option_map (λ t. t ++ []) text
@@ -10,8 +10,3 @@ nothing_written (Some t) = ap (λ x. Some x) (sym (append-nil t))
 pub written_more : (text : Option (List ℕ)) (a b : List ℕ) → option_map (λ t. t ++ b) (option_map (λ t. t ++ a) text) ≡ option_map (λ t. t ++ (a ++ b)) text
 written_more None a b = refl
 written_more (Some t) a b = ap (λ x. Some x) (append_assoc t a b)
-
--- a count that rose in a later call rose in all
-pub rose_after : (a b c : ℕ) → a ≤ b → b ≤ c → (b < c) ⊎ (b ≡ 2 ^ 64 - 1) → (a < c) ⊎ (a ≡ 2 ^ 64 - 1)
-rose_after a b c le le' (inl lt) = inl (omega arith)
-rose_after a b c le le' (inr last) = elim (eq-or-lt_of_le le) [ inl same ↦ inr (same ∙ last) | inr lt ↦ inl (omega arith) ]

@@ -3,7 +3,8 @@
 /// A gate is told of work before the work begins. Each call returns, though it may be slow, so that a caller can set
 /// the order in which work begins. No result depends on what a gate does.
 pub trait Gate: Sync {
-    /// The work on this piece is about to begin. Pieces are numbered from 0.
+    /// The work on this piece is about to begin. Pieces are numbered from 0; if a piece is cut again, so are the pieces
+    /// that it is cut into.
     fn begin(&self, piece: u64);
 
     /// This session is about to begin. Sessions are numbered from 0.

@@ -12,4 +12,4 @@ pub use batch::{Batch, MAX_KEYS};
 pub use fault::BatchFault;
 pub use list::BatchList;
 pub use pending::Pending;
-pub use piece::Piece;
+pub use piece::{Piece, pieces_of};

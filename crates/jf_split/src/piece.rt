@@ -16,8 +16,8 @@ pub struct Piece {
     pub end: usize,
 }
 
-// The pieces of entries whose nibbles at a depth don't fall.
-pub(crate) fn pieces_of(
+/// The pieces of entries whose nibbles at a depth, 0 to 63, don't fall: one for each nibble that a key has there.
+pub fn pieces_of(
     alloc: Global,
     entries: &[(Key, Option<SharedBytes>)],
     depth: usize,

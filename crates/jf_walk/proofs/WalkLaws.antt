@@ -103,10 +103,3 @@ module _ {X : Type 0} where
   pub with_root-same : (es : Part) (f : Path → X) → with_root es es f ≡ f [] ∷ []
   unfolding with_root
   with_root-same es f = ap (λ t. f [] ∷ t) (each-nil 16 0 (λ n. listed 63 1 (child_entries 0 n es) (child_entries 0 n es) (λ p. f (n ∷ p))) (λ n. listed-same 63 1 (child_entries 0 n es) (λ p. f (n ∷ p))))
-
-  -- the list of a node at depth 0 is the walk from the top
-  pub with_root-from_listed : (old : Part) (d : ℕ) (new : Part) (f g : Path → X) (names : List X) → 1 ≤ length new → ¬ (old ≡ new) → d ≡ 0 → ((p : Path) → g p ≡ f p) → names ≡ listed (64 - d) d old new g → names ≡ with_root old new f
-  with_root-from_listed old d new f g names some other at same is = elim (differs_or_same old new some) [
-    | inl differ ↦ is ∙ ap (λ k. listed (64 - k) k old new g) at ∙ ap (λ h. listed 64 0 old new h) (let fs : g ≡ f = λ i p. same p i in fs) ∙ listed-with_root old new f differ
-    | inr is_same ↦ absurd (other is_same)
-  ]
