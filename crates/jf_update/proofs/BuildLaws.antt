@@ -22,7 +22,8 @@ use Rattle.jf_node.specs.Children.{content, joined, leaf_value, inner_value, mov
 use Rattle.jf_node.specs.LinkFacts.{BeginAlike}
 use Rattle.jf_node.proofs.NodeVersions.{version-below}
 use Rattle.jf_node.proofs.ChildLaws.{FitFrom-set}
-use Rattle.jf_update.specs.Made.{Built, Topped, IsAtDepth, AreBuilt}
+use Rattle.jf_diff.specs.OptionalNodes.{IsAtDepth}
+use Rattle.jf_update.specs.Made.{Built, Topped, AreBuilt}
 use Rattle.jf_update.specs.Outcomes.{AreParts, AreShort}
 
 -- ---- unions

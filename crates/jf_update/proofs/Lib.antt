@@ -1,10 +1,6 @@
-pub mod Names
 pub mod RemainderLaws
 pub mod BuildLaws
 pub mod NodeUpdateLaws
-pub mod PlainNodes
-pub mod Walks
-pub mod PathNames
 pub mod TopUpdateLaws
 pub mod SnapshotUpdateLaws
 pub mod RestoreLaws

@@ -1,8 +1,7 @@
 -- A node is updated by updating its children.
 use Rattle.std.proofs.Common.{nat_lt, take_all, ◌≡◌, ℕ, ◌-◌, inl, inr, List, length, get_or, sym, ap, ◌∙◌, arith, Option, None, ◌+◌, Some, ◌<◌, subst, zero-add, ◌≤◌, Bool, true, false, drop, zero, suc, refl, replicate, set, length-drop, length-set, eq-or-lt_of_le, get_or-set_other, get_or-set_same, [], ◌∷◌, ◌++◌, ap₂, true≢false, take, Result, Ok, Err, IfOk, ◌==◌}
-use Rattle.std.proofs.lemmas.Bool.{cases_lt}
 use Rattle.std.proofs.lemmas.Bool.Decides.{nat_tests}
-use Rattle.std.proofs.lemmas.List.{get_or_past, set-get_or}
+use Rattle.std.proofs.lemmas.List.{set-get_or}
 use Rattle.std.specs.List.{count_by}
 use Rattle.jf_hash.specs.Ranges.{has_change}
 use Rattle.jf_hash.proofs.Changes.{has_change-count, has_change-counted}
@@ -14,42 +13,23 @@ use Rattle.jf_model.specs.Parts.{IsPartUnder, IsPieceEnd}
 use Rattle.jf_model.specs.Changes.{applied}
 use Rattle.jf_model.specs.NodeVersions.{VersionsFollow}
 use Rattle.jf_model.proofs.ChangeLaws.{applied-none}
-use Rattle.jf_walk.proofs.PartLaws.{with_nibble-past, from_nibble-zero, stepped, IsPartUnder-with_nibble}
+use Rattle.jf_walk.proofs.PartLaws.{from_nibble-zero, stepped, IsPartUnder-with_nibble}
 use Rattle.jf_walk.proofs.PieceEnds.{cut_piece}
 use Rattle.jf_walk.proofs.PartChanges.{with_nibble-applied, IsPartUnder-applied}
 use Rattle.jf_walk.proofs.VersionLaws.{same_versioned, topped_versioned, built_versioned}
 use Rattle.jf_node.specs.LinkValue.{LinkValue, link_version_at, version_among}
 use Rattle.jf_node.specs.Children.{content, joined, FitFrom, FitsAt, SameElsewhere}
 use Rattle.jf_node.specs.Shown.{ShowsInner}
-use Rattle.jf_node.proofs.ChildLaws.{with_nibble-joined, FitFrom-at, FitFrom-set}
+use Rattle.jf_node.proofs.ChildLaws.{FitFrom-set}
 use Rattle.jf_node.proofs.NodeVersions.{version-below}
-use Rattle.jf_update.specs.Made.{IsAtDepth, Topped}
+use Rattle.jf_diff.specs.OptionalNodes.{IsAtDepth}
+use Rattle.jf_diff.proofs.ChildPlaces.{child_part, child_placed, fits}
+use Rattle.jf_update.specs.Made.{Topped}
 use Rattle.jf_update.specs.Outcomes.{IsNodeUpdate, AreNewChildren, IsOutcome, IsOutcomePlaced, IsLeafOutcome, AreParts, AreShort, AreOutcome}
 use Rattle.jf_update.specs.declared.outcome.NewChildren.{NewChildren}
 use Rattle.jf_update.specs.declared.outcome.Outcome.{Outcome}
 use Rattle.jf_update.specs.declared.outcome.Outcome.TheVariants.{Same, New}
 use Rattle.jf_update.proofs.BuildLaws.{drop_more, joined_parts, fits_part, same_piece}
-
--- ---- children
--- a child has the entries with its nibble
-pub child_part : (d n : ℕ) (links : List (Option LinkValue)) → length links ≡ 16 → FitFrom d 0 links → with_nibble d n (joined links) ≡ content (get_or links n None)
-child_part d n links long fit = elim (cases_lt n 16) [
-  | inl small ↦ with_nibble-joined d 0 n n links None fit (omega arith) (omega arith)
-  | inr past ↦ with_nibble-past d n (joined links) past ∙ ap content (sym (get_or_past links n None (omega arith)))
-]
-
-child_depth : (d n : ℕ) (x : Option LinkValue) → FitsAt d n x → IsAtDepth (d + 1) x
-child_depth d n None h = tt
-child_depth d n (Some x) h = h.0
-
-fits : (d k : ℕ) (links : List (Option LinkValue)) → length links ≡ 16 → FitFrom d 0 links → k < 16 → FitsAt d k (get_or links k None)
-fits d k links long fit lt = subst (λ m. FitsAt d m (get_or links k None)) (zero-add k) (FitFrom-at d 0 k links fit (omega arith))
-
-pub child_placed : (d n : ℕ) (links : List (Option LinkValue)) → length links ≡ 16 → FitFrom d 0 links → IsAtDepth (d + 1) (get_or links n None)
-child_placed d n links long fit = elim (cases_lt n 16) [
-  | inl small ↦ child_depth d n (get_or links n None) (fits d n links long fit small)
-  | inr past ↦ subst (IsAtDepth (d + 1)) (sym (get_or_past links n None (omega arith))) tt
-]
 
 -- ---- the children as far as nibble n
 pub record IsUpdating (depth version n start : ℕ) (olds : List (Option LinkValue)) (bs : Batch) (news : List (Option LinkValue)) (changed : List Bool) : Type 0 where

@@ -18,6 +18,7 @@ use Rattle.jf_walk.proofs.VersionLaws.{same_versioned}
 use Rattle.jf_node.specs.LinkValue.{LinkValue, link_version_at}
 use Rattle.jf_node.specs.Children.{content, joined, FitFrom, FitsAt}
 use Rattle.jf_node.proofs.ChildLaws.{FitFrom-set}
+use Rattle.jf_diff.proofs.ChildPlaces.{child_part, child_placed}
 use Rattle.jf_update.specs.Outcomes.{AreParts, AreShort, IsNodeUpdate, IsOutcome, IsOutcomePlaced}
 use Rattle.jf_update.specs.Wide.{IsPieceOf, HasNibble, ArePiecesOf, IsPieceOutcome}
 use Rattle.jf_update.specs.declared.outcome.NewChildren.{NewChildren}
@@ -25,7 +26,7 @@ use Rattle.jf_update.specs.declared.outcome.Outcome.{Outcome}
 use Rattle.jf_update.specs.declared.outcome.Outcome.TheVariants.{Same, New}
 use Rattle.jf_update.proofs.BuildLaws.{drop_more, fits_part}
 use Rattle.jf_update.proofs.RemainderLaws.{get_or-any}
-use Rattle.jf_update.proofs.NodeUpdateLaws.{IsUpdating, child_part, child_placed, empty_applied, no_change}
+use Rattle.jf_update.proofs.NodeUpdateLaws.{IsUpdating, empty_applied, no_change}
 
 -- ---- pieces one after another
 -- the pieces below nibble n

@@ -1,19 +1,10 @@
 -- The nodes that the steps of an update make.
-use Rattle.std.specs.Prelude.{◌≡◌, ℕ, Option, Some, None, List, slice_index_or, ◌+◌, ◌<◌, length}
+use Rattle.std.specs.Prelude.{◌≡◌, ℕ, Option, None, List, slice_index_or, ◌+◌, ◌<◌, length}
 use Rattle.jf_hash.specs.Slots.{Part, with_nibble}
 use Rattle.jf_model.specs.NodeVersions.{AllNew, IsNewTop}
 use Rattle.jf_node.specs.LinkValue.{LinkValue, link_version_at}
 use Rattle.jf_node.specs.Children.{content, joined, FitFrom}
-
--- an optional node is at this depth
-abbrev pub IsAtDepth : ℕ → Option LinkValue → Type 0
-IsAtDepth depth None = Unit {0}
-IsAtDepth depth (Some x) = x.depth ≡ depth
-
--- an optional node has this version
-abbrev pub IsOfVersion : ℕ → Option LinkValue → Type 0
-IsOfVersion version None = Unit {0}
-IsOfVersion version (Some x) = x.version ≡ version
+use Rattle.jf_diff.specs.OptionalNodes.{IsAtDepth}
 
 -- y is built new from the entries es: all its nodes have the new version
 pub record Built (depth version : ℕ) (es : Part) (y : Option LinkValue) : Type 0 where

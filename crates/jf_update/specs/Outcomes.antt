@@ -9,7 +9,8 @@ use Rattle.jf_model.specs.Changes.{applied}
 use Rattle.jf_model.specs.NodeVersions.{VersionsFollow}
 use Rattle.jf_node.specs.LinkValue.{LinkValue, link_version_at}
 use Rattle.jf_node.specs.Children.{content, FitFrom, joined}
-use Rattle.jf_update.specs.Made.{IsAtDepth, Built}
+use Rattle.jf_diff.specs.OptionalNodes.{IsAtDepth}
+use Rattle.jf_update.specs.Made.{Built}
 use Rattle.jf_update.specs.declared.outcome.Outcome.{Outcome}
 use Rattle.jf_update.specs.declared.outcome.Outcome.TheVariants.{Same, New}
 use Rattle.jf_update.specs.declared.outcome.NewChildren.{NewChildren}

@@ -9,7 +9,7 @@ use Rattle.jf_model.specs.Walk.{each_from}
 use Rattle.jf_node.specs.LinkValue.{LinkValue}
 use Rattle.jf_node.specs.Children.{content, FitFrom, versions_from}
 use Rattle.jf_node.specs.SnapshotValue.{SnapshotValue}
-use Rattle.jf_update.specs.Made.{IsAtDepth}
+use Rattle.jf_diff.specs.OptionalNodes.{IsAtDepth}
 
 -- each value has at most 4,096 bytes
 abbrev pub AreShortEntries : Part → Type 0

@@ -2,25 +2,20 @@
 //! makes stale.
 #![tactic(auto)]
 
-mod child;
 mod hashing;
 mod leaf;
-mod list;
-mod lists;
 mod node;
 mod outcome;
 mod piece;
-mod plain_node;
 mod remainder;
 mod restore;
 mod snapshot;
-mod sorted;
 mod top;
 mod wide;
 mod wide_leaf;
 
 pub use hashing::value_hashes;
+pub use jf_diff::{Written, written};
 pub use jf_node::Update;
-pub use lists::Written;
 pub use restore::{RestoreFault, restored};
-pub use snapshot::{advance, update, written};
+pub use snapshot::{advance, update};

@@ -5,7 +5,8 @@ ghost use Rattle.jf_hash.specs.Ranges.{has_change};
 ghost use Rattle.jf_hash.specs.Slots.{Part};
 ghost use Rattle.jf_node.specs.Children.{content, joined, FitFrom, SameElsewhere};
 ghost use Rattle.jf_model.specs.Parts.{IsPartUnder};
-ghost use Rattle.jf_update.specs.Made.{IsAtDepth, Topped};
+ghost use Rattle.jf_diff.specs.OptionalNodes.{IsAtDepth};
+ghost use Rattle.jf_update.specs.Made.{Topped};
 ghost use Rattle.jf_update.specs.Outcomes.{AreParts, IsOutcome, AreOutcome, IsOutcomePlaced};
 ghost use Rattle.jf_update.specs.ValueHashes.{AreValueHashes};
 

@@ -1,14 +1,14 @@
 // The update of a snapshot: the public calls of this crate.
-ghost use Rattle.std.specs.Prelude.{◌≡◌, ◌-◌, ◌^◌, ◌<◌, ◌≤◌, length, IfOk};
-ghost use Rattle.std.specs.List.Sorted.{IsPermutation};
+ghost use Rattle.std.specs.Prelude.{◌-◌, ◌^◌, ◌<◌, ◌≤◌, IfOk};
 ghost use Rattle.jf_hash.specs.Maps.{IsBatch};
+ghost use Rattle.jf_diff.specs.Landings.{IsNextSnapshot};
 ghost use Rattle.jf_update.specs.Outcomes.{AreShort};
-ghost use Rattle.jf_update.specs.Updates.{IsNextSnapshot, IsNextOf, IsFreshCount, IsUpdate, written_nodes, stale_names_in};
+ghost use Rattle.jf_update.specs.Updates.{IsUpdate};
 ghost use Rattle.jf_update.specs.ValueHashes.{AreValueHashes};
 
 use crate::hashing::value_hashes;
-use crate::lists::Written;
-use crate::top::{fresh_of, next_top, stale_of};
+use crate::top::next_top;
+use jf_diff::{Written, written};
 use jf_hash::Hash;
 use jf_join::Gate;
 use jf_node::{Snapshot, Update};
@@ -52,19 +52,6 @@ pub fn advance<H: Threads + Sync, G: Gate>(
     let snapshot = Snapshot::of(head.version() + 1, top);
     snapshot.know();
     Ok(snapshot)
-}
-
-/// The nodes that the landing of `new` over `old` wrote, and the names of those of `old` that it made stale.
-pub fn written(alloc: Global, old: &Snapshot, new: &Snapshot) -> Result<Written, Memory>
-    requires next { IsNextOf old.now new.now }
-    ensures fresh { IfOk result (λ w. w.fresh ≡ written_nodes old.now.map new.now.map new.now) }
-    ensures stale { IfOk result (λ w. IsPermutation (stale_names_in old.now.map new.now.map old.now) w.stale) }
-    ensures bound { IfOk result (λ w. IsFreshCount old.now new.now (length w.fresh)) }
-{
-    old.know();
-    let fresh = fresh_of(alloc, new.top(), new.version())?;
-    let stale = stale_of(alloc, old.top(), old.version(), new.top(), new.version())?;
-    Ok(Written { fresh, stale })
 }
 
 /// The version after `head`, with the batch applied, the nodes that it writes and those that it makes stale.

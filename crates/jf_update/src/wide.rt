@@ -4,7 +4,7 @@ ghost use Rattle.std.specs.List.{AllZip};
 ghost use Rattle.std.specs.Option.{option_copied};
 ghost use Rattle.std.specs.Thread.{IsSync};
 ghost use Rattle.jf_node.specs.Children.{content, joined, FitFrom};
-ghost use Rattle.jf_update.specs.Made.{IsAtDepth};
+ghost use Rattle.jf_diff.specs.OptionalNodes.{IsAtDepth};
 ghost use Rattle.jf_update.specs.Outcomes.{AreParts, IsOutcome, AreOutcome};
 ghost use Rattle.jf_update.specs.Wide.{IsPieceOf, ArePiecesOf, IsPieceOutcome};
 ghost use Rattle.jf_update.specs.ValueHashes.{AreValueHashes};

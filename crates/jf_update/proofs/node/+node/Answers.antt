@@ -2,12 +2,13 @@ use Rattle.std.proofs.Common.{arith, rules, ◌≡◌, ◌+◌, ◌-◌, None, g
 use Rattle.std.specs.Option.{option_copied}
 use Rattle.jf_node.specs.Children.{content}
 use Rattle.jf_model.specs.Parts.{IsPieceEnd}
-use Rattle.jf_update.specs.Made.{IsAtDepth}
+use Rattle.jf_diff.specs.OptionalNodes.{IsAtDepth}
+use Rattle.jf_diff.proofs.ChildPlaces.{child_placed}
 use Rattle.jf_update.specs.Outcomes.{IsOutcome, IsOutcomePlaced}
 use Rattle.jf_path.proofs.ListLaws.{take-rest}
 use Rattle.jf_update.proofs.BuildLaws.{end_in_rest, same_piece}
 use Rattle.jf_update.proofs.RemainderLaws.{hashes_cut, hashes_long}
-use Rattle.jf_update.proofs.NodeUpdateLaws.{IsUpdating, updating_start, updating_more, updating_done, none_changed, some_changed, child_placed, child_parts, empty_applied, outcome_at, ok_outcome, inner_outcome, inner_agree, inner_kept}
+use Rattle.jf_update.proofs.NodeUpdateLaws.{IsUpdating, updating_start, updating_more, updating_done, none_changed, some_changed, child_parts, empty_applied, outcome_at, ok_outcome, inner_outcome, inner_agree, inner_kept}
 use Rattle.jf_update.proofs.node.+node.Goals as goal
 
 pub update_children-loop-n-init : goal.update_children-loop-n-init

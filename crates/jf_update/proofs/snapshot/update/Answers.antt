@@ -1,6 +1,6 @@
 use Rattle.std.proofs.Common.{sym, subst}
 use Rattle.jf_hash.specs.Maps.{IsBatch}
-use Rattle.jf_update.specs.Updates.{IsNextSnapshot}
+use Rattle.jf_diff.specs.Landings.{IsNextSnapshot}
 use Rattle.jf_update.specs.Outcomes.{AreShort}
 use Rattle.jf_update.proofs.SnapshotUpdateLaws.{updated}
 use Rattle.jf_update.proofs.snapshot.update.Goals as goal

@@ -3,10 +3,11 @@ use Rattle.std.specs.List.{AllZip}
 use Rattle.std.specs.Option.{option_copied}
 use Rattle.jf_join.proofs.AnswerLaws.{AnswersEach-pairs}
 use Rattle.jf_node.specs.Children.{content, joined}
-use Rattle.jf_update.specs.Made.{IsAtDepth}
+use Rattle.jf_diff.specs.OptionalNodes.{IsAtDepth}
+use Rattle.jf_diff.proofs.ChildPlaces.{child_placed, child_part}
 use Rattle.jf_update.specs.Wide.{IsPieceOutcome}
 use Rattle.jf_update.proofs.RemainderLaws.{hashes_cut, hashes_long}
-use Rattle.jf_update.proofs.NodeUpdateLaws.{child_placed, child_part, outcome_at, ok_outcome, inner_outcome, inner_agree, inner_kept}
+use Rattle.jf_update.proofs.NodeUpdateLaws.{outcome_at, ok_outcome, inner_outcome, inner_agree, inner_kept}
 use Rattle.jf_update.proofs.WideLaws.{parts_of_piece}
 use Rattle.jf_update.proofs.wide.+wide.Goals as goal
 

@@ -1,0 +1,19 @@
+use Rattle.std.proofs.Common.{ap, ap₂, ◌∙◌, ◌∷◌, []}
+use Rattle.std.specs.Option.{option_copied}
+use Rattle.jf_path.specs.declared.node.PlainNode.TheVariants as node
+use Rattle.jf_diff.proofs.TopLaws.{ok_weaker, top_would_rise, fresh_none, fresh_some}
+use Rattle.jf_diff.proofs.PathNames.{name_of_path}
+use Rattle.jf_diff.proofs.top.fresh_of.Goals as goal
+
+pub list_fresh-requires-clause-rising : goal.list_fresh-requires-clause-rising
+list_fresh-requires-clause-rising c = top_would_rise c.args.version (option_copied c.args.top) c.in-Some.link.now _ _ (ap option_copied c.in-Some.is) c.requires.landed c.requires.top c.know.ensures c.new-nodes.ensures c.empty.ensures
+
+pub returns-in-None : goal.returns-in-None
+returns-in-None c =
+    ok_weaker _ _
+    (λ l is es before under. fresh_none c.args.version (option_copied c.args.top) l (ap option_copied c.in-None.is) (is ∙ ap₂ (λ v p. (name_of_path v p, node.Null) ∷ []) c.top_name.ensures.version c.top_name.ensures.path) es)
+    c.one_node.result c.one_node.ensures
+
+pub returns-in_ok-list_fresh-in-Some : goal.returns-in_ok-list_fresh-in-Some
+returns-in_ok-list_fresh-in-Some c es before under =
+    fresh_some c.args.version (option_copied c.args.top) c.in-Some.link.now c.empty.result c.new-nodes.result _ (ap option_copied c.in-Some.is) c.requires.top c.requires.own c.empty.ensures c.new-nodes.ensures c.in_ok-list_fresh-in-Some.ensures.listed es before under

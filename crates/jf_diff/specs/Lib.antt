@@ -1,0 +1,5 @@
+pub mod Landings
+pub mod OptionalNodes
+pub mod Below
+pub mod Plains
+pub mod Tops

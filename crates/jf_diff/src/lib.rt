@@ -1,0 +1,16 @@
+//! What a snapshot writes over an older one: the nodes by themselves, as they are written, and the names of the nodes
+//! that it makes stale.
+#![tactic(auto)]
+
+mod child;
+mod landing;
+mod list;
+mod lists;
+mod plain_node;
+mod sorted;
+mod top;
+
+pub use child::{child_in, child_of, is_kept};
+pub use landing::written;
+pub use lists::Written;
+pub use plain_node::plain_of;

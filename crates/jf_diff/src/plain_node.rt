@@ -1,0 +1,47 @@
+// Nodes by themselves, as they are written: without the children that they share.
+ghost use Rattle.std.specs.Prelude.{◌≡◌, ◌≤◌, [], length, IfOk};
+ghost use Rattle.jf_diff.specs.Plains.{plain_at, children_list};
+
+use crate::child::child_of;
+use jf_node::{Link, Seen};
+use jf_path::{Bytes, Child, Children, Memory, Nibble, PlainNode};
+use std::alloc::Global;
+
+/// What an inner node says of its children, as it is written.
+fn children_of(alloc: Global, link: &Link) -> Result<Children, Memory>
+    requires { 2 ≤ length link.now.entries }
+    ensures { IfOk result (λ r. r ≡ children_list link.now) }
+{
+    let mut list = Children::new(alloc);
+    for n in 0..16 {
+        let nibble = Nibble::of(n);
+        if let Some(child) = child_of(link, nibble) {
+            child.know();
+            let count = child.count();
+            list.push(Child {
+                nibble,
+                version: child.version(),
+                hash: child.hash(),
+                leaf: count == 1,
+                count,
+            })?;
+        }
+    }
+    Ok(list)
+}
+
+/// The node by itself, as it is written.
+pub fn plain_of(alloc: Global, link: &Link) -> Result<PlainNode, Memory>
+    ensures { IfOk result (λ r. r ≡ plain_at link.now []) }
+{
+    match link.view() {
+        Seen::Leaf { key, value, .. } => {
+            let value = Bytes::copy_of(alloc, value)?;
+            Ok(PlainNode::Leaf { key: *key, value })
+        }
+        Seen::Inner { .. } => {
+            let children = children_of(alloc, link)?;
+            Ok(PlainNode::Inner { children })
+        }
+    }
+}

@@ -1,0 +1,93 @@
+// What a landing writes and makes stale, from the top down.
+ghost use Rattle.std.specs.Prelude.{◌≡◌, ℕ, ◌∷◌, [], Option, IfOk, T};
+ghost use Rattle.std.specs.Option.{option_copied};
+ghost use Rattle.std.specs.FinMap.{is_sorted};
+ghost use Rattle.std.specs.List.Sorted.{IsPermutation};
+ghost use Rattle.jf_path.specs.Keys.{key_cmp};
+ghost use Rattle.jf_hash.specs.Slots.{Part};
+ghost use Rattle.jf_model.specs.Nodes.{Path};
+ghost use Rattle.jf_node.specs.Children.{content};
+ghost use Rattle.jf_model.specs.Walk.{with_root};
+ghost use Rattle.jf_diff.specs.OptionalNodes.{IsAtDepth, IsOfVersion};
+ghost use Rattle.jf_diff.specs.Plains.{fresh_under};
+ghost use Rattle.jf_diff.specs.Tops.{IsFreshUnder, IsStaleUnder, WasLanded, old_name};
+
+use crate::list::{list_fresh, list_stale};
+use crate::sorted::sorted_names;
+use jf_node::Link;
+use jf_path::{FreshList, Memory, NameList, NibblePath, NodeName, PlainNode};
+use std::alloc::Global;
+
+/// The name of the top that a version wrote.
+fn top_name(version: u64) -> NodeName
+    ensures version { result.version ≡ version }
+    ensures path { result.path ≡ [] }
+{
+    NodeName {
+        version,
+        path: NibblePath::empty(),
+    }
+}
+
+/// A list of one name.
+fn one_name(alloc: Global, name: NodeName) -> Result<NameList, Memory>
+    ensures { IfOk result (λ l. l ≡ name ∷ []) }
+{
+    let mut names = NameList::new(alloc);
+    names.push(name)?;
+    Ok(names)
+}
+
+/// A list of one node.
+fn one_node(alloc: Global, name: NodeName, node: PlainNode) -> Result<FreshList, Memory>
+    ensures { IfOk result (λ l. l ≡ (name, node) ∷ []) }
+{
+    let mut nodes = FreshList::new(alloc);
+    nodes.push((name, node))?;
+    Ok(nodes)
+}
+
+/// The nodes that the landing of `version` wrote: at least the top.
+pub(crate) fn fresh_of(alloc: Global, top: Option<&Link>, version: u64) -> Result<FreshList, Memory>
+    requires top { IsAtDepth 0 (option_copied top) }
+    requires own { IsOfVersion version (option_copied top) }
+    requires landed { WasLanded version (option_copied top) }
+    ensures { IfOk result (λ l. (es : Part) (before : Path → Option ℕ) → IsFreshUnder version es before (option_copied top.entry) → l ≡ with_root es (content (option_copied top.entry)) (fresh_under version (option_copied top.entry))) }
+{
+    match top {
+        None => one_node(alloc, top_name(version), PlainNode::Null),
+        Some(link) => {
+            link.know();
+            let mut nodes = FreshList::new(alloc);
+            list_fresh(alloc, link, version, &NibblePath::empty(), &mut nodes)?;
+            Ok(nodes)
+        }
+    }
+}
+
+/// The names of the nodes of the version `head`, whose top is `old`, that the landing of `version` made stale: at least
+/// the old top.
+pub(crate) fn stale_of(
+    alloc: Global,
+    old: Option<&Link>,
+    head: u64,
+    top: Option<&Link>,
+    version: u64,
+) -> Result<NameList, Memory>
+    requires old { IsAtDepth 0 (option_copied old) }
+    requires top { IsAtDepth 0 (option_copied top) }
+    requires own { IsOfVersion version (option_copied top) }
+    requires landed { IsStaleUnder version (option_copied old) (option_copied top) }
+    requires sorted { T (is_sorted key_cmp (content (option_copied top))) }
+    ensures { IfOk result (λ l. IsPermutation (with_root (content (option_copied top.entry)) (content (option_copied old.entry)) (old_name head (option_copied old.entry))) l) }
+{
+    match old {
+        None => one_name(alloc, top_name(head)),
+        Some(link) => {
+            link.know();
+            let mut names = Vec::new(alloc);
+            list_stale(link, top, version, &NibblePath::empty(), &mut names)?;
+            sorted_names(alloc, names)
+        }
+    }
+}
