@@ -1,15 +1,16 @@
 -- If two keys begin with the same nibbles, the lesser key has no greater nibble after them.
-use Rattle.std.proofs.Common.{◌≡◌, ℕ, ◌≤◌, arith, Less, Ordering, zero, suc, ◌<◌, List, [], ◌∷◌, length, get_or, ◌*◌, ◌/◌, slice_index, subst, ◌+◌, ◌%◌, inl, inr, Option, eq-or-lt_of_le}
+use Rattle.std.proofs.Common.{◌≡◌, ℕ, ◌≤◌, arith, Less, Ordering, zero, suc, ◌<◌, List, [], ◌∷◌, length, get_or, ◌*◌, ◌/◌, slice_index, subst, ◌+◌, ◌%◌, inl, inr, Option, eq-or-lt_of_le, T}
 use Rattle.std.proofs.lemmas.Bool.{cases_eq}
 use Rattle.std.proofs.lemmas.Bool.Decides.{nat_tests}
 use Rattle.std.specs.Cmp.Lexicographic.{slice_cmp}
+use Rattle.std.specs.FinMap.{is_sorted}
 use Rattle.std.specs.List.{AllByRecursion}
 use Rattle.std.specs.List.Sorted.{IsNonDecreasingBy}
 use Rattle.std.specs.Ordering.{nat_cmp, ordering_then}
 use Rattle.jf_path.specs.Keys.{IsKey, key_cmp}
 use Rattle.jf_path.specs.Nibbles.{nibble}
 use Rattle.jf_path.proofs.NibbleLaws.{nibble-even, nibble-odd}
-use Rattle.jf_hash.specs.Maps.{Batch, IsBatch}
+use Rattle.jf_hash.specs.Maps.{Batch}
 use Rattle.jf_hash.proofs.KeyOrder.{sorted-rises}
 use Rattle.jf_split.specs.Pieces.{AgreeBefore}
 
@@ -65,8 +66,8 @@ key_at (f ∷ fs) zero e keys lt = keys.0
 key_at (f ∷ fs) (suc i) e keys lt = key_at fs i e keys.1 (omega arith)
 
 -- if the keys of a batch agree in their first nibbles, the nibble after them doesn't fall along the batch
-pub IsNonDecreasingBy-nibble : (depth : ℕ) (b : Batch) → depth < 64 → IsBatch b → AgreeBefore depth b → IsNonDecreasingBy (λ e. nibble e.0 depth) b
-IsNonDecreasingBy-nibble depth b within batch agree = λ i j e le lt. elim (eq-or-lt_of_le le) [
+pub IsNonDecreasingBy-nibble : (depth : ℕ) (b : Batch) → depth < 64 → T (is_sorted key_cmp b) → AllByRecursion (λ e. IsKey e.0) b → AgreeBefore depth b → IsNonDecreasingBy (λ e. nibble e.0 depth) b
+IsNonDecreasingBy-nibble depth b within sorted keys agree = λ i j e le lt. elim (eq-or-lt_of_le le) [
   | inl here ↦ subst (λ m. nibble (get_or b i e).0 depth ≤ nibble (get_or b m e).0 depth) here (omega arith)
-  | inr later ↦ nibble-no_greater (get_or b i e).0 (get_or b j e).0 depth (key_at b i e batch.keys (omega arith)) (key_at b j e batch.keys lt) within (agree i j e later lt) (sorted-rises b i j e batch.sorted later lt)
+  | inr later ↦ nibble-no_greater (get_or b i e).0 (get_or b j e).0 depth (key_at b i e keys (omega arith)) (key_at b j e keys lt) within (agree i j e later lt) (sorted-rises b i j e sorted later lt)
 ]

@@ -4,5 +4,6 @@ pub mod NodeUpdateLaws
 pub mod TopUpdateLaws
 pub mod SnapshotUpdateLaws
 pub mod RestoreLaws
+pub mod PieceCuts
 pub mod WideLaws
 pub mod WideBuildLaws

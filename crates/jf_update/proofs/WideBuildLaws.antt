@@ -12,11 +12,13 @@ use Rattle.jf_node.specs.LinkValue.{LinkValue}
 use Rattle.jf_node.specs.Children.{FitFrom, FitsAt}
 use Rattle.jf_node.proofs.ChildLaws.{FitFrom-set}
 use Rattle.jf_update.specs.Made.{Built, AreBuilt}
-use Rattle.jf_update.specs.Wide.{IsPieceOf, ArePiecesOf, IsPieceBuilt}
+use Rattle.jf_split.specs.Pieces.{ArePieces}
+use Rattle.jf_update.specs.Wide.{IsPieceOf, IsPieceBuilt}
+use Rattle.jf_update.proofs.PieceCuts.{same_or_not, pieces_whole}
 use Rattle.jf_update.proofs.BuildLaws.{fits_part}
 use Rattle.jf_update.proofs.RemainderLaws.{get_or-any}
 use Rattle.jf_update.proofs.NodeUpdateLaws.{empty_applied}
-use Rattle.jf_update.proofs.WideLaws.{same_or_not, place_in}
+use Rattle.jf_update.proofs.WideLaws.{place_in}
 
 -- the child at nibble k is built from these entries
 abbrev IsBuiltAt : ℕ → ℕ → Part → List (Option LinkValue) → ℕ → Type 0
@@ -68,11 +70,11 @@ filling_more d v n es now ps p y links more h lt at out is =
     }
 
 -- once all are in place, all children are built
-pub filling_done : (d v : ℕ) (es : Part) (bs : Batch) (ps : List Piece) (links : List (Option LinkValue)) → T (is_sorted key_cmp es) → ArePiecesOf d bs ps → IsFilling d v (length ps) es (applied es bs) ps links → AreBuilt d v (applied es bs) links
+pub filling_done : (d v : ℕ) (es : Part) (bs : Batch) (ps : List Piece) (links : List (Option LinkValue)) → T (is_sorted key_cmp es) → ArePieces d bs ps → IsFilling d v (length ps) es (applied es bs) ps links → AreBuilt d v (applied es bs) links
 filling_done d v es bs ps links sorted pieces h = record { long = h.long; fit = h.fit; each = all }
   where
     all : (k : ℕ) → k < 16 → IsBuiltAt d v (applied es bs) links k
-    all k lt = elim (pieces.whole k lt) [
+    all k lt = elim (pieces_whole d k bs ps pieces) [
       | inl has ↦ let x = place_in k ps (record { nibble = 0; start = 0; end = 0 }) has in subst (IsBuiltAt d v (applied es bs) links) x.2 (h.done x.0 (record { nibble = 0; start = 0; end = 0 }) x.1)
       | inr none ↦ elim (h.each k lt) [
         | inl new ↦ new

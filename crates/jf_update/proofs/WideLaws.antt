@@ -1,18 +1,15 @@
--- Pieces of changes one after another, and their outcomes put in place.
-use Rattle.std.proofs.Common.{ℕ, List, ◌≡◌, ◌+◌, ◌-◌, [], ◌∷◌, ◌++◌, refl, ap, ◌∙◌, sym, subst, zero, suc, ◌<◌, ◌≤◌, length, length-drop, length-set, get_or, get_or-set_other, get_or-set_same, arith, Bool, true, false, true≢false, ◌==◌, None, Option, take, drop, replicate, inl, inr, ◌⊎◌, eq-or-lt_of_le, zero-add, add-one}
-use Rattle.std.proofs.lemmas.Bool.{cases_lt}
+-- The outcomes of pieces of changes, put in place.
+use Rattle.std.proofs.Common.{ℕ, List, ◌≡◌, ◌+◌, [], ◌∷◌, refl, ap, ◌∙◌, sym, subst, zero, suc, ◌<◌, ◌≤◌, length, length-drop, length-set, get_or, get_or-set_other, get_or-set_same, arith, Bool, true, false, true≢false, ◌==◌, None, Option, drop, replicate, inl, inr, ◌⊎◌, eq-or-lt_of_le, zero-add, add-one}
 use Rattle.std.proofs.lemmas.List.{get_or_past}
-use Rattle.std.specs.List.{AllByRecursion, AllZip, remove}
+use Rattle.std.specs.List.{AllZip, remove}
 use Rattle.jf_path.specs.Nibbles.{nibble}
 use Rattle.jf_path.proofs.FilterLaws.{All-filter}
-use Rattle.jf_path.proofs.ListLaws.{All-append}
 use Rattle.jf_hash.specs.Maps.{Batch}
-use Rattle.jf_hash.specs.Slots.{Part, with_nibble, from_nibble}
+use Rattle.jf_hash.specs.Slots.{Part, with_nibble}
 use Rattle.jf_split.specs.declared.piece.Piece.{Piece}
-use Rattle.jf_model.specs.Parts.{IsPartUnder, IsPieceEnd}
+use Rattle.jf_model.specs.Parts.{IsPartUnder}
 use Rattle.jf_model.specs.Changes.{applied}
-use Rattle.jf_walk.proofs.PartLaws.{from_nibble-zero, from_nibble-past, stepped, IsPartUnder-with_nibble}
-use Rattle.jf_walk.proofs.PieceEnds.{cut_piece}
+use Rattle.jf_walk.proofs.PartLaws.{from_nibble-past, stepped, IsPartUnder-with_nibble}
 use Rattle.jf_walk.proofs.PartChanges.{with_nibble-applied}
 use Rattle.jf_walk.proofs.VersionLaws.{same_versioned}
 use Rattle.jf_node.specs.LinkValue.{LinkValue, link_version_at}
@@ -20,66 +17,15 @@ use Rattle.jf_node.specs.Children.{content, joined, FitFrom, FitsAt}
 use Rattle.jf_node.proofs.ChildLaws.{FitFrom-set}
 use Rattle.jf_diff.proofs.ChildPlaces.{child_part, child_placed}
 use Rattle.jf_update.specs.Outcomes.{AreParts, AreShort, IsNodeUpdate, IsOutcome, IsOutcomePlaced}
-use Rattle.jf_update.specs.Wide.{IsPieceOf, HasNibble, ArePiecesOf, IsPieceOutcome}
+use Rattle.jf_update.specs.Wide.{IsPieceOutcome}
+use Rattle.jf_split.specs.Pieces.{ArePieces}
+use Rattle.jf_update.proofs.PieceCuts.{HasNibble, same_or_not, pieces_whole}
 use Rattle.jf_update.specs.declared.outcome.NewChildren.{NewChildren}
 use Rattle.jf_update.specs.declared.outcome.Outcome.{Outcome}
 use Rattle.jf_update.specs.declared.outcome.Outcome.TheVariants.{Same, New}
-use Rattle.jf_update.proofs.BuildLaws.{drop_more, fits_part}
+use Rattle.jf_update.proofs.BuildLaws.{fits_part}
 use Rattle.jf_update.proofs.RemainderLaws.{get_or-any}
 use Rattle.jf_update.proofs.NodeUpdateLaws.{IsUpdating, empty_applied, no_change}
-
--- ---- pieces one after another
--- the pieces below nibble n
-pub record IsCutting (depth n start : ℕ) (bs : Batch) (ps : List Piece) : Type 0 where
-  pub pieces : AllByRecursion (IsPieceOf depth bs) ps
-  pub whole : (k : ℕ) → k < n → HasNibble k ps ⊎ (with_nibble depth k bs ≡ [])
-  pub within : start ≤ length bs
-  pub rest : drop start bs ≡ from_nibble depth n bs
-
-pub cutting_start : (d : ℕ) (bs : Batch) (ps : List Piece) → ps ≡ [] → IsCutting d 0 0 bs ps
-cutting_start d bs ps is = subst (IsCutting d 0 0 bs) (sym is) record { pieces = tt; whole = λ k lt. absurd (omega arith); within = omega arith; rest = sym (from_nibble-zero d bs) }
-
-has-front : (k : ℕ) (ps : List Piece) (p : Piece) → HasNibble k ps → HasNibble k (ps ++ p ∷ [])
-has-front k [] p h = absurd h
-has-front k (q ∷ ps) p (inl h) = inl h
-has-front k (q ∷ ps) p (inr h) = inr (has-front k ps p h)
-
-has-last : (k : ℕ) (ps : List Piece) (p : Piece) → p.nibble ≡ k → HasNibble k (ps ++ p ∷ [])
-has-last k [] p h = inl h
-has-last k (q ∷ ps) p h = inr (has-last k ps p h)
-
-pub cutting_more : (d n start r : ℕ) (path : ℕ → ℕ) (bs : Batch) (ps more : List Piece) (p : Piece) → IsPartUnder d path bs → n < 16 → IsCutting d n start bs ps → IsPieceEnd d n r (drop start bs) → p.nibble ≡ n → p.start ≡ start → p.end ≡ start + r → more ≡ ps ++ p ∷ []
-    → IsCutting d (n + 1) (start + r) bs more
-cutting_more d n start r path bs ps more p part small c end at from to is =
-    let both = cut_piece d n r path bs (drop start bs) part c.rest end in
-    let exact : take (p.end - p.start) (drop p.start bs) ≡ with_nibble d p.nibble bs =
-    ap (λ s. take (p.end - s) (drop s bs)) from ∙ ap (λ e. take (e - start) (drop start bs)) to ∙ ap (λ k. take k (drop start bs)) (let e : (start + r) - start ≡ r = omega arith in e) ∙ both.0 ∙ ap (λ m. with_nibble d m bs) (sym at) in
-    subst (IsCutting d (n + 1) (start + r) bs) (sym is) record {
-      pieces = All-append (IsPieceOf d bs) ps (p ∷ []) c.pieces (record { small = omega (arith, at); rising = omega (arith, from, to); within = omega (arith, to, c.within, end.within, length-drop start bs); exact = exact }, tt);
-      whole = λ k lt. let le : k ≤ n = omega arith in elim (eq-or-lt_of_le le) [
-        | inl here ↦ inl (has-last k ps p (at ∙ sym here))
-        | inr before ↦ elim (c.whole k before) [ inl has ↦ inl (has-front k ps p has) | inr none ↦ inr none ]
-      ];
-      within = omega (arith, c.within, end.within, length-drop start bs);
-      rest = sym (drop_more start r bs) ∙ both.1;
-    }
-
-pub cutting_none : (d n start r : ℕ) (path : ℕ → ℕ) (bs : Batch) (ps : List Piece) → IsPartUnder d path bs → IsCutting d n start bs ps → IsPieceEnd d n r (drop start bs) → ¬ (start < start + r) → IsCutting d (n + 1) (start + r) bs ps
-cutting_none d n start r path bs ps part c end empty =
-    let both = cut_piece d n r path bs (drop start bs) part c.rest end in
-    let none : r ≡ 0 = omega (arith, empty) in
-    record {
-      pieces = c.pieces;
-      whole = λ k lt. let le : k ≤ n = omega arith in elim (eq-or-lt_of_le le) [
-        | inl here ↦ inr (ap (λ m. with_nibble d m bs) here ∙ sym both.0 ∙ ap (λ m. take m (drop start bs)) none)
-        | inr before ↦ c.whole k before
-      ];
-      within = omega (arith, c.within, end.within, length-drop start bs);
-      rest = sym (drop_more start r bs) ∙ both.1;
-    }
-
-pub cutting_done : (d start : ℕ) (bs : Batch) (ps : List Piece) → IsCutting d 16 start bs ps → ArePiecesOf d bs ps
-cutting_done d start bs ps c = record { pieces = c.pieces; whole = c.whole }
 
 -- ---- outcomes put in place
 -- the child at nibble k is updated
@@ -109,12 +55,6 @@ placing_start d v olds news bs ps changed long fit is none = subst (λ ls. IsPla
   each = λ k lt. inr (refl, no_change 16 k);
   done = λ i p lt. absurd (omega arith);
 })
-
-pub same_or_not : (k m : ℕ) → (k ≡ m) ⊎ (¬ (k ≡ m))
-same_or_not k m = elim (cases_lt k m) [
-  | inl below ↦ inr (λ e. omega arith)
-  | inr above ↦ elim (eq-or-lt_of_le above) [ inl same ↦ inl (sym same) | inr past ↦ inr (λ e. omega arith) ]
-]
 
 done_same : (d v : ℕ) (olds news : List (Option LinkValue)) (bs : Batch) (changed : List Bool) (k : ℕ) → length olds ≡ 16 → FitFrom d 0 olds → IsAsBefore olds news changed k → applied (content (get_or olds k None)) (with_nibble d k bs) ≡ content (get_or olds k None) → IsDone d v olds bs news changed k
 done_same d v olds news bs changed k long fit before is =
@@ -195,7 +135,7 @@ drop_all [] = refl
 drop_all (x ∷ xs) = drop_all xs
 
 -- once all outcomes are in place, all children are updated
-pub placing_done : (d v : ℕ) (olds : List (Option LinkValue)) (w : NewChildren) (bs : Batch) (ps : List Piece) → length olds ≡ 16 → FitFrom d 0 olds → ArePiecesOf d bs ps → IsPlacing d v (length ps) olds bs ps w.children w.changed → IsUpdating d v 16 (length bs) olds bs w.children w.changed
+pub placing_done : (d v : ℕ) (olds : List (Option LinkValue)) (w : NewChildren) (bs : Batch) (ps : List Piece) → length olds ≡ 16 → FitFrom d 0 olds → ArePieces d bs ps → IsPlacing d v (length ps) olds bs ps w.children w.changed → IsUpdating d v 16 (length bs) olds bs w.children w.changed
 placing_done d v olds w bs ps long fit pieces h = record {
   long = h.long;
   changes = h.changes;
@@ -210,20 +150,13 @@ placing_done d v olds w bs ps long fit pieces h = record {
 }
   where
     all : (k : ℕ) → k < 16 → IsDone d v olds bs w.children w.changed k
-    all k lt = elim (pieces.whole k lt) [
+    all k lt = elim (pieces_whole d k bs ps pieces) [
       | inl has ↦ let x = place_in k ps (record { nibble = 0; start = 0; end = 0 }) has in subst (IsDone d v olds bs w.children w.changed) x.2 (h.done x.0 (record { nibble = 0; start = 0; end = 0 }) x.1)
       | inr none ↦ elim (h.each k lt) [
         | inl done ↦ done
         | inr before ↦ done_same d v olds w.children bs w.changed k long fit before (empty_applied (content (get_or olds k None)) (with_nibble d k bs) (ap length none))
       ]
     ]
-
-pub zip_at : {X Y : Type 0} (R : X → Y → Type 0) (xs : List X) (ys : List Y) (i : ℕ) (d : X) (e : Y) → AllZip R xs ys → i < length ys → R (get_or xs i d) (get_or ys i e)
-zip_at R [] [] i d e h lt = absurd (omega arith)
-zip_at R [] (y ∷ ys) i d e h lt = absurd h
-zip_at R (x ∷ xs) [] i d e h lt = absurd h
-zip_at R (x ∷ xs) (y ∷ ys) zero d e h lt = h.0
-zip_at R (x ∷ xs) (y ∷ ys) (suc i) d e h lt = zip_at R xs ys i d e h.1 (omega arith)
 
 pub zip_long : {X Y : Type 0} (R : X → Y → Type 0) (xs : List X) (ys : List Y) → AllZip R xs ys → length ys ≡ length xs
 zip_long R [] [] h = refl

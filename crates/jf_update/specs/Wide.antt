@@ -1,6 +1,5 @@
 -- The pieces of changes that several workers take, and their outcomes.
-use Rattle.std.specs.Prelude.{◌≡◌, ℕ, ◌+◌, ◌-◌, ◌<◌, ◌≤◌, ◌⊎◌, List, [], ◌∷◌, length, take, drop, Option, None, slice_index_or}
-use Rattle.std.specs.List.{AllByRecursion}
+use Rattle.std.specs.Prelude.{◌≡◌, ℕ, ◌+◌, ◌-◌, ◌<◌, ◌≤◌, List, length, take, drop, Option, None, slice_index_or}
 use Rattle.jf_hash.specs.Maps.{Batch}
 use Rattle.jf_hash.specs.Slots.{Part, with_nibble}
 use Rattle.jf_split.specs.declared.piece.Piece.{Piece}
@@ -15,16 +14,6 @@ pub record IsPieceOf (depth : ℕ) (bs : Batch) (p : Piece) : Type 0 where
   pub rising : p.start ≤ p.end
   pub within : p.end ≤ length bs
   pub exact : take (p.end - p.start) (drop p.start bs) ≡ with_nibble depth p.nibble bs
-
--- one of the pieces has nibble k
-abbrev pub HasNibble : ℕ → List Piece → Type 0
-HasNibble k [] = ⊥
-HasNibble k (p ∷ ps) = (p.nibble ≡ k) ⊎ HasNibble k ps
-
--- pieces of changes, and no change has the nibble of none of them
-pub record ArePiecesOf (depth : ℕ) (bs : Batch) (ps : List Piece) : Type 0 where
-  pub pieces : AllByRecursion (IsPieceOf depth bs) ps
-  pub whole : (k : ℕ) → k < 16 → HasNibble k ps ⊎ (with_nibble depth k bs ≡ [])
 
 -- the outcome of a piece is that of its changes over the child at its nibble
 pub record IsPieceOutcome (depth version : ℕ) (olds : List (Option LinkValue)) (bs : Batch) (p : Piece) (r : Outcome) : Type 0 where

@@ -2,15 +2,17 @@
 // each.
 ghost use Rattle.std.specs.Prelude.{◌≡◌, ◌-◌, ◌<◌, ◌≤◌, ℕ, length, take, drop, IfOk};
 ghost use Rattle.jf_model.specs.Parts.{IsPartUnder, IsPieceEnd};
-ghost use Rattle.jf_update.specs.Wide.{ArePiecesOf};
+ghost use Rattle.std.specs.List.{AllByRecursion};
+ghost use Rattle.jf_split.specs.Pieces.{ArePieces};
+ghost use Rattle.jf_update.specs.Wide.{IsPieceOf};
 
 use jf_hash::Hash;
 use jf_path::{Key, Memory, Nibble, SharedBytes, nibble};
-use jf_split::Piece;
+use jf_split::{Piece, pieces_of};
 use std::alloc::Global;
 
-/// A piece of more changes than this is cut again.
-const MOST_KEYS: usize = 1_024;
+/// A piece of more changes than this is cut again, if there are workers for its pieces.
+const MOST_CHANGES: usize = 1_024;
 
 /// The number of entries at the front of `items` whose keys have nibble `n` at a depth.
 pub(crate) fn piece_end<V>(items: &[(Key, V)], depth: u64, n: Nibble) -> usize
@@ -34,7 +36,7 @@ pub(crate) fn hashes_in(hashes: &[Hash], start: usize, end: usize) -> &[Hash]
     &hashes[start..end]
 }
 
-/// The pieces of changes at a depth that aren't empty, in the order of their nibbles.
+/// The pieces of changes at a depth, in the order of their nibbles.
 pub(crate) fn pieces_in(
     alloc: Global,
     entries: &[(Key, Option<SharedBytes>)],
@@ -42,19 +44,10 @@ pub(crate) fn pieces_in(
 ) -> Result<Vec<Piece>, Memory>
     requires depth { depth < 64 }
     requires part { (path : ℕ → ℕ) × IsPartUnder depth path entries.now }
-    ensures { IfOk result (λ ps. ArePiecesOf depth entries.now ps.items) }
+    ensures cut { IfOk result (λ ps. ArePieces depth entries.now ps.items) }
+    ensures each { IfOk result (λ ps. AllByRecursion (IsPieceOf depth entries.now) ps.items) }
 {
-    let mut pieces = Vec::new(alloc);
-    let mut start = 0;
-    for n in 0..16 {
-        let nibble = Nibble::of(n);
-        let end = start + piece_end(&entries[start..], depth, nibble);
-        if end > start {
-            pieces.push(Piece { nibble, start, end })?;
-        }
-        start = end;
-    }
-    Ok(pieces)
+    pieces_of(alloc, entries, depth as usize)
 }
 
 /// The number of workers that each of so many pieces may have, if all of them have `workers`.
@@ -79,5 +72,5 @@ pub(crate) fn workers_for(workers: u64, changes: usize) -> u64
     ensures positive { 1 ≤ result }
     ensures bounded { result ≤ 64 }
 {
-    if changes > MOST_KEYS { workers } else { 1 }
+    if changes > MOST_CHANGES { workers } else { 1 }
 }

@@ -6,7 +6,8 @@ ghost use Rattle.std.specs.Thread.{IsSync};
 ghost use Rattle.jf_node.specs.Children.{content, joined, FitFrom};
 ghost use Rattle.jf_diff.specs.OptionalNodes.{IsAtDepth};
 ghost use Rattle.jf_update.specs.Outcomes.{AreParts, IsOutcome, AreOutcome};
-ghost use Rattle.jf_update.specs.Wide.{IsPieceOf, ArePiecesOf, IsPieceOutcome};
+ghost use Rattle.jf_split.specs.Pieces.{ArePieces};
+ghost use Rattle.jf_update.specs.Wide.{IsPieceOf, IsPieceOutcome};
 ghost use Rattle.jf_update.specs.ValueHashes.{AreValueHashes};
 
 use crate::node::{has_changed, place, rebuild, update_node};
@@ -33,7 +34,7 @@ fn place_all(
     requires depth { depth < 64 }
     requires children { FitFrom depth 0 children.now }
     requires parts { AreParts depth (joined children.now) entries.now }
-    requires pieces { ArePiecesOf depth entries.now pieces.now }
+    requires pieces { ArePieces depth entries.now pieces.now }
     requires outcomes { AllZip (λ p r. IfOk r (IsPieceOutcome depth version children.now entries.now p)) pieces.now outcomes.items }
     ensures { IfOk result (λ r. AreOutcome depth version children.now entries.now r) }
 {

@@ -8,7 +8,8 @@ ghost use Rattle.jf_model.specs.Changes.{applied};
 ghost use Rattle.jf_node.specs.Children.{content};
 ghost use Rattle.jf_update.specs.Made.{Built, AreBuilt};
 ghost use Rattle.jf_update.specs.Outcomes.{AreParts, IsLeafOutcome};
-ghost use Rattle.jf_update.specs.Wide.{IsPieceOf, ArePiecesOf, IsPieceBuilt};
+ghost use Rattle.jf_split.specs.Pieces.{ArePieces};
+ghost use Rattle.jf_update.specs.Wide.{IsPieceOf, IsPieceBuilt};
 ghost use Rattle.jf_update.specs.ValueHashes.{AreValueHashes};
 
 use crate::leaf::{build, build_children, own_at};
@@ -39,7 +40,7 @@ fn place_built(
     requires few { length (content (option_copied own)) < 2 }
     requires parts { AreParts depth (content (option_copied own)) entries.now }
     requires hashed { AreValueHashes entries.now hashes.now }
-    requires pieces { ArePiecesOf depth entries.now pieces.now }
+    requires pieces { ArePieces depth entries.now pieces.now }
     requires built { AllZip (λ p r. IfOk r (IsPieceBuilt depth version (applied (content (option_copied own)) entries.now) p)) pieces.now built.items }
     ensures { IfOk result (λ y. AreBuilt depth version (applied (content (option_copied own.entry)) entries.now) y) }
 {

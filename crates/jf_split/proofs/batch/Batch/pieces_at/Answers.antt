@@ -9,4 +9,4 @@ use Rattle.jf_split.proofs.batch.Batch.pieces_at.Goals as goal
 pub pieces_of-requires-clause-rising : goal.pieces_of-requires-clause-rising
 pieces_of-requires-clause-rising c =
     let agree = subst (AgreeBefore c.args.depth) (sym c.self.view_is) c.requires.agree in
-    subst (IsNonDecreasingBy (λ e. nibble e.0 c.args.depth)) (sym c.deref.ensures.value) (IsNonDecreasingBy-nibble c.args.depth c.self.inside.entries.items c.requires.depth c.self.invariant.0 agree)
+    subst (IsNonDecreasingBy (λ e. nibble e.0 c.args.depth)) (sym c.deref.ensures.value) (IsNonDecreasingBy-nibble c.args.depth c.self.inside.entries.items c.requires.depth c.self.invariant.0.sorted c.self.invariant.0.keys agree)
