@@ -82,11 +82,9 @@ advanced head old b top s sound was next is now =
 pub updated : (head : SnapshotValue) (b : Batch) (u : Update) → IsBatch b → IsNextSnapshot head b u.snapshot → u.root ≡ root u.snapshot.map
     → u.fresh ≡ written_nodes head.map u.snapshot.map u.snapshot → IsPermutation (stale_names_in head.map u.snapshot.map head) u.stale → IsFreshCount head u.snapshot (length u.fresh) → IsUpdate head b u
 updated head b u batch next rooted fresh_is stale_is bound = record {
-  map = next.map;
-  version = next.version;
+  next = next;
   root = rooted ∙ ap root next.map;
   fresh = fresh_is ∙ ap (λ m. written_nodes head.map m u.snapshot) next.map;
   stale = subst (λ m. IsPermutation (stale_names_in head.map m head) u.stale) next.map stale_is;
-  versions = next.versions;
   bound = bound b batch next;
 }
