@@ -7,6 +7,7 @@ ghost use Rattle.jf_node.specs.Children.{joined};
 ghost use Rattle.jf_node.specs.LinkFacts.{IsLinkIf};
 
 use crate::link::{Branches, Link, Sixteen};
+use jf_hash::{Hash, Places, empty};
 use jf_path::{Bitmap, Memory, Nibble};
 use std::alloc::Global;
 
@@ -86,6 +87,30 @@ impl Branches {
         }
         copy.know();
         Ok(copy)
+    }
+}
+
+impl Places for Branches {
+    ghost use Rattle.std.specs.Prelude.{map};
+    ghost use Rattle.jf_node.specs.Children.{child_slot};
+
+    ghost slots = { λ links. map child_slot links };
+
+    fn children(&self) -> Bitmap {
+        self.there
+    }
+
+    fn leaves(&self) -> Bitmap {
+        self.leaves
+    }
+
+    fn first_hash(&self, start: usize) -> Hash {
+        let first = self.there.rank(start);
+        if first < self.links.len() {
+            self.links[first].hash()
+        } else {
+            empty()
+        }
     }
 }
 
