@@ -1,11 +1,12 @@
 -- What a range of places holds is told by how many children and how many leaves stand in it.
 use Rattle.std.specs.Prelude.{◌≡◌, ℕ, zero, suc, ◌==◌, nat_lt, ◌<◌, ◌≤◌, ◌⊎◌, Bool, List, [], ◌∷◌, map, take, drop}
 use Rattle.std.specs.List.{count_by}
-use Rattle.std.proofs.Common.{arith, refl, ap, ◌∙◌, inl, inr}
+use Rattle.std.proofs.Common.{arith, refl, ap, ◌∙◌, sym, inl, inr}
 use Rattle.std.proofs.lemmas.Bool.Decides.{nat_tests}
 use Rattle.std.proofs.lemmas.List.{take-map, drop-map}
 use Rattle.jf_path.proofs.BitmapLaws.{count_by-set, count_by-clear}
-use Rattle.jf_hash.specs.Slots.{Occupants, Empty, Lone, Many, with_leaf, occupants, is_occupied, holds_leaf}
+use Rattle.jf_hash.specs.Hashes.{E}
+use Rattle.jf_hash.specs.Slots.{Occupants, Empty, Lone, Many, with_leaf, occupants, is_occupied, holds_leaf, first_child_hash}
 use Rattle.jf_hash.specs.Ranges.{is_many}
 use Rattle.jf_hash.specs.declared.slot.Slot.{Slot}
 use Rattle.jf_hash.specs.declared.slot.Slot.TheVariants as slot
@@ -73,3 +74,34 @@ pub no_child : (o : Occupants) (t l : ℕ) → AreCounts o t l → t ≤ 1 → �
 no_child Empty t l h few other = ap (λ n. n == 1) h
 no_child (Lone hash) t l h few other = absurd (other h.0)
 no_child Many t l h few other = elim h [ inl many ↦ absurd (omega arith) | inr one ↦ absurd (other one.0) ]
+
+-- ---- the first child of a range
+none_first : (slots : List Slot) → count is_occupied slots ≡ 0 → E ≡ first_child_hash slots
+unfolding count
+none_first [] none = refl
+none_first (slot.Absent ∷ slots) none = none_first slots (sym (count_by-clear (map is_occupied slots)) ∙ none)
+none_first (slot.Leaf hash ∷ slots) none = absurd (omega (arith, none, count_by-set (map is_occupied slots)))
+none_first (slot.Inner hash ∷ slots) none = absurd (omega (arith, none, count_by-set (map is_occupied slots)))
+
+first-take : (width : ℕ) (slots : List Slot) → ¬ (count is_occupied (take width slots) ≡ 0) → first_child_hash slots ≡ first_child_hash (take width slots)
+unfolding count
+first-take zero slots some = absurd (some refl)
+first-take (suc width) [] some = refl
+first-take (suc width) (slot.Absent ∷ slots) some = first-take width slots (λ none. some (count_by-clear (map is_occupied (take width slots)) ∙ none))
+first-take (suc width) (slot.Leaf hash ∷ slots) some = refl
+first-take (suc width) (slot.Inner hash ∷ slots) some = refl
+
+-- the number of children in a range, by the bits
+children_in : (start width : ℕ) (children : List Bool) (slots : List Slot) → children ≡ map is_occupied slots → count_by (λ bit. bit) (take width (drop start children)) ≡ count is_occupied (take width (drop start slots))
+unfolding count
+children_in start width children slots are =
+    ap (λ bits. count_by (λ bit. bit) (take width (drop start bits))) are
+    ∙ ap (λ bits. count_by (λ bit. bit) (take width bits)) (drop-map is_occupied start slots) ∙ ap (count_by (λ bit. bit)) (take-map is_occupied width (drop start slots))
+
+-- a range without a bit has no child
+pub first_child_hash-none : (start width : ℕ) (children : List Bool) (slots : List Slot) → children ≡ map is_occupied slots → count_by (λ bit. bit) (take width (drop start children)) ≡ 0 → E ≡ first_child_hash (take width (drop start slots))
+first_child_hash-none start width children slots are none = none_first (take width (drop start slots)) (sym (children_in start width children slots are) ∙ none)
+
+-- the first child from the start of a range on is that of the range, if it has one
+pub first_child_hash-take : (start width : ℕ) (children : List Bool) (slots : List Slot) → children ≡ map is_occupied slots → ¬ (count_by (λ bit. bit) (take width (drop start children)) ≡ 0) → first_child_hash (drop start slots) ≡ first_child_hash (take width (drop start slots))
+first_child_hash-take start width children slots are some = first-take width (drop start slots) (λ none. some (children_in start width children slots are ∙ none))

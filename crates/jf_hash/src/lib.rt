@@ -5,6 +5,7 @@
 
 mod occupancy;
 mod occupied;
+mod places;
 mod plain;
 mod range;
 mod ranges;
@@ -12,6 +13,7 @@ mod refreshing;
 mod slot;
 mod tagged;
 
+pub use places::Places;
 pub use plain::plain_root;
 pub use range::sixteen;
 pub use ranges::Ranges;

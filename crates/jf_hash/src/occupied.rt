@@ -1,10 +1,11 @@
 // What stands in a range of places is told by counting the bits of two maps.
-ghost use Rattle.std.specs.Prelude.{◌≡◌, ◌+◌, ◌≤◌, List, Bool, map, take, drop};
+ghost use Rattle.std.specs.Prelude.{◌≡◌, ◌+◌, ◌==◌, ◌≤◌, List, Bool, length, map, take, drop};
+ghost use Rattle.std.specs.List.{count_by};
 ghost use Rattle.jf_hash.specs.Slots.{occupants, is_occupied, holds_leaf};
 ghost use Rattle.jf_hash.specs.Ranges.{is_many};
 ghost use Rattle.jf_hash.specs.declared.slot.Slot.{Slot};
 
-use crate::slot::Slot;
+use crate::places::Places;
 use jf_path::Bitmap;
 
 /// At which of a node's places a child stands, and at which of them a leaf.
@@ -16,22 +17,23 @@ pub struct Occupied {
 
 impl Occupied {
     /// What these places hold.
-    pub fn of(slots: &[Slot; 16]) -> Occupied
-        ensures children { result.children ≡ map is_occupied slots.now }
-        ensures leaves { result.leaves ≡ map holds_leaf slots.now }
+    pub fn of<P: Places>(places: &P) -> Occupied
+        ensures children { result.children ≡ map is_occupied (P.slots places.now) }
+        ensures leaves { result.leaves ≡ map holds_leaf (P.slots places.now) }
+        ensures long { length (P.slots places.now) ≡ 16 }
     {
-        let mut children = Bitmap::none();
-        let mut leaves = Bitmap::none();
-        for i in 0..16 {
-            let (child, leaf) = match slots[i] {
-                Slot::Absent => (false, false),
-                Slot::Leaf(_) => (true, true),
-                Slot::Inner(_) => (true, false),
-            };
-            children.set(i, child);
-            leaves.set(i, leaf);
-        }
+        let children = places.children();
+        children.know();
+        let leaves = places.leaves();
         Occupied { children, leaves }
+    }
+
+    /// Whether a range holds no child.
+    pub fn is_empty(&self, start: usize, width: usize) -> bool
+        requires { start + width ≤ 16 }
+        ensures { result ≡ (count_by (λ bit. bit) (take width (drop start self.now.children)) == 0) }
+    {
+        self.children.count(start, width) == 0
     }
 
     /// Whether a range holds more than one leaf; an internal node counts as more.

@@ -8,8 +8,8 @@ ghost use Rattle.jf_hash.specs.Ranges.{Agree, IsRange, in_range, kept_hash, kept
 ghost use Rattle.jf_hash.specs.declared.slot.Slot.{Slot};
 
 use crate::occupied::Occupied;
+use crate::places::Places;
 use crate::refreshing::refresh;
-use crate::slot::Slot;
 use crate::tagged::Hash;
 use jf_path::{Bitmap, Memory};
 use jf_steps::Steps;
@@ -64,27 +64,27 @@ fn collect(alloc: Global, hashes: &[Option<Hash>; 16], count: usize) -> Result<V
 
 impl Ranges {
     /// The hashes of the ranges of these places.
-    pub fn of(alloc: Global, slots: &[Slot; 16]) -> Result<Ranges, Memory>
-        ensures { IfOk result (λ r. r ≡ kept_hashes slots.now) }
+    pub fn of<P: Places>(alloc: Global, places: &P) -> Result<Ranges, Memory>
+        ensures { IfOk result (λ r. r ≡ kept_hashes (P.slots places.now)) }
     {
-        Ranges::of_uncounted::<Brand>(alloc, slots, Blank::new(1))
+        Ranges::of_uncounted::<P, Brand>(alloc, places, Blank::new(1))
     }
 
     /// The hashes that `of` returns, with the pairs counted that are hashed: one for each range of two places or more
     /// that holds more than one leaf.
-    pub fn of_counted<L: Ledger>(
+    pub fn of_counted<P: Places, L: Ledger>(
         alloc: Global,
-        slots: &[Slot; 16],
+        places: &P,
         steps: &mut Steps<L>,
     ) -> Result<Ranges, Memory>
-        ensures value { IfOk result (λ r. r ≡ kept_hashes slots.now) }
-        ensures pairs { steps.new ≡ steps.old + pairs_within 4 slots.now (replicate 16 true) }
+        ensures value { IfOk result (λ r. r ≡ kept_hashes (P.slots places.now)) }
+        ensures pairs { steps.new ≡ steps.old + pairs_within 4 (P.slots places.now) (replicate 16 true) }
         ensures once { steps.new ≤ steps.old + 15 }
     {
         let mut hashes = [None; 16];
         refresh(
-            slots,
-            &Occupied::of(slots),
+            places,
+            &Occupied::of(places),
             Bitmap::all(),
             0,
             16,
@@ -95,50 +95,50 @@ impl Ranges {
     }
 
     // The hashes, with the pairs counted in a ledger of their own.
-    fn of_uncounted<L: Ledger>(
+    fn of_uncounted<P: Places, L: Ledger>(
         alloc: Global,
-        slots: &[Slot; 16],
+        places: &P,
         blank: Blank,
     ) -> Result<Ranges, Memory>
         requires name { blank.name ≡ L.name }
         requires parts { blank.parts ≡ L.parts }
         requires positive { 0 < blank.parts }
-        ensures { IfOk result (λ r. r ≡ kept_hashes slots.now) }
+        ensures { IfOk result (λ r. r ≡ kept_hashes (P.slots places.now)) }
     {
         let mut steps = Steps::<L>::new(blank);
-        Ranges::of_counted(alloc, slots, &mut steps)
+        Ranges::of_counted(alloc, places, &mut steps)
     }
 
     /// The hashes of the ranges of these places, of which only those in `changed` may differ from before. Only ranges
     /// with a changed place are hashed again, and of these only those that hold more than one leaf.
-    pub fn updated(
+    pub fn updated<P: Places>(
         &self,
         alloc: Global,
-        slots: &[Slot; 16],
+        places: &P,
         changed: Bitmap,
     ) -> Result<Ranges, Memory>
-        ensures { (olds : List Slot) → self.now ≡ kept_hashes olds → Agree olds changed slots.now → IfOk result (λ r. r ≡ kept_hashes slots.now) }
+        ensures { (olds : List Slot) → self.now ≡ kept_hashes olds → Agree olds changed (P.slots places.now) → IfOk result (λ r. r ≡ kept_hashes (P.slots places.now)) }
     {
-        self.updated_uncounted::<Brand>(alloc, slots, changed, Blank::new(1))
+        self.updated_uncounted::<P, Brand>(alloc, places, changed, Blank::new(1))
     }
 
     /// The hashes that `updated` returns, with the pairs counted that are hashed.
-    pub fn updated_counted<L: Ledger>(
+    pub fn updated_counted<P: Places, L: Ledger>(
         &self,
         alloc: Global,
-        slots: &[Slot; 16],
+        places: &P,
         changed: Bitmap,
         steps: &mut Steps<L>,
     ) -> Result<Ranges, Memory>
-        ensures value { (olds : List Slot) → self.now ≡ kept_hashes olds → Agree olds changed slots.now → IfOk result (λ r. r ≡ kept_hashes slots.now) }
-        ensures pairs { steps.new ≡ steps.old + pairs_within 4 slots.now changed }
+        ensures value { (olds : List Slot) → self.now ≡ kept_hashes olds → Agree olds changed (P.slots places.now) → IfOk result (λ r. r ≡ kept_hashes (P.slots places.now)) }
+        ensures pairs { steps.new ≡ steps.old + pairs_within 4 (P.slots places.now) changed }
         ensures bounded { steps.new ≤ steps.old + 4 * count_by (λ bit. bit) changed }
     {
         changed.know();
         let mut hashes = self.spread();
         refresh(
-            slots,
-            &Occupied::of(slots),
+            places,
+            &Occupied::of(places),
             changed,
             0,
             16,
@@ -149,20 +149,20 @@ impl Ranges {
     }
 
     // The hashes, with the pairs counted in a ledger of their own.
-    fn updated_uncounted<L: Ledger>(
+    fn updated_uncounted<P: Places, L: Ledger>(
         &self,
         alloc: Global,
-        slots: &[Slot; 16],
+        places: &P,
         changed: Bitmap,
         blank: Blank,
     ) -> Result<Ranges, Memory>
         requires name { blank.name ≡ L.name }
         requires parts { blank.parts ≡ L.parts }
         requires positive { 0 < blank.parts }
-        ensures { (olds : List Slot) → self.now ≡ kept_hashes olds → Agree olds changed slots.now → IfOk result (λ r. r ≡ kept_hashes slots.now) }
+        ensures { (olds : List Slot) → self.now ≡ kept_hashes olds → Agree olds changed (P.slots places.now) → IfOk result (λ r. r ≡ kept_hashes (P.slots places.now)) }
     {
         let mut steps = Steps::<L>::new(blank);
-        self.updated_counted(alloc, slots, changed, &mut steps)
+        self.updated_counted(alloc, places, changed, &mut steps)
     }
 
     // These hashes, without room for those that aren't there.

@@ -6,7 +6,7 @@ ghost use Rattle.jf_hash.specs.Ranges.{Agree, kept_within, pairs_within};
 ghost use Rattle.jf_hash.specs.declared.slot.Slot.{Slot};
 
 use crate::occupied::Occupied;
-use crate::slot::Slot;
+use crate::places::Places;
 use crate::tagged::{Hash, empty, inner};
 use jf_path::Bitmap;
 use jf_steps::Steps;
@@ -21,25 +21,35 @@ fn hash_pair<L: Ledger>(left: &Hash, right: &Hash, steps: &mut Steps<L>) -> Hash
     inner(left, right)
 }
 
-// The hash of the first child of these places, or that of no entry without a child.
-fn first_child_hash(places: &[Slot]) -> Hash
-    ensures { result ≡ first_child_hash places.now }
+// The hash of the first child of a range, or that of no entry without a child.
+fn first_in<P: Places>(places: &P, occupied: &Occupied, start: usize, width: usize) -> Hash
+    requires within { start + width ≤ 16 }
+    requires children { occupied.now.children ≡ map is_occupied (P.slots places.now) }
+    ensures { result ≡ first_child_hash (take width (drop start (P.slots places.now))) }
 {
-    match places.split_first() {
-        None => empty(),
-        Some((Slot::Absent, rest)) => first_child_hash(rest),
-        Some((Slot::Leaf(hash) | Slot::Inner(hash), _)) => *hash,
+    if occupied.is_empty(start, width) {
+        empty()
+    } else {
+        places.first_hash(start)
     }
 }
 
 // The hash of a range, from what is kept of it.
-fn hash_in(places: &[Slot], kept: &[Option<Hash>]) -> Hash
-    ensures { (level : ℕ) → level ≤ 4 → length places.now ≡ 2 ^ level → kept.now ≡ kept_within level places.now → result ≡ range_hash level places.now }
+fn hash_in<P: Places>(
+    places: &P,
+    occupied: &Occupied,
+    start: usize,
+    width: usize,
+    kept: &[Option<Hash>],
+) -> Hash
+    requires within { start + width ≤ 16 }
+    requires children { occupied.now.children ≡ map is_occupied (P.slots places.now) }
+    ensures { (level : ℕ) → level ≤ 4 → length (take width (drop start (P.slots places.now))) ≡ 2 ^ level → kept.now ≡ kept_within level (take width (drop start (P.slots places.now))) → result ≡ range_hash level (take width (drop start (P.slots places.now))) }
 {
     match kept.last() {
         Some(Some(hash)) => *hash,
-        Some(None) => first_child_hash(places),
-        None => first_child_hash(places),
+        Some(None) => first_in(places, occupied, start, width),
+        None => first_in(places, occupied, start, width),
     }
 }
 
@@ -55,8 +65,8 @@ fn clear(kept: &mut [Option<Hash>])
 // Brings what is kept of the ranges within a range up to date with the places, and returns the hash of the whole range.
 // `changed` says at which places something may have changed. Only a range with a changed place and more than one leaf
 // is hashed.
-pub fn refresh<L: Ledger>(
-    slots: &[Slot; 16],
+pub fn refresh<P: Places, L: Ledger>(
+    places: &P,
     occupied: &Occupied,
     changed: Bitmap,
     start: usize,
@@ -66,24 +76,24 @@ pub fn refresh<L: Ledger>(
 ) -> Hash
     requires within { start + width ≤ 16 }
     requires room { length kept.old + 1 ≡ width }
-    requires children { occupied.now.children ≡ map is_occupied slots.now }
-    requires leaves { occupied.now.leaves ≡ map holds_leaf slots.now }
-    ensures value { (level : ℕ) (olds : List Slot) → level ≤ 4 → width ≡ 2 ^ level → kept.old ≡ kept_within level olds → Agree olds (take width (drop start changed)) (take width (drop start slots.now)) → (result ≡ range_hash level (take width (drop start slots.now))) × (kept.new ≡ kept_within level (take width (drop start slots.now))) }
-    ensures pairs { (level : ℕ) → level ≤ 4 → width ≡ 2 ^ level → steps.new ≡ steps.old + pairs_within level (take width (drop start slots.now)) (take width (drop start changed)) }
+    requires long { length (P.slots places.now) ≡ 16 }
+    requires children { occupied.now.children ≡ map is_occupied (P.slots places.now) }
+    requires leaves { occupied.now.leaves ≡ map holds_leaf (P.slots places.now) }
+    ensures value { (level : ℕ) (olds : List Slot) → level ≤ 4 → width ≡ 2 ^ level → kept.old ≡ kept_within level olds → Agree olds (take width (drop start changed)) (take width (drop start (P.slots places.now))) → (result ≡ range_hash level (take width (drop start (P.slots places.now)))) × (kept.new ≡ kept_within level (take width (drop start (P.slots places.now)))) }
+    ensures pairs { (level : ℕ) → level ≤ 4 → width ≡ 2 ^ level → steps.new ≡ steps.old + pairs_within level (take width (drop start (P.slots places.now))) (take width (drop start changed)) }
     ensures once { steps.new ≤ steps.old + length kept.old }
 {
-    let places = &slots[start..start + width];
     if changed.count(start, width) == 0 {
-        return hash_in(places, kept);
+        return hash_in(places, occupied, start, width, kept);
     }
     if width == 1 || !occupied.is_many(start, width) {
         clear(kept);
-        return first_child_hash(places);
+        return first_in(places, occupied, start, width);
     }
     let half = width / 2;
     let last = kept.len() - 1;
     let left = refresh(
-        slots,
+        places,
         occupied,
         changed,
         start,
@@ -92,7 +102,7 @@ pub fn refresh<L: Ledger>(
         steps,
     );
     let right = refresh(
-        slots,
+        places,
         occupied,
         changed,
         start + half,

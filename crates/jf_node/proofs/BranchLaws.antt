@@ -113,7 +113,7 @@ spread-take (true ∷ bits) (x ∷ xs) (suc width) =
     ap (λ r. Some x ∷ r) (spread-take bits xs width)
     ∙ ap (λ n. spread (true ∷ take width bits) (take n (x ∷ xs))) (let e : suc (count (take width bits)) ≡ count (take (suc width) (true ∷ bits)) = omega (arith, count_by-set (take width bits)) in e)
 
-spread-drop : (bits : List Bool) (xs : List LinkValue) (start : ℕ) → drop start (spread bits xs) ≡ spread (drop start bits) (drop (count (take start bits)) xs)
+pub spread-drop : (bits : List Bool) (xs : List LinkValue) (start : ℕ) → drop start (spread bits xs) ≡ spread (drop start bits) (drop (count (take start bits)) xs)
 unfolding spread
 spread-drop [] xs zero = refl
 spread-drop [] xs (suc start) = refl
@@ -132,7 +132,7 @@ spread-drop (true ∷ bits) (x ∷ xs) (suc start) =
 pub spread-among : (bits : List Bool) (xs : List LinkValue) (start width : ℕ) → take width (drop start (spread bits xs)) ≡ spread (take width (drop start bits)) (among bits xs start width)
 spread-among bits xs start width = ap (take width) (spread-drop bits xs start) ∙ spread-take (drop start bits) (drop (count (take start bits)) xs) width
 
-count-parts : (bits : List Bool) (n : ℕ) → count (take n bits) + count (drop n bits) ≡ count bits
+pub count-parts : (bits : List Bool) (n : ℕ) → count (take n bits) + count (drop n bits) ≡ count bits
 count-parts [] zero = refl
 count-parts [] (suc n) = refl
 count-parts (b ∷ bits) zero = omega arith
@@ -148,7 +148,7 @@ length-taken zero xs h = refl
 length-taken (suc n) [] h = absurd (omega arith)
 length-taken (suc n) (x ∷ xs) h = omega (arith, length-taken n xs (omega arith))
 
-length-dropped : (n : ℕ) (xs : List LinkValue) → n ≤ length xs → n + length (drop n xs) ≡ length xs
+pub length-dropped : (n : ℕ) (xs : List LinkValue) → n ≤ length xs → n + length (drop n xs) ≡ length xs
 length-dropped zero xs h = omega arith
 length-dropped (suc n) [] h = absurd (omega arith)
 length-dropped (suc n) (x ∷ xs) h = omega (arith, length-dropped n xs (omega arith))

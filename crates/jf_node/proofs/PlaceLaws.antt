@@ -1,6 +1,7 @@
 -- The places of a node are known from its children.
-use Rattle.std.specs.Prelude.{◌≡◌, ◌+◌, ◌*◌, ℕ, Option, Some, None, ◌<◌, List, length, Bool, false, [], ◌∷◌, ◌^◌}
+use Rattle.std.specs.Prelude.{◌≡◌, ◌+◌, ◌*◌, ℕ, Option, Some, None, ◌<◌, List, length, Bool, false, [], ◌∷◌, ◌^◌, map}
 use Rattle.std.proofs.Common.{refl, ap, arith, sym, ◌∙◌, get_or, suc, zero, pow-suc}
+use Rattle.std.proofs.lemmas.List.{get_or-map, length-map}
 use Rattle.std.proofs.lemmas.List.FromFn.{fill_by_all, get_or-map-range_with_len}
 use Rattle.jf_hash.specs.Slots.{slot_of, with_nibble, slots_of, Part}
 use Rattle.jf_hash.specs.declared.slot.Slot.{Slot}
@@ -24,6 +25,10 @@ slots_joined depth links slots children long each =
     let within : k < length links = omega (arith, children.long) in
     each k small ∙ place_fits depth (0 + k) (get_or links k None) (FitFrom-at depth 0 k links children.fit within)
     ∙ ap (slot_of (4 * (depth + 1))) (sym (with_nibble-joined depth 0 k k links None children.fit within (omega arith))))
+
+pub slots-children : (depth : ℕ) (links : List (Option LinkValue)) → AreChildren depth links → map child_slot links ≡ slots_of depth (joined links)
+slots-children depth links children =
+    slots_joined depth links (map child_slot links) children (length-map links child_slot ∙ children.long) (λ k small. get_or-map child_slot links k None Absent (omega (arith, small, children.long)))
 
 -- one place of a node
 get_or-slots_of : (depth k : ℕ) (es : Part) → k < 16 → get_or (slots_of depth es) k Absent ≡ slot_of (4 * (depth + 1)) (with_nibble depth k es)

@@ -7,6 +7,7 @@ ghost use Rattle.jf_node.specs.Children.{joined};
 ghost use Rattle.jf_node.specs.LinkFacts.{IsLinkIf};
 
 use crate::link::{Branches, Link, Sixteen};
+use jf_hash::{Hash, Places, empty};
 use jf_path::{Bitmap, Memory, Nibble};
 use std::alloc::Global;
 
@@ -39,19 +40,20 @@ impl Branches {
         }
     }
 
+    /// The child at a place.
+    pub fn child_at(&self, place: usize) -> Option<&Link>
+        requires { place < 16 }
+        ensures { option_copied result ≡ slice_index_or self.now place None }
+    {
+        self.get(Nibble::of(place as u8))
+    }
+
     /// Ensures what holds of the children of every inner node. Changes nothing.
     pub fn know(&self)
         ensures long { length self.now ≡ 16 }
         ensures each { (i : ℕ) → i < 16 → IsLinkIf (slice_index_or self.now i None) }
     {
         self.there.know();
-    }
-
-    /// The number of entries of all children, or `None` if it is 2^64 or more.
-    pub fn count(&self) -> Option<u64>
-        ensures { SomeIff result (length (joined self.now) < 2 ^ 64) (length (joined self.now)) }
-    {
-        count_all(&self.links)
     }
 
     // The number of entries of the children at the `width` places from place `start` on, or `None` if it is 2^64 or
@@ -85,6 +87,30 @@ impl Branches {
         }
         copy.know();
         Ok(copy)
+    }
+}
+
+impl Places for Branches {
+    ghost use Rattle.std.specs.Prelude.{map};
+    ghost use Rattle.jf_node.specs.Children.{child_slot};
+
+    ghost slots = { λ links. map child_slot links };
+
+    fn children(&self) -> Bitmap {
+        self.there
+    }
+
+    fn leaves(&self) -> Bitmap {
+        self.leaves
+    }
+
+    fn first_hash(&self, start: usize) -> Hash {
+        let first = self.there.rank(start);
+        if first < self.links.len() {
+            self.links[first].hash()
+        } else {
+            empty()
+        }
     }
 }
 

@@ -106,7 +106,8 @@ impl Link {
     {
         children.know();
         let count = children.count().ok_or(Memory)?;
-        let ranges = Ranges::of_counted(alloc, &children.slots(), steps)?;
+        let children = Branches::of(alloc, children)?;
+        let ranges = Ranges::of_counted(alloc, &children, steps)?;
         Link::over(alloc, version, depth, children, ranges, count)
     }
 
@@ -172,9 +173,10 @@ impl Link {
         children.know();
         changed.know();
         let count = self.recount(&children, changed)?;
+        let children = Branches::of(alloc, children)?;
         let ranges = self
             .ranges()
-            .updated_counted(alloc, &children.slots(), changed, steps)?;
+            .updated_counted(alloc, &children, changed, steps)?;
         Link::over(alloc, version, self.depth(), children, ranges, count)
     }
 
@@ -229,7 +231,7 @@ impl Link {
         alloc: Global,
         version: u64,
         depth: u64,
-        children: Sixteen,
+        children: Branches,
         ranges: Ranges,
         count: u64,
     ) -> Result<Link, Memory>
@@ -241,7 +243,6 @@ impl Link {
     {
         children.know();
         let hash = top_of(&ranges);
-        let children = Branches::of(alloc, children)?;
         let node = Arc::new(
             alloc,
             Body {
@@ -281,7 +282,7 @@ impl Link {
         match self.view() {
             Seen::Leaf { .. } => self.at(alloc, version, self.depth()),
             Seen::Inner { children } => {
-                let children = children.share()?;
+                let children = Branches::of(alloc, children.share()?)?;
                 let ranges = self.ranges().copy(alloc)?;
                 Link::over(alloc, version, self.depth(), children, ranges, self.count())
             }

@@ -10,7 +10,7 @@ ghost use Rattle.jf_node.specs.RangeFacts.{IsRangeValue};
 ghost use Rattle.jf_node.specs.RangeStates.{IsRangeState};
 ghost use Rattle.jf_node.specs.SharedPlaces.{IsSharedAs};
 
-use crate::found::{Found, child_at};
+use crate::found::Found;
 use crate::link::Link;
 use crate::shared::{SharedPlace, SharedRange};
 use crate::state::RangeState;
@@ -163,7 +163,7 @@ impl<'a> Range<'a> {
             Seen::Inner { children } => {
                 let depth = 4 * link.depth() + (4 - level as u64);
                 if level == 0 {
-                    match child_at(children, start) {
+                    match children.child_at(start) {
                         None => Range::empty(depth),
                         Some(child) => Range::of(child),
                     }

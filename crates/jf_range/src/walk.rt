@@ -1,11 +1,10 @@
 // The entries from a place on. A node whose entries all stand before the place is passed by its count, so the walk goes
 // down to the place, and from there only to what it copies.
-ghost use Rattle.std.specs.Prelude.{◌≡◌, ◌+◌, ◌-◌, ◌<◌, ◌≤◌, ◌++◌, None, OnOk, length, take, drop, slice_index_or};
-ghost use Rattle.std.specs.Option.{option_copied};
+ghost use Rattle.std.specs.Prelude.{◌≡◌, ◌+◌, ◌-◌, ◌≤◌, ◌++◌, OnOk, length, take, drop};
 ghost use Rattle.jf_range.specs.Visits.{most_nodes};
 
-use jf_node::{Branches, Link, Seen};
-use jf_path::{Bytes, Memory, Nibble, Pairs};
+use jf_node::{Link, Seen};
+use jf_path::{Bytes, Memory, Pairs};
 use jf_steps::Steps;
 use std::alloc::Global;
 use std::sync::ledger::Ledger;
@@ -36,7 +35,7 @@ pub(crate) fn copy_range<L: Ledger>(
             let mut skip = skip;
             let mut room = room;
             for n in 0..16 {
-                if let Some(child) = child_at(children, n) {
+                if let Some(child) = children.child_at(n) {
                     child.know();
                     let before = out.len();
                     copy_range(alloc, child, skip, room, out, steps)?;
@@ -47,12 +46,4 @@ pub(crate) fn copy_range<L: Ledger>(
             Ok(())
         }
     }
-}
-
-// The child at a place.
-fn child_at(children: &Branches, place: u8) -> Option<&Link>
-    requires { place < 16 }
-    ensures { option_copied result ≡ slice_index_or children.now place None }
-{
-    children.get(Nibble::of(place))
 }

@@ -46,8 +46,7 @@ pub(crate) fn rebuild(
     ensures { IfOk result (λ y. Topped old.now.depth version made.children y) }
 {
     let NewChildren { children, changed } = made;
-    let count = children.count().ok_or(Memory)?;
-    if count >= 2 {
+    if children.has_several() {
         let link = old.with_children(alloc, version, children, changed)?;
         return Ok(Some(link));
     }

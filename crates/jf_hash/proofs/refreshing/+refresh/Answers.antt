@@ -1,8 +1,8 @@
 use Rattle.std.proofs.Common.{◌≡◌, ℕ, List, Option, Some, ◌+◌, ◌-◌, ◌/◌, ◌^◌, ◌<◌, ◌∙◌, sym, ap, ap₂, arith, inl, inr, length, take, drop}
-use Rattle.jf_hash.specs.Slots.{first_child_hash, range_hash}
+use Rattle.jf_hash.specs.Slots.{range_hash}
 use Rattle.jf_hash.specs.Ranges.{kept_within, pairs_within}
 use Rattle.jf_hash.proofs.RangeLaws.{length-kept_within, pairs_within-none, pairs_within-one, pairs_within-halves}
-use Rattle.jf_hash.proofs.Halves.{halves, not_one, length-places, left_half, right_half, whole_range}
+use Rattle.jf_hash.proofs.Halves.{halves, not_one, length-places, left_half, right_half}
 use Rattle.jf_hash.proofs.RangeHashes.{agree_same, agree_left, agree_right, within_halves, hashed_over, after_left, all_written}
 use Rattle.jf_hash.proofs.KeptLaws.{kept_within-cleared, pairs_within-few}
 use Rattle.jf_hash.specs.declared.slot.Slot.{Slot}
@@ -12,36 +12,35 @@ use Rattle.jf_hash.proofs.refreshing.+refresh.Goals as goal
 
 pub returns-then-count-eq0-clause-value : goal.returns-then-count-eq0-clause-value
 returns-then-count-eq0-clause-value g t c level olds small long at agree =
-    let places = take c.args.width (drop c.args.start c.args.slots.now) in
+    let places = take c.args.width (drop c.args.start (g.P.Places.slots c.args.places.now)) in
     let changes = take c.args.width (drop c.args.start c.args.changed) in
-    let mid = whole_range c.args.start c.args.width c.args.slots.now in
     let same = agree_same olds changes places agree (has_change-count changes (sym c.count.ensures ∙ c.if-count-eq0.true)) in
     let kept = at ∙ ap (kept_within level) same in (
-      c.hash_in.ensures level small (ap length mid ∙ length-places c.args.start c.args.width c.args.slots.now c.told-slots c.requires.within ∙ long) (kept ∙ ap (kept_within level) (sym mid)) ∙ ap (range_hash level) mid,
+      c.hash_in.ensures level small (length-places c.args.start c.args.width (g.P.Places.slots c.args.places.now) c.requires.long c.requires.within ∙ long) kept,
       kept,
     )
 
 pub returns-then-count-eq0-clause-pairs : goal.returns-then-count-eq0-clause-pairs
 returns-then-count-eq0-clause-pairs g t c level small long =
-    omega (arith, pairs_within-none level (take c.args.width (drop c.args.start c.args.slots.now)) (take c.args.width (drop c.args.start c.args.changed)) (has_change-count (take c.args.width (drop c.args.start c.args.changed)) (sym c.count.ensures ∙ c.if-count-eq0.true)))
+    omega (arith, pairs_within-none level (take c.args.width (drop c.args.start (g.P.Places.slots c.args.places.now))) (take c.args.width (drop c.args.start c.args.changed)) (has_change-count (take c.args.width (drop c.args.start c.args.changed)) (sym c.count.ensures ∙ c.if-count-eq0.true)))
 
 pub returns-then-width-eq1-clause-value : goal.returns-then-width-eq1-clause-value
 returns-then-width-eq1-clause-value g t c level olds small long at agree =
-    let places = take c.args.width (drop c.args.start c.args.slots.now) in
-    let places_long : length places ≡ 2 ^ level = length-places c.args.start c.args.width c.args.slots.now c.told-slots c.requires.within ∙ long in
+    let places = take c.args.width (drop c.args.start (g.P.Places.slots c.args.places.now)) in
+    let places_long : length places ≡ 2 ^ level = length-places c.args.start c.args.width (g.P.Places.slots c.args.places.now) c.requires.long c.requires.within ∙ long in
     let all = kept_within-cleared level (length c.args.kept.now) places small (c.requires.room ∙ long) places_long (elim c.then-width-eq1.branch [
       | then-width-eq1-via-then-width-eq1 w ↦ inl (sym long ∙ w.if-width-eq1.true)
-      | then-width-eq1-via-else-width-eq1+then-not-is_many w ↦ inr (sym (w.is_many.ensures c.args.slots.now c.requires.children c.requires.leaves) ∙ w.if-not-is_many.true)
+      | then-width-eq1-via-else-width-eq1+then-not-is_many w ↦ inr (sym (w.is_many.ensures (g.P.Places.slots c.args.places.now) c.requires.children c.requires.leaves) ∙ w.if-not-is_many.true)
     ]) in
-    (c.first_child_hash.ensures ∙ ap first_child_hash (whole_range c.args.start c.args.width c.args.slots.now) ∙ all.0, c.clear.ensures ∙ all.1)
+    (c.first_in.ensures ∙ all.0, c.clear.ensures ∙ all.1)
 
 pub returns-then-width-eq1-clause-pairs : goal.returns-then-width-eq1-clause-pairs
 returns-then-width-eq1-clause-pairs g t c level small long =
-    let places = take c.args.width (drop c.args.start c.args.slots.now) in
+    let places = take c.args.width (drop c.args.start (g.P.Places.slots c.args.places.now)) in
     let changes = take c.args.width (drop c.args.start c.args.changed) in
     elim c.then-width-eq1.branch [
       | then-width-eq1-via-then-width-eq1 w ↦ omega (arith, pairs_within-one level places changes (sym long ∙ w.if-width-eq1.true) small)
-      | then-width-eq1-via-else-width-eq1+then-not-is_many w ↦ omega (arith, pairs_within-few level places changes (sym (w.is_many.ensures c.args.slots.now c.requires.children c.requires.leaves) ∙ w.if-not-is_many.true))
+      | then-width-eq1-via-else-width-eq1+then-not-is_many w ↦ omega (arith, pairs_within-few level places changes (sym (w.is_many.ensures (g.P.Places.slots c.args.places.now) c.requires.children c.requires.leaves) ∙ w.if-not-is_many.true))
     ]
 
 room_of : (level half : ℕ) (slots : List Slot) (kept : List (Option (List ℕ))) → half ≡ 2 ^ level → kept ≡ kept_within level slots → length kept + 1 ≡ half
@@ -51,7 +50,7 @@ pub returns-clause-value : goal.returns-clause-value
 returns-clause-value g t c level olds small long at agree =
     let start = c.args.start in
     let width = c.args.width in
-    let slots = c.args.slots.now in
+    let slots = g.P.Places.slots c.args.places.now in
     let changed = c.args.changed in
     let kept = c.args.kept.now in
     let half = width / 2 in
@@ -77,7 +76,7 @@ pub returns-clause-pairs : goal.returns-clause-pairs
 returns-clause-pairs g t c level small long =
     let start = c.args.start in
     let width = c.args.width in
-    let slots = c.args.slots.now in
+    let slots = g.P.Places.slots c.args.places.now in
     let changed = c.args.changed in
     let half = width / 2 in
     let places = take width (drop start slots) in

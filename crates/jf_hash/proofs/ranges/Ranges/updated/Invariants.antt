@@ -1,4 +1,4 @@
 use Rattle.jf_hash.proofs.ranges.Ranges.updated.Given as goal
 
 abbrev pub ghosts-updated_uncounted : goal.ghosts-updated_uncounted
-ghosts-updated_uncounted a = record { name = a.blank.name; parts = a.blank.parts }
+ghosts-updated_uncounted g a = record { name = a.blank.name; parts = a.blank.parts }

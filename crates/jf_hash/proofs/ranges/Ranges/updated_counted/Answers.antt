@@ -11,9 +11,9 @@ refresh-requires-clause-room g c = ap (λ n. n + 1) (length-take-le 15 c.spread-
 
 pub returns-clause-value : goal.returns-clause-value
 returns-clause-value g c olds was agree =
-    let slots = c.args.slots.now in
+    let slots = g.P.Places.slots c.args.places.now in
     let changed = c.args.changed in
-    let same : take 16 slots ≡ slots = take_all 16 slots (omega (arith, c.told-slots)) in
+    let same : take 16 slots ≡ slots = take_all 16 slots (omega (arith, c.of.ensures.long)) in
     let same_bits : take 16 changed ≡ changed = take_all 16 changed (omega (arith, c.know.ensures)) in
     let before = c.spread-hashes.ensures.value ∙ was in
     let front = ap (take 15) before ∙ take_at (kept_within 4 olds) (None ∷ []) 15 (omega (arith, length-kept_within 4 olds)) in
@@ -24,7 +24,7 @@ returns-clause-value g c olds was agree =
 pub returns-clause-pairs : goal.returns-clause-pairs
 returns-clause-pairs g c =
     c.refresh.ensures.pairs 4 (omega arith) refl
-    ∙ ap₂ (λ xs bits. c.args.steps.now + pairs_within 4 xs bits) (take_all 16 c.args.slots.now (omega (arith, c.told-slots))) (take_all 16 c.args.changed (omega (arith, c.know.ensures)))
+    ∙ ap₂ (λ xs bits. c.args.steps.now + pairs_within 4 xs bits) (take_all 16 (g.P.Places.slots c.args.places.now) (omega (arith, c.of.ensures.long))) (take_all 16 c.args.changed (omega (arith, c.know.ensures)))
 
 pub returns-clause-bounded : goal.returns-clause-bounded
-returns-clause-bounded g c = omega (arith, returns-clause-pairs g c, pairs_within-bounded 4 c.args.slots.now c.args.changed)
+returns-clause-bounded g c = omega (arith, returns-clause-pairs g c, pairs_within-bounded 4 (g.P.Places.slots c.args.places.now) c.args.changed)
