@@ -24,6 +24,7 @@ pub fn write_proof(
     ensures ok { OnOk result (out.new ≡ out.old ++ proof_lines name.now (option_copied claim.entry) proof.now) }
     ensures err { OnErr result (out.new ≡ out.old) }
 {
+    out.reserve(room_for(proof.siblings.len()))?;
     let before = out.len();
     match write_lines(name, claim, proof, out) {
         Ok(()) => Ok(()),
@@ -32,6 +33,11 @@ pub fn write_proof(
             Err(Memory)
         }
     }
+}
+
+// About as many bytes as a block with this many siblings has, so that the text doesn't grow line by line.
+fn room_for(siblings: u64) -> u64 {
+    siblings.saturating_add(4).saturating_mul(70)
 }
 
 fn write_lines(
