@@ -7,6 +7,7 @@ ghost use Rattle.jf_text.specs.Words.{line_text};
 ghost use Rattle.jf_text.specs.Words.{Extends};
 ghost use Rattle.jf_blocks.specs.Blocks.{proof_lines, claim_word, leaf_words, side_lines};
 
+use hex::encode_to_slice;
 use jf_evidence::Proof;
 use jf_hash::Hash;
 use jf_path::{Bytes, Key, Memory};
@@ -23,6 +24,7 @@ pub fn write_proof(
     ensures ok { OnOk result (out.new ≡ out.old ++ proof_lines name.now (option_copied claim.entry) proof.now) }
     ensures err { OnErr result (out.new ≡ out.old) }
 {
+    out.reserve(room_for(proof.siblings.len()))?;
     let before = out.len();
     match write_lines(name, claim, proof, out) {
         Ok(()) => Ok(()),
@@ -31,6 +33,11 @@ pub fn write_proof(
             Err(Memory)
         }
     }
+}
+
+// About as many bytes as a block with this many siblings has, so that the text doesn't grow line by line.
+fn room_for(siblings: u64) -> u64 {
+    siblings.saturating_add(4).saturating_mul(70)
 }
 
 fn write_lines(
@@ -79,9 +86,24 @@ pub(crate) fn write_sides(siblings: &[Hash], out: &mut Bytes) -> Result<(), Memo
     ensures err { OnErr result (Extends out.old out.new) }
 {
     for i in 0..siblings.len() {
-        write_hex_line(b"side ", &siblings[i], out)?;
+        write_side(&siblings[i], out)?;
     }
     Ok(())
+}
+
+// The line of a sibling, with digits in place of those of its hash.
+const SIDE: &[u8; 70] = b"side 0000000000000000000000000000000000000000000000000000000000000000\n";
+
+/// Appends the line of a sibling, as one piece.
+fn write_side(sibling: &Hash, out: &mut Bytes) -> Result<(), Memory>
+    ensures ok { OnOk result (out.new ≡ out.old ++ line_text (codes "side" ∷ encode_lower sibling.now ∷ [])) }
+    ensures err { OnErr result (out.new ≡ out.old) }
+{
+    let mut line = *SIDE;
+    if encode_to_slice(&sibling[..], &mut line[5..69]).is_err() {
+        unreachable!();
+    }
+    out.append(&line)
 }
 
 /// Appends a label and bytes in hexadecimal, and ends the line.

@@ -1,8 +1,6 @@
-//! Tests of keys, paths, hashes and batches.
+//! Tests of keys, paths, lists and hashes.
 #![tactic(auto)]
 
-#[cfg(test)]
-mod batches;
 #[cfg(test)]
 mod bitmaps;
 #[cfg(test)]
@@ -11,9 +9,5 @@ mod hashes;
 mod lists;
 #[cfg(test)]
 mod paths;
-#[cfg(test)]
-mod pendings;
-#[cfg(test)]
-mod pieces;
 #[cfg(test)]
 mod ranges;

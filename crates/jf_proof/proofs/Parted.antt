@@ -1,5 +1,5 @@
 -- The honest proof in a node of the binary tree, from the proof in one half.
-use Rattle.std.specs.Prelude.{◌≡◌, ℕ, List, [], map, None, ◌∷◌, Some, ◌<◌, ◌≤◌, ◌+◌, Bool, true, false, not, cond, length, Result, Ok, Err, IfOk}
+use Rattle.std.specs.Prelude.{◌≡◌, ℕ, List, [], map, None, ◌∷◌, Some, ◌<◌, ◌≤◌, ◌+◌, Bool, true, false, not, cond, length}
 use Rattle.std.proofs.Common.{sym, ap, ◌∙◌, refl, arith, ap₂}
 use Rattle.std.specs.FinMap.{entries}
 use Rattle.jf_path.specs.Keys.{bit}
@@ -49,8 +49,3 @@ proof_more d key hash es b proof half other is deep two h o p r =
 pub honest-entries : (m : Map) (key : List ℕ) (v : RangeValue) → v ≡ record { depth = 0; entries = entries m } → honest_from v.depth key (map leaf_of v.entries) ≡ honest m key
 unfolding honest
 honest-entries m key v is = ap (λ w. honest_from w.depth key (map leaf_of w.entries)) is
-
--- a result whose proof equals another
-pub ok_is : {E : Type 0} (r : Result Proof E) (p q : Proof) → p ≡ q → IfOk r (λ x. x ≡ p) → IfOk r (λ x. x ≡ q)
-ok_is (Ok x) p q is h = h ∙ is
-ok_is (Err e) p q is h = tt

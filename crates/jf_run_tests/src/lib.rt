@@ -1,4 +1,4 @@
-//! Tests of the top call: the words of a command line, run over a disk in memory and over a folder.
+//! Tests of the top call: scripts run over a disk in memory and over a folder.
 #![tactic(auto)]
 
 #[cfg(test)]
@@ -7,7 +7,3 @@ mod bounds;
 mod folders;
 #[cfg(test)]
 mod runs;
-#[cfg(test)]
-mod words;
-#[cfg(test)]
-mod workers;

@@ -1,8 +1,6 @@
-//! Tests of landings, and of the versions that they make.
+//! Tests of landings: their roots, the nodes that they write, and a snapshot that is built anew.
 #![tactic(auto)]
 
-#[cfg(test)]
-mod by_workers;
 #[cfg(test)]
 mod landings;
 #[cfg(test)]
@@ -13,5 +11,3 @@ mod restoring;
 mod roots;
 #[cfg(test)]
 mod two_calls;
-#[cfg(test)]
-mod versions;

@@ -1,6 +1,5 @@
 // Landings by several workers: no number of them changes a root, and the changes with each first nibble are a piece of
 // work of their own, on an empty map too.
-use crate::landings::{Change, WORKERS, batch_of};
 use jf_hash::{Hash, key_of};
 use jf_join::{FreeGate, Gate};
 use jf_node::Snapshot;
@@ -12,6 +11,8 @@ use std::sync::atomic::AtomicU64;
 use std::sync::atomic::Ordering::SeqCst;
 use std::test::Fail;
 use std::thread::Threads;
+
+const WORKERS: &[u64] = &[1, 2, 7, 64];
 
 // The numbers of the keys that the first landing puts on the empty map, from the first up to the second.
 const FIRST: (u32, u32) = (0, 3_000);
@@ -144,34 +145,37 @@ impl Gate for Told {
     fn session(&self, _number: u64) {}
 }
 
+// The byte that a key is made of, and the byte put as its value.
+type Put = (u8, u8);
+
 // Two keys with different first nibbles.
-const TWO: &[Change] = &[(0x10, Some(b'a')), (0xa0, Some(b'b'))];
+const TWO: &[Put] = &[(0x10, b'a'), (0xa0, b'b')];
 
 // What is there before they are put: nothing, the leaf of one of them, a leaf with another first nibble, both.
-const BEFORE: &[&[Change]] = &[
+const BEFORE: &[&[Put]] = &[
     &[],
-    &[(0x10, Some(b'c'))],
-    &[(0x55, Some(b'c'))],
-    &[(0x10, Some(b'c')), (0xa0, Some(b'c'))],
+    &[(0x10, b'c')],
+    &[(0x55, b'c')],
+    &[(0x10, b'c'), (0xa0, b'c')],
 ];
 
+fn batch_of(alloc: Global, puts: &[Put]) -> Result<Batch, BatchFault> {
+    let mut batch = Batch::new(alloc);
+    for (key, byte) in puts {
+        batch.put(alloc, &[*key; 32], &[*byte])?;
+    }
+    Ok(batch)
+}
+
 // The version with these entries.
-fn version_of<H: Threads + Sync>(
-    rt: &H,
-    alloc: Global,
-    before: &[Change],
-) -> Result<Snapshot, Fail> {
+fn version_of<H: Threads + Sync>(rt: &H, alloc: Global, before: &[Put]) -> Result<Snapshot, Fail> {
     let batch = batch_of(alloc, before)?;
     let landed = next(rt, alloc, &Snapshot::empty(0), &batch, 1, &FreeGate)?;
     Ok(snapshot_of(landed))
 }
 
 // Whether two workers take the two keys as two pieces, the first with the number 0.
-fn are_two_pieces<H: Threads + Sync>(
-    rt: &H,
-    alloc: Global,
-    before: &[Change],
-) -> Result<bool, Fail> {
+fn are_two_pieces<H: Threads + Sync>(rt: &H, alloc: Global, before: &[Put]) -> Result<bool, Fail> {
     let told = Told::new();
     let head = version_of(rt, alloc, before)?;
     let batch = batch_of(alloc, TWO)?;
