@@ -10,7 +10,6 @@ ghost use Rattle.jf_hash.specs.Maps.{map_of_entries};
 ghost use Rattle.jf_model.specs.Nodes.{nodes};
 ghost use Rattle.jf_model.specs.Parts.{IsPartUnder};
 ghost use Rattle.jf_node.specs.Children.{leaf_value};
-ghost use Rattle.jf_node.specs.LinkFacts.{IsLinkIf};
 ghost use Rattle.jf_update.specs.Restored.{AreShortEntries, AreNodeVersions, IsNewestFirst, IsRestored, IsRestoredPart, AreRestored, part_nodes, nodes_under};
 ghost use Rattle.jf_update.specs.declared.restore.RestoreFault.TheVariants as fault;
 
@@ -65,7 +64,7 @@ pub fn restored(
     if taken != versions.len() {
         return Err(RestoreFault::Versions);
     }
-    know_top(&top);
+    Link::know_if(&top);
     Ok(Snapshot::of(version, top))
 }
 
@@ -103,15 +102,6 @@ fn restored_empty(version: u64, versions: &[u64]) -> Result<Snapshot, RestoreFau
         Ok(Snapshot::empty(version))
     } else {
         Err(RestoreFault::Versions)
-    }
-}
-
-/// Ensures what holds of an optional top. Changes nothing.
-fn know_top(top: &Option<Link>)
-    ensures { IsLinkIf top.now }
-{
-    if let Some(link) = top {
-        link.know();
     }
 }
 

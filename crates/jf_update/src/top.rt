@@ -3,7 +3,6 @@ ghost use Rattle.std.specs.Prelude.{◌≡◌, ◌+◌, ◌<◌, ◌≤◌, ◌^
 ghost use Rattle.std.specs.Option.{option_copied};
 ghost use Rattle.jf_hash.specs.Maps.{Batch};
 ghost use Rattle.jf_model.specs.Changes.{applied};
-ghost use Rattle.jf_node.specs.LinkFacts.{IsLinkIf};
 ghost use Rattle.jf_node.specs.Children.{content};
 ghost use Rattle.jf_diff.specs.OptionalNodes.{IsAtDepth};
 ghost use Rattle.jf_update.specs.Outcomes.{AreParts};
@@ -18,15 +17,6 @@ use jf_node::Link;
 use jf_path::{Key, Memory, SharedBytes};
 use std::alloc::Global;
 use std::thread::Threads;
-
-/// Ensures what holds of every link. Changes nothing.
-fn know_top(top: &Option<Link>)
-    ensures { IsLinkIf top.now }
-{
-    if let Some(link) = top {
-        link.know();
-    }
-}
 
 /// The top of a version, written anew by the next one.
 fn renewed_top(alloc: Global, old: Option<&Link>, head: u64) -> Result<Option<Link>, Memory>
@@ -69,7 +59,7 @@ pub(crate) fn next_top<H: Threads + Sync, G: Gate>(
     match update_wide(rt, alloc, old, entries, hashes, 0, head + 1, workers, gate)? {
         Outcome::Same => renewed_top(alloc, old, head),
         Outcome::New(top) => {
-            know_top(&top);
+            Link::know_if(&top);
             Ok(top)
         }
     }

@@ -16,9 +16,9 @@ returns-then-taken-versions-clause-refused c is =
     count_refused c.args.version c.args.entries.now c.args.versions.now (some_entries c.args.entries.now c.if-is_empty.ensures) c.requires.sorted (λ all. c.if-taken-versions.true (omega (arith, all, c.in_ok-top.ensures.restored.taken)))
 
 pub of-requires : goal.of-requires
-of-requires c = top_restored c.args.version _ c.args.entries.now c.args.versions.now c.in_ok-top.top (some_entries c.args.entries.now c.if-is_empty.ensures) (c.if-not-is_newest_first.ensures.yes refl) c.in_ok-top.ensures.restored c.know_top.ensures
+of-requires c = top_restored c.args.version _ c.args.entries.now c.args.versions.now c.in_ok-top.top (some_entries c.args.entries.now c.if-is_empty.ensures) (c.if-not-is_newest_first.ensures.yes refl) c.in_ok-top.ensures.restored c.know_if.ensures
 
 pub returns-clause-restored : goal.returns-clause-restored
 returns-clause-restored c =
     subst (IsRestored c.args.version c.args.entries.now c.args.versions.now) (sym c.of.ensures)
-    (snapshot_restored c.args.version _ c.args.entries.now c.args.versions.now c.in_ok-top.top (some_entries c.args.entries.now c.if-is_empty.ensures) c.requires.sorted (c.if-not-is_newest_first.ensures.yes refl) c.if-taken-versions.false c.in_ok-top.ensures.restored c.know_top.ensures)
+    (snapshot_restored c.args.version _ c.args.entries.now c.args.versions.now c.in_ok-top.top (some_entries c.args.entries.now c.if-is_empty.ensures) c.requires.sorted (c.if-not-is_newest_first.ensures.yes refl) c.if-taken-versions.false c.in_ok-top.ensures.restored c.know_if.ensures)
