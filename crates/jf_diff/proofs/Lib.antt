@@ -5,3 +5,4 @@ pub mod Walks
 pub mod PathNames
 pub mod TopLaws
 pub mod LandingLaws
+pub mod PartLaws

@@ -1,5 +1,5 @@
 -- What is listed from a top down.
-use Rattle.std.proofs.Common.{Result, Ok, Err, IfOk, ◌≡◌, ℕ, List, [], ◌++◌, map, sym, ap, subst, Option, Some, IsTrue, ◌∷◌, ◌∙◌, None, T}
+use Rattle.std.proofs.Common.{Result, Ok, Err, IfOk, ◌≡◌, ℕ, List, [], ◌++◌, map, sym, ap, subst, Option, Some, IsTrue, ◌∷◌, ◌∙◌, None, T, refl}
 use Rattle.std.proofs.lemmas.List.Sorted.{IsPermutation-refl}
 use Rattle.std.specs.FinMap.{is_sorted}
 use Rattle.std.specs.List.{IsDistinct}
@@ -19,11 +19,11 @@ use Rattle.jf_node.specs.LinkFacts.{IsLink}
 use Rattle.jf_node.specs.Children.{content}
 use Rattle.jf_node.specs.Snapshots.{snapshot_of}
 use Rattle.jf_diff.specs.OptionalNodes.{IsAtDepth, IsOfVersion}
-use Rattle.jf_diff.specs.Plains.{fresh_below, WouldRise, fresh_under, plain_at}
+use Rattle.jf_diff.specs.Plains.{fresh_below, fresh_under, plain_at}
 use Rattle.jf_diff.specs.Tops.{IsFreshUnder, WasLanded, old_name, IsStaleUnder}
 use Rattle.jf_diff.specs.Below.{IsFreshBelow, IsStaleBelow, from_node, name_below}
 use Rattle.jf_diff.specs.Landings.{version_or, version_in}
-use Rattle.jf_diff.proofs.Walks.{with_root-from_node}
+use Rattle.jf_diff.proofs.Walks.{with_root-from_node, from_node-with_root}
 use Rattle.jf_diff.proofs.PathNames.{name_of_path, rise_from, distinct_walk}
 
 pub ok_weaker : {X E : Type 0} (P Q : X → Type 0) → ((x : X) → P x → Q x) → (r : Result X E) → IfOk r P → IfOk r Q
@@ -31,14 +31,12 @@ ok_weaker P Q h (Ok x) p = h x p
 ok_weaker P Q h (Err e) p = tt
 
 -- ---- what is fresh
-pub top_would_rise : (version : ℕ) (top : Option LinkValue) (x : LinkValue) (out : List (NodeName × PlainNode)) (front : Path) → top ≡ Some x → WasLanded version top → IsAtDepth 0 top → IsLink x → out ≡ [] → front ≡ [] → WouldRise out version front x
-top_would_rise version top x out front is landed placed link none bare = record {
-  es = landed.es;
-  before = landed.before;
-  below = subst (IsFreshUnder version landed.es landed.before) is landed.over;
-  names = λ own. subst (λ o. IsTrue (are_rising (map (λ (e : NodeName × PlainNode). e.0) (o ++ from_node x.depth landed.es x.entries (fresh_below version front x))))) (sym none)
-      (rise_from version x.depth landed.es x.entries (fresh_below version front x) landed.sorted link.entries.sorted (subst (IsAtDepth 0) is placed) (λ p. ap (λ q. name_of_path version (q ++ p)) bare));
-}
+-- the names of the nodes that a landing wrote rise
+pub top_rises : (version : ℕ) (top : Option LinkValue) (nodes : List (NodeName × PlainNode)) → WasLanded version top → T (is_sorted key_cmp (content top)) → ((es : Part) (before : Path → Option ℕ) → IsFreshUnder version es before top → nodes ≡ with_root es (content top) (fresh_under version top))
+    → IsTrue (are_rising (map (λ (e : NodeName × PlainNode). e.0) nodes))
+top_rises version top nodes landed sorted listing =
+    subst (λ es. IsTrue (are_rising (map (λ (e : NodeName × PlainNode). e.0) es))) (from_node-with_root landed.es (content top) (fresh_under version top) ∙ sym (listing landed.es landed.before landed.over))
+    (rise_from version 0 landed.es (content top) (fresh_under version top) landed.sorted sorted refl (λ p. refl))
 
 pub fresh_none : (version : ℕ) (top : Option LinkValue) (nodes : List (NodeName × PlainNode)) → top ≡ None → nodes ≡ (name_of_path version [], node.Null) ∷ [] → (es : Part) → nodes ≡ with_root es (content top) (fresh_under version top)
 fresh_none version top nodes is at es = at ∙ sym (with_root-gone es (fresh_under version None)) ∙ ap (λ o. with_root es (content o) (fresh_under version o)) (sym is)

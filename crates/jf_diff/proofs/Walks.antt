@@ -1,33 +1,27 @@
 -- Walks over the nodes that a landing writes and makes stale.
 use denote.Ref.{Bor}
-use Rattle.std.proofs.Common.{ℕ, ◌-◌, List, ◌∷◌, length, sym, ap, arith, None, ◌+◌, ◌<◌, Option, Some, ◌≡◌, get_or, ◌∙◌, subst, [], inl, inr, ◌⊎◌, true, refl, ◌++◌, map, IsTrue, zero, suc, append_assoc, append-nil, ◌≤◌, ap₂, Bool, true≢false, false}
+use Rattle.std.proofs.Common.{ℕ, ◌-◌, List, ◌∷◌, length, sym, ap, arith, None, ◌+◌, ◌<◌, Option, Some, ◌≡◌, get_or, ◌∙◌, subst, [], inl, inr, ◌⊎◌, true, refl, ◌++◌, append-nil, ◌≤◌, ap₂, Bool, true≢false, false}
 use Rattle.std.proofs.lemmas.Bool.{cases_lt, cases_eq}
 use Rattle.std.proofs.lemmas.List.{get_or_past}
 use Rattle.std.specs.Option.{option_copied}
-use Rattle.jf_path.specs.declared.name.NodeName.{NodeName}
-use Rattle.jf_path.specs.declared.node.PlainNode.{PlainNode}
-use Rattle.jf_path.specs.Names.{are_rising}
 use Rattle.jf_hash.specs.Slots.{with_nibble, Part}
 use Rattle.jf_model.specs.ChildEntries.{child_entries, sub}
 use Rattle.jf_model.specs.Nodes.{Path}
-use Rattle.jf_model.specs.Walk.{differs, each_from, listed, with_root}
+use Rattle.jf_model.specs.Walk.{differs, listed, with_root}
 use Rattle.jf_model.specs.NodeVersions.{VersionsFollow}
 use Rattle.jf_walk.proofs.ChildEntryLaws.{child_entries-few, child_entries-many, sub-none}
 use Rattle.jf_walk.proofs.SameParts.{differs_or_same, not_empty, differs-other}
 use Rattle.jf_walk.proofs.VersionLaws.{moved}
-use Rattle.jf_walk.proofs.WalkLaws.{child_list, listed_to, listed-node, listed-same, listed_to-child}
+use Rattle.jf_walk.proofs.WalkLaws.{child_list, listed_to, listed-node, listed-same, listed-gone, listed_to-child}
 use Rattle.jf_node.specs.LinkValue.{LinkValue, version_among, link_version_at}
 use Rattle.jf_node.specs.Shown.{ShowsLeaf, ShowsInner}
 use Rattle.jf_node.specs.Children.{content}
 use Rattle.jf_node.specs.LinkFacts.{IsLink, IsLinkIf}
 use Rattle.jf_node.proofs.NodeVersions.{version-below}
 use Rattle.jf_node.proofs.ChildLaws.{below-or-past}
-use Rattle.jf_diff.specs.Below.{IsBelow, IsOneBelow, IsFreshBelow, TellsIfOlder, IsStaleBelow, IsBelowIf, from_node}
+use Rattle.jf_diff.specs.Below.{IsBelow, IsOneBelow, IsFreshBelow, TellsIfOlder, IsStaleBelow, IsBelowIf, from_node, listed_below}
 use Rattle.jf_diff.specs.OptionalNodes.{IsAtDepth, IsOfVersion}
-use Rattle.jf_diff.specs.Plains.{fresh_below, WouldRise}
 use Rattle.jf_diff.proofs.ChildPlaces.{child_part, child_placed}
-use Rattle.jf_diff.proofs.Names.{are_rising-front}
-use Rattle.jf_diff.proofs.PlainNodes.{plain-child}
 
 -- ---- children
 -- a leaf has no child
@@ -117,12 +111,31 @@ child_over version es before x n c over is = record {
 
 -- from a node on, all sixteen children are listed
 pub from_node-listed_to : {X : Type 0} (d : ℕ) (old new : Part) (f : Path → X) → from_node d old new f ≡ listed_to d 16 old new f
-unfolding from_node listed_to child_list
+unfolding from_node listed_to child_list listed_below
 from_node-listed_to d old new f = refl
+
+module _ {X : Type 0} where
+  -- a node as far as some child, and then that child, is the node as far as the next one
+  pub listed_to-below : (d n : ℕ) (old new : Part) (f : Path → X) (start out more : List X) → out ≡ start ++ listed_to d n old new f → more ≡ out ++ listed_below d n old new f → more ≡ start ++ listed_to d (n + 1) old new f
+  unfolding listed_below
+  listed_to-below d n old new f start out more is made = listed_to-child d n (d + 1) old (child_entries d n old) new (child_entries d n new) f (λ p. f (n ∷ p)) start out more is refl refl refl (λ p. refl) made
+
+  -- what is listed from a child on
+  pub listed_below-child : (d n e : ℕ) (old old' new new' : Part) (f g : Path → X) → e ≡ d + 1 → old' ≡ child_entries d n old → new' ≡ child_entries d n new → ((p : Path) → g p ≡ f (n ∷ p)) → listed (64 - e) e old' new' g ≡ listed_below d n old new f
+  unfolding listed_below
+  listed_below-child d n e old old' new new' f g at was now same =
+      let fs : g ≡ (λ p. f (n ∷ p)) = λ i p. same p i in
+      ap (λ k. listed (64 - k) k old' new' g) at ∙ ap (λ a. listed (64 - (d + 1)) (d + 1) a new' g) was ∙ ap (λ b. listed (64 - (d + 1)) (d + 1) (child_entries d n old) b g) now
+      ∙ ap (λ h. listed (64 - (d + 1)) (d + 1) (child_entries d n old) (child_entries d n new) h) fs
+
+  -- nothing is listed at a nibble without a child
+  pub listed_below-none : (d n : ℕ) (old new : Part) (f : Path → X) → child_entries d n new ≡ [] → listed_below d n old new f ≡ []
+  unfolding listed_below
+  listed_below-none d n old new f none = ap (λ k. listed (64 - (d + 1)) (d + 1) (child_entries d n old) k (λ p. f (n ∷ p))) none ∙ listed-gone (64 - (d + 1)) (d + 1) (child_entries d n old) (λ p. f (n ∷ p))
 
 -- from the top on, the walk is that from the top
 pub from_node-with_root : {X : Type 0} (old new : Part) (f : Path → X) → from_node 0 old new f ≡ with_root old new f
-unfolding from_node with_root
+unfolding from_node with_root listed_below
 from_node-with_root old new f = refl
 
 pub with_root-from_node : {X : Type 0} (old : Part) (d : ℕ) (new : Part) (f g : Path → X) (names : List X) → d ≡ 0 → ((p : Path) → g p ≡ f p) → names ≡ from_node d old new g → names ≡ with_root old new f
@@ -142,65 +155,6 @@ fresh_listed version es before x f out now link over kept made = elim (cases_eq 
       kept other ∙ sym (append-nil out)
       ∙ ap (λ l. out ++ l) (sym (ap (λ a. listed (64 - x.depth) x.depth a x.entries f) (is_old version es before x link over other) ∙ listed-same (64 - x.depth) x.depth x.entries f))
 ]
-
--- ---- the nodes written may be listed after others
-map-append : (xs ys : List (NodeName × PlainNode)) → map (λ (e : NodeName × PlainNode). e.0) (xs ++ ys) ≡ map (λ (e : NodeName × PlainNode). e.0) xs ++ map (λ (e : NodeName × PlainNode). e.0) ys
-map-append [] ys = refl
-map-append (x ∷ xs) ys = ap (λ t. x.0 ∷ t) (map-append xs ys)
-
--- the front of a list whose names rise
-pub front_rises : (all front back : List (NodeName × PlainNode)) → all ≡ front ++ back → IsTrue (are_rising (map (λ (e : NodeName × PlainNode). e.0) all)) → IsTrue (are_rising (map (λ (e : NodeName × PlainNode). e.0) front))
-front_rises all front back is rises = are_rising-front (map (λ (e : NodeName × PlainNode). e.0) front) (map (λ (e : NodeName × PlainNode). e.0) back) (subst (λ ns. IsTrue (are_rising ns)) (ap (λ es. map (λ (e : NodeName × PlainNode). e.0) es) is ∙ map-append front back) rises)
-
-module _ {X : Type 0} where
-  each_front : (count more n : ℕ) (g : ℕ → List X) → each_from (count + more) n g ≡ each_from count n g ++ each_from more (n + count) g
-  each_front zero more n g = ap (λ k. each_from k n g) (let e : 0 + more ≡ more = omega arith in e) ∙ ap (λ m. each_from more m g) (let e : n ≡ n + 0 = omega arith in e)
-  each_front (suc count) more n g =
-      ap (λ k. each_from k n g) (let e : suc count + more ≡ suc (count + more) = omega arith in e)
-      ∙ ap (λ t. g n ++ t) (each_front count more (n + 1) g)
-      ∙ sym (append_assoc (g n) (each_from count (n + 1) g) (each_from more ((n + 1) + count) g))
-      ∙ ap (λ m. (g n ++ each_from count (n + 1) g) ++ each_from more m g) (let e : (n + 1) + count ≡ n + suc count = omega arith in e)
-
-  -- the list as far as some child is the front of the whole
-  listed_to-front : (d n : ℕ) (old new : Part) (f : Path → X) → n ≤ 16 → (back : List X) × (listed_to d 16 old new f ≡ listed_to d n old new f ++ back)
-  unfolding listed_to
-  listed_to-front d n old new f within =
-      let g : ℕ → List X = λ m. child_list d m old new f in
-      (each_from (16 - n) (0 + n) g, ap (λ k. f [] ∷ each_from k 0 g) (let e : 16 ≡ n + (16 - n) = omega arith in e) ∙ ap (λ t. f [] ∷ t) (each_front n (16 - n) 0 g))
-
--- if a node differs, its lists up to a child rise after the nodes listed before
-prefix_rises : (out : List (NodeName × PlainNode)) (version : ℕ) (front : Path) (x : LinkValue) (n : ℕ) (now : List (NodeName × PlainNode)) → (w : WouldRise out version front x) → IsLink x → x.version ≡ version → n ≤ 16 → now ≡ out ++ listed_to x.depth n w.es x.entries (fresh_below version front x)
-    → IsTrue (are_rising (map (λ (e : NodeName × PlainNode). e.0) now))
-prefix_rises out version front x n now w link own within is =
-    let f : Path → NodeName × PlainNode = fresh_below version front x in
-    let cut = listed_to-front x.depth n w.es x.entries f within in
-    let whole : out ++ from_node x.depth w.es x.entries f ≡ now ++ cut.0 =
-    ap (λ l. out ++ l) (from_node-listed_to x.depth w.es x.entries f ∙ cut.1)
-    ∙ sym (append_assoc out (listed_to x.depth n w.es x.entries f) cut.0) ∙ ap (λ t. t ++ cut.0) (sym is) in
-    front_rises _ now cut.0 whole (w.names own)
-
--- the node itself rises after the nodes listed before
-pub top_rises : (out : List (NodeName × PlainNode)) (version : ℕ) (front : Path) (x : LinkValue) (item : NodeName × PlainNode) → WouldRise out version front x → IsLink x → x.version ≡ version → item ≡ fresh_below version front x [] → IsTrue (are_rising (map (λ (e : NodeName × PlainNode). e.0) (out ++ item ∷ [])))
-unfolding listed_to
-top_rises out version front x item w link own is = prefix_rises out version front x 0 (out ++ item ∷ []) w link own (omega arith) (ap (λ e. out ++ e ∷ []) is)
-
--- the nodes below a child rise after those listed before
-pub child_rises : (out now : List (NodeName × PlainNode)) (version : ℕ) (front further : Path) (x : LinkValue) (n : ℕ) (c : LinkValue) → WouldRise out version front x → IsLink x → x.version ≡ version → n < 16 → IsBelow x n (Some c) → further ≡ front ++ n ∷ []
-    → ((es : Part) (before : Path → Option ℕ) → IsFreshBelow version es before x → now ≡ out ++ listed_to x.depth n es x.entries (fresh_below version front x)) → WouldRise now version further c
-child_rises out now version front further x n c w link own small is longer so_far = record {
-  es = child_entries x.depth n w.es;
-  before = λ p. w.before (n ∷ p);
-  below = fresh_below_of version (child_entries x.depth n w.es) (λ p. w.before (n ∷ p)) c over;
-  names = λ new. subst (λ l. IsTrue (are_rising (map (λ (e : NodeName × PlainNode). e.0) (now ++ l)))) (fresh_node version (child_entries x.depth n w.es) (λ p. w.before (n ∷ p)) c (fresh_below version further c) is.sound over new)
-      (prefix_rises out version front x (n + 1) (now ++ listed (64 - c.depth) c.depth (child_entries x.depth n w.es) c.entries (fresh_below version further c)) w link own (omega arith)
-      (listed_to-child x.depth n c.depth w.es (child_entries x.depth n w.es) x.entries c.entries (fresh_below version front x) (fresh_below version further c) out now _ (so_far w.es w.before w.below) is.placed.1 refl is.entries (λ p. below_step p) refl));
-}
-  where
-    over : IsFreshOver version (child_entries x.depth n w.es) (λ p. w.before (n ∷ p)) c
-    over = child_over version w.es w.before x n c w.below is
-
-    below_step : (p : Path) → fresh_below version further c p ≡ fresh_below version front x (n ∷ p)
-    below_step p = ap₂ (λ q r. (record { version = version; path = q }, r)) (ap (λ q. q ++ p) longer ∙ append_assoc front (n ∷ []) p) (sym (plain-child x n c p is))
 
 -- ---- what is stale
 older_kept : (version : ℕ) (x : LinkValue) (y : Option LinkValue) → 1 ≤ length x.entries → IsLinkIf y → IsStaleOver version x y → content y ≡ x.entries → ¬ IsOfVersion version y

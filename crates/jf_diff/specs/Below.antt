@@ -39,9 +39,13 @@ pub record IsStaleBelow (version : ℕ) (x : LinkValue) (y : Option LinkValue) :
   pub versioned : (n : ℕ) (path : Path) → VersionFollows version (sub x.depth (n ∷ path) x.entries) (sub x.depth (n ∷ path) (content y)) (link_version_at (n ∷ path) (Some x)) (link_version_at (n ∷ path) y)
   pub older : (n : ℕ) (path : Path) → ¬ (link_version_at (n ∷ path) (Some x) ≡ Some version)
 
+-- f of the nodes that are new from the child at nibble n of a node down
+unfoldable pub listed_below : {X : Type 0} → ℕ → ℕ → Part → Part → (Path → X) → List X
+listed_below depth n old new f = listed (64 - (depth + 1)) (depth + 1) (child_entries depth n old) (child_entries depth n new) (λ path. f (n ∷ path))
+
 -- f of a node in any case, and then of the nodes below it that are new
 unfoldable pub from_node : {X : Type 0} → ℕ → Part → Part → (Path → X) → List X
-from_node depth old new f = f [] ∷ each_from 16 0 (λ n. listed (64 - (depth + 1)) (depth + 1) (child_entries depth n old) (child_entries depth n new) (λ path. f (n ∷ path)))
+from_node depth old new f = f [] ∷ each_from 16 0 (λ n. listed_below depth n old new f)
 
 -- `kept` says whether there is a node that was there before the landing of `version`
 abbrev pub TellsIfOlder : Option LinkValue → ℕ → Bool → Type 0

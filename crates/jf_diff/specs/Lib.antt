@@ -3,3 +3,4 @@ pub mod OptionalNodes
 pub mod Below
 pub mod Plains
 pub mod Tops
+pub mod PartLists

@@ -1,17 +1,14 @@
 -- Nodes as they are written: each by itself, with what it says of its children.
-use Rattle.std.specs.Prelude.{◌+◌, true, [], ◌∷◌, ◌++◌, length, Some, List, Option, None, ℕ, map, IsTrue, ◌≡◌}
+use Rattle.std.specs.Prelude.{◌+◌, true, [], ◌∷◌, ◌++◌, length, Some, List, Option, None, ℕ}
 use Rattle.jf_path.specs.declared.node.PlainNode.{PlainNode}
 use Rattle.jf_path.specs.declared.children.Child.{Child}
 use Rattle.jf_path.specs.declared.name.NodeName.{NodeName}
-use Rattle.jf_path.specs.Names.{are_rising}
 use Rattle.jf_path.specs.declared.node.PlainNode.TheVariants as node
-use Rattle.jf_hash.specs.Slots.{Part}
 use Rattle.jf_model.specs.Nodes.{Path, plain_node, child_in_node}
 use Rattle.jf_model.specs.ChildEntries.{sub}
 use Rattle.jf_model.specs.Walk.{each_from}
 use Rattle.jf_node.specs.LinkValue.{LinkValue, link_version_at}
 use Rattle.jf_diff.specs.Landings.{version_or}
-use Rattle.jf_diff.specs.Below.{IsFreshBelow, from_node}
 
 -- the node by itself at a path below a link
 abbrev pub plain_at : LinkValue → Path → PlainNode
@@ -33,10 +30,3 @@ fresh_below version front x path = (record { version = version; path = front ++ 
 -- a node that a landing writes below an optional top, with its name
 abbrev pub fresh_under : ℕ → Option LinkValue → Path → NodeName × PlainNode
 fresh_under version top path = (record { version = version; path = path }, plain_under top path)
-
--- the nodes that a landing writes from a link down may be listed after those in `out`: the names rise
-pub record WouldRise (out : List (NodeName × PlainNode)) (version : ℕ) (front : Path) (x : LinkValue) : Type 0 where
-  pub es : Part
-  pub before : Path → Option ℕ
-  pub below : IsFreshBelow version es before x
-  pub names : x.version ≡ version → IsTrue (are_rising (map (λ e. e.0) (out ++ from_node x.depth es x.entries (fresh_below version front x))))

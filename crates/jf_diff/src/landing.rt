@@ -1,16 +1,18 @@
 // What a snapshot writes over an older one: the public call of this crate.
-ghost use Rattle.std.specs.Prelude.{◌≡◌, length, IfOk};
+ghost use Rattle.std.specs.Prelude.{◌≡◌, ◌≤◌, length, IfOk};
 ghost use Rattle.std.specs.List.Sorted.{IsPermutation};
 ghost use Rattle.jf_diff.specs.Landings.{IsNextOf, IsFreshCount, written_nodes, stale_names_in};
 
 use crate::lists::Written;
 use crate::top::{fresh_of, stale_of};
+use crate::wide::{are_several, written_wide};
 use jf_node::Snapshot;
 use jf_path::Memory;
 use std::alloc::Global;
+use std::thread::Threads;
 
-/// The nodes that the landing of `new` over `old` wrote, and the names of those of `old` that it made stale.
-pub fn written(alloc: Global, old: &Snapshot, new: &Snapshot) -> Result<Written, Memory>
+/// The lists, made in the caller's thread.
+fn written_in_turn(alloc: Global, old: &Snapshot, new: &Snapshot) -> Result<Written, Memory>
     requires next { IsNextOf old.now new.now }
     ensures fresh { IfOk result (λ w. w.fresh ≡ written_nodes old.now.map new.now.map new.now) }
     ensures stale { IfOk result (λ w. IsPermutation (stale_names_in old.now.map new.now.map old.now) w.stale) }
@@ -20,4 +22,32 @@ pub fn written(alloc: Global, old: &Snapshot, new: &Snapshot) -> Result<Written,
     let fresh = fresh_of(alloc, new.top(), new.version())?;
     let stale = stale_of(alloc, old.top(), old.version(), new.top(), new.version())?;
     Ok(Written { fresh, stale })
+}
+
+/// The nodes that the landing of `new` over `old` wrote, and the names of those of `old` that it made stale. With more
+/// workers than one, what is listed from the children at one nibble down is a piece of work, unless the landing changed
+/// nodes at one nibble alone.
+pub fn written<H: Threads + Sync>(
+    rt: &H,
+    alloc: Global,
+    old: &Snapshot,
+    new: &Snapshot,
+    workers: u64,
+) -> Result<Written, Memory>
+    requires positive { 1 ≤ workers }
+    requires bounded { workers ≤ 64 }
+    requires next { IsNextOf old.now new.now }
+    ensures fresh { IfOk result (λ w. w.fresh ≡ written_nodes old.now.map new.now.map new.now) }
+    ensures stale { IfOk result (λ w. IsPermutation (stale_names_in old.now.map new.now.map old.now) w.stale) }
+    ensures bound { IfOk result (λ w. IsFreshCount old.now new.now (length w.fresh)) }
+{
+    old.know();
+    let was = old.top();
+    let top = new.top();
+    let version = new.version();
+    if workers == 1 || !are_several(was, top, version) {
+        return written_in_turn(alloc, old, new);
+    }
+    let lists = written_wide(rt, alloc, was, old.version(), top, version, workers)?;
+    Ok(lists)
 }

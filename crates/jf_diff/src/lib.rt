@@ -6,9 +6,12 @@ mod child;
 mod landing;
 mod list;
 mod lists;
+mod parts;
 mod plain_node;
+mod rising;
 mod sorted;
 mod top;
+mod wide;
 
 pub use child::{child_in, child_of, is_kept};
 pub use landing::written;

@@ -13,13 +13,14 @@ ghost use Rattle.jf_diff.specs.Plains.{fresh_under};
 ghost use Rattle.jf_diff.specs.Tops.{IsFreshUnder, IsStaleUnder, WasLanded, old_name};
 
 use crate::list::{list_fresh, list_stale};
+use crate::rising::rising_nodes;
 use crate::sorted::sorted_names;
 use jf_node::Link;
 use jf_path::{FreshList, Memory, NameList, NibblePath, NodeName, PlainNode};
 use std::alloc::Global;
 
 /// The name of the top that a version wrote.
-fn top_name(version: u64) -> NodeName
+pub(crate) fn top_name(version: u64) -> NodeName
     ensures version { result.version ≡ version }
     ensures path { result.path ≡ [] }
 {
@@ -58,9 +59,9 @@ pub(crate) fn fresh_of(alloc: Global, top: Option<&Link>, version: u64) -> Resul
         None => one_node(alloc, top_name(version), PlainNode::Null),
         Some(link) => {
             link.know();
-            let mut nodes = FreshList::new(alloc);
+            let mut nodes = Vec::new(alloc);
             list_fresh(alloc, link, version, &NibblePath::empty(), &mut nodes)?;
-            Ok(nodes)
+            rising_nodes(alloc, nodes)
         }
     }
 }

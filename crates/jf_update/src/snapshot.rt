@@ -71,7 +71,7 @@ pub fn update<H: Threads + Sync, G: Gate>(
     let entries = batch.as_slice();
     let hashes = value_hashes(rt, alloc, entries, workers)?;
     let snapshot = advance(rt, alloc, head, entries, &hashes, workers, gate)?;
-    let Written { fresh, stale } = written(alloc, head, &snapshot)?;
+    let Written { fresh, stale } = written(rt, alloc, head, &snapshot, workers)?;
     Ok(Update {
         root: snapshot.root(),
         fresh,

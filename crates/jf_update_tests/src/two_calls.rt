@@ -1,5 +1,6 @@
-// `advance` and then `written` return what `update` returns: the same root, and the same names of nodes.
-use crate::landings::{Change, batch_of};
+// `advance` and then `written` return what `update` returns with any number of workers: the same root, and the same names
+// of nodes.
+use crate::landings::{Change, WORKERS, batch_of};
 use jf_join::FreeGate;
 use jf_node::Snapshot;
 use jf_path::{NodeName, PlainNode};
@@ -9,9 +10,18 @@ use std::alloc::Global;
 use std::test::Fail;
 use std::thread::Threads;
 
-// Landings one after another: two keys, nothing, a removal that leaves one leaf, one that leaves nothing, and nothing
+// Landings one after another: keys with several first nibbles, changes of such keys, and removals of all that is there;
+// and then two keys with one first nibble, nothing, a removal that leaves one leaf, one that leaves nothing, and nothing
 // again.
 const LANDINGS: &[&[Change]] = &[
+    &[
+        (0x10, Some(b'a')),
+        (0x1f, Some(b'b')),
+        (0x55, Some(b'c')),
+        (0xa0, Some(b'd')),
+    ],
+    &[(0x10, Some(b'e')), (0x55, None), (0xc0, Some(b'f'))],
+    &[(0x10, None), (0x1f, None), (0xa0, None), (0xc0, None)],
     &[(0x10, Some(b'a')), (0x1f, Some(b'b'))],
     &[(0x10, Some(b'a')), (0xa0, None)],
     &[(0x1f, None)],
@@ -39,7 +49,7 @@ fn in_two_calls<H: Threads + Sync>(
     let entries = batch.as_slice();
     let hashes = value_hashes(rt, alloc, entries, 1)?;
     let snapshot = advance(rt, alloc, head, entries, &hashes, 1, &FreeGate)?;
-    let lists = written(alloc, head, &snapshot)?;
+    let lists = written(rt, alloc, head, &snapshot, 1)?;
     Ok(Box::new(alloc, Landed { snapshot, lists })?)
 }
 
@@ -49,11 +59,12 @@ fn in_one_call<H: Threads + Sync>(
     alloc: Global,
     head: &Snapshot,
     batch: &Batch,
+    workers: u64,
 ) -> Result<Box<Update>, Fail> {
-    if head.version() >= 9 {
-        return Err(Fail::new("too many versions"));
+    if head.version() >= 9 || workers == 0 || workers > 64 {
+        return Err(Fail::new("too many versions, or no number of workers"));
     }
-    let landed = update(rt, alloc, head, batch, 1, &FreeGate)?;
+    let landed = update(rt, alloc, head, batch, workers, &FreeGate)?;
     Ok(Box::new(alloc, landed)?)
 }
 
@@ -77,7 +88,24 @@ fn snapshot_of(landed: Box<Landed>) -> Snapshot {
     snapshot
 }
 
-// Lands changes on a version, which becomes the next one, and returns whether it comes out the same both ways.
+// Whether each number of workers lands a batch as it was landed.
+fn all_land_alike<H: Threads + Sync>(
+    rt: &H,
+    alloc: Global,
+    head: &Snapshot,
+    batch: &Batch,
+    landed: &Landed,
+) -> Result<bool, Fail> {
+    for workers in WORKERS {
+        let update = in_one_call(rt, alloc, head, batch, *workers)?;
+        if !are_same(&update, landed) {
+            return Ok(false);
+        }
+    }
+    Ok(true)
+}
+
+// Lands changes on a version, which becomes the next one, and returns whether it comes out the same all ways.
 fn lands_alike<H: Threads + Sync>(
     rt: &H,
     alloc: Global,
@@ -85,9 +113,8 @@ fn lands_alike<H: Threads + Sync>(
     changes: &[Change],
 ) -> Result<bool, Fail> {
     let batch = batch_of(alloc, changes)?;
-    let update = in_one_call(rt, alloc, head, &batch)?;
     let landed = in_two_calls(rt, alloc, head, &batch)?;
-    let same = are_same(&update, &landed);
+    let same = all_land_alike(rt, alloc, head, &batch, &landed)?;
     *head = snapshot_of(landed);
     Ok(same)
 }
@@ -105,6 +132,6 @@ fn alike<H: Threads + Sync>(rt: &H, alloc: Global) -> Result<usize, Fail> {
 
 #[test]
 fn two_calls_return_what_one_does(rt: HostRuntime) -> Result<(), Fail> {
-    assert!(rt; alike(&rt, rt.alloc())? == 5);
+    assert!(rt; alike(&rt, rt.alloc())? == 8);
     Ok(())
 }

@@ -1,42 +1,27 @@
 use Rattle.std.proofs.Common.{subst, sym}
 use Rattle.std.specs.Option.{option_copied}
-use Rattle.jf_diff.specs.OptionalNodes.{IsOfVersion}
 use Rattle.jf_diff.specs.Tops.{IsStaleUnder, WasLanded}
-use Rattle.jf_diff.proofs.LandingLaws.{top_placed, top_own, was_landed, stale_top, sorted_top, landed_nodes, landed_names, written_count}
+use Rattle.jf_diff.proofs.LandingLaws.{was_landed, stale_top, landed_nodes, landed_names, written_count}
 use Rattle.jf_diff.proofs.landing.written.Goals as goal
 
-pub fresh_of-requires-clause-top : goal.fresh_of-requires-clause-top
-fresh_of-requires-clause-top c = top_placed c.args.new.now.version (option_copied c.top.result) c.top.ensures.top
+pub written_wide-requires-clause-landed : goal.written_wide-requires-clause-landed
+written_wide-requires-clause-landed g c κs within =
+    let top = option_copied c.top-top.result in
+    subst (λ v. WasLanded v top) (sym c.version-version.ensures) (was_landed c.args.old.now c.args.new.now top c.know.ensures c.top-top.ensures c.requires.next)
 
-pub fresh_of-requires-clause-own : goal.fresh_of-requires-clause-own
-fresh_of-requires-clause-own c = subst (λ v. IsOfVersion v (option_copied c.top.result)) (sym c.version.ensures) (top_own c.args.new.now.version (option_copied c.top.result) c.top.ensures.top)
-
-pub fresh_of-requires-clause-landed : goal.fresh_of-requires-clause-landed
-fresh_of-requires-clause-landed c = subst (λ v. WasLanded v (option_copied c.top.result)) (sym c.version.ensures) (was_landed c.args.old.now c.args.new.now (option_copied c.top.result) c.know.ensures c.top.ensures c.requires.next)
-
-pub stale_of-requires-clause-old : goal.stale_of-requires-clause-old
-stale_of-requires-clause-old c = top_placed c.args.old.now.version (option_copied c.top-2.result) c.top-2.ensures.top
-
-pub stale_of-requires-clause-top : goal.stale_of-requires-clause-top
-stale_of-requires-clause-top c = top_placed c.args.new.now.version (option_copied c.top-3.result) c.top-3.ensures.top
-
-pub stale_of-requires-clause-own : goal.stale_of-requires-clause-own
-stale_of-requires-clause-own c = subst (λ v. IsOfVersion v (option_copied c.top-3.result)) (sym c.version-3.ensures) (top_own c.args.new.now.version (option_copied c.top-3.result) c.top-3.ensures.top)
-
-pub stale_of-requires-clause-landed : goal.stale_of-requires-clause-landed
-stale_of-requires-clause-landed c =
-    subst (λ v. IsStaleUnder v (option_copied c.top-2.result) (option_copied c.top-3.result)) (sym c.version-3.ensures)
-    (stale_top c.args.old.now c.args.new.now (option_copied c.top-2.result) (option_copied c.top-3.result) c.know.ensures c.top-2.ensures c.top-3.ensures c.requires.next)
-
-pub stale_of-requires-clause-sorted : goal.stale_of-requires-clause-sorted
-stale_of-requires-clause-sorted c = sorted_top c.args.new.now (option_copied c.top-3.result) c.top-3.ensures
+pub written_wide-requires-clause-stale : goal.written_wide-requires-clause-stale
+written_wide-requires-clause-stale g c κs within =
+    let was = option_copied c.top-was.result in
+    let top = option_copied c.top-top.result in
+    subst (λ v. IsStaleUnder v was top) (sym c.version-version.ensures) (stale_top c.args.old.now c.args.new.now was top c.know.ensures c.top-was.ensures c.top-top.ensures c.requires.next)
 
 pub returns-clause-fresh : goal.returns-clause-fresh
-returns-clause-fresh c = landed_nodes c.args.old.now c.args.new.now (option_copied c.top.result) c.version.result _ c.know.ensures c.top.ensures c.requires.next c.version.ensures c.in_ok-fresh.ensures
+returns-clause-fresh g c = landed_nodes c.args.old.now c.args.new.now (option_copied c.top-top.result) c.version-version.result _ c.know.ensures c.top-top.ensures c.requires.next c.version-version.ensures c.in_ok-lists.ensures.fresh
 
 pub returns-clause-stale : goal.returns-clause-stale
-returns-clause-stale c = landed_names c.args.old.now c.args.new.now (option_copied c.top-2.result) (option_copied c.top-3.result) c.version-2.result _ c.top-2.ensures c.top-3.ensures c.version-2.ensures c.in_ok-stale.ensures
+returns-clause-stale g c = landed_names c.args.old.now c.args.new.now (option_copied c.top-was.result) (option_copied c.top-top.result) c.version.result _ c.top-was.ensures c.top-top.ensures c.version.ensures c.in_ok-lists.ensures.stale
 
 pub returns-clause-bound : goal.returns-clause-bound
-returns-clause-bound c =
-    written_count c.args.old.now c.args.new.now _ c.know.ensures (landed_nodes c.args.old.now c.args.new.now (option_copied c.top.result) c.version.result _ c.know.ensures c.top.ensures c.requires.next c.version.ensures c.in_ok-fresh.ensures)
+returns-clause-bound g c =
+    written_count c.args.old.now c.args.new.now _ c.know.ensures
+    (landed_nodes c.args.old.now c.args.new.now (option_copied c.top-top.result) c.version-version.result _ c.know.ensures c.top-top.ensures c.requires.next c.version-version.ensures c.in_ok-lists.ensures.fresh)

@@ -1,12 +1,16 @@
 use Rattle.std.proofs.Common.{ap, ap₂, ◌∙◌, ◌∷◌, []}
 use Rattle.std.specs.Option.{option_copied}
 use Rattle.jf_path.specs.declared.node.PlainNode.TheVariants as node
-use Rattle.jf_diff.proofs.TopLaws.{ok_weaker, top_would_rise, fresh_none, fresh_some}
+use Rattle.jf_diff.proofs.TopLaws.{ok_weaker, top_rises, fresh_none, fresh_some, sorted_link}
 use Rattle.jf_diff.proofs.PathNames.{name_of_path}
 use Rattle.jf_diff.proofs.top.fresh_of.Goals as goal
 
-pub list_fresh-requires-clause-rising : goal.list_fresh-requires-clause-rising
-list_fresh-requires-clause-rising c = top_would_rise c.args.version (option_copied c.args.top) c.in-Some.link.now _ _ (ap option_copied c.in-Some.is) c.requires.landed c.requires.top c.know.ensures c.new-nodes.ensures c.empty.ensures
+pub rising_nodes-requires : goal.rising_nodes-requires
+rising_nodes-requires c =
+    let top = option_copied c.args.top in
+    let is = ap option_copied c.in-Some.is in
+    top_rises c.args.version top _ c.requires.landed (sorted_link top c.in-Some.link.now is c.know.ensures)
+    (fresh_some c.args.version top c.in-Some.link.now c.empty.result c.new-nodes.result.items _ is c.requires.top c.requires.own c.empty.ensures c.new-nodes.ensures.items c.in_ok-list_fresh-in-Some.ensures.listed)
 
 pub returns-in-None : goal.returns-in-None
 returns-in-None c =
@@ -15,5 +19,8 @@ returns-in-None c =
     c.one_node.result c.one_node.ensures
 
 pub returns-in_ok-list_fresh-in-Some : goal.returns-in_ok-list_fresh-in-Some
-returns-in_ok-list_fresh-in-Some c es before under =
-    fresh_some c.args.version (option_copied c.args.top) c.in-Some.link.now c.empty.result c.new-nodes.result _ (ap option_copied c.in-Some.is) c.requires.top c.requires.own c.empty.ensures c.new-nodes.ensures c.in_ok-list_fresh-in-Some.ensures.listed es before under
+returns-in_ok-list_fresh-in-Some c =
+    ok_weaker _ _
+    (λ l is es before under. is
+    ∙ fresh_some c.args.version (option_copied c.args.top) c.in-Some.link.now c.empty.result c.new-nodes.result.items _ (ap option_copied c.in-Some.is) c.requires.top c.requires.own c.empty.ensures c.new-nodes.ensures.items c.in_ok-list_fresh-in-Some.ensures.listed es before under)
+    c.rising_nodes.result c.rising_nodes.ensures

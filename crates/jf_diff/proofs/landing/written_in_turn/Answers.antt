@@ -1,0 +1,42 @@
+use Rattle.std.proofs.Common.{subst, sym}
+use Rattle.std.specs.Option.{option_copied}
+use Rattle.jf_diff.specs.OptionalNodes.{IsOfVersion}
+use Rattle.jf_diff.specs.Tops.{IsStaleUnder, WasLanded}
+use Rattle.jf_diff.proofs.LandingLaws.{top_placed, top_own, was_landed, stale_top, sorted_top, landed_nodes, landed_names, written_count}
+use Rattle.jf_diff.proofs.landing.written_in_turn.Goals as goal
+
+pub fresh_of-requires-clause-top : goal.fresh_of-requires-clause-top
+fresh_of-requires-clause-top c = top_placed c.args.new.now.version (option_copied c.top.result) c.top.ensures.top
+
+pub fresh_of-requires-clause-own : goal.fresh_of-requires-clause-own
+fresh_of-requires-clause-own c = subst (λ v. IsOfVersion v (option_copied c.top.result)) (sym c.version.ensures) (top_own c.args.new.now.version (option_copied c.top.result) c.top.ensures.top)
+
+pub fresh_of-requires-clause-landed : goal.fresh_of-requires-clause-landed
+fresh_of-requires-clause-landed c = subst (λ v. WasLanded v (option_copied c.top.result)) (sym c.version.ensures) (was_landed c.args.old.now c.args.new.now (option_copied c.top.result) c.know.ensures c.top.ensures c.requires.next)
+
+pub stale_of-requires-clause-old : goal.stale_of-requires-clause-old
+stale_of-requires-clause-old c = top_placed c.args.old.now.version (option_copied c.top-2.result) c.top-2.ensures.top
+
+pub stale_of-requires-clause-top : goal.stale_of-requires-clause-top
+stale_of-requires-clause-top c = top_placed c.args.new.now.version (option_copied c.top-3.result) c.top-3.ensures.top
+
+pub stale_of-requires-clause-own : goal.stale_of-requires-clause-own
+stale_of-requires-clause-own c = subst (λ v. IsOfVersion v (option_copied c.top-3.result)) (sym c.version-3.ensures) (top_own c.args.new.now.version (option_copied c.top-3.result) c.top-3.ensures.top)
+
+pub stale_of-requires-clause-landed : goal.stale_of-requires-clause-landed
+stale_of-requires-clause-landed c =
+    subst (λ v. IsStaleUnder v (option_copied c.top-2.result) (option_copied c.top-3.result)) (sym c.version-3.ensures)
+    (stale_top c.args.old.now c.args.new.now (option_copied c.top-2.result) (option_copied c.top-3.result) c.know.ensures c.top-2.ensures c.top-3.ensures c.requires.next)
+
+pub stale_of-requires-clause-sorted : goal.stale_of-requires-clause-sorted
+stale_of-requires-clause-sorted c = sorted_top c.args.new.now (option_copied c.top-3.result) c.top-3.ensures
+
+pub returns-clause-fresh : goal.returns-clause-fresh
+returns-clause-fresh c = landed_nodes c.args.old.now c.args.new.now (option_copied c.top.result) c.version.result _ c.know.ensures c.top.ensures c.requires.next c.version.ensures c.in_ok-fresh.ensures
+
+pub returns-clause-stale : goal.returns-clause-stale
+returns-clause-stale c = landed_names c.args.old.now c.args.new.now (option_copied c.top-2.result) (option_copied c.top-3.result) c.version-2.result _ c.top-2.ensures c.top-3.ensures c.version-2.ensures c.in_ok-stale.ensures
+
+pub returns-clause-bound : goal.returns-clause-bound
+returns-clause-bound c =
+    written_count c.args.old.now c.args.new.now _ c.know.ensures (landed_nodes c.args.old.now c.args.new.now (option_copied c.top.result) c.version.result _ c.know.ensures c.top.ensures c.requires.next c.version.ensures c.in_ok-fresh.ensures)

@@ -1,0 +1,126 @@
+// What is listed of a part of two trees, one of which stands in the place of the other after a landing: of the two tops
+// alone, and from their children at one nibble down.
+ghost use Rattle.std.specs.Prelude.{◌≡◌, ℕ, ◌∷◌, [], Option, IfOk};
+ghost use Rattle.std.specs.Option.{option_copied};
+ghost use Rattle.jf_hash.specs.Slots.{Part};
+ghost use Rattle.jf_model.specs.Nodes.{Path};
+ghost use Rattle.jf_node.specs.Children.{content};
+ghost use Rattle.jf_diff.specs.Below.{listed_below};
+ghost use Rattle.jf_diff.specs.OptionalNodes.{IsAtDepth};
+ghost use Rattle.jf_diff.specs.PartLists.{ArePartLists, AreTopLists};
+ghost use Rattle.jf_diff.specs.Plains.{fresh_under, plain_under};
+ghost use Rattle.jf_diff.specs.Tops.{IsFreshUnder, IsStaleUnder, old_name};
+
+use crate::list::{list_fresh_at, list_stale_at};
+use crate::plain_node::plain_of;
+use crate::top::top_name;
+use jf_node::Link;
+use jf_path::{Memory, Nibble, NibblePath, NodeName, PlainNode};
+use std::alloc::Global;
+
+/// The nodes of a part that a landing wrote, in the order of their paths, and the names of those that it made stale.
+#[derive(Drop)]
+pub(crate) struct PartLists {
+    pub(crate) fresh: Vec<(NodeName, PlainNode)>,
+    pub(crate) stale: Vec<NodeName>,
+}
+
+/// The top by itself, as it is written.
+fn plain_top(alloc: Global, top: Option<&Link>) -> Result<PlainNode, Memory>
+    ensures { IfOk result (λ p. p ≡ plain_under (option_copied top.entry) []) }
+{
+    match top {
+        None => Ok(PlainNode::Null),
+        Some(link) => plain_of(alloc, link),
+    }
+}
+
+/// The name under which the version `head` has its top.
+fn old_top_name(head: u64, old: Option<&Link>) -> NodeName
+    ensures { result ≡ old_name head (option_copied old.entry) [] }
+{
+    match old {
+        None => top_name(head),
+        Some(link) => {
+            link.know();
+            top_name(link.version())
+        }
+    }
+}
+
+/// The two tops alone.
+pub(crate) fn top_lists(
+    alloc: Global,
+    old: Option<&Link>,
+    head: u64,
+    top: Option<&Link>,
+    version: u64,
+) -> Result<PartLists, Memory>
+    ensures { IfOk result (AreTopLists version head (option_copied old.entry) (option_copied top.entry)) }
+{
+    let mut fresh = Vec::new(alloc);
+    let node = plain_top(alloc, top)?;
+    fresh.push((top_name(version), node))?;
+    let mut stale = Vec::new(alloc);
+    stale.push(old_top_name(head, old))?;
+    Ok(PartLists { fresh, stale })
+}
+
+/// The nodes that a landing wrote from the child of the top at nibble `n` down.
+fn fresh_from(
+    alloc: Global,
+    top: Option<&Link>,
+    version: u64,
+    n: Nibble,
+) -> Result<Vec<(NodeName, PlainNode)>, Memory>
+    requires top { IsAtDepth 0 (option_copied top) }
+    ensures { IfOk result (λ v. (es : Part) (before : Path → Option ℕ) → IsFreshUnder version es before (option_copied top.entry) → v.items ≡ listed_below 0 n es (content (option_copied top.entry)) (fresh_under version (option_copied top.entry))) }
+{
+    let mut nodes = Vec::new(alloc);
+    match top {
+        None => Ok(nodes),
+        Some(link) => {
+            list_fresh_at(alloc, link, version, &NibblePath::empty(), n, &mut nodes)?;
+            Ok(nodes)
+        }
+    }
+}
+
+/// The names of the nodes that a landing made stale from the child of the old top at nibble `n` down.
+fn stale_from(
+    alloc: Global,
+    old: Option<&Link>,
+    top: Option<&Link>,
+    version: u64,
+    n: Nibble,
+) -> Result<Vec<NodeName>, Memory>
+    requires old { IsAtDepth 0 (option_copied old) }
+    requires top { IsAtDepth 0 (option_copied top) }
+    ensures { IfOk result (λ v. (head : ℕ) → IsStaleUnder version (option_copied old.entry) (option_copied top.entry) → v.items ≡ listed_below 0 n (content (option_copied top.entry)) (content (option_copied old.entry)) (old_name head (option_copied old.entry))) }
+{
+    let mut names = Vec::new(alloc);
+    match old {
+        None => Ok(names),
+        Some(link) => {
+            list_stale_at(link, top, version, &NibblePath::empty(), n, &mut names)?;
+            Ok(names)
+        }
+    }
+}
+
+/// What is listed from the children at nibble `n` down.
+pub(crate) fn part_lists(
+    alloc: Global,
+    old: Option<&Link>,
+    top: Option<&Link>,
+    version: u64,
+    n: Nibble,
+) -> Result<PartLists, Memory>
+    requires old { IsAtDepth 0 (option_copied old) }
+    requires top { IsAtDepth 0 (option_copied top) }
+    ensures { IfOk result (ArePartLists version (option_copied old.entry) (option_copied top.entry) n) }
+{
+    let fresh = fresh_from(alloc, top, version, n)?;
+    let stale = stale_from(alloc, old, top, version, n)?;
+    Ok(PartLists { fresh, stale })
+}

@@ -1,0 +1,115 @@
+// What a landing wrote and made stale, listed by several workers: what is listed from the children at one nibble down is
+// a piece of work of its own.
+ghost use Rattle.std.specs.Prelude.{◌≡◌, ℕ, ◌≤◌, Option, IfOk, T};
+ghost use Rattle.std.specs.Option.{option_copied};
+ghost use Rattle.std.specs.FinMap.{is_sorted};
+ghost use Rattle.std.specs.List.Sorted.{IsPermutation};
+ghost use Rattle.jf_path.specs.Keys.{key_cmp};
+ghost use Rattle.jf_hash.specs.Slots.{Part, all_nibbles};
+ghost use Rattle.jf_model.specs.Nodes.{Path};
+ghost use Rattle.jf_model.specs.Walk.{with_root};
+ghost use Rattle.jf_node.specs.Children.{content};
+ghost use Rattle.jf_diff.specs.OptionalNodes.{IsAtDepth, IsOfVersion};
+ghost use Rattle.jf_diff.specs.PartLists.{ArePartLists, AreAllParts};
+ghost use Rattle.jf_diff.specs.Plains.{fresh_under};
+ghost use Rattle.jf_diff.specs.Tops.{IsFreshUnder, IsStaleUnder, WasLanded, old_name};
+
+use crate::child::{child_in, is_kept};
+use crate::lists::Written;
+use crate::parts::{PartLists, part_lists, top_lists};
+use crate::rising::rising_nodes;
+use crate::sorted::sorted_names;
+use jf_join::{FreeGate, join_pieces};
+use jf_node::Link;
+use jf_path::{Memory, Nibble};
+use std::alloc::Global;
+use std::thread::Threads;
+
+/// Whether a landing wrote or made stale nodes below this nibble.
+fn is_changed(old: Option<&Link>, top: Option<&Link>, version: u64, n: Nibble) -> bool {
+    let child = child_in(top, n);
+    !is_kept(child, version) && (child.is_some() || child_in(old, n).is_some())
+}
+
+/// Whether a landing wrote or made stale nodes below more than one nibble.
+pub(crate) fn are_several(old: Option<&Link>, top: Option<&Link>, version: u64) -> bool {
+    let mut found = false;
+    for n in 0..16 {
+        if is_changed(old, top, version, Nibble::of(n)) {
+            if found {
+                return true;
+            }
+            found = true;
+        }
+    }
+    false
+}
+
+/// All nibbles, in their order.
+fn nibbles(alloc: Global) -> Result<Vec<Nibble>, Memory>
+    ensures { IfOk result (λ v. v.items ≡ all_nibbles) }
+{
+    let mut all = Vec::new(alloc);
+    for n in 0..16 {
+        all.push(Nibble::of(n))?;
+    }
+    Ok(all)
+}
+
+/// The lists of the two tops and then of all parts, one after another.
+fn put_together(
+    alloc: Global,
+    old: Option<&Link>,
+    head: u64,
+    top: Option<&Link>,
+    version: u64,
+    parts: Vec<Result<PartLists, Memory>>,
+) -> Result<PartLists, Memory>
+    requires parts { AreAllParts version (option_copied old) (option_copied top) parts.items }
+    ensures fresh { IfOk result (λ l. (es : Part) (before : Path → Option ℕ) → IsFreshUnder version es before (option_copied top.entry) → l.fresh.items ≡ with_root es (content (option_copied top.entry)) (fresh_under version (option_copied top.entry))) }
+    ensures stale { IfOk result (λ l. IsStaleUnder version (option_copied old.entry) (option_copied top.entry) → l.stale.items ≡ with_root (content (option_copied top.entry)) (content (option_copied old.entry)) (old_name head (option_copied old.entry))) }
+{
+    let mut all = top_lists(alloc, old, head, top, version)?;
+    for part in parts {
+        let PartLists {
+            mut fresh,
+            mut stale,
+        } = part?;
+        all.fresh.append(&mut fresh)?;
+        all.stale.append(&mut stale)?;
+    }
+    Ok(all)
+}
+
+/// The lists by at most this many workers.
+pub(crate) fn written_wide<H: Threads + Sync>(
+    rt: &H,
+    alloc: Global,
+    old: Option<&Link>,
+    head: u64,
+    top: Option<&Link>,
+    version: u64,
+    workers: u64,
+) -> Result<Written, Memory>
+    requires positive { 1 ≤ workers }
+    requires bounded { workers ≤ 64 }
+    requires old { IsAtDepth 0 (option_copied old) }
+    requires top { IsAtDepth 0 (option_copied top) }
+    requires landed { WasLanded version (option_copied top) }
+    requires stale { IsStaleUnder version (option_copied old) (option_copied top) }
+    requires old_sorted { T (is_sorted key_cmp (content (option_copied old))) }
+    requires sorted { T (is_sorted key_cmp (content (option_copied top))) }
+    ensures fresh { IfOk result (λ w. (es : Part) (before : Path → Option ℕ) → IsFreshUnder version es before (option_copied top.entry) → w.fresh ≡ with_root es (content (option_copied top.entry)) (fresh_under version (option_copied top.entry))) }
+    ensures stale { IfOk result (λ w. IsPermutation (with_root (content (option_copied top.entry)) (content (option_copied old.entry)) (old_name head (option_copied old.entry))) w.stale) }
+{
+    let nibbles = nibbles(alloc)?;
+    let work = |n: &Nibble| -> Result<PartLists, Memory>
+        requires { IsAtDepth 0 (option_copied old) × IsAtDepth 0 (option_copied top) }
+        ensures { IfOk result (ArePartLists version (option_copied old.entry) (option_copied top.entry) n.now) }
+    { part_lists(alloc, old, top, version, *n) };
+    let parts = join_pieces(rt, alloc, &nibbles, workers, &FreeGate, &work)?;
+    let PartLists { fresh, stale } = put_together(alloc, old, head, top, version, parts)?;
+    let fresh = rising_nodes(alloc, fresh)?;
+    let stale = sorted_names(alloc, stale)?;
+    Ok(Written { fresh, stale })
+}
