@@ -1,0 +1,6 @@
+//! The directory of a store: the versions from floor to head as snapshots, and the named nodes that they keep.
+#![tactic(auto)]
+
+mod directory;
+
+pub use directory::Directory;
