@@ -1,8 +1,9 @@
 -- What a directory holds: roots, snapshots and marks, and the standing that they make.
-use Rattle.std.specs.Prelude.{◌≡◌, ◌↔◌, ◌+◌, ◌<◌, ◌≤◌, ℕ, Bool, nat_lt, List, [], ◌∷◌, map, filter, reverse, drop, length, Contains}
+use Rattle.std.specs.Prelude.{◌≡◌, ◌↔◌, ◌⊎◌, ◌+◌, ◌<◌, ◌≤◌, ℕ, Bool, nat_lt, List, [], ◌∷◌, map, filter, reverse, drop, length, Contains}
 use Rattle.std.specs.List.{AllByRecursion}
 use Rattle.std.specs.FinMap.{entries}
 use Rattle.jf_path.specs.Limits.{max_value}
+use Rattle.jf_path.specs.declared.name.NodeName.{NodeName}
 use Rattle.jf_hash.specs.Roots.{root}
 use Rattle.jf_codec.specs.declared.format.Format.TheVariants as format
 use Rattle.jf_node.specs.SnapshotValue.{SnapshotValue}
@@ -59,3 +60,30 @@ pub record IsHeld (s : Standing) (b : ℕ) (rs : List (List ℕ)) (xs : List Sna
   pub short : AllByRecursion HasShortValues xs
   pub marks : AreMarksOf s.nodes ms
   pub count : n ≡ length s.nodes
+
+-- ---- marks of a landing
+-- a mark of one of the names, as stale since a version
+abbrev pub IsMarkIn : ℕ → List NodeName → Mark → Type 0
+IsMarkIn since names k = (k.0 ≡ since) × Contains names k.1
+
+-- the marks of names were added
+pub record AreAdded (since : ℕ) (names : List NodeName) (old new : List Mark) : Type 0 where
+  pub kept : (k : Mark) → Contains old k → Contains new k
+  pub own : (k : Mark) → Contains new k → Contains old k ⊎ IsMarkIn since names k
+  pub all : (k : Mark) → IsMarkIn since names k → Contains new k
+
+-- some of the marks of names were added
+pub record AreSomeAdded (since : ℕ) (names : List NodeName) (old new : List Mark) : Type 0 where
+  pub kept : (k : Mark) → Contains old k → Contains new k
+  pub own : (k : Mark) → Contains new k → Contains old k ⊎ IsMarkIn since names k
+
+-- the marks of names were removed
+pub record AreRemoved (since : ℕ) (names : List NodeName) (old new : List Mark) : Type 0 where
+  pub stood : (k : Mark) → Contains new k → Contains old k
+  pub none : (k : Mark) → Contains new k → ¬ IsMarkIn since names k
+  pub rest : (k : Mark) → Contains old k → ¬ IsMarkIn since names k → Contains new k
+
+-- the marks up to a floor were removed, so many
+pub record AreTakenUpto (floor count : ℕ) (old new : List Mark) : Type 0 where
+  pub later : (k : Mark) → Contains new k ↔ (Contains old k × (floor < k.0))
+  pub number : count + length new ≡ length old

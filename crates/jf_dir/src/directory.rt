@@ -18,12 +18,19 @@ ghost use Rattle.jf_standing.specs.Building.{landed_on, new_standing};
 ghost use Rattle.jf_standing.specs.Next.{IsReadStanding};
 ghost use Rattle.jf_dir.specs.Directories.{IsLandingUpdate, IsSnapshotAt, begun_with};
 
+use crate::counting::{node_count, sum_within};
+use crate::front::drop_front;
+use crate::marking::{mark_each, take_marks, unmark_each};
+use crate::roots::{know_hashes, roots_with};
 use jf_hash::Hash;
 use jf_join::Gate;
 use jf_node::{Snapshot, Update};
 use jf_path::{Key, LiveList, Memory, SharedBytes};
 use jf_split::Batch;
+use jf_stale::StaleIndex;
+use jf_update::{Written, advance, value_hashes, written};
 use std::alloc::Global;
+use std::collections::VecDeque;
 use std::marker::Model;
 use std::thread::Threads;
 
@@ -31,33 +38,40 @@ use std::thread::Threads;
 #[derive(Drop)]
 pub struct Directory {
     base: u64,
-    newest: Snapshot,
+    // The root of version `base + n` stands at place n.
     roots: Vec<Hash>,
+    // The snapshots of the versions from floor to head, the oldest first.
+    snapshots: VecDeque<Snapshot>,
+    // A mark for each node that is stale.
+    marks: StaleIndex,
+    // The number of nodes that are kept.
+    count: u64,
 }
 
 impl Model for Directory {
-    ghost use Rattle.std.specs.Prelude.{[]};
     ghost use Rattle.jf_standing.specs.Standing.{Standing};
 
     ghost Value = { Standing };
 
-    ghost view = { λ d. record { base = d.base; floor = 0; head = 0; roots = []; nodes = [] } };
+    ghost use Rattle.jf_dir.specs.Holding.{standing_held, IsHeld};
 
-    ghost invariant = { λ d. ⊥ };
+    ghost view = { λ d. standing_held d.base d.roots.items d.snapshots.items };
+
+    ghost invariant = { λ d. IsHeld (standing_held d.base d.roots.items d.snapshots.items) d.base d.roots.items d.snapshots.items d.marks d.count };
 }
 
 impl Directory {
     /// A new store: version 0, whose map is empty.
-    pub fn fresh_store(_alloc: Global) -> Result<Directory, Memory>
+    pub fn fresh_store(alloc: Global) -> Result<Directory, Memory>
         ensures { IfOk result (λ d. d ≡ new_standing format.Two) }
     {
-        Err(Memory)
+        Directory::of(alloc, 0, &[], Snapshot::empty(0))
     }
 
     /// A directory of one version, its floor and head. `earlier` are the roots of the versions from `base` to the one
     /// before it, the oldest first.
     pub fn of(
-        _alloc: Global,
+        alloc: Global,
         base: u64,
         earlier: &[Hash],
         snapshot: Snapshot,
@@ -67,10 +81,19 @@ impl Directory {
         requires room { len snapshot.map ≤ 2 ^ 63 }
         ensures { IfOk result (λ d. d ≡ begun_with base earlier.now snapshot) }
     {
-        let _ = base;
-        let _ = earlier;
-        let _ = snapshot;
-        Err(Memory)
+        snapshot.know();
+        know_hashes(earlier);
+        let count = node_count(&snapshot)?;
+        let roots = roots_with(alloc, earlier, snapshot.root())?;
+        let mut snapshots = VecDeque::new(alloc);
+        snapshots.push_back(snapshot)?;
+        Ok(Directory {
+            base,
+            roots,
+            snapshots,
+            marks: StaleIndex::new(alloc),
+            count,
+        })
     }
 
     /// The oldest version whose root is kept.
@@ -84,21 +107,21 @@ impl Directory {
     pub fn floor(&self) -> u64
         ensures { result ≡ self.now.floor }
     {
-        self.base
+        self.oldest().version()
     }
 
     /// The newest version.
     pub fn head(&self) -> u64
         ensures { result ≡ self.now.head }
     {
-        self.base
+        self.newest().version()
     }
 
     /// The number of nodes that are kept.
     pub fn count(&self) -> u64
         ensures { result ≡ length self.now.nodes }
     {
-        self.base
+        self.count
     }
 
     /// The roots of the versions from base to head, the oldest first.
@@ -112,9 +135,9 @@ impl Directory {
     pub fn root_of(&self, version: u64) -> Option<Hash>
         ensures { SomeIff result ((self.now.base ≤ version) × (version ≤ self.now.head)) (root_of (versions_of self.now) version) }
     {
-        let _ = &self.base;
-        let _ = version;
-        None
+        let place = version.checked_sub(self.base)?;
+        let root = self.roots.get(place as usize)?;
+        Some(*root)
     }
 
     /// The snapshot of a version, or `None` if it isn't from floor to head.
@@ -122,16 +145,28 @@ impl Directory {
         ensures kept { IsSome result ↔ ((self.now.floor ≤ version) × (version ≤ self.now.head)) }
         ensures snapshot { IfSome result (λ s. IsSnapshotAt self.now version s.now) }
     {
-        let _ = &self.base;
-        let _ = version;
-        None
+        let place = version.checked_sub(self.floor())?;
+        self.snapshots.get(place as usize)
+    }
+
+    // The snapshot of the floor.
+    fn oldest(&self) -> &Snapshot
+        ensures { IsSnapshotAt self.now self.now.floor result.now }
+    {
+        match self.snapshots.front() {
+            None => unreachable!(),
+            Some(snapshot) => snapshot,
+        }
     }
 
     /// The snapshot of the head.
     pub fn newest(&self) -> &Snapshot
         ensures { IsSnapshotAt self.now self.now.head result.now }
     {
-        &self.newest
+        match self.snapshots.back() {
+            None => unreachable!(),
+            Some(snapshot) => snapshot,
+        }
     }
 
     /// Ensures what holds of every directory. Changes nothing.
@@ -142,7 +177,7 @@ impl Directory {
         ensures kept { length self.now.nodes ≡ kept_nodes (versions_of self.now) }
         ensures versions { IsVersions (versions_of self.now) }
     {
-        let _ = &self.base;
+        let _ = &self.snapshots;
     }
 
     /// What the landing of changes on the head would write, of any number of changes; `hashes` has the hash of each
@@ -164,15 +199,18 @@ impl Directory {
         requires hashed { AreValueHashes entries.now hashes.now }
         ensures landing { IfOk result (IsLandingUpdate self.now (apply (head_map self.now) entries.now)) }
         ensures own { IfOk result (λ u. IsLandingUpdate self.now u.snapshot.map u) }
+        ensures bound { IfOk result (λ u. length u.fresh ≤ 66 * length entries.now + 1) }
     {
-        let _ = self;
-        let _ = rt;
-        let _ = alloc;
-        let _ = entries;
-        let _ = hashes;
-        let _ = workers;
-        let _ = gate;
-        Err(Memory)
+        let head = self.newest();
+        let snapshot = advance(rt, alloc, head, entries, hashes, workers, gate)?;
+        let Written { fresh, stale } = written(alloc, head, &snapshot)?;
+        let _ = stale.as_slice();
+        Ok(Update {
+            root: snapshot.root(),
+            fresh,
+            stale,
+            snapshot,
+        })
     }
 
     /// What the landing of a batch on the head would write.
@@ -191,13 +229,9 @@ impl Directory {
         ensures own { IfOk result (λ u. IsLandingUpdate self.now u.snapshot.map u) }
         ensures bound { IfOk result (λ u. length u.fresh ≤ 66 * length batch.now + 1) }
     {
-        let _ = self;
-        let _ = rt;
-        let _ = alloc;
-        let _ = batch;
-        let _ = workers;
-        let _ = gate;
-        Err(Memory)
+        let entries = batch.as_slice();
+        let hashes = value_hashes(rt, alloc, entries, workers)?;
+        self.next(rt, alloc, entries, &hashes, workers, gate)
     }
 
     /// Lands an update of the head. If memory runs out, the directory is unchanged.
@@ -207,8 +241,21 @@ impl Directory {
         ensures ok { OnOk result (self.new ≡ landed_on format.Two update.now.snapshot.map self.old) }
         ensures err { OnErr result (self.new ≡ self.old) }
     {
-        let _ = update;
-        Err(Memory)
+        update.snapshot.know();
+        let since = update.snapshot.version();
+        let names = update.stale.as_slice();
+        let count = sum_within(self.count, update.fresh.len())?;
+        let snapshot = update.snapshot.share()?;
+        self.roots.reserve(1)?;
+        self.snapshots.reserve(1)?;
+        if let Err(fault) = mark_each(&mut self.marks, since, names) {
+            unmark_each(&mut self.marks, since, names);
+            return Err(fault);
+        }
+        let _ = self.roots.push(update.root);
+        self.snapshots.push_back_reserved(snapshot);
+        self.count = count;
+        Ok(())
     }
 
     /// Takes back the update that made the head. It takes no memory.
@@ -216,8 +263,11 @@ impl Directory {
         requires made { (s : Standing) × IsReadStanding s × IsSound format.Two s × IsLandingUpdate s update.now.snapshot.map update.now × (self.old ≡ landed_on format.Two update.now.snapshot.map s) }
         ensures { (s : Standing) → IsReadStanding s → IsSound format.Two s → IsLandingUpdate s update.now.snapshot.map update.now → self.old ≡ landed_on format.Two update.now.snapshot.map s → self.new ≡ s }
     {
-        let _ = &self.base;
-        let _ = update;
+        let since = update.snapshot.version();
+        unmark_each(&mut self.marks, since, update.stale.as_slice());
+        let _ = self.snapshots.pop_back();
+        let _ = self.roots.pop();
+        self.count -= update.fresh.len();
     }
 
     /// Drops the versions below a later floor, and the nodes that are stale by then. It takes no memory.
@@ -226,8 +276,9 @@ impl Directory {
         requires high { floor ≤ self.old.head }
         ensures { self.new ≡ with_floor floor self.old }
     {
-        let _ = &self.base;
-        let _ = floor;
+        let versions = floor - self.floor();
+        drop_front(&mut self.snapshots, versions);
+        self.count -= take_marks(&mut self.marks, floor);
     }
 
     /// The nodes that are kept, in the order of their names, each with the version since which it is stale.
