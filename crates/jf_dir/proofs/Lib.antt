@@ -6,3 +6,4 @@ pub mod MarkMoves
 pub mod MarkSteps
 pub mod Moves
 pub mod NextLandings
+pub mod Turns

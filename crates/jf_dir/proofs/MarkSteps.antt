@@ -1,8 +1,9 @@
 -- One mark more, one fewer, and the least one taken.
-use Rattle.std.specs.Prelude.{slice_index_or}
-use Rattle.std.proofs.Common.{◌≡◌, ◌↔◌, ℕ, ◌+◌, ◌-◌, ◌<◌, ◌≤◌, List, [], ◌∷◌, ◌++◌, take, length, Contains, refl, sym, ap, ◌∙◌, subst, arith, true, false, not, cond, inl, inr, ◌⊎◌, Less, Equal, Greater, true≢false}
+use Rattle.std.specs.Prelude.{slice_index_or, OnErr, Result, Ok, Err}
+use Rattle.std.proofs.Common.{◌≡◌, ◌↔◌, ℕ, zero, suc, ◌+◌, ◌-◌, ◌<◌, ◌≤◌, List, [], ◌∷◌, ◌++◌, take, length, Contains, refl, sym, ap, ◌∙◌, subst, arith, true, false, not, cond, inl, inr, ◌⊎◌, Less, Equal, Greater, true≢false}
 use Rattle.std.proofs.lemmas.List.{take_more}
-use Rattle.std.proofs.lemmas.List.Elements.{Contains-append_cases}
+use Rattle.std.proofs.lemmas.List.Elements.{Contains-append_cases, All-contains}
+use Rattle.std.specs.List.{All}
 use Rattle.std.specs.BTreeSet.{insert_key}
 use Rattle.std.specs.Cmp.{tied_itself}
 use Rattle.std.specs.Ordering.{eq_by_cmp, is_eq, match_ordering}
@@ -13,7 +14,7 @@ use Rattle.jf_path.proofs.OrderLaws.{Equal-from_is_eq}
 use Rattle.jf_stale.specs.Marks.{Mark, mark_cmp, with_mark, without_mark}
 use Rattle.jf_stale.proofs.MarkLaws.{mark_cmp_total, mark_cmp-exact}
 use Rattle.jf_standing.proofs.Lists.{Contains-cases, none_in_nothing}
-use Rattle.jf_dir.specs.Holding.{IsMarkIn, AreAdded, AreSomeAdded, AreRemoved}
+use Rattle.jf_dir.specs.Holding.{IsMarkIn, AreAdded, AreSomeAdded, AreRemoved, AreTakenUpto}
 
 -- ---- one mark more
 with-kept : (m k : Mark) (ms : List Mark) → Contains ms k → Contains (with_mark m ms) k
@@ -33,7 +34,7 @@ with-own m (x ∷ xs) = elim (mark_cmp m x) as (λ o. mark_cmp m x ≡ o → Con
 ] refl
 
 with-cases : (m k : Mark) (ms : List Mark) → Contains (with_mark m ms) k → Contains ms k ⊎ (m ≡ k)
-with-cases m k [] has = Contains-cases k m [] has (λ same. inr same) (λ later. inl later)
+with-cases m k [] = λ has. Contains-cases k m [] has (λ same. inr same) (λ later. inl later)
 with-cases m k (x ∷ xs) = elim (mark_cmp m x) as (λ o. Contains (match_ordering o (m ∷ x ∷ xs) (x ∷ xs) (x ∷ insert_key mark_cmp xs m)) k → Contains (x ∷ xs) k ⊎ (m ≡ k)) [
   | Less ↦ λ has. Contains-cases k m (x ∷ xs) has (λ same. inr same) (λ later. inl later)
   | Equal ↦ λ has. inl has
@@ -80,7 +81,7 @@ added-next since names i name old ms new lt is made h =
     (subst (AreAdded since (take i names ++ name ∷ []) old) (sym made) (added_more since (take i names) name old ms h))
 
 in_take : (i : ℕ) (names : List NodeName) (k : NodeName) → Contains (take i names) k → Contains names k
-in_take 0 names k has = absurd (none_in_nothing k has)
+in_take zero names k has = absurd (none_in_nothing k has)
 in_take (suc i) [] k has = has
 in_take (suc i) (x ∷ xs) k has = Contains-cases k x (take i xs) has (λ same. subst (Contains (x ∷ xs)) same (Contains-first x xs)) (λ later. Contains-later k x xs (in_take i xs k later))
 
@@ -126,3 +127,31 @@ pub removed-next : (since : ℕ) (names : List NodeName) (i : ℕ) (name : NodeN
 removed-next since names i name old ms new lt is made h =
     subst (λ xs. AreRemoved since xs old new) (ap (λ n. take i names ++ n ∷ []) is ∙ sym (take_more names i name lt))
     (subst (AreRemoved since (take i names ++ name ∷ []) old) (sym made) (removed_more since (take i names) name old ms h))
+
+-- the least mark is taken
+pub taken-stood : (m : Mark) (old ms new : List Mark) → ms ≡ m ∷ new → ((k : Mark) → Contains ms k → Contains old k) → (k : Mark) → Contains new k → Contains old k
+taken-stood m old ms new is stood k has = stood k (subst (λ xs. Contains xs k) (sym is) (Contains-later k m new has))
+
+pub taken-later : (floor : ℕ) (m : Mark) (old ms new : List Mark) → ms ≡ m ∷ new → m.0 ≤ floor → ((k : Mark) → Contains old k → floor < k.0 → Contains ms k) → (k : Mark) → Contains old k → floor < k.0 → Contains new k
+taken-later floor m old ms new is due later k has late =
+    Contains-cases k m new (subst (λ xs. Contains xs k) is (later k has late))
+    (λ same. absurd (let at = ap (λ (z : Mark). z.0) same in omega arith))
+    (λ there. there)
+
+pub taken-fewer : (m : Mark) (old ms new : List Mark) → ms ≡ m ∷ new → length ms ≤ length old → length new ≤ length old
+taken-fewer m old ms new is few = let long = ap length is in omega arith
+
+-- no mark up to the floor is left
+pub taken-all : (floor before : ℕ) (old ms new : List Mark) → before ≡ length old → length ms ≤ length old → ((k : Mark) → Contains ms k → Contains old k) → ((k : Mark) → Contains old k → floor < k.0 → Contains ms k) → All (λ m. floor < m.0) ms → new ≡ ms → AreTakenUpto floor (before - length new) old new
+taken-all floor before old ms new counted few stood later above same = record {
+  later = λ k. (
+    λ has. let was = subst (λ xs. Contains xs k) same has in (stood k was, All-contains (λ m. floor < m.0) ms k above was),
+    λ has. subst (λ xs. Contains xs k) (sym same) (later k has.0 has.1),
+  );
+  number = let long = ap length same in omega arith;
+}
+
+-- what holds anyway holds of an error
+pub on_any_err : {A E P : Type 0} (r : Result A E) → P → OnErr r P
+on_any_err (Ok x) p = tt
+on_any_err (Err e) p = p

@@ -71,6 +71,11 @@ length_drop (suc k) [] low = absurd (omega arith)
 length_drop (suc k) (x ∷ xs) low = let rest = length_drop k xs (omega arith) in omega arith
 
 -- ---- a landing
+pub nodes-landed : (s : Standing) (m : Map) → length (landed_on format.Two m s).nodes ≡ length s.nodes + length (landing_of format.Two s m).fresh
+nodes-landed s m =
+    length-append (map (marked (landing_of format.Two s m)) s.nodes) (map unmarked (landing_of format.Two s m).fresh)
+    ∙ ap₂ (λ a b. a + b) (length-map s.nodes (marked (landing_of format.Two s m))) (length-map (landing_of format.Two s m).fresh unmarked)
+
 module _ (s : Standing) (m : Map) (u : Update) (read : IsReadStanding s) (sound : IsSound format.Two s) (is_map : IsMap m) (room : len m ≤ 2 ^ 63) (landing : IsLandingUpdate s m u) where
   abbrev old_map : IsMap (map_at s.head s.nodes)
   old_map = IsMap-map_at s.head s.nodes read.keys
@@ -112,11 +117,6 @@ module _ (s : Standing) (m : Map) (u : Update) (read : IsReadStanding s) (sound 
             landing.versions p there ∙ sym (version-placed format.Two s m sound old_map is_map landing.last p there);
       }
 
-  nodes_landed : length (landed_on format.Two m s).nodes ≡ length s.nodes + length (landing_of format.Two s m).fresh
-  nodes_landed =
-      length-append (map (marked (landing_of format.Two s m)) s.nodes) (map unmarked (landing_of format.Two s m).fresh)
-      ∙ ap₂ (λ a b. a + b) (length-map s.nodes (marked (landing_of format.Two s m))) (length-map (landing_of format.Two s m).fresh unmarked)
-
   -- what holds the standing after the landing
   pub held-landed : (b : ℕ) (rs : List (List ℕ)) (xs : List SnapshotValue) (ms ms' : List Mark) (n n' : ℕ) → IsHeld s b rs xs ms n → HasShortValues u.snapshot → AreMarksOf (landed_on format.Two m s).nodes ms' → n' ≡ n + length u.fresh
       → IsHeld (landed_on format.Two m s) b (rs ++ u.root ∷ []) (xs ++ u.snapshot ∷ []) ms' n'
@@ -133,7 +133,7 @@ module _ (s : Standing) (m : Map) (u : Update) (read : IsReadStanding s) (sound 
             (subst (λ v. IsSnapshotAt (landed_on format.Two m s) v u.snapshot) long snapshot-own);
         short = All-append HasShortValues xs (u.snapshot ∷ []) h.short (short, tt);
         marks = marks;
-        count = count ∙ ap₂ (λ a b. a + b) h.count (ap length landing.fresh) ∙ sym nodes_landed;
+        count = count ∙ ap₂ (λ a b. a + b) h.count (ap length landing.fresh) ∙ sym (nodes-landed s m);
       }
 
   -- what holds the standing before the landing
@@ -150,7 +150,7 @@ module _ (s : Standing) (m : Map) (u : Update) (read : IsReadStanding s) (sound 
         snapshots = snapshots-moved (landed_on format.Two m s) s s.floor xs (λ v low high y is. snapshot-unlanded v (omega (arith, length-append xs (x ∷ []))) y is) (snapshots-front (landed_on format.Two m s) s.floor xs x h.snapshots);
         short = all_front HasShortValues xs x h.short;
         marks = marks;
-        count = let all = h.count in let more = nodes_landed in let own = ap length landing.fresh in omega arith;
+        count = let all = h.count in let more = nodes-landed s m in let own = ap length landing.fresh in omega arith;
       }
 
 -- ---- a later floor
@@ -158,7 +158,7 @@ module _ (s : Standing) (floor : ℕ) (low : s.floor ≤ floor) (high : floor �
   version_floored : (w : ℕ) (p : Path) → floor ≤ w → version_at w (with_floor floor s).nodes p ≡ version_at w s.nodes p
   version_floored w p late = ap (λ ns. slice_index_or (map (λ (n : Named). n.0.version) (filter (is_at p) ns)) 0 0) (alive-floored floor w s late)
 
-  floored-read : IsReadStanding s → IsReadStanding (with_floor floor s)
+  pub floored-read : IsReadStanding s → IsReadStanding (with_floor floor s)
   floored-read read = record {
     base_low = let base = read.base_low in omega arith;
     floor_low = high;

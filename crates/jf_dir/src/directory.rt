@@ -146,7 +146,8 @@ impl Directory {
         ensures snapshot { IfSome result (λ s. IsSnapshotAt self.now version s.now) }
     {
         let place = version.checked_sub(self.floor())?;
-        self.snapshots.get(place as usize)
+        let snapshot = self.snapshots.get(place as usize)?;
+        Some(snapshot)
     }
 
     // The snapshot of the floor.
@@ -252,7 +253,7 @@ impl Directory {
             unmark_each(&mut self.marks, since, names);
             return Err(fault);
         }
-        let _ = self.roots.push(update.root);
+        self.roots.push_reserved(update.root);
         self.snapshots.push_back_reserved(snapshot);
         self.count = count;
         Ok(())
@@ -263,6 +264,7 @@ impl Directory {
         requires made { (s : Standing) × IsReadStanding s × IsSound format.Two s × IsLandingUpdate s update.now.snapshot.map update.now × (self.old ≡ landed_on format.Two update.now.snapshot.map s) }
         ensures { (s : Standing) → IsReadStanding s → IsSound format.Two s → IsLandingUpdate s update.now.snapshot.map update.now → self.old ≡ landed_on format.Two update.now.snapshot.map s → self.new ≡ s }
     {
+        update.snapshot.know();
         let since = update.snapshot.version();
         unmark_each(&mut self.marks, since, update.stale.as_slice());
         let _ = self.snapshots.pop_back();

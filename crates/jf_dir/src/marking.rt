@@ -37,6 +37,8 @@ pub(crate) fn take_marks(marks: &mut StaleIndex, floor: u64) -> u64
     ensures after { AreAscendingMarks marks.new }
 {
     let before = marks.len();
-    while marks.take_upto(floor).is_some() {}
+    while let Some(mark) = marks.take_upto(floor) {
+        let _ = mark;
+    }
     before - marks.len()
 }

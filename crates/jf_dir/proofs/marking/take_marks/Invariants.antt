@@ -3,8 +3,8 @@ use Rattle.std.proofs.Common.{◌≡◌, ◌≤◌, ◌<◌, length, Contains}
 use Rattle.jf_stale.specs.Marks.{Mark, AreAscendingMarks}
 use Rattle.jf_dir.proofs.marking.take_marks.Given as goal
 
-abbrev pub invariant-loop : goal.invariant-loop
-invariant-loop l = record {
+abbrev pub invariant-loop-mark : goal.invariant-loop-mark
+invariant-loop-mark l = record {
   counted : l.before ≡ length l.fn.marks;
   ascending : AreAscendingMarks l.fn.marks;
   fewer : length l.marks ≤ length l.fn.marks;
@@ -12,5 +12,5 @@ invariant-loop l = record {
   later : (k : Mark) → Contains l.fn.marks k → l.floor < k.0 → Contains l.marks k;
 }
 
-abbrev pub decreases-loop : goal.decreases-loop
-decreases-loop l = length l.marks
+abbrev pub decreases-loop-mark : goal.decreases-loop-mark
+decreases-loop-mark l = length l.marks
