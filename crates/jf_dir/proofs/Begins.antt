@@ -1,0 +1,116 @@
+-- What holds the standing of one snapshot.
+use Rattle.std.specs.Prelude.{slice_index_or, IsTrue}
+use Rattle.std.proofs.Common.{◌≡◌, ℕ, ◌+◌, ◌-◌, ◌<◌, ◌≤◌, ◌^◌, List, [], ◌∷◌, ◌++◌, map, reverse, length, Contains, refl, sym, ap, ap₂, ◌∙◌, subst, arith, true, Some, None, Option}
+use Rattle.std.proofs.lemmas.List.{reverse-append, length-reverse, length-map}
+use Rattle.std.proofs.lemmas.List.Sorted.{Contains-permutation, IsPermutation-sym, length_permutation}
+use Rattle.std.specs.FinMap.{entries, len}
+use Rattle.std.specs.List.{AllByRecursion}
+use Rattle.std.specs.List.Sorted.{IsPermutation}
+use Rattle.jf_path.specs.Keys.{IsKey, IsBytes}
+use Rattle.jf_path.proofs.ListLaws.{All-of, Contains-first}
+use Rattle.jf_hash.specs.Maps.{Map, IsMap}
+use Rattle.jf_hash.specs.Roots.{root}
+use Rattle.jf_model.specs.Nodes.{Path, is_node, nodes}
+use Rattle.jf_model.proofs.VersionLaws.{root-IsKey}
+use Rattle.jf_codec.specs.declared.format.Format.TheVariants as format
+use Rattle.jf_walk.proofs.NodesListed.{nodes-exact}
+use Rattle.jf_node.specs.SnapshotValue.{SnapshotValue}
+use Rattle.jf_node.specs.Snapshots.{snapshot_version_at, IsSnapshot}
+use Rattle.jf_update.specs.Updates.{version_in, version_or}
+use Rattle.jf_stale.specs.Marks.{Mark}
+use Rattle.jf_standing.specs.Named.{Named, never, leaf_entry, leaf_entries, AreEntries, map_at, version_at}
+use Rattle.jf_standing.specs.Standing.{Standing}
+use Rattle.jf_standing.specs.Sound.{IsSound}
+use Rattle.jf_standing.specs.Building.{floor_standing, nodes_by_name, node_of}
+use Rattle.jf_standing.specs.Next.{IsReadStanding}
+use Rattle.jf_standing.proofs.ByName.{nodes-moved}
+use Rattle.jf_standing.proofs.Floor.{floor-sound, map-floor, version-floor}
+use Rattle.jf_standing.proofs.Leaves.{leaf-which}
+use Rattle.jf_standing.proofs.LeafPaths.{leaf-plain, under-Contains}
+use Rattle.jf_standing.proofs.Lists.{All-each_element, map-which, none_in_nothing}
+use Rattle.jf_standing.proofs.Reordered.{moved-sound, map-moved, version-moved}
+use Rattle.jf_standing.proofs.SpelledRecords.{nodes-are_rising}
+use Rattle.jf_dir.specs.Directories.{IsSnapshotAt, begun_with}
+use Rattle.jf_dir.specs.Holding.{marks_of, AreMarksOf, HasShortValues, IsHeld}
+use Rattle.jf_dir.proofs.MarkMoves.{mark-which}
+
+all_reversed : {X : Type 0} (P : X → Type 0) (xs : List X) → AllByRecursion P xs → (x : X) → Contains xs x → P x
+all_reversed P xs h x has = All-of P xs x h has
+
+module _ (base : ℕ) (earlier : List (List ℕ)) (x : SnapshotValue) (snap : IsSnapshot x) (hashes : AllByRecursion IsKey (root x.map ∷ reverse earlier)) (numbered : base + length earlier ≡ x.version) (last : x.version < never) (room : len x.map ≤ 2 ^ 63) where
+  abbrev floor_made : Standing
+  floor_made = floor_standing format.Two base x.version (root x.map ∷ reverse earlier) x.map (version_in x)
+
+  low : (p : Path) → is_node 0 p (entries x.map) ≡ true → version_in x p ≤ x.version
+  low p node = elim (snapshot_version_at p x) as (λ o. snapshot_version_at p x ≡ o → version_or o ≤ x.version) [
+    | None ↦ λ is. omega arith
+    | Some v ↦ λ is. snap.newest p v is
+  ] refl
+
+  each : length (root x.map ∷ reverse earlier) ≡ x.version - base + 1
+  each = omega (arith, length-reverse earlier, numbered)
+
+  made-sound : IsSound format.Two floor_made
+  made-sound = floor-sound format.Two base x.version (root x.map ∷ reverse earlier) x.map (version_in x) snap.map low last (omega (arith, numbered)) each refl room (ap version_or snap.root)
+
+  moved : IsPermutation floor_made.nodes (nodes_by_name floor_made.nodes)
+  moved = nodes-moved format.Two floor_made made-sound
+
+  pub begun-sound : IsSound format.Two (begun_with base earlier x)
+  begun-sound = moved-sound format.Two floor_made (nodes_by_name floor_made.nodes) made-sound moved
+
+  map_is : map_at x.version (begun_with base earlier x).nodes ≡ x.map
+  map_is = map-moved format.Two floor_made (nodes_by_name floor_made.nodes) made-sound moved x.version (omega arith) (omega arith) ∙ map-floor format.Two base x.version (root x.map ∷ reverse earlier) x.map (version_in x) snap.map low last
+
+  version_is : (p : Path) → is_node 0 p (entries x.map) ≡ true → version_at x.version (begun_with base earlier x).nodes p ≡ version_in x p
+  version_is p node = version-moved format.Two floor_made (nodes_by_name floor_made.nodes) made-sound moved x.version (omega arith) (omega arith) p ∙ version-floor format.Two base x.version (root x.map ∷ reverse earlier) x.map (version_in x) snap.map low last p node
+
+  came : (n : Named) → Contains (begun_with base earlier x).nodes n → Contains floor_made.nodes n
+  came n has = Contains-permutation (nodes_by_name floor_made.nodes) floor_made.nodes n (IsPermutation-sym floor_made.nodes (nodes_by_name floor_made.nodes) moved) has
+
+  keys_are : AreEntries (leaf_entries (begun_with base earlier x).nodes)
+  keys_are = All-each_element _ (leaf_entries (begun_with base earlier x).nodes) (λ e has.
+      let n = leaf-which (begun_with base earlier x).nodes e has in
+      let y = map-which (node_of format.Two (version_in x)) (nodes x.map) n.0 (came n.0 n.1) in
+      let is = (nodes-exact x.map y.0).0 y.1 in
+      let leaf = ap (λ (z : Named). leaf_entry z.1) y.2 ∙ n.2 in
+      let alone = leaf-plain true _ (length y.0.0) y.0.1 e leaf in
+      All-of (λ f. IsKey f.0 × IsBytes f.1) (entries x.map) e snap.map (under-Contains 0 y.0.0 (entries x.map) e (subst (λ es. Contains es e) (sym alone ∙ is.1) (Contains-first e []))))
+
+  pub begun-read : IsReadStanding (begun_with base earlier x)
+  begun-read = record {
+    base_low = omega (arith, numbered);
+    floor_low = omega arith;
+    head_last = last;
+    root_each = each;
+    hashes = hashes;
+    keys = keys_are;
+    rises = nodes-are_rising floor_made.nodes;
+  }
+
+  no_marks : AreMarksOf (begun_with base earlier x).nodes []
+  no_marks k = (
+    λ has. absurd (none_in_nothing k has),
+    λ has. absurd (
+        let n = mark-which (begun_with base earlier x).nodes k has in
+        let y = map-which (node_of format.Two (version_in x)) (nodes x.map) n.0 (came n.0 n.1) in
+        let since : never ≡ n.0.2 = ap (λ (z : Named). z.2) y.2 in
+        let high = n.2 in
+        omega arith),
+  )
+
+  pub nodes-begun : length (begun_with base earlier x).nodes ≡ length (nodes x.map)
+  nodes-begun = length_permutation floor_made.nodes (nodes_by_name floor_made.nodes) moved ∙ length-map (nodes x.map) (node_of format.Two (version_in x))
+
+  pub held-begun : (n : ℕ) → n ≡ length (nodes x.map) → IsHeld (begun_with base earlier x) base (earlier ++ root x.map ∷ []) (x ∷ []) [] n
+  held-begun n is = record {
+    read = begun-read;
+    sound = begun-sound;
+    base = refl;
+    rooted = sym (reverse-append earlier (root x.map ∷ []));
+    long = omega arith;
+    snapshots = (record { version = refl; map = sym map_is; versions = λ p node. sym (version_is p (ap (λ m. is_node 0 p (entries m)) (sym map_is) ∙ node)) }, tt);
+    short = (snap.short, tt);
+    marks = no_marks;
+    count = is ∙ sym nodes-begun;
+  }

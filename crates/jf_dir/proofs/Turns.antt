@@ -1,0 +1,157 @@
+-- What the directory holds after each call, and the standing that this makes.
+use Rattle.std.proofs.Common.{◌≡◌, ℕ, zero, suc, ◌+◌, ◌-◌, ◌<◌, ◌≤◌, ◌^◌, List, [], ◌∷◌, ◌++◌, map, filter, reverse, drop, take, length, Contains, refl, sym, ap, ap₂, ◌∙◌, subst, arith, Bool, inl, inr, Some, None}
+use Rattle.std.proofs.lemmas.List.{length-reverse}
+use Rattle.std.proofs.lemmas.List.Sorted.{Contains-permutation, IsPermutation-reverse, IsPermutation-sym}
+use Rattle.std.specs.FinMap.{entries, len}
+use Rattle.std.specs.FinMap as fin
+use Rattle.std.specs.List.{AllByRecursion}
+use Rattle.jf_path.specs.Keys.{IsKey}
+use Rattle.jf_path.specs.declared.name.NodeName.{NodeName}
+use Rattle.jf_path.specs.declared.node.PlainNode.TheVariants as node
+use Rattle.jf_path.proofs.FilterLaws.{length-filter_le}
+use Rattle.jf_path.proofs.ListLaws.{All-of}
+use Rattle.jf_hash.specs.Maps.{Map}
+use Rattle.jf_hash.specs.Roots.{root}
+use Rattle.jf_hash.specs.Slots.{Part}
+use Rattle.jf_hash.proofs.RootLaws.{entries-empty}
+use Rattle.jf_model.specs.Nodes.{Path, nodes, nodes_below, plain_node}
+use Rattle.jf_model.proofs.NodeLaws.{nodes-none}
+use Rattle.jf_model.proofs.VersionLaws.{root-IsKey}
+use Rattle.jf_codec.specs.declared.format.Format.TheVariants as format
+use Rattle.jf_node.specs.SnapshotValue.{SnapshotValue}
+use Rattle.jf_node.specs.Snapshots.{snapshot_of, IsSnapshot}
+use Rattle.jf_node.specs.declared.update.Update.{Update}
+use Rattle.jf_update.specs.Updates.{version_in}
+use Rattle.jf_stale.specs.Marks.{Mark, AreAscendingMarks}
+use Rattle.jf_standing.specs.Named.{Named, never}
+use Rattle.jf_standing.specs.Standing.{Standing, with_floor}
+use Rattle.jf_standing.specs.Sound.{IsSound}
+use Rattle.jf_standing.specs.Landing.{landing_of}
+use Rattle.jf_standing.specs.Building.{landed_on, new_standing, node_of, nodes_by_name}
+use Rattle.jf_standing.specs.Next.{IsReadStanding}
+use Rattle.jf_standing.proofs.Lands.{map-lands}
+use Rattle.jf_standing.proofs.Leaves.{IsMap-map_at}
+use Rattle.jf_standing.proofs.Lists.{All-each_element}
+use Rattle.jf_dir.specs.Directories.{IsLandingUpdate, begun_with}
+use Rattle.jf_dir.specs.Holding.{standing_held, is_stale_node, AreMarksOf, IsMarkIn, AreAdded, AreSomeAdded, AreRemoved, AreTakenUpto, IsHeld}
+use Rattle.jf_dir.proofs.Begins.{held-begun}
+use Rattle.jf_dir.proofs.Held.{held-is}
+use Rattle.jf_dir.proofs.MarkCounts.{length-marks, count-floored}
+use Rattle.jf_dir.proofs.MarkMoves.{mark-low, marks-landed, marks-unlanded, marks-floored}
+use Rattle.jf_dir.proofs.Moves.{nodes-landed, held-landed, held-unlanded, held-floored, floored-read}
+
+-- what holds a standing holds the standing that it makes
+pub held-again : (s : Standing) (b : ℕ) (rs : List (List ℕ)) (xs : List SnapshotValue) (ms : List Mark) (n : ℕ) → IsHeld s b rs xs ms n → IsHeld (standing_held b rs xs) b rs xs ms n
+held-again s b rs xs ms n h = subst (λ t. IsHeld t b rs xs ms n) (sym (held-is s b rs xs ms n h)) h
+
+last_apart : {X : Type 0} (xs : List X) (k : ℕ) → length xs ≡ suc k → (x : X) × (xs ≡ take k xs ++ x ∷ [])
+last_apart [] k long = absurd (omega arith)
+last_apart (x ∷ []) zero long = (x, refl)
+last_apart (x ∷ y ∷ xs) zero long = absurd (omega arith)
+last_apart (x ∷ xs) (suc k) long = let rest = last_apart xs k (omega arith) in (rest.0, ap (λ zs. x ∷ zs) rest.1)
+
+-- the last element of a list that isn't empty, apart
+pub popped : {X : Type 0} (old new : List X) (k : ℕ) → k ≡ length old → new ≡ take (k - 1) old → 0 < length old → (x : X) × (old ≡ new ++ x ∷ [])
+popped old new k full is some =
+    let cut = last_apart old (k - 1) (omega arith) in
+    (cut.0, cut.1 ∙ ap (λ xs. xs ++ cut.0 ∷ []) (sym is))
+
+-- ---- a landing
+module _ (s : Standing) (b : ℕ) (rs : List (List ℕ)) (xs : List SnapshotValue) (ms : List Mark) (n : ℕ) (h : IsHeld s b rs xs ms n) (u : Update) (landing : IsLandingUpdate s u.snapshot.map u) (snap : IsSnapshot u.snapshot) (room : len u.snapshot.map ≤ 2 ^ 63) where
+  pub turn-landed : (rs' : List (List ℕ)) (xs' : List SnapshotValue) (x : SnapshotValue) (ms' : List Mark) (n' since : ℕ) (names : List NodeName) → rs' ≡ rs ++ u.root ∷ [] → xs' ≡ xs ++ x ∷ [] → x ≡ u.snapshot → since ≡ u.snapshot.version → names ≡ u.stale → AreAdded since names ms ms' → n' ≡ n + length u.fresh
+      → IsHeld (landed_on format.Two u.snapshot.map s) b rs' xs' ms' n'
+  turn-landed rs' xs' x ms' n' since names rooted more own at named added count =
+      let m = u.snapshot.map in
+      let marked_ : AreAdded (s.head + 1) (landing_of format.Two s m).stale ms ms' = subst (λ v. AreAdded v (landing_of format.Two s m).stale ms ms') (at ∙ landing.version) (subst (λ ns. AreAdded since ns ms ms') (named ∙ landing.stale) added) in
+      let marks = marks-landed s m h.sound (IsMap-map_at s.head s.nodes h.read.keys) snap.map landing.last ms ms' h.marks marked_ in
+      let held = held-landed s m u h.read h.sound snap.map room landing b rs xs ms ms' n n' h snap.short marks count in
+      subst (λ ts. IsHeld (landed_on format.Two m s) b ts xs' ms' n') (sym rooted)
+      (subst (λ ys. IsHeld (landed_on format.Two m s) b (rs ++ u.root ∷ []) ys ms' n') (ap (λ y. xs ++ y ∷ []) (sym own) ∙ sym more) held)
+
+  -- marks that were added in part and then removed
+  pub turn-kept : (rs' : List (List ℕ)) (xs' : List SnapshotValue) (ms₁ ms₂ : List Mark) (since : ℕ) (names : List NodeName) → rs' ≡ rs → xs' ≡ xs → since ≡ u.snapshot.version → AreSomeAdded since names ms ms₁ → AreRemoved since names ms₁ ms₂ → IsHeld s b rs' xs' ms₂ n
+  turn-kept rs' xs' ms₁ ms₂ since names rooted same at added removed =
+      let version = landing.version in
+      let held : IsHeld s b rs xs ms₂ n = record {
+        read = h.read;
+        sound = h.sound;
+        base = h.base;
+        rooted = h.rooted;
+        long = h.long;
+        snapshots = h.snapshots;
+        short = h.short;
+        marks = λ k. (
+          λ has. elim (added.own k (removed.stood k has)) [ inl old ↦ (h.marks k).0 old | inr is ↦ absurd (removed.none k has is) ],
+          λ has. removed.rest k (added.kept k ((h.marks k).1 has)) (λ is. let most = mark-low s h.sound k has in let here = is.0 in omega arith),
+        );
+        count = h.count;
+      } in
+      subst (λ ts. IsHeld s b ts xs' ms₂ n) (sym rooted) (subst (λ ys. IsHeld s b rs ys ms₂ n) (sym same) held)
+
+-- ---- a landing taken back
+pub turn-unlanded : (s : Standing) (b : ℕ) (rs rs' : List (List ℕ)) (xs xs' : List SnapshotValue) (ms ms' : List Mark) (n k j since count : ℕ) (names : List NodeName) (u : Update) → IsReadStanding s → IsSound format.Two s → IsLandingUpdate s u.snapshot.map u → IsSnapshot u.snapshot
+    → IsHeld (landed_on format.Two u.snapshot.map s) b rs xs ms n → k ≡ length rs → rs' ≡ take (k - 1) rs → j ≡ length xs → xs' ≡ take (j - 1) xs → since ≡ u.snapshot.version → names ≡ u.stale → AreRemoved since names ms ms' → count ≡ length u.fresh → IsHeld s b rs' xs' ms' (n - count)
+turn-unlanded s b rs rs' xs xs' ms ms' n k j since count names u read sound landing snap h rooted rs_are full xs_are at named removed number =
+    let m = u.snapshot.map in
+    let old = IsMap-map_at s.head s.nodes read.keys in
+    let low = sound.floor_low in
+    let room : len m ≤ 2 ^ 63 = subst (λ q. len q ≤ 2 ^ 63) (map-lands format.Two s m sound old snap.map landing.last) (h.sound.versions (s.head + 1) (omega arith) (omega arith)).room in
+    let removed_ : AreRemoved (s.head + 1) (landing_of format.Two s m).stale ms ms' = subst (λ v. AreRemoved v (landing_of format.Two s m).stale ms ms') (at ∙ landing.version) (subst (λ ns. AreRemoved since ns ms ms') (named ∙ landing.stale) removed) in
+    let marks = marks-unlanded s m sound old snap.map landing.last ms ms' h.marks removed_ in
+    let all_roots : length rs ≡ suc (length s.roots) = sym (ap length h.rooted ∙ length-reverse rs) in
+    let r = popped rs rs' k rooted rs_are (omega arith) in
+    let long = h.long in
+    let x = popped xs xs' j full xs_are (omega arith) in
+    let held : IsHeld (landed_on format.Two m s) b (rs' ++ r.0 ∷ []) (xs' ++ x.0 ∷ []) ms n = subst (λ ts. IsHeld (landed_on format.Two m s) b ts (xs' ++ x.0 ∷ []) ms n) r.1 (subst (λ ys. IsHeld (landed_on format.Two m s) b rs ys ms n) x.1 h) in
+    let fewer : n - count + length u.fresh ≡ n = let all = h.count in let own = ap length landing.fresh in let sum = nodes-landed s m in omega arith in
+    held-unlanded s m u read sound snap.map room landing b rs' r.0 xs' x.0 ms ms' n (n - count) held marks fewer
+
+-- ---- a later floor
+-- no more marks are taken than there are nodes
+pub taken-few : (s : Standing) (b : ℕ) (rs : List (List ℕ)) (xs : List SnapshotValue) (ms ms' : List Mark) (n floor count : ℕ) → IsHeld s b rs xs ms n → AreAscendingMarks ms → AreTakenUpto floor count ms ms' → count ≤ n
+taken-few s b rs xs ms ms' n floor count h up taken =
+    let all = length-marks s.nodes ms h.read.rises up h.marks in
+    let most = length-filter_le is_stale_node s.nodes in
+    let number = taken.number in
+    let full = h.count in
+    omega arith
+
+pub turn-floored : (s : Standing) (b : ℕ) (rs : List (List ℕ)) (xs xs' : List SnapshotValue) (ms ms' : List Mark) (n floor count dropped : ℕ) → IsHeld s b rs xs ms n → s.floor ≤ floor → floor ≤ s.head → xs' ≡ drop dropped xs → dropped ≡ floor - s.floor → AreAscendingMarks ms → AreAscendingMarks ms' → AreTakenUpto floor count ms ms'
+    → IsHeld (with_floor floor s) b rs xs' ms' (n - count)
+turn-floored s b rs xs xs' ms ms' n floor count dropped h low high rest at up up' taken =
+    let last = h.sound.head_last in
+    subst (λ ys. IsHeld (with_floor floor s) b rs ys ms' (n - count)) (ap (λ i. drop i xs) (sym at) ∙ sym rest)
+    (held-floored s floor low high b rs xs ms ms' n (n - count) h (marks-floored s floor count ms ms' h.marks taken)
+    (count-floored s floor count n ms ms' h.read (floored-read s floor low high h.read) (omega arith) up up' h.marks taken h.count))
+
+-- ---- one snapshot
+pub turn-begun : (base : ℕ) (earlier : List (List ℕ)) (x : SnapshotValue) (r : List ℕ) (rs : List (List ℕ)) (none xs : List SnapshotValue) (ms : List Mark) (n : ℕ) → IsSnapshot x → AllByRecursion IsKey earlier → base + length earlier ≡ x.version → x.version < never → len x.map ≤ 2 ^ 63
+    → r ≡ root x.map → rs ≡ earlier ++ r ∷ [] → none ≡ [] → xs ≡ none ++ x ∷ [] → ms ≡ [] → n ≡ length (nodes x.map) → IsHeld (begun_with base earlier x) base rs xs ms n
+turn-begun base earlier x r rs none xs ms n snap keys numbered last room root_is rooted empty one unmarked_ count =
+    let hashes : AllByRecursion IsKey (root x.map ∷ reverse earlier) = (root-IsKey x.map, All-each_element IsKey (reverse earlier) (λ k has. All-of IsKey earlier k keys (Contains-permutation (reverse earlier) earlier k (IsPermutation-sym earlier (reverse earlier) (IsPermutation-reverse earlier)) has))) in
+    let held = held-begun base earlier x snap hashes numbered last room n count in
+    subst (λ ts. IsHeld (begun_with base earlier x) base ts xs ms n) (ap (λ k. earlier ++ k ∷ []) (sym root_is) ∙ sym rooted)
+    (subst (λ ys. IsHeld (begun_with base earlier x) base (earlier ++ root x.map ∷ []) ys ms n) (ap (λ zs. zs ++ x ∷ []) (sym empty) ∙ sym one)
+    (subst (λ ks. IsHeld (begun_with base earlier x) base (earlier ++ root x.map ∷ []) (x ∷ []) ks n) (sym unmarked_) held))
+
+-- ---- the empty map
+pub nodes-empty : nodes fin.empty ≡ ([], []) ∷ []
+unfolding nodes
+nodes-empty = ap (nodes_below 64 0) entries-empty ∙ nodes-none
+
+abbrev none_map : Map
+none_map = fin.empty
+
+pub len-empty_map : len none_map ≤ 2 ^ 63
+len-empty_map = omega (arith, fin.len-entries none_map, ap length entries-empty)
+
+one_node : (v w : Path → ℕ) → v [] ≡ w [] → nodes_by_name (map (node_of format.Two v) (([], []) ∷ [])) ≡ nodes_by_name (map (node_of format.Two w) (([], []) ∷ []))
+unfolding plain_node
+one_node v w same = ap (λ (k : ℕ). (record { version = k; path = [] }, node.Null, never) ∷ []) same
+
+begun-nodes : (v w : Path → ℕ) → v [] ≡ w [] → nodes_by_name (map (node_of format.Two v) (nodes fin.empty)) ≡ map (node_of format.Two w) (nodes fin.empty)
+unfolding plain_node
+begun-nodes v w same = ap (λ (ps : List (Path × Part)). nodes_by_name (map (node_of format.Two v) ps)) nodes-empty ∙ one_node v w same ∙ ap (map (node_of format.Two w)) (sym nodes-empty)
+
+pub begun-new : begun_with 0 [] (snapshot_of 0 None) ≡ new_standing format.Two
+begun-new = ap (λ (ns : List Named). record { base = 0; floor = 0; head = 0; roots = root fin.empty ∷ []; nodes = ns }) (begun-nodes (version_in (snapshot_of 0 None)) (λ path. 0) refl)

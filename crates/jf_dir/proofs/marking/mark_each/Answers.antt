@@ -1,0 +1,8 @@
+use Rattle.jf_dir.proofs.MarkSteps.{added-next, added-front, on_any_err}
+use Rattle.jf_dir.proofs.marking.mark_each.Goals as goal
+
+pub returns-in_err-mark-clause-err : goal.returns-in_err-mark-clause-err
+returns-in_err-mark-clause-err c = on_any_err c.from_residual.result (added-front c.args.since c.args.names.now c.loop-name.name-index c.args.marks.now c.loop-name.marks c.mark.new.self c.in_err-mark.ensures.err c.loop-name.invariant)
+
+pub loop-name-preserved : goal.loop-name-preserved
+loop-name-preserved c = added-next c.args.since c.args.names.now c.loop-name.name-index c.name-item.result c.args.marks.now c.loop-name.marks c.mark.new.self c.loop-name-test.true c.name-item.is c.in_ok-mark.ensures.ok c.loop-name.invariant

@@ -1,0 +1,10 @@
+//! The directory of a store: the versions from floor to head as snapshots, and the named nodes that they keep.
+#![tactic(auto)]
+
+mod counting;
+mod directory;
+mod front;
+mod marking;
+mod roots;
+
+pub use directory::Directory;
