@@ -1,0 +1,5 @@
+pub mod Kept
+pub mod Nodes
+pub mod Puts
+pub mod Read
+pub mod Verdicts
