@@ -1,15 +1,13 @@
 -- The node of a name in a snapshot, found by a walk from the top.
-use Rattle.std.proofs.Common.{◌≡◌, ℕ, ◌+◌, Option, Some, None, [], ◌∷◌, sym, ap, ◌∙◌, subst, refl, true, length}
+use Rattle.std.proofs.Common.{◌≡◌, ℕ, ◌+◌, Some, None, [], ◌∷◌, sym, ap, ◌∙◌, refl, true, length}
 use Rattle.std.specs.FinMap.{entries}
 use Rattle.std.specs.Option.{is_some}
 use Rattle.jf_path.specs.declared.name.NodeName.{NodeName}
 use Rattle.jf_hash.specs.Slots.{Part}
-use Rattle.jf_model.specs.ChildEntries.{sub, child_entries}
+use Rattle.jf_model.specs.ChildEntries.{sub}
 use Rattle.jf_model.specs.Nodes.{Path, under, is_node}
 use Rattle.jf_walk.proofs.ChildEntryLaws.{sub-none}
 use Rattle.jf_walk.proofs.SubLaws.{sub-under}
-use Rattle.jf_node.specs.Children.{content}
-use Rattle.jf_node.specs.LinkFacts.{IsLink, IsLinkIf}
 use Rattle.jf_node.specs.LinkValue.{LinkValue, link_version_at}
 use Rattle.jf_node.specs.SnapshotValue.{SnapshotValue}
 use Rattle.jf_node.specs.Snapshots.{IsTopOf, IsSnapshot, snapshot_version_at}

@@ -121,8 +121,7 @@ module _ (fmt : Format) (s : Standing) (c : Commit) (sound : IsSound fmt s) (goe
   stale-at_head name has =
       let n = stood name has in
       let alive = named_alive n.0 n.1 (subst (λ k. Contains c.stale k) (sym n.2) has) in
-      let at : n.0.0.path ≡ name.path = ap (λ k. k.path) n.2 in
-      (
+      let at : n.0.0.path ≡ name.path = ap (λ k. k.path) n.2 in (
         test_so _ _ (stands fmt s sound s.head sound.floor_low (omega arith) name.path) (count-some (is_at name.path) (alive_at s.head s.nodes) n.0 alive (at-so name.path n.0 at)),
         version-of s.head s.nodes name.path n.0 (few-alive fmt s sound s.head sound.floor_low (omega arith) name.path) alive at ∙ ap (λ k. k.version) n.2,
       )

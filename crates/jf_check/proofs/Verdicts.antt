@@ -19,9 +19,18 @@ use Rattle.jf_standing.proofs.Formats.{sound_kept, leaves_kept, map_kept, versio
 use Rattle.jf_standing.proofs.Lands.{lands, continues}
 use Rattle.jf_standing.proofs.Leaves.{IsMap-map_at}
 use Rattle.jf_standing.proofs.Lists.{All-each_element}
+use Rattle.jf_standing.specs.Same.{same_commit}
+use Rattle.jf_standing.proofs.Same.{commit-exact}
+use Rattle.jf_node.specs.declared.update.Update.{Update}
+use Rattle.jf_dir.specs.Directories.{IsLandingUpdate}
 use Rattle.jf_check.specs.Changes.{changes_of}
+use Rattle.jf_check.specs.Kept.{landing_read}
 use Rattle.jf_check.specs.Next.{read_map, MayBeNext, IsAsLanded, IsNameAtHead}
 use Rattle.jf_check.proofs.Read.{apply-changes_of, stale-at_head}
+
+-- an update that a landing makes writes what the landing writes
+landing_read-is : (s : Standing) (m : Map) (u : Update) → IsLandingUpdate s m u → landing_read u ≡ landing_of format.Two s m
+landing_read-is s m u is = λ i. record { version = is.version i; root = is.root i; fresh = is.fresh i; stale = is.stale i }
 
 module _ (fmt : Format) (s : Standing) (sound : IsSound format.Two s) (keys : AreEntries (leaf_entries s.nodes)) where
   kept_sound : IsSound fmt (standing_in fmt s)
@@ -39,10 +48,17 @@ module _ (fmt : Format) (s : Standing) (sound : IsSound format.Two s) (keys : Ar
   taken m c own room last is =
       let old = standing_in fmt s in
       let old_map = IsMap-map_at old.head old.nodes kept_keys in
-      subst (λ (d : Commit). Continues old d × IsSound fmt (with_commit d old) × (standing_in fmt (landed_on format.Two m s) ≡ with_commit d old)) (sym is)
-      (subst (λ (d : Commit). Continues old d) (landing_kept fmt s m) (continues fmt old m kept_sound old_map own last),
+      subst (λ (d : Commit). Continues old d × IsSound fmt (with_commit d old) × (standing_in fmt (landed_on format.Two m s) ≡ with_commit d old)) (sym is) (
+        subst (λ (d : Commit). Continues old d) (landing_kept fmt s m) (continues fmt old m kept_sound old_map own last),
         subst (λ (d : Commit). IsSound fmt (with_commit d old)) (landing_kept fmt s m) (lands fmt old m kept_sound old_map own last room),
-        sym (commit_kept fmt s (landing_of format.Two s m)))
+        sym (commit_kept fmt s (landing_of format.Two s m)),
+      )
+
+  -- a landing that equals what the format keeps of an update is taken
+  pub same-taken : (u : Update) (c : Commit) → IsLandingUpdate s u.snapshot.map u → IsMap u.snapshot.map → len u.snapshot.map ≤ 2 ^ 63 → same_commit c (commit_in fmt (landing_read u)) ≡ true
+      → Continues (standing_in fmt s) c × IsSound fmt (with_commit c (standing_in fmt s)) × (standing_in fmt (landed_on format.Two u.snapshot.map s) ≡ with_commit c (standing_in fmt s))
+  same-taken u c made own room same =
+      taken u.snapshot.map c own room made.last ((commit-exact c (commit_in fmt (landing_read u))).0 same ∙ ap (commit_in fmt) (landing_read-is s u.snapshot.map u made))
 
   module _ (c : Commit) (own : AreEntries (fresh_leaves c)) (order : IsInOrder c) (goes : Continues (standing_in fmt s) c) (after : IsSound fmt (with_commit c (standing_in fmt s))) where
     same_read : read_map s c ≡ apply (head_map (standing_in fmt s)) (batch_of (standing_in fmt s) c)
@@ -66,3 +82,7 @@ module _ (fmt : Format) (s : Standing) (sound : IsSound format.Two s) (keys : Ar
     sound-IsAsLanded =
         let is = (decided fmt (standing_in fmt s) c kept_sound kept_keys own order).0 (goes, after) in
         is.2 ∙ ap (landing_of fmt (standing_in fmt s)) (sym same_read) ∙ landing_kept fmt s (read_map s c)
+
+    -- a sound landing equals what the format keeps of the update that is built anew
+    pub sound-same : (u : Update) → IsLandingUpdate s (read_map s c) u → same_commit c (commit_in fmt (landing_read u)) ≡ true
+    sound-same u made = (commit-exact c (commit_in fmt (landing_read u))).1 (sound-IsAsLanded ∙ ap (commit_in fmt) (sym (landing_read-is s (read_map s c) u made)))

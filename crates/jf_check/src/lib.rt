@@ -3,8 +3,10 @@
 #![tactic(auto)]
 
 mod changes;
+mod commit;
 mod fault;
 mod named;
 mod same;
 
+pub use commit::check;
 pub use fault::CheckFault;

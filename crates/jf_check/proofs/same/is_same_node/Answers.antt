@@ -1,6 +1,5 @@
 use Rattle.std.proofs.Common.{ap, ap₂, ◌∙◌, sym, map}
 use Rattle.std.specs.Cmp.Lexicographic.{pointwise}
-use Rattle.jf_path.specs.declared.node.PlainNode.TheVariants as node
 use Rattle.jf_codec.specs.Counted.{in_format}
 use Rattle.jf_standing.specs.Same.{same_child, same_node}
 use Rattle.jf_check.specs.Kept.{child_in_format}
