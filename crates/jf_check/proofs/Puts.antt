@@ -1,5 +1,6 @@
 -- Changes that are put one by one, from the last node of a list to the first.
-use Rattle.std.proofs.Common.{◌≡◌, ℕ, ◌+◌, ◌-◌, ◌<◌, ◌≤◌, List, [], ◌∷◌, ◌++◌, map, length, drop, get_or, drop-cons, Some, None, refl, sym, ap, ◌∙◌, arith, add-one}
+use Rattle.std.proofs.Common.{◌≡◌, ℕ, ◌+◌, ◌-◌, ◌<◌, ◌≤◌, List, [], ◌∷◌, ◌++◌, map, length, drop, get_or, drop-cons, Some, None, refl, sym, ap, ◌∙◌, arith, add-one, reverse}
+use Rattle.std.proofs.lemmas.List.{get_or-reverse, length-reverse, length_push}
 use Rattle.std.specs.BTreeMap.{insert_entry}
 use Rattle.std.specs.FinMap.{put, entries}
 use Rattle.jf_path.specs.Keys.{key_cmp}
@@ -56,3 +57,16 @@ pub put-removal-at : (m : Map) (names : List NodeName) (i : ℕ) (x : NodeName) 
 put-removal-at m names i x key b old new some low at is was now =
     now ∙ insert_entry-put key None old ∙ ap (put key_cmp key None) was ∙ sym (put-removal m x (drop i names) key b is)
     ∙ ap (λ xs. put_each (removals_of (leaves_at m xs)) b) (ap (λ (y : NodeName). y ∷ drop i names) at ∙ sym (drop-up names i x some low))
+
+-- ---- a list from its last element to its first
+module _ {X : Type 0} where
+  -- the place of the element that comes after n others
+  pub place-reversed : (xs : List X) (n : ℕ) (x : X) → n < length (reverse xs) → x ≡ get_or (reverse xs) n x → (0 < length xs - n) × (length xs - n ≤ length xs) × (x ≡ get_or xs ((length xs - n) - 1) x)
+  place-reversed xs n x some is =
+      let low : n < length xs = omega (arith, some, length-reverse xs) in
+      let same : (length xs - 1) - n ≡ (length xs - n) - 1 = omega arith in
+      (omega arith, omega arith, is ∙ get_or-reverse xs n x low ∙ ap (λ k. get_or xs k x) same)
+
+-- the next element stands one place lower
+pub next-reversed : {Y : Type 0} (n : ℕ) (ys : List Y) (y : Y) → (n - length ys) - 1 ≡ n - length (ys ++ y ∷ [])
+next-reversed n ys y = omega (arith, length_push ys y)

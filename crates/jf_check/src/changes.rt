@@ -24,8 +24,8 @@ fn removals(
     ensures unsound { result ≡ Err CheckFault.Unsound → AllByRecursion (IsNameIn snapshot.now) names.now → ⊥ }
 {
     let mut changes = BTreeMap::new(alloc);
-    for i in (0..names.len()).rev() {
-        if let Some(key) = key_at(snapshot, &names[i])? {
+    for name in names.iter().rev() {
+        if let Some(key) = key_at(snapshot, name)? {
             changes.insert(key, None)?;
         }
     }
@@ -40,8 +40,8 @@ fn put_leaves(
 ) -> Result<(), Memory>
     ensures { OnOk result (changes.new.entries ≡ put_each (map (λ e. (e.0, Some e.1)) (leaf_entries (map unmarked nodes.now))) changes.old.entries) }
 {
-    for i in (0..nodes.len()).rev() {
-        if let PlainNode::Leaf { key, value } = &nodes[i].1 {
+    for node in nodes.iter().rev() {
+        if let PlainNode::Leaf { key, value } = &node.1 {
             let value = SharedBytes::copy_of(alloc, value.as_slice())?;
             changes.insert(*key, Some(value))?;
         }

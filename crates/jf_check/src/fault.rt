@@ -3,7 +3,7 @@ ghost use Rattle.std.specs.Prelude.{◌≡◌};
 ghost use Rattle.jf_check.specs.declared.fault.CheckFault.TheVariants as fault;
 
 use jf_path::Memory;
-use std::alloc::{AllocError, AllocFailed};
+use std::alloc::AllocFailed;
 
 /// Why what was read isn't taken.
 #[derive(Clone, Copy, Debug, PartialEq, Eq)]
@@ -18,14 +18,6 @@ impl From<Memory> for CheckFault {
     ghost from_gives = { λ _ e. e ≡ fault.Memory };
 
     fn from(_: Memory) -> Self {
-        CheckFault::Memory
-    }
-}
-
-impl From<AllocError> for CheckFault {
-    ghost from_gives = { λ _ e. e ≡ fault.Memory };
-
-    fn from(_: AllocError) -> Self {
         CheckFault::Memory
     }
 }
