@@ -1,0 +1,4 @@
+pub mod Chains
+pub mod Landings
+pub mod Floors
+pub mod Checkpoints

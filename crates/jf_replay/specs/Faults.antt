@@ -1,0 +1,18 @@
+-- What is told of a record that isn't taken.
+use Rattle.std.specs.Prelude.{ℕ}
+use Rattle.jf_payload.specs.declared.fault.RecordFault.{RecordFault}
+use Rattle.jf_payload.specs.declared.fault.RecordFault.TheVariants as record_fault
+use Rattle.jf_check.specs.declared.fault.CheckFault.{CheckFault}
+use Rattle.jf_check.specs.declared.fault.CheckFault.TheVariants as check_fault
+use Rattle.jf_replay.specs.declared.fault.ReplayFault.{ReplayFault}
+use Rattle.jf_replay.specs.declared.fault.ReplayFault.TheVariants as fault
+
+-- a payload that spells no record is unsound at the record's offset
+abbrev pub undecoded : ℕ → RecordFault → ReplayFault
+undecoded at record_fault.Bad = fault.Unsound at
+undecoded at record_fault.Memory = fault.Memory
+
+-- a record that isn't taken is unsound at its offset
+abbrev pub refused : ℕ → CheckFault → ReplayFault
+refused at check_fault.Unsound = fault.Unsound at
+refused at check_fault.Memory = fault.Memory

@@ -1,0 +1,35 @@
+// Why records lead to no directory.
+ghost use Rattle.std.specs.Prelude.{◌≡◌};
+ghost use Rattle.jf_replay.specs.Faults.{undecoded, refused};
+
+use jf_check::CheckFault;
+use jf_payload::RecordFault;
+
+/// Why records lead to no directory.
+#[derive(Clone, Copy, Debug, PartialEq, Eq)]
+pub enum ReplayFault {
+    /// The offset of the first record that isn't sound, in bytes from the file's start.
+    Unsound { offset: u64 },
+    /// Out of memory.
+    Memory,
+}
+
+/// The fault of a record at an offset whose payload was not decoded.
+pub(crate) fn undecoded_at(offset: u64, fault: RecordFault) -> ReplayFault
+    ensures { result ≡ undecoded offset fault }
+{
+    match fault {
+        RecordFault::Bad => ReplayFault::Unsound { offset },
+        RecordFault::Memory => ReplayFault::Memory,
+    }
+}
+
+/// The fault of a record at an offset that was checked.
+pub(crate) fn refused_at(offset: u64, fault: CheckFault) -> ReplayFault
+    ensures { result ≡ refused offset fault }
+{
+    match fault {
+        CheckFault::Unsound => ReplayFault::Unsound { offset },
+        CheckFault::Memory => ReplayFault::Memory,
+    }
+}

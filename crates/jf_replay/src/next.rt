@@ -1,0 +1,41 @@
+// The next record of a journal is decoded and taken, or its offset is told.
+ghost use Rattle.std.specs.Prelude.{◌≡◌, ℕ, ◌≤◌, Err, OnOk};
+ghost use Rattle.jf_frame.specs.Framed.{lent_as};
+ghost use Rattle.jf_standing.specs.Standing.{Standing};
+ghost use Rattle.jf_standing.specs.Leading.{ItemFollows};
+ghost use Rattle.jf_standing.specs.FormatLaws.{standing_in};
+ghost use Rattle.jf_files.specs.Files.{item};
+
+use crate::fault::{ReplayFault, refused_at, undecoded_at};
+use crate::later::take;
+use jf_codec::Format;
+use jf_dir::Directory;
+use jf_frame::FramedRef;
+use jf_payload::{decode, spelled_is_spelling};
+use std::alloc::Global;
+use std::thread::Threads;
+
+/// Takes the next record. Refused with `Unsound`, and the record's offset, if its payload spells no record that the
+/// directory takes; after a refusal the directory may have taken some landings of a group.
+pub(crate) fn take_next<H: Threads + Sync>(
+    rt: &H,
+    alloc: Global,
+    directory: &mut Directory,
+    framed: FramedRef<'_>,
+    format: Format,
+    workers: u64,
+) -> Result<(), ReplayFault>
+    requires positive { 1 ≤ workers }
+    requires bounded { workers ≤ 64 }
+    ensures taken { OnOk result (ItemFollows format (standing_in format directory.old) (item format (lent_as framed.entry)) (standing_in format directory.new)) }
+    ensures unsound { (at : ℕ) → result ≡ Err (ReplayFault.Unsound at) → (at ≡ framed.entry.offset) × ((s : Standing) → ItemFollows format (standing_in format directory.old) (item format (lent_as framed.entry)) s → ⊥) }
+{
+    spelled_is_spelling();
+    match decode(alloc, framed.kind, framed.payload, format) {
+        Ok(found) => match take(rt, alloc, directory, &found, format, workers) {
+            Ok(()) => Ok(()),
+            Err(fault) => Err(refused_at(framed.offset, fault)),
+        },
+        Err(fault) => Err(undecoded_at(framed.offset, fault)),
+    }
+}
