@@ -11,7 +11,7 @@ use Rattle.jf_walk.proofs.SubLaws.{sub-under}
 use Rattle.jf_node.specs.LinkValue.{LinkValue, link_version_at}
 use Rattle.jf_node.specs.SnapshotValue.{SnapshotValue}
 use Rattle.jf_node.specs.Snapshots.{IsTopOf, IsSnapshot, snapshot_version_at}
-use Rattle.jf_update.specs.Below.{IsBelow}
+use Rattle.jf_diff.specs.Below.{IsBelow}
 use Rattle.jf_check.specs.Changes.{IsAtPath, IsNameIn}
 
 -- ---- one step down

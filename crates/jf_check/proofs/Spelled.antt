@@ -26,7 +26,7 @@ use Rattle.jf_standing.proofs.Lists.{All-each_element}
 use Rattle.jf_node.specs.SnapshotValue.{SnapshotValue}
 use Rattle.jf_node.specs.Snapshots.{IsSnapshot, snapshot_version_at}
 use Rattle.jf_update.specs.Outcomes.{AreShort}
-use Rattle.jf_update.specs.Updates.{version_or}
+use Rattle.jf_diff.specs.Landings.{version_or}
 use Rattle.jf_dir.specs.Directories.{IsSnapshotAt}
 use Rattle.jf_check.specs.Changes.{changes_of, leaves_at, IsNameIn}
 use Rattle.jf_check.specs.Next.{IsNameAtHead}

@@ -6,25 +6,12 @@ ghost use Rattle.jf_model.specs.Nodes.{under};
 ghost use Rattle.jf_model.specs.ChildEntries.{sub};
 ghost use Rattle.jf_node.specs.LinkValue.{link_version_at};
 ghost use Rattle.jf_node.specs.Snapshots.{IsTopOf};
-ghost use Rattle.jf_update.specs.Below.{IsBelow};
 ghost use Rattle.jf_check.specs.Changes.{IsNameIn, IsAtPath, sole, removal_of};
 
 use crate::fault::CheckFault;
+use jf_diff::child_of;
 use jf_node::{Link, Seen, Snapshot};
-use jf_path::{Key, Nibble, NibblePath, NodeName};
-
-/// The child of a node at nibble `n`, if there is one.
-fn child_of(link: &Link, n: Nibble) -> Option<&Link>
-    ensures { IsBelow link.now n (option_copied result) }
-{
-    match link.view() {
-        Seen::Leaf { .. } => None,
-        Seen::Inner { children } => {
-            children.know();
-            children.get(n)
-        }
-    }
-}
+use jf_path::{Key, NibblePath, NodeName};
 
 /// The node at a path below a node, if there is one.
 fn node_below<'a>(link: &'a Link, path: &NibblePath) -> Option<&'a Link>

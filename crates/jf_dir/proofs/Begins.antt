@@ -16,7 +16,7 @@ use Rattle.jf_codec.specs.declared.format.Format.TheVariants as format
 use Rattle.jf_walk.proofs.NodesListed.{nodes-exact}
 use Rattle.jf_node.specs.SnapshotValue.{SnapshotValue}
 use Rattle.jf_node.specs.Snapshots.{snapshot_version_at, IsSnapshot}
-use Rattle.jf_update.specs.Updates.{version_in, version_or}
+use Rattle.jf_diff.specs.Landings.{version_in, version_or}
 use Rattle.jf_stale.specs.Marks.{Mark}
 use Rattle.jf_standing.specs.Named.{Named, never, leaf_entry, leaf_entries, AreEntries, map_at, version_at}
 use Rattle.jf_standing.specs.Standing.{Standing}

@@ -11,7 +11,7 @@ use Rattle.jf_model.specs.Nodes.{Path, is_node, nodes, plain_node}
 use Rattle.jf_codec.specs.declared.format.Format.TheVariants as format
 use Rattle.jf_walk.proofs.NodesListed.{nodes-exact}
 use Rattle.jf_node.specs.SnapshotValue.{SnapshotValue}
-use Rattle.jf_update.specs.Updates.{version_in}
+use Rattle.jf_diff.specs.Landings.{version_in}
 use Rattle.jf_stale.specs.Marks.{Mark}
 use Rattle.jf_standing.specs.Named.{Named, never, map_at, version_at}
 use Rattle.jf_standing.specs.Standing.{Standing}

@@ -13,7 +13,7 @@ use Rattle.jf_model.proofs.VersionLaws.{root-IsKey}
 use Rattle.jf_codec.specs.declared.format.Format.TheVariants as format
 use Rattle.jf_node.specs.SnapshotValue.{SnapshotValue}
 use Rattle.jf_node.specs.declared.update.Update.{Update}
-use Rattle.jf_update.specs.Updates.{version_in}
+use Rattle.jf_diff.specs.Landings.{version_in}
 use Rattle.jf_stale.specs.Marks.{Mark}
 use Rattle.jf_standing.specs.Named.{Named, never, is_at, map_at, version_at}
 use Rattle.jf_standing.specs.Standing.{Standing, with_floor, marked, unmarked}

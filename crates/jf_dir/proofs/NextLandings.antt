@@ -13,7 +13,7 @@ use Rattle.jf_model.specs.Nodes.{Path, is_node, is_fresh, fresh, stale, plain_no
 use Rattle.jf_codec.specs.declared.format.Format.TheVariants as format
 use Rattle.jf_node.specs.SnapshotValue.{SnapshotValue}
 use Rattle.jf_node.specs.Snapshots.{snapshot_version_at}
-use Rattle.jf_update.specs.Updates.{IsNextSnapshot, version_in, version_or, written_nodes, stale_names_in}
+use Rattle.jf_diff.specs.Landings.{IsNextSnapshot, version_in, version_or, written_nodes, stale_names_in}
 use Rattle.jf_standing.specs.Named.{never, version_at}
 use Rattle.jf_standing.specs.Standing.{Standing}
 use Rattle.jf_standing.specs.Landing.{head_map, landing_of, version_after}

@@ -21,7 +21,7 @@ use Rattle.jf_codec.specs.declared.format.Format.TheVariants as format
 use Rattle.jf_node.specs.SnapshotValue.{SnapshotValue}
 use Rattle.jf_node.specs.Snapshots.{snapshot_of, IsSnapshot}
 use Rattle.jf_node.specs.declared.update.Update.{Update}
-use Rattle.jf_update.specs.Updates.{version_in}
+use Rattle.jf_diff.specs.Landings.{version_in}
 use Rattle.jf_stale.specs.Marks.{Mark, AreAscendingMarks}
 use Rattle.jf_standing.specs.Named.{Named, never}
 use Rattle.jf_standing.specs.Standing.{Standing, with_floor}

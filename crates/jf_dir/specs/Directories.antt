@@ -7,7 +7,7 @@ use Rattle.jf_model.specs.Nodes.{Path, is_node}
 use Rattle.jf_codec.specs.declared.format.Format.TheVariants as format
 use Rattle.jf_node.specs.SnapshotValue.{SnapshotValue}
 use Rattle.jf_node.specs.declared.update.Update.{Update}
-use Rattle.jf_update.specs.Updates.{version_in}
+use Rattle.jf_diff.specs.Landings.{version_in}
 use Rattle.jf_standing.specs.Named.{never, map_at, version_at}
 use Rattle.jf_standing.specs.Standing.{Standing, with_nodes}
 use Rattle.jf_standing.specs.Landing.{landing_of, version_after}

@@ -204,7 +204,7 @@ impl Directory {
     {
         let head = self.newest();
         let snapshot = advance(rt, alloc, head, entries, hashes, workers, gate)?;
-        let Written { fresh, stale } = written(alloc, head, &snapshot)?;
+        let Written { fresh, stale } = written(rt, alloc, head, &snapshot, workers)?;
         let _ = stale.as_slice();
         Ok(Update {
             root: snapshot.root(),
