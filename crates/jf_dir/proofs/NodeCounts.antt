@@ -1,9 +1,8 @@
 -- The number of nodes below a node is the sum of those of its children, and one.
-use Rattle.std.proofs.Common.{◌≡◌, ℕ, zero, suc, ◌+◌, ◌-◌, ◌<◌, ◌≤◌, Bool, true, false, cond, List, [], ◌∷◌, ◌++◌, map, length, Option, Some, None, refl, sym, ap, ◌∙◌, subst, arith, length-append}
+use Rattle.std.proofs.Common.{◌≡◌, ℕ, zero, suc, ◌+◌, ◌-◌, ◌<◌, ◌≤◌, true, false, cond, List, [], ◌∷◌, ◌++◌, map, length, Some, refl, sym, ap, ◌∙◌, arith, length-append}
 use Rattle.std.specs.Prelude.{flat_map, if◌then◌else◌}
 use Rattle.std.proofs.lemmas.List.{length-map}
 use Rattle.jf_hash.specs.Slots.{Part, with_nibble, all_nibbles}
-use Rattle.std.specs.FinMap as fin
 use Rattle.std.specs.FinMap.{entries}
 use Rattle.jf_hash.specs.Maps.{Map}
 use Rattle.jf_model.specs.Nodes.{Path, has_one, has_two, nodes, nodes_below}
@@ -12,7 +11,6 @@ use Rattle.jf_model.specs.ChildEntries.{child_entries}
 use Rattle.jf_model.specs.Walk.{each_from}
 use Rattle.jf_walk.proofs.WalkLaws.{each_from-flat_map}
 use Rattle.jf_node.specs.LinkValue.{LinkValue}
-use Rattle.jf_node.specs.LinkFacts.{IsLink}
 use Rattle.jf_update.specs.Below.{IsBelow}
 use Rattle.jf_update.proofs.PlainNodes.{each_more}
 use Rattle.jf_dir.proofs.Turns.{nodes-empty}
