@@ -1,6 +1,5 @@
 -- What holds the standing of one snapshot.
-use Rattle.std.specs.Prelude.{slice_index_or, IsTrue}
-use Rattle.std.proofs.Common.{◌≡◌, ℕ, ◌+◌, ◌-◌, ◌<◌, ◌≤◌, ◌^◌, List, [], ◌∷◌, ◌++◌, map, reverse, length, Contains, refl, sym, ap, ap₂, ◌∙◌, subst, arith, true, Some, None, Option}
+use Rattle.std.proofs.Common.{◌≡◌, ℕ, ◌+◌, ◌-◌, ◌<◌, ◌≤◌, ◌^◌, List, [], ◌∷◌, ◌++◌, reverse, length, Contains, refl, sym, ap, ◌∙◌, subst, arith, true, Some, None}
 use Rattle.std.proofs.lemmas.List.{reverse-append, length-reverse, length-map}
 use Rattle.std.proofs.lemmas.List.Sorted.{Contains-permutation, IsPermutation-sym, length_permutation}
 use Rattle.std.specs.FinMap.{entries, len}
@@ -8,16 +7,13 @@ use Rattle.std.specs.List.{AllByRecursion}
 use Rattle.std.specs.List.Sorted.{IsPermutation}
 use Rattle.jf_path.specs.Keys.{IsKey, IsBytes}
 use Rattle.jf_path.proofs.ListLaws.{All-of, Contains-first}
-use Rattle.jf_hash.specs.Maps.{Map, IsMap}
 use Rattle.jf_hash.specs.Roots.{root}
 use Rattle.jf_model.specs.Nodes.{Path, is_node, nodes}
-use Rattle.jf_model.proofs.VersionLaws.{root-IsKey}
 use Rattle.jf_codec.specs.declared.format.Format.TheVariants as format
 use Rattle.jf_walk.proofs.NodesListed.{nodes-exact}
 use Rattle.jf_node.specs.SnapshotValue.{SnapshotValue}
 use Rattle.jf_node.specs.Snapshots.{snapshot_version_at, IsSnapshot}
 use Rattle.jf_diff.specs.Landings.{version_in, version_or}
-use Rattle.jf_stale.specs.Marks.{Mark}
 use Rattle.jf_standing.specs.Named.{Named, never, leaf_entry, leaf_entries, AreEntries, map_at, version_at}
 use Rattle.jf_standing.specs.Standing.{Standing}
 use Rattle.jf_standing.specs.Sound.{IsSound}
@@ -30,8 +26,8 @@ use Rattle.jf_standing.proofs.LeafPaths.{leaf-plain, under-Contains}
 use Rattle.jf_standing.proofs.Lists.{All-each_element, map-which, none_in_nothing}
 use Rattle.jf_standing.proofs.Reordered.{moved-sound, map-moved, version-moved}
 use Rattle.jf_standing.proofs.SpelledRecords.{nodes-are_rising}
-use Rattle.jf_dir.specs.Directories.{IsSnapshotAt, begun_with}
-use Rattle.jf_dir.specs.Holding.{marks_of, AreMarksOf, HasShortValues, IsHeld}
+use Rattle.jf_dir.specs.Directories.{begun_with}
+use Rattle.jf_dir.specs.Holding.{AreMarksOf, IsHeld}
 use Rattle.jf_dir.proofs.MarkMoves.{mark-which}
 
 all_reversed : {X : Type 0} (P : X → Type 0) (xs : List X) → AllByRecursion P xs → (x : X) → Contains xs x → P x

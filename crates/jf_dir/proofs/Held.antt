@@ -1,11 +1,9 @@
 -- A sound standing follows from the snapshots that hold it.
-use Rattle.std.proofs.Common.{◌≡◌, ℕ, zero, suc, ◌+◌, ◌-◌, List, [], ◌∷◌, ◌++◌, map, reverse, drop, length, Contains, refl, sym, ap, ap₂, ◌∙◌, arith, true}
+use Rattle.std.proofs.Common.{◌≡◌, ℕ, ◌+◌, ◌-◌, List, [], ◌∷◌, ◌++◌, map, reverse, drop, length, refl, sym, ap, ap₂, ◌∙◌, arith, true}
 use Rattle.std.specs.FinMap.{entries}
 use Rattle.std.specs.List.{AllByRecursion}
 use Rattle.jf_hash.specs.Maps.{Map}
 use Rattle.jf_hash.specs.Roots.{root}
-use Rattle.jf_hash.specs.Slots.{Part}
-use Rattle.jf_path.specs.declared.name.NodeName.{NodeName}
 use Rattle.jf_path.specs.declared.node.PlainNode.{PlainNode}
 use Rattle.jf_model.specs.Nodes.{Path, is_node, nodes, plain_node}
 use Rattle.jf_codec.specs.declared.format.Format.TheVariants as format
@@ -15,13 +13,12 @@ use Rattle.jf_diff.specs.Landings.{version_in}
 use Rattle.jf_stale.specs.Marks.{Mark}
 use Rattle.jf_standing.specs.Named.{Named, never, map_at, version_at}
 use Rattle.jf_standing.specs.Standing.{Standing}
-use Rattle.jf_standing.specs.Building.{node_of, floor_standing, floor_of, built, up_from, rebuilt, nodes_by_name}
+use Rattle.jf_standing.specs.Building.{node_of, floor_standing, floor_of, built, up_from, nodes_by_name}
 use Rattle.jf_standing.proofs.Alive.{plain_node-same}
 use Rattle.jf_standing.proofs.Checkpoints.{same-nodes}
 use Rattle.jf_standing.proofs.Freshness.{child-node}
 use Rattle.jf_standing.proofs.Lists.{All-each_element}
 use Rattle.jf_standing.proofs.Steps.{parts_at}
-use Rattle.jf_dir.specs.Directories.{IsSnapshotAt}
 use Rattle.jf_dir.specs.Holding.{standing_held, AreSnapshotsFrom, IsHeld}
 
 -- two functions that agree on the elements of a list give the same list

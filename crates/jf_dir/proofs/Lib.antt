@@ -6,4 +6,5 @@ pub mod MarkMoves
 pub mod MarkSteps
 pub mod Moves
 pub mod NextLandings
+pub mod NodeCounts
 pub mod Turns

@@ -1,6 +1,6 @@
 -- What holds a standing, at each version.
 use Rattle.std.specs.Prelude.{slice_index_or}
-use Rattle.std.proofs.Common.{◌≡◌, ℕ, zero, suc, ◌+◌, ◌-◌, ◌<◌, ◌≤◌, List, [], ◌∷◌, reverse, length, refl, sym, ap, ◌∙◌, subst, arith}
+use Rattle.std.proofs.Common.{◌≡◌, ℕ, zero, suc, ◌+◌, ◌-◌, ◌<◌, ◌≤◌, List, [], ◌∷◌, length, refl, sym, ap, ◌∙◌, subst, arith}
 use Rattle.std.proofs.lemmas.List.{get_or-reverse, length-reverse}
 use Rattle.std.specs.FinMap as fin
 use Rattle.std.specs.FinMap.{entries}
@@ -55,8 +55,7 @@ module _ (s : Standing) (b : ℕ) (rs : List (List ℕ)) (xs : List SnapshotValu
       let order = h.read.base_low in
       let order' = h.read.floor_low in
       let all : length rs ≡ s.head - s.base + 1 = sym (ap length h.rooted ∙ length-reverse rs) ∙ each in
-      let back : length rs - 1 - (s.head - w) ≡ w - b = omega arith in
-      (
+      let back : length rs - 1 - (s.head - w) ≡ w - b = omega arith in (
         omega arith,
         is ∙ same_item rs (w - b) r [] lt ∙ ap (λ i. slice_index_or rs i []) (sym back) ∙ sym (get_or-reverse rs (s.head - w) [] (omega arith)) ∙ ap (λ (ts : List (List ℕ)). slice_index_or ts (s.head - w) []) (sym h.rooted),
       )

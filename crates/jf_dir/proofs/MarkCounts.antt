@@ -1,6 +1,6 @@
 -- As many marks as stale nodes, so a later floor drops as many nodes as marks.
 use Rattle.std.specs.Prelude.{IsTrue}
-use Rattle.std.proofs.Common.{◌≡◌, ℕ, ◌+◌, ◌-◌, ◌<◌, ◌≤◌, List, [], ◌∷◌, map, filter, length, Contains, refl, sym, ap, ap₂, ◌∙◌, subst, arith, true, false, cond, not, nat_lt, Bool, Less, Equal, true≢false}
+use Rattle.std.proofs.Common.{◌≡◌, ℕ, ◌-◌, ◌<◌, ◌≤◌, List, [], ◌∷◌, map, filter, length, Contains, refl, sym, ap, ◌∙◌, subst, arith, true, false, cond, not, nat_lt, Bool, Less, Equal}
 use Rattle.std.specs.Set.{remove_key}
 use Rattle.std.specs.List.{AllByRecursion, count_by}
 use Rattle.std.specs.List.Sorted.{IsStrictlySortedBy}
@@ -18,19 +18,15 @@ use Rattle.jf_path.specs.Names.{name_cmp, are_rising}
 use Rattle.jf_path.specs.NameLaws.{name_cmp_total}
 use Rattle.jf_path.proofs.ListLaws.{Contains-first, Contains-later, Contains-map}
 use Rattle.jf_path.proofs.OrderLaws.{Equal-from_is_eq}
-use Rattle.jf_path.proofs.FilterLaws.{filter-Contains}
-use Rattle.jf_codec.specs.declared.format.Format.TheVariants as format
 use Rattle.jf_stale.specs.Marks.{Mark, mark_cmp, AreAscendingMarks}
 use Rattle.jf_stale.proofs.MarkLaws.{mark_cmp_total, mark_cmp-exact}
 use Rattle.jf_standing.specs.Named.{Named, never}
 use Rattle.jf_standing.specs.Standing.{Standing, with_floor}
-use Rattle.jf_standing.specs.Sound.{IsSound}
 use Rattle.jf_standing.specs.Next.{IsReadStanding}
 use Rattle.jf_standing.specs.Building.{apart}
 use Rattle.jf_standing.proofs.Counts.{count-cons, count-some}
 use Rattle.jf_standing.proofs.Lists.{All-each_element, Contains-cases, none_in_nothing, one-true}
 use Rattle.jf_standing.proofs.Names.{are_rising-sorted, same_name-exact}
-use Rattle.jf_standing.proofs.Numbers.{lt_so, lt_tells}
 use Rattle.jf_standing.proofs.Ordered.{count-sorted}
 use Rattle.jf_dir.specs.Holding.{is_stale_node, marks_of, AreMarksOf, AreTakenUpto}
 use Rattle.jf_dir.proofs.MarkMoves.{mark-which, marks-floored}
@@ -81,14 +77,17 @@ marks_apart [] few = tt
 marks_apart (n ∷ ns) few =
     let rest = marks_apart ns (λ name. let all = few name in let cons = count-cons (same_named_as name) (apart n) (map apart ns) in omega arith) in
     elim (is_stale_node n) as (λ b. AreApart (map (λ (z : Named). (z.2, z.0)) (cond b (n ∷ filter is_stale_node ns) (filter is_stale_node ns)))) [
-      | true ↦ (All-each_element _ (marks_of ns) (λ k has same.
-          let z = mark-which ns k has in
-          let name : z.0.0 ≡ n.0 = ap (λ (q : Mark). q.1) (z.3 ∙ sym same) in
-          let here = one-true (same_named_as n.0 (apart n)) (tied_name n.0) in
-          let there = count-some (same_named_as n.0) (map apart ns) (apart z.0) (Contains-map apart ns z.0 z.1) (ap (eq_by_cmp name_cmp n.0) name ∙ tied_name n.0) in
-          let all = few n.0 in
-          let cons = count-cons (same_named_as n.0) (apart n) (map apart ns) in
-          omega arith), rest)
+      | true ↦ (
+        All-each_element _ (marks_of ns) (λ k has same.
+            let z = mark-which ns k has in
+            let name : z.0.0 ≡ n.0 = ap (λ (q : Mark). q.1) (z.3 ∙ sym same) in
+            let here = one-true (same_named_as n.0 (apart n)) (tied_name n.0) in
+            let there = count-some (same_named_as n.0) (map apart ns) (apart z.0) (Contains-map apart ns z.0 z.1) (ap (eq_by_cmp name_cmp n.0) name ∙ tied_name n.0) in
+            let all = few n.0 in
+            let cons = count-cons (same_named_as n.0) (apart n) (map apart ns) in
+            omega arith),
+        rest,
+      )
       | false ↦ rest
     ]
 

@@ -1,17 +1,15 @@
 -- The marks of the stale nodes after a landing, under a later floor, and before a landing.
-use Rattle.std.proofs.Common.{◌≡◌, ℕ, ◌+◌, ◌<◌, ◌≤◌, List, [], ◌∷◌, map, filter, Contains, refl, sym, ap, ap₂, ◌∙◌, subst, arith, true, false, inl, inr, ◌⊎◌, ◌↔◌, nat_lt, Bool}
+use Rattle.std.proofs.Common.{◌≡◌, ℕ, ◌+◌, ◌<◌, ◌≤◌, List, map, filter, Contains, refl, sym, ap, ap₂, ◌∙◌, subst, arith, true, false, inl, inr, ◌⊎◌, ◌↔◌, nat_lt}
 use Rattle.jf_path.specs.declared.name.NodeName.{NodeName}
-use Rattle.jf_path.specs.declared.node.PlainNode.{PlainNode}
 use Rattle.jf_path.proofs.BoolLaws.{left_true}
 use Rattle.jf_path.proofs.FilterLaws.{Contains-filter, filter-Contains, filter-passes}
 use Rattle.jf_path.proofs.ListLaws.{All-of, Contains-map}
 use Rattle.jf_hash.specs.Maps.{Map, IsMap}
-use Rattle.jf_model.specs.Nodes.{is_fresh}
 use Rattle.jf_codec.specs.declared.format.Format.TheVariants as format
 use Rattle.jf_stale.specs.Marks.{Mark}
 use Rattle.jf_payload.specs.declared.records.Commit.{Commit}
 use Rattle.jf_standing.specs.Named.{Named, never}
-use Rattle.jf_standing.specs.Standing.{Standing, with_floor, marked, unmarked, is_named}
+use Rattle.jf_standing.specs.Standing.{Standing, with_floor, is_named}
 use Rattle.jf_standing.specs.Sound.{IsSound}
 use Rattle.jf_standing.specs.Landing.{landing_of, head_map}
 use Rattle.jf_standing.specs.Building.{landed_on}

@@ -1,6 +1,6 @@
 -- One mark more, one fewer, and the least one taken.
 use Rattle.std.specs.Prelude.{slice_index_or, OnErr, Result, Ok, Err}
-use Rattle.std.proofs.Common.{◌≡◌, ◌↔◌, ℕ, zero, suc, ◌+◌, ◌-◌, ◌<◌, ◌≤◌, List, [], ◌∷◌, ◌++◌, take, length, Contains, refl, sym, ap, ◌∙◌, subst, arith, true, false, not, cond, inl, inr, ◌⊎◌, Less, Equal, Greater, true≢false}
+use Rattle.std.proofs.Common.{◌≡◌, ℕ, zero, suc, ◌+◌, ◌-◌, ◌<◌, ◌≤◌, List, [], ◌∷◌, ◌++◌, take, length, Contains, refl, sym, ap, ◌∙◌, subst, arith, true, false, not, inl, inr, ◌⊎◌, Less, Equal, Greater, true≢false}
 use Rattle.std.proofs.lemmas.List.{take_more}
 use Rattle.std.proofs.lemmas.List.Elements.{Contains-append_cases, All-contains}
 use Rattle.std.specs.List.{All}
@@ -14,7 +14,7 @@ use Rattle.jf_path.proofs.OrderLaws.{Equal-from_is_eq}
 use Rattle.jf_stale.specs.Marks.{Mark, mark_cmp, with_mark, without_mark}
 use Rattle.jf_stale.proofs.MarkLaws.{mark_cmp_total, mark_cmp-exact}
 use Rattle.jf_standing.proofs.Lists.{Contains-cases, none_in_nothing}
-use Rattle.jf_dir.specs.Holding.{IsMarkIn, AreAdded, AreSomeAdded, AreRemoved, AreTakenUpto}
+use Rattle.jf_dir.specs.Holding.{AreAdded, AreSomeAdded, AreRemoved, AreTakenUpto}
 
 -- ---- one mark more
 with-kept : (m k : Mark) (ms : List Mark) → Contains ms k → Contains (with_mark m ms) k

@@ -1,24 +1,22 @@
 -- What holds a standing after a landing, under a later floor, and after a landing is taken back.
-use Rattle.std.specs.Prelude.{slice_index_or, IsTrue}
-use Rattle.std.proofs.Common.{◌≡◌, ℕ, zero, suc, ◌+◌, ◌-◌, ◌<◌, ◌≤◌, ◌^◌, List, [], ◌∷◌, ◌++◌, map, filter, reverse, drop, length, Contains, refl, sym, ap, ap₂, ◌∙◌, subst, arith, true}
+use Rattle.std.specs.Prelude.{slice_index_or}
+use Rattle.std.proofs.Common.{◌≡◌, ℕ, zero, suc, ◌+◌, ◌-◌, ◌<◌, ◌≤◌, ◌^◌, List, [], ◌∷◌, ◌++◌, map, filter, drop, length, sym, ap, ap₂, ◌∙◌, subst, arith, true}
 use Rattle.std.proofs.lemmas.List.{reverse-append, length-map}
 use Rattle.std.proofs.Common.{length-append}
 use Rattle.std.specs.FinMap.{entries, len}
 use Rattle.std.specs.List.{AllByRecursion}
 use Rattle.jf_path.proofs.ListLaws.{All-append}
 use Rattle.jf_hash.specs.Maps.{Map, IsMap}
-use Rattle.jf_hash.specs.Roots.{root}
 use Rattle.jf_model.specs.Nodes.{Path, is_node}
 use Rattle.jf_model.proofs.VersionLaws.{root-IsKey}
 use Rattle.jf_codec.specs.declared.format.Format.TheVariants as format
 use Rattle.jf_node.specs.SnapshotValue.{SnapshotValue}
 use Rattle.jf_node.specs.declared.update.Update.{Update}
-use Rattle.jf_diff.specs.Landings.{version_in}
 use Rattle.jf_stale.specs.Marks.{Mark}
-use Rattle.jf_standing.specs.Named.{Named, never, is_at, map_at, version_at}
+use Rattle.jf_standing.specs.Named.{Named, is_at, map_at, version_at}
 use Rattle.jf_standing.specs.Standing.{Standing, with_floor, marked, unmarked}
 use Rattle.jf_standing.specs.Sound.{IsSound}
-use Rattle.jf_standing.specs.Landing.{landing_of, version_after}
+use Rattle.jf_standing.specs.Landing.{landing_of}
 use Rattle.jf_standing.specs.Building.{landed_on}
 use Rattle.jf_standing.specs.Next.{IsReadStanding}
 use Rattle.jf_standing.proofs.Contents.{version-placed}

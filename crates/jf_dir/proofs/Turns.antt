@@ -1,8 +1,8 @@
 -- What the directory holds after each call, and the standing that this makes.
-use Rattle.std.proofs.Common.{◌≡◌, ℕ, zero, suc, ◌+◌, ◌-◌, ◌<◌, ◌≤◌, ◌^◌, List, [], ◌∷◌, ◌++◌, map, filter, reverse, drop, take, length, Contains, refl, sym, ap, ap₂, ◌∙◌, subst, arith, Bool, inl, inr, Some, None}
+use Rattle.std.proofs.Common.{◌≡◌, ℕ, zero, suc, ◌+◌, ◌-◌, ◌<◌, ◌≤◌, ◌^◌, List, [], ◌∷◌, ◌++◌, map, reverse, drop, take, length, refl, sym, ap, ◌∙◌, subst, arith, inl, inr, None}
 use Rattle.std.proofs.lemmas.List.{length-reverse}
 use Rattle.std.proofs.lemmas.List.Sorted.{Contains-permutation, IsPermutation-reverse, IsPermutation-sym}
-use Rattle.std.specs.FinMap.{entries, len}
+use Rattle.std.specs.FinMap.{len}
 use Rattle.std.specs.FinMap as fin
 use Rattle.std.specs.List.{AllByRecursion}
 use Rattle.jf_path.specs.Keys.{IsKey}
@@ -33,7 +33,7 @@ use Rattle.jf_standing.proofs.Lands.{map-lands}
 use Rattle.jf_standing.proofs.Leaves.{IsMap-map_at}
 use Rattle.jf_standing.proofs.Lists.{All-each_element}
 use Rattle.jf_dir.specs.Directories.{IsLandingUpdate, begun_with}
-use Rattle.jf_dir.specs.Holding.{standing_held, is_stale_node, AreMarksOf, IsMarkIn, AreAdded, AreSomeAdded, AreRemoved, AreTakenUpto, IsHeld}
+use Rattle.jf_dir.specs.Holding.{standing_held, is_stale_node, AreAdded, AreSomeAdded, AreRemoved, AreTakenUpto, IsHeld}
 use Rattle.jf_dir.proofs.Begins.{held-begun}
 use Rattle.jf_dir.proofs.Held.{held-is}
 use Rattle.jf_dir.proofs.MarkCounts.{length-marks, count-floored}

@@ -17,11 +17,7 @@ pub(crate) fn know_hashes(hashes: &[Hash])
 }
 
 /// The roots with one more at the end.
-pub(crate) fn roots_with(
-    alloc: Global,
-    earlier: &[Hash],
-    last: Hash,
-) -> Result<Vec<Hash>, Memory>
+pub(crate) fn roots_with(alloc: Global, earlier: &[Hash], last: Hash) -> Result<Vec<Hash>, Memory>
     ensures { IfOk result (λ v. v.items ≡ earlier.now ++ last ∷ []) }
 {
     let mut roots = Vec::with_capacity(alloc, earlier.len())?;

@@ -1,4 +1,4 @@
-use Rattle.std.proofs.Common.{sym, subst}
+use Rattle.std.proofs.Common.{subst}
 use Rattle.jf_standing.specs.Standing.{Standing}
 use Rattle.jf_dir.specs.Directories.{IsSnapshotAt}
 use Rattle.jf_dir.proofs.Lookups.{held-newest}

@@ -1,4 +1,4 @@
-use Rattle.std.proofs.Common.{◌∙◌, ◌-◌, sym, ap, subst}
+use Rattle.std.proofs.Common.{◌-◌, ap, subst}
 use Rattle.jf_standing.specs.Standing.{Standing, with_floor}
 use Rattle.jf_dir.specs.Holding.{IsHeld}
 use Rattle.jf_dir.proofs.Held.{held-is}

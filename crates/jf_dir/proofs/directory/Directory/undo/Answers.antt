@@ -1,6 +1,5 @@
-use Rattle.std.proofs.Common.{◌∙◌, sym, ap, subst}
+use Rattle.std.proofs.Common.{◌∙◌, subst}
 use Rattle.jf_standing.specs.Standing.{Standing}
-use Rattle.jf_standing.specs.Building.{landed_on}
 use Rattle.jf_dir.specs.Holding.{IsHeld}
 use Rattle.jf_dir.proofs.Held.{held-is}
 use Rattle.jf_dir.proofs.Turns.{held-again, turn-unlanded}
