@@ -1,8 +1,8 @@
 -- What the directory holds after each call, and the standing that this makes.
-use Rattle.std.proofs.Common.{◌≡◌, ℕ, zero, suc, ◌+◌, ◌-◌, ◌<◌, ◌≤◌, ◌^◌, List, [], ◌∷◌, ◌++◌, map, reverse, drop, take, length, refl, sym, ap, ◌∙◌, subst, arith, inl, inr, None}
+use Rattle.std.proofs.Common.{◌≡◌, ℕ, zero, suc, ◌+◌, ◌-◌, ◌<◌, ◌≤◌, ◌^◌, List, [], ◌∷◌, ◌++◌, map, reverse, drop, take, length, refl, sym, ap, ◌∙◌, subst, arith, inl, inr, None, true}
 use Rattle.std.proofs.lemmas.List.{length-reverse}
 use Rattle.std.proofs.lemmas.List.Sorted.{Contains-permutation, IsPermutation-reverse, IsPermutation-sym}
-use Rattle.std.specs.FinMap.{len}
+use Rattle.std.specs.FinMap.{len, entries}
 use Rattle.std.specs.FinMap as fin
 use Rattle.std.specs.List.{AllByRecursion}
 use Rattle.jf_path.specs.Keys.{IsKey}
@@ -10,11 +10,11 @@ use Rattle.jf_path.specs.declared.name.NodeName.{NodeName}
 use Rattle.jf_path.specs.declared.node.PlainNode.TheVariants as node
 use Rattle.jf_path.proofs.FilterLaws.{length-filter_le}
 use Rattle.jf_path.proofs.ListLaws.{All-of}
-use Rattle.jf_hash.specs.Maps.{Map}
+use Rattle.jf_hash.specs.Maps.{Map, IsMap}
 use Rattle.jf_hash.specs.Roots.{root}
 use Rattle.jf_hash.specs.Slots.{Part}
 use Rattle.jf_hash.proofs.RootLaws.{entries-empty}
-use Rattle.jf_model.specs.Nodes.{Path, nodes, nodes_below, plain_node}
+use Rattle.jf_model.specs.Nodes.{Path, nodes, nodes_below, plain_node, is_node}
 use Rattle.jf_model.proofs.NodeLaws.{nodes-none}
 use Rattle.jf_model.proofs.VersionLaws.{root-IsKey}
 use Rattle.jf_codec.specs.declared.format.Format.TheVariants as format
@@ -26,14 +26,15 @@ use Rattle.jf_stale.specs.Marks.{Mark, AreAscendingMarks}
 use Rattle.jf_standing.specs.Named.{Named, never}
 use Rattle.jf_standing.specs.Standing.{Standing, with_floor}
 use Rattle.jf_standing.specs.Sound.{IsSound}
-use Rattle.jf_standing.specs.Landing.{landing_of}
+use Rattle.jf_standing.specs.Landing.{landing_of, version_after}
 use Rattle.jf_standing.specs.Building.{landed_on, new_standing, node_of, nodes_by_name}
 use Rattle.jf_standing.specs.Next.{IsReadStanding}
+use Rattle.jf_standing.proofs.Contents.{version-placed}
 use Rattle.jf_standing.proofs.Lands.{map-lands}
 use Rattle.jf_standing.proofs.Leaves.{IsMap-map_at}
 use Rattle.jf_standing.proofs.Lists.{All-each_element}
-use Rattle.jf_dir.specs.Directories.{IsLandingUpdate, begun_with}
-use Rattle.jf_dir.specs.Holding.{standing_held, is_stale_node, AreAdded, AreSomeAdded, AreRemoved, AreTakenUpto, IsHeld}
+use Rattle.jf_dir.specs.Directories.{IsLandingUpdate, IsSnapshotAt, begun_with}
+use Rattle.jf_dir.specs.Holding.{standing_held, is_stale_node, landing_update, AreAdded, AreSomeAdded, AreRemoved, AreTakenUpto, IsHeld}
 use Rattle.jf_dir.proofs.Begins.{held-begun}
 use Rattle.jf_dir.proofs.Held.{held-is}
 use Rattle.jf_dir.proofs.MarkCounts.{length-marks, count-floored}
@@ -105,6 +106,25 @@ turn-unlanded s b rs rs' xs xs' ms ms' n k j since count names u read sound land
     let held : IsHeld (landed_on format.Two m s) b (rs' ++ r.0 ∷ []) (xs' ++ x.0 ∷ []) ms n = subst (λ ts. IsHeld (landed_on format.Two m s) b ts (xs' ++ x.0 ∷ []) ms n) r.1 (subst (λ ys. IsHeld (landed_on format.Two m s) b rs ys ms n) x.1 h) in
     let fewer : n - count + length u.fresh ≡ n = let all = h.count in let own = ap length landing.fresh in let sum = nodes-landed s m in omega arith in
     held-unlanded s m u read sound snap.map room landing b rs' r.0 xs' x.0 ms ms' n (n - count) held marks fewer
+
+-- the newest snapshot after a landing is that of the landing
+pub newest-update : (s : Standing) (m : Map) (x : SnapshotValue) → IsReadStanding s → IsSound format.Two s → IsMap m → IsSound format.Two (landed_on format.Two m s) → IsSnapshotAt (landed_on format.Two m s) (s.head + 1) x → (x.map ≡ m) × IsLandingUpdate s x.map (landing_update s x)
+newest-update s m x read sound own after at =
+    let last = after.head_last in
+    let old = IsMap-map_at s.head s.nodes read.keys in
+    let lands = map-lands format.Two s m sound old own last in
+    let same : x.map ≡ m = at.map ∙ lands in
+    (same, record {
+      last = last;
+      map = refl;
+      version = at.version;
+      root = refl;
+      fresh = refl;
+      stale = refl;
+      versions = λ p node.
+          let node_m : is_node 0 p (entries m) ≡ true = subst (λ q. is_node 0 p (entries q) ≡ true) same node in
+          at.versions p (subst (λ q. is_node 0 p (entries q) ≡ true) (sym lands) node_m) ∙ version-placed format.Two s m sound old own last p node_m ∙ ap (λ q. version_after s q p) (sym same);
+    })
 
 -- ---- a later floor
 -- no more marks are taken than there are nodes

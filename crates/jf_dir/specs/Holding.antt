@@ -7,11 +7,13 @@ use Rattle.jf_path.specs.declared.name.NodeName.{NodeName}
 use Rattle.jf_hash.specs.Roots.{root}
 use Rattle.jf_codec.specs.declared.format.Format.TheVariants as format
 use Rattle.jf_node.specs.SnapshotValue.{SnapshotValue}
+use Rattle.jf_node.specs.declared.update.Update.{Update}
 use Rattle.jf_diff.specs.Landings.{version_in}
 use Rattle.jf_stale.specs.Marks.{Mark}
 use Rattle.jf_standing.specs.Named.{Named, never}
 use Rattle.jf_standing.specs.Standing.{Standing}
 use Rattle.jf_standing.specs.Sound.{IsSound}
+use Rattle.jf_standing.specs.Landing.{landing_of}
 use Rattle.jf_standing.specs.Building.{floor_standing, built, nodes_by_name}
 use Rattle.jf_standing.specs.Next.{IsReadStanding}
 use Rattle.jf_dir.specs.Directories.{IsSnapshotAt}
@@ -60,6 +62,11 @@ pub record IsHeld (s : Standing) (b : ℕ) (rs : List (List ℕ)) (xs : List Sna
   pub short : AllByRecursion HasShortValues xs
   pub marks : AreMarksOf s.nodes ms
   pub count : n ≡ length s.nodes
+
+-- ---- a landing
+-- the update whose snapshot is x: what the landing of its map on s writes and marks stale
+abbrev pub landing_update : Standing → SnapshotValue → Update
+landing_update s x = record { root = root x.map; fresh = (landing_of format.Two s x.map).fresh; stale = (landing_of format.Two s x.map).stale; snapshot = x }
 
 -- ---- marks of a landing
 -- a mark of one of the names, as stale since a version

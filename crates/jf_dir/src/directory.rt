@@ -1,22 +1,24 @@
 // The directory of a store.
-ghost use Rattle.std.specs.Prelude.{◌≡◌, ◌↔◌, ℕ, ◌+◌, ◌*◌, ◌^◌, ◌<◌, ◌≤◌, length, reverse, IfOk, IfSome, IsSome, OnOk, OnErr};
+ghost use Rattle.std.specs.Prelude.{◌≡◌, ◌↔◌, ℕ, true, ◌+◌, ◌*◌, ◌^◌, ◌<◌, ◌≤◌, length, reverse, IfOk, IfSome, IsSome, OnOk, OnErr};
 ghost use Rattle.std.specs.List.{AllByRecursion};
 ghost use Rattle.std.specs.Option.{SomeIff};
 ghost use Rattle.std.specs.FinMap.{entries, len};
 ghost use Rattle.jf_path.specs.Limits.{max_value};
-ghost use Rattle.jf_hash.specs.Maps.{IsBatch, apply};
-ghost use Rattle.jf_model.specs.Nodes.{kept_nodes};
+ghost use Rattle.jf_hash.specs.Maps.{Map, IsMap, IsBatch, apply};
+ghost use Rattle.jf_model.specs.Nodes.{Path, is_node, kept_nodes};
 ghost use Rattle.jf_model.specs.Versions.{IsVersions, root_of};
 ghost use Rattle.jf_codec.specs.declared.format.Format.TheVariants as format;
+ghost use Rattle.jf_diff.specs.Landings.{version_in};
 ghost use Rattle.jf_update.specs.Outcomes.{AreShort};
 ghost use Rattle.jf_update.specs.ValueHashes.{AreValueHashes};
 ghost use Rattle.jf_standing.specs.Named.{never, map_at};
 ghost use Rattle.jf_standing.specs.Standing.{Standing, versions_of, with_floor};
 ghost use Rattle.jf_standing.specs.Sound.{IsSound};
-ghost use Rattle.jf_standing.specs.Landing.{head_map};
+ghost use Rattle.jf_standing.specs.Landing.{head_map, landing_of, version_after};
 ghost use Rattle.jf_standing.specs.Building.{landed_on, new_standing};
 ghost use Rattle.jf_standing.specs.Next.{IsReadStanding};
 ghost use Rattle.jf_dir.specs.Directories.{IsLandingUpdate, IsSnapshotAt, begun_with};
+ghost use Rattle.jf_dir.specs.Holding.{landing_update};
 
 use crate::counting::{node_count, sum_within};
 use crate::front::drop_front;
@@ -25,7 +27,8 @@ use crate::roots::{know_hashes, roots_with};
 use jf_hash::Hash;
 use jf_join::Gate;
 use jf_node::{Snapshot, Update};
-use jf_path::{Key, LiveList, Memory, SharedBytes};
+use jf_path::{Key, LiveList, Memory, NodeName, SharedBytes};
+use jf_payload::Commit;
 use jf_split::Batch;
 use jf_stale::StaleIndex;
 use jf_update::{Written, advance, value_hashes, written};
@@ -235,25 +238,68 @@ impl Directory {
         self.next(rt, alloc, entries, &hashes, workers, gate)
     }
 
-    /// Lands an update of the head. If memory runs out, the directory is unchanged.
+    /// Makes a landing on the head, given as an update. If memory runs out, the directory is unchanged.
     pub fn apply(&mut self, update: &Update) -> Result<(), Memory>
         requires landing { IsLandingUpdate self.old update.now.snapshot.map update.now }
         requires room { len update.now.snapshot.map ≤ 2 ^ 63 }
         ensures ok { OnOk result (self.new ≡ landed_on format.Two update.now.snapshot.map self.old) }
         ensures err { OnErr result (self.new ≡ self.old) }
     {
-        update.snapshot.know();
-        let since = update.snapshot.version();
-        let names = update.stale.as_slice();
-        let count = sum_within(self.count, update.fresh.len())?;
         let snapshot = update.snapshot.share()?;
+        self.turn(
+            update.root,
+            update.fresh.len(),
+            update.stale.as_slice(),
+            snapshot,
+        )
+    }
+
+    /// Makes a landing on the head: `commit` is what it writes, and `snapshot` that of its map. If memory runs out, the
+    /// directory is unchanged.
+    pub fn apply_commit(&mut self, commit: &Commit, snapshot: Snapshot) -> Result<(), Memory>
+        requires last { self.old.head + 1 < never }
+        requires landing { commit.now ≡ landing_of format.Two self.old snapshot.map }
+        requires version { snapshot.version ≡ self.old.head + 1 }
+        requires versions { (p : Path) → is_node 0 p (entries snapshot.map) ≡ true → version_in snapshot p ≡ version_after self.old snapshot.map p }
+        requires room { len snapshot.map ≤ 2 ^ 63 }
+        ensures ok { OnOk result (self.new ≡ landed_on format.Two snapshot.map self.old) }
+        ensures err { OnErr result (self.new ≡ self.old) }
+    {
+        self.turn(
+            commit.root,
+            commit.fresh.len(),
+            commit.stale.as_slice(),
+            snapshot,
+        )
+    }
+
+    // Makes a landing on the head of which this is the root, the number of nodes that it writes, the names that it marks
+    // stale, and the snapshot. If memory runs out, the directory is unchanged.
+    fn turn(
+        &mut self,
+        root: Hash,
+        fresh: u64,
+        names: &[NodeName],
+        snapshot: Snapshot,
+    ) -> Result<(), Memory>
+        requires landing { IsLandingUpdate self.old snapshot.map (landing_update self.old snapshot) }
+        requires root { root ≡ (landing_update self.old snapshot).root }
+        requires fresh { fresh ≡ length (landing_update self.old snapshot).fresh }
+        requires stale { names.now ≡ (landing_update self.old snapshot).stale }
+        requires room { len snapshot.map ≤ 2 ^ 63 }
+        ensures ok { OnOk result (self.new ≡ landed_on format.Two snapshot.map self.old) }
+        ensures err { OnErr result (self.new ≡ self.old) }
+    {
+        snapshot.know();
+        let since = snapshot.version();
+        let count = sum_within(self.count, fresh)?;
         self.roots.reserve(1)?;
         self.snapshots.reserve(1)?;
         if let Err(fault) = mark_each(&mut self.marks, since, names) {
             unmark_each(&mut self.marks, since, names);
             return Err(fault);
         }
-        self.roots.push_reserved(update.root);
+        self.roots.push_reserved(root);
         self.snapshots.push_back_reserved(snapshot);
         self.count = count;
         Ok(())
@@ -265,11 +311,29 @@ impl Directory {
         ensures { (s : Standing) → IsReadStanding s → IsSound format.Two s → IsLandingUpdate s update.now.snapshot.map update.now → self.old ≡ landed_on format.Two update.now.snapshot.map s → self.new ≡ s }
     {
         update.snapshot.know();
-        let since = update.snapshot.version();
-        unmark_each(&mut self.marks, since, update.stale.as_slice());
+        self.turn_back(update.fresh.len(), update.stale.as_slice());
+    }
+
+    /// Takes back the landing that made the head, given as what it writes. It takes no memory.
+    pub fn undo_commit(&mut self, commit: &Commit)
+        requires made { (s : Standing) × (m : Map) × IsReadStanding s × IsSound format.Two s × IsMap m × (commit.now ≡ landing_of format.Two s m) × (self.old ≡ landed_on format.Two m s) }
+        ensures { (s : Standing) (m : Map) → IsReadStanding s → IsSound format.Two s → IsMap m → commit.now ≡ landing_of format.Two s m → self.old ≡ landed_on format.Two m s → self.new ≡ s }
+    {
+        self.turn_back(commit.fresh.len(), commit.stale.as_slice());
+    }
+
+    // Takes back the landing that made the head, which wrote so many nodes and marked these names stale.
+    fn turn_back(&mut self, fresh: u64, names: &[NodeName])
+        requires made { (s : Standing) × (m : Map) × IsReadStanding s × IsSound format.Two s × IsMap m × (fresh ≡ length (landing_of format.Two s m).fresh) × (names.now ≡ (landing_of format.Two s m).stale) × (self.old ≡ landed_on format.Two m s) }
+        ensures { (s : Standing) (m : Map) → IsReadStanding s → IsSound format.Two s → IsMap m → fresh ≡ length (landing_of format.Two s m).fresh → names.now ≡ (landing_of format.Two s m).stale → self.old ≡ landed_on format.Two m s → self.new ≡ s }
+    {
+        let newest = self.newest();
+        newest.know();
+        let since = newest.version();
+        unmark_each(&mut self.marks, since, names);
         let _ = self.snapshots.pop_back();
         let _ = self.roots.pop();
-        self.count -= update.fresh.len();
+        self.count -= fresh;
     }
 
     /// Drops the versions below a later floor, and the nodes that are stale by then. It takes no memory.
