@@ -27,11 +27,8 @@ use Rattle.jf_standing.proofs.Lists.{All-each_element, map-which, none_in_nothin
 use Rattle.jf_standing.proofs.Reordered.{moved-sound, map-moved, version-moved}
 use Rattle.jf_standing.proofs.SpelledRecords.{nodes-are_rising}
 use Rattle.jf_dir.specs.Directories.{begun_with}
-use Rattle.jf_dir.specs.Holding.{AreMarksOf, IsHeld}
+use Rattle.jf_dir.specs.Holding.{AreMarksOf, IsStandingHeld}
 use Rattle.jf_dir.proofs.MarkMoves.{mark-which}
-
-all_reversed : {X : Type 0} (P : X → Type 0) (xs : List X) → AllByRecursion P xs → (x : X) → Contains xs x → P x
-all_reversed P xs h x has = All-of P xs x h has
 
 module _ (base : ℕ) (earlier : List (List ℕ)) (x : SnapshotValue) (snap : IsSnapshot x) (hashes : AllByRecursion IsKey (root x.map ∷ reverse earlier)) (numbered : base + length earlier ≡ x.version) (last : x.version < never) (room : len x.map ≤ 2 ^ 63) where
   abbrev floor_made : Standing
@@ -98,7 +95,7 @@ module _ (base : ℕ) (earlier : List (List ℕ)) (x : SnapshotValue) (snap : Is
   pub nodes-begun : length (begun_with base earlier x).nodes ≡ length (nodes x.map)
   nodes-begun = length_permutation floor_made.nodes (nodes_by_name floor_made.nodes) moved ∙ length-map (nodes x.map) (node_of format.Two (version_in x))
 
-  pub held-begun : (n : ℕ) → n ≡ length (nodes x.map) → IsHeld (begun_with base earlier x) base (earlier ++ root x.map ∷ []) (x ∷ []) [] n
+  pub held-begun : (n : ℕ) → n ≡ length (nodes x.map) → IsStandingHeld (begun_with base earlier x) base (earlier ++ root x.map ∷ []) (x ∷ []) [] n
   held-begun n is = record {
     read = begun-read;
     sound = begun-sound;

@@ -19,7 +19,7 @@ use Rattle.jf_standing.proofs.Checkpoints.{same-nodes}
 use Rattle.jf_standing.proofs.Freshness.{child-node}
 use Rattle.jf_standing.proofs.Lists.{All-each_element}
 use Rattle.jf_standing.proofs.Steps.{parts_at}
-use Rattle.jf_dir.specs.Holding.{standing_held, AreSnapshotsFrom, IsHeld}
+use Rattle.jf_dir.specs.Holding.{standing_held, AreSnapshotsFrom, IsStandingHeld}
 
 -- two functions that agree on the elements of a list give the same list
 map_alike : {X Y : Type 0} (f g : X → Y) (xs : List X) → AllByRecursion (λ x. f x ≡ g x) xs → map f xs ≡ map g xs
@@ -41,7 +41,7 @@ maps-held s w [] h = refl
 maps-held s w (x ∷ xs) h = ap₂ (λ m ms. m ∷ ms) (sym h.0.map) (maps-held s (w + 1) xs h.1)
 
 -- what is built from snapshots that hold a standing is that standing
-pub held-is : (s : Standing) (b : ℕ) (rs : List (List ℕ)) (xs : List SnapshotValue) (ms : List Mark) (n : ℕ) → IsHeld s b rs xs ms n → standing_held b rs xs ≡ s
+pub held-is : (s : Standing) (b : ℕ) (rs : List (List ℕ)) (xs : List SnapshotValue) (ms : List Mark) (n : ℕ) → IsStandingHeld s b rs xs ms n → standing_held b rs xs ≡ s
 unfolding standing_held
 held-is s b rs [] ms n h = absurd (let long = h.long in let low = h.sound.floor_low in omega arith)
 held-is s b rs (x ∷ xs) ms n h =

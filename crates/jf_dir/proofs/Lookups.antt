@@ -1,7 +1,7 @@
 -- What holds a standing, at each version.
 use Rattle.std.specs.Prelude.{slice_index_or}
-use Rattle.std.proofs.Common.{◌≡◌, ℕ, zero, suc, ◌+◌, ◌-◌, ◌<◌, ◌≤◌, List, [], ◌∷◌, length, refl, sym, ap, ◌∙◌, subst, arith}
-use Rattle.std.proofs.lemmas.List.{get_or-reverse, length-reverse}
+use Rattle.std.proofs.Common.{◌≡◌, ℕ, zero, suc, ◌+◌, ◌-◌, ◌<◌, ◌≤◌, List, [], ◌∷◌, length, sym, ap, ◌∙◌, subst, arith}
+use Rattle.std.proofs.lemmas.List.{get_or-reverse, get_or_default, length-reverse}
 use Rattle.std.specs.FinMap as fin
 use Rattle.std.specs.FinMap.{entries}
 use Rattle.std.specs.List.{AllByRecursion}
@@ -13,7 +13,7 @@ use Rattle.jf_stale.specs.Marks.{Mark}
 use Rattle.jf_standing.specs.Named.{map_at}
 use Rattle.jf_standing.specs.Standing.{Standing, versions_of}
 use Rattle.jf_dir.specs.Directories.{IsSnapshotAt}
-use Rattle.jf_dir.specs.Holding.{AreSnapshotsFrom, HasShortValues, IsHeld}
+use Rattle.jf_dir.specs.Holding.{AreSnapshotsFrom, IsShortSnapshot, IsStandingHeld}
 
 -- a snapshot of a list is that of its version
 pub snapshot-at : (s : Standing) (w : ℕ) (xs : List SnapshotValue) (i : ℕ) (d : SnapshotValue) → i < length xs → AreSnapshotsFrom s w xs → IsSnapshotAt s (w + i) (slice_index_or xs i d)
@@ -21,13 +21,7 @@ snapshot-at s w [] i d lt h = absurd (omega arith)
 snapshot-at s w (x ∷ xs) zero d lt h = subst (λ v. IsSnapshotAt s v x) (let e : w ≡ w + 0 = omega arith in e) h.0
 snapshot-at s w (x ∷ xs) (suc i) d lt h = subst (λ v. IsSnapshotAt s v (slice_index_or xs i d)) (let e : w + 1 + i ≡ w + suc i = omega arith in e) (snapshot-at s (w + 1) xs i d (omega arith) h.1)
 
--- the default plays no part within a list
-same_item : {X : Type 0} (xs : List X) (i : ℕ) (d e : X) → i < length xs → slice_index_or xs i d ≡ slice_index_or xs i e
-same_item [] i d e lt = absurd (omega arith)
-same_item (x ∷ xs) zero d e lt = refl
-same_item (x ∷ xs) (suc i) d e lt = same_item xs i d e (omega arith)
-
-module _ (s : Standing) (b : ℕ) (rs : List (List ℕ)) (xs : List SnapshotValue) (ms : List Mark) (n : ℕ) (h : IsHeld s b rs xs ms n) where
+module _ (s : Standing) (b : ℕ) (rs : List (List ℕ)) (xs : List SnapshotValue) (ms : List Mark) (n : ℕ) (h : IsStandingHeld s b rs xs ms n) where
   pub held-at : (w : ℕ) (x : SnapshotValue) → s.floor ≤ w → w - s.floor < length xs → x ≡ slice_index_or xs (w - s.floor) x → IsSnapshotAt s w x
   held-at w x low lt is =
       subst (λ v. IsSnapshotAt s v x) (let e : s.floor + (w - s.floor) ≡ w = omega arith in e)
@@ -44,7 +38,7 @@ module _ (s : Standing) (b : ℕ) (rs : List (List ℕ)) (xs : List SnapshotValu
       let long = h.long in
       let none : SnapshotValue = record { version = 0; map = fin.empty; versions = [] } in
       let at = snapshot-at s s.floor xs (w - s.floor) none (omega arith) h.snapshots in
-      let short = All-by_place HasShortValues xs h.short (w - s.floor) none (omega arith) in
+      let short = All-by_place IsShortSnapshot xs h.short (w - s.floor) none (omega arith) in
       subst (λ v. AllByRecursion (λ (e : List ℕ × List ℕ). length e.1 ≤ max_value) (entries (map_at v s.nodes))) (let e : s.floor + (w - s.floor) ≡ w = omega arith in e)
       (subst (λ m. AllByRecursion (λ (e : List ℕ × List ℕ). length e.1 ≤ max_value) (entries m)) at.map short)
 
@@ -57,5 +51,5 @@ module _ (s : Standing) (b : ℕ) (rs : List (List ℕ)) (xs : List SnapshotValu
       let all : length rs ≡ s.head - s.base + 1 = sym (ap length h.rooted ∙ length-reverse rs) ∙ each in
       let back : length rs - 1 - (s.head - w) ≡ w - b = omega arith in (
         omega arith,
-        is ∙ same_item rs (w - b) r [] lt ∙ ap (λ i. slice_index_or rs i []) (sym back) ∙ sym (get_or-reverse rs (s.head - w) [] (omega arith)) ∙ ap (λ (ts : List (List ℕ)). slice_index_or ts (s.head - w) []) (sym h.rooted),
+        is ∙ get_or_default rs (w - b) r [] lt ∙ ap (λ i. slice_index_or rs i []) (sym back) ∙ sym (get_or-reverse rs (s.head - w) [] (omega arith)) ∙ ap (λ (ts : List (List ℕ)). slice_index_or ts (s.head - w) []) (sym h.rooted),
       )

@@ -26,7 +26,7 @@ use Rattle.jf_standing.proofs.Leaves.{IsMap-map_at}
 use Rattle.jf_standing.proofs.Nexts.{entries-nodes_after_commit, entries-floored}
 use Rattle.jf_standing.proofs.Rising.{are_rising-after, are_rising-floored, landing-read}
 use Rattle.jf_dir.specs.Directories.{IsSnapshotAt, IsLandingUpdate}
-use Rattle.jf_dir.specs.Holding.{AreSnapshotsFrom, AreMarksOf, HasShortValues, IsHeld}
+use Rattle.jf_dir.specs.Holding.{AreSnapshotsFrom, AreMarksOf, IsShortSnapshot, IsStandingHeld}
 
 -- ---- snapshots of another standing
 -- a snapshot of one standing is that of another with the same map and versions
@@ -116,8 +116,8 @@ module _ (s : Standing) (m : Map) (u : Update) (read : IsReadStanding s) (sound 
       }
 
   -- what holds the standing after the landing
-  pub held-landed : (b : ℕ) (rs : List (List ℕ)) (xs : List SnapshotValue) (ms ms' : List Mark) (n n' : ℕ) → IsHeld s b rs xs ms n → HasShortValues u.snapshot → AreMarksOf (landed_on format.Two m s).nodes ms' → n' ≡ n + length u.fresh
-      → IsHeld (landed_on format.Two m s) b (rs ++ u.root ∷ []) (xs ++ u.snapshot ∷ []) ms' n'
+  pub held-landed : (b : ℕ) (rs : List (List ℕ)) (xs : List SnapshotValue) (ms ms' : List Mark) (n n' : ℕ) → IsStandingHeld s b rs xs ms n → IsShortSnapshot u.snapshot → AreMarksOf (landed_on format.Two m s).nodes ms' → n' ≡ n + length u.fresh
+      → IsStandingHeld (landed_on format.Two m s) b (rs ++ u.root ∷ []) (xs ++ u.snapshot ∷ []) ms' n'
   held-landed b rs xs ms ms' n n' h short marks count =
       let long = h.long in
       record {
@@ -129,14 +129,14 @@ module _ (s : Standing) (m : Map) (u : Update) (read : IsReadStanding s) (sound 
         snapshots = snapshots-append (landed_on format.Two m s) s.floor xs u.snapshot
             (snapshots-moved s (landed_on format.Two m s) s.floor xs (λ v low high x is. snapshot-landed v (omega arith) x is) h.snapshots)
             (subst (λ v. IsSnapshotAt (landed_on format.Two m s) v u.snapshot) long snapshot-own);
-        short = All-append HasShortValues xs (u.snapshot ∷ []) h.short (short, tt);
+        short = All-append IsShortSnapshot xs (u.snapshot ∷ []) h.short (short, tt);
         marks = marks;
         count = count ∙ ap₂ (λ a b. a + b) h.count (ap length landing.fresh) ∙ sym (nodes-landed s m);
       }
 
   -- what holds the standing before the landing
-  pub held-unlanded : (b : ℕ) (rs : List (List ℕ)) (r : List ℕ) (xs : List SnapshotValue) (x : SnapshotValue) (ms ms' : List Mark) (n n' : ℕ) → IsHeld (landed_on format.Two m s) b (rs ++ r ∷ []) (xs ++ x ∷ []) ms n → AreMarksOf s.nodes ms' → n' + length u.fresh ≡ n
-      → IsHeld s b rs xs ms' n'
+  pub held-unlanded : (b : ℕ) (rs : List (List ℕ)) (r : List ℕ) (xs : List SnapshotValue) (x : SnapshotValue) (ms ms' : List Mark) (n n' : ℕ) → IsStandingHeld (landed_on format.Two m s) b (rs ++ r ∷ []) (xs ++ x ∷ []) ms n → AreMarksOf s.nodes ms' → n' + length u.fresh ≡ n
+      → IsStandingHeld s b rs xs ms' n'
   held-unlanded b rs r xs x ms ms' n n' h marks count =
       let long = h.long in
       record {
@@ -146,7 +146,7 @@ module _ (s : Standing) (m : Map) (u : Update) (read : IsReadStanding s) (sound 
         rooted = ap (drop 1) (h.rooted ∙ reverse-append rs (r ∷ []));
         long = omega (arith, length-append xs (x ∷ []));
         snapshots = snapshots-moved (landed_on format.Two m s) s s.floor xs (λ v low high y is. snapshot-unlanded v (omega (arith, length-append xs (x ∷ []))) y is) (snapshots-front (landed_on format.Two m s) s.floor xs x h.snapshots);
-        short = all_front HasShortValues xs x h.short;
+        short = all_front IsShortSnapshot xs x h.short;
         marks = marks;
         count = let all = h.count in let more = nodes-landed s m in let own = ap length landing.fresh in omega arith;
       }
@@ -168,8 +168,8 @@ module _ (s : Standing) (floor : ℕ) (low : s.floor ≤ floor) (high : floor �
   }
 
   -- what holds the standing under the later floor
-  pub held-floored : (b : ℕ) (rs : List (List ℕ)) (xs : List SnapshotValue) (ms ms' : List Mark) (n n' : ℕ) → IsHeld s b rs xs ms n → AreMarksOf (with_floor floor s).nodes ms' → n' ≡ length (with_floor floor s).nodes
-      → IsHeld (with_floor floor s) b rs (drop (floor - s.floor) xs) ms' n'
+  pub held-floored : (b : ℕ) (rs : List (List ℕ)) (xs : List SnapshotValue) (ms ms' : List Mark) (n n' : ℕ) → IsStandingHeld s b rs xs ms n → AreMarksOf (with_floor floor s).nodes ms' → n' ≡ length (with_floor floor s).nodes
+      → IsStandingHeld (with_floor floor s) b rs (drop (floor - s.floor) xs) ms' n'
   held-floored b rs xs ms ms' n n' h marks count =
       let long = h.long in
       record {
@@ -182,7 +182,7 @@ module _ (s : Standing) (floor : ℕ) (low : s.floor ≤ floor) (high : floor �
             (snapshots-moved s (with_floor floor s) (s.floor + (floor - s.floor)) (drop (floor - s.floor) xs)
             (λ v up down x is. snapshot-moved s (with_floor floor s) v x (map-floored floor v s (omega arith)) (λ p. version_floored v p (omega arith)) is)
             (snapshots-drop s s.floor (floor - s.floor) xs h.snapshots));
-        short = all_drop HasShortValues (floor - s.floor) xs h.short;
+        short = all_drop IsShortSnapshot (floor - s.floor) xs h.short;
         marks = marks;
         count = count;
       }

@@ -34,7 +34,7 @@ use Rattle.jf_standing.proofs.Lands.{map-lands}
 use Rattle.jf_standing.proofs.Leaves.{IsMap-map_at}
 use Rattle.jf_standing.proofs.Lists.{All-each_element}
 use Rattle.jf_dir.specs.Directories.{IsLandingUpdate, IsSnapshotAt, begun_with}
-use Rattle.jf_dir.specs.Holding.{standing_held, is_stale_node, landing_update, AreAdded, AreSomeAdded, AreRemoved, AreTakenUpto, IsHeld}
+use Rattle.jf_dir.specs.Holding.{standing_held, is_stale_node, landing_update, AreAdded, AreSomeAdded, AreRemoved, AreTakenUpto, IsStandingHeld}
 use Rattle.jf_dir.proofs.Begins.{held-begun}
 use Rattle.jf_dir.proofs.Held.{held-is}
 use Rattle.jf_dir.proofs.MarkCounts.{length-marks, count-floored}
@@ -42,8 +42,8 @@ use Rattle.jf_dir.proofs.MarkMoves.{mark-low, marks-landed, marks-unlanded, mark
 use Rattle.jf_dir.proofs.Moves.{nodes-landed, held-landed, held-unlanded, held-floored, floored-read}
 
 -- what holds a standing holds the standing that it makes
-pub held-again : (s : Standing) (b : ℕ) (rs : List (List ℕ)) (xs : List SnapshotValue) (ms : List Mark) (n : ℕ) → IsHeld s b rs xs ms n → IsHeld (standing_held b rs xs) b rs xs ms n
-held-again s b rs xs ms n h = subst (λ t. IsHeld t b rs xs ms n) (sym (held-is s b rs xs ms n h)) h
+pub held-again : (s : Standing) (b : ℕ) (rs : List (List ℕ)) (xs : List SnapshotValue) (ms : List Mark) (n : ℕ) → IsStandingHeld s b rs xs ms n → IsStandingHeld (standing_held b rs xs) b rs xs ms n
+held-again s b rs xs ms n h = subst (λ t. IsStandingHeld t b rs xs ms n) (sym (held-is s b rs xs ms n h)) h
 
 last_apart : {X : Type 0} (xs : List X) (k : ℕ) → length xs ≡ suc k → (x : X) × (xs ≡ take k xs ++ x ∷ [])
 last_apart [] k long = absurd (omega arith)
@@ -58,22 +58,22 @@ popped old new k full is some =
     (cut.0, cut.1 ∙ ap (λ xs. xs ++ cut.0 ∷ []) (sym is))
 
 -- ---- a landing
-module _ (s : Standing) (b : ℕ) (rs : List (List ℕ)) (xs : List SnapshotValue) (ms : List Mark) (n : ℕ) (h : IsHeld s b rs xs ms n) (u : Update) (landing : IsLandingUpdate s u.snapshot.map u) (snap : IsSnapshot u.snapshot) (room : len u.snapshot.map ≤ 2 ^ 63) where
+module _ (s : Standing) (b : ℕ) (rs : List (List ℕ)) (xs : List SnapshotValue) (ms : List Mark) (n : ℕ) (h : IsStandingHeld s b rs xs ms n) (u : Update) (landing : IsLandingUpdate s u.snapshot.map u) (snap : IsSnapshot u.snapshot) (room : len u.snapshot.map ≤ 2 ^ 63) where
   pub turn-landed : (rs' : List (List ℕ)) (xs' : List SnapshotValue) (x : SnapshotValue) (ms' : List Mark) (n' since : ℕ) (names : List NodeName) → rs' ≡ rs ++ u.root ∷ [] → xs' ≡ xs ++ x ∷ [] → x ≡ u.snapshot → since ≡ u.snapshot.version → names ≡ u.stale → AreAdded since names ms ms' → n' ≡ n + length u.fresh
-      → IsHeld (landed_on format.Two u.snapshot.map s) b rs' xs' ms' n'
+      → IsStandingHeld (landed_on format.Two u.snapshot.map s) b rs' xs' ms' n'
   turn-landed rs' xs' x ms' n' since names rooted more own at named added count =
       let m = u.snapshot.map in
       let marked_ : AreAdded (s.head + 1) (landing_of format.Two s m).stale ms ms' = subst (λ v. AreAdded v (landing_of format.Two s m).stale ms ms') (at ∙ landing.version) (subst (λ ns. AreAdded since ns ms ms') (named ∙ landing.stale) added) in
       let marks = marks-landed s m h.sound (IsMap-map_at s.head s.nodes h.read.keys) snap.map landing.last ms ms' h.marks marked_ in
       let held = held-landed s m u h.read h.sound snap.map room landing b rs xs ms ms' n n' h snap.short marks count in
-      subst (λ ts. IsHeld (landed_on format.Two m s) b ts xs' ms' n') (sym rooted)
-      (subst (λ ys. IsHeld (landed_on format.Two m s) b (rs ++ u.root ∷ []) ys ms' n') (ap (λ y. xs ++ y ∷ []) (sym own) ∙ sym more) held)
+      subst (λ ts. IsStandingHeld (landed_on format.Two m s) b ts xs' ms' n') (sym rooted)
+      (subst (λ ys. IsStandingHeld (landed_on format.Two m s) b (rs ++ u.root ∷ []) ys ms' n') (ap (λ y. xs ++ y ∷ []) (sym own) ∙ sym more) held)
 
   -- marks that were added in part and then removed
-  pub turn-kept : (rs' : List (List ℕ)) (xs' : List SnapshotValue) (ms₁ ms₂ : List Mark) (since : ℕ) (names : List NodeName) → rs' ≡ rs → xs' ≡ xs → since ≡ u.snapshot.version → AreSomeAdded since names ms ms₁ → AreRemoved since names ms₁ ms₂ → IsHeld s b rs' xs' ms₂ n
+  pub turn-kept : (rs' : List (List ℕ)) (xs' : List SnapshotValue) (ms₁ ms₂ : List Mark) (since : ℕ) (names : List NodeName) → rs' ≡ rs → xs' ≡ xs → since ≡ u.snapshot.version → AreSomeAdded since names ms ms₁ → AreRemoved since names ms₁ ms₂ → IsStandingHeld s b rs' xs' ms₂ n
   turn-kept rs' xs' ms₁ ms₂ since names rooted same at added removed =
       let version = landing.version in
-      let held : IsHeld s b rs xs ms₂ n = record {
+      let held : IsStandingHeld s b rs xs ms₂ n = record {
         read = h.read;
         sound = h.sound;
         base = h.base;
@@ -87,11 +87,11 @@ module _ (s : Standing) (b : ℕ) (rs : List (List ℕ)) (xs : List SnapshotValu
         );
         count = h.count;
       } in
-      subst (λ ts. IsHeld s b ts xs' ms₂ n) (sym rooted) (subst (λ ys. IsHeld s b rs ys ms₂ n) (sym same) held)
+      subst (λ ts. IsStandingHeld s b ts xs' ms₂ n) (sym rooted) (subst (λ ys. IsStandingHeld s b rs ys ms₂ n) (sym same) held)
 
 -- ---- a landing taken back
 pub turn-unlanded : (s : Standing) (b : ℕ) (rs rs' : List (List ℕ)) (xs xs' : List SnapshotValue) (ms ms' : List Mark) (n k j since count : ℕ) (names : List NodeName) (u : Update) → IsReadStanding s → IsSound format.Two s → IsLandingUpdate s u.snapshot.map u → IsSnapshot u.snapshot
-    → IsHeld (landed_on format.Two u.snapshot.map s) b rs xs ms n → k ≡ length rs → rs' ≡ take (k - 1) rs → j ≡ length xs → xs' ≡ take (j - 1) xs → since ≡ u.snapshot.version → names ≡ u.stale → AreRemoved since names ms ms' → count ≡ length u.fresh → IsHeld s b rs' xs' ms' (n - count)
+    → IsStandingHeld (landed_on format.Two u.snapshot.map s) b rs xs ms n → k ≡ length rs → rs' ≡ take (k - 1) rs → j ≡ length xs → xs' ≡ take (j - 1) xs → since ≡ u.snapshot.version → names ≡ u.stale → AreRemoved since names ms ms' → count ≡ length u.fresh → IsStandingHeld s b rs' xs' ms' (n - count)
 turn-unlanded s b rs rs' xs xs' ms ms' n k j since count names u read sound landing snap h rooted rs_are full xs_are at named removed number =
     let m = u.snapshot.map in
     let old = IsMap-map_at s.head s.nodes read.keys in
@@ -103,7 +103,7 @@ turn-unlanded s b rs rs' xs xs' ms ms' n k j since count names u read sound land
     let r = popped rs rs' k rooted rs_are (omega arith) in
     let long = h.long in
     let x = popped xs xs' j full xs_are (omega arith) in
-    let held : IsHeld (landed_on format.Two m s) b (rs' ++ r.0 ∷ []) (xs' ++ x.0 ∷ []) ms n = subst (λ ts. IsHeld (landed_on format.Two m s) b ts (xs' ++ x.0 ∷ []) ms n) r.1 (subst (λ ys. IsHeld (landed_on format.Two m s) b rs ys ms n) x.1 h) in
+    let held : IsStandingHeld (landed_on format.Two m s) b (rs' ++ r.0 ∷ []) (xs' ++ x.0 ∷ []) ms n = subst (λ ts. IsStandingHeld (landed_on format.Two m s) b ts (xs' ++ x.0 ∷ []) ms n) r.1 (subst (λ ys. IsStandingHeld (landed_on format.Two m s) b rs ys ms n) x.1 h) in
     let fewer : n - count + length u.fresh ≡ n = let all = h.count in let own = ap length landing.fresh in let sum = nodes-landed s m in omega arith in
     held-unlanded s m u read sound snap.map room landing b rs' r.0 xs' x.0 ms ms' n (n - count) held marks fewer
 
@@ -128,7 +128,7 @@ newest-update s m x read sound own after at =
 
 -- ---- a later floor
 -- no more marks are taken than there are nodes
-pub taken-few : (s : Standing) (b : ℕ) (rs : List (List ℕ)) (xs : List SnapshotValue) (ms ms' : List Mark) (n floor count : ℕ) → IsHeld s b rs xs ms n → AreAscendingMarks ms → AreTakenUpto floor count ms ms' → count ≤ n
+pub taken-few : (s : Standing) (b : ℕ) (rs : List (List ℕ)) (xs : List SnapshotValue) (ms ms' : List Mark) (n floor count : ℕ) → IsStandingHeld s b rs xs ms n → AreAscendingMarks ms → AreTakenUpto floor count ms ms' → count ≤ n
 taken-few s b rs xs ms ms' n floor count h up taken =
     let all = length-marks s.nodes ms h.read.rises up h.marks in
     let most = length-filter_le is_stale_node s.nodes in
@@ -136,23 +136,23 @@ taken-few s b rs xs ms ms' n floor count h up taken =
     let full = h.count in
     omega arith
 
-pub turn-floored : (s : Standing) (b : ℕ) (rs : List (List ℕ)) (xs xs' : List SnapshotValue) (ms ms' : List Mark) (n floor count dropped : ℕ) → IsHeld s b rs xs ms n → s.floor ≤ floor → floor ≤ s.head → xs' ≡ drop dropped xs → dropped ≡ floor - s.floor → AreAscendingMarks ms → AreAscendingMarks ms' → AreTakenUpto floor count ms ms'
-    → IsHeld (with_floor floor s) b rs xs' ms' (n - count)
+pub turn-floored : (s : Standing) (b : ℕ) (rs : List (List ℕ)) (xs xs' : List SnapshotValue) (ms ms' : List Mark) (n floor count dropped : ℕ) → IsStandingHeld s b rs xs ms n → s.floor ≤ floor → floor ≤ s.head → xs' ≡ drop dropped xs → dropped ≡ floor - s.floor → AreAscendingMarks ms → AreAscendingMarks ms' → AreTakenUpto floor count ms ms'
+    → IsStandingHeld (with_floor floor s) b rs xs' ms' (n - count)
 turn-floored s b rs xs xs' ms ms' n floor count dropped h low high rest at up up' taken =
     let last = h.sound.head_last in
-    subst (λ ys. IsHeld (with_floor floor s) b rs ys ms' (n - count)) (ap (λ i. drop i xs) (sym at) ∙ sym rest)
+    subst (λ ys. IsStandingHeld (with_floor floor s) b rs ys ms' (n - count)) (ap (λ i. drop i xs) (sym at) ∙ sym rest)
     (held-floored s floor low high b rs xs ms ms' n (n - count) h (marks-floored s floor count ms ms' h.marks taken)
     (count-floored s floor count n ms ms' h.read (floored-read s floor low high h.read) (omega arith) up up' h.marks taken h.count))
 
 -- ---- one snapshot
 pub turn-begun : (base : ℕ) (earlier : List (List ℕ)) (x : SnapshotValue) (r : List ℕ) (rs : List (List ℕ)) (none xs : List SnapshotValue) (ms : List Mark) (n : ℕ) → IsSnapshot x → AllByRecursion IsKey earlier → base + length earlier ≡ x.version → x.version < never → len x.map ≤ 2 ^ 63
-    → r ≡ root x.map → rs ≡ earlier ++ r ∷ [] → none ≡ [] → xs ≡ none ++ x ∷ [] → ms ≡ [] → n ≡ length (nodes x.map) → IsHeld (begun_with base earlier x) base rs xs ms n
+    → r ≡ root x.map → rs ≡ earlier ++ r ∷ [] → none ≡ [] → xs ≡ none ++ x ∷ [] → ms ≡ [] → n ≡ length (nodes x.map) → IsStandingHeld (begun_with base earlier x) base rs xs ms n
 turn-begun base earlier x r rs none xs ms n snap keys numbered last room root_is rooted empty one unmarked_ count =
     let hashes : AllByRecursion IsKey (root x.map ∷ reverse earlier) = (root-IsKey x.map, All-each_element IsKey (reverse earlier) (λ k has. All-of IsKey earlier k keys (Contains-permutation (reverse earlier) earlier k (IsPermutation-sym earlier (reverse earlier) (IsPermutation-reverse earlier)) has))) in
     let held = held-begun base earlier x snap hashes numbered last room n count in
-    subst (λ ts. IsHeld (begun_with base earlier x) base ts xs ms n) (ap (λ k. earlier ++ k ∷ []) (sym root_is) ∙ sym rooted)
-    (subst (λ ys. IsHeld (begun_with base earlier x) base (earlier ++ root x.map ∷ []) ys ms n) (ap (λ zs. zs ++ x ∷ []) (sym empty) ∙ sym one)
-    (subst (λ ks. IsHeld (begun_with base earlier x) base (earlier ++ root x.map ∷ []) (x ∷ []) ks n) (sym unmarked_) held))
+    subst (λ ts. IsStandingHeld (begun_with base earlier x) base ts xs ms n) (ap (λ k. earlier ++ k ∷ []) (sym root_is) ∙ sym rooted)
+    (subst (λ ys. IsStandingHeld (begun_with base earlier x) base (earlier ++ root x.map ∷ []) ys ms n) (ap (λ zs. zs ++ x ∷ []) (sym empty) ∙ sym one)
+    (subst (λ ks. IsStandingHeld (begun_with base earlier x) base (earlier ++ root x.map ∷ []) (x ∷ []) ks n) (sym unmarked_) held))
 
 -- ---- the empty map
 pub nodes-empty : nodes fin.empty ≡ ([], []) ∷ []

@@ -48,18 +48,18 @@ abbrev pub AreMarksOf : List Named → List Mark → Type 0
 AreMarksOf ns ms = (k : Mark) → Contains ms k ↔ Contains (marks_of ns) k
 
 -- the values of a snapshot have at most 4,096 bytes
-abbrev pub HasShortValues : SnapshotValue → Type 0
-HasShortValues x = AllByRecursion (λ e. length e.1 ≤ max_value) (entries x.map)
+abbrev pub IsShortSnapshot : SnapshotValue → Type 0
+IsShortSnapshot x = AllByRecursion (λ e. length e.1 ≤ max_value) (entries x.map)
 
 -- a base b, roots rs, snapshots xs, marks ms and a number n of nodes hold the standing s, which is sound
-pub record IsHeld (s : Standing) (b : ℕ) (rs : List (List ℕ)) (xs : List SnapshotValue) (ms : List Mark) (n : ℕ) : Type 0 where
+pub record IsStandingHeld (s : Standing) (b : ℕ) (rs : List (List ℕ)) (xs : List SnapshotValue) (ms : List Mark) (n : ℕ) : Type 0 where
   pub read : IsReadStanding s
   pub sound : IsSound format.Two s
   pub base : s.base ≡ b
   pub rooted : s.roots ≡ reverse rs
   pub long : s.head + 1 ≡ s.floor + length xs
   pub snapshots : AreSnapshotsFrom s s.floor xs
-  pub short : AllByRecursion HasShortValues xs
+  pub short : AllByRecursion IsShortSnapshot xs
   pub marks : AreMarksOf s.nodes ms
   pub count : n ≡ length s.nodes
 

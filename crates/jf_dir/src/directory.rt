@@ -56,11 +56,11 @@ impl Model for Directory {
 
     ghost Value = { Standing };
 
-    ghost use Rattle.jf_dir.specs.Holding.{standing_held, IsHeld};
+    ghost use Rattle.jf_dir.specs.Holding.{standing_held, IsStandingHeld};
 
     ghost view = { λ d. standing_held d.base d.roots.items d.snapshots.items };
 
-    ghost invariant = { λ d. IsHeld (standing_held d.base d.roots.items d.snapshots.items) d.base d.roots.items d.snapshots.items d.marks d.count };
+    ghost invariant = { λ d. IsStandingHeld (standing_held d.base d.roots.items d.snapshots.items) d.base d.roots.items d.snapshots.items d.marks d.count };
 }
 
 impl Directory {

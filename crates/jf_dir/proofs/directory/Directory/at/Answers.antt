@@ -1,13 +1,13 @@
 use Rattle.std.specs.Prelude.{slice_index_or}
 use Rattle.std.proofs.Common.{◌-◌, ◌<◌, ◌≤◌, length, refl, ap, ◌∙◌, subst}
 use Rattle.jf_standing.specs.Standing.{Standing}
-use Rattle.jf_dir.specs.Holding.{IsHeld}
+use Rattle.jf_dir.specs.Holding.{IsStandingHeld}
 use Rattle.jf_dir.proofs.Lookups.{held-at}
 use Rattle.jf_dir.proofs.directory.Directory.at.Goals as goal
 
 pub returns-clause-snapshot : goal.returns-clause-snapshot
 returns-clause-snapshot c =
-    let h = subst (λ (s : Standing). IsHeld s c.self.inside.base c.self.inside.roots.items c.self.inside.snapshots.items c.self.inside.marks c.self.inside.count) c.self.view_is c.self.invariant in
+    let h = subst (λ (s : Standing). IsStandingHeld s c.self.inside.base c.self.inside.roots.items c.self.inside.snapshots.items c.self.inside.marks c.self.inside.count) c.self.view_is c.self.invariant in
     let xs = c.self.inside.snapshots.items in
     let x = c.in_ok-snapshot.snapshot.now in
     let place = c.in_ok-place.ensures.1 ∙ ap (λ f. c.args.version - f) c.floor.ensures in
