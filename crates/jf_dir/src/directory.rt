@@ -323,14 +323,14 @@ impl Directory {
     }
 
     // Takes back the landing that made the head, which wrote so many nodes and marked these names stale.
-    fn turn_back(&mut self, fresh: u64, names: &[NodeName])
-        requires made { (s : Standing) × (m : Map) × IsReadStanding s × IsSound format.Two s × IsMap m × (fresh ≡ length (landing_of format.Two s m).fresh) × (names.now ≡ (landing_of format.Two s m).stale) × (self.old ≡ landed_on format.Two m s) }
-        ensures { (s : Standing) (m : Map) → IsReadStanding s → IsSound format.Two s → IsMap m → fresh ≡ length (landing_of format.Two s m).fresh → names.now ≡ (landing_of format.Two s m).stale → self.old ≡ landed_on format.Two m s → self.new ≡ s }
+    fn turn_back(&mut self, fresh: u64, stale: &[NodeName])
+        requires made { (s : Standing) × (m : Map) × IsReadStanding s × IsSound format.Two s × IsMap m × (fresh ≡ length (landing_of format.Two s m).fresh) × (stale.now ≡ (landing_of format.Two s m).stale) × (self.old ≡ landed_on format.Two m s) }
+        ensures { (s : Standing) (m : Map) → IsReadStanding s → IsSound format.Two s → IsMap m → fresh ≡ length (landing_of format.Two s m).fresh → stale.now ≡ (landing_of format.Two s m).stale → self.old ≡ landed_on format.Two m s → self.new ≡ s }
     {
         let newest = self.newest();
         newest.know();
         let since = newest.version();
-        unmark_each(&mut self.marks, since, names);
+        unmark_each(&mut self.marks, since, stale);
         let _ = self.snapshots.pop_back();
         let _ = self.roots.pop();
         self.count -= fresh;

@@ -13,7 +13,7 @@ use Rattle.jf_dir.proofs.Turns.{held-again, turn-unlanded, newest-update}
 use Rattle.jf_dir.proofs.directory.Directory.turn_back.Goals as goal
 
 -- what is held after the landing of m on s was taken back
-held : (c : goal.After-self-1) (s : Standing) (m : Map) → IsReadStanding s → IsSound format.Two s → IsMap m → c.args.fresh ≡ length (landing_of format.Two s m).fresh → c.args.names.now ≡ (landing_of format.Two s m).stale → c.args.self.now ≡ landed_on format.Two m s
+held : (c : goal.After-self-1) (s : Standing) (m : Map) → IsReadStanding s → IsSound format.Two s → IsMap m → c.args.fresh ≡ length (landing_of format.Two s m).fresh → c.args.stale.now ≡ (landing_of format.Two s m).stale → c.args.self.now ≡ landed_on format.Two m s
     → IsStandingHeld s c.self.inside.base c.pop.new.self.items c.pop_back.new.self.items c.unmark_each.new.marks (c.self.inside.count - c.args.fresh)
 held c s m read sound own fresh stale is =
     let h = subst (λ (t : Standing). IsStandingHeld t c.self.inside.base c.self.inside.roots.items c.self.inside.snapshots.items c.self.inside.marks c.self.inside.count) (c.self.view_is ∙ is) c.self.invariant in
