@@ -65,7 +65,7 @@ written_all version top m m' is placed =
 
 -- ---- what a landing wrote and made stale
 -- a node that has the new version exactly if it is fresh is versioned by its part
-follows : (version : ℕ) (old new : Part) (n : ℕ) (p : Path) (before now : Option ℕ) → (is_node 0 (n ∷ p) new ≡ true → now ≡ cond (is_fresh old new (n ∷ p)) (Some version) before) → VersionFollows version (sub 0 (n ∷ p) old) (sub 0 (n ∷ p) new) before now
+pub follows : (version : ℕ) (old new : Part) (n : ℕ) (p : Path) (before now : Option ℕ) → (is_node 0 (n ∷ p) new ≡ true → now ≡ cond (is_fresh old new (n ∷ p)) (Some version) before) → VersionFollows version (sub 0 (n ∷ p) old) (sub 0 (n ∷ p) new) before now
 follows version old new n p before now h = record {
   kept = λ some same. let node = is_node-sub 0 (n ∷ p) new some in h node ∙ ap (λ b. cond b (Some version) before) (is_fresh-same old new n p node same);
   fresh = λ some other. let node = is_node-sub 0 (n ∷ p) new some in h node ∙ ap (λ b. cond b (Some version) before) (is_fresh-other old new n p node other);
@@ -79,7 +79,7 @@ below_next old new n p next =
     (λ node. subst (λ es. is_node 0 (n ∷ p) es ≡ true → snapshot_version_at (n ∷ p) new ≡ cond (is_fresh (entries old.map) es (n ∷ p)) (Some (old.version + 1)) (snapshot_version_at (n ∷ p) old)) at (next.1.versions (n ∷ p)) node
     ∙ ap (λ v. cond (is_fresh (entries old.map) (entries new.map) (n ∷ p)) (Some v) (snapshot_version_at (n ∷ p) old)) (sym next.1.version))
 
-version_top : (s : SnapshotValue) (top : Option LinkValue) (n : ℕ) (p : Path) → IsTopOf s top → link_version_at (n ∷ p) top ≡ snapshot_version_at (n ∷ p) s
+pub version_top : (s : SnapshotValue) (top : Option LinkValue) (n : ℕ) (p : Path) → IsTopOf s top → link_version_at (n ∷ p) top ≡ snapshot_version_at (n ∷ p) s
 version_top s top n p is = sym (version_below s.version n p top) ∙ ap (snapshot_version_at (n ∷ p)) (sym is.value)
 
 older_than : (old new : SnapshotValue) (path : Path) → IsSnapshot old → IsNextOf old new → ¬ (snapshot_version_at path old ≡ Some new.version)

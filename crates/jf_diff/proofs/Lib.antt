@@ -6,3 +6,4 @@ pub mod PathNames
 pub mod TopLaws
 pub mod LandingLaws
 pub mod PartLaws
+pub mod GoneLaws

@@ -4,3 +4,4 @@ pub mod Below
 pub mod Plains
 pub mod Tops
 pub mod PartLists
+pub mod Gone

@@ -3,6 +3,7 @@
 #![tactic(auto)]
 
 mod child;
+mod gone;
 mod landing;
 mod list;
 mod lists;
@@ -14,6 +15,7 @@ mod top;
 mod wide;
 
 pub use child::{child_in, child_of, is_kept};
+pub use gone::{list_all_nodes, list_stale_nodes};
 pub use landing::written;
 pub use lists::Written;
 pub use plain_node::plain_of;
