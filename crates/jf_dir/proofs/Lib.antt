@@ -1,5 +1,6 @@
 pub mod Begins
 pub mod Held
+pub mod Listings
 pub mod Lookups
 pub mod MarkCounts
 pub mod MarkMoves

@@ -1,2 +1,3 @@
 pub mod Directories
 pub mod Holding
+pub mod Listing

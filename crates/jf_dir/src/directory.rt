@@ -22,6 +22,7 @@ ghost use Rattle.jf_dir.specs.Holding.{landing_update};
 
 use crate::counting::{node_count, sum_within};
 use crate::front::drop_front;
+use crate::listing::nodes_in_order;
 use crate::marking::{mark_each, take_marks, unmark_each};
 use crate::roots::{know_hashes, roots_with};
 use jf_hash::Hash;
@@ -348,11 +349,9 @@ impl Directory {
     }
 
     /// The nodes that are kept, in the order of their names, each with the version since which it is stale.
-    // A stand-in: no list is made yet, and each call is out of memory.
-    pub fn live(&self, _alloc: Global) -> Result<LiveList, Memory>
+    pub fn live(&self, alloc: Global) -> Result<LiveList, Memory>
         ensures { IfOk result (λ l. l ≡ self.now.nodes) }
     {
-        let _ = self;
-        Err(Memory)
+        nodes_in_order(alloc, self)
     }
 }

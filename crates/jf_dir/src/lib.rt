@@ -4,6 +4,7 @@
 mod counting;
 mod directory;
 mod front;
+mod listing;
 mod marking;
 mod roots;
 
