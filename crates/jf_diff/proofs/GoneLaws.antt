@@ -56,9 +56,9 @@ pub gone_some : (since head : ℕ) (old top : Option LinkValue) (x : LinkValue) 
 gone_some since head old top x front out now is placed own bare listing under =
     listing own (subst (λ o. IsStaleUnder since o top) is under)
     ∙ ap (λ l. out ++ l) (
-        with_root-from_node (content top) x.depth x.entries (gone_under since head (Some x)) (gone_below since front x) _ (subst (IsAtDepth 0) is placed)
-        (λ p. ap (λ q. (name_of_path (version_or (link_version_at p (Some x))) (q ++ p), plain_at x p, since)) bare) refl
-        ∙ ap (λ o. with_root (content top) (content o) (gone_under since head o)) (sym is))
+    with_root-from_node (content top) x.depth x.entries (gone_under since head (Some x)) (gone_below since front x) _ (subst (IsAtDepth 0) is placed)
+    (λ p. ap (λ q. (name_of_path (version_or (link_version_at p (Some x))) (q ++ p), plain_at x p, since)) bare) refl
+    ∙ ap (λ o. with_root (content top) (content o) (gone_under since head o)) (sym is))
 
 -- ---- the top of a later snapshot
 stale_over : (since : ℕ) (was top : Option LinkValue) → IsAtDepth 0 was

@@ -67,14 +67,7 @@ fn list_gone_at(
     match child_of(old, n) {
         None => Ok(()),
         Some(child) => {
-            list_gone(
-                alloc,
-                child,
-                child_in(new, n),
-                version,
-                &path.child(n),
-                out,
-            )?;
+            list_gone(alloc, child, child_in(new, n), version, &path.child(n), out)?;
             Ok(())
         }
     }

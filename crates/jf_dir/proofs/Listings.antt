@@ -1,5 +1,5 @@
 -- The nodes of a sound standing are those of its head, and those that each landing makes stale.
-use Rattle.std.proofs.Common.{◌≡◌, ◌⊎◌, inl, inr, ℕ, ◌+◌, ◌-◌, ◌<◌, ◌≤◌, Bool, true, false, cond, Option, Some, None, List, [], ◌∷◌, ◌++◌, map, length, Contains, refl, sym, ap, ap₂, ◌∙◌, subst, arith, is_eq, true≢false, append_assoc, Ordering, Less, Equal, Greater}
+use Rattle.std.proofs.Common.{◌≡◌, inl, inr, ℕ, ◌+◌, ◌-◌, ◌<◌, ◌≤◌, true, false, cond, Option, Some, None, List, [], ◌∷◌, ◌++◌, map, length, Contains, refl, sym, ap, ap₂, ◌∙◌, subst, arith, is_eq, true≢false, append_assoc, Ordering, Less, Equal, Greater}
 use Rattle.std.proofs.lemmas.Bool.{cases_lt}
 use Rattle.std.proofs.lemmas.List.Elements.{Contains-append_cases}
 use Rattle.std.specs.BTreeMap.{insert_entry}
@@ -15,8 +15,7 @@ use Rattle.jf_path.specs.Names.{name_cmp}
 use Rattle.jf_path.specs.declared.name.NodeName.{NodeName}
 use Rattle.jf_path.specs.declared.node.PlainNode.{PlainNode}
 use Rattle.jf_hash.specs.Maps.{IsMap}
-use Rattle.jf_hash.specs.Slots.{Part}
-use Rattle.jf_model.specs.Nodes.{Path, is_node, is_fresh, under, nodes, fresh, stale, plain_node}
+use Rattle.jf_model.specs.Nodes.{Path, is_node, is_fresh, under, nodes, stale, plain_node}
 use Rattle.jf_codec.specs.declared.format.Format.TheVariants as format
 use Rattle.jf_walk.proofs.NodePaths.{IsPath-is_node}
 use Rattle.jf_walk.proofs.NodesListed.{nodes-exact}
@@ -28,7 +27,7 @@ use Rattle.jf_standing.specs.Building.{apart, as_named, nodes_by_name}
 use Rattle.jf_standing.specs.Named.{Named, never, is_alive, is_at, is_stale, alive_at, stale_at, map_at, version_at}
 use Rattle.jf_standing.specs.Next.{IsReadStanding}
 use Rattle.jf_standing.specs.Order.{by_name}
-use Rattle.jf_standing.specs.Sound.{IsSound, is_counted}
+use Rattle.jf_standing.specs.Sound.{IsSound}
 use Rattle.jf_standing.specs.Standing.{Standing}
 use Rattle.jf_standing.proofs.Alive.{version-of, plain_node-same}
 use Rattle.jf_standing.proofs.Checkpoints.{same-by_name}
@@ -43,7 +42,6 @@ use Rattle.jf_standing.proofs.OneStanding.{version-step}
 use Rattle.jf_standing.proofs.Ordered.{Contains-find, find-Contains}
 use Rattle.jf_standing.proofs.Sinces.{alive-so, alive-tells, since-high, version-low}
 use Rattle.jf_standing.proofs.Stands.{stands}
-use Rattle.jf_standing.proofs.Steps.{parts_at}
 use Rattle.jf_standing.proofs.Unique.{few-alive, one-name}
 use Rattle.jf_standing.proofs.Unmoved.{alive-there, at-so, at-tells}
 use Rattle.jf_dir.specs.Directories.{IsSnapshotAt}
@@ -135,8 +133,8 @@ module _ (s : Standing) (sound : IsSound format.Two s) where
           let node' : is_node 0 p (entries (map_at (w + 1) s.nodes)) ≡ true = subst (λ m. is_node 0 p (entries m) ≡ true) next.map node in
           some_version (snapshot_version_at p new) (new_snap.versioned p ∙ node)
           ∙ ap (λ v. Some v) (
-              next.versions p node' ∙ version-step format.Two s sound (w + 1) (omega arith) (omega arith) p node'
-              ∙ ap₂ (λ a b. cond (is_fresh (entries a) (entries b) p) (w + 1) (version_at (w + 1 - 1) s.nodes p)) (ap (λ v. map_at v s.nodes) (let e : w + 1 - 1 ≡ w = omega arith in e) ∙ sym at.map) (sym next.map))
+          next.versions p node' ∙ version-step format.Two s sound (w + 1) (omega arith) (omega arith) p node'
+          ∙ ap₂ (λ a b. cond (is_fresh (entries a) (entries b) p) (w + 1) (version_at (w + 1 - 1) s.nodes p)) (ap (λ v. map_at v s.nodes) (let e : w + 1 - 1 ≡ w = omega arith in e) ∙ sym at.map) (sym next.map))
           ∙ (elim (is_fresh (entries old.map) (entries new.map) p) as (λ b. is_fresh (entries old.map) (entries new.map) p ≡ b → Some (cond b (w + 1) (version_at (w + 1 - 1) s.nodes p)) ≡ cond b (Some new.version) (snapshot_version_at p old)) [
             | true ↦ λ is. ap (λ v. Some v) (sym next.version)
             | false ↦ λ is.

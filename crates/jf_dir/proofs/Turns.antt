@@ -113,18 +113,20 @@ newest-update s m x read sound own after at =
     let last = after.head_last in
     let old = IsMap-map_at s.head s.nodes read.keys in
     let lands = map-lands format.Two s m sound old own last in
-    let same : x.map ≡ m = at.map ∙ lands in
-    (same, record {
-      last = last;
-      map = refl;
-      version = at.version;
-      root = refl;
-      fresh = refl;
-      stale = refl;
-      versions = λ p node.
-          let node_m : is_node 0 p (entries m) ≡ true = subst (λ q. is_node 0 p (entries q) ≡ true) same node in
-          at.versions p (subst (λ q. is_node 0 p (entries q) ≡ true) (sym lands) node_m) ∙ version-placed format.Two s m sound old own last p node_m ∙ ap (λ q. version_after s q p) (sym same);
-    })
+    let same : x.map ≡ m = at.map ∙ lands in (
+      same,
+      record {
+        last = last;
+        map = refl;
+        version = at.version;
+        root = refl;
+        fresh = refl;
+        stale = refl;
+        versions = λ p node.
+            let node_m : is_node 0 p (entries m) ≡ true = subst (λ q. is_node 0 p (entries q) ≡ true) same node in
+            at.versions p (subst (λ q. is_node 0 p (entries q) ≡ true) (sym lands) node_m) ∙ version-placed format.Two s m sound old own last p node_m ∙ ap (λ q. version_after s q p) (sym same);
+      },
+    )
 
 -- ---- a later floor
 -- no more marks are taken than there are nodes

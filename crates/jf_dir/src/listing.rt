@@ -20,10 +20,7 @@ pub(crate) fn nodes_in_order(alloc: Global, directory: &Directory) -> Result<Liv
 }
 
 /// All nodes of a directory: those of the head, and then those that each landing made stale.
-fn gathered(
-    alloc: Global,
-    directory: &Directory,
-) -> Result<Vec<(NodeName, PlainNode, u64)>, Memory>
+fn gathered(alloc: Global, directory: &Directory) -> Result<Vec<(NodeName, PlainNode, u64)>, Memory>
     ensures { IfOk result (λ v. AreListedTo directory.now directory.now.head v.items) }
 {
     let mut nodes = Vec::new(alloc);
@@ -74,10 +71,7 @@ fn list_stale_at(
 }
 
 /// Nodes in the order of their names; of those with one name the first.
-fn in_order(
-    alloc: Global,
-    mut nodes: Vec<(NodeName, PlainNode, u64)>,
-) -> Result<LiveList, Memory>
+fn in_order(alloc: Global, mut nodes: Vec<(NodeName, PlainNode, u64)>) -> Result<LiveList, Memory>
     ensures { IfOk result (λ l. l ≡ nodes_by_name nodes.items) }
 {
     let mut ordered = BTreeMap::new(alloc);
@@ -88,10 +82,7 @@ fn in_order(
 }
 
 /// The nodes of a map, in the order of their names.
-fn list_of(
-    alloc: Global,
-    ordered: BTreeMap<NodeName, (PlainNode, u64)>,
-) -> Result<LiveList, Memory>
+fn list_of(alloc: Global, ordered: BTreeMap<NodeName, (PlainNode, u64)>) -> Result<LiveList, Memory>
     ensures { IfOk result (λ l. l ≡ map as_named ordered.entries) }
 {
     let mut list = LiveList::new(alloc);

@@ -1,4 +1,4 @@
-use Rattle.std.proofs.Common.{◌≡◌, ◌++◌, ◌∙◌, ap, map}
+use Rattle.std.proofs.Common.{◌++◌, ◌∙◌, ap, map}
 use Rattle.jf_model.specs.Nodes.{nodes}
 use Rattle.jf_diff.specs.Gone.{gone_node_in}
 use Rattle.jf_standing.specs.Named.{never}

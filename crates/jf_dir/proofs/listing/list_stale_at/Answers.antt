@@ -1,4 +1,3 @@
-use Rattle.std.proofs.Common.{refl}
 use Rattle.jf_dir.proofs.Listings.{later-at, listed-next}
 use Rattle.jf_dir.proofs.listing.list_stale_at.Goals as goal
 
