@@ -1,5 +1,4 @@
 use Rattle.std.proofs.Common.{◌∙◌, ap, length}
-use Rattle.jf_path.specs.declared.name.NodeName.{NodeName}
 use Rattle.jf_payload.specs.declared.records.Commit.{Commit}
 use Rattle.jf_dir.proofs.directory.Directory.undo_commit.Goals as goal
 
