@@ -4,3 +4,10 @@ pub mod Puts
 pub mod Read
 pub mod Spelled
 pub mod Verdicts
+pub mod Fronts
+pub mod Numbered
+pub mod CutNodes
+pub mod CutSound
+pub mod CutLands
+pub mod Runs
+pub mod Listed
