@@ -11,3 +11,5 @@ pub mod CutSound
 pub mod CutLands
 pub mod Runs
 pub mod Listed
+pub mod KeyOrder
+pub mod FloorNodes

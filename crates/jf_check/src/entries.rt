@@ -16,13 +16,27 @@ fn leaves_of(
     ensures { IfOk result (λ m. m.entries ≡ entries_in nodes.now) }
 {
     let mut entries = BTreeMap::new(alloc);
-    for node in nodes.iter().rev() {
-        if let PlainNode::Leaf { key, value } = &node.1 {
+    for i in (0..nodes.len()).rev() {
+        if let PlainNode::Leaf { key, value } = &nodes[i].1 {
             let value = SharedBytes::copy_of(alloc, value.as_slice())?;
             entries.insert(*key, value)?;
         }
     }
     Ok(entries)
+}
+
+/// The entries of a tree as a list.
+fn list_of(
+    alloc: Global,
+    entries: BTreeMap<Key, SharedBytes>,
+) -> Result<Vec<(Key, SharedBytes)>, Memory>
+    ensures { IfOk result (λ v. v.items ≡ entries.entries) }
+{
+    let mut list = Vec::with_capacity(alloc, entries.len())?;
+    for (key, value) in entries {
+        list.push((key, value))?;
+    }
+    Ok(list)
 }
 
 /// The entries of leaves, in the order of their keys.
@@ -33,11 +47,7 @@ pub(crate) fn entries_of(
     ensures { IfOk result (λ v. v.items ≡ entries_in nodes.now) }
 {
     let entries = leaves_of(alloc, nodes)?;
-    let mut list = Vec::with_capacity(alloc, entries.len())?;
-    for (key, value) in &entries {
-        list.push((*key, value.share()?))?;
-    }
-    Ok(list)
+    list_of(alloc, entries)
 }
 
 /// The versions of nodes beside their paths in a tree.
@@ -48,10 +58,22 @@ fn paths_of(
     ensures { IfOk result (λ m. m.entries ≡ in_key_order (map path_and_version nodes.now)) }
 {
     let mut versions = BTreeMap::new(alloc);
-    for node in nodes.iter().rev() {
+    for i in (0..nodes.len()).rev() {
+        let node = &nodes[i];
         versions.insert(node.0.path, node.0.version)?;
     }
     Ok(versions)
+}
+
+/// The versions in a tree, in the order of their paths.
+fn values_of(alloc: Global, versions: BTreeMap<NibblePath, u64>) -> Result<Vec<u64>, Memory>
+    ensures { IfOk result (λ v. v.items ≡ map (λ e. e.1) versions.entries) }
+{
+    let mut list = Vec::with_capacity(alloc, versions.len())?;
+    for (_, version) in versions {
+        list.push(version)?;
+    }
+    Ok(list)
 }
 
 /// The versions of nodes, in the order of their paths.
@@ -62,11 +84,7 @@ pub(crate) fn versions_of(
     ensures { IfOk result (λ v. v.items ≡ versions_by_path nodes.now) }
 {
     let versions = paths_of(alloc, nodes)?;
-    let mut list = Vec::with_capacity(alloc, versions.len())?;
-    for (_, version) in &versions {
-        list.push(*version)?;
-    }
-    Ok(list)
+    values_of(alloc, versions)
 }
 
 /// The hash of each value.
