@@ -1,5 +1,5 @@
 -- Lists in the order of their keys, which are put one by one, from the last element to the first.
-use Rattle.std.proofs.Common.{◌≡◌, ℕ, zero, suc, ◌+◌, ◌-◌, ◌<◌, ◌≤◌, List, [], ◌∷◌, map, length, drop, get_or, Contains, Option, Some, None, refl, sym, ap, ◌∙◌, arith, subst, T, cond, Less, Equal, Greater, Ordering, is_eq}
+use Rattle.std.proofs.Common.{◌≡◌, ℕ, zero, suc, ◌+◌, ◌-◌, ◌<◌, ◌≤◌, List, [], ◌∷◌, ◌^◌, map, length, drop, get_or, Contains, Option, Some, None, refl, sym, ap, ◌∙◌, arith, subst, T, cond, Less, Equal, Greater, Ordering, is_eq}
 use Rattle.std.specs.BTreeMap.{insert_entry}
 use Rattle.std.specs.Cmp.Lexicographic.{nat_list_cmp_total}
 use Rattle.std.specs.FinMap.{put, find, is_sorted, entries, from_entries}
@@ -14,6 +14,15 @@ use Rattle.jf_hash.proofs.KeyOrder.{same_key-exact}
 use Rattle.jf_hash.specs.Maps.{Map}
 use Rattle.jf_standing.specs.Named.{Named, leaf_entry, leaf_entries}
 use Rattle.jf_check.specs.Floors.{in_key_order, path_and_version, entries_in}
+use Rattle.std.proofs.lemmas.Option.{same_Some}
+use Rattle.jf_path.specs.Limits.{max_value}
+use Rattle.jf_path.specs.Names.{IsName}
+use Rattle.jf_path.proofs.ListLaws.{All-of}
+use Rattle.jf_codec.specs.Spelling.{IsNode}
+use Rattle.jf_codec.specs.declared.format.Format.{Format}
+use Rattle.jf_standing.proofs.Leaves.{leaf-which}
+use Rattle.jf_standing.proofs.Lists.{All-each_element}
+use Rattle.jf_standing.proofs.Ordered.{find-Contains, Contains-find}
 use Rattle.jf_check.proofs.Puts.{drop-up}
 
 module _ {X : Type 0} where
@@ -60,3 +69,16 @@ pub version_put_at : (ns : List Named) (i : ℕ) (x : Named) (old new : List (Li
 version_put_at ns i x old new some low at was now =
     now ∙ insert_entry-is_put x.0.path x.0.version old ∙ ap (put key_cmp x.0.path x.0.version) was
     ∙ ap (λ xs. in_key_order (map path_and_version xs)) (ap (λ y. y ∷ drop i ns) at ∙ sym (drop-up ns i x some low))
+
+-- ---- values
+-- the values of leaves that have a spelling are short
+pub short-in_key_order : (fmt : Format) (ns : List Named) → AllByRecursion (λ n. IsName n.0 × IsNode fmt n.1 × (n.2 < 2 ^ 64)) ns → AllByRecursion (λ e. length e.1 ≤ max_value) (entries_in ns)
+short-in_key_order fmt ns spelled = All-each_element _ (entries_in ns) (λ e has.
+    let found = sym (find-in_key_order e.0 (leaf_entries ns)) ∙ Contains-find key_cmp nat_list_cmp_total same_key-exact (entries_in ns) e (sorted-in_key_order (leaf_entries ns)) has in
+    let n = leaf-which ns e (find-Contains key_cmp nat_list_cmp_total same_key-exact e.0 e.1 (leaf_entries ns) found) in
+    leaf_short n.0.1 e (All-of _ ns n.0 spelled n.1).1 n.2)
+  where
+    leaf_short : (x : PlainNode) (e : List ℕ × List ℕ) → IsNode fmt x → leaf_entry x ≡ Some e → length e.1 ≤ max_value
+    leaf_short node.Null e is leaf = absurd (cc)
+    leaf_short (node.Leaf key value) e is leaf = subst (λ (f : List ℕ × List ℕ). length f.1 ≤ max_value) (same_Some (key, value) e leaf) is.2
+    leaf_short (node.Inner cs) e is leaf = absurd (cc)

@@ -13,3 +13,4 @@ pub mod Runs
 pub mod Listed
 pub mod KeyOrder
 pub mod FloorNodes
+pub mod FloorBuilt
