@@ -14,3 +14,4 @@ pub mod Listed
 pub mod KeyOrder
 pub mod FloorNodes
 pub mod FloorBuilt
+pub mod FloorFound

@@ -108,6 +108,7 @@ pub(crate) fn floor_directory(
         return Err(CheckFault::Unsound);
     }
     let directory = Directory::of(alloc, base, &roots[..place], snapshot)?;
+    directory.know();
     if !are_nodes_of(alloc, &directory, own, format)? {
         return Err(CheckFault::Unsound);
     }
