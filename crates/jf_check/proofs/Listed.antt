@@ -72,7 +72,7 @@ module _ (fmt : Format) (s : Standing) (read : IsReadStanding s) (numbered : lis
       refused (subst (λ t. Continues t (landing_making w s)) (sym is) (landing-continues s w late read.rises all)) (subst (IsSound fmt) (sym landed) (sound-by fmt s sound w (omega arith) high))
 
 -- ---- the roots, which are listed the other way round
-root-listed : (roots : List (List ℕ)) (base head w : ℕ) → length (reverse roots) ≡ head - base + 1 → base ≤ w → w ≤ head → slice_index_or (reverse roots) (head - w) [] ≡ slice_index_or roots (w - base) []
+pub root-listed : (roots : List (List ℕ)) (base head w : ℕ) → length (reverse roots) ≡ head - base + 1 → base ≤ w → w ≤ head → slice_index_or (reverse roots) (head - w) [] ≡ slice_index_or roots (w - base) []
 root-listed roots base head w each low high =
     let long = length-reverse roots in
     get_or-reverse roots (head - w) [] (omega arith) ∙ ap (λ i. get_or roots i []) (let e : length roots - 1 - (head - w) ≡ w - base = omega arith in e)
