@@ -1,5 +1,6 @@
 -- What the tests on a floor say: it is begun as it is listed, or the checkpoint isn't sound.
-use Rattle.std.specs.Prelude.{slice_index_or, IsTrue}
+use Rattle.std.specs.Prelude.{slice_index_or, IsTrue, bytes_eq, not}
+use Rattle.std.proofs.lemmas.Slice.Eq.{bytes_eq-Decides}
 use Rattle.std.proofs.Common.{◌≡◌, ℕ, zero, suc, ◌+◌, ◌-◌, ◌<◌, ◌≤◌, ◌^◌, Bool, true, false, List, [], ◌∷◌, ◌++◌, map, filter, length, take, drop, reverse, get_or, Contains, refl, sym, ap, ap₂, ◌∙◌, subst, arith, inl, inr, ◌⊎◌, true≢false, drop_at, take-suc}
 use Rattle.std.proofs.lemmas.List.{reverse-append, length-reverse, take-append-drop}
 use Rattle.std.specs.Cmp.Lexicographic.{pointwise}
@@ -110,3 +111,15 @@ module _ (fmt : Format) (base floor head : ℕ) (roots : List (List ℕ)) (ns ow
           ap (λ (t : Standing). t.roots) is ∙ ap (λ r. r ∷ reverse (take (floor - base) roots)) rooted ∙ roots-upto roots (floor - base) (omega (arith, length-reverse roots))
           ∙ ap (λ k. drop k (reverse roots)) (let e : length roots - (floor - base + 1) ≡ head - floor = omega (arith, length-reverse roots) in e) in
           λ i. record { base = b i; floor = floor_is i; head = head_is i; roots = rs i; nodes = nodes i }
+
+-- equal hashes don't differ
+pub no-difference : (a b : List ℕ) → a ≡ b → true ≡ not (bytes_eq a b) → ⊥
+no-difference a b same differ = true≢false (differ ∙ ap not ((bytes_eq-Decides a b).1 same))
+
+-- hashes that don't differ are equal
+pub no-other : (a b : List ℕ) → false ≡ not (bytes_eq a b) → a ≡ b
+no-other a b same = (bytes_eq-Decides a b).0 (at (bytes_eq a b) same)
+  where
+    at : (t : Bool) → false ≡ not t → t ≡ true
+    at true is = refl
+    at false is = absurd (true≢false (sym is))
