@@ -35,7 +35,7 @@ use Rattle.jf_standing.proofs.Same.{name-exact, node-exact}
 use Rattle.jf_standing.specs.Same.{same_name, same_node}
 use Rattle.jf_node.specs.SnapshotValue.{SnapshotValue}
 use Rattle.jf_node.specs.Snapshots.{IsSnapshot, snapshot_version_at}
-use Rattle.jf_update.specs.Updates.{version_in, version_or}
+use Rattle.jf_diff.specs.Landings.{version_in, version_or}
 use Rattle.jf_dir.specs.Directories.{begun_with}
 use Rattle.jf_check.specs.Cuts.{standing_by, nodes_by, named_by, is_written_by}
 use Rattle.jf_check.specs.Floors.{listed_in, same_listed}

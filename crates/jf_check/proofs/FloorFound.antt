@@ -21,7 +21,7 @@ use Rattle.jf_standing.specs.FormatLaws.{standing_in}
 use Rattle.jf_standing.specs.Next.{IsReadStanding}
 use Rattle.jf_standing.proofs.Lists.{All-each_element}
 use Rattle.jf_update.specs.Restored.{IsRestored}
-use Rattle.jf_update.specs.Updates.{version_in}
+use Rattle.jf_diff.specs.Landings.{version_in}
 use Rattle.jf_dir.specs.Directories.{begun_with}
 use Rattle.jf_check.specs.Cuts.{has_numbers, is_written_by, named_by, standing_by, standing_listed}
 use Rattle.jf_check.specs.Floors.{AreFloorVersions, entries_in, versions_by_path, listed_in, same_listed}

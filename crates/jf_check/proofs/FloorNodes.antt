@@ -40,7 +40,7 @@ use Rattle.jf_standing.proofs.Stands.{stands}
 use Rattle.jf_standing.proofs.Unique.{few-alive}
 use Rattle.jf_standing.proofs.Unmoved.{alive-there, at-so}
 use Rattle.jf_node.specs.SnapshotValue.{SnapshotValue}
-use Rattle.jf_update.specs.Updates.{version_in, version_or}
+use Rattle.jf_diff.specs.Landings.{version_in, version_or}
 use Rattle.jf_update.specs.Restored.{AreNodeVersions, IsNewestFirst, IsRestored, by_path}
 use Rattle.jf_check.specs.Cuts.{is_written_by}
 use Rattle.jf_check.specs.Floors.{in_key_order, path_and_version, entries_in, versions_by_path, AreFloorVersions}

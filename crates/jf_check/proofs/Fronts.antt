@@ -16,7 +16,7 @@ use Rattle.jf_standing.specs.Building.{apart}
 use Rattle.jf_standing.proofs.Names.{are_rising-sorted}
 use Rattle.jf_standing.proofs.Rising.{sorted-are_rising}
 use Rattle.jf_standing.proofs.Numbers.{same_number}
-use Rattle.jf_update.proofs.Names.{are_rising-front}
+use Rattle.jf_diff.proofs.Names.{are_rising-front}
 use Rattle.jf_check.specs.Cuts.{without_since}
 
 pub take-next : {X : Type 0} (xs : List X) (i : ℕ) (d x : X) → i < length xs → x ≡ get_or xs i d → take (i + 1) xs ≡ take i xs ++ x ∷ []
