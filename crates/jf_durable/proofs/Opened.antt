@@ -87,7 +87,7 @@ generation-bounds spelling numbered (x ∷ xs) fmt s leads =
 
 -- ---- files with records
 module _ (formats : FormatsAreSound) (have : StandingsHaveVersions) (number : GenerationIsLive) (opens : OpensByRecords)
-  (o n : Option History) (m f m' f' : ℕ) (p : Pair) (fmt : Format) (s : Standing) (sound : IsSound format.Two s) (untold : o ≡ None → n ≡ None) where
+    (o n : Option History) (m f m' f' : ℕ) (p : Pair) (fmt : Format) (s : Standing) (sound : IsSound format.Two s) (untold : o ≡ None → n ≡ None) where
   pub read_kept : (rs : List Framed) → LeadToStanding rs fmt (standing_in fmt s) → p.is_live ≡ true → p.failed ≡ false → ((h : History) → o ≡ Some h → (g : History) × (n ≡ Some g) × (LeavesFiles h g × IsInStep p rs g.now)) → KeepsFiles n p fmt s (generation_in rs)
   read_kept rs leads live whole at = record {
     live = live;
@@ -117,10 +117,10 @@ module _ (formats : FormatsAreSound) (have : StandingsHaveVersions) (number : Ge
 
 -- ---- files without a record
 module _ (one : FilesStandForOne) (number : GenerationIsLive) (begins : BeginsByRecords) (o t n : Option History) (m f m' f' : ℕ) (p : Pair) (x : Framed) (to : LeadTo (x ∷ []) new_store)
-  (untold : o ≡ None → n ≡ None) (moment : m ≤ m') (faults : f ≤ f')
-  (left : (h : History) → o ≡ Some h → (k : History) × (t ≡ Some k) × (LeavesFiles h k × IsInStep p [] k.now))
-  (stop : (k : History) → t ≡ Some k → (g : History) × (n ≡ Some g) × StopsBetween k g [] (x ∷ []))
-  (readable : (g : History) → n ≡ Some g → IsImage g.now (reads g)) where
+    (untold : o ≡ None → n ≡ None) (moment : m ≤ m') (faults : f ≤ f')
+    (left : (h : History) → o ≡ Some h → (k : History) × (t ≡ Some k) × (LeavesFiles h k × IsInStep p [] k.now))
+    (stop : (k : History) → t ≡ Some k → (g : History) × (n ≡ Some g) × StopsBetween k g [] (x ∷ []))
+    (readable : (g : History) → n ≡ Some g → IsImage g.now (reads g)) where
   begun : (h : History) → o ≡ Some h → (g : History) × (n ≡ Some g) × IsBegunOver h g
   begun h told =
       let l = left h told in
@@ -146,19 +146,31 @@ module _ (one : FilesStandForOne) (number : GenerationIsLive) (begins : BeginsBy
       → ((k : History) → t ≡ Some k → (g : History) × (n ≡ Some g) × IsInStep p' (x ∷ []) g.now) → FilesOpened (disk_shown o m f) (disk_shown n m' f') new_store 1
   begun_opened succeeds reading p' kind numbered in_step =
       let at : (h : History) → o ≡ Some h → (g : History) × (n ≡ Some g) × (IsInStep p' (x ∷ []) g.now × (HoldsLive (reads h) [] × (LeavesNow h (λ f. StandsFor f new_store) → Succeeds Opens h g new_store))) = λ h told.
-          let l = left h told in
-          let both = on_same n _ _ (stop l.0 l.1) (in_step l.0 l.1) in
-          let held = in_step_holds p [] l.0 l.2.1 in
-          (both.0, both.1, (both.2.1, (subst (λ (f : Files). HoldsLive f []) l.2.0.same held,
-          λ calm. reading Opens h l.0 both.0 new_store calm l.2.0 (succeeds Opens l.0 both.0 new_store p' [] (x ∷ []) refl to held both.2.0 both.2.1 numbered (x, refl, kind))))) in
+      let l = left h told in
+      let both = on_same n _ _ (stop l.0 l.1) (in_step l.0 l.1) in
+      let held = in_step_holds p [] l.0 l.2.1 in (
+        both.0,
+        both.1,
+        (
+          both.2.1,
+          (
+            subst (λ (f : Files). HoldsLive f []) l.2.0.same held,
+            λ calm. reading Opens h l.0 both.0 new_store calm l.2.0 (succeeds Opens l.0 both.0 new_store p' [] (x ∷ []) refl to held both.2.0 both.2.1 numbered (x, refl, kind)),
+          ),
+        ),
+      ) in
       record {
         found = λ h told. let a = at h told in (record { live = []; held = a.2.1.0; leads = refl }, number (reads h) [] a.2.1.0);
         disk = begun_disk;
-        settled = λ h told. let a = at h told in (a.0, a.1, record {
-          stands = record { live = x ∷ []; held = in_step_holds p' (x ∷ []) a.0 a.2.0; leads = to };
-          leaves = λ f image. record { live = x ∷ []; held = in_step_leaves p' (x ∷ []) a.0 a.2.0 f image; leads = to };
-          generation_is = number (reads a.0) (x ∷ []) (in_step_holds p' (x ∷ []) a.0 a.2.0) ∙ numbered;
-        });
+        settled = λ h told. let a = at h told in (
+          a.0,
+          a.1,
+          record {
+            stands = record { live = x ∷ []; held = in_step_holds p' (x ∷ []) a.0 a.2.0; leads = to };
+            leaves = λ f image. record { live = x ∷ []; held = in_step_leaves p' (x ∷ []) a.0 a.2.0 f image; leads = to };
+            generation_is = number (reads a.0) (x ∷ []) (in_step_holds p' (x ∷ []) a.0 a.2.0) ∙ numbered;
+          },
+        );
         live = λ h told. let a = at h told in (a.0, a.1, λ rs was. (x ∷ [], in_step_holds p' (x ∷ []) a.0 a.2.0, subst (λ ys. LiveAfter Opens ys (x ∷ [])) (holds_one (reads h) [] rs a.2.1.0 was) (x, refl, kind)));
         succeeds = λ h told. let a = at h told in (a.0, a.1, a.2.1.1);
         untold = untold;
@@ -192,8 +204,8 @@ read_refused one o n m f m' f' why untold moment faults cause left damaged = rec
 -- ---- the results of an opening
 -- what is found if the records of a log are replayed
 module _ (formats : FormatsAreSound) (have : StandingsHaveVersions) (number : GenerationIsLive) (opens : OpensByRecords)
-  (o n : Option History) (m f m' f' : ℕ) (p : Pair) (rs : List Framed) (untold : o ≡ None → n ≡ None) (moment : m ≤ m') (faults : f ≤ f')
-  (at : (h : History) → o ≡ Some h → (g : History) × (n ≡ Some g) × (LeavesFiles h g × IsInStep p rs g.now)) (held : (h : History) → o ≡ Some h → HoldsLive (reads h) rs) where
+    (o n : Option History) (m f m' f' : ℕ) (p : Pair) (rs : List Framed) (untold : o ≡ None → n ≡ None) (moment : m ≤ m') (faults : f ≤ f')
+    (at : (h : History) → o ≡ Some h → (g : History) × (n ≡ Some g) × (LeavesFiles h g × IsInStep p rs g.now)) (held : (h : History) → o ≡ Some h → HoldsLive (reads h) rs) where
   pub replayed_opened : (r : Result Found OpenFault) → IfOk r (λ x. LeadToStanding rs x.format (standing_in x.format x.directory)) → IfOk r (λ x. IsSound format.Two x.directory) → IfOk r (λ x. x.generation ≡ generation_in rs)
       → IfOk r (λ x. FilesOpened (disk_shown o m f) (disk_shown n m' f') (versions_of x.directory) x.generation)
   replayed_opened (Ok x) led sound is =
@@ -239,10 +251,10 @@ first_written r (inl e) never = absurd (never e)
 first_written r (inr p) never = p
 
 module _ (one : FilesStandForOne) (place : DamageHasOnePlace) (number : GenerationIsLive) (begins : BeginsByRecords) (succeeds : SucceedsByRecords) (reading : SucceedsAfterReading) (first : FirstFollows) (follow : CheckpointsFollow) (numbered : CheckpointsAreNumbered) (new : NewIsSound)
-  (o t n : Option History) (m m1 m' f f1 f' : ℕ) (p : Pair) (untold : o ≡ None → t ≡ None) (later : m ≤ m1) (counted : f ≤ f1)
-  (left : (h : History) → o ≡ Some h → (k : History) × (t ≡ Some k) × (LeavesFiles h k × IsInStep p [] k.now))
-  (stop : (k : History) → t ≡ Some k → (g : History) × (n ≡ Some g) × StopsBetween k g [] (checkpoint_at_start 1 (new_standing format.Two) ∷ []))
-  (readable : (g : History) → n ≡ Some g → IsImage g.now (reads g)) where
+    (o t n : Option History) (m m1 m' f f1 f' : ℕ) (p : Pair) (untold : o ≡ None → t ≡ None) (later : m ≤ m1) (counted : f ≤ f1)
+    (left : (h : History) → o ≡ Some h → (k : History) × (t ≡ Some k) × (LeavesFiles h k × IsInStep p [] k.now))
+    (stop : (k : History) → t ≡ Some k → (g : History) × (n ≡ Some g) × StopsBetween k g [] (checkpoint_at_start 1 (new_standing format.Two) ∷ []))
+    (readable : (g : History) → n ≡ Some g → IsImage g.now (reads g)) where
   abbrev y : Framed
   y = checkpoint_at_start 1 (new_standing format.Two)
 

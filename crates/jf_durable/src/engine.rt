@@ -121,12 +121,14 @@ impl<D: Disk> Engine<D> {
         ensures whole { IfOk result (λ e. e.broken ≡ false) }
     {
         match find(rt, alloc, &mut disk) {
-            Ok(Found {
-                pair,
-                directory,
-                format,
-                generation,
-            }) => Ok(Engine {
+            Ok(
+                Found {
+                    pair,
+                    directory,
+                    format,
+                    generation,
+                },
+            ) => Ok(Engine {
                 disk,
                 pair,
                 directory,

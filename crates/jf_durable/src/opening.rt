@@ -23,9 +23,9 @@ use jf_codec::Format;
 use jf_dir::Directory;
 use jf_disk::{Disk, know_readable};
 use jf_files::{
-    begins_by_records, checkpoints_are_numbered, checkpoints_follow, damage_has_one_place, damage_is_no_versions,
-    files_stand_for_one, first_follows, generation_is_live, opens_by_records,
-    standings_have_versions, succeeds_after_reading, succeeds_by_records,
+    begins_by_records, checkpoints_are_numbered, checkpoints_follow, damage_has_one_place,
+    damage_is_no_versions, files_stand_for_one, first_follows, generation_is_live,
+    opens_by_records, standings_have_versions, succeeds_after_reading, succeeds_by_records,
 };
 use jf_frame::Log;
 use jf_pair::{Pair, files_hold_one_list, live_side_is_the_pairs};
@@ -101,11 +101,13 @@ fn read_store<H: Threads + Sync>(
         return Err(OpenFault::Damaged { side, offset: 0 });
     }
     match replay(rt, alloc, log, 1) {
-        Ok(Replayed {
-            directory,
-            format,
-            generation,
-        }) => {
+        Ok(
+            Replayed {
+                directory,
+                format,
+                generation,
+            },
+        ) => {
             directory.know();
             Ok(Found {
                 pair,

@@ -41,13 +41,16 @@ invariant_of-self g c =
     let s = c.self.inside.directory in
     let n = c.self.inside.generation + 1 in
     let first : 1 ≤ n = omega arith in
-    let last : n ≤ 2 ^ 64 - 2 = search rules in
-    (first, last, λ whole.
-    let k = c.self.invariant.2 c.if-self.false in
-    let frame = subst (λ bytes. IsFrame bytes 5 (record_bytes format.Two (checkpoint_of n s))) (sym c.as_slice.ensures) c.in_ok-frame.ensures.frame in
-    let leads = checkpoint_leads c.checkpoints_follow.ensures c.checkpoints_are_numbered.ensures s n c.know.ensures.read c.know.ensures.sound c.in_ok-frame.ensures.spelled in
-    switched_keeps (g.D.Disk.history c.self.inside.disk) (g.D.Disk.history c.switch.new.disk) c.switch.new.self format.Two s n (checkpoint_at_start n s) c.in-Ok.ensures.calls.untold c.in-Ok.ensures.side.1 (unfailed _ c.in-Ok.ensures.failed.0) leads.0 leads.1
-    (λ h told. c.in-Ok.ensures.ok h 5 (record_bytes format.Two (checkpoint_of n s)) told frame))
+    let last : n ≤ 2 ^ 64 - 2 = search rules in (
+      first,
+      last,
+      λ whole.
+          let k = c.self.invariant.2 c.if-self.false in
+          let frame = subst (λ bytes. IsFrame bytes 5 (record_bytes format.Two (checkpoint_of n s))) (sym c.as_slice.ensures) c.in_ok-frame.ensures.frame in
+          let leads = checkpoint_leads c.checkpoints_follow.ensures c.checkpoints_are_numbered.ensures s n c.know.ensures.read c.know.ensures.sound c.in_ok-frame.ensures.spelled in
+          switched_keeps (g.D.Disk.history c.self.inside.disk) (g.D.Disk.history c.switch.new.disk) c.switch.new.self format.Two s n (checkpoint_at_start n s) c.in-Ok.ensures.calls.untold c.in-Ok.ensures.side.1 (unfailed _ c.in-Ok.ensures.failed.0) leads.0 leads.1
+          (λ h told. c.in-Ok.ensures.ok h 5 (record_bytes format.Two (checkpoint_of n s)) told frame),
+    )
 
 pub returns-in-Ok-clause-succeeds : goal.returns-in-Ok-clause-succeeds
 returns-in-Ok-clause-succeeds g c = λ h told.

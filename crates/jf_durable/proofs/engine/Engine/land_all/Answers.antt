@@ -24,19 +24,23 @@ pub append-requires-clause-in_step : goal.append-requires-clause-in_step
 append-requires-clause-in_step g c = λ κs within h told. let k = (c.self.invariant.2 c.if-self.false).holds h told in (k.held, k.in_step)
 
 pub invariant_of-self-in-Ok-append : goal.invariant_of-self-in-Ok-append
-invariant_of-self-in-Ok-append g c = (c.self.invariant.0, c.self.invariant.1, λ whole.
-    let s = c.self.inside.directory in
-    let fmt = c.self.inside.format in
-    let p = c.self.inside.pair in
-    let bs = c.as_slice.result.now in
-    let r = landed_record (landings_of format.Two s bs) in
-    let w = c.in_ok-record.ensures in
-    let frame = subst (λ bytes. IsFrame bytes (kind_of fmt r) (record_bytes fmt r)) (sym c.as_slice-2.ensures) (subst (λ (q : Record). IsFrame c.in-Ok.frame (kind_of fmt q) (record_bytes fmt q)) w.written c.in-Ok.ensures) in
-    let k = c.self.invariant.2 c.if-self.false in
-    let kept = appended_keeps _ _ p c.append.new.self fmt s (all_landed format.Two s bs) c.self.inside.generation (appended fmt p.offset r) k c.in-Ok-append.ensures.calls.untold (c.in-Ok-append.ensures.same.1 ∙ k.live) (unfailed _ c.in-Ok-append.ensures.failed.0)
-        (λ rs leads. (landings_lead c.landings_follow.ensures c.formats_are_sound.ensures c.formats_group.ensures c.kept_is_spelled.ensures c.written_in_both.ensures rs fmt p.offset s bs leads c.know.ensures.read c.know.ensures.sound w.sound w.bounded.1 w.bounded.0 w.spelled).0)
-        (λ h told. c.in-Ok-append.ensures.ok h (k.holds h told).held (kind_of fmt r) (record_bytes fmt r) told (k.holds h told).in_step frame) in
-    subst (λ (t : Standing). KeepsFiles (g.D.Disk.history c.append.new.disk) c.append.new.self fmt t c.self.inside.generation) (sym w.landed) kept)
+invariant_of-self-in-Ok-append g c = (
+  c.self.invariant.0,
+  c.self.invariant.1,
+  λ whole.
+      let s = c.self.inside.directory in
+      let fmt = c.self.inside.format in
+      let p = c.self.inside.pair in
+      let bs = c.as_slice.result.now in
+      let r = landed_record (landings_of format.Two s bs) in
+      let w = c.in_ok-record.ensures in
+      let frame = subst (λ bytes. IsFrame bytes (kind_of fmt r) (record_bytes fmt r)) (sym c.as_slice-2.ensures) (subst (λ (q : Record). IsFrame c.in-Ok.frame (kind_of fmt q) (record_bytes fmt q)) w.written c.in-Ok.ensures) in
+      let k = c.self.invariant.2 c.if-self.false in
+      let kept = appended_keeps _ _ p c.append.new.self fmt s (all_landed format.Two s bs) c.self.inside.generation (appended fmt p.offset r) k c.in-Ok-append.ensures.calls.untold (c.in-Ok-append.ensures.same.1 ∙ k.live) (unfailed _ c.in-Ok-append.ensures.failed.0)
+      (λ rs leads. (landings_lead c.landings_follow.ensures c.formats_are_sound.ensures c.formats_group.ensures c.kept_is_spelled.ensures c.written_in_both.ensures rs fmt p.offset s bs leads c.know.ensures.read c.know.ensures.sound w.sound w.bounded.1 w.bounded.0 w.spelled).0)
+      (λ h told. c.in-Ok-append.ensures.ok h (k.holds h told).held (kind_of fmt r) (record_bytes fmt r) told (k.holds h told).in_step frame) in
+      subst (λ (t : Standing). KeepsFiles (g.D.Disk.history c.append.new.disk) c.append.new.self fmt t c.self.inside.generation) (sym w.landed) kept,
+)
 
 pub returns-in-Ok-append-clause-answer : goal.returns-in-Ok-append-clause-answer
 returns-in-Ok-append-clause-answer g c = (c.head-in-Ok-append.ensures, c.root.ensures ∙ ap root (c.newest-in-Ok-append.ensures.map ∙ sym (newest-head c.land_batches.new.directory)), c.moment.ensures)
@@ -59,9 +63,12 @@ returns-in-Ok-append-clause-succeeds g c = λ h told.
     let ok = c.in-Ok-append.ensures.ok h k.held (kind_of fmt r) (record_bytes fmt r) told k.in_step frame in
     let both = on_same _ _ _ stop ok in
     let leads = landings_lead c.landings_follow.ensures c.formats_are_sound.ensures c.formats_group.ensures c.kept_is_spelled.ensures c.written_in_both.ensures k.held fmt p.offset s bs k.leads c.know.ensures.read c.know.ensures.sound w.sound w.bounded.1 w.bounded.0 w.spelled in
-    let after = lead_after c.formats_are_sound.ensures c.standings_have_versions.ensures (land_all bs) (k.held ++ y ∷ []) fmt fmt s (all_landed format.Two s bs) c.know.ensures.sound leads in
-    (both.0, both.1, step_succeeds c.formats_are_sound.ensures c.standings_have_versions.ensures c.succeeds_by_records.ensures (Lands bs) h both.0 p c.append.new.self fmt s c.self.inside.generation k (k.held ++ y ∷ []) c.know.ensures.sound after both.2.0 both.2.1
-    (generation-push k.held y fmt (standing_in fmt s) k.leads ∙ k.numbered) (y, refl))) told)
+    let after = lead_after c.formats_are_sound.ensures c.standings_have_versions.ensures (land_all bs) (k.held ++ y ∷ []) fmt fmt s (all_landed format.Two s bs) c.know.ensures.sound leads in (
+      both.0,
+      both.1,
+      step_succeeds c.formats_are_sound.ensures c.standings_have_versions.ensures c.succeeds_by_records.ensures (Lands bs) h both.0 p c.append.new.self fmt s c.self.inside.generation k (k.held ++ y ∷ []) c.know.ensures.sound after both.2.0 both.2.1
+          (generation-push k.held y fmt (standing_in fmt s) k.leads ∙ k.numbered) (y, refl),
+    )) told)
 
 pub returns-clause-stops : goal.returns-clause-stops
 returns-clause-stops g c = λ h told fault.

@@ -23,17 +23,21 @@ pub append-requires-clause-in_step : goal.append-requires-clause-in_step
 append-requires-clause-in_step g c = λ κs within h told. let k = (c.self.invariant.2 c.if-self.false).holds h told in (k.held, k.in_step)
 
 pub invariant_of-self : goal.invariant_of-self
-invariant_of-self g c = (c.self.invariant.0, c.self.invariant.1, λ whole.
-    let s = c.self.inside.directory in
-    let fmt = c.self.inside.format in
-    let p = c.self.inside.pair in
-    let k = c.self.invariant.2 c.if-self.false in
-    let low = subst (λ (e : EngineState). e.versions.floor ≤ c.args.floor) (sym c.self.view_is) c.requires.low in
-    let high = subst (λ (e : EngineState). c.args.floor ≤ e.versions.head) (sym c.self.view_is) c.requires.high in
-    let kept = appended_keeps _ _ p c.append.new.self fmt s (with_floor c.args.floor s) c.self.inside.generation (appended fmt p.offset («record».Floor c.args.floor)) k c.in-Ok.ensures.calls.untold (c.in-Ok.ensures.same.1 ∙ k.live) (unfailed _ c.in-Ok.ensures.failed.0)
-        (λ rs leads. (floors_lead c.floors_follow.ensures c.formats_are_sound.ensures c.formats_follow.ensures rs fmt p.offset s c.args.floor leads c.know.ensures.sound low high).0)
-        (λ h told. c.in-Ok.ensures.ok h (k.holds h told).held 2 (record_bytes fmt («record».Floor c.args.floor)) told (k.holds h told).in_step (c.encode_floor.ensures fmt)) in
-    subst (λ (t : Standing). KeepsFiles (g.D.Disk.history c.append.new.disk) c.append.new.self fmt t c.self.inside.generation) (sym c.prune.ensures) kept)
+invariant_of-self g c = (
+  c.self.invariant.0,
+  c.self.invariant.1,
+  λ whole.
+      let s = c.self.inside.directory in
+      let fmt = c.self.inside.format in
+      let p = c.self.inside.pair in
+      let k = c.self.invariant.2 c.if-self.false in
+      let low = subst (λ (e : EngineState). e.versions.floor ≤ c.args.floor) (sym c.self.view_is) c.requires.low in
+      let high = subst (λ (e : EngineState). c.args.floor ≤ e.versions.head) (sym c.self.view_is) c.requires.high in
+      let kept = appended_keeps _ _ p c.append.new.self fmt s (with_floor c.args.floor s) c.self.inside.generation (appended fmt p.offset («record».Floor c.args.floor)) k c.in-Ok.ensures.calls.untold (c.in-Ok.ensures.same.1 ∙ k.live) (unfailed _ c.in-Ok.ensures.failed.0)
+      (λ rs leads. (floors_lead c.floors_follow.ensures c.formats_are_sound.ensures c.formats_follow.ensures rs fmt p.offset s c.args.floor leads c.know.ensures.sound low high).0)
+      (λ h told. c.in-Ok.ensures.ok h (k.holds h told).held 2 (record_bytes fmt («record».Floor c.args.floor)) told (k.holds h told).in_step (c.encode_floor.ensures fmt)) in
+      subst (λ (t : Standing). KeepsFiles (g.D.Disk.history c.append.new.disk) c.append.new.self fmt t c.self.inside.generation) (sym c.prune.ensures) kept,
+)
 
 pub returns-in-Ok-clause-pruned : goal.returns-in-Ok-clause-pruned
 returns-in-Ok-clause-pruned g c =
@@ -59,9 +63,12 @@ returns-in-Ok-clause-succeeds g c = λ h told.
     let ok = c.in-Ok.ensures.ok h k.held 2 payload told k.in_step (c.encode_floor.ensures fmt) in
     let both = on_same _ _ _ stop ok in
     let leads = floors_lead c.floors_follow.ensures c.formats_are_sound.ensures c.formats_follow.ensures k.held fmt p.offset s f k.leads c.know.ensures.sound low high in
-    let after = lead_after c.formats_are_sound.ensures c.standings_have_versions.ensures (pruned f) (k.held ++ y ∷ []) fmt fmt s (with_floor f s) c.know.ensures.sound leads in
-    (both.0, both.1, step_succeeds c.formats_are_sound.ensures c.standings_have_versions.ensures c.succeeds_by_records.ensures (Prunes f) h both.0 p c.append.new.self fmt s c.self.inside.generation k (k.held ++ y ∷ []) c.know.ensures.sound after both.2.0 both.2.1
-    (generation-push k.held y fmt (standing_in fmt s) k.leads ∙ k.numbered) (y, refl))) told
+    let after = lead_after c.formats_are_sound.ensures c.standings_have_versions.ensures (pruned f) (k.held ++ y ∷ []) fmt fmt s (with_floor f s) c.know.ensures.sound leads in (
+      both.0,
+      both.1,
+      step_succeeds c.formats_are_sound.ensures c.standings_have_versions.ensures c.succeeds_by_records.ensures (Prunes f) h both.0 p c.append.new.self fmt s c.self.inside.generation k (k.held ++ y ∷ []) c.know.ensures.sound after both.2.0 both.2.1
+          (generation-push k.held y fmt (standing_in fmt s) k.leads ∙ k.numbered) (y, refl),
+    )) told
 
 pub returns-in-Err-clause-stops : goal.returns-in-Err-clause-stops
 returns-in-Err-clause-stops g c = λ h told fault.
