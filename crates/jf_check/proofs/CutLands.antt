@@ -1,10 +1,6 @@
 -- A standing at a version is the landing that made this version on the standing at the version before.
 use Rattle.std.specs.Prelude.{IsTrue, slice_index_or}
-<<<<<<< HEAD
-use Rattle.std.proofs.Common.{◌≡◌, ℕ, zero, suc, ◌+◌, ◌-◌, ◌<◌, ◌≤◌, Bool, true, false, cond, ◌&&◌, ◌==◌, nat_le, List, [], ◌∷◌, ◌++◌, map, filter, drop, length, Contains, refl, sym, ap, ap₂, ◌∙◌, subst, arith, inl, inr, ◌⊎◌, Less, Equal, Greater, nat_cmp, is_lt, true≢false, Some}
-=======
 use Rattle.std.proofs.Common.{◌≡◌, ℕ, zero, suc, ◌+◌, ◌-◌, ◌<◌, ◌≤◌, true, false, cond, ◌==◌, nat_le, List, [], ◌∷◌, ◌++◌, map, filter, drop, length, Contains, refl, sym, ap, ap₂, ◌∙◌, subst, arith, inl, inr, ◌⊎◌, Greater, nat_cmp, is_lt, true≢false}
->>>>>>> 74902467ae9943722e1117ccc46b83d75630f645
 use Rattle.std.proofs.lemmas.Option.{same_Some}
 use Rattle.std.proofs.lemmas.Bool.{cases_lt}
 use Rattle.std.proofs.lemmas.Bool.Decides.{nat_tests}
@@ -18,11 +14,7 @@ use Rattle.jf_path.specs.declared.node.PlainNode.{PlainNode}
 use Rattle.jf_path.specs.Names.{name_cmp, are_rising}
 use Rattle.jf_path.specs.NameLaws.{name_cmp_total}
 use Rattle.jf_path.proofs.BoolLaws.{left_true, right_true}
-<<<<<<< HEAD
-use Rattle.jf_path.proofs.ListLaws.{All-of, All-weaker, Contains-first, Contains-later, Contains-map}
-=======
 use Rattle.jf_path.proofs.ListLaws.{All-of, All-weaker, Contains-map}
->>>>>>> 74902467ae9943722e1117ccc46b83d75630f645
 use Rattle.jf_path.proofs.FilterLaws.{filter-same, filter-Contains, filter-passes, Contains-filter}
 use Rattle.jf_codec.specs.declared.format.Format.{Format}
 use Rattle.jf_standing.specs.Named.{Named, never, is_written, is_stale, written_at, stale_at}
@@ -32,11 +24,7 @@ use Rattle.jf_standing.specs.Sound.{IsSound}
 use Rattle.jf_standing.specs.Taking.{Continues}
 use Rattle.jf_standing.proofs.Lists.{All-each_element, map-which, same_test}
 use Rattle.jf_standing.proofs.Names.{named-tells, named-so, are_rising-sorted, same_name-exact}
-<<<<<<< HEAD
-use Rattle.jf_standing.proofs.Numbers.{le_so, le_tells, number_tells, same_number, other_number}
-=======
 use Rattle.jf_standing.proofs.Numbers.{le_so, number_tells, other_number}
->>>>>>> 74902467ae9943722e1117ccc46b83d75630f645
 use Rattle.jf_standing.proofs.Ordered.{Contains-find}
 use Rattle.jf_standing.proofs.Sinces.{version-low, version-before, since-high}
 use Rattle.jf_check.specs.Cuts.{is_written_by, named_by, nodes_by, standing_by, without_since, landing_making}
@@ -152,15 +140,9 @@ module _ (s : Standing) (w : ℕ) (late : s.floor < w) (rises : IsTrue (are_risi
   landed_nodes =
       ap₂ (λ a b. a ++ b)
       (map-map (named_by (w - 1)) (marked (landing_making w s)) (filter (is_written_by (w - 1)) s.nodes)
-<<<<<<< HEAD
-        ∙ map-each (λ n. marked (landing_making w s) (named_by (w - 1) n)) (named_by w) (filter (is_written_by (w - 1)) s.nodes) (All-each_element _ (filter (is_written_by (w - 1)) s.nodes) (λ n has. marked_by n (filter-Contains (is_written_by (w - 1)) s.nodes n has))))
-      (map-map without_since unmarked (written_at w s.nodes)
-        ∙ map-each (λ n. unmarked (without_since n)) (named_by w) (written_at w s.nodes) (All-each_element _ (written_at w s.nodes) (λ n has. fresh_by n (filter-Contains (is_written w) s.nodes n has) (filter-passes (is_written w) s.nodes n has))))
-=======
       ∙ map-each (λ n. marked (landing_making w s) (named_by (w - 1) n)) (named_by w) (filter (is_written_by (w - 1)) s.nodes) (All-each_element _ (filter (is_written_by (w - 1)) s.nodes) (λ n has. marked_by n (filter-Contains (is_written_by (w - 1)) s.nodes n has))))
       (map-map without_since unmarked (written_at w s.nodes)
       ∙ map-each (λ n. unmarked (without_since n)) (named_by w) (written_at w s.nodes) (All-each_element _ (written_at w s.nodes) (λ n has. fresh_by n (filter-Contains (is_written w) s.nodes n has) (filter-passes (is_written w) s.nodes n has))))
->>>>>>> 74902467ae9943722e1117ccc46b83d75630f645
       ∙ sym (ap (map (named_by w)) (split-written w s.nodes (omega arith) rises) ∙ map-join (named_by w) (filter (is_written_by (w - 1)) s.nodes) (written_at w s.nodes))
 
   -- the landing that made a version leads to it

@@ -1,16 +1,8 @@
 -- Nodes as they were at an earlier version.
-<<<<<<< HEAD
-use Rattle.std.specs.Prelude.{IsTrue}
-use Rattle.std.proofs.Common.{◌≡◌, ℕ, ◌+◌, ◌-◌, ◌<◌, ◌≤◌, Bool, true, false, cond, ◌&&◌, ◌==◌, nat_le, nat_lt, List, [], ◌∷◌, ◌++◌, map, filter, Contains, refl, sym, ap, ap₂, ◌∙◌, subst, arith, inl, inr, Less, Equal, Greater, nat_cmp, T}
-use Rattle.std.proofs.lemmas.Bool.Decides.{nat_tests}
-use Rattle.std.specs.List.{AllByRecursion}
-use Rattle.jf_path.proofs.ListLaws.{All-of, Contains-first, Contains-later}
-=======
 use Rattle.std.proofs.Common.{◌≡◌, ℕ, ◌<◌, ◌≤◌, Bool, true, false, cond, ◌&&◌, ◌==◌, nat_le, nat_lt, List, map, filter, refl, ap, ◌∙◌, arith}
 use Rattle.std.proofs.lemmas.Bool.Decides.{nat_tests}
 use Rattle.std.specs.List.{AllByRecursion}
 use Rattle.jf_path.proofs.ListLaws.{All-of}
->>>>>>> 74902467ae9943722e1117ccc46b83d75630f645
 use Rattle.jf_path.proofs.FilterLaws.{filter-map, filter-same, filter-filter}
 use Rattle.jf_standing.specs.Named.{Named, never, is_alive, is_written, is_stale, alive_at, written_at, stale_at}
 use Rattle.jf_standing.proofs.Lists.{All-each_element}

@@ -1,33 +1,15 @@
 -- A sound standing was sound at each earlier head from its floor on.
 use Rattle.std.specs.Prelude.{slice_index_or}
-<<<<<<< HEAD
-use Rattle.std.proofs.Common.{◌≡◌, ℕ, zero, suc, ◌+◌, ◌-◌, ◌<◌, ◌≤◌, ◌^◌, Bool, true, false, cond, ◌==◌, nat_le, List, [], ◌∷◌, ◌++◌, map, filter, drop, length, Contains, refl, sym, ap, ap₂, ◌∙◌, subst, arith, inl, inr, ◌⊎◌}
-use Rattle.std.proofs.lemmas.List.{length-drop}
-use Rattle.std.proofs.lemmas.Bool.{cases_lt}
-use Rattle.std.proofs.lemmas.Bool.Decides.{nat_tests}
-use Rattle.std.specs.FinMap.{from_entries, entries, len}
-use Rattle.std.specs.List.{AllByRecursion, IsDistinct, count_by, cons_option}
-=======
 use Rattle.std.proofs.Common.{◌≡◌, ℕ, zero, suc, ◌+◌, ◌-◌, ◌<◌, ◌≤◌, ◌^◌, Bool, true, false, cond, nat_le, List, [], ◌∷◌, ◌++◌, map, filter, drop, length, Contains, refl, sym, ap, ap₂, ◌∙◌, subst, arith, inl, inr, ◌⊎◌}
 use Rattle.std.proofs.lemmas.List.{length-drop}
 use Rattle.std.specs.FinMap.{from_entries, entries, len}
 use Rattle.std.specs.List.{IsDistinct, count_by, cons_option}
->>>>>>> 74902467ae9943722e1117ccc46b83d75630f645
 use Rattle.jf_path.proofs.ListLaws.{All-of}
 use Rattle.jf_path.proofs.FilterLaws.{filter-map, filter-Contains, filter-passes}
 use Rattle.jf_hash.specs.Maps.{same_key}
 use Rattle.jf_hash.specs.Roots.{root}
 use Rattle.jf_model.specs.Nodes.{Path, under, is_node, is_fresh, plain_node}
 use Rattle.jf_codec.specs.declared.format.Format.{Format}
-<<<<<<< HEAD
-use Rattle.jf_standing.specs.Named.{Named, never, is_alive, is_at, is_stale, alive_at, written_at, stale_at, version_at, leaf_entry, leaf_entries, map_at}
-use Rattle.jf_standing.specs.Standing.{Standing}
-use Rattle.jf_standing.specs.Sound.{IsSound, is_counted, IsNodeOf, IsVersion, IsStep, StandAt}
-use Rattle.jf_standing.proofs.Counts.{count-map}
-use Rattle.jf_standing.proofs.Lists.{All-each_element, map-which}
-use Rattle.jf_standing.proofs.Numbers.{le_tells}
-use Rattle.jf_standing.proofs.Sinces.{versions-before, since-high, alive-so, alive-tells}
-=======
 use Rattle.jf_standing.specs.Named.{Named, never, is_alive, is_at, alive_at, written_at, stale_at, version_at, leaf_entry, leaf_entries, map_at}
 use Rattle.jf_standing.specs.Standing.{Standing}
 use Rattle.jf_standing.specs.Sound.{IsSound, is_counted, IsVersion, IsStep, StandAt}
@@ -35,7 +17,6 @@ use Rattle.jf_standing.proofs.Counts.{count-map}
 use Rattle.jf_standing.proofs.Lists.{All-each_element, map-which}
 use Rattle.jf_standing.proofs.Numbers.{le_tells}
 use Rattle.jf_standing.proofs.Sinces.{versions-before, alive-so, alive-tells}
->>>>>>> 74902467ae9943722e1117ccc46b83d75630f645
 use Rattle.jf_check.specs.Cuts.{is_written_by, named_by, nodes_by, standing_by}
 use Rattle.jf_check.proofs.CutNodes.{alive-nodes_by, written-nodes_by, stale-nodes_by}
 

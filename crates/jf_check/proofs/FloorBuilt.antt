@@ -1,31 +1,17 @@
 -- The directory of a floor: it is the floor of the checkpoint if its nodes are those listed, and it is that of a sound one.
-<<<<<<< HEAD
-use Rattle.std.specs.Prelude.{slice_index_or, IsTrue}
-use Rattle.std.proofs.Common.{◌≡◌, ℕ, zero, suc, ◌+◌, ◌-◌, ◌<◌, ◌≤◌, ◌^◌, Bool, true, false, cond, ◌&&◌, nat_le, List, [], ◌∷◌, ◌++◌, map, filter, length, take, drop, reverse, Contains, refl, sym, ap, ap₂, ◌∙◌, subst, arith, inl, inr, ◌⊎◌, Option, Some, None, true≢false}
-=======
 use Rattle.std.specs.Prelude.{IsTrue}
 use Rattle.std.proofs.Common.{◌≡◌, ℕ, ◌+◌, ◌<◌, ◌≤◌, ◌^◌, true, false, cond, ◌&&◌, nat_le, List, [], ◌∷◌, map, filter, length, reverse, Contains, refl, sym, ap, ap₂, ◌∙◌, subst, arith, Option, Some, None, true≢false}
->>>>>>> 74902467ae9943722e1117ccc46b83d75630f645
 use Rattle.std.specs.FinMap.{entries, len}
 use Rattle.std.specs.List.{AllByRecursion}
 use Rattle.jf_path.specs.Names.{are_rising, name_cmp}
 use Rattle.jf_path.specs.NameLaws.{name_cmp_total}
-<<<<<<< HEAD
-use Rattle.jf_path.proofs.ListLaws.{All-of, Contains-map}
-use Rattle.jf_hash.specs.Maps.{Map, IsMap}
-=======
 use Rattle.jf_path.proofs.ListLaws.{Contains-map}
->>>>>>> 74902467ae9943722e1117ccc46b83d75630f645
 use Rattle.jf_hash.specs.Roots.{root}
 use Rattle.jf_model.specs.Nodes.{Path, is_node}
 use Rattle.jf_codec.specs.declared.format.Format.{Format}
 use Rattle.jf_codec.specs.declared.format.Format.TheVariants as format
 use Rattle.jf_standing.specs.Named.{Named, never, map_at, version_at}
-<<<<<<< HEAD
-use Rattle.jf_standing.specs.Standing.{Standing, with_nodes}
-=======
 use Rattle.jf_standing.specs.Standing.{Standing}
->>>>>>> 74902467ae9943722e1117ccc46b83d75630f645
 use Rattle.jf_standing.specs.Sound.{IsSound}
 use Rattle.jf_standing.specs.Building.{floor_standing, nodes_by_name, apart, as_named}
 use Rattle.jf_standing.specs.FormatLaws.{standing_in}
@@ -39,27 +25,16 @@ use Rattle.std.specs.List.Sorted.{IsPermutation}
 use Rattle.jf_standing.proofs.Floor.{floor-sound, map-floor, version-floor}
 use Rattle.jf_standing.proofs.Formats.{sound_kept, map_kept, version_kept}
 use Rattle.jf_standing.proofs.ByName.{nodes-moved}
-<<<<<<< HEAD
-use Rattle.jf_standing.proofs.Reordered.{map-moved, version-moved, moved-sound}
-=======
 use Rattle.jf_standing.proofs.Reordered.{map-moved, version-moved}
->>>>>>> 74902467ae9943722e1117ccc46b83d75630f645
 use Rattle.jf_standing.proofs.OneStanding.{same-standing}
 use Rattle.jf_standing.proofs.Names.{are_rising-sorted, same_name-exact}
 use Rattle.jf_standing.proofs.Ordered.{same_sorted}
 use Rattle.jf_standing.proofs.Lists.{map-which}
 use Rattle.jf_standing.proofs.Same.{name-exact, node-exact}
-<<<<<<< HEAD
-use Rattle.jf_standing.specs.Same.{same_name, same_node}
-use Rattle.jf_node.specs.SnapshotValue.{SnapshotValue}
-use Rattle.jf_node.specs.Snapshots.{IsSnapshot, snapshot_version_at}
-use Rattle.jf_diff.specs.Landings.{version_in, version_or}
-=======
 use Rattle.jf_standing.specs.Same.{same_name}
 use Rattle.jf_node.specs.SnapshotValue.{SnapshotValue}
 use Rattle.jf_node.specs.Snapshots.{IsSnapshot, snapshot_version_at}
 use Rattle.jf_diff.specs.Landings.{version_in, version_or}
->>>>>>> 74902467ae9943722e1117ccc46b83d75630f645
 use Rattle.jf_dir.specs.Directories.{begun_with}
 use Rattle.jf_check.specs.Cuts.{standing_by, nodes_by, named_by, is_written_by}
 use Rattle.jf_check.specs.Floors.{listed_in, same_listed}

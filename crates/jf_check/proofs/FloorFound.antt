@@ -1,13 +1,7 @@
 -- What the tests on a floor say: it is begun as it is listed, or the checkpoint isn't sound.
-<<<<<<< HEAD
-use Rattle.std.specs.Prelude.{slice_index_or, IsTrue, bytes_eq, not}
-use Rattle.std.proofs.lemmas.Slice.Eq.{bytes_eq-Decides}
-use Rattle.std.proofs.Common.{◌≡◌, ℕ, zero, suc, ◌+◌, ◌-◌, ◌<◌, ◌≤◌, ◌^◌, Bool, true, false, List, [], ◌∷◌, ◌++◌, map, filter, length, take, drop, reverse, get_or, Contains, refl, sym, ap, ap₂, ◌∙◌, subst, arith, inl, inr, ◌⊎◌, true≢false, drop_at, take-suc}
-=======
 use Rattle.std.specs.Prelude.{slice_index_or, bytes_eq, not}
 use Rattle.std.proofs.lemmas.Slice.Eq.{bytes_eq-Decides}
 use Rattle.std.proofs.Common.{◌≡◌, ℕ, zero, suc, ◌+◌, ◌-◌, ◌<◌, ◌≤◌, ◌^◌, Bool, true, false, List, [], ◌∷◌, map, filter, length, take, drop, reverse, get_or, Contains, refl, sym, ap, ◌∙◌, subst, arith, inl, inr, true≢false, drop_at, take-suc}
->>>>>>> 74902467ae9943722e1117ccc46b83d75630f645
 use Rattle.std.proofs.lemmas.List.{reverse-append, length-reverse, take-append-drop}
 use Rattle.std.specs.Cmp.Lexicographic.{pointwise}
 use Rattle.std.specs.FinMap.{entries, len}
@@ -15,11 +9,7 @@ use Rattle.std.specs.List.{AllByRecursion, list_all}
 use Rattle.jf_path.proofs.FilterLaws.{filter-Contains}
 use Rattle.jf_path.proofs.ListLaws.{All-of}
 use Rattle.jf_hash.specs.Roots.{root}
-<<<<<<< HEAD
-use Rattle.jf_model.specs.Nodes.{Path, is_node}
-=======
 use Rattle.jf_model.specs.Nodes.{is_node}
->>>>>>> 74902467ae9943722e1117ccc46b83d75630f645
 use Rattle.jf_codec.specs.declared.format.Format.{Format}
 use Rattle.jf_codec.specs.declared.format.Format.TheVariants as format
 use Rattle.jf_node.specs.SnapshotValue.{SnapshotValue}
@@ -31,11 +21,7 @@ use Rattle.jf_standing.specs.FormatLaws.{standing_in}
 use Rattle.jf_standing.specs.Next.{IsReadStanding}
 use Rattle.jf_standing.proofs.Lists.{All-each_element}
 use Rattle.jf_update.specs.Restored.{IsRestored}
-<<<<<<< HEAD
 use Rattle.jf_diff.specs.Landings.{version_in}
-=======
-use Rattle.jf_diff.specs.Landings.{version_in}
->>>>>>> 74902467ae9943722e1117ccc46b83d75630f645
 use Rattle.jf_dir.specs.Directories.{begun_with}
 use Rattle.jf_check.specs.Cuts.{has_numbers, is_written_by, named_by, standing_by, standing_listed}
 use Rattle.jf_check.specs.Floors.{AreFloorVersions, entries_in, versions_by_path, listed_in, same_listed}

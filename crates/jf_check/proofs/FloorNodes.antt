@@ -1,20 +1,4 @@
 -- What is read off the nodes of a floor, if the checkpoint is sound: the map there, and the versions of its nodes.
-<<<<<<< HEAD
-use Rattle.std.specs.Prelude.{slice_index_or}
-use Rattle.std.proofs.Common.{◌≡◌, ℕ, zero, suc, ◌+◌, ◌-◌, ◌<◌, ◌≤◌, Bool, true, false, cond, ◌&&◌, nat_lt, List, [], ◌∷◌, map, filter, length, take, Contains, Option, Some, None, refl, sym, ap, ap₂, ◌∙◌, subst, arith, T, is_eq}
-use Rattle.std.proofs.lemmas.List.{length-map}
-use Rattle.std.proofs.lemmas.Option.{same_Some}
-use Rattle.std.specs.Cmp.{tied_itself}
-use Rattle.std.specs.Cmp.Lexicographic.{nat_list_cmp_total}
-use Rattle.std.specs.FinMap.{from_entries, entries, find, is_sorted}
-use Rattle.std.specs.FinMap.Entries.{below_all}
-use Rattle.std.specs.FinMap as fin
-use Rattle.std.specs.List.{AllByRecursion, zip}
-use Rattle.jf_path.specs.Keys.{key_cmp}
-use Rattle.jf_path.proofs.BoolLaws.{and_true, left_so, right_so, both_so}
-use Rattle.jf_path.proofs.FilterLaws.{filter-same, filter-Contains, filter-passes, Contains-filter}
-use Rattle.jf_path.proofs.ListLaws.{All-of, Contains-map, Contains-first}
-=======
 use Rattle.std.proofs.Common.{◌≡◌, ℕ, ◌≤◌, Bool, true, false, cond, ◌&&◌, List, [], ◌∷◌, map, filter, take, Contains, Some, None, refl, sym, ap, ap₂, ◌∙◌, subst, arith, T, is_eq}
 use Rattle.std.proofs.lemmas.List.{length-map}
 use Rattle.std.specs.Cmp.{tied_itself}
@@ -27,7 +11,6 @@ use Rattle.jf_path.specs.Keys.{key_cmp}
 use Rattle.jf_path.proofs.BoolLaws.{and_true, left_so, right_so, both_so}
 use Rattle.jf_path.proofs.FilterLaws.{filter-same}
 use Rattle.jf_path.proofs.ListLaws.{All-of, Contains-map}
->>>>>>> 74902467ae9943722e1117ccc46b83d75630f645
 use Rattle.jf_hash.specs.Maps.{Map, map_of_entries, same_key}
 use Rattle.jf_hash.specs.Slots.{Part}
 use Rattle.jf_hash.proofs.KeyOrder.{same_key-exact}
@@ -50,21 +33,12 @@ use Rattle.jf_standing.proofs.Leaves.{IsMap-map_at}
 use Rattle.jf_standing.proofs.Lists.{All-each_element, map-which, Contains-cases, none_in_nothing}
 use Rattle.jf_standing.proofs.Numbers.{lt_so}
 use Rattle.jf_standing.proofs.Ordered.{find-Contains, Contains-find, same_sorted}
-<<<<<<< HEAD
-use Rattle.jf_standing.proofs.Sinces.{alive-tells}
-=======
->>>>>>> 74902467ae9943722e1117ccc46b83d75630f645
 use Rattle.jf_standing.proofs.Stands.{stands}
 use Rattle.jf_standing.proofs.Unique.{few-alive}
 use Rattle.jf_standing.proofs.Unmoved.{alive-there, at-so}
 use Rattle.jf_node.specs.SnapshotValue.{SnapshotValue}
-<<<<<<< HEAD
-use Rattle.jf_diff.specs.Landings.{version_in, version_or}
-use Rattle.jf_update.specs.Restored.{AreNodeVersions, IsNewestFirst, IsRestored, by_path}
-=======
 use Rattle.jf_diff.specs.Landings.{version_in, version_or}
 use Rattle.jf_update.specs.Restored.{AreNodeVersions, IsRestored, by_path}
->>>>>>> 74902467ae9943722e1117ccc46b83d75630f645
 use Rattle.jf_check.specs.Cuts.{is_written_by}
 use Rattle.jf_check.specs.Floors.{in_key_order, path_and_version, entries_in, versions_by_path, AreFloorVersions}
 use Rattle.jf_check.proofs.KeyOrder.{entries-in_key_order, sorted-in_key_order, find-in_key_order}

@@ -1,10 +1,6 @@
 -- A further element after the front of a list, in lists that rise.
 use Rattle.std.specs.Prelude.{IsTrue}
-<<<<<<< HEAD
-use Rattle.std.proofs.Common.{◌≡◌, ℕ, ◌+◌, ◌<◌, ◌≤◌, Bool, true, false, cond, ◌&&◌, ◌==◌, List, [], ◌∷◌, ◌++◌, map, filter, take, drop, length, get_or, refl, sym, ap, ap₂, ◌∙◌, subst, arith, T, suc, take-suc, append-nil}
-=======
 use Rattle.std.proofs.Common.{◌≡◌, ℕ, ◌+◌, ◌<◌, Bool, true, false, cond, ◌==◌, List, [], ◌∷◌, ◌++◌, map, filter, take, drop, length, get_or, refl, sym, ap, ◌∙◌, subst, arith, T, suc, take-suc, append-nil}
->>>>>>> 74902467ae9943722e1117ccc46b83d75630f645
 use Rattle.std.proofs.lemmas.List.{take-append-drop, map-append}
 use Rattle.std.proofs.lemmas.List.Elements.{filter-append}
 use Rattle.std.specs.FinMap.{is_sorted}
@@ -20,11 +16,7 @@ use Rattle.jf_standing.specs.Building.{apart}
 use Rattle.jf_standing.proofs.Names.{are_rising-sorted}
 use Rattle.jf_standing.proofs.Rising.{sorted-are_rising}
 use Rattle.jf_standing.proofs.Numbers.{same_number}
-<<<<<<< HEAD
 use Rattle.jf_diff.proofs.Names.{are_rising-front}
-=======
-use Rattle.jf_diff.proofs.Names.{are_rising-front}
->>>>>>> 74902467ae9943722e1117ccc46b83d75630f645
 use Rattle.jf_check.specs.Cuts.{without_since}
 
 pub take-next : {X : Type 0} (xs : List X) (i : ℕ) (d x : X) → i < length xs → x ≡ get_or xs i d → take (i + 1) xs ≡ take i xs ++ x ∷ []

@@ -1,9 +1,5 @@
 -- Lists in the order of their keys, which are put one by one, from the last element to the first.
-<<<<<<< HEAD
-use Rattle.std.proofs.Common.{◌≡◌, ℕ, zero, suc, ◌+◌, ◌-◌, ◌<◌, ◌≤◌, List, [], ◌∷◌, ◌^◌, map, length, drop, get_or, Contains, Option, Some, None, refl, sym, ap, ◌∙◌, arith, subst, T, cond, Less, Equal, Greater, Ordering, is_eq}
-=======
 use Rattle.std.proofs.Common.{◌≡◌, ℕ, ◌-◌, ◌<◌, ◌≤◌, List, [], ◌∷◌, ◌^◌, map, length, drop, get_or, Some, refl, sym, ap, ◌∙◌, subst, T, cond, Less, Equal, Greater, Ordering}
->>>>>>> 74902467ae9943722e1117ccc46b83d75630f645
 use Rattle.std.specs.BTreeMap.{insert_entry}
 use Rattle.std.specs.Cmp.Lexicographic.{nat_list_cmp_total}
 use Rattle.std.specs.FinMap.{put, find, is_sorted, entries, from_entries}

@@ -1,10 +1,6 @@
 -- The landing of a version, as it is read off the nodes of a checkpoint.
 use Rattle.std.specs.Prelude.{IsTrue, slice_index_or}
-<<<<<<< HEAD
-use Rattle.std.proofs.Common.{◌≡◌, ℕ, ◌+◌, ◌-◌, ◌<◌, ◌≤◌, Bool, true, false, List, [], ◌∷◌, map, filter, length, ◌^◌, Contains, Option, Some, None, refl, sym, ap, ap₂, ◌∙◌, subst, arith, reverse, get_or, cond, ◌==◌, if◌then◌else◌, true≢false}
-=======
 use Rattle.std.proofs.Common.{◌≡◌, ℕ, ◌+◌, ◌-◌, ◌<◌, ◌≤◌, true, false, List, [], ◌∷◌, map, length, ◌^◌, refl, sym, ap, ap₂, ◌∙◌, subst, arith, reverse, get_or, cond, ◌==◌, if◌then◌else◌, true≢false}
->>>>>>> 74902467ae9943722e1117ccc46b83d75630f645
 use Rattle.std.specs.List.{AllByRecursion, list_all}
 use Rattle.std.proofs.lemmas.List.{get_or-reverse, length-reverse, length-map}
 use Rattle.jf_path.specs.Keys.{IsKey}
@@ -24,11 +20,7 @@ use Rattle.jf_standing.specs.Sound.{IsSound}
 use Rattle.jf_standing.specs.Taking.{Continues}
 use Rattle.jf_standing.proofs.Lists.{All-each_element, map-which}
 use Rattle.jf_standing.proofs.Numbers.{other_number}
-<<<<<<< HEAD
-use Rattle.jf_check.specs.Cuts.{has_numbers, names_beside, landing_listed, landing_making, standing_by, standing_listed, without_since, is_written_by}
-=======
 use Rattle.jf_check.specs.Cuts.{has_numbers, names_beside, landing_listed, landing_making, standing_by, standing_listed, without_since}
->>>>>>> 74902467ae9943722e1117ccc46b83d75630f645
 use Rattle.jf_check.proofs.CutLands.{standing-landed, landing-continues, standing-head, sound-numbered}
 use Rattle.jf_check.proofs.CutSound.{sound-by}
 use Rattle.jf_check.proofs.Fronts.{rising-filter}

@@ -1,12 +1,6 @@
 -- Nodes whose names rise stand in the order of the versions that wrote them: where those of a version begin and end.
-<<<<<<< HEAD
-use Rattle.std.specs.Prelude.{IsTrue, slice_index_or}
-use Rattle.std.proofs.Common.{◌≡◌, ℕ, zero, suc, ◌+◌, ◌-◌, ◌<◌, ◌≤◌, Bool, true, false, cond, List, [], ◌∷◌, ◌++◌, map, filter, take, drop, length, get_or, Contains, refl, sym, ap, ap₂, ◌∙◌, subst, arith, length-append, drop_at}
-use Rattle.std.specs.List.{AllByRecursion, AllWithin}
-=======
 use Rattle.std.specs.Prelude.{IsTrue}
 use Rattle.std.proofs.Common.{◌≡◌, ℕ, zero, suc, ◌-◌, ◌≤◌, Bool, true, false, cond, List, [], ◌∷◌, ◌++◌, map, filter, take, drop, length, refl, sym, ap, ◌∙◌, arith, length-append, drop_at}
->>>>>>> 74902467ae9943722e1117ccc46b83d75630f645
 use Rattle.std.specs.List.Sorted.{IsNonDecreasingBy, IsPartitionPoint, IsPartitionedBy}
 use Rattle.std.proofs.lemmas.List.Sorted.{IsPartitionedBy-leb}
 use Rattle.jf_path.specs.Names.{are_rising}

@@ -49,9 +49,6 @@ pub fn load<H: Threads + Sync>(
         return Err(CheckFault::Unsound);
     }
     let mut directory = floor_directory(alloc, base, floor, head, roots, nodes, format)?;
-<<<<<<< HEAD
-    land_later(rt, alloc, &mut directory, base, floor, head, roots, nodes, format, workers)?;
-=======
     land_later(
         rt,
         alloc,
@@ -64,7 +61,6 @@ pub fn load<H: Threads + Sync>(
         format,
         workers,
     )?;
->>>>>>> 74902467ae9943722e1117ccc46b83d75630f645
     directory.know();
     Ok(directory)
 }

@@ -88,14 +88,7 @@ pub(crate) fn versions_of(
 }
 
 /// The hash of each value.
-<<<<<<< HEAD
-pub(crate) fn hashes_of(
-    alloc: Global,
-    entries: &[(Key, SharedBytes)],
-) -> Result<Vec<Hash>, Memory>
-=======
 pub(crate) fn hashes_of(alloc: Global, entries: &[(Key, SharedBytes)]) -> Result<Vec<Hash>, Memory>
->>>>>>> 74902467ae9943722e1117ccc46b83d75630f645
     ensures { IfOk result (λ v. v.items ≡ map (λ e. V e.1) entries.now) }
 {
     let mut hashes = Vec::with_capacity(alloc, entries.len())?;

@@ -17,15 +17,7 @@ fn has_numbers(floor: u64, head: u64, node: &(NodeName, PlainNode, u64)) -> bool
 }
 
 /// Whether this holds of all nodes.
-<<<<<<< HEAD
-pub(crate) fn have_numbers(
-    floor: u64,
-    head: u64,
-    nodes: &[(NodeName, PlainNode, u64)],
-) -> bool
-=======
 pub(crate) fn have_numbers(floor: u64, head: u64, nodes: &[(NodeName, PlainNode, u64)]) -> bool
->>>>>>> 74902467ae9943722e1117ccc46b83d75630f645
     ensures { result ≡ list_all (has_numbers floor head) nodes.now }
 {
     for node in nodes {

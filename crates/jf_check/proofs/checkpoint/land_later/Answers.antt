@@ -1,10 +1,5 @@
-<<<<<<< HEAD
-use Rattle.std.specs.Prelude.{slice_index_or, Err}
-use Rattle.std.proofs.Common.{sym, ap, subst, ℕ, ◌+◌, ◌-◌, ◌≤◌, arith, length, List, [], reverse}
-=======
 use Rattle.std.specs.Prelude.{Err}
 use Rattle.std.proofs.Common.{sym, ap, subst, arith}
->>>>>>> 74902467ae9943722e1117ccc46b83d75630f645
 use Rattle.jf_payload.specs.Spelling.{IsCommit}
 use Rattle.jf_standing.specs.FormatLaws.{standing_in}
 use Rattle.jf_check.proofs.Listed.{step-making, step-spelled, step-landed, step-refused, names-later, all-landed}

@@ -1,5 +1,9 @@
-use Rattle.std.proofs.Common.{sym, ap, ap₂, ◌∙◌, subst}
-use Rattle.std.specs.List.{list_all}
+use Rattle.std.proofs.Common.{ℕ, ◌<◌, ◌^◌, sym, ap, ap₂, ◌∙◌, subst}
+use Rattle.std.specs.List.{AllByRecursion, list_all}
+use Rattle.jf_path.specs.Names.{IsName}
+use Rattle.jf_path.specs.declared.name.NodeName.{NodeName}
+use Rattle.jf_path.specs.declared.node.PlainNode.{PlainNode}
+use Rattle.jf_codec.specs.Spelling.{IsNode}
 use Rattle.jf_standing.specs.Sound.{IsSound}
 use Rattle.jf_standing.proofs.Formats.{sound_kept}
 use Rattle.jf_check.specs.Cuts.{has_numbers, standing_listed}
@@ -15,3 +19,6 @@ returns-clause-loaded g c =
     let a = c.args in
     let landed = c.in_ok-land_later.ensures.landed ∙ ap₂ (standing_listed a.base a.floor a.head) c.as_slice-roots.ensures c.as_slice-nodes.ensures in
     (subst (IsSound c.args.format) landed (sound_kept c.args.format c.land_later.new.directory c.know.ensures.sound), landed)
+
+pub land_later-requires-clause-spelled : goal.land_later-requires-clause-spelled
+land_later-requires-clause-spelled g c κs within = subst (AllByRecursion (λ (n : NodeName × PlainNode × ℕ). IsName n.0 × IsNode c.args.format n.1 × (n.2 < 2 ^ 64))) (sym c.as_slice-nodes.ensures) c.requires.spelled

@@ -1,8 +1,4 @@
 use Rattle.std.proofs.Common.{◌≡◌, take}
-<<<<<<< HEAD
-use Rattle.jf_path.specs.Nodes.{ChildrenRiseFrom}
-=======
->>>>>>> 74902467ae9943722e1117ccc46b83d75630f645
 use Rattle.jf_check.proofs.copies.copy_of_children.Given as goal
 
 -- the copy has the children so far

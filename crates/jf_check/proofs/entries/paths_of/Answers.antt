@@ -1,7 +1,3 @@
-<<<<<<< HEAD
-use Rattle.std.proofs.Common.{◌∙◌}
-=======
->>>>>>> 74902467ae9943722e1117ccc46b83d75630f645
 use Rattle.jf_check.proofs.KeyOrder.{version_put_at}
 use Rattle.jf_check.proofs.entries.paths_of.Goals as goal
 

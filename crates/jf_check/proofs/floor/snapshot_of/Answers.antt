@@ -1,8 +1,4 @@
-<<<<<<< HEAD
-use Rattle.std.proofs.Common.{sym, ap, ◌∙◌, subst, T}
-=======
 use Rattle.std.proofs.Common.{sym, ◌∙◌, subst, T}
->>>>>>> 74902467ae9943722e1117ccc46b83d75630f645
 use Rattle.std.specs.FinMap.{is_sorted}
 use Rattle.jf_path.specs.Keys.{key_cmp}
 use Rattle.jf_standing.specs.Named.{leaf_entries}

@@ -1,9 +1,5 @@
 use Rattle.std.proofs.Common.{rules}
 use Rattle.std.proofs.lemmas.List.Sorted.{IsPartitionPoint-from_clause}
-<<<<<<< HEAD
-use Rattle.jf_standing.specs.Named.{Named}
-=======
->>>>>>> 74902467ae9943722e1117ccc46b83d75630f645
 use Rattle.jf_check.specs.Cuts.{is_written_by}
 use Rattle.jf_check.proofs.Runs.{parted, take-point}
 use Rattle.jf_check.proofs.later.count_by_version.Goals as goal

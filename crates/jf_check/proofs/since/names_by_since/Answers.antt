@@ -1,9 +1,5 @@
 use Rattle.std.specs.Prelude.{IsTrue}
-<<<<<<< HEAD
-use Rattle.std.proofs.Common.{sym, ap, subst, ◌++◌, ◌∷◌, []}
-=======
 use Rattle.std.proofs.Common.{sym, subst, ◌++◌, ◌∷◌, []}
->>>>>>> 74902467ae9943722e1117ccc46b83d75630f645
 use Rattle.jf_path.specs.Names.{are_rising}
 use Rattle.jf_check.proofs.Fronts.{stale-rising}
 use Rattle.jf_check.proofs.since.names_by_since.Goals as goal
