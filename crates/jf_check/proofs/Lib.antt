@@ -4,3 +4,14 @@ pub mod Puts
 pub mod Read
 pub mod Spelled
 pub mod Verdicts
+pub mod Fronts
+pub mod Numbered
+pub mod CutNodes
+pub mod CutSound
+pub mod CutLands
+pub mod Runs
+pub mod Listed
+pub mod KeyOrder
+pub mod FloorNodes
+pub mod FloorBuilt
+pub mod FloorFound

@@ -1,3 +1,5 @@
 pub mod Changes
 pub mod Next
 pub mod Kept
+pub mod Cuts
+pub mod Floors

@@ -3,10 +3,18 @@
 #![tactic(auto)]
 
 mod changes;
+mod checkpoint;
 mod commit;
+mod copies;
+mod entries;
 mod fault;
+mod floor;
+mod later;
 mod named;
+mod numbers;
 mod same;
+mod since;
 
+pub use checkpoint::load;
 pub use commit::check;
 pub use fault::CheckFault;

@@ -42,7 +42,7 @@ fn are_same_children(read: &[Child], made: &[Child], format: Format) -> bool
 }
 
 /// Whether a node is what the format keeps of another.
-fn is_same_node(read: &PlainNode, made: &PlainNode, format: Format) -> bool
+pub(crate) fn is_same_node(read: &PlainNode, made: &PlainNode, format: Format) -> bool
     ensures { result ≡ same_node read.now (in_format format made.now) }
 {
     match (read, made) {

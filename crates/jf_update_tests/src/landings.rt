@@ -13,7 +13,7 @@ use std::thread::Threads;
 // The byte that a key is made of, and the byte put as its value, or None if the key is removed.
 pub(crate) type Change = (u8, Option<u8>);
 
-const WORKERS: &[u64] = &[1, 2, 7, 64];
+pub(crate) const WORKERS: &[u64] = &[1, 2, 7, 64];
 
 pub(crate) const LOW: u8 = 0x10;
 

@@ -1,5 +1,5 @@
-// Many versions of a large state: 100,000 entries, and then 3,000 commits of one name over them, each read back at the
-// end. No version copies the map: 3,000 copies of 100,000 entries of 40 bytes would take 12 GB.
+// Many versions of a large state: 100,000 entries, and then 3,000 commits of one name over them; at the end the name is
+// read at version 10 and at the head. No version copies the map: 3,000 copies of 100,000 entries of 40 bytes would take 12 GB.
 use jf_disk::MemDisk;
 use jf_io::{MemSink, MemSource};
 use jf_path::Bytes;

@@ -1,0 +1,100 @@
+// A checkpoint that was read is built anew: its floor from the leaves and versions that it lists, and each later version
+// as a landing.
+ghost use Rattle.std.specs.Prelude.{◌≡◌, ◌<◌, ◌≤◌, ◌^◌, IfOk, OnOk, Err, true};
+ghost use Rattle.std.specs.List.{AllByRecursion, list_all};
+ghost use Rattle.jf_path.specs.Names.{IsName};
+ghost use Rattle.jf_codec.specs.Spelling.{IsNode};
+ghost use Rattle.jf_standing.specs.FormatLaws.{standing_in};
+ghost use Rattle.jf_standing.specs.Next.{IsReadStanding};
+ghost use Rattle.jf_standing.specs.Sound.{IsSound};
+ghost use Rattle.jf_check.specs.Cuts.{has_numbers, standing_by, standing_listed};
+
+use crate::commit::check;
+use crate::fault::CheckFault;
+use crate::floor::floor_directory;
+use crate::later::landing_in;
+use crate::numbers::{have_numbers, know_count};
+use crate::since::{names_by_since, take_names};
+use jf_codec::Format;
+use jf_dir::Directory;
+use jf_hash::Hash;
+use jf_path::{HashList, LiveList, NodeName, PlainNode};
+use std::alloc::Global;
+use std::thread::Threads;
+
+/// The directory of a checkpoint that was read: its versions from base, floor and head on, the roots from the base to
+/// the head, and its nodes in the order of their names, as a file of a format has them. `Unsound` exactly if they aren't
+/// those of landings one after another.
+pub fn load<H: Threads + Sync>(
+    rt: &H,
+    alloc: Global,
+    base: u64,
+    floor: u64,
+    head: u64,
+    roots: &HashList,
+    nodes: &LiveList,
+    format: Format,
+    workers: u64,
+) -> Result<Directory, CheckFault>
+    requires positive { 1 ≤ workers }
+    requires bounded { workers ≤ 64 }
+    requires read { IsReadStanding (standing_listed base floor head roots.now nodes.now) }
+    requires spelled { AllByRecursion (λ n. IsName n.0 × IsNode format n.1 × (n.2 < 2 ^ 64)) nodes.now }
+    ensures loaded { IfOk result (λ d. IsSound format (standing_listed base floor head roots.now nodes.now) × (standing_in format d ≡ standing_listed base floor head roots.now nodes.now)) }
+    ensures unsound { result ≡ Err CheckFault.Unsound → IsSound format (standing_listed base floor head roots.now nodes.now) → ⊥ }
+{
+    let roots = roots.as_slice();
+    let nodes = nodes.as_slice();
+    if !have_numbers(floor, head, nodes) {
+        return Err(CheckFault::Unsound);
+    }
+    let mut directory = floor_directory(alloc, base, floor, head, roots, nodes, format)?;
+    land_later(
+        rt,
+        alloc,
+        &mut directory,
+        base,
+        floor,
+        head,
+        roots,
+        nodes,
+        format,
+        workers,
+    )?;
+    directory.know();
+    Ok(directory)
+}
+
+/// Lands each version above the floor.
+fn land_later<H: Threads + Sync>(
+    rt: &H,
+    alloc: Global,
+    directory: &mut Directory,
+    base: u64,
+    floor: u64,
+    head: u64,
+    roots: &[Hash],
+    nodes: &[(NodeName, PlainNode, u64)],
+    format: Format,
+    workers: u64,
+) -> Result<(), CheckFault>
+    requires positive { 1 ≤ workers }
+    requires bounded { workers ≤ 64 }
+    requires read { IsReadStanding (standing_listed base floor head roots.now nodes.now) }
+    requires spelled { AllByRecursion (λ n. IsName n.0 × IsNode format n.1 × (n.2 < 2 ^ 64)) nodes.now }
+    requires numbered { list_all (has_numbers floor head) nodes.now ≡ true }
+    requires begun { standing_in format directory.old ≡ standing_by floor (standing_listed base floor head roots.now nodes.now) }
+    ensures landed { OnOk result (standing_in format directory.new ≡ standing_listed base floor head roots.now nodes.now) }
+    ensures unsound { result ≡ Err CheckFault.Unsound → IsSound format (standing_listed base floor head roots.now nodes.now) → ⊥ }
+{
+    know_count(nodes);
+    let mut by_since = names_by_since(alloc, nodes)?;
+    for step in 0..head - floor {
+        let version = floor + 1 + step;
+        let root = &roots[(version - base) as usize];
+        let stale = take_names(alloc, &mut by_since, version);
+        let commit = landing_in(alloc, nodes, version, root, stale)?;
+        check(rt, alloc, directory, &commit, format, workers)?;
+    }
+    Ok(())
+}
