@@ -1,5 +1,0 @@
-pub mod Landings
-pub mod Records
-pub mod Keeping
-pub mod Opened
-pub mod Maps
