@@ -1,0 +1,5 @@
+pub mod Landings
+pub mod Records
+pub mod Keeping
+pub mod Opened
+pub mod Maps
