@@ -1,8 +1,11 @@
 // The roots and the number of nodes of a directory after landings and a later floor, counted by hand.
-use crate::landing::{Change, FAR, LOW, NEAR, PAIR, batch_of, land, land_and_undo, new_store};
+use crate::landing::{
+    Change, FAR, LOW, NEAR, PAIR, batch_of, land, land_and_undo, land_and_undo_commit, new_store,
+};
 use jf_dir::Directory;
 use jf_hash::Hash;
 use jf_plain::PlainMap;
+use jf_split::Batch;
 use std::alloc::Global;
 use std::test::Fail;
 use std::thread::Threads;
@@ -161,6 +164,18 @@ fn comes_out<H: Threads + Sync>(rt: &H, alloc: Global, history: &History) -> Res
     is_after(alloc, &directory, history)
 }
 
+// The numbers of nodes that are kept after a landing, each before it is taken back: of an update, and of what stands in a
+// file.
+fn counts_between<H: Threads + Sync>(
+    rt: &H,
+    alloc: Global,
+    directory: &mut Directory,
+    batch: &Batch,
+) -> Result<(u64, u64), Fail> {
+    let count = land_and_undo(rt, alloc, directory, batch)?;
+    Ok((count, land_and_undo_commit(rt, alloc, directory, batch)?))
+}
+
 // Whether a landing can be taken back, and made again with the same number of nodes and the right root.
 fn lands_again<H: Threads + Sync>(
     rt: &H,
@@ -169,10 +184,11 @@ fn lands_again<H: Threads + Sync>(
     history: &History,
 ) -> Result<bool, Fail> {
     let batch = batch_of(alloc, MORE)?;
-    let count = land_and_undo(rt, alloc, directory, &batch)?;
+    let counts = counts_between(rt, alloc, directory, &batch)?;
     let back = is_after(alloc, directory, history)?;
     land(rt, alloc, directory, &batch, 1)?;
-    Ok(back && directory.count() == count && ends_in_more(alloc, directory)?)
+    let count = directory.count();
+    Ok(back && counts == (count, count) && ends_in_more(alloc, directory)?)
 }
 
 // Whether the root of the head is that of the map of `LOW` and `FAR`.

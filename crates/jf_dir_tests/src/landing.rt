@@ -1,7 +1,9 @@
 // Landings on a directory, from a new store on.
 use jf_dir::Directory;
 use jf_join::FreeGate;
+use jf_node::Update;
 use jf_path::Key;
+use jf_payload::Commit;
 use jf_split::Batch;
 use std::alloc::Global;
 use std::test::Fail;
@@ -81,5 +83,38 @@ pub(crate) fn land_and_undo<H: Threads + Sync>(
     directory.apply(&update)?;
     let count = directory.count();
     directory.undo(&update);
+    Ok(count)
+}
+
+// The same with the landing as it stands in a file.
+pub(crate) fn land_and_undo_commit<H: Threads + Sync>(
+    rt: &H,
+    alloc: Global,
+    directory: &mut Directory,
+    batch: &Batch,
+) -> Result<u64, Fail> {
+    if directory.head() >= 9 {
+        return Err(Fail::new("too many versions"));
+    }
+    directory.know();
+    let Update {
+        root,
+        fresh,
+        stale,
+        snapshot,
+    } = directory.update(rt, alloc, batch, 1, &FreeGate)?;
+    if snapshot.count() > 1_000 {
+        return Err(Fail::new("too many entries"));
+    }
+    snapshot.know();
+    let commit = Commit {
+        version: snapshot.version(),
+        root,
+        fresh,
+        stale,
+    };
+    directory.apply_commit(&commit, snapshot)?;
+    let count = directory.count();
+    directory.undo_commit(&commit);
     Ok(count)
 }
