@@ -7,3 +7,5 @@ mod by_workers;
 mod histories;
 #[cfg(test)]
 mod landing;
+#[cfg(test)]
+mod listing;
