@@ -1,13 +1,14 @@
 // Landings of which each call of the disk fails in turn.
 use crate::stores::{ONE, land, new_store, numbers, prune, reopened};
-use jf_disk::{Disk, MemDisk};
+use jf_disk::MemDisk;
 use jf_durable::{Engine, EngineFault};
 use std::alloc::Global;
 use std::test::Fail;
 use std::thread::Threads;
 
-// The calls of a landing, and the head that the files stand for after each has failed.
-const HEADS: &[(u64, u64)] = &[(0, 0), (1, 0), (2, 0), (3, 1)];
+// The calls of a landing, and the head that the files stand for after each has failed. Opening makes 13: sync twice, then
+// length and read of each side, and seven for the first checkpoint.
+const HEADS: &[(u64, u64)] = &[(13, 0), (14, 0), (15, 0), (16, 1)];
 
 // Whether a landing is refused with this fault, and the store is still new.
 fn is_refused<H: Threads + Sync>(
@@ -54,10 +55,8 @@ fn leaves<H: Threads + Sync>(rt: &H, alloc: Global, failing: u64, head: u64) -> 
 
 #[test]
 fn a_fault_leaves_the_landing_or_none(rt: HostRuntime) -> Result<(), Fail> {
-    let opened = new_store(&rt, rt.alloc(), &[])?.disk().moment();
     for (call, head) in HEADS {
-        let failing = opened.saturating_add(*call);
-        assert!(rt; leaves(&rt, rt.alloc(), failing, *head)?, "at {call}");
+        assert!(rt; leaves(&rt, rt.alloc(), *call, *head)?, "at {call}");
     }
     Ok(())
 }

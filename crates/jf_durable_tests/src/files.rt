@@ -1,5 +1,5 @@
 // The files of a new store and of a landing, byte by byte.
-use crate::stores::{ONE, Store, is_kept, land, new_store, numbers};
+use crate::stores::{ONE, is_kept, land, new_store, numbers};
 use jf_disk::{Disk, MemDisk};
 use jf_durable::{Engine, Landed};
 use jf_hash::{Hash, key_of};
@@ -74,18 +74,16 @@ fn has_landed(engine: &Engine<MemDisk>, landed: Landed) -> bool {
         && has_values(engine)
 }
 
-// A store on which one key was put.
-fn with_one<H: Threads + Sync>(rt: &H, alloc: Global) -> Result<(Store, bool), Fail> {
+// Whether a landing on a new store is right, and its bytes are.
+fn is_laid_out<H: Threads + Sync>(rt: &H, alloc: Global) -> Result<bool, Fail> {
     let mut engine = new_store(rt, alloc, &[])?;
     let landed = land(rt, alloc, &mut engine, ONE)??;
     let is_right = has_landed(&engine, landed);
-    Ok((engine, is_right))
+    Ok(is_right && is_kept(rt, alloc, engine, numbers(1, 2, 1), LANDED, &[])?)
 }
 
 #[test]
 fn a_landing_is_laid_out_and_found_again(rt: HostRuntime) -> Result<(), Fail> {
-    let (engine, is_right) = with_one(&rt, rt.alloc())?;
-    assert!(rt; is_right);
-    assert!(rt; is_kept(&rt, rt.alloc(), engine, numbers(1, 2, 1), LANDED, &[])?);
+    assert!(rt; is_laid_out(&rt, rt.alloc())?);
     Ok(())
 }

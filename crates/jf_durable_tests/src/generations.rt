@@ -1,15 +1,12 @@
 // Checkpoints of a next generation, on the side that isn't live.
-use crate::damage::{BEFORE, Change, Opened, changed};
+use crate::damage::{BEFORE, Edit, Opened, edited};
 use crate::files::{LANDED, NEW, ROOT};
-use crate::stores::{Store, is_kept, land, new_store, numbers, open_on, opened, reopened};
+use crate::stores::{Change, Store, is_kept, land, new_store, numbers, open_on, opened, reopened};
 use jf_disk::{MemDisk, Side};
 use jf_durable::{Engine, OpenFault, State};
 use std::alloc::Global;
 use std::test::Fail;
 use std::thread::Threads;
-
-// The place of the least byte of a checkpoint's generation.
-const GENERATION: usize = 17;
 
 const IN_SECOND: Opened = Ok(State {
     base: 0,
@@ -30,27 +27,29 @@ const AT_END_OF_B: Opened = Err(OpenFault::Damaged {
 });
 
 // What is done to side B after a new store was compacted, and what is found then.
-const ON_B: &[(Change, Opened)] = &[
-    (Change::Cut(101), IN_SECOND),
-    (Change::Cut(0), BEFORE),
-    (Change::Set(0, 0), BEFORE),
+const ON_B: &[(Edit, Opened)] = &[
+    (Edit::Cut(101), IN_SECOND),
+    (Edit::Cut(0), BEFORE),
+    (Edit::Set(0, 0), BEFORE),
     // both sides are of generation 1
-    (Change::Set(GENERATION, 1), AT_FIRST_OF_B),
-    (Change::Cut(50), AT_FIRST_OF_B),
-    (Change::Set(1, 7), AT_FIRST_OF_B),
-    (Change::Set(100, 1), AT_END_OF_B),
+    (Edit::Set(17, 1), AT_FIRST_OF_B),
+    (Edit::Cut(50), AT_FIRST_OF_B),
+    (Edit::Set(1, 7), AT_FIRST_OF_B),
+    (Edit::Set(100, 1), AT_END_OF_B),
 ];
 
-// The file of a new store in generation 2.
-fn second(alloc: Global) -> Result<Vec<u8>, Fail> {
-    changed(alloc, NEW, Change::Set(GENERATION, 2))
-}
+// The file of a new store, in generation 2.
+const SECOND: &[u8] = &[
+    1, 5, 0, 0, 0, 0, 0, 0, 0, 90, 0, 0, 0, 0, 0, 0, 0, 2, 0, 0, 0, 0, 0, 0, 0, 0, 0, 0, 0, 0, 0,
+    0, 0, 0, 0, 0, 0, 0, 0, 0, 0, 0, 110, 52, 11, 156, 255, 179, 122, 152, 156, 165, 68, 230, 187,
+    120, 10, 44, 120, 144, 29, 63, 179, 55, 56, 118, 133, 17, 163, 6, 23, 175, 160, 29, 0, 0, 0, 0,
+    0, 0, 0, 1, 0, 0, 0, 0, 0, 0, 0, 0, 0, 0, 255, 255, 255, 255, 255, 255, 255, 255, 0,
+];
 
 fn is_compacted<H: Threads + Sync>(rt: &H, alloc: Global) -> Result<bool, Fail> {
     let mut engine = new_store(rt, alloc, &[])?;
     let generation = engine.compact(alloc)?;
-    let side_b = second(alloc)?;
-    Ok(generation == 2 && is_kept(rt, alloc, engine, numbers(0, 1, 2), NEW, &side_b)?)
+    Ok(generation == 2 && is_kept(rt, alloc, engine, numbers(0, 1, 2), NEW, SECOND)?)
 }
 
 #[test]
@@ -62,26 +61,29 @@ fn a_checkpoint_goes_to_side_b(rt: HostRuntime) -> Result<(), Fail> {
 fn is_found<H: Threads + Sync>(
     rt: &H,
     alloc: Global,
-    change: Change,
+    edit: Edit,
     want: Opened,
 ) -> Result<bool, Fail> {
-    let side_b = changed(alloc, &second(alloc)?, change)?;
+    let side_b = edited(alloc, SECOND, edit)?;
     Ok(opened(rt, alloc, NEW, &side_b)? == want)
 }
 
 #[test]
 fn the_greater_generation_is_live(rt: HostRuntime) -> Result<(), Fail> {
-    for (change, want) in ON_B {
-        assert!(rt; is_found(&rt, rt.alloc(), *change, *want)?, "{change:?}");
+    for (edit, want) in ON_B {
+        assert!(rt; is_found(&rt, rt.alloc(), *edit, *want)?, "{edit:?}");
     }
     Ok(())
 }
 
+// One batch of nothing.
+const NOTHING: &[&[Change]] = &[&[]];
+
 // A store in format 1, on which a batch of nothing was landed, in generation 2.
 fn moved_on<H: Threads + Sync>(rt: &H, alloc: Global) -> Result<Store, Fail> {
-    let side_a = changed(alloc, LANDED, Change::Set(1, 4))?;
+    let side_a = edited(alloc, LANDED, Edit::Set(1, 4))?;
     let mut engine = open_on(rt, alloc, &side_a, &[], &[])?;
-    let _ = land(rt, alloc, &mut engine, &[&[]])??;
+    let _ = land(rt, alloc, &mut engine, NOTHING)??;
     let _ = engine.compact(alloc)?;
     Ok(engine)
 }

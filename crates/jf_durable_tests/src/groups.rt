@@ -1,5 +1,5 @@
 // Three batches that land together.
-use crate::stores::{Change, Store, land, new_store, numbers, open_disk, prune, reopened};
+use crate::stores::{Change, Store, land, new_store, numbers, prune, reopened, state_on};
 use jf_disk::{Disk, MemDisk, Side};
 use jf_durable::{Engine, State};
 use std::alloc::Global;
@@ -84,8 +84,7 @@ fn leaves_all_or_none<H: Threads + Sync>(
         return Ok(false);
     }
     let image = disk.image(alloc, moment, crash.0, crash.1)?;
-    let engine = open_disk(rt, alloc, image)?;
-    let state = engine.state();
+    let state = state_on(rt, alloc, image)?;
     Ok(state == numbers(0, 1, 1) || state == numbers(3, 6, 1))
 }
 

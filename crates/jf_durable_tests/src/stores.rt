@@ -33,7 +33,7 @@ pub(crate) fn numbers(head: u64, kept: u64, generation: u64) -> State {
     }
 }
 
-pub(crate) fn open_disk<H: Threads + Sync>(
+fn open_disk<H: Threads + Sync>(
     rt: &H,
     alloc: Global,
     disk: MemDisk,
@@ -63,6 +63,18 @@ pub(crate) fn open_on<H: Threads + Sync>(
     Ok(Box::new(alloc, engine)?)
 }
 
+// The numbers of the store that is opened on a disk, or why it isn't opened.
+pub(crate) fn state_on<H: Threads + Sync>(
+    rt: &H,
+    alloc: Global,
+    disk: MemDisk,
+) -> Result<State, OpenFault> {
+    match Engine::open(rt, alloc, disk) {
+        Ok(engine) => Ok(engine.state()),
+        Err(OpenRefused { disk: _, why }) => Err(why),
+    }
+}
+
 // The numbers of the store that is opened on a disk with these bytes, or why it isn't opened.
 pub(crate) fn opened<H: Threads + Sync>(
     rt: &H,
@@ -71,7 +83,7 @@ pub(crate) fn opened<H: Threads + Sync>(
     b: &[u8],
 ) -> Result<Result<State, OpenFault>, Fail> {
     let disk = disk_of(alloc, a, b, &[])?;
-    Ok(open_disk(rt, alloc, disk).map(|engine| engine.state()))
+    Ok(state_on(rt, alloc, disk))
 }
 
 // A store on a new disk, on which these calls fail.
