@@ -1,5 +1,5 @@
 // Files of which one byte is another, or which end too early: what an opening finds.
-use crate::files::LANDED;
+use crate::records::{LANDED, joined};
 use crate::stores::opened;
 use jf_disk::Side;
 use jf_durable::{OpenFault, State};
@@ -87,8 +87,8 @@ const ON_A: &[(Edit, Opened)] = &[
 ];
 
 // The bytes of a file after an edit.
-pub(crate) fn edited(alloc: Global, file: &[u8], edit: Edit) -> Result<Vec<u8>, Fail> {
-    let mut bytes = file.to_vec(alloc)?;
+pub(crate) fn edited(alloc: Global, file: &[&[u8]], edit: Edit) -> Result<Vec<u8>, Fail> {
+    let mut bytes = joined(alloc, file)?;
     match edit {
         Edit::Cut(length) => bytes.truncate(length),
         Edit::Set(place, byte) => {

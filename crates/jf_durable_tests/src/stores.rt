@@ -5,7 +5,7 @@ ghost use Rattle.jf_path.specs.Limits.{max_forks};
 ghost use Rattle.jf_split.specs.Limits.{max_keys};
 ghost use Rattle.jf_model.specs.Batches.{key_count};
 
-use jf_disk::{MemDisk, Side};
+use jf_disk::MemDisk;
 use jf_durable::{Engine, EngineFault, Landed, OpenFault, OpenRefused, State};
 use jf_hash::key_of;
 use jf_join::FreeGate;
@@ -21,6 +21,16 @@ pub(crate) type Change = (u8, Option<u8>);
 
 // A batch of one key.
 pub(crate) const ONE: &[&[Change]] = &[&[(b'a', Some(b'1'))]];
+
+// A batch of nothing.
+pub(crate) const NOTHING: &[&[Change]] = &[&[]];
+
+// Three batches that leave one of two keys, which part at their first nibble.
+pub(crate) const THREE: &[&[Change]] = &[
+    &[(b'a', Some(b'1'))],
+    &[(b'b', Some(b'2'))],
+    &[(b'a', None)],
+];
 
 // The numbers of a store whose files hold all versions from 0 on.
 pub(crate) fn numbers(head: u64, kept: u64, generation: u64) -> State {
@@ -69,10 +79,8 @@ pub(crate) fn state_on<H: Threads + Sync>(
     alloc: Global,
     disk: MemDisk,
 ) -> Result<State, OpenFault> {
-    match Engine::open(rt, alloc, disk) {
-        Ok(engine) => Ok(engine.state()),
-        Err(OpenRefused { disk: _, why }) => Err(why),
-    }
+    let engine = open_disk(rt, alloc, disk)?;
+    Ok(engine.state())
 }
 
 // The numbers of the store that is opened on a disk with these bytes, or why it isn't opened.
@@ -161,22 +169,4 @@ pub(crate) fn prune(
         return Err(Fail::new("no such floor"));
     }
     Ok(engine.prune(floor))
-}
-
-fn has_bytes(engine: &Engine<MemDisk>, a: &[u8], b: &[u8]) -> bool {
-    engine.disk().bytes(Side::A) == a && engine.disk().bytes(Side::B) == b
-}
-
-// Whether a store has these numbers and these bytes, and has them again when it is opened again.
-pub(crate) fn is_kept<H: Threads + Sync>(
-    rt: &H,
-    alloc: Global,
-    engine: Store,
-    state: State,
-    a: &[u8],
-    b: &[u8],
-) -> Result<bool, Fail> {
-    let before = engine.state() == state && has_bytes(&engine, a, b);
-    let again = reopened(rt, alloc, engine)?;
-    Ok(before && again.state() == state && has_bytes(&again, a, b))
 }
