@@ -5,6 +5,7 @@
 mod checkpoint;
 mod engine;
 mod fault;
+mod land;
 mod landed;
 mod landing;
 mod memory;
