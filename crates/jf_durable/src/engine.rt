@@ -1,25 +1,18 @@
 // A store over two files of records: opening it, changing it, and reading its versions.
 ghost use Rattle.std.specs.Prelude.{◌≡◌, ◌⊎◌, ◌↔◌, ℕ, ◌+◌, ◌-◌, ◌<◌, ◌≤◌, ◌^◌, length, Some, None, Err, option_map, IfSome, IfOk, IfErr, OnOk, OnErr, IsErr, true, false};
 ghost use Rattle.std.specs.Option.{ForSome, SomeIff, option_copied};
-ghost use Rattle.std.specs.FinMap as fin;
 ghost use Rattle.jf_path.specs.Faults.{HasCause};
-ghost use Rattle.jf_path.specs.Limits.{max_forks};
-ghost use Rattle.jf_hash.specs.Roots.{root};
-ghost use Rattle.jf_model.specs.Versions.{IsVersions, newest, map_of, root_of, land_all, pruned};
-ghost use Rattle.jf_model.specs.Batches.{key_count};
+ghost use Rattle.jf_model.specs.Versions.{IsVersions, map_of, root_of, pruned};
 ghost use Rattle.jf_model.specs.Nodes.{kept_nodes};
-ghost use Rattle.jf_split.specs.Limits.{max_keys};
 ghost use Rattle.jf_disk.specs.Disk.{History, reads};
 ghost use Rattle.jf_disk.specs.declared.side.Side.{Side};
 ghost use Rattle.jf_files.specs.Files.{IsDamagedAt};
-ghost use Rattle.jf_files.specs.Steps.{Lands, Prunes, Compacts, StopsWell, Succeeds};
+ghost use Rattle.jf_files.specs.Steps.{Prunes, Compacts, StopsWell, Succeeds};
 ghost use Rattle.jf_durable.specs.EngineStates.{IsSettled};
 ghost use Rattle.jf_durable.specs.Openings.{FilesOpened, FilesRefused, disk_shown};
 
 use crate::checkpoint::checkpoint_frame;
 use crate::fault::{EngineFault, OpenRefused, Which};
-use crate::landed::Landed;
-use crate::landing::{land_batches, take_back};
 use crate::memory::EngineMemory;
 use crate::opening::find;
 use crate::state::State;
@@ -28,36 +21,34 @@ use jf_dir::Directory;
 use jf_disk::{Disk, know_counts, know_dated};
 use jf_files::{
     checkpoints_are_numbered, checkpoints_follow, floors_follow, generation_is_live,
-    landings_follow, standings_have_versions, stops_by_records, succeeds_by_records,
+    standings_have_versions, stops_by_records, succeeds_by_records,
 };
 use jf_frame::DiskFault;
 use jf_hash::Hash;
-use jf_join::Gate;
 use jf_node::Snapshot;
 use jf_pair::Pair;
-use jf_payload::{encode, encode_floor, kept_is_spelled, written_in_both};
-use jf_split::BatchList;
-use jf_standing::{floors_prune, formats_are_sound, formats_follow, formats_group, groups_land};
+use jf_payload::encode_floor;
+use jf_standing::{floors_prune, formats_are_sound, formats_follow};
 use std::alloc::Global;
 use std::marker::Model;
 use std::thread::Threads;
 
 /// The greatest version, and the greatest generation.
-const LAST: u64 = u64::MAX - 1;
+pub(crate) const LAST: u64 = u64::MAX - 1;
 
 /// The most entries that the head's map may have before a landing.
-const MOST_KEYS: u64 = 1 << 62;
+pub(crate) const MOST_KEYS: u64 = 1 << 62;
 
 /// A store over two files of records: the versions that they stand for. After a fault of the disk it is broken: it shows
 /// the versions from before that call, and takes no more changes. Only a new opening finds out what the files hold then.
 #[derive(Drop)]
 pub struct Engine<D: Disk> {
-    disk: D,
-    pair: Pair,
-    directory: Directory,
-    format: Format,
-    generation: u64,
-    broken: bool,
+    pub(crate) disk: D,
+    pub(crate) pair: Pair,
+    pub(crate) directory: Directory,
+    pub(crate) format: Format,
+    pub(crate) generation: u64,
+    pub(crate) broken: bool,
 }
 
 impl<D: Disk> Model for Engine<D> {
@@ -107,97 +98,6 @@ impl<D: Disk> Engine<D> {
                 broken: false,
             }),
             Err(why) => Err(OpenRefused { disk, why }),
-        }
-    }
-
-    /// Lands batches on the head, one version for each, in their order. They are one record, so a crash leaves all of
-    /// these versions or none. All memory is taken first. Then come four calls on the disk: write and sync of the
-    /// record, write and sync of its gate. At most `workers` threads work, 1 to 64; neither their number nor the gate
-    /// has an effect on the result.
-    ///
-    /// Refusals; after each but `DiskFault` store and disk are unchanged:
-    ///
-    /// - `Broken`: an earlier call on this store met a fault of the disk.
-    /// - `Last(Version)`: the last version would be greater than 2^64 - 2.
-    /// - `Last(Keys)`: it would not, and the head's map has more than 2^62 entries.
-    /// - `Memory`: memory ran out.
-    /// - `DiskFault`: a call on the disk failed. The store is broken and shows the versions from before. After a crash
-    ///   the files stand for these, or for these and all new ones.
-    pub fn land_all<H: Threads + Sync, G: Gate>(
-        &mut self,
-        rt: &H,
-        alloc: Global,
-        batches: &BatchList,
-        workers: u64,
-        gate: &G,
-    ) -> Result<Landed, EngineFault>
-        requires some { 1 ≤ workers }
-        requires few { workers ≤ 64 }
-        requires any { 1 ≤ length batches.now }
-        requires forks { length batches.now ≤ max_forks }
-        requires limited { key_count batches.now ≤ max_keys }
-        ensures landed { OnOk result (self.new.versions ≡ land_all batches.now self.old.versions) }
-        ensures answer { IfOk result (λ l. (l.version ≡ self.new.versions.head) × (l.root ≡ root (newest self.new.versions)) × (l.moment ≡ self.new.moment)) }
-        ensures generation { self.new.generation ≡ self.old.generation }
-        ensures four { OnOk result (self.new.moment ≡ self.old.moment + 4) }
-        ensures succeeds { (h : History) → self.old.history ≡ Some h → OnOk result ((g : History) × (self.new.history ≡ Some g) × Succeeds (Lands batches.now) h g self.old.versions) }
-        ensures stops { (h : History) → self.old.history ≡ Some h → result ≡ Err EngineFault.DiskFault → (g : History) × (self.new.history ≡ Some g) × StopsWell (Lands batches.now) h g self.old.versions }
-        ensures untold { self.old.history ≡ None → self.new.history ≡ None }
-        ensures broken { (result ≡ Err EngineFault.Broken) ↔ (self.old.broken ≡ true) }
-        ensures last { (result ≡ Err (EngineFault.Last Which.Version)) ↔ ((self.old.broken ≡ false) × (2 ^ 64 - 2 < self.old.versions.head + length batches.now)) }
-        ensures keys { (result ≡ Err (EngineFault.Last Which.Keys)) ↔ ((self.old.broken ≡ false) × (self.old.versions.head + length batches.now ≤ 2 ^ 64 - 2) × (2 ^ 62 < fin.len (newest self.old.versions))) }
-        ensures only { (w : _) → result ≡ Err (EngineFault.Last w) → (w ≡ Which.Version) ⊎ (w ≡ Which.Keys) }
-        ensures never { (n : ℕ) → result ≡ Err (EngineFault.NotEmpty n) → ⊥ }
-        ensures small { OnOk result (fin.len (newest self.old.versions) ≤ 2 ^ 62) }
-        ensures untouched { OnErr result ((result ≡ Err EngineFault.DiskFault) ⊎ (self.new ≡ self.old)) }
-        ensures same { OnErr result (self.new.versions ≡ self.old.versions) }
-        ensures fault { result ≡ Err EngineFault.DiskFault → HasCause self.old.faults self.new.faults }
-        ensures breaks { result ≡ Err EngineFault.DiskFault → self.new.broken ≡ true }
-        ensures whole { OnOk result (self.new.broken ≡ false) }
-        ensures counts { (self.old.moment ≤ self.new.moment) × (self.old.faults ≤ self.new.faults) }
-    {
-        if self.broken {
-            return Err(EngineFault::Broken);
-        }
-        self.directory.know();
-        formats_are_sound();
-        formats_group();
-        groups_land();
-        kept_is_spelled();
-        landings_follow();
-        standings_have_versions();
-        stops_by_records();
-        succeeds_by_records();
-        written_in_both();
-        if LAST - self.directory.head() < batches.len() {
-            return Err(EngineFault::Last(Which::Version));
-        }
-        if self.directory.newest().count() > MOST_KEYS {
-            return Err(EngineFault::Last(Which::Keys));
-        }
-        let record = land_batches(
-            rt,
-            alloc,
-            &mut self.directory,
-            batches.as_slice(),
-            workers,
-            gate,
-        )?;
-        let Ok(frame) = encode(alloc, &record, self.format) else {
-            take_back(&mut self.directory, &record);
-            return Err(EngineFault::Memory);
-        };
-        match self.pair.append(&mut self.disk, frame.as_slice()) {
-            Ok(()) => Ok(Landed {
-                version: self.directory.head(),
-                root: self.directory.newest().root(),
-                moment: self.disk.moment(),
-            }),
-            Err(DiskFault) => {
-                take_back(&mut self.directory, &record);
-                self.broken = true;
-                Err(EngineFault::DiskFault)
-            }
         }
     }
 

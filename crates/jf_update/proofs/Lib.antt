@@ -4,6 +4,7 @@ pub mod NodeUpdateLaws
 pub mod TopUpdateLaws
 pub mod SnapshotUpdateLaws
 pub mod RestoreLaws
+pub mod CountLaws
 pub mod PieceCuts
 pub mod WideLaws
 pub mod WideBuildLaws

@@ -71,7 +71,7 @@ each-part (suc count) n (suc k) g lt =
       ap (λ m. length (g m)) (let e : n + suc k ≡ (n + 1) + k = omega arith in e),
     )
 
-part_nodes-none : (d : ℕ) → part_nodes d [] ≡ []
+pub part_nodes-none : (d : ℕ) → part_nodes d [] ≡ []
 unfolding part_nodes
 part_nodes-none d = refl
 
@@ -80,7 +80,7 @@ unfolding nodes_below
 nodes_below-one zero d e = refl
 nodes_below-one (suc l) d e = refl
 
-part_nodes-one : (d : ℕ) (e : List ℕ × List ℕ) → part_nodes d (e ∷ []) ≡ ([], e ∷ []) ∷ []
+pub part_nodes-one : (d : ℕ) (e : List ℕ × List ℕ) → part_nodes d (e ∷ []) ≡ ([], e ∷ []) ∷ []
 unfolding part_nodes
 part_nodes-one d e = nodes_below-one (64 - d) d e
 
@@ -92,7 +92,7 @@ nodes_at-child d es n =
     let below = nodes_below (64 - (d + 1)) (d + 1) part in
     elim (has_one part) as (λ b. cond b (map step below) [] ≡ map step (cond b below [])) [ true ↦ refl | false ↦ refl ]
 
-part_nodes-many : (d : ℕ) (es : Part) → d < 64 → 2 ≤ length es → part_nodes d es ≡ ([], es) ∷ nodes_under d es
+pub part_nodes-many : (d : ℕ) (es : Part) → d < 64 → 2 ≤ length es → part_nodes d es ≡ ([], es) ∷ nodes_under d es
 unfolding part_nodes nodes_under lower_nodes
 part_nodes-many d es deep many =
     let levels : 64 - d ≡ suc (64 - (d + 1)) = omega arith in
@@ -159,14 +159,14 @@ restoring_start d from es written links le is =
     }
 
 -- the list of all children before a nibble, with the next one
-each-more : (d n : ℕ) (es : Part) → each_from (n + 1) 0 (nodes_at d es) ≡ each_from n 0 (nodes_at d es) ++ nodes_at d es n
+pub each-more : (d n : ℕ) (es : Part) → each_from (n + 1) 0 (nodes_at d es) ≡ each_from n 0 (nodes_at d es) ++ nodes_at d es n
 each-more d n es = ap (λ k. each_from k 0 (nodes_at d es)) (add-one n) ∙ each_push n 0 (nodes_at d es) ∙ ap (λ m. each_from n 0 (nodes_at d es) ++ nodes_at d es m) (zero-add n)
 
 nodes_at-part : (d n : ℕ) (es : Part) → nodes_at d es n ≡ map (λ (x : Path × Part). (n ∷ x.0, x.1)) (part_nodes (d + 1) (with_nibble d n es))
 unfolding nodes_at
 nodes_at-part d n es = refl
 
-length-nodes_at : (d n : ℕ) (es : Part) → length (nodes_at d es n) ≡ length (part_nodes (d + 1) (with_nibble d n es))
+pub length-nodes_at : (d n : ℕ) (es : Part) → length (nodes_at d es n) ≡ length (part_nodes (d + 1) (with_nibble d n es))
 length-nodes_at d n es = ap length (nodes_at-part d n es) ∙ length-map (part_nodes (d + 1) (with_nibble d n es)) (λ (x : Path × Part). (n ∷ x.0, x.1))
 
 pub restoring_more : (d n start r from to to' : ℕ) (path : ℕ → ℕ) (es : Part) (written : List ℕ) (links : List (Option LinkValue)) (child : Option LinkValue) → IsPartUnder d path es → n < 16 → IsRestoring d n start from to es written links → IsPieceEnd d n r (drop start es)
@@ -317,7 +317,7 @@ snapshot_restored v to es written (Some x) some sorted newest all made link =
       sound = record { each = omega (arith, all, made.taken, ap length listed); root = newest };
     }
 
-nodes_none : (s : fin.FinMap key_cmp (List ℕ)) → entries s ≡ [] → nodes s ≡ ([], []) ∷ []
+pub nodes_none : (s : fin.FinMap key_cmp (List ℕ)) → entries s ≡ [] → nodes s ≡ ([], []) ∷ []
 unfolding lower_nodes
 nodes_none s is = nodes-entries s [] is ∙ nodes_below-suc 63 0 []
 

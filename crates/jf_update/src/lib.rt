@@ -2,6 +2,7 @@
 //! makes stale.
 #![tactic(auto)]
 
+mod count;
 mod hashing;
 mod leaf;
 mod node;
@@ -14,6 +15,7 @@ mod top;
 mod wide;
 mod wide_leaf;
 
+pub use count::count_of_nodes;
 pub use hashing::value_hashes;
 pub use jf_diff::{Written, written};
 pub use jf_node::Update;

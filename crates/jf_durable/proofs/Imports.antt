@@ -1,0 +1,58 @@
+-- A directory of one snapshot alone has that snapshot's map as its one version.
+use Rattle.std.proofs.Common.{◌≡◌, refl, sym, ◌∙◌, ap, ℕ, ◌+◌, ◌-◌, ◌≤◌, ◌<◌, ◌^◌, List, [], ◌∷◌, map, length, arith, true, Some, None, T}
+use Rattle.std.specs.FinMap.{entries, len, is_sorted}
+use Rattle.std.specs.FinMap as fin
+use Rattle.jf_path.specs.Keys.{key_cmp}
+use Rattle.jf_hash.specs.Maps.{map_of_entries}
+use Rattle.jf_hash.specs.Roots.{root}
+use Rattle.jf_hash.proofs.MapLaws.{map-from_entries}
+use Rattle.jf_model.specs.Nodes.{Path, is_node}
+use Rattle.jf_model.specs.Versions.{imported}
+use Rattle.jf_codec.specs.declared.format.Format.TheVariants as format
+use Rattle.jf_node.specs.SnapshotValue.{SnapshotValue}
+use Rattle.jf_node.specs.Snapshots.{snapshot_version_at, IsSnapshot}
+use Rattle.jf_diff.specs.Landings.{version_in, version_or}
+use Rattle.jf_update.specs.Restored.{IsRestored}
+use Rattle.jf_standing.specs.Named.{never, map_at}
+use Rattle.jf_standing.specs.Standing.{Standing, versions_of, down_from}
+use Rattle.jf_standing.specs.Sound.{IsSound}
+use Rattle.jf_standing.specs.Building.{floor_standing, nodes_by_name}
+use Rattle.jf_standing.proofs.ByName.{nodes-moved}
+use Rattle.jf_standing.proofs.Floor.{floor-sound, map-floor}
+use Rattle.jf_standing.proofs.Reordered.{moved-versions}
+use Rattle.jf_dir.specs.Directories.{begun_with}
+
+module _ (x : SnapshotValue) (snap : IsSnapshot x) (last : x.version < never) (room : len x.map ≤ 2 ^ 63) where
+  abbrev made : Standing
+  made = floor_standing format.Two x.version x.version (root x.map ∷ []) x.map (version_in x)
+
+  low : (p : Path) → is_node 0 p (entries x.map) ≡ true → version_in x p ≤ x.version
+  low p node = elim (snapshot_version_at p x) as (λ o. snapshot_version_at p x ≡ o → version_or o ≤ x.version) [
+    | None ↦ λ is. omega arith
+    | Some v ↦ λ is. snap.newest p v is
+  ] refl
+
+  made-sound : IsSound format.Two made
+  made-sound = floor-sound format.Two x.version x.version (root x.map ∷ []) x.map (version_in x) snap.map low last (omega arith) (omega arith) refl room (ap version_or snap.root)
+
+  made-versions : versions_of made ≡ imported x.version x.map
+  made-versions =
+      ap (λ ms. record { base = x.version; floor = x.version; head = x.version; roots = root x.map ∷ []; maps = ms })
+      (ap (λ n. map (λ w. map_at w made.nodes) (down_from x.version n)) (let e : x.version - x.version + 1 ≡ 1 = omega arith in e)
+      ∙ ap (λ k. k ∷ []) (map-floor format.Two x.version x.version (root x.map ∷ []) x.map (version_in x) snap.map low last))
+
+  begun-imported : versions_of (begun_with x.version [] x) ≡ imported x.version x.map
+  begun-imported = moved-versions format.Two made (nodes_by_name made.nodes) made-sound (nodes-moved format.Two made made-sound) ∙ made-versions
+
+-- a restored snapshot has as many entries as it is restored from
+pub restored-room : (version : ℕ) (es : List (List ℕ × List ℕ)) (written : List ℕ) (x : SnapshotValue) → IsRestored version es written x → length es ≤ 2 ^ 62 → len x.map ≤ 2 ^ 63
+restored-room version es written x restored few = omega (arith, few, fin.len-entries x.map, ap length restored.same)
+
+-- the directory of a restored snapshot
+pub restored-imported : (version : ℕ) (es : List (List ℕ × List ℕ)) (written : List ℕ) (x : SnapshotValue) (d : Standing) → IsRestored version es written x → IsSnapshot x → T (is_sorted key_cmp es) → version ≤ 2 ^ 64 - 2 → length es ≤ 2 ^ 62
+    → d ≡ begun_with version [] x → versions_of d ≡ imported version (map_of_entries es)
+restored-imported version es written x d restored snap sorted last few is =
+    let same : x.map ≡ map_of_entries es = map-from_entries x.map (map_of_entries es) (restored.same ∙ sym (fin.entries-from_sorted key_cmp es sorted)) in
+    let end : x.version < never = omega (arith, last, restored.version) in
+    ap versions_of (is ∙ ap (λ v. begun_with v [] x) (sym restored.version)) ∙ begun-imported x snap end (restored-room version es written x restored few)
+    ∙ ap (λ v. imported v x.map) restored.version ∙ ap (imported version) same
