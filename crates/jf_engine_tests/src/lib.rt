@@ -1,14 +1,20 @@
-//! Tests of the plain store, and of a store on a disk: files byte by byte, calls of the disk that fail in turn, and
-//! landings beside whole maps.
+//! Tests of the store over two files: files byte by byte, damage, generations, landings of several versions, crashes, and
+//! calls of the disk that fail.
 #![tactic(auto)]
 
 #[cfg(test)]
+mod crashes;
+#[cfg(test)]
+mod damage;
+#[cfg(test)]
 mod faults;
 #[cfg(test)]
-mod files;
+mod generations;
 #[cfg(test)]
-mod scripts;
+mod histories;
+#[cfg(test)]
+mod landings;
+#[cfg(test)]
+mod records;
 #[cfg(test)]
 mod stores;
-#[cfg(test)]
-mod versions;

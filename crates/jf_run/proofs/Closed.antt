@@ -6,8 +6,8 @@ use Rattle.jf_model.specs.Entries.{moments_of}
 use Rattle.jf_disk.specs.Disk.{reads}
 use Rattle.jf_disk.proofs.CrashLaws.{leaves_nowhere}
 use Rattle.jf_disk.proofs.MomentLaws.{same_extends}
-use Rattle.jf_journal.specs.Laws.{LogDamageIsNoVersions}
-use Rattle.jf_engine.specs.Keeping.{DiskView, HasRefused}
+use Rattle.jf_files.specs.Laws.{LogDamageIsNoVersions}
+use Rattle.jf_engine.specs.Openings.{DiskView, HasRefused}
 use Rattle.jf_engine.specs.declared.fault.OpenFault.{OpenFault}
 use Rattle.jf_session.specs.Runs.{AreWithin}
 use Rattle.jf_run.specs.Commands.{opens, is_verify, is_closing, status_of_refusal}

@@ -3,7 +3,7 @@ use Rattle.std.specs.Prelude.{IsFalse, IfSome, IfNone}
 use Rattle.std.proofs.Common.{◌≡◌, sym, ap, ◌∙◌, true≢false, ℕ, Some, subst, length, ◌⊎◌, ◌≤◌, IsTrue}
 use Rattle.jf_path.specs.Faults.{HasCause}
 use Rattle.jf_disk.specs.Disk.{History, reads}
-use Rattle.jf_journal.specs.Laws.{LogsStandForOne, LogDamageIsNoVersions}
+use Rattle.jf_files.specs.Laws.{LogsStandForOne, LogDamageIsNoVersions}
 use Rattle.jf_session.specs.Sessions.{Session}
 use Rattle.jf_session.specs.Runs.{HasRun}
 use Rattle.jf_session.specs.declared.running.End.{End}

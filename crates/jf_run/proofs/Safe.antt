@@ -8,11 +8,11 @@ use Rattle.jf_disk.specs.Disk.{History, Files, LeftSince, reads}
 use Rattle.jf_disk.specs.Moments.{all_states}
 use Rattle.jf_disk.proofs.CrashLaws.{goes_left}
 use Rattle.jf_disk.proofs.MomentLaws.{left_now}
-use Rattle.jf_journal.specs.Standing.{LogsStandFor}
-use Rattle.jf_journal.specs.Steps.{Opens, LogStopsWell, IsCalmLog}
-use Rattle.jf_journal.specs.Laws.{LogsStandForOne}
+use Rattle.jf_files.specs.Files.{StandsFor}
+use Rattle.jf_files.specs.Steps.{Opens, StopsWell, IsCalm}
+use Rattle.jf_files.specs.Laws.{LogsStandForOne}
 use Rattle.jf_engine.specs.Engines.{IsSettledOn}
-use Rattle.jf_engine.specs.Keeping.{DiskView}
+use Rattle.jf_engine.specs.Openings.{DiskView}
 use Rattle.jf_answers.specs.Own.{Own}
 use Rattle.jf_answers.specs.Answers.{answer}
 use Rattle.jf_session.specs.Runs.{Outlasts, AreWithin, IsFrontImage, EndsBy, HasRun}
@@ -29,7 +29,7 @@ use Rattle.jf_run.proofs.Complete.{added_are}
 use Rattle.jf_run.proofs.Counting.{told_one}
 
 -- the images of an opening and of the run after it are front images
-run_front : (v : Versions) (es : List Entry) (h g k : History) (low high t : ℕ) (f : Files) → LogStopsWell Opens h g v → IsCalmLog h → LogsStandFor (reads h) v → Outlasts (opened v 1) g k es
+run_front : (v : Versions) (es : List Entry) (h g k : History) (low high t : ℕ) (f : Files) → StopsWell Opens h g v → IsCalm h → StandsFor (reads h) v → Outlasts (opened v 1) g k es
     → AreWithin low high (moments_of es) → length g.before ≡ low → length h.before ≤ t → LeftSince k t f → IsFrontImage f t (opened v 1) es
 run_front v es h g k low high t f opening calm stands lasts within dated le left =
     elim (Outlasts-left (opened v 1) es g k t f lasts left) [
@@ -52,9 +52,9 @@ ends_safe end.DiskFault v es mid new next k from faults own ends told state own_
       history = went.0;
       told = went.1;
       leaves =
-          λ t since f left. elim (goes_left t k went.0 (λ x. LogsStandFor x mid.state.all ⊎ LogsStandFor x (land_all (mid.own.pending ∷ []) mid.state.all)) f went.2 left) [
+          λ t since f left. elim (goes_left t k went.0 (λ x. StandsFor x mid.state.all ⊎ StandsFor x (land_all (mid.own.pending ∷ []) mid.state.all)) f went.2 left) [
             | inl p ↦ elim p [
-              | inl x ↦ inl (front-all (opened v 1) es t f (subst (λ w. LogsStandFor f w) all_is x))
+              | inl x ↦ inl (front-all (opened v 1) es t f (subst (λ w. StandsFor f w) all_is x))
               | inr x ↦ inr (record {
                 failed = refl;
                 rose = rose_later faults mid.faults new.faults le tries.faults tries.rose;
@@ -63,7 +63,7 @@ ends_safe end.DiskFault v es mid new next k from faults own ends told state own_
                 attempt = tries.attempt;
                 tried = subst (λ s. (answer s own ends.0).entry ≡ Some tries.attempt) state (subst (λ w. (answer mid.state w ends.0).entry ≡ Some tries.attempt) own_is tries.tried);
                 legal = subst (λ s. IsLegal s tries.attempt) state tries.legal;
-                stands = subst (λ s. LogsStandFor f (after tries.attempt s).all) state (subst (λ w. LogsStandFor f w) (sym (answer-lands mid.state mid.own ends.0 tries.attempt tries.tried)) x);
+                stands = subst (λ s. StandsFor f (after tries.attempt s).all) state (subst (λ w. StandsFor f w) (sym (answer-lands mid.state mid.own ends.0 tries.attempt tries.tried)) x);
               })
             ]
             | inr before ↦ inl (front t since f before)
@@ -83,7 +83,7 @@ opened_front v es g k low high t f settled lasts within dated le left =
 
 -- a run after an opening is safe since a moment if its images from then on are front images
 run_from : (h : History) (v : Versions) (e : End) (s : Session) (rest rest' text text' : Option (List ℕ)) (disk : DiskView) (history : Option History) (head moment faults from : ℕ) (es : List Entry)
-    → LogsStandForOne → disk.history ≡ Some h → LogsStandFor (reads h) v → IsBegun s disk head → (run : HasRun e s rest rest' text text' history moment faults es)
+    → LogsStandForOne → disk.history ≡ Some h → StandsFor (reads h) v → IsBegun s disk head → (run : HasRun e s rest rest' text text' history moment faults es)
     → ((g k : History) → s.history ≡ Some g → IsSettledOn g v → Outlasts (opened v 1) g k es → AreWithin s.moment run.ran.mid.moment (moments_of es) → (t : ℕ) → from ≤ t → (x : Files) → LeftSince k t x → IsFrontImage x t (opened v 1) es)
     → IsSafeSince from history v es (own_after s run.ran.done) run.ran.next (status_of e) disk.faults faults
 run_from h v e s rest rest' text text' disk history head moment faults from es one told stands begun run front =
@@ -106,16 +106,16 @@ run_from h v e s rest rest' text text' disk history head moment faults from es o
 
 -- over a calm disk's files a run is safe at every moment, the opening included
 pub run_safe : (h : History) (v : Versions) (e : End) (s : Session) (rest rest' text text' : Option (List ℕ)) (disk : DiskView) (history : Option History) (head moment faults : ℕ) (es : List Entry)
-    → LogsStandForOne → disk.history ≡ Some h → length h.before ≡ disk.moment → IsCalmLog h → LogsStandFor (reads h) v → IsBegun s disk head → (run : HasRun e s rest rest' text text' history moment faults es)
+    → LogsStandForOne → disk.history ≡ Some h → length h.before ≡ disk.moment → IsCalm h → StandsFor (reads h) v → IsBegun s disk head → (run : HasRun e s rest rest' text text' history moment faults es)
     → IsSafeSince disk.moment history v es (own_after s run.ran.done) run.ran.next (status_of e) disk.faults faults
 run_safe h v e s rest rest' text text' disk history head moment faults es one told dated calm stands begun run =
     let opening = begun.opening.disk h told in
     run_from h v e s rest rest' text text' disk history head moment faults disk.moment es one told stands begun run
-    (λ g k told_g settled lasts within t since x left. run_front v es h g k s.moment run.ran.mid.moment t x (subst (λ y. LogStopsWell Opens h y v) (told_one s.history opening.0 g opening.1 told_g) (opening.2.stops v calm stands)) calm stands lasts within (begun.dated g told_g) (omega (arith, dated, since)) left)
+    (λ g k told_g settled lasts within t since x left. run_front v es h g k s.moment run.ran.mid.moment t x (subst (λ y. StopsWell Opens h y v) (told_one s.history opening.0 g opening.1 told_g) (opening.2.stops v calm stands)) calm stands lasts within (begun.dated g told_g) (omega (arith, dated, since)) left)
 
 -- on any disk a run is safe from the moment on at which the store was open
 pub run_opened_safe : (h : History) (v : Versions) (e : End) (s : Session) (rest rest' text text' : Option (List ℕ)) (disk : DiskView) (history : Option History) (head moment faults : ℕ) (es : List Entry)
-    → LogsStandForOne → disk.history ≡ Some h → LogsStandFor (reads h) v → IsBegun s disk head → (run : HasRun e s rest rest' text text' history moment faults es)
+    → LogsStandForOne → disk.history ≡ Some h → StandsFor (reads h) v → IsBegun s disk head → (run : HasRun e s rest rest' text text' history moment faults es)
     → IsSafeSince s.moment history v es (own_after s run.ran.done) run.ran.next (status_of e) disk.faults faults
 run_opened_safe h v e s rest rest' text text' disk history head moment faults es one told stands begun run =
     run_from h v e s rest rest' text text' disk history head moment faults s.moment es one told stands begun run

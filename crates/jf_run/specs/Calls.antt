@@ -1,7 +1,7 @@
 -- A call of the program, as its contract sees it: what its devices show before and after it, and what it returned.
 use Rattle.std.specs.Prelude.{◌≡◌, ℕ, ◌-◌, ◌<◌, ◌^◌, List, Option}
 use Rattle.jf_model.specs.declared.entries.Entry.{Entry}
-use Rattle.jf_engine.specs.Keeping.{DiskView}
+use Rattle.jf_engine.specs.Openings.{DiskView}
 use Rattle.jf_run.specs.declared.status.Status.{Status}
 use Rattle.jf_run.specs.declared.words.Mode.{Mode}
 

@@ -1,6 +1,6 @@
 // The top call of the program: the words of a command line say what is done with source, sink and disk.
 ghost use Rattle.std.specs.Prelude.{◌≡◌, IfNone, IsFalse};
-ghost use Rattle.jf_engine.specs.Keeping.{disk_view};
+ghost use Rattle.jf_engine.specs.Openings.{disk_view};
 ghost use Rattle.jf_run.specs.Commands.{asked, opens, is_verify};
 ghost use Rattle.jf_run.specs.Promises.{KeepsPromises};
 
@@ -11,7 +11,7 @@ use jf_disk::{Disk, know_dated};
 use jf_engine::OpenRefused;
 use jf_io::{Sink, Source};
 use jf_join::Gate;
-use jf_journal::{damage_is_no_versions, files_stand_for_one};
+use jf_files::{damage_is_no_versions, files_stand_for_one};
 use jf_model::Ledger;
 use jf_session::{Session, SoloRan, run};
 use std::alloc::Global;
@@ -36,7 +36,7 @@ use std::thread::Threads;
 ///   calm before the call, this holds from the opening on. If the disk didn't fail, the files hold all landings at the
 ///   end.
 /// - If no store was opened (`IsClosedCall`), there are no entries and the files are unchanged. One exception: a call
-///   that ends with `DiskFault` may have begun files without a record, which still hold no record.
+///   that ends with `DiskFault` may have begun files without a record, which still stand for a new store.
 /// - In the mode `verify` (`IsJudgedCall`), the verdicts were written, as far as the status says.
 pub fn run_words<S: Source, K: Sink, D: Disk, H: Threads + Wait + Sync, G: Gate>(
     rt: &H,

@@ -3,7 +3,7 @@ ghost use Rattle.std.specs.Prelude.{◌≡◌};
 ghost use Rattle.jf_run.specs.Commands.{code_of, status_of, status_of_verified, status_of_refusal};
 
 use jf_disk::Side;
-use jf_engine::{OpenFault, StoreMemory};
+use jf_engine::{OpenFault, EngineMemory};
 use jf_model::Ledger;
 use jf_session::End;
 use jf_verify::Verified;
@@ -36,7 +36,7 @@ pub struct Ended<D> {
     pub disk: D,
     pub entries: Ledger,
     pub start: Option<u64>,
-    pub memory: Option<StoreMemory>,
+    pub memory: Option<EngineMemory>,
 }
 
 impl Status {

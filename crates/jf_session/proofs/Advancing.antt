@@ -11,7 +11,7 @@ use Rattle.jf_model.specs.declared.entries.Entry.{Entry}
 use Rattle.jf_model.specs.declared.entries.Entry.TheVariants as entry
 use Rattle.jf_model.specs.declared.entries.Landing.TheVariants as landing
 use Rattle.jf_model.proofs.EntryLaws.{AreLegal-push, replay-push, after-at_moment, legal-at_moment, moments_of-append}
-use Rattle.jf_journal.specs.Steps.{Lands, LogSucceeds}
+use Rattle.jf_files.specs.Steps.{Lands, Succeeds}
 use Rattle.jf_text.specs.Words.{is_long}
 use Rattle.jf_script.specs.declared.command.Command.{Command}
 use Rattle.jf_script.specs.declared.reply.Refusal.{Refusal}
@@ -191,7 +191,7 @@ advances_landing old s new ls line owner version moment batch r dated dated' som
           let g = v.disk h told settled in
           let k = disk.disk g.0 g.1 in
           let late : length g.0.before < new.moment = subst (λ (n : ℕ). n < new.moment) (sym (dated g.0 g.1)) disk.later in
-          (k.0, k.1, outlasts_landing old.state h g.0 k.0 v.added owner version new.moment batch r g.2 (subst (λ (t : State). LogSucceeds (Lands (batch ∷ [])) g.0 k.0 t.all) v.replayed k.2) (dated' k.0 k.1) late);
+          (k.0, k.1, outlasts_landing old.state h g.0 k.0 v.added owner version new.moment batch r g.2 (subst (λ (t : State). Succeeds (Lands (batch ∷ [])) g.0 k.0 t.all) v.replayed k.2) (dated' k.0 k.1) late);
     }
 
 -- one line more was answered and done

@@ -14,8 +14,8 @@ use Rattle.jf_model.proofs.EntryLaws.{replay-append}
 use Rattle.jf_disk.specs.Disk.{Files, DiskState, IsImage, History, reads}
 use Rattle.jf_disk.specs.Moments.{all_states}
 use Rattle.jf_disk.specs.Crashes.{LeavesNow}
-use Rattle.jf_journal.specs.Standing.{LogsStandFor}
-use Rattle.jf_journal.specs.Steps.{Lands, LogSucceeds}
+use Rattle.jf_files.specs.Files.{StandsFor}
+use Rattle.jf_files.specs.Steps.{Lands, Succeeds}
 use Rattle.jf_engine.specs.Engines.{IsSettledOn}
 use Rattle.jf_session.specs.Runs.{last_place, is_acknowledged, IsFrontImage, AreCovered, Outlasts}
 use Rattle.jf_session.proofs.StepLaws.{below_test}
@@ -61,25 +61,25 @@ module _ (s : State) (es : List Entry) (owner version moment : ℕ) (b : Batch) 
     count = i.count;
     acknowledged = subst (λ (n : ℕ). n ≤ i.count) (sym (last_place-more (is_acknowledged t) es x (below_test t moment early))) i.acknowledged;
     within = omega (arith, i.within, length_more);
-    stands = subst (λ (l : List Entry). LogsStandFor f (replay s l).all) (sym (take-append-le i.count es (x ∷ []) i.within)) i.stands;
+    stands = subst (λ (l : List Entry). StandsFor f (replay s l).all) (sym (take-append-le i.count es (x ∷ []) i.within)) i.stands;
   }
 
   -- an image of the versions before it
-  front_before : (f : Files) (t : ℕ) → t < moment → LogsStandFor f (replay s es).all → IsFrontImage f t s es'
+  front_before : (f : Files) (t : ℕ) → t < moment → StandsFor f (replay s es).all → IsFrontImage f t s es'
   front_before f t early stands = front_more f t early (record {
     count = length es;
     acknowledged = last_place-le (is_acknowledged t) es;
     within = le_refl (length es);
-    stands = subst (λ (l : List Entry). LogsStandFor f (replay s l).all) (sym (take_all (length es) es (le_refl (length es)))) stands;
+    stands = subst (λ (l : List Entry). StandsFor f (replay s l).all) (sym (take_all (length es) es (le_refl (length es)))) stands;
   })
 
   -- an image of the versions after it
-  front_after : (f : Files) (t : ℕ) → LogsStandFor f (landed b (replay s es).all) → IsFrontImage f t s es'
+  front_after : (f : Files) (t : ℕ) → StandsFor f (landed b (replay s es).all) → IsFrontImage f t s es'
   front_after f t stands = record {
     count = length es';
     acknowledged = last_place-le (is_acknowledged t) es';
     within = le_refl (length es');
-    stands = subst (λ (l : List Entry). LogsStandFor f (replay s l).all) (sym whole_front) (subst (λ (v : Versions). LogsStandFor f v) (sym replayed_more) stands);
+    stands = subst (λ (l : List Entry). StandsFor f (replay s l).all) (sym whole_front) (subst (λ (v : Versions). StandsFor f v) (sym replayed_more) stands);
   }
 
   -- states from before the landing's moment
@@ -88,14 +88,14 @@ module _ (s : State) (es : List Entry) (owner version moment : ℕ) (b : Batch) 
   covered_more (y ∷ ys) n early c = (λ f i. front_more f (n + length ys) (omega arith) (c.0 f i), covered_more ys n (omega arith) c.1)
 
   abbrev Either : Files → Type 0
-  Either f = LogsStandFor f (replay s es).all ⊎ LogsStandFor f (landed b (replay s es).all)
+  Either f = StandsFor f (replay s es).all ⊎ StandsFor f (landed b (replay s es).all)
 
   covered_between : (xs : List DiskState) (n : ℕ) → n + length xs ≤ moment → AllByRecursion (λ y. (f : Files) → IsImage y f → Either f) xs → AreCovered s es' xs n
   covered_between [] n early c = tt
   covered_between (y ∷ ys) n early c =
       (λ f i. elim (c.0 f i) [ inl before ↦ front_before f (n + length ys) (omega arith) before | inr behind ↦ front_after f (n + length ys) behind ], covered_between ys n (omega arith) c.1)
 
-  covered_landing : (xs : List DiskState) (n : ℕ) (k : History) (past : List DiskState) → all_states k ≡ xs ++ past → n + length xs ≡ moment + 1 → LeavesNow k (λ f. LogsStandFor f (landed b (replay s es).all))
+  covered_landing : (xs : List DiskState) (n : ℕ) (k : History) (past : List DiskState) → all_states k ≡ xs ++ past → n + length xs ≡ moment + 1 → LeavesNow k (λ f. StandsFor f (landed b (replay s es).all))
       → AllByRecursion (λ y. (f : Files) → IsImage y f → Either f) xs → AreCovered s es' xs n
   covered_landing [] n k past grows late now c = tt
   covered_landing (y ∷ ys) n k past grows late now c =
@@ -109,7 +109,7 @@ append_covered s es (x ∷ xs) ys n c d =
 
 -- a history that outlasts entries, and then a landing, outlasts these entries and its own
 pub outlasts_landing : (s : State) (h g k : History) (es : List Entry) (owner version moment : ℕ) (b : Batch) (r : List ℕ)
-    → Outlasts s h g es → LogSucceeds (Lands (b ∷ [])) g k (replay s es).all → length k.before ≡ moment → length g.before < moment → Outlasts s h k (es ++ landing_at owner b version r moment ∷ [])
+    → Outlasts s h g es → Succeeds (Lands (b ∷ [])) g k (replay s es).all → length k.before ≡ moment → length g.before < moment → Outlasts s h k (es ++ landing_at owner b version r moment ∷ [])
 outlasts_landing s h g k es owner version moment b r o step dated later =
     let more = step.stops.more in
     let n = length (all_states h) in
@@ -126,8 +126,8 @@ outlasts_landing s h g k es owner version moment b r o step dated later =
           (subst (λ (t : ℕ). AreCovered s (es ++ landing_at owner b version r moment ∷ []) more t) (let e : m ≡ n + length o.more = omega arith in e) covered)
           (covered_more s es owner version moment b r o.more n early o.covered);
       settled = record {
-        stands = subst (λ (v : Versions). LogsStandFor (reads k) v) (sym (replayed_more s es owner version moment b r)) step.stands;
-        leaves = λ f i. subst (λ (v : Versions). LogsStandFor f v) (sym (replayed_more s es owner version moment b r)) (step.leaves f i);
+        stands = subst (λ (v : Versions). StandsFor (reads k) v) (sym (replayed_more s es owner version moment b r)) step.stands;
+        leaves = λ f i. subst (λ (v : Versions). StandsFor f v) (sym (replayed_more s es owner version moment b r)) (step.leaves f i);
       };
     }
 

@@ -16,7 +16,7 @@ use Rattle.jf_model.specs.States.{State}
 use Rattle.jf_model.specs.declared.entries.Entry.TheVariants as entry
 use Rattle.jf_model.specs.declared.entries.Landing.TheVariants as landing
 use Rattle.jf_disk.specs.Disk.{History}
-use Rattle.jf_journal.specs.Steps.{Lands, LogSucceeds, LogStopsWell}
+use Rattle.jf_files.specs.Steps.{Lands, Succeeds, StopsWell}
 use Rattle.jf_engine.specs.Engines.{Engine}
 use Rattle.jf_script.specs.declared.reply.Reply.{Reply}
 use Rattle.jf_script.specs.declared.reply.Reply.TheVariants as reply
@@ -77,7 +77,7 @@ pub commit_does : (e e' : Engine) (es : List Entry) (p : Batch) (over : Bool) (v
     → nat_le (2 ^ 62) (length es) ≡ false → nat_le (2 ^ 64 - 2) e.versions.head ≡ false → nat_lt (2 ^ 62) (len (newest e.versions)) ≡ false
     → length es < 2 ^ 62 → e.versions.head < 2 ^ 64 - 2 → len (newest e.versions) ≤ 2 ^ 62 → IsBatch p → IsAnswer e e' p version moment r
     → e.moment < e'.moment → e.faults ≤ e'.faults
-    → ((h : History) → e.history ≡ Some h → (g : History) × (e'.history ≡ Some g) × LogSucceeds (Lands (p ∷ [])) h g e.versions)
+    → ((h : History) → e.history ≡ Some h → (g : History) × (e'.history ≡ Some g) × Succeeds (Lands (p ∷ [])) h g e.versions)
     → Does (session_on e es p over) (session_on e' (es ++ entry.Landed 0 version (landing.Direct p) r moment ∷ []) [] over) (commit_answer (session_on e es p over))
 commit_does e e' es p over version moment r room more small room' more' small' sound a later faults disk =
     let s = session_on e es p over in
@@ -102,7 +102,7 @@ pub commit_tries : (e e' : Engine) (es : List Entry) (p : Batch) (over over' : B
     → nat_le (2 ^ 62) (length es) ≡ false → nat_le (2 ^ 64 - 2) e.versions.head ≡ false → nat_lt (2 ^ 62) (len (newest e.versions)) ≡ false
     → length es < 2 ^ 62 → e.versions.head < 2 ^ 64 - 2 → len (newest e.versions) ≤ 2 ^ 62 → IsBatch p
     → e'.versions ≡ e.versions → HasCause e.faults e'.faults → e.moment ≤ e'.moment → e.faults ≤ e'.faults
-    → ((h : History) → e.history ≡ Some h → (g : History) × (e'.history ≡ Some g) × LogStopsWell (Lands (p ∷ [])) h g e.versions)
+    → ((h : History) → e.history ≡ Some h → (g : History) × (e'.history ≡ Some g) × StopsWell (Lands (p ∷ [])) h g e.versions)
     → Tries (session_on e es p over) (session_on e' es p over') (commit_answer (session_on e es p over))
 commit_tries e e' es p over over' room more small room' more' small' sound same rose moment faults disk =
     let s = session_on e es p over in
@@ -194,7 +194,7 @@ module _ (e : Engine) (es : List Entry) (p : Batch) (over : Bool) (s : Session) 
 
   pub landed_does : (e' : Engine) (es' : List Entry) (q : Batch) (version moment : ℕ) (r : List ℕ)
       → length es < 2 ^ 62 → e.versions.head < 2 ^ 64 - 2 → len (newest e.versions) ≤ 2 ^ 62 → IsBatch p → IsAnswer e e' p version moment r → e.moment < e'.moment → e.faults ≤ e'.faults
-      → ((h : History) → e.history ≡ Some h → (g : History) × (e'.history ≡ Some g) × LogSucceeds (Lands (p ∷ [])) h g e.versions)
+      → ((h : History) → e.history ≡ Some h → (g : History) × (e'.history ≡ Some g) × Succeeds (Lands (p ∷ [])) h g e.versions)
       → es' ≡ es ++ entry.Landed 0 version (landing.Direct p) r moment ∷ [] → q ≡ [] → Does s (session_on e' es' q over) (commit_answer s)
   landed_does e' es' q version moment r room more small sound a later faults disk grown none =
       same_does (session_on e' es' q over) commit_answer
@@ -207,7 +207,7 @@ module _ (e : Engine) (es : List Entry) (p : Batch) (over : Bool) (s : Session) 
       commit_reply e e' es p over version moment r (below_test (length es) (2 ^ 62) room) (below_test e.versions.head (2 ^ 64 - 2) more) (small_test (len (newest e.versions)) (2 ^ 62) small) a ∙ ap (λ (t : Session). (commit_answer t).reply) is
 
   pub fault_tries : (e' : Engine) (es' : List Entry) (over' : Bool) → es' ≡ es → length es < 2 ^ 62 → e.versions.head < 2 ^ 64 - 2 → len (newest e.versions) ≤ 2 ^ 62 → IsBatch p → e'.versions ≡ e.versions → HasCause e.faults e'.faults → e.moment ≤ e'.moment → e.faults ≤ e'.faults
-      → ((h : History) → e.history ≡ Some h → (g : History) × (e'.history ≡ Some g) × LogStopsWell (Lands (p ∷ [])) h g e.versions) → Tries s (session_on e' es' p over') (commit_answer s)
+      → ((h : History) → e.history ≡ Some h → (g : History) × (e'.history ≡ Some g) × StopsWell (Lands (p ∷ [])) h g e.versions) → Tries s (session_on e' es' p over') (commit_answer s)
   fault_tries e' es' over' kept room more small sound same rose moment faults disk =
       subst (λ es'. Tries s (session_on e' es' p over') (commit_answer s)) (sym kept)
       (subst (λ t. Tries t (session_on e' es p over') (commit_answer t)) is

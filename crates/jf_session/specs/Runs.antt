@@ -8,7 +8,7 @@ use Rattle.jf_io.specs.Lines.{whole_lines}
 use Rattle.jf_io.specs.LinesRead.{lines_read, AreFirst}
 use Rattle.jf_disk.specs.Disk.{Files, DiskState, IsImage, History}
 use Rattle.jf_disk.specs.Moments.{all_states}
-use Rattle.jf_journal.specs.Standing.{LogsStandFor}
+use Rattle.jf_files.specs.Files.{StandsFor}
 use Rattle.jf_engine.specs.Engines.{IsSettledOn}
 use Rattle.jf_answers.specs.Runs.{Run, answers_from, run_entries, text_of}
 use Rattle.jf_answers.specs.Answers.{answer}
@@ -42,7 +42,7 @@ pub record IsFrontImage (image : Files) (t : ℕ) (s : State) (es : List Entry) 
   pub count : ℕ
   pub acknowledged : last_place (is_acknowledged t) es ≤ count
   pub within : count ≤ length es
-  pub stands : LogsStandFor image (replay s (take count es)).all
+  pub stands : StandsFor image (replay s (take count es)).all
 
 -- each image of these states, the newest first, is a front image at the state's moment; n states came before them
 abbrev pub AreCovered : State → List Entry → List DiskState → ℕ → Type 0
@@ -55,7 +55,7 @@ pub record Outlasts (s : State) (old new : History) (es : List Entry) : Type 0 w
   pub more : List DiskState
   pub grows : all_states new ≡ more ++ all_states old
   pub covered : AreCovered s es more (length (all_states old))
-  pub settled : IsSettledOn new (replay s es).all
+  pub settled : IsSettledOn new (replay s es).all (replay s es).generation
 
 -- the history of a session's disk has a state for each moment
 abbrev pub IsDatedBy : Session → Type 0
@@ -77,7 +77,7 @@ pub record Advances (old new : Session) (ls : List (List ℕ)) : Type 0 where
   pub legal : AreLegal old.state added
   pub dated : AreWithin old.moment new.moment (moments_of added)
   pub faults : old.faults ≤ new.faults
-  pub disk : (h : History) → old.history ≡ Some h → IsSettledOn h old.state.all → (g : History) × (new.history ≡ Some g) × Outlasts old.state h g added
+  pub disk : (h : History) → old.history ≡ Some h → IsSettledOn h old.state.all old.state.generation → (g : History) × (new.history ≡ Some g) × Outlasts old.state h g added
 
 -- ---- the lines that were read
 -- how far the input was read, by how the run ended; the next line is the one at which the disk failed

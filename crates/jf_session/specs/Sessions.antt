@@ -9,7 +9,7 @@ use Rattle.jf_model.specs.Entries.{at_moment, IsLegal}
 use Rattle.jf_model.specs.declared.entries.Entry.TheVariants as entry
 use Rattle.jf_model.specs.declared.entries.Landing.TheVariants as landing
 use Rattle.jf_disk.specs.Disk.{History}
-use Rattle.jf_journal.specs.Steps.{Lands, LogSucceeds, LogStopsWell}
+use Rattle.jf_files.specs.Steps.{Lands, Succeeds, StopsWell}
 use Rattle.jf_engine.specs.Engines.{Engine}
 use Rattle.jf_script.specs.declared.command.Command.{Command}
 use Rattle.jf_script.specs.declared.command.Base.{Base}
@@ -34,7 +34,7 @@ pub record Session : Type 0 where
 -- the session over a store, with the entries so far and what is pending
 abbrev pub session_on : Engine → List Entry → Batch → Bool → Session
 session_on engine entries pending over = record {
-  state = record { all = engine.versions; floor = engine.versions.floor; retired = engine.versions.floor; generation = 1; count = length entries; made = 0; forks = [] };
+  state = record { all = engine.versions; floor = engine.versions.floor; retired = engine.versions.floor; generation = engine.generation; count = length entries; made = 0; forks = [] };
   own = record { number = 0; pending = pending; pins = no_pins };
   entries = entries;
   history = engine.history;
@@ -61,7 +61,7 @@ Adds (Some e) moment old new = new ≡ old ++ at_moment moment e ∷ []
 pub record LandsOnDisk (batch : Batch) (old new : Session) : Type 0 where
   pub later : old.moment < new.moment
   pub faults : old.faults ≤ new.faults
-  pub disk : (h : History) → old.history ≡ Some h → (g : History) × (new.history ≡ Some g) × LogSucceeds (Lands (batch ∷ [])) h g old.state.all
+  pub disk : (h : History) → old.history ≡ Some h → (g : History) × (new.history ≡ Some g) × Succeeds (Lands (batch ∷ [])) h g old.state.all
 
 -- the disk was not touched
 pub record LeavesDisk (old new : Session) : Type 0 where
@@ -98,7 +98,7 @@ pub record Tries (old new : Session) (a : Answer) : Type 0 where
   pub rose : HasCause old.faults new.faults
   pub moment : old.moment ≤ new.moment
   pub faults : old.faults ≤ new.faults
-  pub disk : (h : History) → old.history ≡ Some h → (g : History) × (new.history ≡ Some g) × LogStopsWell (Lands (old.own.pending ∷ [])) h g old.state.all
+  pub disk : (h : History) → old.history ≡ Some h → (g : History) × (new.history ≡ Some g) × StopsWell (Lands (old.own.pending ∷ [])) h g old.state.all
 
 -- the answer to a command
 abbrev pub command_answer : Session → Command → Answer

@@ -1,5 +1,6 @@
 // The commands that read: in the head, and in every version from the retired bound on.
 ghost use Rattle.std.specs.Prelude.{◌≡◌, ◌≤◌, ◌++◌, Some, None, Err, IfOk, IfErr, OnOk, OnErr};
+ghost use Rattle.std.specs.FinMap.{get};
 ghost use Rattle.std.specs.Option.{option_copied};
 ghost use Rattle.jf_model.specs.Versions.{map_of};
 ghost use Rattle.jf_answers.specs.Refusals.{base_map};
@@ -10,7 +11,7 @@ use crate::session::Session;
 use crate::stop::Stop;
 use jf_disk::Disk;
 use jf_hash::key_of;
-use jf_path::{Bytes, Memory};
+use jf_path::{Bytes, Key, Memory};
 use jf_range::RangeAsk;
 use jf_script::{Base, Refusal, Reply};
 use std::alloc::Global;
@@ -26,7 +27,7 @@ impl<D: Disk> Session<D> {
             Ok(version) => version,
             Err(why) => return Ok(Reply::No(why)),
         };
-        match copied(alloc, self.engine.get(version, &key_of(name))) {
+        match copied(alloc, self.value_of(version, &key_of(name))) {
             Ok(value) => Ok(Reply::Value { value }),
             Err(Memory) => Err(Stop::Memory),
         }
@@ -99,6 +100,15 @@ impl<D: Disk> Session<D> {
         }
     }
 
+    // The value of a key in a version from floor to head, or `None` if that version does not have the key.
+    fn value_of(&self, version: u64, key: &Key) -> Option<&[u8]>
+        requires floor { self.now.state.all.floor ≤ version }
+        requires head { version ≤ self.now.state.all.head }
+        ensures { option_copied result ≡ get (map_of self.now.state.all version) key.now }
+    {
+        self.engine.at(version)?.get(key)
+    }
+
     // The version that a base names, or why it isn't read.
     fn version_of(&self, base: Base) -> Result<u64, Refusal>
         ensures refused { IfErr result (λ why. read_refusal self.now base ≡ Some why) }
@@ -109,7 +119,7 @@ impl<D: Disk> Session<D> {
         match base {
             Base::Head => {
                 self.engine.know();
-                Ok(self.engine.head())
+                Ok(self.engine.state().head)
             }
             Base::Version(version) => self.kept(version),
             Base::Fork(_) | Base::Place(_) => Err(Refusal::Syntax),
@@ -123,13 +133,12 @@ impl<D: Disk> Session<D> {
         ensures same { IfOk result (λ w. w ≡ version) }
         ensures kept { IfOk result (λ w. (self.now.state.all.floor ≤ version) × (version ≤ self.now.state.all.head)) }
     {
-        let head = self.engine.head();
-        if version > head {
-            return Err(Refusal::Future(head));
+        let state = self.engine.state();
+        if version > state.head {
+            return Err(Refusal::Future(state.head));
         }
-        let bound = self.engine.floor();
-        if version < bound {
-            return Err(Refusal::Retired(bound));
+        if version < state.floor {
+            return Err(Refusal::Retired(state.floor));
         }
         Ok(version)
     }

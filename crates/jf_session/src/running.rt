@@ -8,7 +8,7 @@ use crate::session::Session;
 use crate::stop::Stop;
 use crate::taking::{Taking, answer_line};
 use jf_disk::Disk;
-use jf_engine::StoreMemory;
+use jf_engine::EngineMemory;
 use jf_input::{Feeding, feed};
 use jf_io::{Sink, Source};
 use jf_join::Gate;
@@ -40,7 +40,7 @@ pub struct SoloRan<D> {
     pub disk: D,
     pub entries: Ledger,
     pub end: End,
-    pub memory: StoreMemory,
+    pub memory: EngineMemory,
 }
 
 /// Answers the lines of a script (docs/FORMATS.md) from a source into a sink: each reply is written before the next line

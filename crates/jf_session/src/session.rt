@@ -6,8 +6,8 @@ ghost use Rattle.jf_disk.specs.Disk.{reads};
 ghost use Rattle.jf_disk.specs.declared.side.Side.{Side};
 ghost use Rattle.jf_model.specs.Versions.{IsVersions};
 ghost use Rattle.jf_model.specs.States.{opened};
-ghost use Rattle.jf_journal.specs.Standing.{IsLogDamagedAt};
-ghost use Rattle.jf_engine.specs.Keeping.{HasOpened, HasRefused, disk_view};
+ghost use Rattle.jf_files.specs.Files.{IsDamagedAt};
+ghost use Rattle.jf_engine.specs.Openings.{HasOpened, HasRefused, disk_view};
 ghost use Rattle.jf_answers.specs.Own.{begun_session};
 ghost use Rattle.jf_answers.specs.Answers.{answer};
 ghost use Rattle.jf_answers.specs.Runs.{answer_text};
@@ -18,7 +18,7 @@ ghost use Rattle.jf_script.specs.Bounds.{IsBoundedCommand};
 use crate::answer::write_answer;
 use crate::stop::Stop;
 use jf_disk::Disk;
-use jf_engine::{Engine, EngineFault, Landed, OpenRefused, StoreMemory};
+use jf_engine::{Engine, EngineFault, Landed, OpenRefused, EngineMemory};
 use jf_hash::key_of;
 use jf_join::Gate;
 use jf_model::{Entry, Landing, Ledger};
@@ -57,25 +57,25 @@ impl<D: Disk> Model for Session<D> {
 
 impl<D: Disk> Session<D> {
     /// Opens the store that the files of a disk hold, for a session that has done no line yet: no entries, and nothing
-    /// is pending. Files without a record are begun, as a new store. Side B is unchanged.
+    /// is pending. Files without a record are begun, as a new store.
     ///
     /// A refusal hands the disk back:
     ///
     /// - `Damaged`: the files stand for no versions. It gives the first place of damage, in bytes from the side's
     ///   start. The files are unchanged.
     /// - `DiskFault`: a call on the disk failed. The files are unchanged, or they held no record and were begun in
-    ///   part; they still hold no record then.
+    ///   part; they still stand for a new store then.
     /// - `Memory`: memory ran out. The files are unchanged.
     pub fn over<H: Threads + Sync>(
         rt: &H,
         alloc: Global,
         disk: D,
     ) -> Result<Session<D>, OpenRefused<D>>
-        ensures opened { IfOk result (λ s. HasOpened (disk_view (D.history disk) (D.moment disk) (D.faults disk)) (disk_view s.history s.moment s.faults) s.state.all) }
+        ensures opened { IfOk result (λ s. HasOpened (disk_view (D.history disk) (D.moment disk) (D.faults disk)) (disk_view s.history s.moment s.faults) s.state.all s.state.generation) }
         ensures refused { IfErr result (λ e. HasRefused (disk_view (D.history disk) (D.moment disk) (D.faults disk)) (disk_view (D.history e.disk) (D.moment e.disk) (D.faults e.disk)) e.why) }
-        ensures damage { ForSome (D.history disk) (λ h. (side : Side) (at : ℕ) → IsLogDamagedAt (reads h) side at → IsErr result) }
+        ensures damage { ForSome (D.history disk) (λ h. (side : Side) (at : ℕ) → IsDamagedAt (reads h) side at → IsErr result) }
         ensures sound { IfOk result (λ s. IsVersions s.state.all) }
-        ensures state { IfOk result (λ s. (s.state ≡ opened s.state.all 1) × (s.own ≡ begun_session 0) × (s.entries ≡ []) × (s.over ≡ false)) }
+        ensures state { IfOk result (λ s. (s.state ≡ opened s.state.all s.state.generation) × (s.own ≡ begun_session 0) × (s.entries ≡ []) × (s.over ≡ false)) }
     {
         let engine = Engine::<D>::open(rt, alloc, disk)?;
         engine.know();
@@ -91,7 +91,7 @@ impl<D: Disk> Session<D> {
     pub fn head(&self) -> u64
         ensures { result ≡ self.now.state.all.head }
     {
-        self.engine.head()
+        self.engine.state().head
     }
 
     /// Does what one line asks for and answers it; the line is given without the byte that ends it (docs/FORMATS.md,
@@ -146,7 +146,7 @@ impl<D: Disk> Session<D> {
 
     /// Ends the session, and hands back its disk, its entries and what its store has in memory. What is pending is
     /// dropped.
-    pub fn end(self) -> (D, Ledger, StoreMemory)
+    pub fn end(self) -> (D, Ledger, EngineMemory)
         ensures history { D.history result.0 ≡ self.history }
         ensures moment { D.moment result.0 ≡ self.moment }
         ensures faults { D.faults result.0 ≡ self.faults }
@@ -334,7 +334,7 @@ impl<D: Disk> Session<D> {
                     root,
                 })
             }
-            Err(EngineFault::Last(_)) => Ok(Reply::No(Refusal::Last)),
+            Err(EngineFault::Last(_) | EngineFault::NotEmpty(_)) => Ok(Reply::No(Refusal::Last)),
             Err(EngineFault::DiskFault) => {
                 self.over = true;
                 Err(Stop::DiskFault)

@@ -5,7 +5,7 @@ use Rattle.jf_model.specs.declared.entries.Entry.TheVariants as entry
 use Rattle.jf_model.specs.declared.entries.Landing.TheVariants as landing
 use Rattle.jf_model.specs.Versions.{landed}
 use Rattle.jf_disk.specs.Disk.{History}
-use Rattle.jf_journal.specs.Steps.{Lands, LogSucceeds, LogStopsWell}
+use Rattle.jf_files.specs.Steps.{Lands, Succeeds, StopsWell}
 use Rattle.jf_engine.specs.declared.fault.EngineFault.TheVariants as fault
 use Rattle.jf_session.specs.Sessions.{Session}
 use Rattle.jf_session.proofs.StepLaws.{landed_does, landed_reply, head_does, head_reply, fault_tries}
@@ -23,7 +23,7 @@ returns-in-Ok-land-clause-ok g c =
     (omega arith) (below_last _ _ c.know.ensures.head (λ last. absurd (let e = f.last.1 (whole, last) in cc))) f.small (subst IsBatch same c.as_slice.ensures.sound)
     (record { versions = f.landed ∙ ap (λ b. landed b i.engine.versions) same; version_is = f.answer.0; root_is = f.answer.1; moment_is = f.answer.2 })
     (omega (arith, f.four)) f.counts.1
-    (subst (λ b. (h : History) → i.engine.history ≡ Some h → (h' : History) × (c.land.new.self.history ≡ Some h') × LogSucceeds (Lands (b ∷ [])) h h' i.engine.versions) same f.succeeds)
+    (subst (λ b. (h : History) → i.engine.history ≡ Some h → (h' : History) × (c.land.new.self.history ≡ Some h') × Succeeds (Lands (b ∷ [])) h h' i.engine.versions) same f.succeeds)
     (pushed c.push.result _ _ _ c.push.ensures.items (c.push.ensures.succeeds room)
     ∙ ap₂ (λ (l : List Entry) (b : Batch). l ++ entry.Landed 0 c.in-Ok-land.landed.version (landing.Direct b) c.in-Ok-land.landed.root c.in-Ok-land.landed.moment ∷ []) c.reserve.ensures.items same)
     c.clear.ensures
@@ -68,4 +68,4 @@ returns-in-Err-DiskFault-clause-fault g c = λ e.
     (omega arith) (below_last _ _ c.know.ensures.head (λ last. absurd (let e = f.last.1 (whole, last) in cc)))
     (not_above _ _ (λ large. absurd (let e = f.keys.1 (whole, (λ last. absurd (let e = f.last.1 (whole, last) in cc)), large) in cc))) (subst IsBatch same c.as_slice.ensures.sound)
     f.same (f.fault (ap (λ e. Err e) c.in-Err-DiskFault.field-0-is)) f.counts.0 f.counts.1
-    (subst (λ b. (h : History) → i.engine.history ≡ Some h → (h' : History) × (c.land.new.self.history ≡ Some h') × LogStopsWell (Lands (b ∷ [])) h h' i.engine.versions) same (λ h told. f.stops h told (ap (λ e. Err e) c.in-Err-DiskFault.field-0-is)))
+    (subst (λ b. (h : History) → i.engine.history ≡ Some h → (h' : History) × (c.land.new.self.history ≡ Some h') × StopsWell (Lands (b ∷ [])) h h' i.engine.versions) same (λ h told. f.stops h told (ap (λ e. Err e) c.in-Err-DiskFault.field-0-is)))

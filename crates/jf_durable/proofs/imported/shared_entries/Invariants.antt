@@ -1,6 +1,0 @@
-use Rattle.std.proofs.Common.{◌≡◌, take}
-use Rattle.jf_durable.proofs.imported.shared_entries.Given as goal
-
--- the entries so far
-abbrev pub invariant-loop-entry : goal.invariant-loop-entry
-invariant-loop-entry l = l.shared.items ≡ take l.entry-index l.entries

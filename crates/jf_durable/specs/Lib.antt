@@ -1,5 +1,0 @@
-pub mod EngineStates
-pub mod Faults
-pub mod Kept
-pub mod Landings
-pub mod Openings

@@ -1,0 +1,92 @@
+-- A new generation is a checkpoint alone, of the same standing.
+use Rattle.std.proofs.Common.{◌≡◌, ◌≤◌, ◌<◌, ◌+◌, ◌-◌, ◌^◌, [], ◌∷◌, Some, subst, sym, ◌∙◌, refl, rules, arith}
+use Rattle.jf_disk.specs.Disk.{History}
+use Rattle.jf_frame.specs.Framing.{IsFrame, number_of}
+use Rattle.jf_pair.specs.Files.{generation_of}
+use Rattle.jf_pair.proofs.PairLaws.{in_step_one}
+use Rattle.jf_codec.specs.declared.format.Format.TheVariants as format
+use Rattle.jf_payload.specs.Spelling.{record_bytes}
+use Rattle.jf_standing.specs.Building.{checkpoint_of}
+use Rattle.jf_files.specs.Steps.{Compacts, Succeeds, StopsWell}
+use Rattle.jf_engine.specs.Engines.{Engine}
+use Rattle.jf_engine.specs.Kept.{checkpoint_at_start}
+use Rattle.jf_engine.proofs.Records.{checkpoint_leads, checkpoint_frame-is, older-generation}
+use Rattle.jf_engine.proofs.Keeping.{lead_after, step_stops, step_succeeds, switched_keeps, on_same, unfailed}
+use Rattle.jf_engine.proofs.engine.Engine.compact.Goals as goal
+
+pub switch-requires-clause-checkpoint : goal.switch-requires-clause-checkpoint
+switch-requires-clause-checkpoint g c = λ κs within kind payload is.
+    let s = c.self.inside.directory in
+    let n = c.self.inside.generation + 1 in
+    let frame = subst (λ bytes. IsFrame bytes 5 (record_bytes format.Two (checkpoint_of n s))) (sym c.as_slice.ensures) c.in_ok-frame.ensures.frame in
+    let known = checkpoint_frame-is c.checkpoints_are_numbered.ensures s n c.as_slice.result.now c.in_ok-frame.ensures.spelled frame kind payload is in
+    (known.0, known.1)
+
+pub switch-requires-clause-in_step : goal.switch-requires-clause-in_step
+switch-requires-clause-in_step g c = λ κs within h told. let k = (c.self.invariant.2 c.if-self.false).holds h told in (k.held, k.in_step)
+
+pub switch-requires-clause-newer : goal.switch-requires-clause-newer
+switch-requires-clause-newer g c = λ κs within h rs kind payload told in_step is live.
+    let s = c.self.inside.directory in
+    let n = c.self.inside.generation in
+    let k = (c.self.invariant.2 c.if-self.false).holds h told in
+    let frame = subst (λ bytes. IsFrame bytes 5 (record_bytes format.Two (checkpoint_of (n + 1) s))) (sym c.as_slice.ensures) c.in_ok-frame.ensures.frame in
+    let known = checkpoint_frame-is c.checkpoints_are_numbered.ensures s (n + 1) c.as_slice.result.now c.in_ok-frame.ensures.spelled frame kind payload is in
+    let same = in_step_one c.self.inside.pair k.held rs h.now k.in_step in_step in
+    subst (λ xs. generation_of xs < number_of payload) same (older-generation k.held c.self.inside.format _ n (number_of payload) k.leads k.numbered known.2)
+
+pub invariant_of-self : goal.invariant_of-self
+invariant_of-self g c =
+    let s = c.self.inside.directory in
+    let n = c.self.inside.generation + 1 in
+    let first : 1 ≤ n = omega arith in
+    let last : n ≤ 2 ^ 64 - 2 = search rules in (
+      first,
+      last,
+      λ whole.
+          let k = c.self.invariant.2 c.if-self.false in
+          let frame = subst (λ bytes. IsFrame bytes 5 (record_bytes format.Two (checkpoint_of n s))) (sym c.as_slice.ensures) c.in_ok-frame.ensures.frame in
+          let leads = checkpoint_leads c.checkpoints_follow.ensures c.checkpoints_are_numbered.ensures s n c.know.ensures.read c.know.ensures.sound c.in_ok-frame.ensures.spelled in
+          switched_keeps (g.D.Disk.history c.self.inside.disk) (g.D.Disk.history c.switch.new.disk) c.switch.new.self format.Two s n (checkpoint_at_start n s) c.in-Ok.ensures.calls.untold c.in-Ok.ensures.side.1 (unfailed _ c.in-Ok.ensures.failed.0) leads.0 leads.1
+          (λ h told. c.in-Ok.ensures.ok h 5 (record_bytes format.Two (checkpoint_of n s)) told frame),
+    )
+
+pub returns-in-Ok-clause-succeeds : goal.returns-in-Ok-clause-succeeds
+returns-in-Ok-clause-succeeds g c = λ h told.
+    let s = c.self.inside.directory in
+    let fmt = c.self.inside.format in
+    let p = c.self.inside.pair in
+    let n = c.self.inside.generation in
+    let x = checkpoint_at_start (n + 1) s in
+    let formats = c.formats_are_sound.ensures in
+    let sound = c.know.ensures.sound in
+    subst (λ (e : Engine). e.history ≡ Some h → (t : History) × (g.D.Disk.history c.switch.new.disk ≡ Some t) × Succeeds Compacts h t e.versions) c.self.view_is
+    (λ told.
+    let k = (c.self.invariant.2 c.if-self.false).holds h told in
+    let payload = record_bytes format.Two (checkpoint_of (n + 1) s) in
+    let frame = subst (λ bytes. IsFrame bytes 5 payload) (sym c.as_slice.ensures) c.in_ok-frame.ensures.frame in
+    let stop = c.in-Ok.ensures.stop h k.held 5 payload told k.in_step frame in
+    let ok = c.in-Ok.ensures.ok h 5 payload told frame in
+    let both = on_same _ _ _ stop ok in
+    let leads = checkpoint_leads c.checkpoints_follow.ensures c.checkpoints_are_numbered.ensures s (n + 1) c.know.ensures.read sound c.in_ok-frame.ensures.spelled in
+    let after = lead_after formats c.standings_have_versions.ensures (λ v. v) (x ∷ []) fmt format.Two s s sound (leads.0, (formats format.Two s sound).1 ∙ sym (formats fmt s sound).1) in
+    (both.0, both.1, step_succeeds formats c.standings_have_versions.ensures c.succeeds_by_records.ensures Compacts h both.0 p c.switch.new.self fmt s n k (x ∷ []) sound after both.2.0 both.2.1 leads.1 (x, refl, refl))) told
+
+pub returns-clause-stops : goal.returns-clause-stops
+returns-clause-stops g c = λ h told fault.
+    let s = c.self.inside.directory in
+    let fmt = c.self.inside.format in
+    let p = c.self.inside.pair in
+    let n = c.self.inside.generation in
+    let x = checkpoint_at_start (n + 1) s in
+    let formats = c.formats_are_sound.ensures in
+    let sound = c.know.ensures.sound in
+    subst (λ (e : Engine). e.history ≡ Some h → (t : History) × (g.D.Disk.history c.switch.new.disk ≡ Some t) × StopsWell Compacts h t e.versions) c.self.view_is
+    (λ told.
+    let k = (c.self.invariant.2 c.if-self.false).holds h told in
+    let payload = record_bytes format.Two (checkpoint_of (n + 1) s) in
+    let frame = subst (λ bytes. IsFrame bytes 5 payload) (sym c.as_slice.ensures) c.in_ok-frame.ensures.frame in
+    let stop = c.in-Err.ensures.stop h k.held 5 payload told k.in_step frame in
+    let leads = checkpoint_leads c.checkpoints_follow.ensures c.checkpoints_are_numbered.ensures s (n + 1) c.know.ensures.read sound c.in_ok-frame.ensures.spelled in
+    let after = lead_after formats c.standings_have_versions.ensures (λ v. v) (x ∷ []) fmt format.Two s s sound (leads.0, (formats format.Two s sound).1 ∙ sym (formats fmt s sound).1) in
+    (stop.0, stop.1, step_stops formats c.standings_have_versions.ensures c.stops_by_records.ensures Compacts h stop.0 p fmt s n k (x ∷ []) sound after stop.2)) told

@@ -1,0 +1,87 @@
+-- Landings are one more record, whose standing has all new versions.
+use Rattle.std.proofs.Common.{◌≡◌, [], ◌∷◌, ◌++◌, Some, subst, sym, ◌∙◌, ap, refl}
+use Rattle.jf_hash.specs.Roots.{root}
+use Rattle.jf_model.specs.Versions.{land_all}
+use Rattle.jf_disk.specs.Disk.{History}
+use Rattle.jf_frame.specs.Framing.{IsFrame}
+use Rattle.jf_codec.specs.declared.format.Format.TheVariants as format
+use Rattle.jf_payload.specs.declared.records.Record.{Record}
+use Rattle.jf_payload.specs.Spelling.{kind_of, record_bytes}
+use Rattle.jf_standing.specs.Standing.{Standing}
+use Rattle.jf_standing.specs.Building.{landings_of, all_landed}
+use Rattle.jf_standing.specs.FormatLaws.{standing_in}
+use Rattle.jf_standing.proofs.VersionsOf.{newest-head}
+use Rattle.jf_files.specs.Steps.{Lands, Succeeds, StopsWell}
+use Rattle.jf_files.specs.StepLaws.{landed_record}
+use Rattle.jf_engine.specs.Engines.{Engine}
+use Rattle.jf_engine.specs.Kept.{KeepsStandingFiles}
+use Rattle.jf_engine.proofs.Records.{appended, landings_lead}
+use Rattle.jf_engine.proofs.Keeping.{lead_after, step_stops, step_succeeds, appended_keeps, generation-push, on_same, unfailed}
+use Rattle.jf_engine.proofs.engine.Engine.land_each.Goals as goal
+
+pub append-requires-clause-in_step : goal.append-requires-clause-in_step
+append-requires-clause-in_step g c = λ κs within h told. let k = (c.self.invariant.2 c.if-self.false).holds h told in (k.held, k.in_step)
+
+pub invariant_of-self-in-Ok-append : goal.invariant_of-self-in-Ok-append
+invariant_of-self-in-Ok-append g c = (
+  c.self.invariant.0,
+  c.self.invariant.1,
+  λ whole.
+      let s = c.self.inside.directory in
+      let fmt = c.self.inside.format in
+      let p = c.self.inside.pair in
+      let bs = c.args.batches.now in
+      let r = landed_record (landings_of format.Two s bs) in
+      let w = c.in_ok-record.ensures in
+      let frame = subst (λ bytes. IsFrame bytes (kind_of fmt r) (record_bytes fmt r)) (sym c.as_slice.ensures) (subst (λ (q : Record). IsFrame c.in-Ok.frame (kind_of fmt q) (record_bytes fmt q)) w.written c.in-Ok.ensures) in
+      let k = c.self.invariant.2 c.if-self.false in
+      let kept = appended_keeps _ _ p c.append.new.self fmt s (all_landed format.Two s bs) c.self.inside.generation (appended fmt p.offset r) k c.in-Ok-append.ensures.calls.untold (c.in-Ok-append.ensures.same.1 ∙ k.live) (unfailed _ c.in-Ok-append.ensures.failed.0)
+      (λ rs leads. (landings_lead c.landings_follow.ensures c.formats_are_sound.ensures c.formats_group.ensures c.kept_is_spelled.ensures c.written_in_both.ensures rs fmt p.offset s bs leads c.know.ensures.read c.know.ensures.sound w.sound w.bounded.1 w.bounded.0 w.spelled).0)
+      (λ h told. c.in-Ok-append.ensures.ok h (k.holds h told).held (kind_of fmt r) (record_bytes fmt r) told (k.holds h told).in_step frame) in
+      subst (λ (t : Standing). KeepsStandingFiles (g.D.Disk.history c.append.new.disk) c.append.new.self fmt t c.self.inside.generation) (sym w.landed) kept,
+)
+
+pub returns-in-Ok-append-clause-answer : goal.returns-in-Ok-append-clause-answer
+returns-in-Ok-append-clause-answer g c = (c.head-in-Ok-append.ensures, c.root.ensures ∙ ap root (c.newest-in-Ok-append.ensures.map ∙ sym (newest-head c.land_batches.new.directory)), c.moment.ensures)
+
+pub returns-in-Ok-append-clause-succeeds : goal.returns-in-Ok-append-clause-succeeds
+returns-in-Ok-append-clause-succeeds g c = λ h told.
+    let s = c.self.inside.directory in
+    let fmt = c.self.inside.format in
+    let p = c.self.inside.pair in
+    let bs = c.args.batches.now in
+    let r = landed_record (landings_of format.Two s bs) in
+    let w = c.in_ok-record.ensures in
+    let frame = subst (λ bytes. IsFrame bytes (kind_of fmt r) (record_bytes fmt r)) (sym c.as_slice.ensures) (subst (λ (q : Record). IsFrame c.in-Ok.frame (kind_of fmt q) (record_bytes fmt q)) w.written c.in-Ok.ensures) in
+    let y = appended fmt p.offset r in
+    subst (λ (e : Engine). e.history ≡ Some h → (x : History) × (g.D.Disk.history c.append.new.disk ≡ Some x) × Succeeds (Lands bs) h x e.versions) c.self.view_is
+    (λ told.
+    let k = (c.self.invariant.2 c.if-self.false).holds h told in
+    let stop = c.in-Ok-append.ensures.stop h k.held (kind_of fmt r) (record_bytes fmt r) told k.in_step frame in
+    let ok = c.in-Ok-append.ensures.ok h k.held (kind_of fmt r) (record_bytes fmt r) told k.in_step frame in
+    let both = on_same _ _ _ stop ok in
+    let leads = landings_lead c.landings_follow.ensures c.formats_are_sound.ensures c.formats_group.ensures c.kept_is_spelled.ensures c.written_in_both.ensures k.held fmt p.offset s bs k.leads c.know.ensures.read c.know.ensures.sound w.sound w.bounded.1 w.bounded.0 w.spelled in
+    let after = lead_after c.formats_are_sound.ensures c.standings_have_versions.ensures (land_all bs) (k.held ++ y ∷ []) fmt fmt s (all_landed format.Two s bs) c.know.ensures.sound leads in (
+      both.0,
+      both.1,
+      step_succeeds c.formats_are_sound.ensures c.standings_have_versions.ensures c.succeeds_by_records.ensures (Lands bs) h both.0 p c.append.new.self fmt s c.self.inside.generation k (k.held ++ y ∷ []) c.know.ensures.sound after both.2.0 both.2.1
+          (generation-push k.held y fmt (standing_in fmt s) k.leads ∙ k.numbered) (y, refl),
+    )) told
+
+pub returns-clause-stops : goal.returns-clause-stops
+returns-clause-stops g c = λ h told fault.
+    let s = c.self.inside.directory in
+    let fmt = c.self.inside.format in
+    let p = c.self.inside.pair in
+    let bs = c.args.batches.now in
+    let r = landed_record (landings_of format.Two s bs) in
+    let w = c.in_ok-record.ensures in
+    let frame = subst (λ bytes. IsFrame bytes (kind_of fmt r) (record_bytes fmt r)) (sym c.as_slice.ensures) (subst (λ (q : Record). IsFrame c.in-Ok.frame (kind_of fmt q) (record_bytes fmt q)) w.written c.in-Ok.ensures) in
+    let y = appended fmt p.offset r in
+    subst (λ (e : Engine). e.history ≡ Some h → (x : History) × (g.D.Disk.history c.append.new.disk ≡ Some x) × StopsWell (Lands bs) h x e.versions) c.self.view_is
+    (λ told.
+    let k = (c.self.invariant.2 c.if-self.false).holds h told in
+    let stop = c.in-Err.ensures.stop h k.held (kind_of fmt r) (record_bytes fmt r) told k.in_step frame in
+    let leads = landings_lead c.landings_follow.ensures c.formats_are_sound.ensures c.formats_group.ensures c.kept_is_spelled.ensures c.written_in_both.ensures k.held fmt p.offset s bs k.leads c.know.ensures.read c.know.ensures.sound w.sound w.bounded.1 w.bounded.0 w.spelled in
+    let after = lead_after c.formats_are_sound.ensures c.standings_have_versions.ensures (land_all bs) (k.held ++ y ∷ []) fmt fmt s (all_landed format.Two s bs) c.know.ensures.sound leads in
+    (stop.0, stop.1, step_stops c.formats_are_sound.ensures c.standings_have_versions.ensures c.stops_by_records.ensures (Lands bs) h stop.0 p fmt s c.self.inside.generation k (k.held ++ y ∷ []) c.know.ensures.sound after stop.2)) told

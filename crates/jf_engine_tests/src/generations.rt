@@ -1,0 +1,58 @@
+// Side A with a new store, side B with its next generation: what an opening finds if side B is changed.
+use crate::damage::{BEFORE, Edit, Opened, edited};
+use crate::records::{END, NEW, SECOND, joined};
+use crate::stores::opened;
+use jf_disk::Side;
+use jf_engine::{OpenFault, State};
+use std::alloc::Global;
+use std::test::Fail;
+use std::thread::Threads;
+
+const IN_SECOND: Opened = Ok(State {
+    base: 0,
+    floor: 0,
+    head: 0,
+    kept: 1,
+    generation: 2,
+});
+
+const AT_FIRST_OF_B: Opened = Err(OpenFault::Damaged {
+    side: Side::B,
+    offset: 0,
+});
+
+const AT_END_OF_B: Opened = Err(OpenFault::Damaged {
+    side: Side::B,
+    offset: 100,
+});
+
+// What is done to side B after a new store was compacted, and what is found then.
+const ON_B: &[(Edit, Opened)] = &[
+    (Edit::Cut(101), IN_SECOND),
+    (Edit::Cut(0), BEFORE),
+    (Edit::Set(0, 0), BEFORE),
+    // both sides are of generation 1
+    (Edit::Set(17, 1), AT_FIRST_OF_B),
+    (Edit::Cut(50), AT_FIRST_OF_B),
+    (Edit::Set(1, 7), AT_FIRST_OF_B),
+    (Edit::Set(100, 1), AT_END_OF_B),
+];
+
+fn is_found<H: Threads + Sync>(
+    rt: &H,
+    alloc: Global,
+    edit: Edit,
+    want: Opened,
+) -> Result<bool, Fail> {
+    let side_a = joined(alloc, NEW)?;
+    let side_b = edited(alloc, &[SECOND, END], edit)?;
+    Ok(opened(rt, alloc, &side_a, &side_b)? == want)
+}
+
+#[test]
+fn the_greater_generation_is_live(rt: HostRuntime) -> Result<(), Fail> {
+    for (edit, want) in ON_B {
+        assert!(rt; is_found(&rt, rt.alloc(), *edit, *want)?, "{edit:?}");
+    }
+    Ok(())
+}

@@ -1,4 +1,0 @@
-pub mod Spelling
-pub mod Laws
-pub mod Reading
-pub mod Views
