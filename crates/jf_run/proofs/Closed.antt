@@ -6,11 +6,12 @@ use Rattle.jf_model.specs.Entries.{moments_of}
 use Rattle.jf_disk.specs.Disk.{reads}
 use Rattle.jf_disk.proofs.CrashLaws.{leaves_nowhere}
 use Rattle.jf_disk.proofs.MomentLaws.{same_extends}
-use Rattle.jf_files.specs.Laws.{LogDamageIsNoVersions}
+use Rattle.jf_files.specs.Files.{generation}
+use Rattle.jf_files.specs.Laws.{DamageIsNoVersions}
 use Rattle.jf_engine.specs.Openings.{DiskView, HasRefused}
 use Rattle.jf_engine.specs.declared.fault.OpenFault.{OpenFault}
 use Rattle.jf_session.specs.Runs.{AreWithin}
-use Rattle.jf_run.specs.Commands.{opens, is_verify, is_closing, status_of_refusal}
+use Rattle.jf_run.specs.Commands.{opens, is_verify, is_closing, is_disk_fault, status_of_refusal}
 use Rattle.jf_run.specs.declared.words.Mode.{Mode}
 use Rattle.jf_run.specs.Calls.{ProgramCall, Devices}
 use Rattle.jf_run.specs.Promises.{IsClosedCall, GoesForward, Stands, IsOpenedCall, KeepsPromises}
@@ -18,7 +19,7 @@ use Rattle.jf_run.specs.Judging.{HasJudged}
 use Rattle.jf_run.specs.declared.words.Mode.TheVariants as mode
 use Rattle.jf_run.specs.declared.status.Status.TheVariants as status
 use Rattle.jf_run.proofs.Judged.{judged_nothing, judged_well, judged_words, judged_disk, judged_files}
-use Rattle.jf_run.proofs.Standing.{stands-none, damage-told}
+use Rattle.jf_run.proofs.Standing.{stands-left, refused-stands, damage-told}
 use Rattle.jf_run.proofs.Complete.{steady, refused_for_memory}
 use Rattle.jf_run.proofs.Statuses.{damage_told, refusal_closes, refused_words, refused_read, refused_write, refused_disk}
 
@@ -61,7 +62,7 @@ memory_keeps c same start none memory =
       forward = forward_untouched c disk none (subst (λ (d : Devices). c.before.source_faults ≤ d.source_faults) (sym same) (le_refl c.before.source_faults))
           (subst (λ (d : Devices). c.before.sink_faults ≤ d.sink_faults) (sym same) (le_refl c.before.sink_faults));
       files = record {
-        stands = λ h told v stands sound. subst (λ es. Stands c.after.disk.history v es) (sym none) (stands-none h v c.after.disk.history (ap (λ (d : DiskView). d.history) disk ∙ told) stands);
+        stands = λ h told v stands sound. subst (λ es. Stands c.after.disk.history v (generation (reads h)) es) (sym none) (stands-left h h v c.after.disk.history (ap (λ (d : DiskView). d.history) disk ∙ told) refl stands);
         complete = λ h told v stands some a b d. inr memory;
       };
       closed = subst (λ o. IfNone o (IsClosedCall c)) (sym start) (closed_untouched c disk none (λ e. subst (λ s. IsTrue (is_closing s)) (sym memory) refl));
@@ -86,7 +87,7 @@ usage_keeps c same start none usage asks =
       forward = forward_untouched c disk none (subst (λ (d : Devices). c.before.source_faults ≤ d.source_faults) (sym same) (le_refl c.before.source_faults))
           (subst (λ (d : Devices). c.before.sink_faults ≤ d.sink_faults) (sym same) (le_refl c.before.sink_faults));
       files = record {
-        stands = λ h told v stands sound. subst (λ es. Stands c.after.disk.history v es) (sym none) (stands-none h v c.after.disk.history (ap (λ (d : DiskView). d.history) disk ∙ told) stands);
+        stands = λ h told v stands sound. subst (λ es. Stands c.after.disk.history v (generation (reads h)) es) (sym none) (stands-left h h v c.after.disk.history (ap (λ (d : DiskView). d.history) disk ∙ told) refl stands);
         complete = λ h told v stands some a b d. absurd (true≢false (sym some ∙ ap (λ (o : Option Mode). is_some o) asks));
       };
       closed = subst (λ o. IfNone o (IsClosedCall c)) (sym start) (closed_untouched c disk none (λ e. subst (λ s. IsTrue (is_closing s)) (sym usage) refl));
@@ -107,7 +108,7 @@ judged_keeps c same start none verify j read write source sink = record {
   };
   forward = forward_untouched c same none source sink;
   files = record {
-    stands = λ h told v stands sound. subst (λ es. Stands c.after.disk.history v es) (sym none) (stands-none h v c.after.disk.history (ap (λ (d : DiskView). d.history) same ∙ told) stands);
+    stands = λ h told v stands sound. subst (λ es. Stands c.after.disk.history v (generation (reads h)) es) (sym none) (stands-left h h v c.after.disk.history (ap (λ (d : DiskView). d.history) same ∙ told) refl stands);
     complete = λ h told v stands some a b d. judged_well j.end c.status j.how_is (λ r. steady c.before.source_faults c.after.source_faults a.0 a.1 (read r)) (λ w. steady c.before.sink_faults c.after.sink_faults b.0 b.1 (write w));
   };
   closed = subst (λ o. IfNone o (IsClosedCall c)) (sym start) (closed_untouched c same none (λ e. absurd (true≢false (sym verify ∙ e))));
@@ -121,7 +122,7 @@ judged_keeps c same start none verify j read write source sink = record {
 }
 
 -- the store was not opened
-pub refused_keeps : (c : ProgramCall) (why : OpenFault) → LogDamageIsNoVersions → c.start ≡ None → c.entries ≡ [] → IsTrue (opens c.asks) → c.status ≡ status_of_refusal why → HasRefused c.before.disk c.after.disk why
+pub refused_keeps : (c : ProgramCall) (why : OpenFault) → DamageIsNoVersions → c.start ≡ None → c.entries ≡ [] → IsTrue (opens c.asks) → c.status ≡ status_of_refusal why → HasRefused c.before.disk c.after.disk why
     → c.before.source_faults ≤ c.after.source_faults → c.before.sink_faults ≤ c.after.sink_faults → KeepsPromises c
 refused_keeps c why none_stand start none runs is r source sink = record {
   words = record { usage = λ e. absurd (refused_words why (sym is ∙ e)); usage_told = λ e. absurd (true≢false (sym runs ∙ ap opens e)); start = λ e. start };
@@ -139,7 +140,7 @@ refused_keeps c why none_stand start none runs is r source sink = record {
     sink_faults = sink;
   };
   files = record {
-    stands = λ h told v stands sound. let d = r.disk h told in subst (λ es. Stands c.after.disk.history v es) (sym none) (stands-none d.0 v c.after.disk.history d.1 (d.2.stands v stands));
+    stands = λ h told v stands sound. subst (λ es. Stands c.after.disk.history v (generation (reads h)) es) (sym none) (refused-stands h v c.after.disk.history why (subst (λ s. IsFalse (is_disk_fault s)) is sound) stands (r.left h told));
     complete = λ h told v stands some ss ks ds.
         inr (is ∙ refused_for_memory why (λ where_ at damaged. none_stand (reads h) v where_ at stands (r.damaged h told where_ at damaged)) (λ fault. steady c.before.disk.faults c.after.disk.faults ds.0 ds.1 (r.cause fault)));
   };

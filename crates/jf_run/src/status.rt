@@ -3,7 +3,7 @@ ghost use Rattle.std.specs.Prelude.{◌≡◌};
 ghost use Rattle.jf_run.specs.Commands.{code_of, status_of, status_of_verified, status_of_refusal};
 
 use jf_disk::Side;
-use jf_engine::{OpenFault, EngineMemory};
+use jf_engine::{EngineMemory, OpenFault};
 use jf_model::Ledger;
 use jf_session::End;
 use jf_verify::Verified;
