@@ -14,7 +14,7 @@ use std::thread::Threads;
 fn new_store<H: Threads + Sync>(rt: &H, alloc: Global) -> Result<Box<Engine<MemDisk>>, Fail> {
     let none = || Vec::new(alloc);
     let disk = MemDisk::new(alloc, none(), none(), 100, 10_000, Vec::new(alloc))?;
-    match Engine::open(rt, alloc, disk) {
+    match Engine::open(rt, alloc, disk, 1) {
         Ok(store) => Ok(Box::new(alloc, store)?),
         Err(OpenRefused { disk: _, why }) => Err(why.into()),
     }

@@ -48,7 +48,7 @@ fn open_disk<H: Threads + Sync>(
     alloc: Global,
     disk: MemDisk,
 ) -> Result<Engine<MemDisk>, OpenFault> {
-    match Engine::open(rt, alloc, disk) {
+    match Engine::open(rt, alloc, disk, 1) {
         Ok(engine) => Ok(engine),
         Err(OpenRefused { disk: _, why }) => Err(why),
     }

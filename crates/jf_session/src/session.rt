@@ -57,7 +57,7 @@ impl<D: Disk> Model for Session<D> {
 
 impl<D: Disk> Session<D> {
     /// Opens the store that the files of a disk hold, for a session that has done no line yet: no entries, and nothing
-    /// is pending. Files without a record are begun, as a new store.
+    /// is pending. Files without a record are begun, as a new store. At most `workers` threads work, 1 to 64.
     ///
     /// A refusal hands the disk back:
     ///
@@ -70,14 +70,17 @@ impl<D: Disk> Session<D> {
         rt: &H,
         alloc: Global,
         disk: D,
+        workers: u64,
     ) -> Result<Session<D>, OpenRefused<D>>
+        requires some { 1 ≤ workers }
+        requires few { workers ≤ 64 }
         ensures opened { IfOk result (λ s. HasOpened (disk_view (D.history disk) (D.moment disk) (D.faults disk)) (disk_view s.history s.moment s.faults) s.state.all s.state.generation) }
         ensures refused { IfErr result (λ e. HasRefused (disk_view (D.history disk) (D.moment disk) (D.faults disk)) (disk_view (D.history e.disk) (D.moment e.disk) (D.faults e.disk)) e.why) }
         ensures damage { ForSome (D.history disk) (λ h. (side : Side) (at : ℕ) → IsDamagedAt (reads h) side at → IsErr result) }
         ensures sound { IfOk result (λ s. IsVersions s.state.all) }
         ensures state { IfOk result (λ s. (s.state ≡ opened s.state.all s.state.generation) × (s.own ≡ begun_session 0) × (s.entries ≡ []) × (s.over ≡ false)) }
     {
-        let engine = Engine::<D>::open(rt, alloc, disk)?;
+        let engine = Engine::<D>::open(rt, alloc, disk, workers)?;
         engine.know();
         Ok(Session {
             engine,
