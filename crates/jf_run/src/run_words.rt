@@ -21,8 +21,9 @@ use std::thread::Threads;
 /// Runs the words of a command line over a source, a sink and a disk (docs/FORMATS.md, "Calling the program").
 ///
 /// - `run` opens the store on the disk, and answers the script of the source into the sink. `--workers N`, 1 to 64,
-///   says how many threads may work at once on the pieces of a landing, also of one that is read at the opening; unless
-///   N is 1, the values of a large batch are hashed by several threads too. The gate is told of each piece before it begins. Neither changes the output.
+///   says how many threads may work at once on the pieces of a landing, also of one that the opening reads; unless N
+///   is 1, the values of a large batch are hashed by several threads too. The gate is told of each piece of a landing
+///   that the script asks for, before the piece begins. Neither changes the output.
 /// - `verify` judges the proof blocks of the source, and writes the verdicts into the sink. No call is made on the
 ///   disk.
 /// - For other words the call returns `Usage`, or `Memory` if memory runs out. No device is touched.
