@@ -78,12 +78,15 @@ pub fn refresh<P: Places, L: Ledger>(
     ensures capacity { vec_capacity out.old ≤ vec_capacity out.new }
     ensures pairs { (level : ℕ) → level ≤ 4 → width ≡ 2 ^ level → steps.new ≡ steps.old + pairs_within level (take width (drop start (P.slots places.now))) (take width (drop start changed)) }
 {
+    if width == 1 {
+        return first_in(places, occupied, start, width);
+    }
     if changed.count(start, width) == 0 {
         let kept = old.run(first, width - 1);
         let _ = out.extend_from_slice(kept);
         return hash_in(places, occupied, start, width, kept);
     }
-    if width == 1 || !occupied.is_many(start, width) {
+    if !occupied.is_many(start, width) {
         return first_in(places, occupied, start, width);
     }
     let half = width / 2;

@@ -9,7 +9,6 @@ use Rattle.jf_hash.proofs.RangeHashes.{agree_same, agree_left, agree_right, befo
 use Rattle.jf_hash.proofs.KeptLaws.{pairs_within-few}
 use Rattle.jf_hash.proofs.Present.{IsNotHashed, hash-not_hashed, present-not_hashed}
 use Rattle.jf_hash.proofs.Changes.{has_change-count, has_change-counted}
-use Rattle.jf_hash.proofs.refreshing.+refresh.Goals.{then-width-eq1-via-then-width-eq1, then-width-eq1-via-else-width-eq1+then-not-is_many}
 use Rattle.jf_hash.proofs.refreshing.+refresh.Goals as goal
 
 -- what an appending that can't fail leaves
@@ -37,20 +36,27 @@ returns-then-width-eq1-clause-value g t c level olds small long at agree room =
     let slots = g.P.Places.slots c.args.places.now in
     let places = take c.args.width (drop c.args.start slots) in
     let places_long : length places ≡ 2 ^ level = length-places c.args.start c.args.width slots c.requires.long c.requires.within ∙ long in
-    let why : IsNotHashed level places = elim c.then-width-eq1.branch [
-      | then-width-eq1-via-then-width-eq1 w ↦ inl (sym long ∙ w.if-width-eq1.true)
-      | then-width-eq1-via-else-width-eq1+then-not-is_many w ↦ inr (sym (w.is_many.ensures slots c.requires.children c.requires.leaves) ∙ w.if-not-is_many.true)
-    ] in
+    let why : IsNotHashed level places = inl (sym long ∙ c.if-width-eq1.true) in
     (c.first_in.ensures ∙ hash-not_hashed level places places_long why, sym (append-nil c.args.out.now.items) ∙ ap (λ t. c.args.out.now.items ++ t) (sym (present-not_hashed level places why)))
 
 pub returns-then-width-eq1-clause-pairs : goal.returns-then-width-eq1-clause-pairs
 returns-then-width-eq1-clause-pairs g t c level small long =
-    let places = take c.args.width (drop c.args.start (g.P.Places.slots c.args.places.now)) in
-    let changes = take c.args.width (drop c.args.start c.args.changed) in
-    elim c.then-width-eq1.branch [
-      | then-width-eq1-via-then-width-eq1 w ↦ omega (arith, pairs_within-one level places changes (sym long ∙ w.if-width-eq1.true) small)
-      | then-width-eq1-via-else-width-eq1+then-not-is_many w ↦ omega (arith, pairs_within-few level places changes (sym (w.is_many.ensures (g.P.Places.slots c.args.places.now) c.requires.children c.requires.leaves) ∙ w.if-not-is_many.true))
-    ]
+    omega (arith, pairs_within-one level (take c.args.width (drop c.args.start (g.P.Places.slots c.args.places.now))) (take c.args.width (drop c.args.start c.args.changed)) (sym long ∙ c.if-width-eq1.true) small)
+
+pub returns-then-not-is_many-clause-value : goal.returns-then-not-is_many-clause-value
+returns-then-not-is_many-clause-value g t c level olds small long at agree room =
+    let slots = g.P.Places.slots c.args.places.now in
+    let places = take c.args.width (drop c.args.start slots) in
+    let places_long : length places ≡ 2 ^ level = length-places c.args.start c.args.width slots c.requires.long c.requires.within ∙ long in
+    let why : IsNotHashed level places = inr (sym (c.is_many.ensures slots c.requires.children c.requires.leaves) ∙ c.if-not-is_many.true) in
+    (c.first_in-then-not-is_many.ensures ∙ hash-not_hashed level places places_long why, sym (append-nil c.args.out.now.items) ∙ ap (λ t. c.args.out.now.items ++ t) (sym (present-not_hashed level places why)))
+
+pub returns-then-not-is_many-clause-pairs : goal.returns-then-not-is_many-clause-pairs
+returns-then-not-is_many-clause-pairs g t c level small long =
+    omega (
+      arith,
+      pairs_within-few level (take c.args.width (drop c.args.start (g.P.Places.slots c.args.places.now))) (take c.args.width (drop c.args.start c.args.changed)) (sym (c.is_many.ensures (g.P.Places.slots c.args.places.now) c.requires.children c.requires.leaves) ∙ c.if-not-is_many.true),
+    )
 
 pub returns-clause-value : goal.returns-clause-value
 returns-clause-value g t c level olds small long at agree room =
