@@ -1,13 +1,12 @@
 -- What is kept of a range tells its hash, and of a range without more than one leaf nothing is kept.
-use Rattle.std.specs.Prelude.{◌≡◌, ℕ, zero, suc, ◌+◌, ◌-◌, ◌^◌, ◌<◌, ◌≤◌, ◌⊎◌, ◌&&◌, Bool, true, false, cond, Option, Some, None, IfSome, List, [], ◌∷◌, ◌++◌, length, replicate, take, drop, slice_get}
-use Rattle.std.proofs.Common.{arith, refl, ap, ap₂, ◌∙◌, sym, inl, inr, pow-suc}
+use Rattle.std.specs.Prelude.{◌≡◌, ℕ, zero, suc, ◌+◌, ◌-◌, ◌^◌, ◌&&◌, Bool, true, false, cond, Some, None, IfSome, List, [], ◌∷◌, ◌++◌, length, replicate, take, drop}
+use Rattle.std.proofs.Common.{arith, refl, ap, ap₂, ◌∙◌, sym, pow-suc}
 use Rattle.std.proofs.lemmas.List.{replicate-append-replicate}
-use Rattle.std.proofs.lemmas.Option.{get_or_from_slice_get, slice_get-get_or}
 use Rattle.jf_hash.specs.Slots.{Occupants, Empty, Lone, Many, with_leaf, occupants, occupants_hash, first_child_hash, range_hash}
-use Rattle.jf_hash.specs.Ranges.{is_many, has_change, kept_hash, kept_within, pairs_within}
+use Rattle.jf_hash.specs.Ranges.{is_many, has_change, kept_within, pairs_within}
 use Rattle.jf_hash.specs.declared.slot.Slot.{Slot}
 use Rattle.jf_hash.specs.declared.slot.Slot.TheVariants as slot
-use Rattle.jf_hash.proofs.RangeLaws.{length-kept_within, within_whole, some_power}
+use Rattle.jf_hash.proofs.RangeLaws.{some_power}
 
 -- ---- no more than one leaf
 leaf_alone : (hash : List ℕ) (o : Occupants) → is_many (with_leaf hash o) ≡ false → o ≡ Empty
@@ -88,59 +87,6 @@ range_hash-place (slot.Absent ∷ []) long = refl
 range_hash-place (slot.Leaf hash ∷ []) long = refl
 range_hash-place (slot.Inner hash ∷ []) long = refl
 range_hash-place (place ∷ other ∷ slots) long = absurd (omega arith)
-
--- ---- the hash of a range, from what is kept last
-some_kept : (b : Bool) (hash r : List ℕ) → Some hash ≡ cond b (Some r) None → hash ≡ r
-some_kept true hash r e = cc
-some_kept false hash r e = absurd cc
-
-none_kept : (b : Bool) (r : List ℕ) → None ≡ cond b (Some r) None → b ≡ false
-none_kept true r e = absurd cc
-none_kept false r e = refl
-
-whole_kept : (level : ℕ) (slots : List Slot) (x : Option (List ℕ)) → slice_get (kept_within (suc level) slots) (length (kept_within (suc level) slots) - 1) ≡ Some x → x ≡ kept_hash (suc level) slots
-whole_kept level slots x e =
-    sym (get_or_from_slice_get (kept_within (suc level) slots) (length (kept_within (suc level) slots) - 1) x None e)
-    ∙ within_whole (suc level) slots (length (kept_within (suc level) slots) - 1) None (omega arith) (omega (arith, length-kept_within (suc level) slots, pow-suc 2 level, some_power level))
-
--- the last of what is kept of a range
-abbrev last_of : List (Option (List ℕ)) → Option (Option (List ℕ))
-last_of kept = slice_get kept (length kept - 1)
-
-no_last : (level : ℕ) (slots : List Slot) → last_of (kept_within (suc level) slots) ≡ None → ⊥
-no_last level slots e =
-    let some : length (kept_within (suc level) slots) - 1 < length (kept_within (suc level) slots) = omega (arith, length-kept_within (suc level) slots, pow-suc 2 level, some_power level) in
-    let there = sym e ∙ slice_get-get_or (kept_within (suc level) slots) (length (kept_within (suc level) slots) - 1) None some in
-    cc
-
-pub hash-kept : (level : ℕ) (slots : List Slot) (kept : List (Option (List ℕ))) (hash : List ℕ) → kept ≡ kept_within level slots → slice_get kept (length kept - 1) ≡ Some (Some hash) → hash ≡ range_hash level slots
-unfolding kept_within
-hash-kept level slots kept hash are e = at level (ap last_of (sym are) ∙ e)
-  where
-    at : (level : ℕ) → last_of (kept_within level slots) ≡ Some (Some hash) → hash ≡ range_hash level slots
-    at zero e = absurd cc
-    at (suc level) e = some_kept (is_many (occupants slots)) hash (range_hash (suc level) slots) (whole_kept level slots (Some hash) e)
-
-pub hash-not_kept : (level : ℕ) (slots : List Slot) (kept : List (Option (List ℕ))) → length slots ≡ 2 ^ level → kept ≡ kept_within level slots
-    → (slice_get kept (length kept - 1) ≡ None) ⊎ (slice_get kept (length kept - 1) ≡ Some None) → first_child_hash slots ≡ range_hash level slots
-hash-not_kept zero slots kept long are e = range_hash-place slots (long ∙ refl)
-hash-not_kept (suc level) slots kept long are e = elim e [
-  | inl none ↦ absurd (no_last level slots (ap last_of (sym are) ∙ none))
-  | inr empty ↦ range_hash-few (suc level) slots (none_kept (is_many (occupants slots)) (range_hash (suc level) slots) (whole_kept level slots None (ap last_of (sym are) ∙ empty)))
-]
-
--- ---- what is kept of a range that isn't hashed
-pub kept_within-cleared : (level n : ℕ) (slots : List Slot) → level ≤ 4 → n + 1 ≡ 2 ^ level → length slots ≡ 2 ^ level → (2 ^ level ≡ 1) ⊎ (is_many (occupants slots) ≡ false)
-    → (first_child_hash slots ≡ range_hash level slots) × (replicate n None ≡ kept_within level slots)
-unfolding kept_within
-kept_within-cleared level n slots small room long why = elim why [
-  | inl one ↦ at_place level small room long one
-  | inr few ↦ (range_hash-few level slots few, ap (λ k. replicate k None) (let e : n ≡ 2 ^ level - 1 = omega (arith, room) in e) ∙ sym (kept_within-few level slots few))
-]
-  where
-    at_place : (level : ℕ) → level ≤ 4 → n + 1 ≡ 2 ^ level → length slots ≡ 2 ^ level → 2 ^ level ≡ 1 → (first_child_hash slots ≡ range_hash level slots) × (replicate n None ≡ kept_within level slots)
-    at_place zero small room long one = (range_hash-place slots (long ∙ refl), ap (λ k. replicate k None) (let e : n ≡ 0 = omega (arith, room) in e))
-    at_place (suc level) small room long one = absurd (omega (arith, pow-suc 2 level, some_power level))
 
 -- ---- what is kept is the hash
 pub kept_is : (many : Bool) (hash root : List ℕ) → hash ≡ root → IfSome (cond many (Some hash) None) (λ kept. kept ≡ root)

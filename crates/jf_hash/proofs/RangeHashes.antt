@@ -1,16 +1,16 @@
 -- The hashes that a node keeps of its ranges: where each stands in the list, and which are unchanged.
-use borrow.Rule.Slice.PartMut.{put_mid}
-use Rattle.std.specs.Prelude.{◌≡◌, Bool, true, false, cond, Option, Some, None, List, [], ◌∷◌, ℕ, zero, suc, take, drop, length, replicate, ◌-◌, ◌^◌, ◌≤◌, ◌+◌, ◌++◌, ◌<◌}
-use Rattle.std.proofs.Common.{refl, subst, ap₂, arith, take_at, drop_at, ap, ◌∙◌, sym, length-append, length-drop, append_assoc, set}
-use Rattle.std.proofs.lemmas.List.{drop_all, set_split}
-use Rattle.std.proofs.lemmas.Slice.{take-put_mid, drop-put_mid}
-use Rattle.jf_hash.specs.Ranges.{Agree, has_change, is_many, kept_hash, kept_within}
+use Rattle.std.specs.Prelude.{◌≡◌, Bool, true, false, Option, None, List, [], ◌∷◌, ℕ, zero, suc, take, drop, length, replicate, ◌-◌, ◌^◌, ◌≤◌, ◌+◌, ◌++◌, ◌<◌, map, is_some}
+use Rattle.jf_path.specs.Bitmaps.{present}
+use Rattle.std.proofs.Common.{refl, subst, ap₂, arith, take_at, drop_at, ap, ◌∙◌, sym, length-append, append_assoc, take-take, drop-drop}
+use Rattle.std.proofs.lemmas.List.{drop-take}
+use Rattle.jf_hash.specs.Ranges.{Agree, has_change, is_many, kept_hash, kept_hashes, kept_within}
 use Rattle.jf_hash.specs.declared.slot.Slot.{Slot}
 use Rattle.jf_hash.specs.Slots.{Occupants, Empty, Lone, Many, range_hash, occupants, occupants_hash}
 use Rattle.jf_hash.specs.Hashes.{N}
 use Rattle.jf_hash.specs.declared.slot.Slot.TheVariants as slot
 use Rattle.jf_hash.proofs.RangeLaws.{length-kept_within}
 use Rattle.jf_hash.proofs.Halves.{range_hash-halves, left_half, right_half}
+use Rattle.jf_hash.proofs.Present.{present-many, bits-many}
 
 -- ---- places that are as they were
 pub agree_same : (olds : List Slot) (changed : List Bool) (slots : List Slot) → Agree olds changed slots → has_change changed ≡ false → olds ≡ slots
@@ -84,52 +84,55 @@ within_halves (suc level) half slots hashes some is one at =
       ap (λ t. take (half - 1) (drop (half - 1) t)) at ∙ right_of level slots (half - 1) n ∙ ap₂ (λ k n. kept_within k (drop n slots)) (sym e) (sym h),
     )
 
--- a range of more than one leaf is hashed again from its halves
-pub hashed_over : (level half : ℕ) (slots : List Slot) (left right hash : List ℕ) (lefts rights : List (Option (List ℕ))) → 0 < level → half ≡ 2 ^ (level - 1) → is_many (occupants slots) ≡ true
-    → (left ≡ range_hash (level - 1) (take half slots)) × (lefts ≡ kept_within (level - 1) (take half slots))
-    → (right ≡ range_hash (level - 1) (drop half slots)) × (rights ≡ kept_within (level - 1) (drop half slots))
-    → hash ≡ N left right → (hash ≡ range_hash level slots) × (lefts ++ (rights ++ Some hash ∷ []) ≡ kept_within level slots)
-unfolding kept_within
-hashed_over zero half slots left right hash lefts rights some is many a b h = absurd (omega arith)
-hashed_over (suc level) half slots left right hash lefts rights some is many a b h =
-    let e : suc level - 1 ≡ level = omega arith in
-    let at : half ≡ 2 ^ level = is ∙ ap (λ k. 2 ^ k) e in
-    let hashed : hash ≡ range_hash (suc level) slots =
-    h ∙ ap₂ N a.0 b.0 ∙ sym (many_hash (occupants slots) (N (range_hash (suc level - 1) (take half slots)) (range_hash (suc level - 1) (drop half slots))) many) ∙ range_hash-halves (suc level) half slots some is in
-    let kept : Some hash ≡ kept_hash (suc level) slots = ap Some hashed ∙ ap (λ b. cond b (Some (range_hash (suc level) slots)) None) (sym many) in (
-      hashed,
-      ap₂ (λ xs ys. xs ++ (ys ++ Some hash ∷ [])) (a.1 ∙ ap₂ (λ k n. kept_within k (take n slots)) e at) (b.1 ∙ ap₂ (λ k n. kept_within k (drop n slots)) e at)
-          ∙ ap (λ x. kept_within level (take (2 ^ level) slots) ++ (kept_within level (drop (2 ^ level) slots) ++ x ∷ [])) kept,
+-- what is kept of the places before, at those of each half
+pub before_halves : (level half width first : ℕ) (olds : List Slot) (hashes : List (Option (List ℕ))) → 0 < level → half ≡ 2 ^ (level - 1) → 1 ≤ half → half + half ≡ width → take (width - 1) (drop first hashes) ≡ kept_within level olds
+    → (take (half - 1) (drop first hashes) ≡ kept_within (level - 1) (take half olds)) × (take (width - half - 1) (drop (first + half - 1) hashes) ≡ kept_within (level - 1) (drop half olds))
+before_halves level half width first olds hashes some is one both at =
+    let within = within_halves level half olds (take (width - 1) (drop first hashes)) some is one at in
+    let all : width - 1 ≡ (half - 1) + (width - half) = omega (arith, both, one) in (
+      sym (take-take (half - 1) (width - 1) (drop first hashes) (omega (arith, both, one))) ∙ within.0,
+      ap (λ k. take (width - half - 1) (drop k hashes)) (let e : first + half - 1 ≡ first + (half - 1) = omega (arith, one) in e)
+          ∙ ap (take (width - half - 1)) (sym (drop-drop (half - 1) first hashes))
+          ∙ sym (take-take (width - half - 1) (width - half) (drop (half - 1) (drop first hashes)) (omega arith))
+          ∙ ap (λ k. take k (take (width - half) (drop (half - 1) (drop first hashes)))) (let e : width - half - 1 ≡ half - 1 = omega (arith, both) in e)
+          ∙ ap (take (half - 1)) (sym (drop-take (half - 1) (width - half) (drop first hashes)) ∙ ap (λ k. drop (half - 1) (take k (drop first hashes))) (sym all))
+          ∙ within.1,
     )
+
+-- a range of more than one leaf is hashed again from its halves
+pub hashed_over : (level half : ℕ) (slots : List Slot) (left right hash : List ℕ) → 0 < level → half ≡ 2 ^ (level - 1) → is_many (occupants slots) ≡ true → left ≡ range_hash (level - 1) (take half slots)
+    → right ≡ range_hash (level - 1) (drop half slots) → hash ≡ N left right → hash ≡ range_hash level slots
+hashed_over level half slots left right hash some is many a b h =
+    h ∙ ap₂ N a b ∙ sym (many_hash (occupants slots) (N (range_hash (level - 1) (take half slots)) (range_hash (level - 1) (drop half slots))) many) ∙ range_hash-halves level half slots some is
   where
     many_hash : (o : Occupants) (more : List ℕ) → is_many o ≡ true → occupants_hash o more ≡ more
     many_hash Empty more many = absurd cc
     many_hash (Lone hash) more many = absurd cc
     many_hash Many more many = refl
 
-pub kept_within-none : replicate 15 None ≡ kept_within 4 (replicate 16 slot.Absent)
+-- what is kept of its halves, and then its own hash
+pub present-halves : (level half : ℕ) (slots : List Slot) → 0 < level → half ≡ 2 ^ (level - 1) → is_many (occupants slots) ≡ true
+    → present (kept_within level slots) ≡ (present (kept_within (level - 1) (take half slots)) ++ present (kept_within (level - 1) (drop half slots))) ++ range_hash level slots ∷ []
+present-halves zero half slots some is many = absurd (omega arith)
+present-halves (suc level) half slots some is many =
+    let e : suc level - 1 ≡ level = omega arith in
+    present-many level slots many ∙ sym (ap₂ (λ k n. (present (kept_within k (take n slots)) ++ present (kept_within k (drop n slots))) ++ range_hash (suc level) slots ∷ []) e (is ∙ ap (λ k. 2 ^ k) e))
+
+pub bits-halves : (level half : ℕ) (slots : List Slot) → 0 < level → half ≡ 2 ^ (level - 1) → is_many (occupants slots) ≡ true
+    → map is_some (kept_within level slots) ≡ (map is_some (kept_within (level - 1) (take half slots)) ++ map is_some (kept_within (level - 1) (drop half slots))) ++ true ∷ []
+bits-halves zero half slots some is many = absurd (omega arith)
+bits-halves (suc level) half slots some is many =
+    let e : suc level - 1 ≡ level = omega arith in
+    bits-many level slots many ∙ sym (ap₂ (λ k n. (map is_some (kept_within k (take n slots)) ++ map is_some (kept_within k (drop n slots))) ++ true ∷ []) e (is ∙ ap (λ k. 2 ^ k) e))
+
+-- three lists appended one after another
+pub appended : {X : Type 0} (before lefts rights all : List X) (last : X) → all ≡ (lefts ++ rights) ++ last ∷ [] → ((before ++ lefts) ++ rights) ++ last ∷ [] ≡ before ++ all
+appended before lefts rights all last is = ap (λ t. t ++ last ∷ []) (append_assoc before lefts rights) ∙ append_assoc before (lefts ++ rights) (last ∷ []) ∙ ap (λ t. before ++ t) (sym is)
+
+pub length-appended : {X : Type 0} (lefts rights all : List X) (last : X) → all ≡ (lefts ++ rights) ++ last ∷ [] → length all ≡ length lefts + length rights + 1
+length-appended lefts rights all last is = ap length is ∙ length-append (lefts ++ rights) (last ∷ []) ∙ ap (λ n. n + 1) (length-append lefts rights)
+
+-- nothing is kept of places without a child
+pub kept_hashes-none : replicate 16 None ≡ kept_hashes (replicate 16 slot.Absent)
 unfolding kept_within
-kept_within-none = refl
-
--- ---- both halves are written in place, and then the last
-module _ {X : Type 0} (half : ℕ) (hashes lefts : List X) (some : 1 ≤ half) (room : length hashes + 1 ≡ half + half) (left_room : length lefts + 1 ≡ half) where
-  -- the list after the hashes of the first half
-  pub after_left : take (length hashes - 1 - (half - 1)) (drop (half - 1) (lefts ++ drop (half - 1) hashes)) ≡ take (half - 1) (drop (half - 1) hashes)
-  after_left =
-      ap₂ take (let e : length hashes - 1 - (half - 1) ≡ half - 1 = omega (arith, some, room) in e) (drop_at lefts (drop (half - 1) hashes) (half - 1) (omega (arith, left_room)))
-
-  pub all_written : (rights : List X) (hash : X) → length rights + 1 ≡ half
-      → set (put_mid (half - 1) (length hashes - 1 - (half - 1)) (lefts ++ drop (half - 1) hashes) rights) (length hashes - 1) hash ≡ lefts ++ (rights ++ hash ∷ [])
-  all_written rights hash right_room =
-      let a : ℕ = half - 1 in
-      let last : ℕ = length hashes - 1 in
-      let before = lefts ++ drop a hashes in
-      let written = put_mid a (last - a) before rights in
-      let long : length before ≡ length hashes = length-append lefts (drop a hashes) ∙ omega (arith, some, room, left_room, length-drop a hashes) in
-      let front : take last written ≡ lefts ++ rights =
-      take-put_mid a (last - a) before rights last (omega (arith, some, room, right_room)) (omega (arith, long, some, room)) ∙ ap (λ t. t ++ rights) (take_at lefts (drop a hashes) a (omega (arith, left_room))) in
-      let end : drop last written ≡ drop last before = drop-put_mid a (last - a) before rights last (omega (arith, some, room)) (omega (arith, long, some, room)) (omega (arith, some, room, right_room)) in
-      let long_after : length written ≡ length hashes = omega (arith, ap length end, length-drop last written, length-drop last before, long, some, room) in
-      set_split written last hash (omega (arith, long_after, some, room))
-      ∙ ap₂ (λ t u. t ++ hash ∷ u) front (drop_all (suc last) written (omega (arith, long_after, some, room)))
-      ∙ append_assoc lefts rights (hash ∷ [])
+kept_hashes-none = refl

@@ -218,6 +218,23 @@ pairs_within-bounded (suc level) slots changes =
     (pairs_within-bounded level (take (2 ^ level) slots) (take (2 ^ level) changes)) (pairs_within-bounded level (drop (2 ^ level) slots) (drop (2 ^ level) changes))
     (sum_by-take-drop (λ change. cond change 1 0) changes (2 ^ level)) (at_most_changes (is_many (occupants slots)) changes)
 
+-- one pair at most for each range
+pub pairs_within-once : (level : ℕ) (slots : List Slot) (changes : List Bool) → pairs_within level slots changes + 1 ≤ 2 ^ level
+unfolding pairs_within
+pairs_within-once zero slots changes = omega arith
+pairs_within-once (suc level) slots changes =
+    omega (
+      arith,
+      pow-suc 2 level,
+      pairs_within-once level (take (2 ^ level) slots) (take (2 ^ level) changes),
+      pairs_within-once level (drop (2 ^ level) slots) (drop (2 ^ level) changes),
+      at_most_one (has_change changes && is_many (occupants slots)),
+    )
+  where
+    at_most_one : (here : Bool) → cond {A = ℕ} here 1 0 ≤ 1
+    at_most_one true = omega arith
+    at_most_one false = omega arith
+
 pub pairs_within-one : (level : ℕ) (slots : List Slot) (changes : List Bool) → 2 ^ level ≡ 1 → level ≤ 4 → pairs_within level slots changes ≡ 0
 unfolding pairs_within
 pairs_within-one zero slots changes is small = refl

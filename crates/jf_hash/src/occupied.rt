@@ -1,8 +1,8 @@
 // What stands in a range of places is told by counting the bits of two maps.
-ghost use Rattle.std.specs.Prelude.{◌≡◌, ◌+◌, ◌==◌, ◌≤◌, List, Bool, length, map, take, drop};
+ghost use Rattle.std.specs.Prelude.{◌≡◌, ℕ, ◌+◌, ◌-◌, ◌^◌, ◌==◌, ◌≤◌, ◌++◌, List, Bool, false, length, map, replicate, take, drop, is_some};
 ghost use Rattle.std.specs.List.{count_by};
 ghost use Rattle.jf_hash.specs.Slots.{occupants, is_occupied, holds_leaf};
-ghost use Rattle.jf_hash.specs.Ranges.{is_many};
+ghost use Rattle.jf_hash.specs.Ranges.{is_many, kept_hashes, kept_within};
 ghost use Rattle.jf_hash.specs.declared.slot.Slot.{Slot};
 
 use crate::places::Places;
@@ -43,5 +43,29 @@ impl Occupied {
     {
         let children = self.children.count(start, width);
         children > 1 || children == 1 && self.leaves.count(start, width) == 0
+    }
+
+    /// Which of the fifteen ranges of two places or more hold more than one leaf, each after its halves.
+    pub fn kept(&self) -> Bitmap
+        ensures { (slots : List Slot) → length slots ≡ 16 → self.now.children ≡ map is_occupied slots → self.now.leaves ≡ map holds_leaf slots → result ≡ map is_some (kept_hashes slots) }
+    {
+        let mut kept = Bitmap::none();
+        self.mark(0, 0, 16, &mut kept);
+        kept
+    }
+
+    // Sets the bits of the ranges within a range that hold more than one leaf, from bit `first` on.
+    fn mark(&self, first: usize, start: usize, width: usize, kept: &mut Bitmap)
+        requires within { start + width ≤ 16 }
+        requires room { first + width ≤ 16 }
+        ensures { (slots : List Slot) (level : ℕ) (before : List Bool) → level ≤ 4 → width ≡ 2 ^ level → length slots ≡ 16 → self.now.children ≡ map is_occupied slots → self.now.leaves ≡ map holds_leaf slots → length before ≡ first → kept.old ≡ before ++ replicate (16 - first) false → kept.new ≡ (before ++ map is_some (kept_within level (take width (drop start slots)))) ++ replicate (17 - (first + width)) false }
+    {
+        if width < 2 || !self.is_many(start, width) {
+            return;
+        }
+        let half = width / 2;
+        self.mark(first, start, half, kept);
+        self.mark(first + half - 1, start + half, width - half, kept);
+        kept.set(first + width - 2, true);
     }
 }

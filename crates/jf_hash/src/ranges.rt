@@ -1,5 +1,5 @@
 // The hashes of the ranges of a node's places, kept so that a change hashes few of them again.
-ghost use Rattle.std.specs.Prelude.{◌≡◌, ℕ, ◌+◌, ◌-◌, ◌*◌, ◌^◌, ◌<◌, ◌≤◌, true, None, List, length, replicate, take, drop, slice_index_or, map, is_some, IfSome, IfOk, option_copied};
+ghost use Rattle.std.specs.Prelude.{◌≡◌, ℕ, ◌+◌, ◌-◌, ◌*◌, ◌^◌, ◌<◌, ◌≤◌, true, None, List, length, replicate, take, drop, slice_index_or, IfSome, IfOk, MatchResult, option_copied};
 ghost use Rattle.std.specs.List.{count_by};
 ghost use Rattle.jf_path.specs.Bitmaps.{present};
 ghost use Rattle.jf_hash.specs.Roots.{part_root};
@@ -10,7 +10,7 @@ ghost use Rattle.jf_hash.specs.declared.slot.Slot.{Slot};
 use crate::occupied::Occupied;
 use crate::places::Places;
 use crate::refreshing::refresh;
-use crate::tagged::Hash;
+use crate::tagged::{Hash, empty};
 use jf_path::{Bitmap, Memory};
 use jf_steps::Steps;
 use std::alloc::Global;
@@ -38,30 +38,6 @@ impl Model for Ranges {
     ghost invariant = { λ r. count_by (λ bit. bit) r.kept ≡ length r.hashes.items };
 }
 
-// Which of these are there.
-fn which(hashes: &[Option<Hash>; 16]) -> Bitmap
-    ensures { result ≡ map is_some hashes.now }
-{
-    let mut there = Bitmap::none();
-    for i in 0..16 {
-        there.set(i, hashes[i].is_some());
-    }
-    there
-}
-
-// Those that are there, `count` of them, in room for so many.
-fn collect(alloc: Global, hashes: &[Option<Hash>; 16], count: usize) -> Result<Vec<Hash>, Memory>
-    ensures { IfOk result (λ v. v.items ≡ present hashes.now) }
-{
-    let mut there = Vec::with_capacity(alloc, count)?;
-    for i in 0..16 {
-        if let Some(hash) = hashes[i] {
-            there.push(hash)?;
-        }
-    }
-    Ok(there)
-}
-
 impl Ranges {
     /// The hashes of the ranges of these places.
     pub fn of<P: Places>(alloc: Global, places: &P) -> Result<Ranges, Memory>
@@ -71,27 +47,19 @@ impl Ranges {
     }
 
     /// The hashes that `of` returns, with the pairs counted that are hashed: one for each range of two places or more
-    /// that holds more than one leaf.
+    /// that holds more than one leaf. If memory runs out, none is hashed.
     pub fn of_counted<P: Places, L: Ledger>(
         alloc: Global,
         places: &P,
         steps: &mut Steps<L>,
     ) -> Result<Ranges, Memory>
         ensures value { IfOk result (λ r. r ≡ kept_hashes (P.slots places.now)) }
-        ensures pairs { steps.new ≡ steps.old + pairs_within 4 (P.slots places.now) (replicate 16 true) }
+        ensures pairs { MatchResult result (λ r. steps.new ≡ steps.old + pairs_within 4 (P.slots places.now) (replicate 16 true)) (λ e. steps.new ≡ steps.old) }
         ensures once { steps.new ≤ steps.old + 15 }
     {
-        let mut hashes = [None; 16];
-        refresh(
-            places,
-            &Occupied::of(places),
-            Bitmap::all(),
-            0,
-            16,
-            &mut hashes[..15],
-            steps,
-        );
-        Ranges::from_places(alloc, &hashes)
+        places.children().know();
+        let nothing = Ranges::none(alloc);
+        nothing.updated_counted(alloc, places, Bitmap::all(), steps)
     }
 
     // The hashes, with the pairs counted in a ledger of their own.
@@ -122,7 +90,7 @@ impl Ranges {
         self.updated_uncounted::<P, Brand>(alloc, places, changed, Blank::new(1))
     }
 
-    /// The hashes that `updated` returns, with the pairs counted that are hashed.
+    /// The hashes that `updated` returns, with the pairs counted that are hashed. If memory runs out, none is hashed.
     pub fn updated_counted<P: Places, L: Ledger>(
         &self,
         alloc: Global,
@@ -131,21 +99,28 @@ impl Ranges {
         steps: &mut Steps<L>,
     ) -> Result<Ranges, Memory>
         ensures value { (olds : List Slot) → self.now ≡ kept_hashes olds → Agree olds changed (P.slots places.now) → IfOk result (λ r. r ≡ kept_hashes (P.slots places.now)) }
-        ensures pairs { steps.new ≡ steps.old + pairs_within 4 (P.slots places.now) changed }
+        ensures pairs { MatchResult result (λ r. steps.new ≡ steps.old + pairs_within 4 (P.slots places.now) changed) (λ e. steps.new ≡ steps.old) }
         ensures bounded { steps.new ≤ steps.old + 4 * count_by (λ bit. bit) changed }
     {
         changed.know();
-        let mut hashes = self.spread();
+        let occupied = Occupied::of(places);
+        let kept = occupied.kept();
+        let count = kept.count(0, 16);
+        let mut hashes = Vec::with_capacity(alloc, count)?;
         refresh(
             places,
-            &Occupied::of(places),
+            &occupied,
+            self,
             changed,
             0,
+            0,
             16,
-            &mut hashes[..15],
+            &mut hashes,
             steps,
         );
-        Ranges::from_places(alloc, &hashes)
+        // Changes nothing, unless what was kept before belongs to no node.
+        let _ = hashes.resize(count, empty());
+        Ok(Ranges { kept, hashes })
     }
 
     // The hashes, with the pairs counted in a ledger of their own.
@@ -165,33 +140,23 @@ impl Ranges {
         self.updated_counted(alloc, places, changed, &mut steps)
     }
 
-    // These hashes, without room for those that aren't there.
-    fn from_places(alloc: Global, hashes: &[Option<Hash>; 16]) -> Result<Ranges, Memory>
-        ensures { IfOk result (λ r. r ≡ hashes.now) }
+    // Keeps nothing of any range.
+    fn none(alloc: Global) -> Ranges
+        ensures { result ≡ replicate 16 None }
     {
-        let kept = which(hashes);
-        let hashes = collect(alloc, hashes, kept.count(0, 16))?;
-        Ok(Ranges { kept, hashes })
-    }
-
-    // Changes nothing, and tells that there are sixteen places.
-    fn know(&self)
-        ensures { length self.now ≡ 16 }
-    {
-        self.kept.know();
-    }
-
-    // The hashes, each at its place.
-    fn spread(&self) -> [Option<Hash>; 16]
-        ensures value { result ≡ self.now }
-        ensures long { length result ≡ 16 }
-    {
-        self.know();
-        let mut hashes = [None; 16];
-        for i in 0..16 {
-            hashes[i] = self.at(i).copied();
+        Ranges {
+            kept: Bitmap::none(),
+            hashes: Vec::new(alloc),
         }
-        hashes
+    }
+
+    // The hashes that are there among `count` places from place `first` on.
+    pub(crate) fn run(&self, first: usize, count: usize) -> &[Hash]
+        requires { first + count ≤ 16 }
+        ensures { result.now ≡ present (take count (drop first self.now)) }
+    {
+        let start = self.kept.rank(first);
+        &self.hashes[start..start + self.kept.count(first, count)]
     }
 
     // The hash at a place, if it is there.

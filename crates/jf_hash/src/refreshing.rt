@@ -1,5 +1,6 @@
-// The hashes that are kept of a node's ranges are brought up to date with its places, from the smallest range on.
-ghost use Rattle.std.specs.Prelude.{◌≡◌, ℕ, ◌+◌, ◌^◌, ◌≤◌, None, List, length, map, replicate, take, drop};
+// The hashes that are kept of a node's ranges are made anew from its places, from the smallest range on.
+ghost use Rattle.std.specs.Prelude.{◌≡◌, ℕ, ◌+◌, ◌-◌, ◌^◌, ◌≤◌, ◌++◌, List, length, map, take, drop, vec_capacity};
+ghost use Rattle.jf_path.specs.Bitmaps.{present};
 ghost use Rattle.jf_hash.specs.Hashes.{N};
 ghost use Rattle.jf_hash.specs.Slots.{first_child_hash, is_occupied, holds_leaf, range_hash};
 ghost use Rattle.jf_hash.specs.Ranges.{Agree, kept_within, pairs_within};
@@ -7,6 +8,7 @@ ghost use Rattle.jf_hash.specs.declared.slot.Slot.{Slot};
 
 use crate::occupied::Occupied;
 use crate::places::Places;
+use crate::ranges::Ranges;
 use crate::tagged::{Hash, empty, inner};
 use jf_path::Bitmap;
 use jf_steps::Steps;
@@ -34,83 +36,75 @@ fn first_in<P: Places>(places: &P, occupied: &Occupied, start: usize, width: usi
     }
 }
 
-// The hash of a range, from what is kept of it.
+// The hash of a range, from the hashes that are kept of the ranges within it.
 fn hash_in<P: Places>(
     places: &P,
     occupied: &Occupied,
     start: usize,
     width: usize,
-    kept: &[Option<Hash>],
+    kept: &[Hash],
 ) -> Hash
     requires within { start + width ≤ 16 }
     requires children { occupied.now.children ≡ map is_occupied (P.slots places.now) }
-    ensures { (level : ℕ) → level ≤ 4 → length (take width (drop start (P.slots places.now))) ≡ 2 ^ level → kept.now ≡ kept_within level (take width (drop start (P.slots places.now))) → result ≡ range_hash level (take width (drop start (P.slots places.now))) }
+    ensures { (level : ℕ) → level ≤ 4 → length (take width (drop start (P.slots places.now))) ≡ 2 ^ level → kept.now ≡ present (kept_within level (take width (drop start (P.slots places.now)))) → result ≡ range_hash level (take width (drop start (P.slots places.now))) }
 {
     match kept.last() {
-        Some(Some(hash)) => *hash,
-        Some(None) => first_in(places, occupied, start, width),
+        Some(hash) => *hash,
         None => first_in(places, occupied, start, width),
     }
 }
 
-// Keeps nothing of these ranges.
-fn clear(kept: &mut [Option<Hash>])
-    ensures { kept.new ≡ replicate (length kept.old) None }
-{
-    for i in 0..kept.len() {
-        kept[i] = None;
-    }
-}
-
-// Brings what is kept of the ranges within a range up to date with the places, and returns the hash of the whole range.
-// `changed` says at which places something may have changed. Only a range with a changed place and more than one leaf
-// is hashed.
+// Appends the hashes that are kept of the ranges within a range, and returns the hash of the whole range. `changed` says
+// at which places something may have changed, `old` what was kept before, and `first` at which of its places the ranges
+// within this one begin. Only a range with a changed place and more than one leaf is hashed.
 pub fn refresh<P: Places, L: Ledger>(
     places: &P,
     occupied: &Occupied,
+    old: &Ranges,
     changed: Bitmap,
+    first: usize,
     start: usize,
     width: usize,
-    kept: &mut [Option<Hash>],
+    out: &mut Vec<Hash>,
     steps: &mut Steps<L>,
 ) -> Hash
     requires within { start + width ≤ 16 }
-    requires room { length kept.old + 1 ≡ width }
+    requires places { first + width ≤ 16 }
+    requires some { 1 ≤ width }
     requires long { length (P.slots places.now) ≡ 16 }
     requires children { occupied.now.children ≡ map is_occupied (P.slots places.now) }
     requires leaves { occupied.now.leaves ≡ map holds_leaf (P.slots places.now) }
-    ensures value { (level : ℕ) (olds : List Slot) → level ≤ 4 → width ≡ 2 ^ level → kept.old ≡ kept_within level olds → Agree olds (take width (drop start changed)) (take width (drop start (P.slots places.now))) → (result ≡ range_hash level (take width (drop start (P.slots places.now)))) × (kept.new ≡ kept_within level (take width (drop start (P.slots places.now)))) }
+    ensures value { (level : ℕ) (olds : List Slot) → level ≤ 4 → width ≡ 2 ^ level → take (width - 1) (drop first old.now) ≡ kept_within level olds → Agree olds (take width (drop start changed)) (take width (drop start (P.slots places.now))) → length out.old.items + length (present (kept_within level (take width (drop start (P.slots places.now))))) ≤ vec_capacity out.old → (result ≡ range_hash level (take width (drop start (P.slots places.now)))) × (out.new.items ≡ out.old.items ++ present (kept_within level (take width (drop start (P.slots places.now))))) }
+    ensures capacity { vec_capacity out.old ≤ vec_capacity out.new }
     ensures pairs { (level : ℕ) → level ≤ 4 → width ≡ 2 ^ level → steps.new ≡ steps.old + pairs_within level (take width (drop start (P.slots places.now))) (take width (drop start changed)) }
-    ensures once { steps.new ≤ steps.old + length kept.old }
 {
+    if width == 1 {
+        return first_in(places, occupied, start, width);
+    }
     if changed.count(start, width) == 0 {
+        let kept = old.run(first, width - 1);
+        let _ = out.extend_from_slice(kept);
         return hash_in(places, occupied, start, width, kept);
     }
-    if width == 1 || !occupied.is_many(start, width) {
-        clear(kept);
+    if !occupied.is_many(start, width) {
         return first_in(places, occupied, start, width);
     }
     let half = width / 2;
-    let last = kept.len() - 1;
     let left = refresh(
-        places,
-        occupied,
-        changed,
-        start,
-        half,
-        &mut kept[..half - 1],
-        steps,
+        places, occupied, old, changed, first, start, half, out, steps,
     );
     let right = refresh(
         places,
         occupied,
+        old,
         changed,
+        first + half - 1,
         start + half,
         width - half,
-        &mut kept[half - 1..last],
+        out,
         steps,
     );
     let hash = hash_pair(&left, &right, steps);
-    kept[last] = Some(hash);
+    let _ = out.push(hash);
     hash
 }

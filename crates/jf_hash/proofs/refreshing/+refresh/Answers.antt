@@ -1,23 +1,30 @@
-use Rattle.std.proofs.Common.{◌≡◌, ℕ, List, Option, Some, ◌+◌, ◌-◌, ◌/◌, ◌^◌, ◌<◌, ◌∙◌, sym, ap, ap₂, arith, inl, inr, length, take, drop}
+use Rattle.std.proofs.Common.{◌≡◌, ℕ, List, ◌+◌, ◌-◌, ◌/◌, ◌^◌, ◌<◌, ◌∙◌, sym, ap, ap₂, arith, inl, inr, length, length-append, take, drop, cond, is_ok, IsOk, Result, [], ◌∷◌, ◌++◌}
+use Rattle.std.proofs.lemmas.List.{append-nil}
+use Rattle.jf_path.specs.Bitmaps.{present}
 use Rattle.jf_hash.specs.Slots.{range_hash}
 use Rattle.jf_hash.specs.Ranges.{kept_within, pairs_within}
-use Rattle.jf_hash.proofs.RangeLaws.{length-kept_within, pairs_within-none, pairs_within-one, pairs_within-halves}
+use Rattle.jf_hash.proofs.RangeLaws.{pairs_within-none, pairs_within-one, pairs_within-halves}
 use Rattle.jf_hash.proofs.Halves.{halves, not_one, length-places, left_half, right_half}
-use Rattle.jf_hash.proofs.RangeHashes.{agree_same, agree_left, agree_right, within_halves, hashed_over, after_left, all_written}
-use Rattle.jf_hash.proofs.KeptLaws.{kept_within-cleared, pairs_within-few}
-use Rattle.jf_hash.specs.declared.slot.Slot.{Slot}
+use Rattle.jf_hash.proofs.RangeHashes.{agree_same, agree_left, agree_right, before_halves, hashed_over, present-halves, appended, length-appended}
+use Rattle.jf_hash.proofs.KeptLaws.{pairs_within-few}
+use Rattle.jf_hash.proofs.Present.{IsNotHashed, hash-not_hashed, present-not_hashed}
 use Rattle.jf_hash.proofs.Changes.{has_change-count, has_change-counted}
-use Rattle.jf_hash.proofs.refreshing.+refresh.Goals.{then-width-eq1-via-then-width-eq1, then-width-eq1-via-else-width-eq1+then-not-is_many}
 use Rattle.jf_hash.proofs.refreshing.+refresh.Goals as goal
 
+-- what an appending that can't fail leaves
+grown : {X E : Type 0} (r : Result X E) (old more new : List (List ℕ)) → new ≡ cond (is_ok r) (old ++ more) old → IsOk r → new ≡ old ++ more
+grown r old more new is ok = is ∙ ap (λ b. cond b (old ++ more) old) ok
+
 pub returns-then-count-eq0-clause-value : goal.returns-then-count-eq0-clause-value
-returns-then-count-eq0-clause-value g t c level olds small long at agree =
-    let places = take c.args.width (drop c.args.start (g.P.Places.slots c.args.places.now)) in
+returns-then-count-eq0-clause-value g t c level olds small long at agree room =
+    let slots = g.P.Places.slots c.args.places.now in
+    let places = take c.args.width (drop c.args.start slots) in
     let changes = take c.args.width (drop c.args.start c.args.changed) in
     let same = agree_same olds changes places agree (has_change-count changes (sym c.count.ensures ∙ c.if-count-eq0.true)) in
-    let kept = at ∙ ap (kept_within level) same in (
-      c.hash_in.ensures level small (length-places c.args.start c.args.width (g.P.Places.slots c.args.places.now) c.requires.long c.requires.within ∙ long) kept,
-      kept,
+    let kept = c.run-kept.ensures ∙ ap present (at ∙ ap (kept_within level) same) in
+    let fits = c.extend_from_slice.ensures.succeeds (omega (arith, ap length kept, room, c.args.out.now.ok.0)) in (
+      c.hash_in.ensures level small (length-places c.args.start c.args.width slots c.requires.long c.requires.within ∙ long) kept,
+      grown c.extend_from_slice.result c.args.out.now.items c.run-kept.result.now c.extend_from_slice.new.self.items c.extend_from_slice.ensures.items fits ∙ ap (λ t. c.args.out.now.items ++ t) kept,
     )
 
 pub returns-then-count-eq0-clause-pairs : goal.returns-then-count-eq0-clause-pairs
@@ -25,52 +32,68 @@ returns-then-count-eq0-clause-pairs g t c level small long =
     omega (arith, pairs_within-none level (take c.args.width (drop c.args.start (g.P.Places.slots c.args.places.now))) (take c.args.width (drop c.args.start c.args.changed)) (has_change-count (take c.args.width (drop c.args.start c.args.changed)) (sym c.count.ensures ∙ c.if-count-eq0.true)))
 
 pub returns-then-width-eq1-clause-value : goal.returns-then-width-eq1-clause-value
-returns-then-width-eq1-clause-value g t c level olds small long at agree =
-    let places = take c.args.width (drop c.args.start (g.P.Places.slots c.args.places.now)) in
-    let places_long : length places ≡ 2 ^ level = length-places c.args.start c.args.width (g.P.Places.slots c.args.places.now) c.requires.long c.requires.within ∙ long in
-    let all = kept_within-cleared level (length c.args.kept.now) places small (c.requires.room ∙ long) places_long (elim c.then-width-eq1.branch [
-      | then-width-eq1-via-then-width-eq1 w ↦ inl (sym long ∙ w.if-width-eq1.true)
-      | then-width-eq1-via-else-width-eq1+then-not-is_many w ↦ inr (sym (w.is_many.ensures (g.P.Places.slots c.args.places.now) c.requires.children c.requires.leaves) ∙ w.if-not-is_many.true)
-    ]) in
-    (c.first_in.ensures ∙ all.0, c.clear.ensures ∙ all.1)
+returns-then-width-eq1-clause-value g t c level olds small long at agree room =
+    let slots = g.P.Places.slots c.args.places.now in
+    let places = take c.args.width (drop c.args.start slots) in
+    let places_long : length places ≡ 2 ^ level = length-places c.args.start c.args.width slots c.requires.long c.requires.within ∙ long in
+    let why : IsNotHashed level places = inl (sym long ∙ c.if-width-eq1.true) in
+    (c.first_in.ensures ∙ hash-not_hashed level places places_long why, sym (append-nil c.args.out.now.items) ∙ ap (λ t. c.args.out.now.items ++ t) (sym (present-not_hashed level places why)))
 
 pub returns-then-width-eq1-clause-pairs : goal.returns-then-width-eq1-clause-pairs
 returns-then-width-eq1-clause-pairs g t c level small long =
-    let places = take c.args.width (drop c.args.start (g.P.Places.slots c.args.places.now)) in
-    let changes = take c.args.width (drop c.args.start c.args.changed) in
-    elim c.then-width-eq1.branch [
-      | then-width-eq1-via-then-width-eq1 w ↦ omega (arith, pairs_within-one level places changes (sym long ∙ w.if-width-eq1.true) small)
-      | then-width-eq1-via-else-width-eq1+then-not-is_many w ↦ omega (arith, pairs_within-few level places changes (sym (w.is_many.ensures (g.P.Places.slots c.args.places.now) c.requires.children c.requires.leaves) ∙ w.if-not-is_many.true))
-    ]
+    omega (arith, pairs_within-one level (take c.args.width (drop c.args.start (g.P.Places.slots c.args.places.now))) (take c.args.width (drop c.args.start c.args.changed)) (sym long ∙ c.if-width-eq1.true) small)
 
-room_of : (level half : ℕ) (slots : List Slot) (kept : List (Option (List ℕ))) → half ≡ 2 ^ level → kept ≡ kept_within level slots → length kept + 1 ≡ half
-room_of level half slots kept is at = ap (λ t. length t + 1) at ∙ length-kept_within level slots ∙ sym is
+pub returns-then-not-is_many-clause-value : goal.returns-then-not-is_many-clause-value
+returns-then-not-is_many-clause-value g t c level olds small long at agree room =
+    let slots = g.P.Places.slots c.args.places.now in
+    let places = take c.args.width (drop c.args.start slots) in
+    let places_long : length places ≡ 2 ^ level = length-places c.args.start c.args.width slots c.requires.long c.requires.within ∙ long in
+    let why : IsNotHashed level places = inr (sym (c.is_many.ensures slots c.requires.children c.requires.leaves) ∙ c.if-not-is_many.true) in
+    (c.first_in-then-not-is_many.ensures ∙ hash-not_hashed level places places_long why, sym (append-nil c.args.out.now.items) ∙ ap (λ t. c.args.out.now.items ++ t) (sym (present-not_hashed level places why)))
+
+pub returns-then-not-is_many-clause-pairs : goal.returns-then-not-is_many-clause-pairs
+returns-then-not-is_many-clause-pairs g t c level small long =
+    omega (
+      arith,
+      pairs_within-few level (take c.args.width (drop c.args.start (g.P.Places.slots c.args.places.now))) (take c.args.width (drop c.args.start c.args.changed)) (sym (c.is_many.ensures (g.P.Places.slots c.args.places.now) c.requires.children c.requires.leaves) ∙ c.if-not-is_many.true),
+    )
 
 pub returns-clause-value : goal.returns-clause-value
-returns-clause-value g t c level olds small long at agree =
+returns-clause-value g t c level olds small long at agree room =
     let start = c.args.start in
     let width = c.args.width in
     let slots = g.P.Places.slots c.args.places.now in
     let changed = c.args.changed in
-    let kept = c.args.kept.now in
+    let out = c.args.out.now in
     let half = width / 2 in
     let places = take width (drop start slots) in
     let some : 0 < level = not_one level width long c.if-width-eq1.false in
     let h = halves level width small some long in
+    let in_half : half + half ≡ width = omega (arith, h.twice, long) in
     let back : width - half ≡ half = omega (arith, h.twice, long) in
-    let before = within_halves level half olds kept some h.is h.some at in
-    let left = c.refresh-left.ensures.value (level - 1) (take half olds) (omega arith) h.is before.0 (agree_left half width start olds changed slots (omega (arith, h.twice, long)) agree) in
-    let room : length kept + 1 ≡ half + half = c.requires.room ∙ long ∙ h.twice in
-    let left_room : length c.refresh-left.new.kept + 1 ≡ half = room_of (level - 1) half (take half (drop start slots)) c.refresh-left.new.kept h.is left.1 in
-    let right = c.refresh-right.ensures.value (level - 1) (drop half olds) (omega arith) (back ∙ h.is) (after_left half kept c.refresh-left.new.kept h.some room left_room ∙ before.1)
-    (agree_right half width start olds changed slots (omega (arith, h.twice, long)) agree) in
-    let right_room : length c.refresh-right.new.kept + 1 ≡ half = room_of (level - 1) half (take (width - half) (drop (start + half) slots)) c.refresh-right.new.kept h.is right.1 in
-    let is_left = left_half half width start slots (omega (arith, h.twice, long)) in
-    let is_right = right_half half width start slots (omega (arith, h.twice, long)) in
-    let all = hashed_over level half places c.refresh-left.result c.refresh-right.result c.hash_pair-hash.result c.refresh-left.new.kept c.refresh-right.new.kept some h.is
-    (sym (c.is_many.ensures slots c.requires.children c.requires.leaves) ∙ c.if-not-is_many.false) (left.0 ∙ ap (range_hash (level - 1)) is_left, left.1 ∙ ap (kept_within (level - 1)) is_left)
-    (right.0 ∙ ap (range_hash (level - 1)) is_right, right.1 ∙ ap (kept_within (level - 1)) is_right) c.hash_pair-hash.ensures.value in
-    (all.0, all_written half kept c.refresh-left.new.kept h.some room left_room c.refresh-right.new.kept (Some c.hash_pair-hash.result) right_room ∙ all.1)
+    let many = sym (c.is_many.ensures slots c.requires.children c.requires.leaves) ∙ c.if-not-is_many.false in
+    let lefts = present (kept_within (level - 1) (take half places)) in
+    let rights = present (kept_within (level - 1) (drop half places)) in
+    let all = present-halves level half places some h.is many in
+    let long_all : length (present (kept_within level places)) ≡ length lefts + length rights + 1 = length-appended lefts rights (present (kept_within level places)) (range_hash level places) all in
+    let is_left = left_half half width start slots in_half in
+    let is_right = right_half half width start slots in_half in
+    let before = before_halves level half width c.args.first olds c.args.old.now some h.is h.some in_half at in
+    let left = c.refresh-left.ensures.value (level - 1) (take half olds) (omega arith) h.is before.0 (agree_left half width start olds changed slots in_half agree)
+    (omega (arith, room, long_all, ap (λ xs. length (present (kept_within (level - 1) xs))) is_left)) in
+    let after_left : c.refresh-left.new.out.items ≡ out.items ++ lefts = left.1 ∙ ap (λ xs. out.items ++ present (kept_within (level - 1) xs)) is_left in
+    let long_left : length c.refresh-left.new.out.items ≡ length out.items + length lefts = ap length after_left ∙ length-append out.items lefts in
+    let right = c.refresh-right.ensures.value (level - 1) (drop half olds) (omega arith) (back ∙ h.is) before.1 (agree_right half width start olds changed slots in_half agree)
+    (omega (arith, room, long_all, long_left, c.refresh-left.ensures.capacity, ap (λ xs. length (present (kept_within (level - 1) xs))) is_right)) in
+    let after_right : c.refresh-right.new.out.items ≡ (out.items ++ lefts) ++ rights = right.1 ∙ ap₂ (λ ys xs. ys ++ present (kept_within (level - 1) xs)) after_left is_right in
+    let long_right : length c.refresh-right.new.out.items ≡ length out.items + length lefts + length rights = ap length after_right ∙ length-append (out.items ++ lefts) rights ∙ ap (λ n. n + length rights) (length-append out.items lefts) in
+    let hash = hashed_over level half places c.refresh-left.result c.refresh-right.result c.hash_pair-hash.result some h.is many (left.0 ∙ ap (range_hash (level - 1)) is_left) (right.0 ∙ ap (range_hash (level - 1)) is_right)
+    c.hash_pair-hash.ensures.value in
+    let fits = c.push.ensures.succeeds (omega (arith, room, long_all, long_right, c.refresh-right.new.out.ok.0, c.refresh-left.ensures.capacity, c.refresh-right.ensures.capacity)) in (
+      hash,
+      grown c.push.result c.refresh-right.new.out.items (c.hash_pair-hash.result ∷ []) c.push.new.self.items c.push.ensures.items fits ∙ ap₂ (λ xs x. xs ++ x ∷ []) after_right hash
+          ∙ appended out.items lefts rights (present (kept_within level places)) (range_hash level places) all,
+    )
 
 pub returns-clause-pairs : goal.returns-clause-pairs
 returns-clause-pairs g t c level small long =

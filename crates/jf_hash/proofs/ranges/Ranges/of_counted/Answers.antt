@@ -1,18 +1,23 @@
-use Rattle.std.proofs.Common.{◌≡◌, ◌∙◌, ap, ap₂, sym, subst, refl, arith, ◌+◌, None, IfOk, [], ◌∷◌, ◌++◌, true, replicate, take, take_all}
-use Rattle.jf_hash.specs.Ranges.{Agree, kept_within, pairs_within}
+use Rattle.std.proofs.Common.{◌≡◌, ◌≤◌, ◌+◌, ℕ, ◌∙◌, ap, sym, subst, arith, length, replicate, Result, Ok, Err, MatchResult}
+use Rattle.std.proofs.lemmas.List.{length-map}
+use Rattle.jf_hash.specs.Slots.{is_occupied}
+use Rattle.jf_hash.specs.Ranges.{Agree}
 use Rattle.jf_hash.specs.declared.slot.Slot.TheVariants as slot
-use Rattle.jf_hash.proofs.RangeHashes.{agree_all, kept_within-none}
+use Rattle.jf_hash.proofs.RangeLaws.{pairs_within-once}
+use Rattle.jf_hash.proofs.RangeHashes.{agree_all, kept_hashes-none}
 use Rattle.jf_hash.proofs.ranges.Ranges.of_counted.Goals as goal
 
 -- the ranges are made as if no child had been there and each place had changed
 pub returns-clause-value : goal.returns-clause-value
 returns-clause-value g c =
     let slots = g.P.Places.slots c.args.places.now in
-    let same : take 16 slots ≡ slots = take_all 16 slots (omega (arith, c.of.ensures.long)) in
-    let all = c.refresh.ensures.value 4 (replicate 16 slot.Absent) (omega arith) refl kept_within-none
-    (subst (λ bits. Agree (replicate 16 slot.Absent) (take 16 bits) (take 16 slots)) (sym c.all.ensures) (subst (Agree (replicate 16 slot.Absent) (replicate 16 true)) (sym same) (agree_all slot.Absent 16 slots c.of.ensures.long))) in
-    subst (λ hs. IfOk c.from_places.result (λ r. r ≡ hs)) (ap (λ ks. ks ++ None ∷ []) (all.1 ∙ ap (kept_within 4) same)) c.from_places.ensures
+    let long : length slots ≡ 16 = sym (length-map slots is_occupied) ∙ sym (ap length c.children.ensures) ∙ c.know.ensures in
+    c.updated_counted.ensures.value (replicate 16 slot.Absent) (c.none-nothing.ensures ∙ kept_hashes-none) (subst (λ bits. Agree (replicate 16 slot.Absent) bits slots) (sym c.all.ensures) (agree_all slot.Absent 16 slots long))
 
-pub returns-clause-pairs : goal.returns-clause-pairs
-returns-clause-pairs g c =
-    c.refresh.ensures.pairs 4 (omega arith) refl ∙ ap₂ (λ xs bits. c.args.steps.now + pairs_within 4 xs bits) (take_all 16 (g.P.Places.slots c.args.places.now) (omega (arith, c.of.ensures.long))) (ap (take 16) c.all.ensures)
+at_most : {X E : Type 0} (r : Result X E) (new old pairs : ℕ) → MatchResult r (λ x. new ≡ old + pairs) (λ e. new ≡ old) → pairs + 1 ≤ 16 → new ≤ old + 15
+at_most (Ok x) new old pairs is few = omega arith
+at_most (Err e) new old pairs is few = omega arith
+
+pub returns-clause-once : goal.returns-clause-once
+returns-clause-once g c =
+    at_most c.updated_counted.result c.updated_counted.new.steps c.args.steps.now _ c.updated_counted.ensures.pairs (pairs_within-once 4 (g.P.Places.slots c.args.places.now) c.all.result)
