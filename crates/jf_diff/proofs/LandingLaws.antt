@@ -101,6 +101,12 @@ fresh_top old new top sound is next = under top (top_placed new.version top is.t
 pub was_landed : (old new : SnapshotValue) (top : Option LinkValue) → IsSnapshot old → IsTopOf new top → IsNextOf old new → WasLanded new.version top
 was_landed old new top sound is next = record { es = entries old.map; before = λ p. snapshot_version_at p old; sorted = fin.entries_sorted old.map; over = fresh_top old new top sound is next }
 
+-- the top was made by a landing over the entries of the old one
+pub landed_top : (old new : SnapshotValue) (was top : Option LinkValue) → IsSnapshot old → IsTopOf old was → IsTopOf new top → IsNextOf old new → (before : Path → Option ℕ) × IsFreshUnder new.version (content was) before top
+landed_top old new was top sound at is next =
+    let before : Path → Option ℕ = λ p. snapshot_version_at p old in
+    (before, subst (λ es. IsFreshUnder new.version es before top) at.same (fresh_top old new top sound is next))
+
 -- the top of the next snapshot stands in the place of the old one
 pub stale_top : (old new : SnapshotValue) (was top : Option LinkValue) → IsSnapshot old → IsTopOf old was → IsTopOf new top → IsNextOf old new → IsStaleUnder new.version was top
 stale_top old new was top sound at is next =

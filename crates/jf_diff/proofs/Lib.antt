@@ -7,3 +7,5 @@ pub mod TopLaws
 pub mod LandingLaws
 pub mod PartLaws
 pub mod GoneLaws
+pub mod Fronts
+pub mod ChangedLaws

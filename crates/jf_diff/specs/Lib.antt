@@ -1,4 +1,5 @@
 pub mod Landings
+pub mod Changed
 pub mod OptionalNodes
 pub mod Below
 pub mod Plains

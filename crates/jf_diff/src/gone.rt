@@ -1,5 +1,5 @@
 // The nodes that a landing made stale, by themselves, and all nodes of a snapshot.
-ghost use Rattle.std.specs.Prelude.{◌≡◌, ◌++◌, ◌<◌, length, map, OnOk};
+ghost use Rattle.std.specs.Prelude.{◌≡◌, ◌++◌, ◌<◌, length, map, take, OnOk, OnErr};
 ghost use Rattle.std.specs.Option.{option_copied};
 ghost use Rattle.jf_model.specs.Nodes.{nodes};
 ghost use Rattle.jf_model.specs.Walk.{with_root};
@@ -29,6 +29,7 @@ fn list_gone(
 ) -> Result<(), Memory>
     requires path { length path.now ≡ old.now.depth }
     requires new { IsAtDepth old.now.depth (option_copied new) }
+    ensures front { take (length out.old.items) out.new.items ≡ out.old.items }
     ensures kept { OnOk result (¬ IsOfVersion version (option_copied new.entry) → out.new.items ≡ out.old.items) }
     ensures listed { OnOk result (IsOfVersion version (option_copied new.entry) → IsStaleBelow version old.now (option_copied new.entry) → out.new.items ≡ out.old.items ++ from_node old.now.depth (content (option_copied new.entry)) old.now.entries (gone_below version path.now old.now)) }
 {
@@ -62,7 +63,8 @@ fn list_gone_at(
 ) -> Result<(), Memory>
     requires path { length path.now ≡ old.now.depth }
     requires new { IsAtDepth old.now.depth (option_copied new) }
-    ensures { OnOk result (IsStaleBelow version old.now (option_copied new.entry) → out.new.items ≡ out.old.items ++ listed_below old.now.depth n (content (option_copied new.entry)) old.now.entries (gone_below version path.now old.now)) }
+    ensures front { take (length out.old.items) out.new.items ≡ out.old.items }
+    ensures listed { OnOk result (IsStaleBelow version old.now (option_copied new.entry) → out.new.items ≡ out.old.items ++ listed_below old.now.depth n (content (option_copied new.entry)) old.now.entries (gone_below version path.now old.now)) }
 {
     match child_of(old, n) {
         None => Ok(()),
@@ -74,8 +76,8 @@ fn list_gone_at(
 }
 
 /// Appends the nodes of the version `head`, whose top is `old`, that the landing of `version` made stale: at least the old
-/// top.
-fn list_gone_under(
+/// top. If memory runs out, some of them may stand after what was there.
+fn list_gone_from(
     alloc: Global,
     old: Option<&Link>,
     head: u64,
@@ -87,7 +89,8 @@ fn list_gone_under(
     requires top { IsAtDepth 0 (option_copied top) }
     requires own { IsOfVersion version (option_copied top) }
     requires landed { IsStaleUnder version (option_copied old) (option_copied top) }
-    ensures { OnOk result (out.new.items ≡ out.old.items ++ with_root (content (option_copied top.entry)) (content (option_copied old.entry)) (gone_under version head (option_copied old.entry))) }
+    ensures front { take (length out.old.items) out.new.items ≡ out.old.items }
+    ensures listed { OnOk result (out.new.items ≡ out.old.items ++ with_root (content (option_copied top.entry)) (content (option_copied old.entry)) (gone_under version head (option_copied old.entry))) }
 {
     match old {
         None => {
@@ -102,8 +105,34 @@ fn list_gone_under(
     }
 }
 
+/// As `list_gone_from`; but if memory runs out, the list is unchanged.
+fn list_gone_under(
+    alloc: Global,
+    old: Option<&Link>,
+    head: u64,
+    top: Option<&Link>,
+    version: u64,
+    out: &mut Vec<(NodeName, PlainNode, u64)>,
+) -> Result<(), Memory>
+    requires old { IsAtDepth 0 (option_copied old) }
+    requires top { IsAtDepth 0 (option_copied top) }
+    requires own { IsOfVersion version (option_copied top) }
+    requires landed { IsStaleUnder version (option_copied old) (option_copied top) }
+    ensures listed { OnOk result (out.new.items ≡ out.old.items ++ with_root (content (option_copied top.entry)) (content (option_copied old.entry)) (gone_under version head (option_copied old.entry))) }
+    ensures refused { OnErr result (out.new.items ≡ out.old.items) }
+{
+    let before = out.len();
+    match list_gone_from(alloc, old, head, top, version, out) {
+        Ok(()) => Ok(()),
+        Err(Memory) => {
+            out.truncate(before);
+            Err(Memory)
+        }
+    }
+}
+
 /// Appends the nodes of `old` that the landing of `new` over it made stale, each with its name there and with the version
-/// of `new`.
+/// of `new`. If memory runs out, the list is unchanged.
 pub fn list_stale_nodes(
     alloc: Global,
     old: &Snapshot,
@@ -111,7 +140,8 @@ pub fn list_stale_nodes(
     out: &mut Vec<(NodeName, PlainNode, u64)>,
 ) -> Result<(), Memory>
     requires later { IsLaterSnapshot old.now new.now }
-    ensures { OnOk result (out.new.items ≡ out.old.items ++ gone_nodes old.now.map new.now.map old.now new.now.version) }
+    ensures listed { OnOk result (out.new.items ≡ out.old.items ++ gone_nodes old.now.map new.now.map old.now new.now.version) }
+    ensures refused { OnErr result (out.new.items ≡ out.old.items) }
 {
     old.know();
     list_gone_under(
@@ -126,7 +156,7 @@ pub fn list_stale_nodes(
 }
 
 /// Appends all nodes of a snapshot, each with its name there and with a number that is greater than the snapshot's
-/// version.
+/// version. If memory runs out, the list is unchanged.
 pub fn list_all_nodes(
     alloc: Global,
     snapshot: &Snapshot,
@@ -134,7 +164,8 @@ pub fn list_all_nodes(
     out: &mut Vec<(NodeName, PlainNode, u64)>,
 ) -> Result<(), Memory>
     requires later { snapshot.now.version < since }
-    ensures { OnOk result (out.new.items ≡ out.old.items ++ map (gone_node_in snapshot.now since) (nodes snapshot.now.map)) }
+    ensures refused { OnErr result (out.new.items ≡ out.old.items) }
+    ensures listed { OnOk result (out.new.items ≡ out.old.items ++ map (gone_node_in snapshot.now since) (nodes snapshot.now.map)) }
 {
     snapshot.know();
     let top = snapshot.top();

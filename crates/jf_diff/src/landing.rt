@@ -1,11 +1,15 @@
 // What a snapshot writes over an older one: the public call of this crate.
-ghost use Rattle.std.specs.Prelude.{◌≡◌, ◌≤◌, length, IfOk};
+ghost use Rattle.std.specs.Prelude.{◌≡◌, ◌↔◌, ◌<◌, ◌≤◌, length, IfOk, IsTrue};
+ghost use Rattle.std.specs.FinMap.{entries};
 ghost use Rattle.std.specs.List.Sorted.{IsPermutation};
+ghost use Rattle.jf_diff.specs.Changed.{ChangesSeveral};
 ghost use Rattle.jf_diff.specs.Landings.{IsNextOf, IsFreshCount, written_nodes, stale_names_in};
 
+use crate::changed::are_several;
 use crate::lists::Written;
 use crate::top::{fresh_of, stale_of};
-use crate::wide::{are_several, written_wide};
+use crate::wide::written_wide;
+use jf_join::Gate;
 use jf_node::Snapshot;
 use jf_path::Memory;
 use std::alloc::Global;
@@ -24,15 +28,26 @@ fn written_in_turn(alloc: Global, old: &Snapshot, new: &Snapshot) -> Result<Writ
     Ok(Written { fresh, stale })
 }
 
+/// Whether the lists are made in pieces: with more workers than one, if the landing changed nodes below more than one
+/// nibble.
+fn are_cut(old: &Snapshot, new: &Snapshot, workers: u64) -> bool
+    requires next { IsNextOf old.now new.now }
+    ensures { IsTrue result ↔ ((1 < workers) × ChangesSeveral (entries old.now.map) (entries new.now.map)) }
+{
+    old.know();
+    workers > 1 && are_several(old.top(), new.top(), new.version())
+}
+
 /// The nodes that the landing of `new` over `old` wrote, and the names of those of `old` that it made stale. With more
 /// workers than one, what is listed from the children at one nibble down is a piece of work, unless the landing changed
-/// nodes at one nibble alone.
-pub fn written<H: Threads + Sync>(
+/// nodes below one nibble alone; of the piece of nibble n the gate is told as of piece 16 + n.
+pub fn written<H: Threads + Sync, G: Gate>(
     rt: &H,
     alloc: Global,
     old: &Snapshot,
     new: &Snapshot,
     workers: u64,
+    gate: &G,
 ) -> Result<Written, Memory>
     requires positive { 1 ≤ workers }
     requires bounded { workers ≤ 64 }
@@ -41,13 +56,13 @@ pub fn written<H: Threads + Sync>(
     ensures stale { IfOk result (λ w. IsPermutation (stale_names_in old.now.map new.now.map old.now) w.stale) }
     ensures bound { IfOk result (λ w. IsFreshCount old.now new.now (length w.fresh)) }
 {
+    if !are_cut(old, new, workers) {
+        return written_in_turn(alloc, old, new);
+    }
     old.know();
     let was = old.top();
     let top = new.top();
     let version = new.version();
-    if workers == 1 || !are_several(was, top, version) {
-        return written_in_turn(alloc, old, new);
-    }
-    let lists = written_wide(rt, alloc, was, old.version(), top, version, workers)?;
+    let lists = written_wide(rt, alloc, was, old.version(), top, version, workers, gate)?;
     Ok(lists)
 }

@@ -2,6 +2,7 @@
 //! that it makes stale.
 #![tactic(auto)]
 
+mod changed;
 mod child;
 mod gone;
 mod landing;

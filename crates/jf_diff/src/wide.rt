@@ -14,36 +14,15 @@ ghost use Rattle.jf_diff.specs.PartLists.{ArePartLists, AreAllParts};
 ghost use Rattle.jf_diff.specs.Plains.{fresh_under};
 ghost use Rattle.jf_diff.specs.Tops.{IsFreshUnder, IsStaleUnder, WasLanded, old_name};
 
-use crate::child::{child_in, is_kept};
 use crate::lists::Written;
 use crate::parts::{PartLists, part_lists, top_lists};
 use crate::rising::rising_nodes;
 use crate::sorted::sorted_names;
-use jf_join::{FreeGate, join_pieces};
+use jf_join::{Gate, join_pieces_from};
 use jf_node::Link;
 use jf_path::{Memory, Nibble};
 use std::alloc::Global;
 use std::thread::Threads;
-
-/// Whether a landing wrote or made stale nodes below this nibble.
-fn is_changed(old: Option<&Link>, top: Option<&Link>, version: u64, n: Nibble) -> bool {
-    let child = child_in(top, n);
-    !is_kept(child, version) && (child.is_some() || child_in(old, n).is_some())
-}
-
-/// Whether a landing wrote or made stale nodes below more than one nibble.
-pub(crate) fn are_several(old: Option<&Link>, top: Option<&Link>, version: u64) -> bool {
-    let mut found = false;
-    for n in 0..16 {
-        if is_changed(old, top, version, Nibble::of(n)) {
-            if found {
-                return true;
-            }
-            found = true;
-        }
-    }
-    false
-}
 
 /// All nibbles, in their order.
 fn nibbles(alloc: Global) -> Result<Vec<Nibble>, Memory>
@@ -81,8 +60,11 @@ fn put_together(
     Ok(all)
 }
 
-/// The lists by at most this many workers.
-pub(crate) fn written_wide<H: Threads + Sync>(
+/// The number of the first piece of the lists, for a gate. The pieces of an update have the numbers below it.
+const FIRST_PIECE: u64 = 16;
+
+/// The lists by at most this many workers. The gate is told of the piece of nibble n as of piece 16 + n.
+pub(crate) fn written_wide<H: Threads + Sync, G: Gate>(
     rt: &H,
     alloc: Global,
     old: Option<&Link>,
@@ -90,6 +72,7 @@ pub(crate) fn written_wide<H: Threads + Sync>(
     top: Option<&Link>,
     version: u64,
     workers: u64,
+    gate: &G,
 ) -> Result<Written, Memory>
     requires positive { 1 ≤ workers }
     requires bounded { workers ≤ 64 }
@@ -107,7 +90,7 @@ pub(crate) fn written_wide<H: Threads + Sync>(
         requires { IsAtDepth 0 (option_copied old) × IsAtDepth 0 (option_copied top) }
         ensures { IfOk result (ArePartLists version (option_copied old.entry) (option_copied top.entry) n.now) }
     { part_lists(alloc, old, top, version, *n) };
-    let parts = join_pieces(rt, alloc, &nibbles, workers, &FreeGate, &work)?;
+    let parts = join_pieces_from(rt, alloc, &nibbles, FIRST_PIECE, workers, gate, &work)?;
     let PartLists { fresh, stale } = put_together(alloc, old, head, top, version, parts)?;
     let fresh = rising_nodes(alloc, fresh)?;
     let stale = sorted_names(alloc, stale)?;

@@ -208,7 +208,8 @@ impl Directory {
     {
         let head = self.newest();
         let snapshot = advance(rt, alloc, head, entries, hashes, workers, gate)?;
-        let Written { fresh, stale } = written(rt, alloc, head, &snapshot, workers)?;
+        let Written { fresh, stale } = written(rt, alloc, head, &snapshot, workers, gate)?;
+        // Ensures that the names rise.
         let _ = stale.as_slice();
         Ok(Update {
             root: snapshot.root(),

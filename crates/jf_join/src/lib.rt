@@ -6,4 +6,4 @@ mod gate;
 mod pieces;
 
 pub use gate::{FreeGate, Gate};
-pub use pieces::join_pieces;
+pub use pieces::{join_pieces, join_pieces_from};

@@ -26,13 +26,13 @@ pub fn join_pieces<H: Threads + Sync, T: Sync, R: Send + Drop, G: Gate, F: Fn(&T
     requires callable { TakesEach F.Fn f.now pieces.now }
     ensures { IfOk result (λ v. AnswersEach F.Fn f.now pieces.now v.items) }
 {
-    join_from(rt, alloc, pieces, 0, workers, gate, f)
+    join_pieces_from(rt, alloc, pieces, 0, workers, gate, f)
 }
 
-/// The results of pieces of which the first has the number `first`. Pieces and workers are halved at each step, and the
-/// halves are worked side by side; so the stack grows with the logarithm of the number of workers.
+/// As `join_pieces`, for pieces that are numbered from `first`. Pieces and workers are halved at each step, and the halves
+/// are worked side by side; so the stack grows with the logarithm of the number of workers.
 #[cycle(halves)]
-fn join_from<H: Threads + Sync, T: Sync, R: Send + Drop, G: Gate, F: Fn(&T) -> R + Sync>(
+pub fn join_pieces_from<H: Threads + Sync, T: Sync, R: Send + Drop, G: Gate, F: Fn(&T) -> R + Sync>(
     rt: &H,
     alloc: Global,
     pieces: &[T],
@@ -56,11 +56,11 @@ fn join_from<H: Threads + Sync, T: Sync, R: Send + Drop, G: Gate, F: Fn(&T) -> R
     let left = move || -> Result<Vec<R>, Memory>
         requires { IsSync H.row × IsSync T.row × IsSend R.row × IsSync G.row × IsSync F.row × (1 ≤ fewer) × (first + length front.now < 2 ^ 64) × TakesEach F.Fn f.now front.now }
         ensures { IfOk result (λ v. AnswersEach F.Fn f.entry.now front.entry.now v.items) }
-    { join_from(rt, alloc, front, first, fewer, gate, f) };
+    { join_pieces_from(rt, alloc, front, first, fewer, gate, f) };
     let right = move || -> Result<Vec<R>, Memory>
         requires { IsSync H.row × IsSync T.row × IsSend R.row × IsSync G.row × IsSync F.row × (1 ≤ others) × (middle + length back.now < 2 ^ 64) × TakesEach F.Fn f.now back.now }
         ensures { IfOk result (λ v. AnswersEach F.Fn f.entry.now back.entry.now v.items) }
-    { join_from(rt, alloc, back, middle, others, gate, f) };
+    { join_pieces_from(rt, alloc, back, middle, others, gate, f) };
     let (left, right) = join(rt, left, right);
     let mut answers = left?;
     let mut rest = right?;

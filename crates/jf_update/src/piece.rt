@@ -1,6 +1,6 @@
 // A piece of a list: the entries whose keys have one nibble, which stand one after another. Several workers take a piece
 // each.
-ghost use Rattle.std.specs.Prelude.{◌≡◌, ◌-◌, ◌<◌, ◌≤◌, ℕ, length, take, drop, IfOk};
+ghost use Rattle.std.specs.Prelude.{◌≡◌, ◌-◌, ◌*◌, ◌/◌, ◌<◌, ◌≤◌, ◌⊎◌, ℕ, length, take, drop, IfOk};
 ghost use Rattle.jf_model.specs.Parts.{IsPartUnder, IsPieceEnd};
 ghost use Rattle.std.specs.List.{AllByRecursion};
 ghost use Rattle.jf_split.specs.Pieces.{ArePieces};
@@ -50,12 +50,17 @@ pub(crate) fn pieces_in(
     pieces_of(alloc, entries, depth as usize)
 }
 
-/// The number of workers that each of so many pieces may have, if all of them have `workers`.
+/// The number of workers that each of so many pieces may have, if all of them have `workers`: one, or as many as all
+/// pieces may have at once.
 pub(crate) fn workers_each(workers: u64, pieces: usize) -> u64
     requires positive { 1 ≤ workers }
     requires bounded { workers ≤ 64 }
     ensures positive { 1 ≤ result }
     ensures bounded { result ≤ 64 }
+    ensures none { pieces ≡ 0 → result ≡ 1 }
+    ensures many { workers ≤ pieces → result ≡ 1 }
+    ensures few { 1 ≤ pieces → pieces < workers → result ≡ workers / pieces }
+    ensures shared { (result ≡ 1) ⊎ (result * pieces ≤ workers) }
 {
     let pieces = pieces as u64;
     if pieces == 0 || pieces >= workers {
@@ -71,6 +76,8 @@ pub(crate) fn workers_for(workers: u64, changes: usize) -> u64
     requires bounded { workers ≤ 64 }
     ensures positive { 1 ≤ result }
     ensures bounded { result ≤ 64 }
+    ensures few { changes ≤ 1024 → result ≡ 1 }
+    ensures many { 1024 < changes → result ≡ workers }
 {
     if changes > MOST_CHANGES { workers } else { 1 }
 }

@@ -54,7 +54,8 @@ pub fn advance<H: Threads + Sync, G: Gate>(
     Ok(snapshot)
 }
 
-/// The version after `head`, with the batch applied, the nodes that it writes and those that it makes stale.
+/// The version after `head`, with the batch applied, the nodes that it writes and those that it makes stale. The gate is
+/// told of the pieces of the update and of those of its lists.
 pub fn update<H: Threads + Sync, G: Gate>(
     rt: &H,
     alloc: Global,
@@ -71,7 +72,7 @@ pub fn update<H: Threads + Sync, G: Gate>(
     let entries = batch.as_slice();
     let hashes = value_hashes(rt, alloc, entries, workers)?;
     let snapshot = advance(rt, alloc, head, entries, &hashes, workers, gate)?;
-    let Written { fresh, stale } = written(rt, alloc, head, &snapshot, workers)?;
+    let Written { fresh, stale } = written(rt, alloc, head, &snapshot, workers, gate)?;
     Ok(Update {
         root: snapshot.root(),
         fresh,

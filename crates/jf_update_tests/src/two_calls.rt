@@ -49,7 +49,7 @@ fn in_two_calls<H: Threads + Sync>(
     let entries = batch.as_slice();
     let hashes = value_hashes(rt, alloc, entries, 1)?;
     let snapshot = advance(rt, alloc, head, entries, &hashes, 1, &FreeGate)?;
-    let lists = written(rt, alloc, head, &snapshot, 1)?;
+    let lists = written(rt, alloc, head, &snapshot, 1, &FreeGate)?;
     Ok(Box::new(alloc, Landed { snapshot, lists })?)
 }
 

@@ -39,7 +39,7 @@ fn many(alloc: Global, numbers: (u32, u32), narrow: bool) -> Result<Batch, Batch
 }
 
 // Lands a batch as the next version.
-fn next<H: Threads + Sync, G: Gate>(
+pub(crate) fn next<H: Threads + Sync, G: Gate>(
     rt: &H,
     alloc: Global,
     head: &Snapshot,
@@ -108,7 +108,10 @@ fn no_number_of_workers_changes_a_root(rt: HostRuntime) -> Result<(), Fail> {
     Ok(())
 }
 
-// Notes which pieces it is told of.
+// The pieces of an update have the numbers below this one, and those of its lists the numbers from here on.
+pub(crate) const LISTS: u64 = 16;
+
+// Notes of which pieces of the update it is told.
 #[derive(Drop)]
 struct Told {
     first: AtomicU64,
@@ -137,7 +140,7 @@ impl Gate for Told {
             self.first.store(1, SeqCst);
         } else if piece == 1 {
             self.second.store(1, SeqCst);
-        } else {
+        } else if piece < LISTS {
             self.more.store(1, SeqCst);
         }
     }
@@ -146,20 +149,20 @@ impl Gate for Told {
 }
 
 // The byte that a key is made of, and the byte put as its value.
-type Put = (u8, u8);
+pub(crate) type Put = (u8, u8);
 
 // Two keys with different first nibbles.
-const TWO: &[Put] = &[(0x10, b'a'), (0xa0, b'b')];
+pub(crate) const TWO: &[Put] = &[(0x10, b'a'), (0xa0, b'b')];
 
 // What is there before they are put: nothing, the leaf of one of them, a leaf with another first nibble, both.
-const BEFORE: &[&[Put]] = &[
+pub(crate) const BEFORE: &[&[Put]] = &[
     &[],
     &[(0x10, b'c')],
     &[(0x55, b'c')],
     &[(0x10, b'c'), (0xa0, b'c')],
 ];
 
-fn batch_of(alloc: Global, puts: &[Put]) -> Result<Batch, BatchFault> {
+pub(crate) fn batch_of(alloc: Global, puts: &[Put]) -> Result<Batch, BatchFault> {
     let mut batch = Batch::new(alloc);
     for (key, byte) in puts {
         batch.put(alloc, &[*key; 32], &[*byte])?;
@@ -168,7 +171,11 @@ fn batch_of(alloc: Global, puts: &[Put]) -> Result<Batch, BatchFault> {
 }
 
 // The version with these entries.
-fn version_of<H: Threads + Sync>(rt: &H, alloc: Global, before: &[Put]) -> Result<Snapshot, Fail> {
+pub(crate) fn version_of<H: Threads + Sync>(
+    rt: &H,
+    alloc: Global,
+    before: &[Put],
+) -> Result<Snapshot, Fail> {
     let batch = batch_of(alloc, before)?;
     let landed = next(rt, alloc, &Snapshot::empty(0), &batch, 1, &FreeGate)?;
     Ok(snapshot_of(landed))

@@ -4,4 +4,6 @@
 #[cfg(test)]
 mod by_workers;
 #[cfg(test)]
+mod lists;
+#[cfg(test)]
 mod versions;

@@ -1,4 +1,4 @@
-use Rattle.std.proofs.Common.{◌≡◌, ◌-◌, ◌+◌, ◌*◌, ◌++◌}
+use Rattle.std.proofs.Common.{◌≡◌, ◌-◌, ◌+◌, ◌*◌, ◌++◌, length, take}
 use Rattle.std.specs.Option.{option_copied}
 use Rattle.jf_node.specs.Children.{content}
 use Rattle.jf_walk.proofs.WalkLaws.{listed_to}
@@ -13,4 +13,7 @@ abbrev pub decreases-list_gone_at : goal.decreases-list_gone_at
 decreases-list_gone_at l = 2 * (64 - l.old.now.depth) + 1
 
 abbrev pub invariant-list_gone-loop-n : goal.invariant-list_gone-loop-n
-invariant-list_gone-loop-n l = IsStaleBelow l.version l.old (option_copied l.new) → l.out.items ≡ l.fn.out.items ++ listed_to l.old.depth l.n (content (option_copied l.new)) l.old.entries (gone_below l.version l.path l.old)
+invariant-list_gone-loop-n l = record {
+  front : take (length l.fn.out.items) l.out.items ≡ l.fn.out.items;
+  listed : IsStaleBelow l.version l.old (option_copied l.new) → l.out.items ≡ l.fn.out.items ++ listed_to l.old.depth l.n (content (option_copied l.new)) l.old.entries (gone_below l.version l.path l.old);
+}

@@ -9,4 +9,4 @@ pub returns : goal.returns
 returns c =
     let newest = c.newest.result.now in
     listed-head c.args.directory.now c.know.ensures.sound newest _ c.know.ensures.read c.newest.ensures
-    (c.in_ok-list_all_nodes.ensures ∙ ap (λ out. out ++ map (gone_node_in newest never) (nodes newest.map)) c.requires.empty)
+    (c.in_ok-list_all_nodes.ensures.listed ∙ ap (λ out. out ++ map (gone_node_in newest never) (nodes newest.map)) c.requires.empty)

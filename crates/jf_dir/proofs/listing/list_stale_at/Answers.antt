@@ -9,4 +9,4 @@ list_stale_nodes-requires c = record {
 pub returns : goal.returns
 returns c =
     listed-next c.args.directory.now c.know.ensures.sound c.args.version c.in-Some-Some.old.now c.in-Some-Some.new.now c.requires.low c.requires.high c.in-Some-Some.ensures.snapshot c.in-Some-Some.ensures'.snapshot c.know.ensures.read
-    _ _ c.requires.listed c.in_ok-list_stale_nodes-in-Some-Some.ensures
+    _ _ c.requires.listed c.in_ok-list_stale_nodes-in-Some-Some.ensures.listed

@@ -1,8 +1,8 @@
 use Rattle.std.proofs.Common.{◌+◌, ◌*◌}
 use Rattle.jf_join.proofs.pieces.+halves.Given as goal
 
-abbrev pub decreases-join_from : goal.decreases-join_from
-decreases-join_from g l = 2 * l.workers
+abbrev pub decreases-join_pieces_from : goal.decreases-join_pieces_from
+decreases-join_pieces_from g l = 2 * l.workers
 
 abbrev pub decreases-left : goal.decreases-left
 decreases-left g l = 2 * l.fewer + 1
