@@ -20,7 +20,7 @@ use Rattle.jf_files.specs.Files.{item, items, LeadToStanding, LeadTo, StandsFor,
 use Rattle.jf_files.proofs.Judging.{are_read}
 
 -- one more record leads on
-leads_on : (fmt : Format) (xs : List Item) (s a b : Standing) (y : Item) → Leads fmt s xs a → ItemFollows fmt a y b → Leads fmt s (xs ++ y ∷ []) b
+pub leads_on : (fmt : Format) (xs : List Item) (s a b : Standing) (y : Item) → Leads fmt s xs a → ItemFollows fmt a y b → Leads fmt s (xs ++ y ∷ []) b
 leads_on fmt [] s a b y is next = (b, subst (λ m. ItemFollows fmt m y b) is next, refl)
 leads_on fmt (x ∷ xs) s a b y is next = (is.0, is.1, leads_on fmt xs is.0 a b y is.2 next)
 

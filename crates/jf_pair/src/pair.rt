@@ -6,7 +6,7 @@ ghost use Rattle.jf_disk.specs.declared.side.Side.{Side};
 ghost use Rattle.jf_frame.specs.Framed.{Framed};
 ghost use Rattle.jf_frame.specs.Framing.{IsFrame, number_of};
 ghost use Rattle.jf_frame.specs.Logs.{framed};
-ghost use Rattle.jf_pair.specs.Files.{HoldsLive, is_checkpoint, generation_of, outer_damage};
+ghost use Rattle.jf_pair.specs.Files.{HoldsLive, is_begun, is_checkpoint, generation_of, outer_damage};
 ghost use Rattle.jf_pair.specs.Pairs.{IsInStep, StopsBetween, read_by};
 
 use crate::checkpoint::write_first;
@@ -52,6 +52,7 @@ impl Pair {
         ensures first { IfOk result (λ r. r.0.is_live ≡ false → r.0.side ≡ Side.B) }
         ensures sound { IfOk result (λ r. r.0.failed ≡ false) }
         ensures log { IfOk result (λ r. IfSome r.1 (λ log. (log.side ≡ r.0.side) × (log.offset ≡ r.0.offset) × (log.failed ≡ false))) }
+        ensures begun { IfOk result (λ r. IfSome r.1 (λ log. (is_begun log.records ≡ true) × (0 < length log.records))) }
         ensures damaged { (h : History) (side : Side) (at : ℕ) → D.history disk.old ≡ Some h → result ≡ Err (PairFault.Damaged side at) → outer_damage (reads h) ≡ Some (side, at) }
         ensures left { (h : History) → D.history disk.old ≡ Some h → (g : History) × (D.history disk.new ≡ Some g) × LeavesFiles h g }
         ensures calls { CallsOn (D.history disk.old) (D.moment disk.old) (D.faults disk.old) (D.history disk.new) (D.moment disk.new) (D.faults disk.new) (result ≡ Err PairFault.DiskFault) }
@@ -154,7 +155,7 @@ fn pair_of(alloc: Global, live: Log, other: Log) -> (Pair, Option<Log>)
     ensures records { read_by result.1 ≡ live.records }
     ensures some { (result.0.is_live ≡ true) ↔ (0 < length live.records) }
     ensures none { (result.1 ≡ None) ↔ (result.0.is_live ≡ false) }
-    ensures log { IfSome result.1 (λ log. log ≡ live) }
+    ensures log { IfSome result.1 (λ log. (log ≡ live) × (0 < length log.records)) }
 {
     let is_live = live.count() > 0;
     let pair = Pair {
