@@ -319,7 +319,6 @@ impl<D: Disk> Session<D> {
             Ok(batch) => batch,
             Err(Memory) => return Err(Stop::Memory),
         };
-        self.engine.know();
         let _ = batch.as_slice();
         match self.engine.land(rt, alloc, &batch, workers, gate) {
             Ok(landed) => {
