@@ -49,6 +49,10 @@ module _ (s : State) (es : List Entry) (owner version moment : ℕ) (b : Batch) 
   unfolding replay after
   replayed_more = ap (λ (t : State). t.all) (replay-append s es (x ∷ []))
 
+  generation_more : (replay s es').generation ≡ (replay s es).generation
+  unfolding replay after
+  generation_more = ap (λ (t : State). t.generation) (replay-append s es (x ∷ []))
+
   whole_front : take (length es') es' ≡ es'
   whole_front = take_all (length es') es' (le_refl (length es'))
 
@@ -128,10 +132,11 @@ outlasts_landing s h g k es owner version moment b r o step dated later =
       settled = record {
         stands = subst (λ (v : Versions). StandsFor (reads k) v) (sym (replayed_more s es owner version moment b r)) step.stands;
         leaves = λ f i. subst (λ (v : Versions). StandsFor f v) (sym (replayed_more s es owner version moment b r)) (step.leaves f i);
+        generation_is = step.generation_of ∙ o.settled.generation_is ∙ sym (generation_more s es owner version moment b r);
       };
     }
 
 -- a settled history that goes no further outlasts no entries
-pub outlasts_none : (s : State) (h : History) → IsSettledOn h s.all → Outlasts s h h []
+pub outlasts_none : (s : State) (h : History) → IsSettledOn h s.all s.generation → Outlasts s h h []
 unfolding replay
 outlasts_none s h settled = record { more = []; grows = refl; covered = tt; settled = settled }

@@ -1,5 +1,5 @@
 -- A push for which there is room.
-use Rattle.std.proofs.Common.{◌≡◌, ◌⊎◌, inl, inr, ℕ, ◌<◌, ◌≤◌, Bool, true, false, Result, Ok, Err, List, [], ◌∷◌, ◌++◌, eq-or-lt_of_le}
+use Rattle.std.proofs.Common.{◌≡◌, ◌⊎◌, inl, inr, ℕ, ◌+◌, ◌<◌, ◌≤◌, Bool, true, false, Result, Ok, Err, List, [], ◌∷◌, ◌++◌, arith}
 use Rattle.std.specs.Prelude.{is_ok, IsOk, if◌then◌else◌}
 use Rattle.std.proofs.lemmas.Bool.Decides.{leb_tells}
 
@@ -12,8 +12,8 @@ pub whole_of : (over broken : Bool) → (over ≡ true) ⊎ (broken ≡ false) �
 whole_of over broken (inl e) no_over = absurd (cc)
 whole_of over broken (inr e) no_over = e
 
-pub below_last : (n m : ℕ) → n ≤ m → (n ≡ m → ⊥) → n < m
-below_last n m le ne = elim (eq-or-lt_of_le le) [ inl e ↦ absurd (ne e) | inr lt ↦ lt ]
-
 pub not_above : (n m : ℕ) → (m < n → ⊥) → n ≤ m
 not_above n m no_more = elim (leb_tells n m) [ inl le ↦ le.1 | inr lt ↦ absurd (no_more lt.1) ]
+
+pub below_last : (n m : ℕ) → (m < n + 1 → ⊥) → n < m
+below_last n m no_more = omega (arith, not_above (n + 1) m no_more)

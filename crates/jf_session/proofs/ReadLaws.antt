@@ -131,11 +131,9 @@ some_so P (Some y) x v h e = let same : y ≡ x = cc in sym same ∙ h.1
 some_so P None x v h e = absurd (cc)
 
 -- ---- as the code finds it: the versions are those of the session, and what is read stands in them
-pub get-value : (s : Session) (v : Versions) (b : Base) (name : List ℕ) (w : ℕ) (k : List ℕ) (x : Option (List ℕ)) → v ≡ s.state.all → read_refusal s b ≡ None → base_map s.state s.own b ≡ map_of s.state.all w
-    → k ≡ K name → x ≡ get (map_of v w) k → reply.Value x ≡ (get_answer s b name).reply
-get-value s v b name w k x is read map key at =
-    ap reply.Value (at ∙ ap (λ (u : Versions). get (map_of u w) k) is ∙ ap (λ (m : Map). get m k) (sym map) ∙ ap (λ k. get (base_map s.state s.own b) k) key)
-    ∙ ap (λ (a : Answer). a.reply) (sym (get-read s b name read))
+pub get-value : (s : Session) (b : Base) (name : List ℕ) (m : Map) (k : List ℕ) (x : Option (List ℕ)) → read_refusal s b ≡ None → m ≡ base_map s.state s.own b → k ≡ K name → x ≡ get m k → reply.Value x ≡ (get_answer s b name).reply
+get-value s b name m k x read is key at =
+    ap reply.Value (at ∙ ap (λ (m : Map). get m k) is ∙ ap (λ k. get (base_map s.state s.own b) k) key) ∙ ap (λ (a : Answer). a.reply) (sym (get-read s b name read))
 
 pub root-value : (s : Session) (v : Versions) (b : Base) (w : ℕ) (o : Option (List ℕ)) (r : List ℕ) → v ≡ s.state.all → IsVersions v → read_refusal s b ≡ None → base_map s.state s.own b ≡ map_of s.state.all w
     → (s.state.all.floor ≤ w) × (w ≤ s.state.all.head) → SomeIff o ((v.base ≤ w) × (w ≤ v.head)) (root_of v w) → o ≡ Some r → reply.Root r ≡ (root_answer s b).reply

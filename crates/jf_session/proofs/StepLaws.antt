@@ -51,6 +51,7 @@ set_count e es p q over name o room is =
 -- the version, root and moment that a landing returns
 pub record IsAnswer (e e' : Engine) (p : Batch) (version moment : ℕ) (r : List ℕ) : Type 0 where
   pub versions : e'.versions ≡ landed p e.versions
+  pub generation : e'.generation ≡ e.generation
   pub version_is : version ≡ e'.versions.head
   pub root_is : r ≡ root (newest e'.versions)
   pub moment_is : moment ≡ e'.moment
@@ -61,11 +62,15 @@ entry_of_landing e p = entry.Landed 0 (e.versions.head + 1) (landing.Direct p) (
 pub legal_landing : (e : Engine) (es : List Entry) (p : Batch) (over : Bool) → IsBatch p → length es < 2 ^ 62 → e.versions.head < 2 ^ 64 - 2 → len (newest e.versions) ≤ 2 ^ 62 → IsLegal (session_on e es p over).state (entry_of_landing e p)
 legal_landing e es p over sound room more small = (room, record { may = sound; small = small; next = refl; bounded = omega arith; rooted = refl })
 
-landed_state : (e : Engine) (v : Versions) (es : List Entry) (x : Entry) (p : Batch) (over : Bool) (mo fa : ℕ) (hi : Option History) (br : Bool) → v ≡ landed p e.versions
-    → (session_on (record { history = hi; moment = mo; faults = fa; versions = v; broken = br }) (es ++ x ∷ []) [] over).state ≡ after (entry_of_landing e p) (session_on e es p over).state
+-- the state of a store with these versions, this generation and n entries
+abbrev state_with : Versions → ℕ → ℕ → State
+state_with v g n = record { all = v; floor = v.floor; retired = v.floor; generation = g; count = n; made = 0; forks = [] }
+
+landed_state : (e e' : Engine) (es : List Entry) (x : Entry) (p : Batch) (over : Bool) → e'.versions ≡ landed p e.versions → e'.generation ≡ e.generation
+    → (session_on e' (es ++ x ∷ []) [] over).state ≡ after (entry_of_landing e p) (session_on e es p over).state
 unfolding after
-landed_state e v es x p over mo fa hi br is =
-    ap₂ (λ (v : Versions) (n : ℕ). let s : State = record { all = v; floor = v.floor; retired = v.floor; generation = 1; count = n; made = 0; forks = [] } in s) is (length_push es x)
+landed_state e e' es x p over versions generation =
+    ap₂ (λ (v : Versions) (g : ℕ). state_with v g (length (es ++ x ∷ []))) versions generation ∙ ap (state_with (landed p e.versions) e.generation) (length_push es x)
 
 landed_entry : (e e' : Engine) (p : Batch) (version moment : ℕ) (r : List ℕ) → IsAnswer e e' p version moment r → entry.Landed 0 version (landing.Direct p) r moment ≡ entry.Landed 0 (e.versions.head + 1) (landing.Direct p) (root (apply (newest e.versions) p)) e'.moment
 landed_entry e e' p version moment r a =
@@ -84,7 +89,7 @@ commit_does e e' es p over version moment r room more small room' more' small' s
     let x = entry.Landed 0 version (landing.Direct p) r moment in
     let t = session_on e' (es ++ x ∷ []) [] over in
     let done : Does s t (committed s.state s.own) = record {
-      state = landed_state e e'.versions es x p over e'.moment e'.faults e'.history e'.broken a.versions;
+      state = landed_state e e' es x p over a.versions a.generation;
       own = refl;
       entries = ap (λ y. es ++ y ∷ []) (landed_entry e e' p version moment r a);
       legal = legal_landing e es p over sound room' more' small';
@@ -101,16 +106,16 @@ commit_reply e e' es p over version moment r room more small a =
 pub commit_tries : (e e' : Engine) (es : List Entry) (p : Batch) (over over' : Bool)
     → nat_le (2 ^ 62) (length es) ≡ false → nat_le (2 ^ 64 - 2) e.versions.head ≡ false → nat_lt (2 ^ 62) (len (newest e.versions)) ≡ false
     → length es < 2 ^ 62 → e.versions.head < 2 ^ 64 - 2 → len (newest e.versions) ≤ 2 ^ 62 → IsBatch p
-    → e'.versions ≡ e.versions → HasCause e.faults e'.faults → e.moment ≤ e'.moment → e.faults ≤ e'.faults
+    → e'.versions ≡ e.versions → e'.generation ≡ e.generation → HasCause e.faults e'.faults → e.moment ≤ e'.moment → e.faults ≤ e'.faults
     → ((h : History) → e.history ≡ Some h → (g : History) × (e'.history ≡ Some g) × StopsWell (Lands (p ∷ [])) h g e.versions)
     → Tries (session_on e es p over) (session_on e' es p over') (commit_answer (session_on e es p over))
-commit_tries e e' es p over over' room more small room' more' small' sound same rose moment faults disk =
+commit_tries e e' es p over over' room more small room' more' small' sound same generation rose moment faults disk =
     let s = session_on e es p over in
     record {
       attempt = entry_of_landing e p;
       tried = ap (λ (a : Answer). a.entry) (commit-done s.state s.own room more small);
       legal = legal_landing e es p over sound room' more' small';
-      state = ap (λ (v : Versions). let s : State = record { all = v; floor = v.floor; retired = v.floor; generation = 1; count = length es; made = 0; forks = [] } in s) same;
+      state = ap₂ (λ (v : Versions) (g : ℕ). state_with v g (length es)) same generation;
       own = refl;
       entries = refl;
       rose = rose;
@@ -180,7 +185,7 @@ module _ (e : Engine) (es : List Entry) (p : Batch) (over : Bool) (s : Session) 
 
   -- one version more doesn't fit, or the head's map is too large
   abbrev IsNoMore : Type 0
-  IsNoMore = (e.versions.head ≡ 2 ^ 64 - 2) ⊎ (2 ^ 62 < len (newest e.versions))
+  IsNoMore = (2 ^ 64 - 2 < e.versions.head + 1) ⊎ (2 ^ 62 < len (newest e.versions))
 
   no_more : IsNoMore → commit_answer old ≡ replied (reply.No refusal.Last) old.state old.own
   no_more (inl last) = commit-head old.state old.own (above_test e.versions.head (2 ^ 64 - 2) (omega arith))
@@ -206,9 +211,9 @@ module _ (e : Engine) (es : List Entry) (p : Batch) (over : Bool) (s : Session) 
   landed_reply e' version moment r room more small a =
       commit_reply e e' es p over version moment r (below_test (length es) (2 ^ 62) room) (below_test e.versions.head (2 ^ 64 - 2) more) (small_test (len (newest e.versions)) (2 ^ 62) small) a ∙ ap (λ (t : Session). (commit_answer t).reply) is
 
-  pub fault_tries : (e' : Engine) (es' : List Entry) (over' : Bool) → es' ≡ es → length es < 2 ^ 62 → e.versions.head < 2 ^ 64 - 2 → len (newest e.versions) ≤ 2 ^ 62 → IsBatch p → e'.versions ≡ e.versions → HasCause e.faults e'.faults → e.moment ≤ e'.moment → e.faults ≤ e'.faults
+  pub fault_tries : (e' : Engine) (es' : List Entry) (over' : Bool) → es' ≡ es → length es < 2 ^ 62 → e.versions.head < 2 ^ 64 - 2 → len (newest e.versions) ≤ 2 ^ 62 → IsBatch p → e'.versions ≡ e.versions → e'.generation ≡ e.generation → HasCause e.faults e'.faults → e.moment ≤ e'.moment → e.faults ≤ e'.faults
       → ((h : History) → e.history ≡ Some h → (g : History) × (e'.history ≡ Some g) × StopsWell (Lands (p ∷ [])) h g e.versions) → Tries s (session_on e' es' p over') (commit_answer s)
-  fault_tries e' es' over' kept room more small sound same rose moment faults disk =
+  fault_tries e' es' over' kept room more small sound same generation rose moment faults disk =
       subst (λ es'. Tries s (session_on e' es' p over') (commit_answer s)) (sym kept)
       (subst (λ t. Tries t (session_on e' es p over') (commit_answer t)) is
-      (commit_tries e e' es p over over' (below_test (length es) (2 ^ 62) room) (below_test e.versions.head (2 ^ 64 - 2) more) (small_test (len (newest e.versions)) (2 ^ 62) small) room more small sound same rose moment faults disk))
+      (commit_tries e e' es p over over' (below_test (length es) (2 ^ 62) room) (below_test e.versions.head (2 ^ 64 - 2) more) (small_test (len (newest e.versions)) (2 ^ 62) small) room more small sound same generation rose moment faults disk))

@@ -1,6 +1,5 @@
 // The commands that read: in the head, and in every version from the retired bound on.
 ghost use Rattle.std.specs.Prelude.{◌≡◌, ◌≤◌, ◌++◌, Some, None, Err, IfOk, IfErr, OnOk, OnErr};
-ghost use Rattle.std.specs.FinMap.{get};
 ghost use Rattle.std.specs.Option.{option_copied};
 ghost use Rattle.jf_model.specs.Versions.{map_of};
 ghost use Rattle.jf_answers.specs.Refusals.{base_map};
@@ -11,7 +10,7 @@ use crate::session::Session;
 use crate::stop::Stop;
 use jf_disk::Disk;
 use jf_hash::key_of;
-use jf_path::{Bytes, Key, Memory};
+use jf_path::{Bytes, Memory};
 use jf_range::RangeAsk;
 use jf_script::{Base, Refusal, Reply};
 use std::alloc::Global;
@@ -27,7 +26,8 @@ impl<D: Disk> Session<D> {
             Ok(version) => version,
             Err(why) => return Ok(Reply::No(why)),
         };
-        match copied(alloc, self.value_of(version, &key_of(name))) {
+        let snapshot = self.engine.at(version).unwrap();
+        match copied(alloc, snapshot.get(&key_of(name))) {
             Ok(value) => Ok(Reply::Value { value }),
             Err(Memory) => Err(Stop::Memory),
         }
@@ -98,15 +98,6 @@ impl<D: Disk> Session<D> {
             Err(RangeAsk::Beyond(number)) => Ok(Reply::No(Refusal::Range(number))),
             Err(RangeAsk::Memory) => Err(Stop::Memory),
         }
-    }
-
-    // The value of a key in a version from floor to head, or `None` if that version does not have the key.
-    fn value_of(&self, version: u64, key: &Key) -> Option<&[u8]>
-        requires floor { self.now.state.all.floor ≤ version }
-        requires head { version ≤ self.now.state.all.head }
-        ensures { option_copied result ≡ get (map_of self.now.state.all version) key.now }
-    {
-        self.engine.at(version)?.get(key)
     }
 
     // The version that a base names, or why it isn't read.

@@ -18,7 +18,7 @@ ghost use Rattle.jf_script.specs.Bounds.{IsBoundedCommand};
 use crate::answer::write_answer;
 use crate::stop::Stop;
 use jf_disk::Disk;
-use jf_engine::{Engine, EngineFault, Landed, OpenRefused, EngineMemory};
+use jf_engine::{Engine, EngineFault, EngineMemory, Landed, OpenRefused};
 use jf_hash::key_of;
 use jf_join::Gate;
 use jf_model::{Entry, Landing, Ledger};
@@ -316,7 +316,6 @@ impl<D: Disk> Session<D> {
             Ok(batch) => batch,
             Err(Memory) => return Err(Stop::Memory),
         };
-        self.engine.know();
         let _ = batch.as_slice();
         match self.engine.land(rt, alloc, &batch, workers, gate) {
             Ok(landed) => {
@@ -334,12 +333,13 @@ impl<D: Disk> Session<D> {
                     root,
                 })
             }
-            Err(EngineFault::Last(_) | EngineFault::NotEmpty(_)) => Ok(Reply::No(Refusal::Last)),
+            Err(EngineFault::Last(_)) => Ok(Reply::No(Refusal::Last)),
             Err(EngineFault::DiskFault) => {
                 self.over = true;
                 Err(Stop::DiskFault)
             }
             Err(EngineFault::Broken) => Err(Stop::Broken),
+            Err(EngineFault::NotEmpty(_)) => unreachable!(),
             Err(EngineFault::Memory) => Err(Stop::Memory),
         }
     }

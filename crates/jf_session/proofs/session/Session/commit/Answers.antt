@@ -20,8 +20,8 @@ returns-in-Ok-land-clause-ok g c =
     let same : c.in-Ok.batch ≡ i.pending = c.in-Ok.ensures in
     let f = c.in-Ok-land.ensures in
     landed_does i.engine i.entries.items i.pending i.over c.args.self.now c.self.view_is c.land.new.self _ _ c.in-Ok-land.landed.version c.in-Ok-land.landed.moment c.in-Ok-land.landed.root
-    (omega arith) (below_last _ _ c.know.ensures.head (λ last. absurd (let e = f.last.1 (whole, last) in cc))) f.small (subst IsBatch same c.as_slice.ensures.sound)
-    (record { versions = f.landed ∙ ap (λ b. landed b i.engine.versions) same; version_is = f.answer.0; root_is = f.answer.1; moment_is = f.answer.2 })
+    (omega arith) (below_last _ _ (λ last. absurd (let e = f.last.1 (whole, last) in cc))) f.small (subst IsBatch same c.as_slice.ensures.sound)
+    (record { versions = f.landed ∙ ap (λ b. landed b i.engine.versions) same; generation = f.generation; version_is = f.answer.0; root_is = f.answer.1; moment_is = f.answer.2 })
     (omega (arith, f.four)) f.counts.1
     (subst (λ b. (h : History) → i.engine.history ≡ Some h → (h' : History) × (c.land.new.self.history ≡ Some h') × Succeeds (Lands (b ∷ [])) h h' i.engine.versions) same f.succeeds)
     (pushed c.push.result _ _ _ c.push.ensures.items (c.push.ensures.succeeds room)
@@ -34,8 +34,8 @@ returns-in-Ok-land-clause-reply g c =
     let whole = whole_of i.over i.engine.broken c.self.invariant (ap (λ (s : Session). s.over) c.self.view_is ∙ c.requires.over) in
     let f = c.in-Ok-land.ensures in
     landed_reply i.engine i.entries.items i.pending i.over c.args.self.now c.self.view_is c.land.new.self c.in-Ok-land.landed.version c.in-Ok-land.landed.moment c.in-Ok-land.landed.root
-    (omega arith) (below_last _ _ c.know.ensures.head (λ last. absurd (let e = f.last.1 (whole, last) in cc))) f.small
-    (record { versions = f.landed ∙ ap (λ b. landed b i.engine.versions) c.in-Ok.ensures; version_is = f.answer.0; root_is = f.answer.1; moment_is = f.answer.2 })
+    (omega arith) (below_last _ _ (λ last. absurd (let e = f.last.1 (whole, last) in cc))) f.small
+    (record { versions = f.landed ∙ ap (λ b. landed b i.engine.versions) c.in-Ok.ensures; generation = f.generation; version_is = f.answer.0; root_is = f.answer.1; moment_is = f.answer.2 })
 
 pub returns-in-Err-Last-clause-ok : goal.returns-in-Err-Last-clause-ok
 returns-in-Err-Last-clause-ok g c =
@@ -65,7 +65,7 @@ returns-in-Err-DiskFault-clause-fault g c = λ e.
     let same : c.in-Ok.batch ≡ i.pending = c.in-Ok.ensures in
     let whole = whole_of i.over i.engine.broken c.self.invariant (ap (λ (s : Session). s.over) c.self.view_is ∙ c.requires.over) in
     fault_tries i.engine i.entries.items i.pending i.over c.args.self.now c.self.view_is c.land.new.self _ true c.reserve.ensures.items
-    (omega arith) (below_last _ _ c.know.ensures.head (λ last. absurd (let e = f.last.1 (whole, last) in cc)))
-    (not_above _ _ (λ large. absurd (let e = f.keys.1 (whole, (λ last. absurd (let e = f.last.1 (whole, last) in cc)), large) in cc))) (subst IsBatch same c.as_slice.ensures.sound)
-    f.same (f.fault (ap (λ e. Err e) c.in-Err-DiskFault.field-0-is)) f.counts.0 f.counts.1
+    (omega arith) (below_last _ _ (λ last. absurd (let e = f.last.1 (whole, last) in cc)))
+    (not_above _ _ (λ large. absurd (let e = f.keys.1 (whole, not_above _ _ (λ last. absurd (let e = f.last.1 (whole, last) in cc)), large) in cc))) (subst IsBatch same c.as_slice.ensures.sound)
+    f.same f.generation (f.fault (ap (λ e. Err e) c.in-Err-DiskFault.field-0-is)) f.counts.0 f.counts.1
     (subst (λ b. (h : History) → i.engine.history ≡ Some h → (h' : History) × (c.land.new.self.history ≡ Some h') × StopsWell (Lands (b ∷ [])) h h' i.engine.versions) same (λ h told. f.stops h told (ap (λ e. Err e) c.in-Err-DiskFault.field-0-is)))
