@@ -1,6 +1,8 @@
 // Scripts over a disk in memory: what is written, what the files hold, and how the run ends.
 use jf_disk::{Disk, MemDisk, Side};
-use jf_play::files::{CHECKPOINT, END, File, LANDING, LANDING_OF_NOTHING, LANDING_OF_TWO, bytes_of};
+use jf_play::files::{
+    CHECKPOINT, END, File, LANDING, LANDING_OF_NOTHING, LANDING_OF_TWO, bytes_of,
+};
 use jf_play::play::{Faults, NO_FAULTS, Played, answers, has_ended, is_told, new_disk, play};
 use jf_play::roots::with_roots;
 use jf_run::status::Status;
@@ -113,7 +115,13 @@ fn a_store_is_opened_where_it_stood(rt: HostRuntime) -> Result<(), Fail> {
     let alloc = rt.alloc();
     let disk = landed(&rt, alloc)?;
     let disk = landed_again(&rt, alloc, disk)?;
-    assert!(rt; holds(alloc, &disk, &[CHECKPOINT, LANDING, LANDING_OF_NOTHING, END])?);
+    assert!(rt;
+        holds(
+            alloc,
+            &disk,
+            &[CHECKPOINT, LANDING, LANDING_OF_NOTHING, END]
+        )?
+    );
     Ok(())
 }
 
