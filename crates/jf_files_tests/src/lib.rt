@@ -1,9 +1,7 @@
-//! Tests of gated files, of names and nodes in bytes, and of records.
+//! Tests of gated files, and of names and nodes in bytes.
 #![tactic(auto)]
 
 #[cfg(test)]
 mod frames;
 #[cfg(test)]
 mod nodes;
-#[cfg(test)]
-mod records;

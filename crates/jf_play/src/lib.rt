@@ -1,5 +1,7 @@
-//! Shared by the tests of the top call: runs over disks, sources and sinks in memory, and roots of small maps.
+//! Shared by the tests of the top call: runs over disks, sources and sinks in memory, files byte by byte, and roots of small
+//! maps.
 #![tactic(auto)]
 
+pub mod files;
 pub mod play;
 pub mod roots;

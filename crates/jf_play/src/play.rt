@@ -45,7 +45,7 @@ pub fn disk_of(alloc: Global, a: &[u8], b: &[u8], failing: &[u64]) -> Result<Box
         a.to_vec(alloc)?,
         b.to_vec(alloc)?,
         1000,
-        100_000,
+        200_000,
         failing.to_vec(alloc)?,
     )?;
     Ok(Box::new(alloc, disk)?)

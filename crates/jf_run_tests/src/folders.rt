@@ -1,5 +1,6 @@
-// Scripts over a real folder, which is opened again for each.
+// Scripts over a real folder, which is opened again for each, and what its files hold at the end.
 use jf_disk::FileDisk;
+use jf_play::files::{CHECKPOINT, END, LANDING, LANDING_OF_NOTHING, bytes_of};
 use jf_play::play::answers;
 use jf_play::roots::with_roots;
 use std::alloc::Global;
@@ -10,6 +11,10 @@ use std::test::Fail;
 use std::thread::Threads;
 
 const FOLDER: &str = "jellystore_folder";
+
+const FILE_A: &str = "jellystore_folder/a.jf";
+
+const FILE_B: &str = "jellystore_folder/b.jf";
 
 // Scripts that are run over one folder, the version at which each run opens it, and the replies.
 const SCRIPTS: &[(&str, u64, &str)] = &[
@@ -49,6 +54,9 @@ fn a_folder_is_opened_where_it_stood(rt: HostRuntime) -> Result<(), Fail> {
     for (script, opened, want) in SCRIPTS {
         is_opened(&rt, alloc, script, *opened, &with_roots(alloc, want)?)?;
     }
+    let landed = bytes_of(alloc, &[CHECKPOINT, LANDING, LANDING_OF_NOTHING, END])?;
+    assert!(rt; fs::read(&rt, FILE_A)?.as_slice() == landed.as_slice());
+    assert!(rt; fs::read(&rt, FILE_B)?.is_empty());
     fs::remove_dir_all(&rt, FOLDER)?;
     Ok(())
 }

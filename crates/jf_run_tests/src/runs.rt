@@ -1,5 +1,8 @@
 // Scripts over a disk in memory: what is written, what the files hold, and how the run ends.
 use jf_disk::{Disk, MemDisk, Side};
+use jf_play::files::{
+    CHECKPOINT, END, File, LANDING, LANDING_OF_NOTHING, LANDING_OF_TWO, bytes_of,
+};
 use jf_play::play::{Faults, NO_FAULTS, Played, answers, has_ended, is_told, new_disk, play};
 use jf_play::roots::with_roots;
 use jf_run::status::Status;
@@ -35,13 +38,59 @@ fn lines_are_answered(rt: HostRuntime) -> Result<(), Fail> {
     Ok(())
 }
 
-// Side A after the landing of `put 61 =31` on a new store.
-const LANDED: &[u8] =
-    b"\x01\x01\0\0\0\0\0\0\0\x36\0\0\0\0\0\0\0\x01\0\0\0\0\0\0\0\x01\x19\xd5\xf5\x7c\x8e\x8b\x3c\xd7\x60\xf8\x53\xbb\x8d\x79\x00\xd6\x8e\x10\xef\x02\x67\x43\x83\xde\x65\xa9\xb4\xd6\x5e\x41\x9b\x26\x01\0\0\0\x01\x31\0";
+// Whether side A of a disk holds these records, and side B is empty.
+fn holds(alloc: Global, disk: &MemDisk, a: File) -> Result<bool, Fail> {
+    let a = bytes_of(alloc, a)?;
+    Ok(disk.bytes(Side::A) == a.as_slice() && disk.bytes(Side::B).is_empty())
+}
 
-// Whether side A of a disk holds these bytes, and side B is empty.
-fn holds(disk: &MemDisk, a: &[u8]) -> bool {
-    disk.bytes(Side::A) == a && disk.bytes(Side::B).is_empty()
+// Scripts over a new store, their replies, and side A after them. Two keys that agree in a nibble have their root from
+// Python's `hashlib`.
+const WRITTEN: &[(&str, &str, File)] = &[
+    ("", "", &[CHECKPOINT, END]),
+    (
+        "put 61 =31\nput 6 =31\nroot head\n",
+        "0 ok pending 1\n0 no syntax\n0 ok root E\n",
+        &[CHECKPOINT, END],
+    ),
+    (
+        "put 61 =31\ncommit\n",
+        "0 ok pending 1\n1 ok commit 1 R\n",
+        &[CHECKPOINT, LANDING, END],
+    ),
+    (
+        "put 61 =31\ncommit\ncommit\n",
+        "0 ok pending 1\n1 ok commit 1 R\n2 ok commit 2 R\n",
+        &[CHECKPOINT, LANDING, LANDING_OF_NOTHING, END],
+    ),
+    (
+        "put 61 =01\nput 69 =02\ncommit\n",
+        "0 ok pending 1\n0 ok pending 2\n1 ok commit 1 81f2437253a9c24ff7f780a610d61980288f33450bd4fabecd40c239e018b746\n",
+        &[CHECKPOINT, LANDING_OF_TWO, END],
+    ),
+];
+
+// Whether a script over a new store has these replies, and leaves these records.
+fn is_written<H: Threads + Wait + Sync>(
+    rt: &H,
+    alloc: Global,
+    script: &str,
+    want: &str,
+    a: File,
+) -> Result<bool, Fail> {
+    let want = with_roots(alloc, want)?;
+    let disk = new_disk(alloc, b"", &[])?;
+    let disk = answers(rt, alloc, disk, script.as_bytes(), 0, &want)?;
+    holds(alloc, &disk, a)
+}
+
+#[test]
+fn landings_are_written_byte_by_byte(rt: HostRuntime) -> Result<(), Fail> {
+    let alloc = rt.alloc();
+    for (script, want, a) in WRITTEN {
+        assert!(rt; is_written(&rt, alloc, script, want, a)?, "of {script}");
+    }
+    Ok(())
 }
 
 // A disk on which `put 61 =31` has landed.
@@ -65,9 +114,14 @@ fn landed_again<H: Threads + Wait + Sync>(
 fn a_store_is_opened_where_it_stood(rt: HostRuntime) -> Result<(), Fail> {
     let alloc = rt.alloc();
     let disk = landed(&rt, alloc)?;
-    assert!(rt; holds(&disk, LANDED));
     let disk = landed_again(&rt, alloc, disk)?;
-    assert_eq!(rt; disk.bytes(Side::A).len(), 65 + 26);
+    assert!(rt;
+        holds(
+            alloc,
+            &disk,
+            &[CHECKPOINT, LANDING, LANDING_OF_NOTHING, END]
+        )?
+    );
     Ok(())
 }
 

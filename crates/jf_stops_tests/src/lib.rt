@@ -1,7 +1,7 @@
-//! Tests of what is left when a run stops: after crashes at any moment, calls of the disk that fail, and damaged files.
+//! Tests of what is left when a run stops: after crashes at any moment, and after calls of the disk that fail.
 #![tactic(auto)]
 
 #[cfg(test)]
-mod damage;
+mod starts;
 #[cfg(test)]
 mod stops;

@@ -1,8 +1,9 @@
 // What a stop at any moment, or after any call of the disk that fails, leaves in the files.
-use jf_disk::{Disk, MemDisk};
+use crate::starts::{STARTS, Start, disk_over};
+use jf_disk::{Disk, MemDisk, Side};
 use jf_model::Entry;
 use jf_play::play::{
-    NO_FAULTS, Played, has_ended, new_disk, new_sink, new_source, one_word, play, run_over,
+    NO_FAULTS, Played, disk_of, has_ended, new_sink, new_source, one_word, play, run_over,
 };
 use jf_run::status::{Ended, Status};
 use std::alloc::Global;
@@ -84,18 +85,31 @@ fn read_replies(alloc: Global, head: u64) -> Result<Vec<u8>, Fail> {
     Ok(text)
 }
 
-// Opens a disk, and checks that its head is this version or the next, and that each version has its root.
+// Opens a disk, checks that each version up to its head has its root, and returns the head.
+fn opened_head<H: Threads + Wait + Sync>(
+    rt: &H,
+    alloc: Global,
+    disk: Box<MemDisk>,
+) -> Result<u64, Fail> {
+    let played = play(rt, alloc, disk, "run", READS, NO_FAULTS)?;
+    let head = played.start.ok_or("the disk is not opened")?;
+    let want = read_replies(alloc, head)?;
+    if has_ended(&played, Status::Done, Some(head), &want) {
+        Ok(head)
+    } else {
+        Err(Fail::new("a version has another root"))
+    }
+}
+
+// Opens a disk, and checks that its head is one of these versions, and that each version has its root.
 fn is_opened<H: Threads + Wait + Sync>(
     rt: &H,
     alloc: Global,
     disk: Box<MemDisk>,
-    landings: u64,
+    heads: (u64, u64),
 ) -> Result<(), Fail> {
-    let played = play(rt, alloc, disk, "run", READS, NO_FAULTS)?;
-    let head = played.start.ok_or("the disk is not opened")?;
-    let want = read_replies(alloc, head)?;
-    let within = head == landings || head == landings.saturating_add(1);
-    if within && has_ended(&played, Status::Done, Some(head), &want) {
+    let head = opened_head(rt, alloc, disk)?;
+    if heads.0 <= head && head <= heads.1 {
         Ok(())
     } else {
         Err(Fail::new("the disk holds other versions"))
@@ -103,7 +117,7 @@ fn is_opened<H: Threads + Wait + Sync>(
 }
 
 // How many unsynced bytes a crash keeps, and the byte that it leaves in place of each of the others.
-const KEPT: &[u64] = &[0, 1, 30, 1 << 62];
+const KEPT: &[u64] = &[0, 1, 200, 1 << 62];
 
 const FILLS: &[u8] = &[0x00, 0x01, 0xff];
 
@@ -128,25 +142,25 @@ fn open_filled<H: Threads + Wait + Sync>(
     disk: &MemDisk,
     moment: u64,
     kept: u64,
-    landings: u64,
+    heads: (u64, u64),
 ) -> Result<(), Fail> {
     for fill in FILLS {
         let image = image_of(alloc, disk, moment, kept, *fill)?;
-        is_opened(rt, alloc, image, landings)?;
+        is_opened(rt, alloc, image, heads)?;
     }
     Ok(())
 }
 
-// Opens each image that a crash after this number of calls leaves.
+// Opens each image that a crash after this number of calls leaves. Its head has to be one of these versions.
 fn open_images<H: Threads + Wait + Sync>(
     rt: &H,
     alloc: Global,
     disk: &MemDisk,
     moment: u64,
-    landings: u64,
+    heads: (u64, u64),
 ) -> Result<(), Fail> {
     for kept in KEPT {
-        open_filled(rt, alloc, disk, moment, *kept, landings)?;
+        open_filled(rt, alloc, disk, moment, *kept, heads)?;
     }
     Ok(())
 }
@@ -162,33 +176,46 @@ fn landings(alloc: Global, entries: &[Entry]) -> Result<Vec<u64>, Fail> {
     Ok(moments)
 }
 
-// A run of a script over a new disk.
+// A run of a script over a new store.
 fn ended<H: Threads + Wait + Sync>(
     rt: &H,
     alloc: Global,
+    start: &Start,
     script: &[u8],
 ) -> Result<Box<Ended<MemDisk>>, Fail> {
     let words = one_word(alloc, "run")?;
     let mut source = new_source(alloc, script, NO_FAULTS)?;
     let mut sink = new_sink(alloc, NO_FAULTS)?;
-    let disk = new_disk(alloc, b"", &[])?;
+    let disk = disk_over(alloc, start, &[])?;
     run_over(rt, alloc, disk, &words, &mut source, &mut sink)
 }
 
-// How many of the landings were made by a moment.
-fn landed_by(landed_at: &[u64], moment: u64) -> u64 {
-    landed_at.iter().filter(|at| **at <= moment).count() as u64
+// The head of the landings that were made by a moment, and the next version, which the landing after them may have made.
+fn heads_at(landed_at: &[u64], moment: u64) -> (u64, u64) {
+    let landings = landed_at.iter().filter(|at| **at <= moment).count() as u64;
+    (landings, landings.saturating_add(1))
+}
+
+// Runs the script from a start, and opens what a crash at each moment leaves.
+fn stop_everywhere<H: Threads + Wait + Sync>(
+    rt: &H,
+    alloc: Global,
+    start: &Start,
+) -> Result<usize, Fail> {
+    let ended = ended(rt, alloc, start, SCRIPT)?;
+    let landed_at = landings(alloc, ended.entries.as_slice())?;
+    for moment in 0..=ended.disk.moment() {
+        let heads = heads_at(&landed_at, moment);
+        open_images(rt, alloc, &ended.disk, moment, heads)?;
+    }
+    Ok(landed_at.len())
 }
 
 #[test]
 fn a_stop_at_any_moment_leaves_what_was_acknowledged(rt: HostRuntime) -> Result<(), Fail> {
     let alloc = rt.alloc();
-    let ended = ended(&rt, alloc, SCRIPT)?;
-    let landed_at = landings(alloc, ended.entries.as_slice())?;
-    assert_eq!(rt; landed_at.len(), 5);
-    for moment in 0..=ended.disk.moment() {
-        let landings = landed_by(&landed_at, moment);
-        open_images(&rt, alloc, &ended.disk, moment, landings)?;
+    for start in STARTS {
+        assert_eq!(rt; stop_everywhere(&rt, alloc, start)?, 5, "{}", start.what);
     }
     Ok(())
 }
@@ -221,50 +248,69 @@ fn is_told(alloc: Global, played: &Played<MemDisk>, reached: Reached) -> Result<
     Ok(played.text.as_slice() == told.as_slice())
 }
 
+// The versions of which one is the head after a run: what was landed, or that and the landing in which the disk failed.
+fn heads_after(played: &Played<MemDisk>) -> (u64, u64) {
+    (played.entries, played.entries.saturating_add(1))
+}
+
 // Runs the script on a disk that fails in this call, and opens what a crash leaves.
 fn run_failing<H: Threads + Wait + Sync>(
     rt: &H,
     alloc: Global,
+    start: &Start,
     failing: u64,
 ) -> Result<Played<MemDisk>, Fail> {
-    let disk = new_disk(alloc, b"", &[failing])?;
+    let disk = disk_over(alloc, start, &[failing])?;
     let played = play(rt, alloc, disk, "run", SCRIPT, NO_FAULTS)?;
-    open_images(
-        rt,
-        alloc,
-        &played.disk,
-        played.disk.moment(),
-        played.entries,
-    )?;
+    let moment = played.disk.moment();
+    open_images(rt, alloc, &played.disk, moment, heads_after(&played))?;
     Ok(played)
 }
 
 // Runs the script so, and also opens what the disk itself holds, if the call was made.
-fn reach<H: Threads + Wait + Sync>(rt: &H, alloc: Global, failing: u64) -> Result<Reached, Fail> {
-    let played = run_failing(rt, alloc, failing)?;
+fn reach<H: Threads + Wait + Sync>(
+    rt: &H,
+    alloc: Global,
+    start: &Start,
+    failing: u64,
+) -> Result<Reached, Fail> {
+    let played = run_failing(rt, alloc, start, failing)?;
     let reached = place_of(played.status, played.start).ok_or("the run ends otherwise")?;
     if !is_told(alloc, &played, reached)? {
         return Err(Fail::new("the run writes another text"));
     }
     if reached != Reached::End {
-        is_opened(rt, alloc, played.disk, played.entries)?;
+        let heads = heads_after(&played);
+        is_opened(rt, alloc, played.disk, heads)?;
     }
     Ok(reached)
+}
+
+// How many calls of the opening, and of the landings, fail in turn until one isn't made any more.
+fn failed_calls<H: Threads + Wait + Sync>(
+    rt: &H,
+    alloc: Global,
+    start: &Start,
+) -> Result<(u64, u64), Fail> {
+    let mut in_opening: u64 = 0;
+    for failing in 0..100 {
+        match reach(rt, alloc, start, failing)? {
+            Reached::Opening => in_opening = in_opening.saturating_add(1),
+            Reached::Landing => {}
+            Reached::End => return Ok((in_opening, failing.saturating_sub(in_opening))),
+        }
+    }
+    Err(Fail::new("a run without end"))
 }
 
 #[test]
 fn a_failed_call_leaves_the_versions_before_or_after_it(rt: HostRuntime) -> Result<(), Fail> {
     let alloc = rt.alloc();
-    let mut in_landing: u64 = 0;
-    for failing in 0..100 {
-        match reach(&rt, alloc, failing)? {
-            Reached::Opening => {}
-            Reached::Landing => in_landing = in_landing.saturating_add(1),
-            Reached::End => break,
-        }
+    for start in STARTS {
+        // Each of the five landings writes, syncs, writes and syncs.
+        let calls = (start.calls, 20);
+        assert_eq!(rt; failed_calls(&rt, alloc, start)?, calls, "{}", start.what);
     }
-    // Each of the five landings writes, syncs, writes and syncs.
-    assert_eq!(rt; in_landing, 20);
     Ok(())
 }
 
@@ -272,19 +318,115 @@ fn a_failed_call_leaves_the_versions_before_or_after_it(rt: HostRuntime) -> Resu
 const LANDING: &[u8] = b"put 61 =31\ncommit\nroot head";
 
 // The call that writes the gate of that landing: its last two write the gate, and sync it.
-fn gate_call<H: Threads + Wait + Sync>(rt: &H, alloc: Global) -> Result<u64, Fail> {
-    let ended = ended(rt, alloc, LANDING)?;
+fn gate_call<H: Threads + Wait + Sync>(rt: &H, alloc: Global, start: &Start) -> Result<u64, Fail> {
+    let ended = ended(rt, alloc, start, LANDING)?;
     let moments = landings(alloc, ended.entries.as_slice())?;
     let landed_at = moments.first().ok_or("no landing")?;
     Ok(landed_at.checked_sub(2).ok_or("a landing of one call")?)
 }
 
+// Whether a run ends in the landing whose gate isn't written, and a crash leaves the landing or nothing.
+fn leaves_one_or_none<H: Threads + Wait + Sync>(
+    rt: &H,
+    alloc: Global,
+    start: &Start,
+) -> Result<bool, Fail> {
+    let disk = disk_over(alloc, start, &[gate_call(rt, alloc, start)?])?;
+    let played = play(rt, alloc, disk, "run", LANDING, NO_FAULTS)?;
+    let moment = played.disk.moment();
+    open_images(rt, alloc, &played.disk, moment, (0, 1))?;
+    let ended = has_ended(&played, Status::DiskFault, Some(0), b"0 ok pending 1\n");
+    Ok(ended && played.entries == 0)
+}
+
 #[test]
 fn a_gate_that_is_not_written_leaves_the_landing_or_nothing(rt: HostRuntime) -> Result<(), Fail> {
     let alloc = rt.alloc();
-    let disk = new_disk(alloc, b"", &[gate_call(&rt, alloc)?])?;
-    let played = play(&rt, alloc, disk, "run", LANDING, NO_FAULTS)?;
-    assert!(rt; has_ended(&played, Status::DiskFault, Some(0), b"0 ok pending 1\n"));
-    assert_eq!(rt; played.entries, 0);
-    open_images(&rt, alloc, &played.disk, played.disk.moment(), 0)
+    for start in STARTS {
+        assert!(rt; leaves_one_or_none(&rt, alloc, start)?, "{}", start.what);
+    }
+    Ok(())
+}
+
+// Whether an opening ended with a fault of the disk, and wrote nothing.
+fn has_failed(played: &Played<MemDisk>) -> bool {
+    has_ended(played, Status::DiskFault, None, b"") && played.entries == 0
+}
+
+// Two crashes: how many unsynced bytes each keeps, and what the others become.
+const CRASHES: &[(u64, u8)] = &[(0, 0x01), (1 << 62, 0x00)];
+
+// Opens what these crashes leave of a disk after all of its calls. Each has this head.
+fn open_crashes<H: Threads + Wait + Sync>(
+    rt: &H,
+    alloc: Global,
+    disk: &MemDisk,
+    head: u64,
+) -> Result<(), Fail> {
+    for (kept, fill) in CRASHES {
+        let image = image_of(alloc, disk, disk.moment(), *kept, *fill)?;
+        is_opened(rt, alloc, image, (head, head))?;
+    }
+    Ok(())
+}
+
+// Opens what a disk holds, on disks that fail in the first call, in the second and so on, as long as the opening makes that
+// call. What a crash leaves then has this head.
+fn open_twice<H: Threads + Wait + Sync>(
+    rt: &H,
+    alloc: Global,
+    image: &MemDisk,
+    head: u64,
+) -> Result<u64, Fail> {
+    for failing in 0..100 {
+        let (a, b) = (image.bytes(Side::A), image.bytes(Side::B));
+        let disk = disk_of(alloc, a, b, &[failing])?;
+        let played = play(rt, alloc, disk, "run", b"", NO_FAULTS)?;
+        open_crashes(rt, alloc, &played.disk, head)?;
+        if !has_failed(&played) {
+            return Ok(failing);
+        }
+    }
+    Err(Fail::new("an opening without end"))
+}
+
+// The image that a crash leaves, opened twice; returns how many calls its opening makes.
+fn stop_twice<H: Threads + Wait + Sync>(
+    rt: &H,
+    alloc: Global,
+    disk: &MemDisk,
+    moment: u64,
+) -> Result<u64, Fail> {
+    let image = image_of(alloc, disk, moment, 200, 0x5a)?;
+    let again = image_of(alloc, disk, moment, 200, 0x5a)?;
+    let head = opened_head(rt, alloc, image)?;
+    open_twice(rt, alloc, &again, head)
+}
+
+// Runs the script from a start, and opens what a crash at each moment leaves twice. Each opening makes at least the six calls
+// that sync, measure and read both sides.
+fn stops_twice<H: Threads + Wait + Sync>(
+    rt: &H,
+    alloc: Global,
+    start: &Start,
+) -> Result<bool, Fail> {
+    let ended = ended(rt, alloc, start, SCRIPT)?;
+    for moment in 0..=ended.disk.moment() {
+        let calls = stop_twice(rt, alloc, &ended.disk, moment)?;
+        if calls < 6 {
+            return Ok(false);
+        }
+    }
+    Ok(true)
+}
+
+#[test]
+fn an_opening_that_fails_after_a_stop_leaves_the_same_versions(
+    rt: HostRuntime,
+) -> Result<(), Fail> {
+    let alloc = rt.alloc();
+    for start in STARTS {
+        assert!(rt; stops_twice(&rt, alloc, start)?, "{}", start.what);
+    }
+    Ok(())
 }

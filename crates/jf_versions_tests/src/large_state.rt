@@ -76,10 +76,11 @@ fn roomy_sink(alloc: Global) -> Result<Box<MemSink>, Fail> {
     Ok(Box::new(alloc, sink)?)
 }
 
-// A disk in memory with room for all landings.
+// A disk in memory with room for all landings: the new nodes and the stale names of the first ten take 32 MB, and those of
+// the others 10 MB.
 fn roomy_disk(alloc: Global) -> Result<Box<MemDisk>, Fail> {
     let empty = || Vec::new(alloc);
-    let disk = MemDisk::new(alloc, empty(), empty(), 20_000, 8_000_000, Vec::new(alloc))?;
+    let disk = MemDisk::new(alloc, empty(), empty(), 20_000, 45_000_000, Vec::new(alloc))?;
     Ok(Box::new(alloc, disk)?)
 }
 

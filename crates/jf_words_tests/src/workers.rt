@@ -107,10 +107,10 @@ const BATCHES: &[Lines] = &[
     ("del", 19_000, 19_001, ""),
 ];
 
-// A disk in memory with room for these batches.
+// A disk in memory with room for these batches, whose nodes take 2 MB.
 fn roomy_disk(alloc: Global) -> Result<Box<MemDisk>, Fail> {
     let empty = || Vec::new(alloc);
-    let disk = MemDisk::new(alloc, empty(), empty(), 1000, 1_000_000, Vec::new(alloc))?;
+    let disk = MemDisk::new(alloc, empty(), empty(), 1000, 3_000_000, Vec::new(alloc))?;
     Ok(Box::new(alloc, disk)?)
 }
 
