@@ -1,7 +1,6 @@
 // Side A with a new store, side B with its next generation: what an opening finds if side B is changed.
-use crate::damage::{BEFORE, Edit, Opened, edited};
+use crate::damage::{BEFORE, Edit, Opened, edited, opened};
 use crate::records::{END, NEW, SECOND, joined};
-use crate::stores::opened;
 use jf_disk::Side;
 use jf_engine::{OpenFault, State};
 use std::alloc::Global;
@@ -45,7 +44,7 @@ fn is_found<H: Threads + Sync>(
     want: Opened,
 ) -> Result<bool, Fail> {
     let side_a = joined(alloc, NEW)?;
-    let side_b = edited(alloc, &[SECOND, END], edit)?;
+    let side_b = edited(alloc, &[SECOND, END], &[edit])?;
     Ok(opened(rt, alloc, &side_a, &side_b)? == want)
 }
 

@@ -1,59 +1,97 @@
-// What a landing returns, and what the store shows then.
-use crate::stores::{ONE, land, new_store};
+// What landings return, and what the store shows then.
 use jf_disk::{Disk, MemDisk};
 use jf_engine::{Engine, Landed};
+use jf_engine_play::steps::{THREE, land, land_all};
+use jf_engine_play::stores::new_store;
 use jf_hash::{Hash, key_of};
 use std::alloc::Global;
 use std::test::Fail;
 use std::thread::Threads;
 
-// The root of no key, and that of `1` at the key of `a`.
+// The root of no key, that of `1` at the key of `a`, of `2` at that of `b`, and of both. By Python's `hashlib`.
 const EMPTY: Hash = [
     110, 52, 11, 156, 255, 179, 122, 152, 156, 165, 68, 230, 187, 120, 10, 44, 120, 144, 29, 63,
     179, 55, 56, 118, 133, 17, 163, 6, 23, 175, 160, 29,
 ];
 
-const ROOT: Hash = [
+const OF_A: Hash = [
     155, 183, 44, 57, 241, 61, 43, 81, 46, 163, 78, 174, 153, 162, 143, 109, 128, 122, 19, 74, 177,
     37, 232, 145, 114, 49, 12, 111, 110, 167, 47, 143,
 ];
 
-// Whether these are the roots of versions 0 and 1, and there is no version 2.
-fn has_roots(engine: &Engine<MemDisk>) -> bool {
-    engine.root_of(0) == Some(EMPTY)
-        && engine.root_of(1) == Some(ROOT)
-        && engine.root_of(2).is_none()
-}
+const OF_B: Hash = [
+    82, 51, 20, 171, 51, 201, 18, 212, 52, 121, 43, 66, 8, 61, 3, 195, 45, 126, 144, 181, 54, 179,
+    92, 53, 90, 1, 173, 11, 183, 146, 93, 162,
+];
 
-// The first byte of the value at the key of `a` in a version, or `None` if there is none.
-fn first_in(engine: &Engine<MemDisk>, version: u64) -> Option<u8> {
-    match engine.at(version)?.get(&key_of(b"a")) {
+const OF_BOTH: Hash = [
+    62, 146, 183, 122, 111, 74, 125, 204, 66, 111, 19, 75, 52, 21, 243, 175, 126, 179, 158, 92,
+    138, 199, 89, 156, 148, 245, 163, 200, 63, 224, 116, 37,
+];
+
+// The root of a version, and the values at the keys of `a` and of `b`.
+type Version = (Hash, Option<u8>, Option<u8>);
+
+// The versions after `1` was put at the key of `a`, and after three landings.
+const AFTER_ONE: &[Version] = &[(EMPTY, None, None), (OF_A, Some(b'1'), None)];
+
+const AFTER_THREE: &[Version] = &[
+    (EMPTY, None, None),
+    (OF_A, Some(b'1'), None),
+    (OF_BOTH, Some(b'1'), Some(b'2')),
+    (OF_B, None, Some(b'2')),
+];
+
+// The first byte of the value at the key of a name in a version, or `None` if there is none.
+fn first_in(engine: &Engine<MemDisk>, version: u64, name: u8) -> Option<u8> {
+    match engine.at(version)?.get(&key_of(&[name])) {
         Some(value) => value.first().copied(),
         None => None,
     }
 }
 
-fn has_values(engine: &Engine<MemDisk>) -> bool {
-    first_in(engine, 0).is_none() && first_in(engine, 1) == Some(b'1') && engine.at(2).is_none()
+fn has_version(engine: &Engine<MemDisk>, number: u64, version: &Version) -> bool {
+    engine.root_of(number) == Some(version.0)
+        && first_in(engine, number, b'a') == version.1
+        && first_in(engine, number, b'b') == version.2
 }
 
-fn has_landed(engine: &Engine<MemDisk>, landed: Landed) -> bool {
-    landed.version == 1
-        && landed.root == ROOT
-        && landed.moment == engine.disk().moment()
-        && has_roots(engine)
-        && has_values(engine)
+// Whether these are all versions.
+fn has_versions(engine: &Engine<MemDisk>, versions: &[Version]) -> bool {
+    for (number, version) in versions.iter().enumerate() {
+        if !has_version(engine, number as u64, version) {
+            return false;
+        }
+    }
+    let next = versions.len() as u64;
+    engine.root_of(next).is_none() && engine.at(next).is_none()
 }
 
-// Whether a landing on a new store returns and shows this.
-fn lands<H: Threads + Sync>(rt: &H, alloc: Global) -> Result<bool, Fail> {
-    let mut engine = new_store(rt, alloc, &[])?;
-    let landed = land(rt, alloc, &mut engine, ONE)??;
-    Ok(has_landed(&engine, landed))
+// Whether a landing returned this version, its root, and the moment of the disk.
+fn is_landed(engine: &Engine<MemDisk>, landed: Landed, version: u64, root: Hash) -> bool {
+    landed
+        == Landed {
+            version,
+            root,
+            moment: engine.disk().moment(),
+        }
+}
+
+fn one_lands<H: Threads + Sync>(rt: &H, alloc: Global) -> Result<bool, Fail> {
+    let mut engine = new_store(rt, alloc)?;
+    let landed = land(rt, alloc, &mut engine, &[(b'a', Some(b'1'))])??;
+    Ok(is_landed(&engine, landed, 1, OF_A) && has_versions(&engine, AFTER_ONE))
+}
+
+fn three_land<H: Threads + Sync>(rt: &H, alloc: Global) -> Result<bool, Fail> {
+    let mut engine = new_store(rt, alloc)?;
+    let landed = land_all(rt, alloc, &mut engine, THREE)??;
+    Ok(is_landed(&engine, landed, 3, OF_B) && has_versions(&engine, AFTER_THREE))
 }
 
 #[test]
-fn a_landing_returns_its_root_and_shows_its_value(rt: HostRuntime) -> Result<(), Fail> {
-    assert!(rt; lands(&rt, rt.alloc())?);
+fn a_landing_returns_its_root_and_shows_its_values(rt: HostRuntime) -> Result<(), Fail> {
+    assert!(rt; one_lands(&rt, rt.alloc())?);
+    assert!(rt; three_land(&rt, rt.alloc())?);
     Ok(())
 }

@@ -1,13 +1,9 @@
-//! Tests of the store over two files: files byte by byte, damage, generations, landings of several versions, crashes, and
-//! calls of the disk that fail.
+//! Tests of the store over two files: files byte by byte, damage, generations, what each call returns and refuses, and
+//! scripts beside whole maps.
 #![tactic(auto)]
 
 #[cfg(test)]
-mod crashes;
-#[cfg(test)]
 mod damage;
-#[cfg(test)]
-mod faults;
 #[cfg(test)]
 mod generations;
 #[cfg(test)]
@@ -17,4 +13,10 @@ mod landings;
 #[cfg(test)]
 mod records;
 #[cfg(test)]
-mod stores;
+mod refusals;
+#[cfg(test)]
+mod scripts;
+#[cfg(test)]
+mod sizes;
+#[cfg(test)]
+mod versions;
