@@ -8,4 +8,4 @@ pub mod MarkSteps
 pub mod Moves
 pub mod NextLandings
 pub mod NodeCounts
-pub mod Turns
+pub mod HeldAfter

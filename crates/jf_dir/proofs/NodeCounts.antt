@@ -11,9 +11,10 @@ use Rattle.jf_model.specs.ChildEntries.{child_entries}
 use Rattle.jf_model.specs.Walk.{each_from}
 use Rattle.jf_walk.proofs.WalkLaws.{each_from-flat_map}
 use Rattle.jf_node.specs.LinkValue.{LinkValue}
+use Rattle.jf_node.proofs.NodeVersions.{has_one-true}
 use Rattle.jf_diff.specs.Below.{IsBelow}
 use Rattle.jf_diff.proofs.PlainNodes.{each_more}
-use Rattle.jf_dir.proofs.Turns.{nodes-empty}
+use Rattle.jf_dir.proofs.HeldAfter.{nodes-empty}
 
 -- the nodes from the child at a nibble down, if so many entries are below it
 abbrev pub nodes_from : ℕ → ℕ → ℕ → Part → List (Path × Part)
@@ -54,10 +55,6 @@ counted-all d es deep = elim (has_two es) as (λ b. has_two es ≡ b → length 
     many (e ∷ []) two = absurd (cc)
     many (e ∷ f ∷ es) two = omega arith
 
-has_some : (es : Part) → 1 ≤ length es → has_one es ≡ true
-has_some [] some = absurd (omega arith)
-has_some (e ∷ es) some = refl
-
 -- one child more
 pub counted-child : (x c : LinkValue) (n count below sum : ℕ) → IsBelow x n (Some c) → count ≡ suc (length (each_from n 0 (below_at x.depth x.entries))) → below ≡ length (nodes_below (64 - c.depth) c.depth c.entries) → sum ≡ count + below → sum ≡ suc (length (each_from (n + 1) 0 (below_at x.depth x.entries)))
 counted-child x c n count below sum is so_far own added =
@@ -68,7 +65,7 @@ counted-child x c n count below sum is so_far own added =
     let listed : List (Path × Part) = map (λ (y : Path × Part). (n ∷ y.0, y.1)) (nodes_below (63 - x.depth) (x.depth + 1) c.entries) in
     let here : length (g n) ≡ length (nodes_below (63 - x.depth) (x.depth + 1) c.entries) =
     ap (λ part. length (nodes_from (63 - x.depth) x.depth n part)) (sym is.entries)
-    ∙ ap (λ b. length (cond b listed [])) (has_some c.entries some)
+    ∙ ap (λ b. length (cond b listed [])) (has_one-true c.entries some)
     ∙ length-map (nodes_below (63 - x.depth) (x.depth + 1) c.entries) (λ (y : Path × Part). (n ∷ y.0, y.1)) in
     let there : below ≡ length (nodes_below (63 - x.depth) (x.depth + 1) c.entries) =
     own ∙ ap (λ d. length (nodes_below (64 - d) d c.entries)) at ∙ ap (λ k. length (nodes_below k (x.depth + 1) c.entries)) (let e : 64 - (x.depth + 1) ≡ 63 - x.depth = omega arith in e) in

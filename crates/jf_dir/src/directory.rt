@@ -73,7 +73,7 @@ impl Directory {
     }
 
     /// A directory of one version, its floor and head. `earlier` are the roots of the versions from `base` to the one
-    /// before it, the oldest first.
+    /// before it, the oldest first. If memory runs out, the snapshot is dropped.
     pub fn of(
         alloc: Global,
         base: u64,
@@ -247,7 +247,7 @@ impl Directory {
         ensures err { OnErr result (self.new ≡ self.old) }
     {
         let snapshot = update.snapshot.share()?;
-        self.turn(
+        self.push_landing(
             update.root,
             update.fresh.len(),
             update.stale.as_slice(),
@@ -256,7 +256,7 @@ impl Directory {
     }
 
     /// Makes a landing on the head: `commit` is what it writes, and `snapshot` that of its map. If memory runs out, the
-    /// directory is unchanged.
+    /// directory is unchanged, and the snapshot is dropped.
     pub fn apply_commit(&mut self, commit: &Commit, snapshot: Snapshot) -> Result<(), Memory>
         requires last { self.old.head + 1 < never }
         requires landing { commit.now ≡ landing_of format.Two self.old snapshot.map }
@@ -266,7 +266,7 @@ impl Directory {
         ensures ok { OnOk result (self.new ≡ landed_on format.Two snapshot.map self.old) }
         ensures err { OnErr result (self.new ≡ self.old) }
     {
-        self.turn(
+        self.push_landing(
             commit.root,
             commit.fresh.len(),
             commit.stale.as_slice(),
@@ -276,7 +276,7 @@ impl Directory {
 
     // Makes a landing on the head of which this is the root, the number of nodes that it writes, the names that it marks
     // stale, and the snapshot. If memory runs out, the directory is unchanged.
-    fn turn(
+    fn push_landing(
         &mut self,
         root: Hash,
         fresh: u64,
@@ -306,13 +306,13 @@ impl Directory {
         Ok(())
     }
 
-    /// Takes back the update that made the head. It takes no memory.
+    /// Takes back the update that made the head: all is as it was before. It takes no memory.
     pub fn undo(&mut self, update: &Update)
         requires made { (s : Standing) × IsReadStanding s × IsSound format.Two s × IsLandingUpdate s update.now.snapshot.map update.now × (self.old ≡ landed_on format.Two update.now.snapshot.map s) }
         ensures { (s : Standing) → IsReadStanding s → IsSound format.Two s → IsLandingUpdate s update.now.snapshot.map update.now → self.old ≡ landed_on format.Two update.now.snapshot.map s → self.new ≡ s }
     {
         update.snapshot.know();
-        self.turn_back(update.fresh.len(), update.stale.as_slice());
+        self.pop_landing(update.fresh.len(), update.stale.as_slice());
     }
 
     /// Takes back the landing that made the head, given as what it writes. It takes no memory.
@@ -320,11 +320,11 @@ impl Directory {
         requires made { (s : Standing) × (m : Map) × IsReadStanding s × IsSound format.Two s × IsMap m × (commit.now ≡ landing_of format.Two s m) × (self.old ≡ landed_on format.Two m s) }
         ensures { (s : Standing) (m : Map) → IsReadStanding s → IsSound format.Two s → IsMap m → commit.now ≡ landing_of format.Two s m → self.old ≡ landed_on format.Two m s → self.new ≡ s }
     {
-        self.turn_back(commit.fresh.len(), commit.stale.as_slice());
+        self.pop_landing(commit.fresh.len(), commit.stale.as_slice());
     }
 
     // Takes back the landing that made the head, which wrote so many nodes and marked these names stale.
-    fn turn_back(&mut self, fresh: u64, stale: &[NodeName])
+    fn pop_landing(&mut self, fresh: u64, stale: &[NodeName])
         requires made { (s : Standing) × (m : Map) × IsReadStanding s × IsSound format.Two s × IsMap m × (fresh ≡ length (landing_of format.Two s m).fresh) × (stale.now ≡ (landing_of format.Two s m).stale) × (self.old ≡ landed_on format.Two m s) }
         ensures { (s : Standing) (m : Map) → IsReadStanding s → IsSound format.Two s → IsMap m → fresh ≡ length (landing_of format.Two s m).fresh → stale.now ≡ (landing_of format.Two s m).stale → self.old ≡ landed_on format.Two m s → self.new ≡ s }
     {

@@ -6,6 +6,8 @@ mod directory;
 mod front;
 mod listing;
 mod marking;
+mod restoring;
 mod roots;
 
 pub use directory::Directory;
+pub use restoring::restored_from;

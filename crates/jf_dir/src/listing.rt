@@ -15,7 +15,7 @@ pub(crate) fn nodes_in_order(alloc: Global, directory: &Directory) -> Result<Liv
 {
     directory.know();
     let nodes = gathered(alloc, directory)?;
-    let list = in_order(alloc, nodes)?;
+    let list = nodes_by_name(alloc, nodes)?;
     Ok(list)
 }
 
@@ -71,7 +71,10 @@ fn list_stale_at(
 }
 
 /// Nodes in the order of their names; of those with one name the first.
-fn in_order(alloc: Global, mut nodes: Vec<(NodeName, PlainNode, u64)>) -> Result<LiveList, Memory>
+fn nodes_by_name(
+    alloc: Global,
+    mut nodes: Vec<(NodeName, PlainNode, u64)>,
+) -> Result<LiveList, Memory>
     ensures { IfOk result (λ l. l ≡ nodes_by_name nodes.items) }
 {
     let mut ordered = BTreeMap::new(alloc);

@@ -4,7 +4,7 @@ use Rattle.std.proofs.Common.{◌≡◌, ◌≤◌, ◌^◌, [], ap, ◌∙◌, 
 use Rattle.jf_node.specs.SnapshotValue.{SnapshotValue}
 use Rattle.jf_standing.specs.Standing.{Standing}
 use Rattle.jf_dir.specs.Directories.{begun_with}
-use Rattle.jf_dir.proofs.Turns.{len-empty_map, begun-new}
+use Rattle.jf_dir.proofs.HeldAfter.{len-empty_map, begun-new}
 use Rattle.jf_dir.proofs.directory.Directory.fresh_store.Goals as goal
 
 pub of-requires-clause-room : goal.of-requires-clause-room

@@ -3,7 +3,7 @@ use Rattle.std.proofs.Common.{◌≡◌, ◌++◌, List, length, map}
 use Rattle.jf_standing.specs.Building.{apart}
 use Rattle.jf_standing.specs.Named.{Named}
 use Rattle.jf_standing.specs.Order.{by_name}
-use Rattle.jf_dir.proofs.listing.in_order.Given as goal
+use Rattle.jf_dir.proofs.listing.nodes_by_name.Given as goal
 
 abbrev pub decreases-loop-name : goal.decreases-loop-name
 decreases-loop-name l = length l.nodes.items

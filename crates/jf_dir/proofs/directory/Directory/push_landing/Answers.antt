@@ -5,19 +5,19 @@ use Rattle.jf_standing.specs.Standing.{Standing}
 use Rattle.jf_standing.specs.Building.{landed_on}
 use Rattle.jf_dir.specs.Holding.{IsStandingHeld, landing_update}
 use Rattle.jf_dir.proofs.Held.{held-is}
-use Rattle.jf_dir.proofs.Turns.{held-again, turn-landed, turn-kept}
-use Rattle.jf_dir.proofs.directory.Directory.turn.Goals as goal
+use Rattle.jf_dir.proofs.HeldAfter.{held-again, push-landed, push-kept}
+use Rattle.jf_dir.proofs.directory.Directory.push_landing.Goals as goal
 
 pub invariant_of-self-in-Err : goal.invariant_of-self-in-Err
 invariant_of-self-in-Err c =
     let h = subst (λ (s : Standing). IsStandingHeld s c.self.inside.base c.self.inside.roots.items c.self.inside.snapshots.items c.self.inside.marks c.self.inside.count) c.self.view_is c.self.invariant in
-    held-again c.args.self.now _ _ _ _ _ (turn-kept c.args.self.now _ _ _ _ _ h (landing_update c.args.self.now c.args.snapshot) c.requires.landing c.know.ensures c.requires.room
+    held-again c.args.self.now _ _ _ _ _ (push-kept c.args.self.now _ _ _ _ _ h (landing_update c.args.self.now c.args.snapshot) c.requires.landing c.know.ensures c.requires.room
     _ _ _ _ _ _ c.reserve.ensures.items c.reserve-2.ensures.items c.version-since.ensures c.in-Err.ensures.err c.unmark_each.ensures)
 
 pub invariant_of-self-2 : goal.invariant_of-self-2
 invariant_of-self-2 c =
     let h = subst (λ (s : Standing). IsStandingHeld s c.self.inside.base c.self.inside.roots.items c.self.inside.snapshots.items c.self.inside.marks c.self.inside.count) c.self.view_is c.self.invariant in
-    held-again (landed_on format.Two c.args.snapshot.map c.args.self.now) _ _ _ _ _ (turn-landed c.args.self.now _ _ _ _ _ h (landing_update c.args.self.now c.args.snapshot) c.requires.landing c.know.ensures c.requires.room
+    held-again (landed_on format.Two c.args.snapshot.map c.args.self.now) _ _ _ _ _ (push-landed c.args.self.now _ _ _ _ _ h (landing_update c.args.self.now c.args.snapshot) c.requires.landing c.know.ensures c.requires.room
     _ _ c.args.snapshot _ _ _ _
     (c.push_reserved.ensures.items ∙ ap (λ (ts : List (List ℕ)). ts ++ c.args.root ∷ []) c.reserve.ensures.items ∙ ap (λ r. c.self.inside.roots.items ++ r ∷ []) c.requires.root)
     (c.push_back_reserved.ensures.items ∙ ap (λ (ys : List SnapshotValue). ys ++ c.args.snapshot ∷ []) c.reserve-2.ensures.items)
@@ -26,7 +26,7 @@ invariant_of-self-2 c =
 pub returns-clause-ok : goal.returns-clause-ok
 returns-clause-ok c =
     let h = subst (λ (s : Standing). IsStandingHeld s c.self.inside.base c.self.inside.roots.items c.self.inside.snapshots.items c.self.inside.marks c.self.inside.count) c.self.view_is c.self.invariant in
-    held-is (landed_on format.Two c.args.snapshot.map c.args.self.now) _ _ _ _ _ (turn-landed c.args.self.now _ _ _ _ _ h (landing_update c.args.self.now c.args.snapshot) c.requires.landing c.know.ensures c.requires.room
+    held-is (landed_on format.Two c.args.snapshot.map c.args.self.now) _ _ _ _ _ (push-landed c.args.self.now _ _ _ _ _ h (landing_update c.args.self.now c.args.snapshot) c.requires.landing c.know.ensures c.requires.room
     _ _ c.args.snapshot c.mark_each.new.marks c.in_ok-count.count _ _
     (c.push_reserved.ensures.items ∙ ap (λ (ts : List (List ℕ)). ts ++ c.args.root ∷ []) c.reserve.ensures.items ∙ ap (λ r. c.self.inside.roots.items ++ r ∷ []) c.requires.root)
     (c.push_back_reserved.ensures.items ∙ ap (λ (ys : List SnapshotValue). ys ++ c.args.snapshot ∷ []) c.reserve-2.ensures.items)

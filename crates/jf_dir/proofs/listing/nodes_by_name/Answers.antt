@@ -1,5 +1,5 @@
 use Rattle.jf_dir.proofs.Listings.{put-last}
-use Rattle.jf_dir.proofs.listing.in_order.Goals as goal
+use Rattle.jf_dir.proofs.listing.nodes_by_name.Goals as goal
 
 pub loop-name-preserved-in_ok-insert : goal.loop-name-preserved-in_ok-insert
 loop-name-preserved-in_ok-insert c =

@@ -59,9 +59,9 @@ popped old new k full is some =
 
 -- ---- a landing
 module _ (s : Standing) (b : ℕ) (rs : List (List ℕ)) (xs : List SnapshotValue) (ms : List Mark) (n : ℕ) (h : IsStandingHeld s b rs xs ms n) (u : Update) (landing : IsLandingUpdate s u.snapshot.map u) (snap : IsSnapshot u.snapshot) (room : len u.snapshot.map ≤ 2 ^ 63) where
-  pub turn-landed : (rs' : List (List ℕ)) (xs' : List SnapshotValue) (x : SnapshotValue) (ms' : List Mark) (n' since : ℕ) (names : List NodeName) → rs' ≡ rs ++ u.root ∷ [] → xs' ≡ xs ++ x ∷ [] → x ≡ u.snapshot → since ≡ u.snapshot.version → names ≡ u.stale → AreAdded since names ms ms' → n' ≡ n + length u.fresh
+  pub push-landed : (rs' : List (List ℕ)) (xs' : List SnapshotValue) (x : SnapshotValue) (ms' : List Mark) (n' since : ℕ) (names : List NodeName) → rs' ≡ rs ++ u.root ∷ [] → xs' ≡ xs ++ x ∷ [] → x ≡ u.snapshot → since ≡ u.snapshot.version → names ≡ u.stale → AreAdded since names ms ms' → n' ≡ n + length u.fresh
       → IsStandingHeld (landed_on format.Two u.snapshot.map s) b rs' xs' ms' n'
-  turn-landed rs' xs' x ms' n' since names rooted more own at named added count =
+  push-landed rs' xs' x ms' n' since names rooted more own at named added count =
       let m = u.snapshot.map in
       let marked_ : AreAdded (s.head + 1) (landing_of format.Two s m).stale ms ms' = subst (λ v. AreAdded v (landing_of format.Two s m).stale ms ms') (at ∙ landing.version) (subst (λ ns. AreAdded since ns ms ms') (named ∙ landing.stale) added) in
       let marks = marks-landed s m h.sound (IsMap-map_at s.head s.nodes h.read.keys) snap.map landing.last ms ms' h.marks marked_ in
@@ -70,8 +70,8 @@ module _ (s : Standing) (b : ℕ) (rs : List (List ℕ)) (xs : List SnapshotValu
       (subst (λ ys. IsStandingHeld (landed_on format.Two m s) b (rs ++ u.root ∷ []) ys ms' n') (ap (λ y. xs ++ y ∷ []) (sym own) ∙ sym more) held)
 
   -- marks that were added in part and then removed
-  pub turn-kept : (rs' : List (List ℕ)) (xs' : List SnapshotValue) (ms₁ ms₂ : List Mark) (since : ℕ) (names : List NodeName) → rs' ≡ rs → xs' ≡ xs → since ≡ u.snapshot.version → AreSomeAdded since names ms ms₁ → AreRemoved since names ms₁ ms₂ → IsStandingHeld s b rs' xs' ms₂ n
-  turn-kept rs' xs' ms₁ ms₂ since names rooted same at added removed =
+  pub push-kept : (rs' : List (List ℕ)) (xs' : List SnapshotValue) (ms₁ ms₂ : List Mark) (since : ℕ) (names : List NodeName) → rs' ≡ rs → xs' ≡ xs → since ≡ u.snapshot.version → AreSomeAdded since names ms ms₁ → AreRemoved since names ms₁ ms₂ → IsStandingHeld s b rs' xs' ms₂ n
+  push-kept rs' xs' ms₁ ms₂ since names rooted same at added removed =
       let version = landing.version in
       let held : IsStandingHeld s b rs xs ms₂ n = record {
         read = h.read;
@@ -90,9 +90,9 @@ module _ (s : Standing) (b : ℕ) (rs : List (List ℕ)) (xs : List SnapshotValu
       subst (λ ts. IsStandingHeld s b ts xs' ms₂ n) (sym rooted) (subst (λ ys. IsStandingHeld s b rs ys ms₂ n) (sym same) held)
 
 -- ---- a landing taken back
-pub turn-unlanded : (s : Standing) (b : ℕ) (rs rs' : List (List ℕ)) (xs xs' : List SnapshotValue) (ms ms' : List Mark) (n k j since count : ℕ) (names : List NodeName) (u : Update) → IsReadStanding s → IsSound format.Two s → IsLandingUpdate s u.snapshot.map u → IsSnapshot u.snapshot
+pub pop-unlanded : (s : Standing) (b : ℕ) (rs rs' : List (List ℕ)) (xs xs' : List SnapshotValue) (ms ms' : List Mark) (n k j since count : ℕ) (names : List NodeName) (u : Update) → IsReadStanding s → IsSound format.Two s → IsLandingUpdate s u.snapshot.map u → IsSnapshot u.snapshot
     → IsStandingHeld (landed_on format.Two u.snapshot.map s) b rs xs ms n → k ≡ length rs → rs' ≡ take (k - 1) rs → j ≡ length xs → xs' ≡ take (j - 1) xs → since ≡ u.snapshot.version → names ≡ u.stale → AreRemoved since names ms ms' → count ≡ length u.fresh → IsStandingHeld s b rs' xs' ms' (n - count)
-turn-unlanded s b rs rs' xs xs' ms ms' n k j since count names u read sound landing snap h rooted rs_are full xs_are at named removed number =
+pop-unlanded s b rs rs' xs xs' ms ms' n k j since count names u read sound landing snap h rooted rs_are full xs_are at named removed number =
     let m = u.snapshot.map in
     let old = IsMap-map_at s.head s.nodes read.keys in
     let low = sound.floor_low in
@@ -138,18 +138,18 @@ taken-few s b rs xs ms ms' n floor count h up taken =
     let full = h.count in
     omega arith
 
-pub turn-floored : (s : Standing) (b : ℕ) (rs : List (List ℕ)) (xs xs' : List SnapshotValue) (ms ms' : List Mark) (n floor count dropped : ℕ) → IsStandingHeld s b rs xs ms n → s.floor ≤ floor → floor ≤ s.head → xs' ≡ drop dropped xs → dropped ≡ floor - s.floor → AreAscendingMarks ms → AreAscendingMarks ms' → AreTakenUpto floor count ms ms'
+pub prune-held : (s : Standing) (b : ℕ) (rs : List (List ℕ)) (xs xs' : List SnapshotValue) (ms ms' : List Mark) (n floor count dropped : ℕ) → IsStandingHeld s b rs xs ms n → s.floor ≤ floor → floor ≤ s.head → xs' ≡ drop dropped xs → dropped ≡ floor - s.floor → AreAscendingMarks ms → AreAscendingMarks ms' → AreTakenUpto floor count ms ms'
     → IsStandingHeld (with_floor floor s) b rs xs' ms' (n - count)
-turn-floored s b rs xs xs' ms ms' n floor count dropped h low high rest at up up' taken =
+prune-held s b rs xs xs' ms ms' n floor count dropped h low high rest at up up' taken =
     let last = h.sound.head_last in
     subst (λ ys. IsStandingHeld (with_floor floor s) b rs ys ms' (n - count)) (ap (λ i. drop i xs) (sym at) ∙ sym rest)
     (held-floored s floor low high b rs xs ms ms' n (n - count) h (marks-floored s floor count ms ms' h.marks taken)
     (count-floored s floor count n ms ms' h.read (floored-read s floor low high h.read) (omega arith) up up' h.marks taken h.count))
 
 -- ---- one snapshot
-pub turn-begun : (base : ℕ) (earlier : List (List ℕ)) (x : SnapshotValue) (r : List ℕ) (rs : List (List ℕ)) (none xs : List SnapshotValue) (ms : List Mark) (n : ℕ) → IsSnapshot x → AllByRecursion IsKey earlier → base + length earlier ≡ x.version → x.version < never → len x.map ≤ 2 ^ 63
+pub begun-held : (base : ℕ) (earlier : List (List ℕ)) (x : SnapshotValue) (r : List ℕ) (rs : List (List ℕ)) (none xs : List SnapshotValue) (ms : List Mark) (n : ℕ) → IsSnapshot x → AllByRecursion IsKey earlier → base + length earlier ≡ x.version → x.version < never → len x.map ≤ 2 ^ 63
     → r ≡ root x.map → rs ≡ earlier ++ r ∷ [] → none ≡ [] → xs ≡ none ++ x ∷ [] → ms ≡ [] → n ≡ length (nodes x.map) → IsStandingHeld (begun_with base earlier x) base rs xs ms n
-turn-begun base earlier x r rs none xs ms n snap keys numbered last room root_is rooted empty one unmarked_ count =
+begun-held base earlier x r rs none xs ms n snap keys numbered last room root_is rooted empty one unmarked_ count =
     let hashes : AllByRecursion IsKey (root x.map ∷ reverse earlier) = (root-IsKey x.map, All-each_element IsKey (reverse earlier) (λ k has. All-of IsKey earlier k keys (Contains-permutation (reverse earlier) earlier k (IsPermutation-sym earlier (reverse earlier) (IsPermutation-reverse earlier)) has))) in
     let held = held-begun base earlier x snap hashes numbered last room n count in
     subst (λ ts. IsStandingHeld (begun_with base earlier x) base ts xs ms n) (ap (λ k. earlier ++ k ∷ []) (sym root_is) ∙ sym rooted)

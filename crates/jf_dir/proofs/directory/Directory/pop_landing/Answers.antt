@@ -9,8 +9,8 @@ use Rattle.jf_standing.specs.Next.{IsReadStanding}
 use Rattle.jf_dir.specs.Directories.{IsSnapshotAt}
 use Rattle.jf_dir.specs.Holding.{IsStandingHeld, landing_update}
 use Rattle.jf_dir.proofs.Held.{held-is}
-use Rattle.jf_dir.proofs.Turns.{held-again, turn-unlanded, newest-update}
-use Rattle.jf_dir.proofs.directory.Directory.turn_back.Goals as goal
+use Rattle.jf_dir.proofs.HeldAfter.{held-again, pop-unlanded, newest-update}
+use Rattle.jf_dir.proofs.directory.Directory.pop_landing.Goals as goal
 
 -- what is held after the landing of m on s was taken back
 held : (c : goal.After-self-1) (s : Standing) (m : Map) → IsReadStanding s → IsSound format.Two s → IsMap m → c.args.fresh ≡ length (landing_of format.Two s m).fresh → c.args.stale.now ≡ (landing_of format.Two s m).stale → c.args.self.now ≡ landed_on format.Two m s
@@ -21,7 +21,7 @@ held c s m read sound own fresh stale is =
     let at : IsSnapshotAt c.args.self.now c.args.self.now.head x = c.newest-newest.ensures in
     let u = newest-update s m x read sound own h.sound (subst (λ (t : Standing). IsSnapshotAt t t.head x) is at) in
     let m_is = sym u.0 in
-    turn-unlanded s _ _ _ _ _ _ _ _ _ _ _ _ _ (landing_update s x) read sound u.1 c.know.ensures (subst (λ q. IsStandingHeld (landed_on format.Two q s) c.self.inside.base c.self.inside.roots.items c.self.inside.snapshots.items c.self.inside.marks c.self.inside.count) m_is h)
+    pop-unlanded s _ _ _ _ _ _ _ _ _ _ _ _ _ (landing_update s x) read sound u.1 c.know.ensures (subst (λ q. IsStandingHeld (landed_on format.Two q s) c.self.inside.base c.self.inside.roots.items c.self.inside.snapshots.items c.self.inside.marks c.self.inside.count) m_is h)
     c.self.inside.roots.ok.0 c.pop.ensures.rest c.self.inside.snapshots.ok.0 c.pop_back.ensures.rest c.version-since.ensures (stale ∙ ap (λ q. (landing_of format.Two s q).stale) m_is) c.unmark_each.ensures (fresh ∙ ap (λ q. length (landing_of format.Two s q).fresh) m_is)
 
 pub invariant_of-self : goal.invariant_of-self
