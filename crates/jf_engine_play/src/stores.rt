@@ -7,17 +7,6 @@ use std::thread::Threads;
 
 pub type Store = Box<Engine<MemDisk>>;
 
-/// The numbers of a store whose files hold all versions from 0 on.
-pub fn numbers(head: u64, kept: u64, generation: u64) -> State {
-    State {
-        base: 0,
-        floor: 0,
-        head,
-        kept,
-        generation,
-    }
-}
-
 /// A disk that holds these bytes, on which these calls fail.
 pub fn disk_of(alloc: Global, a: &[u8], b: &[u8], failing: &[u64]) -> Result<Box<MemDisk>, Fail> {
     let (a, b) = (a.to_vec(alloc)?, b.to_vec(alloc)?);

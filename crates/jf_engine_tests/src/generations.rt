@@ -3,6 +3,7 @@ use crate::damage::{BEFORE, Edit, Opened, edited, opened};
 use crate::records::{END, NEW, SECOND, joined};
 use jf_disk::Side;
 use jf_engine::{OpenFault, State};
+use jf_engine_play::stores::new_store;
 use std::alloc::Global;
 use std::test::Fail;
 use std::thread::Threads;
@@ -53,5 +54,26 @@ fn the_greater_generation_is_live(rt: HostRuntime) -> Result<(), Fail> {
     for (edit, want) in ON_B {
         assert!(rt; is_found(&rt, rt.alloc(), *edit, *want)?, "{edit:?}");
     }
+    Ok(())
+}
+
+// Whether the next generations of a new store have these numbers.
+fn has_generations<H: Threads + Sync>(
+    rt: &H,
+    alloc: Global,
+    generations: &[u64],
+) -> Result<bool, Fail> {
+    let mut engine = new_store(rt, alloc)?;
+    for generation in generations {
+        if engine.compact(alloc) != Ok(*generation) {
+            return Ok(false);
+        }
+    }
+    Ok(true)
+}
+
+#[test]
+fn a_compaction_returns_its_generation(rt: HostRuntime) -> Result<(), Fail> {
+    assert!(rt; has_generations(&rt, rt.alloc(), &[2, 3, 4])?);
     Ok(())
 }
