@@ -27,6 +27,7 @@ use Rattle.jf_standing.proofs.Names.{named-tells, named-so, are_rising-sorted, s
 use Rattle.jf_standing.proofs.Numbers.{le_so, number_tells, other_number}
 use Rattle.jf_standing.proofs.Ordered.{Contains-find}
 use Rattle.jf_standing.proofs.Sinces.{version-low, version-before, since-high}
+use Rattle.jf_dir.proofs.MarkCounts.{apart_names}
 use Rattle.jf_check.specs.Cuts.{is_written_by, named_by, nodes_by, standing_by, without_since, landing_making}
 use Rattle.jf_check.proofs.Numbered.{IsNumbered}
 
@@ -50,10 +51,6 @@ rising-versions n (m ∷ ns) h =
 pub later_rise : (n : Named) (ns : List Named) → IsTrue (are_rising (map (λ n. n.0) (n ∷ ns))) → IsTrue (are_rising (map (λ n. n.0) ns))
 later_rise n [] h = refl
 later_rise n (m ∷ ns) h = right_true (is_lt (name_cmp n.0 m.0)) _ h
-
-apart_names : (ns : List Named) → map (λ e. e.0) (map apart ns) ≡ map (λ n. n.0) ns
-apart_names [] = refl
-apart_names (n ∷ ns) = ap (λ t. n.0 ∷ t) (apart_names ns)
 
 -- nodes whose names rise are equal if they have the same name
 pub rising-one_name : (ns : List Named) (m n : Named) → IsTrue (are_rising (map (λ n. n.0) ns)) → Contains ns m → Contains ns n → m.0 ≡ n.0 → m ≡ n

@@ -36,21 +36,18 @@ use Rattle.jf_node.specs.SnapshotValue.{SnapshotValue}
 use Rattle.jf_node.specs.Snapshots.{IsSnapshot, snapshot_version_at}
 use Rattle.jf_diff.specs.Landings.{version_in, version_or}
 use Rattle.jf_dir.specs.Directories.{begun_with}
+use Rattle.jf_dir.proofs.MarkCounts.{apart_names}
 use Rattle.jf_check.specs.Cuts.{standing_by, nodes_by, named_by, is_written_by}
 use Rattle.jf_check.specs.Floors.{listed_in, same_listed}
 use Rattle.jf_check.proofs.CutSound.{sound-by, map-nodes_by, version-nodes_by}
 use Rattle.jf_check.proofs.Fronts.{rising-filter}
-
-names_apart : (ns : List Named) → map (λ e. e.0) (map apart ns) ≡ map (λ n. n.0) ns
-names_apart [] = refl
-names_apart (n ∷ ns) = ap (λ t. n.0 ∷ t) (names_apart ns)
 
 -- nodes whose names rise are equal if they are the same nodes
 pub same_rising : (xs ys : List Named) → IsTrue (are_rising (map (λ n. n.0) xs)) → IsTrue (are_rising (map (λ n. n.0) ys)) → ((n : Named) → Contains xs n → Contains ys n) → ((n : Named) → Contains ys n → Contains xs n) → xs ≡ ys
 same_rising xs ys rises rises' there here =
     sym (back xs)
     ∙ ap (map as_named) (same_sorted name_cmp name_cmp_total same_name-exact (map apart xs) (map apart ys)
-    (are_rising-sorted (map apart xs) (subst (λ ns. IsTrue (are_rising ns)) (sym (names_apart xs)) rises)) (are_rising-sorted (map apart ys) (subst (λ ns. IsTrue (are_rising ns)) (sym (names_apart ys)) rises'))
+    (are_rising-sorted (map apart xs) (subst (λ ns. IsTrue (are_rising ns)) (sym (apart_names xs)) rises)) (are_rising-sorted (map apart ys) (subst (λ ns. IsTrue (are_rising ns)) (sym (apart_names ys)) rises'))
     (λ e has. let n = map-which apart xs e has in subst (Contains (map apart ys)) n.2 (Contains-map apart ys n.0 (there n.0 n.1)))
     (λ e has. let n = map-which apart ys e has in subst (Contains (map apart xs)) n.2 (Contains-map apart xs n.0 (here n.0 n.1))))
     ∙ back ys

@@ -16,6 +16,7 @@ use Rattle.jf_standing.specs.Building.{apart}
 use Rattle.jf_standing.proofs.Names.{are_rising-sorted}
 use Rattle.jf_standing.proofs.Rising.{sorted-are_rising}
 use Rattle.jf_standing.proofs.Numbers.{same_number}
+use Rattle.jf_dir.proofs.MarkCounts.{apart_names}
 use Rattle.jf_diff.proofs.Names.{are_rising-front}
 use Rattle.jf_check.specs.Cuts.{without_since}
 
@@ -45,13 +46,9 @@ kept_sorted test (n ∷ ns) h = elim (test n) as (λ b. T (is_sorted name_cmp (m
   | false ↦ kept_sorted test ns (right_so _ _ h)
 ]
 
-names_apart : (ns : List Named) → map (λ e. e.0) (map apart ns) ≡ map (λ n. n.0) ns
-names_apart [] = refl
-names_apart (n ∷ ns) = ap (λ t. n.0 ∷ t) (names_apart ns)
-
 -- the names of nodes that a filter keeps still rise
 pub rising-filter : (test : Named → Bool) (ns : List Named) → IsTrue (are_rising (map (λ n. n.0) ns)) → IsTrue (are_rising (map (λ n. n.0) (filter test ns)))
-rising-filter test ns rises = subst (λ xs. IsTrue (are_rising xs)) (names_apart (filter test ns)) (sorted-are_rising (map apart (filter test ns)) (kept_sorted test ns (are_rising-sorted (map apart ns) (subst (λ xs. IsTrue (are_rising xs)) (sym (names_apart ns)) rises))))
+rising-filter test ns rises = subst (λ xs. IsTrue (are_rising xs)) (apart_names (filter test ns)) (sorted-are_rising (map apart (filter test ns)) (kept_sorted test ns (are_rising-sorted (map apart ns) (subst (λ xs. IsTrue (are_rising xs)) (sym (apart_names ns)) rises))))
 
 -- and so do those of the nodes at the front
 pub rising-take : (i : ℕ) (ns : List Named) → IsTrue (are_rising (map (λ n. n.0) ns)) → IsTrue (are_rising (map (λ n. n.0) (take i ns)))

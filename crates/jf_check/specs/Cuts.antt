@@ -8,6 +8,7 @@ use Rattle.jf_path.specs.declared.node.PlainNode.{PlainNode}
 use Rattle.jf_payload.specs.declared.records.Commit.{Commit}
 use Rattle.jf_standing.specs.Named.{Named, never, written_at, stale_at}
 use Rattle.jf_standing.specs.Standing.{Standing}
+use Rattle.jf_check.specs.declared.lent.CheckpointRef.{CheckpointRef}
 
 -- whether a node was written at w or before
 abbrev pub is_written_by : ℕ → Named → Bool
@@ -40,6 +41,10 @@ landing_making w s = landing_listed w (slice_index_or s.roots (s.head - w) []) s
 -- the standing of a checkpoint, whose roots are listed from the base on
 abbrev pub standing_listed : ℕ → ℕ → ℕ → List (List ℕ) → List Named → Standing
 standing_listed base floor head roots ns = record { base = base; floor = floor; head = head; roots = reverse roots; nodes = ns }
+
+-- the standing of a checkpoint that is lent
+abbrev pub standing_lent : CheckpointRef → Standing
+standing_lent c = standing_listed c.base c.floor c.head c.roots.now c.nodes.now
 
 -- a node goes stale after the version that wrote it and after the floor, and both versions are at most the head
 abbrev pub has_numbers : ℕ → ℕ → Named → Bool

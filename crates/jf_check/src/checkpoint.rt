@@ -7,60 +7,41 @@ ghost use Rattle.jf_codec.specs.Spelling.{IsNode};
 ghost use Rattle.jf_standing.specs.FormatLaws.{standing_in};
 ghost use Rattle.jf_standing.specs.Next.{IsReadStanding};
 ghost use Rattle.jf_standing.specs.Sound.{IsSound};
-ghost use Rattle.jf_check.specs.Cuts.{has_numbers, standing_by, standing_listed};
+ghost use Rattle.jf_check.specs.Cuts.{has_numbers, standing_by, standing_lent};
 
 use crate::commit::check;
 use crate::fault::CheckFault;
 use crate::floor::floor_directory;
 use crate::later::landing_in;
+use crate::lent::CheckpointRef;
 use crate::numbers::{have_numbers, know_count};
 use crate::since::{names_by_since, take_names};
 use jf_codec::Format;
 use jf_dir::Directory;
-use jf_hash::Hash;
-use jf_path::{HashList, LiveList, NodeName, PlainNode};
 use std::alloc::Global;
 use std::thread::Threads;
 
-/// The directory of a checkpoint that was read: its versions from base, floor and head on, the roots from the base to
-/// the head, and its nodes in the order of their names, as a file of a format has them. `Unsound` exactly if they aren't
-/// those of landings one after another.
+/// The directory of a checkpoint that was read, whose nodes are as a file of a format has them. `Unsound` exactly if they
+/// aren't those of landings one after another.
 pub fn load<H: Threads + Sync>(
     rt: &H,
     alloc: Global,
-    base: u64,
-    floor: u64,
-    head: u64,
-    roots: &HashList,
-    nodes: &LiveList,
+    checkpoint: CheckpointRef<'_>,
     format: Format,
     workers: u64,
 ) -> Result<Directory, CheckFault>
     requires positive { 1 ≤ workers }
     requires bounded { workers ≤ 64 }
-    requires read { IsReadStanding (standing_listed base floor head roots.now nodes.now) }
-    requires spelled { AllByRecursion (λ n. IsName n.0 × IsNode format n.1 × (n.2 < 2 ^ 64)) nodes.now }
-    ensures loaded { IfOk result (λ d. IsSound format (standing_listed base floor head roots.now nodes.now) × (standing_in format d ≡ standing_listed base floor head roots.now nodes.now)) }
-    ensures unsound { result ≡ Err CheckFault.Unsound → IsSound format (standing_listed base floor head roots.now nodes.now) → ⊥ }
+    requires read { IsReadStanding (standing_lent checkpoint) }
+    requires spelled { AllByRecursion (λ n. IsName n.0 × IsNode format n.1 × (n.2 < 2 ^ 64)) checkpoint.nodes.now }
+    ensures loaded { IfOk result (λ d. IsSound format (standing_lent checkpoint.entry) × (standing_in format d ≡ standing_lent checkpoint.entry)) }
+    ensures unsound { result ≡ Err CheckFault.Unsound → IsSound format (standing_lent checkpoint.entry) → ⊥ }
 {
-    let roots = roots.as_slice();
-    let nodes = nodes.as_slice();
-    if !have_numbers(floor, head, nodes) {
+    if !have_numbers(checkpoint.floor, checkpoint.head, checkpoint.nodes) {
         return Err(CheckFault::Unsound);
     }
-    let mut directory = floor_directory(alloc, base, floor, head, roots, nodes, format)?;
-    land_later(
-        rt,
-        alloc,
-        &mut directory,
-        base,
-        floor,
-        head,
-        roots,
-        nodes,
-        format,
-        workers,
-    )?;
+    let mut directory = floor_directory(alloc, checkpoint, format)?;
+    land_later(rt, alloc, &mut directory, checkpoint, format, workers)?;
     directory.know();
     Ok(directory)
 }
@@ -70,23 +51,26 @@ fn land_later<H: Threads + Sync>(
     rt: &H,
     alloc: Global,
     directory: &mut Directory,
-    base: u64,
-    floor: u64,
-    head: u64,
-    roots: &[Hash],
-    nodes: &[(NodeName, PlainNode, u64)],
+    checkpoint: CheckpointRef<'_>,
     format: Format,
     workers: u64,
 ) -> Result<(), CheckFault>
     requires positive { 1 ≤ workers }
     requires bounded { workers ≤ 64 }
-    requires read { IsReadStanding (standing_listed base floor head roots.now nodes.now) }
-    requires spelled { AllByRecursion (λ n. IsName n.0 × IsNode format n.1 × (n.2 < 2 ^ 64)) nodes.now }
-    requires numbered { list_all (has_numbers floor head) nodes.now ≡ true }
-    requires begun { standing_in format directory.old ≡ standing_by floor (standing_listed base floor head roots.now nodes.now) }
-    ensures landed { OnOk result (standing_in format directory.new ≡ standing_listed base floor head roots.now nodes.now) }
-    ensures unsound { result ≡ Err CheckFault.Unsound → IsSound format (standing_listed base floor head roots.now nodes.now) → ⊥ }
+    requires read { IsReadStanding (standing_lent checkpoint) }
+    requires spelled { AllByRecursion (λ n. IsName n.0 × IsNode format n.1 × (n.2 < 2 ^ 64)) checkpoint.nodes.now }
+    requires numbered { list_all (has_numbers checkpoint.floor checkpoint.head) checkpoint.nodes.now ≡ true }
+    requires begun { standing_in format directory.old ≡ standing_by checkpoint.floor (standing_lent checkpoint) }
+    ensures landed { OnOk result (standing_in format directory.new ≡ standing_lent checkpoint.entry) }
+    ensures unsound { result ≡ Err CheckFault.Unsound → IsSound format (standing_lent checkpoint.entry) → ⊥ }
 {
+    let CheckpointRef {
+        base,
+        floor,
+        head,
+        roots,
+        nodes,
+    } = checkpoint;
     know_count(nodes);
     let mut by_since = names_by_since(alloc, nodes)?;
     for step in 0..head - floor {

@@ -1,9 +1,7 @@
 // What is read off the nodes of a floor: the entries of its map, and the versions of its nodes.
 ghost use Rattle.std.specs.Prelude.{◌≡◌, map, IfOk, OnOk};
-ghost use Rattle.jf_hash.specs.Hashes.{V};
 ghost use Rattle.jf_check.specs.Floors.{entries_in, in_key_order, path_and_version, versions_by_path};
 
-use jf_hash::Hash;
 use jf_path::{Key, Memory, NibblePath, NodeName, PlainNode, SharedBytes};
 use std::alloc::Global;
 use std::collections::BTreeMap;
@@ -77,7 +75,7 @@ fn values_of(alloc: Global, versions: BTreeMap<NibblePath, u64>) -> Result<Vec<u
 }
 
 /// The versions of nodes, in the order of their paths.
-pub(crate) fn versions_of(
+pub(crate) fn versions_by_path(
     alloc: Global,
     nodes: &[(NodeName, PlainNode, u64)],
 ) -> Result<Vec<u64>, Memory>
@@ -85,15 +83,4 @@ pub(crate) fn versions_of(
 {
     let versions = paths_of(alloc, nodes)?;
     values_of(alloc, versions)
-}
-
-/// The hash of each value.
-pub(crate) fn hashes_of(alloc: Global, entries: &[(Key, SharedBytes)]) -> Result<Vec<Hash>, Memory>
-    ensures { IfOk result (λ v. v.items ≡ map (λ e. V e.1) entries.now) }
-{
-    let mut hashes = Vec::with_capacity(alloc, entries.len())?;
-    for entry in entries {
-        hashes.push(jf_hash::value(entry.1.as_slice()))?;
-    }
-    Ok(hashes)
 }

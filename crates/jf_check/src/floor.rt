@@ -8,19 +8,19 @@ ghost use Rattle.jf_standing.specs.FormatLaws.{standing_in};
 ghost use Rattle.jf_standing.specs.Next.{IsReadStanding};
 ghost use Rattle.jf_standing.specs.Sound.{IsSound};
 ghost use Rattle.jf_update.specs.Restored.{IsRestored};
-ghost use Rattle.jf_check.specs.Cuts.{has_numbers, standing_by, standing_listed};
+ghost use Rattle.jf_check.specs.Cuts.{has_numbers, standing_by, standing_lent};
 ghost use Rattle.jf_check.specs.Floors.{AreFloorVersions, entries_in, versions_by_path, same_listed, listed_in};
 
-use crate::entries::{entries_of, hashes_of, versions_of};
+use crate::entries::{entries_of, versions_by_path};
 use crate::fault::CheckFault;
 use crate::later::count_by_version;
+use crate::lent::CheckpointRef;
 use crate::same::is_same_node;
 use jf_codec::Format;
-use jf_dir::Directory;
-use jf_hash::Hash;
+use jf_dir::{Directory, restored_from};
 use jf_node::Snapshot;
 use jf_path::{Memory, NodeName, PlainNode};
-use jf_update::{RestoreFault, restored};
+use jf_update::RestoreFault;
 use std::alloc::Global;
 
 /// The most entries of a map.
@@ -38,9 +38,8 @@ fn snapshot_of(
     ensures unsound { result ≡ Err CheckFault.Unsound → AreFloorVersions floor nodes.now → ⊥ }
 {
     let entries = entries_of(alloc, nodes)?;
-    let hashes = hashes_of(alloc, &entries)?;
-    let versions = versions_of(alloc, nodes)?;
-    match restored(alloc, floor, &entries, &hashes, &versions) {
+    let versions = versions_by_path(alloc, nodes)?;
+    match restored_from(alloc, floor, &entries, &versions) {
         Ok(snapshot) => Ok(snapshot),
         Err(RestoreFault::Versions) => Err(CheckFault::Unsound),
         Err(RestoreFault::Memory) => Err(CheckFault::Memory),
@@ -83,21 +82,23 @@ fn are_nodes_of(
 /// The directory of the floor alone. `Unsound` only if the checkpoint isn't sound.
 pub(crate) fn floor_directory(
     alloc: Global,
-    base: u64,
-    floor: u64,
-    head: u64,
-    roots: &[Hash],
-    nodes: &[(NodeName, PlainNode, u64)],
+    checkpoint: CheckpointRef<'_>,
     format: Format,
 ) -> Result<Directory, CheckFault>
-    requires read { IsReadStanding (standing_listed base floor head roots.now nodes.now) }
-    requires spelled { AllByRecursion (λ n. IsName n.0 × IsNode format n.1 × (n.2 < 2 ^ 64)) nodes.now }
-    requires numbered { list_all (has_numbers floor head) nodes.now ≡ true }
-    ensures begun { IfOk result (λ d. standing_in format d ≡ standing_by floor (standing_listed base floor head roots.now nodes.now)) }
-    ensures unsound { result ≡ Err CheckFault.Unsound → IsSound format (standing_listed base floor head roots.now nodes.now) → ⊥ }
+    requires read { IsReadStanding (standing_lent checkpoint) }
+    requires spelled { AllByRecursion (λ n. IsName n.0 × IsNode format n.1 × (n.2 < 2 ^ 64)) checkpoint.nodes.now }
+    requires numbered { list_all (has_numbers checkpoint.floor checkpoint.head) checkpoint.nodes.now ≡ true }
+    ensures begun { IfOk result (λ d. standing_in format d ≡ standing_by checkpoint.entry.floor (standing_lent checkpoint.entry)) }
+    ensures unsound { result ≡ Err CheckFault.Unsound → IsSound format (standing_lent checkpoint.entry) → ⊥ }
 {
-    let count = count_by_version(nodes, floor);
-    let own = &nodes[..count];
+    let CheckpointRef {
+        base,
+        floor,
+        roots,
+        ..
+    } = checkpoint;
+    let count = count_by_version(checkpoint.nodes, floor);
+    let own = &checkpoint.nodes[..count];
     let snapshot = snapshot_of(alloc, floor, own, format)?;
     snapshot.know();
     let place = (floor - base) as usize;

@@ -4,24 +4,25 @@ use Rattle.std.proofs.Common.{◌≡◌, refl, sym, ◌∙◌, ap, subst, ℕ, �
 use Rattle.std.proofs.Math.Nat.{eq-or-lt_of_le}
 use Rattle.jf_path.specs.Faults.{HasCause}
 use Rattle.jf_model.specs.Versions.{Versions, new_store}
-use Rattle.jf_disk.specs.Disk.{History, reads, Files, IsImage, CallsOn}
-use Rattle.jf_disk.specs.Crashes.{LeavesFiles, LeavesNow}
+use Rattle.jf_disk.specs.Disk.{History, reads, Files, IsImage, CallsOn, content_on}
+use Rattle.jf_disk.specs.Crashes.{LeavesFiles, LeavesNow, KeepsOther, opposite}
 use Rattle.jf_disk.specs.declared.side.Side.{Side}
-use Rattle.jf_disk.proofs.CrashLaws.{told_same, told_before, goes_weaker, goes_extends}
+use Rattle.jf_disk.specs.declared.side.Side.TheVariants as side
+use Rattle.jf_disk.proofs.CrashLaws.{told_same, told_before, goes_weaker, goes_extends, by_now}
 use Rattle.jf_frame.specs.Framed.{Framed}
-use Rattle.jf_frame.specs.Framing.{records}
+use Rattle.jf_frame.specs.Framing.{records, IsFrame}
 use Rattle.jf_frame.specs.Logs.{Log}
 use Rattle.jf_pair.specs.declared.fault.PairFault.{PairFault}
 use Rattle.jf_pair.specs.declared.fault.PairFault.TheVariants as pair_fault
 use Rattle.jf_pair.specs.Pairs.{Pair, IsInStep, StopsBetween, read_by}
-use Rattle.jf_pair.specs.Files.{HoldsLive, is_begun}
+use Rattle.jf_pair.specs.Files.{HoldsLive}
 use Rattle.jf_pair.proofs.PairLaws.{in_step_holds, in_step_leaves, in_step_side}
 use Rattle.jf_pair.proofs.FileLaws.{holds_one}
 use Rattle.jf_codec.specs.declared.format.Format.{Format}
 use Rattle.jf_codec.specs.declared.format.Format.TheVariants as format
 use Rattle.jf_payload.specs.declared.records.Record.{Record}
 use Rattle.jf_payload.specs.declared.records.Record.TheVariants as «record»
-use Rattle.jf_payload.specs.Spelling.{IsSpelling, IsRecord, checkpoint_kind}
+use Rattle.jf_payload.specs.Spelling.{IsSpelling, IsRecord, checkpoint_kind, record_bytes}
 use Rattle.jf_payload.specs.Laws.{SpelledIsSpelling}
 use Rattle.jf_standing.specs.Standing.{Standing, versions_of}
 use Rattle.jf_standing.specs.Sound.{IsSound}
@@ -31,13 +32,14 @@ use Rattle.jf_standing.specs.OrderLaws.{NewIsSound}
 use Rattle.jf_standing.specs.Taking.{GivesStanding}
 use Rattle.jf_standing.specs.FormatLaws.{standing_in, FormatsAreSound}
 use Rattle.jf_files.specs.Files.{LeadToStanding, LeadTo, generation_in, StandsFor, IsDamagedAt, IsUnsoundAt}
-use Rattle.jf_files.specs.Laws.{StandingsHaveVersions, GenerationIsLive, FilesStandForOne, CheckpointsAreNumbered, DamageHasOnePlace, DamageIsNoVersions}
+use Rattle.jf_files.specs.NewStore.{new_store_bytes}
+use Rattle.jf_files.specs.Laws.{NewStoreStands, StandingsHaveVersions, GenerationIsLive, FilesStandForOne, CheckpointsAreNumbered, DamageHasOnePlace, DamageIsNoVersions}
 use Rattle.jf_files.specs.Steps.{Opens, LiveAfter, Succeeds}
 use Rattle.jf_files.specs.StepLaws.{OpensByRecords, BeginsByRecords, SucceedsByRecords, SucceedsAfterReading, FirstFollows, CheckpointsFollow}
 use Rattle.jf_files.specs.Begun.{IsBegunOver}
 use Rattle.jf_engine.specs.Faults.{of_pair}
 use Rattle.jf_engine.specs.Kept.{HoldsStandingOf, KeepsStandingFiles, checkpoint_at_start}
-use Rattle.jf_engine.specs.Openings.{KeepsVersions, HasOpened, HasRefused, disk_view}
+use Rattle.jf_engine.specs.Openings.{KeepsVersions, HasOpened, HasRefused, disk_view, with_new_store}
 use Rattle.jf_engine.specs.declared.opening.Found.{Found}
 use Rattle.jf_engine.specs.declared.fault.OpenFault.{OpenFault}
 use Rattle.jf_engine.specs.declared.fault.OpenFault.TheVariants as open_fault
@@ -67,6 +69,14 @@ begins_keep one h g b =
       ]) b.images;
       recorded = λ x xs held. absurd (let e = holds_one (reads h) [] (x ∷ xs) b.none held in cc);
     }
+
+-- a first checkpoint makes the bytes of a new store of side A, and leaves side B as it was
+pub first_bytes : NewStoreStands → (m g : History) (was is : Side) (slice : List ℕ) → was ≡ side.B → is ≡ opposite was → IsFrame slice 5 (record_bytes format.Two (checkpoint_of 1 (new_standing format.Two)))
+    → (content_on is g.now).bytes ≡ 1 ∷ slice → KeepsOther (opposite was) m g → reads g ≡ with_new_store (reads m)
+first_bytes stands m g was is slice b across frame written other =
+    let own : g.now.a.bytes ≡ new_store_bytes = ap (λ (s : Side). (content_on s g.now).bytes) (sym (across ∙ ap opposite b)) ∙ written ∙ ap (λ (xs : List ℕ). 1 ∷ xs) frame.is ∙ stands.2 in
+    let kept : g.now.b ≡ m.now.b = by_now (λ s. content_on side.B s ≡ content_on side.B m.now) m g (subst (λ (w : Side). KeepsOther (opposite w) m g) b other) refl in
+    λ i. record { a = own i; b = (kept i).bytes }
 
 -- ---- the generation that is read
 first_bounds : CheckpointsAreNumbered → (fmt : Format) (x : Framed) (xs : List Framed) (r : Record) (s : Standing) → GivesStanding fmt r s → IsSpelling fmt r x.kind x.payload → (1 ≤ generation_in (x ∷ xs)) × (generation_in (x ∷ xs) ≤ 2 ^ 64 - 2)
@@ -107,6 +117,7 @@ module _ (formats : FormatsAreSound) (have : StandingsHaveVersions) (number : Ge
         found = λ h told. (record { live = x ∷ xs; held = held h told; leads = to }, number (reads h) (x ∷ xs) (held h told));
         disk = λ h told. let a = at h told in (a.0, a.1, reads_keep h a.0 a.2.0);
         settled = λ h told. let a = at h told in (a.0, a.1, holds_settled formats have number a.0 p fmt s (generation_in (x ∷ xs)) sound (record { held = x ∷ xs; in_step = a.2.1; leads = leads; numbered = refl }));
+        begun = λ h told. let a = at h told in (a.0, a.1, λ none. absurd (let e = holds_one (reads h) [] (x ∷ xs) none (held h told) in cc));
         live = λ h told. let a = at h told in (a.0, a.1, λ rs was. (x ∷ xs, in_step_holds p (x ∷ xs) a.0 a.2.1, subst (λ ys. LiveAfter Opens ys (x ∷ xs)) (holds_one (reads h) (x ∷ xs) rs (held h told) was) refl));
         succeeds = λ h told. let a = at h told in (a.0, a.1, λ calm. opens h a.0 (versions_of s) p x xs to calm a.2.0 a.2.1);
         untold = untold;
@@ -142,8 +153,9 @@ module _ (one : FilesStandForOne) (number : GenerationIsLive) (begins : BeginsBy
   }
 
   pub begun_opened : SucceedsByRecords → SucceedsAfterReading → (p' : Pair) → x.kind ≡ checkpoint_kind format.Two → generation_in (x ∷ []) ≡ 1
-      → ((k : History) → t ≡ Some k → (g : History) × (n ≡ Some g) × IsInStep p' (x ∷ []) g.now) → HasOpened (disk_view o m f) (disk_view n m' f') new_store 1
-  begun_opened succeeds reading p' kind numbered in_step =
+      → ((k : History) → t ≡ Some k → (g : History) × (n ≡ Some g) × IsInStep p' (x ∷ []) g.now) → ((k : History) → t ≡ Some k → (g : History) × (n ≡ Some g) × (reads g ≡ with_new_store (reads k)))
+      → HasOpened (disk_view o m f) (disk_view n m' f') new_store 1
+  begun_opened succeeds reading p' kind numbered in_step bytes =
       let at : (h : History) → o ≡ Some h → (g : History) × (n ≡ Some g) × (IsInStep p' (x ∷ []) g.now × (HoldsLive (reads h) [] × (LeavesNow h (λ f. StandsFor f new_store) → Succeeds Opens h g new_store))) = λ h told.
       let l = left h told in
       let both = on_same n _ _ (stop l.0 l.1) (in_step l.0 l.1) in
@@ -170,6 +182,7 @@ module _ (one : FilesStandForOne) (number : GenerationIsLive) (begins : BeginsBy
             generation_is = number (reads a.0) (x ∷ []) (in_step_holds p' (x ∷ []) a.0 a.2.0) ∙ numbered;
           },
         );
+        begun = λ h told. let l = left h told in let b = bytes l.0 l.1 in (b.0, b.1, λ none. b.2 ∙ ap with_new_store l.2.0.same);
         live = λ h told. let a = at h told in (a.0, a.1, λ rs was. (x ∷ [], in_step_holds p' (x ∷ []) a.0 a.2.0, subst (λ ys. LiveAfter Opens ys (x ∷ [])) (holds_one (reads h) [] rs a.2.1.0 was) (x, refl, kind)));
         succeeds = λ h told. let a = at h told in (a.0, a.1, a.2.1.1);
         untold = untold;
@@ -223,13 +236,13 @@ module _ (formats : FormatsAreSound) (have : StandingsHaveVersions) (number : Ge
       absurd (law (reads h) (versions_of x.directory) where_ place (record { live = rs; held = held h told; leads = lead_versions formats have rs x.format x.directory sound led }) here)
   replayed_damage law (Err e) led sound h where_ place told here = refl
 
-  pub replayed_refused : DamageHasOnePlace → p.is_live ≡ true → (r : Result Found OpenFault) → ((where_ : Side) (place : ℕ) → r ≡ Err (open_fault.Damaged where_ place) → is_begun rs ≡ true → 0 < length rs → (where_ ≡ p.side) × IsUnsoundAt rs place)
+  pub replayed_refused : DamageHasOnePlace → p.is_live ≡ true → (r : Result Found OpenFault) → ((where_ : Side) (place : ℕ) → r ≡ Err (open_fault.Damaged where_ place) → (where_ ≡ p.side) × IsUnsoundAt rs place)
       → (r ≡ Err open_fault.DiskFault → ⊥) → IfErr r (HasRefused (disk_view o m f) (disk_view n m' f'))
   replayed_refused one live (Ok x) damaged never = tt
   replayed_refused one live (Err e) damaged never =
       read_refused one o n m f m' f' e untold moment faults (λ is. absurd (never (ap (λ w. Err w) is))) (λ h told. let a = at h told in (a.0, a.1, a.2.0)) (λ h told where_ place is.
       let a = at h told in
-      let found = damaged where_ place (ap (λ w. Err w) is) a.2.1.begun (a.2.1.live.0 live) in
+      let found = damaged where_ place (ap (λ w. Err w) is) in
       let k = held h told in
       inr (rs, k, found.0 ∙ sym (in_step_side p rs a.0 k.a_records k.b_records a.2.1 live (subst (λ (f : Files). records f.a ≡ Ok k.a_records) (sym a.2.0.same) k.a_held) (subst (λ (f : Files). records f.b ≡ Ok k.b_records) (sym a.2.0.same) k.b_held)), found.1))
 
@@ -278,13 +291,14 @@ module _ (one : FilesStandForOne) (place : DamageHasOnePlace) (number : Generati
   pub first_opened : (r : Result Found OpenFault) → CallsOn t m1 f1 n m' f' (r ≡ Err open_fault.DiskFault) → (r ≡ Err open_fault.Memory) ⊎ IsRecord format.Two (checkpoint_of 1 (new_standing format.Two))
       → IfOk r (λ x. (x.directory ≡ new_standing format.Two) × (x.format ≡ format.Two) × (x.generation ≡ 1) × (x.pair.is_live ≡ true) × (x.pair.failed ≡ false))
       → ((k : History) → t ≡ Some k → IfOk r (λ x. (g : History) × (n ≡ Some g) × IsInStep x.pair (y ∷ []) g.now))
+      → ((k : History) → t ≡ Some k → IfOk r (λ x. (g : History) × (n ≡ Some g) × (reads g ≡ with_new_store (reads k))))
       → IfOk r (λ x. HasOpened (disk_view o m f) (disk_view n m' f') (versions_of x.directory) x.generation)
-  first_opened (Ok x) calls spelled found in_step =
+  first_opened (Ok x) calls spelled found in_step bytes =
       let written = first_written {P = IsRecord format.Two (checkpoint_of 1 (new_standing format.Two))} (Ok x) spelled (λ e. absurd (cc)) in
-      let opened = begun_opened one number begins o t n m f m' f' p y (leads_to_new written) (all_untold (Ok x) calls) (all_later (Ok x) calls) (all_counted (Ok x) calls) left stop readable succeeds reading x.pair refl (one_generation written) in_step in
+      let opened = begun_opened one number begins o t n m f m' f' p y (leads_to_new written) (all_untold (Ok x) calls) (all_later (Ok x) calls) (all_counted (Ok x) calls) left stop readable succeeds reading x.pair refl (one_generation written) in_step bytes in
       subst (λ k. HasOpened (disk_view o m f) (disk_view n m' f') (versions_of x.directory) k) (sym found.2)
       (subst (λ v. HasOpened (disk_view o m f) (disk_view n m' f') v 1) (sym (ap versions_of found.0 ∙ (new format.Two).1)) opened)
-  first_opened (Err e) calls spelled found in_step = tt
+  first_opened (Err e) calls spelled found in_step bytes = tt
 
   pub first_refused : (r : Result Found OpenFault) → CallsOn t m1 f1 n m' f' (r ≡ Err open_fault.DiskFault) → (r ≡ Err open_fault.Memory) ⊎ IsRecord format.Two (checkpoint_of 1 (new_standing format.Two))
       → (r ≡ Err open_fault.Memory → n ≡ t) → ((where_ : Side) (at : ℕ) → r ≡ Err (open_fault.Damaged where_ at) → ⊥) → IfErr r (HasRefused (disk_view o m f) (disk_view n m' f'))

@@ -1,15 +1,17 @@
 -- What an engine keeps of its files: they are in step with its pair, and hold its standing.
-use Rattle.std.specs.Prelude.{ℕ, List, ◌≡◌, Option, Some, true, false}
-use Rattle.jf_disk.specs.Disk.{DiskState, History}
+use Rattle.std.specs.Prelude.{ℕ, List, [], ◌∷◌, ◌≡◌, Option, Some, true, false}
+use Rattle.jf_hash.specs.Maps.{map_of_entries}
+use Rattle.jf_disk.specs.Disk.{DiskState, Files, History}
 use Rattle.jf_frame.specs.Framed.{Framed}
 use Rattle.jf_frame.specs.Logs.{framed}
+use Rattle.jf_pair.specs.Files.{HoldsLive}
 use Rattle.jf_pair.specs.Pairs.{Pair, IsInStep}
 use Rattle.jf_codec.specs.declared.format.Format.{Format}
 use Rattle.jf_codec.specs.declared.format.Format.TheVariants as format
 use Rattle.jf_payload.specs.Spelling.{checkpoint_kind, record_bytes}
 use Rattle.jf_standing.specs.Standing.{Standing}
 use Rattle.jf_standing.specs.FormatLaws.{standing_in}
-use Rattle.jf_standing.specs.Building.{checkpoint_of}
+use Rattle.jf_standing.specs.Building.{checkpoint_of, imported_standing}
 use Rattle.jf_files.specs.Files.{LeadToStanding, generation_in}
 
 -- a disk is in step with a pair whose live records, in this format and generation, lead to this standing
@@ -28,3 +30,8 @@ pub record KeepsStandingFiles (history : Option History) (p : Pair) (fmt : Forma
 -- the checkpoint of a standing in format 2, as the first record of its file
 abbrev pub checkpoint_at_start : ℕ → Standing → Framed
 checkpoint_at_start g s = framed 0 (checkpoint_kind format.Two) (record_bytes format.Two (checkpoint_of g s))
+
+-- two files hold one live record: the checkpoint, in a generation, of one version with these entries, whose nodes are all
+-- named by that version
+abbrev pub HoldImported : Files → ℕ → ℕ → List (List ℕ × List ℕ) → Type 0
+HoldImported files generation version es = HoldsLive files (checkpoint_at_start generation (imported_standing format.Two version (map_of_entries es)) ∷ [])

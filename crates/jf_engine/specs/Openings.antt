@@ -1,9 +1,9 @@
 -- What an opening of two files, or its refusal, makes of them.
-use Rattle.std.specs.Prelude.{ℕ, List, ◌≡◌, ◌≤◌, ◌⊎◌, ◌∷◌, Option, Some, None}
+use Rattle.std.specs.Prelude.{ℕ, List, ◌≡◌, ◌≤◌, ◌⊎◌, [], ◌∷◌, Option, Some, None}
 use Rattle.std.specs.Option.{ForSome}
 use Rattle.jf_path.specs.Faults.{HasCause}
 use Rattle.jf_model.specs.Versions.{Versions}
-use Rattle.jf_disk.specs.Disk.{History, reads}
+use Rattle.jf_disk.specs.Disk.{Files, History, reads}
 use Rattle.jf_disk.specs.Crashes.{LeavesFiles, LeavesNow}
 use Rattle.jf_disk.specs.Moments.{ExtendsHistory}
 use Rattle.jf_disk.specs.declared.side.Side.{Side}
@@ -12,6 +12,7 @@ use Rattle.jf_pair.specs.Files.{HoldsLive}
 use Rattle.jf_files.specs.Files.{StandsFor, IsDamagedAt, generation}
 use Rattle.jf_files.specs.Steps.{Opens, StopsWell, Succeeds, LiveAfter, IsCalm}
 use Rattle.jf_files.specs.Begun.{IsBegunOver}
+use Rattle.jf_files.specs.NewStore.{new_store_bytes}
 use Rattle.jf_engine.specs.Engines.{IsSettledOn}
 use Rattle.jf_engine.specs.declared.fault.OpenFault.{OpenFault}
 use Rattle.jf_engine.specs.declared.fault.OpenFault.TheVariants as open_fault
@@ -23,6 +24,10 @@ pub record KeepsVersions (old new : History) : Type 0 where
   pub stands : (v : Versions) → StandsFor (reads old) v → StandsFor (reads new) v
   pub stops : (v : Versions) → IsCalm old → StandsFor (reads old) v → StopsWell Opens old new v
   pub recorded : (x : Framed) (xs : List Framed) → HoldsLive (reads old) (x ∷ xs) → LeavesFiles old new
+
+-- files of which side A holds the checkpoint of a new store, and side B is as it was
+abbrev pub with_new_store : Files → Files
+with_new_store files = record { a = new_store_bytes; b = files.b }
 
 -- ---- what an opening gives
 -- what a disk shows: its history, if it is known, its moment and its count of faults
@@ -40,12 +45,14 @@ abbrev pub OnHistories : Option History → Option History → (History → Hist
 OnHistories old new P = ForSome old (λ h. (g : History) × (new ≡ Some g) × P h g)
 
 -- an engine was opened on a disk: its versions are what the files stood for, in their generation, and the disk is settled on
--- them; the live records are those found, or a first checkpoint; and on a calm disk the opening has succeeded as a step
+-- them; the live records are those found, or a first checkpoint on side A; and on a calm disk the opening has succeeded as a
+-- step
 pub record HasOpened (old new : DiskView) (v : Versions) (n : ℕ) : Type 0 where
   pub found : ForSome old.history (λ h. StandsFor (reads h) v × (generation (reads h) ≡ n))
   pub disk : OnHistories old.history new.history KeepsVersions
   pub settled : OnHistories old.history new.history (λ h g. IsSettledOn g v n)
   pub live : OnHistories old.history new.history (λ h g. (rs : List Framed) → HoldsLive (reads h) rs → (rs' : List Framed) × HoldsLive (reads g) rs' × LiveAfter Opens rs rs')
+  pub begun : OnHistories old.history new.history (λ h g. HoldsLive (reads h) [] → reads g ≡ with_new_store (reads h))
   pub succeeds : OnHistories old.history new.history (λ h g. LeavesNow h (λ f. StandsFor f v) → Succeeds Opens h g v)
   pub untold : old.history ≡ None → new.history ≡ None
   pub moment : old.moment ≤ new.moment

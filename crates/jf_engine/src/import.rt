@@ -5,9 +5,10 @@ ghost use Rattle.jf_path.specs.Faults.{HasCause};
 ghost use Rattle.jf_path.specs.Keys.{key_cmp};
 ghost use Rattle.jf_hash.specs.Maps.{map_of_entries};
 ghost use Rattle.jf_model.specs.Versions.{newest, imported};
-ghost use Rattle.jf_disk.specs.Disk.{History};
+ghost use Rattle.jf_disk.specs.Disk.{History, reads};
 ghost use Rattle.jf_files.specs.Steps.{Imports, StopsWell, Succeeds};
 ghost use Rattle.jf_update.specs.Restored.{AreShortEntries};
+ghost use Rattle.jf_engine.specs.Kept.{HoldImported};
 
 use crate::checkpoint::checkpoint_frame;
 use crate::engine::{Engine, LAST, MOST_KEYS};
@@ -27,14 +28,14 @@ use std::alloc::Global;
 impl<D: Disk> Engine<D> {
     /// Makes a new store hold one version, whose map has these entries. Base, floor and head become that version. All
     /// memory is taken before the first call on the disk. One checkpoint of the next generation is written, in format
-    /// 2, to the side that isn't live, which is live from then on.
+    /// 2, to the side that isn't live, which is live from then on; all its nodes are named by that version.
     ///
     /// Refusals; after each but `DiskFault` store and disk are unchanged:
     ///
     /// - `Broken`: an earlier call on this store met a fault of the disk.
     /// - `NotEmpty(head)`: the head isn't version 0, or its map has an entry.
     /// - `Last(Generation)`: the store is new, and the generation is 2^64 - 2.
-    /// - `Last(Keys)`: it isn't, and more than 2^62 entries are given.
+    /// - `Last(Keys)`: the store is new, its generation may grow, and more than 2^62 entries are given.
     /// - `Memory`: memory ran out.
     /// - `DiskFault`: a call on the disk failed. The store is broken and shows the versions from before. After a crash
     ///   the files stand for these, or for the version imported.
@@ -50,6 +51,7 @@ impl<D: Disk> Engine<D> {
         ensures imported { OnOk result (self.new.versions ≡ imported version (map_of_entries entries.now)) }
         ensures generation { (OnOk result (self.new.generation ≡ self.old.generation + 1)) × (OnErr result (self.new.generation ≡ self.old.generation)) }
         ensures few { (OnOk result (self.old.moment + 4 ≤ self.new.moment)) × (self.new.moment ≤ self.old.moment + 10) }
+        ensures checkpoint { (h : History) → self.old.history ≡ Some h → OnOk result ((g : History) × (self.new.history ≡ Some g) × HoldImported (reads g) (self.old.generation + 1) version entries.now) }
         ensures succeeds { (h : History) → self.old.history ≡ Some h → OnOk result ((g : History) × (self.new.history ≡ Some g) × Succeeds (Imports version entries.now) h g self.old.versions) }
         ensures stops { (h : History) → self.old.history ≡ Some h → result ≡ Err EngineFault.DiskFault → (g : History) × (self.new.history ≡ Some g) × StopsWell (Imports version entries.now) h g self.old.versions }
         ensures untold { self.old.history ≡ None → self.new.history ≡ None }

@@ -1,22 +1,23 @@
 // The directory of one version whose nodes are all of that version.
-ghost use Rattle.std.specs.Prelude.{◌≡◌, ◌≤◌, ◌-◌, ◌^◌, IfOk, T, length, map, replicate};
+ghost use Rattle.std.specs.Prelude.{◌≡◌, ◌≤◌, ◌-◌, ◌^◌, IfOk, T, length, replicate};
 ghost use Rattle.std.specs.FinMap.{is_sorted};
 ghost use Rattle.jf_path.specs.Keys.{key_cmp};
-ghost use Rattle.jf_hash.specs.Hashes.{V};
 ghost use Rattle.jf_hash.specs.Maps.{map_of_entries};
 ghost use Rattle.jf_model.specs.Nodes.{nodes};
 ghost use Rattle.jf_model.specs.Versions.{imported};
+ghost use Rattle.jf_codec.specs.declared.format.Format.TheVariants as format;
+ghost use Rattle.jf_standing.specs.Building.{imported_standing};
 ghost use Rattle.jf_standing.specs.Standing.{versions_of};
 ghost use Rattle.jf_update.specs.Restored.{AreShortEntries, IsRestored};
+ghost use Rattle.jf_dir.specs.Directories.{ordered};
 
-use jf_dir::Directory;
-use jf_hash::Hash;
+use jf_dir::{Directory, restored_from};
 use jf_node::Snapshot;
 use jf_path::{Bytes, Key, Memory, Pairs, SharedBytes};
-use jf_update::{RestoreFault, count_of_nodes, restored};
+use jf_update::{RestoreFault, count_of_nodes};
 use std::alloc::Global;
 
-/// The directory of one version, whose map has these entries.
+/// The directory of one version, whose map has these entries. All its nodes are of that version.
 pub(crate) fn imported_directory(
     alloc: Global,
     version: u64,
@@ -26,7 +27,8 @@ pub(crate) fn imported_directory(
     requires sorted { T (is_sorted key_cmp entries.now) }
     requires short { AreShortEntries entries.now }
     requires few { length entries.now ≤ 2 ^ 62 }
-    ensures { IfOk result (λ d. versions_of d ≡ imported version (map_of_entries entries.now)) }
+    ensures versions { IfOk result (λ d. versions_of d ≡ imported version (map_of_entries entries.now)) }
+    ensures standing { IfOk result (λ d. d ≡ ordered (imported_standing format.Two version (map_of_entries entries.now))) }
 {
     let snapshot = imported_snapshot(alloc, version, entries.as_slice())?;
     snapshot.know();
@@ -45,10 +47,9 @@ fn imported_snapshot(
     ensures { IfOk result (IsRestored version entries.now (replicate (length (nodes (map_of_entries entries.now))) version)) }
 {
     let shared = shared_entries(alloc, entries)?;
-    let hashes = hashes_of(alloc, &shared)?;
     let count = count_of_nodes(&shared)?;
     let versions = copies_of(alloc, version, count)?;
-    match restored(alloc, version, &shared, &hashes, &versions) {
+    match restored_from(alloc, version, &shared, &versions) {
         Ok(snapshot) => Ok(snapshot),
         // There is a version for each node, so memory ran out.
         Err(RestoreFault::Versions | RestoreFault::Memory) => Err(Memory),
@@ -68,17 +69,6 @@ fn shared_entries(
         shared.push((entry.0, value))?;
     }
     Ok(shared)
-}
-
-/// The hash of each value.
-fn hashes_of(alloc: Global, entries: &[(Key, SharedBytes)]) -> Result<Vec<Hash>, Memory>
-    ensures { IfOk result (λ v. v.items ≡ map (λ e. V e.1) entries.now) }
-{
-    let mut hashes = Vec::with_capacity(alloc, entries.len())?;
-    for entry in entries {
-        hashes.push(jf_hash::value(entry.1.as_slice()))?;
-    }
-    Ok(hashes)
 }
 
 /// A version so many times.

@@ -8,13 +8,9 @@ use Rattle.jf_payload.specs.Spelling.{checkpoint_kind}
 use Rattle.jf_standing.specs.Standing.{Standing}
 use Rattle.jf_standing.specs.Leading.{Item, ItemFollows, ItemBegins, Leads, FailsAt}
 use Rattle.jf_files.specs.Files.{item, items, LeadToStanding, IsUnsoundAt}
+use Rattle.jf_files.proofs.Holding.{leads_on}
 
 -- ---- items
--- one more item leads on
-leads_on : (fmt : Format) (xs : List Item) (s a b : Standing) (y : Item) → Leads fmt s xs a → ItemFollows fmt a y b → Leads fmt s (xs ++ y ∷ []) b
-leads_on fmt [] s a b y is next = (b, subst (λ m. ItemFollows fmt m y b) is next, refl)
-leads_on fmt (x ∷ xs) s a b y is next = (is.0, is.1, leads_on fmt xs is.0 a b y is.2 next)
-
 -- after items that lead to a standing, one that isn't taken is the place at which they fail
 fails_on : (fmt : Format) (xs : List Item) (s a : Standing) (y : Item) (ys : List Item) → Leads fmt s xs a → ((b : Standing) → ItemFollows fmt a y b → ⊥) → FailsAt fmt s (xs ++ y ∷ ys) y.0
 fails_on fmt [] s a y ys is none = inl (refl, λ b next. none b (subst (λ m. ItemFollows fmt m y b) (sym is) next))

@@ -13,7 +13,7 @@ ghost use Rattle.jf_standing.specs.FormatLaws.{standing_in};
 ghost use Rattle.jf_files.specs.Files.{item};
 
 use crate::fault::{ReplayFault, refused_at, undecoded_at};
-use jf_check::{CheckFault, load};
+use jf_check::{CheckFault, CheckpointRef, load};
 use jf_codec::Format;
 use jf_dir::Directory;
 use jf_files::checkpoints_are_numbered;
@@ -94,9 +94,14 @@ fn given<H: Threads + Sync>(
             roots,
             nodes,
         } => {
-            let directory = load(
-                rt, alloc, base, floor, head, &roots, &nodes, format, workers,
-            )?;
+            let checkpoint = CheckpointRef {
+                base,
+                floor,
+                head,
+                roots: roots.as_slice(),
+                nodes: nodes.as_slice(),
+            };
+            let directory = load(rt, alloc, checkpoint, format, workers)?;
             Ok(Replayed {
                 directory,
                 format,

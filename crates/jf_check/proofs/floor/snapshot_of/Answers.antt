@@ -6,8 +6,8 @@ use Rattle.jf_update.specs.Restored.{AreShortEntries}
 use Rattle.jf_check.proofs.KeyOrder.{sorted-in_key_order, short-in_key_order}
 use Rattle.jf_check.proofs.floor.snapshot_of.Goals as goal
 
-pub restored-requires-clause-sorted : goal.restored-requires-clause-sorted
-restored-requires-clause-sorted c = subst (λ es. T (is_sorted key_cmp es)) (sym (c.deref-2.ensures.value ∙ c.in_ok-entries.ensures)) (sorted-in_key_order (leaf_entries c.args.nodes.now))
+pub restored_from-requires-clause-sorted : goal.restored_from-requires-clause-sorted
+restored_from-requires-clause-sorted c = subst (λ es. T (is_sorted key_cmp es)) (sym (c.deref.ensures.value ∙ c.in_ok-entries.ensures)) (sorted-in_key_order (leaf_entries c.args.nodes.now))
 
-pub restored-requires-clause-short : goal.restored-requires-clause-short
-restored-requires-clause-short c = subst AreShortEntries (sym (c.deref-2.ensures.value ∙ c.in_ok-entries.ensures)) (short-in_key_order c.args.format c.args.nodes.now c.requires.spelled)
+pub restored_from-requires-clause-short : goal.restored_from-requires-clause-short
+restored_from-requires-clause-short c = subst AreShortEntries (sym (c.deref.ensures.value ∙ c.in_ok-entries.ensures)) (short-in_key_order c.args.format c.args.nodes.now c.requires.spelled)

@@ -2,16 +2,18 @@
 use Rattle.std.proofs.Common.{◌≡◌, ◌≤◌, ◌<◌, ◌+◌, ◌-◌, ◌^◌, [], ◌∷◌, Some, subst, sym, ◌∙◌, refl, rules, arith}
 use Rattle.jf_hash.specs.Maps.{map_of_entries}
 use Rattle.jf_model.specs.Versions.{imported}
-use Rattle.jf_disk.specs.Disk.{History}
+use Rattle.jf_disk.specs.Disk.{History, reads}
+use Rattle.jf_frame.specs.Framed.{Framed}
 use Rattle.jf_frame.specs.Framing.{IsFrame, number_of}
-use Rattle.jf_pair.specs.Files.{generation_of}
-use Rattle.jf_pair.proofs.PairLaws.{in_step_one}
+use Rattle.jf_pair.specs.Files.{HoldsLive, generation_of}
+use Rattle.jf_pair.proofs.PairLaws.{in_step_holds, in_step_one}
 use Rattle.jf_codec.specs.declared.format.Format.TheVariants as format
 use Rattle.jf_payload.specs.Spelling.{record_bytes}
-use Rattle.jf_standing.specs.Building.{checkpoint_of}
+use Rattle.jf_standing.specs.Building.{checkpoint_of, imported_standing}
 use Rattle.jf_files.specs.Steps.{Imports, Succeeds, StopsWell}
 use Rattle.jf_engine.specs.Engines.{Engine}
-use Rattle.jf_engine.specs.Kept.{checkpoint_at_start}
+use Rattle.jf_engine.specs.Kept.{HoldImported, checkpoint_at_start}
+use Rattle.jf_engine.proofs.Imports.{ordered-checkpoint}
 use Rattle.jf_engine.proofs.Records.{checkpoint_leads, checkpoint_frame-is, older-generation}
 use Rattle.jf_engine.proofs.Keeping.{lead_after, step_stops, step_succeeds, switched_keeps, on_same, unfailed}
 use Rattle.jf_engine.proofs.engine.Engine.import.Goals as goal
@@ -71,8 +73,22 @@ returns-in-Ok-clause-succeeds g c = λ h told.
     let ok = c.in-Ok.ensures.ok h 5 payload told frame in
     let both = on_same _ _ _ stop ok in
     let leads = checkpoint_leads c.checkpoints_follow.ensures c.checkpoints_are_numbered.ensures s' (n + 1) c.know-2.ensures.read c.know-2.ensures.sound c.in_ok-frame.ensures.spelled in
-    let after = lead_after formats c.standings_have_versions.ensures (λ v. imported c.args.version (map_of_entries c.args.entries.now)) (x ∷ []) fmt format.Two s s' c.know.ensures.sound (leads.0, (formats format.Two s' c.know-2.ensures.sound).1 ∙ c.in_ok-directory.ensures) in
+    let after = lead_after formats c.standings_have_versions.ensures (λ v. imported c.args.version (map_of_entries c.args.entries.now)) (x ∷ []) fmt format.Two s s' c.know.ensures.sound (leads.0, (formats format.Two s' c.know-2.ensures.sound).1 ∙ c.in_ok-directory.ensures.versions) in
     (both.0, both.1, step_succeeds formats c.standings_have_versions.ensures c.succeeds_by_records.ensures step h both.0 p c.switch.new.self fmt s n k (x ∷ []) c.know.ensures.sound after both.2.0 both.2.1 leads.1 (x, refl, refl))) told
+
+pub returns-in-Ok-clause-checkpoint : goal.returns-in-Ok-clause-checkpoint
+returns-in-Ok-clause-checkpoint g c = λ h told.
+    let s' = c.in_ok-directory.directory in
+    let version = c.args.version in
+    let es = c.args.entries.now in
+    subst (λ (e : Engine). e.history ≡ Some h → (t : History) × (g.D.Disk.history c.switch.new.disk ≡ Some t) × HoldImported (reads t) (e.generation + 1) version es) c.self.view_is
+    (λ told.
+    let n = c.self.inside.generation + 1 in
+    let payload = record_bytes format.Two (checkpoint_of n s') in
+    let frame = subst (λ bytes. IsFrame bytes 5 payload) (sym c.as_slice.ensures) c.in_ok-frame.ensures.frame in
+    let ok = c.in-Ok.ensures.ok h 5 payload told frame in
+    let same = ordered-checkpoint n s' (imported_standing format.Two version (map_of_entries es)) c.in_ok-directory.ensures.standing c.know-2.ensures.read c.know-2.ensures.sound in
+    (ok.0, ok.1, subst (λ (x : Framed). HoldsLive (reads ok.0) (x ∷ [])) same (in_step_holds c.switch.new.self (checkpoint_at_start n s' ∷ []) ok.0 ok.2))) told
 
 pub returns-in-Err-clause-stops : goal.returns-in-Err-clause-stops
 returns-in-Err-clause-stops g c = λ h told fault.
@@ -91,5 +107,5 @@ returns-in-Err-clause-stops g c = λ h told fault.
     let frame = subst (λ bytes. IsFrame bytes 5 payload) (sym c.as_slice.ensures) c.in_ok-frame.ensures.frame in
     let stop = c.in-Err.ensures.stop h k.held 5 payload told k.in_step frame in
     let leads = checkpoint_leads c.checkpoints_follow.ensures c.checkpoints_are_numbered.ensures s' (n + 1) c.know-2.ensures.read c.know-2.ensures.sound c.in_ok-frame.ensures.spelled in
-    let after = lead_after formats c.standings_have_versions.ensures (λ v. imported c.args.version (map_of_entries c.args.entries.now)) (x ∷ []) fmt format.Two s s' c.know.ensures.sound (leads.0, (formats format.Two s' c.know-2.ensures.sound).1 ∙ c.in_ok-directory.ensures) in
+    let after = lead_after formats c.standings_have_versions.ensures (λ v. imported c.args.version (map_of_entries c.args.entries.now)) (x ∷ []) fmt format.Two s s' c.know.ensures.sound (leads.0, (formats format.Two s' c.know-2.ensures.sound).1 ∙ c.in_ok-directory.ensures.versions) in
     (stop.0, stop.1, step_stops formats c.standings_have_versions.ensures c.stops_by_records.ensures step h stop.0 p fmt s n k (x ∷ []) c.know.ensures.sound after stop.2)) told
