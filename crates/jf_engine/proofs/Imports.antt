@@ -1,6 +1,7 @@
 -- A directory of one snapshot alone has that snapshot's map as its one version.
-use Rattle.std.specs.Prelude.{nat_cmp, slice_cmp, reverse}
-use Rattle.std.proofs.Common.{◌≡◌, refl, sym, ◌∙◌, ap, ℕ, zero, suc, ◌+◌, ◌-◌, ◌≤◌, ◌<◌, ◌^◌, List, [], ◌∷◌, map, length, replicate, cond, arith, true, false, true≢false, Some, None, T}
+use Rattle.std.specs.Prelude.{reverse}
+use Rattle.std.proofs.Common.{nat_cmp, ◌≡◌, refl, sym, ◌∙◌, ap, ℕ, zero, suc, ◌+◌, ◌-◌, ◌≤◌, ◌<◌, ◌^◌, List, [], ◌∷◌, map, length, replicate, cond, arith, true, false, true≢false, Some, None, T}
+use Rattle.std.specs.Cmp.Lexicographic.{slice_cmp}
 use Rattle.std.specs.FinMap.{entries, len, is_sorted}
 use Rattle.std.specs.FinMap as fin
 use Rattle.std.specs.List.{zip}
@@ -10,7 +11,7 @@ use Rattle.jf_path.specs.Keys.{key_cmp}
 use Rattle.jf_hash.specs.Maps.{map_of_entries}
 use Rattle.jf_hash.specs.Roots.{root}
 use Rattle.jf_hash.proofs.MapLaws.{map-from_entries}
-use Rattle.jf_model.specs.Nodes.{Path, is_node}
+use Rattle.jf_model.specs.Nodes.{Path, is_node, nodes}
 use Rattle.jf_model.specs.Versions.{imported}
 use Rattle.jf_frame.specs.Logs.{framed}
 use Rattle.jf_hash.specs.Slots.{Part}

@@ -1,6 +1,6 @@
 -- Openings: the files are read and unchanged, or files without a record are begun.
 use Rattle.std.specs.Prelude.{Result, Ok, Err, IfOk, IfErr, IsErr}
-use Rattle.std.proofs.Common.{◌≡◌, refl, sym, ◌∙◌, ap, subst, ℕ, ◌-◌, ◌≤◌, ◌<◌, ◌^◌, List, [], ◌∷◌, length, ◌⊎◌, ◌↔◌, inl, inr, Option, Some, None, Bool, true, false, arith, reverse}
+use Rattle.std.proofs.Common.{◌≡◌, refl, sym, ◌∙◌, ap, subst, ℕ, ◌-◌, ◌≤◌, ◌^◌, List, [], ◌∷◌, ◌⊎◌, ◌↔◌, inl, inr, Option, Some, None, Bool, true, false, arith, reverse}
 use Rattle.std.proofs.Math.Nat.{eq-or-lt_of_le}
 use Rattle.jf_path.specs.Faults.{HasCause}
 use Rattle.jf_model.specs.Versions.{Versions, new_store}

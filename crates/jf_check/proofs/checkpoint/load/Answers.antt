@@ -1,9 +1,4 @@
-use Rattle.std.proofs.Common.{ℕ, ◌<◌, ◌^◌, sym, ap, ap₂, ◌∙◌, subst}
-use Rattle.std.specs.List.{AllByRecursion, list_all}
-use Rattle.jf_path.specs.Names.{IsName}
-use Rattle.jf_path.specs.declared.name.NodeName.{NodeName}
-use Rattle.jf_path.specs.declared.node.PlainNode.{PlainNode}
-use Rattle.jf_codec.specs.Spelling.{IsNode}
+use Rattle.std.proofs.Common.{sym, ◌∙◌, subst}
 use Rattle.jf_standing.specs.Sound.{IsSound}
 use Rattle.jf_standing.proofs.Formats.{sound_kept}
 use Rattle.jf_check.specs.Cuts.{standing_lent}
