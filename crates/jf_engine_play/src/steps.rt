@@ -4,11 +4,13 @@ ghost use Rattle.jf_path.specs.Limits.{max_forks};
 ghost use Rattle.jf_split.specs.Limits.{max_keys};
 ghost use Rattle.jf_model.specs.Batches.{key_count};
 
-use crate::entries::{Entries, are_short, is_rising, pairs_of};
+use crate::entries::{Entries, pairs_of};
 use jf_disk::MemDisk;
 use jf_engine::{Engine, EngineFault, Landed};
 use jf_hash::key_of;
 use jf_join::FreeGate;
+use jf_range::are_sorted;
+use jf_restore::are_short;
 use jf_split::{Batch, BatchFault, BatchList};
 use std::alloc::Global;
 use std::test::Fail;
@@ -111,7 +113,7 @@ fn import(
     entries: Entries,
 ) -> Result<Taken, Fail> {
     let pairs = pairs_of(alloc, entries)?;
-    if version == u64::MAX || !is_rising(pairs.as_slice()) || !are_short(pairs.as_slice()) {
+    if version == u64::MAX || !are_sorted(pairs.as_slice()) || !are_short(&pairs) {
         return Err(Fail::new("no such entries"));
     }
     Ok(engine.import(alloc, version, &pairs))
