@@ -71,7 +71,7 @@ struct Stopped {
     text: Vec<u8>,
 }
 
-fn stopped<H: Threads + Wait + Sync>(
+fn run_failing<H: Threads + Wait + Sync>(
     rt: &H,
     alloc: Global,
     failing: Failing,
@@ -116,7 +116,7 @@ fn answers_lines_before<H: Threads + Wait + Sync>(
     alloc: Global,
     call: usize,
 ) -> Result<bool, Fail> {
-    let Stopped { ended, text } = stopped(rt, alloc, Failing::Source(call as u64))?;
+    let Stopped { ended, text } = run_failing(rt, alloc, Failing::Source(call as u64))?;
     let want = replies(alloc, lines_before(call))?;
     let told = text.as_slice() == want.as_slice();
     Ok(has_ended_so(rt, alloc, ended, Status::ReadFault)? && told)
@@ -134,7 +134,7 @@ fn a_source_that_fails_leaves_the_replies_to_the_lines_before(rt: HostRuntime) -
 
 // Whether a run whose sink fails in this call writes a front of the replies.
 fn writes_front<H: Threads + Wait + Sync>(rt: &H, alloc: Global, call: u64) -> Result<bool, Fail> {
-    let Stopped { ended, text } = stopped(rt, alloc, Failing::Sink(call))?;
+    let Stopped { ended, text } = run_failing(rt, alloc, Failing::Sink(call))?;
     let whole = replies(alloc, REPLIES.len())?;
     let told = whole.starts_with(&text) && text.len() < whole.len();
     Ok(has_ended_so(rt, alloc, ended, Status::WriteFault)? && told)
