@@ -1,6 +1,7 @@
 mod CommonBits
 pub mod Halves
-pub mod PaddedPaths
+pub mod PackedPaths
+pub mod PackedOrder
 pub mod Paths
 pub mod NibbleLaws
 pub mod PathLaws

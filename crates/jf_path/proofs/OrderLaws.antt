@@ -24,6 +24,9 @@ nat_tied n = grind (arith, nat_tests)
 pub nat_less : (n m : ℕ) → n < m → nat_cmp n m ≡ Less
 nat_less n m lt = grind (arith, nat_tests)
 
+pub nat_greater : (n m : ℕ) → m < n → nat_cmp n m ≡ Greater
+nat_greater n m lt = grind (arith, nat_tests)
+
 pub ordering_index-most : (o : Ordering) → ordering_index o ≤ 2
 ordering_index-most Less = omega arith
 ordering_index-most Equal = omega arith

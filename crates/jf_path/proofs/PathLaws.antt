@@ -1,11 +1,9 @@
 -- A path has one spelling in bytes, and bytes with no fault spell a path.
 use Rattle.std.proofs.Common.{◌≡◌, ℕ, ◌*◌, List, [], ◌∷◌, length, refl, arith, zero, suc, ◌/◌, get_or, ◌+◌, ◌%◌, ◌<◌, take, ap, sym, ap₂, ◌∙◌, drop}
+use Rattle.std.proofs.lemmas.List.{take_all}
 use Rattle.std.specs.List.{AllByRecursion}
 use Rattle.jf_path.specs.Paths.{halves, packed, path_bytes}
-
-pub length-halves : (bytes : List ℕ) → length (halves bytes) ≡ 2 * length bytes
-length-halves [] = refl
-length-halves (b ∷ bytes) = omega (arith, length-halves bytes)
+pub use Rattle.jf_path.specs.PackedPath.{length-halves}
 
 pub get_or-halves-even : (bytes : List ℕ) (k i : ℕ) → i ≡ 2 * k → get_or (halves bytes) i 0 ≡ get_or bytes k 0 / 16
 get_or-halves-even [] k i e = refl
@@ -44,16 +42,19 @@ take-halves-packed (n ∷ m ∷ path) all =
     let low : (n * 16 + m) % 16 ≡ m = omega arith in
     rw (high, low) (ap (λ (xs : List ℕ). n ∷ m ∷ xs) (take-halves-packed path all.1.1))
 
+-- packing the first n halves of bytes gives back the bytes, if nothing but zero was cut from the last
+pub packed-front : (n : ℕ) (bytes : List ℕ) → (n % 2 ≡ 1 → get_or bytes (n / 2) 0 % 16 ≡ 0) → packed (take n (halves bytes)) ≡ take ((n + 1) / 2) bytes
+packed-front zero bytes end = refl
+packed-front (suc n) [] end = rw (let f : (suc n + 1) / 2 ≡ suc (n / 2) = omega arith in f) refl
+packed-front (suc zero) (b ∷ bytes) end = ap (λ c. c ∷ []) (let z = end refl in omega arith)
+packed-front (suc (suc n)) (b ∷ bytes) end =
+    let half : suc (suc n) / 2 ≡ suc (n / 2) = omega arith in
+    rw (let f : (suc (suc n) + 1) / 2 ≡ suc ((n + 1) / 2) = omega arith in f)
+    (ap₂ (λ (c : ℕ) (xs : List ℕ). c ∷ xs) (omega arith) (packed-front n bytes (λ odd. ap (λ k. get_or (b ∷ bytes) k 0 % 16) (sym half) ∙ end (omega arith))))
+
 -- bytes for n nibbles, with zero padding if n is odd, are their nibbles packed
 pub packed-take-halves : (n : ℕ) (bytes : List ℕ) → length bytes ≡ (n + 1) / 2 → (n % 2 ≡ 1 → get_or bytes (n / 2) 0 % 16 ≡ 0) → packed (take n (halves bytes)) ≡ bytes
-packed-take-halves zero [] long end = refl
-packed-take-halves zero (b ∷ bytes) long end = absurd (omega arith)
-packed-take-halves (suc n) [] long end = absurd (omega arith)
-packed-take-halves (suc zero) (b ∷ []) long end = ap (λ c. c ∷ []) (let z = end refl in omega arith)
-packed-take-halves (suc zero) (b ∷ c ∷ bytes) long end = absurd (omega arith)
-packed-take-halves (suc (suc n)) (b ∷ bytes) long end =
-    let half : suc (suc n) / 2 ≡ suc (n / 2) = omega arith in
-    ap₂ (λ (c : ℕ) (xs : List ℕ). c ∷ xs) (omega arith) (packed-take-halves n bytes (omega arith) (λ odd. ap (λ k. get_or (b ∷ bytes) k 0 % 16) (sym half) ∙ end (omega arith)))
+packed-take-halves n bytes long end = packed-front n bytes end ∙ take_all ((n + 1) / 2) bytes (omega arith)
 
 -- no two paths have the same bytes
 pub path_bytes-exact : (p q : List ℕ) → AllByRecursion (λ n. n < 16) p → AllByRecursion (λ n. n < 16) q → path_bytes p ≡ path_bytes q → p ≡ q

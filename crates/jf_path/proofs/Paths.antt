@@ -1,5 +1,5 @@
 -- The bytes without a fault are those of paths.
-use Rattle.std.proofs.Common.{Bool, [], ◌∷◌, Option, ◌≡◌, ℕ, List, ap₂, true, false, length, Some, refl, arith, ◌<◌, ltb, ◌+◌, ◌/◌, not, ap, ◌≤◌, ◌||◌, eq-eqb, ◌%◌, ◌&&◌, get_or, ◌==◌, None, inl, inr, zero, suc, ◌*◌, sym, ◌∙◌, take, length-take, drop, set, ◌++◌}
+use Rattle.std.proofs.Common.{Bool, [], ◌∷◌, Option, ◌≡◌, ℕ, List, ap₂, true, false, length, Some, refl, arith, ◌<◌, ltb, ◌+◌, ◌/◌, not, ap, ◌≤◌, ◌||◌, eq-eqb, ◌%◌, ◌&&◌, get_or, ◌==◌, None, inl, inr, zero, suc, ◌*◌, sym, ◌∙◌, take, length-take, drop}
 use Rattle.std.proofs.lemmas.Bool.{lt-ltb, or_left, ne_eqb, or_right, le-ltb, cases_eq, ltb-false, eqb-true, not-false, or_parts}
 use Rattle.jf_path.specs.declared.fault.PathFault.{PathFault}
 use Rattle.jf_path.specs.declared.fault.PathFault.TheVariants.{Length, Padding}
@@ -77,7 +77,6 @@ path_of_halves count bytes path is same =
 pub record IsSoundPath (count : ℕ) (bytes : List ℕ) : Type 0 where
   pub short : count ≤ 64
   pub long : length bytes ≡ (count + 1) / 2
-  pub there : count ≤ 2 * length bytes
   pub end : count % 2 ≡ 1 → get_or bytes (count / 2) 0 % 16 ≡ 0
 
 test_false : (a b : Bool) → fault_by_tests a b ≡ None → (a ≡ false) × (b ≡ false)
@@ -99,23 +98,5 @@ sound count bytes none =
     record {
       short = ltb-false 64 count first.0;
       long = same;
-      there = omega arith;
       end = λ odd. eqb-true _ _ (and_not_false (count % 2 == 1) (get_or bytes (count / 2) 0 % 16 == 0) tests.1 (eq-eqb _ _ odd));
     }
-
--- one more byte is copied
-pub copy_more : (i : ℕ) (to from : List ℕ) (b : ℕ) → i < length from → i < length to → b ≡ get_or from i 0 → set (take i from ++ drop i to) i b ≡ take (i + 1) from ++ drop (i + 1) to
-copy_more i [] from b within room e = absurd (omega arith)
-copy_more i (x ∷ to) [] b within room e = absurd (omega arith)
-copy_more zero (x ∷ to) (y ∷ from) b within room e = ap (λ z. z ∷ to) e
-copy_more (suc i) (x ∷ to) (y ∷ from) b within room e =
-    let more : suc i + 1 ≡ suc (i + 1) = omega arith in
-    ap (λ (zs : List ℕ). y ∷ zs) (copy_more i to from b (omega arith) (omega arith) e) ∙ ap (λ n. take n (y ∷ from) ++ drop n (x ∷ to)) (sym more)
-
-pub byte_after_count : (path : List ℕ) (i : ℕ) → get_or (path_bytes path) (i + 1) 0 ≡ get_or (packed path) i 0
-unfolding path_bytes
-byte_after_count path i = ap (λ n. get_or (length path ∷ packed path) n 0) (let e : i + 1 ≡ suc i = omega arith in e)
-
-pub count_in_front : (path : List ℕ) → get_or (path_bytes path) 0 0 ≡ length path
-unfolding path_bytes
-count_in_front path = refl

@@ -3,7 +3,7 @@ pub mod Keys
 pub mod Nibbles
 pub mod Checks
 pub mod Paths
-pub mod PaddedPath
+pub mod PackedPath
 pub mod Names
 pub mod NameLaws
 pub mod Nodes

@@ -10,7 +10,7 @@ use Rattle.jf_path.specs.Names.{name_cmp}
 pub name_cmp_total : IsTotalOrder name_cmp
 name_cmp_total = then_total (on_total (λ (n : NodeName). n.version) nat_cmp_total) (on_total (λ (n : NodeName). n.path) nat_list_cmp_total)
 
-both_ties : (a b : Bool) (r s : Ordering) → a ≡ is_eq r → b ≡ is_eq s → (a && b) ≡ is_eq (ordering_then r s)
+pub both_ties : (a b : Bool) (r s : Ordering) → a ≡ is_eq r → b ≡ is_eq s → (a && b) ≡ is_eq (ordering_then r s)
 both_ties a b Less s ea eb = ap (λ t. t && b) ea
 both_ties a b Equal s ea eb = ap₂ (λ t u. t && u) ea eb
 both_ties a b Greater s ea eb = ap (λ t. t && b) ea

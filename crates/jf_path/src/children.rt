@@ -1,5 +1,5 @@
 // The children of an internal node: at most one for each of the 16 nibbles.
-ghost use Rattle.std.specs.Prelude.{◌≡◌, [], ◌∷◌, ◌++◌, length, OnOk, OnErr};
+ghost use Rattle.std.specs.Prelude.{◌≡◌, [], ◌∷◌, ◌++◌, length, IfOk, OnOk, OnErr};
 ghost use Rattle.jf_path.specs.Nodes.{ChildrenRiseFrom};
 
 use crate::memory::Memory;
@@ -45,6 +45,15 @@ impl Children {
         Children {
             children: Vec::new(alloc),
         }
+    }
+
+    /// An empty list with room for `n` children.
+    pub fn with_capacity(alloc: Global, n: u64) -> Result<Children, Memory>
+        ensures { IfOk result (λ c. c ≡ []) }
+    {
+        Ok(Children {
+            children: Vec::with_capacity(alloc, n as usize)?,
+        })
     }
 
     /// The number of children.

@@ -1,5 +1,5 @@
 // Lists of hashes, and of entries.
-ghost use Rattle.std.specs.Prelude.{◌≡◌, [], ◌∷◌, ◌++◌, length, take, OnOk, OnErr};
+ghost use Rattle.std.specs.Prelude.{◌≡◌, [], ◌∷◌, ◌++◌, length, take, IfOk, OnOk, OnErr};
 
 use crate::bytes::Bytes;
 use crate::key::Key;
@@ -29,6 +29,15 @@ impl HashList {
         HashList {
             hashes: Vec::new(alloc),
         }
+    }
+
+    /// An empty list with room for `n` hashes.
+    pub fn with_capacity(alloc: Global, n: u64) -> Result<HashList, Memory>
+        ensures { IfOk result (λ l. l ≡ []) }
+    {
+        Ok(HashList {
+            hashes: Vec::with_capacity(alloc, n as usize)?,
+        })
     }
 
     /// The number of elements.

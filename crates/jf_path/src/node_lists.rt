@@ -38,6 +38,14 @@ impl FreshList {
         }
     }
 
+    /// These nodes, whose names rise. They are taken over and not copied.
+    pub fn of(nodes: Vec<(NodeName, PlainNode)>) -> FreshList
+        requires { IsTrue (are_rising (map (λ x. x.0) nodes.items)) }
+        ensures { result ≡ nodes.items }
+    {
+        FreshList { nodes }
+    }
+
     /// The number of elements.
     pub fn len(&self) -> u64
         ensures { result ≡ length self.now }
@@ -91,6 +99,14 @@ impl NameList {
         NameList {
             names: Vec::new(alloc),
         }
+    }
+
+    /// These names, which rise. They are taken over and not copied.
+    pub fn of(names: Vec<NodeName>) -> NameList
+        requires { IsTrue (are_rising names.items) }
+        ensures { result ≡ names.items }
+    {
+        NameList { names }
     }
 
     /// The number of elements.

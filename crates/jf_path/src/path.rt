@@ -1,40 +1,42 @@
 // A path is the way from the root to a node, one nibble a step. Its bytes are those of docs/FORMATS.md, Names and nodes
 // in bytes.
-ghost use Rattle.std.specs.Prelude.{◌≡◌, [], ◌∷◌, ◌++◌, ◌+◌, ◌*◌, ◌/◌, ◌<◌, ◌≤◌, ◌==◌, List, ℕ, length, drop, take, slice_index, IfOk, Ok};
+ghost use Rattle.std.specs.Prelude.{◌≡◌, [], ◌∷◌, ◌++◌, ◌+◌, ◌*◌, ◌/◌, ◌%◌, ◌<◌, ◌≤◌, ◌==◌, List, ℕ, length, drop, take, slice_index, IfOk, Ok};
 ghost use Rattle.std.specs.List.{starts_with};
 ghost use Rattle.std.specs.Result.{result_err};
-ghost use Rattle.jf_path.specs.Paths.{IsPath, key_path, packed, path_bytes, path_fault};
-ghost use Rattle.jf_path.specs.Paths.{halves};
+ghost use Rattle.jf_path.specs.Paths.{IsPath, key_path, path_bytes, path_fault, halves};
 
 use crate::fault::PathFault;
-use crate::key::{Key, nibble};
+use crate::key::Key;
+use crate::laws::know_key;
 use crate::nibbles::Nibble;
 use std::cmp::Ordering;
 use std::marker::Model;
 
 // The most nibbles of a path: as many as a key has.
-const MAX_NIBBLES: usize = 64;
+const MAX_NIBBLES: u8 = 64;
 
 /// The way from the root to a node: at most 64 nibbles. Paths have the order of lists of nibbles.
 #[derive(Clone, Copy, Debug)]
 pub struct NibblePath {
-    nibbles: [u8; 64],
-    count: usize,
+    // Two nibbles to a byte, the first in the high half, and zeros after them. So a name takes 48 bytes.
+    nibbles: [u8; 32],
+    count: u8,
 }
 
 impl Model for NibblePath {
     ghost use Rattle.std.specs.Prelude.{List, ℕ, ◌-◌, ◌++◌, take, length, replicate};
-    ghost use Rattle.jf_path.specs.PaddedPath.{ArePaddedNibbles, kept_again};
+    ghost use Rattle.jf_path.specs.Paths.{halves, packed};
+    ghost use Rattle.jf_path.specs.PackedPath.{ArePackedNibbles, kept_again};
 
     ghost Value = { List ℕ };
 
-    ghost view = { λ p. take p.count p.nibbles };
+    ghost view = { λ p. take p.count (halves p.nibbles) };
 
-    ghost invariant = { λ p. ArePaddedNibbles p.count p.nibbles };
+    ghost invariant = { λ p. ArePackedNibbles p.count p.nibbles };
 
-    ghost inverse = { λ p. record { nibbles = p ++ replicate (64 - length p) 0; count = length p } };
+    ghost inverse = { λ p. record { nibbles = packed (p ++ replicate (64 - length p) 0); count = length p } };
 
-    ghost inverse_ok = { λ p h. kept_again (λ cells count. record { nibbles = cells; count = count }) p.count p.nibbles h };
+    ghost inverse_ok = { λ p h. kept_again (λ bytes count. record { nibbles = bytes; count = count }) p.count p.nibbles h };
 }
 
 impl NibblePath {
@@ -43,7 +45,7 @@ impl NibblePath {
         ensures { result ≡ [] }
     {
         NibblePath {
-            nibbles: [0; MAX_NIBBLES],
+            nibbles: [0; 32],
             count: 0,
         }
     }
@@ -52,11 +54,11 @@ impl NibblePath {
     pub fn of_key(key: &Key) -> NibblePath
         ensures { result ≡ key_path key.now }
     {
-        let mut path = NibblePath::empty();
-        for i in 0..MAX_NIBBLES {
-            path.push(nibble(key, i));
+        know_key(key);
+        NibblePath {
+            nibbles: *key,
+            count: MAX_NIBBLES,
         }
-        path
     }
 
     /// The number of nibbles.
@@ -64,7 +66,7 @@ impl NibblePath {
         ensures value { result ≡ length self.now }
         ensures path { IsPath self.now }
     {
-        self.count
+        self.count as usize
     }
 
     /// Nibble `i`, from 0.
@@ -72,7 +74,7 @@ impl NibblePath {
         requires { i < length self.now }
         ensures { result ≡ slice_index self.now i }
     {
-        Nibble::of(self.nibbles[i])
+        Nibble::half(&self.nibbles, i)
     }
 
     /// Adds a nibble at the end.
@@ -80,7 +82,13 @@ impl NibblePath {
         requires { length self.old < 64 }
         ensures { self.new ≡ self.old ++ n ∷ [] }
     {
-        self.nibbles[self.count] = n.get();
+        let number = n.get();
+        let last = self.count as usize / 2;
+        self.nibbles[last] = if self.count % 2 == 0 {
+            number * 16
+        } else {
+            self.nibbles[last] + number
+        };
         self.count += 1;
     }
 
@@ -98,7 +106,10 @@ impl NibblePath {
     pub fn starts_with(&self, front: &NibblePath) -> bool
         ensures { result ≡ starts_with (λ n m. n == m) self.now front.now }
     {
-        self.as_slice().starts_with(front.as_slice())
+        let whole = front.count as usize / 2;
+        self.count >= front.count
+            && front.nibbles[..whole] == self.nibbles[..whole]
+            && (front.count % 2 == 0 || front.nibbles[whole] / 16 == self.nibbles[whole] / 16)
     }
 
     /// Writes the number of nibbles, and the nibbles two to a byte, the first in the high half; an odd last byte has a
@@ -107,12 +118,10 @@ impl NibblePath {
         ensures value { result ≡ length (path_bytes self.now) }
         ensures bytes { out.new ≡ path_bytes self.now ++ drop result out.old }
     {
-        let bytes = (self.count + 1) / 2;
-        out[0] = self.count as u8;
-        for i in 0..bytes {
-            out[i + 1] = self.byte(i);
-        }
-        bytes + 1
+        let end = (self.count as usize + 1) / 2;
+        out[0] = self.count;
+        out[1..end + 1].copy_from_slice(&self.nibbles[..end]);
+        end + 1
     }
 
     /// The path of these bytes, as `to_bytes` writes them, with nothing after them.
@@ -124,51 +133,33 @@ impl NibblePath {
         let Some((count, packed)) = bytes.split_first() else {
             return Err(PathFault::Length);
         };
-        let count = *count as usize;
-        match fault_of(count, packed) {
+        match fault_of(*count, packed) {
             Some(fault) => Err(fault),
-            None => Ok(NibblePath::of_halves(packed, count)),
+            None => Ok(NibblePath::of_packed(packed, *count)),
         }
     }
 
-    // The path of the first `count` nibbles of these bytes.
-    fn of_halves(bytes: &[u8], count: usize) -> NibblePath
+    // The path of `count` packed nibbles, of which an odd last byte has a zero low half.
+    fn of_packed(bytes: &[u8], count: u8) -> NibblePath
         requires short { count ≤ 64 }
-        requires there { count ≤ 2 * length bytes.now }
+        requires long { length bytes.now ≡ (count + 1) / 2 }
+        requires end { count % 2 ≡ 1 → slice_index bytes.now (count / 2) % 16 ≡ 0 }
         ensures { result ≡ take count (halves bytes.now) }
     {
-        let mut path = NibblePath::empty();
-        for i in 0..count {
-            path.push(Nibble::half(bytes, i));
-        }
-        path
-    }
-
-    // Byte `i` of the packed nibbles.
-    fn byte(&self, i: usize) -> u8
-        requires { i < (length self.now + 1) / 2 }
-        ensures { result ≡ slice_index (packed self.now) i }
-    {
-        let nibbles = &self.nibbles;
-        nibbles[2 * i] * 16 + nibbles[2 * i + 1]
-    }
-
-    // The nibbles as numbers.
-    fn as_slice(&self) -> &[u8]
-        ensures { result.now ≡ self.now }
-    {
-        &self.nibbles[..self.count]
+        let mut nibbles = [0; 32];
+        nibbles[..bytes.len()].copy_from_slice(bytes);
+        NibblePath { nibbles, count }
     }
 }
 
 // Why these bytes aren't `count` packed nibbles, if they aren't.
-fn fault_of(count: usize, packed: &[u8]) -> Option<PathFault>
+fn fault_of(count: u8, packed: &[u8]) -> Option<PathFault>
     ensures { result ≡ path_fault (count ∷ packed.now) }
 {
-    if count > MAX_NIBBLES || packed.len() != (count + 1) / 2 {
+    if count > MAX_NIBBLES || packed.len() != (count as usize + 1) / 2 {
         return Some(PathFault::Length);
     }
-    if count % 2 == 1 && packed[count / 2] % 16 != 0 {
+    if count % 2 == 1 && packed[count as usize / 2] % 16 != 0 {
         return Some(PathFault::Padding);
     }
     None
@@ -185,7 +176,7 @@ impl PartialEq for NibblePath {
     ghost laws = { partial_equiv_from_equiv nat_list_eq_equiv };
 
     fn eq(&self, other: &NibblePath) -> bool {
-        self.as_slice() == other.as_slice()
+        self.nibbles == other.nibbles && self.count == other.count
     }
 }
 
@@ -226,6 +217,8 @@ impl Ord for NibblePath {
     ghost matches_eq = { Prim.search (comparing, rules) };
 
     fn cmp(&self, other: &NibblePath) -> Ordering {
-        self.as_slice().cmp(other.as_slice())
+        self.nibbles
+            .cmp(&other.nibbles)
+            .then(self.count.cmp(&other.count))
     }
 }

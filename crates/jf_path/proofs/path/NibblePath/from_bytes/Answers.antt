@@ -14,11 +14,14 @@ returns-in_default-clause-refused c =
     let none : length c.args.bytes.now ≡ 0 = search rules in
     sym (fault_of_none c.args.bytes.now none)
 
-pub of_halves-requires-clause-short : goal.of_halves-requires-clause-short
-of_halves-requires-clause-short c = (sound c.in-Some.count.now c.in-Some.packed.now (sym c.fault_of.ensures ∙ c.in-None.is)).short
+pub of_packed-requires-clause-short : goal.of_packed-requires-clause-short
+of_packed-requires-clause-short c = (sound c.in-Some.count.now c.in-Some.packed.now (sym c.fault_of.ensures ∙ c.in-None.is)).short
 
-pub of_halves-requires-clause-there : goal.of_halves-requires-clause-there
-of_halves-requires-clause-there c = (sound c.in-Some.count.now c.in-Some.packed.now (sym c.fault_of.ensures ∙ c.in-None.is)).there
+pub of_packed-requires-clause-long : goal.of_packed-requires-clause-long
+of_packed-requires-clause-long c = (sound c.in-Some.count.now c.in-Some.packed.now (sym c.fault_of.ensures ∙ c.in-None.is)).long
+
+pub of_packed-requires-clause-end : goal.of_packed-requires-clause-end
+of_packed-requires-clause-end c = (sound c.in-Some.count.now c.in-Some.packed.now (sym c.fault_of.ensures ∙ c.in-None.is)).end
 
 pub returns-in-Some-fault_of-clause-found : goal.returns-in-Some-fault_of-clause-found
 returns-in-Some-fault_of-clause-found c path is same =
@@ -29,9 +32,9 @@ pub returns-in-None-clause-value : goal.returns-in-None-clause-value
 returns-in-None-clause-value c =
     let parts : c.args.bytes.now ≡ c.in-Some.count.now ∷ c.in-Some.packed.now = search rules in
     let good = sound c.in-Some.count.now c.in-Some.packed.now (sym c.fault_of.ensures ∙ c.in-None.is) in
-    parts ∙ bytes_of_halves c.in-Some.count.now c.in-Some.packed.now good.long good.end ∙ ap path_bytes (sym c.of_halves.ensures)
+    parts ∙ bytes_of_halves c.in-Some.count.now c.in-Some.packed.now good.long good.end ∙ ap path_bytes (sym c.of_packed.ensures)
 
 pub returns-in-None-clause-found : goal.returns-in-None-clause-found
 returns-in-None-clause-found c path is same =
     let parts : c.args.bytes.now ≡ c.in-Some.count.now ∷ c.in-Some.packed.now = search rules in
-    ap (λ p. Ok p) (c.of_halves.ensures ∙ path_of_halves c.in-Some.count.now c.in-Some.packed.now path is (sym parts ∙ same))
+    ap (λ p. Ok p) (c.of_packed.ensures ∙ path_of_halves c.in-Some.count.now c.in-Some.packed.now path is (sym parts ∙ same))
