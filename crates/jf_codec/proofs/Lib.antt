@@ -7,3 +7,4 @@ pub mod Children
 pub mod Nodes
 pub mod Spellings
 pub mod Counted
+pub mod Lengths

@@ -7,3 +7,4 @@ pub mod WholeRecords
 pub mod FormatLaws
 pub mod Uncounted
 pub mod Samples
+pub mod Lengths

@@ -1,4 +1,5 @@
-// Writing a record gives its whole frame, ready to be appended to a log.
+// Writing a record gives its whole frame, ready to be appended to a log. Its length is computed first, so that it is
+// written once, into room of exactly its size.
 ghost use Rattle.std.specs.Prelude.{◌≡◌, ◌++◌, flat_map, length, IfOk, OnOk};
 ghost use Rattle.std.specs.List.{AllByRecursion};
 ghost use Rattle.jf_frame.specs.Framing.{IsFrame};
@@ -9,6 +10,7 @@ ghost use Rattle.jf_payload.specs.Spelling.{IsRecord, kind_of, record_bytes, com
 ghost use Rattle.jf_payload.specs.Counted.{record_in};
 
 use crate::kinds::{CLOSED, COMMIT, FLOOR, GROUP, checkpoint_kind};
+use crate::length::{record_len, sum_within};
 use crate::records::{Commit, Record};
 use jf_codec::{Format, put_name, put_node, put_u64};
 use jf_path::{Bytes, Memory, NodeName, PlainNode};
@@ -132,26 +134,17 @@ fn kind_of(entry: &Record, format: Format) -> u8
     }
 }
 
-// A frame: kind, length, payload, and a closed gate.
-#[tactic(auto, unfolding(jf_path::specs::Numbers::eight_bytes))]
-fn frame_of(alloc: Global, kind: u8, payload: &[u8]) -> Result<Bytes, Memory>
-    ensures { IfOk result (λ bytes. IsFrame bytes kind payload.now) }
-{
-    let mut out = Bytes::with_capacity(alloc, payload.len() as u64 + 10)?;
-    out.push(kind)?;
-    put_u64(&mut out, payload.len() as u64)?;
-    out.append(payload)?;
-    out.push(CLOSED)?;
-    Ok(out)
-}
-
 /// The frame of a record in a file of this format: kind, length, payload, and a closed gate. Format 1 leaves out the
 /// counts of nodes. What the format keeps of the record must have a spelling.
 pub fn encode(alloc: Global, entry: &Record, format: Format) -> Result<Bytes, Memory>
     requires { IsRecord format (record_in format entry.now) }
     ensures { IfOk result (λ bytes. IsFrame bytes (kind_of format entry.now) (record_bytes format entry.now)) }
 {
-    let mut payload = Bytes::new(alloc);
-    put_record(&mut payload, format, entry)?;
-    frame_of(alloc, kind_of(entry, format), payload.as_slice())
+    let length = record_len(entry, format)?;
+    let mut out = Bytes::with_capacity(alloc, sum_within(length, 10)?)?;
+    out.push(kind_of(entry, format))?;
+    put_u64(&mut out, length)?;
+    put_record(&mut out, format, entry)?;
+    out.push(CLOSED)?;
+    Ok(out)
 }

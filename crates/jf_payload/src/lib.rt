@@ -12,6 +12,7 @@ mod floor;
 mod kinds;
 mod landings;
 mod laws;
+mod length;
 mod lists;
 mod order;
 mod records;
