@@ -1,14 +1,11 @@
 -- Lists of names that rise strictly.
-use Rattle.std.proofs.Common.{Bool, true, false, ◌&&◌, IsTrue, ◌+◌, List, [], ◌∷◌, ◌++◌, refl, is_lt, ◌≡◌, sym, ap, ◌∙◌, Less, Equal, Greater, Ordering, is_eq, true≢false, suc, get_or, subst, arith, ℕ, ◌<◌, length, take, drop, map}
-use Rattle.std.proofs.Math.Seq.{take-suc}
+use Rattle.std.proofs.Common.{Bool, true, false, ◌&&◌, IsTrue, ◌+◌, List, [], ◌∷◌, ◌++◌, refl, is_lt, ◌≡◌, sym, ap, ◌∙◌, Less, Equal, Greater, Ordering, is_eq, true≢false, suc, get_or, subst, arith}
 use Rattle.std.proofs.lemmas.Cmp.{eq_by_cmp_equiv}
-use Rattle.std.proofs.lemmas.List.{take-append-drop}
 use Rattle.std.proofs.lemmas.Map.Keys.{IsDistinct-head, IsDistinct-tail, IsDistinct-IsPermutation}
 use Rattle.std.specs.List.{IsDistinct}
 use Rattle.std.specs.List.Sorted.{IsSorted, IsPermutation}
 use Rattle.std.specs.Ordering.{ordering_reverse, eq_by_cmp}
 use Rattle.jf_path.specs.declared.name.NodeName.{NodeName}
-use Rattle.jf_path.specs.declared.node.PlainNode.{PlainNode}
 use Rattle.jf_path.specs.Names.{name_cmp, are_rising}
 use Rattle.jf_path.specs.NameLaws.{name_cmp_total}
 use Rattle.jf_path.proofs.BoolLaws.{left_true, right_true}
@@ -22,14 +19,6 @@ pub are_rising-front : (xs ys : List NodeName) → IsTrue (are_rising (xs ++ ys)
 are_rising-front [] ys h = refl
 are_rising-front (x ∷ []) ys h = refl
 are_rising-front (x ∷ z ∷ xs) ys h = both_true _ _ (left_true _ _ h) (are_rising-front (z ∷ xs) ys (right_true (is_lt (name_cmp x z)) _ h))
-
-map-append : (xs ys : List (NodeName × PlainNode)) → map (λ (e : NodeName × PlainNode). e.0) (xs ++ ys) ≡ map (λ (e : NodeName × PlainNode). e.0) xs ++ map (λ (e : NodeName × PlainNode). e.0) ys
-map-append [] ys = refl
-map-append (x ∷ xs) ys = ap (λ t. x.0 ∷ t) (map-append xs ys)
-
--- the front of nodes whose names rise
-pub front_rises : (all front back : List (NodeName × PlainNode)) → front ++ back ≡ all → IsTrue (are_rising (map (λ (e : NodeName × PlainNode). e.0) all)) → IsTrue (are_rising (map (λ (e : NodeName × PlainNode). e.0) front))
-front_rises all front back is rises = are_rising-front (map (λ (e : NodeName × PlainNode). e.0) front) (map (λ (e : NodeName × PlainNode). e.0) back) (subst (λ ns. IsTrue (are_rising ns)) (ap (λ es. map (λ (e : NodeName × PlainNode). e.0) es) (sym is) ∙ map-append front back) rises)
 
 above : (r s : Ordering) → r ≡ ordering_reverse s → is_lt s ≡ false → is_eq r ≡ false → is_lt r ≡ true
 above r Less e low other = absurd (true≢false low)
@@ -48,9 +37,3 @@ are_rising-sorted (x ∷ z ∷ xs) sorted distinct =
 -- distinct names rise strictly after they are sorted
 pub are_rising-moved : (xs ys : List NodeName) → IsPermutation xs ys → IsSorted name_cmp ys → IsDistinct (eq_by_cmp name_cmp) xs → IsTrue (are_rising ys)
 are_rising-moved xs ys moved sorted distinct = are_rising-sorted ys sorted (IsDistinct-IsPermutation (eq_by_cmp name_cmp) (eq_by_cmp_equiv name_cmp_total).symm xs ys moved distinct)
-
--- one more name, after those before it
-pub are_rising-next : (xs : List NodeName) (i : ℕ) (x : NodeName) → i < length xs → x ≡ get_or xs i x → IsTrue (are_rising xs) → IsTrue (are_rising (take i xs ++ x ∷ []))
-are_rising-next xs i x within at rises =
-    let next : take (suc i) xs ≡ take i xs ++ x ∷ [] = take-suc xs i x within ∙ ap (λ y. take i xs ++ y ∷ []) (sym at) in
-    subst (λ ns. IsTrue (are_rising ns)) next (are_rising-front (take (suc i) xs) (drop (suc i) xs) (subst (λ ns. IsTrue (are_rising ns)) (sym (take-append-drop (suc i) xs)) rises))

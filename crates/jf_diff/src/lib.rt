@@ -10,7 +10,6 @@ mod list;
 mod lists;
 mod parts;
 mod plain_node;
-mod rising;
 mod sorted;
 mod top;
 mod wide;

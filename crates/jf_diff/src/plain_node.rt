@@ -1,21 +1,36 @@
 // Nodes by themselves, as they are written: without the children that they share.
 ghost use Rattle.std.specs.Prelude.{◌≡◌, ◌≤◌, [], length, IfOk};
+ghost use Rattle.jf_node.specs.Shown.{ShowsInner};
 ghost use Rattle.jf_diff.specs.Plains.{plain_at, children_list};
 
-use crate::child::child_of;
-use jf_node::{Link, Seen};
+use jf_hash::Places;
+use jf_node::{Branches, Link, Seen};
 use jf_path::{Bytes, Child, Children, Memory, Nibble, PlainNode};
 use std::alloc::Global;
+
+/// The children of an inner node.
+fn branches_of(link: &Link) -> &Branches
+    requires { 2 ≤ length link.now.entries }
+    ensures { ShowsInner link.now result.now }
+{
+    match link.view() {
+        Seen::Leaf { .. } => unreachable!(),
+        Seen::Inner { children } => children,
+    }
+}
 
 /// What an inner node says of its children, as it is written.
 fn children_of(alloc: Global, link: &Link) -> Result<Children, Memory>
     requires { 2 ≤ length link.now.entries }
     ensures { IfOk result (λ r. r ≡ children_list link.now) }
 {
-    let mut list = Children::new(alloc);
+    let children = branches_of(link);
+    children.know();
+    let room = children.children().rank(16);
+    let mut list = Children::with_capacity(alloc, room as u64)?;
     for n in 0..16 {
         let nibble = Nibble::of(n);
-        if let Some(child) = child_of(link, nibble) {
+        if let Some(child) = children.get(nibble) {
             child.know();
             let count = child.count();
             list.push(Child {

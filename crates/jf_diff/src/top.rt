@@ -13,7 +13,6 @@ ghost use Rattle.jf_diff.specs.Plains.{fresh_under};
 ghost use Rattle.jf_diff.specs.Tops.{IsFreshUnder, IsStaleUnder, WasLanded, old_name};
 
 use crate::list::{list_fresh, list_stale};
-use crate::rising::rising_nodes;
 use crate::sorted::sorted_names;
 use jf_node::Link;
 use jf_path::{FreshList, Memory, NameList, NibblePath, NodeName, PlainNode};
@@ -61,7 +60,7 @@ pub(crate) fn fresh_of(alloc: Global, top: Option<&Link>, version: u64) -> Resul
             link.know();
             let mut nodes = Vec::new(alloc);
             list_fresh(alloc, link, version, &NibblePath::empty(), &mut nodes)?;
-            rising_nodes(alloc, nodes)
+            Ok(FreshList::of(nodes))
         }
     }
 }
@@ -88,7 +87,7 @@ pub(crate) fn stale_of(
             link.know();
             let mut names = Vec::new(alloc);
             list_stale(link, top, version, &NibblePath::empty(), &mut names)?;
-            sorted_names(alloc, names)
+            Ok(sorted_names(names))
         }
     }
 }

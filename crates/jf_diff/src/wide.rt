@@ -16,11 +16,10 @@ ghost use Rattle.jf_diff.specs.Tops.{IsFreshUnder, IsStaleUnder, WasLanded, old_
 
 use crate::lists::Written;
 use crate::parts::{PartLists, part_lists, top_lists};
-use crate::rising::rising_nodes;
 use crate::sorted::sorted_names;
 use jf_join::{Gate, join_pieces_from};
 use jf_node::Link;
-use jf_path::{Memory, Nibble};
+use jf_path::{FreshList, Memory, Nibble};
 use std::alloc::Global;
 use std::thread::Threads;
 
@@ -33,6 +32,25 @@ fn nibbles(alloc: Global) -> Result<Vec<Nibble>, Memory>
         all.push(Nibble::of(n))?;
     }
     Ok(all)
+}
+
+/// Takes room for the lists of all parts at once, so that what is appended isn't copied again. The two lists stay as they
+/// are.
+fn take_room(all: &mut PartLists, parts: &[Result<PartLists, Memory>]) -> Result<(), Memory>
+    ensures fresh { all.new.fresh.items ≡ all.old.fresh.items }
+    ensures stale { all.new.stale.items ≡ all.old.stale.items }
+{
+    let mut fresh: usize = 0;
+    let mut stale: usize = 0;
+    for part in parts {
+        if let Ok(part) = part {
+            fresh = fresh.saturating_add(part.fresh.len());
+            stale = stale.saturating_add(part.stale.len());
+        }
+    }
+    all.fresh.reserve_exact(fresh)?;
+    all.stale.reserve_exact(stale)?;
+    Ok(())
 }
 
 /// The lists of the two tops and then of all parts, one after another.
@@ -49,6 +67,7 @@ fn put_together(
     ensures stale { IfOk result (λ l. IsStaleUnder version (option_copied old.entry) (option_copied top.entry) → l.stale.items ≡ with_root (content (option_copied top.entry)) (content (option_copied old.entry)) (old_name head (option_copied old.entry))) }
 {
     let mut all = top_lists(alloc, old, head, top, version)?;
+    take_room(&mut all, &parts)?;
     for part in parts {
         let PartLists {
             mut fresh,
@@ -92,7 +111,8 @@ pub(crate) fn written_wide<H: Threads + Sync, G: Gate>(
     { part_lists(alloc, old, top, version, *n) };
     let parts = join_pieces_from(rt, alloc, &nibbles, FIRST_PIECE, workers, gate, &work)?;
     let PartLists { fresh, stale } = put_together(alloc, old, head, top, version, parts)?;
-    let fresh = rising_nodes(alloc, fresh)?;
-    let stale = sorted_names(alloc, stale)?;
-    Ok(Written { fresh, stale })
+    Ok(Written {
+        fresh: FreshList::of(fresh),
+        stale: sorted_names(stale),
+    })
 }

@@ -43,7 +43,7 @@ pub(crate) fn checkpoint_frame(
 fn copy_of(alloc: Global, hashes: &[Hash]) -> Result<HashList, Memory>
     ensures { IfOk result (λ list. list ≡ hashes.now) }
 {
-    let mut list = HashList::new(alloc);
+    let mut list = HashList::with_capacity(alloc, hashes.len() as u64)?;
     for hash in hashes {
         list.push(*hash)?;
     }

@@ -118,7 +118,8 @@ impl Ranges {
             &mut hashes,
             steps,
         );
-        // Changes nothing, unless what was kept before belongs to no node.
+        // Makes them as many as the bits say. Changes nothing if only places in `changed` differ from those that `self`
+        // was made of.
         let _ = hashes.resize(count, empty());
         Ok(Ranges { kept, hashes })
     }

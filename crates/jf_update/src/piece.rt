@@ -50,8 +50,8 @@ pub(crate) fn pieces_in(
     pieces_of(alloc, entries, depth as usize)
 }
 
-/// The number of workers that each of so many pieces may have, if all of them have `workers`: one, or as many as all
-/// pieces may have at once.
+/// The number of workers that each of so many pieces may have, if all together have `workers`: an equal share, rounded
+/// down, but at least one.
 pub(crate) fn workers_each(workers: u64, pieces: usize) -> u64
     requires positive { 1 ≤ workers }
     requires bounded { workers ≤ 64 }

@@ -5,8 +5,8 @@ use Rattle.jf_diff.proofs.TopLaws.{ok_weaker, top_rises, fresh_none, fresh_some,
 use Rattle.jf_diff.proofs.PathNames.{name_of_path}
 use Rattle.jf_diff.proofs.top.fresh_of.Goals as goal
 
-pub rising_nodes-requires : goal.rising_nodes-requires
-rising_nodes-requires c =
+pub of-requires : goal.of-requires
+of-requires c =
     let top = option_copied c.args.top in
     let is = ap option_copied c.in-Some.is in
     top_rises c.args.version top _ c.requires.landed (sorted_link top c.in-Some.link.now is c.know.ensures)
@@ -20,7 +20,5 @@ returns-in-None c =
 
 pub returns-in_ok-list_fresh-in-Some : goal.returns-in_ok-list_fresh-in-Some
 returns-in_ok-list_fresh-in-Some c =
-    ok_weaker _ _
-    (λ l is es before under. is
-    ∙ fresh_some c.args.version (option_copied c.args.top) c.in-Some.link.now c.empty.result c.new-nodes.result.items _ (ap option_copied c.in-Some.is) c.requires.top c.requires.own c.empty.ensures c.new-nodes.ensures.items c.in_ok-list_fresh-in-Some.ensures.listed es before under)
-    c.rising_nodes.result c.rising_nodes.ensures
+    λ es before under. c.of.ensures
+    ∙ fresh_some c.args.version (option_copied c.args.top) c.in-Some.link.now c.empty.result c.new-nodes.result.items _ (ap option_copied c.in-Some.is) c.requires.top c.requires.own c.empty.ensures c.new-nodes.ensures.items c.in_ok-list_fresh-in-Some.ensures.listed es before under

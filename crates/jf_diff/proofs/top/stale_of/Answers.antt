@@ -20,7 +20,6 @@ returns-in-None c =
 
 pub returns-in_ok-list_stale-in-Some : goal.returns-in_ok-list_stale-in-Some
 returns-in_ok-list_stale-in-Some c =
-    ok_weaker _ _
-    (λ l moved. subst (λ ns. IsPermutation ns l)
-    (stale_some c.args.head c.args.version (option_copied c.args.old) (option_copied c.args.top) c.in-Some.link.now c.empty.result c.new-names.result.items _ (ap option_copied c.in-Some.is) c.requires.old c.requires.own c.empty.ensures c.new-names.ensures.items c.in_ok-list_stale-in-Some.ensures.listed c.requires.landed) moved)
-    c.sorted_names.result c.sorted_names.ensures
+    subst (λ ns. IsPermutation ns c.sorted_names.result)
+    (stale_some c.args.head c.args.version (option_copied c.args.old) (option_copied c.args.top) c.in-Some.link.now c.empty.result c.new-names.result.items _ (ap option_copied c.in-Some.is) c.requires.old c.requires.own c.empty.ensures c.new-names.ensures.items c.in_ok-list_stale-in-Some.ensures.listed c.requires.landed)
+    c.sorted_names.ensures

@@ -17,14 +17,14 @@ put_together-requires g c =
           (AnswersEach-at c.in_ok-parts.ensures (λ n r. IfOk r (ArePartLists c.args.version old top n)) (λ n r h. subst (λ m. IfOk r (ArePartLists c.args.version old top m)) h.shows h.says.met));
     }
 
-pub rising_nodes-requires : goal.rising_nodes-requires
-rising_nodes-requires g c = top_rises c.args.version (option_copied c.args.top) _ c.requires.landed c.requires.sorted c.in_ok-fresh.ensures.fresh
+pub of-requires : goal.of-requires
+of-requires g c = top_rises c.args.version (option_copied c.args.top) _ c.requires.landed c.requires.sorted c.in_ok-fresh.ensures.fresh
 
 pub sorted_names-requires : goal.sorted_names-requires
 sorted_names-requires g c = stale_distinct c.args.head (option_copied c.args.old) (content (option_copied c.args.top)) _ (c.in_ok-fresh.ensures.stale c.requires.stale) c.requires.sorted c.requires.old_sorted
 
 pub returns-clause-fresh : goal.returns-clause-fresh
-returns-clause-fresh g c es before under = c.in_ok-fresh-2.ensures ∙ c.in_ok-fresh.ensures.fresh es before under
+returns-clause-fresh g c es before under = c.of.ensures ∙ c.in_ok-fresh.ensures.fresh es before under
 
 pub returns-clause-stale : goal.returns-clause-stale
-returns-clause-stale g c = subst (λ ns. IsPermutation ns c.in_ok-stale.stale) (c.in_ok-fresh.ensures.stale c.requires.stale) c.in_ok-stale.ensures
+returns-clause-stale g c = subst (λ ns. IsPermutation ns c.sorted_names.result) (c.in_ok-fresh.ensures.stale c.requires.stale) c.sorted_names.ensures
