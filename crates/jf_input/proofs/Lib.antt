@@ -1,2 +1,4 @@
+pub mod FirstRead
+pub mod Gathering
 pub mod Given
 pub mod Progress

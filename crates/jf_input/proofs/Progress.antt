@@ -1,154 +1,81 @@
 -- An input of which lines were taken so far, where what is held of a line may be shortened, and how it ends.
 use Rattle.std.specs.Prelude.{Result, Ok}
-use Rattle.std.proofs.Common.{◌≡◌, ℕ, ◌+◌, List, ◌++◌, Option, Some, [], ◌∷◌, refl, sym, ap, ◌∙◌, subst, append_assoc, append-nil, inl, length, ◌<◌, inr, option_map, take}
+use Rattle.std.proofs.Common.{◌≡◌, ℕ, ◌+◌, List, ◌++◌, Option, Some, [], ◌∷◌, refl, sym, ap, ◌∙◌, subst, append_assoc, append-nil, inl, length, ◌<◌, inr, take}
 use Rattle.std.specs.List.{AllByRecursion, position_or_len, before_first, after_first}
 use Rattle.jf_io.specs.LineReader.{Held, IsShortened, IsFetched, is_line_feed}
 use Rattle.jf_io.specs.Inputs.{IsPlain, ended, IsLineFound}
 use Rattle.jf_io.specs.Lines.{lines}
 use Rattle.jf_io.specs.LinesRead.{AreFirst}
+use Rattle.jf_io.specs.Sink.{IsCutShort}
 use Rattle.jf_io.proofs.Shortened.{is_shortened-whole, unfinished-text, none-text, line_front-text, finished-text, after_first-text}
-use Rattle.jf_io.proofs.Written.{nothing_written, written_more}
 use Rattle.jf_io.proofs.FirstLines.{first_lines, lines_to_come, whole_taken, next_taken, last_first, next_line, with_last}
 use Rattle.jf_io.proofs.Plain.{held_plain, front_split, front_plain, front_whole}
 use Rattle.jf_io.proofs.EndedLines.{lines-none, plain_more}
 use Rattle.jf_io.proofs.Found.{where_of, found_whole, lines_found, cut_of, last_of}
-use Rattle.jf_input.specs.Feeds.{Took, Appends, ReadsAll, HasRead, Fed, ReadsLinesOf, given_of, EndsAtLine, EndsAfter}
+use Rattle.jf_input.specs.Feeds.{Appends, HandsOn, Gathers, StopsGathering, ReadsAll, HasRead, Fed, ReadsLinesOf, given_of, EndsAfter}
 use Rattle.jf_input.specs.declared.feeding.Feeding.{Feeding}
 use Rattle.jf_input.specs.declared.feeding.Feeding.TheVariants as feeding
+use Rattle.jf_input.proofs.Gathering.{Keeps, Written, KeptCut, keeps_none, keeps_handed, keeps_line, keeps_cut, written_none, written_all}
 
--- these lines were taken, what they add written, and of the bytes after them this is held
-pub record SoFar {M F : Type 0} (takes : M → List ℕ → M → Result (List ℕ) F → Type 0) (old now : M) (source source' text text' : Option (List ℕ)) (held : Held) : Type 0 where
-  pub done : List (List ℕ)
-  pub said : List ℕ
-  pub took : Took takes old done now said
-  pub plain : AllByRecursion IsPlain done
+-- ---- the input alone
+-- these lines were taken, and of the bytes after them this is held
+pub record Reads (source source' : Option (List ℕ)) (held : Held) (ls : List (List ℕ)) : Type 0 where
+  pub plain : AllByRecursion IsPlain ls
   pub limit : held.limit ≡ 8500
   pub whole : List ℕ
   pub shortened : IsShortened 8500 whole held.bytes
-  pub written : Appends text text' said
-  pub input : (input : List ℕ) → source ≡ Some input → (left : List ℕ) × (source' ≡ Some left) × (input ≡ ended done ++ whole ++ left)
+  pub input : (input : List ℕ) → source ≡ Some input → (left : List ℕ) × (source' ≡ Some left) × (input ≡ ended ls ++ whole ++ left)
 
--- all lines were taken and what they add written, and nothing is left
-pub record AtEnd {M F : Type 0} (takes : M → List ℕ → M → Result (List ℕ) F → Type 0) (old now : M) (source source' text text' : Option (List ℕ)) : Type 0 where
-  pub done : List (List ℕ)
-  pub said : List ℕ
-  pub took : Took takes old done now said
-  pub written : Appends text text' said
-  pub all : ReadsAll source source' done
-
--- one line more
-took_more : {M F : Type 0} (takes : M → List ℕ → M → Result (List ℕ) F → Type 0) (old mid new : M) (ls : List (List ℕ)) (line said t : List ℕ) → Took takes old ls mid said
-    → takes mid line new (Ok t) → Took takes old (ls ++ line ∷ []) new (said ++ t)
-took_more takes old mid new [] line said t w step = (
-  new,
-  t,
-  [],
-  subst (λ m. takes m line new (Ok t)) w.0 step,
-  (refl, refl),
-  ap (λ x. x ++ t) w.1 ∙ sym (append-nil t),
-)
-took_more takes old mid new (l ∷ ls) line said t w step = (
-  w.0,
-  w.1,
-  w.2 ++ t,
-  w.3,
-  took_more takes w.0 mid new ls line w.2 t w.4 step,
-  ap (λ x. x ++ t) w.5 ∙ append_assoc w.1 w.2 t,
-)
-
-pub so_far_none : {M F : Type 0} {takes : M → List ℕ → M → Result (List ℕ) F → Type 0} {m : M} {source text : Option (List ℕ)} (held : Held) → held ≡ record { limit = 8500; bytes = [] } → SoFar takes m m source source text text held
-so_far_none {text = text} held is = record {
-  done = [];
-  said = [];
-  took = (refl, refl);
+reads_none : {source : Option (List ℕ)} (held : Held) → held ≡ record { limit = 8500; bytes = [] } → Reads source source held []
+reads_none held is = record {
   plain = tt;
   limit = ap (λ (h : Held). h.limit) is;
   whole = [];
   shortened = subst (λ (h : Held). IsShortened 8500 [] h.bytes) (sym is) (is_shortened-whole 8500 []);
-  written = nothing_written text;
   input = λ input is. (input, is, refl);
 }
 
 -- bytes were taken
-pub so_far_fetched : {M F : Type 0} {takes : M → List ℕ → M → Result (List ℕ) F → Type 0} {old now : M} {source source' source'' text text' : Option (List ℕ)} {held held' : Held}
-    → SoFar takes old now source source' text text' held → held'.limit ≡ held.limit
-    → ((whole : List ℕ) → IsShortened held.limit whole held.bytes → IsFetched held.limit whole held'.bytes source' source'') → SoFar takes old now source source'' text text' held'
-so_far_fetched {source' = source'} {source'' = source''} {held = held} {held' = held'} f same kept =
+reads_fetched : {source source' source'' : Option (List ℕ)} {held held' : Held} {ls : List (List ℕ)} → Reads source source' held ls → held'.limit ≡ held.limit
+    → ((whole : List ℕ) → IsShortened held.limit whole held.bytes → IsFetched held.limit whole held'.bytes source' source'') → Reads source source'' held' ls
+reads_fetched {source' = source'} {source'' = source''} {held = held} {held' = held'} {ls = ls} f same kept =
     let k = subst (λ (n : ℕ). IsFetched n f.whole held'.bytes source' source'') f.limit (kept f.whole (subst (λ (n : ℕ). IsShortened n f.whole held.bytes) (sym f.limit) f.shortened)) in
     record {
-      done = f.done;
-      said = f.said;
-      took = f.took;
       plain = f.plain;
       limit = same ∙ f.limit;
       whole = f.whole ++ k.taken;
       shortened = k.shortened;
-      written = f.written;
       input = λ input is.
           let i = f.input input is in
           let g = k.given i.0 i.1 in (
             g.0,
             g.1,
-            i.2 ∙ ap (λ t. ended f.done ++ f.whole ++ t) g.2 ∙ sym (append_assoc (ended f.done ++ f.whole) k.taken g.0) ∙ ap (λ t. t ++ g.0) (append_assoc (ended f.done) f.whole k.taken),
+            i.2 ∙ ap (λ t. ended ls ++ f.whole ++ t) g.2 ∙ sym (append_assoc (ended ls ++ f.whole) k.taken g.0) ∙ ap (λ t. t ++ g.0) (append_assoc (ended ls) f.whole k.taken),
           );
     }
 
-module _ {M F : Type 0} {takes : M → List ℕ → M → Result (List ℕ) F → Type 0} {old now : M} {source source' text text' : Option (List ℕ)} {held : Held} (f : SoFar takes old now source source' text text' held) where
-  abbrev read_so_far : (input left : List ℕ) → input ≡ ended f.done ++ f.whole ++ left → HasRead input left f.done
+module _ {source source' : Option (List ℕ)} {held : Held} {ls : List (List ℕ)} (f : Reads source source' held ls) where
+  abbrev read_so_far : (input left : List ℕ) → input ≡ ended ls ++ f.whole ++ left → HasRead input left ls
   read_so_far input left is = record {
-    taken = ended f.done ++ f.whole;
+    taken = ended ls ++ f.whole;
     split = is;
-    first = first_lines f.done f.whole left f.plain;
+    first = first_lines ls f.whole left f.plain;
     behind = lines (f.whole ++ left);
-    lines_are = lines_to_come input f.done f.whole left f.plain is;
+    lines_are = lines_to_come input ls f.whole left f.plain is;
   }
 
-  -- ---- it ends between two lines
-  -- the source failed, and no line is held whole
-  pub fed_unread : {ends : M → M → Result (List ℕ) F → Type 0} → position_or_len is_line_feed held.bytes ≡ length held.bytes → Fed takes ends feeding.ReadFault old now source source' text text'
-  fed_unread unfinished = record {
-    done = f.done;
-    mid = now;
-    said = f.said;
-    took = f.took;
-    text_so_far = text';
-    written = f.written;
-    ended = inl (
-      refl,
-      refl,
-      λ input is.
-          let i = f.input input is in
-          (i.0, i.1, read_so_far input i.0 i.2, whole_taken f.done f.whole f.plain (held_plain f.whole (unfinished-text 8500 f.whole held.bytes f.shortened unfinished))),
-    );
-  }
-
-  -- there is no memory for the next line
-  pub fed_wanting : {ends : M → M → Result (List ℕ) F → Type 0} → Fed takes ends feeding.Memory old now source source' text text'
-  fed_wanting = record {
-    done = f.done;
-    mid = now;
-    said = f.said;
-    took = f.took;
-    text_so_far = text';
-    written = f.written;
-    ended = inl (refl, refl, λ input is. let i = f.input input is in (i.0, i.1, read_so_far input i.0 i.2));
-  }
+  reads_lines : ReadsLinesOf source source' ls
+  reads_lines input is = let i = f.input input is in (i.0, i.1, read_so_far input i.0 i.2)
 
   -- nothing is held or left
-  pub at_end_none : (held.bytes ≡ []) × ((left : List ℕ) → source' ≡ Some left → left ≡ []) → AtEnd takes old now source source' text text'
-  at_end_none over = record {
-    done = f.done;
-    said = f.said;
-    took = f.took;
-    written = f.written;
-    all = λ input is.
-        let i = f.input input is in
-        let no_more : i.0 ≡ [] = over.1 i.0 i.1 in (
-          i.1 ∙ ap (λ x. Some x) no_more,
-          lines_to_come input f.done f.whole i.0 f.plain i.2 ∙ ap (λ w. f.done ++ lines (w ++ i.0)) (none-text 8500 f.whole held.bytes f.shortened over.0) ∙ ap (λ l. f.done ++ lines l) no_more
-              ∙ ap (λ ls. f.done ++ ls) lines-none ∙ append-nil f.done,
-        );
-  }
+  reads_all_none : (held.bytes ≡ []) × ((left : List ℕ) → source' ≡ Some left → left ≡ []) → ReadsAll source source' ls
+  reads_all_none over input is =
+      let i = f.input input is in
+      let no_more : i.0 ≡ [] = over.1 i.0 i.1 in (
+        i.1 ∙ ap (λ x. Some x) no_more,
+        lines_to_come input ls f.whole i.0 f.plain i.2 ∙ ap (λ w. ls ++ lines (w ++ i.0)) (none-text 8500 f.whole held.bytes f.shortened over.0) ∙ ap (λ l. ls ++ lines l) no_more
+            ∙ ap (λ ms. ls ++ ms) lines-none ∙ append-nil ls,
+      )
 
   -- ---- at a line
   -- the whole of the line
@@ -156,20 +83,20 @@ module _ {M F : Type 0} {takes : M → List ℕ → M → Result (List ℕ) F �
   real = before_first is_line_feed f.whole
 
   abbrev more : List (List ℕ)
-  more = f.done ++ real ∷ []
+  more = ls ++ real ∷ []
 
   cut_is : position_or_len is_line_feed f.whole < length f.whole → f.whole ≡ real ++ 10 ∷ after_first is_line_feed f.whole
   cut_is cut = front_split f.whole cut
 
   -- it was read to its end
-  taken_first : IsLineFound f.whole source' → (input left : List ℕ) → source' ≡ Some left → input ≡ ended f.done ++ f.whole ++ left → AreFirst (ended f.done ++ f.whole) left more
+  taken_first : IsLineFound f.whole source' → (input left : List ℕ) → source' ≡ Some left → input ≡ ended ls ++ f.whole ++ left → AreFirst (ended ls ++ f.whole) left more
   taken_first found input left left_is is = elim (where_of f.whole source' found) [
     | inl cut ↦
         let after = after_first is_line_feed f.whole in
-        subst (λ (t : List ℕ). AreFirst t left more) (sym (next_taken f.done f.whole real after (cut_is cut))) (first_lines more after left (plain_more f.done real f.plain (front_plain f.whole)))
+        subst (λ (t : List ℕ). AreFirst t left more) (sym (next_taken ls f.whole real after (cut_is cut))) (first_lines more after left (plain_more ls real f.plain (front_plain f.whole)))
     | inr last ↦
-        subst (λ (l : List ℕ). AreFirst (ended f.done ++ f.whole) left (f.done ++ l ∷ [])) (sym (front_whole f.whole last.0))
-        (last_first input f.done f.whole left f.plain is (held_plain f.whole last.0) last.1 (last.2 left left_is))
+        subst (λ (l : List ℕ). AreFirst (ended ls ++ f.whole) left (ls ++ l ∷ [])) (sym (front_whole f.whole last.0))
+        (last_first input ls f.whole left f.plain is (held_plain f.whole last.0) last.1 (last.2 left left_is))
   ]
 
   read_line : IsLineFound held.bytes source' → ReadsLinesOf source source' more
@@ -180,83 +107,206 @@ module _ {M F : Type 0} {takes : M → List ℕ → M → Result (List ℕ) F �
         i.0,
         i.1,
         record {
-          taken = ended f.done ++ f.whole;
+          taken = ended ls ++ f.whole;
           split = i.2;
           first = taken_first there input i.0 i.1 i.2;
           behind = behind;
-          lines_are = lines_to_come input f.done f.whole i.0 f.plain i.2
-              ∙ ap (λ ls. f.done ++ ls) (lines_found f.whole i.0 (subst (λ (s : Option (List ℕ)). IsLineFound f.whole s) i.1 there)) ∙ sym (append_assoc f.done (real ∷ []) behind);
+          lines_are = lines_to_come input ls f.whole i.0 f.plain i.2
+              ∙ ap (λ ms. ls ++ ms) (lines_found f.whole i.0 (subst (λ (s : Option (List ℕ)). IsLineFound f.whole s) i.1 there)) ∙ sym (append_assoc ls (real ∷ []) behind);
         },
       )
-
-  written_line : (text'' : Option (List ℕ)) (t : List ℕ) → Appends text' text'' t → Appends text text'' (f.said ++ t)
-  written_line text'' t put = put ∙ ap (option_map (λ x. x ++ t)) f.written ∙ written_more text f.said t
 
   given : (line : List ℕ) → line ≡ take (held.limit + 1) (before_first is_line_feed held.bytes) → line ≡ given_of real
   given line front = front ∙ ap (λ n. take (n + 1) (before_first is_line_feed held.bytes)) f.limit ∙ line_front-text 8500 f.whole held.bytes f.shortened
 
-  module _ {line : List ℕ} (front : line ≡ take (held.limit + 1) (before_first is_line_feed held.bytes)) {next : M} where
-    -- it was taken and what it adds written, and more may follow
-    pub so_far_line : {text'' : Option (List ℕ)} {held' : Held} → (position_or_len is_line_feed held.bytes ≡ length held.bytes → ⊥) → (t : List ℕ) × ((whole : List ℕ) → line ≡ given_of whole → takes now whole next (Ok t)) × Appends text' text'' t
-        → held' ≡ record held { bytes = after_first is_line_feed held.bytes } → SoFar takes old next source source' text text'' held'
-    so_far_line {text'' = text''} {held' = held'} unlast step advanced =
-        let behind = after_first is_line_feed held.bytes in
-        record {
-          done = more;
-          said = f.said ++ step.0;
-          took = took_more takes old now next f.done real f.said step.0 f.took (step.1 real (given line front));
-          plain = plain_more f.done real f.plain (front_plain f.whole);
-          limit = ap (λ (h : Held). h.limit) advanced ∙ f.limit;
-          whole = behind;
-          shortened = subst (λ (h : Held). IsShortened 8500 behind h.bytes) (sym advanced) (is_shortened-whole 8500 behind);
-          written = written_line text'' step.0 step.2;
-          input = λ input told.
-              let i = f.input input told in
-              let cut : f.whole ≡ real ++ 10 ∷ behind =
-              cut_is (finished-text 8500 f.whole held.bytes f.shortened (cut_of held.bytes unlast)) ∙ ap (λ b. real ++ 10 ∷ b) (after_first-text 8500 f.whole held.bytes f.shortened) in
-              (i.0, i.1, next_line input f.done f.whole i.0 f.plain i.2 real behind cut);
-        }
+  -- it was taken with its line feed, and more may follow
+  reads_line : {held' : Held} → (position_or_len is_line_feed held.bytes ≡ length held.bytes → ⊥) → held' ≡ record held { bytes = after_first is_line_feed held.bytes } → Reads source source' held' more
+  reads_line unlast advanced =
+      let behind = after_first is_line_feed held.bytes in
+      record {
+        plain = plain_more ls real f.plain (front_plain f.whole);
+        limit = ap (λ (h : Held). h.limit) advanced ∙ f.limit;
+        whole = behind;
+        shortened = subst (λ (h : Held). IsShortened 8500 behind h.bytes) (sym advanced) (is_shortened-whole 8500 behind);
+        input = λ input told.
+            let i = f.input input told in
+            let cut : f.whole ≡ real ++ 10 ∷ behind =
+            cut_is (finished-text 8500 f.whole held.bytes f.shortened (cut_of held.bytes unlast)) ∙ ap (λ b. real ++ 10 ∷ b) (after_first-text 8500 f.whole held.bytes f.shortened) in
+            (i.0, i.1, next_line input ls f.whole i.0 f.plain i.2 real behind cut);
+      }
+
+  -- it was the last line
+  reads_all_line : position_or_len is_line_feed held.bytes ≡ length held.bytes → IsLineFound held.bytes source' → ReadsAll source source' more
+  reads_all_line unfinished found input told =
+      let last = last_of f.whole source' (unfinished-text 8500 f.whole held.bytes f.shortened unfinished) (found_whole 8500 source' f.whole held.bytes f.shortened found) in
+      let i = f.input input told in
+      let no_more : i.0 ≡ [] = last.2 i.0 i.1 in (
+        i.1 ∙ ap (λ x. Some x) no_more,
+        with_last input ls f.whole i.0 f.plain i.2 (held_plain f.whole last.0) last.1 no_more ∙ ap (λ l. ls ++ l ∷ []) (sym (front_whole f.whole last.0)),
+      )
+
+-- ---- the machine and the text too
+-- these lines were taken, what they add written but for what is gathered, and of the bytes after them this is held
+pub record SoFar {M F : Type 0} (takes : M → List ℕ → M → Result (List ℕ) F → Type 0) (quiet : M → M → Type 0) (old now : M) (source source' text text' : Option (List ℕ)) (held : Held) (out : List ℕ) : Type 0 where
+  pub ls : List (List ℕ)
+  pub reads : Reads source source' held ls
+  pub keeps : Keeps takes quiet old now text text' out ls
+
+-- all lines were taken and what they add written, and nothing is left
+pub record AtEnd {M F : Type 0} (takes : M → List ℕ → M → Result (List ℕ) F → Type 0) (old now : M) (source source' text text' : Option (List ℕ)) : Type 0 where
+  pub ls : List (List ℕ)
+  pub all : ReadsAll source source' ls
+  pub written : Written takes old now text text' ls
+
+pub so_far_none : {M F : Type 0} {takes : M → List ℕ → M → Result (List ℕ) F → Type 0} {quiet : M → M → Type 0} {m : M} {source text : Option (List ℕ)} (held : Held) (out : List ℕ) → held ≡ record { limit = 8500; bytes = [] } → out ≡ []
+    → SoFar takes quiet m m source source text text held out
+so_far_none {takes = takes} {quiet = quiet} {m = m} {text = text} held out is none = record {
+  ls = [];
+  reads = reads_none held is;
+  keeps = subst (λ o. Keeps takes quiet m m text text o []) (sym none) keeps_none;
+}
+
+-- no more is gathered in a line that is cut
+fed_cut_in : {M F : Type 0} {takes : M → List ℕ → M → Result (List ℕ) F → Type 0} {ends : M → M → Result (List ℕ) F → Type 0} {quiet : M → M → Type 0} {old new : M} {source source' text text' : Option (List ℕ)} {ls : List (List ℕ)}
+    → KeptCut takes quiet old new text text' ls → ReadsLinesOf source source' ls → Fed takes ends quiet feeding.WriteFault old new source source' text text'
+fed_cut_in {source = source} {source' = source'} c reads = record {
+  done = c.done;
+  mid = c.mid;
+  said = c.all.said;
+  took = c.all.took;
+  text_so_far = c.text_so_far;
+  written = c.all.put;
+  ended = inr (inl (c.line, c.later, c.ends, subst (λ (x : List (List ℕ)). ReadsLinesOf source source' x) c.lines_are reads));
+}
+
+-- what a line makes of the machine, with what it adds gathered, for whatever line of which this is given
+abbrev pub Step : {M F : Type 0} → (M → List ℕ → M → Result (List ℕ) F → Type 0) → (M → M → Type 0) → M → List ℕ → M → Option (List ℕ) → Option (List ℕ) → List ℕ → List ℕ → Type 0
+Step takes quiet now line next text text' out out' = (whole : List ℕ) → line ≡ given_of whole → (t : List ℕ) × takes now whole next (Ok t) × Gathers quiet now next text text' out out' t
+
+module _ {M F : Type 0} {takes : M → List ℕ → M → Result (List ℕ) F → Type 0} {quiet : M → M → Type 0} {old now : M} {source source' text text' : Option (List ℕ)} {held : Held} {out : List ℕ} (f : SoFar takes quiet old now source source' text text' held out) where
+  -- ---- between two lines
+  -- it was looked for the end of a line
+  pub so_far_same : {held' : Held} → held' ≡ held → SoFar takes quiet old now source source' text text' held' out
+  so_far_same same = record { ls = f.ls; reads = subst (λ h. Reads source source' h f.ls) (sym same) f.reads; keeps = f.keeps }
+
+  -- what was gathered was written, or nothing was
+  pub so_far_handed : {text'' : Option (List ℕ)} {out' : List ℕ} → HandsOn text' text'' out out' → SoFar takes quiet old now source source' text text'' held out'
+  so_far_handed on = record { ls = f.ls; reads = f.reads; keeps = keeps_handed f.keeps on }
+
+  -- bytes were taken
+  pub so_far_fetched : {source'' : Option (List ℕ)} {held' : Held} → held'.limit ≡ held.limit → ((whole : List ℕ) → IsShortened held.limit whole held.bytes → IsFetched held.limit whole held'.bytes source' source'')
+      → SoFar takes quiet old now source source'' text text' held' out
+  so_far_fetched same kept = record { ls = f.ls; reads = reads_fetched f.reads same kept; keeps = f.keeps }
+
+  -- not all that was gathered could be written
+  pub fed_cut : {ends : M → M → Result (List ℕ) F → Type 0} {text'' : Option (List ℕ)} → IsCutShort text' text'' out → Fed takes ends quiet feeding.WriteFault old now source source' text text''
+  fed_cut {text'' = text''} c = fed_cut_in (keeps_cut [] f.keeps c refl) (subst (λ (x : List (List ℕ)). ReadsLinesOf source source' x) (sym (append-nil f.ls)) (reads_lines f.reads))
+
+  -- the source failed, and no line is held whole
+  pub fed_unread : {ends : M → M → Result (List ℕ) F → Type 0} → out ≡ [] → position_or_len is_line_feed held.bytes ≡ length held.bytes → Fed takes ends quiet feeding.ReadFault old now source source' text text'
+  fed_unread none unfinished =
+      let w = written_none f.keeps none in
+      let r = f.reads in
+      record {
+        done = f.ls;
+        mid = now;
+        said = w.said;
+        took = w.took;
+        text_so_far = text';
+        written = w.put;
+        ended = inl (
+          refl,
+          refl,
+          λ input is.
+              let i = r.input input is in
+              (i.0, i.1, read_so_far r input i.0 i.2, whole_taken f.ls r.whole r.plain (held_plain r.whole (unfinished-text 8500 r.whole held.bytes r.shortened unfinished))),
+        );
+      }
+
+  -- all that was gathered is written, and there is no memory for the next line
+  pub fed_wanting : {ends : M → M → Result (List ℕ) F → Type 0} {text'' : Option (List ℕ)} → Appends text' text'' out → Fed takes ends quiet feeding.Memory old now source source' text text''
+  fed_wanting {text'' = text''} put =
+      let w = written_all f.keeps put in
+      record {
+        done = f.ls;
+        mid = now;
+        said = w.said;
+        took = w.took;
+        text_so_far = text'';
+        written = w.put;
+        ended = inl (refl, refl, reads_lines f.reads);
+      }
+
+  -- the same, where nothing is gathered
+  pub fed_wanting_none : {ends : M → M → Result (List ℕ) F → Type 0} → out ≡ [] → Fed takes ends quiet feeding.Memory old now source source' text text'
+  fed_wanting_none none =
+      let w = written_none f.keeps none in
+      record {
+        done = f.ls;
+        mid = now;
+        said = w.said;
+        took = w.took;
+        text_so_far = text';
+        written = w.put;
+        ended = inl (refl, refl, reads_lines f.reads);
+      }
+
+  -- nothing is held or left
+  pub at_end_none : out ≡ [] → (held.bytes ≡ []) × ((left : List ℕ) → source' ≡ Some left → left ≡ []) → AtEnd takes old now source source' text text'
+  at_end_none none over = record { ls = f.ls; all = reads_all_none f.reads over; written = written_none f.keeps none }
+
+  -- ---- at a line
+  module _ {line : List ℕ} (front : line ≡ take (held.limit + 1) (before_first is_line_feed held.bytes)) {next : M} {text'' : Option (List ℕ)} where
+    keeps_next : {out' : List ℕ} → Step takes quiet now line next text' text'' out out' → Keeps takes quiet old next text text'' out' (more f.reads)
+    keeps_next step = let s = step (real f.reads) (given f.reads line front) in keeps_line (real f.reads) s.0 f.keeps s.1 s.2
+
+    -- it was taken, and more may follow
+    pub so_far_line : {out' : List ℕ} {held' : Held} → (position_or_len is_line_feed held.bytes ≡ length held.bytes → ⊥) → Step takes quiet now line next text' text'' out out' → held' ≡ record held { bytes = after_first is_line_feed held.bytes }
+        → SoFar takes quiet old next source source' text text'' held' out'
+    so_far_line unlast step advanced = record { ls = more f.reads; reads = reads_line f.reads unlast advanced; keeps = keeps_next step }
 
     -- it was the last line
-    pub at_end_line : {text'' : Option (List ℕ)} → position_or_len is_line_feed held.bytes ≡ length held.bytes → IsLineFound held.bytes source' → (t : List ℕ) × ((whole : List ℕ) → line ≡ given_of whole → takes now whole next (Ok t)) × Appends text' text'' t
-        → AtEnd takes old next source source' text text''
-    at_end_line {text'' = text''} unfinished found step =
-        let last = last_of f.whole source' (unfinished-text 8500 f.whole held.bytes f.shortened unfinished) (found_whole 8500 source' f.whole held.bytes f.shortened found) in
-        record {
-          done = more;
-          said = f.said ++ step.0;
-          took = took_more takes old now next f.done real f.said step.0 f.took (step.1 real (given line front));
-          written = written_line text'' step.0 step.2;
-          all = λ input told.
-              let i = f.input input told in
-              let no_more : i.0 ≡ [] = last.2 i.0 i.1 in (
-                i.1 ∙ ap (λ x. Some x) no_more,
-                with_last input f.done f.whole i.0 f.plain i.2 (held_plain f.whole last.0) last.1 no_more ∙ ap (λ l. f.done ++ l ∷ []) (sym (front_whole f.whole last.0)),
-              );
-        }
+    pub at_end_line : {out' : List ℕ} {text''' : Option (List ℕ)} → position_or_len is_line_feed held.bytes ≡ length held.bytes → IsLineFound held.bytes source' → Step takes quiet now line next text' text'' out out' → Appends text'' text''' out' → AtEnd takes old next source source' text text'''
+    at_end_line unfinished found step put = record { ls = more f.reads; all = reads_all_line f.reads unfinished found; written = written_all (keeps_next step) put }
+
+    -- it was the last line, and not all that was gathered could be written
+    pub fed_cut_last : {ends : M → M → Result (List ℕ) F → Type 0} {out' : List ℕ} {text''' : Option (List ℕ)} → IsLineFound held.bytes source' → Step takes quiet now line next text' text'' out out' → IsCutShort text'' text''' out' → Fed takes ends quiet feeding.WriteFault old next source source' text text'''
+    fed_cut_last found step c = fed_cut_in (keeps_cut [] (keeps_next step) c refl) (subst (λ (x : List (List ℕ)). ReadsLinesOf source source' x) (sym (append-nil (more f.reads))) (read_line f.reads found))
 
     -- it ends there
-    pub fed_at_line : {ends : M → M → Result (List ℕ) F → Type 0} {how : Feeding F} {text'' : Option (List ℕ)} → IsLineFound held.bytes source' → ((whole : List ℕ) → line ≡ given_of whole → EndsAtLine takes how now whole next text' text'')
-        → Fed takes ends how old next source source' text text''
-    fed_at_line found e = record {
-      done = f.done;
-      mid = now;
-      said = f.said;
-      took = f.took;
-      text_so_far = text';
-      written = f.written;
-      ended = inr (inl (real, e real (given line front), read_line found));
-    }
+    pub fed_at_line : {ends : M → M → Result (List ℕ) F → Type 0} (how : Feeding F) → IsLineFound held.bytes source' → ((whole : List ℕ) → line ≡ given_of whole → StopsGathering takes quiet how now whole next text' text'' out)
+        → Fed takes ends quiet how old next source source' text text''
+    fed_at_line {ends = ends} feeding.WriteFault found e =
+        let s = e (real f.reads) (given f.reads line front) in
+        elim s.1 [
+          | inl same ↦ subst (λ (m : M). Fed takes ends quiet feeding.WriteFault old m source source' text text'') (sym same) (fed_cut s.0)
+          | inr on ↦ fed_cut_in (keeps_cut (real f.reads ∷ []) f.keeps s.0 (next, on.0, on.1, on.2, refl)) (read_line f.reads found)
+        ]
+    fed_at_line (feeding.Stopped why) found e =
+        let s = e (real f.reads) (given f.reads line front) in
+        let w = written_all f.keeps s.1 in
+        record {
+          done = f.ls;
+          mid = now;
+          said = w.said;
+          took = w.took;
+          text_so_far = text'';
+          written = w.put;
+          ended = inr (inl (real f.reads, [], (s.0, refl, refl), read_line f.reads found));
+        }
+    fed_at_line feeding.Done found e = absurd (e (real f.reads) (given f.reads line front))
+    fed_at_line feeding.ReadFault found e = absurd (e (real f.reads) (given f.reads line front))
+    fed_at_line feeding.Memory found e = absurd (e (real f.reads) (given f.reads line front))
 
 -- ---- all lines were taken
-pub fed_behind : {M F : Type 0} {takes : M → List ℕ → M → Result (List ℕ) F → Type 0} {ends : M → M → Result (List ℕ) F → Type 0} {old now next : M} {source source' text text' text'' : Option (List ℕ)} {how : Feeding F}
-    → AtEnd takes old now source source' text text' → EndsAfter ends how now next text' text'' → Fed takes ends how old next source source' text text''
+pub fed_behind : {M F : Type 0} {takes : M → List ℕ → M → Result (List ℕ) F → Type 0} {ends : M → M → Result (List ℕ) F → Type 0} {quiet : M → M → Type 0} {old now next : M} {source source' text text' text'' : Option (List ℕ)} {how : Feeding F}
+    → AtEnd takes old now source source' text text' → EndsAfter ends how now next text' text'' → Fed takes ends quiet how old next source source' text text''
 fed_behind {now = now} {text' = text'} f e = record {
-  done = f.done;
+  done = f.ls;
   mid = now;
-  said = f.said;
-  took = f.took;
+  said = f.written.said;
+  took = f.written.took;
   text_so_far = text';
-  written = f.written;
+  written = f.written.put;
   ended = inr (inr (e, f.all));
 }

@@ -16,9 +16,37 @@ abbrev pub Took : {M F : Type 0} → (M → List ℕ → M → Result (List ℕ)
 Took takes old [] new text = (new ≡ old) × (text ≡ [])
 Took takes old (line ∷ ls) new text = (mid : _) × (t : List ℕ) × (more : List ℕ) × takes old line mid (Ok t) × Took takes mid ls new more × (text ≡ t ++ more)
 
+-- whatever the machine makes of a line of which this is given, it is quiet
+abbrev pub IsQuietLine : {M F : Type 0} → (M → List ℕ → M → Result (List ℕ) F → Type 0) → (M → M → Type 0) → M → List ℕ → Type 0
+IsQuietLine {M} {F} takes quiet old line = (whole : List ℕ) → line ≡ given_of whole → (new : M) (r : Result (List ℕ) F) → takes old whole new r → quiet old new
+
+-- these lines were taken too, and all were quiet
+abbrev pub GoesOnQuietly : {M F : Type 0} → (M → List ℕ → M → Result (List ℕ) F → Type 0) → (M → M → Type 0) → M → List (List ℕ) → M → Type 0
+GoesOnQuietly takes quiet old [] new = new ≡ old
+GoesOnQuietly {M} {F} takes quiet old (line ∷ ls) new = (mid : M) × (r : Result (List ℕ) F) × takes old line mid r × quiet old mid × GoesOnQuietly takes quiet mid ls new
+
 -- this was appended to a text, if it is told
 abbrev pub Appends : Option (List ℕ) → Option (List ℕ) → List ℕ → Type 0
 Appends old new text = new ≡ option_map (λ t. t ++ text) old
+
+-- ---- what is gathered
+-- all that was gathered was written, or nothing was
+abbrev pub HandsOn : Option (List ℕ) → Option (List ℕ) → List ℕ → List ℕ → Type 0
+HandsOn text text' out out' = (Appends text text' out × (out' ≡ [])) ⊎ ((text' ≡ text) × (out' ≡ out))
+
+-- a line was taken, and what it adds was gathered: alone, after all that was gathered before was written; or, if the line is
+-- quiet, behind that
+abbrev pub Gathers : {M : Type 0} → (M → M → Type 0) → M → M → Option (List ℕ) → Option (List ℕ) → List ℕ → List ℕ → List ℕ → Type 0
+Gathers quiet old new text text' out out' t = (Appends text text' out × (out' ≡ t)) ⊎ ((text' ≡ text) × (out' ≡ out ++ t) × quiet old new)
+
+-- no more lines are taken: of what was gathered before a line not all was written, and the line wasn't taken, or the machine
+-- stopped quietly in it; or all was written, and the machine stopped in the line
+abbrev pub StopsGathering : {M F : Type 0} → (M → List ℕ → M → Result (List ℕ) F → Type 0) → (M → M → Type 0) → Feeding F → M → List ℕ → M → Option (List ℕ) → Option (List ℕ) → List ℕ → Type 0
+StopsGathering {M} {F} takes quiet feeding.WriteFault old line new text text' out = IsCutShort text text' out × ((new ≡ old) ⊎ ((r : Result (List ℕ) F) × takes old line new r × quiet old new))
+StopsGathering takes quiet (feeding.Stopped why) old line new text text' out = takes old line new (Err why) × Appends text text' out
+StopsGathering takes quiet feeding.Done old line new text text' out = ⊥
+StopsGathering takes quiet feeding.ReadFault old line new text text' out = ⊥
+StopsGathering takes quiet feeding.Memory old line new text text' out = ⊥
 
 -- ---- how far an input was read
 -- this was taken of an input, and these lines are the first of it, each read to its end
@@ -42,13 +70,13 @@ abbrev pub ReadsWhole : Option (List ℕ) → Option (List ℕ) → List (List �
 ReadsWhole source source' ls = (input : List ℕ) → source ≡ Some input → (left : List ℕ) × (source' ≡ Some left) × (r : HasRead input left ls) × (length ls ≡ whole_lines r.taken)
 
 -- ---- how it ended
--- at a line: what it adds was cut short, or the machine stopped in it
-abbrev pub EndsAtLine : {M F : Type 0} → (M → List ℕ → M → Result (List ℕ) F → Type 0) → Feeding F → M → List ℕ → M → Option (List ℕ) → Option (List ℕ) → Type 0
-EndsAtLine takes feeding.WriteFault old line new text text' = (t : List ℕ) × takes old line new (Ok t) × IsCutShort text text' t
-EndsAtLine takes (feeding.Stopped why) old line new text text' = takes old line new (Err why) × (text' ≡ text)
-EndsAtLine takes feeding.Done old line new text text' = ⊥
-EndsAtLine takes feeding.ReadFault old line new text text' = ⊥
-EndsAtLine takes feeding.Memory old line new text text' = ⊥
+-- at a line: what it adds was cut short, and the later lines had been taken too, and were quiet; or the machine stopped in it
+abbrev pub EndsAtLine : {M F : Type 0} → (M → List ℕ → M → Result (List ℕ) F → Type 0) → (M → M → Type 0) → Feeding F → M → List ℕ → List (List ℕ) → M → Option (List ℕ) → Option (List ℕ) → Type 0
+EndsAtLine {M} takes quiet feeding.WriteFault old line later new text text' = (mid : M) × (t : List ℕ) × takes old line mid (Ok t) × IsCutShort text text' t × GoesOnQuietly takes quiet mid later new
+EndsAtLine takes quiet (feeding.Stopped why) old line later new text text' = takes old line new (Err why) × (text' ≡ text) × (later ≡ [])
+EndsAtLine takes quiet feeding.Done old line later new text text' = ⊥
+EndsAtLine takes quiet feeding.ReadFault old line later new text text' = ⊥
+EndsAtLine takes quiet feeding.Memory old line later new text text' = ⊥
 
 -- behind the last line: all was added, or the same
 abbrev pub EndsAfter : {M F : Type 0} → (M → M → Result (List ℕ) F → Type 0) → Feeding F → M → M → Option (List ℕ) → Option (List ℕ) → Type 0
@@ -67,7 +95,7 @@ EndsBetween feeding.WriteFault source source' done = ⊥
 EndsBetween (feeding.Stopped why) source source' done = ⊥
 
 -- the lines of a source were taken by a machine and what they add written, up to where it ended
-pub record Fed {M F : Type 0} (takes : M → List ℕ → M → Result (List ℕ) F → Type 0) (ends : M → M → Result (List ℕ) F → Type 0) (how : Feeding F) (old new : M) (source source' text text' : Option (List ℕ)) : Type 0 where
+pub record Fed {M F : Type 0} (takes : M → List ℕ → M → Result (List ℕ) F → Type 0) (ends : M → M → Result (List ℕ) F → Type 0) (quiet : M → M → Type 0) (how : Feeding F) (old new : M) (source source' text text' : Option (List ℕ)) : Type 0 where
   pub done : List (List ℕ)
   pub mid : M
   pub said : List ℕ
@@ -75,5 +103,5 @@ pub record Fed {M F : Type 0} (takes : M → List ℕ → M → Result (List ℕ
   pub text_so_far : Option (List ℕ)
   pub written : Appends text text_so_far said
   pub ended : ((new ≡ mid) × (text' ≡ text_so_far) × EndsBetween how source source' done)
-      ⊎ ((line : List ℕ) × EndsAtLine takes how mid line new text_so_far text' × ReadsLinesOf source source' (done ++ line ∷ []))
+      ⊎ ((line : List ℕ) × (later : List (List ℕ)) × EndsAtLine takes quiet how mid line later new text_so_far text' × ReadsLinesOf source source' (done ++ line ∷ later))
       ⊎ (EndsAfter ends how mid new text_so_far text' × ReadsAll source source' done)

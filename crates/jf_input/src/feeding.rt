@@ -1,13 +1,17 @@
 // The lines of a source, taken by a machine, and what they add, written into a sink.
-ghost use Rattle.std.specs.Prelude.{◌≡◌, ◌-◌, ◌<◌, ◌≤◌, ◌^◌, Err, OnOk, IfErr, List, ℕ, Ok};
+ghost use Rattle.std.specs.Prelude.{◌≡◌, ◌-◌, ◌<◌, ◌≤◌, ◌^◌, Err, OnOk, OnErr, IfErr, List, ℕ, Ok, [], IsTrue};
 ghost use Rattle.jf_path.specs.Faults.{HasCause};
-ghost use Rattle.jf_input.specs.Feeds.{given_of, Appends, EndsAtLine, EndsAfter, Fed};
+ghost use Rattle.jf_io.specs.Sink.{IsCutShort};
+ghost use Rattle.jf_input.specs.Feeds.{given_of, Appends, HandsOn, Gathers, StopsGathering, EndsAfter, Fed};
 
 use crate::machine::LineMachine;
-use jf_io::{FetchFault, LineReader, Sink, Source, put_all};
+use jf_io::{FetchFault, IoFailed, LineReader, Sink, Source, put_all};
 use jf_path::Bytes;
 use jf_text::MAX_LINE;
 use std::alloc::Global;
+
+// Once so many bytes are gathered, they are written before the next line is taken.
+const FULL: u64 = 65_536;
 
 /// How a machine was fed.
 pub enum Feeding<F> {
@@ -23,8 +27,12 @@ pub enum Feeding<F> {
     Stopped(F),
 }
 
-/// Hands the lines of a source to a machine, and what it adds to a sink before the next line is looked at. Input is taken
-/// in large pieces.
+/// Hands the lines of a source to a machine, and what it adds to a sink. Input is taken in large pieces.
+///
+/// What the machine adds may be gathered, and all of it is written before the source is asked for more bytes, before a
+/// line that isn't known to be quiet is taken, before the next line once 65,536 bytes or more are gathered, and before
+/// `feed` returns. So whoever writes a line and waits gets what it adds. After a `WriteFault` the machine may have taken
+/// quiet lines after the one whose addition was cut.
 pub fn feed<M: LineMachine, S: Source, K: Sink>(
     alloc: Global,
     machine: &mut M,
@@ -32,7 +40,7 @@ pub fn feed<M: LineMachine, S: Source, K: Sink>(
     sink: &mut K,
 ) -> Feeding<M::Stop>
     requires { M.ready machine.old }
-    ensures fed { Fed M.takes M.ends result machine.old machine.new (S.rest source.old) (S.rest source.new) (K.text sink.old) (K.text sink.new) }
+    ensures fed { Fed M.takes M.ends M.quiet result machine.old machine.new (S.rest source.old) (S.rest source.new) (K.text sink.old) (K.text sink.new) }
     ensures read { result ≡ Feeding.ReadFault → HasCause (S.faults source.old) (S.faults source.new) }
     ensures write { result ≡ Feeding.WriteFault → HasCause (K.faults sink.old) (K.faults sink.new) }
     ensures source_counts { S.faults source.old ≤ S.faults source.new }
@@ -42,6 +50,11 @@ pub fn feed<M: LineMachine, S: Source, K: Sink>(
     let mut out = Bytes::new(alloc);
     // No source gives more lines than this.
     for _turn in 0..u64::MAX {
+        // Without a whole line at hand the source is asked, and may wait for what was added so far.
+        let asks = !reader.finds_line();
+        if hand_on_if(asks, sink, &mut out).is_err() {
+            return Feeding::WriteFault;
+        }
         match reader.fetch(source) {
             Ok(true) => {}
             Ok(false) => return feed_end(alloc, machine, sink, &mut out),
@@ -54,14 +67,21 @@ pub fn feed<M: LineMachine, S: Source, K: Sink>(
             Err(how) => return how,
         }
         if is_last {
+            if hand_on(sink, &mut out).is_err() {
+                return Feeding::WriteFault;
+            }
             return feed_end(alloc, machine, sink, &mut out);
         }
         reader.advance();
     }
+    if hand_on(sink, &mut out).is_err() {
+        return Feeding::WriteFault;
+    }
     Feeding::Memory
 }
 
-// Hands a line to the machine, and what it adds to the sink.
+// Hands a line to the machine, and gathers what it adds. What was gathered before is written first, if there is much of it
+// or the line may not be quiet; and it is written if the machine stops.
 fn feed_line<M: LineMachine, K: Sink>(
     alloc: Global,
     machine: &mut M,
@@ -70,21 +90,53 @@ fn feed_line<M: LineMachine, K: Sink>(
     line: &[u8],
 ) -> Result<(), Feeding<M::Stop>>
     requires { M.ready machine.old }
-    ensures ok { OnOk result ((t : List ℕ) × ((whole : List ℕ) → line.now ≡ given_of whole → M.takes machine.old whole machine.new (Ok t)) × Appends (K.text sink.old) (K.text sink.new) t) }
+    ensures ok { (whole : List ℕ) → line.now ≡ given_of whole → OnOk result ((t : List ℕ) × M.takes machine.old whole machine.new (Ok t) × Gathers M.quiet machine.old machine.new (K.text sink.old) (K.text sink.new) out.old out.new t) }
     ensures ready { OnOk result (M.ready machine.new) }
-    ensures err { (whole : List ℕ) → line.now ≡ given_of whole → IfErr result (λ how. EndsAtLine M.takes how machine.old whole machine.new (K.text sink.old) (K.text sink.new)) }
+    ensures err { (whole : List ℕ) → line.now ≡ given_of whole → IfErr result (λ how. StopsGathering M.takes M.quiet how machine.old whole machine.new (K.text sink.old) (K.text sink.new) out.old) }
     ensures read { result ≡ Err Feeding.ReadFault → ⊥ }
     ensures write { result ≡ Err Feeding.WriteFault → HasCause (K.faults sink.old) (K.faults sink.new) }
     ensures grows { K.faults sink.old ≤ K.faults sink.new }
 {
-    out.clear();
-    match machine.take_line(alloc, line, out) {
-        Ok(()) => {}
-        Err(why) => return Err(Feeding::Stopped(why)),
-    }
-    if put_all(sink, out.as_slice()).is_err() {
+    let is_quiet = machine.is_quiet(line);
+    let is_due = !is_quiet || out.len() >= FULL;
+    if hand_on_if(is_due, sink, out).is_err() {
         return Err(Feeding::WriteFault);
     }
+    match machine.take_line(alloc, line, out) {
+        Ok(()) => Ok(()),
+        Err(why) => {
+            if hand_on(sink, out).is_err() {
+                return Err(Feeding::WriteFault);
+            }
+            Err(Feeding::Stopped(why))
+        }
+    }
+}
+
+// Writes all that was gathered, if it is due.
+fn hand_on_if<K: Sink>(is_due: bool, sink: &mut K, out: &mut Bytes) -> Result<(), IoFailed>
+    ensures ok { OnOk result (HandsOn (K.text sink.old) (K.text sink.new) out.old out.new) }
+    ensures all { IsTrue is_due → OnOk result (out.new ≡ []) }
+    ensures cut_short { OnErr result (IsCutShort (K.text sink.old) (K.text sink.new) out.old) }
+    ensures cause { OnErr result (HasCause (K.faults sink.old) (K.faults sink.new)) }
+    ensures grows { K.faults sink.old ≤ K.faults sink.new }
+{
+    if !is_due {
+        return Ok(());
+    }
+    hand_on(sink, out)
+}
+
+// Writes all that was gathered.
+fn hand_on<K: Sink>(sink: &mut K, out: &mut Bytes) -> Result<(), IoFailed>
+    ensures ok { OnOk result (Appends (K.text sink.old) (K.text sink.new) out.old) }
+    ensures all { OnOk result (out.new ≡ []) }
+    ensures cut_short { OnErr result (IsCutShort (K.text sink.old) (K.text sink.new) out.old) }
+    ensures cause { OnErr result (HasCause (K.faults sink.old) (K.faults sink.new)) }
+    ensures grows { K.faults sink.old ≤ K.faults sink.new }
+{
+    put_all(sink, out.as_slice())?;
+    out.clear();
     Ok(())
 }
 

@@ -1,5 +1,5 @@
 //! One loop over the lines of an input: it hands each line of a source to a machine, and writes into a sink what the
-//! machine adds there, before it looks at the next line.
+//! machine adds there, before it asks the source for more.
 #![tactic(auto)]
 
 mod feeding;

@@ -1,6 +1,6 @@
 // What takes an input line by line.
-ghost use Rattle.std.specs.Prelude.{◌≡◌, ℕ, List, ◌++◌, Result, Ok, Err, OnOk, IfErr};
-ghost use Rattle.jf_input.specs.Feeds.{given_of};
+ghost use Rattle.std.specs.Prelude.{◌≡◌, ℕ, List, ◌++◌, Result, Ok, Err, OnOk, OnErr, IfErr, IsTrue};
+ghost use Rattle.jf_input.specs.Feeds.{given_of, IsQuietLine};
 
 use jf_path::Bytes;
 use std::alloc::Global;
@@ -8,7 +8,7 @@ use std::alloc::Global;
 /// What takes the lines of an input one after another, and adds to a text at each of them.
 pub trait LineMachine {
     /// Why it stops before the end of the input.
-    type Stop;
+    type Stop: Drop;
 
     /// It takes what comes next.
     ghost ready: { Self → Type 0 };
@@ -19,12 +19,21 @@ pub trait LineMachine {
     /// What the end of the input makes of it, in the same way.
     ghost ends: { Self → Self → Result (List ℕ) Self.Stop → Type 0 };
 
+    /// What holds between two states if nothing changed but in the machine itself, so that what was added before may
+    /// still be unwritten.
+    ghost quiet: { Self → Self → Type 0 };
+
+    /// Whether the next line, given as to `take_line`, is known to be quiet, whatever comes of it.
+    fn is_quiet(&self, line: &[u8]) -> bool
+        ensures { IsTrue result → IsQuietLine takes quiet self.now line.now };
+
     /// Takes the next line, given without the byte that ends it, and appends what it adds. Of a line of more than 8,500
-    /// bytes it is given the first 8,501.
+    /// bytes it is given the first 8,501. If it stops, nothing is appended.
     fn take_line(&mut self, alloc: Global, line: &[u8], out: &mut Bytes) -> Result<(), Self::Stop>
         requires { ready self.old }
         ensures ok { OnOk result ((t : List ℕ) × (out.new ≡ out.old ++ t) × ((whole : List ℕ) → line.now ≡ given_of whole → takes self.old whole self.new (Ok t))) }
         ensures ready { OnOk result (ready self.new) }
+        ensures silent { OnErr result (out.new ≡ out.old) }
         ensures err { (whole : List ℕ) → line.now ≡ given_of whole → IfErr result (λ why. takes self.old whole self.new (Err why)) };
 
     /// Takes the end of the input, and appends what it adds.

@@ -61,6 +61,16 @@ impl LineReader {
         }
     }
 
+    /// Whether a whole line is held, with its line feed. Then `fetch` does not ask the source. Each byte is searched once.
+    pub fn finds_line(&mut self) -> bool
+        ensures same { self.new ≡ self.old }
+        ensures small { length self.new.bytes ≤ self.new.limit + 1 + PIECE }
+        ensures found { IsTrue result ↔ (position_or_len is_line_feed self.new.bytes < length self.new.bytes) }
+    {
+        self.searched = line_end(&self.bytes, self.start, self.searched);
+        self.searched < self.bytes.len()
+    }
+
     /// Takes bytes from the source until a line with its line feed is held or the input ends. `false` means that the
     /// input has ended and nothing is held. Bytes of a line past its first `limit` + 1 may be dropped.
     ///
@@ -123,16 +133,6 @@ impl LineReader {
         ensures { result ≡ length self.now.bytes }
     {
         self.bytes.len() - self.start
-    }
-
-    // Whether a line feed is held. Each byte is searched once.
-    fn finds_line(&mut self) -> bool
-        ensures same { self.new ≡ self.old }
-        ensures small { length self.new.bytes ≤ self.new.limit + 1 + PIECE }
-        ensures found { IsTrue result ↔ (position_or_len is_line_feed self.new.bytes < length self.new.bytes) }
-    {
-        self.searched = line_end(&self.bytes, self.start, self.searched);
-        self.searched < self.bytes.len()
     }
 
     // Drops the bytes of an unfinished line past its first `limit` + 1, which are enough to tell that it is too long.

@@ -5,4 +5,5 @@ pub mod Lines
 pub mod ReadLaws
 pub mod Images
 pub mod Advancing
+pub mod QuietLines
 pub mod Taken

@@ -1,7 +1,9 @@
-//! One script over a store of its own: each line is answered before the next is looked at.
+//! One script over a store of its own: its lines are answered one after another, and each landing once the replies before
+//! it are written.
 #![tactic(auto)]
 
 mod answer;
+mod quiet;
 mod reads;
 mod running;
 mod session;

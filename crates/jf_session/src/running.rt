@@ -43,9 +43,13 @@ pub struct SoloRan<D> {
     pub memory: EngineMemory,
 }
 
-/// Answers the lines of a script (docs/FORMATS.md) from a source into a sink: each reply is written before the next line
-/// is looked at. A landing takes at most this many workers, 1 to 64. Input is taken in pieces of 65,536 bytes. After a
-/// fault of the source, the sink or the disk, or out of memory, the run ends; the entries made so far are handed back.
+/// Answers the lines of a script (docs/FORMATS.md) from a source into a sink. A landing takes at most this many workers, 1
+/// to 64. Input is taken in pieces of 65,536 bytes. After a fault of the source, the sink or the disk, or out of memory, the
+/// run ends; the entries made so far are handed back.
+///
+/// While whole lines are at hand that can't change the store, their replies may be gathered. All replies so far are written
+/// before a line is done that may change the store, before more input is asked for, and before the run ends. So a program
+/// that writes a line and waits gets its reply.
 pub fn run<S: Source, K: Sink, D: Disk, H: Threads + Sync, G: Gate>(
     rt: &H,
     alloc: Global,

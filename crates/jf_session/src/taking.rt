@@ -3,6 +3,7 @@ ghost use Rattle.std.specs.Prelude.{◌≡◌, ◌≤◌, false};
 ghost use Rattle.jf_session.specs.Sessions.{Session};
 ghost use Rattle.jf_session.specs.Taking.{Steps};
 
+use crate::quiet::is_quiet;
 use crate::session::Session;
 use crate::stop::Stop;
 use jf_disk::Disk;
@@ -30,7 +31,7 @@ pub(crate) struct Taking<T, F> {
 
 impl<T: Shows, F: Fn(&mut T, &[u8], &mut Bytes) -> Result<(), Stop>> LineMachine for Taking<T, F> {
     ghost use Rattle.std.specs.Prelude.{◌≡◌, false};
-    ghost use Rattle.jf_session.specs.Taking.{AreSteps, AnswersLine, AnswersEnd};
+    ghost use Rattle.jf_session.specs.Taking.{AreSteps, AnswersLine, AnswersEnd, IsQuiet};
 
     type Stop = Stop;
 
@@ -39,6 +40,12 @@ impl<T: Shows, F: Fn(&mut T, &[u8], &mut Bytes) -> Result<(), Stop>> LineMachine
     ghost takes = { λ t line next r. AnswersLine (T.shown t.session) line (T.shown next.session) r };
 
     ghost ends = { λ t next r. AnswersEnd (T.shown t.session) (T.shown next.session) r };
+
+    ghost quiet = { λ t next. IsQuiet (T.shown t.session) (T.shown next.session) };
+
+    fn is_quiet(&self, line: &[u8]) -> bool {
+        is_quiet(line)
+    }
 
     fn take_line(&mut self, _alloc: Global, line: &[u8], out: &mut Bytes) -> Result<(), Stop> {
         (self.step)(&mut self.session, line, out)

@@ -3,6 +3,7 @@ use Rattle.std.proofs.Common.{◌≡◌, ℕ, List, [], ◌∷◌, ◌++◌, ap,
 use Rattle.jf_io.proofs.Written.{written_more, nothing_written}
 use Rattle.jf_io.proofs.FirstLines.{all_first}
 use Rattle.jf_input.specs.Feeds.{Took, Appends, ReadsLinesOf, ReadsAll, HasRead, Fed}
+use Rattle.jf_input.proofs.FirstRead.{reads_first}
 use Rattle.jf_input.specs.declared.feeding.Feeding.{Feeding}
 use Rattle.jf_input.specs.declared.feeding.Feeding.TheVariants as feeding
 use Rattle.jf_verify.specs.Steps.{StreamState, said, JudgesLine, begun, said_to_end, JudgesEnd}
@@ -126,44 +127,44 @@ module _ (F : Type 0) (source source' text text' : Option (List ℕ)) (done : Li
 
 -- ---- by how it was fed
 module _ {F : Type 0} {last : StreamState} {source source' text text' : Option (List ℕ)} where
-  pub judged_done : Fed {F = F} JudgesLine JudgesEnd feeding.Done begun last source source' text text' → HasVerified verified.Done source source' text text'
+  pub judged_done : Fed {F = F} JudgesLine JudgesEnd (λ m n. Unit {0}) feeding.Done begun last source source' text text' → HasVerified verified.Done source source' text text'
   judged_done f = elim f.ended [
     | inl b ↦ absurd b.2
-    | inr e ↦ elim e [ inl l ↦ absurd l.1 | inr a ↦ judged_all F source source' text text' f.done f.mid f.said f.took f.text_so_far f.written a.0.0 a.0.1 a.0.2 a.1 ]
+    | inr e ↦ elim e [ inl l ↦ absurd l.2 | inr a ↦ judged_all F source source' text text' f.done f.mid f.said f.took f.text_so_far f.written a.0.0 a.0.1 a.0.2 a.1 ]
   ]
 
-  pub judged_unread : Fed {F = F} JudgesLine JudgesEnd feeding.ReadFault begun last source source' text text' → HasVerified verified.ReadFault source source' text text'
+  pub judged_unread : Fed {F = F} JudgesLine JudgesEnd (λ m n. Unit {0}) feeding.ReadFault begun last source source' text text' → HasVerified verified.ReadFault source source' text text'
   judged_unread f = elim f.ended [
     | inl b ↦ λ input is. let r = b.2 input is in judged_between F source source' text text' f.done f.mid f.said f.took f.text_so_far f.written input is verified.ReadFault r.0 r.1 r.2 (r.3, refl) b.1
-    | inr e ↦ elim e [ inl l ↦ absurd l.1 | inr a ↦ absurd a.0 ]
+    | inr e ↦ elim e [ inl l ↦ absurd l.2 | inr a ↦ absurd a.0 ]
   ]
 
-  pub judged_wanting : Fed {F = F} JudgesLine JudgesEnd feeding.Memory begun last source source' text text' → HasVerified verified.Memory source source' text text'
+  pub judged_wanting : Fed {F = F} JudgesLine JudgesEnd (λ m n. Unit {0}) feeding.Memory begun last source source' text text' → HasVerified verified.Memory source source' text text'
   judged_wanting f = elim f.ended [
     | inl b ↦ λ input is. let r = b.2 input is in judged_between F source source' text text' f.done f.mid f.said f.took f.text_so_far f.written input is verified.Memory r.0 r.1 r.2 (inl (stops_after f.done)) b.1
-    | inr e ↦ elim e [ inl l ↦ absurd l.1 | inr a ↦ absurd a.0 ]
+    | inr e ↦ elim e [ inl l ↦ absurd l.2 | inr a ↦ absurd a.0 ]
   ]
 
-  pub judged_cut : Fed {F = F} JudgesLine JudgesEnd feeding.WriteFault begun last source source' text text' → HasVerified verified.WriteFault source source' text text'
+  pub judged_cut : Fed {F = F} JudgesLine JudgesEnd (λ m n. Unit {0}) feeding.WriteFault begun last source source' text text' → HasVerified verified.WriteFault source source' text text'
   judged_cut f = elim f.ended [
     | inl b ↦ absurd b.2
     | inr e ↦ elim e [
-      | inl l ↦ let c = l.1.2 in
-          judged_line F source source' text text' f.done f.mid f.said f.took f.text_so_far f.written l.0 c.front c.missing (c.whole ∙ l.1.1.1) c.appended l.2 verified.WriteFault (inl refl)
+      | inl l ↦ let c = l.2.3 in
+          judged_line F source source' text text' f.done f.mid f.said f.took f.text_so_far f.written l.0 c.front c.missing (c.whole ∙ l.2.2.1) c.appended (reads_first source source' f.done l.0 l.1 l.3) verified.WriteFault (inl refl)
       | inr a ↦ let c = a.0.2 in judged_end F source source' text text' f.done f.mid f.said f.took f.text_so_far f.written c.front c.missing (c.whole ∙ a.0.1) c.appended a.1 verified.WriteFault (inl refl)
     ]
   ]
 
-  pub judged_stopped : (why : F) → Fed {F = F} JudgesLine JudgesEnd (feeding.Stopped why) begun last source source' text text' → HasVerified verified.Memory source source' text text'
+  pub judged_stopped : (why : F) → Fed {F = F} JudgesLine JudgesEnd (λ m n. Unit {0}) (feeding.Stopped why) begun last source source' text text' → HasVerified verified.Memory source source' text text'
   judged_stopped why f = elim f.ended [
     | inl b ↦ absurd b.2
     | inr e ↦ elim e [
-      | inl l ↦ judged_line F source source' text text' f.done f.mid f.said f.took f.text_so_far f.written l.0 [] (said f.mid l.0) refl (l.1.1 ∙ nothing_written f.text_so_far) l.2 verified.Memory (inr refl)
+      | inl l ↦ judged_line F source source' text text' f.done f.mid f.said f.took f.text_so_far f.written l.0 [] (said f.mid l.0) refl (l.2.1 ∙ nothing_written f.text_so_far) (reads_first source source' f.done l.0 l.1 l.3) verified.Memory (inr refl)
       | inr a ↦ judged_end F source source' text text' f.done f.mid f.said f.took f.text_so_far f.written [] (said_to_end f.mid []) refl (a.0.1 ∙ nothing_written f.text_so_far) a.1 verified.Memory (inr refl)
     ]
   ]
 
-  pub judged : (how : Feeding F) → Fed {F = F} JudgesLine JudgesEnd how begun last source source' text text' → HasVerified (verified_of how) source source' text text'
+  pub judged : (how : Feeding F) → Fed {F = F} JudgesLine JudgesEnd (λ m n. Unit {0}) how begun last source source' text text' → HasVerified (verified_of how) source source' text text'
   judged feeding.Done f = judged_done f
   judged feeding.ReadFault f = judged_unread f
   judged feeding.WriteFault f = judged_cut f

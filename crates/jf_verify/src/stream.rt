@@ -23,9 +23,9 @@ pub enum Verified {
     Memory,
 }
 
-/// Judges the proof blocks of a source (docs/FORMATS.md), and writes the verdict on each line into a sink before it looks
-/// at the next line. It takes input in pieces of 65,536 bytes, and keeps of it a line, the block that is begun, and the
-/// accepted claims.
+/// Judges the proof blocks of a source (docs/FORMATS.md), and writes the verdict on each line into a sink. It takes input in
+/// pieces of 65,536 bytes, and keeps of it a line, the block that is begun, and the accepted claims. Verdicts may be gathered
+/// while whole lines are at hand; all are written before more input is asked for, and before the judging ends.
 ///
 /// After a `ReadFault` the text has exactly the verdicts on the whole lines taken; a line that the fault cuts is not judged.
 /// After a `WriteFault`, or out of memory, it has the verdicts on the lines done, the last perhaps in part.

@@ -10,11 +10,16 @@ returns-clause-ran g c =
     let source' = g.S.Source.rest c.feed.new.source in
     let text = g.K.Sink.text c.args.sink.now in
     let text' = g.K.Sink.text c.feed.new.sink in
+    let r = ran_shown (λ t. t.session) c.feed.result _ c.feed.new.machine source source' text text' c.feed.ensures.fed in
     record {
-      last = c.feed.new.machine.session;
-      ends = record { history_is = c.end-disk.ensures.history; moment_is = c.end-disk.ensures.moment; faults_are = c.end-disk.ensures.faults; entries_are = c.end-disk.ensures.entries };
-      ran = subst (λ (e : End). Ran e c.args.session c.feed.new.machine.session source source' text text') (sym c.end_of_feeding-end.ensures)
-          (ran_shown (λ t. t.session) c.feed.result _ c.feed.new.machine source source' text text' c.feed.ensures.fed);
+      last = r.0;
+      ends = record {
+        history_is = c.end-disk.ensures.history ∙ r.1.history_is;
+        moment_is = c.end-disk.ensures.moment ∙ r.1.moment_is;
+        faults_are = c.end-disk.ensures.faults ∙ r.1.faults_are;
+        entries_are = c.end-disk.ensures.entries ∙ r.1.entries_are;
+      };
+      ran = subst (λ (e : End). Ran e c.args.session r.0 source source' text text') (sym c.end_of_feeding-end.ensures) r.2;
     }
 
 pub returns-clause-read : goal.returns-clause-read

@@ -13,7 +13,7 @@ returns-clause-judged g c =
     let text = g.K.Sink.text c.args.sink.now in
     let text' = g.K.Sink.text c.feed.new.sink in
     subst (λ (v : Verified). HasVerified v source source' text text') (sym c.verified_of.ensures)
-    (judged c.feed.result (subst (λ (s : StreamState). Fed JudgesLine JudgesEnd c.feed.result s c.feed.new.machine source source' text text') c.new-judge.ensures c.feed.ensures.fed))
+    (judged c.feed.result (subst (λ (s : StreamState). Fed JudgesLine JudgesEnd (λ m n. Unit {0}) c.feed.result s c.feed.new.machine source source' text text') c.new-judge.ensures c.feed.ensures.fed))
 
 pub returns-clause-done : goal.returns-clause-done
 returns-clause-done g c =
