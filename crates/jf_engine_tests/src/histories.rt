@@ -1,18 +1,49 @@
 // Stores after a few steps, and their files byte by byte.
 use crate::records::{
-    CHECKPOINT, CHECKPOINT_1, END, FLOOR, File, GROUP, IMPORTED, IMPORTED_LAST, LANDED, LANDING,
-    LANDING_OF_NOTHING, MOVED_ON, NEW, PRUNED, SECOND, TWO, TWO_KEYS_1, joined,
+    CHECKPOINT, CHECKPOINT_1, COUNTED, END, FLOOR, File, GROUP, IMPORTED, IMPORTED_LAST, LANDED,
+    LANDING, LANDING_OF_NOTHING, MOVED_ON, NEW, PRUNED, SECOND, TWO, TWO_KEYS_1, TWO_LANDINGS_1,
+    joined,
 };
 use jf_disk::{MemDisk, Side};
 use jf_engine::{Engine, State};
-use jf_engine_play::steps::{Step, THREE, take_each};
+use jf_engine_play::entries::Entries;
+use jf_engine_play::steps::{Change, Step, THREE, take_each};
 use jf_engine_play::stores::{Store, disk_of, reopened, store_on};
+use jf_hash::key_of;
 use std::alloc::Global;
 use std::test::Fail;
 use std::thread::Threads;
 
-// Side A at first, the steps, the numbers after them with the number of keys in the head's map, and both sides then.
-type History = (File, &'static [Step], (State, u64), File, File);
+// Side A at first, the steps, the numbers after them with the entries of each version from the floor to the head, and both
+// sides then.
+type History = (
+    File,
+    &'static [Step],
+    (State, &'static [Entries]),
+    File,
+    File,
+);
+
+// Entries of versions. The keys of `i` and `a` have the same first nibble.
+const NONE: Entries = &[];
+
+const ONE: Entries = &[(b'a', b'1')];
+
+const BOTH: Entries = &[(b'a', b'1'), (b'b', b'2')];
+
+const OTHER: Entries = &[(b'b', b'2')];
+
+const NEAR: Entries = &[(b'i', 1), (b'a', 2)];
+
+const NEAR_AND_OTHER: Entries = &[(b'i', 1), (b'a', 2), (b'b', b'2')];
+
+const CHANGED: Entries = &[(b'i', 1), (b'a', b'1'), (b'c', b'3')];
+
+// Two batches that change entries of `NEAR` and add others.
+const TWO_LANDINGS: &[&[Change]] = &[
+    &[(b'b', Some(b'2'))],
+    &[(b'a', Some(b'1')), (b'b', None), (b'c', Some(b'3'))],
+];
 
 const AT_FIRST: State = State {
     base: 0,
@@ -78,6 +109,22 @@ const AFTER_FLOOR_COMPACTED: State = State {
     generation: 2,
 };
 
+const AFTER_TWO_LANDINGS: State = State {
+    base: 0,
+    floor: 0,
+    head: 3,
+    kept: 11,
+    generation: 1,
+};
+
+const AFTER_TWO_LANDINGS_COMPACTED: State = State {
+    base: 0,
+    floor: 0,
+    head: 3,
+    kept: 11,
+    generation: 2,
+};
+
 const AFTER_IMPORT: State = State {
     base: 9,
     floor: 9,
@@ -96,60 +143,51 @@ const AFTER_IMPORT_OF_LAST: State = State {
 
 const HISTORIES: &[History] = &[
     // a new store, and opened again
-    (&[], &[], (AT_FIRST, 0), NEW, &[]),
-    (NEW, &[], (AT_FIRST, 0), NEW, &[]),
+    (&[], &[], (AT_FIRST, &[NONE]), NEW, &[]),
+    (NEW, &[], (AT_FIRST, &[NONE]), NEW, &[]),
     // a landing, also if it is given as a list
     (
         &[],
         &[Step::Land(&[(b'a', Some(b'1'))])],
-        (AFTER_ONE, 1),
+        (AFTER_ONE, &[NONE, ONE]),
         LANDED,
         &[],
     ),
     (
         &[],
         &[Step::LandAll(&[&[(b'a', Some(b'1'))]])],
-        (AFTER_ONE, 1),
+        (AFTER_ONE, &[NONE, ONE]),
         LANDED,
         &[],
     ),
-    // two keys with the same first nibble, in each format
+    // two keys with the same first nibble
     (
         &[],
         &[Step::Land(&[(b'i', Some(1)), (b'a', Some(2))])],
-        (AFTER_TWO_KEYS, 2),
+        (AFTER_TWO_KEYS, &[NONE, NEAR]),
         TWO,
         &[],
     ),
-    (
-        &[CHECKPOINT_1, END],
-        &[Step::Land(&[(b'i', Some(1)), (b'a', Some(2))])],
-        (AFTER_TWO_KEYS, 2),
-        &[CHECKPOINT_1, TWO_KEYS_1, END],
-        &[],
-    ),
     // the next generation of a new store
-    (&[], &[Step::Compact], (COMPACTED, 0), NEW, &[SECOND, END]),
-    // a file in format 1 goes on in it, and the next generation is in format 2; the top of each version is kept
     (
-        &[CHECKPOINT_1, LANDING, END],
-        &[Step::Land(&[]), Step::Compact],
-        (MOVED, 1),
-        &[CHECKPOINT_1, LANDING, LANDING_OF_NOTHING, END],
-        &[MOVED_ON, END],
+        &[],
+        &[Step::Compact],
+        (COMPACTED, &[NONE]),
+        NEW,
+        &[SECOND, END],
     ),
     // three landings in one record, and then a floor: nodes are given up that are stale since version 2 or before
     (
         &[],
         &[Step::LandAll(THREE)],
-        (AFTER_THREE, 1),
+        (AFTER_THREE, &[NONE, ONE, BOTH, OTHER]),
         &[CHECKPOINT, GROUP, END],
         &[],
     ),
     (
         &[],
         &[Step::LandAll(THREE), Step::Prune(2)],
-        (AFTER_FLOOR, 1),
+        (AFTER_FLOOR, &[BOTH, OTHER]),
         &[CHECKPOINT, GROUP, FLOOR, END],
         &[],
     ),
@@ -157,7 +195,7 @@ const HISTORIES: &[History] = &[
     (
         &[],
         &[Step::LandAll(THREE), Step::Prune(2), Step::Compact],
-        (AFTER_FLOOR_COMPACTED, 1),
+        (AFTER_FLOOR_COMPACTED, &[BOTH, OTHER]),
         &[CHECKPOINT, GROUP, FLOOR, END],
         &[PRUNED, END],
     ),
@@ -165,16 +203,54 @@ const HISTORIES: &[History] = &[
     (
         &[],
         &[Step::Import(9, &[(b'a', b'1'), (b'b', b'2')])],
-        (AFTER_IMPORT, 2),
+        (AFTER_IMPORT, &[BOTH]),
         NEW,
         &[IMPORTED, END],
     ),
     (
         &[],
         &[Step::Import(u64::MAX - 1, &[])],
-        (AFTER_IMPORT_OF_LAST, 0),
+        (AFTER_IMPORT_OF_LAST, &[NONE]),
         NEW,
         &[IMPORTED_LAST, END],
+    ),
+];
+
+// Files in format 1, which go on in it; the next generation is in format 2.
+const IN_FORMAT_1: &[History] = &[
+    // two keys with the same first nibble
+    (
+        &[CHECKPOINT_1, END],
+        &[Step::Land(&[(b'i', Some(1)), (b'a', Some(2))])],
+        (AFTER_TWO_KEYS, &[NONE, NEAR]),
+        &[CHECKPOINT_1, TWO_KEYS_1, END],
+        &[],
+    ),
+    // the next generation keeps the top of each version
+    (
+        &[CHECKPOINT_1, LANDING, END],
+        &[Step::Land(&[]), Step::Compact],
+        (MOVED, &[NONE, ONE, ONE]),
+        &[CHECKPOINT_1, LANDING, LANDING_OF_NOTHING, END],
+        &[MOVED_ON, END],
+    ),
+    // two landings in one record, and then the next generation, which has a count for each child
+    (
+        &[CHECKPOINT_1, TWO_KEYS_1, END],
+        &[Step::LandAll(TWO_LANDINGS)],
+        (AFTER_TWO_LANDINGS, &[NONE, NEAR, NEAR_AND_OTHER, CHANGED]),
+        &[CHECKPOINT_1, TWO_KEYS_1, TWO_LANDINGS_1, END],
+        &[],
+    ),
+    (
+        &[CHECKPOINT_1, TWO_KEYS_1, TWO_LANDINGS_1, END],
+        &[Step::Compact],
+        (
+            AFTER_TWO_LANDINGS_COMPACTED,
+            &[NONE, NEAR, NEAR_AND_OTHER, CHANGED],
+        ),
+        &[CHECKPOINT_1, TWO_KEYS_1, TWO_LANDINGS_1, END],
+        &[COUNTED, END],
     ),
 ];
 
@@ -199,21 +275,51 @@ fn shows_versions(engine: &Engine<MemDisk>, state: &State) -> bool {
     engine.root_of(state.head).is_some()
 }
 
-// Whether the head's map has so many keys.
-fn has_keys(engine: &Engine<MemDisk>, head: u64, keys: u64) -> bool {
-    match engine.at(head) {
-        Some(snapshot) => snapshot.count() == keys,
+// The first byte of the value at the key of a name in a version, or `None` if there is none.
+fn first_in(engine: &Engine<MemDisk>, version: u64, name: u8) -> Option<u8> {
+    match engine.at(version)?.get(&key_of(&[name])) {
+        Some(value) => value.first().copied(),
+        None => None,
+    }
+}
+
+// Whether a version has so many entries.
+fn has_so_many(engine: &Engine<MemDisk>, version: u64, count: u64) -> bool {
+    match engine.at(version) {
+        Some(snapshot) => snapshot.count() == count,
         None => false,
     }
 }
 
+// Whether a version has these entries and no other.
+fn has_entries(engine: &Engine<MemDisk>, version: u64, entries: Entries) -> bool {
+    for (name, byte) in entries {
+        if first_in(engine, version, *name) != Some(*byte) {
+            return false;
+        }
+    }
+    has_so_many(engine, version, entries.len() as u64)
+}
+
+// Whether these are the entries of the versions from the floor to the head.
+fn has_maps(engine: &Engine<MemDisk>, state: &State, maps: &[Entries]) -> bool {
+    let mut version = state.floor;
+    for entries in maps {
+        if !has_entries(engine, version, entries) {
+            return false;
+        }
+        version = version.saturating_add(1);
+    }
+    version == state.head.saturating_add(1)
+}
+
 // Whether a store is as it has to be after a history.
 fn is_after(alloc: Global, engine: &Engine<MemDisk>, history: &History) -> Result<bool, Fail> {
-    let (state, keys) = history.2;
+    let (state, maps) = history.2;
     Ok(
         engine.state() == state
             && shows_versions(engine, &state)
-            && has_keys(engine, state.head, keys)
+            && has_maps(engine, &state, maps)
             && engine.disk().bytes(Side::A) == joined(alloc, history.3)?.as_slice()
             && engine.disk().bytes(Side::B) == joined(alloc, history.4)?.as_slice(),
     )
@@ -230,6 +336,14 @@ fn comes_out<H: Threads + Sync>(rt: &H, alloc: Global, history: &History) -> Res
 #[test]
 fn files_have_these_bytes_and_are_found_again(rt: HostRuntime) -> Result<(), Fail> {
     for (place, history) in HISTORIES.iter().enumerate() {
+        assert!(rt; comes_out(&rt, rt.alloc(), history)?, "history {place}");
+    }
+    Ok(())
+}
+
+#[test]
+fn files_in_format_1_go_on_up_to_the_next_generation(rt: HostRuntime) -> Result<(), Fail> {
+    for (place, history) in IN_FORMAT_1.iter().enumerate() {
         assert!(rt; comes_out(&rt, rt.alloc(), history)?, "history {place}");
     }
     Ok(())

@@ -1,5 +1,4 @@
-//! Tests of the store over two files: files byte by byte, damage, generations, what each call returns and refuses, and
-//! scripts beside whole maps.
+//! Tests of the store over two files: files byte by byte, damage, generations, and what each call refuses.
 #![tactic(auto)]
 
 #[cfg(test)]
@@ -9,14 +8,6 @@ mod generations;
 #[cfg(test)]
 mod histories;
 #[cfg(test)]
-mod landings;
-#[cfg(test)]
 mod records;
 #[cfg(test)]
 mod refusals;
-#[cfg(test)]
-mod scripts;
-#[cfg(test)]
-mod sizes;
-#[cfg(test)]
-mod versions;

@@ -4,8 +4,8 @@
 #[cfg(test)]
 mod bounds;
 #[cfg(test)]
-mod ends;
-#[cfg(test)]
 mod folders;
+#[cfg(test)]
+mod gathered;
 #[cfg(test)]
 mod runs;
