@@ -21,7 +21,7 @@ use Rattle.jf_answers.proofs.Pins.{EachNamed, EachNamed-one, IsFloor-next}
 
 -- ---- entries without their moments
 
-owner-timeless : (e : Entry) → owner_of (timeless e) ≡ owner_of e
+pub owner-timeless : (e : Entry) → owner_of (timeless e) ≡ owner_of e
 owner-timeless (entry.Made owner fork parent batch root) = refl
 owner-timeless (entry.Landed owner version how root moment) = refl
 owner-timeless (entry.Dropped owner fork) = refl
@@ -35,7 +35,7 @@ floor_same s own a owner bound floor some p =
     cc
 
 -- an answer that gives an entry is the answer with that entry's floor
-floor_stays : (s : State) (own : Own) (a : Answer) (e : Entry) → a.entry ≡ Some (timeless e) → IsPruned s own a (timeless e) → answered_with_floor (floor_in e) s own a (Some (timeless e)) ≡ a
+pub floor_stays : (s : State) (own : Own) (a : Answer) (e : Entry) → a.entry ≡ Some (timeless e) → IsPruned s own a (timeless e) → answered_with_floor (floor_in e) s own a (Some (timeless e)) ≡ a
 floor_stays s own a (entry.Retired owner bound floor) some p =
     ap (λ f. retired_below bound f s own) (floor_same s own a owner bound floor some p) ∙ sym p
 floor_stays s own a (entry.Made owner fork parent batch root) some p = refl
@@ -54,11 +54,11 @@ floor_is h s own a (entry.Compacted owner generation) named some p = tt
 
 -- ---- lists
 
-element-seam : {X : Type 0} (xs : List X) (y : X) (ys : List X) → slice_get (xs ++ y ∷ ys) (length xs) ≡ Some y
+pub element-seam : {X : Type 0} (xs : List X) (y : X) (ys : List X) → slice_get (xs ++ y ∷ ys) (length xs) ≡ Some y
 element-seam [] y ys = refl
 element-seam (x ∷ xs) y ys = element-seam xs y ys
 
-length-push : (es : List Entry) (e : Entry) → length (es ++ e ∷ []) ≡ length es + 1
+pub length-push : (es : List Entry) (e : Entry) → length (es ++ e ∷ []) ≡ length es + 1
 length-push es e = length-append es (e ∷ [])
 
 -- ---- lines in turn

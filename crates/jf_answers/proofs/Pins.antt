@@ -62,7 +62,7 @@ below-named pins u (Some v ∷ ps) h = elim (below-named pins (min u v) ps h.1) 
   ]
 ]
 
-below-le : (u : ℕ) (ps : List (Option ℕ)) → below_pins u ps ≤ u
+pub below-le : (u : ℕ) (ps : List (Option ℕ)) → below_pins u ps ≤ u
 below-le u [] = le_refl u
 below-le u (None ∷ ps) = below-le u ps
 below-le u (Some v ∷ ps) = let low = below-le (min u v) ps in omega arith

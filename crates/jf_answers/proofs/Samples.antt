@@ -28,10 +28,10 @@ use Rattle.jf_answers.specs.Runs.{answer_text}
 use Rattle.jf_answers.specs.Explains.{answer_with, answered_with_floor, Answered, IsAnswered, timeline_of, Explains, places_owned, IsSession}
 
 -- a new store, and its root
-abbrev start : State
+abbrev pub start : State
 start = opened new_store 1
 
-abbrev empty_root : List ℕ
+abbrev pub empty_root : List ℕ
 empty_root = root fin.empty
 
 -- two sessions land empty batches, session 1 first
@@ -42,7 +42,7 @@ abbrev second : Entry
 second = entry.Landed 0 2 (landing.Direct []) empty_root 7
 
 -- the map of a new store has no entry
-none_there : fin.len (newest start.all) ≡ 0
+pub none_there : fin.len (newest start.all) ≡ 0
 none_there = len-empty _ _
 
 -- if none of three causes holds, there is no refusal
@@ -59,7 +59,7 @@ commit_done s own few low none =
     let free = none_refuses (nat_le (2 ^ 62) s.count) (nat_le (2 ^ 64 - 2) s.all.head) (nat_lt (2 ^ 62) (fin.len (newest s.all))) few low (ap (λ n. nat_lt (2 ^ 62) n) none) in
     subst (λ o. elim o as (λ x. Answer) [ Some why ↦ replied (reply.No why) s own | None ↦ committed s own ] ≡ committed s own) (sym free) refl
 
-commit_gives : (s : State) (own : Own) → nat_le (2 ^ 62) s.count ≡ false → nat_le (2 ^ 64 - 2) s.all.head ≡ false → fin.len (newest s.all) ≡ 0 → answer_with 0 s own (codes "commit") ≡ committed s own
+pub commit_gives : (s : State) (own : Own) → nat_le (2 ^ 62) s.count ≡ false → nat_le (2 ^ 64 - 2) s.all.head ≡ false → fin.len (newest s.all) ≡ 0 → answer_with 0 s own (codes "commit") ≡ committed s own
 commit_gives s own few low none = ap (λ (a : Answer). answered_with_floor 0 s own a a.entry) (commit_done s own few low none)
 
 first_legal : IsLegal start first
@@ -74,7 +74,7 @@ second_legal = (omega arith, record { may = record { sorted = tt; keys = tt; val
 abbrev scripts : List (List (List ℕ))
 scripts = (codes "root head" ∷ codes "commit" ∷ []) ∷ (codes "commit" ∷ codes "?" ∷ []) ∷ []
 
-abbrev said : ℕ → Reply → List ℕ
+abbrev pub said : ℕ → Reply → List ℕ
 said n r = reply_text n r ++ []
 
 abbrev looked : Answered

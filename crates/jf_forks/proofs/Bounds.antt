@@ -30,11 +30,13 @@ chain-short (f ∷ fs) y =
       | false ↦ omega (arith, chain-short fs y)
     ]
 
-first_none : (o p : Option ForkFault) → first_fault o p ≡ None → (o ≡ None) × (p ≡ None)
+-- neither of two refusals comes
+pub first_none : (o p : Option ForkFault) → first_fault o p ≡ None → (o ≡ None) × (p ≡ None)
 first_none None p h = (refl, h)
 first_none (Some f) p h = absurd (cc)
 
-is_live : (id : ℕ) (t : Table) → missing id t ≡ None → is_among id (forks_of t.live) ≡ true
+-- a fork that is not missing is live
+pub is_live : (id : ℕ) (t : Table) → missing id t ≡ None → is_among id (forks_of t.live) ≡ true
 is_live id t =
     elim (nat_le t.made id) as (λ b. cond b (Some fault.Unknown) (cond (is_among id (forks_of t.live)) None (Some fault.Gone)) ≡ None → is_among id (forks_of t.live) ≡ true) [
       | true ↦ λ h. absurd (cc)

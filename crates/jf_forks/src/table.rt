@@ -10,7 +10,7 @@ ghost use Rattle.jf_model.specs.Forks.{batches, chain, drop_count, fork_map, is_
 ghost use Rattle.jf_forks.specs.Tables.{Table, IsTable, StandsOver, forks_of, map_of_fork, missing, missing_parent, making_fault, chain_fault, grown_without, grown_settled, RefusedBy};
 ghost use Rattle.jf_forks.specs.declared.fault.ForkFault.TheVariants as fault;
 
-use crate::chain::{chain_keys, push_chain};
+use crate::chain::{chain_keys, chain_len, push_chain};
 use crate::fault::ForkFault;
 use crate::gone::{drop_from, land_from};
 use crate::live::{LiveFork, is_live, push_first, tree_of, tree_over};
@@ -173,6 +173,18 @@ impl ForkTable {
         let mut list = BatchList::new(alloc);
         push_chain(alloc, &self.live, id, &mut list)?;
         Ok(list)
+    }
+
+    /// How many batches `chain` gives, at most 1,024. It is refused as `chain` is, and takes no memory.
+    pub fn chain_len(&self, id: u64) -> Result<u64, ForkFault>
+        ensures length { IfOk result (λ n. n ≡ length (batches (chain (forks_of self.now.live) id))) }
+        ensures few { IfOk result (λ n. n ≤ max_forks) }
+        ensures refused { result_err result ≡ chain_fault id self.now }
+    {
+        match self.chain_fault(id) {
+            Some(fault) => Err(fault),
+            None => Ok(chain_len(&self.live, id)),
+        }
     }
 
     // Why a fork can't land with its ancestors, if it can't.
