@@ -1,0 +1,70 @@
+-- The value behind the turn may go to another thread: as the disk of its engine may.
+use denote.RattleType.{RattleType}
+use denote.Struct.Struct.{Struct}
+use denote.Struct.Declared.{shape}
+use denote.Param.Send.{IsSend, IsSync, AllSend, view_send, recorded_send, struct_send, sendable}
+use Rattle.std.proofs.Crossing.{crosses}
+use Rattle.std.proofs.MapsCrossingOver as sets
+use Rattle.jf_model.proofs.entries.Entry.TheSendSync as Entry
+use Rattle.jf_disk.specs.declared.disk.Disk.{Ghosts}
+use Rattle.jf_node.proofs.link.Branches.TheLaws.TheKnot as links
+use Rattle.jf_node.specs.contracts.link.Link as Link
+use Rattle.jf_node.specs.contracts.shared.SharedRange as SharedRange
+use Rattle.jf_node.specs.contracts.snapshot.Snapshot as Snapshot
+use Rattle.jf_spec.proofs.node.Node.TheLaws.TheKnot as nodes
+use Rattle.jf_spec.specs.contracts.node.Node as Node
+use Rattle.jf_spec.specs.contracts.tree.SpecTree as SpecTree
+use Rattle.jf_forks.specs.contracts.table.ForkTable as ForkTable
+use Rattle.jf_board.proofs.pruner.Pruner.TheSendSync as pruners
+use Rattle.jf_board.specs.contracts.pruner.Pruner as Pruner
+use Rattle.jf_engine.specs.contracts.engine.Engine as Engine
+use Rattle.jf_store.specs.contracts.beginning.Beginning as Beginning
+use Rattle.jf_store.specs.contracts.tried.Tried as Tried
+use Rattle.jf_store.specs.contracts.vault.Vault as Vault
+use Rattle.jf_store.specs.contracts.vault.Vault.TheInside as inside
+
+-- The types that hold themselves, each by the rule that is made for its cycle: no search finds that rule unless it is listed.
+Link-send : IsSend Link.the_row
+Link-send = search (sendable, crosses, links.both_send-Link) depth 20
+
+Link-sync : IsSync Link.the_row
+Link-sync = search (sendable, crosses, links.both_sync-Link) depth 20
+
+SharedRange-send : IsSend SharedRange.the_row
+SharedRange-send = search (sendable, Link-send) depth 20
+
+SharedRange-sync : IsSync SharedRange.the_row
+SharedRange-sync = search (sendable, Link-sync) depth 20
+
+Node-send : IsSend Node.the_row
+Node-send = search (sendable, crosses, nodes.both_send-Node, SharedRange-send, SharedRange-sync) depth 20
+
+Snapshot-send : IsSend Snapshot.the_row
+Snapshot-send = search (sendable, Link-send) depth 20
+
+SpecTree-send : IsSend SpecTree.the_row
+SpecTree-send = search (sendable, Node-send) depth 20
+
+ForkTable-send : IsSend ForkTable.the_row
+ForkTable-send = search (sendable, crosses, SpecTree-send) depth 40
+
+Pruner-send : IsSend Pruner.the_row
+Pruner-send = pruners.the_send
+
+Beginning-send : IsSend Beginning.the_field.row
+Beginning-send = search (sendable, crosses, Snapshot-send) depth 40
+
+Tried-send : IsSend Tried.the_row
+Tried-send = search (sendable, crosses) depth 40
+
+Engine-send : (D : RattleType) (disk : Ghosts D.Denot) → IsSend D → IsSend (Engine.the_row D disk)
+Engine-send D disk send = search (Snapshot-send, sendable, crosses, sets.crosses) depth 40 fits 30000
+
+-- Field by field, since one search for the whole value runs out of steps.
+pub Vault-send : (D : RattleType) (disk : Ghosts D.Denot) → IsSend D → IsSend (Vault.the_row D disk)
+Vault-send D disk send =
+    let T = inside.the_type D disk in
+    let fields : AllSend (shape T).fields =
+    (Engine-send D disk send, (ForkTable-send, (Pruner-send, (Beginning-send, (search (Entry.the_send, sendable, crosses) depth 20, (search (Tried-send, sendable) depth 20, tt)))))) in
+    let whole : IsSend (inside.the_row D disk) = recorded_send (Struct (shape T)) _ _ T.to_one (struct_send (shape T) fields) in
+    view_send (inside.the_row D disk) _ _ _ _ whole

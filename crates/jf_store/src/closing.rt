@@ -1,0 +1,70 @@
+// The end of a shared store.
+ghost use Rattle.std.specs.Prelude.{◌≡◌, ◌⊎◌, ℕ, ◌<◌, None, Some};
+ghost use Rattle.jf_turn.specs.Lists.{HasElement, StartsWith};
+ghost use Rattle.jf_turn.specs.Seats.{OthersFollow, IsSeatOf};
+ghost use Rattle.jf_board.specs.Rule.{Has};
+ghost use Rattle.jf_store.specs.Events.{named_by};
+ghost use Rattle.jf_store.specs.Passes.{OthersAlone, store_of};
+ghost use Rattle.jf_store.specs.Closing.{AreAllPasses, ArePassesOf, IsClosed};
+
+use crate::pass::Pass;
+use crate::store::Store;
+use crate::vault::Vault;
+use jf_board::Board;
+use jf_disk::Disk;
+use jf_engine::Engine;
+use jf_model::Ledger;
+use jf_turn::{Seat, Turn};
+
+/// What a store hands back: its engine, and what was done on it.
+#[derive(Drop)]
+pub struct Closed<D: Disk> {
+    pub engine: Engine<D>,
+    pub entries: Ledger,
+}
+
+// Joins the seats of passes to one, takes the value, and joins the places of these passes to its pruner.
+fn end_turn<D: Disk>(
+    turn: Turn<Vault<D>>,
+    board: &Board,
+    mut passes: Vec<Pass<D>>,
+    mut seat: Seat<Vault<D>>,
+) -> Vault<D>
+    requires seat { IsSeatOf seat turn × (seat.taken ≡ None) }
+    requires own { ArePassesOf (store_of turn) passes.items }
+    requires all { (n : ℕ) → n < turn.seats → HasElement seat.numbers n ⊎ ((p : _) × HasElement passes.items p × (p.number ≡ n)) }
+    requires board { board.now ≡ turn.origin.board }
+    ensures start { result.start ≡ turn.origin }
+    ensures begins { StartsWith result.events seat.seen }
+    ensures others { OthersFollow named_by seat result.events }
+    ensures seen { (p : _) → HasElement passes.items p → StartsWith result.events p.seen × OthersAlone p result.events }
+    ensures pins { (p : _) → HasElement passes.items p → (version : ℕ) → Has result.pruner.known.pairs (p.number, version) → Has p.place.announced version }
+{
+    let Some(pass) = passes.pop() else {
+        return turn.close(seat);
+    };
+    let Pass { seat: other, pins } = pass;
+    seat.join(&turn, other);
+    let mut vault = end_turn(turn, board, passes, seat);
+    vault.join(board, pins.into_place());
+    vault
+}
+
+impl<D: Disk> Store<D> {
+    /// Ends the store, by all of its passes. It waits for nobody and takes no memory. The pins of the passes are let go.
+    pub fn close(self, mut passes: Vec<Pass<D>>) -> Closed<D>
+        requires own { ArePassesOf self passes.items }
+        requires all { AreAllPasses self passes.items }
+        ensures { IsClosed self.start passes.items result.entries result.engine }
+    {
+        let Store { turn, board } = self;
+        let Some(first) = passes.pop() else {
+            unreachable!()
+        };
+        let Pass { seat, pins } = first;
+        let mut vault = end_turn(turn, &board, passes, seat);
+        vault.join(&board, pins.into_place());
+        let (engine, _, entries) = vault.end();
+        Closed { engine, entries }
+    }
+}

@@ -1,0 +1,214 @@
+// Landing a fork with its ancestors.
+ghost use Rattle.std.specs.Prelude.{◌≡◌, ◌⊎◌, ℕ, ◌+◌, ◌-◌, ◌<◌, ◌≤◌, ◌^◌, ◌++◌, length, Err, IfOk, IfErr, OnOk, OnErr, false};
+ghost use Rattle.std.specs.FinMap as fin;
+ghost use Rattle.jf_path.specs.Checks.{first_of};
+ghost use Rattle.jf_path.specs.Limits.{max_forks};
+ghost use Rattle.jf_hash.specs.Roots.{root};
+ghost use Rattle.jf_split.specs.Limits.{max_keys};
+ghost use Rattle.jf_model.specs.Batches.{key_count};
+ghost use Rattle.jf_model.specs.Versions.{newest};
+ghost use Rattle.jf_model.specs.declared.entries.Landing.TheVariants as landing;
+ghost use Rattle.jf_files.specs.Steps.{Lands};
+ghost use Rattle.jf_store.specs.declared.tried.Attempt.TheVariants as attempt;
+ghost use Rattle.jf_store.specs.Stepped.{HasStepped, HasStopped, IsDatedEngine};
+ghost use Rattle.jf_store.specs.Ledgers.{state_behind};
+ghost use Rattle.jf_store.specs.Refusals.{broken_faults, ledger_faults, landing_faults};
+ghost use Rattle.jf_store.specs.Landings.{land_faults};
+ghost use Rattle.jf_store.specs.Vaults.{LandsIn, FailsIn};
+ghost use Rattle.jf_store.specs.Passes.{IsPassOf, HasLanded, HasFailed};
+
+use crate::fault::StoreFault;
+use crate::pass::Pass;
+use crate::store::Store;
+use crate::tried::{Attempt, Tried};
+use crate::vault::{LAST, MAX_ENTRIES, MOST_KEYS, Vault};
+use jf_disk::Disk;
+use jf_engine::{Engine, EngineFault, Landed, Which};
+use jf_forks::ForkFault;
+use jf_join::Gate;
+use jf_model::{Entry, Landing};
+use jf_split::BatchList;
+use std::alloc::Global;
+use std::sync::Wait;
+use std::thread::Threads;
+
+// Lands the batches of a chain on an engine that isn't broken, if their versions and the keys of its head have room.
+fn land_chain<D: Disk, H: Threads + Sync, G: Gate>(
+    rt: &H,
+    alloc: Global,
+    engine: &mut Engine<D>,
+    chain: &BatchList,
+    workers: u64,
+    gate: &G,
+) -> Result<Landed, EngineFault>
+    requires whole { engine.old.broken ≡ false }
+    requires any { 1 ≤ length chain.now }
+    requires forks { length chain.now ≤ max_forks }
+    requires limited { key_count chain.now ≤ max_keys }
+    requires below { engine.old.versions.head + length chain.now ≤ 2 ^ 64 - 2 }
+    requires small { fin.len (newest engine.old.versions) ≤ 2 ^ 62 }
+    requires some { 1 ≤ workers }
+    requires few { workers ≤ 64 }
+    ensures stepped { OnOk result (HasStepped (Lands chain.now) engine.old engine.new) }
+    ensures answer { IfOk result (λ l. (l.version ≡ engine.new.versions.head) × (l.root ≡ root (newest engine.new.versions)) × (l.moment ≡ engine.new.moment)) }
+    ensures stopped { result ≡ Err EngineFault.DiskFault → HasStopped (Lands chain.now) engine.old engine.new }
+    ensures only { OnErr result ((result ≡ Err EngineFault.DiskFault) ⊎ (result ≡ Err EngineFault.Memory)) }
+    ensures untouched { OnErr result ((result ≡ Err EngineFault.DiskFault) ⊎ (engine.new ≡ engine.old)) }
+    ensures dated { IsDatedEngine engine.old }
+{
+    engine.know();
+    match engine.land_all(rt, alloc, chain, workers, gate) {
+        Ok(landed) => {
+            engine.know();
+            Ok(landed)
+        }
+        Err(fault) => Err(fault),
+    }
+}
+
+impl<D: Disk> Vault<D> {
+    // Why no entry can be added, if none can.
+    pub(crate) fn entry_fault(&self) -> Option<StoreFault>
+        ensures { result ≡ first_of (broken_faults self.now.events ++ ledger_faults (state_behind self.now.start self.now.events)) }
+    {
+        if self.is_broken() {
+            return Some(StoreFault::Broken);
+        }
+        if self.entries.len() as u64 >= MAX_ENTRIES {
+            return Some(StoreFault::Last(Which::Entries));
+        }
+        None
+    }
+
+    // Why so many versions can't be landed on the head, if they can't.
+    fn room_fault(&self, count: u64) -> Option<StoreFault>
+        requires { count ≤ max_forks }
+        ensures { result ≡ first_of (landing_faults count (state_behind self.now.start self.now.events)) }
+    {
+        self.engine.know();
+        let head = self.engine.state().head;
+        if head > LAST - count {
+            return Some(StoreFault::Last(Which::Version));
+        }
+        let Some(snapshot) = self.engine.at(head) else {
+            unreachable!()
+        };
+        if snapshot.count() > MOST_KEYS {
+            return Some(StoreFault::Last(Which::Keys));
+        }
+        None
+    }
+
+    // Why a fork can't be landed with its ancestors, if it can't.
+    fn land_fault(&self, id: u64) -> Option<StoreFault>
+        ensures { result ≡ first_of (land_faults id self.now.start self.now.events) }
+    {
+        if let Some(fault) = self.entry_fault() {
+            return Some(fault);
+        }
+        match self.forks.chain_len(id) {
+            Ok(count) => self.room_fault(count),
+            Err(ForkFault::Unknown) => Some(StoreFault::Unknown),
+            Err(ForkFault::Gone) => Some(StoreFault::Gone),
+            Err(ForkFault::TooMany(keys)) => Some(StoreFault::TooMany(keys)),
+            Err(_) => unreachable!(),
+        }
+    }
+
+    // Lands a fork with its ancestors for a pass: their batches in one record and one entry. All memory is taken before
+    // the disk is touched. After a landing the forks that stand on it are live; one at which the disk failed is a mark;
+    // every other refusal leaves all as it was.
+    pub(crate) fn land_fork<H: Threads + Sync, G: Gate>(
+        &mut self,
+        rt: &H,
+        alloc: Global,
+        pass: u64,
+        id: u64,
+        workers: u64,
+        gate: &G,
+    ) -> Result<Landed, StoreFault>
+        requires pass { pass < self.old.start.passes }
+        requires some { 1 ≤ workers }
+        requires few { workers ≤ 64 }
+        ensures start { self.new.start ≡ self.old.start }
+        ensures landed { IfOk result (LandsIn pass (landing.Fork id) self.old self.new) }
+        ensures failed { IfErr result (FailsIn pass (attempt.Lands (landing.Fork id)) (land_faults id) self.old self.new) }
+    {
+        if let Some(fault) = self.land_fault(id) {
+            return Err(fault);
+        }
+        self.forks.know();
+        let Ok(chain) = self.forks.chain(alloc, id) else {
+            return Err(StoreFault::Memory);
+        };
+        if self.entries.reserve(1).is_err() {
+            return Err(StoreFault::Memory);
+        }
+        match land_chain(rt, alloc, &mut self.engine, &chain, workers, gate) {
+            Ok(landed) => {
+                self.forks.settle(Some(id));
+                let root = landed.root;
+                self.entries.push_reserved(Entry::Landed {
+                    owner: pass,
+                    version: landed.version,
+                    how: Landing::Fork(id),
+                    root,
+                    moment: landed.moment,
+                });
+                Ok(landed)
+            }
+            Err(EngineFault::DiskFault) => {
+                self.tried = Some(Tried {
+                    pass,
+                    attempt: Attempt::Lands(Landing::Fork(id)),
+                });
+                Err(StoreFault::DiskFault)
+            }
+            Err(EngineFault::Memory) => Err(StoreFault::Memory),
+            Err(_) => unreachable!(),
+        }
+    }
+}
+
+impl<D: Disk> Pass<D> {
+    /// Lands a fork and its live ancestors on the head, the oldest first: a version for each, in one record and one
+    /// entry. The forks that stand on it stay live, and its children have the head as parent; all others are gone. It
+    /// waits for its turn. At most `workers` threads work, 1 to 64; neither their number nor the gate has an effect on
+    /// the result, which names the last version.
+    ///
+    /// Refusals; after each but `DiskFault` store and disk are as the events that the pass has then seen say:
+    ///
+    /// - `Broken`: an earlier call through this store met a fault of the disk.
+    /// - `Last(Entries)`: the ledger has 2^62 entries.
+    /// - `Unknown`: no fork of this number was made yet.
+    /// - `Gone`: the fork is no longer live.
+    /// - `TooMany`: the fork and its ancestors have more than 10,000 keys, added up; it gives their number.
+    /// - `Last(Version)`: the last version would be greater than 2^64 - 2.
+    /// - `Last(Keys)`: the head's map has more than 2^62 entries.
+    /// - `Memory`: memory ran out.
+    /// - `DiskFault`: a call on the disk failed. The last event is then the mark of this call, and each further call
+    ///   through this store is refused. After a crash the files stand for the versions from before this landing, or
+    ///   from after it.
+    pub fn land<H: Threads + Wait + Sync, G: Gate>(
+        &mut self,
+        rt: &H,
+        alloc: Global,
+        store: &Store<D>,
+        id: u64,
+        workers: u64,
+        gate: &G,
+    ) -> Result<Landed, StoreFault>
+        requires own { IsPassOf self.old store.now }
+        requires some { 1 ≤ workers }
+        requires few { workers ≤ 64 }
+        ensures landed { IfOk result (HasLanded store.now.start (landing.Fork id) self.old self.new) }
+        ensures failed { IfErr result (HasFailed store.now.start (attempt.Lands (landing.Fork id)) (land_faults id) self.old self.new) }
+    {
+        let mut vault = self.seat.take(rt, &store.turn);
+        let number = self.seat.number();
+        let landed = vault.land_fork(rt, alloc, number, id, workers, gate);
+        vault.know();
+        self.seat.give(&store.turn, vault);
+        landed
+    }
+}

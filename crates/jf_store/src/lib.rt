@@ -1,0 +1,35 @@
+//! A store that several passes share: each call of a pass is one event of a history, or a look at it.
+#![tactic(auto)]
+
+mod beginning;
+mod closing;
+mod compacting;
+mod event;
+mod fault;
+mod forking;
+mod landing;
+mod look;
+mod opening;
+mod origin;
+mod pass;
+mod pin_back;
+mod pinning;
+mod pins;
+mod pruned;
+mod pruning;
+mod reading;
+mod stepping;
+mod store;
+mod tried;
+mod vault;
+
+pub use closing::Closed;
+pub use event::Event;
+pub use fault::StoreFault;
+pub use look::Look;
+pub use opening::StoreRefused;
+pub use origin::Origin;
+pub use pass::Pass;
+pub use pin_back::PinBack;
+pub use pruned::Pruned;
+pub use store::Store;

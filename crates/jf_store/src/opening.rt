@@ -1,0 +1,91 @@
+// The beginning of a shared store.
+ghost use Rattle.std.specs.Prelude.{◌≡◌, ℕ, ◌+◌, ◌<◌, ◌≤◌, [], length, IfOk, IfErr, false, vec_capacity};
+ghost use Rattle.jf_turn.specs.Seats.{AreNewSeats};
+ghost use Rattle.jf_board.specs.States.{AreNewPlaces};
+ghost use Rattle.jf_store.specs.Starts.{start_with};
+ghost use Rattle.jf_store.specs.Passes.{AreNewPasses, store_of};
+
+use crate::beginning::Beginning;
+use crate::pass::Pass;
+use crate::pins::Pins;
+use crate::store::Store;
+use crate::vault::Vault;
+use jf_board::{Board, Place};
+use jf_disk::Disk;
+use jf_engine::Engine;
+use jf_turn::{Seat, Turn, TurnRefused};
+use std::alloc::Global;
+
+/// There was no memory. The engine comes back.
+#[derive(Drop)]
+pub struct StoreRefused<D: Disk> {
+    pub engine: Engine<D>,
+}
+
+// A pass for each seat and its place.
+fn passes_of<D: Disk>(
+    turn: &Turn<Vault<D>>,
+    board: &Board,
+    seats: Vec<Seat<Vault<D>>>,
+    places: Vec<Place>,
+    mut all: Vec<Pass<D>>,
+) -> Vec<Pass<D>>
+    requires seats { AreNewSeats turn.now seats.items 0 }
+    requires places { AreNewPlaces board.now places.items 0 }
+    requires board { board.now ≡ turn.now.origin.board }
+    requires each { length places.items ≡ length seats.items }
+    requires few { length seats.items ≤ turn.now.origin.passes }
+    requires empty { all.items ≡ [] }
+    requires room { length seats.items ≤ vec_capacity all }
+    ensures many { length result.items ≡ length seats.items }
+    ensures new { AreNewPasses (store_of turn.now) result.items 0 }
+{
+    let _ = board;
+    let mut places = places.into_iter();
+    for seat in seats {
+        let Some(place) = places.next() else {
+            unreachable!()
+        };
+        let pins = Pins::new(place);
+        all.push_reserved(Pass { seat, pins });
+    }
+    all
+}
+
+impl<D: Disk> Store<D> {
+    /// A store over an engine that isn't broken, and its passes, 1 to 16, with the numbers from 0 on. The ledger is empty,
+    /// no fork is live, and the retired bound is the floor. If memory runs out, the engine is handed back unchanged.
+    pub fn new(
+        alloc: Global,
+        engine: Engine<D>,
+        passes: u64,
+    ) -> Result<(Store<D>, Vec<Pass<D>>), StoreRefused<D>>
+        requires whole { engine.broken ≡ false }
+        requires some { 1 ≤ passes }
+        requires few { passes ≤ 16 }
+        ensures start { IfOk result (λ r. r.0.start ≡ start_with engine passes r.0.start.board) }
+        ensures passes { IfOk result (λ r. (length r.1.items ≡ passes) × AreNewPasses r.0 r.1.items 0) }
+        ensures engine { IfErr result (λ e. e.engine ≡ engine) }
+    {
+        let Ok(all) = Vec::with_capacity(alloc, passes as usize) else {
+            return Err(StoreRefused { engine });
+        };
+        let Ok(beginning) = Beginning::of(alloc, &engine, passes) else {
+            return Err(StoreRefused { engine });
+        };
+        let Ok((board, places, pruner)) = Board::new(alloc, passes, beginning.floor) else {
+            return Err(StoreRefused { engine });
+        };
+        let vault = Vault::begin(alloc, engine, beginning, pruner);
+        match Turn::new(alloc, vault, passes) {
+            Ok((turn, seats)) => {
+                let all = passes_of(&turn, &board, seats, places, all);
+                Ok((Store { turn, board }, all))
+            }
+            Err(TurnRefused { value }) => {
+                let (engine, _, _) = value.end();
+                Err(StoreRefused { engine })
+            }
+        }
+    }
+}

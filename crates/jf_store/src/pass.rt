@@ -1,0 +1,127 @@
+// What a thread uses a shared store by.
+ghost use Rattle.std.specs.Prelude.{◌≡◌, ◌⊎◌, ℕ, ◌<◌, ◌≤◌, length, IfOk, IfErr, Some};
+ghost use Rattle.jf_model.specs.States.{IsState};
+ghost use Rattle.jf_model.specs.declared.entries.Landing.TheVariants as landing;
+ghost use Rattle.jf_store.specs.declared.tried.Attempt.TheVariants as attempt;
+ghost use Rattle.jf_store.specs.Ledgers.{state_behind, AreEvents};
+ghost use Rattle.jf_store.specs.Looks.{IsLook};
+ghost use Rattle.jf_store.specs.Refusals.{IsRefusal, look_faults, commit_faults};
+ghost use Rattle.jf_store.specs.Passes.{IsPassOf, Sees, HasLanded, HasFailed};
+
+use crate::fault::StoreFault;
+use crate::look::Look;
+use crate::pins::Pins;
+use crate::store::Store;
+use crate::vault::Vault;
+use jf_disk::Disk;
+use jf_engine::Landed;
+use jf_join::Gate;
+use jf_split::Batch;
+use jf_turn::Seat;
+use std::alloc::Global;
+use std::marker::Model;
+use std::sync::Wait;
+use std::thread::Threads;
+
+/// A pass of a shared store. It knows the events that it has seen, and holds up to eight pins.
+#[derive(Drop)]
+pub struct Pass<D: Disk> {
+    pub(crate) seat: Seat<Vault<D>>,
+    pub(crate) pins: Pins,
+}
+
+impl<D: Disk> Model for Pass<D> {
+    ghost use Rattle.std.specs.Coded.{codes};
+    ghost use Rattle.jf_hash.specs.Codes.{map_code};
+    ghost use Rattle.jf_store.specs.Passes.{Pass, pass_of, IsPass};
+
+    ghost Value = { Pass };
+
+    ghost coded = { Prim.hlevel (codes, map_code) };
+
+    ghost view = { λ p. pass_of p.seat p.pins };
+
+    ghost invariant = { λ p. IsPass p.seat p.pins };
+}
+
+impl<D: Disk> Pass<D> {
+    /// Its number: the passes of a store are numbered from 0 on, in the order of the list that `Store::new` returns.
+    pub fn number(&self) -> u64
+        ensures { result ≡ self.now.number }
+    {
+        self.seat.number()
+    }
+
+    /// How many events it has seen: the entries of the ledger and, once the disk has failed in a call, a mark.
+    pub fn seen(&self) -> u64
+        ensures { result ≡ length self.now.seen }
+    {
+        self.seat.seen()
+    }
+
+    /// What holds of every pass of a store, for proofs: the events that it has seen are a legal history of the store, and
+    /// its number is below the number of passes.
+    pub fn know(&self, store: &Store<D>)
+        requires { IsPassOf self.now store.now }
+        ensures events { AreEvents store.now.start self.now.seen }
+        ensures number { self.now.number < store.now.start.passes }
+        ensures start { IsState store.now.start.state }
+    {
+        let _ = &self.seat;
+        let _ = &store.turn;
+    }
+
+    /// Looks at the head, and at the numbers of the store. It waits for its turn.
+    ///
+    /// Refusals; the pass has then seen the events by which it was refused:
+    ///
+    /// - `Broken`: an earlier call through this store met a fault of the disk.
+    /// - `Memory`: memory ran out.
+    pub fn look<H: Wait>(&mut self, rt: &H, store: &Store<D>) -> Result<Look, StoreFault>
+        requires { IsPassOf self.old store.now }
+        ensures sees { Sees self.old self.new }
+        ensures look { IfOk result (IsLook (state_behind store.now.start self.new.seen)) }
+        ensures refused { IfErr result (IsRefusal (look_faults store.now.start self.new.seen)) }
+    {
+        let vault = self.seat.take(rt, &store.turn);
+        let look = vault.look();
+        vault.know();
+        self.seat.give(&store.turn, vault);
+        look
+    }
+
+    /// Lands a batch on the head as the next version, after which no fork is live. It waits for its turn. At most
+    /// `workers` threads work, 1 to 64; neither their number nor the gate has an effect on the result.
+    ///
+    /// Refusals; after each but `DiskFault` store and disk are as the events that the pass has then seen say:
+    ///
+    /// - `Broken`: an earlier call through this store met a fault of the disk.
+    /// - `Last(Entries)`: the ledger has 2^62 entries.
+    /// - `Last(Version)`: the head is version 2^64 - 2.
+    /// - `Last(Keys)`: the head's map has more than 2^62 entries.
+    /// - `Memory`: memory ran out.
+    /// - `DiskFault`: a call on the disk failed. The last event is then the mark of this call, and each further call
+    ///   through this store is refused. After a crash the files stand for the versions from before or with this landing.
+    pub fn commit<H: Threads + Wait + Sync, G: Gate>(
+        &mut self,
+        rt: &H,
+        alloc: Global,
+        store: &Store<D>,
+        batch: &Batch,
+        workers: u64,
+        gate: &G,
+    ) -> Result<Landed, StoreFault>
+        requires own { IsPassOf self.old store.now }
+        requires some { 1 ≤ workers }
+        requires few { workers ≤ 64 }
+        ensures landed { IfOk result (HasLanded store.now.start (landing.Direct batch.now) self.old self.new) }
+        ensures failed { IfErr result (HasFailed store.now.start (attempt.Lands (landing.Direct batch.now)) commit_faults self.old self.new) }
+    {
+        let mut vault = self.seat.take(rt, &store.turn);
+        let number = self.seat.number();
+        let landed = vault.commit(rt, alloc, number, batch, workers, gate);
+        vault.know();
+        self.seat.give(&store.turn, vault);
+        landed
+    }
+}

@@ -1,0 +1,178 @@
+// Retiring versions: the gate is raised, the pins are scanned, the board is cut, and the engine gets the floor.
+ghost use Rattle.std.specs.Prelude.{◌≡◌, ◌⊎◌, ◌+◌, ◌*◌, ◌<◌, ◌≤◌, Err, IfOk, IfErr, OnOk, OnErr, false};
+ghost use Rattle.jf_path.specs.Checks.{first_of};
+ghost use Rattle.jf_files.specs.Steps.{Prunes};
+ghost use Rattle.jf_store.specs.Passes.{IsPassOf};
+ghost use Rattle.jf_store.specs.Stepped.{HasStepped, HasStopped, IsDatedEngine};
+ghost use Rattle.jf_store.specs.Prunings.{prune_faults, HasSwept, PrunesIn, FailsPruning, HasPruned, HasFailedPruning};
+
+use crate::fault::StoreFault;
+use crate::pass::Pass;
+use crate::pins::Pins;
+use crate::pruned::Pruned;
+use crate::store::Store;
+use crate::tried::{Attempt, Tried};
+use crate::vault::{MAX_ENTRIES, Vault};
+use jf_board::{Board, Place, Pruner, Scan};
+use jf_disk::Disk;
+use jf_engine::{Engine, EngineFault, Which};
+use jf_model::Entry;
+use std::sync::Wait;
+
+// Raises the gate to a bound, loads every pin word, and raises the cut to the least that was found. The place is any one
+// of the board, and is unchanged.
+fn sweep(pruner: &mut Pruner, board: &Board, own: &mut Place, bound: u64) -> Scan
+    requires pruner { pruner.old.board ≡ board.now }
+    requires place { own.old.board ≡ board.now }
+    requires up { pruner.old.known.gate ≤ bound }
+    ensures swept { HasSwept own.old.known pruner.old pruner.new bound result.low result.held }
+    ensures own { own.new ≡ own.old }
+{
+    pruner.raise(board, bound);
+    let scan = pruner.scan(board, own);
+    pruner.cut(board);
+    scan
+}
+
+// Raises the floor of an engine that isn't broken.
+fn raise_floor<D: Disk>(engine: &mut Engine<D>, floor: u64) -> Result<(), EngineFault>
+    requires whole { engine.old.broken ≡ false }
+    requires low { engine.old.versions.floor ≤ floor }
+    requires high { floor ≤ engine.old.versions.head }
+    ensures stepped { OnOk result (HasStepped (Prunes floor) engine.old engine.new) }
+    ensures stopped { OnErr result ((result ≡ Err EngineFault.DiskFault) × HasStopped (Prunes floor) engine.old engine.new) }
+    ensures dated { IsDatedEngine engine.old }
+{
+    engine.know();
+    engine.prune(floor)?;
+    engine.know();
+    Ok(())
+}
+
+impl<D: Disk> Vault<D> {
+    // Why the versions below a bound can't be retired, if they can't.
+    fn prune_fault(&self, bound: u64) -> Option<StoreFault>
+        ensures { result ≡ first_of (prune_faults bound self.now.start self.now.events) }
+    {
+        if self.is_broken() {
+            return Some(StoreFault::Broken);
+        }
+        if self.entries.len() as u64 >= MAX_ENTRIES {
+            return Some(StoreFault::Last(Which::Entries));
+        }
+        let head = self.engine.state().head;
+        if bound > head {
+            return Some(StoreFault::Future(head));
+        }
+        let retired = self.pruner.gate();
+        if bound < retired {
+            return Some(StoreFault::Retired(retired));
+        }
+        None
+    }
+
+    // Retires the versions below a bound, for a pass with this place. Room in the ledger is made before the gate is
+    // raised or the disk is touched. It is one entry more; if the disk failed, a mark; every other refusal leaves all as
+    // it was.
+    pub(crate) fn prune(
+        &mut self,
+        board: &Board,
+        own: &mut Place,
+        pass: u64,
+        bound: u64,
+    ) -> Result<Pruned, StoreFault>
+        requires pass { pass < self.old.start.passes }
+        requires board { board.now ≡ self.old.start.board }
+        requires place { own.old.board ≡ board.now }
+        requires words { board.now.words ≡ 8 * self.old.start.passes + 3 }
+        ensures own { own.new ≡ own.old }
+        ensures start { self.new.start ≡ self.old.start }
+        ensures pruned { IfOk result (PrunesIn pass own.old.known bound self.old self.new) }
+        ensures failed { IfErr result (FailsPruning pass own.old.known bound self.old self.new) }
+    {
+        if let Some(fault) = self.prune_fault(bound) {
+            return Err(fault);
+        }
+        if self.entries.reserve(1).is_err() {
+            return Err(StoreFault::Memory);
+        }
+        let scan = sweep(&mut self.pruner, board, own, bound);
+        let floor = self.engine.state().floor.max(scan.low);
+        match raise_floor(&mut self.engine, floor) {
+            Ok(()) => {
+                self.entries.push_reserved(Entry::Retired {
+                    owner: pass,
+                    bound,
+                    floor,
+                });
+                Ok(Pruned {
+                    bound,
+                    floor,
+                    held: scan.held,
+                })
+            }
+            Err(_) => {
+                self.tried = Some(Tried {
+                    pass,
+                    attempt: Attempt::Retires { bound, floor },
+                });
+                Err(StoreFault::DiskFault)
+            }
+        }
+    }
+}
+
+impl Pins {
+    // Retires the versions below a bound in a vault, for the pass with these pins.
+    fn prune<D: Disk>(
+        &mut self,
+        vault: &mut Vault<D>,
+        board: &Board,
+        pass: u64,
+        bound: u64,
+    ) -> Result<Pruned, StoreFault>
+        requires pass { pass < vault.old.start.passes }
+        requires board { board.now ≡ vault.old.start.board }
+        requires place { self.old.board ≡ board.now }
+        requires words { board.now.words ≡ 8 * vault.old.start.passes + 3 }
+        ensures same { self.new ≡ self.old }
+        ensures start { vault.new.start ≡ vault.old.start }
+        ensures pruned { IfOk result (PrunesIn pass self.old.known bound vault.old vault.new) }
+        ensures failed { IfErr result (FailsPruning pass self.old.known bound vault.old vault.new) }
+    {
+        vault.prune(board, &mut self.place, pass, bound)
+    }
+}
+
+impl<D: Disk> Pass<D> {
+    /// Raises the retired bound, below which no version can be read or pinned any more, and the floor with it: to the
+    /// least of the bound and of the pinned versions, if that is above the old floor. If the floor stays below the bound,
+    /// the pin that kept it there is returned. It waits for its turn.
+    ///
+    /// Refusals; after each but `DiskFault` store and disk are as the events that the pass has then seen say:
+    ///
+    /// - `Broken`: an earlier call through this store met a fault of the disk.
+    /// - `Last(Entries)`: the ledger has 2^62 entries.
+    /// - `Future(head)`: the bound is above the head.
+    /// - `Retired(bound)`: the bound is below the retired bound.
+    /// - `Memory`: memory ran out.
+    /// - `DiskFault`: a call on the disk failed. The last event is then the mark of this call, and each further call
+    ///   through this store is refused. After a crash the files stand for the versions from the old or the new floor on.
+    pub fn prune<H: Wait>(
+        &mut self,
+        rt: &H,
+        store: &Store<D>,
+        bound: u64,
+    ) -> Result<Pruned, StoreFault>
+        requires { IsPassOf self.old store.now }
+        ensures pruned { IfOk result (HasPruned store.now.start bound self.old self.new) }
+        ensures failed { IfErr result (HasFailedPruning store.now.start bound self.old self.new) }
+    {
+        let mut vault = self.seat.take(rt, &store.turn);
+        let number = self.seat.number();
+        let pruned = self.pins.prune(&mut vault, &store.board, number, bound);
+        vault.know();
+        self.seat.give(&store.turn, vault);
+        pruned
+    }
+}

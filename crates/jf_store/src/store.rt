@@ -1,0 +1,28 @@
+// A store that passes share.
+use crate::vault::Vault;
+use jf_board::Board;
+use jf_disk::Disk;
+use jf_turn::Turn;
+use std::marker::Model;
+
+/// A store that 1 to 16 passes share, in any threads. What was done through it is kept until it is closed.
+pub struct Store<D: Disk> {
+    pub(crate) turn: Turn<Vault<D>>,
+    pub(crate) board: Board,
+}
+
+impl<D: Disk> Model for Store<D> {
+    ghost use Rattle.std.specs.Prelude.{◌≡◌, ◌≤◌, ◌+◌, ◌*◌};
+    ghost use Rattle.std.specs.Coded.{codes};
+    ghost use Rattle.jf_hash.specs.Codes.{map_code};
+    ghost use Rattle.jf_model.specs.States.{IsState};
+    ghost use Rattle.jf_store.specs.Passes.{Store, store_of};
+
+    ghost Value = { Store };
+
+    ghost coded = { Prim.hlevel (codes, map_code) };
+
+    ghost view = { λ s. store_of s.turn };
+
+    ghost invariant = { λ s. (s.turn.seats ≡ s.turn.origin.passes) × (1 ≤ s.turn.seats) × IsState s.turn.origin.state × (s.board ≡ s.turn.origin.board) × (s.board.words ≡ 8 * s.turn.origin.passes + 3) };
+}
