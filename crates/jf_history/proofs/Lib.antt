@@ -1,0 +1,12 @@
+pub mod Announced
+pub mod Fronts
+pub mod Places
+pub mod OnePass
+pub mod Later
+pub mod HeldFloors
+pub mod OneSession
+pub mod Steps
+pub mod Closed
+pub mod OneRun
+pub mod Samples
+pub mod Replies

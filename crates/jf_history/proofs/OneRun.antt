@@ -1,0 +1,194 @@
+-- A whole run of a session that is alone on its store.
+use Rattle.std.proofs.Common.{◌≡◌, ℕ, zero, suc, ◌-◌, ◌<◌, ◌≤◌, Option, Some, None, List, [], ◌∷◌, ◌++◌, map, take, length, refl, sym, ap, ◌∙◌, subst, arith, min}
+use Rattle.std.proofs.lemmas.List.{length-take, take-map}
+use Rattle.std.specs.List.{concat}
+use Rattle.jf_io.specs.LinesRead.{lines_read, AreFirst}
+use Rattle.jf_model.specs.States.{State}
+use Rattle.jf_model.specs.Entries.{replay, timeless}
+use Rattle.jf_store.specs.declared.event.Event.{Event}
+use Rattle.jf_store.specs.declared.event.Event.TheVariants.{Mark}
+use Rattle.jf_store.specs.Events.{entries_of, attempt_of}
+use Rattle.jf_store.specs.Ledgers.{AreEvents}
+use Rattle.jf_store.specs.Passes.{Store, Pass, new_pass}
+use Rattle.jf_store.proofs.EventLaws.{entries_of-mark, attempt_of-none}
+use Rattle.jf_answers.specs.Own.{Own, begun_session}
+use Rattle.jf_answers.specs.Answers.{answer}
+use Rattle.jf_answers.specs.Runs.{answers_from, answers, answer_text, texts_of}
+use Rattle.jf_answers.specs.Explains.{Answered}
+use Rattle.jf_history.specs.Sessions.{Session, seen_by, IsTry}
+use Rattle.jf_history.specs.Runs.{HasAnswered, ReadsBy, Reads, IsCut, IsAtRest, Ran}
+use Rattle.jf_history.specs.Alone.{IsCutAnswer, WritesAlone, TriesAlone, RanAlone}
+use Rattle.jf_history.specs.declared.end.End.{End}
+use Rattle.jf_history.specs.declared.end.End.TheVariants as end
+use Rattle.jf_history.specs.Laws.{OneRunIsAlone}
+use Rattle.jf_history.proofs.OnePass.{alone, one_pass_adds}
+use Rattle.jf_history.proofs.Fronts.{AreAnswered-take, AreHeld-take, places_told-take}
+use Rattle.jf_history.proofs.HeldFloors.{floors_of, HaveMet-floors}
+use Rattle.jf_history.proofs.OneSession.{Agrees, agrees-from, agrees-all, AreEvents-before, one_session_tries, one_session_is_never_broken}
+
+-- ---- the first lines
+
+take-take : {X : Type 0} (m n : ℕ) (xs : List X) → m ≤ n → take m (take n xs) ≡ take m xs
+take-take zero n xs le = refl
+take-take (suc m) zero xs le = absurd (omega arith)
+take-take (suc m) (suc n) [] le = refl
+take-take (suc m) (suc n) (x ∷ xs) le = ap (λ t. x ∷ t) (take-take m n xs (omega arith))
+
+same_length : {X Y : Type 0} (n : ℕ) (xs : List X) (ys : List Y) → length xs ≡ length ys → length (take n xs) ≡ length (take n ys)
+same_length n xs ys e = length-take n xs ∙ ap (min n) e ∙ sym (length-take n ys)
+
+texts_of-take : (s : State) (own : Own) (n : ℕ) (ls : List (List ℕ)) → texts_of (answers_from s own (take n ls)) ≡ take n (texts_of (answers_from s own ls))
+unfolding answers_from
+texts_of-take s own zero ls = refl
+texts_of-take s own (suc n) [] = refl
+texts_of-take s own (suc n) (line ∷ ls) =
+    let a = answer s own line in
+    ap (λ ts. answer_text a.state.count a ∷ ts) (texts_of-take a.state a.own n ls)
+
+first_lines : (whole ls : List (List ℕ)) (n : ℕ) → length ls ≤ length whole → take (length ls) whole ≡ ls → take (length (take n ls)) whole ≡ take n ls
+first_lines whole ls zero le e = refl
+first_lines whole [] (suc n) le e = refl
+first_lines [] (l ∷ ls) (suc n) le e = absurd (omega arith)
+first_lines (x ∷ whole) (l ∷ ls) (suc n) le e =
+    let both : x ∷ take (length ls) whole ≡ l ∷ ls = e in
+    let first : x ≡ l = cc in
+    let later : take (length ls) whole ≡ ls = cc in
+    ap (λ y. y ∷ take (length (take n ls)) whole) first ∙ ap (λ ys. l ∷ ys) (first_lines whole ls n (omega arith) later)
+
+AreFirst-take : (taken left : List ℕ) (ls : List (List ℕ)) (n : ℕ) → AreFirst taken left ls → AreFirst taken left (take n ls)
+AreFirst-take taken left ls n f = record {
+  enough = (let many = f.enough in omega (arith, length-take n ls));
+  are = first_lines (lines_read taken left) ls n f.enough f.are;
+}
+
+-- ---- how it ended
+
+module _ (store : Store) (mid : Session) (ls : List (List ℕ)) (rs : List Answered) (one : store.start.passes ≡ 1) (a : HasAnswered store.start (new_pass store 0) mid ls rs) where
+  below : mid.pass.number < store.start.passes
+  below = let number : mid.pass.number ≡ 0 = ap (λ (p : Pass). p.number) a.same in omega arith
+
+  -- a session that is at rest has seen nothing more
+  rest_seen : (last : Session) (next : Option (List ℕ)) → AreEvents store.start last.pass.seen → IsAtRest mid last next → last.pass.seen ≡ mid.pass.seen
+  rest_seen last None are h = ap (λ (s : Session). s.pass.seen) h
+  rest_seen last (Some line) are h = alone store.start mid.pass last.pass.seen one below are.named h.follows.begins h.others
+
+  -- nor one at a fault of the disk, but for the mark
+  try_entries : (last : Session) (line : List ℕ) → AreEvents store.start last.pass.seen → IsTry store.start mid last line → seen_by last.pass ≡ seen_by mid.pass
+  try_entries last line are t =
+      let seen : last.pass.seen ≡ t.before ++ Mark mid.pass.number t.attempt ∷ [] = ap (λ (p : Pass). p.seen) t.sees.last in
+      ap entries_of seen ∙ entries_of-mark t.before mid.pass.number t.attempt ∙ ap entries_of (one_pass_adds store.start mid.pass last.pass t.before (Mark mid.pass.number t.attempt) one below are t.sees)
+
+  try_before : (last : Session) (line : List ℕ) → AreEvents store.start last.pass.seen → IsTry store.start mid last line → AreEvents store.start mid.pass.seen
+  try_before last line are t =
+      let seen : last.pass.seen ≡ t.before ++ Mark mid.pass.number t.attempt ∷ [] = ap (λ (p : Pass). p.seen) t.sees.last in
+      let same = one_pass_adds store.start mid.pass last.pass t.before (Mark mid.pass.number t.attempt) one below are t.sees in
+      subst (AreEvents store.start) same (AreEvents-before store.start t.before mid.pass.number t.attempt (subst (AreEvents store.start) seen are) t.sees.unmarked)
+
+-- ---- what was written
+
+module _ (store : Store) (mid : Session) (ls : List (List ℕ)) (rs : List Answered) (one : store.start.passes ≡ 1) (none : store.start.state.count ≡ 0) (are : AreEvents store.start mid.pass.seen)
+    (a : HasAnswered store.start (new_pass store 0) mid ls rs) (text : List ℕ) (c : IsCut rs text) where
+  -- the lines up to the cut gave all entries
+  agrees_cut : Agrees store.start.state (begun_session 0) (take c.count ls) (take c.count rs) (seen_by mid.pass)
+  agrees_cut =
+      agrees-from store.start mid.pass.seen (take c.count ls) (take c.count rs) one none are
+      (AreAnswered-take _ (begun_session 0) 0 c.count ls rs (a.answered (floors_of mid.pass.seen) (HaveMet-floors store.start mid.pass.seen are)))
+      (AreHeld-take store.start (seen_by mid.pass) (begun_session 0) c.count rs a.held) (a.places ∙ sym (places_told-take c.count rs c.quiet)) (same_length c.count rs ls a.all)
+
+  cut_answer : IsCutAnswer store.start.state (take c.count ls) text
+  cut_answer =
+      let g = agrees_cut in
+      let many : length (take c.count ls) ≡ c.count = (let within = c.within in let same = a.all in omega (arith, length-take c.count ls)) in
+      let fewer : texts_of (answers store.start.state (take (length (take c.count ls) - 1) (take c.count ls))) ≡ map (λ (r : Answered). r.text) (take (c.count - 1) rs) =
+      texts_of-take store.start.state (begun_session 0) (length (take c.count ls) - 1) (take c.count ls) ∙ ap (λ n. take (n - 1) (texts_of (answers store.start.state (take c.count ls)))) many
+      ∙ ap (take (c.count - 1)) (sym g.texts) ∙ take-map (λ (r : Answered). r.text) (c.count - 1) (take c.count rs) ∙ ap (map (λ (r : Answered). r.text)) (take-take (c.count - 1) c.count rs (omega arith)) in
+      record {
+        missing = c.missing;
+        front = ap concat (sym g.texts) ∙ c.front;
+        more = c.more;
+        enough = c.enough ∙ ap (λ t. t ++ c.more) (sym (ap concat fewer));
+      }
+
+-- ---- the law
+
+module _ (store : Store) (new : Pass) (rest rest' text text' : Option (List ℕ)) (one : store.start.passes ≡ 1) (none : store.start.state.count ≡ 0) (are : AreEvents store.start new.seen) where
+  -- a run that ended after the lines done
+  ran_still : (e : End) (r : Ran e store.start (new_pass store 0) new rest rest' text text') → new.seen ≡ r.mid.pass.seen
+      → (g : Agrees store.start.state (begun_session 0) r.done r.replies (seen_by new)) × (attempt_of new.seen ≡ None)
+  ran_still e r same = (
+    subst (λ (xs : List Event). Agrees store.start.state (begun_session 0) r.done r.replies (entries_of xs)) (sym same)
+        (agrees-all store r.mid r.done r.replies one none (subst (AreEvents store.start) same are) r.answered),
+    ap attempt_of same ∙ attempt_of-none r.mid.pass.seen r.answered.unmarked,
+  )
+
+  -- a run whose output was cut
+  cut_reads : (e : End) → ((taken left : List ℕ) (ls : List (List ℕ)) → ReadsBy e taken left ls) → (ls : List (List ℕ)) (n : ℕ) (next : Option (List ℕ))
+      → ((all : List ℕ) → rest ≡ Some all → (left : List ℕ) × (rest' ≡ Some left) × Reads e all left ls next) → (all : List ℕ) → rest ≡ Some all → (left : List ℕ) × (rest' ≡ Some left) × Reads e all left (take n ls) None
+  cut_reads e far ls n next reads all is =
+      let x = reads all is in (
+        x.0,
+        x.1,
+        record { taken = x.2.taken; split = x.2.split; first = AreFirst-take x.2.taken x.0 ls n x.2.first; far = far x.2.taken x.0 (take n ls); begun = tt },
+      )
+
+  ran_cut : (e : End) → ((taken left : List ℕ) (ls : List (List ℕ)) → ReadsBy e taken left ls) → (r : Ran e store.start (new_pass store 0) new rest rest' text text') → new.seen ≡ r.mid.pass.seen → (c : IsCut r.replies r.writes.text)
+      → (IsCutAnswer store.start.state (take c.count r.done) r.writes.text → WritesAlone e store.start.state (take c.count r.done) r.writes.text)
+      → (attempt_of new.seen ≡ None → TriesAlone e (answers store.start.state (take c.count r.done)) None (attempt_of new.seen)) → RanAlone e store.start.state new rest rest' text text'
+  ran_cut e far r same c writes tries =
+      let are' = subst (AreEvents store.start) same are in
+      let g = subst (λ (xs : List Event). Agrees store.start.state (begun_session 0) (take c.count r.done) (take c.count r.replies) (entries_of xs)) (sym same)
+      (agrees_cut store r.mid r.done r.replies one none are' r.answered r.writes.text c) in
+      record {
+        done = take c.count r.done;
+        next = None;
+        entries = g.entries;
+        state = g.state;
+        tried = tries (ran_still e r same).1;
+        written = r.writes.text;
+        writes = writes (cut_answer store r.mid r.done r.replies one none are' r.answered r.writes.text c);
+        appended = r.writes.appended;
+        reads = cut_reads e far r.done c.count r.next r.reads;
+      }
+
+  seen_last : (e : End) (r : Ran e store.start (new_pass store 0) new rest rest' text text') → AreEvents store.start r.last.pass.seen
+  seen_last e r = subst (λ (p : Pass). AreEvents store.start p.seen) r.pass_is are
+
+pub one_run_is_alone : OneRunIsAlone
+one_run_is_alone store end.Done new rest rest' text text' one none are r =
+    let same : new.seen ≡ r.mid.pass.seen = ap (λ (p : Pass). p.seen) r.pass_is ∙ ap (λ (s : Session). s.pass.seen) r.ends.0 in
+    let g = ran_still store new rest rest' text text' one none are end.Done r same in
+    record { done = r.done; next = r.next; entries = g.0.entries; state = g.0.state; tried = g.1; written = r.writes.text; writes = r.writes.by ∙ ap concat g.0.texts; appended = r.writes.appended; reads = r.reads }
+one_run_is_alone store end.ReadFault new rest rest' text text' one none are r =
+    let same : new.seen ≡ r.mid.pass.seen = ap (λ (p : Pass). p.seen) r.pass_is ∙ ap (λ (s : Session). s.pass.seen) r.ends.0 in
+    let g = ran_still store new rest rest' text text' one none are end.ReadFault r same in
+    record { done = r.done; next = r.next; entries = g.0.entries; state = g.0.state; tried = g.1; written = r.writes.text; writes = r.writes.by ∙ ap concat g.0.texts; appended = r.writes.appended; reads = r.reads }
+one_run_is_alone store end.WriteFault new rest rest' text text' one none are r =
+    let last = seen_last store new rest rest' text text' one none are end.WriteFault r in
+    let same : new.seen ≡ r.mid.pass.seen = ap (λ (p : Pass). p.seen) r.pass_is ∙ rest_seen store r.mid r.done r.replies one r.answered r.last r.next last r.ends in
+    ran_cut store new rest rest' text text' one none are end.WriteFault (λ taken left ls. tt) r same r.writes.by (λ c. c) (λ t. t)
+one_run_is_alone store end.DiskFault new rest rest' text text' one none are r =
+    let last = seen_last store new rest rest' text text' one none are end.DiskFault r in
+    let line = r.ends.0 in
+    let t = r.ends.2 in
+    let before = try_before store r.mid r.done r.replies one r.answered r.last line last t in
+    let g = agrees-all store r.mid r.done r.replies one none before r.answered in
+    let same : seen_by new ≡ seen_by r.mid.pass = ap seen_by r.pass_is ∙ try_entries store r.mid r.done r.replies one r.answered r.last line last t in
+    let tried = one_session_tries store r.mid r.last r.done r.replies line one none last r.answered t in
+    record {
+      done = r.done;
+      next = r.next;
+      entries = ap (map timeless) same ∙ g.entries;
+      state = ap (replay store.start.state) same ∙ g.state;
+      tried = (line, r.ends.1, (tried.0, ap (λ (p : Pass). attempt_of p.seen) r.pass_is ∙ tried.1, tried.2));
+      written = r.writes.text;
+      writes = r.writes.by ∙ ap concat g.texts;
+      appended = r.writes.appended;
+      reads = r.reads;
+    }
+one_run_is_alone store end.Broken new rest rest' text text' one none are r =
+    let last = seen_last store new rest rest' text text' one none are end.Broken r in
+    absurd (one_session_is_never_broken store r.mid r.last r.done r.replies r.ends.0 one last r.answered r.ends.2)
+one_run_is_alone store end.Memory new rest rest' text text' one none are r =
+    let last = seen_last store new rest rest' text text' one none are end.Memory r in
+    let same : new.seen ≡ r.mid.pass.seen = ap (λ (p : Pass). p.seen) r.pass_is ∙ rest_seen store r.mid r.done r.replies one r.answered r.last r.next last r.ends in
+    ran_cut store new rest rest' text text' one none are end.Memory (λ taken left ls. tt) r same r.writes.by (λ c. c) (λ t. t)

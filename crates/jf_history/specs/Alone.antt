@@ -1,0 +1,63 @@
+-- What a session that is alone on its store makes of its script, by the answers of a session that runs by itself.
+use Rattle.std.specs.Prelude.{◌≡◌, ℕ, ◌-◌, List, ◌++◌, map, take, length, Option, Some, None, option_map}
+use Rattle.jf_model.specs.States.{State}
+use Rattle.jf_model.specs.Entries.{replay, timeless}
+use Rattle.jf_model.specs.declared.entries.Entry.{Entry}
+use Rattle.jf_store.specs.Events.{attempt_of}
+use Rattle.jf_store.specs.Passes.{Pass}
+use Rattle.jf_answers.specs.Answers.{answer}
+use Rattle.jf_answers.specs.Runs.{Run, answers, text_of, run_entries}
+use Rattle.jf_answers.specs.Explains.{Answered, text_in}
+use Rattle.jf_history.specs.Sessions.{Session, seen_by}
+use Rattle.jf_history.specs.Runs.{Reads}
+use Rattle.jf_history.specs.declared.end.End.{End}
+use Rattle.jf_history.specs.declared.end.End.TheVariants as end
+
+-- the replies are those of a session by itself from this state on; so are the entries, their moments aside, the state that they make, and what the session keeps for itself
+pub record AnswersAlone (s : State) (now : Session) (ls : List (List ℕ)) (rs : List Answered) : Type 0 where
+  pub text : text_in rs ≡ text_of (answers s ls)
+  pub entries : map timeless (seen_by now.pass) ≡ run_entries (answers s ls)
+  pub state : replay s (seen_by now.pass) ≡ (answers s ls).state
+  pub own : now.own ≡ (answers s ls).own
+
+-- ---- a run
+-- a front of the text of these answers, with all of the text of those to all lines but the last
+pub record IsCutAnswer (s : State) (ls : List (List ℕ)) (text : List ℕ) : Type 0 where
+  pub missing : List ℕ
+  pub front : text_of (answers s ls) ≡ text ++ missing
+  pub more : List ℕ
+  pub enough : text ≡ text_of (answers s (take (length ls - 1) ls)) ++ more
+
+-- what was written for the lines done, by how the run ended
+abbrev pub WritesAlone : End → State → List (List ℕ) → List ℕ → Type 0
+WritesAlone end.Done s ls text = text ≡ text_of (answers s ls)
+WritesAlone end.ReadFault s ls text = text ≡ text_of (answers s ls)
+WritesAlone end.WriteFault s ls text = IsCutAnswer s ls text
+WritesAlone end.DiskFault s ls text = text ≡ text_of (answers s ls)
+WritesAlone end.Broken s ls text = ⊥
+WritesAlone end.Memory s ls text = IsCutAnswer s ls text
+
+-- the entry that the line gives over these answers
+abbrev pub IsTried : Run → List ℕ → Option Entry → Type 0
+IsTried r line attempt = (e : Entry) × (attempt ≡ Some e) × ((answer r.state r.own line).entry ≡ Some e)
+
+-- the attempt that a run left: at a fault of the disk the entry of the next line, and else none
+abbrev pub TriesAlone : End → Run → Option (List ℕ) → Option Entry → Type 0
+TriesAlone end.Done r next attempt = attempt ≡ None
+TriesAlone end.ReadFault r next attempt = attempt ≡ None
+TriesAlone end.WriteFault r next attempt = attempt ≡ None
+TriesAlone end.DiskFault r next attempt = (line : List ℕ) × (next ≡ Some line) × IsTried r line attempt
+TriesAlone end.Broken r next attempt = ⊥
+TriesAlone end.Memory r next attempt = attempt ≡ None
+
+-- a run, by the answers to the lines done
+pub record RanAlone (e : End) (s : State) (new : Pass) (rest rest' text text' : Option (List ℕ)) : Type 0 where
+  pub done : List (List ℕ)
+  pub next : Option (List ℕ)
+  pub entries : map timeless (seen_by new) ≡ run_entries (answers s done)
+  pub state : replay s (seen_by new) ≡ (answers s done).state
+  pub tried : TriesAlone e (answers s done) next (attempt_of new.seen)
+  pub written : List ℕ
+  pub writes : WritesAlone e s done written
+  pub appended : text' ≡ option_map (λ t. t ++ written) text
+  pub reads : (all : List ℕ) → rest ≡ Some all → (left : List ℕ) × (rest' ≡ Some left) × Reads e all left done next

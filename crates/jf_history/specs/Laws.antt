@@ -1,0 +1,93 @@
+-- Laws on sessions over passes.
+use Rattle.std.specs.Prelude.{◌≡◌, ℕ, ◌<◌, List, [], ◌∷◌, ◌++◌, length, Option, Some}
+use Rattle.jf_model.specs.States.{State}
+use Rattle.jf_model.specs.declared.entries.Entry.{Entry}
+use Rattle.jf_engine.specs.Engines.{Engine}
+use Rattle.jf_store.specs.declared.event.Event.{Event}
+use Rattle.jf_store.specs.Events.{attempt_of}
+use Rattle.jf_store.specs.Starts.{Start}
+use Rattle.jf_store.specs.Ledgers.{AreEvents}
+use Rattle.jf_store.specs.Passes.{Store, Pass, Sees, SeesOwn, new_pass}
+use Rattle.jf_store.specs.Closing.{IsClosed}
+use Rattle.jf_answers.specs.Own.{Own}
+use Rattle.jf_answers.specs.Runs.{answers}
+use Rattle.jf_answers.specs.Explains.{Answered, AreAnswered, ExplainsAnswers, IsAttempt, timeline_of}
+use Rattle.jf_history.specs.Sessions.{Session, new_session, HasReplied, IsTry, IsBroken, HasLooked, HasChanged, look_reply, change_reply}
+use Rattle.jf_history.specs.Runs.{HasAnswered, Ran}
+use Rattle.jf_history.specs.Alone.{AnswersAlone, IsTried, RanAlone}
+use Rattle.jf_history.specs.Serving.{Served, AreServed, FailedIn, scripts_of, replies_of, passes_of}
+use Rattle.jf_history.specs.declared.end.End.{End}
+use Rattle.jf_history.specs.declared.end.End.TheVariants as end
+
+-- ---- from line to line
+-- what was answered stays so where entries follow
+abbrev pub AnswersStay : Type 0
+AnswersStay = (s : State) (pins : List ℕ) (es more : List Entry) (own : Own) (seen : ℕ) (ls : List (List ℕ)) (rs : List Answered)
+    → AreAnswered (record { start = s; entries = es; pins = pins }) own seen ls rs → AreAnswered (record { start = s; entries = es ++ more; pins = pins }) own seen ls rs
+
+-- a line that gives no entry is replied to
+abbrev pub LooksReply : Type 0
+LooksReply = (start : Start) (old new : Session) (line : List ℕ) → HasLooked start old new line → HasReplied start old new line (look_reply start old new.pass line)
+
+-- and so is one that gives an entry
+abbrev pub ChangesReply : Type 0
+ChangesReply = (start : Start) (old new : Session) (before : List Event) (e : Entry) (line : List ℕ) → HasChanged start old new before e line → HasReplied start old new line (change_reply start old before e line)
+
+-- a new pass has answered no line
+abbrev pub NoneAnswered : Type 0
+NoneAnswered = (store : Store) (n : ℕ) → HasAnswered store.start (new_pass store n) (new_session (new_pass store n)) [] []
+
+-- a line more
+abbrev pub OneMoreAnswered : Type 0
+OneMoreAnswered = (start : Start) (old : Pass) (mid new : Session) (ls : List (List ℕ)) (rs : List Answered) (line : List ℕ) (r : Answered)
+    → HasAnswered start old mid ls rs → HasReplied start mid new line r → HasAnswered start old new (ls ++ line ∷ []) (rs ++ r ∷ [])
+
+-- ---- a store of one pass
+-- a look finds nothing that the pass had not seen
+abbrev pub OnePassSees : Type 0
+OnePassSees = (start : Start) (old new : Pass) → start.passes ≡ 1 → old.number < start.passes → AreEvents start new.seen → Sees old new → new ≡ old
+
+-- a change follows just what the pass had seen
+abbrev pub OnePassAdds : Type 0
+OnePassAdds = (start : Start) (old new : Pass) (before : List Event) (x : Event) → start.passes ≡ 1 → old.number < start.passes → AreEvents start new.seen → SeesOwn old new before x → before ≡ old.seen
+
+-- when the store is closed, its history is what the pass has seen
+abbrev pub OnePassCloses : Type 0
+OnePassCloses = (start : Start) (p : Pass) (entries : List Entry) (engine : Engine) → start.passes ≡ 1 → p.number < start.passes → (closed : IsClosed start (p ∷ []) entries engine) → closed.events ≡ p.seen
+
+-- a session answers as one by itself, pins and prunings included
+abbrev pub OneSessionIsAlone : Type 0
+OneSessionIsAlone = (store : Store) (now : Session) (ls : List (List ℕ)) (rs : List Answered) → store.start.passes ≡ 1 → store.start.state.count ≡ 0 → AreEvents store.start now.pass.seen
+    → HasAnswered store.start (new_pass store 0) now ls rs → AnswersAlone store.start.state now ls rs
+
+-- where the disk failed, the attempt is the entry that the line gives after these answers
+abbrev pub OneSessionTries : Type 0
+OneSessionTries = (store : Store) (mid last : Session) (ls : List (List ℕ)) (rs : List Answered) (line : List ℕ) → store.start.passes ≡ 1 → store.start.state.count ≡ 0 → AreEvents store.start last.pass.seen
+    → HasAnswered store.start (new_pass store 0) mid ls rs → IsTry store.start mid last line → IsTried (answers store.start.state ls) line (attempt_of last.pass.seen)
+
+-- no mark of an earlier call is met
+abbrev pub OneSessionIsNeverBroken : Type 0
+OneSessionIsNeverBroken = (store : Store) (mid last : Session) (ls : List (List ℕ)) (rs : List Answered) (line : List ℕ) → store.start.passes ≡ 1 → AreEvents store.start last.pass.seen
+    → HasAnswered store.start (new_pass store 0) mid ls rs → IsBroken mid last line → ⊥
+
+-- a whole run
+abbrev pub OneRunIsAlone : Type 0
+OneRunIsAlone = (store : Store) (e : End) (new : Pass) (rest rest' text text' : Option (List ℕ)) → store.start.passes ≡ 1 → store.start.state.count ≡ 0 → AreEvents store.start new.seen
+    → Ran e store.start (new_pass store 0) new rest rest' text text' → RanAlone e store.start.state new rest rest' text text'
+
+-- ---- a store that was closed
+-- its history explains all its sessions
+abbrev pub ClosedExplains : Type 0
+ClosedExplains = (store : Store) (ss : List Served) (wanted : List ℕ) (entries : List Entry) (engine : Engine) → store.start.passes ≡ length ss → IsClosed store.start (passes_of ss) entries engine
+    → AreServed store wanted 0 ss → ExplainsAnswers store.start.state entries (scripts_of ss) (replies_of ss) wanted
+
+-- where the disk failed in a session, there is an attempt, and it is that of the session's first line without a reply
+abbrev pub ClosedTries : Type 0
+ClosedTries = (store : Store) (before after : List Served) (s : Served) (wanted : List ℕ) (entries : List Entry) (engine : Engine) → store.start.passes ≡ length (before ++ s ∷ after)
+    → (closed : IsClosed store.start (passes_of (before ++ s ∷ after)) entries engine) → AreServed store wanted 0 (before ++ s ∷ after) → s.how ≡ end.DiskFault
+    → (e : Entry) × (attempt_of closed.events ≡ Some e) × IsAttempt (timeline_of store.start.state entries (scripts_of (before ++ s ∷ after))) (length before) s.script s.replies e
+
+-- where there is an attempt, the disk failed in the session of which it is
+abbrev pub ClosedBlames : Type 0
+ClosedBlames = (store : Store) (ss : List Served) (wanted : List ℕ) (entries : List Entry) (engine : Engine) (e : Entry) → store.start.passes ≡ length ss
+    → (closed : IsClosed store.start (passes_of ss) entries engine) → AreServed store wanted 0 ss → attempt_of closed.events ≡ Some e → FailedIn store.start.state entries ss e

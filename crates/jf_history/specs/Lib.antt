@@ -1,0 +1,5 @@
+pub mod Sessions
+pub mod Runs
+pub mod Alone
+pub mod Serving
+pub mod Laws

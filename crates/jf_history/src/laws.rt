@@ -1,0 +1,79 @@
+// Laws on sessions over passes, for proofs of code that stands on them. These functions do nothing when they run.
+ghost use Rattle.jf_history.specs.Laws.{AnswersStay, LooksReply, ChangesReply, NoneAnswered, OneMoreAnswered, OnePassSees, OnePassAdds, OnePassCloses, OneSessionIsAlone, OneSessionTries, OneSessionIsNeverBroken, OneRunIsAlone, ClosedExplains, ClosedTries, ClosedBlames};
+
+/// What was answered stays so where entries follow.
+pub fn answers_stay()
+    ensures { AnswersStay }
+{}
+
+/// A line that gives no entry, done over what the pass has then seen, is replied to.
+pub fn looks_reply()
+    ensures { LooksReply }
+{}
+
+/// A line that gives an entry, which is the pass's next event, is replied to.
+pub fn changes_reply()
+    ensures { ChangesReply }
+{}
+
+/// A new pass has answered no line.
+pub fn none_answered()
+    ensures { NoneAnswered }
+{}
+
+/// A session that has answered lines and then one more has answered all of them.
+pub fn one_more_answered()
+    ensures { OneMoreAnswered }
+{}
+
+/// On a store of one pass, a look finds nothing that the pass had not seen.
+pub fn one_pass_sees()
+    ensures { OnePassSees }
+{}
+
+/// On a store of one pass, a change follows just what the pass had seen.
+pub fn one_pass_adds()
+    ensures { OnePassAdds }
+{}
+
+/// When a store of one pass is closed, its history is what the pass has seen.
+pub fn one_pass_closes()
+    ensures { OnePassCloses }
+{}
+
+/// On a store of one pass, a session answers as one by itself.
+pub fn one_session_is_alone()
+    ensures { OneSessionIsAlone }
+{}
+
+/// If the disk failed on a store of one pass, the attempt is the entry that the line gives a session by itself.
+pub fn one_session_tries()
+    ensures { OneSessionTries }
+{}
+
+/// On a store of one pass, no session meets the mark of an earlier call.
+pub fn one_session_is_never_broken()
+    ensures { OneSessionIsNeverBroken }
+{}
+
+/// On a store of one pass, a whole run is that of a session by itself.
+pub fn one_run_is_alone()
+    ensures { OneRunIsAlone }
+{}
+
+/// The history of a store that was closed explains all its sessions.
+pub fn closed_explains()
+    ensures { ClosedExplains }
+{}
+
+/// If the disk failed in a session of a store that was closed, what was tried is the attempt of its first line without a
+/// reply.
+pub fn closed_tries()
+    ensures { ClosedTries }
+{}
+
+/// If something was tried on a store that was closed, the disk failed in one of its sessions, and it is that session's
+/// attempt.
+pub fn closed_blames()
+    ensures { ClosedBlames }
+{}
