@@ -1,5 +1,5 @@
--- What holds of every answer, whichever commands are built.
-use Rattle.std.specs.Prelude.{◌≡◌, Option, Some, None, Bool, true, false, cond, ℕ, List, IfSome, IsTrue}
+-- What holds of every answer.
+use Rattle.std.specs.Prelude.{◌≡◌, Option, Some, None, Bool, true, false, cond, ℕ, zero, suc, List, [], ◌∷◌, slice_set, IfSome, IsTrue}
 use Rattle.std.proofs.Common.{refl, ap, sym, ◌∙◌}
 use Rattle.std.specs.List.{AllByRecursion}
 use Rattle.jf_model.specs.States.{State}
@@ -12,10 +12,10 @@ use Rattle.jf_script.specs.declared.reply.Refusal.{Refusal}
 use Rattle.jf_script.specs.Commands.{command_of}
 use Rattle.jf_script.specs.declared.command.Command.TheVariants as command
 use Rattle.jf_script.specs.declared.reply.Reply.TheVariants as reply
-use Rattle.jf_answers.specs.Own.{Own}
-use Rattle.jf_answers.specs.Answers.{Answer, granted, replied, answer_to, answer, too_long}
-use Rattle.jf_answers.specs.Prunings.{retired_below, next_floor}
-use Rattle.jf_answers.specs.Refusals.{is_built, refused_by}
+use Rattle.jf_answers.specs.Own.{Own, free_place}
+use Rattle.jf_answers.specs.Answers.{Answer, granted, replied, answer_command, answer_to, answer, too_long, retired_below}
+use Rattle.jf_answers.specs.Prunings.{next_floor}
+use Rattle.jf_answers.specs.Refusals.{refused_by}
 use Rattle.jf_answers.specs.OwnLines.{pin_of_command, pin_of}
 
 -- versions are retired by `prune` alone, with the floor that the own pins let it have
@@ -44,28 +44,32 @@ pub record IsSoundAnswer (s : State) (own : Own) (a : Answer) : Type 0 where
   pub number : a.own.number ≡ own.number
 
 -- ---- single answers
-sound_done : (c : Command) (s : State) (own : Own) → IsSoundAnswer s own (granted c s own)
-sound_done (command.Put name value) s own = record { follows = refl; number = refl }
-sound_done (command.Del name) s own = record { follows = refl; number = refl }
-sound_done command.Commit s own = record { follows = record { state = refl; owned = refl; undated = refl; pruned_so = tt }; number = refl }
-sound_done (command.Fork on) s own = record { follows = refl; number = refl }
-sound_done (command.Land id) s own = record { follows = refl; number = refl }
-sound_done (command.Drop id) s own = record { follows = refl; number = refl }
-sound_done (command.Get on name) s own = record { follows = refl; number = refl }
-sound_done (command.Root on) s own = record { follows = refl; number = refl }
-sound_done (command.Prove on name) s own = record { follows = refl; number = refl }
-sound_done (command.Chunk on start count) s own = record { follows = refl; number = refl }
-sound_done (command.Count on) s own = record { follows = refl; number = refl }
-sound_done (command.Nth on place) s own = record { follows = refl; number = refl }
-sound_done (command.Pin version) s own = record { follows = refl; number = refl }
-sound_done (command.Unpin place) s own = record { follows = refl; number = refl }
-sound_done (command.Prune upto) s own = record { follows = refl; number = refl }
-sound_done command.Compact s own = record { follows = refl; number = refl }
-sound_done command.Status s own = record { follows = refl; number = refl }
+sound_granted : (c : Command) (s : State) (own : Own) → IsSoundAnswer s own (granted c s own)
+sound_granted (command.Put name value) s own = record { follows = refl; number = refl }
+sound_granted (command.Del name) s own = record { follows = refl; number = refl }
+sound_granted command.Commit s own = record { follows = record { state = refl; owned = refl; undated = refl; pruned_so = tt }; number = refl }
+sound_granted (command.Fork on) s own = record { follows = record { state = refl; owned = refl; undated = refl; pruned_so = tt }; number = refl }
+sound_granted (command.Land id) s own = record { follows = record { state = refl; owned = refl; undated = refl; pruned_so = tt }; number = refl }
+sound_granted (command.Drop id) s own = record { follows = record { state = refl; owned = refl; undated = refl; pruned_so = tt }; number = refl }
+sound_granted (command.Get on name) s own = record { follows = refl; number = refl }
+sound_granted (command.Root on) s own = record { follows = refl; number = refl }
+sound_granted (command.Prove on name) s own = record { follows = refl; number = refl }
+sound_granted (command.Chunk on start count) s own = record { follows = refl; number = refl }
+sound_granted (command.Count on) s own = record { follows = refl; number = refl }
+sound_granted (command.Nth on place) s own = record { follows = refl; number = refl }
+sound_granted (command.Pin version) s own = record { follows = refl; number = refl }
+sound_granted (command.Unpin place) s own = record { follows = refl; number = refl }
+sound_granted (command.Prune upto) s own = record { follows = record { state = refl; owned = refl; undated = refl; pruned_so = refl }; number = refl }
+sound_granted command.Compact s own = record { follows = record { state = refl; owned = refl; undated = refl; pruned_so = tt }; number = refl }
+sound_granted command.Status s own = record { follows = refl; number = refl }
 
 sound_command : (o : Option Refusal) (c : Command) (s : State) (own : Own) → IsSoundAnswer s own (elim o as (λ x. Answer) [ Some why ↦ replied (reply.No why) s own | None ↦ granted c s own ])
-sound_command None c s own = sound_done c s own
+sound_command None c s own = sound_granted c s own
 sound_command (Some why) c s own = record { follows = refl; number = refl }
+
+-- an answer to a command is sound
+pub answer_command-IsSoundAnswer : (c : Command) (s : State) (own : Own) → IsSoundAnswer s own (answer_command s own c)
+answer_command-IsSoundAnswer c s own = sound_command (refused_by s own c) c s own
 
 sound_if : (s : State) (own : Own) (b : Bool) (x y : Answer) → IsSoundAnswer s own x → IsSoundAnswer s own y → IsSoundAnswer s own (cond b x y)
 sound_if s own true x y h k = h
@@ -73,7 +77,7 @@ sound_if s own false x y h k = k
 
 sound_to : (o : Option Command) (s : State) (own : Own) → IsSoundAnswer s own (answer_to o s own)
 sound_to None s own = record { follows = refl; number = refl }
-sound_to (Some c) s own = sound_if s own (is_built c) _ _ (sound_command (refused_by s own c) c s own) (record { follows = refl; number = refl })
+sound_to (Some c) s own = answer_command-IsSoundAnswer c s own
 
 pub answer-IsSoundAnswer : (s : State) (own : Own) (line : List ℕ) → IsSoundAnswer s own (answer s own line)
 unfolding answer
@@ -88,29 +92,34 @@ retired_below-IsSoundAnswer upto s own = record { follows = record { state = ref
 abbrev pub EachPin : (ℕ → Type 0) → Own → Type 0
 EachPin P own = AllByRecursion (λ pin. IfSome pin P) own.pins
 
+pub all_set : {X : Type 0} (Q : X → Type 0) (xs : List X) (i : ℕ) (x : X) → AllByRecursion Q xs → Q x → AllByRecursion Q (slice_set xs i x)
+all_set Q [] i x h q = tt
+all_set Q (y ∷ ys) zero x h q = (q, h.1)
+all_set Q (y ∷ ys) (suc i) x h q = (h.0, all_set Q ys i x h.1 q)
+
 module _ (P : ℕ → Type 0) where
-  pins_done : (c : Command) (s : State) (own : Own) → IfSome (pin_of_command (Some c)) P → EachPin P own → EachPin P (granted c s own).own
-  pins_done (command.Put name value) s own named h = h
-  pins_done (command.Del name) s own named h = h
-  pins_done command.Commit s own named h = h
-  pins_done (command.Fork on) s own named h = h
-  pins_done (command.Land id) s own named h = h
-  pins_done (command.Drop id) s own named h = h
-  pins_done (command.Get on name) s own named h = h
-  pins_done (command.Root on) s own named h = h
-  pins_done (command.Prove on name) s own named h = h
-  pins_done (command.Chunk on start count) s own named h = h
-  pins_done (command.Count on) s own named h = h
-  pins_done (command.Nth on place) s own named h = h
-  pins_done (command.Pin version) s own named h = h
-  pins_done (command.Unpin place) s own named h = h
-  pins_done (command.Prune upto) s own named h = h
-  pins_done command.Compact s own named h = h
-  pins_done command.Status s own named h = h
+  pins_granted : (c : Command) (s : State) (own : Own) → IfSome (pin_of_command (Some c)) P → EachPin P own → EachPin P (granted c s own).own
+  pins_granted (command.Put name value) s own named h = h
+  pins_granted (command.Del name) s own named h = h
+  pins_granted command.Commit s own named h = h
+  pins_granted (command.Fork on) s own named h = h
+  pins_granted (command.Land id) s own named h = h
+  pins_granted (command.Drop id) s own named h = h
+  pins_granted (command.Get on name) s own named h = h
+  pins_granted (command.Root on) s own named h = h
+  pins_granted (command.Prove on name) s own named h = h
+  pins_granted (command.Chunk on start count) s own named h = h
+  pins_granted (command.Count on) s own named h = h
+  pins_granted (command.Nth on place) s own named h = h
+  pins_granted (command.Pin version) s own named h = all_set (λ pin. IfSome pin P) own.pins (free_place own) (Some version) h named
+  pins_granted (command.Unpin place) s own named h = all_set (λ pin. IfSome pin P) own.pins place None h tt
+  pins_granted (command.Prune upto) s own named h = h
+  pins_granted command.Compact s own named h = h
+  pins_granted command.Status s own named h = h
 
   pins_command : (o : Option Refusal) (c : Command) (s : State) (own : Own) → IfSome (pin_of_command (Some c)) P → EachPin P own
       → EachPin P (elim o as (λ x. Answer) [ Some why ↦ replied (reply.No why) s own | None ↦ granted c s own ]).own
-  pins_command None c s own named h = pins_done c s own named h
+  pins_command None c s own named h = pins_granted c s own named h
   pins_command (Some why) c s own named h = h
 
   pins_if : (b : Bool) (x y : Answer) → EachPin P x.own → EachPin P y.own → EachPin P (cond b x y).own
@@ -119,7 +128,7 @@ module _ (P : ℕ → Type 0) where
 
   pins_to : (o : Option Command) (s : State) (own : Own) → IfSome (pin_of_command o) P → EachPin P own → EachPin P (answer_to o s own).own
   pins_to None s own named h = h
-  pins_to (Some c) s own named h = pins_if (is_built c) _ _ (pins_command (refused_by s own c) c s own named h) h
+  pins_to (Some c) s own named h = pins_command (refused_by s own c) c s own named h
 
   pins_line : (long : Bool) (o : Option Command) (s : State) (own : Own) (x : Answer) → IfSome (cond long None (pin_of_command o)) P → EachPin P own → EachPin P x.own
       → EachPin P (cond long x (answer_to o s own)).own

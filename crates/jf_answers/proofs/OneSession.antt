@@ -11,9 +11,9 @@ use Rattle.jf_model.specs.declared.entries.Entry.{Entry}
 use Rattle.jf_model.specs.declared.entries.Entry.TheVariants as entry
 use Rattle.jf_answers.specs.Own.{Own, begun_session}
 use Rattle.jf_answers.specs.OwnLines.{pin_of}
-use Rattle.jf_answers.specs.Answers.{Answer, answer}
+use Rattle.jf_answers.specs.Answers.{Answer, answer, retired_below}
 use Rattle.jf_answers.proofs.AnswerLaws.{IsPruned, IsOf, Follows, EachPin, answer-IsSoundAnswer, answer-EachPin}
-use Rattle.jf_answers.specs.Prunings.{retired_below, next_floor}
+use Rattle.jf_answers.specs.Prunings.{next_floor}
 use Rattle.jf_answers.specs.Runs.{Run, answers_from, answers, answer_text, text_of, run_entries}
 use Rattle.jf_answers.specs.Explains.{Timeline, IsAmong, state_after, answered_with_floor, answer_with, floor_in, HasFloor, Answered, Looks, Changes, AreAnswered, text_in, places_told, places_owned, timeline_of, Explains}
 use Rattle.jf_answers.specs.Laws.{OneSessionExplainsItself, OneSessionExplainsAll}

@@ -1,5 +1,5 @@
 -- Worked histories: the definitions on small inputs.
-use Rattle.std.specs.Prelude.{ℕ, List, [], ◌≡◌, ◌-◌, Bool, true, false, ◌∷◌, None, refl, ◌^◌, nat_le, nat_lt, Some, codes, ◌++◌}
+use Rattle.std.specs.Prelude.{ℕ, List, [], ◌≡◌, ◌+◌, ◌-◌, Bool, true, false, ◌∷◌, None, refl, ◌^◌, nat_le, nat_lt, Some, codes, ◌++◌}
 use Rattle.std.proofs.Common.{sym, ap, subst, arith, inl, inr}
 use Rattle.std.specs.FinMap.{len-empty}
 use Rattle.std.specs.FinMap as fin
@@ -53,13 +53,13 @@ none_refuses false true c few low small = absurd (cc)
 none_refuses false false true few low small = absurd (cc)
 
 -- the answer to `commit` over a map without entries
-commit_done : (s : State) (own : Own) → nat_le (2 ^ 62) s.count ≡ false → nat_le (2 ^ 64 - 2) s.all.head ≡ false → fin.len (newest s.all) ≡ 0 → answer s own (codes "commit") ≡ committed s own
+commit_done : (s : State) (own : Own) → nat_le (2 ^ 62) s.count ≡ false → nat_lt (2 ^ 64 - 2) (s.all.head + 1) ≡ false → fin.len (newest s.all) ≡ 0 → answer s own (codes "commit") ≡ committed s own
 unfolding answer command_of base_of words number unhex digits refused_by
 commit_done s own few low none =
-    let free = none_refuses (nat_le (2 ^ 62) s.count) (nat_le (2 ^ 64 - 2) s.all.head) (nat_lt (2 ^ 62) (fin.len (newest s.all))) few low (ap (λ n. nat_lt (2 ^ 62) n) none) in
+    let free = none_refuses (nat_le (2 ^ 62) s.count) (nat_lt (2 ^ 64 - 2) (s.all.head + 1)) (nat_lt (2 ^ 62) (fin.len (newest s.all))) few low (ap (λ n. nat_lt (2 ^ 62) n) none) in
     subst (λ o. elim o as (λ x. Answer) [ Some why ↦ replied (reply.No why) s own | None ↦ committed s own ] ≡ committed s own) (sym free) refl
 
-pub commit_gives : (s : State) (own : Own) → nat_le (2 ^ 62) s.count ≡ false → nat_le (2 ^ 64 - 2) s.all.head ≡ false → fin.len (newest s.all) ≡ 0 → answer_with 0 s own (codes "commit") ≡ committed s own
+pub commit_gives : (s : State) (own : Own) → nat_le (2 ^ 62) s.count ≡ false → nat_lt (2 ^ 64 - 2) (s.all.head + 1) ≡ false → fin.len (newest s.all) ≡ 0 → answer_with 0 s own (codes "commit") ≡ committed s own
 commit_gives s own few low none = ap (λ (a : Answer). answered_with_floor 0 s own a a.entry) (commit_done s own few low none)
 
 first_legal : IsLegal start first

@@ -1,28 +1,32 @@
 -- The answer to a line: its reply, and what the line changes.
-use Rattle.std.specs.Prelude.{ℕ, List, Option, [], None, Some, length, ◌+◌, if◌then◌else◌}
-use Rattle.std.specs.FinMap.{put, get}
+use Rattle.std.specs.Prelude.{ℕ, List, Option, [], None, Some, length, ◌+◌, if◌then◌else◌, unwrap_or, slice_index_or}
+use Rattle.std.specs.FinMap.{put, get, len, entries}
 use Rattle.jf_path.specs.Keys.{key_cmp}
 use Rattle.jf_hash.specs.Hashes.{K}
 use Rattle.jf_hash.specs.Maps.{apply, Map}
 use Rattle.jf_hash.specs.Roots.{root}
-use Rattle.jf_model.specs.States.{State}
+use Rattle.jf_model.specs.States.{State, versions}
 use Rattle.jf_model.specs.declared.entries.Entry.{Entry}
-use Rattle.jf_model.specs.Entries.{after}
+use Rattle.jf_model.specs.Entries.{after, landed_batches}
 use Rattle.jf_model.specs.Versions.{newest}
+use Rattle.jf_model.specs.Forks.{parent_map, fork_map, drop_count}
+use Rattle.jf_model.specs.Nodes.{kept_nodes}
 use Rattle.jf_model.specs.declared.entries.Entry.TheVariants as entry
 use Rattle.jf_model.specs.declared.entries.Landing.TheVariants as landing
 use Rattle.jf_evidence.specs.Proofs.{honest}
 use Rattle.jf_evidence.specs.Ranges.{chunk_entries, honest_chunk}
 use Rattle.jf_text.specs.Words.{is_long}
 use Rattle.jf_script.specs.declared.reply.Reply.{Reply}
+use Rattle.jf_script.specs.declared.command.Base.{Base}
 use Rattle.jf_script.specs.declared.command.Command.{Command}
 use Rattle.jf_script.specs.Commands.{command_of}
 use Rattle.jf_script.specs.declared.reply.Reply.TheVariants as reply
 use Rattle.jf_script.specs.declared.reply.Refusal.TheVariants as refusal
 use Rattle.jf_script.specs.declared.command.Command.TheVariants as command
 use Rattle.jf_blocks.specs.Blocks.{proof_lines, chunk_lines}
-use Rattle.jf_answers.specs.Own.{Own, with_pending}
-use Rattle.jf_answers.specs.Refusals.{base_map, refused_by, is_built}
+use Rattle.jf_answers.specs.Own.{Own, pinned, free_place, with_pending, with_pin}
+use Rattle.jf_answers.specs.Prunings.{next_floor}
+use Rattle.jf_answers.specs.Refusals.{base_map, parent_named, refused_by}
 
 -- the reply, the lines of its block, the entry that the line makes, if any, and the state and own part after the line
 pub record Answer : Type 0 where
@@ -40,7 +44,7 @@ replied r s own = record { reply = r; block = []; entry = None; state = s; own =
 abbrev pub entered : Reply → Entry → State → Own → Answer
 entered r e s own = record { reply = r; block = []; entry = Some e; state = after e s; own = own }
 
--- the answer to a line that is no command, or is a command that isn't built
+-- the answer to a line that is no command
 abbrev pub not_read : State → Own → Answer
 not_read s own = replied (reply.No refusal.Syntax) s own
 
@@ -48,7 +52,7 @@ not_read s own = replied (reply.No refusal.Syntax) s own
 abbrev pub too_long : State → Own → Answer
 too_long s own = replied (reply.No refusal.Long) s own
 
--- ---- commands that are done
+-- ---- commands that are granted
 -- the pending batch gets a value, or a removal, at the key of a name
 abbrev pub pending_changed : List ℕ → Option (List ℕ) → State → Own → Answer
 pending_changed name value s own =
@@ -60,6 +64,23 @@ abbrev pub committed : State → Own → Answer
 committed s own =
     let r = root (apply (newest s.all) own.pending) in
     entered (reply.Commit (s.all.head + 1) r) (entry.Landed own.number (s.all.head + 1) (landing.Direct own.pending) r 0) s (with_pending [] own)
+
+-- a fork of the pending batch is made on a parent
+abbrev pub forked : Base → State → Own → Answer
+forked on s own =
+    let r = root (apply (parent_map (newest s.all) s.forks (parent_named on)) own.pending) in
+    entered (reply.Fork s.made r) (entry.Made own.number s.made (parent_named on) own.pending r) s (with_pending [] own)
+
+-- a fork is landed with its ancestors, one version each; the reply has the last of them
+abbrev pub fork_landed : ℕ → State → Own → Answer
+fork_landed id s own =
+    let version = s.all.head + length (landed_batches s (landing.Fork id)) in
+    let r = root (fork_map (newest s.all) s.forks id) in
+    entered (reply.Land version r) (entry.Landed own.number version (landing.Fork id) r 0) s own
+
+-- a fork is dropped with all forks that stand on it; the reply has their number
+abbrev pub fork_dropped : ℕ → State → Own → Answer
+fork_dropped id s own = entered (reply.Drop (drop_count id s.forks)) (entry.Dropped own.number id) s own
 
 -- the reply with the number of siblings, and a block: what a map says of a name, with the honest proof of it
 abbrev pub proved : Map → List ℕ → State → Own → Answer
@@ -74,34 +95,64 @@ chunked m start count s own =
     let proof = honest_chunk m start count in
     record { reply = reply.Chunk (length es) proof.depth (length proof.siblings); block = chunk_lines es proof; entry = None; state = s; own = own }
 
+-- the entry of a map at a place, counted from 0 in the order of the keys
+abbrev pub entry_at : Map → ℕ → List ℕ × List ℕ
+entry_at m place = slice_index_or (entries m) place ([], [])
+
+-- the reply with the key and the value at a place of a map
+abbrev pub entry_told : Map → ℕ → State → Own → Answer
+entry_told m place s own =
+    let e = entry_at m place in
+    replied (reply.Nth e.0 e.1) s own
+
+-- a version is pinned at the least free place
+abbrev pub version_pinned : ℕ → State → Own → Answer
+version_pinned version s own = replied (reply.Pin (free_place own)) s (with_pin (free_place own) (Some version) own)
+
+-- a place is free again; the reply has the version that was pinned there
+abbrev pub place_freed : ℕ → State → Own → Answer
+place_freed place s own = replied (reply.Unpin (unwrap_or (pinned own place) 0)) s (with_pin place None own)
+
+-- the versions below a bound are retired, and the floor becomes this one
+abbrev pub retired_below : ℕ → ℕ → State → Own → Answer
+retired_below upto floor s own = entered (reply.Prune upto floor) (entry.Retired own.number upto floor) s own
+
+-- a new generation is written
+abbrev pub compacted : State → Own → Answer
+compacted s own = entered (reply.Compact (s.generation + 1)) (entry.Compacted own.number (s.generation + 1)) s own
+
+-- the numbers of a store: its base, floor, retired bound and head, the nodes that it keeps, its live forks and its generation
+abbrev pub status_reply : State → Reply
+status_reply s = reply.Status s.all.base s.floor s.retired s.all.head (kept_nodes (versions s)) (length s.forks) s.generation
+
 -- the answer to a command that nothing refuses
 abbrev pub granted : Command → State → Own → Answer
 granted (command.Put name value) s own = pending_changed name (Some value) s own
 granted (command.Del name) s own = pending_changed name None s own
 granted command.Commit s own = committed s own
-granted (command.Fork on) s own = not_read s own
-granted (command.Land id) s own = not_read s own
-granted (command.Drop id) s own = not_read s own
+granted (command.Fork on) s own = forked on s own
+granted (command.Land id) s own = fork_landed id s own
+granted (command.Drop id) s own = fork_dropped id s own
 granted (command.Get on name) s own = replied (reply.Value (get (base_map s own on) (K name))) s own
 granted (command.Root on) s own = replied (reply.Root (root (base_map s own on))) s own
 granted (command.Prove on name) s own = proved (base_map s own on) name s own
 granted (command.Chunk on start count) s own = chunked (base_map s own on) start count s own
-granted (command.Count on) s own = not_read s own
-granted (command.Nth on place) s own = not_read s own
-granted (command.Pin version) s own = not_read s own
-granted (command.Unpin place) s own = not_read s own
-granted (command.Prune upto) s own = not_read s own
-granted command.Compact s own = not_read s own
-granted command.Status s own = not_read s own
+granted (command.Count on) s own = replied (reply.Count (len (base_map s own on))) s own
+granted (command.Nth on place) s own = entry_told (base_map s own on) place s own
+granted (command.Pin version) s own = version_pinned version s own
+granted (command.Unpin place) s own = place_freed place s own
+granted (command.Prune upto) s own = retired_below upto (next_floor upto s own) s own
+granted command.Compact s own = compacted s own
+granted command.Status s own = replied (status_reply s) s own
 
 -- the answer to a command: the first refusal, which changes nothing, or otherwise what the command does
 abbrev pub answer_command : State → Own → Command → Answer
 answer_command s own c = elim (refused_by s own c) [ Some why ↦ replied (reply.No why) s own | None ↦ granted c s own ]
 
--- the answer to a line's command; a command that isn't built gets the answer of a line outside the grammar
+-- the answer to a line's command, if it is one
 abbrev pub answer_to : Option Command → State → Own → Answer
 answer_to None s own = not_read s own
-answer_to (Some c) s own = if is_built c then answer_command s own c else not_read s own
+answer_to (Some c) s own = answer_command s own c
 
 -- the answer to a line
 unfoldable pub answer : State → Own → List ℕ → Answer

@@ -7,8 +7,7 @@ use Rattle.jf_model.specs.Entries.{replay, timeless, owner_of, IsHistory}
 use Rattle.jf_model.specs.declared.entries.Entry.TheVariants as entry
 use Rattle.jf_answers.specs.OwnLines.{pin_of, is_own_line}
 use Rattle.jf_answers.specs.Own.{Own, begun_session}
-use Rattle.jf_answers.specs.Answers.{Answer, answer}
-use Rattle.jf_answers.specs.Prunings.{retired_below}
+use Rattle.jf_answers.specs.Answers.{Answer, answer, retired_below}
 use Rattle.jf_answers.specs.Runs.{answer_text}
 
 -- the number is one of the list

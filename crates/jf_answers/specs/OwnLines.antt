@@ -1,12 +1,11 @@
 -- The lines to which a session replies without a look at the store, and the versions that lines ask to pin.
-use Rattle.std.specs.Prelude.{ℕ, Bool, true, false, not, ◌||◌, if◌then◌else◌, List, Option, Some, None}
+use Rattle.std.specs.Prelude.{ℕ, Bool, true, false, ◌||◌, if◌then◌else◌, List, Option, Some, None}
 use Rattle.jf_text.specs.Words.{is_long}
 use Rattle.jf_script.specs.Commands.{command_of}
 use Rattle.jf_script.specs.declared.command.Base.{Base}
 use Rattle.jf_script.specs.declared.command.Base.TheVariants as base
 use Rattle.jf_script.specs.declared.command.Command.{Command}
 use Rattle.jf_script.specs.declared.command.Command.TheVariants as command
-use Rattle.jf_answers.specs.Refusals.{is_built}
 
 -- a place at which the session pins a version
 abbrev pub is_place : Base → Bool
@@ -35,10 +34,10 @@ is_own_command (command.Prune upto) = false
 is_own_command command.Compact = false
 is_own_command command.Status = false
 
--- a line asks nothing of the store also if it is no command, or a command that isn't built
+-- a line asks nothing of the store also if it is no command
 abbrev pub is_own : Option Command → Bool
 is_own None = true
-is_own (Some c) = not (is_built c) || is_own_command c
+is_own (Some c) = is_own_command c
 
 -- a line whose answer needs no look at the store; one of more than 8,500 bytes is such a line
 unfoldable pub is_own_line : List ℕ → Bool

@@ -1,10 +1,7 @@
--- The answer to `prune`, by the floor that it gets.
+-- The floor that a `prune` gets.
 use Rattle.std.specs.Prelude.{ℕ, min, List, [], ◌∷◌, Option, Some, None, max}
 use Rattle.jf_model.specs.States.{State}
-use Rattle.jf_model.specs.declared.entries.Entry.TheVariants as entry
-use Rattle.jf_script.specs.declared.reply.Reply.TheVariants as reply
 use Rattle.jf_answers.specs.Own.{Own}
-use Rattle.jf_answers.specs.Answers.{Answer, entered}
 
 -- the least of a number and the versions pinned
 abbrev pub below_pins : ℕ → List (Option ℕ) → ℕ
@@ -15,7 +12,3 @@ below_pins upto (Some version ∷ pins) = below_pins (min upto version) pins
 -- the floor after a `prune`, which rises as far as the own pins let it
 abbrev pub next_floor : ℕ → State → Own → ℕ
 next_floor upto s own = max s.floor (below_pins upto own.pins)
-
--- the answer that retires the versions below a bound, with this floor
-abbrev pub retired_below : ℕ → ℕ → State → Own → Answer
-retired_below upto floor s own = entered (reply.Prune upto floor) (entry.Retired own.number upto floor) s own

@@ -4,4 +4,7 @@
 
 mod laws;
 
-pub use laws::{one_session_explains_all, one_session_explains_itself};
+pub use laws::{
+    answers_are_legal, entry_spares_pins, floor_spares_pins, one_session_explains_all,
+    one_session_explains_itself, runs_are_legal,
+};

@@ -11,7 +11,7 @@ use std::test::Fail;
 use std::thread::Threads;
 
 // Maps of no entry; of one, and of one more in the next version; of two whose keys agree in one bit; of six, of which
-// two agree in the first nibble; of two that agree in three nibbles; and lines outside the grammar.
+// two agree in the first nibble; of two that agree in three nibbles; and lines that are refused.
 const ROWS: &[(&str, &str)] = &[
     ("chunk head 0 1\n", "0 no range 0\n"),
     (
@@ -126,7 +126,7 @@ const ROWS: &[(&str, &str)] = &[
          0 no syntax\n\
          0 no syntax\n\
          0 no syntax\n\
-         0 no syntax\n\
+         0 no nopin\n\
          0 no syntax\n",
     ),
 ];

@@ -14,7 +14,7 @@ use Rattle.jf_engine.specs.Engines.{Engine}
 use Rattle.jf_turn.proofs.Lists.{has_append, has_cons, starts_self}
 use Rattle.jf_store.specs.declared.event.Event.{Event}
 use Rattle.jf_store.specs.declared.event.Event.TheVariants.{Done, Mark}
-use Rattle.jf_store.specs.Events.{named_by, entries_of, attempt_of, is_marked}
+use Rattle.jf_store.specs.Events.{pass_named_by, entries_of, attempt_of, is_marked}
 use Rattle.jf_store.specs.Starts.{Start}
 use Rattle.jf_store.specs.Ledgers.{MarkIsLast, state_behind}
 use Rattle.jf_store.specs.Floors.{IsMet, AreMet}
@@ -234,7 +234,7 @@ sessions_of store events wanted pins met n (s ∷ ss) h seen others = (
   sessions_of store events wanted pins met (n + 1) ss h.1 (λ p has. seen p (suc has.0, has.1)) (λ p has. others p (suc has.0, has.1)),
 )
 
-owners_of : (bound : ℕ) (events : List Event) → AllByRecursion (λ x. named_by x < bound) events → AllByRecursion (λ e. owner_of e < bound) (entries_of events)
+owners_of : (bound : ℕ) (events : List Event) → AllByRecursion (λ x. pass_named_by x < bound) events → AllByRecursion (λ e. owner_of e < bound) (entries_of events)
 owners_of bound [] h = tt
 owners_of bound (Done e ∷ xs) h = (h.0, owners_of bound xs h.1)
 owners_of bound (Mark pass e ∷ xs) h = owners_of bound xs h.1
@@ -313,13 +313,13 @@ closed_tries store before after s wanted entries engine passes closed served fau
 
 -- ---- whose attempt it is
 
-others_rest : (p : Pass) (events : List Event) (begins : StartsWith events p.seen) → OthersAlone p events → (x : Event) → HasElement begins.0 x → named_by x ≡ p.number → ⊥
+others_rest : (p : Pass) (events : List Event) (begins : StartsWith events p.seen) → OthersAlone p events → (x : Event) → HasElement begins.0 x → pass_named_by x ≡ p.number → ⊥
 others_rest p events begins others x there named =
     let after : drop (length p.seen) events ≡ begins.0 = ap (drop (length p.seen)) begins.1 ∙ drop-append_seam p.seen begins.0 in
     others x (subst (λ (xs : List Event). HasElement xs x) (sym after) there) named
 
 -- an event that names the pass is one that it has seen
-own_seen : (p : Pass) (events : List Event) (begins : StartsWith events p.seen) → OthersAlone p events → (x : Event) → HasElement events x → named_by x ≡ p.number → HasElement p.seen x
+own_seen : (p : Pass) (events : List Event) (begins : StartsWith events p.seen) → OthersAlone p events → (x : Event) → HasElement events x → pass_named_by x ≡ p.number → HasElement p.seen x
 own_seen p events begins others x there named = elim (has_append p.seen begins.0 x (subst (λ (xs : List Event). HasElement xs x) begins.1 there)) as (λ o. HasElement p.seen x) [
   | inl seen ↦ seen
   | inr later ↦ absurd (others_rest p events begins others x later named)
@@ -368,10 +368,10 @@ mark_of [] e is = absurd (cc)
 mark_of (Done x ∷ xs) e is = let r = mark_of xs e is in (r.0, (suc r.1.0, r.1.1))
 mark_of (Mark pass x ∷ xs) e is = let same : x ≡ e = cc in (pass, (0, ap (λ y. some (Mark pass y)) same))
 
-named_at_most : (bound : ℕ) (xs : List Event) (x : Event) → AllByRecursion (λ y. named_by y < bound) xs → HasElement xs x → named_by x < bound
+named_at_most : (bound : ℕ) (xs : List Event) (x : Event) → AllByRecursion (λ y. pass_named_by y < bound) xs → HasElement xs x → pass_named_by x < bound
 named_at_most bound [] x h there = absurd (some-ne-none x (sym there.1))
-named_at_most bound (y ∷ xs) x h there = elim (has_cons y xs x there) as (λ o. named_by x < bound) [
-  | inl same ↦ subst (λ (z : Event). named_by z < bound) same h.0
+named_at_most bound (y ∷ xs) x h there = elim (has_cons y xs x there) as (λ o. pass_named_by x < bound) [
+  | inl same ↦ subst (λ (z : Event). pass_named_by z < bound) same h.0
   | inr later ↦ named_at_most bound xs x h.1 later
 ]
 

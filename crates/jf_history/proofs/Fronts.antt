@@ -13,7 +13,7 @@ use Rattle.jf_store.specs.Starts.{Start}
 use Rattle.jf_store.specs.Floors.{AreMet}
 use Rattle.jf_answers.specs.Own.{Own}
 use Rattle.jf_answers.specs.Explains.{Timeline, Answered, IsAnswered, AreAnswered, own_after_replies, seen_after_replies, places_told, places_owned}
-use Rattle.jf_history.specs.Sessions.{HeldFloor, place_of}
+use Rattle.jf_history.specs.Sessions.{HeldFloor, entry_place}
 use Rattle.jf_history.specs.Runs.{AreHeld}
 
 -- ---- events
@@ -46,9 +46,9 @@ AreAnswered-push h own seen (l ∷ ls) [] line r same a one = absurd (omega arit
 AreAnswered-push h own seen [] (x ∷ rs) line r same a one = absurd a
 AreAnswered-push h own seen (l ∷ ls) (x ∷ rs) line r same a one = (a.0, AreAnswered-push h x.own x.number ls rs line r (omega arith) a.1 one)
 
-pub places_told-push : (rs : List Answered) (r : Answered) → places_told (rs ++ r ∷ []) ≡ places_told rs ++ place_of r
+pub places_told-push : (rs : List Answered) (r : Answered) → places_told (rs ++ r ∷ []) ≡ places_told rs ++ entry_place r
 places_told-push [] r = refl
-places_told-push (x ∷ rs) r = elim (is_some x.entry) as (λ b. cond b (x.number ∷ places_told (rs ++ r ∷ [])) (places_told (rs ++ r ∷ [])) ≡ cond b (x.number ∷ places_told rs) (places_told rs) ++ place_of r) [
+places_told-push (x ∷ rs) r = elim (is_some x.entry) as (λ b. cond b (x.number ∷ places_told (rs ++ r ∷ [])) (places_told (rs ++ r ∷ [])) ≡ cond b (x.number ∷ places_told rs) (places_told rs) ++ entry_place r) [
   | true ↦ ap (λ t. x.number ∷ t) (places_told-push rs r)
   | false ↦ places_told-push rs r
 ]
@@ -118,7 +118,7 @@ pub record AnswersAt (h : Timeline) (own : Own) (seen n : ℕ) (ls : List (List 
   pub reply : Answered
   pub line_at : slice_get ls n ≡ Some line
   pub answers : IsAnswered h (own_after_replies own (take n rs)) (seen_after_replies seen (take n rs)) line reply
-  pub places : AllByRecursion (λ r. r.entry ≡ None) (drop (n + 1) rs) → places_told rs ≡ places_told (take n rs) ++ place_of reply
+  pub places : AllByRecursion (λ r. r.entry ≡ None) (drop (n + 1) rs) → places_told rs ≡ places_told (take n rs) ++ entry_place reply
 
 pub answers-at : (h : Timeline) (own : Own) (seen n : ℕ) (ls : List (List ℕ)) (rs : List Answered) → AreAnswered h own seen ls rs → n < length rs → AnswersAt h own seen n ls rs
 answers-at h own seen n ls [] a lt = absurd (omega arith)
@@ -138,5 +138,5 @@ answers-at h own seen (suc n) (line ∷ ls) (r ∷ rs) a lt =
       reply = m.reply;
       line_at = m.line_at;
       answers = m.answers;
-      places = λ quiet. told_more (is_some r.entry) r.number (places_told rs) (places_told (take n rs)) (place_of m.reply) (m.places (subst (λ k. AllByRecursion (λ x. x.entry ≡ None) (drop k (r ∷ rs))) next quiet));
+      places = λ quiet. told_more (is_some r.entry) r.number (places_told rs) (places_told (take n rs)) (entry_place m.reply) (m.places (subst (λ k. AllByRecursion (λ x. x.entry ≡ None) (drop k (r ∷ rs))) next quiet));
     }

@@ -16,8 +16,8 @@ use Rattle.jf_store.specs.Starts.{Start}
 use Rattle.jf_store.specs.Ledgers.{AreEvents, MarkIsLast, state_behind}
 use Rattle.jf_store.specs.Floors.{IsMet, AreMet}
 use Rattle.jf_answers.specs.Own.{Own}
-use Rattle.jf_answers.specs.Answers.{Answer, answer}
-use Rattle.jf_answers.specs.Prunings.{below_pins, next_floor, retired_below}
+use Rattle.jf_answers.specs.Answers.{Answer, answer, retired_below}
+use Rattle.jf_answers.specs.Prunings.{below_pins, next_floor}
 use Rattle.jf_answers.proofs.AnswerLaws.{Follows, answer-IsSoundAnswer}
 use Rattle.jf_answers.proofs.Pins.{below-le}
 use Rattle.jf_answers.specs.Explains.{Timeline, IsAmong, GivesEntry, HasFloor, answer_with, answered_with_floor, floor_in}

@@ -133,7 +133,7 @@ module _ (store : Store) (new : Pass) (rest rest' text text' : Option (List ℕ)
 
   ran_cut : (e : End) → ((taken left : List ℕ) (ls : List (List ℕ)) → ReadsBy e taken left ls) → (r : Ran e store.start (new_pass store 0) new rest rest' text text') → new.seen ≡ r.mid.pass.seen → (c : IsCut r.replies r.writes.text)
       → (IsCutAnswer store.start.state (take c.count r.done) r.writes.text → WritesAlone e store.start.state (take c.count r.done) r.writes.text)
-      → (attempt_of new.seen ≡ None → TriesAlone e (answers store.start.state (take c.count r.done)) None (attempt_of new.seen)) → RanAlone e store.start.state new rest rest' text text'
+      → (attempt_of new.seen ≡ None → TriesAlone e (answers store.start.state (take c.count r.done)) None (attempt_of new.seen)) → RanAlone e store.start.state (seen_by new) (attempt_of new.seen) rest rest' text text'
   ran_cut e far r same c writes tries =
       let are' = subst (AreEvents store.start) same are in
       let g = subst (λ (xs : List Event). Agrees store.start.state (begun_session 0) (take c.count r.done) (take c.count r.replies) (entries_of xs)) (sym same)
@@ -141,7 +141,7 @@ module _ (store : Store) (new : Pass) (rest rest' text text' : Option (List ℕ)
       record {
         done = take c.count r.done;
         next = None;
-        entries = g.entries;
+        entries_are = g.entries;
         state = g.state;
         tried = tries (ran_still e r same).1;
         written = r.writes.text;
@@ -157,11 +157,11 @@ pub one_run_is_alone : OneRunIsAlone
 one_run_is_alone store end.Done new rest rest' text text' one none are r =
     let same : new.seen ≡ r.mid.pass.seen = ap (λ (p : Pass). p.seen) r.pass_is ∙ ap (λ (s : Session). s.pass.seen) r.ends.0 in
     let g = ran_still store new rest rest' text text' one none are end.Done r same in
-    record { done = r.done; next = r.next; entries = g.0.entries; state = g.0.state; tried = g.1; written = r.writes.text; writes = r.writes.by ∙ ap concat g.0.texts; appended = r.writes.appended; reads = r.reads }
+    record { done = r.done; next = r.next; entries_are = g.0.entries; state = g.0.state; tried = g.1; written = r.writes.text; writes = r.writes.by ∙ ap concat g.0.texts; appended = r.writes.appended; reads = r.reads }
 one_run_is_alone store end.ReadFault new rest rest' text text' one none are r =
     let same : new.seen ≡ r.mid.pass.seen = ap (λ (p : Pass). p.seen) r.pass_is ∙ ap (λ (s : Session). s.pass.seen) r.ends.0 in
     let g = ran_still store new rest rest' text text' one none are end.ReadFault r same in
-    record { done = r.done; next = r.next; entries = g.0.entries; state = g.0.state; tried = g.1; written = r.writes.text; writes = r.writes.by ∙ ap concat g.0.texts; appended = r.writes.appended; reads = r.reads }
+    record { done = r.done; next = r.next; entries_are = g.0.entries; state = g.0.state; tried = g.1; written = r.writes.text; writes = r.writes.by ∙ ap concat g.0.texts; appended = r.writes.appended; reads = r.reads }
 one_run_is_alone store end.WriteFault new rest rest' text text' one none are r =
     let last = seen_last store new rest rest' text text' one none are end.WriteFault r in
     let same : new.seen ≡ r.mid.pass.seen = ap (λ (p : Pass). p.seen) r.pass_is ∙ rest_seen store r.mid r.done r.replies one r.answered r.last r.next last r.ends in
@@ -177,7 +177,7 @@ one_run_is_alone store end.DiskFault new rest rest' text text' one none are r =
     record {
       done = r.done;
       next = r.next;
-      entries = ap (map timeless) same ∙ g.entries;
+      entries_are = ap (map timeless) same ∙ g.entries;
       state = ap (replay store.start.state) same ∙ g.state;
       tried = (line, r.ends.1, (tried.0, ap (λ (p : Pass). attempt_of p.seen) r.pass_is ∙ tried.1, tried.2));
       written = r.writes.text;

@@ -10,9 +10,9 @@ use Rattle.jf_model.proofs.EntryLaws.{after-count, after-at_moment, replay-push}
 use Rattle.jf_model.specs.declared.entries.Entry.{Entry}
 use Rattle.jf_store.specs.declared.event.Event.{Event}
 use Rattle.jf_store.specs.declared.event.Event.TheVariants.{Done, Mark}
-use Rattle.jf_store.specs.Events.{named_by, entries_of, attempt_of, is_marked}
+use Rattle.jf_store.specs.Events.{pass_named_by, entries_of, attempt_of, is_marked}
 use Rattle.jf_store.specs.Starts.{Start}
-use Rattle.jf_store.specs.Ledgers.{AreEvents, MarkIsLast, IsAttempt, state_behind}
+use Rattle.jf_store.specs.Ledgers.{AreEvents, MarkIsLast, IsUndone, state_behind}
 use Rattle.jf_store.specs.Passes.{Store, Pass, new_pass}
 use Rattle.jf_store.proofs.EventLaws.{entries_of-mark, attempt_of-append}
 use Rattle.jf_answers.specs.Own.{Own, begun_session}
@@ -249,7 +249,7 @@ module _ (start : Start) (pins : List ℕ) (events : List Event) (one : start.pa
 
 -- ---- the laws
 
-owners_none : (events : List Event) → AllByRecursion (λ x. named_by x < 1) events → AllByRecursion (λ e. owner_of e ≡ 0) (entries_of events)
+owners_none : (events : List Event) → AllByRecursion (λ x. pass_named_by x < 1) events → AllByRecursion (λ e. owner_of e ≡ 0) (entries_of events)
 owners_none [] h = tt
 owners_none (Done e ∷ xs) h = let low = h.0 in (omega arith, owners_none xs h.1)
 owners_none (Mark pass e ∷ xs) h = owners_none xs h.1
@@ -267,7 +267,7 @@ agrees-from start events ls rs one none are answered held places same =
       count = none;
       seen_is = refl;
       number = refl;
-      owned = owners_none events (subst (λ n. AllByRecursion (λ x. named_by x < n) events) one are.named);
+      owned = owners_none events (subst (λ n. AllByRecursion (λ x. pass_named_by x < n) events) one are.named);
     }) answered held (sym places) same
 
 pub agrees-all : (store : Store) (now : Session) (ls : List (List ℕ)) (rs : List Answered) → store.start.passes ≡ 1 → store.start.state.count ≡ 0 → AreEvents store.start now.pass.seen
@@ -282,7 +282,7 @@ one_session_is_alone store now ls rs one none are a =
 
 -- ---- the mark
 
-mark_there : (s : State) (xs : List Event) (pass : ℕ) (e : Entry) → MarkIsLast s (xs ++ Mark pass e ∷ []) → is_marked xs ≡ false → IsAttempt s pass e
+mark_there : (s : State) (xs : List Event) (pass : ℕ) (e : Entry) → MarkIsLast s (xs ++ Mark pass e ∷ []) → is_marked xs ≡ false → IsUndone s pass e
 mark_there s [] pass e m none = m.1
 mark_there s (Done x ∷ xs) pass e m none = mark_there s xs pass e m none
 mark_there s (Mark p x ∷ xs) pass e m none = absurd (cc)
@@ -299,7 +299,7 @@ AreEvents-before start xs pass e h none =
     record {
       history = subst (λ (es : List Entry). IsHistory start.state es) same h.history;
       later = subst (λ (es : List Entry). RiseFrom (start.moment + 1) (moments_of es)) same h.later;
-      named = all_front (λ x. named_by x < start.passes) xs (Mark pass e ∷ []) h.named;
+      named = all_front (λ x. pass_named_by x < start.passes) xs (Mark pass e ∷ []) h.named;
       marked = unmarked-MarkIsLast (state_behind start xs) xs none;
     }
 

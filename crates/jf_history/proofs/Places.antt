@@ -9,7 +9,7 @@ use Rattle.jf_model.specs.declared.entries.Entry.{Entry}
 use Rattle.jf_turn.specs.Lists.{HasElement, StartsWith}
 use Rattle.jf_store.specs.declared.event.Event.{Event}
 use Rattle.jf_store.specs.declared.event.Event.TheVariants.{Done, Mark}
-use Rattle.jf_store.specs.Events.{named_by, entries_of}
+use Rattle.jf_store.specs.Events.{pass_named_by, entries_of}
 use Rattle.jf_store.specs.Passes.{Pass, OthersAlone}
 use Rattle.jf_store.proofs.EventLaws.{entries_of-append}
 use Rattle.jf_answers.specs.Explains.{places_owned}
@@ -31,7 +31,7 @@ none_owned n k (e ∷ es) h = elim (owner_of e == n) as (λ b. (owner_of e == n)
   | false ↦ λ not. none_owned n (k + 1) es h.1
 ] refl
 
-others_none : (n : ℕ) (ys : List Event) → ((x : Event) → HasElement ys x → named_by x ≡ n → ⊥) → AllByRecursion (λ e. owner_of e ≡ n → ⊥) (entries_of ys)
+others_none : (n : ℕ) (ys : List Event) → ((x : Event) → HasElement ys x → pass_named_by x ≡ n → ⊥) → AllByRecursion (λ e. owner_of e ≡ n → ⊥) (entries_of ys)
 others_none n [] h = tt
 others_none n (Done e ∷ ys) h = (h (Done e) (0, refl), others_none n ys (λ x has. h x (suc has.0, has.1)))
 others_none n (Mark pass e ∷ ys) h = others_none n ys (λ x has. h x (suc has.0, has.1))

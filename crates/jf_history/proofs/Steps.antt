@@ -12,7 +12,7 @@ use Rattle.jf_store.proofs.EventLaws.{entries_of-append}
 use Rattle.jf_answers.specs.Own.{Own, begun_session}
 use Rattle.jf_answers.specs.OwnLines.{pin_of}
 use Rattle.jf_answers.specs.Explains.{Timeline, IsAmong, Answered, IsAnswered, AreAnswered, own_after_replies, places_told, places_owned}
-use Rattle.jf_history.specs.Sessions.{Session, HaveMet, HeldFloor, HasReplied, seen_by, timeline, place_of}
+use Rattle.jf_history.specs.Sessions.{Session, HaveMet, HeldFloor, HasReplied, seen_by, timeline, entry_place}
 use Rattle.jf_history.specs.Runs.{AreHeld, HasAnswered}
 use Rattle.jf_history.specs.Laws.{OneMoreAnswered}
 use Rattle.jf_history.proofs.Announced.{named-front, named-line}
@@ -61,7 +61,7 @@ module _ (start : Start) (old : Pass) (mid new : Session) (ls : List (List ℕ))
 
   places_more : places_owned old.number 0 (seen_by new.pass) ≡ places_told (rs ++ r ∷ [])
   places_more =
-      subst (λ (n : ℕ). places_owned n 0 (seen_by new.pass) ≡ places_owned n 0 (seen_by mid.pass) ++ place_of r) number_same t.places ∙ ap (λ ns. ns ++ place_of r) a.places ∙ sym (places_told-push rs r)
+      subst (λ (n : ℕ). places_owned n 0 (seen_by new.pass) ≡ places_owned n 0 (seen_by mid.pass) ++ entry_place r) number_same t.places ∙ ap (λ ns. ns ++ entry_place r) a.places ∙ sym (places_told-push rs r)
 
 pub one_more_answered : OneMoreAnswered
 one_more_answered start old mid new ls rs line r a t = record {

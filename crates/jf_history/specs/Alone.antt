@@ -3,8 +3,6 @@ use Rattle.std.specs.Prelude.{◌≡◌, ℕ, ◌-◌, List, ◌++◌, map, take
 use Rattle.jf_model.specs.States.{State}
 use Rattle.jf_model.specs.Entries.{replay, timeless}
 use Rattle.jf_model.specs.declared.entries.Entry.{Entry}
-use Rattle.jf_store.specs.Events.{attempt_of}
-use Rattle.jf_store.specs.Passes.{Pass}
 use Rattle.jf_answers.specs.Answers.{answer}
 use Rattle.jf_answers.specs.Runs.{Run, answers, text_of, run_entries}
 use Rattle.jf_answers.specs.Explains.{Answered, text_in}
@@ -50,13 +48,13 @@ TriesAlone end.DiskFault r next attempt = (line : List ℕ) × (next ≡ Some li
 TriesAlone end.Broken r next attempt = ⊥
 TriesAlone end.Memory r next attempt = attempt ≡ None
 
--- a run, by the answers to the lines done
-pub record RanAlone (e : End) (s : State) (new : Pass) (rest rest' text text' : Option (List ℕ)) : Type 0 where
+-- a run that left these entries and this attempt, by the answers to the lines done
+pub record RanAlone (e : End) (s : State) (entries : List Entry) (attempt : Option Entry) (rest rest' text text' : Option (List ℕ)) : Type 0 where
   pub done : List (List ℕ)
   pub next : Option (List ℕ)
-  pub entries : map timeless (seen_by new) ≡ run_entries (answers s done)
-  pub state : replay s (seen_by new) ≡ (answers s done).state
-  pub tried : TriesAlone e (answers s done) next (attempt_of new.seen)
+  pub entries_are : map timeless entries ≡ run_entries (answers s done)
+  pub state : replay s entries ≡ (answers s done).state
+  pub tried : TriesAlone e (answers s done) next attempt
   pub written : List ℕ
   pub writes : WritesAlone e s done written
   pub appended : text' ≡ option_map (λ t. t ++ written) text

@@ -12,7 +12,7 @@ use Rattle.jf_store.specs.Closing.{IsClosed}
 use Rattle.jf_answers.specs.Own.{Own}
 use Rattle.jf_answers.specs.Runs.{answers}
 use Rattle.jf_answers.specs.Explains.{Answered, AreAnswered, ExplainsAnswers, IsAttempt, timeline_of}
-use Rattle.jf_history.specs.Sessions.{Session, new_session, HasReplied, IsTry, IsBroken, HasLooked, HasChanged, look_reply, change_reply}
+use Rattle.jf_history.specs.Sessions.{Session, new_session, seen_by, HasReplied, IsTry, IsBroken, HasLooked, HasChanged, look_reply, change_reply}
 use Rattle.jf_history.specs.Runs.{HasAnswered, Ran}
 use Rattle.jf_history.specs.Alone.{AnswersAlone, IsTried, RanAlone}
 use Rattle.jf_history.specs.Serving.{Served, AreServed, FailedIn, scripts_of, replies_of, passes_of}
@@ -73,7 +73,7 @@ OneSessionIsNeverBroken = (store : Store) (mid last : Session) (ls : List (List 
 -- a whole run
 abbrev pub OneRunIsAlone : Type 0
 OneRunIsAlone = (store : Store) (e : End) (new : Pass) (rest rest' text text' : Option (List ℕ)) → store.start.passes ≡ 1 → store.start.state.count ≡ 0 → AreEvents store.start new.seen
-    → Ran e store.start (new_pass store 0) new rest rest' text text' → RanAlone e store.start.state new rest rest' text text'
+    → Ran e store.start (new_pass store 0) new rest rest' text text' → RanAlone e store.start.state (seen_by new) (attempt_of new.seen) rest rest' text text'
 
 -- ---- a store that was closed
 -- its history explains all its sessions

@@ -53,7 +53,7 @@ HaveMet pins start events = AreMet (λ pin. IsAmong pins pin.1) start.state even
 abbrev pub HasPinned : Own → ℕ → Type 0
 HasPinned own version = (place : ℕ) × (pinned own place ≡ Some version)
 
--- over a state, the floor of the session's entry, if it retires versions, is the bound, or a lower version that a pass of the store pins; if it is the session's own pass, the session has pinned it
+-- over a state, the floor of the session's entry, if it retires versions, is the bound, or a lower version that is said to be pinned by a pass of the store; if that is the session's own pass, the session has pinned it
 abbrev pub HeldFloor : Start → Own → State → Entry → Type 0
 HeldFloor start own s e = IsMet (λ pin. (pin.0 < start.passes) × (pin.0 ≡ own.number → HasPinned own pin.1)) s e
 
@@ -65,8 +65,8 @@ pub record FollowsLine (old new : Pass) (line : List ℕ) : Type 0 where
   pub announced : (version : ℕ) → HasElement new.place.announced version → HasElement old.place.announced version ⊎ (pin_of line ≡ Some version)
 
 -- the place of the entry that a line gave
-abbrev pub place_of : Answered → List ℕ
-place_of r = if is_some r.entry then r.number ∷ [] else []
+abbrev pub entry_place : Answered → List ℕ
+entry_place r = if is_some r.entry then r.number ∷ [] else []
 
 -- the line was answered over what the pass has then seen. Its entry, if it gave one, is the last of that, and no other entry of the session is new
 pub record HasReplied (start : Start) (old new : Session) (line : List ℕ) (r : Answered) : Type 0 where
@@ -77,7 +77,7 @@ pub record HasReplied (start : Start) (old new : Session) (line : List ℕ) (r :
   pub number : r.number ≡ length (seen_by new.pass)
   pub answered : (pins : List ℕ) → HaveMet pins start new.pass.seen → IsAnswered (timeline start pins new.pass.seen) old.own (length (seen_by old.pass)) line r
   pub held : IfSome r.entry (HeldFloor start old.own (replay start.state (take (r.number - 1) (seen_by new.pass))))
-  pub places : places_owned old.pass.number 0 (seen_by new.pass) ≡ places_owned old.pass.number 0 (seen_by old.pass) ++ place_of r
+  pub places : places_owned old.pass.number 0 (seen_by new.pass) ≡ places_owned old.pass.number 0 (seen_by old.pass) ++ entry_place r
 
 -- the disk failed in what the line asked for: the pass set the mark, and the line gives its entry over all before it
 pub record IsTry (start : Start) (old new : Session) (line : List ℕ) : Type 0 where

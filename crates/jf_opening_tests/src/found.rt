@@ -1,9 +1,10 @@
 // Files that stand for versions: what they are answered, and what is written after them. The records are byte by byte, and
 // the replies are worked out from what they say.
 use crate::openings::{Change, Files, LANDED, LANDED_TWICE, NEW, changed, holds, opened};
-use crate::records::{COMPACTED, FLOOR, IMPORTED, LANDING_IN_1, LANDING_OF_NOTHING_3};
+use crate::records::LANDING_IN_1;
 use jf_play::files::{
-    CHECKPOINT, CHECKPOINT_1, END, File, GROUP, LANDING, LANDING_OF_NOTHING, SECOND,
+    CHECKPOINT, CHECKPOINT_1, COMPACTED, END, FLOOR, File, GROUP, IMPORTED, LANDING,
+    LANDING_OF_NOTHING, LANDING_OF_NOTHING_3, SECOND,
 };
 use jf_play::play::has_ended;
 use jf_play::roots::with_roots;
@@ -61,8 +62,9 @@ const ROWS: &[Row] = &[
         before: (LANDED, &[SECOND, END]),
         changes: &[],
         head: 0,
-        script: "root head\nput 61 =31\ncommit\nget v1 61\n",
-        want: "0 ok root E\n0 ok pending 1\n1 ok commit 1 R\n1 ok value =31\n",
+        script: "root head\nput 61 =31\ncommit\nget v1 61\nstatus\n",
+        want: "0 ok root E\n0 ok pending 1\n1 ok commit 1 R\n1 ok value =31\n\
+               1 ok status base 0 floor 0 retired 0 head 1 kept 2 forks 0 generation 2\n",
         after: (LANDED, &[SECOND, LANDING, END]),
     },
     Row {
@@ -79,8 +81,8 @@ const ROWS: &[Row] = &[
         before: (NEW, &[SECOND, END]),
         changes: &[(0, 0x00)],
         head: 0,
-        script: "put 61 =31\ncommit\n",
-        want: "0 ok pending 1\n1 ok commit 1 R\n",
+        script: "status\nput 61 =31\ncommit\n",
+        want: "0 ok status base 0 floor 0 retired 0 head 0 kept 1 forks 0 generation 1\n0 ok pending 1\n1 ok commit 1 R\n",
         after: (LANDED, &[SECOND, END]),
     },
     Row {
@@ -106,18 +108,10 @@ const ROWS: &[Row] = &[
         before: (&[CHECKPOINT, LANDING, LANDING_OF_NOTHING, FLOOR, END], &[]),
         changes: &[],
         head: 2,
-        script: "root v0\nget v1 61\nprove v1 61\nchunk v1 0 1\nroot v2\nget head 61\nroot v3\n",
-        want: "0 no retired 2\n0 no retired 2\n0 no retired 2\n0 no retired 2\n0 ok root R\n0 ok value =31\n0 no future 2\n",
+        script: "root v0\nget v1 61\nprove v1 61\nchunk v1 0 1\nroot v2\nget head 61\nroot v3\nstatus\n",
+        want: "0 no retired 2\n0 no retired 2\n0 no retired 2\n0 no retired 2\n0 ok root R\n0 ok value =31\n0 no future 2\n\
+               0 ok status base 0 floor 2 retired 2 head 2 kept 1 forks 0 generation 1\n",
         after: (&[CHECKPOINT, LANDING, LANDING_OF_NOTHING, FLOOR, END], &[]),
-    },
-    Row {
-        what: "the last version",
-        before: (NEW, &[IMPORTED, END]),
-        changes: &[],
-        head: 18_446_744_073_709_551_614,
-        script: "commit\nroot head\nroot v18446744073709551614\nget v0 61\nroot v18446744073709551615\nput 61 =31\ncommit\n",
-        want: "0 no last\n0 ok root E\n0 ok root E\n0 no retired 18446744073709551614\n0 no future 18446744073709551614\n0 ok pending 1\n0 no last\n",
-        after: (NEW, &[IMPORTED, END]),
     },
     Row {
         what: "three landings in one record",
@@ -158,6 +152,59 @@ const ROWS: &[Row] = &[
     },
 ];
 
+// Versions and generations at the end of their range, and a generation that is another one.
+const NUMBERS: &[Row] = &[
+    Row {
+        what: "the last version",
+        before: (NEW, &[IMPORTED, END]),
+        changes: &[],
+        head: 18_446_744_073_709_551_614,
+        script: "commit\nstatus\nroot head\nroot v18446744073709551614\nget v0 61\nroot v18446744073709551615\nput 61 =31\ncommit\n\
+                 fork head\nget f0 61\nland f0\n",
+        want: "0 no last\n\
+               0 ok status base 18446744073709551614 floor 18446744073709551614 retired 18446744073709551614 head 18446744073709551614 kept 1 forks 0 generation 2\n\
+               0 ok root E\n0 ok root E\n0 no retired 18446744073709551614\n0 no future 18446744073709551614\n0 ok pending 1\n0 no last\n\
+               1 ok fork f0 R\n1 ok value =31\n1 no last\n",
+        after: (NEW, &[IMPORTED, END]),
+    },
+    Row {
+        what: "the last version but one, and two forks",
+        before: (NEW, &[IMPORTED, END]),
+        changes: &[(25, 0xfd), (33, 0xfd), (41, 0xfd), (89, 0xfd)],
+        head: 18_446_744_073_709_551_613,
+        script: "fork head\nfork f0\nland f1\nroot f1\nprune 18446744073709551614\ncount head\n",
+        want: "1 ok fork f0 E\n2 ok fork f1 E\n2 no last\n2 ok root E\n2 no future 18446744073709551613\n2 ok count 0\n",
+        after: (NEW, &[IMPORTED, END]),
+    },
+    Row {
+        what: "the last generation",
+        before: (&[], NEW),
+        changes: &[
+            (10, 0xff),
+            (11, 0xff),
+            (12, 0xff),
+            (13, 0xff),
+            (14, 0xff),
+            (15, 0xff),
+            (16, 0xff),
+            (17, 0xfe),
+        ],
+        head: 0,
+        script: "compact\nstatus\n",
+        want: "0 no last\n0 ok status base 0 floor 0 retired 0 head 0 kept 1 forks 0 generation 18446744073709551614\n",
+        after: (&[], NEW),
+    },
+    Row {
+        what: "another generation in the checkpoint",
+        before: (&[], LANDED),
+        changes: &[(17, 0x02)],
+        head: 1,
+        script: "status\nroot head\n",
+        want: "0 ok status base 0 floor 0 retired 0 head 1 kept 2 forks 0 generation 2\n0 ok root R\n",
+        after: (&[], LANDED),
+    },
+];
+
 // More bytes than any of these files has.
 const ALL: usize = 10_000;
 
@@ -183,6 +230,15 @@ fn goes_on<H: Threads + Wait + Sync>(rt: &H, alloc: Global, row: &Row) -> Result
 fn files_are_read_and_go_on(rt: HostRuntime) -> Result<(), Fail> {
     let alloc = rt.alloc();
     for row in ROWS {
+        assert!(rt; goes_on(&rt, alloc, row)?, "{}", row.what);
+    }
+    Ok(())
+}
+
+#[test]
+fn the_greatest_numbers_are_read(rt: HostRuntime) -> Result<(), Fail> {
+    let alloc = rt.alloc();
+    for row in NUMBERS {
         assert!(rt; goes_on(&rt, alloc, row)?, "{}", row.what);
     }
     Ok(())

@@ -1,7 +1,8 @@
-//! Shared by the tests of the top call: runs over disks, sources and sinks in memory, files byte by byte, and roots of small
-//! maps.
+//! Shared by the tests of the top call: runs over disks, sources and sinks in memory, what a crash leaves of a disk, files
+//! byte by byte, and roots of small maps.
 #![tactic(auto)]
 
 pub mod files;
+pub mod images;
 pub mod play;
 pub mod roots;

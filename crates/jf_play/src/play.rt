@@ -213,3 +213,16 @@ pub fn is_told<H: Threads + Wait + Sync>(
     let want = with_roots(alloc, want)?;
     is_answered(rt, alloc, script.as_bytes(), &want)
 }
+
+/// Whether a run of a script over a new disk ends well and writes the text `want`, with letters for the roots in it.
+pub fn tells<H: Threads + Wait + Sync>(
+    rt: &H,
+    alloc: Global,
+    script: &str,
+    want: &str,
+) -> Result<bool, Fail> {
+    let want = with_roots(alloc, want)?;
+    let disk = new_disk(alloc, b"", &[])?;
+    let played = play(rt, alloc, disk, "run", script.as_bytes(), NO_FAULTS)?;
+    Ok(has_ended(&played, Status::Done, Some(0), &want))
+}

@@ -7,10 +7,10 @@ use Rattle.jf_disk.specs.Disk.{reads}
 use Rattle.jf_disk.proofs.CrashLaws.{leaves_nowhere}
 use Rattle.jf_disk.proofs.MomentLaws.{same_extends}
 use Rattle.jf_files.specs.Files.{generation}
-use Rattle.jf_files.specs.Laws.{DamageIsNoVersions}
+use Rattle.jf_files.specs.Laws.{FilesStandForSound, DamageIsNoVersions}
 use Rattle.jf_engine.specs.Openings.{DiskView, HasRefused}
 use Rattle.jf_engine.specs.declared.fault.OpenFault.{OpenFault}
-use Rattle.jf_session.specs.Runs.{AreWithin}
+use Rattle.jf_store.specs.Images.{AreWithin}
 use Rattle.jf_run.specs.Commands.{opens, is_verify, is_closing, is_disk_fault, status_of_refusal}
 use Rattle.jf_run.specs.declared.words.Mode.{Mode}
 use Rattle.jf_run.specs.Calls.{ProgramCall, Devices}
@@ -51,9 +51,13 @@ forward_untouched c same none source sink =
       sink_faults = sink;
     }
 
+-- devices whose disk shows the same
+pub same_devices : (d : Devices) (x : DiskView) → x ≡ d.disk → record d { disk = x } ≡ d
+same_devices d x e = ap (λ (y : DiskView). record d { disk = y }) e
+
 -- memory ran out before a call was made on a device
-pub memory_keeps : (c : ProgramCall) → c.after ≡ c.before → c.start ≡ None → c.entries ≡ [] → c.status ≡ status.Memory → KeepsPromises c
-memory_keeps c same start none memory =
+pub memory_keeps : (c : ProgramCall) → FilesStandForSound → c.after ≡ c.before → c.start ≡ None → c.entries ≡ [] → c.status ≡ status.Memory → KeepsPromises c
+memory_keeps c all_sound same start none memory =
     let disk : c.after.disk ≡ c.before.disk = ap (λ (d : Devices). d.disk) same in
     record {
       words = record { usage = λ e. absurd (cc); usage_told = λ e. inr memory; start = λ e. start };
@@ -62,7 +66,7 @@ memory_keeps c same start none memory =
       forward = forward_untouched c disk none (subst (λ (d : Devices). c.before.source_faults ≤ d.source_faults) (sym same) (le_refl c.before.source_faults))
           (subst (λ (d : Devices). c.before.sink_faults ≤ d.sink_faults) (sym same) (le_refl c.before.sink_faults));
       files = record {
-        stands = λ h told v stands sound. subst (λ es. Stands c.after.disk.history v (generation (reads h)) es) (sym none) (stands-left h h v c.after.disk.history (ap (λ (d : DiskView). d.history) disk ∙ told) refl stands);
+        stands = λ h told v stands sound. subst (λ es. Stands c.after.disk.history v (generation (reads h)) es) (sym none) (stands-left h h v c.after.disk.history all_sound (ap (λ (d : DiskView). d.history) disk ∙ told) refl stands);
         complete = λ h told v stands some a b d. inr memory;
       };
       closed = subst (λ o. IfNone o (IsClosedCall c)) (sym start) (closed_untouched c disk none (λ e. subst (λ s. IsTrue (is_closing s)) (sym memory) refl));
@@ -77,8 +81,8 @@ memory_keeps c same start none memory =
     }
 
 -- no call was made on a device, as the program doesn't take the words
-pub usage_keeps : (c : ProgramCall) → c.after ≡ c.before → c.start ≡ None → c.entries ≡ [] → c.status ≡ status.Usage → c.asks ≡ None → KeepsPromises c
-usage_keeps c same start none usage asks =
+pub usage_keeps : (c : ProgramCall) → FilesStandForSound → c.after ≡ c.before → c.start ≡ None → c.entries ≡ [] → c.status ≡ status.Usage → c.asks ≡ None → KeepsPromises c
+usage_keeps c all_sound same start none usage asks =
     let disk : c.after.disk ≡ c.before.disk = ap (λ (d : Devices). d.disk) same in
     record {
       words = record { usage = λ e. asks; usage_told = λ e. inl usage; start = λ e. start };
@@ -87,7 +91,7 @@ usage_keeps c same start none usage asks =
       forward = forward_untouched c disk none (subst (λ (d : Devices). c.before.source_faults ≤ d.source_faults) (sym same) (le_refl c.before.source_faults))
           (subst (λ (d : Devices). c.before.sink_faults ≤ d.sink_faults) (sym same) (le_refl c.before.sink_faults));
       files = record {
-        stands = λ h told v stands sound. subst (λ es. Stands c.after.disk.history v (generation (reads h)) es) (sym none) (stands-left h h v c.after.disk.history (ap (λ (d : DiskView). d.history) disk ∙ told) refl stands);
+        stands = λ h told v stands sound. subst (λ es. Stands c.after.disk.history v (generation (reads h)) es) (sym none) (stands-left h h v c.after.disk.history all_sound (ap (λ (d : DiskView). d.history) disk ∙ told) refl stands);
         complete = λ h told v stands some a b d. absurd (true≢false (sym some ∙ ap (λ (o : Option Mode). is_some o) asks));
       };
       closed = subst (λ o. IfNone o (IsClosedCall c)) (sym start) (closed_untouched c disk none (λ e. subst (λ s. IsTrue (is_closing s)) (sym usage) refl));
@@ -96,10 +100,10 @@ usage_keeps c same start none usage asks =
     }
 
 -- an input was judged
-pub judged_keeps : (c : ProgramCall) → c.after.disk ≡ c.before.disk → c.start ≡ None → c.entries ≡ [] → IsTrue (is_verify c.asks) → HasJudged c.status c.before.rest c.after.rest c.before.text c.after.text
+pub judged_keeps : (c : ProgramCall) → FilesStandForSound → c.after.disk ≡ c.before.disk → c.start ≡ None → c.entries ≡ [] → IsTrue (is_verify c.asks) → HasJudged c.status c.before.rest c.after.rest c.before.text c.after.text
     → (c.status ≡ status.ReadFault → HasCause c.before.source_faults c.after.source_faults) → (c.status ≡ status.WriteFault → HasCause c.before.sink_faults c.after.sink_faults)
     → c.before.source_faults ≤ c.after.source_faults → c.before.sink_faults ≤ c.after.sink_faults → KeepsPromises c
-judged_keeps c same start none verify j read write source sink = record {
+judged_keeps c all_sound same start none verify j read write source sink = record {
   words = record { usage = λ e. absurd (judged_words j.end c.status j.how_is e); usage_told = λ e. absurd (true≢false (sym verify ∙ ap is_verify e)); start = λ e. start };
   causes = record { read = read; write = write; disk = λ e. absurd (judged_disk j.end c.status j.how_is e) };
   damage = record {
@@ -108,7 +112,7 @@ judged_keeps c same start none verify j read write source sink = record {
   };
   forward = forward_untouched c same none source sink;
   files = record {
-    stands = λ h told v stands sound. subst (λ es. Stands c.after.disk.history v (generation (reads h)) es) (sym none) (stands-left h h v c.after.disk.history (ap (λ (d : DiskView). d.history) same ∙ told) refl stands);
+    stands = λ h told v stands sound. subst (λ es. Stands c.after.disk.history v (generation (reads h)) es) (sym none) (stands-left h h v c.after.disk.history all_sound (ap (λ (d : DiskView). d.history) same ∙ told) refl stands);
     complete = λ h told v stands some a b d. judged_well j.end c.status j.how_is (λ r. steady c.before.source_faults c.after.source_faults a.0 a.1 (read r)) (λ w. steady c.before.sink_faults c.after.sink_faults b.0 b.1 (write w));
   };
   closed = subst (λ o. IfNone o (IsClosedCall c)) (sym start) (closed_untouched c same none (λ e. absurd (true≢false (sym verify ∙ e))));
@@ -122,9 +126,9 @@ judged_keeps c same start none verify j read write source sink = record {
 }
 
 -- the store was not opened
-pub refused_keeps : (c : ProgramCall) (why : OpenFault) → DamageIsNoVersions → c.start ≡ None → c.entries ≡ [] → IsTrue (opens c.asks) → c.status ≡ status_of_refusal why → HasRefused c.before.disk c.after.disk why
+pub refused_keeps : (c : ProgramCall) (why : OpenFault) → FilesStandForSound → DamageIsNoVersions → c.start ≡ None → c.entries ≡ [] → IsTrue (opens c.asks) → c.status ≡ status_of_refusal why → HasRefused c.before.disk c.after.disk why
     → c.before.source_faults ≤ c.after.source_faults → c.before.sink_faults ≤ c.after.sink_faults → KeepsPromises c
-refused_keeps c why none_stand start none runs is r source sink = record {
+refused_keeps c why all_sound none_stand start none runs is r source sink = record {
   words = record { usage = λ e. absurd (refused_words why (sym is ∙ e)); usage_told = λ e. absurd (true≢false (sym runs ∙ ap opens e)); start = λ e. start };
   causes = record { read = λ e. absurd (refused_read why (sym is ∙ e)); write = λ e. absurd (refused_write why (sym is ∙ e)); disk = λ e. r.cause (refused_disk why (sym is ∙ e)) };
   damage = record {
@@ -140,7 +144,7 @@ refused_keeps c why none_stand start none runs is r source sink = record {
     sink_faults = sink;
   };
   files = record {
-    stands = λ h told v stands sound. subst (λ es. Stands c.after.disk.history v (generation (reads h)) es) (sym none) (refused-stands h v c.after.disk.history why (subst (λ s. IsFalse (is_disk_fault s)) is sound) stands (r.left h told));
+    stands = λ h told v stands sound. subst (λ es. Stands c.after.disk.history v (generation (reads h)) es) (sym none) (refused-stands h v c.after.disk.history why all_sound (subst (λ s. IsFalse (is_disk_fault s)) is sound) stands (r.left h told));
     complete = λ h told v stands some ss ks ds.
         inr (is ∙ refused_for_memory why (λ where_ at damaged. none_stand (reads h) v where_ at stands (r.damaged h told where_ at damaged)) (λ fault. steady c.before.disk.faults c.after.disk.faults ds.0 ds.1 (r.cause fault)));
   };

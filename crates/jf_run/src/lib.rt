@@ -3,6 +3,7 @@
 #![tactic(auto)]
 
 mod judge_input;
+mod run_over;
 pub mod run_words;
 pub mod status;
 pub mod words;

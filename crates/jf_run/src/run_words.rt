@@ -1,29 +1,29 @@
 // The top call of the program: the words of a command line say what is done with source, sink and disk.
-ghost use Rattle.std.specs.Prelude.{◌≡◌, IfNone, IsFalse};
+ghost use Rattle.std.specs.Prelude.{◌≡◌, [], None, IfNone, IsFalse};
 ghost use Rattle.jf_engine.specs.Openings.{disk_view};
 ghost use Rattle.jf_run.specs.Commands.{asked, opens, is_verify};
 ghost use Rattle.jf_run.specs.Promises.{KeepsPromises};
 
 use crate::judge_input::judge_input;
+use crate::run_over::{RunOver, run_over};
 use crate::status::{Ended, Status};
 use crate::words::{Mode, mode_of};
 use jf_disk::{Disk, know_dated};
-use jf_engine::OpenRefused;
-use jf_files::{damage_is_no_versions, files_stand_for_one};
+use jf_engine::{Engine, OpenRefused};
+use jf_files::{damage_is_no_versions, files_stand_for_one, files_stand_for_sound};
 use jf_io::{Sink, Source};
 use jf_join::Gate;
 use jf_model::Ledger;
-use jf_session::{Session, SoloRan, run};
 use std::alloc::Global;
 use std::sync::Wait;
 use std::thread::Threads;
 
 /// Runs the words of a command line over a source, a sink and a disk (docs/FORMATS.md, "Calling the program").
 ///
-/// - `run` opens the store on the disk, and answers the script of the source into the sink. `--workers N`, 1 to 64,
-///   says how many threads may work at once on the pieces of a landing, also of one that the opening reads; unless N
-///   is 1, the values of a large batch are hashed by several threads too. The gate is told of each piece of a landing
-///   that the script asks for, before the piece begins. Neither changes the output.
+/// - `run` opens the store on the disk, and answers the script of the source into the sink, as the only session of the
+///   store. `--workers N`, 1 to 64, says how many threads may work at once on the pieces of a landing, also of one that
+///   the opening reads; unless N is 1, the values of a large batch are hashed by several threads too. The gate is told
+///   of each piece of a landing that the script asks for, before the piece begins. Neither changes the output.
 /// - `verify` judges the proof blocks of the source, and writes the verdicts into the sink. No call is made on the
 ///   disk.
 /// - For other words the call returns `Usage`, or `Memory` if memory runs out. No device is touched.
@@ -32,10 +32,10 @@ use std::thread::Threads;
 /// (docs/PROMISES.md, "The top call"):
 ///
 /// - If a store was opened (`IsOpenedCall`), replies and entries are those of the lines done. After a crash at any
-///   moment the files hold a first part of the landings that includes every acknowledged one; if the disk failed, they
-///   may instead hold all landings and the one that the first line without a reply asked for. On a disk that wasn't
-///   calm before the call, this holds from the opening on. If the disk didn't fail, the files hold all landings at the
-///   end.
+///   moment the files stand for the versions after a first part of the entries that has every landing acknowledged by
+///   then; if the disk failed, they may instead stand for those after all entries and the one that the first line
+///   without a reply asked for. On a disk that wasn't calm before the call, this holds from the opening on. If the disk
+///   didn't fail, the files stand for the versions after all entries at the end.
 /// - If no store was opened (`IsClosedCall`), there are no entries and the files are unchanged. One exception: a call
 ///   that ends with `DiskFault` may have begun files without a record, which still stand for a new store.
 /// - In the mode `verify` (`IsJudgedCall`), the verdicts were written, as far as the status says.
@@ -72,64 +72,53 @@ pub fn run_words<S: Source, K: Sink, D: Disk, H: Threads + Wait + Sync, G: Gate>
     }) }
 {
     know_dated(&disk);
-    let workers = match mode_of(alloc, words) {
-        Ok(Some(Mode::Run { workers })) => workers,
-        Ok(None) => {
-            return Ended {
-                status: Status::Usage,
-                disk,
-                entries: Ledger::new(alloc),
-                start: None,
-                memory: None,
-            };
-        }
-        Err(_) => {
-            return Ended {
-                status: Status::Memory,
-                disk,
-                entries: Ledger::new(alloc),
-                start: None,
-                memory: None,
-            };
-        }
-        Ok(Some(Mode::Verify)) => {
-            let status = judge_input(alloc, source, sink);
-            return Ended {
-                status,
-                disk,
-                entries: Ledger::new(alloc),
-                start: None,
-                memory: None,
-            };
-        }
-    };
     damage_is_no_versions();
     files_stand_for_one();
-    let session = match Session::<D>::over(rt, alloc, disk, workers) {
-        Ok(session) => session,
-        Err(OpenRefused { disk, why }) => {
-            return Ended {
-                status: Status::of_refusal(why),
-                disk,
-                entries: Ledger::new(alloc),
-                start: None,
-                memory: None,
-            };
+    files_stand_for_sound();
+    let workers = match mode_of(alloc, words) {
+        Ok(Some(Mode::Run { workers })) => workers,
+        Ok(None) => return without_store(alloc, Status::Usage, disk),
+        Err(_) => return without_store(alloc, Status::Memory, disk),
+        Ok(Some(Mode::Verify)) => {
+            let status = judge_input(alloc, source, sink);
+            return without_store(alloc, status, disk);
         }
     };
-    session.know_dated();
-    let head = session.head();
-    let SoloRan {
+    let engine = match Engine::<D>::open(rt, alloc, disk, workers) {
+        Ok(engine) => engine,
+        Err(OpenRefused { disk, why }) => {
+            return without_store(alloc, Status::of_refusal(why), disk);
+        }
+    };
+    engine.know();
+    let head = engine.state().head;
+    let RunOver {
         disk,
         entries,
         end,
         memory,
-    } = run(rt, alloc, session, source, sink, workers, gate);
+    } = run_over(rt, alloc, engine, source, sink, workers, gate);
     Ended {
         status: Status::of_end(end),
         disk,
         entries,
         start: Some(head),
         memory: Some(memory),
+    }
+}
+
+// The end of a call that opened no store.
+fn without_store<D>(alloc: Global, status: Status, disk: D) -> Ended<D>
+    ensures status { result.status ≡ status }
+    ensures disk { result.disk ≡ disk }
+    ensures entries { result.entries ≡ [] }
+    ensures start { result.start ≡ None }
+{
+    Ended {
+        status,
+        disk,
+        entries: Ledger::new(alloc),
+        start: None,
+        memory: None,
     }
 }

@@ -4,8 +4,8 @@ ghost use Rattle.jf_run.specs.Commands.{code_of, status_of, status_of_verified, 
 
 use jf_disk::Side;
 use jf_engine::{EngineMemory, OpenFault};
+use jf_history::End;
 use jf_model::Ledger;
-use jf_session::End;
 use jf_verify::Verified;
 
 /// How a call of the program ended (docs/FORMATS.md, "Calling the program").
@@ -40,7 +40,8 @@ pub struct Ended<D> {
 }
 
 impl Status {
-    /// The status after a script's run. A disk that failed in an earlier call is `DiskFault` too.
+    /// The status after a script's run. A disk that failed in an earlier call is `DiskFault` too; a store of one pass never
+    /// ends so.
     pub fn of_end(end: End) -> Status
         ensures { result ≡ status_of end }
     {

@@ -1,3 +1,5 @@
-pub mod Sessions
-pub mod Runs
+pub mod Refusing
+pub mod Steps
+pub mod Bases
+pub mod Answering
 pub mod Taking

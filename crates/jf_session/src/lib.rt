@@ -1,15 +1,27 @@
-//! One script over a store of its own: its lines are answered one after another, and each landing once the replies before
-//! it are written.
+//! One script over a pass of a shared store: its lines are answered one after another, and a line that may change the
+//! store is done once the replies before it are written.
 #![tactic(auto)]
 
 mod answer;
+mod bases;
+mod compacting;
+mod forking;
+mod halt;
+mod landing;
+mod obeying;
+mod pending;
+mod pinning;
+mod pruning;
 mod quiet;
 mod reads;
+mod refusing;
 mod running;
 mod session;
+mod status;
 mod stop;
 mod taking;
 
-pub use running::{End, SoloRan, run};
+pub use jf_history::End;
+pub use running::run;
 pub use session::Session;
 pub use stop::Stop;

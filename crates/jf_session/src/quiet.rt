@@ -7,7 +7,7 @@ ghost use Rattle.jf_session.specs.Taking.{is_store_word};
 
 use jf_text::{is_word, split_word};
 
-// Whether the line changes nothing but what the session keeps for itself: its reply has no entry, in whatever state.
+// Whether the line changes nothing but what the session keeps for itself: its answer has no entry, in whatever state.
 pub(crate) fn is_quiet(line: &[u8]) -> bool
     ensures { IsTrue result → (s : State) (own : Own) → (answer s own line.now).entry ≡ None }
 {
@@ -15,7 +15,7 @@ pub(crate) fn is_quiet(line: &[u8]) -> bool
     !is_store_word(word)
 }
 
-// Whether the commands that begin with this word change the store, or will once they are built.
+// Whether the commands that begin with this word change the store.
 fn is_store_word(word: &[u8]) -> bool
     ensures { result ≡ is_store_word word.now }
 {

@@ -1,146 +1,209 @@
-// The commands that read: in the head, and in every version from the retired bound on.
-ghost use Rattle.std.specs.Prelude.{◌≡◌, ◌≤◌, ◌++◌, Some, None, Err, IfOk, IfErr, OnOk, OnErr};
+// The commands that read: in the head, in a version, at a pinned place, and two of them in a fork.
+ghost use Rattle.std.specs.Prelude.{◌≡◌, ℕ, ◌≤◌, ◌++◌, List, [], IfOk, IfErr, OnOk, true, false};
 ghost use Rattle.std.specs.Option.{option_copied};
-ghost use Rattle.jf_model.specs.Versions.{map_of};
-ghost use Rattle.jf_answers.specs.Refusals.{base_map};
-ghost use Rattle.jf_session.specs.Sessions.{Does, get_answer, root_answer, prove_answer, chunk_answer, version_refusal, read_refusal};
+ghost use Rattle.jf_script.specs.declared.command.Command.TheVariants as command;
+ghost use Rattle.jf_store.specs.Passes.{IsPassOf};
+ghost use Rattle.jf_session.specs.Steps.{IsDoneAs, StopsFor};
+ghost use Rattle.jf_session.specs.Bases.{is_stored};
 
 use crate::answer::{write_chunk_of, write_proof_of};
+use crate::bases::{fork_named, halted};
 use crate::session::Session;
 use crate::stop::Stop;
 use jf_disk::Disk;
 use jf_hash::key_of;
-use jf_path::{Bytes, Memory};
+use jf_nth::nth;
+use jf_path::{Bytes, Key, Memory};
 use jf_range::RangeAsk;
 use jf_script::{Base, Refusal, Reply};
+use jf_store::Store;
 use std::alloc::Global;
+use std::sync::Wait;
 
 impl<D: Disk> Session<D> {
-    // Answers `get`: the value of a name in the version that a base names.
-    pub(crate) fn get(&self, alloc: Global, base: Base, name: &[u8]) -> Result<Reply, Stop>
-        ensures ok { OnOk result (Does self.now self.now (get_answer self.now base name.now)) }
-        ensures reply { IfOk result (λ r. r ≡ (get_answer self.now base name.now).reply) }
-        ensures only { OnErr result (result ≡ Err Stop.Memory) }
+    // Answers `get`: the value of a name in the map that a base names.
+    pub(crate) fn get<H: Wait>(
+        &mut self,
+        rt: &H,
+        alloc: Global,
+        store: &Store<D>,
+        on: Base,
+        name: &[u8],
+    ) -> Result<Reply, Stop>
+        requires own { IsPassOf self.old.pass store.now }
+        requires over { self.old.over ≡ false }
+        ensures ok { IfOk result (λ r. IsDoneAs store.now.start self.old self.new (command.Get on name.now) r []) }
+        ensures goes_on { OnOk result (self.new.over ≡ false) }
+        ensures err { IfErr result (λ why. StopsFor store.now.start self.old self.new (command.Get on name.now) why) }
     {
-        let version = match self.version_of(base) {
-            Ok(version) => version,
-            Err(why) => return Ok(Reply::No(why)),
-        };
-        let snapshot = self.engine.at(version).unwrap();
-        match copied(alloc, snapshot.get(&key_of(name))) {
-            Ok(value) => Ok(Reply::Value { value }),
-            Err(Memory) => Err(Stop::Memory),
+        let key = key_of(name);
+        match fork_named(on) {
+            Some(id) => match self.tree_at(rt, store, id) {
+                Ok(tree) => value_told(alloc, tree.get(&key)),
+                Err(halt) => halted(halt),
+            },
+            None => match self.snapshot_at(rt, store, on) {
+                Ok(snapshot) => value_told(alloc, snapshot.get(&key)),
+                Err(halt) => halted(halt),
+            },
         }
     }
 
-    // Answers `root`: the root of the version that a base names.
-    pub(crate) fn root(&self, base: Base) -> Reply
-        ensures reply { result ≡ (root_answer self.now base).reply }
-        ensures does { Does self.now self.now (root_answer self.now base) }
+    // Answers `root`: the root of the map that a base names.
+    pub(crate) fn root<H: Wait>(
+        &mut self,
+        rt: &H,
+        store: &Store<D>,
+        on: Base,
+    ) -> Result<Reply, Stop>
+        requires own { IsPassOf self.old.pass store.now }
+        requires over { self.old.over ≡ false }
+        ensures ok { IfOk result (λ r. IsDoneAs store.now.start self.old self.new (command.Root on) r []) }
+        ensures goes_on { OnOk result (self.new.over ≡ false) }
+        ensures err { IfErr result (λ why. StopsFor store.now.start self.old self.new (command.Root on) why) }
     {
-        let version = match self.version_of(base) {
-            Ok(version) => version,
-            Err(why) => return Reply::No(why),
-        };
-        self.engine.know();
-        let root = self.engine.root_of(version).unwrap();
-        Reply::Root { root }
+        match fork_named(on) {
+            Some(id) => match self.tree_at(rt, store, id) {
+                Ok(tree) => Ok(Reply::Root { root: tree.root() }),
+                Err(halt) => halted(halt),
+            },
+            None => match self.snapshot_at(rt, store, on) {
+                Ok(snapshot) => Ok(Reply::Root {
+                    root: snapshot.root(),
+                }),
+                Err(halt) => halted(halt),
+            },
+        }
     }
 
-    // Answers `prove`: what the version that a base names says of a name. The lines of the proof are appended to
-    // `block`.
-    pub(crate) fn prove(
-        &self,
+    // Answers `count`: the number of entries of the map that a base names.
+    pub(crate) fn count<H: Wait>(
+        &mut self,
+        rt: &H,
+        store: &Store<D>,
+        on: Base,
+    ) -> Result<Reply, Stop>
+        requires own { IsPassOf self.old.pass store.now }
+        requires over { self.old.over ≡ false }
+        requires stored { is_stored on ≡ true }
+        ensures ok { IfOk result (λ r. IsDoneAs store.now.start self.old self.new (command.Count on) r []) }
+        ensures goes_on { OnOk result (self.new.over ≡ false) }
+        ensures err { IfErr result (λ why. StopsFor store.now.start self.old self.new (command.Count on) why) }
+    {
+        match self.snapshot_at(rt, store, on) {
+            Ok(snapshot) => Ok(Reply::Count {
+                count: snapshot.count(),
+            }),
+            Err(halt) => halted(halt),
+        }
+    }
+
+    // Answers `prove`: what the map that a base names says of a name. The lines of the proof are appended to `block`.
+    pub(crate) fn prove<H: Wait>(
+        &mut self,
+        rt: &H,
         alloc: Global,
-        base: Base,
+        store: &Store<D>,
+        on: Base,
         name: &[u8],
         block: &mut Bytes,
     ) -> Result<Reply, Stop>
-        ensures ok { OnOk result (Does self.now self.now (prove_answer self.now base name.now)) }
-        ensures reply { IfOk result (λ r. r ≡ (prove_answer self.now base name.now).reply) }
-        ensures block { OnOk result (block.new ≡ block.old ++ (prove_answer self.now base name.now).block) }
-        ensures only { OnErr result (result ≡ Err Stop.Memory) }
+        requires own { IsPassOf self.old.pass store.now }
+        requires over { self.old.over ≡ false }
+        requires stored { is_stored on ≡ true }
+        ensures ok { IfOk result (λ r. (text : List ℕ) × (block.new ≡ block.old ++ text) × IsDoneAs store.now.start self.old self.new (command.Prove on name.now) r text) }
+        ensures goes_on { OnOk result (self.new.over ≡ false) }
+        ensures err { IfErr result (λ why. StopsFor store.now.start self.old self.new (command.Prove on name.now) why) }
     {
-        let version = match self.version_of(base) {
-            Ok(version) => version,
-            Err(why) => return Ok(Reply::No(why)),
+        let snapshot = match self.snapshot_at(rt, store, on) {
+            Ok(snapshot) => snapshot,
+            Err(halt) => return halted(halt),
         };
-        let snapshot = self.engine.at(version).unwrap();
-        match write_proof_of(alloc, snapshot, name, block) {
+        match write_proof_of(alloc, &snapshot, name, block) {
             Ok(siblings) => Ok(Reply::Proof { siblings }),
             Err(Memory) => Err(Stop::Memory),
         }
     }
 
-    // Answers `chunk`: the entries from a place on in the version that a base names. Their lines, and those of their
-    // proof, are appended to `block`.
-    pub(crate) fn chunk(
-        &self,
+    // Answers `chunk`: the entries from a place on in the map that a base names. Their lines, and those of their proof,
+    // are appended to `block`.
+    pub(crate) fn chunk<H: Wait>(
+        &mut self,
+        rt: &H,
         alloc: Global,
-        base: Base,
+        store: &Store<D>,
+        on: Base,
         start: u64,
         count: u64,
         block: &mut Bytes,
     ) -> Result<Reply, Stop>
-        requires { 1 ≤ count }
-        ensures ok { OnOk result (Does self.now self.now (chunk_answer self.now base start count)) }
-        ensures reply { IfOk result (λ r. r ≡ (chunk_answer self.now base start count).reply) }
-        ensures block { OnOk result (block.new ≡ block.old ++ (chunk_answer self.now base start count).block) }
-        ensures only { OnErr result (result ≡ Err Stop.Memory) }
+        requires own { IsPassOf self.old.pass store.now }
+        requires over { self.old.over ≡ false }
+        requires stored { is_stored on ≡ true }
+        requires some { 1 ≤ count }
+        ensures ok { IfOk result (λ r. (text : List ℕ) × (block.new ≡ block.old ++ text) × IsDoneAs store.now.start self.old self.new (command.Chunk on start count) r text) }
+        ensures goes_on { OnOk result (self.new.over ≡ false) }
+        ensures err { IfErr result (λ why. StopsFor store.now.start self.old self.new (command.Chunk on start count) why) }
     {
-        let version = match self.version_of(base) {
-            Ok(version) => version,
-            Err(why) => return Ok(Reply::No(why)),
+        let snapshot = match self.snapshot_at(rt, store, on) {
+            Ok(snapshot) => snapshot,
+            Err(halt) => return halted(halt),
         };
-        let snapshot = self.engine.at(version).unwrap();
-        match write_chunk_of(alloc, snapshot, start, count, block) {
+        match write_chunk_of(alloc, &snapshot, start, count, block) {
             Ok(reply) => Ok(reply),
             Err(RangeAsk::Beyond(number)) => Ok(Reply::No(Refusal::Range(number))),
             Err(RangeAsk::Memory) => Err(Stop::Memory),
         }
     }
 
-    // The version that a base names, or why it isn't read.
-    fn version_of(&self, base: Base) -> Result<u64, Refusal>
-        ensures refused { IfErr result (λ why. read_refusal self.now base ≡ Some why) }
-        ensures read { IfOk result (λ w. read_refusal self.now base ≡ None) }
-        ensures kept { IfOk result (λ w. (self.now.state.all.floor ≤ w) × (w ≤ self.now.state.all.head)) }
-        ensures map { IfOk result (λ w. base_map self.now.state self.now.own base ≡ map_of self.now.state.all w) }
+    // Answers `nth`: the entry at a place of the map that a base names, counted from 0 in the order of the keys.
+    pub(crate) fn nth<H: Wait>(
+        &mut self,
+        rt: &H,
+        alloc: Global,
+        store: &Store<D>,
+        on: Base,
+        place: u64,
+    ) -> Result<Reply, Stop>
+        requires own { IsPassOf self.old.pass store.now }
+        requires over { self.old.over ≡ false }
+        requires stored { is_stored on ≡ true }
+        ensures ok { IfOk result (λ r. IsDoneAs store.now.start self.old self.new (command.Nth on place) r []) }
+        ensures goes_on { OnOk result (self.new.over ≡ false) }
+        ensures err { IfErr result (λ why. StopsFor store.now.start self.old self.new (command.Nth on place) why) }
     {
-        match base {
-            Base::Head => {
-                self.engine.know();
-                Ok(self.engine.state().head)
-            }
-            Base::Version(version) => self.kept(version),
-            Base::Fork(_) | Base::Place(_) => Err(Refusal::Syntax),
+        let snapshot = match self.snapshot_at(rt, store, on) {
+            Ok(snapshot) => snapshot,
+            Err(halt) => return halted(halt),
+        };
+        match nth(&snapshot, place) {
+            Some((key, value)) => entry_told(alloc, key, value),
+            None => Ok(Reply::No(Refusal::Range(snapshot.count()))),
         }
-    }
-
-    // This version, or why it isn't read: it is above the head, or below the retired bound.
-    fn kept(&self, version: u64) -> Result<u64, Refusal>
-        ensures refused { IfErr result (λ why. version_refusal self.now version ≡ Some why) }
-        ensures read { IfOk result (λ w. version_refusal self.now version ≡ None) }
-        ensures same { IfOk result (λ w. w ≡ version) }
-        ensures kept { IfOk result (λ w. (self.now.state.all.floor ≤ version) × (version ≤ self.now.state.all.head)) }
-    {
-        let state = self.engine.state();
-        if version > state.head {
-            return Err(Refusal::Future(state.head));
-        }
-        if version < state.floor {
-            return Err(Refusal::Retired(state.floor));
-        }
-        Ok(version)
     }
 }
 
-// A copy of a value, if there is one.
-fn copied(alloc: Global, value: Option<&[u8]>) -> Result<Option<Bytes>, Memory>
-    ensures { IfOk result (λ v. v ≡ option_copied value.entry) }
+// The reply with an entry.
+fn entry_told(alloc: Global, key: &Key, value: &[u8]) -> Result<Reply, Stop>
+    ensures ok { IfOk result (λ r. r ≡ Reply.Nth key.now value.now) }
+    ensures err { IfErr result (λ why. why ≡ Stop.Memory) }
+{
+    match Bytes::copy_of(alloc, value) {
+        Ok(value) => Ok(Reply::Nth { key: *key, value }),
+        Err(Memory) => Err(Stop::Memory),
+    }
+}
+
+// The reply with a copy of a value, if there is one.
+fn value_told(alloc: Global, value: Option<&[u8]>) -> Result<Reply, Stop>
+    ensures ok { IfOk result (λ r. r ≡ Reply.Value (option_copied value.entry)) }
+    ensures err { IfErr result (λ why. why ≡ Stop.Memory) }
 {
     match value {
-        Some(value) => Ok(Some(Bytes::copy_of(alloc, value)?)),
-        None => Ok(None),
+        Some(value) => match Bytes::copy_of(alloc, value) {
+            Ok(value) => Ok(Reply::Value { value: Some(value) }),
+            Err(Memory) => Err(Stop::Memory),
+        },
+        None => Ok(Reply::Value { value: None }),
     }
 }

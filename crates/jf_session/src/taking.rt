@@ -1,7 +1,8 @@
 // A session as a machine that takes lines.
 ghost use Rattle.std.specs.Prelude.{◌≡◌, ◌≤◌, false};
-ghost use Rattle.jf_session.specs.Sessions.{Session};
-ghost use Rattle.jf_session.specs.Taking.{Steps};
+ghost use Rattle.jf_store.specs.Passes.{IsPassOf};
+ghost use Rattle.jf_history.specs.Sessions.{Session};
+ghost use Rattle.jf_session.specs.Taking.{DoesLine};
 
 use crate::quiet::is_quiet;
 use crate::session::Session;
@@ -10,7 +11,9 @@ use jf_disk::Disk;
 use jf_input::LineMachine;
 use jf_join::Gate;
 use jf_path::Bytes;
+use jf_store::Store;
 use std::alloc::Global;
+use std::sync::Wait;
 use std::thread::Threads;
 
 // What clauses see as a session.
@@ -30,18 +33,18 @@ pub(crate) struct Taking<T, F> {
 }
 
 impl<T: Shows, F: Fn(&mut T, &[u8], &mut Bytes) -> Result<(), Stop>> LineMachine for Taking<T, F> {
-    ghost use Rattle.std.specs.Prelude.{◌≡◌, false};
-    ghost use Rattle.jf_session.specs.Taking.{AreSteps, AnswersLine, AnswersEnd, IsQuiet};
+    ghost use Rattle.jf_store.specs.Passes.{Store};
+    ghost use Rattle.jf_session.specs.Taking.{MayStep, AnswersLine, AnswersEnd, StaysQuiet};
 
     type Stop = Stop;
 
-    ghost ready = { λ t. ((T.shown t.session).over ≡ false) × AreSteps T.shown (F.pre t.step) (F.post t.step) };
+    ghost ready = { λ t. (store : Store) × MayStep store T.shown t.session (F.pre t.step) (F.post t.step) };
 
     ghost takes = { λ t line next r. AnswersLine (T.shown t.session) line (T.shown next.session) r };
 
     ghost ends = { λ t next r. AnswersEnd (T.shown t.session) (T.shown next.session) r };
 
-    ghost quiet = { λ t next. IsQuiet (T.shown t.session) (T.shown next.session) };
+    ghost quiet = { λ t next. StaysQuiet (T.shown t.session) (T.shown next.session) };
 
     fn is_quiet(&self, line: &[u8]) -> bool {
         is_quiet(line)
@@ -57,22 +60,23 @@ impl<T: Shows, F: Fn(&mut T, &[u8], &mut Bytes) -> Result<(), Stop>> LineMachine
 }
 
 // Does a line, and appends the reply.
-pub(crate) fn answer_line<D: Disk, H: Threads + Sync, G: Gate>(
+pub(crate) fn answer_line<D: Disk, H: Threads + Wait + Sync, G: Gate>(
     rt: &H,
     alloc: Global,
+    store: &Store<D>,
     session: &mut Session<D>,
     line: &[u8],
     workers: u64,
     gate: &G,
     out: &mut Bytes,
 ) -> Result<(), Stop>
+    requires own { IsPassOf session.old.pass store.now }
     requires over { session.old.over ≡ false }
     requires some { 1 ≤ workers }
     requires few { workers ≤ 64 }
-    ensures { Steps session.old line.now out.old result session.new out.new }
+    ensures { DoesLine session.old line.now out.old result session.new out.new }
 {
-    session.know_dated();
-    let stepped = session.step(rt, alloc, line, workers, gate, out);
-    session.know_dated();
+    let stepped = session.step(rt, alloc, store, line, workers, gate, out);
+    session.know_events(store);
     stepped
 }

@@ -2,6 +2,7 @@
 use crate::starts::{STARTS, Start, disk_over};
 use jf_disk::{Disk, MemDisk, Side};
 use jf_model::Entry;
+use jf_play::images::{FILLS, KEPT, image_of};
 use jf_play::play::{
     NO_FAULTS, Played, disk_of, has_ended, new_sink, new_source, one_word, play, run_over,
 };
@@ -114,25 +115,6 @@ fn is_opened<H: Threads + Wait + Sync>(
     } else {
         Err(Fail::new("the disk holds other versions"))
     }
-}
-
-// How many unsynced bytes a crash keeps, and the byte that it leaves in place of each of the others.
-const KEPT: &[u64] = &[0, 1, 200, 1 << 62];
-
-const FILLS: &[u8] = &[0x00, 0x01, 0xff];
-
-// The image that a crash leaves after this number of calls.
-fn image_of(
-    alloc: Global,
-    disk: &MemDisk,
-    moment: u64,
-    kept: u64,
-    fill: u8,
-) -> Result<Box<MemDisk>, Fail> {
-    if moment > disk.moment() {
-        return Err(Fail::new("no such moment"));
-    }
-    Ok(Box::new(alloc, disk.image(alloc, moment, kept, fill)?)?)
 }
 
 // Opens each image that a crash after this number of calls leaves, if it keeps this number of bytes.

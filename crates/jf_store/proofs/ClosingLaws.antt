@@ -10,7 +10,7 @@ use Rattle.jf_turn.specs.Seats.{SeatState, OthersFollow, joining}
 use Rattle.jf_turn.proofs.Lists.{has_append, has_cons, has_left, has_right, starts_self}
 use Rattle.jf_store.specs.declared.event.Event.{Event}
 use Rattle.jf_store.specs.Starts.{Start}
-use Rattle.jf_store.specs.Events.{named_by}
+use Rattle.jf_store.specs.Events.{pass_named_by}
 use Rattle.jf_store.specs.Passes.{Store, Pass, PinsState, IsPass, OthersAlone, pass_of}
 use Rattle.jf_store.specs.Closing.{ArePassesOf, AreAllPasses, WasAnnounced}
 
@@ -32,20 +32,20 @@ after_front : (whole front rest : List Event) → whole ≡ front ++ rest → dr
 after_front whole front rest e = ap (drop (length front)) e ∙ drop-append_seam front rest
 
 -- others follow what a seat has seen, also after a seat that has seen more and stands for its numbers too
-pub others_further : (s s' : SeatState Event Start) (events : List Event) → StartsWith s'.seen s.seen → OthersFollow named_by s s'.seen → ((n : ℕ) → HasElement s.numbers n → HasElement s'.numbers n)
-    → StartsWith events s'.seen → OthersFollow named_by s' events → OthersFollow named_by s events
+pub others_further : (s s' : SeatState Event Start) (events : List Event) → StartsWith s'.seen s.seen → OthersFollow pass_named_by s s'.seen → ((n : ℕ) → HasElement s.numbers n → HasElement s'.numbers n)
+    → StartsWith events s'.seen → OthersFollow pass_named_by s' events → OthersFollow pass_named_by s events
 others_further s s' events begins follow numbers more later = λ x has named.
     let whole : events ≡ s.seen ++ (begins.0 ++ more.0) = more.1 ∙ ap (λ xs. xs ++ more.0) begins.1 ∙ append_assoc s.seen begins.0 more.0 in
     elim (has_append begins.0 more.0 x (subst (λ (xs : List Event). HasElement xs x) (after_front events s.seen (begins.0 ++ more.0) whole) has)) [
       | inl near ↦ follow x (subst (λ (xs : List Event). HasElement xs x) (sym (after_front s'.seen s.seen begins.0 begins.1)) near) named
-      | inr far ↦ later x (subst (λ (xs : List Event). HasElement xs x) (sym (after_front events s'.seen more.0 more.1)) far) (numbers (named_by x) named)
+      | inr far ↦ later x (subst (λ (xs : List Event). HasElement xs x) (sym (after_front events s'.seen more.0 more.1)) far) (numbers (pass_named_by x) named)
     ]
 
 -- ---- what the last value has of seats and of passes
 -- the events go on from what a seat has seen, with none of its own
 pub record GoesOnFrom (s : SeatState Event Start) (events : List Event) : Type 0 where
   pub begins : StartsWith events s.seen
-  pub others : OthersFollow named_by s events
+  pub others : OthersFollow pass_named_by s events
 
 -- and from what each pass has seen
 abbrev pub GoOnFromAll : List Pass → List Event → Type 0
@@ -61,7 +61,7 @@ none_after xs x has = maybe.some-ne-none x (sym (subst (λ (ys : List Event). Ha
 pub goes_on_self : (s : SeatState Event Start) (events : List Event) → events ≡ s.seen → GoesOnFrom s events
 goes_on_self s events same = record {
   begins = subst (λ (xs : List Event). StartsWith xs s.seen) (sym same) (starts_self s.seen);
-  others = subst (OthersFollow named_by s) (sym same) (λ x has. absurd (none_after s.seen x has));
+  others = subst (OthersFollow pass_named_by s) (sym same) (λ x has. absurd (none_after s.seen x has));
 }
 
 pub none_go_on : (ps : List Pass) (events : List Event) → ps ≡ [] → GoOnFromAll ps events
@@ -73,7 +73,7 @@ none_announced ps pairs none = λ p has. absurd (none_there p (subst (λ (qs : L
 -- the events go on from what a pass has seen if they do from its seat
 pub goes_on_pass : (s : SeatState Event Start) (pins : PinsState) (p : Pass) (events : List Event) → pass_of s pins ≡ p → IsPass s pins → GoesOnFrom s events → StartsWith events p.seen × OthersAlone p events
 goes_on_pass s pins p events shown is g = subst (λ (q : Pass). StartsWith events q.seen × OthersAlone q events) shown
-    (g.begins, λ x has name. g.others x has (subst (λ (ns : List ℕ). HasElement ns (named_by x)) (sym is.numbers) (0, ap (λ n. maybe.some n) (sym name))))
+    (g.begins, λ x has name. g.others x has (subst (λ (ns : List ℕ). HasElement ns (pass_named_by x)) (sym is.numbers) (0, ap (λ n. maybe.some n) (sym name))))
 
 -- one pass more
 pub all_go_on : (ps rest : List Pass) (s : SeatState Event Start) (pins : PinsState) (p : Pass) (events : List Event) → ps ≡ rest ++ p ∷ [] → pass_of s pins ≡ p → IsPass s pins → GoesOnFrom s events → GoOnFromAll rest events → GoOnFromAll ps events
@@ -92,7 +92,7 @@ all_announced ps rest s pins p pairs e shown is announced all = λ q has. elim (
 
 -- ---- one seat is joined
 -- before it, the events go on from both
-pub goes_on_before : (s o s' : SeatState Event Start) (events : List Event) → s' ≡ joining s o → StartsWith s'.seen s.seen → StartsWith s'.seen o.seen → OthersFollow named_by s s'.seen × OthersFollow named_by o s'.seen
+pub goes_on_before : (s o s' : SeatState Event Start) (events : List Event) → s' ≡ joining s o → StartsWith s'.seen s.seen → StartsWith s'.seen o.seen → OthersFollow pass_named_by s s'.seen × OthersFollow pass_named_by o s'.seen
     → GoesOnFrom s' events → GoesOnFrom s events × GoesOnFrom o events
 goes_on_before s o s' events joined begins other follow g =
     let left : (n : ℕ) → HasElement s.numbers n → HasElement s'.numbers n = λ n has. subst (λ (t : SeatState Event Start). HasElement t.numbers n) (sym joined) (has_left s.numbers o.numbers n has) in

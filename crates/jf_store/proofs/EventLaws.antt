@@ -8,10 +8,10 @@ use Rattle.jf_model.specs.declared.entries.Entry.TheVariants as entry
 use Rattle.jf_model.proofs.EntryLaws.{above, above-all, IsHistory-push, RiseFrom-append, moments_of-append, replay-push, legal-at_moment}
 use Rattle.jf_store.specs.declared.event.Event.{Event}
 use Rattle.jf_store.specs.declared.event.Event.TheVariants.{Done, Mark}
-use Rattle.jf_store.specs.Events.{named_by, entries_of, attempt_of, is_marked}
+use Rattle.jf_store.specs.Events.{pass_named_by, entries_of, attempt_of, is_marked}
 use Rattle.jf_store.specs.Starts.{Start}
 use Rattle.jf_store.specs.Images.{AreWithin}
-use Rattle.jf_store.specs.Ledgers.{AreEvents, IsAttempt, MarkIsLast, state_behind}
+use Rattle.jf_store.specs.Ledgers.{AreEvents, IsUndone, MarkIsLast, state_behind}
 
 -- ---- the entries and the mark
 pub entries_of-append : (xs ys : List Event) → entries_of (xs ++ ys) ≡ entries_of xs ++ entries_of ys
@@ -118,7 +118,7 @@ push_rising start xs e h none legal own first later =
       history = subst (IsHistory start.state) (sym es) (IsHistory-push start.state (entries_of xs) e h.history legal first);
       later = subst (λ (l : List Entry). RiseFrom (start.moment + 1) (moments_of l)) (sym es)
           (subst (RiseFrom (start.moment + 1)) (sym (moments_of-append (entries_of xs) (e ∷ []))) (RiseFrom-append (start.moment + 1) (moments_of (entries_of xs)) (moments_of (e ∷ [])) h.later later));
-      named = all_push (λ y. named_by y < start.passes) xs (Done e) h.named own;
+      named = all_push (λ y. pass_named_by y < start.passes) xs (Done e) h.named own;
       marked = mark_last (state_behind start (xs ++ Done e ∷ [])) xs (Done e ∷ []) none tt;
     }
 
@@ -136,15 +136,15 @@ AreEvents-undated start xs e h none legal own undated =
     push_rising start xs e h none legal own (subst (RiseFrom (above 0 (moments_of (entries_of xs)))) (sym undated) tt) (subst (RiseFrom (above (start.moment + 1) (moments_of (entries_of xs)))) (sym undated) tt)
 
 -- a mark after events without one
-pub AreEvents-mark : (start : Start) (xs : List Event) (pass : ℕ) (e : Entry) → AreEvents start xs → is_marked xs ≡ false → IsAttempt (state_behind start xs) pass e → pass < start.passes → AreEvents start (xs ++ Mark pass e ∷ [])
+pub AreEvents-mark : (start : Start) (xs : List Event) (pass : ℕ) (e : Entry) → AreEvents start xs → is_marked xs ≡ false → IsUndone (state_behind start xs) pass e → pass < start.passes → AreEvents start (xs ++ Mark pass e ∷ [])
 AreEvents-mark start xs pass e h none attempt below =
     let es : entries_of (xs ++ Mark pass e ∷ []) ≡ entries_of xs = entries_of-mark xs pass e in
     record {
       history = subst (IsHistory start.state) (sym es) h.history;
       later = subst (λ (l : List Entry). RiseFrom (start.moment + 1) (moments_of l)) (sym es) h.later;
-      named = all_push (λ y. named_by y < start.passes) xs (Mark pass e) h.named below;
+      named = all_push (λ y. pass_named_by y < start.passes) xs (Mark pass e) h.named below;
       marked = mark_last (state_behind start (xs ++ Mark pass e ∷ [])) xs (Mark pass e ∷ []) none
-          (refl, subst (λ (l : List Entry). IsAttempt (replay start.state l) pass e) (sym es) attempt);
+          (refl, subst (λ (l : List Entry). IsUndone (replay start.state l) pass e) (sym es) attempt);
     }
 
 -- an entry is an attempt, its moment aside
@@ -162,5 +162,5 @@ timeless-twice (entry.Dropped owner fork) = refl
 timeless-twice (entry.Retired owner bound floor) = refl
 timeless-twice (entry.Compacted owner generation) = refl
 
-pub IsAttempt-timeless : (s : State) (e : Entry) → IsLegal s e → IsAttempt s (owner_of e) (timeless e)
-IsAttempt-timeless s e legal = record { legal = legal-at_moment 0 e s legal; owned = owner_of-at_moment 0 e; undated = timeless-twice e }
+pub IsUndone-timeless : (s : State) (e : Entry) → IsLegal s e → IsUndone s (owner_of e) (timeless e)
+IsUndone-timeless s e legal = record { legal = legal-at_moment 0 e s legal; owned = owner_of-at_moment 0 e; undated = timeless-twice e }

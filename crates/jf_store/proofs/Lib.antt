@@ -22,7 +22,9 @@ pub mod PassLaws
 pub mod NewPasses
 pub mod ClosingLaws
 pub mod PinLaws
+pub mod PinnedVersionLaws
 pub mod PruneLaws
+pub mod PinnedFloors
 pub mod PruneCallLaws
 pub mod FaultsInTurn
 pub mod Unrefused

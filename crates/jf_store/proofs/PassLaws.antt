@@ -12,7 +12,7 @@ use Rattle.jf_store.specs.declared.event.Event.{Event}
 use Rattle.jf_store.specs.declared.event.Event.TheVariants.{Done, Mark}
 use Rattle.jf_store.specs.declared.tried.Attempt.{Attempt}
 use Rattle.jf_store.specs.declared.fault.StoreFault.{StoreFault}
-use Rattle.jf_store.specs.Events.{named_by, landing_entry, attempted}
+use Rattle.jf_store.specs.Events.{pass_named_by, landing_entry, attempted}
 use Rattle.jf_store.specs.Starts.{Start}
 use Rattle.jf_store.specs.Ledgers.{state_behind, AreEvents}
 use Rattle.jf_store.specs.Refusals.{StoreFaults, IsRefusal}
@@ -22,7 +22,7 @@ use Rattle.jf_store.specs.Passes.{Pass, PinsState, IsPass, pass_of, OthersAlone,
 -- ---- events more
 -- each event more names the number
 abbrev pub AddsNamed : ℕ → List Event → List Event → Type 0
-AddsNamed number old new = (more : List Event) × (new ≡ old ++ more) × ((x : Event) → HasElement more x → named_by x ≡ number)
+AddsNamed number old new = (more : List Event) × (new ≡ old ++ more) × ((x : Event) → HasElement more x → pass_named_by x ≡ number)
 
 at_one : (x y : Event) (k : ℕ) → get_elem? (x ∷ []) k ≡ maybe.some y → x ≡ y
 at_one x y zero e = maybe.some-injective x y e
@@ -31,8 +31,8 @@ at_one x y (suc k) e = absurd (maybe.some-ne-none y (sym e))
 pub AddsNamed-none : (number : ℕ) (old new : List Event) → new ≡ old → AddsNamed number old new
 AddsNamed-none number old new e = ([], e ∙ sym (append-nil old), λ x h. absurd (maybe.some-ne-none x (sym h.1)))
 
-pub AddsNamed-one : (number : ℕ) (old new : List Event) (x : Event) → named_by x ≡ number → new ≡ old ++ x ∷ [] → AddsNamed number old new
-AddsNamed-one number old new x name e = (x ∷ [], e, λ y h. ap named_by (sym (at_one x y h.0 h.1)) ∙ name)
+pub AddsNamed-one : (number : ℕ) (old new : List Event) (x : Event) → pass_named_by x ≡ number → new ≡ old ++ x ∷ [] → AddsNamed number old new
+AddsNamed-one number old new x name e = (x ∷ [], e, λ y h. ap pass_named_by (sym (at_one x y h.0 h.1)) ∙ name)
 
 -- after a landing, however it ended
 pub AddsNamed-landing : (number : ℕ) (how : Landing) (what : Attempt) (faults : Start → List Event → StoreFaults) (v v' : Vault) (r : Result Landed StoreFault)
@@ -51,7 +51,7 @@ pub record HasPassed (s s' : SeatState Event Start) (p : PinsState) (v v' : Vaul
   pub after : s' ≡ giving (taking s v.events) v'.events
   pub began : v.start ≡ start
   pub begins : StartsWith v.events s.seen
-  pub others : OthersFollow named_by s v.events
+  pub others : OthersFollow pass_named_by s v.events
 
 module _ (s s' : SeatState Event Start) (p : PinsState) (v v' : Vault) (start : Start) (h : HasPassed s s' p v v' start) where
   shown : pass_of s' p ≡ record (pass_of s p) { seen = v'.events }
@@ -60,7 +60,7 @@ module _ (s s' : SeatState Event Start) (p : PinsState) (v v' : Vault) (start : 
   follow : OthersAlone (pass_of s p) v.events
   follow = λ x has name. h.others x has (0, ap (λ (ns : List ℕ). get_elem? ns 0) h.is.numbers ∙ ap (λ (n : ℕ). maybe.some n) (sym name))
 
-  pub may_give : (number : ℕ) → number ≡ s.number → AddsNamed number v.events v'.events → MayGive named_by (taking s v.events) v'.events
+  pub may_give : (number : ℕ) → number ≡ s.number → AddsNamed number v.events v'.events → MayGive pass_named_by (taking s v.events) v'.events
   may_give number is adds = (v.events, adds.0, refl, adds.1, λ x has. adds.2 x has ∙ is)
 
   seen_is : (pass_of s' p).seen ≡ v'.events

@@ -19,7 +19,7 @@ use Rattle.jf_store.specs.declared.tried.Tried.{Tried}
 use Rattle.jf_store.specs.Events.{is_marked, entries_of, attempted}
 use Rattle.jf_store.specs.Starts.{Start, first_state, start_in}
 use Rattle.jf_store.specs.Images.{AreWithin}
-use Rattle.jf_store.specs.Ledgers.{AreEvents, IsAttempt, state_behind}
+use Rattle.jf_store.specs.Ledgers.{AreEvents, IsUndone, state_behind}
 use Rattle.jf_store.specs.Stepped.{HasStepped, HasStopped, IsDatedEngine}
 use Rattle.jf_store.specs.Kept.{IsKept}
 use Rattle.jf_store.specs.Floors.{IsMet, AreMet}
@@ -164,7 +164,7 @@ module _ (b : Beginning) (es : List Entry) (e : Engine) (t : Table) (p : PrunerS
         → IsStepOf step x (state_after b es) → IsLegal (state_after b es) x → pass < b.passes → IsDatedEngine e → HasStopped step e e' → IsAfter b es es None (Some tried) e e' t p p' (Mark pass x)
     IsAfter-stop step e' pruner gate below met is legal own told stopped =
         let same : start_in b e' p'.board ≡ start = start_in-grown b e e' p.board p'.board pruner.board stopped.untold (HasStopped-grows step e e' stopped) (early told) in
-        let tries : IsAttempt (state_behind start events) pass x = record { legal = legal_here x legal; owned = owner_of-attempted pass (state_after b es) what; undated = timeless-attempted pass (state_after b es) what } in
+        let tries : IsUndone (state_behind start events) pass x = record { legal = legal_here x legal; owned = owner_of-attempted pass (state_after b es) what; undated = timeless-attempted pass (state_after b es) what } in
         let added : AreEvents start (events ++ Mark pass x ∷ []) = AreEvents-mark start events pass x k.events unmarked tries own in
         record {
           vault = record {

@@ -16,3 +16,4 @@ pub mod Landings
 pub mod Compactions
 pub mod Readings
 pub mod Forkings
+pub mod PinnedVersions

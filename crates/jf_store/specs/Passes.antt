@@ -15,7 +15,7 @@ use Rattle.jf_turn.specs.Seats.{SeatState, TurnState}
 use Rattle.jf_store.specs.declared.event.Event.{Event}
 use Rattle.jf_store.specs.declared.event.Event.TheVariants.{Done, Mark}
 use Rattle.jf_store.specs.declared.tried.Attempt.{Attempt}
-use Rattle.jf_store.specs.Events.{named_by, is_marked, landing_entry, attempted}
+use Rattle.jf_store.specs.Events.{pass_named_by, is_marked, landing_entry, attempted}
 use Rattle.jf_store.specs.Starts.{Start}
 use Rattle.jf_store.specs.Ledgers.{AreEvents, state_behind}
 use Rattle.jf_store.specs.Refusals.{StoreFaults, IsRefusal}
@@ -89,7 +89,7 @@ AreNewPasses s (p ∷ ps) n = (p ≡ new_pass s n) × AreNewPasses s ps (n + 1)
 -- ---- calls
 -- no event after those that the pass has seen names it
 abbrev pub OthersAlone : Pass → List Event → Type 0
-OthersAlone p events = (x : Event) → HasElement (drop (length p.seen) events) x → named_by x ≡ p.number → ⊥
+OthersAlone p events = (x : Event) → HasElement (drop (length p.seen) events) x → pass_named_by x ≡ p.number → ⊥
 
 -- the pass has seen more, none of it its own
 pub record Sees (old new : Pass) : Type 0 where

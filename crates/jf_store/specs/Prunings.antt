@@ -6,6 +6,7 @@ use Rattle.jf_board.specs.Rule.{Has, Below, low_of, word_of, hold_at}
 use Rattle.jf_board.specs.Scans.{IsHeld}
 use Rattle.jf_board.specs.States.{PrunerState, HasScanned}
 use Rattle.jf_board.specs.declared.scan.Held.{Held}
+use Rattle.jf_board.specs.declared.views.Hold.TheVariants as hold
 use Rattle.jf_board.specs.declared.views.PlaceView.{PlaceView}
 use Rattle.jf_board.specs.declared.views.PrunerView.{PrunerView}
 use Rattle.jf_store.specs.declared.event.Event.{Event}
@@ -17,6 +18,7 @@ use Rattle.jf_store.specs.declared.tried.Attempt.TheVariants as attempt
 use Rattle.jf_store.specs.Events.{attempted}
 use Rattle.jf_store.specs.Starts.{Start}
 use Rattle.jf_store.specs.Ledgers.{state_behind}
+use Rattle.jf_store.specs.Floors.{IsMet}
 use Rattle.jf_store.specs.Refusals.{StoreFaults, IsRefusal, broken_faults, ledger_faults, version_faults}
 use Rattle.jf_store.specs.Vaults.{Vault, AddsTo, StopsIn}
 use Rattle.jf_store.specs.Passes.{Pass, Sees, SeesOwn}
@@ -50,6 +52,15 @@ pub record HasFound (s : State) (passes : ℕ) (own : PlaceView) (bound floor : 
   pub words : (i : ℕ) → i < 8 → slice_index pruner.loaded (8 * own.number + i) ≡ word_of (hold_at own i)
   pub pins : (i : ℕ) → i < 8 → Below (low_of pruner) (hold_at own i)
 
+-- a place has confirmed this version at one of its eight
+abbrev pub HasConfirmed : PlaceView → ℕ → Type 0
+HasConfirmed own version = (i : ℕ) × (i < 8) × (hold_at own i ≡ hold.Confirmed version)
+
+-- over a state, the floor for a bound is the bound, or a lower version that is said to be pinned by a pass of the store, if it isn't below the old floor; if that is the pass with this number, its place has confirmed the version. It rises above no version that this place has confirmed
+pub record IsPinnedFloor (passes number : ℕ) (own : PlaceView) (s : State) (bound floor : ℕ) : Type 0 where
+  pub met : IsMet (λ pin. (pin.0 < passes) × (pin.0 ≡ number → HasConfirmed own pin.1)) s (entry.Retired number bound floor)
+  pub under : (version : ℕ) → HasConfirmed own version → floor ≤ max s.floor version
+
 -- ---- behind the turn
 -- a pass with this place retired the versions below a bound
 pub record PrunesIn (pass : ℕ) (own : PlaceView) (bound : ℕ) (old new : Vault) (r : Pruned) : Type 0 where
@@ -75,6 +86,7 @@ pub record HasPruned (start : Start) (bound : ℕ) (old new : Pass) (r : Pruned)
   pub adds : SeesOwn old new before (Done (entry.Retired old.number bound r.floor))
   pub bound_is : r.bound ≡ bound
   pub found : HasFound (state_behind start before) start.passes old.place bound r.floor r.held
+  pub pinned : IsPinnedFloor start.passes old.number old.place (state_behind start before) bound r.floor
 
 -- the disk failed in it
 pub record HasTriedPruning (start : Start) (bound : ℕ) (old new : Pass) : Type 0 where
@@ -83,6 +95,7 @@ pub record HasTriedPruning (start : Start) (bound : ℕ) (old new : Pass) : Type
   pub held : Option Held
   pub adds : SeesOwn old new before (Mark old.number (attempted old.number (state_behind start before) (attempt.Retires bound floor)))
   pub found : HasFound (state_behind start before) start.passes old.place bound floor held
+  pub pinned : IsPinnedFloor start.passes old.number old.place (state_behind start before) bound floor
 
 -- a pruning failed: the disk failed in it, or, over what the pass had then seen, it was refused
 abbrev pub HasFailedPruning : Start → ℕ → Pass → Pass → StoreFault → Type 0

@@ -3,7 +3,7 @@ ghost use Rattle.std.specs.Prelude.{◌≡◌, ◌⊎◌, ℕ, ◌<◌, None, So
 ghost use Rattle.jf_turn.specs.Lists.{HasElement, StartsWith};
 ghost use Rattle.jf_turn.specs.Seats.{OthersFollow, IsSeatOf};
 ghost use Rattle.jf_board.specs.Rule.{Has};
-ghost use Rattle.jf_store.specs.Events.{named_by};
+ghost use Rattle.jf_store.specs.Events.{pass_named_by};
 ghost use Rattle.jf_store.specs.Passes.{OthersAlone, store_of};
 ghost use Rattle.jf_store.specs.Closing.{AreAllPasses, ArePassesOf, IsClosed};
 
@@ -36,7 +36,7 @@ fn end_turn<D: Disk>(
     requires board { board.now ≡ turn.origin.board }
     ensures start { result.start ≡ turn.origin }
     ensures begins { StartsWith result.events seat.seen }
-    ensures others { OthersFollow named_by seat result.events }
+    ensures others { OthersFollow pass_named_by seat result.events }
     ensures seen { (p : _) → HasElement passes.items p → StartsWith result.events p.seen × OthersAlone p result.events }
     ensures pins { (p : _) → HasElement passes.items p → (version : ℕ) → Has result.pruner.known.pairs (p.number, version) → Has p.place.announced version }
 {

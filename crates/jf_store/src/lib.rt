@@ -13,6 +13,7 @@ mod opening;
 mod origin;
 mod pass;
 mod pin_back;
+mod pin_version;
 mod pinning;
 mod pins;
 mod pruned;

@@ -1,5 +1,6 @@
 // What a thread uses a shared store by.
-ghost use Rattle.std.specs.Prelude.{◌≡◌, ◌⊎◌, ℕ, ◌<◌, ◌≤◌, length, IfOk, IfErr, Some};
+ghost use Rattle.std.specs.Prelude.{◌≡◌, ◌⊎◌, ℕ, ◌<◌, ◌≤◌, length, IfOk, IfErr, OnOk, Some, None};
+ghost use Rattle.jf_path.specs.Checks.{first_of};
 ghost use Rattle.jf_model.specs.States.{IsState};
 ghost use Rattle.jf_model.specs.declared.entries.Landing.TheVariants as landing;
 ghost use Rattle.jf_store.specs.declared.tried.Attempt.TheVariants as attempt;
@@ -81,6 +82,7 @@ impl<D: Disk> Pass<D> {
         requires { IsPassOf self.old store.now }
         ensures sees { Sees self.old self.new }
         ensures look { IfOk result (IsLook (state_behind store.now.start self.new.seen)) }
+        ensures granted { OnOk result (first_of (look_faults store.now.start self.new.seen) ≡ None) }
         ensures refused { IfErr result (IsRefusal (look_faults store.now.start self.new.seen)) }
     {
         let vault = self.seat.take(rt, &store.turn);

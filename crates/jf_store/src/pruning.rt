@@ -2,7 +2,7 @@
 ghost use Rattle.std.specs.Prelude.{◌≡◌, ◌⊎◌, ◌+◌, ◌*◌, ◌<◌, ◌≤◌, Err, IfOk, IfErr, OnOk, OnErr, false};
 ghost use Rattle.jf_path.specs.Checks.{first_of};
 ghost use Rattle.jf_files.specs.Steps.{Prunes};
-ghost use Rattle.jf_store.specs.Passes.{IsPassOf};
+ghost use Rattle.jf_store.specs.Passes.{IsPassOf, ArePins};
 ghost use Rattle.jf_store.specs.Stepped.{HasStepped, HasStopped, IsDatedEngine};
 ghost use Rattle.jf_store.specs.Prunings.{prune_faults, HasSwept, PrunesIn, FailsPruning, HasPruned, HasFailedPruning};
 
@@ -136,10 +136,12 @@ impl Pins {
         requires place { self.old.board ≡ board.now }
         requires words { board.now.words ≡ 8 * vault.old.start.passes + 3 }
         ensures same { self.new ≡ self.old }
+        ensures pins { ArePins self.old }
         ensures start { vault.new.start ≡ vault.old.start }
         ensures pruned { IfOk result (PrunesIn pass self.old.known bound vault.old vault.new) }
         ensures failed { IfErr result (FailsPruning pass self.old.known bound vault.old vault.new) }
     {
+        self.know();
         vault.prune(board, &mut self.place, pass, bound)
     }
 }

@@ -1,5 +1,5 @@
 // Reading a version, or a fork.
-ghost use Rattle.std.specs.Prelude.{◌≡◌, IfOk, IfErr};
+ghost use Rattle.std.specs.Prelude.{◌≡◌, ◌-◌, ◌^◌, ◌<◌, IfOk, IfErr, OnOk, None};
 ghost use Rattle.jf_path.specs.Checks.{first_of};
 ghost use Rattle.jf_store.specs.Ledgers.{state_behind};
 ghost use Rattle.jf_store.specs.Refusals.{IsRefusal, at_faults, fork_faults, tree_faults};
@@ -38,11 +38,14 @@ impl<D: Disk> Vault<D> {
     // The snapshot of a version. All versions from the retired bound on are kept, since no floor is above it.
     pub(crate) fn at(&self, version: u64) -> Result<Snapshot, StoreFault>
         ensures read { IfOk result (ReadsVersion version (state_behind self.now.start self.now.events)) }
+        ensures granted { OnOk result (first_of (at_faults version self.now.start self.now.events) ≡ None) }
+        ensures below { OnOk result (version < 2 ^ 64 - 1) }
         ensures refused { IfErr result (IsRefusal (at_faults version self.now.start self.now.events)) }
     {
         if let Some(fault) = self.at_fault(version) {
             return Err(fault);
         }
+        self.engine.know();
         let Some(snapshot) = self.engine.at(version) else {
             unreachable!()
         };
@@ -65,6 +68,7 @@ impl<D: Disk> Vault<D> {
     // The tree of a fork.
     pub(crate) fn tree(&self, id: u64) -> Result<SpecTree, StoreFault>
         ensures read { IfOk result (λ t. t ≡ map_at_fork id (state_behind self.now.start self.now.events)) }
+        ensures granted { OnOk result (first_of (tree_faults id self.now.start self.now.events) ≡ None) }
         ensures refused { IfErr result (IsRefusal (tree_faults id self.now.start self.now.events)) }
     {
         if self.is_broken() {
@@ -99,6 +103,8 @@ impl<D: Disk> Pass<D> {
         requires { IsPassOf self.old store.now }
         ensures sees { Sees self.old self.new }
         ensures read { IfOk result (ReadsVersion version (state_behind store.now.start self.new.seen)) }
+        ensures granted { OnOk result (first_of (at_faults version store.now.start self.new.seen) ≡ None) }
+        ensures below { OnOk result (version < 2 ^ 64 - 1) }
         ensures refused { IfErr result (IsRefusal (at_faults version store.now.start self.new.seen)) }
     {
         let vault = self.seat.take(rt, &store.turn);
@@ -125,6 +131,7 @@ impl<D: Disk> Pass<D> {
         requires { IsPassOf self.old store.now }
         ensures sees { Sees self.old self.new }
         ensures read { IfOk result (λ t. t ≡ map_at_fork id (state_behind store.now.start self.new.seen)) }
+        ensures granted { OnOk result (first_of (tree_faults id store.now.start self.new.seen) ≡ None) }
         ensures refused { IfErr result (IsRefusal (tree_faults id store.now.start self.new.seen)) }
     {
         let vault = self.seat.take(rt, &store.turn);

@@ -1,5 +1,5 @@
 // What lies behind the turn.
-ghost use Rattle.std.specs.Prelude.{◌≡◌, ◌⊎◌, ℕ, ◌+◌, ◌-◌, ◌<◌, ◌≤◌, ◌^◌, [], ◌∷◌, ◌++◌, length, Err, Ok, IfOk, IfErr, OnErr, true, false, Some, None};
+ghost use Rattle.std.specs.Prelude.{◌≡◌, ◌⊎◌, ℕ, ◌+◌, ◌-◌, ◌<◌, ◌≤◌, ◌^◌, [], ◌∷◌, ◌++◌, length, Err, Ok, IfOk, IfErr, OnOk, OnErr, true, false, Some, None};
 ghost use Rattle.jf_path.specs.Checks.{first_of};
 ghost use Rattle.jf_disk.specs.Disk.{History};
 ghost use Rattle.jf_disk.specs.Moments.{ExtendsHistory};
@@ -8,7 +8,7 @@ ghost use Rattle.jf_model.specs.declared.entries.Landing.TheVariants as landing;
 ghost use Rattle.jf_board.specs.Rule.{Has};
 ghost use Rattle.jf_board.specs.Steps.{NumbersAreGiven};
 ghost use Rattle.jf_board.specs.States.{new_pruner};
-ghost use Rattle.jf_store.specs.Events.{named_by, is_marked, entries_of, attempt_of};
+ghost use Rattle.jf_store.specs.Events.{pass_named_by, is_marked, entries_of, attempt_of};
 ghost use Rattle.jf_store.specs.Starts.{start_with, IsBeginningOf};
 ghost use Rattle.jf_store.specs.Ledgers.{state_behind, AreEvents};
 ghost use Rattle.jf_store.specs.Kept.{IsKept};
@@ -79,7 +79,7 @@ impl<D: Disk> Told for Vault<D> {
 
     ghost list = { λ v. v.events };
 
-    ghost names = { λ x. named_by x };
+    ghost names = { λ x. pass_named_by x };
 
     ghost origin = { λ v. v.start };
 
@@ -171,6 +171,7 @@ impl<D: Disk> Vault<D> {
     // The head and the numbers of the store.
     pub(crate) fn look(&self) -> Result<Look, StoreFault>
         ensures look { IfOk result (IsLook (state_behind self.now.start self.now.events)) }
+        ensures granted { OnOk result (first_of (look_faults self.now.start self.now.events) ≡ None) }
         ensures refused { IfErr result (IsRefusal (look_faults self.now.start self.now.events)) }
     {
         if self.is_broken() {

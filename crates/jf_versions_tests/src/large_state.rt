@@ -1,5 +1,5 @@
 // Many versions of a large state: 100,000 entries, and then 3,000 commits of one name over them; at the end the name is
-// read at version 10 and at the head. No version copies the map: 3,000 copies of 100,000 entries of 40 bytes would take 12 GB.
+// read at version 10 and at the head, and the nodes are counted. No version copies the map: 3,000 copies of 100,000 entries of 40 bytes would take 12 GB.
 use jf_disk::MemDisk;
 use jf_io::{MemSink, MemSource};
 use jf_path::Bytes;
@@ -22,11 +22,14 @@ const ROUNDS: u32 = 1_500;
 // A round, which makes two versions.
 const ROUND: &[u8] = b"put 61 =30\ncommit\nput 61 =31\ncommit\n";
 
-// The last lines, and the replies to them. The root is that of the map of the 100,001 names, by Python's `hashlib`.
-const LAST: &[u8] = b"get v10 61\nget head 61\nroot head\n";
+// The last lines, and the replies to them. The root is that of the map of the 100,001 names, and the nodes kept are counted on
+// whole maps, by a reference in Python and its `hashlib`.
+const LAST: &[u8] = b"get v10 61\nget head 61\nroot head\nstatus\n";
 
-const REPLIES: &[u8] =
-    b"3010 ok none\n3010 ok value =31\n3010 ok root 8007a587d5e2bfc8a12864ffb30dc0bc54a2e4f214aec8634445dd18e242c79e\n";
+const REPLIES: &[u8] = b"3010 ok none\n\
+      3010 ok value =31\n\
+      3010 ok root 8007a587d5e2bfc8a12864ffb30dc0bc54a2e4f214aec8634445dd18e242c79e\n\
+      3010 ok status base 0 floor 0 retired 0 head 3010 kept 236220 forks 0 generation 1\n";
 
 // Appends the `put` of a name, which is a number in four bytes, and a `commit` if the batch is full.
 fn add_put(alloc: Global, script: &mut Vec<u8>, number: u32) -> Result<(), Fail> {

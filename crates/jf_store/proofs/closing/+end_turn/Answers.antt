@@ -3,7 +3,7 @@ use Rattle.jf_board.specs.Rule.{Has}
 use Rattle.jf_turn.specs.Lists.{StartsWith}
 use Rattle.jf_turn.specs.Seats.{OthersFollow}
 use Rattle.jf_store.specs.declared.event.Event.{Event}
-use Rattle.jf_store.specs.Events.{named_by}
+use Rattle.jf_store.specs.Events.{pass_named_by}
 use Rattle.jf_store.specs.Vaults.{Vault}
 use Rattle.jf_store.specs.Passes.{Pass, IsPassOf, store_of}
 use Rattle.jf_store.proofs.ClosingLaws.{GoesOnFrom, GoOnFromAll, AreAllAnnounced, starts_further, no_pass_left, joined_numbers, rest_belong, last_belongs, goes_on_before, all_go_on, all_announced}
@@ -43,7 +43,7 @@ returns-clause-others g t c =
     let events : c.join-2.new.self.events ≡ c.end_turn-vault.result.events = ap (λ (v : Vault). v.events) c.join-2.ensures.same in
     let later : GoesOnFrom c.join.new.self c.end_turn-vault.result.events = record { begins = c.end_turn-vault.ensures.begins; others = c.end_turn-vault.ensures.others } in
     let both = goes_on_before c.args.seat c.pass.inside.seat c.join.new.self c.end_turn-vault.result.events c.join.ensures.joins c.join.ensures.begins c.join.ensures.other_begins c.join.ensures.others later in
-    subst (OthersFollow named_by c.args.seat) (sym events) both.0.others
+    subst (OthersFollow pass_named_by c.args.seat) (sym events) both.0.others
 
 pub returns-clause-seen : goal.returns-clause-seen
 returns-clause-seen g t c =

@@ -1,15 +1,49 @@
-use Rattle.std.proofs.Common.{◌≡◌, Some, ap, sym, rules}
-use Rattle.jf_answers.specs.Answers.{Answer}
-use Rattle.jf_session.specs.Sessions.{Session}
-use Rattle.jf_session.proofs.ReadLaws.{root-refused, root-value}
+use Rattle.jf_script.specs.declared.command.Base.TheVariants as base
+use Rattle.jf_script.specs.declared.command.Command.TheVariants as command
+use Rattle.jf_session.proofs.ReadLaws.{reads_root, root_done, halted_done, halted_goes, halted_stops, found_named, halted_named}
 use Rattle.jf_session.proofs.session.Session.root.Goals as goal
 
-pub returns-in-Err-clause-reply : goal.returns-in-Err-clause-reply
-returns-in-Err-clause-reply g c = ap (λ (a : Answer). a.reply) (sym (root-refused c.args.self.now c.args.base c.in-Err.why c.in-Err.ensures.refused))
+pub returns-in-Ok-clause-ok : goal.returns-in-Ok-clause-ok
+returns-in-Ok-clause-ok g c =
+    let a = c.args in
+    let found = found_named a.store.now.start a.self.now c.tree_at.new.self a.on (base.Fork c.in-Some.id) c.in-Ok.tree c.in-Some.ensures.fork c.in-Ok.ensures.found in
+    root_done a.store.now.start a.self.now c.tree_at.new.self a.on c.in-Ok.tree found c.root.result c.root.ensures
 
-pub returns-clause-reply : goal.returns-clause-reply
-returns-clause-reply g c =
-    let f = c.in-Ok.ensures in
-    let there : c.root_of.result ≡ Some c.unwrap-root.result = search rules in
-    root-value c.args.self.now c.self.inside.engine.versions c.args.base c.in-Ok.version c.root_of.result c.unwrap-root.result (ap (λ (s : Session). s.state.all) c.self.view_is) c.know.ensures.sound
-    f.read f.map f.kept c.root_of.ensures there
+pub returns-in-Ok-snapshot_at-clause-ok : goal.returns-in-Ok-snapshot_at-clause-ok
+returns-in-Ok-snapshot_at-clause-ok g c =
+    let a = c.args in
+    let i = c.in-Ok-snapshot_at in
+    root_done a.store.now.start a.self.now c.snapshot_at.new.self a.on i.snapshot.map i.ensures.found c.root-in-Ok-snapshot_at.result c.root-in-Ok-snapshot_at.ensures
+
+pub returns-in-Err-clause-ok : goal.returns-in-Err-clause-ok
+returns-in-Err-clause-ok g c =
+    let a = c.args in
+    let halts = halted_named a.store.now.start a.self.now c.tree_at.new.self a.on (base.Fork c.in-Some.id) c.in-Err.halt c.in-Some.ensures.fork c.in-Err.ensures.halted in
+    halted_done a.store.now.start a.self.now c.tree_at.new.self a.on (command.Root a.on) (reads_root a.on) c.in-Err.halt c.halted.result halts c.halted.ensures
+
+pub returns-in-Err-clause-goes_on : goal.returns-in-Err-clause-goes_on
+returns-in-Err-clause-goes_on g c =
+    let a = c.args in
+    let halts = halted_named a.store.now.start a.self.now c.tree_at.new.self a.on (base.Fork c.in-Some.id) c.in-Err.halt c.in-Some.ensures.fork c.in-Err.ensures.halted in
+    halted_goes a.store.now.start a.self.now c.tree_at.new.self a.on (command.Root a.on) (reads_root a.on) c.in-Err.halt c.halted.result halts c.halted.ensures
+
+pub returns-in-Err-clause-err : goal.returns-in-Err-clause-err
+returns-in-Err-clause-err g c =
+    let a = c.args in
+    let halts = halted_named a.store.now.start a.self.now c.tree_at.new.self a.on (base.Fork c.in-Some.id) c.in-Err.halt c.in-Some.ensures.fork c.in-Err.ensures.halted in
+    halted_stops a.store.now.start a.self.now c.tree_at.new.self a.on (command.Root a.on) (reads_root a.on) c.in-Err.halt c.halted.result halts c.halted.ensures
+
+pub returns-in-Err-snapshot_at-clause-ok : goal.returns-in-Err-snapshot_at-clause-ok
+returns-in-Err-snapshot_at-clause-ok g c =
+    let a = c.args in
+    halted_done a.store.now.start a.self.now c.snapshot_at.new.self a.on (command.Root a.on) (reads_root a.on) c.in-Err-snapshot_at.halt c.halted-in-Err-snapshot_at.result c.in-Err-snapshot_at.ensures.halted c.halted-in-Err-snapshot_at.ensures
+
+pub returns-in-Err-snapshot_at-clause-goes_on : goal.returns-in-Err-snapshot_at-clause-goes_on
+returns-in-Err-snapshot_at-clause-goes_on g c =
+    let a = c.args in
+    halted_goes a.store.now.start a.self.now c.snapshot_at.new.self a.on (command.Root a.on) (reads_root a.on) c.in-Err-snapshot_at.halt c.halted-in-Err-snapshot_at.result c.in-Err-snapshot_at.ensures.halted c.halted-in-Err-snapshot_at.ensures
+
+pub returns-in-Err-snapshot_at-clause-err : goal.returns-in-Err-snapshot_at-clause-err
+returns-in-Err-snapshot_at-clause-err g c =
+    let a = c.args in
+    halted_stops a.store.now.start a.self.now c.snapshot_at.new.self a.on (command.Root a.on) (reads_root a.on) c.in-Err-snapshot_at.halt c.halted-in-Err-snapshot_at.result c.in-Err-snapshot_at.ensures.halted c.halted-in-Err-snapshot_at.ensures

@@ -5,7 +5,7 @@ use Rattle.jf_store.specs.declared.tried.Attempt.TheVariants as attempt
 use Rattle.jf_turn.specs.Seats.{SeatState, MayGive, giving}
 use Rattle.jf_store.specs.declared.event.Event.{Event}
 use Rattle.jf_store.specs.Starts.{Start}
-use Rattle.jf_store.specs.Events.{named_by}
+use Rattle.jf_store.specs.Events.{pass_named_by}
 use Rattle.jf_store.specs.Refusals.{commit_faults}
 use Rattle.jf_store.specs.Passes.{Pass, Store, pass_of, HasLanded, HasFailed}
 use Rattle.jf_store.proofs.PassLaws.{HasPassed, AddsNamed-landing, HasLanded-passed, HasFailed-passed, IsPass-passed}
@@ -27,7 +27,7 @@ give-requires-clause-goes_on g c =
     let s = c.self.inside.seat in
     let number : c.number-number.result ≡ s.number = c.number-number.ensures ∙ ap (λ (t : SeatState Event Start). t.number) c.take-vault.ensures.takes in
     let own = AddsNamed-landing c.number-number.result (landing.Direct c.args.batch.now) (attempt.Lands (landing.Direct c.args.batch.now)) commit_faults v v2 c.commit-landed.result c.commit-landed.ensures.landed c.commit-landed.ensures.failed in
-    subst (λ (t : SeatState Event Start). MayGive named_by t v2.events) (sym c.take-vault.ensures.takes)
+    subst (λ (t : SeatState Event Start). MayGive pass_named_by t v2.events) (sym c.take-vault.ensures.takes)
     (v.events, own.0, refl, own.1, λ x has. own.2 x has ∙ number)
 
 pub invariant_of-self : goal.invariant_of-self

@@ -1,9 +1,10 @@
-use Rattle.std.proofs.Common.{◌≡◌, ◌∙◌, ap, sym, subst, Some, refl, List}
-use Rattle.std.specs.Prelude.{IfOk, IfErr}
+use Rattle.std.proofs.Common.{◌≡◌, ◌∙◌, ap, sym, subst, Some, None, refl, List}
+use Rattle.std.specs.Prelude.{IfOk, IfErr, OnOk}
+use Rattle.jf_path.specs.Checks.{first_of}
 use Rattle.jf_turn.specs.Seats.{SeatState, MayGive, giving}
 use Rattle.jf_store.specs.declared.event.Event.{Event}
 use Rattle.jf_store.specs.Starts.{Start}
-use Rattle.jf_store.specs.Events.{named_by}
+use Rattle.jf_store.specs.Events.{pass_named_by}
 use Rattle.jf_store.specs.Ledgers.{state_behind}
 use Rattle.jf_store.specs.Looks.{IsLook}
 use Rattle.jf_store.specs.Refusals.{IsRefusal, look_faults}
@@ -15,7 +16,7 @@ pub give-requires-clause-goes_on : goal.give-requires-clause-goes_on
 give-requires-clause-goes_on g c =
     let v = c.take-vault.result in
     let own = AddsNamed-none c.self.inside.seat.number v.events v.events refl in
-    subst (λ (t : SeatState Event Start). MayGive named_by t v.events) (sym c.take-vault.ensures.takes) (v.events, own.0, refl, own.1, own.2)
+    subst (λ (t : SeatState Event Start). MayGive pass_named_by t v.events) (sym c.take-vault.ensures.takes) (v.events, own.0, refl, own.1, own.2)
 
 pub invariant_of-self : goal.invariant_of-self
 invariant_of-self g c =
@@ -66,3 +67,12 @@ returns-clause-refused g c =
     let seen : c.give.new.self.seen ≡ v.events = ap (λ (t : SeatState Event Start). t.seen) c.give.ensures in
     subst (λ (es : List Event). IfErr c.look-look.result (IsRefusal (look_faults start es))) (sym seen)
     (subst (λ (t : Start). IfErr c.look-look.result (IsRefusal (look_faults t v.events))) began c.look-look.ensures.refused)
+
+pub returns-clause-granted : goal.returns-clause-granted
+returns-clause-granted g c =
+    let start = c.args.store.now.start in
+    let v = c.take-vault.result in
+    let began : v.start ≡ start = c.take-vault.ensures.origin ∙ ap (λ (t : Store). t.start) c.store.view_is in
+    let seen : c.give.new.self.seen ≡ v.events = ap (λ (t : SeatState Event Start). t.seen) c.give.ensures in
+    subst (λ (es : List Event). OnOk c.look-look.result (first_of (look_faults start es) ≡ None)) (sym seen)
+    (subst (λ (t : Start). OnOk c.look-look.result (first_of (look_faults t v.events) ≡ None)) began c.look-look.ensures.granted)

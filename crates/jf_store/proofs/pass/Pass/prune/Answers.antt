@@ -3,7 +3,7 @@ use Rattle.std.specs.Prelude.{IfOk, IfErr}
 use Rattle.jf_turn.specs.Seats.{SeatState, MayGive, giving}
 use Rattle.jf_store.specs.declared.event.Event.{Event}
 use Rattle.jf_store.specs.Starts.{Start}
-use Rattle.jf_store.specs.Events.{named_by}
+use Rattle.jf_store.specs.Events.{pass_named_by}
 use Rattle.jf_store.specs.Passes.{Pass, PinsState, Store, pass_of, IsPass}
 use Rattle.jf_store.specs.Prunings.{HasPruned, HasFailedPruning}
 use Rattle.jf_store.proofs.PassLaws.{HasPassed, IsPass-passed}
@@ -17,7 +17,7 @@ give-requires-clause-goes_on g c =
     let s = c.self.inside.seat in
     let number : c.number-number.result ≡ s.number = c.number-number.ensures ∙ ap (λ (t : SeatState Event Start). t.number) c.take-vault.ensures.takes in
     let own = AddsNamed-pruning c.number-number.result c.args.bound c.self.inside.pins.known v v2 c.prune-pruned.result c.prune-pruned.ensures.pruned c.prune-pruned.ensures.failed in
-    subst (λ (t : SeatState Event Start). MayGive named_by t v2.events) (sym c.take-vault.ensures.takes)
+    subst (λ (t : SeatState Event Start). MayGive pass_named_by t v2.events) (sym c.take-vault.ensures.takes)
     (v.events, own.0, refl, own.1, λ x has. own.2 x has ∙ number)
 
 pub returns-clause-pruned : goal.returns-clause-pruned
@@ -37,7 +37,7 @@ returns-clause-pruned g c =
     } in
     subst (λ (q : PinsState). IfOk c.prune-pruned.result (HasPruned start c.args.bound c.args.self.now (pass_of c.give.new.self q))) (sym c.prune-pruned.ensures.same)
     (subst (λ (p : Pass). IfOk c.prune-pruned.result (HasPruned start c.args.bound p (pass_of c.give.new.self c.self.inside.pins))) c.self.view_is
-    (HasPruned-passed s c.give.new.self c.self.inside.pins v v2 start h c.number-number.result c.args.bound number c.prune-pruned.result c.prune-pruned.ensures.pruned))
+    (HasPruned-passed s c.give.new.self c.self.inside.pins v v2 start h c.number-number.result c.args.bound number c.prune-pruned.ensures.pins c.prune-pruned.result c.prune-pruned.ensures.pruned))
 
 pub returns-clause-failed : goal.returns-clause-failed
 returns-clause-failed g c =
@@ -56,7 +56,7 @@ returns-clause-failed g c =
     } in
     subst (λ (q : PinsState). IfErr c.prune-pruned.result (HasFailedPruning start c.args.bound c.args.self.now (pass_of c.give.new.self q))) (sym c.prune-pruned.ensures.same)
     (subst (λ (p : Pass). IfErr c.prune-pruned.result (HasFailedPruning start c.args.bound p (pass_of c.give.new.self c.self.inside.pins))) c.self.view_is
-    (HasFailedPruning-passed s c.give.new.self c.self.inside.pins v v2 start h c.number-number.result c.args.bound number c.prune-pruned.result c.prune-pruned.ensures.failed))
+    (HasFailedPruning-passed s c.give.new.self c.self.inside.pins v v2 start h c.number-number.result c.args.bound number c.prune-pruned.ensures.pins c.prune-pruned.result c.prune-pruned.ensures.failed))
 
 pub invariant_of-self : goal.invariant_of-self
 invariant_of-self g c =

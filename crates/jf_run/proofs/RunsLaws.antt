@@ -1,0 +1,133 @@
+-- Laws on a script over a store of one pass: what its closing gives, or want of memory for it.
+use Rattle.std.specs.Prelude.{IfSome, is_some}
+use Rattle.std.proofs.Common.{◌≡◌, ℕ, zero, suc, take, true, Option, Some, None, List, [], ◌∷◌, refl, sym, ap, ◌∙◌, subst, arith, inl, le_refl}
+use Rattle.jf_path.specs.Faults.{HasCause}
+use Rattle.jf_disk.specs.Disk.{History}
+use Rattle.jf_disk.proofs.MomentLaws.{left_now, same_extends}
+use Rattle.jf_io.proofs.Written.{nothing_written}
+use Rattle.jf_model.specs.Versions.{IsVersions}
+use Rattle.jf_model.specs.States.{State, opened, versions}
+use Rattle.jf_model.specs.Entries.{IsLegal, AreLegal, replay}
+use Rattle.jf_model.specs.declared.entries.Entry.{Entry}
+use Rattle.jf_model.proofs.StateLaws.{versions-opened}
+use Rattle.jf_files.specs.Files.{StandsFor}
+use Rattle.jf_engine.specs.Engines.{Engine, IsSettledOn}
+use Rattle.jf_engine.specs.Openings.{disk_view}
+use Rattle.jf_store.specs.declared.event.Event.{Event}
+use Rattle.jf_store.specs.declared.event.Event.TheVariants.{Done, Mark}
+use Rattle.jf_store.specs.Events.{entries_of, attempt_of}
+use Rattle.jf_store.specs.Starts.{Start, start_with}
+use Rattle.jf_store.specs.Ledgers.{MarkIsLast, AreEvents, state_behind}
+use Rattle.jf_store.specs.Kept.{IsKept}
+use Rattle.jf_store.specs.Passes.{Store, Pass, new_pass}
+use Rattle.jf_store.specs.Closing.{IsClosed}
+use Rattle.jf_store.proofs.ImageLaws.{IsFrontImage-all}
+use Rattle.jf_answers.specs.Runs.{answers_from, answers}
+use Rattle.jf_answers.specs.Laws.{SparesPins, FloorSparesPins, EntrySparesPins}
+use Rattle.jf_history.specs.Sessions.{seen_by}
+use Rattle.jf_history.specs.Runs.{Ran}
+use Rattle.jf_history.specs.Alone.{RanAlone}
+use Rattle.jf_history.specs.Laws.{OnePassCloses, OneRunIsAlone}
+use Rattle.jf_history.specs.declared.end.End.{End}
+use Rattle.jf_history.specs.declared.end.End.TheVariants as end
+use Rattle.jf_run.specs.Runs.{IsDatedDisk, HasRun}
+use Rattle.jf_run.proofs.SparedRuns.{run-StaysUnderPins, run-SparesPinsSince}
+
+-- a disk that shows the same
+pub view-same : (o o' : Option History) (m m' n n' : ℕ) → o ≡ o' → m ≡ m' → n ≡ n' → disk_view o m n ≡ disk_view o' m' n'
+view-same o o' m m' n n' p q r = λ i. disk_view (p i) (q i) (r i)
+
+-- ---- the attempt
+-- the entry that a mark keeps is legal after all entries
+attempt_legal : (s : State) (events : List Event) → MarkIsLast s events → IfSome (attempt_of events) (IsLegal s)
+attempt_legal s [] m = tt
+attempt_legal s (Done e ∷ es) m = attempt_legal s es m
+attempt_legal s (Mark pass e ∷ es) m = m.1.legal
+
+-- and it has a cause
+attempt_caused : (o : Option Entry) (old new : ℕ) → (is_some o ≡ true → HasCause old new) → IfSome o (λ _. HasCause old new)
+attempt_caused None old new c = tt
+attempt_caused (Some e) old new c = c refl
+
+-- ---- a store that was closed
+module _ (store : Store) (p : Pass) (es : List Entry) (e : Engine) (closes : OnePassCloses) (one : store.start.passes ≡ 1) (number : p.number ≡ 0) (closed : IsClosed store.start (p ∷ []) es e) where
+  same : closed.events ≡ p.seen
+  same = closes store.start p es e one (omega (arith, one, number)) closed
+
+  entries_are : es ≡ seen_by p
+  entries_are = closed.entries_are ∙ ap entries_of same
+
+  events : AreEvents store.start p.seen
+  events = subst (λ (xs : List Event). AreEvents store.start xs) same closed.history
+
+  kept : IsKept store.start es (attempt_of p.seen) e
+  kept = subst (λ (xs : List Event). IsKept store.start es (attempt_of xs) e) same closed.kept
+
+  -- the only pass's run is a run of the whole store
+  run_of_pass : (how : End) (rest rest' text text' : Option (List ℕ)) → OneRunIsAlone → FloorSparesPins → EntrySparesPins → store.start.state.count ≡ 0 → Ran how store.start (new_pass store 0) p rest rest' text text'
+      → HasRun how store.start.state (disk_view store.start.history store.start.moment store.start.faults) (disk_view e.history e.moment e.faults) es (attempt_of p.seen) rest rest' text text'
+  run_of_pass how rest rest' text text' alone floors tries none ran =
+      let lone : RanAlone how store.start.state es (attempt_of p.seen) rest rest' text text' = subst (λ (xs : List Entry). RanAlone how store.start.state xs (attempt_of p.seen) rest rest' text text') (sym entries_are) (alone store how p rest rest' text text' one none events ran) in record {
+        ran = lone;
+        spared = run-StaysUnderPins floors tries how store.start.state es (attempt_of p.seen) rest rest' text text' kept.sound lone;
+        legal = subst (λ (xs : List Entry). AreLegal store.start.state xs) (sym entries_are) events.history.each;
+        tried = subst (λ (xs : List Entry). IfSome (attempt_of p.seen) (IsLegal (replay store.start.state xs))) (sym entries_are) (attempt_legal (state_behind store.start p.seen) p.seen events.marked);
+        cause = attempt_caused (attempt_of p.seen) store.start.faults e.faults kept.cause;
+        landings = kept.dated;
+        faults = kept.faults;
+        extends = closed.grows;
+        safe = λ h told. let g = closed.grows h told in (g.0, g.1, λ t since f left. (kept.outlasts g.0 g.1).images t f since left);
+        held = λ h told. let g = closed.grows h told in (g.0, g.1, run-SparesPinsSince store.start.state es (attempt_of p.seen) lone.done store.start.moment g.0 lone.entries_are (run-StaysUnderPins floors tries how store.start.state es (attempt_of p.seen) rest rest' text text' kept.sound lone) (λ t since f left. (kept.outlasts g.0 g.1).images t f since left));
+        settled = λ unmarked h told. let g = closed.grows h told in (g.0, g.1, (kept.outlasts g.0 g.1).settled unmarked);
+      }
+
+-- a store of one pass that began with an engine was closed
+pub closed_run : (first last : Engine) (store : Store) (p : Pass) (es : List Entry) (how : End) (rest rest' text text' : Option (List ℕ)) → OnePassCloses → OneRunIsAlone → FloorSparesPins → EntrySparesPins
+    → store.start ≡ start_with first 1 store.start.board → p.number ≡ 0 → IsClosed store.start (p ∷ []) es last → Ran how store.start (new_pass store 0) p rest rest' text text'
+    → HasRun how (opened first.versions first.generation) (disk_view first.history first.moment first.faults) (disk_view last.history last.moment last.faults) es (attempt_of p.seen) rest rest' text text'
+closed_run first last store p es how rest rest' text text' closes alone floors tries begins number closed ran =
+    subst (λ (s : Start). HasRun how s.state (disk_view s.history s.moment s.faults) (disk_view last.history last.moment last.faults) es (attempt_of p.seen) rest rest' text text') begins
+    (run_of_pass store p es last closes (ap (λ (s : Start). s.passes) begins) number closed how rest rest' text text' alone floors tries (ap (λ (s : Start). s.state.count) begins) ran)
+
+-- ---- no memory for a store
+-- no line was answered
+alone_none : (s : State) (rest text : Option (List ℕ)) → RanAlone end.Memory s [] None rest rest text text
+unfolding answers_from replay
+alone_none s rest text = record {
+  done = [];
+  next = None;
+  entries_are = refl;
+  state = refl;
+  tried = refl;
+  written = [];
+  writes = record { missing = []; front = refl; more = []; enough = refl };
+  appended = nothing_written text;
+  reads = λ all is. (all, is, record { taken = []; split = refl; first = record { enough = omega arith; are = refl }; far = tt; begun = tt });
+}
+
+-- nothing is pinned after no lines
+none_pinned : (s : State) (n count : ℕ) → SparesPins (answers s (take n [])).own (replay s (take count [])).floor
+unfolding answers_from
+none_pinned s zero count = (tt, (tt, (tt, (tt, (tt, (tt, (tt, (tt, tt))))))))
+none_pinned s (suc n) count = (tt, (tt, (tt, (tt, (tt, (tt, (tt, (tt, tt))))))))
+
+-- a run over an engine at which nothing was done
+pub refused_run : (e : Engine) (rest text : Option (List ℕ)) → IsVersions e.versions → IsDatedDisk (disk_view e.history e.moment e.faults) → ((h : History) → e.history ≡ Some h → IsSettledOn h e.versions e.generation)
+    → HasRun end.Memory (opened e.versions e.generation) (disk_view e.history e.moment e.faults) (disk_view e.history e.moment e.faults) [] None rest rest text text
+unfolding replay alone_none
+refused_run e rest text sound dated settled =
+    let s = opened e.versions e.generation in
+    let here : e.versions ≡ versions (replay s []) = sym (versions-opened e.versions e.generation sound) in
+    record {
+      ran = alone_none s rest text;
+      spared = record { fronts = λ n count within. none_pinned s n count; tried = tt };
+      legal = tt;
+      tried = tt;
+      cause = tt;
+      landings = le_refl e.moment;
+      faults = le_refl e.faults;
+      extends = λ h told. (h, told, same_extends h);
+      safe = λ h told. (h, told, λ t since f left. inl (IsFrontImage-all f t s [] (subst (λ v. StandsFor f v) here ((settled h told).leaves f (left_now h t f (omega (arith, dated h told, since)) left)))));
+      held = λ h told. (h, told, λ t f since left. (versions (replay s []), subst (λ v. StandsFor f v) here ((settled h told).leaves f (left_now h t f (omega (arith, dated h told, since)) left)), none_pinned s 0 0));
+      settled = λ unmarked h told. (h, told, subst (λ v. IsSettledOn h v e.generation) here (settled h told));
+    }

@@ -1,0 +1,59 @@
+-- A script over a store of its own, from the opening of the store to its end.
+use Rattle.std.specs.Prelude.{◌≡◌, ℕ, length, take, List, Option, Some, None, IfSome, ◌≤◌}
+use Rattle.jf_path.specs.Faults.{HasCause}
+use Rattle.jf_model.specs.Versions.{Versions, IsVersions}
+use Rattle.jf_model.specs.States.{State, opened, versions}
+use Rattle.jf_model.specs.Entries.{IsLegal, AreLegal, after, replay, moments_of}
+use Rattle.jf_model.specs.declared.entries.Entry.{Entry}
+use Rattle.jf_disk.specs.Disk.{Files, History, LeftSince}
+use Rattle.jf_disk.specs.Moments.{ExtendsHistory}
+use Rattle.jf_files.specs.Files.{StandsFor}
+use Rattle.jf_engine.specs.Engines.{IsSettledOn}
+use Rattle.jf_engine.specs.Openings.{DiskView, HasOpened, OnHistories}
+use Rattle.jf_store.specs.Images.{AreWithin}
+use Rattle.jf_answers.specs.Own.{Own}
+use Rattle.jf_answers.specs.Runs.{answers, run_entries}
+use Rattle.jf_answers.specs.Laws.{SparesPins}
+use Rattle.jf_history.specs.Alone.{RanAlone}
+use Rattle.jf_history.specs.declared.end.End.{End}
+use Rattle.jf_run.specs.Stops.{IsSafeSince}
+
+-- the history that a disk shows, if it is known, has a state for each moment
+abbrev pub IsDatedDisk : DiskView → Type 0
+IsDatedDisk disk = (h : History) → disk.history ≡ Some h → length h.before ≡ disk.moment
+
+-- a store was opened, with this newest version, over what the files of a disk stood for: the state that it was in, and what
+-- its disk showed then. The versions are sound, even if the disk's bytes are not known
+pub record IsBegun (s : State) (before disk : DiskView) (head : ℕ) : Type 0 where
+  pub sound : IsVersions s.all
+  pub state : s ≡ opened s.all s.generation
+  pub head_is : s.all.head ≡ head
+  pub dated : IsDatedDisk disk
+  pub opening : HasOpened before disk s.all s.generation
+
+-- the floor stays under what the session pins: after the first lines done, no first part of the entries that they gave has a
+-- floor above a version that the session has then pinned; nor has the attempt after all of them
+pub record StaysUnderPins (s : State) (es : List Entry) (attempt : Option Entry) (done : List (List ℕ)) : Type 0 where
+  pub fronts : (n count : ℕ) → count ≤ length (run_entries (answers s (take n done))) → SparesPins (answers s (take n done)).own (replay s (take count es)).floor
+  pub tried : IfSome attempt (λ e. SparesPins (answers s done).own (after e (replay s es)).floor)
+
+-- each image left since a moment stands for versions of which the floor is above no version that a session has pinned
+abbrev pub SparesPinsSince : ℕ → History → Own → Type 0
+SparesPinsSince moment h own = (t : ℕ) (f : Files) → moment ≤ t → LeftSince h t f → (v : Versions) × StandsFor f v × SparesPins own v.floor
+
+-- a script was run over a store that was opened in this state, when its disk showed `old`. Replies and entries are those of
+-- the lines done, and so is the attempt, which there is only if the disk failed. A crash at any moment since the opening leaves
+-- a first part of the entries, with all acknowledged by then, or all of them and the attempt; if there is none, a read of the
+-- disk gives what all entries make, and a crash now leaves nothing else
+pub record HasRun (e : End) (s : State) (old new : DiskView) (es : List Entry) (attempt : Option Entry) (rest rest' text text' : Option (List ℕ)) : Type 0 where
+  pub ran : RanAlone e s es attempt rest rest' text text'
+  pub spared : StaysUnderPins s es attempt ran.done
+  pub legal : AreLegal s es
+  pub tried : IfSome attempt (IsLegal (replay s es))
+  pub cause : IfSome attempt (λ _. HasCause old.faults new.faults)
+  pub landings : AreWithin old.moment new.moment (moments_of es)
+  pub faults : old.faults ≤ new.faults
+  pub extends : OnHistories old.history new.history ExtendsHistory
+  pub safe : OnHistories old.history new.history (λ h g. IsSafeSince old.moment g s es attempt)
+  pub held : OnHistories old.history new.history (λ h g. SparesPinsSince old.moment g (answers s ran.done).own)
+  pub settled : attempt ≡ None → OnHistories old.history new.history (λ h g. IsSettledOn g (versions (replay s es)) (replay s es).generation)

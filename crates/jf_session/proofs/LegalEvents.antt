@@ -1,0 +1,50 @@
+-- An event that a pass added: what is known of it, and of the state before it.
+use Rattle.std.proofs.Common.{◌≡◌, ◌∙◌, ℕ, false, List, [], ◌∷◌, ◌++◌, ap, subst, append_assoc}
+use Rattle.jf_model.specs.States.{State, IsState}
+use Rattle.jf_model.specs.Entries.{AreLegal, IsLegal}
+use Rattle.jf_model.specs.declared.entries.Entry.{Entry}
+use Rattle.jf_model.proofs.EntryLaws.{AreLegal-back, AreLegal-front, replay-IsState}
+use Rattle.jf_turn.specs.Lists.{StartsWith}
+use Rattle.jf_store.specs.declared.event.Event.{Event}
+use Rattle.jf_store.specs.declared.event.Event.TheVariants.{Done, Mark}
+use Rattle.jf_store.specs.Events.{entries_of, is_marked}
+use Rattle.jf_store.specs.Starts.{Start}
+use Rattle.jf_store.specs.Ledgers.{AreEvents, IsUndone, MarkIsLast, state_behind}
+use Rattle.jf_store.specs.Passes.{Pass, SeesOwn}
+use Rattle.jf_store.proofs.EventLaws.{entries_of-append, entries_of-done, is_marked-append, state_behind-mark}
+
+mark_at : (s : State) (xs : List Event) (pass : ℕ) (e : Entry) → MarkIsLast s (xs ++ Mark pass e ∷ []) → is_marked xs ≡ false → IsUndone s pass e
+mark_at s [] pass e m none = m.1
+mark_at s (Done x ∷ xs) pass e m none = mark_at s xs pass e m none
+mark_at s (Mark p x ∷ xs) pass e m none = absurd (cc)
+
+-- the pass has seen what it had seen, and more
+pub begins_own : (p p' : Pass) (before : List Event) (x : Event) → SeesOwn p p' before x → StartsWith p'.seen p.seen
+begins_own p p' before x sees = (
+  sees.begins.0 ++ x ∷ [],
+  ap (λ (q : Pass). q.seen) sees.last ∙ ap (λ xs. xs ++ x ∷ []) sees.begins.1 ∙ append_assoc p.seen sees.begins.0 (x ∷ []),
+)
+
+-- after an entry no mark is set
+pub unmarked_entry : (p p' : Pass) (before : List Event) (e : Entry) → SeesOwn p p' before (Done e) → is_marked p'.seen ≡ false
+unmarked_entry p p' before e sees = ap (λ (q : Pass). is_marked q.seen) sees.last ∙ is_marked-append before (Done e ∷ []) sees.unmarked
+
+module _ (start : Start) (p p' : Pass) (before : List Event) (are : AreEvents start p'.seen) where
+  -- the state before the event is sound
+  pub sound_before : (x : Event) → SeesOwn p p' before x → IsState start.state → IsState (state_behind start before)
+  sound_before x sees sound =
+      let seen : entries_of p'.seen ≡ entries_of before ++ entries_of (x ∷ []) = ap (λ (q : Pass). entries_of q.seen) sees.last ∙ entries_of-append before (x ∷ []) in
+      replay-IsState start.state (entries_of before) sound (AreLegal-front start.state (entries_of before) (entries_of (x ∷ [])) (subst (AreLegal start.state) seen are.history.each))
+
+  -- an entry is legal over it
+  pub legal_entry : (e : Entry) → SeesOwn p p' before (Done e) → IsLegal (state_behind start before) e
+  legal_entry e sees =
+      let seen : entries_of p'.seen ≡ entries_of before ++ e ∷ [] = ap (λ (q : Pass). entries_of q.seen) sees.last ∙ entries_of-done before e in
+      (AreLegal-back start.state (entries_of before) (e ∷ []) (subst (AreLegal start.state) seen are.history.each)).0
+
+  -- the entry of an attempt would have been legal
+  pub legal_attempt : (pass : ℕ) (e : Entry) → SeesOwn p p' before (Mark pass e) → IsUndone (state_behind start before) pass e
+  legal_attempt pass e sees =
+      let seen : p'.seen ≡ before ++ Mark pass e ∷ [] = ap (λ (q : Pass). q.seen) sees.last in
+      let are' = subst (AreEvents start) seen are in
+      subst (λ (s : State). IsUndone s pass e) (state_behind-mark start before pass e) (mark_at (state_behind start (before ++ Mark pass e ∷ [])) before pass e are'.marked sees.unmarked)

@@ -1,0 +1,87 @@
+// What is pending is landed on the head, or a fork with its ancestors.
+ghost use Rattle.std.specs.Prelude.{◌≡◌, ◌≤◌, [], IfOk, IfErr, OnOk, false};
+ghost use Rattle.jf_script.specs.declared.command.Command.TheVariants as command;
+ghost use Rattle.jf_store.specs.Passes.{IsPassOf};
+ghost use Rattle.jf_session.specs.Steps.{IsDoneAs, StopsFor};
+
+use crate::refusing::refused;
+use crate::session::Session;
+use crate::stop::Stop;
+use jf_disk::Disk;
+use jf_join::Gate;
+use jf_path::Memory;
+use jf_script::Reply;
+use jf_store::Store;
+use std::alloc::Global;
+use std::sync::Wait;
+use std::thread::Threads;
+
+impl<D: Disk> Session<D> {
+    // Answers `commit`: lands what is pending, after which nothing is. Its batch is made before the store is touched.
+    pub(crate) fn commit<H: Threads + Wait + Sync, G: Gate>(
+        &mut self,
+        rt: &H,
+        alloc: Global,
+        store: &Store<D>,
+        workers: u64,
+        gate: &G,
+    ) -> Result<Reply, Stop>
+        requires own { IsPassOf self.old.pass store.now }
+        requires over { self.old.over ≡ false }
+        requires some { 1 ≤ workers }
+        requires few { workers ≤ 64 }
+        ensures ok { IfOk result (λ r. IsDoneAs store.now.start self.old self.new command.Commit r []) }
+        ensures goes_on { OnOk result (self.new.over ≡ false) }
+        ensures err { IfErr result (λ why. StopsFor store.now.start self.old self.new command.Commit why) }
+    {
+        let batch = match self.pending.batch(alloc) {
+            Ok(batch) => batch,
+            Err(Memory) => return Err(Stop::Memory),
+        };
+        let landed = self.pass.commit(rt, alloc, store, &batch, workers, gate);
+        self.pass.know(store);
+        match landed {
+            Ok(landed) => {
+                self.pending.clear();
+                let root = landed.root;
+                Ok(Reply::Commit {
+                    version: landed.version,
+                    root,
+                })
+            }
+            Err(fault) => refused(fault, &mut self.over),
+        }
+    }
+
+    // Answers `land`.
+    pub(crate) fn land<H: Threads + Wait + Sync, G: Gate>(
+        &mut self,
+        rt: &H,
+        alloc: Global,
+        store: &Store<D>,
+        id: u64,
+        workers: u64,
+        gate: &G,
+    ) -> Result<Reply, Stop>
+        requires own { IsPassOf self.old.pass store.now }
+        requires over { self.old.over ≡ false }
+        requires some { 1 ≤ workers }
+        requires few { workers ≤ 64 }
+        ensures ok { IfOk result (λ r. IsDoneAs store.now.start self.old self.new (command.Land id) r []) }
+        ensures goes_on { OnOk result (self.new.over ≡ false) }
+        ensures err { IfErr result (λ why. StopsFor store.now.start self.old self.new (command.Land id) why) }
+    {
+        let landed = self.pass.land(rt, alloc, store, id, workers, gate);
+        self.pass.know(store);
+        match landed {
+            Ok(landed) => {
+                let root = landed.root;
+                Ok(Reply::Land {
+                    version: landed.version,
+                    root,
+                })
+            }
+            Err(fault) => refused(fault, &mut self.over),
+        }
+    }
+}

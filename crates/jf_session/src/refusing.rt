@@ -1,0 +1,42 @@
+// A fault of the store ends the session, or is told in a reply.
+ghost use Rattle.std.specs.Prelude.{◌≡◌, Ok, Err, IfOk, IfErr, OnOk, OnErr, true};
+ghost use Rattle.jf_session.specs.Refusing.{told};
+
+use crate::stop::Stop;
+use jf_script::{Refusal, Reply};
+use jf_store::StoreFault;
+
+/// The refusal that a fault of the store is told as, or why the session ends.
+pub(crate) fn told(fault: StoreFault) -> Result<Refusal, Stop>
+    ensures { result ≡ told fault }
+{
+    match fault {
+        StoreFault::Broken => Err(Stop::Broken),
+        StoreFault::Last(_) => Ok(Refusal::Last),
+        StoreFault::Future(head) => Ok(Refusal::Future(head)),
+        StoreFault::Retired(bound) => Ok(Refusal::Retired(bound)),
+        StoreFault::Unknown => Ok(Refusal::Unknown),
+        StoreFault::Gone => Ok(Refusal::Gone),
+        StoreFault::TooMany(keys) => Ok(Refusal::Keys(keys)),
+        StoreFault::Full => Ok(Refusal::ForksFull),
+        StoreFault::PinsFull => Ok(Refusal::PinsFull),
+        StoreFault::DiskFault => Err(Stop::DiskFault),
+        StoreFault::Memory => Err(Stop::Memory),
+    }
+}
+
+/// The reply to a command that the store refused, or why the session ends; it is over then.
+pub(crate) fn refused(fault: StoreFault, over: &mut bool) -> Result<Reply, Stop>
+    ensures ok { IfOk result (λ r. (why : Refusal) × (told fault ≡ Ok why) × (r ≡ Reply.No why)) }
+    ensures goes_on { OnOk result (over.new ≡ over.old) }
+    ensures err { IfErr result (λ stop. told fault ≡ Err stop) }
+    ensures ends { OnErr result (over.new ≡ true) }
+{
+    match told(fault) {
+        Ok(why) => Ok(Reply::No(why)),
+        Err(stop) => {
+            *over = true;
+            Err(stop)
+        }
+    }
+}
