@@ -1,0 +1,5 @@
+use Rattle.jf_generate.proofs.ScriptLaws.{length-script_le}
+use Rattle.jf_generate.proofs.generator.Generator.new.Goals as goal
+
+pub returns-clause-few : goal.returns-clause-few
+returns-clause-few c = rw c.after_batch.ensures.lines (length-script_le c.args.seed c.args.batches c.args.size c.requires.batches c.requires.size.1)
