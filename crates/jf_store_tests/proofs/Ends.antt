@@ -1,7 +1,7 @@
 -- The passes of a new store, and those that a store of one pass or of two is closed by.
 use mathlib.Core.Logic.{dite}
 use native.Mathlib.Decide.{ℕ_discrete}
-use Rattle.std.proofs.Common.{◌≡◌, ℕ, ◌+◌, ◌<◌, List, [], ◌∷◌, ◌++◌, length, refl, sym, ap, ◌∙◌, subst, arith, ⊎_elim, length-append}
+use Rattle.std.proofs.Common.{◌≡◌, ℕ, ◌+◌, List, [], ◌∷◌, ◌++◌, length, refl, sym, ap, ◌∙◌, subst, arith, ⊎_elim, length-append}
 use mathlib.Core.Option as maybe
 use lib.ListN.{get_elem?}
 use Rattle.jf_turn.specs.Lists.{HasElement}
