@@ -1,11 +1,12 @@
 -- What a landing wrote and made stale, by what is listed from its top down.
-use Rattle.std.proofs.Common.{ℕ, Option, None, Some, subst, ◌+◌, ◌≡◌, refl, ◌∷◌, true, T, [], ◌++◌, length, List, sym, ap, ap₂, ◌∙◌, arith, cond}
+use Rattle.std.proofs.Common.{ℕ, Option, None, Some, subst, ◌+◌, ◌≡◌, refl, ◌∷◌, true, T, [], ◌++◌, length, List, sym, ap, ap₂, ◌∙◌, arith, cond, IsTrue, map}
 use Rattle.std.proofs.lemmas.List.{length-map}
 use Rattle.std.specs.FinMap.{entries, is_sorted}
 use Rattle.std.specs.FinMap as fin
 use Rattle.std.specs.List.Sorted.{IsPermutation}
 use Rattle.jf_path.specs.declared.name.NodeName.{NodeName}
 use Rattle.jf_path.specs.declared.node.PlainNode.{PlainNode}
+use Rattle.jf_path.specs.Names.{are_rising}
 use Rattle.jf_path.specs.Keys.{key_cmp}
 use Rattle.jf_hash.specs.Maps.{Map, apply}
 use Rattle.jf_hash.specs.Slots.{Part}
@@ -17,6 +18,7 @@ use Rattle.jf_walk.proofs.FreshBound.{length-fresh}
 use Rattle.jf_walk.proofs.ChildEntryLaws.{sub-none}
 use Rattle.jf_walk.proofs.FreshParts.{with_root-fresh_parts}
 use Rattle.jf_walk.proofs.FreshLaws.{with_root-fresh}
+use Rattle.jf_walk.proofs.FreshOrder.{sorted-fresh}
 use Rattle.jf_walk.proofs.FreshVersions.{is_fresh-same, is_fresh-other}
 use Rattle.jf_walk.proofs.SubLaws.{is_node-sub}
 use Rattle.jf_walk.proofs.VersionLaws.{moved}
@@ -25,9 +27,10 @@ use Rattle.jf_node.specs.Snapshots.{IsTopIf, IsSnapshot, IsTopOf, snapshot_of, s
 use Rattle.jf_node.specs.Children.{content}
 use Rattle.jf_node.specs.SnapshotValue.{SnapshotValue}
 use Rattle.jf_diff.specs.OptionalNodes.{IsAtDepth, IsOfVersion}
-use Rattle.jf_diff.specs.Tops.{IsFreshUnder, IsStaleUnder, WasLanded, old_name}
+use Rattle.jf_diff.specs.Tops.{IsFreshUnder, IsStaleUnder, old_name}
 use Rattle.jf_diff.specs.Landings.{version_in, written_node_in, written_nodes, stale_names_in, IsNextOf, IsFreshCount}
 use Rattle.jf_diff.specs.Plains.{fresh_under}
+use Rattle.jf_diff.proofs.PathNames.{rise_paths}
 
 -- ---- what holds of the top of a snapshot
 pub top_placed : (version : ℕ) (old : Option LinkValue) → IsTopIf version old → IsAtDepth 0 old
@@ -98,9 +101,6 @@ fresh_top old new top sound is next = under top (top_placed new.version top is.t
       older = λ n p. older_than old new (n ∷ p) sound next;
     }
 
-pub was_landed : (old new : SnapshotValue) (top : Option LinkValue) → IsSnapshot old → IsTopOf new top → IsNextOf old new → WasLanded new.version top
-was_landed old new top sound is next = record { es = entries old.map; before = λ p. snapshot_version_at p old; sorted = fin.entries_sorted old.map; over = fresh_top old new top sound is next }
-
 -- the top was made by a landing over the entries of the old one
 pub landed_top : (old new : SnapshotValue) (was top : Option LinkValue) → IsSnapshot old → IsTopOf old was → IsTopOf new top → IsNextOf old new → (before : Path → Option ℕ) × IsFreshUnder new.version (content was) before top
 landed_top old new was top sound at is next =
@@ -151,3 +151,7 @@ landed_names old new was top head names at is own moved = listed_stale old new w
 pub written_count : (old new : SnapshotValue) (nodes : List (NodeName × PlainNode)) → IsSnapshot old → nodes ≡ written_nodes old.map new.map new → IsFreshCount old new (length nodes)
 written_count old new nodes sound is b batch next =
     omega (arith, ap length is, length-map (fresh old.map new.map) (written_node_in new), ap (λ m. length (fresh old.map m)) next.map, length-fresh old.map b sound.map batch)
+
+-- the names of the nodes that a landing writes rise
+pub written_rise : (old new : Map) (s : SnapshotValue) → IsTrue (are_rising (map (λ (e : NodeName × PlainNode). e.0) (written_nodes old new s)))
+written_rise old new s = rise_paths s.version (written_node_in s) (λ x. refl) (fresh old new) (sorted-fresh old new)

@@ -1,6 +1,8 @@
 pub mod Names
+pub mod Items
 pub mod ChildPlaces
 pub mod PlainNodes
+pub mod PlainBytes
 pub mod Walks
 pub mod PathNames
 pub mod TopLaws

@@ -61,14 +61,14 @@ pub record IsGathered (version head : ℕ) (old top : Option LinkValue) (n : ℕ
   pub fresh : (es : Part) (before : Path → Option ℕ) → IsFreshUnder version es before top → nodes ≡ listed_to 0 n es (content top) (fresh_under version top)
   pub stale : IsStaleUnder version old top → names ≡ listed_to 0 n (content top) (content old) (old_name head old)
 
-pub gathered_start : (version head : ℕ) (old top : Option LinkValue) (l : PartLists) → AreTopLists version head old top l → IsGathered version head old top 0 l.fresh.items l.stale.items
+pub gathered_start : (version head : ℕ) (old top : Option LinkValue) (l : PartLists) → AreTopLists version head old top l → IsGathered version head old top 0 l.fresh l.stale.items
 gathered_start version head old top l is = record {
   fresh = λ es before under. is.fresh ∙ sym (listed_to-none 0 es (content top) (fresh_under version top));
   stale = λ over. is.stale ∙ sym (listed_to-none 0 (content top) (content old) (old_name head old));
 }
 
 pub gathered_more : (version head n m : ℕ) (old top : Option LinkValue) (part : PartLists) (nodes nodes' : List (NodeName × PlainNode)) (names names' : List NodeName) → m ≡ n + 1 → IsGathered version head old top n nodes names → ArePartLists version old top n part
-    → nodes' ≡ nodes ++ part.fresh.items → names' ≡ names ++ part.stale.items → IsGathered version head old top m nodes' names'
+    → nodes' ≡ nodes ++ part.fresh → names' ≡ names ++ part.stale.items → IsGathered version head old top m nodes' names'
 gathered_more version head n m old top part nodes nodes' names names' next is more longer further = subst (λ k. IsGathered version head old top k nodes' names') (sym next) record {
   fresh = λ es before under. listed_to-below 0 n es (content top) (fresh_under version top) [] nodes nodes' (is.fresh es before under) (longer ∙ ap (λ l. nodes ++ l) (more.fresh es before under));
   stale = λ over. listed_to-below 0 n (content top) (content old) (old_name head old) [] names names' (is.stale over) (further ∙ ap (λ l. names ++ l) (more.stale head over));

@@ -17,9 +17,7 @@ use Rattle.jf_model.specs.Nodes.{Path, fresh}
 use Rattle.jf_model.specs.Walk.{with_root}
 use Rattle.jf_walk.proofs.FreshLaws.{with_root-fresh}
 use Rattle.jf_walk.proofs.FreshOrder.{sorted-fresh}
-use Rattle.jf_diff.specs.Below.{from_node}
 use Rattle.jf_diff.proofs.Names.{both_true}
-use Rattle.jf_diff.proofs.Walks.{from_node-with_root}
 
 abbrev pub name_of_path : ℕ → Path → NodeName
 name_of_path version path = record { version = version; path = path }
@@ -33,20 +31,14 @@ with_root-sorted old new f a b =
 less_names : (version : ℕ) (p q : Path) → key_cmp p q ≡ Less → is_lt (name_cmp (name_of_path version p) (name_of_path version q)) ≡ true
 less_names version p q lt = ap (λ r. is_lt (ordering_then r (key_cmp p q))) (tied_itself nat_cmp_total version) ∙ ap is_lt lt
 
-rise_paths : (version : ℕ) (f : Path → NodeName × PlainNode) → ((p : Path) → (f p).0 ≡ name_of_path version p) → (xs : List (Path × Part)) → T (is_sorted key_cmp xs) → IsTrue (are_rising (map (λ (e : NodeName × PlainNode). e.0) (map (λ (x : Path × Part). f x.0) xs)))
+-- the names of nodes of one version at rising paths rise strictly
+pub rise_paths : (version : ℕ) (f : Path × Part → NodeName × PlainNode) → ((x : Path × Part) → (f x).0 ≡ name_of_path version x.0) → (xs : List (Path × Part)) → T (is_sorted key_cmp xs) → IsTrue (are_rising (map (λ (e : NodeName × PlainNode). e.0) (map f xs)))
 rise_paths version f same [] sorted = refl
 rise_paths version f same (x ∷ []) sorted = refl
 rise_paths version f same (x ∷ y ∷ xs) sorted =
     both_true _ _
-    (ap₂ (λ a b. is_lt (name_cmp a b)) (same x.0) (same y.0) ∙ less_names version x.0 y.0 (below-first x.0 y xs (below-rest x (y ∷ xs) sorted)))
+    (ap₂ (λ a b. is_lt (name_cmp a b)) (same x) (same y) ∙ less_names version x.0 y.0 (below-first x.0 y xs (below-rest x (y ∷ xs) sorted)))
     (rise_paths version f same (y ∷ xs) (sorted-rest x (y ∷ xs) sorted))
-
--- the names that are listed from a top on rise strictly
-pub rise_from : (version d : ℕ) (old new : Part) (f : Path → NodeName × PlainNode) → T (is_sorted key_cmp old) → T (is_sorted key_cmp new) → d ≡ 0 → ((p : Path) → (f p).0 ≡ name_of_path version p) → IsTrue (are_rising (map (λ (e : NodeName × PlainNode). e.0) (from_node d old new f)))
-rise_from version d old new f a b at same =
-    subst (λ es. IsTrue (are_rising (map (λ (e : NodeName × PlainNode). e.0) es)))
-    (sym (ap (λ k. from_node k old new f) at ∙ from_node-with_root old new f ∙ with_root-sorted old new f a b))
-    (rise_paths version f same _ (sorted-fresh (fin.from_sorted old) (fin.from_sorted new)))
 
 -- ---- names of different paths differ
 then_less : (o : Ordering) → is_eq (ordering_then o Less) ≡ false

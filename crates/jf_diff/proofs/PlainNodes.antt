@@ -1,15 +1,16 @@
 -- Nodes as they are written: each by itself, with what it says of its children.
-use Rattle.std.proofs.Common.{◌≡◌, ℕ, ◌+◌, true, [], ◌∷◌, ◌++◌, length, sym, ap, ◌∙◌, arith, Some, suc, ◌==◌, false, Bool, List, ◌*◌, ◌≤◌, not, cond, ap₂, subst, ◌⊎◌, inl, inr, refl, zero}
+use Rattle.std.proofs.Common.{◌≡◌, ℕ, ◌+◌, true, [], ◌∷◌, ◌++◌, length, sym, ap, ◌∙◌, arith, Some, suc, ◌==◌, false, Bool, List, ◌*◌, ◌≤◌, not, cond, ap₂, subst, ◌⊎◌, inl, inr, refl, zero, ◌-◌, append_assoc}
 use Rattle.std.proofs.lemmas.Bool.Decides.{nat_tests}
 use Rattle.jf_path.specs.declared.children.Child.{Child}
 use Rattle.jf_path.specs.Nodes.{ChildrenRiseFrom}
+use Rattle.jf_path.specs.declared.node.PlainNode.{PlainNode}
 use Rattle.jf_path.specs.declared.node.PlainNode.TheVariants as node
 use Rattle.jf_path.proofs.NodeLaws.{RiseFrom-weaker}
 use Rattle.jf_hash.specs.Roots.{part_root}
 use Rattle.jf_hash.specs.Slots.{Part, with_nibble}
 use Rattle.jf_model.specs.Nodes.{Path, plain_node, has_one, has_two, child_in_node}
 use Rattle.jf_model.specs.ChildEntries.{sub, child_entries}
-use Rattle.jf_model.specs.Walk.{each_from}
+use Rattle.jf_model.specs.Walk.{each_from, listed}
 use Rattle.jf_walk.proofs.ChildEntryLaws.{child_entries-many}
 use Rattle.jf_walk.proofs.WalkLaws.{each_push}
 use Rattle.jf_walk.proofs.PlainLaws.{plain_node-many}
@@ -17,8 +18,9 @@ use Rattle.jf_node.specs.LinkValue.{LinkValue, link_version_at}
 use Rattle.jf_node.specs.LinkFacts.{IsLink}
 use Rattle.jf_node.specs.Shown.{ShowsLeaf}
 use Rattle.jf_diff.specs.Landings.{version_or}
-use Rattle.jf_diff.specs.Below.{IsBelow}
-use Rattle.jf_diff.specs.Plains.{plain_at, children_list}
+use Rattle.jf_diff.specs.Below.{IsBelow, listed_below}
+use Rattle.jf_diff.specs.Plains.{plain_at, children_list, fresh_below}
+use Rattle.jf_diff.proofs.Walks.{listed_below-child}
 
 -- a node at a path through a child is the node at the rest of the path below the child
 pub plain-child : (x : LinkValue) (n : ℕ) (c : LinkValue) (p : Path) → IsBelow x n (Some c) → plain_at x (n ∷ p) ≡ plain_at c p
@@ -27,6 +29,13 @@ plain-child x n c p is =
     let entries : sub x.depth (n ∷ p) x.entries ≡ sub c.depth p c.entries = ap (sub (x.depth + 1) p) (sym is.entries) ∙ ap (λ d. sub d p c.entries) (sym is.placed.1) in
     let versions : (λ (m : ℕ). version_or (link_version_at ((n ∷ p) ++ m ∷ []) (Some x))) ≡ (λ (m : ℕ). version_or (link_version_at (p ++ m ∷ []) (Some c))) = λ i m. version_or (is.versions (p ++ m ∷ []) i) in
     λ i. plain_node true (versions i) (at i) (entries i)
+
+-- what is listed from a child on, by the path that leads to it
+pub fresh-child : (version : ℕ) (front path : Path) (x : LinkValue) (n : ℕ) (c : LinkValue) (es : Part) → IsBelow x n (Some c) → path ≡ front ++ n ∷ []
+    → listed (64 - c.depth) c.depth (child_entries x.depth n es) c.entries (fresh_below version path c) ≡ listed_below x.depth n es x.entries (fresh_below version front x)
+fresh-child version front path x n c es is at =
+    listed_below-child x.depth n c.depth es (child_entries x.depth n es) x.entries c.entries (fresh_below version front x) (fresh_below version path c) is.placed.1 refl is.entries
+    (λ p. ap₂ (λ (q : Path) (r : PlainNode). (record { version = version; path = q }, r)) (ap (λ q. q ++ p) at ∙ append_assoc front (n ∷ []) p) (sym (plain-child x n c p is)))
 
 -- ---- children
 abbrev pub versions_below : LinkValue → ℕ → ℕ

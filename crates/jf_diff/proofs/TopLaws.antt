@@ -1,11 +1,11 @@
 -- What is listed from a top down.
-use Rattle.std.proofs.Common.{Result, Ok, Err, IfOk, ◌≡◌, ℕ, List, [], ◌++◌, map, sym, ap, subst, Option, Some, IsTrue, ◌∷◌, ◌∙◌, None, T, refl}
+use Rattle.std.proofs.Common.{Result, Ok, Err, IfOk, ◌≡◌, ℕ, List, [], ◌++◌, sym, ap, subst, Option, Some, ◌∷◌, ◌∙◌, None, T}
 use Rattle.std.proofs.lemmas.List.Sorted.{IsPermutation-refl}
 use Rattle.std.specs.FinMap.{is_sorted}
 use Rattle.std.specs.List.{IsDistinct}
 use Rattle.std.specs.List.Sorted.{IsPermutation}
 use Rattle.std.specs.Ordering.{eq_by_cmp}
-use Rattle.jf_path.specs.Names.{are_rising, name_cmp}
+use Rattle.jf_path.specs.Names.{name_cmp}
 use Rattle.jf_path.specs.declared.name.NodeName.{NodeName}
 use Rattle.jf_path.specs.declared.node.PlainNode.{PlainNode}
 use Rattle.jf_path.specs.Keys.{key_cmp}
@@ -18,35 +18,28 @@ use Rattle.jf_node.specs.LinkValue.{LinkValue, link_version_at}
 use Rattle.jf_node.specs.LinkFacts.{IsLink}
 use Rattle.jf_node.specs.Children.{content}
 use Rattle.jf_node.specs.Snapshots.{snapshot_of}
-use Rattle.jf_diff.specs.OptionalNodes.{IsAtDepth, IsOfVersion}
+use Rattle.jf_diff.specs.OptionalNodes.{IsAtDepth}
 use Rattle.jf_diff.specs.Plains.{fresh_below, fresh_under, plain_at}
-use Rattle.jf_diff.specs.Tops.{IsFreshUnder, WasLanded, old_name, IsStaleUnder}
+use Rattle.jf_diff.specs.Tops.{IsFreshUnder, old_name, IsStaleUnder}
 use Rattle.jf_diff.specs.Below.{IsFreshBelow, IsStaleBelow, from_node, name_below}
 use Rattle.jf_diff.specs.Landings.{version_or, version_in}
-use Rattle.jf_diff.proofs.Walks.{with_root-from_node, from_node-with_root}
-use Rattle.jf_diff.proofs.PathNames.{name_of_path, rise_from, distinct_walk}
+use Rattle.jf_diff.proofs.Walks.{with_root-from_node}
+use Rattle.jf_diff.proofs.PathNames.{name_of_path, distinct_walk}
 
 pub ok_weaker : {X E : Type 0} (P Q : X → Type 0) → ((x : X) → P x → Q x) → (r : Result X E) → IfOk r P → IfOk r Q
 ok_weaker P Q h (Ok x) p = h x p
 ok_weaker P Q h (Err e) p = tt
 
 -- ---- what is fresh
--- the names of the nodes that a landing wrote rise
-pub top_rises : (version : ℕ) (top : Option LinkValue) (nodes : List (NodeName × PlainNode)) → WasLanded version top → T (is_sorted key_cmp (content top)) → ((es : Part) (before : Path → Option ℕ) → IsFreshUnder version es before top → nodes ≡ with_root es (content top) (fresh_under version top))
-    → IsTrue (are_rising (map (λ (e : NodeName × PlainNode). e.0) nodes))
-top_rises version top nodes landed sorted listing =
-    subst (λ es. IsTrue (are_rising (map (λ (e : NodeName × PlainNode). e.0) es))) (from_node-with_root landed.es (content top) (fresh_under version top) ∙ sym (listing landed.es landed.before landed.over))
-    (rise_from version 0 landed.es (content top) (fresh_under version top) landed.sorted sorted refl (λ p. refl))
-
 pub fresh_none : (version : ℕ) (top : Option LinkValue) (nodes : List (NodeName × PlainNode)) → top ≡ None → nodes ≡ (name_of_path version [], node.Null) ∷ [] → (es : Part) → nodes ≡ with_root es (content top) (fresh_under version top)
 fresh_none version top nodes is at es = at ∙ sym (with_root-gone es (fresh_under version None)) ∙ ap (λ o. with_root es (content o) (fresh_under version o)) (sym is)
 
-pub fresh_some : (version : ℕ) (top : Option LinkValue) (x : LinkValue) (front : Path) (out nodes : List (NodeName × PlainNode)) → top ≡ Some x → IsAtDepth 0 top → IsOfVersion version top → front ≡ [] → out ≡ []
-    → (x.version ≡ version → (es : Part) (before : Path → Option ℕ) → IsFreshBelow version es before x → nodes ≡ out ++ from_node x.depth es x.entries (fresh_below version front x))
+pub fresh_some : (version : ℕ) (top : Option LinkValue) (x : LinkValue) (front : Path) (out nodes : List (NodeName × PlainNode)) → top ≡ Some x → IsAtDepth 0 top → front ≡ [] → out ≡ []
+    → ((es : Part) (before : Path → Option ℕ) → IsFreshBelow version es before x → nodes ≡ out ++ from_node x.depth es x.entries (fresh_below version front x))
     → (es : Part) (before : Path → Option ℕ) → IsFreshUnder version es before top → nodes ≡ with_root es (content top) (fresh_under version top)
-fresh_some version top x front out nodes is placed own bare none listing es before under =
+fresh_some version top x front out nodes is placed bare none listing es before under =
     with_root-from_node es x.depth x.entries (fresh_under version (Some x)) (fresh_below version front x) nodes (subst (IsAtDepth 0) is placed) (λ p. ap (λ q. (name_of_path version (q ++ p), plain_at x p)) bare)
-    (listing (subst (IsOfVersion version) is own) es before (subst (IsFreshUnder version es before) is under) ∙ ap (λ o. o ++ from_node x.depth es x.entries (fresh_below version front x)) none)
+    (listing es before (subst (IsFreshUnder version es before) is under) ∙ ap (λ o. o ++ from_node x.depth es x.entries (fresh_below version front x)) none)
     ∙ ap (λ o. with_root es (content o) (fresh_under version o)) (sym is)
 
 -- ---- what is stale
@@ -54,12 +47,12 @@ pub stale_none : (head : ℕ) (old top : Option LinkValue) (names : List NodeNam
 stale_none head old top names is at =
     subst (λ ns. IsPermutation ns names) (at ∙ sym (with_root-gone (content top) (old_name head None)) ∙ ap (λ o. with_root (content top) (content o) (old_name head o)) (sym is)) (IsPermutation-refl names)
 
-pub stale_some : (head version : ℕ) (old top : Option LinkValue) (x : LinkValue) (front : Path) (out names : List NodeName) → old ≡ Some x → IsAtDepth 0 old → IsOfVersion version top → front ≡ [] → out ≡ []
-    → (IsOfVersion version top → IsStaleBelow version x top → names ≡ out ++ from_node x.depth (content top) x.entries (name_below front x))
+pub stale_some : (head version : ℕ) (old top : Option LinkValue) (x : LinkValue) (front : Path) (out names : List NodeName) → old ≡ Some x → IsAtDepth 0 old → front ≡ [] → out ≡ []
+    → (IsStaleBelow version x top → names ≡ out ++ from_node x.depth (content top) x.entries (name_below front x))
     → IsStaleUnder version old top → names ≡ with_root (content top) (content old) (old_name head old)
-stale_some head version old top x front out names is placed own bare none listing under =
+stale_some head version old top x front out names is placed bare none listing under =
     with_root-from_node (content top) x.depth x.entries (old_name head (Some x)) (name_below front x) names (subst (IsAtDepth 0) is placed) (λ p. ap (λ q. name_of_path (version_or (link_version_at p (Some x))) (q ++ p)) bare)
-    (listing own (subst (λ o. IsStaleUnder version o top) is under) ∙ ap (λ o. o ++ from_node x.depth (content top) x.entries (name_below front x)) none)
+    (listing (subst (λ o. IsStaleUnder version o top) is under) ∙ ap (λ o. o ++ from_node x.depth (content top) x.entries (name_below front x)) none)
     ∙ ap (λ o. with_root (content top) (content o) (old_name head o)) (sym is)
 
 -- the names of the stale nodes are distinct

@@ -1,9 +1,10 @@
 -- Walks over the nodes that a landing writes and makes stale.
 use denote.Ref.{Bor}
-use Rattle.std.proofs.Common.{ℕ, ◌-◌, List, ◌∷◌, length, sym, ap, arith, None, ◌+◌, ◌<◌, Option, Some, ◌≡◌, get_or, ◌∙◌, subst, [], inl, inr, ◌⊎◌, true, refl, ◌++◌, append-nil, ◌≤◌, ap₂, Bool, true≢false, false}
-use Rattle.std.proofs.lemmas.Bool.{cases_lt, cases_eq}
+use Rattle.std.proofs.Common.{ℕ, ◌-◌, List, ◌∷◌, length, sym, ap, arith, None, ◌+◌, ◌<◌, Option, Some, ◌≡◌, get_or, ◌∙◌, subst, [], inl, inr, ◌⊎◌, true, refl, ◌++◌, append-nil, ◌≤◌, ap₂, Bool, true≢false, false, append_assoc}
+use Rattle.std.proofs.lemmas.Bool.{cases_lt}
 use Rattle.std.proofs.lemmas.List.{get_or_past}
 use Rattle.std.specs.Option.{option_copied}
+use Rattle.jf_path.specs.declared.name.NodeName.{NodeName}
 use Rattle.jf_hash.specs.Slots.{with_nibble, Part}
 use Rattle.jf_model.specs.ChildEntries.{child_entries, sub}
 use Rattle.jf_model.specs.Nodes.{Path}
@@ -19,7 +20,8 @@ use Rattle.jf_node.specs.Children.{content}
 use Rattle.jf_node.specs.LinkFacts.{IsLink, IsLinkIf}
 use Rattle.jf_node.proofs.NodeVersions.{version-below}
 use Rattle.jf_node.proofs.ChildLaws.{below-or-past}
-use Rattle.jf_diff.specs.Below.{IsBelow, IsOneBelow, IsFreshBelow, TellsIfOlder, IsStaleBelow, IsBelowIf, from_node, listed_below}
+use Rattle.jf_diff.specs.Below.{IsBelow, IsOneBelow, IsFreshBelow, TellsIfOlder, IsStaleBelow, IsBelowIf, from_node, listed_below, name_below}
+use Rattle.jf_diff.specs.Landings.{version_or}
 use Rattle.jf_diff.specs.OptionalNodes.{IsAtDepth, IsOfVersion}
 use Rattle.jf_diff.proofs.ChildPlaces.{child_part, child_placed}
 
@@ -146,15 +148,16 @@ with_root-from_node old d new f g names at same is =
 fresh_node : {X : Type 0} (version : ℕ) (es : Part) (before : Path → Option ℕ) (x : LinkValue) (f : Path → X) → IsLink x → IsFreshOver version es before x → x.version ≡ version → listed (64 - x.depth) x.depth es x.entries f ≡ from_node x.depth es x.entries f
 fresh_node version es before x f link over own = listed-node x.depth es x.entries f (is_new version es before x link over own) (small_of x link) ∙ sym (from_node-listed_to x.depth es x.entries f)
 
--- what is appended for a node is what the walk lists of it
-pub fresh_listed : {X : Type 0} (version : ℕ) (es : Part) (before : Path → Option ℕ) (x : LinkValue) (f : Path → X) (out now : List X) → IsLink x → IsFreshOver version es before x → (¬ (x.version ≡ version) → now ≡ out)
-    → (x.version ≡ version → IsFreshBelow version es before x → now ≡ out ++ from_node x.depth es x.entries f) → now ≡ out ++ listed (64 - x.depth) x.depth es x.entries f
-fresh_listed version es before x f out now link over kept made = elim (cases_eq x.version version) [
-  | inl own ↦ made own (fresh_below_of version es before x over) ∙ ap (λ l. out ++ l) (sym (fresh_node version es before x f link over own))
-  | inr other ↦
-      kept other ∙ sym (append-nil out)
-      ∙ ap (λ l. out ++ l) (sym (ap (λ a. listed (64 - x.depth) x.depth a x.entries f) (is_old version es before x link over other) ∙ listed-same (64 - x.depth) x.depth x.entries f))
-]
+-- what is appended for a new node is what the walk lists of it
+pub fresh_own : {X : Type 0} (version : ℕ) (es : Part) (before : Path → Option ℕ) (x : LinkValue) (f : Path → X) (out now : List X) → IsLink x → IsFreshOver version es before x → x.version ≡ version
+    → (IsFreshBelow version es before x → now ≡ out ++ from_node x.depth es x.entries f) → now ≡ out ++ listed (64 - x.depth) x.depth es x.entries f
+fresh_own version es before x f out now link over own made = made (fresh_below_of version es before x over) ∙ ap (λ l. out ++ l) (sym (fresh_node version es before x f link over own))
+
+-- and for another one the walk lists nothing
+pub fresh_others : {X : Type 0} (version : ℕ) (es : Part) (before : Path → Option ℕ) (x : LinkValue) (f : Path → X) (out : List X) → IsLink x → IsFreshOver version es before x → ¬ (x.version ≡ version) → out ≡ out ++ listed (64 - x.depth) x.depth es x.entries f
+fresh_others version es before x f out link over other =
+    sym (append-nil out)
+    ∙ ap (λ l. out ++ l) (sym (ap (λ a. listed (64 - x.depth) x.depth a x.entries f) (is_old version es before x link over other) ∙ listed-same (64 - x.depth) x.depth x.entries f))
 
 -- ---- what is stale
 older_kept : (version : ℕ) (x : LinkValue) (y : Option LinkValue) → 1 ≤ length x.entries → IsLinkIf y → IsStaleOver version x y → content y ≡ x.entries → ¬ IsOfVersion version y
@@ -205,6 +208,13 @@ stale_child version x (Some y) n k c d at over is below same =
 pub child_in_entries : (x : LinkValue) (y : Option LinkValue) (n k : ℕ) (d : Option LinkValue) → IsAtDepth x.depth y → IsBelowIf y n d → n ≡ k → content d ≡ child_entries x.depth k (content y)
 child_in_entries x None n k d at in_y same = ap content in_y
 child_in_entries x (Some y) n k d at in_y same = in_y.entries ∙ ap₂ (λ m j. child_entries m j y.entries) at same
+
+-- what is listed from a child on, by the path that leads to it
+pub stale-child : (front path : Path) (x : LinkValue) (y : Option LinkValue) (n : ℕ) (c : LinkValue) (d : Option LinkValue) → IsAtDepth x.depth y → IsBelow x n (Some c) → IsBelowIf y n d → path ≡ front ++ n ∷ []
+    → listed (64 - c.depth) c.depth (content d) c.entries (name_below path c) ≡ listed_below x.depth n (content y) x.entries (name_below front x)
+stale-child front path x y n c d placed is in_y at =
+    listed_below-child x.depth n c.depth (content y) (content d) x.entries c.entries (name_below front x) (name_below path c) is.placed.1 (child_in_entries x y n n d placed in_y refl) is.entries
+    (λ p. ap₂ (λ v q. let name : NodeName = record { version = version_or v; path = q } in name) (sym (is.versions p)) (ap (λ q. q ++ p) at ∙ append_assoc front (n ∷ []) p))
 
 placed_at : (d e : ℕ) (o : Option LinkValue) → IsOneBelow d o → e ≡ d + 1 → IsAtDepth e o
 placed_at d e None h is = tt

@@ -12,12 +12,12 @@ use Rattle.jf_diff.specs.Tops.{IsFreshUnder, IsStaleUnder, old_name}
 
 -- the two tops alone
 pub record AreTopLists (version head : ℕ) (old top : Option LinkValue) (l : PartLists) : Type 0 where
-  pub fresh : l.fresh.items ≡ fresh_under version top [] ∷ []
+  pub fresh : l.fresh ≡ fresh_under version top [] ∷ []
   pub stale : l.stale.items ≡ old_name head old [] ∷ []
 
 -- what is listed from the children of the tops at nibble n down
 pub record ArePartLists (version : ℕ) (old top : Option LinkValue) (n : ℕ) (l : PartLists) : Type 0 where
-  pub fresh : (es : Part) (before : Path → Option ℕ) → IsFreshUnder version es before top → l.fresh.items ≡ listed_below 0 n es (content top) (fresh_under version top)
+  pub fresh : (es : Part) (before : Path → Option ℕ) → IsFreshUnder version es before top → l.fresh ≡ listed_below 0 n es (content top) (fresh_under version top)
   pub stale : (head : ℕ) → IsStaleUnder version old top → l.stale.items ≡ listed_below 0 n (content top) (content old) (old_name head old)
 
 -- sixteen parts, each with what is listed at the nibble of its place

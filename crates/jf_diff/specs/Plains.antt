@@ -30,3 +30,7 @@ fresh_below version front x path = (record { version = version; path = front ++ 
 -- a node that a landing writes below an optional top, with its name
 abbrev pub fresh_under : ℕ → Option LinkValue → Path → NodeName × PlainNode
 fresh_under version top path = (record { version = version; path = path }, plain_under top path)
+
+-- a node with its name, by itself
+abbrev pub plain_item : NodeName × Option LinkValue → NodeName × PlainNode
+plain_item x = (x.0, plain_under x.1 [])

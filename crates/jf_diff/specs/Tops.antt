@@ -1,8 +1,6 @@
 -- Two tops, one of which stands in the place of the other after a landing.
-use Rattle.std.specs.Prelude.{ℕ, Option, Some, None, T}
-use Rattle.std.specs.FinMap.{is_sorted}
+use Rattle.std.specs.Prelude.{ℕ, Option, Some, None}
 use Rattle.jf_path.specs.declared.name.NodeName.{NodeName}
-use Rattle.jf_path.specs.Keys.{key_cmp}
 use Rattle.jf_hash.specs.Slots.{Part}
 use Rattle.jf_model.specs.Nodes.{Path}
 use Rattle.jf_node.specs.LinkValue.{LinkValue}
@@ -23,10 +21,3 @@ IsFreshUnder version es before (Some x) = IsFreshBelow version es before x
 abbrev pub IsStaleUnder : ℕ → Option LinkValue → Option LinkValue → Type 0
 IsStaleUnder version None y = Unit {0}
 IsStaleUnder version (Some x) y = IsStaleBelow version x y
-
--- a top was made by a landing over some sorted entries
-pub record WasLanded (version : ℕ) (top : Option LinkValue) : Type 0 where
-  pub es : Part
-  pub before : Path → Option ℕ
-  pub sorted : T (is_sorted key_cmp es)
-  pub over : IsFreshUnder version es before top

@@ -8,31 +8,21 @@ ghost use Rattle.jf_node.specs.Children.{content};
 ghost use Rattle.jf_diff.specs.Below.{listed_below};
 ghost use Rattle.jf_diff.specs.OptionalNodes.{IsAtDepth};
 ghost use Rattle.jf_diff.specs.PartLists.{ArePartLists, AreTopLists};
-ghost use Rattle.jf_diff.specs.Plains.{fresh_under, plain_under};
+ghost use Rattle.jf_diff.specs.Plains.{fresh_under};
 ghost use Rattle.jf_diff.specs.Tops.{IsFreshUnder, IsStaleUnder, old_name};
 
 use crate::list::{list_fresh_at, list_stale_at};
-use crate::plain_node::plain_of;
+use crate::named_nodes::NamedNodes;
 use crate::top::top_name;
 use jf_node::Link;
-use jf_path::{Memory, Nibble, NibblePath, NodeName, PlainNode};
+use jf_path::{Memory, Nibble, NibblePath, NodeName};
 use std::alloc::Global;
 
 /// The nodes of a part that a landing wrote, in the order of their paths, and the names of those that it made stale.
 #[derive(Drop)]
 pub(crate) struct PartLists {
-    pub(crate) fresh: Vec<(NodeName, PlainNode)>,
+    pub(crate) fresh: NamedNodes,
     pub(crate) stale: Vec<NodeName>,
-}
-
-/// The top by itself, as it is written.
-fn plain_top(alloc: Global, top: Option<&Link>) -> Result<PlainNode, Memory>
-    ensures { IfOk result (λ p. p ≡ plain_under (option_copied top.entry) []) }
-{
-    match top {
-        None => Ok(PlainNode::Null),
-        Some(link) => plain_of(alloc, link),
-    }
 }
 
 /// The name under which the version `head` has its top.
@@ -58,9 +48,8 @@ pub(crate) fn top_lists(
 ) -> Result<PartLists, Memory>
     ensures { IfOk result (AreTopLists version head (option_copied old.entry) (option_copied top.entry)) }
 {
-    let mut fresh = Vec::new(alloc);
-    let node = plain_top(alloc, top)?;
-    fresh.push((top_name(version), node))?;
+    let mut fresh = NamedNodes::new(alloc);
+    fresh.push(top_name(version), top)?;
     let mut stale = Vec::new(alloc);
     stale.push(old_top_name(head, old))?;
     Ok(PartLists { fresh, stale })
@@ -72,15 +61,15 @@ fn fresh_from(
     top: Option<&Link>,
     version: u64,
     n: Nibble,
-) -> Result<Vec<(NodeName, PlainNode)>, Memory>
+) -> Result<NamedNodes, Memory>
     requires top { IsAtDepth 0 (option_copied top) }
-    ensures { IfOk result (λ v. (es : Part) (before : Path → Option ℕ) → IsFreshUnder version es before (option_copied top.entry) → v.items ≡ listed_below 0 n es (content (option_copied top.entry)) (fresh_under version (option_copied top.entry))) }
+    ensures { IfOk result (λ v. (es : Part) (before : Path → Option ℕ) → IsFreshUnder version es before (option_copied top.entry) → v ≡ listed_below 0 n es (content (option_copied top.entry)) (fresh_under version (option_copied top.entry))) }
 {
-    let mut nodes = Vec::new(alloc);
+    let mut nodes = NamedNodes::new(alloc);
     match top {
         None => Ok(nodes),
         Some(link) => {
-            list_fresh_at(alloc, link, version, &NibblePath::empty(), n, &mut nodes)?;
+            list_fresh_at(link, version, &NibblePath::empty(), n, &mut nodes)?;
             Ok(nodes)
         }
     }

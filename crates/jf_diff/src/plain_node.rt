@@ -1,7 +1,7 @@
 // Nodes by themselves, as they are written: without the children that they share.
 ghost use Rattle.std.specs.Prelude.{◌≡◌, ◌≤◌, [], length, IfOk};
 ghost use Rattle.jf_node.specs.Shown.{ShowsInner};
-ghost use Rattle.jf_diff.specs.Plains.{plain_at, children_list};
+ghost use Rattle.jf_diff.specs.Plains.{plain_at, plain_under, children_list};
 
 use jf_hash::Places;
 use jf_node::{Branches, Link, Seen};
@@ -9,7 +9,7 @@ use jf_path::{Bytes, Child, Children, Memory, Nibble, PlainNode};
 use std::alloc::Global;
 
 /// The children of an inner node.
-fn branches_of(link: &Link) -> &Branches
+pub(crate) fn branches_of(link: &Link) -> &Branches
     requires { 2 ≤ length link.now.entries }
     ensures { ShowsInner link.now result.now }
 {
@@ -58,5 +58,15 @@ pub fn plain_of(alloc: Global, link: &Link) -> Result<PlainNode, Memory>
             let children = children_of(alloc, link)?;
             Ok(PlainNode::Inner { children })
         }
+    }
+}
+
+/// The node of an optional link by itself, as it is written: the root of the empty map if there is no link.
+pub(crate) fn plain_if(alloc: Global, link: &Option<Link>) -> Result<PlainNode, Memory>
+    ensures { IfOk result (λ r. r ≡ plain_under link.now []) }
+{
+    match link {
+        None => Ok(PlainNode::Null),
+        Some(link) => plain_of(alloc, link),
     }
 }

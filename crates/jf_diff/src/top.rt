@@ -9,13 +9,14 @@ ghost use Rattle.jf_model.specs.Nodes.{Path};
 ghost use Rattle.jf_node.specs.Children.{content};
 ghost use Rattle.jf_model.specs.Walk.{with_root};
 ghost use Rattle.jf_diff.specs.OptionalNodes.{IsAtDepth, IsOfVersion};
-ghost use Rattle.jf_diff.specs.Plains.{fresh_under};
-ghost use Rattle.jf_diff.specs.Tops.{IsFreshUnder, IsStaleUnder, WasLanded, old_name};
+ghost use Rattle.jf_diff.specs.Plains.{fresh_under, plain_under};
+ghost use Rattle.jf_diff.specs.Tops.{IsFreshUnder, IsStaleUnder, old_name};
 
 use crate::list::{list_fresh, list_stale};
+use crate::named_nodes::NamedNodes;
 use crate::sorted::sorted_names;
 use jf_node::Link;
-use jf_path::{FreshList, Memory, NameList, NibblePath, NodeName, PlainNode};
+use jf_path::{Memory, NameList, NibblePath, NodeName};
 use std::alloc::Global;
 
 /// The name of the top that a version wrote.
@@ -39,28 +40,31 @@ fn one_name(alloc: Global, name: NodeName) -> Result<NameList, Memory>
 }
 
 /// A list of one node.
-fn one_node(alloc: Global, name: NodeName, node: PlainNode) -> Result<FreshList, Memory>
-    ensures { IfOk result (λ l. l ≡ (name, node) ∷ []) }
+fn one_node(alloc: Global, name: NodeName, link: Option<&Link>) -> Result<NamedNodes, Memory>
+    ensures { IfOk result (λ l. l ≡ (name, plain_under (option_copied link.entry) []) ∷ []) }
 {
-    let mut nodes = FreshList::new(alloc);
-    nodes.push((name, node))?;
+    let mut nodes = NamedNodes::new(alloc);
+    nodes.push(name, link)?;
     Ok(nodes)
 }
 
 /// The nodes that the landing of `version` wrote: at least the top.
-pub(crate) fn fresh_of(alloc: Global, top: Option<&Link>, version: u64) -> Result<FreshList, Memory>
+pub(crate) fn fresh_of(
+    alloc: Global,
+    top: Option<&Link>,
+    version: u64,
+) -> Result<NamedNodes, Memory>
     requires top { IsAtDepth 0 (option_copied top) }
     requires own { IsOfVersion version (option_copied top) }
-    requires landed { WasLanded version (option_copied top) }
     ensures { IfOk result (λ l. (es : Part) (before : Path → Option ℕ) → IsFreshUnder version es before (option_copied top.entry) → l ≡ with_root es (content (option_copied top.entry)) (fresh_under version (option_copied top.entry))) }
 {
     match top {
-        None => one_node(alloc, top_name(version), PlainNode::Null),
+        None => one_node(alloc, top_name(version), None),
         Some(link) => {
             link.know();
-            let mut nodes = Vec::new(alloc);
-            list_fresh(alloc, link, version, &NibblePath::empty(), &mut nodes)?;
-            Ok(FreshList::of(nodes))
+            let mut nodes = NamedNodes::new(alloc);
+            list_fresh(link, version, &NibblePath::empty(), &mut nodes)?;
+            Ok(nodes)
         }
     }
 }

@@ -12,14 +12,14 @@ ghost use Rattle.jf_node.specs.Children.{content};
 ghost use Rattle.jf_diff.specs.OptionalNodes.{IsAtDepth, IsOfVersion};
 ghost use Rattle.jf_diff.specs.PartLists.{ArePartLists, AreAllParts};
 ghost use Rattle.jf_diff.specs.Plains.{fresh_under};
-ghost use Rattle.jf_diff.specs.Tops.{IsFreshUnder, IsStaleUnder, WasLanded, old_name};
+ghost use Rattle.jf_diff.specs.Tops.{IsFreshUnder, IsStaleUnder, old_name};
 
 use crate::lists::Written;
 use crate::parts::{PartLists, part_lists, top_lists};
 use crate::sorted::sorted_names;
 use jf_join::{Gate, join_pieces_from};
 use jf_node::Link;
-use jf_path::{FreshList, Memory, Nibble};
+use jf_path::{Memory, Nibble};
 use std::alloc::Global;
 use std::thread::Threads;
 
@@ -37,18 +37,18 @@ fn nibbles(alloc: Global) -> Result<Vec<Nibble>, Memory>
 /// Takes room for the lists of all parts at once, so that what is appended isn't copied again. The two lists stay as they
 /// are.
 fn take_room(all: &mut PartLists, parts: &[Result<PartLists, Memory>]) -> Result<(), Memory>
-    ensures fresh { all.new.fresh.items ≡ all.old.fresh.items }
+    ensures fresh { all.new.fresh ≡ all.old.fresh }
     ensures stale { all.new.stale.items ≡ all.old.stale.items }
 {
     let mut fresh: usize = 0;
     let mut stale: usize = 0;
     for part in parts {
         if let Ok(part) = part {
-            fresh = fresh.saturating_add(part.fresh.len());
+            fresh = fresh.saturating_add(part.fresh.len() as usize);
             stale = stale.saturating_add(part.stale.len());
         }
     }
-    all.fresh.reserve_exact(fresh)?;
+    all.fresh.reserve(fresh)?;
     all.stale.reserve_exact(stale)?;
     Ok(())
 }
@@ -63,17 +63,14 @@ fn put_together(
     parts: Vec<Result<PartLists, Memory>>,
 ) -> Result<PartLists, Memory>
     requires parts { AreAllParts version (option_copied old) (option_copied top) parts.items }
-    ensures fresh { IfOk result (λ l. (es : Part) (before : Path → Option ℕ) → IsFreshUnder version es before (option_copied top.entry) → l.fresh.items ≡ with_root es (content (option_copied top.entry)) (fresh_under version (option_copied top.entry))) }
+    ensures fresh { IfOk result (λ l. (es : Part) (before : Path → Option ℕ) → IsFreshUnder version es before (option_copied top.entry) → l.fresh ≡ with_root es (content (option_copied top.entry)) (fresh_under version (option_copied top.entry))) }
     ensures stale { IfOk result (λ l. IsStaleUnder version (option_copied old.entry) (option_copied top.entry) → l.stale.items ≡ with_root (content (option_copied top.entry)) (content (option_copied old.entry)) (old_name head (option_copied old.entry))) }
 {
     let mut all = top_lists(alloc, old, head, top, version)?;
     take_room(&mut all, &parts)?;
     for part in parts {
-        let PartLists {
-            mut fresh,
-            mut stale,
-        } = part?;
-        all.fresh.append(&mut fresh)?;
+        let PartLists { fresh, mut stale } = part?;
+        all.fresh.append(fresh)?;
         all.stale.append(&mut stale)?;
     }
     Ok(all)
@@ -97,7 +94,6 @@ pub(crate) fn written_wide<H: Threads + Sync, G: Gate>(
     requires bounded { workers ≤ 64 }
     requires old { IsAtDepth 0 (option_copied old) }
     requires top { IsAtDepth 0 (option_copied top) }
-    requires landed { WasLanded version (option_copied top) }
     requires stale { IsStaleUnder version (option_copied old) (option_copied top) }
     requires old_sorted { T (is_sorted key_cmp (content (option_copied old))) }
     requires sorted { T (is_sorted key_cmp (content (option_copied top))) }
@@ -112,7 +108,7 @@ pub(crate) fn written_wide<H: Threads + Sync, G: Gate>(
     let parts = join_pieces_from(rt, alloc, &nibbles, FIRST_PIECE, workers, gate, &work)?;
     let PartLists { fresh, stale } = put_together(alloc, old, head, top, version, parts)?;
     Ok(Written {
-        fresh: FreshList::of(fresh),
+        fresh,
         stale: sorted_names(stale),
     })
 }

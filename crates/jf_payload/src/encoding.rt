@@ -26,8 +26,8 @@ fn put_hashes(out: &mut Bytes, hashes: &[[u8; 32]]) -> Result<(), Memory>
     Ok(())
 }
 
-// Adds each name.
-fn put_names(out: &mut Bytes, names: &[NodeName]) -> Result<(), Memory>
+/// Adds each name. If memory runs out, some of them may follow what was in `out`.
+pub fn put_names(out: &mut Bytes, names: &[NodeName]) -> Result<(), Memory>
     ensures { OnOk result (out.new ≡ out.old ++ flat_map name_bytes names.now) }
 {
     for name in names {

@@ -7,11 +7,11 @@ use jf_codec::Format;
 /// A later floor.
 pub(crate) const FLOOR: u8 = 2;
 /// A landing.
-pub(crate) const COMMIT: u8 = 3;
+pub const COMMIT: u8 = 3;
 /// Several landings.
-pub(crate) const GROUP: u8 = 6;
+pub const GROUP: u8 = 6;
 /// The byte of a closed gate.
-pub(crate) const CLOSED: u8 = 0;
+pub const CLOSED: u8 = 0;
 
 /// The kind of a checkpoint in a file of a format: 4 in format 1, 5 in format 2.
 pub(crate) fn checkpoint_kind(format: Format) -> u8

@@ -13,7 +13,7 @@ use jf_codec::{Format, name_len, node_len};
 use jf_path::{Memory, NodeName, PlainNode};
 
 /// The sum of two numbers of bytes. `Memory` if it is above what a number holds: no buffer has that many.
-pub(crate) fn sum_within(a: u64, b: u64) -> Result<u64, Memory>
+pub fn sum_within(a: u64, b: u64) -> Result<u64, Memory>
     ensures { IfOk result (λ n. n ≡ a + b) }
 {
     a.checked_add(b).ok_or(Memory)
@@ -28,8 +28,8 @@ fn hashes_len(hashes: &[[u8; 32]]) -> Result<u64, Memory>
     (hashes.len() as u64).checked_mul(32).ok_or(Memory)
 }
 
-// The number of bytes of names.
-fn names_len(names: &[NodeName]) -> Result<u64, Memory>
+/// The number of bytes of names.
+pub fn names_len(names: &[NodeName]) -> Result<u64, Memory>
     ensures { IfOk result (λ n. n ≡ length (flat_map name_bytes names.now)) }
 {
     let mut length = 0;

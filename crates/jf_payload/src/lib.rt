@@ -19,11 +19,13 @@ mod records;
 
 pub use commits::Commits;
 pub use decoding::decode;
-pub use encoding::encode;
+pub use encoding::{encode, put_names};
 pub use fault::RecordFault;
 pub use floor::encode_floor;
+pub use kinds::{CLOSED, COMMIT, GROUP};
 pub use laws::{
     kept_is_spelled, one_record, one_spelling, spelled_is_spelling, spelling_is_decided,
     written_in_both,
 };
+pub use length::{names_len, sum_within};
 pub use records::{Commit, Record};

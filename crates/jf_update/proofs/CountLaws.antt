@@ -1,7 +1,6 @@
 -- The nodes of entries are counted child by child.
-use Rattle.std.proofs.Common.{ℕ, List, [], ◌∷◌, ◌≡◌, ◌+◌, ◌<◌, ◌≤◌, refl, ap, sym, ◌∙◌, subst, arith, length, take, drop, length-append, length-drop, T}
+use Rattle.std.proofs.Common.{ℕ, [], ◌∷◌, ◌≡◌, ◌+◌, ◌<◌, ◌≤◌, refl, ap, sym, ◌∙◌, arith, length, take, drop, length-append, length-drop}
 use Rattle.std.specs.Prelude.{Result, Ok, Err, IfOk}
-use Rattle.std.specs.FinMap.{is_sorted}
 use Rattle.std.specs.FinMap as fin
 use Rattle.jf_path.specs.Keys.{key_cmp}
 use Rattle.jf_path.specs.declared.memory.Memory.{Memory}

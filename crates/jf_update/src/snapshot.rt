@@ -73,9 +73,10 @@ pub fn update<H: Threads + Sync, G: Gate>(
     let hashes = value_hashes(rt, alloc, entries, workers)?;
     let snapshot = advance(rt, alloc, head, entries, &hashes, workers, gate)?;
     let Written { fresh, stale } = written(rt, alloc, head, &snapshot, workers, gate)?;
+    let nodes = fresh.copied(alloc)?;
     Ok(Update {
         root: snapshot.root(),
-        fresh,
+        fresh: nodes,
         stale,
         snapshot,
     })

@@ -1,6 +1,7 @@
 // `advance` and then `written` return what `update` returns with any number of workers: the same root, and the same names
 // of nodes.
 use crate::landings::{Change, WORKERS, batch_of};
+use jf_diff::NamedNodes;
 use jf_join::FreeGate;
 use jf_node::Snapshot;
 use jf_path::{NodeName, PlainNode};
@@ -68,19 +69,40 @@ fn in_one_call<H: Threads + Sync>(
     Ok(Box::new(alloc, landed)?)
 }
 
-fn have_same_names(some: &[(NodeName, PlainNode)], others: &[(NodeName, PlainNode)]) -> bool {
-    for (one, other) in some.iter().zip(others) {
-        if one.0 != other.0 {
-            return false;
-        }
+// Whether the nodes at a place have the same name. Both lists must be longer.
+fn has_same_name(
+    alloc: Global,
+    some: &[(NodeName, PlainNode)],
+    others: &NamedNodes,
+    place: usize,
+) -> Result<bool, Fail> {
+    if place >= some.len() || place as u64 >= others.len() {
+        return Err(Fail::new("a list is too short"));
     }
-    some.len() == others.len()
+    let other = others.get(alloc, place)?;
+    Ok(some[place].0 == other.0)
 }
 
-fn are_same(update: &Update, landed: &Landed) -> bool {
-    update.root == landed.snapshot.root()
-        && have_same_names(update.fresh.as_slice(), landed.lists.fresh.as_slice())
-        && update.stale.as_slice() == landed.lists.stale.as_slice()
+fn have_same_names(
+    alloc: Global,
+    some: &[(NodeName, PlainNode)],
+    others: &NamedNodes,
+) -> Result<bool, Fail> {
+    for place in 0..some.len() {
+        if !has_same_name(alloc, some, others, place)? {
+            return Ok(false);
+        }
+    }
+    Ok(some.len() as u64 == others.len())
+}
+
+fn are_same(alloc: Global, update: &Update, landed: &Landed) -> Result<bool, Fail> {
+    if update.root != landed.snapshot.root()
+        || update.stale.as_slice() != landed.lists.stale.as_slice()
+    {
+        return Ok(false);
+    }
+    have_same_names(alloc, update.fresh.as_slice(), &landed.lists.fresh)
 }
 
 fn snapshot_of(landed: Box<Landed>) -> Snapshot {
@@ -98,7 +120,7 @@ fn all_land_alike<H: Threads + Sync>(
 ) -> Result<bool, Fail> {
     for workers in WORKERS {
         let update = in_one_call(rt, alloc, head, batch, *workers)?;
-        if !are_same(&update, landed) {
+        if !are_same(alloc, &update, landed)? {
             return Ok(false);
         }
     }

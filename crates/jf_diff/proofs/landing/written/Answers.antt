@@ -1,13 +1,8 @@
 use Rattle.std.proofs.Common.{subst, sym}
 use Rattle.std.specs.Option.{option_copied}
-use Rattle.jf_diff.specs.Tops.{IsStaleUnder, WasLanded}
-use Rattle.jf_diff.proofs.LandingLaws.{was_landed, stale_top, landed_nodes, landed_names, written_count}
+use Rattle.jf_diff.specs.Tops.{IsStaleUnder}
+use Rattle.jf_diff.proofs.LandingLaws.{stale_top, landed_nodes, landed_names, written_count}
 use Rattle.jf_diff.proofs.landing.written.Goals as goal
-
-pub written_wide-requires-clause-landed : goal.written_wide-requires-clause-landed
-written_wide-requires-clause-landed g c κs within =
-    let top = option_copied c.top-top.result in
-    subst (λ v. WasLanded v top) (sym c.version-version.ensures) (was_landed c.args.old.now c.args.new.now top c.know.ensures c.top-top.ensures c.requires.next)
 
 pub written_wide-requires-clause-stale : goal.written_wide-requires-clause-stale
 written_wide-requires-clause-stale g c κs within =

@@ -1,8 +1,8 @@
 use Rattle.std.proofs.Common.{subst, sym}
 use Rattle.std.specs.Option.{option_copied}
 use Rattle.jf_diff.specs.OptionalNodes.{IsOfVersion}
-use Rattle.jf_diff.specs.Tops.{IsStaleUnder, WasLanded}
-use Rattle.jf_diff.proofs.LandingLaws.{top_placed, top_own, was_landed, stale_top, sorted_top, landed_nodes, landed_names, written_count}
+use Rattle.jf_diff.specs.Tops.{IsStaleUnder}
+use Rattle.jf_diff.proofs.LandingLaws.{top_placed, top_own, stale_top, sorted_top, landed_nodes, landed_names, written_count}
 use Rattle.jf_diff.proofs.landing.written_in_turn.Goals as goal
 
 pub fresh_of-requires-clause-top : goal.fresh_of-requires-clause-top
@@ -10,9 +10,6 @@ fresh_of-requires-clause-top c = top_placed c.args.new.now.version (option_copie
 
 pub fresh_of-requires-clause-own : goal.fresh_of-requires-clause-own
 fresh_of-requires-clause-own c = subst (λ v. IsOfVersion v (option_copied c.top.result)) (sym c.version.ensures) (top_own c.args.new.now.version (option_copied c.top.result) c.top.ensures.top)
-
-pub fresh_of-requires-clause-landed : goal.fresh_of-requires-clause-landed
-fresh_of-requires-clause-landed c = subst (λ v. WasLanded v (option_copied c.top.result)) (sym c.version.ensures) (was_landed c.args.old.now c.args.new.now (option_copied c.top.result) c.know.ensures c.top.ensures c.requires.next)
 
 pub stale_of-requires-clause-old : goal.stale_of-requires-clause-old
 stale_of-requires-clause-old c = top_placed c.args.old.now.version (option_copied c.top-2.result) c.top-2.ensures.top

@@ -13,4 +13,4 @@ abbrev pub decreases-list_fresh_at : goal.decreases-list_fresh_at
 decreases-list_fresh_at l = 2 * (64 - l.link.now.depth) + 1
 
 abbrev pub invariant-list_fresh-loop-n : goal.invariant-list_fresh-loop-n
-invariant-list_fresh-loop-n l = (es : Part) (before : Path → Option ℕ) → IsFreshBelow l.version es before l.link → l.out.items ≡ l.fn.out.items ++ listed_to l.link.depth l.n es l.link.entries (fresh_below l.version l.path l.link)
+invariant-list_fresh-loop-n l = (es : Part) (before : Path → Option ℕ) → IsFreshBelow l.version es before l.link → l.out ≡ l.fn.out ++ listed_to l.link.depth l.n es l.link.entries (fresh_below l.version l.path l.link)

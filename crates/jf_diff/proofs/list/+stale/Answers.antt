@@ -1,15 +1,12 @@
-use Rattle.std.proofs.Common.{◌≡◌, ◌++◌, ◌∷◌, [], Some, arith, sym, ap, ap₂, ◌∙◌, append-nil, append_assoc, refl}
+use Rattle.std.proofs.Common.{◌≡◌, ◌++◌, ◌∷◌, [], Some, arith, sym, ap, ap₂, ◌∙◌, append-nil, refl}
 use Rattle.std.specs.Option.{option_copied}
 use Rattle.jf_path.specs.declared.name.NodeName.{NodeName}
 use Rattle.jf_node.specs.Children.{content}
 use Rattle.jf_walk.proofs.WalkLaws.{listed_to, listed_to-none}
 use Rattle.jf_diff.specs.Landings.{version_or}
 use Rattle.jf_diff.specs.Below.{IsBelow, listed_below, name_below}
-use Rattle.jf_diff.proofs.Walks.{stale_listed, from_node-listed_to, tells_kept, tells_new, stale_child, child_in_entries, child_in_sound, child_entries_none, child_entries_some, listed_to-below, listed_below-child, listed_below-none}
+use Rattle.jf_diff.proofs.Walks.{stale_listed, from_node-listed_to, tells_kept, tells_new, stale_child, stale-child, child_in_sound, child_entries_none, child_entries_some, listed_to-below, listed_below-none}
 use Rattle.jf_diff.proofs.list.+stale.Goals as goal
-
-pub list_stale-returns-then-is_kept-clause-listed : goal.list_stale-returns-then-is_kept-clause-listed
-list_stale-returns-then-is_kept-clause-listed t c own below = absurd (tells_kept c.args.version (option_copied c.args.new) c.is_kept.result c.is_kept.ensures c.if-is_kept.true own)
 
 pub list_stale-loop-n-init : goal.list_stale-loop-n-init
 list_stale-loop-n-init t c over =
@@ -26,11 +23,8 @@ list_stale-loop-n-preserved t c over =
     listed_to-below x.depth c.loop-n.n ys x.entries f c.args.out.now.items c.loop-n.out.items _ (c.loop-n.invariant over)
     (c.in_ok-list_stale_at.ensures over ∙ ap (λ n. c.loop-n.out.items ++ listed_below x.depth n ys x.entries f) c.of.ensures)
 
-pub list_stale-returns-clause-kept : goal.list_stale-returns-clause-kept
-list_stale-returns-clause-kept t c other = absurd (other (tells_new c.args.version (option_copied c.args.new) c.is_kept.result c.is_kept.ensures c.if-is_kept.false))
-
-pub list_stale-returns-clause-listed : goal.list_stale-returns-clause-listed
-list_stale-returns-clause-listed t c own below =
+pub list_stale-returns : goal.list_stale-returns
+list_stale-returns t c below =
     let x = c.args.old.now in
     let ys = content (option_copied c.args.new) in
     let f = name_below c.args.path.now x in
@@ -43,17 +37,27 @@ list_stale_at-returns-in-None t c over =
     sym (append-nil c.args.out.now.items)
     ∙ ap (λ l. c.args.out.now.items ++ l) (sym (listed_below-none x.depth c.args.n (content (option_copied c.args.new)) x.entries (name_below c.args.path.now x) (child_entries_none x c.args.n c.args.n c.child_of.result c.child_of.ensures c.in-None.is refl)))
 
+pub list_stale_at-returns-then-is_kept : goal.list_stale_at-returns-then-is_kept
+list_stale_at-returns-then-is_kept t c over =
+    let x = c.args.old.now in
+    let y = option_copied c.args.new in
+    let n = c.args.n in
+    let old = c.in-Some.child.now in
+    let there = option_copied c.child_in-there.result in
+    let path = c.args.path.now ++ n ∷ [] in
+    let below : IsBelow x n (Some old) = child_entries_some x n n c.child_of.result c.in-Some.child c.child_of.ensures c.in-Some.is refl in
+    stale_listed c.args.version old there (name_below path old) c.args.out.now.items c.args.out.now.items below.sound (child_in_sound y n there c.child_in-there.ensures) (stale_child c.args.version x y n n old there c.requires.new over below c.child_in-there.ensures refl)
+    (λ other. refl) (λ own under. absurd (tells_kept c.args.version there c.is_kept.result c.is_kept.ensures c.if-is_kept.true own))
+    ∙ ap (λ l. c.args.out.now.items ++ l) (stale-child c.args.path.now path x y n old there c.requires.new below c.child_in-there.ensures refl)
+
 pub list_stale_at-returns-in_ok-list_stale-in-Some : goal.list_stale_at-returns-in_ok-list_stale-in-Some
 list_stale_at-returns-in_ok-list_stale-in-Some t c over =
     let x = c.args.old.now in
     let y = option_copied c.args.new in
     let n = c.args.n in
     let old = c.in-Some.child.now in
-    let new = option_copied c.child_in.result in
+    let there = option_copied c.child_in-there.result in
     let below : IsBelow x n (Some old) = child_entries_some x n n c.child_of.result c.in-Some.child c.child_of.ensures c.in-Some.is refl in
-    let f = name_below c.args.path.now x in
-    let g = name_below c.child.result old in
-    stale_listed c.args.version old new g c.args.out.now.items _ below.sound (child_in_sound y n new c.child_in.ensures) (stale_child c.args.version x y n n old new c.requires.new over below c.child_in.ensures refl)
-    c.in_ok-list_stale-in-Some.ensures.kept c.in_ok-list_stale-in-Some.ensures.listed
-    ∙ ap (λ l. c.args.out.now.items ++ l) (listed_below-child x.depth n old.depth (content y) (content new) x.entries old.entries f g below.placed.1 (child_in_entries x y n n new c.requires.new c.child_in.ensures refl) below.entries
-    (λ p. ap₂ (λ v q. let name : NodeName = record { version = version_or v; path = q } in name) (sym (below.versions p)) (ap (λ q. q ++ p) c.child.ensures ∙ append_assoc c.args.path.now (n ∷ []) p)))
+    stale_listed c.args.version old there (name_below c.child.result old) c.args.out.now.items _ below.sound (child_in_sound y n there c.child_in-there.ensures) (stale_child c.args.version x y n n old there c.requires.new over below c.child_in-there.ensures refl)
+    (λ other. absurd (other (tells_new c.args.version there c.is_kept.result c.is_kept.ensures c.if-is_kept.false))) (λ own. c.in_ok-list_stale-in-Some.ensures)
+    ∙ ap (λ l. c.args.out.now.items ++ l) (stale-child c.args.path.now c.child.result x y n old there c.requires.new below c.child_in-there.ensures c.child.ensures)

@@ -9,7 +9,7 @@ use Rattle.jf_diff.proofs.top.stale_of.Goals as goal
 pub sorted_names-requires : goal.sorted_names-requires
 sorted_names-requires c =
     stale_distinct c.args.head (option_copied c.args.old) (content (option_copied c.args.top)) c.list_stale.new.out.items
-    (stale_some c.args.head c.args.version (option_copied c.args.old) (option_copied c.args.top) c.in-Some.link.now c.empty.result c.new-names.result.items _ (ap option_copied c.in-Some.is) c.requires.old c.requires.own c.empty.ensures c.new-names.ensures.items c.in_ok-list_stale-in-Some.ensures.listed c.requires.landed)
+    (stale_some c.args.head c.args.version (option_copied c.args.old) (option_copied c.args.top) c.in-Some.link.now c.empty.result c.new-names.result.items _ (ap option_copied c.in-Some.is) c.requires.old c.empty.ensures c.new-names.ensures.items c.in_ok-list_stale-in-Some.ensures c.requires.landed)
     c.requires.sorted (sorted_link (option_copied c.args.old) c.in-Some.link.now (ap option_copied c.in-Some.is) c.know.ensures)
 
 pub returns-in-None : goal.returns-in-None
@@ -21,5 +21,5 @@ returns-in-None c =
 pub returns-in_ok-list_stale-in-Some : goal.returns-in_ok-list_stale-in-Some
 returns-in_ok-list_stale-in-Some c =
     subst (λ ns. IsPermutation ns c.sorted_names.result)
-    (stale_some c.args.head c.args.version (option_copied c.args.old) (option_copied c.args.top) c.in-Some.link.now c.empty.result c.new-names.result.items _ (ap option_copied c.in-Some.is) c.requires.old c.requires.own c.empty.ensures c.new-names.ensures.items c.in_ok-list_stale-in-Some.ensures.listed c.requires.landed)
+    (stale_some c.args.head c.args.version (option_copied c.args.old) (option_copied c.args.top) c.in-Some.link.now c.empty.result c.new-names.result.items _ (ap option_copied c.in-Some.is) c.requires.old c.empty.ensures c.new-names.ensures.items c.in_ok-list_stale-in-Some.ensures c.requires.landed)
     c.sorted_names.ensures

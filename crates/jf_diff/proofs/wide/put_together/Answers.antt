@@ -27,7 +27,7 @@ loop-part-preserved c =
       split = append_assoc done (part ∷ []) left ∙ in_turn;
       gathered = gathered_more c.args.version c.args.head (length done) _ old top c.in_ok-fresh.field-0 _ _ _ _ (length-append done (part ∷ [])) c.loop-part.invariant.gathered
           (IfOk-at_ok (ArePartLists c.args.version old top (length done)) c.in_ok-fresh.was (part_in_turn c.args.version old top c.args.parts.items done left part c.requires.parts in_turn))
-          c.in_ok-append.ensures.items c.in_ok-append-2.ensures.items;
+          c.in_ok-append.ensures c.in_ok-append-2.ensures.items;
     }
 
 pub returns-clause-fresh : goal.returns-clause-fresh

@@ -5,7 +5,7 @@ use Rattle.jf_join.proofs.AnswerLaws.{AnswersEach-at, AnswersEach-length}
 use Rattle.jf_node.specs.Children.{content}
 use Rattle.jf_diff.specs.PartLists.{ArePartLists}
 use Rattle.jf_diff.proofs.PartLaws.{all_parts}
-use Rattle.jf_diff.proofs.TopLaws.{top_rises, stale_distinct}
+use Rattle.jf_diff.proofs.TopLaws.{stale_distinct}
 use Rattle.jf_diff.proofs.wide.written_wide.Goals as goal
 
 pub put_together-requires : goal.put_together-requires
@@ -17,14 +17,8 @@ put_together-requires g c =
           (AnswersEach-at c.in_ok-parts.ensures (λ n r. IfOk r (ArePartLists c.args.version old top n)) (λ n r h. subst (λ m. IfOk r (ArePartLists c.args.version old top m)) h.shows h.says.met));
     }
 
-pub of-requires : goal.of-requires
-of-requires g c = top_rises c.args.version (option_copied c.args.top) _ c.requires.landed c.requires.sorted c.in_ok-fresh.ensures.fresh
-
 pub sorted_names-requires : goal.sorted_names-requires
 sorted_names-requires g c = stale_distinct c.args.head (option_copied c.args.old) (content (option_copied c.args.top)) _ (c.in_ok-fresh.ensures.stale c.requires.stale) c.requires.sorted c.requires.old_sorted
-
-pub returns-clause-fresh : goal.returns-clause-fresh
-returns-clause-fresh g c es before under = c.of.ensures ∙ c.in_ok-fresh.ensures.fresh es before under
 
 pub returns-clause-stale : goal.returns-clause-stale
 returns-clause-stale g c = subst (λ ns. IsPermutation ns c.sorted_names.result) (c.in_ok-fresh.ensures.stale c.requires.stale) c.sorted_names.ensures

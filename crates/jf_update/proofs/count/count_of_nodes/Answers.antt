@@ -1,4 +1,4 @@
-use Rattle.std.proofs.Common.{◌≡◌, IfOk, ℕ, length, subst, sym}
+use Rattle.std.proofs.Common.{◌≡◌, IfOk, length, subst, sym}
 use Rattle.jf_update.proofs.CountLaws.{count-empty}
 use Rattle.jf_update.proofs.RestoreLaws.{nodes-sorted, whole_part}
 use Rattle.jf_update.proofs.count.count_of_nodes.Goals as goal

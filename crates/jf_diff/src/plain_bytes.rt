@@ -1,0 +1,80 @@
+// The bytes of a node by itself, and how many they are, without a copy of its value or a list of its children where none
+// is needed.
+ghost use Rattle.std.specs.Prelude.{◌≡◌, ◌≤◌, ◌++◌, [], length, OnOk};
+ghost use Rattle.jf_codec.specs.Spelling.{IsNode, node_bytes};
+ghost use Rattle.jf_codec.specs.Counted.{in_format};
+ghost use Rattle.jf_diff.specs.Plains.{children_list, plain_at, plain_under};
+
+use crate::plain_node::{branches_of, plain_if};
+use jf_codec::{Format, put_node};
+use jf_node::{Link, Seen};
+use jf_path::{Bytes, Memory, Nibble};
+use std::alloc::Global;
+
+/// The number of children of an inner node.
+fn count_of_children(link: &Link) -> u64
+    requires { 2 ≤ length link.now.entries }
+    ensures value { result ≡ length (children_list link.now) }
+    ensures few { result ≤ 16 }
+{
+    let children = branches_of(link);
+    children.know();
+    let mut count = 0;
+    for n in 0..16 {
+        if let Some(child) = children.get(Nibble::of(n)) {
+            child.know();
+            count += 1;
+        }
+    }
+    count
+}
+
+/// The number of bytes of an inner node by itself.
+fn inner_len(format: Format, link: &Link) -> u64
+    requires inner { 2 ≤ length link.now.entries }
+    requires node { IsNode format (in_format format (plain_at link.now [])) }
+    ensures { result ≡ length (node_bytes format (plain_at link.now [])) }
+{
+    let count = count_of_children(link);
+    match format {
+        Format::One => 5 + count * 40,
+        Format::Two => 5 + count * 48,
+    }
+}
+
+/// The number of bytes of a node by itself.
+fn link_len(format: Format, link: &Link) -> u64
+    requires { IsNode format (in_format format (plain_at link.now [])) }
+    ensures { result ≡ length (node_bytes format (plain_at link.now [])) }
+{
+    match link.view() {
+        Seen::Leaf { value, .. } => 37 + value.len() as u64,
+        Seen::Inner { .. } => inner_len(format, link),
+    }
+}
+
+/// The number of bytes of the node of an optional link by itself.
+pub(crate) fn plain_len(format: Format, link: &Option<Link>) -> u64
+    requires { IsNode format (in_format format (plain_under link.now [])) }
+    ensures { result ≡ length (node_bytes format (plain_under link.now [])) }
+{
+    match link {
+        None => 1,
+        Some(link) => link_len(format, link),
+    }
+}
+
+/// Adds the bytes of the node of an optional link by itself. If memory runs out, some of them may follow what was in `out`.
+pub(crate) fn put_plain(
+    alloc: Global,
+    out: &mut Bytes,
+    format: Format,
+    link: &Option<Link>,
+) -> Result<(), Memory>
+    requires { IsNode format (in_format format (plain_under link.now [])) }
+    ensures { OnOk result (out.new ≡ out.old ++ node_bytes format (plain_under link.now [])) }
+{
+    let node = plain_if(alloc, link)?;
+    put_node(out, format, &node)?;
+    Ok(())
+}
