@@ -1,29 +1,33 @@
 // The index tells which nodes may be deleted when the floor rises: those marked stale since a version up to it.
-ghost use Rattle.std.specs.Prelude.{◌≡◌, ◌≤◌, ◌<◌, ◌↔◌, [], ◌∷◌, length, All, Contains, IsTrue, IsNone, IfSome, IfNone, OnOk, OnErr};
+ghost use Rattle.std.specs.Prelude.{◌≡◌, ◌+◌, ◌≤◌, ◌<◌, ◌↔◌, [], ◌∷◌, length, All, Contains, IsTrue, IsNone, IfSome, IfNone, IfOk, OnOk, OnErr};
 ghost use Rattle.std.specs.declared.cmp.Ordering.TheVariants.{Less};
 ghost use Rattle.jf_stale.specs.Marks.{AreAscendingMarks, mark_cmp, with_mark, without_mark};
 
+use crate::groups::{drop_empty, drop_if_empty, group_of, place_of};
+use crate::names::NamesSince;
 use jf_path::{Memory, NodeName};
 use std::alloc::Global;
-use std::collections::BTreeSet;
+use std::collections::VecDeque;
 use std::marker::Model;
 
 /// The marks of stale nodes. A mark is a version and the name of the node that is stale since then. Marks are in
 /// ascending order, by version and then by name, each once.
 #[derive(Drop)]
 pub struct StaleIndex {
-    marks: BTreeSet<(u64, NodeName)>,
+    groups: VecDeque<NamesSince>,
+    count: u64,
 }
 
 impl Model for StaleIndex {
     ghost use Rattle.std.specs.Prelude.{List};
-    ghost use Rattle.jf_stale.specs.Marks.{Mark, AreAscendingMarks};
+    ghost use Rattle.jf_stale.specs.Marks.{Mark};
+    ghost use Rattle.jf_stale.specs.Groups.{marks_in, HoldMarks};
 
     ghost Value = { List Mark };
 
-    ghost view = { λ s. s.marks.keys };
+    ghost view = { λ s. marks_in s.groups.items };
 
-    ghost invariant = { λ s. AreAscendingMarks s.marks.keys };
+    ghost invariant = { λ s. HoldMarks s.groups.items s.count };
 }
 
 impl StaleIndex {
@@ -32,7 +36,8 @@ impl StaleIndex {
         ensures { result ≡ [] }
     {
         StaleIndex {
-            marks: BTreeSet::new(alloc),
+            groups: VecDeque::new(alloc),
+            count: 0,
         }
     }
 
@@ -41,7 +46,18 @@ impl StaleIndex {
         ensures count { result ≡ length self.now }
         ensures ascending { AreAscendingMarks self.now }
     {
-        self.marks.len() as u64
+        self.count
+    }
+
+    /// Makes room for exactly so many more names of a version. The marks stay as they are, also if memory runs out.
+    pub fn make_room(&mut self, since: u64, more: usize) -> Result<(), Memory>
+        ensures { self.new ≡ self.old }
+    {
+        if more == 0 {
+            return Ok(());
+        }
+        let at = group_of(&mut self.groups, since)?;
+        self.groups[at].make_room(more)
     }
 
     /// Marks a node as stale since a version. A mark that is there already is kept once. If memory runs out, the index
@@ -50,7 +66,11 @@ impl StaleIndex {
         ensures ok { OnOk result (self.new ≡ with_mark (since, name) self.old) }
         ensures err { OnErr result (self.new ≡ self.old) }
     {
-        self.marks.insert((since, name))?;
+        let count = one_more(self.count)?;
+        let at = group_of(&mut self.groups, since)?;
+        if self.groups[at].add(name)? {
+            self.count = count;
+        }
         Ok(())
     }
 
@@ -59,7 +79,16 @@ impl StaleIndex {
         ensures found { IsTrue result ↔ Contains self.old (since, name.now) }
         ensures others { self.new ≡ without_mark (since, name.now) self.old }
     {
-        self.marks.remove(&(since, *name))
+        let at = match place_of(&self.groups, since) {
+            Ok(at) => at,
+            Err(_) => return false,
+        };
+        if !self.groups[at].remove(name) {
+            return false;
+        }
+        self.count -= 1;
+        drop_if_empty(&mut self.groups, at);
+        true
     }
 
     /// Removes and returns the least mark, if its version is at most `floor`. `None` if no mark has such a version.
@@ -70,10 +99,21 @@ impl StaleIndex {
         ensures none { IsNone result ↔ All (λ m. floor < m.0) self.old }
         ensures kept { IfNone result (self.new ≡ self.old) }
     {
-        let (since, _) = self.marks.first()?;
-        if *since > floor {
+        drop_empty(&mut self.groups);
+        let since = self.groups.front()?.since();
+        if since > floor {
             return None;
         }
-        self.marks.pop_first()
+        let name = self.groups[0].take_first();
+        self.count -= 1;
+        drop_empty(&mut self.groups);
+        Some((since, name))
     }
+}
+
+// One more than a number of marks. No memory holds so many that the sum doesn't fit.
+fn one_more(count: u64) -> Result<u64, Memory>
+    ensures { IfOk result (λ n. n ≡ count + 1) }
+{
+    count.checked_add(1).ok_or(Memory)
 }

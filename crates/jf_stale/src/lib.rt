@@ -2,6 +2,8 @@
 //! to a floor.
 #![tactic(auto)]
 
+mod groups;
 mod index;
+mod names;
 
 pub use index::StaleIndex;
