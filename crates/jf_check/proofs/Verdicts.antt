@@ -22,15 +22,14 @@ use Rattle.jf_standing.proofs.Lists.{All-each_element}
 use Rattle.jf_standing.specs.Same.{same_commit}
 use Rattle.jf_standing.proofs.Same.{commit-exact}
 use Rattle.jf_node.specs.declared.update.Update.{Update}
-use Rattle.jf_dir.specs.Directories.{IsLandingUpdate}
+use Rattle.jf_dir.specs.Directories.{IsLandingUpdate, landing_written}
 use Rattle.jf_check.specs.Changes.{changes_of}
-use Rattle.jf_check.specs.Kept.{landing_read}
 use Rattle.jf_check.specs.Next.{read_map, MayBeNext, IsAsLanded, IsNameAtHead}
 use Rattle.jf_check.proofs.Read.{apply-changes_of, stale-at_head}
 
 -- an update that a landing makes writes what the landing writes
-landing_read-is : (s : Standing) (m : Map) (u : Update) → IsLandingUpdate s m u → landing_read u ≡ landing_of format.Two s m
-landing_read-is s m u is = λ i. record { version = is.version i; root = is.root i; fresh = is.fresh i; stale = is.stale i }
+landing_written-is : (s : Standing) (m : Map) (u : Update) → IsLandingUpdate s m u → landing_written u ≡ landing_of format.Two s m
+landing_written-is s m u is = λ i. record { version = is.version i; root = is.root i; fresh = is.fresh i; stale = is.stale i }
 
 module _ (fmt : Format) (s : Standing) (sound : IsSound format.Two s) (keys : AreEntries (leaf_entries s.nodes)) where
   kept_sound : IsSound fmt (standing_in fmt s)
@@ -55,10 +54,10 @@ module _ (fmt : Format) (s : Standing) (sound : IsSound format.Two s) (keys : Ar
       )
 
   -- a landing that equals what the format keeps of an update is taken
-  pub same-taken : (u : Update) (c : Commit) → IsLandingUpdate s u.snapshot.map u → IsMap u.snapshot.map → len u.snapshot.map ≤ 2 ^ 63 → same_commit c (commit_in fmt (landing_read u)) ≡ true
+  pub same-taken : (u : Update) (c : Commit) → IsLandingUpdate s u.snapshot.map u → IsMap u.snapshot.map → len u.snapshot.map ≤ 2 ^ 63 → same_commit c (commit_in fmt (landing_written u)) ≡ true
       → Continues (standing_in fmt s) c × IsSound fmt (with_commit c (standing_in fmt s)) × (standing_in fmt (landed_on format.Two u.snapshot.map s) ≡ with_commit c (standing_in fmt s))
   same-taken u c made own room same =
-      taken u.snapshot.map c own room made.last ((commit-exact c (commit_in fmt (landing_read u))).0 same ∙ ap (commit_in fmt) (landing_read-is s u.snapshot.map u made))
+      taken u.snapshot.map c own room made.last ((commit-exact c (commit_in fmt (landing_written u))).0 same ∙ ap (commit_in fmt) (landing_written-is s u.snapshot.map u made))
 
   module _ (c : Commit) (own : AreEntries (fresh_leaves c)) (order : IsInOrder c) (goes : Continues (standing_in fmt s) c) (after : IsSound fmt (with_commit c (standing_in fmt s))) where
     same_read : read_map s c ≡ apply (head_map (standing_in fmt s)) (batch_of (standing_in fmt s) c)
@@ -84,5 +83,5 @@ module _ (fmt : Format) (s : Standing) (sound : IsSound format.Two s) (keys : Ar
         is.2 ∙ ap (landing_of fmt (standing_in fmt s)) (sym same_read) ∙ landing_kept fmt s (read_map s c)
 
     -- a sound landing equals what the format keeps of the update that is built anew
-    pub sound-same : (u : Update) → IsLandingUpdate s (read_map s c) u → same_commit c (commit_in fmt (landing_read u)) ≡ true
-    sound-same u made = (commit-exact c (commit_in fmt (landing_read u))).1 (sound-IsAsLanded ∙ ap (commit_in fmt) (sym (landing_read-is s (read_map s c) u made)))
+    pub sound-same : (u : Update) → IsLandingUpdate s (read_map s c) u → same_commit c (commit_in fmt (landing_written u)) ≡ true
+    sound-same u made = (commit-exact c (commit_in fmt (landing_written u))).1 (sound-IsAsLanded ∙ ap (commit_in fmt) (sym (landing_written-is s (read_map s c) u made)))

@@ -1,12 +1,10 @@
--- What a format keeps of an update, as a landing.
+-- What a format keeps of nodes.
 use Rattle.jf_path.specs.declared.children.Child.{Child}
 use Rattle.jf_path.specs.declared.name.NodeName.{NodeName}
 use Rattle.jf_path.specs.declared.node.PlainNode.{PlainNode}
 use Rattle.jf_codec.specs.Counted.{in_format, uncounted_child}
 use Rattle.jf_codec.specs.declared.format.Format.{Format}
 use Rattle.jf_codec.specs.declared.format.Format.TheVariants as format
-use Rattle.jf_payload.specs.declared.records.Commit.{Commit}
-use Rattle.jf_node.specs.declared.update.Update.{Update}
 
 -- what a format keeps of a child
 abbrev pub child_in_format : Format → Child → Child
@@ -16,7 +14,3 @@ child_in_format format.Two c = c
 -- what a format keeps of a named node
 abbrev pub written_in_format : Format → NodeName × PlainNode → NodeName × PlainNode
 written_in_format fmt x = (x.0, in_format fmt x.1)
-
--- an update as a landing
-abbrev pub landing_read : Update → Commit
-landing_read u = record { version = u.snapshot.version; root = u.root; fresh = u.fresh; stale = u.stale }

@@ -17,9 +17,8 @@ use crate::changes::changes_in;
 use crate::fault::CheckFault;
 use crate::same::is_same;
 use jf_codec::Format;
-use jf_dir::Directory;
+use jf_dir::{Directory, NextVersion};
 use jf_join::FreeGate;
-use jf_node::Update;
 use jf_payload::Commit;
 use jf_update::value_hashes;
 use std::alloc::Global;
@@ -33,13 +32,13 @@ const MOST_ENTRIES: u64 = 1 << 63;
 
 /// What the landing of the changes that are read off a commit would write. `Unsound` if no such landing may be the next
 /// one.
-fn update_of<H: Threads + Sync>(
+fn next_of<H: Threads + Sync>(
     rt: &H,
     alloc: Global,
     directory: &Directory,
     commit: &Commit,
     workers: u64,
-) -> Result<Update, CheckFault>
+) -> Result<NextVersion, CheckFault>
     requires positive { 1 ≤ workers }
     requires bounded { workers ≤ 64 }
     requires entries { AreEntries (fresh_leaves commit.now) }
@@ -56,11 +55,11 @@ fn update_of<H: Threads + Sync>(
     head.know();
     let entries = changes_in(alloc, head, commit)?;
     let hashes = value_hashes(rt, alloc, &entries, workers)?;
-    let update = directory.next(rt, alloc, &entries, &hashes, workers, &FreeGate)?;
-    if update.snapshot.count() > MOST_ENTRIES {
+    let next = directory.next(rt, alloc, &entries, &hashes, workers, &FreeGate)?;
+    if next.snapshot().count() > MOST_ENTRIES {
         return Err(CheckFault::Unsound);
     }
-    Ok(update)
+    Ok(next)
 }
 
 /// Takes a commit that was read in a file of this format, if it continues from the head and leaves a sound standing:
@@ -82,11 +81,13 @@ pub fn check<H: Threads + Sync>(
     ensures same { OnErr result (directory.new ≡ directory.old) }
 {
     directory.know();
-    let update = update_of(rt, alloc, directory, commit, workers)?;
-    update.snapshot.know();
-    if !is_same(commit, &update, format) {
+    let next = next_of(rt, alloc, directory, commit, workers)?;
+    next.snapshot().know();
+    let same = is_same(alloc, commit, &next, format)?;
+    if !same {
         return Err(CheckFault::Unsound);
     }
-    directory.apply(&update)?;
+    let (landing, snapshot) = next.into_parts();
+    directory.apply_landing(&landing, snapshot)?;
     Ok(())
 }

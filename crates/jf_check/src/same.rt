@@ -1,15 +1,18 @@
 // Whether a landing that was read writes what a landing that was built anew writes.
-ghost use Rattle.std.specs.Prelude.{◌≡◌, map};
+ghost use Rattle.std.specs.Prelude.{◌≡◌, ◌<◌, length, map, slice_index_or, IfOk};
 ghost use Rattle.std.specs.Cmp.Lexicographic.{pointwise};
 ghost use Rattle.jf_codec.specs.Counted.{in_format};
 ghost use Rattle.jf_payload.specs.Counted.{commit_in};
 ghost use Rattle.jf_standing.specs.Same.{same_child, same_node, same_written, same_commit};
-ghost use Rattle.jf_check.specs.Kept.{child_in_format, written_in_format, landing_read};
+ghost use Rattle.jf_dir.specs.Directories.{landing_written};
+ghost use Rattle.jf_check.specs.Kept.{child_in_format, written_in_format};
 
 use jf_codec::Format;
-use jf_node::Update;
-use jf_path::{Child, NodeName, PlainNode};
+use jf_diff::NamedNodes;
+use jf_dir::NextVersion;
+use jf_path::{Child, Memory, NodeName, PlainNode};
 use jf_payload::Commit;
+use std::alloc::Global;
 
 /// Whether a child is what the format keeps of another.
 fn is_same_child(read: &Child, made: &Child, format: Format) -> bool
@@ -64,32 +67,56 @@ pub(crate) fn is_same_node(read: &PlainNode, made: &PlainNode, format: Format) -
     }
 }
 
-/// Whether named nodes are what the format keeps of others.
-fn are_same_nodes(
-    read: &[(NodeName, PlainNode)],
-    made: &[(NodeName, PlainNode)],
+/// Whether a node that was read with its name is what the format keeps of the one at a place.
+fn is_same_at(
+    alloc: Global,
+    read: &(NodeName, PlainNode),
+    made: &NamedNodes,
+    place: usize,
     format: Format,
-) -> bool
-    ensures { result ≡ pointwise same_written read.now (map (written_in_format format) made.now) }
+) -> Result<bool, Memory>
+    requires { place < length made.now }
+    ensures { IfOk result (λ b. b ≡ same_written read.now (written_in_format format (slice_index_or made.now place read.now))) }
 {
-    if read.len() != made.len() {
-        return false;
-    }
-    for (i, node) in read.iter().enumerate() {
-        let other = &made[i];
-        if node.0 != other.0 || !is_same_node(&node.1, &other.1, format) {
-            return false;
-        }
-    }
-    true
+    let (name, node) = made.get(alloc, place)?;
+    Ok(read.0 == name && is_same_node(&read.1, &node, format))
 }
 
-/// Whether a landing writes what the format keeps of an update.
-pub(crate) fn is_same(commit: &Commit, update: &Update, format: Format) -> bool
-    ensures { result ≡ same_commit commit.now (commit_in format (landing_read update.now)) }
+/// Whether named nodes are what the format keeps of others. Of these one at a time is made by itself.
+fn are_same_nodes(
+    alloc: Global,
+    read: &[(NodeName, PlainNode)],
+    made: &NamedNodes,
+    format: Format,
+) -> Result<bool, Memory>
+    ensures { IfOk result (λ b. b ≡ pointwise same_written read.now (map (written_in_format format) made.now)) }
 {
-    commit.version == update.snapshot.version()
-        && commit.root == update.root
-        && are_same_nodes(commit.fresh.as_slice(), update.fresh.as_slice(), format)
-        && commit.stale.as_slice() == update.stale.as_slice()
+    if read.len() as u64 != made.len() {
+        return Ok(false);
+    }
+    for (i, node) in read.iter().enumerate() {
+        if !is_same_at(alloc, node, made, i, format)? {
+            return Ok(false);
+        }
+    }
+    Ok(true)
+}
+
+/// Whether a commit that was read writes what the format keeps of what the landing of a next version writes.
+pub(crate) fn is_same(
+    alloc: Global,
+    commit: &Commit,
+    next: &NextVersion,
+    format: Format,
+) -> Result<bool, Memory>
+    ensures { IfOk result (λ b. b ≡ same_commit commit.now (commit_in format (landing_written next.now))) }
+{
+    let landing = next.landing();
+    let fresh = are_same_nodes(alloc, commit.fresh.as_slice(), &landing.fresh, format)?;
+    Ok(
+        commit.version == landing.version
+            && commit.root == landing.root
+            && fresh
+            && commit.stale.as_slice() == landing.stale.as_slice(),
+    )
 }

@@ -1,7 +1,7 @@
 -- One mark more, one fewer, and the least one taken.
 use Rattle.std.specs.Prelude.{slice_index_or, OnErr, Result, Ok, Err}
-use Rattle.std.proofs.Common.{◌≡◌, ℕ, zero, suc, ◌+◌, ◌-◌, ◌<◌, ◌≤◌, List, [], ◌∷◌, ◌++◌, take, length, Contains, refl, sym, ap, ◌∙◌, subst, arith, true, false, not, inl, inr, ◌⊎◌, Less, Equal, Greater, true≢false}
-use Rattle.std.proofs.lemmas.List.{take_more}
+use Rattle.std.proofs.Common.{◌≡◌, ℕ, zero, suc, ◌+◌, ◌-◌, ◌<◌, ◌≤◌, List, [], ◌∷◌, ◌++◌, take, drop, drop-cons, get_or, reverse, length, Contains, refl, sym, ap, ◌∙◌, subst, arith, true, false, not, inl, inr, ◌⊎◌, Less, Equal, Greater, true≢false}
+use Rattle.std.proofs.lemmas.List.{take_more, get_or-reverse, length-reverse}
 use Rattle.std.proofs.lemmas.List.Elements.{Contains-append_cases, All-contains}
 use Rattle.std.specs.List.{All}
 use Rattle.std.specs.BTreeSet.{insert_key}
@@ -108,25 +108,24 @@ without-rest m k ms has other = Contains-filter (λ x. not (eq_by_cmp mark_cmp m
   | false ↦ λ free. refl
 ] refl)
 
-pub removed-none : (since : ℕ) (ms : List Mark) → AreRemoved since [] ms ms
-removed-none since ms = record { stood = λ k has. has; none = λ k has is. none_in_nothing k.1 is.1; rest = λ k has other. has }
-
-removed_more : (since : ℕ) (names : List NodeName) (name : NodeName) (old ms : List Mark) → AreRemoved since names old ms → AreRemoved since (names ++ name ∷ []) old (without_mark (since, name) ms)
-removed_more since names name old ms h = record {
+removed_more : (since : ℕ) (name : NodeName) (names : List NodeName) (old ms : List Mark) → AreRemoved since names old ms → AreRemoved since (name ∷ names) old (without_mark (since, name) ms)
+removed_more since name names old ms h = record {
   stood = λ k has. h.stood k (without-stood (since, name) k ms has);
-  none = λ k has is. elim (front_name name k.1 names is.1) [
-    | inl early ↦ h.none k (without-stood (since, name) k ms has) (is.0, early)
-    | inr same ↦ without-other (since, name) k ms has (λ i. (sym is.0 i, same i))
-  ];
-  rest = λ k has other. without-rest (since, name) k ms (h.rest k has (λ is. other (is.0, back_name name k.1 names is.1)))
-      (λ same. other (sym (ap (λ (z : Mark). z.0) same), subst (Contains (names ++ name ∷ [])) (ap (λ (z : Mark). z.1) same) (last_name name names)));
+  none = λ k has is. Contains-cases k.1 name names is.1 (λ same. without-other (since, name) k ms has (λ i. (sym is.0 i, same i))) (λ later. h.none k (without-stood (since, name) k ms has) (is.0, later));
+  rest = λ k has other. without-rest (since, name) k ms (h.rest k has (λ is. other (is.0, Contains-later k.1 name names is.1)))
+      (λ same. other (sym (ap (λ (z : Mark). z.0) same), subst (Contains (name ∷ names)) (ap (λ (z : Mark). z.1) same) (Contains-first name names)));
 }
 
--- the mark of the next name of a list is removed
-pub removed-next : (since : ℕ) (names : List NodeName) (i : ℕ) (name : NodeName) (old ms new : List Mark) → i < length names → name ≡ slice_index_or names i name → new ≡ without_mark (since, name) ms → AreRemoved since (take i names) old ms → AreRemoved since (take (i + 1) names) old new
-removed-next since names i name old ms new lt is made h =
-    subst (λ xs. AreRemoved since xs old new) (ap (λ n. take i names ++ n ∷ []) is ∙ sym (take_more names i name lt))
-    (subst (AreRemoved since (take i names ++ name ∷ []) old) (sym made) (removed_more since (take i names) name old ms h))
+-- the mark of the name before the last ones of a list is removed, after the marks of these
+pub removed-next : (since : ℕ) (names : List NodeName) (n : ℕ) (name : NodeName) (old ms new : List Mark) → n < length (reverse names) → name ≡ get_or (reverse names) n name → new ≡ without_mark (since, name) ms → AreRemoved since (drop (length names - n) names) old ms → AreRemoved since (drop (length names - (n + 1)) names) old new
+removed-next since names n name old ms new some is made h =
+    let lt : n < length names = omega (arith, some, length-reverse names) in
+    let place : (length names - 1) - n ≡ length names - (n + 1) = omega arith in
+    let after : suc (length names - (n + 1)) ≡ length names - n = omega arith in
+    let here : name ≡ get_or names (length names - (n + 1)) name = is ∙ get_or-reverse names n name lt ∙ ap (λ k. get_or names k name) place in
+    let cut : drop (length names - (n + 1)) names ≡ name ∷ drop (length names - n) names =
+    drop-cons names (length names - (n + 1)) name (omega arith) ∙ ap (λ x. x ∷ drop (suc (length names - (n + 1))) names) (sym here) ∙ ap (λ k. name ∷ drop k names) after in
+    subst (λ xs. AreRemoved since xs old new) (sym cut) (subst (AreRemoved since (name ∷ drop (length names - n) names) old) (sym made) (removed_more since name (drop (length names - n) names) old ms h))
 
 -- the least mark is taken
 pub taken-stood : (m : Mark) (old ms new : List Mark) → ms ≡ m ∷ new → ((k : Mark) → Contains ms k → Contains old k) → (k : Mark) → Contains new k → Contains old k

@@ -6,18 +6,20 @@ use Rattle.std.specs.List.Sorted.{IsPermutation}
 use Rattle.jf_path.specs.declared.name.NodeName.{NodeName}
 use Rattle.jf_path.specs.declared.node.PlainNode.{PlainNode}
 use Rattle.jf_path.specs.Names.{are_rising}
-use Rattle.jf_hash.specs.Maps.{Map, Batch, apply}
+use Rattle.jf_hash.specs.Maps.{Map, IsMap, Batch, apply}
 use Rattle.jf_hash.specs.Slots.{Part}
 use Rattle.jf_hash.specs.Roots.{root}
 use Rattle.jf_model.specs.Nodes.{Path, is_node, is_fresh, fresh, stale, plain_node}
 use Rattle.jf_codec.specs.declared.format.Format.TheVariants as format
 use Rattle.jf_node.specs.SnapshotValue.{SnapshotValue}
 use Rattle.jf_node.specs.Snapshots.{snapshot_version_at}
+use Rattle.jf_node.specs.declared.update.Update.{Update}
 use Rattle.jf_diff.specs.Landings.{IsNextSnapshot, version_in, version_or, written_nodes, stale_names_in}
 use Rattle.jf_standing.specs.Named.{never, version_at}
 use Rattle.jf_standing.specs.Standing.{Standing}
 use Rattle.jf_standing.specs.Landing.{head_map, landing_of, version_after}
 use Rattle.jf_standing.proofs.Freshness.{stale-node}
+use Rattle.jf_standing.proofs.Rising.{landing-read}
 use Rattle.jf_standing.proofs.Updates.{fresh-update, stale-update}
 use Rattle.jf_dir.specs.Directories.{IsSnapshotAt, IsLandingUpdate}
 
@@ -76,3 +78,7 @@ module _ (s : Standing) (old new : SnapshotValue) (b : Batch) (at : IsSnapshotAt
   pub next-own : (r : List ℕ) (fs : List (NodeName × PlainNode)) (names : List NodeName) → r ≡ root new.map → fs ≡ written_nodes old.map new.map new → IsPermutation (stale_names_in old.map new.map old) names → IsTrue (are_rising names)
       → IsLandingUpdate s new.map (record { root = r; fresh = fs; stale = names; snapshot = new })
   next-own r fs names rooted written moved rises = subst (λ m. IsLandingUpdate s m (record { root = r; fresh = fs; stale = names; snapshot = new })) (sym new_map) (next-landing r fs names rooted written moved rises)
+
+-- the names of the nodes that a landing writes rise
+pub own-rises : (s : Standing) (u : Update) → IsMap u.snapshot.map → IsLandingUpdate s u.snapshot.map u → IsTrue (are_rising (map (λ x. x.0) u.fresh))
+own-rises s u own made = subst (λ (fs : List (NodeName × PlainNode)). IsTrue (are_rising (map (λ x. x.0) fs))) (sym made.fresh) (landing-read format.Two s u.snapshot.map own).0.fresh

@@ -5,6 +5,7 @@ use Rattle.jf_hash.specs.Maps.{Map}
 use Rattle.jf_hash.specs.Roots.{root}
 use Rattle.jf_model.specs.Nodes.{Path, is_node}
 use Rattle.jf_codec.specs.declared.format.Format.TheVariants as format
+use Rattle.jf_payload.specs.declared.records.Commit.{Commit}
 use Rattle.jf_node.specs.SnapshotValue.{SnapshotValue}
 use Rattle.jf_node.specs.declared.update.Update.{Update}
 use Rattle.jf_diff.specs.Landings.{version_in}
@@ -23,6 +24,10 @@ pub record IsLandingUpdate (s : Standing) (m : Map) (u : Update) : Type 0 where
   pub fresh : u.fresh ≡ (landing_of format.Two s m).fresh
   pub stale : u.stale ≡ (landing_of format.Two s m).stale
   pub versions : (p : Path) → is_node 0 p (entries m) ≡ true → version_in u.snapshot p ≡ version_after s m p
+
+-- what the landing of an update writes, as a commit
+abbrev pub landing_written : Update → Commit
+landing_written u = record { version = u.snapshot.version; root = u.root; fresh = u.fresh; stale = u.stale }
 
 -- x is the snapshot of s at the version w: the map there, and the version of each of its nodes
 pub record IsSnapshotAt (s : Standing) (w : ℕ) (x : SnapshotValue) : Type 0 where

@@ -24,12 +24,13 @@ use crate::counting::{node_count, sum_within};
 use crate::front::drop_front;
 use crate::listing::nodes_in_order;
 use crate::marking::{mark_each, take_marks, unmark_each};
+use crate::next_version::NextVersion;
 use crate::roots::{know_hashes, roots_with};
+use crate::shared_commit::SharedCommit;
 use jf_hash::Hash;
 use jf_join::Gate;
 use jf_node::{Snapshot, Update};
 use jf_path::{Key, LiveList, Memory, NodeName, SharedBytes};
-use jf_payload::Commit;
 use jf_split::Batch;
 use jf_stale::StaleIndex;
 use jf_update::{Written, advance, value_hashes, written};
@@ -195,7 +196,7 @@ impl Directory {
         hashes: &[Hash],
         workers: u64,
         gate: &G,
-    ) -> Result<Update, Memory>
+    ) -> Result<NextVersion, Memory>
         requires last { self.now.head + 1 < never }
         requires positive { 1 ≤ workers }
         requires bounded { workers ≤ 64 }
@@ -211,15 +212,37 @@ impl Directory {
         let Written { fresh, stale } = written(rt, alloc, head, &snapshot, workers, gate)?;
         // Ensures that the names rise.
         let _ = stale.as_slice();
-        Ok(Update {
+        let landing = SharedCommit {
+            version: snapshot.version(),
             root: snapshot.root(),
             fresh,
             stale,
-            snapshot,
-        })
+        };
+        Ok(NextVersion::of(landing, snapshot))
     }
 
     /// What the landing of a batch on the head would write.
+    pub fn next_of<H: Threads + Sync, G: Gate>(
+        &self,
+        rt: &H,
+        alloc: Global,
+        batch: &Batch,
+        workers: u64,
+        gate: &G,
+    ) -> Result<NextVersion, Memory>
+        requires last { self.now.head + 1 < never }
+        requires positive { 1 ≤ workers }
+        requires bounded { workers ≤ 64 }
+        ensures landing { IfOk result (IsLandingUpdate self.now (apply (head_map self.now) batch.now)) }
+        ensures own { IfOk result (λ u. IsLandingUpdate self.now u.snapshot.map u) }
+        ensures bound { IfOk result (λ u. length u.fresh ≤ 66 * length batch.now + 1) }
+    {
+        let entries = batch.as_slice();
+        let hashes = value_hashes(rt, alloc, entries, workers)?;
+        self.next(rt, alloc, entries, &hashes, workers, gate)
+    }
+
+    /// As `next_of`, with copies of the nodes, each by itself.
     pub fn update<H: Threads + Sync, G: Gate>(
         &self,
         rt: &H,
@@ -235,9 +258,22 @@ impl Directory {
         ensures own { IfOk result (λ u. IsLandingUpdate self.now u.snapshot.map u) }
         ensures bound { IfOk result (λ u. length u.fresh ≤ 66 * length batch.now + 1) }
     {
-        let entries = batch.as_slice();
-        let hashes = value_hashes(rt, alloc, entries, workers)?;
-        self.next(rt, alloc, entries, &hashes, workers, gate)
+        let next = self.next_of(rt, alloc, batch, workers, gate)?;
+        let (landing, snapshot) = next.into_parts();
+        snapshot.know();
+        let SharedCommit {
+            root,
+            fresh,
+            stale,
+            ..
+        } = landing;
+        let fresh = fresh.copied(alloc)?;
+        Ok(Update {
+            root,
+            fresh,
+            stale,
+            snapshot,
+        })
     }
 
     /// Makes a landing on the head, given as an update. If memory runs out, the directory is unchanged.
@@ -256,11 +292,15 @@ impl Directory {
         )
     }
 
-    /// Makes a landing on the head: `commit` is what it writes, and `snapshot` that of its map. If memory runs out, the
+    /// Makes a landing on the head: `landing` is what it writes, and `snapshot` that of its map. If memory runs out, the
     /// directory is unchanged, and the snapshot is dropped.
-    pub fn apply_commit(&mut self, commit: &Commit, snapshot: Snapshot) -> Result<(), Memory>
+    pub fn apply_landing(
+        &mut self,
+        landing: &SharedCommit,
+        snapshot: Snapshot,
+    ) -> Result<(), Memory>
         requires last { self.old.head + 1 < never }
-        requires landing { commit.now ≡ landing_of format.Two self.old snapshot.map }
+        requires landing { landing.now ≡ landing_of format.Two self.old snapshot.map }
         requires version { snapshot.version ≡ self.old.head + 1 }
         requires versions { (p : Path) → is_node 0 p (entries snapshot.map) ≡ true → version_in snapshot p ≡ version_after self.old snapshot.map p }
         requires room { len snapshot.map ≤ 2 ^ 63 }
@@ -268,9 +308,9 @@ impl Directory {
         ensures err { OnErr result (self.new ≡ self.old) }
     {
         self.push_landing(
-            commit.root,
-            commit.fresh.len(),
-            commit.stale.as_slice(),
+            landing.root,
+            landing.fresh.len(),
+            landing.stale.as_slice(),
             snapshot,
         )
     }
@@ -317,11 +357,11 @@ impl Directory {
     }
 
     /// Takes back the landing that made the head, given as what it writes. It takes no memory.
-    pub fn undo_commit(&mut self, commit: &Commit)
-        requires made { (s : Standing) × (m : Map) × IsReadStanding s × IsSound format.Two s × IsMap m × (commit.now ≡ landing_of format.Two s m) × (self.old ≡ landed_on format.Two m s) }
-        ensures { (s : Standing) (m : Map) → IsReadStanding s → IsSound format.Two s → IsMap m → commit.now ≡ landing_of format.Two s m → self.old ≡ landed_on format.Two m s → self.new ≡ s }
+    pub fn undo_landing(&mut self, landing: &SharedCommit)
+        requires made { (s : Standing) × (m : Map) × IsReadStanding s × IsSound format.Two s × IsMap m × (landing.now ≡ landing_of format.Two s m) × (self.old ≡ landed_on format.Two m s) }
+        ensures { (s : Standing) (m : Map) → IsReadStanding s → IsSound format.Two s → IsMap m → landing.now ≡ landing_of format.Two s m → self.old ≡ landed_on format.Two m s → self.new ≡ s }
     {
-        self.pop_landing(commit.fresh.len(), commit.stale.as_slice());
+        self.pop_landing(landing.fresh.len(), landing.stale.as_slice());
     }
 
     // Takes back the landing that made the head, which wrote so many nodes and marked these names stale.

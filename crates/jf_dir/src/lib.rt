@@ -6,8 +6,12 @@ mod directory;
 mod front;
 mod listing;
 mod marking;
+mod next_version;
 mod restoring;
 mod roots;
+mod shared_commit;
 
 pub use directory::Directory;
+pub use next_version::NextVersion;
 pub use restoring::restored_from;
+pub use shared_commit::SharedCommit;

@@ -6,7 +6,8 @@ ghost use Rattle.jf_dir.specs.Holding.{AreAdded, AreSomeAdded, AreRemoved, AreTa
 use jf_path::{Memory, NodeName};
 use jf_stale::StaleIndex;
 
-/// Marks each name as stale since a version. If memory runs out, some of the names may be marked.
+/// Marks each name as stale since a version, in room for just these names. If memory runs out, some of the names may be
+/// marked.
 pub(crate) fn mark_each(
     marks: &mut StaleIndex,
     since: u64,
@@ -15,17 +16,18 @@ pub(crate) fn mark_each(
     ensures ok { OnOk result (AreAdded since names.now marks.old marks.new) }
     ensures err { OnErr result (AreSomeAdded since names.now marks.old marks.new) }
 {
+    marks.make_room(since, names.len())?;
     for name in names {
         marks.mark(since, *name)?;
     }
     Ok(())
 }
 
-/// Removes the mark of each name. A name without a mark is passed over.
+/// Removes the mark of each name, from the last to the first. A name without a mark is passed over.
 pub(crate) fn unmark_each(marks: &mut StaleIndex, since: u64, names: &[NodeName])
     ensures { AreRemoved since names.now marks.old marks.new }
 {
-    for name in names {
+    for name in names.iter().rev() {
         let _ = marks.unmark(since, name);
     }
 }

@@ -1,6 +1,6 @@
 // The roots and the number of nodes of a directory after landings and a later floor, counted by hand.
 use crate::landing::{
-    Change, FAR, LOW, NEAR, PAIR, batch_of, land, land_and_undo, land_and_undo_commit, new_store,
+    Change, FAR, LOW, NEAR, PAIR, batch_of, land, land_and_undo, land_and_undo_landing, new_store,
 };
 use jf_dir::Directory;
 use jf_hash::Hash;
@@ -164,8 +164,8 @@ fn comes_out<H: Threads + Sync>(rt: &H, alloc: Global, history: &History) -> Res
     is_after(alloc, &directory, history)
 }
 
-// The numbers of nodes that are kept after a landing, each before it is taken back: of an update, and of what stands in a
-// file.
+// The numbers of nodes that are kept after a landing, each before it is taken back: of an update, and of what the landing
+// writes.
 fn counts_between<H: Threads + Sync>(
     rt: &H,
     alloc: Global,
@@ -173,7 +173,7 @@ fn counts_between<H: Threads + Sync>(
     batch: &Batch,
 ) -> Result<(u64, u64), Fail> {
     let count = land_and_undo(rt, alloc, directory, batch)?;
-    Ok((count, land_and_undo_commit(rt, alloc, directory, batch)?))
+    Ok((count, land_and_undo_landing(rt, alloc, directory, batch)?))
 }
 
 // Whether a landing can be taken back, and made again with the same number of nodes and the right root.

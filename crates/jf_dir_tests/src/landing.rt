@@ -1,9 +1,7 @@
 // Landings on a directory, from a new store on.
 use jf_dir::Directory;
 use jf_join::FreeGate;
-use jf_node::Update;
 use jf_path::Key;
-use jf_payload::Commit;
 use jf_split::Batch;
 use std::alloc::Global;
 use std::test::Fail;
@@ -86,8 +84,8 @@ pub(crate) fn land_and_undo<H: Threads + Sync>(
     Ok(count)
 }
 
-// The same with the landing as it stands in a file.
-pub(crate) fn land_and_undo_commit<H: Threads + Sync>(
+// The same with what the landing writes, whose nodes are shared and not copied.
+pub(crate) fn land_and_undo_landing<H: Threads + Sync>(
     rt: &H,
     alloc: Global,
     directory: &mut Directory,
@@ -97,24 +95,14 @@ pub(crate) fn land_and_undo_commit<H: Threads + Sync>(
         return Err(Fail::new("too many versions"));
     }
     directory.know();
-    let Update {
-        root,
-        fresh,
-        stale,
-        snapshot,
-    } = directory.update(rt, alloc, batch, 1, &FreeGate)?;
+    let next = directory.next_of(rt, alloc, batch, 1, &FreeGate)?;
+    let (landing, snapshot) = next.into_parts();
     if snapshot.count() > 1_000 {
         return Err(Fail::new("too many entries"));
     }
     snapshot.know();
-    let commit = Commit {
-        version: snapshot.version(),
-        root,
-        fresh,
-        stale,
-    };
-    directory.apply_commit(&commit, snapshot)?;
+    directory.apply_landing(&landing, snapshot)?;
     let count = directory.count();
-    directory.undo_commit(&commit);
+    directory.undo_landing(&landing);
     Ok(count)
 }

@@ -1,5 +1,5 @@
 -- Landings in memory, one after another: what they write, and how they are taken back.
-use Rattle.std.specs.Prelude.{IsTrue, slice_index_or, Result, Ok, Err, OnOk}
+use Rattle.std.specs.Prelude.{IsTrue, slice_index_or}
 use Rattle.std.proofs.Common.{◌≡◌, refl, sym, ◌∙◌, ap, ap₂, subst, ℕ, suc, ◌+◌, ◌-◌, ◌≤◌, ◌<◌, ◌^◌, List, [], ◌∷◌, ◌++◌, length, take, drop, reverse, arith, length-append, length-take-le, eq-eqb}
 use Rattle.std.proofs.lemmas.Bool.{and_from}
 use Rattle.std.proofs.lemmas.List.{reverse-append, drop_more, take_all}
@@ -13,7 +13,6 @@ use Rattle.jf_model.specs.Batches.{key_count}
 use Rattle.jf_codec.specs.declared.format.Format.{Format}
 use Rattle.jf_codec.specs.declared.format.Format.TheVariants as format
 use Rattle.jf_payload.specs.declared.records.Commit.{Commit}
-use Rattle.jf_payload.specs.declared.records.Record.TheVariants as «record»
 use Rattle.jf_payload.specs.Spelling.{IsCommit, IsRecord, follow}
 use Rattle.jf_standing.specs.Named.{never}
 use Rattle.jf_standing.specs.Standing.{Standing}
@@ -91,17 +90,6 @@ landed_more from landed rest cs cs' to to' b so batch read sound sorted written 
 left_less : (from : Standing) (cs : List Commit) (n : ℕ) (d : Commit) (to : Standing) → n < length cs → LandedBy from (reverse (take (suc n) cs)) to → LandedBy from (slice_index_or cs n d ∷ reverse (take n cs)) to
 left_less from cs n d to within by = subst (λ xs. LandedBy from xs to) (ap reverse (take-suc cs n d within) ∙ reverse-append (take n cs) (slice_index_or cs n d ∷ [])) by
 
--- a record of one landing is of one, and a group is of its landings
-pub landed-one : (cs : List Commit) (c : Commit) → «record».NodeCommit c ≡ landed_record cs → cs ≡ c ∷ []
-landed-one [] c e = absurd (cc)
-landed-one (x ∷ []) c e = cc
-landed-one (x ∷ y ∷ cs) c e = absurd (cc)
-
-pub landed-several : (cs ds : List Commit) → «record».Group ds ≡ landed_record cs → cs ≡ ds
-landed-several [] ds e = cc
-landed-several (x ∷ []) ds e = absurd (cc)
-landed-several (x ∷ y ∷ cs) ds e = cc
-
 -- the last of the landings that are left is the next to be taken back
 pub next_left : (from : Standing) (cs : List Commit) (left : ℕ) (x d : Commit) (to : Standing) → 0 < left → left ≤ length cs → x ≡ slice_index_or cs (left - 1) d → LandedBy from (reverse (take left cs)) to → LandedBy from (x ∷ reverse (take (left - 1) cs)) to
 next_left from cs left x d to some within is by =
@@ -141,24 +129,3 @@ module _ (from : Standing) (bs : List Batch) (i : ℕ) (cs : List Commit) (to : 
 -- the landings before a refused one are still the first of the list
 pub first_kept : (from to : Standing) (cs cs' more : List Commit) (n : ℕ) → cs' ≡ cs ++ more → n ≡ length cs → LandedBy from (reverse cs) to → LandedBy from (reverse (take n cs')) to
 first_kept from to cs cs' more n is count by = subst (λ xs. LandedBy from (reverse xs) to) (sym (ap₂ take count is ∙ take-append_seam cs more)) by
-
--- one batch
-pub one_batch : (bs : List Batch) (b d : Batch) → length bs ≡ 1 → b ≡ slice_index_or bs 0 d → bs ≡ b ∷ []
-one_batch [] b d one is = absurd (omega (arith, one))
-one_batch (x ∷ []) b d one is = ap (λ y. y ∷ []) (sym is)
-one_batch (x ∷ y ∷ bs) b d one is = absurd (omega (arith, one))
-
--- the record of any other number of landings than one is a group
-pub group-record : (s : Standing) (bs : List Batch) → (length bs ≡ 1 → ⊥) → «record».Group (landings_of format.Two s bs) ≡ landed_record (landings_of format.Two s bs)
-group-record s [] several = refl
-group-record s (b ∷ []) several = absurd (several refl)
-group-record s (b ∷ x ∷ bs) several = refl
-
--- what follows from two facts if a call succeeds
-pub both_ok : {T E : Type 0} (r : Result T E) (P Q R : Type 0) → OnOk r P → OnOk r Q → (P → Q → R) → OnOk r R
-both_ok (Ok x) P Q R p q f = f p q
-both_ok (Err e) P Q R p q f = tt
-
--- one landing is taken back at once
-pub one_back : (s to : Standing) (b : Batch) → IsReadStanding s → IsSound format.Two s → IsMap (apply (head_map s) b) → to ≡ landed_on format.Two (apply (head_map s) b) s → LandedBy s (reverse (landings_of format.Two s (b ∷ []))) to
-one_back s to b read sound sorted is = (s, apply (head_map s) b, read, sound, sorted, refl, is, refl)

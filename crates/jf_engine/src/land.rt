@@ -12,13 +12,14 @@ ghost use Rattle.jf_files.specs.Steps.{Lands, StopsWell, Succeeds};
 
 use crate::engine::{Engine, LAST, MOST_KEYS};
 use crate::fault::{EngineFault, Which};
+use crate::frame::encode_landings;
 use crate::landed::Landed;
 use crate::landing::{land_batches, take_back};
 use jf_disk::Disk;
 use jf_files::{landings_follow, standings_have_versions, stops_by_records, succeeds_by_records};
 use jf_frame::DiskFault;
 use jf_join::Gate;
-use jf_payload::{encode, kept_is_spelled, written_in_both};
+use jf_payload::{kept_is_spelled, written_in_both};
 use jf_split::{Batch, BatchList};
 use jf_standing::{formats_are_sound, formats_group, groups_land};
 use std::alloc::Global;
@@ -165,9 +166,9 @@ impl<D: Disk> Engine<D> {
         if self.directory.newest().count() > MOST_KEYS {
             return Err(EngineFault::Last(Which::Keys));
         }
-        let record = land_batches(rt, alloc, &mut self.directory, batches, workers, gate)?;
-        let Ok(frame) = encode(alloc, &record, self.format) else {
-            take_back(&mut self.directory, &record);
+        let landings = land_batches(rt, alloc, &mut self.directory, batches, workers, gate)?;
+        let Ok(frame) = encode_landings(alloc, &landings, self.format) else {
+            take_back(&mut self.directory, &landings);
             return Err(EngineFault::Memory);
         };
         match self.pair.append(&mut self.disk, frame.as_slice()) {
@@ -177,7 +178,7 @@ impl<D: Disk> Engine<D> {
                 moment: self.disk.moment(),
             }),
             Err(DiskFault) => {
-                take_back(&mut self.directory, &record);
+                take_back(&mut self.directory, &landings);
                 self.broken = true;
                 Err(EngineFault::DiskFault)
             }

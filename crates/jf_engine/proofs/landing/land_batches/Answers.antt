@@ -1,31 +1,37 @@
--- One batch is a landing; any other number of batches is a group.
-use Rattle.std.proofs.Common.{◌≡◌, subst, sym, ap, ◌∙◌, List}
-use Rattle.std.specs.Prelude.{OnOk, reverse}
+-- The batches before the present one are landed, or taken back.
+use Rattle.std.proofs.Common.{◌≡◌, ◌∙◌, length, subst, sym, rules}
+use Rattle.std.specs.Prelude.{reverse}
 use Rattle.std.specs.List.{AllByRecursion}
-use Rattle.jf_hash.specs.Maps.{Batch}
 use Rattle.jf_codec.specs.declared.format.Format.TheVariants as format
-use Rattle.jf_payload.specs.declared.records.Record.TheVariants as «record»
 use Rattle.jf_payload.specs.Spelling.{IsCommit}
-use Rattle.jf_standing.specs.Building.{landings_of, all_landed}
+use Rattle.jf_standing.specs.Standing.{Standing}
 use Rattle.jf_engine.specs.Landings.{LandedBy}
-use Rattle.jf_engine.proofs.Landings.{one_batch, one_back, both_ok, group-record, record-spelled}
+use Rattle.jf_engine.proofs.Landings.{after_next, at_end, first_kept, record-spelled}
 use Rattle.jf_engine.proofs.landing.land_batches.Goals as goal
 
-pub returns-then-batches-eq1-clause-landed : goal.returns-then-batches-eq1-clause-landed
-returns-then-batches-eq1-clause-landed g c =
-    subst (λ (bs : List Batch). OnOk c.land_one.result (c.land_one.new.directory ≡ all_landed format.Two c.args.directory.now bs)) (sym (one_batch c.args.batches.now c.index-batches-0.result _ c.if-batches-eq1.true c.index-batches-0.is))
-    c.land_one.ensures.landed
-
-pub returns-then-batches-eq1-clause-back : goal.returns-then-batches-eq1-clause-back
-returns-then-batches-eq1-clause-back g c =
+pub take_back-requires : goal.take_back-requires
+take_back-requires g c =
     let dir = c.args.directory.now in
-    let b = c.index-batches-0.result in
-    let old = c.land_one.ensures.old in
-    subst (λ (bs : List Batch). OnOk c.land_one.result (LandedBy dir (reverse (landings_of format.Two dir bs)) c.land_one.new.directory)) (sym (one_batch c.args.batches.now b _ c.if-batches-eq1.true c.index-batches-0.is))
-    (both_ok c.land_one.result _ _ _ c.land_one.ensures.map c.land_one.ensures.landed (λ sorted is. one_back dir c.land_one.new.directory b old.0 old.1 sorted is))
+    let kept = c.in-Err.ensures.kept in
+    let count : c.len-landed.result ≡ length c.loop-batch.landings.items = search rules in
+    let by = subst (λ (t : Standing). LandedBy dir (reverse c.loop-batch.landings.items) t) (sym c.in-Err.ensures.err) c.loop-batch.invariant.back in
+    record { made = (dir, first_kept dir c.land_next.new.directory c.loop-batch.landings.items c.deref.result.now kept.0 c.len-landed.result (c.deref.ensures.value ∙ kept.1) count by) }
 
-pub returns-clause-written : goal.returns-clause-written
-returns-clause-written g c = ap (λ cs. «record».Group cs) c.in_ok-commits.ensures.written ∙ group-record c.args.directory.now c.args.batches.now c.if-batches-eq1.false
+pub returns-in-Err-clause-err : goal.returns-in-Err-clause-err
+returns-in-Err-clause-err g c =
+    let dir = c.args.directory.now in
+    let kept = c.in-Err.ensures.kept in
+    let count : c.len-landed.result ≡ length c.loop-batch.landings.items = search rules in
+    let by = subst (λ (t : Standing). LandedBy dir (reverse c.loop-batch.landings.items) t) (sym c.in-Err.ensures.err) c.loop-batch.invariant.back in
+    c.take_back.ensures dir (first_kept dir c.land_next.new.directory c.loop-batch.landings.items c.deref.result.now kept.0 c.len-landed.result (c.deref.ensures.value ∙ kept.1) count by)
+
+pub loop-batch-preserved : goal.loop-batch-preserved
+loop-batch-preserved g c =
+    let e = c.in_default.ensures in
+    after_next c.args.directory.now c.args.batches.now c.loop-batch.batch-index c.loop-batch.landings.items c.loop-batch.directory c.loop-batch.invariant c.batch-item.result _ c.loop-batch-test.true c.batch-item.is c.land_next.new.landings.items c.land_next.new.directory
+    e.batch e.old.0 e.old.1 e.map e.written e.spelled e.landed e.room
 
 pub returns-clause-spelled : goal.returns-clause-spelled
-returns-clause-spelled g c = record-spelled c.args.directory.now c.args.batches.now (subst (AllByRecursion (IsCommit format.Two)) c.in_ok-commits.ensures.written c.in_ok-commits.ensures.spelled) c.requires.any c.requires.forks
+returns-clause-spelled g c =
+    let so = at_end c.args.directory.now c.args.batches.now c.loop-batch.batch-index c.loop-batch.landings.items c.loop-batch.directory c.loop-batch.invariant c.loop-batch-test.false in
+    record-spelled c.args.directory.now c.args.batches.now (subst (AllByRecursion (IsCommit format.Two)) so.written so.spelled) c.requires.any c.requires.forks

@@ -1,16 +1,21 @@
--- The landing of a record is its only one.
-use Rattle.std.proofs.Common.{◌≡◌, subst, rules, List}
-use Rattle.std.specs.Prelude.{reverse}
-use Rattle.jf_payload.specs.declared.records.Commit.{Commit}
-use Rattle.jf_payload.specs.declared.records.Record.TheVariants as «record»
-use Rattle.jf_files.specs.StepLaws.{landed_record}
-use Rattle.jf_engine.specs.Landings.{LandedBy}
-use Rattle.jf_engine.proofs.Landings.{landed-one}
+-- The landings that are left still lead to the directory.
+use Rattle.std.proofs.Common.{arith}
+use Rattle.jf_engine.proofs.Landings.{next_left, taken_back}
 use Rattle.jf_engine.proofs.landing.take_back.Goals as goal
 
-pub undo_commit-requires : goal.undo_commit-requires
-undo_commit-requires c =
+pub undo_landing-requires : goal.undo_landing-requires
+undo_landing-requires c =
     let made = c.requires.made in
-    let e : «record».NodeCommit c.in-NodeCommit.commit ≡ landed_record made.1 = search rules in
-    let by = subst (λ (cs : List Commit). LandedBy made.0 (reverse cs) c.args.directory.now) (landed-one made.1 c.in-NodeCommit.commit e) made.3 in
-    record { made = (by.0, by.1, by.2, by.3, by.4, by.5, by.6) }
+    let step = next_left made.0 c.args.landings.now c.loop-left.left c.index-landings-left.result _ c.loop-left.directory c.loop-left-test.true c.loop-left.invariant.within c.index-landings-left.is (c.loop-left.invariant.back made.0 made.1) in
+    record { made = (step.0, step.1, step.2, step.3, step.4, step.5, step.6) }
+
+pub loop-left-preserved : goal.loop-left-preserved
+loop-left-preserved c =
+    let cs = c.args.landings.now in
+    let within = c.loop-left.invariant.within in
+    record {
+      within = omega (arith, within);
+      back = λ from by.
+          let step = next_left from cs c.loop-left.left c.index-landings-left.result _ c.loop-left.directory c.loop-left-test.true within c.index-landings-left.is (c.loop-left.invariant.back from by) in
+          taken_back from cs c.loop-left.left step.0 c.undo_landing.new.self (c.undo_landing.ensures step.0 step.1 step.2 step.3 step.4 step.5 step.6) step.7;
+    }

@@ -1,11 +1,11 @@
 -- Landings are one more record, whose standing has all new versions.
-use Rattle.std.proofs.Common.{◌≡◌, [], ◌∷◌, ◌++◌, Some, subst, sym, ◌∙◌, ap, refl}
+use Rattle.std.proofs.Common.{◌≡◌, List, [], ◌∷◌, ◌++◌, Some, subst, sym, ◌∙◌, ap, refl}
 use Rattle.jf_hash.specs.Roots.{root}
 use Rattle.jf_model.specs.Versions.{land_all}
 use Rattle.jf_disk.specs.Disk.{History}
 use Rattle.jf_frame.specs.Framing.{IsFrame}
 use Rattle.jf_codec.specs.declared.format.Format.TheVariants as format
-use Rattle.jf_payload.specs.declared.records.Record.{Record}
+use Rattle.jf_payload.specs.declared.records.Commit.{Commit}
 use Rattle.jf_payload.specs.Spelling.{kind_of, record_bytes}
 use Rattle.jf_standing.specs.Standing.{Standing}
 use Rattle.jf_standing.specs.Building.{landings_of, all_landed}
@@ -32,8 +32,8 @@ invariant_of-self-in-Ok-append g c = (
       let p = c.self.inside.pair in
       let bs = c.args.batches.now in
       let r = landed_record (landings_of format.Two s bs) in
-      let w = c.in_ok-record.ensures in
-      let frame = subst (λ bytes. IsFrame bytes (kind_of fmt r) (record_bytes fmt r)) (sym c.as_slice.ensures) (subst (λ (q : Record). IsFrame c.in-Ok.frame (kind_of fmt q) (record_bytes fmt q)) w.written c.in-Ok.ensures) in
+      let w = c.in_ok-landings.ensures in
+      let frame = subst (λ bytes. IsFrame bytes (kind_of fmt r) (record_bytes fmt r)) (sym c.as_slice.ensures) (subst (λ (cs : List Commit). IsFrame c.in-Ok.frame (kind_of fmt (landed_record cs)) (record_bytes fmt (landed_record cs))) (c.deref.ensures.value ∙ w.written) c.in-Ok.ensures) in
       let k = c.self.invariant.2 c.if-self.false in
       let kept = appended_keeps _ _ p c.append.new.self fmt s (all_landed format.Two s bs) c.self.inside.generation (appended fmt p.offset r) k c.in-Ok-append.ensures.calls.untold (c.in-Ok-append.ensures.same.1 ∙ k.live) (unfailed _ c.in-Ok-append.ensures.failed.0)
       (λ rs leads. (landings_lead c.landings_follow.ensures c.formats_are_sound.ensures c.formats_group.ensures c.kept_is_spelled.ensures c.written_in_both.ensures rs fmt p.offset s bs leads c.know.ensures.read c.know.ensures.sound w.sound w.bounded.1 w.bounded.0 w.spelled).0)
@@ -51,8 +51,8 @@ returns-in-Ok-append-clause-succeeds g c = λ h told.
     let p = c.self.inside.pair in
     let bs = c.args.batches.now in
     let r = landed_record (landings_of format.Two s bs) in
-    let w = c.in_ok-record.ensures in
-    let frame = subst (λ bytes. IsFrame bytes (kind_of fmt r) (record_bytes fmt r)) (sym c.as_slice.ensures) (subst (λ (q : Record). IsFrame c.in-Ok.frame (kind_of fmt q) (record_bytes fmt q)) w.written c.in-Ok.ensures) in
+    let w = c.in_ok-landings.ensures in
+    let frame = subst (λ bytes. IsFrame bytes (kind_of fmt r) (record_bytes fmt r)) (sym c.as_slice.ensures) (subst (λ (cs : List Commit). IsFrame c.in-Ok.frame (kind_of fmt (landed_record cs)) (record_bytes fmt (landed_record cs))) (c.deref.ensures.value ∙ w.written) c.in-Ok.ensures) in
     let y = appended fmt p.offset r in
     subst (λ (e : Engine). e.history ≡ Some h → (x : History) × (g.D.Disk.history c.append.new.disk ≡ Some x) × Succeeds (Lands bs) h x e.versions) c.self.view_is
     (λ told.
@@ -75,8 +75,8 @@ returns-clause-stops g c = λ h told fault.
     let p = c.self.inside.pair in
     let bs = c.args.batches.now in
     let r = landed_record (landings_of format.Two s bs) in
-    let w = c.in_ok-record.ensures in
-    let frame = subst (λ bytes. IsFrame bytes (kind_of fmt r) (record_bytes fmt r)) (sym c.as_slice.ensures) (subst (λ (q : Record). IsFrame c.in-Ok.frame (kind_of fmt q) (record_bytes fmt q)) w.written c.in-Ok.ensures) in
+    let w = c.in_ok-landings.ensures in
+    let frame = subst (λ bytes. IsFrame bytes (kind_of fmt r) (record_bytes fmt r)) (sym c.as_slice.ensures) (subst (λ (cs : List Commit). IsFrame c.in-Ok.frame (kind_of fmt (landed_record cs)) (record_bytes fmt (landed_record cs))) (c.deref.ensures.value ∙ w.written) c.in-Ok.ensures) in
     let y = appended fmt p.offset r in
     subst (λ (e : Engine). e.history ≡ Some h → (x : History) × (g.D.Disk.history c.append.new.disk ≡ Some x) × StopsWell (Lands bs) h x e.versions) c.self.view_is
     (λ told.

@@ -1,0 +1,8 @@
+-- If there is no room for a landing, the list stays.
+use Rattle.std.proofs.Common.{[], sym, ◌∙◌}
+use Rattle.std.proofs.lemmas.List.{append-nil}
+use Rattle.jf_dir.proofs.MarkSteps.{on_any_err}
+use Rattle.jf_engine.proofs.landing.land_next.Goals as goal
+
+pub returns-in_err-push-clause-kept : goal.returns-in_err-push-clause-kept
+returns-in_err-push-clause-kept g c = on_any_err c.from_residual-in_err-push.result ([], c.in_err-push.ensures.items ∙ sym (append-nil c.args.landings.now.items))
