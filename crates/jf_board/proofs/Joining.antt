@@ -9,10 +9,10 @@ use Rattle.jf_board.specs.declared.views.PlaceView.{PlaceView}
 use Rattle.jf_board.specs.declared.views.View.{View}
 use Rattle.jf_board.specs.declared.views.View.TheVariants.{Pins, Prunes, Spent}
 use Rattle.jf_board.specs.declared.views.PrunerView.{PrunerView}
-use Rattle.jf_board.specs.Steps.{parted, first_joined, last_joined, joined_for_scan, joined_for_good, JoinedAnnounced, NumbersAreGiven, learned, BoardSeat}
+use Rattle.jf_board.specs.Steps.{parted, first_joined, last_joined, joined_for_scan, joined_for_good, JoinedAnnounced, BelowJoined, NumbersAreGiven, learned, BoardSeat}
 use Rattle.jf_board.proofs.Lists.{put, put_else, put_at, at_end}
 use Rattle.jf_board.proofs.Moving.{place_at, pruner_at, number_given, unmoved}
-use Rattle.jf_board.proofs.Pruning.{paced, placed_paced, joined_paced, paced_else}
+use Rattle.jf_board.proofs.Pruning.{paced, placed_paced, joined_paced, paced_else, below_joined}
 
 -- the account in which the number n is at the seat `to`
 abbrev reseated : Account → ℕ → ℕ → Account
@@ -148,14 +148,15 @@ joined_announced p id pairs (g ∷ gs) knows r = ((λ version has. subst (λ (xs
 numbers_given : (p : Account) (id : ℕ) (q : PrunerView) → IsSoundAccount p → PrunerFits p id q → NumbersAreGiven q
 numbers_given p id q sound fit t has = subst (λ (k : ℕ). t.0 < k) (sym fit.count_is) (number_given p t.0 t.1 sound (fit.pairs t has))
 
--- a load tells the pruner what joined places announced
+-- a load tells the pruner what joined places announced, and that the cut is at most what they have confirmed
 pub learns : (passes slots id : ℕ) (me : BoardSeat) (q : PrunerView) → me.0 ≡ Prunes q → Allows (IsBoard passes) slots id me 0 (λ x. x) (learned (step slots 0 0 0 none) me)
 learns passes slots id me q is s r _ at _ = let fit = pruner_at passes s r id me.0 q is at in let p = r.account in (
   me.0,
   keeps,
   tt,
   unmoved passes s r p 0 id me.0 me.0 at r.written r.sound r.few (r.each id me.0 at) (λ j u other f. f),
-  λ q' is'. let same : Prunes q ≡ Prunes q' = sym is ∙ is' in let qq : q ≡ q' = cc in subst (λ (z : PrunerView). (me ≡ me) × JoinedAnnounced z.pairs z.joined × NumbersAreGiven z) qq (refl, joined_announced p id q.pairs q.joined fit.pairs fit.joined, numbers_given p id q r.sound fit),
+  λ q' is'. let same : Prunes q ≡ Prunes q' = sym is ∙ is' in let qq : q ≡ q' = cc in subst (λ (z : PrunerView). (me ≡ me) × JoinedAnnounced z.pairs z.joined × NumbersAreGiven z × BelowJoined z.cut z.joined) qq
+      (refl, joined_announced p id q.pairs q.joined fit.pairs fit.joined, numbers_given p id q r.sound fit, below_joined p id q.cut q.joined (λ k. subst (λ (z : ℕ). Below z (p.hold k)) (sym fit.cut_is) (r.sound.cut_pins k)) fit.joined),
 )
 
 -- a list that isn't empty has a first element

@@ -118,7 +118,7 @@ joined_hold p id k x [] is r = tt
 joined_hold p id k x (g ∷ gs) is r = ((λ i small e. is ∙ ap word_of (ap p.hold e ∙ sym (r.0.holds i small))), joined_hold p id k x gs is r.2)
 
 -- what is at most all that is confirmed is at most what joined places have confirmed
-below_joined : (p : Account) (id m : ℕ) (gs : List PlaceView) → ((k : ℕ) → Below m (p.hold k)) → JoinedFit p id gs → BelowJoined m gs
+pub below_joined : (p : Account) (id m : ℕ) (gs : List PlaceView) → ((k : ℕ) → Below m (p.hold k)) → JoinedFit p id gs → BelowJoined m gs
 below_joined p id m [] low r = tt
 below_joined p id m (g ∷ gs) low r = ((λ i small. subst (Below m) (sym (r.0.holds i small)) (low (8 * g.number + i))), below_joined p id m gs low r.2)
 

@@ -110,9 +110,9 @@ scanned st m r m' = (q : PrunerView) (k : ℕ) → m.0 ≡ Prunes q → st.word 
 abbrev pub cut_made : TableStep → BoardSeat → ℕ → BoardSeat → Type 0
 cut_made st m r m' = (q : PrunerView) → m.0 ≡ Prunes q → m' ≡ (Prunes (record q { cut = st.first }), m.1)
 
--- each place that joined the pruner announced all that the pruner loaded at its number
+-- each place that joined the pruner announced all that the pruner loaded at its number, and the cut is at most what it has confirmed
 abbrev pub learned : TableStep → BoardSeat → ℕ → BoardSeat → Type 0
-learned st m r m' = (q : PrunerView) → m.0 ≡ Prunes q → (m' ≡ m) × JoinedAnnounced q.pairs q.joined × NumbersAreGiven q
+learned st m r m' = (q : PrunerView) → m.0 ≡ Prunes q → (m' ≡ m) × JoinedAnnounced q.pairs q.joined × NumbersAreGiven q × BelowJoined q.cut q.joined
 
 -- the pruner takes in the view of a place, and begins a scan
 abbrev pub joined_for_scan : View → View → View

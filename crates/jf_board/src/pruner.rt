@@ -97,13 +97,15 @@ impl Pruner {
     }
 
     /// Takes in a place, which is given up. Each version that a scan ever loaded at its number, and so each that a
-    /// `held` named with it, is one that the place announced in a `pin`.
+    /// `held` named with it, is one that the place announced in a `pin`. The cut is at most each version that the place
+    /// holds.
     pub fn join(&mut self, board: &Board, place: Place)
         requires pruner { self.old.board ≡ board.now }
         requires place { place.board ≡ board.now }
         ensures known { (self.new.board ≡ self.old.board) × (self.new.known ≡ with_joined self.old.known place.known) }
         ensures pairs { (version : ℕ) → Has self.old.known.pairs (place.known.number, version) → Has place.known.announced version }
         ensures given { NumbersAreGiven self.old.known }
+        ensures below { (i : ℕ) → i < 8 → Below self.old.known.cut (hold_at place.known i) }
     {
         let Place { seat, .. } = place;
         steps::join_for_good(board, &mut self.seat, seat);

@@ -118,13 +118,15 @@ pub(crate) fn join_for_scan(board: &Board, seat: &mut Seat<(), View>, place: Sea
     board.table.shared.join_seat::<JoinForScan>(seat, place);
 }
 
-// The pruner takes in the view of a place for good. The place announced all that the pruner loaded at its number.
+// The pruner takes in the view of a place for good. The place announced all that the pruner loaded at its number, and the
+// cut is at most each version that it has confirmed.
 pub(crate) fn join_for_good(board: &Board, seat: &mut Seat<(), View>, place: Seat<(), View>)
     requires own { (seat.old.table_id ≡ board.now) × (place.table_id ≡ board.now) }
     requires both { IsPruner seat.old × IsPlaceSeat place (place_of place.me.0).number }
     ensures seat { (seat.new.table_id ≡ seat.old.table_id) × (seat.new.me ≡ (Prunes (with_joined (pruner_of seat.old.me.0) (place_of place.me.0)), [])) }
     ensures announced { JoinedAnnounced (pruner_of seat.old.me.0).pairs (place_of place.me.0 ∷ []) }
     ensures given { NumbersAreGiven (pruner_of seat.old.me.0) }
+    ensures below { BelowJoined (pruner_of seat.old.me.0).cut (place_of place.me.0 ∷ []) }
 {
     board.table.shared.join_seat::<JoinForGood>(seat, place);
     board.table.shared.load::<Learn>(seat, 0);
