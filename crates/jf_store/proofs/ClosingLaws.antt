@@ -1,8 +1,8 @@
 -- Laws on the end of a store: seats of passes are joined to one, and their places to the pruner.
-use Rattle.std.proofs.Common.{◌≡◌, ◌⊎◌, inl, inr, ℕ, ◌<◌, List, [], ◌∷◌, ◌++◌, drop, length, refl, sym, ap, ◌∙◌, subst, append_assoc}
+use Rattle.std.proofs.Common.{◌≡◌, ◌⊎◌, inl, inr, ℕ, ◌<◌, ◌≤◌, List, [], ◌∷◌, ◌++◌, drop, length, refl, sym, ap, ◌∙◌, subst, append_assoc}
 use Rattle.std.proofs.Math.Seq.{drop-append_seam, drop-length}
 use mathlib.Core.Option as maybe
-use Rattle.jf_board.specs.Rule.{Has}
+use Rattle.jf_board.specs.Rule.{Has, Below, hold_at}
 use Rattle.jf_board.specs.Steps.{NumbersAreGiven}
 use Rattle.jf_board.specs.declared.views.PrunerView.{PrunerView}
 use Rattle.jf_turn.specs.Lists.{HasElement, StartsWith}
@@ -12,6 +12,7 @@ use Rattle.jf_store.specs.declared.event.Event.{Event}
 use Rattle.jf_store.specs.Starts.{Start}
 use Rattle.jf_store.specs.Events.{pass_named_by}
 use Rattle.jf_store.specs.Passes.{Store, Pass, PinsState, IsPass, OthersAlone, pass_of}
+use Rattle.jf_store.specs.Prunings.{HasConfirmed}
 use Rattle.jf_store.specs.Closing.{ArePassesOf, AreAllPasses, WasAnnounced}
 
 -- ---- lists
@@ -88,6 +89,19 @@ all_announced ps rest s pins p pairs e shown is announced all = λ q has. elim (
   | inl there ↦ all q there
   | inr same ↦ subst (λ (r : Pass). (version : ℕ) → Has pairs (r.number, version) → HasElement r.place.announced version) (shown ∙ same)
       (λ version loaded. announced version (subst (λ (n : ℕ). Has pairs (n, version)) (sym is.place) loaded))
+]
+
+-- the cut is at most each version that a pass has confirmed
+abbrev pub AreAllSpared : List Pass → ℕ → Type 0
+AreAllSpared ps cut = (p : Pass) → HasElement ps p → (version : ℕ) → HasConfirmed p.place version → cut ≤ version
+
+pub none_spared : (ps : List Pass) (cut : ℕ) → ps ≡ [] → AreAllSpared ps cut
+none_spared ps cut none = λ p has. absurd (none_there p (subst (λ (qs : List Pass). HasElement qs p) none has))
+
+pub all_spared : (ps rest : List Pass) (s : SeatState Event Start) (pins : PinsState) (p : Pass) (cut : ℕ) → ps ≡ rest ++ p ∷ [] → pass_of s pins ≡ p → ((i : ℕ) → i < 8 → Below cut (hold_at pins.known i)) → AreAllSpared rest cut → AreAllSpared ps cut
+all_spared ps rest s pins p cut e shown below all = λ q has. elim (has_last rest p q (subst (λ (qs : List Pass). HasElement qs q) e has)) [
+  | inl there ↦ all q there
+  | inr same ↦ subst (λ (r : Pass). (version : ℕ) → HasConfirmed r.place version → cut ≤ version) (shown ∙ same) (λ version is. subst (Below cut) is.2 (below is.0 is.1))
 ]
 
 -- ---- one seat is joined

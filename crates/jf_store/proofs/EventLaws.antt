@@ -1,5 +1,6 @@
 -- Laws on events: the entries and the mark among them, and one event more.
-use Rattle.std.proofs.Common.{◌≡◌, ℕ, ◌+◌, ◌<◌, ◌≤◌, false, None, List, [], ◌∷◌, ◌++◌, refl, sym, ap, ◌∙◌, subst, arith, append-nil}
+use Rattle.std.proofs.Common.{◌≡◌, ℕ, ◌+◌, ◌<◌, ◌≤◌, false, None, List, [], ◌∷◌, ◌++◌, length, refl, sym, ap, ◌∙◌, subst, arith, append-nil}
+use Rattle.std.specs.Prelude.{if◌then◌else◌}
 use Rattle.std.specs.List.{AllByRecursion}
 use Rattle.jf_model.specs.States.{State}
 use Rattle.jf_model.specs.Entries.{after, replay, IsHistory, IsLegal, RiseFrom, moments_of, owner_of, timeless, at_moment}
@@ -10,8 +11,9 @@ use Rattle.jf_store.specs.declared.event.Event.{Event}
 use Rattle.jf_store.specs.declared.event.Event.TheVariants.{Done, Mark}
 use Rattle.jf_store.specs.Events.{pass_named_by, entries_of, attempt_of, is_marked}
 use Rattle.jf_store.specs.Starts.{Start}
-use Rattle.jf_store.specs.Images.{AreWithin}
+use Rattle.jf_store.specs.Images.{AreWithin, IsDatedAt}
 use Rattle.jf_store.specs.Ledgers.{AreEvents, IsUndone, MarkIsLast, state_behind}
+use Rattle.jf_store.specs.Passes.{IsCounted}
 
 -- ---- the entries and the mark
 pub entries_of-append : (xs ys : List Event) → entries_of (xs ++ ys) ≡ entries_of xs ++ entries_of ys
@@ -49,11 +51,16 @@ state_behind-done start xs e = ap (λ (l : List Entry). replay start.state l) (e
 pub state_behind-mark : (start : Start) (xs : List Event) (pass : ℕ) (e : Entry) → state_behind start (xs ++ Mark pass e ∷ []) ≡ state_behind start xs
 state_behind-mark start xs pass e = ap (λ (l : List Entry). replay start.state l) (entries_of-mark xs pass e)
 
--- ---- moments
--- if the entry is a landing, it was acknowledged at this moment
-abbrev pub IsDatedAt : ℕ → Entry → Type 0
-IsDatedAt now e = AllByRecursion (λ m. m ≡ now) (moments_of (e ∷ []))
+-- how many events there are, by how many entries
+count-marked : (s : State) (xs : List Event) → MarkIsLast s xs → length xs ≡ length (entries_of xs) + (if is_marked xs then 1 else 0)
+count-marked s [] last = refl
+count-marked s (Done e ∷ xs) last = omega (arith, count-marked s xs last)
+count-marked s (Mark pass e ∷ xs) last = omega (arith, ap length last.0, ap (λ (ys : List Event). length (entries_of ys)) last.0)
 
+pub IsCounted-events : (start : Start) (xs : List Event) → AreEvents start xs → IsCounted (is_marked xs) xs
+IsCounted-events start xs are = (refl, count-marked (state_behind start xs) xs are.marked)
+
+-- ---- moments
 within_order : (low high : ℕ) (ms : List ℕ) → AreWithin low high ms → low ≤ high
 within_order low high [] w = w
 within_order low high (m ∷ ms) w = omega (arith, w.0, within_order m high ms w.1)

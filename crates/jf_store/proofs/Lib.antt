@@ -5,6 +5,7 @@ pub mod StartLaws
 pub mod VaultLaws
 pub mod FloorLaws
 pub mod ImageLaws
+pub mod EntryTimes
 pub mod Keeping
 pub mod ForkTables
 pub mod Legality
@@ -20,6 +21,7 @@ pub mod CommitLaws
 pub mod LookLaws
 pub mod PassLaws
 pub mod NewPasses
+pub mod CutLaws
 pub mod ClosingLaws
 pub mod PinLaws
 pub mod PinnedVersionLaws

@@ -1,5 +1,5 @@
 -- Laws on a pass that took the turn and gave it back.
-use Rattle.std.proofs.Common.{◌≡◌, ℕ, zero, suc, ◌<◌, Some, Result, Ok, Err, List, [], ◌∷◌, ◌++◌, refl, sym, ap, ◌∙◌, subst, inl, inr, append-nil}
+use Rattle.std.proofs.Common.{◌≡◌, ℕ, zero, suc, ◌<◌, Bool, Some, Result, Ok, Err, List, [], ◌∷◌, ◌++◌, refl, sym, ap, ◌∙◌, subst, inl, inr, append-nil}
 use Rattle.std.specs.Prelude.{IfOk, IfErr}
 use mathlib.Core.Option as maybe
 use lib.ListN.{get_elem?}
@@ -17,7 +17,7 @@ use Rattle.jf_store.specs.Starts.{Start}
 use Rattle.jf_store.specs.Ledgers.{state_behind, AreEvents}
 use Rattle.jf_store.specs.Refusals.{StoreFaults, IsRefusal}
 use Rattle.jf_store.specs.Vaults.{Vault, AddsTo, LandsIn, FailsIn}
-use Rattle.jf_store.specs.Passes.{Pass, PinsState, IsPass, pass_of, OthersAlone, Sees, SeesOwn, HasLanded, HasFailed}
+use Rattle.jf_store.specs.Passes.{Pass, PinsState, IsPass, IsCounted, pass_of, OthersAlone, Sees, SeesOwn, HasLanded, HasFailed}
 
 -- ---- events more
 -- each event more names the number
@@ -45,6 +45,21 @@ some_one : (a b : Start) → Some a ≡ Some b → a ≡ b
 some_one a b e = cc
 
 -- ---- one call
+-- the seat took v, which began so
+pub record HasTaken (s taken : SeatState Event Start) (v : Vault) (start : Start) : Type 0 where
+  pub began : v.start ≡ start
+  pub begins : StartsWith v.events s.seen
+  pub others : OthersFollow pass_named_by s v.events
+  pub takes : taken ≡ taking s v.events
+
+-- by what is told of the box that it took
+pub HasTaken-boxed : (s taken : SeatState Event Start) (v w : Vault) (start : Start) → v ≡ w → w.start ≡ start → StartsWith w.events s.seen → OthersFollow pass_named_by s w.events → taken ≡ taking s w.events → HasTaken s taken v start
+HasTaken-boxed s taken v w start same began begins others takes = subst (λ (u : Vault). HasTaken s taken u start) (sym same) record { began = began; begins = begins; others = others; takes = takes }
+
+-- and may give back what has more events of its own
+pub MayGive-taken : (s taken : SeatState Event Start) (v v' : Vault) (start : Start) (number : ℕ) → HasTaken s taken v start → number ≡ s.number → AddsNamed number v.events v'.events → MayGive pass_named_by taken v'.events
+MayGive-taken s taken v v' start number h is own = subst (λ (t : SeatState Event Start). MayGive pass_named_by t v'.events) (sym h.takes) (v.events, own.0, refl, own.1, λ x has. own.2 x has ∙ is)
+
 -- the seat took v, which began so, and gave v'
 pub record HasPassed (s s' : SeatState Event Start) (p : PinsState) (v v' : Vault) (start : Start) : Type 0 where
   pub is : IsPass s p
@@ -52,6 +67,10 @@ pub record HasPassed (s s' : SeatState Event Start) (p : PinsState) (v v' : Vaul
   pub began : v.start ≡ start
   pub begins : StartsWith v.events s.seen
   pub others : OthersFollow pass_named_by s v.events
+
+pub HasPassed-given : (s taken s' : SeatState Event Start) (p : PinsState) (v v' : Vault) (start : Start) → HasTaken s taken v start → IsPass s p → s' ≡ giving taken v'.events → HasPassed s s' p v v' start
+HasPassed-given s taken s' p v v' start h is gives =
+    record { is = is; after = gives ∙ ap (λ (t : SeatState Event Start). giving t v'.events) h.takes; began = h.began; begins = h.begins; others = h.others }
 
 module _ (s s' : SeatState Event Start) (p : PinsState) (v v' : Vault) (start : Start) (h : HasPassed s s' p v v' start) where
   shown : pass_of s' p ≡ record (pass_of s p) { seen = v'.events }
@@ -114,6 +133,10 @@ module _ (s s' : SeatState Event Start) (p : PinsState) (v v' : Vault) (start : 
   HasFailed-passed number what faults (Err f) is (inr refused) =
       let same : v'.events ≡ v.events = ap (λ (w : Vault). w.events) refused.0 in
       inr (Sees-passed same, IsRefusal-passed faults f same refused.1)
+
+  -- what is kept of the events fits again
+  pub IsCounted-passed : (marked : Bool) → IsCounted marked v'.events → IsCounted marked s'.seen
+  IsCounted-passed marked counted = subst (IsCounted marked) (sym (ap (λ (t : SeatState Event Start). t.seen) h.after)) counted
 
   -- it is a pass again
   pub IsPass-passed : AreEvents v'.start v'.events → v'.start ≡ v.start → s.origin ≡ Some start → s.number < start.passes → p.board ≡ start.board → IsPass s' p

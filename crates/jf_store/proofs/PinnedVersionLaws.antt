@@ -2,6 +2,7 @@
 use Rattle.std.proofs.Common.{◌≡◌, ◌≢◌, inl, inr, ℕ, ◌<◌, Bool, true, false, cond, Option, Some, None, Result, Ok, Err, List, [], ◌∷◌, ◌++◌, drop, length, refl, sym, ap, ◌∙◌, subst, arith, append-nil, append_assoc}
 use Rattle.std.specs.Prelude.{◌⊎◌, IfOk, IfErr, nat_le, nat_lt, is_none, unwrap_or, slice_index_or, slice_set}
 use Rattle.std.proofs.Math.Seq.{drop-append_seam}
+use Rattle.std.specs.List.{position_or_len}
 use Rattle.std.proofs.lemmas.Bool.{le-leb, lt-leb}
 use Rattle.std.proofs.lemmas.List.Sums.{position_or_len_is}
 use mathlib.Core.Option as maybe
@@ -24,7 +25,7 @@ use Rattle.jf_store.specs.Refusals.{IsRefusal, at_faults}
 use Rattle.jf_store.specs.Readings.{ReadsVersion}
 use Rattle.jf_store.specs.Passes.{Store, Pass, PinsState, IsPinned, ArePins, OthersAlone, Sees}
 use Rattle.jf_store.specs.Pins.{shown_pins, HasPinnedSnapshot, IsPinRefused}
-use Rattle.jf_store.specs.PinnedVersions.{least_unpinned, full_faults, pin_version_faults, SeesToPin, HasPinnedVersion, KeepsPins, HasNotPinned, HasTriedPin}
+use Rattle.jf_store.specs.PinnedVersions.{full_faults, pin_version_faults, SeesToPin, HasPinnedVersion, KeepsPins, HasNotPinned, PinsUnlessRetired}
 
 -- ---- events of others
 -- others added some, and then others added some
@@ -91,7 +92,7 @@ pub HasPinnedVersion-on : (start : Start) (version : ℕ) (old mid new : Pass) (
 HasPinnedVersion-on start version old mid new place a h = record {
   sees = SeesToPin-on version old mid new a.sees h.sees;
   granted = subst (λ (ps : List (Option SnapshotValue)). first_of (pin_version_faults version ps start new.seen) ≡ None) a.pinned h.granted;
-  least = h.least ∙ ap least_unpinned a.pinned;
+  least = h.least ∙ ap (position_or_len is_none) a.pinned;
   within = h.within;
   snapshot = h.snapshot;
   read = h.read;
@@ -117,27 +118,27 @@ taken-some (Some s) h is taken = refl
 
 module _ (p : PinsState) (are : ArePins p) (eight : length p.pinned ≡ 8) where
   -- the least free place of the board is the least at which no snapshot is pinned
-  pub least_unpinned-free : (i : ℕ) → IsLeastFree p.known i → i ≡ least_unpinned p.pinned
-  least_unpinned-free i least =
+  pub position_or_len-least_free : (i : ℕ) → IsLeastFree p.known i → i ≡ position_or_len is_none p.pinned
+  position_or_len-least_free i least =
       let small : i < 8 = least.0.0 in
       sym (position_or_len_is is_none p.pinned i None (omega (arith, small, eight)) (λ k below. taken-some (slice_index_or p.pinned k None) (hold_at p.known k) (are k (omega (arith, below, small))) (least.1 k below))
       (λ within. free-none (slice_index_or p.pinned i None) (hold_at p.known i) (are i small) least.0.1))
 
   -- if none is free, each has a snapshot
-  pub least_unpinned-full : ((k : ℕ) → k < 8 → hold_at p.known k ≢ hold.Free) → least_unpinned p.pinned ≡ 8
-  least_unpinned-full taken =
+  pub position_or_len-full : ((k : ℕ) → k < 8 → hold_at p.known k ≢ hold.Free) → position_or_len is_none p.pinned ≡ 8
+  position_or_len-full taken =
       position_or_len_is is_none p.pinned 8 None (omega (arith, eight)) (λ k below. taken-some (slice_index_or p.pinned k None) (hold_at p.known k) (are k below) (taken k below)) (λ within. absurd (omega (arith, within, eight)))
 
 -- whether all are taken, by a look at one after another
-pub taken-not_all : (ps : List (Option SnapshotValue)) (i : ℕ) → length ps ≡ 8 → i < 8 → ((k : ℕ) → k < i → is_none (slice_index_or ps k None) ≡ false) → is_none (slice_index_or ps i None) ≡ true → false ≡ nat_le 8 (least_unpinned ps)
+pub taken-not_all : (ps : List (Option SnapshotValue)) (i : ℕ) → length ps ≡ 8 → i < 8 → ((k : ℕ) → k < i → is_none (slice_index_or ps k None) ≡ false) → is_none (slice_index_or ps i None) ≡ true → false ≡ nat_le 8 (position_or_len is_none ps)
 taken-not_all ps i eight small before free =
-    let at : least_unpinned ps ≡ i = position_or_len_is is_none ps i None (omega (arith, small, eight)) before (λ within. free) in
-    sym (lt-leb 8 (least_unpinned ps) (omega (arith, at, small)))
+    let at : position_or_len is_none ps ≡ i = position_or_len_is is_none ps i None (omega (arith, small, eight)) before (λ within. free) in
+    sym (lt-leb 8 (position_or_len is_none ps) (omega (arith, at, small)))
 
-pub taken-all : (ps : List (Option SnapshotValue)) → length ps ≡ 8 → ((k : ℕ) → k < 8 → is_none (slice_index_or ps k None) ≡ false) → true ≡ nat_le 8 (least_unpinned ps)
+pub taken-all : (ps : List (Option SnapshotValue)) → length ps ≡ 8 → ((k : ℕ) → k < 8 → is_none (slice_index_or ps k None) ≡ false) → true ≡ nat_le 8 (position_or_len is_none ps)
 taken-all ps eight before =
-    let at : least_unpinned ps ≡ 8 = position_or_len_is is_none ps 8 None (omega (arith, eight)) before (λ within. absurd (omega (arith, within, eight))) in
-    sym (le-leb 8 (least_unpinned ps) (omega (arith, at)))
+    let at : position_or_len is_none ps ≡ 8 = position_or_len_is is_none ps 8 None (omega (arith, eight)) before (λ within. absurd (omega (arith, within, eight))) in
+    sym (le-leb 8 (position_or_len is_none ps) (omega (arith, at)))
 
 -- ---- faults
 first_of-more : {X : Type 0} (xs ys : List (Bool × X)) → first_of xs ≡ None → first_of (xs ++ ys) ≡ first_of ys
@@ -150,11 +151,11 @@ module _ (version : ℕ) (pinned : List (Option SnapshotValue)) (start : Start) 
   fit = first_of-more (at_faults version start events) (full_faults pinned) none
 
   -- where nothing refuses the reading, and a place is free, nothing refuses the pin
-  pin-granted : least_unpinned pinned < 8 → first_of (pin_version_faults version pinned start events) ≡ None
-  pin-granted below = fit ∙ ap (λ b. cond b (Some store_fault.PinsFull) None) (lt-leb 8 (least_unpinned pinned) below)
+  pin-granted : position_or_len is_none pinned < 8 → first_of (pin_version_faults version pinned start events) ≡ None
+  pin-granted below = fit ∙ ap (λ b. cond b (Some store_fault.PinsFull) None) (lt-leb 8 (position_or_len is_none pinned) below)
 
   -- where all are taken, that refuses it
-  pin-full : least_unpinned pinned ≡ 8 → IsRefusal (pin_version_faults version pinned start events) store_fault.PinsFull
+  pin-full : position_or_len is_none pinned ≡ 8 → IsRefusal (pin_version_faults version pinned start events) store_fault.PinsFull
   pin-full full = sym (ap (λ o. unwrap_or o store_fault.Memory) (fit ∙ ap (λ n. cond (nat_le 8 n) (Some store_fault.PinsFull) None) full))
 
 tests : (a b c d : Bool) (head bound : ℕ) (f g : StoreFault) → f ≡ unwrap_or (first_of ((a, store_fault.Broken) ∷ (b, store_fault.Future head) ∷ (c, store_fault.Retired bound) ∷ [])) store_fault.Memory
@@ -168,14 +169,14 @@ tests false false false false head bound f g is memory other = memory is
 
 -- a reading was refused: so is the pin, by the same fault, or, where memory ran out, because all are taken
 pub IsRefusal-pin : (version : ℕ) (pinned : List (Option SnapshotValue)) (start : Start) (events : List Event) (f g : StoreFault) → IsRefusal (at_faults version start events) f
-    → (f ≡ store_fault.Memory → g ≡ cond (nat_le 8 (least_unpinned pinned)) store_fault.PinsFull store_fault.Memory) → (f ≢ store_fault.Memory → g ≡ f) → IsRefusal (pin_version_faults version pinned start events) g
+    → (f ≡ store_fault.Memory → g ≡ cond (nat_le 8 (position_or_len is_none pinned)) store_fault.PinsFull store_fault.Memory) → (f ≢ store_fault.Memory → g ≡ f) → IsRefusal (pin_version_faults version pinned start events) g
 IsRefusal-pin version pinned start events f g is memory other =
-    tests (is_marked events) (nat_lt (state_behind start events).all.head version) (nat_lt version (state_behind start events).retired) (nat_le 8 (least_unpinned pinned)) (state_behind start events).all.head (state_behind start events).retired f g is memory other
+    tests (is_marked events) (nat_lt (state_behind start events).all.head version) (nat_lt version (state_behind start events).retired) (nat_le 8 (position_or_len is_none pinned)) (state_behind start events).all.head (state_behind start events).retired f g is memory other
 
 -- ---- one try
 module _ (store : Store) (version : ℕ) (old mid : Pass) (sees : Sees old mid) where
   -- the version couldn't be read
-  pub HasNotPinned-unread : (f g : StoreFault) → IsRefusal (at_faults version store.start mid.seen) f → (f ≡ store_fault.Memory → g ≡ cond (nat_le 8 (least_unpinned mid.pinned)) store_fault.PinsFull store_fault.Memory) → (f ≢ store_fault.Memory → g ≡ f)
+  pub HasNotPinned-unread : (f g : StoreFault) → IsRefusal (at_faults version store.start mid.seen) f → (f ≡ store_fault.Memory → g ≡ cond (nat_le 8 (position_or_len is_none mid.pinned)) store_fault.PinsFull store_fault.Memory) → (f ≢ store_fault.Memory → g ≡ f)
       → HasNotPinned store.start version old mid g
   HasNotPinned-unread f g is memory other = record {
     keeps = record { sees = SeesToPin-sees version old mid sees; holds = ap (λ (p : Pass). p.place.holds) sees.same; pinned = ap (λ (p : Pass). p.pinned) sees.same };
@@ -215,7 +216,7 @@ module _ (store : Store) (version : ℕ) (old mid : Pass) (sees : Sees old mid) 
         let place : new.place ≡ record mid.place { gate = new.place.gate; latest = i; holds = slice_set mid.place.holds i (hold.Confirmed snapshot.version); announced = mid.place.announced ++ snapshot.version ∷ [] }
         = ap (λ (p : PinsState). p.known) h.pinned in
         let pinned : new.pinned ≡ slice_set mid.pinned i (Some snapshot) = ap (λ (p : PinsState). p.pinned) h.pinned in
-        let least : i ≡ least_unpinned old.pinned = least_unpinned-free (shown_pins store old) are eight i (subst (λ (v : PlaceView). IsLeastFree v i) place_is h.least) in
+        let least : i ≡ position_or_len is_none old.pinned = position_or_len-least_free (shown_pins store old) are eight i (subst (λ (v : PlaceView). IsLeastFree v i) place_is h.least) in
         let small : i < 8 = h.least.0.0 in
         record {
           sees = sees_new (ap (λ (v : PlaceView). v.number) place) (announced_one new.place.announced (ap (λ (v : PlaceView). v.announced) place));
@@ -240,7 +241,7 @@ module _ (store : Store) (version : ℕ) (old mid : Pass) (sees : Sees old mid) 
             holds = ap (λ (v : PlaceView). v.holds) (place ∙ place_is);
             pinned = ap (λ (p : PinsState). p.pinned) full.0 ∙ pinned_is;
           };
-          refusal = pin-full version old.pinned store.start new.seen none_new (least_unpinned-full (shown_pins store old) are eight (subst (λ (v : PlaceView). (k : ℕ) → k < 8 → hold_at v k ≢ hold.Free) place_is full.1));
+          refusal = pin-full version old.pinned store.start new.seen none_new (position_or_len-full (shown_pins store old) are eight (subst (λ (v : PlaceView). (k : ℕ) → k < 8 → hold_at v k ≢ hold.Free) place_is full.1));
         }
 
     -- the gate had risen above it
@@ -264,9 +265,9 @@ module _ (store : Store) (version : ℕ) (old mid : Pass) (sees : Sees old mid) 
     KeepsPins-retired store_fault.Memory refused other = absurd refused
 
     -- what the try comes to then
-    pub HasTriedPin-refused : (r : Result (Option ℕ) StoreFault) (why : StoreFault) → IsPinRefused snapshot.version (shown_pins store mid) (shown_pins store new) why → IfOk r (λ o. (o ≡ None) × (why ≢ store_fault.PinsFull)) → IfOk r (HasTriedPin store.start version old new)
-    HasTriedPin-refused (Ok o) why refused again = subst (HasTriedPin store.start version old new) (sym again.0) (KeepsPins-retired why refused again.1)
-    HasTriedPin-refused (Err f) why refused again = tt
+    pub PinsUnlessRetired-refused : (r : Result (Option ℕ) StoreFault) (why : StoreFault) → IsPinRefused snapshot.version (shown_pins store mid) (shown_pins store new) why → IfOk r (λ o. (o ≡ None) × (why ≢ store_fault.PinsFull)) → IfOk r (PinsUnlessRetired store.start version old new)
+    PinsUnlessRetired-refused (Ok o) why refused again = subst (PinsUnlessRetired store.start version old new) (sym again.0) (KeepsPins-retired why refused again.1)
+    PinsUnlessRetired-refused (Err f) why refused again = tt
 
     pub HasNotPinned-refused : (r : Result (Option ℕ) StoreFault) (why : StoreFault) → IsPinRefused snapshot.version (shown_pins store mid) (shown_pins store new) why → IfErr r (λ f. (f ≡ store_fault.PinsFull) × (why ≡ store_fault.PinsFull))
         → IfErr r (HasNotPinned store.start version old new)

@@ -177,16 +177,20 @@ module _ (b : Beginning) (es : List Entry) (tried : Option Tried) (e : Engine) (
 
       pub PrunesIn-after : (pass : ℕ) (e' : Engine) (es' : List Entry) → IsAfter b es es' tried tried e e' t p p' (Done (entry.Retired pass bound floor))
           → PrunesIn pass own bound v (vault_of b es' tried e' p') (record { bound = bound; floor = floor; held = held })
+      unfolding found
       PrunesIn-after pass e' es' after = record {
         adds = subst (λ (w : Vault). AddsTo w (vault_of b es' tried e' p') (Done (entry.Retired pass bound floor))) view after.adds;
         bound_is = refl;
         found = found;
+        known = refl;
       }
 
       pub StopsPruning-after : (pass : ℕ) (e' : Engine) (es' : List Entry) (tried' : Option Tried) → IsAfter b es es' tried tried' e e' t p p' (Mark pass (entry.Retired pass bound floor)) → StopsPruning pass own bound v (vault_of b es' tried' e' p')
+      unfolding found
       StopsPruning-after pass e' es' tried' after = record {
         floor = floor;
         held = held;
         stops = subst (λ (w : Vault). AddsTo w (vault_of b es' tried' e' p') (Mark pass (entry.Retired pass bound floor))) view after.adds;
         found = found;
+        known = refl;
       }

@@ -1,8 +1,8 @@
--- The value behind the turn may go to another thread: as the disk of its engine may.
+-- The value behind the turn may go to another thread as the disk of its engine may; so may a pass, and threads may share such a store.
 use denote.RattleType.{RattleType}
 use denote.Struct.Struct.{Struct}
 use denote.Struct.Declared.{shape}
-use denote.Param.Send.{IsSend, IsSync, AllSend, view_send, recorded_send, struct_send, sendable}
+use denote.Param.Send.{IsSend, IsSync, AllSend, AllSync, view_send, view_sync, recorded_send, recorded_sync, struct_send, struct_sync, sendable}
 use Rattle.std.proofs.Crossing.{crosses}
 use Rattle.std.proofs.MapsCrossingOver as sets
 use Rattle.jf_model.proofs.entries.Entry.TheSendSync as Entry
@@ -15,13 +15,25 @@ use Rattle.jf_spec.proofs.node.Node.TheLaws.TheKnot as nodes
 use Rattle.jf_spec.specs.contracts.node.Node as Node
 use Rattle.jf_spec.specs.contracts.tree.SpecTree as SpecTree
 use Rattle.jf_forks.specs.contracts.table.ForkTable as ForkTable
+use Rattle.jf_board.proofs.board.Board.TheSendSync as boards
+use Rattle.jf_board.proofs.place.Place.TheSendSync as places
 use Rattle.jf_board.proofs.pruner.Pruner.TheSendSync as pruners
 use Rattle.jf_board.specs.contracts.pruner.Pruner as Pruner
+use Rattle.jf_turn.proofs.seat.Seat.TheSendSync as seats
+use Rattle.jf_turn.proofs.turn.Turn.TheSendSync as turns
 use Rattle.jf_engine.specs.contracts.engine.Engine as Engine
 use Rattle.jf_store.specs.contracts.beginning.Beginning as Beginning
 use Rattle.jf_store.specs.contracts.tried.Tried as Tried
 use Rattle.jf_store.specs.contracts.vault.Vault as Vault
 use Rattle.jf_store.specs.contracts.vault.Vault.TheInside as inside
+use Rattle.jf_store.specs.contracts.boxed_vault.BoxedVault as BoxedVault
+use Rattle.jf_store.specs.contracts.boxed_vault.BoxedVault.TheInside as boxed_inside
+use Rattle.jf_store.specs.contracts.pins.Pins as Pins
+use Rattle.jf_store.specs.contracts.pins.Pins.TheInside as pins_inside
+use Rattle.jf_store.specs.contracts.pass.Pass as Pass
+use Rattle.jf_store.specs.contracts.pass.Pass.TheInside as pass_inside
+use Rattle.jf_store.specs.contracts.store.Store as Store
+use Rattle.jf_store.specs.contracts.store.Store.TheInside as store_inside
 
 -- The types that hold themselves, each by the rule that is made for its cycle: no search finds that rule unless it is listed.
 Link-send : IsSend Link.the_row
@@ -61,10 +73,38 @@ Engine-send : (D : RattleType) (disk : Ghosts D.Denot) → IsSend D → IsSend (
 Engine-send D disk send = search (Snapshot-send, sendable, crosses, sets.crosses) depth 40 fits 30000
 
 -- Field by field, since one search for the whole value runs out of steps.
-pub Vault-send : (D : RattleType) (disk : Ghosts D.Denot) → IsSend D → IsSend (Vault.the_row D disk)
+Vault-send : (D : RattleType) (disk : Ghosts D.Denot) → IsSend D → IsSend (Vault.the_row D disk)
 Vault-send D disk send =
     let T = inside.the_type D disk in
     let fields : AllSend (shape T).fields =
     (Engine-send D disk send, (ForkTable-send, (Pruner-send, (Beginning-send, (search (Entry.the_send, sendable, crosses) depth 20, (search (Tried-send, sendable) depth 20, tt)))))) in
     let whole : IsSend (inside.the_row D disk) = recorded_send (Struct (shape T)) _ _ T.to_one (struct_send (shape T) fields) in
     view_send (inside.the_row D disk) _ _ _ _ whole
+
+pub BoxedVault-send : (D : RattleType) (disk : Ghosts D.Denot) → IsSend D → IsSend (BoxedVault.the_row D disk)
+BoxedVault-send D disk send =
+    let T = boxed_inside.the_type D disk in
+    let fields : AllSend (shape T).fields = (search (Vault-send, sendable, crosses) depth 20, tt) in
+    let whole : IsSend (boxed_inside.the_row D disk) = recorded_send (Struct (shape T)) _ _ T.to_one (struct_send (shape T) fields) in
+    view_send (boxed_inside.the_row D disk) _ _ _ _ whole
+
+Pins-send : IsSend Pins.the_row
+Pins-send =
+    let T = pins_inside.the_type in
+    let fields : AllSend (shape T).fields = (places.the_send, (search (Snapshot-send, sendable, crosses) depth 20, tt)) in
+    let whole : IsSend pins_inside.the_row = recorded_send (Struct (shape T)) _ _ T.to_one (struct_send (shape T) fields) in
+    view_send pins_inside.the_row _ _ _ _ whole
+
+pub Pass-send : (D : RattleType) (disk : Ghosts D.Denot) → IsSend D → IsSend (Pass.the_row D disk)
+Pass-send D disk send =
+    let T = pass_inside.the_type D disk in
+    let fields : AllSend (shape T).fields = (search (seats.the_send, BoxedVault-send) depth 5, (Pins-send, (search sendable depth 5, tt))) in
+    let whole : IsSend (pass_inside.the_row D disk) = recorded_send (Struct (shape T)) _ _ T.to_one (struct_send (shape T) fields) in
+    view_send (pass_inside.the_row D disk) _ _ _ _ whole
+
+pub Store-sync : (D : RattleType) (disk : Ghosts D.Denot) → IsSend D → IsSync (Store.the_row D disk)
+Store-sync D disk send =
+    let T = store_inside.the_type D disk in
+    let fields : AllSync (shape T).fields = (search (turns.the_sync, BoxedVault-send) depth 5, (boards.the_sync, tt)) in
+    let whole : IsSync (store_inside.the_row D disk) = recorded_sync (Struct (shape T)) _ _ T.to_one (struct_sync (shape T) fields) in
+    view_sync (store_inside.the_row D disk) _ _ _ _ whole

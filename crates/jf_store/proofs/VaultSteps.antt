@@ -18,14 +18,14 @@ use Rattle.jf_store.specs.declared.tried.Attempt.TheVariants as attempt
 use Rattle.jf_store.specs.declared.tried.Tried.{Tried}
 use Rattle.jf_store.specs.Events.{is_marked, entries_of, attempted}
 use Rattle.jf_store.specs.Starts.{Start, first_state, start_in}
-use Rattle.jf_store.specs.Images.{AreWithin}
+use Rattle.jf_store.specs.Images.{AreWithin, IsDatedAt}
 use Rattle.jf_store.specs.Ledgers.{AreEvents, IsUndone, state_behind}
 use Rattle.jf_store.specs.Stepped.{HasStepped, HasStopped, IsDatedEngine}
 use Rattle.jf_store.specs.Kept.{IsKept}
 use Rattle.jf_store.specs.Floors.{IsMet, AreMet}
 use Rattle.jf_store.specs.Vaults.{events_in, vault_of, gate_after, floor_after, KeepsForks, KeepsFloors, IsVault, AddsTo}
 use Rattle.jf_store.proofs.EntrySteps.{IsStepOf, IsIdle}
-use Rattle.jf_store.proofs.EventLaws.{IsDatedAt, AreEvents-done, AreEvents-undated, AreEvents-mark}
+use Rattle.jf_store.proofs.EventLaws.{AreEvents-done, AreEvents-undated, AreEvents-mark}
 use Rattle.jf_store.proofs.StartLaws.{start_in-grown}
 use Rattle.jf_store.proofs.VaultLaws.{entries_of-events_in, replay-events_in, is_marked-events_in, events_in-done, events_in-mark, length-events_in}
 use Rattle.jf_store.proofs.FloorLaws.{AreMet-more, AreMet-done, AreMet-mark}

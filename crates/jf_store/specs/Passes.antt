@@ -1,5 +1,5 @@
 -- What clauses see of a store and of its passes, and what a call makes of a pass.
-use Rattle.std.specs.Prelude.{◌≡◌, ◌⊎◌, ℕ, ◌+◌, ◌<◌, List, [], ◌∷◌, ◌++◌, drop, length, replicate, slice_index_or, Option, Some, None, false}
+use Rattle.std.specs.Prelude.{◌≡◌, ◌⊎◌, ℕ, ◌+◌, ◌<◌, List, [], ◌∷◌, ◌++◌, if◌then◌else◌, drop, length, replicate, slice_index_or, Option, Some, None, Bool, false}
 use Rattle.atomic_table.specs.Seated.{TableId}
 use Rattle.jf_model.specs.declared.entries.Entry.TheVariants as entry
 use Rattle.jf_model.specs.declared.entries.Landing.{Landing}
@@ -15,7 +15,7 @@ use Rattle.jf_turn.specs.Seats.{SeatState, TurnState}
 use Rattle.jf_store.specs.declared.event.Event.{Event}
 use Rattle.jf_store.specs.declared.event.Event.TheVariants.{Done, Mark}
 use Rattle.jf_store.specs.declared.tried.Attempt.{Attempt}
-use Rattle.jf_store.specs.Events.{pass_named_by, is_marked, landing_entry, attempted}
+use Rattle.jf_store.specs.Events.{pass_named_by, is_marked, entries_of, landing_entry, attempted}
 use Rattle.jf_store.specs.Starts.{Start}
 use Rattle.jf_store.specs.Ledgers.{AreEvents, state_behind}
 use Rattle.jf_store.specs.Refusals.{StoreFaults, IsRefusal}
@@ -72,6 +72,10 @@ pub record IsPass (s : SeatState Event Start) (p : PinsState) : Type 0 where
   pub numbers : s.numbers ≡ s.number ∷ []
   pub place : p.known.number ≡ s.number
   pub events : (start : Start) → s.origin ≡ Some start → AreEvents start s.seen × (s.number < start.passes) × (p.board ≡ start.board)
+
+-- whether there is a mark among events, and how many of them are entries
+abbrev pub IsCounted : Bool → List Event → Type 0
+IsCounted marked events = (marked ≡ is_marked events) × (length events ≡ length (entries_of events) + (if marked then 1 else 0))
 
 -- the pass is one of this store's
 abbrev pub IsPassOf : Pass → Store → Type 0

@@ -14,13 +14,9 @@ use Rattle.jf_store.specs.Refusals.{StoreFaults, IsRefusal, at_faults}
 use Rattle.jf_store.specs.Readings.{ReadsVersion}
 use Rattle.jf_store.specs.Passes.{Pass, OthersAlone}
 
--- the least place at which nothing is pinned, or the number of places
-abbrev pub least_unpinned : List (Option SnapshotValue) → ℕ
-least_unpinned pinned = position_or_len is_none pinned
-
--- all eight pins are taken
+-- all eight pins are taken: none of the eight places is free
 abbrev pub full_faults : List (Option SnapshotValue) → StoreFaults
-full_faults pinned = (nat_le 8 (least_unpinned pinned), store_fault.PinsFull) ∷ []
+full_faults pinned = (nat_le 8 (position_or_len is_none pinned), store_fault.PinsFull) ∷ []
 
 -- the faults of pinning a version, over the events that were seen, for a pass that has these pins
 abbrev pub pin_version_faults : ℕ → List (Option SnapshotValue) → Start → List Event → StoreFaults
@@ -38,7 +34,7 @@ pub record SeesToPin (version : ℕ) (old new : Pass) : Type 0 where
 pub record HasPinnedVersion (start : Start) (version : ℕ) (old new : Pass) (place : ℕ) : Type 0 where
   pub sees : SeesToPin version old new
   pub granted : first_of (pin_version_faults version old.pinned start new.seen) ≡ None
-  pub least : place ≡ least_unpinned old.pinned
+  pub least : place ≡ position_or_len is_none old.pinned
   pub within : place < 8
   pub snapshot : SnapshotValue
   pub read : ReadsVersion version (state_behind start new.seen) snapshot
@@ -57,7 +53,7 @@ pub record HasNotPinned (start : Start) (version : ℕ) (old new : Pass) (f : St
   pub keeps : KeepsPins version old new
   pub refusal : IsRefusal (pin_version_faults version old.pinned start new.seen) f
 
--- one try: the version was pinned, or it was retired after it was read
-abbrev pub HasTriedPin : Start → ℕ → Pass → Pass → Option ℕ → Type 0
-HasTriedPin start version old new None = KeepsPins version old new
-HasTriedPin start version old new (Some place) = HasPinnedVersion start version old new place
+-- the version was pinned, or it was retired after it was read and no pin changed
+abbrev pub PinsUnlessRetired : Start → ℕ → Pass → Pass → Option ℕ → Type 0
+PinsUnlessRetired start version old new None = KeepsPins version old new
+PinsUnlessRetired start version old new (Some place) = HasPinnedVersion start version old new place

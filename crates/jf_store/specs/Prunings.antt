@@ -62,11 +62,12 @@ pub record IsPinnedFloor (passes number : ℕ) (own : PlaceView) (s : State) (bo
   pub under : (version : ℕ) → HasConfirmed own version → floor ≤ max s.floor version
 
 -- ---- behind the turn
--- a pass with this place retired the versions below a bound
+-- a pass with this place retired the versions below a bound; the words are those that the vault's pruner loaded
 pub record PrunesIn (pass : ℕ) (own : PlaceView) (bound : ℕ) (old new : Vault) (r : Pruned) : Type 0 where
   pub adds : AddsTo old new (Done (entry.Retired pass bound r.floor))
   pub bound_is : r.bound ≡ bound
   pub found : HasFound (state_behind old.start old.events) old.start.passes own bound r.floor r.held
+  pub known : found.pruner ≡ new.pruner.known
 
 -- the disk failed in it
 pub record StopsPruning (pass : ℕ) (own : PlaceView) (bound : ℕ) (old new : Vault) : Type 0 where
@@ -74,6 +75,7 @@ pub record StopsPruning (pass : ℕ) (own : PlaceView) (bound : ℕ) (old new : 
   pub held : Option Held
   pub stops : StopsIn pass (attempt.Retires bound floor) old new
   pub found : HasFound (state_behind old.start old.events) old.start.passes own bound floor held
+  pub known : found.pruner ≡ new.pruner.known
 
 -- a pruning failed: the disk failed in it, or it was refused
 abbrev pub FailsPruning : ℕ → PlaceView → ℕ → Vault → Vault → StoreFault → Type 0

@@ -1,12 +1,14 @@
 // The end of a shared store.
-ghost use Rattle.std.specs.Prelude.{◌≡◌, ◌⊎◌, ℕ, ◌<◌, None, Some};
+ghost use Rattle.std.specs.Prelude.{◌≡◌, ◌⊎◌, ℕ, ◌<◌, ◌≤◌, None, Some};
 ghost use Rattle.jf_turn.specs.Lists.{HasElement, StartsWith};
 ghost use Rattle.jf_turn.specs.Seats.{OthersFollow, IsSeatOf};
 ghost use Rattle.jf_board.specs.Rule.{Has};
 ghost use Rattle.jf_store.specs.Events.{pass_named_by};
 ghost use Rattle.jf_store.specs.Passes.{OthersAlone, store_of};
+ghost use Rattle.jf_store.specs.Prunings.{HasConfirmed};
 ghost use Rattle.jf_store.specs.Closing.{AreAllPasses, ArePassesOf, IsClosed};
 
+use crate::boxed_vault::BoxedVault;
 use crate::pass::Pass;
 use crate::store::Store;
 use crate::vault::Vault;
@@ -25,10 +27,10 @@ pub struct Closed<D: Disk> {
 
 // Joins the seats of passes to one, takes the value, and joins the places of these passes to its pruner.
 fn end_turn<D: Disk>(
-    turn: Turn<Vault<D>>,
+    turn: Turn<BoxedVault<D>>,
     board: &Board,
     mut passes: Vec<Pass<D>>,
-    mut seat: Seat<Vault<D>>,
+    mut seat: Seat<BoxedVault<D>>,
 ) -> Vault<D>
     requires seat { IsSeatOf seat turn × (seat.taken ≡ None) }
     requires own { ArePassesOf (store_of turn) passes.items }
@@ -39,11 +41,17 @@ fn end_turn<D: Disk>(
     ensures others { OthersFollow pass_named_by seat result.events }
     ensures seen { (p : _) → HasElement passes.items p → StartsWith result.events p.seen × OthersAlone p result.events }
     ensures pins { (p : _) → HasElement passes.items p → (version : ℕ) → Has result.pruner.known.pairs (p.number, version) → Has p.place.announced version }
+    ensures spares { (p : _) → HasElement passes.items p → (version : ℕ) → HasConfirmed p.place version → result.pruner.known.cut ≤ version }
 {
     let Some(pass) = passes.pop() else {
-        return turn.close(seat);
+        let BoxedVault { vault } = turn.close(seat);
+        return Box::into_inner(vault);
     };
-    let Pass { seat: other, pins } = pass;
+    let Pass {
+        seat: other,
+        pins,
+        marked: _,
+    } = pass;
     seat.join(&turn, other);
     let mut vault = end_turn(turn, board, passes, seat);
     vault.join(board, pins.into_place());
@@ -61,7 +69,11 @@ impl<D: Disk> Store<D> {
         let Some(first) = passes.pop() else {
             unreachable!()
         };
-        let Pass { seat, pins } = first;
+        let Pass {
+            seat,
+            pins,
+            marked: _,
+        } = first;
         let mut vault = end_turn(turn, &board, passes, seat);
         vault.join(&board, pins.into_place());
         let (engine, _, entries) = vault.end();

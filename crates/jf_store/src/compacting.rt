@@ -8,6 +8,7 @@ ghost use Rattle.jf_store.specs.Vaults.{FailsIn};
 ghost use Rattle.jf_store.specs.Passes.{IsPassOf, HasFailed};
 ghost use Rattle.jf_store.specs.Compactions.{compact_faults, CompactsIn, HasCompacted};
 
+use crate::boxed_vault::{give_back, take_out};
 use crate::fault::StoreFault;
 use crate::pass::Pass;
 use crate::store::Store;
@@ -112,11 +113,10 @@ impl<D: Disk> Pass<D> {
         ensures compacted { IfOk result (HasCompacted store.now.start self.old self.new) }
         ensures failed { IfErr result (HasFailed store.now.start attempt.Compacts compact_faults self.old self.new) }
     {
-        let mut vault = self.seat.take(rt, &store.turn);
+        let mut vault = take_out(rt, &mut self.seat, &store.turn);
         let number = self.seat.number();
         let compacted = vault.compact(alloc, number);
-        vault.know();
-        self.seat.give(&store.turn, vault);
+        self.marked = give_back(&mut self.seat, &store.turn, vault);
         compacted
     }
 }

@@ -6,6 +6,7 @@ ghost use Rattle.jf_store.specs.Refusals.{make_faults, drop_faults};
 ghost use Rattle.jf_store.specs.Forkings.{parent_faults, MakesIn, DropsIn, RefusesIn, HasMade, HasDropped, HasBeenRefused};
 ghost use Rattle.jf_store.specs.Passes.{IsPassOf};
 
+use crate::boxed_vault::{give_back, take_out};
 use crate::fault::StoreFault;
 use crate::pass::Pass;
 use crate::store::Store;
@@ -149,11 +150,10 @@ impl<D: Disk> Pass<D> {
         ensures made { IfOk result (HasMade store.now.start parent batch.now self.old self.new) }
         ensures refused { IfErr result (HasBeenRefused store.now.start (make_faults parent) self.old self.new) }
     {
-        let mut vault = self.seat.take(rt, &store.turn);
+        let mut vault = take_out(rt, &mut self.seat, &store.turn);
         let number = self.seat.number();
         let forked = vault.make_fork(alloc, number, parent, batch);
-        vault.know();
-        self.seat.give(&store.turn, vault);
+        self.marked = give_back(&mut self.seat, &store.turn, vault);
         forked
     }
 
@@ -177,11 +177,10 @@ impl<D: Disk> Pass<D> {
         ensures dropped { IfOk result (HasDropped store.now.start id self.old self.new) }
         ensures refused { IfErr result (HasBeenRefused store.now.start (drop_faults id) self.old self.new) }
     {
-        let mut vault = self.seat.take(rt, &store.turn);
+        let mut vault = take_out(rt, &mut self.seat, &store.turn);
         let number = self.seat.number();
         let dropped = vault.drop_fork(number, id);
-        vault.know();
-        self.seat.give(&store.turn, vault);
+        self.marked = give_back(&mut self.seat, &store.turn, vault);
         dropped
     }
 }

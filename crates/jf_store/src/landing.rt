@@ -17,6 +17,7 @@ ghost use Rattle.jf_store.specs.Landings.{land_faults};
 ghost use Rattle.jf_store.specs.Vaults.{LandsIn, FailsIn};
 ghost use Rattle.jf_store.specs.Passes.{IsPassOf, HasLanded, HasFailed};
 
+use crate::boxed_vault::{give_back, take_out};
 use crate::fault::StoreFault;
 use crate::pass::Pass;
 use crate::store::Store;
@@ -204,11 +205,10 @@ impl<D: Disk> Pass<D> {
         ensures landed { IfOk result (HasLanded store.now.start (landing.Fork id) self.old self.new) }
         ensures failed { IfErr result (HasFailed store.now.start (attempt.Lands (landing.Fork id)) (land_faults id) self.old self.new) }
     {
-        let mut vault = self.seat.take(rt, &store.turn);
+        let mut vault = take_out(rt, &mut self.seat, &store.turn);
         let number = self.seat.number();
         let landed = vault.land_fork(rt, alloc, number, id, workers, gate);
-        vault.know();
-        self.seat.give(&store.turn, vault);
+        self.marked = give_back(&mut self.seat, &store.turn, vault);
         landed
     }
 }

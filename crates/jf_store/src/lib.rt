@@ -2,6 +2,7 @@
 #![tactic(auto)]
 
 mod beginning;
+mod boxed_vault;
 mod closing;
 mod compacting;
 mod event;
@@ -34,3 +35,4 @@ pub use pass::Pass;
 pub use pin_back::PinBack;
 pub use pruned::Pruned;
 pub use store::Store;
+pub use tried::Attempt;

@@ -6,6 +6,7 @@ ghost use Rattle.jf_store.specs.Starts.{start_with};
 ghost use Rattle.jf_store.specs.Passes.{AreNewPasses, store_of};
 
 use crate::beginning::Beginning;
+use crate::boxed_vault::BoxedVault;
 use crate::pass::Pass;
 use crate::pins::Pins;
 use crate::store::Store;
@@ -24,9 +25,9 @@ pub struct StoreRefused<D: Disk> {
 
 // A pass for each seat and its place.
 fn passes_of<D: Disk>(
-    turn: &Turn<Vault<D>>,
+    turn: &Turn<BoxedVault<D>>,
     board: &Board,
-    seats: Vec<Seat<Vault<D>>>,
+    seats: Vec<Seat<BoxedVault<D>>>,
     places: Vec<Place>,
     mut all: Vec<Pass<D>>,
 ) -> Vec<Pass<D>>
@@ -47,9 +48,42 @@ fn passes_of<D: Disk>(
             unreachable!()
         };
         let pins = Pins::new(place);
-        all.push_reserved(Pass { seat, pins });
+        all.push_reserved(Pass {
+            seat,
+            pins,
+            marked: false,
+        });
     }
     all
+}
+
+// Puts a vault behind a turn with so many seats. If memory runs out, its engine comes back.
+fn turn_of<D: Disk>(
+    alloc: Global,
+    vault: Vault<D>,
+    passes: u64,
+) -> Result<(Turn<BoxedVault<D>>, Vec<Seat<BoxedVault<D>>>), StoreRefused<D>>
+    requires passes { (1 ≤ passes) × (passes ≤ 16) }
+    requires new { vault.events ≡ [] }
+    ensures turn { IfOk result (λ r. (r.0.seats ≡ passes) × (r.0.origin ≡ vault.start)) }
+    ensures seats { IfOk result (λ r. (length r.1.items ≡ passes) × AreNewSeats r.0 r.1.items 0) }
+    ensures engine { IfErr result (λ e. e.engine ≡ vault.engine) }
+{
+    let vault = match Box::new(alloc, vault) {
+        Ok(vault) => vault,
+        Err(failed) => {
+            let (engine, _, _) = failed.value.end();
+            return Err(StoreRefused { engine });
+        }
+    };
+    match Turn::new(alloc, BoxedVault { vault }, passes) {
+        Ok(made) => Ok(made),
+        Err(TurnRefused { value }) => {
+            let BoxedVault { vault } = value;
+            let (engine, _, _) = Box::into_inner(vault).end();
+            Err(StoreRefused { engine })
+        }
+    }
 }
 
 impl<D: Disk> Store<D> {
@@ -77,15 +111,8 @@ impl<D: Disk> Store<D> {
             return Err(StoreRefused { engine });
         };
         let vault = Vault::begin(alloc, engine, beginning, pruner);
-        match Turn::new(alloc, vault, passes) {
-            Ok((turn, seats)) => {
-                let all = passes_of(&turn, &board, seats, places, all);
-                Ok((Store { turn, board }, all))
-            }
-            Err(TurnRefused { value }) => {
-                let (engine, _, _) = value.end();
-                Err(StoreRefused { engine })
-            }
-        }
+        let (turn, seats) = turn_of(alloc, vault, passes)?;
+        let all = passes_of(&turn, &board, seats, places, all);
+        Ok((Store { turn, board }, all))
     }
 }

@@ -4,16 +4,17 @@ ghost use Rattle.jf_path.specs.Checks.{first_of};
 ghost use Rattle.jf_model.specs.States.{IsState};
 ghost use Rattle.jf_model.specs.declared.entries.Landing.TheVariants as landing;
 ghost use Rattle.jf_store.specs.declared.tried.Attempt.TheVariants as attempt;
+ghost use Rattle.jf_store.specs.Events.{entries_of};
 ghost use Rattle.jf_store.specs.Ledgers.{state_behind, AreEvents};
 ghost use Rattle.jf_store.specs.Looks.{IsLook};
 ghost use Rattle.jf_store.specs.Refusals.{IsRefusal, look_faults, commit_faults};
 ghost use Rattle.jf_store.specs.Passes.{IsPassOf, Sees, HasLanded, HasFailed};
 
+use crate::boxed_vault::{BoxedVault, give_back, take_out};
 use crate::fault::StoreFault;
 use crate::look::Look;
 use crate::pins::Pins;
 use crate::store::Store;
-use crate::vault::Vault;
 use jf_disk::Disk;
 use jf_engine::Landed;
 use jf_join::Gate;
@@ -27,14 +28,16 @@ use std::thread::Threads;
 /// A pass of a shared store. It knows the events that it has seen, and holds up to eight pins.
 #[derive(Drop)]
 pub struct Pass<D: Disk> {
-    pub(crate) seat: Seat<Vault<D>>,
+    pub(crate) seat: Seat<BoxedVault<D>>,
     pub(crate) pins: Pins,
+    // Whether a mark is among what it has seen.
+    pub(crate) marked: bool,
 }
 
 impl<D: Disk> Model for Pass<D> {
     ghost use Rattle.std.specs.Coded.{codes};
     ghost use Rattle.jf_hash.specs.Codes.{map_code};
-    ghost use Rattle.jf_store.specs.Passes.{Pass, pass_of, IsPass};
+    ghost use Rattle.jf_store.specs.Passes.{Pass, pass_of, IsPass, IsCounted};
 
     ghost Value = { Pass };
 
@@ -42,7 +45,7 @@ impl<D: Disk> Model for Pass<D> {
 
     ghost view = { λ p. pass_of p.seat p.pins };
 
-    ghost invariant = { λ p. IsPass p.seat p.pins };
+    ghost invariant = { λ p. IsPass p.seat p.pins × IsCounted p.marked p.seat.seen };
 }
 
 impl<D: Disk> Pass<D> {
@@ -53,10 +56,13 @@ impl<D: Disk> Pass<D> {
         self.seat.number()
     }
 
-    /// How many events it has seen: the entries of the ledger and, once the disk has failed in a call, a mark.
+    /// How many entries of the ledger it has seen.
     pub fn seen(&self) -> u64
-        ensures { result ≡ length self.now.seen }
+        ensures { result ≡ length (entries_of self.now.seen) }
     {
+        if self.marked {
+            return self.seat.seen() - 1;
+        }
         self.seat.seen()
     }
 
@@ -85,10 +91,9 @@ impl<D: Disk> Pass<D> {
         ensures granted { OnOk result (first_of (look_faults store.now.start self.new.seen) ≡ None) }
         ensures refused { IfErr result (IsRefusal (look_faults store.now.start self.new.seen)) }
     {
-        let vault = self.seat.take(rt, &store.turn);
+        let vault = take_out(rt, &mut self.seat, &store.turn);
         let look = vault.look();
-        vault.know();
-        self.seat.give(&store.turn, vault);
+        self.marked = give_back(&mut self.seat, &store.turn, vault);
         look
     }
 
@@ -119,11 +124,10 @@ impl<D: Disk> Pass<D> {
         ensures landed { IfOk result (HasLanded store.now.start (landing.Direct batch.now) self.old self.new) }
         ensures failed { IfErr result (HasFailed store.now.start (attempt.Lands (landing.Direct batch.now)) commit_faults self.old self.new) }
     {
-        let mut vault = self.seat.take(rt, &store.turn);
+        let mut vault = take_out(rt, &mut self.seat, &store.turn);
         let number = self.seat.number();
         let landed = vault.commit(rt, alloc, number, batch, workers, gate);
-        vault.know();
-        self.seat.give(&store.turn, vault);
+        self.marked = give_back(&mut self.seat, &store.turn, vault);
         landed
     }
 }

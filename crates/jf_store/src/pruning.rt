@@ -6,6 +6,7 @@ ghost use Rattle.jf_store.specs.Passes.{IsPassOf, ArePins};
 ghost use Rattle.jf_store.specs.Stepped.{HasStepped, HasStopped, IsDatedEngine};
 ghost use Rattle.jf_store.specs.Prunings.{prune_faults, HasSwept, PrunesIn, FailsPruning, HasPruned, HasFailedPruning};
 
+use crate::boxed_vault::{give_back, take_out};
 use crate::fault::StoreFault;
 use crate::pass::Pass;
 use crate::pins::Pins;
@@ -170,11 +171,10 @@ impl<D: Disk> Pass<D> {
         ensures pruned { IfOk result (HasPruned store.now.start bound self.old self.new) }
         ensures failed { IfErr result (HasFailedPruning store.now.start bound self.old self.new) }
     {
-        let mut vault = self.seat.take(rt, &store.turn);
+        let mut vault = take_out(rt, &mut self.seat, &store.turn);
         let number = self.seat.number();
         let pruned = self.pins.prune(&mut vault, &store.board, number, bound);
-        vault.know();
-        self.seat.give(&store.turn, vault);
+        self.marked = give_back(&mut self.seat, &store.turn, vault);
         pruned
     }
 }

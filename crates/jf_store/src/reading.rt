@@ -6,6 +6,7 @@ ghost use Rattle.jf_store.specs.Refusals.{IsRefusal, at_faults, fork_faults, tre
 ghost use Rattle.jf_store.specs.Readings.{ReadsVersion, map_at_fork};
 ghost use Rattle.jf_store.specs.Passes.{IsPassOf, Sees};
 
+use crate::boxed_vault::{give_back, take_out};
 use crate::fault::StoreFault;
 use crate::pass::Pass;
 use crate::store::Store;
@@ -107,10 +108,9 @@ impl<D: Disk> Pass<D> {
         ensures below { OnOk result (version < 2 ^ 64 - 1) }
         ensures refused { IfErr result (IsRefusal (at_faults version store.now.start self.new.seen)) }
     {
-        let vault = self.seat.take(rt, &store.turn);
+        let vault = take_out(rt, &mut self.seat, &store.turn);
         let snapshot = vault.at(version);
-        vault.know();
-        self.seat.give(&store.turn, vault);
+        self.marked = give_back(&mut self.seat, &store.turn, vault);
         snapshot
     }
 
@@ -134,10 +134,9 @@ impl<D: Disk> Pass<D> {
         ensures granted { OnOk result (first_of (tree_faults id store.now.start self.new.seen) ≡ None) }
         ensures refused { IfErr result (IsRefusal (tree_faults id store.now.start self.new.seen)) }
     {
-        let vault = self.seat.take(rt, &store.turn);
+        let vault = take_out(rt, &mut self.seat, &store.turn);
         let tree = vault.tree(id);
-        vault.know();
-        self.seat.give(&store.turn, vault);
+        self.marked = give_back(&mut self.seat, &store.turn, vault);
         tree
     }
 }

@@ -1,5 +1,5 @@
 // A store that passes share.
-use crate::vault::Vault;
+use crate::boxed_vault::BoxedVault;
 use jf_board::Board;
 use jf_disk::Disk;
 use jf_turn::Turn;
@@ -7,7 +7,7 @@ use std::marker::Model;
 
 /// A store that 1 to 16 passes share, in any threads. What was done through it is kept until it is closed.
 pub struct Store<D: Disk> {
-    pub(crate) turn: Turn<Vault<D>>,
+    pub(crate) turn: Turn<BoxedVault<D>>,
     pub(crate) board: Board,
 }
 

@@ -1,14 +1,15 @@
 // What lies behind the turn.
-ghost use Rattle.std.specs.Prelude.{◌≡◌, ◌⊎◌, ℕ, ◌+◌, ◌-◌, ◌<◌, ◌≤◌, ◌^◌, [], ◌∷◌, ◌++◌, length, Err, Ok, IfOk, IfErr, OnOk, OnErr, true, false, Some, None};
+ghost use Rattle.std.specs.Prelude.{◌≡◌, ◌⊎◌, ℕ, ◌+◌, ◌-◌, ◌<◌, ◌≤◌, ◌^◌, [], ◌∷◌, ◌++◌, length, Err, Ok, IfSome, IfOk, IfErr, OnOk, OnErr, true, false, Some, None};
 ghost use Rattle.jf_path.specs.Checks.{first_of};
 ghost use Rattle.jf_disk.specs.Disk.{History};
 ghost use Rattle.jf_disk.specs.Moments.{ExtendsHistory};
 ghost use Rattle.jf_model.specs.States.{IsState};
 ghost use Rattle.jf_model.specs.declared.entries.Landing.TheVariants as landing;
-ghost use Rattle.jf_board.specs.Rule.{Has};
+ghost use Rattle.jf_model.specs.Entries.{after};
+ghost use Rattle.jf_board.specs.Rule.{Has, Below, hold_at};
 ghost use Rattle.jf_board.specs.Steps.{NumbersAreGiven};
 ghost use Rattle.jf_board.specs.States.{new_pruner};
-ghost use Rattle.jf_store.specs.Events.{pass_named_by, is_marked, entries_of, attempt_of};
+ghost use Rattle.jf_store.specs.Events.{is_marked, entries_of, attempt_of};
 ghost use Rattle.jf_store.specs.Starts.{start_with, IsBeginningOf};
 ghost use Rattle.jf_store.specs.Ledgers.{state_behind, AreEvents};
 ghost use Rattle.jf_store.specs.Kept.{IsKept};
@@ -19,10 +20,8 @@ ghost use Rattle.jf_store.specs.Vaults.{LandsIn, FailsIn};
 ghost use Rattle.jf_store.specs.declared.tried.Attempt.TheVariants as attempt;
 
 use crate::beginning::Beginning;
-use crate::event::Event;
 use crate::fault::StoreFault;
 use crate::look::Look;
-use crate::origin::Origin;
 use crate::stepping::land;
 use crate::tried::{Attempt, Tried};
 use jf_board::{Board, Place, Pruner};
@@ -32,7 +31,6 @@ use jf_forks::ForkTable;
 use jf_join::Gate;
 use jf_model::{Entry, Landing, Ledger};
 use jf_split::Batch;
-use jf_turn::Told;
 use std::alloc::Global;
 use std::marker::Model;
 use std::thread::Threads;
@@ -72,23 +70,6 @@ impl<D: Disk> Model for Vault<D> {
     ghost invariant = { λ v. IsVault v.beginning v.entries.items v.tried v.engine v.forks v.pruner };
 }
 
-impl<D: Disk> Told for Vault<D> {
-    type Entry = Event;
-
-    type Origin = Origin;
-
-    ghost list = { λ v. v.events };
-
-    ghost names = { λ x. pass_named_by x };
-
-    ghost origin = { λ v. v.start };
-
-    fn told(&self) -> u64 {
-        let marks = if self.tried.is_some() { 1 } else { 0 };
-        self.entries.len() as u64 + marks
-    }
-}
-
 impl<D: Disk> Vault<D> {
     // Over an engine that isn't broken and the pruner of a new board, with nothing done.
     pub(crate) fn begin(
@@ -124,6 +105,8 @@ impl<D: Disk> Vault<D> {
         ensures events { AreEvents self.start self.events }
         ensures kept { IsKept self.start (entries_of self.events) (attempt_of self.events) self.engine }
         ensures met { AreMet (Has self.pruner.known.pairs) self.start.state self.events }
+        ensures low { (state_behind self.start self.events).floor ≤ self.pruner.known.cut }
+        ensures low_tried { IfSome (attempt_of self.events) (λ e. (after e (state_behind self.start self.events)).floor ≤ self.pruner.known.cut) }
         ensures count { self.pruner.known.count ≡ self.start.passes }
         ensures board { self.pruner.board ≡ self.start.board }
         ensures grows { (h : History) → self.start.history ≡ Some h → (g : History) × (self.engine.history ≡ Some g) × ExtendsHistory h g }
@@ -140,15 +123,18 @@ impl<D: Disk> Vault<D> {
         (engine, pruner, Ledger::of(entries))
     }
 
-    // Joins a place to the pruner, for good. The place announced each version that the pruner loaded at its number.
+    // Joins a place to the pruner, for good. The place announced each version that the pruner loaded at its number, and the cut
+    // is at most each version that it has confirmed.
     pub(crate) fn join(&mut self, board: &Board, place: Place)
         requires place { place.board ≡ board.now }
         requires board { self.old.start.board ≡ board.now }
         ensures same { self.new ≡ record self.old { pruner = self.new.pruner } }
         ensures pairs { self.new.pruner.known.pairs ≡ self.old.pruner.known.pairs }
         ensures count { self.new.pruner.known.count ≡ self.old.pruner.known.count }
+        ensures cut { self.new.pruner.known.cut ≡ self.old.pruner.known.cut }
         ensures given { NumbersAreGiven self.old.pruner.known }
         ensures announced { (version : ℕ) → Has self.old.pruner.known.pairs (place.known.number, version) → Has place.known.announced version }
+        ensures below { (i : ℕ) → i < 8 → Below self.old.pruner.known.cut (hold_at place.known i) }
     {
         self.pruner.join(board, place);
     }

@@ -57,7 +57,11 @@ pub(crate) fn is_kept<H: Wait>(
 }
 
 // Pins the head. Returns the version and its place, or `None` if the head was pruned to since the look.
-fn pin_head<H: Wait>(rt: &H, store: &Store<MemDisk>, pass: &mut Pass<MemDisk>) -> Option<(u64, u64)>
+pub(crate) fn pin_head<H: Wait>(
+    rt: &H,
+    store: &Store<MemDisk>,
+    pass: &mut Pass<MemDisk>,
+) -> Option<(u64, u64)>
     requires { IsPassOf pass.old store.now }
     ensures { IsPassOf pass.new store.now × (pass.new.number ≡ pass.old.number) }
 {

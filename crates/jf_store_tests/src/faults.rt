@@ -93,8 +93,8 @@ fn succeed<H: Threads + Wait + Sync>(
     Ok(true)
 }
 
-// Whether the rows succeed, a further call meets the fault, all later ones are refused, and the pass has seen one event
-// for each row, and the mark.
+// Whether the rows succeed, a further call meets the fault, all later ones are refused, and the pass has seen one entry
+// for each row.
 fn breaks<H: Threads + Wait + Sync>(
     rt: &H,
     alloc: Global,
@@ -109,7 +109,7 @@ fn breaks<H: Threads + Wait + Sync>(
     let well = succeed(rt, alloc, store, pass, rows)?;
     let met: Answered = ask(rt, alloc, store, pass, call)?;
     let refused = are_refused(rt, alloc, store, pass)?;
-    let seen = (rows.len() as u64).saturating_add(1);
+    let seen = rows.len() as u64;
     Ok(well && met == Err(StoreFault::DiskFault) && refused && pass.seen() == seen)
 }
 

@@ -10,6 +10,8 @@ mod calls;
 #[cfg(test)]
 mod faults;
 #[cfg(test)]
+mod held;
+#[cfg(test)]
 mod passes;
 #[cfg(test)]
 mod pruner;

@@ -18,7 +18,7 @@ use std::thread;
 use std::thread::Threads;
 
 // How often each pass commits.
-const WRITES: u8 = 60;
+const WRITES: u8 = 100;
 
 // The first byte of the value at the key of a name.
 pub(crate) fn first_at(snapshot: &Snapshot, name: u8) -> Option<u8> {

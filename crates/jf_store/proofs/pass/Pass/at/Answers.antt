@@ -9,70 +9,71 @@ use Rattle.jf_store.specs.Ledgers.{state_behind}
 use Rattle.jf_store.specs.Readings.{ReadsVersion}
 use Rattle.jf_store.specs.Refusals.{IsRefusal, at_faults}
 use Rattle.jf_store.specs.Passes.{Pass, Store, pass_of, Sees}
-use Rattle.jf_store.proofs.PassLaws.{HasPassed, AddsNamed-none, Sees-passed, IsPass-passed}
+use Rattle.jf_store.specs.Vaults.{Vault}
+use Rattle.jf_store.proofs.PassLaws.{HasPassed, AddsNamed-none, Sees-passed, IsPass-passed, IsCounted-passed}
 use Rattle.jf_store.proofs.pass.Pass.at.Goals as goal
 
-pub give-requires-clause-goes_on : goal.give-requires-clause-goes_on
-give-requires-clause-goes_on g c =
-    let v = c.take-vault.result in
+pub give_back-self-inside-requires-clause-goes_on : goal.give_back-self-inside-requires-clause-goes_on
+give_back-self-inside-requires-clause-goes_on g c κs within =
+    let v = c.take_out-vault.result.value in
     let own = AddsNamed-none c.self.inside.seat.number v.events v.events refl in
-    subst (λ (t : SeatState Event Start). MayGive pass_named_by t v.events) (sym c.take-vault.ensures.takes) (v.events, own.0, refl, own.1, own.2)
+    subst (λ (t : SeatState Event Start). MayGive pass_named_by t v.events) (sym c.take_out-vault.ensures.takes) (v.events, own.0, refl, own.1, own.2)
 
 pub invariant_of-self : goal.invariant_of-self
 invariant_of-self g c =
     let start = c.args.store.now.start in
     let s = c.self.inside.seat in
-    let v = c.take-vault.result in
+    let v = c.take_out-vault.result.value in
     let origin : s.origin ≡ Some start = ap (λ (p : Pass). p.start) c.self.view_is ∙ c.requires.1 in
-    let began : v.start ≡ start = c.take-vault.ensures.origin ∙ ap (λ (t : Store). t.start) c.store.view_is in
-    let known = c.self.invariant.events start origin in
-    let h : HasPassed s c.give.new.self c.self.inside.pins v v start = record {
-      is = c.self.invariant;
-      after = c.give.ensures ∙ ap (λ (t : SeatState Event Start). giving t v.events) c.take-vault.ensures.takes;
+    let began : v.start ≡ start = c.take_out-vault.ensures.origin ∙ ap (λ (t : Store). t.start) c.store.view_is in
+    let known = c.self.invariant.0.events start origin in
+    let h : HasPassed s c.give_back-self-inside.new.seat c.self.inside.pins v v start = record {
+      is = c.self.invariant.0;
+      after = c.give_back-self-inside.ensures.seat ∙ ap (λ (t : SeatState Event Start). giving t v.events) c.take_out-vault.ensures.takes;
       began = began;
-      begins = c.take-vault.ensures.begins;
-      others = c.take-vault.ensures.others;
+      begins = c.take_out-vault.ensures.begins;
+      others = c.take_out-vault.ensures.others;
     } in
-    IsPass-passed s c.give.new.self c.self.inside.pins v v start h c.know.ensures.events refl origin known.1 known.2
+    (IsPass-passed s c.give_back-self-inside.new.seat c.self.inside.pins v v start h c.give_back-self-inside.ensures.events refl origin known.1 known.2, IsCounted-passed s c.give_back-self-inside.new.seat c.self.inside.pins v v start h c.give_back-self-inside.result c.give_back-self-inside.ensures.counted)
 
 pub returns-clause-sees : goal.returns-clause-sees
 returns-clause-sees g c =
     let start = c.args.store.now.start in
     let s = c.self.inside.seat in
-    let v = c.take-vault.result in
-    let began : v.start ≡ start = c.take-vault.ensures.origin ∙ ap (λ (t : Store). t.start) c.store.view_is in
-    let h : HasPassed s c.give.new.self c.self.inside.pins v v start = record {
-      is = c.self.invariant;
-      after = c.give.ensures ∙ ap (λ (t : SeatState Event Start). giving t v.events) c.take-vault.ensures.takes;
+    let v = c.take_out-vault.result.value in
+    let began : v.start ≡ start = c.take_out-vault.ensures.origin ∙ ap (λ (t : Store). t.start) c.store.view_is in
+    let h : HasPassed s c.give_back-self-inside.new.seat c.self.inside.pins v v start = record {
+      is = c.self.invariant.0;
+      after = c.give_back-self-inside.ensures.seat ∙ ap (λ (t : SeatState Event Start). giving t v.events) c.take_out-vault.ensures.takes;
       began = began;
-      begins = c.take-vault.ensures.begins;
-      others = c.take-vault.ensures.others;
+      begins = c.take_out-vault.ensures.begins;
+      others = c.take_out-vault.ensures.others;
     } in
-    subst (λ (p : Pass). Sees p (pass_of c.give.new.self c.self.inside.pins)) c.self.view_is (Sees-passed s c.give.new.self c.self.inside.pins v v start h refl)
+    subst (λ (p : Pass). Sees p (pass_of c.give_back-self-inside.new.seat c.self.inside.pins)) c.self.view_is (Sees-passed s c.give_back-self-inside.new.seat c.self.inside.pins v v start h refl)
 
 pub returns-clause-read : goal.returns-clause-read
 returns-clause-read g c =
     let start = c.args.store.now.start in
-    let v = c.take-vault.result in
-    let began : v.start ≡ start = c.take-vault.ensures.origin ∙ ap (λ (t : Store). t.start) c.store.view_is in
-    let seen : c.give.new.self.seen ≡ v.events = ap (λ (t : SeatState Event Start). t.seen) c.give.ensures in
+    let v = c.take_out-vault.result.value in
+    let began : v.start ≡ start = c.take_out-vault.ensures.origin ∙ ap (λ (t : Store). t.start) c.store.view_is in
+    let seen : c.give_back-self-inside.new.seat.seen ≡ v.events = ap (λ (t : SeatState Event Start). t.seen) c.give_back-self-inside.ensures.seat in
     subst (λ (es : List Event). IfOk c.at-snapshot.result (ReadsVersion c.args.version (state_behind start es))) (sym seen)
-    (subst (λ (t : Start). IfOk c.at-snapshot.result (ReadsVersion c.args.version (state_behind t v.events))) began c.at-snapshot.ensures.read)
+    (subst (λ (t : Start). IfOk c.at-snapshot.result (ReadsVersion c.args.version (state_behind t v.events))) began (subst (λ (u : Vault). IfOk c.at-snapshot.result (ReadsVersion c.args.version (state_behind u.start u.events))) c.deref.ensures c.at-snapshot.ensures.read))
 
 pub returns-clause-refused : goal.returns-clause-refused
 returns-clause-refused g c =
     let start = c.args.store.now.start in
-    let v = c.take-vault.result in
-    let began : v.start ≡ start = c.take-vault.ensures.origin ∙ ap (λ (t : Store). t.start) c.store.view_is in
-    let seen : c.give.new.self.seen ≡ v.events = ap (λ (t : SeatState Event Start). t.seen) c.give.ensures in
+    let v = c.take_out-vault.result.value in
+    let began : v.start ≡ start = c.take_out-vault.ensures.origin ∙ ap (λ (t : Store). t.start) c.store.view_is in
+    let seen : c.give_back-self-inside.new.seat.seen ≡ v.events = ap (λ (t : SeatState Event Start). t.seen) c.give_back-self-inside.ensures.seat in
     subst (λ (es : List Event). IfErr c.at-snapshot.result (IsRefusal (at_faults c.args.version start es))) (sym seen)
-    (subst (λ (t : Start). IfErr c.at-snapshot.result (IsRefusal (at_faults c.args.version t v.events))) began c.at-snapshot.ensures.refused)
+    (subst (λ (t : Start). IfErr c.at-snapshot.result (IsRefusal (at_faults c.args.version t v.events))) began (subst (λ (u : Vault). IfErr c.at-snapshot.result (IsRefusal (at_faults c.args.version u.start u.events))) c.deref.ensures c.at-snapshot.ensures.refused))
 
 pub returns-clause-granted : goal.returns-clause-granted
 returns-clause-granted g c =
     let start = c.args.store.now.start in
-    let v = c.take-vault.result in
-    let began : v.start ≡ start = c.take-vault.ensures.origin ∙ ap (λ (t : Store). t.start) c.store.view_is in
-    let seen : c.give.new.self.seen ≡ v.events = ap (λ (t : SeatState Event Start). t.seen) c.give.ensures in
+    let v = c.take_out-vault.result.value in
+    let began : v.start ≡ start = c.take_out-vault.ensures.origin ∙ ap (λ (t : Store). t.start) c.store.view_is in
+    let seen : c.give_back-self-inside.new.seat.seen ≡ v.events = ap (λ (t : SeatState Event Start). t.seen) c.give_back-self-inside.ensures.seat in
     subst (λ (es : List Event). OnOk c.at-snapshot.result (first_of (at_faults c.args.version start es) ≡ None)) (sym seen)
-    (subst (λ (t : Start). OnOk c.at-snapshot.result (first_of (at_faults c.args.version t v.events) ≡ None)) began c.at-snapshot.ensures.granted)
+    (subst (λ (t : Start). OnOk c.at-snapshot.result (first_of (at_faults c.args.version t v.events) ≡ None)) began (subst (λ (u : Vault). OnOk c.at-snapshot.result (first_of (at_faults c.args.version u.start u.events) ≡ None)) c.deref.ensures c.at-snapshot.ensures.granted))

@@ -1,7 +1,10 @@
-use Rattle.std.proofs.Common.{◌≡◌, ◌∙◌, ap, sym, subst, List, Option, Some, None}
+use Rattle.std.proofs.Common.{◌≡◌, ◌≤◌, ◌∙◌, ap, sym, subst, List, Option, Some, None}
+use Rattle.std.specs.Prelude.{IfSome}
+use Rattle.jf_model.specs.Entries.{after}
 use Rattle.jf_model.specs.declared.entries.Entry.{Entry}
 use Rattle.jf_board.specs.Rule.{Has}
 use Rattle.jf_store.specs.Floors.{AreMet}
+use Rattle.jf_store.specs.Ledgers.{state_behind}
 use Rattle.jf_store.specs.Kept.{IsKept}
 use Rattle.jf_store.specs.Starts.{start_in, first_state}
 use Rattle.jf_store.specs.Vaults.{Vault, events_in}
@@ -10,6 +13,7 @@ use Rattle.jf_disk.specs.Disk.{History}
 use Rattle.jf_disk.specs.Moments.{ExtendsHistory}
 use Rattle.jf_store.proofs.StartLaws.{history_at-extends, history_at-untold}
 use Rattle.jf_store.proofs.VaultLaws.{entries_of-events_in, attempt_of-events_in}
+use Rattle.jf_store.proofs.CutLaws.{floors-below_cut}
 use Rattle.jf_store.proofs.vault.Vault.end.Goals as goal
 
 pub returns-clause-entries : goal.returns-clause-entries
@@ -29,6 +33,17 @@ returns-clause-kept g c =
 
 pub returns-clause-met : goal.returns-clause-met
 returns-clause-met g c = subst (λ (v : Vault). AreMet (Has v.pruner.known.pairs) v.start.state v.events) c.self.view_is c.self.invariant.floors.met
+
+pub returns-clause-low : goal.returns-clause-low
+returns-clause-low g c =
+    let s = c.self.inside in
+    subst (λ (v : Vault). (state_behind v.start v.events).floor ≤ v.pruner.known.cut) c.self.view_is (floors-below_cut s.beginning s.entries.items s.tried s.engine s.forks s.pruner c.self.invariant).0
+
+pub returns-clause-low_tried : goal.returns-clause-low_tried
+returns-clause-low_tried g c =
+    let s = c.self.inside in
+    subst (λ (v : Vault). IfSome (attempt_of v.events) (λ e. (after e (state_behind v.start v.events)).floor ≤ v.pruner.known.cut)) c.self.view_is
+    (floors-below_cut s.beginning s.entries.items s.tried s.engine s.forks s.pruner c.self.invariant).1
 
 pub returns-clause-grows : goal.returns-clause-grows
 returns-clause-grows g c =
