@@ -7,4 +7,4 @@ mod LegalRuns
 pub mod OneSession
 pub mod Samples
 mod CommandSamples
-mod SparedPins
+pub mod SparedPins

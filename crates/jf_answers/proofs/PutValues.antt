@@ -1,13 +1,13 @@
 -- The value of a line `put` is bytes.
-use Rattle.std.specs.Prelude.{◌≡◌, ℕ, ◌+◌, ◌-◌, ◌*◌, ◌<◌, ◌≤◌, Bool, true, false, ◌&&◌, ◌==◌, cond, nat_le, length, List, [], ◌∷◌, Option, Some, None, option_map, option_and_then, if◌then◌else◌, IfSome, codes}
-use Rattle.std.proofs.Common.{refl, arith}
+use Rattle.std.specs.Prelude.{◌≡◌, ℕ, ◌+◌, ◌-◌, ◌*◌, ◌<◌, ◌≤◌, Bool, true, false, ◌&&◌, ◌==◌, cond, nat_le, length, List, [], ◌∷◌, Option, Some, None, option_and_then, if◌then◌else◌, IfSome}
+use Rattle.std.proofs.Common.{refl, subst, arith}
 use Rattle.jf_path.specs.Keys.{IsBytes}
 use Rattle.jf_path.specs.Limits.{max_value}
-use Rattle.jf_text.specs.Words.{both, digit, byte_of, unhex, bytes_within, value_of, name_of, number, number_from, max_chunk, is_word, words}
-use Rattle.jf_script.specs.declared.command.Base.{Base}
+use Rattle.jf_text.specs.Words.{both, digit, byte_of, unhex, bytes_within, value_of}
 use Rattle.jf_script.specs.declared.command.Command.{Command}
 use Rattle.jf_script.specs.declared.command.Command.TheVariants as command
-use Rattle.jf_script.specs.Commands.{base_of, parent_of, id_of, stored_of, one_word, two_words, three_words, four_words, command_of_words, command_of}
+use Rattle.jf_script.specs.Commands.{command_of}
+use Rattle.jf_script.proofs.EachCommand.{OfEachCommand, command_of-each}
 
 -- ---- hexadecimal text
 last_so : (a : Bool) (m n : ℕ) → (a && nat_le m n) ≡ true → m ≤ n
@@ -71,62 +71,30 @@ PutsBytes (command.Prune upto) = Unit {0}
 PutsBytes command.Compact = Unit {0}
 PutsBytes command.Status = Unit {0}
 
-abbrev Fine : Option Command → Type 0
-Fine o = IfSome o PutsBytes
+value_put : (w value : List ℕ) → value_of w ≡ Some value → IsBytes value
+value_put w value is = subst (λ (o : Option (List ℕ)). IfSome o IsBytes) is (value_of-IsBytes w)
 
-module _ {X : Type 0} (f : X → Command) (fine : (x : X) → PutsBytes (f x)) where
-  mapped : (o : Option X) → Fine (option_map f o)
-  mapped None = tt
-  mapped (Some x) = fine x
-
-module _ {X Y : Type 0} (f : X → Y → Command) (fine : (x : X) (y : Y) → PutsBytes (f x y)) where
-  paired : (o : Option X) (p : Option Y) → Fine (both f o p)
-  paired (Some x) (Some y) = fine x y
-  paired (Some x) None = tt
-  paired None p = tt
-
-chosen : (b : Bool) (x y : Option Command) → Fine x → Fine y → Fine (cond b x y)
-chosen true x y p q = p
-chosen false x y p q = q
-
-put_fine : (n v : Option (List ℕ)) → IfSome v IsBytes → Fine (both (λ name value. command.Put name value) n v)
-put_fine (Some name) (Some value) h = h
-put_fine (Some name) None h = tt
-put_fine None v h = tt
-
-one_fine : (w : List ℕ) → Fine (one_word w)
-one_fine w = chosen (is_word w (codes "commit")) _ _ tt (chosen (is_word w (codes "compact")) _ _ tt (chosen (is_word w (codes "status")) _ _ tt tt))
-
-two_fine : (w a : List ℕ) → Fine (two_words w a)
-two_fine w a =
-    chosen (is_word w (codes "del")) _ _ (mapped (λ name. command.Del name) (λ x. tt) (name_of a)) (chosen (is_word w (codes "fork")) _ _ (mapped (λ on. command.Fork on) (λ x. tt) (parent_of a))
-    (chosen (is_word w (codes "land")) _ _ (mapped (λ id. command.Land id) (λ x. tt) (id_of a)) (chosen (is_word w (codes "drop")) _ _ (mapped (λ id. command.Drop id) (λ x. tt) (id_of a))
-    (chosen (is_word w (codes "root")) _ _ (mapped (λ b. command.Root b) (λ x. tt) (base_of a)) (chosen (is_word w (codes "count")) _ _ (mapped (λ b. command.Count b) (λ x. tt) (stored_of a))
-    (chosen (is_word w (codes "pin")) _ _ (mapped (λ n. command.Pin n) (λ x. tt) (number a)) (chosen (is_word w (codes "unpin")) _ _ (mapped (λ n. command.Unpin n) (λ x. tt) (number a))
-    (chosen (is_word w (codes "prune")) _ _ (mapped (λ n. command.Prune n) (λ x. tt) (number a)) tt))))))))
-
-three_fine : (w a b : List ℕ) → Fine (three_words w a b)
-three_fine w a b =
-    chosen (is_word w (codes "put")) _ _ (put_fine (name_of a) (value_of b) (value_of-IsBytes b)) (chosen (is_word w (codes "get")) _ _ (paired (λ on name. command.Get on name) (λ x y. tt) (base_of a) (name_of b))
-    (chosen (is_word w (codes "prove")) _ _ (paired (λ on name. command.Prove on name) (λ x y. tt) (stored_of a) (name_of b))
-    (chosen (is_word w (codes "nth")) _ _ (paired (λ on place. command.Nth on place) (λ x y. tt) (stored_of a) (number b)) tt)))
-
-chunk_fine : (o : Option Base) (p q : Option ℕ) → Fine (option_and_then (λ on. both (λ start count. command.Chunk on start count) p q) o)
-chunk_fine None p q = tt
-chunk_fine (Some on) p q = paired (λ start count. command.Chunk on start count) (λ x y. tt) p q
-
-four_fine : (w a b c : List ℕ) → Fine (four_words w a b c)
-four_fine w a b c = chosen (is_word w (codes "chunk")) _ _ (chunk_fine (stored_of a) (number b) (number_from 1 max_chunk c)) tt
-
-words_fine : (ws : List (List ℕ)) → Fine (command_of_words ws)
-words_fine [] = tt
-words_fine (w ∷ []) = one_fine w
-words_fine (w ∷ a ∷ []) = two_fine w a
-words_fine (w ∷ a ∷ b ∷ []) = three_fine w a b
-words_fine (w ∷ a ∷ b ∷ c ∷ []) = four_fine w a b c
-words_fine (w ∷ a ∷ b ∷ c ∷ d ∷ ws) = tt
+puts_bytes : OfEachCommand PutsBytes
+puts_bytes = record {
+  put = λ w name value is. value_put w value is;
+  del = λ name. tt;
+  commit = tt;
+  fork = λ on. tt;
+  land = λ id. tt;
+  drop = λ id. tt;
+  get = λ on name. tt;
+  root = λ on. tt;
+  prove = λ w on name is. tt;
+  chunk = λ w v on start count is to. tt;
+  count = λ w on is. tt;
+  nth = λ w on place is. tt;
+  pin = λ version. tt;
+  unpin = λ place. tt;
+  prune = λ upto. tt;
+  compact = tt;
+  status = tt;
+}
 
 -- the command of a line puts bytes, if it puts anything
 pub command_of-PutsBytes : (line : List ℕ) → IfSome (command_of line) PutsBytes
-unfolding command_of
-command_of-PutsBytes line = words_fine (words line)
+command_of-PutsBytes line = elim (command_of line) as (λ (o : Option Command). command_of line ≡ o → IfSome o PutsBytes) [ None ↦ λ is. tt | Some c ↦ λ is. command_of-each PutsBytes puts_bytes line c is ] refl

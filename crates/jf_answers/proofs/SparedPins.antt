@@ -143,13 +143,15 @@ unfolding replay
 replay-floor s [] legal = le_refl s.floor
 replay-floor s (e ∷ es) legal = let first = after-floor s e legal.0 in let more = replay-floor (after e s) es legal.1 in omega arith
 
-front-floor : (s : State) (es : List Entry) (count : ℕ) → AreLegal s es → (replay s (take count es)).floor ≤ (replay s es).floor
+-- a first part of the entries leads to no higher floor
+pub front-floor : (s : State) (es : List Entry) (count : ℕ) → AreLegal s es → (replay s (take count es)).floor ≤ (replay s es).floor
 unfolding replay
 front-floor s es zero legal = replay-floor s es legal
 front-floor s [] (suc count) legal = le_refl s.floor
 front-floor s (e ∷ es) (suc count) legal = front-floor (after e s) es count legal.1
 
-lower : (low high : ℕ) (ps : List (Option ℕ)) → low ≤ high → AllByRecursion (λ pin. IfSome pin (λ p. high ≤ p)) ps → AllByRecursion (λ pin. IfSome pin (λ p. low ≤ p)) ps
+-- what is above no pin is so if it is lower
+pub lower : (low high : ℕ) (ps : List (Option ℕ)) → low ≤ high → AllByRecursion (λ pin. IfSome pin (λ p. high ≤ p)) ps → AllByRecursion (λ pin. IfSome pin (λ p. low ≤ p)) ps
 lower low high [] h pins = tt
 lower low high (None ∷ ps) h pins = (tt, lower low high ps h pins.1)
 lower low high (Some v ∷ ps) h pins = (let first = pins.0 in omega arith, lower low high ps h pins.1)
