@@ -24,7 +24,7 @@ use Rattle.jf_store.proofs.EventLaws.{entries_of-append, entries_of-mark, attemp
 use Rattle.jf_answers.specs.Own.{Own, begun_session}
 use Rattle.jf_answers.specs.OwnLines.{pin_of}
 use Rattle.jf_answers.specs.Explains.{Timeline, IsAmong, Answered, AreAnswered, Looks, Changes, GivesEntry, GaveOneMore, IsSession, AreSessions, IsAttempt, next_line, own_after_replies, seen_after_replies, places_owned, places_told, pins_of, timeline_of}
-use Rattle.jf_history.specs.Sessions.{Session, HaveMet, FollowsLine, IsTry, IsIdle, seen_by, timeline}
+use Rattle.jf_history.specs.Sessions.{Session, HaveMet, FollowsLine, IsTry, HasDoneNothing, seen_by, timeline}
 use Rattle.jf_history.specs.Runs.{EndsBy, IsAtRest}
 use Rattle.jf_history.specs.Serving.{Served, LosesReplies, IsServed, AreServed, FailedIn, scripts_of, replies_of, passes_of}
 use Rattle.jf_history.specs.declared.end.End.{End}
@@ -79,7 +79,7 @@ follows_announced mid last line next is f version there = elim (f.announced vers
   | inr named ↦ inr (line, is, named)
 ]
 
-idle_rests : (mid last : Session) (line : List ℕ) (next : Option (List ℕ)) → next ≡ Some line → IsIdle mid last line → Rests mid.pass last.pass next
+idle_rests : (mid last : Session) (line : List ℕ) (next : Option (List ℕ)) → next ≡ Some line → HasDoneNothing mid last line → Rests mid.pass last.pass next
 idle_rests mid last line next is idle = record {
   begins = idle.follows.begins;
   number = ap (λ (p : Pass). p.number) idle.follows.same;
@@ -260,7 +260,7 @@ served_at store wanted n (x ∷ xs) s ys h =
     let far : n + 1 + length xs ≡ n + length (x ∷ xs) = omega arith in
     subst (λ (k : ℕ). IsServed store wanted k s) far (served_at store wanted (n + 1) xs s ys h.1)
 
-pass_there : (xs : List Served) (s : Served) (ys : List Served) → HasElement (passes_of (xs ++ s ∷ ys)) s.pass
+pub pass_there : (xs : List Served) (s : Served) (ys : List Served) → HasElement (passes_of (xs ++ s ∷ ys)) s.pass
 pass_there [] s ys = (0, refl)
 pass_there (x ∷ xs) s ys = let r = pass_there xs s ys in (suc r.0, r.1)
 
@@ -333,7 +333,7 @@ unmarked_none (Done y ∷ xs) pass e none there = elim (has_cons (Done y) xs (Ma
 ]
 unmarked_none (Mark p y ∷ xs) pass e none there = absurd (cc)
 
-idle_unmarked : (mid last : Session) (line : List ℕ) (pass : ℕ) (e : Entry) → IsIdle mid last line → is_marked mid.pass.seen ≡ false → mid.pass.number ≡ pass → HasElement last.pass.seen (Mark pass e) → ⊥
+idle_unmarked : (mid last : Session) (line : List ℕ) (pass : ℕ) (e : Entry) → HasDoneNothing mid last line → is_marked mid.pass.seen ≡ false → mid.pass.number ≡ pass → HasElement last.pass.seen (Mark pass e) → ⊥
 idle_unmarked mid last line pass e idle none number there =
     unmarked_none mid.pass.seen pass e none (own_seen mid.pass last.pass.seen idle.follows.begins idle.others (Mark pass e) there (sym number))
 

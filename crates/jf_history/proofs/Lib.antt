@@ -7,6 +7,7 @@ pub mod HeldFloors
 pub mod OneSession
 pub mod Steps
 pub mod Closed
+pub mod Spared
 pub mod OneRun
 pub mod Samples
 pub mod Replies

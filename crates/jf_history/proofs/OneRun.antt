@@ -16,7 +16,7 @@ use Rattle.jf_answers.specs.Answers.{answer}
 use Rattle.jf_answers.specs.Runs.{answers_from, answers, answer_text, texts_of}
 use Rattle.jf_answers.specs.Explains.{Answered}
 use Rattle.jf_history.specs.Sessions.{Session, seen_by, IsTry}
-use Rattle.jf_history.specs.Runs.{HasAnswered, ReadsBy, Reads, IsCut, IsAtRest, Ran}
+use Rattle.jf_history.specs.Runs.{HasAnswered, ReadsBy, HasReadInput, IsCut, IsAtRest, HasRunOver}
 use Rattle.jf_history.specs.Alone.{IsCutAnswer, WritesAlone, TriesAlone, RanAlone}
 use Rattle.jf_history.specs.declared.end.End.{End}
 use Rattle.jf_history.specs.declared.end.End.TheVariants as end
@@ -113,7 +113,7 @@ module _ (store : Store) (mid : Session) (ls : List (List ℕ)) (rs : List Answe
 
 module _ (store : Store) (new : Pass) (rest rest' text text' : Option (List ℕ)) (one : store.start.passes ≡ 1) (none : store.start.state.count ≡ 0) (are : AreEvents store.start new.seen) where
   -- a run that ended after the lines done
-  ran_still : (e : End) (r : Ran e store.start (new_pass store 0) new rest rest' text text') → new.seen ≡ r.mid.pass.seen
+  ran_still : (e : End) (r : HasRunOver e store.start (new_pass store 0) new rest rest' text text') → new.seen ≡ r.mid.pass.seen
       → (g : Agrees store.start.state (begun_session 0) r.done r.replies (seen_by new)) × (attempt_of new.seen ≡ None)
   ran_still e r same = (
     subst (λ (xs : List Event). Agrees store.start.state (begun_session 0) r.done r.replies (entries_of xs)) (sym same)
@@ -123,7 +123,7 @@ module _ (store : Store) (new : Pass) (rest rest' text text' : Option (List ℕ)
 
   -- a run whose output was cut
   cut_reads : (e : End) → ((taken left : List ℕ) (ls : List (List ℕ)) → ReadsBy e taken left ls) → (ls : List (List ℕ)) (n : ℕ) (next : Option (List ℕ))
-      → ((all : List ℕ) → rest ≡ Some all → (left : List ℕ) × (rest' ≡ Some left) × Reads e all left ls next) → (all : List ℕ) → rest ≡ Some all → (left : List ℕ) × (rest' ≡ Some left) × Reads e all left (take n ls) None
+      → ((all : List ℕ) → rest ≡ Some all → (left : List ℕ) × (rest' ≡ Some left) × HasReadInput e all left ls next) → (all : List ℕ) → rest ≡ Some all → (left : List ℕ) × (rest' ≡ Some left) × HasReadInput e all left (take n ls) None
   cut_reads e far ls n next reads all is =
       let x = reads all is in (
         x.0,
@@ -131,7 +131,7 @@ module _ (store : Store) (new : Pass) (rest rest' text text' : Option (List ℕ)
         record { taken = x.2.taken; split = x.2.split; first = AreFirst-take x.2.taken x.0 ls n x.2.first; far = far x.2.taken x.0 (take n ls); begun = tt },
       )
 
-  ran_cut : (e : End) → ((taken left : List ℕ) (ls : List (List ℕ)) → ReadsBy e taken left ls) → (r : Ran e store.start (new_pass store 0) new rest rest' text text') → new.seen ≡ r.mid.pass.seen → (c : IsCut r.replies r.writes.text)
+  ran_cut : (e : End) → ((taken left : List ℕ) (ls : List (List ℕ)) → ReadsBy e taken left ls) → (r : HasRunOver e store.start (new_pass store 0) new rest rest' text text') → new.seen ≡ r.mid.pass.seen → (c : IsCut r.replies r.writes.text)
       → (IsCutAnswer store.start.state (take c.count r.done) r.writes.text → WritesAlone e store.start.state (take c.count r.done) r.writes.text)
       → (attempt_of new.seen ≡ None → TriesAlone e (answers store.start.state (take c.count r.done)) None (attempt_of new.seen)) → RanAlone e store.start.state (seen_by new) (attempt_of new.seen) rest rest' text text'
   ran_cut e far r same c writes tries =
@@ -150,7 +150,7 @@ module _ (store : Store) (new : Pass) (rest rest' text text' : Option (List ℕ)
         reads = cut_reads e far r.done c.count r.next r.reads;
       }
 
-  seen_last : (e : End) (r : Ran e store.start (new_pass store 0) new rest rest' text text') → AreEvents store.start r.last.pass.seen
+  seen_last : (e : End) (r : HasRunOver e store.start (new_pass store 0) new rest rest' text text') → AreEvents store.start r.last.pass.seen
   seen_last e r = subst (λ (p : Pass). AreEvents store.start p.seen) r.pass_is are
 
 pub one_run_is_alone : OneRunIsAlone

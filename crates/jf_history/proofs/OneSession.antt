@@ -282,7 +282,8 @@ one_session_is_alone store now ls rs one none are a =
 
 -- ---- the mark
 
-mark_there : (s : State) (xs : List Event) (pass : ℕ) (e : Entry) → MarkIsLast s (xs ++ Mark pass e ∷ []) → is_marked xs ≡ false → IsUndone s pass e
+-- a mark is that of an entry that was not done
+pub mark_there : (s : State) (xs : List Event) (pass : ℕ) (e : Entry) → MarkIsLast s (xs ++ Mark pass e ∷ []) → is_marked xs ≡ false → IsUndone s pass e
 mark_there s [] pass e m none = m.1
 mark_there s (Done x ∷ xs) pass e m none = mark_there s xs pass e m none
 mark_there s (Mark p x ∷ xs) pass e m none = absurd (cc)

@@ -1,6 +1,6 @@
 -- Worked sessions: the definitions on small inputs.
-use Rattle.std.specs.Prelude.{ℕ, false, [], ◌∷◌, ◌≡◌, refl, None, Some, codes}
-use Rattle.std.proofs.Common.{sym, ap, inl, inr, arith}
+use Rattle.std.specs.Prelude.{ℕ, zero, suc, false, [], ◌∷◌, ◌≡◌, refl, replicate, slice_index_or, Option, None, Some, codes}
+use Rattle.std.proofs.Common.{sym, ap, inl, inr, subst, arith}
 use Rattle.std.specs.Fmt.{digits}
 use Rattle.atomic_table.specs.Seated.{TableId}
 use Rattle.jf_hash.specs.Maps.{apply}
@@ -11,8 +11,10 @@ use Rattle.jf_model.specs.Entries.{after, replay}
 use Rattle.jf_text.specs.Words.{words, number, unhex}
 use Rattle.jf_script.specs.Commands.{command_of, base_of}
 use Rattle.jf_script.specs.declared.reply.Reply.TheVariants as reply
+use Rattle.jf_node.specs.SnapshotValue.{SnapshotValue}
+use Rattle.jf_board.specs.declared.views.Hold.TheVariants as hold
 use Rattle.jf_store.specs.declared.event.Event.TheVariants.{Done}
-use Rattle.jf_store.specs.Passes.{Store, Pass, new_pass}
+use Rattle.jf_store.specs.Passes.{Store, Pass, IsPinned, none_pinned, new_pass}
 use Rattle.jf_answers.specs.Own.{Own, begun_session}
 use Rattle.jf_answers.specs.Answers.{answer}
 use Rattle.jf_answers.specs.Refusals.{refused_by}
@@ -76,6 +78,15 @@ session = record { pass = after_landing; own = begun_session 0; over = false }
 abbrev told : Answered
 told = record { number = 1; text = said 1 (reply.Commit 1 empty_root); entry = Some landed; own = begun_session 0 }
 
+-- nothing is pinned, and each place of the board is free
+same_at : {X : Type 0} (x : X) (n i : ℕ) → slice_index_or (replicate n x) i x ≡ x
+same_at x zero i = refl
+same_at x (suc n) zero = refl
+same_at x (suc n) (suc i) = same_at x n i
+
+none_at : (i : ℕ) → IsPinned (slice_index_or none_pinned i None) (slice_index_or (replicate 8 hold.Free) i hold.Free)
+none_at i = subst (λ (o : Option SnapshotValue). IsPinned o (slice_index_or (replicate 8 hold.Free) i hold.Free)) (sym (same_at None 8 i)) (same_at hold.Free 8 i)
+
 replied : HasReplied (store_of 1).start (new_session (new_pass (store_of 1) 0)) session (codes "commit") told
 unfolding answer command_of base_of words number unhex digits refused_by after replay apply
 replied =
@@ -83,7 +94,7 @@ replied =
     record {
       follows = record { begins = (Done landed ∷ [], refl); same = refl; announced = λ version h. inl h };
       unmarked = refl;
-      pins = refl;
+      pins = record { versions = refl; eight = refl; board = λ i small. none_at i };
       own = refl;
       number = refl;
       answered = λ pins met. record {

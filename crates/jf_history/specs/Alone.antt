@@ -7,7 +7,7 @@ use Rattle.jf_answers.specs.Answers.{answer}
 use Rattle.jf_answers.specs.Runs.{Run, answers, text_of, run_entries}
 use Rattle.jf_answers.specs.Explains.{Answered, text_in}
 use Rattle.jf_history.specs.Sessions.{Session, seen_by}
-use Rattle.jf_history.specs.Runs.{Reads}
+use Rattle.jf_history.specs.Runs.{HasReadInput}
 use Rattle.jf_history.specs.declared.end.End.{End}
 use Rattle.jf_history.specs.declared.end.End.TheVariants as end
 
@@ -58,4 +58,4 @@ pub record RanAlone (e : End) (s : State) (entries : List Entry) (attempt : Opti
   pub written : List ℕ
   pub writes : WritesAlone e s done written
   pub appended : text' ≡ option_map (λ t. t ++ written) text
-  pub reads : (all : List ℕ) → rest ≡ Some all → (left : List ℕ) × (rest' ≡ Some left) × Reads e all left done next
+  pub reads : (all : List ℕ) → rest ≡ Some all → (left : List ℕ) × (rest' ≡ Some left) × HasReadInput e all left done next

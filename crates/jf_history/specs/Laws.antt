@@ -1,21 +1,23 @@
 -- Laws on sessions over passes.
-use Rattle.std.specs.Prelude.{◌≡◌, ℕ, ◌<◌, List, [], ◌∷◌, ◌++◌, length, Option, Some}
+use Rattle.std.specs.Prelude.{◌≡◌, ℕ, ◌<◌, false, List, [], ◌∷◌, ◌++◌, length, Option, Some}
+use Rattle.jf_disk.specs.Disk.{History}
 use Rattle.jf_model.specs.States.{State}
 use Rattle.jf_model.specs.declared.entries.Entry.{Entry}
 use Rattle.jf_engine.specs.Engines.{Engine}
 use Rattle.jf_store.specs.declared.event.Event.{Event}
-use Rattle.jf_store.specs.Events.{attempt_of}
+use Rattle.jf_store.specs.Events.{attempt_of, is_marked}
 use Rattle.jf_store.specs.Starts.{Start}
 use Rattle.jf_store.specs.Ledgers.{AreEvents}
 use Rattle.jf_store.specs.Passes.{Store, Pass, Sees, SeesOwn, new_pass}
 use Rattle.jf_store.specs.Closing.{IsClosed}
-use Rattle.jf_answers.specs.Own.{Own}
+use Rattle.jf_answers.specs.Own.{Own, begun_session}
 use Rattle.jf_answers.specs.Runs.{answers}
-use Rattle.jf_answers.specs.Explains.{Answered, AreAnswered, ExplainsAnswers, IsAttempt, timeline_of}
-use Rattle.jf_history.specs.Sessions.{Session, new_session, seen_by, HasReplied, IsTry, IsBroken, HasLooked, HasChanged, look_reply, change_reply}
-use Rattle.jf_history.specs.Runs.{HasAnswered, Ran}
+use Rattle.jf_answers.specs.Explains.{Answered, AreAnswered, ExplainsAnswers, IsAttempt, own_after_replies, timeline_of}
+use Rattle.jf_history.specs.Sessions.{Session, HoldsPins, new_session, seen_by, HasReplied, IsTry, IsBroken, HasLooked, HasChanged, look_reply, change_reply}
+use Rattle.jf_history.specs.Runs.{HasAnswered, HasRunOver}
 use Rattle.jf_history.specs.Alone.{AnswersAlone, IsTried, RanAlone}
-use Rattle.jf_history.specs.Serving.{Served, AreServed, FailedIn, scripts_of, replies_of, passes_of}
+use Rattle.jf_history.specs.Sparing.{SparesPinsSince}
+use Rattle.jf_history.specs.Serving.{Served, IsServed, AreServed, FailedIn, scripts_of, replies_of, passes_of}
 use Rattle.jf_history.specs.declared.end.End.{End}
 use Rattle.jf_history.specs.declared.end.End.TheVariants as end
 
@@ -33,9 +35,9 @@ LooksReply = (start : Start) (old new : Session) (line : List ℕ) → HasLooked
 abbrev pub ChangesReply : Type 0
 ChangesReply = (start : Start) (old new : Session) (before : List Event) (e : Entry) (line : List ℕ) → HasChanged start old new before e line → HasReplied start old new line (change_reply start old before e line)
 
--- a new pass has answered no line
+-- a session that begins over a pass has answered no line
 abbrev pub NoneAnswered : Type 0
-NoneAnswered = (store : Store) (n : ℕ) → HasAnswered store.start (new_pass store n) (new_session (new_pass store n)) [] []
+NoneAnswered = (start : Start) (p : Pass) → is_marked p.seen ≡ false → HoldsPins (new_session p) → HasAnswered start p (new_session p) [] []
 
 -- a line more
 abbrev pub OneMoreAnswered : Type 0
@@ -73,7 +75,7 @@ OneSessionIsNeverBroken = (store : Store) (mid last : Session) (ls : List (List 
 -- a whole run
 abbrev pub OneRunIsAlone : Type 0
 OneRunIsAlone = (store : Store) (e : End) (new : Pass) (rest rest' text text' : Option (List ℕ)) → store.start.passes ≡ 1 → store.start.state.count ≡ 0 → AreEvents store.start new.seen
-    → Ran e store.start (new_pass store 0) new rest rest' text text' → RanAlone e store.start.state (seen_by new) (attempt_of new.seen) rest rest' text text'
+    → HasRunOver e store.start (new_pass store 0) new rest rest' text text' → RanAlone e store.start.state (seen_by new) (attempt_of new.seen) rest rest' text text'
 
 -- ---- a store that was closed
 -- its history explains all its sessions
@@ -91,3 +93,8 @@ ClosedTries = (store : Store) (before after : List Served) (s : Served) (wanted 
 abbrev pub ClosedBlames : Type 0
 ClosedBlames = (store : Store) (ss : List Served) (wanted : List ℕ) (entries : List Entry) (engine : Engine) (e : Entry) → store.start.passes ≡ length ss
     → (closed : IsClosed store.start (passes_of ss) entries engine) → AreServed store wanted 0 ss → attempt_of closed.events ≡ Some e → FailedIn store.start.state entries ss e
+
+-- each image left since it began stands for versions of which the floor is above no version that a session has pinned after its replies
+abbrev pub ClosedSparesPins : Type 0
+ClosedSparesPins = (store : Store) (before after : List Served) (s : Served) (wanted : List ℕ) (entries : List Entry) (engine : Engine) → IsClosed store.start (passes_of (before ++ s ∷ after)) entries engine
+    → (served : IsServed store wanted (length before) s) → (h : History) → engine.history ≡ Some h → SparesPinsSince store.start.moment h (own_after_replies (begun_session (length before)) served.had)

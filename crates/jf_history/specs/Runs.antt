@@ -12,7 +12,7 @@ use Rattle.jf_store.specs.Passes.{Pass}
 use Rattle.jf_answers.specs.Own.{Own, begun_session}
 use Rattle.jf_answers.specs.OwnLines.{pin_of}
 use Rattle.jf_answers.specs.Explains.{IsAmong, Answered, AreAnswered, own_after_replies, seen_after_replies, places_owned, places_told, text_in}
-use Rattle.jf_history.specs.Sessions.{Session, HoldsPins, HaveMet, HeldFloor, timeline, seen_by, IsTry, IsBroken, IsIdle}
+use Rattle.jf_history.specs.Sessions.{Session, HoldsPins, HaveMet, HeldFloor, timeline, seen_by, IsTry, IsBroken, HasDoneNothing}
 use Rattle.jf_history.specs.declared.end.End.{End}
 use Rattle.jf_history.specs.declared.end.End.TheVariants as end
 
@@ -22,7 +22,7 @@ abbrev pub AreHeld : Start → List Entry → Own → List Answered → Type 0
 AreHeld start es own [] = Unit {0}
 AreHeld start es own (r ∷ rs) = IfSome r.entry (HeldFloor start own (replay start.state (take (r.number - 1) es))) × AreHeld start es r.own rs
 
--- a session answered these lines, its first, one after another, over a pass that had seen nothing. The entries of its number are those that the lines gave, each at its own place
+-- a session answered these lines, its first, one after another, over a pass. The entries of its number, after those that the pass had seen, are those that the lines gave, each at its own place
 pub record HasAnswered (start : Start) (old : Pass) (now : Session) (ls : List (List ℕ)) (rs : List Answered) : Type 0 where
   pub begins : StartsWith now.pass.seen old.seen
   pub same : now.pass ≡ record old { seen = now.pass.seen; place = now.pass.place; pinned = now.pass.pinned }
@@ -30,11 +30,11 @@ pub record HasAnswered (start : Start) (old : Pass) (now : Session) (ls : List (
   pub unmarked : is_marked now.pass.seen ≡ false
   pub pins : HoldsPins now
   pub all : length rs ≡ length ls
-  pub answered : (pins : List ℕ) → HaveMet pins start now.pass.seen → AreAnswered (timeline start pins now.pass.seen) (begun_session old.number) 0 ls rs
+  pub answered : (pins : List ℕ) → HaveMet pins start now.pass.seen → AreAnswered (timeline start pins now.pass.seen) (begun_session old.number) (length (seen_by old)) ls rs
   pub held : AreHeld start (seen_by now.pass) (begun_session old.number) rs
-  pub places : places_owned old.number 0 (seen_by now.pass) ≡ places_told rs
+  pub places : places_owned old.number 0 (seen_by now.pass) ≡ places_owned old.number 0 (seen_by old) ++ places_told rs
   pub own : now.own ≡ own_after_replies (begun_session old.number) rs
-  pub number : seen_after_replies 0 rs ≡ length (seen_by now.pass)
+  pub number : seen_after_replies (length (seen_by old)) rs ≡ length (seen_by now.pass)
 
 -- ---- the lines that were read
 -- how far the input was read, by how the run ended
@@ -47,7 +47,7 @@ ReadsBy end.Broken taken left ls = Unit {0}
 ReadsBy end.Memory taken left ls = Unit {0}
 
 -- of an input all but `left` was taken; these lines are the first of those read, as many as the end of the run says. The next line, if one was begun, was read too
-pub record Reads (e : End) (all left : List ℕ) (ls : List (List ℕ)) (next : Option (List ℕ)) : Type 0 where
+pub record HasReadInput (e : End) (all left : List ℕ) (ls : List (List ℕ)) (next : Option (List ℕ)) : Type 0 where
   pub taken : List ℕ
   pub split : all ≡ taken ++ left
   pub first : AreFirst taken left ls
@@ -84,7 +84,7 @@ pub record Writes (e : End) (rs : List Answered) (old new : Option (List ℕ)) :
 -- nothing was begun after the lines done, or a line at which nothing was done
 abbrev pub IsAtRest : Session → Session → Option (List ℕ) → Type 0
 IsAtRest mid last None = last ≡ mid
-IsAtRest mid last (Some line) = IsIdle mid last line
+IsAtRest mid last (Some line) = HasDoneNothing mid last line
 
 -- the session at the end, against the one after the lines done
 abbrev pub EndsBy : End → Start → Session → Session → Option (List ℕ) → Type 0
@@ -96,7 +96,7 @@ EndsBy end.Broken start mid last next = (line : List ℕ) × (next ≡ Some line
 EndsBy end.Memory start mid last next = IsAtRest mid last next
 
 -- a run over the rest of an input, whose replies are appended to a text
-pub record Ran (e : End) (start : Start) (old new : Pass) (rest rest' text text' : Option (List ℕ)) : Type 0 where
+pub record HasRunOver (e : End) (start : Start) (old new : Pass) (rest rest' text text' : Option (List ℕ)) : Type 0 where
   pub done : List (List ℕ)
   pub replies : List Answered
   pub next : Option (List ℕ)
@@ -106,4 +106,4 @@ pub record Ran (e : End) (start : Start) (old new : Pass) (rest rest' text text'
   pub ends : EndsBy e start mid last next
   pub pass_is : new ≡ last.pass
   pub writes : Writes e replies text text'
-  pub reads : (all : List ℕ) → rest ≡ Some all → (left : List ℕ) × (rest' ≡ Some left) × Reads e all left done next
+  pub reads : (all : List ℕ) → rest ≡ Some all → (left : List ℕ) × (rest' ≡ Some left) × HasReadInput e all left done next

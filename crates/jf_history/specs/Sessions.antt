@@ -1,9 +1,10 @@
 -- One script over a pass of a shared store: what a line makes of it.
-use Rattle.std.specs.Prelude.{◌≡◌, ◌⊎◌, ℕ, ◌<◌, ◌+◌, ◌-◌, Bool, true, false, if◌then◌else◌, is_some, List, [], ◌∷◌, ◌++◌, map, take, length, Option, Some, None, option_map, IfSome, IsTrue}
+use Rattle.std.specs.Prelude.{◌≡◌, ◌⊎◌, ℕ, ◌<◌, ◌+◌, ◌-◌, Bool, true, false, if◌then◌else◌, is_some, List, [], ◌∷◌, ◌++◌, map, take, length, slice_index_or, Option, Some, None, option_map, IfSome, IsTrue}
 use Rattle.jf_model.specs.States.{State}
 use Rattle.jf_model.specs.Entries.{replay, owner_of}
 use Rattle.jf_model.specs.declared.entries.Entry.{Entry}
 use Rattle.jf_node.specs.SnapshotValue.{SnapshotValue}
+use Rattle.jf_board.specs.Rule.{hold_at}
 use Rattle.jf_turn.specs.Lists.{HasElement, StartsWith}
 use Rattle.jf_store.specs.declared.event.Event.{Event}
 use Rattle.jf_store.specs.declared.event.Event.TheVariants.{Done, Mark}
@@ -11,7 +12,7 @@ use Rattle.jf_store.specs.Events.{entries_of, is_marked}
 use Rattle.jf_store.specs.Starts.{Start}
 use Rattle.jf_store.specs.Ledgers.{state_behind}
 use Rattle.jf_store.specs.Floors.{IsMet, AreMet}
-use Rattle.jf_store.specs.Passes.{Pass, OthersAlone, SeesOwn}
+use Rattle.jf_store.specs.Passes.{Pass, IsPinned, OthersAlone, SeesOwn}
 use Rattle.jf_answers.specs.Own.{Own, begun_session, pinned}
 use Rattle.jf_answers.specs.Answers.{answer}
 use Rattle.jf_answers.specs.Runs.{answer_text}
@@ -36,9 +37,11 @@ seen_by p = entries_of p.seen
 abbrev pub pinned_versions : List (Option SnapshotValue) → List (Option ℕ)
 pinned_versions ss = map (λ s. option_map (λ t. t.version) s) ss
 
--- the pins that the session keeps for itself are those that its pass holds on the board
-abbrev pub HoldsPins : Session → Type 0
-HoldsPins s = s.own.pins ≡ pinned_versions s.pass.pinned
+-- the pins that the session keeps for itself are those that its pass holds on the board: there are eight, and each version is confirmed there
+pub record HoldsPins (s : Session) : Type 0 where
+  pub versions : s.own.pins ≡ pinned_versions s.pass.pinned
+  pub eight : length s.pass.pinned ≡ 8
+  pub board : (i : ℕ) → i < 8 → IsPinned (slice_index_or s.pass.pinned i None) (hold_at s.pass.place i)
 
 -- ---- what a history is to the session
 -- what a pass has seen, as a history; lines of the store's sessions ask to pin these versions
@@ -89,15 +92,16 @@ pub record IsTry (start : Start) (old new : Session) (line : List ℕ) : Type 0 
   pub own : new.own ≡ old.own
 
 -- nothing was done at the line, though the pass may have seen more
-pub record IsIdle (old new : Session) (line : List ℕ) : Type 0 where
+pub record HasDoneNothing (old new : Session) (line : List ℕ) : Type 0 where
   pub follows : FollowsLine old.pass new.pass line
   pub others : OthersAlone old.pass new.pass.seen
   pub pins : new.pass.pinned ≡ old.pass.pinned
+  pub holds : HoldsPins new
   pub own : new.own ≡ old.own
 
 -- the pass met the mark of an earlier call, at a line that asks the store
 pub record IsBroken (old new : Session) (line : List ℕ) : Type 0 where
-  pub idle : IsIdle old new line
+  pub idle : HasDoneNothing old new line
   pub marked : is_marked new.pass.seen ≡ true
   pub asks : is_own_line line ≡ false
 

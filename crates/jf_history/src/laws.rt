@@ -1,5 +1,5 @@
 // Laws on sessions over passes, for proofs of code that stands on them. These functions do nothing when they run.
-ghost use Rattle.jf_history.specs.Laws.{AnswersStay, LooksReply, ChangesReply, NoneAnswered, OneMoreAnswered, OnePassSees, OnePassAdds, OnePassCloses, OneSessionIsAlone, OneSessionTries, OneSessionIsNeverBroken, OneRunIsAlone, ClosedExplains, ClosedTries, ClosedBlames};
+ghost use Rattle.jf_history.specs.Laws.{AnswersStay, LooksReply, ChangesReply, NoneAnswered, OneMoreAnswered, OnePassSees, OnePassAdds, OnePassCloses, OneSessionIsAlone, OneSessionTries, OneSessionIsNeverBroken, OneRunIsAlone, ClosedExplains, ClosedTries, ClosedBlames, ClosedSparesPins};
 
 /// What was answered stays so where entries follow.
 pub fn answers_stay()
@@ -16,7 +16,7 @@ pub fn changes_reply()
     ensures { ChangesReply }
 {}
 
-/// A new pass has answered no line.
+/// A session that begins over a pass has answered no line.
 pub fn none_answered()
     ensures { NoneAnswered }
 {}
@@ -76,4 +76,10 @@ pub fn closed_tries()
 /// attempt.
 pub fn closed_blames()
     ensures { ClosedBlames }
+{}
+
+/// No image left since a store began, which was then closed, stands for versions with a floor above a version that one of its
+/// sessions has pinned in the end.
+pub fn closed_spares_pins()
+    ensures { ClosedSparesPins }
 {}

@@ -14,7 +14,7 @@ use Rattle.jf_store.specs.Images.{AreWithin}
 use Rattle.jf_run.specs.Commands.{opens, is_verify, is_closing, is_disk_fault, status_of_refusal}
 use Rattle.jf_run.specs.declared.words.Mode.{Mode}
 use Rattle.jf_run.specs.Calls.{ProgramCall, Devices}
-use Rattle.jf_run.specs.Promises.{IsClosedCall, GoesForward, Stands, IsOpenedCall, KeepsPromises}
+use Rattle.jf_run.specs.Promises.{IsClosedCall, GoesForward, StandsForEntries, IsOpenedCall, KeepsPromises}
 use Rattle.jf_run.specs.Judging.{HasJudged}
 use Rattle.jf_run.specs.declared.words.Mode.TheVariants as mode
 use Rattle.jf_run.specs.declared.status.Status.TheVariants as status
@@ -66,7 +66,7 @@ memory_keeps c all_sound same start none memory =
       forward = forward_untouched c disk none (subst (λ (d : Devices). c.before.source_faults ≤ d.source_faults) (sym same) (le_refl c.before.source_faults))
           (subst (λ (d : Devices). c.before.sink_faults ≤ d.sink_faults) (sym same) (le_refl c.before.sink_faults));
       files = record {
-        stands = λ h told v stands sound. subst (λ es. Stands c.after.disk.history v (generation (reads h)) es) (sym none) (stands-left h h v c.after.disk.history all_sound (ap (λ (d : DiskView). d.history) disk ∙ told) refl stands);
+        stands = λ h told v stands sound. subst (λ es. StandsForEntries c.after.disk.history v (generation (reads h)) es) (sym none) (stands-left h h v c.after.disk.history all_sound (ap (λ (d : DiskView). d.history) disk ∙ told) refl stands);
         complete = λ h told v stands some a b d. inr memory;
       };
       closed = subst (λ o. IfNone o (IsClosedCall c)) (sym start) (closed_untouched c disk none (λ e. subst (λ s. IsTrue (is_closing s)) (sym memory) refl));
@@ -91,7 +91,7 @@ usage_keeps c all_sound same start none usage asks =
       forward = forward_untouched c disk none (subst (λ (d : Devices). c.before.source_faults ≤ d.source_faults) (sym same) (le_refl c.before.source_faults))
           (subst (λ (d : Devices). c.before.sink_faults ≤ d.sink_faults) (sym same) (le_refl c.before.sink_faults));
       files = record {
-        stands = λ h told v stands sound. subst (λ es. Stands c.after.disk.history v (generation (reads h)) es) (sym none) (stands-left h h v c.after.disk.history all_sound (ap (λ (d : DiskView). d.history) disk ∙ told) refl stands);
+        stands = λ h told v stands sound. subst (λ es. StandsForEntries c.after.disk.history v (generation (reads h)) es) (sym none) (stands-left h h v c.after.disk.history all_sound (ap (λ (d : DiskView). d.history) disk ∙ told) refl stands);
         complete = λ h told v stands some a b d. absurd (true≢false (sym some ∙ ap (λ (o : Option Mode). is_some o) asks));
       };
       closed = subst (λ o. IfNone o (IsClosedCall c)) (sym start) (closed_untouched c disk none (λ e. subst (λ s. IsTrue (is_closing s)) (sym usage) refl));
@@ -112,7 +112,7 @@ judged_keeps c all_sound same start none verify j read write source sink = recor
   };
   forward = forward_untouched c same none source sink;
   files = record {
-    stands = λ h told v stands sound. subst (λ es. Stands c.after.disk.history v (generation (reads h)) es) (sym none) (stands-left h h v c.after.disk.history all_sound (ap (λ (d : DiskView). d.history) same ∙ told) refl stands);
+    stands = λ h told v stands sound. subst (λ es. StandsForEntries c.after.disk.history v (generation (reads h)) es) (sym none) (stands-left h h v c.after.disk.history all_sound (ap (λ (d : DiskView). d.history) same ∙ told) refl stands);
     complete = λ h told v stands some a b d. judged_well j.end c.status j.how_is (λ r. steady c.before.source_faults c.after.source_faults a.0 a.1 (read r)) (λ w. steady c.before.sink_faults c.after.sink_faults b.0 b.1 (write w));
   };
   closed = subst (λ o. IfNone o (IsClosedCall c)) (sym start) (closed_untouched c same none (λ e. absurd (true≢false (sym verify ∙ e))));
@@ -144,7 +144,7 @@ refused_keeps c why all_sound none_stand start none runs is r source sink = reco
     sink_faults = sink;
   };
   files = record {
-    stands = λ h told v stands sound. subst (λ es. Stands c.after.disk.history v (generation (reads h)) es) (sym none) (refused-stands h v c.after.disk.history why all_sound (subst (λ s. IsFalse (is_disk_fault s)) is sound) stands (r.left h told));
+    stands = λ h told v stands sound. subst (λ es. StandsForEntries c.after.disk.history v (generation (reads h)) es) (sym none) (refused-stands h v c.after.disk.history why all_sound (subst (λ s. IsFalse (is_disk_fault s)) is sound) stands (r.left h told));
     complete = λ h told v stands some ss ks ds.
         inr (is ∙ refused_for_memory why (λ where_ at damaged. none_stand (reads h) v where_ at stands (r.damaged h told where_ at damaged)) (λ fault. steady c.before.disk.faults c.after.disk.faults ds.0 ds.1 (r.cause fault)));
   };

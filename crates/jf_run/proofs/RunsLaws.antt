@@ -1,6 +1,6 @@
 -- Laws on a script over a store of one pass: what its closing gives, or want of memory for it.
 use Rattle.std.specs.Prelude.{IfSome, is_some}
-use Rattle.std.proofs.Common.{◌≡◌, ℕ, zero, suc, take, true, Option, Some, None, List, [], ◌∷◌, refl, sym, ap, ◌∙◌, subst, arith, inl, le_refl}
+use Rattle.std.proofs.Common.{◌≡◌, ℕ, zero, suc, take, length, true, Option, Some, None, List, [], ◌∷◌, refl, sym, ap, ◌∙◌, subst, arith, inl, le_refl}
 use Rattle.jf_path.specs.Faults.{HasCause}
 use Rattle.jf_disk.specs.Disk.{History}
 use Rattle.jf_disk.proofs.MomentLaws.{left_now, same_extends}
@@ -21,17 +21,19 @@ use Rattle.jf_store.specs.Ledgers.{MarkIsLast, AreEvents, state_behind}
 use Rattle.jf_store.specs.Kept.{IsKept}
 use Rattle.jf_store.specs.Passes.{Store, Pass, new_pass}
 use Rattle.jf_store.specs.Closing.{IsClosed}
+use Rattle.jf_store.specs.Images.{Outlasts}
 use Rattle.jf_store.proofs.ImageLaws.{IsFrontImage-all}
+use Rattle.jf_store.proofs.EntryTimes.{OutlastsEach-none}
 use Rattle.jf_answers.specs.Runs.{answers_from, answers}
 use Rattle.jf_answers.specs.Laws.{SparesPins, FloorSparesPins, EntrySparesPins}
 use Rattle.jf_history.specs.Sessions.{seen_by}
-use Rattle.jf_history.specs.Runs.{Ran}
+use Rattle.jf_history.specs.Runs.{HasRunOver}
 use Rattle.jf_history.specs.Alone.{RanAlone}
 use Rattle.jf_history.specs.Laws.{OnePassCloses, OneRunIsAlone}
 use Rattle.jf_history.specs.declared.end.End.{End}
 use Rattle.jf_history.specs.declared.end.End.TheVariants as end
-use Rattle.jf_run.specs.Runs.{IsDatedDisk, HasRun}
-use Rattle.jf_run.proofs.SparedRuns.{run-StaysUnderPins, run-SparesPinsSince}
+use Rattle.jf_run.specs.Runs.{IsDatedDisk, StaysUnderPins, HasRun}
+use Rattle.jf_run.proofs.SparedRuns.{run-StaysUnderPins, run-SparesPinsSince, run-LastsByLine}
 
 -- a disk that shows the same
 pub view-same : (o o' : Option History) (m m' n n' : ℕ) → o ≡ o' → m ≡ m' → n ≡ n' → disk_view o m n ≡ disk_view o' m' n'
@@ -49,6 +51,11 @@ attempt_caused : (o : Option Entry) (old new : ℕ) → (is_some o ≡ true → 
 attempt_caused None old new c = tt
 attempt_caused (Some e) old new c = c refl
 
+-- what holds of each entry that was tried
+for_attempt : (o : Option Entry) (P : Entry → Type 0) → ((e : Entry) → o ≡ Some e → P e) → IfSome o P
+for_attempt None P h = tt
+for_attempt (Some e) P h = h e refl
+
 -- ---- a store that was closed
 module _ (store : Store) (p : Pass) (es : List Entry) (e : Engine) (closes : OnePassCloses) (one : store.start.passes ≡ 1) (number : p.number ≡ 0) (closed : IsClosed store.start (p ∷ []) es e) where
   same : closed.events ≡ p.seen
@@ -64,7 +71,7 @@ module _ (store : Store) (p : Pass) (es : List Entry) (e : Engine) (closes : One
   kept = subst (λ (xs : List Event). IsKept store.start es (attempt_of xs) e) same closed.kept
 
   -- the only pass's run is a run of the whole store
-  run_of_pass : (how : End) (rest rest' text text' : Option (List ℕ)) → OneRunIsAlone → FloorSparesPins → EntrySparesPins → store.start.state.count ≡ 0 → Ran how store.start (new_pass store 0) p rest rest' text text'
+  run_of_pass : (how : End) (rest rest' text text' : Option (List ℕ)) → OneRunIsAlone → FloorSparesPins → EntrySparesPins → store.start.state.count ≡ 0 → HasRunOver how store.start (new_pass store 0) p rest rest' text text'
       → HasRun how store.start.state (disk_view store.start.history store.start.moment store.start.faults) (disk_view e.history e.moment e.faults) es (attempt_of p.seen) rest rest' text text'
   run_of_pass how rest rest' text text' alone floors tries none ran =
       let lone : RanAlone how store.start.state es (attempt_of p.seen) rest rest' text text' = subst (λ (xs : List Entry). RanAlone how store.start.state xs (attempt_of p.seen) rest rest' text text') (sym entries_are) (alone store how p rest rest' text text' one none events ran) in record {
@@ -78,12 +85,14 @@ module _ (store : Store) (p : Pass) (es : List Entry) (e : Engine) (closes : One
         extends = closed.grows;
         safe = λ h told. let g = closed.grows h told in (g.0, g.1, λ t since f left. (kept.outlasts g.0 g.1).images t f since left);
         held = λ h told. let g = closed.grows h told in (g.0, g.1, run-SparesPinsSince store.start.state es (attempt_of p.seen) lone.done store.start.moment g.0 lone.entries_are (run-StaysUnderPins floors tries how store.start.state es (attempt_of p.seen) rest rest' text text' kept.sound lone) (λ t since f left. (kept.outlasts g.0 g.1).images t f since left));
+        lined = λ h told. let g = closed.grows h told in (g.0, g.1, run-LastsByLine store.start es (attempt_of p.seen) lone.done g.0 lone.entries_are (run-StaysUnderPins floors tries how store.start.state es (attempt_of p.seen) rest rest' text text' kept.sound lone) (kept.each g.0 g.1));
+        stopped = for_attempt (attempt_of p.seen) _ (λ x is h told. let g = closed.grows h told in (g.0, g.1, (kept.outlasts g.0 g.1).stopped x is));
         settled = λ unmarked h told. let g = closed.grows h told in (g.0, g.1, (kept.outlasts g.0 g.1).settled unmarked);
       }
 
 -- a store of one pass that began with an engine was closed
 pub closed_run : (first last : Engine) (store : Store) (p : Pass) (es : List Entry) (how : End) (rest rest' text text' : Option (List ℕ)) → OnePassCloses → OneRunIsAlone → FloorSparesPins → EntrySparesPins
-    → store.start ≡ start_with first 1 store.start.board → p.number ≡ 0 → IsClosed store.start (p ∷ []) es last → Ran how store.start (new_pass store 0) p rest rest' text text'
+    → store.start ≡ start_with first 1 store.start.board → p.number ≡ 0 → IsClosed store.start (p ∷ []) es last → HasRunOver how store.start (new_pass store 0) p rest rest' text text'
     → HasRun how (opened first.versions first.generation) (disk_view first.history first.moment first.faults) (disk_view last.history last.moment last.faults) es (attempt_of p.seen) rest rest' text text'
 closed_run first last store p es how rest rest' text text' closes alone floors tries begins number closed ran =
     subst (λ (s : Start). HasRun how s.state (disk_view s.history s.moment s.faults) (disk_view last.history last.moment last.faults) es (attempt_of p.seen) rest rest' text text') begins
@@ -111,23 +120,42 @@ unfolding answers_from
 none_pinned s zero count = (tt, (tt, (tt, (tt, (tt, (tt, (tt, (tt, tt))))))))
 none_pinned s (suc n) count = (tt, (tt, (tt, (tt, (tt, (tt, (tt, (tt, tt))))))))
 
+-- a beginning with this engine
+abbrev beginning : Engine → Start
+beginning e = start_with e 1 (record { words = 0; slots = 0; views_name = 0; atom = 0; block = 0; offset = 0; slot_names = [] })
+
+-- a disk outlasts no entries if it is settled on the engine's versions
+none_outlasted : (e : Engine) (h : History) → IsVersions e.versions → length h.before ≡ e.moment → IsSettledOn h e.versions e.generation → Outlasts (beginning e) [] None h
+unfolding replay
+none_outlasted e h sound dated settled =
+    let s = opened e.versions e.generation in
+    let here : e.versions ≡ versions (replay s []) = sym (versions-opened e.versions e.generation sound) in
+    record {
+      images = λ t f since left. inl (IsFrontImage-all f t s [] (subst (λ v. StandsFor f v) here (settled.leaves f (left_now h t f (omega (arith, dated, since)) left))));
+      settled = λ unmarked. subst (λ v. IsSettledOn h v e.generation) here settled;
+      stopped = λ x is. absurd (let none : None ≡ Some x = is in cc);
+    }
+
 -- a run over an engine at which nothing was done
 pub refused_run : (e : Engine) (rest text : Option (List ℕ)) → IsVersions e.versions → IsDatedDisk (disk_view e.history e.moment e.faults) → ((h : History) → e.history ≡ Some h → IsSettledOn h e.versions e.generation)
     → HasRun end.Memory (opened e.versions e.generation) (disk_view e.history e.moment e.faults) (disk_view e.history e.moment e.faults) [] None rest rest text text
 unfolding replay alone_none
 refused_run e rest text sound dated settled =
     let s = opened e.versions e.generation in
-    let here : e.versions ≡ versions (replay s []) = sym (versions-opened e.versions e.generation sound) in
+    let spared : StaysUnderPins s [] None [] = record { fronts = λ n count within. none_pinned s n count; tried = tt } in
+    let o : (h : History) → e.history ≡ Some h → Outlasts (beginning e) [] None h = λ h told. none_outlasted e h sound (dated h told) (settled h told) in
     record {
       ran = alone_none s rest text;
-      spared = record { fronts = λ n count within. none_pinned s n count; tried = tt };
+      spared = spared;
       legal = tt;
       tried = tt;
       cause = tt;
       landings = le_refl e.moment;
       faults = le_refl e.faults;
       extends = λ h told. (h, told, same_extends h);
-      safe = λ h told. (h, told, λ t since f left. inl (IsFrontImage-all f t s [] (subst (λ v. StandsFor f v) here ((settled h told).leaves f (left_now h t f (omega (arith, dated h told, since)) left)))));
-      held = λ h told. (h, told, λ t f since left. (versions (replay s []), subst (λ v. StandsFor f v) here ((settled h told).leaves f (left_now h t f (omega (arith, dated h told, since)) left)), none_pinned s 0 0));
-      settled = λ unmarked h told. (h, told, subst (λ v. IsSettledOn h v e.generation) here (settled h told));
+      safe = λ h told. (h, told, λ t since f left. (o h told).images t f since left);
+      held = λ h told. (h, told, run-SparesPinsSince s [] None [] e.moment h refl spared (λ t since f left. (o h told).images t f since left));
+      lined = λ h told. (h, told, run-LastsByLine (beginning e) [] None [] h refl spared (OutlastsEach-none (beginning e) h (dated h told) (o h told)));
+      stopped = tt;
+      settled = λ unmarked h told. (h, told, (o h told).settled unmarked);
     }

@@ -1,15 +1,17 @@
 -- The floor stays under what a session pins, in a run of its own.
 use Rattle.std.specs.Prelude.{IfSome, option_to_list}
-use Rattle.std.proofs.Common.{◌≡◌, inl, inr, ℕ, ◌≤◌, Option, List, ◌++◌, map, take, drop, length, sym, ap, ◌∙◌, subst, arith}
+use Rattle.std.proofs.Common.{◌≡◌, inl, inr, ℕ, ◌≤◌, Option, Some, None, List, ◌++◌, map, take, drop, length, refl, sym, ap, ◌∙◌, subst, arith}
 use Rattle.std.proofs.Math.Seq.{take-append_seam, take-length}
-use Rattle.std.proofs.lemmas.List.{length-map, take-map, take-append-le, take-append-drop}
+use Rattle.std.proofs.lemmas.List.{length-map, length-take, take-map, take-append-le, take-append-drop}
 use Rattle.std.proofs.lemmas.List.Concat.{flat_map-append}
 use Rattle.jf_model.specs.Versions.{Versions}
 use Rattle.jf_model.specs.States.{State, IsState, versions}
-use Rattle.jf_disk.specs.Disk.{Files, History}
+use Rattle.jf_disk.specs.Disk.{History}
 use Rattle.jf_files.specs.Files.{StandsFor}
 use Rattle.jf_model.specs.Entries.{after, replay, timeless}
 use Rattle.jf_model.specs.declared.entries.Entry.{Entry}
+use Rattle.jf_store.specs.Starts.{Start}
+use Rattle.jf_store.specs.Images.{Outlasts, OutlastsEach}
 use Rattle.jf_answers.specs.Own.{begun_session}
 use Rattle.jf_answers.specs.Runs.{answers, answers_from, run_entries}
 use Rattle.jf_answers.specs.Laws.{SparesPins, FloorSparesPins, EntrySparesPins}
@@ -17,7 +19,8 @@ use Rattle.jf_answers.proofs.RunLaws.{answers_from-append}
 use Rattle.jf_history.specs.Alone.{RanAlone, TriesAlone}
 use Rattle.jf_history.specs.declared.end.End.{End}
 use Rattle.jf_history.specs.declared.end.End.TheVariants as end
-use Rattle.jf_run.specs.Runs.{StaysUnderPins, SparesPinsSince}
+use Rattle.jf_history.specs.Sparing.{SparesPinsSince}
+use Rattle.jf_run.specs.Runs.{StaysUnderPins, LastsByLine}
 use Rattle.jf_run.specs.Stops.{IsSafeSince}
 
 -- the entries of the first lines are the first of the entries
@@ -79,3 +82,35 @@ run-SparesPinsSince s es attempt done moment h same under safe = λ t f since le
           (versions (replay s (take front.count es)), front.stands, subst (λ (ls : List (List ℕ)). SparesPins (answers s ls).own (replay s (take front.count es)).floor) (take-length done) (under.fronts (length done) front.count short))
       | inr last ↦ (versions (after last.tried (replay s es)), last.stands, subst (λ (o : Option Entry). IfSome o (λ e. SparesPins (answers s done).own (after e (replay s es)).floor)) last.is_attempt under.tried)
     ]
+
+-- ---- line by line
+module _ (start : Start) (es : List Entry) (attempt : Option Entry) (done : List (List ℕ)) (h : History) (same : map timeless es ≡ run_entries (answers start.state done))
+    (under : StaysUnderPins start.state es attempt done) (e : OutlastsEach start es h) where
+  -- the first lines gave no more than all entries
+  first_within : (n : ℕ) → length (run_entries (answers start.state (take n done))) ≤ length es
+  first_within n =
+      let part = run_entries (answers start.state (take n done)) in
+      omega (arith, length-map (take (length part) es) timeless, ap length (entries_first start.state done n es same), length-take (length part) es)
+
+  -- what is left of the entries of the first lines spares the pins after these lines
+  line_spares : (n : ℕ) (g : History) → Outlasts start (take (length (run_entries (answers start.state (take n done)))) es) None g → SparesPinsSince start.moment g (answers start.state (take n done)).own
+  line_spares n g o = λ t f since left.
+      let own = (answers start.state (take n done)).own in
+      let m = length (run_entries (answers start.state (take n done))) in
+      elim (o.images t f since left) as (λ x. (v : Versions) × StandsFor f v × SparesPins own v.floor) [
+        | inl front ↦ (
+          versions (replay start.state (take front.count (take m es))),
+          front.stands,
+          subst (λ (xs : List Entry). SparesPins own (replay start.state xs).floor) (take_within es m front.count front.within) (under.fronts n front.count (omega (arith, front.within, length-take m es))),
+        )
+        | inr tried ↦ absurd (let none : None ≡ Some tried.tried = tried.is_attempt in cc)
+      ]
+
+  pub run-LastsByLine : LastsByLine start.state start.moment h es done
+  run-LastsByLine = record {
+    times = e.times;
+    within = e.within;
+    dated = e.dated;
+    each = λ n g le told. let o = e.each n le g told in (λ t since f left. o.images t f since left, o.settled refl);
+    lines = λ n g told. line_spares n g (e.each (length (run_entries (answers start.state (take n done)))) (first_within n) g told);
+  }

@@ -13,7 +13,7 @@ use jf_history::{End, one_pass_closes, one_run_is_alone};
 use jf_io::{Sink, Source};
 use jf_join::Gate;
 use jf_model::Ledger;
-use jf_session::run;
+use jf_session::{Ran, run};
 use jf_store::{Closed, Store, StoreRefused};
 use std::alloc::Global;
 use std::sync::Wait;
@@ -69,7 +69,7 @@ pub(crate) fn run_over<S: Source, K: Sink, D: Disk, H: Threads + Wait + Sync, G:
     let Some(pass) = passes.pop() else {
         unreachable!()
     };
-    let (pass, end) = run(rt, alloc, &store, pass, source, sink, workers, gate);
+    let Ran { pass, end } = run(rt, alloc, &store, pass, source, sink, workers, gate);
     passes.push_reserved(pass);
     let Closed { engine, entries } = store.close(passes);
     let (disk, memory) = engine.into_parts();

@@ -15,7 +15,7 @@ use Rattle.jf_answers.proofs.AnswerLaws.{answer-both_long}
 use Rattle.jf_answers.specs.Runs.{answer_text}
 use Rattle.jf_answers.specs.OwnLines.{is_own_line, is_own, pin_of, pin_of_command}
 use Rattle.jf_answers.specs.Explains.{Timeline, Answered, IsAnswered, Looks, Changes, GivesEntry, answered_with_floor, answer_with, floor_in, state_after}
-use Rattle.jf_history.specs.Sessions.{Session, FollowsLine, HasReplied, IsTry, IsIdle}
+use Rattle.jf_history.specs.Sessions.{Session, FollowsLine, HasReplied, IsTry, HasDoneNothing}
 use Rattle.jf_session.specs.declared.stop.Stop.{Stop}
 use Rattle.jf_session.specs.declared.stop.Stop.TheVariants as stop
 use Rattle.jf_session.specs.Taking.{Makes, RepliesWith, AnswersLine}
@@ -92,8 +92,8 @@ module _ (line other : List ℕ) (k : AreAlike line other) where
       places = t.places;
     }
 
-    idle_alike : IsIdle s new line → IsIdle s new other
-    idle_alike i = record { follows = follows_alike s.pass new.pass i.follows; others = i.others; pins = i.pins; own = i.own }
+    idle_alike : HasDoneNothing s new line → HasDoneNothing s new other
+    idle_alike i = record { follows = follows_alike s.pass new.pass i.follows; others = i.others; pins = i.pins; holds = i.holds; own = i.own }
 
     try_alike : IsTry start s new line → IsTry start s new other
     try_alike t = record {

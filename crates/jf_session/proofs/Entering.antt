@@ -29,7 +29,7 @@ pub record HasSoundFloor (start : Start) (own : Own) (events before : List Event
   pub held : HeldFloor start own (state_behind start before) e
 
 -- an event of the pass is over this state, and its entry is the command's
-pub record Follows (start : Start) (p p' : Pass) (pending : Batch) (c : Command) (before : List Event) (x : Event) (e : Entry) : Type 0 where
+pub record FollowsBy (start : Start) (p p' : Pass) (pending : Batch) (c : Command) (before : List Event) (x : Event) (e : Entry) : Type 0 where
   pub sees : SeesOwn p p' before x
   pub grants : Grants (state_behind start before) (own_of p pending) c e
   pub floor : HasSoundFloor start (own_of p pending) p'.seen before e
@@ -38,7 +38,7 @@ pub record Follows (start : Start) (p p' : Pass) (pending : Batch) (c : Command)
 pub record Enters (start : Start) (p p' : Pass) (pending pending' : Batch) (c : Command) (r : Reply) : Type 0 where
   pub before : List Event
   pub event : Entry
-  pub follows : Follows start p p' pending c before (Done event) event
+  pub follows : FollowsBy start p p' pending c before (Done event) event
   pub owned : owner_of event ≡ p.number
   pub own : own_of p pending' ≡ (granted_with (state_behind start before) (own_of p pending) c event).own
   pub reply : r ≡ (granted_with (state_behind start before) (own_of p pending) c event).reply
@@ -48,10 +48,10 @@ pub record Enters (start : Start) (p p' : Pass) (pending pending' : Batch) (c : 
 pub record Tries (start : Start) (p p' : Pass) (pending : Batch) (c : Command) : Type 0 where
   pub before : List Event
   pub attempt : Entry
-  pub follows : Follows start p p' pending c before (Mark p.number attempt) attempt
+  pub follows : FollowsBy start p p' pending c before (Mark p.number attempt) attempt
 
 module _ (start : Start) (p p' : Pass) (pending pending' : Batch) (over over' : Bool) (old : Session) (view : session_of p pending over ≡ old) (c : Command) where
-  gives_for : (before : List Event) (x : Event) (e : Entry) → Follows start p p' pending c before x e → (events : List Event) → (pins : List ℕ) → HaveMet pins start p'.seen
+  gives_for : (before : List Event) (x : Event) (e : Entry) → FollowsBy start p p' pending c before x e → (events : List Event) → (pins : List ℕ) → HaveMet pins start p'.seen
       → GivesFor (timeline start pins events) (state_behind start before) (own_of p pending) c e
   gives_for before x e f events pins met = record {
     same = ap (λ (a : Answer). a.entry) (answer-granted (state_behind start before) (own_of p pending) c e f.grants.free) ∙ f.grants.gives;

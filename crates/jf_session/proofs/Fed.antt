@@ -11,7 +11,7 @@ use Rattle.jf_store.specs.Starts.{Start}
 use Rattle.jf_store.specs.Passes.{Pass}
 use Rattle.jf_answers.specs.Explains.{Answered, text_in}
 use Rattle.jf_history.specs.Sessions.{Session, HasReplied, new_session}
-use Rattle.jf_history.specs.Runs.{HasAnswered, EndsBy, ReadsBy, Reads, Ran, WritesBy}
+use Rattle.jf_history.specs.Runs.{HasAnswered, EndsBy, ReadsBy, HasReadInput, HasRunOver, WritesBy}
 use Rattle.jf_history.specs.declared.end.End.{End}
 use Rattle.jf_history.specs.declared.end.End.TheVariants as end
 use Rattle.jf_history.proofs.Steps.{one_more_answered}
@@ -24,7 +24,7 @@ use Rattle.jf_session.proofs.Taken.{makes_at, took_more, went_on, reads_to}
 module _ (start : Start) (old : Pass) (begun : old.start ≡ Some start) (none : HasAnswered start old (new_session old) [] []) (rest rest' text text' : Option (List ℕ)) where
   -- it ran to the pass of this session
   abbrev RanTo : End → Session → Type 0
-  RanTo e new = Ran e start old new.pass rest rest' text text'
+  RanTo e new = HasRunOver e start old new.pass rest rest' text text'
 
   -- lines were taken, and this was written of them
   record IsSaid (m : Session) (ds : List (List ℕ)) (so_far : Option (List ℕ)) : Type 0 where
@@ -44,7 +44,7 @@ module _ (start : Start) (old : Pass) (begun : old.start ≡ Some start) (none :
 
   -- ---- after the last line
   at_end : (m new : Session) (ds : List (List ℕ)) (so_far : Option (List ℕ)) (t : List ℕ) → IsSaid m ds so_far → t ≡ [] → new ≡ m → Appends so_far text' t
-      → ((all : List ℕ) → rest ≡ Some all → (left : List ℕ) × (rest' ≡ Some left) × Reads end.Done all left ds None) → RanTo end.Done new
+      → ((all : List ℕ) → rest ≡ Some all → (left : List ℕ) × (rest' ≡ Some left) × HasReadInput end.Done all left ds None) → RanTo end.Done new
   at_end m new ds so_far t s nothing same appended reads = record {
     done = ds;
     replies = s.replies;
@@ -60,7 +60,7 @@ module _ (start : Start) (old : Pass) (begun : old.start ≡ Some start) (none :
 
   -- ---- between two lines
   ended_between : (e : End) (m new : Session) (ds : List (List ℕ)) (so_far : Option (List ℕ)) (s : IsSaid m ds so_far) → EndsBy e start m new None → WritesBy e s.replies s.said → text' ≡ so_far
-      → ((all : List ℕ) → rest ≡ Some all → (left : List ℕ) × (rest' ≡ Some left) × Reads e all left ds None) → RanTo e new
+      → ((all : List ℕ) → rest ≡ Some all → (left : List ℕ) × (rest' ≡ Some left) × HasReadInput e all left ds None) → RanTo e new
   ended_between e m new ds so_far s ends by same reads = record {
     done = ds;
     replies = s.replies;
@@ -77,7 +77,7 @@ module _ (start : Start) (old : Pass) (begun : old.start ≡ Some start) (none :
   -- ---- at a line
   -- as far as a line that was begun
   reads_begun : (e : End) (ds : List (List ℕ)) (next : Option (List ℕ)) → ((taken left : List ℕ) (ls : List (List ℕ)) → ReadsBy e taken left ls) → ReadsLinesOf rest rest' (ds ++ option_to_list next)
-      → (all : List ℕ) → rest ≡ Some all → (left : List ℕ) × (rest' ≡ Some left) × Reads e all left ds next
+      → (all : List ℕ) → rest ≡ Some all → (left : List ℕ) × (rest' ≡ Some left) × HasReadInput e all left ds next
   reads_begun e ds next far reads all is =
       let r = reads_to rest rest' ds next reads all is in
       (r.0, r.1, record { taken = r.2.taken; split = r.2.split; first = r.2.first; far = far r.2.taken r.0 ds; begun = r.2.begun })

@@ -9,14 +9,10 @@ use Rattle.jf_store.specs.declared.event.Event.{Event}
 use Rattle.jf_store.specs.declared.event.Event.TheVariants.{Done, Mark}
 use Rattle.jf_store.specs.Events.{entries_of, is_marked}
 use Rattle.jf_store.specs.Starts.{Start}
-use Rattle.jf_store.specs.Ledgers.{AreEvents, IsUndone, MarkIsLast, state_behind}
+use Rattle.jf_store.specs.Ledgers.{AreEvents, IsUndone, state_behind}
 use Rattle.jf_store.specs.Passes.{Pass, SeesOwn}
+use Rattle.jf_history.proofs.OneSession.{mark_there}
 use Rattle.jf_store.proofs.EventLaws.{entries_of-append, entries_of-done, is_marked-append, state_behind-mark}
-
-mark_at : (s : State) (xs : List Event) (pass : ℕ) (e : Entry) → MarkIsLast s (xs ++ Mark pass e ∷ []) → is_marked xs ≡ false → IsUndone s pass e
-mark_at s [] pass e m none = m.1
-mark_at s (Done x ∷ xs) pass e m none = mark_at s xs pass e m none
-mark_at s (Mark p x ∷ xs) pass e m none = absurd (cc)
 
 -- the pass has seen what it had seen, and more
 pub begins_own : (p p' : Pass) (before : List Event) (x : Event) → SeesOwn p p' before x → StartsWith p'.seen p.seen
@@ -47,4 +43,4 @@ module _ (start : Start) (p p' : Pass) (before : List Event) (are : AreEvents st
   legal_attempt pass e sees =
       let seen : p'.seen ≡ before ++ Mark pass e ∷ [] = ap (λ (q : Pass). q.seen) sees.last in
       let are' = subst (AreEvents start) seen are in
-      subst (λ (s : State). IsUndone s pass e) (state_behind-mark start before pass e) (mark_at (state_behind start (before ++ Mark pass e ∷ [])) before pass e are'.marked sees.unmarked)
+      subst (λ (s : State). IsUndone s pass e) (state_behind-mark start before pass e) (mark_there (state_behind start (before ++ Mark pass e ∷ [])) before pass e are'.marked sees.unmarked)

@@ -1,5 +1,5 @@
 -- A line that is a command, and one that is none.
-use Rattle.std.proofs.Common.{◌≡◌, inl, inr, ℕ, ◌+◌, true, false, cond, ◌||◌, Option, Some, None, List, [], ◌∷◌, ◌++◌, drop, length, refl, sym, ap, ◌∙◌, subst, arith, append-nil, length-append}
+use Rattle.std.proofs.Common.{◌≡◌, inl, inr, ℕ, ◌+◌, true, false, cond, ◌||◌, Option, Some, None, List, [], ◌∷◌, ◌++◌, drop, length, refl, sym, ap, ◌∙◌, subst, append-nil, length-append}
 use Rattle.std.specs.Prelude.{Result, Ok, Err, IfOk, IfErr}
 use Rattle.jf_model.specs.States.{State}
 use Rattle.jf_model.specs.declared.entries.Entry.{Entry}
@@ -12,33 +12,24 @@ use Rattle.jf_script.specs.declared.reply.Reply.{Reply}
 use Rattle.jf_script.specs.declared.reply.Reply.TheVariants as reply
 use Rattle.jf_script.specs.declared.reply.Refusal.TheVariants as refusal
 use Rattle.jf_store.specs.declared.event.Event.{Event}
-use Rattle.jf_store.specs.declared.event.Event.TheVariants.{Done, Mark}
+use Rattle.jf_store.specs.declared.event.Event.TheVariants.{Done}
 use Rattle.jf_store.specs.Events.{entries_of, is_marked}
 use Rattle.jf_store.specs.Starts.{Start}
 use Rattle.jf_store.specs.Ledgers.{state_behind}
 use Rattle.jf_store.specs.Passes.{Pass}
+use Rattle.jf_store.proofs.EventLaws.{entries_of-append}
 use Rattle.jf_answers.specs.Own.{Own}
 use Rattle.jf_answers.specs.Answers.{Answer, answer, answer_command, answer_to, replied, too_long}
 use Rattle.jf_answers.specs.Runs.{answer_text}
 use Rattle.jf_answers.specs.OwnLines.{is_own_line, is_own, is_own_command, pin_of, pin_of_command}
 use Rattle.jf_answers.specs.Explains.{Timeline, Answered, GivesEntry, answered_with_floor, answer_with, floor_in}
-use Rattle.jf_history.specs.Sessions.{Session, HoldsPins, FollowsLine, HasReplied, HasLooked, HasChanged, IsTry, IsIdle, look_reply, change_reply, seen_by}
+use Rattle.jf_history.specs.Sessions.{Session, HoldsPins, FollowsLine, HasReplied, HasLooked, HasChanged, IsTry, HasDoneNothing, look_reply, change_reply, seen_by}
 use Rattle.jf_answers.proofs.AnswerLaws.{answer-long}
 use Rattle.jf_history.proofs.Replies.{looks_reply, changes_reply}
 use Rattle.jf_session.specs.Steps.{IsSoundSession, FollowsCommand, command_answer_with, GivesFor, DoneByLook, DoneByEntry, IsDoneAs, TriedFor, NotDone, StopsFor}
 use Rattle.jf_session.specs.Answering.{IsRepliedBy, StopsAt, stopped_session}
 use Rattle.jf_session.specs.declared.stop.Stop.{Stop}
 use Rattle.jf_session.specs.declared.stop.Stop.TheVariants as stop
-
--- ---- how many entries are seen
--- without a mark, entries are as many as events
-pub count_unmarked : (events : List Event) → is_marked events ≡ false → length (entries_of events) ≡ length events
-count_unmarked [] none = refl
-count_unmarked (Done e ∷ events) none = omega (arith, count_unmarked events none)
-count_unmarked (Mark pass e ∷ events) none = absurd (cc)
-
-count_done : (events : List Event) (e : Entry) → is_marked events ≡ false → length (entries_of events) + 1 ≡ length (events ++ Done e ∷ [])
-count_done events e none = omega (arith, count_unmarked events none, length-append events (Done e ∷ []))
 
 -- ---- a line that is a command
 -- the line is answered as the command, pins what it pins, and asks the store if it does
@@ -89,11 +80,10 @@ module _ (line : List ℕ) (c : Command) (k : IsLineOf line c) where
           own = d.own ∙ sym (ap (λ (a : Answer). a.own) e);
           pins = pins;
           by_itself = λ own. d.by_itself (sym k.asks ∙ own);
-        } in
-        let n = sym (count_unmarked new.pass.seen d.unmarked) in (
+        } in (
           look_reply start old new.pass line,
           looks_reply start old new line looked,
-          ap (λ m. reply_text m r ++ block) n ∙ ap (λ x. reply_text (length (seen_by new.pass)) x ++ block) d.reply
+          ap (λ x. reply_text (length (seen_by new.pass)) x ++ block) d.reply
               ∙ ap (λ x. reply_text (length (seen_by new.pass)) (answer_command s old.own c).reply ++ x) d.block_is ∙ ap (answer_text (length (seen_by new.pass))) (sym e),
         )
 
@@ -111,7 +101,8 @@ module _ (line : List ℕ) (c : Command) (k : IsLineOf line c) where
           own = d.own ∙ sym (ap (λ (a : Answer). a.own) e);
           pins = pins;
         } in
-        let n : length new.pass.seen ≡ length (entries_of d.before) + 1 = ap (λ (p : Pass). length p.seen) d.sees.last ∙ sym (count_done d.before d.event d.sees.unmarked) in
+        let n : length (seen_by new.pass) ≡ length (entries_of d.before) + 1 =
+        ap (λ (p : Pass). length (seen_by p)) d.sees.last ∙ ap (λ (es : List Entry). length es) (entries_of-append d.before (Done d.event ∷ [])) ∙ length-append (entries_of d.before) (d.event ∷ []) in
         let m = length (entries_of d.before) + 1 in (
           change_reply start old d.before d.event line,
           changes_reply start old new d.before d.event line changed,
@@ -122,8 +113,8 @@ module _ (line : List ℕ) (c : Command) (k : IsLineOf line c) where
     pub done_of : (r : Reply) (block : List ℕ) → old.own.number ≡ old.pass.number → HoldsPins new → IsDoneAs start old new c r block → IsRepliedBy start old new line r block
     done_of r block numbers pins d = elim d [ inl l ↦ look_of r block pins l | inr e ↦ entry_of r block numbers pins e ]
 
-    idle_of : NotDone old new c → IsIdle old new line
-    idle_of d = record { follows = follows_of old.pass new.pass d.follows; others = d.others; pins = d.pins; own = d.own }
+    idle_of : HoldsPins new → NotDone old new c → HasDoneNothing old new line
+    idle_of holds d = record { follows = follows_of old.pass new.pass d.follows; others = d.others; pins = d.pins; holds = holds; own = d.own }
 
     try_of : TriedFor start old new c → IsTry start old new line
     try_of d = record {
@@ -136,10 +127,10 @@ module _ (line : List ℕ) (c : Command) (k : IsLineOf line c) where
     }
 
     -- and one that was not done stops the session at the line
-    pub stops_of : (why : Stop) → StopsFor start old new c why → StopsAt start old new line why
-    stops_of stop.DiskFault d = try_of d
-    stops_of stop.Broken d = record { idle = idle_of d.0; marked = d.1; asks = k.asks ∙ d.2 }
-    stops_of stop.Memory d = idle_of d
+    pub stops_of : (why : Stop) → HoldsPins new → StopsFor start old new c why → StopsAt start old new line why
+    stops_of stop.DiskFault holds d = try_of d
+    stops_of stop.Broken holds d = record { idle = idle_of holds d.0; marked = d.1; asks = k.asks ∙ d.2 }
+    stops_of stop.Memory holds d = idle_of holds d
 
 -- ---- a line at which nothing changes
 nothing_after : (xs : List Event) (x : Event) → HasElement (drop (length xs) xs) x → ⊥
@@ -165,20 +156,23 @@ itself_replied start s line r pins unmarked is =
     } in (
       look_reply start s s.pass line,
       looks_reply start s s line looked,
-      ap (λ m. reply_text m r ++ []) (sym (count_unmarked s.pass.seen unmarked)) ∙ ap (answer_text (length (seen_by s.pass))) (sym e),
+      ap (answer_text (length (seen_by s.pass))) (sym e),
     )
 
 -- or nothing was done at it
-pub itself_idle : (s : Session) (line : List ℕ) → IsIdle s s line
-itself_idle s line = record { follows = follows_itself s.pass line; others = λ x has named. nothing_after s.pass.seen x has; pins = refl; own = refl }
+pub itself_idle : (s : Session) (line : List ℕ) → HoldsPins s → HasDoneNothing s s line
+itself_idle s line holds = record { follows = follows_itself s.pass line; others = λ x has named. nothing_after s.pass.seen x has; pins = refl; holds = holds; own = refl }
 
 -- ---- a session that is over
+holds_ended : (s : Session) → HoldsPins s → HoldsPins (stopped_session s)
+holds_ended s h = record { versions = h.versions; eight = h.eight; board = h.board }
+
 module _ (start : Start) (old new : Session) (line : List ℕ) where
   pub replied_ended : (r : Answered) → HasReplied start old new line r → HasReplied start old (stopped_session new) line r
   replied_ended r t = record {
     follows = t.follows;
     unmarked = t.unmarked;
-    pins = t.pins;
+    pins = holds_ended new t.pins;
     own = t.own;
     number = t.number;
     answered = t.answered;
@@ -186,8 +180,8 @@ module _ (start : Start) (old new : Session) (line : List ℕ) where
     places = t.places;
   }
 
-  idle_ended : IsIdle old new line → IsIdle old (stopped_session new) line
-  idle_ended i = record { follows = i.follows; others = i.others; pins = i.pins; own = i.own }
+  idle_ended : HasDoneNothing old new line → HasDoneNothing old (stopped_session new) line
+  idle_ended i = record { follows = i.follows; others = i.others; pins = i.pins; holds = holds_ended new i.holds; own = i.own }
 
   pub stops_ended : (why : Stop) → StopsAt start old new line why → StopsAt start old (stopped_session new) line why
   stops_ended stop.DiskFault t = record { attempt = t.attempt; before = t.before; sees = t.sees; gives = t.gives; held = t.held; own = t.own }
@@ -214,9 +208,9 @@ module _ (start : Start) (old new : Session) (line : List ℕ) (c : Command) (sh
   obeyed_replied block block' (Ok r) numbers pins d = (d.0, d.1, done_of line c (line_of line c short read) start old new r d.0 numbers pins d.2)
   obeyed_replied block block' (Err why) numbers pins d = tt
 
-  pub obeyed_stops : (o : Result Reply Stop) → IfErr o (λ why. StopsFor start old new c why) → IfErr o (λ why. StopsAt start old new line why)
-  obeyed_stops (Ok r) d = tt
-  obeyed_stops (Err why) d = stops_of line c (line_of line c short read) start old new why d
+  pub obeyed_stops : (o : Result Reply Stop) → HoldsPins new → IfErr o (λ why. StopsFor start old new c why) → IfErr o (λ why. StopsAt start old new line why)
+  obeyed_stops (Ok r) holds d = tt
+  obeyed_stops (Err why) holds d = stops_of line c (line_of line c short read) start old new why holds d
 
 -- a command that asks nothing of a store was done, with whatever that began; it has no block
 pub own_done : (start : Start) (old new : Session) (c d : Command) (block : List ℕ) (o : Result Reply Stop) → c ≡ d → IfOk o (λ r. (t : Start) → IsDoneAs t old new d r []) → IfOk o (λ r. (text : List ℕ) × (block ≡ block ++ text) × IsDoneAs start old new c r text)

@@ -18,7 +18,7 @@ use Rattle.jf_store.specs.Ledgers.{state_behind}
 use Rattle.jf_store.specs.Refusals.{version_faults}
 use Rattle.jf_store.specs.Passes.{Store, PinsState, Pass, OthersAlone}
 use Rattle.jf_store.specs.Pins.{shown_pins, unpinned_at}
-use Rattle.jf_store.specs.PinnedVersions.{least_unpinned, full_faults, SeesToPin, HasPinnedVersion, HasNotPinned}
+use Rattle.jf_store.specs.PinnedVersions.{full_faults, SeesToPin, HasPinnedVersion, HasNotPinned}
 use Rattle.jf_store.proofs.RefusalLaws.{first_of-none}
 use Rattle.jf_script.specs.declared.command.Command.TheVariants as command
 use Rattle.jf_script.specs.declared.reply.Refusal.TheVariants as refusal
@@ -39,7 +39,7 @@ use Rattle.jf_session.proofs.ToldFaults.{AreTold-version}
 
 -- ---- pins and the snapshots pinned
 -- the least free place is the least without a snapshot
-free_alike : (ss : List (Option SnapshotValue)) → position_or_len is_none (pinned_versions ss) ≡ least_unpinned ss
+free_alike : (ss : List (Option SnapshotValue)) → position_or_len is_none (pinned_versions ss) ≡ position_or_len is_none ss
 free_alike [] = refl
 free_alike (None ∷ ss) = refl
 free_alike (Some s ∷ ss) = ap (λ n. 1 + n) (free_alike ss)

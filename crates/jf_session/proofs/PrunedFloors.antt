@@ -1,7 +1,6 @@
 -- The floor of a pruning, by the pins of the session's pass.
-use Rattle.std.proofs.Common.{◌≡◌, ◌⊎◌, ◌∙◌, inl, inr, ℕ, zero, suc, ◌<◌, ◌≤◌, Option, Some, None, List, [], ◌∷◌, ◌++◌, length, refl, sym, ap, subst, arith, IfSome}
+use Rattle.std.proofs.Common.{◌≡◌, ◌⊎◌, ◌∙◌, inl, inr, ℕ, ◌<◌, ◌≤◌, Some, None, List, [], ◌∷◌, ◌++◌, length, sym, ap, subst, arith}
 use Rattle.std.specs.Prelude.{min, max, slice_index_or, option_map}
-use Rattle.std.specs.List.{AllByRecursion}
 use Rattle.jf_hash.specs.Maps.{Batch}
 use Rattle.jf_model.specs.States.{State}
 use Rattle.jf_model.specs.Entries.{after, replay}
@@ -18,7 +17,8 @@ use Rattle.jf_store.specs.Pins.{shown_pins}
 use Rattle.jf_store.specs.Prunings.{HasConfirmed, IsPinnedFloor}
 use Rattle.jf_store.proofs.PinnedFloors.{pinned-confirmed, confirmed-pinned}
 use Rattle.jf_answers.specs.Explains.{Timeline, IsAmong}
-use Rattle.jf_history.specs.Sessions.{HaveMet, HasPinned, pinned_versions}
+use Rattle.jf_history.specs.Sessions.{HaveMet, HasPinned}
+use Rattle.jf_history.proofs.Spared.{each_version, below_length}
 use Rattle.jf_session.proofs.BaseLaws.{pinned_version}
 use Rattle.jf_session.proofs.Entering.{own_of, HasSoundFloor}
 
@@ -44,18 +44,6 @@ IsMet-mark P start xs pass e met = at start.state xs met
     at s (Mark p x ∷ xs) m = at s xs m.1
 
 -- ---- what is pinned
--- if each snapshot of a list has the property, so has each version
-each_version : (Q : ℕ → Type 0) (ss : List (Option SnapshotValue)) → ((i : ℕ) (s : SnapshotValue) → slice_index_or ss i None ≡ Some s → Q s.version) → AllByRecursion (λ pin. IfSome pin Q) (pinned_versions ss)
-each_version Q [] h = tt
-each_version Q (None ∷ ss) h = (tt, each_version Q ss (λ i s e. h (suc i) s e))
-each_version Q (Some s ∷ ss) h = (h zero s refl, each_version Q ss (λ i t e. h (suc i) t e))
-
--- an element of a list stands below its length
-below_length : (ss : List (Option SnapshotValue)) (i : ℕ) (s : SnapshotValue) → slice_index_or ss i None ≡ Some s → i < length ss
-below_length [] i s e = absurd (cc)
-below_length (o ∷ ss) zero s e = omega arith
-below_length (o ∷ ss) (suc i) s e = let rest = below_length ss i s e in omega arith
-
 module _ (store : Store) (p : Pass) (pending : Batch) (are : ArePins (shown_pins store p)) (eight : length p.pinned ≡ 8) where
   HasPinned-confirmed : (version : ℕ) → HasConfirmed p.place version → HasPinned (own_of p pending) version
   HasPinned-confirmed version has = let found = pinned-confirmed (shown_pins store p) are version has in (found.0, pinned_version p.pinned found.0 ∙ found.2)

@@ -3,8 +3,8 @@ use Rattle.std.proofs.Common.{◌≡◌, ℕ, Option, Some, None, List, ap, sym,
 use Rattle.jf_store.specs.Starts.{Start}
 use Rattle.jf_store.specs.Passes.{Store, Pass, IsPassOf}
 use Rattle.jf_answers.specs.Explains.{Answered}
-use Rattle.jf_history.specs.Sessions.{Session, HasReplied, IsTry, IsIdle}
-use Rattle.jf_history.specs.Runs.{EndsBy, IsAtRest, Ran}
+use Rattle.jf_history.specs.Sessions.{Session, HasReplied, IsTry, HasDoneNothing}
+use Rattle.jf_history.specs.Runs.{EndsBy, IsAtRest, HasRunOver}
 use Rattle.jf_history.specs.declared.end.End.{End}
 use Rattle.jf_history.specs.declared.end.End.TheVariants as end
 use Rattle.jf_session.specs.Answering.{StopsAt}
@@ -24,7 +24,7 @@ same_further old mid new s t = (t.0 ∙ s.0, t.1 ∙ s.1, t.2 ∙ s.2)
 pub same_replied : (start : Start) (s new : Session) (line : List ℕ) (r : Answered) → HasReplied start s new line r → IsSamePass s.pass new.pass
 same_replied start s new line r t = same_of s.pass new.pass t.follows.same
 
-pub same_idle : (s new : Session) (line : List ℕ) → IsIdle s new line → IsSamePass s.pass new.pass
+pub same_idle : (s new : Session) (line : List ℕ) → HasDoneNothing s new line → IsSamePass s.pass new.pass
 same_idle s new line t = same_of s.pass new.pass t.follows.same
 
 pub same_try : (start : Start) (s new : Session) (line : List ℕ) → IsTry start s new line → IsSamePass s.pass new.pass
@@ -50,7 +50,7 @@ same_by end.DiskFault start s new next d = same_try start s new d.0 d.2
 same_by end.Broken start s new next d = same_idle s new d.0 d.2.idle
 same_by end.Memory start s new next d = same_at_rest s new next d
 
-pub same_ran : (e : End) (start : Start) (old new : Pass) (rest rest' text text' : Option (List ℕ)) → Ran e start old new rest rest' text text' → IsSamePass old new
+pub same_ran : (e : End) (start : Start) (old new : Pass) (rest rest' text text' : Option (List ℕ)) → HasRunOver e start old new rest rest' text text' → IsSamePass old new
 same_ran e start old new rest rest' text text' r =
     subst (IsSamePass old) (sym r.pass_is) (same_further old r.mid.pass r.last.pass (same_of old r.mid.pass r.answered.same) (same_by e start r.mid r.last r.next r.ends))
 

@@ -7,7 +7,7 @@ use Rattle.jf_input.specs.Feeds.{GoesOnQuietly, Took, HasRead, ReadsLinesOf}
 use Rattle.jf_store.specs.Starts.{Start}
 use Rattle.jf_store.specs.Passes.{Pass}
 use Rattle.jf_answers.specs.Explains.{Answered, text_in}
-use Rattle.jf_history.specs.Sessions.{Session, HasReplied, IsIdle}
+use Rattle.jf_history.specs.Sessions.{Session, HasReplied, HasDoneNothing}
 use Rattle.jf_history.specs.Runs.{HasAnswered, IsAtRest}
 use Rattle.jf_history.proofs.Steps.{one_more_answered}
 use Rattle.jf_session.specs.declared.stop.Stop.{Stop}
@@ -55,7 +55,7 @@ module _ (start : Start) (old : Pass) where
       subst (λ (x : List (List ℕ)). HasAnswered start old m x (rs ++ r ∷ qs)) (append_assoc ds (line ∷ []) ls) (subst (λ (x : List Answered). HasAnswered start old m ((ds ++ line ∷ []) ++ ls) x) (append_assoc rs (r ∷ []) qs) a)
 
   -- ---- after a line that was left
-  at_rest : (m new : Session) (ds : List (List ℕ)) (rs : List Answered) (line : List ℕ) → HasAnswered start old m ds rs → IsIdle m new line → WentOn new ds rs (line ∷ [])
+  at_rest : (m new : Session) (ds : List (List ℕ)) (rs : List Answered) (line : List ℕ) → HasAnswered start old m ds rs → HasDoneNothing m new line → WentOn new ds rs (line ∷ [])
   at_rest m new ds rs line a idle = record { more = []; replies = []; mid = m; next = Some line; answered = none_more m ds rs a; rest = idle; none = tt; lines_are = refl }
 
   at_reply : (m new : Session) (ds : List (List ℕ)) (rs : List Answered) (line : List ℕ) (r : Answered) → HasAnswered start old m ds rs → HasReplied start m new line r → r.entry ≡ None → WentOn new ds rs (line ∷ [])

@@ -8,7 +8,7 @@ use Rattle.jf_store.specs.Starts.{Start}
 use Rattle.jf_store.specs.Ledgers.{AreEvents}
 use Rattle.jf_store.specs.Passes.{Store, IsPassOf, OthersAlone}
 use Rattle.jf_answers.specs.Explains.{Answered}
-use Rattle.jf_history.specs.Sessions.{Session, HasReplied, IsTry, IsBroken, IsIdle}
+use Rattle.jf_history.specs.Sessions.{Session, HasReplied, IsTry, IsBroken, HasDoneNothing}
 use Rattle.jf_history.specs.declared.end.End.{End}
 use Rattle.jf_history.specs.declared.end.End.TheVariants as end
 use Rattle.jf_session.specs.declared.stop.Stop.{Stop}
@@ -24,7 +24,7 @@ abbrev pub Makes : Start → Session → List ℕ → Session → Result (List �
 Makes start s line new (Ok text) = RepliesWith start s line new text
 Makes start s line new (Err stop.DiskFault) = IsTry start s new line
 Makes start s line new (Err stop.Broken) = IsBroken s new line
-Makes start s line new (Err stop.Memory) = IsIdle s new line ⊎ ((text : List ℕ) × RepliesWith start s line new text)
+Makes start s line new (Err stop.Memory) = HasDoneNothing s new line ⊎ ((text : List ℕ) × RepliesWith start s line new text)
 
 -- a session over a pass of a store takes a line, if it isn't over; it is over if it stops there
 pub record AnswersLine (s : Session) (line : List ℕ) (new : Session) (r : Result (List ℕ) Stop) : Type 0 where

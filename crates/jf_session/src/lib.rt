@@ -22,6 +22,6 @@ mod stop;
 mod taking;
 
 pub use jf_history::End;
-pub use running::run;
+pub use running::{Ran, run};
 pub use session::Session;
 pub use stop::Stop;

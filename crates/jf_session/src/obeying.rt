@@ -38,7 +38,7 @@ impl<D: Disk> Session<D> {
         ensures err { IfErr result (λ why. StopsAt store.now.start self.old self.new line.now why) }
     {
         self.know();
-        self.know_own();
+        self.know_own(store);
         let command = match read_line(alloc, line) {
             Ok(command) => command,
             Err(LineFault::Syntax) => return Ok(Reply::No(Refusal::Syntax)),
@@ -46,7 +46,7 @@ impl<D: Disk> Session<D> {
             Err(LineFault::Memory) => return Err(Stop::Memory),
         };
         let done = self.obeyed(rt, alloc, store, command, workers, gate, block);
-        self.know_own();
+        self.know_own(store);
         done
     }
 

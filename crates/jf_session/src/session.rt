@@ -4,7 +4,7 @@ ghost use Rattle.jf_store.specs.Events.{is_marked};
 ghost use Rattle.jf_store.specs.Ledgers.{AreEvents};
 ghost use Rattle.jf_store.specs.Passes.{IsPassOf, none_pinned};
 ghost use Rattle.jf_answers.specs.Explains.{Answered};
-ghost use Rattle.jf_history.specs.Sessions.{HasReplied, HoldsPins, IsTry, IsBroken, IsIdle, new_session};
+ghost use Rattle.jf_history.specs.Sessions.{HasReplied, HoldsPins, IsTry, IsBroken, HasDoneNothing, new_session, seen_by};
 ghost use Rattle.jf_session.specs.Steps.{IsSoundSession};
 ghost use Rattle.jf_session.specs.Answering.{stopped_session};
 
@@ -44,7 +44,7 @@ impl<D: Disk> Model for Session<D> {
 
 impl<D: Disk> Session<D> {
     /// A session that has done no line yet: nothing is pending, and nothing is pinned.
-    pub fn over(alloc: Global, pass: Pass<D>) -> Session<D>
+    pub fn new(alloc: Global, pass: Pass<D>) -> Session<D>
         requires unmarked { is_marked pass.seen ≡ false }
         requires unpinned { pass.pinned ≡ none_pinned }
         ensures { result ≡ new_session pass }
@@ -75,12 +75,12 @@ impl<D: Disk> Session<D> {
         let _ = &self.pass;
     }
 
-    // What a session keeps for itself has the number of its pass, and the pins that its pass holds.
-    pub(crate) fn know_own(&self)
+    // What a session keeps for itself has the number of its pass, and the pins that its pass holds on the board.
+    pub(crate) fn know_own(&self, store: &Store<D>)
         ensures number { self.now.own.number ≡ self.now.pass.number }
         ensures pins { HoldsPins self.now }
     {
-        let _ = &self.pass;
+        self.pass.know_pins(store);
     }
 
     // What its pass has seen is a legal history of the store.
@@ -91,9 +91,9 @@ impl<D: Disk> Session<D> {
         self.pass.know(store);
     }
 
-    // How many events its pass has seen.
+    // How many entries its pass has seen.
     fn seen(&self) -> u64
-        ensures { result ≡ length self.now.pass.seen }
+        ensures { result ≡ length (seen_by self.now.pass) }
     {
         self.pass.seen()
     }
@@ -136,7 +136,7 @@ impl<D: Disk> Session<D> {
         ensures ends { OnErr result (self.new.over ≡ true) }
         ensures fault { result ≡ Err Stop.DiskFault → IsTry store.now.start self.old self.new line.now }
         ensures broken { result ≡ Err Stop.Broken → IsBroken self.old self.new line.now }
-        ensures memory { result ≡ Err Stop.Memory → IsIdle self.old self.new line.now ⊎ ((r : Answered) × HasReplied store.now.start self.old self.new line.now r) }
+        ensures memory { result ≡ Err Stop.Memory → HasDoneNothing self.old self.new line.now ⊎ ((r : Answered) × HasReplied store.now.start self.old self.new line.now r) }
     {
         let mut block = Bytes::new(alloc);
         match self.answered(rt, alloc, store, line, workers, gate, &mut block) {

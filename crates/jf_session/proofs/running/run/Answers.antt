@@ -1,7 +1,7 @@
 use Rattle.std.proofs.Common.{[], ap, sym, subst, ◌∙◌, rules}
 use Rattle.jf_store.specs.Passes.{Pass}
-use Rattle.jf_history.specs.Sessions.{Session, new_session}
-use Rattle.jf_history.specs.Runs.{HasAnswered, Ran}
+use Rattle.jf_history.specs.Sessions.{Session, HoldsPins, new_session}
+use Rattle.jf_history.specs.Runs.{HasAnswered, HasRunOver}
 use Rattle.jf_history.specs.declared.end.End.{End}
 use Rattle.jf_session.proofs.Fed.{ran_shown, read_fault_of, write_fault_of}
 use Rattle.jf_session.proofs.SamePass.{same_ran, own_after}
@@ -11,8 +11,8 @@ pub feed-requires : goal.feed-requires
 feed-requires g c = (
   c.args.store.now,
   record {
-    begun = ap (λ (s : Session). s.over) c.over-session.ensures;
-    own = (ap (λ (s : Session). s.pass.store) c.over-session.ensures ∙ c.requires.own.0, ap (λ (s : Session). s.pass.start) c.over-session.ensures ∙ c.requires.own.1);
+    begun = ap (λ (s : Session). s.over) c.new-session.ensures;
+    own = (ap (λ (s : Session). s.pass.store) c.new-session.ensures ∙ c.requires.own.0, ap (λ (s : Session). s.pass.start) c.new-session.ensures ∙ c.requires.own.1);
     steps = (λ s line out begun own. ((begun, own, c.requires.some, c.requires.few), search rules), λ s line out r s' out' did. did);
   },
 )
@@ -25,15 +25,15 @@ returns-clause-ran g c =
     let text' = g.K.Sink.text c.feed.new.sink in
     let store = c.args.store.now in
     let pass = c.args.pass in
-    let none : HasAnswered store.start pass (new_session pass) [] [] = subst (λ (p : Pass). HasAnswered store.start p (new_session p) [] []) (sym c.requires.new.1) (c.none_answered.ensures store c.requires.new.0) in
-    let r = ran_shown store.start pass c.requires.own.1 none source source' text text' (λ t. t.session) c.feed.result _ c.feed.new.machine c.over-session.ensures c.feed.ensures.fed in
-    let at_end : Ran c.end_of_feeding-end.result store.start pass c.feed.new.machine.session.pass source source' text text' = subst (λ (e : End). Ran e store.start pass c.feed.new.machine.session.pass source source' text text') (sym c.end_of_feeding-end.ensures) r in
-    subst (λ (p : Pass). Ran c.end_of_feeding-end.result store.start pass p source source' text text') (sym c.end.ensures) at_end
+    let none : HasAnswered store.start pass (new_session pass) [] [] = c.none_answered.ensures store.start pass c.requires.unmarked (subst HoldsPins c.new-session.ensures c.know_own.ensures.pins) in
+    let r = ran_shown store.start pass c.requires.own.1 none source source' text text' (λ t. t.session) c.feed.result _ c.feed.new.machine c.new-session.ensures c.feed.ensures.fed in
+    let at_end : HasRunOver c.end_of_feeding-end.result store.start pass c.feed.new.machine.session.pass source source' text text' = subst (λ (e : End). HasRunOver e store.start pass c.feed.new.machine.session.pass source source' text text') (sym c.end_of_feeding-end.ensures) r in
+    subst (λ (p : Pass). HasRunOver c.end_of_feeding-end.result store.start pass p source source' text text') (sym c.end-pass.ensures) at_end
 
 pub returns-clause-own : goal.returns-clause-own
 returns-clause-own g c =
-    let same = same_ran _ _ c.args.pass c.end.result _ _ _ _ (returns-clause-ran g c) in
-    (own_after c.args.store.now c.args.pass c.end.result c.requires.own same, same.2)
+    let same = same_ran _ _ c.args.pass c.end-pass.result _ _ _ _ (returns-clause-ran g c) in
+    (own_after c.args.store.now c.args.pass c.end-pass.result c.requires.own same, same.2)
 
 pub returns-clause-read : goal.returns-clause-read
 returns-clause-read g c = λ e. c.feed.ensures.read (read_fault_of c.feed.result (sym c.end_of_feeding-end.ensures ∙ e))

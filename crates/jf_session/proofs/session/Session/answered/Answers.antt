@@ -22,4 +22,4 @@ pub returns-clause-ok : goal.returns-clause-ok
 returns-clause-ok g c = obeyed_replied _ c.args.self.now c.obeyed-done.new.self c.args.line.now _ c.in-Ok.ensures.short c.in-Ok.ensures.found c.args.block.now c.obeyed-done.new.block c.obeyed-done.result c.know_own.ensures.number c.know_own-2.ensures.pins c.obeyed-done.ensures.ok
 
 pub returns-clause-err : goal.returns-clause-err
-returns-clause-err g c = obeyed_stops _ c.args.self.now c.obeyed-done.new.self c.args.line.now _ c.in-Ok.ensures.short c.in-Ok.ensures.found c.obeyed-done.result c.obeyed-done.ensures.err
+returns-clause-err g c = obeyed_stops _ c.args.self.now c.obeyed-done.new.self c.args.line.now _ c.in-Ok.ensures.short c.in-Ok.ensures.found c.obeyed-done.result c.know_own-2.ensures.pins c.obeyed-done.ensures.err
