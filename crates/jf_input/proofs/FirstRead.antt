@@ -1,10 +1,10 @@
--- An input that was read as far as some lines was read as far as the first of them.
+-- How far an input was read: as far as some lines, and so as far as the first of them.
 use Rattle.std.proofs.Common.{◌∙◌, ℕ, Option, List, ◌++◌, ◌∷◌, [], length, sym, ap, subst, arith, length-append, append_assoc}
 use Rattle.std.proofs.lemmas.List.{take-take}
 use Rattle.std.proofs.Math.Seq.{take-append_seam}
 use Rattle.std.specs.Prelude.{take}
 use Rattle.jf_io.specs.LinesRead.{lines_read, AreFirst}
-use Rattle.jf_input.specs.Feeds.{HasRead, ReadsLinesOf}
+use Rattle.jf_input.specs.Feeds.{HasRead, ReadsFew, ReadsLinesOf}
 
 first_of_first : (taken left : List ℕ) (ls ms : List (List ℕ)) → AreFirst taken left (ls ++ ms) → AreFirst taken left ls
 first_of_first taken left ls ms f =
@@ -28,3 +28,7 @@ pub reads_first : (source source' : Option (List ℕ)) (ls : List (List ℕ)) (l
 reads_first source source' ls line later reads input is =
     let r = reads input is in
     (r.0, r.1, has_read_first input r.0 (ls ++ line ∷ []) later (subst (λ (x : List (List ℕ)). HasRead input r.0 x) (sym (append_assoc ls (line ∷ []) later)) r.2))
+
+-- what is said of the bytes taken beyond some lines left out
+pub lines_of_few : (piece : ℕ) (source source' : Option (List ℕ)) (ls : List (List ℕ)) → ReadsFew piece source source' ls → ReadsLinesOf source source' ls
+lines_of_few piece source source' ls reads input is = let r = reads input is in (r.0, r.1, r.2.read)

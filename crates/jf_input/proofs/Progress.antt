@@ -4,15 +4,16 @@ use Rattle.std.proofs.Common.{◌≡◌, ℕ, ◌+◌, List, ◌++◌, Option, S
 use Rattle.std.specs.List.{AllByRecursion, position_or_len, before_first, after_first}
 use Rattle.jf_io.specs.LineReader.{Held, IsShortened, IsFetched, is_line_feed}
 use Rattle.jf_io.specs.Inputs.{IsPlain, ended, IsLineFound}
-use Rattle.jf_io.specs.Lines.{lines}
+use Rattle.jf_io.specs.Lines.{lines, bytes_after}
 use Rattle.jf_io.specs.LinesRead.{AreFirst}
 use Rattle.jf_io.specs.Sink.{IsCutShort}
 use Rattle.jf_io.proofs.Shortened.{is_shortened-whole, unfinished-text, none-text, line_front-text, finished-text, after_first-text}
 use Rattle.jf_io.proofs.FirstLines.{first_lines, lines_to_come, whole_taken, next_taken, last_first, next_line, with_last}
 use Rattle.jf_io.proofs.Plain.{held_plain, front_split, front_plain, front_whole}
 use Rattle.jf_io.proofs.EndedLines.{lines-none, plain_more}
+use Rattle.jf_io.proofs.AfterLines.{bytes_after-next}
 use Rattle.jf_io.proofs.Found.{where_of, found_whole, lines_found, cut_of, last_of}
-use Rattle.jf_input.specs.Feeds.{Appends, HandsOn, Gathers, StopsGathering, ReadsAll, HasRead, Fed, ReadsLinesOf, given_of, EndsAfter}
+use Rattle.jf_input.specs.Feeds.{Appends, HandsOn, Gathers, StopsGathering, ReadsAll, HasRead, Fed, ReadsLinesOf, ReadsFew, given_of, EndsAfter}
 use Rattle.jf_input.specs.declared.feeding.Feeding.{Feeding}
 use Rattle.jf_input.specs.declared.feeding.Feeding.TheVariants as feeding
 use Rattle.jf_input.proofs.Gathering.{Keeps, Written, KeptCut, keeps_none, keeps_handed, keeps_line, keeps_cut, written_none, written_all}
@@ -26,7 +27,7 @@ pub record Reads (source source' : Option (List ℕ)) (held : Held) (ls : List (
   pub shortened : IsShortened 8500 whole held.bytes
   pub input : (input : List ℕ) → source ≡ Some input → (left : List ℕ) × (source' ≡ Some left) × (input ≡ ended ls ++ whole ++ left)
 
-reads_none : {source : Option (List ℕ)} (held : Held) → held ≡ record { limit = 8500; bytes = [] } → Reads source source held []
+reads_none : {source : Option (List ℕ)} {piece : ℕ} (held : Held) → held ≡ record { limit = 8500; piece = piece; bytes = [] } → Reads source source held []
 reads_none held is = record {
   plain = tt;
   limit = ap (λ (h : Held). h.limit) is;
@@ -99,22 +100,28 @@ module _ {source source' : Option (List ℕ)} {held : Held} {ls : List (List ℕ
         (last_first input ls f.whole left f.plain is (held_plain f.whole last.0) last.1 (last.2 left left_is))
   ]
 
-  read_line : IsLineFound held.bytes source' → ReadsLinesOf source source' more
-  read_line found input is =
+  abbrev read_to_line : IsLineFound held.bytes source' → (input left : List ℕ) → source' ≡ Some left → input ≡ ended ls ++ f.whole ++ left → HasRead input left more
+  read_to_line found input left left_is is =
       let there : IsLineFound f.whole source' = found_whole 8500 source' f.whole held.bytes f.shortened found in
+      let behind = lines (after_first is_line_feed f.whole ++ left) in
+      record {
+        taken = ended ls ++ f.whole;
+        split = is;
+        first = taken_first there input left left_is is;
+        behind = behind;
+        lines_are = lines_to_come input ls f.whole left f.plain is
+            ∙ ap (λ ms. ls ++ ms) (lines_found f.whole left (subst (λ (s : Option (List ℕ)). IsLineFound f.whole s) left_is there)) ∙ sym (append_assoc ls (real ∷ []) behind);
+      }
+
+  read_line : IsLineFound held.bytes source' → ReadsLinesOf source source' more
+  read_line found input is = let i = f.input input is in (i.0, i.1, read_to_line found input i.0 i.1 i.2)
+
+  -- and no further than what is held after it
+  read_few : {piece : ℕ} → IsLineFound held.bytes source' → length (after_first is_line_feed held.bytes) < piece → ReadsFew piece source source' more
+  read_few {piece = piece} found few input is =
       let i = f.input input is in
-      let behind = lines (after_first is_line_feed f.whole ++ i.0) in (
-        i.0,
-        i.1,
-        record {
-          taken = ended ls ++ f.whole;
-          split = i.2;
-          first = taken_first there input i.0 i.1 i.2;
-          behind = behind;
-          lines_are = lines_to_come input ls f.whole i.0 f.plain i.2
-              ∙ ap (λ ms. ls ++ ms) (lines_found f.whole i.0 (subst (λ (s : Option (List ℕ)). IsLineFound f.whole s) i.1 there)) ∙ sym (append_assoc ls (real ∷ []) behind);
-        },
-      )
+      let after : bytes_after (length more) (ended ls ++ f.whole) ≡ after_first is_line_feed held.bytes = bytes_after-next ls real f.whole f.plain ∙ after_first-text 8500 f.whole held.bytes f.shortened in
+      (i.0, i.1, record { read = read_to_line found input i.0 i.1 i.2; few = subst (λ (t : List ℕ). length t < piece) (sym after) few })
 
   given : (line : List ℕ) → line ≡ take (held.limit + 1) (before_first is_line_feed held.bytes) → line ≡ given_of real
   given line front = front ∙ ap (λ n. take (n + 1) (before_first is_line_feed held.bytes)) f.limit ∙ line_front-text 8500 f.whole held.bytes f.shortened
@@ -158,7 +165,7 @@ pub record AtEnd {M F : Type 0} (takes : M → List ℕ → M → Result (List �
   pub all : ReadsAll source source' ls
   pub written : Written takes old now text text' ls
 
-pub so_far_none : {M F : Type 0} {takes : M → List ℕ → M → Result (List ℕ) F → Type 0} {quiet : M → M → Type 0} {m : M} {source text : Option (List ℕ)} (held : Held) (out : List ℕ) → held ≡ record { limit = 8500; bytes = [] } → out ≡ []
+pub so_far_none : {M F : Type 0} {takes : M → List ℕ → M → Result (List ℕ) F → Type 0} {quiet : M → M → Type 0} {m : M} {source text : Option (List ℕ)} {piece : ℕ} (held : Held) (out : List ℕ) → held ≡ record { limit = 8500; piece = piece; bytes = [] } → out ≡ []
     → SoFar takes quiet m m source source text text held out
 so_far_none {takes = takes} {quiet = quiet} {m = m} {text = text} held out is none = record {
   ls = [];
@@ -167,8 +174,8 @@ so_far_none {takes = takes} {quiet = quiet} {m = m} {text = text} held out is no
 }
 
 -- no more is gathered in a line that is cut
-fed_cut_in : {M F : Type 0} {takes : M → List ℕ → M → Result (List ℕ) F → Type 0} {ends : M → M → Result (List ℕ) F → Type 0} {quiet : M → M → Type 0} {old new : M} {source source' text text' : Option (List ℕ)} {ls : List (List ℕ)}
-    → KeptCut takes quiet old new text text' ls → ReadsLinesOf source source' ls → Fed takes ends quiet feeding.WriteFault old new source source' text text'
+fed_cut_in : {M F : Type 0} {takes : M → List ℕ → M → Result (List ℕ) F → Type 0} {ends : M → M → Result (List ℕ) F → Type 0} {quiet : M → M → Type 0} {old new : M} {source source' text text' : Option (List ℕ)} {piece : ℕ} {ls : List (List ℕ)}
+    → KeptCut takes quiet old new text text' ls → ReadsLinesOf source source' ls → Fed takes ends quiet piece feeding.WriteFault old new source source' text text'
 fed_cut_in {source = source} {source' = source'} c reads = record {
   done = c.done;
   mid = c.mid;
@@ -199,11 +206,11 @@ module _ {M F : Type 0} {takes : M → List ℕ → M → Result (List ℕ) F �
   so_far_fetched same kept = record { ls = f.ls; reads = reads_fetched f.reads same kept; keeps = f.keeps }
 
   -- not all that was gathered could be written
-  pub fed_cut : {ends : M → M → Result (List ℕ) F → Type 0} {text'' : Option (List ℕ)} → IsCutShort text' text'' out → Fed takes ends quiet feeding.WriteFault old now source source' text text''
+  pub fed_cut : {ends : M → M → Result (List ℕ) F → Type 0} {piece : ℕ} {text'' : Option (List ℕ)} → IsCutShort text' text'' out → Fed takes ends quiet piece feeding.WriteFault old now source source' text text''
   fed_cut {text'' = text''} c = fed_cut_in (keeps_cut [] f.keeps c refl) (subst (λ (x : List (List ℕ)). ReadsLinesOf source source' x) (sym (append-nil f.ls)) (reads_lines f.reads))
 
   -- the source failed, and no line is held whole
-  pub fed_unread : {ends : M → M → Result (List ℕ) F → Type 0} → out ≡ [] → position_or_len is_line_feed held.bytes ≡ length held.bytes → Fed takes ends quiet feeding.ReadFault old now source source' text text'
+  pub fed_unread : {ends : M → M → Result (List ℕ) F → Type 0} {piece : ℕ} → out ≡ [] → position_or_len is_line_feed held.bytes ≡ length held.bytes → Fed takes ends quiet piece feeding.ReadFault old now source source' text text'
   fed_unread none unfinished =
       let w = written_none f.keeps none in
       let r = f.reads in
@@ -224,7 +231,7 @@ module _ {M F : Type 0} {takes : M → List ℕ → M → Result (List ℕ) F �
       }
 
   -- all that was gathered is written, and there is no memory for the next line
-  pub fed_wanting : {ends : M → M → Result (List ℕ) F → Type 0} {text'' : Option (List ℕ)} → Appends text' text'' out → Fed takes ends quiet feeding.Memory old now source source' text text''
+  pub fed_wanting : {ends : M → M → Result (List ℕ) F → Type 0} {piece : ℕ} {text'' : Option (List ℕ)} → Appends text' text'' out → Fed takes ends quiet piece feeding.Memory old now source source' text text''
   fed_wanting {text'' = text''} put =
       let w = written_all f.keeps put in
       record {
@@ -238,7 +245,7 @@ module _ {M F : Type 0} {takes : M → List ℕ → M → Result (List ℕ) F �
       }
 
   -- the same, where nothing is gathered
-  pub fed_wanting_none : {ends : M → M → Result (List ℕ) F → Type 0} → out ≡ [] → Fed takes ends quiet feeding.Memory old now source source' text text'
+  pub fed_wanting_none : {ends : M → M → Result (List ℕ) F → Type 0} {piece : ℕ} → out ≡ [] → Fed takes ends quiet piece feeding.Memory old now source source' text text'
   fed_wanting_none none =
       let w = written_none f.keeps none in
       record {
@@ -270,19 +277,19 @@ module _ {M F : Type 0} {takes : M → List ℕ → M → Result (List ℕ) F �
     at_end_line unfinished found step put = record { ls = more f.reads; all = reads_all_line f.reads unfinished found; written = written_all (keeps_next step) put }
 
     -- it was the last line, and not all that was gathered could be written
-    pub fed_cut_last : {ends : M → M → Result (List ℕ) F → Type 0} {out' : List ℕ} {text''' : Option (List ℕ)} → IsLineFound held.bytes source' → Step takes quiet now line next text' text'' out out' → IsCutShort text'' text''' out' → Fed takes ends quiet feeding.WriteFault old next source source' text text'''
+    pub fed_cut_last : {ends : M → M → Result (List ℕ) F → Type 0} {piece : ℕ} {out' : List ℕ} {text''' : Option (List ℕ)} → IsLineFound held.bytes source' → Step takes quiet now line next text' text'' out out' → IsCutShort text'' text''' out' → Fed takes ends quiet piece feeding.WriteFault old next source source' text text'''
     fed_cut_last found step c = fed_cut_in (keeps_cut [] (keeps_next step) c refl) (subst (λ (x : List (List ℕ)). ReadsLinesOf source source' x) (sym (append-nil (more f.reads))) (read_line f.reads found))
 
     -- it ends there
-    pub fed_at_line : {ends : M → M → Result (List ℕ) F → Type 0} (how : Feeding F) → IsLineFound held.bytes source' → ((whole : List ℕ) → line ≡ given_of whole → StopsGathering takes quiet how now whole next text' text'' out)
-        → Fed takes ends quiet how old next source source' text text''
-    fed_at_line {ends = ends} feeding.WriteFault found e =
+    pub fed_at_line : {ends : M → M → Result (List ℕ) F → Type 0} {piece : ℕ} (how : Feeding F) → IsLineFound held.bytes source' → length (after_first is_line_feed held.bytes) < piece → ((whole : List ℕ) → line ≡ given_of whole → StopsGathering takes quiet how now whole next text' text'' out)
+        → Fed takes ends quiet piece how old next source source' text text''
+    fed_at_line {ends = ends} {piece = piece} feeding.WriteFault found few e =
         let s = e (real f.reads) (given f.reads line front) in
         elim s.1 [
-          | inl same ↦ subst (λ (m : M). Fed takes ends quiet feeding.WriteFault old m source source' text text'') (sym same) (fed_cut s.0)
+          | inl same ↦ subst (λ (m : M). Fed takes ends quiet piece feeding.WriteFault old m source source' text text'') (sym same) (fed_cut s.0)
           | inr on ↦ fed_cut_in (keeps_cut (real f.reads ∷ []) f.keeps s.0 (next, on.0, on.1, on.2, refl)) (read_line f.reads found)
         ]
-    fed_at_line (feeding.Stopped why) found e =
+    fed_at_line (feeding.Stopped why) found few e =
         let s = e (real f.reads) (given f.reads line front) in
         let w = written_all f.keeps s.1 in
         record {
@@ -292,15 +299,15 @@ module _ {M F : Type 0} {takes : M → List ℕ → M → Result (List ℕ) F �
           took = w.took;
           text_so_far = text'';
           written = w.put;
-          ended = inr (inl (real f.reads, [], (s.0, refl, refl), read_line f.reads found));
+          ended = inr (inl (real f.reads, [], (s.0, refl, refl), read_few f.reads found few));
         }
-    fed_at_line feeding.Done found e = absurd (e (real f.reads) (given f.reads line front))
-    fed_at_line feeding.ReadFault found e = absurd (e (real f.reads) (given f.reads line front))
-    fed_at_line feeding.Memory found e = absurd (e (real f.reads) (given f.reads line front))
+    fed_at_line feeding.Done found few e = absurd (e (real f.reads) (given f.reads line front))
+    fed_at_line feeding.ReadFault found few e = absurd (e (real f.reads) (given f.reads line front))
+    fed_at_line feeding.Memory found few e = absurd (e (real f.reads) (given f.reads line front))
 
 -- ---- all lines were taken
-pub fed_behind : {M F : Type 0} {takes : M → List ℕ → M → Result (List ℕ) F → Type 0} {ends : M → M → Result (List ℕ) F → Type 0} {quiet : M → M → Type 0} {old now next : M} {source source' text text' text'' : Option (List ℕ)} {how : Feeding F}
-    → AtEnd takes old now source source' text text' → EndsAfter ends how now next text' text'' → Fed takes ends quiet how old next source source' text text''
+pub fed_behind : {M F : Type 0} {takes : M → List ℕ → M → Result (List ℕ) F → Type 0} {ends : M → M → Result (List ℕ) F → Type 0} {quiet : M → M → Type 0} {old now next : M} {source source' text text' text'' : Option (List ℕ)} {piece : ℕ} {how : Feeding F}
+    → AtEnd takes old now source source' text text' → EndsAfter ends how now next text' text'' → Fed takes ends quiet piece how old next source source' text text''
 fed_behind {now = now} {text' = text'} f e = record {
   done = f.ls;
   mid = now;

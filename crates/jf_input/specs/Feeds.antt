@@ -1,6 +1,6 @@
 -- What a machine that takes lines makes of the lines of an input, and what it adds to a text.
-use Rattle.std.specs.Prelude.{ℕ, ◌+◌, List, take, ◌≡◌, [], ◌∷◌, ◌++◌, Result, Ok, Option, option_map, Some, length, Err, ◌⊎◌}
-use Rattle.jf_io.specs.Lines.{lines, whole_lines}
+use Rattle.std.specs.Prelude.{ℕ, ◌+◌, ◌<◌, List, take, ◌≡◌, [], ◌∷◌, ◌++◌, Result, Ok, Option, option_map, Some, length, Err, ◌⊎◌}
+use Rattle.jf_io.specs.Lines.{lines, whole_lines, bytes_after}
 use Rattle.jf_io.specs.LinesRead.{AreFirst}
 use Rattle.jf_io.specs.Sink.{IsCutShort}
 use Rattle.jf_text.specs.Words.{max_line}
@@ -61,6 +61,15 @@ pub record HasRead (input left : List ℕ) (ls : List (List ℕ)) : Type 0 where
 abbrev pub ReadsLinesOf : Option (List ℕ) → Option (List ℕ) → List (List ℕ) → Type 0
 ReadsLinesOf source source' ls = (input : List ℕ) → source ≡ Some input → (left : List ℕ) × (source' ≡ Some left) × HasRead input left ls
 
+-- and of what was taken, fewer bytes than a piece come after these lines
+pub record HasReadFew (piece : ℕ) (input left : List ℕ) (ls : List (List ℕ)) : Type 0 where
+  pub read : HasRead input left ls
+  pub few : length (bytes_after (length ls) read.taken) < piece
+
+-- the same of a source, if it tells its bytes
+abbrev pub ReadsFew : ℕ → Option (List ℕ) → Option (List ℕ) → List (List ℕ) → Type 0
+ReadsFew piece source source' ls = (input : List ℕ) → source ≡ Some input → (left : List ℕ) × (source' ≡ Some left) × HasReadFew piece input left ls
+
 -- nothing is left, and these are all lines
 abbrev pub ReadsAll : Option (List ℕ) → Option (List ℕ) → List (List ℕ) → Type 0
 ReadsAll source source' ls = (input : List ℕ) → source ≡ Some input → (source' ≡ Some []) × (lines input ≡ ls)
@@ -78,6 +87,14 @@ EndsAtLine takes quiet feeding.Done old line later new text text' = ⊥
 EndsAtLine takes quiet feeding.ReadFault old line later new text text' = ⊥
 EndsAtLine takes quiet feeding.Memory old line later new text text' = ⊥
 
+-- these lines were read, and if the machine stopped in the last of them, less than a piece beyond it
+abbrev pub ReadsToLine : {F : Type 0} → Feeding F → ℕ → Option (List ℕ) → Option (List ℕ) → List (List ℕ) → Type 0
+ReadsToLine (feeding.Stopped why) piece source source' ls = ReadsFew piece source source' ls
+ReadsToLine feeding.Done piece source source' ls = ReadsLinesOf source source' ls
+ReadsToLine feeding.ReadFault piece source source' ls = ReadsLinesOf source source' ls
+ReadsToLine feeding.WriteFault piece source source' ls = ReadsLinesOf source source' ls
+ReadsToLine feeding.Memory piece source source' ls = ReadsLinesOf source source' ls
+
 -- behind the last line: all was added, or the same
 abbrev pub EndsAfter : {M F : Type 0} → (M → M → Result (List ℕ) F → Type 0) → Feeding F → M → M → Option (List ℕ) → Option (List ℕ) → Type 0
 EndsAfter ends feeding.Done old new text text' = (t : List ℕ) × ends old new (Ok t) × Appends text text' t
@@ -94,8 +111,9 @@ EndsBetween feeding.Done source source' done = ⊥
 EndsBetween feeding.WriteFault source source' done = ⊥
 EndsBetween (feeding.Stopped why) source source' done = ⊥
 
--- the lines of a source were taken by a machine and what they add written, up to where it ended
-pub record Fed {M F : Type 0} (takes : M → List ℕ → M → Result (List ℕ) F → Type 0) (ends : M → M → Result (List ℕ) F → Type 0) (quiet : M → M → Type 0) (how : Feeding F) (old new : M) (source source' text text' : Option (List ℕ)) : Type 0 where
+-- the lines of a source, read in pieces of at most so many bytes, were taken by a machine and what they add written, up to where
+-- it ended
+pub record Fed {M F : Type 0} (takes : M → List ℕ → M → Result (List ℕ) F → Type 0) (ends : M → M → Result (List ℕ) F → Type 0) (quiet : M → M → Type 0) (piece : ℕ) (how : Feeding F) (old new : M) (source source' text text' : Option (List ℕ)) : Type 0 where
   pub done : List (List ℕ)
   pub mid : M
   pub said : List ℕ
@@ -103,5 +121,5 @@ pub record Fed {M F : Type 0} (takes : M → List ℕ → M → Result (List ℕ
   pub text_so_far : Option (List ℕ)
   pub written : Appends text text_so_far said
   pub ended : ((new ≡ mid) × (text' ≡ text_so_far) × EndsBetween how source source' done)
-      ⊎ ((line : List ℕ) × (later : List (List ℕ)) × EndsAtLine takes quiet how mid line later new text_so_far text' × ReadsLinesOf source source' (done ++ line ∷ later))
+      ⊎ ((line : List ℕ) × (later : List (List ℕ)) × EndsAtLine takes quiet how mid line later new text_so_far text' × ReadsToLine how piece source source' (done ++ line ∷ later))
       ⊎ (EndsAfter ends how mid new text_so_far text' × ReadsAll source source' done)

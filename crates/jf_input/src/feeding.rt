@@ -1,6 +1,7 @@
 // The lines of a source, taken by a machine, and what they add, written into a sink.
 ghost use Rattle.std.specs.Prelude.{◌≡◌, ◌-◌, ◌<◌, ◌≤◌, ◌^◌, Err, OnOk, OnErr, IfErr, List, ℕ, Ok, [], IsTrue};
 ghost use Rattle.jf_path.specs.Faults.{HasCause};
+ghost use Rattle.jf_io.specs.declared.line_reader.TheConstants.{MAX_PIECE};
 ghost use Rattle.jf_io.specs.Sink.{IsCutShort};
 ghost use Rattle.jf_input.specs.Feeds.{given_of, Appends, HandsOn, Gathers, StopsGathering, EndsAfter, Fed};
 
@@ -27,7 +28,9 @@ pub enum Feeding<F> {
     Stopped(F),
 }
 
-/// Hands the lines of a source to a machine, and what it adds to a sink. Input is taken in large pieces.
+/// Hands the lines of a source to a machine, and what it adds to a sink. Input is taken in pieces of at most `piece` bytes,
+/// 1 to `MAX_PIECE`, and only while no whole line is at hand. So if the machine stops at a line, fewer than `piece` bytes
+/// beyond that line's end were taken.
 ///
 /// What the machine adds may be gathered, and all of it is written before the source is asked for more bytes, before a
 /// line that isn't known to be quiet is taken, before the next line once 65,536 bytes or more are gathered, and before
@@ -38,15 +41,17 @@ pub fn feed<M: LineMachine, S: Source, K: Sink>(
     machine: &mut M,
     source: &mut S,
     sink: &mut K,
+    piece: usize,
 ) -> Feeding<M::Stop>
-    requires { M.ready machine.old }
-    ensures fed { Fed M.takes M.ends M.quiet result machine.old machine.new (S.rest source.old) (S.rest source.new) (K.text sink.old) (K.text sink.new) }
+    requires ready { M.ready machine.old }
+    requires piece { (1 ≤ piece) × (piece ≤ MAX_PIECE) }
+    ensures fed { Fed M.takes M.ends M.quiet piece result machine.old machine.new (S.rest source.old) (S.rest source.new) (K.text sink.old) (K.text sink.new) }
     ensures read { result ≡ Feeding.ReadFault → HasCause (S.faults source.old) (S.faults source.new) }
     ensures write { result ≡ Feeding.WriteFault → HasCause (K.faults sink.old) (K.faults sink.new) }
     ensures source_counts { S.faults source.old ≤ S.faults source.new }
     ensures sink_counts { K.faults sink.old ≤ K.faults sink.new }
 {
-    let mut reader = LineReader::new(alloc, MAX_LINE);
+    let mut reader = LineReader::new(alloc, MAX_LINE, piece);
     let mut out = Bytes::new(alloc);
     // No source gives more lines than this.
     for _turn in 0..u64::MAX {

@@ -5,5 +5,6 @@ pub mod WholeLines
 pub mod EndedLines
 pub mod Plain
 pub mod Found
+pub mod AfterLines
 pub mod FirstLines
 pub mod Written

@@ -55,7 +55,8 @@ drop_after : (xs ys : List ℕ) (k : ℕ) → drop (length xs + k) (xs ++ ys) �
 drop_after [] ys k = ap (λ n. drop n ys) (let e : 0 + k ≡ k = omega arith in e)
 drop_after (x ∷ xs) ys k = ap (λ n. drop n (x ∷ xs ++ ys)) (let e : suc (length xs) + k ≡ suc (length xs + k) = omega arith in e) ∙ drop_after xs ys k
 
-after_after : (xs ys : List ℕ) → position_or_len is_line_feed xs ≡ length xs → after_first is_line_feed (xs ++ ys) ≡ after_first is_line_feed ys
+-- after the first line of bytes that begin without a line feed
+pub after_after : (xs ys : List ℕ) → position_or_len is_line_feed xs ≡ length xs → after_first is_line_feed (xs ++ ys) ≡ after_first is_line_feed ys
 after_after xs ys h =
     let place = position_or_len-append is_line_feed xs ys h in
     ap (λ n. drop n (xs ++ ys)) (let e : position_or_len is_line_feed (xs ++ ys) + 1 ≡ length xs + (position_or_len is_line_feed ys + 1) = omega arith in e)

@@ -1,6 +1,6 @@
--- Lines of input: what ends a line, how far a search for its end has come, and what is held of a long line.
+-- Lines of input: what ends a line, how far a search for its end has come, how much is held, and what is held of a long line.
 use Rattle.std.specs.Prelude.{◌≡◌, ℕ, ◌+◌, ◌<◌, ◌≤◌, Bool, ◌==◌, List, ◌++◌, length, drop, Option, Some}
-use Rattle.std.specs.List.{position_or_len}
+use Rattle.std.specs.List.{position_or_len, after_first}
 
 -- this byte is a line feed
 abbrev pub is_line_feed : ℕ → Bool
@@ -12,9 +12,15 @@ pub record IsSearched (bytes : List ℕ) (start searched : ℕ) : Type 0 where
   pub within : searched ≤ length bytes
   pub without_feed : searched ≤ start + position_or_len is_line_feed (drop start bytes)
 
--- what a reader holds: `bytes`, and the most bytes of a line that is held whole
+-- no more is kept than the front of a long line and a piece, and after the first line from `start` on fewer bytes than a piece
+pub record HoldsFew (bytes : List ℕ) (start limit piece : ℕ) : Type 0 where
+  pub small : length bytes ≤ limit + 1 + piece
+  pub few : length (after_first is_line_feed (drop start bytes)) < piece
+
+-- what a reader holds: `bytes`, the most bytes of a line that is held whole, and the most bytes of a piece of input
 pub record Held : Type 0 where
   pub limit : ℕ
+  pub piece : ℕ
   pub bytes : List ℕ
 
 -- `held` is `text`, but bytes of its first line may be gone after a front longer than the limit; `behind` is the rest

@@ -19,7 +19,7 @@ pub use laws::{
     bytes_without_feed_are_one_line, first_line_ends_at_first_feed, lines_go_on_behind_a_feed,
     whole_lines_come_first, whole_lines_count_lines,
 };
-pub use line_reader::{FetchFault, LineReader};
+pub use line_reader::{FetchFault, LineReader, MAX_PIECE};
 pub use mem_sink::MemSink;
 pub use mem_source::MemSource;
 pub use sink::{Sink, put_all};

@@ -8,8 +8,8 @@ use crate::source::Source;
 use std::alloc::Global;
 use std::marker::Model;
 
-// The most bytes that one call asks a source for.
-const PIECE: usize = 65_536;
+/// The most bytes that one call may ask a source for.
+pub const MAX_PIECE: usize = 65_536;
 
 /// Why no line was fetched.
 #[derive(Clone, Copy, Debug, PartialEq, Eq)]
@@ -21,7 +21,9 @@ pub enum FetchFault {
 }
 
 /// Holds bytes that were taken from a source, and gives them out a line at a time.
-/// Input is taken in pieces of up to 65,536 bytes.
+///
+/// Input is taken in pieces: one call asks the source for at most `piece` bytes. It is asked only if no whole line is held,
+/// so fewer than `piece` bytes are held after the first line.
 ///
 /// A line of at most `limit` bytes is held whole. Of a longer line more than `limit` bytes from its front are held, and
 /// the rest may be dropped as it comes. So at most `limit` + 1 bytes and one piece are held, whatever a line's length.
@@ -34,37 +36,43 @@ pub struct LineReader {
     searched: usize,
     // the most bytes of a line that is held whole
     limit: usize,
+    // the most bytes that one call asks a source for
+    piece: usize,
 }
 
 impl Model for LineReader {
-    ghost use Rattle.std.specs.Prelude.{ℕ, ◌+◌, ◌≤◌, length, drop};
-    ghost use Rattle.jf_io.specs.declared.line_reader.TheConstants.{PIECE};
-    ghost use Rattle.jf_io.specs.LineReader.{Held, IsSearched};
+    ghost use Rattle.std.specs.Prelude.{◌≤◌, drop};
+    ghost use Rattle.jf_io.specs.declared.line_reader.TheConstants.{MAX_PIECE};
+    ghost use Rattle.jf_io.specs.LineReader.{Held, IsSearched, HoldsFew};
 
     ghost Value = { Held };
 
-    ghost view = { λ r. record { limit = r.limit; bytes = drop r.start r.bytes.items } };
+    ghost view = { λ r. record { limit = r.limit; piece = r.piece; bytes = drop r.start r.bytes.items } };
 
-    ghost invariant = { λ r. IsSearched r.bytes.items r.start r.searched × (length r.bytes.items ≤ r.limit + 1 + PIECE) };
+    ghost invariant = { λ r. IsSearched r.bytes.items r.start r.searched × HoldsFew r.bytes.items r.start r.limit r.piece × (r.piece ≤ MAX_PIECE) };
 }
 
 impl LineReader {
-    /// A reader that holds nothing. A line of at most `limit` bytes will be held whole.
-    pub fn new(alloc: Global, limit: usize) -> LineReader
-        ensures { result ≡ record { limit = limit; bytes = [] } }
+    /// A reader that holds nothing. A line of at most `limit` bytes will be held whole, and the source will be asked for at
+    /// most `piece` bytes at a time, 1 to `MAX_PIECE`.
+    pub fn new(alloc: Global, limit: usize, piece: usize) -> LineReader
+        requires piece { (1 ≤ piece) × (piece ≤ MAX_PIECE) }
+        ensures { result ≡ record { limit = limit; piece = piece; bytes = [] } }
     {
         LineReader {
             bytes: Vec::new(alloc),
             start: 0,
             searched: 0,
             limit,
+            piece,
         }
     }
 
     /// Whether a whole line is held, with its line feed. Then `fetch` does not ask the source. Each byte is searched once.
     pub fn finds_line(&mut self) -> bool
         ensures same { self.new ≡ self.old }
-        ensures small { length self.new.bytes ≤ self.new.limit + 1 + PIECE }
+        ensures small { length self.new.bytes ≤ self.new.limit + 1 + self.new.piece }
+        ensures few { length (after_first is_line_feed self.new.bytes) < self.new.piece }
         ensures found { IsTrue result ↔ (position_or_len is_line_feed self.new.bytes < length self.new.bytes) }
     {
         self.searched = line_end(&self.bytes, self.start, self.searched);
@@ -79,7 +87,10 @@ impl LineReader {
         // Whatever the outcome, no byte is invented, and only bytes of a line past its first `limit` + 1 are lost.
         ensures kept { (text : List ℕ) → IsShortened self.old.limit text self.old.bytes → IsFetched self.old.limit text self.new.bytes (S.rest source.old) (S.rest source.new) }
         ensures limit { self.new.limit ≡ self.old.limit }
-        ensures small { length self.new.bytes ≤ self.new.limit + 1 + PIECE }
+        ensures piece { self.new.piece ≡ self.old.piece }
+        ensures small { length self.new.bytes ≤ self.new.limit + 1 + self.new.piece }
+        // After the first line, fewer bytes than a piece are held.
+        ensures few { length (after_first is_line_feed self.new.bytes) < self.new.piece }
         ensures ready { position_or_len is_line_feed self.old.bytes < length self.old.bytes → (result ≡ Ok true) × (self.new ≡ self.old) × (source.new ≡ source.old) }
         ensures found { result ≡ Ok true → (position_or_len is_line_feed self.new.bytes < length self.new.bytes) ⊎ ((0 < length self.new.bytes) × ((left : List ℕ) → S.rest source.new ≡ Some left → left ≡ [])) }
         ensures ended { result ≡ Ok false → (self.new.bytes ≡ []) × ((left : List ℕ) → S.rest source.new ≡ Some left → left ≡ []) }
@@ -148,11 +159,14 @@ impl LineReader {
 
     // Takes a piece of input, and returns its number of bytes. 0 is the end of the input.
     fn take_piece<S: Source>(&mut self, source: &mut S) -> Result<usize, FetchFault>
-        requires { length self.old.bytes ≤ self.old.limit + 1 }
+        requires short { length self.old.bytes ≤ self.old.limit + 1 }
+        requires unfinished { position_or_len is_line_feed self.old.bytes ≡ length self.old.bytes }
         ensures kept { (rest : List ℕ) → S.rest source.old ≡ Some rest → (left : List ℕ) × (S.rest source.new ≡ Some left) × (self.new.bytes ++ left ≡ self.old.bytes ++ rest) }
         ensures front { take (length self.old.bytes) self.new.bytes ≡ self.old.bytes }
         ensures limit { self.new.limit ≡ self.old.limit }
-        ensures small { length self.new.bytes ≤ self.new.limit + 1 + PIECE }
+        ensures piece { self.new.piece ≡ self.old.piece }
+        ensures small { length self.new.bytes ≤ self.new.limit + 1 + self.new.piece }
+        ensures few { length (after_first is_line_feed self.new.bytes) < self.new.piece }
         ensures unchanged { OnErr result (self.new ≡ self.old) }
         ensures end { IfOk result (λ n. n ≡ 0 → (self.new ≡ self.old) × ((left : List ℕ) → S.rest source.new ≡ Some left → left ≡ [])) }
         ensures given { IfOk result (λ n. S.given source.new ≡ S.given source.old + n) }
@@ -163,7 +177,7 @@ impl LineReader {
         drop_front(&mut self.bytes, self.start);
         self.searched -= self.start;
         self.start = 0;
-        append_piece(&mut self.bytes, source)
+        append_piece(&mut self.bytes, source, self.piece)
     }
 }
 
@@ -204,10 +218,15 @@ fn drop_front(bytes: &mut Vec<u8>, count: usize)
     bytes.truncate(kept);
 }
 
-// Appends a piece of input to `bytes`, and returns its number of bytes. 0 is the end of the input.
-fn append_piece<S: Source>(bytes: &mut Vec<u8>, source: &mut S) -> Result<usize, FetchFault>
+// Appends input to `bytes`, at most `piece` bytes of it, and returns how many. 0 is the end of the input.
+fn append_piece<S: Source>(
+    bytes: &mut Vec<u8>,
+    source: &mut S,
+    piece: usize,
+) -> Result<usize, FetchFault>
+    requires { (1 ≤ piece) × (piece ≤ MAX_PIECE) }
     ensures front { take (length bytes.old.items) bytes.new.items ≡ bytes.old.items }
-    ensures short { length bytes.new.items ≤ length bytes.old.items + PIECE }
+    ensures short { length bytes.new.items ≤ length bytes.old.items + piece }
     ensures kept { (rest : List ℕ) → S.rest source.old ≡ Some rest → (left : List ℕ) × (S.rest source.new ≡ Some left) × (bytes.new.items ++ left ≡ bytes.old.items ++ rest) }
     ensures unchanged { OnErr result (bytes.new.items ≡ bytes.old.items) }
     ensures end { IfOk result (λ n. n ≡ 0 → (bytes.new.items ≡ bytes.old.items) × ((left : List ℕ) → S.rest source.new ≡ Some left → left ≡ [])) }
@@ -217,7 +236,7 @@ fn append_piece<S: Source>(bytes: &mut Vec<u8>, source: &mut S) -> Result<usize,
     ensures grows { S.faults source.old ≤ S.faults source.new }
 {
     let len = bytes.len();
-    if bytes.resize(len + PIECE, 0).is_err() {
+    if bytes.resize(len + piece, 0).is_err() {
         return Err(FetchFault::Memory);
     }
     match source.take(&mut bytes[len..]) {

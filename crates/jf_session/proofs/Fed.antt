@@ -5,6 +5,7 @@ use Rattle.jf_io.specs.Sink.{IsCutShort}
 use Rattle.jf_input.specs.Feeds.{Appends, GoesOnQuietly, Took, EndsAtLine, EndsAfter, Fed, ReadsLinesOf}
 use Rattle.jf_input.specs.declared.feeding.Feeding.{Feeding}
 use Rattle.jf_input.specs.declared.feeding.Feeding.TheVariants as feeding
+use Rattle.jf_input.proofs.FirstRead.{lines_of_few}
 use Rattle.jf_io.proofs.FirstLines.{all_first}
 use Rattle.jf_io.proofs.Written.{written_more}
 use Rattle.jf_store.specs.Starts.{Start}
@@ -21,7 +22,7 @@ use Rattle.jf_session.specs.declared.stop.Stop.TheVariants as stop
 use Rattle.jf_session.proofs.Replied.{whole_is_cut, cut_is_cut}
 use Rattle.jf_session.proofs.Taken.{makes_at, took_more, went_on, reads_to}
 
-module _ (start : Start) (old : Pass) (begun : old.start ≡ Some start) (none : HasAnswered start old (new_session old) [] []) (rest rest' text text' : Option (List ℕ)) where
+module _ (start : Start) (old : Pass) (begun : old.start ≡ Some start) (none : HasAnswered start old (new_session old) [] []) (piece : ℕ) (rest rest' text text' : Option (List ℕ)) where
   -- it ran to the pass of this session
   abbrev RanTo : End → Session → Type 0
   RanTo e new = HasRunOver e start old new.pass rest rest' text text'
@@ -153,7 +154,7 @@ module _ (start : Start) (old : Pass) (begun : old.start ≡ Some start) (none :
   ]
 
   -- ---- by how it was fed
-  ran_fed : (how : Feeding Stop) (new : Session) → Fed AnswersLine AnswersEnd StaysQuiet how (new_session old) new rest rest' text text' → RanTo (end_of_feeding how) new
+  ran_fed : (how : Feeding Stop) (new : Session) → Fed AnswersLine AnswersEnd StaysQuiet piece how (new_session old) new rest rest' text text' → RanTo (end_of_feeding how) new
   ran_fed feeding.Done new f =
       let s = is_said f.mid f.done f.text_so_far f.said f.took f.written in
       elim f.ended [
@@ -199,7 +200,7 @@ module _ (start : Start) (old : Pass) (begun : old.start ≡ Some start) (none :
         | inr e ↦ elim e [
           | inl l ↦
               let makes = makes_at start f.mid new l.0 (Err why) (known f.mid f.done s.replies s.answered) l.2.0 in
-              stopped_by why f.mid new f.done f.text_so_far l.0 s makes l.2.1 (subst (λ (x : List (List ℕ)). ReadsLinesOf rest rest' (f.done ++ l.0 ∷ x)) l.2.2 l.3)
+              stopped_by why f.mid new f.done f.text_so_far l.0 s makes l.2.1 (subst (λ (x : List (List ℕ)). ReadsLinesOf rest rest' (f.done ++ l.0 ∷ x)) l.2.2 (lines_of_few piece rest rest' (f.done ++ l.0 ∷ l.1) l.3))
           | inr a ↦ absurd a.0.0
         ]
       ]
@@ -237,7 +238,7 @@ module _ (start : Start) (old : Pass) (begun : old.start ≡ Some start) (none :
     end_shown feeding.Memory m new told told' e = e
     end_shown (feeding.Stopped why) m new told told' e = e
 
-    fed_shown : (how : Feeding Stop) (m new : M) → Fed Takes Ends Quiet how m new rest rest' text text' → Fed AnswersLine AnswersEnd StaysQuiet how (shown m) (shown new) rest rest' text text'
+    fed_shown : (how : Feeding Stop) (m new : M) → Fed Takes Ends Quiet piece how m new rest rest' text text' → Fed AnswersLine AnswersEnd StaysQuiet piece how (shown m) (shown new) rest rest' text text'
     fed_shown how m new f = record {
       done = f.done;
       mid = shown f.mid;
@@ -255,8 +256,8 @@ module _ (start : Start) (old : Pass) (begun : old.start ≡ Some start) (none :
     }
 
     -- a machine that shows a new session of a pass runs to the pass of the one that it shows in the end
-    pub ran_shown : (how : Feeding Stop) (m new : M) → shown m ≡ new_session old → Fed Takes Ends Quiet how m new rest rest' text text' → RanTo (end_of_feeding how) (shown new)
-    ran_shown how m new is f = ran_fed how (shown new) (subst (λ (s : Session). Fed AnswersLine AnswersEnd StaysQuiet how s (shown new) rest rest' text text') is (fed_shown how m new f))
+    pub ran_shown : (how : Feeding Stop) (m new : M) → shown m ≡ new_session old → Fed Takes Ends Quiet piece how m new rest rest' text text' → RanTo (end_of_feeding how) (shown new)
+    ran_shown how m new is f = ran_fed how (shown new) (subst (λ (s : Session). Fed AnswersLine AnswersEnd StaysQuiet piece how s (shown new) rest rest' text text') is (fed_shown how m new f))
 
 -- ---- what ended it
 pub read_fault_of : (how : Feeding Stop) → end_of_feeding how ≡ end.ReadFault → how ≡ feeding.ReadFault

@@ -15,10 +15,10 @@ use Rattle.jf_session.specs.declared.stop.Stop.TheVariants as stop
 abbrev pub IsSamePass : Pass → Pass → Type 0
 IsSamePass old new = (new.store ≡ old.store) × (new.start ≡ old.start) × (new.number ≡ old.number)
 
-same_of : (old new : Pass) → new ≡ record old { seen = new.seen; place = new.place; pinned = new.pinned } → IsSamePass old new
+pub same_of : (old new : Pass) → new ≡ record old { seen = new.seen; place = new.place; pinned = new.pinned } → IsSamePass old new
 same_of old new e = (ap (λ (p : Pass). p.store) e, ap (λ (p : Pass). p.start) e, ap (λ (p : Pass). p.number) e)
 
-same_further : (old mid new : Pass) → IsSamePass old mid → IsSamePass mid new → IsSamePass old new
+pub same_further : (old mid new : Pass) → IsSamePass old mid → IsSamePass mid new → IsSamePass old new
 same_further old mid new s t = (t.0 ∙ s.0, t.1 ∙ s.1, t.2 ∙ s.2)
 
 pub same_replied : (start : Start) (s new : Session) (line : List ℕ) (r : Answered) → HasReplied start s new line r → IsSamePass s.pass new.pass
@@ -42,7 +42,7 @@ same_at_rest : (s new : Session) (next : Option (List ℕ)) → IsAtRest s new n
 same_at_rest s new None rest = same_last s new rest
 same_at_rest s new (Some line) rest = same_idle s new line rest
 
-same_by : (e : End) (start : Start) (s new : Session) (next : Option (List ℕ)) → EndsBy e start s new next → IsSamePass s.pass new.pass
+pub same_by : (e : End) (start : Start) (s new : Session) (next : Option (List ℕ)) → EndsBy e start s new next → IsSamePass s.pass new.pass
 same_by end.Done start s new next d = same_last s new d.0
 same_by end.ReadFault start s new next d = same_last s new d.0
 same_by end.WriteFault start s new next d = same_at_rest s new next d

@@ -68,11 +68,16 @@ pub record MayStep {T : Type 0} (store : Store) (shown : T → Session) (s : T) 
   pub steps : AreSteps store shown pre post
 
 -- ---- how a run ended
+-- by why its session stopped
+abbrev pub end_of_stop : Stop → End
+end_of_stop stop.DiskFault = end.DiskFault
+end_of_stop stop.Broken = end.Broken
+end_of_stop stop.Memory = end.Memory
+
+-- by how the session was fed
 abbrev pub end_of_feeding : Feeding Stop → End
 end_of_feeding feeding.Done = end.Done
 end_of_feeding feeding.ReadFault = end.ReadFault
 end_of_feeding feeding.WriteFault = end.WriteFault
 end_of_feeding feeding.Memory = end.Memory
-end_of_feeding (feeding.Stopped stop.DiskFault) = end.DiskFault
-end_of_feeding (feeding.Stopped stop.Broken) = end.Broken
-end_of_feeding (feeding.Stopped stop.Memory) = end.Memory
+end_of_feeding (feeding.Stopped why) = end_of_stop why

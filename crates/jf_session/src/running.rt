@@ -12,7 +12,7 @@ use crate::taking::{Taking, answer_line};
 use jf_disk::Disk;
 use jf_history::{End, none_answered};
 use jf_input::{Feeding, feed};
-use jf_io::{Sink, Source};
+use jf_io::{MAX_PIECE, Sink, Source};
 use jf_join::Gate;
 use jf_path::Bytes;
 use jf_store::{Pass, Store};
@@ -65,7 +65,7 @@ pub fn run<S: Source, K: Sink, D: Disk, H: Threads + Wait + Sync, G: Gate>(
         ensures { DoesLine session.old line.now out.old result session.new out.new }
     { answer_line(rt, alloc, store, session, line, workers, gate, out) };
     let mut taking = Taking { session, step };
-    let end = end_of_feeding(feed(alloc, &mut taking, source, sink));
+    let end = end_of_feeding(feed(alloc, &mut taking, source, sink, MAX_PIECE));
     let Taking { session, step: _ } = taking;
     let pass = session.end();
     Ran { pass, end }
@@ -80,8 +80,6 @@ fn end_of_feeding(how: Feeding<Stop>) -> End
         Feeding::ReadFault => End::ReadFault,
         Feeding::WriteFault => End::WriteFault,
         Feeding::Memory => End::Memory,
-        Feeding::Stopped(Stop::DiskFault) => End::DiskFault,
-        Feeding::Stopped(Stop::Broken) => End::Broken,
-        Feeding::Stopped(Stop::Memory) => End::Memory,
+        Feeding::Stopped(why) => why.end(),
     }
 }

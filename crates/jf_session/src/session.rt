@@ -75,16 +75,17 @@ impl<D: Disk> Session<D> {
         let _ = &self.pass;
     }
 
-    // What a session keeps for itself has the number of its pass, and the pins that its pass holds on the board.
-    pub(crate) fn know_own(&self, store: &Store<D>)
+    /// What holds of every session on a store, for proofs: what it keeps for itself has the number of its pass, and the pins
+    /// that its pass holds on the board.
+    pub fn know_own(&self, store: &Store<D>)
         ensures number { self.now.own.number ≡ self.now.pass.number }
         ensures pins { HoldsPins self.now }
     {
         self.pass.know_pins(store);
     }
 
-    // What its pass has seen is a legal history of the store.
-    pub(crate) fn know_events(&self, store: &Store<D>)
+    /// What holds of every session over a pass of a store, for proofs: what its pass has seen is a legal history of the store.
+    pub fn know_events(&self, store: &Store<D>)
         requires { IsPassOf self.now.pass store.now }
         ensures { AreEvents store.now.start self.now.pass.seen }
     {

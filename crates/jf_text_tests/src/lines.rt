@@ -1,5 +1,5 @@
 // Lines of input, whole and cut short.
-use jf_io::{FetchFault, LineReader, MemSource};
+use jf_io::{FetchFault, LineReader, MAX_PIECE, MemSource, Source};
 use jf_path::Bytes;
 use std::alloc::Global;
 use std::test::Fail;
@@ -43,7 +43,7 @@ fn ends_with(reader: &mut LineReader, source: &mut MemSource, lines: &[&[u8]]) -
 // Whether a text, in pieces of at most `piece` bytes, is read as these lines.
 fn is_handed_on(alloc: Global, text: &[u8], piece: usize, lines: &[&[u8]]) -> Result<bool, Fail> {
     let mut source = source_of(alloc, text, piece, u64::MAX)?;
-    let mut reader = LineReader::new(alloc, LIMIT);
+    let mut reader = LineReader::new(alloc, LIMIT, MAX_PIECE);
     Ok(ends_with(&mut reader, &mut source, lines))
 }
 
@@ -81,7 +81,7 @@ fn fails_within(reader: &mut LineReader, source: &mut MemSource, line: &[u8]) ->
 
 // Whether a fetch meets a fault with this much of a line, and these lines come after the fault.
 fn goes_on(alloc: Global, source: &mut MemSource, front: &[u8], lines: &[&[u8]]) -> bool {
-    let mut reader = LineReader::new(alloc, LIMIT);
+    let mut reader = LineReader::new(alloc, LIMIT, MAX_PIECE);
     fails_within(&mut reader, source, front) && ends_with(&mut reader, source, lines)
 }
 
@@ -163,7 +163,7 @@ fn is_last_and_longer(reader: &mut LineReader, source: &mut MemSource) -> bool {
 fn is_skipped_at_end(alloc: Global, len: usize, piece: usize) -> Result<bool, Fail> {
     let text = long_text(alloc, b"first\n", len, b"")?;
     let mut source = source_of(alloc, &text, piece, u64::MAX)?;
-    let mut reader = LineReader::new(alloc, LIMIT);
+    let mut reader = LineReader::new(alloc, LIMIT, MAX_PIECE);
     if !goes_on_with(&mut reader, &mut source, b"first")
         || !is_last_and_longer(&mut reader, &mut source)
     {
@@ -206,5 +206,43 @@ fn goes_on_after_it(alloc: Global) -> Result<bool, Fail> {
 #[test]
 fn goes_on_after_a_fault_in_a_skipped_line(rt: HostRuntime) -> Result<(), Fail> {
     assert!(rt; goes_on_after_it(rt.alloc())?);
+    Ok(())
+}
+
+const LINES: &[u8] = b"one\n\nthree\nfour";
+
+// A reader's piece, and how many bytes of these lines it has taken once each of them is found.
+const TAKEN: &[(usize, &[u64])] = &[
+    (1, &[4, 5, 11, 15]),
+    (4, &[4, 8, 12, 15]),
+    (5, &[5, 5, 15, 15]),
+    (15, &[15, 15, 15, 15]),
+    (MAX_PIECE, &[15, 15, 15, 15]),
+];
+
+// Whether a line comes once this many bytes are taken, which is then dropped.
+fn comes_after(reader: &mut LineReader, source: &mut MemSource, taken: u64) -> bool {
+    let comes = reader.fetch(source) == Ok(true) && source.taken() == taken;
+    reader.advance();
+    comes
+}
+
+// Whether a reader with this piece has taken so many bytes at each line of a source that would give all at once.
+fn takes_pieces(alloc: Global, piece: usize, taken: &[u64]) -> Result<bool, Fail> {
+    let mut source = source_of(alloc, LINES, usize::MAX, u64::MAX)?;
+    let mut reader = LineReader::new(alloc, LIMIT, piece.max(1).min(MAX_PIECE));
+    for count in taken {
+        if !comes_after(&mut reader, &mut source, *count) {
+            return Ok(false);
+        }
+    }
+    Ok(true)
+}
+
+#[test]
+fn takes_no_more_than_a_piece_beyond_a_line(rt: HostRuntime) -> Result<(), Fail> {
+    for (piece, taken) in TAKEN {
+        assert!(rt; takes_pieces(rt.alloc(), *piece, taken)?, "by {piece}");
+    }
     Ok(())
 }

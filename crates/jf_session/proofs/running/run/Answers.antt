@@ -7,8 +7,8 @@ use Rattle.jf_session.proofs.Fed.{ran_shown, read_fault_of, write_fault_of}
 use Rattle.jf_session.proofs.SamePass.{same_ran, own_after}
 use Rattle.jf_session.proofs.running.run.Goals as goal
 
-pub feed-requires : goal.feed-requires
-feed-requires g c = (
+pub feed-requires-clause-ready : goal.feed-requires-clause-ready
+feed-requires-clause-ready g c = (
   c.args.store.now,
   record {
     begun = ap (λ (s : Session). s.over) c.new-session.ensures;
@@ -26,7 +26,7 @@ returns-clause-ran g c =
     let store = c.args.store.now in
     let pass = c.args.pass in
     let none : HasAnswered store.start pass (new_session pass) [] [] = c.none_answered.ensures store.start pass c.requires.unmarked (subst HoldsPins c.new-session.ensures c.know_own.ensures.pins) in
-    let r = ran_shown store.start pass c.requires.own.1 none source source' text text' (λ t. t.session) c.feed.result _ c.feed.new.machine c.new-session.ensures c.feed.ensures.fed in
+    let r = ran_shown store.start pass c.requires.own.1 none 65536 source source' text text' (λ t. t.session) c.feed.result _ c.feed.new.machine c.new-session.ensures c.feed.ensures.fed in
     let at_end : HasRunOver c.end_of_feeding-end.result store.start pass c.feed.new.machine.session.pass source source' text text' = subst (λ (e : End). HasRunOver e store.start pass c.feed.new.machine.session.pass source source' text text') (sym c.end_of_feeding-end.ensures) r in
     subst (λ (p : Pass). HasRunOver c.end_of_feeding-end.result store.start pass p source source' text text') (sym c.end-pass.ensures) at_end
 

@@ -7,6 +7,7 @@ abbrev pub invariant-loop-self : goal.invariant-loop-self
 invariant-loop-self g l = record {
   kept : (text : List ℕ) → IsShortened l.initial.self.limit text l.initial.self.bytes → IsFetched l.initial.self.limit text l.self.bytes (g.S.Source.rest l.initial.source) (g.S.Source.rest l.source);
   limit : l.self.limit ≡ l.initial.self.limit;
+  piece : l.self.piece ≡ l.initial.self.piece;
   ready : position_or_len is_line_feed l.initial.self.bytes < length l.initial.self.bytes → (l.self ≡ l.initial.self) × (l.source ≡ l.initial.source);
   grows : g.S.Source.faults l.initial.source ≤ g.S.Source.faults l.source;
 }
