@@ -36,7 +36,8 @@ pub(crate) fn begin<V: Told>(
     turn.table.shared.load::<Birth>(token, 0);
 }
 
-/// Brings home a value whose list goes on from that of the value taken, and wakes a thread that waits.
+/// Brings home a value whose list goes on from that of the value taken, and wakes a thread that waits; with one seat
+/// nobody can wait, and the system isn't asked.
 pub(crate) fn bring<V: Told>(
     turn: &Turn<V>,
     token: &mut Token<Option<V>, SeatView<V::Entry, V::Origin>>,
@@ -53,5 +54,7 @@ pub(crate) fn bring<V: Told>(
     put_in(turn, token, value);
     turn.table.shared.store::<Move>(token, 0, 2 * count + 1);
     turn.table.shared.store::<Release>(token, 0, 2 * count);
-    turn.table.shared.wake_one(0);
+    if turn.seats > 1 {
+        turn.table.shared.wake_one(0);
+    }
 }
