@@ -131,7 +131,7 @@ refusals-decided r ls =
     decides r s.restore (length ls) s.at s.stage (chunks r.root r.entries ls) (after_begun r ls) (chunks-lines r ls)
 
 -- ---- what stays
-restoring_after_all-append : (s : Restoring) (ls ms : List (List ℕ)) → restoring_after_all s (ls ++ ms) ≡ restoring_after_all (restoring_after_all s ls) ms
+pub restoring_after_all-append : (s : Restoring) (ls ms : List (List ℕ)) → restoring_after_all s (ls ++ ms) ≡ restoring_after_all (restoring_after_all s ls) ms
 unfolding restoring_after_all
 restoring_after_all-append s [] ms = refl
 restoring_after_all-append s (line ∷ ls) ms = restoring_after_all-append (restoring_after s line) ls ms

@@ -1,3 +1,4 @@
 pub mod LineByLine
 pub mod Deciding
 pub mod LongLines
+mod NoMemory

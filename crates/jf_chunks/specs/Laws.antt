@@ -1,9 +1,10 @@
 -- What holds of all lines of chunk blocks, as statements for calls that do nothing and ensure them.
-use Rattle.std.specs.Prelude.{Result, Ok, Err, ◌≡◌, ℕ, List, length, ◌++◌, Some, IsTrue}
+use Rattle.std.specs.Prelude.{Result, Ok, Err, ◌≡◌, ◌≢◌, ℕ, List, length, ◌++◌, Some, IsTrue}
 use Rattle.jf_evidence.specs.Ranges.{Entries}
 use Rattle.jf_restore.specs.RestoreValue.{RestoreValue}
 use Rattle.jf_text.specs.Words.{is_long}
 use Rattle.jf_chunks.specs.declared.fault.BlockFault.{BlockFault}
+use Rattle.jf_chunks.specs.declared.fault.BlockFault.TheVariants as fault
 use Rattle.jf_chunks.specs.Chunks.{chunks, decided}
 use Rattle.jf_chunks.specs.Steps.{begun_restoring, restoring_after_all, restored_at_end, refusal_at_stage, Restoring, restoring_after}
 
@@ -27,3 +28,7 @@ RefusalsStay = (r : RestoreValue) (ls ms : List (List ℕ)) (why : BlockFault) �
 -- two lines that are too long give the same
 abbrev pub LongChunkLinesAreAlike : Type 0
 LongChunkLinesAreAlike = (s : Restoring) (line other : List ℕ) → IsTrue (is_long line) → IsTrue (is_long other) → restoring_after s line ≡ restoring_after s other
+
+-- lines are refused for what they say, and never because memory runs out
+abbrev pub NoLinesComeToMemory : Type 0
+NoLinesComeToMemory = (root : List ℕ) (known : Entries) (ls : List (List ℕ)) → chunks root known ls ≢ Err fault.Memory

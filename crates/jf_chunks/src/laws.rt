@@ -1,5 +1,5 @@
 // Laws on lines of chunk blocks, for proofs of code that stands on them. These functions do nothing when they run.
-ghost use Rattle.jf_chunks.specs.Laws.{ChunksComeLineByLine, RefusalsComeAtTheirLine, RefusalsStay, LongChunkLinesAreAlike};
+ghost use Rattle.jf_chunks.specs.Laws.{ChunksComeLineByLine, RefusalsComeAtTheirLine, RefusalsStay, LongChunkLinesAreAlike, NoLinesComeToMemory};
 
 /// Lines read one by one give what they give all together.
 pub fn chunks_come_line_by_line()
@@ -19,4 +19,9 @@ pub fn refusals_stay()
 /// All lines of more than 8,500 bytes give the same.
 pub fn long_lines_are_alike()
     ensures { LongChunkLinesAreAlike }
+{}
+
+/// What lines come to is no matter of memory.
+pub fn no_lines_come_to_memory()
+    ensures { NoLinesComeToMemory }
 {}

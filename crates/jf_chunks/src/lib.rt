@@ -12,5 +12,6 @@ pub use blocks::Blocks;
 pub use fault::BlockFault;
 pub use jf_restore::{RangeFault, Restore};
 pub use laws::{
-    chunks_come_line_by_line, long_lines_are_alike, refusals_come_at_their_line, refusals_stay,
+    chunks_come_line_by_line, long_lines_are_alike, no_lines_come_to_memory,
+    refusals_come_at_their_line, refusals_stay,
 };

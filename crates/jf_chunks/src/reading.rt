@@ -144,7 +144,7 @@ fn add(restore: &mut Restore, begun: &Begun) -> Result<Stage, Memory>
         Err(RestoreRefused::Chunk(why)) => {
             Ok(Stage::Refused(BlockFault::Chunk(begun.first, why)))
         }
-        Err(RestoreRefused::NotWhole(_)) => unreachable!(),
+        Err(RestoreRefused::NotWhole(_) | RestoreRefused::Engine(_)) => unreachable!(),
         Err(RestoreRefused::Memory) => Err(Memory),
     }
 }

@@ -27,12 +27,14 @@ pub record IsAdded (old new : RestoreValue) (fresh : Entries) (proof : RangeProo
 abbrev pub IsNotAdded : RestoreValue → RestoreValue → Entries → RangeProof → RestoreRefused → Type 0
 IsNotAdded old new fresh proof (refused.Chunk why) = (range_refusal old.root old.entries fresh proof ≡ Some why) × (new ≡ old)
 IsNotAdded old new fresh proof (refused.NotWhole found) = ⊥
+IsNotAdded old new fresh proof (refused.Engine why) = ⊥
 IsNotAdded old new fresh proof refused.Memory = (range_refusal old.root old.entries fresh proof ≡ None) × (new ≡ old)
 
 -- the chunk is refused by a check that comes before the last one, for which alone it is hashed
 abbrev pub IsUnhashed : RestoreRefused → Type 0
 IsUnhashed (refused.Chunk why) = why ≢ fault.WrongRoot
 IsUnhashed (refused.NotWhole found) = ⊥
+IsUnhashed (refused.Engine why) = ⊥
 IsUnhashed refused.Memory = ⊥
 
 -- there are `count` entries, and they come to the announced root
@@ -43,4 +45,5 @@ IsWhole r count = (count ≡ length r.entries) × (part_root 0 r.entries ≡ r.r
 abbrev pub IsNotWhole : RestoreValue → RestoreRefused → Type 0
 IsNotWhole r (refused.Chunk why) = ⊥
 IsNotWhole r (refused.NotWhole found) = (found ≡ part_root 0 r.entries) × (found ≢ r.root)
+IsNotWhole r (refused.Engine why) = ⊥
 IsNotWhole r refused.Memory = ⊥

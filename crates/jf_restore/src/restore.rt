@@ -1,10 +1,14 @@
 // A restore under way: the entries added so far, and their frontier.
 ghost use Rattle.std.specs.Prelude.{◌≡◌, ◌+◌, ◌-◌, ◌*◌, ◌^◌, ◌<◌, ◌≤◌, [], length, IfErr, MatchResult};
 ghost use Rattle.jf_hash.specs.Roots.{part_root};
+ghost use Rattle.jf_restore.specs.Finishes.{IsFinished, IsNotFinished};
 ghost use Rattle.jf_restore.specs.Restores.{IsAdded, IsNotAdded, IsWhole, IsNotWhole, IsUnhashed, HaveShortValues};
 
 use crate::copies::add_copies;
+use crate::importing::import;
 use crate::refused::RestoreRefused;
+use jf_disk::Disk;
+use jf_engine::Engine;
 use jf_hash::Hash;
 use jf_path::Pairs;
 use jf_range::{Frontier, RangeProof};
@@ -131,5 +135,34 @@ impl Restore {
     {
         let mut steps = Steps::<L>::new(blank);
         self.whole_counted(&mut steps)
+    }
+
+    /// How many entries were added so far.
+    pub fn count(&self) -> u64
+        ensures { result ≡ length self.now.entries }
+    {
+        self.entries.len()
+    }
+
+    /// Makes a new store hold the version with the entries that were added, if their root is the announced one, and returns
+    /// how many they are. It is imported as `Engine::import` says, in the next generation of the files.
+    ///
+    /// Refusals; after each but that of the disk the store is unchanged:
+    ///
+    /// - `NotWhole(found)`: the root of the entries is another one.
+    /// - `Engine(why)`: the store didn't import them. After `Engine(DiskFault)` it is broken, and a crash leaves the
+    ///   versions from before or the one restored.
+    pub fn finish<D: Disk>(
+        self,
+        alloc: Global,
+        engine: &mut Engine<D>,
+    ) -> Result<u64, RestoreRefused>
+        ensures { MatchResult result (IsFinished self engine.old engine.new) (IsNotFinished self engine.old engine.new) }
+    {
+        let count = self.whole()?;
+        match import(alloc, engine, self.version, &self.entries) {
+            Ok(()) => Ok(count),
+            Err(why) => Err(RestoreRefused::Engine(why)),
+        }
     }
 }
