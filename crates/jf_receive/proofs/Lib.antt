@@ -1,0 +1,4 @@
+mod RestoredLaws
+mod LinesTaken
+mod BlocksRead
+mod Outcomes

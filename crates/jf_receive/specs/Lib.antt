@@ -1,0 +1,3 @@
+pub mod Restored
+pub mod Receives
+pub mod TakenLines

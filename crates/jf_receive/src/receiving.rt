@@ -1,0 +1,108 @@
+// The restore of a version over devices: chunk blocks from a source, and one line into a sink.
+ghost use Rattle.std.specs.Prelude.{◌≡◌, ◌⊎◌, ℕ, ◌-◌, ◌<◌, ◌≤◌, ◌^◌, List, Some, Ok, Err, IfSome, IfNone, false};
+ghost use Rattle.jf_path.specs.Faults.{HasCause};
+ghost use Rattle.jf_evidence.specs.Ranges.{Entries};
+ghost use Rattle.jf_restore.specs.Finishes.{IsNewStore, IsInUse};
+ghost use Rattle.jf_receive.specs.Restored.{restored};
+ghost use Rattle.jf_receive.specs.Receives.{HasReceived, EndsUnlessStopped};
+
+use crate::importing::import;
+use crate::reading::read_blocks;
+use crate::received::{Received, RestoreFault};
+use crate::text::restored_line;
+use jf_disk::Disk;
+use jf_engine::Engine;
+use jf_hash::Hash;
+use jf_io::{Sink, Source, put_all};
+use std::alloc::Global;
+
+/// Restores a version, whose root is announced, into a new store, from the chunk blocks of a source (docs/FORMATS.md,
+/// "Restoring a version"); and writes into a sink the line that tells of it: `restored VERSION ROOT COUNT`.
+///
+/// It takes input in pieces of at most 4,096 bytes, and only while no whole line is at hand, and stops at the first line
+/// that is refused. Nothing is imported before the whole input is read and judged, and all memory is taken before the first
+/// call on the disk. Each end but `Done`, `WriteFault` and `DiskFault` leaves store and disk unchanged, and each but `Done`
+/// and `WriteFault` the sink.
+///
+/// - `Refused(NotEmpty)`: the store isn't new. Nothing was read.
+/// - `Refused(Line)`, `Refused(Chunk)`: a line doesn't match, or a block isn't accepted. Fewer than 4,096 bytes after the
+///   line that decides it were taken.
+/// - `Refused(NotWhole)`, `Refused(Last)`: the whole input was read. `NotWhole` comes before `Last`.
+/// - `ReadFault`: the source failed.
+/// - `Memory`: memory ran out.
+/// - `DiskFault`: the disk failed in the import. The store is broken; a crash leaves the versions from before, or the one
+///   restored.
+/// - `WriteFault`: the version is restored, and the sink failed; it has a front of the line.
+pub fn receive<S: Source, K: Sink, D: Disk>(
+    alloc: Global,
+    engine: &mut Engine<D>,
+    version: u64,
+    root: Hash,
+    source: &mut S,
+    sink: &mut K,
+) -> Received
+    requires last { version ≤ 2 ^ 64 - 2 }
+    requires whole { engine.old.broken ≡ false }
+    ensures received { HasReceived result version root engine.old engine.new (S.rest source.old) (S.rest source.new) (K.text sink.old) (K.text sink.new) }
+    ensures occupied { IsInUse engine.old.versions → result ≡ Received.Refused (RestoreFault.NotEmpty engine.old.versions.head) }
+    ensures untouched { (head : ℕ) → result ≡ Received.Refused (RestoreFault.NotEmpty head) → (source.new ≡ source.old) × (sink.new ≡ sink.old) }
+    ensures refused { (input : List ℕ) (why : RestoreFault) → S.rest source.old ≡ Some input → IsNewStore engine.old.versions → restored engine.old.generation root input ≡ Err why → EndsUnlessStopped (Received.Refused why) result }
+    ensures accepted { (input : List ℕ) (es : Entries) (why : RestoreFault) → S.rest source.old ≡ Some input → IsNewStore engine.old.versions → restored engine.old.generation root input ≡ Ok es → result ≡ Received.Refused why → ⊥ }
+    ensures read { result ≡ Received.ReadFault → HasCause (S.faults source.old) (S.faults source.new) }
+    ensures write { result ≡ Received.WriteFault → HasCause (K.faults sink.old) (K.faults sink.new) }
+    ensures counts { (S.faults source.old ≤ S.faults source.new) × (K.faults sink.old ≤ K.faults sink.new) }
+{
+    if let Some(head) = head_in_use(engine) {
+        return Received::Refused(RestoreFault::NotEmpty(head));
+    }
+    receive_into_new(alloc, engine, version, root, source, sink)
+}
+
+/// Restores a version into a store that is new.
+fn receive_into_new<S: Source, K: Sink, D: Disk>(
+    alloc: Global,
+    engine: &mut Engine<D>,
+    version: u64,
+    root: Hash,
+    source: &mut S,
+    sink: &mut K,
+) -> Received
+    requires last { version ≤ 2 ^ 64 - 2 }
+    requires whole { engine.old.broken ≡ false }
+    requires unused { IsNewStore engine.old.versions }
+    ensures received { HasReceived result version root engine.old engine.new (S.rest source.old) (S.rest source.new) (K.text sink.old) (K.text sink.new) }
+    ensures read { result ≡ Received.ReadFault → HasCause (S.faults source.old) (S.faults source.new) }
+    ensures write { result ≡ Received.WriteFault → HasCause (K.faults sink.old) (K.faults sink.new) }
+    ensures counts { (S.faults source.old ≤ S.faults source.new) × (K.faults sink.old ≤ K.faults sink.new) }
+{
+    let restore = match read_blocks(alloc, version, root, source) {
+        Ok(restore) => restore,
+        Err(how) => return how,
+    };
+    let Ok(line) = restored_line(alloc, version, &root, restore.count()) else {
+        return Received::Memory;
+    };
+    if let Err(how) = import(alloc, engine, root, restore) {
+        return how;
+    }
+    match put_all(sink, line.as_slice()) {
+        Ok(()) => Received::Done,
+        Err(_) => Received::WriteFault,
+    }
+}
+
+/// The head of a store that isn't new.
+fn head_in_use<D: Disk>(engine: &Engine<D>) -> Option<u64>
+    ensures some { IfSome result (λ head. (head ≡ engine.now.versions.head) × IsInUse engine.now.versions) }
+    ensures none { IfNone result (IsNewStore engine.now.versions) }
+{
+    engine.know();
+    let head = engine.state().head;
+    let Some(newest) = engine.at(head) else {
+        unreachable!()
+    };
+    if head != 0 || newest.count() > 0 {
+        return Some(head);
+    }
+    None
+}
