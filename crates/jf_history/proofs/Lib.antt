@@ -8,6 +8,7 @@ pub mod OneSession
 pub mod Steps
 pub mod Closed
 pub mod Spared
+pub mod OneEnd
 pub mod OneRun
 pub mod Samples
 pub mod Replies

@@ -6,25 +6,24 @@ use Rattle.jf_io.specs.LinesRead.{lines_read, AreFirst}
 use Rattle.jf_model.specs.States.{State}
 use Rattle.jf_model.specs.Entries.{replay, timeless}
 use Rattle.jf_store.specs.declared.event.Event.{Event}
-use Rattle.jf_store.specs.declared.event.Event.TheVariants.{Mark}
 use Rattle.jf_store.specs.Events.{entries_of, attempt_of}
 use Rattle.jf_store.specs.Ledgers.{AreEvents}
 use Rattle.jf_store.specs.Passes.{Store, Pass, new_pass}
-use Rattle.jf_store.proofs.EventLaws.{entries_of-mark, attempt_of-none}
+use Rattle.jf_store.proofs.EventLaws.{attempt_of-none}
 use Rattle.jf_answers.specs.Own.{Own, begun_session}
 use Rattle.jf_answers.specs.Answers.{answer}
-use Rattle.jf_answers.specs.Runs.{answers_from, answers, answer_text, texts_of}
-use Rattle.jf_answers.specs.Explains.{Answered}
+use Rattle.jf_answers.specs.Runs.{answers_from, answers, answer_text, texts_of, text_of}
+use Rattle.jf_answers.specs.Explains.{Answered, text_in}
 use Rattle.jf_history.specs.Sessions.{Session, seen_by, IsTry}
 use Rattle.jf_history.specs.Runs.{HasAnswered, ReadsBy, HasReadInput, IsCut, IsAtRest, HasRunOver}
 use Rattle.jf_history.specs.Alone.{IsCutAnswer, WritesAlone, TriesAlone, RanAlone}
 use Rattle.jf_history.specs.declared.end.End.{End}
 use Rattle.jf_history.specs.declared.end.End.TheVariants as end
 use Rattle.jf_history.specs.Laws.{OneRunIsAlone}
-use Rattle.jf_history.proofs.OnePass.{alone, one_pass_adds}
+use Rattle.jf_history.proofs.OneEnd.{rest_seen, one_end_is_alone}
 use Rattle.jf_history.proofs.Fronts.{AreAnswered-take, AreHeld-take, places_told-take}
 use Rattle.jf_history.proofs.HeldFloors.{floors_of, HaveMet-floors}
-use Rattle.jf_history.proofs.OneSession.{Agrees, agrees-from, agrees-all, AreEvents-before, one_session_tries, one_session_is_never_broken}
+use Rattle.jf_history.proofs.OneSession.{Agrees, agrees-from}
 
 -- ---- the first lines
 
@@ -61,29 +60,6 @@ AreFirst-take taken left ls n f = record {
   are = first_lines (lines_read taken left) ls n f.enough f.are;
 }
 
--- ---- how it ended
-
-module _ (store : Store) (mid : Session) (ls : List (List ℕ)) (rs : List Answered) (one : store.start.passes ≡ 1) (a : HasAnswered store.start (new_pass store 0) mid ls rs) where
-  below : mid.pass.number < store.start.passes
-  below = let number : mid.pass.number ≡ 0 = ap (λ (p : Pass). p.number) a.same in omega arith
-
-  -- a session that is at rest has seen nothing more
-  rest_seen : (last : Session) (next : Option (List ℕ)) → AreEvents store.start last.pass.seen → IsAtRest mid last next → last.pass.seen ≡ mid.pass.seen
-  rest_seen last None are h = ap (λ (s : Session). s.pass.seen) h
-  rest_seen last (Some line) are h = alone store.start mid.pass last.pass.seen one below are.named h.follows.begins h.others
-
-  -- nor one at a fault of the disk, but for the mark
-  try_entries : (last : Session) (line : List ℕ) → AreEvents store.start last.pass.seen → IsTry store.start mid last line → seen_by last.pass ≡ seen_by mid.pass
-  try_entries last line are t =
-      let seen : last.pass.seen ≡ t.before ++ Mark mid.pass.number t.attempt ∷ [] = ap (λ (p : Pass). p.seen) t.sees.last in
-      ap entries_of seen ∙ entries_of-mark t.before mid.pass.number t.attempt ∙ ap entries_of (one_pass_adds store.start mid.pass last.pass t.before (Mark mid.pass.number t.attempt) one below are t.sees)
-
-  try_before : (last : Session) (line : List ℕ) → AreEvents store.start last.pass.seen → IsTry store.start mid last line → AreEvents store.start mid.pass.seen
-  try_before last line are t =
-      let seen : last.pass.seen ≡ t.before ++ Mark mid.pass.number t.attempt ∷ [] = ap (λ (p : Pass). p.seen) t.sees.last in
-      let same = one_pass_adds store.start mid.pass last.pass t.before (Mark mid.pass.number t.attempt) one below are t.sees in
-      subst (AreEvents store.start) same (AreEvents-before store.start t.before mid.pass.number t.attempt (subst (AreEvents store.start) seen are) t.sees.unmarked)
-
 -- ---- what was written
 
 module _ (store : Store) (mid : Session) (ls : List (List ℕ)) (rs : List Answered) (one : store.start.passes ≡ 1) (none : store.start.state.count ≡ 0) (are : AreEvents store.start mid.pass.seen)
@@ -112,14 +88,25 @@ module _ (store : Store) (mid : Session) (ls : List (List ℕ)) (rs : List Answe
 -- ---- the law
 
 module _ (store : Store) (new : Pass) (rest rest' text text' : Option (List ℕ)) (one : store.start.passes ≡ 1) (none : store.start.state.count ≡ 0) (are : AreEvents store.start new.seen) where
-  -- a run that ended after the lines done
-  ran_still : (e : End) (r : HasRunOver e store.start (new_pass store 0) new rest rest' text text') → new.seen ≡ r.mid.pass.seen
-      → (g : Agrees store.start.state (begun_session 0) r.done r.replies (seen_by new)) × (attempt_of new.seen ≡ None)
-  ran_still e r same = (
-    subst (λ (xs : List Event). Agrees store.start.state (begun_session 0) r.done r.replies (entries_of xs)) (sym same)
-        (agrees-all store r.mid r.done r.replies one none (subst (AreEvents store.start) same are) r.answered),
-    ap attempt_of same ∙ attempt_of-none r.mid.pass.seen r.answered.unmarked,
-  )
+  seen_last : (e : End) (r : HasRunOver e store.start (new_pass store 0) new rest rest' text text') → AreEvents store.start r.last.pass.seen
+  seen_last e r = subst (λ (p : Pass). AreEvents store.start p.seen) r.pass_is are
+
+  -- a run whose output has the replies to all lines done
+  ran_whole : (e : End) (r : HasRunOver e store.start (new_pass store 0) new rest rest' text text') → (r.writes.text ≡ text_of (answers store.start.state r.done) → WritesAlone e store.start.state r.done r.writes.text) → r.writes.text ≡ text_in r.replies
+      → RanAlone e store.start.state (seen_by new) (attempt_of new.seen) rest rest' text text'
+  ran_whole e r writes by =
+      let g = one_end_is_alone store e r.mid r.last r.done r.replies r.next one none (seen_last e r) r.answered r.ends in
+      record {
+        done = r.done;
+        next = r.next;
+        entries_are = ap (λ (p : Pass). map timeless (seen_by p)) r.pass_is ∙ g.0.entries;
+        state = ap (λ (p : Pass). replay store.start.state (seen_by p)) r.pass_is ∙ g.0.state;
+        tried = subst (λ (p : Pass). TriesAlone e (answers store.start.state r.done) r.next (attempt_of p.seen)) (sym r.pass_is) g.1;
+        written = r.writes.text;
+        writes = writes (by ∙ ap concat g.0.texts);
+        appended = r.writes.appended;
+        reads = r.reads;
+      }
 
   -- a run whose output was cut
   cut_reads : (e : End) → ((taken left : List ℕ) (ls : List (List ℕ)) → ReadsBy e taken left ls) → (ls : List (List ℕ)) (n : ℕ) (next : Option (List ℕ))
@@ -131,10 +118,11 @@ module _ (store : Store) (new : Pass) (rest rest' text text' : Option (List ℕ)
         record { taken = x.2.taken; split = x.2.split; first = AreFirst-take x.2.taken x.0 ls n x.2.first; far = far x.2.taken x.0 (take n ls); begun = tt },
       )
 
-  ran_cut : (e : End) → ((taken left : List ℕ) (ls : List (List ℕ)) → ReadsBy e taken left ls) → (r : HasRunOver e store.start (new_pass store 0) new rest rest' text text') → new.seen ≡ r.mid.pass.seen → (c : IsCut r.replies r.writes.text)
+  ran_cut : (e : End) → ((taken left : List ℕ) (ls : List (List ℕ)) → ReadsBy e taken left ls) → (r : HasRunOver e store.start (new_pass store 0) new rest rest' text text') → IsAtRest r.mid r.last r.next → (c : IsCut r.replies r.writes.text)
       → (IsCutAnswer store.start.state (take c.count r.done) r.writes.text → WritesAlone e store.start.state (take c.count r.done) r.writes.text)
       → (attempt_of new.seen ≡ None → TriesAlone e (answers store.start.state (take c.count r.done)) None (attempt_of new.seen)) → RanAlone e store.start.state (seen_by new) (attempt_of new.seen) rest rest' text text'
-  ran_cut e far r same c writes tries =
+  ran_cut e far r at_rest c writes tries =
+      let same : new.seen ≡ r.mid.pass.seen = ap (λ (p : Pass). p.seen) r.pass_is ∙ rest_seen store r.mid r.last r.done r.replies one (seen_last e r) r.answered r.next at_rest in
       let are' = subst (AreEvents store.start) same are in
       let g = subst (λ (xs : List Event). Agrees store.start.state (begun_session 0) (take c.count r.done) (take c.count r.replies) (entries_of xs)) (sym same)
       (agrees_cut store r.mid r.done r.replies one none are' r.answered r.writes.text c) in
@@ -143,52 +131,19 @@ module _ (store : Store) (new : Pass) (rest rest' text text' : Option (List ℕ)
         next = None;
         entries_are = g.entries;
         state = g.state;
-        tried = tries (ran_still e r same).1;
+        tried = tries (ap attempt_of same ∙ attempt_of-none r.mid.pass.seen r.answered.unmarked);
         written = r.writes.text;
         writes = writes (cut_answer store r.mid r.done r.replies one none are' r.answered r.writes.text c);
         appended = r.writes.appended;
         reads = cut_reads e far r.done c.count r.next r.reads;
       }
 
-  seen_last : (e : End) (r : HasRunOver e store.start (new_pass store 0) new rest rest' text text') → AreEvents store.start r.last.pass.seen
-  seen_last e r = subst (λ (p : Pass). AreEvents store.start p.seen) r.pass_is are
-
 pub one_run_is_alone : OneRunIsAlone
-one_run_is_alone store end.Done new rest rest' text text' one none are r =
-    let same : new.seen ≡ r.mid.pass.seen = ap (λ (p : Pass). p.seen) r.pass_is ∙ ap (λ (s : Session). s.pass.seen) r.ends.0 in
-    let g = ran_still store new rest rest' text text' one none are end.Done r same in
-    record { done = r.done; next = r.next; entries_are = g.0.entries; state = g.0.state; tried = g.1; written = r.writes.text; writes = r.writes.by ∙ ap concat g.0.texts; appended = r.writes.appended; reads = r.reads }
-one_run_is_alone store end.ReadFault new rest rest' text text' one none are r =
-    let same : new.seen ≡ r.mid.pass.seen = ap (λ (p : Pass). p.seen) r.pass_is ∙ ap (λ (s : Session). s.pass.seen) r.ends.0 in
-    let g = ran_still store new rest rest' text text' one none are end.ReadFault r same in
-    record { done = r.done; next = r.next; entries_are = g.0.entries; state = g.0.state; tried = g.1; written = r.writes.text; writes = r.writes.by ∙ ap concat g.0.texts; appended = r.writes.appended; reads = r.reads }
-one_run_is_alone store end.WriteFault new rest rest' text text' one none are r =
-    let last = seen_last store new rest rest' text text' one none are end.WriteFault r in
-    let same : new.seen ≡ r.mid.pass.seen = ap (λ (p : Pass). p.seen) r.pass_is ∙ rest_seen store r.mid r.done r.replies one r.answered r.last r.next last r.ends in
-    ran_cut store new rest rest' text text' one none are end.WriteFault (λ taken left ls. tt) r same r.writes.by (λ c. c) (λ t. t)
-one_run_is_alone store end.DiskFault new rest rest' text text' one none are r =
-    let last = seen_last store new rest rest' text text' one none are end.DiskFault r in
-    let line = r.ends.0 in
-    let t = r.ends.2 in
-    let before = try_before store r.mid r.done r.replies one r.answered r.last line last t in
-    let g = agrees-all store r.mid r.done r.replies one none before r.answered in
-    let same : seen_by new ≡ seen_by r.mid.pass = ap seen_by r.pass_is ∙ try_entries store r.mid r.done r.replies one r.answered r.last line last t in
-    let tried = one_session_tries store r.mid r.last r.done r.replies line one none last r.answered t in
-    record {
-      done = r.done;
-      next = r.next;
-      entries_are = ap (map timeless) same ∙ g.entries;
-      state = ap (replay store.start.state) same ∙ g.state;
-      tried = (line, r.ends.1, (tried.0, ap (λ (p : Pass). attempt_of p.seen) r.pass_is ∙ tried.1, tried.2));
-      written = r.writes.text;
-      writes = r.writes.by ∙ ap concat g.texts;
-      appended = r.writes.appended;
-      reads = r.reads;
-    }
+one_run_is_alone store end.Done new rest rest' text text' one none are r = ran_whole store new rest rest' text text' one none are end.Done r (λ t. t) r.writes.by
+one_run_is_alone store end.ReadFault new rest rest' text text' one none are r = ran_whole store new rest rest' text text' one none are end.ReadFault r (λ t. t) r.writes.by
+one_run_is_alone store end.WriteFault new rest rest' text text' one none are r = ran_cut store new rest rest' text text' one none are end.WriteFault (λ taken left ls. tt) r r.ends r.writes.by (λ c. c) (λ t. t)
+one_run_is_alone store end.DiskFault new rest rest' text text' one none are r = ran_whole store new rest rest' text text' one none are end.DiskFault r (λ t. t) r.writes.by
 one_run_is_alone store end.Broken new rest rest' text text' one none are r =
     let last = seen_last store new rest rest' text text' one none are end.Broken r in
-    absurd (one_session_is_never_broken store r.mid r.last r.done r.replies r.ends.0 one last r.answered r.ends.2)
-one_run_is_alone store end.Memory new rest rest' text text' one none are r =
-    let last = seen_last store new rest rest' text text' one none are end.Memory r in
-    let same : new.seen ≡ r.mid.pass.seen = ap (λ (p : Pass). p.seen) r.pass_is ∙ rest_seen store r.mid r.done r.replies one r.answered r.last r.next last r.ends in
-    ran_cut store new rest rest' text text' one none are end.Memory (λ taken left ls. tt) r same r.writes.by (λ c. c) (λ t. t)
+    absurd (one_end_is_alone store end.Broken r.mid r.last r.done r.replies r.next one none last r.answered r.ends).1
+one_run_is_alone store end.Memory new rest rest' text text' one none are r = ran_cut store new rest rest' text text' one none are end.Memory (λ taken left ls. tt) r r.ends r.writes.by (λ c. c) (λ t. t)

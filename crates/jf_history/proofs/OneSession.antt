@@ -3,7 +3,7 @@ use Rattle.std.proofs.Common.{◌≡◌, inl, inr, ℕ, ◌+◌, ◌-◌, ◌<�
 use Rattle.std.proofs.lemmas.Bool.{eq-eqb}
 use Rattle.std.proofs.Math.Seq.{take-append_seam}
 use Rattle.std.specs.Prelude.{is_some, slice_get, option_to_list}
-use Rattle.std.specs.List.{AllByRecursion, concat}
+use Rattle.std.specs.List.{AllByRecursion}
 use Rattle.jf_model.specs.States.{State}
 use Rattle.jf_model.specs.Entries.{after, replay, owner_of, timeless, IsHistory, RiseFrom, moments_of}
 use Rattle.jf_model.proofs.EntryLaws.{after-count, after-at_moment, replay-push}
@@ -278,7 +278,7 @@ agrees-all store now ls rs one none are a =
 pub one_session_is_alone : OneSessionIsAlone
 one_session_is_alone store now ls rs one none are a =
     let g = agrees-all store now ls rs one none are a in
-    record { text = ap concat g.texts; entries = g.entries; state = g.state; own = a.own ∙ g.own_after }
+    record { texts = g.texts; entries = g.entries; state = g.state; own = a.own ∙ g.own_after }
 
 -- ---- the mark
 

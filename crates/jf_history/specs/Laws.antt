@@ -14,8 +14,8 @@ use Rattle.jf_answers.specs.Own.{Own, begun_session}
 use Rattle.jf_answers.specs.Runs.{answers}
 use Rattle.jf_answers.specs.Explains.{Answered, AreAnswered, ExplainsAnswers, IsAttempt, own_after_replies, timeline_of}
 use Rattle.jf_history.specs.Sessions.{Session, HoldsPins, new_session, seen_by, HasReplied, IsTry, IsBroken, HasLooked, HasChanged, look_reply, change_reply}
-use Rattle.jf_history.specs.Runs.{HasAnswered, HasRunOver}
-use Rattle.jf_history.specs.Alone.{AnswersAlone, IsTried, RanAlone}
+use Rattle.jf_history.specs.Runs.{HasAnswered, EndsBy, HasRunOver}
+use Rattle.jf_history.specs.Alone.{AnswersAlone, IsTried, TriesAlone, RanAlone}
 use Rattle.jf_history.specs.Sparing.{SparesPinsSince}
 use Rattle.jf_history.specs.Serving.{Served, IsServed, AreServed, FailedIn, scripts_of, replies_of, passes_of}
 use Rattle.jf_history.specs.declared.end.End.{End}
@@ -71,6 +71,11 @@ OneSessionTries = (store : Store) (mid last : Session) (ls : List (List ℕ)) (r
 abbrev pub OneSessionIsNeverBroken : Type 0
 OneSessionIsNeverBroken = (store : Store) (mid last : Session) (ls : List (List ℕ)) (rs : List Answered) (line : List ℕ) → store.start.passes ≡ 1 → AreEvents store.start last.pass.seen
     → HasAnswered store.start (new_pass store 0) mid ls rs → IsBroken mid last line → ⊥
+
+-- a session that ends after these lines answered them as one by itself, and if the disk failed, the attempt is the entry that the next line gives
+abbrev pub OneEndIsAlone : Type 0
+OneEndIsAlone = (store : Store) (e : End) (mid last : Session) (ls : List (List ℕ)) (rs : List Answered) (next : Option (List ℕ)) → store.start.passes ≡ 1 → store.start.state.count ≡ 0 → AreEvents store.start last.pass.seen
+    → HasAnswered store.start (new_pass store 0) mid ls rs → EndsBy e store.start mid last next → AnswersAlone store.start.state last ls rs × TriesAlone e (answers store.start.state ls) next (attempt_of last.pass.seen)
 
 -- a whole run
 abbrev pub OneRunIsAlone : Type 0

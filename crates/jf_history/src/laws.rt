@@ -1,5 +1,5 @@
 // Laws on sessions over passes, for proofs of code that stands on them. These functions do nothing when they run.
-ghost use Rattle.jf_history.specs.Laws.{AnswersStay, LooksReply, ChangesReply, NoneAnswered, OneMoreAnswered, OnePassSees, OnePassAdds, OnePassCloses, OneSessionIsAlone, OneSessionTries, OneSessionIsNeverBroken, OneRunIsAlone, ClosedExplains, ClosedTries, ClosedBlames, ClosedSparesPins};
+ghost use Rattle.jf_history.specs.Laws.{AnswersStay, LooksReply, ChangesReply, NoneAnswered, OneMoreAnswered, OnePassSees, OnePassAdds, OnePassCloses, OneSessionIsAlone, OneSessionTries, OneSessionIsNeverBroken, OneEndIsAlone, OneRunIsAlone, ClosedExplains, ClosedTries, ClosedBlames, ClosedSparesPins};
 
 /// What was answered stays so where entries follow.
 pub fn answers_stay()
@@ -54,6 +54,12 @@ pub fn one_session_tries()
 /// On a store of one pass, no session meets the mark of an earlier call.
 pub fn one_session_is_never_broken()
     ensures { OneSessionIsNeverBroken }
+{}
+
+/// On a store of one pass, a session that ended has answered its lines as one by itself, and the attempt, if there is one, is
+/// the entry that the next line gives a session by itself.
+pub fn one_end_is_alone()
+    ensures { OneEndIsAlone }
 {}
 
 /// On a store of one pass, a whole run is that of a session by itself.
