@@ -1,0 +1,3 @@
+pub mod LinesDone
+pub mod SamePass
+pub mod ScriptAlone
