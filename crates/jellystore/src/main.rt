@@ -1,9 +1,13 @@
 //! The program `jellystore`: a command line over a folder's store, or over one in memory.
 #![tactic(auto)]
 
+use hex::encode_to_slice;
 use jf_disk::{AnyDisk, FileDisk, FileRefused, MemDisk, Side};
+use jf_evidence::RangeFault;
+use jf_hash::Hash;
 use jf_io::{StdSink, StdSource};
 use jf_join::FreeGate;
+use jf_run::RestoreFault;
 use jf_run::run_words::run_words;
 use jf_run::status::{Ended, Status};
 use std::fs::File;
@@ -13,7 +17,7 @@ use std::process::ExitCode;
 use std::rt::{Files, Runtime};
 use std::sync::Wait;
 use std::thread::Threads;
-use std::{env, io};
+use std::{env, io, str};
 
 /// The room of a disk in memory: calls, and written bytes.
 const MEM_CALLS: u64 = 1 << 20;
@@ -119,5 +123,43 @@ fn tell<R: Runtime>(rt: &R, status: Status) -> io::Result<()> {
             eprintln!(rt; "damaged {side} {offset}")
         }
         Status::Memory => eprintln!(rt; "out of memory"),
+        Status::Refused(why) => tell_refusal(rt, why),
     }
+}
+
+// Writes the line of a restore that was refused to standard error.
+fn tell_refusal<R: Runtime>(rt: &R, why: RestoreFault) -> io::Result<()> {
+    match why {
+        RestoreFault::NotEmpty(head) => eprintln!(rt; "refused not-empty {head}"),
+        RestoreFault::Line(line) => eprintln!(rt; "refused line {line}"),
+        RestoreFault::Chunk(line, why) => {
+            let code = code_of(why);
+            eprintln!(rt; "refused chunk {line} {code}")
+        }
+        RestoreFault::NotWhole(announced, found) => {
+            let (mut wanted, mut had) = ([0; 64], [0; 64]);
+            let announced = digits(&announced, &mut wanted);
+            let found = digits(&found, &mut had);
+            eprintln!(rt; "refused not-whole {announced} {found}")
+        }
+        RestoreFault::Last => eprintln!(rt; "refused last"),
+    }
+}
+
+// The number of the check by which a chunk is refused (docs/FORMATS.md, "Chunk blocks").
+fn code_of(why: RangeFault) -> u8 {
+    match why {
+        RangeFault::Empty => 1,
+        RangeFault::Order => 2,
+        RangeFault::Count => 3,
+        RangeFault::Lone => 4,
+        RangeFault::WrongRoot => 5,
+    }
+}
+
+// The hexadecimal digits of a hash, written into `text`.
+fn digits<'a>(hash: &Hash, text: &'a mut [u8; 64]) -> &'a str {
+    // Two digits for each of 32 bytes always fit, and are text.
+    let _ = encode_to_slice(hash, text);
+    str::from_utf8(text).unwrap_or("")
 }

@@ -1,6 +1,6 @@
 // A run of a command line's words over a disk, and what it wrote.
 use crate::roots::with_roots;
-use jf_disk::{Disk, MemDisk};
+use jf_disk::{Disk, MemDisk, Side};
 use jf_io::{MemSink, MemSource};
 use jf_join::{FreeGate, Gate};
 use jf_path::Bytes;
@@ -56,6 +56,13 @@ pub fn new_disk(alloc: Global, a: &[u8], failing: &[u64]) -> Result<Box<MemDisk>
     disk_of(alloc, a, b"", failing)
 }
 
+/// An empty disk in memory with room for landings of thousands of keys.
+pub fn roomy_disk(alloc: Global) -> Result<Box<MemDisk>, Fail> {
+    let empty = || Vec::new(alloc);
+    let disk = MemDisk::new(alloc, empty(), empty(), 1000, 3_000_000, Vec::new(alloc))?;
+    Ok(Box::new(alloc, disk)?)
+}
+
 /// A source of the script, with the pieces and failing calls of `faults`.
 pub fn new_source(alloc: Global, script: &[u8], faults: Faults) -> Result<Box<MemSource>, Fail> {
     let source = MemSource::new(
@@ -75,6 +82,15 @@ pub fn new_sink(alloc: Global, faults: Faults) -> Result<Box<MemSink>, Fail> {
 /// A list of this one word.
 pub fn one_word(alloc: Global, word: &str) -> Result<Vec<String>, Fail> {
     Ok(vec![in alloc; String::from_str(alloc, word)?]?)
+}
+
+/// The words of a line, which has one space between each two.
+pub fn words_of(alloc: Global, line: &str) -> Result<Vec<String>, Fail> {
+    let mut words = Vec::new(alloc);
+    for word in line.split(' ') {
+        words.push(String::from_str(alloc, word)?)?;
+    }
+    Ok(words)
 }
 
 /// Runs the words over a disk, a source and a sink. The gate is told of each piece of work.
@@ -155,6 +171,19 @@ pub fn play_gated<D: Disk + Drop, H: Threads + Wait + Sync, G: Gate>(
     unpacked(alloc, ended, sink.text().to_vec(alloc)?)
 }
 
+/// Runs the words of a line over a disk and an input.
+pub fn play_line<D: Disk + Drop, H: Threads + Wait + Sync>(
+    rt: &H,
+    alloc: Global,
+    disk: Box<D>,
+    line: &str,
+    input: &[u8],
+    faults: Faults,
+) -> Result<Played<D>, Fail> {
+    let words = words_of(alloc, line)?;
+    play_words(rt, alloc, disk, &words, input, faults)
+}
+
 /// Runs one word over a disk and a script.
 pub fn play<D: Disk + Drop, H: Threads + Wait + Sync>(
     rt: &H,
@@ -172,6 +201,14 @@ pub fn play<D: Disk + Drop, H: Threads + Wait + Sync>(
 /// text.
 pub fn has_ended<D>(played: &Played<D>, status: Status, start: Option<u64>, text: &[u8]) -> bool {
     played.status == status && played.start == start && played.text.as_slice() == text
+}
+
+/// Whether two runs ended well, wrote the same text and left the same bytes.
+pub fn are_same(one: &Played<MemDisk>, other: &Played<MemDisk>) -> bool {
+    let done = one.status == Status::Done && other.status == Status::Done;
+    let sides = one.disk.bytes(Side::A) == other.disk.bytes(Side::A)
+        && one.disk.bytes(Side::B) == other.disk.bytes(Side::B);
+    done && sides && one.text.as_slice() == other.text.as_slice()
 }
 
 /// Runs a script over a disk, and returns the disk. Fails unless the run ends well, opens the store at version `opened`

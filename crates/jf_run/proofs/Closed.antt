@@ -1,6 +1,6 @@
 -- What a call promises that opened no store: out of memory, for words that aren't taken, to judge, or after a refusal.
 use Rattle.std.specs.Prelude.{IsFalse, IfSome, IfNone, is_some}
-use Rattle.std.proofs.Common.{Option, Some, None, refl, sym, IsTrue, true≢false, ◌≡◌, inl, [], ap, ◌∙◌, ◌≤◌, subst, le_refl, inr, ◌⊎◌}
+use Rattle.std.proofs.Common.{ℕ, List, Option, Some, None, refl, sym, IsTrue, true≢false, ◌≡◌, inl, [], ap, ◌∙◌, ◌≤◌, subst, le_refl, inr, ◌⊎◌}
 use Rattle.jf_path.specs.Faults.{HasCause}
 use Rattle.jf_model.specs.Entries.{moments_of}
 use Rattle.jf_disk.specs.Disk.{reads}
@@ -11,12 +11,15 @@ use Rattle.jf_files.specs.Laws.{FilesStandForSound, DamageIsNoVersions}
 use Rattle.jf_engine.specs.Openings.{DiskView, HasRefused}
 use Rattle.jf_engine.specs.declared.fault.OpenFault.{OpenFault}
 use Rattle.jf_store.specs.Images.{AreWithin}
-use Rattle.jf_run.specs.Commands.{opens, is_verify, is_closing, is_disk_fault, status_of_refusal}
-use Rattle.jf_run.specs.declared.words.Mode.{Mode}
-use Rattle.jf_run.specs.Calls.{ProgramCall, Devices}
-use Rattle.jf_run.specs.Promises.{IsClosedCall, GoesForward, StandsForEntries, IsOpenedCall, KeepsPromises}
+use Rattle.jf_words.specs.Modes.{opens, is_verify}
+use Rattle.jf_words.specs.declared.modes.Mode.{Mode}
+use Rattle.jf_words.specs.declared.modes.Mode.TheVariants as mode
+use Rattle.jf_run.specs.Statuses.{is_closing, is_disk_fault, status_of_refusal}
+use Rattle.jf_model.specs.declared.entries.Entry.{Entry}
+use Rattle.jf_run.specs.Calls.{ProgramCall, Devices, program_call}
+use Rattle.jf_run.specs.declared.status.Status.{Status}
+use Rattle.jf_run.specs.Promises.{IsClosedCall, GoesForward, StandsForEntries, HasOpenedFor, EndsWell, KeepsPromises}
 use Rattle.jf_run.specs.Judging.{HasJudged}
-use Rattle.jf_run.specs.declared.words.Mode.TheVariants as mode
 use Rattle.jf_run.specs.declared.status.Status.TheVariants as status
 use Rattle.jf_run.proofs.Judged.{judged_nothing, judged_well, judged_words, judged_disk, judged_files}
 use Rattle.jf_run.proofs.Standing.{stands-left, refused-stands, damage-told}
@@ -28,6 +31,13 @@ pub verify_opens_none : (o : Option Mode) → IsTrue (is_verify o) → IsFalse (
 verify_opens_none None e = absurd (true≢false (sym e))
 verify_opens_none (Some (mode.Run n)) e = absurd (true≢false (sym e))
 verify_opens_none (Some mode.Verify) e = refl
+verify_opens_none (Some (mode.Generate seed batches size n)) e = absurd (true≢false (sym e))
+verify_opens_none (Some (mode.Restore version root n)) e = absurd (true≢false (sym e))
+
+-- a call that was done, or ran out of memory, ended well
+well : (c : ProgramCall) → (c.status ≡ status.Done) ⊎ (c.status ≡ status.Memory) → EndsWell c
+well c (inl done) = inl done
+well c (inr memory) = inr (inl memory)
 
 -- a call that left the disk unchanged and has no entries is closed
 closed_untouched : (c : ProgramCall) → c.after.disk ≡ c.before.disk → c.entries ≡ [] → (IsFalse (is_verify c.asks) → IsTrue (is_closing c.status)) → IsClosedCall c
@@ -55,6 +65,10 @@ forward_untouched c same none source sink =
 pub same_devices : (d : Devices) (x : DiskView) → x ≡ d.disk → record d { disk = x } ≡ d
 same_devices d x e = ap (λ (y : DiskView). record d { disk = y }) e
 
+-- what is promised of a call that asks for a mode, for words that ask for it
+pub asks_so : (o : Option Mode) (m : Mode) (before after : Devices) (how : Status) (es : List Entry) (start : Option ℕ) → o ≡ Some m → KeepsPromises (program_call (Some m) before after how es start) → KeepsPromises (program_call o before after how es start)
+asks_so o m before after how es start is kept = subst (λ (x : Option Mode). KeepsPromises (program_call x before after how es start)) (sym is) kept
+
 -- memory ran out before a call was made on a device
 pub memory_keeps : (c : ProgramCall) → FilesStandForSound → c.after ≡ c.before → c.start ≡ None → c.entries ≡ [] → c.status ≡ status.Memory → KeepsPromises c
 memory_keeps c all_sound same start none memory =
@@ -66,8 +80,8 @@ memory_keeps c all_sound same start none memory =
       forward = forward_untouched c disk none (subst (λ (d : Devices). c.before.source_faults ≤ d.source_faults) (sym same) (le_refl c.before.source_faults))
           (subst (λ (d : Devices). c.before.sink_faults ≤ d.sink_faults) (sym same) (le_refl c.before.sink_faults));
       files = record {
-        stands = λ h told v stands sound. subst (λ es. StandsForEntries c.after.disk.history v (generation (reads h)) es) (sym none) (stands-left h h v c.after.disk.history all_sound (ap (λ (d : DiskView). d.history) disk ∙ told) refl stands);
-        complete = λ h told v stands some a b d. inr memory;
+        stands = λ h told v stands sound plain. subst (λ es. StandsForEntries c.after.disk.history v (generation (reads h)) es) (sym none) (stands-left h h v c.after.disk.history all_sound (ap (λ (d : DiskView). d.history) disk ∙ told) refl stands);
+        complete = λ h told v stands some a b d. inr (inl memory);
       };
       closed = subst (λ o. IfNone o (IsClosedCall c)) (sym start) (closed_untouched c disk none (λ e. subst (λ s. IsTrue (is_closing s)) (sym memory) refl));
       judged = λ e. record {
@@ -77,7 +91,7 @@ memory_keeps c all_sound same start none memory =
             (subst (λ (d : Devices). HasJudged status.Memory c.before.rest d.rest c.before.text d.text) (sym same) (judged_nothing c.before.rest c.before.text));
         complete = λ a b. inr memory;
       };
-      opened = subst (λ o. IfSome o (IsOpenedCall c)) (sym start) tt;
+      opened = subst (λ o. IfSome o (HasOpenedFor c.asks c)) (sym start) tt;
     }
 
 -- no call was made on a device, as the program doesn't take the words
@@ -91,12 +105,12 @@ usage_keeps c all_sound same start none usage asks =
       forward = forward_untouched c disk none (subst (λ (d : Devices). c.before.source_faults ≤ d.source_faults) (sym same) (le_refl c.before.source_faults))
           (subst (λ (d : Devices). c.before.sink_faults ≤ d.sink_faults) (sym same) (le_refl c.before.sink_faults));
       files = record {
-        stands = λ h told v stands sound. subst (λ es. StandsForEntries c.after.disk.history v (generation (reads h)) es) (sym none) (stands-left h h v c.after.disk.history all_sound (ap (λ (d : DiskView). d.history) disk ∙ told) refl stands);
+        stands = λ h told v stands sound plain. subst (λ es. StandsForEntries c.after.disk.history v (generation (reads h)) es) (sym none) (stands-left h h v c.after.disk.history all_sound (ap (λ (d : DiskView). d.history) disk ∙ told) refl stands);
         complete = λ h told v stands some a b d. absurd (true≢false (sym some ∙ ap (λ (o : Option Mode). is_some o) asks));
       };
       closed = subst (λ o. IfNone o (IsClosedCall c)) (sym start) (closed_untouched c disk none (λ e. subst (λ s. IsTrue (is_closing s)) (sym usage) refl));
       judged = λ e. absurd (true≢false (sym e ∙ ap is_verify asks));
-      opened = subst (λ o. IfSome o (IsOpenedCall c)) (sym start) tt;
+      opened = subst (λ o. IfSome o (HasOpenedFor c.asks c)) (sym start) tt;
     }
 
 -- an input was judged
@@ -112,8 +126,8 @@ judged_keeps c all_sound same start none verify j read write source sink = recor
   };
   forward = forward_untouched c same none source sink;
   files = record {
-    stands = λ h told v stands sound. subst (λ es. StandsForEntries c.after.disk.history v (generation (reads h)) es) (sym none) (stands-left h h v c.after.disk.history all_sound (ap (λ (d : DiskView). d.history) same ∙ told) refl stands);
-    complete = λ h told v stands some a b d. judged_well j.end c.status j.how_is (λ r. steady c.before.source_faults c.after.source_faults a.0 a.1 (read r)) (λ w. steady c.before.sink_faults c.after.sink_faults b.0 b.1 (write w));
+    stands = λ h told v stands sound plain. subst (λ es. StandsForEntries c.after.disk.history v (generation (reads h)) es) (sym none) (stands-left h h v c.after.disk.history all_sound (ap (λ (d : DiskView). d.history) same ∙ told) refl stands);
+    complete = λ h told v stands some a b d. well c (judged_well j.end c.status j.how_is (λ r. steady c.before.source_faults c.after.source_faults a.0 a.1 (read r)) (λ w. steady c.before.sink_faults c.after.sink_faults b.0 b.1 (write w)));
   };
   closed = subst (λ o. IfNone o (IsClosedCall c)) (sym start) (closed_untouched c same none (λ e. absurd (true≢false (sym verify ∙ e))));
   judged = λ e. record {
@@ -122,7 +136,7 @@ judged_keeps c all_sound same start none verify j read write source sink = recor
     judged = j;
     complete = λ a b. judged_well j.end c.status j.how_is (λ r. steady c.before.source_faults c.after.source_faults a.0 a.1 (read r)) (λ w. steady c.before.sink_faults c.after.sink_faults b.0 b.1 (write w));
   };
-  opened = subst (λ o. IfSome o (IsOpenedCall c)) (sym start) tt;
+  opened = subst (λ o. IfSome o (HasOpenedFor c.asks c)) (sym start) tt;
 }
 
 -- the store was not opened
@@ -144,9 +158,9 @@ refused_keeps c why all_sound none_stand start none runs is r source sink = reco
     sink_faults = sink;
   };
   files = record {
-    stands = λ h told v stands sound. subst (λ es. StandsForEntries c.after.disk.history v (generation (reads h)) es) (sym none) (refused-stands h v c.after.disk.history why all_sound (subst (λ s. IsFalse (is_disk_fault s)) is sound) stands (r.left h told));
+    stands = λ h told v stands sound plain. subst (λ es. StandsForEntries c.after.disk.history v (generation (reads h)) es) (sym none) (refused-stands h v c.after.disk.history why all_sound (subst (λ s. IsFalse (is_disk_fault s)) is sound) stands (r.left h told));
     complete = λ h told v stands some ss ks ds.
-        inr (is ∙ refused_for_memory why (λ where_ at damaged. none_stand (reads h) v where_ at stands (r.damaged h told where_ at damaged)) (λ fault. steady c.before.disk.faults c.after.disk.faults ds.0 ds.1 (r.cause fault)));
+        inr (inl (is ∙ refused_for_memory why (λ where_ at damaged. none_stand (reads h) v where_ at stands (r.damaged h told where_ at damaged)) (λ fault. steady c.before.disk.faults c.after.disk.faults ds.0 ds.1 (r.cause fault))));
   };
   closed = subst (λ o. IfNone o (IsClosedCall c)) (sym start) (record {
     ending = λ e. subst (λ s. IsTrue (is_closing s)) (sym is) (refusal_closes why);
@@ -156,5 +170,5 @@ refused_keeps c why all_sound none_stand start none runs is r source sink = reco
     stops = λ h told. let d = r.disk h told in (d.0, d.1, d.2.stops);
   });
   judged = λ e. absurd (true≢false (sym runs ∙ verify_opens_none c.asks e));
-  opened = subst (λ o. IfSome o (IsOpenedCall c)) (sym start) tt;
+  opened = subst (λ o. IfSome o (HasOpenedFor c.asks c)) (sym start) tt;
 }

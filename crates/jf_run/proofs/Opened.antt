@@ -1,6 +1,6 @@
--- What a call promises that opened the store.
-use Rattle.std.specs.Prelude.{IfSome, IfNone}
-use Rattle.std.proofs.Common.{◌≡◌, sym, ap, ap₂, ◌∙◌, true≢false, ℕ, Option, Some, subst, ◌⊎◌, ◌≤◌, IsTrue, arith, le_refl}
+-- What a call promises that opened the store and did lines over it.
+use Rattle.std.specs.Prelude.{IfSome, IfNone, IsFalse}
+use Rattle.std.proofs.Common.{◌≡◌, sym, ap, ap₂, ◌∙◌, true≢false, refl, ℕ, Option, Some, None, List, subst, ◌⊎◌, inl, inr, ◌≤◌, IsTrue, arith, le_refl}
 use Rattle.jf_path.specs.Faults.{HasCause}
 use Rattle.jf_model.specs.Versions.{Versions}
 use Rattle.jf_model.specs.States.{State, opened}
@@ -12,25 +12,35 @@ use Rattle.jf_disk.proofs.MomentLaws.{extends_further}
 use Rattle.jf_files.specs.Files.{StandsFor, generation}
 use Rattle.jf_files.specs.Laws.{FilesStandForOne, DamageIsNoVersions}
 use Rattle.jf_engine.specs.Openings.{DiskView}
+use Rattle.jf_answers.specs.Runs.{answers, texts_of}
+use Rattle.jf_history.specs.Alone.{TriesAlone}
 use Rattle.jf_history.specs.declared.end.End.{End}
-use Rattle.jf_answers.specs.Runs.{answers}
 use Rattle.jf_history.specs.declared.end.End.TheVariants as end
-use Rattle.jf_run.specs.Commands.{status_of, opens}
+use Rattle.jf_words.specs.Modes.{opens, is_verify}
+use Rattle.jf_words.specs.declared.modes.Mode.{Mode}
+use Rattle.jf_words.specs.declared.modes.Mode.TheVariants as mode
+use Rattle.jf_generate.specs.Scripts.{generated}
+use Rattle.jf_workload.specs.ScriptRuns.{WritesReport}
+use Rattle.jf_run.specs.Statuses.{status_of}
 use Rattle.jf_run.specs.Calls.{ProgramCall}
 use Rattle.jf_run.specs.Stops.{IsSafeSince}
-use Rattle.jf_run.specs.Runs.{IsDatedDisk, IsBegun, HasRun}
-use Rattle.jf_run.specs.Promises.{IsOpenedCall, IsClosedCall, GoesForward, KeepsFiles, KeepsPromises}
+use Rattle.jf_run.specs.Runs.{IsDatedDisk, IsBegun, HasLasted, HasRun, HasGenerated}
+use Rattle.jf_run.specs.Promises.{HasOpenedFor, IsLinesCall, IsClosedCall, GoesForward, KeepsFiles, KeepsPromises, EndsWell}
 use Rattle.jf_run.specs.declared.status.Status.TheVariants as status
 use Rattle.jf_run.proofs.Complete.{steady, ends_well}
 use Rattle.jf_run.proofs.Counting.{AreWithin-wider, AreWithin-ends}
 use Rattle.jf_run.proofs.Safe.{called_safe}
-use Rattle.jf_run.proofs.Closed.{verify_opens_none}
 use Rattle.jf_run.proofs.Standing.{settled-stands}
 use Rattle.jf_run.proofs.Statuses.{no_fault, no_damage, no_usage, read_told, write_told, rose_later, fault_caused, attempt_none}
 
--- a call that ran a script over a store that was begun over the disk
-module _ (c : ProgramCall) (head : ℕ) (s : State) (disk : DiskView) (e : End) (attempt : Option Entry) (begun : IsBegun s c.before.disk disk head) (is : c.status ≡ status_of e)
-    (run : HasRun e s disk c.after.disk c.entries attempt c.before.rest c.after.rest c.before.text c.after.text) where
+-- how a call ended that did lines
+ended_well : (c : ProgramCall) (e : End) → c.status ≡ status_of e → (status_of e ≡ status.Done) ⊎ (status_of e ≡ status.Memory) → EndsWell c
+ended_well c e is (inl done) = inl (is ∙ done)
+ended_well c e is (inr memory) = inr (inl (is ∙ memory))
+
+-- a call that did lines over a store that was begun over the disk
+module _ (c : ProgramCall) (head : ℕ) (s : State) (disk : DiskView) (e : End) (attempt : Option Entry) (done : List (List ℕ)) (next : Option (List ℕ)) (begun : IsBegun s c.before.disk disk head) (is : c.status ≡ status_of e)
+    (t : TriesAlone e (answers s done) next attempt) (lasted : HasLasted s disk c.after.disk c.entries attempt done) where
   moment_on : c.before.disk.moment ≤ disk.moment
   moment_on = begun.opening.moment
 
@@ -43,28 +53,25 @@ module _ (c : ProgramCall) (head : ℕ) (s : State) (disk : DiskView) (e : End) 
 
   -- the status names a fault of the disk only if its count rose in the call
   rose : status_of e ≡ status.DiskFault → HasCause c.before.disk.faults c.after.disk.faults
-  rose failed = rose_later c.before.disk.faults disk.faults c.after.disk.faults faults_on run.faults (fault_caused e (answers s run.ran.done) run.ran.next attempt disk.faults c.after.disk.faults run.ran.tried run.cause failed)
+  rose failed = rose_later c.before.disk.faults disk.faults c.after.disk.faults faults_on lasted.faults (fault_caused e (answers s done) next attempt disk.faults c.after.disk.faults t lasted.cause failed)
 
-  opened_call : IsDatedDisk c.before.disk → IsOpenedCall c head
-  opened_call dated = record {
-    state = s;
+  lines_call : IsDatedDisk c.before.disk → IsLinesCall c head s e attempt done
+  lines_call dated = record {
     disk = disk;
     begun = begun;
-    end = e;
     status_is = is;
-    attempt = attempt;
-    run = run;
+    lasted = lasted;
     called = λ h told.
         let opening = begun.opening.disk h told in
-        let grown = run.extends opening.0 opening.1 in
-        let safe = run.safe opening.0 opening.1 in
+        let grown = lasted.extends opening.0 opening.1 in
+        let safe = lasted.safe opening.0 opening.1 in
         let since : IsSafeSince disk.moment grown.0 s c.entries attempt = subst (λ k. IsSafeSince disk.moment k s c.entries attempt) (told_same safe.0 grown.0 c.after.disk.history safe.1 grown.1) safe.2 in
         let found = (begun.opening.found h told).0 in (
           grown.0,
           grown.1,
           λ calm. subst (λ x. IsSafeSince c.before.disk.moment grown.0 x c.entries attempt) (sym begun.state)
               (called_safe h opening.0 grown.0 s.all s.generation c.entries attempt c.before.disk.moment disk.moment c.after.disk.moment begun.sound calm found (opening.2.stops s.all calm found) (dated h told)
-              (begun.dated opening.0 opening.1) grown.2 run.landings (subst (λ x. IsSafeSince disk.moment grown.0 x c.entries attempt) begun.state since)),
+              (begun.dated opening.0 opening.1) grown.2 lasted.landings (subst (λ x. IsSafeSince disk.moment grown.0 x c.entries attempt) begun.state since)),
         );
   }
 
@@ -72,31 +79,31 @@ module _ (c : ProgramCall) (head : ℕ) (s : State) (disk : DiskView) (e : End) 
   opened_forward source sink = record {
     extends = λ h told.
         let opening = begun.opening.disk h told in
-        let grown = run.extends opening.0 opening.1 in
+        let grown = lasted.extends opening.0 opening.1 in
         (grown.0, grown.1, extends_further h opening.0 grown.0 opening.2.extends grown.2);
-    dated = AreWithin-wider disk.moment c.before.disk.moment c.after.disk.moment c.after.disk.moment (moments_of c.entries) moment_on (le_refl c.after.disk.moment) run.landings;
-    moment = omega (arith, moment_on, AreWithin-ends disk.moment c.after.disk.moment (moments_of c.entries) run.landings);
-    disk_faults = omega (arith, faults_on, run.faults);
+    dated = AreWithin-wider disk.moment c.before.disk.moment c.after.disk.moment c.after.disk.moment (moments_of c.entries) moment_on (le_refl c.after.disk.moment) lasted.landings;
+    moment = omega (arith, moment_on, AreWithin-ends disk.moment c.after.disk.moment (moments_of c.entries) lasted.landings);
+    disk_faults = omega (arith, faults_on, lasted.faults);
     source_faults = source;
     sink_faults = sink;
   }
 
   opened_files : FilesStandForOne → (e ≡ end.ReadFault → HasCause c.before.source_faults c.after.source_faults) → (e ≡ end.WriteFault → HasCause c.before.sink_faults c.after.sink_faults) → KeepsFiles c
   opened_files one read write = record {
-    stands = λ h told v stands sound.
+    stands = λ h told v stands sound plain.
         let opening = begun.opening.disk h told in
-        let settled = run.settled (attempt_none e (answers s run.ran.done) run.ran.next attempt run.ran.tried (λ d. no_fault c.status sound (is ∙ d))) opening.0 opening.1 in
+        let settled = lasted.settled (attempt_none e (answers s done) next attempt t (λ d. no_fault c.status sound (is ∙ d))) opening.0 opening.1 in
         settled-stands h settled.0 v s c.after.disk.history c.entries (state_is h v one told stands) settled.1 settled.2;
-    complete = λ h told v stands some ss ks ds. subst (λ x. (x ≡ status.Done) ⊎ (x ≡ status.Memory)) (sym is)
+    complete = λ h told v stands some ss ks ds. ended_well c e is
         (ends_well e (λ r. steady c.before.source_faults c.after.source_faults ss.0 ss.1 (read r)) (λ w. steady c.before.sink_faults c.after.sink_faults ks.0 ks.1 (write w))
         (λ d. steady c.before.disk.faults c.after.disk.faults ds.0 ds.1 (rose d)));
   }
 
-  pub opened_keeps : FilesStandForOne → DamageIsNoVersions → IsDatedDisk c.before.disk → c.start ≡ Some head → IsTrue (opens c.asks)
+  pub lines_keep : FilesStandForOne → DamageIsNoVersions → (m : Mode) → c.asks ≡ Some m → IsTrue (opens (Some m)) → IsFalse (is_verify (Some m)) → c.start ≡ Some head → HasOpenedFor (Some m) c head
       → (e ≡ end.ReadFault → HasCause c.before.source_faults c.after.source_faults) → (e ≡ end.WriteFault → HasCause c.before.sink_faults c.after.sink_faults)
       → c.before.source_faults ≤ c.after.source_faults → c.before.sink_faults ≤ c.after.sink_faults → KeepsPromises c
-  opened_keeps one none_stand dated start runs read write source sink = record {
-    words = record { usage = λ u. absurd (no_usage e (sym is ∙ u)); usage_told = λ n. absurd (true≢false (sym runs ∙ ap opens n)); start = λ n. absurd (true≢false (sym runs ∙ n)) };
+  lines_keep one none_stand m asks opens_it judges_not start opened read write source sink = record {
+    words = record { usage = λ u. absurd (no_usage e (sym is ∙ u)); usage_told = λ n. absurd (let none : Some m ≡ None = sym asks ∙ n in cc); start = λ n. absurd (true≢false (sym (ap opens asks ∙ opens_it) ∙ n)) };
     causes = record { read = λ r. read (read_told e (sym is ∙ r)); write = λ w. write (write_told e (sym is ∙ w)); disk = λ d. rose (sym is ∙ d) };
     damage = record {
       damaged = λ h told where_ at d. absurd (no_damage e where_ at (sym is ∙ d));
@@ -105,6 +112,24 @@ module _ (c : ProgramCall) (head : ℕ) (s : State) (disk : DiskView) (e : End) 
     forward = opened_forward source sink;
     files = opened_files one read write;
     closed = subst (λ o. IfNone o (IsClosedCall c)) (sym start) tt;
-    judged = λ v. absurd (true≢false (sym runs ∙ verify_opens_none c.asks v));
-    opened = subst (λ o. IfSome o (IsOpenedCall c)) (sym start) (opened_call dated);
+    judged = λ v. absurd (true≢false (sym v ∙ ap is_verify asks ∙ judges_not));
+    opened = subst (λ o. IfSome o (HasOpenedFor c.asks c)) (sym start) (subst (λ (o : Option Mode). HasOpenedFor o c head) (sym asks) opened);
   }
+
+-- a run of the script of an input
+pub run_keeps : (c : ProgramCall) (head n : ℕ) (s : State) (disk : DiskView) (e : End) (attempt : Option Entry) → IsBegun s c.before.disk disk head → c.status ≡ status_of e
+    → HasRun e s disk c.after.disk c.entries attempt c.before.rest c.after.rest c.before.text c.after.text → FilesStandForOne → DamageIsNoVersions → IsDatedDisk c.before.disk → c.asks ≡ Some (mode.Run n) → c.start ≡ Some head
+    → (e ≡ end.ReadFault → HasCause c.before.source_faults c.after.source_faults) → (e ≡ end.WriteFault → HasCause c.before.sink_faults c.after.sink_faults)
+    → c.before.source_faults ≤ c.after.source_faults → c.before.sink_faults ≤ c.after.sink_faults → KeepsPromises c
+run_keeps c head n s disk e attempt begun is run one none_stand dated asks start read write source sink =
+    lines_keep c head s disk e attempt run.ran.done run.ran.next begun is run.ran.tried run.lasted one none_stand (mode.Run n) asks refl refl start
+    (record { state = s; end = e; attempt = attempt; ran = run.ran; lines = lines_call c head s disk e attempt run.ran.done run.ran.next begun is run.ran.tried run.lasted dated }) read write source sink
+
+-- a run of a generated script, which reads no input
+pub generated_keeps : (c : ProgramCall) (head seed batches size n : ℕ) (s : State) (disk : DiskView) (e : End) (attempt : Option Entry) → IsBegun s c.before.disk disk head → c.status ≡ status_of e
+    → HasGenerated e s disk c.after.disk (generated seed batches size) c.entries attempt c.before.text c.after.text → FilesStandForOne → DamageIsNoVersions → IsDatedDisk c.before.disk → c.asks ≡ Some (mode.Generate seed batches size n)
+    → c.start ≡ Some head → c.after.rest ≡ c.before.rest → c.after.source_faults ≡ c.before.source_faults → (e ≡ end.WriteFault → HasCause c.before.sink_faults c.after.sink_faults) → c.before.sink_faults ≤ c.after.sink_faults → KeepsPromises c
+generated_keeps c head seed batches size n s disk e attempt begun is run one none_stand dated asks start rest faults write sink =
+    lines_keep c head s disk e attempt run.ran.done run.ran.next begun is run.ran.tried run.lasted one none_stand (mode.Generate seed batches size n) asks refl refl start
+    (record { state = s; end = e; attempt = attempt; ran = run.ran; lines = lines_call c head s disk e attempt run.ran.done run.ran.next begun is run.ran.tried run.lasted dated; unread = (rest, faults) })
+    (λ r. absurd (subst (λ (x : End). WritesReport x (generated seed batches size) run.ran.done (texts_of (answers s run.ran.done)) c.before.text c.after.text) r run.ran.writes)) write (subst (λ k. c.before.source_faults ≤ k) (sym faults) (le_refl c.before.source_faults)) sink

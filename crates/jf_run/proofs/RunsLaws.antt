@@ -1,13 +1,13 @@
 -- Laws on a script over a store of one pass: what its closing gives, or want of memory for it.
 use Rattle.std.specs.Prelude.{IfSome, is_some}
-use Rattle.std.proofs.Common.{◌≡◌, ℕ, zero, suc, take, length, true, Option, Some, None, List, [], ◌∷◌, refl, sym, ap, ◌∙◌, subst, arith, inl, le_refl}
+use Rattle.std.proofs.Common.{◌≡◌, ℕ, zero, suc, map, take, length, true, Option, Some, None, List, [], ◌∷◌, refl, sym, ap, ◌∙◌, subst, arith, inl, le_refl}
 use Rattle.jf_path.specs.Faults.{HasCause}
 use Rattle.jf_disk.specs.Disk.{History}
 use Rattle.jf_disk.proofs.MomentLaws.{left_now, same_extends}
 use Rattle.jf_io.proofs.Written.{nothing_written}
 use Rattle.jf_model.specs.Versions.{IsVersions}
 use Rattle.jf_model.specs.States.{State, opened, versions}
-use Rattle.jf_model.specs.Entries.{IsLegal, AreLegal, replay}
+use Rattle.jf_model.specs.Entries.{IsLegal, AreLegal, replay, timeless}
 use Rattle.jf_model.specs.declared.entries.Entry.{Entry}
 use Rattle.jf_model.proofs.StateLaws.{versions-opened}
 use Rattle.jf_files.specs.Files.{StandsFor}
@@ -24,15 +24,18 @@ use Rattle.jf_store.specs.Closing.{IsClosed}
 use Rattle.jf_store.specs.Images.{Outlasts}
 use Rattle.jf_store.proofs.ImageLaws.{IsFrontImage-all}
 use Rattle.jf_store.proofs.EntryTimes.{OutlastsEach-none}
-use Rattle.jf_answers.specs.Runs.{answers_from, answers}
+use Rattle.jf_answers.specs.Runs.{answers_from, answers, run_entries}
 use Rattle.jf_answers.specs.Laws.{SparesPins, FloorSparesPins, EntrySparesPins}
 use Rattle.jf_history.specs.Sessions.{seen_by}
 use Rattle.jf_history.specs.Runs.{HasRunOver}
-use Rattle.jf_history.specs.Alone.{RanAlone}
+use Rattle.jf_history.specs.Alone.{RanAlone, TriesAlone}
 use Rattle.jf_history.specs.Laws.{OnePassCloses, OneRunIsAlone}
 use Rattle.jf_history.specs.declared.end.End.{End}
 use Rattle.jf_history.specs.declared.end.End.TheVariants as end
-use Rattle.jf_run.specs.Runs.{IsDatedDisk, StaysUnderPins, HasRun}
+use Rattle.jf_workload.specs.ScriptRuns.{HasRunScript}
+use Rattle.jf_workload.specs.ScriptsAlone.{GeneratedAlone}
+use Rattle.jf_workload.specs.Laws.{OneScriptIsAlone}
+use Rattle.jf_run.specs.Runs.{IsDatedDisk, StaysUnderPins, HasLasted, HasRun, HasGenerated}
 use Rattle.jf_run.proofs.SparedRuns.{run-StaysUnderPins, run-SparesPinsSince, run-LastsByLine}
 
 -- a disk that shows the same
@@ -70,13 +73,13 @@ module _ (store : Store) (p : Pass) (es : List Entry) (e : Engine) (closes : One
   kept : IsKept store.start es (attempt_of p.seen) e
   kept = subst (λ (xs : List Event). IsKept store.start es (attempt_of xs) e) same closed.kept
 
-  -- the only pass's run is a run of the whole store
-  run_of_pass : (how : End) (rest rest' text text' : Option (List ℕ)) → OneRunIsAlone → FloorSparesPins → EntrySparesPins → store.start.state.count ≡ 0 → HasRunOver how store.start (new_pass store 0) p rest rest' text text'
-      → HasRun how store.start.state (disk_view store.start.history store.start.moment store.start.faults) (disk_view e.history e.moment e.faults) es (attempt_of p.seen) rest rest' text text'
-  run_of_pass how rest rest' text text' alone floors tries none ran =
-      let lone : RanAlone how store.start.state es (attempt_of p.seen) rest rest' text text' = subst (λ (xs : List Entry). RanAlone how store.start.state xs (attempt_of p.seen) rest rest' text text') (sym entries_are) (alone store how p rest rest' text text' one none events ran) in record {
-        ran = lone;
-        spared = run-StaysUnderPins floors tries how store.start.state es (attempt_of p.seen) rest rest' text text' kept.sound lone;
+  -- what the lines of the only pass gave lasts as what the whole store holds
+  pass_lasted : (how : End) (done : List (List ℕ)) (next : Option (List ℕ)) → FloorSparesPins → EntrySparesPins → map timeless es ≡ run_entries (answers store.start.state done)
+      → replay store.start.state es ≡ (answers store.start.state done).state → TriesAlone how (answers store.start.state done) next (attempt_of p.seen)
+      → HasLasted store.start.state (disk_view store.start.history store.start.moment store.start.faults) (disk_view e.history e.moment e.faults) es (attempt_of p.seen) done
+  pass_lasted how done next floors tries entries state t =
+      let spared : StaysUnderPins store.start.state es (attempt_of p.seen) done = run-StaysUnderPins floors tries how store.start.state es (attempt_of p.seen) done next kept.sound entries state t in record {
+        spared = spared;
         legal = subst (λ (xs : List Entry). AreLegal store.start.state xs) (sym entries_are) events.history.each;
         tried = subst (λ (xs : List Entry). IfSome (attempt_of p.seen) (IsLegal (replay store.start.state xs))) (sym entries_are) (attempt_legal (state_behind store.start p.seen) p.seen events.marked);
         cause = attempt_caused (attempt_of p.seen) store.start.faults e.faults kept.cause;
@@ -84,19 +87,41 @@ module _ (store : Store) (p : Pass) (es : List Entry) (e : Engine) (closes : One
         faults = kept.faults;
         extends = closed.grows;
         safe = λ h told. let g = closed.grows h told in (g.0, g.1, λ t since f left. (kept.outlasts g.0 g.1).images t f since left);
-        held = λ h told. let g = closed.grows h told in (g.0, g.1, run-SparesPinsSince store.start.state es (attempt_of p.seen) lone.done store.start.moment g.0 lone.entries_are (run-StaysUnderPins floors tries how store.start.state es (attempt_of p.seen) rest rest' text text' kept.sound lone) (λ t since f left. (kept.outlasts g.0 g.1).images t f since left));
-        lined = λ h told. let g = closed.grows h told in (g.0, g.1, run-LastsByLine store.start es (attempt_of p.seen) lone.done g.0 lone.entries_are (run-StaysUnderPins floors tries how store.start.state es (attempt_of p.seen) rest rest' text text' kept.sound lone) (kept.each g.0 g.1));
+        held = λ h told. let g = closed.grows h told in (g.0, g.1, run-SparesPinsSince store.start.state es (attempt_of p.seen) done store.start.moment g.0 entries spared (λ t since f left. (kept.outlasts g.0 g.1).images t f since left));
+        lined = λ h told. let g = closed.grows h told in (g.0, g.1, run-LastsByLine store.start es (attempt_of p.seen) done g.0 entries spared (kept.each g.0 g.1));
         stopped = for_attempt (attempt_of p.seen) _ (λ x is h told. let g = closed.grows h told in (g.0, g.1, (kept.outlasts g.0 g.1).stopped x is));
         settled = λ unmarked h told. let g = closed.grows h told in (g.0, g.1, (kept.outlasts g.0 g.1).settled unmarked);
       }
 
--- a store of one pass that began with an engine was closed
+  -- the only pass's run is a run of the whole store
+  run_of_pass : (how : End) (rest rest' text text' : Option (List ℕ)) → OneRunIsAlone → FloorSparesPins → EntrySparesPins → store.start.state.count ≡ 0 → HasRunOver how store.start (new_pass store 0) p rest rest' text text'
+      → HasRun how store.start.state (disk_view store.start.history store.start.moment store.start.faults) (disk_view e.history e.moment e.faults) es (attempt_of p.seen) rest rest' text text'
+  run_of_pass how rest rest' text text' alone floors tries none ran =
+      let lone : RanAlone how store.start.state es (attempt_of p.seen) rest rest' text text' = subst (λ (xs : List Entry). RanAlone how store.start.state xs (attempt_of p.seen) rest rest' text text') (sym entries_are) (alone store how p rest rest' text text' one none events ran) in
+      record { ran = lone; lasted = pass_lasted how lone.done lone.next floors tries lone.entries_are lone.state lone.tried }
+
+  -- and so is its run of a generated script
+  generated_of_pass : (how : End) (script : List (List ℕ)) (text text' : Option (List ℕ)) → OneScriptIsAlone → FloorSparesPins → EntrySparesPins → store.start.state.count ≡ 0 → HasRunScript how store.start script (new_pass store 0) p text text'
+      → HasGenerated how store.start.state (disk_view store.start.history store.start.moment store.start.faults) (disk_view e.history e.moment e.faults) script es (attempt_of p.seen) text text'
+  generated_of_pass how script text text' alone floors tries none ran =
+      let lone : GeneratedAlone how store.start.state script es (attempt_of p.seen) text text' = subst (λ (xs : List Entry). GeneratedAlone how store.start.state script xs (attempt_of p.seen) text text') (sym entries_are) (alone store how script p text text' one none events ran) in
+      record { ran = lone; lasted = pass_lasted how lone.done lone.next floors tries lone.entries_are lone.state lone.tried }
+
+-- a store of one pass that began with an engine was closed after a run of a script
 pub closed_run : (first last : Engine) (store : Store) (p : Pass) (es : List Entry) (how : End) (rest rest' text text' : Option (List ℕ)) → OnePassCloses → OneRunIsAlone → FloorSparesPins → EntrySparesPins
     → store.start ≡ start_with first 1 store.start.board → p.number ≡ 0 → IsClosed store.start (p ∷ []) es last → HasRunOver how store.start (new_pass store 0) p rest rest' text text'
     → HasRun how (opened first.versions first.generation) (disk_view first.history first.moment first.faults) (disk_view last.history last.moment last.faults) es (attempt_of p.seen) rest rest' text text'
 closed_run first last store p es how rest rest' text text' closes alone floors tries begins number closed ran =
     subst (λ (s : Start). HasRun how s.state (disk_view s.history s.moment s.faults) (disk_view last.history last.moment last.faults) es (attempt_of p.seen) rest rest' text text') begins
     (run_of_pass store p es last closes (ap (λ (s : Start). s.passes) begins) number closed how rest rest' text text' alone floors tries (ap (λ (s : Start). s.state.count) begins) ran)
+
+-- and after one of a generated script
+pub closed_generated : (first last : Engine) (store : Store) (p : Pass) (es : List Entry) (how : End) (script : List (List ℕ)) (text text' : Option (List ℕ)) → OnePassCloses → OneScriptIsAlone → FloorSparesPins → EntrySparesPins
+    → store.start ≡ start_with first 1 store.start.board → p.number ≡ 0 → IsClosed store.start (p ∷ []) es last → HasRunScript how store.start script (new_pass store 0) p text text'
+    → HasGenerated how (opened first.versions first.generation) (disk_view first.history first.moment first.faults) (disk_view last.history last.moment last.faults) script es (attempt_of p.seen) text text'
+closed_generated first last store p es how script text text' closes alone floors tries begins number closed ran =
+    subst (λ (s : Start). HasGenerated how s.state (disk_view s.history s.moment s.faults) (disk_view last.history last.moment last.faults) script es (attempt_of p.seen) text text') begins
+    (generated_of_pass store p es last closes (ap (λ (s : Start). s.passes) begins) number closed how script text text' alone floors tries (ap (λ (s : Start). s.state.count) begins) ran)
 
 -- ---- no memory for a store
 -- no line was answered
@@ -124,6 +149,20 @@ none_pinned s (suc n) count = (tt, (tt, (tt, (tt, (tt, (tt, (tt, (tt, tt))))))))
 abbrev beginning : Engine → Start
 beginning e = start_with e 1 (record { words = 0; slots = 0; views_name = 0; atom = 0; block = 0; offset = 0; slot_names = [] })
 
+-- no line of a generated script was done
+generated_none : (s : State) (script : List (List ℕ)) (text : Option (List ℕ)) → GeneratedAlone end.Memory s script [] None text text
+unfolding answers_from replay
+generated_none s script text = record {
+  done = [];
+  next = None;
+  more = script;
+  first = refl;
+  entries_are = refl;
+  state = refl;
+  tried = refl;
+  writes = refl;
+}
+
 -- a disk outlasts no entries if it is settled on the engine's versions
 none_outlasted : (e : Engine) (h : History) → IsVersions e.versions → length h.before ≡ e.moment → IsSettledOn h e.versions e.generation → Outlasts (beginning e) [] None h
 unfolding replay
@@ -136,16 +175,15 @@ none_outlasted e h sound dated settled =
       stopped = λ x is. absurd (let none : None ≡ Some x = is in cc);
     }
 
--- a run over an engine at which nothing was done
-pub refused_run : (e : Engine) (rest text : Option (List ℕ)) → IsVersions e.versions → IsDatedDisk (disk_view e.history e.moment e.faults) → ((h : History) → e.history ≡ Some h → IsSettledOn h e.versions e.generation)
-    → HasRun end.Memory (opened e.versions e.generation) (disk_view e.history e.moment e.faults) (disk_view e.history e.moment e.faults) [] None rest rest text text
-unfolding replay alone_none
-refused_run e rest text sound dated settled =
+-- no line was done over an engine
+nothing_lasted : (e : Engine) → IsVersions e.versions → IsDatedDisk (disk_view e.history e.moment e.faults) → ((h : History) → e.history ≡ Some h → IsSettledOn h e.versions e.generation)
+    → HasLasted (opened e.versions e.generation) (disk_view e.history e.moment e.faults) (disk_view e.history e.moment e.faults) [] None []
+unfolding replay answers_from
+nothing_lasted e sound dated settled =
     let s = opened e.versions e.generation in
     let spared : StaysUnderPins s [] None [] = record { fronts = λ n count within. none_pinned s n count; tried = tt } in
     let o : (h : History) → e.history ≡ Some h → Outlasts (beginning e) [] None h = λ h told. none_outlasted e h sound (dated h told) (settled h told) in
     record {
-      ran = alone_none s rest text;
       spared = spared;
       legal = tt;
       tried = tt;
@@ -159,3 +197,15 @@ refused_run e rest text sound dated settled =
       stopped = tt;
       settled = λ unmarked h told. (h, told, (o h told).settled unmarked);
     }
+
+-- a run over an engine at which nothing was done
+pub refused_run : (e : Engine) (rest text : Option (List ℕ)) → IsVersions e.versions → IsDatedDisk (disk_view e.history e.moment e.faults) → ((h : History) → e.history ≡ Some h → IsSettledOn h e.versions e.generation)
+    → HasRun end.Memory (opened e.versions e.generation) (disk_view e.history e.moment e.faults) (disk_view e.history e.moment e.faults) [] None rest rest text text
+unfolding alone_none
+refused_run e rest text sound dated settled = record { ran = alone_none (opened e.versions e.generation) rest text; lasted = nothing_lasted e sound dated settled }
+
+-- and one of a generated script
+pub refused_generated : (e : Engine) (script : List (List ℕ)) (text : Option (List ℕ)) → IsVersions e.versions → IsDatedDisk (disk_view e.history e.moment e.faults) → ((h : History) → e.history ≡ Some h → IsSettledOn h e.versions e.generation)
+    → HasGenerated end.Memory (opened e.versions e.generation) (disk_view e.history e.moment e.faults) (disk_view e.history e.moment e.faults) script [] None text text
+unfolding generated_none
+refused_generated e script text sound dated settled = record { ran = generated_none (opened e.versions e.generation) script text; lasted = nothing_lasted e sound dated settled }

@@ -1,4 +1,4 @@
--- A script over a store of its own, from the opening of the store to its end.
+-- Scripts over a store of their own, from the opening of the store to its end.
 use Rattle.std.specs.Prelude.{◌≡◌, ◌⊎◌, ℕ, ◌∷◌, length, take, slice_index_or, List, Option, Some, None, IfSome, ◌≤◌}
 use Rattle.jf_path.specs.Faults.{HasCause}
 use Rattle.jf_model.specs.Versions.{IsVersions}
@@ -18,6 +18,7 @@ use Rattle.jf_answers.specs.Laws.{SparesPins}
 use Rattle.jf_history.specs.Sparing.{SparesPinsSince}
 use Rattle.jf_history.specs.Alone.{RanAlone}
 use Rattle.jf_history.specs.declared.end.End.{End}
+use Rattle.jf_workload.specs.ScriptsAlone.{GeneratedAlone}
 use Rattle.jf_run.specs.Stops.{IsSafeSince}
 
 -- the history that a disk shows, if it is known, has a state for each moment
@@ -54,13 +55,12 @@ pub record LastsByLine (s : State) (moment : ℕ) (h : History) (es : List Entry
   pub each : (n : ℕ) (g : History) → n ≤ length es → history_after moment times n h ≡ Some g → IsSafeSince moment g s (take n es) None × IsSettledOn g (versions (replay s (take n es))) (replay s (take n es)).generation
   pub lines : (n : ℕ) (g : History) → history_after moment times (length (run_entries (answers s (take n done)))) h ≡ Some g → SparesPinsSince moment g (answers s (take n done)).own
 
--- a script was run over a store that was opened in this state, when its disk showed `old`. Replies and entries are those of
--- the lines done, and so is the attempt, which there is only if the disk failed. A crash at any moment since the opening leaves
--- a first part of the entries, with all acknowledged by then, or all of them and the attempt; a crash now leaves all of them, or
--- all and the attempt; if there is none, a read of the disk gives what all entries make, and a crash now leaves nothing else
-pub record HasRun (e : End) (s : State) (old new : DiskView) (es : List Entry) (attempt : Option Entry) (rest rest' text text' : Option (List ℕ)) : Type 0 where
-  pub ran : RanAlone e s es attempt rest rest' text text'
-  pub spared : StaysUnderPins s es attempt ran.done
+-- lines were done over a store that was opened in this state, when its disk showed `old`, and these entries are what they gave; the
+-- attempt is what a line after them asked for, which there is only if the disk failed. A crash at any moment since the opening
+-- leaves a first part of the entries, with all acknowledged by then, or all of them and the attempt; a crash now leaves all of
+-- them, or all and the attempt; if there is none, a read of the disk gives what all entries make, and a crash now leaves nothing else
+pub record HasLasted (s : State) (old new : DiskView) (es : List Entry) (attempt : Option Entry) (done : List (List ℕ)) : Type 0 where
+  pub spared : StaysUnderPins s es attempt done
   pub legal : AreLegal s es
   pub tried : IfSome attempt (IsLegal (replay s es))
   pub cause : IfSome attempt (λ _. HasCause old.faults new.faults)
@@ -68,7 +68,17 @@ pub record HasRun (e : End) (s : State) (old new : DiskView) (es : List Entry) (
   pub faults : old.faults ≤ new.faults
   pub extends : OnHistories old.history new.history ExtendsHistory
   pub safe : OnHistories old.history new.history (λ h g. IsSafeSince old.moment g s es attempt)
-  pub held : OnHistories old.history new.history (λ h g. SparesPinsSince old.moment g (answers s ran.done).own)
-  pub lined : OnHistories old.history new.history (λ h g. LastsByLine s old.moment g es ran.done)
+  pub held : OnHistories old.history new.history (λ h g. SparesPinsSince old.moment g (answers s done).own)
+  pub lined : OnHistories old.history new.history (λ h g. LastsByLine s old.moment g es done)
   pub stopped : IfSome attempt (λ e. OnHistories old.history new.history (λ h g. LeavesNow g (λ f. StandsFor f (versions (replay s es)) ⊎ StandsFor f (versions (after e (replay s es))))))
   pub settled : attempt ≡ None → OnHistories old.history new.history (λ h g. IsSettledOn g (versions (replay s es)) (replay s es).generation)
+
+-- the script of an input was run over a store that was opened in this state: replies and entries are those of the lines done
+pub record HasRun (e : End) (s : State) (old new : DiskView) (es : List Entry) (attempt : Option Entry) (rest rest' text text' : Option (List ℕ)) : Type 0 where
+  pub ran : RanAlone e s es attempt rest rest' text text'
+  pub lasted : HasLasted s old new es attempt ran.done
+
+-- a generated script was run over it: the report and the entries are those of the lines done
+pub record HasGenerated (e : End) (s : State) (old new : DiskView) (script : List (List ℕ)) (es : List Entry) (attempt : Option Entry) (text text' : Option (List ℕ)) : Type 0 where
+  pub ran : GeneratedAlone e s script es attempt text text'
+  pub lasted : HasLasted s old new es attempt ran.done

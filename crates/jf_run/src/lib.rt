@@ -2,8 +2,15 @@
 //! such a call promises.
 #![tactic(auto)]
 
-mod judge_input;
+mod generate_over;
+mod generating;
+mod judging;
+mod opening;
+mod restoring;
 mod run_over;
 pub mod run_words;
+mod running;
 pub mod status;
-pub mod words;
+
+pub use jf_receive::RestoreFault;
+pub use jf_words::Mode;

@@ -1,17 +1,19 @@
 // How a call of the program ended, and the exit status that says so.
-ghost use Rattle.std.specs.Prelude.{◌≡◌};
-ghost use Rattle.jf_run.specs.Commands.{code_of, status_of, status_of_verified, status_of_refusal};
+ghost use Rattle.std.specs.Prelude.{◌≡◌, [], None};
+ghost use Rattle.jf_run.specs.Statuses.{code_of, status_of, status_of_verified, status_of_refusal, status_of_received};
 
 use jf_disk::Side;
 use jf_engine::{EngineMemory, OpenFault};
 use jf_history::End;
 use jf_model::Ledger;
+use jf_receive::{Received, RestoreFault};
 use jf_verify::Verified;
+use std::alloc::Global;
 
 /// How a call of the program ended (docs/FORMATS.md, "Calling the program").
 #[derive(Clone, Copy, Debug, PartialEq, Eq)]
 pub enum Status {
-    /// The input was read to its end, and all replies or verdicts were written.
+    /// All output was written, and a mode that reads input read it to its end.
     Done,
     /// The program doesn't take these words. No device was touched.
     Usage,
@@ -26,6 +28,8 @@ pub enum Status {
     Damaged { side: Side, offset: u64 },
     /// Memory ran out.
     Memory,
+    /// No version was restored, for this reason. The files stand for what they stood for.
+    Refused(RestoreFault),
 }
 
 /// What a call of the program hands back: how it ended, the disk, the entries of its ledger, and the newest version
@@ -77,7 +81,21 @@ impl Status {
         }
     }
 
-    /// The exit status of the process: 0 to 5, or 7.
+    /// The status after a version was to be restored.
+    pub fn of_received(how: Received) -> Status
+        ensures { result ≡ status_of_received how }
+    {
+        match how {
+            Received::Done => Status::Done,
+            Received::ReadFault => Status::ReadFault,
+            Received::WriteFault => Status::WriteFault,
+            Received::DiskFault => Status::DiskFault,
+            Received::Memory => Status::Memory,
+            Received::Refused(why) => Status::Refused(why),
+        }
+    }
+
+    /// The exit status of the process: 0 to 5, 7 or 8.
     pub fn code(self) -> u8
         ensures { result ≡ code_of self }
     {
@@ -89,6 +107,25 @@ impl Status {
             Status::DiskFault => 4,
             Status::Damaged { .. } => 5,
             Status::Memory => 7,
+            Status::Refused(_) => 8,
+        }
+    }
+}
+
+impl<D> Ended<D> {
+    // The end of a call that opened no store.
+    pub(crate) fn without_store(alloc: Global, status: Status, disk: D) -> Ended<D>
+        ensures status { result.status ≡ status }
+        ensures disk { result.disk ≡ disk }
+        ensures entries { result.entries ≡ [] }
+        ensures start { result.start ≡ None }
+    {
+        Ended {
+            status,
+            disk,
+            entries: Ledger::new(alloc),
+            start: None,
+            memory: None,
         }
     }
 }

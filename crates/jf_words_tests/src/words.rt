@@ -1,21 +1,14 @@
 // Lists of words: what they ask for, how their runs end, and that wrong words touch nothing.
 use jf_disk::{Disk, MemDisk, Side};
-use jf_play::play::{Faults, NO_FAULTS, Played, disk_of, has_ended, new_disk, play_words};
+use jf_play::play::{
+    Faults, NO_FAULTS, Played, disk_of, has_ended, new_disk, play_words, words_of,
+};
 use jf_run::status::Status;
-use jf_run::words::{Mode, mode_of};
+use jf_words::{Mode, mode_of};
 use std::alloc::Global;
 use std::sync::Wait;
 use std::test::Fail;
 use std::thread::Threads;
-
-// The words of a line, which has one space between each two.
-pub fn words_of(alloc: Global, line: &str) -> Result<Vec<String>, Fail> {
-    let mut words = Vec::new(alloc);
-    for word in line.split(' ') {
-        words.push(String::from_str(alloc, word)?)?;
-    }
-    Ok(words)
-}
 
 // Lines of words, and the number of workers of the run that they ask for. `None`: they ask for no run.
 const RUNS: &[(&str, Option<u64>)] = &[
@@ -63,6 +56,24 @@ const RUNS: &[(&str, Option<u64>)] = &[
     ("--workers 2 run", None),
     ("Run", None),
     ("walk", None),
+    ("restore 1", None),
+    (
+        "restore 1 5f5f5f5f5f5f5f5f5f5f5f5f5f5f5f5f5f5f5f5f5f5f5f5f5f5f5f5f5f5f5f5f 5f5f5f5f5f5f5f5f5f5f5f5f5f5f5f5f5f5f5f5f5f5f5f5f5f5f5f5f5f5f5f5f",
+        None,
+    ),
+    (
+        "restore 18446744073709551615 5f5f5f5f5f5f5f5f5f5f5f5f5f5f5f5f5f5f5f5f5f5f5f5f5f5f5f5f5f5f5f5f",
+        None,
+    ),
+    (
+        "restore --workers 2 --workers 2 1 5f5f5f5f5f5f5f5f5f5f5f5f5f5f5f5f5f5f5f5f5f5f5f5f5f5f5f5f5f5f5f5f",
+        None,
+    ),
+    ("generate 1 1", None),
+    ("generate 01 1 1", None),
+    ("generate 1 1001 1", None),
+    ("generate 1 1 0", None),
+    ("generate 1 1 10001", None),
 ];
 
 // Lines of words, and whether they ask for `verify`.

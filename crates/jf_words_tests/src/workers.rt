@@ -1,10 +1,8 @@
 // Runs with several workers: pieces of one landing are in flight at once, and no number of workers changes what is
 // written.
-use crate::words::words_of;
-use jf_disk::{MemDisk, Side};
+use jf_disk::MemDisk;
 use jf_join::{FreeGate, Gate};
-use jf_play::play::{Played, new_disk, play_gated};
-use jf_run::status::Status;
+use jf_play::play::{Played, are_same, new_disk, play_gated, roomy_disk, words_of};
 use std::alloc::Global;
 use std::sync::Wait;
 use std::sync::atomic::AtomicU64;
@@ -107,13 +105,6 @@ const BATCHES: &[Lines] = &[
     ("del", 19_000, 19_001, ""),
 ];
 
-// A disk in memory with room for these batches, whose nodes take 2 MB.
-fn roomy_disk(alloc: Global) -> Result<Box<MemDisk>, Fail> {
-    let empty = || Vec::new(alloc);
-    let disk = MemDisk::new(alloc, empty(), empty(), 1000, 3_000_000, Vec::new(alloc))?;
-    Ok(Box::new(alloc, disk)?)
-}
-
 // The words that ask for a run with this number of workers.
 fn words_by(alloc: Global, workers: u64) -> Result<Vec<String>, Fail> {
     let line = format!(in alloc; "run --workers {workers}")?;
@@ -130,14 +121,6 @@ fn played_by<H: Threads + Wait + Sync>(
     let words = words_by(alloc, workers)?;
     let disk = roomy_disk(alloc)?;
     play_gated(rt, alloc, disk, &words, script, &FreeGate)
-}
-
-// Whether two runs ended well, wrote the same replies and left the same bytes.
-fn are_same(one: &Played<MemDisk>, other: &Played<MemDisk>) -> bool {
-    let done = one.status == Status::Done && other.status == Status::Done;
-    let sides = one.disk.bytes(Side::A) == other.disk.bytes(Side::A)
-        && one.disk.bytes(Side::B) == other.disk.bytes(Side::B);
-    done && sides && one.text.as_slice() == other.text.as_slice()
 }
 
 // Whether a run with this number of workers is the same as the run with one.

@@ -1,0 +1,76 @@
+-- The statuses with which the program ends.
+use Rattle.std.specs.Prelude.{ℕ, Bool, true, false}
+use Rattle.jf_engine.specs.declared.fault.OpenFault.{OpenFault}
+use Rattle.jf_engine.specs.declared.fault.OpenFault.TheVariants as open_fault
+use Rattle.jf_verify.specs.declared.stream.Verified.{Verified}
+use Rattle.jf_verify.specs.declared.stream.Verified.TheVariants as verified
+use Rattle.jf_history.specs.declared.end.End.{End}
+use Rattle.jf_history.specs.declared.end.End.TheVariants as end
+use Rattle.jf_receive.specs.declared.received.Received.{Received}
+use Rattle.jf_receive.specs.declared.received.Received.TheVariants as received
+use Rattle.jf_run.specs.declared.status.Status.{Status}
+use Rattle.jf_run.specs.declared.status.Status.TheVariants as status
+
+-- the status after a script's run; no run begins on a store whose disk failed before
+abbrev pub status_of : End → Status
+status_of end.Done = status.Done
+status_of end.ReadFault = status.ReadFault
+status_of end.WriteFault = status.WriteFault
+status_of end.DiskFault = status.DiskFault
+status_of end.Broken = status.DiskFault
+status_of end.Memory = status.Memory
+
+-- the status after an input was judged
+abbrev pub status_of_verified : Verified → Status
+status_of_verified verified.Done = status.Done
+status_of_verified verified.ReadFault = status.ReadFault
+status_of_verified verified.WriteFault = status.WriteFault
+status_of_verified verified.Memory = status.Memory
+
+-- the status if the store could not be opened
+abbrev pub status_of_refusal : OpenFault → Status
+status_of_refusal open_fault.DiskFault = status.DiskFault
+status_of_refusal (open_fault.Damaged side offset) = status.Damaged side offset
+status_of_refusal open_fault.Memory = status.Memory
+
+-- the status after a version was to be restored
+abbrev pub status_of_received : Received → Status
+status_of_received received.Done = status.Done
+status_of_received received.ReadFault = status.ReadFault
+status_of_received received.WriteFault = status.WriteFault
+status_of_received received.DiskFault = status.DiskFault
+status_of_received received.Memory = status.Memory
+status_of_received (received.Refused why) = status.Refused why
+
+-- whether a call may end so if it opened no store and judged no input
+abbrev pub is_closing : Status → Bool
+is_closing status.Done = false
+is_closing status.Usage = true
+is_closing status.ReadFault = false
+is_closing status.WriteFault = false
+is_closing status.DiskFault = true
+is_closing (status.Damaged side offset) = true
+is_closing status.Memory = true
+is_closing (status.Refused why) = false
+
+-- whether the status says that the disk failed
+abbrev pub is_disk_fault : Status → Bool
+is_disk_fault status.Done = false
+is_disk_fault status.Usage = false
+is_disk_fault status.ReadFault = false
+is_disk_fault status.WriteFault = false
+is_disk_fault status.DiskFault = true
+is_disk_fault (status.Damaged side offset) = false
+is_disk_fault status.Memory = false
+is_disk_fault (status.Refused why) = false
+
+-- the exit status of the process
+abbrev pub code_of : Status → ℕ
+code_of status.Done = 0
+code_of status.Usage = 1
+code_of status.ReadFault = 2
+code_of status.WriteFault = 3
+code_of status.DiskFault = 4
+code_of (status.Damaged side offset) = 5
+code_of status.Memory = 7
+code_of (status.Refused why) = 8
