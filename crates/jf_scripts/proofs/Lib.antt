@@ -1,0 +1,4 @@
+pub mod FirstLine
+pub mod Cuts
+pub mod Taken
+pub mod Samples

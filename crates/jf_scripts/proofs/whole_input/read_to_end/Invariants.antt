@@ -1,0 +1,14 @@
+use Rattle.std.proofs.Common.{◌≤◌, ◌-◌, length}
+use Rattle.jf_scripts.specs.Scripts.{max_input}
+use Rattle.jf_scripts.proofs.Taken.{HasTaken}
+use Rattle.jf_scripts.proofs.whole_input.read_to_end.Given as goal
+
+abbrev pub invariant-loop-bytes : goal.invariant-loop-bytes
+invariant-loop-bytes g l = record {
+  small : length l.bytes.items ≤ max_input;
+  taken : HasTaken (g.S.Source.rest l.initial.source) (g.S.Source.rest l.source) l.bytes.items;
+  grows : g.S.Source.faults l.initial.source ≤ g.S.Source.faults l.source;
+}
+
+abbrev pub decreases-loop-bytes : goal.decreases-loop-bytes
+decreases-loop-bytes g l = max_input - length l.bytes.items

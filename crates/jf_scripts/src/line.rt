@@ -1,0 +1,43 @@
+// The first line of bytes.
+ghost use Rattle.std.specs.Prelude.{◌≡◌, ◌==◌, ◌∷◌, [], IfSome, None, ◌<◌, ◌≤◌, length};
+ghost use Rattle.std.specs.List.{position, position_or_len, before_first, after_first};
+ghost use Rattle.jf_io.specs.LineReader.{is_line_feed};
+ghost use Rattle.jf_io.specs.Lines.{lines};
+
+/// The first line of bytes, without the line feed that ends it, and the bytes after that. `None` if there are no bytes.
+pub fn cut_line(bytes: &[u8]) -> Option<(&[u8], &[u8])>
+    ensures none { result ≡ None → bytes.now ≡ [] }
+    ensures some { IfSome result (λ r. lines bytes.now ≡ r.0.now ∷ lines r.1.now) }
+    ensures shorter { IfSome result (λ r. length r.1.now < length bytes.now) }
+{
+    if bytes.is_empty() {
+        None
+    } else {
+        Some(split_line(bytes))
+    }
+}
+
+/// The bytes before the first line feed, and those after it. All bytes, and none, if there is no line feed.
+pub(crate) fn split_line(bytes: &[u8]) -> (&[u8], &[u8])
+    ensures line { result.0.now ≡ before_first is_line_feed bytes.now }
+    ensures after { result.1.now ≡ after_first is_line_feed bytes.now }
+{
+    let end = line_end(bytes);
+    let next = bytes.len().min(end + 1);
+    (&bytes[..end], &bytes[next..])
+}
+
+/// The offset of the first line feed, or how many bytes there are if there is none.
+fn line_end(bytes: &[u8]) -> usize
+    ensures within { result ≤ length bytes.now }
+    ensures value { result ≡ position_or_len is_line_feed bytes.now }
+{
+    line_feed(bytes).unwrap_or(bytes.len())
+}
+
+/// The offset of the first line feed.
+fn line_feed(bytes: &[u8]) -> Option<usize>
+    ensures { result ≡ position (λ b. b == 10) bytes.now }
+{
+    bytes.iter().position(|b| *b == b'\n')
+}
