@@ -1,0 +1,68 @@
+-- Text that is gathered in several steps, and what the sink has if a step fails.
+use Rattle.std.proofs.Common.{◌≡◌, ℕ, ◌<◌, List, [], ◌++◌, length, Option, option_map, refl, sym, ap, subst, ◌∙◌, append_assoc, append-nil, length-append, arith}
+use Rattle.jf_io.specs.Sink.{IsCutShort}
+use Rattle.jf_io.proofs.Written.{nothing_written, written_more}
+use Rattle.jf_report.specs.Gathered.{HasGathered}
+
+-- ---- one step
+-- what is added is held
+pub gathered-held : (text : Option (List ℕ)) (held held' more : List ℕ) → held' ≡ held ++ more → HasGathered text text held held' more
+gathered-held text held held' more e = ([], e, nothing_written text)
+
+-- nothing is added
+pub gathered-none : (text : Option (List ℕ)) (held : List ℕ) → HasGathered text text held held []
+gathered-none text held = gathered-held text held held [] (sym (append-nil held))
+
+-- all of it is put
+pub gathered-put : (text text' : Option (List ℕ)) (held held' held'' more : List ℕ) → held' ≡ held ++ more → text' ≡ option_map (λ t. t ++ held') text → held'' ≡ [] → HasGathered text text' held held'' more
+gathered-put text text' held held' held'' more e put empty = (held', ap (λ h. held' ++ h) empty ∙ append-nil held' ∙ e, put)
+
+-- what is added is put past what is held, of which there is nothing
+pub gathered-past : (text text' : Option (List ℕ)) (held more : List ℕ) → held ≡ [] → text' ≡ option_map (λ t. t ++ more) text → HasGathered text text' held held more
+gathered-past text text' held more empty put =
+    (more, ap (λ h. more ++ h) empty ∙ append-nil more ∙ ap (λ h. h ++ more) (sym empty), put)
+
+-- a sink that took nothing is short of any bytes
+pub cut-none : (text : Option (List ℕ)) (bytes : List ℕ) → 0 < length bytes → IsCutShort text text bytes
+cut-none text bytes some = record { front = []; missing = bytes; whole = refl; is_short = some; appended = nothing_written text }
+
+-- a text that is cut short is cut short of a longer one
+pub cut-longer : (text text' : Option (List ℕ)) (bytes more : List ℕ) → IsCutShort text text' bytes → IsCutShort text text' (bytes ++ more)
+cut-longer text text' bytes more cut =
+    record {
+      front = cut.front;
+      missing = cut.missing ++ more;
+      whole = sym (append_assoc cut.front cut.missing more) ∙ ap (λ t. t ++ more) cut.whole;
+      is_short = omega (arith, cut.is_short, length-append cut.missing more);
+      appended = cut.appended;
+    }
+
+-- if the bytes are a front of others, it is cut short of those
+pub cut-in : (text text' : Option (List ℕ)) (held bytes more whole : List ℕ) → bytes ++ more ≡ whole → IsCutShort text text' (held ++ bytes) → IsCutShort text text' (held ++ whole)
+cut-in text text' held bytes more whole e cut =
+    subst (λ (t : List ℕ). IsCutShort text text' t) (append_assoc held bytes more ∙ ap (λ t. held ++ t) e) (cut-longer text text' (held ++ bytes) more cut)
+
+-- ---- one step more
+module _ (text text' text'' : Option (List ℕ)) (held held' bytes : List ℕ) (so_far : HasGathered text text' held held' bytes) where
+  -- what was put before the step and what the step puts or leaves
+  with_step : (put rest more : List ℕ) → put ++ rest ≡ held' ++ more → (so_far.0 ++ put) ++ rest ≡ held ++ (bytes ++ more)
+  with_step put rest more e =
+      append_assoc so_far.0 put rest ∙ ap (λ t. so_far.0 ++ t) e ∙ sym (append_assoc so_far.0 held' more) ∙ ap (λ t. t ++ more) so_far.1 ∙ append_assoc held bytes more
+
+  -- what the sink took before the step and in it
+  with_put : (put : List ℕ) → text'' ≡ option_map (λ t. t ++ put) text' → text'' ≡ option_map (λ t. t ++ (so_far.0 ++ put)) text
+  with_put put e = e ∙ ap (option_map (λ t. t ++ put)) so_far.2 ∙ written_more text so_far.0 put
+
+  -- more was gathered
+  pub gathered-then : (held'' more : List ℕ) → HasGathered text' text'' held' held'' more → HasGathered text text'' held held'' (bytes ++ more)
+  gathered-then held'' more step = (so_far.0 ++ step.0, with_step step.0 held'' more step.1, with_put step.0 step.2)
+
+  -- the step failed
+  pub cut-then : (more : List ℕ) → IsCutShort text' text'' (held' ++ more) → IsCutShort text text'' (held ++ (bytes ++ more))
+  cut-then more cut =
+      record { front = so_far.0 ++ cut.front; missing = cut.missing; whole = with_step cut.front cut.missing more cut.whole; is_short = cut.is_short; appended = with_put cut.front cut.appended }
+
+  -- not all that is held was put
+  pub cut-held : IsCutShort text' text'' held' → IsCutShort text text'' (held ++ bytes)
+  cut-held cut =
+      subst (λ (t : List ℕ). IsCutShort text text'' (held ++ t)) (append-nil bytes) (cut-then [] (subst (λ (t : List ℕ). IsCutShort text' text'' t) (sym (append-nil held')) cut))

@@ -1,0 +1,4 @@
+pub mod GatheredLaws
+pub mod Joined
+pub mod Refused
+pub mod Samples
