@@ -1,0 +1,5 @@
+pub mod LinesAnswered
+pub mod SessionsRun
+pub mod AllServed
+pub mod ServedLaws
+pub mod Sending

@@ -1,0 +1,54 @@
+-- What each session came to, and what several did that were run side by side.
+use Rattle.std.specs.Prelude.{◌≡◌, ℕ, ◌+◌, true, List, [], ◌∷◌, ◌++◌}
+use Rattle.jf_store.specs.Passes.{Store, Pass}
+use Rattle.jf_answers.specs.Explains.{IsAmong, Answered, text_in}
+use Rattle.jf_history.specs.Serving.{IsServed}
+use Rattle.jf_history.specs.declared.end.End.{End}
+use Rattle.jf_history.specs.declared.end.End.TheVariants as end
+use Rattle.jf_serve.specs.Served.{is_memory}
+
+-- a session takes no input and writes to no sink
+abbrev pub IsSessionEnd : End → Type 0
+IsSessionEnd end.Done = Unit {0}
+IsSessionEnd end.ReadFault = ⊥
+IsSessionEnd end.WriteFault = ⊥
+IsSessionEnd end.DiskFault = Unit {0}
+IsSessionEnd end.Broken = Unit {0}
+IsSessionEnd end.Memory = Unit {0}
+
+-- session n of a store ran a script over its new pass: how it ended, the text of its replies, and its pass in the end. It is explained whichever other sessions ran out of memory
+pub record HasRunSession (store : Store) (n : ℕ) (script : List (List ℕ)) (how : End) (text : List ℕ) (pass : Pass) : Type 0 where
+  pub replies : List Answered
+  pub text_is : text ≡ text_in replies
+  pub end_is : IsSessionEnd how
+  pub served : (wanted : List ℕ) → (is_memory how ≡ true → IsAmong wanted n) → IsServed store wanted n (record { script = script; how = how; replies = replies; pass = pass })
+
+-- what sessions came to, in the order of their numbers, and for how many there is room
+pub record Gathered : Type 0 where
+  pub passes : List Pass
+  pub texts : List (List ℕ)
+  pub ends : List End
+  pub room : ℕ
+
+-- nothing, with room for so many
+abbrev pub none_gathered : ℕ → Gathered
+none_gathered room = record { passes = []; texts = []; ends = []; room = room }
+
+-- what one session more came to
+abbrev pub one_more_gathered : Gathered → End → List ℕ → Pass → Gathered
+one_more_gathered g how text pass = record { passes = g.passes ++ pass ∷ []; texts = g.texts ++ text ∷ []; ends = g.ends ++ how ∷ []; room = g.room }
+
+-- sessions from number n on ran these scripts: how they ended, the texts of their replies, and their passes in the end
+abbrev pub HaveRunFrom : Store → ℕ → List (List (List ℕ)) → List End → List (List ℕ) → List Pass → Type 0
+HaveRunFrom store n [] [] [] [] = Unit {0}
+HaveRunFrom store n [] [] [] (p ∷ ps) = ⊥
+HaveRunFrom store n [] [] (t ∷ ts) ps = ⊥
+HaveRunFrom store n [] (e ∷ es) ts ps = ⊥
+HaveRunFrom store n (script ∷ scripts) [] ts ps = ⊥
+HaveRunFrom store n (script ∷ scripts) (e ∷ es) [] ps = ⊥
+HaveRunFrom store n (script ∷ scripts) (e ∷ es) (t ∷ ts) [] = ⊥
+HaveRunFrom store n (script ∷ scripts) (e ∷ es) (t ∷ ts) (p ∷ ps) = HasRunSession store n script e t p × HaveRunFrom store (n + 1) scripts es ts ps
+
+-- sessions from number n on ran these scripts, and this was gathered
+abbrev pub HaveRunSessions : Store → ℕ → List (List (List ℕ)) → Gathered → Type 0
+HaveRunSessions store n scripts g = HaveRunFrom store n scripts g.ends g.texts g.passes

@@ -1,0 +1,75 @@
+-- What several sessions over one store came to, each of which ran a script of its own.
+use Rattle.std.specs.Prelude.{◌≡◌, ℕ, ◌+◌, Bool, true, false, if◌then◌else◌, List, [], ◌∷◌, map, length, slice_get, Option, Some, None, IfSome}
+use Rattle.jf_disk.specs.Disk.{History}
+use Rattle.jf_disk.specs.Moments.{ExtendsHistory}
+use Rattle.jf_model.specs.Entries.{replay, IsLegal}
+use Rattle.jf_model.specs.declared.entries.Entry.{Entry}
+use Rattle.jf_engine.specs.Engines.{Engine}
+use Rattle.jf_store.specs.Starts.{Start}
+use Rattle.jf_store.specs.Kept.{IsKept}
+use Rattle.jf_answers.specs.Own.{begun_session}
+use Rattle.jf_answers.specs.OwnLines.{is_own_line}
+use Rattle.jf_answers.specs.Explains.{Timeline, Answered, ExplainsAnswers, IsAttempt, next_line, own_after_replies, text_in, timeline_of}
+use Rattle.jf_history.specs.Sparing.{SparesPinsSince}
+use Rattle.jf_history.specs.declared.end.End.{End}
+use Rattle.jf_history.specs.declared.end.End.TheVariants as end
+
+-- whether a session ran out of memory
+abbrev pub is_memory : End → Bool
+is_memory end.Done = false
+is_memory end.ReadFault = false
+is_memory end.WriteFault = false
+is_memory end.DiskFault = false
+is_memory end.Broken = false
+is_memory end.Memory = true
+
+-- the numbers, from n on, of the sessions that ran out of memory
+abbrev pub wanted_from : ℕ → List End → List ℕ
+wanted_from n [] = []
+wanted_from n (e ∷ es) = if is_memory e then n ∷ wanted_from (n + 1) es else wanted_from (n + 1) es
+
+-- the numbers of the sessions that ran out of memory
+abbrev pub wanted_of : List End → List ℕ
+wanted_of es = wanted_from 0 es
+
+-- how session n ended, by its script and its replies; `attempt` is what was tried when the disk failed. It ends at a disk that
+-- failed in an earlier call only at a line that asks the store
+abbrev pub IsEndOf : Timeline → Option Entry → ℕ → List (List ℕ) → List Answered → End → Type 0
+IsEndOf h attempt n script rs end.Done = length rs ≡ length script
+IsEndOf h attempt n script rs end.ReadFault = ⊥
+IsEndOf h attempt n script rs end.WriteFault = ⊥
+IsEndOf h attempt n script rs end.DiskFault = (e : Entry) × (attempt ≡ Some e) × IsAttempt h n script rs e
+IsEndOf h attempt n script rs end.Broken = (e : Entry) × (attempt ≡ Some e) × ((line : List ℕ) × (next_line script rs ≡ Some line) × (is_own_line line ≡ false))
+IsEndOf h attempt n script rs end.Memory = Unit {0}
+
+-- how sessions ended, from number n on
+abbrev pub AreEnded : Timeline → Option Entry → ℕ → List (List (List ℕ)) → List (List Answered) → List End → Type 0
+AreEnded h attempt n [] [] [] = Unit {0}
+AreEnded h attempt n [] [] (e ∷ es) = ⊥
+AreEnded h attempt n [] (rs ∷ rss) es = ⊥
+AreEnded h attempt n (script ∷ scripts) [] es = ⊥
+AreEnded h attempt n (script ∷ scripts) (rs ∷ rss) [] = ⊥
+AreEnded h attempt n (script ∷ scripts) (rs ∷ rss) (e ∷ es) = IsEndOf h attempt n script rs e × AreEnded h attempt (n + 1) scripts rss es
+
+-- each image left since a moment stands for versions of which the floor is above no version that a session has pinned after its
+-- replies; of a session that ran out of memory, whose last reply may be missing, nothing is said
+abbrev pub ArePinsSpared : ℕ → History → ℕ → List (List Answered) → List End → Type 0
+ArePinsSpared moment h n [] es = Unit {0}
+ArePinsSpared moment h n (rs ∷ rss) [] = ⊥
+ArePinsSpared moment h n (rs ∷ rss) (e ∷ es) = (is_memory e ≡ false → SparesPinsSince moment h (own_after_replies (begun_session n) rs)) × ArePinsSpared moment h (n + 1) rss es
+
+-- the sessions of a store that began so answered the first lines of these scripts with these outputs, and the store was then closed.
+-- One legal history explains what they were answered; if the disk failed, what was tried is the attempt of one of them; and the
+-- engine is what the entries made of it
+pub record HasServed (start : Start) (scripts : List (List (List ℕ))) (outputs : List (List ℕ)) (ends : List End) (entries : List Entry) (engine : Engine) : Type 0 where
+  pub attempt : Option Entry
+  pub replies : List (List Answered)
+  pub outputs_are : outputs ≡ map text_in replies
+  pub explained : ExplainsAnswers start.state entries scripts replies (wanted_of ends)
+  pub ended : AreEnded (timeline_of start.state entries scripts) attempt 0 scripts replies ends
+  pub tried : IfSome attempt (λ e. (n : ℕ) × (slice_get ends n ≡ Some end.DiskFault))
+  pub legal : IfSome attempt (IsLegal (replay start.state entries))
+  pub kept : IsKept start entries attempt engine
+  pub spared : (h : History) → engine.history ≡ Some h → ArePinsSpared start.moment h 0 replies ends
+  pub grows : (h : History) → start.history ≡ Some h → (g : History) × (engine.history ≡ Some g) × ExtendsHistory h g
+  pub untold : start.history ≡ None → engine.history ≡ None

@@ -1,0 +1,98 @@
+// A session runs a whole script over a new pass.
+ghost use Rattle.std.specs.Prelude.{◌≡◌, ◌≤◌, [], IfErr, OnOk};
+ghost use Rattle.jf_io.specs.Lines.{lines};
+ghost use Rattle.jf_store.specs.Passes.{new_pass};
+ghost use Rattle.jf_history.specs.Sessions.{HoldsPins, new_session};
+ghost use Rattle.jf_session.specs.Taking.{end_of_stop};
+ghost use Rattle.jf_serve.specs.Ran.{HasRunSession};
+
+use jf_disk::Disk;
+use jf_history::End;
+use jf_join::Gate;
+use jf_path::Bytes;
+use jf_scripts::cut_line;
+use jf_session::{Session, Stop};
+use jf_store::{Pass, Store};
+use std::alloc::Global;
+use std::sync::Wait;
+use std::thread::Threads;
+
+/// What a session came to: its pass, the text of its replies, and how it ended.
+#[derive(Drop)]
+pub(crate) struct SessionRan<D: Disk> {
+    pub pass: Pass<D>,
+    pub text: Bytes,
+    pub end: End,
+}
+
+/// Runs a script over a new pass of a store, once the gate was told of the session.
+pub(crate) fn run_session<D: Disk, H: Threads + Wait + Sync, G: Gate>(
+    rt: &H,
+    alloc: Global,
+    store: &Store<D>,
+    pass: Pass<D>,
+    script: &[u8],
+    workers: u64,
+    gate: &G,
+) -> SessionRan<D>
+    requires new { pass ≡ new_pass store.now pass.number }
+    requires some { 1 ≤ workers }
+    requires few { workers ≤ 64 }
+    ensures ran { HasRunSession store.now pass.number (lines script.now) result.end result.text result.pass }
+{
+    gate.session(pass.number());
+    let mut session = Session::new(alloc, pass);
+    session.know_own(store);
+    let mut text = Bytes::new(alloc);
+    let answered = answer_lines(
+        rt,
+        alloc,
+        store,
+        &mut session,
+        script,
+        workers,
+        gate,
+        &mut text,
+    );
+    let pass = session.end();
+    match answered {
+        Ok(()) => SessionRan {
+            pass,
+            text,
+            end: End::Done,
+        },
+        Err(why) => SessionRan {
+            pass,
+            text,
+            end: why.end(),
+        },
+    }
+}
+
+/// Answers the lines of a script in turn, the first of the session, and appends their replies to an empty text. After an
+/// error the session is over, and no further line is begun.
+fn answer_lines<D: Disk, H: Threads + Wait + Sync, G: Gate>(
+    rt: &H,
+    alloc: Global,
+    store: &Store<D>,
+    session: &mut Session<D>,
+    script: &[u8],
+    workers: u64,
+    gate: &G,
+    text: &mut Bytes,
+) -> Result<(), Stop>
+    requires begun { session.old ≡ new_session (new_pass store.now session.old.pass.number) }
+    requires pins { HoldsPins session.old }
+    requires empty { text.old ≡ [] }
+    requires some { 1 ≤ workers }
+    requires few { workers ≤ 64 }
+    ensures ok { OnOk result (HasRunSession store.now session.old.pass.number (lines script.now) End.Done text.new session.new.pass) }
+    ensures err { IfErr result (λ why. HasRunSession store.now session.old.pass.number (lines script.now) (end_of_stop why) text.new session.new.pass) }
+{
+    let mut left = script;
+    while let Some((line, rest)) = cut_line(left) {
+        session.step(rt, alloc, store, line, workers, gate, text)?;
+        left = rest;
+    }
+    Ok(())
+}

@@ -1,0 +1,76 @@
+// Sessions are run side by side over the passes of a store, which is then closed.
+ghost use Rattle.std.specs.Prelude.{◌≡◌, ◌≤◌, map, length, IfOk, IfErr};
+ghost use Rattle.jf_io.specs.Lines.{lines};
+ghost use Rattle.jf_store.specs.Passes.{AreNewPasses};
+ghost use Rattle.jf_serve.specs.Served.{HasServed};
+
+use crate::gathered::Gathered;
+use crate::outputs::{Ends, Outputs};
+use crate::side_by_side::run_side_by_side;
+use jf_disk::Disk;
+use jf_engine::Engine;
+use jf_history::{closed_blames, closed_explains, closed_spares_pins, closed_tries};
+use jf_join::Gate;
+use jf_model::Ledger;
+use jf_path::Bytes;
+use jf_store::{Closed, Pass, Store};
+use std::alloc::Global;
+use std::sync::Wait;
+use std::thread::Threads;
+
+/// What sessions came to: what each wrote and how it ended, the engine of their store, and the entries that they made.
+#[derive(Drop)]
+pub struct Served<D: Disk> {
+    pub outputs: Outputs,
+    pub ends: Ends,
+    pub engine: Engine<D>,
+    pub entries: Ledger,
+}
+
+/// There was no memory, and no session began. The store and its passes come back.
+pub struct ServeRefused<D: Disk> {
+    pub store: Store<D>,
+    pub passes: Vec<Pass<D>>,
+}
+
+/// Runs one session for each script (docs/FORMATS.md, Scripts) over a store and its new passes, in the order of their numbers,
+/// and then closes the store. Each session but the first has a thread of its own; if no thread can be made, the caller does
+/// that session's work too. A session waits for another only if a line asks the store. The gate is told of each session
+/// before it begins. A landing takes at most this many workers, 1 to 64.
+///
+/// A session ends with `Done` if all its lines were answered, with `DiskFault` if the disk failed in what its next line asked
+/// for, with `Broken` if the disk had failed in another session before, and with `Memory` if memory ran out. The others go on.
+pub fn serve<D: Disk, H: Threads + Wait + Sync, G: Gate>(
+    rt: &H,
+    alloc: Global,
+    scripts: &[Bytes],
+    store: Store<D>,
+    passes: Vec<Pass<D>>,
+    workers: u64,
+    gate: &G,
+) -> Result<Served<D>, ServeRefused<D>>
+    requires new { AreNewPasses store passes.items 0 }
+    requires all { length passes.items ≡ store.start.passes }
+    requires each { length scripts.now ≡ length passes.items }
+    requires some { 1 ≤ workers }
+    requires few { workers ≤ 64 }
+    ensures served { IfOk result (λ r. HasServed store.start (map lines scripts.now) r.outputs r.ends r.entries r.engine) }
+    ensures refused { IfErr result (λ r. (r.store ≡ store) × (r.passes ≡ passes)) }
+{
+    closed_explains();
+    closed_tries();
+    closed_blames();
+    closed_spares_pins();
+    let Ok(gathered) = Gathered::with_room(alloc, passes.len()) else {
+        return Err(ServeRefused { store, passes });
+    };
+    let gathered = run_side_by_side(rt, alloc, &store, scripts, passes, workers, gate, gathered);
+    let (passes, outputs, ends) = gathered.into_parts();
+    let Closed { engine, entries } = store.close(passes);
+    Ok(Served {
+        outputs,
+        ends,
+        engine,
+        entries,
+    })
+}
