@@ -122,6 +122,7 @@ fn tell<R: Runtime>(rt: &R, status: Status) -> io::Result<()> {
             };
             eprintln!(rt; "damaged {side} {offset}")
         }
+        Status::InputFull => eprintln!(rt; "input full"),
         Status::Memory => eprintln!(rt; "out of memory"),
         Status::Refused(why) => tell_refusal(rt, why),
     }
@@ -133,8 +134,8 @@ fn tell_refusal<R: Runtime>(rt: &R, why: RestoreFault) -> io::Result<()> {
         RestoreFault::NotEmpty(head) => eprintln!(rt; "refused not-empty {head}"),
         RestoreFault::Line(line) => eprintln!(rt; "refused line {line}"),
         RestoreFault::Chunk(line, why) => {
-            let code = code_of(why);
-            eprintln!(rt; "refused chunk {line} {code}")
+            let check = failed_check(why);
+            eprintln!(rt; "refused chunk {line} {check}")
         }
         RestoreFault::NotWhole(announced, found) => {
             let (mut wanted, mut had) = ([0; 64], [0; 64]);
@@ -147,7 +148,7 @@ fn tell_refusal<R: Runtime>(rt: &R, why: RestoreFault) -> io::Result<()> {
 }
 
 // The number of the check by which a chunk is refused (docs/FORMATS.md, "Chunk blocks").
-fn code_of(why: RangeFault) -> u8 {
+fn failed_check(why: RangeFault) -> u8 {
     match why {
         RangeFault::Empty => 1,
         RangeFault::Order => 2,

@@ -30,6 +30,7 @@ use Rattle.jf_run.proofs.Statuses.{damage_told, refusal_closes, refused_words, r
 pub verify_opens_none : (o : Option Mode) → IsTrue (is_verify o) → IsFalse (opens o)
 verify_opens_none None e = absurd (true≢false (sym e))
 verify_opens_none (Some (mode.Run n)) e = absurd (true≢false (sym e))
+verify_opens_none (Some (mode.Serve n)) e = absurd (true≢false (sym e))
 verify_opens_none (Some mode.Verify) e = refl
 verify_opens_none (Some (mode.Generate seed batches size n)) e = absurd (true≢false (sym e))
 verify_opens_none (Some (mode.Restore version root n)) e = absurd (true≢false (sym e))
@@ -158,7 +159,7 @@ refused_keeps c why all_sound none_stand start none runs is r source sink = reco
     sink_faults = sink;
   };
   files = record {
-    stands = λ h told v stands sound plain. subst (λ es. StandsForEntries c.after.disk.history v (generation (reads h)) es) (sym none) (refused-stands h v c.after.disk.history why all_sound (subst (λ s. IsFalse (is_disk_fault s)) is sound) stands (r.left h told));
+    stands = λ h told v stands sound plain. subst (λ es. StandsForEntries c.after.disk.history v (generation (reads h)) es) (sym none) (refused-stands h v c.after.disk.history why all_sound (subst (λ s. IsFalse (is_disk_fault s)) is sound.0) stands (r.left h told));
     complete = λ h told v stands some ss ks ds.
         inr (inl (is ∙ refused_for_memory why (λ where_ at damaged. none_stand (reads h) v where_ at stands (r.damaged h told where_ at damaged)) (λ fault. steady c.before.disk.faults c.after.disk.faults ds.0 ds.1 (r.cause fault))));
   };

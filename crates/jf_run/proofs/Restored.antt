@@ -94,7 +94,7 @@ ended_well c received.ReadFault is asks r w d = absurd (r refl)
 ended_well c received.WriteFault is asks r w d = absurd (w refl)
 ended_well c received.DiskFault is asks r w d = absurd (d refl)
 ended_well c received.Memory is asks r w d = inr (inl is)
-ended_well c (received.Refused why) is asks r w d = inr (inr (why, is, asks))
+ended_well c (received.Refused why) is asks r w d = inr (inr (inl (why, is, asks)))
 
 -- ---- the disk
 -- the disk's history is extended, and its counts don't fall

@@ -3,6 +3,7 @@ use Rattle.std.specs.Prelude.{IfSome, is_some}
 use Rattle.std.proofs.Common.{◌≡◌, ℕ, zero, suc, map, take, length, true, Option, Some, None, List, [], ◌∷◌, refl, sym, ap, ◌∙◌, subst, arith, inl, le_refl}
 use Rattle.jf_path.specs.Faults.{HasCause}
 use Rattle.jf_disk.specs.Disk.{History}
+use Rattle.jf_disk.specs.Moments.{ExtendsHistory}
 use Rattle.jf_disk.proofs.MomentLaws.{left_now, same_extends}
 use Rattle.jf_io.proofs.Written.{nothing_written}
 use Rattle.jf_model.specs.Versions.{IsVersions}
@@ -35,7 +36,7 @@ use Rattle.jf_history.specs.declared.end.End.TheVariants as end
 use Rattle.jf_workload.specs.ScriptRuns.{HasRunScript}
 use Rattle.jf_workload.specs.ScriptsAlone.{GeneratedAlone}
 use Rattle.jf_workload.specs.Laws.{OneScriptIsAlone}
-use Rattle.jf_run.specs.Runs.{IsDatedDisk, StaysUnderPins, HasLasted, HasRun, HasGenerated}
+use Rattle.jf_run.specs.Runs.{IsDatedDisk, StaysUnderPins, KeepsEntries, HasLasted, HasRun, HasGenerated}
 use Rattle.jf_run.proofs.SparedRuns.{run-StaysUnderPins, run-SparesPinsSince, run-LastsByLine}
 
 -- a disk that shows the same
@@ -60,6 +61,21 @@ for_attempt None P h = tt
 for_attempt (Some e) P h = h e refl
 
 -- ---- a store that was closed
+-- what the value behind the turn keeps lasts as what its entries make
+pub kept-KeepsEntries : (start : Start) (es : List Entry) (attempt : Option Entry) (e : Engine) → IsKept start es attempt e → ((h : History) → start.history ≡ Some h → (g : History) × (e.history ≡ Some g) × ExtendsHistory h g)
+    → AreLegal start.state es → IfSome attempt (IsLegal (replay start.state es)) → KeepsEntries start.state (disk_view start.history start.moment start.faults) (disk_view e.history e.moment e.faults) es attempt
+kept-KeepsEntries start es attempt e kept grows legal tried = record {
+  legal = legal;
+  tried = tried;
+  cause = attempt_caused attempt start.faults e.faults kept.cause;
+  landings = kept.dated;
+  faults = kept.faults;
+  extends = grows;
+  safe = λ h told. let g = grows h told in (g.0, g.1, λ t since f left. (kept.outlasts g.0 g.1).images t f since left);
+  stopped = for_attempt attempt _ (λ x is h told. let g = grows h told in (g.0, g.1, (kept.outlasts g.0 g.1).stopped x is));
+  settled = λ unmarked h told. let g = grows h told in (g.0, g.1, (kept.outlasts g.0 g.1).settled unmarked);
+}
+
 module _ (store : Store) (p : Pass) (es : List Entry) (e : Engine) (closes : OnePassCloses) (one : store.start.passes ≡ 1) (number : p.number ≡ 0) (closed : IsClosed store.start (p ∷ []) es e) where
   same : closed.events ≡ p.seen
   same = closes store.start p es e one (omega (arith, one, number)) closed
@@ -80,17 +96,10 @@ module _ (store : Store) (p : Pass) (es : List Entry) (e : Engine) (closes : One
   pass_lasted how done next floors tries entries state t =
       let spared : StaysUnderPins store.start.state es (attempt_of p.seen) done = run-StaysUnderPins floors tries how store.start.state es (attempt_of p.seen) done next kept.sound entries state t in record {
         spared = spared;
-        legal = subst (λ (xs : List Entry). AreLegal store.start.state xs) (sym entries_are) events.history.each;
-        tried = subst (λ (xs : List Entry). IfSome (attempt_of p.seen) (IsLegal (replay store.start.state xs))) (sym entries_are) (attempt_legal (state_behind store.start p.seen) p.seen events.marked);
-        cause = attempt_caused (attempt_of p.seen) store.start.faults e.faults kept.cause;
-        landings = kept.dated;
-        faults = kept.faults;
-        extends = closed.grows;
-        safe = λ h told. let g = closed.grows h told in (g.0, g.1, λ t since f left. (kept.outlasts g.0 g.1).images t f since left);
+        kept = kept-KeepsEntries store.start es (attempt_of p.seen) e kept closed.grows (subst (λ (xs : List Entry). AreLegal store.start.state xs) (sym entries_are) events.history.each)
+            (subst (λ (xs : List Entry). IfSome (attempt_of p.seen) (IsLegal (replay store.start.state xs))) (sym entries_are) (attempt_legal (state_behind store.start p.seen) p.seen events.marked));
         held = λ h told. let g = closed.grows h told in (g.0, g.1, run-SparesPinsSince store.start.state es (attempt_of p.seen) done store.start.moment g.0 entries spared (λ t since f left. (kept.outlasts g.0 g.1).images t f since left));
         lined = λ h told. let g = closed.grows h told in (g.0, g.1, run-LastsByLine store.start es (attempt_of p.seen) done g.0 entries spared (kept.each g.0 g.1));
-        stopped = for_attempt (attempt_of p.seen) _ (λ x is h told. let g = closed.grows h told in (g.0, g.1, (kept.outlasts g.0 g.1).stopped x is));
-        settled = λ unmarked h told. let g = closed.grows h told in (g.0, g.1, (kept.outlasts g.0 g.1).settled unmarked);
       }
 
   -- the only pass's run is a run of the whole store
@@ -175,7 +184,25 @@ none_outlasted e h sound dated settled =
       stopped = λ x is. absurd (let none : None ≡ Some x = is in cc);
     }
 
--- no line was done over an engine
+-- no entry was made over an engine
+pub nothing_kept : (e : Engine) → IsVersions e.versions → IsDatedDisk (disk_view e.history e.moment e.faults) → ((h : History) → e.history ≡ Some h → IsSettledOn h e.versions e.generation)
+    → KeepsEntries (opened e.versions e.generation) (disk_view e.history e.moment e.faults) (disk_view e.history e.moment e.faults) [] None
+unfolding replay
+nothing_kept e sound dated settled =
+    let o : (h : History) → e.history ≡ Some h → Outlasts (beginning e) [] None h = λ h told. none_outlasted e h sound (dated h told) (settled h told) in
+    record {
+      legal = tt;
+      tried = tt;
+      cause = tt;
+      landings = le_refl e.moment;
+      faults = le_refl e.faults;
+      extends = λ h told. (h, told, same_extends h);
+      safe = λ h told. (h, told, λ t since f left. (o h told).images t f since left);
+      stopped = tt;
+      settled = λ unmarked h told. (h, told, (o h told).settled unmarked);
+    }
+
+-- no line was done over it
 nothing_lasted : (e : Engine) → IsVersions e.versions → IsDatedDisk (disk_view e.history e.moment e.faults) → ((h : History) → e.history ≡ Some h → IsSettledOn h e.versions e.generation)
     → HasLasted (opened e.versions e.generation) (disk_view e.history e.moment e.faults) (disk_view e.history e.moment e.faults) [] None []
 unfolding replay answers_from
@@ -185,17 +212,9 @@ nothing_lasted e sound dated settled =
     let o : (h : History) → e.history ≡ Some h → Outlasts (beginning e) [] None h = λ h told. none_outlasted e h sound (dated h told) (settled h told) in
     record {
       spared = spared;
-      legal = tt;
-      tried = tt;
-      cause = tt;
-      landings = le_refl e.moment;
-      faults = le_refl e.faults;
-      extends = λ h told. (h, told, same_extends h);
-      safe = λ h told. (h, told, λ t since f left. (o h told).images t f since left);
+      kept = nothing_kept e sound dated settled;
       held = λ h told. (h, told, run-SparesPinsSince s [] None [] e.moment h refl spared (λ t since f left. (o h told).images t f since left));
       lined = λ h told. (h, told, run-LastsByLine (beginning e) [] None [] h refl spared (OutlastsEach-none (beginning e) h (dated h told) (o h told)));
-      stopped = tt;
-      settled = λ unmarked h told. (h, told, (o h told).settled unmarked);
     }
 
 -- a run over an engine at which nothing was done

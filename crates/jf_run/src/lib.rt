@@ -10,6 +10,8 @@ mod restoring;
 mod run_over;
 pub mod run_words;
 mod running;
+mod serve_over;
+mod serving;
 pub mod status;
 
 pub use jf_receive::RestoreFault;

@@ -1,6 +1,6 @@
 // The top call of the program: the words of a command line say what is done with source, sink and disk.
-ghost use Rattle.std.specs.Prelude.{◌≡◌, ℕ, IfNone, IsFalse};
-ghost use Rattle.jf_words.specs.Modes.{IfGenerates, IfRestores, asked, is_verify, opens};
+ghost use Rattle.std.specs.Prelude.{◌≡◌, ◌⊎◌, ℕ, IfNone, IsFalse};
+ghost use Rattle.jf_words.specs.Modes.{IfGenerates, IfRestores, IfServes, asked, is_verify, opens};
 ghost use Rattle.jf_run.specs.Calls.{program_call, devices};
 ghost use Rattle.jf_run.specs.Promises.{KeepsPromises};
 
@@ -8,6 +8,7 @@ use crate::generating::generate_script;
 use crate::judging::judge_input;
 use crate::restoring::restore_version;
 use crate::running::run_script;
+use crate::serving::serve_sessions;
 use crate::status::{Ended, Status};
 use jf_disk::Disk;
 use jf_files::files_stand_for_sound;
@@ -25,6 +26,9 @@ use std::thread::Threads;
 ///   store. `--workers N`, 1 to 64, says how many threads may work at once on the pieces of a landing, also of one that
 ///   the opening reads; unless N is 1, the values of a large batch are hashed by several threads too. The gate is told
 ///   of each piece of a landing that the script asks for, before the piece begins. Neither changes the output.
+/// - `serve` opens the store, reads the source to its end, and runs the scripts of its sessions, 1 to 16, side by side over
+///   the store (docs/FORMATS.md, "Several sessions"). `--workers N` is for landings as in `run`. The gate is told of each
+///   session before it begins, too. Once all have ended, it writes the output of each session, and then the entries.
 /// - `generate SEED BATCHES SIZE` opens the store, and runs the script of that seed over it in the same way. It reads no
 ///   input, and writes how many replies were refusals and the last two replies.
 /// - `restore VERSION ROOT` opens a new store, and makes it hold one version, whose entries the source gives as chunk
@@ -42,6 +46,9 @@ use std::thread::Threads;
 ///   every landing acknowledged by then; if the disk failed, they may instead stand for those after all entries and the
 ///   one that the first line without a reply asked for. On a disk that wasn't calm before the call, this holds from the
 ///   opening on. If the disk didn't fail, the files stand for the versions after all entries at the end.
+/// - If several sessions were to be served (`IsServedCall`), one legal history explains what all of them were answered, and
+///   the entries are that history. The same holds of a crash, with the attempt of one session. If no session began, there
+///   are no entries and nothing was written; `InputFull` and `ReadFault` come only then.
 /// - If a version was to be restored (`IsRestoredCall`), there are no entries, and after a crash at any moment the files
 ///   stand for what they stood for or for the restored version alone: after `Done` and `WriteFault` for that one, and
 ///   for what they stood for unless the disk failed.
@@ -59,6 +66,7 @@ pub fn run_words<S: Source, K: Sink, D: Disk, H: Threads + Wait + Sync, G: Gate>
 ) -> Ended<D>
     ensures untouched { IsFalse (opens (asked words.now)) → result.disk ≡ disk }
     ensures silent { IsFalse (is_verify (asked words.now)) → IfNone result.start ((source.new ≡ source.old) × (sink.new ≡ sink.old)) }
+    ensures unserved { IfServes (asked words.now) ((result.status ≡ Status.InputFull) ⊎ (result.status ≡ Status.ReadFault) → sink.new ≡ sink.old) }
     ensures unread { IfGenerates (asked words.now) (λ seed batches size. source.new ≡ source.old) }
     ensures occupied { IfRestores (asked words.now) (λ version root. (head : ℕ) → result.status ≡ Status.Refused (RestoreFault.NotEmpty head) → (source.new ≡ source.old) × (sink.new ≡ sink.old)) }
     ensures kept { KeepsPromises (program_call (asked words.now) (devices (D.history disk) (D.moment disk) (D.faults disk) (S.rest source.old) (S.faults source.old) (K.text sink.old) (K.faults sink.old)) (devices (D.history result.disk) (D.moment result.disk) (D.faults result.disk) (S.rest source.new) (S.faults source.new) (K.text sink.new) (K.faults sink.new)) result.status result.entries result.start) }
@@ -71,6 +79,7 @@ pub fn run_words<S: Source, K: Sink, D: Disk, H: Threads + Wait + Sync, G: Gate>
     };
     match mode {
         Mode::Run { workers } => run_script(rt, alloc, workers, source, sink, disk, gate),
+        Mode::Serve { workers } => serve_sessions(rt, alloc, workers, source, sink, disk, gate),
         Mode::Verify => {
             let status = judge_input(alloc, source, sink);
             Ended::without_store(alloc, status, disk)

@@ -1,12 +1,16 @@
 // How a call of the program ended, and the exit status that says so.
 ghost use Rattle.std.specs.Prelude.{◌≡◌, [], None};
-ghost use Rattle.jf_run.specs.Statuses.{code_of, status_of, status_of_verified, status_of_refusal, status_of_received};
+ghost use Rattle.std.specs.List.{list_any};
+ghost use Rattle.jf_serve.specs.Served.{is_memory};
+ghost use Rattle.jf_run.specs.Statuses.{code_of, is_stopped_by_disk, status_of, status_of_ends, status_of_input_fault, status_of_received, status_of_refusal, status_of_served, status_of_verified};
 
 use jf_disk::Side;
 use jf_engine::{EngineMemory, OpenFault};
 use jf_history::End;
 use jf_model::Ledger;
 use jf_receive::{Received, RestoreFault};
+use jf_report::ReportFault;
+use jf_scripts::InputFault;
 use jf_verify::Verified;
 use std::alloc::Global;
 
@@ -26,6 +30,8 @@ pub enum Status {
     /// The files stand for no versions, and are unchanged. This is the first place of damage, in bytes from the side's
     /// start.
     Damaged { side: Side, offset: u64 },
+    /// The input of several sessions has more than 67,108,864 bytes or more than 16 sessions. No line was done.
+    InputFull,
     /// Memory ran out.
     Memory,
     /// No version was restored, for this reason. The files stand for what they stood for.
@@ -95,7 +101,42 @@ impl Status {
         }
     }
 
-    /// The exit status of the process: 0 to 5, 7 or 8.
+    /// The status if the scripts of several sessions could not be read.
+    pub fn of_input_fault(why: InputFault) -> Status
+        ensures { result ≡ status_of_input_fault why }
+    {
+        match why {
+            InputFault::ReadFault => Status::ReadFault,
+            InputFault::Full => Status::InputFull,
+            InputFault::Memory => Status::Memory,
+        }
+    }
+
+    /// The status after several sessions, by how they ended and by how the report on them was written.
+    pub fn of_served(ends: &[End], report: Result<(), ReportFault>) -> Status
+        ensures { result ≡ status_of_served ends.now report }
+    {
+        match report {
+            Ok(()) => Status::of_ends(ends, Status::Done),
+            Err(ReportFault::WriteFault) => Status::of_ends(ends, Status::WriteFault),
+            Err(ReportFault::Memory) => Status::Memory,
+        }
+    }
+
+    // The status after sessions that ended so, or another one if none of them was stopped.
+    fn of_ends(ends: &[End], other: Status) -> Status
+        ensures { result ≡ status_of_ends ends.now other }
+    {
+        if are_out_of_memory(ends) {
+            return Status::Memory;
+        }
+        if are_stopped_by_disk(ends) {
+            return Status::DiskFault;
+        }
+        other
+    }
+
+    /// The exit status of the process: 0 to 8.
     pub fn code(self) -> u8
         ensures { result ≡ code_of self }
     {
@@ -106,10 +147,39 @@ impl Status {
             Status::WriteFault => 3,
             Status::DiskFault => 4,
             Status::Damaged { .. } => 5,
+            Status::InputFull => 6,
             Status::Memory => 7,
             Status::Refused(_) => 8,
         }
     }
+}
+
+// Whether one of the sessions ran out of memory.
+fn are_out_of_memory(ends: &[End]) -> bool
+    ensures { result ≡ list_any is_memory ends.now }
+{
+    ends.iter().any(|end| is_memory(*end))
+}
+
+// Whether the disk stopped one of the sessions.
+fn are_stopped_by_disk(ends: &[End]) -> bool
+    ensures { result ≡ list_any is_stopped_by_disk ends.now }
+{
+    ends.iter().any(|end| is_stopped_by_disk(*end))
+}
+
+// Whether a session ran out of memory.
+fn is_memory(end: End) -> bool
+    ensures { result ≡ is_memory end }
+{
+    end == End::Memory
+}
+
+// Whether a session was stopped by the disk, which failed in it or in another one.
+fn is_stopped_by_disk(end: End) -> bool
+    ensures { result ≡ is_stopped_by_disk end }
+{
+    matches!(end, End::DiskFault | End::Broken)
 }
 
 impl<D> Ended<D> {

@@ -12,7 +12,7 @@ use Rattle.jf_path.proofs.BoolLaws.{or_true_left}
 use Rattle.jf_text.specs.Words.{both, digits_value, hash_of, number, number_from, number_upto, unhex}
 use Rattle.jf_generate.specs.Scripts.{max_batches}
 use Rattle.jf_words.specs.AskedWords.{AskedWords}
-use Rattle.jf_words.specs.Modes.{generate_mode, max_version, named_mode, restore_mode, run_mode, verify_mode, workers_asked}
+use Rattle.jf_words.specs.Modes.{generate_mode, max_version, named_mode, restore_mode, run_mode, serve_mode, verify_mode, workers_asked}
 use Rattle.jf_words.specs.declared.modes.Mode.{Mode}
 use Rattle.jf_words.proofs.AskedWordsLaws.{has_hyphened, is_hyphened}
 
@@ -73,6 +73,10 @@ run_mode-hyphened : (ps : List (List ℕ)) (n : ℕ) → list_any is_hyphened ps
 run_mode-hyphened [] n h = absurd (true≢false (sym h))
 run_mode-hyphened (p ∷ ps) n h = refl
 
+serve_mode-hyphened : (ps : List (List ℕ)) (n : ℕ) → list_any is_hyphened ps ≡ true → serve_mode ps n ≡ None
+serve_mode-hyphened [] n h = absurd (true≢false (sym h))
+serve_mode-hyphened (p ∷ ps) n h = refl
+
 verify_mode-hyphened : (ps : List (List ℕ)) (o : Option (List ℕ)) → (list_any is_hyphened ps || option_map_or is_hyphened o false) ≡ true → verify_mode ps o ≡ None
 verify_mode-hyphened [] None h = absurd (true≢false (sym h))
 verify_mode-hyphened [] (Some w) h = refl
@@ -109,6 +113,7 @@ chosen b x y p q = cond_both b x y (λ m. m ≡ None) (λ e. p) (λ e. q)
 pub named_mode-hyphened : (name : List ℕ) (a : AskedWords) → has_hyphened a ≡ true → named_mode name a ≡ None
 named_mode-hyphened name a h =
     chosen (bytes_eq name (codes "run")) _ _ (with_workers-hyphened run_mode a.positional a.option (run_mode-hyphened a.positional) h)
+    (chosen (bytes_eq name (codes "serve")) _ _ (with_workers-hyphened serve_mode a.positional a.option (serve_mode-hyphened a.positional) h)
     (chosen (bytes_eq name (codes "verify")) _ _ (verify_mode-hyphened a.positional a.option h)
     (chosen (bytes_eq name (codes "generate")) _ _ (with_workers-hyphened generate_mode a.positional a.option (generate_mode-hyphened a.positional) h)
-    (chosen (bytes_eq name (codes "restore")) _ _ (with_workers-hyphened restore_mode a.positional a.option (restore_mode-hyphened a.positional) h) refl)))
+    (chosen (bytes_eq name (codes "restore")) _ _ (with_workers-hyphened restore_mode a.positional a.option (restore_mode-hyphened a.positional) h) refl))))

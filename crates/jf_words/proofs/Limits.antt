@@ -9,7 +9,7 @@ use Rattle.jf_path.proofs.ByteLaws.{AreBytes-at_places}
 use Rattle.jf_text.specs.Words.{both, byte_of, digit, hash_of, number, number_from, number_upto, unhex}
 use Rattle.jf_generate.specs.Scripts.{max_batches, max_size}
 use Rattle.jf_words.specs.AskedWords.{AskedWords, asked_words}
-use Rattle.jf_words.specs.Modes.{AreFew, KeepsLimits, generate_mode, max_version, mode_of, named_mode, restore_mode, run_mode, verify_mode, workers_asked, workers_of}
+use Rattle.jf_words.specs.Modes.{AreFew, KeepsLimits, generate_mode, max_version, mode_of, named_mode, restore_mode, run_mode, serve_mode, verify_mode, workers_asked, workers_of}
 use Rattle.jf_words.specs.declared.modes.Mode.{Mode}
 use Rattle.jf_words.specs.declared.modes.Mode.TheVariants as mode
 
@@ -107,6 +107,10 @@ run_mode-within : (ps : List (List ℕ)) (n : ℕ) → AreFew n → KeepsLimits 
 run_mode-within [] n few = record { workers = few; script = tt; restored = tt }
 run_mode-within (p ∷ ps) n few = within_none
 
+serve_mode-within : (ps : List (List ℕ)) (n : ℕ) → AreFew n → KeepsLimits (serve_mode ps n)
+serve_mode-within [] n few = record { workers = few; script = tt; restored = tt }
+serve_mode-within (p ∷ ps) n few = within_none
+
 verify_mode-within : (ps : List (List ℕ)) (o : Option (List ℕ)) → KeepsLimits (verify_mode ps o)
 verify_mode-within [] None = record { workers = tt; script = tt; restored = tt }
 verify_mode-within [] (Some w) = within_none
@@ -130,9 +134,10 @@ restore_mode-within (a ∷ b ∷ c ∷ ps) n few = within_none
 named_mode-within : (name : List ℕ) (a : AskedWords) → KeepsLimits (named_mode name a)
 named_mode-within name a =
     chosen (bytes_eq name (codes "run")) _ _ (by (run_mode a.positional) (workers_asked a.option) (λ n is. run_mode-within a.positional n (workers_asked-few a.option n is)))
+    (chosen (bytes_eq name (codes "serve")) _ _ (by (serve_mode a.positional) (workers_asked a.option) (λ n is. serve_mode-within a.positional n (workers_asked-few a.option n is)))
     (chosen (bytes_eq name (codes "verify")) _ _ (verify_mode-within a.positional a.option)
     (chosen (bytes_eq name (codes "generate")) _ _ (by (generate_mode a.positional) (workers_asked a.option) (λ n is. generate_mode-within a.positional n (workers_asked-few a.option n is)))
-    (chosen (bytes_eq name (codes "restore")) _ _ (by (restore_mode a.positional) (workers_asked a.option) (λ n is. restore_mode-within a.positional n (workers_asked-few a.option n is))) within_none)))
+    (chosen (bytes_eq name (codes "restore")) _ _ (by (restore_mode a.positional) (workers_asked a.option) (λ n is. restore_mode-within a.positional n (workers_asked-few a.option n is))) within_none))))
 
 -- what is asked for is within its limits
 pub asked_mode-within : (name : List ℕ) (o : Option AskedWords) → KeepsLimits (option_and_then (named_mode name) o)

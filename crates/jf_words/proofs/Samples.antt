@@ -8,6 +8,12 @@ use Rattle.jf_words.specs.declared.modes.Mode.TheVariants as mode
 default_workers : mode_of (codes "run" ∷ []) ≡ Some (mode.Run 4)
 default_workers = refl
 
+default_workers_of_serve : mode_of (codes "serve" ∷ []) ≡ Some (mode.Serve 4)
+default_workers_of_serve = refl
+
+a_word_after_serve : mode_of (codes "serve" ∷ codes "x" ∷ []) ≡ None
+a_word_after_serve = refl
+
 dashes_end : mode_of (codes "run" ∷ codes "--workers" ∷ codes "7" ∷ codes "--" ∷ []) ≡ Some (mode.Run 7)
 unfolding number digits
 dashes_end = refl

@@ -23,6 +23,11 @@ abbrev pub run_mode : List (List ℕ) → ℕ → Option Mode
 run_mode [] n = Some (mode.Run n)
 run_mode (w ∷ ws) n = None
 
+-- `serve` takes no positional word
+abbrev pub serve_mode : List (List ℕ) → ℕ → Option Mode
+serve_mode [] n = Some (mode.Serve n)
+serve_mode (w ∷ ws) n = None
+
 -- `verify` takes no positional word, and not the option
 abbrev pub verify_mode : List (List ℕ) → Option (List ℕ) → Option Mode
 verify_mode [] None = Some mode.Verify
@@ -44,6 +49,7 @@ restore_mode ws n = None
 abbrev pub named_mode : List ℕ → AskedWords → Option Mode
 named_mode name a =
     if bytes_eq name (codes "run") then option_and_then (run_mode a.positional) (workers_asked a.option)
+    else if bytes_eq name (codes "serve") then option_and_then (serve_mode a.positional) (workers_asked a.option)
     else if bytes_eq name (codes "verify") then verify_mode a.positional a.option
     else if bytes_eq name (codes "generate") then option_and_then (generate_mode a.positional) (workers_asked a.option)
     else if bytes_eq name (codes "restore") then option_and_then (restore_mode a.positional) (workers_asked a.option)
@@ -67,6 +73,7 @@ asked ws = mode_of (word_bytes ws)
 -- the number of workers, of a mode that takes one
 abbrev pub workers_of : Mode → Option ℕ
 workers_of (mode.Run n) = Some n
+workers_of (mode.Serve n) = Some n
 workers_of mode.Verify = None
 workers_of (mode.Generate seed batches size n) = Some n
 workers_of (mode.Restore version root n) = Some n
@@ -75,6 +82,7 @@ workers_of (mode.Restore version root n) = Some n
 abbrev pub opens : Option Mode → Bool
 opens None = false
 opens (Some (mode.Run n)) = true
+opens (Some (mode.Serve n)) = true
 opens (Some mode.Verify) = false
 opens (Some (mode.Generate seed batches size n)) = true
 opens (Some (mode.Restore version root n)) = true
@@ -83,6 +91,7 @@ opens (Some (mode.Restore version root n)) = true
 abbrev pub is_verify : Option Mode → Bool
 is_verify None = false
 is_verify (Some (mode.Run n)) = false
+is_verify (Some (mode.Serve n)) = false
 is_verify (Some mode.Verify) = true
 is_verify (Some (mode.Generate seed batches size n)) = false
 is_verify (Some (mode.Restore version root n)) = false
@@ -91,14 +100,25 @@ is_verify (Some (mode.Restore version root n)) = false
 abbrev pub restores : Option Mode → Bool
 restores None = false
 restores (Some (mode.Run n)) = false
+restores (Some (mode.Serve n)) = false
 restores (Some mode.Verify) = false
 restores (Some (mode.Generate seed batches size n)) = false
 restores (Some (mode.Restore version root n)) = true
+
+-- whether several sessions are to be served
+abbrev pub serves : Option Mode → Bool
+serves None = false
+serves (Some (mode.Run n)) = false
+serves (Some (mode.Serve n)) = true
+serves (Some mode.Verify) = false
+serves (Some (mode.Generate seed batches size n)) = false
+serves (Some (mode.Restore version root n)) = false
 
 -- what holds of the seed, the batches and the size, if a script is to be generated
 abbrev pub IfGenerates : Option Mode → (ℕ → ℕ → ℕ → Type 0) → Type 0
 IfGenerates None holds = Unit {0}
 IfGenerates (Some (mode.Run n)) holds = Unit {0}
+IfGenerates (Some (mode.Serve n)) holds = Unit {0}
 IfGenerates (Some mode.Verify) holds = Unit {0}
 IfGenerates (Some (mode.Generate seed batches size n)) holds = holds seed batches size
 IfGenerates (Some (mode.Restore version root n)) holds = Unit {0}
@@ -107,9 +127,19 @@ IfGenerates (Some (mode.Restore version root n)) holds = Unit {0}
 abbrev pub IfRestores : Option Mode → (ℕ → List ℕ → Type 0) → Type 0
 IfRestores None holds = Unit {0}
 IfRestores (Some (mode.Run n)) holds = Unit {0}
+IfRestores (Some (mode.Serve n)) holds = Unit {0}
 IfRestores (Some mode.Verify) holds = Unit {0}
 IfRestores (Some (mode.Generate seed batches size n)) holds = Unit {0}
 IfRestores (Some (mode.Restore version root n)) holds = holds version root
+
+-- what holds if several sessions are to be served
+abbrev pub IfServes : Option Mode → Type 0 → Type 0
+IfServes None holds = Unit {0}
+IfServes (Some (mode.Run n)) holds = Unit {0}
+IfServes (Some (mode.Serve n)) holds = holds
+IfServes (Some mode.Verify) holds = Unit {0}
+IfServes (Some (mode.Generate seed batches size n)) holds = Unit {0}
+IfServes (Some (mode.Restore version root n)) holds = Unit {0}
 
 -- ---- limits
 -- a number of workers

@@ -1,7 +1,7 @@
 // The modes of the program, and the words that each takes.
 ghost use Rattle.std.specs.Prelude.{◌≡◌, map};
 ghost use Rattle.std.specs.Option.{option_copied};
-ghost use Rattle.jf_words.specs.Modes.{generate_mode, named_mode, restore_mode, run_mode, verify_mode, workers_asked};
+ghost use Rattle.jf_words.specs.Modes.{generate_mode, named_mode, restore_mode, run_mode, serve_mode, verify_mode, workers_asked};
 
 use jf_generate::{MAX_BATCHES, MAX_SIZE};
 use jf_hash::Hash;
@@ -22,6 +22,10 @@ const MAX_VERSION: u64 = u64::MAX - 1;
 pub enum Mode {
     /// A script is to be answered, over a store.
     Run {
+        workers: u64,
+    },
+    /// The scripts of several sessions are to be answered, over a store that they share.
+    Serve {
         workers: u64,
     },
     /// Proof blocks are to be judged, without a store.
@@ -53,6 +57,7 @@ pub(crate) fn named_mode(name: &str, positional: &[&str], option: Option<&str>) 
 {
     match name {
         "run" => run_mode(positional, workers_asked(option)?),
+        "serve" => serve_mode(positional, workers_asked(option)?),
         "verify" => verify_mode(positional, option),
         "generate" => generate_mode(positional, workers_asked(option)?),
         "restore" => restore_mode(positional, workers_asked(option)?),
@@ -76,6 +81,16 @@ fn run_mode(positional: &[&str], workers: u64) -> Option<Mode>
 {
     match positional {
         [] => Some(Mode::Run { workers }),
+        _ => None,
+    }
+}
+
+/// `serve` takes no positional word.
+fn serve_mode(positional: &[&str], workers: u64) -> Option<Mode>
+    ensures { result ≡ serve_mode (map (λ w. w.now) positional.now) workers }
+{
+    match positional {
+        [] => Some(Mode::Serve { workers }),
         _ => None,
     }
 }

@@ -76,6 +76,19 @@ const RUNS: &[(&str, Option<u64>)] = &[
     ("generate 1 1 10001", None),
 ];
 
+// Lines of words, and the number of workers with which they ask for several sessions. `None`: they ask for nothing.
+const SERVINGS: &[(&str, Option<u64>)] = &[
+    ("serve", Some(4)),
+    ("serve --", Some(4)),
+    ("serve --workers 7", Some(7)),
+    ("serve --workers=7 --", Some(7)),
+    ("serve x", None),
+    ("serve -- x", None),
+    ("serve --workers 0", None),
+    ("serve --workers 65", None),
+    ("Serve", None),
+];
+
 // Lines of words, and whether they ask for `verify`.
 const JUDGINGS: &[(&str, bool)] = &[
     ("verify", true),
@@ -151,6 +164,26 @@ fn takes_no_empty_list_of_words(rt: HostRuntime) -> Result<(), Fail> {
     Ok(())
 }
 
+// The mode of words that ask for several sessions with this number of workers, or for no mode.
+fn serve_by(workers: Option<u64>) -> Option<Mode> {
+    match workers {
+        Some(workers) => Some(Mode::Serve { workers }),
+        None => None,
+    }
+}
+
+#[test]
+fn takes_serve_as_it_takes_run(rt: HostRuntime) -> Result<(), Fail> {
+    let alloc = rt.alloc();
+    for (line, workers) in SERVINGS {
+        assert!(rt;
+            is_taken(&rt, alloc, line, serve_by(*workers))?,
+            "of {line}"
+        );
+    }
+    Ok(())
+}
+
 // The mode of words that ask for `verify`, or for no mode.
 fn judging(judges: bool) -> Option<Mode> {
     if judges { Some(Mode::Verify) } else { None }
@@ -214,6 +247,16 @@ fn line_touches_nothing<H: Threads + Wait + Sync>(
 fn wrong_words_touch_nothing(rt: HostRuntime) -> Result<(), Fail> {
     let alloc = rt.alloc();
     for (line, workers) in RUNS {
+        let touched = workers.is_none() && !line_touches_nothing(&rt, alloc, line)?;
+        assert!(rt; !touched, "of {line}");
+    }
+    Ok(())
+}
+
+#[test]
+fn words_after_serve_touch_nothing(rt: HostRuntime) -> Result<(), Fail> {
+    let alloc = rt.alloc();
+    for (line, workers) in SERVINGS {
         let touched = workers.is_none() && !line_touches_nothing(&rt, alloc, line)?;
         assert!(rt; !touched, "of {line}");
     }
