@@ -1,8 +1,8 @@
 // What a restore and a generated script leave of the files: each call of the disk fails in turn, and a restore is stopped at
 // every moment.
-use crate::blocks::{FIRST, PAIR, Parts, SECOND};
 use crate::images::{Found, NEW, RESTORED, images_show, shows_either};
 use jf_disk::{Disk, MemDisk};
+use jf_play::blocks::{FIRST_BLOCK, Parts, RESTORE_PAIR, SECOND_BLOCK};
 use jf_play::files::{CHECKPOINT, END, File, SECOND as GENERATION_2, bytes_of};
 use jf_play::play::{NO_FAULTS, Played, disk_of, play_line};
 use jf_run::status::Status;
@@ -28,16 +28,16 @@ struct Case {
 const CASES: &[Case] = &[
     Case {
         what: "a restore into empty files",
-        line: PAIR,
-        input: &[FIRST, SECOND],
+        line: RESTORE_PAIR,
+        input: &[FIRST_BLOCK, SECOND_BLOCK],
         files: (&[], &[]),
         calls: (13, 7),
         states: &[NEW, RESTORED],
     },
     Case {
         what: "a restore into a store of a second generation, on side B",
-        line: PAIR,
-        input: &[FIRST, SECOND],
+        line: RESTORE_PAIR,
+        input: &[FIRST_BLOCK, SECOND_BLOCK],
         files: (&[CHECKPOINT, END], &[GENERATION_2, END]),
         calls: (6, 10),
         states: &[NEW, RESTORED],

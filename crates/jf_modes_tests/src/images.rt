@@ -15,7 +15,7 @@ pub(crate) type Found = (u64, &'static str);
 /// A new store.
 pub(crate) const NEW: Found = (0, EMPTY);
 
-/// The version that `PAIR` of `blocks` restores.
+/// The version that `RESTORE_PAIR` restores.
 pub(crate) const RESTORED: Found = (
     1,
     "3e92b77a6f4a7dcc426f134b3415f3af7eb39e5c8ac7599c94f5a3c83fe07425",

@@ -1,5 +1,5 @@
 // Proof blocks at the bounds of what `verify` reads. The hashes are from Python's `hashlib`.
-use crate::blocks::{EMPTY, Parts};
+use jf_play::blocks::{EMPTY_SIDE, Parts};
 use jf_play::files::bytes_of;
 use jf_play::play::{NO_FAULTS, has_ended, new_disk, play};
 use jf_run::status::Status;
@@ -29,7 +29,7 @@ const ROWS: &[(Parts, usize, &[u8])] = &[
 fn deep(alloc: Global, input: Parts, siblings: usize) -> Result<Vec<u8>, Fail> {
     let mut text = bytes_of(alloc, input)?;
     for _ in 0..siblings {
-        text.extend_from_slice(EMPTY)?;
+        text.extend_from_slice(EMPTY_SIDE)?;
     }
     Ok(text)
 }

@@ -1,11 +1,7 @@
-//! Tests of the modes `generate` and `restore` of the top call: what they write, what they leave in the files, how they are
-//! refused, and what a fault makes of them.
+//! Tests of the top call in the modes `generate` and `verify`, and of what a fault makes of `generate` and of `restore`: of the
+//! disk, of the source and of the sink.
 #![tactic(auto)]
 
-#[cfg(test)]
-mod blocks;
-#[cfg(test)]
-mod copying;
 #[cfg(test)]
 mod disk_faults;
 #[cfg(test)]
@@ -15,12 +11,4 @@ mod images;
 #[cfg(test)]
 mod judging;
 #[cfg(test)]
-mod records;
-#[cfg(test)]
-mod refusals;
-#[cfg(test)]
-mod restoring;
-#[cfg(test)]
 mod stream_faults;
-#[cfg(test)]
-mod taking;

@@ -1,8 +1,8 @@
 // A source or a sink that fails in a call of a restore, or of a generated script: how the run ends, what it wrote, and what
 // the files hold.
-use crate::blocks::{FIRST, PAIR, Parts, SECOND, received};
 use crate::images::{Found, NEW, RESTORED, shows_either};
 use jf_disk::{MemDisk, Side};
+use jf_play::blocks::{FIRST_BLOCK, Parts, RESTORE_PAIR, SECOND_BLOCK, received};
 use jf_play::play::{Faults, NO_FAULTS, Played, has_ended};
 use jf_play::roots::with_roots;
 use jf_run::status::Status;
@@ -11,8 +11,8 @@ use std::sync::Wait;
 use std::test::Fail;
 use std::thread::Threads;
 
-// The two entries of `PAIR`, in 394 bytes.
-const BLOCKS: Parts = &[FIRST, SECOND];
+// The two entries of `RESTORE_PAIR`, in 394 bytes.
+const BLOCKS: Parts = &[FIRST_BLOCK, SECOND_BLOCK];
 
 // A call of the source that fails, from 0. It gives 100 bytes in a call, so that it is asked four times for the blocks, and
 // then for what isn't there.
@@ -34,7 +34,7 @@ fn leaves_new<H: Threads + Wait + Sync>(
         source,
         ..NO_FAULTS
     };
-    let played = received(rt, alloc, PAIR, BLOCKS, faults)?;
+    let played = received(rt, alloc, RESTORE_PAIR, BLOCKS, faults)?;
     let ended = has_read_fault(&played);
     Ok(ended && shows_either(rt, alloc, played.disk, (NEW, NEW))?)
 }
@@ -59,21 +59,21 @@ struct Row {
 
 const ROWS: &[Row] = &[
     Row {
-        line: PAIR,
+        line: RESTORE_PAIR,
         input: BLOCKS,
         sink: &[0],
         text: b"",
         found: RESTORED,
     },
     Row {
-        line: PAIR,
+        line: RESTORE_PAIR,
         input: BLOCKS,
         sink: &[1],
         text: b"restore",
         found: RESTORED,
     },
     Row {
-        line: PAIR,
+        line: RESTORE_PAIR,
         input: BLOCKS,
         sink: &[2],
         text: b"restored 1 3e9",
@@ -81,7 +81,7 @@ const ROWS: &[Row] = &[
     },
     // All but the line feed.
     Row {
-        line: PAIR,
+        line: RESTORE_PAIR,
         input: BLOCKS,
         sink: &[11],
         text: b"restored 1 3e92b77a6f4a7dcc426f134b3415f3af7eb39e5c8ac7599c94f5a3c83fe07425 2",
@@ -147,7 +147,7 @@ const PAST_THE_END: Faults = Faults {
 fn no_call_comes_after_these(rt: HostRuntime) -> Result<(), Fail> {
     let alloc = rt.alloc();
     let want = with_roots(alloc, "restored 1 P 2\n")?;
-    let played = received(&rt, alloc, PAIR, BLOCKS, PAST_THE_END)?;
+    let played = received(&rt, alloc, RESTORE_PAIR, BLOCKS, PAST_THE_END)?;
     assert!(rt; has_ended(&played, Status::Done, Some(0), &want));
     Ok(())
 }

@@ -1,9 +1,11 @@
 // Restores that are refused: for what, and that the files stay as they were. The hashes are from Python's `hashlib`.
-use crate::blocks::{A, B, EMPTY, FIRST, PAIR, Parts, SECOND};
 use crate::records::LAST;
 use jf_disk::{MemDisk, Side};
 use jf_evidence::RangeFault;
 use jf_hash::Hash;
+use jf_play::blocks::{
+    EMPTY_SIDE, FIRST_BLOCK, FIRST_ENTRY, Parts, RESTORE_PAIR, SECOND_BLOCK, SECOND_ENTRY,
+};
 use jf_play::files::{CHECKPOINT, END, File, bytes_of};
 use jf_play::play::{Faults, NO_FAULTS, Played, disk_of, has_ended, new_disk, play_line};
 use jf_run::RestoreFault;
@@ -32,7 +34,7 @@ const OF_NONE: Hash = [
 // A line of one byte more than may be read.
 const LONG: &[u8] = &[b'0'; 8501];
 
-// Inputs of `PAIR` over a new store, and why they are refused.
+// Inputs of `RESTORE_PAIR` over a new store, and why they are refused.
 const INPUTS: &[(Parts, RestoreFault)] = &[
     // A block that is refused by each of the checks.
     (
@@ -40,52 +42,61 @@ const INPUTS: &[(Parts, RestoreFault)] = &[
         RestoreFault::Chunk(1, RangeFault::Empty),
     ),
     (
-        &[b"chunk 2 0 0\n", B, A],
+        &[b"chunk 2 0 0\n", SECOND_ENTRY, FIRST_ENTRY],
         RestoreFault::Chunk(1, RangeFault::Order),
     ),
     (
-        &[b"chunk 2 257 0\n", A, B],
+        &[b"chunk 2 257 0\n", FIRST_ENTRY, SECOND_ENTRY],
         RestoreFault::Chunk(1, RangeFault::Count),
     ),
     (
-        &[b"chunk 2 1 1\n", A, B, EMPTY],
+        &[b"chunk 2 1 1\n", FIRST_ENTRY, SECOND_ENTRY, EMPTY_SIDE],
         RestoreFault::Chunk(1, RangeFault::Lone),
     ),
-    (&[SECOND], RestoreFault::Chunk(1, RangeFault::WrongRoot)),
+    (
+        &[SECOND_BLOCK],
+        RestoreFault::Chunk(1, RangeFault::WrongRoot),
+    ),
     // The same block again.
-    (&[FIRST, FIRST], RestoreFault::Chunk(5, RangeFault::Order)),
+    (
+        &[FIRST_BLOCK, FIRST_BLOCK],
+        RestoreFault::Chunk(5, RangeFault::Order),
+    ),
     // Another value.
     (
         &[
             b"chunk 2 2 1\n",
-            A,
+            FIRST_ENTRY,
             b"entry 6fe4ff1a836fcb881bbe03ff848bb731a5584708153d9bc6dc1d6430579a6a12 =33\n",
-            EMPTY,
+            EMPTY_SIDE,
         ],
         RestoreFault::Chunk(1, RangeFault::WrongRoot),
     ),
     // Lines that don't match, and lines that are missing.
     (&[b"chunk 1001 0 0\n"], RestoreFault::Line(1)),
     (&[b"chunk 1 0 0\n"], RestoreFault::Line(2)),
-    (&[b"chunk 1 2 2\n", A], RestoreFault::Line(3)),
-    (&[FIRST, b"\n"], RestoreFault::Line(5)),
-    (&[FIRST, b"chunk 1 2 1\n", EMPTY], RestoreFault::Line(6)),
+    (&[b"chunk 1 2 2\n", FIRST_ENTRY], RestoreFault::Line(3)),
+    (&[FIRST_BLOCK, b"\n"], RestoreFault::Line(5)),
+    (
+        &[FIRST_BLOCK, b"chunk 1 2 1\n", EMPTY_SIDE],
+        RestoreFault::Line(6),
+    ),
     (&[LONG], RestoreFault::Line(1)),
     (
         &[
             b"1 ok root 3e92b77a6f4a7dcc426f134b3415f3af7eb39e5c8ac7599c94f5a3c83fe07425\n",
-            FIRST,
-            SECOND,
+            FIRST_BLOCK,
+            SECOND_BLOCK,
         ],
         RestoreFault::Line(1),
     ),
     // The earlier block decides.
     (
-        &[SECOND, b"chunk\n"],
+        &[SECOND_BLOCK, b"chunk\n"],
         RestoreFault::Chunk(1, RangeFault::WrongRoot),
     ),
     // Entries of another root.
-    (&[FIRST], RestoreFault::NotWhole(OF_BOTH, OF_ONE)),
+    (&[FIRST_BLOCK], RestoreFault::NotWhole(OF_BOTH, OF_ONE)),
     (&[], RestoreFault::NotWhole(OF_BOTH, OF_NONE)),
 ];
 
@@ -103,7 +114,7 @@ fn has_sides(disk: &MemDisk, sides: &Sides) -> bool {
     disk.bytes(Side::A) == sides.0.as_slice() && disk.bytes(Side::B) == sides.1.as_slice()
 }
 
-// Whether `PAIR` over this disk, which opens the store at this version, is refused so, writes nothing, and leaves both sides as
+// Whether `RESTORE_PAIR` over this disk, which opens the store at this version, is refused so, writes nothing, and leaves both sides as
 // they are.
 fn is_refused<H: Threads + Wait + Sync>(
     rt: &H,
@@ -115,7 +126,7 @@ fn is_refused<H: Threads + Wait + Sync>(
 ) -> Result<bool, Fail> {
     let sides = sides_of(alloc, &disk)?;
     let input = bytes_of(alloc, input)?;
-    let played = play_line(rt, alloc, disk, PAIR, &input, faults)?;
+    let played = play_line(rt, alloc, disk, RESTORE_PAIR, &input, faults)?;
     Ok(has_refused(&played, wanted.0, wanted.1) && has_sides(&played.disk, &sides))
 }
 
@@ -147,12 +158,15 @@ fn an_input_is_refused_by_its_first_fault(rt: HostRuntime) -> Result<(), Fail> {
     Ok(())
 }
 
-// Inputs of `PAIR` over a new store in the last generation, and why they are refused: there is no next generation, but that
+// Inputs of `RESTORE_PAIR` over a new store in the last generation, and why they are refused: there is no next generation, but that
 // is looked for last.
 const IN_LAST: &[(Parts, RestoreFault)] = &[
-    (&[FIRST, SECOND], RestoreFault::Last),
-    (&[FIRST], RestoreFault::NotWhole(OF_BOTH, OF_ONE)),
-    (&[SECOND], RestoreFault::Chunk(1, RangeFault::WrongRoot)),
+    (&[FIRST_BLOCK, SECOND_BLOCK], RestoreFault::Last),
+    (&[FIRST_BLOCK], RestoreFault::NotWhole(OF_BOTH, OF_ONE)),
+    (
+        &[SECOND_BLOCK],
+        RestoreFault::Chunk(1, RangeFault::WrongRoot),
+    ),
     (&[b"chunk\n"], RestoreFault::Line(1)),
 ];
 
@@ -189,7 +203,7 @@ const IN_USE: &[(&str, Parts, u64)] = &[
         &[b"put 61 =31\ncommit\ncommit\nprune 2\ncompact\n"],
         2,
     ),
-    (PAIR, &[FIRST, SECOND], 1),
+    (RESTORE_PAIR, &[FIRST_BLOCK, SECOND_BLOCK], 1),
     // An empty map as a later version, and entries as version 0.
     (
         "restore 5 6e340b9cffb37a989ca544e6bb780a2c78901d3fb33738768511a30617afa01d",
@@ -198,7 +212,7 @@ const IN_USE: &[(&str, Parts, u64)] = &[
     ),
     (
         "restore 0 3e92b77a6f4a7dcc426f134b3415f3af7eb39e5c8ac7599c94f5a3c83fe07425",
-        &[FIRST, SECOND],
+        &[FIRST_BLOCK, SECOND_BLOCK],
         0,
     ),
 ];
@@ -222,7 +236,14 @@ fn use_is_refused<H: Threads + Wait + Sync>(
 ) -> Result<bool, Fail> {
     let disk = left_by(rt, alloc, row.0, row.1)?;
     let wanted = (row.2, RestoreFault::NotEmpty(row.2));
-    is_refused(rt, alloc, disk, &[FIRST, SECOND], UNTOUCHED, wanted)
+    is_refused(
+        rt,
+        alloc,
+        disk,
+        &[FIRST_BLOCK, SECOND_BLOCK],
+        UNTOUCHED,
+        wanted,
+    )
 }
 
 #[test]
@@ -244,7 +265,7 @@ const STILL_NEW: &[(&str, Parts)] = &[
         "restore 0 6e340b9cffb37a989ca544e6bb780a2c78901d3fb33738768511a30617afa01d",
         &[],
     ),
-    (PAIR, &[FIRST]),
+    (RESTORE_PAIR, &[FIRST_BLOCK]),
 ];
 
 // Whether the pair is restored after these words.
@@ -254,8 +275,8 @@ fn is_still_new<H: Threads + Wait + Sync>(
     row: &(&str, Parts),
 ) -> Result<bool, Fail> {
     let disk = left_by(rt, alloc, row.0, row.1)?;
-    let input = bytes_of(alloc, &[FIRST, SECOND])?;
-    let played = play_line(rt, alloc, disk, PAIR, &input, NO_FAULTS)?;
+    let input = bytes_of(alloc, &[FIRST_BLOCK, SECOND_BLOCK])?;
+    let played = play_line(rt, alloc, disk, RESTORE_PAIR, &input, NO_FAULTS)?;
     Ok(played.status == Status::Done && played.start == Some(0))
 }
 

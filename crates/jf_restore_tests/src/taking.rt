@@ -1,6 +1,6 @@
 // How much of an input a refused restore takes: little after the line that decides it.
-use crate::blocks::{FIRST, PAIR, Parts, SECOND};
 use jf_io::{MemSource, Source};
+use jf_play::blocks::{FIRST_BLOCK, Parts, RESTORE_PAIR, SECOND_BLOCK};
 use jf_play::files::bytes_of;
 use jf_play::play::{Faults, NO_FAULTS, new_disk, new_sink, new_source, run_over, words_of};
 use jf_run::status::Status;
@@ -9,13 +9,13 @@ use std::sync::Wait;
 use std::test::Fail;
 use std::thread::Threads;
 
-// Inputs of `PAIR` that are refused at their last line.
+// Inputs of `RESTORE_PAIR` that are refused at their last line.
 const INPUTS: &[Parts] = &[
     &[b"chunk 1001 0 0\n"],
-    &[FIRST, b"chunk 0 0\n"],
-    &[SECOND],
-    &[FIRST, FIRST],
-    &[FIRST, b"chunk 0 0 0\n"],
+    &[FIRST_BLOCK, b"chunk 0 0\n"],
+    &[SECOND_BLOCK],
+    &[FIRST_BLOCK, FIRST_BLOCK],
+    &[FIRST_BLOCK, b"chunk 0 0 0\n"],
 ];
 
 // The source gives all that it is asked for.
@@ -40,7 +40,7 @@ fn is_refused<H: Threads + Wait + Sync>(
     alloc: Global,
     source: &mut MemSource,
 ) -> Result<bool, Fail> {
-    let words = words_of(alloc, PAIR)?;
+    let words = words_of(alloc, RESTORE_PAIR)?;
     let mut sink = new_sink(alloc, NO_FAULTS)?;
     let disk = new_disk(alloc, b"", &[])?;
     let ended = run_over(rt, alloc, disk, &words, source, &mut sink)?;

@@ -1,8 +1,10 @@
 // Versions that are restored: what is written, what the files hold, and what a later run finds. The roots and bytes are
 // from Python's `hashlib`.
-use crate::blocks::{A, B, EMPTY, FIRST, PAIR, Parts, SECOND, received};
 use crate::records::RESTORED;
 use jf_disk::{MemDisk, Side};
+use jf_play::blocks::{
+    EMPTY_SIDE, FIRST_BLOCK, FIRST_ENTRY, Parts, RESTORE_PAIR, SECOND_BLOCK, SECOND_ENTRY, received,
+};
 use jf_play::files::{CHECKPOINT, END, File, IMPORTED, bytes_of};
 use jf_play::play::{Faults, NO_FAULTS, Played, answers, has_ended};
 use jf_play::roots::with_roots;
@@ -37,8 +39,8 @@ const ROWS: &[Row] = &[
     },
     // Two blocks, as the replies to `chunk` have them.
     Row {
-        line: PAIR,
-        input: &[FIRST, SECOND],
+        line: RESTORE_PAIR,
+        input: &[FIRST_BLOCK, SECOND_BLOCK],
         text: "restored 1 P 2\n",
         head: 1,
         script: "get head 61\nget v1 62\nget head 63\nget v0 61\nroot v0\nroot v1\nroot head\ncount head\nnth v1 1\nstatus\n",
@@ -56,7 +58,7 @@ const ROWS: &[Row] = &[
     // One block of both entries without `n ok`; the store goes on.
     Row {
         line: "restore 7 3e92b77a6f4a7dcc426f134b3415f3af7eb39e5c8ac7599c94f5a3c83fe07425 --workers 2",
-        input: &[b"chunk 2 2 1\n", A, B, EMPTY],
+        input: &[b"chunk 2 2 1\n", FIRST_ENTRY, SECOND_ENTRY, EMPTY_SIDE],
         text: "restored 7 P 2\n",
         head: 7,
         script: "put 62 =33\ncommit\nget v7 62\nget head 62\nroot v7\nroot v8\nstatus\n",
@@ -72,9 +74,9 @@ const ROWS: &[Row] = &[
     Row {
         line: "restore 0 3e92b77a6f4a7dcc426f134b3415f3af7eb39e5c8ac7599c94f5a3c83fe07425",
         input: &[
-            FIRST,
+            FIRST_BLOCK,
             b"chunk 1 2 1\n",
-            B,
+            SECOND_ENTRY,
             b"side 6e340b9cffb37a989ca544e6bb780a2c78901d3fb33738768511a30617afa01d",
         ],
         text: "restored 0 P 2\n",
@@ -141,7 +143,7 @@ const FILES: &[(&str, Parts, File)] = &[
         &[],
         &[IMPORTED, END],
     ),
-    (PAIR, &[FIRST, SECOND], &[RESTORED, END]),
+    (RESTORE_PAIR, &[FIRST_BLOCK, SECOND_BLOCK], &[RESTORED, END]),
 ];
 
 // Whether side A has the checkpoint of a new store, and side B these records.
@@ -178,7 +180,13 @@ fn pieces_change_nothing<H: Threads + Wait + Sync>(
     piece: usize,
 ) -> Result<bool, Fail> {
     let faults = Faults { piece, ..NO_FAULTS };
-    let played = received(rt, alloc, PAIR, &[FIRST, SECOND], faults)?;
+    let played = received(
+        rt,
+        alloc,
+        RESTORE_PAIR,
+        &[FIRST_BLOCK, SECOND_BLOCK],
+        faults,
+    )?;
     let restored = is_restored(alloc, &played, "restored 1 P 2\n")?;
     Ok(restored && has_files(alloc, &played.disk, &[RESTORED, END])?)
 }
