@@ -34,7 +34,9 @@ fn has_told(played: &Played<MemDisk>, failing: u64) -> bool {
     let faults = played.disk.faults();
     match (played.status, played.start, replies) {
         (Status::DiskFault, None, None) => failing < OPENING && played.text.is_empty(),
-        (Status::DiskFault, Some(0), Some(count)) => faults == 1 && count < LINES && failing < MOST,
+        (Status::DiskFault, Some(0), Some(count)) => {
+            faults == 1 && count < LINES && OPENING <= failing && failing < MOST
+        }
         (Status::Done, Some(0), Some(LINES)) => faults == 0 && failing >= LEAST,
         _ => false,
     }

@@ -18,3 +18,5 @@ mod serving;
 mod sessions;
 #[cfg(test)]
 mod stream_faults;
+#[cfg(test)]
+mod writers;

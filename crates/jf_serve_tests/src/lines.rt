@@ -12,8 +12,8 @@ pub(crate) fn text_of(written: &[u8]) -> &str {
     str::from_utf8(written).unwrap_or("")
 }
 
-// The word of a line at this place, from 0. Empty if the line has fewer.
-fn word(line: &str, place: usize) -> &str {
+/// The word of a line at this place, from 0. Empty if the line has fewer.
+pub(crate) fn word(line: &str, place: usize) -> &str {
     line.split(' ').nth(place).unwrap_or("")
 }
 

@@ -67,7 +67,7 @@ fn are_all_there(text: &str) -> bool {
     true
 }
 
-// Fails unless the sessions are answered so over a store of version 1.
+// Fails unless the sessions are answered so over a store of version 1, and the gate was told of a landing.
 fn is_kept<H: Threads + Wait + Sync>(rt: &H, alloc: Global) -> Result<(), Fail> {
     let gate = AfterLanding {
         begun: AtomicU64::new(0),
@@ -76,7 +76,8 @@ fn is_kept<H: Threads + Wait + Sync>(rt: &H, alloc: Global) -> Result<(), Fail> 
     let files = bytes_of(alloc, &[CHECKPOINT, LANDING, END])?;
     let disk = new_disk(alloc, &files, &[])?;
     let played = play_gated(rt, alloc, disk, &words, INPUT, &gate)?;
-    if are_all_there(text_of(&played.text)) {
+    let is_told = gate.begun.load(SeqCst) == 1;
+    if is_told && are_all_there(text_of(&played.text)) {
         Ok(())
     } else {
         Err(Fail::new("another reply"))
