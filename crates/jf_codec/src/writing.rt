@@ -114,9 +114,10 @@ fn put_inner(out: &mut Bytes, format: Format, children: &[Child]) -> Result<(), 
     put_children(out, format, children)
 }
 
-// Adds a leaf.
+/// Adds the spelling of a leaf, which both formats share. If memory runs out, what was in `out` is unchanged, but a part of
+/// the leaf may follow it.
 #[tactic(auto, using(crate::proofs::Adding::keeps_same, crate::proofs::Adding::keeps_more))]
-fn put_leaf(out: &mut Bytes, key: &Key, value: &[u8]) -> Result<(), Memory>
+pub fn put_leaf(out: &mut Bytes, key: &Key, value: &[u8]) -> Result<(), Memory>
     requires { length value.now ≤ max_value }
     ensures ok { OnOk result (out.new ≡ out.old ++ 1 ∷ key.now ++ four_bytes (length value.now) ++ value.now) }
     ensures err { OnErr result (Keeps out.old out.new) }

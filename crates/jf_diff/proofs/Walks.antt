@@ -13,7 +13,7 @@ use Rattle.jf_model.specs.NodeVersions.{VersionsFollow}
 use Rattle.jf_walk.proofs.ChildEntryLaws.{child_entries-few, child_entries-many, sub-none}
 use Rattle.jf_walk.proofs.SameParts.{differs_or_same, not_empty, differs-other}
 use Rattle.jf_walk.proofs.VersionLaws.{moved}
-use Rattle.jf_walk.proofs.WalkLaws.{child_list, listed_to, listed-node, listed-same, listed-gone, listed_to-child}
+use Rattle.jf_walk.proofs.WalkLaws.{child_list, listed_to, listed-node, listed-same, listed-gone, listed_to-child, each-nil}
 use Rattle.jf_node.specs.LinkValue.{LinkValue, version_among, link_version_at}
 use Rattle.jf_node.specs.Shown.{ShowsLeaf, ShowsInner}
 use Rattle.jf_node.specs.Children.{content}
@@ -134,6 +134,11 @@ module _ {X : Type 0} where
   pub listed_below-none : (d n : ℕ) (old new : Part) (f : Path → X) → child_entries d n new ≡ [] → listed_below d n old new f ≡ []
   unfolding listed_below
   listed_below-none d n old new f none = ap (λ k. listed (64 - (d + 1)) (d + 1) (child_entries d n old) k (λ p. f (n ∷ p))) none ∙ listed-gone (64 - (d + 1)) (d + 1) (child_entries d n old) (λ p. f (n ∷ p))
+
+-- of a node without a child, the node alone is listed
+pub from_node-few : {X : Type 0} (d : ℕ) (old new : Part) (f : Path → X) → length new < 2 → f [] ∷ [] ≡ from_node d old new f
+unfolding from_node
+from_node-few d old new f few = ap (λ t. f [] ∷ t) (sym (each-nil 16 0 (λ n. listed_below d n old new f) (λ n. listed_below-none d n old new f (child_entries-few d n new few))))
 
 -- from the top on, the walk is that from the top
 pub from_node-with_root : {X : Type 0} (old new : Part) (f : Path → X) → from_node 0 old new f ≡ with_root old new f

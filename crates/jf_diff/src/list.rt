@@ -32,6 +32,9 @@ pub(crate) fn list_fresh(
         path: *path,
     };
     out.push(name, Some(link))?;
+    if link.count() == 1 {
+        return Ok(());
+    }
     for n in 0..16 {
         list_fresh_at(link, version, path, Nibble::of(n), out)?;
     }
@@ -82,6 +85,9 @@ pub(crate) fn list_stale(
         version: old.version(),
         path: *path,
     })?;
+    if old.count() == 1 {
+        return Ok(());
+    }
     for n in 0..16 {
         list_stale_at(old, new, version, path, Nibble::of(n), out)?;
     }

@@ -5,10 +5,11 @@ ghost use Rattle.jf_codec.specs.Spelling.{IsNode, node_bytes};
 ghost use Rattle.jf_codec.specs.Counted.{in_format};
 ghost use Rattle.jf_diff.specs.Plains.{children_list, plain_at, plain_under};
 
-use crate::plain_node::{branches_of, plain_if};
-use jf_codec::{Format, put_node};
+use crate::plain_node::{branches_of, children_of};
+use jf_codec::{Format, put_leaf, put_node};
+use jf_hash::Places;
 use jf_node::{Link, Seen};
-use jf_path::{Bytes, Memory, Nibble};
+use jf_path::{Bytes, Memory, PlainNode};
 use std::alloc::Global;
 
 /// The number of children of an inner node.
@@ -19,14 +20,7 @@ fn count_of_children(link: &Link) -> u64
 {
     let children = branches_of(link);
     children.know();
-    let mut count = 0;
-    for n in 0..16 {
-        if let Some(child) = children.get(Nibble::of(n)) {
-            child.know();
-            count += 1;
-        }
-    }
-    count
+    children.children().rank(16) as u64
 }
 
 /// The number of bytes of an inner node by itself.
@@ -64,6 +58,20 @@ pub(crate) fn plain_len(format: Format, link: &Option<Link>) -> u64
     }
 }
 
+/// Adds the bytes of a node by itself. If memory runs out, some of them may follow what was in `out`.
+fn put_link(alloc: Global, out: &mut Bytes, format: Format, link: &Link) -> Result<(), Memory>
+    requires { IsNode format (in_format format (plain_at link.now [])) }
+    ensures { OnOk result (out.new ≡ out.old ++ node_bytes format (plain_at link.now [])) }
+{
+    match link.view() {
+        Seen::Leaf { key, value, .. } => put_leaf(out, key, value),
+        Seen::Inner { .. } => {
+            let children = children_of(alloc, link)?;
+            put_node(out, format, &PlainNode::Inner { children })
+        }
+    }
+}
+
 /// Adds the bytes of the node of an optional link by itself. If memory runs out, some of them may follow what was in `out`.
 pub(crate) fn put_plain(
     alloc: Global,
@@ -74,7 +82,8 @@ pub(crate) fn put_plain(
     requires { IsNode format (in_format format (plain_under link.now [])) }
     ensures { OnOk result (out.new ≡ out.old ++ node_bytes format (plain_under link.now [])) }
 {
-    let node = plain_if(alloc, link)?;
-    put_node(out, format, &node)?;
-    Ok(())
+    match link {
+        None => put_node(out, format, &PlainNode::Null),
+        Some(link) => put_link(alloc, out, format, link),
+    }
 }

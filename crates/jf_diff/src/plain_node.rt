@@ -20,7 +20,7 @@ pub(crate) fn branches_of(link: &Link) -> &Branches
 }
 
 /// What an inner node says of its children, as it is written.
-fn children_of(alloc: Global, link: &Link) -> Result<Children, Memory>
+pub(crate) fn children_of(alloc: Global, link: &Link) -> Result<Children, Memory>
     requires { 2 ≤ length link.now.entries }
     ensures { IfOk result (λ r. r ≡ children_list link.now) }
 {

@@ -5,7 +5,7 @@ use Rattle.jf_walk.proofs.WalkLaws.{listed_to, listed_to-none}
 use Rattle.jf_diff.specs.Below.{IsBelow, listed_below}
 use Rattle.jf_diff.specs.Plains.{fresh_below, plain_at}
 use Rattle.jf_diff.proofs.PlainNodes.{fresh-child}
-use Rattle.jf_diff.proofs.Walks.{fresh_own, fresh_others, from_node-listed_to, child_over, child_entries_none, child_entries_some, listed_to-below, listed_below-none}
+use Rattle.jf_diff.proofs.Walks.{fresh_own, fresh_others, from_node-listed_to, from_node-few, child_over, child_entries_none, child_entries_some, listed_to-below, listed_below-none}
 use Rattle.jf_diff.proofs.list.+fresh.Goals as goal
 
 pub list_fresh-loop-n-init : goal.list_fresh-loop-n-init
@@ -54,3 +54,11 @@ list_fresh_at-returns-in_ok-list_fresh-in-Some t c es before over =
     fresh_own c.args.version (child_entries x.depth n es) (λ p. before (n ∷ p)) y (fresh_below c.args.version c.child.result y) c.args.out.now _ below.sound (child_over c.args.version es before x n y over below) (sym c.version.ensures ∙ c.if-version.false)
     (c.in_ok-list_fresh-in-Some.ensures (child_entries x.depth n es) (λ p. before (n ∷ p)))
     ∙ ap (λ l. c.args.out.now ++ l) (fresh-child c.args.version c.args.path.now c.child.result x n y es below c.child.ensures)
+
+pub list_fresh-returns-then-count-eq1 : goal.list_fresh-returns-then-count-eq1
+list_fresh-returns-then-count-eq1 t c es before below =
+    let x = c.args.link.now in
+    let f = fresh_below c.args.version c.args.path.now x in
+    c.in_ok-push.ensures.ok
+    ∙ ap (λ (q : Path). c.args.out.now ++ (record { version = c.args.version; path = q }, plain_at x []) ∷ []) (sym (append-nil c.args.path.now))
+    ∙ ap (λ l. c.args.out.now ++ l) (from_node-few x.depth es x.entries f (omega (arith, c.count.ensures, c.if-count-eq1.true)))

@@ -5,7 +5,7 @@ use Rattle.jf_node.specs.Children.{content}
 use Rattle.jf_walk.proofs.WalkLaws.{listed_to, listed_to-none}
 use Rattle.jf_diff.specs.Landings.{version_or}
 use Rattle.jf_diff.specs.Below.{IsBelow, listed_below, name_below}
-use Rattle.jf_diff.proofs.Walks.{stale_listed, from_node-listed_to, tells_kept, tells_new, stale_child, stale-child, child_in_sound, child_entries_none, child_entries_some, listed_to-below, listed_below-none}
+use Rattle.jf_diff.proofs.Walks.{stale_listed, from_node-listed_to, from_node-few, tells_kept, tells_new, stale_child, stale-child, child_in_sound, child_entries_none, child_entries_some, listed_to-below, listed_below-none}
 use Rattle.jf_diff.proofs.list.+stale.Goals as goal
 
 pub list_stale-loop-n-init : goal.list_stale-loop-n-init
@@ -61,3 +61,10 @@ list_stale_at-returns-in_ok-list_stale-in-Some t c over =
     stale_listed c.args.version old there (name_below c.child.result old) c.args.out.now.items _ below.sound (child_in_sound y n there c.child_in-there.ensures) (stale_child c.args.version x y n n old there c.requires.new over below c.child_in-there.ensures refl)
     (λ other. absurd (other (tells_new c.args.version there c.is_kept.result c.is_kept.ensures c.if-is_kept.false))) (λ own. c.in_ok-list_stale-in-Some.ensures)
     ∙ ap (λ l. c.args.out.now.items ++ l) (stale-child c.args.path.now c.child.result x y n old there c.requires.new below c.child_in-there.ensures c.child.ensures)
+
+pub list_stale-returns-then-count-eq1 : goal.list_stale-returns-then-count-eq1
+list_stale-returns-then-count-eq1 t c over =
+    let x = c.args.old.now in
+    c.in_ok-push.ensures.items
+    ∙ ap (λ e. c.args.out.now.items ++ e ∷ []) (ap₂ (λ v q. let name : NodeName = record { version = v; path = q } in name) (c.version.ensures ∙ ap version_or (sym c.know.ensures.own)) (sym (append-nil c.args.path.now)))
+    ∙ ap (λ l. c.args.out.now.items ++ l) (from_node-few x.depth (content (option_copied c.args.new)) x.entries (name_below c.args.path.now x) (omega (arith, c.count.ensures, c.if-count-eq1.true)))
