@@ -1,7 +1,7 @@
 // The lines of a source, taken by a machine, and what they add, written into a sink.
 ghost use Rattle.std.specs.Prelude.{◌≡◌, ◌-◌, ◌<◌, ◌≤◌, ◌^◌, Err, OnOk, OnErr, IfErr, List, ℕ, Ok, [], IsTrue};
 ghost use Rattle.jf_path.specs.Faults.{HasCause};
-ghost use Rattle.jf_io.specs.declared.line_reader.TheConstants.{MAX_PIECE};
+ghost use Rattle.jf_io.specs.declared.piece.TheConstants.{MAX_PIECE};
 ghost use Rattle.jf_io.specs.Sink.{IsCutShort};
 ghost use Rattle.jf_input.specs.Feeds.{given_of, Appends, HandsOn, Gathers, StopsGathering, EndsAfter, Fed};
 

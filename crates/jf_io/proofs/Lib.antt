@@ -8,3 +8,4 @@ pub mod Found
 pub mod AfterLines
 pub mod FirstLines
 pub mod Written
+pub mod SinkLaws

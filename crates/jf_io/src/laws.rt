@@ -13,7 +13,7 @@ pub fn first_line_ends_at_first_feed()
 {}
 
 /// After a line feed the lines are those of the bytes that follow.
-pub fn lines_go_on_behind_a_feed()
+pub fn lines_go_on_after_a_feed()
     ensures { (front rest : List ℕ) → lines (front ++ 10 ∷ rest) ≡ lines (front ++ 10 ∷ []) ++ lines rest }
 {}
 

@@ -1,24 +1,14 @@
 // Lines of input: a line is the bytes up to a line feed (10), which is no part of it. The last line may lack one.
-ghost use Rattle.std.specs.Prelude.{◌≡◌, ◌==◌, ◌⊎◌, ◌↔◌, ℕ, ◌+◌, ◌-◌, ◌<◌, ◌≤◌, ◌^◌, List, [], ◌++◌, length, take, drop, true, false, Some, Ok, Err, IfOk, OnOk, OnErr, IsTrue, vec_len};
-ghost use Rattle.std.specs.List.{position, position_or_len, before_first, after_first};
+ghost use Rattle.std.specs.Prelude.{◌≡◌, ◌⊎◌, ◌↔◌, ℕ, ◌+◌, ◌-◌, ◌<◌, ◌≤◌, ◌^◌, List, [], ◌++◌, length, take, drop, true, false, Some, Ok, Err, IfOk, OnOk, OnErr, IsTrue, vec_len};
+ghost use Rattle.std.specs.List.{position_or_len, before_first, after_first};
 ghost use Rattle.jf_path.specs.Faults.{HasCause};
 ghost use Rattle.jf_io.specs.LineReader.{is_line_feed, IsSearched, IsShortened, IsFetched};
 
+use crate::line_feed::first_line_feed;
+use crate::piece::{FetchFault, MAX_PIECE, append_piece};
 use crate::source::Source;
 use std::alloc::Global;
 use std::marker::Model;
-
-/// The most bytes that one call may ask a source for.
-pub const MAX_PIECE: usize = 65_536;
-
-/// Why no line was fetched.
-#[derive(Clone, Copy, Debug, PartialEq, Eq)]
-pub enum FetchFault {
-    /// The source failed in this call. No line feed is held then.
-    ReadFault,
-    /// Out of memory.
-    Memory,
-}
 
 /// Holds bytes that were taken from a source, and gives them out a line at a time.
 ///
@@ -42,7 +32,7 @@ pub struct LineReader {
 
 impl Model for LineReader {
     ghost use Rattle.std.specs.Prelude.{◌≤◌, drop};
-    ghost use Rattle.jf_io.specs.declared.line_reader.TheConstants.{MAX_PIECE};
+    ghost use Rattle.jf_io.specs.declared.piece.TheConstants.{MAX_PIECE};
     ghost use Rattle.jf_io.specs.LineReader.{Held, IsSearched, HoldsFew};
 
     ghost Value = { Held };
@@ -82,7 +72,8 @@ impl LineReader {
     /// Takes bytes from the source until a line with its line feed is held or the input ends. `false` means that the
     /// input has ended and nothing is held. Bytes of a line past its first `limit` + 1 may be dropped.
     ///
-    /// After a `FetchFault` the bytes taken so far are held, and the next call goes on from there.
+    /// After a `FetchFault` the bytes taken so far are held, and the next call goes on from there. After `ReadFault` no line
+    /// feed is held.
     pub fn fetch<S: Source>(&mut self, source: &mut S) -> Result<bool, FetchFault>
         // Whatever the outcome, no byte is invented, and only bytes of a line past its first `limit` + 1 are lost.
         ensures kept { (text : List ℕ) → IsShortened self.old.limit text self.old.bytes → IsFetched self.old.limit text self.new.bytes (S.rest source.old) (S.rest source.new) }
@@ -190,21 +181,6 @@ fn line_end(bytes: &[u8], start: usize, searched: usize) -> usize
     searched + first_line_feed(&bytes[searched..])
 }
 
-// The offset of the first line feed, or the length if there is no line feed.
-fn first_line_feed(bytes: &[u8]) -> usize
-    ensures within { result ≤ length bytes.now }
-    ensures value { result ≡ position_or_len is_line_feed bytes.now }
-{
-    line_feed(bytes).unwrap_or(bytes.len())
-}
-
-// The offset of the first line feed.
-fn line_feed(bytes: &[u8]) -> Option<usize>
-    ensures { result ≡ position (λ b. b == 10) bytes.now }
-{
-    bytes.iter().position(|b| *b == b'\n')
-}
-
 // Drops the first `count` bytes.
 fn drop_front(bytes: &mut Vec<u8>, count: usize)
     requires { count ≤ vec_len bytes.old }
@@ -216,37 +192,4 @@ fn drop_front(bytes: &mut Vec<u8>, count: usize)
     let kept = bytes.len() - count;
     bytes.copy_within(count.., 0);
     bytes.truncate(kept);
-}
-
-// Appends input to `bytes`, at most `piece` bytes of it, and returns how many. 0 is the end of the input.
-fn append_piece<S: Source>(
-    bytes: &mut Vec<u8>,
-    source: &mut S,
-    piece: usize,
-) -> Result<usize, FetchFault>
-    requires { (1 ≤ piece) × (piece ≤ MAX_PIECE) }
-    ensures front { take (length bytes.old.items) bytes.new.items ≡ bytes.old.items }
-    ensures short { length bytes.new.items ≤ length bytes.old.items + piece }
-    ensures kept { (rest : List ℕ) → S.rest source.old ≡ Some rest → (left : List ℕ) × (S.rest source.new ≡ Some left) × (bytes.new.items ++ left ≡ bytes.old.items ++ rest) }
-    ensures unchanged { OnErr result (bytes.new.items ≡ bytes.old.items) }
-    ensures end { IfOk result (λ n. n ≡ 0 → (bytes.new.items ≡ bytes.old.items) × ((left : List ℕ) → S.rest source.new ≡ Some left → left ≡ [])) }
-    ensures given { IfOk result (λ n. S.given source.new ≡ S.given source.old + n) }
-    ensures bounded { OnOk result (S.given source.new < 2 ^ 64) }
-    ensures cause { result ≡ Err FetchFault.ReadFault → HasCause (S.faults source.old) (S.faults source.new) }
-    ensures grows { S.faults source.old ≤ S.faults source.new }
-{
-    let len = bytes.len();
-    if bytes.resize(len + piece, 0).is_err() {
-        return Err(FetchFault::Memory);
-    }
-    match source.take(&mut bytes[len..]) {
-        Ok(count) => {
-            bytes.truncate(len + count);
-            Ok(count)
-        }
-        Err(_) => {
-            bytes.truncate(len);
-            Err(FetchFault::ReadFault)
-        }
-    }
 }

@@ -4,7 +4,6 @@
 
 mod block_reader;
 mod importing;
-mod nowhere;
 mod reading;
 mod received;
 mod receiving;

@@ -1,5 +1,5 @@
 -- Text that is gathered in several steps, and what the sink has if a step fails.
-use Rattle.std.proofs.Common.{◌≡◌, ℕ, ◌<◌, List, [], ◌++◌, length, Option, option_map, refl, sym, ap, subst, ◌∙◌, append_assoc, append-nil, length-append, arith}
+use Rattle.std.proofs.Common.{◌≡◌, ℕ, List, [], ◌++◌, Option, option_map, sym, ap, subst, ◌∙◌, append_assoc, append-nil}
 use Rattle.jf_io.specs.Sink.{IsCutShort}
 use Rattle.jf_io.proofs.Written.{nothing_written, written_more}
 use Rattle.jf_report.specs.Gathered.{HasGathered}
@@ -21,26 +21,6 @@ gathered-put text text' held held' held'' more e put empty = (held', ap (λ h. h
 pub gathered-past : (text text' : Option (List ℕ)) (held more : List ℕ) → held ≡ [] → text' ≡ option_map (λ t. t ++ more) text → HasGathered text text' held held more
 gathered-past text text' held more empty put =
     (more, ap (λ h. more ++ h) empty ∙ append-nil more ∙ ap (λ h. h ++ more) (sym empty), put)
-
--- a sink that took nothing is short of any bytes
-pub cut-none : (text : Option (List ℕ)) (bytes : List ℕ) → 0 < length bytes → IsCutShort text text bytes
-cut-none text bytes some = record { front = []; missing = bytes; whole = refl; is_short = some; appended = nothing_written text }
-
--- a text that is cut short is cut short of a longer one
-pub cut-longer : (text text' : Option (List ℕ)) (bytes more : List ℕ) → IsCutShort text text' bytes → IsCutShort text text' (bytes ++ more)
-cut-longer text text' bytes more cut =
-    record {
-      front = cut.front;
-      missing = cut.missing ++ more;
-      whole = sym (append_assoc cut.front cut.missing more) ∙ ap (λ t. t ++ more) cut.whole;
-      is_short = omega (arith, cut.is_short, length-append cut.missing more);
-      appended = cut.appended;
-    }
-
--- if the bytes are a front of others, it is cut short of those
-pub cut-in : (text text' : Option (List ℕ)) (held bytes more whole : List ℕ) → bytes ++ more ≡ whole → IsCutShort text text' (held ++ bytes) → IsCutShort text text' (held ++ whole)
-cut-in text text' held bytes more whole e cut =
-    subst (λ (t : List ℕ). IsCutShort text text' t) (append_assoc held bytes more ∙ ap (λ t. held ++ t) e) (cut-longer text text' (held ++ bytes) more cut)
 
 -- ---- one step more
 module _ (text text' text'' : Option (List ℕ)) (held held' bytes : List ℕ) (so_far : HasGathered text text' held held' bytes) where

@@ -1,8 +1,10 @@
 // The first line of bytes.
-ghost use Rattle.std.specs.Prelude.{◌≡◌, ◌==◌, ◌∷◌, [], IfSome, None, ◌<◌, ◌≤◌, length};
-ghost use Rattle.std.specs.List.{position, position_or_len, before_first, after_first};
+ghost use Rattle.std.specs.Prelude.{◌≡◌, ◌∷◌, [], IfSome, None, ◌<◌, length};
+ghost use Rattle.std.specs.List.{before_first, after_first};
 ghost use Rattle.jf_io.specs.LineReader.{is_line_feed};
 ghost use Rattle.jf_io.specs.Lines.{lines};
+
+use jf_io::first_line_feed;
 
 /// The first line of bytes, without the line feed that ends it, and the bytes after that. `None` if there are no bytes.
 pub fn cut_line(bytes: &[u8]) -> Option<(&[u8], &[u8])>
@@ -22,22 +24,7 @@ pub(crate) fn split_line(bytes: &[u8]) -> (&[u8], &[u8])
     ensures line { result.0.now ≡ before_first is_line_feed bytes.now }
     ensures after { result.1.now ≡ after_first is_line_feed bytes.now }
 {
-    let end = line_end(bytes);
+    let end = first_line_feed(bytes);
     let next = bytes.len().min(end + 1);
     (&bytes[..end], &bytes[next..])
-}
-
-/// The offset of the first line feed, or how many bytes there are if there is none.
-fn line_end(bytes: &[u8]) -> usize
-    ensures within { result ≤ length bytes.now }
-    ensures value { result ≡ position_or_len is_line_feed bytes.now }
-{
-    line_feed(bytes).unwrap_or(bytes.len())
-}
-
-/// The offset of the first line feed.
-fn line_feed(bytes: &[u8]) -> Option<usize>
-    ensures { result ≡ position (λ b. b == 10) bytes.now }
-{
-    bytes.iter().position(|b| *b == b'\n')
 }

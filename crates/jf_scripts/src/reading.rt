@@ -6,7 +6,7 @@ ghost use Rattle.jf_scripts.specs.Scripts.{HasReadScripts, IsTooLarge, max_sessi
 use crate::cutting::cut_input;
 use crate::scripts::Scripts;
 use crate::whole_input::read_to_end;
-use jf_io::Source;
+use jf_io::{FetchFault, Source};
 use jf_path::Memory;
 use std::alloc::Global;
 
@@ -25,6 +25,19 @@ pub enum InputFault {
     Full,
     /// Memory ran out.
     Memory,
+}
+
+impl From<FetchFault> for InputFault {
+    ghost use Rattle.jf_scripts.specs.Faults.{of_fetch};
+
+    ghost from_gives = { λ f e. e ≡ of_fetch f };
+
+    fn from(fault: FetchFault) -> Self {
+        match fault {
+            FetchFault::ReadFault => InputFault::ReadFault,
+            FetchFault::Memory => InputFault::Memory,
+        }
+    }
 }
 
 impl From<Memory> for InputFault {

@@ -1,10 +1,11 @@
 use Rattle.std.proofs.Common.{◌≡◌, ℕ, List, [], ◌∷◌, ◌++◌, ◌+◌, map, take, drop, length, codes, decimal, arith, sym, ap, subst, ◌∙◌, append_assoc, length-append}
 use Rattle.std.specs.List.{concat}
+use Rattle.jf_io.proofs.SinkLaws.{cut_short-none, cut_short-in}
 use Rattle.jf_model.specs.declared.entries.Entry.{Entry}
 use Rattle.jf_text.specs.Words.{line_text}
 use Rattle.jf_report.specs.Gathered.{HasGathered}
 use Rattle.jf_report.specs.Ledgers.{entry_line, ledger_text}
-use Rattle.jf_report.proofs.GatheredLaws.{gathered-then, cut-none, cut-in, cut-then}
+use Rattle.jf_report.proofs.GatheredLaws.{gathered-then, cut-then}
 use Rattle.jf_report.proofs.Joined.{concat-next, concat-rest}
 use Rattle.jf_report.proofs.Refused.{on_err-always}
 use Rattle.jf_report.proofs.writing.write_ledger.Goals as goal
@@ -19,7 +20,7 @@ first_lines i es = concat (map entry_line (take i es))
 
 pub returns-in_err-write_count-clause-front : goal.returns-in_err-write_count-clause-front
 returns-in_err-write_count-clause-front g c =
-    on_err-always _ (cut-none _ _ (omega (arith, length-append c.args.held.now (ledger_text c.args.entries.now))))
+    on_err-always _ (cut_short-none _ _ (omega (arith, length-append c.args.held.now (ledger_text c.args.entries.now))))
 
 pub loop-entry-preserved : goal.loop-entry-preserved
 loop-entry-preserved g c =
@@ -44,4 +45,4 @@ returns-in_err-write_line-clause-front g c =
     let whole : (count_line es ++ first_lines i es) ++ line ++ later ≡ ledger_text es =
     ap (λ t. t ++ later) (append_assoc (count_line es) (first_lines i es) line) ∙ append_assoc (count_line es) (first_lines i es ++ line) later
     ∙ ap (λ t. count_line es ++ t) (concat-rest entry_line es i _ _ c.loop-entry-test.true c.entry-item.is) in
-    on_err-always _ (cut-in _ _ held _ later (ledger_text es) whole cut)
+    on_err-always _ (cut_short-in _ _ held _ later (ledger_text es) whole cut)

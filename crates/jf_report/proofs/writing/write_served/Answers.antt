@@ -1,8 +1,9 @@
 use Rattle.std.proofs.Common.{ℕ, List, [], ◌++◌, map, refl, subst}
 use Rattle.std.specs.List.{concat}
 use Rattle.jf_io.specs.Sink.{IsCutShort}
+use Rattle.jf_io.proofs.SinkLaws.{cut_short-in}
 use Rattle.jf_report.specs.Ledgers.{session_text, ledger_text, served_text}
-use Rattle.jf_report.proofs.GatheredLaws.{gathered-then, cut-in, cut-then, cut-held}
+use Rattle.jf_report.proofs.GatheredLaws.{gathered-then, cut-then, cut-held}
 use Rattle.jf_report.proofs.Refused.{on_err-always}
 use Rattle.jf_report.proofs.writing.write_served.Goals as goal
 
@@ -10,7 +11,7 @@ pub returns-in_err-write_sessions-clause-front : goal.returns-in_err-write_sessi
 returns-in_err-write_sessions-clause-front g c =
     let sessions = concat (map session_text c.args.outputs.now) in
     let cut = subst (λ (held : List ℕ). IsCutShort (g.K.Sink.text c.args.sink.now) (g.K.Sink.text c.write_sessions.new.sink) (held ++ sessions)) c.new-held.ensures c.in_err-write_sessions.ensures.front in
-    on_err-always _ (cut-in _ _ [] sessions (ledger_text c.args.entries.now) _ refl cut)
+    on_err-always _ (cut_short-in _ _ [] sessions (ledger_text c.args.entries.now) _ refl cut)
 
 pub returns-in_err-write_ledger-clause-front : goal.returns-in_err-write_ledger-clause-front
 returns-in_err-write_ledger-clause-front g c =

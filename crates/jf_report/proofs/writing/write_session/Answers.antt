@@ -1,7 +1,8 @@
 use Rattle.std.proofs.Common.{ℕ, List, ◌∷◌, [], ◌++◌, codes, subst, sym}
 use Rattle.jf_io.specs.Sink.{IsCutShort}
+use Rattle.jf_io.proofs.SinkLaws.{cut_short-longer}
 use Rattle.jf_text.specs.Words.{line_text}
-use Rattle.jf_report.proofs.GatheredLaws.{gathered-held, gathered-put, gathered-past, gathered-then, cut-longer, cut-then}
+use Rattle.jf_report.proofs.GatheredLaws.{gathered-held, gathered-put, gathered-past, gathered-then, cut-then}
 use Rattle.jf_report.proofs.Refused.{on_err-always}
 use Rattle.jf_report.proofs.writing.write_session.Goals as goal
 
@@ -16,7 +17,7 @@ returns-in_err-put_held-clause-front g c =
     let line = c.append.new.self in
     on_err-always _ (
     cut-then _ _ _ held line begin (gathered-held (g.K.Sink.text c.args.sink.now) held line begin c.in_ok-append.ensures.ok) output
-    (cut-longer _ _ line output c.in_err-put_held.ensures.front)
+    (cut_short-longer _ _ line output c.in_err-put_held.ensures.front)
     )
 
 pub returns-in_err-put_all-clause-front : goal.returns-in_err-put_all-clause-front

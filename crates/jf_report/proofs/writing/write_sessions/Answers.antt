@@ -1,8 +1,9 @@
 use Rattle.std.proofs.Common.{◌+◌, map, take, drop, arith, sym, ◌∙◌, subst, ℕ, List}
 use Rattle.std.specs.List.{concat}
+use Rattle.jf_io.proofs.SinkLaws.{cut_short-in}
 use Rattle.jf_report.specs.Gathered.{HasGathered}
 use Rattle.jf_report.specs.Ledgers.{session_text}
-use Rattle.jf_report.proofs.GatheredLaws.{gathered-then, cut-in, cut-then}
+use Rattle.jf_report.proofs.GatheredLaws.{gathered-then, cut-then}
 use Rattle.jf_report.proofs.Joined.{concat-next, concat-rest}
 use Rattle.jf_report.proofs.Refused.{on_err-always}
 use Rattle.jf_report.proofs.writing.write_sessions.Goals as goal
@@ -24,4 +25,4 @@ returns-in_err-write_session-clause-front g c =
     let outputs = c.args.outputs.now in
     let i = c.loop-output.output-index in
     let cut = cut-then _ _ _ held c.loop-output.held (concat (map session_text (take i outputs))) c.loop-output.invariant.gathered _ c.in_err-write_session.ensures.front in
-    on_err-always _ (cut-in _ _ held _ (concat (map session_text (drop (i + 1) outputs))) _ (concat-rest session_text outputs i _ _ c.loop-output-test.true (c.as_slice.ensures ∙ c.output-item.is)) cut)
+    on_err-always _ (cut_short-in _ _ held _ (concat (map session_text (drop (i + 1) outputs))) _ (concat-rest session_text outputs i _ _ c.loop-output-test.true (c.as_slice.ensures ∙ c.output-item.is)) cut)

@@ -1,11 +1,12 @@
-// A sink for a machine that adds nothing to a text.
+// A sink for a caller that wants no text.
 ghost use Rattle.std.specs.Prelude.{None};
 
-use jf_io::{IoFailed, Sink};
+use crate::failed::IoFailed;
+use crate::sink::Sink;
 
-/// A sink that takes all bytes and keeps none. No call fails.
+/// A sink that takes all bytes and keeps none. No call fails, and its text isn't known.
 #[derive(Drop)]
-pub(crate) struct Nowhere;
+pub struct Nowhere;
 
 impl Sink for Nowhere {
     ghost text = { λ _. None };

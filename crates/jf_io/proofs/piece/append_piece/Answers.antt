@@ -1,7 +1,7 @@
 use Rattle.std.proofs.Common.{◌≡◌, ◌++◌, take, arith}
 use Rattle.std.proofs.lemmas.Grind.{common_steps}
 use Rattle.jf_io.proofs.Lines.{kept_after}
-use Rattle.jf_io.proofs.line_reader.append_piece.Goals as goal
+use Rattle.jf_io.proofs.piece.append_piece.Goals as goal
 
 pub returns-in-Ok-clause-kept : goal.returns-in-Ok-clause-kept
 returns-in-Ok-clause-kept g c = λ rest told.

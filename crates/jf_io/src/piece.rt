@@ -1,0 +1,53 @@
+// Input is taken from a source a piece at a time.
+ghost use Rattle.std.specs.Prelude.{◌≡◌, ℕ, ◌+◌, ◌<◌, ◌≤◌, ◌^◌, List, [], ◌++◌, length, take, Some, Err, IfOk, OnOk, OnErr};
+ghost use Rattle.jf_path.specs.Faults.{HasCause};
+
+use crate::source::Source;
+
+/// The most bytes that one call may ask a source for.
+pub const MAX_PIECE: usize = 65_536;
+
+/// Why no input was taken.
+#[derive(Clone, Copy, Debug, PartialEq, Eq)]
+pub enum FetchFault {
+    /// The source failed in this call.
+    ReadFault,
+    /// Out of memory.
+    Memory,
+}
+
+/// Appends input to `bytes`, at most `piece` bytes of it, and returns how many. 0 is the end of the input.
+///
+/// The source is asked once, unless memory is out.
+pub fn append_piece<S: Source>(
+    bytes: &mut Vec<u8>,
+    source: &mut S,
+    piece: usize,
+) -> Result<usize, FetchFault>
+    requires { (1 ≤ piece) × (piece ≤ MAX_PIECE) }
+    ensures front { take (length bytes.old.items) bytes.new.items ≡ bytes.old.items }
+    ensures short { length bytes.new.items ≤ length bytes.old.items + piece }
+    ensures grown { IfOk result (λ n. length bytes.new.items ≡ length bytes.old.items + n) }
+    ensures kept { (rest : List ℕ) → S.rest source.old ≡ Some rest → (left : List ℕ) × (S.rest source.new ≡ Some left) × (bytes.new.items ++ left ≡ bytes.old.items ++ rest) }
+    ensures unchanged { OnErr result (bytes.new.items ≡ bytes.old.items) }
+    ensures end { IfOk result (λ n. n ≡ 0 → (bytes.new.items ≡ bytes.old.items) × ((left : List ℕ) → S.rest source.new ≡ Some left → left ≡ [])) }
+    ensures given { IfOk result (λ n. S.given source.new ≡ S.given source.old + n) }
+    ensures bounded { OnOk result (S.given source.new < 2 ^ 64) }
+    ensures cause { result ≡ Err FetchFault.ReadFault → HasCause (S.faults source.old) (S.faults source.new) }
+    ensures grows { S.faults source.old ≤ S.faults source.new }
+{
+    let len = bytes.len();
+    if bytes.resize(len + piece, 0).is_err() {
+        return Err(FetchFault::Memory);
+    }
+    match source.take(&mut bytes[len..]) {
+        Ok(count) => {
+            bytes.truncate(len + count);
+            Ok(count)
+        }
+        Err(_) => {
+            bytes.truncate(len);
+            Err(FetchFault::ReadFault)
+        }
+    }
+}
