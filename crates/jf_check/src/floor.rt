@@ -20,7 +20,7 @@ use jf_codec::Format;
 use jf_dir::{Directory, restored_from};
 use jf_node::Snapshot;
 use jf_path::{Memory, NodeName, PlainNode};
-use jf_update::RestoreFault;
+use jf_update::RebuildFault;
 use std::alloc::Global;
 
 /// The most entries of a map.
@@ -41,8 +41,8 @@ fn snapshot_of(
     let versions = versions_by_path(alloc, nodes)?;
     match restored_from(alloc, floor, &entries, &versions) {
         Ok(snapshot) => Ok(snapshot),
-        Err(RestoreFault::Versions) => Err(CheckFault::Unsound),
-        Err(RestoreFault::Memory) => Err(CheckFault::Memory),
+        Err(RebuildFault::Versions) => Err(CheckFault::Unsound),
+        Err(RebuildFault::Memory) => Err(CheckFault::Memory),
     }
 }
 

@@ -14,7 +14,7 @@ ghost use Rattle.jf_dir.specs.Directories.{ordered};
 use jf_dir::{Directory, restored_from};
 use jf_node::Snapshot;
 use jf_path::{Bytes, Key, Memory, Pairs, SharedBytes};
-use jf_update::{RestoreFault, count_of_nodes};
+use jf_update::{RebuildFault, count_of_nodes};
 use std::alloc::Global;
 
 /// The directory of one version, whose map has these entries. All its nodes are of that version.
@@ -52,7 +52,7 @@ fn imported_snapshot(
     match restored_from(alloc, version, &shared, &versions) {
         Ok(snapshot) => Ok(snapshot),
         // There is a version for each node, so memory ran out.
-        Err(RestoreFault::Versions | RestoreFault::Memory) => Err(Memory),
+        Err(RebuildFault::Versions | RebuildFault::Memory) => Err(Memory),
     }
 }
 

@@ -19,5 +19,5 @@ pub use count::count_of_nodes;
 pub use hashing::value_hashes;
 pub use jf_diff::{Written, written};
 pub use jf_node::Update;
-pub use restore::{RestoreFault, restored};
+pub use restore::{RebuildFault, restored};
 pub use snapshot::{advance, update};

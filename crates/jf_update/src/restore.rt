@@ -11,7 +11,7 @@ ghost use Rattle.jf_model.specs.Nodes.{nodes};
 ghost use Rattle.jf_model.specs.Parts.{IsPartUnder};
 ghost use Rattle.jf_node.specs.Children.{leaf_value};
 ghost use Rattle.jf_update.specs.Restored.{AreShortEntries, AreNodeVersions, IsNewestFirst, IsRestored, IsRestoredPart, AreRestored, part_nodes, nodes_under};
-ghost use Rattle.jf_update.specs.declared.restore.RestoreFault.TheVariants as fault;
+ghost use Rattle.jf_update.specs.declared.restore.RebuildFault.TheVariants as fault;
 
 use crate::piece::piece_end;
 use jf_hash::Hash;
@@ -21,7 +21,7 @@ use std::alloc::Global;
 
 /// Why no snapshot is built.
 #[derive(Clone, Copy, Debug, PartialEq, Eq)]
-pub enum RestoreFault {
+pub enum RebuildFault {
     /// The versions can't be those of the nodes: there are too few or too many, the first isn't the snapshot's, or one
     /// is greater.
     Versions,
@@ -29,11 +29,11 @@ pub enum RestoreFault {
     Memory,
 }
 
-impl From<Memory> for RestoreFault {
+impl From<Memory> for RebuildFault {
     ghost from_gives = { λ _ e. e ≡ fault.Memory };
 
     fn from(_: Memory) -> Self {
-        RestoreFault::Memory
+        RebuildFault::Memory
     }
 }
 
@@ -45,7 +45,7 @@ pub fn restored(
     entries: &[(Key, SharedBytes)],
     hashes: &[Hash],
     versions: &[u64],
-) -> Result<Snapshot, RestoreFault>
+) -> Result<Snapshot, RebuildFault>
     requires sorted { T (is_sorted key_cmp entries.now) }
     requires short { AreShortEntries entries.now }
     requires hashed { hashes.now ≡ map (λ e. V e.1) entries.now }
@@ -54,7 +54,7 @@ pub fn restored(
 {
     know_entries(entries);
     if !is_newest_first(version, versions) {
-        return Err(RestoreFault::Versions);
+        return Err(RebuildFault::Versions);
     }
     if entries.is_empty() {
         return restored_empty(version, versions);
@@ -62,7 +62,7 @@ pub fn restored(
     let mut taken = 0;
     let top = restored_part(alloc, entries, hashes, versions, 0, &mut taken)?;
     if taken != versions.len() {
-        return Err(RestoreFault::Versions);
+        return Err(RebuildFault::Versions);
     }
     Link::know_if(&top);
     Ok(Snapshot::of(version, top))
@@ -93,7 +93,7 @@ fn is_none_greater(version: u64, versions: &[u64]) -> bool
 }
 
 /// The snapshot of no entry. The empty map has one node, the root.
-fn restored_empty(version: u64, versions: &[u64]) -> Result<Snapshot, RestoreFault>
+fn restored_empty(version: u64, versions: &[u64]) -> Result<Snapshot, RebuildFault>
     requires { IsNewestFirst version versions.now }
     ensures restored { IfOk result (IsRestored version [] versions.now) }
     ensures refused { result ≡ Err fault.Versions → ¬ (AreNodeVersions version (nodes (map_of_entries [])) versions.now) }
@@ -101,12 +101,12 @@ fn restored_empty(version: u64, versions: &[u64]) -> Result<Snapshot, RestoreFau
     if versions.len() == 1 {
         Ok(Snapshot::empty(version))
     } else {
-        Err(RestoreFault::Versions)
+        Err(RebuildFault::Versions)
     }
 }
 
 /// Takes the next version.
-fn take_version(versions: &[u64], taken: &mut usize) -> Result<u64, RestoreFault>
+fn take_version(versions: &[u64], taken: &mut usize) -> Result<u64, RebuildFault>
     ensures taken { IfOk result (λ v. (taken.old < length versions.now) × (v ≡ slice_index_or versions.now taken.old 0) × (taken.new ≡ taken.old + 1)) }
     ensures refused { result ≡ Err fault.Versions → length versions.now ≤ taken.old }
 {
@@ -115,7 +115,7 @@ fn take_version(versions: &[u64], taken: &mut usize) -> Result<u64, RestoreFault
         *taken = at + 1;
         Ok(versions[at])
     } else {
-        Err(RestoreFault::Versions)
+        Err(RebuildFault::Versions)
     }
 }
 
@@ -146,7 +146,7 @@ fn restored_part(
     versions: &[u64],
     depth: u64,
     taken: &mut usize,
-) -> Result<Option<Link>, RestoreFault>
+) -> Result<Option<Link>, RebuildFault>
     requires depth { depth ≤ 64 }
     requires part { (path : ℕ → ℕ) × IsPartUnder depth path entries.now }
     requires short { AreShortEntries entries.now }
@@ -179,7 +179,7 @@ fn restored_children(
     versions: &[u64],
     depth: u64,
     taken: &mut usize,
-) -> Result<Sixteen, RestoreFault>
+) -> Result<Sixteen, RebuildFault>
     requires depth { depth < 64 }
     requires part { (path : ℕ → ℕ) × IsPartUnder depth path entries.now }
     requires short { AreShortEntries entries.now }

@@ -9,7 +9,7 @@ use crate::roots::is_rising;
 use jf_hash::{Hash, value};
 use jf_node::{Link, Seen, Snapshot};
 use jf_path::{Key, MAX_VALUE, Memory, Nibble, SharedBytes};
-use jf_update::{RestoreFault, Update, restored};
+use jf_update::{RebuildFault, Update, restored};
 use std::alloc::Global;
 use std::test::Fail;
 use std::thread::Threads;
@@ -96,7 +96,7 @@ fn are_short(entries: &[(Key, SharedBytes)]) -> bool
 }
 
 // The snapshot of the entries as the map of version 2, or why there is none.
-fn rebuilt(alloc: Global, versions: &[u64]) -> Result<Box<Result<Snapshot, RestoreFault>>, Fail> {
+fn rebuilt(alloc: Global, versions: &[u64]) -> Result<Box<Result<Snapshot, RebuildFault>>, Fail> {
     let entries = entries_of(alloc, ENTRIES)?;
     if !is_rising(&entries) || !are_short(&entries) {
         return Err(Fail::new("no map has these entries"));
@@ -111,7 +111,7 @@ fn is_refused(alloc: Global, versions: &[u64]) -> Result<bool, Fail> {
     let built = rebuilt(alloc, versions)?;
     match &*built {
         Ok(_) => Ok(false),
-        Err(fault) => Ok(*fault == RestoreFault::Versions),
+        Err(fault) => Ok(*fault == RebuildFault::Versions),
     }
 }
 
