@@ -190,5 +190,5 @@ told_never : (lines : List (List ℕ)) → IsSession (timeline_of start (first �
 told_never lines h = elim h.entries as (λ o. ⊥) [ inl same ↦ absurd (cc) | inr more ↦ absurd (cc (more.0)) ]
 
 -- a landing that no session made isn't explained
-by_nobody : (outputs : List (List ℕ)) (wanted : List ℕ) → Explains start (first ∷ []) ((codes "commit" ∷ []) ∷ []) outputs wanted → ⊥
-by_nobody outputs wanted h = let owner = h.explained.owners.0 in absurd (omega arith)
+by_nobody : (outputs : List (List ℕ)) (out_of_memory : List ℕ) → Explains start (first ∷ []) ((codes "commit" ∷ []) ∷ []) outputs out_of_memory → ⊥
+by_nobody outputs out_of_memory h = let owner = h.explained.owners.0 in absurd (omega arith)

@@ -136,31 +136,31 @@ pub record GaveOneMore (h : Timeline) (s : ℕ) (lines : List (List ℕ)) (rs : 
   pub places : places_owned s 0 h.entries ≡ places_told rs ++ unwritten.number ∷ []
 
 -- the entries of a session are those that its lines gave, each at its own place; a session that ran out of memory may have one more, without a reply
-pub record IsSession (h : Timeline) (wanted : List ℕ) (s : ℕ) (lines : List (List ℕ)) (rs : List Answered) : Type 0 where
+pub record IsSession (h : Timeline) (out_of_memory : List ℕ) (s : ℕ) (lines : List (List ℕ)) (rs : List Answered) : Type 0 where
   pub replies : AreAnswered h (begun_session s) 0 lines rs
-  pub entries : (places_owned s 0 h.entries ≡ places_told rs) ⊎ (IsAmong wanted s × GaveOneMore h s lines rs)
+  pub entries : (places_owned s 0 h.entries ≡ places_told rs) ⊎ (IsAmong out_of_memory s × GaveOneMore h s lines rs)
 
 -- sessions from number s on, one for each script
 abbrev pub AreSessions : Timeline → List ℕ → ℕ → List (List (List ℕ)) → List (List Answered) → Type 0
-AreSessions h wanted s [] [] = Unit {0}
-AreSessions h wanted s [] (rs ∷ rss) = ⊥
-AreSessions h wanted s (lines ∷ scripts) [] = ⊥
-AreSessions h wanted s (lines ∷ scripts) (rs ∷ rss) = IsSession h wanted s lines rs × AreSessions h wanted (s + 1) scripts rss
+AreSessions h out_of_memory s [] [] = Unit {0}
+AreSessions h out_of_memory s [] (rs ∷ rss) = ⊥
+AreSessions h out_of_memory s (lines ∷ scripts) [] = ⊥
+AreSessions h out_of_memory s (lines ∷ scripts) (rs ∷ rss) = IsSession h out_of_memory s lines rs × AreSessions h out_of_memory (s + 1) scripts rss
 
 -- a history with the versions that lines of these scripts ask to pin
 abbrev pub timeline_of : State → List Entry → List (List (List ℕ)) → Timeline
 timeline_of s entries scripts = record { start = s; entries = entries; pins = pins_of scripts }
 
 -- a legal history explains the replies to all sessions, and each entry was made by one of them
-pub record ExplainsAnswers (s : State) (entries : List Entry) (scripts : List (List (List ℕ))) (replies : List (List Answered)) (wanted : List ℕ) : Type 0 where
+pub record ExplainsAnswers (s : State) (entries : List Entry) (scripts : List (List (List ℕ))) (replies : List (List Answered)) (out_of_memory : List ℕ) : Type 0 where
   pub history : IsHistory s entries
   pub owners : AllByRecursion (λ e. owner_of e < length scripts) entries
-  pub sessions : AreSessions (timeline_of s entries scripts) wanted 0 scripts replies
+  pub sessions : AreSessions (timeline_of s entries scripts) out_of_memory 0 scripts replies
 
--- a legal history explains what all sessions wrote; the sessions of `wanted` ran out of memory
-pub record Explains (s : State) (entries : List Entry) (scripts : List (List (List ℕ))) (outputs : List (List ℕ)) (wanted : List ℕ) : Type 0 where
+-- a legal history explains what all sessions wrote; the sessions of `out_of_memory` ran out of memory
+pub record Explains (s : State) (entries : List Entry) (scripts : List (List (List ℕ))) (outputs : List (List ℕ)) (out_of_memory : List ℕ) : Type 0 where
   pub replies : List (List Answered)
-  pub explained : ExplainsAnswers s entries scripts replies wanted
+  pub explained : ExplainsAnswers s entries scripts replies out_of_memory
   pub texts : outputs ≡ map text_in replies
 
 -- the entry that the first line without a reply would give over all entries

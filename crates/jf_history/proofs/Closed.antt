@@ -16,11 +16,12 @@ use Rattle.jf_store.specs.declared.event.Event.{Event}
 use Rattle.jf_store.specs.declared.event.Event.TheVariants.{Done, Mark}
 use Rattle.jf_store.specs.Events.{pass_named_by, entries_of, attempt_of, is_marked}
 use Rattle.jf_store.specs.Starts.{Start}
-use Rattle.jf_store.specs.Ledgers.{MarkIsLast, state_behind}
+use Rattle.jf_store.specs.Ledgers.{MarkIsLast, state_after_events}
 use Rattle.jf_store.specs.Floors.{IsMet, AreMet}
 use Rattle.jf_store.specs.Passes.{Store, Pass, OthersAlone}
 use Rattle.jf_store.specs.Closing.{IsClosed, WasAnnounced}
 use Rattle.jf_store.proofs.EventLaws.{entries_of-append, entries_of-mark, attempt_of-append}
+use Rattle.jf_store.proofs.ClosingLaws.{starts_further}
 use Rattle.jf_answers.specs.Own.{Own, begun_session}
 use Rattle.jf_answers.specs.OwnLines.{pin_of}
 use Rattle.jf_answers.specs.Explains.{Timeline, IsAmong, Answered, AreAnswered, Looks, Changes, GivesEntry, GaveOneMore, IsSession, AreSessions, IsAttempt, next_line, own_after_replies, seen_after_replies, places_owned, places_told, pins_of, timeline_of}
@@ -31,7 +32,7 @@ use Rattle.jf_history.specs.declared.end.End.{End}
 use Rattle.jf_history.specs.declared.end.End.TheVariants as end
 use Rattle.jf_history.specs.Laws.{ClosedExplains, ClosedTries, ClosedBlames}
 use Rattle.jf_history.proofs.Announced.{among-front, among-back, named-front, named-at}
-use Rattle.jf_history.proofs.Fronts.{starts_on, AreMet-front, AreAnswered-front, answers-at}
+use Rattle.jf_history.proofs.Fronts.{AreMet-front, AreAnswered-front, answers-at}
 use Rattle.jf_history.proofs.Places.{places_on}
 use Rattle.jf_history.proofs.Later.{stay}
 
@@ -96,7 +97,7 @@ try_rests start mid last line next t =
     let seen : last.pass.seen ≡ t.before ++ Mark mid.pass.number t.attempt ∷ [] = ap (λ (p : Pass). p.seen) t.sees.last in
     let place : last.pass.place ≡ mid.pass.place = ap (λ (p : Pass). p.place) t.sees.last in
     record {
-      begins = starts_on last.pass.seen t.before mid.pass.seen (Mark mid.pass.number t.attempt ∷ [], seen) t.sees.begins;
+      begins = starts_further last.pass.seen t.before mid.pass.seen (Mark mid.pass.number t.attempt ∷ [], seen) t.sees.begins;
       number = ap (λ (p : Pass). p.number) t.sees.last;
       announced = λ version h. inl (subst (λ (v : _). HasElement v.announced version) place h);
       places = ap (λ (xs : List Event). places_owned mid.pass.number 0 (entries_of xs)) seen ∙ ap (places_owned mid.pass.number 0) (entries_of-mark t.before mid.pass.number t.attempt) ∙ places_on mid.pass t.before t.sees.begins t.sees.others;
@@ -112,7 +113,7 @@ ends_rest end.Memory start mid last next h = at_rest mid last next h
 
 -- ---- what a session announced
 
-module _ (store : Store) (wanted : List ℕ) (n : ℕ) (s : Served) (served : IsServed store wanted n s) where
+module _ (store : Store) (out_of_memory : List ℕ) (n : ℕ) (s : Served) (served : IsServed store out_of_memory n s) where
   mid_named : (version : ℕ) → HasElement served.mid.pass.place.announced version → IsAmong (filter_map pin_of s.script) version
   mid_named version there = elim (served.answered.announced version there) as (λ o. IsAmong (filter_map pin_of s.script) version) [
     | inl before ↦ absurd (some-ne-none version (sym before.1))
@@ -133,28 +134,28 @@ module _ (store : Store) (wanted : List ℕ) (n : ℕ) (s : Served) (served : Is
   pub pass_named : (version : ℕ) → HasElement s.pass.place.announced version → IsAmong (filter_map pin_of s.script) version
   pass_named version there = last_named version (subst (λ (p : Pass). HasElement p.place.announced version) served.pass_is there)
 
-all_named : (store : Store) (wanted : List ℕ) (n : ℕ) (ss : List Served) → AreServed store wanted n ss → (p : Pass) → HasElement (passes_of ss) p → (version : ℕ) → HasElement p.place.announced version → IsAmong (pins_of (scripts_of ss)) version
-all_named store wanted n [] h p there version has = absurd (some-ne-none p (sym there.1))
-all_named store wanted n (s ∷ ss) h p there version has = elim (has_cons s.pass (passes_of ss) p there) as (λ o. IsAmong (filter_map pin_of s.script ++ pins_of (scripts_of ss)) version) [
-  | inl same ↦ among-front (filter_map pin_of s.script) (pins_of (scripts_of ss)) version (pass_named store wanted n s h.0 version (subst (λ (q : Pass). HasElement q.place.announced version) (sym same) has))
-  | inr later ↦ among-back (filter_map pin_of s.script) (pins_of (scripts_of ss)) version (all_named store wanted (n + 1) ss h.1 p later version has)
+all_named : (store : Store) (out_of_memory : List ℕ) (n : ℕ) (ss : List Served) → AreServed store out_of_memory n ss → (p : Pass) → HasElement (passes_of ss) p → (version : ℕ) → HasElement p.place.announced version → IsAmong (pins_of (scripts_of ss)) version
+all_named store out_of_memory n [] h p there version has = absurd (some-ne-none p (sym there.1))
+all_named store out_of_memory n (s ∷ ss) h p there version has = elim (has_cons s.pass (passes_of ss) p there) as (λ o. IsAmong (filter_map pin_of s.script ++ pins_of (scripts_of ss)) version) [
+  | inl same ↦ among-front (filter_map pin_of s.script) (pins_of (scripts_of ss)) version (pass_named store out_of_memory n s h.0 version (subst (λ (q : Pass). HasElement q.place.announced version) (sym same) has))
+  | inr later ↦ among-back (filter_map pin_of s.script) (pins_of (scripts_of ss)) version (all_named store out_of_memory (n + 1) ss h.1 p later version has)
 ]
 
-closed_met : (store : Store) (wanted : List ℕ) (ss : List Served) (events : List Event) → AreServed store wanted 0 ss → AreMet (WasAnnounced (passes_of ss)) store.start.state events → HaveMet (pins_of (scripts_of ss)) store.start events
-closed_met store wanted ss events served met =
+closed_met : (store : Store) (out_of_memory : List ℕ) (ss : List Served) (events : List Event) → AreServed store out_of_memory 0 ss → AreMet (WasAnnounced (passes_of ss)) store.start.state events → HaveMet (pins_of (scripts_of ss)) store.start events
+closed_met store out_of_memory ss events served met =
     AreMet-weaker (WasAnnounced (passes_of ss)) (λ pin. IsAmong (pins_of (scripts_of ss)) pin.1)
-    (λ pin x. all_named store wanted 0 ss served x.0 x.1 pin.1 x.3) store.start.state events met
+    (λ pin x. all_named store out_of_memory 0 ss served x.0 x.1 pin.1 x.3) store.start.state events met
 
 -- ---- one session
 
-module _ (store : Store) (events : List Event) (wanted pins : List ℕ) (met : HaveMet pins store.start events) where
+module _ (store : Store) (events : List Event) (out_of_memory pins : List ℕ) (met : HaveMet pins store.start events) where
   abbrev h : Timeline
   h = timeline store.start pins events
 
   longer : (seen : List Event) (begins : StartsWith events seen) → record { start = store.start.state; entries = entries_of seen ++ entries_of begins.0; pins = pins } ≡ h
   longer seen begins = ap (λ (es : List Entry). record { start = store.start.state; entries = es; pins = pins }) (sym (ap entries_of begins.1 ∙ entries_of-append seen begins.0))
 
-  module _ (n : ℕ) (s : Served) (served : IsServed store wanted n s) (begins : StartsWith events s.pass.seen) (others : OthersAlone s.pass events) where
+  module _ (n : ℕ) (s : Served) (served : IsServed store out_of_memory n s) (begins : StartsWith events s.pass.seen) (others : OthersAlone s.pass events) where
     last_begins : StartsWith events served.last.pass.seen
     last_begins = subst (λ (p : Pass). StartsWith events p.seen) served.pass_is begins
 
@@ -168,7 +169,7 @@ module _ (store : Store) (events : List Event) (wanted pins : List ℕ) (met : H
     number_last = rests.number ∙ numbered
 
     mid_begins : StartsWith events served.mid.pass.seen
-    mid_begins = starts_on events served.last.pass.seen served.mid.pass.seen last_begins rests.begins
+    mid_begins = starts_further events served.last.pass.seen served.mid.pass.seen last_begins rests.begins
 
     -- all replies that the session had
     all_answered : AreAnswered h (begun_session n) 0 s.script served.had
@@ -186,14 +187,14 @@ module _ (store : Store) (events : List Event) (wanted pins : List ℕ) (met : H
         ∙ subst (λ (k : ℕ). places_owned k 0 (seen_by served.last.pass) ≡ places_owned k 0 (seen_by served.mid.pass)) numbered rests.places ∙ served.answered.places
 
     abbrev Result : List Answered → Type 0
-    Result rs = (places_owned n 0 (entries_of events) ≡ places_told rs) ⊎ (IsAmong wanted n × GaveOneMore h n s.script rs)
+    Result rs = (places_owned n 0 (entries_of events) ≡ places_told rs) ⊎ (IsAmong out_of_memory n × GaveOneMore h n s.script rs)
 
     changes_only : (own : Own) (seen : ℕ) (line : List ℕ) (r : Answered) (e : Entry) → Looks h own seen line r ⊎ Changes h own seen line r → r.entry ≡ Some e → Changes h own seen line r
     changes_only own seen line r e (inl l) given = absurd (let x : None ≡ Some e = sym l.none ∙ given in cc)
     changes_only own seen line r e (inr c) given = c
 
     -- the first missing reply may be to a line that gave an entry
-    missing : IsAmong wanted n → (l : LosesReplies served.had s.replies) → Result (take l.count served.had)
+    missing : IsAmong out_of_memory n → (l : LosesReplies served.had s.replies) → Result (take l.count served.had)
     missing among l =
         let a = answers-at h (begun_session n) 0 l.count s.script served.had all_answered l.within in
         let places = all_places ∙ a.places l.quiet in
@@ -212,8 +213,8 @@ module _ (store : Store) (events : List Event) (wanted pins : List ℕ) (met : H
           )
         ] refl
 
-    pub session_of : IsSession h wanted n s.script s.replies
-    session_of = elim served.told as (λ o. IsSession h wanted n s.script s.replies) [
+    pub session_of : IsSession h out_of_memory n s.script s.replies
+    session_of = elim served.told as (λ o. IsSession h out_of_memory n s.script s.replies) [
       | inl same ↦ record {
         replies = subst (λ (rs : List Answered). AreAnswered h (begun_session n) 0 s.script rs) (sym same) all_answered;
         entries = inl (all_places ∙ ap places_told (sym same));
@@ -226,12 +227,12 @@ module _ (store : Store) (events : List Event) (wanted pins : List ℕ) (met : H
 
 -- ---- all sessions
 
-sessions_of : (store : Store) (events : List Event) (wanted pins : List ℕ) (met : HaveMet pins store.start events) (n : ℕ) (ss : List Served) → AreServed store wanted n ss
-    → ((p : Pass) → HasElement (passes_of ss) p → StartsWith events p.seen) → ((p : Pass) → HasElement (passes_of ss) p → OthersAlone p events) → AreSessions (timeline store.start pins events) wanted n (scripts_of ss) (replies_of ss)
-sessions_of store events wanted pins met n [] h seen others = tt
-sessions_of store events wanted pins met n (s ∷ ss) h seen others = (
-  session_of store events wanted pins met n s h.0 (seen s.pass (0, refl)) (others s.pass (0, refl)),
-  sessions_of store events wanted pins met (n + 1) ss h.1 (λ p has. seen p (suc has.0, has.1)) (λ p has. others p (suc has.0, has.1)),
+sessions_of : (store : Store) (events : List Event) (out_of_memory pins : List ℕ) (met : HaveMet pins store.start events) (n : ℕ) (ss : List Served) → AreServed store out_of_memory n ss
+    → ((p : Pass) → HasElement (passes_of ss) p → StartsWith events p.seen) → ((p : Pass) → HasElement (passes_of ss) p → OthersAlone p events) → AreSessions (timeline store.start pins events) out_of_memory n (scripts_of ss) (replies_of ss)
+sessions_of store events out_of_memory pins met n [] h seen others = tt
+sessions_of store events out_of_memory pins met n (s ∷ ss) h seen others = (
+  session_of store events out_of_memory pins met n s h.0 (seen s.pass (0, refl)) (others s.pass (0, refl)),
+  sessions_of store events out_of_memory pins met (n + 1) ss h.1 (λ p has. seen p (suc has.0, has.1)) (λ p has. others p (suc has.0, has.1)),
 )
 
 owners_of : (bound : ℕ) (events : List Event) → AllByRecursion (λ x. pass_named_by x < bound) events → AllByRecursion (λ e. owner_of e < bound) (entries_of events)
@@ -240,25 +241,25 @@ owners_of bound (Done e ∷ xs) h = (h.0, owners_of bound xs h.1)
 owners_of bound (Mark pass e ∷ xs) h = owners_of bound xs h.1
 
 pub closed_explains : ClosedExplains
-closed_explains store ss wanted entries engine passes closed served =
-    let met = closed_met store wanted ss closed.events served closed.met in
+closed_explains store ss out_of_memory entries engine passes closed served =
+    let met = closed_met store out_of_memory ss closed.events served closed.met in
     let same = sym closed.entries_are in
     let many : store.start.passes ≡ length (scripts_of ss) = passes ∙ sym (length-map ss (λ (s : Served). s.script)) in
     record {
       history = subst (IsHistory store.start.state) same closed.history.history;
       owners = subst (λ (es : List Entry). AllByRecursion (λ e. owner_of e < length (scripts_of ss)) es) same
           (subst (λ (bound : ℕ). AllByRecursion (λ e. owner_of e < bound) (entries_of closed.events)) many (owners_of store.start.passes closed.events closed.history.named));
-      sessions = subst (λ (es : List Entry). AreSessions (timeline_of store.start.state es (scripts_of ss)) wanted 0 (scripts_of ss) (replies_of ss)) same
-          (sessions_of store closed.events wanted (pins_of (scripts_of ss)) met 0 ss served closed.seen closed.others);
+      sessions = subst (λ (es : List Entry). AreSessions (timeline_of store.start.state es (scripts_of ss)) out_of_memory 0 (scripts_of ss) (replies_of ss)) same
+          (sessions_of store closed.events out_of_memory (pins_of (scripts_of ss)) met 0 ss served closed.seen closed.others);
     }
 
 -- ---- where the disk failed
 
-served_at : (store : Store) (wanted : List ℕ) (n : ℕ) (xs : List Served) (s : Served) (ys : List Served) → AreServed store wanted n (xs ++ s ∷ ys) → IsServed store wanted (n + length xs) s
-served_at store wanted n [] s ys h = let e : n ≡ n + 0 = omega arith in subst (λ (k : ℕ). IsServed store wanted k s) e h.0
-served_at store wanted n (x ∷ xs) s ys h =
+served_at : (store : Store) (out_of_memory : List ℕ) (n : ℕ) (xs : List Served) (s : Served) (ys : List Served) → AreServed store out_of_memory n (xs ++ s ∷ ys) → IsServed store out_of_memory (n + length xs) s
+served_at store out_of_memory n [] s ys h = let e : n ≡ n + 0 = omega arith in subst (λ (k : ℕ). IsServed store out_of_memory k s) e h.0
+served_at store out_of_memory n (x ∷ xs) s ys h =
     let far : n + 1 + length xs ≡ n + length (x ∷ xs) = omega arith in
-    subst (λ (k : ℕ). IsServed store wanted k s) far (served_at store wanted (n + 1) xs s ys h.1)
+    subst (λ (k : ℕ). IsServed store out_of_memory k s) far (served_at store out_of_memory (n + 1) xs s ys h.1)
 
 pub pass_there : (xs : List Served) (s : Served) (ys : List Served) → HasElement (passes_of (xs ++ s ∷ ys)) s.pass
 pass_there [] s ys = (0, refl)
@@ -269,8 +270,8 @@ none_later s [] pass e rest m none = m.0
 none_later s (Done x ∷ xs) pass e rest m none = none_later s xs pass e rest m none
 none_later s (Mark p x ∷ xs) pass e rest m none = absurd (cc)
 
-module _ (store : Store) (events : List Event) (wanted pins : List ℕ) (entries : List Entry) (entries_are : entries ≡ entries_of events) (met : HaveMet pins store.start events) (marked : MarkIsLast (state_behind store.start events) events)
-    (n : ℕ) (s : Served) (served : IsServed store wanted n s) (begins : StartsWith events s.pass.seen) (fault : s.how ≡ end.DiskFault) where
+module _ (store : Store) (events : List Event) (out_of_memory pins : List ℕ) (entries : List Entry) (entries_are : entries ≡ entries_of events) (met : HaveMet pins store.start events) (marked : MarkIsLast (state_after_events store.start events) events)
+    (n : ℕ) (s : Served) (served : IsServed store out_of_memory n s) (begins : StartsWith events s.pass.seen) (fault : s.how ≡ end.DiskFault) where
   abbrev Tried : Type 0
   Tried = (e : Entry) × (attempt_of events ≡ Some e) × IsAttempt (record { start = store.start.state; entries = entries; pins = pins }) n s.script s.replies e
 
@@ -285,7 +286,7 @@ module _ (store : Store) (events : List Event) (wanted pins : List ℕ) (entries
       let seen : served.last.pass.seen ≡ t.before ++ Mark served.mid.pass.number t.attempt ∷ [] = ap (λ (p : Pass). p.seen) t.sees.last in
       let front : StartsWith events served.last.pass.seen = subst (λ (p : Pass). StartsWith events p.seen) served.pass_is begins in
       let split : events ≡ (t.before ++ Mark served.mid.pass.number t.attempt ∷ []) ++ front.0 = front.1 ∙ ap (λ xs. xs ++ front.0) seen in
-      let rest = none_later (state_behind store.start events) t.before served.mid.pass.number t.attempt front.0 (subst (MarkIsLast (state_behind store.start events)) split marked) t.sees.unmarked in
+      let rest = none_later (state_after_events store.start events) t.before served.mid.pass.number t.attempt front.0 (subst (MarkIsLast (state_after_events store.start events)) split marked) t.sees.unmarked in
       let whole : events ≡ t.before ++ Mark served.mid.pass.number t.attempt ∷ [] =
       split ∙ ap (λ xs. (t.before ++ Mark served.mid.pass.number t.attempt ∷ []) ++ xs) rest ∙ append-nil (t.before ++ Mark served.mid.pass.number t.attempt ∷ []) in
       let same : entries_of t.before ≡ entries = sym (entries_are ∙ ap entries_of whole ∙ entries_of-mark t.before served.mid.pass.number t.attempt) in
@@ -294,7 +295,7 @@ module _ (store : Store) (events : List Event) (wanted pins : List ℕ) (entries
         ap attempt_of whole ∙ attempt_of-append t.before (Mark served.mid.pass.number t.attempt ∷ []) t.sees.unmarked,
         record {
           line = line;
-          next = ap (next_line s.script) told_all ∙ next_there store wanted n s served line next;
+          next = ap (next_line s.script) told_all ∙ next_there store out_of_memory n s served line next;
           gives =
               subst (λ (o : Own). GivesEntry (record { start = store.start.state; entries = entries; pins = pins }) (replay store.start.state entries) o line t.attempt) (served.answered.own ∙ ap (own_after_replies (begun_session n)) (sym told_all))
               (subst (λ (es : List Entry). GivesEntry (record { start = store.start.state; entries = es; pins = pins }) (replay store.start.state es) served.mid.own line t.attempt) same gives);
@@ -305,10 +306,10 @@ module _ (store : Store) (events : List Event) (wanted pins : List ℕ) (entries
   tried_of = let x = subst (λ (e : End). EndsBy e store.start served.mid served.last served.next) fault served.ends in tried_at x.0 x.1 x.2
 
 pub closed_tries : ClosedTries
-closed_tries store before after s wanted entries engine passes closed served fault =
+closed_tries store before after s out_of_memory entries engine passes closed served fault =
     let at : 0 + length before ≡ length before = omega arith in
-    let one = subst (λ (k : ℕ). IsServed store wanted k s) at (served_at store wanted 0 before s after served) in
-    tried_of store closed.events wanted (pins_of (scripts_of (before ++ s ∷ after))) entries closed.entries_are (closed_met store wanted (before ++ s ∷ after) closed.events served closed.met) closed.history.marked
+    let one = subst (λ (k : ℕ). IsServed store out_of_memory k s) at (served_at store out_of_memory 0 before s after served) in
+    tried_of store closed.events out_of_memory (pins_of (scripts_of (before ++ s ∷ after))) entries closed.entries_are (closed_met store out_of_memory (before ++ s ∷ after) closed.events served closed.met) closed.history.marked
     (length before) s one (closed.seen s.pass (pass_there before s after)) fault
 
 -- ---- whose attempt it is
@@ -354,8 +355,8 @@ fault_of end.DiskFault start mid last next pass e ends none number there = refl
 fault_of end.Broken start mid last next pass e ends none number there = absurd (idle_unmarked mid last ends.0 pass e ends.2.idle none number there)
 fault_of end.Memory start mid last next pass e ends none number there = absurd (rest_unmarked mid last next pass e ends none number there)
 
-served_fault : (store : Store) (events : List Event) (wanted : List ℕ) (n : ℕ) (s : Served) (e : Entry) → IsServed store wanted n s → StartsWith events s.pass.seen → OthersAlone s.pass events → HasElement events (Mark n e) → s.how ≡ end.DiskFault
-served_fault store events wanted n s e served begins others there =
+served_fault : (store : Store) (events : List Event) (out_of_memory : List ℕ) (n : ℕ) (s : Served) (e : Entry) → IsServed store out_of_memory n s → StartsWith events s.pass.seen → OthersAlone s.pass events → HasElement events (Mark n e) → s.how ≡ end.DiskFault
+served_fault store events out_of_memory n s e served begins others there =
     let numbered : served.mid.pass.number ≡ n = ap (λ (p : Pass). p.number) served.answered.same in
     let front = subst (λ (p : Pass). StartsWith events p.seen) served.pass_is begins in
     let alone = subst (λ (p : Pass). OthersAlone p events) served.pass_is others in
@@ -389,23 +390,23 @@ around (s ∷ ss) (suc n) lt =
     let r = around ss n (omega arith) in
     record { before = s ∷ r.before; here = r.here; after = r.after; split = ap (λ xs. s ∷ xs) r.split; many = (let m = r.many in omega arith) }
 
-module _ (store : Store) (ss : List Served) (wanted : List ℕ) (entries : List Entry) (engine : Engine) (e : Entry) (closed : IsClosed store.start (passes_of ss) entries engine) (served : AreServed store wanted 0 ss)
+module _ (store : Store) (ss : List Served) (out_of_memory : List ℕ) (entries : List Entry) (engine : Engine) (e : Entry) (closed : IsClosed store.start (passes_of ss) entries engine) (served : AreServed store out_of_memory 0 ss)
     (is : attempt_of closed.events ≡ Some e) (pass : ℕ) (there : HasElement closed.events (Mark pass e)) (a : Around ss pass) where
-  one_served : IsServed store wanted (length a.before) a.here
+  one_served : IsServed store out_of_memory (length a.before) a.here
   one_served =
       let at : 0 + length a.before ≡ length a.before = omega arith in
-      subst (λ (k : ℕ). IsServed store wanted k a.here) at (served_at store wanted 0 a.before a.here a.after (subst (AreServed store wanted 0) a.split served))
+      subst (λ (k : ℕ). IsServed store out_of_memory k a.here) at (served_at store out_of_memory 0 a.before a.here a.after (subst (AreServed store out_of_memory 0) a.split served))
 
   here_passes : HasElement (passes_of ss) a.here.pass
   here_passes = subst (λ (xs : List Served). HasElement (passes_of xs) a.here.pass) (sym a.split) (pass_there a.before a.here a.after)
 
   here_fault : a.here.how ≡ end.DiskFault
-  here_fault = served_fault store closed.events wanted (length a.before) a.here e one_served (closed.seen a.here.pass here_passes) (closed.others a.here.pass here_passes)
+  here_fault = served_fault store closed.events out_of_memory (length a.before) a.here e one_served (closed.seen a.here.pass here_passes) (closed.others a.here.pass here_passes)
       (subst (λ (k : ℕ). HasElement closed.events (Mark k e)) (sym a.many) there)
 
   failed_in : FailedIn store.start.state entries ss e
   failed_in =
-      let tried = tried_of store closed.events wanted (pins_of (scripts_of ss)) entries closed.entries_are (closed_met store wanted ss closed.events served closed.met) closed.history.marked
+      let tried = tried_of store closed.events out_of_memory (pins_of (scripts_of ss)) entries closed.entries_are (closed_met store out_of_memory ss closed.events served closed.met) closed.history.marked
       (length a.before) a.here one_served (closed.seen a.here.pass here_passes) here_fault in
       let both : Some tried.0 ≡ Some e = sym tried.1 ∙ is in
       let same : tried.0 ≡ e = cc in
@@ -419,7 +420,7 @@ module _ (store : Store) (ss : List Served) (wanted : List ℕ) (entries : List 
       }
 
 pub closed_blames : ClosedBlames
-closed_blames store ss wanted entries engine e passes closed served is =
+closed_blames store ss out_of_memory entries engine e passes closed served is =
     let m = mark_of closed.events e is in
     let below = named_at_most store.start.passes closed.events (Mark m.0 e) closed.history.named m.1 in
-    failed_in store ss wanted entries engine e closed served is m.0 m.1 (around ss m.0 (omega arith))
+    failed_in store ss out_of_memory entries engine e closed served is m.0 m.1 (around ss m.0 (omega arith))

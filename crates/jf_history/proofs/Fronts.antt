@@ -17,9 +17,6 @@ use Rattle.jf_history.specs.Sessions.{HeldFloor, entry_place}
 use Rattle.jf_history.specs.Runs.{AreHeld}
 
 -- ---- events
-pub starts_on : (a b c : List Event) → StartsWith a b → StartsWith b c → StartsWith a c
-starts_on a b c s t = (t.0 ++ s.0, s.1 ∙ (ap (λ xs. xs ++ s.0) t.1 ∙ append_assoc c t.0 s.0))
-
 pub AreMet-front : (P : ℕ × ℕ → Type 0) (s : State) (xs ys : List Event) → AreMet P s (xs ++ ys) → AreMet P s xs
 AreMet-front P s [] ys h = tt
 AreMet-front P s (Done e ∷ xs) ys h = (h.0, AreMet-front P (after e s) xs ys h.1)

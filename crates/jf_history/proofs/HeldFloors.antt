@@ -13,7 +13,7 @@ use Rattle.jf_store.specs.declared.event.Event.{Event}
 use Rattle.jf_store.specs.declared.event.Event.TheVariants.{Done, Mark}
 use Rattle.jf_store.specs.Events.{entries_of}
 use Rattle.jf_store.specs.Starts.{Start}
-use Rattle.jf_store.specs.Ledgers.{AreEvents, MarkIsLast, state_behind}
+use Rattle.jf_store.specs.Ledgers.{AreEvents, MarkIsLast, state_after_events}
 use Rattle.jf_store.specs.Floors.{IsMet, AreMet}
 use Rattle.jf_answers.specs.Own.{Own}
 use Rattle.jf_answers.specs.Answers.{Answer, answer, retired_below}
@@ -61,7 +61,7 @@ all_met pins s last (Mark pass e ∷ es) among legal is marked =
     )
 
 pub HaveMet-floors : (start : Start) (events : List Event) → AreEvents start events → HaveMet (floors_of events) start events
-HaveMet-floors start events h = all_met (floors_of events) start.state (state_behind start events) events (among_all (floors_of events)) h.history.each refl h.marked
+HaveMet-floors start events h = all_met (floors_of events) start.state (state_after_events start events) events (among_all (floors_of events)) h.history.each refl h.marked
 
 -- ---- the floor of a session that is alone
 -- the least of a number and the versions pinned is at most each of them

@@ -1,5 +1,5 @@
 -- A whole run of a session that is alone on its store.
-use Rattle.std.proofs.Common.{◌≡◌, ℕ, zero, suc, ◌-◌, ◌<◌, ◌≤◌, Option, Some, None, List, [], ◌∷◌, ◌++◌, map, take, length, refl, sym, ap, ◌∙◌, subst, arith, min}
+use Rattle.std.proofs.Common.{◌≡◌, ℕ, zero, suc, ◌-◌, ◌<◌, ◌≤◌, Option, Some, None, List, [], ◌∷◌, ◌++◌, map, take, length, refl, sym, ap, ◌∙◌, subst, arith, min, inl, inr}
 use Rattle.std.proofs.lemmas.List.{length-take, take-map}
 use Rattle.std.specs.List.{concat}
 use Rattle.jf_io.specs.LinesRead.{lines_read, AreFirst}
@@ -91,10 +91,10 @@ module _ (store : Store) (new : Pass) (rest rest' text text' : Option (List ℕ)
   seen_last : (e : End) (r : HasRunOver e store.start (new_pass store 0) new rest rest' text text') → AreEvents store.start r.last.pass.seen
   seen_last e r = subst (λ (p : Pass). AreEvents store.start p.seen) r.pass_is are
 
-  -- a run whose output has the replies to all lines done
-  ran_whole : (e : End) (r : HasRunOver e store.start (new_pass store 0) new rest rest' text text') → (r.writes.text ≡ text_of (answers store.start.state r.done) → WritesAlone e store.start.state r.done r.writes.text) → r.writes.text ≡ text_in r.replies
+  -- a run whose output follows from the replies to all lines done
+  ran_texts : (e : End) (r : HasRunOver e store.start (new_pass store 0) new rest rest' text text') → (map (λ (a : Answered). a.text) r.replies ≡ texts_of (answers store.start.state r.done) → WritesAlone e store.start.state r.done r.writes.text)
       → RanAlone e store.start.state (seen_by new) (attempt_of new.seen) rest rest' text text'
-  ran_whole e r writes by =
+  ran_texts e r writes =
       let g = one_end_is_alone store e r.mid r.last r.done r.replies r.next one none (seen_last e r) r.answered r.ends in
       record {
         done = r.done;
@@ -103,10 +103,26 @@ module _ (store : Store) (new : Pass) (rest rest' text text' : Option (List ℕ)
         state = ap (λ (p : Pass). replay store.start.state (seen_by p)) r.pass_is ∙ g.0.state;
         tried = subst (λ (p : Pass). TriesAlone e (answers store.start.state r.done) r.next (attempt_of p.seen)) (sym r.pass_is) g.1;
         written = r.writes.text;
-        writes = writes (by ∙ ap concat g.0.texts);
+        writes = writes g.0.texts;
         appended = r.writes.appended;
         reads = r.reads;
       }
+
+  -- one whose output has the replies to all of them
+  ran_whole : (e : End) (r : HasRunOver e store.start (new_pass store 0) new rest rest' text text') → (r.writes.text ≡ text_of (answers store.start.state r.done) → WritesAlone e store.start.state r.done r.writes.text) → r.writes.text ≡ text_in r.replies
+      → RanAlone e store.start.state (seen_by new) (attempt_of new.seen) rest rest' text text'
+  ran_whole e r writes by = ran_texts e r (λ texts. writes (by ∙ ap concat texts))
+
+  -- and one that may lack the reply to the last
+  ran_but_last : (r : HasRunOver end.Memory store.start (new_pass store 0) new rest rest' text text') → RanAlone end.Memory store.start.state (seen_by new) (attempt_of new.seen) rest rest' text text'
+  ran_but_last r = ran_texts end.Memory r (λ texts. elim r.writes.by [
+    | inl whole ↦ inl (whole ∙ ap concat texts)
+    | inr less ↦
+        let fewer : texts_of (answers store.start.state (take (length r.done - 1) r.done)) ≡ map (λ (a : Answered). a.text) (take (length r.replies - 1) r.replies) =
+        texts_of-take store.start.state (begun_session 0) (length r.done - 1) r.done ∙ ap (λ n. take (n - 1) (texts_of (answers store.start.state r.done))) (sym r.answered.all)
+        ∙ ap (take (length r.replies - 1)) (sym texts) ∙ take-map (λ (a : Answered). a.text) (length r.replies - 1) r.replies in
+        inr (less ∙ sym (ap concat fewer))
+  ])
 
   -- a run whose output was cut
   cut_reads : (e : End) → ((taken left : List ℕ) (ls : List (List ℕ)) → ReadsBy e taken left ls) → (ls : List (List ℕ)) (n : ℕ) (next : Option (List ℕ))
@@ -146,4 +162,4 @@ one_run_is_alone store end.DiskFault new rest rest' text text' one none are r = 
 one_run_is_alone store end.Broken new rest rest' text text' one none are r =
     let last = seen_last store new rest rest' text text' one none are end.Broken r in
     absurd (one_end_is_alone store end.Broken r.mid r.last r.done r.replies r.next one none last r.answered r.ends).1
-one_run_is_alone store end.Memory new rest rest' text text' one none are r = ran_cut store new rest rest' text text' one none are end.Memory (λ taken left ls. tt) r r.ends r.writes.by (λ c. c) (λ t. t)
+one_run_is_alone store end.Memory new rest rest' text text' one none are r = ran_but_last store new rest rest' text text' one none are r

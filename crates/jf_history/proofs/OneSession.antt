@@ -12,7 +12,7 @@ use Rattle.jf_store.specs.declared.event.Event.{Event}
 use Rattle.jf_store.specs.declared.event.Event.TheVariants.{Done, Mark}
 use Rattle.jf_store.specs.Events.{pass_named_by, entries_of, attempt_of, is_marked}
 use Rattle.jf_store.specs.Starts.{Start}
-use Rattle.jf_store.specs.Ledgers.{AreEvents, MarkIsLast, IsUndone, state_behind}
+use Rattle.jf_store.specs.Ledgers.{AreEvents, MarkIsLast, IsUndone, state_after_events}
 use Rattle.jf_store.specs.Passes.{Store, Pass, new_pass}
 use Rattle.jf_store.proofs.EventLaws.{entries_of-mark, attempt_of-append}
 use Rattle.jf_answers.specs.Own.{Own, begun_session}
@@ -301,7 +301,7 @@ AreEvents-before start xs pass e h none =
       history = subst (λ (es : List Entry). IsHistory start.state es) same h.history;
       later = subst (λ (es : List Entry). RiseFrom (start.moment + 1) (moments_of es)) same h.later;
       named = all_front (λ x. pass_named_by x < start.passes) xs (Mark pass e ∷ []) h.named;
-      marked = unmarked-MarkIsLast (state_behind start xs) xs none;
+      marked = unmarked-MarkIsLast (state_after_events start xs) xs none;
     }
 
 pub one_session_tries : OneSessionTries
@@ -313,13 +313,13 @@ one_session_tries store mid last ls rs line one none are a t =
     let whole = AreEvents-before store.start t.before mid.pass.number t.attempt are' t.sees.unmarked in
     let g = agrees-all store mid ls rs one none (subst (AreEvents store.start) same whole) a in
     let own : mid.own ≡ (answers store.start.state ls).own = a.own ∙ g.own_after in
-    let state : state_behind store.start t.before ≡ (answers store.start.state ls).state = ap (state_behind store.start) same ∙ g.state in
+    let state : state_after_events store.start t.before ≡ (answers store.start.state ls).state = ap (state_after_events store.start) same ∙ g.state in
     let first : mid.own.number ≡ 0 = ap (λ (o : Own). o.number) a.own ∙ g.number in
     let pins = floors_of last.pass.seen in
     let gives = t.gives pins (HaveMet-floors store.start last.pass.seen are) in
-    let with = answer_with-alone store.start (timeline store.start pins t.before) (state_behind store.start t.before) mid.own line t.attempt one first gives t.held in
-    let undated = (mark_there (state_behind store.start (t.before ++ Mark mid.pass.number t.attempt ∷ [])) t.before mid.pass.number t.attempt are'.marked t.sees.unmarked).undated in
-    let here : (answer (state_behind store.start t.before) mid.own line).entry ≡ Some t.attempt = sym (ap (λ (x : Answer). x.entry) with) ∙ gives.same ∙ ap (λ (x : Entry). Some x) undated in (
+    let with = answer_with-alone store.start (timeline store.start pins t.before) (state_after_events store.start t.before) mid.own line t.attempt one first gives t.held in
+    let undated = (mark_there (state_after_events store.start (t.before ++ Mark mid.pass.number t.attempt ∷ [])) t.before mid.pass.number t.attempt are'.marked t.sees.unmarked).undated in
+    let here : (answer (state_after_events store.start t.before) mid.own line).entry ≡ Some t.attempt = sym (ap (λ (x : Answer). x.entry) with) ∙ gives.same ∙ ap (λ (x : Entry). Some x) undated in (
       t.attempt,
       ap attempt_of seen ∙ attempt_of-append t.before (Mark mid.pass.number t.attempt ∷ []) t.sees.unmarked,
       subst (λ (o : Own). (answer (answers store.start.state ls).state o line).entry ≡ Some t.attempt) own (subst (λ (x : State). (answer x mid.own line).entry ≡ Some t.attempt) state here),

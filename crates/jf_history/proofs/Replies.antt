@@ -11,16 +11,16 @@ use Rattle.jf_store.specs.declared.event.Event.{Event}
 use Rattle.jf_store.specs.declared.event.Event.TheVariants.{Done}
 use Rattle.jf_store.specs.Events.{entries_of, is_marked}
 use Rattle.jf_store.specs.Starts.{Start}
-use Rattle.jf_store.specs.Ledgers.{state_behind}
+use Rattle.jf_store.specs.Ledgers.{state_after_events}
 use Rattle.jf_store.specs.Passes.{Pass}
 use Rattle.jf_store.proofs.EventLaws.{entries_of-append, entries_of-done, is_marked-append}
+use Rattle.jf_store.proofs.ClosingLaws.{starts_further}
 use Rattle.jf_answers.specs.Answers.{answer}
 use Rattle.jf_answers.specs.Runs.{answer_text}
 use Rattle.jf_answers.proofs.OneSession.{element-seam, length-push}
 use Rattle.jf_answers.specs.Explains.{Looks, Changes, GivesEntry, answer_with, floor_in, state_after, places_owned}
 use Rattle.jf_history.specs.Sessions.{Session, HaveMet, HeldFloor, FollowsLine, HasLooked, HasChanged, look_reply, change_reply, seen_by, timeline}
 use Rattle.jf_history.specs.Laws.{LooksReply, ChangesReply}
-use Rattle.jf_history.proofs.Fronts.{starts_on}
 use Rattle.jf_history.proofs.Places.{places_append, places_on}
 
 -- as many entries as a front has, or more
@@ -31,7 +31,7 @@ more_entries events seen s =
 
 -- ---- a line that gives no entry
 module _ (start : Start) (old new : Session) (line : List ℕ) (q : HasLooked start old new line) where
-  now : (pins : List ℕ) → state_after (timeline start pins new.pass.seen) (length (seen_by new.pass)) ≡ state_behind start new.pass.seen
+  now : (pins : List ℕ) → state_after (timeline start pins new.pass.seen) (length (seen_by new.pass)) ≡ state_after_events start new.pass.seen
   now pins = ap (replay start.state) (take-length (seen_by new.pass))
 
   looks : (pins : List ℕ) → Looks (timeline start pins new.pass.seen) old.own (length (seen_by old.pass)) line (look_reply start old new.pass line)
@@ -71,7 +71,7 @@ module _ (start : Start) (old new : Session) (before : List Event) (e : Entry) (
   one_back : length (entries_of before) + 1 - 1 ≡ length (entries_of before)
   one_back = omega arith
 
-  at_entry : (pins : List ℕ) → state_after (timeline start pins new.pass.seen) (length (entries_of before) + 1 - 1) ≡ state_behind start before
+  at_entry : (pins : List ℕ) → state_after (timeline start pins new.pass.seen) (length (entries_of before) + 1 - 1) ≡ state_after_events start before
   at_entry pins =
       ap (state_after (timeline start pins new.pass.seen)) one_back ∙ ap (λ (es : List Entry). replay start.state (take (length (entries_of before)) es)) entries_are
       ∙ ap (replay start.state) (take-append_seam (entries_of before) (e ∷ []))
@@ -95,7 +95,7 @@ module _ (start : Start) (old new : Session) (before : List Event) (e : Entry) (
 
   follows : FollowsLine old.pass new.pass line
   follows = record {
-    begins = starts_on new.pass.seen before old.pass.seen (Done e ∷ [], seen_is) q.sees.begins;
+    begins = starts_further new.pass.seen before old.pass.seen (Done e ∷ [], seen_is) q.sees.begins;
     same = q.sees.last ∙ ap (λ (p : Pass). record old.pass { seen = p.seen; place = p.place; pinned = p.pinned }) (sym q.sees.last);
     announced = λ version h. inl (subst (λ (v : _). HasElement v.announced version) same_place h);
   }

@@ -96,7 +96,7 @@ spared_attempt s session None holds low = tt
 spared_attempt s session (Some e) holds low = confirmed_spared session (after e s).floor holds low
 
 pub closed_spares_pins : ClosedSparesPins
-closed_spares_pins store before later s wanted entries engine closed served h told =
+closed_spares_pins store before later s out_of_memory entries engine closed served h told =
     let start = store.start in
     let x = last_holds s.how start served.mid served.last served.next served.ends served.answered.pins in
     let own : served.last.own ≡ own_after_replies (begun_session (length before)) served.had = x.1 ∙ served.answered.own in

@@ -10,6 +10,7 @@ use Rattle.jf_store.specs.Events.{entries_of}
 use Rattle.jf_store.specs.Starts.{Start}
 use Rattle.jf_store.specs.Passes.{Pass}
 use Rattle.jf_store.proofs.EventLaws.{entries_of-append}
+use Rattle.jf_store.proofs.ClosingLaws.{starts_further}
 use Rattle.jf_answers.specs.Own.{Own, begun_session}
 use Rattle.jf_answers.specs.OwnLines.{pin_of}
 use Rattle.jf_answers.specs.Explains.{Timeline, IsAmong, Answered, IsAnswered, AreAnswered, own_after_replies, places_told, places_owned}
@@ -17,7 +18,7 @@ use Rattle.jf_history.specs.Sessions.{Session, HaveMet, HeldFloor, HasReplied, s
 use Rattle.jf_history.specs.Runs.{AreHeld, HasAnswered}
 use Rattle.jf_history.specs.Laws.{NoneAnswered, OneMoreAnswered}
 use Rattle.jf_history.proofs.Announced.{named-front, named-line}
-use Rattle.jf_history.proofs.Fronts.{starts_on, AreMet-front, places_owned-within, AreAnswered-push, places_told-push, own_after-push, seen_after-push, AreHeld-push, AreHeld-later}
+use Rattle.jf_history.proofs.Fronts.{AreMet-front, places_owned-within, AreAnswered-push, places_told-push, own_after-push, seen_after-push, AreHeld-push, AreHeld-later}
 use Rattle.jf_history.proofs.Later.{stay}
 use Rattle.jf_history.proofs.OnePass.{all_back}
 
@@ -70,7 +71,7 @@ module _ (start : Start) (old : Pass) (mid new : Session) (ls : List (List ℕ))
 
 pub one_more_answered : OneMoreAnswered
 one_more_answered start old mid new ls rs line r a t = record {
-  begins = starts_on new.pass.seen mid.pass.seen old.seen t.follows.begins a.begins;
+  begins = starts_further new.pass.seen mid.pass.seen old.seen t.follows.begins a.begins;
   same = same_more start old mid new ls rs line r a t;
   announced = announced_more start old mid new ls rs line r a t;
   unmarked = t.unmarked;

@@ -1,5 +1,5 @@
 -- What a session that is alone on its store makes of its script, by the answers of a session that runs by itself.
-use Rattle.std.specs.Prelude.{◌≡◌, ℕ, ◌-◌, List, ◌++◌, map, take, length, Option, Some, None, option_map}
+use Rattle.std.specs.Prelude.{◌≡◌, ◌⊎◌, ℕ, ◌-◌, List, ◌++◌, map, take, length, Option, Some, None, option_map}
 use Rattle.jf_model.specs.States.{State}
 use Rattle.jf_model.specs.Entries.{replay, timeless}
 use Rattle.jf_model.specs.declared.entries.Entry.{Entry}
@@ -26,6 +26,10 @@ pub record IsCutAnswer (s : State) (ls : List (List ℕ)) (text : List ℕ) : Ty
   pub more : List ℕ
   pub enough : text ≡ text_of (answers s (take (length ls - 1) ls)) ++ more
 
+-- the text of the answers to all these lines, or to all but the last
+abbrev pub IsAnswerButLast : State → List (List ℕ) → List ℕ → Type 0
+IsAnswerButLast s ls text = (text ≡ text_of (answers s ls)) ⊎ (text ≡ text_of (answers s (take (length ls - 1) ls)))
+
 -- what was written for the lines done, by how the run ended
 abbrev pub WritesAlone : End → State → List (List ℕ) → List ℕ → Type 0
 WritesAlone end.Done s ls text = text ≡ text_of (answers s ls)
@@ -33,7 +37,7 @@ WritesAlone end.ReadFault s ls text = text ≡ text_of (answers s ls)
 WritesAlone end.WriteFault s ls text = IsCutAnswer s ls text
 WritesAlone end.DiskFault s ls text = text ≡ text_of (answers s ls)
 WritesAlone end.Broken s ls text = ⊥
-WritesAlone end.Memory s ls text = IsCutAnswer s ls text
+WritesAlone end.Memory s ls text = IsAnswerButLast s ls text
 
 -- the entry that the line gives over these answers
 abbrev pub IsTried : Run → List ℕ → Option Entry → Type 0

@@ -22,7 +22,7 @@ use Rattle.jf_history.specs.declared.end.End.{End}
 use Rattle.jf_history.specs.declared.end.End.TheVariants as end
 
 -- ---- from line to line
--- what was answered stays so where entries follow
+-- what was answered stays so if entries follow
 abbrev pub AnswersStay : Type 0
 AnswersStay = (s : State) (pins : List ℕ) (es more : List Entry) (own : Own) (seen : ℕ) (ls : List (List ℕ)) (rs : List Answered)
     → AreAnswered (record { start = s; entries = es; pins = pins }) own seen ls rs → AreAnswered (record { start = s; entries = es ++ more; pins = pins }) own seen ls rs
@@ -62,7 +62,7 @@ abbrev pub OneSessionIsAlone : Type 0
 OneSessionIsAlone = (store : Store) (now : Session) (ls : List (List ℕ)) (rs : List Answered) → store.start.passes ≡ 1 → store.start.state.count ≡ 0 → AreEvents store.start now.pass.seen
     → HasAnswered store.start (new_pass store 0) now ls rs → AnswersAlone store.start.state now ls rs
 
--- where the disk failed, the attempt is the entry that the line gives after these answers
+-- if the disk failed, the attempt is the entry that the line gives after these answers
 abbrev pub OneSessionTries : Type 0
 OneSessionTries = (store : Store) (mid last : Session) (ls : List (List ℕ)) (rs : List Answered) (line : List ℕ) → store.start.passes ≡ 1 → store.start.state.count ≡ 0 → AreEvents store.start last.pass.seen
     → HasAnswered store.start (new_pass store 0) mid ls rs → IsTry store.start mid last line → IsTried (answers store.start.state ls) line (attempt_of last.pass.seen)
@@ -85,21 +85,21 @@ OneRunIsAlone = (store : Store) (e : End) (new : Pass) (rest rest' text text' : 
 -- ---- a store that was closed
 -- its history explains all its sessions
 abbrev pub ClosedExplains : Type 0
-ClosedExplains = (store : Store) (ss : List Served) (wanted : List ℕ) (entries : List Entry) (engine : Engine) → store.start.passes ≡ length ss → IsClosed store.start (passes_of ss) entries engine
-    → AreServed store wanted 0 ss → ExplainsAnswers store.start.state entries (scripts_of ss) (replies_of ss) wanted
+ClosedExplains = (store : Store) (ss : List Served) (out_of_memory : List ℕ) (entries : List Entry) (engine : Engine) → store.start.passes ≡ length ss → IsClosed store.start (passes_of ss) entries engine
+    → AreServed store out_of_memory 0 ss → ExplainsAnswers store.start.state entries (scripts_of ss) (replies_of ss) out_of_memory
 
--- where the disk failed in a session, there is an attempt, and it is that of the session's first line without a reply
+-- if the disk failed in a session, there is an attempt, and it is that of the session's first line without a reply
 abbrev pub ClosedTries : Type 0
-ClosedTries = (store : Store) (before after : List Served) (s : Served) (wanted : List ℕ) (entries : List Entry) (engine : Engine) → store.start.passes ≡ length (before ++ s ∷ after)
-    → (closed : IsClosed store.start (passes_of (before ++ s ∷ after)) entries engine) → AreServed store wanted 0 (before ++ s ∷ after) → s.how ≡ end.DiskFault
+ClosedTries = (store : Store) (before after : List Served) (s : Served) (out_of_memory : List ℕ) (entries : List Entry) (engine : Engine) → store.start.passes ≡ length (before ++ s ∷ after)
+    → (closed : IsClosed store.start (passes_of (before ++ s ∷ after)) entries engine) → AreServed store out_of_memory 0 (before ++ s ∷ after) → s.how ≡ end.DiskFault
     → (e : Entry) × (attempt_of closed.events ≡ Some e) × IsAttempt (timeline_of store.start.state entries (scripts_of (before ++ s ∷ after))) (length before) s.script s.replies e
 
--- where there is an attempt, the disk failed in the session of which it is
+-- if there is an attempt, the disk failed in the session of which it is
 abbrev pub ClosedBlames : Type 0
-ClosedBlames = (store : Store) (ss : List Served) (wanted : List ℕ) (entries : List Entry) (engine : Engine) (e : Entry) → store.start.passes ≡ length ss
-    → (closed : IsClosed store.start (passes_of ss) entries engine) → AreServed store wanted 0 ss → attempt_of closed.events ≡ Some e → FailedIn store.start.state entries ss e
+ClosedBlames = (store : Store) (ss : List Served) (out_of_memory : List ℕ) (entries : List Entry) (engine : Engine) (e : Entry) → store.start.passes ≡ length ss
+    → (closed : IsClosed store.start (passes_of ss) entries engine) → AreServed store out_of_memory 0 ss → attempt_of closed.events ≡ Some e → FailedIn store.start.state entries ss e
 
 -- each image left since it began stands for versions of which the floor is above no version that a session has pinned after its replies
 abbrev pub ClosedSparesPins : Type 0
-ClosedSparesPins = (store : Store) (before after : List Served) (s : Served) (wanted : List ℕ) (entries : List Entry) (engine : Engine) → IsClosed store.start (passes_of (before ++ s ∷ after)) entries engine
-    → (served : IsServed store wanted (length before) s) → (h : History) → engine.history ≡ Some h → SparesPinsSince store.start.moment h (own_after_replies (begun_session (length before)) served.had)
+ClosedSparesPins = (store : Store) (before after : List Served) (s : Served) (out_of_memory : List ℕ) (entries : List Entry) (engine : Engine) → IsClosed store.start (passes_of (before ++ s ∷ after)) entries engine
+    → (served : IsServed store out_of_memory (length before) s) → (h : History) → engine.history ≡ Some h → SparesPinsSince store.start.moment h (own_after_replies (begun_session (length before)) served.had)

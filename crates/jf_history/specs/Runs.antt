@@ -65,6 +65,10 @@ pub record IsCut (rs : List Answered) (text : List ℕ) : Type 0 where
   pub enough : text ≡ text_in (take (count - 1) rs) ++ more
   pub quiet : AllByRecursion (λ r. r.entry ≡ None) (drop count rs)
 
+-- the text of all these replies, or of all but the last
+abbrev pub IsButLast : List Answered → List ℕ → Type 0
+IsButLast rs text = (text ≡ text_in rs) ⊎ (text ≡ text_in (take (length rs - 1) rs))
+
 -- what was written of these replies, by how the run ended
 abbrev pub WritesBy : End → List Answered → List ℕ → Type 0
 WritesBy end.Done rs text = text ≡ text_in rs
@@ -72,7 +76,7 @@ WritesBy end.ReadFault rs text = text ≡ text_in rs
 WritesBy end.WriteFault rs text = IsCut rs text
 WritesBy end.DiskFault rs text = text ≡ text_in rs
 WritesBy end.Broken rs text = text ≡ text_in rs
-WritesBy end.Memory rs text = IsCut rs text
+WritesBy end.Memory rs text = IsButLast rs text
 
 -- a run appended its text to the output, if that is known
 pub record Writes (e : End) (rs : List Answered) (old new : Option (List ℕ)) : Type 0 where

@@ -25,13 +25,13 @@ pub record LosesReplies (had told : List Answered) : Type 0 where
   pub quiet : AllByRecursion (λ r. r.entry ≡ None) (drop (count + 1) had)
 
 -- session n answered the first lines of its script, and all if it ended well; only one that ran out of memory lost replies
-pub record IsServed (store : Store) (wanted : List ℕ) (n : ℕ) (s : Served) : Type 0 where
+pub record IsServed (store : Store) (out_of_memory : List ℕ) (n : ℕ) (s : Served) : Type 0 where
   pub done : List (List ℕ)
   pub rest : List (List ℕ)
   pub first : s.script ≡ done ++ rest
   pub whole : s.how ≡ end.Done → rest ≡ []
   pub had : List Answered
-  pub told : (s.replies ≡ had) ⊎ ((s.how ≡ end.Memory) × IsAmong wanted n × LosesReplies had s.replies)
+  pub told : (s.replies ≡ had) ⊎ ((s.how ≡ end.Memory) × IsAmong out_of_memory n × LosesReplies had s.replies)
   pub mid : Session
   pub answered : HasAnswered store.start (new_pass store n) mid done had
   pub next : Option (List ℕ)
@@ -42,8 +42,8 @@ pub record IsServed (store : Store) (wanted : List ℕ) (n : ℕ) (s : Served) :
 
 -- sessions from number n on
 abbrev pub AreServed : Store → List ℕ → ℕ → List Served → Type 0
-AreServed store wanted n [] = Unit {0}
-AreServed store wanted n (s ∷ ss) = IsServed store wanted n s × AreServed store wanted (n + 1) ss
+AreServed store out_of_memory n [] = Unit {0}
+AreServed store out_of_memory n (s ∷ ss) = IsServed store out_of_memory n s × AreServed store out_of_memory (n + 1) ss
 
 -- their scripts, replies and passes
 abbrev pub scripts_of : List Served → List (List (List ℕ))

@@ -10,7 +10,7 @@ use Rattle.jf_store.specs.declared.event.Event.{Event}
 use Rattle.jf_store.specs.declared.event.Event.TheVariants.{Done, Mark}
 use Rattle.jf_store.specs.Events.{entries_of, is_marked}
 use Rattle.jf_store.specs.Starts.{Start}
-use Rattle.jf_store.specs.Ledgers.{state_behind}
+use Rattle.jf_store.specs.Ledgers.{state_after_events}
 use Rattle.jf_store.specs.Floors.{IsMet, AreMet}
 use Rattle.jf_store.specs.Passes.{Pass, IsPinned, OthersAlone, SeesOwn}
 use Rattle.jf_answers.specs.Own.{Own, begun_session, pinned}
@@ -87,8 +87,8 @@ pub record IsTry (start : Start) (old new : Session) (line : List ℕ) : Type 0 
   pub attempt : Entry
   pub before : List Event
   pub sees : SeesOwn old.pass new.pass before (Mark old.pass.number attempt)
-  pub gives : (pins : List ℕ) → HaveMet pins start new.pass.seen → GivesEntry (timeline start pins before) (state_behind start before) old.own line attempt
-  pub held : HeldFloor start old.own (state_behind start before) attempt
+  pub gives : (pins : List ℕ) → HaveMet pins start new.pass.seen → GivesEntry (timeline start pins before) (state_after_events start before) old.own line attempt
+  pub held : HeldFloor start old.own (state_after_events start before) attempt
   pub own : new.own ≡ old.own
 
 -- nothing was done at the line, though the pass may have seen more
@@ -109,13 +109,13 @@ pub record IsBroken (old new : Session) (line : List ℕ) : Type 0 where
 -- the reply to a line that gives no entry
 abbrev pub look_reply : Start → Session → Pass → List ℕ → Answered
 look_reply start old new line =
-    let a = answer (state_behind start new.seen) old.own line in
+    let a = answer (state_after_events start new.seen) old.own line in
     record { number = length (seen_by new); text = answer_text (length (seen_by new)) a; entry = None; own = a.own }
 
 -- the reply to a line that gives an entry after these events
 abbrev pub change_reply : Start → Session → List Event → Entry → List ℕ → Answered
 change_reply start old before e line =
-    let a = answer_with (floor_in e) (state_behind start before) old.own line in
+    let a = answer_with (floor_in e) (state_after_events start before) old.own line in
     record { number = length (entries_of before) + 1; text = answer_text (length (entries_of before) + 1) a; entry = Some e; own = a.own }
 
 -- a line that gives no entry was done, over what the pass has then seen; none of that is new if the line asks nothing of the store
@@ -123,8 +123,8 @@ pub record HasLooked (start : Start) (old new : Session) (line : List ℕ) : Typ
   pub follows : FollowsLine old.pass new.pass line
   pub others : OthersAlone old.pass new.pass.seen
   pub unmarked : is_marked new.pass.seen ≡ false
-  pub quiet : (answer (state_behind start new.pass.seen) old.own line).entry ≡ None
-  pub own : new.own ≡ (answer (state_behind start new.pass.seen) old.own line).own
+  pub quiet : (answer (state_after_events start new.pass.seen) old.own line).entry ≡ None
+  pub own : new.own ≡ (answer (state_after_events start new.pass.seen) old.own line).own
   pub pins : HoldsPins new
   pub by_itself : IsTrue (is_own_line line) → new.pass.seen ≡ old.pass.seen
 
@@ -133,7 +133,7 @@ pub record HasChanged (start : Start) (old new : Session) (before : List Event) 
   pub sees : SeesOwn old.pass new.pass before (Done e)
   pub numbers : old.own.number ≡ old.pass.number
   pub owned : owner_of e ≡ old.own.number
-  pub gives : (pins : List ℕ) → HaveMet pins start new.pass.seen → GivesEntry (timeline start pins new.pass.seen) (state_behind start before) old.own line e
-  pub held : HeldFloor start old.own (state_behind start before) e
-  pub own : new.own ≡ (answer_with (floor_in e) (state_behind start before) old.own line).own
+  pub gives : (pins : List ℕ) → HaveMet pins start new.pass.seen → GivesEntry (timeline start pins new.pass.seen) (state_after_events start before) old.own line e
+  pub held : HeldFloor start old.own (state_after_events start before) e
+  pub own : new.own ≡ (answer_with (floor_in e) (state_after_events start before) old.own line).own
   pub pins : HoldsPins new

@@ -1,7 +1,7 @@
 // Laws on sessions over passes, for proofs of code that stands on them. These functions do nothing when they run.
 ghost use Rattle.jf_history.specs.Laws.{AnswersStay, LooksReply, ChangesReply, NoneAnswered, OneMoreAnswered, OnePassSees, OnePassAdds, OnePassCloses, OneSessionIsAlone, OneSessionTries, OneSessionIsNeverBroken, OneEndIsAlone, OneRunIsAlone, ClosedExplains, ClosedTries, ClosedBlames, ClosedSparesPins};
 
-/// What was answered stays so where entries follow.
+/// What was answered stays so if entries follow.
 pub fn answers_stay()
     ensures { AnswersStay }
 {}

@@ -14,7 +14,7 @@ use Rattle.jf_store.specs.Images.{AreWithin}
 use Rattle.jf_words.specs.Modes.{opens, is_verify}
 use Rattle.jf_words.specs.declared.modes.Mode.{Mode}
 use Rattle.jf_words.specs.declared.modes.Mode.TheVariants as mode
-use Rattle.jf_run.specs.Statuses.{is_closing, is_disk_fault, status_of_refusal}
+use Rattle.jf_run.specs.Statuses.{may_end_unopened, is_disk_fault, status_of_refusal}
 use Rattle.jf_model.specs.declared.entries.Entry.{Entry}
 use Rattle.jf_run.specs.Calls.{ProgramCall, Devices, program_call}
 use Rattle.jf_run.specs.declared.status.Status.{Status}
@@ -41,7 +41,7 @@ well c (inl done) = inl done
 well c (inr memory) = inr (inl memory)
 
 -- a call that left the disk unchanged and has no entries is closed
-closed_untouched : (c : ProgramCall) → c.after.disk ≡ c.before.disk → c.entries ≡ [] → (IsFalse (is_verify c.asks) → IsTrue (is_closing c.status)) → IsClosedCall c
+closed_untouched : (c : ProgramCall) → c.after.disk ≡ c.before.disk → c.entries ≡ [] → (IsFalse (is_verify c.asks) → IsTrue (may_end_unopened c.status)) → IsClosedCall c
 closed_untouched c same none ending = record {
   ending = ending;
   entries = none;
@@ -75,16 +75,16 @@ pub memory_keeps : (c : ProgramCall) → FilesStandForSound → c.after ≡ c.be
 memory_keeps c all_sound same start none memory =
     let disk : c.after.disk ≡ c.before.disk = ap (λ (d : Devices). d.disk) same in
     record {
-      words = record { usage = λ e. absurd (cc); usage_told = λ e. inr memory; start = λ e. start };
+      words = record { usage = λ e. absurd (cc); usage_only = λ e. inr memory; start = λ e. start };
       causes = record { read = λ e. absurd (cc); write = λ e. absurd (cc); disk = λ e. absurd (cc) };
-      damage = record { damaged = λ h told where_ at e. absurd (cc); damaged_told = λ h told where_ at words here. inr (inr memory) };
+      damage = record { damaged = λ h told side at e. absurd (cc); damage_named = λ h told side at words here. inr (inr memory) };
       forward = forward_untouched c disk none (subst (λ (d : Devices). c.before.source_faults ≤ d.source_faults) (sym same) (le_refl c.before.source_faults))
           (subst (λ (d : Devices). c.before.sink_faults ≤ d.sink_faults) (sym same) (le_refl c.before.sink_faults));
       files = record {
         stands = λ h told v stands sound plain. subst (λ es. StandsForEntries c.after.disk.history v (generation (reads h)) es) (sym none) (stands-left h h v c.after.disk.history all_sound (ap (λ (d : DiskView). d.history) disk ∙ told) refl stands);
         complete = λ h told v stands some a b d. inr (inl memory);
       };
-      closed = subst (λ o. IfNone o (IsClosedCall c)) (sym start) (closed_untouched c disk none (λ e. subst (λ s. IsTrue (is_closing s)) (sym memory) refl));
+      closed = subst (λ o. IfNone o (IsClosedCall c)) (sym start) (closed_untouched c disk none (λ e. subst (λ s. IsTrue (may_end_unopened s)) (sym memory) refl));
       judged = λ e. record {
         start = start;
         entries = none;
@@ -100,16 +100,16 @@ pub usage_keeps : (c : ProgramCall) → FilesStandForSound → c.after ≡ c.bef
 usage_keeps c all_sound same start none usage asks =
     let disk : c.after.disk ≡ c.before.disk = ap (λ (d : Devices). d.disk) same in
     record {
-      words = record { usage = λ e. asks; usage_told = λ e. inl usage; start = λ e. start };
+      words = record { usage = λ e. asks; usage_only = λ e. inl usage; start = λ e. start };
       causes = record { read = λ e. absurd (cc); write = λ e. absurd (cc); disk = λ e. absurd (cc) };
-      damage = record { damaged = λ h told where_ at e. absurd (cc); damaged_told = λ h told where_ at words here. absurd (true≢false (sym words ∙ ap opens asks)) };
+      damage = record { damaged = λ h told side at e. absurd (cc); damage_named = λ h told side at words here. absurd (true≢false (sym words ∙ ap opens asks)) };
       forward = forward_untouched c disk none (subst (λ (d : Devices). c.before.source_faults ≤ d.source_faults) (sym same) (le_refl c.before.source_faults))
           (subst (λ (d : Devices). c.before.sink_faults ≤ d.sink_faults) (sym same) (le_refl c.before.sink_faults));
       files = record {
         stands = λ h told v stands sound plain. subst (λ es. StandsForEntries c.after.disk.history v (generation (reads h)) es) (sym none) (stands-left h h v c.after.disk.history all_sound (ap (λ (d : DiskView). d.history) disk ∙ told) refl stands);
         complete = λ h told v stands some a b d. absurd (true≢false (sym some ∙ ap (λ (o : Option Mode). is_some o) asks));
       };
-      closed = subst (λ o. IfNone o (IsClosedCall c)) (sym start) (closed_untouched c disk none (λ e. subst (λ s. IsTrue (is_closing s)) (sym usage) refl));
+      closed = subst (λ o. IfNone o (IsClosedCall c)) (sym start) (closed_untouched c disk none (λ e. subst (λ s. IsTrue (may_end_unopened s)) (sym usage) refl));
       judged = λ e. absurd (true≢false (sym e ∙ ap is_verify asks));
       opened = subst (λ o. IfSome o (HasOpenedFor c.asks c)) (sym start) tt;
     }
@@ -119,11 +119,11 @@ pub judged_keeps : (c : ProgramCall) → FilesStandForSound → c.after.disk ≡
     → (c.status ≡ status.ReadFault → HasCause c.before.source_faults c.after.source_faults) → (c.status ≡ status.WriteFault → HasCause c.before.sink_faults c.after.sink_faults)
     → c.before.source_faults ≤ c.after.source_faults → c.before.sink_faults ≤ c.after.sink_faults → KeepsPromises c
 judged_keeps c all_sound same start none verify j read write source sink = record {
-  words = record { usage = λ e. absurd (judged_words j.end c.status j.how_is e); usage_told = λ e. absurd (true≢false (sym verify ∙ ap is_verify e)); start = λ e. start };
+  words = record { usage = λ e. absurd (judged_words j.end c.status j.how_is e); usage_only = λ e. absurd (true≢false (sym verify ∙ ap is_verify e)); start = λ e. start };
   causes = record { read = read; write = write; disk = λ e. absurd (judged_disk j.end c.status j.how_is e) };
   damage = record {
-    damaged = λ h told where_ at e. absurd (judged_files j.end c.status where_ at j.how_is e);
-    damaged_told = λ h told where_ at words here. absurd (true≢false (sym words ∙ verify_opens_none c.asks verify));
+    damaged = λ h told side at e. absurd (judged_files j.end c.status side at j.how_is e);
+    damage_named = λ h told side at words here. absurd (true≢false (sym words ∙ verify_opens_none c.asks verify));
   };
   forward = forward_untouched c same none source sink;
   files = record {
@@ -144,11 +144,11 @@ judged_keeps c all_sound same start none verify j read write source sink = recor
 pub refused_keeps : (c : ProgramCall) (why : OpenFault) → FilesStandForSound → DamageIsNoVersions → c.start ≡ None → c.entries ≡ [] → IsTrue (opens c.asks) → c.status ≡ status_of_refusal why → HasRefused c.before.disk c.after.disk why
     → c.before.source_faults ≤ c.after.source_faults → c.before.sink_faults ≤ c.after.sink_faults → KeepsPromises c
 refused_keeps c why all_sound none_stand start none runs is r source sink = record {
-  words = record { usage = λ e. absurd (refused_words why (sym is ∙ e)); usage_told = λ e. absurd (true≢false (sym runs ∙ ap opens e)); start = λ e. start };
+  words = record { usage = λ e. absurd (refused_words why (sym is ∙ e)); usage_only = λ e. absurd (true≢false (sym runs ∙ ap opens e)); start = λ e. start };
   causes = record { read = λ e. absurd (refused_read why (sym is ∙ e)); write = λ e. absurd (refused_write why (sym is ∙ e)); disk = λ e. r.cause (refused_disk why (sym is ∙ e)) };
   damage = record {
-    damaged = λ h told where_ at e. r.damaged h told where_ at (damage_told why where_ at (sym is ∙ e));
-    damaged_told = λ h told where_ at words here. subst (λ s. (s ≡ status.Damaged where_ at) ⊎ ((s ≡ status.DiskFault) ⊎ (s ≡ status.Memory))) (sym is) (damage-told why where_ at (r.damaged_told h told where_ at here));
+    damaged = λ h told side at e. r.damaged h told side at (damage_told why side at (sym is ∙ e));
+    damage_named = λ h told side at words here. subst (λ s. (s ≡ status.Damaged side at) ⊎ ((s ≡ status.DiskFault) ⊎ (s ≡ status.Memory))) (sym is) (damage-told why side at (r.damaged_told h told side at here));
   };
   forward = record {
     extends = λ h told. let d = r.disk h told in (d.0, d.1, d.2.extends);
@@ -161,10 +161,10 @@ refused_keeps c why all_sound none_stand start none runs is r source sink = reco
   files = record {
     stands = λ h told v stands sound plain. subst (λ es. StandsForEntries c.after.disk.history v (generation (reads h)) es) (sym none) (refused-stands h v c.after.disk.history why all_sound (subst (λ s. IsFalse (is_disk_fault s)) is sound.0) stands (r.left h told));
     complete = λ h told v stands some ss ks ds.
-        inr (inl (is ∙ refused_for_memory why (λ where_ at damaged. none_stand (reads h) v where_ at stands (r.damaged h told where_ at damaged)) (λ fault. steady c.before.disk.faults c.after.disk.faults ds.0 ds.1 (r.cause fault))));
+        inr (inl (is ∙ refused_for_memory why (λ side at damaged. none_stand (reads h) v side at stands (r.damaged h told side at damaged)) (λ fault. steady c.before.disk.faults c.after.disk.faults ds.0 ds.1 (r.cause fault))));
   };
   closed = subst (λ o. IfNone o (IsClosedCall c)) (sym start) (record {
-    ending = λ e. subst (λ s. IsTrue (is_closing s)) (sym is) (refusal_closes why);
+    ending = λ e. subst (λ s. IsTrue (may_end_unopened s)) (sym is) (refusal_closes why);
     entries = none;
     left = λ h told. let w = r.left h told in (w.0, w.1, elim w.2 [ inl left ↦ inl left | inr begun ↦ inr (is ∙ ap status_of_refusal begun.0, begun.1) ]);
     stands = λ h told. let d = r.disk h told in (d.0, d.1, d.2.stands);

@@ -16,7 +16,7 @@ use Rattle.jf_run.specs.Statuses.{status_of_input_fault}
 use Rattle.jf_run.specs.Calls.{ProgramCall}
 use Rattle.jf_run.specs.Runs.{IsDatedDisk, IsBegun, KeepsEntries}
 use Rattle.jf_run.specs.Serving.{WritesServed, IsUnserved, AreSessionsServed}
-use Rattle.jf_run.specs.Promises.{KeepsDisk, EndsWell, KeepsPromises}
+use Rattle.jf_run.specs.Promises.{DiskDidNotFail, EndsWell, KeepsPromises}
 use Rattle.jf_run.specs.declared.status.Status.{Status}
 use Rattle.jf_run.specs.declared.status.Status.TheVariants as status
 use Rattle.jf_run.proofs.Complete.{steady}
@@ -65,7 +65,7 @@ module _ (c : ProgramCall) (head n : ℕ) (s : State) (disk : DiskView) (attempt
         subst (λ (o : Option Entry). IfSome o (λ _. HasCause disk.faults c.after.disk.faults)) tried.1 kept.cause
 
     -- nothing was tried if the disk didn't fail
-    none_tried : (st : Status) → c.status ≡ st → Wrote st → KeepsDisk c → attempt ≡ None
+    none_tried : (st : Status) → c.status ≡ st → Wrote st → DiskDidNotFail c → attempt ≡ None
     none_tried status.Done is w sound = done_untried a.served.ends attempt w.1.0 a.served.tried
     none_tried status.Usage is w sound = absurd w.1
     none_tried status.ReadFault is w sound = absurd w.1

@@ -12,7 +12,7 @@ use Rattle.jf_answers.specs.Explains.{Answered, ExplainsAnswers, text_in, timeli
 use Rattle.jf_history.specs.declared.end.End.{End}
 use Rattle.jf_history.specs.declared.end.End.TheVariants as end
 use Rattle.jf_scripts.specs.Scripts.{max_input, max_sessions, scripts_in, IsTooLarge}
-use Rattle.jf_serve.specs.Served.{wanted_of, AreEnded, ArePinsSpared}
+use Rattle.jf_serve.specs.Served.{out_of_memory_in, AreEnded, ArePinsSpared}
 use Rattle.jf_report.specs.Ledgers.{served_text}
 use Rattle.jf_run.specs.Calls.{ProgramCall}
 use Rattle.jf_run.specs.Stops.{IsSafeSince}
@@ -25,29 +25,31 @@ use Rattle.jf_run.specs.declared.status.Status.TheVariants as status
 abbrev pub AreAllDone : List End → Type 0
 AreAllDone ends = AllByRecursion (λ e. e ≡ end.Done) ends
 
--- what was written of a text in the end, and how the sessions ended, by the status. Memory is told before a fault of the disk, and
--- that before a fault of the sink; whatever the status, outputs and entries are written as far as the sink and memory allow
+-- what was written of a text in the end, and how the sessions ended, by the status. That memory ran out is told before a fault of the
+-- disk, and that before a fault of the sink. After a fault of the disk the text is written all the same; if the sink failed, or if
+-- memory ran out, a front of it may stand in its place
 abbrev pub WritesServed : Status → List End → List ℕ → (old new : Option (List ℕ)) → (faults faults' : ℕ) → Type 0
 WritesServed status.Done ends text old new faults faults' = AreAllDone ends × Appends old new text
 WritesServed status.Usage ends text old new faults faults' = ⊥
 WritesServed status.ReadFault ends text old new faults faults' = ⊥
 WritesServed status.WriteFault ends text old new faults faults' = AreAllDone ends × IsCutShort old new text
 WritesServed status.DiskFault ends text old new faults faults' =
-    (wanted_of ends ≡ []) × (AreAllDone ends → ⊥) × (Appends old new text ⊎ (IsCutShort old new text × HasCause faults faults'))
+    (out_of_memory_in ends ≡ []) × (AreAllDone ends → ⊥) × (Appends old new text ⊎ (IsCutShort old new text × HasCause faults faults'))
 WritesServed (status.Damaged side offset) ends text old new faults faults' = ⊥
 WritesServed status.InputFull ends text old new faults faults' = ⊥
-WritesServed status.Memory ends text old new faults faults' = (Appends old new text × (wanted_of ends ≡ [] → ⊥)) ⊎ IsCutShort old new text
+WritesServed status.Memory ends text old new faults faults' = (Appends old new text × (out_of_memory_in ends ≡ [] → ⊥)) ⊎ IsCutShort old new text
 WritesServed (status.Refused why) ends text old new faults faults' = ⊥
 
 -- ---- the sessions
 -- each of these scripts was run by a session of its own over a store that was opened in this state, when its disk showed `old`: what
 -- the sessions were answered, and how they ended. One legal history explains all answers; if the disk failed, what was tried is the
--- attempt of a session that ended so, and no other session was stopped by that but at a line that asks the store. What a crash
--- leaves spares all pins. The outputs and the entries were written
+-- attempt of a session that ended with `DiskFault`, and no other session was stopped by that but at a line that asks the store. What
+-- a crash leaves spares the pins of each session that didn't run out of memory. Of the outputs and the entries, `written` says how
+-- much was written
 pub record HasServedScripts (how : Status) (s : State) (old new : DiskView) (scripts : List (List (List ℕ))) (es : List Entry) (attempt : Option Entry) (text text' : Option (List ℕ)) (faults faults' : ℕ) : Type 0 where
   pub replies : List (List Answered)
   pub ends : List End
-  pub explained : ExplainsAnswers s es scripts replies (wanted_of ends)
+  pub explained : ExplainsAnswers s es scripts replies (out_of_memory_in ends)
   pub ended : AreEnded (timeline_of s es scripts) attempt 0 scripts replies ends
   pub tried : IfSome attempt (λ e. (n : ℕ) × (slice_get ends n ≡ Some end.DiskFault))
   pub spared : OnHistories old.history new.history (λ h g. ArePinsSpared old.moment g 0 replies ends)

@@ -11,7 +11,7 @@ use Rattle.jf_receive.specs.declared.received.Received.{Received}
 use Rattle.jf_receive.specs.declared.received.Received.TheVariants as received
 use Rattle.jf_scripts.specs.declared.reading.InputFault.{InputFault}
 use Rattle.jf_scripts.specs.declared.reading.InputFault.TheVariants as input_fault
-use Rattle.jf_serve.specs.Served.{is_memory}
+use Rattle.jf_serve.specs.Served.{ran_out_of_memory}
 use Rattle.jf_report.specs.declared.writing.ReportFault.{ReportFault}
 use Rattle.jf_report.specs.declared.writing.ReportFault.TheVariants as report_fault
 use Rattle.jf_run.specs.declared.status.Status.{Status}
@@ -65,7 +65,7 @@ is_stopped_by_disk end.Memory = false
 
 -- the status after sessions that ended so, or this other one if none was stopped; out of memory goes before a fault of the disk
 abbrev pub status_of_ends : List End → Status → Status
-status_of_ends ends other = if list_any is_memory ends then status.Memory else if list_any is_stopped_by_disk ends then status.DiskFault else other
+status_of_ends ends other = if list_any ran_out_of_memory ends then status.Memory else if list_any is_stopped_by_disk ends then status.DiskFault else other
 
 -- the status after several sessions, by how they ended and by how the report on them was written
 abbrev pub status_of_served : List End → Result (Unit {0}) ReportFault → Status
@@ -74,16 +74,16 @@ status_of_served ends (Err report_fault.WriteFault) = status_of_ends ends status
 status_of_served ends (Err report_fault.Memory) = status.Memory
 
 -- whether a call may end so if it opened no store and judged no input
-abbrev pub is_closing : Status → Bool
-is_closing status.Done = false
-is_closing status.Usage = true
-is_closing status.ReadFault = false
-is_closing status.WriteFault = false
-is_closing status.DiskFault = true
-is_closing (status.Damaged side offset) = true
-is_closing status.InputFull = false
-is_closing status.Memory = true
-is_closing (status.Refused why) = false
+abbrev pub may_end_unopened : Status → Bool
+may_end_unopened status.Done = false
+may_end_unopened status.Usage = true
+may_end_unopened status.ReadFault = false
+may_end_unopened status.WriteFault = false
+may_end_unopened status.DiskFault = true
+may_end_unopened (status.Damaged side offset) = true
+may_end_unopened status.InputFull = false
+may_end_unopened status.Memory = true
+may_end_unopened (status.Refused why) = false
 
 -- whether the status says that the disk failed
 abbrev pub is_disk_fault : Status → Bool

@@ -50,8 +50,8 @@ use std::thread::Threads;
 ///   the entries are that history. The same holds of a crash, with the attempt of one session. If no session began, there
 ///   are no entries and nothing was written; `InputFull` and `ReadFault` come only then.
 /// - If a version was to be restored (`IsRestoredCall`), there are no entries, and after a crash at any moment the files
-///   stand for what they stood for or for the restored version alone: after `Done` and `WriteFault` for that one, and
-///   for what they stood for unless the disk failed.
+///   stand for what they stood for or for the restored version alone: after `Done` and `WriteFault` for the restored
+///   version, and after every other end but `DiskFault` for what they stood for.
 /// - If no store was opened (`IsClosedCall`), there are no entries and the files are unchanged. One exception: a call
 ///   that ends with `DiskFault` may have begun files without a record, which still stand for a new store.
 /// - In the mode `verify` (`IsJudgedCall`), the verdicts were written, as far as the status says.

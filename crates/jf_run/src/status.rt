@@ -1,7 +1,7 @@
 // How a call of the program ended, and the exit status that says so.
 ghost use Rattle.std.specs.Prelude.{◌≡◌, [], None};
 ghost use Rattle.std.specs.List.{list_any};
-ghost use Rattle.jf_serve.specs.Served.{is_memory};
+ghost use Rattle.jf_serve.specs.Served.{ran_out_of_memory};
 ghost use Rattle.jf_run.specs.Statuses.{code_of, is_stopped_by_disk, status_of, status_of_ends, status_of_input_fault, status_of_received, status_of_refusal, status_of_served, status_of_verified};
 
 use jf_disk::Side;
@@ -156,9 +156,9 @@ impl Status {
 
 // Whether one of the sessions ran out of memory.
 fn are_out_of_memory(ends: &[End]) -> bool
-    ensures { result ≡ list_any is_memory ends.now }
+    ensures { result ≡ list_any ran_out_of_memory ends.now }
 {
-    ends.iter().any(|end| is_memory(*end))
+    ends.iter().any(|end| ran_out_of_memory(*end))
 }
 
 // Whether the disk stopped one of the sessions.
@@ -169,8 +169,8 @@ fn are_stopped_by_disk(ends: &[End]) -> bool
 }
 
 // Whether a session ran out of memory.
-fn is_memory(end: End) -> bool
-    ensures { result ≡ is_memory end }
+fn ran_out_of_memory(end: End) -> bool
+    ensures { result ≡ ran_out_of_memory end }
 {
     end == End::Memory
 }

@@ -7,7 +7,7 @@ use Rattle.jf_answers.specs.Explains.{IsAmong, text_in}
 use Rattle.jf_history.specs.Serving.{Served, AreServed, scripts_of, replies_of, passes_of}
 use Rattle.jf_history.specs.declared.end.End.{End}
 use Rattle.jf_history.proofs.Announced.{among-front, among-back}
-use Rattle.jf_serve.specs.Served.{is_memory, wanted_from}
+use Rattle.jf_serve.specs.Served.{ran_out_of_memory, out_of_memory_from}
 use Rattle.jf_serve.specs.Ran.{IsSessionEnd, HaveRunFrom}
 
 -- how they ended
@@ -19,43 +19,43 @@ among_one : (n : ℕ) → IsAmong (n ∷ []) n
 among_one n = ap (λ b. b || false) (eq-eqb n n refl)
 
 -- the first is among them, if it ran out of memory
-wanted_here : (n : ℕ) (e : End) (es : List End) → is_memory e ≡ true → IsAmong (wanted_from n (e ∷ es)) n
-wanted_here n e es memory = subst (λ (b : Bool). IsAmong (cond b (n ∷ wanted_from (n + 1) es) (wanted_from (n + 1) es)) n) (sym memory) (among-front (n ∷ []) (wanted_from (n + 1) es) n (among_one n))
+out_of_memory_here : (n : ℕ) (e : End) (es : List End) → ran_out_of_memory e ≡ true → IsAmong (out_of_memory_from n (e ∷ es)) n
+out_of_memory_here n e es memory = subst (λ (b : Bool). IsAmong (cond b (n ∷ out_of_memory_from (n + 1) es) (out_of_memory_from (n + 1) es)) n) (sym memory) (among-front (n ∷ []) (out_of_memory_from (n + 1) es) n (among_one n))
 
 -- and so are those among the others
-wanted_later : (n : ℕ) (e : End) (es : List End) (k : ℕ) → IsAmong (wanted_from (n + 1) es) k → IsAmong (wanted_from n (e ∷ es)) k
-wanted_later n e es k h = elim (is_memory e) as (λ (b : Bool). IsAmong (cond b (n ∷ wanted_from (n + 1) es) (wanted_from (n + 1) es)) k) [
-  | true ↦ among-back (n ∷ []) (wanted_from (n + 1) es) k h
+out_of_memory_later : (n : ℕ) (e : End) (es : List End) (k : ℕ) → IsAmong (out_of_memory_from (n + 1) es) k → IsAmong (out_of_memory_from n (e ∷ es)) k
+out_of_memory_later n e es k h = elim (ran_out_of_memory e) as (λ (b : Bool). IsAmong (cond b (n ∷ out_of_memory_from (n + 1) es) (out_of_memory_from (n + 1) es)) k) [
+  | true ↦ among-back (n ∷ []) (out_of_memory_from (n + 1) es) k h
   | false ↦ h
 ]
 
 -- ---- all sessions
 
 -- the sessions from number n on, of which these are the scripts, ends, texts and passes
-pub record IsRunOf (store : Store) (wanted : List ℕ) (n : ℕ) (scripts : List (List (List ℕ))) (es : List End) (ts : List (List ℕ)) (ps : List Pass) : Type 0 where
+pub record IsRunOf (store : Store) (out_of_memory : List ℕ) (n : ℕ) (scripts : List (List (List ℕ))) (es : List End) (ts : List (List ℕ)) (ps : List Pass) : Type 0 where
   pub ss : List Served
-  pub served : AreServed store wanted n ss
+  pub served : AreServed store out_of_memory n ss
   pub scripts_are : scripts_of ss ≡ scripts
   pub ends_are : ends_of ss ≡ es
   pub texts_are : map text_in (replies_of ss) ≡ ts
   pub passes_are : passes_of ss ≡ ps
   pub fine : AllByRecursion (λ s. IsSessionEnd s.how) ss
 
-pub run_of : (store : Store) (wanted : List ℕ) (n : ℕ) (scripts : List (List (List ℕ))) (es : List End) (ts : List (List ℕ)) (ps : List Pass) → ((k : ℕ) → IsAmong (wanted_from n es) k → IsAmong wanted k)
-    → HaveRunFrom store n scripts es ts ps → IsRunOf store wanted n scripts es ts ps
-run_of store wanted n [] [] [] [] all h = record { ss = []; served = tt; scripts_are = refl; ends_are = refl; texts_are = refl; passes_are = refl; fine = tt }
-run_of store wanted n [] [] [] (p ∷ ps) all h = absurd h
-run_of store wanted n [] [] (t ∷ ts) ps all h = absurd h
-run_of store wanted n [] (e ∷ es) ts ps all h = absurd h
-run_of store wanted n (script ∷ scripts) [] ts ps all h = absurd h
-run_of store wanted n (script ∷ scripts) (e ∷ es) [] ps all h = absurd h
-run_of store wanted n (script ∷ scripts) (e ∷ es) (t ∷ ts) [] all h = absurd h
-run_of store wanted n (script ∷ scripts) (e ∷ es) (t ∷ ts) (p ∷ ps) all h =
-    let rest = run_of store wanted (n + 1) scripts es ts ps (λ k later. all k (wanted_later n e es k later)) h.1 in
+pub run_of : (store : Store) (out_of_memory : List ℕ) (n : ℕ) (scripts : List (List (List ℕ))) (es : List End) (ts : List (List ℕ)) (ps : List Pass) → ((k : ℕ) → IsAmong (out_of_memory_from n es) k → IsAmong out_of_memory k)
+    → HaveRunFrom store n scripts es ts ps → IsRunOf store out_of_memory n scripts es ts ps
+run_of store out_of_memory n [] [] [] [] all h = record { ss = []; served = tt; scripts_are = refl; ends_are = refl; texts_are = refl; passes_are = refl; fine = tt }
+run_of store out_of_memory n [] [] [] (p ∷ ps) all h = absurd h
+run_of store out_of_memory n [] [] (t ∷ ts) ps all h = absurd h
+run_of store out_of_memory n [] (e ∷ es) ts ps all h = absurd h
+run_of store out_of_memory n (script ∷ scripts) [] ts ps all h = absurd h
+run_of store out_of_memory n (script ∷ scripts) (e ∷ es) [] ps all h = absurd h
+run_of store out_of_memory n (script ∷ scripts) (e ∷ es) (t ∷ ts) [] all h = absurd h
+run_of store out_of_memory n (script ∷ scripts) (e ∷ es) (t ∷ ts) (p ∷ ps) all h =
+    let rest = run_of store out_of_memory (n + 1) scripts es ts ps (λ k later. all k (out_of_memory_later n e es k later)) h.1 in
     let one : Served = record { script = script; how = e; replies = h.0.replies; pass = p } in
     record {
       ss = one ∷ rest.ss;
-      served = (h.0.served wanted (λ memory. all n (wanted_here n e es memory)), rest.served);
+      served = (h.0.served out_of_memory (λ memory. all n (out_of_memory_here n e es memory)), rest.served);
       scripts_are = ap (λ xs. script ∷ xs) rest.scripts_are;
       ends_are = ap (λ xs. e ∷ xs) rest.ends_are;
       texts_are = λ i. sym h.0.text_is i ∷ rest.texts_are i;

@@ -62,7 +62,7 @@ module _ {store : Store} {n : ℕ} {script left : List (List ℕ)} {now : Sessio
     replies = f.replies;
     text_is = f.text_is;
     end_is = tt;
-    served = λ wanted among. record {
+    served = λ out_of_memory among. record {
       done = f.done;
       rest = [];
       first = f.split ∙ ap (λ (ls : List (List ℕ)). f.done ++ ls) none;
@@ -114,7 +114,7 @@ module _ {store : Store} {n : ℕ} {script left : List (List ℕ)} {now : Sessio
       replies = f.replies;
       text_is = f.text_is;
       end_is = tt;
-      served = λ wanted among. record {
+      served = λ out_of_memory among. record {
         done = f.done ++ line ∷ [];
         rest = left';
         first = split_more;
@@ -137,7 +137,7 @@ module _ {store : Store} {n : ℕ} {script left : List (List ℕ)} {now : Sessio
       replies = f.replies;
       text_is = f.text_is;
       end_is = is;
-      served = λ wanted among. record {
+      served = λ out_of_memory among. record {
         done = f.done;
         rest = line ∷ left';
         first = split_next;

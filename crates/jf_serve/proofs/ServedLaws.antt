@@ -11,12 +11,11 @@ use Rattle.jf_model.specs.declared.entries.Entry.{Entry}
 use Rattle.jf_engine.specs.Engines.{Engine}
 use Rattle.jf_turn.specs.Lists.{HasElement}
 use Rattle.jf_turn.proofs.Lists.{has_cons}
-use Rattle.jf_store.specs.declared.event.Event.{Event}
-use Rattle.jf_store.specs.declared.event.Event.TheVariants.{Done, Mark}
 use Rattle.jf_store.specs.Events.{attempt_of, is_marked}
-use Rattle.jf_store.specs.Ledgers.{MarkIsLast, state_behind}
+use Rattle.jf_store.specs.Ledgers.{MarkIsLast, state_after_events}
 use Rattle.jf_store.specs.Passes.{Store, Pass, IsPassOf, new_pass}
 use Rattle.jf_store.specs.Closing.{IsClosed, AreAllPasses, ArePassesOf}
+use Rattle.jf_store.proofs.EventLaws.{attempt_of-front, attempt_of-legal, for_attempt}
 use Rattle.jf_answers.specs.Own.{begun_session}
 use Rattle.jf_answers.specs.OwnLines.{is_own_line}
 use Rattle.jf_answers.specs.Explains.{Timeline, Answered, IsAttempt, next_line, own_after_replies, text_in, timeline_of}
@@ -28,40 +27,21 @@ use Rattle.jf_history.specs.declared.end.End.{End}
 use Rattle.jf_history.specs.declared.end.End.TheVariants as end
 use Rattle.jf_history.proofs.Closed.{pass_there}
 use Rattle.jf_session.proofs.SamePass.{IsSamePass, same_of, same_further, same_by, own_after}
-use Rattle.jf_serve.specs.Served.{is_memory, wanted_of, IsEndOf, AreEnded, ArePinsSpared, HasServed}
+use Rattle.jf_serve.specs.Served.{ran_out_of_memory, out_of_memory_in, IsEndOf, AreEnded, ArePinsSpared, HasServed}
 use Rattle.jf_serve.specs.Ran.{IsSessionEnd, Gathered, HaveRunSessions}
 use Rattle.jf_serve.proofs.AllServed.{ends_of, IsRunOf, run_of}
 
--- ---- marks among events
-
--- what begins with a mark among it has an attempt
-attempt-front : (xs ys : List Event) → is_marked xs ≡ true → (e : Entry) × (attempt_of (xs ++ ys) ≡ Some e)
-attempt-front [] ys marked = absurd (cc)
-attempt-front (Done e ∷ xs) ys marked = attempt-front xs ys marked
-attempt-front (Mark pass e ∷ xs) ys marked = (e, refl)
-
--- the entry that a mark keeps is legal after all entries
-attempt-legal : (s : State) (xs : List Event) → MarkIsLast s xs → IfSome (attempt_of xs) (IsLegal s)
-attempt-legal s [] m = tt
-attempt-legal s (Done e ∷ xs) m = attempt-legal s xs m
-attempt-legal s (Mark pass e ∷ xs) m = m.1.legal
-
--- what holds of each entry that was tried
-for_each_attempt : (o : Option Entry) (P : Entry → Type 0) → ((e : Entry) → o ≡ Some e → P e) → IfSome o P
-for_each_attempt None P h = tt
-for_each_attempt (Some e) P h = h e refl
-
 -- ---- passes
 
-module _ (store : Store) (wanted : List ℕ) where
+module _ (store : Store) (out_of_memory : List ℕ) where
   -- its pass is the one that it began with, and has seen more
-  same_pass : (n : ℕ) (s : Served) → IsServed store wanted n s → IsSamePass (new_pass store n) s.pass
+  same_pass : (n : ℕ) (s : Served) → IsServed store out_of_memory n s → IsSamePass (new_pass store n) s.pass
   same_pass n s served =
       subst (IsSamePass (new_pass store n)) (sym served.pass_is)
       (same_further (new_pass store n) served.mid.pass served.last.pass (same_of (new_pass store n) served.mid.pass served.answered.same) (same_by s.how store.start served.mid served.last served.next served.ends))
 
   -- so they are passes of the store
-  pub all_own : (n : ℕ) (ss : List Served) → AreServed store wanted n ss → ArePassesOf store (passes_of ss)
+  pub all_own : (n : ℕ) (ss : List Served) → AreServed store out_of_memory n ss → ArePassesOf store (passes_of ss)
   all_own n [] served p has = absurd (maybe.some-ne-none p (sym has.1))
   all_own n (s ∷ ss) served p has = elim (has_cons s.pass (passes_of ss) p has) as (λ o. IsPassOf p store) [
     | inl same ↦ subst (λ (q : Pass). IsPassOf q store) same (own_after store (new_pass store n) s.pass (refl, refl) (same_pass n s served.0))
@@ -69,25 +49,25 @@ module _ (store : Store) (wanted : List ℕ) where
   ]
 
   -- and one of them has each number
-  pub all_there : (n : ℕ) (ss : List Served) → AreServed store wanted n ss → (k : ℕ) → k < length ss → (p : Pass) × HasElement (passes_of ss) p × (p.number ≡ n + k)
+  pub all_there : (n : ℕ) (ss : List Served) → AreServed store out_of_memory n ss → (k : ℕ) → k < length ss → (p : Pass) × HasElement (passes_of ss) p × (p.number ≡ n + k)
   all_there n [] served k lt = absurd (omega arith)
   all_there n (s ∷ ss) served zero lt = (s.pass, (0, refl), (same_pass n s served.0).2 ∙ omega arith)
   all_there n (s ∷ ss) served (suc k) lt = let r = all_there (n + 1) ss served.1 k (omega arith) in (r.0, (suc r.1.0, r.1.1), r.2 ∙ omega arith)
 
 -- ---- one session
 
-module _ (store : Store) (wanted : List ℕ) (n : ℕ) (s : Served) (served : IsServed store wanted n s) where
+module _ (store : Store) (out_of_memory : List ℕ) (n : ℕ) (s : Served) (served : IsServed store out_of_memory n s) where
   -- unless it ran out of memory, it was told all replies that it had
-  told_all : is_memory s.how ≡ false → s.replies ≡ served.had
+  told_all : ran_out_of_memory s.how ≡ false → s.replies ≡ served.had
   told_all enough = elim served.told as (λ o. s.replies ≡ served.had) [
     | inl same ↦ same
-    | inr lost ↦ absurd (let memory : is_memory s.how ≡ true = ap is_memory lost.0 in cc)
+    | inr lost ↦ absurd (let memory : ran_out_of_memory s.how ≡ true = ap ran_out_of_memory lost.0 in cc)
   ]
 
   -- one that ended well answered all lines
   all_answered : s.how ≡ end.Done → length s.replies ≡ length s.script
   all_answered well =
-      ap (λ (rs : List Answered). length rs) (told_all (ap is_memory well))
+      ap (λ (rs : List Answered). length rs) (told_all (ap ran_out_of_memory well))
       ∙ served.answered.all
       ∙ sym (ap (λ (ls : List (List ℕ)). length ls) (served.first ∙ ap (λ (ls : List (List ℕ)). served.done ++ ls) (served.whole well) ∙ append-nil served.done))
 
@@ -103,13 +83,13 @@ module _ (store : Store) (wanted : List ℕ) (n : ℕ) (s : Served) (served : Is
   broken_asks broken =
       let b = broken_by broken in
       let there : next_line s.script served.had ≡ Some b.0 = subst (λ (o : Option (List ℕ)). IfSome o (λ line. next_line s.script served.had ≡ Some line)) b.1 served.next_is in
-      (b.0, ap (next_line s.script) (told_all (ap is_memory broken)) ∙ there, b.2.asks)
+      (b.0, ap (next_line s.script) (told_all (ap ran_out_of_memory broken)) ∙ there, b.2.asks)
 
 -- ---- all sessions of a store that was closed
 
-module _ (store : Store) (all : List Served) (entries : List Entry) (engine : Engine) (passes : store.start.passes ≡ length all) (closed : IsClosed store.start (passes_of all) entries engine) (served : AreServed store (wanted_of (ends_of all)) 0 all) where
-  abbrev wanted : List ℕ
-  wanted = wanted_of (ends_of all)
+module _ (store : Store) (all : List Served) (entries : List Entry) (engine : Engine) (passes : store.start.passes ≡ length all) (closed : IsClosed store.start (passes_of all) entries engine) (served : AreServed store (out_of_memory_in (ends_of all)) 0 all) where
+  abbrev out_of_memory : List ℕ
+  out_of_memory = out_of_memory_in (ends_of all)
 
   abbrev h : Timeline
   h = timeline_of store.start.state entries (scripts_of all)
@@ -121,7 +101,7 @@ module _ (store : Store) (all : List Served) (entries : List Entry) (engine : En
   marked_attempt : (s : Served) → HasElement (passes_of all) s.pass → is_marked s.pass.seen ≡ true → (e : Entry) × (attempt ≡ Some e)
   marked_attempt s there marked =
       let begins = closed.seen s.pass there in
-      let a = attempt-front s.pass.seen begins.0 marked in
+      let a = attempt_of-front s.pass.seen begins.0 marked in
       (a.0, ap attempt_of begins.1 ∙ a.1)
 
   there_in : (before after : List Served) (s : Served) → all ≡ before ++ s ∷ after → HasElement (passes_of all) s.pass
@@ -131,18 +111,18 @@ module _ (store : Store) (all : List Served) (entries : List Entry) (engine : En
   fault_tried : ClosedTries → (before after : List Served) (s : Served) → all ≡ before ++ s ∷ after → s.how ≡ end.DiskFault → (e : Entry) × (attempt ≡ Some e) × IsAttempt h (length before) s.script s.replies e
   fault_tried tries before after s split fault =
       subst
-      (λ (xs : List Served). store.start.passes ≡ length xs → (c : IsClosed store.start (passes_of xs) entries engine) → AreServed store wanted 0 xs
+      (λ (xs : List Served). store.start.passes ≡ length xs → (c : IsClosed store.start (passes_of xs) entries engine) → AreServed store out_of_memory 0 xs
       → (e : Entry) × (attempt_of c.events ≡ Some e) × IsAttempt (timeline_of store.start.state entries (scripts_of xs)) (length before) s.script s.replies e)
-      (sym split) (λ many c are. tries store before after s wanted entries engine many c are fault) passes closed served
+      (sym split) (λ many c are. tries store before after s out_of_memory entries engine many c are fault) passes closed served
 
-  end_is : ClosedTries → (before after : List Served) (s : Served) → all ≡ before ++ s ∷ after → IsServed store wanted (length before) s → (how : End) → s.how ≡ how → IsSessionEnd how → IsEndOf h attempt (length before) s.script s.replies how
-  end_is tries before after s split one end.Done is fine = all_answered store wanted (length before) s one is
+  end_is : ClosedTries → (before after : List Served) (s : Served) → all ≡ before ++ s ∷ after → IsServed store out_of_memory (length before) s → (how : End) → s.how ≡ how → IsSessionEnd how → IsEndOf h attempt (length before) s.script s.replies how
+  end_is tries before after s split one end.Done is fine = all_answered store out_of_memory (length before) s one is
   end_is tries before after s split one end.ReadFault is fine = absurd fine
   end_is tries before after s split one end.WriteFault is fine = absurd fine
   end_is tries before after s split one end.DiskFault is fine = fault_tried tries before after s split is
   end_is tries before after s split one end.Broken is fine =
-      let a = marked_attempt s (there_in before after s split) (broken_marked store wanted (length before) s one is) in
-      (a.0, a.1, broken_asks store wanted (length before) s one is)
+      let a = marked_attempt s (there_in before after s split) (broken_marked store out_of_memory (length before) s one is) in
+      (a.0, a.1, broken_asks store out_of_memory (length before) s one is)
   end_is tries before after s split one end.Memory is fine = tt
 
   one_further : (before after : List Served) (s : Served) → all ≡ before ++ s ∷ after → all ≡ (before ++ s ∷ []) ++ after
@@ -151,25 +131,25 @@ module _ (store : Store) (all : List Served) (entries : List Entry) (engine : En
   one_longer : (before : List Served) (s : Served) (n : ℕ) → n ≡ length before → n + 1 ≡ length (before ++ s ∷ [])
   one_longer before s n at = omega (arith, length-append before (s ∷ []))
 
-  ended_from : ClosedTries → (n : ℕ) (before after : List Served) → n ≡ length before → all ≡ before ++ after → AreServed store wanted n after → AllByRecursion (λ s. IsSessionEnd s.how) after → AreEnded h attempt n (scripts_of after) (replies_of after) (ends_of after)
+  ended_from : ClosedTries → (n : ℕ) (before after : List Served) → n ≡ length before → all ≡ before ++ after → AreServed store out_of_memory n after → AllByRecursion (λ s. IsSessionEnd s.how) after → AreEnded h attempt n (scripts_of after) (replies_of after) (ends_of after)
   ended_from tries n before [] at split are fine = tt
   ended_from tries n before (s ∷ after) at split are fine = (
-    subst (λ (k : ℕ). IsEndOf h attempt k s.script s.replies s.how) (sym at) (end_is tries before after s split (subst (λ (k : ℕ). IsServed store wanted k s) at are.0) s.how refl fine.0),
+    subst (λ (k : ℕ). IsEndOf h attempt k s.script s.replies s.how) (sym at) (end_is tries before after s split (subst (λ (k : ℕ). IsServed store out_of_memory k s) at are.0) s.how refl fine.0),
     ended_from tries (n + 1) (before ++ s ∷ []) after (one_longer before s n at) (one_further before after s split) are.1 fine.1,
   )
 
   -- ---- what they have pinned
-  pins_spared : ClosedSparesPins → (before after : List Served) (s : Served) → all ≡ before ++ s ∷ after → IsServed store wanted (length before) s → (g : History) → engine.history ≡ Some g → is_memory s.how ≡ false
+  pins_spared : ClosedSparesPins → (before after : List Served) (s : Served) → all ≡ before ++ s ∷ after → IsServed store out_of_memory (length before) s → (g : History) → engine.history ≡ Some g → ran_out_of_memory s.how ≡ false
       → SparesPinsSince store.start.moment g (own_after_replies (begun_session (length before)) s.replies)
   pins_spared spares before after s split one g told enough =
-      subst (λ (rs : List Answered). SparesPinsSince store.start.moment g (own_after_replies (begun_session (length before)) rs)) (sym (told_all store wanted (length before) s one enough))
-      (spares store before after s wanted entries engine (subst (λ (xs : List Served). IsClosed store.start (passes_of xs) entries engine) split closed) one g told)
+      subst (λ (rs : List Answered). SparesPinsSince store.start.moment g (own_after_replies (begun_session (length before)) rs)) (sym (told_all store out_of_memory (length before) s one enough))
+      (spares store before after s out_of_memory entries engine (subst (λ (xs : List Served). IsClosed store.start (passes_of xs) entries engine) split closed) one g told)
 
-  spared_from : ClosedSparesPins → (g : History) → engine.history ≡ Some g → (n : ℕ) (before after : List Served) → n ≡ length before → all ≡ before ++ after → AreServed store wanted n after → ArePinsSpared store.start.moment g n (replies_of after) (ends_of after)
+  spared_from : ClosedSparesPins → (g : History) → engine.history ≡ Some g → (n : ℕ) (before after : List Served) → n ≡ length before → all ≡ before ++ after → AreServed store out_of_memory n after → ArePinsSpared store.start.moment g n (replies_of after) (ends_of after)
   spared_from spares g told n before [] at split are = tt
   spared_from spares g told n before (s ∷ after) at split are = (
-    subst (λ (k : ℕ). is_memory s.how ≡ false → SparesPinsSince store.start.moment g (own_after_replies (begun_session k) s.replies)) (sym at)
-        (λ enough. pins_spared spares before after s split (subst (λ (k : ℕ). IsServed store wanted k s) at are.0) g told enough),
+    subst (λ (k : ℕ). ran_out_of_memory s.how ≡ false → SparesPinsSince store.start.moment g (own_after_replies (begun_session k) s.replies)) (sym at)
+        (λ enough. pins_spared spares before after s split (subst (λ (k : ℕ). IsServed store out_of_memory k s) at are.0) g told enough),
     spared_from spares g told (n + 1) (before ++ s ∷ []) after (one_longer before s n at) (one_further before after s split) are.1,
   )
 
@@ -187,10 +167,10 @@ module _ (store : Store) (all : List Served) (entries : List Entry) (engine : En
     attempt = attempt;
     replies = replies_of all;
     outputs_are = refl;
-    explained = explains store all wanted entries engine passes closed served;
+    explained = explains store all out_of_memory entries engine passes closed served;
     ended = ended_from tries 0 [] all refl refl served fine;
-    tried = for_each_attempt attempt (λ e. (n : ℕ) × (slice_get (ends_of all) n ≡ Some end.DiskFault)) (λ e is. fault_there e (blames store all wanted entries engine e passes closed served is));
-    legal = subst (λ (es : List Entry). IfSome attempt (IsLegal (replay store.start.state es))) (sym closed.entries_are) (attempt-legal (state_behind store.start closed.events) closed.events closed.history.marked);
+    tried = for_attempt attempt (λ e. (n : ℕ) × (slice_get (ends_of all) n ≡ Some end.DiskFault)) (λ e is. fault_there e (blames store all out_of_memory entries engine e passes closed served is));
+    legal = subst (λ (es : List Entry). IfSome attempt (IsLegal (replay store.start.state es))) (sym closed.entries_are) (attempt_of-legal (state_after_events store.start closed.events) closed.events closed.history.marked);
     kept = closed.kept;
     spared = λ g told. spared_from spares g told 0 [] all refl refl served;
     grows = closed.grows;
@@ -200,24 +180,24 @@ module _ (store : Store) (all : List Served) (entries : List Entry) (engine : En
 -- ---- what was gathered
 
 module _ (store : Store) (scripts : List (List (List ℕ))) (g : Gathered) (ran : HaveRunSessions store 0 scripts g) where
-  abbrev run : IsRunOf store (wanted_of g.ends) 0 scripts g.ends g.texts g.passes
-  run = run_of store (wanted_of g.ends) 0 scripts g.ends g.texts g.passes (λ k h. h) ran
+  abbrev run : IsRunOf store (out_of_memory_in g.ends) 0 scripts g.ends g.texts g.passes
+  run = run_of store (out_of_memory_in g.ends) 0 scripts g.ends g.texts g.passes (λ k h. h) ran
 
   pub passes_own : ArePassesOf store g.passes
-  passes_own = subst (ArePassesOf store) run.passes_are (all_own store (wanted_of g.ends) 0 run.ss run.served)
+  passes_own = subst (ArePassesOf store) run.passes_are (all_own store (out_of_memory_in g.ends) 0 run.ss run.served)
 
   as_many : length scripts ≡ length run.ss
   as_many = sym (ap (λ (xs : List (List (List ℕ))). length xs) run.scripts_are) ∙ length-map run.ss (λ (s : Served). s.script)
 
   pub passes_all : store.start.passes ≡ length scripts → AreAllPasses store g.passes
   passes_all many n below =
-      let r = all_there store (wanted_of g.ends) 0 run.ss run.served n (let m = as_many in omega arith) in
+      let r = all_there store (out_of_memory_in g.ends) 0 run.ss run.served n (let m = as_many in omega arith) in
       (r.0, subst (λ (ps : List Pass). HasElement ps r.0) run.passes_are r.1, r.2 ∙ omega arith)
 
   pub has_served : (entries : List Entry) (engine : Engine) → store.start.passes ≡ length scripts → IsClosed store.start g.passes entries engine → ClosedExplains → ClosedTries → ClosedBlames → ClosedSparesPins → HasServed store.start scripts g.texts g.ends entries engine
   has_served entries engine many closed explains tries blames spares =
       let closed' = subst (λ (ps : List Pass). IsClosed store.start ps entries engine) (sym run.passes_are) closed in
-      let served' = subst (λ (es : List End). AreServed store (wanted_of es) 0 run.ss) (sym run.ends_are) run.served in
+      let served' = subst (λ (es : List End). AreServed store (out_of_memory_in es) 0 run.ss) (sym run.ends_are) run.served in
       let whole = served_closed store run.ss entries engine (many ∙ as_many) closed' served' explains tries blames spares run.fine in
       subst (λ (es : List End). HasServed store.start scripts g.texts es entries engine) run.ends_are
       (subst (λ (ts : List (List ℕ)). HasServed store.start scripts ts (ends_of run.ss) entries engine) run.texts_are

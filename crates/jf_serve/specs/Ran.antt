@@ -5,7 +5,7 @@ use Rattle.jf_answers.specs.Explains.{IsAmong, Answered, text_in}
 use Rattle.jf_history.specs.Serving.{IsServed}
 use Rattle.jf_history.specs.declared.end.End.{End}
 use Rattle.jf_history.specs.declared.end.End.TheVariants as end
-use Rattle.jf_serve.specs.Served.{is_memory}
+use Rattle.jf_serve.specs.Served.{ran_out_of_memory}
 
 -- a session takes no input and writes to no sink
 abbrev pub IsSessionEnd : End → Type 0
@@ -21,7 +21,7 @@ pub record HasRunSession (store : Store) (n : ℕ) (script : List (List ℕ)) (h
   pub replies : List Answered
   pub text_is : text ≡ text_in replies
   pub end_is : IsSessionEnd how
-  pub served : (wanted : List ℕ) → (is_memory how ≡ true → IsAmong wanted n) → IsServed store wanted n (record { script = script; how = how; replies = replies; pass = pass })
+  pub served : (out_of_memory : List ℕ) → (ran_out_of_memory how ≡ true → IsAmong out_of_memory n) → IsServed store out_of_memory n (record { script = script; how = how; replies = replies; pass = pass })
 
 -- what sessions came to, in the order of their numbers, and for how many there is room
 pub record Gathered : Type 0 where

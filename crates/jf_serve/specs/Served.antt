@@ -15,22 +15,22 @@ use Rattle.jf_history.specs.declared.end.End.{End}
 use Rattle.jf_history.specs.declared.end.End.TheVariants as end
 
 -- whether a session ran out of memory
-abbrev pub is_memory : End → Bool
-is_memory end.Done = false
-is_memory end.ReadFault = false
-is_memory end.WriteFault = false
-is_memory end.DiskFault = false
-is_memory end.Broken = false
-is_memory end.Memory = true
+abbrev pub ran_out_of_memory : End → Bool
+ran_out_of_memory end.Done = false
+ran_out_of_memory end.ReadFault = false
+ran_out_of_memory end.WriteFault = false
+ran_out_of_memory end.DiskFault = false
+ran_out_of_memory end.Broken = false
+ran_out_of_memory end.Memory = true
 
 -- the numbers, from n on, of the sessions that ran out of memory
-abbrev pub wanted_from : ℕ → List End → List ℕ
-wanted_from n [] = []
-wanted_from n (e ∷ es) = if is_memory e then n ∷ wanted_from (n + 1) es else wanted_from (n + 1) es
+abbrev pub out_of_memory_from : ℕ → List End → List ℕ
+out_of_memory_from n [] = []
+out_of_memory_from n (e ∷ es) = if ran_out_of_memory e then n ∷ out_of_memory_from (n + 1) es else out_of_memory_from (n + 1) es
 
 -- the numbers of the sessions that ran out of memory
-abbrev pub wanted_of : List End → List ℕ
-wanted_of es = wanted_from 0 es
+abbrev pub out_of_memory_in : List End → List ℕ
+out_of_memory_in es = out_of_memory_from 0 es
 
 -- how session n ended, by its script and its replies; `attempt` is what was tried when the disk failed. It ends at a disk that
 -- failed in an earlier call only at a line that asks the store
@@ -52,11 +52,11 @@ AreEnded h attempt n (script ∷ scripts) (rs ∷ rss) [] = ⊥
 AreEnded h attempt n (script ∷ scripts) (rs ∷ rss) (e ∷ es) = IsEndOf h attempt n script rs e × AreEnded h attempt (n + 1) scripts rss es
 
 -- each image left since a moment stands for versions of which the floor is above no version that a session has pinned after its
--- replies; of a session that ran out of memory, whose last reply may be missing, nothing is said
+-- replies; of a session that ran out of memory, whose last replies may be missing, nothing is said
 abbrev pub ArePinsSpared : ℕ → History → ℕ → List (List Answered) → List End → Type 0
 ArePinsSpared moment h n [] es = Unit {0}
 ArePinsSpared moment h n (rs ∷ rss) [] = ⊥
-ArePinsSpared moment h n (rs ∷ rss) (e ∷ es) = (is_memory e ≡ false → SparesPinsSince moment h (own_after_replies (begun_session n) rs)) × ArePinsSpared moment h (n + 1) rss es
+ArePinsSpared moment h n (rs ∷ rss) (e ∷ es) = (ran_out_of_memory e ≡ false → SparesPinsSince moment h (own_after_replies (begun_session n) rs)) × ArePinsSpared moment h (n + 1) rss es
 
 -- the sessions of a store that began so answered the first lines of these scripts with these outputs, and the store was then closed.
 -- One legal history explains what they were answered; if the disk failed, what was tried is the attempt of one of them; and the
@@ -65,7 +65,7 @@ pub record HasServed (start : Start) (scripts : List (List (List ℕ))) (outputs
   pub attempt : Option Entry
   pub replies : List (List Answered)
   pub outputs_are : outputs ≡ map text_in replies
-  pub explained : ExplainsAnswers start.state entries scripts replies (wanted_of ends)
+  pub explained : ExplainsAnswers start.state entries scripts replies (out_of_memory_in ends)
   pub ended : AreEnded (timeline_of start.state entries scripts) attempt 0 scripts replies ends
   pub tried : IfSome attempt (λ e. (n : ℕ) × (slice_get ends n ≡ Some end.DiskFault))
   pub legal : IfSome attempt (IsLegal (replay start.state entries))

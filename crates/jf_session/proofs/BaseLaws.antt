@@ -11,7 +11,7 @@ use Rattle.jf_store.specs.declared.event.Event.{Event}
 use Rattle.jf_store.specs.declared.fault.StoreFault.{StoreFault}
 use Rattle.jf_store.specs.Events.{is_marked}
 use Rattle.jf_store.specs.Starts.{Start}
-use Rattle.jf_store.specs.Ledgers.{state_behind}
+use Rattle.jf_store.specs.Ledgers.{state_after_events}
 use Rattle.jf_store.specs.Refusals.{StoreFaults, IsRefusal, broken_faults}
 use Rattle.jf_store.specs.Passes.{Pass, Sees}
 use Rattle.jf_script.specs.declared.command.Base.{Base}
@@ -67,7 +67,7 @@ module _ (start : Start) (p p' : Pass) (pending : Batch) (over over' : Bool) (ol
   now = session_of p' pending over'
 
   abbrev s : State
-  s = state_behind start p'.seen
+  s = state_after_events start p'.seen
 
   abbrev own : Own
   own = own_of p pending
@@ -91,7 +91,7 @@ pinned_version (x ∷ xs) (suc place) = pinned_version xs place
 
 module _ (start : Start) (p : Pass) (pending : Batch) (over over' : Bool) (old : Session) (view : session_of p pending over ≡ old) (sound : IsSoundSession (session_of p pending over)) (on_store : p.start ≡ Some start) (goes : over ≡ false) (place : ℕ) where
   abbrev here : State
-  here = state_behind start p.seen
+  here = state_after_events start p.seen
 
   abbrev mine : Own
   mine = own_of p pending
@@ -141,12 +141,12 @@ module _ (start : Start) (p p' : Pass) (pending : Batch) (over over' : Bool) (ol
   itself_not : IsTrue (is_place b) → p'.seen ≡ p.seen
   itself_not place = absurd (let e : true ≡ false = sym place ∙ asks in cc)
 
-  pub found_after : {A : Type 0} (r : Result A Halt) (map : A → Map) → OnOk r (IsRead p'.seen (base_causes (state_behind start p'.seen) (own_of p pending) b)) → IfOk r (λ x. map x ≡ base_map (state_behind start p'.seen) (own_of p pending) b)
+  pub found_after : {A : Type 0} (r : Result A Halt) (map : A → Map) → OnOk r (IsRead p'.seen (base_causes (state_after_events start p'.seen) (own_of p pending) b)) → IfOk r (λ x. map x ≡ base_map (state_after_events start p'.seen) (own_of p pending) b)
       → IfOk r (λ x. FoundBase start old (session_of p' pending over') on (map x))
   found_after (Ok x) map read at = subst (λ (c : Base). FoundBase start old (session_of p' pending over') c (map x)) (sym is) (found_base start p p' pending over over' old view b sees itself_not (map x) read at)
   found_after (Err h) map read at = tt
 
-  pub halted_after : {A : Type 0} (r : Result A Halt) → IfErr r (HaltsFor p'.seen (base_causes (state_behind start p'.seen) (own_of p pending) b)) → IfErr r (λ h. over' ≡ is_end h)
+  pub halted_after : {A : Type 0} (r : Result A Halt) → IfErr r (HaltsFor p'.seen (base_causes (state_after_events start p'.seen) (own_of p pending) b)) → IfErr r (λ h. over' ≡ is_end h)
       → IfErr r (λ h. HasHalted start old (session_of p' pending over') on h)
   halted_after (Ok x) halts ends = tt
   halted_after (Err h) halts ends = subst (λ (c : Base). HasHalted start old (session_of p' pending over') c h) (sym is) (halted_base start p p' pending over over' old view b sees itself_not h halts ends (λ marked. asks))

@@ -6,7 +6,7 @@ use Rattle.jf_model.specs.declared.entries.Entry.{Entry}
 use Rattle.jf_store.specs.declared.event.Event.{Event}
 use Rattle.jf_store.specs.declared.event.Event.TheVariants.{Done, Mark}
 use Rattle.jf_store.specs.Starts.{Start}
-use Rattle.jf_store.specs.Ledgers.{state_behind}
+use Rattle.jf_store.specs.Ledgers.{state_after_events}
 use Rattle.jf_store.specs.Passes.{Pass, SeesOwn}
 use Rattle.jf_script.specs.declared.command.Command.{Command}
 use Rattle.jf_script.specs.declared.reply.Reply.{Reply}
@@ -25,13 +25,13 @@ own_of p pending = record { number = p.number; pending = pending; pins = pinned_
 
 -- the floor of an entry is one that pins allow, and one that its session may have held back
 pub record HasSoundFloor (start : Start) (own : Own) (events before : List Event) (e : Entry) : Type 0 where
-  pub allowed : (pins : List ℕ) → HaveMet pins start events → (h : Timeline) → h.pins ≡ pins → HasFloor h (state_behind start before) own e
-  pub held : HeldFloor start own (state_behind start before) e
+  pub allowed : (pins : List ℕ) → HaveMet pins start events → (h : Timeline) → h.pins ≡ pins → HasFloor h (state_after_events start before) own e
+  pub held : HeldFloor start own (state_after_events start before) e
 
 -- an event of the pass is over this state, and its entry is the command's
 pub record FollowsBy (start : Start) (p p' : Pass) (pending : Batch) (c : Command) (before : List Event) (x : Event) (e : Entry) : Type 0 where
   pub sees : SeesOwn p p' before x
-  pub grants : Grants (state_behind start before) (own_of p pending) c e
+  pub grants : Grants (state_after_events start before) (own_of p pending) c e
   pub floor : HasSoundFloor start (own_of p pending) p'.seen before e
 
 -- the pass added the entry of the command, and the reply is the command's
@@ -40,9 +40,9 @@ pub record Enters (start : Start) (p p' : Pass) (pending pending' : Batch) (c : 
   pub event : Entry
   pub follows : FollowsBy start p p' pending c before (Done event) event
   pub owned : owner_of event ≡ p.number
-  pub own : own_of p pending' ≡ (granted_with (state_behind start before) (own_of p pending) c event).own
-  pub reply : r ≡ (granted_with (state_behind start before) (own_of p pending) c event).reply
-  pub block : (granted_with (state_behind start before) (own_of p pending) c event).block ≡ []
+  pub own : own_of p pending' ≡ (granted_with (state_after_events start before) (own_of p pending) c event).own
+  pub reply : r ≡ (granted_with (state_after_events start before) (own_of p pending) c event).reply
+  pub block : (granted_with (state_after_events start before) (own_of p pending) c event).block ≡ []
 
 -- the disk failed in the entry of the command
 pub record Tries (start : Start) (p p' : Pass) (pending : Batch) (c : Command) : Type 0 where
@@ -52,16 +52,16 @@ pub record Tries (start : Start) (p p' : Pass) (pending : Batch) (c : Command) :
 
 module _ (start : Start) (p p' : Pass) (pending pending' : Batch) (over over' : Bool) (old : Session) (view : session_of p pending over ≡ old) (c : Command) where
   gives_for : (before : List Event) (x : Event) (e : Entry) → FollowsBy start p p' pending c before x e → (events : List Event) → (pins : List ℕ) → HaveMet pins start p'.seen
-      → GivesFor (timeline start pins events) (state_behind start before) (own_of p pending) c e
+      → GivesFor (timeline start pins events) (state_after_events start before) (own_of p pending) c e
   gives_for before x e f events pins met = record {
-    same = ap (λ (a : Answer). a.entry) (answer-granted (state_behind start before) (own_of p pending) c e f.grants.free) ∙ f.grants.gives;
+    same = ap (λ (a : Answer). a.entry) (answer-granted (state_after_events start before) (own_of p pending) c e f.grants.free) ∙ f.grants.gives;
     floor = f.floor.allowed pins met (timeline start pins events) refl;
   }
 
   -- a command that gave its entry is done
   pub IsDoneAs-entered : (r : Reply) → Enters start p p' pending pending' c r → IsDoneAs start old (session_of p' pending' over') c r []
   IsDoneAs-entered r t =
-      let same = answer-granted (state_behind start t.before) (own_of p pending) c t.event t.follows.grants.free in
+      let same = answer-granted (state_after_events start t.before) (own_of p pending) c t.event t.follows.grants.free in
       inr (subst (λ (o : Session). DoneByEntry start o (session_of p' pending' over') c r []) view record {
         before = t.before;
         event = t.event;

@@ -19,7 +19,7 @@ use Rattle.jf_history.proofs.Steps.{one_more_answered}
 use Rattle.jf_session.specs.Taking.{Makes, AnswersLine, AnswersEnd, StaysQuiet, end_of_feeding}
 use Rattle.jf_session.specs.declared.stop.Stop.{Stop}
 use Rattle.jf_session.specs.declared.stop.Stop.TheVariants as stop
-use Rattle.jf_session.proofs.Replied.{whole_is_cut, cut_is_cut}
+use Rattle.jf_session.proofs.Replied.{all_but_last, cut_is_cut}
 use Rattle.jf_session.proofs.Taken.{makes_at, took_more, went_on, reads_to}
 
 module _ (start : Start) (old : Pass) (begun : old.start ≡ Some start) (none : HasAnswered start old (new_session old) [] []) (piece : ℕ) (rest rest' text text' : Option (List ℕ)) where
@@ -112,9 +112,7 @@ module _ (start : Start) (old : Pass) (begun : old.start ≡ Some start) (none :
     pass_is = refl;
     writes = record {
       text = s.said;
-      by =
-          let cut = cut_is_cut s.replies r [] s.said [] r.text s.said_is refl tt in
-          subst (λ (x : List ℕ). WritesBy end.Memory (s.replies ++ r ∷ []) x) (append-nil s.said) (subst (λ (x : List Answered). WritesBy end.Memory x (s.said ++ [])) (append-nil (s.replies ++ r ∷ [])) cut);
+      by = inr (s.said_is ∙ ap text_in (sym (all_but_last s.replies r)));
       appended = same ∙ s.written;
     };
     reads = reads_begun end.Memory (ds ++ line ∷ []) None (λ taken left ls. tt) (subst (λ (x : List (List ℕ)). ReadsLinesOf rest rest' x) (sym (append-nil (ds ++ line ∷ []))) reads);
@@ -149,7 +147,7 @@ module _ (start : Start) (old : Pass) (begun : old.start ≡ Some start) (none :
   stopped_by stop.DiskFault m new ds so_far line s makes same reads = stopped_in end.DiskFault m new ds so_far line s (line, refl, makes) s.said_is same (λ taken left ls. tt) reads
   stopped_by stop.Broken m new ds so_far line s makes same reads = stopped_in end.Broken m new ds so_far line s (line, refl, makes) s.said_is same (λ taken left ls. tt) reads
   stopped_by stop.Memory m new ds so_far line s makes same reads = elim makes [
-    | inl idle ↦ stopped_in end.Memory m new ds so_far line s idle (whole_is_cut s.replies s.said s.said_is) same (λ taken left ls. tt) reads
+    | inl idle ↦ stopped_in end.Memory m new ds so_far line s idle (inl s.said_is) same (λ taken left ls. tt) reads
     | inr r ↦ unwritten m new ds so_far line r.1.0 s r.1.1 same reads
   ]
 
@@ -177,7 +175,7 @@ module _ (start : Start) (old : Pass) (begun : old.start ≡ Some start) (none :
   ran_fed feeding.Memory new f =
       let s = is_said f.mid f.done f.text_so_far f.said f.took f.written in
       elim f.ended [
-        | inl b ↦ ended_between end.Memory f.mid new f.done f.text_so_far s b.0 (whole_is_cut s.replies s.said s.said_is) b.1 (λ all is.
+        | inl b ↦ ended_between end.Memory f.mid new f.done f.text_so_far s b.0 (inl s.said_is) b.1 (λ all is.
             let r = b.2 all is in
             (r.0, r.1, record { taken = r.2.taken; split = r.2.split; first = r.2.first; far = tt; begun = tt }))
         | inr e ↦ elim e [ inl l ↦ absurd l.2 | inr a ↦ absurd a.0 ]

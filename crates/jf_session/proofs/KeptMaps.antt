@@ -14,7 +14,7 @@ use Rattle.jf_turn.specs.Lists.{StartsWith}
 use Rattle.jf_store.specs.declared.event.Event.{Event}
 use Rattle.jf_store.specs.Events.{entries_of}
 use Rattle.jf_store.specs.Starts.{Start}
-use Rattle.jf_store.specs.Ledgers.{state_behind}
+use Rattle.jf_store.specs.Ledgers.{state_after_events}
 use Rattle.jf_store.specs.Passes.{Pass}
 use Rattle.jf_store.proofs.EventLaws.{entries_of-append}
 use Rattle.jf_session.specs.Steps.{TellsMap, PinsTell}
@@ -56,12 +56,12 @@ KeepsMaps-replay s [] = KeepsMaps-self s.all
 KeepsMaps-replay s (e ∷ es) = KeepsMaps-then s.all (after e s).all (replay (after e s) es).all (KeepsMaps-after e s) (KeepsMaps-replay (after e s) es)
 
 -- ---- events
-pub KeepsMaps-behind : (start : Start) (old new : List Event) → StartsWith new old → KeepsMaps (state_behind start old).all (state_behind start new).all
+pub KeepsMaps-behind : (start : Start) (old new : List Event) → StartsWith new old → KeepsMaps (state_after_events start old).all (state_after_events start new).all
 KeepsMaps-behind start old new begins =
     let more = entries_of begins.0 in
-    let same : state_behind start new ≡ replay (state_behind start old) more =
-    ap (λ xs. state_behind start xs) begins.1 ∙ ap (replay start.state) (entries_of-append old begins.0) ∙ replay-append start.state (entries_of old) more in
-    subst (λ (s : State). KeepsMaps (state_behind start old).all s.all) (sym same) (KeepsMaps-replay (state_behind start old) more)
+    let same : state_after_events start new ≡ replay (state_after_events start old) more =
+    ap (λ xs. state_after_events start xs) begins.1 ∙ ap (replay start.state) (entries_of-append old begins.0) ∙ replay-append start.state (entries_of old) more in
+    subst (λ (s : State). KeepsMaps (state_after_events start old).all s.all) (sym same) (KeepsMaps-replay (state_after_events start old) more)
 
 -- ---- pins
 -- what is pinned is still the map of its version

@@ -9,10 +9,10 @@ use Rattle.jf_store.specs.declared.event.Event.{Event}
 use Rattle.jf_store.specs.declared.event.Event.TheVariants.{Done, Mark}
 use Rattle.jf_store.specs.Events.{entries_of, is_marked}
 use Rattle.jf_store.specs.Starts.{Start}
-use Rattle.jf_store.specs.Ledgers.{AreEvents, IsUndone, state_behind}
+use Rattle.jf_store.specs.Ledgers.{AreEvents, IsUndone, state_after_events}
 use Rattle.jf_store.specs.Passes.{Pass, SeesOwn}
 use Rattle.jf_history.proofs.OneSession.{mark_there}
-use Rattle.jf_store.proofs.EventLaws.{entries_of-append, entries_of-done, is_marked-append, state_behind-mark}
+use Rattle.jf_store.proofs.EventLaws.{entries_of-append, entries_of-done, is_marked-append, state_after_events-mark}
 
 -- the pass has seen what it had seen, and more
 pub begins_own : (p p' : Pass) (before : List Event) (x : Event) → SeesOwn p p' before x → StartsWith p'.seen p.seen
@@ -27,20 +27,20 @@ unmarked_entry p p' before e sees = ap (λ (q : Pass). is_marked q.seen) sees.la
 
 module _ (start : Start) (p p' : Pass) (before : List Event) (are : AreEvents start p'.seen) where
   -- the state before the event is sound
-  pub sound_before : (x : Event) → SeesOwn p p' before x → IsState start.state → IsState (state_behind start before)
+  pub sound_before : (x : Event) → SeesOwn p p' before x → IsState start.state → IsState (state_after_events start before)
   sound_before x sees sound =
       let seen : entries_of p'.seen ≡ entries_of before ++ entries_of (x ∷ []) = ap (λ (q : Pass). entries_of q.seen) sees.last ∙ entries_of-append before (x ∷ []) in
       replay-IsState start.state (entries_of before) sound (AreLegal-front start.state (entries_of before) (entries_of (x ∷ [])) (subst (AreLegal start.state) seen are.history.each))
 
   -- an entry is legal over it
-  pub legal_entry : (e : Entry) → SeesOwn p p' before (Done e) → IsLegal (state_behind start before) e
+  pub legal_entry : (e : Entry) → SeesOwn p p' before (Done e) → IsLegal (state_after_events start before) e
   legal_entry e sees =
       let seen : entries_of p'.seen ≡ entries_of before ++ e ∷ [] = ap (λ (q : Pass). entries_of q.seen) sees.last ∙ entries_of-done before e in
       (AreLegal-back start.state (entries_of before) (e ∷ []) (subst (AreLegal start.state) seen are.history.each)).0
 
   -- the entry of an attempt would have been legal
-  pub legal_attempt : (pass : ℕ) (e : Entry) → SeesOwn p p' before (Mark pass e) → IsUndone (state_behind start before) pass e
+  pub legal_attempt : (pass : ℕ) (e : Entry) → SeesOwn p p' before (Mark pass e) → IsUndone (state_after_events start before) pass e
   legal_attempt pass e sees =
       let seen : p'.seen ≡ before ++ Mark pass e ∷ [] = ap (λ (q : Pass). q.seen) sees.last in
       let are' = subst (AreEvents start) seen are in
-      subst (λ (s : State). IsUndone s pass e) (state_behind-mark start before pass e) (mark_there (state_behind start (before ++ Mark pass e ∷ [])) before pass e are'.marked sees.unmarked)
+      subst (λ (s : State). IsUndone s pass e) (state_after_events-mark start before pass e) (mark_there (state_after_events start (before ++ Mark pass e ∷ [])) before pass e are'.marked sees.unmarked)

@@ -15,9 +15,10 @@ use Rattle.jf_store.specs.declared.event.Event.{Event}
 use Rattle.jf_store.specs.declared.event.Event.TheVariants.{Done}
 use Rattle.jf_store.specs.Events.{entries_of, is_marked}
 use Rattle.jf_store.specs.Starts.{Start}
-use Rattle.jf_store.specs.Ledgers.{state_behind}
+use Rattle.jf_store.specs.Ledgers.{state_after_events}
 use Rattle.jf_store.specs.Passes.{Pass}
 use Rattle.jf_store.proofs.EventLaws.{entries_of-append}
+use Rattle.jf_store.proofs.ClosingLaws.{none_after}
 use Rattle.jf_answers.specs.Own.{Own}
 use Rattle.jf_answers.specs.Answers.{Answer, answer, answer_command, answer_to, replied, too_long}
 use Rattle.jf_answers.specs.Runs.{answer_text}
@@ -70,7 +71,7 @@ module _ (line : List ℕ) (c : Command) (k : IsLineOf line c) where
   module _ (start : Start) (old new : Session) where
     look_of : (r : Reply) (block : List ℕ) → HoldsPins new → DoneByLook start old new c r block → IsRepliedBy start old new line r block
     look_of r block pins d =
-        let s = state_behind start new.pass.seen in
+        let s = state_after_events start new.pass.seen in
         let e = k.answers s old.own in
         let looked : HasLooked start old new line = record {
           follows = follows_of old.pass new.pass d.follows;
@@ -89,7 +90,7 @@ module _ (line : List ℕ) (c : Command) (k : IsLineOf line c) where
 
     entry_of : (r : Reply) (block : List ℕ) → old.own.number ≡ old.pass.number → HoldsPins new → DoneByEntry start old new c r block → IsRepliedBy start old new line r block
     entry_of r block numbers pins d =
-        let s = state_behind start d.before in
+        let s = state_after_events start d.before in
         let f = floor_in d.event in
         let e = with_of f s old.own in
         let changed : HasChanged start old new d.before d.event line = record {
@@ -121,7 +122,7 @@ module _ (line : List ℕ) (c : Command) (k : IsLineOf line c) where
       attempt = d.attempt;
       before = d.before;
       sees = d.sees;
-      gives = λ ps met. gives_of _ (state_behind start d.before) old.own d.attempt (d.gives ps met);
+      gives = λ ps met. gives_of _ (state_after_events start d.before) old.own d.attempt (d.gives ps met);
       held = d.held;
       own = d.own;
     }
@@ -133,21 +134,17 @@ module _ (line : List ℕ) (c : Command) (k : IsLineOf line c) where
     stops_of stop.Memory holds d = idle_of holds d
 
 -- ---- a line at which nothing changes
-nothing_after : (xs : List Event) (x : Event) → HasElement (drop (length xs) xs) x → ⊥
-nothing_after [] x h = let there = h.1 in absurd (cc)
-nothing_after (y ∷ xs) x h = nothing_after xs x h
-
 follows_itself : (p : Pass) (line : List ℕ) → FollowsLine p p line
 follows_itself p line = record { begins = ([], sym (append-nil p.seen)); same = refl; announced = λ version h. inl h }
 
 -- the line got its answer by itself
 pub itself_replied : (start : Start) (s : Session) (line : List ℕ) (r : Reply) → HoldsPins s → is_marked s.pass.seen ≡ false → ((t : State) (own : Own) → answer t own line ≡ replied r t own) → IsRepliedBy start s s line r []
 itself_replied start s line r pins unmarked is =
-    let t = state_behind start s.pass.seen in
+    let t = state_after_events start s.pass.seen in
     let e = is t s.own in
     let looked : HasLooked start s s line = record {
       follows = follows_itself s.pass line;
-      others = λ x has named. nothing_after s.pass.seen x has;
+      others = λ x has named. none_after s.pass.seen x has;
       unmarked = unmarked;
       quiet = ap (λ (a : Answer). a.entry) e;
       own = sym (ap (λ (a : Answer). a.own) e);
@@ -161,7 +158,7 @@ itself_replied start s line r pins unmarked is =
 
 -- or nothing was done at it
 pub itself_idle : (s : Session) (line : List ℕ) → HoldsPins s → HasDoneNothing s s line
-itself_idle s line holds = record { follows = follows_itself s.pass line; others = λ x has named. nothing_after s.pass.seen x has; pins = refl; holds = holds; own = refl }
+itself_idle s line holds = record { follows = follows_itself s.pass line; others = λ x has named. none_after s.pass.seen x has; pins = refl; holds = holds; own = refl }
 
 -- ---- a session that is over
 holds_ended : (s : Session) → HoldsPins s → HoldsPins (stopped_session s)

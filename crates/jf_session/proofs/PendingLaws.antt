@@ -7,7 +7,7 @@ use Rattle.jf_hash.specs.Maps.{Batch}
 use Rattle.jf_split.specs.Limits.{is_full}
 use Rattle.jf_model.specs.States.{State}
 use Rattle.jf_store.specs.Starts.{Start}
-use Rattle.jf_store.specs.Ledgers.{state_behind}
+use Rattle.jf_store.specs.Ledgers.{state_after_events}
 use Rattle.jf_store.specs.Passes.{Pass}
 use Rattle.jf_script.specs.declared.command.Command.{Command}
 use Rattle.jf_script.specs.declared.command.Command.TheVariants as command
@@ -48,7 +48,7 @@ module _ (start : Start) (p : Pass) (pending pending' : Batch) (over over' : Boo
   new = session_of p pending' over'
 
   abbrev s : State
-  s = state_behind start p.seen
+  s = state_after_events start p.seen
 
   -- the answer changes at most what is pending
   done_as : (a : Answer) → answer_command s (own_of p pending) (set_command name o) ≡ a → a.entry ≡ None → a.block ≡ [] → own_of p pending' ≡ a.own → (r : Reply) → r ≡ a.reply → IsDoneAs start old new (set_command name o) r []

@@ -14,7 +14,7 @@ use Rattle.jf_store.specs.declared.event.Event.{Event}
 use Rattle.jf_store.specs.declared.fault.StoreFault.{StoreFault}
 use Rattle.jf_store.specs.Events.{is_marked}
 use Rattle.jf_store.specs.Starts.{Start}
-use Rattle.jf_store.specs.Ledgers.{state_behind}
+use Rattle.jf_store.specs.Ledgers.{state_after_events}
 use Rattle.jf_store.specs.Refusals.{version_faults}
 use Rattle.jf_store.specs.Passes.{Store, PinsState, Pass, OthersAlone}
 use Rattle.jf_store.specs.Pins.{shown_pins, unpinned_at}
@@ -68,7 +68,7 @@ follows-pin p p' version sees = record {
 
 module _ (start : Start) (p p' : Pass) (pending : Batch) (version : ℕ) where
   abbrev s : State
-  s = state_behind start p'.seen
+  s = state_after_events start p'.seen
 
   AreTold-pin : AreTold (version_faults version s ++ full_faults p.pinned) (version_causes s version ++ place_causes (own_of p pending))
   AreTold-pin = AreTold-append (version_faults version s) (full_faults p.pinned) (version_causes s version) (place_causes (own_of p pending)) (AreTold-version s version) (ap (λ n. nat_le 8 n) (sym (free_alike p.pinned)), refl, tt)
@@ -155,7 +155,7 @@ module _ (start : Start) (store : Store) (p p' : Pass) (pending : Batch) (place 
     unfolding refused_by
     IsDoneAs-freed version there on over' old view =
         let own = own_of p pending in
-        let s = state_behind start p'.seen in
+        let s = state_after_events start p'.seen in
         let held : pinned own place ≡ Some version = pinned_version p.pinned place ∙ sym there in
         let found = answer-free s own (command.Unpin place) (ap (λ o. cond (is_none o) (Some refusal.NoPin) None) held) in
         inl (subst (λ (o : Session). DoneByLook start o (session_of p' pending over') (command.Unpin place) (reply.Unpin version) []) view record {
@@ -186,7 +186,7 @@ module _ (start : Start) (store : Store) (p p' : Pass) (pending : Batch) (place 
     unfolding refused_by
     IsDoneAs-not_freed there on over' old view =
         let own = own_of p pending in
-        let s = state_behind start p.seen in
+        let s = state_after_events start p.seen in
         let none : pinned own place ≡ None = pinned_version p.pinned place ∙ sym there in
         let found = answer-refused s own (command.Unpin place) refusal.NoPin (ap (λ o. cond (is_none o) (Some refusal.NoPin) None) none) in
         subst (λ (q : Pass). IsDoneAs start old (session_of q pending over') (command.Unpin place) (reply.No refusal.NoPin) []) (sym same)

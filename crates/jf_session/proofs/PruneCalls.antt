@@ -6,7 +6,7 @@ use Rattle.jf_store.specs.declared.event.Event.{Event}
 use Rattle.jf_store.specs.declared.fault.StoreFault.{StoreFault}
 use Rattle.jf_store.specs.declared.pruned.Pruned.{Pruned}
 use Rattle.jf_store.specs.Floors.{AreMet}
-use Rattle.jf_store.specs.Ledgers.{AreEvents, state_behind}
+use Rattle.jf_store.specs.Ledgers.{AreEvents, state_after_events}
 use Rattle.jf_store.specs.Refusals.{ledger_faults, version_faults}
 use Rattle.jf_store.specs.Passes.{Store, Pass, ArePins}
 use Rattle.jf_store.specs.Pins.{shown_pins}
@@ -25,7 +25,7 @@ use Rattle.jf_session.proofs.ToldFaults.{AreTold-prune}
 module _ (store : Store) (p p' : Pass) (pending : Batch) (pins : ArePins (shown_pins store p)) (eight : length p.pinned ≡ 8) (are : AreEvents store.start p'.seen) (upto : ℕ) where
   pub Enters-prune : (r : Pruned) → HasPruned store.start upto p p' r → Enters store.start p p' pending pending (command.Prune upto) (reply.Prune r.bound r.floor)
   Enters-prune r h =
-      let s = state_behind store.start h.before in
+      let s = state_after_events store.start h.before in
       let e = entry.Retired p.number upto r.floor in
       let seen = ap (λ (q : Pass). q.seen) h.adds.last in
       record {
@@ -46,7 +46,7 @@ module _ (store : Store) (p p' : Pass) (pending : Batch) (pins : ArePins (shown_
   pub Fails-prune : (f : StoreFault) → HasFailedPruning store.start upto p p' f → Fails store.start p p' pending (command.Prune upto) f
   Fails-prune f (inl failed) =
       let h = failed.1 in
-      let s = state_behind store.start h.before in
+      let s = state_after_events store.start h.before in
       let e = entry.Retired p.number upto h.floor in
       let seen = ap (λ (q : Pass). q.seen) h.adds.last in
       inl (
@@ -64,7 +64,7 @@ module _ (store : Store) (p p' : Pass) (pending : Batch) (pins : ArePins (shown_
       )
   Fails-prune f (inr refused) = inr record {
     sees = SeesMore-Sees p p' (command.Prune upto) refused.0;
-    rest = ledger_faults (state_behind store.start p'.seen) ++ version_faults upto (state_behind store.start p'.seen);
-    alike = AreTold-prune (state_behind store.start p'.seen) upto;
+    rest = ledger_faults (state_after_events store.start p'.seen) ++ version_faults upto (state_after_events store.start p'.seen);
+    alike = AreTold-prune (state_after_events store.start p'.seen) upto;
     is = refused.1;
   }

@@ -11,7 +11,7 @@ use Rattle.jf_store.specs.declared.event.Event.{Event}
 use Rattle.jf_store.specs.declared.event.Event.TheVariants.{Done, Mark}
 use Rattle.jf_store.specs.Starts.{Start}
 use Rattle.jf_store.specs.Floors.{IsMet, AreMet}
-use Rattle.jf_store.specs.Ledgers.{state_behind}
+use Rattle.jf_store.specs.Ledgers.{state_after_events}
 use Rattle.jf_store.specs.Passes.{Store, Pass, ArePins}
 use Rattle.jf_store.specs.Pins.{shown_pins}
 use Rattle.jf_store.specs.Prunings.{HasConfirmed, IsPinnedFloor}
@@ -24,21 +24,21 @@ use Rattle.jf_session.proofs.Entering.{own_of, HasSoundFloor}
 
 -- ---- the floor of one event
 -- the floor of the entry after these events is met
-pub IsMet-done : (P : ℕ × ℕ → Type 0) (start : Start) (xs : List Event) (e : Entry) → AreMet P start.state (xs ++ Done e ∷ []) → IsMet P (state_behind start xs) e
+pub IsMet-done : (P : ℕ × ℕ → Type 0) (start : Start) (xs : List Event) (e : Entry) → AreMet P start.state (xs ++ Done e ∷ []) → IsMet P (state_after_events start xs) e
 unfolding replay
 IsMet-done P start xs e met = at start.state xs met
   where
-    at : (s : State) (xs : List Event) → AreMet P s (xs ++ Done e ∷ []) → IsMet P (state_behind (record start { state = s }) xs) e
+    at : (s : State) (xs : List Event) → AreMet P s (xs ++ Done e ∷ []) → IsMet P (state_after_events (record start { state = s }) xs) e
     at s [] m = m.0
     at s (Done x ∷ xs) m = at (after x s) xs m.1
     at s (Mark pass x ∷ xs) m = at s xs m.1
 
 -- and so is that of an attempt
-pub IsMet-mark : (P : ℕ × ℕ → Type 0) (start : Start) (xs : List Event) (pass : ℕ) (e : Entry) → AreMet P start.state (xs ++ Mark pass e ∷ []) → IsMet P (state_behind start xs) e
+pub IsMet-mark : (P : ℕ × ℕ → Type 0) (start : Start) (xs : List Event) (pass : ℕ) (e : Entry) → AreMet P start.state (xs ++ Mark pass e ∷ []) → IsMet P (state_after_events start xs) e
 unfolding replay
 IsMet-mark P start xs pass e met = at start.state xs met
   where
-    at : (s : State) (xs : List Event) → AreMet P s (xs ++ Mark pass e ∷ []) → IsMet P (state_behind (record start { state = s }) xs) e
+    at : (s : State) (xs : List Event) → AreMet P s (xs ++ Mark pass e ∷ []) → IsMet P (state_after_events (record start { state = s }) xs) e
     at s [] m = m.0
     at s (Done x ∷ xs) m = at (after x s) xs m.1
     at s (Mark p x ∷ xs) m = at s xs m.1
@@ -62,13 +62,13 @@ module _ (store : Store) (p : Pass) (pending : Batch) (are : ArePins (shown_pins
   allowed_by h s bound floor (inr x) = let below = x.2 in let is = x.3 in inr (x.0.1, x.1, omega arith)
 
   -- the floor is sound, if it is met among the events
-  pub HasSoundFloor-pruned : (start : Start) (events before : List Event) (bound floor : ℕ) → IsPinnedFloor start.passes p.number p.place (state_behind start before) bound floor
-      → ((pins : List ℕ) → HaveMet pins start events → IsMet (λ pin. IsAmong pins pin.1) (state_behind start before) (entry.Retired p.number bound floor))
+  pub HasSoundFloor-pruned : (start : Start) (events before : List Event) (bound floor : ℕ) → IsPinnedFloor start.passes p.number p.place (state_after_events start before) bound floor
+      → ((pins : List ℕ) → HaveMet pins start events → IsMet (λ pin. IsAmong pins pin.1) (state_after_events start before) (entry.Retired p.number bound floor))
       → HasSoundFloor start (own_of p pending) events before (entry.Retired p.number bound floor)
   HasSoundFloor-pruned start events before bound floor is met = record {
     allowed = λ pins h t same. (
-      allowed_by t (state_behind start before) bound floor (subst (λ ps. IsMet (λ pin. IsAmong ps pin.1) (state_behind start before) (entry.Retired p.number bound floor)) (sym same) (met pins h)),
-      each_version (λ v. floor ≤ max (state_behind start before).floor v) p.pinned (λ i s e. is.under s.version (HasConfirmed-pinned i s e)),
+      allowed_by t (state_after_events start before) bound floor (subst (λ ps. IsMet (λ pin. IsAmong ps pin.1) (state_after_events start before) (entry.Retired p.number bound floor)) (sym same) (met pins h)),
+      each_version (λ v. floor ≤ max (state_after_events start before).floor v) p.pinned (λ i s e. is.under s.version (HasConfirmed-pinned i s e)),
     );
-    held = held_met start.passes (state_behind start before) bound floor is.met;
+    held = held_met start.passes (state_after_events start before) bound floor is.met;
   }

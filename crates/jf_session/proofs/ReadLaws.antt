@@ -13,7 +13,7 @@ use Rattle.jf_evidence.specs.Proofs.{honest}
 use Rattle.jf_evidence.specs.Ranges.{chunk_entries, honest_chunk}
 use Rattle.jf_store.specs.Events.{is_marked}
 use Rattle.jf_store.specs.Starts.{Start}
-use Rattle.jf_store.specs.Ledgers.{state_behind}
+use Rattle.jf_store.specs.Ledgers.{state_after_events}
 use Rattle.jf_store.specs.declared.look.Look.{Look}
 use Rattle.jf_store.specs.Looks.{IsLook}
 use Rattle.jf_store.proofs.FaultsInTurn.{first_of-before, first_of-after}
@@ -50,7 +50,7 @@ pub record IsReadOf (c : Command) (on : Base) : Type 0 where
 
 module _ (start : Start) (old new : Session) (on : Base) (c : Command) (reads : IsReadOf c on) where
   abbrev s : State
-  s = state_behind start new.pass.seen
+  s = state_after_events start new.pass.seen
 
   -- the command was done, with an answer that changes nothing
   done_with : (a : Answer) → SeesFor old new on → is_marked new.pass.seen ≡ false → answer_command s old.own c ≡ a → a.entry ≡ None → a.own ≡ old.own → DoneByLook start old new c a.reply a.block
@@ -153,7 +153,7 @@ beyond m place above = let test : nat_le (len m) place ≡ true = grind (arith, 
 -- ---- as the code finds it
 module _ (start : Start) (old new : Session) (on : Base) (m : Map) (found : FoundBase start old new on m) where
   abbrev here : State
-  here = state_behind start new.pass.seen
+  here = state_after_events start new.pass.seen
 
   abbrev there : Map
   there = base_map here old.own on
@@ -240,7 +240,7 @@ pub reads_status : IsReadOf command.Status base.Head
 reads_status = record { itself = refl; refused = λ s own why e. absurd (cc) }
 
 -- a look tells the numbers of the store
-pub status_done : (start : Start) (old new : Session) (l : Look) (r : Reply) → FoundBase start old new base.Head l.head.map → IsLook (state_behind start new.pass.seen) l
+pub status_done : (start : Start) (old new : Session) (l : Look) (r : Reply) → FoundBase start old new base.Head l.head.map → IsLook (state_after_events start new.pass.seen) l
     → r ≡ reply.Status l.state.base l.state.floor l.retired l.state.head l.state.kept l.forks l.state.generation → IsDoneAs start old new command.Status r []
 unfolding refused_by
 status_done start old new l r found look is =

@@ -8,7 +8,7 @@ use Rattle.jf_node.specs.SnapshotValue.{SnapshotValue}
 use Rattle.jf_store.specs.declared.fault.StoreFault.{StoreFault}
 use Rattle.jf_store.specs.Events.{is_marked}
 use Rattle.jf_store.specs.Starts.{Start}
-use Rattle.jf_store.specs.Ledgers.{state_behind}
+use Rattle.jf_store.specs.Ledgers.{state_after_events}
 use Rattle.jf_store.specs.Refusals.{StoreFaults, IsRefusal, broken_faults}
 use Rattle.jf_store.specs.Passes.{Pass, OthersAlone, Sees}
 use Rattle.jf_script.specs.declared.command.Command.{Command}
@@ -54,7 +54,7 @@ SeesMore-own p p' pending c sees = ap₂ (λ (n : ℕ) (ps : List (Option Snapsh
 pub record Refuses (start : Start) (p p' : Pass) (pending : Batch) (c : Command) (f : StoreFault) : Type 0 where
   pub sees : SeesMore p p' c
   pub rest : StoreFaults
-  pub alike : AreTold rest (causes (state_behind start p'.seen) (own_of p pending) c)
+  pub alike : AreTold rest (causes (state_after_events start p'.seen) (own_of p pending) c)
   pub is : IsRefusal (broken_faults p'.seen ++ rest) f
 
 module _ (start : Start) (p p' : Pass) (pending : Batch) (over over' : Bool) (old : Session) (view : session_of p pending over ≡ old) (c : Command) where
@@ -72,8 +72,8 @@ module _ (start : Start) (p p' : Pass) (pending : Batch) (over over' : Bool) (ol
     pub DoneByLook-refused : (why : Refusal) → told f ≡ Ok why → DoneByLook start old (session_of p' pending over') c (reply.No why) []
     unfolding refused_by
     DoneByLook-refused why tells =
-        let found = told-reply p'.seen t.rest (causes (state_behind start p'.seen) (own_of p pending) c) f why t.alike t.is tells in
-        let same = answer-refused (state_behind start p'.seen) (own_of p pending) c why found.1 in
+        let found = told-reply p'.seen t.rest (causes (state_after_events start p'.seen) (own_of p pending) c) f why t.alike t.is tells in
+        let same = answer-refused (state_after_events start p'.seen) (own_of p pending) c why found.1 in
         subst (λ (o : Session). DoneByLook start o (session_of p' pending over') c (reply.No why) []) view record {
           follows = t.sees.follows;
           others = t.sees.others;
@@ -87,10 +87,10 @@ module _ (start : Start) (p p' : Pass) (pending : Batch) (over over' : Bool) (ol
 
     -- the call stops the session
     pub StopsFor-refused : (why : Stop) → told f ≡ Err why → StopsFor start old (session_of p' pending over') c why
-    StopsFor-refused stop.DiskFault tells = absurd (told-fault p'.seen t.rest (causes (state_behind start p'.seen) (own_of p pending) c) f t.alike t.is tells)
-    StopsFor-refused stop.Broken tells = (NotDone-sees t.sees, told-broken p'.seen t.rest (causes (state_behind start p'.seen) (own_of p pending) c) f t.alike t.is tells, asks)
+    StopsFor-refused stop.DiskFault tells = absurd (told-fault p'.seen t.rest (causes (state_after_events start p'.seen) (own_of p pending) c) f t.alike t.is tells)
+    StopsFor-refused stop.Broken tells = (NotDone-sees t.sees, told-broken p'.seen t.rest (causes (state_after_events start p'.seen) (own_of p pending) c) f t.alike t.is tells, asks)
     StopsFor-refused stop.Memory tells = NotDone-sees t.sees
 
 -- a refusal that is told in a reply saw no mark
 pub Refuses-unmarked : (start : Start) (p p' : Pass) (pending : Batch) (c : Command) (f : StoreFault) (why : Refusal) → Refuses start p p' pending c f → told f ≡ Ok why → is_marked p'.seen ≡ false
-Refuses-unmarked start p p' pending c f why t tells = (told-reply p'.seen t.rest (causes (state_behind start p'.seen) (own_of p pending) c) f why t.alike t.is tells).0
+Refuses-unmarked start p p' pending c f why t tells = (told-reply p'.seen t.rest (causes (state_after_events start p'.seen) (own_of p pending) c) f why t.alike t.is tells).0

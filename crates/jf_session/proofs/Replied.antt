@@ -1,5 +1,5 @@
 -- The texts of replies, and what was written of them.
-use Rattle.std.proofs.Common.{◌≡◌, ℕ, ◌-◌, None, List, [], ◌∷◌, ◌++◌, take, drop, length, refl, sym, ap, ap₂, ◌∙◌, subst, arith, append_assoc, append-nil, length-append, take-append-drop, take_all, take_at, le_refl}
+use Rattle.std.proofs.Common.{◌≡◌, ℕ, ◌-◌, None, List, [], ◌∷◌, ◌++◌, take, drop, length, refl, sym, ap, ap₂, ◌∙◌, subst, arith, append_assoc, append-nil, length-append, take_at}
 use Rattle.std.specs.List.{AllByRecursion}
 use Rattle.std.proofs.Math.Seq.{drop-append_seam, take-append_seam}
 use Rattle.jf_answers.specs.Explains.{Answered, text_in}
@@ -12,23 +12,9 @@ text_in-append (r ∷ rs) more = ap (λ t. r.text ++ t) (text_in-append rs more)
 pub text_in-push : (rs : List Answered) (r : Answered) → text_in (rs ++ r ∷ []) ≡ text_in rs ++ r.text
 text_in-push rs r = text_in-append rs (r ∷ []) ∙ ap (λ t. text_in rs ++ t) (append-nil r.text)
 
-drop_whole : (rs : List Answered) → drop (length rs) rs ≡ []
-drop_whole [] = refl
-drop_whole (r ∷ rs) = drop_whole rs
-
--- the whole text of replies is a cut of it
-pub whole_is_cut : (rs : List Answered) (text : List ℕ) → text ≡ text_in rs → IsCut rs text
-whole_is_cut rs text is =
-    let n = length rs - 1 in
-    record {
-      count = length rs;
-      within = le_refl (length rs);
-      missing = [];
-      front = ap text_in (take_all (length rs) rs (le_refl (length rs))) ∙ sym is ∙ sym (append-nil text);
-      more = text_in (drop n rs);
-      enough = is ∙ ap text_in (sym (take-append-drop n rs)) ∙ text_in-append (take n rs) (drop n rs);
-      quiet = subst (AllByRecursion (λ r. r.entry ≡ None)) (sym (drop_whole rs)) tt;
-    }
+-- one reply more, without the last
+pub all_but_last : (rs : List Answered) (r : Answered) → take (length (rs ++ r ∷ []) - 1) (rs ++ r ∷ []) ≡ rs
+all_but_last rs r = take_at rs (r ∷ []) (length (rs ++ r ∷ []) - 1) (omega (arith, length-append rs (r ∷ [])))
 
 -- a front of one of the replies was written, and none of those after it, whose lines gave no entry
 pub cut_is_cut : (rs : List Answered) (r : Answered) (more : List Answered) (said front missing : List ℕ) → said ≡ text_in rs → front ++ missing ≡ r.text → AllByRecursion (λ r. r.entry ≡ None) more

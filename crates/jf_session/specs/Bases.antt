@@ -7,7 +7,7 @@ use Rattle.jf_store.specs.declared.event.Event.{Event}
 use Rattle.jf_store.specs.declared.fault.StoreFault.{StoreFault}
 use Rattle.jf_store.specs.Events.{is_marked}
 use Rattle.jf_store.specs.Starts.{Start}
-use Rattle.jf_store.specs.Ledgers.{state_behind}
+use Rattle.jf_store.specs.Ledgers.{state_after_events}
 use Rattle.jf_store.specs.Passes.{Sees}
 use Rattle.jf_script.specs.declared.command.Base.{Base}
 use Rattle.jf_script.specs.declared.command.Base.TheVariants as base
@@ -84,12 +84,12 @@ pub record SeesFor (old new : Session) (on : Base) : Type 0 where
 -- the base names this map, over what the pass has then seen, and nothing refuses to read it
 pub record FoundBase (start : Start) (old new : Session) (on : Base) (m : Map) : Type 0 where
   pub sees : SeesFor old new on
-  pub read : IsRead new.pass.seen (base_causes (state_behind start new.pass.seen) old.own on)
-  pub map_is : m ≡ base_map (state_behind start new.pass.seen) old.own on
+  pub read : IsRead new.pass.seen (base_causes (state_after_events start new.pass.seen) old.own on)
+  pub map_is : m ≡ base_map (state_after_events start new.pass.seen) old.own on
 
 -- nothing was read; the session is over exactly if it ends
 pub record HasHalted (start : Start) (old new : Session) (on : Base) (h : Halt) : Type 0 where
   pub sees : SeesFor old new on
-  pub why : HaltsFor new.pass.seen (base_causes (state_behind start new.pass.seen) old.own on) h
+  pub why : HaltsFor new.pass.seen (base_causes (state_after_events start new.pass.seen) old.own on) h
   pub over : new.over ≡ is_end h
   pub asks : is_marked new.pass.seen ≡ true → is_place on ≡ false

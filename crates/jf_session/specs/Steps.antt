@@ -11,7 +11,7 @@ use Rattle.jf_store.specs.declared.event.Event.{Event}
 use Rattle.jf_store.specs.declared.event.Event.TheVariants.{Done, Mark}
 use Rattle.jf_store.specs.Events.{is_marked}
 use Rattle.jf_store.specs.Starts.{Start}
-use Rattle.jf_store.specs.Ledgers.{state_behind}
+use Rattle.jf_store.specs.Ledgers.{state_after_events}
 use Rattle.jf_store.specs.Passes.{Pass, OthersAlone, SeesOwn}
 use Rattle.jf_script.specs.declared.command.Command.{Command}
 use Rattle.jf_script.specs.declared.reply.Reply.{Reply}
@@ -30,8 +30,8 @@ session_of pass pending over = record { pass = pass; own = record { number = pas
 
 -- what is pinned is the map of its version, among those that the pass has seen
 pub record TellsMap (start : Start) (events : List Event) (s : SnapshotValue) : Type 0 where
-  pub below : s.version ≤ (state_behind start events).all.head
-  pub map_is : s.map ≡ map_of (state_behind start events).all s.version
+  pub below : s.version ≤ (state_after_events start events).all.head
+  pub map_is : s.map ≡ map_of (state_after_events start events).all s.version
 
 -- so it is at each place of a pass
 abbrev pub PinsTell : Pass → Type 0
@@ -64,10 +64,10 @@ pub record DoneByLook (start : Start) (old new : Session) (c : Command) (r : Rep
   pub follows : FollowsCommand old.pass new.pass c
   pub others : OthersAlone old.pass new.pass.seen
   pub unmarked : is_marked new.pass.seen ≡ false
-  pub quiet : (answer_command (state_behind start new.pass.seen) old.own c).entry ≡ None
-  pub own : new.own ≡ (answer_command (state_behind start new.pass.seen) old.own c).own
-  pub reply : r ≡ (answer_command (state_behind start new.pass.seen) old.own c).reply
-  pub block_is : block ≡ (answer_command (state_behind start new.pass.seen) old.own c).block
+  pub quiet : (answer_command (state_after_events start new.pass.seen) old.own c).entry ≡ None
+  pub own : new.own ≡ (answer_command (state_after_events start new.pass.seen) old.own c).own
+  pub reply : r ≡ (answer_command (state_after_events start new.pass.seen) old.own c).reply
+  pub block_is : block ≡ (answer_command (state_after_events start new.pass.seen) old.own c).block
   pub by_itself : IsTrue (is_own_command c) → new.pass.seen ≡ old.pass.seen
 
 -- a command was done, and its entry is the pass's next event; it has no block
@@ -76,11 +76,11 @@ pub record DoneByEntry (start : Start) (old new : Session) (c : Command) (r : Re
   pub event : Entry
   pub sees : SeesOwn old.pass new.pass before (Done event)
   pub owned : owner_of event ≡ old.own.number
-  pub gives : (pins : List ℕ) → HaveMet pins start new.pass.seen → GivesFor (timeline start pins new.pass.seen) (state_behind start before) old.own c event
-  pub held : HeldFloor start old.own (state_behind start before) event
-  pub own : new.own ≡ (command_answer_with (floor_in event) (state_behind start before) old.own c).own
-  pub reply : r ≡ (command_answer_with (floor_in event) (state_behind start before) old.own c).reply
-  pub block_is : block ≡ (command_answer_with (floor_in event) (state_behind start before) old.own c).block
+  pub gives : (pins : List ℕ) → HaveMet pins start new.pass.seen → GivesFor (timeline start pins new.pass.seen) (state_after_events start before) old.own c event
+  pub held : HeldFloor start old.own (state_after_events start before) event
+  pub own : new.own ≡ (command_answer_with (floor_in event) (state_after_events start before) old.own c).own
+  pub reply : r ≡ (command_answer_with (floor_in event) (state_after_events start before) old.own c).reply
+  pub block_is : block ≡ (command_answer_with (floor_in event) (state_after_events start before) old.own c).block
 
 -- a command was done, and has this reply, and this block after it
 abbrev pub IsDoneAs : Start → Session → Session → Command → Reply → List ℕ → Type 0
@@ -91,8 +91,8 @@ pub record TriedFor (start : Start) (old new : Session) (c : Command) : Type 0 w
   pub attempt : Entry
   pub before : List Event
   pub sees : SeesOwn old.pass new.pass before (Mark old.pass.number attempt)
-  pub gives : (pins : List ℕ) → HaveMet pins start new.pass.seen → GivesFor (timeline start pins before) (state_behind start before) old.own c attempt
-  pub held : HeldFloor start old.own (state_behind start before) attempt
+  pub gives : (pins : List ℕ) → HaveMet pins start new.pass.seen → GivesFor (timeline start pins before) (state_after_events start before) old.own c attempt
+  pub held : HeldFloor start old.own (state_after_events start before) attempt
   pub own : new.own ≡ old.own
 
 -- nothing was done for a command, though the pass may have seen more

@@ -3,7 +3,7 @@ ghost use Rattle.std.specs.Prelude.{◌≡◌, slice_index_or, IfSome, IfNone, I
 ghost use Rattle.jf_model.specs.Versions.{newest, map_of};
 ghost use Rattle.jf_script.specs.declared.command.Base.TheVariants as base;
 ghost use Rattle.jf_store.specs.Events.{is_marked};
-ghost use Rattle.jf_store.specs.Ledgers.{state_behind};
+ghost use Rattle.jf_store.specs.Ledgers.{state_after_events};
 ghost use Rattle.jf_store.specs.Looks.{IsLook};
 ghost use Rattle.jf_store.specs.Passes.{IsPassOf, Sees};
 ghost use Rattle.jf_store.specs.Readings.{map_at_fork};
@@ -68,8 +68,8 @@ pub(crate) fn look_of<D: Disk, H: Wait>(
     requires own { IsPassOf pass.old store.now }
     requires over { over.old ≡ false }
     ensures sees { Sees pass.old pass.new }
-    ensures look { IfOk result (IsLook (state_behind store.now.start pass.new.seen)) }
-    ensures read { IfOk result (λ l. l.head.map ≡ newest (state_behind store.now.start pass.new.seen).all) }
+    ensures look { IfOk result (IsLook (state_after_events store.now.start pass.new.seen)) }
+    ensures read { IfOk result (λ l. l.head.map ≡ newest (state_after_events store.now.start pass.new.seen).all) }
     ensures granted { OnOk result (IsRead pass.new.seen []) }
     ensures goes_on { OnOk result (over.new ≡ false) }
     ensures halted { IfErr result (HaltsFor pass.new.seen []) }
@@ -91,7 +91,7 @@ fn head_of<D: Disk, H: Wait>(
     requires own { IsPassOf pass.old store.now }
     requires over { over.old ≡ false }
     ensures sees { Sees pass.old pass.new }
-    ensures read { IfOk result (λ s. s.map ≡ newest (state_behind store.now.start pass.new.seen).all) }
+    ensures read { IfOk result (λ s. s.map ≡ newest (state_after_events store.now.start pass.new.seen).all) }
     ensures granted { OnOk result (IsRead pass.new.seen []) }
     ensures goes_on { OnOk result (over.new ≡ false) }
     ensures halted { IfErr result (HaltsFor pass.new.seen []) }
@@ -114,10 +114,10 @@ fn version_of<D: Disk, H: Wait>(
     requires own { IsPassOf pass.old store.now }
     requires over { over.old ≡ false }
     ensures sees { Sees pass.old pass.new }
-    ensures read { IfOk result (λ s. s.map ≡ map_of (state_behind store.now.start pass.new.seen).all version) }
-    ensures granted { OnOk result (IsRead pass.new.seen (version_causes (state_behind store.now.start pass.new.seen) version)) }
+    ensures read { IfOk result (λ s. s.map ≡ map_of (state_after_events store.now.start pass.new.seen).all version) }
+    ensures granted { OnOk result (IsRead pass.new.seen (version_causes (state_after_events store.now.start pass.new.seen) version)) }
     ensures goes_on { OnOk result (over.new ≡ false) }
-    ensures halted { IfErr result (HaltsFor pass.new.seen (version_causes (state_behind store.now.start pass.new.seen) version)) }
+    ensures halted { IfErr result (HaltsFor pass.new.seen (version_causes (state_after_events store.now.start pass.new.seen) version)) }
     ensures over { IfErr result (λ h. over.new ≡ is_end h) }
 {
     match pass.at(rt, store, version) {
@@ -137,10 +137,10 @@ fn tree_of<D: Disk, H: Wait>(
     requires own { IsPassOf pass.old store.now }
     requires over { over.old ≡ false }
     ensures sees { Sees pass.old pass.new }
-    ensures read { IfOk result (λ t. t ≡ map_at_fork id (state_behind store.now.start pass.new.seen)) }
-    ensures granted { OnOk result (IsRead pass.new.seen (fork_causes (state_behind store.now.start pass.new.seen) id)) }
+    ensures read { IfOk result (λ t. t ≡ map_at_fork id (state_after_events store.now.start pass.new.seen)) }
+    ensures granted { OnOk result (IsRead pass.new.seen (fork_causes (state_after_events store.now.start pass.new.seen) id)) }
     ensures goes_on { OnOk result (over.new ≡ false) }
-    ensures halted { IfErr result (HaltsFor pass.new.seen (fork_causes (state_behind store.now.start pass.new.seen) id)) }
+    ensures halted { IfErr result (HaltsFor pass.new.seen (fork_causes (state_after_events store.now.start pass.new.seen) id)) }
     ensures over { IfErr result (λ h. over.new ≡ is_end h) }
 {
     match pass.tree(rt, store, id) {

@@ -7,7 +7,7 @@ ghost use Rattle.jf_session.specs.Taking.{is_store_word};
 
 use jf_text::{is_word, split_word};
 
-// Whether the line changes nothing but what the session keeps for itself: its answer has no entry, in whatever state.
+// Whether the line is known to give no entry, whatever the state.
 pub(crate) fn is_quiet(line: &[u8]) -> bool
     ensures { IsTrue result → (s : State) (own : Own) → (answer s own line.now).entry ≡ None }
 {

@@ -2,7 +2,7 @@
 ghost use Rattle.std.specs.Prelude.{◌≡◌, [], IfOk, IfErr, OnOk, false};
 ghost use Rattle.jf_script.specs.declared.command.Base.TheVariants as base;
 ghost use Rattle.jf_script.specs.declared.command.Command.TheVariants as command;
-ghost use Rattle.jf_store.specs.Ledgers.{state_behind};
+ghost use Rattle.jf_store.specs.Ledgers.{state_after_events};
 ghost use Rattle.jf_store.specs.Looks.{IsLook};
 ghost use Rattle.jf_store.specs.Passes.{IsPassOf};
 ghost use Rattle.jf_session.specs.Steps.{IsDoneAs, StopsFor};
@@ -37,7 +37,7 @@ impl<D: Disk> Session<D> {
         requires own { IsPassOf self.old.pass store.now }
         requires over { self.old.over ≡ false }
         ensures found { IfOk result (λ l. FoundBase store.now.start self.old self.new base.Head l.head.map) }
-        ensures look { IfOk result (IsLook (state_behind store.now.start self.new.pass.seen)) }
+        ensures look { IfOk result (IsLook (state_after_events store.now.start self.new.pass.seen)) }
         ensures goes_on { OnOk result (self.new.over ≡ false) }
         ensures halted { IfErr result (HasHalted store.now.start self.old self.new base.Head) }
     {

@@ -1,7 +1,7 @@
 // Making forks and dropping them, which leaves the disk alone.
 ghost use Rattle.std.specs.Prelude.{◌≡◌, ◌<◌, IfOk, IfErr};
 ghost use Rattle.jf_path.specs.Checks.{first_of};
-ghost use Rattle.jf_store.specs.Ledgers.{state_behind};
+ghost use Rattle.jf_store.specs.Ledgers.{state_after_events};
 ghost use Rattle.jf_store.specs.Refusals.{make_faults, drop_faults};
 ghost use Rattle.jf_store.specs.Forkings.{parent_faults, MakesIn, DropsIn, RefusesIn, HasMade, HasDropped, HasBeenRefused};
 ghost use Rattle.jf_store.specs.Passes.{IsPassOf};
@@ -22,7 +22,7 @@ use std::sync::Wait;
 impl<D: Disk> Vault<D> {
     // Why a parent is missing, if it is; the head never is.
     fn parent_fault(&self, parent: Parent) -> Option<StoreFault>
-        ensures { result ≡ first_of (parent_faults parent (state_behind self.now.start self.now.events)) }
+        ensures { result ≡ first_of (parent_faults parent (state_after_events self.now.start self.now.events)) }
     {
         match parent {
             Parent::Head => None,

@@ -11,7 +11,7 @@ ghost use Rattle.jf_model.specs.declared.entries.Landing.TheVariants as landing;
 ghost use Rattle.jf_files.specs.Steps.{Lands};
 ghost use Rattle.jf_store.specs.declared.tried.Attempt.TheVariants as attempt;
 ghost use Rattle.jf_store.specs.Stepped.{HasStepped, HasStopped, IsDatedEngine};
-ghost use Rattle.jf_store.specs.Ledgers.{state_behind};
+ghost use Rattle.jf_store.specs.Ledgers.{state_after_events};
 ghost use Rattle.jf_store.specs.Refusals.{broken_faults, ledger_faults, landing_faults};
 ghost use Rattle.jf_store.specs.Landings.{land_faults};
 ghost use Rattle.jf_store.specs.Vaults.{LandsIn, FailsIn};
@@ -70,7 +70,7 @@ fn land_chain<D: Disk, H: Threads + Sync, G: Gate>(
 impl<D: Disk> Vault<D> {
     // Why no entry can be added, if none can.
     pub(crate) fn entry_fault(&self) -> Option<StoreFault>
-        ensures { result ≡ first_of (broken_faults self.now.events ++ ledger_faults (state_behind self.now.start self.now.events)) }
+        ensures { result ≡ first_of (broken_faults self.now.events ++ ledger_faults (state_after_events self.now.start self.now.events)) }
     {
         if self.is_broken() {
             return Some(StoreFault::Broken);
@@ -84,7 +84,7 @@ impl<D: Disk> Vault<D> {
     // Why so many versions can't be landed on the head, if they can't.
     fn room_fault(&self, count: u64) -> Option<StoreFault>
         requires { count ≤ max_forks }
-        ensures { result ≡ first_of (landing_faults count (state_behind self.now.start self.now.events)) }
+        ensures { result ≡ first_of (landing_faults count (state_after_events self.now.start self.now.events)) }
     {
         self.engine.know();
         let head = self.engine.state().head;

@@ -5,7 +5,7 @@ ghost use Rattle.jf_model.specs.States.{IsState};
 ghost use Rattle.jf_model.specs.declared.entries.Landing.TheVariants as landing;
 ghost use Rattle.jf_store.specs.declared.tried.Attempt.TheVariants as attempt;
 ghost use Rattle.jf_store.specs.Events.{entries_of};
-ghost use Rattle.jf_store.specs.Ledgers.{state_behind, AreEvents};
+ghost use Rattle.jf_store.specs.Ledgers.{state_after_events, AreEvents};
 ghost use Rattle.jf_store.specs.Looks.{IsLook};
 ghost use Rattle.jf_store.specs.Refusals.{IsRefusal, look_faults, commit_faults};
 ghost use Rattle.jf_store.specs.Passes.{IsPassOf, Sees, HasLanded, HasFailed};
@@ -87,7 +87,7 @@ impl<D: Disk> Pass<D> {
     pub fn look<H: Wait>(&mut self, rt: &H, store: &Store<D>) -> Result<Look, StoreFault>
         requires { IsPassOf self.old store.now }
         ensures sees { Sees self.old self.new }
-        ensures look { IfOk result (IsLook (state_behind store.now.start self.new.seen)) }
+        ensures look { IfOk result (IsLook (state_after_events store.now.start self.new.seen)) }
         ensures granted { OnOk result (first_of (look_faults store.now.start self.new.seen) ≡ None) }
         ensures refused { IfErr result (IsRefusal (look_faults store.now.start self.new.seen)) }
     {

@@ -11,7 +11,7 @@ ghost use Rattle.jf_board.specs.Steps.{NumbersAreGiven};
 ghost use Rattle.jf_board.specs.States.{new_pruner};
 ghost use Rattle.jf_store.specs.Events.{is_marked, entries_of, attempt_of};
 ghost use Rattle.jf_store.specs.Starts.{start_with, IsBeginningOf};
-ghost use Rattle.jf_store.specs.Ledgers.{state_behind, AreEvents};
+ghost use Rattle.jf_store.specs.Ledgers.{state_after_events, AreEvents};
 ghost use Rattle.jf_store.specs.Kept.{IsKept};
 ghost use Rattle.jf_store.specs.Floors.{AreMet};
 ghost use Rattle.jf_store.specs.Looks.{IsLook};
@@ -105,8 +105,8 @@ impl<D: Disk> Vault<D> {
         ensures events { AreEvents self.start self.events }
         ensures kept { IsKept self.start (entries_of self.events) (attempt_of self.events) self.engine }
         ensures met { AreMet (Has self.pruner.known.pairs) self.start.state self.events }
-        ensures low { (state_behind self.start self.events).floor ≤ self.pruner.known.cut }
-        ensures low_tried { IfSome (attempt_of self.events) (λ e. (after e (state_behind self.start self.events)).floor ≤ self.pruner.known.cut) }
+        ensures low { (state_after_events self.start self.events).floor ≤ self.pruner.known.cut }
+        ensures low_tried { IfSome (attempt_of self.events) (λ e. (after e (state_after_events self.start self.events)).floor ≤ self.pruner.known.cut) }
         ensures count { self.pruner.known.count ≡ self.start.passes }
         ensures board { self.pruner.board ≡ self.start.board }
         ensures grows { (h : History) → self.start.history ≡ Some h → (g : History) × (self.engine.history ≡ Some g) × ExtendsHistory h g }
@@ -156,7 +156,7 @@ impl<D: Disk> Vault<D> {
 
     // The head and the numbers of the store.
     pub(crate) fn look(&self) -> Result<Look, StoreFault>
-        ensures look { IfOk result (IsLook (state_behind self.now.start self.now.events)) }
+        ensures look { IfOk result (IsLook (state_after_events self.now.start self.now.events)) }
         ensures granted { OnOk result (first_of (look_faults self.now.start self.now.events) ≡ None) }
         ensures refused { IfErr result (IsRefusal (look_faults self.now.start self.now.events)) }
     {

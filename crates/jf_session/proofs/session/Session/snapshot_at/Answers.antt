@@ -1,7 +1,7 @@
 use Rattle.std.proofs.Common.{refl, []}
 use Rattle.jf_script.specs.declared.command.Base.TheVariants as base
 use Rattle.jf_node.specs.SnapshotValue.{SnapshotValue}
-use Rattle.jf_store.specs.Ledgers.{state_behind}
+use Rattle.jf_store.specs.Ledgers.{state_after_events}
 use Rattle.jf_answers.specs.Refusals.{version_causes}
 use Rattle.jf_session.proofs.BaseLaws.{IsSoundSession-seen, whole_after, found_after, halted_after, found_at_place, halted_at_place}
 use Rattle.jf_session.proofs.session.Session.snapshot_at.Goals as goal
@@ -19,7 +19,7 @@ invariant_of-self-in-Version g c =
     let e = c.version_of.ensures in
     let p = c.version_of.new.pass in
     IsSoundSession-seen i.pass p i.pending i.pending i.over c.version_of.new.over c.self.invariant e.sees
-    (whole_after c.version_of.result p.seen (version_causes (state_behind c.args.store.now.start p.seen) c.in-Version.version) c.version_of.new.over e.granted e.halted e.over)
+    (whole_after c.version_of.result p.seen (version_causes (state_after_events c.args.store.now.start p.seen) c.in-Version.version) c.version_of.new.over e.granted e.halted e.over)
 
 pub returns-in-Head-clause-found : goal.returns-in-Head-clause-found
 returns-in-Head-clause-found g c =

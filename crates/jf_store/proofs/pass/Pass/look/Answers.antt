@@ -5,7 +5,7 @@ use Rattle.jf_turn.specs.Seats.{SeatState, MayGive, giving}
 use Rattle.jf_store.specs.declared.event.Event.{Event}
 use Rattle.jf_store.specs.Starts.{Start}
 use Rattle.jf_store.specs.Events.{pass_named_by}
-use Rattle.jf_store.specs.Ledgers.{state_behind}
+use Rattle.jf_store.specs.Ledgers.{state_after_events}
 use Rattle.jf_store.specs.Looks.{IsLook}
 use Rattle.jf_store.specs.Refusals.{IsRefusal, look_faults}
 use Rattle.jf_store.specs.Passes.{Pass, Store, pass_of, Sees}
@@ -57,8 +57,8 @@ returns-clause-look g c =
     let v = c.take_out-vault.result.value in
     let began : v.start ≡ start = c.take_out-vault.ensures.origin ∙ ap (λ (t : Store). t.start) c.store.view_is in
     let seen : c.give_back-self-inside.new.seat.seen ≡ v.events = ap (λ (t : SeatState Event Start). t.seen) c.give_back-self-inside.ensures.seat in
-    subst (λ (es : List Event). IfOk c.look-look.result (IsLook (state_behind start es))) (sym seen)
-    (subst (λ (t : Start). IfOk c.look-look.result (IsLook (state_behind t v.events))) began (subst (λ (u : Vault). IfOk c.look-look.result (IsLook (state_behind u.start u.events))) c.deref.ensures c.look-look.ensures.look))
+    subst (λ (es : List Event). IfOk c.look-look.result (IsLook (state_after_events start es))) (sym seen)
+    (subst (λ (t : Start). IfOk c.look-look.result (IsLook (state_after_events t v.events))) began (subst (λ (u : Vault). IfOk c.look-look.result (IsLook (state_after_events u.start u.events))) c.deref.ensures c.look-look.ensures.look))
 
 pub returns-clause-refused : goal.returns-clause-refused
 returns-clause-refused g c =
