@@ -5,3 +5,5 @@
 mod starts;
 #[cfg(test)]
 mod stops;
+#[cfg(test)]
+mod twice;

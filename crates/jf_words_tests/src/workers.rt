@@ -81,10 +81,18 @@ impl Gate for Meeting {
 // Two landings, on an empty store and over nodes, of two names whose keys differ in the first nibble.
 const TWO: &[u8] = b"put 61 =01\nput 62 =02\ncommit\nput 61 =03\nput 62 =04\ncommit\n";
 
-// How often a piece of these landings met the other, if two workers work them, and how many entries they made.
-fn meetings<H: Threads + Wait + Sync>(rt: &H, alloc: Global) -> Result<(u64, u64), Fail> {
+// The modes that take lines, with two workers.
+const MODES: &[&str] = &["run --workers 2", "serve --workers 2"];
+
+// How often a piece of these landings met the other, if a line of words asks for two workers, and how many entries they
+// made.
+fn meetings<H: Threads + Wait + Sync>(
+    rt: &H,
+    alloc: Global,
+    line: &str,
+) -> Result<(u64, u64), Fail> {
     let gate = Meeting::new();
-    let words = words_of(alloc, "run --workers 2")?;
+    let words = words_of(alloc, line)?;
     let disk = new_disk(alloc, b"", &[])?;
     let played = play_gated(rt, alloc, disk, &words, TWO, &gate)?;
     Ok((gate.met.load(SeqCst), played.entries))
@@ -92,7 +100,9 @@ fn meetings<H: Threads + Wait + Sync>(rt: &H, alloc: Global) -> Result<(u64, u64
 
 #[test]
 fn two_pieces_meet(rt: HostRuntime) -> Result<(), Fail> {
-    assert!(rt; meetings(&rt, rt.alloc())? == (4, 2));
+    for line in MODES {
+        assert!(rt; meetings(&rt, rt.alloc(), line)? == (4, 2), "{line}");
+    }
     Ok(())
 }
 
