@@ -1,162 +1,119 @@
 // A source or a sink that fails in a call: the run ends, a front of the replies is written, and the files have the entries made.
-use crate::script::{REPLIES, SCRIPT, is_between, replies, state_after};
+use crate::script::{REPLIES, SCRIPT, are_replies, is_between, lines_in, run_script, state_after};
 use jf_disk::MemDisk;
-use jf_io::{MemSink, MemSource};
-use jf_path::Bytes;
-use jf_play::play::{new_disk, one_word, run_over};
-use jf_run::status::{Ended, Status};
+use jf_play::play::{Faults, Played, has_ended};
+use jf_run::status::Status;
 use std::alloc::Global;
 use std::sync::Wait;
 use std::test::Fail;
 use std::thread::Threads;
 
-// Which of the two fails, and in which of its calls, from 0.
-#[derive(Clone, Copy, Debug)]
-enum Failing {
-    Source(u64),
-    Sink(u64),
-}
-
 // The most bytes that the source gives in a call.
 const PIECE: usize = 11;
 
-fn source_of(alloc: Global, failing: Failing) -> Result<Box<MemSource>, Fail> {
-    let mut calls = Vec::new(alloc);
-    if let Failing::Source(call) = failing {
-        calls.push(call)?;
-    }
-    let source = MemSource::new(Bytes::copy_of(alloc, SCRIPT)?, PIECE, calls);
-    Ok(Box::new(alloc, source)?)
+// The script has 87 bytes, so that the source is asked eight times for them, and then for what isn't there.
+const TAKES: usize = 9;
+
+// The replies have 399 bytes, of which a call of the sink takes 7 at most, so that it is asked at least this often, and less
+// often than `MOST` says.
+const PUTS: usize = 57;
+
+const MOST: usize = 69;
+
+// Calls of the source or of the sink, of which one fails at a time.
+const CALLS: &[u64] = &[
+    0, 1, 2, 3, 4, 5, 6, 7, 8, 9, 10, 11, 12, 13, 14, 15, 16, 17, 18, 19, 20, 21, 22, 23, 24, 25,
+    26, 27, 28, 29, 30, 31, 32, 33, 34, 35, 36, 37, 38, 39, 40, 41, 42, 43, 44, 45, 46, 47, 48, 49,
+    50, 51, 52, 53, 54, 55, 56, 57, 58, 59, 60, 61, 62, 63, 64, 65, 66, 67, 68, 69,
+];
+
+// The list of this call alone.
+fn call(number: usize) -> &'static [u64] {
+    CALLS.chunks(1).nth(number).unwrap_or(&[])
 }
 
-// A sink that takes at most 23 bytes in a call.
-fn sink_of(alloc: Global, failing: Failing) -> Result<Box<MemSink>, Fail> {
-    let mut calls = Vec::new(alloc);
-    if let Failing::Sink(call) = failing {
-        calls.push(call)?;
-    }
-    let sink = MemSink::new(alloc, 23, 10_000, calls)?;
-    Ok(Box::new(alloc, sink)?)
-}
-
-// How a run over a new disk ended in which this call fails, and what it wrote.
-#[derive(Drop)]
-struct Stopped {
-    status: Status,
-    entries: u64,
-    disk: Box<MemDisk>,
-    text: Vec<u8>,
-}
-
-fn run_failing<H: Threads + Wait + Sync>(
+// Fails unless the files of a run have its entries.
+fn has_entries<H: Threads + Wait + Sync>(
     rt: &H,
     alloc: Global,
-    failing: Failing,
-) -> Result<Stopped, Fail> {
-    let words = one_word(alloc, "run")?;
-    let mut source = source_of(alloc, failing)?;
-    let mut sink = sink_of(alloc, failing)?;
-    let disk = new_disk(alloc, b"", &[])?;
-    let ended = run_over(rt, alloc, disk, &words, &mut source, &mut sink)?;
-    let text = sink.text().to_vec(alloc)?;
-    parts_of(alloc, ended, text)
-}
-
-fn parts_of(alloc: Global, ended: Box<Ended<MemDisk>>, text: Vec<u8>) -> Result<Stopped, Fail> {
-    let Ended {
-        status,
-        disk,
-        entries,
-        ..
-    } = Box::into_inner(ended);
-    Ok(Stopped {
-        status,
-        entries: entries.len(),
-        disk: Box::new(alloc, disk)?,
-        text,
-    })
-}
-
-// Whether a run ended so, and its files have its entries.
-fn has_ended_so<H: Threads + Wait + Sync>(
-    rt: &H,
-    alloc: Global,
-    status: Status,
-    entries: u64,
-    disk: Box<MemDisk>,
-    wanted: Status,
-) -> Result<bool, Fail> {
-    let state = state_after(entries)?;
-    is_between(rt, alloc, disk, (state, state))?;
-    Ok(status == wanted)
+    played: Played<MemDisk>,
+) -> Result<(), Fail> {
+    let state = state_after(played.entries);
+    is_between(rt, alloc, played.disk, (state, state))
 }
 
 // How many lines end in the bytes that the source gives before this call.
-fn lines_before(call: u64) -> usize {
-    let taken = SCRIPT.iter().take((call as usize).saturating_mul(PIECE));
-    taken.filter(|byte| **byte == b'\n').count()
+fn lines_before(call: usize) -> usize {
+    match SCRIPT.get(..call.saturating_mul(PIECE)) {
+        Some(taken) => lines_in(taken),
+        None => lines_in(SCRIPT),
+    }
 }
 
-// Whether a run whose source fails in this call answers the lines before and no other.
+// Whether a run ended at a fault of its source, and answered so many lines.
+fn is_unread(played: &Played<MemDisk>, lines: usize) -> bool {
+    let ended = played.status == Status::ReadFault && played.start == Some(0);
+    ended && are_replies(&played.text, lines)
+}
+
+// Fails unless a run whose source fails in this call answers the lines before and no other.
 fn answers_lines_before<H: Threads + Wait + Sync>(
     rt: &H,
     alloc: Global,
-    call: u64,
-) -> Result<bool, Fail> {
-    let Stopped {
-        status,
-        entries,
-        disk,
-        text,
-    } = run_failing(rt, alloc, Failing::Source(call))?;
-    let want = replies(alloc, lines_before(call))?;
-    let told = text.as_slice() == want.as_slice();
-    Ok(has_ended_so(rt, alloc, status, entries, disk, Status::ReadFault)? && told)
+    number: usize,
+) -> Result<(), Fail> {
+    let faults = Faults {
+        piece: PIECE,
+        source: call(number),
+        sink: &[],
+    };
+    let played = run_script(rt, alloc, &[], faults)?;
+    if is_unread(&played, lines_before(number)) {
+        has_entries(rt, alloc, played)
+    } else {
+        Err(Fail::new(number))
+    }
 }
 
-// The script has 87 bytes, so that the source is asked eight times for them, and then for what isn't there.
 #[test]
 fn a_source_that_fails_leaves_the_replies_to_the_lines_before(rt: HostRuntime) -> Result<(), Fail> {
-    let alloc = rt.alloc();
-    for call in 0..9 {
-        assert!(rt; answers_lines_before(&rt, alloc, call)?, "at {call}");
+    for number in 0..TAKES {
+        answers_lines_before(&rt, rt.alloc(), number)?;
     }
     Ok(())
 }
 
-// Whether a run whose sink fails in this call writes a front of the replies. Returns whether the call was made.
-fn writes_front<H: Threads + Wait + Sync>(rt: &H, alloc: Global, call: u64) -> Result<bool, Fail> {
-    let Stopped {
-        status,
-        entries,
-        disk,
-        text,
-    } = run_failing(rt, alloc, Failing::Sink(call))?;
-    let whole = replies(alloc, REPLIES.len())?;
-    if status == Status::Done && text.as_slice() == whole.as_slice() {
-        return Ok(false);
-    }
-    let told = whole.starts_with(&text) && text.len() < whole.len();
-    if told && has_ended_so(rt, alloc, status, entries, disk, Status::WriteFault)? {
-        Ok(true)
+// Whether a run ended at a fault of its sink with a front of the replies, or, if this call may not be made, with all of them.
+fn is_written(played: &Played<MemDisk>, number: usize) -> bool {
+    let front = REPLIES.starts_with(&played.text) && played.text.len() < REPLIES.len();
+    let cut = front && played.status == Status::WriteFault;
+    let whole = has_ended(played, Status::Done, Some(0), REPLIES);
+    cut && number < MOST || whole && number >= PUTS
+}
+
+// Fails unless a run whose sink fails in this call writes a front of the replies, if the call is made.
+fn writes_front<H: Threads + Wait + Sync>(
+    rt: &H,
+    alloc: Global,
+    number: usize,
+) -> Result<(), Fail> {
+    let faults = Faults {
+        piece: PIECE,
+        source: &[],
+        sink: call(number),
+    };
+    let played = run_script(rt, alloc, &[], faults)?;
+    if is_written(&played, number) {
+        has_entries(rt, alloc, played)
     } else {
-        Err(Fail::new("the run ends otherwise"))
+        Err(Fail::new(number))
     }
 }
 
-// How many calls of the sink fail in turn until one isn't made any more.
-fn failed_calls<H: Threads + Wait + Sync>(rt: &H, alloc: Global) -> Result<u64, Fail> {
-    for call in 0..100 {
-        if !writes_front(rt, alloc, call)? {
-            return Ok(call);
-        }
-    }
-    Err(Fail::new("a run without end"))
-}
-
-// The replies have 399 bytes, of which a call takes 23 at most.
 #[test]
 fn a_sink_that_fails_leaves_a_front_of_the_replies(rt: HostRuntime) -> Result<(), Fail> {
-    assert!(rt; failed_calls(&rt, rt.alloc())? >= 18);
+    for number in 0..MOST + 1 {
+        writes_front(&rt, rt.alloc(), number)?;
+    }
     Ok(())
 }

@@ -1,8 +1,7 @@
 // The script whose runs are stopped, its replies, and what its files stand for after each of its changes. The values are from a
 // reference in Python that keeps whole maps, and its `hashlib`.
 use jf_disk::MemDisk;
-use jf_play::play::{NO_FAULTS, play};
-use jf_play::roots::with_roots;
+use jf_play::play::{Faults, NO_FAULTS, Played, has_ended, new_disk, play};
 use jf_run::status::Status;
 use std::alloc::Global;
 use std::sync::Wait;
@@ -13,36 +12,50 @@ use std::thread::Threads;
 pub(crate) const SCRIPT: &[u8] =
     b"put 61 =31\ncommit\nput 62 =32\nfork head\nland f0\npin 1\nprune 2\ncompact\nput 63 =33\ncommit\n";
 
-// The replies to its lines, with letters for roots as in `with_roots`.
-pub(crate) const REPLIES: &[&str] = &[
-    "0 ok pending 1\n",
-    "1 ok commit 1 R\n",
-    "1 ok pending 1\n",
-    "2 ok fork f0 P\n",
-    "3 ok land 2 P\n",
-    "3 ok pin 0\n",
-    "4 ok prune 2 1\n",
-    "5 ok compact 2\n",
-    "5 ok pending 1\n",
-    "6 ok commit 3 W\n",
-];
+// The replies to its lines.
+pub(crate) const REPLIES: &[u8] = b"0 ok pending 1\n\
+    1 ok commit 1 9bb72c39f13d2b512ea34eae99a28f6d807a134ab125e89172310c6f6ea72f8f\n\
+    1 ok pending 1\n\
+    2 ok fork f0 3e92b77a6f4a7dcc426f134b3415f3af7eb39e5c8ac7599c94f5a3c83fe07425\n\
+    3 ok land 2 3e92b77a6f4a7dcc426f134b3415f3af7eb39e5c8ac7599c94f5a3c83fe07425\n\
+    3 ok pin 0\n\
+    4 ok prune 2 1\n\
+    5 ok compact 2\n\
+    5 ok pending 1\n\
+    6 ok commit 3 45ca5fd13d3c2aa30c53349d4c1da835de3e3fa0bbc51390419b0db5127f42dc\n";
 
-// The replies to its first lines.
-pub(crate) fn replies(alloc: Global, lines: usize) -> Result<Vec<u8>, Fail> {
-    let mut text = Vec::new(alloc);
-    for reply in REPLIES.iter().take(lines) {
-        text.extend_from_slice(&with_roots(alloc, reply)?)?;
+// How many lines end in these bytes.
+pub(crate) fn lines_in(bytes: &[u8]) -> usize {
+    let mut lines: usize = 0;
+    for byte in bytes {
+        lines = lines.saturating_add(usize::from(*byte == b'\n'));
     }
-    Ok(text)
+    lines
+}
+
+// Whether a text is the replies to so many lines.
+pub(crate) fn are_replies(text: &[u8], lines: usize) -> bool {
+    let whole = text.is_empty() || text.ends_with(b"\n");
+    whole && REPLIES.starts_with(text) && lines_in(text) == lines
+}
+
+// Runs the script over a new disk, of which these calls fail, with faults of the source and of the sink.
+pub(crate) fn run_script<H: Threads + Wait + Sync>(
+    rt: &H,
+    alloc: Global,
+    failing: &[u64],
+    faults: Faults,
+) -> Result<Played<MemDisk>, Fail> {
+    let disk = new_disk(alloc, b"", failing)?;
+    play(rt, alloc, disk, "run", SCRIPT, faults)
 }
 
 // For each number of entries that a run has made: the state of its files, a place in `STATES`. The fork changes no file.
 const AFTER: &[usize] = &[0, 1, 1, 2, 3, 4, 5];
 
-// The state of the files after so many entries.
-pub(crate) fn state_after(entries: u64) -> Result<usize, Fail> {
-    let state = AFTER.get(entries as usize).ok_or("more entries")?;
-    Ok(*state)
+// The state of the files after so many entries, and none if a run makes fewer.
+pub(crate) fn state_after(entries: u64) -> usize {
+    AFTER.get(entries as usize).copied().unwrap_or(STATES.len())
 }
 
 // The last state.
@@ -53,11 +66,11 @@ const READS: &[u8] =
     b"status\nroot v0\nroot v1\nroot v2\nroot v3\nget head 61\nget v1 62\nget head 62\nget head 63\ncount head\n";
 
 // The version at which each state is opened, and the replies to the reads.
-const STATES: &[(u64, &str)] = &[
+const STATES: &[(u64, &[u8])] = &[
     (
         0,
-        "0 ok status base 0 floor 0 retired 0 head 0 kept 1 forks 0 generation 1\n\
-         0 ok root E\n\
+        b"0 ok status base 0 floor 0 retired 0 head 0 kept 1 forks 0 generation 1\n\
+         0 ok root 6e340b9cffb37a989ca544e6bb780a2c78901d3fb33738768511a30617afa01d\n\
          0 no future 0\n\
          0 no future 0\n\
          0 no future 0\n\
@@ -69,9 +82,9 @@ const STATES: &[(u64, &str)] = &[
     ),
     (
         1,
-        "0 ok status base 0 floor 0 retired 0 head 1 kept 2 forks 0 generation 1\n\
-         0 ok root E\n\
-         0 ok root R\n\
+        b"0 ok status base 0 floor 0 retired 0 head 1 kept 2 forks 0 generation 1\n\
+         0 ok root 6e340b9cffb37a989ca544e6bb780a2c78901d3fb33738768511a30617afa01d\n\
+         0 ok root 9bb72c39f13d2b512ea34eae99a28f6d807a134ab125e89172310c6f6ea72f8f\n\
          0 no future 1\n\
          0 no future 1\n\
          0 ok value =31\n\
@@ -82,10 +95,10 @@ const STATES: &[(u64, &str)] = &[
     ),
     (
         2,
-        "0 ok status base 0 floor 0 retired 0 head 2 kept 5 forks 0 generation 1\n\
-         0 ok root E\n\
-         0 ok root R\n\
-         0 ok root P\n\
+        b"0 ok status base 0 floor 0 retired 0 head 2 kept 5 forks 0 generation 1\n\
+         0 ok root 6e340b9cffb37a989ca544e6bb780a2c78901d3fb33738768511a30617afa01d\n\
+         0 ok root 9bb72c39f13d2b512ea34eae99a28f6d807a134ab125e89172310c6f6ea72f8f\n\
+         0 ok root 3e92b77a6f4a7dcc426f134b3415f3af7eb39e5c8ac7599c94f5a3c83fe07425\n\
          0 no future 2\n\
          0 ok value =31\n\
          0 ok none\n\
@@ -95,10 +108,10 @@ const STATES: &[(u64, &str)] = &[
     ),
     (
         2,
-        "0 ok status base 0 floor 1 retired 1 head 2 kept 4 forks 0 generation 1\n\
+        b"0 ok status base 0 floor 1 retired 1 head 2 kept 4 forks 0 generation 1\n\
          0 no retired 1\n\
-         0 ok root R\n\
-         0 ok root P\n\
+         0 ok root 9bb72c39f13d2b512ea34eae99a28f6d807a134ab125e89172310c6f6ea72f8f\n\
+         0 ok root 3e92b77a6f4a7dcc426f134b3415f3af7eb39e5c8ac7599c94f5a3c83fe07425\n\
          0 no future 2\n\
          0 ok value =31\n\
          0 ok none\n\
@@ -108,10 +121,10 @@ const STATES: &[(u64, &str)] = &[
     ),
     (
         2,
-        "0 ok status base 0 floor 1 retired 1 head 2 kept 4 forks 0 generation 2\n\
+        b"0 ok status base 0 floor 1 retired 1 head 2 kept 4 forks 0 generation 2\n\
          0 no retired 1\n\
-         0 ok root R\n\
-         0 ok root P\n\
+         0 ok root 9bb72c39f13d2b512ea34eae99a28f6d807a134ab125e89172310c6f6ea72f8f\n\
+         0 ok root 3e92b77a6f4a7dcc426f134b3415f3af7eb39e5c8ac7599c94f5a3c83fe07425\n\
          0 no future 2\n\
          0 ok value =31\n\
          0 ok none\n\
@@ -121,11 +134,11 @@ const STATES: &[(u64, &str)] = &[
     ),
     (
         3,
-        "0 ok status base 0 floor 1 retired 1 head 3 kept 6 forks 0 generation 2\n\
+        b"0 ok status base 0 floor 1 retired 1 head 3 kept 6 forks 0 generation 2\n\
          0 no retired 1\n\
-         0 ok root R\n\
-         0 ok root P\n\
-         0 ok root W\n\
+         0 ok root 9bb72c39f13d2b512ea34eae99a28f6d807a134ab125e89172310c6f6ea72f8f\n\
+         0 ok root 3e92b77a6f4a7dcc426f134b3415f3af7eb39e5c8ac7599c94f5a3c83fe07425\n\
+         0 ok root 45ca5fd13d3c2aa30c53349d4c1da835de3e3fa0bbc51390419b0db5127f42dc\n\
          0 ok value =31\n\
          0 ok none\n\
          0 ok value =32\n\
@@ -134,27 +147,24 @@ const STATES: &[(u64, &str)] = &[
     ),
 ];
 
-// The state whose reads have these replies.
-fn state_of(alloc: Global, head: Option<u64>, text: &[u8]) -> Result<usize, Fail> {
-    for (state, (version, told)) in STATES.iter().enumerate() {
-        if head == Some(*version) && with_roots(alloc, told)?.as_slice() == text {
-            return Ok(state);
+// The state at which files were opened whose reads were answered so, and none if there is no such state.
+fn state_of(played: &Played<MemDisk>) -> usize {
+    for (state, row) in STATES.iter().enumerate() {
+        if has_ended(played, Status::Done, Some(row.0), row.1) {
+            return state;
         }
     }
-    Err(Fail::new("the files stand for something else"))
+    STATES.len()
 }
 
-// Opens a disk, and finds its state. Fails if it has none of them.
+// Opens a disk, and finds its state.
 pub(crate) fn opened_state<H: Threads + Wait + Sync>(
     rt: &H,
     alloc: Global,
     disk: Box<MemDisk>,
 ) -> Result<usize, Fail> {
     let played = play(rt, alloc, disk, "run", READS, NO_FAULTS)?;
-    if played.status != Status::Done {
-        return Err(Fail::new("the files are not opened"));
-    }
-    state_of(alloc, played.start, &played.text)
+    Ok(state_of(&played))
 }
 
 // Opens a disk, and fails unless its state is one of these.
@@ -165,9 +175,9 @@ pub(crate) fn is_between<H: Threads + Wait + Sync>(
     states: (usize, usize),
 ) -> Result<(), Fail> {
     let state = opened_state(rt, alloc, disk)?;
-    if states.0 <= state && state <= states.1 {
+    if states.0 <= state && state <= states.1 && state <= LAST {
         Ok(())
     } else {
-        Err(Fail::new("the files have another state"))
+        Err(Fail::new(state))
     }
 }

@@ -1,87 +1,72 @@
 // An opening that fails after a stop leaves the same versions.
-use crate::script::{is_between, opened_state};
-use crate::stops::ended;
+use crate::images::{are_left, state_left};
+use crate::one_fault::ALL;
+use crate::script::run_script;
 use jf_disk::{Disk, MemDisk, Side};
 use jf_play::images::image_of;
-use jf_play::play::{NO_FAULTS, Played, disk_of, has_ended, play};
+use jf_play::play::{NO_FAULTS, disk_of, has_ended, play};
 use jf_run::status::Status;
 use std::alloc::Global;
 use std::sync::Wait;
 use std::test::Fail;
 use std::thread::Threads;
 
-// Two crashes: how many unsynced bytes each keeps, and what the others become.
-const CRASHES: &[(u64, u8)] = &[(0, 0x01), (1 << 62, 0x00)];
+// A crash: how many unsynced bytes it keeps, and what the others become.
+const CRASH: (u64, u8) = (200, 0x5a);
 
-// Opens what these crashes leave of a disk after all of its calls. Each has this state.
-fn open_crashes<H: Threads + Wait + Sync>(
+// Two crashes after the second opening: how many unsynced bytes each keeps, and what the others become.
+const TWO: &[(u64, u8)] = &[(0, 0x01), (1 << 62, 0x00)];
+
+// Opens what a disk holds, on a disk that fails in this call. Fails unless what a crash leaves then has this state. Returns whether
+// the call was made: if so, the opening ends with a fault of the disk, and writes nothing.
+fn open_failing<H: Threads + Wait + Sync>(
     rt: &H,
     alloc: Global,
-    disk: &MemDisk,
+    image: &MemDisk,
     state: usize,
-) -> Result<(), Fail> {
-    for (kept, fill) in CRASHES {
-        let image = image_of(alloc, disk, disk.moment(), *kept, *fill)?;
-        is_between(rt, alloc, image, (state, state))?;
-    }
-    Ok(())
+    failing: u64,
+) -> Result<bool, Fail> {
+    let (a, b) = (image.bytes(Side::A), image.bytes(Side::B));
+    let disk = disk_of(alloc, a, b, &[failing])?;
+    let played = play(rt, alloc, disk, "run", b"", NO_FAULTS)?;
+    let moment = played.disk.moment();
+    are_left(rt, alloc, &played.disk, moment, TWO, (state, state))?;
+    Ok(has_ended(&played, Status::DiskFault, None, b"") && played.entries == 0)
 }
 
-// Whether an opening ended with a fault of the disk, and wrote nothing.
-fn has_failed(played: &Played<MemDisk>) -> bool {
-    has_ended(played, Status::DiskFault, None, b"") && played.entries == 0
-}
-
-// Opens what a disk holds, on disks that fail in the first call, in the second and so on, as long as the opening makes that
-// call. What a crash leaves then has this state. Returns how many calls the opening makes.
+// Lets each call of an opening fail in turn. Each opening makes at least the six calls that sync, measure and read both sides.
 fn open_twice<H: Threads + Wait + Sync>(
     rt: &H,
     alloc: Global,
     image: &MemDisk,
     state: usize,
-) -> Result<u64, Fail> {
+) -> Result<(), Fail> {
     for failing in 0..100 {
-        let (a, b) = (image.bytes(Side::A), image.bytes(Side::B));
-        let disk = disk_of(alloc, a, b, &[failing])?;
-        let played = play(rt, alloc, disk, "run", b"", NO_FAULTS)?;
-        open_crashes(rt, alloc, &played.disk, state)?;
-        if !has_failed(&played) {
-            return Ok(failing);
+        if !open_failing(rt, alloc, image, state, failing)? {
+            return if failing < 6 {
+                Err(Fail::new(failing))
+            } else {
+                Ok(())
+            };
         }
     }
     Err(Fail::new("an opening without end"))
 }
 
-// The image that a crash leaves, opened twice; returns how many calls its opening makes.
-fn stop_twice<H: Threads + Wait + Sync>(
-    rt: &H,
-    alloc: Global,
-    disk: &MemDisk,
-    moment: u64,
-    crash: (u64, u8),
-) -> Result<u64, Fail> {
-    let image = image_of(alloc, disk, moment, crash.0, crash.1)?;
-    let again = image_of(alloc, disk, moment, crash.0, crash.1)?;
-    let state = opened_state(rt, alloc, image)?;
-    open_twice(rt, alloc, &again, state)
-}
-
-// Runs the script, and opens what a crash at each moment leaves twice. Each opening makes at least the six calls that sync,
-// measure and read both sides.
-fn stops_twice<H: Threads + Wait + Sync>(rt: &H, alloc: Global) -> Result<bool, Fail> {
-    let ended = ended(rt, alloc)?;
-    for moment in 0..=ended.disk.moment() {
-        if stop_twice(rt, alloc, &ended.disk, moment, (200, 0x5a))? < 6 {
-            return Ok(false);
-        }
-    }
-    Ok(true)
+// Opens twice what a crash after so many calls leaves of a run.
+fn stop_twice<H: Threads + Wait + Sync>(rt: &H, alloc: Global, calls: u64) -> Result<(), Fail> {
+    let played = run_script(rt, alloc, &[], NO_FAULTS)?;
+    let state = state_left(rt, alloc, &played.disk, calls, CRASH)?;
+    let image = image_of(alloc, &played.disk, calls, CRASH.0, CRASH.1)?;
+    open_twice(rt, alloc, &image, state)
 }
 
 #[test]
 fn an_opening_that_fails_after_a_stop_leaves_the_same_versions(
     rt: HostRuntime,
 ) -> Result<(), Fail> {
-    assert!(rt; stops_twice(&rt, rt.alloc())?);
+    for calls in 0..ALL + 1 {
+        stop_twice(&rt, rt.alloc(), calls)?;
+    }
     Ok(())
 }

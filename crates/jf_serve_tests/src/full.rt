@@ -1,66 +1,76 @@
 // Inputs with the most bytes and the most sessions, and with one more.
+use crate::serving::serve;
 use jf_disk::{Disk, MemDisk};
-use jf_io::StdSource;
-use jf_join::FreeGate;
-use jf_play::blocks::Parts;
-use jf_play::files::bytes_of;
-use jf_play::play::{NO_FAULTS, Played, has_ended, new_disk, new_sink, one_word, play};
-use jf_run::run_words::run_words;
-use jf_run::status::{Ended, Status};
+use jf_play::play::{Faults, NO_FAULTS, Played, has_ended};
+use jf_run::status::Status;
 use std::alloc::Global;
-use std::io::{Read, repeat};
 use std::sync::Wait;
 use std::test::Fail;
 use std::thread::Threads;
 
-const ONE: &[u8] = b"session\n";
-
-// Fifteen sessions.
-const FIFTEEN: &[u8] = b"session\nsession\nsession\nsession\nsession\nsession\nsession\nsession\n\
-    session\nsession\nsession\nsession\nsession\nsession\nsession\n";
-
 // An input, how its run ends, and what it writes.
-const ROWS: &[(Parts, Status, Parts)] = &[
+type Row = (&'static [u8], Status, &'static [u8]);
+
+// 16 sessions, 17, one and 15, one and 16, and 45. Lines before the first `session` are a session too, and are not answered if there
+// are too many.
+const ROWS: &[Row] = &[
     (
-        &[FIFTEEN, ONE],
+        b"session\nsession\nsession\nsession\nsession\nsession\nsession\nsession\n\
+            session\nsession\nsession\nsession\nsession\nsession\nsession\nsession\n",
         Status::Done,
-        &[FIFTEEN, ONE, b"ledger 0\n"],
-    ),
-    (&[FIFTEEN, ONE, ONE], Status::InputFull, &[]),
-    // Lines before the first `session` are a session too, and are not answered if there are too many.
-    (
-        &[b"put 61 =31\n", FIFTEEN],
-        Status::Done,
-        &[ONE, b"0 ok pending 1\n", FIFTEEN, b"ledger 0\n"],
+        b"session\nsession\nsession\nsession\nsession\nsession\nsession\nsession\n\
+            session\nsession\nsession\nsession\nsession\nsession\nsession\nsession\n\
+            ledger 0\n",
     ),
     (
-        &[b"put 61 =31\ncommit\n", FIFTEEN, ONE],
+        b"session\nsession\nsession\nsession\nsession\nsession\nsession\nsession\n\
+            session\nsession\nsession\nsession\nsession\nsession\nsession\nsession\n\
+            session\n",
         Status::InputFull,
-        &[],
+        b"",
     ),
-    (&[FIFTEEN, FIFTEEN, FIFTEEN], Status::InputFull, &[]),
+    (
+        b"put 61 =31\n\
+            session\nsession\nsession\nsession\nsession\nsession\nsession\nsession\n\
+            session\nsession\nsession\nsession\nsession\nsession\nsession\n",
+        Status::Done,
+        b"session\n0 ok pending 1\n\
+            session\nsession\nsession\nsession\nsession\nsession\nsession\nsession\n\
+            session\nsession\nsession\nsession\nsession\nsession\nsession\n\
+            ledger 0\n",
+    ),
+    (
+        b"put 61 =31\ncommit\n\
+            session\nsession\nsession\nsession\nsession\nsession\nsession\nsession\n\
+            session\nsession\nsession\nsession\nsession\nsession\nsession\nsession\n",
+        Status::InputFull,
+        b"",
+    ),
+    (
+        b"session\nsession\nsession\nsession\nsession\nsession\nsession\nsession\n\
+            session\nsession\nsession\nsession\nsession\nsession\nsession\nsession\n\
+            session\nsession\nsession\nsession\nsession\nsession\nsession\nsession\n\
+            session\nsession\nsession\nsession\nsession\nsession\nsession\nsession\n\
+            session\nsession\nsession\nsession\nsession\nsession\nsession\nsession\n\
+            session\nsession\nsession\nsession\nsession\n",
+        Status::InputFull,
+        b"",
+    ),
 ];
 
 // The opening of empty files makes this many calls on the disk.
 const OPENING: u64 = 13;
 
-// Whether a run wrote this, and changed nothing after the opening.
-fn has_come_to(played: &Played<MemDisk>, status: Status, text: &[u8]) -> bool {
-    let ended = has_ended(played, status, Some(0), text);
+// Whether a run ended as a row says, and changed nothing after the opening.
+fn has_come_to(played: &Played<MemDisk>, row: &Row) -> bool {
+    let ended = has_ended(played, row.1, Some(0), row.2);
     ended && played.entries == 0 && played.disk.moment() == OPENING
 }
 
 // Fails unless the input of a row is taken or refused as the row says.
-fn is_taken<H: Threads + Wait + Sync>(
-    rt: &H,
-    alloc: Global,
-    row: &(Parts, Status, Parts),
-) -> Result<(), Fail> {
-    let input = bytes_of(alloc, row.0)?;
-    let want = bytes_of(alloc, row.2)?;
-    let disk = new_disk(alloc, b"", &[])?;
-    let played = play(rt, alloc, disk, "serve", &input, NO_FAULTS)?;
-    if has_come_to(&played, row.1, &want) {
+fn is_taken<H: Threads + Wait + Sync>(rt: &H, alloc: Global, row: &Row) -> Result<(), Fail> {
+    let played = serve(rt, alloc, row.0, NO_FAULTS)?;
+    if has_come_to(&played, row) {
         Ok(())
     } else {
         Err(Fail::new("it ends otherwise"))
@@ -76,28 +86,30 @@ fn sixteen_sessions_are_the_most(rt: HostRuntime) -> Result<(), Fail> {
 }
 
 // How many bytes an input of one line has, how its run ends, and what it writes.
-const LONG: &[(u64, Status, &[u8])] = &[
+type Long = (usize, Status, &'static [u8]);
+
+const LONG: &[Long] = &[
     (67_108_864, Status::Done, b"session\n0 no long\nledger 0\n"),
     (67_108_865, Status::InputFull, b""),
 ];
 
-// Whether a run ended so, with no entry.
-fn has_read(ended: &Ended<MemDisk>, text: &[u8], wanted: &(u64, Status, &[u8])) -> bool {
-    ended.status == wanted.1 && text == wanted.2 && ended.entries.len() == 0
+// Pieces of 65,536 bytes, and no call fails.
+const LARGE: Faults = Faults {
+    piece: 65_536,
+    source: &[],
+    sink: &[],
+};
+
+// Whether a run ended as a row says, with no entry.
+fn has_read(played: &Played<MemDisk>, row: &Long) -> bool {
+    played.status == row.1 && played.text.as_slice() == row.2 && played.entries == 0
 }
 
-// Fails unless an input of one line ends as a row says. Its bytes are made as they are read.
-fn is_read<H: Threads + Wait + Sync>(
-    rt: &H,
-    alloc: Global,
-    row: &(u64, Status, &[u8]),
-) -> Result<(), Fail> {
-    let words = one_word(alloc, "serve")?;
-    let mut source = StdSource::new(repeat(b'x').take(row.0));
-    let mut sink = new_sink(alloc, NO_FAULTS)?;
-    let disk = Box::into_inner(new_disk(alloc, b"", &[])?);
-    let ended = run_words(rt, alloc, &words, &mut source, &mut *sink, disk, &FreeGate);
-    if has_read(&ended, sink.text(), row) {
+// Fails unless an input of one line ends as a row says.
+fn is_read<H: Threads + Wait + Sync>(rt: &H, alloc: Global, row: &Long) -> Result<(), Fail> {
+    let input = vec![in alloc; b'x'; row.0]?;
+    let played = serve(rt, alloc, &input, LARGE)?;
+    if has_read(&played, row) {
         Ok(())
     } else {
         Err(Fail::new(row.0))

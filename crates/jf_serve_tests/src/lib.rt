@@ -1,13 +1,9 @@
-//! Tests of the mode `serve` of the top call: several sessions over one store, what they write and leave in the files, that they
-//! run at the same time, inputs that are too large, and what a fault makes of them.
+//! Tests of the mode `serve` of the top call: several sessions over one store, what they write, that they run at the same time, inputs
+//! that are too large, and what a fault of the source or of the sink makes of them.
 #![tactic(auto)]
 
 #[cfg(test)]
-mod disk_faults;
-#[cfg(test)]
 mod full;
-#[cfg(test)]
-mod lines;
 #[cfg(test)]
 mod meeting;
 #[cfg(test)]
@@ -18,5 +14,3 @@ mod serving;
 mod sessions;
 #[cfg(test)]
 mod stream_faults;
-#[cfg(test)]
-mod writers;

@@ -1,6 +1,7 @@
 // Two sessions are in flight at once.
+use crate::serving::serve_gated;
 use jf_join::Gate;
-use jf_play::play::{new_disk, one_word, play_gated};
+use jf_play::play::new_disk;
 use std::alloc::Global;
 use std::sync::Wait;
 use std::sync::atomic::AtomicU64;
@@ -47,9 +48,8 @@ fn meet<H: Threads + Wait + Sync>(rt: &H, alloc: Global) -> Result<(), Fail> {
         begun: AtomicU64::new(0),
         met: AtomicU64::new(0),
     };
-    let words = one_word(alloc, "serve")?;
     let disk = new_disk(alloc, b"", &[])?;
-    let _ = play_gated(rt, alloc, disk, &words, b"session\nsession\n", &gate)?;
+    let _ = serve_gated(rt, alloc, disk, b"session\nsession\n", &gate)?;
     match gate.met.load(SeqCst) {
         2 => Ok(()),
         met => Err(Fail::new(met)),

@@ -1,9 +1,11 @@
 // A version that one session has pinned is read there, whatever another session lands and retires.
-use crate::lines::{lines_ending, text_of};
+use crate::serving::serve_gated;
+use jf_disk::MemDisk;
 use jf_join::Gate;
 use jf_play::files::{CHECKPOINT, END, LANDING, bytes_of};
-use jf_play::play::{new_disk, one_word, play_gated};
+use jf_play::play::new_disk;
 use std::alloc::Global;
+use std::str;
 use std::sync::Wait;
 use std::sync::atomic::AtomicU64;
 use std::sync::atomic::Ordering::SeqCst;
@@ -43,41 +45,45 @@ const INPUT: &[u8] = b"pin 1\nput 61 =32\nput 62 =33\ncommit\n\
     session\nput 61 =34\ncommit\nprune 2\nput 61 =35\ncommit\nprune 3\ncompact\nget v1 61\n";
 
 // How lines of the text end, and how many do. Version 1 is `put 61 =31`, and its root R.
-const ENDS: &[(&str, u64)] = &[
-    (" ok pin 0", 1),
-    (" ok value =31", 9),
+const ENDS: &[(&str, usize)] = &[
+    (" ok pin 0\n", 1),
+    (" ok value =31\n", 9),
     (
-        " ok root 9bb72c39f13d2b512ea34eae99a28f6d807a134ab125e89172310c6f6ea72f8f",
+        " ok root 9bb72c39f13d2b512ea34eae99a28f6d807a134ab125e89172310c6f6ea72f8f\n",
         1,
     ),
-    (" ok none", 1),
-    (" ok prune 2 1", 1),
-    (" ok prune 3 1", 1),
-    (" ok compact 2", 1),
-    (" no retired 3", 1),
+    (" ok none\n", 1),
+    (" ok prune 2 1\n", 1),
+    (" ok prune 3 1\n", 1),
+    (" ok compact 2\n", 1),
+    (" no retired 3\n", 1),
 ];
 
 // Whether as many lines end so as `ENDS` says.
 fn are_all_there(text: &str) -> bool {
     for (end, count) in ENDS {
-        if lines_ending(text, end) != *count {
+        if text.matches(*end).count() != *count {
             return false;
         }
     }
     true
 }
 
-// Fails unless the sessions are answered so over a store of version 1, and the gate was told of a landing.
+// A disk that holds a store of version 1.
+fn disk_of_one(alloc: Global) -> Result<Box<MemDisk>, Fail> {
+    let file = bytes_of(alloc, &[CHECKPOINT, LANDING, END])?;
+    new_disk(alloc, &file, &[])
+}
+
+// Fails unless the sessions are answered so over that store, and the gate was told of a landing.
 fn is_kept<H: Threads + Wait + Sync>(rt: &H, alloc: Global) -> Result<(), Fail> {
     let gate = AfterLanding {
         begun: AtomicU64::new(0),
     };
-    let words = one_word(alloc, "serve")?;
-    let files = bytes_of(alloc, &[CHECKPOINT, LANDING, END])?;
-    let disk = new_disk(alloc, &files, &[])?;
-    let played = play_gated(rt, alloc, disk, &words, INPUT, &gate)?;
+    let disk = disk_of_one(alloc)?;
+    let played = serve_gated(rt, alloc, disk, INPUT, &gate)?;
     let is_told = gate.begun.load(SeqCst) == 1;
-    if is_told && are_all_there(text_of(&played.text)) {
+    if is_told && are_all_there(str::from_utf8(&played.text).unwrap_or("")) {
         Ok(())
     } else {
         Err(Fail::new("another reply"))

@@ -1,12 +1,36 @@
-// A run of `serve` over a new disk, and the texts that it may write.
+// Runs of `serve`, and the texts that they may write.
 use jf_disk::MemDisk;
-use jf_play::play::{NO_FAULTS, Played, has_ended, new_disk, play};
+use jf_join::Gate;
+use jf_play::play::{Faults, NO_FAULTS, Played, has_ended, new_disk, one_word, play, play_gated};
 use jf_play::roots::with_roots;
 use jf_run::status::Status;
 use std::alloc::Global;
 use std::sync::Wait;
 use std::test::Fail;
 use std::thread::Threads;
+
+/// Runs `serve` over a new disk and this input, with faults of the source and of the sink.
+pub(crate) fn serve<H: Threads + Wait + Sync>(
+    rt: &H,
+    alloc: Global,
+    input: &[u8],
+    faults: Faults,
+) -> Result<Played<MemDisk>, Fail> {
+    let disk = new_disk(alloc, b"", &[])?;
+    play(rt, alloc, disk, "serve", input, faults)
+}
+
+/// Runs `serve` over a disk and this input. The gate is told of each session and of each piece of work.
+pub(crate) fn serve_gated<H: Threads + Wait + Sync, G: Gate>(
+    rt: &H,
+    alloc: Global,
+    disk: Box<MemDisk>,
+    input: &[u8],
+    gate: &G,
+) -> Result<Played<MemDisk>, Fail> {
+    let words = one_word(alloc, "serve")?;
+    play_gated(rt, alloc, disk, &words, input, gate)
+}
 
 /// An input, and the texts of which one is written: sessions may be answered in any order. Letters stand for roots, as in
 /// `with_roots`.
@@ -25,8 +49,7 @@ fn wrote_one_of(alloc: Global, played: &Played<MemDisk>, texts: &[&str]) -> Resu
 
 // Fails unless the input of a row is served as the row says.
 fn is_served<H: Threads + Wait + Sync>(rt: &H, alloc: Global, row: &Row) -> Result<(), Fail> {
-    let disk = new_disk(alloc, b"", &[])?;
-    let played = play(rt, alloc, disk, "serve", row.0.as_bytes(), NO_FAULTS)?;
+    let played = serve(rt, alloc, row.0.as_bytes(), NO_FAULTS)?;
     if wrote_one_of(alloc, &played, row.1)? {
         Ok(())
     } else {

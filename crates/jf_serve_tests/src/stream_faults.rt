@@ -1,7 +1,7 @@
 // A source or a sink that fails in a call: how two sessions end, what they write, and what the files hold.
+use crate::serving::serve;
 use jf_disk::MemDisk;
-use jf_play::play::{Faults, NO_FAULTS, Played, has_ended, new_disk, play};
-use jf_play::roots::with_roots;
+use jf_play::play::{Faults, NO_FAULTS, Played, has_ended, play};
 use jf_run::status::Status;
 use std::alloc::Global;
 use std::sync::Wait;
@@ -11,15 +11,22 @@ use std::thread::Threads;
 // One session lands a version. The lines of the other ask nothing of the store, so that the text is one.
 const INPUT: &[u8] = b"commit\nsession\nput 63 =33\nget p0 61\n";
 
-// The text, with letters for roots as in `with_roots`.
-const TEXT: &str =
-    "session\n1 ok commit 1 E\nsession\n0 ok pending 1\n0 no nopin\nledger 1\nlanded 0 1 E head\n";
+// The text, with the root of the empty map.
+const TEXT: &[u8] = b"session\n\
+    1 ok commit 1 6e340b9cffb37a989ca544e6bb780a2c78901d3fb33738768511a30617afa01d\n\
+    session\n\
+    0 ok pending 1\n\
+    0 no nopin\n\
+    ledger 1\n\
+    landed 0 1 6e340b9cffb37a989ca544e6bb780a2c78901d3fb33738768511a30617afa01d head\n";
 
 // The input has 36 bytes, so that the source, which gives 11 in a call, is asked four times for them, and then for what isn't
 // there.
+const PIECE: usize = 11;
+
 const TAKES: usize = 5;
 
-// The text has 211 bytes, so that the sink, which takes 7 in a call, is asked at least this often.
+// The text has 211 bytes, so that the sink, which takes 7 in a call, is asked at least this often. It may be asked more often.
 const PUTS: usize = 31;
 
 // Calls of the source or of the sink, of which one fails at a time.
@@ -28,78 +35,64 @@ const CALLS: &[u64] = &[
     26, 27, 28, 29, 30, 31, 32, 33, 34, 35, 36, 37, 38, 39, 40, 41, 42, 43, 44, 45, 46, 47,
 ];
 
-// Runs the sessions over a new disk.
-fn served<H: Threads + Wait + Sync>(
-    rt: &H,
-    alloc: Global,
-    faults: Faults,
-) -> Result<Played<MemDisk>, Fail> {
-    let disk = new_disk(alloc, b"", &[])?;
-    play(rt, alloc, disk, "serve", INPUT, faults)
+// Whether a run ended as it must: no line is answered if a call of the source fails, and all are if a call of the sink does.
+fn ends_well(played: &Played<MemDisk>) -> bool {
+    let front = TEXT.starts_with(&played.text) && played.text.len() < TEXT.len();
+    match played.status {
+        Status::ReadFault => played.text.is_empty() && played.entries == 0,
+        Status::WriteFault => front && played.entries == 1,
+        Status::Done => played.text.as_slice() == TEXT && played.entries == 1,
+        _ => false,
+    }
 }
 
-// Whether a later run opens the store at this version.
+// Fails unless a later run opens the store at this version.
 fn has_version<H: Threads + Wait + Sync>(
     rt: &H,
     alloc: Global,
     disk: Box<MemDisk>,
     version: u64,
-) -> Result<bool, Fail> {
+) -> Result<(), Fail> {
     let opened = play(rt, alloc, disk, "run", b"", NO_FAULTS)?;
-    Ok(has_ended(&opened, Status::Done, Some(version), b""))
-}
-
-// How many entries a run made that ended as it must, and `None` if it ended otherwise: no line is answered if a call of the
-// source fails, and all are if a call of the sink does.
-fn entries_of(played: &Played<MemDisk>, whole: &[u8]) -> Option<u64> {
-    let front = whole.starts_with(&played.text) && played.text.len() < whole.len();
-    match played.status {
-        Status::ReadFault if played.text.is_empty() => Some(0),
-        Status::WriteFault if front => Some(1),
-        Status::Done if played.text.as_slice() == whole => Some(1),
-        _ => None,
-    }
-}
-
-// How a run with these faults ends. Fails if it ends otherwise than it must, or if its entries aren't those in the files.
-fn end_of<H: Threads + Wait + Sync>(rt: &H, alloc: Global, faults: Faults) -> Result<Status, Fail> {
-    let whole = with_roots(alloc, TEXT)?;
-    let played = served(rt, alloc, faults)?;
-    let entries = entries_of(&played, &whole).ok_or("the run ends otherwise")?;
-    if played.entries == entries && has_version(rt, alloc, played.disk, entries)? {
-        Ok(played.status)
+    if has_ended(&opened, Status::Done, Some(version), b"") {
+        Ok(())
     } else {
         Err(Fail::new("the files have another version"))
     }
 }
 
-// Fails unless a run ends as it must whose source fails in this call, and one whose sink does. The sink may be asked more often
-// than `PUTS` says.
-fn are_stopped<H: Threads + Wait + Sync>(
-    rt: &H,
-    alloc: Global,
-    number: usize,
-    call: &'static [u64],
-) -> Result<(), Fail> {
-    let (source, sink, piece) = (call, call, 11);
-    let taking = end_of(
-        rt,
-        alloc,
-        Faults {
-            piece,
-            source,
-            sink: &[],
-        },
-    )?;
-    let putting = end_of(
-        rt,
-        alloc,
-        Faults {
-            piece,
-            source: &[],
-            sink,
-        },
-    )?;
+// How a run with these faults ends. Fails if it ends otherwise than it must, or if its entries aren't those in the files.
+fn end_of<H: Threads + Wait + Sync>(rt: &H, alloc: Global, faults: Faults) -> Result<Status, Fail> {
+    let played = serve(rt, alloc, INPUT, faults)?;
+    if !ends_well(&played) {
+        return Err(Fail::new("the run ends otherwise"));
+    }
+    let status = played.status;
+    has_version(rt, alloc, played.disk, played.entries)?;
+    Ok(status)
+}
+
+// The faults of a source that fails in this call, and those of a sink.
+fn of_source(number: usize) -> Faults {
+    Faults {
+        piece: PIECE,
+        source: CALLS.chunks(1).nth(number).unwrap_or(&[]),
+        sink: &[],
+    }
+}
+
+fn of_sink(number: usize) -> Faults {
+    Faults {
+        piece: PIECE,
+        source: &[],
+        sink: CALLS.chunks(1).nth(number).unwrap_or(&[]),
+    }
+}
+
+// Fails unless a run ends as it must whose source fails in this call, and one whose sink does.
+fn are_stopped<H: Threads + Wait + Sync>(rt: &H, alloc: Global, number: usize) -> Result<(), Fail> {
+    let taking = end_of(rt, alloc, of_source(number))?;
+    let putting = end_of(rt, alloc, of_sink(number))?;
     let unread = taking == Status::ReadFault;
     if unread == (number < TAKES) && (putting == Status::WriteFault || number >= PUTS) {
         Ok(())
@@ -112,8 +105,8 @@ fn are_stopped<H: Threads + Wait + Sync>(
 fn a_failed_call_ends_the_run_before_its_first_line_or_cuts_the_text(
     rt: HostRuntime,
 ) -> Result<(), Fail> {
-    for (number, call) in CALLS.chunks(1).enumerate() {
-        are_stopped(&rt, rt.alloc(), number, call)?;
+    for number in 0..48 {
+        are_stopped(&rt, rt.alloc(), number)?;
     }
     Ok(())
 }

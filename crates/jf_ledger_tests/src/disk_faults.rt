@@ -16,7 +16,7 @@ const INPUT: &[u8] = b"put 61 =31\ncommit\nget head 61\nput 62 =32\ncommit\n\
     session\nput 65 =35\ncompact\ncommit\nget head 65\nroot head\n";
 
 // How many lines the sessions have.
-const LINES: u64 = 19;
+const LINES: usize = 19;
 
 // The opening of empty files makes this many calls.
 const OPENING: u64 = 13;
@@ -53,19 +53,6 @@ fn has_landings(opened: &Played<MemDisk>, text: &str, faults: u64) -> bool {
     }
 }
 
-// Whether what a crash after a run leaves has the landings that its ledger lists.
-fn is_left<H: Threads + Wait + Sync>(
-    rt: &H,
-    alloc: Global,
-    played: &Played<MemDisk>,
-    crash: (u64, u8),
-) -> Result<bool, Fail> {
-    let disk = &played.disk;
-    let image = image_of(alloc, disk, disk.moment(), crash.0, crash.1)?;
-    let opened = play(rt, alloc, image, "run", READS, NO_FAULTS)?;
-    Ok(has_landings(&opened, text_of(&played.text), disk.faults()))
-}
-
 // Crashes: how many unsynced bytes each keeps, and what the others become.
 const CRASHES: &[(u64, u8)] = &[
     (0, 0x00),
@@ -76,26 +63,41 @@ const CRASHES: &[(u64, u8)] = &[
     (1 << 62, 0xff),
 ];
 
-// Whether each of these crashes after a run leaves the landings.
+// Fails unless what a crash after a run leaves has the landings that its ledger lists.
+fn is_left<H: Threads + Wait + Sync>(
+    rt: &H,
+    alloc: Global,
+    played: &Played<MemDisk>,
+    crash: (u64, u8),
+) -> Result<(), Fail> {
+    let disk = &played.disk;
+    let image = image_of(alloc, disk, disk.moment(), crash.0, crash.1)?;
+    let opened = play(rt, alloc, image, "run", READS, NO_FAULTS)?;
+    if has_landings(&opened, text_of(&played.text), disk.faults()) {
+        Ok(())
+    } else {
+        Err(Fail::new("another landing"))
+    }
+}
+
+// Fails unless each of these crashes after a run leaves the landings.
 fn are_left<H: Threads + Wait + Sync>(
     rt: &H,
     alloc: Global,
     played: &Played<MemDisk>,
-) -> Result<bool, Fail> {
+) -> Result<(), Fail> {
     for crash in CRASHES {
-        if !is_left(rt, alloc, played, *crash)? {
-            return Ok(false);
-        }
+        is_left(rt, alloc, played, *crash)?;
     }
-    Ok(true)
+    Ok(())
 }
 
 // Fails unless the sessions on a disk that fails in this call end as they must, and leave what they may.
 fn is_sound<H: Threads + Wait + Sync>(rt: &H, alloc: Global, failing: u64) -> Result<(), Fail> {
     let disk = new_disk(alloc, b"", &[failing])?;
     let played = play(rt, alloc, disk, "serve", INPUT, NO_FAULTS)?;
-    if has_told(&played, failing) && are_left(rt, alloc, &played)? {
-        Ok(())
+    if has_told(&played, failing) {
+        are_left(rt, alloc, &played)
     } else {
         Err(Fail::new(failing))
     }

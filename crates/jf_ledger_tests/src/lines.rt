@@ -2,7 +2,7 @@
 use std::str;
 
 // How many sessions there are.
-const SESSIONS: u64 = 4;
+const SESSIONS: usize = 4;
 
 // Their numbers, as the ledger writes them.
 const OWNERS: &[&str] = &["0", "1", "2", "3"];
@@ -17,28 +17,30 @@ pub(crate) fn word(line: &str, place: usize) -> &str {
     line.split(' ').nth(place).unwrap_or("")
 }
 
-// The commands of which each makes an entry if it is done.
-const MAKING: &[&str] = &["commit", "fork", "land", "drop", "prune", "compact"];
-
-// Whether a reply says that an entry was made.
-fn is_making(reply: &str) -> bool {
-    word(reply, 1) == "ok" && MAKING.contains(&word(reply, 2))
-}
+// What replies say that tell of an entry which their line made.
+const MAKING: &[&str] = &[
+    " ok commit ",
+    " ok fork ",
+    " ok land ",
+    " ok drop ",
+    " ok prune ",
+    " ok compact ",
+];
 
 // How many entries replies made.
-fn made_by(replies: &str) -> u64 {
-    let mut made: u64 = 0;
-    for reply in replies.lines() {
-        made = made.saturating_add(u64::from(is_making(reply)));
+fn made_by(replies: &str) -> usize {
+    let mut made: usize = 0;
+    for making in MAKING {
+        made = made.saturating_add(replies.matches(*making).count());
     }
     made
 }
 
 // How many lines of a ledger are of this owner.
-fn listed_for(entries: &str, owner: &str) -> u64 {
-    let mut listed: u64 = 0;
+fn listed_for(entries: &str, owner: &str) -> usize {
+    let mut listed: usize = 0;
     for line in entries.lines() {
-        listed = listed.saturating_add(u64::from(word(line, 1) == owner));
+        listed = listed.saturating_add(usize::from(word(line, 1) == owner));
     }
     listed
 }
@@ -50,26 +52,17 @@ fn are_owned(outputs: &str, entries: &str) -> bool {
             return false;
         }
     }
-    lines_ending(outputs, "session") == SESSIONS
-}
-
-/// How many lines of a text end so.
-pub(crate) fn lines_ending(text: &str, end: &str) -> u64 {
-    let mut count: u64 = 0;
-    for line in text.lines() {
-        count = count.saturating_add(u64::from(line.ends_with(end)));
-    }
-    count
+    outputs.matches("session\n").count() == SESSIONS
 }
 
 /// How many replies a text of four sessions has, each of which wrote one. `None` if a line is cut, or if the ledger doesn't list
 /// as many entries as there are, or for a session not as many as its replies made.
-pub(crate) fn replies_in(text: &str, entries: u64) -> Option<u64> {
+pub(crate) fn replies_in(text: &str, entries: u64) -> Option<usize> {
     let (outputs, ledger) = text.split_once("ledger ")?;
     let (count, listed) = ledger.split_once('\n')?;
-    let whole = count.parse() == Ok(entries) && lines_ending(listed, "") == entries;
+    let whole = count.parse() == Ok(entries) && listed.lines().count() as u64 == entries;
     if whole && text.ends_with('\n') && are_owned(outputs, listed) {
-        lines_ending(outputs, "").checked_sub(SESSIONS)
+        outputs.lines().count().checked_sub(SESSIONS)
     } else {
         None
     }
