@@ -2,21 +2,22 @@
 ghost use Rattle.std.specs.Prelude.{◌≡◌};
 ghost use Rattle.jf_store.specs.Passes.{IsPassOf};
 
-use crate::asking::{Answer, Answered, Call, ask};
+use crate::closing::{Play, closed_after};
 use crate::roots::{EMPTY, OF_A, OF_B, OF_BOTH};
-use crate::stores::{begin_one, end_one};
 use jf_board::Held;
 use jf_disk::MemDisk;
 use jf_engine_play::steps::Change;
 use jf_engine_play::stores::new_store;
 use jf_model::{Entry, Landing, Parent};
 use jf_store::{Closed, Pass, Pruned, Store, StoreFault};
+use jf_store_play::asking::{Answer, Answered, Call, ask};
 use std::alloc::Global;
 use std::sync::Wait;
 use std::test::Fail;
 use std::thread::Threads;
 
-type Row = (Call, Answered);
+// A call, and what it is answered.
+pub(crate) type Row = (Call, Answered);
 
 const A: &[Change] = &[(b'a', Some(b'1'))];
 
@@ -48,26 +49,26 @@ const THIRD: Answered = Ok(Answer::Pruned(Pruned {
     held: None,
 }));
 
-// Versions and forks.
-const LANDINGS: &[Row] = &[
+// Versions and forks; then pins, bounds and generations.
+const CALLS: &[Row] = &[
     (Call::Look, Ok(Answer::Seen((0, (0, 0, 1), 0, 0), EMPTY))),
-    (Call::Commit(A), Ok(Answer::Landed(1, OF_A))),
-    (Call::At(0), Ok(Answer::Read(0, EMPTY))),
-    (Call::At(1), Ok(Answer::Read(1, OF_A))),
+    (Call::Commit(A), Ok(Answer::Rooted(1, OF_A))),
+    (Call::At(0), Ok(Answer::Rooted(0, EMPTY))),
+    (Call::At(1), Ok(Answer::Rooted(1, OF_A))),
     (Call::At(2), Err(StoreFault::Future(1))),
     // a fork, one on it, and another one on the head
-    (Call::Fork(Parent::Head, B), Ok(Answer::Forked(0, OF_BOTH))),
+    (Call::Fork(Parent::Head, B), Ok(Answer::Rooted(0, OF_BOTH))),
     (
         Call::Fork(Parent::Fork(0), NO_A),
-        Ok(Answer::Forked(1, OF_B)),
+        Ok(Answer::Rooted(1, OF_B)),
     ),
-    (Call::Fork(Parent::Head, NO_A), Ok(Answer::Forked(2, EMPTY))),
+    (Call::Fork(Parent::Head, NO_A), Ok(Answer::Rooted(2, EMPTY))),
     (Call::Fork(Parent::Fork(3), &[]), Err(StoreFault::Unknown)),
-    (Call::Tree(1), Ok(Answer::Tree(OF_B))),
+    (Call::Tree(1), Ok(Answer::Rooted(1, OF_B))),
     (Call::Tree(3), Err(StoreFault::Unknown)),
     (Call::Look, Ok(Answer::Seen((4, (0, 1, 1), 0, 3), OF_A))),
     // the third is dropped
-    (Call::DropFork(2), Ok(Answer::Dropped(1))),
+    (Call::DropFork(2), Ok(Answer::Number(1))),
     (Call::DropFork(2), Err(StoreFault::Gone)),
     (Call::DropFork(3), Err(StoreFault::Unknown)),
     (Call::Tree(2), Err(StoreFault::Gone)),
@@ -77,73 +78,69 @@ const LANDINGS: &[Row] = &[
     // the second lands with the first, and one that stands on it stays
     (
         Call::Fork(Parent::Fork(1), A),
-        Ok(Answer::Forked(3, OF_BOTH)),
+        Ok(Answer::Rooted(3, OF_BOTH)),
     ),
-    (Call::Land(1), Ok(Answer::Landed(3, OF_B))),
+    (Call::Land(1), Ok(Answer::Rooted(3, OF_B))),
     (Call::Look, Ok(Answer::Seen((7, (0, 3, 1), 0, 1), OF_B))),
     (Call::Tree(0), Err(StoreFault::Gone)),
-    (Call::Tree(3), Ok(Answer::Tree(OF_BOTH))),
-    (Call::At(2), Ok(Answer::Read(2, OF_BOTH))),
-];
-
-// Pins, bounds and generations after that.
-const PINS: &[Row] = &[
-    (Call::Pin(1), Ok(Answer::Pinned(0))),
-    (Call::Pin(3), Ok(Answer::Pinned(1))),
+    (Call::Tree(3), Ok(Answer::Rooted(3, OF_BOTH))),
+    (Call::At(2), Ok(Answer::Rooted(2, OF_BOTH))),
+    (Call::Pin(1), Ok(Answer::Number(0))),
+    (Call::Pin(3), Ok(Answer::Number(1))),
     (Call::Pin(4), Err(StoreFault::Future(3))),
-    (Call::Pinned(0), Ok(Answer::Read(1, OF_A))),
+    (Call::Pinned(0), Ok(Answer::Rooted(1, OF_A))),
     (Call::Pinned(2), Ok(Answer::Nothing)),
     (Call::Pinned(8), Ok(Answer::Nothing)),
     // the pin of version 1 holds the floor
     (Call::Prune(2), FIRST),
     (Call::At(1), Err(StoreFault::Retired(2))),
-    (Call::At(2), Ok(Answer::Read(2, OF_BOTH))),
+    (Call::At(2), Ok(Answer::Rooted(2, OF_BOTH))),
     (Call::Pin(1), Err(StoreFault::Retired(2))),
     (Call::PinAgain(0), Err(StoreFault::Retired(2))),
-    (Call::Pinned(0), Ok(Answer::Read(1, OF_A))),
+    (Call::Pinned(0), Ok(Answer::Rooted(1, OF_A))),
     (Call::Prune(1), Err(StoreFault::Retired(2))),
     (Call::Prune(4), Err(StoreFault::Future(3))),
     (Call::Look, Ok(Answer::Seen((8, (1, 3, 1), 2, 1), OF_B))),
-    (Call::Compact, Ok(Answer::Generation(2))),
+    (Call::Compact, Ok(Answer::Number(2))),
     // without it the floor rises to the same bound
-    (Call::Unpin(0), Ok(Answer::Unpinned(1))),
+    (Call::Unpin(0), Ok(Answer::Number(1))),
     (Call::Unpin(0), Ok(Answer::Nothing)),
     (Call::Unpin(8), Ok(Answer::Nothing)),
     (Call::Prune(2), SECOND),
     (Call::Prune(3), THIRD),
     // eight pins
-    (Call::PinAgain(1), Ok(Answer::Pinned(0))),
-    (Call::PinAgain(1), Ok(Answer::Pinned(2))),
-    (Call::PinAgain(1), Ok(Answer::Pinned(3))),
-    (Call::PinAgain(1), Ok(Answer::Pinned(4))),
-    (Call::PinAgain(1), Ok(Answer::Pinned(5))),
-    (Call::PinAgain(1), Ok(Answer::Pinned(6))),
-    (Call::PinAgain(1), Ok(Answer::Pinned(7))),
+    (Call::PinAgain(1), Ok(Answer::Number(0))),
+    (Call::PinAgain(1), Ok(Answer::Number(2))),
+    (Call::PinAgain(1), Ok(Answer::Number(3))),
+    (Call::PinAgain(1), Ok(Answer::Number(4))),
+    (Call::PinAgain(1), Ok(Answer::Number(5))),
+    (Call::PinAgain(1), Ok(Answer::Number(6))),
+    (Call::PinAgain(1), Ok(Answer::Number(7))),
     (Call::PinAgain(1), Err(StoreFault::PinsFull)),
-    (Call::Pinned(7), Ok(Answer::Read(3, OF_B))),
+    (Call::Pinned(7), Ok(Answer::Rooted(3, OF_B))),
     // no fork is left after a commit
-    (Call::Commit(NO_B), Ok(Answer::Landed(4, EMPTY))),
+    (Call::Commit(NO_B), Ok(Answer::Rooted(4, EMPTY))),
     (Call::Tree(3), Err(StoreFault::Gone)),
     (Call::Look, Ok(Answer::Seen((12, (3, 4, 2), 3, 0), EMPTY))),
 ];
 
-// The first row that is answered else, if there is one.
-fn answered_else<H: Threads + Wait + Sync>(
+// Whether each row is answered as it says. If one isn't, its number is returned.
+pub(crate) fn are_answered<H: Threads + Wait + Sync>(
     rt: &H,
     alloc: Global,
     store: &Store<MemDisk>,
     pass: &mut Pass<MemDisk>,
     rows: &[Row],
-) -> Result<Option<usize>, Fail>
+) -> Result<(), usize>
     requires { IsPassOf pass.old store.now }
     ensures { IsPassOf pass.new store.now × (pass.new.number ≡ pass.old.number) }
 {
-    for (place, row) in rows.iter().enumerate() {
-        if ask(rt, alloc, store, pass, &row.0)? != row.1 {
-            return Ok(Some(place));
+    for (number, row) in rows.iter().enumerate() {
+        if ask(rt, alloc, store, pass, &row.0) != row.1 {
+            return Err(number);
         }
     }
-    Ok(None)
+    Ok(())
 }
 
 // What was done, in a letter and two numbers: the fork that was made or dropped; the version that was landed, and the fork;
@@ -203,40 +200,18 @@ fn is_closed(closed: &Closed<MemDisk>) -> bool {
         && closed.engine.root_of(4) == Some(EMPTY)
 }
 
-// The first call that is answered else: its table, and its row there.
-fn any_answered_else<H: Threads + Wait + Sync>(
-    rt: &H,
-    alloc: Global,
-    store: &Store<MemDisk>,
-    pass: &mut Pass<MemDisk>,
-) -> Result<Option<(u8, usize)>, Fail>
-    requires { IsPassOf pass.old store.now }
-    ensures { IsPassOf pass.new store.now × (pass.new.number ≡ pass.old.number) }
-{
-    if let Some(row) = answered_else(rt, alloc, store, pass, LANDINGS)? {
-        return Ok(Some((0, row)));
-    }
-    match answered_else(rt, alloc, store, pass, PINS)? {
-        Some(row) => Ok(Some((1, row))),
-        None => Ok(None),
-    }
-}
-
-type Called = (Option<(u8, usize)>, Box<Closed<MemDisk>>);
-
-// Makes the calls on a new store, and closes it.
-fn call_all<H: Threads + Wait + Sync>(rt: &H, alloc: Global) -> Result<Called, Fail> {
+// Makes the calls on a new store. Fails unless each is answered so, and the store is closed as it must be.
+fn call_all<H: Threads + Wait + Sync>(rt: &H, alloc: Global) -> Result<(), Fail> {
     let engine = new_store(rt, alloc)?;
-    let (store, passes, mut pass) = begin_one(alloc, engine)?;
-    let other = any_answered_else(rt, alloc, &store, &mut pass);
-    let closed = end_one(store, passes, pass);
-    Ok((other?, Box::new(alloc, closed)?))
+    let closed = closed_after(rt, alloc, engine, Play::Answers(CALLS))?;
+    if is_closed(&closed) {
+        Ok(())
+    } else {
+        Err(Fail::new("the store is closed otherwise"))
+    }
 }
 
 #[test]
 fn calls_are_answered_so(rt: HostRuntime) -> Result<(), Fail> {
-    let (other, closed) = call_all(&rt, rt.alloc())?;
-    assert_eq!(rt; other, None);
-    assert!(rt; is_closed(&closed));
-    Ok(())
+    call_all(&rt, rt.alloc())
 }

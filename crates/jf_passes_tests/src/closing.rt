@@ -1,0 +1,111 @@
+// A store of two passes, from its engine to its end.
+ghost use Rattle.std.specs.Prelude.{◌≡◌, length};
+ghost use Rattle.jf_store.specs.Passes.{AreNewPasses, IsPassOf};
+ghost use Rattle.jf_store.specs.Closing.{AreAllPasses, ArePassesOf};
+
+use crate::beside::ROUNDS;
+use crate::held::the_floor_is_held;
+use crate::last_pin::{head_pin_holds, last_pin_holds};
+use crate::pruner::{VERSIONS, put_versions};
+use crate::threads::{Play, side_by_side};
+use crate::writers::are_all_put;
+use jf_disk::MemDisk;
+use jf_engine::Engine;
+use jf_engine_play::stores::store_on;
+use jf_store::{Closed, Pass, Store};
+use jf_store_play::stores::new_passes;
+use std::alloc::Global;
+use std::sync::Wait;
+use std::test::Fail;
+use std::thread::Threads;
+
+// The engine of a new disk with room for thousands of calls.
+fn wide_engine<H: Threads + Sync>(rt: &H, alloc: Global) -> Result<Box<Engine<MemDisk>>, Fail> {
+    let (a, b, failing) = (Vec::new(alloc), Vec::new(alloc), Vec::new(alloc));
+    let disk = MemDisk::new(alloc, a, b, 8_000, 2_000_000, failing)?;
+    store_on(rt, alloc, Box::new(alloc, disk)?)
+}
+
+// What is done by the two passes.
+#[derive(Clone, Copy)]
+pub(crate) enum Run {
+    Writers,
+    Beside,
+    Pruner,
+    Held,
+}
+
+// Returns whether all went well.
+fn run_on<H: Threads + Wait + Sync>(
+    rt: &H,
+    alloc: Global,
+    store: &Store<MemDisk>,
+    first: &mut Pass<MemDisk>,
+    second: &mut Pass<MemDisk>,
+    run: Run,
+) -> bool
+    requires first { IsPassOf first.old store.now }
+    requires second { IsPassOf second.old store.now }
+    ensures first { IsPassOf first.new store.now × (first.new.number ≡ first.old.number) }
+    ensures second { IsPassOf second.new store.now × (second.new.number ≡ second.old.number) }
+{
+    match run {
+        Run::Writers => side_by_side(rt, alloc, store, first, second, Play::Writers),
+        Run::Beside => {
+            side_by_side(rt, alloc, store, first, second, Play::Beside)
+                && head_pin_holds(rt, alloc, store, first, second)
+        }
+        Run::Pruner => {
+            put_versions(rt, alloc, store, second)
+                && side_by_side(rt, alloc, store, first, second, Play::Pruner)
+                && last_pin_holds(rt, store, first, second)
+        }
+        Run::Held => the_floor_is_held(rt, alloc, store, first, second),
+    }
+}
+
+#[tactic(auto, using(crate::proofs::Ends::first_new, crate::proofs::Ends::second_new))]
+fn run_two<H: Threads + Wait + Sync>(
+    rt: &H,
+    alloc: Global,
+    store: &Store<MemDisk>,
+    passes: &mut Vec<Pass<MemDisk>>,
+    run: Run,
+) -> bool
+    requires new { AreNewPasses store.now passes.old.items 0 }
+    requires two { length passes.old.items ≡ 2 }
+    requires both { store.now.start.passes ≡ 2 }
+    ensures own { ArePassesOf store.now passes.new.items }
+    ensures all { AreAllPasses store.now passes.new.items }
+{
+    let (front, back) = passes.as_mut_slice().split_at_mut(1);
+    run_on(rt, alloc, store, &mut front[0], &mut back[0], run)
+}
+
+// Whether a store was closed as it must be after a run.
+fn has_come_to(closed: &Closed<MemDisk>, run: Run) -> bool {
+    let state = closed.engine.state();
+    let whole = !closed.engine.broken();
+    match run {
+        Run::Writers => whole && are_all_put(closed),
+        Run::Beside => whole && state.head == ROUNDS as u64 + 1 && state.floor == state.head,
+        Run::Pruner => whole && state.floor == VERSIONS,
+        Run::Held => whole && state.head == 3 && state.floor == 1,
+    }
+}
+
+// Makes a store of two passes on a new disk, runs, and closes it. Fails unless all went well.
+pub(crate) fn goes_well<H: Threads + Wait + Sync>(
+    rt: &H,
+    alloc: Global,
+    run: Run,
+) -> Result<(), Fail> {
+    let (store, mut passes) = new_passes(alloc, wide_engine(rt, alloc)?, 2)?;
+    let well = run_two(rt, alloc, &store, &mut passes, run);
+    let closed = Box::new(alloc, store.close(passes))?;
+    if well && has_come_to(&closed, run) {
+        Ok(())
+    } else {
+        Err(Fail::new("it goes otherwise"))
+    }
+}

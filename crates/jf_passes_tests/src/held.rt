@@ -1,0 +1,74 @@
+// One pass pins version 1, another commits twice and prunes to 3: the floor stays at the pin, which is named, and the pin is
+// read as it was.
+ghost use Rattle.std.specs.Prelude.{◌≡◌};
+ghost use Rattle.jf_store.specs.Passes.{IsPassOf};
+
+use crate::closing::{Run, goes_well};
+use crate::steps::{pin_head, prunes_to, put, reads_pinned};
+use jf_board::Held;
+use jf_disk::MemDisk;
+use jf_store::{Pass, Store};
+use std::alloc::Global;
+use std::sync::Wait;
+use std::test::Fail;
+use std::thread::Threads;
+
+// Commits twice, which makes versions 2 and 3.
+fn puts_two<H: Threads + Wait + Sync>(
+    rt: &H,
+    alloc: Global,
+    store: &Store<MemDisk>,
+    pass: &mut Pass<MemDisk>,
+) -> bool
+    requires { IsPassOf pass.old store.now }
+    ensures { IsPassOf pass.new store.now × (pass.new.number ≡ pass.old.number) }
+{
+    let one = put(rt, alloc, store, pass, b'a', 1).is_some();
+    let two = put(rt, alloc, store, pass, b'a', 2).is_some();
+    one && two
+}
+
+// Commits version 1 and pins it. Returns whether it lies at the first place.
+fn pins_one<H: Threads + Wait + Sync>(
+    rt: &H,
+    alloc: Global,
+    store: &Store<MemDisk>,
+    pass: &mut Pass<MemDisk>,
+) -> bool
+    requires { IsPassOf pass.old store.now }
+    ensures { IsPassOf pass.new store.now × (pass.new.number ≡ pass.old.number) }
+{
+    let made = put(rt, alloc, store, pass, b'a', 0).is_some();
+    let pinned = pin_head(rt, store, pass);
+    made && pinned == Some((1, 0))
+}
+
+const ONE: Held = Held {
+    owner: 0,
+    place: 0,
+    version: 1,
+};
+
+// Whether all goes so.
+pub(crate) fn the_floor_is_held<H: Threads + Wait + Sync>(
+    rt: &H,
+    alloc: Global,
+    store: &Store<MemDisk>,
+    first: &mut Pass<MemDisk>,
+    second: &mut Pass<MemDisk>,
+) -> bool
+    requires first { IsPassOf first.old store.now }
+    requires second { IsPassOf second.old store.now }
+    ensures first { IsPassOf first.new store.now × (first.new.number ≡ first.old.number) }
+    ensures second { IsPassOf second.new store.now × (second.new.number ≡ second.old.number) }
+{
+    let pinned = pins_one(rt, alloc, store, first);
+    let put = puts_two(rt, alloc, store, second);
+    let stays = prunes_to(rt, store, second, 3, 1, Some(ONE));
+    pinned && put && stays && reads_pinned(first, 0, 1)
+}
+
+#[test]
+fn a_pin_of_another_pass_holds_the_floor(rt: HostRuntime) -> Result<(), Fail> {
+    goes_well(&rt, rt.alloc(), Run::Held)
+}
