@@ -2,8 +2,9 @@
 #![tactic(auto)]
 
 use hex::encode_to_slice;
-use jf_disk::{AnyDisk, FileDisk, FileRefused, MemDisk, Side};
+use jf_disk::{MemDisk, Side};
 use jf_evidence::RangeFault;
+use jf_folder::{AnyDisk, FileDisk, FileRefused};
 use jf_hash::Hash;
 use jf_io::{StdSink, StdSource};
 use jf_join::FreeGate;

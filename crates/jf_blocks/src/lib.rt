@@ -12,10 +12,11 @@ mod writing;
 
 pub use chunk::{ChunkHead, MAX_DEPTH, chunk_line, entry_line};
 pub use chunk_text::write_chunk;
-pub use first::{FirstLine, MAX_SIBLINGS, first_line};
+pub use first::{FirstLine, MAX_SIBLINGS, first_line, without_number};
 pub use laws::{
     blocks_are_read_back, chunks_are_read_back, replies_begin_blocks, replies_begin_chunks,
     replies_set_roots,
 };
 pub use lines::{claim_line, leaf_line, name_line, side_line};
-pub use writing::write_proof;
+pub use word::{three_after, two_after, word_after};
+pub use writing::{write_proof, write_sides};

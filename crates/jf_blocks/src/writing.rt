@@ -81,7 +81,7 @@ fn write_leaf(leaf: &Option<(Key, Hash)>, out: &mut Bytes) -> Result<(), Memory>
 }
 
 /// Appends the lines of siblings.
-pub(crate) fn write_sides(siblings: &[Hash], out: &mut Bytes) -> Result<(), Memory>
+pub fn write_sides(siblings: &[Hash], out: &mut Bytes) -> Result<(), Memory>
     ensures ok { OnOk result (out.new ≡ out.old ++ side_lines siblings.now) }
     ensures err { OnErr result (Extends out.old out.new) }
 {

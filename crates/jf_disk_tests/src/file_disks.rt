@@ -1,6 +1,7 @@
 // Disks over real files: what a folder must be, what is read back, and what a failed sync does.
 use crate::steps::Step;
-use jf_disk::{AnyDisk, Disk, DiskFailed, FileDisk, FileRefused, MemDisk, Side};
+use jf_disk::{Disk, DiskFailed, MemDisk, Side};
+use jf_folder::{AnyDisk, FileDisk, FileRefused};
 use std::alloc::Global;
 use std::fs;
 use std::os::unix::fs::{MetadataExt, symlink};

@@ -3,7 +3,8 @@ ghost use Rattle.std.specs.Prelude.{◌≡◌, [], false};
 ghost use Rattle.jf_disk.specs.Memory.{history_of};
 ghost use Rattle.jf_pair.specs.Pairs.{IsInStep};
 
-use jf_disk::{Disk, FileDisk, MemDisk, Side};
+use jf_disk::{Disk, MemDisk, Side};
+use jf_folder::FileDisk;
 use jf_frame::{DiskFault, Log};
 use jf_pair::{Pair, PairFault};
 use std::alloc::Global;

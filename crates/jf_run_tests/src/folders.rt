@@ -1,5 +1,5 @@
 // Scripts over a real folder, which is opened again for each, and what its files hold at the end.
-use jf_disk::FileDisk;
+use jf_folder::FileDisk;
 use jf_play::files::{CHECKPOINT, END, LANDING, LANDING_OF_NOTHING, bytes_of};
 use jf_play::play::answers;
 use jf_play::roots::with_roots;
