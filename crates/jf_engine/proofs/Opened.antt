@@ -1,5 +1,5 @@
 -- Openings: the files are read and unchanged, or files without a record are begun.
-use Rattle.std.specs.Prelude.{Result, Ok, Err, IfOk, IfErr, IsErr}
+use Rattle.std.specs.Prelude.{Result, Ok, Err, IfOk, IfErr, IsErr, OnOk}
 use Rattle.std.proofs.Common.{◌≡◌, refl, sym, ◌∙◌, ap, subst, ℕ, ◌-◌, ◌≤◌, ◌^◌, List, [], ◌∷◌, ◌⊎◌, ◌↔◌, inl, inr, Option, Some, None, Bool, true, false, arith, reverse}
 use Rattle.std.proofs.Math.Nat.{eq-or-lt_of_le}
 use Rattle.jf_path.specs.Faults.{HasCause}
@@ -109,9 +109,9 @@ module _ (formats : FormatsAreSound) (have : StandingsHaveVersions) (number : Ge
   }
 
   pub read_opened : (rs : List Framed) → LeadToStanding rs fmt (standing_in fmt s) → ((h : History) → o ≡ Some h → (g : History) × (n ≡ Some g) × (LeavesFiles h g × IsInStep p rs g.now)) → ((h : History) → o ≡ Some h → HoldsLive (reads h) rs)
-      → m ≤ m' → f ≤ f' → HasOpened (disk_view o m f) (disk_view n m' f') (versions_of s) (generation_in rs)
-  read_opened [] leads at held moment faults = absurd leads
-  read_opened (x ∷ xs) leads at held moment faults =
+      → m ≤ m' → f' ≡ f → HasOpened (disk_view o m f) (disk_view n m' f') (versions_of s) (generation_in rs)
+  read_opened [] leads at held moment calm = absurd leads
+  read_opened (x ∷ xs) leads at held moment calm =
       let to = lead_versions formats have (x ∷ xs) fmt s sound leads in
       record {
         found = λ h told. (record { live = x ∷ xs; held = held h told; leads = to }, number (reads h) (x ∷ xs) (held h told));
@@ -119,10 +119,10 @@ module _ (formats : FormatsAreSound) (have : StandingsHaveVersions) (number : Ge
         settled = λ h told. let a = at h told in (a.0, a.1, holds_settled formats have number a.0 p fmt s (generation_in (x ∷ xs)) sound (record { held = x ∷ xs; in_step = a.2.1; leads = leads; numbered = refl }));
         begun = λ h told. let a = at h told in (a.0, a.1, λ none. absurd (let e = holds_one (reads h) [] (x ∷ xs) none (held h told) in cc));
         live = λ h told. let a = at h told in (a.0, a.1, λ rs was. (x ∷ xs, in_step_holds p (x ∷ xs) a.0 a.2.1, subst (λ ys. LiveAfter Opens ys (x ∷ xs)) (holds_one (reads h) (x ∷ xs) rs (held h told) was) refl));
-        succeeds = λ h told. let a = at h told in (a.0, a.1, λ calm. opens h a.0 (versions_of s) p x xs to calm a.2.0 a.2.1);
+        succeeds = λ h told. let a = at h told in (a.0, a.1, λ leaves. opens h a.0 (versions_of s) p x xs to leaves a.2.0 a.2.1);
         untold = untold;
         moment = moment;
-        faults = faults;
+        faults = calm;
       }
 
 -- ---- files without a record
@@ -152,10 +152,10 @@ module _ (one : FilesStandForOne) (number : GenerationIsLive) (begins : BeginsBy
     faults = faults;
   }
 
-  pub begun_opened : SucceedsByRecords → SucceedsAfterReading → (p' : Pair) → x.kind ≡ checkpoint_kind format.Two → generation_in (x ∷ []) ≡ 1
+  pub begun_opened : f' ≡ f → SucceedsByRecords → SucceedsAfterReading → (p' : Pair) → x.kind ≡ checkpoint_kind format.Two → generation_in (x ∷ []) ≡ 1
       → ((k : History) → t ≡ Some k → (g : History) × (n ≡ Some g) × IsInStep p' (x ∷ []) g.now) → ((k : History) → t ≡ Some k → (g : History) × (n ≡ Some g) × (reads g ≡ with_new_store (reads k)))
       → HasOpened (disk_view o m f) (disk_view n m' f') new_store 1
-  begun_opened succeeds reading p' kind numbered in_step bytes =
+  begun_opened calm succeeds reading p' kind numbered in_step bytes =
       let at : (h : History) → o ≡ Some h → (g : History) × (n ≡ Some g) × (IsInStep p' (x ∷ []) g.now × (HoldsLive (reads h) [] × (LeavesNow h (λ f. StandsFor f new_store) → Succeeds Opens h g new_store))) = λ h told.
       let l = left h told in
       let both = on_same n _ _ (stop l.0 l.1) (in_step l.0 l.1) in
@@ -166,7 +166,7 @@ module _ (one : FilesStandForOne) (number : GenerationIsLive) (begins : BeginsBy
           both.2.1,
           (
             subst (λ (f : Files). HoldsLive f []) l.2.0.same held,
-            λ calm. reading Opens h l.0 both.0 new_store calm l.2.0 (succeeds Opens l.0 both.0 new_store p' [] (x ∷ []) refl to held both.2.0 both.2.1 numbered (x, refl, kind)),
+            λ leaves. reading Opens h l.0 both.0 new_store leaves l.2.0 (succeeds Opens l.0 both.0 new_store p' [] (x ∷ []) refl to held both.2.0 both.2.1 numbered (x, refl, kind)),
           ),
         ),
       ) in
@@ -187,7 +187,7 @@ module _ (one : FilesStandForOne) (number : GenerationIsLive) (begins : BeginsBy
         succeeds = λ h told. let a = at h told in (a.0, a.1, a.2.1.1);
         untold = untold;
         moment = moment;
-        faults = faults;
+        faults = calm;
       }
 
 -- ---- refusals
@@ -218,11 +218,11 @@ read_refused one o n m f m' f' why untold moment faults cause left damaged = rec
 module _ (formats : FormatsAreSound) (have : StandingsHaveVersions) (number : GenerationIsLive) (opens : OpensByRecords)
     (o n : Option History) (m f m' f' : ℕ) (p : Pair) (rs : List Framed) (untold : o ≡ None → n ≡ None) (moment : m ≤ m') (faults : f ≤ f')
     (at : (h : History) → o ≡ Some h → (g : History) × (n ≡ Some g) × (LeavesFiles h g × IsInStep p rs g.now)) (held : (h : History) → o ≡ Some h → HoldsLive (reads h) rs) where
-  pub replayed_opened : (r : Result Found OpenFault) → IfOk r (λ x. LeadToStanding rs x.format (standing_in x.format x.directory)) → IfOk r (λ x. IsSound format.Two x.directory) → IfOk r (λ x. x.generation ≡ generation_in rs)
+  pub replayed_opened : f' ≡ f → (r : Result Found OpenFault) → IfOk r (λ x. LeadToStanding rs x.format (standing_in x.format x.directory)) → IfOk r (λ x. IsSound format.Two x.directory) → IfOk r (λ x. x.generation ≡ generation_in rs)
       → IfOk r (λ x. HasOpened (disk_view o m f) (disk_view n m' f') (versions_of x.directory) x.generation)
-  replayed_opened (Ok x) led sound is =
-      subst (λ k. HasOpened (disk_view o m f) (disk_view n m' f') (versions_of x.directory) k) (sym is) (read_opened formats have number opens o n m f m' f' p x.format x.directory sound untold rs led at held moment faults)
-  replayed_opened (Err e) led sound is = tt
+  replayed_opened calm (Ok x) led sound is =
+      subst (λ k. HasOpened (disk_view o m f) (disk_view n m' f') (versions_of x.directory) k) (sym is) (read_opened formats have number opens o n m f m' f' p x.format x.directory sound untold rs led at held moment calm)
+  replayed_opened calm (Err e) led sound is = tt
 
   pub replayed_kept : p.is_live ≡ true → p.failed ≡ false → (r : Result Found OpenFault) → IfOk r (λ x. x.pair ≡ p) → IfOk r (λ x. LeadToStanding rs x.format (standing_in x.format x.directory)) → IfOk r (λ x. IsSound format.Two x.directory) → IfOk r (λ x. x.generation ≡ generation_in rs)
       → IfOk r (λ x. KeepsStandingFiles n x.pair x.format x.directory x.generation)
@@ -288,17 +288,17 @@ module _ (one : FilesStandForOne) (place : DamageHasOnePlace) (number : Generati
     all_counted : f ≤ f'
     all_counted = let b = calls.counted in omega (arith, counted, b)
 
-  pub first_opened : (r : Result Found OpenFault) → CallsOn t m1 f1 n m' f' (r ≡ Err open_fault.DiskFault) → (r ≡ Err open_fault.Memory) ⊎ IsRecord format.Two (checkpoint_of 1 (new_standing format.Two))
+  pub first_opened : f1 ≡ f → (r : Result Found OpenFault) → OnOk r (f' ≡ f1) → CallsOn t m1 f1 n m' f' (r ≡ Err open_fault.DiskFault) → (r ≡ Err open_fault.Memory) ⊎ IsRecord format.Two (checkpoint_of 1 (new_standing format.Two))
       → IfOk r (λ x. (x.directory ≡ new_standing format.Two) × (x.format ≡ format.Two) × (x.generation ≡ 1) × (x.pair.is_live ≡ true) × (x.pair.failed ≡ false))
       → ((k : History) → t ≡ Some k → IfOk r (λ x. (g : History) × (n ≡ Some g) × IsInStep x.pair (y ∷ []) g.now))
       → ((k : History) → t ≡ Some k → IfOk r (λ x. (g : History) × (n ≡ Some g) × (reads g ≡ with_new_store (reads k))))
       → IfOk r (λ x. HasOpened (disk_view o m f) (disk_view n m' f') (versions_of x.directory) x.generation)
-  first_opened (Ok x) calls spelled found in_step bytes =
+  first_opened opening (Ok x) calm calls spelled found in_step bytes =
       let written = first_written {P = IsRecord format.Two (checkpoint_of 1 (new_standing format.Two))} (Ok x) spelled (λ e. absurd (cc)) in
-      let opened = begun_opened one number begins o t n m f m' f' p y (leads_to_new written) (all_untold (Ok x) calls) (all_later (Ok x) calls) (all_counted (Ok x) calls) left stop readable succeeds reading x.pair refl (one_generation written) in_step bytes in
+      let opened = begun_opened one number begins o t n m f m' f' p y (leads_to_new written) (all_untold (Ok x) calls) (all_later (Ok x) calls) (all_counted (Ok x) calls) left stop readable (calm ∙ opening) succeeds reading x.pair refl (one_generation written) in_step bytes in
       subst (λ k. HasOpened (disk_view o m f) (disk_view n m' f') (versions_of x.directory) k) (sym found.2)
       (subst (λ v. HasOpened (disk_view o m f) (disk_view n m' f') v 1) (sym (ap versions_of found.0 ∙ (new format.Two).1)) opened)
-  first_opened (Err e) calls spelled found in_step bytes = tt
+  first_opened opening (Err e) calm calls spelled found in_step bytes = tt
 
   pub first_refused : (r : Result Found OpenFault) → CallsOn t m1 f1 n m' f' (r ≡ Err open_fault.DiskFault) → (r ≡ Err open_fault.Memory) ⊎ IsRecord format.Two (checkpoint_of 1 (new_standing format.Two))
       → (r ≡ Err open_fault.Memory → n ≡ t) → ((where_ : Side) (at : ℕ) → r ≡ Err (open_fault.Damaged where_ at) → ⊥) → IfErr r (HasRefused (disk_view o m f) (disk_view n m' f'))

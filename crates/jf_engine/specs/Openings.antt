@@ -46,7 +46,7 @@ OnHistories old new P = ForSome old (λ h. (g : History) × (new ≡ Some g) × 
 
 -- an engine was opened on a disk: its versions are what the files stood for, in their generation, and the disk is settled on
 -- them; the live records are those found, or a first checkpoint on side A; and on a calm disk the opening has succeeded as a
--- step
+-- step. No call failed: a fault once met isn't passed over
 pub record HasOpened (old new : DiskView) (v : Versions) (n : ℕ) : Type 0 where
   pub found : ForSome old.history (λ h. StandsFor (reads h) v × (generation (reads h) ≡ n))
   pub disk : OnHistories old.history new.history KeepsVersions
@@ -56,7 +56,7 @@ pub record HasOpened (old new : DiskView) (v : Versions) (n : ℕ) : Type 0 wher
   pub succeeds : OnHistories old.history new.history (λ h g. LeavesNow h (λ f. StandsFor f v) → Succeeds Opens h g v)
   pub untold : old.history ≡ None → new.history ≡ None
   pub moment : old.moment ≤ new.moment
-  pub faults : old.faults ≤ new.faults
+  pub faults : new.faults ≡ old.faults
 
 -- no engine was opened, for this reason. The files are unchanged, except that a disk that failed may have begun files without
 -- a record. `Damaged` gives the first place of damage; damaged files end in that, in `DiskFault` or in `Memory`

@@ -29,6 +29,7 @@ pub(crate) fn write_first<D: Disk>(
     ensures side { log.new.side ≡ log.old.side }
     ensures failed { (log.new.failed ≡ true) ↔ IsErr result }
     ensures calls { CallsOn (D.history disk.old) (D.moment disk.old) (D.faults disk.old) (D.history disk.new) (D.moment disk.new) (D.faults disk.new) (IsErr result) }
+    ensures calm { OnOk result (D.faults disk.new ≡ D.faults disk.old) }
     ensures few { D.moment disk.new ≤ D.moment disk.old + 10 }
 {
     log.begin(disk)?;

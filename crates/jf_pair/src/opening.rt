@@ -26,6 +26,7 @@ pub(crate) fn read_sides<D: Disk>(alloc: Global, disk: &mut D) -> Result<Sides, 
     ensures damaged { (h : History) (side : Side) (at : ℕ) → D.history disk.old ≡ Some h → result ≡ Err (PairFault.Damaged side at) → outer_damage (reads h) ≡ Some (side, at) }
     ensures left { (h : History) → D.history disk.old ≡ Some h → (g : History) × (D.history disk.new ≡ Some g) × LeavesFiles h g }
     ensures calls { CallsOn (D.history disk.old) (D.moment disk.old) (D.faults disk.old) (D.history disk.new) (D.moment disk.new) (D.faults disk.new) (result ≡ Err PairFault.DiskFault) }
+    ensures calm { OnOk result (D.faults disk.new ≡ D.faults disk.old) }
     ensures six { OnOk result (D.moment disk.new ≡ D.moment disk.old + 6) }
     ensures few { D.moment disk.new ≤ D.moment disk.old + 6 }
 {
@@ -40,6 +41,7 @@ fn sync_sides<D: Disk>(disk: &mut D) -> Result<(), DiskFault>
     ensures quiet { (h : History) → D.history disk.old ≡ Some h → OnOk result ((g : History) × (D.history disk.new ≡ Some g) × (g.now.a ≡ durable h.now.a.bytes) × (g.now.b ≡ durable h.now.b.bytes)) }
     ensures left { (h : History) → D.history disk.old ≡ Some h → (g : History) × (D.history disk.new ≡ Some g) × LeavesFiles h g }
     ensures calls { CallsOn (D.history disk.old) (D.moment disk.old) (D.faults disk.old) (D.history disk.new) (D.moment disk.new) (D.faults disk.new) (IsErr result) }
+    ensures calm { OnOk result (D.faults disk.new ≡ D.faults disk.old) }
     ensures two { OnOk result (D.moment disk.new ≡ D.moment disk.old + 2) }
     ensures few { D.moment disk.new ≤ D.moment disk.old + 2 }
 {
@@ -58,6 +60,7 @@ fn read_side<D: Disk>(alloc: Global, disk: &mut D, side: Side) -> Result<Log, Pa
     ensures damaged { (h : History) (s : Side) (at : ℕ) → D.history disk.old ≡ Some h → result ≡ Err (PairFault.Damaged s at) → (s ≡ side) × (records (content_on side h.now).bytes ≡ Err at) }
     ensures idle { (h : History) → D.history disk.old ≡ Some h → (g : History) × (D.history disk.new ≡ Some g) × Idles h g }
     ensures calls { CallsOn (D.history disk.old) (D.moment disk.old) (D.faults disk.old) (D.history disk.new) (D.moment disk.new) (D.faults disk.new) (result ≡ Err PairFault.DiskFault) }
+    ensures calm { OnOk result (D.faults disk.new ≡ D.faults disk.old) }
     ensures two { OnOk result (D.moment disk.new ≡ D.moment disk.old + 2) }
     ensures few { D.moment disk.new ≤ D.moment disk.old + 2 }
 {

@@ -56,6 +56,7 @@ impl Pair {
         ensures damaged { (h : History) (side : Side) (at : ℕ) → D.history disk.old ≡ Some h → result ≡ Err (PairFault.Damaged side at) → outer_damage (reads h) ≡ Some (side, at) }
         ensures left { (h : History) → D.history disk.old ≡ Some h → (g : History) × (D.history disk.new ≡ Some g) × LeavesFiles h g }
         ensures calls { CallsOn (D.history disk.old) (D.moment disk.old) (D.faults disk.old) (D.history disk.new) (D.moment disk.new) (D.faults disk.new) (result ≡ Err PairFault.DiskFault) }
+        ensures calm { OnOk result (D.faults disk.new ≡ D.faults disk.old) }
         ensures six { OnOk result (D.moment disk.new ≡ D.moment disk.old + 6) }
         ensures few { D.moment disk.new ≤ D.moment disk.old + 6 }
     {
@@ -86,6 +87,7 @@ impl Pair {
         ensures failed { (self.new.failed ≡ true) ↔ IsErr result }
         ensures err { OnErr result (self.new ≡ record self.old { failed = true }) }
         ensures calls { CallsOn (D.history disk.old) (D.moment disk.old) (D.faults disk.old) (D.history disk.new) (D.moment disk.new) (D.faults disk.new) (IsErr result) }
+        ensures calm { OnOk result (D.faults disk.new ≡ D.faults disk.old) }
         ensures few { D.moment disk.new ≤ D.moment disk.old + 4 }
     {
         self.live.append(disk, frame)
@@ -114,6 +116,7 @@ impl Pair {
         ensures failed { (self.new.failed ≡ true) ↔ IsErr result }
         ensures err { OnErr result (self.new ≡ record self.old { failed = true }) }
         ensures calls { CallsOn (D.history disk.old) (D.moment disk.old) (D.faults disk.old) (D.history disk.new) (D.moment disk.new) (D.faults disk.new) (IsErr result) }
+        ensures calm { OnOk result (D.faults disk.new ≡ D.faults disk.old) }
         ensures few { D.moment disk.new ≤ D.moment disk.old + 10 }
     {
         write_first(disk, &mut self.other, frame)?;
