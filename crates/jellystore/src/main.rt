@@ -4,7 +4,7 @@
 use hex::encode_to_slice;
 use jf_disk::{MemDisk, Side};
 use jf_evidence::RangeFault;
-use jf_folder::{AnyDisk, FileDisk, FileRefused};
+use jf_folder::{AnyDisk, FaultCause, FileDisk, FileRefused};
 use jf_hash::Hash;
 use jf_io::{StdSink, StdSource};
 use jf_join::FreeGate;
@@ -55,7 +55,7 @@ fn status_of_args<R: Runtime + Files<File = File> + AllocGlobal + Threads + Wait
     }
     let disk = match disk_of(rt, folder.as_str()) {
         Ok(disk) => disk,
-        Err(FileRefused::DiskFailed) => return Status::DiskFault,
+        Err(FileRefused::DiskFailed(_)) => return Status::DiskFault,
         Err(FileRefused::Memory) => return Status::Memory,
     };
     let mut source = StdSource::new(rt.reader());
@@ -87,7 +87,7 @@ fn disk_of<R: Files<File = File> + AllocGlobal>(
 ) -> Result<AnyDisk, FileRefused> {
     let alloc = rt.alloc();
     if folder.is_empty() {
-        return Err(FileRefused::DiskFailed);
+        return Err(FileRefused::DiskFailed(FaultCause::NoSuchFolder));
     }
     if folder != "-" {
         return Ok(AnyDisk::File(FileDisk::at(rt, alloc, folder)?));
