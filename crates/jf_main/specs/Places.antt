@@ -1,6 +1,7 @@
 -- The disk that a word names.
-use Rattle.std.specs.Prelude.{◌≡◌, ℕ, ◌^◌, List, [], codes, bytes_eq, Bool, true, false, ⊥}
+use Rattle.std.specs.Prelude.{ℕ, ◌^◌, List, [], codes, bytes_eq, Bool, true, false}
 use Rattle.jf_disk.specs.Memory.{IsNew}
+use Rattle.jf_folder.specs.File.{IsFresh}
 use Rattle.jf_folder.specs.declared.any.AnyDisk.{AnyDisk}
 use Rattle.jf_folder.specs.declared.any.AnyDisk.TheVariants as any
 
@@ -9,10 +10,10 @@ abbrev pub IsNewMemory : AnyDisk → Type 0
 IsNewMemory (any.Mem d) = IsNew d (record { a = []; b = [] }) [] (2 ^ 20) (2 ^ 27)
 IsNewMemory (any.File d) = ⊥
 
--- a disk over files, before its first call
+-- a disk over the two files of a folder, just opened
 abbrev pub IsNewlyOpened : AnyDisk → Type 0
 IsNewlyOpened (any.Mem d) = ⊥
-IsNewlyOpened (any.File d) = d ≡ record { moment = 0; faults = 0 }
+IsNewlyOpened (any.File d) = IsFresh d
 
 -- a disk of the one kind or of the other
 abbrev pub IsNewDisk : Bool → AnyDisk → Type 0

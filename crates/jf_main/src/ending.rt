@@ -2,7 +2,7 @@
 ghost use Rattle.std.specs.Prelude.{◌≡◌, None};
 ghost use Rattle.std.specs.Process.{exit_status};
 ghost use Rattle.jf_run.specs.Statuses.{code_of};
-ghost use Rattle.jf_main.specs.Endings.{IsEndingOf, refusal_cause, refusal_status};
+ghost use Rattle.jf_main.specs.Endings.{refusal_cause, refusal_status, told_cause};
 
 use jf_folder::{AnyDisk, FaultCause, FileRefused};
 use jf_run::status::Status;
@@ -43,7 +43,8 @@ impl Ending {
 
     /// The end after a call of the program that handed back this disk.
     pub(crate) fn of_call(status: Status, disk: &AnyDisk) -> Ending
-        ensures { IsEndingOf status result }
+        ensures status { result.status ≡ status }
+        ensures cause { result.cause ≡ told_cause status disk.now }
     {
         if status != Status::DiskFault {
             return Ending::of_status(status);

@@ -1,4 +1,4 @@
-use Rattle.std.proofs.Common.{sym, subst, absurd, IsUtf8}
+use Rattle.std.proofs.Common.{sym, subst, IsUtf8}
 use Rattle.jf_main.proofs.HexText.{digits_are_text}
 use Rattle.jf_main.proofs.status_line.digits.Goals as goal
 
