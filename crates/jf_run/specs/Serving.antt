@@ -12,7 +12,7 @@ use Rattle.jf_answers.specs.Explains.{Answered, ExplainsAnswers, text_in, timeli
 use Rattle.jf_history.specs.declared.end.End.{End}
 use Rattle.jf_history.specs.declared.end.End.TheVariants as end
 use Rattle.jf_scripts.specs.Scripts.{max_input, max_sessions, scripts_in, IsTooLarge}
-use Rattle.jf_serve.specs.Served.{out_of_memory_in, AreEnded, ArePinsSpared}
+use Rattle.jf_serve.specs.Served.{max_output, out_of_memory_in, AreEnded, ArePinsSpared, IsAloneIn}
 use Rattle.jf_report.specs.Ledgers.{served_text}
 use Rattle.jf_run.specs.Calls.{ProgramCall}
 use Rattle.jf_run.specs.Stops.{IsSafeSince}
@@ -45,7 +45,7 @@ WritesServed (status.Refused why) ends text old new faults faults' = ⊥
 -- the sessions were answered, and how they ended. One legal history explains all answers; if the disk failed, what was tried is the
 -- attempt of a session that ended with `DiskFault`, and no other session was stopped by that but at a line that asks the store. What
 -- a crash leaves spares the pins of each session that didn't run out of memory. Of the outputs and the entries, `written` says how
--- much was written
+-- much was written. No output is too long, and one script alone has the answers of a session that runs by itself, as in the mode `run`
 pub record HasServedScripts (how : Status) (s : State) (old new : DiskView) (scripts : List (List (List ℕ))) (es : List Entry) (attempt : Option Entry) (text text' : Option (List ℕ)) (faults faults' : ℕ) : Type 0 where
   pub replies : List (List Answered)
   pub ends : List End
@@ -54,6 +54,8 @@ pub record HasServedScripts (how : Status) (s : State) (old new : DiskView) (scr
   pub tried : IfSome attempt (λ e. (n : ℕ) × (slice_get ends n ≡ Some end.DiskFault))
   pub spared : OnHistories old.history new.history (λ h g. ArePinsSpared old.moment g 0 replies ends)
   pub written : WritesServed how ends (served_text (map text_in replies) es) text text' faults faults'
+  pub short : AllByRecursion (λ t. length t ≤ max_output) (map text_in replies)
+  pub alone : IsAloneIn s scripts (map text_in replies) ends es attempt
 
 -- no session began: the source failed, the input is too large, or memory ran out. There are no entries, and nothing was written
 pub record IsUnserved (c : ProgramCall) (attempt : Option Entry) : Type 0 where

@@ -17,6 +17,9 @@ use std::alloc::Global;
 use std::sync::Wait;
 use std::thread::Threads;
 
+// The most bytes of a session's output, which is gathered until all sessions have ended.
+const MAX_OUTPUT: u64 = 1 << 30;
+
 /// What a session came to: its pass, the text of its replies, and how it ended.
 #[derive(Drop)]
 pub(crate) struct SessionRan<D: Disk> {
@@ -70,7 +73,8 @@ pub(crate) fn run_session<D: Disk, H: Threads + Wait + Sync, G: Gate>(
 }
 
 /// Answers the lines of a script in turn, the first of the session, and appends their replies to an empty text. After an
-/// error the session is over, and no further line is begun.
+/// error the session is over, and no further line is begun. A reply after which the text would pass `MAX_OUTPUT` bytes isn't
+/// told, and ends the session as if memory had run out.
 fn answer_lines<D: Disk, H: Threads + Wait + Sync, G: Gate>(
     rt: &H,
     alloc: Global,
@@ -91,7 +95,12 @@ fn answer_lines<D: Disk, H: Threads + Wait + Sync, G: Gate>(
 {
     let mut left = script;
     while let Some((line, rest)) = cut_line(left) {
+        let told = text.len();
         session.step(rt, alloc, store, line, workers, gate, text)?;
+        if text.len() > MAX_OUTPUT {
+            text.truncate(told);
+            return Err(Stop::Memory);
+        }
         left = rest;
     }
     Ok(())
