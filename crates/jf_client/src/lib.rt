@@ -4,6 +4,4 @@
 
 mod laws;
 
-pub use laws::{
-    honest_chunks_are_restored, honest_replies_are_accepted, whole_runs_are_judged,
-};
+pub use laws::{honest_chunks_are_restored, honest_replies_are_accepted, whole_runs_are_judged};
