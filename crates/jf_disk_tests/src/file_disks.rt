@@ -1,7 +1,7 @@
 // Disks over real files: what a folder must be, what is read back, and what a failed sync does.
 use crate::steps::Step;
 use jf_disk::{Disk, DiskFailed, MemDisk, Side};
-use jf_folder::{AnyDisk, FileDisk, FileRefused};
+use jf_folder::{AnyDisk, FaultCause, FileDisk, FileRefused};
 use std::alloc::Global;
 use std::fs;
 use std::os::unix::fs::{MetadataExt, symlink};
@@ -36,9 +36,9 @@ fn make_files(rt: &HostRuntime, folder: &str) -> Result<(), Fail> {
     Ok(())
 }
 
-// Whether opening a folder is refused.
-fn is_refused(rt: &HostRuntime, folder: &str) -> bool {
-    FileDisk::at(rt, rt.alloc(), folder).err() == Some(FileRefused::DiskFailed)
+// Whether opening a folder is refused for this cause.
+fn is_refused(rt: &HostRuntime, folder: &str, cause: FaultCause) -> bool {
+    FileDisk::at(rt, rt.alloc(), folder).err() == Some(FileRefused::DiskFailed(cause))
 }
 
 // What a call returns: a length, or how many bytes were read.
@@ -159,7 +159,7 @@ fn is_as_it_was_written(rt: &HostRuntime, folder: &str) -> Result<bool, Fail> {
 // Whether opening a folder is refused after it was removed.
 fn is_refused_without_it(rt: &HostRuntime, folder: &str) -> bool {
     let _ = fs::remove_dir_all(rt, folder);
-    is_refused(rt, folder)
+    is_refused(rt, folder, FaultCause::NoSuchFolder)
 }
 
 fn is_written_and_opened_again(rt: &HostRuntime, folder: &str) -> Result<bool, Fail> {
@@ -195,7 +195,7 @@ fn new_files_are_for_their_owner_alone(rt: HostRuntime) -> Result<(), Fail> {
 // Whether a folder is refused as long as a disk holds it.
 fn is_held(rt: &HostRuntime, folder: &str) -> Result<bool, Fail> {
     let held = open(rt, folder)?;
-    let refused = is_refused(rt, folder);
+    let refused = is_refused(rt, folder, FaultCause::InUse);
     drop(held);
     Ok(refused)
 }
@@ -222,14 +222,14 @@ fn is_refused_with_link(
 ) -> Result<bool, Fail> {
     fs::remove_file(rt, file)?;
     symlink(rt, to, file)?;
-    Ok(is_refused(rt, folder))
+    Ok(is_refused(rt, folder, FaultCause::NotAStore))
 }
 
 // Whether a folder is refused after a folder was put in place of a file.
 fn is_refused_with_folder(rt: &HostRuntime, folder: &str, file: &str) -> Result<bool, Fail> {
     fs::remove_file(rt, file)?;
     fs::create_dir(rt, file)?;
-    Ok(is_refused(rt, folder))
+    Ok(is_refused(rt, folder, FaultCause::NotAStore))
 }
 
 // Whether a folder is refused with a link to its side A in place of a file, one to a device, and a folder.
@@ -246,7 +246,11 @@ fn files_that_are_no_two_sides_are_refused(rt: HostRuntime) -> Result<(), Fail> 
     let folder = "jf_disk_refused";
     make_files(&rt, folder)?;
     let refused = is_refused_with_each(&rt, folder, "jf_disk_refused/b.jf")?;
-    end(&rt, folder, refused && is_refused(&rt, ""))
+    end(
+        &rt,
+        folder,
+        refused && is_refused(&rt, "", FaultCause::NoSuchFolder),
+    )
 }
 
 const PAST_THE_END: &[Taken] = &[
@@ -284,7 +288,11 @@ const LOST: &[Taken] = &[
 ];
 
 fn is_lost(disk: &mut FileDisk) -> bool {
-    disk.len(Side::A).is_ok() && takes(disk, LOST) && has_made(disk, 7, 6)
+    disk.len(Side::A).is_ok()
+        && disk.cause().is_none()
+        && takes(disk, LOST)
+        && has_made(disk, 7, 6)
+        && disk.cause() == Some(FaultCause::InputOutput)
 }
 
 // Makes a folder whose side A is a link to `to`.

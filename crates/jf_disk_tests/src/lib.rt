@@ -2,7 +2,13 @@
 #![tactic(auto)]
 
 #[cfg(test)]
+mod beginnings;
+#[cfg(test)]
+mod causes;
+#[cfg(test)]
 mod file_disks;
+#[cfg(test)]
+mod held_files;
 #[cfg(test)]
 mod mem_disks;
 #[cfg(test)]

@@ -2,8 +2,17 @@
 #![tactic(auto)]
 
 mod any;
+mod cause;
+mod counted;
 mod file;
+mod folder;
+mod found;
+mod pieces;
+mod seen;
 mod side_file;
+mod two_files;
 
 pub use any::AnyDisk;
+pub use cause::FaultCause;
 pub use file::{FileDisk, FileRefused};
+pub use seen::{Seen, store_refusal};

@@ -1,0 +1,65 @@
+// How the program ended.
+ghost use Rattle.std.specs.Prelude.{◌≡◌, None};
+ghost use Rattle.std.specs.Process.{exit_status};
+ghost use Rattle.jf_run.specs.Statuses.{code_of};
+ghost use Rattle.jf_main.specs.Endings.{refusal_cause, refusal_status, told_cause};
+
+use jf_folder::{AnyDisk, FaultCause, FileRefused};
+use jf_run::status::Status;
+use std::process::ExitCode;
+
+/// How the program ended, and why its disk failed, if it did.
+#[derive(Clone, Copy, Debug, PartialEq, Eq, Drop)]
+pub struct Ending {
+    pub status: Status,
+    pub cause: Option<FaultCause>,
+}
+
+impl Ending {
+    /// An end without a fault of the disk.
+    pub(crate) fn of_status(status: Status) -> Ending
+        ensures status { result.status ≡ status }
+        ensures cause { result.cause ≡ None }
+    {
+        Ending {
+            status,
+            cause: None,
+        }
+    }
+
+    /// The end if the disk couldn't be opened.
+    pub(crate) fn of_refusal(why: FileRefused) -> Ending
+        ensures status { result.status ≡ refusal_status why }
+        ensures cause { result.cause ≡ refusal_cause why }
+    {
+        match why {
+            FileRefused::DiskFailed(cause) => Ending {
+                status: Status::DiskFault,
+                cause: Some(cause),
+            },
+            FileRefused::Memory => Ending::of_status(Status::Memory),
+        }
+    }
+
+    /// The end after a call of the program that handed back this disk.
+    pub(crate) fn of_call(status: Status, disk: &AnyDisk) -> Ending
+        ensures status { result.status ≡ status }
+        ensures cause { result.cause ≡ told_cause status disk.now }
+    {
+        if status != Status::DiskFault {
+            return Ending::of_status(status);
+        }
+        // A disk in memory knows no cause, and fails only if its room is used up.
+        Ending {
+            status,
+            cause: Some(disk.cause().unwrap_or(FaultCause::NoRoom)),
+        }
+    }
+
+    /// The exit status that says how the program ended.
+    pub fn exit_code(&self) -> ExitCode
+        ensures { exit_status result ≡ code_of self.now.status }
+    {
+        ExitCode::from(self.status.code())
+    }
+}

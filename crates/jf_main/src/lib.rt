@@ -1,0 +1,15 @@
+//! What the program does: it reads the words of its command line, opens the disk that the first word names, runs the
+//! other words over it, standard input and standard output, and tells on standard error of an end that isn't a good one.
+#![tactic(auto)]
+
+mod command_line;
+mod ending;
+mod place;
+mod program;
+mod status_line;
+
+pub use command_line::CommandLine;
+pub use ending::Ending;
+pub use place::disk_at;
+pub use program::run;
+pub use status_line::StatusLine;

@@ -1,0 +1,104 @@
+// The program over the devices of its process.
+ghost use Rattle.std.specs.Prelude.{◌≤◌};
+ghost use Rattle.std.specs.Process.{exit_status};
+
+use crate::command_line::CommandLine;
+use crate::ending::Ending;
+use crate::place::disk_at;
+use crate::status_line::StatusLine;
+use jf_folder::AnyDisk;
+use jf_io::{StdSink, StdSource};
+use jf_join::FreeGate;
+use jf_run::run_words::run_words;
+use jf_run::status::{Ended, Status};
+use std::fs::File;
+use std::io::ErrorKind;
+use std::mem::ManuallyDrop;
+use std::process::ExitCode;
+use std::rt::{Files, Runtime};
+use std::sync::Wait;
+use std::thread::Threads;
+use std::{env, io};
+
+/// Runs the program over the arguments, standard input and standard output of its process, writes the lines about a bad
+/// end to standard error, and returns the exit status (docs/FORMATS.md, "Calling the program"). Lines that can't be
+/// written don't change it.
+pub fn run<R: Runtime + Files<File = File> + AllocGlobal + Threads + Wait + Sync>(
+    rt: &R,
+) -> ExitCode
+    ensures { exit_status result ≤ 8 }
+{
+    let ending = run_process(rt);
+    let _ = tell(rt, &ending);
+    ending.exit_code()
+}
+
+// Runs the command line of the process.
+fn run_process<R: Runtime + Files<File = File> + AllocGlobal + Threads + Wait + Sync>(
+    rt: &R,
+) -> Ending {
+    match command_line(rt) {
+        Ok(line) => run_line(rt, &line),
+        Err(status) => Ending::of_status(status),
+    }
+}
+
+// The command line of the process. `Usage` if a word isn't UTF-8 or no folder is named.
+fn command_line<R: Runtime + AllocGlobal>(rt: &R) -> Result<CommandLine, Status> {
+    match env::args(rt) {
+        Ok(args) => CommandLine::of(rt.alloc(), args),
+        Err(error) if error.kind() == ErrorKind::OutOfMemory => Err(Status::Memory),
+        Err(_) => Err(Status::Usage),
+    }
+}
+
+// Opens the disk that the command line names, and runs its words over it.
+fn run_line<R: Runtime + Files<File = File> + AllocGlobal + Threads + Wait + Sync>(
+    rt: &R,
+    line: &CommandLine,
+) -> Ending {
+    match disk_at(rt, rt.alloc(), line.folder.as_str()) {
+        Ok(disk) => run_over(rt, &line.words, disk),
+        Err(why) => Ending::of_refusal(why),
+    }
+}
+
+// Runs words over a disk, standard input and standard output.
+fn run_over<R: Runtime + AllocGlobal + Threads + Wait + Sync>(
+    rt: &R,
+    words: &[String],
+    disk: AnyDisk,
+) -> Ending {
+    let mut source = StdSource::new(rt.reader());
+    let mut sink = StdSink::new(io::writer(rt));
+    let Ended {
+        status,
+        disk,
+        entries,
+        start: _,
+        memory,
+    } = run_words(
+        rt,
+        rt.alloc(),
+        words,
+        &mut source,
+        &mut sink,
+        disk,
+        &FreeGate,
+    );
+    // The process ends now, and the system takes all of its memory at once.
+    let _ = ManuallyDrop::new((entries, memory));
+    Ending::of_call(status, &disk)
+}
+
+// Writes the line of a status to standard error, and after a fault of the disk its cause.
+fn tell<R: Runtime>(rt: &R, ending: &Ending) -> io::Result<()> {
+    if ending.status == Status::Done {
+        return Ok(());
+    }
+    eprintln!(rt; "{}", StatusLine(ending.status))?;
+    match ending.cause {
+        Some(cause) => eprintln!(rt; "because: {}", cause.text()),
+        None => Ok(()),
+    }
+}
