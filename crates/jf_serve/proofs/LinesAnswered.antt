@@ -114,7 +114,7 @@ module _ {store : Store} {n : ℕ} {script left : List (List ℕ)} {now : Sessio
     }
 
     -- it was answered, and memory ran out before its reply was told
-    pub ran_untold : (new : Session) (r : Answered) → HasReplied store.start now new line r → HasRunSession store n script end.Memory text new.pass
+    ran_untold : (new : Session) (r : Answered) → HasReplied store.start now new line r → HasRunSession store n script end.Memory text new.pass
     ran_untold new r replied = record {
       replies = f.replies;
       text_is = f.text_is;
