@@ -105,13 +105,19 @@ fn put(rt: &HostRuntime, path: &str, bytes: Bytes) -> io::Result<()> {
     }
 }
 
+// Whether there is no file.
+fn is_missing(rt: &HostRuntime, path: &str) -> bool {
+    match fs::metadata(rt, path) {
+        Ok(_) => false,
+        Err(e) => e.kind() == ErrorKind::NotFound,
+    }
+}
+
 // Whether a file has these bytes, or is missing.
 fn has(rt: &HostRuntime, path: &str, want: Bytes) -> io::Result<bool> {
-    match (fs::read(rt, path), want) {
-        (Ok(bytes), Some(want)) => Ok(bytes.as_slice() == want),
-        (Ok(_), None) => Ok(false),
-        (Err(e), None) if e.kind() == ErrorKind::NotFound => Ok(true),
-        (Err(e), _) => Err(e),
+    match want {
+        Some(want) => Ok(fs::read(rt, path)?.as_slice() == want),
+        None => Ok(is_missing(rt, path)),
     }
 }
 
