@@ -7,7 +7,9 @@ use Rattle.jf_evidence.specs.declared.range_proof.RangeFault.{RangeFault}
 use Rattle.jf_restore.specs.RestoreValue.{RestoreValue}
 use Rattle.jf_restore.specs.Restores.{with_more}
 use Rattle.jf_blocks.specs.Reading.{Read, Chunk, Place, and_then, matched, line_read, line_by, gives, lines_by, side_of, entry_of, chunk_of, chunk_body, chunk_block}
+use Rattle.jf_blocks.specs.Sides.{kept_sides}
 use Rattle.jf_blocks.proofs.Bounds.{Bounded, chunk_body-bounded}
+use Rattle.jf_blocks.proofs.SideLaws.{with_kept-kept_sides, range_refusal-kept_sides}
 use Rattle.jf_chunks.specs.declared.fault.BlockFault.{BlockFault}
 use Rattle.jf_chunks.specs.declared.stage.Stage.{Stage}
 use Rattle.jf_chunks.specs.Steps.{restoring_after_all, restored_at_end, RestoringStep, restoring_line_step, taken, refuses, next_at, adds_nothing, taken_if_whole, entry_step, sibling_step, head_step}
@@ -83,18 +85,26 @@ module _ (r : RestoreValue) (first depth : ℕ) where
   side_and_more es siblings m (Err at) = refl
   side_and_more es siblings m (Ok o) = one_side es siblings o.0 (lines_by side_of m o.1)
 
+  -- a whole block is taken by the siblings that are kept as by all
+  taken-kept_sides : (es : Entries) (siblings : List (List ℕ)) → taken r first (es, record { depth = depth; siblings = kept_sides siblings }) ≡ taken r first (es, record { depth = depth; siblings = siblings })
+  taken-kept_sides es siblings =
+      ap (λ (o : Option RangeFault). elim o as (λ x. RestoringStep) [ None ↦ adds_nothing (with_more r es) stage.Between | Some why ↦ refuses r (fault.Chunk first why) ]) (range_refusal-kept_sides r.root r.entries es depth siblings)
+
   sides_read : (n : ℕ) (es : Entries) (siblings : List (List ℕ)) (at : ℕ) (ls : List (List ℕ))
-      → restoring_goes (taken_if_whole r (part 0 n es siblings)) at ls ≡ restoring_answered r first (and_then (lines_by side_of n (record { at = at; left = ls })) (with_sides es siblings))
+      → restoring_goes (taken_if_whole r (part 0 n es (kept_sides siblings))) at ls ≡ restoring_answered r first (and_then (lines_by side_of n (record { at = at; left = ls })) (with_sides es siblings))
   unfolding lines_by restoring_line_step
   sides_read zero es siblings at ls =
-      ap (λ b. restoring_goes (cond (b || b) (adds_nothing r (stage.Block (part 0 0 es siblings))) (taken r first (es, record { depth = depth; siblings = siblings }))) at ls) none_left
+      ap (λ b. restoring_goes (cond (b || b) (adds_nothing r (stage.Block (part 0 0 es (kept_sides siblings)))) (taken r first (es, record { depth = depth; siblings = kept_sides siblings }))) at ls) none_left
+      ∙ ap (λ (a : RestoringStep). restoring_goes a at ls) (taken-kept_sides es siblings)
       ∙ ap (λ hs. restoring_goes (taken r first (es, record { depth = depth; siblings = hs })) at ls) (sym (append-nil siblings))
   sides_read (suc m) es siblings at ls =
-      let b : Begun = part 0 (suc m) es siblings in
-      ap₂ (λ s t. restoring_goes (cond (s || t) (adds_nothing r (stage.Block b)) (taken r first (es, record { depth = depth; siblings = siblings }))) at ls) none_left (some_left m)
+      let b : Begun = part 0 (suc m) es (kept_sides siblings) in
+      ap₂ (λ s t. restoring_goes (cond (s || t) (adds_nothing r (stage.Block b)) (taken r first (es, record { depth = depth; siblings = kept_sides siblings }))) at ls) none_left (some_left m)
       ∙ by_line side_of (λ h q. and_then (lines_by side_of m q) (with_sides es (siblings ++ h ∷ []))) (sibling_step r at b) (stage.Block b) r first at ls refl refl
       (λ line. ap (λ t. cond t (entry_step r at b (line_read entry_of line)) (sibling_step r at b (line_read side_of line))) none_left) refl
-      (λ h more. ap (λ n. restoring_goes (taken_if_whole r (part 0 n es (siblings ++ h ∷ []))) (at + 1) more) (one_less m) ∙ sides_read m es (siblings ++ h ∷ []) (at + 1) more)
+      (λ h more.
+      ap₂ (λ n ss. restoring_goes (taken_if_whole r (part 0 n es ss)) (at + 1) more) (one_less m) (with_kept-kept_sides siblings h)
+      ∙ sides_read m es (siblings ++ h ∷ []) (at + 1) more)
       ∙ ap (restoring_answered r first) (side_and_more es siblings m (line_by side_of (record { at = at; left = ls })))
 
   -- the block of these entries and more, and then so many siblings

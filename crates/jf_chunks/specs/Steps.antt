@@ -4,6 +4,7 @@ use Rattle.jf_evidence.specs.Ranges.{range_refusal, Entry}
 use Rattle.jf_restore.specs.RestoreValue.{RestoreValue}
 use Rattle.jf_restore.specs.Restores.{HaveShortValues, with_more}
 use Rattle.jf_blocks.specs.Reading.{Chunk, line_read, entry_of, side_of, chunk_of}
+use Rattle.jf_blocks.specs.Sides.{with_kept}
 use Rattle.jf_blocks.specs.declared.chunk.ChunkHead.{ChunkHead}
 use Rattle.jf_chunks.specs.declared.stage.Stage.{Stage}
 use Rattle.jf_chunks.specs.declared.fault.BlockFault.{BlockFault}
@@ -69,9 +70,9 @@ begun_at at head = record { first = at; entries_left = head.entries; siblings_le
 abbrev pub with_entry : Begun → Entry → Begun
 with_entry b e = record { first = b.first; entries_left = b.entries_left - 1; siblings_left = b.siblings_left; entries = b.entries ++ e ∷ []; proof = b.proof }
 
--- the block with one more sibling, and one fewer to come
+-- the block with one more sibling, and one fewer to come; of more than 256 the first 257 are kept
 abbrev pub with_sibling : Begun → List ℕ → Begun
-with_sibling b h = record { first = b.first; entries_left = b.entries_left; siblings_left = b.siblings_left - 1; entries = b.entries; proof = record { depth = b.proof.depth; siblings = b.proof.siblings ++ h ∷ [] } }
+with_sibling b h = record { first = b.first; entries_left = b.entries_left; siblings_left = b.siblings_left - 1; entries = b.entries; proof = record { depth = b.proof.depth; siblings = with_kept b.proof.siblings h } }
 
 -- the step of a block's first line
 abbrev pub head_step : RestoreValue → ℕ → Option ChunkHead → RestoringStep

@@ -6,7 +6,7 @@ ghost use Rattle.jf_chunks.specs.Steps.{IsRestoredBy, IsShort, restoring_line_st
 
 use crate::fault::BlockFault;
 use crate::stage::{Begun, Stage};
-use jf_blocks::{chunk_line, entry_line, side_line};
+use jf_blocks::{chunk_line, entry_line, keep_side, side_line};
 use jf_evidence::RangeProof;
 use jf_path::{HashList, Memory, Pairs};
 use jf_restore::{Restore, RestoreRefused};
@@ -101,7 +101,7 @@ fn entry(
     }
 }
 
-/// Reads the line of a sibling.
+/// Reads the line of a sibling. It is counted, and kept if it is among the first 257.
 fn side(restore: &mut Restore, at: u64, begun: Begun, line: &[u8]) -> Result<Stage, Memory>
     requires { HaveShortValues begun.entries }
     ensures ok { IfOk result (λ next. IsRestoredBy (sibling_step restore.old at begun (line_read side_of line.now)) restore.new next) }
@@ -111,7 +111,7 @@ fn side(restore: &mut Restore, at: u64, begun: Begun, line: &[u8]) -> Result<Sta
     match side_line(line) {
         Some(sibling) => {
             let mut begun = begun;
-            begun.proof.siblings.push(sibling)?;
+            keep_side(&mut begun.proof.siblings, sibling)?;
             begun.siblings_left = begun.siblings_left.saturating_sub(1);
             settle(restore, begun)
         }

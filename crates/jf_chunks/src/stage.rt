@@ -14,7 +14,7 @@ pub struct Begun {
     pub siblings_left: u64,
     /// The entries that have come.
     pub entries: Pairs,
-    /// The depth, and the siblings that have come.
+    /// The depth, and of the siblings that have come the first 257.
     pub proof: RangeProof,
 }
 
