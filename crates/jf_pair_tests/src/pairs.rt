@@ -134,10 +134,11 @@ fn live_in(rt: &HostRuntime, folder: &str) -> Result<bool, Fail> {
     Ok(live_on_files(rt.alloc(), &mut disk) == Ok(true))
 }
 
-// Makes a folder whose side B holds bytes after a closed gate.
-fn make(rt: &HostRuntime, folder: &str, side_b: &str) -> Result<(), Fail> {
+// Makes a folder whose side A is empty, and whose side B holds bytes after a closed gate.
+fn make(rt: &HostRuntime, folder: &str, side_a: &str, side_b: &str) -> Result<(), Fail> {
     let _ = fs::remove_dir_all(rt, folder);
     fs::create_dir(rt, folder)?;
+    fs::write(rt, side_a, &[])?;
     fs::write(rt, side_b, [0x5a, 1, 2])?;
     Ok(())
 }
@@ -149,7 +150,12 @@ fn has_bytes(rt: &HostRuntime, file: &str, want: &[u8]) -> Result<bool, Fail> {
 
 #[test]
 fn checkpoints_go_to_the_sides_in_turn(rt: HostRuntime) -> Result<(), Fail> {
-    make(&rt, "jf_pair_in_turn", "jf_pair_in_turn/b.jf")?;
+    make(
+        &rt,
+        "jf_pair_in_turn",
+        "jf_pair_in_turn/a.jf",
+        "jf_pair_in_turn/b.jf",
+    )?;
     assert!(rt; live_in(&rt, "jf_pair_in_turn")?);
     assert!(rt; has_bytes(&rt, "jf_pair_in_turn/a.jf", SIDE_A)?);
     assert!(rt; has_bytes(&rt, "jf_pair_in_turn/b.jf", SIDE_B)?);
