@@ -95,7 +95,7 @@ module _ (store : Store) (s : Served) (out_of_memory : List ℕ) (entries : List
   by end.WriteFault is silent = absurd (silent refl)
   by end.DiskFault is silent = all_told end.DiskFault is (told_if end.DiskFault is (λ e. let no : end.DiskFault ≡ end.Memory = e in cc)) (λ t. t)
   by end.Broken is silent = absurd (one_end_is_alone store end.Broken r.mid r.last r.done r.had r.next one none are r.answered (ends end.Broken is)).1
-  by end.Memory is silent = elim r.told [ inl same ↦ all_told end.Memory is same (λ t. inl t) | inr lost ↦ reply_lost (ends end.Memory is) lost.2.1 ]
+  by end.Memory is silent = elim r.told [ inl same ↦ all_told end.Memory is same (λ t. inl t) | inr lost ↦ reply_lost (ends end.Memory is) lost.2 ]
 
 pub one_served_is_alone : OneServedIsAlone
 one_served_is_alone store s out_of_memory entries engine one none number silent closed r = by store s out_of_memory entries engine one none number closed r s.how refl silent
