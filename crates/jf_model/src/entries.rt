@@ -1,5 +1,5 @@
 // The entries of a run: what each event records.
-use jf_split::Batch;
+use crate::batch_note::BatchNote;
 
 /// What a fork stands on: the head, or another fork by its number.
 #[derive(Clone, Copy, Debug, PartialEq, Eq)]
@@ -11,7 +11,7 @@ pub enum Parent {
 /// What is landed: a batch on the head, or a fork with its ancestors.
 #[derive(Debug, Drop)]
 pub enum Landing {
-    Direct(Batch),
+    Direct(BatchNote),
     Fork(u64),
 }
 
@@ -23,7 +23,7 @@ pub enum Entry {
         owner: u64,
         fork: u64,
         parent: Parent,
-        batch: Batch,
+        batch: BatchNote,
         root: [u8; 32],
     },
     /// A version was landed, with this root. `moment` is that of the disk when the landing was acknowledged.

@@ -4,7 +4,7 @@ ghost use Rattle.jf_store.specs.Passes.{IsPassOf};
 
 use crate::beside::{pin_heads, put_and_prune_often};
 use crate::pruner::{pin_often, prune_up};
-use crate::writers::put_all;
+use crate::writers::{FIRST, SECOND, put_all};
 use jf_disk::MemDisk;
 use jf_store::{Pass, Store};
 use std::alloc::Global;
@@ -34,7 +34,7 @@ fn first_part<H: Threads + Wait + Sync>(
     ensures { IsPassOf pass.new store.now × (pass.new.number ≡ pass.old.number) }
 {
     match play {
-        Play::Writers => put_all(rt, alloc, store, pass, b'a'),
+        Play::Writers => put_all(rt, alloc, store, pass, FIRST),
         Play::Beside => pin_heads(rt, store, pass, floor),
         Play::Pruner => pin_often(rt, store, pass, floor),
     }
@@ -53,7 +53,7 @@ fn second_part<H: Threads + Wait + Sync>(
     ensures { IsPassOf pass.new store.now × (pass.new.number ≡ pass.old.number) }
 {
     match play {
-        Play::Writers => put_all(rt, alloc, store, pass, b'b'),
+        Play::Writers => put_all(rt, alloc, store, pass, SECOND),
         Play::Beside => put_and_prune_often(rt, alloc, store, pass, floor),
         Play::Pruner => prune_up(rt, store, pass, floor),
     }

@@ -5,10 +5,9 @@ ghost use Rattle.jf_store.specs.Passes.{IsPassOf};
 use crate::closing::{Run, goes_well};
 use crate::steps::{first_at, put};
 use jf_disk::MemDisk;
-use jf_engine::Landed;
+use jf_engine::{Engine, Landed};
 use jf_model::{Entry, Landing};
 use jf_node::Snapshot;
-use jf_split::Batch;
 use jf_store::{Closed, Look, Pass, Store};
 use jf_store_play::passes::{at, look};
 use std::alloc::Global;
@@ -18,6 +17,12 @@ use std::thread::Threads;
 
 // How often each pass commits.
 const WRITES: u8 = 100;
+
+/// The name at which the first pass puts.
+pub(crate) const FIRST: u8 = b'a';
+
+/// The name at which the second pass puts.
+pub(crate) const SECOND: u8 = b'b';
 
 // Whether a look finds this version, or a later one, with what the pass has put last.
 fn goes_on_from(look: &Look, version: u64, name: u8, byte: u8) -> bool {
@@ -77,39 +82,37 @@ pub(crate) fn put_all<H: Threads + Wait + Sync>(
     all
 }
 
-// The first byte that a batch puts.
-fn byte_in(batch: &Batch) -> Option<u8> {
-    let change = batch.as_slice().first()?;
-    let value = change.1.as_ref()?;
-    value.as_slice().first().copied()
-}
-
-// Who landed a version, which one, and the byte that it put.
-fn landing_of(entry: &Entry) -> Option<(u64, u64, u8)> {
+// Who landed a version, and which one.
+fn landing_of(entry: &Entry) -> Option<(u64, u64)> {
     match entry {
         Entry::Landed {
             owner,
             version,
-            how: Landing::Direct(batch),
+            how: Landing::Direct(_),
             ..
-        } => Some((*owner, *version, byte_in(batch)?)),
+        } => Some((*owner, *version)),
         _ => None,
     }
 }
 
-// How many bytes an owner put, one after another from 0 on. `None` if they are out of order, or if the entries are not the
-// versions from 1 on.
-fn put_in_order(entries: &[Entry], owner: u64) -> Option<u8> {
+// The byte that a version of the store has at a name.
+fn byte_at(engine: &Engine<MemDisk>, version: u64, name: u8) -> Option<u8> {
+    first_at(engine.at(version)?, name)
+}
+
+// How many bytes an owner put at its name, one after another from 0 on, each in the version that it landed. `None` if they
+// are out of order, or if the entries are not the versions from 1 on.
+fn put_in_order(engine: &Engine<MemDisk>, entries: &[Entry], owner: u64, name: u8) -> Option<u8> {
     let mut last: u64 = 0;
     let mut next: u8 = 0;
     for entry in entries {
-        let (by, version, byte) = landing_of(entry)?;
+        let (by, version) = landing_of(entry)?;
         last = last.wrapping_add(1);
         if version != last {
             return None;
         }
         if by == owner {
-            if byte != next {
+            if byte_at(engine, version, name) != Some(next) {
                 return None;
             }
             next = next.wrapping_add(1);
@@ -121,10 +124,11 @@ fn put_in_order(entries: &[Entry], owner: u64) -> Option<u8> {
 // Whether all was put by both, each in its order.
 pub(crate) fn are_all_put(closed: &Closed<MemDisk>) -> bool {
     let entries = closed.entries.as_slice();
+    let engine = &closed.engine;
     entries.len() as u64 == 2 * WRITES as u64
-        && closed.engine.state().head == 2 * WRITES as u64
-        && put_in_order(entries, 0) == Some(WRITES)
-        && put_in_order(entries, 1) == Some(WRITES)
+        && engine.state().head == 2 * WRITES as u64
+        && put_in_order(engine, entries, 0, FIRST) == Some(WRITES)
+        && put_in_order(engine, entries, 1, SECOND) == Some(WRITES)
 }
 
 #[test]

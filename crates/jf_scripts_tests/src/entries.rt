@@ -1,6 +1,6 @@
 // Entries, and the lines that they are written as.
 use jf_io::MemSink;
-use jf_model::{Entry, Landing, Parent};
+use jf_model::{BatchNote, Entry, Landing, Parent};
 use jf_path::Bytes;
 use jf_report::write_served;
 use jf_split::Batch;
@@ -8,6 +8,11 @@ use std::alloc::Global;
 use std::test::Fail;
 
 const PIECES: &[usize] = &[1, 7];
+
+// The note of an empty batch.
+fn no_changes(alloc: Global) -> BatchNote {
+    BatchNote::of(&Batch::new(alloc))
+}
 
 // Fails unless an entry alone is written as this text, into sinks that take small pieces.
 fn is_written(alloc: Global, entry: Entry, wanted: &str) -> Result<(), Fail> {
@@ -35,7 +40,7 @@ fn writes_forks(rt: HostRuntime) -> Result<(), Fail> {
             owner: 0,
             fork: 0,
             parent: Parent::Head,
-            batch: Batch::new(alloc),
+            batch: no_changes(alloc),
             root: [0xab; 32],
         },
         "ledger 1\nmade 0 f0 head abababababababababababababababababababababababababababababababab\n",
@@ -46,7 +51,7 @@ fn writes_forks(rt: HostRuntime) -> Result<(), Fail> {
             owner: 1,
             fork: 12,
             parent: Parent::Fork(3),
-            batch: Batch::new(alloc),
+            batch: no_changes(alloc),
             root: [0x0f; 32],
         },
         "ledger 1\nmade 1 f12 f3 0f0f0f0f0f0f0f0f0f0f0f0f0f0f0f0f0f0f0f0f0f0f0f0f0f0f0f0f0f0f0f0f\n",
@@ -61,7 +66,7 @@ fn writes_landings(rt: HostRuntime) -> Result<(), Fail> {
         Entry::Landed {
             owner: 15,
             version: 7,
-            how: Landing::Direct(Batch::new(alloc)),
+            how: Landing::Direct(no_changes(alloc)),
             root: [0xab; 32],
             moment: 9,
         },

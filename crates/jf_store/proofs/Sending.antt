@@ -21,7 +21,9 @@ use Rattle.jf_board.proofs.pruner.Pruner.TheSendSync as pruners
 use Rattle.jf_board.specs.contracts.pruner.Pruner as Pruner
 use Rattle.jf_turn.proofs.seat.Seat.TheSendSync as seats
 use Rattle.jf_turn.proofs.turn.Turn.TheSendSync as turns
+use Rattle.jf_ghost.proofs.remembered.Remembered.TheSendSync as remembered
 use Rattle.jf_engine.specs.contracts.engine.Engine as Engine
+use Rattle.jf_engine.specs.contracts.versions_note.VersionsNote as VersionsNote
 use Rattle.jf_store.specs.contracts.beginning.Beginning as Beginning
 use Rattle.jf_store.specs.contracts.tried.Tried as Tried
 use Rattle.jf_store.specs.contracts.vault.Vault as Vault
@@ -63,8 +65,11 @@ ForkTable-send = search (sendable, crosses, SpecTree-send) depth 40
 Pruner-send : IsSend Pruner.the_row
 Pruner-send = pruners.the_send
 
+VersionsNote-send : IsSend VersionsNote.the_row
+VersionsNote-send = search (sendable, crosses, Snapshot-send, remembered.the_send) depth 40
+
 Beginning-send : IsSend Beginning.the_field.row
-Beginning-send = search (sendable, crosses, Snapshot-send) depth 40
+Beginning-send = search (sendable, VersionsNote-send) depth 40
 
 Tried-send : IsSend Tried.the_row
 Tried-send = search (sendable, crosses) depth 40

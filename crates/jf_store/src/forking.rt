@@ -13,7 +13,7 @@ use crate::store::Store;
 use crate::vault::Vault;
 use jf_disk::Disk;
 use jf_forks::Forked;
-use jf_model::{Entry, Parent};
+use jf_model::{BatchNote, Entry, Parent};
 use jf_path::MAX_FORKS;
 use jf_split::Batch;
 use std::alloc::Global;
@@ -64,7 +64,6 @@ impl<D: Disk> Vault<D> {
             return Err(fault);
         }
         let _ = batch.as_slice();
-        let kept = batch.copy(alloc)?;
         if self.entries.reserve(1).is_err() {
             return Err(StoreFault::Memory);
         }
@@ -80,7 +79,7 @@ impl<D: Disk> Vault<D> {
                     owner: pass,
                     fork: forked.id,
                     parent,
-                    batch: kept,
+                    batch: BatchNote::of(batch),
                     root,
                 });
                 Ok(forked)

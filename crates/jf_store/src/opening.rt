@@ -104,10 +104,8 @@ impl<D: Disk> Store<D> {
         let Ok(all) = Vec::with_capacity(alloc, passes as usize) else {
             return Err(StoreRefused { engine });
         };
-        let Ok(beginning) = Beginning::of(alloc, &engine, passes) else {
-            return Err(StoreRefused { engine });
-        };
-        let Ok((board, places, pruner)) = Board::new(alloc, passes, beginning.floor) else {
+        let beginning = Beginning::of(&engine, passes);
+        let Ok((board, places, pruner)) = Board::new(alloc, passes, engine.state().floor) else {
             return Err(StoreRefused { engine });
         };
         let vault = Vault::begin(alloc, engine, beginning, pruner);

@@ -29,7 +29,7 @@ use jf_disk::Disk;
 use jf_engine::{Engine, EngineFault, Landed, Which};
 use jf_forks::ForkTable;
 use jf_join::Gate;
-use jf_model::{Entry, Landing, Ledger};
+use jf_model::{BatchNote, Entry, Landing, Ledger};
 use jf_split::Batch;
 use std::alloc::Global;
 use std::marker::Model;
@@ -223,7 +223,6 @@ impl<D: Disk> Vault<D> {
         if let Some(fault) = self.commit_fault() {
             return Err(fault);
         }
-        let kept = batch.copy(alloc)?;
         if self.entries.reserve(1).is_err() {
             return Err(StoreFault::Memory);
         }
@@ -234,7 +233,7 @@ impl<D: Disk> Vault<D> {
                 self.entries.push_reserved(Entry::Landed {
                     owner: pass,
                     version: landed.version,
-                    how: Landing::Direct(kept),
+                    how: Landing::Direct(BatchNote::of(batch)),
                     root,
                     moment: landed.moment,
                 });
@@ -243,7 +242,7 @@ impl<D: Disk> Vault<D> {
             Err(EngineFault::DiskFault) => {
                 self.tried = Some(Tried {
                     pass,
-                    attempt: Attempt::Lands(Landing::Direct(kept)),
+                    attempt: Attempt::Lands(Landing::Direct(BatchNote::of(batch))),
                 });
                 Err(StoreFault::DiskFault)
             }

@@ -1,0 +1,12 @@
+pub mod Counts
+pub mod TotalLaws
+pub mod MemberLaws
+pub mod ExtensionLaws
+pub mod InnerLaws
+pub mod PushLaws
+pub mod SubtreeSteps
+pub mod ProvingSteps
+pub mod PushSteps
+pub mod ClashSteps
+pub mod ExtensionClashSteps
+pub mod Samples
