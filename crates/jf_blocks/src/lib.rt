@@ -7,6 +7,7 @@ mod chunk_text;
 mod first;
 mod laws;
 mod lines;
+mod sides;
 mod word;
 mod writing;
 
@@ -18,5 +19,6 @@ pub use laws::{
     replies_set_roots,
 };
 pub use lines::{claim_line, leaf_line, name_line, side_line};
+pub use sides::keep_side;
 pub use word::{three_after, two_after, word_after};
 pub use writing::{write_proof, write_sides};

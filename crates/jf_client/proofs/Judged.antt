@@ -12,17 +12,17 @@ use Rattle.jf_blocks.specs.declared.first.FirstLine.TheVariants as first
 use Rattle.jf_verify.specs.Verdicts.{Judging, say, verdicts_from, say_block, judged, judged_of, refused_text, contradicted, contradiction_text, nothing_known, verdicts}
 use Rattle.jf_verify.specs.declared.accepted.Accepted.{Accepted}
 
-root_step : (n at : ℕ) (j : Judging) (line : List ℕ) (ls : List (List ℕ)) (root : List ℕ) → line_read first_line_of line ≡ Some (first.Root root)
+pub root_step : (n at : ℕ) (j : Judging) (line : List ℕ) (ls : List (List ℕ)) (root : List ℕ) → line_read first_line_of line ≡ Some (first.Root root)
     → verdicts_from (suc n) j (record { at = at; left = line ∷ ls }) ≡ verdicts_from n (record { root = Some root; claims = j.claims }) (record { at = at + 1; left = ls })
 unfolding verdicts_from
 root_step n at j line ls root e =
     ap (λ o. let s = say j (record { at = at; left = line ∷ ls }) (record { at = at + 1; left = ls }) o in s.text ++ verdicts_from n s.known s.place) e
 
 -- the judging after a root was set and these claims were accepted
-abbrev knows : List ℕ → List Accepted → Judging
+abbrev pub knows : List ℕ → List Accepted → Judging
 knows root claims = record { root = Some root; claims = claims }
 
-block_step : (n at : ℕ) (root : List ℕ) (claims : List Accepted) (line : List ℕ) (ls : List (List ℕ)) (k : ℕ) (name : List ℕ) (claim : Option (List ℕ)) (proof : Proof) (place : Place)
+pub block_step : (n at : ℕ) (root : List ℕ) (claims : List Accepted) (line : List ℕ) (ls : List (List ℕ)) (k : ℕ) (name : List ℕ) (claim : Option (List ℕ)) (proof : Proof) (place : Place)
     → line_read first_line_of line ≡ Some (first.Proof k) → proof_block k (record { at = at + 1; left = ls }) ≡ Ok ((name, claim, proof), place)
     → verdicts_from (suc n) (knows root claims) (record { at = at; left = line ∷ ls })
     ≡ (judged root claims (judged_of (name, claim, proof))).0 ++ verdicts_from n (knows root (judged root claims (judged_of (name, claim, proof))).1) place
@@ -31,7 +31,7 @@ block_step n at root claims line ls k name claim proof place e read =
     ap (λ o. let s = say (knows root claims) (record { at = at; left = line ∷ ls }) (record { at = at + 1; left = ls }) o in s.text ++ verdicts_from n s.known s.place) e
     ∙ ap (λ r. let s = say_block root (knows root claims) (record { at = at; left = line ∷ ls }) r in s.text ++ verdicts_from n s.known s.place) read
 
-end_step : (n : ℕ) (j : Judging) (at : ℕ) → verdicts_from n j (record { at = at; left = [] }) ≡ []
+pub end_step : (n : ℕ) (j : Judging) (at : ℕ) → verdicts_from n j (record { at = at; left = [] }) ≡ []
 unfolding verdicts_from
 end_step zero j at = refl
 end_step (suc n) j at = refl

@@ -1,5 +1,5 @@
 -- The replies to `root` and to `prove`, and how they are judged.
-use Rattle.std.proofs.Common.{◌≡◌, ℕ, false, nat_lt, List, None, refl, arith, cond, Some, ap, ◌∙◌, Option, [], zero, suc, ◌-◌, ◌∷◌, slice_index_or, ◌+◌, ◌^◌, ◌<◌, ◌++◌, length, Ok, codes, sym, append-nil, ap₂}
+use Rattle.std.proofs.Common.{◌≡◌, ℕ, false, nat_lt, List, None, refl, arith, cond, Some, ap, ◌∙◌, Option, [], zero, suc, ◌-◌, ◌∷◌, slice_index_or, ◌+◌, ◌^◌, ◌<◌, ◌++◌, length, Ok, codes, sym, append-nil, ap₂, is_none, unwrap_or}
 use Rattle.std.proofs.lemmas.Bool.Decides.{nat_tests}
 use Rattle.std.specs.FinMap as fin
 use Rattle.std.specs.List.{AllByRecursion}
@@ -27,7 +27,7 @@ use Rattle.jf_blocks.specs.Blocks.{proof_lines}
 use Rattle.jf_blocks.specs.Reading.{proof_block}
 use Rattle.jf_blocks.specs.Laws.{BlocksAreReadBack, RepliesBeginBlocks, RepliesSetRoots}
 use Rattle.jf_verify.specs.Verdicts.{verdicts}
-use Rattle.jf_answers.specs.Own.{Own}
+use Rattle.jf_answers.specs.Own.{Own, pinned}
 use Rattle.jf_answers.specs.Refusals.{refused_by, base_map}
 use Rattle.jf_answers.specs.Answers.{answer, answer_to, too_long, Answer, answer_command, granted, replied, proved}
 use Rattle.jf_answers.specs.Runs.{answer_text}
@@ -36,7 +36,7 @@ use Rattle.jf_client.proofs.Told.{hash_of_key, honest-told}
 use Rattle.jf_client.proofs.Judged.{verdicts-of_one}
 
 -- ---- the answers to the two lines
-not_refused : (s : State) (own : Own) (on : Base) (name : List ℕ) → IsKeptBase s on → (refused_by s own (command.Root on) ≡ None) × (refused_by s own (command.Prove on name) ≡ None)
+not_refused : (s : State) (own : Own) (on : Base) (name : List ℕ) → IsKeptBase s own on → (refused_by s own (command.Root on) ≡ None) × (refused_by s own (command.Prove on name) ≡ None)
 unfolding refused_by
 not_refused s own base.Head name kept = (refl, refl)
 not_refused s own (base.Version w) name kept =
@@ -46,26 +46,28 @@ not_refused s own (base.Version w) name kept =
     let live : nat_lt w s.retired ≡ false = grind (arith, nat_tests) in
     (rw (there, live) refl, rw (there, live) refl)
 not_refused s own (base.Fork id) name kept = absurd kept
-not_refused s own (base.Place place) name kept = absurd kept
+not_refused s own (base.Place place) name kept =
+    let held : is_none (pinned own place) ≡ false = ap (λ (o : Option ℕ). is_none o) kept.1 in
+    (rw held refl, rw held refl)
 
-answered : (s : State) (own : Own) (line : List ℕ) (c : Command) → is_long line ≡ false → command_of line ≡ Some c → answer s own line ≡ answer_to (Some c) s own
+pub answered : (s : State) (own : Own) (line : List ℕ) (c : Command) → is_long line ≡ false → command_of line ≡ Some c → answer s own line ≡ answer_to (Some c) s own
 unfolding answer
 answered s own line c short read = ap (λ b. cond b (too_long s own) (answer_to (command_of line) s own)) short ∙ ap (λ o. answer_to o s own) read
 
-unrefused : (s : State) (own : Own) (c : Command) → refused_by s own c ≡ None → answer_command s own c ≡ granted c s own
+pub unrefused : (s : State) (own : Own) (c : Command) → refused_by s own c ≡ None → answer_command s own c ≡ granted c s own
 unrefused s own c free = ap (λ (o : Option Refusal). elim o as (λ x. Answer) [ Some why ↦ replied (reply.No why) s own | None ↦ granted c s own ]) free
 
-root_to : (s : State) (own : Own) (on : Base) → IsKeptBase s on → answer_to (Some (command.Root on)) s own ≡ replied (reply.Root (root (base_map s own on))) s own
+pub root_to : (s : State) (own : Own) (on : Base) → IsKeptBase s own on → answer_to (Some (command.Root on)) s own ≡ replied (reply.Root (root (base_map s own on))) s own
 root_to s own base.Head kept = unrefused s own (command.Root base.Head) (not_refused s own base.Head [] kept).0
 root_to s own (base.Version w) kept = unrefused s own (command.Root (base.Version w)) (not_refused s own (base.Version w) [] kept).0
 root_to s own (base.Fork id) kept = absurd kept
-root_to s own (base.Place place) kept = absurd kept
+root_to s own (base.Place place) kept = unrefused s own (command.Root (base.Place place)) (not_refused s own (base.Place place) [] kept).0
 
-prove_to : (s : State) (own : Own) (on : Base) (name : List ℕ) → IsKeptBase s on → answer_to (Some (command.Prove on name)) s own ≡ proved (base_map s own on) name s own
+pub prove_to : (s : State) (own : Own) (on : Base) (name : List ℕ) → IsKeptBase s own on → answer_to (Some (command.Prove on name)) s own ≡ proved (base_map s own on) name s own
 prove_to s own base.Head name kept = unrefused s own (command.Prove base.Head name) (not_refused s own base.Head name kept).1
 prove_to s own (base.Version w) name kept = unrefused s own (command.Prove (base.Version w) name) (not_refused s own (base.Version w) name kept).1
 prove_to s own (base.Fork id) name kept = absurd kept
-prove_to s own (base.Place place) name kept = absurd kept
+prove_to s own (base.Place place) name kept = unrefused s own (command.Prove (base.Place place) name) (not_refused s own (base.Place place) name kept).1
 
 -- ---- the maps of versions
 map-at : (i : ℕ) (ms : List Map) → AllByRecursion IsMap ms → IsMap (slice_index_or ms i fin.empty)
@@ -73,11 +75,11 @@ map-at i [] all = empty-IsMap
 map-at zero (m ∷ ms) all = all.0
 map-at (suc i) (m ∷ ms) all = map-at i ms all.1
 
-base-IsMap : (s : State) (own : Own) (on : Base) → IsVersions s.all → IsKeptBase s on → IsMap (base_map s own on)
+base-IsMap : (s : State) (own : Own) (on : Base) → IsVersions s.all → IsKeptBase s own on → IsMap (base_map s own on)
 base-IsMap s own base.Head sound kept = newest-IsMap s.all sound
 base-IsMap s own (base.Version w) sound kept = map-at (s.all.head - w) s.all.maps sound.sound
 base-IsMap s own (base.Fork id) sound kept = absurd kept
-base-IsMap s own (base.Place place) sound kept = absurd kept
+base-IsMap s own (base.Place place) sound kept = map-at (s.all.head - unwrap_or (pinned own place) 0) s.all.maps sound.sound
 
 -- ---- the two replies
 module _ (back : BlocksAreReadBack) (begins : RepliesBeginBlocks) (sets : RepliesSetRoots) (accepted : HonestClaimsAreAccepted) where

@@ -19,7 +19,7 @@ pub hash_of_key : (k : List ℕ) → IsKey k → IsHash k
 hash_of_key k h = (h.long, h.bytes)
 
 -- ---- values
-byte-at : (v : List ℕ) (i : ℕ) → AllByRecursion (λ b. b < 256) v → slice_index v i < 256
+pub byte-at : (v : List ℕ) (i : ℕ) → AllByRecursion (λ b. b < 256) v → slice_index v i < 256
 byte-at [] i h = omega arith
 byte-at (b ∷ v) zero h = h.0
 byte-at (b ∷ v) (suc i) h = byte-at v i h.1
@@ -73,6 +73,10 @@ honest_siblings (suc n) d key (e ∷ f ∷ es) =
     one_more (honest_below n (d + 1) key (near key d (e ∷ f ∷ es))).siblings (leaves_root (d + 1) (far key d (e ∷ f ∷ es))) (honest_siblings n (d + 1) key (near key d (e ∷ f ∷ es)))
     (leaves_root-IsHash (d + 1) (far key d (e ∷ f ∷ es)))
 
+pub honest-hashes : (m : Map) (key : List ℕ) → AllByRecursion IsHash (honest m key).siblings
+unfolding honest honest_from
+honest-hashes m key = honest_siblings (256 - 0) 0 key (leaves m)
+
 -- ---- all of it
 pub honest-told : (m : Map) (name : List ℕ) → IsMap m → FitsLine name (fin.get m (K name)) → IsTold name (fin.get m (K name)) (honest m (K name))
 unfolding honest honest_from
@@ -82,5 +86,5 @@ honest-told m name is_map fits = record {
   most = fits.most;
   value = both_of IsBytes (λ v. length v ≤ 4096) (fin.get m (K name)) (value_bytes m (K name) is_map) fits.small;
   leaf = honest_leaf AreHashes (256 - 0) 0 (K name) (leaves m) (leaves_hashes (entries m) is_map);
-  siblings = honest_siblings (256 - 0) 0 (K name) (leaves m);
+  siblings = honest-hashes m (K name);
 }

@@ -12,17 +12,18 @@ use Rattle.jf_script.specs.Commands.{command_of}
 use Rattle.jf_script.specs.declared.command.Base.TheVariants as base
 use Rattle.jf_script.specs.declared.command.Command.TheVariants as command
 use Rattle.jf_verify.specs.Verdicts.{verdicts}
-use Rattle.jf_answers.specs.Own.{Own}
+use Rattle.jf_answers.specs.Own.{Own, pinned}
 use Rattle.jf_answers.specs.Refusals.{base_map}
 use Rattle.jf_answers.specs.Answers.{answer}
 use Rattle.jf_answers.specs.Runs.{answer_text}
 
--- the head, or a version that is neither above the head nor retired
-abbrev pub IsKeptBase : State → Base → Type 0
-IsKeptBase s base.Head = Unit {0}
-IsKeptBase s (base.Version w) = (s.retired ≤ w) × (w ≤ s.all.head)
-IsKeptBase s (base.Fork id) = ⊥
-IsKeptBase s (base.Place place) = ⊥
+-- the head, a version that is neither above the head nor retired, or a place at which the session has pinned a version; no proof is asked
+-- of a fork
+abbrev pub IsKeptBase : State → Own → Base → Type 0
+IsKeptBase s own base.Head = Unit {0}
+IsKeptBase s own (base.Version w) = (s.retired ≤ w) × (w ≤ s.all.head)
+IsKeptBase s own (base.Fork id) = ⊥
+IsKeptBase s own (base.Place place) = (w : ℕ) × (pinned own place ≡ Some w)
 
 -- a name, and a value, if there is one, that are no longer than they may be: what lines can carry
 pub record FitsLine (name : List ℕ) (value : Option (List ℕ)) : Type 0 where
@@ -38,8 +39,8 @@ pub record Asks (root_line prove_line : List ℕ) (on : Base) (name : List ℕ) 
   pub prove_short : is_long prove_line ≡ false
   pub prove_is : command_of prove_line ≡ Some (command.Prove on name)
 
--- for each kept version and each name, whether the map has it or not: the two replies, with any numbers, are judged accepted
+-- for each kept version, each pinned one, and each name, whether the map has it or not: the two replies, with any numbers, are judged accepted
 abbrev pub HonestRepliesAreAccepted : Type 0
 HonestRepliesAreAccepted = (s : State) (own : Own) (on : Base) (name root_line prove_line : List ℕ) (m n : ℕ)
-    → IsVersions s.all → IsKeptBase s on → FitsLine name (get (base_map s own on) (K name)) → Asks root_line prove_line on name → m < 2 ^ 64 → n < 2 ^ 64
+    → IsVersions s.all → IsKeptBase s own on → FitsLine name (get (base_map s own on) (K name)) → Asks root_line prove_line on name → m < 2 ^ 64 → n < 2 ^ 64
     → verdicts (answer_text m (answer s own root_line) ++ answer_text n (answer s own prove_line)) ≡ codes "accepted\n"

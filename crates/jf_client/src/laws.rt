@@ -1,13 +1,39 @@
-// A law for proofs of code that stands on it. The function does nothing when it runs.
+// Laws for proofs of code that stands on them. The functions do nothing when they run.
 ghost use Rattle.jf_client.specs.Laws.{HonestRepliesAreAccepted};
+ghost use Rattle.jf_client.specs.ChunkLaws.{HonestChunksAreRestored};
+ghost use Rattle.jf_client.specs.RunLaws.{WholeRunsAreJudged};
 
-use jf_blocks::{blocks_are_read_back, replies_begin_blocks, replies_set_roots};
-use jf_evidence::honest_claims_are_accepted;
+use jf_blocks::{
+    blocks_are_read_back, chunks_are_read_back, replies_begin_blocks, replies_begin_chunks,
+    replies_set_roots,
+};
+use jf_evidence::{honest_chunks_are_accepted, honest_chunks_go_on, honest_claims_are_accepted};
 
 /// The replies to `root` and to `prove` on one version, one after the other, are judged `accepted`, and nothing else is
 /// said.
 pub fn honest_replies_are_accepted()
     ensures { HonestRepliesAreAccepted }
+{
+    blocks_are_read_back();
+    replies_begin_blocks();
+    replies_set_roots();
+    honest_claims_are_accepted();
+}
+
+/// The replies to `chunk` on one version, one after another, restore its entries under its root.
+pub fn honest_chunks_are_restored()
+    ensures { HonestChunksAreRestored }
+{
+    chunks_are_read_back();
+    replies_begin_chunks();
+    honest_chunks_are_accepted();
+    honest_chunks_go_on();
+}
+
+/// The replies to lines that ask for the root of one map, for proofs of names in it after that, and for anything else, are
+/// judged as they are, one after another: each proof is accepted, and each line of the other replies is answered `syntax`.
+pub fn whole_runs_are_judged()
+    ensures { WholeRunsAreJudged }
 {
     blocks_are_read_back();
     replies_begin_blocks();

@@ -1,6 +1,7 @@
 // Over which files a store may be opened, and that a refusal leaves a folder as it was, to the byte.
 use jf_folder::{FaultCause, FileDisk, FileRefused, Seen, store_refusal};
 use std::io::ErrorKind;
+use std::os::unix::fs::symlink;
 use std::test::Fail;
 use std::{fs, io};
 
@@ -56,6 +57,8 @@ fn stores_are_opened_over_what_a_store_may_leave(_rt: HostRuntime) -> Result<(),
 
 const FOLDER: &str = "jf_disk_beginnings";
 
+const LINKED: &str = "jf_disk_linked";
+
 const A: &str = "jf_disk_beginnings/a.jf";
 
 const B: &str = "jf_disk_beginnings/b.jf";
@@ -102,13 +105,19 @@ fn put(rt: &HostRuntime, path: &str, bytes: Bytes) -> io::Result<()> {
     }
 }
 
+// Whether there is no file.
+fn is_missing(rt: &HostRuntime, path: &str) -> bool {
+    match fs::metadata(rt, path) {
+        Ok(_) => false,
+        Err(e) => e.kind() == ErrorKind::NotFound,
+    }
+}
+
 // Whether a file has these bytes, or is missing.
 fn has(rt: &HostRuntime, path: &str, want: Bytes) -> io::Result<bool> {
-    match (fs::read(rt, path), want) {
-        (Ok(bytes), Some(want)) => Ok(bytes.as_slice() == want),
-        (Ok(_), None) => Ok(false),
-        (Err(e), None) if e.kind() == ErrorKind::NotFound => Ok(true),
-        (Err(e), _) => Err(e),
+    match want {
+        Some(want) => Ok(fs::read(rt, path)?.as_slice() == want),
+        None => Ok(is_missing(rt, path)),
     }
 }
 
@@ -120,9 +129,9 @@ fn is_left(rt: &HostRuntime, a: Bytes, b: Bytes, is_opened: bool) -> io::Result<
     Ok(has(rt, A, a)? && has(rt, B, b)?)
 }
 
-// Why the folder isn't opened, if it isn't.
-fn refusal(rt: &HostRuntime) -> Option<FaultCause> {
-    match FileDisk::at(rt, rt.alloc(), FOLDER) {
+// Why a folder isn't opened, if it isn't.
+fn refusal(rt: &HostRuntime, folder: &str) -> Option<FaultCause> {
+    match FileDisk::at(rt, rt.alloc(), folder) {
         Ok(_) => None,
         Err(FileRefused::DiskFailed(cause)) => Some(cause),
         Err(FileRefused::Memory) => Some(FaultCause::InputOutput),
@@ -136,7 +145,7 @@ fn begins_so(rt: &HostRuntime, beginning: Beginning) -> Result<bool, Fail> {
     fs::create_dir(rt, FOLDER)?;
     put(rt, A, a)?;
     put(rt, B, b)?;
-    let found = refusal(rt);
+    let found = refusal(rt, FOLDER);
     let is_left = is_left(rt, a, b, want.is_none())?;
     fs::remove_dir_all(rt, FOLDER)?;
     Ok(found == want && is_left)
@@ -150,4 +159,26 @@ fn a_refusal_leaves_the_folder_as_it_was(rt: HostRuntime) -> Result<(), Fail> {
         }
     }
     Ok(())
+}
+
+// Why a folder isn't opened whose side B is a link to a missing file, if no side A was made.
+fn refusal_with_link(rt: &HostRuntime) -> Result<Option<FaultCause>, Fail> {
+    let _ = fs::remove_dir_all(rt, LINKED);
+    fs::create_dir(rt, LINKED)?;
+    symlink(rt, "nowhere", "jf_disk_linked/b.jf")?;
+    let found = refusal(rt, LINKED);
+    let is_made = fs::metadata(rt, "jf_disk_linked/a.jf").is_ok();
+    fs::remove_dir_all(rt, LINKED)?;
+    if is_made {
+        return Err(Fail::new("side A was made"));
+    }
+    Ok(found)
+}
+
+#[test]
+fn a_link_to_a_missing_file_is_no_new_file(rt: HostRuntime) -> Result<(), Fail> {
+    match refusal_with_link(&rt)? {
+        Some(FaultCause::FileMissing) => Ok(()),
+        _ => Err(Fail::new("another outcome")),
+    }
 }

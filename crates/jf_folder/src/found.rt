@@ -1,7 +1,8 @@
 // Opening and making the files of a folder, before their calls are counted.
 use crate::cause::FaultCause;
 use crate::file::FileRefused;
-use std::fs::{File, OpenOptions};
+use std::fs::{self, File, OpenOptions};
+use std::io;
 use std::io::ErrorKind;
 use std::os::fd::AsRawFd;
 use std::os::unix::fs::{MetadataExt, OpenOptionsExt};
@@ -19,13 +20,23 @@ pub(crate) fn is_stream(file: &File) -> bool {
     file.as_raw_fd() <= LAST_STREAM
 }
 
-/// Opens the file at a path to read and write, if there is one. It has to be a regular file.
+/// Opens the file at a path to read and write, if there is one. It has to be a regular file, and the path no link to a
+/// missing one.
 pub(crate) fn open_there<H: Files<File = File>>(
     rt: &H,
     path: &str,
 ) -> Result<Option<File>, FileRefused> {
     match OpenOptions::new().read(true).write(true).open(rt, path) {
         Ok(file) => Ok(Some(checked(file)?)),
+        Err(e) if e.kind() == ErrorKind::NotFound => none_there(rt, path),
+        Err(e) => Err(e.into()),
+    }
+}
+
+// Refuses a path that is a link to a missing file.
+fn none_there<H: Files<File = File>>(rt: &H, path: &str) -> Result<Option<File>, FileRefused> {
+    match fs::symlink_metadata(rt, path) {
+        Ok(_) => Err(FileRefused::DiskFailed(FaultCause::FileMissing)),
         Err(e) if e.kind() == ErrorKind::NotFound => Ok(None),
         Err(e) => Err(e.into()),
     }
@@ -41,17 +52,11 @@ pub(crate) fn make<H: Files<File = File>>(rt: &H, path: &str) -> Result<File, Fi
         .open(rt, path)
     {
         Ok(file) => locked(checked(file)?),
-        Err(e) if e.kind() == ErrorKind::AlreadyExists => Err(meanwhile(rt, path)),
+        // Another run has made it meanwhile.
+        Err(e) if e.kind() == ErrorKind::AlreadyExists => {
+            Err(FileRefused::DiskFailed(FaultCause::InUse))
+        }
         Err(e) => Err(e.into()),
-    }
-}
-
-// Why a file that was missing can't be made: another run has made it meanwhile, or the path is a link to a missing file.
-fn meanwhile<H: Files<File = File>>(rt: &H, path: &str) -> FileRefused {
-    match open_there(rt, path) {
-        Ok(Some(_)) => FileRefused::DiskFailed(FaultCause::InUse),
-        Ok(None) => FileRefused::DiskFailed(FaultCause::FileMissing),
-        Err(refused) => refused,
     }
 }
 
@@ -59,10 +64,7 @@ fn meanwhile<H: Files<File = File>>(rt: &H, path: &str) -> FileRefused {
 pub(crate) fn locked(file: File) -> Result<File, FileRefused> {
     match file.try_lock() {
         Ok(()) => Ok(file),
-        Err(e) => {
-            let e: std::io::Error = e.into();
-            Err(e.into())
-        }
+        Err(e) => Err(io::Error::from(e).into()),
     }
 }
 

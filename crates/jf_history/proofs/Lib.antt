@@ -10,5 +10,6 @@ pub mod Closed
 pub mod Spared
 pub mod OneEnd
 pub mod OneRun
+pub mod OneServed
 pub mod Samples
 pub mod Replies

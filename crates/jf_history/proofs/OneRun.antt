@@ -1,7 +1,7 @@
 -- A whole run of a session that is alone on its store.
-use Rattle.std.proofs.Common.{◌≡◌, ℕ, zero, suc, ◌-◌, ◌<◌, ◌≤◌, Option, Some, None, List, [], ◌∷◌, ◌++◌, map, take, length, refl, sym, ap, ◌∙◌, subst, arith, min, inl, inr}
+use Rattle.std.proofs.Common.{◌≡◌, ℕ, zero, suc, ◌-◌, ◌<◌, ◌≤◌, Option, Some, None, List, [], ◌∷◌, ◌++◌, map, take, drop, length, refl, sym, ap, ◌∙◌, subst, arith, min, inl, inr}
 use Rattle.std.proofs.lemmas.List.{length-take, take-map}
-use Rattle.std.specs.List.{concat}
+use Rattle.std.specs.List.{AllByRecursion, concat}
 use Rattle.jf_io.specs.LinesRead.{lines_read, AreFirst}
 use Rattle.jf_model.specs.States.{State}
 use Rattle.jf_model.specs.Entries.{replay, timeless}
@@ -27,16 +27,16 @@ use Rattle.jf_history.proofs.OneSession.{Agrees, agrees-from}
 
 -- ---- the first lines
 
-take-take : {X : Type 0} (m n : ℕ) (xs : List X) → m ≤ n → take m (take n xs) ≡ take m xs
+pub take-take : {X : Type 0} (m n : ℕ) (xs : List X) → m ≤ n → take m (take n xs) ≡ take m xs
 take-take zero n xs le = refl
 take-take (suc m) zero xs le = absurd (omega arith)
 take-take (suc m) (suc n) [] le = refl
 take-take (suc m) (suc n) (x ∷ xs) le = ap (λ t. x ∷ t) (take-take m n xs (omega arith))
 
-same_length : {X Y : Type 0} (n : ℕ) (xs : List X) (ys : List Y) → length xs ≡ length ys → length (take n xs) ≡ length (take n ys)
+pub same_length : {X Y : Type 0} (n : ℕ) (xs : List X) (ys : List Y) → length xs ≡ length ys → length (take n xs) ≡ length (take n ys)
 same_length n xs ys e = length-take n xs ∙ ap (min n) e ∙ sym (length-take n ys)
 
-texts_of-take : (s : State) (own : Own) (n : ℕ) (ls : List (List ℕ)) → texts_of (answers_from s own (take n ls)) ≡ take n (texts_of (answers_from s own ls))
+pub texts_of-take : (s : State) (own : Own) (n : ℕ) (ls : List (List ℕ)) → texts_of (answers_from s own (take n ls)) ≡ take n (texts_of (answers_from s own ls))
 unfolding answers_from
 texts_of-take s own zero ls = refl
 texts_of-take s own (suc n) [] = refl
@@ -60,16 +60,21 @@ AreFirst-take taken left ls n f = record {
   are = first_lines (lines_read taken left) ls n f.enough f.are;
 }
 
+-- lines after which no entry came gave all entries
+pub agrees_first : (store : Store) (mid : Session) (ls : List (List ℕ)) (rs : List Answered) → store.start.passes ≡ 1 → store.start.state.count ≡ 0 → AreEvents store.start mid.pass.seen → HasAnswered store.start (new_pass store 0) mid ls rs
+    → (n : ℕ) → AllByRecursion (λ r. r.entry ≡ None) (drop n rs) → Agrees store.start.state (begun_session 0) (take n ls) (take n rs) (seen_by mid.pass)
+agrees_first store mid ls rs one none are a n quiet =
+    agrees-from store.start mid.pass.seen (take n ls) (take n rs) one none are
+    (AreAnswered-take _ (begun_session 0) 0 n ls rs (a.answered (floors_of mid.pass.seen) (HaveMet-floors store.start mid.pass.seen are)))
+    (AreHeld-take store.start (seen_by mid.pass) (begun_session 0) n rs a.held) (a.places ∙ sym (places_told-take n rs quiet)) (same_length n rs ls a.all)
+
 -- ---- what was written
 
 module _ (store : Store) (mid : Session) (ls : List (List ℕ)) (rs : List Answered) (one : store.start.passes ≡ 1) (none : store.start.state.count ≡ 0) (are : AreEvents store.start mid.pass.seen)
     (a : HasAnswered store.start (new_pass store 0) mid ls rs) (text : List ℕ) (c : IsCut rs text) where
   -- the lines up to the cut gave all entries
   agrees_cut : Agrees store.start.state (begun_session 0) (take c.count ls) (take c.count rs) (seen_by mid.pass)
-  agrees_cut =
-      agrees-from store.start mid.pass.seen (take c.count ls) (take c.count rs) one none are
-      (AreAnswered-take _ (begun_session 0) 0 c.count ls rs (a.answered (floors_of mid.pass.seen) (HaveMet-floors store.start mid.pass.seen are)))
-      (AreHeld-take store.start (seen_by mid.pass) (begun_session 0) c.count rs a.held) (a.places ∙ sym (places_told-take c.count rs c.quiet)) (same_length c.count rs ls a.all)
+  agrees_cut = agrees_first store mid ls rs one none are a c.count c.quiet
 
   cut_answer : IsCutAnswer store.start.state (take c.count ls) text
   cut_answer =

@@ -1,5 +1,5 @@
 -- What a session that is alone on its store makes of its script, by the answers of a session that runs by itself.
-use Rattle.std.specs.Prelude.{◌≡◌, ◌⊎◌, ℕ, ◌-◌, List, ◌++◌, map, take, length, Option, Some, None, option_map}
+use Rattle.std.specs.Prelude.{◌≡◌, ◌⊎◌, ℕ, ◌-◌, List, [], ◌++◌, map, take, length, slice_get, Option, Some, None, option_map, IfSome}
 use Rattle.jf_model.specs.States.{State}
 use Rattle.jf_model.specs.Entries.{replay, timeless}
 use Rattle.jf_model.specs.declared.entries.Entry.{Entry}
@@ -63,3 +63,17 @@ pub record RanAlone (e : End) (s : State) (entries : List Entry) (attempt : Opti
   pub writes : WritesAlone e s done written
   pub appended : text' ≡ option_map (λ t. t ++ written) text
   pub reads : (all : List ℕ) → rest ≡ Some all → (left : List ℕ) × (rest' ≡ Some left) × HasReadInput e all left done next
+
+-- a session that was given a script, and left these entries, this attempt and this text, by the answers to the lines done. They are
+-- the first of the script, and all if the session ended well
+pub record ServedAlone (e : End) (s : State) (script : List (List ℕ)) (entries : List Entry) (attempt : Option Entry) (text : List ℕ) : Type 0 where
+  pub done : List (List ℕ)
+  pub more : List (List ℕ)
+  pub next : Option (List ℕ)
+  pub first : script ≡ done ++ more
+  pub whole : e ≡ end.Done → more ≡ []
+  pub next_is : IfSome next (λ line. slice_get script (length done) ≡ Some line)
+  pub entries_are : map timeless entries ≡ run_entries (answers s done)
+  pub state : replay s entries ≡ (answers s done).state
+  pub tried : TriesAlone e (answers s done) next attempt
+  pub writes : WritesAlone e s done text

@@ -12,10 +12,10 @@ use Rattle.jf_store.specs.Passes.{Store, Pass, Sees, SeesOwn, new_pass}
 use Rattle.jf_store.specs.Closing.{IsClosed}
 use Rattle.jf_answers.specs.Own.{Own, begun_session}
 use Rattle.jf_answers.specs.Runs.{answers}
-use Rattle.jf_answers.specs.Explains.{Answered, AreAnswered, ExplainsAnswers, IsAttempt, own_after_replies, timeline_of}
+use Rattle.jf_answers.specs.Explains.{Answered, AreAnswered, ExplainsAnswers, IsAttempt, own_after_replies, text_in, timeline_of}
 use Rattle.jf_history.specs.Sessions.{Session, HoldsPins, new_session, seen_by, HasReplied, IsTry, IsBroken, HasLooked, HasChanged, look_reply, change_reply}
 use Rattle.jf_history.specs.Runs.{HasAnswered, EndsBy, HasRunOver}
-use Rattle.jf_history.specs.Alone.{AnswersAlone, IsTried, TriesAlone, RanAlone}
+use Rattle.jf_history.specs.Alone.{AnswersAlone, IsTried, TriesAlone, RanAlone, ServedAlone}
 use Rattle.jf_history.specs.Sparing.{SparesPinsSince}
 use Rattle.jf_history.specs.Serving.{Served, IsServed, AreServed, FailedIn, scripts_of, replies_of, passes_of}
 use Rattle.jf_history.specs.declared.end.End.{End}
@@ -98,6 +98,11 @@ ClosedTries = (store : Store) (before after : List Served) (s : Served) (out_of_
 abbrev pub ClosedBlames : Type 0
 ClosedBlames = (store : Store) (ss : List Served) (out_of_memory : List ℕ) (entries : List Entry) (engine : Engine) (e : Entry) → store.start.passes ≡ length ss
     → (closed : IsClosed store.start (passes_of ss) entries engine) → AreServed store out_of_memory 0 ss → attempt_of closed.events ≡ Some e → FailedIn store.start.state entries ss e
+
+-- a session that was alone is that of a session by itself
+abbrev pub OneServedIsAlone : Type 0
+OneServedIsAlone = (store : Store) (s : Served) (out_of_memory : List ℕ) (entries : List Entry) (engine : Engine) → store.start.passes ≡ 1 → store.start.state.count ≡ 0 → s.pass.number ≡ 0 → (s.how ≡ end.WriteFault → ⊥)
+    → (closed : IsClosed store.start (s.pass ∷ []) entries engine) → IsServed store out_of_memory 0 s → ServedAlone s.how store.start.state s.script entries (attempt_of closed.events) (text_in s.replies)
 
 -- each image left since it began stands for versions of which the floor is above no version that a session has pinned after its replies
 abbrev pub ClosedSparesPins : Type 0

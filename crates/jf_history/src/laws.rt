@@ -1,5 +1,5 @@
 // Laws on sessions over passes, for proofs of code that stands on them. These functions do nothing when they run.
-ghost use Rattle.jf_history.specs.Laws.{AnswersStay, LooksReply, ChangesReply, NoneAnswered, OneMoreAnswered, OnePassSees, OnePassAdds, OnePassCloses, OneSessionIsAlone, OneSessionTries, OneSessionIsNeverBroken, OneEndIsAlone, OneRunIsAlone, ClosedExplains, ClosedTries, ClosedBlames, ClosedSparesPins};
+ghost use Rattle.jf_history.specs.Laws.{AnswersStay, LooksReply, ChangesReply, NoneAnswered, OneMoreAnswered, OnePassSees, OnePassAdds, OnePassCloses, OneSessionIsAlone, OneSessionTries, OneSessionIsNeverBroken, OneEndIsAlone, OneRunIsAlone, ClosedExplains, ClosedTries, ClosedBlames, ClosedSparesPins, OneServedIsAlone};
 
 /// What was answered stays so if entries follow.
 pub fn answers_stay()
@@ -65,6 +65,12 @@ pub fn one_end_is_alone()
 /// On a store of one pass, a whole run is that of a session by itself.
 pub fn one_run_is_alone()
     ensures { OneRunIsAlone }
+{}
+
+/// On a store of one pass that was closed, a session that was given a script has answered its first lines as one by itself, and
+/// their entries are all that the store has.
+pub fn one_served_is_alone()
+    ensures { OneServedIsAlone }
 {}
 
 /// The history of a store that was closed explains all its sessions.

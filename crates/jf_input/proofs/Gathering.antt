@@ -2,12 +2,13 @@
 use Rattle.std.specs.Prelude.{Result, Ok, Err, OnOk, OnErr}
 use Rattle.std.specs.Result.{is_err}
 use Rattle.std.proofs.Common.{◌≡◌, ◌⊎◌, Bool, true, false, not, ℕ, ◌≤◌, List, ◌++◌, Option, [], ◌∷◌, refl, sym, ap, ◌∙◌, subst, append_assoc, append-nil, inl, inr, length, ◌<◌, option_map, take, drop, arith, length-append, length-drop, take-append-drop}
-use Rattle.std.proofs.lemmas.Bool.{cases_lt}
+use Rattle.std.proofs.lemmas.Bool.{cases_lt, le-leb}
+use Rattle.std.proofs.Math.Dec.{leb}
 use Rattle.std.proofs.lemmas.List.{take-append-le, drop-append-le}
 use Rattle.std.proofs.Math.Seq.{take-append_seam, drop-append_seam}
 use Rattle.jf_io.specs.Sink.{IsCutShort}
 use Rattle.jf_io.proofs.Written.{nothing_written, written_more}
-use Rattle.jf_input.specs.Feeds.{Took, GoesOnQuietly, Appends, HandsOn, Gathers, StopsGathering, EndsAtLine}
+use Rattle.jf_input.specs.Feeds.{max_gathered, Took, GoesOnQuietly, Appends, HandsOn, Gathers, IsGathered, StopsGathering, EndsAtLine}
 use Rattle.jf_input.specs.declared.feeding.Feeding.TheVariants as feeding
 
 -- ---- lines taken one after another
@@ -261,12 +262,12 @@ module _ {M F : Type 0} {takes : M → List ℕ → M → Result (List ℕ) F �
       }
 
 -- ---- one line, after what was gathered before was written, or not
-module _ {M : Type 0} (quiet : M → M → Type 0) {old new : M} {text text' : Option (List ℕ)} {out mid : List ℕ} (on : HandsOn text text' out mid) (known : quiet old new ⊎ (mid ≡ [])) where
-  handed : ((mid ≡ []) × Appends text text' out) ⊎ ((text' ≡ text) × (mid ≡ out) × quiet old new)
+module _ {M : Type 0} (quiet : M → M → Type 0) {old new : M} {text text' : Option (List ℕ)} {out mid : List ℕ} (on : HandsOn text text' out mid) (known : (quiet old new × (length out < max_gathered)) ⊎ (mid ≡ [])) where
+  handed : ((mid ≡ []) × Appends text text' out) ⊎ ((text' ≡ text) × (mid ≡ out) × quiet old new × (length out < max_gathered))
   handed = elim on [
     | inl all ↦ inl (all.1, all.0)
     | inr none ↦ elim known [
-      | inl q ↦ inr (none.0, none.1, q)
+      | inl q ↦ inr (none.0, none.1, q.0, q.1)
       | inr e ↦ inl (e, none.0 ∙ nothing_written text ∙ ap (λ o. option_map (λ t. t ++ o) text) (sym e ∙ none.1))
     ]
   ]
@@ -274,7 +275,7 @@ module _ {M : Type 0} (quiet : M → M → Type 0) {old new : M} {text text' : O
   pub gathers_line : {out' t : List ℕ} → out' ≡ mid ++ t → Gathers quiet old new text text' out out' t
   gathers_line {t = t} is = elim handed [
     | inl all ↦ inl (all.1, is ∙ ap (λ x. x ++ t) all.0)
-    | inr none ↦ inr (none.0, is ∙ ap (λ x. x ++ t) none.1, none.2)
+    | inr none ↦ inr (none.0, is ∙ ap (λ x. x ++ t) none.1, none.2, none.3)
   ]
 
   -- the machine stopped in it, and then not all could be written
@@ -284,6 +285,20 @@ module _ {M : Type 0} (quiet : M → M → Type 0) {old new : M} {text text' : O
     | inl all ↦ absurd (omega (arith, c.is_short, length-append c.front c.missing, ap length c.whole, ap length (same ∙ all.0)))
     | inr none ↦ (subst (λ (t : Option (List ℕ)). IsCutShort t text'' out) none.0 (subst (λ (o : List ℕ). IsCutShort text' text'' o) (same ∙ none.1) c), inr (r, step, none.2))
   ]
+
+-- ---- how much is gathered
+-- what is gathered is written if it has so many bytes: so it has fewer, or none are left
+pub few_or_none : {mid : List ℕ} (out : List ℕ) (n : ℕ) (due : Bool) → due ≡ leb 65536 n → n ≡ length out → (due ≡ true → mid ≡ []) → (length out < max_gathered) ⊎ (mid ≡ [])
+few_or_none out n due is n_is written = elim (cases_lt n 65536) [
+  | inl lt ↦ inl (omega (arith, lt, n_is))
+  | inr le ↦ inr (written (is ∙ le-leb 65536 n le))
+]
+
+module _ {M F : Type 0} (takes : M → List ℕ → M → Result (List ℕ) F → Type 0) where
+  -- one line more
+  pub is_gathered_line : (quiet : M → M → Type 0) {old new : M} {text text' : Option (List ℕ)} (out : List ℕ) {out' : List ℕ} (line t : List ℕ) → takes old line new (Ok t) → Gathers quiet old new text text' out out' t → IsGathered takes new out'
+  is_gathered_line quiet {old = old} out line t step (inl all) = inr (old, line, [], t, step, all.1, omega arith)
+  is_gathered_line quiet {old = old} out line t step (inr more) = inr (old, line, out, t, step, more.1, more.3)
 
 -- ---- what a call ensures, by the test of its result
 pub from_ok : {T E P : Type 0} (r : Result T E) → is_err r ≡ false → OnOk r P → P

@@ -13,10 +13,10 @@ use Rattle.jf_io.proofs.Plain.{held_plain, front_split, front_plain, front_whole
 use Rattle.jf_io.proofs.EndedLines.{lines-none, plain_more}
 use Rattle.jf_io.proofs.AfterLines.{bytes_after-next}
 use Rattle.jf_io.proofs.Found.{where_of, found_whole, lines_found, cut_of, last_of}
-use Rattle.jf_input.specs.Feeds.{Appends, HandsOn, Gathers, StopsGathering, ReadsAll, HasRead, Fed, ReadsLinesOf, ReadsFew, given_of, EndsAfter}
+use Rattle.jf_input.specs.Feeds.{Appends, HandsOn, Gathers, IsGathered, StopsGathering, ReadsAll, HasRead, Fed, ReadsLinesOf, ReadsFew, given_of, EndsAfter}
 use Rattle.jf_input.specs.declared.feeding.Feeding.{Feeding}
 use Rattle.jf_input.specs.declared.feeding.Feeding.TheVariants as feeding
-use Rattle.jf_input.proofs.Gathering.{Keeps, Written, KeptCut, keeps_none, keeps_handed, keeps_line, keeps_cut, written_none, written_all}
+use Rattle.jf_input.proofs.Gathering.{Keeps, Written, KeptCut, keeps_none, keeps_handed, keeps_line, keeps_cut, is_gathered_line, written_none, written_all}
 
 -- ---- the input alone
 -- these lines were taken, and of the bytes after them this is held
@@ -271,6 +271,10 @@ module _ {M F : Type 0} {takes : M → List ℕ → M → Result (List ℕ) F �
     pub so_far_line : {out' : List ℕ} {held' : Held} → (position_or_len is_line_feed held.bytes ≡ length held.bytes → ⊥) → Step takes quiet now line next text' text'' out out' → held' ≡ record held { bytes = after_first is_line_feed held.bytes }
         → SoFar takes quiet old next source source' text text'' held' out'
     so_far_line unlast step advanced = record { ls = more f.reads; reads = reads_line f.reads unlast advanced; keeps = keeps_next step }
+
+    -- and of what is gathered, what it adds comes last
+    pub so_far_gathered : {out' : List ℕ} → Step takes quiet now line next text' text'' out out' → IsGathered takes next out'
+    so_far_gathered step = let s = step (real f.reads) (given f.reads line front) in is_gathered_line takes quiet out (real f.reads) s.0 s.1 s.2
 
     -- it was the last line
     pub at_end_line : {out' : List ℕ} {text''' : Option (List ℕ)} → position_or_len is_line_feed held.bytes ≡ length held.bytes → IsLineFound held.bytes source' → Step takes quiet now line next text' text'' out out' → Appends text'' text''' out' → AtEnd takes old next source source' text text'''

@@ -34,10 +34,18 @@ Appends old new text = new ≡ option_map (λ t. t ++ text) old
 abbrev pub HandsOn : Option (List ℕ) → Option (List ℕ) → List ℕ → List ℕ → Type 0
 HandsOn text text' out out' = (Appends text text' out × (out' ≡ [])) ⊎ ((text' ≡ text) × (out' ≡ out))
 
+-- no line is taken when so many bytes are gathered
+abbrev pub max_gathered : ℕ
+max_gathered = 65536
+
 -- a line was taken, and what it adds was gathered: alone, after all that was gathered before was written; or, if the line is
--- quiet, behind that
+-- quiet and less than `max_gathered` was gathered before, behind that
 abbrev pub Gathers : {M : Type 0} → (M → M → Type 0) → M → M → Option (List ℕ) → Option (List ℕ) → List ℕ → List ℕ → List ℕ → Type 0
-Gathers quiet old new text text' out out' t = (Appends text text' out × (out' ≡ t)) ⊎ ((text' ≡ text) × (out' ≡ out ++ t) × quiet old new)
+Gathers quiet old new text text' out out' t = (Appends text text' out × (out' ≡ t)) ⊎ ((text' ≡ text) × (out' ≡ out ++ t) × quiet old new × (length out < max_gathered))
+
+-- nothing is gathered, or what one line adds, the last one that was taken, and before it less than `max_gathered`
+abbrev pub IsGathered : {M F : Type 0} → (M → List ℕ → M → Result (List ℕ) F → Type 0) → M → List ℕ → Type 0
+IsGathered {M} takes now out = (out ≡ []) ⊎ ((old : M) × (line before t : List ℕ) × takes old line now (Ok t) × (out ≡ before ++ t) × (length before < max_gathered))
 
 -- no more lines are taken: of what was gathered before a line not all was written, and the line wasn't taken, or the machine
 -- stopped quietly in it; or all was written, and the machine stopped in the line

@@ -42,3 +42,4 @@ status_text (status.Damaged side offset) = codes "damaged " ++ side_word side ++
 status_text status.InputFull = codes "input full"
 status_text status.Memory = codes "out of memory"
 status_text (status.Refused why) = codes "refused " ++ refusal_text why
+status_text (status.Outside least head) = codes "outside " ++ decimal least ++ codes " " ++ decimal head

@@ -26,7 +26,7 @@ use std::{env, io};
 pub fn run<R: Runtime + Files<File = File> + AllocGlobal + Threads + Wait + Sync>(
     rt: &R,
 ) -> ExitCode
-    ensures { exit_status result ≤ 8 }
+    ensures { exit_status result ≤ 9 }
 {
     let ending = run_process(rt);
     let _ = tell(rt, &ending);

@@ -38,6 +38,7 @@ impl fmt::Display for StatusLine {
                 let why = RefusalWords(why);
                 write!(f, "refused {why}")
             }
+            Status::Outside { least, head } => write!(f, "outside {least} {head}"),
         }
     }
 }

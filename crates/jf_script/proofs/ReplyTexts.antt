@@ -121,7 +121,7 @@ reply_in-words (reply.No (refusal.Range count)) h = rw (number-back count h) ref
 reply_in-words (reply.No refusal.Last) h = refl
 
 -- ---- texts read back
-all_plain-words : (r : Reply) → IsInRange r → all_plain (reply_words r) ≡ true
+pub all_plain-words : (r : Reply) → IsInRange r → all_plain (reply_words r) ≡ true
 all_plain-words (reply.Pending count) h = rw (is_plain-decimal count h) refl
 all_plain-words (reply.Commit version root) h = rw (is_plain-decimal version h.0, is_plain-hex root h.1) refl
 all_plain-words (reply.Fork id root) h = rw (is_plain-decimal id h.0, is_plain-hex root h.1) refl

@@ -1,5 +1,5 @@
 -- Sessions that were run, as those that the history of their store explains.
-use Rattle.std.proofs.Common.{◌≡◌, ℕ, ◌+◌, Bool, true, false, cond, ◌||◌, List, [], ◌∷◌, map, refl, sym, ap, subst}
+use Rattle.std.proofs.Common.{◌≡◌, ℕ, ◌+◌, Bool, true, false, cond, ◌||◌, ◌≤◌, List, [], ◌∷◌, map, length, refl, sym, ap, subst}
 use Rattle.std.specs.List.{AllByRecursion}
 use Rattle.std.proofs.lemmas.Bool.{eq-eqb}
 use Rattle.jf_store.specs.Passes.{Store, Pass}
@@ -7,7 +7,7 @@ use Rattle.jf_answers.specs.Explains.{IsAmong, text_in}
 use Rattle.jf_history.specs.Serving.{Served, AreServed, scripts_of, replies_of, passes_of}
 use Rattle.jf_history.specs.declared.end.End.{End}
 use Rattle.jf_history.proofs.Announced.{among-front, among-back}
-use Rattle.jf_serve.specs.Served.{ran_out_of_memory, out_of_memory_from}
+use Rattle.jf_serve.specs.Served.{max_output, ran_out_of_memory, out_of_memory_from}
 use Rattle.jf_serve.specs.Ran.{IsSessionEnd, HaveRunFrom}
 
 -- how they ended
@@ -40,10 +40,11 @@ pub record IsRunOf (store : Store) (out_of_memory : List ℕ) (n : ℕ) (scripts
   pub texts_are : map text_in (replies_of ss) ≡ ts
   pub passes_are : passes_of ss ≡ ps
   pub fine : AllByRecursion (λ s. IsSessionEnd s.how) ss
+  pub short : AllByRecursion (λ t. length t ≤ max_output) ts
 
 pub run_of : (store : Store) (out_of_memory : List ℕ) (n : ℕ) (scripts : List (List (List ℕ))) (es : List End) (ts : List (List ℕ)) (ps : List Pass) → ((k : ℕ) → IsAmong (out_of_memory_from n es) k → IsAmong out_of_memory k)
     → HaveRunFrom store n scripts es ts ps → IsRunOf store out_of_memory n scripts es ts ps
-run_of store out_of_memory n [] [] [] [] all h = record { ss = []; served = tt; scripts_are = refl; ends_are = refl; texts_are = refl; passes_are = refl; fine = tt }
+run_of store out_of_memory n [] [] [] [] all h = record { ss = []; served = tt; scripts_are = refl; ends_are = refl; texts_are = refl; passes_are = refl; fine = tt; short = tt }
 run_of store out_of_memory n [] [] [] (p ∷ ps) all h = absurd h
 run_of store out_of_memory n [] [] (t ∷ ts) ps all h = absurd h
 run_of store out_of_memory n [] (e ∷ es) ts ps all h = absurd h
@@ -61,4 +62,5 @@ run_of store out_of_memory n (script ∷ scripts) (e ∷ es) (t ∷ ts) (p ∷ p
       texts_are = λ i. sym h.0.text_is i ∷ rest.texts_are i;
       passes_are = ap (λ xs. p ∷ xs) rest.passes_are;
       fine = (h.0.end_is, rest.fine);
+      short = (h.0.short, rest.short);
     }

@@ -1,5 +1,5 @@
 -- The lines of a script that a session has answered so far, and what it comes to if it ends after them.
-use Rattle.std.proofs.Common.{◌≡◌, ◌⊎◌, inl, inr, ℕ, false, Some, None, List, [], ◌∷◌, ◌++◌, length, refl, sym, ap, ◌∙◌, subst, arith, append_assoc, length-append}
+use Rattle.std.proofs.Common.{◌≡◌, ◌⊎◌, inl, inr, ◌≤◌, ℕ, false, Some, None, List, [], ◌∷◌, ◌++◌, length, refl, sym, ap, ◌∙◌, subst, arith, append_assoc, length-append}
 use Rattle.std.proofs.Math.Seq.{drop-append-add, take-append_seam}
 use Rattle.std.specs.Prelude.{slice_get}
 use Rattle.std.specs.List.{AllByRecursion}
@@ -15,6 +15,7 @@ use Rattle.jf_session.specs.Taking.{end_of_stop}
 use Rattle.jf_session.specs.declared.stop.Stop.{Stop}
 use Rattle.jf_session.specs.declared.stop.Stop.TheVariants as stop
 use Rattle.jf_session.proofs.Replied.{text_in-push}
+use Rattle.jf_serve.specs.Served.{max_output}
 use Rattle.jf_serve.specs.Ran.{IsSessionEnd, HasRunSession}
 
 -- the element after a front
@@ -40,6 +41,7 @@ pub record GoesThrough (store : Store) (n : ℕ) (script left : List (List ℕ))
   pub replies : List Answered
   pub answered : HasAnswered store.start (new_pass store n) now done replies
   pub text_is : text ≡ text_in replies
+  pub short : length text ≤ max_output
   pub begun : now.over ≡ false
   pub own : IsPassOf now.pass store
 
@@ -51,6 +53,7 @@ through_none store n script now text new pins none = record {
   replies = [];
   answered = subst (λ (s : Session). HasAnswered store.start (new_pass store n) s [] []) (sym new) (none_answered store.start (new_pass store n) refl (subst HoldsPins new pins));
   text_is = none;
+  short = omega (arith, ap (λ (t : List ℕ). length t) none);
   begun = ap (λ (s : Session). s.over) new;
   own = subst (λ (s : Session). IsPassOf s.pass store) (sym new) (refl, refl);
 }
@@ -61,6 +64,7 @@ module _ {store : Store} {n : ℕ} {script left : List (List ℕ)} {now : Sessio
   ran_whole none = record {
     replies = f.replies;
     text_is = f.text_is;
+    short = f.short;
     end_is = tt;
     served = λ out_of_memory among. record {
       done = f.done;
@@ -97,13 +101,14 @@ module _ {store : Store} {n : ℕ} {script left : List (List ℕ)} {now : Sessio
     answered_more new r replied = one_more_answered store.start (new_pass store n) now new f.done f.replies line r f.answered replied
 
     -- it was answered
-    pub through_more : (new : Session) (r : Answered) (text' : List ℕ) → HasReplied store.start now new line r → text' ≡ text ++ r.text → new.over ≡ false → IsPassOf new.pass store → GoesThrough store n script left' new text'
-    through_more new r text' replied is over own = record {
+    pub through_more : (new : Session) (r : Answered) (text' : List ℕ) → HasReplied store.start now new line r → text' ≡ text ++ r.text → new.over ≡ false → IsPassOf new.pass store → length text' ≤ max_output → GoesThrough store n script left' new text'
+    through_more new r text' replied is over own short = record {
       done = f.done ++ line ∷ [];
       split = split_more;
       replies = f.replies ++ r ∷ [];
       answered = answered_more new r replied;
       text_is = is ∙ ap (λ (t : List ℕ). t ++ r.text) f.text_is ∙ sym (text_in-push f.replies r);
+      short = short;
       begun = over;
       own = own;
     }
@@ -113,6 +118,7 @@ module _ {store : Store} {n : ℕ} {script left : List (List ℕ)} {now : Sessio
     ran_untold new r replied = record {
       replies = f.replies;
       text_is = f.text_is;
+      short = f.short;
       end_is = tt;
       served = λ out_of_memory among. record {
         done = f.done ++ line ∷ [];
@@ -136,6 +142,7 @@ module _ {store : Store} {n : ℕ} {script left : List (List ℕ)} {now : Sessio
     ran_to how new is early ends = record {
       replies = f.replies;
       text_is = f.text_is;
+      short = f.short;
       end_is = is;
       served = λ out_of_memory among. record {
         done = f.done;

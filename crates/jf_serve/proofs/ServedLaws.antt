@@ -1,5 +1,5 @@
 -- What sessions over a store came to once it was closed.
-use Rattle.std.proofs.Common.{◌≡◌, inl, inr, ℕ, zero, suc, ◌+◌, ◌<◌, true, false, Option, Some, None, IfSome, List, [], ◌∷◌, ◌++◌, map, length, refl, sym, ap, ◌∙◌, subst, arith, append_assoc, append-nil, length-append}
+use Rattle.std.proofs.Common.{◌≡◌, inl, inr, ℕ, zero, suc, ◌+◌, ◌<◌, ◌≤◌, true, false, Option, Some, None, IfSome, List, [], ◌∷◌, ◌++◌, map, length, refl, sym, ap, ◌∙◌, subst, arith, append_assoc, append-nil, length-append}
 use mathlib.Core.Option as maybe
 use Rattle.std.specs.Prelude.{slice_get}
 use Rattle.std.specs.List.{AllByRecursion}
@@ -22,12 +22,13 @@ use Rattle.jf_answers.specs.Explains.{Timeline, Answered, IsAttempt, next_line, 
 use Rattle.jf_history.specs.Runs.{EndsBy}
 use Rattle.jf_history.specs.Sparing.{SparesPinsSince}
 use Rattle.jf_history.specs.Serving.{Served, IsServed, AreServed, FailedIn, scripts_of, replies_of, passes_of}
-use Rattle.jf_history.specs.Laws.{ClosedExplains, ClosedTries, ClosedBlames, ClosedSparesPins}
+use Rattle.jf_history.specs.Alone.{ServedAlone}
+use Rattle.jf_history.specs.Laws.{ClosedExplains, ClosedTries, ClosedBlames, ClosedSparesPins, OneServedIsAlone}
 use Rattle.jf_history.specs.declared.end.End.{End}
 use Rattle.jf_history.specs.declared.end.End.TheVariants as end
 use Rattle.jf_history.proofs.Closed.{pass_there}
 use Rattle.jf_session.proofs.SamePass.{IsSamePass, same_of, same_further, same_by, own_after}
-use Rattle.jf_serve.specs.Served.{ran_out_of_memory, out_of_memory_in, IsEndOf, AreEnded, ArePinsSpared, HasServed}
+use Rattle.jf_serve.specs.Served.{max_output, ran_out_of_memory, out_of_memory_in, IsEndOf, AreEnded, ArePinsSpared, IsAloneIn, HasServed}
 use Rattle.jf_serve.specs.Ran.{IsSessionEnd, Gathered, HaveRunSessions}
 use Rattle.jf_serve.proofs.AllServed.{ends_of, IsRunOf, run_of}
 
@@ -84,6 +85,23 @@ module _ (store : Store) (out_of_memory : List ℕ) (n : ℕ) (s : Served) (serv
       let b = broken_by broken in
       let there : next_line s.script served.had ≡ Some b.0 = subst (λ (o : Option (List ℕ)). IfSome o (λ line. next_line s.script served.had ≡ Some line)) b.1 served.next_is in
       (b.0, ap (next_line s.script) (told_all (ap ran_out_of_memory broken)) ∙ there, b.2.asks)
+
+-- ---- one session alone
+-- it is that of a session by itself
+alone_served : (store : Store) → OneServedIsAlone → (all : List Served) (entries : List Entry) (engine : Engine) → store.start.passes ≡ length all → (closed : IsClosed store.start (passes_of all) entries engine)
+    → AreServed store (out_of_memory_in (ends_of all)) 0 all → AllByRecursion (λ s. IsSessionEnd s.how) all → store.start.state.count ≡ 0 → IsAloneIn store.start.state (scripts_of all) (map text_in (replies_of all)) (ends_of all) entries (attempt_of closed.events)
+alone_served store lone [] entries engine passes closed served fine none = λ script is. absurd (let no : [] ≡ script ∷ [] = is in cc)
+alone_served store lone (s ∷ []) entries engine passes closed served fine none = λ script is.
+    let same : s.script ≡ script = (let both : s.script ∷ [] ≡ script ∷ [] = is in cc) in (
+      s.how,
+      refl,
+      text_in s.replies,
+      refl,
+      subst (λ (ls : List (List ℕ)). ServedAlone s.how store.start.state ls entries (attempt_of closed.events) (text_in s.replies)) same
+          (lone store s (out_of_memory_in (s.how ∷ [])) entries engine passes none (same_pass store (out_of_memory_in (s.how ∷ [])) 0 s served.0).2 (λ cut. subst IsSessionEnd cut fine.0) closed served.0),
+    )
+alone_served store lone (s ∷ t ∷ ss) entries engine passes closed served fine none = λ script is.
+    absurd (let no : s.script ∷ t.script ∷ scripts_of ss ≡ script ∷ [] = is in cc)
 
 -- ---- all sessions of a store that was closed
 
@@ -162,11 +180,13 @@ module _ (store : Store) (all : List Served) (entries : List Entry) (engine : En
   fault_there e f = (length f.before, ap (λ (xs : List Served). slice_get (ends_of xs) (length f.before)) f.split ∙ end_at f.before f.after f.failed end.DiskFault f.fault)
 
   -- ---- the whole
-  served_closed : ClosedExplains → ClosedTries → ClosedBlames → ClosedSparesPins → AllByRecursion (λ s. IsSessionEnd s.how) all → HasServed store.start (scripts_of all) (map text_in (replies_of all)) (ends_of all) entries engine
-  served_closed explains tries blames spares fine = record {
+  served_closed : ClosedExplains → ClosedTries → ClosedBlames → ClosedSparesPins → OneServedIsAlone → AllByRecursion (λ s. IsSessionEnd s.how) all → AllByRecursion (λ t. length t ≤ max_output) (map text_in (replies_of all))
+      → HasServed store.start (scripts_of all) (map text_in (replies_of all)) (ends_of all) entries engine
+  served_closed explains tries blames spares lone fine short = record {
     attempt = attempt;
     replies = replies_of all;
     outputs_are = refl;
+    short = short;
     explained = explains store all out_of_memory entries engine passes closed served;
     ended = ended_from tries 0 [] all refl refl served fine;
     tried = for_attempt attempt (λ e. (n : ℕ) × (slice_get (ends_of all) n ≡ Some end.DiskFault)) (λ e is. fault_there e (blames store all out_of_memory entries engine e passes closed served is));
@@ -175,6 +195,7 @@ module _ (store : Store) (all : List Served) (entries : List Entry) (engine : En
     spared = λ g told. spared_from spares g told 0 [] all refl refl served;
     grows = closed.grows;
     untold = closed.untold;
+    alone = λ none. alone_served store lone all entries engine passes closed served fine none;
   }
 
 -- ---- what was gathered
@@ -194,11 +215,12 @@ module _ (store : Store) (scripts : List (List (List ℕ))) (g : Gathered) (ran 
       let r = all_there store (out_of_memory_in g.ends) 0 run.ss run.served n (let m = as_many in omega arith) in
       (r.0, subst (λ (ps : List Pass). HasElement ps r.0) run.passes_are r.1, r.2 ∙ omega arith)
 
-  pub has_served : (entries : List Entry) (engine : Engine) → store.start.passes ≡ length scripts → IsClosed store.start g.passes entries engine → ClosedExplains → ClosedTries → ClosedBlames → ClosedSparesPins → HasServed store.start scripts g.texts g.ends entries engine
-  has_served entries engine many closed explains tries blames spares =
+  pub has_served : (entries : List Entry) (engine : Engine) → store.start.passes ≡ length scripts → IsClosed store.start g.passes entries engine → ClosedExplains → ClosedTries → ClosedBlames → ClosedSparesPins → OneServedIsAlone
+      → HasServed store.start scripts g.texts g.ends entries engine
+  has_served entries engine many closed explains tries blames spares lone =
       let closed' = subst (λ (ps : List Pass). IsClosed store.start ps entries engine) (sym run.passes_are) closed in
       let served' = subst (λ (es : List End). AreServed store (out_of_memory_in es) 0 run.ss) (sym run.ends_are) run.served in
-      let whole = served_closed store run.ss entries engine (many ∙ as_many) closed' served' explains tries blames spares run.fine in
+      let whole = served_closed store run.ss entries engine (many ∙ as_many) closed' served' explains tries blames spares lone run.fine (subst (AllByRecursion (λ t. length t ≤ max_output)) (sym run.texts_are) run.short) in
       subst (λ (es : List End). HasServed store.start scripts g.texts es entries engine) run.ends_are
       (subst (λ (ts : List (List ℕ)). HasServed store.start scripts ts (ends_of run.ss) entries engine) run.texts_are
       (subst (λ (xs : List (List (List ℕ))). HasServed store.start xs (map text_in (replies_of run.ss)) (ends_of run.ss) entries engine) run.scripts_are whole))

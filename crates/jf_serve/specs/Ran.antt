@@ -1,11 +1,11 @@
 -- What each session came to, and what several did that were run side by side.
-use Rattle.std.specs.Prelude.{◌≡◌, ℕ, ◌+◌, true, List, [], ◌∷◌, ◌++◌}
+use Rattle.std.specs.Prelude.{◌≡◌, ◌≤◌, ℕ, ◌+◌, true, List, [], ◌∷◌, ◌++◌, length}
 use Rattle.jf_store.specs.Passes.{Store, Pass}
 use Rattle.jf_answers.specs.Explains.{IsAmong, Answered, text_in}
 use Rattle.jf_history.specs.Serving.{IsServed}
 use Rattle.jf_history.specs.declared.end.End.{End}
 use Rattle.jf_history.specs.declared.end.End.TheVariants as end
-use Rattle.jf_serve.specs.Served.{ran_out_of_memory}
+use Rattle.jf_serve.specs.Served.{max_output, ran_out_of_memory}
 
 -- a session takes no input and writes to no sink
 abbrev pub IsSessionEnd : End → Type 0
@@ -20,6 +20,7 @@ IsSessionEnd end.Memory = Unit {0}
 pub record HasRunSession (store : Store) (n : ℕ) (script : List (List ℕ)) (how : End) (text : List ℕ) (pass : Pass) : Type 0 where
   pub replies : List Answered
   pub text_is : text ≡ text_in replies
+  pub short : length text ≤ max_output
   pub end_is : IsSessionEnd how
   pub served : (out_of_memory : List ℕ) → (ran_out_of_memory how ≡ true → IsAmong out_of_memory n) → IsServed store out_of_memory n (record { script = script; how = how; replies = replies; pass = pass })
 

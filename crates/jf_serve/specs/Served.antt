@@ -1,7 +1,9 @@
 -- What several sessions over one store came to, each of which ran a script of its own.
-use Rattle.std.specs.Prelude.{◌≡◌, ℕ, ◌+◌, Bool, true, false, if◌then◌else◌, List, [], ◌∷◌, map, length, slice_get, Option, Some, None, IfSome}
+use Rattle.std.specs.Prelude.{◌≡◌, ◌≤◌, ℕ, ◌+◌, ◌^◌, Bool, true, false, if◌then◌else◌, List, [], ◌∷◌, map, length, slice_get, Option, Some, None, IfSome}
+use Rattle.std.specs.List.{AllByRecursion}
 use Rattle.jf_disk.specs.Disk.{History}
 use Rattle.jf_disk.specs.Moments.{ExtendsHistory}
+use Rattle.jf_model.specs.States.{State}
 use Rattle.jf_model.specs.Entries.{replay, IsLegal}
 use Rattle.jf_model.specs.declared.entries.Entry.{Entry}
 use Rattle.jf_engine.specs.Engines.{Engine}
@@ -10,9 +12,14 @@ use Rattle.jf_store.specs.Kept.{IsKept}
 use Rattle.jf_answers.specs.Own.{begun_session}
 use Rattle.jf_answers.specs.OwnLines.{is_own_line}
 use Rattle.jf_answers.specs.Explains.{Timeline, Answered, ExplainsAnswers, IsAttempt, next_line, own_after_replies, text_in, timeline_of}
+use Rattle.jf_history.specs.Alone.{ServedAlone}
 use Rattle.jf_history.specs.Sparing.{SparesPinsSince}
 use Rattle.jf_history.specs.declared.end.End.{End}
 use Rattle.jf_history.specs.declared.end.End.TheVariants as end
+
+-- the most bytes of a session's output
+abbrev pub max_output : ℕ
+max_output = 2 ^ 30
 
 -- whether a session ran out of memory
 abbrev pub ran_out_of_memory : End → Bool
@@ -58,13 +65,19 @@ ArePinsSpared moment h n [] es = Unit {0}
 ArePinsSpared moment h n (rs ∷ rss) [] = ⊥
 ArePinsSpared moment h n (rs ∷ rss) (e ∷ es) = (ran_out_of_memory e ≡ false → SparesPinsSince moment h (own_after_replies (begun_session n) rs)) × ArePinsSpared moment h (n + 1) rss es
 
+-- one script alone has the answers of a session that runs by itself, and no other entries
+abbrev pub IsAloneIn : State → List (List (List ℕ)) → List (List ℕ) → List End → List Entry → Option Entry → Type 0
+IsAloneIn s scripts outputs ends entries attempt = (script : List (List ℕ)) → scripts ≡ script ∷ []
+    → (how : End) × (ends ≡ how ∷ []) × (text : List ℕ) × (outputs ≡ text ∷ []) × ServedAlone how s script entries attempt text
+
 -- the sessions of a store that began so answered the first lines of these scripts with these outputs, and the store was then closed.
 -- One legal history explains what they were answered; if the disk failed, what was tried is the attempt of one of them; and the
--- engine is what the entries made of it
+-- engine is what the entries made of it. No output has more bytes than it may have
 pub record HasServed (start : Start) (scripts : List (List (List ℕ))) (outputs : List (List ℕ)) (ends : List End) (entries : List Entry) (engine : Engine) : Type 0 where
   pub attempt : Option Entry
   pub replies : List (List Answered)
   pub outputs_are : outputs ≡ map text_in replies
+  pub short : AllByRecursion (λ t. length t ≤ max_output) outputs
   pub explained : ExplainsAnswers start.state entries scripts replies (out_of_memory_in ends)
   pub ended : AreEnded (timeline_of start.state entries scripts) attempt 0 scripts replies ends
   pub tried : IfSome attempt (λ e. (n : ℕ) × (slice_get ends n ≡ Some end.DiskFault))
@@ -73,3 +86,4 @@ pub record HasServed (start : Start) (scripts : List (List (List ℕ))) (outputs
   pub spared : (h : History) → engine.history ≡ Some h → ArePinsSpared start.moment h 0 replies ends
   pub grows : (h : History) → start.history ≡ Some h → (g : History) × (engine.history ≡ Some g) × ExtendsHistory h g
   pub untold : start.history ≡ None → engine.history ≡ None
+  pub alone : start.state.count ≡ 0 → IsAloneIn start.state scripts outputs ends entries attempt

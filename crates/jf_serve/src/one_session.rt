@@ -1,9 +1,11 @@
 // A session runs a whole script over a new pass.
-ghost use Rattle.std.specs.Prelude.{◌≡◌, ◌≤◌, [], IfErr, OnOk};
+ghost use Rattle.std.specs.Prelude.{◌≡◌, ◌⊎◌, ◌≤◌, ◌++◌, [], length, false, Err, IfErr, OnErr, OnOk};
 ghost use Rattle.jf_io.specs.Lines.{lines};
-ghost use Rattle.jf_store.specs.Passes.{new_pass};
-ghost use Rattle.jf_history.specs.Sessions.{HoldsPins, new_session};
+ghost use Rattle.jf_store.specs.Passes.{IsPassOf, new_pass};
+ghost use Rattle.jf_answers.specs.Explains.{Answered};
+ghost use Rattle.jf_history.specs.Sessions.{HasDoneNothing, HasReplied, HoldsPins, IsBroken, IsTry, new_session};
 ghost use Rattle.jf_session.specs.Taking.{end_of_stop};
+ghost use Rattle.jf_serve.specs.Served.{max_output};
 ghost use Rattle.jf_serve.specs.Ran.{HasRunSession};
 
 use jf_disk::Disk;
@@ -16,6 +18,9 @@ use jf_store::{Pass, Store};
 use std::alloc::Global;
 use std::sync::Wait;
 use std::thread::Threads;
+
+// The most bytes of a session's output, which is gathered until all sessions have ended.
+const MAX_OUTPUT: u64 = 1 << 30;
 
 /// What a session came to: its pass, the text of its replies, and how it ended.
 #[derive(Drop)]
@@ -69,6 +74,40 @@ pub(crate) fn run_session<D: Disk, H: Threads + Wait + Sync, G: Gate>(
     }
 }
 
+/// Answers one line, as `Session::step` does, and ends with `Memory`, too, if the text would be longer than `MAX_OUTPUT`
+/// bytes with the reply, which isn't told then.
+fn answer_line<D: Disk, H: Threads + Wait + Sync, G: Gate>(
+    rt: &H,
+    alloc: Global,
+    store: &Store<D>,
+    session: &mut Session<D>,
+    line: &[u8],
+    workers: u64,
+    gate: &G,
+    text: &mut Bytes,
+) -> Result<(), Stop>
+    requires own { IsPassOf session.old.pass store.now }
+    requires over { session.old.over ≡ false }
+    requires some { 1 ≤ workers }
+    requires few { workers ≤ 64 }
+    ensures own { IsPassOf session.new.pass store.now }
+    ensures ok { OnOk result ((r : Answered) × HasReplied store.now.start session.old session.new line.now r × (text.new ≡ text.old ++ r.text)) }
+    ensures short { OnOk result (length text.new ≤ max_output) }
+    ensures goes_on { OnOk result (session.new.over ≡ false) }
+    ensures silent { OnErr result (text.new ≡ text.old) }
+    ensures fault { result ≡ Err Stop.DiskFault → IsTry store.now.start session.old session.new line.now }
+    ensures broken { result ≡ Err Stop.Broken → IsBroken session.old session.new line.now }
+    ensures memory { result ≡ Err Stop.Memory → HasDoneNothing session.old session.new line.now ⊎ ((r : Answered) × HasReplied store.now.start session.old session.new line.now r) }
+{
+    let told = text.len();
+    session.step(rt, alloc, store, line, workers, gate, text)?;
+    if text.len() > MAX_OUTPUT {
+        text.truncate(told);
+        return Err(Stop::Memory);
+    }
+    Ok(())
+}
+
 /// Answers the lines of a script in turn, the first of the session, and appends their replies to an empty text. After an
 /// error the session is over, and no further line is begun.
 fn answer_lines<D: Disk, H: Threads + Wait + Sync, G: Gate>(
@@ -91,7 +130,7 @@ fn answer_lines<D: Disk, H: Threads + Wait + Sync, G: Gate>(
 {
     let mut left = script;
     while let Some((line, rest)) = cut_line(left) {
-        session.step(rt, alloc, store, line, workers, gate, text)?;
+        answer_line(rt, alloc, store, session, line, workers, gate, text)?;
         left = rest;
     }
     Ok(())

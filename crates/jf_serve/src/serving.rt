@@ -9,7 +9,9 @@ use crate::outputs::{Ends, Outputs};
 use crate::side_by_side::run_side_by_side;
 use jf_disk::Disk;
 use jf_engine::Engine;
-use jf_history::{closed_blames, closed_explains, closed_spares_pins, closed_tries};
+use jf_history::{
+    closed_blames, closed_explains, closed_spares_pins, closed_tries, one_served_is_alone,
+};
 use jf_join::Gate;
 use jf_model::Ledger;
 use jf_path::Bytes;
@@ -39,7 +41,8 @@ pub struct ServeRefused<D: Disk> {
 /// before it begins. A landing takes at most this many workers, 1 to 64.
 ///
 /// A session ends with `Done` if all its lines were answered, with `DiskFault` if the disk failed in what its next line asked
-/// for, with `Broken` if the disk had failed in another session before, and with `Memory` if memory ran out. The others go on.
+/// for, with `Broken` if the disk had failed in another session before, and with `Memory` if memory ran out, or if its output
+/// would pass 2^30 bytes. The others go on.
 pub fn serve<D: Disk, H: Threads + Wait + Sync, G: Gate>(
     rt: &H,
     alloc: Global,
@@ -61,6 +64,7 @@ pub fn serve<D: Disk, H: Threads + Wait + Sync, G: Gate>(
     closed_tries();
     closed_blames();
     closed_spares_pins();
+    one_served_is_alone();
     let Ok(gathered) = Gathered::with_room(alloc, passes.len()) else {
         return Err(ServeRefused { store, passes });
     };

@@ -66,7 +66,7 @@ Pruner-send : IsSend Pruner.the_row
 Pruner-send = pruners.the_send
 
 VersionsNote-send : IsSend VersionsNote.the_row
-VersionsNote-send = search (sendable, crosses, Snapshot-send, remembered.the_send) depth 40
+VersionsNote-send = search (Snapshot-send, remembered.the_send, sendable, crosses, sets.crosses) depth 40 fits 30000
 
 Beginning-send : IsSend Beginning.the_field.row
 Beginning-send = search (sendable, VersionsNote-send) depth 40

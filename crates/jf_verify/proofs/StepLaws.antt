@@ -4,9 +4,8 @@ use Rattle.std.proofs.lemmas.List.{append_assoc}
 use Rattle.jf_text.specs.Words.{is_long}
 use Rattle.jf_input.specs.Feeds.{given_of}
 use Rattle.jf_input.proofs.Given.{given_alike}
-use Rattle.jf_verify.specs.Steps.{StreamState, said, after_line, said_to_end, line_step, StreamStep}
+use Rattle.jf_verify.specs.Steps.{Knowledge, StreamState, said, after_line, said_to_end, line_step, StreamStep}
 use Rattle.jf_verify.specs.declared.stage.Stage.{Stage}
-use Rattle.jf_verify.specs.Verdicts.{Judging}
 use Rattle.jf_verify.specs.Laws.{LongLinesAreAlike}
 use Rattle.jf_verify.specs.declared.stage.Stage.TheVariants as stage
 
@@ -17,7 +16,7 @@ unfolding said_to_end
 said_to_end-in_turn before written s next line ls e is = rw (e, is) (append_assoc before (said s line) (said_to_end (after_line s line) ls))
 
 -- all long lines make the same step
-pub long-alike : (at : ℕ) (j : Judging) (s : Stage) (line other : List ℕ) → is_long line ≡ true → is_long other ≡ true → line_step at j s line ≡ line_step at j s other
+pub long-alike : (at : ℕ) (j : Knowledge) (s : Stage) (line other : List ℕ) → is_long line ≡ true → is_long other ≡ true → line_step at j s line ≡ line_step at j s other
 unfolding line_step
 long-alike at j stage.Between line other e h = rw (e, h) refl
 long-alike at j (stage.Name o) line other e h = rw (e, h) refl

@@ -1,6 +1,6 @@
 pub mod Verdicts
+pub mod Kept
 pub mod Accepted
-pub mod Subjects
 pub mod Steps
 pub mod Laws
 pub mod Streams

@@ -4,30 +4,41 @@ use Rattle.jf_hash.specs.Hashes.{K}
 use Rattle.jf_collide.specs.declared.judged.Judged.{Judged}
 use Rattle.jf_blocks.specs.declared.first.FirstLine.{FirstLine}
 use Rattle.jf_blocks.specs.Reading.{line_read, first_line_of, named_of, claim_of, leaf_line_of, side_of}
+use Rattle.jf_blocks.specs.Sides.{with_kept}
 use Rattle.jf_blocks.specs.declared.first.FirstLine.TheVariants as first
 use Rattle.jf_verify.specs.declared.stage.Stage.{Stage}
-use Rattle.jf_verify.specs.Verdicts.{Judging, nothing_known, syntax_text, judged}
+use Rattle.jf_verify.specs.Verdicts.{syntax_text}
+use Rattle.jf_verify.specs.Kept.{Kept, nothing_kept, judged_by}
 use Rattle.jf_verify.specs.declared.stage.Heading.{Heading}
 use Rattle.jf_verify.specs.declared.stage.Stage.TheVariants as stage
+
+-- what is known: the root that was set, and the accepted claims that are kept
+pub record Knowledge : Type 0 where
+  pub root : Option (List ℕ)
+  pub kept : Kept
+
+-- no root is set, and no claim is accepted
+abbrev pub no_knowledge : Knowledge
+no_knowledge = record { root = None; kept = nothing_kept }
 
 -- what is known between two lines: the number of the next one, what was set and accepted, and how far a block is read
 pub record StreamState : Type 0 where
   pub at : ℕ
-  pub known : Judging
+  pub known : Knowledge
   pub stage : Stage
 
 -- nothing is read yet
 abbrev pub begun : StreamState
-begun = record { at = 1; known = nothing_known; stage = stage.Between }
+begun = record { at = 1; known = no_knowledge; stage = stage.Between }
 
 -- the text that answers a line, and after the line what is known and how far a block is read
 pub record StreamStep : Type 0 where
   pub text : List ℕ
-  pub known : Judging
+  pub known : Knowledge
   pub stage : Stage
 
 -- a step was made: its text is appended, and what is known and how far a block is read are as it says
-abbrev pub IsMade : StreamStep → List ℕ → List ℕ → Judging → Stage → Type 0
+abbrev pub IsMade : StreamStep → List ℕ → List ℕ → Knowledge → Stage → Type 0
 IsMade step before written known next = (written ≡ before ++ step.text) × (known ≡ step.known) × (next ≡ step.stage)
 
 -- ---- lines that add nothing to what is known
@@ -41,7 +52,7 @@ abbrev pub IsTaken : Turn → List ℕ → List ℕ → Stage → Type 0
 IsTaken turn before written next = (written ≡ before ++ turn.text) × (next ≡ turn.stage)
 
 -- a turn as a step that adds nothing to what is known
-abbrev pub keeps : Judging → Turn → StreamStep
+abbrev pub keeps : Knowledge → Turn → StreamStep
 keeps j turn = record { text = turn.text; known = j; stage = turn.stage }
 
 -- the line doesn't match: it is named, and reading goes on between blocks
@@ -69,39 +80,39 @@ claim_turn at heading key (Some claim) = silent (stage.Leaf heading key claim)
 
 -- ---- other lines
 -- a line between blocks
-abbrev pub first_step : ℕ → Judging → Option FirstLine → StreamStep
+abbrev pub first_step : ℕ → Knowledge → Option FirstLine → StreamStep
 first_step at j None = keeps j (no_match at)
-first_step at j (Some (first.Root root)) = record { text = []; known = record { root = Some root; claims = j.claims }; stage = stage.Between }
+first_step at j (Some (first.Root root)) = record { text = []; known = record { root = Some root; kept = j.kept }; stage = stage.Between }
 first_step at j (Some (first.Proof n)) = keeps j (begins at n j.root)
 
 -- a whole block is judged
-abbrev pub whole : Judging → List ℕ → Judged → StreamStep
-whole j root block = let a = judged root j.claims block in record { text = a.0; known = record { root = j.root; claims = a.1 }; stage = stage.Between }
+abbrev pub whole : Knowledge → List ℕ → Judged → StreamStep
+whole j root block = let a = judged_by root j.kept block in record { text = a.0; known = record { root = j.root; kept = a.1 }; stage = stage.Between }
 
 -- what was read of a block: it is whole if no sibling is missing
-abbrev pub sided : Judging → Heading → Judged → StreamStep
+abbrev pub sided : Knowledge → Heading → Judged → StreamStep
 sided j heading block = if heading.missing == 0 then whole j heading.root block else keeps j (silent (stage.Sides heading block))
 
 -- the line of a leaf
-abbrev pub leaf_step : ℕ → Judging → Heading → List ℕ → Option (List ℕ) → Option (Option (List ℕ × List ℕ)) → StreamStep
+abbrev pub leaf_step : ℕ → Knowledge → Heading → List ℕ → Option (List ℕ) → Option (Option (List ℕ × List ℕ)) → StreamStep
 leaf_step at j heading key claim None = keeps j (no_match at)
 leaf_step at j heading key claim (Some leaf) = sided j heading (record { key = key; claim = claim; proof = record { leaf = leaf; siblings = [] } })
 
--- one sibling more
+-- one sibling more; of more than 256 the first 257 are kept
 abbrev pub with_side : Judged → List ℕ → Judged
-with_side block h = record { key = block.key; claim = block.claim; proof = record { leaf = block.proof.leaf; siblings = block.proof.siblings ++ h ∷ [] } }
+with_side block h = record { key = block.key; claim = block.claim; proof = record { leaf = block.proof.leaf; siblings = with_kept block.proof.siblings h } }
 
 -- one sibling less to come
 abbrev pub one_less : Heading → Heading
 one_less heading = record { root = heading.root; missing = heading.missing - 1 }
 
 -- the line of a sibling
-abbrev pub side_step : ℕ → Judging → Heading → Judged → Option (List ℕ) → StreamStep
+abbrev pub side_step : ℕ → Knowledge → Heading → Judged → Option (List ℕ) → StreamStep
 side_step at j heading block None = keeps j (no_match at)
 side_step at j heading block (Some h) = sided j (one_less heading) (with_side block h)
 
 -- what a line makes, by how far a block is read
-unfoldable pub line_step : ℕ → Judging → Stage → List ℕ → StreamStep
+unfoldable pub line_step : ℕ → Knowledge → Stage → List ℕ → StreamStep
 line_step at j stage.Between line = first_step at j (line_read first_line_of line)
 line_step at j (stage.Name heading) line = keeps j (name_turn at heading (line_read named_of line))
 line_step at j (stage.Claim heading key) line = keeps j (claim_turn at heading key (line_read claim_of line))

@@ -6,12 +6,13 @@ mod accepted;
 mod answers;
 mod contradiction;
 mod judging;
+mod kept;
 mod known;
 mod laws;
 mod reading;
 mod stage;
 mod stream;
-mod subjects;
+mod table;
 mod text;
 
 pub use judging::Judge;

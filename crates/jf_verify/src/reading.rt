@@ -7,7 +7,7 @@ ghost use Rattle.jf_verify.specs.Steps.{IsMade, IsTaken, no_match, begins, first
 use crate::answers::write_syntax;
 use crate::known::Known;
 use crate::stage::{Heading, Stage};
-use jf_blocks::{FirstLine, claim_line, first_line, leaf_line, name_line, side_line};
+use jf_blocks::{FirstLine, claim_line, first_line, keep_side, leaf_line, name_line, side_line};
 use jf_collide::Judged;
 use jf_hash::{Hash, key_of};
 use jf_path::{Bytes, HashList, Key, Memory};
@@ -120,7 +120,7 @@ fn claim(
     }
 }
 
-/// A sibling.
+/// A sibling. It is counted, and kept if it is among the first 257.
 fn side(
     alloc: Global,
     known: &mut Known,
@@ -133,7 +133,7 @@ fn side(
     ensures err { OnErr result (Extends out.old out.new) }
 {
     let mut judged = judged;
-    judged.proof.siblings.push(sibling)?;
+    keep_side(&mut judged.proof.siblings, sibling)?;
     let mut heading = heading;
     heading.missing = heading.missing.saturating_sub(1);
     go_on(alloc, known, heading, judged, out)

@@ -81,8 +81,13 @@ impl Gate for Meeting {
 // Two landings, on an empty store and over nodes, of two names whose keys differ in the first nibble.
 const TWO: &[u8] = b"put 61 =01\nput 62 =02\ncommit\nput 61 =03\nput 62 =04\ncommit\n";
 
-// The modes that take lines, with two workers.
-const MODES: &[&str] = &["run --workers 2", "serve --workers 2"];
+// Words that ask for two landings of two pieces each, with two workers: of the lines above, and of a script of its own, in
+// which the keys of the two names of a batch differ in the first nibble too (6 and 14, then 10 and 14).
+const MODES: &[&str] = &[
+    "run --workers 2",
+    "serve --workers 2",
+    "generate 1 2 2 --workers 2",
+];
 
 // How often a piece of these landings met the other, if a line of words asks for two workers, and how many entries they
 // made.

@@ -1,13 +1,13 @@
-use Rattle.std.proofs.Common.{◌≡◌, [], ap, sym, ◌∙◌, le_refl, Ok, Err, arith}
+use Rattle.std.proofs.Common.{◌≡◌, [], inl, ap, sym, ◌∙◌, le_refl, Ok, Err, arith}
 use Rattle.jf_io.specs.LineReader.{Held}
 use Rattle.jf_io.specs.Sink.{IsCutShort}
 use Rattle.jf_input.specs.Feeds.{Appends, HandsOn}
 use Rattle.jf_input.proofs.Gathering.{from_ok, from_err, from_not}
-use Rattle.jf_input.proofs.Progress.{so_far_none, so_far_same, so_far_handed, so_far_fetched, so_far_line, fed_cut, fed_cut_last, fed_unread, fed_wanting, fed_wanting_none, at_end_none, at_end_line, fed_at_line, fed_behind}
+use Rattle.jf_input.proofs.Progress.{so_far_none, so_far_same, so_far_handed, so_far_fetched, so_far_line, so_far_gathered, fed_cut, fed_cut_last, fed_unread, fed_wanting, fed_wanting_none, at_end_none, at_end_line, fed_at_line, fed_behind}
 use Rattle.jf_input.proofs.feeding.feed.Goals as goal
 
 pub loop-turn-init : goal.loop-turn-init
-loop-turn-init g c = record { ready = c.requires.ready; so_far = so_far_none c.new-reader.result c.new-out.result c.new-reader.ensures c.new-out.ensures; piece = ap (λ (h : Held). h.piece) c.new-reader.ensures; source_faults = le_refl _; sink_faults = le_refl _ }
+loop-turn-init g c = record { ready = c.requires.ready; so_far = so_far_none c.new-reader.result c.new-out.result c.new-reader.ensures c.new-out.ensures; gathered = inl c.new-out.ensures; piece = ap (λ (h : Held). h.piece) c.new-reader.ensures; source_faults = le_refl _; sink_faults = le_refl _ }
 
 pub returns-then-is_err-clause-fed : goal.returns-then-is_err-clause-fed
 returns-then-is_err-clause-fed g c =
@@ -75,6 +75,7 @@ loop-turn-preserved g c =
     record {
       ready = c.in-Ok.ensures.ready;
       so_far = so_far_line f c.line.ensures (λ whole. let yes = c.is_last-is_last.ensures.1 whole in let is = c.if-is_last.false in absurd (cc)) c.in-Ok.ensures.ok c.advance.ensures;
+      gathered = so_far_gathered f c.line.ensures c.in-Ok.ensures.ok;
       piece = ap (λ (h : Held). h.piece) c.advance.ensures ∙ c.fetch.ensures.piece ∙ ap (λ (h : Held). h.piece) c.finds_line-asks.ensures.same ∙ c.loop-turn.invariant.piece;
       source_faults = omega (arith, c.loop-turn.invariant.source_faults, c.fetch.ensures.grows);
       sink_faults = omega (arith, c.loop-turn.invariant.sink_faults, c.hand_on_if.ensures.grows, c.feed_line.ensures.grows);

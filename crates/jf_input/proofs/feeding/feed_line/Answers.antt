@@ -1,7 +1,7 @@
-use Rattle.std.proofs.Common.{inl, inr, ◌≡◌, ◌⊎◌, [], Err, sym, ap, ◌∙◌, not}
+use Rattle.std.proofs.Common.{inl, inr, ◌≡◌, ◌<◌, ◌⊎◌, [], length, Err, sym, ap, ◌∙◌, not}
 use Rattle.jf_io.specs.Sink.{IsCutShort}
-use Rattle.jf_input.specs.Feeds.{HandsOn}
-use Rattle.jf_input.proofs.Gathering.{gathers_line, stops_cut, from_ok, from_err}
+use Rattle.jf_input.specs.Feeds.{max_gathered, HandsOn}
+use Rattle.jf_input.proofs.Gathering.{few_or_none, gathers_line, stops_cut, from_ok, from_err}
 use Rattle.jf_input.proofs.feeding.feed_line.Goals as goal
 use Rattle.jf_input.proofs.feeding.feed_line.Goals.{then-not-is_quiet, else-not-is_quiet}
 
@@ -11,9 +11,12 @@ returns-in-Ok-clause-ok g c = λ whole given.
     let step = t.2 whole given in
     let ok = sym c.is_err.ensures.value ∙ c.if-is_err.false in
     let on : HandsOn (g.K.Sink.text c.args.sink.now) (g.K.Sink.text c.hand_on_if.new.sink) c.args.out.now c.hand_on_if.new.out = from_ok c.hand_on_if.result ok c.hand_on_if.ensures.ok in
-    let known : g.M.LineMachine.quiet c.args.machine.now c.take_line.new.self ⊎ (c.hand_on_if.new.out ≡ []) = elim c.if-not-is_quiet.branch [
+    let known : (g.M.LineMachine.quiet c.args.machine.now c.take_line.new.self × (length c.args.out.now < max_gathered)) ⊎ (c.hand_on_if.new.out ≡ []) = elim c.if-not-is_quiet.branch [
       | then-not-is_quiet w ↦ inr (from_ok c.hand_on_if.result ok (c.hand_on_if.ensures.all (w.is_due-is ∙ ap not w.if-not-is_quiet.true)))
-      | else-not-is_quiet w ↦ inl (c.is_quiet-is_quiet.ensures w.if-not-is_quiet.false whole given _ _ step)
+      | else-not-is_quiet w ↦ elim (few_or_none c.args.out.now w.len.result c.if-not-is_quiet.is_due w.is_due-is w.len.ensures (λ due. from_ok c.hand_on_if.result ok (c.hand_on_if.ensures.all due))) [
+        | inl few ↦ inl (c.is_quiet-is_quiet.ensures w.if-not-is_quiet.false whole given _ _ step, few)
+        | inr none ↦ inr none
+      ]
     ] in
     (t.0, step, gathers_line g.M.LineMachine.quiet on known t.1)
 
@@ -22,9 +25,12 @@ returns-then-is_err-2-clause-err g c = λ whole given.
     let step = c.in-Err.ensures.err whole given in
     let ok = sym c.is_err.ensures.value ∙ c.if-is_err.false in
     let on : HandsOn (g.K.Sink.text c.args.sink.now) (g.K.Sink.text c.hand_on_if.new.sink) c.args.out.now c.hand_on_if.new.out = from_ok c.hand_on_if.result ok c.hand_on_if.ensures.ok in
-    let known : g.M.LineMachine.quiet c.args.machine.now c.take_line.new.self ⊎ (c.hand_on_if.new.out ≡ []) = elim c.if-not-is_quiet.branch [
+    let known : (g.M.LineMachine.quiet c.args.machine.now c.take_line.new.self × (length c.args.out.now < max_gathered)) ⊎ (c.hand_on_if.new.out ≡ []) = elim c.if-not-is_quiet.branch [
       | then-not-is_quiet w ↦ inr (from_ok c.hand_on_if.result ok (c.hand_on_if.ensures.all (w.is_due-is ∙ ap not w.if-not-is_quiet.true)))
-      | else-not-is_quiet w ↦ inl (c.is_quiet-is_quiet.ensures w.if-not-is_quiet.false whole given _ _ step)
+      | else-not-is_quiet w ↦ elim (few_or_none c.args.out.now w.len.result c.if-not-is_quiet.is_due w.is_due-is w.len.ensures (λ due. from_ok c.hand_on_if.result ok (c.hand_on_if.ensures.all due))) [
+        | inl few ↦ inl (c.is_quiet-is_quiet.ensures w.if-not-is_quiet.false whole given _ _ step, few)
+        | inr none ↦ inr none
+      ]
     ] in
     let cut : IsCutShort (g.K.Sink.text c.hand_on_if.new.sink) (g.K.Sink.text c.hand_on.new.sink) c.take_line.new.out = from_err c.hand_on.result (sym c.is_err-in-Err.ensures.value ∙ c.if-is_err-2.true) c.hand_on.ensures.cut_short in
     stops_cut g.M.LineMachine.quiet on known g.M.LineMachine.takes whole (Err c.in-Err.why) c.in-Err.ensures.silent cut step

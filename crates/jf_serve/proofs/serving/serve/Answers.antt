@@ -27,6 +27,6 @@ returns-clause-served g c =
     let end = c.close-engine.result in
     let many : c.args.store.start.passes ≡ length scripts = sym (length-map c.args.scripts.now lines ∙ c.requires.each ∙ c.requires.all) in
     let closed = subst (λ (ps : List Pass). IsClosed c.args.store.start ps end.entries end.engine) parts.passes c.close-engine.ensures in
-    let whole = has_served c.args.store scripts all.result all.ensures.ran end.entries end.engine many closed c.closed_explains.ensures c.closed_tries.ensures c.closed_blames.ensures c.closed_spares_pins.ensures in
+    let whole = has_served c.args.store scripts all.result all.ensures.ran end.entries end.engine many closed c.closed_explains.ensures c.closed_tries.ensures c.closed_blames.ensures c.closed_spares_pins.ensures c.one_served_is_alone.ensures in
     subst (λ (es : List End). HasServed c.args.store.start scripts c.into_parts-passes.result.1 es end.entries end.engine) (sym parts.ends)
     (subst (λ (ts : List (List ℕ)). HasServed c.args.store.start scripts ts all.result.ends end.entries end.engine) (sym parts.outputs) whole)

@@ -1,0 +1,157 @@
+-- The lines of replies that set no root and begin no proof.
+use Rattle.std.specs.List.{AllByRecursion, join_with_byte}
+use Rattle.std.proofs.Common.{◌≡◌, inl, inr, ℕ, ◌^◌, ◌<◌, ◌≤◌, ◌&&◌, true, false, cond, is_some, List, [], ◌∷◌, ◌++◌, length, Option, Some, None, codes, decimal, refl, sym, ap, ◌∙◌, subst, append_assoc, append-nil, option_map, option_and_then}
+use Rattle.hex.specs.Hex.{encode_lower, IsBytes}
+use Rattle.jf_hash.specs.Roots.{root}
+use Rattle.jf_io.specs.Lines.{lines}
+use Rattle.jf_evidence.specs.Ranges.{Entries}
+use Rattle.jf_evidence.specs.declared.range_proof.RangeProof.{RangeProof}
+use Rattle.jf_text.specs.Words.{line_text, value_word, words, number, number_upto, hash_of, is_word, is_long}
+use Rattle.jf_text.proofs.Plain.{all_plain, is_plain, is_plain-decimal, words-join}
+use Rattle.jf_text.proofs.NumbersBack.{number-back}
+use Rattle.jf_text.proofs.HexReadBack.{is_plain-hex}
+use Rattle.jf_script.specs.Replies.{reply_words, reply_text, refusal_words, IsInRange}
+use Rattle.jf_script.specs.declared.reply.Refusal.{Refusal}
+use Rattle.jf_script.specs.declared.reply.Refusal.TheVariants as refusal
+use Rattle.jf_script.specs.declared.reply.Reply.{Reply}
+use Rattle.jf_script.specs.declared.reply.Reply.TheVariants as reply
+use Rattle.jf_blocks.specs.Blocks.{chunk_lines, entry_lines, side_lines}
+use Rattle.jf_blocks.specs.Reading.{line_read, first_line_of, word_after}
+use Rattle.jf_blocks.specs.Laws.{IsHash, IsChunkBlock}
+use Rattle.jf_blocks.specs.declared.first.FirstLine.{FirstLine}
+use Rattle.jf_blocks.specs.declared.first.FirstLine.TheVariants as first
+use Rattle.jf_blocks.proofs.BlocksReadBack.{left_out}
+use Rattle.jf_blocks.proofs.LinesJoined.{lines-join}
+use Rattle.jf_client.specs.RunLaws.{Heard, answer_heard, text_heard, told_by, IsOther}
+use Rattle.jf_script.proofs.ReplyTexts.{all_plain-words}
+
+-- ---- lines that no root and no proof begins
+abbrev pub IsNoFirst : List ℕ → Type 0
+IsNoFirst line = line_read first_line_of line ≡ None
+
+-- a line joined from words that don't say so
+no_first-join : (w : List ℕ) (ws : List (List ℕ)) → is_plain w ≡ true → all_plain ws ≡ true → first_line_of (w ∷ ws) ≡ None → IsNoFirst (join_with_byte 32 (w ∷ ws))
+no_first-join w ws plain others none =
+    let line : List ℕ = join_with_byte 32 (w ∷ ws) in
+    elim (is_long line) as (λ b. cond b None (first_line_of (words line)) ≡ None) [ true ↦ refl | false ↦ ap first_line_of (words-join w ws plain others) ∙ none ]
+
+-- lines of a text, whatever comes after it
+pub record AreLinesOf (text : List ℕ) (xs : List (List ℕ)) : Type 0 where
+  pub whole : (rest : List ℕ) → lines (text ++ rest) ≡ xs ++ lines rest
+  pub none : AllByRecursion IsNoFirst xs
+
+all_joined : (xs ys : List (List ℕ)) → AllByRecursion IsNoFirst xs → AllByRecursion IsNoFirst ys → AllByRecursion IsNoFirst (xs ++ ys)
+all_joined [] ys h k = k
+all_joined (x ∷ xs) ys h k = (h.0, all_joined xs ys h.1 k)
+
+lines_joined : (t u : List ℕ) (xs ys : List (List ℕ)) → AreLinesOf t xs → AreLinesOf u ys → AreLinesOf (t ++ u) (xs ++ ys)
+lines_joined t u xs ys a b = record {
+  whole = λ rest. ap lines (append_assoc t u rest) ∙ a.whole (u ++ rest) ∙ ap (λ (ls : List (List ℕ)). xs ++ ls) (b.whole rest) ∙ sym (append_assoc xs ys (lines rest));
+  none = all_joined xs ys a.none b.none;
+}
+
+one_line_of : (w : List ℕ) (ws : List (List ℕ)) → is_plain w ≡ true → all_plain ws ≡ true → first_line_of (w ∷ ws) ≡ None → AreLinesOf (line_text (w ∷ ws)) (join_with_byte 32 (w ∷ ws) ∷ [])
+one_line_of w ws plain others none = record {
+  whole = λ rest. ap lines (append_assoc (join_with_byte 32 (w ∷ ws)) (10 ∷ []) rest) ∙ lines-join w ws rest plain others;
+  none = (no_first-join w ws plain others none, tt);
+}
+
+-- what the words after `n ok` say
+abbrev first_from : List (List ℕ) → Option FirstLine
+first_from ws =
+    elim (option_and_then hash_of (word_after (codes "root") ws)) [
+      | Some root ↦ Some (first.Root root)
+      | None ↦ option_map (λ n. first.Proof n) (option_and_then (number_upto 65535) (word_after (codes "proof") ws))
+    ]
+
+-- ---- the lines of chunk blocks
+entry_first : (k v : List ℕ) → first_line_of (codes "entry" ∷ k ∷ v ∷ []) ≡ None
+entry_first k v = elim (is_some (number (codes "entry")) && is_word k (codes "ok")) as (λ b. first_from (cond b (v ∷ []) (codes "entry" ∷ k ∷ v ∷ [])) ≡ None) [ true ↦ refl | false ↦ refl ]
+
+side_first : (h : List ℕ) → first_line_of (codes "side" ∷ h ∷ []) ≡ None
+side_first h = elim (is_some (number (codes "side")) && is_word h (codes "ok")) as (λ b. first_from (cond b [] (codes "side" ∷ h ∷ [])) ≡ None) [ true ↦ refl | false ↦ refl ]
+
+entry_lines_of : (es : Entries) → AllByRecursion (λ e. IsHash e.0 × IsBytes e.1 × (length e.1 ≤ 4096)) es → (xs : List (List ℕ)) × AreLinesOf (entry_lines es) xs
+entry_lines_of [] fit = ([], record { whole = λ rest. refl; none = tt })
+entry_lines_of (e ∷ es) fit =
+    let more = entry_lines_of es fit.1 in
+    let ws : List (List ℕ) = encode_lower e.0 ∷ value_word e.1 ∷ [] in
+    let plain : all_plain ws ≡ true = rw (is_plain-hex e.0 fit.0.0.1, is_plain-hex e.1 fit.0.1) refl in
+    (join_with_byte 32 (codes "entry" ∷ ws) ∷ more.0, lines_joined (line_text (codes "entry" ∷ ws)) (entry_lines es) (join_with_byte 32 (codes "entry" ∷ ws) ∷ []) more.0 (one_line_of (codes "entry") ws refl plain (entry_first (encode_lower e.0) (value_word e.1))) more.1)
+
+side_lines_of : (hs : List (List ℕ)) → AllByRecursion IsHash hs → (xs : List (List ℕ)) × AreLinesOf (side_lines hs) xs
+side_lines_of [] fit = ([], record { whole = λ rest. refl; none = tt })
+side_lines_of (h ∷ hs) fit =
+    let more = side_lines_of hs fit.1 in
+    let ws : List (List ℕ) = encode_lower h ∷ [] in
+    let plain : all_plain ws ≡ true = rw (is_plain-hex h fit.0.1) refl in
+    (join_with_byte 32 (codes "side" ∷ ws) ∷ more.0, lines_joined (line_text (codes "side" ∷ ws)) (side_lines hs) (join_with_byte 32 (codes "side" ∷ ws) ∷ []) more.0 (one_line_of (codes "side") ws refl plain (side_first (encode_lower h))) more.1)
+
+chunk_lines_of : (es : Entries) (proof : RangeProof) → IsChunkBlock es proof → (xs : List (List ℕ)) × AreLinesOf (chunk_lines es proof) xs
+unfolding chunk_lines
+chunk_lines_of es proof fit =
+    let a = entry_lines_of es fit.entries in
+    let b = side_lines_of proof.siblings fit.siblings in
+    (a.0 ++ b.0, lines_joined (entry_lines es) (side_lines proof.siblings) a.0 b.0 a.1 b.1)
+
+-- ---- the lines of other replies
+ok_first : (n : ℕ) (ws : List (List ℕ)) → n < 2 ^ 64 → first_from ws ≡ None → first_line_of (decimal n ∷ codes "ok" ∷ ws) ≡ None
+ok_first n ws small none = ap first_from (left_out (number (decimal n)) n (decimal n ∷ codes "ok" ∷ ws) ws (number-back n small)) ∙ none
+
+not_ok : (o : Option ℕ) → (is_some o && is_word (codes "no") (codes "ok")) ≡ false
+not_ok None = refl
+not_ok (Some n) = refl
+
+no_first : (n : ℕ) (r : List ℕ) (rs : List (List ℕ)) → first_line_of (decimal n ∷ codes "no" ∷ r ∷ rs) ≡ None
+no_first n r rs = ap (λ b. first_from (cond b (r ∷ rs) (decimal n ∷ codes "no" ∷ r ∷ rs))) (not_ok (number (decimal n)))
+
+refused_first : (n : ℕ) (why : Refusal) → first_line_of (decimal n ∷ codes "no" ∷ refusal_words why) ≡ None
+refused_first n refusal.Syntax = no_first n (codes "syntax") []
+refused_first n refusal.Long = no_first n (codes "long") []
+refused_first n refusal.Pending = no_first n (codes "pending") []
+refused_first n refusal.Unknown = no_first n (codes "unknown") []
+refused_first n refusal.Gone = no_first n (codes "gone") []
+refused_first n (refusal.Keys count) = no_first n (codes "keys") (decimal count ∷ [])
+refused_first n (refusal.Future head) = no_first n (codes "future") (decimal head ∷ [])
+refused_first n (refusal.Retired bound) = no_first n (codes "retired") (decimal bound ∷ [])
+refused_first n refusal.PinsFull = no_first n (codes "pinsfull") []
+refused_first n refusal.NoPin = no_first n (codes "nopin") []
+refused_first n refusal.ForksFull = no_first n (codes "forksfull") []
+refused_first n (refusal.Range count) = no_first n (codes "range") (decimal count ∷ [])
+refused_first n refusal.Last = no_first n (codes "last") []
+
+other_first : (n : ℕ) (r : Reply) → n < 2 ^ 64 → told_by r ≡ None → first_line_of (decimal n ∷ reply_words r) ≡ None
+other_first n (reply.Pending count) small untold = ok_first n _ small refl
+other_first n (reply.Commit version r) small untold = ok_first n _ small refl
+other_first n (reply.Fork id r) small untold = ok_first n _ small refl
+other_first n (reply.Land version r) small untold = ok_first n _ small refl
+other_first n (reply.Drop count) small untold = ok_first n _ small refl
+other_first n (reply.Value None) small untold = ok_first n _ small refl
+other_first n (reply.Value (Some value)) small untold = ok_first n _ small refl
+other_first n (reply.Root r) small untold = absurd (cc)
+other_first n (reply.Proof siblings) small untold = absurd (cc)
+other_first n (reply.Chunk entries depth siblings) small untold = ok_first n _ small refl
+other_first n (reply.Count count) small untold = ok_first n _ small refl
+other_first n (reply.Nth key value) small untold = ok_first n _ small refl
+other_first n (reply.Pin place) small untold = ok_first n _ small refl
+other_first n (reply.Unpin version) small untold = ok_first n _ small refl
+other_first n (reply.Prune bound floor) small untold = ok_first n _ small refl
+other_first n (reply.Compact generation) small untold = ok_first n _ small refl
+other_first n (reply.Status base floor retired head kept forks generation) small untold = ok_first n _ small refl
+other_first n (reply.No why) small untold = refused_first n why
+
+reply_lines_of : (n : ℕ) (r : Reply) → n < 2 ^ 64 → told_by r ≡ None → IsInRange r → AreLinesOf (reply_text n r) (join_with_byte 32 (decimal n ∷ reply_words r) ∷ [])
+unfolding reply_text
+reply_lines_of n r small untold range = one_line_of (decimal n) (reply_words r) (is_plain-decimal n small) (all_plain-words r range) (other_first n r small untold)
+
+pub other_lines_of : (h : Heard) → h.number < 2 ^ 64 → IsOther h → (xs : List (List ℕ)) × AreLinesOf (text_heard h) xs
+other_lines_of h small o =
+    let a = answer_heard h in
+    let line : List (List ℕ) = join_with_byte 32 (decimal h.number ∷ reply_words a.reply) ∷ [] in
+    let first = reply_lines_of h.number a.reply small o.untold o.in_range in
+    elim o.block_is as (λ x. (xs : List (List ℕ)) × AreLinesOf (text_heard h) xs) [
+      | inl none ↦ (line, subst (λ (t : List ℕ). AreLinesOf t line) (sym (append-nil (reply_text h.number a.reply)) ∙ ap (λ (b : List ℕ). reply_text h.number a.reply ++ b) (sym none)) first)
+      | inr c ↦
+          let block = chunk_lines_of c.0 c.1 c.2 in
+          (line ++ block.0, subst (λ (b : List ℕ). AreLinesOf (reply_text h.number a.reply ++ b) (line ++ block.0)) (sym c.3) (lines_joined (reply_text h.number a.reply) (chunk_lines c.0 c.1) line block.0 first block.1))
+    ]
