@@ -126,6 +126,7 @@ fn tell<R: Runtime>(rt: &R, status: Status) -> io::Result<()> {
         Status::InputFull => eprintln!(rt; "input full"),
         Status::Memory => eprintln!(rt; "out of memory"),
         Status::Refused(why) => tell_refusal(rt, why),
+        Status::Outside { least, head } => eprintln!(rt; "outside {least} {head}"),
     }
 }
 

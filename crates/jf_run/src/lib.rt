@@ -6,6 +6,7 @@ mod generate_over;
 mod generating;
 mod judging;
 mod opening;
+mod proving;
 mod restoring;
 mod run_over;
 pub mod run_words;

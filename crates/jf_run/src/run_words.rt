@@ -1,11 +1,12 @@
 // The top call of the program: the words of a command line say what is done with source, sink and disk.
 ghost use Rattle.std.specs.Prelude.{◌≡◌, ◌⊎◌, ℕ, IfNone, IsFalse};
-ghost use Rattle.jf_words.specs.Modes.{IfGenerates, IfRestores, IfServes, asked, is_verify, opens};
+ghost use Rattle.jf_words.specs.Modes.{IfGenerates, IfHistory, IfRestores, IfServes, asked, is_verify, opens};
 ghost use Rattle.jf_run.specs.Calls.{program_call, devices};
 ghost use Rattle.jf_run.specs.Promises.{KeepsPromises};
 
 use crate::generating::generate_script;
 use crate::judging::judge_input;
+use crate::proving::prove_root;
 use crate::restoring::restore_version;
 use crate::running::run_script;
 use crate::serving::serve_sessions;
@@ -34,6 +35,8 @@ use std::thread::Threads;
 /// - `restore VERSION ROOT` opens a new store, and makes it hold one version, whose entries the source gives as chunk
 ///   blocks. Each block is judged when its last line has come, and at most 4,096 bytes are taken at a time. The store is
 ///   changed only once all was judged; refused input leaves it as it was.
+/// - `history VERSION` opens the store, and writes the total of the recorded roots, with the proofs that the version's root
+///   is among them and that they begin with those up to it. It reads no input.
 /// - `verify` judges the proof blocks of the source, and writes the verdicts into the sink. No call is made on the
 ///   disk.
 /// - For other words the call returns `Usage`, or `Memory` if memory runs out. No device is touched.
@@ -52,6 +55,9 @@ use std::thread::Threads;
 /// - If a version was to be restored (`IsRestoredCall`), there are no entries, and after a crash at any moment the files
 ///   stand for what they stood for or for the restored version alone: after `Done` and `WriteFault` for the restored
 ///   version, and after every other end but `DiskFault` for what they stood for.
+/// - If the total of the recorded roots was to be written (`IsHistoryCall`), there are no entries, no call is made on the
+///   disk after the opening, and the text is that of the versions and the number; `Outside` comes exactly if the version's
+///   root isn't recorded.
 /// - If no store was opened (`IsClosedCall`), there are no entries and the files are unchanged. One exception: a call
 ///   that ends with `DiskFault` may have begun files without a record, which still stand for a new store.
 /// - In the mode `verify` (`IsJudgedCall`), the verdicts were written, as far as the status says.
@@ -68,6 +74,7 @@ pub fn run_words<S: Source, K: Sink, D: Disk, H: Threads + Wait + Sync, G: Gate>
     ensures silent { IsFalse (is_verify (asked words.now)) → IfNone result.start ((source.new ≡ source.old) × (sink.new ≡ sink.old)) }
     ensures unserved { IfServes (asked words.now) ((result.status ≡ Status.InputFull) ⊎ (result.status ≡ Status.ReadFault) → sink.new ≡ sink.old) }
     ensures unread { IfGenerates (asked words.now) (λ seed batches size. source.new ≡ source.old) }
+    ensures no_input { IfHistory (asked words.now) (source.new ≡ source.old) }
     ensures occupied { IfRestores (asked words.now) (λ version root. (head : ℕ) → result.status ≡ Status.Refused (RestoreFault.NotEmpty head) → (source.new ≡ source.old) × (sink.new ≡ sink.old)) }
     ensures kept { KeepsPromises (program_call (asked words.now) (devices (D.history disk) (D.moment disk) (D.faults disk) (S.rest source.old) (S.faults source.old) (K.text sink.old) (K.faults sink.old)) (devices (D.history result.disk) (D.moment result.disk) (D.faults result.disk) (S.rest source.new) (S.faults source.new) (K.text sink.new) (K.faults sink.new)) result.status result.entries result.start) }
 {
@@ -95,5 +102,6 @@ pub fn run_words<S: Source, K: Sink, D: Disk, H: Threads + Wait + Sync, G: Gate>
             root,
             workers,
         } => restore_version(rt, alloc, version, root, workers, source, sink, disk),
+        Mode::History { version } => prove_root(rt, alloc, version, sink, disk),
     }
 }

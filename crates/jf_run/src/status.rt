@@ -2,7 +2,7 @@
 ghost use Rattle.std.specs.Prelude.{◌≡◌, [], None};
 ghost use Rattle.std.specs.List.{list_any};
 ghost use Rattle.jf_serve.specs.Served.{ran_out_of_memory};
-ghost use Rattle.jf_run.specs.Statuses.{code_of, is_stopped_by_disk, status_of, status_of_ends, status_of_input_fault, status_of_received, status_of_refusal, status_of_served, status_of_verified};
+ghost use Rattle.jf_run.specs.Statuses.{code_of, is_stopped_by_disk, status_of, status_of_ends, status_of_history, status_of_input_fault, status_of_received, status_of_refusal, status_of_served, status_of_verified};
 
 use jf_disk::Side;
 use jf_engine::{EngineMemory, OpenFault};
@@ -11,6 +11,7 @@ use jf_model::Ledger;
 use jf_receive::{Received, RestoreFault};
 use jf_report::ReportFault;
 use jf_scripts::InputFault;
+use jf_totals::HistoryFault;
 use jf_verify::Verified;
 use std::alloc::Global;
 
@@ -36,6 +37,9 @@ pub enum Status {
     Memory,
     /// No version was restored, for this reason. The files stand for what they stood for.
     Refused(RestoreFault),
+    /// The root of the version isn't recorded: these are the least and the greatest version whose root is. Nothing was
+    /// written.
+    Outside { least: u64, head: u64 },
 }
 
 /// What a call of the program hands back: how it ended, the disk, the entries of its ledger, and the newest version
@@ -101,6 +105,18 @@ impl Status {
         }
     }
 
+    /// The status after the total of the recorded roots was to be written.
+    pub fn of_history(written: Result<(), HistoryFault>) -> Status
+        ensures { result ≡ status_of_history written }
+    {
+        match written {
+            Ok(()) => Status::Done,
+            Err(HistoryFault::Outside { least, head }) => Status::Outside { least, head },
+            Err(HistoryFault::WriteFault) => Status::WriteFault,
+            Err(HistoryFault::Memory) => Status::Memory,
+        }
+    }
+
     /// The status if the scripts of several sessions could not be read.
     pub fn of_input_fault(why: InputFault) -> Status
         ensures { result ≡ status_of_input_fault why }
@@ -136,7 +152,7 @@ impl Status {
         other
     }
 
-    /// The exit status of the process: 0 to 8.
+    /// The exit status of the process: 0 to 9.
     pub fn code(self) -> u8
         ensures { result ≡ code_of self }
     {
@@ -150,6 +166,7 @@ impl Status {
             Status::InputFull => 6,
             Status::Memory => 7,
             Status::Refused(_) => 8,
+            Status::Outside { .. } => 9,
         }
     }
 }

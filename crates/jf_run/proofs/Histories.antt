@@ -1,0 +1,86 @@
+-- What a call promises that opened the store and was to write the total of the recorded roots.
+use Rattle.std.proofs.Common.{◌≡◌, ◌≢◌, ◌∙◌, refl, sym, ap, subst, ℕ, ◌≤◌, List, [], Option, Some, None, Ok, Err, Result, inl, inr, le_refl, true, IsTrue}
+use Rattle.jf_path.specs.Faults.{HasCause}
+use Rattle.jf_model.specs.States.{State}
+use Rattle.jf_disk.specs.Disk.{History}
+use Rattle.jf_disk.specs.declared.side.Side.{Side}
+use Rattle.jf_files.specs.Laws.{FilesStandForOne, DamageIsNoVersions}
+use Rattle.jf_totals.specs.Written.{WritesHistory}
+use Rattle.jf_totals.specs.declared.fault.HistoryFault.{HistoryFault}
+use Rattle.jf_totals.specs.declared.fault.HistoryFault.TheVariants as fault
+use Rattle.jf_words.specs.Modes.{is_history}
+use Rattle.jf_words.specs.declared.modes.Mode.TheVariants as mode
+use Rattle.jf_run.specs.Statuses.{status_of_history}
+use Rattle.jf_run.specs.Calls.{ProgramCall}
+use Rattle.jf_run.specs.Runs.{IsBegun, KeepsEntries}
+use Rattle.jf_run.specs.Restoring.{StaysHeld}
+use Rattle.jf_run.specs.Promises.{EndsWell, KeepsPromises}
+use Rattle.jf_run.specs.declared.status.Status.TheVariants as status
+use Rattle.jf_run.proofs.Opened.{TellsEnd, opened_keeps}
+
+abbrev How : Type 0
+How = Result (Unit {0}) HistoryFault
+
+-- ---- the status
+no_usage : (how : How) → status_of_history how ≡ status.Usage → ⊥
+no_usage (Ok u) e = absurd (cc)
+no_usage (Err (fault.Outside least head)) e = absurd (cc)
+no_usage (Err fault.WriteFault) e = absurd (cc)
+no_usage (Err fault.Memory) e = absurd (cc)
+
+no_damage : (how : How) (side : Side) (at : ℕ) → status_of_history how ≡ status.Damaged side at → ⊥
+no_damage (Ok u) side at e = absurd (cc)
+no_damage (Err (fault.Outside least head)) side at e = absurd (cc)
+no_damage (Err fault.WriteFault) side at e = absurd (cc)
+no_damage (Err fault.Memory) side at e = absurd (cc)
+
+no_read : (how : How) → status_of_history how ≡ status.ReadFault → ⊥
+no_read (Ok u) e = absurd (cc)
+no_read (Err (fault.Outside least head)) e = absurd (cc)
+no_read (Err fault.WriteFault) e = absurd (cc)
+no_read (Err fault.Memory) e = absurd (cc)
+
+no_disk : (how : How) → status_of_history how ≡ status.DiskFault → ⊥
+no_disk (Ok u) e = absurd (cc)
+no_disk (Err (fault.Outside least head)) e = absurd (cc)
+no_disk (Err fault.WriteFault) e = absurd (cc)
+no_disk (Err fault.Memory) e = absurd (cc)
+
+write_told : (how : How) → status_of_history how ≡ status.WriteFault → how ≡ Err fault.WriteFault
+write_told (Ok u) e = absurd (cc)
+write_told (Err (fault.Outside least head)) e = absurd (cc)
+write_told (Err fault.WriteFault) e = refl
+write_told (Err fault.Memory) e = absurd (cc)
+
+-- if the sink didn't fail, such a call ends well
+ended_well : (c : ProgramCall) (how : How) → c.status ≡ status_of_history how → IsTrue (is_history c.asks) → (c.status ≡ status.WriteFault → ⊥) → EndsWell c
+ended_well c (Ok u) is asks w = inl is
+ended_well c (Err (fault.Outside least head)) is asks w = inr (inr (inr (inr (least, head, is, asks))))
+ended_well c (Err fault.WriteFault) is asks w = absurd (w is)
+ended_well c (Err fault.Memory) is asks w = inr (inl is)
+
+-- ---- the files
+-- after an opening that no call on the disk follows they stand for the versions from before it
+held : (c : ProgramCall) (head : ℕ) (s : State) → IsBegun s c.before.disk c.after.disk head → StaysHeld c.before.disk.history c.after.disk.history s.all s.generation
+held c head s begun = record {
+  settled = begun.opening.settled;
+  stops = λ h told. let opening = begun.opening.disk h told in (opening.0, opening.1, λ calm. opening.2.stops s.all calm (begun.opening.found h told).0);
+}
+
+-- ---- the call
+pub history_keeps : (c : ProgramCall) (version head : ℕ) (s : State) (how : How) → IsBegun s c.before.disk c.after.disk head → KeepsEntries s c.after.disk c.after.disk c.entries None → FilesStandForOne → DamageIsNoVersions
+    → c.asks ≡ Some (mode.History version) → c.start ≡ Some head → c.status ≡ status_of_history how → c.entries ≡ [] → WritesHistory how s.all version c.before.text c.after.text
+    → c.after.rest ≡ c.before.rest → c.after.source_faults ≡ c.before.source_faults → (how ≡ Err fault.WriteFault → HasCause c.before.sink_faults c.after.sink_faults) → c.before.sink_faults ≤ c.after.sink_faults → KeepsPromises c
+history_keeps c version head s how begun kept one none_stand asks start is none written rest faults write sink =
+    let tells : TellsEnd c c.after.disk None = record {
+      usage = λ u. no_usage how (sym is ∙ u);
+      damage = λ side at d. no_damage how side at (sym is ∙ d);
+      read = λ r. absurd (no_read how (sym is ∙ r));
+      write = λ w. write (write_told how (sym is ∙ w));
+      failed = λ d. absurd (no_disk how (sym is ∙ d));
+      untried = λ sound. refl;
+      well = λ r w d. ended_well c how is (ap is_history asks) w;
+    } in
+    opened_keeps c head s c.after.disk None begun kept one none_stand (mode.History version) asks refl refl start tells
+    (record { state = s; begun = begun; files = held c head s begun; entries = none; how = how; status_is = is; written = written; unread = (rest, faults) })
+    (subst (λ k. c.before.source_faults ≤ k) (sym faults) (le_refl c.before.source_faults)) sink
