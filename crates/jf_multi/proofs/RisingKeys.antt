@@ -4,6 +4,7 @@ use Rattle.std.specs.FinMap.{is_sorted}
 use Rattle.std.specs.FinMap.Entries.{below_all}
 use Rattle.std.specs.Ordering.{is_lt}
 use Rattle.std.proofs.Common.{refl, sym, ap, ◌∙◌, arith, subst, get_or, drop-cons, add-one}
+use Rattle.std.proofs.lemmas.List.{at_drop_more}
 use Rattle.jf_path.specs.Keys.{key_cmp}
 use Rattle.jf_path.proofs.BoolLaws.{true_from_T}
 use Rattle.jf_path.proofs.OrderLaws.{Less-from_is_lt}
@@ -30,7 +31,7 @@ two_next i keys a b some lt =
     ∙ ap (λ (ks : List (List ℕ)). get_or keys (i - 1) a ∷ ks) (rw add-one (drop-cons keys i b lt))
 
 next_keys : (i : ℕ) (keys : List (List ℕ)) (b : List ℕ) → i < length keys → drop i keys ≡ get_or keys i b ∷ drop (i + 1) keys
-next_keys i keys b lt = rw add-one (drop-cons keys i b lt)
+next_keys i keys b lt = at_drop_more (λ (ks : List (List ℕ)). ks) keys i b lt
 
 -- whether keys rise from a place on, by the next two
 rising_step : (i : ℕ) (keys : List (List ℕ)) (a b : List ℕ) → 1 ≤ i → i < length keys

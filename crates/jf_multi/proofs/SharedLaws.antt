@@ -31,24 +31,24 @@ tree_root-shared_below (suc n) d (e ∷ f ∷ es) (k ∷ ks) fuel =
     ∙ sym (leaves_root-split d all (omega arith) (omega arith))
 
 -- ---- its single proofs
--- a key is one of some keys
-abbrev pub IsAmong : List ℕ → List (List ℕ) → Type 0
-IsAmong key [] = ⊥
-IsAmong key (k ∷ ks) = (key ≡ k) ⊎ IsAmong key ks
+-- a key is one of those that are asked for
+abbrev pub IsAsked : List ℕ → List (List ℕ) → Type 0
+IsAsked key [] = ⊥
+IsAsked key (k ∷ ks) = (key ≡ k) ⊎ IsAsked key ks
 
-among_filter : (p : List ℕ → Bool) (key : List ℕ) (keys : List (List ℕ)) → p key ≡ true → IsAmong key keys → IsAmong key (filter p keys)
+among_filter : (p : List ℕ → Bool) (key : List ℕ) (keys : List (List ℕ)) → p key ≡ true → IsAsked key keys → IsAsked key (filter p keys)
 among_filter p key [] is among = absurd among
 among_filter p key (k ∷ ks) is (inl e) = rw (ap p (sym e) ∙ is) (inl e)
 among_filter p key (k ∷ ks) is (inr later) =
     let rest = among_filter p key ks is later in
-    elim (p k) as (λ b. IsAmong key (cond b (k ∷ filter p ks) (filter p ks))) [ true ↦ inr rest | false ↦ rest ]
+    elim (p k) as (λ b. IsAsked key (cond b (k ∷ filter p ks) (filter p ks))) [ true ↦ inr rest | false ↦ rest ]
 
-pub all_among : (P : List ℕ → Type 0) (keys : List (List ℕ)) → ((k : List ℕ) → IsAmong k keys → P k) → AllByRecursion P keys
+pub all_among : (P : List ℕ → Type 0) (keys : List (List ℕ)) → ((k : List ℕ) → IsAsked k keys → P k) → AllByRecursion P keys
 all_among P [] h = tt
 all_among P (k ∷ ks) h = (h k (inl refl), all_among P ks (λ q among. h q (inr among)))
 
 -- the single proof of each key is the honest one
-pub single_proof-shared_below : (n d : ℕ) (key : List ℕ) (es : List Leaf) (keys : List (List ℕ)) → n ≡ 256 - d → IsAmong key keys → single_proof d key (shared_below n d es keys) ≡ Some (honest_below n d key es)
+pub single_proof-shared_below : (n d : ℕ) (key : List ℕ) (es : List Leaf) (keys : List (List ℕ)) → n ≡ 256 - d → IsAsked key keys → single_proof d key (shared_below n d es keys) ≡ Some (honest_below n d key es)
 unfolding single_proof shared_below honest_below
 single_proof-shared_below n d key es [] fuel among = absurd among
 single_proof-shared_below n d key [] (k ∷ ks) fuel among = refl
