@@ -57,13 +57,13 @@ answered s own line c short read = ap (λ b. cond b (too_long s own) (answer_to 
 pub unrefused : (s : State) (own : Own) (c : Command) → refused_by s own c ≡ None → answer_command s own c ≡ granted c s own
 unrefused s own c free = ap (λ (o : Option Refusal). elim o as (λ x. Answer) [ Some why ↦ replied (reply.No why) s own | None ↦ granted c s own ]) free
 
-pub root_to : (s : State) (own : Own) (on : Base) → IsKeptBase s own on → answer_to (Some (command.Root on)) s own ≡ replied (reply.Root (root (base_map s own on))) s own
+root_to : (s : State) (own : Own) (on : Base) → IsKeptBase s own on → answer_to (Some (command.Root on)) s own ≡ replied (reply.Root (root (base_map s own on))) s own
 root_to s own base.Head kept = unrefused s own (command.Root base.Head) (not_refused s own base.Head [] kept).0
 root_to s own (base.Version w) kept = unrefused s own (command.Root (base.Version w)) (not_refused s own (base.Version w) [] kept).0
 root_to s own (base.Fork id) kept = absurd kept
 root_to s own (base.Place place) kept = unrefused s own (command.Root (base.Place place)) (not_refused s own (base.Place place) [] kept).0
 
-pub prove_to : (s : State) (own : Own) (on : Base) (name : List ℕ) → IsKeptBase s own on → answer_to (Some (command.Prove on name)) s own ≡ proved (base_map s own on) name s own
+prove_to : (s : State) (own : Own) (on : Base) (name : List ℕ) → IsKeptBase s own on → answer_to (Some (command.Prove on name)) s own ≡ proved (base_map s own on) name s own
 prove_to s own base.Head name kept = unrefused s own (command.Prove base.Head name) (not_refused s own base.Head name kept).1
 prove_to s own (base.Version w) name kept = unrefused s own (command.Prove (base.Version w) name) (not_refused s own (base.Version w) name kept).1
 prove_to s own (base.Fork id) name kept = absurd kept

@@ -1,7 +1,7 @@
 -- All that a session was answered, judged as it is.
 use Rattle.std.specs.Prelude.{unwrap_or}
 use Rattle.std.specs.List.{AllByRecursion}
-use Rattle.std.proofs.Common.{◌≡◌, inl, inr, ℕ, zero, suc, ◌+◌, ◌-◌, ◌^◌, ◌<◌, ◌≤◌, Bool, true, false, List, [], ◌∷◌, ◌++◌, length, drop, flat_map, Option, Some, Ok, codes, refl, sym, ap, ap₂, ◌∙◌, subst, arith, append_assoc, append-nil, length-append}
+use Rattle.std.proofs.Common.{◌≡◌, inl, inr, ℕ, zero, suc, ◌+◌, ◌-◌, ◌^◌, ◌<◌, ◌≤◌, List, [], ◌∷◌, ◌++◌, length, drop, flat_map, Option, IfSome, Some, None, Ok, codes, refl, sym, ap, ap₂, ◌∙◌, subst, arith, append_assoc, append-nil, length-append}
 use Rattle.std.specs.FinMap as fin
 use Rattle.jf_hash.specs.Hashes.{K}
 use Rattle.jf_hash.specs.Maps.{Map, IsMap}
@@ -24,10 +24,10 @@ use Rattle.jf_verify.specs.Verdicts.{Judging, say, syntax_text, verdicts_from, v
 use Rattle.jf_verify.specs.declared.accepted.Accepted.{Accepted}
 use Rattle.jf_answers.specs.Answers.{Answer, replied, proved}
 use Rattle.jf_answers.specs.Runs.{answer_text}
-use Rattle.jf_client.specs.RunLaws.{Heard, answer_heard, text_heard, told_by, syntax_lines, judged_from, AsksRoot, AsksProof, IsOther, AreHeardOn, WholeRunsAreJudged}
+use Rattle.jf_client.specs.RunLaws.{Heard, answer_heard, text_heard, told_by, syntax_lines, judged_from, AsksRoot, AsksProof, IsOther, AreHeardOn, IsAskedOf, WholeRunsAreJudged}
 use Rattle.jf_client.proofs.Told.{hash_of_key, honest-told}
 use Rattle.jf_client.proofs.Judged.{root_step, block_step, end_step, knows}
-use Rattle.jf_client.proofs.Replies.{answered, root_to, prove_to}
+use Rattle.jf_client.proofs.Replies.{answered, unrefused}
 use Rattle.jf_client.proofs.OtherLines.{IsNoFirst, other_lines_of}
 use Rattle.jf_client.proofs.CountedLines.{Counted, proof_block-counted}
 use Rattle.jf_client.proofs.HonestClaims.{IsOf, all_more, judged-honest}
@@ -52,23 +52,37 @@ syntax_steps n at j (x ∷ xs) ls none =
     ∙ sym (append_assoc (syntax_text at) (syntax_lines (at + 1) (length xs)) (verdicts_from n j (record { at = at + length (x ∷ xs); left = ls })))
 
 -- ---- all replies
-module _ (back : BlocksAreReadBack) (begins : RepliesBeginBlocks) (sets : RepliesSetRoots) (accepted : HonestClaimsAreAccepted) (m : Map) (is_map : IsMap m) where
-  root_text : (h : Heard) → AsksRoot m h → answer_heard h ≡ replied (reply.Root (root m)) h.state h.own
-  root_text h a = answered h.state h.own h.line (command.Root a.on) a.short a.is ∙ root_to h.state h.own a.on a.kept ∙ ap (λ (w : Map). replied (reply.Root (root w)) h.state h.own) a.map_is
+-- `asked` holds of the maps whose roots all lines ask for, those judged before included
+module _ (back : BlocksAreReadBack) (begins : RepliesBeginBlocks) (sets : RepliesSetRoots) (accepted : HonestClaimsAreAccepted) (asked : Map → Type 0)
+    (one_map : (m m' : Map) → asked m → asked m' → root m ≡ root m' → m ≡ m') where
+  root_text : (m : Map) (h : Heard) → AsksRoot m h → answer_heard h ≡ replied (reply.Root (root m)) h.state h.own
+  root_text m h a =
+      answered h.state h.own h.line (command.Root a.on) a.short a.is ∙ unrefused h.state h.own (command.Root a.on) a.granted ∙ ap (λ (w : Map). replied (reply.Root (root w)) h.state h.own) a.map_is
 
-  proof_text : (h : Heard) (a : AsksProof m h) → answer_heard h ≡ proved m a.name h.state h.own
-  proof_text h a = answered h.state h.own h.line (command.Prove a.on a.name) a.short a.is ∙ prove_to h.state h.own a.on a.name a.kept ∙ ap (λ (w : Map). proved w a.name h.state h.own) a.map_is
+  proof_text : (m : Map) (h : Heard) (a : AsksProof m h) → answer_heard h ≡ proved m a.name h.state h.own
+  proof_text m h a =
+      answered h.state h.own h.line (command.Prove a.on a.name) a.short a.is ∙ unrefused h.state h.own (command.Prove a.on a.name) a.granted ∙ ap (λ (w : Map). proved w a.name h.state h.own) a.map_is
+
+  -- this map's root is set, and was asked for
+  record IsSet (j : Judging) (m : Map) : Type 0 where
+    root_is : j.root ≡ Some (root m)
+    is_map : IsMap m
+    among : asked m
 
   -- what is known after some replies
-  record Knows (set : Bool) (j : Judging) : Type 0 where
-    root_is : set ≡ true → j.root ≡ Some (root m)
-    claims : AllByRecursion (IsOf m) j.claims
+  record Knows (last : Option Map) (j : Judging) : Type 0 where
+    set : IfSome last (IsSet j)
+    claims : AllByRecursion (IsOf asked) j.claims
 
   abbrev texts : List Heard → List ℕ
   texts hs = flat_map text_heard hs
 
   abbrev Goal : List Heard → Type 0
-  Goal hs = (set : Bool) (n at : ℕ) (j : Judging) → AreHeardOn m set hs → Knows set j → length (lines (texts hs)) ≤ n → verdicts_from n j (record { at = at; left = lines (texts hs) }) ≡ judged_from at hs
+  Goal hs = (last : Option Map) (n at : ℕ) (j : Judging) → AreHeardOn last hs → Knows last j → length (lines (texts hs)) ≤ n → verdicts_from n j (record { at = at; left = lines (texts hs) }) ≡ judged_from at hs
+
+  -- all maps whose roots these lines ask for are among the maps
+  abbrev AreAmong : List Heard → Type 0
+  AreAmong hs = (m : Map) → IsAskedOf hs m → asked m
 
   -- from a text of so many lines, and what it is told
   told_more : (h : Heard) (hs : List Heard) (at many : ℕ) (told text : List ℕ) → many ≡ length (lines (text_heard h)) → unwrap_or (told_by (answer_heard h).reply) (syntax_lines at (length (lines (text_heard h)))) ≡ told → text ≡ judged_from (at + many) hs
@@ -80,29 +94,29 @@ module _ (back : BlocksAreReadBack) (begins : RepliesBeginBlocks) (sets : Replie
   lines_alone h xs whole = sym (ap length (ap lines (sym (append-nil (text_heard h))) ∙ whole [] ∙ ap (λ (ls : List (List ℕ)). xs ++ ls) lines-none ∙ append-nil xs))
 
   -- ---- a root
-  root_lines : (h : Heard) → h.number < 2 ^ 64 → AsksRoot m h → (rest : List ℕ) → (line : List ℕ) × (lines (text_heard h ++ rest) ≡ line ∷ lines rest) × (line_read first_line_of line ≡ Some (first.Root (root m)))
-  root_lines h small a rest =
+  root_lines : (m : Map) (h : Heard) → h.number < 2 ^ 64 → AsksRoot m h → (rest : List ℕ) → (line : List ℕ) × (lines (text_heard h ++ rest) ≡ line ∷ lines rest) × (line_read first_line_of line ≡ Some (first.Root (root m)))
+  root_lines m h small a rest =
       let one = sets h.number (root m) rest small (hash_of_key (root m) (root-IsKey m)) in
-      (one.0, ap (λ (x : Answer). lines (answer_text h.number x ++ rest)) (root_text h a) ∙ ap (λ (t : List ℕ). lines (t ++ rest)) (append-nil (reply_text h.number (reply.Root (root m)))) ∙ one.1, one.2)
+      (one.0, ap (λ (x : Answer). lines (answer_text h.number x ++ rest)) (root_text m h a) ∙ ap (λ (t : List ℕ). lines (t ++ rest)) (append-nil (reply_text h.number (reply.Root (root m)))) ∙ one.1, one.2)
 
-  root_first : (h : Heard) (hs : List Heard) → Goal hs → h.number < 2 ^ 64 → AsksRoot m h → AreHeardOn m true hs → (n at : ℕ) (j : Judging) → AllByRecursion (IsOf m) j.claims → length (lines (texts (h ∷ hs))) ≤ n
+  root_first : (m : Map) (h : Heard) (hs : List Heard) → Goal hs → h.number < 2 ^ 64 → AsksRoot m h → asked m → AreHeardOn (Some m) hs → (n at : ℕ) (j : Judging) → AllByRecursion (IsOf asked) j.claims → length (lines (texts (h ∷ hs))) ≤ n
       → verdicts_from n j (record { at = at; left = lines (texts (h ∷ hs)) }) ≡ judged_from at (h ∷ hs)
-  root_first h hs later small a more zero at j claims enough = let one = root_lines h small a (texts hs) in let many = ap length one.1 in absurd (omega arith)
-  root_first h hs later small a more (suc n) at j claims enough =
-      let one = root_lines h small a (texts hs) in
-      let alone = root_lines h small a [] in
+  root_first m h hs later small a among more zero at j claims enough = let one = root_lines m h small a (texts hs) in let many = ap length one.1 in absurd (omega arith)
+  root_first m h hs later small a among more (suc n) at j claims enough =
+      let one = root_lines m h small a (texts hs) in
+      let alone = root_lines m h small a [] in
       let many = ap length one.1 in
       let single : 1 ≡ length (lines (text_heard h)) = sym (ap length (ap lines (sym (append-nil (text_heard h))) ∙ alone.1 ∙ ap (λ (ls : List (List ℕ)). alone.0 ∷ ls) lines-none)) in
       ap (λ (ls : List (List ℕ)). verdicts_from (suc n) j (record { at = at; left = ls })) one.1
       ∙ root_step n at j one.0 (lines (texts hs)) (root m) one.2
       ∙ told_more h hs at 1 [] (verdicts_from n (record { root = Some (root m); claims = j.claims }) (record { at = at + 1; left = lines (texts hs) })) single
-      (ap (λ (x : Answer). unwrap_or (told_by x.reply) (syntax_lines at (length (lines (text_heard h))))) (root_text h a))
-      (later true n (at + 1) (record { root = Some (root m); claims = j.claims }) more (record { root_is = λ set. refl; claims = claims }) (omega arith))
+      (ap (λ (x : Answer). unwrap_or (told_by x.reply) (syntax_lines at (length (lines (text_heard h))))) (root_text m h a))
+      (later (Some m) n (at + 1) (record { root = Some (root m); claims = j.claims }) more (record { set = record { root_is = refl; is_map = a.sound; among = among }; claims = claims }) (omega arith))
 
   -- ---- another reply
-  other_reply : (h : Heard) (hs : List Heard) → Goal hs → h.number < 2 ^ 64 → IsOther h → (set : Bool) → AreHeardOn m set hs → (n at : ℕ) (j : Judging) → Knows set j → length (lines (texts (h ∷ hs))) ≤ n
+  other_reply : (h : Heard) (hs : List Heard) → Goal hs → h.number < 2 ^ 64 → IsOther h → (last : Option Map) → AreHeardOn last hs → (n at : ℕ) (j : Judging) → Knows last j → length (lines (texts (h ∷ hs))) ≤ n
       → verdicts_from n j (record { at = at; left = lines (texts (h ∷ hs)) }) ≡ judged_from at (h ∷ hs)
-  other_reply h hs later small o set more n at j known enough =
+  other_reply h hs later small o last more n at j known enough =
       let of = other_lines_of h small o in
       let xs : List (List ℕ) = of.0 in
       let all : lines (texts (h ∷ hs)) ≡ xs ++ lines (texts hs) = of.1.whole (texts hs) in
@@ -114,10 +128,10 @@ module _ (back : BlocksAreReadBack) (begins : RepliesBeginBlocks) (sets : Replie
       ∙ syntax_steps k at j xs (lines (texts hs)) of.1.none
       ∙ told_more h hs at (length xs) (syntax_lines at (length xs)) (verdicts_from k j (record { at = at + length xs; left = lines (texts hs) })) single
       (ap (λ (r : Option (List ℕ)). unwrap_or r (syntax_lines at (length (lines (text_heard h))))) o.untold ∙ ap (syntax_lines at) (sym single))
-      (later set k (at + length xs) j more known (omega arith))
+      (later last k (at + length xs) j more known (omega arith))
 
   -- ---- a proof
-  module _ (h : Heard) (small : h.number < 2 ^ 64) (a : AsksProof m h) where
+  module _ (m : Map) (h : Heard) (small : h.number < 2 ^ 64) (a : AsksProof m h) (is_map : IsMap m) where
     abbrev claim : Option (List ℕ)
     claim = fin.get m (K a.name)
 
@@ -133,7 +147,7 @@ module _ (back : BlocksAreReadBack) (begins : RepliesBeginBlocks) (sets : Replie
     proof_first : (rest : List ℕ) → (line : List ℕ) × (lines (text_heard h ++ rest) ≡ line ∷ lines (block ++ rest)) × (line_read first_line_of line ≡ Some (first.Proof k))
     proof_first rest =
         let one = begins h.number k (block ++ rest) small (omega (arith, honest-short m (K a.name))) in
-        (one.0, ap (λ (x : Answer). lines (answer_text h.number x ++ rest)) (proof_text h a) ∙ ap lines (append_assoc (reply_text h.number (reply.Proof k)) block rest) ∙ one.1, one.2)
+        (one.0, ap (λ (x : Answer). lines (answer_text h.number x ++ rest)) (proof_text m h a) ∙ ap lines (append_assoc (reply_text h.number (reply.Proof k)) block rest) ∙ one.1, one.2)
 
     block_read : (at : ℕ) (rest : List ℕ) → proof_block k (record { at = at; left = lines (block ++ rest) }) ≡ Ok ((a.name, claim, proof), record { at = at + 3 + k; left = lines rest })
     block_read at rest = back a.name claim proof at rest (honest-told m a.name is_map a.fits)
@@ -150,10 +164,10 @@ module _ (back : BlocksAreReadBack) (begins : RepliesBeginBlocks) (sets : Replie
         let own : length (lines (text_heard h)) ≡ suc (length (lines (block ++ []))) = ap length (ap lines (sym (append-nil (text_heard h))) ∙ alone.1) in
         omega arith
 
-    proof_reply : (hs : List Heard) → Goal hs → (set : Bool) → AreHeardOn m set hs → (n at : ℕ) (j : Judging) → Knows set j → j.root ≡ Some (root m) → length (lines (texts (h ∷ hs))) ≤ n
+    proof_reply : (hs : List Heard) → Goal hs → (last : Option Map) → last ≡ Some m → asked m → AreHeardOn last hs → (n at : ℕ) (j : Judging) → j.root ≡ Some (root m) → AllByRecursion (IsOf asked) j.claims → length (lines (texts (h ∷ hs))) ≤ n
         → verdicts_from n j (record { at = at; left = lines (texts (h ∷ hs)) }) ≡ judged_from at (h ∷ hs)
-    proof_reply hs later set more zero at j known rooted enough = let one = proof_first (texts hs) in let many = ap length one.1 in absurd (omega arith)
-    proof_reply hs later set more (suc n) at j known rooted enough =
+    proof_reply hs later last is among more zero at j rooted claims enough = let one = proof_first (texts hs) in let many = ap length one.1 in absurd (omega arith)
+    proof_reply hs later last is among more (suc n) at j rooted claims enough =
         let rest = texts hs in
         let one = proof_first rest in
         let many = ap length one.1 in
@@ -161,27 +175,33 @@ module _ (back : BlocksAreReadBack) (begins : RepliesBeginBlocks) (sets : Replie
         let place : Place = record { at = at + 1 + 3 + k; left = lines rest } in
         let x : Accepted = record { root = root m; judged = judged_of (a.name, claim, proof) } in
         let next : Judging = knows (root m) (j.claims ++ x ∷ []) in
-        let here = judged-honest m j.claims (judged_of (a.name, claim, proof)) (accepted m (K a.name) is_map) refl known.claims in
+        let here = judged-honest asked one_map m j.claims (judged_of (a.name, claim, proof)) among (accepted m (K a.name) is_map) refl claims in
         ap₂ (λ (r : Option (List ℕ)) (ls : List (List ℕ)). verdicts_from (suc n) (record { root = r; claims = j.claims }) (record { at = at; left = ls })) rooted one.1
         ∙ block_step n at (root m) j.claims one.0 (lines (block ++ rest)) k a.name claim proof place one.2 (block_read (at + 1) rest)
         ∙ ap (λ (p : List ℕ × List Accepted). p.0 ++ verdicts_from n (knows (root m) p.1) place) here
         ∙ ap (λ q. codes "accepted\n" ++ verdicts_from n next (record { at = q; left = lines rest })) (let e : at + 1 + 3 + k ≡ at + (4 + k) = omega arith in e)
         ∙ told_more h hs at (4 + k) (codes "accepted\n") (verdicts_from n next (record { at = at + (4 + k); left = lines rest })) proof_alone
-        (ap (λ (y : Answer). unwrap_or (told_by y.reply) (syntax_lines at (length (lines (text_heard h))))) (proof_text h a))
-        (later set n (at + (4 + k)) next more (record { root_is = λ is. refl; claims = all_more m j.claims x known.claims refl }) (omega arith))
+        (ap (λ (y : Answer). unwrap_or (told_by y.reply) (syntax_lines at (length (lines (text_heard h))))) (proof_text m h a))
+        (later last n (at + (4 + k)) next more
+        (record { set = subst (λ (o : Option Map). IfSome o (IsSet next)) (sym is) (record { root_is = refl; is_map = is_map; among = among }); claims = all_more (IsOf asked) j.claims x claims (m, among, refl, refl) })
+        (omega arith))
 
   -- ---- all of them
-  all_judged : (hs : List Heard) → Goal hs
-  all_judged [] set n at j heard known enough = ap (λ (ls : List (List ℕ)). verdicts_from n j (record { at = at; left = ls })) lines-none ∙ end_step n j at
-  all_judged (h ∷ hs) set n at j heard known enough = elim heard.1 as (λ x. verdicts_from n j (record { at = at; left = lines (texts (h ∷ hs)) }) ≡ judged_from at (h ∷ hs)) [
-    | inl r ↦ root_first h hs (all_judged hs) heard.0 r.0 r.1 n at j known.claims enough
-    | inr x ↦ elim x as (λ y. verdicts_from n j (record { at = at; left = lines (texts (h ∷ hs)) }) ≡ judged_from at (h ∷ hs)) [
-      | inl p ↦ proof_reply h heard.0 p.1 hs (all_judged hs) set p.2 n at j known (known.root_is p.0) enough
-      | inr o ↦ other_reply h hs (all_judged hs) heard.0 o.0 set o.1 n at j known enough
-    ]
-  ]
+  all_judged : (hs : List Heard) → AreAmong hs → Goal hs
+  all_judged [] among last n at j heard known enough = ap (λ (ls : List (List ℕ)). verdicts_from n j (record { at = at; left = ls })) lines-none ∙ end_step n j at
+  all_judged (h ∷ hs) among last n at j heard known enough =
+      let later : Goal hs = all_judged hs (λ m is. among m (inr is)) in
+      elim heard.1 as (λ x. verdicts_from n j (record { at = at; left = lines (texts (h ∷ hs)) }) ≡ judged_from at (h ∷ hs)) [
+        | inl r ↦ root_first r.0 h hs later heard.0 r.1 (among r.0 (inl r.1)) r.2 n at j known.claims enough
+        | inr x ↦ elim x as (λ y. verdicts_from n j (record { at = at; left = lines (texts (h ∷ hs)) }) ≡ judged_from at (h ∷ hs)) [
+          | inl p ↦
+              let set : IsSet j p.0 = subst (λ (o : Option Map). IfSome o (IsSet j)) p.1 known.set in
+              proof_reply p.0 h heard.0 p.2 set.is_map hs later last p.1 set.among p.3 n at j set.root_is known.claims enough
+          | inr o ↦ other_reply h hs later heard.0 o.0 last o.1 n at j known enough
+        ]
+      ]
 
 pub runs-judged : BlocksAreReadBack → RepliesBeginBlocks → RepliesSetRoots → HonestClaimsAreAccepted → WholeRunsAreJudged
 unfolding verdicts
-runs-judged back begins sets accepted m hs is_map heard =
-    all_judged back begins sets accepted m is_map hs false (length (lines (flat_map text_heard hs))) 1 nothing_known heard (record { root_is = λ is. absurd (cc); claims = tt }) (omega arith)
+runs-judged back begins sets accepted hs one_map heard =
+    all_judged back begins sets accepted (IsAskedOf hs) one_map hs (λ m is. is) None (length (lines (flat_map text_heard hs))) 1 nothing_known heard (record { set = tt; claims = tt }) (omega arith)

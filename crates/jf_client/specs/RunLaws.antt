@@ -1,8 +1,9 @@
 -- A client that judges all that a session was answered, as a statement for a call that does nothing and ensures it.
-use Rattle.std.specs.Prelude.{◌≡◌, ◌⊎◌, ℕ, zero, suc, ◌+◌, ◌^◌, ◌<◌, Bool, true, false, List, [], ◌∷◌, ◌++◌, length, flat_map, Option, Some, None, unwrap_or, codes}
+use Rattle.std.specs.Prelude.{◌≡◌, ◌⊎◌, ℕ, zero, suc, ◌+◌, ◌^◌, ◌<◌, false, List, [], ◌∷◌, ◌++◌, length, flat_map, Option, Some, None, unwrap_or, codes}
 use Rattle.std.specs.FinMap.{get}
 use Rattle.jf_hash.specs.Hashes.{K}
 use Rattle.jf_hash.specs.Maps.{Map, IsMap}
+use Rattle.jf_hash.specs.Roots.{root}
 use Rattle.jf_model.specs.States.{State}
 use Rattle.jf_io.specs.Lines.{lines}
 use Rattle.jf_evidence.specs.Ranges.{Entries}
@@ -18,10 +19,10 @@ use Rattle.jf_blocks.specs.Blocks.{chunk_lines}
 use Rattle.jf_blocks.specs.Laws.{IsChunkBlock}
 use Rattle.jf_verify.specs.Verdicts.{syntax_text, verdicts}
 use Rattle.jf_answers.specs.Own.{Own}
-use Rattle.jf_answers.specs.Refusals.{base_map}
+use Rattle.jf_answers.specs.Refusals.{refused_by, base_map}
 use Rattle.jf_answers.specs.Answers.{Answer, answer}
 use Rattle.jf_answers.specs.Runs.{answer_text}
-use Rattle.jf_client.specs.Laws.{IsKeptBase, FitsLine}
+use Rattle.jf_client.specs.Laws.{FitsLine}
 
 -- ---- lines and their replies
 -- a line, over what it is answered, and the number of its reply
@@ -70,21 +71,22 @@ judged_from at (h ∷ hs) =
     let many = length (lines (text_heard h)) in
     unwrap_or (told_by (answer_heard h).reply) (syntax_lines at many) ++ judged_from (at + many) hs
 
--- ---- lines that ask about one map, and others
--- a line asks for the root of this map
+-- ---- lines that ask about maps, and others
+-- a line asks for the root of this map, and isn't refused
 pub record AsksRoot (m : Map) (h : Heard) : Type 0 where
   pub on : Base
-  pub kept : IsKeptBase h.state h.own on
+  pub granted : refused_by h.state h.own (command.Root on) ≡ None
   pub map_is : base_map h.state h.own on ≡ m
+  pub sound : IsMap m
   pub short : is_long h.line ≡ false
   pub is : command_of h.line ≡ Some (command.Root on)
 
--- a line asks for the proof of a name in it
+-- a line asks for the proof of a name in it, and isn't refused
 pub record AsksProof (m : Map) (h : Heard) : Type 0 where
   pub on : Base
-  pub kept : IsKeptBase h.state h.own on
-  pub map_is : base_map h.state h.own on ≡ m
   pub name : List ℕ
+  pub granted : refused_by h.state h.own (command.Prove on name) ≡ None
+  pub map_is : base_map h.state h.own on ≡ m
   pub fits : FitsLine name (get m (K name))
   pub short : is_long h.line ≡ false
   pub is : command_of h.line ≡ Some (command.Prove on name)
@@ -95,11 +97,26 @@ pub record IsOther (h : Heard) : Type 0 where
   pub in_range : IsInRange (answer_heard h).reply
   pub block_is : ((answer_heard h).block ≡ []) ⊎ ((es : Entries) × (proof : RangeProof) × IsChunkBlock es proof × ((answer_heard h).block ≡ chunk_lines es proof))
 
--- lines ask about this map, and no proof is asked for before a root; any others stand between
-abbrev pub AreHeardOn : Map → Bool → List Heard → Type 0
-AreHeardOn m set [] = Unit {0}
-AreHeardOn m set (h ∷ hs) = (h.number < 2 ^ 64) × ((AsksRoot m h × AreHeardOn m true hs) ⊎ (((set ≡ true) × AsksProof m h × AreHeardOn m set hs) ⊎ (IsOther h × AreHeardOn m set hs)))
+-- lines ask for roots of maps and for proofs in them, each proof in the map whose root was asked for last; any others stand between.
+-- Before the first line, `last` is that map, or None if no root was asked for
+abbrev pub AreHeardOn : Option Map → List Heard → Type 0
+AreHeardOn last [] = Unit {0}
+AreHeardOn last (h ∷ hs) =
+    (h.number < 2 ^ 64)
+    × (((m : Map) × AsksRoot m h × AreHeardOn (Some m) hs) ⊎ (((m : Map) × (last ≡ Some m) × AsksProof m h × AreHeardOn last hs) ⊎ (IsOther h × AreHeardOn last hs)))
 
+-- ---- maps whose roots are asked for
+-- one of the lines asks for the root of this map
+abbrev pub IsAskedOf : List Heard → Map → Type 0
+IsAskedOf [] m = ⊥
+IsAskedOf (h ∷ hs) m = AsksRoot m h ⊎ IsAskedOf hs m
+
+-- maps with one root for which the lines ask are one map. Where they differ, two different lists have one SHA-256 (`differing_maps_collide`),
+-- and honest claims on the two may contradict
+abbrev pub HaveOneMapForRoot : List Heard → Type 0
+HaveOneMapForRoot hs = (m m' : Map) → IsAskedOf hs m → IsAskedOf hs m' → root m ≡ root m' → m ≡ m'
+
+-- ---- the law
 -- the replies to such lines are judged as they are: each proof is accepted, and each line of another reply is answered `syntax`
 abbrev pub WholeRunsAreJudged : Type 0
-WholeRunsAreJudged = (m : Map) (hs : List Heard) → IsMap m → AreHeardOn m false hs → verdicts (flat_map text_heard hs) ≡ judged_from 1 hs
+WholeRunsAreJudged = (hs : List Heard) → HaveOneMapForRoot hs → AreHeardOn None hs → verdicts (flat_map text_heard hs) ≡ judged_from 1 hs

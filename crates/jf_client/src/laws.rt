@@ -30,8 +30,9 @@ pub fn honest_chunks_are_restored()
     honest_chunks_go_on();
 }
 
-/// The replies to lines that ask for the root of one map, for proofs of names in it after that, and for anything else, are
-/// judged as they are, one after another: each proof is accepted, and each line of the other replies is answered `syntax`.
+/// The replies to lines that ask for roots of maps, for proofs of names in the map whose root was asked for last, and for
+/// anything else, are judged as they are, one after another: each proof is accepted, and each line of the other replies is
+/// answered `syntax`. Maps with one root have to be one map.
 pub fn whole_runs_are_judged()
     ensures { WholeRunsAreJudged }
 {
