@@ -33,6 +33,10 @@ lacks_a_file a b = (is_missing a && has_more 1 b) || (is_missing b && has_more 1
 abbrev pub is_foreign : Seen → Seen → Bool
 is_foreign a b = (not (is_open a) && not (is_open b)) && (has_more new_store_len a || has_more new_store_len b)
 
+-- the files, or their names, may not have reached the device yet: side A holds no byte, or one of them was missing
+abbrev pub is_beginning : Seen → Seen → Bool
+is_beginning a b = not (has_more 0 a) || is_missing b
+
 -- why no store is opened over two files, if it isn't
 abbrev pub store_refusal : Seen → Seen → Option FaultCause
 store_refusal a b = first_of ((lacks_a_file a b, cause.FileMissing) ∷ (is_foreign a b, cause.NotAStore) ∷ [])

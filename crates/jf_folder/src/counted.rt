@@ -16,7 +16,8 @@ pub(crate) struct CountedFile {
     reads: u64,
     writes: u64,
     cuts: u64,
-    syncs: u64,
+    whole_syncs: u64,
+    data_syncs: u64,
 }
 
 impl Model for CountedFile {
@@ -24,7 +25,7 @@ impl Model for CountedFile {
 
     ghost Value = { FileCalls };
 
-    ghost view = { λ f. record { lengths = f.lengths; reads = f.reads; writes = f.writes; cuts = f.cuts; syncs = f.syncs } };
+    ghost view = { λ f. record { lengths = f.lengths; reads = f.reads; writes = f.writes; cuts = f.cuts; whole_syncs = f.whole_syncs; data_syncs = f.data_syncs } };
 }
 
 // A count after one more call.
@@ -46,8 +47,16 @@ impl CountedFile {
             reads: 0,
             writes: 0,
             cuts: 0,
-            syncs: 0,
+            whole_syncs: 0,
+            data_syncs: 0,
         }
+    }
+
+    /// The number of whole syncs so far.
+    pub(crate) fn whole_syncs(&self) -> u64
+        ensures { result ≡ self.now.whole_syncs }
+    {
+        self.whole_syncs
     }
 
     pub(crate) fn length(&mut self) -> io::Result<u64>
@@ -86,17 +95,17 @@ impl CountedFile {
 
     /// Brings the bytes, the length and all else that the system keeps of the file to the device.
     pub(crate) fn sync_all(&mut self) -> io::Result<()>
-        ensures { self.new ≡ record self.old { syncs = raised self.old.syncs } }
+        ensures { self.new ≡ record self.old { whole_syncs = raised self.old.whole_syncs } }
     {
-        self.syncs = one_more(self.syncs);
+        self.whole_syncs = one_more(self.whole_syncs);
         self.file.sync_all()
     }
 
     /// Brings the bytes to the device, and of the rest what is needed to read them.
     pub(crate) fn sync_data(&mut self) -> io::Result<()>
-        ensures { self.new ≡ record self.old { syncs = raised self.old.syncs } }
+        ensures { self.new ≡ record self.old { data_syncs = raised self.old.data_syncs } }
     {
-        self.syncs = one_more(self.syncs);
+        self.data_syncs = one_more(self.data_syncs);
         self.file.sync_data()
     }
 }

@@ -1,9 +1,9 @@
 // A folder that is open, and the syncs that bring its entries to the device.
-ghost use Rattle.std.specs.Prelude.{◌≡◌, ◌⊎◌, IfOk, OnOk, OnErr};
-ghost use Rattle.jf_folder.specs.Calls.{raised, AreSynced};
+ghost use Rattle.std.specs.Prelude.{◌≡◌, ◌≤◌, None, IfOk, OnOk, OnErr, IfSome};
+ghost use Rattle.jf_folder.specs.Calls.{no_calls, no_syncs, raised, AreSynced};
 
 use crate::cause::FaultCause;
-use crate::counted::one_more;
+use crate::counted::{CountedFile, one_more};
 use crate::file::FileRefused;
 use crate::found::is_stream;
 use std::fs::File;
@@ -11,11 +11,13 @@ use std::io;
 use std::marker::Model;
 use std::rt::Files;
 
-/// An open folder, and the number of its syncs, of those of its parent, and of those that failed.
+/// An open folder, whose syncs are counted; how often the folder that it stands in was looked for, opened and synced; and
+/// the number of syncs that failed.
 #[derive(Drop)]
 pub(crate) struct Folder {
-    file: File,
-    own: u64,
+    file: CountedFile,
+    looked: u64,
+    opened: u64,
     parent: u64,
     failed: u64,
 }
@@ -25,7 +27,7 @@ impl Model for Folder {
 
     ghost Value = { FolderSyncs };
 
-    ghost view = { λ f. record { own = f.own; parent = f.parent; failed = f.failed } };
+    ghost view = { λ f. record { own = f.file.whole_syncs; looked = f.looked; opened = f.opened; parent = f.parent; failed = f.failed } };
 }
 
 #[tactic(auto, using(crate::proofs::RaisedLaws::raised_zero))]
@@ -33,33 +35,55 @@ impl Folder {
     /// Opens a folder. It takes the lowest free descriptor, so that a closed standard stream is seen here, before any
     /// file is looked for.
     pub(crate) fn open<H: Files<File = File>>(rt: &H, path: &str) -> Result<Folder, FileRefused>
-        ensures { IfOk result (λ f. f ≡ record { own = 0; parent = 0; failed = 0 }) }
+        ensures { IfOk result (λ f. f ≡ no_syncs) }
     {
         let file = File::open(rt, path)?;
         if is_stream(&file) {
             return Err(FileRefused::DiskFailed(FaultCause::ClosedStream));
         }
         Ok(Folder {
-            file,
-            own: 0,
+            file: CountedFile::new(file),
+            looked: 0,
+            opened: 0,
             parent: 0,
             failed: 0,
         })
     }
 
-    /// Brings the folder's entries to the device.
-    pub(crate) fn sync(&mut self) -> io::Result<()>
-        ensures counted { self.new.own ≡ raised self.old.own }
-        ensures parent { self.new.parent ≡ self.old.parent }
-        ensures ok { OnOk result (self.new.failed ≡ self.old.failed) }
-        ensures failed { OnErr result (self.new.failed ≡ raised self.old.failed) }
+    // Counts a sync that failed.
+    fn noted(&mut self, outcome: io::Result<()>) -> io::Result<()>
+        ensures outcome { result ≡ outcome }
+        ensures ok { OnOk result (self.new ≡ self.old) }
+        ensures failed { OnErr result (self.new ≡ record self.old { failed = raised self.old.failed }) }
     {
-        self.own = one_more(self.own);
-        let outcome = self.file.sync_all();
         if outcome.is_err() {
             self.failed = one_more(self.failed);
         }
         outcome
+    }
+
+    /// Brings the folder's entries to the device.
+    pub(crate) fn sync(&mut self) -> io::Result<()>
+        ensures ok { OnOk result (self.new ≡ record self.old { own = raised self.old.own }) }
+        ensures failed { OnErr result (self.new ≡ record self.old { own = raised self.old.own; failed = raised self.old.failed }) }
+    {
+        let outcome = self.file.sync_all();
+        self.noted(outcome)
+    }
+
+    // The folder that this one stands in, if that can be opened.
+    fn open_parent<H: Files<File = File>>(&mut self, rt: &H, parent: &str) -> Option<CountedFile>
+        ensures found { IfSome result (λ f. (f ≡ no_calls) × (self.new ≡ record self.old { looked = raised self.old.looked; opened = raised self.old.opened })) }
+        ensures none { result ≡ None → self.new ≡ record self.old { looked = raised self.old.looked } }
+    {
+        self.looked = one_more(self.looked);
+        match File::open(rt, parent) {
+            Ok(file) => {
+                self.opened = one_more(self.opened);
+                Some(CountedFile::new(file))
+            }
+            Err(_) => None,
+        }
     }
 
     /// Brings the entries of the folder that this one stands in to the device, if that can be opened: whoever may only
@@ -69,36 +93,39 @@ impl Folder {
         rt: &H,
         parent: &str,
     ) -> io::Result<()>
+        requires unopened { self.old.opened ≡ 0 }
+        requires unsynced { self.old.parent ≡ 0 }
         ensures own { self.new.own ≡ self.old.own }
-        ensures counted { (self.new.parent ≡ self.old.parent) ⊎ (self.new.parent ≡ raised self.old.parent) }
+        ensures looked { self.new.looked ≡ raised self.old.looked }
+        ensures opened { self.new.opened ≤ 1 }
+        ensures synced { self.new.parent ≡ self.new.opened }
         ensures ok { OnOk result (self.new.failed ≡ self.old.failed) }
         ensures failed { OnErr result (self.new.failed ≡ raised self.old.failed) }
     {
-        match File::open(rt, parent) {
-            Ok(file) => {
-                self.parent = one_more(self.parent);
+        match self.open_parent(rt, parent) {
+            Some(mut file) => {
                 let outcome = file.sync_all();
-                if outcome.is_err() {
-                    self.failed = one_more(self.failed);
-                }
-                outcome
+                self.parent = file.whole_syncs();
+                self.noted(outcome)
             }
-            Err(_) => Ok(()),
+            None => Ok(()),
         }
     }
-    /// Brings the folder's entries to the device, and those of its parent if that is named.
+
+    /// Brings the folder's entries to the device, and those of its parent if that is due.
     pub(crate) fn sync_names<H: Files<File = File>>(
         &mut self,
         rt: &H,
-        parent: Option<&str>,
+        parent: &str,
+        is_parent_due: bool,
     ) -> io::Result<()>
-        requires { self.old ≡ record { own = 0; parent = 0; failed = 0 } }
-        ensures { OnOk result (AreSynced self.new) }
+        requires { self.old ≡ no_syncs }
+        ensures { OnOk result (AreSynced is_parent_due self.new) }
     {
         self.sync()?;
-        match parent {
-            Some(parent) => self.sync_parent(rt, parent),
-            None => Ok(()),
+        if !is_parent_due {
+            return Ok(());
         }
+        self.sync_parent(rt, parent)
     }
 }

@@ -1,6 +1,6 @@
 // The two files of a folder: found or made, locked, and fit to be the sides of a store.
 ghost use Rattle.std.specs.Prelude.{◌≡◌, None, IfOk, IfSome};
-ghost use Rattle.jf_folder.specs.Begun.{store_refusal};
+ghost use Rattle.jf_folder.specs.Begun.{is_beginning, store_refusal};
 ghost use Rattle.jf_folder.specs.File.{IsUnwritten, AreFit};
 
 use crate::cause::FaultCause;
@@ -49,7 +49,9 @@ impl TwoFiles {
     }
 
     /// Whether the files, or their names, may not have reached the device yet: side A holds no byte, or one was missing.
-    pub(crate) fn are_beginning(&self) -> bool {
+    pub(crate) fn are_beginning(&self) -> bool
+        ensures { result ≡ is_beginning self.now.seen_a self.now.seen_b }
+    {
         !self.seen_a.has_more(0) || self.seen_b.is_missing()
     }
 }
