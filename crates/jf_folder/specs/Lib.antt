@@ -3,3 +3,8 @@ pub mod Calls
 pub mod Begun
 pub mod File
 pub mod Any
+pub use Rattle.jf_path.specs.Checks
+pub use Rattle.jf_path.specs.Faults
+pub use Rattle.jf_disk.specs.Disk
+pub use Rattle.jf_disk.specs.Memory
+pub use Rattle.jf_disk.specs.Replay

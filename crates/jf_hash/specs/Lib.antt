@@ -5,3 +5,6 @@ pub mod Roots
 pub mod Slots
 pub mod Ranges
 pub mod Codes
+pub use Rattle.jf_path.specs.Bitmaps
+pub use Rattle.jf_path.specs.Keys
+pub use Rattle.jf_path.specs.Nibbles

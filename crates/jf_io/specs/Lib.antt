@@ -7,3 +7,4 @@ pub mod MemSink
 pub mod MemSource
 pub mod Sink
 pub mod StdSource
+pub use Rattle.jf_path.specs.Faults

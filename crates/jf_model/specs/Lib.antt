@@ -11,3 +11,10 @@ pub mod Puts
 pub mod Walk
 pub mod NodeVersions
 pub mod ChildEntries
+pub use Rattle.jf_path.specs.Keys
+pub use Rattle.jf_path.specs.Limits
+pub use Rattle.jf_path.specs.Nibbles
+pub use Rattle.jf_hash.specs.Codes
+pub use Rattle.jf_hash.specs.Maps
+pub use Rattle.jf_hash.specs.Roots
+pub use Rattle.jf_hash.specs.Slots

@@ -13,3 +13,15 @@ pub mod RangeFacts
 pub mod Placed
 pub mod RangeStates
 pub mod SharedPlaces
+pub use Rattle.jf_path.specs.Bitmaps
+pub use Rattle.jf_path.specs.Keys
+pub use Rattle.jf_path.specs.Limits
+pub use Rattle.jf_path.specs.Nibbles
+pub use Rattle.jf_hash.specs.Codes
+pub use Rattle.jf_hash.specs.Hashes
+pub use Rattle.jf_hash.specs.Maps
+pub use Rattle.jf_hash.specs.Parts
+pub use Rattle.jf_hash.specs.Ranges
+pub use Rattle.jf_hash.specs.Roots
+pub use Rattle.jf_hash.specs.Slots
+pub use Rattle.jf_model.specs.Nodes

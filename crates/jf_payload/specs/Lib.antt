@@ -2,3 +2,8 @@ pub mod Spelling
 pub mod Counted
 pub mod Reading
 pub mod Laws
+pub use Rattle.jf_path.specs.Keys
+pub use Rattle.jf_path.specs.Limits
+pub use Rattle.jf_path.specs.Names
+pub use Rattle.jf_path.specs.Numbers
+pub use Rattle.jf_frame.specs.Framing

@@ -1,2 +1,10 @@
 pub mod Entries
 pub mod KeptMaps
+pub use Rattle.jf_path.specs.Keys
+pub use Rattle.jf_path.specs.Limits
+pub use Rattle.jf_hash.specs.Codes
+pub use Rattle.jf_hash.specs.Maps
+pub use Rattle.jf_hash.specs.Roots
+pub use Rattle.jf_model.specs.Changes
+pub use Rattle.jf_model.specs.VersionCodes
+pub use Rattle.jf_model.specs.Versions

@@ -1,0 +1,3 @@
+
+pub use Rattle.jf_hash.specs.Roots
+pub use Rattle.jf_evidence.specs.Proofs

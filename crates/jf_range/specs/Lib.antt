@@ -5,3 +5,10 @@ pub mod Neighbours
 pub mod Judgements
 pub mod Chunks
 pub mod Visits
+pub use Rattle.jf_path.specs.Keys
+pub use Rattle.jf_path.specs.Nibbles
+pub use Rattle.jf_hash.specs.Hashes
+pub use Rattle.jf_hash.specs.Maps
+pub use Rattle.jf_hash.specs.Roots
+pub use Rattle.jf_evidence.specs.Proofs
+pub use Rattle.jf_evidence.specs.Ranges

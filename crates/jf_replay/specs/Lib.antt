@@ -1,1 +1,10 @@
 pub mod Faults
+pub use Rattle.jf_frame.specs.Framed
+pub use Rattle.jf_frame.specs.Framing
+pub use Rattle.jf_pair.specs.Files
+pub use Rattle.jf_payload.specs.Spelling
+pub use Rattle.jf_standing.specs.Begin
+pub use Rattle.jf_standing.specs.FormatLaws
+pub use Rattle.jf_standing.specs.Leading
+pub use Rattle.jf_standing.specs.Standing
+pub use Rattle.jf_standing.specs.Taking

@@ -1,1 +1,2 @@
 pub mod Words
+pub use Rattle.jf_path.specs.Limits

@@ -1,2 +1,11 @@
 pub mod Texts
 pub mod Written
+pub use Rattle.jf_path.specs.Faults
+pub use Rattle.jf_model.specs.Versions
+pub use Rattle.jf_io.specs.Sink
+pub use Rattle.jf_accum.specs.Extensions
+pub use Rattle.jf_accum.specs.Members
+pub use Rattle.jf_accum.specs.Totals
+pub use Rattle.jf_text.specs.Words
+pub use Rattle.jf_input.specs.Feeds
+pub use Rattle.jf_blocks.specs.Blocks

@@ -4,3 +4,13 @@ pub mod Accepted
 pub mod Steps
 pub mod Laws
 pub mod Streams
+pub use Rattle.jf_path.specs.Faults
+pub use Rattle.jf_hash.specs.Hashes
+pub use Rattle.jf_io.specs.Lines
+pub use Rattle.jf_io.specs.LinesRead
+pub use Rattle.jf_evidence.specs.Clashes
+pub use Rattle.jf_evidence.specs.Proofs
+pub use Rattle.jf_collide.specs.Audits
+pub use Rattle.jf_text.specs.Words
+pub use Rattle.jf_blocks.specs.Reading
+pub use Rattle.jf_blocks.specs.Sides
