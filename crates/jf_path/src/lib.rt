@@ -24,7 +24,7 @@ pub use children::{Child, Children};
 pub use fault::PathFault;
 pub use key::{Key, bit, common_bits, nibble};
 pub use laws::{know_bytes, know_entries, know_key};
-pub use limits::{MAX_FORKS, MAX_VALUE};
+pub use limits::{MAX_FORKS, MAX_PINS, MAX_SESSIONS, MAX_VALUE, MAX_WORKERS};
 pub use lists::{HashList, Pairs};
 pub use memory::Memory;
 pub use name::NodeName;

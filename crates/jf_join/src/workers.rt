@@ -1,0 +1,57 @@
+// How many threads may work at once.
+ghost use Rattle.std.specs.Prelude.{◌≡◌, ◌×◌, ◌≤◌, ◌↔◌, IfSome, IsSome};
+ghost use Rattle.jf_path.specs.Limits.{max_workers};
+
+use jf_path::MAX_WORKERS;
+use std::marker::Model;
+
+/// How many threads may work at once: 1 to 64.
+#[derive(Clone, Copy, Debug, PartialEq, Eq)]
+pub struct Workers {
+    number: u64,
+}
+
+impl Model for Workers {
+    ghost use Rattle.std.specs.Prelude.{ℕ, ◌×◌, ◌≤◌};
+    ghost use Rattle.jf_path.specs.Limits.{max_workers};
+
+    ghost Value = { ℕ };
+
+    ghost view = { λ w. w.number };
+
+    ghost invariant = { λ w. (1 ≤ w.number) × (w.number ≤ max_workers) };
+
+    ghost inverse = { λ n. record { number = n } };
+}
+
+impl Workers {
+    /// One thread, the caller's own.
+    pub const ONE: Workers = Workers { number: 1 };
+
+    /// So many threads, or `None` if that is none or more than 64.
+    pub fn new(number: u64) -> Option<Workers>
+        ensures value { IfSome result (λ w. w ≡ number) }
+        ensures given { IsSome result ↔ ((1 ≤ number) × (number ≤ max_workers)) }
+    {
+        if 1 <= number && number <= MAX_WORKERS {
+            Some(Workers { number })
+        } else {
+            None
+        }
+    }
+
+    /// Their number.
+    pub fn get(self) -> u64
+        ensures value { result ≡ self }
+        ensures within { (1 ≤ result) × (result ≤ max_workers) }
+    {
+        self.number
+    }
+
+    /// Changes nothing, and tells what holds of every such number, for proofs.
+    pub fn know(self)
+        ensures { (1 ≤ self) × (self ≤ max_workers) }
+    {
+        let _ = self.number;
+    }
+}
