@@ -28,8 +28,8 @@ use Rattle.jf_standing.proofs.Numbers.{le_so, number_tells, other_number}
 use Rattle.jf_standing.proofs.Ordered.{Contains-find}
 use Rattle.jf_standing.proofs.Sinces.{version-low, version-before, since-high}
 use Rattle.jf_dir.proofs.MarkCounts.{apart_names}
-use Rattle.jf_check.specs.Cuts.{is_written_by, named_by, nodes_by, standing_by, without_since, landing_making}
-use Rattle.jf_check.proofs.Numbered.{IsNumbered}
+use Rattle.jf_replay.specs.Cuts.{is_written_by, named_by, nodes_by, standing_by, without_since, landing_making}
+use Rattle.jf_replay.proofs.Numbered.{IsNumbered}
 
 -- ---- names that rise
 lower_version : (v w : ℕ) (r : Ordering) → is_lt (ordering_then (nat_cmp v w) r) ≡ true → v ≤ w

@@ -6,7 +6,7 @@ use Rattle.jf_path.proofs.ListLaws.{All-of}
 use Rattle.jf_path.proofs.FilterLaws.{filter-map, filter-same, filter-filter}
 use Rattle.jf_standing.specs.Named.{Named, never, is_alive, is_written, is_stale, alive_at, written_at, stale_at}
 use Rattle.jf_standing.proofs.Lists.{All-each_element}
-use Rattle.jf_check.specs.Cuts.{is_written_by, named_by, nodes_by}
+use Rattle.jf_replay.specs.Cuts.{is_written_by, named_by, nodes_by}
 
 -- ---- one node
 alive_by : (v s x w : ℕ) → x ≤ w → w < never → (nat_le v w && (nat_le v x && nat_lt x (cond (nat_le s w) s never))) ≡ (nat_le v x && nat_lt x s)

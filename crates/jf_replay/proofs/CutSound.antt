@@ -17,8 +17,8 @@ use Rattle.jf_standing.proofs.Counts.{count-map}
 use Rattle.jf_standing.proofs.Lists.{All-each_element, map-which}
 use Rattle.jf_standing.proofs.Numbers.{le_tells}
 use Rattle.jf_standing.proofs.Sinces.{versions-before, alive-so, alive-tells}
-use Rattle.jf_check.specs.Cuts.{is_written_by, named_by, nodes_by, standing_by}
-use Rattle.jf_check.proofs.CutNodes.{alive-nodes_by, written-nodes_by, stale-nodes_by}
+use Rattle.jf_replay.specs.Cuts.{is_written_by, named_by, nodes_by, standing_by}
+use Rattle.jf_replay.proofs.CutNodes.{alive-nodes_by, written-nodes_by, stale-nodes_by}
 
 leaf_entries-named_by : (w : ℕ) (ns : List Named) → leaf_entries (map (named_by w) ns) ≡ leaf_entries ns
 leaf_entries-named_by w [] = refl

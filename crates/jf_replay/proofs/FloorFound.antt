@@ -23,12 +23,12 @@ use Rattle.jf_standing.proofs.Lists.{All-each_element}
 use Rattle.jf_update.specs.Restored.{IsRestored}
 use Rattle.jf_diff.specs.Landings.{version_in}
 use Rattle.jf_dir.specs.Directories.{begun_with}
-use Rattle.jf_check.specs.Cuts.{has_numbers, is_written_by, named_by, standing_by, standing_listed}
-use Rattle.jf_check.specs.Floors.{AreFloorVersions, entries_in, versions_by_path, listed_in, same_listed}
-use Rattle.jf_check.proofs.FloorBuilt.{floor-nodes, begun-map, begun-versions, same_listed-exact, same_listed-refl}
-use Rattle.jf_check.proofs.FloorNodes.{alive-floor, floor-versions, restored-map, restored-versions}
-use Rattle.jf_check.proofs.Listed.{root-listed}
-use Rattle.jf_check.proofs.Numbered.{IsNumbered, all-numbered}
+use Rattle.jf_replay.specs.Cuts.{has_numbers, is_written_by, named_by, standing_by, standing_listed}
+use Rattle.jf_replay.specs.Floors.{AreFloorVersions, entries_in, versions_by_path, listed_in, same_listed}
+use Rattle.jf_replay.proofs.FloorBuilt.{floor-nodes, begun-map, begun-versions, same_listed-exact, same_listed-refl}
+use Rattle.jf_replay.proofs.FloorNodes.{alive-floor, floor-versions, restored-map, restored-versions}
+use Rattle.jf_replay.proofs.Listed.{root-listed}
+use Rattle.jf_replay.proofs.Numbered.{IsNumbered, all-numbered}
 
 -- the roots up to a place, the other way round, are the last of all roots the other way round
 roots-upto : (roots : List (List ℕ)) (k : ℕ) → k < length roots → slice_index_or roots k [] ∷ reverse (take k roots) ≡ drop (length roots - (k + 1)) (reverse roots)

@@ -39,10 +39,10 @@ use Rattle.jf_standing.proofs.Unmoved.{alive-there, at-so}
 use Rattle.jf_node.specs.SnapshotValue.{SnapshotValue}
 use Rattle.jf_diff.specs.Landings.{version_in, version_or}
 use Rattle.jf_update.specs.Restored.{AreNodeVersions, IsRestored, by_path}
-use Rattle.jf_check.specs.Cuts.{is_written_by}
-use Rattle.jf_check.specs.Floors.{in_key_order, path_and_version, entries_in, versions_by_path, AreFloorVersions}
-use Rattle.jf_check.proofs.KeyOrder.{entries-in_key_order, sorted-in_key_order, find-in_key_order}
-use Rattle.jf_check.proofs.Numbered.{IsNumbered}
+use Rattle.jf_replay.specs.Cuts.{is_written_by}
+use Rattle.jf_replay.specs.Floors.{in_key_order, path_and_version, entries_in, versions_by_path, AreFloorVersions}
+use Rattle.jf_replay.proofs.KeyOrder.{entries-in_key_order, sorted-in_key_order, find-in_key_order}
+use Rattle.jf_replay.proofs.Numbered.{IsNumbered}
 
 -- the nodes written by the floor are those alive there, if none is stale by then
 pub alive-floor : (floor head : ℕ) (ns : List Named) → AllByRecursion (IsNumbered floor head) ns → filter (is_written_by floor) ns ≡ alive_at floor ns

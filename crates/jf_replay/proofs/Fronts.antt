@@ -18,7 +18,7 @@ use Rattle.jf_standing.proofs.Rising.{sorted-are_rising}
 use Rattle.jf_standing.proofs.Numbers.{same_number}
 use Rattle.jf_dir.proofs.MarkCounts.{apart_names}
 use Rattle.jf_diff.proofs.Names.{are_rising-front}
-use Rattle.jf_check.specs.Cuts.{without_since}
+use Rattle.jf_replay.specs.Cuts.{without_since}
 
 pub take-next : {X : Type 0} (xs : List X) (i : ℕ) (d x : X) → i < length xs → x ≡ get_or xs i d → take (i + 1) xs ≡ take i xs ++ x ∷ []
 take-next xs i d x within at = ap (λ k. take k xs) (let e : i + 1 ≡ suc i = omega arith in e) ∙ take-suc xs i d within ∙ ap (λ y. take i xs ++ y ∷ []) (sym at)

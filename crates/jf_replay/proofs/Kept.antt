@@ -5,7 +5,7 @@ use Rattle.jf_path.specs.declared.node.PlainNode.TheVariants as node
 use Rattle.jf_codec.specs.Counted.{in_format}
 use Rattle.jf_codec.specs.declared.format.Format.{Format}
 use Rattle.jf_codec.specs.declared.format.Format.TheVariants as format
-use Rattle.jf_check.specs.Kept.{child_in_format}
+use Rattle.jf_replay.specs.Kept.{child_in_format}
 
 pub inner_kept : (fmt : Format) (cs : List Child) → node.Inner (map (child_in_format fmt) cs) ≡ in_format fmt (node.Inner cs)
 inner_kept format.One cs = refl

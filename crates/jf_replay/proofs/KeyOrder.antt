@@ -13,7 +13,7 @@ use Rattle.jf_path.specs.declared.node.PlainNode.TheVariants as node
 use Rattle.jf_hash.proofs.KeyOrder.{same_key-exact}
 use Rattle.jf_hash.specs.Maps.{Map}
 use Rattle.jf_standing.specs.Named.{Named, leaf_entry, leaf_entries}
-use Rattle.jf_check.specs.Floors.{in_key_order, path_and_version, entries_in}
+use Rattle.jf_replay.specs.Floors.{in_key_order, path_and_version, entries_in}
 use Rattle.std.proofs.lemmas.Option.{same_Some}
 use Rattle.jf_path.specs.Limits.{max_value}
 use Rattle.jf_path.specs.Names.{IsName}
@@ -23,7 +23,7 @@ use Rattle.jf_codec.specs.declared.format.Format.{Format}
 use Rattle.jf_standing.proofs.Leaves.{leaf-which}
 use Rattle.jf_standing.proofs.Lists.{All-each_element}
 use Rattle.jf_standing.proofs.Ordered.{find-Contains, Contains-find}
-use Rattle.jf_check.proofs.Puts.{drop-up}
+use Rattle.jf_replay.proofs.Puts.{drop-up}
 
 module _ {X : Type 0} where
   same_choice : (o : Ordering) (x y z : List (List ℕ × X)) → match_ordering o x y z ≡ by_order o x y z

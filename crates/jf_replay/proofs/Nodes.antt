@@ -12,7 +12,7 @@ use Rattle.jf_node.specs.LinkValue.{LinkValue, link_version_at}
 use Rattle.jf_node.specs.SnapshotValue.{SnapshotValue}
 use Rattle.jf_node.specs.Snapshots.{IsTopOf, IsSnapshot, snapshot_version_at}
 use Rattle.jf_diff.specs.Below.{IsBelow}
-use Rattle.jf_check.specs.Changes.{IsAtPath, IsNameIn}
+use Rattle.jf_replay.specs.Changes.{IsAtPath, IsNameIn}
 
 -- ---- one step down
 -- nothing stands below a child that isn't there

@@ -15,7 +15,7 @@ use Rattle.jf_standing.specs.Landing.{by_key}
 use Rattle.jf_standing.specs.Named.{leaf_entries, never}
 use Rattle.jf_standing.specs.Standing.{unmarked}
 use Rattle.jf_standing.proofs.Batches.{puts_of, removals_of}
-use Rattle.jf_check.specs.Changes.{put_each, leaves_at, sole, removal_of}
+use Rattle.jf_replay.specs.Changes.{put_each, leaves_at, sole, removal_of}
 
 -- changes put over none are in the order of keys
 pub put_each-by_key : (xs ys : Batch) → put_each xs (put_each ys []) ≡ by_key (xs ++ ys)

@@ -34,7 +34,7 @@ use Rattle.jf_standing.proofs.Unmoved.{at-so}
 use Rattle.jf_standing.proofs.Found.{test_so}
 use Rattle.jf_standing.proofs.Unique.{few-alive}
 use Rattle.jf_standing.proofs.Alive.{version-of}
-use Rattle.jf_check.specs.Changes.{sole, leaves_at, changes_of}
+use Rattle.jf_replay.specs.Changes.{sole, leaves_at, changes_of}
 
 -- ---- leaves by name
 -- the entry of a leaf of a name is among those at the names

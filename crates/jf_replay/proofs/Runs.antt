@@ -6,8 +6,8 @@ use Rattle.std.proofs.lemmas.List.Sorted.{IsPartitionedBy-leb}
 use Rattle.jf_path.specs.Names.{are_rising}
 use Rattle.jf_path.proofs.ListLaws.{All-by_place}
 use Rattle.jf_standing.specs.Named.{Named, written_at}
-use Rattle.jf_check.specs.Cuts.{is_written_by}
-use Rattle.jf_check.proofs.CutLands.{rising-versions, later_rise, split-written}
+use Rattle.jf_replay.specs.Cuts.{is_written_by}
+use Rattle.jf_replay.proofs.CutLands.{rising-versions, later_rise, split-written}
 
 versions_rise : (ns : List Named) → IsTrue (are_rising (map (λ n. n.0) ns)) → IsNonDecreasingBy (λ n. n.0.version) ns
 versions_rise [] rises i j d le lt = absurd (omega arith)

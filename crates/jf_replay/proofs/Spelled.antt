@@ -28,9 +28,9 @@ use Rattle.jf_node.specs.Snapshots.{IsSnapshot, snapshot_version_at}
 use Rattle.jf_update.specs.Outcomes.{AreShort}
 use Rattle.jf_diff.specs.Landings.{version_or}
 use Rattle.jf_dir.specs.Directories.{IsSnapshotAt}
-use Rattle.jf_check.specs.Changes.{changes_of, leaves_at, IsNameIn}
-use Rattle.jf_check.specs.Next.{IsNameAtHead}
-use Rattle.jf_check.proofs.Read.{leaves_at-which}
+use Rattle.jf_replay.specs.Changes.{changes_of, leaves_at, IsNameIn}
+use Rattle.jf_replay.specs.Next.{IsNameAtHead}
+use Rattle.jf_replay.proofs.Read.{leaves_at-which}
 
 -- an entry with a key, and with a value of at most 4,096 bytes
 abbrev IsShortEntry : List ℕ × List ℕ → Type 0

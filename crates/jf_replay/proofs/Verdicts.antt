@@ -23,9 +23,9 @@ use Rattle.jf_standing.specs.Same.{same_commit}
 use Rattle.jf_standing.proofs.Same.{commit-exact}
 use Rattle.jf_node.specs.declared.update.Update.{Update}
 use Rattle.jf_dir.specs.Directories.{IsLandingUpdate, landing_written}
-use Rattle.jf_check.specs.Changes.{changes_of}
-use Rattle.jf_check.specs.Next.{read_map, MayBeNext, IsAsLanded, IsNameAtHead}
-use Rattle.jf_check.proofs.Read.{apply-changes_of, stale-at_head}
+use Rattle.jf_replay.specs.Changes.{changes_of}
+use Rattle.jf_replay.specs.Next.{read_map, MayBeNext, IsAsLanded, IsNameAtHead}
+use Rattle.jf_replay.proofs.Read.{apply-changes_of, stale-at_head}
 
 -- an update that a landing makes writes what the landing writes
 landing_written-is : (s : Standing) (m : Map) (u : Update) → IsLandingUpdate s m u → landing_written u ≡ landing_of format.Two s m

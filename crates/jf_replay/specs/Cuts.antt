@@ -8,7 +8,7 @@ use Rattle.jf_path.specs.declared.node.PlainNode.{PlainNode}
 use Rattle.jf_payload.specs.declared.records.Commit.{Commit}
 use Rattle.jf_standing.specs.Named.{Named, never, written_at, stale_at}
 use Rattle.jf_standing.specs.Standing.{Standing}
-use Rattle.jf_check.specs.declared.lent.CheckpointRef.{CheckpointRef}
+use Rattle.jf_replay.specs.declared.lent.CheckpointRef.{CheckpointRef}
 
 -- whether a node was written at w or before
 abbrev pub is_written_by : ℕ → Named → Bool

@@ -12,7 +12,7 @@ use Rattle.jf_payload.specs.Counted.{commit_in}
 use Rattle.jf_standing.specs.Named.{never, version_at}
 use Rattle.jf_standing.specs.Standing.{Standing}
 use Rattle.jf_standing.specs.Landing.{head_map, landing_of}
-use Rattle.jf_check.specs.Changes.{changes_of}
+use Rattle.jf_replay.specs.Changes.{changes_of}
 
 -- the map that a landing which was read leads to
 abbrev pub read_map : Standing → Commit → Map

@@ -3,9 +3,9 @@ ghost use Rattle.std.specs.Prelude.{◌≡◌, [], map, Some, None, IfOk, OnOk, 
 ghost use Rattle.std.specs.List.{AllByRecursion};
 ghost use Rattle.jf_standing.specs.Named.{leaf_entries};
 ghost use Rattle.jf_standing.specs.Standing.{unmarked};
-ghost use Rattle.jf_check.specs.Changes.{IsNameIn, leaves_at, changes_of, put_each};
+ghost use Rattle.jf_replay.specs.Changes.{IsNameIn, leaves_at, changes_of, put_each};
 
-use crate::fault::CheckFault;
+use crate::check_fault::CheckFault;
 use crate::named::key_at;
 use jf_node::Snapshot;
 use jf_path::{Key, Memory, NodeName, PlainNode, SharedBytes};

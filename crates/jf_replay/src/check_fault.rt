@@ -1,13 +1,13 @@
 // Why what was read isn't taken.
 ghost use Rattle.std.specs.Prelude.{◌≡◌};
-ghost use Rattle.jf_check.specs.declared.fault.CheckFault.TheVariants as fault;
+ghost use Rattle.jf_replay.specs.declared.check_fault.CheckFault.TheVariants as fault;
 
 use jf_path::Memory;
 use std::alloc::AllocFailed;
 
 /// Why what was read isn't taken.
 #[derive(Clone, Copy, Debug, PartialEq, Eq)]
-pub enum CheckFault {
+pub(crate) enum CheckFault {
     /// No landing, or no checkpoint, writes this.
     Unsound,
     /// Out of memory.

@@ -11,14 +11,14 @@ ghost use Rattle.jf_standing.specs.Taking.{Continues};
 ghost use Rattle.jf_standing.specs.Landing.{fresh_leaves};
 ghost use Rattle.jf_standing.specs.FormatLaws.{standing_in};
 ghost use Rattle.jf_dir.specs.Directories.{IsLandingUpdate};
-ghost use Rattle.jf_check.specs.Next.{MayBeNext, read_map};
+ghost use Rattle.jf_replay.specs.Next.{MayBeNext, read_map};
 
 use crate::changes::changes_in;
-use crate::fault::CheckFault;
+use crate::check_fault::CheckFault;
 use crate::same::is_same;
 use jf_codec::Format;
 use jf_dir::{Directory, NextVersion};
-use jf_join::FreeGate;
+use jf_join::{FreeGate, Workers};
 use jf_payload::Commit;
 use jf_update::value_hashes;
 use std::alloc::Global;
@@ -37,10 +37,8 @@ fn next_of<H: Threads + Sync>(
     alloc: Global,
     directory: &Directory,
     commit: &Commit,
-    workers: u64,
+    workers: Workers,
 ) -> Result<NextVersion, CheckFault>
-    requires positive { 1 ≤ workers }
-    requires bounded { workers ≤ 64 }
     requires entries { AreEntries (fresh_leaves commit.now) }
     requires short { AllByRecursion (λ e. length e.1 ≤ max_value) (fresh_leaves commit.now) }
     ensures landing { IfOk result (IsLandingUpdate directory.now (read_map directory.now commit.now)) }
@@ -65,16 +63,14 @@ fn next_of<H: Threads + Sync>(
 /// Takes a commit that was read in a file of this format, if it continues from the head and leaves a sound standing:
 /// the changes that are read off it are landed on the directory, and all that the landing writes is compared with what
 /// the commit writes. If it is refused, the directory is unchanged.
-pub fn check<H: Threads + Sync>(
+pub(crate) fn check<H: Threads + Sync>(
     rt: &H,
     alloc: Global,
     directory: &mut Directory,
     commit: &Commit,
     format: Format,
-    workers: u64,
+    workers: Workers,
 ) -> Result<(), CheckFault>
-    requires positive { 1 ≤ workers }
-    requires bounded { workers ≤ 64 }
     requires spelled { IsCommit format commit.now }
     ensures taken { OnOk result (Continues (standing_in format directory.old) commit.now × IsSound format (with_commit commit.now (standing_in format directory.old)) × (standing_in format directory.new ≡ with_commit commit.now (standing_in format directory.old))) }
     ensures unsound { result ≡ Err CheckFault.Unsound → Continues (standing_in format directory.old) commit.now → IsSound format (with_commit commit.now (standing_in format directory.old)) → ⊥ }

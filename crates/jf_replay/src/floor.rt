@@ -8,12 +8,12 @@ ghost use Rattle.jf_standing.specs.FormatLaws.{standing_in};
 ghost use Rattle.jf_standing.specs.Next.{IsReadStanding};
 ghost use Rattle.jf_standing.specs.Sound.{IsSound};
 ghost use Rattle.jf_update.specs.Restored.{IsRestored};
-ghost use Rattle.jf_check.specs.Cuts.{has_numbers, standing_by, standing_lent};
-ghost use Rattle.jf_check.specs.Floors.{AreFloorVersions, entries_in, versions_by_path, same_listed, listed_in};
+ghost use Rattle.jf_replay.specs.Cuts.{has_numbers, standing_by, standing_lent};
+ghost use Rattle.jf_replay.specs.Floors.{AreFloorVersions, entries_in, versions_by_path, same_listed, listed_in};
 
+use crate::check_fault::CheckFault;
 use crate::entries::{entries_of, versions_by_path};
-use crate::fault::CheckFault;
-use crate::later::count_by_version;
+use crate::landing::count_by_version;
 use crate::lent::CheckpointRef;
 use crate::same::is_same_node;
 use jf_codec::Format;

@@ -2,7 +2,7 @@
 ghost use Rattle.std.specs.Prelude.{◌≡◌, ◌-◌, ◌≤◌, drop, filter, length, map, take, IsTrue, IfOk};
 ghost use Rattle.jf_path.specs.Names.{are_rising};
 ghost use Rattle.jf_standing.specs.Named.{written_at};
-ghost use Rattle.jf_check.specs.Cuts.{is_written_by, without_since};
+ghost use Rattle.jf_replay.specs.Cuts.{is_written_by, without_since};
 
 use crate::copies::copy_of_node;
 use jf_hash::Hash;

@@ -6,9 +6,9 @@ ghost use Rattle.jf_model.specs.Nodes.{under};
 ghost use Rattle.jf_model.specs.ChildEntries.{sub};
 ghost use Rattle.jf_node.specs.LinkValue.{link_version_at};
 ghost use Rattle.jf_node.specs.Snapshots.{IsTopOf};
-ghost use Rattle.jf_check.specs.Changes.{IsNameIn, IsAtPath, sole, removal_of};
+ghost use Rattle.jf_replay.specs.Changes.{IsNameIn, IsAtPath, sole, removal_of};
 
-use crate::fault::CheckFault;
+use crate::check_fault::CheckFault;
 use jf_diff::child_of;
 use jf_node::{Link, Seen, Snapshot};
 use jf_path::{Key, NibblePath, NodeName};

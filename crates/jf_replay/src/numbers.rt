@@ -1,7 +1,7 @@
 // Whether the numbers of listed nodes are in order.
 ghost use Rattle.std.specs.Prelude.{◌≡◌, ◌<◌, ◌^◌, length};
 ghost use Rattle.std.specs.List.{list_all};
-ghost use Rattle.jf_check.specs.Cuts.{has_numbers};
+ghost use Rattle.jf_replay.specs.Cuts.{has_numbers};
 
 use crate::since::NEVER;
 use jf_path::{NodeName, PlainNode};

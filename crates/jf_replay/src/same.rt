@@ -5,7 +5,7 @@ ghost use Rattle.jf_codec.specs.Counted.{in_format};
 ghost use Rattle.jf_payload.specs.Counted.{commit_in};
 ghost use Rattle.jf_standing.specs.Same.{same_child, same_node, same_written, same_commit};
 ghost use Rattle.jf_dir.specs.Directories.{landing_written};
-ghost use Rattle.jf_check.specs.Kept.{child_in_format, written_in_format};
+ghost use Rattle.jf_replay.specs.Kept.{child_in_format, written_in_format};
 
 use jf_codec::Format;
 use jf_diff::NamedNodes;

@@ -2,7 +2,7 @@
 ghost use Rattle.std.specs.Prelude.{◌≡◌, ℕ, ◌<◌, ◌++◌, ◌∷◌, [], ◌==◌, if◌then◌else◌, map, IsTrue, IfOk, OnOk};
 ghost use Rattle.jf_path.specs.Names.{are_rising};
 ghost use Rattle.jf_standing.specs.Named.{never, stale_at};
-ghost use Rattle.jf_check.specs.Cuts.{names_beside};
+ghost use Rattle.jf_replay.specs.Cuts.{names_beside};
 
 use jf_path::{Memory, NameList, NodeName, PlainNode};
 use std::alloc::Global;

@@ -4,9 +4,9 @@ use Rattle.jf_standing.proofs.Batches.{puts_of, removals_of}
 use Rattle.jf_standing.specs.Landing.{fresh_leaves}
 use Rattle.jf_standing.specs.Named.{leaf_entries}
 use Rattle.jf_standing.specs.Standing.{unmarked}
-use Rattle.jf_check.specs.Changes.{put_each, leaves_at}
-use Rattle.jf_check.proofs.Puts.{put_each-by_key}
-use Rattle.jf_check.proofs.changes.changes_in.Goals as goal
+use Rattle.jf_replay.specs.Changes.{put_each, leaves_at}
+use Rattle.jf_replay.proofs.Puts.{put_each-by_key}
+use Rattle.jf_replay.proofs.changes.changes_in.Goals as goal
 
 pub returns-clause-found : goal.returns-clause-found
 returns-clause-found c =

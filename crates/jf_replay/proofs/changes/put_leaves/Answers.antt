@@ -8,10 +8,10 @@ use Rattle.jf_path.specs.declared.node.PlainNode.{PlainNode}
 use Rattle.jf_standing.specs.Named.{leaf_entries}
 use Rattle.jf_standing.specs.Standing.{unmarked}
 use Rattle.jf_standing.proofs.Batches.{puts_of}
-use Rattle.jf_check.specs.Changes.{put_each}
-use Rattle.jf_check.proofs.Puts.{put-leaf-at, place-reversed, next-reversed}
-use Rattle.jf_check.proofs.changes.put_leaves.Goals as goal
-use Rattle.jf_check.proofs.changes.put_leaves.Goals.{In_ok-insert}
+use Rattle.jf_replay.specs.Changes.{put_each}
+use Rattle.jf_replay.proofs.Puts.{put-leaf-at, place-reversed, next-reversed}
+use Rattle.jf_replay.proofs.changes.put_leaves.Goals as goal
+use Rattle.jf_replay.proofs.changes.put_leaves.Goals.{In_ok-insert}
 
 step : (c : In_ok-insert) → c.insert.new.self.entries ≡ put_each (puts_of (leaf_entries (map unmarked (drop (length c.args.nodes.now - length (c.loop-node.yielded ++ c.in-Some.node ∷ [])) c.args.nodes.now)))) c.args.changes.now.entries
 step c =

@@ -2,8 +2,8 @@ use Rattle.std.proofs.Common.{◌≡◌, ◌-◌, drop, length, map}
 use Rattle.jf_standing.specs.Named.{leaf_entries}
 use Rattle.jf_standing.specs.Standing.{unmarked}
 use Rattle.jf_standing.proofs.Batches.{puts_of}
-use Rattle.jf_check.specs.Changes.{put_each}
-use Rattle.jf_check.proofs.changes.put_leaves.Given as goal
+use Rattle.jf_replay.specs.Changes.{put_each}
+use Rattle.jf_replay.proofs.changes.put_leaves.Given as goal
 
 -- the leaves so far are put
 abbrev pub invariant-loop-node : goal.invariant-loop-node

@@ -2,10 +2,10 @@ use Rattle.std.proofs.Common.{◌≡◌, ◌∙◌, ap, drop, ◌-◌, [], lengt
 use Rattle.std.proofs.lemmas.Iterator.Adapters.{YieldsList-from_rev_slice}
 use Rattle.std.proofs.lemmas.Iterator.Consumers.{YieldsList-turn}
 use Rattle.jf_standing.proofs.Batches.{removals_of}
-use Rattle.jf_check.specs.Changes.{put_each, leaves_at, removal_of}
-use Rattle.jf_check.proofs.Puts.{put-removal-at, place-reversed, next-reversed}
-use Rattle.jf_check.proofs.changes.removals.Goals as goal
-use Rattle.jf_check.proofs.changes.removals.Goals.{In_ok-insert}
+use Rattle.jf_replay.specs.Changes.{put_each, leaves_at, removal_of}
+use Rattle.jf_replay.proofs.Puts.{put-removal-at, place-reversed, next-reversed}
+use Rattle.jf_replay.proofs.changes.removals.Goals as goal
+use Rattle.jf_replay.proofs.changes.removals.Goals.{In_ok-insert}
 
 step : (c : In_ok-insert) → c.insert.new.self.entries ≡ put_each (removals_of (leaves_at c.args.snapshot.now.map (drop (length c.args.names.now - length (c.loop-name.yielded ++ c.in-Some.name ∷ [])) c.args.names.now))) []
 step c =

@@ -2,8 +2,8 @@ use Rattle.std.specs.Prelude.{Err}
 use Rattle.std.proofs.Common.{sym, ap, subst, arith}
 use Rattle.jf_payload.specs.Spelling.{IsCommit}
 use Rattle.jf_standing.specs.FormatLaws.{standing_in}
-use Rattle.jf_check.proofs.Listed.{step-making, step-spelled, step-landed, step-refused, names-later, all-landed}
-use Rattle.jf_check.proofs.checkpoint.land_later.Goals as goal
+use Rattle.jf_replay.proofs.Listed.{step-making, step-spelled, step-landed, step-refused, names-later, all-landed}
+use Rattle.jf_replay.proofs.checkpoint.land_later.Goals as goal
 
 pub check-requires-clause-spelled : goal.check-requires-clause-spelled
 check-requires-clause-spelled g c κs within =

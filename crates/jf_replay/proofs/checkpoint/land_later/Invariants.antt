@@ -1,8 +1,8 @@
 use Rattle.std.proofs.Common.{◌≡◌, ℕ, ◌+◌, ◌<◌, map}
 use Rattle.jf_standing.specs.FormatLaws.{standing_in}
 use Rattle.jf_standing.specs.Named.{Named, never, stale_at}
-use Rattle.jf_check.specs.Cuts.{names_beside, standing_by, standing_listed}
-use Rattle.jf_check.proofs.checkpoint.land_later.Given as goal
+use Rattle.jf_replay.specs.Cuts.{names_beside, standing_by, standing_listed}
+use Rattle.jf_replay.proofs.checkpoint.land_later.Given as goal
 
 -- the versions so far have landed, and the names of the nodes that are stale since a later one are there
 abbrev pub invariant-loop-step : goal.invariant-loop-step

@@ -4,9 +4,9 @@ use Rattle.jf_codec.specs.declared.format.Format.TheVariants as format
 use Rattle.jf_node.specs.SnapshotValue.{SnapshotValue}
 use Rattle.jf_standing.specs.Building.{landed_on}
 use Rattle.jf_standing.specs.FormatLaws.{standing_in}
-use Rattle.jf_check.proofs.Spelled.{spelled-entries, spelled-short, spelled-IsInOrder}
-use Rattle.jf_check.proofs.Verdicts.{same-taken, sound-MayBeNext, sound-same}
-use Rattle.jf_check.proofs.commit.check.Goals as goal
+use Rattle.jf_replay.proofs.Spelled.{spelled-entries, spelled-short, spelled-IsInOrder}
+use Rattle.jf_replay.proofs.Verdicts.{same-taken, sound-MayBeNext, sound-same}
+use Rattle.jf_replay.proofs.commit.check.Goals as goal
 
 pub next_of-requires-clause-entries : goal.next_of-requires-clause-entries
 next_of-requires-clause-entries g c κs within = spelled-entries c.args.format c.args.commit.now c.requires.spelled

@@ -1,8 +1,8 @@
 use Rattle.std.proofs.Common.{sym, ◌∙◌, subst}
 use Rattle.jf_hash.specs.Maps.{IsBatch}
 use Rattle.jf_update.specs.Outcomes.{AreShort}
-use Rattle.jf_check.proofs.Spelled.{changes_of-IsBatch, changes_of-AreShort}
-use Rattle.jf_check.proofs.commit.next_of.Goals as goal
+use Rattle.jf_replay.proofs.Spelled.{changes_of-IsBatch, changes_of-AreShort}
+use Rattle.jf_replay.proofs.commit.next_of.Goals as goal
 
 pub next-requires-clause-batch : goal.next-requires-clause-batch
 next-requires-clause-batch g c κs within =

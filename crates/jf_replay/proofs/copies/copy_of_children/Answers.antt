@@ -1,7 +1,7 @@
 use Rattle.std.proofs.Common.{sym, ap, ◌∙◌, take, subst, ◌++◌, ◌∷◌, []}
 use Rattle.jf_path.specs.Nodes.{ChildrenRiseFrom}
-use Rattle.jf_check.proofs.Fronts.{children-next}
-use Rattle.jf_check.proofs.copies.copy_of_children.Goals as goal
+use Rattle.jf_replay.proofs.Fronts.{children-next}
+use Rattle.jf_replay.proofs.copies.copy_of_children.Goals as goal
 
 pub push-requires : goal.push-requires
 push-requires c =

@@ -1,5 +1,5 @@
 use Rattle.std.proofs.Common.{◌≡◌, take}
-use Rattle.jf_check.proofs.copies.copy_of_children.Given as goal
+use Rattle.jf_replay.proofs.copies.copy_of_children.Given as goal
 
 -- the copy has the children so far
 abbrev pub invariant-loop-child : goal.invariant-loop-child

@@ -1,10 +1,10 @@
 use Rattle.std.proofs.Common.{◌≡◌, ◌∙◌, ap, drop, ◌-◌}
 use Rattle.std.specs.BTreeMap.{insert_entry}
 use Rattle.jf_path.specs.Keys.{key_cmp}
-use Rattle.jf_check.specs.Floors.{entries_in}
-use Rattle.jf_check.proofs.KeyOrder.{leaf_put_at}
-use Rattle.jf_check.proofs.entries.leaves_of.Goals as goal
-use Rattle.jf_check.proofs.entries.leaves_of.Goals.{In_ok-insert}
+use Rattle.jf_replay.specs.Floors.{entries_in}
+use Rattle.jf_replay.proofs.KeyOrder.{leaf_put_at}
+use Rattle.jf_replay.proofs.entries.leaves_of.Goals as goal
+use Rattle.jf_replay.proofs.entries.leaves_of.Goals.{In_ok-insert}
 
 step : (c : In_ok-insert) → c.insert.new.self.entries ≡ entries_in (drop (c.loop-i.i - 1) c.args.nodes.now)
 step c =

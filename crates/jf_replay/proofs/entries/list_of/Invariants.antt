@@ -1,5 +1,5 @@
 use Rattle.std.proofs.Common.{◌≡◌, ◌++◌}
-use Rattle.jf_check.proofs.entries.list_of.Given as goal
+use Rattle.jf_replay.proofs.entries.list_of.Given as goal
 
 -- the entries so far, and those that the iterator still gives, are all
 abbrev pub invariant-loop-key : goal.invariant-loop-key

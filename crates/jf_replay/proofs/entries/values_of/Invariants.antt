@@ -1,5 +1,5 @@
 use Rattle.std.proofs.Common.{◌≡◌, ◌++◌, List, ℕ, map}
-use Rattle.jf_check.proofs.entries.values_of.Given as goal
+use Rattle.jf_replay.proofs.entries.values_of.Given as goal
 
 -- the versions so far, and those that the iterator still gives, are all
 abbrev pub invariant-loop-version : goal.invariant-loop-version

@@ -1,7 +1,7 @@
 use Rattle.std.proofs.Common.{◌≡◌, drop, map}
 use Rattle.std.specs.Cmp.Lexicographic.{pointwise}
-use Rattle.jf_check.specs.Floors.{listed_in, same_listed}
-use Rattle.jf_check.proofs.floor.are_same.Given as goal
+use Rattle.jf_replay.specs.Floors.{listed_in, same_listed}
+use Rattle.jf_replay.proofs.floor.are_same.Given as goal
 
 -- the lists are equal if the nodes that are left are
 abbrev pub invariant-loop-i : goal.invariant-loop-i

@@ -1,7 +1,7 @@
 use Rattle.std.specs.Prelude.{Err}
 use Rattle.std.proofs.Common.{sym, ap, ◌∙◌, subst, ◌<◌, ◌^◌, arith}
-use Rattle.jf_check.proofs.FloorFound.{refused-versions, refused-room, refused-root, refused-nodes, begun, no-difference, no-other}
-use Rattle.jf_check.proofs.floor.floor_directory.Goals as goal
+use Rattle.jf_replay.proofs.FloorFound.{refused-versions, refused-room, refused-root, refused-nodes, begun, no-difference, no-other}
+use Rattle.jf_replay.proofs.floor.floor_directory.Goals as goal
 
 pub returns-in_err-snapshot-clause-unsound : goal.returns-in_err-snapshot-clause-unsound
 returns-in_err-snapshot-clause-unsound c =

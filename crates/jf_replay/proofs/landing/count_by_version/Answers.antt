@@ -1,8 +1,8 @@
 use Rattle.std.proofs.Common.{rules}
 use Rattle.std.proofs.lemmas.List.Sorted.{IsPartitionPoint-from_clause}
-use Rattle.jf_check.specs.Cuts.{is_written_by}
-use Rattle.jf_check.proofs.Runs.{parted, take-point}
-use Rattle.jf_check.proofs.later.count_by_version.Goals as goal
+use Rattle.jf_replay.specs.Cuts.{is_written_by}
+use Rattle.jf_replay.proofs.Runs.{parted, take-point}
+use Rattle.jf_replay.proofs.landing.count_by_version.Goals as goal
 
 pub returns-clause-front : goal.returns-clause-front
 returns-clause-front c =

@@ -3,8 +3,8 @@ use Rattle.std.proofs.Common.{sym, ap₂, subst, ◌++◌, ◌∷◌, [], map}
 use Rattle.jf_path.specs.declared.name.NodeName.{NodeName}
 use Rattle.jf_path.specs.declared.node.PlainNode.{PlainNode}
 use Rattle.jf_path.specs.Names.{are_rising}
-use Rattle.jf_check.proofs.Fronts.{rising-next}
-use Rattle.jf_check.proofs.later.fresh_list.Goals as goal
+use Rattle.jf_replay.proofs.Fronts.{rising-next}
+use Rattle.jf_replay.proofs.landing.fresh_list.Goals as goal
 
 pub push-requires : goal.push-requires
 push-requires c =

@@ -1,6 +1,6 @@
 use Rattle.std.proofs.Common.{◌≡◌, map, take}
-use Rattle.jf_check.specs.Cuts.{without_since}
-use Rattle.jf_check.proofs.later.fresh_list.Given as goal
+use Rattle.jf_replay.specs.Cuts.{without_since}
+use Rattle.jf_replay.proofs.landing.fresh_list.Given as goal
 
 -- the list has the nodes so far
 abbrev pub invariant-loop-node : goal.invariant-loop-node

@@ -1,5 +1,5 @@
-use Rattle.jf_check.proofs.Runs.{ends-rise, run-written}
-use Rattle.jf_check.proofs.later.places_of.Goals as goal
+use Rattle.jf_replay.proofs.Runs.{ends-rise, run-written}
+use Rattle.jf_replay.proofs.landing.places_of.Goals as goal
 
 pub returns-clause-order : goal.returns-clause-order
 returns-clause-order c =

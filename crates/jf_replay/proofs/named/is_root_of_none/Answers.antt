@@ -1,7 +1,7 @@
 use Rattle.std.specs.Cmp.{unsigned_Decides}
 use Rattle.std.proofs.Common.{eq-eqb, ◌∙◌}
-use Rattle.jf_check.proofs.Nodes.{none_named}
-use Rattle.jf_check.proofs.named.is_root_of_none.Goals as goal
+use Rattle.jf_replay.proofs.Nodes.{none_named}
+use Rattle.jf_replay.proofs.named.is_root_of_none.Goals as goal
 
 pub returns-else-len-eq0 : goal.returns-else-len-eq0
 returns-else-len-eq0 c = (

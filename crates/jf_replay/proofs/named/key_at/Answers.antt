@@ -1,9 +1,9 @@
 use Rattle.std.proofs.Common.{ap, ◌∙◌}
 use Rattle.jf_hash.specs.Slots.{Part}
 use Rattle.jf_standing.proofs.Batches.{removals_of}
-use Rattle.jf_check.specs.Changes.{sole}
-use Rattle.jf_check.proofs.Nodes.{entries-at_top, none_under}
-use Rattle.jf_check.proofs.named.key_at.Goals as goal
+use Rattle.jf_replay.specs.Changes.{sole}
+use Rattle.jf_replay.proofs.Nodes.{entries-at_top, none_under}
+use Rattle.jf_replay.proofs.named.key_at.Goals as goal
 
 pub returns-then-is_root_of_none-clause-found : goal.returns-then-is_root_of_none-clause-found
 returns-then-is_root_of_none-clause-found c =

@@ -1,9 +1,9 @@
 use Rattle.std.proofs.Common.{None, sym, ap, subst, drop-cons, arith}
 use Rattle.std.specs.Option.{option_copied}
 use Rattle.jf_diff.specs.Below.{IsBelow}
-use Rattle.jf_check.specs.Changes.{IsAtPath}
-use Rattle.jf_check.proofs.Nodes.{at_none}
-use Rattle.jf_check.proofs.named.node_below.Goals as goal
+use Rattle.jf_replay.specs.Changes.{IsAtPath}
+use Rattle.jf_replay.proofs.Nodes.{at_none}
+use Rattle.jf_replay.proofs.named.node_below.Goals as goal
 
 pub returns-in_err-node : goal.returns-in_err-node
 returns-in_err-node c =

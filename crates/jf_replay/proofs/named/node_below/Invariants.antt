@@ -2,7 +2,7 @@ use Rattle.std.proofs.Common.{◌≡◌, drop, Some}
 use Rattle.jf_model.specs.ChildEntries.{sub}
 use Rattle.jf_node.specs.LinkFacts.{IsLink}
 use Rattle.jf_node.specs.LinkValue.{link_version_at}
-use Rattle.jf_check.proofs.named.node_below.Given as goal
+use Rattle.jf_replay.proofs.named.node_below.Given as goal
 
 -- what stands below the node at the rest of the path is what stands below the first node at the whole path
 abbrev pub invariant-loop-i : goal.invariant-loop-i

@@ -1,7 +1,7 @@
 use Rattle.std.proofs.Common.{◌≡◌, true, take}
 use Rattle.std.specs.List.{list_all}
-use Rattle.jf_check.specs.Cuts.{has_numbers}
-use Rattle.jf_check.proofs.numbers.have_numbers.Given as goal
+use Rattle.jf_replay.specs.Cuts.{has_numbers}
+use Rattle.jf_replay.proofs.numbers.have_numbers.Given as goal
 
 -- the nodes so far pass
 abbrev pub invariant-loop-node : goal.invariant-loop-node

@@ -2,9 +2,9 @@ use Rattle.std.proofs.Common.{ap, ap₂, ◌∙◌, sym, map}
 use Rattle.std.specs.Cmp.Lexicographic.{pointwise}
 use Rattle.jf_codec.specs.Counted.{in_format}
 use Rattle.jf_standing.specs.Same.{same_child, same_node}
-use Rattle.jf_check.specs.Kept.{child_in_format}
-use Rattle.jf_check.proofs.Kept.{inner_kept}
-use Rattle.jf_check.proofs.same.is_same_node.Goals as goal
+use Rattle.jf_replay.specs.Kept.{child_in_format}
+use Rattle.jf_replay.proofs.Kept.{inner_kept}
+use Rattle.jf_replay.proofs.same.is_same_node.Goals as goal
 
 pub returns-in-Inner-Inner : goal.returns-in-Inner-Inner
 returns-in-Inner-Inner c =

@@ -1,8 +1,8 @@
 use Rattle.std.specs.Prelude.{IsTrue}
 use Rattle.std.proofs.Common.{sym, subst, ◌++◌, ◌∷◌, []}
 use Rattle.jf_path.specs.Names.{are_rising}
-use Rattle.jf_check.proofs.Fronts.{stale-rising}
-use Rattle.jf_check.proofs.since.names_by_since.Goals as goal
+use Rattle.jf_replay.proofs.Fronts.{stale-rising}
+use Rattle.jf_replay.proofs.since.names_by_since.Goals as goal
 
 pub add_name-requires : goal.add_name-requires
 add_name-requires c =

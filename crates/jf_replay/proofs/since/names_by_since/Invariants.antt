@@ -1,7 +1,7 @@
 use Rattle.std.proofs.Common.{◌≡◌, ℕ, ◌<◌, map, take}
 use Rattle.jf_standing.specs.Named.{Named, never, stale_at}
-use Rattle.jf_check.specs.Cuts.{names_beside}
-use Rattle.jf_check.proofs.since.names_by_since.Given as goal
+use Rattle.jf_replay.specs.Cuts.{names_beside}
+use Rattle.jf_replay.proofs.since.names_by_since.Given as goal
 
 -- beside each version stand the names of the nodes so far that are stale since then
 abbrev pub invariant-loop-node : goal.invariant-loop-node
