@@ -110,7 +110,7 @@ no_root r kind ws range untold e = elim (is_word kind (codes "root")) as (λ b. 
   | true ↦ λ is.
       let same : kind ≡ codes "root" = (bytes_eq-Decides kind (codes "root")).0 is in
       let root = reply_words-root r ws range (e ∙ ap (λ (w : List ℕ). codes "ok" ∷ w ∷ ws) same) in
-      absurd (let both = sym untold ∙ ap told_by root in cc)
+      absurd (let both : None ≡ Some [] = sym untold ∙ ap told_by root in cc)
 ] refl
 
 no_proof : (r : Reply) (kind : List ℕ) (ws : List (List ℕ)) → IsInRange r → told_by r ≡ None → reply_words r ≡ codes "ok" ∷ kind ∷ ws → is_word kind (codes "proof") ≡ false
@@ -119,7 +119,7 @@ no_proof r kind ws range untold e = elim (is_word kind (codes "proof")) as (λ b
   | true ↦ λ is.
       let same : kind ≡ codes "proof" = (bytes_eq-Decides kind (codes "proof")).0 is in
       let proof = reply_words-proof r ws range (e ∙ ap (λ (w : List ℕ). codes "ok" ∷ w ∷ ws) same) in
-      absurd (let both = sym untold ∙ ap told_by proof in cc)
+      absurd (let both : None ≡ Some (codes "accepted\n") = sym untold ∙ ap told_by proof in cc)
 ] refl
 
 -- two words of which the first is none of these begin nothing
