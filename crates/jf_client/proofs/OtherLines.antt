@@ -1,7 +1,7 @@
 -- The lines of replies that set no root and begin no proof.
 use Rattle.std.specs.List.{AllByRecursion, join_with_byte}
 use Rattle.std.proofs.lemmas.Slice.Eq.{bytes_eq-Decides}
-use Rattle.std.proofs.Common.{◌≡◌, Bool, inl, inr, ℕ, ◌^◌, ◌<◌, ◌≤◌, ◌&&◌, true, false, cond, is_some, List, [], ◌∷◌, ◌++◌, length, Option, Some, None, codes, decimal, refl, sym, ap, ◌∙◌, subst, append_assoc, append-nil, option_map, option_and_then}
+use Rattle.std.proofs.Common.{◌≡◌, Bool, inl, inr, ℕ, ◌^◌, ◌<◌, ◌≤◌, ◌&&◌, true, false, cond, is_some, List, [], ◌∷◌, ◌++◌, length, Option, Some, None, codes, decimal, refl, sym, ap, ap₂, ◌∙◌, subst, append_assoc, append-nil, option_map, option_and_then}
 use Rattle.hex.specs.Hex.{encode_lower, IsBytes}
 use Rattle.jf_hash.specs.Roots.{root}
 use Rattle.jf_io.specs.Lines.{lines}
@@ -124,9 +124,12 @@ no_proof r kind ws range untold e = elim (is_word kind (codes "proof")) as (λ b
 
 -- two words of which the first is none of these begin nothing
 neither_from : (kind : List ℕ) (ws : List (List ℕ)) → is_word kind (codes "root") ≡ false → is_word kind (codes "proof") ≡ false → first_from (kind ∷ ws) ≡ None
-neither_from kind [] root proof = refl
-neither_from kind (w ∷ []) root proof = rw (root, proof) refl
-neither_from kind (w ∷ v ∷ ws) root proof = refl
+neither_from kind [] other another = refl
+neither_from kind (w ∷ []) other another = ap₂ (λ (b c : Bool). elim (option_and_then hash_of (cond b (Some w) None)) as (λ x. Option FirstLine) [
+  | Some h ↦ Some (first.Root h)
+  | None ↦ option_map (λ n. first.Proof n) (option_and_then (number_upto 65535) (cond c (Some w) None))
+]) other another
+neither_from kind (w ∷ v ∷ ws) other another = refl
 
 begun_with : (n : ℕ) (r : Reply) (b : Bool) (kind : List ℕ) (ws : List (List ℕ)) → n < 2 ^ 64 → told_by r ≡ None → IsInRange r
     → reply_words r ≡ cond b (codes "no") (codes "ok") ∷ kind ∷ ws → first_line_of (decimal n ∷ reply_words r) ≡ None
