@@ -7,6 +7,7 @@ use Rattle.jf_hash.specs.Maps.{apply, Map}
 use Rattle.jf_hash.specs.Roots.{root}
 use Rattle.jf_model.specs.States.{State, versions}
 use Rattle.jf_model.specs.declared.entries.Entry.{Entry}
+use Rattle.jf_model.specs.declared.entries.Parent.{Parent}
 use Rattle.jf_model.specs.Entries.{after, landed_batches}
 use Rattle.jf_model.specs.Versions.{newest}
 use Rattle.jf_model.specs.Forks.{parent_map, fork_map, drop_count}
@@ -17,16 +18,21 @@ use Rattle.jf_evidence.specs.Proofs.{honest}
 use Rattle.jf_evidence.specs.Ranges.{chunk_entries, honest_chunk}
 use Rattle.jf_text.specs.Words.{is_long}
 use Rattle.jf_script.specs.declared.reply.Reply.{Reply}
-use Rattle.jf_script.specs.declared.command.Base.{Base}
+use Rattle.jf_script.specs.declared.command.Question.{Question}
+use Rattle.jf_script.specs.declared.command.OwnCommand.{OwnCommand}
+use Rattle.jf_script.specs.declared.command.Change.{Change}
 use Rattle.jf_script.specs.declared.command.Command.{Command}
-use Rattle.jf_script.specs.Commands.{command_of}
+use Rattle.jf_script.specs.Commands.{command_of, question_of}
 use Rattle.jf_script.specs.declared.reply.Reply.TheVariants as reply
 use Rattle.jf_script.specs.declared.reply.Refusal.TheVariants as refusal
+use Rattle.jf_script.specs.declared.command.Question.TheVariants as question
+use Rattle.jf_script.specs.declared.command.OwnCommand.TheVariants as own_command
+use Rattle.jf_script.specs.declared.command.Change.TheVariants as change
 use Rattle.jf_script.specs.declared.command.Command.TheVariants as command
 use Rattle.jf_blocks.specs.Blocks.{proof_lines, chunk_lines}
 use Rattle.jf_answers.specs.Own.{Own, pinned, free_place, with_pending, with_pin}
 use Rattle.jf_answers.specs.Prunings.{next_floor}
-use Rattle.jf_answers.specs.Refusals.{base_map, parent_named, refused_by}
+use Rattle.jf_answers.specs.Refusals.{base_map, refused_by}
 
 -- the reply, the lines of its block, the entry that the line makes, if any, and the state and own part after the line
 pub record Answer : Type 0 where
@@ -52,13 +58,55 @@ not_read s own = replied (reply.No refusal.Syntax) s own
 abbrev pub too_long : State → Own → Answer
 too_long s own = replied (reply.No refusal.Long) s own
 
--- ---- commands that are granted
+-- ---- questions
+-- the number of siblings, and a block: what a map says of a name, with the honest proof of it
+abbrev pub proved : List ℕ → Map → Reply × List ℕ
+proved name m =
+    let proof = honest m (K name) in
+    (reply.Proof (length proof.siblings), proof_lines name (get m (K name)) proof)
+
+-- the number of entries, the depth and the number of siblings, and a block: the entries of a map from a place on, with their honest proof
+abbrev pub chunked : ℕ → ℕ → Map → Reply × List ℕ
+chunked start count m =
+    let es = chunk_entries m start count in
+    let proof = honest_chunk m start count in
+    (reply.Chunk (length es) proof.depth (length proof.siblings), chunk_lines es proof)
+
+-- the entry of a map at a place, counted from 0 in the order of the keys
+abbrev pub entry_at : Map → ℕ → List ℕ × List ℕ
+entry_at m place = slice_index_or (entries m) place ([], [])
+
+-- the reply to a question over a map, and the lines of its block
+abbrev pub answer_of : Question → Map → Reply × List ℕ
+answer_of (question.Get name) m = (reply.Value (get m (K name)), [])
+answer_of question.Root m = (reply.Root (root m), [])
+answer_of (question.Prove name) m = proved name m
+answer_of (question.Chunk start count) m = chunked start count m
+answer_of question.Count m = (reply.Count (len m), [])
+answer_of (question.Nth place) m = (reply.Nth (entry_at m place).0 (entry_at m place).1, [])
+
+-- a question is answered over a map, and nothing changes
+abbrev pub read_answer : Question → Map → State → Own → Answer
+read_answer q m s own = record { reply = (answer_of q m).0; block = (answer_of q m).1; entry = None; state = s; own = own }
+
+-- ---- commands on what the session keeps for itself
 -- the pending batch gets a value, or a removal, at the key of a name
 abbrev pub pending_changed : List ℕ → Option (List ℕ) → State → Own → Answer
 pending_changed name value s own =
     let batch = put key_cmp (K name) value own.pending in
     replied (reply.Pending (length batch)) s (with_pending batch own)
 
+-- a place is free again; the reply has the version that was pinned there
+abbrev pub place_freed : ℕ → State → Own → Answer
+place_freed place s own = replied (reply.Unpin (unwrap_or (pinned own place) 0)) s (with_pin place None own)
+
+-- the answer to such a command that nothing refuses
+abbrev pub granted_own : OwnCommand → State → Own → Answer
+granted_own (own_command.Put name value) s own = pending_changed name (Some value) s own
+granted_own (own_command.Del name) s own = pending_changed name None s own
+granted_own (own_command.Unpin place) s own = place_freed place s own
+
+-- ---- commands that give an entry
 -- the pending batch is landed on the head
 abbrev pub committed : State → Own → Answer
 committed s own =
@@ -66,10 +114,10 @@ committed s own =
     entered (reply.Commit (s.all.head + 1) r) (entry.Landed own.number (s.all.head + 1) (landing.Direct own.pending) r 0) s (with_pending [] own)
 
 -- a fork of the pending batch is made on a parent
-abbrev pub forked : Base → State → Own → Answer
+abbrev pub forked : Parent → State → Own → Answer
 forked on s own =
-    let r = root (apply (parent_map (newest s.all) s.forks (parent_named on)) own.pending) in
-    entered (reply.Fork s.made r) (entry.Made own.number s.made (parent_named on) own.pending r) s (with_pending [] own)
+    let r = root (apply (parent_map (newest s.all) s.forks on) own.pending) in
+    entered (reply.Fork s.made r) (entry.Made own.number s.made on own.pending r) s (with_pending [] own)
 
 -- a fork is landed with its ancestors, one version each; the reply has the last of them
 abbrev pub fork_landed : ℕ → State → Own → Answer
@@ -82,37 +130,6 @@ fork_landed id s own =
 abbrev pub fork_dropped : ℕ → State → Own → Answer
 fork_dropped id s own = entered (reply.Drop (drop_count id s.forks)) (entry.Dropped own.number id) s own
 
--- the reply with the number of siblings, and a block: what a map says of a name, with the honest proof of it
-abbrev pub proved : Map → List ℕ → State → Own → Answer
-proved m name s own =
-    let proof = honest m (K name) in
-    record { reply = reply.Proof (length proof.siblings); block = proof_lines name (get m (K name)) proof; entry = None; state = s; own = own }
-
--- the reply with the number of entries, the depth and the number of siblings, and a block: the entries of a map from a place on, with their honest proof
-abbrev pub chunked : Map → ℕ → ℕ → State → Own → Answer
-chunked m start count s own =
-    let es = chunk_entries m start count in
-    let proof = honest_chunk m start count in
-    record { reply = reply.Chunk (length es) proof.depth (length proof.siblings); block = chunk_lines es proof; entry = None; state = s; own = own }
-
--- the entry of a map at a place, counted from 0 in the order of the keys
-abbrev pub entry_at : Map → ℕ → List ℕ × List ℕ
-entry_at m place = slice_index_or (entries m) place ([], [])
-
--- the reply with the key and the value at a place of a map
-abbrev pub entry_told : Map → ℕ → State → Own → Answer
-entry_told m place s own =
-    let e = entry_at m place in
-    replied (reply.Nth e.0 e.1) s own
-
--- a version is pinned at the least free place
-abbrev pub version_pinned : ℕ → State → Own → Answer
-version_pinned version s own = replied (reply.Pin (free_place own)) s (with_pin (free_place own) (Some version) own)
-
--- a place is free again; the reply has the version that was pinned there
-abbrev pub place_freed : ℕ → State → Own → Answer
-place_freed place s own = replied (reply.Unpin (unwrap_or (pinned own place) 0)) s (with_pin place None own)
-
 -- the versions below a bound are retired, and the floor becomes this one
 abbrev pub retired_below : ℕ → ℕ → State → Own → Answer
 retired_below upto floor s own = entered (reply.Prune upto floor) (entry.Retired own.number upto floor) s own
@@ -121,29 +138,32 @@ retired_below upto floor s own = entered (reply.Prune upto floor) (entry.Retired
 abbrev pub compacted : State → Own → Answer
 compacted s own = entered (reply.Compact (s.generation + 1)) (entry.Compacted own.number (s.generation + 1)) s own
 
+-- the answer to such a command that nothing refuses
+abbrev pub granted_change : Change → State → Own → Answer
+granted_change change.Commit s own = committed s own
+granted_change (change.Fork on) s own = forked on s own
+granted_change (change.Land id) s own = fork_landed id s own
+granted_change (change.Drop id) s own = fork_dropped id s own
+granted_change (change.Prune upto) s own = retired_below upto (next_floor upto s own) s own
+granted_change change.Compact s own = compacted s own
+
+-- ---- commands
 -- the numbers of a store: its base, floor, retired bound and head, the nodes that it keeps, its live forks and its generation
 abbrev pub status_reply : State → Reply
 status_reply s = reply.Status s.all.base s.floor s.retired s.all.head (kept_nodes (versions s)) (length s.forks) s.generation
 
+-- a version is pinned at the least free place
+abbrev pub version_pinned : ℕ → State → Own → Answer
+version_pinned version s own = replied (reply.Pin (free_place own)) s (with_pin (free_place own) (Some version) own)
+
 -- the answer to a command that nothing refuses
 abbrev pub granted : Command → State → Own → Answer
-granted (command.Put name value) s own = pending_changed name (Some value) s own
-granted (command.Del name) s own = pending_changed name None s own
-granted command.Commit s own = committed s own
-granted (command.Fork on) s own = forked on s own
-granted (command.Land id) s own = fork_landed id s own
-granted (command.Drop id) s own = fork_dropped id s own
-granted (command.Get on name) s own = replied (reply.Value (get (base_map s own on) (K name))) s own
-granted (command.Root on) s own = replied (reply.Root (root (base_map s own on))) s own
-granted (command.Prove on name) s own = proved (base_map s own on) name s own
-granted (command.Chunk on start count) s own = chunked (base_map s own on) start count s own
-granted (command.Count on) s own = replied (reply.Count (len (base_map s own on))) s own
-granted (command.Nth on place) s own = entry_told (base_map s own on) place s own
+granted (command.Own c) s own = granted_own c s own
+granted (command.Read on q) s own = read_answer q (base_map s own on) s own
+granted (command.ReadFork id q) s own = read_answer (question_of q) (fork_map (newest s.all) s.forks id) s own
+granted command.Look s own = replied (status_reply s) s own
 granted (command.Pin version) s own = version_pinned version s own
-granted (command.Unpin place) s own = place_freed place s own
-granted (command.Prune upto) s own = retired_below upto (next_floor upto s own) s own
-granted command.Compact s own = compacted s own
-granted command.Status s own = replied (status_reply s) s own
+granted (command.Change c) s own = granted_change c s own
 
 -- the answer to a command: the first refusal, which changes nothing, or otherwise what the command does
 abbrev pub answer_command : State → Own → Command → Answer

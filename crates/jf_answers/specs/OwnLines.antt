@@ -11,28 +11,16 @@ use Rattle.jf_script.specs.declared.command.Command.TheVariants as command
 abbrev pub is_place : Base → Bool
 is_place base.Head = false
 is_place (base.Version version) = false
-is_place (base.Fork id) = false
 is_place (base.Place place) = true
 
 -- the commands that ask nothing of the store: `put`, `del`, `unpin` and the reads of a place
 abbrev pub is_own_command : Command → Bool
-is_own_command (command.Put name value) = true
-is_own_command (command.Del name) = true
-is_own_command command.Commit = false
-is_own_command (command.Fork on) = false
-is_own_command (command.Land id) = false
-is_own_command (command.Drop id) = false
-is_own_command (command.Get on name) = is_place on
-is_own_command (command.Root on) = is_place on
-is_own_command (command.Prove on name) = is_place on
-is_own_command (command.Chunk on start count) = is_place on
-is_own_command (command.Count on) = is_place on
-is_own_command (command.Nth on place) = is_place on
+is_own_command (command.Own c) = true
+is_own_command (command.Read on q) = is_place on
+is_own_command (command.ReadFork id q) = false
+is_own_command command.Look = false
 is_own_command (command.Pin version) = false
-is_own_command (command.Unpin place) = true
-is_own_command (command.Prune upto) = false
-is_own_command command.Compact = false
-is_own_command command.Status = false
+is_own_command (command.Change c) = false
 
 -- a line asks nothing of the store also if it is no command
 abbrev pub is_own : Option Command → Bool
@@ -46,23 +34,12 @@ is_own_line line = is_long line || is_own (command_of line)
 -- the version that a command pins
 abbrev pub pin_of_command : Option Command → Option ℕ
 pin_of_command None = None
-pin_of_command (Some (command.Put name value)) = None
-pin_of_command (Some (command.Del name)) = None
-pin_of_command (Some command.Commit) = None
-pin_of_command (Some (command.Fork on)) = None
-pin_of_command (Some (command.Land id)) = None
-pin_of_command (Some (command.Drop id)) = None
-pin_of_command (Some (command.Get on name)) = None
-pin_of_command (Some (command.Root on)) = None
-pin_of_command (Some (command.Prove on name)) = None
-pin_of_command (Some (command.Chunk on start count)) = None
-pin_of_command (Some (command.Count on)) = None
-pin_of_command (Some (command.Nth on place)) = None
+pin_of_command (Some (command.Own c)) = None
+pin_of_command (Some (command.Read on q)) = None
+pin_of_command (Some (command.ReadFork id q)) = None
+pin_of_command (Some command.Look) = None
 pin_of_command (Some (command.Pin version)) = Some version
-pin_of_command (Some (command.Unpin place)) = None
-pin_of_command (Some (command.Prune upto)) = None
-pin_of_command (Some command.Compact) = None
-pin_of_command (Some command.Status) = None
+pin_of_command (Some (command.Change c)) = None
 
 -- the version that a line `pin` names
 unfoldable pub pin_of : List ℕ → Option ℕ

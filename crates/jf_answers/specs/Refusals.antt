@@ -2,7 +2,7 @@
 use Rattle.std.specs.Prelude.{ℕ, ◌+◌, ◌-◌, ◌^◌, Bool, not, nat_le, nat_lt, List, [], ◌∷◌, ◌++◌, length, Option, is_none, unwrap_or}
 use Rattle.std.specs.FinMap.{len}
 use Rattle.jf_path.specs.Checks.{first_of}
-use Rattle.jf_path.specs.Limits.{max_forks}
+use Rattle.jf_path.specs.Limits.{max_forks, max_pins}
 use Rattle.jf_hash.specs.Hashes.{K}
 use Rattle.jf_hash.specs.Maps.{Map}
 use Rattle.jf_split.specs.Limits.{is_full, max_keys}
@@ -12,29 +12,27 @@ use Rattle.jf_model.specs.Forks.{is_among, of_parent, fork_map}
 use Rattle.jf_model.specs.States.{State}
 use Rattle.jf_model.specs.Entries.{landed_batches}
 use Rattle.jf_model.specs.declared.entries.Parent.{Parent}
-use Rattle.jf_model.specs.declared.entries.Parent.TheVariants as parent
 use Rattle.jf_model.specs.declared.entries.Landing.TheVariants as landing
 use Rattle.jf_answers.specs.Own.{Own, pinned, free_place}
 use Rattle.jf_script.specs.declared.command.Base.{Base}
 use Rattle.jf_script.specs.declared.command.Base.TheVariants as base
+use Rattle.jf_script.specs.declared.command.Question.{Question}
+use Rattle.jf_script.specs.declared.command.Question.TheVariants as question
+use Rattle.jf_script.specs.declared.command.OwnCommand.{OwnCommand}
+use Rattle.jf_script.specs.declared.command.OwnCommand.TheVariants as own_command
+use Rattle.jf_script.specs.declared.command.Change.{Change}
+use Rattle.jf_script.specs.declared.command.Change.TheVariants as change
 use Rattle.jf_script.specs.declared.command.Command.{Command}
 use Rattle.jf_script.specs.declared.command.Command.TheVariants as command
+use Rattle.jf_script.specs.Commands.{question_of}
 use Rattle.jf_script.specs.declared.reply.Refusal.{Refusal}
 use Rattle.jf_script.specs.declared.reply.Refusal.TheVariants as refusal
 
--- the map that a base names
+-- the stored map that a base names
 abbrev pub base_map : State → Own → Base → Map
 base_map s own base.Head = newest s.all
 base_map s own (base.Version w) = map_of s.all w
-base_map s own (base.Fork id) = fork_map (newest s.all) s.forks id
 base_map s own (base.Place place) = map_of s.all (unwrap_or (pinned own place) 0)
-
--- the parent that the base of `fork` names: a fork, or the head
-abbrev pub parent_named : Base → Parent
-parent_named base.Head = parent.Head
-parent_named (base.Version w) = parent.Head
-parent_named (base.Fork id) = parent.Fork id
-parent_named (base.Place place) = parent.Head
 
 -- ---- single causes: a test, and the refusal if it holds
 
@@ -82,15 +80,14 @@ key_causes count = (nat_lt max_keys count, refusal.Keys count) ∷ []
 abbrev pub pin_causes : Own → ℕ → Causes
 pin_causes own place = (is_none (pinned own place), refusal.NoPin) ∷ []
 
--- each of the 8 places holds a version
+-- each place holds a version
 abbrev pub place_causes : Own → Causes
-place_causes own = (nat_le 8 (free_place own), refusal.PinsFull) ∷ []
+place_causes own = (nat_le max_pins (free_place own), refusal.PinsFull) ∷ []
 
--- a base can't be read
+-- a stored map can't be read
 abbrev pub base_causes : State → Own → Base → Causes
 base_causes s own base.Head = []
 base_causes s own (base.Version w) = version_causes s w
-base_causes s own (base.Fork id) = fork_causes s id
 base_causes s own (base.Place place) = pin_causes own place
 
 -- a map has no entry at a place, and this is the number of its entries
@@ -99,31 +96,41 @@ range_causes m start = (nat_le (len m) start, refusal.Range (len m)) ∷ []
 
 -- ---- the causes of each command, in order
 
+-- a question can't be answered over a map
+abbrev pub question_causes : Question → Map → Causes
+question_causes (question.Chunk start count) m = range_causes m start
+question_causes (question.Nth place) m = range_causes m place
+question_causes q m = []
+
+-- those of a command on what the session keeps for itself
+abbrev pub own_causes : Own → OwnCommand → Causes
+own_causes own (own_command.Put name value) = pending_causes own name
+own_causes own (own_command.Del name) = pending_causes own name
+own_causes own (own_command.Unpin place) = pin_causes own place
+
 -- those of landing a fork with its ancestors
 abbrev pub land_causes : State → ℕ → Causes
 land_causes s id =
     let batches = landed_batches s (landing.Fork id) in
-    ledger_causes s ++ fork_causes s id ++ key_causes (key_count batches) ++ head_causes s (length batches)
+    fork_causes s id ++ key_causes (key_count batches) ++ head_causes s (length batches)
+
+-- those of a command that gives an entry, beside that of the ledger
+abbrev pub change_causes : State → Change → Causes
+change_causes s change.Commit = head_causes s 1
+change_causes s (change.Fork on) = parent_causes s on ++ room_causes s
+change_causes s (change.Land id) = land_causes s id
+change_causes s (change.Drop id) = fork_causes s id
+change_causes s (change.Prune upto) = version_causes s upto
+change_causes s change.Compact = generation_causes s
 
 -- the causes for which a command is refused
 abbrev pub causes : State → Own → Command → Causes
-causes s own (command.Put name value) = pending_causes own name
-causes s own (command.Del name) = pending_causes own name
-causes s own command.Commit = ledger_causes s ++ head_causes s 1
-causes s own (command.Fork on) = ledger_causes s ++ parent_causes s (parent_named on) ++ room_causes s
-causes s own (command.Land id) = land_causes s id
-causes s own (command.Drop id) = ledger_causes s ++ fork_causes s id
-causes s own (command.Get on name) = base_causes s own on
-causes s own (command.Root on) = base_causes s own on
-causes s own (command.Prove on name) = base_causes s own on
-causes s own (command.Chunk on start count) = base_causes s own on ++ range_causes (base_map s own on) start
-causes s own (command.Count on) = base_causes s own on
-causes s own (command.Nth on place) = base_causes s own on ++ range_causes (base_map s own on) place
+causes s own (command.Own c) = own_causes own c
+causes s own (command.Read on q) = base_causes s own on ++ question_causes q (base_map s own on)
+causes s own (command.ReadFork id q) = fork_causes s id ++ question_causes (question_of q) (fork_map (newest s.all) s.forks id)
+causes s own command.Look = []
 causes s own (command.Pin version) = version_causes s version ++ place_causes own
-causes s own (command.Unpin place) = pin_causes own place
-causes s own (command.Prune upto) = ledger_causes s ++ version_causes s upto
-causes s own command.Compact = ledger_causes s ++ generation_causes s
-causes s own command.Status = []
+causes s own (command.Change c) = ledger_causes s ++ change_causes s c
 
 -- why a command is refused, if it is: the first cause that holds
 unfoldable pub refused_by : State → Own → Command → Option Refusal

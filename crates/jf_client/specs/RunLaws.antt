@@ -1,16 +1,20 @@
 -- A client that judges all that a session was answered, as a statement for a call that does nothing and ensures it.
 use Rattle.std.specs.Prelude.{◌≡◌, ◌⊎◌, ℕ, zero, suc, ◌+◌, ◌^◌, ◌<◌, false, List, [], ◌∷◌, ◌++◌, length, flat_map, Option, Some, None, unwrap_or, codes}
-use Rattle.std.specs.FinMap.{get}
+use Rattle.std.specs.FinMap.{get, empty}
 use Rattle.jf_hash.specs.Hashes.{K}
 use Rattle.jf_hash.specs.Maps.{Map, IsMap}
 use Rattle.jf_hash.specs.Roots.{root}
 use Rattle.jf_model.specs.States.{State}
+use Rattle.jf_model.specs.Versions.{newest}
+use Rattle.jf_model.specs.Forks.{fork_map}
 use Rattle.jf_io.specs.Lines.{lines}
 use Rattle.jf_evidence.specs.Ranges.{Entries}
 use Rattle.jf_evidence.specs.declared.range_proof.RangeProof.{RangeProof}
 use Rattle.jf_text.specs.Words.{is_long}
-use Rattle.jf_script.specs.declared.command.Base.{Base}
-use Rattle.jf_script.specs.Commands.{command_of}
+use Rattle.jf_script.specs.declared.command.Question.{Question}
+use Rattle.jf_script.specs.Commands.{command_of, question_of}
+use Rattle.jf_script.specs.declared.command.Question.TheVariants as question
+use Rattle.jf_script.specs.declared.command.Command.{Command}
 use Rattle.jf_script.specs.declared.command.Command.TheVariants as command
 use Rattle.jf_script.specs.Replies.{IsInRange}
 use Rattle.jf_script.specs.declared.reply.Reply.{Reply}
@@ -41,23 +45,9 @@ text_heard h = answer_text h.number (answer_heard h)
 -- ---- what they are judged
 -- what a reply is judged with its block: nothing is said of one that sets the root, and one that begins a proof is accepted
 abbrev pub told_by : Reply → Option (List ℕ)
-told_by (reply.Pending count) = None
-told_by (reply.Commit version root) = None
-told_by (reply.Fork id root) = None
-told_by (reply.Land version root) = None
-told_by (reply.Drop count) = None
-told_by (reply.Value value) = None
-told_by (reply.Chunk entries depth siblings) = None
-told_by (reply.Count count) = None
-told_by (reply.Nth key value) = None
-told_by (reply.Pin place) = None
-told_by (reply.Unpin version) = None
-told_by (reply.Prune bound floor) = None
-told_by (reply.Compact generation) = None
-told_by (reply.Status base floor retired head kept forks generation) = None
-told_by (reply.No why) = None
 told_by (reply.Root root) = Some []
 told_by (reply.Proof siblings) = Some (codes "accepted\n")
+told_by r = None
 
 -- the line `syntax` for each of so many lines, from a number on
 abbrev pub syntax_lines : ℕ → ℕ → List ℕ
@@ -72,24 +62,37 @@ judged_from at (h ∷ hs) =
     unwrap_or (told_by (answer_heard h).reply) (syntax_lines at many) ++ judged_from (at + many) hs
 
 -- ---- lines that ask about maps, and others
--- a line asks for the root of this map, and isn't refused
-pub record AsksRoot (m : Map) (h : Heard) : Type 0 where
-  pub on : Base
-  pub granted : refused_by h.state h.own (command.Root on) ≡ None
-  pub map_is : base_map h.state h.own on ≡ m
-  pub sound : IsMap m
-  pub short : is_long h.line ≡ false
-  pub is : command_of h.line ≡ Some (command.Root on)
+-- the question that a read asks
+abbrev pub question_in : Command → Option Question
+question_in (command.Read on q) = Some q
+question_in (command.ReadFork id q) = Some (question_of q)
+question_in c = None
 
--- a line asks for the proof of a name in it, and isn't refused
-pub record AsksProof (m : Map) (h : Heard) : Type 0 where
-  pub on : Base
-  pub name : List ℕ
-  pub granted : refused_by h.state h.own (command.Prove on name) ≡ None
-  pub map_is : base_map h.state h.own on ≡ m
-  pub fits : FitsLine name (get m (K name))
+-- the map that a read is of: a stored one, or a fork's
+abbrev pub map_in : State → Own → Command → Map
+map_in s own (command.Read on q) = base_map s own on
+map_in s own (command.ReadFork id q) = fork_map (newest s.all) s.forks id
+map_in s own c = empty
+
+-- a line asks a question of this map, and isn't refused
+pub record Asks (q : Question) (m : Map) (h : Heard) : Type 0 where
+  pub read : Command
+  pub granted : refused_by h.state h.own read ≡ None
+  pub reads : question_in read ≡ Some q
+  pub map_is : map_in h.state h.own read ≡ m
   pub short : is_long h.line ≡ false
-  pub is : command_of h.line ≡ Some (command.Prove on name)
+  pub is : command_of h.line ≡ Some read
+
+-- a line asks for the root of this map
+pub record AsksRoot (m : Map) (h : Heard) : Type 0 where
+  pub asks : Asks question.Root m h
+  pub sound : IsMap m
+
+-- a line asks for the proof of a name in it
+pub record AsksProof (m : Map) (h : Heard) : Type 0 where
+  pub name : List ℕ
+  pub asks : Asks (question.Prove name) m h
+  pub fits : FitsLine name (get m (K name))
 
 -- a line has another reply, with no block or with that of a chunk
 pub record IsOther (h : Heard) : Type 0 where

@@ -5,11 +5,12 @@ mod base;
 mod command;
 mod fault;
 mod laws;
+mod question;
 mod reading;
 mod reply;
 mod writing;
 
-pub use command::{Base, Command};
+pub use command::{Base, Change, Command, ForkQuestion, OwnCommand, Question};
 pub use fault::LineFault;
 pub use laws::reply_texts_are_distinct;
 pub use reading::read_line;

@@ -1,15 +1,14 @@
 // A line of a script is one to four words: a keyword, and what the command takes.
 ghost use Rattle.std.specs.Prelude.{◌≡◌, ◌⊎◌, ◌↔◌, [], ◌∷◌, Some, None, Err, IfOk, IsTrue, OnErr, codes, false};
-ghost use Rattle.jf_text.specs.Words.{is_long, is_word, words, both, number, name_of, value_of};
-ghost use Rattle.jf_script.specs.Commands.{command_of, takes_name, stored_of, one_word, two_words, three_words, four_words};
+ghost use Rattle.jf_text.specs.Words.{is_long, is_word, words, both, name_of, value_of};
+ghost use Rattle.jf_script.specs.Commands.{command_of, takes_name, one_word, two_words, three_words, four_words};
 
-use crate::base::{base_of, id_of, parent_of, stored_of};
-use crate::command::Command;
+use crate::base::{id_of, parent_of};
+use crate::command::{Change, Command, OwnCommand};
 use crate::fault::LineFault;
+use crate::question::{bare_question, question_of_one, question_of_two, read_command};
 use jf_path::Memory;
-use jf_text::{
-    MAX_CHUNK, MAX_LINE, is_word, name_of, number_from, number_of, split_word, value_of,
-};
+use jf_text::{MAX_LINE, is_word, name_of, number_of, split_word, value_of};
 use std::alloc::Global;
 
 /// The command of a line, which is given without its line feed. Only a command with a name needs memory. The grammar is
@@ -61,11 +60,11 @@ fn one_word(word: &[u8]) -> Option<Command>
     ensures { result ≡ one_word word.now }
 {
     if is_word(word, b"commit") {
-        Some(Command::Commit)
+        Some(Command::Change(Change::Commit))
     } else if is_word(word, b"compact") {
-        Some(Command::Compact)
+        Some(Command::Change(Change::Compact))
     } else if is_word(word, b"status") {
-        Some(Command::Status)
+        Some(Command::Look)
     } else {
         None
     }
@@ -77,25 +76,21 @@ fn two_words(alloc: Global, word: &[u8], a: &[u8]) -> Result<Option<Command>, Me
     ensures err { OnErr result (IsTrue (is_word word.now (codes "del"))) }
 {
     if is_word(word, b"del") {
-        Ok(name_of(alloc, a)?.map(|name| Command::Del { name }))
-    } else if is_word(word, b"fork") {
-        Ok(parent_of(a).map(|on| Command::Fork { on }))
-    } else if is_word(word, b"land") {
-        Ok(id_of(a).map(|id| Command::Land { id }))
-    } else if is_word(word, b"drop") {
-        Ok(id_of(a).map(|id| Command::Drop { id }))
-    } else if is_word(word, b"root") {
-        Ok(base_of(a).map(|base| Command::Root { base }))
-    } else if is_word(word, b"count") {
-        Ok(stored_of(a).map(|base| Command::Count { base }))
+        Ok(name_of(alloc, a)?.map(|name| Command::Own(OwnCommand::Del { name })))
+    } else if is_word(word, b"unpin") {
+        Ok(number_of(a).map(|place| Command::Own(OwnCommand::Unpin { place })))
     } else if is_word(word, b"pin") {
         Ok(number_of(a).map(|version| Command::Pin { version }))
-    } else if is_word(word, b"unpin") {
-        Ok(number_of(a).map(|place| Command::Unpin { place }))
+    } else if is_word(word, b"fork") {
+        Ok(parent_of(a).map(|on| Command::Change(Change::Fork { on })))
+    } else if is_word(word, b"land") {
+        Ok(id_of(a).map(|id| Command::Change(Change::Land { id })))
+    } else if is_word(word, b"drop") {
+        Ok(id_of(a).map(|id| Command::Change(Change::Drop { id })))
     } else if is_word(word, b"prune") {
-        Ok(number_of(a).map(|upto| Command::Prune { upto }))
+        Ok(number_of(a).map(|upto| Command::Change(Change::Prune { upto })))
     } else {
-        Ok(None)
+        Ok(read_command(a, bare_question(word)))
     }
 }
 
@@ -106,20 +101,8 @@ fn three_words(alloc: Global, word: &[u8], a: &[u8], b: &[u8]) -> Result<Option<
 {
     if is_word(word, b"put") {
         put(alloc, a, b)
-    } else if is_word(word, b"get") {
-        let Some(base) = base_of(a) else {
-            return Ok(None);
-        };
-        Ok(name_of(alloc, b)?.map(|name| Command::Get { base, name }))
-    } else if is_word(word, b"prove") {
-        let Some(base) = stored_of(a) else {
-            return Ok(None);
-        };
-        Ok(name_of(alloc, b)?.map(|name| Command::Prove { base, name }))
-    } else if is_word(word, b"nth") {
-        Ok(nth(a, b))
     } else {
-        Ok(None)
+        Ok(read_command(a, question_of_one(alloc, word, b)?))
     }
 }
 
@@ -127,17 +110,11 @@ fn three_words(alloc: Global, word: &[u8], a: &[u8], b: &[u8]) -> Result<Option<
 fn four_words(word: &[u8], a: &[u8], b: &[u8], c: &[u8]) -> Option<Command>
     ensures { result ≡ four_words word.now a.now b.now c.now }
 {
-    if !is_word(word, b"chunk") {
-        return None;
-    }
-    let base = stored_of(a)?;
-    let start = number_of(b)?;
-    let count = number_from(1, MAX_CHUNK, c)?;
-    Some(Command::Chunk { base, start, count })
+    read_command(a, question_of_two(word, b, c))
 }
 
 fn put(alloc: Global, a: &[u8], b: &[u8]) -> Result<Option<Command>, Memory>
-    ensures { IfOk result (λ c. c ≡ both (λ name value. Command.Put name value) (name_of a.now) (value_of b.now)) }
+    ensures { IfOk result (λ c. c ≡ both (λ name value. Command.Own (OwnCommand.Put name value)) (name_of a.now) (value_of b.now)) }
 {
     let Some(name) = name_of(alloc, a)? else {
         return Ok(None);
@@ -145,13 +122,5 @@ fn put(alloc: Global, a: &[u8], b: &[u8]) -> Result<Option<Command>, Memory>
     let Some(value) = value_of(alloc, b)? else {
         return Ok(None);
     };
-    Ok(Some(Command::Put { name, value }))
-}
-
-fn nth(a: &[u8], b: &[u8]) -> Option<Command>
-    ensures { result ≡ both (λ base place. Command.Nth base place) (stored_of a.now) (number b.now) }
-{
-    let base = stored_of(a)?;
-    let place = number_of(b)?;
-    Some(Command::Nth { base, place })
+    Ok(Some(Command::Own(OwnCommand::Put { name, value })))
 }
