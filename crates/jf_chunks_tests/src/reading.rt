@@ -1,6 +1,6 @@
 // Feeding lines to `Blocks`, and what they come to.
 use jf_blocks::{FirstLine, first_line};
-use jf_chunks::{BlockFault, Blocks, Restore};
+use jf_receive::{BlockFault, Blocks, Restore};
 use jf_hash::Hash;
 use jf_restore::RestoreRefused;
 use std::alloc::Global;

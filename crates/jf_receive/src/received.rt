@@ -1,5 +1,5 @@
 // How the restore of a version from an input ends.
-use jf_chunks::RangeFault;
+use jf_restore::RangeFault;
 use jf_hash::Hash;
 
 /// Why no version was restored. Lines are numbered from 1.
