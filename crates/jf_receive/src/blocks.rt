@@ -2,8 +2,8 @@
 ghost use Rattle.std.specs.Prelude.{◌≡◌, ◌⊎◌, None, Ok, OnOk, OnErr};
 ghost use Rattle.jf_receive.specs.Steps.{begun_restoring, restoring_after, answer_of, restored_at_end, out_of_memory, refusal_at_stage};
 
-use crate::fault::BlockFault;
 use crate::block_line::read_line;
+use crate::fault::BlockFault;
 use crate::stage::Stage;
 use jf_path::Memory;
 use jf_restore::Restore;

@@ -40,10 +40,10 @@ invariant_of-self g c = (
 pub returns-in-Ok : goal.returns-in-Ok
 returns-in-Ok g c =
     let versions_are : versions_of c.prune.new.self ≡ pruned c.args.floor c.args.self.now.versions =
-        let s = c.self.inside.directory in
-        let low = subst (λ (e : Engine). e.versions.floor ≤ c.args.floor) (sym c.self.view_is) c.requires.low in
-        let high = subst (λ (e : Engine). c.args.floor ≤ e.versions.head) (sym c.self.view_is) c.requires.high in
-        subst (λ (e : Engine). versions_of c.prune.new.self ≡ pruned c.args.floor e.versions) c.self.view_is (ap versions_of c.prune.ensures ∙ (c.floors_prune.ensures format.Two s c.args.floor c.know.ensures.sound low high).1) in
+    let s = c.self.inside.directory in
+    let low = subst (λ (e : Engine). e.versions.floor ≤ c.args.floor) (sym c.self.view_is) c.requires.low in
+    let high = subst (λ (e : Engine). c.args.floor ≤ e.versions.head) (sym c.self.view_is) c.requires.high in
+    subst (λ (e : Engine). versions_of c.prune.new.self ≡ pruned c.args.floor e.versions) c.self.view_is (ap versions_of c.prune.ensures ∙ (c.floors_prune.ensures format.Two s c.args.floor c.know.ensures.sound low high).1) in
     let disk : (h : History) → c.args.self.now.history ≡ Some h → (x : History) × (g.D.Disk.history c.append.new.disk ≡ Some x) × Succeeds (Prunes c.args.floor) h x c.args.self.now.versions = λ h told.
     let s = c.self.inside.directory in
     let fmt = c.self.inside.format in
@@ -68,18 +68,18 @@ returns-in-Ok g c =
     )) told in
     record {
       step = record {
-      could = search rules;
-      versions_are = versions_are;
-      generation_is = search rules;
-      whole = search rules;
-      least = search rules;
-      most = search rules;
-      faults = search rules;
-      untold = search rules;
-      began = search rules;
-      dated = search rules;
-      disk = disk;
-    };
+        could = search rules;
+        versions_are = versions_are;
+        generation_is = search rules;
+        whole = search rules;
+        least = search rules;
+        most = search rules;
+        faults = search rules;
+        untold = search rules;
+        began = search rules;
+        dated = search rules;
+        disk = disk;
+      };
     }
 
 pub returns-in-Err : goal.returns-in-Err
@@ -101,16 +101,16 @@ returns-in-Err g c =
     (stop.0, stop.1, step_stops c.formats_are_sound.ensures c.standings_have_versions.ensures c.stops_by_records.ensures (Prunes f) h stop.0 p fmt s c.self.inside.generation k (k.held ++ y ∷ []) c.know.ensures.sound after stop.2)) told in
     record {
       step = record {
-      could = search rules;
-      versions_are = search rules;
-      generation_is = search rules;
-      broken = search rules;
-      later = search rules;
-      most = search rules;
-      faults = search rules;
-      cause = search rules;
-      untold = search rules;
-      began = search rules;
-      disk = disk;
-    };
+        could = search rules;
+        versions_are = search rules;
+        generation_is = search rules;
+        broken = search rules;
+        later = search rules;
+        most = search rules;
+        faults = search rules;
+        cause = search rules;
+        untold = search rules;
+        began = search rules;
+        disk = disk;
+      };
     }
