@@ -2,7 +2,7 @@
 use jf_disk::MemDisk;
 use jf_engine::{Engine, OpenRefused};
 use jf_hash::{Hash, key_of};
-use jf_join::FreeGate;
+use jf_join::{FreeGate, Workers};
 use jf_path::Key;
 use jf_proof::{Proof, prove, verify};
 use jf_split::Batch;
@@ -14,7 +14,7 @@ use std::thread::Threads;
 fn new_store<H: Threads + Sync>(rt: &H, alloc: Global) -> Result<Box<Engine<MemDisk>>, Fail> {
     let none = || Vec::new(alloc);
     let disk = MemDisk::new(alloc, none(), none(), 100, 10_000, Vec::new(alloc))?;
-    match Engine::open(rt, alloc, disk, 1) {
+    match Engine::open(rt, alloc, disk, Workers::ONE) {
         Ok(store) => Ok(Box::new(alloc, store)?),
         Err(OpenRefused { disk: _, why }) => Err(why.into()),
     }
@@ -29,7 +29,7 @@ fn land_ten<H: Threads + Sync>(
 ) -> Result<Hash, Fail> {
     let mut batch = Batch::new(alloc);
     batch.put(alloc, key, b"10")?;
-    let landed = store.land(rt, alloc, &batch, 1, &FreeGate)?;
+    let landed = store.land(rt, alloc, &batch, Workers::ONE, &FreeGate)?;
     Ok(landed.root)
 }
 

@@ -1,6 +1,6 @@
 // The map of two keys that differ only in their last bit, in two chunks. Root and hashes are from Python's hashlib.
 use crate::reading::{Came, blocks_of, came_to, taken};
-use jf_chunks::Blocks;
+use jf_receive::Blocks;
 use std::test::Fail;
 
 const ROOT: &str = "root 668447dcc38dfdce2140606cdaf78bf156f60759928e2290069210136570fcc2";

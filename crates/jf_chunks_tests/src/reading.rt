@@ -1,7 +1,7 @@
 // Feeding lines to `Blocks`, and what they come to.
 use jf_blocks::{FirstLine, first_line};
-use jf_chunks::{BlockFault, Blocks, Restore};
 use jf_hash::Hash;
+use jf_receive::{BlockFault, Blocks, Restore};
 use jf_restore::RestoreRefused;
 use std::alloc::Global;
 use std::test::Fail;

@@ -1,9 +1,9 @@
 // Chunks of the head and of old versions, by values from Python's hashlib, and chunks of larger maps that are read
 // again.
 use jf_blocks::{FirstLine, first_line};
-use jf_chunks::{Blocks, Restore};
 use jf_path::{Bytes, Memory};
 use jf_play::play::{NO_FAULTS, is_answered, new_disk, play};
+use jf_receive::{Blocks, Restore};
 use jf_text::write_hex;
 use std::alloc::Global;
 use std::sync::Wait;

@@ -1,6 +1,6 @@
 // Texts of chunk blocks and what they come to. Keys and hashes are from outside, by Python's hashlib.
 use crate::reading::{Came, blocks_of, came_to, is_answered_alike, root_of, taken};
-use jf_chunks::{BlockFault, Blocks, RangeFault};
+use jf_receive::{BlockFault, Blocks, RangeFault};
 use std::alloc::Global;
 use std::test::Fail;
 

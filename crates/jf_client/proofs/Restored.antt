@@ -28,9 +28,9 @@ use Rattle.jf_blocks.specs.Laws.{IsHash, IsChunkBlock, ChunksAreReadBack, Replie
 use Rattle.jf_blocks.specs.declared.chunk.ChunkHead.{ChunkHead}
 use Rattle.jf_blocks.proofs.Bounds.{Bounded, chunk_body-bounded}
 use Rattle.hex.specs.Hex.{IsBytes}
-use Rattle.jf_chunks.specs.Chunks.{chunks_from, accepted_chunk}
-use Rattle.jf_chunks.specs.declared.fault.BlockFault.{BlockFault}
-use Rattle.jf_chunks.specs.declared.fault.BlockFault.TheVariants as block_fault
+use Rattle.jf_receive.specs.Chunks.{chunks_from, accepted_chunk}
+use Rattle.jf_receive.specs.declared.fault.BlockFault.{BlockFault}
+use Rattle.jf_receive.specs.declared.fault.BlockFault.TheVariants as block_fault
 use Rattle.jf_receive.specs.Restored.{restored, restored_entries, of_block}
 use Rattle.jf_receive.specs.declared.received.RestoreFault.{RestoreFault}
 use Rattle.jf_answers.specs.Refusals.{base_map}

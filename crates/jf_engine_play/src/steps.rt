@@ -5,10 +5,11 @@ ghost use Rattle.jf_split.specs.Limits.{max_keys};
 ghost use Rattle.jf_model.specs.Batches.{key_count};
 
 use crate::entries::{Entries, pairs_of};
+use crate::stores::workers_of;
 use jf_disk::MemDisk;
 use jf_engine::{Engine, EngineFault, Landed};
 use jf_hash::key_of;
-use jf_join::FreeGate;
+use jf_join::{FreeGate, Workers};
 use jf_range::are_sorted;
 use jf_restore::are_short;
 use jf_split::{Batch, BatchFault, BatchList};
@@ -81,7 +82,7 @@ pub fn land<H: Threads + Sync>(
     changes: &[Change],
 ) -> Result<Result<Landed, EngineFault>, Fail> {
     let batch = batch_of(alloc, changes)?;
-    Ok(engine.land(rt, alloc, &batch, 2, &FreeGate))
+    Ok(engine.land(rt, alloc, &batch, workers_of(2)?, &FreeGate))
 }
 
 /// Lands one batch, two or three together.
@@ -95,7 +96,7 @@ pub fn land_all<H: Threads + Sync>(
     if !is_short(&batches) {
         return Err(Fail::new("no such list"));
     }
-    Ok(engine.land_all(rt, alloc, &batches, 1, &FreeGate))
+    Ok(engine.land_all(rt, alloc, &batches, Workers::ONE, &FreeGate))
 }
 
 fn prune(engine: &mut Engine<MemDisk>, floor: u64) -> Result<Taken, Fail> {

@@ -1,6 +1,7 @@
 // Stores on disks in memory. A store is boxed: its holder then holds one value, and not all that it is made of.
 use jf_disk::{Disk, MemDisk};
 use jf_engine::{Engine, OpenFault, OpenRefused, State};
+use jf_join::Workers;
 use std::alloc::Global;
 use std::test::Fail;
 use std::thread::Threads;
@@ -29,13 +30,21 @@ pub fn image_of(
     Ok(Box::new(alloc, disk.image(alloc, moment, kept, fill)?)?)
 }
 
+/// So many workers.
+pub fn workers_of(number: u64) -> Result<Workers, Fail> {
+    match Workers::new(number) {
+        Some(workers) => Ok(workers),
+        None => Err(Fail::new("no such number of workers")),
+    }
+}
+
 /// Opens the store of a disk, or returns the disk and why it isn't opened.
 pub fn open<H: Threads + Sync>(
     rt: &H,
     alloc: Global,
     disk: Box<MemDisk>,
 ) -> Result<Engine<MemDisk>, OpenRefused<MemDisk>> {
-    Engine::open(rt, alloc, Box::into_inner(disk), 1)
+    Engine::open(rt, alloc, Box::into_inner(disk), Workers::ONE)
 }
 
 fn opened<H: Threads + Sync>(

@@ -2,7 +2,7 @@
 // lengths, and of each landing its version, its root, and the names and nodes that it has to write and to mark.
 use jf_disk::{MemDisk, Side};
 use jf_engine::Engine;
-use jf_engine_play::stores::{Store, store_on};
+use jf_engine_play::stores::{Store, store_on, workers_of};
 use jf_hash::key_of;
 use jf_join::FreeGate;
 use jf_split::{Batch, BatchFault};
@@ -48,7 +48,7 @@ fn takes_so_many<H: Threads + Sync>(
     landing: &Landing,
 ) -> Result<bool, Fail> {
     let batch = batch_of(alloc, landing)?;
-    let _ = engine.land(rt, alloc, &batch, 4, &FreeGate)?;
+    let _ = engine.land(rt, alloc, &batch, workers_of(4)?, &FreeGate)?;
     Ok(engine.disk().bytes(Side::A).len() == landing.3)
 }
 

@@ -8,11 +8,11 @@ use Rattle.jf_restore.specs.Finishes.{IsNewStore}
 use Rattle.jf_input.specs.Feeds.{Took, ReadsAll, ReadsFew, Fed}
 use Rattle.jf_input.specs.declared.feeding.Feeding.{Feeding}
 use Rattle.jf_input.specs.declared.feeding.Feeding.TheVariants as feeding
-use Rattle.jf_chunks.specs.Chunks.{chunks, decided}
-use Rattle.jf_chunks.specs.Laws.{with_entries, ChunksComeLineByLine, RefusalsComeAtTheirLine, RefusalsStay}
-use Rattle.jf_chunks.specs.Steps.{Restoring, restoring_after, restored_at_end, refusal_at_stage}
-use Rattle.jf_chunks.specs.declared.fault.BlockFault.{BlockFault}
-use Rattle.jf_chunks.specs.declared.fault.BlockFault.TheVariants as block_fault
+use Rattle.jf_receive.specs.Chunks.{chunks, decided}
+use Rattle.jf_receive.specs.Laws.{with_entries, ChunksComeLineByLine, RefusalsComeAtTheirLine, RefusalsStay}
+use Rattle.jf_receive.specs.Steps.{Restoring, restoring_after, restored_at_end, refusal_at_stage}
+use Rattle.jf_receive.specs.declared.fault.BlockFault.{BlockFault}
+use Rattle.jf_receive.specs.declared.fault.BlockFault.TheVariants as block_fault
 use Rattle.jf_receive.specs.Receives.{restore_piece, IsReadUp, ReadsToDecision, HasReceived}
 use Rattle.jf_receive.specs.TakenLines.{TakesBlockLine, EndsBlockLines, ComesToEntries, refused_lines}
 use Rattle.jf_receive.proofs.LinesTaken.{new_restore, first, took-after, took-undecided, refused-last, decide-first}

@@ -6,14 +6,14 @@ use Rattle.std.proofs.lemmas.List.{take-append-le, length-take-le}
 use Rattle.jf_restore.specs.RestoreValue.{RestoreValue}
 use Rattle.jf_input.specs.Feeds.{given_of, Took}
 use Rattle.jf_input.proofs.Given.{given_alike}
-use Rattle.jf_chunks.specs.Chunks.{chunks, decided}
-use Rattle.jf_chunks.specs.Laws.{RefusalsComeAtTheirLine, LongChunkLinesAreAlike}
-use Rattle.jf_chunks.specs.Steps.{Restoring, begun_restoring, restoring_after, restoring_after_all, refusal_at_stage, answer_of, out_of_memory}
-use Rattle.jf_chunks.proofs.Deciding.{restoring_after_all-append}
-use Rattle.jf_chunks.specs.declared.fault.BlockFault.{BlockFault}
-use Rattle.jf_chunks.specs.declared.fault.BlockFault.TheVariants as fault
-use Rattle.jf_chunks.specs.declared.stage.Stage.{Stage}
-use Rattle.jf_chunks.specs.declared.stage.Stage.TheVariants as stage
+use Rattle.jf_receive.specs.Chunks.{chunks, decided}
+use Rattle.jf_receive.specs.Laws.{RefusalsComeAtTheirLine, LongChunkLinesAreAlike}
+use Rattle.jf_receive.specs.Steps.{Restoring, begun_restoring, restoring_after, restoring_after_all, refusal_at_stage, answer_of, out_of_memory}
+use Rattle.jf_receive.proofs.Deciding.{restoring_after_all-append}
+use Rattle.jf_receive.specs.declared.fault.BlockFault.{BlockFault}
+use Rattle.jf_receive.specs.declared.fault.BlockFault.TheVariants as fault
+use Rattle.jf_receive.specs.declared.stage.Stage.{Stage}
+use Rattle.jf_receive.specs.declared.stage.Stage.TheVariants as stage
 use Rattle.jf_receive.specs.Restored.{DecideFirst}
 use Rattle.jf_receive.specs.TakenLines.{TakesBlockLine}
 

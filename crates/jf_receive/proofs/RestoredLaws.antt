@@ -2,8 +2,8 @@
 use Rattle.std.proofs.Common.{◌≡◌, ℕ, List, [], ap, Result, Ok, Err}
 use Rattle.jf_io.specs.Lines.{lines}
 use Rattle.jf_evidence.specs.Ranges.{Entries}
-use Rattle.jf_chunks.specs.Chunks.{chunks}
-use Rattle.jf_chunks.specs.declared.fault.BlockFault.{BlockFault}
+use Rattle.jf_receive.specs.Chunks.{chunks}
+use Rattle.jf_receive.specs.declared.fault.BlockFault.{BlockFault}
 use Rattle.jf_receive.specs.Restored.{restored, restored_entries, of_block}
 use Rattle.jf_receive.specs.declared.received.RestoreFault.{RestoreFault}
 

@@ -1,3 +1,6 @@
+pub mod Chunks
+pub mod Steps
+pub mod Laws
 pub mod Restored
 pub mod Receives
 pub mod TakenLines
@@ -6,10 +9,13 @@ pub use Rattle.jf_hash.specs.Maps
 pub use Rattle.jf_hash.specs.Roots
 pub use Rattle.jf_io.specs.Lines
 pub use Rattle.jf_io.specs.Sink
+pub use Rattle.jf_engine.specs.EngineSteps
 pub use Rattle.jf_engine.specs.Engines
 pub use Rattle.jf_evidence.specs.Ranges
 pub use Rattle.jf_restore.specs.Finishes
+pub use Rattle.jf_restore.specs.RestoreValue
+pub use Rattle.jf_restore.specs.Restores
 pub use Rattle.jf_text.specs.Words
 pub use Rattle.jf_input.specs.Feeds
-pub use Rattle.jf_chunks.specs.Chunks
-pub use Rattle.jf_chunks.specs.Steps
+pub use Rattle.jf_blocks.specs.Reading
+pub use Rattle.jf_blocks.specs.Sides

@@ -8,9 +8,9 @@ use Rattle.jf_evidence.specs.Ranges.{Entries}
 use Rattle.jf_engine.specs.Engines.{Engine}
 use Rattle.jf_restore.specs.Finishes.{IsNewStore, IsInUse, HasImported, HasBrokenOff}
 use Rattle.jf_input.specs.Feeds.{Appends, ReadsFew}
-use Rattle.jf_chunks.specs.Chunks.{chunks, decided}
-use Rattle.jf_chunks.specs.declared.fault.BlockFault.{BlockFault}
-use Rattle.jf_chunks.specs.declared.fault.BlockFault.TheVariants as block_fault
+use Rattle.jf_receive.specs.Chunks.{chunks, decided}
+use Rattle.jf_receive.specs.declared.fault.BlockFault.{BlockFault}
+use Rattle.jf_receive.specs.declared.fault.BlockFault.TheVariants as block_fault
 use Rattle.jf_receive.specs.Restored.{restored, of_block, restored_text, DecideFirst}
 use Rattle.jf_receive.specs.declared.received.Received.{Received}
 use Rattle.jf_receive.specs.declared.received.Received.TheVariants as received

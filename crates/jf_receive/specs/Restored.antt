@@ -5,9 +5,9 @@ use Rattle.jf_hash.specs.Roots.{part_root}
 use Rattle.jf_evidence.specs.Ranges.{Entries}
 use Rattle.jf_io.specs.Lines.{lines}
 use Rattle.jf_text.specs.Words.{line_text}
-use Rattle.jf_chunks.specs.Chunks.{chunks, decided}
-use Rattle.jf_chunks.specs.declared.fault.BlockFault.{BlockFault}
-use Rattle.jf_chunks.specs.declared.fault.BlockFault.TheVariants as block_fault
+use Rattle.jf_receive.specs.Chunks.{chunks, decided}
+use Rattle.jf_receive.specs.declared.fault.BlockFault.{BlockFault}
+use Rattle.jf_receive.specs.declared.fault.BlockFault.TheVariants as block_fault
 use Rattle.jf_receive.specs.declared.received.RestoreFault.{RestoreFault}
 use Rattle.jf_receive.specs.declared.received.RestoreFault.TheVariants as fault
 

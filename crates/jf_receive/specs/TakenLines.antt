@@ -2,10 +2,10 @@
 use Rattle.std.specs.Prelude.{◌≡◌, ◌⊎◌, ℕ, List, [], Option, Some, None, Result, Ok, Err}
 use Rattle.jf_io.specs.Lines.{lines}
 use Rattle.jf_evidence.specs.Ranges.{Entries}
-use Rattle.jf_chunks.specs.Chunks.{chunks}
-use Rattle.jf_chunks.specs.Steps.{Restoring, restoring_after, refusal_at_stage}
-use Rattle.jf_chunks.specs.declared.fault.BlockFault.{BlockFault}
-use Rattle.jf_chunks.specs.declared.fault.BlockFault.TheVariants as block_fault
+use Rattle.jf_receive.specs.Chunks.{chunks}
+use Rattle.jf_receive.specs.Steps.{Restoring, restoring_after, refusal_at_stage}
+use Rattle.jf_receive.specs.declared.fault.BlockFault.{BlockFault}
+use Rattle.jf_receive.specs.declared.fault.BlockFault.TheVariants as block_fault
 use Rattle.jf_receive.specs.Receives.{IsReadUp}
 use Rattle.jf_receive.specs.declared.received.Received.{Received}
 use Rattle.jf_receive.specs.declared.received.Received.TheVariants as received

@@ -1,11 +1,14 @@
 // Chunk blocks, read as the lines of an input.
 ghost use Rattle.std.specs.Prelude.{◌≡◌, Ok, Err, [], IfErr, OnOk};
-ghost use Rattle.jf_chunks.specs.Steps.{begun_restoring, restored_at_end};
+ghost use Rattle.jf_receive.specs.Steps.{begun_restoring, restored_at_end};
 ghost use Rattle.jf_receive.specs.TakenLines.{TakesBlockLine};
 
-use jf_chunks::{BlockFault, Blocks, Restore, long_lines_are_alike};
+use crate::blocks::Blocks;
+use crate::fault::BlockFault;
+use crate::laws::long_lines_are_alike;
 use jf_input::LineMachine;
 use jf_path::Bytes;
+use jf_restore::Restore;
 use std::alloc::Global;
 use std::marker::Model;
 
@@ -16,7 +19,7 @@ pub(crate) struct BlockReader {
 }
 
 impl Model for BlockReader {
-    ghost use Rattle.jf_chunks.specs.Steps.{Restoring};
+    ghost use Rattle.jf_receive.specs.Steps.{Restoring};
 
     ghost Value = { Restoring };
 

@@ -5,11 +5,10 @@ ghost use Rattle.jf_receive.specs.Receives.{HasReceived, RestoresEntries};
 ghost use Rattle.jf_receive.specs.TakenLines.{ComesToEntries};
 
 use crate::received::{Received, RestoreFault};
-use jf_chunks::Restore;
 use jf_disk::Disk;
 use jf_engine::{Engine, EngineFault};
 use jf_hash::Hash;
-use jf_restore::RestoreRefused;
+use jf_restore::{Restore, RestoreRefused};
 use std::alloc::Global;
 
 /// Imports what was restored, if its root is the announced one.

@@ -7,13 +7,13 @@ ghost use Rattle.jf_receive.specs.Receives.{HasReceived};
 ghost use Rattle.jf_receive.specs.TakenLines.{ComesToEntries, refused_lines};
 
 use crate::block_reader::BlockReader;
+use crate::fault::BlockFault;
+use crate::laws::{chunks_come_line_by_line, refusals_come_at_their_line, refusals_stay};
 use crate::received::{Received, RestoreFault};
-use jf_chunks::{
-    BlockFault, Restore, chunks_come_line_by_line, refusals_come_at_their_line, refusals_stay,
-};
 use jf_hash::Hash;
 use jf_input::{Feeding, feed};
 use jf_io::{Nowhere, Source};
+use jf_restore::Restore;
 use std::alloc::Global;
 
 // The most bytes that the source is asked for at a time.

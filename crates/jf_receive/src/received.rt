@@ -1,6 +1,6 @@
 // How the restore of a version from an input ends.
-use jf_chunks::RangeFault;
 use jf_hash::Hash;
+use jf_restore::RangeFault;
 
 /// Why no version was restored. Lines are numbered from 1.
 #[derive(Clone, Copy, Debug, PartialEq, Eq)]

@@ -1,15 +1,15 @@
 -- What finishing a restore makes of a store.
-use Rattle.std.specs.Prelude.{◌≡◌, ◌≢◌, ◌⊎◌, ℕ, ◌+◌, ◌-◌, ◌^◌, ◌<◌, ◌≤◌, length, None, true, false}
-use Rattle.std.specs.FinMap as fin
+use Rattle.std.specs.Prelude.{◌≡◌, ◌≢◌, ℕ, ◌+◌, ◌-◌, ◌^◌, ◌<◌, ◌≤◌, length, None, true, false}
 use Rattle.jf_path.specs.Faults.{HasCause}
 use Rattle.jf_hash.specs.Maps.{map_of_entries}
 use Rattle.jf_hash.specs.Roots.{part_root, root}
-use Rattle.jf_model.specs.Versions.{Versions, newest, imported}
+use Rattle.jf_model.specs.Versions.{imported}
 use Rattle.jf_disk.specs.Disk.{reads}
 use Rattle.jf_files.specs.Steps.{Imports, StopsWell, Succeeds}
 use Rattle.jf_evidence.specs.Ranges.{Entries}
 use Rattle.jf_engine.specs.Engines.{Engine}
 use Rattle.jf_engine.specs.Kept.{HoldImported}
+pub use Rattle.jf_engine.specs.EngineSteps.{IsNewStore, IsInUse}
 use Rattle.jf_engine.specs.Openings.{OnHistories}
 use Rattle.jf_engine.specs.declared.fault.EngineFault.{EngineFault}
 use Rattle.jf_engine.specs.declared.fault.EngineFault.TheVariants as engine_fault
@@ -17,14 +17,6 @@ use Rattle.jf_engine.specs.declared.fault.Which.TheVariants as which
 use Rattle.jf_restore.specs.RestoreValue.{RestoreValue}
 use Rattle.jf_restore.specs.declared.refused.RestoreRefused.{RestoreRefused}
 use Rattle.jf_restore.specs.declared.refused.RestoreRefused.TheVariants as refused
-
--- the head is version 0, and its map has no entry
-abbrev pub IsNewStore : Versions → Type 0
-IsNewStore v = (v.head ≡ 0) × (fin.len (newest v) ≡ 0)
-
--- the head is a later version, or its map has an entry
-abbrev pub IsInUse : Versions → Type 0
-IsInUse v = (1 ≤ v.head) ⊎ (1 ≤ fin.len (newest v))
 
 -- these entries can be imported: no fault was met, the store is new, its generation may grow, and they are at most 2^62
 pub record CanImport (e : Engine) (es : Entries) : Type 0 where

@@ -22,6 +22,5 @@ pub(crate) fn import<D: Disk>(
     requires short { HaveShortValues entries.now }
     ensures { MatchResult result (λ _. HasImported version entries.now engine.old engine.new) (IsNotImported version entries.now engine.old engine.new) }
 {
-    engine.know();
     engine.import(alloc, version, entries)
 }

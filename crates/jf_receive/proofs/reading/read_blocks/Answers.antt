@@ -1,5 +1,5 @@
 use Rattle.std.proofs.Common.{◌∙◌, subst, sym, ap, None}
-use Rattle.jf_chunks.specs.Steps.{begun_restoring}
+use Rattle.jf_receive.specs.Steps.{begun_restoring}
 use Rattle.jf_receive.specs.Receives.{HasReceived}
 use Rattle.jf_receive.specs.declared.received.Received.{Received}
 use Rattle.jf_receive.proofs.BlocksRead.{read_ok, read_err, read_stopped}

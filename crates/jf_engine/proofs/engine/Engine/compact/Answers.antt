@@ -51,8 +51,9 @@ invariant_of-self g c =
           (λ h told. c.in-Ok.ensures.ok h 5 (record_bytes format.Two (checkpoint_of n s)) told frame),
     )
 
-pub returns-in-Ok-clause-succeeds : goal.returns-in-Ok-clause-succeeds
-returns-in-Ok-clause-succeeds g c = λ h told.
+pub returns-in-Ok-clause-step : goal.returns-in-Ok-clause-step
+returns-in-Ok-clause-step g c =
+    let disk : (h : History) → c.args.self.now.history ≡ Some h → (x : History) × (g.D.Disk.history c.switch.new.disk ≡ Some x) × Succeeds Compacts h x c.args.self.now.versions = λ h told.
     let s = c.self.inside.directory in
     let fmt = c.self.inside.format in
     let p = c.self.inside.pair in
@@ -70,10 +71,24 @@ returns-in-Ok-clause-succeeds g c = λ h told.
     let both = on_same _ _ _ stop ok in
     let leads = checkpoint_leads c.checkpoints_follow.ensures c.checkpoints_are_numbered.ensures s (n + 1) c.know.ensures.read sound c.in_ok-frame.ensures.spelled in
     let after = lead_after formats c.standings_have_versions.ensures (λ v. v) (x ∷ []) fmt format.Two s s sound (leads.0, (formats format.Two s sound).1 ∙ sym (formats fmt s sound).1) in
-    (both.0, both.1, step_succeeds formats c.standings_have_versions.ensures c.succeeds_by_records.ensures Compacts h both.0 p c.switch.new.self fmt s n k (x ∷ []) sound after both.2.0 both.2.1 leads.1 (x, refl, refl))) told
+    (both.0, both.1, step_succeeds formats c.standings_have_versions.ensures c.succeeds_by_records.ensures Compacts h both.0 p c.switch.new.self fmt s n k (x ∷ []) sound after both.2.0 both.2.1 leads.1 (x, refl, refl))) told in
+    record {
+      could = search rules;
+      versions_are = search rules;
+      generation_is = search rules;
+      whole = search rules;
+      least = search rules;
+      most = search rules;
+      faults = search rules;
+      untold = search rules;
+      began = search rules;
+      dated = search rules;
+      disk = disk;
+    }
 
-pub returns-clause-stops : goal.returns-clause-stops
-returns-clause-stops g c = λ h told fault.
+pub returns-clause-step : goal.returns-clause-step
+returns-clause-step g c =
+    let disk : (h : History) → c.args.self.now.history ≡ Some h → (x : History) × (g.D.Disk.history c.switch.new.disk ≡ Some x) × StopsWell Compacts h x c.args.self.now.versions = λ h told.
     let s = c.self.inside.directory in
     let fmt = c.self.inside.format in
     let p = c.self.inside.pair in
@@ -89,4 +104,17 @@ returns-clause-stops g c = λ h told fault.
     let stop = c.in-Err.ensures.stop h k.held 5 payload told k.in_step frame in
     let leads = checkpoint_leads c.checkpoints_follow.ensures c.checkpoints_are_numbered.ensures s (n + 1) c.know.ensures.read sound c.in_ok-frame.ensures.spelled in
     let after = lead_after formats c.standings_have_versions.ensures (λ v. v) (x ∷ []) fmt format.Two s s sound (leads.0, (formats format.Two s sound).1 ∙ sym (formats fmt s sound).1) in
-    (stop.0, stop.1, step_stops formats c.standings_have_versions.ensures c.stops_by_records.ensures Compacts h stop.0 p fmt s n k (x ∷ []) sound after stop.2)) told
+    (stop.0, stop.1, step_stops formats c.standings_have_versions.ensures c.stops_by_records.ensures Compacts h stop.0 p fmt s n k (x ∷ []) sound after stop.2)) told in
+    record {
+      could = search rules;
+      versions_are = search rules;
+      generation_is = search rules;
+      broken = search rules;
+      later = search rules;
+      most = search rules;
+      faults = search rules;
+      cause = search rules;
+      untold = search rules;
+      began = search rules;
+      disk = disk;
+    }

@@ -54,8 +54,9 @@ invariant_of-self g c =
           (λ h told. c.in-Ok.ensures.ok h 5 (record_bytes format.Two (checkpoint_of n s)) told frame),
     )
 
-pub returns-in-Ok-clause-succeeds : goal.returns-in-Ok-clause-succeeds
-returns-in-Ok-clause-succeeds g c = λ h told.
+pub returns-in-Ok-clause-step : goal.returns-in-Ok-clause-step
+returns-in-Ok-clause-step g c =
+    let disk : (h : History) → c.args.self.now.history ≡ Some h → (x : History) × (g.D.Disk.history c.switch.new.disk ≡ Some x) × Succeeds (Imports c.args.version c.args.entries.now) h x c.args.self.now.versions = λ h told.
     let s = c.self.inside.directory in
     let s' = c.in_ok-directory.directory in
     let fmt = c.self.inside.format in
@@ -74,7 +75,20 @@ returns-in-Ok-clause-succeeds g c = λ h told.
     let both = on_same _ _ _ stop ok in
     let leads = checkpoint_leads c.checkpoints_follow.ensures c.checkpoints_are_numbered.ensures s' (n + 1) c.know-2.ensures.read c.know-2.ensures.sound c.in_ok-frame.ensures.spelled in
     let after = lead_after formats c.standings_have_versions.ensures (λ v. imported c.args.version (map_of_entries c.args.entries.now)) (x ∷ []) fmt format.Two s s' c.know.ensures.sound (leads.0, (formats format.Two s' c.know-2.ensures.sound).1 ∙ c.in_ok-directory.ensures.versions) in
-    (both.0, both.1, step_succeeds formats c.standings_have_versions.ensures c.succeeds_by_records.ensures step h both.0 p c.switch.new.self fmt s n k (x ∷ []) c.know.ensures.sound after both.2.0 both.2.1 leads.1 (x, refl, refl))) told
+    (both.0, both.1, step_succeeds formats c.standings_have_versions.ensures c.succeeds_by_records.ensures step h both.0 p c.switch.new.self fmt s n k (x ∷ []) c.know.ensures.sound after both.2.0 both.2.1 leads.1 (x, refl, refl))) told in
+    record {
+      could = search rules;
+      versions_are = search rules;
+      generation_is = search rules;
+      whole = search rules;
+      least = search rules;
+      most = search rules;
+      faults = search rules;
+      untold = search rules;
+      began = search rules;
+      dated = search rules;
+      disk = disk;
+    }
 
 pub returns-in-Ok-clause-checkpoint : goal.returns-in-Ok-clause-checkpoint
 returns-in-Ok-clause-checkpoint g c = λ h told.
@@ -90,8 +104,9 @@ returns-in-Ok-clause-checkpoint g c = λ h told.
     let same = ordered-checkpoint n s' (imported_standing format.Two version (map_of_entries es)) c.in_ok-directory.ensures.standing c.know-2.ensures.read c.know-2.ensures.sound in
     (ok.0, ok.1, subst (λ (x : Framed). HoldsLive (reads ok.0) (x ∷ [])) same (in_step_holds c.switch.new.self (checkpoint_at_start n s' ∷ []) ok.0 ok.2))) told
 
-pub returns-in-Err-clause-stops : goal.returns-in-Err-clause-stops
-returns-in-Err-clause-stops g c = λ h told fault.
+pub returns-in-Err-clause-step : goal.returns-in-Err-clause-step
+returns-in-Err-clause-step g c =
+    let disk : (h : History) → c.args.self.now.history ≡ Some h → (x : History) × (g.D.Disk.history c.switch.new.disk ≡ Some x) × StopsWell (Imports c.args.version c.args.entries.now) h x c.args.self.now.versions = λ h told.
     let s = c.self.inside.directory in
     let s' = c.in_ok-directory.directory in
     let fmt = c.self.inside.format in
@@ -108,4 +123,17 @@ returns-in-Err-clause-stops g c = λ h told fault.
     let stop = c.in-Err.ensures.stop h k.held 5 payload told k.in_step frame in
     let leads = checkpoint_leads c.checkpoints_follow.ensures c.checkpoints_are_numbered.ensures s' (n + 1) c.know-2.ensures.read c.know-2.ensures.sound c.in_ok-frame.ensures.spelled in
     let after = lead_after formats c.standings_have_versions.ensures (λ v. imported c.args.version (map_of_entries c.args.entries.now)) (x ∷ []) fmt format.Two s s' c.know.ensures.sound (leads.0, (formats format.Two s' c.know-2.ensures.sound).1 ∙ c.in_ok-directory.ensures.versions) in
-    (stop.0, stop.1, step_stops formats c.standings_have_versions.ensures c.stops_by_records.ensures step h stop.0 p fmt s n k (x ∷ []) c.know.ensures.sound after stop.2)) told
+    (stop.0, stop.1, step_stops formats c.standings_have_versions.ensures c.stops_by_records.ensures step h stop.0 p fmt s n k (x ∷ []) c.know.ensures.sound after stop.2)) told in
+    record {
+      could = search rules;
+      versions_are = search rules;
+      generation_is = search rules;
+      broken = search rules;
+      later = search rules;
+      most = search rules;
+      faults = search rules;
+      cause = search rules;
+      untold = search rules;
+      began = search rules;
+      disk = disk;
+    }

@@ -1,19 +1,21 @@
 -- Landings are one more record, whose standing has all new versions.
-use Rattle.std.proofs.Common.{◌≡◌, List, [], ◌∷◌, ◌++◌, Some, subst, sym, ◌∙◌, ap, refl}
+use Rattle.std.proofs.Common.{◌≡◌, ◌+◌, ◌-◌, ◌^◌, ◌≤◌, length, arith, List, [], ◌∷◌, ◌++◌, Some, subst, sym, ◌∙◌, ap, refl, rules}
+use Rattle.std.specs.FinMap as fin
 use Rattle.jf_hash.specs.Roots.{root}
-use Rattle.jf_model.specs.Versions.{land_all}
+use Rattle.jf_model.specs.Versions.{newest, land_all}
 use Rattle.jf_disk.specs.Disk.{History}
 use Rattle.jf_frame.specs.Framing.{IsFrame}
 use Rattle.jf_codec.specs.declared.format.Format.TheVariants as format
 use Rattle.jf_payload.specs.declared.records.Commit.{Commit}
 use Rattle.jf_payload.specs.Spelling.{kind_of, record_bytes}
-use Rattle.jf_standing.specs.Standing.{Standing}
+use Rattle.jf_standing.specs.Standing.{Standing, versions_of}
 use Rattle.jf_standing.specs.Building.{landings_of, all_landed}
 use Rattle.jf_standing.specs.FormatLaws.{standing_in}
 use Rattle.jf_standing.proofs.VersionsOf.{newest-head}
 use Rattle.jf_files.specs.Steps.{Lands, Succeeds, StopsWell}
 use Rattle.jf_files.specs.StepLaws.{landed_record}
 use Rattle.jf_engine.specs.Engines.{Engine}
+use Rattle.jf_engine.specs.EngineSteps.{CanStep}
 use Rattle.jf_engine.specs.Kept.{KeepsStandingFiles}
 use Rattle.jf_engine.proofs.Records.{appended, landings_lead}
 use Rattle.jf_engine.proofs.Keeping.{lead_after, step_stops, step_succeeds, appended_keeps, generation-push, on_same, unfailed}
@@ -44,8 +46,9 @@ invariant_of-self-in-Ok-append g c = (
 pub returns-in-Ok-append-clause-answer : goal.returns-in-Ok-append-clause-answer
 returns-in-Ok-append-clause-answer g c = (c.head-in-Ok-append.ensures, c.root.ensures ∙ ap root (c.newest-in-Ok-append.ensures.map ∙ sym (newest-head c.land_batches.new.directory)), c.moment.ensures)
 
-pub returns-in-Ok-append-clause-succeeds : goal.returns-in-Ok-append-clause-succeeds
-returns-in-Ok-append-clause-succeeds g c = λ h told.
+pub returns-in-Ok-append-clause-step : goal.returns-in-Ok-append-clause-step
+returns-in-Ok-append-clause-step g c =
+    let disk : (h : History) → c.args.self.now.history ≡ Some h → (x : History) × (g.D.Disk.history c.append.new.disk ≡ Some x) × Succeeds (Lands c.args.batches.now) h x c.args.self.now.versions = λ h told.
     let s = c.self.inside.directory in
     let fmt = c.self.inside.format in
     let p = c.self.inside.pair in
@@ -66,10 +69,27 @@ returns-in-Ok-append-clause-succeeds g c = λ h told.
       both.1,
       step_succeeds c.formats_are_sound.ensures c.standings_have_versions.ensures c.succeeds_by_records.ensures (Lands bs) h both.0 p c.append.new.self fmt s c.self.inside.generation k (k.held ++ y ∷ []) c.know.ensures.sound after both.2.0 both.2.1
           (generation-push k.held y fmt (standing_in fmt s) k.leads ∙ k.numbered) (y, refl),
-    )) told
+    )) told in
+    let count : fin.len c.newest.result.now.map ≤ 2 ^ 62 = search rules in
+    let small : fin.len (newest (versions_of c.self.inside.directory)) ≤ 2 ^ 62 = subst (λ m. fin.len m ≤ 2 ^ 62) (c.newest.ensures.map ∙ sym (newest-head c.self.inside.directory)) count in
+    let below : c.self.inside.directory.head + length c.args.batches.now ≤ 2 ^ 64 - 2 = omega (arith, c.in_ok-landings.ensures.bounded.0) in
+    record {
+      could = subst (CanStep (Lands c.args.batches.now)) c.self.view_is (c.if-self.false, (below, small));
+      versions_are = search rules;
+      generation_is = search rules;
+      whole = search rules;
+      least = search rules;
+      most = search rules;
+      faults = search rules;
+      untold = search rules;
+      began = search rules;
+      dated = search rules;
+      disk = disk;
+    }
 
-pub returns-clause-stops : goal.returns-clause-stops
-returns-clause-stops g c = λ h told fault.
+pub returns-clause-step : goal.returns-clause-step
+returns-clause-step g c =
+    let disk : (h : History) → c.args.self.now.history ≡ Some h → (x : History) × (g.D.Disk.history c.append.new.disk ≡ Some x) × StopsWell (Lands c.args.batches.now) h x c.args.self.now.versions = λ h told.
     let s = c.self.inside.directory in
     let fmt = c.self.inside.format in
     let p = c.self.inside.pair in
@@ -84,4 +104,27 @@ returns-clause-stops g c = λ h told fault.
     let stop = c.in-Err.ensures.stop h k.held (kind_of fmt r) (record_bytes fmt r) told k.in_step frame in
     let leads = landings_lead c.landings_follow.ensures c.formats_are_sound.ensures c.formats_group.ensures c.kept_is_spelled.ensures c.written_in_both.ensures k.held fmt p.offset s bs k.leads c.know.ensures.read c.know.ensures.sound w.sound w.bounded.1 w.bounded.0 w.spelled in
     let after = lead_after c.formats_are_sound.ensures c.standings_have_versions.ensures (land_all bs) (k.held ++ y ∷ []) fmt fmt s (all_landed format.Two s bs) c.know.ensures.sound leads in
-    (stop.0, stop.1, step_stops c.formats_are_sound.ensures c.standings_have_versions.ensures c.stops_by_records.ensures (Lands bs) h stop.0 p fmt s c.self.inside.generation k (k.held ++ y ∷ []) c.know.ensures.sound after stop.2)) told
+    (stop.0, stop.1, step_stops c.formats_are_sound.ensures c.standings_have_versions.ensures c.stops_by_records.ensures (Lands bs) h stop.0 p fmt s c.self.inside.generation k (k.held ++ y ∷ []) c.know.ensures.sound after stop.2)) told in
+    let count : fin.len c.newest.result.now.map ≤ 2 ^ 62 = search rules in
+    let small : fin.len (newest (versions_of c.self.inside.directory)) ≤ 2 ^ 62 = subst (λ m. fin.len m ≤ 2 ^ 62) (c.newest.ensures.map ∙ sym (newest-head c.self.inside.directory)) count in
+    let below : c.self.inside.directory.head + length c.args.batches.now ≤ 2 ^ 64 - 2 = omega (arith, c.in_ok-landings.ensures.bounded.0) in
+    record {
+      could = subst (CanStep (Lands c.args.batches.now)) c.self.view_is (c.if-self.false, (below, small));
+      versions_are = search rules;
+      generation_is = search rules;
+      broken = search rules;
+      later = search rules;
+      most = search rules;
+      faults = search rules;
+      cause = search rules;
+      untold = search rules;
+      began = search rules;
+      disk = disk;
+    }
+
+pub returns-in_default-clause-step : goal.returns-in_default-clause-step
+returns-in_default-clause-step g c =
+    let count : fin.len c.newest.result.now.map ≤ 2 ^ 62 = search rules in
+    let small : fin.len (newest (versions_of c.self.inside.directory)) ≤ 2 ^ 62 = subst (λ m. fin.len m ≤ 2 ^ 62) (c.newest.ensures.map ∙ sym (newest-head c.self.inside.directory)) count in
+    let below : c.self.inside.directory.head + length c.args.batches.now ≤ 2 ^ 64 - 2 = omega (arith, c.in_ok-landings.ensures.bounded.0) in
+    (subst (CanStep (Lands c.args.batches.now)) c.self.view_is (c.if-self.false, (below, small)), search rules)

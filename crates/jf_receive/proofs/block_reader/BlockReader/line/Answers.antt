@@ -1,6 +1,6 @@
 use Rattle.std.proofs.Common.{subst, [], Ok, Err}
 use Rattle.std.specs.Prelude.{OnOk, IfErr}
-use Rattle.jf_chunks.specs.Steps.{Restoring}
+use Rattle.jf_receive.specs.Steps.{Restoring}
 use Rattle.jf_receive.specs.TakenLines.{TakesBlockLine}
 use Rattle.jf_receive.proofs.LinesTaken.{line-accepted, line-refused}
 use Rattle.jf_receive.proofs.block_reader.BlockReader.line.Goals as goal

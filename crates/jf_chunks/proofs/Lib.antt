@@ -1,4 +1,0 @@
-pub mod LineByLine
-pub mod Deciding
-pub mod LongLines
-mod NoMemory

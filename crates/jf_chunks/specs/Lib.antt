@@ -1,9 +1,0 @@
-pub mod Chunks
-pub mod Steps
-pub mod Laws
-pub use Rattle.jf_evidence.specs.Ranges
-pub use Rattle.jf_restore.specs.RestoreValue
-pub use Rattle.jf_restore.specs.Restores
-pub use Rattle.jf_text.specs.Words
-pub use Rattle.jf_blocks.specs.Reading
-pub use Rattle.jf_blocks.specs.Sides
