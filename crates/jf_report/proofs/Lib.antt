@@ -1,4 +1,4 @@
-pub mod GatheredLaws
-pub mod Joined
+pub mod HeldTextLaws
+pub mod JoinedTexts
 pub mod Refused
-pub mod Samples
+pub mod ReportSamples

@@ -3,7 +3,7 @@ use Rattle.std.proofs.Common.{◌<◌, ◌∷◌, [], length, length-append, ari
 use Rattle.std.specs.Prelude.{Result, Ok, Err, OnErr}
 use Rattle.std.specs.List.{join_with_byte}
 use Rattle.jf_model.specs.declared.entries.Entry.{Entry}
-use Rattle.jf_report.specs.Ledgers.{entry_line, entry_words}
+use Rattle.jf_report.specs.ServedTexts.{entry_line, entry_words}
 
 -- what holds, holds after an error
 pub on_err-always : {T E P : Type 0} (r : Result T E) → P → OnErr r P

@@ -3,7 +3,7 @@ ghost use Rattle.std.specs.Prelude.{◌≡◌, ◌∷◌, ◌++◌, [], codes, d
 ghost use Rattle.hex.specs.Hex.{encode_lower};
 ghost use Rattle.jf_text.specs.Words.{line_text};
 ghost use Rattle.jf_script.specs.Replies.{fork_word};
-ghost use Rattle.jf_report.specs.Ledgers.{entry_line, landing_word, parent_word};
+ghost use Rattle.jf_report.specs.ServedTexts.{entry_line, landing_word, parent_word};
 
 use jf_model::{Entry, Landing, Parent};
 use jf_path::{Bytes, Memory};
@@ -18,7 +18,7 @@ pub(crate) fn write_count(count: u64, out: &mut Bytes) -> Result<(), Memory>
 }
 
 /// Appends the line of an entry (docs/FORMATS.md, "Several sessions").
-#[tactic(auto, unfolding(crate::specs::Ledgers::entry_line))]
+#[tactic(auto, unfolding(crate::specs::ServedTexts::entry_line))]
 pub(crate) fn write_entry(entry: &Entry, out: &mut Bytes) -> Result<(), Memory>
     ensures { OnOk result (out.new ≡ out.old ++ entry_line entry.now) }
 {

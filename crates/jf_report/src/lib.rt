@@ -2,7 +2,7 @@
 #![tactic(auto)]
 
 mod entry;
-mod gathering;
-mod writing;
+mod held_text;
+mod report;
 
-pub use writing::{ReportFault, write_served};
+pub use report::{ReportFault, write_served};

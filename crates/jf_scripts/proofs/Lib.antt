@@ -1,4 +1,4 @@
 pub mod FirstLine
-pub mod Cuts
-pub mod Taken
-pub mod Samples
+pub mod InputTaken
+pub mod ScriptCuts
+pub mod ScriptSamples

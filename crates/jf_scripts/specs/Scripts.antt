@@ -1,14 +1,12 @@
 -- An input that is cut into the scripts of several sessions (docs/FORMATS.md, "Several sessions").
 use Rattle.std.specs.Prelude.{◌≡◌, ◌⊎◌, ℕ, ◌<◌, ◌≤◌, Bool, if◌then◌else◌, List, [], ◌∷◌, map, length, Option, Some, codes, bytes_eq}
 use Rattle.std.specs.List.{onto_first}
+use Rattle.jf_path.specs.Limits.{max_sessions}
 use Rattle.jf_io.specs.Lines.{lines}
 
--- the most bytes of an input, and the most sessions
+-- the most bytes of an input
 abbrev pub max_input : ℕ
 max_input = 67108864
-
-abbrev pub max_sessions : ℕ
-max_sessions = 16
 
 -- a line that begins a session
 abbrev pub is_session_line : List ℕ → Bool

@@ -1,17 +1,19 @@
 // Bytes are cut into scripts at the lines that begin sessions.
 ghost use Rattle.std.specs.Prelude.{◌≡◌, ◌≤◌, ◌<◌, ◌∷◌, [], map, length, Err, IfOk, IfErr, ◌≢◌};
 ghost use Rattle.std.specs.Option.{option_map_or};
+ghost use Rattle.jf_path.specs.Limits.{max_sessions};
 ghost use Rattle.jf_io.specs.Lines.{lines};
-ghost use Rattle.jf_scripts.specs.Scripts.{cut_at_sessions, is_session_line, max_sessions, scripts_in};
+ghost use Rattle.jf_scripts.specs.Scripts.{cut_at_sessions, is_session_line, scripts_in};
 
 use crate::line::{cut_line, split_line};
-use crate::reading::{InputFault, MAX_SESSIONS};
+use crate::reading::InputFault;
 use crate::scripts::Scripts;
+use jf_path::MAX_SESSIONS;
 use std::alloc::Global;
 
 /// The scripts of an input, unless there are more than `MAX_SESSIONS`.
 pub(crate) fn cut_input(alloc: Global, input: &[u8]) -> Result<Scripts, InputFault>
-    ensures some { IfOk result (λ scripts. (1 ≤ length scripts) × (length scripts ≤ max_sessions)) }
+    ensures number { IfOk result (λ scripts. (1 ≤ length scripts) × (length scripts ≤ max_sessions)) }
     ensures ok { IfOk result (λ scripts. map lines scripts ≡ scripts_in input.now) }
     ensures full { result ≡ Err InputFault.Full → max_sessions < length (scripts_in input.now) }
     ensures fault { IfErr result (λ e. e ≢ InputFault.ReadFault) }

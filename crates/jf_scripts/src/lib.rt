@@ -8,5 +8,5 @@ mod scripts;
 mod whole_input;
 
 pub use line::cut_line;
-pub use reading::{InputFault, MAX_INPUT, MAX_SESSIONS, read_scripts};
+pub use reading::{InputFault, MAX_INPUT, read_scripts};
 pub use scripts::Scripts;

@@ -8,8 +8,8 @@ use jf_io::first_line_feed;
 
 /// The first line of bytes, without the line feed that ends it, and the bytes after that. `None` if there are no bytes.
 pub fn cut_line(bytes: &[u8]) -> Option<(&[u8], &[u8])>
-    ensures none { result ≡ None → bytes.now ≡ [] }
-    ensures some { IfSome result (λ r. lines bytes.now ≡ r.0.now ∷ lines r.1.now) }
+    ensures empty { result ≡ None → bytes.now ≡ [] }
+    ensures split { IfSome result (λ r. lines bytes.now ≡ r.0.now ∷ lines r.1.now) }
     ensures shorter { IfSome result (λ r. length r.1.now < length bytes.now) }
 {
     if bytes.is_empty() {

@@ -1,7 +1,8 @@
 // An input is read whole, and cut into scripts.
 ghost use Rattle.std.specs.Prelude.{◌≡◌, ◌≤◌, ℕ, List, length, Err, IfOk, Some};
 ghost use Rattle.jf_path.specs.Faults.{HasCause};
-ghost use Rattle.jf_scripts.specs.Scripts.{HasReadScripts, IsTooLarge, max_sessions};
+ghost use Rattle.jf_path.specs.Limits.{max_sessions};
+ghost use Rattle.jf_scripts.specs.Scripts.{HasReadScripts, IsTooLarge};
 
 use crate::cutting::cut_input;
 use crate::scripts::Scripts;
@@ -13,22 +14,19 @@ use std::alloc::Global;
 /// The most bytes that an input may have.
 pub const MAX_INPUT: u64 = 67_108_864;
 
-/// The most sessions that an input may have.
-pub const MAX_SESSIONS: u64 = 16;
-
 /// Why no scripts were read.
 #[derive(Clone, Copy, Debug, PartialEq, Eq)]
 pub enum InputFault {
     /// The source failed.
     ReadFault,
-    /// The input has more than `MAX_INPUT` bytes, or more than `MAX_SESSIONS` sessions.
+    /// The input has more than `MAX_INPUT` bytes, or more than `MAX_SESSIONS` (jf_path) sessions.
     Full,
     /// Memory ran out.
     Memory,
 }
 
 impl From<FetchFault> for InputFault {
-    ghost use Rattle.jf_scripts.specs.Faults.{of_fetch};
+    ghost use Rattle.jf_scripts.specs.InputFaults.{of_fetch};
 
     ghost from_gives = { λ f e. e ≡ of_fetch f };
 
@@ -58,7 +56,7 @@ impl From<Memory> for InputFault {
 /// - `Full`: byte 67,108,865 was read, or a seventeenth session begins.
 /// - `Memory`: memory ran out.
 pub fn read_scripts<S: Source>(alloc: Global, source: &mut S) -> Result<Scripts, InputFault>
-    ensures some { IfOk result (λ scripts. (1 ≤ length scripts) × (length scripts ≤ max_sessions)) }
+    ensures number { IfOk result (λ scripts. (1 ≤ length scripts) × (length scripts ≤ max_sessions)) }
     ensures ok { IfOk result (HasReadScripts (S.rest source.old) (S.rest source.new)) }
     ensures full { result ≡ Err InputFault.Full → (input : List ℕ) → S.rest source.old ≡ Some input → IsTooLarge input }
     ensures read { result ≡ Err InputFault.ReadFault → HasCause (S.faults source.old) (S.faults source.new) }

@@ -1,12 +1,13 @@
 use Rattle.std.proofs.Common.{◌≡◌, ◌≤◌, ◌-◌, ◌++◌, [], map, length}
 use Rattle.std.specs.Option.{option_map_or}
+use Rattle.jf_path.specs.Limits.{max_sessions}
 use Rattle.jf_io.specs.Lines.{lines}
-use Rattle.jf_scripts.specs.Scripts.{cut_at_sessions, max_sessions, scripts_in}
+use Rattle.jf_scripts.specs.Scripts.{cut_at_sessions, scripts_in}
 use Rattle.jf_scripts.proofs.cutting.cut_input.Given as goal
 
 abbrev pub invariant-loop-rest : goal.invariant-loop-rest
 invariant-loop-rest l = record {
-  few : length l.scripts ≤ max_sessions;
+  number : length l.scripts ≤ max_sessions;
   cut : map lines l.scripts ++ option_map_or (λ bytes. cut_at_sessions (lines bytes.now)) l.rest [] ≡ scripts_in l.input;
 }
 

@@ -3,7 +3,7 @@ use Rattle.std.specs.List.{before_first, after_first}
 use Rattle.jf_io.specs.LineReader.{is_line_feed}
 use Rattle.jf_scripts.specs.Scripts.{is_session_line}
 use Rattle.jf_scripts.proofs.FirstLine.{lines-split}
-use Rattle.jf_scripts.proofs.Cuts.{before-none, before-more, cut_all, cut_there, rest_is}
+use Rattle.jf_scripts.proofs.ScriptCuts.{before-none, before-more, cut_all, cut_there, rest_is}
 use Rattle.jf_scripts.proofs.cutting.cut_script.Goals as goal
 
 pub loop-start-init : goal.loop-start-init

@@ -1,5 +1,5 @@
 use Rattle.std.proofs.Common.{length, ◌-◌}
-use Rattle.jf_scripts.proofs.Cuts.{IsBeforeSession}
+use Rattle.jf_scripts.proofs.ScriptCuts.{IsBeforeSession}
 use Rattle.jf_scripts.proofs.cutting.cut_script.Given as goal
 
 abbrev pub invariant-loop-start : goal.invariant-loop-start

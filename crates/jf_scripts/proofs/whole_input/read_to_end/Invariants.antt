@@ -1,12 +1,12 @@
 use Rattle.std.proofs.Common.{◌≤◌, ◌-◌, length}
 use Rattle.jf_scripts.specs.Scripts.{max_input}
-use Rattle.jf_scripts.proofs.Taken.{HasTaken}
+use Rattle.jf_scripts.proofs.InputTaken.{IsFrontTaken}
 use Rattle.jf_scripts.proofs.whole_input.read_to_end.Given as goal
 
 abbrev pub invariant-loop-bytes : goal.invariant-loop-bytes
 invariant-loop-bytes g l = record {
   small : length l.bytes.items ≤ max_input;
-  taken : HasTaken (g.S.Source.rest l.initial.source) (g.S.Source.rest l.source) l.bytes.items;
+  taken : IsFrontTaken (g.S.Source.rest l.initial.source) (g.S.Source.rest l.source) l.bytes.items;
   grows : g.S.Source.faults l.initial.source ≤ g.S.Source.faults l.source;
 }
 

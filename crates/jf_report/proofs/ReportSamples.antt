@@ -5,7 +5,7 @@ use Rattle.hex.specs.Hex.{encode_lower}
 use Rattle.jf_model.specs.declared.entries.Entry.TheVariants as entry
 use Rattle.jf_model.specs.declared.entries.Landing.TheVariants as landing
 use Rattle.jf_model.specs.declared.entries.Parent.TheVariants as parent
-use Rattle.jf_report.specs.Ledgers.{entry_line, ledger_text, served_text}
+use Rattle.jf_report.specs.ServedTexts.{entry_line, ledger_text, served_text}
 
 made : (root : List ℕ) → entry_line (entry.Made 0 0 parent.Head [] root) ≡ codes "made 0 f0 head " ++ (encode_lower root ++ 10 ∷ [])
 unfolding entry_line digits

@@ -2,16 +2,16 @@
 use Rattle.std.proofs.Common.{◌≡◌, ℕ, ◌<◌, List, [], ◌++◌, Option, Some, length, refl, sym, ap, ◌∙◌, append-nil, length-append, arith}
 
 -- the bytes taken and those to come are the input, if that is known
-abbrev pub HasTaken : Option (List ℕ) → Option (List ℕ) → List ℕ → Type 0
-HasTaken rest rest' bytes = (input : List ℕ) → rest ≡ Some input → (left : List ℕ) × (rest' ≡ Some left) × (bytes ++ left ≡ input)
+abbrev pub IsFrontTaken : Option (List ℕ) → Option (List ℕ) → List ℕ → Type 0
+IsFrontTaken rest rest' bytes = (input : List ℕ) → rest ≡ Some input → (left : List ℕ) × (rest' ≡ Some left) × (bytes ++ left ≡ input)
 
 -- nothing was taken yet
-pub taken-none : (rest : Option (List ℕ)) → HasTaken rest rest []
+pub taken-none : (rest : Option (List ℕ)) → IsFrontTaken rest rest []
 taken-none rest input e = (input, e, refl)
 
-module _ (rest rest' : Option (List ℕ)) (bytes : List ℕ) (taken : HasTaken rest rest' bytes) where
+module _ (rest rest' : Option (List ℕ)) (bytes : List ℕ) (taken : IsFrontTaken rest rest' bytes) where
   -- some more was taken
-  pub taken-more : (rest'' : Option (List ℕ)) (bytes' : List ℕ) → ((to_come : List ℕ) → rest' ≡ Some to_come → (left : List ℕ) × (rest'' ≡ Some left) × (bytes' ++ left ≡ bytes ++ to_come)) → HasTaken rest rest'' bytes'
+  pub taken-more : (rest'' : Option (List ℕ)) (bytes' : List ℕ) → ((to_come : List ℕ) → rest' ≡ Some to_come → (left : List ℕ) × (rest'' ≡ Some left) × (bytes' ++ left ≡ bytes ++ to_come)) → IsFrontTaken rest rest'' bytes'
   taken-more rest'' bytes' more input e = let before = taken input e in let after = more before.0 before.1 in (after.0, after.1, after.2 ∙ before.2)
 
   -- all was taken

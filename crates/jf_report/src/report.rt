@@ -1,13 +1,14 @@
 // The outputs of sessions and the entries of a ledger are written into a sink.
-ghost use Rattle.std.specs.Prelude.{◌≡◌, ◌≤◌, ◌++◌, Err, OnOk, OnErr, map, option_map};
+ghost use Rattle.std.specs.Prelude.{◌≡◌, ◌≤◌, ◌++◌, Err, OnOk, OnErr, map};
 ghost use Rattle.std.specs.List.{concat};
 ghost use Rattle.jf_path.specs.Faults.{HasCause};
 ghost use Rattle.jf_io.specs.Sink.{IsCutShort};
-ghost use Rattle.jf_report.specs.Gathered.{HasGathered};
-ghost use Rattle.jf_report.specs.Ledgers.{entry_line, ledger_text, served_text, session_text};
+ghost use Rattle.jf_input.specs.Feeds.{Appends};
+ghost use Rattle.jf_report.specs.HeldText.{AddsText};
+ghost use Rattle.jf_report.specs.ServedTexts.{entry_line, ledger_text, served_text, session_text};
 
 use crate::entry::{write_count, write_entry};
-use crate::gathering::{ENOUGH, put_enough, put_held};
+use crate::held_text::{ENOUGH, put_enough, put_held};
 use jf_io::{IoFailed, Sink, put_all};
 use jf_model::Entry;
 use jf_path::{Bytes, Memory};
@@ -23,7 +24,7 @@ pub enum ReportFault {
 }
 
 impl From<IoFailed> for ReportFault {
-    ghost use Rattle.jf_report.specs.declared.writing.ReportFault.{ReportFault};
+    ghost use Rattle.jf_report.specs.declared.report.ReportFault.{ReportFault};
 
     ghost from_gives = { λ _ e. e ≡ ReportFault.WriteFault };
 
@@ -33,7 +34,7 @@ impl From<IoFailed> for ReportFault {
 }
 
 impl From<Memory> for ReportFault {
-    ghost use Rattle.jf_report.specs.declared.writing.ReportFault.{ReportFault};
+    ghost use Rattle.jf_report.specs.declared.report.ReportFault.{ReportFault};
 
     ghost from_gives = { λ _ e. e ≡ ReportFault.Memory };
 
@@ -50,7 +51,7 @@ pub fn write_served<K: Sink>(
     entries: &[Entry],
     sink: &mut K,
 ) -> Result<(), ReportFault>
-    ensures ok { OnOk result (K.text sink.new ≡ option_map (λ t. t ++ served_text outputs.now entries.now) (K.text sink.old)) }
+    ensures ok { OnOk result (Appends (K.text sink.old) (K.text sink.new) (served_text outputs.now entries.now)) }
     ensures front { OnErr result (IsCutShort (K.text sink.old) (K.text sink.new) (served_text outputs.now entries.now)) }
     ensures write { result ≡ Err ReportFault.WriteFault → HasCause (K.faults sink.old) (K.faults sink.new) }
     ensures counts { K.faults sink.old ≤ K.faults sink.new }
@@ -68,7 +69,7 @@ fn write_sessions<K: Sink>(
     held: &mut Bytes,
     sink: &mut K,
 ) -> Result<(), ReportFault>
-    ensures ok { OnOk result (HasGathered (K.text sink.old) (K.text sink.new) held.old held.new (concat (map session_text outputs.now))) }
+    ensures ok { OnOk result (AddsText (K.text sink.old) (K.text sink.new) held.old held.new (concat (map session_text outputs.now))) }
     ensures front { OnErr result (IsCutShort (K.text sink.old) (K.text sink.new) (held.old ++ concat (map session_text outputs.now))) }
     ensures write { result ≡ Err ReportFault.WriteFault → HasCause (K.faults sink.old) (K.faults sink.new) }
     ensures counts { K.faults sink.old ≤ K.faults sink.new }
@@ -81,7 +82,7 @@ fn write_sessions<K: Sink>(
 
 /// Writes the output of a session, after the line that begins it. A long output isn't held.
 fn write_session<K: Sink>(output: &[u8], held: &mut Bytes, sink: &mut K) -> Result<(), ReportFault>
-    ensures ok { OnOk result (HasGathered (K.text sink.old) (K.text sink.new) held.old held.new (session_text output.now)) }
+    ensures ok { OnOk result (AddsText (K.text sink.old) (K.text sink.new) held.old held.new (session_text output.now)) }
     ensures front { OnErr result (IsCutShort (K.text sink.old) (K.text sink.new) (held.old ++ session_text output.now)) }
     ensures write { result ≡ Err ReportFault.WriteFault → HasCause (K.faults sink.old) (K.faults sink.new) }
     ensures counts { K.faults sink.old ≤ K.faults sink.new }
@@ -103,7 +104,7 @@ fn write_ledger<K: Sink>(
     held: &mut Bytes,
     sink: &mut K,
 ) -> Result<(), ReportFault>
-    ensures ok { OnOk result (HasGathered (K.text sink.old) (K.text sink.new) held.old held.new (ledger_text entries.now)) }
+    ensures ok { OnOk result (AddsText (K.text sink.old) (K.text sink.new) held.old held.new (ledger_text entries.now)) }
     ensures front { OnErr result (IsCutShort (K.text sink.old) (K.text sink.new) (held.old ++ ledger_text entries.now)) }
     ensures write { result ≡ Err ReportFault.WriteFault → HasCause (K.faults sink.old) (K.faults sink.new) }
     ensures counts { K.faults sink.old ≤ K.faults sink.new }
@@ -117,7 +118,7 @@ fn write_ledger<K: Sink>(
 
 /// Writes the line of an entry. It may be held.
 fn write_line<K: Sink>(entry: &Entry, held: &mut Bytes, sink: &mut K) -> Result<(), ReportFault>
-    ensures ok { OnOk result (HasGathered (K.text sink.old) (K.text sink.new) held.old held.new (entry_line entry.now)) }
+    ensures ok { OnOk result (AddsText (K.text sink.old) (K.text sink.new) held.old held.new (entry_line entry.now)) }
     ensures front { OnErr result (IsCutShort (K.text sink.old) (K.text sink.new) (held.old ++ entry_line entry.now)) }
     ensures write { result ≡ Err ReportFault.WriteFault → HasCause (K.faults sink.old) (K.faults sink.new) }
     ensures counts { K.faults sink.old ≤ K.faults sink.new }

@@ -1,8 +1,8 @@
 use Rattle.std.proofs.Common.{arith, length-append}
 use Rattle.jf_io.proofs.SinkLaws.{cut_short-none}
-use Rattle.jf_report.specs.Ledgers.{entry_line}
+use Rattle.jf_report.specs.ServedTexts.{entry_line}
 use Rattle.jf_report.proofs.Refused.{on_err-always, entry_line-some}
-use Rattle.jf_report.proofs.writing.write_line.Goals as goal
+use Rattle.jf_report.proofs.report.write_line.Goals as goal
 
 pub returns-in_err-write_entry-clause-front : goal.returns-in_err-write_entry-clause-front
 returns-in_err-write_entry-clause-front g c =

@@ -3,12 +3,12 @@ use Rattle.std.specs.List.{concat}
 use Rattle.jf_io.proofs.SinkLaws.{cut_short-none, cut_short-in}
 use Rattle.jf_model.specs.declared.entries.Entry.{Entry}
 use Rattle.jf_text.specs.Words.{line_text}
-use Rattle.jf_report.specs.Gathered.{HasGathered}
-use Rattle.jf_report.specs.Ledgers.{entry_line, ledger_text}
-use Rattle.jf_report.proofs.GatheredLaws.{gathered-then, cut-then}
-use Rattle.jf_report.proofs.Joined.{concat-next, concat-rest}
+use Rattle.jf_report.specs.HeldText.{AddsText}
+use Rattle.jf_report.specs.ServedTexts.{entry_line, ledger_text}
+use Rattle.jf_report.proofs.HeldTextLaws.{adds-then, cut-then}
+use Rattle.jf_report.proofs.JoinedTexts.{concat-next, concat-rest}
 use Rattle.jf_report.proofs.Refused.{on_err-always}
-use Rattle.jf_report.proofs.writing.write_ledger.Goals as goal
+use Rattle.jf_report.proofs.report.write_ledger.Goals as goal
 
 -- the line that counts entries
 abbrev count_line : List Entry → List ℕ
@@ -27,10 +27,10 @@ loop-entry-preserved g c =
     let held = c.args.held.now in
     let es = c.args.entries.now in
     let i = c.loop-entry.entry-index in
-    let now = gathered-then _ _ _ held c.loop-entry.held (count_line es ++ first_lines i es) c.loop-entry.invariant.gathered c.write_line.new.held _ c.in_ok-write_line.ensures.ok in
+    let now = adds-then _ _ _ held c.loop-entry.held (count_line es ++ first_lines i es) c.loop-entry.invariant.added c.write_line.new.held _ c.in_ok-write_line.ensures.ok in
     let lines = append_assoc (count_line es) (first_lines i es) (entry_line c.entry-item.result) ∙ ap (λ t. count_line es ++ t) (sym (concat-next entry_line es i _ _ c.loop-entry-test.true c.entry-item.is)) in
     record {
-      gathered = subst (λ (t : List ℕ). HasGathered (g.K.Sink.text c.args.sink.now) (g.K.Sink.text c.write_line.new.sink) held c.write_line.new.held t) lines now;
+      added = subst (λ (t : List ℕ). AddsText (g.K.Sink.text c.args.sink.now) (g.K.Sink.text c.write_line.new.sink) held c.write_line.new.held t) lines now;
       grows = omega (arith, c.loop-entry.invariant.grows, c.in_ok-write_line.ensures.counts);
     }
 
@@ -41,7 +41,7 @@ returns-in_err-write_line-clause-front g c =
     let i = c.loop-entry.entry-index in
     let line = entry_line c.entry-item.result in
     let later = concat (map entry_line (drop (i + 1) es)) in
-    let cut = cut-then _ _ _ held c.loop-entry.held (count_line es ++ first_lines i es) c.loop-entry.invariant.gathered line c.in_err-write_line.ensures.front in
+    let cut = cut-then _ _ _ held c.loop-entry.held (count_line es ++ first_lines i es) c.loop-entry.invariant.added line c.in_err-write_line.ensures.front in
     let whole : (count_line es ++ first_lines i es) ++ line ++ later ≡ ledger_text es =
     ap (λ t. t ++ later) (append_assoc (count_line es) (first_lines i es) line) ∙ append_assoc (count_line es) (first_lines i es ++ line) later
     ∙ ap (λ t. count_line es ++ t) (concat-rest entry_line es i _ _ c.loop-entry-test.true c.entry-item.is) in
