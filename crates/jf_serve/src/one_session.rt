@@ -8,11 +8,11 @@ ghost use Rattle.jf_session.specs.Taking.{end_of_stop};
 ghost use Rattle.jf_serve.specs.Served.{max_output};
 ghost use Rattle.jf_serve.specs.Ran.{HasRunSession};
 
+use crate::line::cut_line;
 use jf_disk::Disk;
 use jf_history::End;
 use jf_join::{Gate, Workers};
 use jf_path::Bytes;
-use jf_scripts::cut_line;
 use jf_session::{Session, Stop};
 use jf_store::{Pass, Store};
 use std::alloc::Global;

@@ -1,4 +1,0 @@
-pub mod HeldTextLaws
-pub mod JoinedTexts
-pub mod Refused
-pub mod ReportSamples

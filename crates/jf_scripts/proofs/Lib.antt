@@ -1,4 +1,0 @@
-pub mod FirstLine
-pub mod InputTaken
-pub mod ScriptCuts
-pub mod ScriptSamples
