@@ -66,7 +66,7 @@ pub fn serve<D: Disk, H: Threads + Wait + Sync, G: Gate>(
     let Ok(gathered) = Gathered::with_room(alloc, passes.len()) else {
         return Err(ServeRefused { store, passes });
     };
-    let gathered = run_side_by_side(rt, alloc, &store, scripts, passes, workers, gate, gathered);
+    let gathered = run_side_by_side(rt, alloc, &store, scripts, passes, &workers, gate, gathered);
     let (passes, outputs, ends) = gathered.into_parts();
     let Closed { engine, entries } = store.close(passes);
     Ok(Served {
