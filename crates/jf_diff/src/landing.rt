@@ -1,5 +1,5 @@
 // What a snapshot writes over an older one: the public call of this crate.
-ghost use Rattle.std.specs.Prelude.{◌≡◌, ◌↔◌, ◌<◌, ◌≤◌, length, IfOk, IsTrue};
+ghost use Rattle.std.specs.Prelude.{◌≡◌, ◌↔◌, ◌<◌, length, IfOk, IsTrue};
 ghost use Rattle.std.specs.FinMap.{entries};
 ghost use Rattle.std.specs.List.Sorted.{IsPermutation};
 ghost use Rattle.jf_diff.specs.Changed.{ChangesSeveral};
@@ -9,7 +9,7 @@ use crate::changed::are_several;
 use crate::lists::Written;
 use crate::top::{fresh_of, stale_of};
 use crate::wide::written_wide;
-use jf_join::Gate;
+use jf_join::{Gate, Workers};
 use jf_node::Snapshot;
 use jf_path::Memory;
 use std::alloc::Global;
@@ -30,12 +30,13 @@ fn written_in_turn(alloc: Global, old: &Snapshot, new: &Snapshot) -> Result<Writ
 
 /// Whether the lists are made in pieces: with more workers than one, if the landing changed nodes below more than one
 /// nibble.
-fn are_cut(old: &Snapshot, new: &Snapshot, workers: u64) -> bool
+fn are_cut(old: &Snapshot, new: &Snapshot, workers: Workers) -> bool
     requires next { IsNextOf old.now new.now }
     ensures { IsTrue result ↔ ((1 < workers) × ChangesSeveral (entries old.now.map) (entries new.now.map)) }
 {
     old.know();
-    workers > 1 && are_several(old.top(), new.top(), new.version())
+    let number = workers.get();
+    number > 1 && are_several(old.top(), new.top(), new.version())
 }
 
 /// The nodes that the landing of `new` over `old` wrote, and the names of those of `old` that it made stale. With more
@@ -46,11 +47,9 @@ pub fn written<H: Threads + Sync, G: Gate>(
     alloc: Global,
     old: &Snapshot,
     new: &Snapshot,
-    workers: u64,
+    workers: Workers,
     gate: &G,
 ) -> Result<Written, Memory>
-    requires positive { 1 ≤ workers }
-    requires bounded { workers ≤ 64 }
     requires next { IsNextOf old.now new.now }
     ensures fresh { IfOk result (λ w. w.fresh ≡ written_nodes old.now.map new.now.map new.now) }
     ensures stale { IfOk result (λ w. IsPermutation (stale_names_in old.now.map new.now.map old.now) w.stale) }

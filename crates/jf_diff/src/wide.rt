@@ -1,6 +1,6 @@
 // What a landing wrote and made stale, listed by several workers: what is listed from the children at one nibble down is
 // a piece of work of its own.
-ghost use Rattle.std.specs.Prelude.{◌≡◌, ℕ, ◌≤◌, Option, IfOk, T};
+ghost use Rattle.std.specs.Prelude.{◌≡◌, ℕ, Option, IfOk, T};
 ghost use Rattle.std.specs.Option.{option_copied};
 ghost use Rattle.std.specs.FinMap.{is_sorted};
 ghost use Rattle.std.specs.List.Sorted.{IsPermutation};
@@ -17,7 +17,7 @@ ghost use Rattle.jf_diff.specs.Tops.{IsFreshUnder, IsStaleUnder, old_name};
 use crate::lists::Written;
 use crate::parts::{PartLists, part_lists, top_lists};
 use crate::sorted::sorted_names;
-use jf_join::{Gate, join_pieces_from};
+use jf_join::{Gate, Workers, join_pieces_from};
 use jf_node::Link;
 use jf_path::{Memory, Nibble};
 use std::alloc::Global;
@@ -87,11 +87,9 @@ pub(crate) fn written_wide<H: Threads + Sync, G: Gate>(
     head: u64,
     top: Option<&Link>,
     version: u64,
-    workers: u64,
+    workers: Workers,
     gate: &G,
 ) -> Result<Written, Memory>
-    requires positive { 1 ≤ workers }
-    requires bounded { workers ≤ 64 }
     requires old { IsAtDepth 0 (option_copied old) }
     requires top { IsAtDepth 0 (option_copied top) }
     requires stale { IsStaleUnder version (option_copied old) (option_copied top) }

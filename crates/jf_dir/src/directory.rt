@@ -28,7 +28,7 @@ use crate::next_version::NextVersion;
 use crate::roots::{know_hashes, roots_with};
 use crate::shared_commit::SharedCommit;
 use jf_hash::Hash;
-use jf_join::Gate;
+use jf_join::{Gate, Workers};
 use jf_node::{Snapshot, Update};
 use jf_path::{Key, LiveList, Memory, NodeName, SharedBytes};
 use jf_split::Batch;
@@ -194,12 +194,10 @@ impl Directory {
         alloc: Global,
         entries: &[(Key, Option<SharedBytes>)],
         hashes: &[Hash],
-        workers: u64,
+        workers: Workers,
         gate: &G,
     ) -> Result<NextVersion, Memory>
         requires last { self.now.head + 1 < never }
-        requires positive { 1 ≤ workers }
-        requires bounded { workers ≤ 64 }
         requires batch { IsBatch entries.now }
         requires short { AreShort entries.now }
         requires hashed { AreValueHashes entries.now hashes.now }
@@ -227,12 +225,10 @@ impl Directory {
         rt: &H,
         alloc: Global,
         batch: &Batch,
-        workers: u64,
+        workers: Workers,
         gate: &G,
     ) -> Result<NextVersion, Memory>
         requires last { self.now.head + 1 < never }
-        requires positive { 1 ≤ workers }
-        requires bounded { workers ≤ 64 }
         ensures landing { IfOk result (IsLandingUpdate self.now (apply (head_map self.now) batch.now)) }
         ensures own { IfOk result (λ u. IsLandingUpdate self.now u.snapshot.map u) }
         ensures bound { IfOk result (λ u. length u.fresh ≤ 66 * length batch.now + 1) }
@@ -248,12 +244,10 @@ impl Directory {
         rt: &H,
         alloc: Global,
         batch: &Batch,
-        workers: u64,
+        workers: Workers,
         gate: &G,
     ) -> Result<Update, Memory>
         requires last { self.now.head + 1 < never }
-        requires positive { 1 ≤ workers }
-        requires bounded { workers ≤ 64 }
         ensures landing { IfOk result (IsLandingUpdate self.now (apply (head_map self.now) batch.now)) }
         ensures own { IfOk result (λ u. IsLandingUpdate self.now u.snapshot.map u) }
         ensures bound { IfOk result (λ u. length u.fresh ≤ 66 * length batch.now + 1) }

@@ -1,6 +1,6 @@
 // Landings on a directory, from a new store on.
 use jf_dir::Directory;
-use jf_join::FreeGate;
+use jf_join::{FreeGate, Workers};
 use jf_path::Key;
 use jf_split::Batch;
 use std::alloc::Global;
@@ -52,9 +52,12 @@ pub(crate) fn land<H: Threads + Sync>(
     batch: &Batch,
     workers: u64,
 ) -> Result<(), Fail> {
-    if directory.head() >= 9 || workers == 0 || workers > 64 {
-        return Err(Fail::new("too many versions, or no number of workers"));
+    if directory.head() >= 9 {
+        return Err(Fail::new("too many versions"));
     }
+    let Some(workers) = Workers::new(workers) else {
+        return Err(Fail::new("no number of workers"));
+    };
     let update = directory.update(rt, alloc, batch, workers, &FreeGate)?;
     if update.snapshot.count() > 1_000 {
         return Err(Fail::new("too many entries"));
@@ -74,7 +77,7 @@ pub(crate) fn land_and_undo<H: Threads + Sync>(
         return Err(Fail::new("too many versions"));
     }
     directory.know();
-    let update = directory.update(rt, alloc, batch, 1, &FreeGate)?;
+    let update = directory.update(rt, alloc, batch, Workers::ONE, &FreeGate)?;
     if update.snapshot.count() > 1_000 {
         return Err(Fail::new("too many entries"));
     }
@@ -95,7 +98,7 @@ pub(crate) fn land_and_undo_landing<H: Threads + Sync>(
         return Err(Fail::new("too many versions"));
     }
     directory.know();
-    let next = directory.next_of(rt, alloc, batch, 1, &FreeGate)?;
+    let next = directory.next_of(rt, alloc, batch, Workers::ONE, &FreeGate)?;
     let (landing, snapshot) = next.into_parts();
     if snapshot.count() > 1_000 {
         return Err(Fail::new("too many entries"));

@@ -2,7 +2,7 @@
 use crate::forty::{ENTRIES, ITEMS, NAMES, ROOT};
 use crate::given::same_items;
 use jf_hash::key_of;
-use jf_join::FreeGate;
+use jf_join::{FreeGate, Workers};
 use jf_multi::{Item, are_rising, prove_many};
 use jf_node::Snapshot;
 use jf_path::{HashList, Memory};
@@ -32,7 +32,14 @@ fn map_of<H: Threads + Sync>(
     entries: &[(&str, &str)],
 ) -> Result<Box<Snapshot>, Fail> {
     let batch = batch_of(alloc, entries)?;
-    let landed = update(rt, alloc, &Snapshot::empty(0), &batch, 1, &FreeGate)?;
+    let landed = update(
+        rt,
+        alloc,
+        &Snapshot::empty(0),
+        &batch,
+        Workers::ONE,
+        &FreeGate,
+    )?;
     Ok(Box::new(alloc, landed.snapshot)?)
 }
 

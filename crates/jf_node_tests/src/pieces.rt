@@ -1,7 +1,5 @@
 // Results stand in the order of their pieces, and the gate is called for each piece before it is worked.
-ghost use Rattle.std.specs.Prelude.{◌≤◌};
-
-use jf_join::{FreeGate, Gate, join_pieces};
+use jf_join::{FreeGate, Gate, Workers, join_pieces};
 use std::alloc::Global;
 use std::sync::atomic::AtomicU64;
 use std::sync::atomic::Ordering::SeqCst;
@@ -44,15 +42,21 @@ impl Gate for Counting {
     fn session(&self, _number: u64) {}
 }
 
+// So many workers, 1 to 64.
+fn workers_of(number: u64) -> Result<Workers, Fail> {
+    match Workers::new(number) {
+        Some(workers) => Ok(workers),
+        None => Err(Fail::new("no number of workers")),
+    }
+}
+
 // The square of each piece, and how often the gate had been called for it by then.
 fn squares<H: Threads + Sync>(
     rt: &H,
     alloc: Global,
     pieces: &[u64],
-    workers: u64,
-) -> Result<Vec<(u64, u64)>, Fail>
-    requires { 1 ≤ workers × (workers ≤ 64) }
-{
+    workers: Workers,
+) -> Result<Vec<(u64, u64)>, Fail> {
     let gate = Counting::new();
     let answers = join_pieces(
         rt,
@@ -67,10 +71,7 @@ fn squares<H: Threads + Sync>(
 
 // Whether the results for four pieces stand in their order.
 fn keep_order<H: Threads + Sync>(rt: &H, alloc: Global, workers: u64) -> Result<bool, Fail> {
-    if workers == 0 || workers > 64 {
-        return Ok(false);
-    }
-    let answers = squares(rt, alloc, &[0, 1, 2, 3], workers)?;
+    let answers = squares(rt, alloc, &[0, 1, 2, 3], workers_of(workers)?)?;
     Ok(answers.as_slice() == [(0, 1), (1, 1), (4, 1), (9, 1)].as_slice())
 }
 
@@ -84,14 +85,21 @@ fn answers_keep_the_order_of_their_pieces(rt: HostRuntime) -> Result<(), Fail> {
 
 #[test]
 fn no_piece_has_no_answer(rt: HostRuntime) -> Result<(), Fail> {
-    assert!(rt; squares(&rt, rt.alloc(), &[], 4)?.is_empty());
+    assert!(rt; squares(&rt, rt.alloc(), &[], workers_of(4)?)?.is_empty());
     Ok(())
 }
 
 // The opposite of each piece, with a gate that holds nothing back.
 fn opposites<H: Threads + Sync>(rt: &H, alloc: Global, pieces: &[bool]) -> Result<Vec<bool>, Fail> {
     FreeGate.session(7);
-    let answers = join_pieces(rt, alloc, pieces, 2, &FreeGate, &|piece: &bool| !*piece)?;
+    let answers = join_pieces(
+        rt,
+        alloc,
+        pieces,
+        workers_of(2)?,
+        &FreeGate,
+        &|piece: &bool| !*piece,
+    )?;
     Ok(answers)
 }
 
@@ -135,7 +143,14 @@ fn meetings<H: Threads + Sync>(rt: &H, alloc: Global) -> Result<u64, Fail> {
         begun: [AtomicU64::new(0), AtomicU64::new(0)],
         met: AtomicU64::new(0),
     };
-    let answers = join_pieces(rt, alloc, &[5, 6], 2, &gate, &|piece: &u64| *piece)?;
+    let answers = join_pieces(
+        rt,
+        alloc,
+        &[5, 6],
+        workers_of(2)?,
+        &gate,
+        &|piece: &u64| *piece,
+    )?;
     if answers.as_slice() != [5, 6].as_slice() {
         return Err(Fail::new("other answers"));
     }

@@ -2,7 +2,7 @@
 // siblings are from outside, by Python's hashlib.
 use crate::given::is_answered;
 use jf_hash::{Hash, key_of, value};
-use jf_join::FreeGate;
+use jf_join::{FreeGate, Workers};
 use jf_node::{Link, Snapshot};
 use jf_path::SharedBytes;
 use jf_range::{RangeAsk, prove_range};
@@ -30,7 +30,14 @@ fn batch_of(alloc: Global, count: u32) -> Result<Batch, BatchFault> {
 // The map of the numbers below `count`.
 fn map_of<H: Threads + Sync>(rt: &H, alloc: Global, count: u32) -> Result<Box<Snapshot>, Fail> {
     let batch = batch_of(alloc, count)?;
-    let landed = update(rt, alloc, &Snapshot::empty(0), &batch, 1, &FreeGate)?;
+    let landed = update(
+        rt,
+        alloc,
+        &Snapshot::empty(0),
+        &batch,
+        Workers::ONE,
+        &FreeGate,
+    )?;
     Ok(Box::new(alloc, landed.snapshot)?)
 }
 

@@ -2,8 +2,8 @@
 use Rattle.std.specs.Prelude.{ℕ}
 use Rattle.jf_payload.specs.declared.fault.RecordFault.{RecordFault}
 use Rattle.jf_payload.specs.declared.fault.RecordFault.TheVariants as record_fault
-use Rattle.jf_check.specs.declared.fault.CheckFault.{CheckFault}
-use Rattle.jf_check.specs.declared.fault.CheckFault.TheVariants as check_fault
+use Rattle.jf_replay.specs.declared.check_fault.CheckFault.{CheckFault}
+use Rattle.jf_replay.specs.declared.check_fault.CheckFault.TheVariants as check_fault
 use Rattle.jf_replay.specs.declared.fault.ReplayFault.{ReplayFault}
 use Rattle.jf_replay.specs.declared.fault.ReplayFault.TheVariants as fault
 

@@ -2,7 +2,7 @@
 ghost use Rattle.std.specs.Prelude.{◌≡◌};
 ghost use Rattle.jf_replay.specs.Faults.{undecoded, refused};
 
-use jf_check::CheckFault;
+use crate::check_fault::CheckFault;
 use jf_payload::RecordFault;
 
 /// Why records lead to no directory.

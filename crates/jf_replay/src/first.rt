@@ -1,5 +1,5 @@
 // The first record: a checkpoint, whose kind is that of the file's format.
-ghost use Rattle.std.specs.Prelude.{◌≡◌, ℕ, List, ◌≤◌, true, Err, IfOk};
+ghost use Rattle.std.specs.Prelude.{◌≡◌, ℕ, List, true, Err, IfOk};
 ghost use Rattle.jf_codec.specs.declared.format.Format.{Format};
 ghost use Rattle.jf_frame.specs.Framed.{lent_as};
 ghost use Rattle.jf_frame.specs.Framing.{number_of};
@@ -12,12 +12,15 @@ ghost use Rattle.jf_standing.specs.Leading.{ItemBegins};
 ghost use Rattle.jf_standing.specs.FormatLaws.{standing_in};
 ghost use Rattle.jf_files.specs.Files.{item};
 
+use crate::check_fault::CheckFault;
+use crate::checkpoint::load;
 use crate::fault::{ReplayFault, refused_at, undecoded_at};
-use jf_check::{CheckFault, CheckpointRef, load};
+use crate::lent::CheckpointRef;
 use jf_codec::Format;
 use jf_dir::Directory;
 use jf_files::checkpoints_are_numbered;
 use jf_frame::FramedRef;
+use jf_join::Workers;
 use jf_payload::{Record, decode, spelled_is_spelling};
 use jf_standing::spelled_is_read;
 use std::alloc::Global;
@@ -37,11 +40,9 @@ pub(crate) fn begin_with<H: Threads + Sync>(
     rt: &H,
     alloc: Global,
     framed: FramedRef<'_>,
-    workers: u64,
+    workers: Workers,
 ) -> Result<Replayed, ReplayFault>
     requires checkpoint { is_checkpoint framed.kind ≡ true }
-    requires positive { 1 ≤ workers }
-    requires bounded { workers ≤ 64 }
     ensures kind { IfOk result (λ r. framed.entry.kind ≡ checkpoint_kind r.format) }
     ensures begun { IfOk result (λ r. ItemBegins r.format (item r.format (lent_as framed.entry)) (standing_in r.format r.directory)) }
     ensures generation { IfOk result (λ r. r.generation ≡ number_of framed.entry.payload.now) }
@@ -73,12 +74,10 @@ fn given<H: Threads + Sync>(
     alloc: Global,
     found: Record,
     format: Format,
-    workers: u64,
+    workers: Workers,
 ) -> Result<Replayed, CheckFault>
     requires sound { IsRecord format found }
     requires read { IsReadFirst found }
-    requires positive { 1 ≤ workers }
-    requires bounded { workers ≤ 64 }
     ensures format { IfOk result (λ r. r.format ≡ format) }
     ensures given { IfOk result (λ r. GivesStanding format found (standing_in format r.directory)) }
     ensures generation { (kind : ℕ) (payload : List ℕ) → IsSpelling format found kind payload → IfOk result (λ r. r.generation ≡ number_of payload) }

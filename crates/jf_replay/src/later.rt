@@ -1,5 +1,5 @@
 // A record that isn't the first: a floor, a landing or a group of landings.
-ghost use Rattle.std.specs.Prelude.{◌≡◌, ◌≢◌, ◌≤◌, Err, OnOk};
+ghost use Rattle.std.specs.Prelude.{◌≡◌, ◌≢◌, Err, OnOk};
 ghost use Rattle.jf_codec.specs.declared.format.Format.{Format};
 ghost use Rattle.jf_payload.specs.Spelling.{IsRecord, IsCommit};
 ghost use Rattle.std.specs.List.{AllByRecursion};
@@ -7,9 +7,11 @@ ghost use Rattle.jf_standing.specs.Standing.{Standing};
 ghost use Rattle.jf_standing.specs.Taking.{TakesFloor, TakesCommits, TakesRecord};
 ghost use Rattle.jf_standing.specs.FormatLaws.{standing_in};
 
-use jf_check::{CheckFault, check};
+use crate::check_fault::CheckFault;
+use crate::commit::check;
 use jf_codec::Format;
 use jf_dir::Directory;
+use jf_join::Workers;
 use jf_payload::{Commit, Record};
 use jf_standing::{floors_prune, formats_are_sound, formats_follow};
 use std::alloc::Global;
@@ -23,11 +25,9 @@ pub(crate) fn take<H: Threads + Sync>(
     directory: &mut Directory,
     found: &Record,
     format: Format,
-    workers: u64,
+    workers: Workers,
 ) -> Result<(), CheckFault>
     requires sound { IsRecord format found.now }
-    requires positive { 1 ≤ workers }
-    requires bounded { workers ≤ 64 }
     ensures taken { OnOk result (TakesRecord format (standing_in format directory.old) found.now (standing_in format directory.new)) }
     ensures unsound { result ≡ Err CheckFault.Unsound → (s : Standing) → TakesRecord format (standing_in format directory.old) found.now s → ⊥ }
 {
@@ -64,11 +64,9 @@ fn take_commits<H: Threads + Sync>(
     directory: &mut Directory,
     commits: &[Commit],
     format: Format,
-    workers: u64,
+    workers: Workers,
 ) -> Result<(), CheckFault>
     requires sound { AllByRecursion (IsCommit format) commits.now }
-    requires positive { 1 ≤ workers }
-    requires bounded { workers ≤ 64 }
     ensures taken { OnOk result (TakesCommits format (standing_in format directory.old) commits.now (standing_in format directory.new)) }
     ensures unsound { result ≡ Err CheckFault.Unsound → (s : Standing) → TakesCommits format (standing_in format directory.old) commits.now s → ⊥ }
 {

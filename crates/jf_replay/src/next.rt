@@ -1,5 +1,5 @@
 // The next record of a journal is decoded and taken, or its offset is told.
-ghost use Rattle.std.specs.Prelude.{◌≡◌, ℕ, ◌≤◌, Err, OnOk};
+ghost use Rattle.std.specs.Prelude.{◌≡◌, ℕ, Err, OnOk};
 ghost use Rattle.jf_frame.specs.Framed.{lent_as};
 ghost use Rattle.jf_standing.specs.Standing.{Standing};
 ghost use Rattle.jf_standing.specs.Leading.{ItemFollows};
@@ -11,6 +11,7 @@ use crate::later::take;
 use jf_codec::Format;
 use jf_dir::Directory;
 use jf_frame::FramedRef;
+use jf_join::Workers;
 use jf_payload::{decode, spelled_is_spelling};
 use std::alloc::Global;
 use std::thread::Threads;
@@ -23,10 +24,8 @@ pub(crate) fn take_next<H: Threads + Sync>(
     directory: &mut Directory,
     framed: FramedRef<'_>,
     format: Format,
-    workers: u64,
+    workers: Workers,
 ) -> Result<(), ReplayFault>
-    requires positive { 1 ≤ workers }
-    requires bounded { workers ≤ 64 }
     ensures taken { OnOk result (ItemFollows format (standing_in format directory.old) (item format (lent_as framed.entry)) (standing_in format directory.new)) }
     ensures unsound { (at : ℕ) → result ≡ Err (ReplayFault.Unsound at) → (at ≡ framed.entry.offset) × ((s : Standing) → ItemFollows format (standing_in format directory.old) (item format (lent_as framed.entry)) s → ⊥) }
 {

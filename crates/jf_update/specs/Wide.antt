@@ -8,6 +8,10 @@ use Rattle.jf_update.specs.Made.{Built}
 use Rattle.jf_update.specs.Outcomes.{IsOutcome}
 use Rattle.jf_update.specs.declared.outcome.Outcome.{Outcome}
 
+-- a piece of more changes than these is cut again, if there are workers for its pieces
+abbrev pub most_changes : ℕ
+most_changes = 1024
+
 -- a piece is exactly the changes with its nibble
 pub record IsPieceOf (depth : ℕ) (bs : Batch) (p : Piece) : Type 0 where
   pub small : p.nibble < 16

@@ -1,8 +1,9 @@
 // The hashes of the values that a batch puts, before any of its nodes is made.
-ghost use Rattle.std.specs.Prelude.{◌≤◌, IfOk};
+ghost use Rattle.std.specs.Prelude.{IfOk};
 ghost use Rattle.jf_update.specs.ValueHashes.{AreValueHashes, IsValueHash};
 
 use jf_hash::Hash;
+use jf_join::Workers;
 use jf_path::{Key, Memory, SharedBytes};
 use rayon::prelude::*;
 use std::alloc::Global;
@@ -14,12 +15,11 @@ pub fn value_hashes<H: Threads + Sync>(
     rt: &H,
     alloc: Global,
     entries: &[(Key, Option<SharedBytes>)],
-    workers: u64,
+    workers: Workers,
 ) -> Result<Vec<Hash>, Memory>
-    requires { 1 ≤ workers }
     ensures { IfOk result (λ v. AreValueHashes entries.now v.items) }
 {
-    if workers == 1 {
+    if workers.is_one() {
         return hashes_in_order(alloc, entries);
     }
     let hashes = entries

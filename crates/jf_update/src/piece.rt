@@ -4,9 +4,10 @@ ghost use Rattle.std.specs.Prelude.{◌≡◌, ◌-◌, ◌*◌, ◌/◌, ◌<�
 ghost use Rattle.jf_model.specs.Parts.{IsPartUnder, IsPieceEnd};
 ghost use Rattle.std.specs.List.{AllByRecursion};
 ghost use Rattle.jf_split.specs.Pieces.{ArePieces};
-ghost use Rattle.jf_update.specs.Wide.{IsPieceOf};
+ghost use Rattle.jf_update.specs.Wide.{IsPieceOf, most_changes};
 
 use jf_hash::Hash;
+use jf_join::Workers;
 use jf_path::{Key, Memory, Nibble, SharedBytes, nibble};
 use jf_split::{Piece, pieces_of};
 use std::alloc::Global;
@@ -52,32 +53,31 @@ pub(crate) fn pieces_in(
 
 /// The number of workers that each of so many pieces may have, if all together have `workers`: an equal share, rounded
 /// down, but at least one.
-pub(crate) fn workers_each(workers: u64, pieces: usize) -> u64
-    requires positive { 1 ≤ workers }
-    requires bounded { workers ≤ 64 }
-    ensures positive { 1 ≤ result }
-    ensures bounded { result ≤ 64 }
-    ensures none { pieces ≡ 0 → result ≡ 1 }
-    ensures many { workers ≤ pieces → result ≡ 1 }
-    ensures few { 1 ≤ pieces → pieces < workers → result ≡ workers / pieces }
+pub(crate) fn workers_each(workers: Workers, pieces: usize) -> Workers
+    ensures no_pieces { pieces ≡ 0 → result ≡ 1 }
+    ensures one_each { workers ≤ pieces → result ≡ 1 }
+    ensures divided { 1 ≤ pieces → pieces < workers → result ≡ workers / pieces }
     ensures shared { (result ≡ 1) ⊎ (result * pieces ≤ workers) }
 {
     let pieces = pieces as u64;
-    if pieces == 0 || pieces >= workers {
-        1
-    } else {
-        workers / pieces
+    let number = workers.get();
+    if pieces == 0 || pieces >= number {
+        return Workers::ONE;
+    }
+    match Workers::new(number / pieces) {
+        Some(share) => share,
+        None => Workers::ONE,
     }
 }
 
 /// The number of workers of a piece of so many changes, which may have `workers`.
-pub(crate) fn workers_for(workers: u64, changes: usize) -> u64
-    requires positive { 1 ≤ workers }
-    requires bounded { workers ≤ 64 }
-    ensures positive { 1 ≤ result }
-    ensures bounded { result ≤ 64 }
-    ensures few { changes ≤ 1024 → result ≡ 1 }
-    ensures many { 1024 < changes → result ≡ workers }
+pub(crate) fn workers_for(workers: Workers, changes: usize) -> Workers
+    ensures small { changes ≤ most_changes → result ≡ 1 }
+    ensures large { most_changes < changes → result ≡ workers }
 {
-    if changes > MOST_CHANGES { workers } else { 1 }
+    if changes > MOST_CHANGES {
+        workers
+    } else {
+        Workers::ONE
+    }
 }

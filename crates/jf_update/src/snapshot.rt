@@ -1,5 +1,5 @@
 // The update of a snapshot: the public calls of this crate.
-ghost use Rattle.std.specs.Prelude.{◌-◌, ◌^◌, ◌<◌, ◌≤◌, IfOk};
+ghost use Rattle.std.specs.Prelude.{◌-◌, ◌^◌, ◌<◌, IfOk};
 ghost use Rattle.jf_hash.specs.Maps.{IsBatch};
 ghost use Rattle.jf_diff.specs.Landings.{IsNextSnapshot};
 ghost use Rattle.jf_update.specs.Outcomes.{AreShort};
@@ -10,7 +10,7 @@ use crate::hashing::value_hashes;
 use crate::top::next_top;
 use jf_diff::{Written, written};
 use jf_hash::Hash;
-use jf_join::Gate;
+use jf_join::{Gate, Workers};
 use jf_node::{Snapshot, Update};
 use jf_path::{Key, Memory, SharedBytes};
 use jf_split::Batch;
@@ -27,12 +27,10 @@ pub fn advance<H: Threads + Sync, G: Gate>(
     head: &Snapshot,
     entries: &[(Key, Option<SharedBytes>)],
     hashes: &[Hash],
-    workers: u64,
+    workers: Workers,
     gate: &G,
 ) -> Result<Snapshot, Memory>
     requires version { head.now.version < 2 ^ 64 - 2 }
-    requires positive { 1 ≤ workers }
-    requires bounded { workers ≤ 64 }
     requires batch { IsBatch entries.now }
     requires short { AreShort entries.now }
     requires hashed { AreValueHashes entries.now hashes.now }
@@ -61,12 +59,10 @@ pub fn update<H: Threads + Sync, G: Gate>(
     alloc: Global,
     head: &Snapshot,
     batch: &Batch,
-    workers: u64,
+    workers: Workers,
     gate: &G,
 ) -> Result<Update, Memory>
     requires version { head.now.version < 2 ^ 64 - 2 }
-    requires positive { 1 ≤ workers }
-    requires bounded { workers ≤ 64 }
     ensures { IfOk result (IsUpdate head.now batch.now) }
 {
     let entries = batch.as_slice();

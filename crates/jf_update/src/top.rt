@@ -1,5 +1,5 @@
 // The top of the next version.
-ghost use Rattle.std.specs.Prelude.{◌≡◌, ◌+◌, ◌<◌, ◌≤◌, ◌^◌, Option, IfOk};
+ghost use Rattle.std.specs.Prelude.{◌≡◌, ◌+◌, ◌<◌, ◌^◌, Option, IfOk};
 ghost use Rattle.std.specs.Option.{option_copied};
 ghost use Rattle.jf_hash.specs.Maps.{Batch};
 ghost use Rattle.jf_model.specs.Changes.{applied};
@@ -12,7 +12,7 @@ ghost use Rattle.jf_update.specs.TopUpdates.{IsNextTop, NoneNewer};
 use crate::outcome::Outcome;
 use crate::wide::update_wide;
 use jf_hash::Hash;
-use jf_join::Gate;
+use jf_join::{Gate, Workers};
 use jf_node::Link;
 use jf_path::{Key, Memory, SharedBytes};
 use std::alloc::Global;
@@ -44,11 +44,9 @@ pub(crate) fn next_top<H: Threads + Sync, G: Gate>(
     head: u64,
     entries: &[(Key, Option<SharedBytes>)],
     hashes: &[Hash],
-    workers: u64,
+    workers: Workers,
     gate: &G,
 ) -> Result<Option<Link>, Memory>
-    requires positive { 1 ≤ workers }
-    requires bounded { workers ≤ 64 }
     requires head { head + 1 < 2 ^ 64 }
     requires old { IsAtDepth 0 (option_copied old) }
     requires newest { NoneNewer head (option_copied old) }

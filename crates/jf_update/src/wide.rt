@@ -15,7 +15,7 @@ use crate::outcome::{NewChildren, Outcome};
 use crate::piece::{hashes_in, pieces_in, workers_each, workers_for};
 use crate::wide_leaf::update_leaf_wide;
 use jf_hash::Hash;
-use jf_join::{Gate, join_pieces};
+use jf_join::{Gate, Workers, join_pieces};
 use jf_node::{Branches, Link, Seen};
 use jf_path::{Bitmap, Key, Memory, SharedBytes};
 use jf_split::Piece;
@@ -68,18 +68,16 @@ pub(crate) fn update_wide<H: Threads + Sync, G: Gate>(
     hashes: &[Hash],
     depth: u64,
     version: u64,
-    workers: u64,
+    workers: Workers,
     gate: &G,
 ) -> Result<Outcome, Memory>
-    requires positive { 1 ≤ workers }
-    requires bounded { workers ≤ 64 }
     requires depth { depth ≤ 64 }
     requires placed { IsAtDepth depth (option_copied old) }
     requires parts { AreParts depth (content (option_copied old)) entries.now }
     requires hashed { AreValueHashes entries.now hashes.now }
     ensures { IfOk result (λ r. IsOutcome depth version (option_copied old.entry) entries.now r) }
 {
-    if workers == 1 {
+    if workers.is_one() {
         return update_node(alloc, old, entries, hashes, depth, version);
     }
     match old {
@@ -123,11 +121,9 @@ fn update_pieces<H: Threads + Sync, G: Gate>(
     hashes: &[Hash],
     depth: u64,
     version: u64,
-    workers: u64,
+    workers: Workers,
     gate: &G,
 ) -> Result<Option<NewChildren>, Memory>
-    requires positive { 1 ≤ workers }
-    requires bounded { workers ≤ 64 }
     requires depth { depth < 64 }
     requires children { FitFrom depth 0 children.now }
     requires parts { AreParts depth (joined children.now) entries.now }
@@ -137,7 +133,7 @@ fn update_pieces<H: Threads + Sync, G: Gate>(
     let pieces = pieces_in(alloc, entries, depth)?;
     let each = workers_each(workers, pieces.len());
     let work = |piece: &Piece| -> Result<Outcome, Memory>
-        requires { IsSync H.row × IsSync G.row × (1 ≤ each) × (each ≤ 64) × (depth < 64) × FitFrom depth 0 children.now × AreParts depth (joined children.now) entries.now × AreValueHashes entries.now hashes.now × IsPieceOf depth entries.now piece.now }
+        requires { IsSync H.row × IsSync G.row × (depth < 64) × FitFrom depth 0 children.now × AreParts depth (joined children.now) entries.now × AreValueHashes entries.now hashes.now × IsPieceOf depth entries.now piece.now }
         ensures { IfOk result (IsPieceOutcome depth version children.entry.now entries.entry.now piece.now) }
     {
         update_piece(
@@ -159,11 +155,9 @@ fn update_piece<H: Threads + Sync, G: Gate>(
     hashes: &[Hash],
     depth: u64,
     version: u64,
-    workers: u64,
+    workers: Workers,
     gate: &G,
 ) -> Result<Outcome, Memory>
-    requires positive { 1 ≤ workers }
-    requires bounded { workers ≤ 64 }
     requires depth { depth < 64 }
     requires children { FitFrom depth 0 children.now }
     requires parts { AreParts depth (joined children.now) entries.now }

@@ -17,7 +17,7 @@ use crate::outcome::Outcome;
 use crate::piece::{hashes_in, pieces_in, workers_each, workers_for};
 use crate::remainder::{Remainder, is_unchanged, remainder_of};
 use jf_hash::Hash;
-use jf_join::{Gate, join_pieces};
+use jf_join::{Gate, Workers, join_pieces};
 use jf_node::{Link, Sixteen};
 use jf_path::{Key, Memory, SharedBytes};
 use jf_split::Piece;
@@ -71,18 +71,16 @@ fn build_wide<H: Threads + Sync, G: Gate>(
     hashes: &[Hash],
     depth: u64,
     version: u64,
-    workers: u64,
+    workers: Workers,
     gate: &G,
 ) -> Result<Option<Link>, Memory>
-    requires positive { 1 ≤ workers }
-    requires bounded { workers ≤ 64 }
     requires depth { depth ≤ 64 }
     requires few { length (content (option_copied own)) < 2 }
     requires parts { AreParts depth (content (option_copied own)) entries.now }
     requires hashed { AreValueHashes entries.now hashes.now }
     ensures { IfOk result (λ y. Built depth version (applied (content (option_copied own.entry)) entries.now) y) }
 {
-    if workers == 1 {
+    if workers.is_one() {
         return build(alloc, own, entries, hashes, depth, version);
     }
     match remainder_of(own, entries, hashes, depth) {
@@ -115,11 +113,9 @@ fn build_pieces<H: Threads + Sync, G: Gate>(
     hashes: &[Hash],
     depth: u64,
     version: u64,
-    workers: u64,
+    workers: Workers,
     gate: &G,
 ) -> Result<Sixteen, Memory>
-    requires positive { 1 ≤ workers }
-    requires bounded { workers ≤ 64 }
     requires depth { depth < 64 }
     requires few { length (content (option_copied own)) < 2 }
     requires parts { AreParts depth (content (option_copied own)) entries.now }
@@ -129,7 +125,7 @@ fn build_pieces<H: Threads + Sync, G: Gate>(
     let pieces = pieces_in(alloc, entries, depth)?;
     let each = workers_each(workers, pieces.len());
     let work = |piece: &Piece| -> Result<Option<Link>, Memory>
-        requires { IsSync H.row × IsSync G.row × (1 ≤ each) × (each ≤ 64) × (depth < 64) × (length (content (option_copied own)) < 2) × AreParts depth (content (option_copied own)) entries.now × AreValueHashes entries.now hashes.now × IsPieceOf depth entries.now piece.now }
+        requires { IsSync H.row × IsSync G.row × (depth < 64) × (length (content (option_copied own)) < 2) × AreParts depth (content (option_copied own)) entries.now × AreValueHashes entries.now hashes.now × IsPieceOf depth entries.now piece.now }
         ensures { IfOk result (IsPieceBuilt depth version (applied (content (option_copied own.entry)) entries.entry.now) piece.now) }
     {
         build_piece(
@@ -151,11 +147,9 @@ fn build_piece<H: Threads + Sync, G: Gate>(
     hashes: &[Hash],
     depth: u64,
     version: u64,
-    workers: u64,
+    workers: Workers,
     gate: &G,
 ) -> Result<Option<Link>, Memory>
-    requires positive { 1 ≤ workers }
-    requires bounded { workers ≤ 64 }
     requires depth { depth < 64 }
     requires few { length (content (option_copied own)) < 2 }
     requires parts { AreParts depth (content (option_copied own)) entries.now }
@@ -188,11 +182,9 @@ pub(crate) fn update_leaf_wide<H: Threads + Sync, G: Gate>(
     hashes: &[Hash],
     depth: u64,
     version: u64,
-    workers: u64,
+    workers: Workers,
     gate: &G,
 ) -> Result<Outcome, Memory>
-    requires positive { 1 ≤ workers }
-    requires bounded { workers ≤ 64 }
     requires depth { depth ≤ 64 }
     requires few { length (content (option_copied own)) < 2 }
     requires parts { AreParts depth (content (option_copied own)) entries.now }

@@ -1,7 +1,7 @@
 // Landings, by the roots of whole maps and by lists worked by hand.
 use crate::roots::root_of;
 use jf_hash::{Hash, value};
-use jf_join::FreeGate;
+use jf_join::{FreeGate, Workers};
 use jf_node::Snapshot;
 use jf_path::{Key, Memory, NodeName, PlainNode};
 use jf_split::Batch;
@@ -109,6 +109,14 @@ fn hashed(alloc: Global, entries: &[(u8, u8)]) -> Result<Vec<(Key, Hash)>, Memor
     Ok(all)
 }
 
+// So many workers, 1 to 64.
+pub(crate) fn workers_of(number: u64) -> Result<Workers, Fail> {
+    match Workers::new(number) {
+        Some(workers) => Ok(workers),
+        None => Err(Fail::new("no number of workers")),
+    }
+}
+
 // Lands a batch as the next version. It is boxed: whoever holds it then holds one value, not all that it is made of,
 // which the check of a test would go through at each call.
 pub(crate) fn next<H: Threads + Sync>(
@@ -118,9 +126,10 @@ pub(crate) fn next<H: Threads + Sync>(
     changes: &[Change],
     workers: u64,
 ) -> Result<Box<Update>, Fail> {
-    if head.version() >= 9 || workers == 0 || workers > 64 {
-        return Err(Fail::new("too many versions, or no number of workers"));
+    if head.version() >= 9 {
+        return Err(Fail::new("too many versions"));
     }
+    let workers = workers_of(workers)?;
     let batch = batch_of(alloc, changes)?;
     let landed = update(rt, alloc, head, &batch, workers, &FreeGate)?;
     Ok(Box::new(alloc, landed)?)

@@ -2,7 +2,7 @@
 // counted.
 use crate::roots::root_of;
 use jf_hash::{Hash, key_of, value};
-use jf_join::FreeGate;
+use jf_join::{FreeGate, Workers};
 use jf_node::Snapshot;
 use jf_path::{Key, Memory, SharedBytes};
 use jf_split::{Batch, BatchFault};
@@ -70,7 +70,7 @@ fn next<H: Threads + Sync>(
     if head.version() >= 99 {
         return Err(Memory);
     }
-    let landed = update(rt, alloc, head, batch, 1, &FreeGate)?;
+    let landed = update(rt, alloc, head, batch, Workers::ONE, &FreeGate)?;
     Ok(Box::new(alloc, landed)?)
 }
 

@@ -1,6 +1,6 @@
 // The entry at each place of a map. The order of the keys is from outside, by Python's hashlib.
 use jf_hash::key_of;
-use jf_join::FreeGate;
+use jf_join::{FreeGate, Workers};
 use jf_node::Snapshot;
 use jf_nth::nth;
 use jf_path::Key;
@@ -47,7 +47,14 @@ fn near_keys(alloc: Global) -> Result<Batch, BatchFault> {
 }
 
 fn map_of<H: Threads + Sync>(rt: &H, alloc: Global, batch: &Batch) -> Result<Box<Snapshot>, Fail> {
-    let landed = update(rt, alloc, &Snapshot::empty(0), batch, 1, &FreeGate)?;
+    let landed = update(
+        rt,
+        alloc,
+        &Snapshot::empty(0),
+        batch,
+        Workers::ONE,
+        &FreeGate,
+    )?;
     Ok(Box::new(alloc, landed.snapshot)?)
 }
 

@@ -1,8 +1,8 @@
 // `advance` and then `written` return what `update` returns with any number of workers: the same root, and the same names
 // of nodes.
-use crate::landings::{Change, WORKERS, batch_of};
+use crate::landings::{Change, WORKERS, batch_of, workers_of};
 use jf_diff::NamedNodes;
-use jf_join::FreeGate;
+use jf_join::{FreeGate, Workers};
 use jf_node::Snapshot;
 use jf_path::{NodeName, PlainNode};
 use jf_split::Batch;
@@ -48,9 +48,9 @@ fn in_two_calls<H: Threads + Sync>(
         return Err(Fail::new("too many versions"));
     }
     let entries = batch.as_slice();
-    let hashes = value_hashes(rt, alloc, entries, 1)?;
-    let snapshot = advance(rt, alloc, head, entries, &hashes, 1, &FreeGate)?;
-    let lists = written(rt, alloc, head, &snapshot, 1, &FreeGate)?;
+    let hashes = value_hashes(rt, alloc, entries, Workers::ONE)?;
+    let snapshot = advance(rt, alloc, head, entries, &hashes, Workers::ONE, &FreeGate)?;
+    let lists = written(rt, alloc, head, &snapshot, Workers::ONE, &FreeGate)?;
     Ok(Box::new(alloc, Landed { snapshot, lists })?)
 }
 
@@ -62,9 +62,10 @@ fn in_one_call<H: Threads + Sync>(
     batch: &Batch,
     workers: u64,
 ) -> Result<Box<Update>, Fail> {
-    if head.version() >= 9 || workers == 0 || workers > 64 {
-        return Err(Fail::new("too many versions, or no number of workers"));
+    if head.version() >= 9 {
+        return Err(Fail::new("too many versions"));
     }
+    let workers = workers_of(workers)?;
     let landed = update(rt, alloc, head, batch, workers, &FreeGate)?;
     Ok(Box::new(alloc, landed)?)
 }

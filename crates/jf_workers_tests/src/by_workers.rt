@@ -1,7 +1,7 @@
 // Landings by several workers: no number of them changes a root, and the changes with each first nibble are a piece of
 // work of their own, on an empty map too.
 use jf_hash::{Hash, key_of};
-use jf_join::{FreeGate, Gate};
+use jf_join::{FreeGate, Gate, Workers};
 use jf_node::Snapshot;
 use jf_path::Key;
 use jf_split::{Batch, BatchFault};
@@ -38,6 +38,14 @@ fn many(alloc: Global, numbers: (u32, u32), narrow: bool) -> Result<Batch, Batch
     Ok(batch)
 }
 
+// So many workers, 1 to 64.
+pub(crate) fn workers_of(number: u64) -> Result<Workers, Fail> {
+    match Workers::new(number) {
+        Some(workers) => Ok(workers),
+        None => Err(Fail::new("no number of workers")),
+    }
+}
+
 // Lands a batch as the next version.
 pub(crate) fn next<H: Threads + Sync, G: Gate>(
     rt: &H,
@@ -47,9 +55,10 @@ pub(crate) fn next<H: Threads + Sync, G: Gate>(
     workers: u64,
     gate: &G,
 ) -> Result<Box<Update>, Fail> {
-    if head.version() >= 9 || workers == 0 || workers > 64 {
-        return Err(Fail::new("too many versions, or no number of workers"));
+    if head.version() >= 9 {
+        return Err(Fail::new("too many versions"));
     }
+    let workers = workers_of(workers)?;
     let landed = update(rt, alloc, head, batch, workers, gate)?;
     Ok(Box::new(alloc, landed)?)
 }

@@ -1,4 +1,5 @@
 // Each version keeps its values, also after the newest was taken back.
+use crate::by_workers::workers_of;
 use jf_dir::Directory;
 use jf_hash::key_of;
 use jf_join::FreeGate;
@@ -25,7 +26,7 @@ fn land_one<H: Threads + Sync>(
         return Err(Fail::new("too many versions"));
     }
     let batch = put_of(alloc, byte)?;
-    let update = directory.update(rt, alloc, &batch, 4, &FreeGate)?;
+    let update = directory.update(rt, alloc, &batch, workers_of(4)?, &FreeGate)?;
     if update.snapshot.count() > 1_000 {
         return Err(Fail::new("too many entries"));
     }
@@ -77,7 +78,7 @@ fn land_and_undo<H: Threads + Sync>(
     }
     directory.know();
     let batch = put_of(alloc, byte)?;
-    let update = directory.update(rt, alloc, &batch, 4, &FreeGate)?;
+    let update = directory.update(rt, alloc, &batch, workers_of(4)?, &FreeGate)?;
     if update.snapshot.count() > 1_000 {
         return Err(Fail::new("too many entries"));
     }

@@ -1,7 +1,0 @@
-use Rattle.std.proofs.Common.{◌≡◌, map, take}
-use Rattle.jf_check.specs.Cuts.{without_since}
-use Rattle.jf_check.proofs.later.fresh_list.Given as goal
-
--- the list has the nodes so far
-abbrev pub invariant-loop-node : goal.invariant-loop-node
-invariant-loop-node l = l.list ≡ map without_since (take l.node-index l.nodes)

@@ -1,0 +1,80 @@
+// The changes that are read off a landing, in the order of their keys.
+ghost use Rattle.std.specs.Prelude.{◌≡◌, [], map, Some, None, IfOk, OnOk, Err};
+ghost use Rattle.std.specs.List.{AllByRecursion};
+ghost use Rattle.jf_standing.specs.Named.{leaf_entries};
+ghost use Rattle.jf_standing.specs.Standing.{unmarked};
+ghost use Rattle.jf_replay.specs.Changes.{IsNameIn, leaves_at, changes_of, put_each};
+
+use crate::check_fault::CheckFault;
+use crate::named::key_at;
+use jf_node::Snapshot;
+use jf_path::{Key, Memory, NodeName, PlainNode, SharedBytes};
+use jf_payload::Commit;
+use std::alloc::Global;
+use std::collections::BTreeMap;
+
+/// The removals of the keys of those nodes, by their names in a snapshot, that are leaves. `Unsound` if the snapshot has
+/// no node of one of the names.
+fn removals(
+    alloc: Global,
+    snapshot: &Snapshot,
+    names: &[NodeName],
+) -> Result<BTreeMap<Key, Option<SharedBytes>>, CheckFault>
+    ensures found { IfOk result (λ changes. changes.entries ≡ put_each (map (λ e. (e.0, None)) (leaves_at snapshot.now.map names.now)) []) }
+    ensures unsound { result ≡ Err CheckFault.Unsound → AllByRecursion (IsNameIn snapshot.now) names.now → ⊥ }
+{
+    let mut changes = BTreeMap::new(alloc);
+    for name in names.iter().rev() {
+        if let Some(key) = key_at(snapshot, name)? {
+            changes.insert(key, None)?;
+        }
+    }
+    Ok(changes)
+}
+
+/// Puts each leaf of a list of nodes; of two leaves of one key the first.
+fn put_leaves(
+    alloc: Global,
+    changes: &mut BTreeMap<Key, Option<SharedBytes>>,
+    nodes: &[(NodeName, PlainNode)],
+) -> Result<(), Memory>
+    ensures { OnOk result (changes.new.entries ≡ put_each (map (λ e. (e.0, Some e.1)) (leaf_entries (map unmarked nodes.now))) changes.old.entries) }
+{
+    for node in nodes.iter().rev() {
+        if let PlainNode::Leaf { key, value } = &node.1 {
+            let value = SharedBytes::copy_of(alloc, value.as_slice())?;
+            changes.insert(*key, Some(value))?;
+        }
+    }
+    Ok(())
+}
+
+/// Changes as a list, in the order of their keys.
+fn list_of(
+    alloc: Global,
+    changes: BTreeMap<Key, Option<SharedBytes>>,
+) -> Result<Vec<(Key, Option<SharedBytes>)>, Memory>
+    ensures { IfOk result (λ v. v.items ≡ changes.entries) }
+{
+    let mut list = Vec::with_capacity(alloc, changes.len())?;
+    for (key, value) in changes {
+        list.push((key, value))?;
+    }
+    Ok(list)
+}
+
+/// The changes that are read off a landing on the map of a snapshot: fresh leaves are put, and the keys of stale leaves
+/// are removed unless a fresh leaf has them. `Unsound` if the snapshot has no node of one of the stale names.
+pub(crate) fn changes_in(
+    alloc: Global,
+    snapshot: &Snapshot,
+    commit: &Commit,
+) -> Result<Vec<(Key, Option<SharedBytes>)>, CheckFault>
+    ensures found { IfOk result (λ v. v.items ≡ changes_of snapshot.now.map commit.now) }
+    ensures unsound { result ≡ Err CheckFault.Unsound → AllByRecursion (IsNameIn snapshot.now) commit.now.stale → ⊥ }
+{
+    let mut changes = removals(alloc, snapshot, commit.stale.as_slice())?;
+    put_leaves(alloc, &mut changes, commit.fresh.as_slice())?;
+    let list = list_of(alloc, changes)?;
+    Ok(list)
+}
