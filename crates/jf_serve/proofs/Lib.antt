@@ -1,5 +1,13 @@
+pub mod FirstLine
+pub mod InputTaken
+pub mod ScriptCuts
+pub mod ScriptSamples
 pub mod LinesAnswered
 pub mod SessionsRun
 pub mod AllServed
 pub mod ServedLaws
 pub mod Sending
+pub mod HeldTextLaws
+pub mod JoinedTexts
+pub mod Refused
+pub mod ReportSamples

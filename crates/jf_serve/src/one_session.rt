@@ -8,11 +8,11 @@ ghost use Rattle.jf_session.specs.Taking.{end_of_stop};
 ghost use Rattle.jf_serve.specs.Served.{max_output};
 ghost use Rattle.jf_serve.specs.Ran.{HasRunSession};
 
+use crate::line::cut_line;
 use jf_disk::Disk;
 use jf_history::End;
-use jf_join::Gate;
+use jf_join::{Gate, Workers};
 use jf_path::Bytes;
-use jf_scripts::cut_line;
 use jf_session::{Session, Stop};
 use jf_store::{Pass, Store};
 use std::alloc::Global;
@@ -37,12 +37,10 @@ pub(crate) fn run_session<D: Disk, H: Threads + Wait + Sync, G: Gate>(
     store: &Store<D>,
     pass: Pass<D>,
     script: &[u8],
-    workers: u64,
+    workers: Workers,
     gate: &G,
 ) -> SessionRan<D>
     requires new { pass ≡ new_pass store.now pass.number }
-    requires some { 1 ≤ workers }
-    requires few { workers ≤ 64 }
     ensures ran { HasRunSession store.now pass.number (lines script.now) result.end result.text result.pass }
 {
     gate.session(pass.number());
@@ -82,14 +80,12 @@ fn answer_line<D: Disk, H: Threads + Wait + Sync, G: Gate>(
     store: &Store<D>,
     session: &mut Session<D>,
     line: &[u8],
-    workers: u64,
+    workers: Workers,
     gate: &G,
     text: &mut Bytes,
 ) -> Result<(), Stop>
     requires own { IsPassOf session.old.pass store.now }
     requires over { session.old.over ≡ false }
-    requires some { 1 ≤ workers }
-    requires few { workers ≤ 64 }
     ensures own { IsPassOf session.new.pass store.now }
     ensures ok { OnOk result ((r : Answered) × HasReplied store.now.start session.old session.new line.now r × (text.new ≡ text.old ++ r.text)) }
     ensures short { OnOk result (length text.new ≤ max_output) }
@@ -116,15 +112,13 @@ fn answer_lines<D: Disk, H: Threads + Wait + Sync, G: Gate>(
     store: &Store<D>,
     session: &mut Session<D>,
     script: &[u8],
-    workers: u64,
+    workers: Workers,
     gate: &G,
     text: &mut Bytes,
 ) -> Result<(), Stop>
     requires begun { session.old ≡ new_session (new_pass store.now session.old.pass.number) }
     requires pins { HoldsPins session.old }
     requires empty { text.old ≡ [] }
-    requires some { 1 ≤ workers }
-    requires few { workers ≤ 64 }
     ensures ok { OnOk result (HasRunSession store.now session.old.pass.number (lines script.now) End.Done text.new session.new.pass) }
     ensures err { IfErr result (λ why. HasRunSession store.now session.old.pass.number (lines script.now) (end_of_stop why) text.new session.new.pass) }
 {

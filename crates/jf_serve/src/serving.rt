@@ -1,5 +1,5 @@
 // Sessions are run side by side over the passes of a store, which is then closed.
-ghost use Rattle.std.specs.Prelude.{◌≡◌, ◌≤◌, map, length, IfOk, IfErr};
+ghost use Rattle.std.specs.Prelude.{◌≡◌, map, length, IfOk, IfErr};
 ghost use Rattle.jf_io.specs.Lines.{lines};
 ghost use Rattle.jf_store.specs.Passes.{AreNewPasses};
 ghost use Rattle.jf_serve.specs.Served.{HasServed};
@@ -12,7 +12,7 @@ use jf_engine::Engine;
 use jf_history::{
     closed_blames, closed_explains, closed_spares_pins, closed_tries, one_served_is_alone,
 };
-use jf_join::Gate;
+use jf_join::{Gate, Workers};
 use jf_model::Ledger;
 use jf_path::Bytes;
 use jf_store::{Closed, Pass, Store};
@@ -38,7 +38,7 @@ pub struct ServeRefused<D: Disk> {
 /// Runs one session for each script (docs/FORMATS.md, "Several sessions") over a store and its new passes, in the order of their numbers,
 /// and then closes the store. Each session but the first has a thread of its own; if no thread can be made, the caller does
 /// that session's work too. A session waits for another only if a line asks the store. The gate is told of each session
-/// before it begins. A landing takes at most this many workers, 1 to 64.
+/// before it begins. A landing takes at most this many workers.
 ///
 /// A session ends with `Done` if all its lines were answered, with `DiskFault` if the disk failed in what its next line asked
 /// for, with `Broken` if the disk had failed in another session before, and with `Memory` if memory ran out, or if its output
@@ -49,14 +49,12 @@ pub fn serve<D: Disk, H: Threads + Wait + Sync, G: Gate>(
     scripts: &[Bytes],
     store: Store<D>,
     passes: Vec<Pass<D>>,
-    workers: u64,
+    workers: Workers,
     gate: &G,
 ) -> Result<Served<D>, ServeRefused<D>>
     requires new { AreNewPasses store passes.items 0 }
     requires all { length passes.items ≡ store.start.passes }
     requires each { length scripts.now ≡ length passes.items }
-    requires some { 1 ≤ workers }
-    requires few { workers ≤ 64 }
     ensures served { IfOk result (λ r. HasServed store.start (map lines scripts.now) r.outputs r.ends r.entries r.engine) }
     ensures refused { IfErr result (λ r. (r.store ≡ store) × (r.passes ≡ passes)) }
 {

@@ -8,7 +8,7 @@ ghost use Rattle.jf_serve.specs.Ran.{HasRunSession, HaveRunSessions, none_gather
 use crate::gathered::Gathered;
 use crate::one_session::{SessionRan, run_session};
 use jf_disk::Disk;
-use jf_join::Gate;
+use jf_join::{Gate, Workers};
 use jf_path::Bytes;
 use jf_store::{Pass, Store};
 use std::alloc::Global;
@@ -25,7 +25,7 @@ pub(crate) fn run_side_by_side<D: Disk, H: Threads + Wait + Sync, G: Gate>(
     store: &Store<D>,
     scripts: &[Bytes],
     mut passes: Vec<Pass<D>>,
-    workers: u64,
+    workers: Workers,
     gate: &G,
     gathered: Gathered<D>,
 ) -> Gathered<D>
@@ -33,8 +33,6 @@ pub(crate) fn run_side_by_side<D: Disk, H: Threads + Wait + Sync, G: Gate>(
     requires each { length scripts.now ≡ length passes.items }
     requires none { gathered ≡ none_gathered gathered.room }
     requires room { length passes.items ≤ gathered.room }
-    requires some { 1 ≤ workers }
-    requires few { workers ≤ 64 }
     ensures ran { HaveRunSessions store.now 0 (map lines scripts.now) result }
     ensures room { result.room ≡ gathered.room }
 {
@@ -49,11 +47,11 @@ pub(crate) fn run_side_by_side<D: Disk, H: Threads + Wait + Sync, G: Gate>(
         return gathered.with(run_session(rt, alloc, store, pass, script, workers, gate));
     }
     let last = move || -> SessionRan<D>
-        requires { IsSync H.row × IsSend D.row × IsSync G.row × (pass ≡ new_pass store.now pass.number) × (1 ≤ workers) × (workers ≤ 64) }
+        requires { IsSync H.row × IsSend D.row × IsSync G.row × (pass ≡ new_pass store.now pass.number) }
         ensures { HasRunSession store.entry.now pass.number (lines script.entry.now) result.end result.text result.pass }
     { run_session(rt, alloc, store, pass, script, workers, gate) };
     let before = move || -> Gathered<D>
-        requires { IsSync H.row × IsSend D.row × IsSync G.row × AreNewPasses store.now passes.items 0 × (length others.now ≡ length passes.items) × (gathered ≡ none_gathered gathered.room) × (length passes.items ≤ gathered.room) × (1 ≤ workers) × (workers ≤ 64) }
+        requires { IsSync H.row × IsSend D.row × IsSync G.row × AreNewPasses store.now passes.items 0 × (length others.now ≡ length passes.items) × (gathered ≡ none_gathered gathered.room) × (length passes.items ≤ gathered.room) }
         ensures { HaveRunSessions store.entry.now 0 (map lines others.entry.now) result × (result.room ≡ gathered.room) }
     { run_side_by_side(rt, alloc, store, others, passes, workers, gate, gathered) };
     let (last, gathered) = join(rt, last, before);

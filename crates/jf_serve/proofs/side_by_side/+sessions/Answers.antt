@@ -38,7 +38,7 @@ join-last-requires-after_bounds g t c κs within =
     let cut = c.in-Some-split_last.ensures.cases.0 in
     let few = fewer store passes rest pass scripts others script c.requires.new c.requires.each popped cut in
     let falls : 2 * length rest + 1 < t = omega (arith, few, c.decreases) in (
-      ((search rules, search rules, search rules, last_new store passes rest pass scripts others script c.requires.new c.requires.each popped cut, c.requires.some, c.requires.few), search rules),
+      ((search rules, search rules, search rules, last_new store passes rest pass scripts others script c.requires.new c.requires.each popped cut), search rules),
       (
         falls,
         (
@@ -56,8 +56,6 @@ join-last-requires-after_bounds g t c κs within =
                   as_many store passes rest pass scripts others script c.requires.new c.requires.each popped cut,
                   c.requires.none,
                   rest_room store passes rest pass scripts others script c.requires.new c.requires.each popped cut c.args.gathered.room c.requires.room,
-                  c.requires.some,
-                  c.requires.few,
                 ),
                 search rules,
               ),

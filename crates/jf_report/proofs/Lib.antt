@@ -1,4 +1,0 @@
-pub mod GatheredLaws
-pub mod Joined
-pub mod Refused
-pub mod Samples

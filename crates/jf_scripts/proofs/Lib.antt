@@ -1,4 +1,0 @@
-pub mod FirstLine
-pub mod Cuts
-pub mod Taken
-pub mod Samples

@@ -1,9 +1,0 @@
-use Rattle.std.proofs.Common.{length, ◌-◌}
-use Rattle.jf_scripts.proofs.Cuts.{IsBeforeSession}
-use Rattle.jf_scripts.proofs.cutting.cut_script.Given as goal
-
-abbrev pub invariant-loop-start : goal.invariant-loop-start
-invariant-loop-start l = IsBeforeSession l.bytes l.start
-
-abbrev pub decreases-loop-start : goal.decreases-loop-start
-decreases-loop-start l = length l.bytes - l.start

@@ -1,5 +1,0 @@
-use Rattle.jf_scripts.proofs.Cuts.{scripts_in-none}
-use Rattle.jf_scripts.proofs.cutting.skip_session_line.Goals as goal
-
-pub returns-in_default : goal.returns-in_default
-returns-in_default c = scripts_in-none c.args.input.now (c.cut_line.ensures.none c.in_default.is)

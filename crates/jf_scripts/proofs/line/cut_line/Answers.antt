@@ -1,8 +1,0 @@
-use Rattle.std.proofs.Common.{arith, ◌<◌, length}
-use Rattle.jf_scripts.proofs.FirstLine.{lines-split}
-use Rattle.jf_scripts.proofs.line.cut_line.Goals as goal
-
-pub returns-else-is_empty-clause-some : goal.returns-else-is_empty-clause-some
-returns-else-is_empty-clause-some c =
-    let some : 0 < length c.args.bytes.now = grind arith in
-    rw (c.split_line.ensures.line, c.split_line.ensures.after) (lines-split c.args.bytes.now some)
