@@ -1,5 +1,5 @@
 -- What a mode does, whatever its numbers: one row a mode.
-use Rattle.std.specs.Prelude.{ℕ, Bool, true, false, Option, Some, None}
+use Rattle.std.specs.Prelude.{ℕ, Bool, true, false, IsTrue, IfSome, Option, Some, None}
 use Rattle.jf_words.specs.declared.modes.Mode.{Mode}
 use Rattle.jf_words.specs.declared.modes.Mode.TheVariants as mode
 
@@ -35,3 +35,7 @@ shape_of (mode.History version) = record { opens = true; reading = NoInput; chan
 abbrev pub asked_shape : Option Mode → Shape
 asked_shape None = record { opens = false; reading = NoInput; changes = NoChange; workers = None }
 asked_shape (Some m) = shape_of m
+
+-- nothing is done without a store: the mode opens it, or there is no mode
+abbrev pub IsIdleWithoutStore : Option Mode → Type 0
+IsIdleWithoutStore asks = IfSome asks (λ m. IsTrue (shape_of m).opens)
