@@ -13,7 +13,7 @@ use Rattle.jf_generate.specs.Scripts.{generated}
 use Rattle.jf_words.specs.declared.modes.Mode.TheVariants as mode
 use Rattle.jf_run.specs.Calls.{ProgramCall}
 use Rattle.jf_run.specs.Generating.{IsGeneratedCall}
-use Rattle.jf_run.specs.Lines.{IsLinesCall}
+use Rattle.jf_run.specs.LinesCalls.{IsLinesCall}
 use Rattle.jf_run.specs.Outcomes.{IsDoneOrMemory}
 use Rattle.jf_run.specs.Promises.{HasCauses, KeepsPromises}
 use Rattle.jf_run.specs.Running.{IsRunCall}

@@ -5,7 +5,7 @@ use Rattle.jf_model.specs.declared.entries.Entry.{Entry}
 use Rattle.jf_history.specs.declared.end.End.{End}
 use Rattle.jf_workload.specs.ScriptsAlone.{GeneratedAlone}
 use Rattle.jf_run.specs.Calls.{ProgramCall}
-use Rattle.jf_run.specs.Lines.{IsLinesCall}
+use Rattle.jf_run.specs.LinesCalls.{IsLinesCall}
 
 -- a call that opened the store, with this newest version: its lines are those of a generated script, and no input is read
 pub record IsGeneratedCall (c : ProgramCall) (script : List (List ℕ)) (head : ℕ) : Type 0 where

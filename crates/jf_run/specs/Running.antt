@@ -5,7 +5,7 @@ use Rattle.jf_model.specs.declared.entries.Entry.{Entry}
 use Rattle.jf_history.specs.Alone.{RanAlone}
 use Rattle.jf_history.specs.declared.end.End.{End}
 use Rattle.jf_run.specs.Calls.{ProgramCall}
-use Rattle.jf_run.specs.Lines.{IsLinesCall}
+use Rattle.jf_run.specs.LinesCalls.{IsLinesCall}
 
 -- a call that opened the store, with this newest version: its lines are those of the input
 pub record IsRunCall (c : ProgramCall) (head : ℕ) : Type 0 where

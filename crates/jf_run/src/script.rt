@@ -7,7 +7,7 @@ ghost use Rattle.jf_generate.specs.Scripts.{max_lines};
 ghost use Rattle.jf_store.specs.Events.{is_marked};
 ghost use Rattle.jf_store.specs.Passes.{IsPassOf, none_pinned};
 ghost use Rattle.jf_run.specs.Calls.{disk_of, engine_disk};
-ghost use Rattle.jf_run.specs.Scripts.{HasDoneLines, HasDoneScript, IfGenerated};
+ghost use Rattle.jf_run.specs.ScriptLines.{HasDoneLines, HasDoneScript, IfGenerated};
 ghost use Rattle.jf_run.specs.Statuses.{status_of};
 
 use crate::over::Over;
