@@ -1,5 +1,6 @@
 -- What a call promises that opened the store and was to write the total of the recorded roots.
-use Rattle.std.proofs.Common.{◌≡◌, ◌≢◌, ◌∙◌, refl, sym, ap, subst, ℕ, ◌≤◌, List, [], Option, Some, None, Ok, Err, Result, inl, inr, le_refl, true, IsTrue}
+use Rattle.std.specs.Prelude.{IfSome}
+use Rattle.std.proofs.Common.{◌≡◌, ◌≢◌, ◌⊎◌, ◌∙◌, refl, sym, ap, subst, ℕ, ◌≤◌, List, [], Option, Some, None, Ok, Err, Result, inl, inr, le_refl, true, IsTrue}
 use Rattle.jf_path.specs.Faults.{HasCause}
 use Rattle.jf_model.specs.States.{State}
 use Rattle.jf_disk.specs.Disk.{History}
@@ -8,15 +9,18 @@ use Rattle.jf_files.specs.Laws.{FilesStandForOne, DamageIsNoVersions}
 use Rattle.jf_totals.specs.Written.{WritesHistory}
 use Rattle.jf_totals.specs.declared.fault.HistoryFault.{HistoryFault}
 use Rattle.jf_totals.specs.declared.fault.HistoryFault.TheVariants as fault
-use Rattle.jf_words.specs.Modes.{is_history}
 use Rattle.jf_words.specs.declared.modes.Mode.TheVariants as mode
 use Rattle.jf_run.specs.Statuses.{status_of_history}
 use Rattle.jf_run.specs.Calls.{ProgramCall}
 use Rattle.jf_run.specs.Runs.{IsBegun, KeepsEntries}
 use Rattle.jf_run.specs.Restoring.{StaysHeld}
-use Rattle.jf_run.specs.Promises.{EndsWell, KeepsPromises}
+use Rattle.jf_run.specs.Histories.{IsHistoryCall}
+use Rattle.jf_run.specs.Outcomes.{IsDoneOrMemory}
+use Rattle.jf_run.specs.Promises.{HasCauses, KeepsPromises}
+use Rattle.jf_run.specs.declared.status.Status.{Status}
 use Rattle.jf_run.specs.declared.status.Status.TheVariants as status
-use Rattle.jf_run.proofs.Opened.{TellsEnd, opened_keeps}
+use Rattle.jf_run.proofs.Complete.{steady_ends}
+use Rattle.jf_run.proofs.Opened.{kept_goes, opened_keeps, opened_stands}
 
 abbrev How : Type 0
 How = Result (Unit {0}) HistoryFault
@@ -52,12 +56,12 @@ write_told (Err (fault.Outside least head)) e = absurd (cc)
 write_told (Err fault.WriteFault) e = refl
 write_told (Err fault.Memory) e = absurd (cc)
 
--- if the sink didn't fail, such a call ends well
-ended_well : (c : ProgramCall) (how : How) → c.status ≡ status_of_history how → IsTrue (is_history c.asks) → (c.status ≡ status.WriteFault → ⊥) → EndsWell c
-ended_well c (Ok u) is asks w = inl is
-ended_well c (Err (fault.Outside least head)) is asks w = inr (inr (inr (inr (least, head, is, asks))))
-ended_well c (Err fault.WriteFault) is asks w = absurd (w is)
-ended_well c (Err fault.Memory) is asks w = inr (inl is)
+-- if the sink didn't fail, all was done, memory ran out or the root isn't recorded
+ended_well : (s : Status) (how : How) → s ≡ status_of_history how → (s ≡ status.WriteFault → ⊥) → IsDoneOrMemory s ⊎ ((least : ℕ) × (greatest : ℕ) × (s ≡ status.Outside least greatest))
+ended_well s (Ok u) is w = inl (inl is)
+ended_well s (Err (fault.Outside least head)) is w = inr (least, head, is)
+ended_well s (Err fault.WriteFault) is w = absurd (w is)
+ended_well s (Err fault.Memory) is w = inl (inr is)
 
 -- ---- the files
 -- after an opening that no call on the disk follows they stand for the versions from before it
@@ -72,15 +76,19 @@ pub history_keeps : (c : ProgramCall) (version head : ℕ) (s : State) (how : Ho
     → c.asks ≡ Some (mode.History version) → c.start ≡ Some head → c.status ≡ status_of_history how → c.entries ≡ [] → WritesHistory how s.all version c.before.text c.after.text
     → c.after.rest ≡ c.before.rest → c.after.source_faults ≡ c.before.source_faults → (how ≡ Err fault.WriteFault → HasCause c.before.sink_faults c.after.sink_faults) → c.before.sink_faults ≤ c.after.sink_faults → KeepsPromises c
 history_keeps c version head s how begun kept one none_stand asks start is none written rest faults write sink =
-    let tells : TellsEnd c c.after.disk None = record {
-      usage = λ u. no_usage how (sym is ∙ u);
-      damage = λ side at d. no_damage how side at (sym is ∙ d);
-      read = λ r. absurd (no_read how (sym is ∙ r));
-      write = λ w. write (write_told how (sym is ∙ w));
-      failed = λ d. absurd (no_disk how (sym is ∙ d));
-      untried = λ sound. refl;
-      well = λ r w d. ended_well c how is (ap is_history asks) w;
-    } in
-    opened_keeps c head s c.after.disk None begun kept one none_stand (mode.History version) asks refl refl start tells
-    (record { state = s; begun = begun; files = held c head s begun; entries = none; how = how; status_is = is; written = written; unread = (rest, faults) })
+    let causes : HasCauses c = record { read = λ r. absurd (no_read how (sym is ∙ r)); write = λ w. write (write_told how (sym is ∙ w)); disk = λ d. absurd (no_disk how (sym is ∙ d)) } in
+    opened_keeps c head s c.after.disk begun (kept_goes s c.after.disk c.after.disk c.entries None kept) none_stand (mode.History version) asks refl (λ other. none) start
+    (record { usage = λ u. no_usage how (sym is ∙ u); damage = λ side at d. no_damage how side at (sym is ∙ d); causes = causes })
+    (subst (λ (o : Option ℕ). IfSome o (IsHistoryCall c version)) (sym start) (record {
+      state = s;
+      begun = begun;
+      files = held c head s begun;
+      entries = none;
+      how = how;
+      status_is = is;
+      written = written;
+      unread = (rest, faults);
+      stands = opened_stands c head s c.after.disk None begun kept one refl;
+      complete = steady_ends c _ causes (λ r w d. ended_well c.status how is w);
+    }))
     (subst (λ k. c.before.source_faults ≤ k) (sym faults) (le_refl c.before.source_faults)) sink

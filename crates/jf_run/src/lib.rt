@@ -2,17 +2,16 @@
 //! such a call promises.
 #![tactic(auto)]
 
-mod generate_over;
-mod generating;
+mod do_mode;
+mod history_over;
 mod judging;
-mod opening;
-mod proving;
-mod restoring;
-mod run_over;
+mod over;
+mod over_store;
+mod restore_over;
 pub mod run_words;
-mod running;
+mod script;
 mod serve_over;
-mod serving;
+mod serve_scripts;
 pub mod status;
 
 pub use jf_receive::RestoreFault;

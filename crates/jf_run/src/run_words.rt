@@ -1,15 +1,12 @@
 // The top call of the program: the words of a command line say what is done with source, sink and disk.
 ghost use Rattle.std.specs.Prelude.{◌≡◌, ◌⊎◌, ℕ, IfNone, IsFalse};
-ghost use Rattle.jf_words.specs.Modes.{IfGenerates, IfHistory, IfRestores, IfServes, asked, is_verify, opens};
-ghost use Rattle.jf_run.specs.Calls.{program_call, devices};
+ghost use Rattle.jf_words.specs.Modes.{asked};
+ghost use Rattle.jf_words.specs.Shapes.{ByImport, IsIdleWithoutStore, NoInput, ToItsEnd, asked_shape};
+ghost use Rattle.jf_run.specs.Calls.{disk_of, program_call, shown};
 ghost use Rattle.jf_run.specs.Promises.{KeepsPromises};
 
-use crate::generating::generate_script;
 use crate::judging::judge_input;
-use crate::proving::prove_root;
-use crate::restoring::restore_version;
-use crate::running::run_script;
-use crate::serving::serve_sessions;
+use crate::over_store::over_store;
 use crate::status::{Ended, Status};
 use jf_disk::Disk;
 use jf_files::files_stand_for_sound;
@@ -70,13 +67,12 @@ pub fn run_words<S: Source, K: Sink, D: Disk, H: Threads + Wait + Sync, G: Gate>
     disk: D,
     gate: &G,
 ) -> Ended<D>
-    ensures untouched { IsFalse (opens (asked words.now)) → result.disk ≡ disk }
-    ensures silent { IsFalse (is_verify (asked words.now)) → IfNone result.start ((source.new ≡ source.old) × (sink.new ≡ sink.old)) }
-    ensures unserved { IfServes (asked words.now) ((result.status ≡ Status.InputFull) ⊎ (result.status ≡ Status.ReadFault) → sink.new ≡ sink.old) }
-    ensures unread { IfGenerates (asked words.now) (λ seed batches size. source.new ≡ source.old) }
-    ensures no_input { IfHistory (asked words.now) (source.new ≡ source.old) }
-    ensures occupied { IfRestores (asked words.now) (λ version root. (head : ℕ) → result.status ≡ Status.Refused (RestoreFault.NotEmpty head) → (source.new ≡ source.old) × (sink.new ≡ sink.old)) }
-    ensures kept { KeepsPromises (program_call (asked words.now) (devices (D.history disk) (D.moment disk) (D.faults disk) (S.rest source.old) (S.faults source.old) (K.text sink.old) (K.faults sink.old)) (devices (D.history result.disk) (D.moment result.disk) (D.faults result.disk) (S.rest source.new) (S.faults source.new) (K.text sink.new) (K.faults sink.new)) result.status result.entries result.start) }
+    ensures untouched { IsFalse (asked_shape (asked words.now)).opens → result.disk ≡ disk }
+    ensures unread { (asked_shape (asked words.now)).reading ≡ NoInput → source.new ≡ source.old }
+    ensures silent { IsIdleWithoutStore (asked words.now) → IfNone result.start ((source.new ≡ source.old) × (sink.new ≡ sink.old)) }
+    ensures unserved { (asked_shape (asked words.now)).reading ≡ ToItsEnd → (result.status ≡ Status.InputFull) ⊎ (result.status ≡ Status.ReadFault) → sink.new ≡ sink.old }
+    ensures occupied { (asked_shape (asked words.now)).changes ≡ ByImport → (head : ℕ) → result.status ≡ Status.Refused (RestoreFault.NotEmpty head) → (source.new ≡ source.old) × (sink.new ≡ sink.old) }
+    ensures kept { KeepsPromises (program_call (asked words.now) (shown S.Source K.Sink source.old sink.old (disk_of D.Disk disk)) (shown S.Source K.Sink source.new sink.new (disk_of D.Disk result.disk)) result.status result.entries result.start) }
 {
     files_stand_for_sound();
     let mode = match mode_of(alloc, words) {
@@ -85,23 +81,10 @@ pub fn run_words<S: Source, K: Sink, D: Disk, H: Threads + Wait + Sync, G: Gate>
         Err(_) => return Ended::without_store(alloc, Status::Memory, disk),
     };
     match mode {
-        Mode::Run { workers } => run_script(rt, alloc, workers, source, sink, disk, gate),
-        Mode::Serve { workers } => serve_sessions(rt, alloc, workers, source, sink, disk, gate),
         Mode::Verify => {
             let status = judge_input(alloc, source, sink);
             Ended::without_store(alloc, status, disk)
         }
-        Mode::Generate {
-            seed,
-            batches,
-            size,
-            workers,
-        } => generate_script(rt, alloc, seed, batches, size, workers, sink, disk, gate),
-        Mode::Restore {
-            version,
-            root,
-            workers,
-        } => restore_version(rt, alloc, version, root, workers, source, sink, disk),
-        Mode::History { version } => prove_root(rt, alloc, version, sink, disk),
+        _ => over_store(rt, alloc, mode, source, sink, disk, gate),
     }
 }

@@ -1,0 +1,50 @@
+use Rattle.std.proofs.Common.{◌≡◌, ◌∙◌, ap, refl, sym, subst, true≢false, IsTrue, List, ℕ}
+use Rattle.jf_model.specs.States.{opened}
+use Rattle.jf_words.specs.Modes.{KeepsLimits}
+use Rattle.jf_words.specs.Shapes.{ByEntries, ByImport, InPieces, NoChange, NoInput, ToItsEnd, shape_of}
+use Rattle.jf_words.specs.declared.modes.Mode.{Mode}
+use Rattle.jf_run.specs.Calls.{disk_of, engine_disk}
+use Rattle.jf_run.specs.Runs.{HasGenerated}
+use Rattle.jf_run.proofs.LinesDone.{generated_keeps, run_keeps}
+use Rattle.jf_run.proofs.Opened.{completes_as}
+use Rattle.jf_run.proofs.do_mode.do_mode.Goals as goal
+
+-- ---- run
+pub returns-in-Run-clause-kept : goal.returns-in-Run-clause-kept
+returns-in-Run-clause-kept g c = completes_as _ _ _ _ _ _ _ c.in-Run.is (λ before head begun dated.
+    let e = c.args.engine in
+    let done = c.script_over.ensures in
+    run_keeps _ head c.in-Run.workers (opened e.versions e.generation) (engine_disk e) done.ran.0 done.ran.1 begun done.ran.2 done.ran.3 c.files_stand_for_one.ensures c.damage_is_no_versions.ensures dated refl refl
+    done.read done.write done.source_counts done.sink_counts)
+
+-- ---- serve
+pub returns-in-Serve-clause-kept : goal.returns-in-Serve-clause-kept
+returns-in-Serve-clause-kept g c = completes_as _ _ _ _ _ _ _ c.in-Serve.is c.serve_over.ensures.kept
+
+-- ---- generate
+pub new-lines-requires-clause-batches : goal.new-lines-requires-clause-batches
+new-lines-requires-clause-batches g c = (subst KeepsLimits c.in-Generate.is c.requires.limits).0
+
+pub new-lines-requires-clause-size : goal.new-lines-requires-clause-size
+new-lines-requires-clause-size g c = let limits = subst KeepsLimits c.in-Generate.is c.requires.limits in (limits.1, limits.2)
+
+pub returns-in-Generate-clause-kept : goal.returns-in-Generate-clause-kept
+returns-in-Generate-clause-kept g c = completes_as _ _ _ _ _ _ _ c.in-Generate.is (λ before head begun dated.
+    let e = c.args.engine in
+    let s = opened e.versions e.generation in
+    let step = c.script_over-in-Generate in
+    let done = step.ensures in
+    generated_keeps _ head c.in-Generate.seed c.in-Generate.batches c.in-Generate.size c.in-Generate.workers s (engine_disk e) done.ran.0 done.ran.1 begun done.ran.2
+    (subst (λ (ls : List (List ℕ)). HasGenerated done.ran.0 s (engine_disk e) (disk_of g.D.Disk step.result.disk) ls step.result.entries done.ran.1 (g.K.Sink.text c.args.sink.now) (g.K.Sink.text step.new.sink)) c.new-lines.ensures.lines done.ran.3)
+    c.files_stand_for_one.ensures c.damage_is_no_versions.ensures dated refl refl (ap g.S.Source.rest done.unread) (ap g.S.Source.faults done.unread) done.read done.write done.sink_counts)
+
+-- ---- restore
+pub restore_over-requires-clause-last : goal.restore_over-requires-clause-last
+restore_over-requires-clause-last g c = (subst KeepsLimits c.in-Restore.is c.requires.limits).0
+
+pub returns-in-Restore-clause-kept : goal.returns-in-Restore-clause-kept
+returns-in-Restore-clause-kept g c = completes_as _ _ _ _ _ _ _ c.in-Restore.is (c.restore_over.ensures.kept c.in-Restore.workers)
+
+-- ---- history
+pub returns-in-History-clause-kept : goal.returns-in-History-clause-kept
+returns-in-History-clause-kept g c = completes_as _ _ _ _ _ _ _ c.in-History.is (c.history_over.ensures.kept (g.S.Source.rest c.args.source.now) (g.S.Source.faults c.args.source.now))

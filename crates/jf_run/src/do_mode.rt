@@ -1,0 +1,70 @@
+// The modes that are done over an open store: one row each.
+ghost use Rattle.std.specs.Prelude.{◌≡◌, ◌⊎◌, ℕ, IsTrue, false};
+ghost use Rattle.jf_model.specs.States.{opened};
+ghost use Rattle.jf_words.specs.Modes.{KeepsLimits};
+ghost use Rattle.jf_words.specs.Shapes.{ByImport, NoInput, ToItsEnd, shape_of};
+ghost use Rattle.jf_run.specs.Bodies.{CompletesCall};
+ghost use Rattle.jf_run.specs.Calls.{disk_of, engine_disk, shown};
+
+use crate::history_over::history_over;
+use crate::over::Over;
+use crate::restore_over::restore_over;
+use crate::script::{Script, script_over};
+use crate::serve_over::serve_over;
+use crate::status::Status;
+use jf_disk::Disk;
+use jf_engine::Engine;
+use jf_files::{damage_is_no_versions, files_stand_for_one};
+use jf_generate::Generator;
+use jf_io::{Sink, Source};
+use jf_join::Gate;
+use jf_receive::RestoreFault;
+use jf_words::Mode;
+use std::alloc::Global;
+use std::sync::Wait;
+use std::thread::Threads;
+
+/// Does what a mode asks for over an open store.
+pub(crate) fn do_mode<S: Source, K: Sink, D: Disk, H: Threads + Wait + Sync, G: Gate>(
+    rt: &H,
+    alloc: Global,
+    mode: Mode,
+    engine: Engine<D>,
+    source: &mut S,
+    sink: &mut K,
+    gate: &G,
+) -> Over<D>
+    requires opens { IsTrue (shape_of mode).opens }
+    requires limits { KeepsLimits mode }
+    requires whole { engine.broken ≡ false }
+    ensures unread { (shape_of mode).reading ≡ NoInput → source.new ≡ source.old }
+    ensures unserved { (shape_of mode).reading ≡ ToItsEnd → (result.status ≡ Status.InputFull) ⊎ (result.status ≡ Status.ReadFault) → sink.new ≡ sink.old }
+    ensures occupied { (shape_of mode).changes ≡ ByImport → (head : ℕ) → result.status ≡ Status.Refused (RestoreFault.NotEmpty head) → (source.new ≡ source.old) × (sink.new ≡ sink.old) }
+    ensures kept { CompletesCall mode (opened engine.versions engine.generation) (shown S.Source K.Sink source.old sink.old (engine_disk engine)) (shown S.Source K.Sink source.new sink.new (disk_of D.Disk result.disk)) result.status result.entries }
+{
+    damage_is_no_versions();
+    files_stand_for_one();
+    match mode {
+        Mode::Run { workers } => {
+            script_over(rt, alloc, engine, Script::Input, source, sink, workers, gate)
+        }
+        Mode::Serve { workers } => serve_over(rt, alloc, engine, source, sink, workers, gate),
+        Mode::Verify => unreachable!(),
+        Mode::Generate {
+            seed,
+            batches,
+            size,
+            workers,
+        } => {
+            let lines = Generator::new(seed, batches, size);
+            let script = Script::Generated(lines);
+            script_over(rt, alloc, engine, script, source, sink, workers, gate)
+        }
+        Mode::Restore {
+            version,
+            root,
+            workers: _,
+        } => restore_over(alloc, engine, version, root, source, sink),
+        Mode::History { version } => history_over(alloc, engine, version, sink),
+    }
+}

@@ -1,0 +1,89 @@
+// The frame of the modes that need the store: it is opened, the mode is done over it, and its end is the end of the call.
+ghost use Rattle.std.specs.Prelude.{◌≡◌, ◌⊎◌, ℕ, Some, None, IfNone, IfOk, IfErr, IsTrue, false};
+ghost use Rattle.jf_model.specs.States.{opened};
+ghost use Rattle.jf_words.specs.Modes.{KeepsLimits};
+ghost use Rattle.jf_words.specs.Shapes.{ByImport, NoInput, ToItsEnd, shape_of};
+ghost use Rattle.jf_run.specs.Calls.{Devices, disk_of, engine_disk, program_call, shown, with_disk};
+ghost use Rattle.jf_run.specs.Runs.{IsBegun};
+ghost use Rattle.jf_run.specs.Promises.{KeepsPromises};
+
+use crate::do_mode::do_mode;
+use crate::over::Over;
+use crate::status::{Ended, Status};
+use jf_disk::{Disk, know_dated};
+use jf_engine::{Engine, OpenRefused};
+use jf_files::{damage_is_no_versions, files_stand_for_sound};
+use jf_io::{Sink, Source};
+use jf_join::{Gate, Workers};
+use jf_receive::RestoreFault;
+use jf_words::Mode;
+use std::alloc::Global;
+use std::sync::Wait;
+use std::thread::Threads;
+
+/// Opens the store on a disk, does what a mode asks for over it, and hands back how that ended. If the store can't be
+/// opened, source and sink are untouched.
+pub(crate) fn over_store<S: Source, K: Sink, D: Disk, H: Threads + Wait + Sync, G: Gate>(
+    rt: &H,
+    alloc: Global,
+    mode: Mode,
+    source: &mut S,
+    sink: &mut K,
+    disk: D,
+    gate: &G,
+) -> Ended<D>
+    requires opens { IsTrue (shape_of mode).opens }
+    requires limits { KeepsLimits mode }
+    ensures unread { (shape_of mode).reading ≡ NoInput → source.new ≡ source.old }
+    ensures silent { IfNone result.start ((source.new ≡ source.old) × (sink.new ≡ sink.old)) }
+    ensures unserved { (shape_of mode).reading ≡ ToItsEnd → (result.status ≡ Status.InputFull) ⊎ (result.status ≡ Status.ReadFault) → sink.new ≡ sink.old }
+    ensures occupied { (shape_of mode).changes ≡ ByImport → (head : ℕ) → result.status ≡ Status.Refused (RestoreFault.NotEmpty head) → (source.new ≡ source.old) × (sink.new ≡ sink.old) }
+    ensures kept { KeepsPromises (program_call (Some mode) (shown S.Source K.Sink source.old sink.old (disk_of D.Disk disk)) (shown S.Source K.Sink source.new sink.new (disk_of D.Disk result.disk)) result.status result.entries result.start) }
+{
+    know_dated(&disk);
+    let engine = match open_store(rt, alloc, mode.workers(), disk) {
+        Ok(engine) => engine,
+        Err(ended) => return ended,
+    };
+    let head = engine.state().head;
+    let Over {
+        status,
+        disk,
+        entries,
+        memory,
+    } = do_mode(rt, alloc, mode, engine, source, sink, gate);
+    Ended {
+        status,
+        disk,
+        entries,
+        start: Some(head),
+        memory: Some(memory),
+    }
+}
+
+/// Opens the store on a disk. If it can't be opened, that is the end of the call, whatever the mode and whatever source and
+/// sink show.
+fn open_store<D: Disk, H: Threads + Sync>(
+    rt: &H,
+    alloc: Global,
+    workers: Workers,
+    disk: D,
+) -> Result<Engine<D>, Ended<D>>
+    ensures begun { IfOk result (λ e. IsBegun (opened e.versions e.generation) (disk_of D.Disk disk) (engine_disk e) e.versions.head) }
+    ensures whole { IfOk result (λ e. e.broken ≡ false) }
+    ensures start { IfErr result (λ ended. ended.start ≡ None) }
+    ensures refused { IfErr result (λ ended. (m : Mode) (devices : Devices) → IsTrue (shape_of m).opens
+        → KeepsPromises (program_call (Some m) (with_disk (disk_of D.Disk disk) devices) (with_disk (disk_of D.Disk ended.disk) devices) ended.status ended.entries ended.start)) }
+{
+    damage_is_no_versions();
+    files_stand_for_sound();
+    match Engine::<D>::open(rt, alloc, disk, workers) {
+        Ok(engine) => {
+            engine.know();
+            Ok(engine)
+        }
+        Err(OpenRefused { disk, why }) => {
+            Err(Ended::without_store(alloc, Status::of_refusal(why), disk))
+        }
+    }
+}

@@ -1,0 +1,39 @@
+// The mode `restore` over an open store: a version is restored into it from the chunk blocks of an input.
+ghost use Rattle.std.specs.Prelude.{◌≡◌, ◌≤◌, ℕ, false};
+ghost use Rattle.jf_model.specs.States.{opened};
+ghost use Rattle.jf_words.specs.Modes.{max_version};
+ghost use Rattle.jf_words.specs.declared.modes.Mode.TheVariants as mode;
+ghost use Rattle.jf_run.specs.Bodies.{CompletesCall};
+ghost use Rattle.jf_run.specs.Calls.{disk_of, engine_disk, shown};
+
+use crate::over::Over;
+use crate::status::Status;
+use jf_disk::Disk;
+use jf_engine::Engine;
+use jf_files::damage_is_no_versions;
+use jf_hash::Hash;
+use jf_io::{Sink, Source};
+use jf_model::Ledger;
+use jf_receive::{RestoreFault, receive};
+use std::alloc::Global;
+
+/// Restores into a new store the version of the chunk blocks of a source, whose root was announced, and writes a line about
+/// it into a sink.
+pub(crate) fn restore_over<S: Source, K: Sink, D: Disk>(
+    alloc: Global,
+    mut engine: Engine<D>,
+    version: u64,
+    root: Hash,
+    source: &mut S,
+    sink: &mut K,
+) -> Over<D>
+    requires whole { engine.broken ≡ false }
+    requires last { version ≤ max_version }
+    ensures occupied { (head : ℕ) → result.status ≡ Status.Refused (RestoreFault.NotEmpty head) → (source.new ≡ source.old) × (sink.new ≡ sink.old) }
+    ensures kept { (workers : ℕ) → CompletesCall (mode.Restore version root workers) (opened engine.versions engine.generation) (shown S.Source K.Sink source.old sink.old (engine_disk engine)) (shown S.Source K.Sink source.new sink.new (disk_of D.Disk result.disk)) result.status result.entries }
+{
+    engine.know();
+    damage_is_no_versions();
+    let how = receive(alloc, &mut engine, version, root, source, sink);
+    Over::of_engine(Status::of_received(how), engine, Ledger::new(alloc))
+}

@@ -1,0 +1,41 @@
+-- What a mode does, whatever its numbers: one row a mode.
+use Rattle.std.specs.Prelude.{ℕ, Bool, true, false, IsTrue, IfSome, Option, Some, None}
+use Rattle.jf_words.specs.declared.modes.Mode.{Mode}
+use Rattle.jf_words.specs.declared.modes.Mode.TheVariants as mode
+
+-- how the input is read: not at all, in pieces as the mode goes on, or to its end before anything else is done
+pub data Reading : Type 0 where
+  NoInput : Reading
+  InPieces : Reading
+  ToItsEnd : Reading
+
+-- how the store is changed: not at all, by entries, or by one import
+pub data Changes : Type 0 where
+  NoChange : Changes
+  ByEntries : Changes
+  ByImport : Changes
+
+-- whether the store is opened; how the input is read and the store is changed; and the number of workers, if one is asked for
+pub record Shape : Type 0 where
+  pub opens : Bool
+  pub reading : Reading
+  pub changes : Changes
+  pub workers : Option ℕ
+
+-- the shape of a mode
+abbrev pub shape_of : Mode → Shape
+shape_of (mode.Run n) = record { opens = true; reading = InPieces; changes = ByEntries; workers = Some n }
+shape_of (mode.Serve n) = record { opens = true; reading = ToItsEnd; changes = ByEntries; workers = Some n }
+shape_of mode.Verify = record { opens = false; reading = InPieces; changes = NoChange; workers = None }
+shape_of (mode.Generate seed batches size n) = record { opens = true; reading = NoInput; changes = ByEntries; workers = Some n }
+shape_of (mode.Restore version root n) = record { opens = true; reading = InPieces; changes = ByImport; workers = Some n }
+shape_of (mode.History version) = record { opens = true; reading = NoInput; changes = NoChange; workers = None }
+
+-- the shape of what words ask for, which is nothing if the program doesn't take them
+abbrev pub asked_shape : Option Mode → Shape
+asked_shape None = record { opens = false; reading = NoInput; changes = NoChange; workers = None }
+asked_shape (Some m) = shape_of m
+
+-- nothing is done without a store: the mode opens it, or there is no mode
+abbrev pub IsIdleWithoutStore : Option Mode → Type 0
+IsIdleWithoutStore asks = IfSome asks (λ m. IsTrue (shape_of m).opens)
