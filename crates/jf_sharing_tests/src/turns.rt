@@ -1,4 +1,5 @@
 ghost use Rattle.std.specs.Prelude.{◌≡◌, ℕ, ◌+◌, ◌<◌, ◌≤◌, [], ◌∷◌, ◌++◌, length, IsTrue, IfOk, IfSome, None};
+ghost use Rattle.jf_path.specs.Limits.{max_sessions};
 ghost use Rattle.jf_turn.specs.Lists.{HasElement};
 ghost use Rattle.jf_turn.specs.Seats.{IsSeatOf, AreNewSeats};
 
@@ -26,19 +27,19 @@ struct Mark {
 #[derive(Drop)]
 struct Marks {
     marks: Vec<Mark>,
-    origin: u64,
+    start: u64,
 }
 
 impl Told for Marks {
     type Entry = Mark;
 
-    type Origin = u64;
+    type Start = u64;
 
     ghost list = { λ m. m.marks.items };
 
     ghost names = { λ e. e.owner };
 
-    ghost origin = { λ m. m.origin };
+    ghost start = { λ m. m.start };
 
     fn told(&self) -> u64 {
         self.marks.len() as u64
@@ -49,7 +50,7 @@ impl Marks {
     fn add(&mut self, mark: Mark) -> bool
         ensures yes { IsTrue result → self.new.marks.items ≡ self.old.marks.items ++ mark ∷ [] }
         ensures no { ¬ (IsTrue result) → self.new.marks.items ≡ self.old.marks.items }
-        ensures origin { self.new.origin ≡ self.old.origin }
+        ensures start { self.new.start ≡ self.old.start }
     {
         self.marks.push(mark).is_ok()
     }
@@ -59,12 +60,12 @@ fn new_turn(
     alloc: Global,
     seats: u64,
 ) -> Result<(Turn<Marks>, Vec<Seat<Marks>>), TurnRefused<Marks>>
-    requires { (1 ≤ seats) × (seats ≤ 16) }
+    requires { (1 ≤ seats) × (seats ≤ max_sessions) }
     ensures { IfOk result (λ r. (r.0.seats ≡ seats) × (length r.1.items ≡ seats) × (1 ≤ seats) × AreNewSeats r.0 r.1.items 0) }
 {
     let marks = Marks {
         marks: Vec::new(alloc),
-        origin: 7,
+        start: 7,
     };
     let (turn, seats) = Turn::new(alloc, marks, seats)?;
     Ok((turn, seats))
@@ -109,12 +110,12 @@ fn are_unused(seats: &[Seat<Marks>], count: u64) -> bool {
 
 // Whether a turn of `count` seats, which no thread takes, ends with the list that it began with.
 fn ends_as_it_began(alloc: Global, count: u64) -> Result<bool, Fail>
-    requires { (1 ≤ count) × (count ≤ 16) }
+    requires { (1 ≤ count) × (count ≤ max_sessions) }
 {
     let (turn, seats) = new_turn(alloc, count).ok().ok_or("no memory")?;
     let unused = are_unused(seats.as_slice(), count);
     let marks = close_at_once(turn, seats);
-    Ok(unused && marks.told() == 0 && marks.origin == 7)
+    Ok(unused && marks.told() == 0 && marks.start == 7)
 }
 
 #[test]
