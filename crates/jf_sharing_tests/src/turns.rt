@@ -26,19 +26,19 @@ struct Mark {
 #[derive(Drop)]
 struct Marks {
     marks: Vec<Mark>,
-    origin: u64,
+    start: u64,
 }
 
 impl Told for Marks {
     type Entry = Mark;
 
-    type Origin = u64;
+    type Start = u64;
 
     ghost list = { λ m. m.marks.items };
 
     ghost names = { λ e. e.owner };
 
-    ghost origin = { λ m. m.origin };
+    ghost start = { λ m. m.start };
 
     fn told(&self) -> u64 {
         self.marks.len() as u64
@@ -49,7 +49,7 @@ impl Marks {
     fn add(&mut self, mark: Mark) -> bool
         ensures yes { IsTrue result → self.new.marks.items ≡ self.old.marks.items ++ mark ∷ [] }
         ensures no { ¬ (IsTrue result) → self.new.marks.items ≡ self.old.marks.items }
-        ensures origin { self.new.origin ≡ self.old.origin }
+        ensures start { self.new.start ≡ self.old.start }
     {
         self.marks.push(mark).is_ok()
     }
@@ -64,7 +64,7 @@ fn new_turn(
 {
     let marks = Marks {
         marks: Vec::new(alloc),
-        origin: 7,
+        start: 7,
     };
     let (turn, seats) = Turn::new(alloc, marks, seats)?;
     Ok((turn, seats))
@@ -114,7 +114,7 @@ fn ends_as_it_began(alloc: Global, count: u64) -> Result<bool, Fail>
     let (turn, seats) = new_turn(alloc, count).ok().ok_or("no memory")?;
     let unused = are_unused(seats.as_slice(), count);
     let marks = close_at_once(turn, seats);
-    Ok(unused && marks.told() == 0 && marks.origin == 7)
+    Ok(unused && marks.told() == 0 && marks.start == 7)
 }
 
 #[test]

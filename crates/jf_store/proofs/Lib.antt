@@ -15,7 +15,7 @@ pub mod LandingLaws
 pub mod RetiringLaws
 pub mod CompactionLaws
 pub mod ForkEntryLaws
-pub mod BeginningLaws
+pub mod NewVaults
 pub mod RefusalLaws
 pub mod CommitLaws
 pub mod LookLaws

@@ -24,7 +24,7 @@ use Rattle.jf_turn.proofs.turn.Turn.TheSendSync as turns
 use Rattle.jf_ghost.proofs.remembered.Remembered.TheSendSync as remembered
 use Rattle.jf_engine.specs.contracts.engine.Engine as Engine
 use Rattle.jf_engine.specs.contracts.versions_note.VersionsNote as VersionsNote
-use Rattle.jf_store.specs.contracts.beginning.Beginning as Beginning
+use Rattle.jf_store.specs.contracts.start.StartNote as StartNote
 use Rattle.jf_store.specs.contracts.tried.Tried as Tried
 use Rattle.jf_store.specs.contracts.vault.Vault as Vault
 use Rattle.jf_store.specs.contracts.vault.Vault.TheInside as inside
@@ -68,8 +68,8 @@ Pruner-send = pruners.the_send
 VersionsNote-send : IsSend VersionsNote.the_row
 VersionsNote-send = search (Snapshot-send, remembered.the_send, sendable, crosses, sets.crosses) depth 40 fits 30000
 
-Beginning-send : IsSend Beginning.the_field.row
-Beginning-send = search (sendable, VersionsNote-send) depth 40
+StartNote-send : IsSend StartNote.the_field.row
+StartNote-send = search (sendable, VersionsNote-send) depth 40
 
 Tried-send : IsSend Tried.the_row
 Tried-send = search (sendable, crosses) depth 40
@@ -82,7 +82,7 @@ Vault-send : (D : RattleType) (disk : Ghosts D.Denot) → IsSend D → IsSend (V
 Vault-send D disk send =
     let T = inside.the_type D disk in
     let fields : AllSend (shape T).fields =
-    (Engine-send D disk send, (ForkTable-send, (Pruner-send, (Beginning-send, (search (Entry.the_send, sendable, crosses) depth 20, (search (Tried-send, sendable) depth 20, tt)))))) in
+    (Engine-send D disk send, (ForkTable-send, (Pruner-send, (StartNote-send, (search (Entry.the_send, sendable, crosses) depth 20, (search (Tried-send, sendable) depth 20, tt)))))) in
     let whole : IsSend (inside.the_row D disk) = recorded_send (Struct (shape T)) _ _ T.to_one (struct_send (shape T) fields) in
     view_send (inside.the_row D disk) _ _ _ _ whole
 

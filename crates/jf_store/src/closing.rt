@@ -35,8 +35,8 @@ fn end_turn<D: Disk>(
     requires seat { IsSeatOf seat turn × (seat.taken ≡ None) }
     requires own { ArePassesOf (store_of turn) passes.items }
     requires all { (n : ℕ) → n < turn.seats → HasElement seat.numbers n ⊎ ((p : _) × HasElement passes.items p × (p.number ≡ n)) }
-    requires board { board.now ≡ turn.origin.board }
-    ensures start { result.start ≡ turn.origin }
+    requires board { board.now ≡ turn.start.board }
+    ensures start { result.start ≡ turn.start }
     ensures begins { StartsWith result.events seat.seen }
     ensures others { OthersFollow pass_named_by seat result.events }
     ensures seen { (p : _) → HasElement passes.items p → StartsWith result.events p.seen × OthersAlone p result.events }

@@ -1,17 +1,14 @@
 //! A store that several passes share: each call of a pass is one event of a history, or a look at it.
 #![tactic(auto)]
 
-mod beginning;
 mod boxed_vault;
 mod closing;
 mod compacting;
 mod event;
 mod fault;
+mod fork_landing;
 mod forking;
-mod landing;
 mod look;
-mod opening;
-mod origin;
 mod pass;
 mod pin_back;
 mod pin_version;
@@ -20,6 +17,8 @@ mod pins;
 mod pruned;
 mod pruning;
 mod reading;
+mod start;
+mod starting;
 mod stepping;
 mod store;
 mod tried;
@@ -29,10 +28,10 @@ pub use closing::Closed;
 pub use event::Event;
 pub use fault::StoreFault;
 pub use look::Look;
-pub use opening::StoreRefused;
-pub use origin::Origin;
 pub use pass::Pass;
 pub use pin_back::PinBack;
 pub use pruned::Pruned;
+pub use start::Start;
+pub use starting::StoreRefused;
 pub use store::Store;
 pub use tried::Attempt;

@@ -24,5 +24,5 @@ impl<D: Disk> Model for Store<D> {
 
     ghost view = { λ s. store_of s.turn };
 
-    ghost invariant = { λ s. (s.turn.seats ≡ s.turn.origin.passes) × (1 ≤ s.turn.seats) × IsState s.turn.origin.state × (s.board ≡ s.turn.origin.board) × (s.board.words ≡ 8 * s.turn.origin.passes + 3) };
+    ghost invariant = { λ s. (s.turn.seats ≡ s.turn.start.passes) × (1 ≤ s.turn.seats) × IsState s.turn.start.state × (s.board ≡ s.turn.start.board) × (s.board.words ≡ 8 * s.turn.start.passes + 3) };
 }

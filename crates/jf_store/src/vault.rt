@@ -10,7 +10,7 @@ ghost use Rattle.jf_board.specs.Rule.{Has, Below, hold_at};
 ghost use Rattle.jf_board.specs.Steps.{NumbersAreGiven};
 ghost use Rattle.jf_board.specs.States.{new_pruner};
 ghost use Rattle.jf_store.specs.Events.{is_marked, entries_of, attempt_of};
-ghost use Rattle.jf_store.specs.Starts.{start_with, IsBeginningOf};
+ghost use Rattle.jf_store.specs.Starts.{start_with, IsStartOf};
 ghost use Rattle.jf_store.specs.Ledgers.{state_after_events, AreEvents};
 ghost use Rattle.jf_store.specs.Kept.{IsKept};
 ghost use Rattle.jf_store.specs.Floors.{AreMet};
@@ -19,9 +19,9 @@ ghost use Rattle.jf_store.specs.Refusals.{IsRefusal, look_faults, commit_faults}
 ghost use Rattle.jf_store.specs.Vaults.{LandsIn, FailsIn};
 ghost use Rattle.jf_store.specs.declared.tried.Attempt.TheVariants as attempt;
 
-use crate::beginning::Beginning;
 use crate::fault::StoreFault;
 use crate::look::Look;
+use crate::start::StartNote;
 use crate::stepping::land;
 use crate::tried::{Attempt, Tried};
 use jf_board::{Board, Place, Pruner};
@@ -44,14 +44,14 @@ pub(crate) const LAST: u64 = u64::MAX - 1;
 // The most entries that the head's map may have before a landing.
 pub(crate) const MOST_KEYS: u64 = 1 << 62;
 
-/// The engine, the forks, the board's pruner, with what the store began, what was done and, once the disk has failed, what
+/// The engine, the forks, the board's pruner, how the store started, what was done and, once the disk has failed, what
 /// was tried.
 #[derive(Drop)]
 pub struct Vault<D: Disk> {
     pub(crate) engine: Engine<D>,
     pub(crate) forks: ForkTable,
     pub(crate) pruner: Pruner,
-    pub(crate) beginning: Beginning,
+    pub(crate) start_note: StartNote,
     pub(crate) entries: Vec<Entry>,
     pub(crate) tried: Option<Tried>,
 }
@@ -65,9 +65,9 @@ impl<D: Disk> Model for Vault<D> {
 
     ghost coded = { Prim.hlevel (codes, map_code) };
 
-    ghost view = { λ v. vault_of v.beginning v.entries.items v.tried v.engine v.pruner };
+    ghost view = { λ v. vault_of v.start_note v.entries.items v.tried v.engine v.pruner };
 
-    ghost invariant = { λ v. IsVault v.beginning v.entries.items v.tried v.engine v.forks v.pruner };
+    ghost invariant = { λ v. IsVault v.start_note v.entries.items v.tried v.engine v.forks v.pruner };
 }
 
 impl<D: Disk> Vault<D> {
@@ -75,13 +75,13 @@ impl<D: Disk> Vault<D> {
     pub(crate) fn begin(
         alloc: Global,
         engine: Engine<D>,
-        beginning: Beginning,
+        start_note: StartNote,
         pruner: Pruner,
     ) -> Vault<D>
         requires whole { engine.broken ≡ false }
-        requires beginning { IsBeginningOf engine beginning }
-        requires pruner { pruner.known ≡ new_pruner engine.versions.floor beginning.passes }
-        ensures start { result.start ≡ start_with engine beginning.passes pruner.board }
+        requires start_note { IsStartOf engine start_note }
+        requires pruner { pruner.known ≡ new_pruner engine.versions.floor start_note.passes }
+        ensures start { result.start ≡ start_with engine start_note.passes pruner.board }
         ensures events { result.events ≡ [] }
         ensures engine { result.engine ≡ engine }
         ensures sound { IsState result.start.state }
@@ -91,7 +91,7 @@ impl<D: Disk> Vault<D> {
             engine,
             forks: ForkTable::new(alloc),
             pruner,
-            beginning,
+            start_note,
             entries: Vec::new(alloc),
             tried: None,
         }
@@ -116,7 +116,7 @@ impl<D: Disk> Vault<D> {
             engine,
             forks: _,
             pruner,
-            beginning: _,
+            start_note: _,
             entries,
             tried: _,
         } = self;

@@ -52,9 +52,9 @@ module _ {E : Type 0} where
   pub both_begin : (xs ys : List E) → StartsWith (longer xs ys) (shorter xs ys) → StartsWith (longer xs ys) xs × StartsWith (longer xs ys) ys
   both_begin xs ys s = pick xs ys (ltb (length xs) (length ys)) s
 
-module _ {V E O : Type 0} (list : V → List E) (names : E → ℕ) (origin_of : V → O) where
+module _ {V E O : Type 0} (list : V → List E) (names : E → ℕ) (start_of : V → O) where
   -- no entry after those that the seat has seen is its own
-  pub others_follow : (id : TableId) (v : SeatView E O) (entries : List E) → OwnAreSeen list names origin_of entries v → OthersFollow names (seat_state id v) entries
+  pub others_follow : (id : TableId) (v : SeatView E O) (entries : List E) → OwnAreSeen list names start_of entries v → OthersFollow names (seat_state id v) entries
   others_follow id v entries own = λ e has own_name. let less = own (length v.seen + has.0) e (at_drop entries (length v.seen) has.0 e has.1) own_name in omega arith
 
 module _ {E O V : Type 0} where
@@ -67,8 +67,8 @@ module _ {E O V : Type 0} where
 
 module _ {E O : Type 0} where
   -- the maker, which has seen nothing, is shown as a new seat
-  pub maker_is_new : (t : TurnState O) (id : TableId) (v : SeatView E O) (n : ℕ) → id ≡ t.id → IsMaker v t.origin n → seat_state id v ≡ new_seat t n
-  maker_is_new t id v n same m = λ i. record { turn = same i; origin = m.6 i; number = m.2 i; numbers = m.3 i; seen = m.5 i; taken = taken_at (m.0 i) }
+  pub maker_is_new : (t : TurnState O) (id : TableId) (v : SeatView E O) (n : ℕ) → id ≡ t.id → IsMaker v t.start n → seat_state id v ≡ new_seat t n
+  maker_is_new t id v n same m = λ i. record { turn = same i; start = m.6 i; number = m.2 i; numbers = m.3 i; seen = m.5 i; taken = taken_at (m.0 i) }
 
   -- a list of new seats is longer by the next new seat
   pub new_longer : (t : TurnState O) (ss : List (SeatState E O)) (s : SeatState E O) (n m : ℕ) → AreNewSeats t ss n → m ≡ n + length ss → s ≡ new_seat t m → AreNewSeats t (ss ++ s ∷ []) n

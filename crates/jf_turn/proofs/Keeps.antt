@@ -18,7 +18,7 @@ use Rattle.jf_turn.specs.Steps.{at_stage, turn_claimed, born, moved, released_se
 use Rattle.jf_turn.proofs.Words.{free_of_even}
 use Rattle.jf_turn.proofs.Lists.{at_append, starts_more, within, starts_self, put, put_else, has_cons, put_at, at_end, prefix_of, some_at, prefix_whole, has_append, has_left, has_right}
 
-module _ {V E O : Type 0} (list : V → List E) (names : E → ℕ) (origin_of : V → O) (seats : ℕ) (start : O) where
+module _ {V E O : Type 0} (list : V → List E) (names : E → ℕ) (start_of : V → O) (seats : ℕ) (start : O) where
   abbrev W : Type 0
   W = SeatView E O
 
@@ -41,16 +41,16 @@ module _ {V E O : Type 0} (list : V → List E) (names : E → ℕ) (origin_of :
   Homes = List (maybe.Option (Option V))
 
   abbrev Rule : St → Type 0
-  Rule = IsTurn list names origin_of seats start
+  Rule = IsTurn list names start_of seats start
 
   abbrev Fit : TurnAccount E O → Homes → ℕ → W → Type 0
-  Fit = FitsTurn list names origin_of
+  Fit = FitsTurn list names start_of
 
   abbrev Stand : List E → Homes → W → Hand → Stage E → Type 0
-  Stand = FitsHand list names origin_of
+  Stand = FitsHand list names start_of
 
   abbrev Sit : TurnAccount E O → ℕ → W → Type 0
-  Sit = IsSeat list names origin_of
+  Sit = IsSeat list names start_of
 
   -- a view that keeps no numbers of another seat
   no_others : (n : ℕ) → HasElement [] n → ⊥
@@ -58,7 +58,7 @@ module _ {V E O : Type 0} (list : V → List E) (names : E → ℕ) (origin_of :
 
   -- a seat has the new view w, under the account p
   placed : (s : St) (r : Rule s) (p : TurnAccount E O) (ws : List ℕ) (hs : Homes) (id : ℕ) (v w : W) → get_elem? s.views id ≡ maybe.some v → length ws ≡ 2 → get_or ws 0 0 ≡ turn_word p.hand (length p.entries) → get_or ws 1 0 ≡ p.given → p.given ≤ seats → length p.entries ≤ 2 ^ 62
-      → p.origin ≡ r.account.origin → IsHome list names origin_of p hs p.hand → ((k : ℕ) (e : E) → get_elem? p.entries k ≡ maybe.some e → names e < p.given) → Fit p hs id w → ((j : ℕ) (u : W) → j ≢ id → Fit r.account s.homes j u → Fit p hs j u)
+      → p.start ≡ r.account.start → IsHome list names start_of p hs p.hand → ((k : ℕ) (e : E) → get_elem? p.entries k ≡ maybe.some e → names e < p.given) → Fit p hs id w → ((j : ℕ) (u : W) → j ≢ id → Fit r.account s.homes j u → Fit p hs j u)
       → Rule record { words = ws; homes = hs; views = set s.views id w }
   placed s r p ws hs id v w at wide turn_is count_is few bounded from home named mine others = record {
     account = p;
@@ -90,23 +90,23 @@ module _ {V E O : Type 0} (list : V → List E) (names : E → ℕ) (origin_of :
   taken_else entries hs hs' n u (Holding l) not s = absurd s
 
   sit_same : (p : TurnAccount E O) (h : Hand) (id : ℕ) (v : W) (st : Stage E) → Sit p id v → Sit (record p { hand = h }) id (at_stage v st)
-  sit_same p h id v st r = record { seen = r.seen; other_seen = r.other_seen; others = λ n has. absurd (no_others n has); origin = r.origin; numbers = r.numbers; maker = r.maker }
+  sit_same p h id v st r = record { seen = r.seen; other_seen = r.other_seen; others = λ n has. absurd (no_others n has); start = r.start; numbers = r.numbers; maker = r.maker }
 
   sit_hand : (p : TurnAccount E O) (h : Hand) (id : ℕ) (v : W) → Sit p id v → Sit (record p { hand = h }) id v
-  sit_hand p h id v r = record { seen = r.seen; other_seen = r.other_seen; others = r.others; origin = r.origin; numbers = r.numbers; maker = r.maker }
+  sit_hand p h id v r = record { seen = r.seen; other_seen = r.other_seen; others = r.others; start = r.start; numbers = r.numbers; maker = r.maker }
 
   away_here : (v : W) → v.stage ≡ Idle → v.stage ≢ Spent
   away_here v e g = cc
 
   pub claims : (slots id old : ℕ) (me : M) → me.0.stage ≡ Idle → HasElement me.0.numbers me.0.number → old % 2 ≡ 0 → 0 < slots
-      → Allows Rule slots id me 0 (λ x. either (eqb x old) (old + 1) x) (turn_claimed list names origin_of (step slots 0 old (old + 1) maybe.none) me)
+      → Allows Rule slots id me 0 (λ x. either (eqb x old) (old + 1) x) (turn_claimed list names start_of (step slots 0 old (old + 1) maybe.none) me)
   claims slots id old me away own even deep s r len at _ = let x : ℕ = get_or s.words 0 0 in let p = r.account in let v = me.0 in dite (ℕ_discrete x old)
       (λ hit.
       let is_free : p.hand ≡ free = free_of_even p.hand (length p.entries) x r.turn_is (ap (λ (z : ℕ). z % 2) hit ∙ even) in
-      let home : IsHome list names origin_of p s.homes free = subst (IsHome list names origin_of p s.homes) is_free r.home in let y : V = home.0 in
+      let home : IsHome list names start_of p s.homes free = subst (IsHome list names start_of p s.homes) is_free r.home in let y : V = home.0 in
       let sit = sits_at s r id v (away_here v away) at in
       let fit = r.each id v at in
-      let mine : OwnAreSeen list names origin_of p.entries v = subst (λ (z : Hand × Stage E). Stand p.entries s.homes v z.0 z.1) (λ i. (is_free i, away i)) fit.1 in
+      let mine : OwnAreSeen list names start_of p.entries v = subst (λ (z : Hand × Stage E). Stand p.entries s.homes v z.0 z.1) (λ i. (is_free i, away i)) fit.1 in
       let p' : TurnAccount E O = record p { hand = held_by v.number } in let w : W = at_stage v (Holding (list y)) in let hs : Homes = set s.homes 0 maybe.none in
       let wide = r.wide in let turn : x ≡ 2 * length p.entries = r.turn_is ∙ ap (λ h. turn_word h (length p.entries)) is_free in
       let same : (v.number < p.given) × (p.seat_of v.number ≡ id) = sit.numbers v.number own in (
@@ -118,7 +118,7 @@ module _ {V E O : Type 0} (list : V → List E) (names : E → ℕ) (origin_of :
             ((λ _. sit_same p (held_by v.number) id v (Holding (list y)) sit), (own, home.2))
             (λ j u other f. ((λ here. sit_hand p (held_by v.number) j u (f.0 here)), taken_else p.entries s.homes hs v.number u u.stage (λ here has. apart p id j v.number u same.1 other (f.0 here) has) (subst (λ h. Stand p.entries s.homes u h u.stage) is_free f.1)))),
         (
-          (λ _. (y, refl, subst (λ (l : List E). StartsWith l v.seen) (sym home.2) sit.seen, subst (λ (l : List E). OwnAreSeen list names origin_of l v) (sym home.2) mine, sit.origin ∙ ap (λ (o : O). Some o) (sym home.3), subst (λ (l : List E). length l ≤ 2 ^ 62) (sym home.2) r.bounded)),
+          (λ _. (y, refl, subst (λ (l : List E). StartsWith l v.seen) (sym home.2) sit.seen, subst (λ (l : List E). OwnAreSeen list names start_of l v) (sym home.2) mine, sit.start ∙ ap (λ (o : O). Some o) (sym home.3), subst (λ (l : List E). length l ≤ 2 ^ 62) (sym home.2) r.bounded)),
           λ miss. absurd (miss hit),
         ),
       ))
@@ -141,7 +141,7 @@ module _ {V E O : Type 0} (list : V → List E) (names : E → ℕ) (origin_of :
   born_of entries hs v (held_by n) s = (n, refl, s.0, s.1, s.2)
 
   -- if the holder of the number n does a step, no other seat holds the turn
-  held_else : (entries entries' : List E) (hs hs' : Homes) (n : ℕ) (u : W) (st : Stage E) → (st ≢ Spent → HasElement u.numbers n → ⊥) → (st ≢ Spent → OwnAreSeen list names origin_of entries u → OwnAreSeen list names origin_of entries' u) → Stand entries hs u (held_by n) st → Stand entries' hs' u (held_by n) st
+  held_else : (entries entries' : List E) (hs hs' : Homes) (n : ℕ) (u : W) (st : Stage E) → (st ≢ Spent → HasElement u.numbers n → ⊥) → (st ≢ Spent → OwnAreSeen list names start_of entries u → OwnAreSeen list names start_of entries' u) → Stand entries hs u (held_by n) st → Stand entries' hs' u (held_by n) st
   held_else entries entries' hs hs' n u Spent not own s = tt
   held_else entries entries' hs hs' n u Idle not own s = (s.0, own (λ e. cc) s.1)
   held_else entries entries' hs hs' n u Opening not own s = absurd (not (λ e. cc) s.0)
@@ -160,7 +160,7 @@ module _ {V E O : Type 0} (list : V → List E) (names : E → ℕ) (origin_of :
   holds_here v l e g = cc
 
   -- the first seat takes the empty slot
-  pub births : (slots id : ℕ) (me : M) → me.0.stage ≡ Opening → me.1 ≡ [] → 0 < slots → Allows Rule slots id me 0 (λ x. x) (born list names origin_of (step slots 0 0 0 maybe.none) me)
+  pub births : (slots id : ℕ) (me : M) → me.0.stage ≡ Opening → me.1 ≡ [] → 0 < slots → Allows Rule slots id me 0 (λ x. x) (born list names start_of (step slots 0 0 0 maybe.none) me)
   births slots id me stage empty deep s r len at _ =
       let p = r.account in let v = me.0 in let fit = r.each id v at in let sit = sits_at s r id v (born_here v stage) at in
       let b = born_of p.entries s.homes v p.hand (subst (Stand p.entries s.homes v p.hand) stage fit.1) in let n : ℕ = b.0 in let is = b.1 in let w : W = at_stage v (Holding []) in let hs : Homes = set s.homes 0 maybe.none in
@@ -169,8 +169,8 @@ module _ {V E O : Type 0} (list : V → List E) (names : E → ℕ) (origin_of :
         takes 0 None,
         b.4,
         placed s r p (set s.words 0 (get_or s.words 0 0)) hs id v w at (length-set s.words 0 (get_or s.words 0 0) ∙ r.wide) (ap (λ ws. get_or ws 0 0) (set-get_or s.words 0 0) ∙ r.turn_is) (ap (λ ws. get_or ws 1 0) (set-get_or s.words 0 0) ∙ r.count_is) r.few r.bounded refl
-            (subst (IsHome list names origin_of p hs) (sym is) (subst (IsHome list names origin_of p s.homes) is r.home)) r.named
-            ((λ _. record { seen = sit.seen; other_seen = sit.other_seen; others = λ n has. absurd (no_others n has); origin = sit.origin; numbers = sit.numbers; maker = sit.maker }), subst (λ h. Stand p.entries hs w h (Holding [])) (sym is) (b.2, sym b.3))
+            (subst (IsHome list names start_of p hs) (sym is) (subst (IsHome list names start_of p s.homes) is r.home)) r.named
+            ((λ _. record { seen = sit.seen; other_seen = sit.other_seen; others = λ n has. absurd (no_others n has); start = sit.start; numbers = sit.numbers; maker = sit.maker }), subst (λ h. Stand p.entries hs w h (Holding [])) (sym is) (b.2, sym b.3))
             (λ j u other f. (f.0, subst (λ h. Stand p.entries hs u h u.stage) (sym is) (held_else p.entries p.entries s.homes hs n u u.stage (λ here has. apart p id j n u own other (f.0 here) has) (λ _ o. o) (subst (λ h. Stand p.entries s.homes u h u.stage) is f.1)))),
         refl,
       )
@@ -180,13 +180,13 @@ module _ {V E O : Type 0} (list : V → List E) (names : E → ℕ) (origin_of :
 
   -- the turn's list grows, by entries that name the holder's number
   pub moves : (slots id : ℕ) (me : M) (l : List E) (y : V) (more : List E) (word : ℕ) → me.0.stage ≡ Holding l → me.1 ≡ (0, Some y) ∷ [] → list y ≡ l ++ more → ((e : E) → HasElement more e → names e ≡ me.0.number) → HasElement me.0.numbers me.0.number → word ≡ 2 * length (list y) + 1 → length (list y) ≤ 2 ^ 62
-      → Allows Rule slots id me 0 (λ _. word) (λ _. moved list names origin_of (step slots 0 word 0 maybe.none) me word)
+      → Allows Rule slots id me 0 (λ _. word) (λ _. moved list names start_of (step slots 0 word 0 maybe.none) me word)
   moves slots id me l y more word stage carried grows named mine is_word small s r len at _ =
       let p = r.account in let v = me.0 in let fit = r.each id v at in let sit = sits_at s r id v (holds_here v l stage) at in
       let b = holder_of p.entries l s.homes v p.hand (subst (Stand p.entries s.homes v p.hand) stage fit.1) in let n : ℕ = b.0 in let is = b.1 in let own : p.seat_of n ≡ id = (sit.numbers n b.2).1 in let given = sit.numbers v.number mine in
       let grown : list y ≡ p.entries ++ more = grows ∙ ap (λ xs. xs ++ more) b.3 in
       let p' : TurnAccount E O = record p { entries = list y } in let w : W = at_stage v (Holding (list y)) in let starts : (xs : List E) → StartsWith p.entries xs → StartsWith (list y) xs = λ xs t. subst (λ ys. StartsWith ys xs) (sym grown) (starts_more p.entries more xs t) in
-      let owned : (j : ℕ) (u : W) → j ≢ id → Sit p j u → OwnAreSeen list names origin_of p.entries u → OwnAreSeen list names origin_of (list y) u = λ j u other su o k e there has. ⊎_elim (λ (h : get_elem? p.entries k ≡ maybe.some e). o k e h has)
+      let owned : (j : ℕ) (u : W) → j ≢ id → Sit p j u → OwnAreSeen list names start_of p.entries u → OwnAreSeen list names start_of (list y) u = λ j u other su o k e there has. ⊎_elim (λ (h : get_elem? p.entries k ≡ maybe.some e). o k e h has)
       (λ (h : HasElement more e). absurd (apart p id j v.number u given.1 other su (subst (HasElement u.numbers) (named e h) has))) (at_append p.entries more k e (subst (λ ys. get_elem? ys k ≡ maybe.some e) grown there)) in
       let others_on : (j : ℕ) (u : W) → j ≢ id → Sit p j u → (m : ℕ) → HasElement u.other_numbers m → HasElement u.numbers m × ((k : ℕ) (e : E) → get_elem? (list y) k ≡ maybe.some e → names e ≡ m → k < length u.other_seen) = λ j u other su m has. (
         (su.others m has).0,
@@ -197,31 +197,31 @@ module _ {V E O : Type 0} (list : V → List E) (names : E → ℕ) (origin_of :
         keeps,
         tt,
         placed s r p' (set s.words 0 word) s.homes id v w at (length-set s.words 0 word ∙ r.wide) (get_or-set_same s.words 0 word 0 (let wide = r.wide in omega arith) ∙ (is_word ∙ sym (ap (λ h. turn_word h (length (list y))) is))) (get_or-set_other s.words 0 1 word 0 (λ e. omega arith) ∙ r.count_is) r.few small refl
-            (subst (IsHome list names origin_of p' s.homes) (sym is) (subst (IsHome list names origin_of p s.homes) is r.home))
+            (subst (IsHome list names start_of p' s.homes) (sym is) (subst (IsHome list names start_of p s.homes) is r.home))
             (λ k e there. ⊎_elim (λ (h : get_elem? p.entries k ≡ maybe.some e). r.named k e h) (λ (h : HasElement more e). subst (λ z. z < p.given) (sym (named e h)) given.0) (at_append p.entries more k e (subst (λ ys. get_elem? ys k ≡ maybe.some e) grown there)))
-            ((λ _. record { seen = starts v.seen sit.seen; other_seen = starts v.other_seen sit.other_seen; others = λ n has. absurd (no_others n has); origin = sit.origin; numbers = sit.numbers; maker = sit.maker }), subst (λ h. Stand (list y) s.homes w h (Holding (list y))) (sym is) (b.2, refl))
+            ((λ _. record { seen = starts v.seen sit.seen; other_seen = starts v.other_seen sit.other_seen; others = λ n has. absurd (no_others n has); start = sit.start; numbers = sit.numbers; maker = sit.maker }), subst (λ h. Stand (list y) s.homes w h (Holding (list y))) (sym is) (b.2, refl))
             (λ j u other f. (
-              (λ here. let su = f.0 here in record { seen = starts u.seen su.seen; other_seen = starts u.other_seen su.other_seen; others = others_on j u other su; origin = su.origin; numbers = su.numbers; maker = su.maker }),
+              (λ here. let su = f.0 here in record { seen = starts u.seen su.seen; other_seen = starts u.other_seen su.other_seen; others = others_on j u other su; start = su.start; numbers = su.numbers; maker = su.maker }),
               subst (λ h. Stand (list y) s.homes u h u.stage) (sym is) (held_else p.entries (list y) s.homes s.homes n u u.stage (λ here has. apart p id j n u own other (f.0 here) has) (λ here o. owned j u other (f.0 here) o) (subst (λ h. Stand p.entries s.homes u h u.stage) is f.1)),
             )),
         λ y' c. let same : y ≡ y' = one_carried me.1 y y' carried c in ap (λ (z : V). sat (at_stage v (Holding (list z))) me) same,
       )
 
   -- the value of the turn's list comes home
-  pub releases : (slots id : ℕ) (me : M) (y : V) (word : ℕ) → me.0.stage ≡ Holding (list y) → me.1 ≡ (0, Some y) ∷ [] → me.0.origin ≡ Some (origin_of y) → word ≡ 2 * length (list y) → 0 < slots
-      → Allows Rule slots id me 0 (λ _. word) (λ _. released list names origin_of (step slots 0 word 0 maybe.none) me word)
+  pub releases : (slots id : ℕ) (me : M) (y : V) (word : ℕ) → me.0.stage ≡ Holding (list y) → me.1 ≡ (0, Some y) ∷ [] → me.0.start ≡ Some (start_of y) → word ≡ 2 * length (list y) → 0 < slots
+      → Allows Rule slots id me 0 (λ _. word) (λ _. released list names start_of (step slots 0 word 0 maybe.none) me word)
   releases slots id me y word stage carried from is_word deep s r len at _ =
       let p = r.account in let v = me.0 in let l : List E = list y in let fit = r.each id v at in let sit = sits_at s r id v (holds_here v l stage) at in
       let b = holder_of p.entries l s.homes v p.hand (subst (Stand p.entries s.homes v p.hand) stage fit.1) in let n : ℕ = b.0 in let is = b.1 in let own : p.seat_of n ≡ id = (sit.numbers n b.2).1 in
       let p' : TurnAccount E O = record p { hand = free } in let w : W = released_seat v l in let hs : Homes = put_back s.homes me.1 in
-      let same_origin : origin_of y ≡ p.origin = (let e : Some (origin_of y) ≡ Some p.origin = sym from ∙ sit.origin in cc) in (
+      let same_start : start_of y ≡ p.start = (let e : Some (start_of y) ≡ Some p.start = sym from ∙ sit.start in cc) in (
         w,
         gives,
         tt,
         placed s r p' (set s.words 0 word) hs id v w at (length-set s.words 0 word ∙ r.wide) (get_or-set_same s.words 0 word 0 (let wide = r.wide in omega arith) ∙ (is_word ∙ ap (λ (xs : List E). 2 * length xs) b.3)) (get_or-set_other s.words 0 1 word 0 (λ e. omega arith) ∙ r.count_is) r.few r.bounded refl
-            (subst (λ c. IsHome list names origin_of p' (put_back s.homes c) free) (sym carried) (y, set_here s.homes 0 (maybe.some (Some y)) (omega arith), b.3, same_origin))
+            (subst (λ c. IsHome list names start_of p' (put_back s.homes c) free) (sym carried) (y, set_here s.homes 0 (maybe.some (Some y)) (omega arith), b.3, same_start))
             r.named
-            ((λ _. record { seen = subst (λ (xs : List E). StartsWith xs l) b.3 (starts_self l); other_seen = sit.other_seen; others = λ n has. absurd (no_others n has); origin = sit.origin; numbers = sit.numbers; maker = sit.maker }), λ k e there has. within l k e (subst (λ (xs : List E). get_elem? xs k ≡ maybe.some e) (sym b.3) there))
+            ((λ _. record { seen = subst (λ (xs : List E). StartsWith xs l) b.3 (starts_self l); other_seen = sit.other_seen; others = λ n has. absurd (no_others n has); start = sit.start; numbers = sit.numbers; maker = sit.maker }), λ k e there has. within l k e (subst (λ (xs : List E). get_elem? xs k ≡ maybe.some e) (sym b.3) there))
             (λ j u other f. ((λ here. sit_hand p free j u (f.0 here)), freed_else p.entries s.homes hs n u u.stage (λ here has. apart p id j n u own other (f.0 here) has) (subst (λ h. Stand p.entries s.homes u h u.stage) is f.1))),
         λ y' c. let same : y ≡ y' = one_carried me.1 y y' carried c in subst (λ (z : SeatView E O × List (ℕ × Option V)). z ≡ (released_seat v (list y'), [])) (λ i. (released_seat v (list (sym same i)), ap rest (sym carried) i)) refl,
       )
@@ -231,23 +231,23 @@ module _ {V E O : Type 0} (list : V → List E) (names : E → ℕ) (origin_of :
     seen = r.seen;
     other_seen = r.other_seen;
     others = r.others;
-    origin = r.origin;
+    start = r.start;
     numbers = λ n has. let t = r.numbers n has in let less = t.0 in (omega arith, put_else p.seat_of p.given id n (λ e. omega arith) ∙ t.1);
     maker = λ e. absurd (other (r.maker e).1);
   }
 
-  minted_here : (p : TurnAccount E O) (hs : Homes) (v : W) (h : Hand) → v.given ≡ p.given → IsHome list names origin_of p hs h → ((k : ℕ) (e : E) → get_elem? p.entries k ≡ maybe.some e → names e < p.given) → Stand p.entries hs v h Idle → Stand p.entries hs (minted v) h Idle
+  minted_here : (p : TurnAccount E O) (hs : Homes) (v : W) (h : Hand) → v.given ≡ p.given → IsHome list names start_of p hs h → ((k : ℕ) (e : E) → get_elem? p.entries k ≡ maybe.some e → names e < p.given) → Stand p.entries hs v h Idle → Stand p.entries hs (minted v) h Idle
   minted_here p hs v free e home named own = λ k x there has. let less = named k x there in ⊎_elim (λ (t : v.given ≡ names x). absurd (omega arith)) (λ t. own k x there t) (has_cons v.given v.numbers (names x) has)
   minted_here p hs v (held_by n) e home named s = (
     (λ has. ⊎_elim (λ (t : v.given ≡ n). absurd (omega arith)) (λ t. s.0 t) (has_cons v.given v.numbers n has)),
     λ k x there has. let less = named k x there in ⊎_elim (λ (t : v.given ≡ names x). absurd (omega arith)) (λ t. s.1 k x there t) (has_cons v.given v.numbers (names x) has),
   )
 
-  same_home : (p : TurnAccount E O) (given : ℕ) (seat_of : ℕ → ℕ) (hs : Homes) (h : Hand) → p.given ≤ given → IsHome list names origin_of p hs h → IsHome list names origin_of (record p { given = given; seat_of = seat_of }) hs h
+  same_home : (p : TurnAccount E O) (given : ℕ) (seat_of : ℕ → ℕ) (hs : Homes) (h : Hand) → p.given ≤ given → IsHome list names start_of p hs h → IsHome list names start_of (record p { given = given; seat_of = seat_of }) hs h
   same_home p given seat_of hs free le home = home
   same_home p given seat_of hs (held_by n) le less = omega arith
 
-  pub mints : (slots id : ℕ) (me : M) → me.0.stage ≡ Idle → me.0.is_maker ≡ true → me.0.given < seats → seats < 2 ^ 32 → Allows Rule slots id me 1 (λ x. (x + 1) % 2 ^ 64) (seat_numbered list names origin_of (step slots 1 1 0 maybe.none) me)
+  pub mints : (slots id : ℕ) (me : M) → me.0.stage ≡ Idle → me.0.is_maker ≡ true → me.0.given < seats → seats < 2 ^ 32 → Allows Rule slots id me 1 (λ x. (x + 1) % 2 ^ 64) (seat_numbered list names start_of (step slots 1 1 0 maybe.none) me)
   mints slots id me away is_maker room small s r len at _ =
       let p = r.account in let v = me.0 in let fit = r.each id v at in let sit = sits_at s r id v (away_here v away) at in let maker = sit.maker is_maker in let c : ℕ = v.given in let found : get_or s.words 1 0 ≡ p.given = r.count_is in let mine = maker.0 in
       let bound : seats < 4294967296 = small in let up : (get_or s.words 1 0 + 1) % 18446744073709551616 ≡ p.given + 1 = omega arith in let w : W = minted v in let p' : TurnAccount E O = record p { given = p.given + 1; seat_of = put p.seat_of p.given id } in (
@@ -261,7 +261,7 @@ module _ {V E O : Type 0} (list : V → List E) (names : E → ℕ) (origin_of :
                 seen = sit.seen;
                 other_seen = sit.other_seen;
                 others = λ n has. let t = sit.others n has in ((suc t.0.0, t.0.1), t.1);
-                origin = sit.origin;
+                start = sit.start;
                 numbers = λ n has. ⊎_elim (λ (t : c ≡ n). (omega arith, put_at p.seat_of p.given id n (sym t ∙ mine))) (λ t. let old = sit.numbers n t in let less = old.0 in (omega arith, put_else p.seat_of p.given id n (λ e. omega arith) ∙ old.1)) (has_cons c v.numbers n has);
                 maker = λ _. (ap (λ (z : ℕ). z + 1) mine, maker.1);
               }),
@@ -284,12 +284,12 @@ module _ {V E O : Type 0} (list : V → List E) (names : E → ℕ) (origin_of :
     seen = r.seen;
     other_seen = r.other_seen;
     others = r.others;
-    origin = r.origin;
+    start = r.start;
     numbers = λ m has. let t = r.numbers m has in (t.0, put_else p.seat_of n to m (λ e. other (sym t.1 ∙ (ap p.seat_of e ∙ own))) ∙ t.1);
     maker = r.maker;
   }
 
-  other_home : (p : TurnAccount E O) (seat_of : ℕ → ℕ) (hs : Homes) (h : Hand) → IsHome list names origin_of p hs h → IsHome list names origin_of (record p { seat_of = seat_of }) hs h
+  other_home : (p : TurnAccount E O) (seat_of : ℕ → ℕ) (hs : Homes) (h : Hand) → IsHome list names start_of p hs h → IsHome list names start_of (record p { seat_of = seat_of }) hs h
   other_home p seat_of hs free home = home
   other_home p seat_of hs (held_by n) less = less
 
@@ -302,11 +302,11 @@ module _ {V E O : Type 0} (list : V → List E) (names : E → ℕ) (origin_of :
       let in_right : (m : ℕ) → HasElement w.numbers m → HasElement v.numbers m = λ m has. subst (λ xs. HasElement xs m) (sym has_two) (1, ap (λ (z : ℕ). maybe.some z) (one_of v.number m has)) in
       let p' : TurnAccount E O = record p { seat_of = put p.seat_of v.number new } in let here : Stand p.entries s.homes v p.hand Idle = subst (Stand p.entries s.homes v p.hand) away fit.1 in
       let left_fits : Fit p' s.homes id l = (
-        (λ _. record { seen = sit.seen; other_seen = sit.other_seen; others = λ n has. absurd (no_others n has); origin = sit.origin; numbers = λ m has. let t = sit.numbers m (in_left m has) in (t.0, put_else p.seat_of v.number new m (λ e. apart_numbers ((sym first ∙ one_of (first_or_zero v.numbers) m has) ∙ e)) ∙ t.1); maker = sit.maker }),
+        (λ _. record { seen = sit.seen; other_seen = sit.other_seen; others = λ n has. absurd (no_others n has); start = sit.start; numbers = λ m has. let t = sit.numbers m (in_left m has) in (t.0, put_else p.seat_of v.number new m (λ e. apart_numbers ((sym first ∙ one_of (first_or_zero v.numbers) m has) ∙ e)) ∙ t.1); maker = sit.maker }),
         subst (Stand p.entries s.homes l p.hand) (sym away) (split_fits p.entries s.homes v l p.hand in_left refl here),
       ) in
       let right_fits : Fit p' s.homes new w = (
-        (λ _. record { seen = sit.seen; other_seen = (p.entries, refl); others = λ n has. absurd (no_others n has); origin = sit.origin; numbers = λ m has. let t = sit.numbers m (in_right m has) in (t.0, put_at p.seat_of v.number new m (sym (one_of v.number m has))); maker = λ e. absurd (let no_way : false ≡ true = e in cc) }),
+        (λ _. record { seen = sit.seen; other_seen = (p.entries, refl); others = λ n has. absurd (no_others n has); start = sit.start; numbers = λ m has. let t = sit.numbers m (in_right m has) in (t.0, put_at p.seat_of v.number new m (sym (one_of v.number m has))); maker = λ e. absurd (let no_way : false ≡ true = e in cc) }),
         split_fits p.entries s.homes v w p.hand in_right refl here,
       ) in record {
         account = p';
@@ -328,7 +328,7 @@ module _ {V E O : Type 0} (list : V → List E) (names : E → ℕ) (origin_of :
   pub splits : (id : ℕ) (v : W) (n : ℕ) → v.stage ≡ Idle → v.numbers ≡ n ∷ v.number ∷ [] → n ≢ v.number → Splits Rule id v (maker_left v) (seat_right v)
   splits id v n away two other s r at = splits_in s r id v n away two other at
 
-  pub compares : (slots id : ℕ) (me : M) → me.0.stage ≡ Idle → Allows Rule slots id me 0 (λ x. x) (compared list names origin_of (step slots 0 0 0 maybe.none) me)
+  pub compares : (slots id : ℕ) (me : M) → me.0.stage ≡ Idle → Allows Rule slots id me 0 (λ x. x) (compared list names start_of (step slots 0 0 0 maybe.none) me)
   compares slots id me away s r len at _ = let p = r.account in let v = me.0 in let sit = sits_at s r id v (away_here v away) at in (
     v,
     keeps,
@@ -337,13 +337,13 @@ module _ {V E O : Type 0} (list : V → List E) (names : E → ℕ) (origin_of :
     (refl, (λ le. prefix_of p.entries v.seen v.other_seen sit.seen sit.other_seen le), λ n has k e there name. (sit.others n has).1 k e (subst (λ (xs : List E). get_elem? xs k ≡ maybe.some e) (sym sit.seen.1) (at_longer v.seen sit.seen.0 k e there)) name),
   )
 
-  is_at_home : (p : TurnAccount E O) (hs : Homes) (v : W) (h : Hand) → p.given ≤ seats → ((n : ℕ) → n < seats → HasElement v.numbers n) → IsHome list names origin_of p hs h → Stand p.entries hs v h Idle → IsHome list names origin_of p hs free × OwnAreSeen list names origin_of p.entries v
+  is_at_home : (p : TurnAccount E O) (hs : Homes) (v : W) (h : Hand) → p.given ≤ seats → ((n : ℕ) → n < seats → HasElement v.numbers n) → IsHome list names start_of p hs h → Stand p.entries hs v h Idle → IsHome list names start_of p hs free × OwnAreSeen list names start_of p.entries v
   is_at_home p hs v free few all home own = (home, own)
   is_at_home p hs v (held_by n) few all less s = absurd (s.0 (all n (omega arith)))
 
   -- at the end: the value at home stands for what the seat of all numbers has seen
   pub closes : (s : St) (id : ℕ) (v : W) → Rule s → get_elem? s.views id ≡ maybe.some v → v.stage ≡ Idle → ((n : ℕ) → n < seats → HasElement v.numbers n)
-      → (y : V) × (get_elem? s.homes 0 ≡ maybe.some (maybe.some (Some y))) × (list y ≡ v.seen) × (origin_of y ≡ start)
+      → (y : V) × (get_elem? s.homes 0 ≡ maybe.some (maybe.some (Some y))) × (list y ≡ v.seen) × (start_of y ≡ start)
   closes s id v r at away all =
       let p = r.account in let fit = r.each id v at in let sit = sits_at s r id v (away_here v away) at in
       let t = is_at_home p s.homes v p.hand r.few all r.home (subst (Stand p.entries s.homes v p.hand) away fit.1) in
@@ -392,17 +392,17 @@ module _ {V E O : Type 0} (list : V → List E) (names : E → ℕ) (origin_of :
     seen = r.seen;
     other_seen = r.other_seen;
     others = r.others;
-    origin = r.origin;
+    start = r.start;
     numbers = λ n has. let t = r.numbers n has in (t.0, handed_not p.seat_of other id n (λ e. apart_seats (sym t.1 ∙ e)) ∙ t.1);
     maker = r.maker;
   }
 
-  own_of : (entries : List E) (hs : Homes) (v : W) (h : Hand) → Stand entries hs v h Idle → OwnAreSeen list names origin_of entries v
+  own_of : (entries : List E) (hs : Homes) (v : W) (h : Hand) → Stand entries hs v h Idle → OwnAreSeen list names start_of entries v
   own_of entries hs v free s = s
   own_of entries hs v (held_by n) s = s.1
 
   -- what the seat of the shorter list had seen has all entries that name a number of its own
-  others_joined : (entries : List E) (v w : W) → OwnAreSeen list names origin_of entries v → OwnAreSeen list names origin_of entries w → (b : Bool)
+  others_joined : (entries : List E) (v w : W) → OwnAreSeen list names start_of entries v → OwnAreSeen list names start_of entries w → (b : Bool)
       → (n : ℕ) → HasElement (cond b v.numbers w.numbers) n → HasElement (v.numbers ++ w.numbers) n × ((k : ℕ) (e : E) → get_elem? entries k ≡ maybe.some e → names e ≡ n → k < length (cond b v.seen w.seen))
   others_joined entries v w a c true n has = (has_left v.numbers w.numbers n has, λ k e there name. a k e there (subst (HasElement v.numbers) (sym name) has))
   others_joined entries v w a c false n has = (has_right v.numbers w.numbers n has, λ k e there name. c k e there (subst (HasElement w.numbers) (sym name) has))
@@ -419,7 +419,7 @@ module _ {V E O : Type 0} (list : V → List E) (names : E → ℕ) (origin_of :
           seen = either_list (StartsWith p.entries) (ltb (length v.seen) (length w.seen)) w.seen v.seen b.seen a.seen;
           other_seen = either_list (StartsWith p.entries) (ltb (length v.seen) (length w.seen)) v.seen w.seen a.seen b.seen;
           others = others_joined p.entries v w (own_of p.entries s.homes v p.hand sa) (own_of p.entries s.homes w p.hand sb) (ltb (length v.seen) (length w.seen));
-          origin = a.origin;
+          start = a.start;
           numbers = λ n has. ⊎_elim (λ t. let m = a.numbers n t in (m.0, handed_not p.seat_of other id n (λ e. two (sym e ∙ m.1)) ∙ m.1)) (λ t. let m = b.numbers n t in (m.0, handed_on p.seat_of other id n m.1)) (has_append v.numbers w.numbers n has);
           maker = a.maker;
         }),
@@ -440,16 +440,16 @@ module _ {V E O : Type 0} (list : V → List E) (names : E → ℕ) (origin_of :
             (at_set (set s.views id x) other j spent u e);
       }
 
-  first_only : (hs : Homes) (id : ℕ) (v : W) → get_elem? hs 0 ≡ maybe.some (maybe.some None) → get_elem? (first_view start ∷ []) id ≡ maybe.some v → Fit record { entries = []; origin = start; given = 1; maker = 0; seat_of = λ _. 0; hand = held_by 0 } hs id v
-  first_only hs zero v empty e = subst (Fit record { entries = []; origin = start; given = 1; maker = 0; seat_of = λ _. 0; hand = held_by 0 } hs 0) (maybe.some-injective (first_view start) v e) (
-    (λ _. record { seen = ([], refl); other_seen = ([], refl); others = λ n has. absurd (no_others n has); origin = refl; numbers = λ n has. ((let z = one_of 0 n has in omega arith), refl); maker = λ _. (refl, refl) }),
+  first_only : (hs : Homes) (id : ℕ) (v : W) → get_elem? hs 0 ≡ maybe.some (maybe.some None) → get_elem? (first_view start ∷ []) id ≡ maybe.some v → Fit record { entries = []; start = start; given = 1; maker = 0; seat_of = λ _. 0; hand = held_by 0 } hs id v
+  first_only hs zero v empty e = subst (Fit record { entries = []; start = start; given = 1; maker = 0; seat_of = λ _. 0; hand = held_by 0 } hs 0) (maybe.some-injective (first_view start) v e) (
+    (λ _. record { seen = ([], refl); other_seen = ([], refl); others = λ n has. absurd (no_others n has); start = refl; numbers = λ n has. ((let z = one_of 0 n has in omega arith), refl); maker = λ _. (refl, refl) }),
     ((0, refl), refl, empty),
   )
   first_only hs (suc id) v empty e = absurd (maybe.some-ne-none v (sym e))
 
   pub opens : (hs : Homes) → get_elem? hs 0 ≡ maybe.some (maybe.some None) → 1 ≤ seats → Rule record { words = 1 ∷ 1 ∷ []; homes = hs; views = first_view start ∷ [] }
   opens hs empty some_seat = record {
-    account = record { entries = []; origin = start; given = 1; maker = 0; seat_of = λ _. 0; hand = held_by 0 };
+    account = record { entries = []; start = start; given = 1; maker = 0; seat_of = λ _. 0; hand = held_by 0 };
     wide = refl;
     turn_is = refl;
     count_is = refl;
@@ -463,5 +463,5 @@ module _ {V E O : Type 0} (list : V → List E) (names : E → ℕ) (origin_of :
 
   -- what is found in the slot at the end
   pub ended : (ws : List ℕ) (xs : List (Option V)) (found : Option V) (id : ℕ) (v : W) → Final (Seen Rule id v) ws xs → get_elem? xs 0 ≡ maybe.some found → v.stage ≡ Idle → ((n : ℕ) → n < seats → HasElement v.numbers n)
-      → (y : V) × (found ≡ Some y) × (list y ≡ v.seen) × (origin_of y ≡ start)
+      → (y : V) × (found ≡ Some y) × (list y ≡ v.seen) × (start_of y ≡ start)
   ended ws xs found id v f is away all = let t = closes f.0 id v f.1.0 f.1.1 away all in (t.0, maybe.some-injective found (Some t.0) (sym is ∙ f.4 0 (Some t.0) t.1), t.2, t.3)

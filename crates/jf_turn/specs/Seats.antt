@@ -6,16 +6,16 @@ use Rattle.jf_turn.specs.declared.view.Stage.{Stage}
 use Rattle.jf_turn.specs.declared.view.Stage.TheVariants.{Spent, Idle, Opening, Holding}
 use Rattle.jf_turn.specs.declared.view.SeatView.{SeatView}
 
--- which turn it is, its number of seats, and the origin of the value that it was made with
+-- which turn it is, its number of seats, and the start of the value that it was made with
 pub record TurnState (O : Type 0) : Type 0 where
   pub id : TableId
   pub seats : ℕ
-  pub origin : O
+  pub start : O
 
 -- the turn that it is a seat of, its own number, the numbers that it stands for, the entries that it has seen, and the list that it took, while it holds the turn
 pub record SeatState (E O : Type 0) : Type 0 where
   pub turn : TableId
-  pub origin : Option O
+  pub start : Option O
   pub number : ℕ
   pub numbers : List ℕ
   pub seen : List E
@@ -24,11 +24,11 @@ pub record SeatState (E O : Type 0) : Type 0 where
 module _ {E O : Type 0} where
   -- the seat is one of this turn's
   abbrev pub IsSeatOf : SeatState E O → TurnState O → Type 0
-  IsSeatOf s t = (s.turn ≡ t.id) × (s.origin ≡ Some t.origin)
+  IsSeatOf s t = (s.turn ≡ t.id) × (s.start ≡ Some t.start)
 
   -- a seat with this number, which has seen nothing and holds nothing
   abbrev pub new_seat : TurnState O → ℕ → SeatState E O
-  new_seat t n = record { turn = t.id; origin = Some t.origin; number = n; numbers = n ∷ []; seen = []; taken = None }
+  new_seat t n = record { turn = t.id; start = Some t.start; number = n; numbers = n ∷ []; seen = []; taken = None }
 
   -- new seats with the numbers from n on
   abbrev pub AreNewSeats : TurnState O → List (SeatState E O) → ℕ → Type 0
@@ -65,7 +65,7 @@ taken_at (Holding l) = Some l
 
 -- what clauses see of a view
 abbrev pub seat_state : {E O : Type 0} → TableId → SeatView E O → SeatState E O
-seat_state id v = record { turn = id; origin = v.origin; number = v.number; numbers = v.numbers; seen = v.seen; taken = taken_at v.stage }
+seat_state id v = record { turn = id; start = v.start; number = v.number; numbers = v.numbers; seen = v.seen; taken = taken_at v.stage }
 
 -- a seat is idle, or it holds the turn and has the slot, which is empty
 abbrev pub Carries : {E V : Type 0} → Stage E → List (ℕ × Option V) → Type 0
@@ -76,4 +76,4 @@ Carries (Holding l) c = c ≡ (0, None) ∷ []
 
 -- the seat that gives out numbers, when it has the last, n
 abbrev pub IsMaker : {E O : Type 0} → SeatView E O → O → ℕ → Type 0
-IsMaker v origin n = (v.stage ≡ Idle) × (v.is_maker ≡ true) × (v.number ≡ n) × (v.numbers ≡ n ∷ []) × (v.given ≡ n + 1) × (v.seen ≡ []) × (v.origin ≡ Some origin)
+IsMaker v start n = (v.stage ≡ Idle) × (v.is_maker ≡ true) × (v.number ≡ n) × (v.numbers ≡ n ∷ []) × (v.given ≡ n + 1) × (v.seen ≡ []) × (v.start ≡ Some start)

@@ -22,7 +22,7 @@ module _ {E O : Type 0} where
   abbrev pub minted : SeatView E O → SeatView E O
   minted v = record v { numbers = v.given ∷ v.numbers; given = v.given + 1 }
 
-module _ {V E O : Type 0} (list : V → List E) (names : E → ℕ) (origin_of : V → O) where
+module _ {V E O : Type 0} (list : V → List E) (names : E → ℕ) (start_of : V → O) where
   -- a seat's view, with what it has out of the slot
   abbrev Sat : Type 0
   Sat = Me (Option V) (SeatView E O)
@@ -33,7 +33,7 @@ module _ {V E O : Type 0} (list : V → List E) (names : E → ℕ) (origin_of :
   -- claim: the seat holds the turn, with the value y, or nothing changed
   abbrev pub turn_claimed : At → Sat → ℕ → Sat → Type 0
   turn_claimed st m r m' =
-      (r ≡ st.first → (y : V) × (m' ≡ (at_stage m.0 (Holding (list y)), (0, Some y) ∷ m.1)) × StartsWith (list y) m.0.seen × OwnAreSeen list names origin_of (list y) m.0 × (m.0.origin ≡ Some (origin_of y)) × (length (list y) ≤ 2 ^ 62))
+      (r ≡ st.first → (y : V) × (m' ≡ (at_stage m.0 (Holding (list y)), (0, Some y) ∷ m.1)) × StartsWith (list y) m.0.seen × OwnAreSeen list names start_of (list y) m.0 × (m.0.start ≡ Some (start_of y)) × (length (list y) ≤ 2 ^ 62))
       × (r ≢ st.first → m' ≡ m)
 
   -- birth: the first seat takes the empty slot
@@ -70,7 +70,7 @@ module _ {E O : Type 0} where
 
   -- seating: the new seat has the number that the maker had
   abbrev pub seat_right : SeatView E O → SeatView E O
-  seat_right v = record { number = v.number; numbers = v.number ∷ []; seen = v.seen; other_seen = []; other_numbers = []; stage = Idle; origin = v.origin; is_maker = false; given = 0 }
+  seat_right v = record { number = v.number; numbers = v.number ∷ []; seen = v.seen; other_seen = []; other_numbers = []; stage = Idle; start = v.start; is_maker = false; given = 0 }
 
   -- join: one seat stands for the numbers of both, and has seen the longer list
   abbrev pub views_joined : SeatView E O → SeatView E O → SeatView E O
@@ -78,4 +78,4 @@ module _ {E O : Type 0} where
 
   -- join: the other seat is spent
   abbrev pub spent : SeatView E O
-  spent = record { number = 0; numbers = []; seen = []; other_seen = []; other_numbers = []; stage = Spent; origin = None; is_maker = false; given = 0 }
+  spent = record { number = 0; numbers = []; seen = []; other_seen = []; other_numbers = []; stage = Spent; start = None; is_maker = false; given = 0 }

@@ -13,7 +13,7 @@ use atomic_table::Seat as Token;
 /// Puts the value into the slot that the token has.
 fn put_in<V: Told>(
     turn: &Turn<V>,
-    token: &mut Token<Option<V>, SeatView<V::Entry, V::Origin>>,
+    token: &mut Token<Option<V>, SeatView<V::Entry, V::Start>>,
     value: V,
 )
     requires own { token.old.table_id ≡ turn.now.id }
@@ -27,7 +27,7 @@ fn put_in<V: Told>(
 /// The first seat takes the slot, which is empty.
 pub(crate) fn begin<V: Told>(
     turn: &Turn<V>,
-    token: &mut Token<Option<V>, SeatView<V::Entry, V::Origin>>,
+    token: &mut Token<Option<V>, SeatView<V::Entry, V::Start>>,
 )
     requires own { token.old.table_id ≡ turn.now.id }
     requires opening { (token.old.me.0.stage ≡ Opening) × (token.old.me.1 ≡ []) }
@@ -40,13 +40,13 @@ pub(crate) fn begin<V: Told>(
 /// nobody can wait, and the system isn't asked.
 pub(crate) fn bring<V: Told>(
     turn: &Turn<V>,
-    token: &mut Token<Option<V>, SeatView<V::Entry, V::Origin>>,
+    token: &mut Token<Option<V>, SeatView<V::Entry, V::Start>>,
     value: V,
 )
     requires own { token.old.table_id ≡ turn.now.id }
     requires holds { (l : _) × (more : _) × (token.old.me.0.stage ≡ Holding l) × (V.list value ≡ l ++ more) × ((e : V.Entry) → HasElement more e → V.names e ≡ token.old.me.0.number) }
     requires empty { (token.old.me.1 ≡ (0, None) ∷ []) × HasElement token.old.me.0.numbers token.old.me.0.number }
-    requires origin { token.old.me.0.origin ≡ Some (V.origin value) }
+    requires start { token.old.me.0.start ≡ Some (V.start value) }
     requires few { length (V.list value) ≤ 4611686018427387904 }
     ensures { (token.new.table_id ≡ token.old.table_id) × (token.new.me ≡ (released_seat token.old.me.0 (V.list value), [])) }
 {

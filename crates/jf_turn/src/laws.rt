@@ -5,35 +5,35 @@ use crate::told::Told;
 
 /// A turn whose word is even has at home the value of its entries, and no seat holds it.
 pub fn free_turn_has_its_value<V: Told>()
-    ensures { FreeTurnHasItsValue V.list V.names V.origin }
+    ensures { FreeTurnHasItsValue V.list V.names V.start }
 {}
 
 /// At most one seat holds the turn.
 pub fn one_seat_holds<V: Told>()
-    ensures { OneSeatHolds V.list V.names V.origin }
+    ensures { OneSeatHolds V.list V.names V.start }
 {}
 
 /// The word of a held turn counts the list that its holder keeps, which begins with all that any seat has seen.
 pub fn holder_keeps_the_list<V: Told>()
-    ensures { HolderKeepsTheList V.list V.names V.origin }
+    ensures { HolderKeepsTheList V.list V.names V.start }
 {}
 
 /// Of what two seats have seen, one begins the other.
 pub fn seen_lists_agree<V: Told>()
-    ensures { SeenListsAgree V.list V.names V.origin }
+    ensures { SeenListsAgree V.list V.names V.start }
 {}
 
 /// No two seats stand for one number.
 pub fn seats_stand_apart<V: Told>()
-    ensures { SeatsStandApart V.list V.names V.origin }
+    ensures { SeatsStandApart V.list V.names V.start }
 {}
 
-/// The numbers that seats stand for and that entries name were given, and each seat has the turn's origin.
+/// The numbers that seats stand for and that entries name were given, and each seat has the turn's start.
 pub fn numbers_were_given<V: Told>()
-    ensures { NumbersWereGiven V.list V.names V.origin }
+    ensures { NumbersWereGiven V.list V.names V.start }
 {}
 
 /// A seat that holds nothing has seen each entry that names one of its numbers.
 pub fn own_entries_are_seen<V: Told>()
-    ensures { OwnEntriesAreSeen V.list V.names V.origin }
+    ensures { OwnEntriesAreSeen V.list V.names V.start }
 {}

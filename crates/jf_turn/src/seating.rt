@@ -15,8 +15,8 @@ use atomic_table::Seat as Token;
 /// Draws one more number for the maker, and makes a seat for the one that the maker had.
 pub(crate) fn make_seat<V: Told>(
     turn: &Turn<V>,
-    token: &mut Token<Option<V>, SeatView<V::Entry, V::Origin>>,
-) -> Token<Option<V>, SeatView<V::Entry, V::Origin>>
+    token: &mut Token<Option<V>, SeatView<V::Entry, V::Start>>,
+) -> Token<Option<V>, SeatView<V::Entry, V::Start>>
     requires own { token.old.table_id ≡ turn.now.id }
     requires idle { (token.old.me.0.stage ≡ Idle) × (token.old.me.1 ≡ []) }
     requires maker { (token.old.me.0.is_maker ≡ true) × (token.old.me.0.numbers ≡ token.old.me.0.number ∷ []) × (token.old.me.0.number < token.old.me.0.given) }
@@ -31,8 +31,8 @@ pub(crate) fn make_seat<V: Told>(
 /// Makes one token of two, which stands for the numbers of both.
 pub(crate) fn join<V: Told>(
     turn: &Turn<V>,
-    token: &mut Token<Option<V>, SeatView<V::Entry, V::Origin>>,
-    other: Token<Option<V>, SeatView<V::Entry, V::Origin>>,
+    token: &mut Token<Option<V>, SeatView<V::Entry, V::Start>>,
+    other: Token<Option<V>, SeatView<V::Entry, V::Start>>,
 )
     requires own { (token.old.table_id ≡ turn.now.id) × (other.table_id ≡ turn.now.id) }
     requires idle { (token.old.me.0.stage ≡ Idle) × (token.old.me.1 ≡ []) × (other.me.0.stage ≡ Idle) × (other.me.1 ≡ []) }

@@ -8,44 +8,44 @@ use atomic_table::{Join, Play, Split};
 /// A turn word that is even becomes odd.
 pub(crate) struct Claim;
 
-impl<V: Told> Play<Option<V>, SeatView<V::Entry, V::Origin>> for Claim {
-    ghost then = { turn_claimed V.list V.names V.origin };
+impl<V: Told> Play<Option<V>, SeatView<V::Entry, V::Start>> for Claim {
+    ghost then = { turn_claimed V.list V.names V.start };
 }
 
 /// The first seat takes the empty slot.
 pub(crate) struct Birth;
 
-impl<V: Told> Play<Option<V>, SeatView<V::Entry, V::Origin>> for Birth {
-    ghost then = { born V.list V.names V.origin };
+impl<V: Told> Play<Option<V>, SeatView<V::Entry, V::Start>> for Birth {
+    ghost then = { born V.list V.names V.start };
 }
 
 /// The word of a held turn counts the entries of the value that is to come home.
 pub(crate) struct Move;
 
-impl<V: Told> Play<Option<V>, SeatView<V::Entry, V::Origin>> for Move {
-    ghost then = { moved V.list V.names V.origin };
+impl<V: Told> Play<Option<V>, SeatView<V::Entry, V::Start>> for Move {
+    ghost then = { moved V.list V.names V.start };
 }
 
 /// The word becomes even, and the value is at home in the slot.
 pub(crate) struct Release;
 
-impl<V: Told> Play<Option<V>, SeatView<V::Entry, V::Origin>> for Release {
-    ghost then = { released V.list V.names V.origin };
+impl<V: Told> Play<Option<V>, SeatView<V::Entry, V::Start>> for Release {
+    ghost then = { released V.list V.names V.start };
 }
 
 /// The count of numbers rises by one.
 pub(crate) struct Number;
 
-impl<V: Told> Play<Option<V>, SeatView<V::Entry, V::Origin>> for Number {
-    ghost then = { seat_numbered V.list V.names V.origin };
+impl<V: Told> Play<Option<V>, SeatView<V::Entry, V::Start>> for Number {
+    ghost then = { seat_numbered V.list V.names V.start };
 }
 
 /// A load, by which a joined seat learns that the shorter list begins the longer, and that no entry after it names a
 /// number of the seat that had seen the shorter.
 pub(crate) struct Compare;
 
-impl<V: Told> Play<Option<V>, SeatView<V::Entry, V::Origin>> for Compare {
-    ghost then = { compared V.list V.names V.origin };
+impl<V: Told> Play<Option<V>, SeatView<V::Entry, V::Start>> for Compare {
+    ghost then = { compared V.list V.names V.start };
 }
 
 /// A load that makes a seat, for the number that the maker had.

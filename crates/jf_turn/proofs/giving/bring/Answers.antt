@@ -13,8 +13,8 @@ store-requires g c =
 
 pub store-requires-2 : goal.store-requires-2
 store-requires-2 g c =
-    let words = c.turn.invariant.0 in let slots = c.turn.invariant.1 in let before = ap (λ m. m.0.origin) c.put_in.ensures.1 ∙ c.requires.origin in let e = c.store.ensures.2 c.args.value (ap (λ m. m.1) c.put_in.ensures.1) in (
+    let words = c.turn.invariant.0 in let slots = c.turn.invariant.1 in let before = ap (λ m. m.0.start) c.put_in.ensures.1 ∙ c.requires.start in let e = c.store.ensures.2 c.args.value (ap (λ m. m.1) c.put_in.ensures.1) in (
       search rules,
       omega arith,
-      releases _ _ _ _ _ _ _ _ c.args.value _ (ap (λ m. m.0.stage) e) (ap (λ m. m.1) e ∙ ap (λ m. m.1) c.put_in.ensures.1) (ap (λ m. m.0.origin) e ∙ before) (ap (λ n. 2 * n) c.told-count.ensures) (omega arith),
+      releases _ _ _ _ _ _ _ _ c.args.value _ (ap (λ m. m.0.stage) e) (ap (λ m. m.1) e ∙ ap (λ m. m.1) c.put_in.ensures.1) (ap (λ m. m.0.start) e ∙ before) (ap (λ n. 2 * n) c.told-count.ensures) (omega arith),
     )

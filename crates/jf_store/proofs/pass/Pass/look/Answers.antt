@@ -24,9 +24,9 @@ invariant_of-self g c =
     let start = c.args.store.now.start in
     let s = c.self.inside.seat in
     let v = c.take_out-vault.result.value in
-    let origin : s.origin ≡ Some start = ap (λ (p : Pass). p.start) c.self.view_is ∙ c.requires.1 in
-    let began : v.start ≡ start = c.take_out-vault.ensures.origin ∙ ap (λ (t : Store). t.start) c.store.view_is in
-    let known = c.self.invariant.0.events start origin in
+    let starts : s.start ≡ Some start = ap (λ (p : Pass). p.start) c.self.view_is ∙ c.requires.1 in
+    let began : v.start ≡ start = c.take_out-vault.ensures.start ∙ ap (λ (t : Store). t.start) c.store.view_is in
+    let known = c.self.invariant.0.events start starts in
     let h : HasPassed s c.give_back-self-inside.new.seat c.self.inside.pins v v start = record {
       is = c.self.invariant.0;
       after = c.give_back-self-inside.ensures.seat ∙ ap (λ (t : SeatState Event Start). giving t v.events) c.take_out-vault.ensures.takes;
@@ -34,14 +34,14 @@ invariant_of-self g c =
       begins = c.take_out-vault.ensures.begins;
       others = c.take_out-vault.ensures.others;
     } in
-    (IsPass-passed s c.give_back-self-inside.new.seat c.self.inside.pins v v start h c.give_back-self-inside.ensures.events refl origin known.1 known.2, IsCounted-passed s c.give_back-self-inside.new.seat c.self.inside.pins v v start h c.give_back-self-inside.result c.give_back-self-inside.ensures.counted)
+    (IsPass-passed s c.give_back-self-inside.new.seat c.self.inside.pins v v start h c.give_back-self-inside.ensures.events refl starts known.1 known.2, IsCounted-passed s c.give_back-self-inside.new.seat c.self.inside.pins v v start h c.give_back-self-inside.result c.give_back-self-inside.ensures.counted)
 
 pub returns-clause-sees : goal.returns-clause-sees
 returns-clause-sees g c =
     let start = c.args.store.now.start in
     let s = c.self.inside.seat in
     let v = c.take_out-vault.result.value in
-    let began : v.start ≡ start = c.take_out-vault.ensures.origin ∙ ap (λ (t : Store). t.start) c.store.view_is in
+    let began : v.start ≡ start = c.take_out-vault.ensures.start ∙ ap (λ (t : Store). t.start) c.store.view_is in
     let h : HasPassed s c.give_back-self-inside.new.seat c.self.inside.pins v v start = record {
       is = c.self.invariant.0;
       after = c.give_back-self-inside.ensures.seat ∙ ap (λ (t : SeatState Event Start). giving t v.events) c.take_out-vault.ensures.takes;
@@ -55,7 +55,7 @@ pub returns-clause-look : goal.returns-clause-look
 returns-clause-look g c =
     let start = c.args.store.now.start in
     let v = c.take_out-vault.result.value in
-    let began : v.start ≡ start = c.take_out-vault.ensures.origin ∙ ap (λ (t : Store). t.start) c.store.view_is in
+    let began : v.start ≡ start = c.take_out-vault.ensures.start ∙ ap (λ (t : Store). t.start) c.store.view_is in
     let seen : c.give_back-self-inside.new.seat.seen ≡ v.events = ap (λ (t : SeatState Event Start). t.seen) c.give_back-self-inside.ensures.seat in
     subst (λ (es : List Event). IfOk c.look-look.result (IsLook (state_after_events start es))) (sym seen)
     (subst (λ (t : Start). IfOk c.look-look.result (IsLook (state_after_events t v.events))) began (subst (λ (u : Vault). IfOk c.look-look.result (IsLook (state_after_events u.start u.events))) c.deref.ensures c.look-look.ensures.look))
@@ -64,7 +64,7 @@ pub returns-clause-refused : goal.returns-clause-refused
 returns-clause-refused g c =
     let start = c.args.store.now.start in
     let v = c.take_out-vault.result.value in
-    let began : v.start ≡ start = c.take_out-vault.ensures.origin ∙ ap (λ (t : Store). t.start) c.store.view_is in
+    let began : v.start ≡ start = c.take_out-vault.ensures.start ∙ ap (λ (t : Store). t.start) c.store.view_is in
     let seen : c.give_back-self-inside.new.seat.seen ≡ v.events = ap (λ (t : SeatState Event Start). t.seen) c.give_back-self-inside.ensures.seat in
     subst (λ (es : List Event). IfErr c.look-look.result (IsRefusal (look_faults start es))) (sym seen)
     (subst (λ (t : Start). IfErr c.look-look.result (IsRefusal (look_faults t v.events))) began (subst (λ (u : Vault). IfErr c.look-look.result (IsRefusal (look_faults u.start u.events))) c.deref.ensures c.look-look.ensures.refused))
@@ -73,7 +73,7 @@ pub returns-clause-granted : goal.returns-clause-granted
 returns-clause-granted g c =
     let start = c.args.store.now.start in
     let v = c.take_out-vault.result.value in
-    let began : v.start ≡ start = c.take_out-vault.ensures.origin ∙ ap (λ (t : Store). t.start) c.store.view_is in
+    let began : v.start ≡ start = c.take_out-vault.ensures.start ∙ ap (λ (t : Store). t.start) c.store.view_is in
     let seen : c.give_back-self-inside.new.seat.seen ≡ v.events = ap (λ (t : SeatState Event Start). t.seen) c.give_back-self-inside.ensures.seat in
     subst (λ (es : List Event). OnOk c.look-look.result (first_of (look_faults start es) ≡ None)) (sym seen)
     (subst (λ (t : Start). OnOk c.look-look.result (first_of (look_faults t v.events) ≡ None)) began (subst (λ (u : Vault). OnOk c.look-look.result (first_of (look_faults u.start u.events) ≡ None)) c.deref.ensures c.look-look.ensures.granted))

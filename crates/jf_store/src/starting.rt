@@ -1,14 +1,14 @@
-// The beginning of a shared store.
+// How a shared store starts.
 ghost use Rattle.std.specs.Prelude.{◌≡◌, ℕ, ◌+◌, ◌<◌, ◌≤◌, [], length, IfOk, IfErr, false, vec_capacity};
 ghost use Rattle.jf_turn.specs.Seats.{AreNewSeats};
 ghost use Rattle.jf_board.specs.States.{AreNewPlaces};
 ghost use Rattle.jf_store.specs.Starts.{start_with};
 ghost use Rattle.jf_store.specs.Passes.{AreNewPasses, store_of};
 
-use crate::beginning::Beginning;
 use crate::boxed_vault::BoxedVault;
 use crate::pass::Pass;
 use crate::pins::Pins;
+use crate::start::StartNote;
 use crate::store::Store;
 use crate::vault::Vault;
 use jf_board::{Board, Place};
@@ -33,9 +33,9 @@ fn passes_of<D: Disk>(
 ) -> Vec<Pass<D>>
     requires seats { AreNewSeats turn.now seats.items 0 }
     requires places { AreNewPlaces board.now places.items 0 }
-    requires board { board.now ≡ turn.now.origin.board }
+    requires board { board.now ≡ turn.now.start.board }
     requires each { length places.items ≡ length seats.items }
-    requires few { length seats.items ≤ turn.now.origin.passes }
+    requires few { length seats.items ≤ turn.now.start.passes }
     requires empty { all.items ≡ [] }
     requires room { length seats.items ≤ vec_capacity all }
     ensures many { length result.items ≡ length seats.items }
@@ -65,7 +65,7 @@ fn turn_of<D: Disk>(
 ) -> Result<(Turn<BoxedVault<D>>, Vec<Seat<BoxedVault<D>>>), StoreRefused<D>>
     requires passes { (1 ≤ passes) × (passes ≤ 16) }
     requires new { vault.events ≡ [] }
-    ensures turn { IfOk result (λ r. (r.0.seats ≡ passes) × (r.0.origin ≡ vault.start)) }
+    ensures turn { IfOk result (λ r. (r.0.seats ≡ passes) × (r.0.start ≡ vault.start)) }
     ensures seats { IfOk result (λ r. (length r.1.items ≡ passes) × AreNewSeats r.0 r.1.items 0) }
     ensures engine { IfErr result (λ e. e.engine ≡ vault.engine) }
 {
@@ -104,11 +104,11 @@ impl<D: Disk> Store<D> {
         let Ok(all) = Vec::with_capacity(alloc, passes as usize) else {
             return Err(StoreRefused { engine });
         };
-        let beginning = Beginning::of(&engine, passes);
+        let start_note = StartNote::of(&engine, passes);
         let Ok((board, places, pruner)) = Board::new(alloc, passes, engine.state().floor) else {
             return Err(StoreRefused { engine });
         };
-        let vault = Vault::begin(alloc, engine, beginning, pruner);
+        let vault = Vault::begin(alloc, engine, start_note, pruner);
         let (turn, seats) = turn_of(alloc, vault, passes)?;
         let all = passes_of(&turn, &board, seats, places, all);
         Ok((Store { turn, board }, all))
