@@ -1,19 +1,23 @@
 -- What holds of every answer.
 use Rattle.std.specs.Prelude.{◌≡◌, Option, Some, None, Bool, true, false, cond, ℕ, zero, suc, List, [], ◌∷◌, slice_set, IfSome, IsTrue}
-use Rattle.std.proofs.Common.{refl, ap, sym, ◌∙◌}
+use Rattle.std.proofs.Common.{refl, ap, sym, subst, ◌∙◌}
 use Rattle.std.specs.List.{AllByRecursion}
 use Rattle.jf_model.specs.States.{State}
 use Rattle.jf_model.specs.declared.entries.Entry.{Entry}
 use Rattle.jf_model.specs.Entries.{after, owner_of, timeless}
 use Rattle.jf_model.specs.declared.entries.Entry.TheVariants as entry
 use Rattle.jf_text.specs.Words.{is_long}
+use Rattle.jf_script.specs.declared.command.OwnCommand.{OwnCommand}
+use Rattle.jf_script.specs.declared.command.Change.{Change}
 use Rattle.jf_script.specs.declared.command.Command.{Command}
 use Rattle.jf_script.specs.declared.reply.Refusal.{Refusal}
 use Rattle.jf_script.specs.Commands.{command_of}
+use Rattle.jf_script.specs.declared.command.OwnCommand.TheVariants as own_command
+use Rattle.jf_script.specs.declared.command.Change.TheVariants as change
 use Rattle.jf_script.specs.declared.command.Command.TheVariants as command
 use Rattle.jf_script.specs.declared.reply.Reply.TheVariants as reply
 use Rattle.jf_answers.specs.Own.{Own, free_place}
-use Rattle.jf_answers.specs.Answers.{Answer, granted, replied, answer_command, answer_to, answer, too_long, retired_below}
+use Rattle.jf_answers.specs.Answers.{Answer, granted_own, granted_change, granted, replied, answer_command, answer_to, answer, too_long, retired_below}
 use Rattle.jf_answers.specs.Prunings.{next_floor}
 use Rattle.jf_answers.specs.Refusals.{refused_by}
 use Rattle.jf_answers.specs.OwnLines.{pin_of_command, pin_of}
@@ -44,24 +48,26 @@ pub record IsSoundAnswer (s : State) (own : Own) (a : Answer) : Type 0 where
   pub number : a.own.number ≡ own.number
 
 -- ---- single answers
+sound_own : (c : OwnCommand) (s : State) (own : Own) → IsSoundAnswer s own (granted_own c s own)
+sound_own (own_command.Put name value) s own = record { follows = refl; number = refl }
+sound_own (own_command.Del name) s own = record { follows = refl; number = refl }
+sound_own (own_command.Unpin place) s own = record { follows = refl; number = refl }
+
+sound_change : (c : Change) (s : State) (own : Own) → IsSoundAnswer s own (granted_change c s own)
+sound_change change.Commit s own = record { follows = record { state = refl; owned = refl; undated = refl; pruned_so = tt }; number = refl }
+sound_change (change.Fork on) s own = record { follows = record { state = refl; owned = refl; undated = refl; pruned_so = tt }; number = refl }
+sound_change (change.Land id) s own = record { follows = record { state = refl; owned = refl; undated = refl; pruned_so = tt }; number = refl }
+sound_change (change.Drop id) s own = record { follows = record { state = refl; owned = refl; undated = refl; pruned_so = tt }; number = refl }
+sound_change (change.Prune upto) s own = record { follows = record { state = refl; owned = refl; undated = refl; pruned_so = refl }; number = refl }
+sound_change change.Compact s own = record { follows = record { state = refl; owned = refl; undated = refl; pruned_so = tt }; number = refl }
+
 sound_granted : (c : Command) (s : State) (own : Own) → IsSoundAnswer s own (granted c s own)
-sound_granted (command.Put name value) s own = record { follows = refl; number = refl }
-sound_granted (command.Del name) s own = record { follows = refl; number = refl }
-sound_granted command.Commit s own = record { follows = record { state = refl; owned = refl; undated = refl; pruned_so = tt }; number = refl }
-sound_granted (command.Fork on) s own = record { follows = record { state = refl; owned = refl; undated = refl; pruned_so = tt }; number = refl }
-sound_granted (command.Land id) s own = record { follows = record { state = refl; owned = refl; undated = refl; pruned_so = tt }; number = refl }
-sound_granted (command.Drop id) s own = record { follows = record { state = refl; owned = refl; undated = refl; pruned_so = tt }; number = refl }
-sound_granted (command.Get on name) s own = record { follows = refl; number = refl }
-sound_granted (command.Root on) s own = record { follows = refl; number = refl }
-sound_granted (command.Prove on name) s own = record { follows = refl; number = refl }
-sound_granted (command.Chunk on start count) s own = record { follows = refl; number = refl }
-sound_granted (command.Count on) s own = record { follows = refl; number = refl }
-sound_granted (command.Nth on place) s own = record { follows = refl; number = refl }
+sound_granted (command.Own c) s own = sound_own c s own
+sound_granted (command.Read on q) s own = record { follows = refl; number = refl }
+sound_granted (command.ReadFork id q) s own = record { follows = refl; number = refl }
+sound_granted command.Look s own = record { follows = refl; number = refl }
 sound_granted (command.Pin version) s own = record { follows = refl; number = refl }
-sound_granted (command.Unpin place) s own = record { follows = refl; number = refl }
-sound_granted (command.Prune upto) s own = record { follows = record { state = refl; owned = refl; undated = refl; pruned_so = refl }; number = refl }
-sound_granted command.Compact s own = record { follows = record { state = refl; owned = refl; undated = refl; pruned_so = tt }; number = refl }
-sound_granted command.Status s own = record { follows = refl; number = refl }
+sound_granted (command.Change c) s own = sound_change c s own
 
 sound_command : (o : Option Refusal) (c : Command) (s : State) (own : Own) → IsSoundAnswer s own (elim o as (λ x. Answer) [ Some why ↦ replied (reply.No why) s own | None ↦ granted c s own ])
 sound_command None c s own = sound_granted c s own
@@ -97,25 +103,34 @@ all_set Q [] i x h q = tt
 all_set Q (y ∷ ys) zero x h q = (q, h.1)
 all_set Q (y ∷ ys) (suc i) x h q = (h.0, all_set Q ys i x h.1 q)
 
+-- a command on the own part gives no entry
+pub granted_own-quiet : (c : OwnCommand) (s : State) (own : Own) → (granted_own c s own).entry ≡ None
+granted_own-quiet (own_command.Put name value) s own = refl
+granted_own-quiet (own_command.Del name) s own = refl
+granted_own-quiet (own_command.Unpin place) s own = refl
+
+-- a command that gives an entry leaves the pins
+pub granted_change-pins : (c : Change) (s : State) (own : Own) → (granted_change c s own).own.pins ≡ own.pins
+granted_change-pins change.Commit s own = refl
+granted_change-pins (change.Fork on) s own = refl
+granted_change-pins (change.Land id) s own = refl
+granted_change-pins (change.Drop id) s own = refl
+granted_change-pins (change.Prune upto) s own = refl
+granted_change-pins change.Compact s own = refl
+
 module _ (P : ℕ → Type 0) where
+  pins_own : (c : OwnCommand) (s : State) (own : Own) → EachPin P own → EachPin P (granted_own c s own).own
+  pins_own (own_command.Put name value) s own h = h
+  pins_own (own_command.Del name) s own h = h
+  pins_own (own_command.Unpin place) s own h = all_set (λ pin. IfSome pin P) own.pins place None h tt
+
   pins_granted : (c : Command) (s : State) (own : Own) → IfSome (pin_of_command (Some c)) P → EachPin P own → EachPin P (granted c s own).own
-  pins_granted (command.Put name value) s own named h = h
-  pins_granted (command.Del name) s own named h = h
-  pins_granted command.Commit s own named h = h
-  pins_granted (command.Fork on) s own named h = h
-  pins_granted (command.Land id) s own named h = h
-  pins_granted (command.Drop id) s own named h = h
-  pins_granted (command.Get on name) s own named h = h
-  pins_granted (command.Root on) s own named h = h
-  pins_granted (command.Prove on name) s own named h = h
-  pins_granted (command.Chunk on start count) s own named h = h
-  pins_granted (command.Count on) s own named h = h
-  pins_granted (command.Nth on place) s own named h = h
+  pins_granted (command.Own c) s own named h = pins_own c s own h
+  pins_granted (command.Read on q) s own named h = h
+  pins_granted (command.ReadFork id q) s own named h = h
+  pins_granted command.Look s own named h = h
   pins_granted (command.Pin version) s own named h = all_set (λ pin. IfSome pin P) own.pins (free_place own) (Some version) h named
-  pins_granted (command.Unpin place) s own named h = all_set (λ pin. IfSome pin P) own.pins place None h tt
-  pins_granted (command.Prune upto) s own named h = h
-  pins_granted command.Compact s own named h = h
-  pins_granted command.Status s own named h = h
+  pins_granted (command.Change c) s own named h = subst (λ (ps : List (Option ℕ)). AllByRecursion (λ pin. IfSome pin P) ps) (sym (granted_change-pins c s own)) h
 
   pins_command : (o : Option Refusal) (c : Command) (s : State) (own : Own) → IfSome (pin_of_command (Some c)) P → EachPin P own
       → EachPin P (elim o as (λ x. Answer) [ Some why ↦ replied (reply.No why) s own | None ↦ granted c s own ]).own

@@ -4,6 +4,7 @@ use Rattle.std.proofs.Common.{refl, sym, ap, arith}
 use Rattle.std.proofs.lemmas.Bool.Decides.{nat_tests}
 use Rattle.std.specs.List.{AllByRecursion}
 use Rattle.jf_path.specs.Checks.{first_of}
+use Rattle.jf_path.specs.Limits.{max_forks}
 use Rattle.jf_hash.specs.Maps.{IsBatch}
 use Rattle.jf_hash.specs.Roots.{root}
 use Rattle.jf_model.proofs.VersionLaws.{land_all-newest}
@@ -11,17 +12,21 @@ use Rattle.jf_model.specs.Forks.{is_among}
 use Rattle.jf_model.specs.States.{State, IsState}
 use Rattle.jf_model.specs.Entries.{IsLegal, landed_batches}
 use Rattle.jf_model.specs.declared.entries.Landing.TheVariants as landing
+use Rattle.jf_model.specs.declared.entries.Parent.{Parent}
+use Rattle.jf_model.specs.declared.entries.Parent.TheVariants as parent
 use Rattle.jf_text.specs.Words.{is_long}
 use Rattle.jf_script.specs.Commands.{command_of}
-use Rattle.jf_script.specs.declared.command.Base.{Base}
-use Rattle.jf_script.specs.declared.command.Base.TheVariants as base
+use Rattle.jf_script.specs.declared.command.OwnCommand.{OwnCommand}
+use Rattle.jf_script.specs.declared.command.Change.{Change}
 use Rattle.jf_script.specs.declared.command.Command.{Command}
+use Rattle.jf_script.specs.declared.command.OwnCommand.TheVariants as own_command
+use Rattle.jf_script.specs.declared.command.Change.TheVariants as change
 use Rattle.jf_script.specs.declared.command.Command.TheVariants as command
 use Rattle.jf_script.specs.declared.reply.Refusal.{Refusal}
 use Rattle.jf_script.specs.declared.reply.Reply.TheVariants as reply
 use Rattle.jf_answers.specs.Own.{Own}
 use Rattle.jf_answers.specs.Refusals.{Causes, causes, refused_by}
-use Rattle.jf_answers.specs.Answers.{Answer, granted, replied, answer_command, answer_to, answer}
+use Rattle.jf_answers.specs.Answers.{Answer, forked, granted_own, granted_change, granted, replied, answer_command, answer_to, answer}
 use Rattle.jf_answers.specs.Laws.{AnswersAreLegal}
 use Rattle.jf_answers.proofs.Pins.{below-le}
 
@@ -49,23 +54,27 @@ there false e = absurd (cc)
 abbrev NonePass : State → Own → Command → Type 0
 NonePass s own c = AllByRecursion (λ x. x.0 ≡ false) (causes s own c)
 
--- a fork is made on a parent that is there
 module _ (s : State) (own : Own) (pending : IsBatch own.pending) where
-  made_legal : (on : Base) → NonePass s own (command.Fork on) → IfSome (granted (command.Fork on) s own).entry (IsLegal s)
-  made_legal base.Head h = (below (2 ^ 62) s.count h.0, record { next = refl; stands = refl; room = below 1024 _ h.1.0; sound = pending; rooted = refl })
-  made_legal (base.Version w) h = (below (2 ^ 62) s.count h.0, record { next = refl; stands = refl; room = below 1024 _ h.1.0; sound = pending; rooted = refl })
-  made_legal (base.Fork id) h = (below (2 ^ 62) s.count h.0, record { next = refl; stands = there (is_among id s.forks) h.1.1.0; room = below 1024 _ h.1.1.1.0; sound = pending; rooted = refl })
-  made_legal (base.Place place) h = (below (2 ^ 62) s.count h.0, record { next = refl; stands = refl; room = below 1024 _ h.1.0; sound = pending; rooted = refl })
+  own_legal : (c : OwnCommand) → IfSome (granted_own c s own).entry (IsLegal s)
+  own_legal (own_command.Put name value) = tt
+  own_legal (own_command.Del name) = tt
+  own_legal (own_command.Unpin place) = tt
 
-  granted_legal : (c : Command) → IsState s → NonePass s own c → IfSome (granted c s own).entry (IsLegal s)
-  granted_legal (command.Put name value) sound h = tt
-  granted_legal (command.Del name) sound h = tt
-  granted_legal command.Commit sound h = (
+  -- a fork is made on a parent that is there
+  made_legal : (on : Parent) → NonePass s own (command.Change (change.Fork on)) → IfSome (forked on s own).entry (IsLegal s)
+  made_legal parent.Head h = (below (2 ^ 62) s.count h.0, record { next = refl; stands = refl; room = below max_forks _ h.1.0; sound = pending; rooted = refl })
+  made_legal (parent.Fork id) h = (
+    below (2 ^ 62) s.count h.0,
+    record { next = refl; stands = there (is_among id s.forks) h.1.1.0; room = below max_forks _ h.1.1.1.0; sound = pending; rooted = refl },
+  )
+
+  change_legal : (c : Change) → IsState s → NonePass s own (command.Change c) → IfSome (granted_change c s own).entry (IsLegal s)
+  change_legal change.Commit sound h = (
     below (2 ^ 62) s.count h.0,
     record { may = pending; small = at_most (2 ^ 62) _ h.1.1.0; next = refl; bounded = at_most _ _ h.1.0; rooted = refl },
   )
-  granted_legal (command.Fork on) sound h = made_legal on h
-  granted_legal (command.Land id) sound h = (
+  change_legal (change.Fork on) sound h = made_legal on h
+  change_legal (change.Land id) sound h = (
     below (2 ^ 62) s.count h.0,
     record {
       may = (there (is_among id s.forks) h.1.1.0, at_most 10000 _ h.1.1.1.0);
@@ -75,23 +84,22 @@ module _ (s : State) (own : Own) (pending : IsBatch own.pending) where
       rooted = ap root (sym (land_all-newest (landed_batches s (landing.Fork id)) s.all));
     },
   )
-  granted_legal (command.Drop id) sound h = (below (2 ^ 62) s.count h.0, there (is_among id s.forks) h.1.1.0)
-  granted_legal (command.Get on name) sound h = tt
-  granted_legal (command.Root on) sound h = tt
-  granted_legal (command.Prove on name) sound h = tt
-  granted_legal (command.Chunk on start count) sound h = tt
-  granted_legal (command.Count on) sound h = tt
-  granted_legal (command.Nth on place) sound h = tt
-  granted_legal (command.Pin version) sound h = tt
-  granted_legal (command.Unpin place) sound h = tt
-  granted_legal (command.Prune upto) sound h =
+  change_legal (change.Drop id) sound h = (below (2 ^ 62) s.count h.0, there (is_among id s.forks) h.1.1.0)
+  change_legal (change.Prune upto) sound h =
       let high = at_most s.all.head upto h.1.0 in
       let low = at_most upto s.retired h.1.1.0 in
       let floor = sound.floor_low in
       let least = below-le upto own.pins in
       (below (2 ^ 62) s.count h.0, record { rises = low; within = high; floor_rises = omega arith; below = omega arith })
-  granted_legal command.Compact sound h = let high = below _ s.generation h.1.0 in (below (2 ^ 62) s.count h.0, (refl, omega arith))
-  granted_legal command.Status sound h = tt
+  change_legal change.Compact sound h = let high = below _ s.generation h.1.0 in (below (2 ^ 62) s.count h.0, (refl, omega arith))
+
+  granted_legal : (c : Command) → IsState s → NonePass s own c → IfSome (granted c s own).entry (IsLegal s)
+  granted_legal (command.Own c) sound h = own_legal c
+  granted_legal (command.Read on q) sound h = tt
+  granted_legal (command.ReadFork id q) sound h = tt
+  granted_legal command.Look sound h = tt
+  granted_legal (command.Pin version) sound h = tt
+  granted_legal (command.Change c) sound h = change_legal c sound h
 
   command_legal : (o : Option Refusal) (c : Command) → IsState s → (o ≡ None → NonePass s own c) → IfSome (elim o as (λ x. Answer) [ Some why ↦ replied (reply.No why) s own | None ↦ granted c s own ]).entry (IsLegal s)
   command_legal None c sound h = granted_legal c sound (h refl)

@@ -11,13 +11,17 @@ use Rattle.jf_model.specs.declared.entries.Entry.{Entry}
 use Rattle.jf_model.proofs.EntryLaws.{after-IsState}
 use Rattle.jf_text.specs.Words.{is_long}
 use Rattle.jf_script.specs.Commands.{command_of}
+use Rattle.jf_script.specs.declared.command.OwnCommand.{OwnCommand}
+use Rattle.jf_script.specs.declared.command.Change.{Change}
 use Rattle.jf_script.specs.declared.command.Command.{Command}
+use Rattle.jf_script.specs.declared.command.OwnCommand.TheVariants as own_command
+use Rattle.jf_script.specs.declared.command.Change.TheVariants as change
 use Rattle.jf_script.specs.declared.command.Command.TheVariants as command
 use Rattle.jf_script.specs.declared.reply.Refusal.{Refusal}
 use Rattle.jf_script.specs.declared.reply.Reply.TheVariants as reply
 use Rattle.jf_answers.specs.Own.{Own, begun_session}
 use Rattle.jf_answers.specs.Refusals.{refused_by}
-use Rattle.jf_answers.specs.Answers.{Answer, granted, replied, answer_to, answer}
+use Rattle.jf_answers.specs.Answers.{Answer, granted_own, granted_change, granted, replied, answer_to, answer}
 use Rattle.jf_answers.specs.Runs.{answers_from, run_entries}
 use Rattle.jf_answers.specs.Laws.{RunsAreLegal}
 use Rattle.jf_answers.proofs.AnswerLaws.{Follows, answer-IsSoundAnswer}
@@ -30,24 +34,26 @@ abbrev Keeps : Answer → Type 0
 Keeps a = IsBatch a.own.pending
 
 module _ (s : State) (own : Own) (pending : IsBatch own.pending) where
+  own_keeps : (c : OwnCommand) → PutsBytes (command.Own c) → Keeps (granted_own c s own)
+  own_keeps (own_command.Put name value) bytes = IsBatch-put (K name) (Some value) own.pending (K-IsKey name) bytes pending
+  own_keeps (own_command.Del name) bytes = IsBatch-put (K name) None own.pending (K-IsKey name) tt pending
+  own_keeps (own_command.Unpin place) bytes = pending
+
+  change_keeps : (c : Change) → Keeps (granted_change c s own)
+  change_keeps change.Commit = IsBatch-none
+  change_keeps (change.Fork on) = IsBatch-none
+  change_keeps (change.Land id) = pending
+  change_keeps (change.Drop id) = pending
+  change_keeps (change.Prune upto) = pending
+  change_keeps change.Compact = pending
+
   granted_keeps : (c : Command) → PutsBytes c → Keeps (granted c s own)
-  granted_keeps (command.Put name value) bytes = IsBatch-put (K name) (Some value) own.pending (K-IsKey name) bytes pending
-  granted_keeps (command.Del name) bytes = IsBatch-put (K name) None own.pending (K-IsKey name) tt pending
-  granted_keeps command.Commit bytes = IsBatch-none
-  granted_keeps (command.Fork on) bytes = IsBatch-none
-  granted_keeps (command.Land id) bytes = pending
-  granted_keeps (command.Drop id) bytes = pending
-  granted_keeps (command.Get on name) bytes = pending
-  granted_keeps (command.Root on) bytes = pending
-  granted_keeps (command.Prove on name) bytes = pending
-  granted_keeps (command.Chunk on start count) bytes = pending
-  granted_keeps (command.Count on) bytes = pending
-  granted_keeps (command.Nth on place) bytes = pending
+  granted_keeps (command.Own c) bytes = own_keeps c bytes
+  granted_keeps (command.Read on q) bytes = pending
+  granted_keeps (command.ReadFork id q) bytes = pending
+  granted_keeps command.Look bytes = pending
   granted_keeps (command.Pin version) bytes = pending
-  granted_keeps (command.Unpin place) bytes = pending
-  granted_keeps (command.Prune upto) bytes = pending
-  granted_keeps command.Compact bytes = pending
-  granted_keeps command.Status bytes = pending
+  granted_keeps (command.Change c) bytes = change_keeps c
 
   command_keeps : (o : Option Refusal) (c : Command) → PutsBytes c → Keeps (elim o as (λ x. Answer) [ Some why ↦ replied (reply.No why) s own | None ↦ granted c s own ])
   command_keeps None c bytes = granted_keeps c bytes

@@ -5,6 +5,7 @@ use Rattle.jf_path.specs.Keys.{IsBytes}
 use Rattle.jf_path.specs.Limits.{max_value}
 use Rattle.jf_text.specs.Words.{both, digit, byte_of, unhex, bytes_within, value_of}
 use Rattle.jf_script.specs.declared.command.Command.{Command}
+use Rattle.jf_script.specs.declared.command.OwnCommand.TheVariants as own_command
 use Rattle.jf_script.specs.declared.command.Command.TheVariants as command
 use Rattle.jf_script.specs.Commands.{command_of}
 use Rattle.jf_script.proofs.EachCommand.{OfEachCommand, command_of-each}
@@ -53,23 +54,8 @@ value_of-IsBytes (sign ∷ digits) = some_chosen (sign == 61) (bytes_within 0 ma
 -- ---- commands
 -- the value that a command puts is bytes
 abbrev pub PutsBytes : Command → Type 0
-PutsBytes (command.Put name value) = IsBytes value
-PutsBytes (command.Del name) = Unit {0}
-PutsBytes command.Commit = Unit {0}
-PutsBytes (command.Fork on) = Unit {0}
-PutsBytes (command.Land id) = Unit {0}
-PutsBytes (command.Drop id) = Unit {0}
-PutsBytes (command.Get on name) = Unit {0}
-PutsBytes (command.Root on) = Unit {0}
-PutsBytes (command.Prove on name) = Unit {0}
-PutsBytes (command.Chunk on start count) = Unit {0}
-PutsBytes (command.Count on) = Unit {0}
-PutsBytes (command.Nth on place) = Unit {0}
-PutsBytes (command.Pin version) = Unit {0}
-PutsBytes (command.Unpin place) = Unit {0}
-PutsBytes (command.Prune upto) = Unit {0}
-PutsBytes command.Compact = Unit {0}
-PutsBytes command.Status = Unit {0}
+PutsBytes (command.Own (own_command.Put name value)) = IsBytes value
+PutsBytes c = Unit {0}
 
 value_put : (w value : List ℕ) → value_of w ≡ Some value → IsBytes value
 value_put w value is = subst (λ (o : Option (List ℕ)). IfSome o IsBytes) is (value_of-IsBytes w)
@@ -78,21 +64,12 @@ puts_bytes : OfEachCommand PutsBytes
 puts_bytes = record {
   put = λ w name value is. value_put w value is;
   del = λ name. tt;
-  commit = tt;
-  fork = λ on. tt;
-  land = λ id. tt;
-  drop = λ id. tt;
-  get = λ on name. tt;
-  root = λ on. tt;
-  prove = λ w on name is. tt;
-  chunk = λ w v on start count is to. tt;
-  count = λ w on is. tt;
-  nth = λ w on place is. tt;
-  pin = λ version. tt;
   unpin = λ place. tt;
-  prune = λ upto. tt;
-  compact = tt;
-  status = tt;
+  read = λ on q w ws is. tt;
+  read_fork = λ id q. tt;
+  look = tt;
+  pin = λ version. tt;
+  change = λ c. tt;
 }
 
 -- the command of a line puts bytes, if it puts anything

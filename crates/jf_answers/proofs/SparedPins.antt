@@ -11,7 +11,11 @@ use Rattle.jf_model.specs.declared.entries.Entry.{Entry}
 use Rattle.jf_model.specs.declared.entries.Entry.TheVariants as entry
 use Rattle.jf_model.proofs.EntryLaws.{after-at_moment, replay-append}
 use Rattle.jf_text.specs.Words.{is_long}
+use Rattle.jf_script.specs.declared.command.OwnCommand.{OwnCommand}
+use Rattle.jf_script.specs.declared.command.Change.{Change}
 use Rattle.jf_script.specs.declared.command.Command.{Command}
+use Rattle.jf_script.specs.declared.command.OwnCommand.TheVariants as own_command
+use Rattle.jf_script.specs.declared.command.Change.TheVariants as change
 use Rattle.jf_script.specs.declared.command.Command.TheVariants as command
 use Rattle.jf_script.specs.declared.reply.Refusal.{Refusal}
 use Rattle.jf_script.specs.declared.reply.Refusal.TheVariants as refusal
@@ -20,10 +24,10 @@ use Rattle.jf_script.specs.Commands.{command_of}
 use Rattle.jf_answers.specs.Own.{Own, free_place, begun_session}
 use Rattle.jf_answers.specs.Prunings.{below_pins}
 use Rattle.jf_answers.specs.Refusals.{refused_by, ledger_causes, version_causes, place_causes}
-use Rattle.jf_answers.specs.Answers.{Answer, granted, replied, answer_to, answer, too_long, not_read}
+use Rattle.jf_answers.specs.Answers.{Answer, granted_own, granted_change, granted, replied, answer_to, answer, too_long, not_read}
 use Rattle.jf_answers.specs.Runs.{answers_from, answers, run_entries}
 use Rattle.jf_answers.specs.Laws.{FloorSparesPins, EntrySparesPins}
-use Rattle.jf_answers.proofs.AnswerLaws.{EachPin, Follows, all_set, answer-IsSoundAnswer}
+use Rattle.jf_answers.proofs.AnswerLaws.{EachPin, Follows, all_set, granted_own-quiet, granted_change-pins, answer-IsSoundAnswer}
 use Rattle.jf_answers.proofs.LegalRuns.{runs_are_legal}
 use Rattle.jf_answers.proofs.Pins.{below-le}
 
@@ -61,31 +65,34 @@ below_pin f low upto (None ∷ ps) h pins = (tt, below_pin f low upto ps h pins.
 below_pin f low upto (Some v ∷ ps) h pins = (let upper = below-le (min upto v) ps in let first = pins.0 in omega arith, below_pin f low (min upto v) ps h pins.1)
 
 -- ---- commands
-granted-Spares : (c : Command) (s : State) (own : Own) → refused_by s own c ≡ None → Spares s own → Spares (granted c s own).state (granted c s own).own
+own-Spares : (c : OwnCommand) (s : State) (own : Own) → Spares s own → Spares (granted_own c s own).state (granted_own c s own).own
+own-Spares (own_command.Put name value) s own h = record { low = h.low; pins = h.pins }
+own-Spares (own_command.Del name) s own h = record { low = h.low; pins = h.pins }
+own-Spares (own_command.Unpin place) s own h = record { low = h.low; pins = all_set (λ pin. IfSome pin (λ p. s.floor ≤ p)) own.pins place None h.pins tt }
+
+change-Spares : (c : Change) (s : State) (own : Own) → refused_by s own (command.Change c) ≡ None → Spares s own → Spares (granted_change c s own).state (granted_change c s own).own
 unfolding after refused_by
-granted-Spares (command.Put name value) s own none h = record { low = h.low; pins = h.pins }
-granted-Spares (command.Del name) s own none h = record { low = h.low; pins = h.pins }
-granted-Spares command.Commit s own none h = record { low = h.low; pins = h.pins }
-granted-Spares (command.Fork on) s own none h = record { low = h.low; pins = h.pins }
-granted-Spares (command.Land id) s own none h = record { low = h.low; pins = h.pins }
-granted-Spares (command.Drop id) s own none h = record { low = h.low; pins = h.pins }
-granted-Spares (command.Get on name) s own none h = record { low = h.low; pins = h.pins }
-granted-Spares (command.Root on) s own none h = record { low = h.low; pins = h.pins }
-granted-Spares (command.Prove on name) s own none h = record { low = h.low; pins = h.pins }
-granted-Spares (command.Chunk on start count) s own none h = record { low = h.low; pins = h.pins }
-granted-Spares (command.Count on) s own none h = record { low = h.low; pins = h.pins }
-granted-Spares (command.Nth on place) s own none h = record { low = h.low; pins = h.pins }
+change-Spares change.Commit s own none h = record { low = h.low; pins = h.pins }
+change-Spares (change.Fork on) s own none h = record { low = h.low; pins = h.pins }
+change-Spares (change.Land id) s own none h = record { low = h.low; pins = h.pins }
+change-Spares (change.Drop id) s own none h = record { low = h.low; pins = h.pins }
+change-Spares (change.Prune upto) s own none h = record {
+  low = let upper = below-le upto own.pins in let rises = no_prune_causes s upto none in let low = h.low in omega arith;
+  pins = below_pin s.floor (below_pins upto own.pins) upto own.pins (le_refl (below_pins upto own.pins)) h.pins;
+}
+change-Spares change.Compact s own none h = record { low = h.low; pins = h.pins }
+
+granted-Spares : (c : Command) (s : State) (own : Own) → refused_by s own c ≡ None → Spares s own → Spares (granted c s own).state (granted c s own).own
+unfolding refused_by
+granted-Spares (command.Own c) s own none h = own-Spares c s own h
+granted-Spares (command.Read on q) s own none h = record { low = h.low; pins = h.pins }
+granted-Spares (command.ReadFork id q) s own none h = record { low = h.low; pins = h.pins }
+granted-Spares command.Look s own none h = record { low = h.low; pins = h.pins }
 granted-Spares (command.Pin version) s own none h = record {
   low = h.low;
   pins = all_set (λ pin. IfSome pin (λ p. s.floor ≤ p)) own.pins (free_place own) (Some version) h.pins (let read = no_pin_causes s own version none in let low = h.low in omega arith);
 }
-granted-Spares (command.Unpin place) s own none h = record { low = h.low; pins = all_set (λ pin. IfSome pin (λ p. s.floor ≤ p)) own.pins place None h.pins tt }
-granted-Spares (command.Prune upto) s own none h = record {
-  low = let upper = below-le upto own.pins in let rises = no_prune_causes s upto none in let low = h.low in omega arith;
-  pins = below_pin s.floor (below_pins upto own.pins) upto own.pins (le_refl (below_pins upto own.pins)) h.pins;
-}
-granted-Spares command.Compact s own none h = record { low = h.low; pins = h.pins }
-granted-Spares command.Status s own none h = record { low = h.low; pins = h.pins }
+granted-Spares (command.Change c) s own none h = change-Spares c s own none h
 
 elim-Spares : (o : Option Refusal) (c : Command) (s : State) (own : Own) → refused_by s own c ≡ o → Spares s own
     → Spares (elim o as (λ x. Answer) [ Some why ↦ replied (reply.No why) s own | None ↦ granted c s own ]).state (elim o as (λ x. Answer) [ Some why ↦ replied (reply.No why) s own | None ↦ granted c s own ]).own
@@ -179,23 +186,12 @@ same_pins : (own : Own) (a : Answer) → a.own.pins ≡ own.pins → KeepsPins o
 same_pins own a same = λ e some. same
 
 granted-pins : (c : Command) (s : State) (own : Own) → KeepsPins own (granted c s own)
-granted-pins (command.Put name value) s own = without_entry own (granted (command.Put name value) s own) refl
-granted-pins (command.Del name) s own = without_entry own (granted (command.Del name) s own) refl
-granted-pins command.Commit s own = same_pins own (granted command.Commit s own) refl
-granted-pins (command.Fork on) s own = same_pins own (granted (command.Fork on) s own) refl
-granted-pins (command.Land id) s own = same_pins own (granted (command.Land id) s own) refl
-granted-pins (command.Drop id) s own = same_pins own (granted (command.Drop id) s own) refl
-granted-pins (command.Get on name) s own = without_entry own (granted (command.Get on name) s own) refl
-granted-pins (command.Root on) s own = without_entry own (granted (command.Root on) s own) refl
-granted-pins (command.Prove on name) s own = without_entry own (granted (command.Prove on name) s own) refl
-granted-pins (command.Chunk on start count) s own = without_entry own (granted (command.Chunk on start count) s own) refl
-granted-pins (command.Count on) s own = without_entry own (granted (command.Count on) s own) refl
-granted-pins (command.Nth on place) s own = without_entry own (granted (command.Nth on place) s own) refl
+granted-pins (command.Own c) s own = without_entry own (granted_own c s own) (granted_own-quiet c s own)
+granted-pins (command.Read on q) s own = without_entry own (granted (command.Read on q) s own) refl
+granted-pins (command.ReadFork id q) s own = without_entry own (granted (command.ReadFork id q) s own) refl
+granted-pins command.Look s own = without_entry own (granted command.Look s own) refl
 granted-pins (command.Pin version) s own = without_entry own (granted (command.Pin version) s own) refl
-granted-pins (command.Unpin place) s own = without_entry own (granted (command.Unpin place) s own) refl
-granted-pins (command.Prune upto) s own = same_pins own (granted (command.Prune upto) s own) refl
-granted-pins command.Compact s own = same_pins own (granted command.Compact s own) refl
-granted-pins command.Status s own = without_entry own (granted command.Status s own) refl
+granted-pins (command.Change c) s own = same_pins own (granted_change c s own) (granted_change-pins c s own)
 
 elim-pins : (o : Option Refusal) (c : Command) (s : State) (own : Own) → KeepsPins own (elim o as (λ x. Answer) [ Some why ↦ replied (reply.No why) s own | None ↦ granted c s own ])
 elim-pins None c s own = granted-pins c s own

@@ -3,6 +3,7 @@ use Rattle.std.proofs.Common.{◌≡◌, ℕ, false, nat_lt, List, None, refl, a
 use Rattle.std.proofs.lemmas.Bool.Decides.{nat_tests}
 use Rattle.std.specs.FinMap as fin
 use Rattle.std.specs.List.{AllByRecursion}
+use Rattle.jf_path.specs.Checks.{first_of}
 use Rattle.jf_hash.specs.Roots.{root}
 use Rattle.jf_hash.specs.Maps.{Map, IsMap}
 use Rattle.jf_hash.specs.Hashes.{K}
@@ -21,6 +22,8 @@ use Rattle.jf_script.specs.declared.command.Command.{Command}
 use Rattle.jf_script.specs.declared.reply.Refusal.{Refusal}
 use Rattle.jf_script.specs.Replies.{reply_text}
 use Rattle.jf_script.specs.declared.command.Base.TheVariants as base
+use Rattle.jf_script.specs.declared.command.Question.{Question}
+use Rattle.jf_script.specs.declared.command.Question.TheVariants as question
 use Rattle.jf_script.specs.declared.command.Command.TheVariants as command
 use Rattle.jf_script.specs.declared.reply.Reply.TheVariants as reply
 use Rattle.jf_blocks.specs.Blocks.{proof_lines}
@@ -28,27 +31,27 @@ use Rattle.jf_blocks.specs.Reading.{proof_block}
 use Rattle.jf_blocks.specs.Laws.{BlocksAreReadBack, RepliesBeginBlocks, RepliesSetRoots}
 use Rattle.jf_verify.specs.Verdicts.{verdicts}
 use Rattle.jf_answers.specs.Own.{Own, pinned}
-use Rattle.jf_answers.specs.Refusals.{refused_by, base_map}
-use Rattle.jf_answers.specs.Answers.{answer, answer_to, too_long, Answer, answer_command, granted, replied, proved}
+use Rattle.jf_answers.specs.Refusals.{refused_by, base_map, question_causes}
+use Rattle.jf_answers.specs.Answers.{answer, answer_to, too_long, Answer, answer_command, granted, replied, read_answer}
 use Rattle.jf_answers.specs.Runs.{answer_text}
 use Rattle.jf_client.specs.Laws.{IsKeptBase, FitsLine, HonestRepliesAreAccepted}
 use Rattle.jf_client.proofs.Told.{hash_of_key, honest-told}
 use Rattle.jf_client.proofs.Judged.{verdicts-of_one}
 
 -- ---- the answers to the two lines
-not_refused : (s : State) (own : Own) (on : Base) (name : List ℕ) → IsKeptBase s own on → (refused_by s own (command.Root on) ≡ None) × (refused_by s own (command.Prove on name) ≡ None)
+-- a read of a kept base is refused only for what its question says of the map
+kept_read : (s : State) (own : Own) (on : Base) (q : Question) → IsKeptBase s own on → first_of (question_causes q (base_map s own on)) ≡ None → refused_by s own (command.Read on q) ≡ None
 unfolding refused_by
-not_refused s own base.Head name kept = (refl, refl)
-not_refused s own (base.Version w) name kept =
+kept_read s own base.Head q kept free = free
+kept_read s own (base.Version w) q kept free =
     let low = kept.0 in
     let high = kept.1 in
     let there : nat_lt s.all.head w ≡ false = grind (arith, nat_tests) in
     let live : nat_lt w s.retired ≡ false = grind (arith, nat_tests) in
-    (rw (there, live) refl, rw (there, live) refl)
-not_refused s own (base.Fork id) name kept = absurd kept
-not_refused s own (base.Place place) name kept =
+    rw (there, live) free
+kept_read s own (base.Place place) q kept free =
     let held : is_none (pinned own place) ≡ false = ap (λ (o : Option ℕ). is_none o) kept.1 in
-    (rw held refl, rw held refl)
+    rw held free
 
 pub answered : (s : State) (own : Own) (line : List ℕ) (c : Command) → is_long line ≡ false → command_of line ≡ Some c → answer s own line ≡ answer_to (Some c) s own
 unfolding answer
@@ -57,17 +60,10 @@ answered s own line c short read = ap (λ b. cond b (too_long s own) (answer_to 
 pub unrefused : (s : State) (own : Own) (c : Command) → refused_by s own c ≡ None → answer_command s own c ≡ granted c s own
 unrefused s own c free = ap (λ (o : Option Refusal). elim o as (λ x. Answer) [ Some why ↦ replied (reply.No why) s own | None ↦ granted c s own ]) free
 
-root_to : (s : State) (own : Own) (on : Base) → IsKeptBase s own on → answer_to (Some (command.Root on)) s own ≡ replied (reply.Root (root (base_map s own on))) s own
-root_to s own base.Head kept = unrefused s own (command.Root base.Head) (not_refused s own base.Head [] kept).0
-root_to s own (base.Version w) kept = unrefused s own (command.Root (base.Version w)) (not_refused s own (base.Version w) [] kept).0
-root_to s own (base.Fork id) kept = absurd kept
-root_to s own (base.Place place) kept = unrefused s own (command.Root (base.Place place)) (not_refused s own (base.Place place) [] kept).0
-
-prove_to : (s : State) (own : Own) (on : Base) (name : List ℕ) → IsKeptBase s own on → answer_to (Some (command.Prove on name)) s own ≡ proved (base_map s own on) name s own
-prove_to s own base.Head name kept = unrefused s own (command.Prove base.Head name) (not_refused s own base.Head name kept).1
-prove_to s own (base.Version w) name kept = unrefused s own (command.Prove (base.Version w) name) (not_refused s own (base.Version w) name kept).1
-prove_to s own (base.Fork id) name kept = absurd kept
-prove_to s own (base.Place place) name kept = unrefused s own (command.Prove (base.Place place) name) (not_refused s own (base.Place place) name kept).1
+-- a question that its map doesn't refuse is answered
+pub question_to : (s : State) (own : Own) (on : Base) (q : Question) → IsKeptBase s own on → first_of (question_causes q (base_map s own on)) ≡ None
+    → answer_to (Some (command.Read on q)) s own ≡ read_answer q (base_map s own on) s own
+question_to s own on q kept free = unrefused s own (command.Read on q) (kept_read s own on q kept free)
 
 -- ---- the maps of versions
 map-at : (i : ℕ) (ms : List Map) → AllByRecursion IsMap ms → IsMap (slice_index_or ms i fin.empty)
@@ -78,7 +74,6 @@ map-at (suc i) (m ∷ ms) all = map-at i ms all.1
 base-IsMap : (s : State) (own : Own) (on : Base) → IsVersions s.all → IsKeptBase s own on → IsMap (base_map s own on)
 base-IsMap s own base.Head sound kept = newest-IsMap s.all sound
 base-IsMap s own (base.Version w) sound kept = map-at (s.all.head - w) s.all.maps sound.sound
-base-IsMap s own (base.Fork id) sound kept = absurd kept
 base-IsMap s own (base.Place place) sound kept = map-at (s.all.head - unwrap_or (pinned own place) 0) s.all.maps sound.sound
 
 -- ---- the two replies
@@ -102,9 +97,9 @@ module _ (back : BlocksAreReadBack) (begins : RepliesBeginBlocks) (sets : Replie
 
   pub replies-accepted : HonestRepliesAreAccepted
   replies-accepted s own on name root_line prove_line m n sound kept fits asks small small' =
-      let at_root = answered s own root_line (command.Root on) asks.root_short asks.root_is ∙ root_to s own on kept in
-      let at_prove = answered s own prove_line (command.Prove on name) asks.prove_short asks.prove_is ∙ prove_to s own on name kept in
+      let at_root = answered s own root_line (command.Read on question.Root) asks.root_short asks.root_is ∙ question_to s own on question.Root kept refl in
+      let at_prove = answered s own prove_line (command.Read on (question.Prove name)) asks.prove_short asks.prove_is ∙ question_to s own on (question.Prove name) kept refl in
       let r = reply_text m (reply.Root (root (base_map s own on))) in
       ap₂ (λ (x y : Answer). verdicts (answer_text m x ++ answer_text n y)) at_root at_prove
-      ∙ ap (λ t. verdicts (t ++ answer_text n (proved (base_map s own on) name s own))) (append-nil r)
+      ∙ ap (λ t. verdicts (t ++ answer_text n (read_answer (question.Prove name) (base_map s own on) s own))) (append-nil r)
       ∙ map_replies (base_map s own on) name m n (base-IsMap s own on sound kept) fits small small'

@@ -19,8 +19,7 @@ use Rattle.jf_evidence.specs.declared.range_proof.RangeFault.{RangeFault}
 use Rattle.jf_evidence.specs.declared.range_proof.RangeProof.{RangeProof}
 use Rattle.jf_evidence.specs.Laws.{HonestChunksAreAccepted, HonestChunksGoOn}
 use Rattle.jf_evidence.proofs.ProofLaws.{honest-short}
-use Rattle.jf_script.specs.declared.command.Base.{Base}
-use Rattle.jf_script.specs.declared.command.Base.TheVariants as base
+use Rattle.jf_script.specs.declared.command.Question.TheVariants as question
 use Rattle.jf_script.specs.declared.command.Command.TheVariants as command
 use Rattle.jf_script.specs.declared.reply.Reply.TheVariants as reply
 use Rattle.jf_script.specs.Replies.{reply_text}
@@ -36,13 +35,13 @@ use Rattle.jf_chunks.specs.declared.fault.BlockFault.TheVariants as block_fault
 use Rattle.jf_receive.specs.Restored.{restored, restored_entries, of_block}
 use Rattle.jf_receive.specs.declared.received.RestoreFault.{RestoreFault}
 use Rattle.jf_answers.specs.Own.{Own, pinned}
-use Rattle.jf_answers.specs.Refusals.{refused_by, base_map}
-use Rattle.jf_answers.specs.Answers.{answer, Answer, chunked}
+use Rattle.jf_answers.specs.Refusals.{base_map}
+use Rattle.jf_answers.specs.Answers.{answer, Answer, read_answer}
 use Rattle.jf_answers.specs.Runs.{answer_text}
 use Rattle.jf_client.specs.Laws.{IsKeptBase}
 use Rattle.jf_client.specs.ChunkLaws.{ChunkLine, AsksChunk, AskInTurn, chunk_replies, HonestChunksAreRestored}
 use Rattle.jf_client.proofs.Told.{hash_of_key, byte-at, honest-hashes}
-use Rattle.jf_client.proofs.Replies.{answered, unrefused}
+use Rattle.jf_client.proofs.Replies.{answered, question_to}
 
 -- ---- what a block holds
 all_front : {X : Type 0} (P : X → Type 0) (n : ℕ) (xs : List X) → AllByRecursion P xs → AllByRecursion P (take n xs)
@@ -101,26 +100,12 @@ module _ (m : Map) (start count : ℕ) where
 not_far : (m : Map) (start : ℕ) → start < length (entries m) → nat_le (len m) start ≡ false
 not_far m start within = let many = fin.len-entries m in grind (arith, nat_tests)
 
-unrefused_chunk : (s : State) (own : Own) (on : Base) (start count : ℕ) → IsKeptBase s own on → nat_le (len (base_map s own on)) start ≡ false → refused_by s own (command.Chunk on start count) ≡ None
-unfolding refused_by
-unrefused_chunk s own base.Head start count kept near = rw near refl
-unrefused_chunk s own (base.Version w) start count kept near =
-    let low = kept.0 in
-    let high = kept.1 in
-    let there : nat_lt s.all.head w ≡ false = grind (arith, nat_tests) in
-    let live : nat_lt w s.retired ≡ false = grind (arith, nat_tests) in
-    rw (there, live, near) refl
-unrefused_chunk s own (base.Fork id) start count kept near = absurd kept
-unrefused_chunk s own (base.Place place) start count kept near =
-    let held : is_none (pinned own place) ≡ false = ap (λ (o : Option ℕ). is_none o) kept.1 in
-    rw (held, near) refl
-
-chunk_to : (m : Map) (start : ℕ) (c : ChunkLine) → AsksChunk m start c → answer c.state c.own c.line ≡ chunked m start c.count c.state c.own
+chunk_to : (m : Map) (start : ℕ) (c : ChunkLine) → AsksChunk m start c → answer c.state c.own c.line ≡ read_answer (question.Chunk start c.count) m c.state c.own
 chunk_to m start c asks =
     let near : nat_le (len (base_map c.state c.own c.on)) start ≡ false = ap (λ (w : Map). nat_le (len w) start) asks.map_is ∙ not_far m start asks.within in
-    answered c.state c.own c.line (command.Chunk c.on start c.count) asks.short asks.is
-    ∙ unrefused c.state c.own (command.Chunk c.on start c.count) (unrefused_chunk c.state c.own c.on start c.count asks.kept near)
-    ∙ ap (λ (w : Map). chunked w start c.count c.state c.own) asks.map_is
+    answered c.state c.own c.line (command.Read c.on (question.Chunk start c.count)) asks.short asks.is
+    ∙ question_to c.state c.own c.on (question.Chunk start c.count) asks.kept (rw near refl)
+    ∙ ap (λ (w : Map). read_answer (question.Chunk start c.count) w c.state c.own) asks.map_is
 
 -- ---- the replies
 module _ (back : ChunksAreReadBack) (begins : RepliesBeginChunks) (accepted : HonestChunksAreAccepted) (goes_on : HonestChunksGoOn) (m : Map) (is_map : IsMap m) (small : AllByRecursion (λ e. length e.1 ≤ max_value) (entries m)) where

@@ -1,11 +1,12 @@
 -- All that a session was answered, judged as it is.
 use Rattle.std.specs.Prelude.{unwrap_or}
 use Rattle.std.specs.List.{AllByRecursion}
-use Rattle.std.proofs.Common.{◌≡◌, inl, inr, ℕ, zero, suc, ◌+◌, ◌-◌, ◌^◌, ◌<◌, ◌≤◌, List, [], ◌∷◌, ◌++◌, length, drop, flat_map, Option, IfSome, Some, None, Ok, codes, refl, sym, ap, ap₂, ◌∙◌, subst, arith, append_assoc, append-nil, length-append}
+use Rattle.std.proofs.Common.{◌≡◌, ◌⊎◌, inl, inr, ℕ, zero, suc, ◌+◌, ◌-◌, ◌^◌, ◌<◌, ◌≤◌, List, [], ◌∷◌, ◌++◌, length, drop, flat_map, Option, IfSome, Some, None, Ok, codes, refl, sym, ap, ap₂, ◌∙◌, subst, arith, append_assoc, append-nil, length-append}
 use Rattle.std.specs.FinMap as fin
 use Rattle.jf_hash.specs.Hashes.{K}
 use Rattle.jf_hash.specs.Maps.{Map, IsMap}
 use Rattle.jf_hash.specs.Roots.{root}
+use Rattle.jf_model.specs.States.{State}
 use Rattle.jf_model.proofs.VersionLaws.{root-IsKey}
 use Rattle.jf_io.specs.Lines.{lines}
 use Rattle.jf_io.proofs.EndedLines.{lines-none}
@@ -14,6 +15,8 @@ use Rattle.jf_evidence.specs.Laws.{HonestClaimsAreAccepted}
 use Rattle.jf_evidence.specs.declared.proof.Proof.{Proof}
 use Rattle.jf_evidence.proofs.ProofLaws.{honest-short}
 use Rattle.jf_script.specs.Replies.{reply_text}
+use Rattle.jf_script.specs.declared.command.Base.{Base}
+use Rattle.jf_script.specs.declared.command.Question.TheVariants as question
 use Rattle.jf_script.specs.declared.command.Command.TheVariants as command
 use Rattle.jf_script.specs.declared.reply.Reply.TheVariants as reply
 use Rattle.jf_blocks.specs.Blocks.{proof_lines}
@@ -22,9 +25,10 @@ use Rattle.jf_blocks.specs.Laws.{BlocksAreReadBack, RepliesBeginBlocks, RepliesS
 use Rattle.jf_blocks.specs.declared.first.FirstLine.TheVariants as first
 use Rattle.jf_verify.specs.Verdicts.{Judging, say, syntax_text, verdicts_from, verdicts, judged_of, nothing_known}
 use Rattle.jf_verify.specs.declared.accepted.Accepted.{Accepted}
-use Rattle.jf_answers.specs.Answers.{Answer, replied, proved}
+use Rattle.jf_answers.specs.Own.{Own}
+use Rattle.jf_answers.specs.Answers.{Answer, granted, replied, read_answer}
 use Rattle.jf_answers.specs.Runs.{answer_text}
-use Rattle.jf_client.specs.RunLaws.{Heard, answer_heard, text_heard, told_by, syntax_lines, judged_from, AsksRoot, AsksProof, IsOther, AreHeardOn, IsAskedOf, WholeRunsAreJudged}
+use Rattle.jf_client.specs.RunLaws.{Heard, answer_heard, text_heard, told_by, syntax_lines, judged_from, root_read, map_read, AsksRoot, AsksProof, IsOther, AreHeardOn, IsAskedOf, WholeRunsAreJudged}
 use Rattle.jf_client.proofs.Told.{hash_of_key, honest-told}
 use Rattle.jf_client.proofs.Judged.{root_step, block_step, end_step, knows}
 use Rattle.jf_client.proofs.Replies.{answered, unrefused}
@@ -51,17 +55,23 @@ syntax_steps n at j (x ∷ xs) ls none =
     ∙ ap (λ k. syntax_text at ++ (syntax_lines (at + 1) (length xs) ++ verdicts_from n j (record { at = k; left = ls }))) (let e : at + 1 + length xs ≡ at + length (x ∷ xs) = omega arith in e)
     ∙ sym (append_assoc (syntax_text at) (syntax_lines (at + 1) (length xs)) (verdicts_from n j (record { at = at + length (x ∷ xs); left = ls })))
 
+-- a read of a root that nothing refuses
+root_granted : (s : State) (own : Own) (on : Base ⊎ ℕ) → granted (root_read on) s own ≡ replied (reply.Root (root (map_read s own on))) s own
+root_granted s own (inl on) = refl
+root_granted s own (inr id) = refl
+
 -- ---- all replies
 -- `asked` holds of the maps whose roots all lines ask for, those judged before included
 module _ (back : BlocksAreReadBack) (begins : RepliesBeginBlocks) (sets : RepliesSetRoots) (accepted : HonestClaimsAreAccepted) (asked : Map → Type 0)
     (one_map : (m m' : Map) → asked m → asked m' → root m ≡ root m' → m ≡ m') where
   root_text : (m : Map) (h : Heard) → AsksRoot m h → answer_heard h ≡ replied (reply.Root (root m)) h.state h.own
   root_text m h a =
-      answered h.state h.own h.line (command.Root a.on) a.short a.is ∙ unrefused h.state h.own (command.Root a.on) a.granted ∙ ap (λ (w : Map). replied (reply.Root (root w)) h.state h.own) a.map_is
+      answered h.state h.own h.line (root_read a.on) a.short a.is ∙ unrefused h.state h.own (root_read a.on) a.granted ∙ root_granted h.state h.own a.on ∙ ap (λ (w : Map). replied (reply.Root (root w)) h.state h.own) a.map_is
 
-  proof_text : (m : Map) (h : Heard) (a : AsksProof m h) → answer_heard h ≡ proved m a.name h.state h.own
+  proof_text : (m : Map) (h : Heard) (a : AsksProof m h) → answer_heard h ≡ read_answer (question.Prove a.name) m h.state h.own
   proof_text m h a =
-      answered h.state h.own h.line (command.Prove a.on a.name) a.short a.is ∙ unrefused h.state h.own (command.Prove a.on a.name) a.granted ∙ ap (λ (w : Map). proved w a.name h.state h.own) a.map_is
+      answered h.state h.own h.line (command.Read a.on (question.Prove a.name)) a.short a.is ∙ unrefused h.state h.own (command.Read a.on (question.Prove a.name)) a.granted
+      ∙ ap (λ (w : Map). read_answer (question.Prove a.name) w h.state h.own) a.map_is
 
   -- this map's root is set, and was asked for
   record IsSet (j : Judging) (m : Map) : Type 0 where

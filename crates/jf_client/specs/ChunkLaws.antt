@@ -9,6 +9,7 @@ use Rattle.jf_model.specs.States.{State}
 use Rattle.jf_text.specs.Words.{max_chunk, is_long}
 use Rattle.jf_script.specs.declared.command.Base.{Base}
 use Rattle.jf_script.specs.Commands.{command_of}
+use Rattle.jf_script.specs.declared.command.Question.TheVariants as question
 use Rattle.jf_script.specs.declared.command.Command.TheVariants as command
 use Rattle.jf_answers.specs.Own.{Own}
 use Rattle.jf_answers.specs.Refusals.{base_map}
@@ -32,7 +33,7 @@ pub record AsksChunk (m : Map) (start : ℕ) (c : ChunkLine) : Type 0 where
   pub map_is : base_map c.state c.own c.on ≡ m
   pub within : start < length (entries m)
   pub short : is_long c.line ≡ false
-  pub is : command_of c.line ≡ Some (command.Chunk c.on start c.count)
+  pub is : command_of c.line ≡ Some (command.Read c.on (question.Chunk start c.count))
   pub least : 1 ≤ c.count
   pub most : c.count ≤ max_chunk
   pub number_fits : c.number < 2 ^ 64

@@ -10,6 +10,7 @@ use Rattle.jf_text.specs.Words.{max_name, is_long}
 use Rattle.jf_script.specs.declared.command.Base.{Base}
 use Rattle.jf_script.specs.Commands.{command_of}
 use Rattle.jf_script.specs.declared.command.Base.TheVariants as base
+use Rattle.jf_script.specs.declared.command.Question.TheVariants as question
 use Rattle.jf_script.specs.declared.command.Command.TheVariants as command
 use Rattle.jf_verify.specs.Verdicts.{verdicts}
 use Rattle.jf_answers.specs.Own.{Own, pinned}
@@ -17,12 +18,10 @@ use Rattle.jf_answers.specs.Refusals.{base_map}
 use Rattle.jf_answers.specs.Answers.{answer}
 use Rattle.jf_answers.specs.Runs.{answer_text}
 
--- the head, a version that is neither above the head nor retired, or a place at which the session has pinned a version; no proof is asked
--- of a fork
+-- the head, a version that is neither above the head nor retired, or a place at which the session has pinned a version
 abbrev pub IsKeptBase : State → Own → Base → Type 0
 IsKeptBase s own base.Head = Unit {0}
 IsKeptBase s own (base.Version w) = (s.retired ≤ w) × (w ≤ s.all.head)
-IsKeptBase s own (base.Fork id) = ⊥
 IsKeptBase s own (base.Place place) = (w : ℕ) × (pinned own place ≡ Some w)
 
 -- a name, and a value, if there is one, that are no longer than they may be: what lines can carry
@@ -35,9 +34,9 @@ pub record FitsLine (name : List ℕ) (value : Option (List ℕ)) : Type 0 where
 -- two lines ask for the root of a version and for the proof of a name in it
 pub record Asks (root_line prove_line : List ℕ) (on : Base) (name : List ℕ) : Type 0 where
   pub root_short : is_long root_line ≡ false
-  pub root_is : command_of root_line ≡ Some (command.Root on)
+  pub root_is : command_of root_line ≡ Some (command.Read on question.Root)
   pub prove_short : is_long prove_line ≡ false
-  pub prove_is : command_of prove_line ≡ Some (command.Prove on name)
+  pub prove_is : command_of prove_line ≡ Some (command.Read on (question.Prove name))
 
 -- for each kept version, each pinned one, and each name, whether the map has it or not: the two replies, with any numbers, are judged accepted
 abbrev pub HonestRepliesAreAccepted : Type 0

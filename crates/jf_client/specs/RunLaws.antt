@@ -1,16 +1,21 @@
 -- A client that judges all that a session was answered, as a statement for a call that does nothing and ensures it.
-use Rattle.std.specs.Prelude.{◌≡◌, ◌⊎◌, ℕ, zero, suc, ◌+◌, ◌^◌, ◌<◌, false, List, [], ◌∷◌, ◌++◌, length, flat_map, Option, Some, None, unwrap_or, codes}
+use Rattle.std.specs.Prelude.{◌≡◌, ◌⊎◌, inl, inr, ℕ, zero, suc, ◌+◌, ◌^◌, ◌<◌, false, List, [], ◌∷◌, ◌++◌, length, flat_map, Option, Some, None, unwrap_or, codes}
 use Rattle.std.specs.FinMap.{get}
 use Rattle.jf_hash.specs.Hashes.{K}
 use Rattle.jf_hash.specs.Maps.{Map, IsMap}
 use Rattle.jf_hash.specs.Roots.{root}
 use Rattle.jf_model.specs.States.{State}
+use Rattle.jf_model.specs.Versions.{newest}
+use Rattle.jf_model.specs.Forks.{fork_map}
 use Rattle.jf_io.specs.Lines.{lines}
 use Rattle.jf_evidence.specs.Ranges.{Entries}
 use Rattle.jf_evidence.specs.declared.range_proof.RangeProof.{RangeProof}
 use Rattle.jf_text.specs.Words.{is_long}
 use Rattle.jf_script.specs.declared.command.Base.{Base}
 use Rattle.jf_script.specs.Commands.{command_of}
+use Rattle.jf_script.specs.declared.command.Question.TheVariants as question
+use Rattle.jf_script.specs.declared.command.ForkQuestion.TheVariants as fork_question
+use Rattle.jf_script.specs.declared.command.Command.{Command}
 use Rattle.jf_script.specs.declared.command.Command.TheVariants as command
 use Rattle.jf_script.specs.Replies.{IsInRange}
 use Rattle.jf_script.specs.declared.reply.Reply.{Reply}
@@ -41,23 +46,9 @@ text_heard h = answer_text h.number (answer_heard h)
 -- ---- what they are judged
 -- what a reply is judged with its block: nothing is said of one that sets the root, and one that begins a proof is accepted
 abbrev pub told_by : Reply → Option (List ℕ)
-told_by (reply.Pending count) = None
-told_by (reply.Commit version root) = None
-told_by (reply.Fork id root) = None
-told_by (reply.Land version root) = None
-told_by (reply.Drop count) = None
-told_by (reply.Value value) = None
-told_by (reply.Chunk entries depth siblings) = None
-told_by (reply.Count count) = None
-told_by (reply.Nth key value) = None
-told_by (reply.Pin place) = None
-told_by (reply.Unpin version) = None
-told_by (reply.Prune bound floor) = None
-told_by (reply.Compact generation) = None
-told_by (reply.Status base floor retired head kept forks generation) = None
-told_by (reply.No why) = None
 told_by (reply.Root root) = Some []
 told_by (reply.Proof siblings) = Some (codes "accepted\n")
+told_by r = None
 
 -- the line `syntax` for each of so many lines, from a number on
 abbrev pub syntax_lines : ℕ → ℕ → List ℕ
@@ -72,24 +63,34 @@ judged_from at (h ∷ hs) =
     unwrap_or (told_by (answer_heard h).reply) (syntax_lines at many) ++ judged_from (at + many) hs
 
 -- ---- lines that ask about maps, and others
+-- the read of a root: of a stored map's, or of the fork's with an id
+abbrev pub root_read : Base ⊎ ℕ → Command
+root_read (inl on) = command.Read on question.Root
+root_read (inr id) = command.ReadFork id fork_question.Root
+
+-- the map that such a read is of
+abbrev pub map_read : State → Own → Base ⊎ ℕ → Map
+map_read s own (inl on) = base_map s own on
+map_read s own (inr id) = fork_map (newest s.all) s.forks id
+
 -- a line asks for the root of this map, and isn't refused
 pub record AsksRoot (m : Map) (h : Heard) : Type 0 where
-  pub on : Base
-  pub granted : refused_by h.state h.own (command.Root on) ≡ None
-  pub map_is : base_map h.state h.own on ≡ m
+  pub on : Base ⊎ ℕ
+  pub granted : refused_by h.state h.own (root_read on) ≡ None
+  pub map_is : map_read h.state h.own on ≡ m
   pub sound : IsMap m
   pub short : is_long h.line ≡ false
-  pub is : command_of h.line ≡ Some (command.Root on)
+  pub is : command_of h.line ≡ Some (root_read on)
 
 -- a line asks for the proof of a name in it, and isn't refused
 pub record AsksProof (m : Map) (h : Heard) : Type 0 where
   pub on : Base
   pub name : List ℕ
-  pub granted : refused_by h.state h.own (command.Prove on name) ≡ None
+  pub granted : refused_by h.state h.own (command.Read on (question.Prove name)) ≡ None
   pub map_is : base_map h.state h.own on ≡ m
   pub fits : FitsLine name (get m (K name))
   pub short : is_long h.line ≡ false
-  pub is : command_of h.line ≡ Some (command.Prove on name)
+  pub is : command_of h.line ≡ Some (command.Read on (question.Prove name))
 
 -- a line has another reply, with no block or with that of a chunk
 pub record IsOther (h : Heard) : Type 0 where

@@ -1,11 +1,13 @@
 -- Each command of the grammar keeps the limits on values and chunks.
-use Rattle.std.specs.Prelude.{Option, Some, None, ℕ, ◌≤◌, List, length, ◌≡◌, Bool, true, ◌&&◌, nat_le, false, cond, if◌then◌else◌, option_and_then, ◌==◌, [], ◌∷◌}
+use Rattle.std.specs.Prelude.{Option, Some, None, ℕ, ◌≤◌, List, length, ◌≡◌, Bool, true, ◌&&◌, nat_le, false, cond, if◌then◌else◌, option_and_then, option_map, codes, ◌==◌, [], ◌∷◌}
 use Rattle.std.proofs.Common.{arith, refl, subst}
 use Rattle.jf_path.specs.Limits.{max_value}
-use Rattle.jf_text.specs.Words.{unhex, value_of, bytes_within, number, number_upto, number_from, max_chunk}
+use Rattle.jf_text.specs.Words.{unhex, value_of, bytes_within, number, number_upto, number_from, max_chunk, is_word, name_of, both}
+use Rattle.jf_script.specs.declared.command.Question.{Question}
+use Rattle.jf_script.specs.declared.command.Question.TheVariants as question
 use Rattle.jf_script.specs.declared.command.Command.{Command}
-use Rattle.jf_script.specs.Bounds.{IsBoundedCommand}
-use Rattle.jf_script.specs.Commands.{command_of}
+use Rattle.jf_script.specs.Bounds.{IsBoundedQuestion, IsBoundedCommand}
+use Rattle.jf_script.specs.Commands.{question_of_words, command_of}
 use Rattle.jf_script.proofs.EachCommand.{OfEachCommand, command_of-each}
 
 -- a value, if there is one, has at most 4,096 bytes
@@ -56,29 +58,43 @@ from_within least most (Some n) h = at_least (nat_le least n) least n most (λ e
 number_within : (least most : ℕ) (w : List ℕ) → Within least most (number_from least most w)
 number_within least most w = from_within least most (number_upto most w) (upto_within most (number w))
 
--- the length of a chunk that is read is from 1 to 1,000
-chunk_length : (w : List ℕ) (count : ℕ) → number_from 1 max_chunk w ≡ Some count → (1 ≤ count) × (count ≤ max_chunk)
-chunk_length w count is = subst (Within 1 max_chunk) is (number_within 1 max_chunk w)
+-- a question, if there is one, keeps its limit
+abbrev Fits : Option Question → Type 0
+Fits None = Unit {0}
+Fits (Some q) = IsBoundedQuestion q
+
+fits_mapped : {X : Type 0} (f : X → Question) (o : Option X) → ((x : X) → IsBoundedQuestion (f x)) → Fits (option_map f o)
+fits_mapped f None h = tt
+fits_mapped f (Some x) h = h x
+
+fits_chunk : (o p : Option ℕ) → Within 1 max_chunk p → Fits (both (λ start count. question.Chunk start count) o p)
+fits_chunk (Some start) (Some count) h = h
+fits_chunk (Some start) None h = tt
+fits_chunk None p h = tt
+
+fits_chosen : (b : Bool) (x y : Option Question) → Fits x → Fits y → Fits (cond b x y)
+fits_chosen true x y p q = p
+fits_chosen false x y p q = q
+
+fits_words : (w : List ℕ) (ws : List (List ℕ)) → Fits (question_of_words w ws)
+fits_words w [] = fits_chosen (is_word w (codes "root")) _ _ tt (fits_chosen (is_word w (codes "count")) _ _ tt tt)
+fits_words w (a ∷ []) =
+    fits_chosen (is_word w (codes "get")) _ _ (fits_mapped (λ name. question.Get name) (name_of a) (λ name. tt))
+    (fits_chosen (is_word w (codes "prove")) _ _ (fits_mapped (λ name. question.Prove name) (name_of a) (λ name. tt))
+    (fits_chosen (is_word w (codes "nth")) _ _ (fits_mapped (λ place. question.Nth place) (number a) (λ place. tt)) tt))
+fits_words w (a ∷ b ∷ []) = fits_chosen (is_word w (codes "chunk")) _ _ (fits_chunk (number a) (number_from 1 max_chunk b) (number_within 1 max_chunk b)) tt
+fits_words w (a ∷ b ∷ c ∷ ws) = tt
 
 bounded : OfEachCommand IsBoundedCommand
 bounded = record {
   put = λ w name value is. value_of-short w value is;
   del = λ name. tt;
-  commit = tt;
-  fork = λ on. tt;
-  land = λ id. tt;
-  drop = λ id. tt;
-  get = λ on name. tt;
-  root = λ on. tt;
-  prove = λ w on name is. tt;
-  chunk = λ w v on start count is to. chunk_length v count to;
-  count = λ w on is. tt;
-  nth = λ w on place is. tt;
-  pin = λ version. tt;
   unpin = λ place. tt;
-  prune = λ upto. tt;
-  compact = tt;
-  status = tt;
+  read = λ on q w ws is. subst Fits is (fits_words w ws);
+  read_fork = λ id q. tt;
+  look = tt;
+  pin = λ version. tt;
+  change = λ c. tt;
 }
 
 -- the command of a line keeps its limits
