@@ -3,6 +3,7 @@ use lib.ListN.{get_elem?}
 use mathlib.Core.Option.{none, some, some-injective, some-ne-none, Option}
 use Rattle.std.proofs.Common.{ℕ, ◌+◌, List, set, ◌∙◌, arith, length-set, get_or-set_other, get_or-set_same, ◌<◌, [], ◌∷◌, ◌≢◌, ◌≡◌, ◌*◌, sym, refl, ◌%◌, ◌^◌, get_or, subst, zero, suc, ◌≤◌, length, le_refl, replicate}
 use Rattle.std.proofs.lemmas.List.{length-replicate}
+use Rattle.jf_path.specs.Limits.{max_pins}
 use Rattle.atomic_table.specs.Table.{step, keeps, stepped, Allows}
 use Rattle.jf_board.specs.Rule.{Account, IsWritten, PlaceFits, JoinedFit, IsAbsent, ViewFits, IsSoundAccount, IsBoard, opening_view}
 use Rattle.jf_board.specs.declared.views.PlaceView.{PlaceView}
@@ -57,7 +58,7 @@ new_place p id c found r = record {
   loaded = omega arith;
   latest = omega arith;
   eight = refl;
-  holds = λ i l. free_at Free 8 i ∙ sym (r.unnumbered (8 * c + i) (omega arith));
+  holds = λ i l. free_at Free max_pins i ∙ sym (r.unnumbered (max_pins * c + i) (omega arith));
   announced = sym (r.no_versions c (omega arith));
 }
 
@@ -94,7 +95,7 @@ first_only size zero v e = subst (ViewFits record { gate = size.gate; cut = size
 first_only size (suc id) v e = absurd (some-ne-none v (sym e))
 
 -- words of a gate, a cut and zeros begin a board
-pub opens : (size : Size) (ws : List ℕ) (homes : List (Option (Unit {0}))) → length ws ≡ 8 * size.passes + 3 → get_or ws 0 0 ≡ size.gate → get_or ws 1 0 ≡ size.gate → ((k : ℕ) → 2 ≤ k → get_or ws k 0 ≡ 0)
+pub opens : (size : Size) (ws : List ℕ) (homes : List (Option (Unit {0}))) → length ws ≡ max_pins * size.passes + 3 → get_or ws 0 0 ≡ size.gate → get_or ws 1 0 ≡ size.gate → ((k : ℕ) → 2 ≤ k → get_or ws k 0 ≡ 0)
     → IsBoard size.passes record { words = ws; homes = homes; views = opening_view size ∷ [] }
 opens size ws homes wide gate cut zeros = record {
   account = record { gate = size.gate; cut = size.gate; count = 0; low = size.gate; scanned = 0; pruner = 0; seat = λ _. 0; hold = λ _. Free; versions = λ _. [] };
@@ -111,6 +112,6 @@ zeros_from g n (suc zero) l = absurd (omega arith)
 zeros_from g n (suc (suc k)) l = free_at 0 n k
 
 -- the words that the code makes begin a board
-pub opens_new : (passes gate : ℕ) (ws : List ℕ) → ws ≡ gate ∷ gate ∷ replicate (8 * passes + 1) 0 → IsBoard passes record { words = ws; homes = []; views = opening_view record { passes = passes; gate = gate } ∷ [] }
+pub opens_new : (passes gate : ℕ) (ws : List ℕ) → ws ≡ gate ∷ gate ∷ replicate (max_pins * passes + 1) 0 → IsBoard passes record { words = ws; homes = []; views = opening_view record { passes = passes; gate = gate } ∷ [] }
 opens_new passes gate ws e = subst (λ (z : List ℕ). IsBoard passes record { words = z; homes = []; views = opening_view record { passes = passes; gate = gate } ∷ [] }) (sym e)
-    (opens record { passes = passes; gate = gate } (gate ∷ gate ∷ replicate (8 * passes + 1) 0) [] (omega (arith, length-replicate {A = ℕ} (8 * passes + 1) 0)) refl refl (zeros_from gate (8 * passes + 1)))
+    (opens record { passes = passes; gate = gate } (gate ∷ gate ∷ replicate (max_pins * passes + 1) 0) [] (omega (arith, length-replicate {A = ℕ} (max_pins * passes + 1) 0)) refl refl (zeros_from gate (max_pins * passes + 1)))

@@ -2,6 +2,7 @@
 use lib.Seq.{set-get_or}
 use Rattle.std.proofs.Common.{◌≡◌, ℕ, ◌<◌, ◌≤◌, cond, List, length, get_or, set, ap, ◌∙◌, arith, le-leb, get_or-set_same, sym, Option, Some, None, ◌≢◌, refl, subst, ◌+◌, [], ◌∷◌, ◌++◌}
 use Rattle.std.proofs.lemmas.List.{set-set}
+use Rattle.jf_path.specs.Limits.{max_pins}
 use Rattle.atomic_table.specs.Seated.{TableId}
 use Rattle.jf_board.specs.declared.views.Hold.{Hold}
 use Rattle.jf_board.specs.declared.views.Hold.TheVariants.{Free, Announced, Confirmed}
@@ -12,7 +13,7 @@ use Rattle.jf_board.specs.Refusals.{RefusedPin}
 use Rattle.jf_board.specs.declared.pin_refused.PinRefused.TheVariants.{Retired}
 
 -- a version announced is confirmed if the gate is at most it
-pub confirmed_view : (v : PlaceView) (i version gate : ℕ) → i < 8 → length v.holds ≡ 8 → gate ≤ version → confirming (announcing v i version) gate ≡ pinned_at v i version gate
+pub confirmed_view : (v : PlaceView) (i version gate : ℕ) → i < max_pins → length v.holds ≡ max_pins → gate ≤ version → confirming (announcing v i version) gate ≡ pinned_at v i version gate
 confirmed_view v i version gate small eight le = let A : Hold = Announced version in
     let was : get_or (set v.holds i A) i Free ≡ A = get_or-set_same v.holds i A Free (omega arith) in
     let now : confirmed_from gate (get_or (set v.holds i A) i Free) ≡ Confirmed version = ap (confirmed_from gate) was ∙ ap (λ b. cond b (Confirmed version) A) (le-leb gate version le) in
@@ -36,11 +37,11 @@ held_of None h a n = absurd (n refl)
 held_of (Some v) h a n = λ e. cc
 
 -- the first place of which memory keeps nothing is the least free one
-pub least_free : (pins : List (Option ℕ)) (v : PlaceView) (i : ℕ) → ((k : ℕ) → k < 8 → Agrees (get_or pins k None) (get_or v.holds k Free)) → i < 8 → get_or pins i None ≡ None → ((k : ℕ) → k < i → get_or pins k None ≢ None) → IsLeastFree v i
+pub least_free : (pins : List (Option ℕ)) (v : PlaceView) (i : ℕ) → ((k : ℕ) → k < max_pins → Agrees (get_or pins k None) (get_or v.holds k Free)) → i < max_pins → get_or pins i None ≡ None → ((k : ℕ) → k < i → get_or pins k None ≢ None) → IsLeastFree v i
 least_free pins v i agree small free before = ((small, free_of (get_or pins i None) (get_or v.holds i Free) (agree i small) free), λ k l. held_of (get_or pins k None) (get_or v.holds k Free) (agree k (omega arith)) (before k l))
 
 -- from the view before, w, to the view x after the version was announced and the gate loaded
-pub pin_ok : (w v x y : PlaceView) (i version gate : ℕ) → v ≡ w → IsLeastFree v i → length v.holds ≡ 8 → gate ≤ version → y ≡ announcing v i version → x ≡ confirming y gate
+pub pin_ok : (w v x y : PlaceView) (i version gate : ℕ) → v ≡ w → IsLeastFree v i → length v.holds ≡ max_pins → gate ≤ version → y ≡ announcing v i version → x ≡ confirming y gate
     → IsLeastFree w i × (x.gate ≤ version) × (x ≡ pinned_at w i version x.gate)
 pin_ok w v x y i version gate same free eight le e e' = let k : x ≡ pinned_at v i version gate = e' ∙ (ap (λ z. confirming z gate) e ∙ confirmed_view v i version gate free.0.0 eight le) in let g : x.gate ≡ gate = ap (λ (z : PlaceView). z.gate) k in
     (subst (λ z. IsLeastFree z i) same free, omega arith, k ∙ (λ j. pinned_at (same j) i version (sym g j)))

@@ -3,6 +3,7 @@ use mathlib.Core.Logic.{dite}
 use mathlib.Core.Option.{none}
 use native.Mathlib.Decide.{dec_lt, ℕ_discrete}
 use Rattle.std.proofs.Common.{ℕ, ◌≤◌, arith, List, [], ◌∷◌, ◌≢◌, ◌+◌, ◌-◌, set, ◌∙◌, length-set, get_or-set_other, get_or-set_same, ◌≡◌, sym, refl, ap, le_refl, ◌⊎◌, subst, ⊎_elim, max, ◌*◌, length, ◌/◌, ◌<◌, get_or, length-append}
+use Rattle.jf_path.specs.Limits.{max_pins}
 use Rattle.atomic_table.specs.Table.{step, keeps, Allows}
 use Rattle.jf_board.specs.Rule.{Account, PlaceFits, JoinedFit, ViewFits, IsWritten, IsBoard, Below, least, word_of, lower, Has, Listed}
 use Rattle.jf_board.specs.Steps.{scanned, raising, gate_raised, BoardSeat, cut_made, JoinedHold, BelowJoined, scanning}
@@ -77,13 +78,13 @@ pub max_is : (a b : ℕ) → (max a b ≡ a) ⊎ (max a b ≡ b)
 max_is a b = grind arith
 
 -- the pruner may set the cut to the greater of cut and low if it loaded all words
-pub cuts : (passes slots id : ℕ) (me : BoardSeat) (q : PrunerView) (cut : ℕ) → me.0 ≡ Prunes q → length q.loaded ≡ 8 * passes → cut ≡ max q.cut (least q.gate q.loaded)
+pub cuts : (passes slots id : ℕ) (me : BoardSeat) (q : PrunerView) (cut : ℕ) → me.0 ≡ Prunes q → length q.loaded ≡ max_pins * passes → cut ≡ max q.cut (least q.gate q.loaded)
     → Allows (IsBoard passes) slots id me 1 (λ _. cut) (λ _. cut_made (step slots 1 cut 0 none) me cut)
 cuts passes slots id me q cut is whole up s r _ at _ =
-    let fit = pruner_at passes s r id me.0 q is at in let p = r.account in let w : PrunerView = record q { cut = cut } in let few = number_below passes s r in let all : p.scanned ≡ 8 * passes = sym fit.scanned_is ∙ whole in
+    let fit = pruner_at passes s r id me.0 q is at in let p = r.account in let w : PrunerView = record q { cut = cut } in let few = number_below passes s r in let all : p.scanned ≡ max_pins * passes = sym fit.scanned_is ∙ whole in
     let low_is = fit.low_is in let cut_is = fit.cut_is in let low_gate = r.sound.low_gate in let cut_gate = r.sound.cut_gate in
     let now : cut ≡ max p.cut p.low = up ∙ (λ k. max (cut_is k) (low_is k)) in
-    let low_pins : (k : ℕ) → Below p.low (p.hold k) = λ k. dite (dec_lt k (8 * passes)) (λ l. r.sound.low_pins k (omega arith)) (λ n. subst (Below p.low) (sym (r.sound.unnumbered k (omega arith))) tt) in (
+    let low_pins : (k : ℕ) → Below p.low (p.hold k) = λ k. dite (dec_lt k (max_pins * passes)) (λ l. r.sound.low_pins k (omega arith)) (λ n. subst (Below p.low) (sym (r.sound.unnumbered k (omega arith))) tt) in (
       Prunes w,
       keeps,
       tt,
@@ -120,10 +121,10 @@ joined_hold p id k x (g ∷ gs) is r = ((λ i small e. is ∙ ap word_of (ap p.h
 -- what is at most all that is confirmed is at most what joined places have confirmed
 pub below_joined : (p : Account) (id m : ℕ) (gs : List PlaceView) → ((k : ℕ) → Below m (p.hold k)) → JoinedFit p id gs → BelowJoined m gs
 below_joined p id m [] low r = tt
-below_joined p id m (g ∷ gs) low r = ((λ i small. subst (Below m) (sym (r.0.holds i small)) (low (8 * g.number + i))), below_joined p id m gs low r.2)
+below_joined p id m (g ∷ gs) low r = ((λ i small. subst (Below m) (sym (r.0.holds i small)) (low (max_pins * g.number + i))), below_joined p id m gs low r.2)
 
 -- the pruner may load the next pin word
-pub scans : (passes slots id k : ℕ) (me : BoardSeat) (q : PrunerView) → me.0 ≡ Prunes q → length q.loaded ≡ k → k < 8 * passes → Allows (IsBoard passes) slots id me (k + 3) (λ x. x) (scanned (step slots (k + 3) 0 0 none) me)
+pub scans : (passes slots id k : ℕ) (me : BoardSeat) (q : PrunerView) → me.0 ≡ Prunes q → length q.loaded ≡ k → k < max_pins * passes → Allows (IsBoard passes) slots id me (k + 3) (λ x. x) (scanned (step slots (k + 3) 0 0 none) me)
 scans passes slots id k me q is long inside s r _ at _ =
     let fit = pruner_at passes s r id me.0 q is at in let p = r.account in let x : ℕ = get_or s.words (k + 3) 0 in let w : PrunerView = scanning q k x in
     let found : x ≡ word_of (p.hold k) = r.written.pins_are k inside in let low : ℕ = lower p.low x in let less = lower_le p.low x in let low_gate = r.sound.low_gate in let at_k : p.scanned ≡ k = sym fit.scanned_is ∙ long in (
@@ -147,7 +148,7 @@ scans passes slots id k me q is long inside s r _ at _ =
             cut_is = fit.cut_is;
             low_is = least_snoc q.gate q.loaded x ∙ ap (λ (z : ℕ). lower z x) fit.low_is;
             scanned_is = omega (arith, length-append q.loaded (x ∷ []));
-            pairs = pairs_after (λ (t : ℕ × ℕ). Has (p.versions t.0) t.1) q.pairs x (k / 8, x - 1) fit.pairs (λ n. has_version (p.versions (k / 8)) x (p.hold k) found n (r.sound.listed k));
+            pairs = pairs_after (λ (t : ℕ × ℕ). Has (p.versions t.0) t.1) q.pairs x (k / max_pins, x - 1) fit.pairs (λ n. has_version (p.versions (k / max_pins)) x (p.hold k) found n (r.sound.listed k));
             joined = joined_paced p p.gate p.cut low (k + 1) id q.joined (le_refl p.gate) fit.joined;
           }
           (λ j u other f. paced_else p p.gate p.cut low (k + 1) j u (le_refl p.gate) (λ e. other (e ∙ sym fit.alone)) f),

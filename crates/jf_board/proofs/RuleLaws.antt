@@ -2,6 +2,7 @@
 use Rattle.std.proofs.Common.{◌≡◌, ◌≢◌, ℕ, zero, suc, ◌+◌, ◌*◌, ◌<◌, ◌≤◌, List, [], ◌∷◌, length, sym, ap, ◌∙◌, subst, arith}
 use mathlib.Core.Option.{some, some-injective, some-ne-none}
 use lib.ListN.{get_elem?}
+use Rattle.jf_path.specs.Limits.{max_pins}
 use Rattle.jf_board.specs.declared.views.Hold.{Hold}
 use Rattle.jf_board.specs.declared.views.PlaceView.{PlaceView}
 use Rattle.jf_board.specs.declared.views.PrunerView.{PrunerView}
@@ -57,8 +58,8 @@ one_place passes s r id v u at at' e = let same : at.0 ≡ at'.0 = some-injectiv
     one_place_in r.account id at'.0 v u (r.each id at'.0 at'.1) (subst (λ (x : View). IsPlaceIn x v) same at.2) at'.2 e
 
 -- the cut is at most what a place has confirmed
-below_cut : (passes : ℕ) (s : BoardState) (r : IsBoard passes s) (id : ℕ) (v : PlaceView) → StandsAt s id v → (i : ℕ) → i < 8 → Below (cut_in s) (hold_at v i)
-below_cut passes s r id v at i small = subst (λ (z : ℕ × Hold). Below z.0 z.1) (λ k. (sym r.written.cut_is k, sym ((stands passes s r id v at).holds i small) k)) (r.sound.cut_pins (8 * v.number + i))
+below_cut : (passes : ℕ) (s : BoardState) (r : IsBoard passes s) (id : ℕ) (v : PlaceView) → StandsAt s id v → (i : ℕ) → i < max_pins → Below (cut_in s) (hold_at v i)
+below_cut passes s r id v at i small = subst (λ (z : ℕ × Hold). Below z.0 z.1) (λ k. (sym r.written.cut_is k, sym ((stands passes s r id v at).holds i small) k)) (r.sound.cut_pins (max_pins * v.number + i))
 
 -- point 1 of the rule: the cut is low
 pub IsBoard-cut_is_low : (passes : ℕ) (s : BoardState) → IsBoard passes s → CutIsLow s
@@ -68,21 +69,21 @@ IsBoard-cut_is_low passes s r = record {
 }
 
 -- a pin word is what its place holds
-word_at : (passes : ℕ) (s : BoardState) (r : IsBoard passes s) (id : ℕ) (v : PlaceView) → StandsAt s id v → (i : ℕ) → i < 8 → pin_word s v.number i ≡ word_of (hold_at v i)
-word_at passes s r id v at i small = let fit = stands passes s r id v at in let given = fit.numbered in let few = r.few in r.written.pins_are (8 * v.number + i) (omega arith) ∙ sym (ap word_of (fit.holds i small))
+word_at : (passes : ℕ) (s : BoardState) (r : IsBoard passes s) (id : ℕ) (v : PlaceView) → StandsAt s id v → (i : ℕ) → i < max_pins → pin_word s v.number i ≡ word_of (hold_at v i)
+word_at passes s r id v at i small = let fit = stands passes s r id v at in let given = fit.numbered in let few = r.few in r.written.pins_are (max_pins * v.number + i) (omega arith) ∙ sym (ap word_of (fit.holds i small))
 
 -- a pin word of no number is 0
-no_word : (passes : ℕ) (s : BoardState) (r : IsBoard passes s) (n i : ℕ) → count_in s ≤ n → 8 * n + i + 3 < length s.words → pin_word s n i ≡ 0
-no_word passes s r n i none inside = let count = r.written.count_is in let wide = r.written.wide in r.written.pins_are (8 * n + i) (omega arith) ∙ ap word_of (r.sound.unnumbered (8 * n + i) (omega arith))
+no_word : (passes : ℕ) (s : BoardState) (r : IsBoard passes s) (n i : ℕ) → count_in s ≤ n → max_pins * n + i + 3 < length s.words → pin_word s n i ≡ 0
+no_word passes s r n i none inside = let count = r.written.count_is in let wide = r.written.wide in r.written.pins_are (max_pins * n + i) (omega arith) ∙ ap word_of (r.sound.unnumbered (max_pins * n + i) (omega arith))
 
 -- a number is at one seat
 one_seat : (passes : ℕ) (s : BoardState) (r : IsBoard passes s) (id j : ℕ) (v u : PlaceView) → StandsAt s id v → StandsAt s j u → v.number ≡ u.number → id ≡ j
 one_seat passes s r id j v u at at' e = sym (stands passes s r id v at).mine ∙ (ap r.account.seat e ∙ (stands passes s r j u at').mine)
 
 -- a place announced each version that it holds
-listed_at : (passes : ℕ) (s : BoardState) (r : IsBoard passes s) (id : ℕ) (v : PlaceView) → StandsAt s id v → (i : ℕ) → i < 8 → Listed v.announced (hold_at v i)
+listed_at : (passes : ℕ) (s : BoardState) (r : IsBoard passes s) (id : ℕ) (v : PlaceView) → StandsAt s id v → (i : ℕ) → i < max_pins → Listed v.announced (hold_at v i)
 listed_at passes s r id v at i small = let fit = stands passes s r id v at in
-    subst (λ (z : List ℕ × Hold). Listed z.0 z.1) (λ k. ((ap r.account.versions (owner_of v.number i small) ∙ sym fit.announced) k, sym (fit.holds i small) k)) (r.sound.listed (8 * v.number + i))
+    subst (λ (z : List ℕ × Hold). Listed z.0 z.1) (λ k. ((ap r.account.versions (owner_of v.number i small) ∙ sym fit.announced) k, sym (fit.holds i small) k)) (r.sound.listed (max_pins * v.number + i))
 
 -- point 2 of the rule: pin words are what places hold
 pub IsBoard-words_are_holds : (passes : ℕ) (s : BoardState) → IsBoard passes s → WordsAreHolds s
@@ -101,7 +102,7 @@ IsBoard-pruner_knows passes s r = record {
   cut = λ id q at. (prunes passes s r id q at).cut_is ∙ sym r.written.cut_is;
   low = λ id q at. let low = (prunes passes s r id q at).low_is in let gate = r.written.gate_is in let under = r.sound.low_gate in omega arith;
   pins = λ id j q v at at' i small inside. let fit = prunes passes s r id q at in
-      subst (λ (z : ℕ × Hold). Below z.0 z.1) (λ k. (sym fit.low_is k, sym ((stands passes s r j v at').holds i small) k)) (r.sound.low_pins (8 * v.number + i) (subst (λ (k : ℕ). 8 * v.number + i < k) fit.scanned_is inside));
+      subst (λ (z : ℕ × Hold). Below z.0 z.1) (λ k. (sym fit.low_is k, sym ((stands passes s r j v at').holds i small) k)) (r.sound.low_pins (max_pins * v.number + i) (subst (λ (k : ℕ). max_pins * v.number + i < k) fit.scanned_is inside));
 }
 
 -- point 4 of the rule: loaded gates are low

@@ -3,6 +3,7 @@ use Rattle.std.proofs.Common.{◌≡◌, ◌≢◌, ℕ, zero, suc, ◌+◌, ◌
 use mathlib.Core.Logic.{dite}
 use native.Mathlib.Decide.{ℕ_discrete}
 use Rattle.std.proofs.lemmas.Bool.Decides.{nat_tests}
+use Rattle.jf_path.specs.Limits.{max_pins}
 use Rattle.atomic_table.proofs.Lists.{at_longer, at_last}
 use Rattle.jf_board.specs.declared.scan.Held.{Held}
 use Rattle.jf_board.specs.declared.views.PrunerView.{PrunerView}
@@ -55,11 +56,11 @@ lower_left m w a = grind (arith, nat_tests)
 
 -- a load forgets no pair
 pairs_grows : (q : PrunerView) (k word : ℕ) (t : ℕ × ℕ) → Has q.pairs t → Has (scanning q k word).pairs t
-pairs_grows q k word t has = elim (eqb word 0) as (λ b. Has (cond b q.pairs (q.pairs ++ (k / 8, word - 1) ∷ [])) t) [ true ↦ has | false ↦ (has.0, at_longer q.pairs ((k / 8, word - 1) ∷ []) has.0 t has.1) ]
+pairs_grows q k word t has = elim (eqb word 0) as (λ b. Has (cond b q.pairs (q.pairs ++ (k / max_pins, word - 1) ∷ [])) t) [ true ↦ has | false ↦ (has.0, at_longer q.pairs ((k / max_pins, word - 1) ∷ []) has.0 t has.1) ]
 
 -- a load of a word that isn't 0 adds the word's pair
-pairs_new : (q : PrunerView) (k word : ℕ) → word ≢ 0 → Has (scanning q k word).pairs (k / 8, word - 1)
-pairs_new q k word n = let t : ℕ × ℕ = (k / 8, word - 1) in subst (λ b. Has (cond b q.pairs (q.pairs ++ t ∷ [])) t) (sym (ne_eqb word 0 n)) (length q.pairs, at_last q.pairs t (length q.pairs) refl)
+pairs_new : (q : PrunerView) (k word : ℕ) → word ≢ 0 → Has (scanning q k word).pairs (k / max_pins, word - 1)
+pairs_new q k word n = let t : ℕ × ℕ = (k / max_pins, word - 1) in subst (λ b. Has (cond b q.pairs (q.pairs ++ t ∷ [])) t) (sym (ne_eqb word 0 n)) (length q.pairs, at_last q.pairs t (length q.pairs) refl)
 
 -- a scan after one more pin word, whatever it is
 scans_next : (p q : PrunerView) (k low word low' : ℕ) (held held' : Option Held) → Scans p q k low held → JoinedHold q.joined k word → BelowJoined q.cut q.joined → low' ≡ lower low word → IsHeld (scanning q k word) low' held' → Scans p (scanning q k word) (k + 1) low' held'
@@ -85,18 +86,18 @@ still_held q k low word (Some x) h = let inside = h.inside in record {
   below = h.below;
   place = h.place;
   inside = omega (arith, length-append q.loaded (word ∷ []));
-  word = get_longer q.loaded word (8 * x.owner + x.place) inside ∙ h.word;
-  first = subst (λ (ws : List ℕ). low < least q.gate ws) (sym (take_longer q.loaded word (8 * x.owner + x.place) (omega arith))) h.first;
+  word = get_longer q.loaded word (max_pins * x.owner + x.place) inside ∙ h.word;
+  first = subst (λ (ws : List ℕ). low < least q.gate ws) (sym (take_longer q.loaded word (max_pins * x.owner + x.place) (omega arith))) h.first;
   pair = pairs_grows q k word (x.owner, x.version) h.pair;
 }
 
 -- the pin word k as a `Held`: owner, place and version
 abbrev pub held_now : ℕ → ℕ → Held
-held_now k word = record { owner = k / 8; place = k % 8; version = word - 1 }
+held_now k word = record { owner = k / max_pins; place = k % max_pins; version = word - 1 }
 
 -- a scan after one more word that is below the low
 pub scans_lower : (p q q' : PrunerView) (k low word : ℕ) (held : Option Held) → Scans p q k low held → JoinedHold q.joined k word → BelowJoined q.cut q.joined → q' ≡ scanning q k word → 0 < word → word - 1 < low → Scans p q' (k + 1) (word - 1) (Some (held_now k word))
-scans_lower p q q' k low word held s says under e some_word less = let long = s.long in let low_is = s.low_is in let le = least_le q.gate q.loaded in let here : 8 * (k / 8) + k % 8 ≡ k = omega arith in
+scans_lower p q q' k low word held s says under e some_word less = let long = s.long in let low_is = s.low_is in let le = least_le q.gate q.loaded in let here : max_pins * (k / max_pins) + k % max_pins ≡ k = omega arith in
     subst (λ (z : PrunerView). Scans p z (k + 1) (word - 1) (Some (held_now k word))) (sym e)
     (scans_next p q k low word (word - 1) held (Some (held_now k word)) s says under (sym (lower_taken low word some_word less))
     record {
@@ -104,8 +105,8 @@ scans_lower p q q' k low word held s says under e some_word less = let long = s.
       below = omega arith;
       place = omega arith;
       inside = omega (arith, length-append q.loaded (word ∷ []));
-      word = get_last q.loaded word (8 * (k / 8) + k % 8) (here ∙ sym long) ∙ omega arith;
-      first = subst (λ (ws : List ℕ). word - 1 < least q.gate ws) (sym (take_before q.loaded word (8 * (k / 8) + k % 8) (here ∙ sym long))) (omega arith);
+      word = get_last q.loaded word (max_pins * (k / max_pins) + k % max_pins) (here ∙ sym long) ∙ omega arith;
+      first = subst (λ (ws : List ℕ). word - 1 < least q.gate ws) (sym (take_before q.loaded word (max_pins * (k / max_pins) + k % max_pins) (here ∙ sym long))) (omega arith);
       pair = pairs_new q k word (λ z. omega arith);
     })
 
@@ -130,16 +131,16 @@ least_below gate (w ∷ ws) zero h l e = below_less (least (lower gate w) ws) (l
 least_below gate (w ∷ ws) (suc j) h l e = least_below (lower gate w) ws j h (omega arith) e
 
 -- at the places of the place that joined for the scan, the words loaded are what it holds
-pub own_words : (o p q : PrunerView) (v : PlaceView) (k low : ℕ) (held : Option Held) → Scans p q k low held → p ≡ with_own o v → (i : ℕ) → i < 8 → 8 * v.number + i < k → get_or q.loaded (8 * v.number + i) 0 ≡ word_of (hold_at v i)
-own_words o p q v k low held s e i small inside = let j : ℕ = 8 * v.number + i in
+pub own_words : (o p q : PrunerView) (v : PlaceView) (k low : ℕ) (held : Option Held) → Scans p q k low held → p ≡ with_own o v → (i : ℕ) → i < max_pins → max_pins * v.number + i < k → get_or q.loaded (max_pins * v.number + i) 0 ≡ word_of (hold_at v i)
+own_words o p q v k low held s e i small inside = let j : ℕ = max_pins * v.number + i in
     (subst (λ (vs : List PlaceView). JoinedHold vs j (get_or q.loaded j 0)) (s.joined ∙ ap (λ (z : PrunerView). z.joined) e) (s.words j inside)).0 i small refl
 
 -- the low is at most each version held by the place that joined for the scan
-pub own_pins : (o p q : PrunerView) (v : PlaceView) (k low : ℕ) (held : Option Held) → Scans p q k low held → p ≡ with_own o v → (i : ℕ) → i < 8 → 8 * v.number + i < k → Below low (hold_at v i)
+pub own_pins : (o p q : PrunerView) (v : PlaceView) (k low : ℕ) (held : Option Held) → Scans p q k low held → p ≡ with_own o v → (i : ℕ) → i < max_pins → max_pins * v.number + i < k → Below low (hold_at v i)
 own_pins o p q v k low held s e i small inside = let long = s.long in
-    subst (λ (z : ℕ). Below z (hold_at v i)) (sym s.low_is) (least_below q.gate q.loaded (8 * v.number + i) (hold_at v i) (omega arith) (own_words o p q v k low held s e i small inside))
+    subst (λ (z : ℕ). Below z (hold_at v i)) (sym s.low_is) (least_below q.gate q.loaded (max_pins * v.number + i) (hold_at v i) (omega arith) (own_words o p q v k low held s e i small inside))
 
 -- the cut is at most each version held by the place that joined for the scan
-pub own_cut : (o p q : PrunerView) (v : PlaceView) (k low : ℕ) (held : Option Held) → Scans p q k low held → p ≡ with_own o v → (i : ℕ) → i < 8 → 0 < k → Below o.cut (hold_at v i)
+pub own_cut : (o p q : PrunerView) (v : PlaceView) (k low : ℕ) (held : Option Held) → Scans p q k low held → p ≡ with_own o v → (i : ℕ) → i < max_pins → 0 < k → Below o.cut (hold_at v i)
 own_cut o p q v k low held s e i small some =
     (subst (λ (z : ℕ × List PlaceView). BelowJoined z.0 z.1) (λ j. ((s.cut ∙ ap (λ (z : PrunerView). z.cut) e) j, (s.joined ∙ ap (λ (z : PrunerView). z.joined) e) j)) (s.below some)).0 i small

@@ -3,3 +3,4 @@ pub mod Steps
 pub mod States
 pub mod Refusals
 pub mod Scans
+pub use Rattle.jf_path.specs.Limits

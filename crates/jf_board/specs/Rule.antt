@@ -3,6 +3,7 @@
 use lib.ListN.{get_elem?}
 use mathlib.Core.Option.{some}
 use Rattle.std.specs.Prelude.{ℕ, slice_index, ◌+◌, ◌*◌, slice_index_or, ◌≤◌, ◌≡◌, List, ◌-◌, ◌==◌, cond, min, [], ◌∷◌, ◌<◌, length, ◌/◌, ◌≢◌}
+use Rattle.jf_path.specs.Limits.{max_pins}
 use Rattle.atomic_table.specs.Table.{State}
 use Rattle.jf_board.specs.declared.views.View.{View}
 use Rattle.jf_board.specs.declared.views.Hold.{Hold}
@@ -30,7 +31,7 @@ count_in s = slice_index s.words 2
 
 -- the pin word of number n at its place i
 abbrev pub pin_word : BoardState → ℕ → ℕ → ℕ
-pin_word s n i = slice_index s.words (8 * n + i + 3)
+pin_word s n i = slice_index s.words (max_pins * n + i + 3)
 
 -- what a pin word is: 0, or the version plus 1
 abbrev pub word_of : Hold → ℕ
@@ -88,22 +89,22 @@ PrunesAt s id q = get_elem? s.views id ≡ some (Prunes q)
 -- 1. the cut is at most the gate, and at most each version that is confirmed
 pub record CutIsLow (s : BoardState) : Type 0 where
   pub gate : cut_in s ≤ gate_in s
-  pub pins : (id : ℕ) (v : PlaceView) → StandsAt s id v → (i : ℕ) → i < 8 → Below (cut_in s) (hold_at v i)
+  pub pins : (id : ℕ) (v : PlaceView) → StandsAt s id v → (i : ℕ) → i < max_pins → Below (cut_in s) (hold_at v i)
 
 -- 2. a pin word is what its place's view says, and 0 if its number isn't given; numbers of places differ and lie below the count; a place's list has each version that it has announced or confirmed
 pub record WordsAreHolds (s : BoardState) : Type 0 where
-  pub words : (id : ℕ) (v : PlaceView) → StandsAt s id v → (i : ℕ) → i < 8 → pin_word s v.number i ≡ word_of (hold_at v i)
-  pub unnumbered : (n i : ℕ) → count_in s ≤ n → 8 * n + i + 3 < length s.words → pin_word s n i ≡ 0
+  pub words : (id : ℕ) (v : PlaceView) → StandsAt s id v → (i : ℕ) → i < max_pins → pin_word s v.number i ≡ word_of (hold_at v i)
+  pub unnumbered : (n i : ℕ) → count_in s ≤ n → max_pins * n + i + 3 < length s.words → pin_word s n i ≡ 0
   pub apart : (id j : ℕ) (v u : PlaceView) → StandsAt s id v → StandsAt s j u → v.number ≡ u.number → (id ≡ j) × (v ≡ u)
   pub numbered : (id : ℕ) (v : PlaceView) → StandsAt s id v → v.number < count_in s
-  pub listed : (id : ℕ) (v : PlaceView) → StandsAt s id v → (i : ℕ) → i < 8 → Listed v.announced (hold_at v i)
+  pub listed : (id : ℕ) (v : PlaceView) → StandsAt s id v → (i : ℕ) → i < max_pins → Listed v.announced (hold_at v i)
 
 -- 3. the pruner's gate and cut are the words; its low is at most the gate, and at most each confirmed version whose word was scanned
 pub record PrunerKnows (s : BoardState) : Type 0 where
   pub gate : (id : ℕ) (q : PrunerView) → PrunesAt s id q → q.gate ≡ gate_in s
   pub cut : (id : ℕ) (q : PrunerView) → PrunesAt s id q → q.cut ≡ cut_in s
   pub low : (id : ℕ) (q : PrunerView) → PrunesAt s id q → low_of q ≤ gate_in s
-  pub pins : (id j : ℕ) (q : PrunerView) (v : PlaceView) → PrunesAt s id q → StandsAt s j v → (i : ℕ) → i < 8 → 8 * v.number + i < length q.loaded → Below (low_of q) (hold_at v i)
+  pub pins : (id j : ℕ) (q : PrunerView) (v : PlaceView) → PrunesAt s id q → StandsAt s j v → (i : ℕ) → i < max_pins → max_pins * v.number + i < length q.loaded → Below (low_of q) (hold_at v i)
 
 -- 4. a gate that a place loaded is at most the gate
 abbrev pub LoadedGatesAreLow : BoardState → Type 0
@@ -129,11 +130,11 @@ pub record Account : Type 0 where
 
 -- the words are those of the account
 pub record IsWritten (passes : ℕ) (p : Account) (words : List ℕ) : Type 0 where
-  pub wide : length words ≡ 8 * passes + 3
+  pub wide : length words ≡ max_pins * passes + 3
   pub gate_is : slice_index words 0 ≡ p.gate
   pub cut_is : slice_index words 1 ≡ p.cut
   pub count_is : slice_index words 2 ≡ p.count
-  pub pins_are : (k : ℕ) → k < 8 * passes → slice_index words (k + 3) ≡ word_of (p.hold k)
+  pub pins_are : (k : ℕ) → k < max_pins * passes → slice_index words (k + 3) ≡ word_of (p.hold k)
 
 -- cut and low are at most the gate and what is confirmed; what is not numbered holds nothing; what is held was announced
 pub record IsSoundAccount (p : Account) : Type 0 where
@@ -141,18 +142,18 @@ pub record IsSoundAccount (p : Account) : Type 0 where
   pub cut_pins : (k : ℕ) → Below p.cut (p.hold k)
   pub low_gate : p.low ≤ p.gate
   pub low_pins : (k : ℕ) → k < p.scanned → Below p.low (p.hold k)
-  pub unnumbered : (k : ℕ) → 8 * p.count ≤ k → p.hold k ≡ Free
+  pub unnumbered : (k : ℕ) → max_pins * p.count ≤ k → p.hold k ≡ Free
   pub no_versions : (n : ℕ) → p.count ≤ n → p.versions n ≡ []
-  pub listed : (k : ℕ) → Listed (p.versions (k / 8)) (p.hold k)
+  pub listed : (k : ℕ) → Listed (p.versions (k / max_pins)) (p.hold k)
 
 -- a place agrees with the account
 pub record PlaceFits (p : Account) (id : ℕ) (v : PlaceView) : Type 0 where
   pub numbered : v.number < p.count
   pub mine : p.seat v.number ≡ id
   pub loaded : v.gate ≤ p.gate
-  pub latest : v.latest < 8
-  pub eight : length v.holds ≡ 8
-  pub holds : (i : ℕ) → i < 8 → hold_at v i ≡ p.hold (8 * v.number + i)
+  pub latest : v.latest < max_pins
+  pub eight : length v.holds ≡ max_pins
+  pub holds : (i : ℕ) → i < max_pins → hold_at v i ≡ p.hold (max_pins * v.number + i)
   pub announced : v.announced ≡ p.versions v.number
 
 -- no place of the list has the number n

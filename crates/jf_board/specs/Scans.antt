@@ -1,5 +1,6 @@
 -- What a scan found.
 use Rattle.std.specs.Prelude.{◌≡◌, ℕ, ◌+◌, ◌*◌, ◌<◌, length, take, slice_index, Option, Some, None}
+use Rattle.jf_path.specs.Limits.{max_pins}
 use Rattle.jf_board.specs.declared.scan.Held.{Held}
 use Rattle.jf_board.specs.declared.views.PrunerView.{PrunerView}
 use Rattle.jf_board.specs.Rule.{Has, least}
@@ -9,10 +10,10 @@ use Rattle.jf_board.specs.Steps.{JoinedHold, BelowJoined}
 pub record IsHeldBy (q : PrunerView) (least_one : ℕ) (h : Held) : Type 0 where
   pub low : h.version ≡ least_one
   pub below : least_one < q.gate
-  pub place : h.place < 8
-  pub inside : 8 * h.owner + h.place < length q.loaded
-  pub word : slice_index q.loaded (8 * h.owner + h.place) ≡ h.version + 1
-  pub first : least_one < least q.gate (take (8 * h.owner + h.place) q.loaded)
+  pub place : h.place < max_pins
+  pub inside : max_pins * h.owner + h.place < length q.loaded
+  pub word : slice_index q.loaded (max_pins * h.owner + h.place) ≡ h.version + 1
+  pub first : least_one < least q.gate (take (max_pins * h.owner + h.place) q.loaded)
   pub pair : Has q.pairs (h.owner, h.version)
 
 -- the low is the gate, or held names the word that gave it

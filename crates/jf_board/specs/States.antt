@@ -1,5 +1,6 @@
 -- What contracts see of a place and of the pruner.
 use Rattle.std.specs.Prelude.{[], ◌≡◌, ℕ, Option, Some, None, ◌<◌, ◌+◌, ◌∷◌, ◌++◌, slice_set, ◌≢◌, length, List}
+use Rattle.jf_path.specs.Limits.{max_pins}
 use Rattle.atomic_table.specs.Seated.{TableId}
 use Rattle.atomic_table.specs.declared.shared.Seat.{Seat}
 use Rattle.jf_board.specs.declared.views.PlaceView.{PlaceView}
@@ -44,7 +45,7 @@ Agrees (Some v) h = h ≡ Confirmed v
 
 -- the place holds h at i
 abbrev pub HoldAt : PlaceView → ℕ → Hold → Type 0
-HoldAt v i h = (i < 8) × (hold_at v i ≡ h)
+HoldAt v i h = (i < max_pins) × (hold_at v i ≡ h)
 
 -- the place after it announced the version at i and confirmed it by loading the gate
 abbrev pub pinned_at : PlaceView → ℕ → ℕ → ℕ → PlaceView

@@ -1,5 +1,6 @@
 -- The steps of a board: what each makes of its seat's view, and what it tells.
 use Rattle.std.specs.Prelude.{ℕ, [], replicate, slice_set, ◌+◌, ◌∷◌, ◌++◌, leb, cond, ◌-◌, ◌/◌, ◌==◌, drop, ◌≡◌, ◌*◌, ◌<◌, List}
+use Rattle.jf_path.specs.Limits.{max_pins}
 use Rattle.atomic_table.specs.Table.{Me, Step}
 use Rattle.jf_board.specs.declared.views.View.{View}
 use Rattle.jf_board.specs.declared.views.Hold.TheVariants.{Free, Announced, Confirmed}
@@ -19,7 +20,7 @@ TableStep = Step (Unit {0})
 
 -- a place that was just given its number
 abbrev pub newly_numbered : ℕ → PlaceView
-newly_numbered n = record { number = n; gate = 0; latest = 0; holds = replicate 8 Free; announced = [] }
+newly_numbered n = record { number = n; gate = 0; latest = 0; holds = replicate max_pins Free; announced = [] }
 
 -- the place with another hold at i
 abbrev pub with_hold : PlaceView → ℕ → Hold → PlaceView
@@ -49,7 +50,7 @@ numbering q = record q { count = q.count + 1; joined = newly_numbered q.count �
 
 -- the pruner loads the pin word k, the next one
 abbrev pub scanning : PrunerView → ℕ → ℕ → PrunerView
-scanning q k word = record q { loaded = q.loaded ++ word ∷ []; pairs = cond (word == 0) q.pairs (q.pairs ++ (k / 8, word - 1) ∷ []) }
+scanning q k word = record q { loaded = q.loaded ++ word ∷ []; pairs = cond (word == 0) q.pairs (q.pairs ++ (k / max_pins, word - 1) ∷ []) }
 
 -- a place joins for a scan, before any pin word is loaded
 abbrev pub with_own : PrunerView → PlaceView → PrunerView
@@ -66,7 +67,7 @@ without_own q = record q { joined = drop 1 q.joined }
 -- if the word is a pin word of a joined place, it is what that place holds
 abbrev pub JoinedHold : List PlaceView → ℕ → ℕ → Type 0
 JoinedHold [] k word = Unit {0}
-JoinedHold (v ∷ vs) k word = ((i : ℕ) → i < 8 → k ≡ 8 * v.number + i → word ≡ word_of (hold_at v i)) × JoinedHold vs k word
+JoinedHold (v ∷ vs) k word = ((i : ℕ) → i < max_pins → k ≡ max_pins * v.number + i → word ≡ word_of (hold_at v i)) × JoinedHold vs k word
 
 -- each number at which a pin was loaded was given to a place
 abbrev pub NumbersAreGiven : PrunerView → Type 0
@@ -75,7 +76,7 @@ NumbersAreGiven q = (pair : ℕ × ℕ) → Has q.pairs pair → pair.0 < q.coun
 -- m is at most each version that the joined places have confirmed
 abbrev pub BelowJoined : ℕ → List PlaceView → Type 0
 BelowJoined m [] = Unit {0}
-BelowJoined m (v ∷ vs) = ((i : ℕ) → i < 8 → Below m (hold_at v i)) × BelowJoined m vs
+BelowJoined m (v ∷ vs) = ((i : ℕ) → i < max_pins → Below m (hold_at v i)) × BelowJoined m vs
 
 -- each joined place announced all that was loaded at its number
 abbrev pub JoinedAnnounced : List (ℕ × ℕ) → List PlaceView → Type 0
@@ -88,7 +89,7 @@ numbered st m r m' = (q : PrunerView) → m.0 ≡ Prunes q → (r ≡ q.count) �
 
 -- the word of the place i goes from 0 to version + 1
 abbrev pub announced : TableStep → BoardSeat → ℕ → BoardSeat → Type 0
-announced st m r m' = (v : PlaceView) (i version : ℕ) → m.0 ≡ Pins v → st.word ≡ 8 * v.number + i + 3 → st.first ≡ version + 1 → m' ≡ (Pins (announcing v i version), m.1)
+announced st m r m' = (v : PlaceView) (i version : ℕ) → m.0 ≡ Pins v → st.word ≡ max_pins * v.number + i + 3 → st.first ≡ version + 1 → m' ≡ (Pins (announcing v i version), m.1)
 
 -- the gate is loaded
 abbrev pub confirmed : TableStep → BoardSeat → ℕ → BoardSeat → Type 0
@@ -96,7 +97,7 @@ confirmed st m r m' = (v : PlaceView) → m.0 ≡ Pins v → m' ≡ (Pins (confi
 
 -- the word of the place i goes to 0
 abbrev pub withdrawn : TableStep → BoardSeat → ℕ → BoardSeat → Type 0
-withdrawn st m r m' = (v : PlaceView) (i : ℕ) → m.0 ≡ Pins v → st.word ≡ 8 * v.number + i + 3 → m' ≡ (Pins (with_hold v i Free), m.1)
+withdrawn st m r m' = (v : PlaceView) (i : ℕ) → m.0 ≡ Pins v → st.word ≡ max_pins * v.number + i + 3 → m' ≡ (Pins (with_hold v i Free), m.1)
 
 -- the gate word is set
 abbrev pub gate_raised : TableStep → BoardSeat → ℕ → BoardSeat → Type 0

@@ -16,6 +16,7 @@ pub struct Board {
 
 impl Model for Board {
     ghost use Rattle.std.specs.Prelude.{◌≡◌, ◌+◌, ◌*◌, ◌≤◌};
+    ghost use Rattle.jf_path.specs.Limits.{max_pins, max_sessions};
     ghost use Rattle.atomic_table.specs.Seated.{TableId, table_id_coded};
 
     ghost Value = { TableId };
@@ -24,5 +25,5 @@ impl Model for Board {
 
     ghost view = { λ b. b.table.shared.table_id };
 
-    ghost invariant = { λ b. (b.table.shared.table_id.words ≡ 8 * b.passes + 3) × (b.table.shared.key.passes ≡ b.passes) × (b.passes ≤ 16) };
+    ghost invariant = { λ b. (b.table.shared.table_id.words ≡ max_pins * b.passes + 3) × (b.table.shared.key.passes ≡ b.passes) × (b.passes ≤ max_sessions) };
 }

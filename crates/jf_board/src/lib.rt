@@ -4,7 +4,6 @@
 
 mod board;
 mod laws;
-mod memory;
 mod opening;
 mod pin_refused;
 mod place;
@@ -21,7 +20,6 @@ pub use laws::{
     know_cut_is_low, know_greater_is_below, know_loaded_gates_are_low, know_pairs_are_announced,
     know_pruner_knows, know_words_are_holds,
 };
-pub use memory::Memory;
 pub use pin_refused::PinRefused;
 pub use place::Place;
 pub use pruner::Pruner;

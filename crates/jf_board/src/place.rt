@@ -1,6 +1,7 @@
 // A reader's eight pins: a pin is announced, then confirmed by loading the gate, and withdrawn again if the gate is
 // above it.
 ghost use Rattle.std.specs.Prelude.{◌≡◌, ℕ, ◌+◌, ◌-◌, ◌*◌, ◌^◌, ◌<◌, ◌≤◌, ◌≢◌, slice_index_or, IfSome, IfNone, IfOk, IfErr, None};
+ghost use Rattle.jf_path.specs.Limits.{max_pins};
 ghost use Rattle.jf_board.specs.declared.views.Hold.TheVariants.{Free, Confirmed};
 ghost use Rattle.jf_board.specs.States.{pinned_at, HoldAt, IsLeastFree};
 ghost use Rattle.jf_board.specs.Refusals.{RefusedPin};
@@ -11,6 +12,7 @@ use crate::pin_refused::PinRefused;
 use crate::steps::{announce, confirm, withdraw};
 use crate::views::View;
 use atomic_table::Seat;
+use jf_path::MAX_PINS;
 use std::marker::Model;
 
 /// A reader's seat at a board: a number, and eight places, 0 to 7, each of which holds a pinned version or nothing.
@@ -18,11 +20,12 @@ use std::marker::Model;
 pub struct Place {
     pub(crate) seat: Seat<(), View>,
     pub(crate) number: u64,
-    pub(crate) pins: [Option<u64>; 8],
+    pub(crate) pins: [Option<u64>; MAX_PINS as usize],
 }
 
 impl Model for Place {
     ghost use Rattle.std.specs.Prelude.{◌≡◌, ℕ, ◌+◌, ◌*◌, ◌<◌, ◌≤◌, [], length, slice_index_or, None};
+    ghost use Rattle.jf_path.specs.Limits.{max_pins, max_sessions};
     ghost use Rattle.jf_board.specs.States.{PlaceState, place_of, Agrees};
     ghost use Rattle.jf_board.specs.declared.views.Hold.TheVariants.{Free};
     ghost use Rattle.jf_board.specs.declared.views.View.TheVariants.{Pins};
@@ -31,15 +34,15 @@ impl Model for Place {
 
     ghost view = { λ p. record { board = p.seat.table_id; known = place_of p.seat.me.0 } };
 
-    ghost invariant = { λ p. (p.seat.me ≡ (Pins (place_of p.seat.me.0), [])) × (p.number ≡ (place_of p.seat.me.0).number) × (8 * p.number + 11 ≤ p.seat.table_id.words) × (p.number < 16) × (length (place_of p.seat.me.0).holds ≡ 8) × (length p.pins ≡ 8) × ((i : ℕ) → i < 8 → Agrees (slice_index_or p.pins i None) (slice_index_or (place_of p.seat.me.0).holds i Free)) };
+    ghost invariant = { λ p. (p.seat.me ≡ (Pins (place_of p.seat.me.0), [])) × (p.number ≡ (place_of p.seat.me.0).number) × (max_pins * p.number + max_pins + 3 ≤ p.seat.table_id.words) × (p.number < max_sessions) × (length (place_of p.seat.me.0).holds ≡ max_pins) × (length p.pins ≡ max_pins) × ((i : ℕ) → i < max_pins → Agrees (slice_index_or p.pins i None) (slice_index_or (place_of p.seat.me.0).holds i Free)) };
 }
 
 // The least place that holds nothing.
-fn first_free(pins: &[Option<u64>; 8]) -> Option<usize>
-    ensures found { IfSome result (λ i. (i < 8) × (slice_index_or pins.now i None ≡ None) × ((k : ℕ) → k < i → slice_index_or pins.now k None ≢ None)) }
-    ensures none { IfNone result ((k : ℕ) → k < 8 → slice_index_or pins.now k None ≢ None) }
+fn first_free(pins: &[Option<u64>; MAX_PINS as usize]) -> Option<usize>
+    ensures found { IfSome result (λ i. (i < max_pins) × (slice_index_or pins.now i None ≡ None) × ((k : ℕ) → k < i → slice_index_or pins.now k None ≢ None)) }
+    ensures none { IfNone result ((k : ℕ) → k < max_pins → slice_index_or pins.now k None ≢ None) }
 {
-    for i in 0..8 {
+    for i in 0..MAX_PINS as usize {
         if pins[i].is_none() {
             return Some(i);
         }
@@ -83,10 +86,10 @@ impl Place {
     pub fn unpin(&mut self, board: &Board, place: u64) -> Option<u64>
         requires { self.old.board ≡ board.now }
         ensures some { IfSome result (λ v. HoldAt self.old.known place (Confirmed v) × (self.new.known ≡ with_hold self.old.known place Free)) }
-        ensures none { IfNone result ((self.new.known ≡ self.old.known) × (place < 8 → HoldAt self.old.known place Free)) }
+        ensures none { IfNone result ((self.new.known ≡ self.old.known) × (place < max_pins → HoldAt self.old.known place Free)) }
         ensures board { self.new.board ≡ self.old.board }
     {
-        if place >= 8 {
+        if place >= MAX_PINS {
             return None;
         }
         let index = place as usize;

@@ -1,5 +1,6 @@
 // The pruner raises the gate, scans the pins and sets the cut, below which nothing is pinned.
 ghost use Rattle.std.specs.Prelude.{◌≡◌, ℕ, ◌+◌, ◌-◌, ◌*◌, ◌<◌, ◌≤◌, ◌∷◌, [], slice_index, max};
+ghost use Rattle.jf_path.specs.Limits.{max_pins};
 ghost use Rattle.jf_board.specs.Rule.{low_of, word_of, hold_at, Below, Has};
 ghost use Rattle.jf_board.specs.Steps.{raising, NumbersAreGiven, with_joined};
 ghost use Rattle.jf_board.specs.Scans.{IsHeld};
@@ -66,9 +67,9 @@ impl Pruner {
         ensures held { IsHeld self.new.known result.low result.held }
         ensures whole { HasScanned self.new }
         ensures own { own.new ≡ own.old }
-        ensures words { (i : ℕ) → i < 8 → slice_index self.new.known.loaded (8 * own.old.known.number + i) ≡ word_of (hold_at own.old.known i) }
-        ensures pins { (i : ℕ) → i < 8 → Below result.low (hold_at own.old.known i) }
-        ensures cut { (i : ℕ) → i < 8 → Below self.old.known.cut (hold_at own.old.known i) }
+        ensures words { (i : ℕ) → i < max_pins → slice_index self.new.known.loaded (max_pins * own.old.known.number + i) ≡ word_of (hold_at own.old.known i) }
+        ensures pins { (i : ℕ) → i < max_pins → Below result.low (hold_at own.old.known i) }
+        ensures cut { (i : ℕ) → i < max_pins → Below self.old.known.cut (hold_at own.old.known i) }
         ensures pairs { (t : ℕ × ℕ) → Has self.old.known.pairs t → Has self.new.known.pairs t }
         ensures same { (self.new.board ≡ self.old.board) × SameButScan self.old.known self.new.known }
     {
@@ -105,7 +106,7 @@ impl Pruner {
         ensures known { (self.new.board ≡ self.old.board) × (self.new.known ≡ with_joined self.old.known place.known) }
         ensures pairs { (version : ℕ) → Has self.old.known.pairs (place.known.number, version) → Has place.known.announced version }
         ensures given { NumbersAreGiven self.old.known }
-        ensures below { (i : ℕ) → i < 8 → Below self.old.known.cut (hold_at place.known i) }
+        ensures below { (i : ℕ) → i < max_pins → Below self.old.known.cut (hold_at place.known i) }
     {
         let Place { seat, .. } = place;
         steps::join_for_good(board, &mut self.seat, seat);

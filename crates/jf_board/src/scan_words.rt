@@ -8,6 +8,7 @@ use crate::scan::{Held, Scan};
 use crate::steps;
 use crate::views::View;
 use atomic_table::Seat;
+use jf_path::MAX_PINS;
 
 pub(crate) fn scan_words(board: &Board, seat: &mut Seat<(), View>, gate: u64) -> Scan
     requires own { seat.old.table_id ≡ board.now }
@@ -19,13 +20,13 @@ pub(crate) fn scan_words(board: &Board, seat: &mut Seat<(), View>, gate: u64) ->
 {
     let mut low = gate;
     let mut held = None;
-    for k in 0..8 * board.passes as usize {
+    for k in 0..(MAX_PINS * board.passes) as usize {
         let word = steps::load_pin(board, seat, k);
         if word > 0 && word - 1 < low {
             low = word - 1;
             held = Some(Held {
-                owner: k as u64 / 8,
-                place: k as u64 % 8,
+                owner: k as u64 / MAX_PINS,
+                place: k as u64 % MAX_PINS,
                 version: low,
             });
         }

@@ -1,5 +1,6 @@
 // The steps of a board, each with the view that its seat has after it.
 ghost use Rattle.std.specs.Prelude.{◌≡◌, ℕ, ◌+◌, ◌-◌, ◌*◌, ◌^◌, ◌<◌, ◌≤◌, ◌≢◌, [], ◌∷◌, length, max};
+ghost use Rattle.jf_path.specs.Limits.{max_pins, max_sessions};
 ghost use Rattle.jf_board.specs.declared.views.Hold.TheVariants.{Free};
 ghost use Rattle.jf_board.specs.declared.views.View.TheVariants.{Pins, Prunes, Spent};
 ghost use Rattle.jf_board.specs.Rule.{least};
@@ -13,6 +14,7 @@ use crate::plays::{
 };
 use crate::views::View;
 use atomic_table::Seat;
+use jf_path::MAX_PINS;
 
 // Writes the version plus 1 into a pin word.
 pub(crate) fn announce(
@@ -23,12 +25,12 @@ pub(crate) fn announce(
     version: u64,
 )
     requires own { seat.old.table_id ≡ board.now }
-    requires place { IsPlaceSeat seat.old number × (place < 8) }
-    requires room { (8 * number + 11 ≤ board.now.words) × (number < 16) }
+    requires place { IsPlaceSeat seat.old number × (place < max_pins) }
+    requires room { (max_pins * number + max_pins + 3 ≤ board.now.words) × (number < max_sessions) }
     requires version { version < 2 ^ 64 - 1 }
     ensures { (seat.new.table_id ≡ seat.old.table_id) × (seat.new.me ≡ (Pins (announcing (place_of seat.old.me.0) place version), [])) }
 {
-    let word = 8 * number as usize + place + 3;
+    let word = (MAX_PINS * number) as usize + place + 3;
     board
         .table
         .shared
@@ -38,11 +40,11 @@ pub(crate) fn announce(
 // Writes 0, nothing pinned, into a pin word.
 pub(crate) fn withdraw(board: &Board, seat: &mut Seat<(), View>, number: u64, place: usize)
     requires own { seat.old.table_id ≡ board.now }
-    requires place { IsPlaceSeat seat.old number × (place < 8) }
-    requires room { (8 * number + 11 ≤ board.now.words) × (number < 16) }
+    requires place { IsPlaceSeat seat.old number × (place < max_pins) }
+    requires room { (max_pins * number + max_pins + 3 ≤ board.now.words) × (number < max_sessions) }
     ensures { (seat.new.table_id ≡ seat.old.table_id) × (seat.new.me ≡ (Pins (with_hold (place_of seat.old.me.0) place Free), [])) }
 {
-    let word = 8 * number as usize + place + 3;
+    let word = (MAX_PINS * number) as usize + place + 3;
     board.table.shared.store::<Withdraw>(seat, word, 0);
 }
 
@@ -80,7 +82,7 @@ pub(crate) fn set_cut(board: &Board, seat: &mut Seat<(), View>, cut: u64)
 pub(crate) fn number(board: &Board, seat: &mut Seat<(), View>) -> u64
     requires own { seat.old.table_id ≡ board.now }
     requires pruner { IsPruner seat.old }
-    requires room { 8 * (pruner_of seat.old.me.0).count + 11 ≤ board.now.words }
+    requires room { max_pins * (pruner_of seat.old.me.0).count + max_pins + 3 ≤ board.now.words }
     ensures seat { (seat.new.table_id ≡ seat.old.table_id) × (seat.new.me ≡ (Prunes (numbering (pruner_of seat.old.me.0)), [])) }
     ensures number { result ≡ (pruner_of seat.old.me.0).count }
 {

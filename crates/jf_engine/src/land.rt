@@ -1,24 +1,22 @@
 // Landings on a store: of one batch, or of several as one record.
-ghost use Rattle.std.specs.Prelude.{◌≡◌, ◌⊎◌, ◌↔◌, ℕ, ◌+◌, ◌-◌, ◌<◌, ◌≤◌, ◌^◌, [], ◌∷◌, length, Some, None, Err, IfOk, OnOk, OnErr, true, false};
-ghost use Rattle.std.specs.FinMap as fin;
-ghost use Rattle.jf_path.specs.Faults.{HasCause};
+ghost use Rattle.std.specs.Prelude.{◌≡◌, ◌≤◌, [], ◌∷◌, length, IfOk};
 ghost use Rattle.jf_path.specs.Limits.{max_forks};
 ghost use Rattle.jf_hash.specs.Roots.{root};
-ghost use Rattle.jf_model.specs.Versions.{newest, land_all};
+ghost use Rattle.jf_model.specs.Versions.{newest};
 ghost use Rattle.jf_model.specs.Batches.{key_count};
 ghost use Rattle.jf_split.specs.Limits.{max_keys};
-ghost use Rattle.jf_disk.specs.Disk.{History};
-ghost use Rattle.jf_files.specs.Steps.{Lands, StopsWell, Succeeds};
+ghost use Rattle.jf_files.specs.Steps.{Lands};
+ghost use Rattle.jf_engine.specs.EngineSteps.{HasEnded};
 
 use crate::engine::{Engine, LAST, MOST_KEYS};
 use crate::fault::{EngineFault, Which};
 use crate::frame::encode_landings;
 use crate::landed::Landed;
 use crate::landing::{land_batches, take_back};
-use jf_disk::Disk;
+use jf_disk::{Disk, know_dated};
 use jf_files::{landings_follow, standings_have_versions, stops_by_records, succeeds_by_records};
 use jf_frame::DiskFault;
-use jf_join::Gate;
+use jf_join::{Gate, Workers};
 use jf_payload::{kept_is_spelled, written_in_both};
 use jf_split::{Batch, BatchList};
 use jf_standing::{formats_are_sound, formats_group, groups_land};
@@ -28,37 +26,18 @@ use std::thread::Threads;
 
 impl<D: Disk> Engine<D> {
     /// Lands a batch on the head as the next version. All memory is taken first. Then come four calls on the disk: write
-    /// and sync of the record, write and sync of its gate. At most `workers` threads work, 1 to 64; neither their number
-    /// nor the gate has an effect on the result. It refuses as `land_all` does.
+    /// and sync of the record, write and sync of its gate. At most `workers` threads work; neither their number nor the
+    /// gate has an effect on the result. It refuses as `land_all` does.
     pub fn land<H: Threads + Sync, G: Gate>(
         &mut self,
         rt: &H,
         alloc: Global,
         batch: &Batch,
-        workers: u64,
+        workers: Workers,
         gate: &G,
     ) -> Result<Landed, EngineFault>
-        requires some { 1 ≤ workers }
-        requires few { workers ≤ 64 }
-        ensures landed { OnOk result (self.new.versions ≡ land_all (batch.now ∷ []) self.old.versions) }
+        ensures step { HasEnded (Lands (batch.now ∷ [])) self.old self.new result }
         ensures answer { IfOk result (λ l. (l.version ≡ self.new.versions.head) × (l.root ≡ root (newest self.new.versions)) × (l.moment ≡ self.new.moment)) }
-        ensures generation { self.new.generation ≡ self.old.generation }
-        ensures four { OnOk result (self.new.moment ≡ self.old.moment + 4) }
-        ensures succeeds { (h : History) → self.old.history ≡ Some h → OnOk result ((g : History) × (self.new.history ≡ Some g) × Succeeds (Lands (batch.now ∷ [])) h g self.old.versions) }
-        ensures stops { (h : History) → self.old.history ≡ Some h → result ≡ Err EngineFault.DiskFault → (g : History) × (self.new.history ≡ Some g) × StopsWell (Lands (batch.now ∷ [])) h g self.old.versions }
-        ensures untold { self.old.history ≡ None → self.new.history ≡ None }
-        ensures broken { (result ≡ Err EngineFault.Broken) ↔ (self.old.broken ≡ true) }
-        ensures last { (result ≡ Err (EngineFault.Last Which.Version)) ↔ ((self.old.broken ≡ false) × (2 ^ 64 - 2 < self.old.versions.head + 1)) }
-        ensures keys { (result ≡ Err (EngineFault.Last Which.Keys)) ↔ ((self.old.broken ≡ false) × (self.old.versions.head + 1 ≤ 2 ^ 64 - 2) × (2 ^ 62 < fin.len (newest self.old.versions))) }
-        ensures only { (w : _) → result ≡ Err (EngineFault.Last w) → (w ≡ Which.Version) ⊎ (w ≡ Which.Keys) }
-        ensures never { (n : ℕ) → result ≡ Err (EngineFault.NotEmpty n) → ⊥ }
-        ensures small { OnOk result (fin.len (newest self.old.versions) ≤ 2 ^ 62) }
-        ensures untouched { OnErr result ((result ≡ Err EngineFault.DiskFault) ⊎ (self.new ≡ self.old)) }
-        ensures same { OnErr result (self.new.versions ≡ self.old.versions) }
-        ensures fault { result ≡ Err EngineFault.DiskFault → HasCause self.old.faults self.new.faults }
-        ensures breaks { result ≡ Err EngineFault.DiskFault → self.new.broken ≡ true }
-        ensures whole { OnOk result (self.new.broken ≡ false) }
-        ensures counts { (self.old.moment ≤ self.new.moment) × (self.old.faults ≤ self.new.faults) }
     {
         let _ = batch.as_slice();
         self.land_each(rt, alloc, from_ref(batch), workers, gate)
@@ -66,8 +45,8 @@ impl<D: Disk> Engine<D> {
 
     /// Lands batches on the head, one version for each, in their order. They are one record, so a crash leaves all of
     /// these versions or none. All memory is taken first. Then come four calls on the disk: write and sync of the
-    /// record, write and sync of its gate. At most `workers` threads work, 1 to 64; neither their number nor the gate
-    /// has an effect on the result.
+    /// record, write and sync of its gate. At most `workers` threads work; neither their number nor the gate has an
+    /// effect on the result.
     ///
     /// Refusals; after each but `DiskFault` store and disk are unchanged:
     ///
@@ -82,33 +61,14 @@ impl<D: Disk> Engine<D> {
         rt: &H,
         alloc: Global,
         batches: &BatchList,
-        workers: u64,
+        workers: Workers,
         gate: &G,
     ) -> Result<Landed, EngineFault>
-        requires some { 1 ≤ workers }
-        requires few { workers ≤ 64 }
         requires any { 1 ≤ length batches.now }
         requires forks { length batches.now ≤ max_forks }
         requires limited { key_count batches.now ≤ max_keys }
-        ensures landed { OnOk result (self.new.versions ≡ land_all batches.now self.old.versions) }
+        ensures step { HasEnded (Lands batches.now) self.old self.new result }
         ensures answer { IfOk result (λ l. (l.version ≡ self.new.versions.head) × (l.root ≡ root (newest self.new.versions)) × (l.moment ≡ self.new.moment)) }
-        ensures generation { self.new.generation ≡ self.old.generation }
-        ensures four { OnOk result (self.new.moment ≡ self.old.moment + 4) }
-        ensures succeeds { (h : History) → self.old.history ≡ Some h → OnOk result ((g : History) × (self.new.history ≡ Some g) × Succeeds (Lands batches.now) h g self.old.versions) }
-        ensures stops { (h : History) → self.old.history ≡ Some h → result ≡ Err EngineFault.DiskFault → (g : History) × (self.new.history ≡ Some g) × StopsWell (Lands batches.now) h g self.old.versions }
-        ensures untold { self.old.history ≡ None → self.new.history ≡ None }
-        ensures broken { (result ≡ Err EngineFault.Broken) ↔ (self.old.broken ≡ true) }
-        ensures last { (result ≡ Err (EngineFault.Last Which.Version)) ↔ ((self.old.broken ≡ false) × (2 ^ 64 - 2 < self.old.versions.head + length batches.now)) }
-        ensures keys { (result ≡ Err (EngineFault.Last Which.Keys)) ↔ ((self.old.broken ≡ false) × (self.old.versions.head + length batches.now ≤ 2 ^ 64 - 2) × (2 ^ 62 < fin.len (newest self.old.versions))) }
-        ensures only { (w : _) → result ≡ Err (EngineFault.Last w) → (w ≡ Which.Version) ⊎ (w ≡ Which.Keys) }
-        ensures never { (n : ℕ) → result ≡ Err (EngineFault.NotEmpty n) → ⊥ }
-        ensures small { OnOk result (fin.len (newest self.old.versions) ≤ 2 ^ 62) }
-        ensures untouched { OnErr result ((result ≡ Err EngineFault.DiskFault) ⊎ (self.new ≡ self.old)) }
-        ensures same { OnErr result (self.new.versions ≡ self.old.versions) }
-        ensures fault { result ≡ Err EngineFault.DiskFault → HasCause self.old.faults self.new.faults }
-        ensures breaks { result ≡ Err EngineFault.DiskFault → self.new.broken ≡ true }
-        ensures whole { OnOk result (self.new.broken ≡ false) }
-        ensures counts { (self.old.moment ≤ self.new.moment) × (self.old.faults ≤ self.new.faults) }
     {
         self.land_each(rt, alloc, batches.as_slice(), workers, gate)
     }
@@ -119,38 +79,20 @@ impl<D: Disk> Engine<D> {
         rt: &H,
         alloc: Global,
         batches: &[Batch],
-        workers: u64,
+        workers: Workers,
         gate: &G,
     ) -> Result<Landed, EngineFault>
-        requires some { 1 ≤ workers }
-        requires few { workers ≤ 64 }
         requires any { 1 ≤ length batches.now }
         requires forks { length batches.now ≤ max_forks }
         requires limited { key_count batches.now ≤ max_keys }
-        ensures landed { OnOk result (self.new.versions ≡ land_all batches.now self.old.versions) }
+        ensures step { HasEnded (Lands batches.now) self.old self.new result }
         ensures answer { IfOk result (λ l. (l.version ≡ self.new.versions.head) × (l.root ≡ root (newest self.new.versions)) × (l.moment ≡ self.new.moment)) }
-        ensures generation { self.new.generation ≡ self.old.generation }
-        ensures four { OnOk result (self.new.moment ≡ self.old.moment + 4) }
-        ensures succeeds { (h : History) → self.old.history ≡ Some h → OnOk result ((g : History) × (self.new.history ≡ Some g) × Succeeds (Lands batches.now) h g self.old.versions) }
-        ensures stops { (h : History) → self.old.history ≡ Some h → result ≡ Err EngineFault.DiskFault → (g : History) × (self.new.history ≡ Some g) × StopsWell (Lands batches.now) h g self.old.versions }
-        ensures untold { self.old.history ≡ None → self.new.history ≡ None }
-        ensures broken { (result ≡ Err EngineFault.Broken) ↔ (self.old.broken ≡ true) }
-        ensures last { (result ≡ Err (EngineFault.Last Which.Version)) ↔ ((self.old.broken ≡ false) × (2 ^ 64 - 2 < self.old.versions.head + length batches.now)) }
-        ensures keys { (result ≡ Err (EngineFault.Last Which.Keys)) ↔ ((self.old.broken ≡ false) × (self.old.versions.head + length batches.now ≤ 2 ^ 64 - 2) × (2 ^ 62 < fin.len (newest self.old.versions))) }
-        ensures only { (w : _) → result ≡ Err (EngineFault.Last w) → (w ≡ Which.Version) ⊎ (w ≡ Which.Keys) }
-        ensures never { (n : ℕ) → result ≡ Err (EngineFault.NotEmpty n) → ⊥ }
-        ensures small { OnOk result (fin.len (newest self.old.versions) ≤ 2 ^ 62) }
-        ensures untouched { OnErr result ((result ≡ Err EngineFault.DiskFault) ⊎ (self.new ≡ self.old)) }
-        ensures same { OnErr result (self.new.versions ≡ self.old.versions) }
-        ensures fault { result ≡ Err EngineFault.DiskFault → HasCause self.old.faults self.new.faults }
-        ensures breaks { result ≡ Err EngineFault.DiskFault → self.new.broken ≡ true }
-        ensures whole { OnOk result (self.new.broken ≡ false) }
-        ensures counts { (self.old.moment ≤ self.new.moment) × (self.old.faults ≤ self.new.faults) }
     {
         if self.broken {
             return Err(EngineFault::Broken);
         }
         self.directory.know();
+        know_dated(&self.disk);
         formats_are_sound();
         formats_group();
         groups_land();
@@ -172,11 +114,14 @@ impl<D: Disk> Engine<D> {
             return Err(EngineFault::Memory);
         };
         match self.pair.append(&mut self.disk, frame.as_slice()) {
-            Ok(()) => Ok(Landed {
-                version: self.directory.head(),
-                root: self.directory.newest().root(),
-                moment: self.disk.moment(),
-            }),
+            Ok(()) => {
+                know_dated(&self.disk);
+                Ok(Landed {
+                    version: self.directory.head(),
+                    root: self.directory.newest().root(),
+                    moment: self.disk.moment(),
+                })
+            }
             Err(DiskFault) => {
                 take_back(&mut self.directory, &landings);
                 self.broken = true;

@@ -3,6 +3,7 @@ use Rattle.std.specs.Prelude.{ℕ, zero, suc, false, [], ◌∷◌, ◌≡◌, r
 use Rattle.std.proofs.Common.{sym, ap, inl, inr, subst, arith}
 use Rattle.std.specs.Fmt.{digits}
 use Rattle.atomic_table.specs.Seated.{TableId}
+use Rattle.jf_path.specs.Limits.{max_pins}
 use Rattle.jf_hash.specs.Maps.{apply}
 use Rattle.jf_model.specs.declared.entries.Entry.{Entry}
 use Rattle.jf_model.specs.declared.entries.Entry.TheVariants as entry
@@ -84,8 +85,8 @@ same_at x zero i = refl
 same_at x (suc n) zero = refl
 same_at x (suc n) (suc i) = same_at x n i
 
-none_at : (i : ℕ) → IsPinned (slice_index_or none_pinned i None) (slice_index_or (replicate 8 hold.Free) i hold.Free)
-none_at i = subst (λ (o : Option SnapshotValue). IsPinned o (slice_index_or (replicate 8 hold.Free) i hold.Free)) (sym (same_at None 8 i)) (same_at hold.Free 8 i)
+none_at : (i : ℕ) → IsPinned (slice_index_or none_pinned i None) (slice_index_or (replicate max_pins hold.Free) i hold.Free)
+none_at i = subst (λ (o : Option SnapshotValue). IsPinned o (slice_index_or (replicate max_pins hold.Free) i hold.Free)) (sym (same_at None max_pins i)) (same_at hold.Free max_pins i)
 
 replied : HasReplied (store_of 1).start (new_session (new_pass (store_of 1) 0)) session (codes "commit") told
 unfolding answer command_of base_of words number unhex digits refused_by after replay apply

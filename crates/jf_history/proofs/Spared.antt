@@ -2,6 +2,7 @@
 use Rattle.std.proofs.Common.{◌≡◌, inl, inr, ℕ, zero, suc, ◌<◌, ◌≤◌, Option, Some, None, List, [], ◌∷◌, take, length, refl, sym, ap, ◌∙◌, subst, arith, IfSome}
 use Rattle.std.specs.Prelude.{slice_index_or}
 use Rattle.std.specs.List.{AllByRecursion}
+use Rattle.jf_path.specs.Limits.{max_pins}
 use Rattle.jf_model.specs.Versions.{Versions}
 use Rattle.jf_model.specs.States.{State, versions}
 use Rattle.jf_model.specs.Entries.{AreLegal, after, replay}
@@ -43,7 +44,7 @@ below_length (o ∷ ss) (suc i) s e = let rest = below_length ss i s e in omega 
 -- a floor that is above no version that the pass has confirmed spares the session's pins
 confirmed_spared : (s : Session) (floor : ℕ) → HoldsPins s → ((version : ℕ) → HasConfirmed s.pass.place version → floor ≤ version) → SparesPins s.own floor
 confirmed_spared s floor h low = subst (AllByRecursion (λ pin. IfSome pin (λ p. floor ≤ p))) (sym h.versions) (each_version (λ v. floor ≤ v) s.pass.pinned (λ i t there.
-    let small : i < 8 = (let below = below_length s.pass.pinned i t there in omega (arith, below, h.eight)) in
+    let small : i < max_pins = (let below = below_length s.pass.pinned i t there in omega (arith, below, h.eight)) in
     low t.version (i, small, subst (λ (o : Option SnapshotValue). IsPinned o (hold_at s.pass.place i)) there (h.board i small))))
 
 -- ---- the pins in the end
@@ -54,7 +55,7 @@ try_holds start mid last line t h =
     let place : mid.pass.place ≡ last.pass.place = sym (ap (λ (p : Pass). p.place) t.sees.last) in
     record {
       versions = ap (λ (o : Own). o.pins) t.own ∙ h.versions ∙ ap pinned_versions pinned;
-      eight = subst (λ (ss : List (Option SnapshotValue)). length ss ≡ 8) pinned h.eight;
+      eight = subst (λ (ss : List (Option SnapshotValue)). length ss ≡ max_pins) pinned h.eight;
       board = λ i small. subst (λ (v : _). IsPinned (slice_index_or last.pass.pinned i None) (hold_at v i)) place (subst (λ (ss : List (Option SnapshotValue)). IsPinned (slice_index_or ss i None) (hold_at mid.pass.place i)) pinned (h.board i small));
     }
 

@@ -1,5 +1,6 @@
 -- One script over a pass of a shared store: what a line makes of it.
 use Rattle.std.specs.Prelude.{◌≡◌, ◌⊎◌, ℕ, ◌<◌, ◌+◌, ◌-◌, Bool, true, false, if◌then◌else◌, is_some, List, [], ◌∷◌, ◌++◌, map, take, length, slice_index_or, Option, Some, None, option_map, IfSome, IsTrue}
+use Rattle.jf_path.specs.Limits.{max_pins}
 use Rattle.jf_model.specs.States.{State}
 use Rattle.jf_model.specs.Entries.{replay, owner_of}
 use Rattle.jf_model.specs.declared.entries.Entry.{Entry}
@@ -40,8 +41,8 @@ pinned_versions ss = map (λ s. option_map (λ t. t.version) s) ss
 -- the pins that the session keeps for itself are those that its pass holds on the board: there are eight, and each version is confirmed there
 pub record HoldsPins (s : Session) : Type 0 where
   pub versions : s.own.pins ≡ pinned_versions s.pass.pinned
-  pub eight : length s.pass.pinned ≡ 8
-  pub board : (i : ℕ) → i < 8 → IsPinned (slice_index_or s.pass.pinned i None) (hold_at s.pass.place i)
+  pub eight : length s.pass.pinned ≡ max_pins
+  pub board : (i : ℕ) → i < max_pins → IsPinned (slice_index_or s.pass.pinned i None) (hold_at s.pass.place i)
 
 -- ---- what a history is to the session
 -- what a pass has seen, as a history; lines of the store's sessions ask to pin these versions

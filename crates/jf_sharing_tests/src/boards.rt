@@ -1,5 +1,6 @@
 // Worked tables of boards, and a pinner and a pruner in two threads.
 ghost use Rattle.std.specs.Prelude.{◌≡◌, ◌+◌, ◌≤◌, IfSome};
+ghost use Rattle.jf_path.specs.Limits.{max_sessions};
 ghost use Rattle.jf_board.specs.States.{AreNewPlaces};
 
 use jf_board::{Board, Held, PinRefused, Place, Pruner, Scan};
@@ -126,7 +127,7 @@ fn holds_as(owner: u64, board: &Board, place: &mut Place, pruner: &mut Pruner) -
 
 // Whether the last place of a board of this size holds the first gate.
 fn last_place_holds(alloc: Global, passes: u64) -> Result<bool, Fail>
-    requires { (1 ≤ passes) × (passes ≤ 16) }
+    requires { (1 ≤ passes) × (passes ≤ max_sessions) }
 {
     let (board, mut places, mut pruner) = Board::new(alloc, passes, 7)?;
     let numbered = are_numbered(places.as_slice());

@@ -1,4 +1,5 @@
 ghost use Rattle.std.specs.Prelude.{◌≡◌, ℕ, ◌+◌, ◌<◌, ◌≤◌, [], ◌∷◌, ◌++◌, length, IsTrue, IfOk, IfSome, None};
+ghost use Rattle.jf_path.specs.Limits.{max_sessions};
 ghost use Rattle.jf_turn.specs.Lists.{HasElement};
 ghost use Rattle.jf_turn.specs.Seats.{IsSeatOf, AreNewSeats};
 
@@ -59,7 +60,7 @@ fn new_turn(
     alloc: Global,
     seats: u64,
 ) -> Result<(Turn<Marks>, Vec<Seat<Marks>>), TurnRefused<Marks>>
-    requires { (1 ≤ seats) × (seats ≤ 16) }
+    requires { (1 ≤ seats) × (seats ≤ max_sessions) }
     ensures { IfOk result (λ r. (r.0.seats ≡ seats) × (length r.1.items ≡ seats) × (1 ≤ seats) × AreNewSeats r.0 r.1.items 0) }
 {
     let marks = Marks {
@@ -109,7 +110,7 @@ fn are_unused(seats: &[Seat<Marks>], count: u64) -> bool {
 
 // Whether a turn of `count` seats, which no thread takes, ends with the list that it began with.
 fn ends_as_it_began(alloc: Global, count: u64) -> Result<bool, Fail>
-    requires { (1 ≤ count) × (count ≤ 16) }
+    requires { (1 ≤ count) × (count ≤ max_sessions) }
 {
     let (turn, seats) = new_turn(alloc, count).ok().ok_or("no memory")?;
     let unused = are_unused(seats.as_slice(), count);

@@ -16,6 +16,7 @@ pub mod RetiringLaws
 pub mod CompactionLaws
 pub mod ForkEntryLaws
 pub mod NewVaults
+pub mod SteppedLaws
 pub mod RefusalLaws
 pub mod CommitLaws
 pub mod LookLaws

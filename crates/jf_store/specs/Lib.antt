@@ -35,6 +35,7 @@ pub use Rattle.jf_disk.specs.Moments
 pub use Rattle.jf_files.specs.Files
 pub use Rattle.jf_files.specs.Steps
 pub use Rattle.jf_node.specs.SnapshotValue
+pub use Rattle.jf_engine.specs.EngineSteps
 pub use Rattle.jf_engine.specs.Engines
 pub use Rattle.jf_engine.specs.Openings
 pub use Rattle.jf_forks.specs.Tables

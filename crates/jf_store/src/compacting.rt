@@ -1,9 +1,10 @@
 // Writing a new generation of the files.
-ghost use Rattle.std.specs.Prelude.{◌≡◌, ◌⊎◌, ℕ, ◌+◌, ◌-◌, ◌<◌, ◌≤◌, ◌^◌, Err, IfOk, IfErr, OnOk, OnErr, false};
+ghost use Rattle.std.specs.Prelude.{◌≡◌, ◌+◌, ◌<◌, IfOk, IfErr};
 ghost use Rattle.jf_path.specs.Checks.{first_of};
 ghost use Rattle.jf_files.specs.Steps.{Compacts};
+ghost use Rattle.jf_engine.specs.EngineSteps.{CanStep, HasEnded};
 ghost use Rattle.jf_store.specs.declared.tried.Attempt.TheVariants as attempt;
-ghost use Rattle.jf_store.specs.Stepped.{HasStepped, HasStopped, IsDatedEngine};
+ghost use Rattle.jf_store.specs.Stepped.{IsUnrefused};
 ghost use Rattle.jf_store.specs.Vaults.{FailsIn};
 ghost use Rattle.jf_store.specs.Passes.{IsPassOf, HasFailed};
 ghost use Rattle.jf_store.specs.Compactions.{compact_faults, CompactsIn, HasCompacted};
@@ -20,25 +21,15 @@ use jf_model::Entry;
 use std::alloc::Global;
 use std::sync::Wait;
 
-// Writes a new generation of an engine that isn't broken, if its number has room. Returns the new one.
+// Writes a new generation of an engine that nothing keeps from it. Returns the new one.
+#[tactic(auto, using(crate::proofs::SteppedLaws::unrefused))]
 fn compact<D: Disk>(alloc: Global, engine: &mut Engine<D>) -> Result<u64, EngineFault>
-    requires whole { engine.old.broken ≡ false }
-    requires bounded { engine.old.generation + 1 ≤ 2 ^ 64 - 2 }
-    ensures stepped { OnOk result (HasStepped Compacts engine.old engine.new) }
+    requires { CanStep Compacts engine.old }
+    ensures step { HasEnded Compacts engine.old engine.new result }
     ensures answer { IfOk result (λ g. g ≡ engine.old.generation + 1) }
-    ensures stopped { result ≡ Err EngineFault.DiskFault → HasStopped Compacts engine.old engine.new }
-    ensures only { OnErr result ((result ≡ Err EngineFault.DiskFault) ⊎ (result ≡ Err EngineFault.Memory)) }
-    ensures untouched { OnErr result ((result ≡ Err EngineFault.DiskFault) ⊎ (engine.new ≡ engine.old)) }
-    ensures dated { IsDatedEngine engine.old }
+    ensures unrefused { IsUnrefused engine.old engine.new result }
 {
-    engine.know();
-    match engine.compact(alloc) {
-        Ok(generation) => {
-            engine.know();
-            Ok(generation)
-        }
-        Err(fault) => Err(fault),
-    }
+    engine.compact(alloc)
 }
 
 impl<D: Disk> Vault<D> {

@@ -1,6 +1,5 @@
 // Landing a fork with its ancestors.
-ghost use Rattle.std.specs.Prelude.{◌≡◌, ◌⊎◌, ℕ, ◌+◌, ◌-◌, ◌<◌, ◌≤◌, ◌^◌, ◌++◌, length, Err, IfOk, IfErr, OnOk, OnErr, false};
-ghost use Rattle.std.specs.FinMap as fin;
+ghost use Rattle.std.specs.Prelude.{◌≡◌, ◌<◌, ◌≤◌, ◌++◌, length, IfOk, IfErr};
 ghost use Rattle.jf_path.specs.Checks.{first_of};
 ghost use Rattle.jf_path.specs.Limits.{max_forks};
 ghost use Rattle.jf_hash.specs.Roots.{root};
@@ -9,8 +8,9 @@ ghost use Rattle.jf_model.specs.Batches.{key_count};
 ghost use Rattle.jf_model.specs.Versions.{newest};
 ghost use Rattle.jf_model.specs.declared.entries.Landing.TheVariants as landing;
 ghost use Rattle.jf_files.specs.Steps.{Lands};
+ghost use Rattle.jf_engine.specs.EngineSteps.{CanStep, HasEnded};
 ghost use Rattle.jf_store.specs.declared.tried.Attempt.TheVariants as attempt;
-ghost use Rattle.jf_store.specs.Stepped.{HasStepped, HasStopped, IsDatedEngine};
+ghost use Rattle.jf_store.specs.Stepped.{IsUnrefused};
 ghost use Rattle.jf_store.specs.Ledgers.{state_after_events};
 ghost use Rattle.jf_store.specs.Refusals.{broken_faults, ledger_faults, landing_faults};
 ghost use Rattle.jf_store.specs.Landings.{land_faults};
@@ -26,45 +26,32 @@ use crate::vault::{LAST, MAX_ENTRIES, MOST_KEYS, Vault};
 use jf_disk::Disk;
 use jf_engine::{Engine, EngineFault, Landed, Which};
 use jf_forks::ForkFault;
-use jf_join::Gate;
+use jf_join::{Gate, Workers};
 use jf_model::{Entry, Landing};
 use jf_split::BatchList;
 use std::alloc::Global;
 use std::sync::Wait;
 use std::thread::Threads;
 
-// Lands the batches of a chain on an engine that isn't broken, if their versions and the keys of its head have room.
+// Lands the batches of a chain on an engine that nothing keeps from it.
+#[tactic(auto, using(crate::proofs::SteppedLaws::unrefused))]
 fn land_chain<D: Disk, H: Threads + Sync, G: Gate>(
     rt: &H,
     alloc: Global,
     engine: &mut Engine<D>,
     chain: &BatchList,
-    workers: u64,
+    workers: Workers,
     gate: &G,
 ) -> Result<Landed, EngineFault>
-    requires whole { engine.old.broken ≡ false }
+    requires can { CanStep (Lands chain.now) engine.old }
     requires any { 1 ≤ length chain.now }
     requires forks { length chain.now ≤ max_forks }
     requires limited { key_count chain.now ≤ max_keys }
-    requires below { engine.old.versions.head + length chain.now ≤ 2 ^ 64 - 2 }
-    requires small { fin.len (newest engine.old.versions) ≤ 2 ^ 62 }
-    requires some { 1 ≤ workers }
-    requires few { workers ≤ 64 }
-    ensures stepped { OnOk result (HasStepped (Lands chain.now) engine.old engine.new) }
+    ensures step { HasEnded (Lands chain.now) engine.old engine.new result }
     ensures answer { IfOk result (λ l. (l.version ≡ engine.new.versions.head) × (l.root ≡ root (newest engine.new.versions)) × (l.moment ≡ engine.new.moment)) }
-    ensures stopped { result ≡ Err EngineFault.DiskFault → HasStopped (Lands chain.now) engine.old engine.new }
-    ensures only { OnErr result ((result ≡ Err EngineFault.DiskFault) ⊎ (result ≡ Err EngineFault.Memory)) }
-    ensures untouched { OnErr result ((result ≡ Err EngineFault.DiskFault) ⊎ (engine.new ≡ engine.old)) }
-    ensures dated { IsDatedEngine engine.old }
+    ensures unrefused { IsUnrefused engine.old engine.new result }
 {
-    engine.know();
-    match engine.land_all(rt, alloc, chain, workers, gate) {
-        Ok(landed) => {
-            engine.know();
-            Ok(landed)
-        }
-        Err(fault) => Err(fault),
-    }
+    engine.land_all(rt, alloc, chain, workers, gate)
 }
 
 impl<D: Disk> Vault<D> {
@@ -125,12 +112,10 @@ impl<D: Disk> Vault<D> {
         alloc: Global,
         pass: u64,
         id: u64,
-        workers: u64,
+        workers: Workers,
         gate: &G,
     ) -> Result<Landed, StoreFault>
-        requires pass { pass < self.old.start.passes }
-        requires some { 1 ≤ workers }
-        requires few { workers ≤ 64 }
+        requires { pass < self.old.start.passes }
         ensures start { self.new.start ≡ self.old.start }
         ensures landed { IfOk result (LandsIn pass (landing.Fork id) self.old self.new) }
         ensures failed { IfErr result (FailsIn pass (attempt.Lands (landing.Fork id)) (land_faults id) self.old self.new) }
@@ -174,7 +159,7 @@ impl<D: Disk> Vault<D> {
 impl<D: Disk> Pass<D> {
     /// Lands a fork and its live ancestors on the head, the oldest first: a version for each, in one record and one
     /// entry. The forks that stand on it stay live, and its children have the head as parent; all others are gone. It
-    /// waits for its turn. At most `workers` threads work, 1 to 64; neither their number nor the gate has an effect on
+    /// waits for its turn. At most `workers` threads work; neither their number nor the gate has an effect on
     /// the result, which names the last version.
     ///
     /// Refusals; after each but `DiskFault` store and disk are as the events that the pass has then seen say:
@@ -196,12 +181,10 @@ impl<D: Disk> Pass<D> {
         alloc: Global,
         store: &Store<D>,
         id: u64,
-        workers: u64,
+        workers: Workers,
         gate: &G,
     ) -> Result<Landed, StoreFault>
-        requires own { IsPassOf self.old store.now }
-        requires some { 1 ≤ workers }
-        requires few { workers ≤ 64 }
+        requires { IsPassOf self.old store.now }
         ensures landed { IfOk result (HasLanded store.now.start (landing.Fork id) self.old self.new) }
         ensures failed { IfErr result (HasFailed store.now.start (attempt.Lands (landing.Fork id)) (land_faults id) self.old self.new) }
     {

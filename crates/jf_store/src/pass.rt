@@ -17,7 +17,7 @@ use crate::pins::Pins;
 use crate::store::Store;
 use jf_disk::Disk;
 use jf_engine::Landed;
-use jf_join::Gate;
+use jf_join::{Gate, Workers};
 use jf_split::Batch;
 use jf_turn::Seat;
 use std::alloc::Global;
@@ -98,7 +98,7 @@ impl<D: Disk> Pass<D> {
     }
 
     /// Lands a batch on the head as the next version, after which no fork is live. It waits for its turn. At most
-    /// `workers` threads work, 1 to 64; neither their number nor the gate has an effect on the result.
+    /// `workers` threads work; neither their number nor the gate has an effect on the result.
     ///
     /// Refusals; after each but `DiskFault` store and disk are as the events that the pass has then seen say:
     ///
@@ -115,12 +115,10 @@ impl<D: Disk> Pass<D> {
         alloc: Global,
         store: &Store<D>,
         batch: &Batch,
-        workers: u64,
+        workers: Workers,
         gate: &G,
     ) -> Result<Landed, StoreFault>
-        requires own { IsPassOf self.old store.now }
-        requires some { 1 ≤ workers }
-        requires few { workers ≤ 64 }
+        requires { IsPassOf self.old store.now }
         ensures landed { IfOk result (HasLanded store.now.start (landing.Direct batch.now) self.old self.new) }
         ensures failed { IfErr result (HasFailed store.now.start (attempt.Lands (landing.Direct batch.now)) commit_faults self.old self.new) }
     {

@@ -1,9 +1,8 @@
 // Retiring versions: the gate is raised, the pins are scanned, the board is cut, and the engine gets the floor.
-ghost use Rattle.std.specs.Prelude.{◌≡◌, ◌⊎◌, ◌+◌, ◌*◌, ◌<◌, ◌≤◌, Err, IfOk, IfErr, OnOk, OnErr, false};
+ghost use Rattle.std.specs.Prelude.{◌≡◌, ◌+◌, ◌*◌, ◌<◌, ◌≤◌, IfOk, IfErr};
+ghost use Rattle.jf_path.specs.Limits.{max_pins};
 ghost use Rattle.jf_path.specs.Checks.{first_of};
-ghost use Rattle.jf_files.specs.Steps.{Prunes};
 ghost use Rattle.jf_store.specs.Passes.{IsPassOf, ArePins};
-ghost use Rattle.jf_store.specs.Stepped.{HasStepped, HasStopped, IsDatedEngine};
 ghost use Rattle.jf_store.specs.Prunings.{prune_faults, HasSwept, PrunesIn, FailsPruning, HasPruned, HasFailedPruning};
 
 use crate::boxed_vault::{give_back, take_out};
@@ -16,7 +15,7 @@ use crate::tried::{Attempt, Tried};
 use crate::vault::{MAX_ENTRIES, Vault};
 use jf_board::{Board, Place, Pruner, Scan};
 use jf_disk::Disk;
-use jf_engine::{Engine, EngineFault, Which};
+use jf_engine::Which;
 use jf_model::Entry;
 use std::sync::Wait;
 
@@ -33,21 +32,6 @@ fn sweep(pruner: &mut Pruner, board: &Board, own: &mut Place, bound: u64) -> Sca
     let scan = pruner.scan(board, own);
     pruner.cut(board);
     scan
-}
-
-// Raises the floor of an engine that isn't broken.
-fn raise_floor<D: Disk>(engine: &mut Engine<D>, floor: u64) -> Result<(), EngineFault>
-    requires whole { engine.old.broken ≡ false }
-    requires low { engine.old.versions.floor ≤ floor }
-    requires high { floor ≤ engine.old.versions.head }
-    ensures stepped { OnOk result (HasStepped (Prunes floor) engine.old engine.new) }
-    ensures stopped { OnErr result ((result ≡ Err EngineFault.DiskFault) × HasStopped (Prunes floor) engine.old engine.new) }
-    ensures dated { IsDatedEngine engine.old }
-{
-    engine.know();
-    engine.prune(floor)?;
-    engine.know();
-    Ok(())
 }
 
 impl<D: Disk> Vault<D> {
@@ -85,7 +69,7 @@ impl<D: Disk> Vault<D> {
         requires pass { pass < self.old.start.passes }
         requires board { board.now ≡ self.old.start.board }
         requires place { own.old.board ≡ board.now }
-        requires words { board.now.words ≡ 8 * self.old.start.passes + 3 }
+        requires words { board.now.words ≡ max_pins * self.old.start.passes + 3 }
         ensures own { own.new ≡ own.old }
         ensures start { self.new.start ≡ self.old.start }
         ensures pruned { IfOk result (PrunesIn pass own.old.known bound self.old self.new) }
@@ -99,7 +83,7 @@ impl<D: Disk> Vault<D> {
         }
         let scan = sweep(&mut self.pruner, board, own, bound);
         let floor = self.engine.state().floor.max(scan.low);
-        match raise_floor(&mut self.engine, floor) {
+        match self.engine.prune(floor) {
             Ok(()) => {
                 self.entries.push_reserved(Entry::Retired {
                     owner: pass,
@@ -135,7 +119,7 @@ impl Pins {
         requires pass { pass < vault.old.start.passes }
         requires board { board.now ≡ vault.old.start.board }
         requires place { self.old.board ≡ board.now }
-        requires words { board.now.words ≡ 8 * vault.old.start.passes + 3 }
+        requires words { board.now.words ≡ max_pins * vault.old.start.passes + 3 }
         ensures same { self.new ≡ self.old }
         ensures pins { ArePins self.old }
         ensures start { vault.new.start ≡ vault.old.start }

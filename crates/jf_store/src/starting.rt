@@ -1,5 +1,6 @@
 // How a shared store starts.
 ghost use Rattle.std.specs.Prelude.{◌≡◌, ℕ, ◌+◌, ◌<◌, ◌≤◌, [], length, IfOk, IfErr, false, vec_capacity};
+ghost use Rattle.jf_path.specs.Limits.{max_sessions};
 ghost use Rattle.jf_turn.specs.Seats.{AreNewSeats};
 ghost use Rattle.jf_board.specs.States.{AreNewPlaces};
 ghost use Rattle.jf_store.specs.Starts.{start_with};
@@ -63,7 +64,7 @@ fn turn_of<D: Disk>(
     vault: Vault<D>,
     passes: u64,
 ) -> Result<(Turn<BoxedVault<D>>, Vec<Seat<BoxedVault<D>>>), StoreRefused<D>>
-    requires passes { (1 ≤ passes) × (passes ≤ 16) }
+    requires passes { (1 ≤ passes) × (passes ≤ max_sessions) }
     requires new { vault.events ≡ [] }
     ensures turn { IfOk result (λ r. (r.0.seats ≡ passes) × (r.0.start ≡ vault.start)) }
     ensures seats { IfOk result (λ r. (length r.1.items ≡ passes) × AreNewSeats r.0 r.1.items 0) }
@@ -95,8 +96,7 @@ impl<D: Disk> Store<D> {
         passes: u64,
     ) -> Result<(Store<D>, Vec<Pass<D>>), StoreRefused<D>>
         requires whole { engine.broken ≡ false }
-        requires some { 1 ≤ passes }
-        requires few { passes ≤ 16 }
+        requires passes { (1 ≤ passes) × (passes ≤ max_sessions) }
         ensures start { IfOk result (λ r. r.0.start ≡ start_with engine passes r.0.start.board) }
         ensures passes { IfOk result (λ r. (length r.1.items ≡ passes) × AreNewPasses r.0 r.1.items 0) }
         ensures engine { IfErr result (λ e. e.engine ≡ engine) }

@@ -14,6 +14,7 @@ pub struct Store<D: Disk> {
 impl<D: Disk> Model for Store<D> {
     ghost use Rattle.std.specs.Prelude.{◌≡◌, ◌≤◌, ◌+◌, ◌*◌};
     ghost use Rattle.std.specs.Coded.{codes};
+    ghost use Rattle.jf_path.specs.Limits.{max_pins};
     ghost use Rattle.jf_hash.specs.Codes.{map_code};
     ghost use Rattle.jf_model.specs.States.{IsState};
     ghost use Rattle.jf_store.specs.Passes.{Store, store_of};
@@ -24,5 +25,5 @@ impl<D: Disk> Model for Store<D> {
 
     ghost view = { λ s. store_of s.turn };
 
-    ghost invariant = { λ s. (s.turn.seats ≡ s.turn.start.passes) × (1 ≤ s.turn.seats) × IsState s.turn.start.state × (s.board ≡ s.turn.start.board) × (s.board.words ≡ 8 * s.turn.start.passes + 3) };
+    ghost invariant = { λ s. (s.turn.seats ≡ s.turn.start.passes) × (1 ≤ s.turn.seats) × IsState s.turn.start.state × (s.board ≡ s.turn.start.board) × (s.board.words ≡ max_pins * s.turn.start.passes + 3) };
 }

@@ -1,5 +1,6 @@
 // What lies behind the turn.
 ghost use Rattle.std.specs.Prelude.{◌≡◌, ◌⊎◌, ℕ, ◌+◌, ◌-◌, ◌<◌, ◌≤◌, ◌^◌, [], ◌∷◌, ◌++◌, length, Err, Ok, IfSome, IfOk, IfErr, OnOk, OnErr, true, false, Some, None};
+ghost use Rattle.jf_path.specs.Limits.{max_pins};
 ghost use Rattle.jf_path.specs.Checks.{first_of};
 ghost use Rattle.jf_disk.specs.Disk.{History};
 ghost use Rattle.jf_disk.specs.Moments.{ExtendsHistory};
@@ -28,7 +29,7 @@ use jf_board::{Board, Place, Pruner};
 use jf_disk::Disk;
 use jf_engine::{Engine, EngineFault, Landed, Which};
 use jf_forks::ForkTable;
-use jf_join::Gate;
+use jf_join::{Gate, Workers};
 use jf_model::{BatchNote, Entry, Landing, Ledger};
 use jf_split::Batch;
 use std::alloc::Global;
@@ -134,7 +135,7 @@ impl<D: Disk> Vault<D> {
         ensures cut { self.new.pruner.known.cut ≡ self.old.pruner.known.cut }
         ensures given { NumbersAreGiven self.old.pruner.known }
         ensures announced { (version : ℕ) → Has self.old.pruner.known.pairs (place.known.number, version) → Has place.known.announced version }
-        ensures below { (i : ℕ) → i < 8 → Below self.old.pruner.known.cut (hold_at place.known i) }
+        ensures below { (i : ℕ) → i < max_pins → Below self.old.pruner.known.cut (hold_at place.known i) }
     {
         self.pruner.join(board, place);
     }
@@ -210,12 +211,10 @@ impl<D: Disk> Vault<D> {
         alloc: Global,
         pass: u64,
         batch: &Batch,
-        workers: u64,
+        workers: Workers,
         gate: &G,
     ) -> Result<Landed, StoreFault>
-        requires pass { pass < self.old.start.passes }
-        requires some { 1 ≤ workers }
-        requires few { workers ≤ 64 }
+        requires { pass < self.old.start.passes }
         ensures start { self.new.start ≡ self.old.start }
         ensures landed { IfOk result (LandsIn pass (landing.Direct batch.now) self.old self.new) }
         ensures failed { IfErr result (FailsIn pass (attempt.Lands (landing.Direct batch.now)) commit_faults self.old self.new) }

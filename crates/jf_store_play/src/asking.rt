@@ -8,7 +8,7 @@ use jf_disk::MemDisk;
 use jf_engine::Landed;
 use jf_engine_play::steps::Change;
 use jf_hash::Hash;
-use jf_join::FreeGate;
+use jf_join::{FreeGate, Workers};
 use jf_model::Parent;
 use jf_node::Snapshot;
 use jf_store::{Look, Pass, Pruned, Store, StoreFault};
@@ -149,7 +149,9 @@ fn ask_land<H: Threads + Wait + Sync>(
     requires { IsPassOf pass.old store.now }
     ensures { IsPassOf pass.new store.now × (pass.new.number ≡ pass.old.number) }
 {
-    pass.land(rt, alloc, store, id, 2, &FreeGate).map(of_landed)
+    let workers = Workers::new(2).unwrap_or(Workers::ONE);
+    pass.land(rt, alloc, store, id, workers, &FreeGate)
+        .map(of_landed)
 }
 
 #[tactic(auto, using(crate::proofs::Staying::stays_dropping))]

@@ -4,7 +4,7 @@ ghost use Rattle.jf_store.specs.Passes.{IsPassOf};
 
 use jf_disk::MemDisk;
 use jf_engine::Landed;
-use jf_join::FreeGate;
+use jf_join::{FreeGate, Workers};
 use jf_node::Snapshot;
 use jf_split::Batch;
 use jf_store::{Look, Pass, Pruned, Store, StoreFault};
@@ -24,7 +24,7 @@ pub fn commit<H: Threads + Wait + Sync>(
     requires { IsPassOf pass.old store.now }
     ensures { IsPassOf pass.new store.now × (pass.new.number ≡ pass.old.number) }
 {
-    pass.commit(rt, alloc, store, batch, 1, &FreeGate)
+    pass.commit(rt, alloc, store, batch, Workers::ONE, &FreeGate)
 }
 
 /// Looks at the head.

@@ -1,5 +1,6 @@
 // A store with its passes.
 ghost use Rattle.std.specs.Prelude.{◌≡◌, ◌≤◌, length, IfOk};
+ghost use Rattle.jf_path.specs.Limits.{max_sessions};
 ghost use Rattle.jf_store.specs.Passes.{AreNewPasses};
 
 use jf_disk::MemDisk;
@@ -14,8 +15,7 @@ pub fn new_passes(
     engine: Box<Engine<MemDisk>>,
     passes: u64,
 ) -> Result<(Store<MemDisk>, Vec<Pass<MemDisk>>), Fail>
-    requires some { 1 ≤ passes }
-    requires few { passes ≤ 16 }
+    requires { (1 ≤ passes) × (passes ≤ max_sessions) }
     ensures count { IfOk result (λ r. r.0.start.passes ≡ passes) }
     ensures passes { IfOk result (λ r. (length r.1.items ≡ passes) × AreNewPasses r.0 r.1.items 0) }
 {

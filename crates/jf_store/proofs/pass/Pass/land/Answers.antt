@@ -11,11 +11,11 @@ use Rattle.jf_store.specs.Vaults.{Vault}
 use Rattle.jf_store.proofs.PassLaws.{HasTaken, HasTaken-boxed, MayGive-taken, HasPassed, HasPassed-given, AddsNamed-landing, HasLanded-passed, HasFailed-passed, IsPass-passed, IsCounted-passed}
 use Rattle.jf_store.proofs.pass.Pass.land.Goals as goal
 
-pub land_fork-landed-requires-clause-pass : goal.land_fork-landed-requires-clause-pass
-land_fork-landed-requires-clause-pass g c =
+pub land_fork-landed-requires : goal.land_fork-landed-requires
+land_fork-landed-requires g c =
     let start = c.args.store.now.start in
     let s = c.self.inside.seat in
-    let starts : s.start ≡ Some start = ap (λ (p : Pass). p.start) c.self.view_is ∙ c.requires.own.1 in
+    let starts : s.start ≡ Some start = ap (λ (p : Pass). p.start) c.self.view_is ∙ c.requires.1 in
     let number : c.number-number.result ≡ s.number = c.number-number.ensures ∙ ap (λ (t : SeatState Event Start). t.number) c.take_out-vault.ensures.takes in
     let began : c.deref_mut.result.now.start ≡ start = ap (λ (w : Vault). w.start) c.deref_mut.ensures.value ∙ c.take_out-vault.ensures.start ∙ ap (λ (t : Store). t.start) c.store.view_is in
     λ κs le. subst (λ n. n < c.deref_mut.result.now.start.passes) (sym number) (subst (λ (t : Start). s.number < t.passes) (sym began) (c.self.invariant.0.events start starts).1)
@@ -37,7 +37,7 @@ invariant_of-self g c =
     let s = c.self.inside.seat in
     let v = c.deref_mut.result.now in
     let v2 = c.land_fork-landed.new.self in
-    let starts : s.start ≡ Some start = ap (λ (p : Pass). p.start) c.self.view_is ∙ c.requires.own.1 in
+    let starts : s.start ≡ Some start = ap (λ (p : Pass). p.start) c.self.view_is ∙ c.requires.1 in
     let took : HasTaken s c.take_out-vault.new.seat v start = HasTaken-boxed s c.take_out-vault.new.seat v c.take_out-vault.result.value start c.deref_mut.ensures.value (c.take_out-vault.ensures.start ∙ ap (λ (t : Store). t.start) c.store.view_is) c.take_out-vault.ensures.begins c.take_out-vault.ensures.others c.take_out-vault.ensures.takes in
     let known = c.self.invariant.0.events start starts in
     let h : HasPassed s c.give_back-self-inside.new.seat c.self.inside.pins v v2 start = HasPassed-given s c.take_out-vault.new.seat c.give_back-self-inside.new.seat c.self.inside.pins v v2 start took c.self.invariant.0 c.give_back-self-inside.ensures.seat in
