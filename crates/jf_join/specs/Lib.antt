@@ -1,1 +1,2 @@
 pub mod Answers
+pub use Rattle.jf_path.specs.Limits

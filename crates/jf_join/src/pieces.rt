@@ -1,11 +1,12 @@
 // Results come in the order of the pieces, whoever works them and when.
-ghost use Rattle.std.specs.Prelude.{◌≡◌, ℕ, ◌+◌, ◌^◌, ◌<◌, ◌≤◌, length, IfOk, slice_index_or};
+ghost use Rattle.std.specs.Prelude.{◌≡◌, ℕ, ◌+◌, ◌^◌, ◌<◌, length, IfOk, slice_index_or};
 ghost use Rattle.std.specs.Fn.{FnReturnsAt};
 ghost use Rattle.std.specs.Thread.{IsSync, IsSend};
 ghost use denote.Ref.{Bor};
 ghost use Rattle.jf_join.specs.Answers.{AnswersEach, TakesEach};
 
 use crate::gate::Gate;
+use crate::workers::Workers;
 use jf_path::Memory;
 use std::alloc::Global;
 use std::thread::{Threads, join};
@@ -17,12 +18,10 @@ pub fn join_pieces<H: Threads + Sync, T: Sync, R: Send + Drop, G: Gate, F: Fn(&T
     rt: &H,
     alloc: Global,
     pieces: &[T],
-    workers: u64,
+    workers: Workers,
     gate: &G,
     f: &F,
 ) -> Result<Vec<R>, Memory>
-    requires positive { 1 ≤ workers }
-    requires bounded { workers ≤ 64 }
     requires callable { TakesEach F.Fn f.now pieces.now }
     ensures { IfOk result (λ v. AnswersEach F.Fn f.now pieces.now v.items) }
 {
@@ -37,30 +36,31 @@ pub fn join_pieces_from<H: Threads + Sync, T: Sync, R: Send + Drop, G: Gate, F: 
     alloc: Global,
     pieces: &[T],
     first: u64,
-    workers: u64,
+    workers: Workers,
     gate: &G,
     f: &F,
 ) -> Result<Vec<R>, Memory>
-    requires positive { 1 ≤ workers }
     requires numbered { first + length pieces.now < 2 ^ 64 }
     requires callable { TakesEach F.Fn f.now pieces.now }
     ensures { IfOk result (λ v. AnswersEach F.Fn f.now pieces.now v.items) }
 {
-    if workers == 1 || pieces.len() < 2 {
+    if pieces.len() < 2 {
         return work_in_order(alloc, pieces, first, gate, f);
     }
-    let fewer = workers / 2;
-    let others = workers - fewer;
+    let Some((fewer, others)) = workers.halves() else {
+        return work_in_order(alloc, pieces, first, gate, f);
+    };
+    let (fewer, others) = (&fewer, &others);
     let (front, back) = pieces.split_at(pieces.len() / 2);
     let middle = first + front.len() as u64;
     let left = move || -> Result<Vec<R>, Memory>
-        requires { IsSync H.row × IsSync T.row × IsSend R.row × IsSync G.row × IsSync F.row × (1 ≤ fewer) × (first + length front.now < 2 ^ 64) × TakesEach F.Fn f.now front.now }
+        requires { IsSync H.row × IsSync T.row × IsSend R.row × IsSync G.row × IsSync F.row × (first + length front.now < 2 ^ 64) × TakesEach F.Fn f.now front.now }
         ensures { IfOk result (λ v. AnswersEach F.Fn f.entry.now front.entry.now v.items) }
-    { join_pieces_from(rt, alloc, front, first, fewer, gate, f) };
+    { join_pieces_from(rt, alloc, front, first, *fewer, gate, f) };
     let right = move || -> Result<Vec<R>, Memory>
-        requires { IsSync H.row × IsSync T.row × IsSend R.row × IsSync G.row × IsSync F.row × (1 ≤ others) × (middle + length back.now < 2 ^ 64) × TakesEach F.Fn f.now back.now }
+        requires { IsSync H.row × IsSync T.row × IsSend R.row × IsSync G.row × IsSync F.row × (middle + length back.now < 2 ^ 64) × TakesEach F.Fn f.now back.now }
         ensures { IfOk result (λ v. AnswersEach F.Fn f.entry.now back.entry.now v.items) }
-    { join_pieces_from(rt, alloc, back, middle, others, gate, f) };
+    { join_pieces_from(rt, alloc, back, middle, *others, gate, f) };
     let (left, right) = join(rt, left, right);
     let mut answers = left?;
     let mut rest = right?;

@@ -1,5 +1,5 @@
 // How many threads may work at once.
-ghost use Rattle.std.specs.Prelude.{◌≡◌, ◌×◌, ◌≤◌, ◌↔◌, IfSome, IsSome};
+ghost use Rattle.std.specs.Prelude.{◌≡◌, ◌+◌, ◌/◌, ◌<◌, ◌≤◌, ◌↔◌, IfSome, IsSome, IsTrue};
 ghost use Rattle.jf_path.specs.Limits.{max_workers};
 
 use jf_path::MAX_WORKERS;
@@ -12,7 +12,7 @@ pub struct Workers {
 }
 
 impl Model for Workers {
-    ghost use Rattle.std.specs.Prelude.{ℕ, ◌×◌, ◌≤◌};
+    ghost use Rattle.std.specs.Prelude.{ℕ, ◌≤◌};
     ghost use Rattle.jf_path.specs.Limits.{max_workers};
 
     ghost Value = { ℕ };
@@ -46,6 +46,28 @@ impl Workers {
         ensures within { (1 ≤ result) × (result ≤ max_workers) }
     {
         self.number
+    }
+
+    /// Whether there is one thread alone, the caller's own.
+    pub fn is_one(self) -> bool
+        ensures { IsTrue result ↔ (self ≡ 1) }
+    {
+        self.number == 1
+    }
+
+    /// The halves of several threads, of which the first is smaller by one if their number is odd; of one thread `None`.
+    pub fn halves(self) -> Option<(Workers, Workers)>
+        ensures first { IfSome result (λ w. w.0 ≡ self / 2) }
+        ensures sum { IfSome result (λ w. w.0 + w.1 ≡ self) }
+        ensures positive { IfSome result (λ w. (1 ≤ w.0) × (1 ≤ w.1)) }
+        ensures given { IsSome result ↔ (1 < self) }
+    {
+        if self.number == 1 {
+            return None;
+        }
+        let first = self.number / 2;
+        let second = self.number - first;
+        Some((Workers { number: first }, Workers { number: second }))
     }
 
     /// Changes nothing, and tells what holds of every such number, for proofs.
