@@ -20,6 +20,7 @@ pub mod RefusedCalls
 pub mod BaseLaws
 pub mod QuestionLaws
 pub mod ReadLaws
+pub mod StoredReads
 pub mod PendingLaws
 pub mod Changes
 pub mod PrunedFloors
