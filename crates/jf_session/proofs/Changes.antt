@@ -1,5 +1,5 @@
 -- What the calls of a pass that change the store come to, each for its command.
-use Rattle.std.proofs.Common.{◌≡◌, ◌⊎◌, ◌∙◌, inl, inr, ℕ, ◌+◌, List, [], ◌∷◌, ◌++◌, length, refl, sym, ap, ap₂}
+use Rattle.std.proofs.Common.{◌≡◌, ◌∙◌, inl, inr, ℕ, ◌+◌, List, [], ◌∷◌, ◌++◌, length, refl, sym, ap, ap₂, subst}
 use Rattle.jf_hash.specs.Maps.{Batch}
 use Rattle.jf_hash.specs.Roots.{root}
 use Rattle.jf_model.specs.States.{State, IsState}
@@ -7,6 +7,7 @@ use Rattle.jf_model.specs.Entries.{landed_batches}
 use Rattle.jf_model.specs.declared.entries.Entry.{Entry}
 use Rattle.jf_model.specs.declared.entries.Entry.TheVariants as entry
 use Rattle.jf_model.specs.declared.entries.Landing.TheVariants as landing
+use Rattle.jf_model.specs.declared.entries.Parent.{Parent}
 use Rattle.jf_model.proofs.VersionLaws.{land_all-newest}
 use Rattle.jf_engine.specs.declared.landed.Landed.{Landed}
 use Rattle.jf_forks.specs.declared.table.Forked.{Forked}
@@ -16,21 +17,20 @@ use Rattle.jf_store.specs.declared.fault.StoreFault.{StoreFault}
 use Rattle.jf_store.specs.Events.{landing_entry}
 use Rattle.jf_store.specs.Starts.{Start}
 use Rattle.jf_store.specs.Ledgers.{AreEvents, state_after_events}
-use Rattle.jf_store.specs.Refusals.{StoreFaults, IsRefusal, commit_faults, ledger_faults, landing_faults, fork_faults, making_faults, make_faults, drop_faults}
+use Rattle.jf_store.specs.Refusals.{commit_faults, ledger_faults, landing_faults, fork_faults, making_faults, make_faults, drop_faults}
 use Rattle.jf_store.specs.Landings.{land_faults, chain_faults}
 use Rattle.jf_store.specs.Forkings.{making_entry, HasMade, HasDropped, HasBeenRefused}
 use Rattle.jf_store.specs.Compactions.{generation_faults, compact_faults, HasCompacted}
-use Rattle.jf_store.specs.declared.fault.StoreFault.TheVariants as store_fault
-use Rattle.jf_store.specs.Passes.{Pass, Sees, SeesOwn, HasLanded}
-use Rattle.jf_script.specs.declared.command.Base.{Base}
+use Rattle.jf_store.specs.declared.tried.Attempt.TheVariants as attempt
+use Rattle.jf_store.specs.Passes.{Pass, HasLanded, HasFailed}
 use Rattle.jf_script.specs.declared.command.Command.TheVariants as command
+use Rattle.jf_script.specs.declared.command.Change.TheVariants as change
 use Rattle.jf_script.specs.declared.reply.Reply.TheVariants as reply
 use Rattle.jf_answers.specs.Own.{Own}
-use Rattle.jf_answers.specs.Refusals.{parent_named}
 use Rattle.jf_session.proofs.Granting.{Grants-commit, Grants-land, Grants-fork, Grants-drop, Grants-compact}
 use Rattle.jf_session.proofs.Entering.{own_of, Enters}
 use Rattle.jf_session.proofs.LegalEvents.{sound_before, legal_entry, legal_attempt}
-use Rattle.jf_session.proofs.Refused.{SeesMore-Sees}
+use Rattle.jf_session.proofs.Refused.{SeesMore-Sees, Refuses-all}
 use Rattle.jf_session.proofs.RefusedCalls.{Fails}
 use Rattle.jf_session.proofs.ToldFaults.{AreTold-commit, AreTold-land, AreTold-make, AreTold-drop, AreTold-compact}
 
@@ -49,18 +49,17 @@ abbrev fork_in : Entry → ℕ
 fork_in (entry.Made owner fork parent batch r) = fork
 fork_in e = 0
 
--- a call failed: the disk failed in it, at this entry over the state before, or it was refused by these faults
-abbrev pub HasFailedAt : Start → (State → Entry) → (Start → List Event → StoreFaults) → Pass → Pass → StoreFault → Type 0
-HasFailedAt start entry_of faults p p' f =
-    ((f ≡ store_fault.DiskFault) × ((before : List Event) × SeesOwn p p' before (Mark p.number (entry_of (state_after_events start before))))) ⊎ (Sees p p' × IsRefusal (faults start p'.seen) f)
-
 module _ (start : Start) (p p' : Pass) (pending : Batch) (are : AreEvents start p'.seen) (sound : IsState start.state) where
   abbrev own : Own
   own = own_of p pending
 
+  -- the state after all that the pass has then seen
+  abbrev at_end : State
+  at_end = state_after_events start p'.seen
+
   -- ---- commit
-  pub Enters-commit : (l : Landed) → HasLanded start (landing.Direct pending) p p' l → (none : Batch) → none ≡ [] → Enters start p p' pending none command.Commit (reply.Commit l.version l.root)
-  Enters-commit l h none is =
+  commit_entered : (l : Landed) → HasLanded start (landing.Direct pending) p p' l → (none : Batch) → none ≡ [] → Enters start p p' pending none (command.Change change.Commit) (reply.Commit l.version l.root)
+  commit_entered l h none is =
       let s = state_after_events start h.before in
       let e = landing_entry p.number s (landing.Direct pending) l.moment in
       record {
@@ -73,23 +72,30 @@ module _ (start : Start) (p p' : Pass) (pending : Batch) (are : AreEvents start 
         block = refl;
       }
 
-  pub Fails-commit : (f : StoreFault) → HasFailedAt start (λ s. landing_entry p.number s (landing.Direct pending) 0) commit_faults p p' f → Fails start p p' pending command.Commit f
-  Fails-commit f (inl failed) =
+  commit_failed : (f : StoreFault) → HasFailed start (attempt.Lands (landing.Direct pending)) commit_faults p p' f → Fails start p p' pending (command.Change change.Commit) f
+  commit_failed f (inl failed) =
       let h = failed.1 in
-      let s = state_after_events start h.0 in
+      let s = state_after_events start h.before in
       let e = landing_entry p.number s (landing.Direct pending) 0 in
       inl (
         failed.0,
         record {
-          before = h.0;
+          before = h.before;
           attempt = e;
-          follows = record { sees = h.1; grants = Grants-commit s own 0 (legal_attempt start p p' h.0 are p.number e h.1).legal; floor = record { allowed = λ pins met t is. tt; held = tt } };
+          follows = record { sees = h.adds; grants = Grants-commit s own 0 (legal_attempt start p p' h.before are p.number e h.adds).legal; floor = record { allowed = λ pins met t is. tt; held = tt } };
         },
       )
-  Fails-commit f (inr refused) = inr record { sees = SeesMore-Sees p p' command.Commit refused.0; rest = ledger_faults (state_after_events start p'.seen) ++ landing_faults 1 (state_after_events start p'.seen); alike = AreTold-commit (state_after_events start p'.seen); is = refused.1 }
+  commit_failed f (inr refused) = inr (Refuses-all start p p' pending (command.Change change.Commit) f (SeesMore-Sees p p' (command.Change change.Commit) refused.0) (ledger_faults at_end ++ landing_faults 1 at_end) (AreTold-commit at_end) refused.1)
+
+  -- the batch is what is pending
+  pub Enters-commit : (b : Batch) → b ≡ pending → (l : Landed) → HasLanded start (landing.Direct b) p p' l → (none : Batch) → none ≡ [] → Enters start p p' pending none (command.Change change.Commit) (reply.Commit l.version l.root)
+  Enters-commit b same l h none is = commit_entered l (subst (λ x. HasLanded start (landing.Direct x) p p' l) same h) none is
+
+  pub Fails-commit : (b : Batch) → b ≡ pending → (f : StoreFault) → HasFailed start (attempt.Lands (landing.Direct b)) commit_faults p p' f → Fails start p p' pending (command.Change change.Commit) f
+  Fails-commit b same f failed = commit_failed f (subst (λ x. HasFailed start (attempt.Lands (landing.Direct x)) commit_faults p p' f) same failed)
 
   -- ---- land
-  pub Enters-land : (id : ℕ) (l : Landed) → HasLanded start (landing.Fork id) p p' l → Enters start p p' pending pending (command.Land id) (reply.Land l.version l.root)
+  pub Enters-land : (id : ℕ) (l : Landed) → HasLanded start (landing.Fork id) p p' l → Enters start p p' pending pending (command.Change (change.Land id)) (reply.Land l.version l.root)
   Enters-land id l h =
       let s = state_after_events start h.before in
       let e = landing_entry p.number s (landing.Fork id) l.moment in
@@ -107,30 +113,30 @@ module _ (start : Start) (p p' : Pass) (pending : Batch) (are : AreEvents start 
         block = refl;
       }
 
-  pub Fails-land : (id : ℕ) (f : StoreFault) → HasFailedAt start (λ s. landing_entry p.number s (landing.Fork id) 0) (land_faults id) p p' f → Fails start p p' pending (command.Land id) f
+  pub Fails-land : (id : ℕ) (f : StoreFault) → HasFailed start (attempt.Lands (landing.Fork id)) (land_faults id) p p' f → Fails start p p' pending (command.Change (change.Land id)) f
   Fails-land id f (inl failed) =
       let h = failed.1 in
-      let s = state_after_events start h.0 in
+      let s = state_after_events start h.before in
       let e = landing_entry p.number s (landing.Fork id) 0 in
       inl (
         failed.0,
         record {
-          before = h.0;
+          before = h.before;
           attempt = e;
           follows = record {
-            sees = h.1;
-            grants = Grants-land s own id 0 (sound_before start p p' h.0 are (Mark p.number e) h.1 sound) (legal_attempt start p p' h.0 are p.number e h.1).legal;
+            sees = h.adds;
+            grants = Grants-land s own id 0 (sound_before start p p' h.before are (Mark p.number e) h.adds sound) (legal_attempt start p p' h.before are p.number e h.adds).legal;
             floor = record { allowed = λ pins met t is. tt; held = tt };
           };
         },
       )
-  Fails-land id f (inr refused) = inr record { sees = SeesMore-Sees p p' (command.Land id) refused.0; rest = ledger_faults (state_after_events start p'.seen) ++ fork_faults id (state_after_events start p'.seen) ++ chain_faults id (state_after_events start p'.seen) ++ landing_faults (length (landed_batches (state_after_events start p'.seen) (landing.Fork id))) (state_after_events start p'.seen); alike = AreTold-land (state_after_events start p'.seen) id; is = refused.1 }
+  Fails-land id f (inr refused) = inr (Refuses-all start p p' pending (command.Change (change.Land id)) f (SeesMore-Sees p p' (command.Change (change.Land id)) refused.0) (ledger_faults at_end ++ fork_faults id at_end ++ chain_faults id at_end ++ landing_faults (length (landed_batches at_end (landing.Fork id))) at_end) (AreTold-land at_end id) refused.1)
 
   -- ---- fork
-  pub Enters-fork : (on : Base) (k : Forked) → HasMade start (parent_named on) pending p p' k → (none : Batch) → none ≡ [] → Enters start p p' pending none (command.Fork on) (reply.Fork k.id k.root)
-  Enters-fork on k h none is =
+  fork_entered : (on : Parent) (k : Forked) → HasMade start on pending p p' k → (none : Batch) → none ≡ [] → Enters start p p' pending none (command.Change (change.Fork on)) (reply.Fork k.id k.root)
+  fork_entered on k h none is =
       let s = state_after_events start h.before in
-      let e = making_entry p.number s (parent_named on) pending in
+      let e = making_entry p.number s on pending in
       record {
         before = h.before;
         event = e;
@@ -145,11 +151,15 @@ module _ (start : Start) (p p' : Pass) (pending : Batch) (are : AreEvents start 
         block = refl;
       }
 
-  pub Fails-fork : (on : Base) (f : StoreFault) → HasBeenRefused start (make_faults (parent_named on)) p p' f → Fails start p p' pending (command.Fork on) f
-  Fails-fork on f refused = inr record { sees = SeesMore-Sees p p' (command.Fork on) refused.0; rest = ledger_faults (state_after_events start p'.seen) ++ making_faults (parent_named on) (state_after_events start p'.seen); alike = AreTold-make (state_after_events start p'.seen) (parent_named on); is = refused.1 }
+  -- the batch is what is pending
+  pub Enters-fork : (on : Parent) (b : Batch) → b ≡ pending → (k : Forked) → HasMade start on b p p' k → (none : Batch) → none ≡ [] → Enters start p p' pending none (command.Change (change.Fork on)) (reply.Fork k.id k.root)
+  Enters-fork on b same k h none is = fork_entered on k (subst (λ x. HasMade start on x p p' k) same h) none is
+
+  pub Fails-fork : (on : Parent) (f : StoreFault) → HasBeenRefused start (make_faults on) p p' f → Fails start p p' pending (command.Change (change.Fork on)) f
+  Fails-fork on f refused = inr (Refuses-all start p p' pending (command.Change (change.Fork on)) f (SeesMore-Sees p p' (command.Change (change.Fork on)) refused.0) (ledger_faults at_end ++ making_faults on at_end) (AreTold-make at_end on) refused.1)
 
   -- ---- drop
-  pub Enters-drop : (id n : ℕ) → HasDropped start id p p' n → Enters start p p' pending pending (command.Drop id) (reply.Drop n)
+  pub Enters-drop : (id n : ℕ) → HasDropped start id p p' n → Enters start p p' pending pending (command.Change (change.Drop id)) (reply.Drop n)
   Enters-drop id n h =
       let s = state_after_events start h.before in
       let e = entry.Dropped p.number id in
@@ -167,11 +177,11 @@ module _ (start : Start) (p p' : Pass) (pending : Batch) (are : AreEvents start 
         block = refl;
       }
 
-  pub Fails-drop : (id : ℕ) (f : StoreFault) → HasBeenRefused start (drop_faults id) p p' f → Fails start p p' pending (command.Drop id) f
-  Fails-drop id f refused = inr record { sees = SeesMore-Sees p p' (command.Drop id) refused.0; rest = ledger_faults (state_after_events start p'.seen) ++ fork_faults id (state_after_events start p'.seen); alike = AreTold-drop (state_after_events start p'.seen) id; is = refused.1 }
+  pub Fails-drop : (id : ℕ) (f : StoreFault) → HasBeenRefused start (drop_faults id) p p' f → Fails start p p' pending (command.Change (change.Drop id)) f
+  Fails-drop id f refused = inr (Refuses-all start p p' pending (command.Change (change.Drop id)) f (SeesMore-Sees p p' (command.Change (change.Drop id)) refused.0) (ledger_faults at_end ++ fork_faults id at_end) (AreTold-drop at_end id) refused.1)
 
   -- ---- compact
-  pub Enters-compact : (g : ℕ) → HasCompacted start p p' g → Enters start p p' pending pending command.Compact (reply.Compact g)
+  pub Enters-compact : (g : ℕ) → HasCompacted start p p' g → Enters start p p' pending pending (command.Change change.Compact) (reply.Compact g)
   Enters-compact g h =
       let s = state_after_events start h.before in
       let e = entry.Compacted p.number (s.generation + 1) in
@@ -185,17 +195,17 @@ module _ (start : Start) (p p' : Pass) (pending : Batch) (are : AreEvents start 
         block = refl;
       }
 
-  pub Fails-compact : (f : StoreFault) → HasFailedAt start (λ s. entry.Compacted p.number (s.generation + 1)) compact_faults p p' f → Fails start p p' pending command.Compact f
+  pub Fails-compact : (f : StoreFault) → HasFailed start attempt.Compacts compact_faults p p' f → Fails start p p' pending (command.Change change.Compact) f
   Fails-compact f (inl failed) =
       let h = failed.1 in
-      let s = state_after_events start h.0 in
+      let s = state_after_events start h.before in
       let e = entry.Compacted p.number (s.generation + 1) in
       inl (
         failed.0,
         record {
-          before = h.0;
+          before = h.before;
           attempt = e;
-          follows = record { sees = h.1; grants = Grants-compact s own (legal_attempt start p p' h.0 are p.number e h.1).legal; floor = record { allowed = λ pins met t is. tt; held = tt } };
+          follows = record { sees = h.adds; grants = Grants-compact s own (legal_attempt start p p' h.before are p.number e h.adds).legal; floor = record { allowed = λ pins met t is. tt; held = tt } };
         },
       )
-  Fails-compact f (inr refused) = inr record { sees = SeesMore-Sees p p' command.Compact refused.0; rest = ledger_faults (state_after_events start p'.seen) ++ generation_faults (state_after_events start p'.seen); alike = AreTold-compact (state_after_events start p'.seen); is = refused.1 }
+  Fails-compact f (inr refused) = inr (Refuses-all start p p' pending (command.Change change.Compact) f (SeesMore-Sees p p' (command.Change change.Compact) refused.0) (ledger_faults at_end ++ generation_faults at_end) (AreTold-compact at_end) refused.1)

@@ -1,5 +1,6 @@
 -- A command that gave an entry, or at which the disk failed.
-use Rattle.std.proofs.Common.{◌≡◌, ◌∙◌, inr, ℕ, Bool, List, [], refl, sym, ap, subst}
+use Rattle.std.specs.Prelude.{Ok}
+use Rattle.std.proofs.Common.{◌≡◌, ◌∙◌, inr, ℕ, Bool, false, List, [], refl, sym, ap, subst}
 use Rattle.jf_hash.specs.Maps.{Batch}
 use Rattle.jf_model.specs.Entries.{owner_of}
 use Rattle.jf_model.specs.declared.entries.Entry.{Entry}
@@ -14,7 +15,7 @@ use Rattle.jf_answers.specs.Own.{Own}
 use Rattle.jf_answers.specs.Answers.{Answer}
 use Rattle.jf_answers.specs.Explains.{Timeline, HasFloor}
 use Rattle.jf_history.specs.Sessions.{Session, HaveMet, HeldFloor, timeline, pinned_versions}
-use Rattle.jf_session.specs.Steps.{session_of, GivesFor, DoneByEntry, TriedFor, IsDoneAs, IsSoundSession}
+use Rattle.jf_session.specs.Steps.{session_of, GivesFor, DoneByEntry, TriedFor, IsDoneAs, IsObeyed, IsSoundSession}
 use Rattle.jf_session.proofs.Granting.{Grants, granted_with, answer-granted}
 use Rattle.jf_session.proofs.KeptMaps.{PinsTell-kept}
 use Rattle.jf_session.proofs.LegalEvents.{begins_own, unmarked_entry}
@@ -73,6 +74,10 @@ module _ (start : Start) (p p' : Pass) (pending pending' : Batch) (over over' : 
         reply = t.reply ∙ sym (ap (λ (x : Answer). x.reply) same);
         block_is = sym t.block ∙ sym (ap (λ (x : Answer). x.block) same);
       })
+
+  -- and the session goes on
+  pub IsObeyed-entered : old.over ≡ false → over' ≡ over → (r : Reply) → Enters start p p' pending pending' c r → IsObeyed start old (session_of p' pending' over') c (Ok r)
+  IsObeyed-entered goes same r t = (IsDoneAs-entered r t, same ∙ ap (λ (s : Session). s.over) view ∙ goes)
 
   -- one at which the disk failed was tried
   pub TriedFor-tries : Tries start p p' pending c → TriedFor start old (session_of p' pending over') c

@@ -23,15 +23,15 @@ use Rattle.jf_model.proofs.VersionLaws.{land_all-newest}
 use Rattle.jf_store.specs.Events.{landing_entry}
 use Rattle.jf_store.specs.Forkings.{making_entry}
 use Rattle.jf_store.proofs.FaultsInTurn.{first_of-after}
-use Rattle.jf_script.specs.declared.command.Base.{Base}
 use Rattle.jf_script.specs.declared.command.Command.{Command}
 use Rattle.jf_script.specs.declared.command.Command.TheVariants as command
+use Rattle.jf_script.specs.declared.command.Change.TheVariants as change
 use Rattle.jf_script.specs.declared.reply.Refusal.{Refusal}
 use Rattle.jf_script.specs.declared.reply.Refusal.TheVariants as refusal
 use Rattle.jf_script.specs.declared.reply.Reply.TheVariants as reply
 use Rattle.jf_answers.specs.Own.{Own}
 use Rattle.jf_answers.specs.Answers.{Answer, granted, replied}
-use Rattle.jf_answers.specs.Refusals.{refused_by, parent_named, ledger_causes, head_causes, fork_causes, parent_causes, room_causes, key_causes, generation_causes, version_causes}
+use Rattle.jf_answers.specs.Refusals.{refused_by, ledger_causes, head_causes, fork_causes, parent_causes, room_causes, key_causes, land_causes, generation_causes, version_causes}
 use Rattle.jf_answers.specs.Explains.{answered_with_floor, floor_in}
 use Rattle.jf_session.specs.Steps.{command_answer_with}
 
@@ -85,43 +85,41 @@ answer-granted s own c e free =
 
 -- ---- the commands
 module _ (s : State) (own : Own) where
-  pub Grants-commit : (moment : ℕ) → IsLegal s (landing_entry own.number s (landing.Direct own.pending) moment) → Grants s own command.Commit (landing_entry own.number s (landing.Direct own.pending) moment)
+  pub Grants-commit : (moment : ℕ) → IsLegal s (landing_entry own.number s (landing.Direct own.pending) moment) → Grants s own (command.Change change.Commit) (landing_entry own.number s (landing.Direct own.pending) moment)
   unfolding refused_by
   Grants-commit moment legal = record {
     free = first_of-after (ledger_causes s) (head_causes s 1) (ledger_room s legal.0) ∙ head_room s 1 legal.1.bounded legal.1.small;
     gives = ap (λ m. Some (entry.Landed own.number (s.all.head + 1) (landing.Direct own.pending) (root m) 0)) (sym (land_all-newest (own.pending ∷ []) s.all));
   }
 
-  pub Grants-land : (id moment : ℕ) → IsState s → IsLegal s (landing_entry own.number s (landing.Fork id) moment) → Grants s own (command.Land id) (landing_entry own.number s (landing.Fork id) moment)
+  pub Grants-land : (id moment : ℕ) → IsState s → IsLegal s (landing_entry own.number s (landing.Fork id) moment) → Grants s own (command.Change (change.Land id)) (landing_entry own.number s (landing.Fork id) moment)
   unfolding refused_by
   Grants-land id moment sound legal =
       let bs = landed_batches s (landing.Fork id) in
-      let ledger = ledger_room s legal.0 in
-      let fork = first_of-after (ledger_causes s) (fork_causes s id) ledger ∙ live_fork s id sound legal.1.may.0 in
-      let keys = first_of-after (ledger_causes s ++ fork_causes s id) (key_causes (key_count bs)) fork ∙ few_keys (key_count bs) legal.1.may.1 in
+      let keys = first_of-after (fork_causes s id) (key_causes (key_count bs)) (live_fork s id sound legal.1.may.0) ∙ few_keys (key_count bs) legal.1.may.1 in
+      let fork = first_of-after (fork_causes s id ++ key_causes (key_count bs)) (head_causes s (length bs)) keys ∙ head_room s (length bs) legal.1.bounded legal.1.small in
       record {
-        free = first_of-after (ledger_causes s ++ fork_causes s id ++ key_causes (key_count bs)) (head_causes s (length bs)) keys ∙ head_room s (length bs) legal.1.bounded legal.1.small;
+        free = first_of-after (ledger_causes s) (land_causes s id) (ledger_room s legal.0) ∙ fork;
         gives = ap (λ m. Some (entry.Landed own.number (s.all.head + length bs) (landing.Fork id) (root m) 0)) (sym (land_all-newest bs s.all));
       }
 
-  pub Grants-fork : (on : Base) → IsState s → IsLegal s (making_entry own.number s (parent_named on) own.pending) → Grants s own (command.Fork on) (making_entry own.number s (parent_named on) own.pending)
+  pub Grants-fork : (on : Parent) → IsState s → IsLegal s (making_entry own.number s on own.pending) → Grants s own (command.Change (change.Fork on)) (making_entry own.number s on own.pending)
   unfolding refused_by
   Grants-fork on sound legal =
-      let ledger = ledger_room s legal.0 in
-      let stands = first_of-after (ledger_causes s) (parent_causes s (parent_named on)) ledger ∙ live_parent s (parent_named on) sound legal.1.stands in
+      let parent = first_of-after (parent_causes s on) (room_causes s) (live_parent s on sound legal.1.stands) ∙ fork_room s legal.1.room in
       record {
-        free = first_of-after (ledger_causes s ++ parent_causes s (parent_named on)) (room_causes s) stands ∙ fork_room s legal.1.room;
+        free = first_of-after (ledger_causes s) (parent_causes s on ++ room_causes s) (ledger_room s legal.0) ∙ parent;
         gives = refl;
       }
 
-  pub Grants-drop : (id : ℕ) → IsState s → IsLegal s (entry.Dropped own.number id) → Grants s own (command.Drop id) (entry.Dropped own.number id)
+  pub Grants-drop : (id : ℕ) → IsState s → IsLegal s (entry.Dropped own.number id) → Grants s own (command.Change (change.Drop id)) (entry.Dropped own.number id)
   unfolding refused_by
   Grants-drop id sound legal = record { free = first_of-after (ledger_causes s) (fork_causes s id) (ledger_room s legal.0) ∙ live_fork s id sound legal.1; gives = refl }
 
-  pub Grants-prune : (upto floor : ℕ) → IsLegal s (entry.Retired own.number upto floor) → Grants s own (command.Prune upto) (entry.Retired own.number upto floor)
+  pub Grants-prune : (upto floor : ℕ) → IsLegal s (entry.Retired own.number upto floor) → Grants s own (command.Change (change.Prune upto)) (entry.Retired own.number upto floor)
   unfolding refused_by
   Grants-prune upto floor legal = record { free = first_of-after (ledger_causes s) (version_causes s upto) (ledger_room s legal.0) ∙ within_bounds s upto legal.1.rises legal.1.within; gives = refl }
 
-  pub Grants-compact : IsLegal s (entry.Compacted own.number (s.generation + 1)) → Grants s own command.Compact (entry.Compacted own.number (s.generation + 1))
+  pub Grants-compact : IsLegal s (entry.Compacted own.number (s.generation + 1)) → Grants s own (command.Change change.Compact) (entry.Compacted own.number (s.generation + 1))
   unfolding refused_by
   Grants-compact legal = record { free = first_of-after (ledger_causes s) (generation_causes s) (ledger_room s legal.0) ∙ generation_room s legal.1.1; gives = refl }

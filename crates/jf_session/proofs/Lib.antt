@@ -4,7 +4,6 @@ pub mod OwnEvents
 pub mod MetFloors
 pub mod Alike
 pub mod QuietLines
-pub mod StoredBases
 pub mod OfLines
 pub mod Taken
 pub mod Fed
@@ -19,7 +18,9 @@ pub mod Entering
 pub mod Refused
 pub mod RefusedCalls
 pub mod BaseLaws
+pub mod QuestionLaws
 pub mod ReadLaws
+pub mod StoredReads
 pub mod PendingLaws
 pub mod Changes
 pub mod PrunedFloors

@@ -1,6 +1,6 @@
 -- A line that is a command, and one that is none.
 use Rattle.std.proofs.Common.{◌≡◌, inl, inr, ℕ, ◌+◌, true, false, cond, ◌||◌, Option, Some, None, List, [], ◌∷◌, ◌++◌, drop, length, refl, sym, ap, ◌∙◌, subst, append-nil, length-append}
-use Rattle.std.specs.Prelude.{Result, Ok, Err, IfOk, IfErr}
+use Rattle.std.specs.Prelude.{Result, Ok, Err, IfOk, IfErr, OnOk}
 use Rattle.jf_model.specs.States.{State}
 use Rattle.jf_model.specs.declared.entries.Entry.{Entry}
 use Rattle.jf_text.specs.Words.{is_long}
@@ -27,7 +27,7 @@ use Rattle.jf_answers.specs.Explains.{Timeline, Answered, GivesEntry, answered_w
 use Rattle.jf_history.specs.Sessions.{Session, HoldsPins, FollowsLine, HasReplied, HasLooked, HasChanged, IsTry, HasDoneNothing, look_reply, change_reply, seen_by}
 use Rattle.jf_answers.proofs.AnswerLaws.{answer-long}
 use Rattle.jf_history.proofs.Replies.{looks_reply, changes_reply}
-use Rattle.jf_session.specs.Steps.{IsSoundSession, FollowsCommand, command_answer_with, GivesFor, DoneByLook, DoneByEntry, IsDoneAs, TriedFor, NotDone, StopsFor}
+use Rattle.jf_session.specs.Steps.{IsSoundSession, FollowsCommand, command_answer_with, GivesFor, DoneByLook, DoneByEntry, IsDoneAs, TriedFor, NotDone, StopsFor, IsObeyedWith}
 use Rattle.jf_session.specs.Answering.{IsRepliedBy, StopsAt, stopped_session}
 use Rattle.jf_session.specs.declared.stop.Stop.{Stop}
 use Rattle.jf_session.specs.declared.stop.Stop.TheVariants as stop
@@ -200,16 +200,15 @@ pub long_replied : (start : Start) (s : Session) (line block : List ℕ) → Hol
 long_replied start s line block pins k begun long = ([], sym (append-nil block), itself_replied start s line (reply.No refusal.Long) pins (unmarked_of s k begun) (λ t own. answer-long t own line long))
 
 module _ (start : Start) (old new : Session) (line : List ℕ) (c : Command) (short : is_long line ≡ false) (read : command_of line ≡ Some c) where
-  pub obeyed_replied : (block block' : List ℕ) (o : Result Reply Stop) → old.own.number ≡ old.pass.number → HoldsPins new → IfOk o (λ r. (text : List ℕ) × (block' ≡ block ++ text) × IsDoneAs start old new c r text)
+  pub obeyed_replied : (block block' : List ℕ) (o : Result Reply Stop) → old.own.number ≡ old.pass.number → HoldsPins new → IsObeyedWith start old new c block block' o
       → IfOk o (λ r. (text : List ℕ) × (block' ≡ block ++ text) × IsRepliedBy start old new line r text)
   obeyed_replied block block' (Ok r) numbers pins d = (d.0, d.1, done_of line c (line_of line c short read) start old new r d.0 numbers pins d.2)
   obeyed_replied block block' (Err why) numbers pins d = tt
 
-  pub obeyed_stops : (o : Result Reply Stop) → HoldsPins new → IfErr o (λ why. StopsFor start old new c why) → IfErr o (λ why. StopsAt start old new line why)
-  obeyed_stops (Ok r) holds d = tt
-  obeyed_stops (Err why) holds d = stops_of line c (line_of line c short read) start old new why holds d
+  pub obeyed_goes : (block block' : List ℕ) (o : Result Reply Stop) → IsObeyedWith start old new c block block' o → OnOk o (new.over ≡ false)
+  obeyed_goes block block' (Ok r) d = d.3
+  obeyed_goes block block' (Err why) d = tt
 
--- a command that asks nothing of a store was done, with whatever that began; it has no block
-pub own_done : (start : Start) (old new : Session) (c d : Command) (block : List ℕ) (o : Result Reply Stop) → c ≡ d → IfOk o (λ r. (t : Start) → IsDoneAs t old new d r []) → IfOk o (λ r. (text : List ℕ) × (block ≡ block ++ text) × IsDoneAs start old new c r text)
-own_done start old new c d block (Ok r) is done = ([], sym (append-nil block), subst (λ (x : Command). IsDoneAs start old new x r []) (sym is) (done start))
-own_done start old new c d block (Err why) is done = tt
+  pub obeyed_stops : (block block' : List ℕ) (o : Result Reply Stop) → HoldsPins new → IsObeyedWith start old new c block block' o → IfErr o (λ why. StopsAt start old new line why)
+  obeyed_stops block block' (Ok r) holds d = tt
+  obeyed_stops block block' (Err why) holds d = stops_of line c (line_of line c short read) start old new why holds d

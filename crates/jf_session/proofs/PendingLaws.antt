@@ -11,6 +11,7 @@ use Rattle.jf_store.specs.Ledgers.{state_after_events}
 use Rattle.jf_store.specs.Passes.{Pass}
 use Rattle.jf_script.specs.declared.command.Command.{Command}
 use Rattle.jf_script.specs.declared.command.Command.TheVariants as command
+use Rattle.jf_script.specs.declared.command.OwnCommand.TheVariants as own_command
 use Rattle.jf_script.specs.declared.reply.Refusal.TheVariants as refusal
 use Rattle.jf_script.specs.declared.reply.Reply.{Reply}
 use Rattle.jf_script.specs.declared.reply.Reply.TheVariants as reply
@@ -26,18 +27,18 @@ use Rattle.jf_session.proofs.ReadLaws.{answer-free}
 
 -- the command that a value stands for: a `put` of it, or without one a `del`
 abbrev pub set_command : List ℕ → Option (List ℕ) → Command
-set_command name (Some value) = command.Put name value
-set_command name None = command.Del name
+set_command name (Some value) = command.Own (own_command.Put name value)
+set_command name None = command.Own (own_command.Del name)
 
 set-full : (s : State) (own : Own) (name : List ℕ) (o : Option (List ℕ)) → is_full (K name) own.pending ≡ true → answer_command s own (set_command name o) ≡ replied (reply.No refusal.Pending) s own
 unfolding refused_by
-set-full s own name (Some value) e = answer-refused s own (command.Put name value) refusal.Pending (ap (λ b. cond b (Some refusal.Pending) None) e)
-set-full s own name None e = answer-refused s own (command.Del name) refusal.Pending (ap (λ b. cond b (Some refusal.Pending) None) e)
+set-full s own name (Some value) e = answer-refused s own (command.Own (own_command.Put name value)) refusal.Pending (ap (λ b. cond b (Some refusal.Pending) None) e)
+set-full s own name None e = answer-refused s own (command.Own (own_command.Del name)) refusal.Pending (ap (λ b. cond b (Some refusal.Pending) None) e)
 
 set-room : (s : State) (own : Own) (name : List ℕ) (o : Option (List ℕ)) → is_full (K name) own.pending ≡ false → answer_command s own (set_command name o) ≡ pending_changed name o s own
 unfolding refused_by
-set-room s own name (Some value) e = answer-free s own (command.Put name value) (ap (λ b. cond b (Some refusal.Pending) None) e)
-set-room s own name None e = answer-free s own (command.Del name) (ap (λ b. cond b (Some refusal.Pending) None) e)
+set-room s own name (Some value) e = answer-free s own (command.Own (own_command.Put name value)) (ap (λ b. cond b (Some refusal.Pending) None) e)
+set-room s own name None e = answer-free s own (command.Own (own_command.Del name)) (ap (λ b. cond b (Some refusal.Pending) None) e)
 
 not_true : (b : Bool) → (b ≡ true → ⊥) → b ≡ false
 not_true true isnt = absurd (isnt refl)

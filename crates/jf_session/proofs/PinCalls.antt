@@ -21,6 +21,7 @@ use Rattle.jf_store.specs.Pins.{shown_pins, unpinned_at}
 use Rattle.jf_store.specs.PinnedVersions.{full_faults, SeesToPin, HasPinnedVersion, HasNotPinned}
 use Rattle.jf_store.proofs.RefusalLaws.{first_of-none}
 use Rattle.jf_script.specs.declared.command.Command.TheVariants as command
+use Rattle.jf_script.specs.declared.command.OwnCommand.TheVariants as own_command
 use Rattle.jf_script.specs.declared.reply.Refusal.TheVariants as refusal
 use Rattle.jf_script.specs.declared.reply.Reply.TheVariants as reply
 use Rattle.jf_answers.specs.Own.{pinned, free_place, with_pin}
@@ -31,9 +32,9 @@ use Rattle.jf_session.specs.Steps.{session_of, FollowsCommand, DoneByLook, IsDon
 use Rattle.jf_session.proofs.Entering.{own_of}
 use Rattle.jf_session.proofs.KeptMaps.{TellsMap-kept}
 use Rattle.jf_session.proofs.Refusals.{AreTold, AreTold-append, granted-command}
-use Rattle.jf_session.proofs.BaseLaws.{Sees-self, pinned_version}
+use Rattle.jf_session.proofs.BaseLaws.{Sees-self, unmarked-on, pinned_version}
 use Rattle.jf_session.proofs.ReadLaws.{answer-free}
-use Rattle.jf_session.proofs.Refused.{answer-refused, follows-Sees}
+use Rattle.jf_session.proofs.Refused.{answer-refused, follows-Sees, Refuses-all}
 use Rattle.jf_session.proofs.RefusedCalls.{Fails}
 use Rattle.jf_session.proofs.ToldFaults.{AreTold-version}
 
@@ -75,12 +76,9 @@ module _ (start : Start) (p p' : Pass) (pending : Batch) (version : ℕ) where
 
   -- a version was not pinned
   pub Fails-pin : (f : StoreFault) → HasNotPinned start version p p' f → Fails start p p' pending (command.Pin version) f
-  Fails-pin f h = inr record {
-    sees = record { follows = follows-pin p p' version h.keeps.sees; others = h.keeps.sees.others; pinned = h.keeps.pinned };
-    rest = version_faults version s ++ full_faults p.pinned;
-    alike = AreTold-pin;
-    is = h.refusal;
-  }
+  Fails-pin f h =
+      let sees = record { follows = follows-pin p p' version h.keeps.sees; others = h.keeps.sees.others; pinned = h.keeps.pinned } in
+      inr (Refuses-all start p p' pending (command.Pin version) f sees (version_faults version s ++ full_faults p.pinned) AreTold-pin h.refusal)
 
   module _ (place : ℕ) (h : HasPinnedVersion start version p p' place) where
     free : (is_marked p'.seen ≡ false) × (first_of (causes s (own_of p pending) (command.Pin version)) ≡ None)
@@ -131,10 +129,6 @@ module _ (start : Start) (p p' : Pass) (pending : Batch) (version : ℕ) where
 
 -- ---- unpin
 module _ (start : Start) (store : Store) (p p' : Pass) (pending : Batch) (place : ℕ) (over : Bool) (is : IsSoundSession (session_of p pending over)) where
-  -- what was seen before is unmarked
-  unmarked : over ≡ false → is_marked p.seen ≡ false
-  unmarked on = elim is.whole [ inl ended ↦ absurd (let e : true ≡ false = sym ended ∙ on in cc) | inr clear ↦ clear ]
-
   module _ (pins : shown_pins store p' ≡ unpinned_at (shown_pins store p) place) (same : p' ≡ record p { place = p'.place; pinned = p'.pinned }) where
     seen : p'.seen ≡ p.seen
     seen = ap (λ (q : Pass). q.seen) same
@@ -142,7 +136,7 @@ module _ (start : Start) (store : Store) (p p' : Pass) (pending : Batch) (place 
     emptied : p'.pinned ≡ slice_set p.pinned place None
     emptied = ap (λ (q : PinsState). q.pinned) pins
 
-    follows-unpin : FollowsCommand p p' (command.Unpin place)
+    follows-unpin : FollowsCommand p p' (command.Own (own_command.Unpin place))
     follows-unpin = record {
       begins = ([], seen ∙ sym (append-nil p.seen));
       same = same ∙ ap (λ (xs : List Event). record p { seen = xs; place = p'.place; pinned = p'.pinned }) (sym seen);
@@ -151,17 +145,17 @@ module _ (start : Start) (store : Store) (p p' : Pass) (pending : Batch) (place 
 
     -- a place was freed
     pub IsDoneAs-freed : (version : ℕ) → Some version ≡ option_map (λ (t : SnapshotValue). t.version) (slice_index_or p.pinned place None) → over ≡ false → (over' : Bool) (old : Session) → session_of p pending over ≡ old
-        → IsDoneAs start old (session_of p' pending over') (command.Unpin place) (reply.Unpin version) []
+        → IsDoneAs start old (session_of p' pending over') (command.Own (own_command.Unpin place)) (reply.Unpin version) []
     unfolding refused_by
     IsDoneAs-freed version there on over' old view =
         let own = own_of p pending in
         let s = state_after_events start p'.seen in
         let held : pinned own place ≡ Some version = pinned_version p.pinned place ∙ sym there in
-        let found = answer-free s own (command.Unpin place) (ap (λ o. cond (is_none o) (Some refusal.NoPin) None) held) in
-        inl (subst (λ (o : Session). DoneByLook start o (session_of p' pending over') (command.Unpin place) (reply.Unpin version) []) view record {
+        let found = answer-free s own (command.Own (own_command.Unpin place)) (ap (λ o. cond (is_none o) (Some refusal.NoPin) None) held) in
+        inl (subst (λ (o : Session). DoneByLook start o (session_of p' pending over') (command.Own (own_command.Unpin place)) (reply.Unpin version) []) view record {
           follows = follows-unpin;
           others = subst (OthersAlone p) (sym seen) (Sees-self p).others;
-          unmarked = ap is_marked seen ∙ unmarked on;
+          unmarked = ap is_marked seen ∙ unmarked-on p pending over is on;
           quiet = ap (λ (x : Answer). x.entry) found;
           own = own_set p p' pending place None (ap (λ (q : Pass). q.number) same) emptied ∙ sym (ap (λ (x : Answer). x.own) found);
           reply = ap (λ o. reply.Unpin (unwrap_or o 0)) (sym held) ∙ sym (ap (λ (x : Answer). x.reply) found);
@@ -182,18 +176,18 @@ module _ (start : Start) (store : Store) (p p' : Pass) (pending : Batch) (place 
   module _ (same : p' ≡ p) where
     -- the place held nothing
     pub IsDoneAs-not_freed : None ≡ option_map (λ (t : SnapshotValue). t.version) (slice_index_or p.pinned place None) → over ≡ false → (over' : Bool) (old : Session) → session_of p pending over ≡ old
-        → IsDoneAs start old (session_of p' pending over') (command.Unpin place) (reply.No refusal.NoPin) []
+        → IsDoneAs start old (session_of p' pending over') (command.Own (own_command.Unpin place)) (reply.No refusal.NoPin) []
     unfolding refused_by
     IsDoneAs-not_freed there on over' old view =
         let own = own_of p pending in
         let s = state_after_events start p.seen in
         let none : pinned own place ≡ None = pinned_version p.pinned place ∙ sym there in
-        let found = answer-refused s own (command.Unpin place) refusal.NoPin (ap (λ o. cond (is_none o) (Some refusal.NoPin) None) none) in
-        subst (λ (q : Pass). IsDoneAs start old (session_of q pending over') (command.Unpin place) (reply.No refusal.NoPin) []) (sym same)
-        (inl (subst (λ (o : Session). DoneByLook start o (session_of p pending over') (command.Unpin place) (reply.No refusal.NoPin) []) view record {
-          follows = follows-Sees p p (command.Unpin place) (Sees-self p);
+        let found = answer-refused s own (command.Own (own_command.Unpin place)) refusal.NoPin (ap (λ o. cond (is_none o) (Some refusal.NoPin) None) none) in
+        subst (λ (q : Pass). IsDoneAs start old (session_of q pending over') (command.Own (own_command.Unpin place)) (reply.No refusal.NoPin) []) (sym same)
+        (inl (subst (λ (o : Session). DoneByLook start o (session_of p pending over') (command.Own (own_command.Unpin place)) (reply.No refusal.NoPin) []) view record {
+          follows = follows-Sees p p (command.Own (own_command.Unpin place)) (Sees-self p);
           others = (Sees-self p).others;
-          unmarked = unmarked on;
+          unmarked = unmarked-on p pending over is on;
           quiet = ap (λ (x : Answer). x.entry) found;
           own = sym (ap (λ (x : Answer). x.own) found);
           reply = sym (ap (λ (x : Answer). x.reply) found);

@@ -12,18 +12,19 @@ use Rattle.jf_store.specs.Passes.{Store, Pass, ArePins}
 use Rattle.jf_store.specs.Pins.{shown_pins}
 use Rattle.jf_store.specs.Prunings.{HasPruned, HasFailedPruning}
 use Rattle.jf_script.specs.declared.command.Command.TheVariants as command
+use Rattle.jf_script.specs.declared.command.Change.TheVariants as change
 use Rattle.jf_script.specs.declared.reply.Reply.TheVariants as reply
 use Rattle.jf_answers.specs.Explains.{IsAmong}
 use Rattle.jf_session.proofs.Entering.{own_of, Enters}
 use Rattle.jf_session.proofs.Granting.{Grants-prune}
 use Rattle.jf_session.proofs.LegalEvents.{legal_entry, legal_attempt}
 use Rattle.jf_session.proofs.PrunedFloors.{IsMet-done, IsMet-mark, HasSoundFloor-pruned}
-use Rattle.jf_session.proofs.Refused.{SeesMore-Sees}
+use Rattle.jf_session.proofs.Refused.{SeesMore-Sees, Refuses-all}
 use Rattle.jf_session.proofs.RefusedCalls.{Fails}
 use Rattle.jf_session.proofs.ToldFaults.{AreTold-prune}
 
 module _ (store : Store) (p p' : Pass) (pending : Batch) (pins : ArePins (shown_pins store p)) (eight : length p.pinned ≡ 8) (are : AreEvents store.start p'.seen) (upto : ℕ) where
-  pub Enters-prune : (r : Pruned) → HasPruned store.start upto p p' r → Enters store.start p p' pending pending (command.Prune upto) (reply.Prune r.bound r.floor)
+  pub Enters-prune : (r : Pruned) → HasPruned store.start upto p p' r → Enters store.start p p' pending pending (command.Change (change.Prune upto)) (reply.Prune r.bound r.floor)
   Enters-prune r h =
       let s = state_after_events store.start h.before in
       let e = entry.Retired p.number upto r.floor in
@@ -43,7 +44,7 @@ module _ (store : Store) (p p' : Pass) (pending : Batch) (pins : ArePins (shown_
         block = refl;
       }
 
-  pub Fails-prune : (f : StoreFault) → HasFailedPruning store.start upto p p' f → Fails store.start p p' pending (command.Prune upto) f
+  pub Fails-prune : (f : StoreFault) → HasFailedPruning store.start upto p p' f → Fails store.start p p' pending (command.Change (change.Prune upto)) f
   Fails-prune f (inl failed) =
       let h = failed.1 in
       let s = state_after_events store.start h.before in
@@ -62,9 +63,7 @@ module _ (store : Store) (p p' : Pass) (pending : Batch) (pins : ArePins (shown_
           };
         },
       )
-  Fails-prune f (inr refused) = inr record {
-    sees = SeesMore-Sees p p' (command.Prune upto) refused.0;
-    rest = ledger_faults (state_after_events store.start p'.seen) ++ version_faults upto (state_after_events store.start p'.seen);
-    alike = AreTold-prune (state_after_events store.start p'.seen) upto;
-    is = refused.1;
-  }
+  Fails-prune f (inr refused) =
+      let s = state_after_events store.start p'.seen in
+      let c = command.Change (change.Prune upto) in
+      inr (Refuses-all store.start p p' pending c f (SeesMore-Sees p p' c refused.0) (ledger_faults s ++ version_faults upto s) (AreTold-prune s upto) refused.1)

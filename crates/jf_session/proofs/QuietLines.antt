@@ -1,10 +1,13 @@
 -- Lines that can't give an entry.
-use Rattle.std.specs.Prelude.{option_and_then, ◌||◌}
+use Rattle.std.specs.Prelude.{◌||◌}
 use Rattle.std.proofs.Common.{◌≡◌, ◌∙◌, ℕ, Bool, true, false, cond, Option, Some, None, not, option_map, List, [], ◌∷◌, refl, sym, ap, codes}
 use Rattle.jf_model.specs.States.{State}
 use Rattle.jf_path.proofs.BoolLaws.{or_false_left, or_false_right}
-use Rattle.jf_text.specs.Words.{words, is_word, is_long, both, name_of, value_of, number, number_from, max_chunk}
-use Rattle.jf_script.specs.Commands.{command_of, command_of_words, base_of, stored_of}
+use Rattle.jf_text.specs.Words.{words, is_word, is_long, both, name_of, value_of, number}
+use Rattle.jf_script.specs.Commands.{command_of, command_of_words, base_of, id_of, question_of_words, fork_question_of, read_command}
+use Rattle.jf_script.specs.declared.command.Question.{Question}
+use Rattle.jf_script.specs.declared.command.OwnCommand.{OwnCommand}
+use Rattle.jf_script.specs.declared.command.OwnCommand.TheVariants as own_command
 use Rattle.jf_script.specs.declared.command.Command.{Command}
 use Rattle.jf_script.specs.declared.command.Command.TheVariants as command
 use Rattle.jf_script.specs.declared.reply.Refusal.{Refusal}
@@ -12,16 +15,11 @@ use Rattle.jf_script.specs.declared.reply.Reply.TheVariants as reply
 use Rattle.jf_answers.specs.Own.{Own}
 use Rattle.jf_answers.specs.Refusals.{refused_by}
 use Rattle.jf_session.specs.Taking.{is_store_word}
-use Rattle.jf_answers.specs.Answers.{Answer, answer, answer_to, granted, replied, too_long}
+use Rattle.jf_answers.specs.Answers.{Answer, answer, answer_to, granted, granted_own, replied, too_long}
 
 -- the commands that change the store
 abbrev changes_store : Command → Bool
-changes_store command.Commit = true
-changes_store (command.Fork on) = true
-changes_store (command.Land id) = true
-changes_store (command.Drop id) = true
-changes_store (command.Prune upto) = true
-changes_store command.Compact = true
+changes_store (command.Change c) = true
 changes_store c = false
 
 gives_entry : Option Command → Bool
@@ -29,14 +27,18 @@ gives_entry None = false
 gives_entry (Some c) = changes_store c
 
 -- ---- a command that gives none
+own_none : (c : OwnCommand) (s : State) (own : Own) → (granted_own c s own).entry ≡ None
+own_none (own_command.Put name value) s own = refl
+own_none (own_command.Del name) s own = refl
+own_none (own_command.Unpin place) s own = refl
+
 granted_none : (c : Command) (s : State) (own : Own) → changes_store c ≡ false → (granted c s own).entry ≡ None
-granted_none command.Commit s own none = absurd (cc)
-granted_none (command.Fork on) s own none = absurd (cc)
-granted_none (command.Land id) s own none = absurd (cc)
-granted_none (command.Drop id) s own none = absurd (cc)
-granted_none (command.Prune upto) s own none = absurd (cc)
-granted_none command.Compact s own none = absurd (cc)
-granted_none c s own none = refl
+granted_none (command.Own c) s own none = own_none c s own
+granted_none (command.Read on q) s own none = refl
+granted_none (command.ReadFork id q) s own none = refl
+granted_none command.Look s own none = refl
+granted_none (command.Pin version) s own none = refl
+granted_none (command.Change c) s own none = absurd (cc)
 
 unrefused_none : (o : Option Refusal) (c : Command) (s : State) (own : Own) → changes_store c ≡ false → (elim o as (λ x. Answer) [ Some why ↦ replied (reply.No why) s own | None ↦ granted c s own ]).entry ≡ None
 unrefused_none None c s own none = granted_none c s own none
@@ -79,10 +81,14 @@ paired f each None p = refl
 paired f each (Some x) None = refl
 paired f each (Some x) (Some y) = each x y
 
-chained : {X : Type 0} (f : X → Option Command) → ((x : X) → gives_entry (f x) ≡ false) → (o : Option X) → gives_entry (option_and_then f o) ≡ false
-unfolding gives_entry
-chained f each None = refl
-chained f each (Some x) = each x
+-- a read changes nothing
+read_none : (on : List ℕ) (o : Option Question) → gives_entry (read_command on o) ≡ false
+read_none on None = is_none
+read_none on (Some q) = by (id_of on)
+  where
+    by : (o : Option ℕ) → gives_entry (elim o as (λ x. Option Command) [ Some id ↦ option_map (λ f. command.ReadFork id f) (fork_question_of q) | None ↦ option_map (λ b. command.Read b q) (base_of on) ]) ≡ false
+    by (Some id) = mapped (λ f. command.ReadFork id f) (λ x. refl) (fork_question_of q)
+    by None = mapped (λ b. command.Read b q) (λ x. refl) (base_of on)
 
 -- the word begins no command that changes the store
 pub record IsOtherWord (w : List ℕ) : Type 0 where
@@ -97,28 +103,21 @@ words_none : (w : List ℕ) (ws : List (List ℕ)) → IsOtherWord w → gives_e
 words_none w [] other =
     passed (is_word w (codes "commit")) _ _ other.commit (
     passed (is_word w (codes "compact")) _ _ other.compact (
-    either (is_word w (codes "status")) _ _ (is_some command.Status refl) (
+    either (is_word w (codes "status")) _ _ (is_some command.Look refl) (
     is_none)))
 words_none w (a ∷ []) other =
-    either (is_word w (codes "del")) _ _ (mapped (λ name. command.Del name) (λ x. refl) (name_of a)) (
+    either (is_word w (codes "del")) _ _ (mapped (λ name. command.Own (own_command.Del name)) (λ x. refl) (name_of a)) (
+    either (is_word w (codes "unpin")) _ _ (mapped (λ n. command.Own (own_command.Unpin n)) (λ x. refl) (number a)) (
+    either (is_word w (codes "pin")) _ _ (mapped (λ n. command.Pin n) (λ x. refl) (number a)) (
     passed (is_word w (codes "fork")) _ _ other.fork (
     passed (is_word w (codes "land")) _ _ other.land (
     passed (is_word w (codes "drop")) _ _ other.drops (
-    either (is_word w (codes "root")) _ _ (mapped (λ b. command.Root b) (λ x. refl) (base_of a)) (
-    either (is_word w (codes "count")) _ _ (mapped (λ b. command.Count b) (λ x. refl) (stored_of a)) (
-    either (is_word w (codes "pin")) _ _ (mapped (λ n. command.Pin n) (λ x. refl) (number a)) (
-    either (is_word w (codes "unpin")) _ _ (mapped (λ n. command.Unpin n) (λ x. refl) (number a)) (
     passed (is_word w (codes "prune")) _ _ other.prune (
-    is_none)))))))))
+    read_none a (question_of_words w []))))))))
 words_none w (a ∷ b ∷ []) other =
-    either (is_word w (codes "put")) _ _ (paired (λ name value. command.Put name value) (λ x y. refl) (name_of a) (value_of b)) (
-    either (is_word w (codes "get")) _ _ (paired (λ on name. command.Get on name) (λ x y. refl) (base_of a) (name_of b)) (
-    either (is_word w (codes "prove")) _ _ (paired (λ on name. command.Prove on name) (λ x y. refl) (stored_of a) (name_of b)) (
-    either (is_word w (codes "nth")) _ _ (paired (λ on place. command.Nth on place) (λ x y. refl) (stored_of a) (number b)) (
-    is_none))))
-words_none w (a ∷ b ∷ c ∷ []) other =
-    either (is_word w (codes "chunk")) _ _ (chained (λ on. both (λ start count. command.Chunk on start count) (number b) (number_from 1 max_chunk c)) (λ on. paired (λ start count. command.Chunk on start count) (λ x y. refl) (number b) (number_from 1 max_chunk c)) (stored_of a)) (
-    is_none)
+    either (is_word w (codes "put")) _ _ (paired (λ name value. command.Own (own_command.Put name value)) (λ x y. refl) (name_of a) (value_of b)) (
+    read_none a (question_of_words w (b ∷ [])))
+words_none w (a ∷ b ∷ c ∷ []) other = read_none a (question_of_words w (b ∷ c ∷ []))
 words_none w (a ∷ b ∷ c ∷ d ∷ ws) other = is_none
 
 other_of : (w : List ℕ) → is_store_word w ≡ false → IsOtherWord w

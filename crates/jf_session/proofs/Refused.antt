@@ -1,6 +1,7 @@
 -- A command that the store refused, or for which nothing was done.
 use Rattle.std.proofs.Common.{◌≡◌, ◌∙◌, inl, ℕ, Bool, true, false, Some, None, List, [], ◌++◌, sym, ap, ap₂, subst, Option}
 use Rattle.std.specs.Prelude.{Ok, Err}
+use Rattle.jf_path.specs.Checks.{first_of}
 use Rattle.jf_hash.specs.Maps.{Batch}
 use Rattle.jf_turn.specs.Lists.{HasElement}
 use Rattle.jf_model.specs.States.{State}
@@ -17,7 +18,7 @@ use Rattle.jf_script.specs.declared.reply.Reply.TheVariants as reply
 use Rattle.jf_answers.specs.Own.{Own}
 use Rattle.jf_answers.specs.OwnLines.{is_own_command}
 use Rattle.jf_answers.specs.Answers.{Answer, granted, replied, answer_command}
-use Rattle.jf_answers.specs.Refusals.{causes, refused_by}
+use Rattle.jf_answers.specs.Refusals.{Causes, causes, refused_by}
 use Rattle.jf_history.specs.Sessions.{Session, pinned_versions}
 use Rattle.jf_session.specs.Refusing.{told}
 use Rattle.jf_session.specs.Steps.{session_of, FollowsCommand, DoneByLook, NotDone, StopsFor}
@@ -50,12 +51,27 @@ SeesMore-Sees p p' c sees = record { follows = follows-Sees p p' c sees; others 
 pub SeesMore-own : (p p' : Pass) (pending : Batch) (c : Command) → SeesMore p p' c → own_of p' pending ≡ own_of p pending
 SeesMore-own p p' pending c sees = ap₂ (λ (n : ℕ) (ps : List (Option SnapshotValue)). record { number = n; pending = pending; pins = pinned_versions ps }) (ap (λ (q : Pass). q.number) sees.follows.same) sees.pinned
 
--- the store refused the call for a command, by these faults, each of which is told as one of the command's causes
+-- the store refused the call for a command, by these faults; each is told as one of these causes, of which the first that holds refuses the command
 pub record Refuses (start : Start) (p p' : Pass) (pending : Batch) (c : Command) (f : StoreFault) : Type 0 where
   pub sees : SeesMore p p' c
   pub rest : StoreFaults
-  pub alike : AreTold rest (causes (state_after_events start p'.seen) (own_of p pending) c)
+  pub told_as : Causes
+  pub alike : AreTold rest told_as
+  pub refuses : (why : Refusal) → first_of told_as ≡ Some why → refused_by (state_after_events start p'.seen) (own_of p pending) c ≡ Some why
   pub is : IsRefusal (broken_faults p'.seen ++ rest) f
+
+-- they are all causes of the command
+pub Refuses-all : (start : Start) (p p' : Pass) (pending : Batch) (c : Command) (f : StoreFault) → SeesMore p p' c → (rest : StoreFaults) → AreTold rest (causes (state_after_events start p'.seen) (own_of p pending) c)
+    → IsRefusal (broken_faults p'.seen ++ rest) f → Refuses start p p' pending c f
+unfolding refused_by
+Refuses-all start p p' pending c f sees rest alike is = record {
+  sees = sees;
+  rest = rest;
+  told_as = causes (state_after_events start p'.seen) (own_of p pending) c;
+  alike = alike;
+  refuses = λ why e. e;
+  is = is;
+}
 
 module _ (start : Start) (p p' : Pass) (pending : Batch) (over over' : Bool) (old : Session) (view : session_of p pending over ≡ old) (c : Command) where
   -- nothing was done
@@ -70,10 +86,9 @@ module _ (start : Start) (p p' : Pass) (pending : Batch) (over over' : Bool) (ol
   module _ (f : StoreFault) (t : Refuses start p p' pending c f) (asks : is_own_command c ≡ false) where
     -- the refusal is the reply
     pub DoneByLook-refused : (why : Refusal) → told f ≡ Ok why → DoneByLook start old (session_of p' pending over') c (reply.No why) []
-    unfolding refused_by
     DoneByLook-refused why tells =
-        let found = told-reply p'.seen t.rest (causes (state_after_events start p'.seen) (own_of p pending) c) f why t.alike t.is tells in
-        let same = answer-refused (state_after_events start p'.seen) (own_of p pending) c why found.1 in
+        let found = told-reply p'.seen t.rest t.told_as f why t.alike t.is tells in
+        let same = answer-refused (state_after_events start p'.seen) (own_of p pending) c why (t.refuses why found.1) in
         subst (λ (o : Session). DoneByLook start o (session_of p' pending over') c (reply.No why) []) view record {
           follows = t.sees.follows;
           others = t.sees.others;
@@ -87,10 +102,10 @@ module _ (start : Start) (p p' : Pass) (pending : Batch) (over over' : Bool) (ol
 
     -- the call stops the session
     pub StopsFor-refused : (why : Stop) → told f ≡ Err why → StopsFor start old (session_of p' pending over') c why
-    StopsFor-refused stop.DiskFault tells = absurd (told-fault p'.seen t.rest (causes (state_after_events start p'.seen) (own_of p pending) c) f t.alike t.is tells)
-    StopsFor-refused stop.Broken tells = (NotDone-sees t.sees, told-broken p'.seen t.rest (causes (state_after_events start p'.seen) (own_of p pending) c) f t.alike t.is tells, asks)
+    StopsFor-refused stop.DiskFault tells = absurd (told-fault p'.seen t.rest t.told_as f t.alike t.is tells)
+    StopsFor-refused stop.Broken tells = (NotDone-sees t.sees, told-broken p'.seen t.rest t.told_as f t.alike t.is tells, asks)
     StopsFor-refused stop.Memory tells = NotDone-sees t.sees
 
 -- a refusal that is told in a reply saw no mark
 pub Refuses-unmarked : (start : Start) (p p' : Pass) (pending : Batch) (c : Command) (f : StoreFault) (why : Refusal) → Refuses start p p' pending c f → told f ≡ Ok why → is_marked p'.seen ≡ false
-Refuses-unmarked start p p' pending c f why t tells = (told-reply p'.seen t.rest (causes (state_after_events start p'.seen) (own_of p pending) c) f why t.alike t.is tells).0
+Refuses-unmarked start p p' pending c f why t tells = (told-reply p'.seen t.rest t.told_as f why t.alike t.is tells).0

@@ -1,6 +1,6 @@
 -- What a call of a pass comes to that failed: the reply, or why the session ends.
 use Rattle.std.proofs.Common.{◌≡◌, ◌⊎◌, inl, inr, ◌∙◌, Bool, true, false, [], sym, ap, subst}
-use Rattle.std.specs.Prelude.{Result, Ok, Err, IfOk, IfErr, OnErr}
+use Rattle.std.specs.Prelude.{Result, Ok, Err}
 use Rattle.jf_hash.specs.Maps.{Batch}
 use Rattle.jf_store.specs.declared.fault.StoreFault.{StoreFault}
 use Rattle.jf_store.specs.declared.fault.StoreFault.TheVariants as store_fault
@@ -12,20 +12,14 @@ use Rattle.jf_script.specs.declared.reply.Reply.{Reply}
 use Rattle.jf_script.specs.declared.reply.Reply.TheVariants as reply
 use Rattle.jf_answers.specs.OwnLines.{is_own_command}
 use Rattle.jf_history.specs.Sessions.{Session}
-use Rattle.jf_session.specs.Refusing.{told}
-use Rattle.jf_session.specs.Steps.{session_of, IsDoneAs, StopsFor, IsSoundSession}
+use Rattle.jf_session.specs.Refusing.{told, TellsFault}
+use Rattle.jf_session.specs.Steps.{session_of, IsDoneAs, StopsFor, IsObeyed, IsSoundSession}
 use Rattle.jf_session.specs.declared.stop.Stop.{Stop}
 use Rattle.jf_session.specs.declared.stop.Stop.TheVariants as stop
 use Rattle.jf_session.proofs.Entering.{Tries, TriedFor-tries}
 use Rattle.jf_session.proofs.KeptMaps.{PinsTell-kept}
 use Rattle.jf_session.proofs.LegalEvents.{begins_own}
 use Rattle.jf_session.proofs.Refused.{Refuses, DoneByLook-refused, StopsFor-refused, Refuses-unmarked}
-
--- the fault is told in the reply, or as why the session stops; it is over then
-pub record TellsFault (f : StoreFault) (over' : Bool) (r : Result Reply Stop) : Type 0 where
-  pub ok : IfOk r (λ x. (why : Refusal) × (told f ≡ Ok why) × (x ≡ reply.No why))
-  pub err : IfErr r (λ why. told f ≡ Err why)
-  pub ends : OnErr r (over' ≡ true)
 
 -- the disk failed in a call for a command, or the call was refused
 abbrev pub Fails : Start → Pass → Pass → Batch → Command → StoreFault → Type 0
@@ -48,15 +42,10 @@ module _ (start : Start) (p p' : Pass) (pending : Batch) (over over' : Bool) (c 
         subst (StopsFor start old (session_of p' pending over') c) same (TriedFor-tries start p p' pending pending over over' old view c failed.1)
     told_stops why tells (inr t) = StopsFor-refused start p p' pending over over' old view c f t asks why tells
 
-    -- a reply is that of the command
-    pub IsDoneAs-failed : (r : Result Reply Stop) → TellsFault f over' r → IfOk r (λ x. IsDoneAs start old (session_of p' pending over') c x [])
-    IsDoneAs-failed (Ok x) t = told_done x t.ok.0 t.ok.1 t.ok.2 fails
-    IsDoneAs-failed (Err why) t = tt
-
-    -- a stop is told as the command's
-    pub StopsFor-failed : (r : Result Reply Stop) → TellsFault f over' r → IfErr r (λ why. StopsFor start old (session_of p' pending over') c why)
-    StopsFor-failed (Ok x) t = tt
-    StopsFor-failed (Err why) t = told_stops why t.err fails
+    -- a reply is that of the command, and a stop is told as the command's
+    pub IsObeyed-failed : old.over ≡ false → (r : Result Reply Stop) → TellsFault f over over' r → IsObeyed start old (session_of p' pending over') c r
+    IsObeyed-failed goes (Ok x) t = (told_done x t.ok.0 t.ok.1 t.ok.2 fails, t.goes_on ∙ ap (λ (s : Session). s.over) view ∙ goes)
+    IsObeyed-failed goes (Err why) t = told_stops why t.err fails
 
   kept : IsSoundSession (session_of p pending over) → (over' ≡ true) ⊎ ((why : Refusal) × (told f ≡ Ok why)) → Fails start p p' pending c f → IsSoundSession (session_of p' pending over')
   kept is (inl ended) (inl failed) =
@@ -67,6 +56,6 @@ module _ (start : Start) (p p' : Pass) (pending : Batch) (over over' : Bool) (c 
   kept is (inr tells) (inr t) = record { whole = inr (Refuses-unmarked start p p' pending c f tells.0 t tells.1); pins = PinsTell-kept p p' t.sees.follows.begins (ap (λ (q : Pass). q.start) t.sees.follows.same) t.sees.pinned is.pins }
 
   -- the session stays one
-  pub IsSoundSession-failed : (r : Result Reply Stop) → TellsFault f over' r → IsSoundSession (session_of p pending over) → IsSoundSession (session_of p' pending over')
+  pub IsSoundSession-failed : (r : Result Reply Stop) → TellsFault f over over' r → IsSoundSession (session_of p pending over) → IsSoundSession (session_of p' pending over')
   IsSoundSession-failed (Ok x) t is = kept is (inr (t.ok.0, t.ok.1)) fails
   IsSoundSession-failed (Err why) t is = kept is (inl t.ends) fails

@@ -10,7 +10,7 @@ use Rattle.jf_store.specs.Refusals.{ledger_faults, landing_faults, fork_faults, 
 use Rattle.jf_store.specs.Landings.{chain_faults}
 use Rattle.jf_store.specs.Compactions.{generation_faults}
 use Rattle.jf_store.specs.Refusals as faults
-use Rattle.jf_answers.specs.Refusals.{ledger_causes, head_causes, fork_causes, key_causes, parent_causes, room_causes, generation_causes, version_causes, parent_named}
+use Rattle.jf_answers.specs.Refusals.{ledger_causes, head_causes, fork_causes, key_causes, parent_causes, room_causes, generation_causes, version_causes}
 use Rattle.jf_answers.specs.Refusals as causes
 use Rattle.jf_session.proofs.Refusals.{AreTold, AreTold-append}
 
@@ -54,5 +54,5 @@ module _ (s : State) where
   pub AreTold-compact : AreTold (ledger_faults s ++ generation_faults s) (ledger_causes s ++ generation_causes s)
   AreTold-compact = AreTold-append (ledger_faults s) (generation_faults s) (ledger_causes s) (generation_causes s) AreTold-ledger AreTold-generation
 
-  pub AreTold-land : (id : ℕ) → AreTold (ledger_faults s ++ fork_faults id s ++ chain_faults id s ++ landing_faults (length (landed_batches s (landing.Fork id))) s) (causes.land_causes s id)
+  pub AreTold-land : (id : ℕ) → AreTold (ledger_faults s ++ fork_faults id s ++ chain_faults id s ++ landing_faults (length (landed_batches s (landing.Fork id))) s) (ledger_causes s ++ causes.land_causes s id)
   AreTold-land id = (refl, refl, (refl, refl, (refl, refl, (refl, refl, (refl, refl, (refl, refl, tt))))))

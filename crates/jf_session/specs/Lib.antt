@@ -1,6 +1,6 @@
 pub mod Refusing
+pub mod Questions
 pub mod Steps
-pub mod Bases
 pub mod Answering
 pub mod Taking
 pub use Rattle.jf_path.specs.Checks

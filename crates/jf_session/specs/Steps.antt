@@ -1,5 +1,5 @@
 -- What a command makes of a session over a pass, and with what reply.
-use Rattle.std.specs.Prelude.{◌≡◌, ◌⊎◌, ℕ, ◌≤◌, Bool, IsTrue, false, true, List, Some, None, slice_index_or}
+use Rattle.std.specs.Prelude.{◌≡◌, ◌⊎◌, ℕ, ◌≤◌, Bool, IsTrue, false, true, List, [], ◌++◌, Some, None, slice_index_or, Result, Ok, Err}
 use Rattle.jf_hash.specs.Maps.{Batch}
 use Rattle.jf_model.specs.Versions.{map_of}
 use Rattle.jf_model.specs.States.{State}
@@ -12,7 +12,7 @@ use Rattle.jf_store.specs.declared.event.Event.TheVariants.{Done, Mark}
 use Rattle.jf_store.specs.Events.{is_marked}
 use Rattle.jf_store.specs.Starts.{Start}
 use Rattle.jf_store.specs.Ledgers.{state_after_events}
-use Rattle.jf_store.specs.Passes.{Pass, OthersAlone, SeesOwn}
+use Rattle.jf_store.specs.Passes.{Store, Pass, IsPassOf, OthersAlone, SeesOwn}
 use Rattle.jf_script.specs.declared.command.Command.{Command}
 use Rattle.jf_script.specs.declared.reply.Reply.{Reply}
 use Rattle.jf_answers.specs.Own.{Own}
@@ -107,3 +107,19 @@ abbrev pub StopsFor : Start → Session → Session → Command → Stop → Typ
 StopsFor start old new c stop.DiskFault = TriedFor start old new c
 StopsFor start old new c stop.Broken = NotDone old new c × (is_marked new.pass.seen ≡ true) × (is_own_command c ≡ false)
 StopsFor start old new c stop.Memory = NotDone old new c
+
+-- ---- a call for a command
+-- the session is over a pass of this store, and has not stopped
+pub record IsRunningOn (s : Session) (store : Store) : Type 0 where
+  pub own : IsPassOf s.pass store
+  pub over : s.over ≡ false
+
+-- the command was done with this reply, which has no block, and the session goes on; or why it was not done
+abbrev pub IsObeyed : Start → Session → Session → Command → Result Reply Stop → Type 0
+IsObeyed start old new c (Ok r) = IsDoneAs start old new c r [] × (new.over ≡ false)
+IsObeyed start old new c (Err why) = StopsFor start old new c why
+
+-- so it is with a block, which was appended to these lines
+abbrev pub IsObeyedWith : Start → Session → Session → Command → List ℕ → List ℕ → Result Reply Stop → Type 0
+IsObeyedWith start old new c lines lines' (Ok r) = (block : List ℕ) × (lines' ≡ lines ++ block) × IsDoneAs start old new c r block × (new.over ≡ false)
+IsObeyedWith start old new c lines lines' (Err why) = StopsFor start old new c why

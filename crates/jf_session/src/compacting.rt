@@ -1,8 +1,7 @@
 // A new generation is written.
-ghost use Rattle.std.specs.Prelude.{◌≡◌, [], IfOk, IfErr, OnOk, false};
+ghost use Rattle.jf_script.specs.declared.command.Change.TheVariants as change;
 ghost use Rattle.jf_script.specs.declared.command.Command.TheVariants as command;
-ghost use Rattle.jf_store.specs.Passes.{IsPassOf};
-ghost use Rattle.jf_session.specs.Steps.{IsDoneAs, StopsFor};
+ghost use Rattle.jf_session.specs.Steps.{IsRunningOn, IsObeyed};
 
 use crate::refusing::refused;
 use crate::session::Session;
@@ -21,11 +20,8 @@ impl<D: Disk> Session<D> {
         alloc: Global,
         store: &Store<D>,
     ) -> Result<Reply, Stop>
-        requires own { IsPassOf self.old.pass store.now }
-        requires over { self.old.over ≡ false }
-        ensures ok { IfOk result (λ r. IsDoneAs store.now.start self.old self.new command.Compact r []) }
-        ensures goes_on { OnOk result (self.new.over ≡ false) }
-        ensures err { IfErr result (λ why. StopsFor store.now.start self.old self.new command.Compact why) }
+        requires { IsRunningOn self.old store.now }
+        ensures { IsObeyed store.now.start self.old self.new (command.Change change.Compact) result }
     {
         let compacted = self.pass.compact(rt, alloc, store);
         self.pass.know(store);

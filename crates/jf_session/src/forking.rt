@@ -1,9 +1,7 @@
 // A fork is made of what is pending, or dropped.
-ghost use Rattle.std.specs.Prelude.{◌≡◌, [], IfOk, IfErr, OnOk, false};
+ghost use Rattle.jf_script.specs.declared.command.Change.TheVariants as change;
 ghost use Rattle.jf_script.specs.declared.command.Command.TheVariants as command;
-ghost use Rattle.jf_store.specs.Passes.{IsPassOf};
-ghost use Rattle.jf_answers.specs.Refusals.{parent_named};
-ghost use Rattle.jf_session.specs.Steps.{IsDoneAs, StopsFor};
+ghost use Rattle.jf_session.specs.Steps.{IsRunningOn, IsObeyed};
 
 use crate::refusing::refused;
 use crate::session::Session;
@@ -11,20 +9,10 @@ use crate::stop::Stop;
 use jf_disk::Disk;
 use jf_model::Parent;
 use jf_path::Memory;
-use jf_script::{Base, Reply};
+use jf_script::Reply;
 use jf_store::Store;
 use std::alloc::Global;
 use std::sync::Wait;
-
-// What a fork stands on. The grammar names the head or a fork.
-fn parent_named(on: Base) -> Parent
-    ensures { result ≡ parent_named on }
-{
-    match on {
-        Base::Fork(id) => Parent::Fork(id),
-        Base::Head | Base::Version(_) | Base::Place(_) => Parent::Head,
-    }
-}
 
 impl<D: Disk> Session<D> {
     // Answers `fork`: makes a fork of what is pending, after which nothing is. Its batch is made before the store is
@@ -34,19 +22,16 @@ impl<D: Disk> Session<D> {
         rt: &H,
         alloc: Global,
         store: &Store<D>,
-        on: Base,
+        on: Parent,
     ) -> Result<Reply, Stop>
-        requires own { IsPassOf self.old.pass store.now }
-        requires over { self.old.over ≡ false }
-        ensures ok { IfOk result (λ r. IsDoneAs store.now.start self.old self.new (command.Fork on) r []) }
-        ensures goes_on { OnOk result (self.new.over ≡ false) }
-        ensures err { IfErr result (λ why. StopsFor store.now.start self.old self.new (command.Fork on) why) }
+        requires { IsRunningOn self.old store.now }
+        ensures { IsObeyed store.now.start self.old self.new (command.Change (change.Fork on)) result }
     {
         let batch = match self.pending.batch(alloc) {
             Ok(batch) => batch,
             Err(Memory) => return Err(Stop::Memory),
         };
-        let forked = self.pass.fork(rt, alloc, store, parent_named(on), &batch);
+        let forked = self.pass.fork(rt, alloc, store, on, &batch);
         self.pass.know(store);
         match forked {
             Ok(forked) => {
@@ -68,11 +53,8 @@ impl<D: Disk> Session<D> {
         store: &Store<D>,
         id: u64,
     ) -> Result<Reply, Stop>
-        requires own { IsPassOf self.old.pass store.now }
-        requires over { self.old.over ≡ false }
-        ensures ok { IfOk result (λ r. IsDoneAs store.now.start self.old self.new (command.Drop id) r []) }
-        ensures goes_on { OnOk result (self.new.over ≡ false) }
-        ensures err { IfErr result (λ why. StopsFor store.now.start self.old self.new (command.Drop id) why) }
+        requires { IsRunningOn self.old store.now }
+        ensures { IsObeyed store.now.start self.old self.new (command.Change (change.Drop id)) result }
     {
         let dropped = self.pass.drop_fork(rt, store, id);
         self.pass.know(store);

@@ -1,14 +1,13 @@
 // What is pending is landed on the head, or a fork with its ancestors.
-ghost use Rattle.std.specs.Prelude.{◌≡◌, ◌≤◌, [], IfOk, IfErr, OnOk, false};
+ghost use Rattle.jf_script.specs.declared.command.Change.TheVariants as change;
 ghost use Rattle.jf_script.specs.declared.command.Command.TheVariants as command;
-ghost use Rattle.jf_store.specs.Passes.{IsPassOf};
-ghost use Rattle.jf_session.specs.Steps.{IsDoneAs, StopsFor};
+ghost use Rattle.jf_session.specs.Steps.{IsRunningOn, IsObeyed};
 
 use crate::refusing::refused;
 use crate::session::Session;
 use crate::stop::Stop;
 use jf_disk::Disk;
-use jf_join::Gate;
+use jf_join::{Gate, Workers};
 use jf_path::Memory;
 use jf_script::Reply;
 use jf_store::Store;
@@ -23,16 +22,11 @@ impl<D: Disk> Session<D> {
         rt: &H,
         alloc: Global,
         store: &Store<D>,
-        workers: u64,
+        workers: Workers,
         gate: &G,
     ) -> Result<Reply, Stop>
-        requires own { IsPassOf self.old.pass store.now }
-        requires over { self.old.over ≡ false }
-        requires some { 1 ≤ workers }
-        requires few { workers ≤ 64 }
-        ensures ok { IfOk result (λ r. IsDoneAs store.now.start self.old self.new command.Commit r []) }
-        ensures goes_on { OnOk result (self.new.over ≡ false) }
-        ensures err { IfErr result (λ why. StopsFor store.now.start self.old self.new command.Commit why) }
+        requires { IsRunningOn self.old store.now }
+        ensures { IsObeyed store.now.start self.old self.new (command.Change change.Commit) result }
     {
         let batch = match self.pending.batch(alloc) {
             Ok(batch) => batch,
@@ -60,16 +54,11 @@ impl<D: Disk> Session<D> {
         alloc: Global,
         store: &Store<D>,
         id: u64,
-        workers: u64,
+        workers: Workers,
         gate: &G,
     ) -> Result<Reply, Stop>
-        requires own { IsPassOf self.old.pass store.now }
-        requires over { self.old.over ≡ false }
-        requires some { 1 ≤ workers }
-        requires few { workers ≤ 64 }
-        ensures ok { IfOk result (λ r. IsDoneAs store.now.start self.old self.new (command.Land id) r []) }
-        ensures goes_on { OnOk result (self.new.over ≡ false) }
-        ensures err { IfErr result (λ why. StopsFor store.now.start self.old self.new (command.Land id) why) }
+        requires { IsRunningOn self.old store.now }
+        ensures { IsObeyed store.now.start self.old self.new (command.Change (change.Land id)) result }
     {
         let landed = self.pass.land(rt, alloc, store, id, workers, gate);
         self.pass.know(store);

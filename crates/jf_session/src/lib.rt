@@ -3,17 +3,17 @@
 #![tactic(auto)]
 
 mod answer;
-mod bases;
+mod changing;
 mod compacting;
 mod forking;
-mod halt;
 mod landing;
 mod obeying;
 mod pending;
 mod pinning;
 mod pruning;
+mod questions;
 mod quiet;
-mod reads;
+mod reading;
 mod refusing;
 mod running;
 mod session;

@@ -1,15 +1,13 @@
 // A line is read as a command, and each command is done by a call of its own.
-ghost use Rattle.std.specs.Prelude.{◌≡◌, ℕ, ◌≤◌, ◌++◌, List, IfOk, IfErr, OnOk, false};
+ghost use Rattle.std.specs.Prelude.{◌≡◌, ℕ, ◌++◌, List, IfOk, IfErr, OnOk, false};
 ghost use Rattle.jf_script.specs.Bounds.{IsBoundedCommand};
-ghost use Rattle.jf_store.specs.Passes.{IsPassOf};
 ghost use Rattle.jf_session.specs.Answering.{IsRepliedBy, StopsAt};
-ghost use Rattle.jf_session.specs.Bases.{HasStoredBase};
-ghost use Rattle.jf_session.specs.Steps.{IsDoneAs, StopsFor};
+ghost use Rattle.jf_session.specs.Steps.{IsRunningOn, IsObeyedWith};
 
 use crate::session::Session;
 use crate::stop::Stop;
 use jf_disk::Disk;
-use jf_join::Gate;
+use jf_join::{Gate, Workers};
 use jf_path::Bytes;
 use jf_script::{Command, LineFault, Refusal, Reply, read_line};
 use jf_store::Store;
@@ -25,14 +23,11 @@ impl<D: Disk> Session<D> {
         alloc: Global,
         store: &Store<D>,
         line: &[u8],
-        workers: u64,
+        workers: Workers,
         gate: &G,
         block: &mut Bytes,
     ) -> Result<Reply, Stop>
-        requires own { IsPassOf self.old.pass store.now }
-        requires over { self.old.over ≡ false }
-        requires some { 1 ≤ workers }
-        requires few { workers ≤ 64 }
+        requires { IsRunningOn self.old store.now }
         ensures ok { IfOk result (λ r. (text : List ℕ) × (block.new ≡ block.old ++ text) × IsRepliedBy store.now.start self.old self.new line.now r text) }
         ensures goes_on { OnOk result (self.new.over ≡ false) }
         ensures err { IfErr result (λ why. StopsAt store.now.start self.old self.new line.now why) }
@@ -58,42 +53,23 @@ impl<D: Disk> Session<D> {
         alloc: Global,
         store: &Store<D>,
         command: Command,
-        workers: u64,
+        workers: Workers,
         gate: &G,
         block: &mut Bytes,
     ) -> Result<Reply, Stop>
-        requires own { IsPassOf self.old.pass store.now }
-        requires over { self.old.over ≡ false }
-        requires some { 1 ≤ workers }
-        requires few { workers ≤ 64 }
+        requires open { IsRunningOn self.old store.now }
         requires bounded { IsBoundedCommand command }
-        requires stored { HasStoredBase command }
-        ensures ok { IfOk result (λ r. (text : List ℕ) × (block.new ≡ block.old ++ text) × IsDoneAs store.now.start self.old self.new command r text) }
-        ensures goes_on { OnOk result (self.new.over ≡ false) }
-        ensures err { IfErr result (λ why. StopsFor store.now.start self.old self.new command why) }
+        ensures { IsObeyedWith store.now.start self.old self.new command block.old block.new result }
     {
         match command {
-            Command::Put { name, value } => self.put(alloc, name.as_slice(), value),
-            Command::Del { name } => self.del(alloc, name.as_slice()),
-            Command::Commit => self.commit(rt, alloc, store, workers, gate),
-            Command::Fork { on } => self.fork(rt, alloc, store, on),
-            Command::Land { id } => self.land(rt, alloc, store, id, workers, gate),
-            Command::Drop { id } => self.drop_fork(rt, store, id),
-            Command::Get { base, name } => self.get(rt, alloc, store, base, name.as_slice()),
-            Command::Root { base } => self.root(rt, store, base),
-            Command::Prove { base, name } => {
-                self.prove(rt, alloc, store, base, name.as_slice(), block)
+            Command::Own(own) => self.own_command(alloc, store, own),
+            Command::Read { base, question } => {
+                self.read(rt, alloc, store, base, question, block)
             }
-            Command::Chunk { base, start, count } => {
-                self.chunk(rt, alloc, store, base, start, count, block)
-            }
-            Command::Count { base } => self.count(rt, store, base),
-            Command::Nth { base, place } => self.nth(rt, alloc, store, base, place),
+            Command::ReadFork { id, question } => self.read_fork(rt, alloc, store, id, question),
+            Command::Look => self.status(rt, store),
             Command::Pin { version } => self.pin(rt, store, version),
-            Command::Unpin { place } => self.unpin(store, place),
-            Command::Prune { upto } => self.prune(rt, store, upto),
-            Command::Compact => self.compact(rt, alloc, store),
-            Command::Status => self.status(rt, store),
+            Command::Change(change) => self.change(rt, alloc, store, change, workers, gate),
         }
     }
 }

@@ -1,8 +1,7 @@
 // A version is pinned, or a place is freed.
-ghost use Rattle.std.specs.Prelude.{◌≡◌, [], IfOk, IfErr, OnOk, false};
 ghost use Rattle.jf_script.specs.declared.command.Command.TheVariants as command;
-ghost use Rattle.jf_store.specs.Passes.{IsPassOf};
-ghost use Rattle.jf_session.specs.Steps.{IsDoneAs, StopsFor};
+ghost use Rattle.jf_script.specs.declared.command.OwnCommand.TheVariants as own_command;
+ghost use Rattle.jf_session.specs.Steps.{IsRunningOn, IsObeyed};
 
 use crate::refusing::refused;
 use crate::session::Session;
@@ -20,11 +19,8 @@ impl<D: Disk> Session<D> {
         store: &Store<D>,
         version: u64,
     ) -> Result<Reply, Stop>
-        requires own { IsPassOf self.old.pass store.now }
-        requires over { self.old.over ≡ false }
-        ensures ok { IfOk result (λ r. IsDoneAs store.now.start self.old self.new (command.Pin version) r []) }
-        ensures goes_on { OnOk result (self.new.over ≡ false) }
-        ensures err { IfErr result (λ why. StopsFor store.now.start self.old self.new (command.Pin version) why) }
+        requires { IsRunningOn self.old store.now }
+        ensures { IsObeyed store.now.start self.old self.new (command.Pin version) result }
     {
         let pinned = self.pass.pin_version(rt, store, version);
         self.pass.know(store);
@@ -36,11 +32,8 @@ impl<D: Disk> Session<D> {
 
     // Answers `unpin`. It waits for nobody.
     pub(crate) fn unpin(&mut self, store: &Store<D>, place: u64) -> Result<Reply, Stop>
-        requires own { IsPassOf self.old.pass store.now }
-        requires over { self.old.over ≡ false }
-        ensures ok { IfOk result (λ r. IsDoneAs store.now.start self.old self.new (command.Unpin place) r []) }
-        ensures goes_on { OnOk result (self.new.over ≡ false) }
-        ensures err { IfErr result (λ why. StopsFor store.now.start self.old self.new (command.Unpin place) why) }
+        requires { IsRunningOn self.old store.now }
+        ensures { IsObeyed store.now.start self.old self.new (command.Own (own_command.Unpin place)) result }
     {
         let Some(version) = self.pass.unpin(store, place) else {
             return Ok(Reply::No(Refusal::NoPin));

@@ -1,8 +1,7 @@
 // Versions are retired.
-ghost use Rattle.std.specs.Prelude.{◌≡◌, [], IfOk, IfErr, OnOk, false};
+ghost use Rattle.jf_script.specs.declared.command.Change.TheVariants as change;
 ghost use Rattle.jf_script.specs.declared.command.Command.TheVariants as command;
-ghost use Rattle.jf_store.specs.Passes.{IsPassOf};
-ghost use Rattle.jf_session.specs.Steps.{IsDoneAs, StopsFor};
+ghost use Rattle.jf_session.specs.Steps.{IsRunningOn, IsObeyed};
 
 use crate::refusing::refused;
 use crate::session::Session;
@@ -20,11 +19,8 @@ impl<D: Disk> Session<D> {
         store: &Store<D>,
         upto: u64,
     ) -> Result<Reply, Stop>
-        requires own { IsPassOf self.old.pass store.now }
-        requires over { self.old.over ≡ false }
-        ensures ok { IfOk result (λ r. IsDoneAs store.now.start self.old self.new (command.Prune upto) r []) }
-        ensures goes_on { OnOk result (self.new.over ≡ false) }
-        ensures err { IfErr result (λ why. StopsFor store.now.start self.old self.new (command.Prune upto) why) }
+        requires { IsRunningOn self.old store.now }
+        ensures { IsObeyed store.now.start self.old self.new (command.Change (change.Prune upto)) result }
     {
         self.pass.know_pins(store);
         let pruned = self.pass.prune(rt, store, upto);

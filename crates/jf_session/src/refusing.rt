@@ -1,13 +1,13 @@
-// A fault of the store ends the session, or is told in a reply.
-ghost use Rattle.std.specs.Prelude.{◌≡◌, Ok, Err, IfOk, IfErr, OnOk, OnErr, true};
-ghost use Rattle.jf_session.specs.Refusing.{told};
+// A fault of the store is told in a reply, or ends the session.
+ghost use Rattle.std.specs.Prelude.{◌≡◌};
+ghost use Rattle.jf_session.specs.Refusing.{told, TellsFault};
 
 use crate::stop::Stop;
 use jf_script::{Refusal, Reply};
 use jf_store::StoreFault;
 
-/// The refusal that a fault of the store is told as, or why the session ends.
-pub(crate) fn told(fault: StoreFault) -> Result<Refusal, Stop>
+// The refusal that a fault of the store is told as, or why the session ends.
+fn told(fault: StoreFault) -> Result<Refusal, Stop>
     ensures { result ≡ told fault }
 {
     match fault {
@@ -27,10 +27,7 @@ pub(crate) fn told(fault: StoreFault) -> Result<Refusal, Stop>
 
 /// The reply to a command that the store refused, or why the session ends; it is over then.
 pub(crate) fn refused(fault: StoreFault, over: &mut bool) -> Result<Reply, Stop>
-    ensures ok { IfOk result (λ r. (why : Refusal) × (told fault ≡ Ok why) × (r ≡ Reply.No why)) }
-    ensures goes_on { OnOk result (over.new ≡ over.old) }
-    ensures err { IfErr result (λ stop. told fault ≡ Err stop) }
-    ensures ends { OnErr result (over.new ≡ true) }
+    ensures { TellsFault fault over.old over.new result }
 {
     match told(fault) {
         Ok(why) => Ok(Reply::No(why)),

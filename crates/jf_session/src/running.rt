@@ -13,7 +13,7 @@ use jf_disk::Disk;
 use jf_history::{End, none_answered};
 use jf_input::{Feeding, feed};
 use jf_io::{MAX_PIECE, Sink, Source};
-use jf_join::Gate;
+use jf_join::{Gate, Workers};
 use jf_path::Bytes;
 use jf_store::{Pass, Store};
 use std::alloc::Global;
@@ -29,7 +29,7 @@ pub struct Ran<D: Disk> {
 
 /// Answers the lines of a script (docs/FORMATS.md) from a source into a sink, over a pass of a store that pins nothing and
 /// has seen no fault of the disk, and hands the pass back with how the run ended. A line that asks the store waits for its
-/// turn. A landing takes at most this many workers, 1 to 64. Input is taken in pieces of 65,536 bytes. After a fault of the
+/// turn. A landing takes at most this many workers. Input is taken in pieces of 65,536 bytes. After a fault of the
 /// source, the sink or the disk, or out of memory, the run ends.
 ///
 /// While whole lines are at hand that can't change the store, their replies may be gathered. All replies so far are written
@@ -42,14 +42,12 @@ pub fn run<S: Source, K: Sink, D: Disk, H: Threads + Wait + Sync, G: Gate>(
     pass: Pass<D>,
     source: &mut S,
     sink: &mut K,
-    workers: u64,
+    workers: Workers,
     gate: &G,
 ) -> Ran<D>
     requires own { IsPassOf pass store.now }
     requires unmarked { is_marked pass.seen ≡ false }
     requires unpinned { pass.pinned ≡ none_pinned }
-    requires some { 1 ≤ workers }
-    requires few { workers ≤ 64 }
     ensures own { IsPassOf result.pass store.now × (result.pass.number ≡ pass.number) }
     ensures ran { HasRunOver result.end store.now.start pass result.pass (S.rest source.old) (S.rest source.new) (K.text sink.old) (K.text sink.new) }
     ensures read { result.end ≡ End.ReadFault → HasCause (S.faults source.old) (S.faults source.new) }
@@ -61,7 +59,7 @@ pub fn run<S: Source, K: Sink, D: Disk, H: Threads + Wait + Sync, G: Gate>(
     let session = Session::new(alloc, pass);
     session.know_own(store);
     let step = |session: &mut Session<D>, line: &[u8], out: &mut Bytes| -> Result<(), Stop>
-        requires { (session.old.over ≡ false) × IsPassOf session.old.pass store.now × (1 ≤ workers) × (workers ≤ 64) }
+        requires { (session.old.over ≡ false) × IsPassOf session.old.pass store.now }
         ensures { DoesLine session.old line.now out.old result session.new out.new }
     { answer_line(rt, alloc, store, session, line, workers, gate, out) };
     let mut taking = Taking { session, step };

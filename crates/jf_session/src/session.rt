@@ -1,5 +1,5 @@
 // A session: one script over a pass of a shared store.
-ghost use Rattle.std.specs.Prelude.{◌≡◌, ◌⊎◌, ◌≤◌, ◌++◌, length, Err, OnOk, OnErr, false, true};
+ghost use Rattle.std.specs.Prelude.{◌≡◌, ◌⊎◌, ◌++◌, length, Err, OnOk, OnErr, false, true};
 ghost use Rattle.jf_store.specs.Events.{is_marked};
 ghost use Rattle.jf_store.specs.Ledgers.{AreEvents};
 ghost use Rattle.jf_store.specs.Passes.{IsPassOf, none_pinned};
@@ -11,7 +11,7 @@ ghost use Rattle.jf_session.specs.Answering.{stopped_session};
 use crate::answer::write_answer;
 use crate::stop::Stop;
 use jf_disk::Disk;
-use jf_join::Gate;
+use jf_join::{Gate, Workers};
 use jf_path::Bytes;
 use jf_split::Pending;
 use jf_store::{Pass, Store};
@@ -109,7 +109,7 @@ impl<D: Disk> Session<D> {
     /// Does what one line asks for and answers it; the line is given without the byte that ends it (docs/FORMATS.md,
     /// "Scripts" and "Replies"). The reply's line, and the block after it if there is one, are appended to `out`. A
     /// line outside the grammar and a command that is refused have a reply too. At most `workers` threads work on a
-    /// landing, 1 to 64.
+    /// landing.
     ///
     /// After an error the session is over, and `out` is unchanged:
     ///
@@ -122,14 +122,12 @@ impl<D: Disk> Session<D> {
         alloc: Global,
         store: &Store<D>,
         line: &[u8],
-        workers: u64,
+        workers: Workers,
         gate: &G,
         out: &mut Bytes,
     ) -> Result<(), Stop>
         requires own { IsPassOf self.old.pass store.now }
         requires over { self.old.over ≡ false }
-        requires some { 1 ≤ workers }
-        requires few { workers ≤ 64 }
         ensures own { IsPassOf self.new.pass store.now }
         ensures ok { OnOk result ((r : Answered) × HasReplied store.now.start self.old self.new line.now r × (out.new ≡ out.old ++ r.text)) }
         ensures goes_on { OnOk result (self.new.over ≡ false) }

@@ -1,5 +1,5 @@
 // A session as a machine that takes lines.
-ghost use Rattle.std.specs.Prelude.{◌≡◌, ◌≤◌, false};
+ghost use Rattle.std.specs.Prelude.{◌≡◌, false};
 ghost use Rattle.jf_store.specs.Passes.{IsPassOf};
 ghost use Rattle.jf_history.specs.Sessions.{Session};
 ghost use Rattle.jf_session.specs.Taking.{DoesLine};
@@ -9,7 +9,7 @@ use crate::session::Session;
 use crate::stop::Stop;
 use jf_disk::Disk;
 use jf_input::LineMachine;
-use jf_join::Gate;
+use jf_join::{Gate, Workers};
 use jf_path::Bytes;
 use jf_store::Store;
 use std::alloc::Global;
@@ -66,14 +66,12 @@ pub(crate) fn answer_line<D: Disk, H: Threads + Wait + Sync, G: Gate>(
     store: &Store<D>,
     session: &mut Session<D>,
     line: &[u8],
-    workers: u64,
+    workers: Workers,
     gate: &G,
     out: &mut Bytes,
 ) -> Result<(), Stop>
     requires own { IsPassOf session.old.pass store.now }
     requires over { session.old.over ≡ false }
-    requires some { 1 ≤ workers }
-    requires few { workers ≤ 64 }
     ensures { DoesLine session.old line.now out.old result session.new out.new }
 {
     let stepped = session.step(rt, alloc, store, line, workers, gate, out);

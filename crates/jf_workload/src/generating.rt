@@ -11,7 +11,7 @@ use crate::script_lines::answer_script;
 use jf_disk::Disk;
 use jf_generate::Generator;
 use jf_io::Sink;
-use jf_join::Gate;
+use jf_join::{Gate, Workers};
 use jf_session::{End, Ran, Session};
 use jf_store::{Pass, Store};
 use std::alloc::Global;
@@ -21,7 +21,7 @@ use std::thread::Threads;
 /// Runs the lines that a generator still gives over a pass of a store that pins nothing and has seen no fault of the disk,
 /// and then writes into a sink what the mode writes of their replies (docs/FORMATS.md, Generated scripts). It hands the pass
 /// back with how the run ended. It reads no input. A line that asks the store waits for its turn. A landing takes at most
-/// this many workers, 1 to 64.
+/// this many workers.
 ///
 /// Nothing is written before all lines are done. So after a fault of the disk, or out of memory, the text is unchanged; after
 /// a fault of the sink all lines were done, and a front of what the mode writes was written.
@@ -32,15 +32,13 @@ pub fn run_generated<K: Sink, D: Disk, H: Threads + Wait + Sync, G: Gate>(
     pass: Pass<D>,
     script: Generator,
     sink: &mut K,
-    workers: u64,
+    workers: Workers,
     gate: &G,
 ) -> Ran<D>
     requires own { IsPassOf pass store.now }
     requires unmarked { is_marked pass.seen ≡ false }
     requires unpinned { pass.pinned ≡ none_pinned }
     requires lines { length script ≤ max_lines }
-    requires some { 1 ≤ workers }
-    requires few { workers ≤ 64 }
     ensures own { IsPassOf result.pass store.now × (result.pass.number ≡ pass.number) }
     ensures ran { HasRunScript result.end store.now.start script pass result.pass (K.text sink.old) (K.text sink.new) }
     ensures write { result.end ≡ End.WriteFault → HasCause (K.faults sink.old) (K.faults sink.new) }

@@ -11,7 +11,7 @@ ghost use Rattle.jf_workload.specs.ScriptRuns.{HasTallied, HasRunScript};
 
 use jf_disk::Disk;
 use jf_generate::{Generator, ReplyTally};
-use jf_join::Gate;
+use jf_join::{Gate, Workers};
 use jf_path::{Bytes, Memory};
 use jf_session::{Session, Stop};
 use jf_store::Store;
@@ -27,7 +27,7 @@ pub(crate) fn answer_script<D: Disk, H: Threads + Wait + Sync, G: Gate>(
     store: &Store<D>,
     session: &mut Session<D>,
     mut script: Generator,
-    workers: u64,
+    workers: Workers,
     gate: &G,
 ) -> Result<ReplyTally, Stop>
     requires own { IsPassOf session.old.pass store.now }
@@ -35,8 +35,6 @@ pub(crate) fn answer_script<D: Disk, H: Threads + Wait + Sync, G: Gate>(
     requires unmarked { is_marked session.old.pass.seen ≡ false }
     requires pins { HoldsPins session.old }
     requires lines { length script ≤ max_lines }
-    requires some { 1 ≤ workers }
-    requires few { workers ≤ 64 }
     ensures own { IsPassOf session.new.pass store.now }
     ensures ok { IfOk result (λ kept. HasTallied store.now.start session.old.pass session.new script kept) }
     ensures err { (text : Option (List ℕ)) → IfErr result (λ why. HasRunScript (end_of_stop why) store.now.start script session.old.pass session.new.pass text text) }

@@ -1,7 +1,6 @@
 use Rattle.std.proofs.Common.{ap, Err}
 use Rattle.jf_script.proofs.BoundLaws.{command_of-IsBoundedCommand}
-use Rattle.jf_session.proofs.StoredBases.{command_of-HasStoredBase}
-use Rattle.jf_session.proofs.OfLines.{syntax_replied, long_replied, obeyed_replied, obeyed_stops}
+use Rattle.jf_session.proofs.OfLines.{syntax_replied, long_replied, obeyed_replied, obeyed_goes, obeyed_stops}
 use Rattle.jf_session.proofs.session.Session.answered.Goals as goal
 
 pub returns-in-Err-Syntax-clause-ok : goal.returns-in-Err-Syntax-clause-ok
@@ -15,11 +14,11 @@ returns-in-Err-LineTooLong-clause-ok g c =
 pub obeyed-done-requires-clause-bounded : goal.obeyed-done-requires-clause-bounded
 obeyed-done-requires-clause-bounded g c = λ κs le. command_of-IsBoundedCommand c.args.line.now _ c.in-Ok.ensures.found
 
-pub obeyed-done-requires-clause-stored : goal.obeyed-done-requires-clause-stored
-obeyed-done-requires-clause-stored g c = λ κs le. command_of-HasStoredBase c.args.line.now _ c.in-Ok.ensures.found
-
 pub returns-clause-ok : goal.returns-clause-ok
-returns-clause-ok g c = obeyed_replied _ c.args.self.now c.obeyed-done.new.self c.args.line.now _ c.in-Ok.ensures.short c.in-Ok.ensures.found c.args.block.now c.obeyed-done.new.block c.obeyed-done.result c.know_own.ensures.number c.know_own-2.ensures.pins c.obeyed-done.ensures.ok
+returns-clause-ok g c = obeyed_replied _ c.args.self.now c.obeyed-done.new.self c.args.line.now _ c.in-Ok.ensures.short c.in-Ok.ensures.found c.args.block.now c.obeyed-done.new.block c.obeyed-done.result c.know_own.ensures.number c.know_own-2.ensures.pins c.obeyed-done.ensures
+
+pub returns-clause-goes_on : goal.returns-clause-goes_on
+returns-clause-goes_on g c = obeyed_goes _ c.args.self.now c.obeyed-done.new.self c.args.line.now _ c.in-Ok.ensures.short c.in-Ok.ensures.found c.args.block.now c.obeyed-done.new.block c.obeyed-done.result c.obeyed-done.ensures
 
 pub returns-clause-err : goal.returns-clause-err
-returns-clause-err g c = obeyed_stops _ c.args.self.now c.obeyed-done.new.self c.args.line.now _ c.in-Ok.ensures.short c.in-Ok.ensures.found c.obeyed-done.result c.know_own-2.ensures.pins c.obeyed-done.ensures.err
+returns-clause-err g c = obeyed_stops _ c.args.self.now c.obeyed-done.new.self c.args.line.now _ c.in-Ok.ensures.short c.in-Ok.ensures.found c.args.block.now c.obeyed-done.new.block c.obeyed-done.result c.know_own-2.ensures.pins c.obeyed-done.ensures

@@ -1,7 +1,8 @@
 use Rattle.std.proofs.Common.{refl}
 use Rattle.jf_script.specs.declared.command.Command.TheVariants as command
-use Rattle.jf_session.proofs.Entering.{IsDoneAs-entered, IsSoundSession-entered}
-use Rattle.jf_session.proofs.RefusedCalls.{IsDoneAs-failed, StopsFor-failed, IsSoundSession-failed}
+use Rattle.jf_script.specs.declared.command.Change.TheVariants as change
+use Rattle.jf_session.proofs.Entering.{IsObeyed-entered, IsSoundSession-entered}
+use Rattle.jf_session.proofs.RefusedCalls.{IsObeyed-failed, IsSoundSession-failed}
 use Rattle.jf_session.proofs.PruneCalls.{Enters-prune, Fails-prune}
 use Rattle.jf_session.proofs.session.Session.prune.Goals as goal
 
@@ -9,34 +10,26 @@ pub invariant_of-self : goal.invariant_of-self
 invariant_of-self g c =
     let i = c.self.inside in
     let p' = c.prune-pruned.new.self in
-    IsSoundSession-entered c.args.store.now.start i.pass p' i.pending i.pending i.over i.over (command.Prune c.args.upto) _ c.self.invariant (Enters-prune c.args.store.now i.pass p' i.pending c.know_pins.ensures.pins c.know_pins.ensures.eight c.know.ensures.events c.args.upto c.in-Ok.pruned c.in-Ok.ensures.pruned)
+    IsSoundSession-entered c.args.store.now.start i.pass p' i.pending i.pending i.over i.over (command.Change (change.Prune c.args.upto)) _ c.self.invariant
+    (Enters-prune c.args.store.now i.pass p' i.pending c.know_pins.ensures.pins c.know_pins.ensures.eight c.know.ensures.events c.args.upto c.in-Ok.pruned c.in-Ok.ensures.pruned)
 
 pub invariant_of-self-in-Err : goal.invariant_of-self-in-Err
 invariant_of-self-in-Err g c =
     let i = c.self.inside in
     let p' = c.prune-pruned.new.self in
-    let r = c.refused.ensures in
-    IsSoundSession-failed c.args.store.now.start i.pass p' i.pending i.over c.refused.new.over (command.Prune c.args.upto) c.in-Err.fault (Fails-prune c.args.store.now i.pass p' i.pending c.know_pins.ensures.pins c.know_pins.ensures.eight c.know.ensures.events c.args.upto c.in-Err.fault c.in-Err.ensures.failed)
-    c.refused.result (record { ok = r.ok; err = r.err; ends = r.ends }) c.self.invariant
+    IsSoundSession-failed c.args.store.now.start i.pass p' i.pending i.over c.refused.new.over (command.Change (change.Prune c.args.upto)) c.in-Err.fault
+    (Fails-prune c.args.store.now i.pass p' i.pending c.know_pins.ensures.pins c.know_pins.ensures.eight c.know.ensures.events c.args.upto c.in-Err.fault c.in-Err.ensures.failed) c.refused.result c.refused.ensures c.self.invariant
 
-pub returns-in-Ok-clause-ok : goal.returns-in-Ok-clause-ok
-returns-in-Ok-clause-ok g c =
+pub returns-in-Ok : goal.returns-in-Ok
+returns-in-Ok g c =
     let i = c.self.inside in
     let p' = c.prune-pruned.new.self in
-    IsDoneAs-entered c.args.store.now.start i.pass p' i.pending i.pending i.over i.over c.args.self.now c.self.view_is (command.Prune c.args.upto) _ (Enters-prune c.args.store.now i.pass p' i.pending c.know_pins.ensures.pins c.know_pins.ensures.eight c.know.ensures.events c.args.upto c.in-Ok.pruned c.in-Ok.ensures.pruned)
+    IsObeyed-entered c.args.store.now.start i.pass p' i.pending i.pending i.over i.over c.args.self.now c.self.view_is (command.Change (change.Prune c.args.upto)) c.requires.over refl _
+    (Enters-prune c.args.store.now i.pass p' i.pending c.know_pins.ensures.pins c.know_pins.ensures.eight c.know.ensures.events c.args.upto c.in-Ok.pruned c.in-Ok.ensures.pruned)
 
-pub returns-in-Err-clause-ok : goal.returns-in-Err-clause-ok
-returns-in-Err-clause-ok g c =
+pub returns-in-Err : goal.returns-in-Err
+returns-in-Err g c =
     let i = c.self.inside in
     let p' = c.prune-pruned.new.self in
-    let r = c.refused.ensures in
-    IsDoneAs-failed c.args.store.now.start i.pass p' i.pending i.over c.refused.new.over (command.Prune c.args.upto) c.in-Err.fault (Fails-prune c.args.store.now i.pass p' i.pending c.know_pins.ensures.pins c.know_pins.ensures.eight c.know.ensures.events c.args.upto c.in-Err.fault c.in-Err.ensures.failed)
-    c.args.self.now c.self.view_is refl c.refused.result (record { ok = r.ok; err = r.err; ends = r.ends })
-
-pub returns-in-Err-clause-err : goal.returns-in-Err-clause-err
-returns-in-Err-clause-err g c =
-    let i = c.self.inside in
-    let p' = c.prune-pruned.new.self in
-    let r = c.refused.ensures in
-    StopsFor-failed c.args.store.now.start i.pass p' i.pending i.over c.refused.new.over (command.Prune c.args.upto) c.in-Err.fault (Fails-prune c.args.store.now i.pass p' i.pending c.know_pins.ensures.pins c.know_pins.ensures.eight c.know.ensures.events c.args.upto c.in-Err.fault c.in-Err.ensures.failed)
-    c.args.self.now c.self.view_is refl c.refused.result (record { ok = r.ok; err = r.err; ends = r.ends })
+    IsObeyed-failed c.args.store.now.start i.pass p' i.pending i.over c.refused.new.over (command.Change (change.Prune c.args.upto)) c.in-Err.fault
+    (Fails-prune c.args.store.now i.pass p' i.pending c.know_pins.ensures.pins c.know_pins.ensures.eight c.know.ensures.events c.args.upto c.in-Err.fault c.in-Err.ensures.failed) c.args.self.now c.self.view_is refl c.requires.over c.refused.result c.refused.ensures

@@ -1,17 +1,34 @@
-use Rattle.jf_script.specs.declared.command.Base.TheVariants as base
+use Rattle.std.proofs.Common.{[], refl, inr, ap, ◌∙◌}
+use Rattle.jf_history.specs.Sessions.{Session}
 use Rattle.jf_script.specs.declared.command.Command.TheVariants as command
-use Rattle.jf_session.proofs.ReadLaws.{status_done, halted_done, halted_goes, halted_stops, reads_status}
+use Rattle.jf_session.proofs.BaseLaws.{IsSoundSession-seen}
+use Rattle.jf_session.proofs.RefusedCalls.{IsObeyed-failed, IsSoundSession-failed}
+use Rattle.jf_session.proofs.ReadLaws.{look_done, Fails-look, unmarked-granted}
 use Rattle.jf_session.proofs.session.Session.status.Goals as goal
 
-pub returns-in-Ok-clause-ok : goal.returns-in-Ok-clause-ok
-returns-in-Ok-clause-ok g c =
-    status_done c.args.store.now.start c.args.self.now c.looked.new.self c.in-Ok.look c.numbers_told.result c.in-Ok.ensures.found c.in-Ok.ensures.look c.numbers_told.ensures
+pub invariant_of-self : goal.invariant_of-self
+invariant_of-self g c =
+    let i = c.self.inside in
+    let p' = c.look.new.self in
+    IsSoundSession-seen i.pass p' i.pending i.pending i.over i.over c.self.invariant c.look.ensures.sees (inr (unmarked-granted p' [] [] tt c.in-Ok.ensures.granted))
 
-pub returns-in-Err-clause-ok : goal.returns-in-Err-clause-ok
-returns-in-Err-clause-ok g c = halted_done c.args.store.now.start c.args.self.now c.looked.new.self base.Head command.Status reads_status c.in-Err.halt c.halted.result c.in-Err.ensures.halted c.halted.ensures
+pub invariant_of-self-in-Err : goal.invariant_of-self-in-Err
+invariant_of-self-in-Err g c =
+    let i = c.self.inside in
+    let p' = c.look.new.self in
+    IsSoundSession-failed c.args.store.now.start i.pass p' i.pending i.over c.refused.new.over command.Look c.in-Err.fault (Fails-look c.args.store.now.start i.pass p' i.pending c.look.ensures.sees c.in-Err.fault c.in-Err.ensures.refused)
+    c.refused.result c.refused.ensures c.self.invariant
 
-pub returns-in-Err-clause-goes_on : goal.returns-in-Err-clause-goes_on
-returns-in-Err-clause-goes_on g c = halted_goes c.args.store.now.start c.args.self.now c.looked.new.self base.Head command.Status reads_status c.in-Err.halt c.halted.result c.in-Err.ensures.halted c.halted.ensures
+pub returns-in-Ok : goal.returns-in-Ok
+returns-in-Ok g c =
+    let i = c.self.inside in
+    let p' = c.look.new.self in
+    look_done c.args.store.now.start i.pass p' i.pending i.over i.over c.args.self.now c.self.view_is c.look.ensures.sees c.in-Ok.ensures.granted (ap (λ (x : Session). x.over) c.self.view_is ∙ c.requires.over) c.in-Ok.look c.status_reply.result
+    c.in-Ok.ensures.look c.status_reply.ensures
 
-pub returns-in-Err-clause-err : goal.returns-in-Err-clause-err
-returns-in-Err-clause-err g c = halted_stops c.args.store.now.start c.args.self.now c.looked.new.self base.Head command.Status reads_status c.in-Err.halt c.halted.result c.in-Err.ensures.halted c.halted.ensures
+pub returns-in-Err : goal.returns-in-Err
+returns-in-Err g c =
+    let i = c.self.inside in
+    let p' = c.look.new.self in
+    IsObeyed-failed c.args.store.now.start i.pass p' i.pending i.over c.refused.new.over command.Look c.in-Err.fault (Fails-look c.args.store.now.start i.pass p' i.pending c.look.ensures.sees c.in-Err.fault c.in-Err.ensures.refused)
+    c.args.self.now c.self.view_is refl c.requires.over c.refused.result c.refused.ensures
