@@ -98,9 +98,10 @@ read_as start old old' new on b q lines lines' x view is obeyed =
 pub place_as : (start : Start) (p : Pass) (pending : Batch) (over : Bool) (old : Session) (view : session_of p pending over ≡ old) → old.over ≡ false → IsSoundSession (session_of p pending over) → old.pass.start ≡ Some start
     → (on : Base) (place : ℕ) (q : Question) (lines lines' : List ℕ) (x : Result Reply Stop) → on ≡ base.Place place
     → ((start : Start) (pending : Batch) → IsSoundSession (session_of p pending false) → p.start ≡ Some start → IsObeyedWith start (session_of p pending false) (session_of p pending false) (command.Read (base.Place place) q) lines lines' x)
-    → IsObeyedWith start old (session_of p pending over) (command.Read on q) lines lines' x
+    → IsObeyedWith start old old (command.Read on q) lines lines' x
 place_as start p pending over old view goes sound on_store on place q lines lines' x is obeyed =
     let runs = over_of p pending over old view goes in
     let done = obeyed start pending (subst (λ b. IsSoundSession (session_of p pending b)) runs sound) (ap (λ (s : Session). s.pass.start) view ∙ on_store) in
-    read_as start old (session_of p pending over) (session_of p pending over) on (base.Place place) q lines lines' x view is
-    (subst (λ b. IsObeyedWith start (session_of p pending b) (session_of p pending b) (command.Read (base.Place place) q) lines lines' x) (sym runs) done)
+    let here = subst (λ b. IsObeyedWith start (session_of p pending b) (session_of p pending b) (command.Read (base.Place place) q) lines lines' x) (sym runs) done in
+    subst (λ (s : Session). IsObeyedWith start s s (command.Read on q) lines lines' x) view
+    (subst (λ (a : Base). IsObeyedWith start (session_of p pending over) (session_of p pending over) (command.Read a q) lines lines' x) (sym is) here)

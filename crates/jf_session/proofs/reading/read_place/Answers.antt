@@ -11,8 +11,8 @@ returns-in-Some g c = λ start pending sound on_store.
     let a = c.answer_question in
     place_done start p pending false (session_of p pending false) refl sound refl (base.Place place) place refl c.args.question on_store c.in-Some.snapshot.now c.in-Some.ensures c.args.block.now a.new.block a.result a.ensures
 
-pub returns : goal.returns
-returns g c = λ start pending sound on_store.
+pub returns-in-None : goal.returns-in-None
+returns-in-None g c = λ start pending sound on_store.
     let p = c.args.pass.now in
     let place = c.args.place in
     place_refused start p pending false (session_of p pending false) refl sound refl (base.Place place) place refl c.args.question c.in-None.ensures c.args.block.now

@@ -16,7 +16,7 @@ use Rattle.jf_session.proofs.reading.read_tree.Goals as goal
 
 pub returns-in-Ok-clause-sound : goal.returns-in-Ok-clause-sound
 returns-in-Ok-clause-sound g c = λ pending sound.
-    let p' = c.tree.new.pass in
+    let p' = c.tree.new.self in
     let s = state_after_events c.args.store.now.start p'.seen in
     let id = c.args.id in
     IsSoundSession-seen c.args.pass.now p' pending pending c.args.over.now c.args.over.now sound c.tree.ensures.sees (inr (unmarked-granted p' (fork_faults id s) (fork_causes s id) (AreTold-fork s id) c.in-Ok.ensures.granted))
@@ -24,7 +24,7 @@ returns-in-Ok-clause-sound g c = λ pending sound.
 pub returns-in-Ok-clause-obeyed : goal.returns-in-Ok-clause-obeyed
 returns-in-Ok-clause-obeyed g c = λ pending.
     let p = c.args.pass.now in
-    let p' = c.tree.new.pass in
+    let p' = c.tree.new.self in
     let over = c.args.over.now in
     let s = state_after_events c.args.store.now.start p'.seen in
     let id = c.args.id in
@@ -32,10 +32,10 @@ returns-in-Ok-clause-obeyed g c = λ pending.
     call_plainly c.args.store.now.start p p' pending over over (session_of p pending over) refl (command.ReadFork id c.args.question) c.tree.ensures.sees (fork_causes s id) (question_of c.args.question)
     (fork_map (newest s.all) s.forks id) (ReadsMap-read_fork s (own_of p pending) id c.args.question) (fork_faults id s) (AreTold-fork s id) refl c.in-Ok.ensures.granted c.requires.over c.in-Ok.tree c.in-Ok.ensures.read a.result a.ensures
 
-pub returns-clause-sound : goal.returns-clause-sound
-returns-clause-sound g c = λ pending sound.
+pub returns-in-Err-clause-sound : goal.returns-in-Err-clause-sound
+returns-in-Err-clause-sound g c = λ pending sound.
     let p = c.args.pass.now in
-    let p' = c.tree.new.pass in
+    let p' = c.tree.new.self in
     let s = state_after_events c.args.store.now.start p'.seen in
     let id = c.args.id in
     let q = c.args.question in
@@ -43,10 +43,10 @@ returns-clause-sound g c = λ pending sound.
     (Fails-asked c.args.store.now.start p p' pending (command.ReadFork id q) c.tree.ensures.sees (fork_causes s id) (question_of q) (fork_map (newest s.all) s.forks id) (ReadsMap-read_fork s (own_of p pending) id q)
     (fork_faults id s) (AreTold-fork s id) c.in-Err.fault c.in-Err.ensures.refused) c.refused.result c.refused.ensures sound
 
-pub returns-clause-obeyed : goal.returns-clause-obeyed
-returns-clause-obeyed g c = λ pending.
+pub returns-in-Err-clause-obeyed : goal.returns-in-Err-clause-obeyed
+returns-in-Err-clause-obeyed g c = λ pending.
     let p = c.args.pass.now in
-    let p' = c.tree.new.pass in
+    let p' = c.tree.new.self in
     let over = c.args.over.now in
     let s = state_after_events c.args.store.now.start p'.seen in
     let id = c.args.id in
