@@ -34,7 +34,7 @@ use Rattle.jf_session.proofs.KeptMaps.{TellsMap-kept}
 use Rattle.jf_session.proofs.Refusals.{AreTold, AreTold-append, granted-command}
 use Rattle.jf_session.proofs.BaseLaws.{Sees-self, unmarked-on, pinned_version}
 use Rattle.jf_session.proofs.ReadLaws.{answer-free}
-use Rattle.jf_session.proofs.Refused.{answer-refused, follows-Sees, Refuses-all}
+use Rattle.jf_session.proofs.Refused.{SeesMore, answer-refused, follows-Sees, Refuses-all}
 use Rattle.jf_session.proofs.RefusedCalls.{Fails}
 use Rattle.jf_session.proofs.ToldFaults.{AreTold-version}
 
@@ -77,7 +77,7 @@ module _ (start : Start) (p p' : Pass) (pending : Batch) (version : ℕ) where
   -- a version was not pinned
   pub Fails-pin : (f : StoreFault) → HasNotPinned start version p p' f → Fails start p p' pending (command.Pin version) f
   Fails-pin f h =
-      let sees = record { follows = follows-pin p p' version h.keeps.sees; others = h.keeps.sees.others; pinned = h.keeps.pinned } in
+      let sees : SeesMore p p' (command.Pin version) = record { follows = follows-pin p p' version h.keeps.sees; others = h.keeps.sees.others; pinned = h.keeps.pinned } in
       inr (Refuses-all start p p' pending (command.Pin version) f sees (version_faults version s ++ full_faults p.pinned) AreTold-pin h.refusal)
 
   module _ (place : ℕ) (h : HasPinnedVersion start version p p' place) where

@@ -91,6 +91,9 @@ pub IsObeyedWith-plain : (start : Start) (old new : Session) (c : Command) (line
 IsObeyedWith-plain start old new c lines (Ok r) is = ([], sym (append-nil lines), is.0, is.1)
 IsObeyedWith-plain start old new c lines (Err why) is = is
 
+pub obeyed_plainly : (start : Start) (old new : Session) (c d : Command) (lines : List ℕ) (x : Result Reply Stop) → c ≡ d → IsObeyed start old new d x → IsObeyedWith start old new c lines lines x
+obeyed_plainly start old new c d lines x is obeyed = subst (λ (e : Command). IsObeyedWith start old new e lines lines x) (sym is) (IsObeyedWith-plain start old new d lines x obeyed)
+
 module _ (start : Start) (p p' : Pass) (pending : Batch) (over over' : Bool) (old : Session) (view : session_of p pending over ≡ old) (c : Command) (sees : Sees p p') where
   abbrev s : State
   s = state_after_events start p'.seen

@@ -88,3 +88,20 @@ module _ (start : Start) (p : Pass) (pending : Batch) (over : Bool) (old : Sessi
       subst (λ (a : Base). IsObeyedWith start old (session_of p pending over) (command.Read a q) lines lines (Ok (reply.No refusal.NoPin))) (sym is)
       (IsObeyedWith-plain start old (session_of p pending over) c lines (Ok (reply.No refusal.NoPin))
       (plain_done start p p pending over over old view c (Sees-self p) (reply.No refusal.NoPin) [] (unmarked-on p pending over sound runs) (λ itself. refl) (answer-refused here mine c refusal.NoPin why), runs))
+
+-- ---- as the session sees it
+-- what was done for the base is done for the one that is equal to it, and for the session that is given by its parts
+pub read_as : (start : Start) (old old' new : Session) (on b : Base) (q : Question) (lines lines' : List ℕ) (x : Result Reply Stop) → old' ≡ old → on ≡ b → IsObeyedWith start old' new (command.Read b q) lines lines' x → IsObeyedWith start old new (command.Read on q) lines lines' x
+read_as start old old' new on b q lines lines' x view is obeyed =
+    subst (λ (s : Session). IsObeyedWith start s new (command.Read on q) lines lines' x) view (subst (λ (a : Base). IsObeyedWith start old' new (command.Read a q) lines lines' x) (sym is) obeyed)
+
+pub place_as : (start : Start) (p : Pass) (pending : Batch) (over : Bool) (old : Session) (view : session_of p pending over ≡ old) → old.over ≡ false → IsSoundSession (session_of p pending over) → old.pass.start ≡ Some start
+    → (on : Base) (place : ℕ) (q : Question) (lines lines' : List ℕ) (x : Result Reply Stop) → on ≡ base.Place place
+    → ((start : Start) (pending : Batch) → IsSoundSession (session_of p pending false) → p.start ≡ Some start → IsObeyedWith start (session_of p pending false) (session_of p pending false) (command.Read (base.Place place) q) lines lines' x)
+    → IsObeyedWith start old old (command.Read on q) lines lines' x
+place_as start p pending over old view goes sound on_store on place q lines lines' x is obeyed =
+    let runs = over_of p pending over old view goes in
+    let done = obeyed start pending (subst (λ b. IsSoundSession (session_of p pending b)) runs sound) (ap (λ (s : Session). s.pass.start) view ∙ on_store) in
+    let here = subst (λ b. IsObeyedWith start (session_of p pending b) (session_of p pending b) (command.Read (base.Place place) q) lines lines' x) (sym runs) done in
+    subst (λ (s : Session). IsObeyedWith start s s (command.Read on q) lines lines' x) view
+    (subst (λ (a : Base). IsObeyedWith start (session_of p pending over) (session_of p pending over) (command.Read a q) lines lines' x) (sym is) here)

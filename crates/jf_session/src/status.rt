@@ -1,15 +1,35 @@
 // The command that tells the numbers of the store.
-ghost use Rattle.std.specs.Prelude.{◌≡◌};
+ghost use Rattle.std.specs.Prelude.{◌≡◌, false};
+ghost use Rattle.jf_hash.specs.Maps.{Batch};
 ghost use Rattle.jf_script.specs.declared.command.Command.TheVariants as command;
-ghost use Rattle.jf_session.specs.Steps.{IsRunningOn, IsObeyed};
+ghost use Rattle.jf_store.specs.Passes.{IsPassOf};
+ghost use Rattle.jf_session.specs.Steps.{session_of, IsSoundSession, IsRunningOn, IsObeyed};
 
 use crate::refusing::refused;
 use crate::session::Session;
 use crate::stop::Stop;
 use jf_disk::Disk;
 use jf_script::Reply;
-use jf_store::{Look, Store};
+use jf_store::{Look, Pass, Store};
 use std::sync::Wait;
+
+// Answers `status`, for a session with this pass.
+fn numbers_of<D: Disk, H: Wait>(
+    pass: &mut Pass<D>,
+    over: &mut bool,
+    rt: &H,
+    store: &Store<D>,
+) -> Result<Reply, Stop>
+    requires own { IsPassOf pass.old store.now }
+    requires over { over.old ≡ false }
+    ensures sound { (pending : Batch) → IsSoundSession (session_of pass.old pending over.old) → IsSoundSession (session_of pass.new pending over.new) }
+    ensures obeyed { (pending : Batch) → IsObeyed store.now.start (session_of pass.old pending over.old) (session_of pass.new pending over.new) command.Look result }
+{
+    match pass.look(rt, store) {
+        Ok(look) => Ok(status_reply(&look)),
+        Err(fault) => refused(fault, over),
+    }
+}
 
 impl<D: Disk> Session<D> {
     // Answers `status`.
@@ -17,10 +37,7 @@ impl<D: Disk> Session<D> {
         requires { IsRunningOn self.old store.now }
         ensures { IsObeyed store.now.start self.old self.new command.Look result }
     {
-        match self.pass.look(rt, store) {
-            Ok(look) => Ok(status_reply(&look)),
-            Err(fault) => refused(fault, &mut self.over),
-        }
+        numbers_of(&mut self.pass, &mut self.over, rt, store)
     }
 }
 
