@@ -46,7 +46,16 @@ pub(crate) fn do_mode<S: Source, K: Sink, D: Disk, H: Threads + Wait + Sync, G: 
     files_stand_for_one();
     match mode {
         Mode::Run { workers } => {
-            script_over(rt, alloc, engine, Script::Input, source, sink, workers, gate)
+            script_over(
+                rt,
+                alloc,
+                engine,
+                Script::Input,
+                source,
+                sink,
+                workers,
+                gate,
+            )
         }
         Mode::Serve { workers } => serve_over(rt, alloc, engine, source, sink, workers, gate),
         Mode::Verify => unreachable!(),
