@@ -1,6 +1,7 @@
 -- The lines of replies that set no root and begin no proof.
 use Rattle.std.specs.List.{AllByRecursion, join_with_byte}
-use Rattle.std.proofs.Common.{◌≡◌, inl, inr, ℕ, ◌^◌, ◌<◌, ◌≤◌, ◌&&◌, true, false, cond, is_some, List, [], ◌∷◌, ◌++◌, length, Option, Some, None, codes, decimal, refl, sym, ap, ◌∙◌, subst, append_assoc, append-nil, option_map, option_and_then}
+use Rattle.std.proofs.lemmas.Slice.Eq.{bytes_eq-Decides}
+use Rattle.std.proofs.Common.{◌≡◌, Bool, inl, inr, ℕ, ◌^◌, ◌<◌, ◌≤◌, ◌&&◌, true, false, cond, is_some, List, [], ◌∷◌, ◌++◌, length, Option, Some, None, codes, decimal, refl, sym, ap, ap₂, ◌∙◌, subst, append_assoc, append-nil, option_map, option_and_then}
 use Rattle.hex.specs.Hex.{encode_lower, IsBytes}
 use Rattle.jf_hash.specs.Roots.{root}
 use Rattle.jf_io.specs.Lines.{lines}
@@ -10,11 +11,8 @@ use Rattle.jf_text.specs.Words.{line_text, value_word, words, number, number_upt
 use Rattle.jf_text.proofs.Plain.{all_plain, is_plain, is_plain-decimal, words-join}
 use Rattle.jf_text.proofs.NumbersBack.{number-back}
 use Rattle.jf_text.proofs.HexReadBack.{is_plain-hex}
-use Rattle.jf_script.specs.Replies.{reply_words, reply_text, refusal_words, IsInRange}
-use Rattle.jf_script.specs.declared.reply.Refusal.{Refusal}
-use Rattle.jf_script.specs.declared.reply.Refusal.TheVariants as refusal
+use Rattle.jf_script.specs.Replies.{reply_words, reply_text, is_refusal, IsInRange}
 use Rattle.jf_script.specs.declared.reply.Reply.{Reply}
-use Rattle.jf_script.specs.declared.reply.Reply.TheVariants as reply
 use Rattle.jf_blocks.specs.Blocks.{chunk_lines, entry_lines, side_lines}
 use Rattle.jf_blocks.specs.Reading.{line_read, first_line_of, word_after}
 use Rattle.jf_blocks.specs.Laws.{IsHash, IsChunkBlock}
@@ -23,7 +21,7 @@ use Rattle.jf_blocks.specs.declared.first.FirstLine.TheVariants as first
 use Rattle.jf_blocks.proofs.BlocksReadBack.{left_out}
 use Rattle.jf_blocks.proofs.LinesJoined.{lines-join}
 use Rattle.jf_client.specs.RunLaws.{Heard, answer_heard, text_heard, told_by, IsOther}
-use Rattle.jf_script.proofs.ReplyTexts.{all_plain-words}
+use Rattle.jf_script.proofs.ReplyTexts.{all_plain-words, reply_words-front, reply_words-root, reply_words-proof}
 
 -- ---- lines that no root and no proof begins
 abbrev pub IsNoFirst : List ℕ → Type 0
@@ -105,44 +103,46 @@ not_ok (Some n) = refl
 no_first : (n : ℕ) (r : List ℕ) (rs : List (List ℕ)) → first_line_of (decimal n ∷ codes "no" ∷ r ∷ rs) ≡ None
 no_first n r rs = ap (λ b. first_from (cond b (r ∷ rs) (decimal n ∷ codes "no" ∷ r ∷ rs))) (not_ok (number (decimal n)))
 
-refused_first : (n : ℕ) (why : Refusal) → first_line_of (decimal n ∷ codes "no" ∷ refusal_words why) ≡ None
-refused_first n refusal.Syntax = no_first n (codes "syntax") []
-refused_first n refusal.Long = no_first n (codes "long") []
-refused_first n refusal.Pending = no_first n (codes "pending") []
-refused_first n refusal.Unknown = no_first n (codes "unknown") []
-refused_first n refusal.Gone = no_first n (codes "gone") []
-refused_first n (refusal.Keys count) = no_first n (codes "keys") (decimal count ∷ [])
-refused_first n (refusal.Future head) = no_first n (codes "future") (decimal head ∷ [])
-refused_first n (refusal.Retired bound) = no_first n (codes "retired") (decimal bound ∷ [])
-refused_first n refusal.PinsFull = no_first n (codes "pinsfull") []
-refused_first n refusal.NoPin = no_first n (codes "nopin") []
-refused_first n refusal.ForksFull = no_first n (codes "forksfull") []
-refused_first n (refusal.Range count) = no_first n (codes "range") (decimal count ∷ [])
-refused_first n refusal.Last = no_first n (codes "last") []
+-- a reply of which a judge says nothing is no root and no proof
+no_root : (r : Reply) (kind : List ℕ) (ws : List (List ℕ)) → IsInRange r → told_by r ≡ None → reply_words r ≡ codes "ok" ∷ kind ∷ ws → is_word kind (codes "root") ≡ false
+no_root r kind ws range untold e = elim (is_word kind (codes "root")) as (λ b. is_word kind (codes "root") ≡ b → b ≡ false) [
+  | false ↦ λ is. refl
+  | true ↦ λ is.
+      let same : kind ≡ codes "root" = (bytes_eq-Decides kind (codes "root")).0 is in
+      let root = reply_words-root r ws range (e ∙ ap (λ (w : List ℕ). codes "ok" ∷ w ∷ ws) same) in
+      absurd (let both : None ≡ Some [] = sym untold ∙ ap told_by root in cc)
+] refl
 
-other_first : (n : ℕ) (r : Reply) → n < 2 ^ 64 → told_by r ≡ None → first_line_of (decimal n ∷ reply_words r) ≡ None
-other_first n (reply.Pending count) small untold = ok_first n _ small refl
-other_first n (reply.Commit version r) small untold = ok_first n _ small refl
-other_first n (reply.Fork id r) small untold = ok_first n _ small refl
-other_first n (reply.Land version r) small untold = ok_first n _ small refl
-other_first n (reply.Drop count) small untold = ok_first n _ small refl
-other_first n (reply.Value None) small untold = ok_first n _ small refl
-other_first n (reply.Value (Some value)) small untold = ok_first n _ small refl
-other_first n (reply.Root r) small untold = absurd (cc)
-other_first n (reply.Proof siblings) small untold = absurd (cc)
-other_first n (reply.Chunk entries depth siblings) small untold = ok_first n _ small refl
-other_first n (reply.Count count) small untold = ok_first n _ small refl
-other_first n (reply.Nth key value) small untold = ok_first n _ small refl
-other_first n (reply.Pin place) small untold = ok_first n _ small refl
-other_first n (reply.Unpin version) small untold = ok_first n _ small refl
-other_first n (reply.Prune bound floor) small untold = ok_first n _ small refl
-other_first n (reply.Compact generation) small untold = ok_first n _ small refl
-other_first n (reply.Status base floor retired head kept forks generation) small untold = ok_first n _ small refl
-other_first n (reply.No why) small untold = refused_first n why
+no_proof : (r : Reply) (kind : List ℕ) (ws : List (List ℕ)) → IsInRange r → told_by r ≡ None → reply_words r ≡ codes "ok" ∷ kind ∷ ws → is_word kind (codes "proof") ≡ false
+no_proof r kind ws range untold e = elim (is_word kind (codes "proof")) as (λ b. is_word kind (codes "proof") ≡ b → b ≡ false) [
+  | false ↦ λ is. refl
+  | true ↦ λ is.
+      let same : kind ≡ codes "proof" = (bytes_eq-Decides kind (codes "proof")).0 is in
+      let proof = reply_words-proof r ws range (e ∙ ap (λ (w : List ℕ). codes "ok" ∷ w ∷ ws) same) in
+      absurd (let both : None ≡ Some (codes "accepted\n") = sym untold ∙ ap told_by proof in cc)
+] refl
+
+-- two words of which the first is none of these begin nothing
+neither_from : (kind : List ℕ) (ws : List (List ℕ)) → is_word kind (codes "root") ≡ false → is_word kind (codes "proof") ≡ false → first_from (kind ∷ ws) ≡ None
+neither_from kind [] other another = refl
+neither_from kind (w ∷ []) other another = ap₂ (λ (b c : Bool). elim (option_and_then hash_of (cond b (Some w) None)) as (λ x. Option FirstLine) [
+  | Some h ↦ Some (first.Root h)
+  | None ↦ option_map (λ n. first.Proof n) (option_and_then (number_upto 65535) (cond c (Some w) None))
+]) other another
+neither_from kind (w ∷ v ∷ ws) other another = refl
+
+begun_with : (n : ℕ) (r : Reply) (b : Bool) (kind : List ℕ) (ws : List (List ℕ)) → n < 2 ^ 64 → told_by r ≡ None → IsInRange r
+    → reply_words r ≡ cond b (codes "no") (codes "ok") ∷ kind ∷ ws → first_line_of (decimal n ∷ reply_words r) ≡ None
+begun_with n r true kind ws small untold range e = ap (λ (v : List (List ℕ)). first_line_of (decimal n ∷ v)) e ∙ no_first n kind ws
+begun_with n r false kind ws small untold range e =
+    ap (λ (v : List (List ℕ)). first_line_of (decimal n ∷ v)) e ∙ ok_first n (kind ∷ ws) small (neither_from kind ws (no_root r kind ws range untold e) (no_proof r kind ws range untold e))
+
+other_first : (n : ℕ) (r : Reply) → n < 2 ^ 64 → told_by r ≡ None → IsInRange r → first_line_of (decimal n ∷ reply_words r) ≡ None
+other_first n r small untold range = let front = reply_words-front r in begun_with n r (is_refusal r) front.0 front.1 small untold range front.2
 
 reply_lines_of : (n : ℕ) (r : Reply) → n < 2 ^ 64 → told_by r ≡ None → IsInRange r → AreLinesOf (reply_text n r) (join_with_byte 32 (decimal n ∷ reply_words r) ∷ [])
 unfolding reply_text
-reply_lines_of n r small untold range = one_line_of (decimal n) (reply_words r) (is_plain-decimal n small) (all_plain-words r range) (other_first n r small untold)
+reply_lines_of n r small untold range = one_line_of (decimal n) (reply_words r) (is_plain-decimal n small) (all_plain-words r range) (other_first n r small untold range)
 
 pub other_lines_of : (h : Heard) → h.number < 2 ^ 64 → IsOther h → (xs : List (List ℕ)) × AreLinesOf (text_heard h) xs
 other_lines_of h small o =

@@ -1,5 +1,5 @@
 -- The replies to `chunk`, and what they restore.
-use Rattle.std.proofs.Common.{◌≡◌, ℕ, zero, suc, ◌+◌, ◌-◌, ◌^◌, ◌<◌, ◌≤◌, ◌==◌, nat_le, nat_lt, bytes_eq, true, false, cond, List, [], ◌∷◌, ◌++◌, length, take, drop, Option, Some, None, Result, Ok, Err, is_none, refl, sym, ap, ◌∙◌, subst, arith, append_assoc, length-take, take_all}
+use Rattle.std.proofs.Common.{◌≡◌, ℕ, zero, suc, ◌+◌, ◌-◌, ◌^◌, ◌<◌, ◌≤◌, ◌==◌, nat_le, nat_lt, bytes_eq, true, false, cond, List, [], ◌∷◌, ◌++◌, length, take, drop, Option, Some, None, Result, Ok, Err, refl, sym, ap, ◌∙◌, subst, arith, append_assoc, length-take, take_all}
 use Rattle.std.proofs.lemmas.Bool.Decides.{nat_tests}
 use Rattle.std.proofs.lemmas.Slice.Eq.{bytes_eq-Decides}
 use Rattle.std.specs.FinMap as fin
@@ -10,7 +10,6 @@ use Rattle.jf_path.specs.Limits.{max_value}
 use Rattle.jf_hash.specs.Maps.{Map, IsMap}
 use Rattle.jf_hash.specs.Roots.{root, part_root}
 use Rattle.jf_hash.proofs.RootLaws.{root-part_root}
-use Rattle.jf_model.specs.States.{State}
 use Rattle.jf_io.specs.Lines.{lines}
 use Rattle.jf_io.proofs.EndedLines.{lines-none}
 use Rattle.jf_evidence.specs.Ranges.{Entries, chunk_entries, honest_chunk, right_siblings, last_key}
@@ -34,11 +33,9 @@ use Rattle.jf_chunks.specs.declared.fault.BlockFault.{BlockFault}
 use Rattle.jf_chunks.specs.declared.fault.BlockFault.TheVariants as block_fault
 use Rattle.jf_receive.specs.Restored.{restored, restored_entries, of_block}
 use Rattle.jf_receive.specs.declared.received.RestoreFault.{RestoreFault}
-use Rattle.jf_answers.specs.Own.{Own, pinned}
 use Rattle.jf_answers.specs.Refusals.{base_map}
 use Rattle.jf_answers.specs.Answers.{answer, Answer, read_answer}
 use Rattle.jf_answers.specs.Runs.{answer_text}
-use Rattle.jf_client.specs.Laws.{IsKeptBase}
 use Rattle.jf_client.specs.ChunkLaws.{ChunkLine, AsksChunk, AskInTurn, chunk_replies, HonestChunksAreRestored}
 use Rattle.jf_client.proofs.Told.{hash_of_key, byte-at, honest-hashes}
 use Rattle.jf_client.proofs.Replies.{answered, question_to}

@@ -1,12 +1,14 @@
 -- All that a session was answered, judged as it is.
 use Rattle.std.specs.Prelude.{unwrap_or}
 use Rattle.std.specs.List.{AllByRecursion}
-use Rattle.std.proofs.Common.{◌≡◌, ◌⊎◌, inl, inr, ℕ, zero, suc, ◌+◌, ◌-◌, ◌^◌, ◌<◌, ◌≤◌, List, [], ◌∷◌, ◌++◌, length, drop, flat_map, Option, IfSome, Some, None, Ok, codes, refl, sym, ap, ap₂, ◌∙◌, subst, arith, append_assoc, append-nil, length-append}
+use Rattle.std.proofs.Common.{◌≡◌, inl, inr, ℕ, zero, suc, ◌+◌, ◌-◌, ◌^◌, ◌<◌, ◌≤◌, List, [], ◌∷◌, ◌++◌, length, drop, flat_map, Option, IfSome, Some, None, Ok, codes, refl, sym, ap, ap₂, ◌∙◌, subst, arith, append_assoc, append-nil, length-append}
 use Rattle.std.specs.FinMap as fin
 use Rattle.jf_hash.specs.Hashes.{K}
 use Rattle.jf_hash.specs.Maps.{Map, IsMap}
 use Rattle.jf_hash.specs.Roots.{root}
 use Rattle.jf_model.specs.States.{State}
+use Rattle.jf_model.specs.Versions.{newest}
+use Rattle.jf_model.specs.Forks.{fork_map}
 use Rattle.jf_model.proofs.VersionLaws.{root-IsKey}
 use Rattle.jf_io.specs.Lines.{lines}
 use Rattle.jf_io.proofs.EndedLines.{lines-none}
@@ -15,8 +17,9 @@ use Rattle.jf_evidence.specs.Laws.{HonestClaimsAreAccepted}
 use Rattle.jf_evidence.specs.declared.proof.Proof.{Proof}
 use Rattle.jf_evidence.proofs.ProofLaws.{honest-short}
 use Rattle.jf_script.specs.Replies.{reply_text}
-use Rattle.jf_script.specs.declared.command.Base.{Base}
+use Rattle.jf_script.specs.declared.command.Question.{Question}
 use Rattle.jf_script.specs.declared.command.Question.TheVariants as question
+use Rattle.jf_script.specs.declared.command.Command.{Command}
 use Rattle.jf_script.specs.declared.command.Command.TheVariants as command
 use Rattle.jf_script.specs.declared.reply.Reply.TheVariants as reply
 use Rattle.jf_blocks.specs.Blocks.{proof_lines}
@@ -26,9 +29,10 @@ use Rattle.jf_blocks.specs.declared.first.FirstLine.TheVariants as first
 use Rattle.jf_verify.specs.Verdicts.{Judging, say, syntax_text, verdicts_from, verdicts, judged_of, nothing_known}
 use Rattle.jf_verify.specs.declared.accepted.Accepted.{Accepted}
 use Rattle.jf_answers.specs.Own.{Own}
+use Rattle.jf_answers.specs.Refusals.{base_map}
 use Rattle.jf_answers.specs.Answers.{Answer, granted, replied, read_answer}
 use Rattle.jf_answers.specs.Runs.{answer_text}
-use Rattle.jf_client.specs.RunLaws.{Heard, answer_heard, text_heard, told_by, syntax_lines, judged_from, root_read, map_read, AsksRoot, AsksProof, IsOther, AreHeardOn, IsAskedOf, WholeRunsAreJudged}
+use Rattle.jf_client.specs.RunLaws.{Heard, answer_heard, text_heard, told_by, syntax_lines, judged_from, question_in, map_in, Asks, AsksRoot, AsksProof, IsOther, AreHeardOn, IsAskedOf, WholeRunsAreJudged}
 use Rattle.jf_client.proofs.Told.{hash_of_key, honest-told}
 use Rattle.jf_client.proofs.Judged.{root_step, block_step, end_step, knows}
 use Rattle.jf_client.proofs.Replies.{answered, unrefused}
@@ -55,23 +59,30 @@ syntax_steps n at j (x ∷ xs) ls none =
     ∙ ap (λ k. syntax_text at ++ (syntax_lines (at + 1) (length xs) ++ verdicts_from n j (record { at = k; left = ls }))) (let e : at + 1 + length xs ≡ at + length (x ∷ xs) = omega arith in e)
     ∙ sym (append_assoc (syntax_text at) (syntax_lines (at + 1) (length xs)) (verdicts_from n j (record { at = at + length (x ∷ xs); left = ls })))
 
--- a read of a root that nothing refuses
-root_granted : (s : State) (own : Own) (on : Base ⊎ ℕ) → granted (root_read on) s own ≡ replied (reply.Root (root (map_read s own on))) s own
-root_granted s own (inl on) = refl
-root_granted s own (inr id) = refl
+-- a read that nothing refuses
+granted-read : (c : Command) (q : Question) (s : State) (own : Own) → question_in c ≡ Some q → granted c s own ≡ read_answer q (map_in s own c) s own
+granted-read (command.Own c) q s own e = absurd (cc)
+granted-read (command.Read on p) q s own e = ap (λ (o : Option Question). read_answer (unwrap_or o q) (base_map s own on) s own) e
+granted-read (command.ReadFork id p) q s own e = ap (λ (o : Option Question). read_answer (unwrap_or o q) (fork_map (newest s.all) s.forks id) s own) e
+granted-read command.Look q s own e = absurd (cc)
+granted-read (command.Pin version) q s own e = absurd (cc)
+granted-read (command.Change c) q s own e = absurd (cc)
+
+-- the answer to a line that asks a question
+answer_asked : (q : Question) (m : Map) (h : Heard) → Asks q m h → answer_heard h ≡ read_answer q m h.state h.own
+answer_asked q m h a =
+    answered h.state h.own h.line a.read a.short a.is ∙ unrefused h.state h.own a.read a.granted ∙ granted-read a.read q h.state h.own a.reads
+    ∙ ap (λ (w : Map). read_answer q w h.state h.own) a.map_is
 
 -- ---- all replies
 -- `asked` holds of the maps whose roots all lines ask for, those judged before included
 module _ (back : BlocksAreReadBack) (begins : RepliesBeginBlocks) (sets : RepliesSetRoots) (accepted : HonestClaimsAreAccepted) (asked : Map → Type 0)
     (one_map : (m m' : Map) → asked m → asked m' → root m ≡ root m' → m ≡ m') where
   root_text : (m : Map) (h : Heard) → AsksRoot m h → answer_heard h ≡ replied (reply.Root (root m)) h.state h.own
-  root_text m h a =
-      answered h.state h.own h.line (root_read a.on) a.short a.is ∙ unrefused h.state h.own (root_read a.on) a.granted ∙ root_granted h.state h.own a.on ∙ ap (λ (w : Map). replied (reply.Root (root w)) h.state h.own) a.map_is
+  root_text m h a = answer_asked question.Root m h a.asks
 
   proof_text : (m : Map) (h : Heard) (a : AsksProof m h) → answer_heard h ≡ read_answer (question.Prove a.name) m h.state h.own
-  proof_text m h a =
-      answered h.state h.own h.line (command.Read a.on (question.Prove a.name)) a.short a.is ∙ unrefused h.state h.own (command.Read a.on (question.Prove a.name)) a.granted
-      ∙ ap (λ (w : Map). read_answer (question.Prove a.name) w h.state h.own) a.map_is
+  proof_text m h a = answer_asked (question.Prove a.name) m h a.asks
 
   -- this map's root is set, and was asked for
   record IsSet (j : Judging) (m : Map) : Type 0 where

@@ -1,6 +1,6 @@
 -- A client that judges all that a session was answered, as a statement for a call that does nothing and ensures it.
-use Rattle.std.specs.Prelude.{◌≡◌, ◌⊎◌, inl, inr, ℕ, zero, suc, ◌+◌, ◌^◌, ◌<◌, false, List, [], ◌∷◌, ◌++◌, length, flat_map, Option, Some, None, unwrap_or, codes}
-use Rattle.std.specs.FinMap.{get}
+use Rattle.std.specs.Prelude.{◌≡◌, ◌⊎◌, ℕ, zero, suc, ◌+◌, ◌^◌, ◌<◌, false, List, [], ◌∷◌, ◌++◌, length, flat_map, Option, Some, None, unwrap_or, codes}
+use Rattle.std.specs.FinMap.{get, empty}
 use Rattle.jf_hash.specs.Hashes.{K}
 use Rattle.jf_hash.specs.Maps.{Map, IsMap}
 use Rattle.jf_hash.specs.Roots.{root}
@@ -11,10 +11,9 @@ use Rattle.jf_io.specs.Lines.{lines}
 use Rattle.jf_evidence.specs.Ranges.{Entries}
 use Rattle.jf_evidence.specs.declared.range_proof.RangeProof.{RangeProof}
 use Rattle.jf_text.specs.Words.{is_long}
-use Rattle.jf_script.specs.declared.command.Base.{Base}
-use Rattle.jf_script.specs.Commands.{command_of}
+use Rattle.jf_script.specs.declared.command.Question.{Question}
+use Rattle.jf_script.specs.Commands.{command_of, question_of}
 use Rattle.jf_script.specs.declared.command.Question.TheVariants as question
-use Rattle.jf_script.specs.declared.command.ForkQuestion.TheVariants as fork_question
 use Rattle.jf_script.specs.declared.command.Command.{Command}
 use Rattle.jf_script.specs.declared.command.Command.TheVariants as command
 use Rattle.jf_script.specs.Replies.{IsInRange}
@@ -63,34 +62,37 @@ judged_from at (h ∷ hs) =
     unwrap_or (told_by (answer_heard h).reply) (syntax_lines at many) ++ judged_from (at + many) hs
 
 -- ---- lines that ask about maps, and others
--- the read of a root: of a stored map's, or of the fork's with an id
-abbrev pub root_read : Base ⊎ ℕ → Command
-root_read (inl on) = command.Read on question.Root
-root_read (inr id) = command.ReadFork id fork_question.Root
+-- the question that a read asks
+abbrev pub question_in : Command → Option Question
+question_in (command.Read on q) = Some q
+question_in (command.ReadFork id q) = Some (question_of q)
+question_in c = None
 
--- the map that such a read is of
-abbrev pub map_read : State → Own → Base ⊎ ℕ → Map
-map_read s own (inl on) = base_map s own on
-map_read s own (inr id) = fork_map (newest s.all) s.forks id
+-- the map that a read is of: a stored one, or a fork's
+abbrev pub map_in : State → Own → Command → Map
+map_in s own (command.Read on q) = base_map s own on
+map_in s own (command.ReadFork id q) = fork_map (newest s.all) s.forks id
+map_in s own c = empty
 
--- a line asks for the root of this map, and isn't refused
+-- a line asks a question of this map, and isn't refused
+pub record Asks (q : Question) (m : Map) (h : Heard) : Type 0 where
+  pub read : Command
+  pub granted : refused_by h.state h.own read ≡ None
+  pub reads : question_in read ≡ Some q
+  pub map_is : map_in h.state h.own read ≡ m
+  pub short : is_long h.line ≡ false
+  pub is : command_of h.line ≡ Some read
+
+-- a line asks for the root of this map
 pub record AsksRoot (m : Map) (h : Heard) : Type 0 where
-  pub on : Base ⊎ ℕ
-  pub granted : refused_by h.state h.own (root_read on) ≡ None
-  pub map_is : map_read h.state h.own on ≡ m
+  pub asks : Asks question.Root m h
   pub sound : IsMap m
-  pub short : is_long h.line ≡ false
-  pub is : command_of h.line ≡ Some (root_read on)
 
--- a line asks for the proof of a name in it, and isn't refused
+-- a line asks for the proof of a name in it
 pub record AsksProof (m : Map) (h : Heard) : Type 0 where
-  pub on : Base
   pub name : List ℕ
-  pub granted : refused_by h.state h.own (command.Read on (question.Prove name)) ≡ None
-  pub map_is : base_map h.state h.own on ≡ m
+  pub asks : Asks (question.Prove name) m h
   pub fits : FitsLine name (get m (K name))
-  pub short : is_long h.line ≡ false
-  pub is : command_of h.line ≡ Some (command.Read on (question.Prove name))
 
 -- a line has another reply, with no block or with that of a chunk
 pub record IsOther (h : Heard) : Type 0 where

@@ -1,16 +1,14 @@
 -- A reply's text has `no` as its second word exactly if the reply is a refusal.
-use Rattle.std.proofs.Common.{ℕ, ◌<◌, ◌^◌, ◌≡◌, ◌==◌, Bool, true, false, List, [], ◌∷◌, ◌++◌, codes, decimal, refl, ap, ◌∙◌}
+use Rattle.std.proofs.Common.{ℕ, ◌<◌, ◌^◌, ◌≡◌, ◌==◌, Bool, true, false, List, [], ◌∷◌, ◌++◌, codes, decimal, cond, refl, sym, subst, ap, ◌∙◌}
 use Rattle.std.proofs.lemmas.List.{append_assoc}
 use Rattle.jf_path.proofs.BoolLaws.{not_and_passes, both_pass}
 use Rattle.jf_text.specs.Words.{words, is_word, spaced}
 use Rattle.jf_text.proofs.Plain.{is_without, is_plain-decimal}
 use Rattle.jf_script.proofs.Texts.{reply_text-pieces}
-use Rattle.jf_script.specs.Replies.{reply_text, reply_words}
+use Rattle.jf_script.proofs.ReplyTexts.{reply_words-front}
+use Rattle.jf_script.specs.Replies.{reply_text, reply_words, is_refusal}
 use Rattle.jf_script.specs.declared.reply.Reply.{Reply}
-use Rattle.jf_script.specs.declared.reply.Reply.TheVariants as reply
-use Rattle.jf_script.specs.declared.reply.Refusal.TheVariants as refusal
-use Rattle.std.specs.Prelude.{None, Some}
-use Rattle.jf_generate.specs.Reports.{is_refused, second_word, is_refusal}
+use Rattle.jf_generate.specs.Reports.{is_refused, second_word}
 
 -- the words of a text that begins with a word and a space
 words-first : (w text : List ℕ) → is_without 32 w ≡ true → words (w ++ 32 ∷ text) ≡ w ∷ words text
@@ -37,42 +35,20 @@ second_word-text d (w ∷ v ∷ ws) hd two hw =
     append_assoc d (spaced (w ∷ v ∷ ws)) (10 ∷ []) ∙ ap (λ text. d ++ 32 ∷ text) (append_assoc w (spaced (v ∷ ws)) (10 ∷ [])) in
     rw (pieces, words-first d (w ++ 32 ∷ ((v ++ spaced ws) ++ 10 ∷ [])) hd, words-first w ((v ++ spaced ws) ++ 10 ∷ []) hw) refl
 
--- a reply has two words or more after its number, and the first of them is `no` exactly if it is a refusal
-reply_words-front : (r : Reply) → (has_two (reply_words r) ≡ true) × (is_without 32 (first_word (reply_words r)) ≡ true) × (is_word (first_word (reply_words r)) (codes "no") ≡ is_refusal r)
-reply_words-front (reply.Pending count) = (refl, refl, refl)
-reply_words-front (reply.Commit version root) = (refl, refl, refl)
-reply_words-front (reply.Fork id root) = (refl, refl, refl)
-reply_words-front (reply.Land version root) = (refl, refl, refl)
-reply_words-front (reply.Drop count) = (refl, refl, refl)
-reply_words-front (reply.Value None) = (refl, refl, refl)
-reply_words-front (reply.Value (Some value)) = (refl, refl, refl)
-reply_words-front (reply.Root root) = (refl, refl, refl)
-reply_words-front (reply.Proof siblings) = (refl, refl, refl)
-reply_words-front (reply.Chunk entries depth siblings) = (refl, refl, refl)
-reply_words-front (reply.Count count) = (refl, refl, refl)
-reply_words-front (reply.Nth key value) = (refl, refl, refl)
-reply_words-front (reply.Pin place) = (refl, refl, refl)
-reply_words-front (reply.Unpin version) = (refl, refl, refl)
-reply_words-front (reply.Prune bound floor) = (refl, refl, refl)
-reply_words-front (reply.Compact generation) = (refl, refl, refl)
-reply_words-front (reply.Status base floor retired head kept forks generation) = (refl, refl, refl)
-reply_words-front (reply.No refusal.Syntax) = (refl, refl, refl)
-reply_words-front (reply.No refusal.Long) = (refl, refl, refl)
-reply_words-front (reply.No refusal.Pending) = (refl, refl, refl)
-reply_words-front (reply.No refusal.Unknown) = (refl, refl, refl)
-reply_words-front (reply.No refusal.Gone) = (refl, refl, refl)
-reply_words-front (reply.No (refusal.Keys count)) = (refl, refl, refl)
-reply_words-front (reply.No (refusal.Future head)) = (refl, refl, refl)
-reply_words-front (reply.No (refusal.Retired bound)) = (refl, refl, refl)
-reply_words-front (reply.No refusal.PinsFull) = (refl, refl, refl)
-reply_words-front (reply.No refusal.NoPin) = (refl, refl, refl)
-reply_words-front (reply.No refusal.ForksFull) = (refl, refl, refl)
-reply_words-front (reply.No (refusal.Range count)) = (refl, refl, refl)
-reply_words-front (reply.No refusal.Last) = (refl, refl, refl)
+-- the words of a reply are two or more, and the first of them is `no` exactly if it is a refusal
+abbrev IsFront : Bool → List (List ℕ) → Type 0
+IsFront b ws = (has_two ws ≡ true) × (is_without 32 (first_word ws) ≡ true) × (is_word (first_word ws) (codes "no") ≡ b)
+
+front_of : (b : Bool) (kind : List ℕ) (ws : List (List ℕ)) → IsFront b (cond b (codes "no") (codes "ok") ∷ kind ∷ ws)
+front_of true kind ws = (refl, refl, refl)
+front_of false kind ws = (refl, refl, refl)
+
+front : (r : Reply) → IsFront (is_refusal r) (reply_words r)
+front r = let words = reply_words-front r in subst (IsFront (is_refusal r)) (sym words.2) (front_of (is_refusal r) words.0 words.1)
 
 -- the text of a reply counts as refused exactly if the reply is a refusal
 pub is_refused-reply_text : (n : ℕ) (r : Reply) → n < 2 ^ 64 → is_refused (reply_text n r) ≡ is_refusal r
 is_refused-reply_text n r h =
-    let front = reply_words-front r in
+    let front = front r in
     let plain = (both_pass (is_without 32 (decimal n)) (is_without 10 (decimal n)) (is_plain-decimal n h)).0 in
     ap is_refused (reply_text-pieces n r) ∙ ap (λ w. is_word w (codes "no")) (second_word-text (decimal n) (reply_words r) plain front.0 front.1) ∙ front.2

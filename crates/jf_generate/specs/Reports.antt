@@ -2,8 +2,6 @@
 use Rattle.std.specs.Prelude.{ℕ, ◌+◌, Bool, true, false, if◌then◌else◌, List, [], ◌∷◌, ◌++◌, reverse, slice_index_or, codes, decimal}
 use Rattle.std.specs.List.{count_by}
 use Rattle.jf_text.specs.Words.{words, is_word}
-use Rattle.jf_script.specs.declared.reply.Reply.{Reply}
-use Rattle.jf_script.specs.declared.reply.Reply.TheVariants as reply
 
 -- the second of these words, and an empty one if there is none
 abbrev pub second_word : List (List ℕ) → List ℕ
@@ -48,8 +46,3 @@ written_of t = codes "refused " ++ (decimal t.refused ++ 10 ∷ (t.before ++ t.l
 -- what the mode writes of these replies, which are texts that end in 0A
 abbrev pub generate_output : List (List ℕ) → List ℕ
 generate_output replies = written_of (tally_of replies)
-
--- whether a reply is a refusal
-abbrev pub is_refusal : Reply → Bool
-is_refusal (reply.No why) = true
-is_refusal r = false

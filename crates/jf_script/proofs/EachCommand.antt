@@ -10,9 +10,7 @@ use Rattle.jf_script.specs.declared.command.Change.TheVariants as change
 use Rattle.jf_script.specs.declared.command.OwnCommand.TheVariants as own_command
 use Rattle.jf_script.specs.declared.command.Command.{Command}
 use Rattle.jf_script.specs.declared.command.Command.TheVariants as command
-use Rattle.jf_script.specs.Commands.{
-  one_word, two_words, three_words, four_words, base_of, parent_of, id_of, question_of_words, fork_question_of, read_command, command_of_words, command_of,
-}
+use Rattle.jf_script.specs.Commands.{one_word, two_words, three_words, base_of, parent_of, id_of, question_of_words, fork_question_of, read_command, command_of_words, command_of}
 
 -- P holds of each command that the grammar makes: a value and a stored map's question are ones that were read from words
 pub record OfEachCommand (P : Command → Type 0) : Type 0 where

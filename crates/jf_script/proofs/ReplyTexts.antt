@@ -1,5 +1,5 @@
 -- Replies are read back from their words, so distinct replies have distinct texts.
-use Rattle.std.proofs.Common.{ℕ, List, [], slice_index_or, drop, ◌≡◌, ◌^◌, ◌<◌, decimal, ap, if◌then◌else◌, codes, Some, None, refl, true, ◌∷◌, sym, ◌∙◌}
+use Rattle.std.proofs.Common.{ℕ, List, [], slice_index_or, drop, ◌≡◌, ◌^◌, ◌<◌, decimal, ap, if◌then◌else◌, cond, codes, Some, None, refl, true, ◌∷◌, sym, ◌∙◌}
 use Rattle.std.proofs.lemmas.Fmt.{decimal_is_IsNumeral}
 use Rattle.std.proofs.lemmas.List.{append_cancel_right}
 use Rattle.std.specs.List.{join_with_byte}
@@ -12,7 +12,7 @@ use Rattle.jf_text.proofs.Plain.{all_plain, is_plain-decimal, words-join}
 use Rattle.jf_text.proofs.HexReadBack.{is_plain-hex}
 use Rattle.jf_script.specs.declared.reply.Refusal.{Refusal}
 use Rattle.jf_script.specs.declared.reply.Reply.{Reply}
-use Rattle.jf_script.specs.Replies.{reply_words, IsInRange, reply_text}
+use Rattle.jf_script.specs.Replies.{reply_words, is_refusal, IsInRange, reply_text}
 use Rattle.jf_script.specs.declared.reply.Refusal.TheVariants as refusal
 use Rattle.jf_script.specs.declared.reply.Reply.TheVariants as reply
 
@@ -119,6 +119,50 @@ reply_in-words (reply.No refusal.NoPin) h = refl
 reply_in-words (reply.No refusal.ForksFull) h = refl
 reply_in-words (reply.No (refusal.Range count)) h = rw (number-back count h) refl
 reply_in-words (reply.No refusal.Last) h = refl
+
+-- ---- how a reply begins
+-- `no` or `ok`, a word for the kind, and what the reply says
+pub reply_words-front : (r : Reply) → (kind : List ℕ) × (ws : List (List ℕ)) × (reply_words r ≡ cond (is_refusal r) (codes "no") (codes "ok") ∷ kind ∷ ws)
+reply_words-front (reply.Pending count) = (_, _, refl)
+reply_words-front (reply.Commit version root) = (_, _, refl)
+reply_words-front (reply.Fork id root) = (_, _, refl)
+reply_words-front (reply.Land version root) = (_, _, refl)
+reply_words-front (reply.Drop count) = (_, _, refl)
+reply_words-front (reply.Value None) = (_, _, refl)
+reply_words-front (reply.Value (Some value)) = (_, _, refl)
+reply_words-front (reply.Root root) = (_, _, refl)
+reply_words-front (reply.Proof siblings) = (_, _, refl)
+reply_words-front (reply.Chunk entries depth siblings) = (_, _, refl)
+reply_words-front (reply.Count count) = (_, _, refl)
+reply_words-front (reply.Nth key value) = (_, _, refl)
+reply_words-front (reply.Pin place) = (_, _, refl)
+reply_words-front (reply.Unpin version) = (_, _, refl)
+reply_words-front (reply.Prune bound floor) = (_, _, refl)
+reply_words-front (reply.Compact generation) = (_, _, refl)
+reply_words-front (reply.Status base floor retired head kept forks generation) = (_, _, refl)
+reply_words-front (reply.No refusal.Syntax) = (_, _, refl)
+reply_words-front (reply.No refusal.Long) = (_, _, refl)
+reply_words-front (reply.No refusal.Pending) = (_, _, refl)
+reply_words-front (reply.No refusal.Unknown) = (_, _, refl)
+reply_words-front (reply.No refusal.Gone) = (_, _, refl)
+reply_words-front (reply.No (refusal.Keys count)) = (_, _, refl)
+reply_words-front (reply.No (refusal.Future head)) = (_, _, refl)
+reply_words-front (reply.No (refusal.Retired bound)) = (_, _, refl)
+reply_words-front (reply.No refusal.PinsFull) = (_, _, refl)
+reply_words-front (reply.No refusal.NoPin) = (_, _, refl)
+reply_words-front (reply.No refusal.ForksFull) = (_, _, refl)
+reply_words-front (reply.No (refusal.Range count)) = (_, _, refl)
+reply_words-front (reply.No refusal.Last) = (_, _, refl)
+
+-- words of the kind `root` are those of a root
+pub reply_words-root : (r : Reply) (ws : List (List ℕ)) → IsInRange r → reply_words r ≡ codes "ok" ∷ codes "root" ∷ ws → r ≡ reply.Root (bytes_in_word 0 ws)
+unfolding reply_in
+reply_words-root r ws range e = sym (reply_in-words r range) ∙ ap reply_in e
+
+-- words of the kind `proof` are those of a proof
+pub reply_words-proof : (r : Reply) (ws : List (List ℕ)) → IsInRange r → reply_words r ≡ codes "ok" ∷ codes "proof" ∷ ws → r ≡ reply.Proof (number_in_word 0 ws)
+unfolding reply_in
+reply_words-proof r ws range e = sym (reply_in-words r range) ∙ ap reply_in e
 
 -- ---- texts read back
 pub all_plain-words : (r : Reply) → IsInRange r → all_plain (reply_words r) ≡ true

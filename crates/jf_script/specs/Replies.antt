@@ -1,5 +1,5 @@
 -- The text of replies (docs/FORMATS.md, Replies).
-use Rattle.std.specs.Prelude.{ℕ, ◌^◌, ◌<◌, List, [], ◌∷◌, Some, None, codes, decimal}
+use Rattle.std.specs.Prelude.{ℕ, ◌^◌, ◌<◌, Bool, true, false, List, [], ◌∷◌, Some, None, codes, decimal}
 use Rattle.hex.specs.Hex.{encode_lower, IsBytes}
 use Rattle.jf_text.specs.Words.{line_text, value_word}
 use Rattle.jf_script.specs.declared.reply.Refusal.{Refusal}
@@ -49,6 +49,11 @@ reply_words (reply.Status base floor retired head kept forks generation) =
     codes "ok" ∷ codes "status" ∷ codes "base" ∷ decimal base ∷ codes "floor" ∷ decimal floor ∷ codes "retired" ∷ decimal retired ∷ codes "head" ∷ decimal head
     ∷ codes "kept" ∷ decimal kept ∷ codes "forks" ∷ decimal forks ∷ codes "generation" ∷ decimal generation ∷ []
 reply_words (reply.No why) = codes "no" ∷ refusal_words why
+
+-- whether a reply is a refusal
+abbrev pub is_refusal : Reply → Bool
+is_refusal (reply.No why) = true
+is_refusal r = false
 
 -- the line of a reply: a number, the reply's words, and 0A
 unfoldable pub reply_text : ℕ → Reply → List ℕ

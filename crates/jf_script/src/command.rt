@@ -54,18 +54,10 @@ pub enum Change {
 #[derive(Debug, Drop)]
 pub enum Command {
     Own(OwnCommand),
-    Read {
-        base: Base,
-        question: Question,
-    },
-    ReadFork {
-        id: u64,
-        question: ForkQuestion,
-    },
+    Read { base: Base, question: Question },
+    ReadFork { id: u64, question: ForkQuestion },
     /// The numbers of the store: `status`.
     Look,
-    Pin {
-        version: u64,
-    },
+    Pin { version: u64 },
     Change(Change),
 }
