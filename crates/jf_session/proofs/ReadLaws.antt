@@ -168,10 +168,9 @@ pub look_done : (start : Start) (p p' : Pass) (pending : Batch) (over over' : Bo
 look_done start p p' pending over over' old view sees free goes l r look is =
     let s = state_after_events start p'.seen in
     let n = look.numbers in
-    let told : r ≡ status_reply s = is ∙ (λ i. reply.Status (n.base i) (n.floor i) (look.retired i) (n.head i) (n.kept i) (look.forks i) (n.generation i)) in
-    (
+    let told : r ≡ status_reply s = is ∙ (λ i. reply.Status (n.base i) (n.floor i) (look.retired i) (n.head i) (n.kept i) (look.forks i) (n.generation i)) in (
       plain_done start p p' pending over over' old view command.Look sees r [] (unmarked-granted p' [] [] tt free) (λ itself. absurd (let e : true ≡ false = sym itself in cc))
-      (Look-answer s (own_of p pending) ∙ ap (λ (x : Reply). plain_answer (x, []) s (own_of p pending)) (sym told)),
+          (Look-answer s (own_of p pending) ∙ ap (λ (x : Reply). plain_answer (x, []) s (own_of p pending)) (sym told)),
       goes,
     )
 
