@@ -1,7 +1,8 @@
 -- An import is a checkpoint alone, of the standing of one version.
-use Rattle.std.proofs.Common.{◌≡◌, ◌≤◌, ◌<◌, ◌+◌, ◌-◌, ◌^◌, [], ◌∷◌, Some, subst, sym, ◌∙◌, refl, rules, arith}
+use Rattle.std.proofs.Common.{◌≡◌, ◌≤◌, ◌<◌, ◌+◌, ◌-◌, ◌^◌, [], ◌∷◌, length, Some, subst, sym, ◌∙◌, refl, rules, arith}
+use Rattle.std.specs.FinMap as fin
 use Rattle.jf_hash.specs.Maps.{map_of_entries}
-use Rattle.jf_model.specs.Versions.{imported}
+use Rattle.jf_model.specs.Versions.{imported, newest}
 use Rattle.jf_disk.specs.Disk.{History, reads}
 use Rattle.jf_frame.specs.Framed.{Framed}
 use Rattle.jf_frame.specs.Framing.{IsFrame, number_of}
@@ -9,8 +10,11 @@ use Rattle.jf_pair.specs.Files.{HoldsLive, generation_of}
 use Rattle.jf_pair.proofs.PairLaws.{in_step_holds, in_step_one}
 use Rattle.jf_codec.specs.declared.format.Format.TheVariants as format
 use Rattle.jf_payload.specs.Spelling.{record_bytes}
+use Rattle.jf_standing.specs.Standing.{versions_of}
 use Rattle.jf_standing.specs.Building.{checkpoint_of, imported_standing}
+use Rattle.jf_standing.proofs.VersionsOf.{newest-head}
 use Rattle.jf_files.specs.Steps.{Imports, Succeeds, StopsWell}
+use Rattle.jf_engine.specs.EngineSteps.{CanStep}
 use Rattle.jf_engine.specs.Engines.{Engine}
 use Rattle.jf_engine.specs.Kept.{HoldImported, checkpoint_at_start}
 use Rattle.jf_engine.proofs.Imports.{ordered-checkpoint}
@@ -76,8 +80,13 @@ returns-in-Ok-clause-step g c =
     let leads = checkpoint_leads c.checkpoints_follow.ensures c.checkpoints_are_numbered.ensures s' (n + 1) c.know-2.ensures.read c.know-2.ensures.sound c.in_ok-frame.ensures.spelled in
     let after = lead_after formats c.standings_have_versions.ensures (λ v. imported c.args.version (map_of_entries c.args.entries.now)) (x ∷ []) fmt format.Two s s' c.know.ensures.sound (leads.0, (formats format.Two s' c.know-2.ensures.sound).1 ∙ c.in_ok-directory.ensures.versions) in
     (both.0, both.1, step_succeeds formats c.standings_have_versions.ensures c.succeeds_by_records.ensures step h both.0 p c.switch.new.self fmt s n k (x ∷ []) c.know.ensures.sound after both.2.0 both.2.1 leads.1 (x, refl, refl))) told in
+    let first : c.self.inside.directory.head ≡ 0 = search rules in
+    let none : fin.len c.newest.result.now.map ≡ 0 = search rules in
+    let empty : fin.len (newest (versions_of c.self.inside.directory)) ≡ 0 = subst (λ m. fin.len m ≡ 0) (c.newest.ensures.map ∙ sym (newest-head c.self.inside.directory)) none in
+    let room : c.self.inside.generation < 2 ^ 64 - 2 = search rules in
+    let few : length c.args.entries.now ≤ 2 ^ 62 = search rules in
     record {
-      could = search rules;
+      could = subst (CanStep (Imports c.args.version c.args.entries.now)) c.self.view_is (c.if-self.false, ((first, empty), room, few));
       versions_are = search rules;
       generation_is = search rules;
       whole = search rules;
@@ -124,8 +133,13 @@ returns-in-Err-clause-step g c =
     let leads = checkpoint_leads c.checkpoints_follow.ensures c.checkpoints_are_numbered.ensures s' (n + 1) c.know-2.ensures.read c.know-2.ensures.sound c.in_ok-frame.ensures.spelled in
     let after = lead_after formats c.standings_have_versions.ensures (λ v. imported c.args.version (map_of_entries c.args.entries.now)) (x ∷ []) fmt format.Two s s' c.know.ensures.sound (leads.0, (formats format.Two s' c.know-2.ensures.sound).1 ∙ c.in_ok-directory.ensures.versions) in
     (stop.0, stop.1, step_stops formats c.standings_have_versions.ensures c.stops_by_records.ensures step h stop.0 p fmt s n k (x ∷ []) c.know.ensures.sound after stop.2)) told in
+    let first : c.self.inside.directory.head ≡ 0 = search rules in
+    let none : fin.len c.newest.result.now.map ≡ 0 = search rules in
+    let empty : fin.len (newest (versions_of c.self.inside.directory)) ≡ 0 = subst (λ m. fin.len m ≡ 0) (c.newest.ensures.map ∙ sym (newest-head c.self.inside.directory)) none in
+    let room : c.self.inside.generation < 2 ^ 64 - 2 = search rules in
+    let few : length c.args.entries.now ≤ 2 ^ 62 = search rules in
     record {
-      could = search rules;
+      could = subst (CanStep (Imports c.args.version c.args.entries.now)) c.self.view_is (c.if-self.false, ((first, empty), room, few));
       versions_are = search rules;
       generation_is = search rules;
       broken = search rules;
