@@ -1,6 +1,6 @@
 -- What a call promises that opened the store and was to write the total of the recorded roots.
 use Rattle.std.specs.Prelude.{IfSome}
-use Rattle.std.proofs.Common.{◌≡◌, ◌≢◌, ◌⊎◌, ◌∙◌, refl, sym, ap, subst, ℕ, ◌≤◌, List, [], Option, Some, None, Ok, Err, Result, inl, inr, le_refl, true, IsTrue}
+use Rattle.std.proofs.Common.{◌≡◌, ◌⊎◌, ◌∙◌, refl, sym, subst, ℕ, ◌≤◌, [], Option, Some, None, Ok, Err, Result, inl, inr, le_refl}
 use Rattle.jf_path.specs.Faults.{HasCause}
 use Rattle.jf_model.specs.States.{State}
 use Rattle.jf_disk.specs.Disk.{History}

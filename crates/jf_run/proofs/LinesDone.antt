@@ -1,5 +1,5 @@
 -- What a call promises that opened the store and did lines over it by one session.
-use Rattle.std.specs.Prelude.{IfSome, IsFalse}
+use Rattle.std.specs.Prelude.{IfSome}
 use Rattle.std.proofs.Common.{◌≡◌, sym, ap, ◌∙◌, refl, ℕ, Option, Some, List, subst, ◌≤◌, le_refl}
 use Rattle.jf_path.specs.Faults.{HasCause}
 use Rattle.jf_model.specs.States.{State}
@@ -18,7 +18,7 @@ use Rattle.jf_run.specs.Outcomes.{IsDoneOrMemory}
 use Rattle.jf_run.specs.Promises.{HasCauses, KeepsPromises}
 use Rattle.jf_run.specs.Running.{IsRunCall}
 use Rattle.jf_run.specs.Runs.{IsDatedDisk, IsBegun, HasLasted, HasRun, HasGenerated}
-use Rattle.jf_run.specs.Statuses.{is_disk_fault, status_of}
+use Rattle.jf_run.specs.Statuses.{status_of}
 use Rattle.jf_run.specs.declared.status.Status.TheVariants as status
 use Rattle.jf_run.proofs.Complete.{ends_well, steady_ends}
 use Rattle.jf_run.proofs.Opened.{TellsEnd, kept_goes, opened_called, opened_keeps, opened_stands, rose}

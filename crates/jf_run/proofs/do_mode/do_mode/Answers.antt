@@ -1,8 +1,6 @@
-use Rattle.std.proofs.Common.{◌≡◌, ◌∙◌, ap, refl, sym, subst, true≢false, IsTrue, List, ℕ}
+use Rattle.std.proofs.Common.{ap, refl, subst, List, ℕ}
 use Rattle.jf_model.specs.States.{opened}
 use Rattle.jf_words.specs.Modes.{KeepsLimits}
-use Rattle.jf_words.specs.Shapes.{ByEntries, ByImport, InPieces, NoChange, NoInput, ToItsEnd, shape_of}
-use Rattle.jf_words.specs.declared.modes.Mode.{Mode}
 use Rattle.jf_run.specs.Calls.{disk_of, engine_disk}
 use Rattle.jf_run.specs.Runs.{HasGenerated}
 use Rattle.jf_run.proofs.LinesDone.{generated_keeps, run_keeps}
@@ -26,7 +24,7 @@ pub new-lines-requires-clause-batches : goal.new-lines-requires-clause-batches
 new-lines-requires-clause-batches g c = (subst KeepsLimits c.in-Generate.is c.requires.limits).0
 
 pub new-lines-requires-clause-size : goal.new-lines-requires-clause-size
-new-lines-requires-clause-size g c = let limits = subst KeepsLimits c.in-Generate.is c.requires.limits in (limits.1, limits.2)
+new-lines-requires-clause-size g c = (subst KeepsLimits c.in-Generate.is c.requires.limits).1
 
 pub returns-in-Generate-clause-kept : goal.returns-in-Generate-clause-kept
 returns-in-Generate-clause-kept g c = completes_as _ _ _ _ _ _ _ c.in-Generate.is (λ before head begun dated.
@@ -40,7 +38,7 @@ returns-in-Generate-clause-kept g c = completes_as _ _ _ _ _ _ _ c.in-Generate.i
 
 -- ---- restore
 pub restore_over-requires-clause-last : goal.restore_over-requires-clause-last
-restore_over-requires-clause-last g c = (subst KeepsLimits c.in-Restore.is c.requires.limits).0
+restore_over-requires-clause-last g c κs within = (subst KeepsLimits c.in-Restore.is c.requires.limits).0
 
 pub returns-in-Restore-clause-kept : goal.returns-in-Restore-clause-kept
 returns-in-Restore-clause-kept g c = completes_as _ _ _ _ _ _ _ c.in-Restore.is (c.restore_over.ensures.kept c.in-Restore.workers)

@@ -9,7 +9,6 @@ use Rattle.jf_store.specs.Closing.{AreAllPasses, IsClosed}
 use Rattle.jf_history.specs.declared.end.End.TheVariants as end
 use Rattle.jf_run.specs.Calls.{disk_of, engine_disk}
 use Rattle.jf_run.specs.ScriptLines.{HasDoneLines, HasDoneScript}
-use Rattle.jf_run.specs.Statuses.{status_of}
 use Rattle.jf_run.specs.declared.status.Status.TheVariants as status
 use Rattle.jf_run.proofs.OnlyPass.{one_new, only_left, only_one}
 use Rattle.jf_run.proofs.RunsLaws.{closed_script, refused_script}
