@@ -14,7 +14,7 @@ use Rattle.jf_serve.proofs.SessionsRun.{fewer, as_many, rest_new, rest_room, roo
 use Rattle.jf_serve.proofs.side_by_side.+sessions.Goals as goal
 
 -- what the closure over the last pass holds may go to another thread
-last-send : (g : given.Over) (κs : Lfts 14) → IsSend (param 0 g.row.D) → IsSync (param 1 g.row.H) → IsSync (param 2 g.row.G) → IsSend (param 1 (lts.arg-8-1 g.row.D g.row.H g.row.G g.D.laws g.H.laws g.G.laws g.D.Disk g.D.Disk-dict g.H.Threads g.H.Threads-dict g.H.Wait g.H.Wait-dict g.G.Gate g.G.Gate-dict κs))
+last-send : (g : given.Over) (κs : Lfts 16) → IsSend (param 0 g.row.D) → IsSync (param 1 g.row.H) → IsSync (param 2 g.row.G) → IsSend (param 1 (lts.arg-8-1 g.row.D g.row.H g.row.G g.D.laws g.H.laws g.G.laws g.D.Disk g.D.Disk-dict g.H.Threads g.H.Threads-dict g.H.Wait g.H.Wait-dict g.G.Gate g.G.Gate-dict κs))
 last-send g κs disk threads gate = search (Pass-send, Store-sync, sendable, crosses) depth 20
 
 pub join-last-requires-send-F : goal.join-last-requires-send-F
