@@ -41,7 +41,8 @@ pub(crate) fn over_store<S: Source, K: Sink, D: Disk, H: Threads + Wait + Sync, 
     ensures kept { KeepsPromises (program_call (Some mode) (shown S.Source K.Sink source.old sink.old (disk_of D.Disk disk)) (shown S.Source K.Sink source.new sink.new (disk_of D.Disk result.disk)) result.status result.entries result.start) }
 {
     know_dated(&disk);
-    let engine = match open_store(rt, alloc, mode.workers(), disk) {
+    let workers = mode.workers();
+    let engine = match open_store(rt, alloc, workers, disk) {
         Ok(engine) => engine,
         Err(ended) => return ended,
     };

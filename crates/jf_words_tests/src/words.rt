@@ -1,5 +1,6 @@
 // Lists of words: what they ask for, how their runs end, and that wrong words touch nothing.
 use jf_disk::{Disk, MemDisk, Side};
+use jf_join::Workers;
 use jf_play::play::{
     Faults, NO_FAULTS, Played, disk_of, has_ended, new_disk, play_words, words_of,
 };
@@ -143,10 +144,8 @@ fn is_taken<H: Threads + Wait + Sync>(
 
 // The mode of words that ask for a run with this number of workers, or for no mode.
 fn run_by(workers: Option<u64>) -> Option<Mode> {
-    match workers {
-        Some(workers) => Some(Mode::Run { workers }),
-        None => None,
-    }
+    let workers = Workers::new(workers?)?;
+    Some(Mode::Run { workers })
 }
 
 #[test]
@@ -166,10 +165,8 @@ fn takes_no_empty_list_of_words(rt: HostRuntime) -> Result<(), Fail> {
 
 // The mode of words that ask for several sessions with this number of workers, or for no mode.
 fn serve_by(workers: Option<u64>) -> Option<Mode> {
-    match workers {
-        Some(workers) => Some(Mode::Serve { workers }),
-        None => None,
-    }
+    let workers = Workers::new(workers?)?;
+    Some(Mode::Serve { workers })
 }
 
 #[test]
