@@ -7,14 +7,14 @@ abbrev pub Bounded : {X : Type 0} → Place → Read X → Type 0
 Bounded p (Ok r) = (p.at ≤ r.1.at) × (length r.1.left ≤ length p.left)
 Bounded p (Err at) = p.at ≤ at
 
-same-bounded : {X : Type 0} (x : X) (p : Place) → Bounded p (gives x p)
+pub same-bounded : {X : Type 0} (x : X) (p : Place) → Bounded p (gives x p)
 same-bounded x p = (omega arith, omega arith)
 
 further : {X : Type 0} (p q : Place) (r : Read X) → p.at ≤ q.at → length q.left ≤ length p.left → Bounded q r → Bounded p r
 further p q (Ok r) low less h = let a = h.0 in let b = h.1 in (omega arith, omega arith)
 further p q (Err at) low less h = omega arith
 
-and_then-bounded : {X Y : Type 0} (p : Place) (r : Read X) (f : X → Place → Read Y) → Bounded p r → ((x : X) (q : Place) → Bounded q (f x q)) → Bounded p (and_then r f)
+pub and_then-bounded : {X Y : Type 0} (p : Place) (r : Read X) (f : X → Place → Read Y) → Bounded p r → ((x : X) (q : Place) → Bounded q (f x q)) → Bounded p (and_then r f)
 and_then-bounded p (Ok r) f h more = further p r.1 (f r.0 r.1) h.0 h.1 (more r.0 r.1)
 and_then-bounded p (Err at) f h more = h
 
@@ -26,10 +26,10 @@ line_by-bounded_at : {X : Type 0} (f : List (List ℕ) → Option X) (at : ℕ) 
 line_by-bounded_at f at [] = omega arith
 line_by-bounded_at f at (line ∷ ls) = matched-bounded at line ls (line_read f line)
 
-line_by-bounded : {X : Type 0} (f : List (List ℕ) → Option X) (p : Place) → Bounded p (line_by f p)
+pub line_by-bounded : {X : Type 0} (f : List (List ℕ) → Option X) (p : Place) → Bounded p (line_by f p)
 line_by-bounded f p = line_by-bounded_at f p.at p.left
 
-lines_by-bounded : {X : Type 0} (f : List (List ℕ) → Option X) (n : ℕ) (p : Place) → Bounded p (lines_by f n p)
+pub lines_by-bounded : {X : Type 0} (f : List (List ℕ) → Option X) (n : ℕ) (p : Place) → Bounded p (lines_by f n p)
 unfolding lines_by
 lines_by-bounded f zero p = (omega arith, omega arith)
 lines_by-bounded f (suc n) p =

@@ -107,7 +107,7 @@ fn write_side(sibling: &Hash, out: &mut Bytes) -> Result<(), Memory>
 }
 
 /// Appends a label and bytes in hexadecimal, and ends the line.
-pub(crate) fn write_hex_line(label: &[u8], bytes: &[u8], out: &mut Bytes) -> Result<(), Memory>
+pub fn write_hex_line(label: &[u8], bytes: &[u8], out: &mut Bytes) -> Result<(), Memory>
     ensures ok { OnOk result (out.new ≡ out.old ++ (label.now ++ (encode_lower bytes.now ++ 10 ∷ []))) }
     ensures err { OnErr result (Extends out.old out.new) }
 {
