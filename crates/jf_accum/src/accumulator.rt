@@ -14,7 +14,7 @@ use std::alloc::Global;
 use std::marker::Model;
 
 /// Hashes, in the order in which they were pushed, with one total for all of them. It keeps at most 64 bytes for each,
-/// and the room that its two vectors have taken ahead: the hash, and the totals of the full parts, which are one less. So
+/// and the room that its two vectors have taken ahead: the hash, and the totals of the full parts, which are fewer. So
 /// `total` and the proofs hash about one total for each bit of the number of hashes, and `push` about two on average.
 #[derive(Debug, Drop)]
 pub struct Accumulator {

@@ -1,5 +1,5 @@
 -- What follows of a step from its result.
-use Rattle.std.proofs.Common.{◌≡◌, ◌⊎◌, ◌↔◌, inl, inr, refl, sym, ◌∙◌, ap, ℕ, ◌+◌, ◌-◌, ◌^◌, ◌<◌, ◌≤◌, true, false, true≢false, arith, Result, Ok, Err}
+use Rattle.std.proofs.Common.{◌≡◌, ◌⊎◌, ◌↔◌, inl, inr, refl, sym, ◌∙◌, ℕ, true, false, true≢false, arith, Result, Ok, Err}
 use Rattle.std.specs.Prelude.{OnOk, OnErr}
 use Rattle.jf_files.specs.Steps.{StoreStep, Opens, Lands, Prunes, Compacts, Imports}
 use Rattle.jf_engine.specs.Engines.{Engine}

@@ -34,8 +34,8 @@ HasRoomFor (Imports version es) e = IsNewStore e.versions × (e.generation < 2 ^
 abbrev pub CanStep : StoreStep → Engine → Type 0
 CanStep step e = (e.broken ≡ false) × HasRoomFor step e
 
--- this number may not grow as far as the step would make it, and none that comes before it in this order: version,
--- generation, keys. An import asks first for a new store
+-- this number is the first that is too great for the step, in the order version, generation, keys. An import asks for a
+-- new store first
 abbrev pub IsLast : StoreStep → Which → Engine → Type 0
 IsLast (Lands bs) which.Version e = 2 ^ 64 - 2 < e.versions.head + length bs
 IsLast (Lands bs) which.Keys e = (e.versions.head + length bs ≤ 2 ^ 64 - 2) × (2 ^ 62 < fin.len (newest e.versions))
@@ -63,7 +63,8 @@ IsRefusedFor step e engine_fault.DiskFault = ⊥
 IsRefusedFor step e engine_fault.Memory = CanRunOut step e
 
 -- ---- what a step makes of an engine
--- the most calls on the disk in a step: write and sync of a record and of its gate; and before them those that empty a file
+-- the most calls on the disk in a step: write and sync of a record and of its gate; and before them those that empty a file.
+-- An opening is no step of an engine: none can take it, so its calls aren't counted here
 abbrev pub call_limit : StoreStep → ℕ
 call_limit Opens = 0
 call_limit (Lands bs) = 4

@@ -8,7 +8,7 @@ use Rattle.jf_input.specs.Feeds.{given_of, Took}
 use Rattle.jf_input.proofs.Given.{given_alike}
 use Rattle.jf_receive.specs.Chunks.{chunks, decided}
 use Rattle.jf_receive.specs.Laws.{RefusalsComeAtTheirLine, LongChunkLinesAreAlike}
-use Rattle.jf_receive.specs.Steps.{Restoring, begun_restoring, restoring_after, restoring_after_all, refusal_at_stage, answer_of, out_of_memory}
+use Rattle.jf_receive.specs.Steps.{Restoring, begun_restoring, restoring_after, restoring_after_all, refusal_at_stage, line_result, out_of_memory}
 use Rattle.jf_receive.proofs.Deciding.{restoring_after_all-append}
 use Rattle.jf_receive.specs.declared.fault.BlockFault.{BlockFault}
 use Rattle.jf_receive.specs.declared.fault.BlockFault.TheVariants as fault
@@ -18,12 +18,12 @@ use Rattle.jf_receive.specs.Restored.{DecideFirst}
 use Rattle.jf_receive.specs.TakenLines.{TakesBlockLine}
 
 -- ---- one line
-accepted_stage : (t : Stage) (u : Unit {0}) → Ok u ≡ answer_of t → refusal_at_stage t ≡ None
+accepted_stage : (t : Stage) (u : Unit {0}) → Ok u ≡ line_result t → refusal_at_stage t ≡ None
 accepted_stage stage.Between u e = refl
 accepted_stage (stage.Block b) u e = refl
 accepted_stage (stage.Refused why) u e = absurd (cc)
 
-refused_stage : (t : Stage) (why : BlockFault) → Err why ≡ answer_of t → refusal_at_stage t ≡ Some why
+refused_stage : (t : Stage) (why : BlockFault) → Err why ≡ line_result t → refusal_at_stage t ≡ Some why
 refused_stage stage.Between why e = absurd (cc)
 refused_stage (stage.Block b) why e = absurd (cc)
 refused_stage (stage.Refused w) why e = let same : why ≡ w = cc in ap (λ x. Some x) (sym same)
@@ -32,15 +32,15 @@ refused_stage (stage.Refused w) why e = let same : why ≡ w = cc in ap (λ x. S
 abbrev pub IsStep : Restoring → List ℕ → Restoring → Type 0
 IsStep s line next = (next ≡ restoring_after s line) ⊎ ((refusal_at_stage s.stage ≡ None) × (next ≡ out_of_memory s))
 
-pub line-accepted : (s next : Restoring) (line : List ℕ) (r : Result (Unit {0}) BlockFault) → r ≡ answer_of next.stage → IsStep s line next → OnOk r (TakesBlockLine s line next (Ok []))
+pub line-accepted : (s next : Restoring) (line : List ℕ) (r : Result (Unit {0}) BlockFault) → r ≡ line_result next.stage → IsStep s line next → OnOk r (TakesBlockLine s line next (Ok []))
 line-accepted s next line (Err why) is step = tt
 line-accepted s next line (Ok u) is (inl so) = (so, accepted_stage next.stage u is, refl)
-line-accepted s next line (Ok u) is (inr out) = let stopped : Ok u ≡ Err fault.Memory = is ∙ ap (λ (m : Restoring). answer_of m.stage) out.1 in absurd (cc)
+line-accepted s next line (Ok u) is (inr out) = let stopped : Ok u ≡ Err fault.Memory = is ∙ ap (λ (m : Restoring). line_result m.stage) out.1 in absurd (cc)
 
-pub line-refused : (s next : Restoring) (line : List ℕ) (r : Result (Unit {0}) BlockFault) → r ≡ answer_of next.stage → IsStep s line next → IfErr r (λ why. TakesBlockLine s line next (Err why))
+pub line-refused : (s next : Restoring) (line : List ℕ) (r : Result (Unit {0}) BlockFault) → r ≡ line_result next.stage → IsStep s line next → IfErr r (λ why. TakesBlockLine s line next (Err why))
 line-refused s next line (Ok u) is step = tt
 line-refused s next line (Err why) is (inl so) = inr (so, refused_stage next.stage why is)
-line-refused s next line (Err why) is (inr out) = let stopped : Err why ≡ Err fault.Memory = is ∙ ap (λ (m : Restoring). answer_of m.stage) out.1 in let same : why ≡ fault.Memory = cc in inl same
+line-refused s next line (Err why) is (inr out) = let stopped : Err why ≡ Err fault.Memory = is ∙ ap (λ (m : Restoring). line_result m.stage) out.1 in let same : why ≡ fault.Memory = cc in inl same
 
 -- what is made of what is given of a line is made of the line
 pub takes-whole : (s next : Restoring) (line whole : List ℕ) (r : Result (List ℕ) BlockFault) → LongChunkLinesAreAlike → line ≡ given_of whole → TakesBlockLine s line next r → TakesBlockLine s whole next r

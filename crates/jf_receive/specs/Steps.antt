@@ -122,10 +122,10 @@ refusal_at_stage (stage.Block b) = None
 refusal_at_stage (stage.Refused why) = Some why
 
 -- what a line returns, by how far the blocks are read after it
-abbrev pub answer_of : Stage → Result (Unit {0}) BlockFault
-answer_of stage.Between = Ok tt
-answer_of (stage.Block b) = Ok tt
-answer_of (stage.Refused why) = Err why
+abbrev pub line_result : Stage → Result (Unit {0}) BlockFault
+line_result stage.Between = Ok tt
+line_result (stage.Block b) = Ok tt
+line_result (stage.Refused why) = Err why
 
 -- what the end of the lines returns
 abbrev pub end_by : RestoreValue → ℕ → Stage → Result RestoreValue BlockFault

@@ -1,6 +1,6 @@
 // Chunk blocks that are read line by line, as docs/FORMATS.md gives them.
 ghost use Rattle.std.specs.Prelude.{◌≡◌, ◌⊎◌, None, Ok, OnOk, OnErr};
-ghost use Rattle.jf_receive.specs.Steps.{begun_restoring, restoring_after, answer_of, restored_at_end, out_of_memory, refusal_at_stage};
+ghost use Rattle.jf_receive.specs.Steps.{begun_restoring, restoring_after, line_result, restored_at_end, out_of_memory, refusal_at_stage};
 
 use crate::block_line::read_line;
 use crate::fault::BlockFault;
@@ -50,7 +50,7 @@ impl Blocks {
     /// Reads the next line. Refuses a line that doesn't match, and at its last line a block that isn't accepted. If it
     /// is out of memory, what was added before stays.
     pub fn line(&mut self, line: &[u8]) -> Result<(), BlockFault>
-        ensures answer { result ≡ answer_of self.new.stage }
+        ensures answer { result ≡ line_result self.new.stage }
         ensures after { (self.new ≡ restoring_after self.old line.now) ⊎ ((refusal_at_stage self.old.stage ≡ None) × (self.new ≡ out_of_memory self.old)) }
     {
         if let Stage::Refused(why) = self.stage {
@@ -81,7 +81,7 @@ impl Blocks {
 
     /// Goes on by one line. If it is out of memory, no later line is read.
     fn behind(&mut self, line: &[u8]) -> Result<(), Memory>
-        requires { answer_of self.old.stage ≡ Ok tt }
+        requires { line_result self.old.stage ≡ Ok tt }
         ensures ok { OnOk result (self.new ≡ restoring_after self.old line.now) }
         ensures err { OnErr result (self.new ≡ out_of_memory self.old) }
     {
@@ -97,7 +97,7 @@ impl Blocks {
 
     /// What the last line returns.
     fn answer(&self) -> Result<(), BlockFault>
-        ensures { result ≡ answer_of self.now.stage }
+        ensures { result ≡ line_result self.now.stage }
     {
         match self.stage {
             Stage::Refused(why) => Err(why),

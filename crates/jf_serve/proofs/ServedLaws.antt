@@ -1,18 +1,17 @@
 -- What sessions over a store came to once it was closed.
-use Rattle.std.proofs.Common.{◌≡◌, inl, inr, ℕ, zero, suc, ◌+◌, ◌<◌, ◌≤◌, true, false, Option, Some, None, IfSome, List, [], ◌∷◌, ◌++◌, map, length, refl, sym, ap, ◌∙◌, subst, arith, append_assoc, append-nil, length-append}
+use Rattle.std.proofs.Common.{◌≡◌, inl, inr, ℕ, zero, suc, ◌+◌, ◌<◌, ◌≤◌, true, false, Option, Some, IfSome, List, [], ◌∷◌, ◌++◌, map, length, refl, sym, ap, ◌∙◌, subst, arith, append_assoc, append-nil, length-append}
 use mathlib.Core.Option as maybe
 use Rattle.std.specs.Prelude.{slice_get}
 use Rattle.std.specs.List.{AllByRecursion}
 use Rattle.std.proofs.lemmas.List.{length-map}
 use Rattle.jf_disk.specs.Disk.{History}
-use Rattle.jf_model.specs.States.{State}
 use Rattle.jf_model.specs.Entries.{replay, IsLegal}
 use Rattle.jf_model.specs.declared.entries.Entry.{Entry}
 use Rattle.jf_engine.specs.Engines.{Engine}
 use Rattle.jf_turn.specs.Lists.{HasElement}
 use Rattle.jf_turn.proofs.Lists.{has_cons}
 use Rattle.jf_store.specs.Events.{attempt_of, is_marked}
-use Rattle.jf_store.specs.Ledgers.{MarkIsLast, state_after_events}
+use Rattle.jf_store.specs.Ledgers.{state_after_events}
 use Rattle.jf_store.specs.Passes.{Store, Pass, IsPassOf, new_pass}
 use Rattle.jf_store.specs.Closing.{IsClosed, AreAllPasses, ArePassesOf}
 use Rattle.jf_store.proofs.EventLaws.{attempt_of-front, attempt_of-legal, for_attempt}

@@ -1,5 +1,6 @@
 -- What a pruning by a pass comes to, for `prune`.
 use Rattle.std.proofs.Common.{◌≡◌, inl, inr, ℕ, List, ◌++◌, length, refl, ap, subst}
+use Rattle.jf_path.specs.Limits.{max_pins}
 use Rattle.jf_hash.specs.Maps.{Batch}
 use Rattle.jf_model.specs.declared.entries.Entry.TheVariants as entry
 use Rattle.jf_store.specs.declared.event.Event.{Event}
@@ -23,7 +24,7 @@ use Rattle.jf_session.proofs.Refused.{SeesMore-Sees, Refuses-all}
 use Rattle.jf_session.proofs.RefusedCalls.{Fails}
 use Rattle.jf_session.proofs.ToldFaults.{AreTold-prune}
 
-module _ (store : Store) (p p' : Pass) (pending : Batch) (pins : ArePins (shown_pins store p)) (eight : length p.pinned ≡ 8) (are : AreEvents store.start p'.seen) (upto : ℕ) where
+module _ (store : Store) (p p' : Pass) (pending : Batch) (pins : ArePins (shown_pins store p)) (eight : length p.pinned ≡ max_pins) (are : AreEvents store.start p'.seen) (upto : ℕ) where
   pub Enters-prune : (r : Pruned) → HasPruned store.start upto p p' r → Enters store.start p p' pending pending (command.Change (change.Prune upto)) (reply.Prune r.bound r.floor)
   Enters-prune r h =
       let s = state_after_events store.start h.before in

@@ -1,6 +1,7 @@
 -- The floor of a pruning, by the pins of the session's pass.
 use Rattle.std.proofs.Common.{◌≡◌, ◌⊎◌, ◌∙◌, inl, inr, ℕ, ◌<◌, ◌≤◌, Some, None, List, [], ◌∷◌, ◌++◌, length, sym, ap, subst, arith}
 use Rattle.std.specs.Prelude.{min, max, slice_index_or, option_map}
+use Rattle.jf_path.specs.Limits.{max_pins}
 use Rattle.jf_hash.specs.Maps.{Batch}
 use Rattle.jf_model.specs.States.{State}
 use Rattle.jf_model.specs.Entries.{after, replay}
@@ -44,7 +45,7 @@ IsMet-mark P start xs pass e met = at start.state xs met
     at s (Mark p x ∷ xs) m = at s xs m.1
 
 -- ---- what is pinned
-module _ (store : Store) (p : Pass) (pending : Batch) (are : ArePins (shown_pins store p)) (eight : length p.pinned ≡ 8) where
+module _ (store : Store) (p : Pass) (pending : Batch) (are : ArePins (shown_pins store p)) (eight : length p.pinned ≡ max_pins) where
   HasPinned-confirmed : (version : ℕ) → HasConfirmed p.place version → HasPinned (own_of p pending) version
   HasPinned-confirmed version has = let found = pinned-confirmed (shown_pins store p) are version has in (found.0, pinned_version p.pinned found.0 ∙ found.2)
 

@@ -6,7 +6,6 @@ use Rattle.jf_path.proofs.BoolLaws.{or_false_left, or_false_right}
 use Rattle.jf_text.specs.Words.{words, is_word, is_long, both, name_of, value_of, number}
 use Rattle.jf_script.specs.Commands.{command_of, command_of_words, base_of, id_of, question_of_words, fork_question_of, read_command}
 use Rattle.jf_script.specs.declared.command.Question.{Question}
-use Rattle.jf_script.specs.declared.command.OwnCommand.{OwnCommand}
 use Rattle.jf_script.specs.declared.command.OwnCommand.TheVariants as own_command
 use Rattle.jf_script.specs.declared.command.Command.{Command}
 use Rattle.jf_script.specs.declared.command.Command.TheVariants as command
@@ -15,7 +14,8 @@ use Rattle.jf_script.specs.declared.reply.Reply.TheVariants as reply
 use Rattle.jf_answers.specs.Own.{Own}
 use Rattle.jf_answers.specs.Refusals.{refused_by}
 use Rattle.jf_session.specs.Taking.{is_store_word}
-use Rattle.jf_answers.specs.Answers.{Answer, answer, answer_to, granted, granted_own, replied, too_long}
+use Rattle.jf_answers.specs.Answers.{Answer, answer, answer_to, granted, replied, too_long}
+use Rattle.jf_answers.proofs.AnswerLaws.{granted_own-quiet}
 
 -- the commands that change the store
 abbrev changes_store : Command → Bool
@@ -27,13 +27,8 @@ gives_entry None = false
 gives_entry (Some c) = changes_store c
 
 -- ---- a command that gives none
-own_none : (c : OwnCommand) (s : State) (own : Own) → (granted_own c s own).entry ≡ None
-own_none (own_command.Put name value) s own = refl
-own_none (own_command.Del name) s own = refl
-own_none (own_command.Unpin place) s own = refl
-
 granted_none : (c : Command) (s : State) (own : Own) → changes_store c ≡ false → (granted c s own).entry ≡ None
-granted_none (command.Own c) s own none = own_none c s own
+granted_none (command.Own c) s own none = granted_own-quiet c s own
 granted_none (command.Read on q) s own none = refl
 granted_none (command.ReadFork id q) s own none = refl
 granted_none command.Look s own none = refl

@@ -1,5 +1,5 @@
 -- The recorded roots, one after another.
-use Rattle.std.specs.Prelude.{◌≡◌, ℕ, ◌+◌, ◌-◌, ◌<◌, ◌≤◌, List, [], ◌∷◌, ◌++◌, length, reverse, take}
+use Rattle.std.specs.Prelude.{◌≡◌, ℕ, ◌+◌, ◌-◌, ◌<◌, ◌≤◌, List, [], ◌∷◌, ◌++◌, length, take}
 use Rattle.std.proofs.Common.{arith, sym, ap, ◌∙◌, get_or}
 use Rattle.std.proofs.lemmas.List.{take_more, take_all, get_or-reverse, length-reverse}
 use Rattle.jf_model.specs.Versions.{Versions, IsVersions, root_of}
