@@ -1,0 +1,10 @@
+pub mod ManyBlocks
+pub mod ManyReading
+pub mod ManyLaws
+pub use Rattle.jf_path.specs.Limits
+pub use Rattle.jf_hash.specs.Hashes
+pub use Rattle.jf_io.specs.Lines
+pub use Rattle.jf_text.specs.Words
+pub use Rattle.jf_blocks.specs.Blocks
+pub use Rattle.jf_blocks.specs.Laws
+pub use Rattle.jf_blocks.specs.Reading
