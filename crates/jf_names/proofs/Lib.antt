@@ -1,0 +1,4 @@
+pub mod OrderedEntries
+pub mod NamesLaws
+pub mod BlockLaws
+pub mod NameLineLaws
