@@ -1,8 +1,11 @@
 //! Tests of proofs, of two claims under one root, and of proof texts: how they are written, and what is said of them.
+//! Blocks of many claims are among these texts.
 #![tactic(auto)]
 
 #[cfg(test)]
 mod audits;
+#[cfg(test)]
+mod many_verdicts;
 #[cfg(test)]
 mod proofs;
 #[cfg(test)]

@@ -133,7 +133,7 @@ fn is_answered(alloc: Global, input: &Bytes, wanted: &str) -> Result<(), Fail> {
     same(&out, wanted)
 }
 
-fn are_answered(alloc: Global, parts: &[&str], wanted: &str) -> Result<(), Fail> {
+pub(crate) fn are_answered(alloc: Global, parts: &[&str], wanted: &str) -> Result<(), Fail> {
     let input = joined(alloc, parts)?;
     is_answered(alloc, &input, wanted)
 }

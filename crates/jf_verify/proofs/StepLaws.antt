@@ -23,6 +23,8 @@ long-alike at j (stage.Name o) line other e h = rw (e, h) refl
 long-alike at j (stage.Claim o key) line other e h = rw (e, h) refl
 long-alike at j (stage.Leaf o key claim) line other e h = rw (e, h) refl
 long-alike at j (stage.Sides o block) line other e h = rw (e, h) refl
+long-alike at j (stage.ManyClaims o claims) line other e h = rw (e, h) refl
+long-alike at j (stage.ManyItems o claims items) line other e h = rw (e, h) refl
 
 pub said_to_end-long : LongLinesAreAlike
 unfolding said_to_end

@@ -1,3 +1,4 @@
+pub mod Openings
 pub mod Verdicts
 pub mod Kept
 pub mod Accepted

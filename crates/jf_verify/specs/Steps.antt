@@ -2,12 +2,20 @@
 use Rattle.std.specs.Prelude.{ℕ, List, ◌≡◌, ◌+◌, ◌++◌, [], Option, Some, None, ◌==◌, if◌then◌else◌, ◌∷◌, ◌-◌, Result, Ok, Err}
 use Rattle.jf_hash.specs.Hashes.{K}
 use Rattle.jf_collide.specs.declared.judged.Judged.{Judged}
-use Rattle.jf_blocks.specs.declared.first.FirstLine.{FirstLine}
-use Rattle.jf_blocks.specs.Reading.{line_read, first_line_of, named_of, claim_of, leaf_line_of, side_of}
+use Rattle.jf_multi.specs.Verdicts.{ClaimList, many_refusal}
+use Rattle.jf_multi.specs.declared.item.Item.{Item}
+use Rattle.jf_text.specs.Words.{Extends}
+use Rattle.jf_blocks.specs.Reading.{line_read, named_of, claim_of, leaf_line_of, side_of}
 use Rattle.jf_blocks.specs.Sides.{with_kept}
-use Rattle.jf_blocks.specs.declared.first.FirstLine.TheVariants as first
+use Rattle.jf_many_blocks.specs.ManyBlocks.{NamedClaim}
+use Rattle.jf_many_blocks.specs.ManyReading.{named_claim_of, item_of}
+use Rattle.jf_many_blocks.specs.declared.head.ManyHead.{ManyHead}
+use Rattle.jf_verify.specs.Openings.{opening_of}
+use Rattle.jf_verify.specs.declared.opening.Opening.{Opening}
+use Rattle.jf_verify.specs.declared.opening.Opening.TheVariants as opening
+use Rattle.jf_verify.specs.declared.many_stage.ManyHeading.{ManyHeading}
 use Rattle.jf_verify.specs.declared.stage.Stage.{Stage}
-use Rattle.jf_verify.specs.Verdicts.{syntax_text}
+use Rattle.jf_verify.specs.Verdicts.{syntax_text, many_verdict_text}
 use Rattle.jf_verify.specs.Kept.{Kept, nothing_kept, judged_by}
 use Rattle.jf_verify.specs.declared.stage.Heading.{Heading}
 use Rattle.jf_verify.specs.declared.stage.Stage.TheVariants as stage
@@ -37,9 +45,10 @@ pub record StreamStep : Type 0 where
   pub known : Knowledge
   pub stage : Stage
 
--- a step was made: its text is appended, and what is known and how far a block is read are as it says
-abbrev pub IsMade : StreamStep → List ℕ → List ℕ → Knowledge → Stage → Type 0
-IsMade step before written known next = (written ≡ before ++ step.text) × (known ≡ step.known) × (next ≡ step.stage)
+-- a step was made: its text is appended, and what is known and how far a block is read are as it says. Or memory ran out, and a part of the text may have been appended
+abbrev pub IsMade : {E : Type 0} → StreamStep → Result Stage E → List ℕ → List ℕ → Knowledge → Type 0
+IsMade step (Ok next) before written known = (written ≡ before ++ step.text) × (known ≡ step.known) × (next ≡ step.stage)
+IsMade step (Err why) before written known = Extends before written
 
 -- ---- lines that add nothing to what is known
 -- the text that answers a line, and how far a block is read after it
@@ -47,9 +56,10 @@ pub record Turn : Type 0 where
   pub text : List ℕ
   pub stage : Stage
 
--- a turn was taken: its text is appended, and the block is read as far as it says
-abbrev pub IsTaken : Turn → List ℕ → List ℕ → Stage → Type 0
-IsTaken turn before written next = (written ≡ before ++ turn.text) × (next ≡ turn.stage)
+-- a turn was taken: its text is appended, and the block is read as far as it says. Or memory ran out, and a part of the text may have been appended
+abbrev pub IsTaken : {E : Type 0} → Turn → Result Stage E → List ℕ → List ℕ → Type 0
+IsTaken turn (Ok next) before written = (written ≡ before ++ turn.text) × (next ≡ turn.stage)
+IsTaken turn (Err why) before written = Extends before written
 
 -- a turn as a step that adds nothing to what is known
 abbrev pub keeps : Knowledge → Turn → StreamStep
@@ -78,12 +88,48 @@ abbrev pub claim_turn : ℕ → Heading → List ℕ → Option (Option (List �
 claim_turn at heading key None = no_match at
 claim_turn at heading key (Some claim) = silent (stage.Leaf heading key claim)
 
+-- ---- lines of a block of many claims
+-- a whole block is judged
+abbrev pub many_whole : List ℕ → ClaimList → List Item → Turn
+many_whole root claims items = record { text = many_verdict_text (many_refusal root claims items); stage = stage.Between }
+
+-- after items, the block is whole if no item is missing
+abbrev pub items_turn : ManyHeading → ClaimList → List Item → Turn
+items_turn heading claims items = if heading.items == 0 then many_whole heading.root claims items else silent (stage.ManyItems heading claims items)
+
+-- after claims, items come if no claim is missing
+abbrev pub claims_turn : ManyHeading → ClaimList → Turn
+claims_turn heading claims = if heading.claims == 0 then items_turn heading claims [] else silent (stage.ManyClaims heading claims)
+
+-- a block begins if a root was set; if not, its first line doesn't match
+abbrev pub many_begins : ℕ → ManyHead → Option (List ℕ) → Turn
+many_begins at head None = no_match at
+many_begins at head (Some root) = claims_turn (record { root = root; claims = head.claims; items = head.items }) []
+
+-- one claim less to come, and one item less
+abbrev pub one_claim_less : ManyHeading → ManyHeading
+one_claim_less heading = record { root = heading.root; claims = heading.claims - 1; items = heading.items }
+
+abbrev pub one_item_less : ManyHeading → ManyHeading
+one_item_less heading = record { root = heading.root; claims = heading.claims; items = heading.items - 1 }
+
+-- the line of a claim
+abbrev pub many_claim_turn : ℕ → ManyHeading → ClaimList → Option NamedClaim → Turn
+many_claim_turn at heading claims None = no_match at
+many_claim_turn at heading claims (Some c) = claims_turn (one_claim_less heading) (claims ++ (K c.0, c.1) ∷ [])
+
+-- the line of an item
+abbrev pub many_item_turn : ℕ → ManyHeading → ClaimList → List Item → Option Item → Turn
+many_item_turn at heading claims items None = no_match at
+many_item_turn at heading claims items (Some i) = items_turn (one_item_less heading) claims (items ++ i ∷ [])
+
 -- ---- other lines
 -- a line between blocks
-abbrev pub first_step : ℕ → Knowledge → Option FirstLine → StreamStep
+abbrev pub first_step : ℕ → Knowledge → Option Opening → StreamStep
 first_step at j None = keeps j (no_match at)
-first_step at j (Some (first.Root root)) = record { text = []; known = record { root = Some root; kept = j.kept }; stage = stage.Between }
-first_step at j (Some (first.Proof n)) = keeps j (begins at n j.root)
+first_step at j (Some (opening.Root root)) = record { text = []; known = record { root = Some root; kept = j.kept }; stage = stage.Between }
+first_step at j (Some (opening.Proof n)) = keeps j (begins at n j.root)
+first_step at j (Some (opening.Many head)) = keeps j (many_begins at head j.root)
 
 -- a whole block is judged
 abbrev pub whole : Knowledge → List ℕ → Judged → StreamStep
@@ -113,11 +159,13 @@ side_step at j heading block (Some h) = sided j (one_less heading) (with_side bl
 
 -- what a line makes, by how far a block is read
 unfoldable pub line_step : ℕ → Knowledge → Stage → List ℕ → StreamStep
-line_step at j stage.Between line = first_step at j (line_read first_line_of line)
+line_step at j stage.Between line = first_step at j (line_read opening_of line)
 line_step at j (stage.Name heading) line = keeps j (name_turn at heading (line_read named_of line))
 line_step at j (stage.Claim heading key) line = keeps j (claim_turn at heading key (line_read claim_of line))
 line_step at j (stage.Leaf heading key claim) line = leaf_step at j heading key claim (line_read leaf_line_of line)
 line_step at j (stage.Sides heading block) line = side_step at j heading block (line_read side_of line)
+line_step at j (stage.ManyClaims heading claims) line = keeps j (many_claim_turn at heading claims (line_read named_claim_of line))
+line_step at j (stage.ManyItems heading claims items) line = keeps j (many_item_turn at heading claims items (line_read item_of line))
 
 -- the text that answers one line
 abbrev pub said : StreamState → List ℕ → List ℕ
@@ -134,6 +182,8 @@ end_text at (stage.Name heading) = syntax_text at
 end_text at (stage.Claim heading key) = syntax_text at
 end_text at (stage.Leaf heading key claim) = syntax_text at
 end_text at (stage.Sides heading block) = syntax_text at
+end_text at (stage.ManyClaims heading claims) = syntax_text at
+end_text at (stage.ManyItems heading claims items) = syntax_text at
 
 -- the text that answers the lines still to come
 unfoldable pub said_to_end : StreamState → List (List ℕ) → List ℕ

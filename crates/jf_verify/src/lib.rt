@@ -1,5 +1,5 @@
-//! Proof texts are judged with nothing but the roots that stand in them. Roots and proof blocks come as lines, and each
-//! block gets a verdict. `specs/` defines the verdicts twice: on a whole input, and line by line.
+//! Proof texts are judged with nothing but the roots that stand in them. Roots, blocks of one claim and blocks of many
+//! claims come as lines, and each block gets a verdict. `specs/` defines the verdicts twice: on a whole input, and line by line.
 #![tactic(auto)]
 
 mod accepted;
@@ -9,6 +9,10 @@ mod judging;
 mod kept;
 mod known;
 mod laws;
+mod many_reading;
+mod many_stage;
+mod no_match;
+mod opening;
 mod reading;
 mod stage;
 mod stream;

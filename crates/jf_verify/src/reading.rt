@@ -1,13 +1,14 @@
 // What one line more makes of a judge, by how far the present block is read.
-ghost use Rattle.std.specs.Prelude.{IfOk, OnErr};
-ghost use Rattle.jf_text.specs.Words.{Extends};
-ghost use Rattle.jf_blocks.specs.Reading.{line_read, first_line_of, named_of, claim_of};
-ghost use Rattle.jf_verify.specs.Steps.{IsMade, IsTaken, no_match, begins, first_step, name_turn, claim_turn, sided, with_side, one_less, line_step};
+ghost use Rattle.jf_blocks.specs.Reading.{line_read, named_of, claim_of};
+ghost use Rattle.jf_verify.specs.Openings.{opening_of};
+ghost use Rattle.jf_verify.specs.Steps.{IsMade, IsTaken, begins, first_step, name_turn, claim_turn, sided, with_side, one_less, line_step};
 
-use crate::answers::write_syntax;
 use crate::known::Known;
+use crate::many_reading::{begin_many, many_claim, many_item};
+use crate::no_match::no_match;
+use crate::opening::{Opening, opening_line};
 use crate::stage::{Heading, Stage};
-use jf_blocks::{FirstLine, claim_line, first_line, keep_side, leaf_line, name_line, side_line};
+use jf_blocks::{claim_line, keep_side, leaf_line, name_line, side_line};
 use jf_collide::Judged;
 use jf_hash::{Hash, key_of};
 use jf_path::{Bytes, HashList, Key, Memory};
@@ -25,11 +26,10 @@ pub(crate) fn read_line(
     line: &[u8],
     out: &mut Bytes,
 ) -> Result<Stage, Memory>
-    ensures ok { IfOk result (λ next. IsMade (line_step at known.old stage line.now) out.old out.new known.new next) }
-    ensures err { OnErr result (Extends out.old out.new) }
+    ensures { IsMade (line_step at known.old stage line.now) result out.old out.new known.new }
 {
     match stage {
-        Stage::Between => between(known, at, line, out),
+        Stage::Between => between(alloc, known, at, line, out),
         Stage::Name(heading) => name(alloc, at, heading, line, out),
         Stage::Claim(heading, key) => claim(alloc, at, heading, key, line, out),
         Stage::Leaf(heading, key, claim) => match leaf_line(line) {
@@ -38,50 +38,50 @@ pub(crate) fn read_line(
                 let proof = Proof { leaf, siblings };
                 go_on(alloc, known, heading, Judged { key, claim, proof }, out)
             }
-            None => wrong(at, out),
+            None => no_match(at, out),
         },
         Stage::Sides(heading, judged) => match side_line(line) {
             Some(sibling) => side(alloc, known, heading, judged, sibling, out),
-            None => wrong(at, out),
+            None => no_match(at, out),
         },
+        Stage::ManyClaims(heading, claims) => many_claim(alloc, at, heading, claims, line, out),
+        Stage::ManyItems(heading, claims, items) => {
+            many_item(alloc, at, heading, claims, items, line, out)
+        }
     }
 }
 
-/// A line that doesn't match: it is named, and reading goes on between blocks.
-fn wrong(at: u64, out: &mut Bytes) -> Result<Stage, Memory>
-    ensures ok { IfOk result (λ next. IsTaken (no_match at) out.old out.new next) }
-    ensures err { OnErr result (Extends out.old out.new) }
-{
-    write_syntax(at, out)?;
-    Ok(Stage::Between)
-}
-
 /// A line between blocks.
-fn between(known: &mut Known, at: u64, line: &[u8], out: &mut Bytes) -> Result<Stage, Memory>
-    ensures ok { IfOk result (λ next. IsMade (first_step at known.old (line_read first_line_of line.now)) out.old out.new known.new next) }
-    ensures err { OnErr result (Extends out.old out.new) }
+fn between(
+    alloc: Global,
+    known: &mut Known,
+    at: u64,
+    line: &[u8],
+    out: &mut Bytes,
+) -> Result<Stage, Memory>
+    ensures { IsMade (first_step at known.old (line_read opening_of line.now)) result out.old out.new known.new }
 {
-    match first_line(line) {
-        Some(FirstLine::Root(root)) => {
+    match opening_line(line) {
+        Some(Opening::Root(root)) => {
             known.set_root(root);
             Ok(Stage::Between)
         }
-        Some(FirstLine::Proof(siblings)) => begin(known, at, siblings, out),
-        None => wrong(at, out),
+        Some(Opening::Proof(siblings)) => begin(known, at, siblings, out),
+        Some(Opening::Many(head)) => begin_many(alloc, at, head, known.root(), out),
+        None => no_match(at, out),
     }
 }
 
 /// The first line of a block.
 fn begin(known: &Known, at: u64, siblings: u64, out: &mut Bytes) -> Result<Stage, Memory>
-    ensures ok { IfOk result (λ next. IsTaken (begins at siblings known.now.root) out.old out.new next) }
-    ensures err { OnErr result (Extends out.old out.new) }
+    ensures { IsTaken (begins at siblings known.now.root) result out.old out.new }
 {
     match known.root() {
         Some(root) => Ok(Stage::Name(Heading {
             root,
             missing: siblings,
         })),
-        None => wrong(at, out),
+        None => no_match(at, out),
     }
 }
 
@@ -93,12 +93,11 @@ fn name(
     line: &[u8],
     out: &mut Bytes,
 ) -> Result<Stage, Memory>
-    ensures ok { IfOk result (λ next. IsTaken (name_turn at heading (line_read named_of line.now)) out.old out.new next) }
-    ensures err { OnErr result (Extends out.old out.new) }
+    ensures { IsTaken (name_turn at heading (line_read named_of line.now)) result out.old out.new }
 {
     match name_line(alloc, line)? {
         Some(name) => Ok(Stage::Claim(heading, key_of(name.as_slice()))),
-        None => wrong(at, out),
+        None => no_match(at, out),
     }
 }
 
@@ -111,12 +110,11 @@ fn claim(
     line: &[u8],
     out: &mut Bytes,
 ) -> Result<Stage, Memory>
-    ensures ok { IfOk result (λ next. IsTaken (claim_turn at heading key (line_read claim_of line.now)) out.old out.new next) }
-    ensures err { OnErr result (Extends out.old out.new) }
+    ensures { IsTaken (claim_turn at heading key (line_read claim_of line.now)) result out.old out.new }
 {
     match claim_line(alloc, line)? {
         Some(claim) => Ok(Stage::Leaf(heading, key, claim)),
-        None => wrong(at, out),
+        None => no_match(at, out),
     }
 }
 
@@ -129,8 +127,7 @@ fn side(
     sibling: Hash,
     out: &mut Bytes,
 ) -> Result<Stage, Memory>
-    ensures ok { IfOk result (λ next. IsMade (sided known.old (one_less heading) (with_side judged sibling)) out.old out.new known.new next) }
-    ensures err { OnErr result (Extends out.old out.new) }
+    ensures { IsMade (sided known.old (one_less heading) (with_side judged sibling)) result out.old out.new known.new }
 {
     let mut judged = judged;
     keep_side(&mut judged.proof.siblings, sibling)?;
@@ -147,8 +144,7 @@ fn go_on(
     judged: Judged,
     out: &mut Bytes,
 ) -> Result<Stage, Memory>
-    ensures ok { IfOk result (λ next. IsMade (sided known.old heading judged) out.old out.new known.new next) }
-    ensures err { OnErr result (Extends out.old out.new) }
+    ensures { IsMade (sided known.old heading judged) result out.old out.new known.new }
 {
     if heading.missing > 0 {
         return Ok(Stage::Sides(heading, judged));

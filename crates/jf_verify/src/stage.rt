@@ -1,6 +1,8 @@
 // A block comes line by line. Between two lines a judge keeps what it has read of the block.
+use crate::many_stage::ManyHeading;
 use jf_collide::Judged;
 use jf_hash::Hash;
+use jf_multi::{Claims, ItemList};
 use jf_path::{Bytes, Key};
 
 /// What is known of a block since its first line.
@@ -25,4 +27,8 @@ pub enum Stage {
     Leaf(Heading, Key, Option<Bytes>),
     /// A sibling comes next.
     Sides(Heading, Judged),
+    /// A claim comes next, of many.
+    ManyClaims(ManyHeading, Claims),
+    /// An item comes next, of a proof of many keys.
+    ManyItems(ManyHeading, Claims, ItemList),
 }
