@@ -23,7 +23,7 @@ check_number range_fault.Count = 3
 check_number range_fault.Lone = 4
 check_number range_fault.WrongRoot = 5
 
--- the words that say why a restore was refused
+-- the words that say why a restore was refused, or an input of names
 abbrev pub refusal_text : RestoreFault → List ℕ
 refusal_text (restore_fault.NotEmpty head) = codes "not-empty " ++ decimal head
 refusal_text (restore_fault.Line line) = codes "line " ++ decimal line

@@ -43,7 +43,7 @@ impl fmt::Display for StatusLine {
     }
 }
 
-// The words that say why a restore was refused (docs/FORMATS.md, "Restoring a version").
+// The words that say why a restore, or an input of names, was refused (docs/FORMATS.md, "Restoring a version").
 #[derive(Clone, Copy, Drop)]
 struct RefusalWords(RestoreFault);
 

@@ -1,26 +1,24 @@
 -- What a call promises that opened the store and was to write the total of the recorded roots.
 use Rattle.std.specs.Prelude.{IfSome}
-use Rattle.std.proofs.Common.{◌≡◌, ◌⊎◌, ◌∙◌, refl, sym, subst, ℕ, ◌≤◌, [], Option, Some, None, Ok, Err, Result, inl, inr, le_refl}
+use Rattle.std.proofs.Common.{◌≡◌, ◌⊎◌, ◌∙◌, refl, sym, subst, ℕ, ◌≤◌, Option, Some, Ok, Err, Result, inl, inr, le_refl}
 use Rattle.jf_path.specs.Faults.{HasCause}
 use Rattle.jf_model.specs.States.{State}
-use Rattle.jf_disk.specs.Disk.{History}
 use Rattle.jf_disk.specs.declared.side.Side.{Side}
-use Rattle.jf_files.specs.Laws.{FilesStandForOne, DamageIsNoVersions}
+use Rattle.jf_files.specs.Laws.{DamageIsNoVersions}
 use Rattle.jf_totals.specs.Written.{WritesHistory}
 use Rattle.jf_totals.specs.declared.fault.HistoryFault.{HistoryFault}
 use Rattle.jf_totals.specs.declared.fault.HistoryFault.TheVariants as fault
 use Rattle.jf_words.specs.declared.modes.Mode.TheVariants as mode
 use Rattle.jf_run.specs.Statuses.{status_of_history}
 use Rattle.jf_run.specs.Calls.{ProgramCall}
-use Rattle.jf_run.specs.Runs.{IsBegun, KeepsEntries}
-use Rattle.jf_run.specs.Restoring.{StaysHeld}
+use Rattle.jf_run.specs.ReadOnly.{IsReadOnlyCall}
 use Rattle.jf_run.specs.Histories.{IsHistoryCall}
 use Rattle.jf_run.specs.Outcomes.{IsDoneOrMemory}
 use Rattle.jf_run.specs.Promises.{HasCauses, KeepsPromises}
 use Rattle.jf_run.specs.declared.status.Status.{Status}
 use Rattle.jf_run.specs.declared.status.Status.TheVariants as status
 use Rattle.jf_run.proofs.Complete.{steady_ends}
-use Rattle.jf_run.proofs.Opened.{kept_goes, opened_keeps, opened_stands}
+use Rattle.jf_run.proofs.ReadOnly.{read_only_keeps}
 
 abbrev How : Type 0
 How = Result (Unit {0}) HistoryFault
@@ -63,32 +61,21 @@ ended_well s (Err (fault.Outside least head)) is w = inr (least, head, is)
 ended_well s (Err fault.WriteFault) is w = absurd (w is)
 ended_well s (Err fault.Memory) is w = inl (inr is)
 
--- ---- the files
--- after an opening that no call on the disk follows they stand for the versions from before it
-held : (c : ProgramCall) (head : ℕ) (s : State) → IsBegun s c.before.disk c.after.disk head → StaysHeld c.before.disk.history c.after.disk.history s.all s.generation
-held c head s begun = record {
-  settled = begun.opening.settled;
-  stops = λ h told. let opening = begun.opening.disk h told in (opening.0, opening.1, λ calm. opening.2.stops s.all calm (begun.opening.found h told).0);
-}
-
 -- ---- the call
-pub history_keeps : (c : ProgramCall) (version head : ℕ) (s : State) (how : How) → IsBegun s c.before.disk c.after.disk head → KeepsEntries s c.after.disk c.after.disk c.entries None → FilesStandForOne → DamageIsNoVersions
-    → c.asks ≡ Some (mode.History version) → c.start ≡ Some head → c.status ≡ status_of_history how → c.entries ≡ [] → WritesHistory how s.all version c.before.text c.after.text
+pub history_keeps : (c : ProgramCall) (version head : ℕ) (s : State) (how : How) → IsReadOnlyCall c s head → DamageIsNoVersions
+    → c.asks ≡ Some (mode.History version) → c.start ≡ Some head → c.status ≡ status_of_history how → WritesHistory how s.all version c.before.text c.after.text
     → c.after.rest ≡ c.before.rest → c.after.source_faults ≡ c.before.source_faults → (how ≡ Err fault.WriteFault → HasCause c.before.sink_faults c.after.sink_faults) → c.before.sink_faults ≤ c.after.sink_faults → KeepsPromises c
-history_keeps c version head s how begun kept one none_stand asks start is none written rest faults write sink =
+history_keeps c version head s how only none_stand asks start is written rest faults write sink =
     let causes : HasCauses c = record { read = λ r. absurd (no_read how (sym is ∙ r)); write = λ w. write (write_told how (sym is ∙ w)); disk = λ d. absurd (no_disk how (sym is ∙ d)) } in
-    opened_keeps c head s c.after.disk begun (kept_goes s c.after.disk c.after.disk c.entries None kept) none_stand (mode.History version) asks refl (λ other. none) start
+    read_only_keeps c head s only none_stand (mode.History version) asks refl start
     (record { usage = λ u. no_usage how (sym is ∙ u); damage = λ side at d. no_damage how side at (sym is ∙ d); causes = causes })
     (subst (λ (o : Option ℕ). IfSome o (IsHistoryCall c version)) (sym start) (record {
       state = s;
-      begun = begun;
-      files = held c head s begun;
-      entries = none;
+      read_only = only;
       how = how;
       status_is = is;
       written = written;
       unread = (rest, faults);
-      stands = opened_stands c head s c.after.disk None begun kept one refl;
       complete = steady_ends c _ causes (λ r w d. ended_well c.status how is w);
     }))
     (subst (λ k. c.before.source_faults ≤ k) (sym faults) (le_refl c.before.source_faults)) sink

@@ -1,30 +1,30 @@
 // The modes that are done over an open store: one row each.
-ghost use Rattle.std.specs.Prelude.{◌≡◌, ◌⊎◌, ℕ, IsTrue, false};
+ghost use Rattle.std.specs.Prelude.{◌≡◌, IsTrue, false};
 ghost use Rattle.jf_model.specs.States.{opened};
 ghost use Rattle.jf_words.specs.Modes.{KeepsLimits};
-ghost use Rattle.jf_words.specs.Shapes.{ByImport, NoInput, ToItsEnd, shape_of};
+ghost use Rattle.jf_words.specs.Shapes.{NoChange, shape_of};
 ghost use Rattle.jf_run.specs.Bodies.{CompletesCall};
 ghost use Rattle.jf_run.specs.Calls.{disk_of, engine_disk, shown};
+ghost use Rattle.jf_run.specs.Untouched.{LeavesUntouched};
 
 use crate::history_over::history_over;
+use crate::many_over::many_over;
 use crate::over::Over;
 use crate::restore_over::restore_over;
 use crate::script::{Script, script_over};
 use crate::serve_over::serve_over;
-use crate::status::Status;
 use jf_disk::Disk;
 use jf_engine::Engine;
 use jf_files::{damage_is_no_versions, files_stand_for_one};
 use jf_generate::Generator;
 use jf_io::{Sink, Source};
 use jf_join::Gate;
-use jf_receive::RestoreFault;
 use jf_words::Mode;
 use std::alloc::Global;
 use std::sync::Wait;
 use std::thread::Threads;
 
-/// Does what a mode asks for over an open store.
+/// Does what a mode asks for over an open store. In a mode that changes nothing no call is made on the disk.
 pub(crate) fn do_mode<S: Source, K: Sink, D: Disk, H: Threads + Wait + Sync, G: Gate>(
     rt: &H,
     alloc: Global,
@@ -37,9 +37,8 @@ pub(crate) fn do_mode<S: Source, K: Sink, D: Disk, H: Threads + Wait + Sync, G: 
     requires opens { IsTrue (shape_of mode).opens }
     requires limits { KeepsLimits mode }
     requires whole { engine.broken ≡ false }
-    ensures unread { (shape_of mode).reading ≡ NoInput → source.new ≡ source.old }
-    ensures unserved { (shape_of mode).reading ≡ ToItsEnd → (result.status ≡ Status.InputFull) ⊎ (result.status ≡ Status.ReadFault) → sink.new ≡ sink.old }
-    ensures occupied { (shape_of mode).changes ≡ ByImport → (head : ℕ) → result.status ≡ Status.Refused (RestoreFault.NotEmpty head) → (source.new ≡ source.old) × (sink.new ≡ sink.old) }
+    ensures untouched { LeavesUntouched (shape_of mode) result.status source.old source.new sink.old sink.new }
+    ensures resting { (shape_of mode).changes ≡ NoChange → disk_of D.Disk result.disk ≡ engine_disk engine }
     ensures kept { CompletesCall mode (opened engine.versions engine.generation) (shown S.Source K.Sink source.old sink.old (engine_disk engine)) (shown S.Source K.Sink source.new sink.new (disk_of D.Disk result.disk)) result.status result.entries }
 {
     damage_is_no_versions();
@@ -75,5 +74,6 @@ pub(crate) fn do_mode<S: Source, K: Sink, D: Disk, H: Threads + Wait + Sync, G: 
             workers: _,
         } => restore_over(alloc, engine, version, root, source, sink),
         Mode::History { version } => history_over(alloc, engine, version, sink),
+        Mode::Many { version } => many_over(alloc, engine, version, source, sink),
     }
 }

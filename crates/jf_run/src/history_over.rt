@@ -24,6 +24,7 @@ pub(crate) fn history_over<K: Sink, D: Disk>(
     sink: &mut K,
 ) -> Over<D>
     requires whole { engine.broken ≡ false }
+    ensures resting { disk_of D.Disk result.disk ≡ engine_disk engine }
     ensures kept { (rest : Option (List ℕ)) (source_faults : ℕ) → CompletesCall (mode.History version) (opened engine.versions engine.generation) (devices (engine_disk engine) rest source_faults (K.text sink.old) (K.faults sink.old)) (devices (disk_of D.Disk result.disk) rest source_faults (K.text sink.new) (K.faults sink.new)) result.status result.entries }
 {
     engine.know();

@@ -5,6 +5,7 @@
 mod do_mode;
 mod history_over;
 mod judging;
+mod many_over;
 mod over;
 mod over_store;
 mod restore_over;

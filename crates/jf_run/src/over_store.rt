@@ -1,11 +1,12 @@
 // The frame of the modes that need the store: it is opened, the mode is done over it, and its end is the end of the call.
-ghost use Rattle.std.specs.Prelude.{◌≡◌, ◌⊎◌, ℕ, Some, None, IfNone, IfOk, IfErr, IsTrue, false};
+ghost use Rattle.std.specs.Prelude.{◌≡◌, Some, None, IfNone, IfOk, IfErr, IsTrue, false};
 ghost use Rattle.jf_model.specs.States.{opened};
 ghost use Rattle.jf_words.specs.Modes.{KeepsLimits};
-ghost use Rattle.jf_words.specs.Shapes.{ByImport, NoInput, ToItsEnd, shape_of};
+ghost use Rattle.jf_words.specs.Shapes.{shape_of};
 ghost use Rattle.jf_run.specs.Calls.{Devices, disk_of, engine_disk, program_call, shown, with_disk};
 ghost use Rattle.jf_run.specs.Runs.{IsBegun};
 ghost use Rattle.jf_run.specs.Promises.{KeepsPromises};
+ghost use Rattle.jf_run.specs.Untouched.{LeavesUntouched};
 
 use crate::do_mode::do_mode;
 use crate::over::Over;
@@ -15,7 +16,6 @@ use jf_engine::{Engine, OpenRefused};
 use jf_files::{damage_is_no_versions, files_stand_for_sound};
 use jf_io::{Sink, Source};
 use jf_join::{Gate, Workers};
-use jf_receive::RestoreFault;
 use jf_words::Mode;
 use std::alloc::Global;
 use std::sync::Wait;
@@ -34,10 +34,8 @@ pub(crate) fn over_store<S: Source, K: Sink, D: Disk, H: Threads + Wait + Sync, 
 ) -> Ended<D>
     requires opens { IsTrue (shape_of mode).opens }
     requires limits { KeepsLimits mode }
-    ensures unread { (shape_of mode).reading ≡ NoInput → source.new ≡ source.old }
+    ensures untouched { LeavesUntouched (shape_of mode) result.status source.old source.new sink.old sink.new }
     ensures silent { IfNone result.start ((source.new ≡ source.old) × (sink.new ≡ sink.old)) }
-    ensures unserved { (shape_of mode).reading ≡ ToItsEnd → (result.status ≡ Status.InputFull) ⊎ (result.status ≡ Status.ReadFault) → sink.new ≡ sink.old }
-    ensures occupied { (shape_of mode).changes ≡ ByImport → (head : ℕ) → result.status ≡ Status.Refused (RestoreFault.NotEmpty head) → (source.new ≡ source.old) × (sink.new ≡ sink.old) }
     ensures kept { KeepsPromises (program_call (Some mode) (shown S.Source K.Sink source.old sink.old (disk_of D.Disk disk)) (shown S.Source K.Sink source.new sink.new (disk_of D.Disk result.disk)) result.status result.entries result.start) }
 {
     know_dated(&disk);

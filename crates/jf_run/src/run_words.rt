@@ -1,9 +1,10 @@
 // The top call of the program: the words of a command line say what is done with source, sink and disk.
-ghost use Rattle.std.specs.Prelude.{◌≡◌, ◌⊎◌, ℕ, IfNone, IsFalse};
+ghost use Rattle.std.specs.Prelude.{◌≡◌, ℕ, IfNone, IsTrue, IsFalse};
 ghost use Rattle.jf_words.specs.Modes.{asked};
 ghost use Rattle.jf_words.specs.Shapes.{ByImport, IsIdleWithoutStore, NoInput, ToItsEnd, asked_shape};
 ghost use Rattle.jf_run.specs.Calls.{disk_of, program_call, shown};
 ghost use Rattle.jf_run.specs.Promises.{KeepsPromises};
+ghost use Rattle.jf_run.specs.Statuses.{is_input_fault};
 
 use crate::judging::judge_input;
 use crate::over_store::over_store;
@@ -34,9 +35,15 @@ use std::thread::Threads;
 ///   changed only once all was judged; refused input leaves it as it was.
 /// - `history VERSION` opens the store, and writes the total of the recorded roots, with the proofs that the version's root
 ///   is among them and that they begin with those up to it. It reads no input.
+/// - `many VERSION` opens the store, reads a name on each line of the source, at most 10,000, and writes what the version
+///   says of them all, with one proof of it, as a block that `verify` judges. Nothing is written before the source was read
+///   to its end.
 /// - `verify` judges the proof blocks of the source, and writes the verdicts into the sink. No call is made on the
 ///   disk.
 /// - For other words the call returns `Usage`, or `Memory` if memory runs out. No device is touched.
+///
+/// A mode that reads its input to its end, as `serve` and `many` do, makes no call on the sink if it ends with `ReadFault`,
+/// `InputFull` or `Refused` (clause `unwritten`), and none on source and sink if it ends with `Outside` (clause `outside`).
 ///
 /// The disk is handed back in every case. The clause `kept` is one record with all promises of a call
 /// (docs/PROMISES.md, "The top call"):
@@ -52,9 +59,12 @@ use std::thread::Threads;
 /// - If a version was to be restored (`IsRestoredCall`), there are no entries, and after a crash at any moment the files
 ///   stand for what they stood for or for the restored version alone: after `Done` and `WriteFault` for the restored
 ///   version, and after every other end but `DiskFault` for what they stood for.
-/// - If the total of the recorded roots was to be written (`IsHistoryCall`), there are no entries, no call is made on the
-///   disk after the opening, and the text is that of the versions and the number; `Outside` comes exactly if the version's
+/// - If the total of the recorded roots was to be written (`IsHistoryCall`), there are no entries, the disk shows what the
+///   opening left, and the text is that of the versions and the number; `Outside` comes exactly if the version's
 ///   root isn't recorded.
+/// - If the names of an input were to be looked up (`IsManyCall`), there are no entries, the disk shows what the opening
+///   left, and the text is that of the versions, the number and the input. `Outside` comes exactly if the version
+///   isn't from the floor to the head; after it, a line that is no name or is the 10,001st is refused by its number.
 /// - If no store was opened (`IsClosedCall`), there are no entries and the files are unchanged. One exception: a call
 ///   that ends with `DiskFault` may have begun files without a record, which still stand for a new store.
 /// - In the mode `verify` (`IsJudgedCall`), the verdicts were written, as far as the status says.
@@ -70,8 +80,9 @@ pub fn run_words<S: Source, K: Sink, D: Disk, H: Threads + Wait + Sync, G: Gate>
     ensures untouched { IsFalse (asked_shape (asked words.now)).opens → result.disk ≡ disk }
     ensures unread { (asked_shape (asked words.now)).reading ≡ NoInput → source.new ≡ source.old }
     ensures silent { IsIdleWithoutStore (asked words.now) → IfNone result.start ((source.new ≡ source.old) × (sink.new ≡ sink.old)) }
-    ensures unserved { (asked_shape (asked words.now)).reading ≡ ToItsEnd → (result.status ≡ Status.InputFull) ⊎ (result.status ≡ Status.ReadFault) → sink.new ≡ sink.old }
+    ensures unwritten { (asked_shape (asked words.now)).reading ≡ ToItsEnd → IsTrue (is_input_fault result.status) → sink.new ≡ sink.old }
     ensures occupied { (asked_shape (asked words.now)).changes ≡ ByImport → (head : ℕ) → result.status ≡ Status.Refused (RestoreFault.NotEmpty head) → (source.new ≡ source.old) × (sink.new ≡ sink.old) }
+    ensures outside { (asked_shape (asked words.now)).reading ≡ ToItsEnd → (least head : ℕ) → result.status ≡ Status.Outside least head → (source.new ≡ source.old) × (sink.new ≡ sink.old) }
     ensures kept { KeepsPromises (program_call (asked words.now) (shown S.Source K.Sink source.old sink.old (disk_of D.Disk disk)) (shown S.Source K.Sink source.new sink.new (disk_of D.Disk result.disk)) result.status result.entries result.start) }
 {
     files_stand_for_sound();

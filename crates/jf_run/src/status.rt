@@ -2,12 +2,13 @@
 ghost use Rattle.std.specs.Prelude.{◌≡◌, [], None};
 ghost use Rattle.std.specs.List.{list_any};
 ghost use Rattle.jf_serve.specs.Served.{ran_out_of_memory};
-ghost use Rattle.jf_run.specs.Statuses.{code_of, is_stopped_by_disk, status_of, status_of_ends, status_of_history, status_of_input_fault, status_of_received, status_of_refusal, status_of_served, status_of_verified};
+ghost use Rattle.jf_run.specs.Statuses.{code_of, is_stopped_by_disk, status_of, status_of_ends, status_of_history, status_of_input_fault, status_of_names, status_of_received, status_of_refusal, status_of_served, status_of_verified};
 
 use jf_disk::Side;
 use jf_engine::{EngineMemory, OpenFault};
 use jf_history::End;
 use jf_model::Ledger;
+use jf_names::NamesFault;
 use jf_receive::{Received, RestoreFault};
 use jf_serve::{InputFault, ReportFault};
 use jf_totals::HistoryFault;
@@ -34,10 +35,12 @@ pub enum Status {
     InputFull,
     /// Memory ran out.
     Memory,
-    /// No version was restored, for this reason. The files stand for what they stood for.
+    /// The store or the input was refused for this reason. If a version was to be restored, none was, and the files stand
+    /// for what they stood for. If names were to be looked up, it is `Line`: this line is the first that isn't a name, or
+    /// is the 10,001st, and nothing was written.
     Refused(RestoreFault),
-    /// The root of the version isn't recorded: these are the least and the greatest version whose root is. Nothing was
-    /// written.
+    /// The version isn't between these two, the least and the greatest that can be asked for. For the total of the roots they
+    /// are the base and the head, for names the floor and the head. Nothing was read or written.
     Outside { least: u64, head: u64 },
 }
 
@@ -113,6 +116,20 @@ impl Status {
             Err(HistoryFault::Outside { least, head }) => Status::Outside { least, head },
             Err(HistoryFault::WriteFault) => Status::WriteFault,
             Err(HistoryFault::Memory) => Status::Memory,
+        }
+    }
+
+    /// The status after the names of an input were to be looked up in a version.
+    pub fn of_names(answered: Result<(), NamesFault>) -> Status
+        ensures { result ≡ status_of_names answered }
+    {
+        match answered {
+            Ok(()) => Status::Done,
+            Err(NamesFault::Outside { least, head }) => Status::Outside { least, head },
+            Err(NamesFault::Line(line)) => Status::Refused(RestoreFault::Line(line)),
+            Err(NamesFault::ReadFault) => Status::ReadFault,
+            Err(NamesFault::WriteFault) => Status::WriteFault,
+            Err(NamesFault::Memory) => Status::Memory,
         }
     }
 

@@ -3,7 +3,7 @@ use Rattle.std.specs.Prelude.{ℕ, Bool, true, false, IsTrue, IfSome, Option, So
 use Rattle.jf_words.specs.declared.modes.Mode.{Mode}
 use Rattle.jf_words.specs.declared.modes.Mode.TheVariants as mode
 
--- how the input is read: not at all, in pieces as the mode goes on, or to its end before anything else is done
+-- how the input is read: not at all, in pieces as the mode goes on, or to its end before anything is written
 pub data Reading : Type 0 where
   NoInput : Reading
   InPieces : Reading
@@ -15,7 +15,7 @@ pub data Changes : Type 0 where
   ByEntries : Changes
   ByImport : Changes
 
--- whether the store is opened; how the input is read and the store is changed; and the number of workers, if one is asked for
+-- whether the store is opened; how the input is read and the store is changed; and the number of workers, in a mode that takes the option
 pub record Shape : Type 0 where
   pub opens : Bool
   pub reading : Reading
@@ -30,6 +30,7 @@ shape_of mode.Verify = record { opens = false; reading = InPieces; changes = NoC
 shape_of (mode.Generate seed batches size n) = record { opens = true; reading = NoInput; changes = ByEntries; workers = Some n }
 shape_of (mode.Restore version root n) = record { opens = true; reading = InPieces; changes = ByImport; workers = Some n }
 shape_of (mode.History version) = record { opens = true; reading = NoInput; changes = NoChange; workers = None }
+shape_of (mode.Many version) = record { opens = true; reading = ToItsEnd; changes = NoChange; workers = None }
 
 -- the shape of what words ask for, which is nothing if the program doesn't take them
 abbrev pub asked_shape : Option Mode → Shape

@@ -5,6 +5,7 @@ use Rattle.jf_run.specs.Calls.{disk_of, engine_disk}
 use Rattle.jf_run.specs.Runs.{HasGenerated}
 use Rattle.jf_run.proofs.LinesDone.{generated_keeps, run_keeps}
 use Rattle.jf_run.proofs.Opened.{completes_as}
+use Rattle.jf_run.proofs.Untouched.{untouched_as}
 use Rattle.jf_run.proofs.do_mode.do_mode.Goals as goal
 
 -- ---- run
@@ -15,9 +16,25 @@ returns-in-Run-clause-kept g c = completes_as _ _ _ _ _ _ _ c.in-Run.is (λ befo
     run_keeps _ head c.in-Run.workers (opened e.versions e.generation) (engine_disk e) done.ran.0 done.ran.1 begun done.ran.2 done.ran.3 c.files_stand_for_one.ensures c.damage_is_no_versions.ensures dated refl refl
     done.read done.write done.source_counts done.sink_counts)
 
+pub returns-in-Run-clause-untouched : goal.returns-in-Run-clause-untouched
+returns-in-Run-clause-untouched g c = untouched_as _ _ _ _ _ _ _ c.in-Run.is (record {
+  unread = λ e. absurd (cc);
+  unwritten = λ e ends. absurd (cc);
+  occupied = λ e head ends. absurd (cc);
+  outside = λ e least head ends. absurd (cc);
+})
+
 -- ---- serve
 pub returns-in-Serve-clause-kept : goal.returns-in-Serve-clause-kept
 returns-in-Serve-clause-kept g c = completes_as _ _ _ _ _ _ _ c.in-Serve.is c.serve_over.ensures.kept
+
+pub returns-in-Serve-clause-untouched : goal.returns-in-Serve-clause-untouched
+returns-in-Serve-clause-untouched g c = untouched_as _ _ _ _ _ _ _ c.in-Serve.is (record {
+  unread = λ e. absurd (cc);
+  unwritten = λ e ends. c.serve_over.ensures.unwritten ends;
+  occupied = λ e head ends. absurd (cc);
+  outside = λ e least head ends. c.serve_over.ensures.outside least head ends;
+})
 
 -- ---- generate
 pub new-lines-requires-clause-batches : goal.new-lines-requires-clause-batches
@@ -36,6 +53,14 @@ returns-in-Generate-clause-kept g c = completes_as _ _ _ _ _ _ _ c.in-Generate.i
     (subst (λ (ls : List (List ℕ)). HasGenerated done.ran.0 s (engine_disk e) (disk_of g.D.Disk step.result.disk) ls step.result.entries done.ran.1 (g.K.Sink.text c.args.sink.now) (g.K.Sink.text step.new.sink)) c.new-lines.ensures.lines done.ran.3)
     c.files_stand_for_one.ensures c.damage_is_no_versions.ensures dated refl refl (ap g.S.Source.rest done.unread) (ap g.S.Source.faults done.unread) done.read done.write done.sink_counts)
 
+pub returns-in-Generate-clause-untouched : goal.returns-in-Generate-clause-untouched
+returns-in-Generate-clause-untouched g c = untouched_as _ _ _ _ _ _ _ c.in-Generate.is (record {
+  unread = λ e. c.script_over-in-Generate.ensures.unread;
+  unwritten = λ e ends. absurd (cc);
+  occupied = λ e head ends. absurd (cc);
+  outside = λ e least head ends. absurd (cc);
+})
+
 -- ---- restore
 pub restore_over-requires-clause-last : goal.restore_over-requires-clause-last
 restore_over-requires-clause-last g c κs within = (subst KeepsLimits c.in-Restore.is c.requires.limits).0
@@ -43,6 +68,34 @@ restore_over-requires-clause-last g c κs within = (subst KeepsLimits c.in-Resto
 pub returns-in-Restore-clause-kept : goal.returns-in-Restore-clause-kept
 returns-in-Restore-clause-kept g c = completes_as _ _ _ _ _ _ _ c.in-Restore.is (c.restore_over.ensures.kept c.in-Restore.workers)
 
+pub returns-in-Restore-clause-untouched : goal.returns-in-Restore-clause-untouched
+returns-in-Restore-clause-untouched g c = untouched_as _ _ _ _ _ _ _ c.in-Restore.is (record {
+  unread = λ e. absurd (cc);
+  unwritten = λ e ends. absurd (cc);
+  occupied = λ e head ends. c.restore_over.ensures.occupied head ends;
+  outside = λ e least head ends. absurd (cc);
+})
+
 -- ---- history
 pub returns-in-History-clause-kept : goal.returns-in-History-clause-kept
 returns-in-History-clause-kept g c = completes_as _ _ _ _ _ _ _ c.in-History.is (c.history_over.ensures.kept (g.S.Source.rest c.args.source.now) (g.S.Source.faults c.args.source.now))
+
+pub returns-in-History-clause-untouched : goal.returns-in-History-clause-untouched
+returns-in-History-clause-untouched g c = untouched_as _ _ _ _ _ _ _ c.in-History.is (record {
+  unread = λ e. refl;
+  unwritten = λ e ends. absurd (cc);
+  occupied = λ e head ends. absurd (cc);
+  outside = λ e least head ends. absurd (cc);
+})
+
+-- ---- many
+pub returns-in-Many-clause-kept : goal.returns-in-Many-clause-kept
+returns-in-Many-clause-kept g c = completes_as _ _ _ _ _ _ _ c.in-Many.is c.many_over.ensures.kept
+
+pub returns-in-Many-clause-untouched : goal.returns-in-Many-clause-untouched
+returns-in-Many-clause-untouched g c = untouched_as _ _ _ _ _ _ _ c.in-Many.is (record {
+  unread = λ e. absurd (cc);
+  unwritten = λ e ends. c.many_over.ensures.unwritten ends;
+  occupied = λ e head ends. absurd (cc);
+  outside = λ e least head ends. c.many_over.ensures.outside least head ends;
+})

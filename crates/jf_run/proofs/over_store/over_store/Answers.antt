@@ -2,6 +2,7 @@ use Rattle.std.proofs.Common.{sym, subst}
 use Rattle.jf_model.specs.States.{opened}
 use Rattle.jf_run.specs.Calls.{disk_of, engine_disk, shown}
 use Rattle.jf_run.specs.Runs.{IsBegun}
+use Rattle.jf_run.proofs.Untouched.{all_untouched}
 use Rattle.jf_run.proofs.over_store.over_store.Goals as goal
 
 pub returns-in-Err-clause-kept : goal.returns-in-Err-clause-kept
@@ -15,3 +16,9 @@ returns-clause-kept g c =
     let head = c.state-head.result.head in
     let begun : IsBegun s before (engine_disk e) head = subst (λ n. IsBegun s before (engine_disk e) n) (sym c.state-head.ensures.versions.2) c.in-Ok.ensures.begun in
     c.do_mode-status.ensures.kept before head begun c.know_dated.ensures
+
+pub returns-in-Err-clause-untouched : goal.returns-in-Err-clause-untouched
+returns-in-Err-clause-untouched g c = all_untouched c.args.mode _ _ _
+
+pub returns-clause-untouched : goal.returns-clause-untouched
+returns-clause-untouched g c = c.do_mode-status.ensures.untouched
