@@ -1,0 +1,9 @@
+pub mod LandingLaws
+pub mod Texts
+pub mod Changes
+pub mod Stages
+pub mod Bounds
+pub mod LineByLine
+pub mod Deciding
+pub mod LongLines
+pub mod ReadBack

@@ -1,0 +1,13 @@
+pub mod Landings
+pub mod Reading
+pub mod Steps
+pub mod Laws
+pub use Rattle.jf_hash.specs.Maps
+pub use Rattle.jf_hash.specs.Roots
+pub use Rattle.jf_split.specs.Limits
+pub use Rattle.jf_io.specs.Lines
+pub use Rattle.jf_text.specs.Words
+pub use Rattle.jf_model.specs.Puts
+pub use Rattle.jf_model.specs.Versions
+pub use Rattle.jf_model.specs.States
+pub use Rattle.jf_model.specs.Entries

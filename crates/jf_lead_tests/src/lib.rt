@@ -1,0 +1,13 @@
+//! Tests of landing blocks as text: how they are written, and what they come to when they are read line by line.
+#![tactic(auto)]
+
+#[cfg(test)]
+mod again;
+#[cfg(test)]
+mod reading;
+#[cfg(test)]
+mod samples;
+#[cfg(test)]
+mod texts;
+#[cfg(test)]
+mod writing;
