@@ -1,0 +1,11 @@
+pub mod Judgements
+pub mod Takings
+pub mod Histories
+pub mod Agreement
+pub mod Collisions
+pub mod Places
+pub mod Followings
+pub mod LandingSteps
+pub mod Streamed
+pub mod Decisions
+pub mod Moments

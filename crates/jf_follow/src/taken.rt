@@ -1,0 +1,11 @@
+// What a follower made of a landing.
+use jf_engine::Landed;
+
+/// What a follower made of a landing that it took.
+#[derive(Clone, Copy, Debug, PartialEq, Eq)]
+pub enum Taken {
+    /// The version was there already, with this root. Nothing changed.
+    Already,
+    /// The batch landed, and the version is the head.
+    Landed(Landed),
+}

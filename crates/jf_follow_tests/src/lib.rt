@@ -1,0 +1,12 @@
+//! Tests of followers: what an input of landing blocks comes to over a store in memory, what a source that fails leaves, and
+//! what a disk that fails leaves.
+#![tactic(auto)]
+
+#[cfg(test)]
+mod crashes;
+#[cfg(test)]
+mod inputs;
+#[cfg(test)]
+mod pieces;
+#[cfg(test)]
+mod rows;
