@@ -1,0 +1,10 @@
+pub mod Lookups
+pub mod Parts
+pub use Rattle.jf_hash.specs.Hashes
+pub use Rattle.jf_hash.specs.Maps
+pub use Rattle.jf_hash.specs.Roots
+pub use Rattle.jf_io.specs.Lines
+pub use Rattle.jf_text.specs.Words
+pub use Rattle.jf_script.specs.Replies
+pub use Rattle.jf_blocks.specs.Blocks
+pub use Rattle.jf_blocks.specs.Reading

@@ -1,0 +1,59 @@
+// Words of hexadecimal digits as bytes, written into room that is there.
+ghost use Rattle.std.specs.Prelude.{◌≡◌, ◌*◌, ◌+◌, ◌≤◌, length, take, IfSome, option_map, Some};
+ghost use Rattle.jf_text.specs.Words.{digit, byte_of, unhex, bytes_within};
+
+/// The value of a hexadecimal digit, or `None` for any other byte. Upper case is refused.
+fn digit(byte: u8) -> Option<u8>
+    ensures { result ≡ digit byte }
+{
+    match byte {
+        b'0'..=b'9' => Some(byte - b'0'),
+        b'a'..=b'f' => Some(byte - b'a' + 10),
+        _ => None,
+    }
+}
+
+/// The byte that two digits write, the high half first.
+fn byte_of(high: u8, low: u8) -> Option<u8>
+    ensures { result ≡ byte_of high low }
+{
+    let high = digit(high)?;
+    let low = digit(low)?;
+    Some(high * 16 + low)
+}
+
+/// Writes the bytes of a word to the front of `out`, and returns how many they are. `None` if the word isn't an even
+/// number of digits; the front of `out` may then have changed.
+pub fn unhexed(word: &[u8], out: &mut [u8]) -> Option<usize>
+    requires { length word.now ≤ 2 * length out.old + 1 }
+    ensures length { length out.new ≡ length out.old }
+    ensures within { IfSome result (λ n. n ≤ length out.new) }
+    ensures bytes { option_map (λ n. take n out.new) result ≡ unhex word.now }
+{
+    if word.len() % 2 == 1 {
+        return None;
+    }
+    'pairs: for i in 0..word.len() / 2 {
+        let Some(byte) = byte_of(word[2 * i], word[2 * i + 1]) else {
+            return None;
+        };
+        out[i] = byte;
+    }
+    Some(word.len() / 2)
+}
+
+/// Writes the bytes of a word to the front of `out`, and returns how many they are. `None` if it isn't hexadecimal or
+/// there aren't `least` to `most` of them.
+pub(crate) fn bytes_within(least: usize, most: usize, word: &[u8], out: &mut [u8]) -> Option<usize>
+    requires { most ≤ length out.old }
+    ensures length { length out.new ≡ length out.old }
+    ensures within { IfSome result (λ n. n ≤ length out.new) }
+    ensures bytes { option_map (λ n. take n out.new) result ≡ bytes_within least most word.now }
+    ensures digits { IfSome result (λ n. unhex word.now ≡ Some (take n out.new)) }
+{
+    let count = word.len() / 2;
+    if count < least || most < count {
+        return None;
+    }
+    unhexed(word, out)
+}
