@@ -6,3 +6,8 @@ pub mod OtherLines
 pub mod CountedLines
 pub mod HonestClaims
 pub mod RunJudged
+pub mod Openings
+pub mod NamesFit
+pub mod ManyFits
+pub mod ManyJudged
+pub mod Believed

@@ -1,9 +1,8 @@
--- The lines of replies that set no root and begin no proof.
+-- The lines of replies that set no root and begin no block that is judged.
 use Rattle.std.specs.List.{AllByRecursion, join_with_byte}
 use Rattle.std.proofs.lemmas.Slice.Eq.{bytes_eq-Decides}
 use Rattle.std.proofs.Common.{◌≡◌, Bool, inl, inr, ℕ, ◌^◌, ◌<◌, ◌≤◌, ◌&&◌, true, false, cond, is_some, List, [], ◌∷◌, ◌++◌, length, Option, Some, None, codes, decimal, refl, sym, ap, ap₂, ◌∙◌, subst, append_assoc, append-nil, option_map, option_and_then}
 use Rattle.hex.specs.Hex.{encode_lower, IsBytes}
-use Rattle.jf_hash.specs.Roots.{root}
 use Rattle.jf_io.specs.Lines.{lines}
 use Rattle.jf_evidence.specs.Ranges.{Entries}
 use Rattle.jf_evidence.specs.declared.range_proof.RangeProof.{RangeProof}
@@ -14,24 +13,26 @@ use Rattle.jf_text.proofs.HexReadBack.{is_plain-hex}
 use Rattle.jf_script.specs.Replies.{reply_words, reply_text, is_refusal, IsInRange}
 use Rattle.jf_script.specs.declared.reply.Reply.{Reply}
 use Rattle.jf_blocks.specs.Blocks.{chunk_lines, entry_lines, side_lines}
-use Rattle.jf_blocks.specs.Reading.{line_read, first_line_of, word_after}
+use Rattle.jf_blocks.specs.Reading.{line_read, first_line_of}
 use Rattle.jf_blocks.specs.Laws.{IsHash, IsChunkBlock}
 use Rattle.jf_blocks.specs.declared.first.FirstLine.{FirstLine}
 use Rattle.jf_blocks.specs.declared.first.FirstLine.TheVariants as first
 use Rattle.jf_blocks.proofs.BlocksReadBack.{left_out}
 use Rattle.jf_blocks.proofs.LinesJoined.{lines-join}
+use Rattle.jf_verify.specs.Openings.{opening_of}
 use Rattle.jf_client.specs.RunLaws.{Heard, answer_heard, text_heard, told_by, IsOther}
+use Rattle.jf_client.proofs.Openings.{first_from, opening-none, number-many}
 use Rattle.jf_script.proofs.ReplyTexts.{all_plain-words, reply_words-front, reply_words-root, reply_words-proof}
 
--- ---- lines that no root and no proof begins
+-- ---- lines that set no root and begin no block
 abbrev pub IsNoFirst : List ℕ → Type 0
-IsNoFirst line = line_read first_line_of line ≡ None
+IsNoFirst line = line_read opening_of line ≡ None
 
 -- a line joined from words that don't say so
-no_first-join : (w : List ℕ) (ws : List (List ℕ)) → is_plain w ≡ true → all_plain ws ≡ true → first_line_of (w ∷ ws) ≡ None → IsNoFirst (join_with_byte 32 (w ∷ ws))
+no_first-join : (w : List ℕ) (ws : List (List ℕ)) → is_plain w ≡ true → all_plain ws ≡ true → opening_of (w ∷ ws) ≡ None → IsNoFirst (join_with_byte 32 (w ∷ ws))
 no_first-join w ws plain others none =
     let line : List ℕ = join_with_byte 32 (w ∷ ws) in
-    elim (is_long line) as (λ b. cond b None (first_line_of (words line)) ≡ None) [ true ↦ refl | false ↦ ap first_line_of (words-join w ws plain others) ∙ none ]
+    elim (is_long line) as (λ b. cond b None (opening_of (words line)) ≡ None) [ true ↦ refl | false ↦ ap opening_of (words-join w ws plain others) ∙ none ]
 
 -- lines of a text, whatever comes after it
 pub record AreLinesOf (text : List ℕ) (xs : List (List ℕ)) : Type 0 where
@@ -48,19 +49,11 @@ lines_joined t u xs ys a b = record {
   none = all_joined xs ys a.none b.none;
 }
 
-one_line_of : (w : List ℕ) (ws : List (List ℕ)) → is_plain w ≡ true → all_plain ws ≡ true → first_line_of (w ∷ ws) ≡ None → AreLinesOf (line_text (w ∷ ws)) (join_with_byte 32 (w ∷ ws) ∷ [])
-one_line_of w ws plain others none = record {
+one_line_of : (w : List ℕ) (ws : List (List ℕ)) → is_plain w ≡ true → all_plain ws ≡ true → is_word w (codes "many") ≡ false → first_line_of (w ∷ ws) ≡ None → AreLinesOf (line_text (w ∷ ws)) (join_with_byte 32 (w ∷ ws) ∷ [])
+one_line_of w ws plain others other none = record {
   whole = λ rest. ap lines (append_assoc (join_with_byte 32 (w ∷ ws)) (10 ∷ []) rest) ∙ lines-join w ws rest plain others;
-  none = (no_first-join w ws plain others none, tt);
+  none = (no_first-join w ws plain others (opening-none w ws other none), tt);
 }
-
--- what the words after `n ok` say
-abbrev first_from : List (List ℕ) → Option FirstLine
-first_from ws =
-    elim (option_and_then hash_of (word_after (codes "root") ws)) [
-      | Some root ↦ Some (first.Root root)
-      | None ↦ option_map (λ n. first.Proof n) (option_and_then (number_upto 65535) (word_after (codes "proof") ws))
-    ]
 
 -- ---- the lines of chunk blocks
 entry_first : (k v : List ℕ) → first_line_of (codes "entry" ∷ k ∷ v ∷ []) ≡ None
@@ -75,7 +68,7 @@ entry_lines_of (e ∷ es) fit =
     let more = entry_lines_of es fit.1 in
     let ws : List (List ℕ) = encode_lower e.0 ∷ value_word e.1 ∷ [] in
     let plain : all_plain ws ≡ true = rw (is_plain-hex e.0 fit.0.0.1, is_plain-hex e.1 fit.0.1) refl in
-    (join_with_byte 32 (codes "entry" ∷ ws) ∷ more.0, lines_joined (line_text (codes "entry" ∷ ws)) (entry_lines es) (join_with_byte 32 (codes "entry" ∷ ws) ∷ []) more.0 (one_line_of (codes "entry") ws refl plain (entry_first (encode_lower e.0) (value_word e.1))) more.1)
+    (join_with_byte 32 (codes "entry" ∷ ws) ∷ more.0, lines_joined (line_text (codes "entry" ∷ ws)) (entry_lines es) (join_with_byte 32 (codes "entry" ∷ ws) ∷ []) more.0 (one_line_of (codes "entry") ws refl plain refl (entry_first (encode_lower e.0) (value_word e.1))) more.1)
 
 side_lines_of : (hs : List (List ℕ)) → AllByRecursion IsHash hs → (xs : List (List ℕ)) × AreLinesOf (side_lines hs) xs
 side_lines_of [] fit = ([], record { whole = λ rest. refl; none = tt })
@@ -83,7 +76,7 @@ side_lines_of (h ∷ hs) fit =
     let more = side_lines_of hs fit.1 in
     let ws : List (List ℕ) = encode_lower h ∷ [] in
     let plain : all_plain ws ≡ true = rw (is_plain-hex h fit.0.1) refl in
-    (join_with_byte 32 (codes "side" ∷ ws) ∷ more.0, lines_joined (line_text (codes "side" ∷ ws)) (side_lines hs) (join_with_byte 32 (codes "side" ∷ ws) ∷ []) more.0 (one_line_of (codes "side") ws refl plain (side_first (encode_lower h))) more.1)
+    (join_with_byte 32 (codes "side" ∷ ws) ∷ more.0, lines_joined (line_text (codes "side" ∷ ws)) (side_lines hs) (join_with_byte 32 (codes "side" ∷ ws) ∷ []) more.0 (one_line_of (codes "side") ws refl plain refl (side_first (encode_lower h))) more.1)
 
 chunk_lines_of : (es : Entries) (proof : RangeProof) → IsChunkBlock es proof → (xs : List (List ℕ)) × AreLinesOf (chunk_lines es proof) xs
 unfolding chunk_lines
@@ -142,7 +135,7 @@ other_first n r small untold range = let front = reply_words-front r in begun_wi
 
 reply_lines_of : (n : ℕ) (r : Reply) → n < 2 ^ 64 → told_by r ≡ None → IsInRange r → AreLinesOf (reply_text n r) (join_with_byte 32 (decimal n ∷ reply_words r) ∷ [])
 unfolding reply_text
-reply_lines_of n r small untold range = one_line_of (decimal n) (reply_words r) (is_plain-decimal n small) (all_plain-words r range) (other_first n r small untold range)
+reply_lines_of n r small untold range = one_line_of (decimal n) (reply_words r) (is_plain-decimal n small) (all_plain-words r range) (number-many n small) (other_first n r small untold range)
 
 pub other_lines_of : (h : Heard) → h.number < 2 ^ 64 → IsOther h → (xs : List (List ℕ)) × AreLinesOf (text_heard h) xs
 other_lines_of h small o =

@@ -69,7 +69,7 @@ granted-read (command.Pin version) q s own e = absurd (cc)
 granted-read (command.Change c) q s own e = absurd (cc)
 
 -- the answer to a line that asks a question
-answer_asked : (q : Question) (m : Map) (h : Heard) → Asks q m h → answer_heard h ≡ read_answer q m h.state h.own
+pub answer_asked : (q : Question) (m : Map) (h : Heard) → Asks q m h → answer_heard h ≡ read_answer q m h.state h.own
 answer_asked q m h a =
     answered h.state h.own h.line a.read a.short a.is ∙ unrefused h.state h.own a.read a.granted ∙ granted-read a.read q h.state h.own a.reads
     ∙ ap (λ (w : Map). read_answer q w h.state h.own) a.map_is

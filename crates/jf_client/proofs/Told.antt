@@ -6,6 +6,7 @@ use Rattle.std.specs.List.{AllByRecursion}
 use Rattle.hex.specs.Hex.{IsBytes}
 use Rattle.jf_path.specs.Keys.{IsKey, key_cmp, bit}
 use Rattle.jf_path.proofs.FilterLaws.{All-filter}
+use Rattle.jf_path.proofs.ListLaws.{All-weaker}
 use Rattle.jf_hash.specs.Maps.{same_key, Map, IsMap}
 use Rattle.jf_hash.specs.Roots.{Leaf, zeros, ones, leaf_of, root_below, leaves_root}
 use Rattle.jf_hash.specs.Hashes.{V, K}
@@ -24,15 +25,21 @@ byte-at [] i h = omega arith
 byte-at (b ∷ v) zero h = h.0
 byte-at (b ∷ v) (suc i) h = byte-at v i h.1
 
-found_bytes : (key : List ℕ) (es : List (List ℕ × List ℕ)) → AllByRecursion (λ e. IsKey e.0 × AllByRecursion (λ b. b < 256) e.1) es → IfSome (find key_cmp key es) IsBytes
-found_bytes key [] h = tt
-found_bytes key (e ∷ es) h =
-    elim (same_key key e.0) as (λ b. IfSome (cond b (Some e.1) (find key_cmp key es)) IsBytes) [ true ↦ λ i. byte-at e.1 i h.0.1 | false ↦ found_bytes key es h.1 ]
+-- what holds of the values of entries holds of one that is found
+found-value : (P : List ℕ → Type 0) (key : List ℕ) (es : List (List ℕ × List ℕ)) → AllByRecursion (λ e. P e.1) es → IfSome (find key_cmp key es) P
+found-value P key [] h = tt
+found-value P key (e ∷ es) h = elim (same_key key e.0) as (λ b. IfSome (cond b (Some e.1) (find key_cmp key es)) P) [ true ↦ h.0 | false ↦ found-value P key es h.1 ]
 
-value_bytes : (m : Map) (key : List ℕ) → IsMap m → IfSome (fin.get m key) IsBytes
-value_bytes m key is_map = subst (λ (o : Option (List ℕ)). IfSome o IsBytes) (sym (fin.get-entries m key)) (found_bytes key (entries m) is_map)
+got-value : (P : List ℕ → Type 0) (m : Map) (key : List ℕ) → AllByRecursion (λ e. P e.1) (entries m) → IfSome (fin.get m key) P
+got-value P m key all = subst (λ (o : Option (List ℕ)). IfSome o P) (sym (fin.get-entries m key)) (found-value P key (entries m) all)
 
-both_of : (P Q : List ℕ → Type 0) (o : Option (List ℕ)) → IfSome o P → IfSome o Q → IfSome o (λ v. P v × Q v)
+pub value_bytes : (m : Map) (key : List ℕ) → IsMap m → IfSome (fin.get m key) IsBytes
+value_bytes m key is_map = got-value IsBytes m key (All-weaker (λ e. IsKey e.0 × AllByRecursion (λ b. b < 256) e.1) (λ e. IsBytes e.1) (λ e h i. byte-at e.1 i h.1) (entries m) is_map)
+
+pub value_short : (m : Map) (key : List ℕ) → AllByRecursion (λ e. length e.1 ≤ 4096) (entries m) → IfSome (fin.get m key) (λ v. length v ≤ 4096)
+value_short m key short = got-value (λ v. length v ≤ 4096) m key short
+
+pub both_of : (P Q : List ℕ → Type 0) (o : Option (List ℕ)) → IfSome o P → IfSome o Q → IfSome o (λ v. P v × Q v)
 both_of P Q None p q = tt
 both_of P Q (Some v) p q = (p, q)
 
@@ -48,15 +55,15 @@ honest_leaf P zero d key (e ∷ f ∷ es) all = tt
 honest_leaf P (suc n) d key (e ∷ f ∷ es) all = honest_leaf P n (d + 1) key (near key d (e ∷ f ∷ es)) (near_all P d key (e ∷ f ∷ es) all)
 
 -- the leaf's key and the hash of its value are hashes
-abbrev AreHashes : Leaf → Type 0
+abbrev pub AreHashes : Leaf → Type 0
 AreHashes l = IsHash l.0 × IsHash l.1
 
-leaves_hashes : (es : List (List ℕ × List ℕ)) → AllByRecursion (λ e. IsKey e.0 × AllByRecursion (λ b. b < 256) e.1) es → AllByRecursion AreHashes (map leaf_of es)
+pub leaves_hashes : (es : List (List ℕ × List ℕ)) → AllByRecursion (λ e. IsKey e.0 × AllByRecursion (λ b. b < 256) e.1) es → AllByRecursion AreHashes (map leaf_of es)
 leaves_hashes [] all = tt
 leaves_hashes (e ∷ es) all = ((hash_of_key e.0 all.0.0, hash_of_key (V e.1) (V-IsKey e.1)), leaves_hashes es all.1)
 
 -- ---- siblings
-leaves_root-IsHash : (d : ℕ) (es : List Leaf) → IsHash (leaves_root d es)
+pub leaves_root-IsHash : (d : ℕ) (es : List Leaf) → IsHash (leaves_root d es)
 unfolding leaves_root
 leaves_root-IsHash d es = hash_of_key (root_below (256 - d) d es) (root_below-IsKey (256 - d) d es)
 

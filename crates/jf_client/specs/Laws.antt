@@ -32,7 +32,7 @@ pub record FitsLine (name : List ℕ) (value : Option (List ℕ)) : Type 0 where
   pub small : IfSome value (λ v. length v ≤ max_value)
 
 -- two lines ask for the root of a version and for the proof of a name in it
-pub record Asks (root_line prove_line : List ℕ) (on : Base) (name : List ℕ) : Type 0 where
+pub record AskRootAndProof (root_line prove_line : List ℕ) (on : Base) (name : List ℕ) : Type 0 where
   pub root_short : is_long root_line ≡ false
   pub root_is : command_of root_line ≡ Some (command.Read on question.Root)
   pub prove_short : is_long prove_line ≡ false
@@ -41,5 +41,5 @@ pub record Asks (root_line prove_line : List ℕ) (on : Base) (name : List ℕ) 
 -- for each kept version, each pinned one, and each name, whether the map has it or not: the two replies, with any numbers, are judged accepted
 abbrev pub HonestRepliesAreAccepted : Type 0
 HonestRepliesAreAccepted = (s : State) (own : Own) (on : Base) (name root_line prove_line : List ℕ) (m n : ℕ)
-    → IsVersions s.all → IsKeptBase s own on → FitsLine name (get (base_map s own on) (K name)) → Asks root_line prove_line on name → m < 2 ^ 64 → n < 2 ^ 64
+    → IsVersions s.all → IsKeptBase s own on → FitsLine name (get (base_map s own on) (K name)) → AskRootAndProof root_line prove_line on name → m < 2 ^ 64 → n < 2 ^ 64
     → verdicts (answer_text m (answer s own root_line) ++ answer_text n (answer s own prove_line)) ≡ codes "accepted\n"

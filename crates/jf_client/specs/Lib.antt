@@ -1,6 +1,8 @@
 pub mod Laws
 pub mod ChunkLaws
 pub mod RunLaws
+pub mod ManyLaws
+pub mod LookupLaws
 pub use Rattle.jf_path.specs.Limits
 pub use Rattle.jf_hash.specs.Hashes
 pub use Rattle.jf_hash.specs.Maps
@@ -13,7 +15,9 @@ pub use Rattle.jf_text.specs.Words
 pub use Rattle.jf_script.specs.Commands
 pub use Rattle.jf_script.specs.Replies
 pub use Rattle.jf_blocks.specs.Blocks
+pub use Rattle.jf_names.specs.Names
 pub use Rattle.jf_verify.specs.Verdicts
+pub use Rattle.jf_ask.specs.Lookups
 pub use Rattle.jf_receive.specs.Restored
 pub use Rattle.jf_answers.specs.Answers
 pub use Rattle.jf_answers.specs.Own
