@@ -1,4 +1,5 @@
-"""What docs/FORMATS.md says of a store and of the replies to lines, over plain maps: for scripts that test the program.
+"""What docs/FORMATS.md says of a store, of the replies to lines, and of blocks of many claims, over plain maps: for scripts that
+test the program.
 
 Nothing is shared with the program. Maps are dictionaries, a version is a whole map, and roots, proofs and nodes are counted
 from all entries. The refusal `last` is left out, since no run is long enough for it.
@@ -9,7 +10,7 @@ from functools import cached_property, lru_cache
 from typing import Callable, NamedTuple, Optional
 
 MAX_LINE, MAX_NAME, MAX_VALUE, MAX_CHUNK, MAX_NUMBER = 8500, 128, 4096, 1000, 2**64 - 1
-MAX_KEYS, MAX_FORKS, PLACES = 10_000, 1_024, 8
+MAX_KEYS, MAX_FORKS, MAX_ASKED, PLACES = 10_000, 1_024, 10_000, 8
 
 
 # ---- maps
@@ -34,6 +35,13 @@ def leaf_hash(entry):
     return sha(b"\1" + entry[0] + value_hash(entry[1]))
 
 
+def pair_hash(left, right):
+    return sha(b"\2" + left + right)
+
+
+EMPTY = sha(b"\0")
+
+
 def bit(key, place):
     return key[place // 8] >> (7 - place % 8) & 1
 
@@ -46,11 +54,11 @@ def halves(entries, depth):
 def root_of(entries, depth=0):
     """The root of entries whose keys agree in their first bits, as many as the depth."""
     if not entries:
-        return sha(b"\0")
+        return EMPTY
     if len(entries) == 1:
         return leaf_hash(entries[0])
     zeros, ones = halves(entries, depth)
-    return sha(b"\2" + root_of(zeros, depth + 1) + root_of(ones, depth + 1))
+    return pair_hash(root_of(zeros, depth + 1), root_of(ones, depth + 1))
 
 
 def proof_of(entries, key):
@@ -253,6 +261,114 @@ def command_in(line):
     return None if None in given else (word, given)
 
 
+# ---- blocks of many claims
+
+
+def claim_word(value):
+    return "none" if value is None else f"={value.hex()}"
+
+
+def leaf_words(entry):
+    return "none" if entry is None else f"{entry[0].hex()} {value_hash(entry[1]).hex()}"
+
+
+def names_in(lines):
+    """The names of an input of these lines."""
+    names = []
+    for number, line in enumerate(lines, 1):
+        name = name_in(line)
+        if name is None or number > MAX_ASKED:
+            raise Refused(f"line {number}")
+        names.append(name)
+    return names
+
+
+def items_of(entries, keys, depth=0):
+    """The lines of the tree that shows of entries what they have of keys, all of which agree in their first bits."""
+    if not keys:
+        return [f"rest {root_of(entries, depth).hex()}"]
+    if len(entries) < 2:
+        return [f"end {leaf_words(entries[0] if entries else None)}"]
+    parts, asked = halves(entries, depth), [[key for key in keys if bit(key, depth) == side] for side in (0, 1)]
+    return ["fork", *items_of(parts[0], asked[0], depth + 1), *items_of(parts[1], asked[1], depth + 1)]
+
+
+def many_block(found, names):
+    """The block of what a map has of names. Of names with one key the first stays."""
+    named = {}
+    for name in names:
+        named.setdefault(key_of(name), name)
+    keys = sorted(named)
+    claims = [f"claim {named[key].hex()} {claim_word(found.values.get(key))}" for key in keys]
+    items = items_of(found.entries, keys)
+    return [f"many {len(claims)} {len(items)}", *claims, *items]
+
+
+class Part(NamedTuple):
+    """A part of a tree: its root, and its two parts, or its leaf if it is an end with one, or nothing more."""
+
+    root: bytes
+    parts: Optional[tuple] = None
+    leaf: Optional[tuple] = None
+    is_rest: bool = False
+
+
+def part_of(items, forks=256):
+    """The part that the next items are, in which so many forks may stand one below another; or None."""
+    word, *rest = next(items, "none").split(" ")
+    hashes = [bytes.fromhex(it) for it in rest if it != "none"]
+    if word == "rest":
+        return Part(hashes[0], is_rest=True)
+    if word == "end":
+        return Part(sha(b"\1" + b"".join(hashes)), leaf=tuple(hashes)) if hashes else Part(EMPTY)
+    zeros = part_of(items, forks - 1) if word == "fork" and forks else None
+    ones = part_of(items, forks - 1) if zeros else None
+    return Part(pair_hash(zeros.root, ones.root), (zeros, ones)) if ones else None
+
+
+def single_proof(top, key):
+    """The leaf at the end of a key's path, if there is one, and the roots of the parts beside the path, the lowest first; or None if
+    the path ends in a rest."""
+    siblings = []
+    while top.parts:
+        side = bit(key, len(siblings))
+        siblings.append(top.parts[1 - side].root)
+        top = top.parts[side]
+    return None if top.is_rest else (top.leaf, siblings[::-1])
+
+
+def proof_fault(root, key, value, leaf, siblings):
+    """The number of the first check that refuses what is claimed of a key by a proof; or None."""
+    depth = len(siblings)
+    if depth > 256:
+        return 1
+    if leaf != (key, value_hash(value)) if value is not None else leaf and leaf[0] == key:
+        return 2
+    if value is None and leaf and any(bit(leaf[0], place) != bit(key, place) for place in range(depth)):
+        return 3
+    found = sha(b"\1" + leaf[0] + leaf[1]) if leaf else EMPTY
+    for place, side in enumerate(siblings, 1):
+        found = pair_hash(side, found) if bit(key, depth - place) else pair_hash(found, side)
+    return None if found == root else 4
+
+
+def many_verdict(root, block):
+    """The line on a block of many claims whose lines all match, under a root."""
+    count = int(block[0].split(" ")[1])
+    claims, items = [line.split(" ")[1:] for line in block[1 : count + 1]], iter(block[count + 1 :])
+    top = part_of(items)
+    if top is None or next(items, None) is not None:
+        return "refused 1"
+    keys = [key_of(bytes.fromhex(name)) for name, _ in claims]
+    proofs = [single_proof(top, key) for key in keys]
+    if None in proofs:
+        return f"refused 2 {proofs.index(None) + 1}"
+    values = [value_in(word) for _, word in claims]
+    faults = [proof_fault(root, key, value, *proof) for key, value, proof in zip(keys, values, proofs)]
+    wrong = next((place for place, fault in enumerate(faults, 1) if fault), None)
+    return f"refused 3 {wrong} {faults[wrong - 1]}" if wrong else "accepted"
+
+
 # ---- answers
 
 
@@ -367,11 +483,9 @@ class Answers:
 
     def to_prove(self, base, name):
         found = self.map_at(base)
-        value = found.values.get(key_of(name))
         leaf, siblings = proof_of(found.entries, key_of(name))
-        claim = "none" if value is None else f"={value.hex()}"
-        end = "none" if leaf is None else f"{leaf[0].hex()} {value_hash(leaf[1]).hex()}"
-        block = [f"name {name.hex()}", f"claim {claim}", f"leaf {end}"] + [f"side {it.hex()}" for it in siblings]
+        claim = claim_word(found.values.get(key_of(name)))
+        block = [f"name {name.hex()}", f"claim {claim}", f"leaf {leaf_words(leaf)}"] + [f"side {it.hex()}" for it in siblings]
         return Answer(f"ok proof {len(siblings)}", block)
 
     def to_chunk(self, base, start, count):
