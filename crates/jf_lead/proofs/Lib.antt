@@ -7,3 +7,4 @@ pub mod LineByLine
 pub mod Deciding
 pub mod LongLines
 pub mod ReadBack
+pub mod SoundBlocks

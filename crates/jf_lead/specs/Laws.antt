@@ -51,3 +51,7 @@ with_first_lines at (b ∷ bs) = (at, b) ∷ with_first_lines (at + 1 + length b
 abbrev pub LandingsAreReadBack : Type 0
 LandingsAreReadBack = (bs : List LandingBlock) → AllByRecursion IsLandingBlock bs
     → landing_blocks (lines (landings_text bs)) ≡ record { whole = with_first_lines 1 bs; bad = None }
+
+-- whole blocks that are read, of whatever lines, can be written
+abbrev pub LandingBlocksAreSound : Type 0
+LandingBlocksAreSound = (ls : List (List ℕ)) → AllByRecursion (λ b. IsLandingBlock b.1) (landing_blocks ls).whole

@@ -23,7 +23,7 @@ pub struct LandingHead {
 /// What a line `landing VERSION ROOT C` says. `None` for any other line, and for one of more than 8,500 bytes.
 pub(crate) fn landing_line(line: &[u8]) -> Option<LandingHead>
     ensures head { result ≡ line_read landing_line_of line.now }
-    ensures few { IfSome result (λ head. head.changes ≤ max_keys) }
+    ensures changes { IfSome result (λ head. head.changes ≤ max_keys) }
 {
     if line.len() > MAX_LINE {
         return None;
@@ -35,7 +35,7 @@ pub(crate) fn landing_line(line: &[u8]) -> Option<LandingHead>
 /// Three words as the version, the root and the number of changes of a first line.
 fn landing_head_of(version: &[u8], root: &[u8], changes: &[u8]) -> Option<LandingHead>
     ensures head { result ≡ landing_head_of (version.now, root.now, changes.now) }
-    ensures few { IfSome result (λ head. head.changes ≤ max_keys) }
+    ensures changes { IfSome result (λ head. head.changes ≤ max_keys) }
 {
     let version = number_of(version)?;
     let root = hash_of(root)?;

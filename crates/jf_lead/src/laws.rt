@@ -1,5 +1,5 @@
 // Laws on landing blocks, for proofs of code that stands on them. These functions do nothing when they run.
-ghost use Rattle.jf_lead.specs.Laws.{LandingsComeLineByLine, LandingRefusalsComeAtTheirLine, LandingBlocksStay, LandingRefusalsStay, LongLandingLinesAreAlike, IsLandingBlock, LandingsAreReadBack};
+ghost use Rattle.jf_lead.specs.Laws.{LandingsComeLineByLine, LandingRefusalsComeAtTheirLine, LandingBlocksStay, LandingRefusalsStay, LongLandingLinesAreAlike, IsLandingBlock, LandingsAreReadBack, LandingBlocksAreSound};
 
 use jf_hash::Hash;
 use jf_path::know_key;
@@ -41,4 +41,9 @@ pub fn know_landing(version: u64, root: &Hash, batch: &Batch)
 /// Blocks that were written are read as what was written.
 pub fn landings_are_read_back()
     ensures { LandingsAreReadBack }
+{}
+
+/// Whole blocks that are read, of whatever lines, can be written.
+pub fn landing_blocks_are_sound()
+    ensures { LandingBlocksAreSound }
 {}

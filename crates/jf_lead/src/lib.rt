@@ -15,8 +15,9 @@ mod writing;
 pub use block::LandingBlock;
 pub use fault::LandingFault;
 pub use laws::{
-    know_landing, landing_blocks_stay, landing_refusals_come_at_their_line, landing_refusals_stay,
-    landings_are_read_back, landings_come_line_by_line, long_landing_lines_are_alike,
+    know_landing, landing_blocks_are_sound, landing_blocks_stay,
+    landing_refusals_come_at_their_line, landing_refusals_stay, landings_are_read_back,
+    landings_come_line_by_line, long_landing_lines_are_alike,
 };
 pub use reader::LandingReader;
 pub use writing::write_landing;

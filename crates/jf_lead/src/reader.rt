@@ -46,7 +46,8 @@ impl LandingReader {
     }
 
     /// Reads the next line. Returns the block that ends with it, if one does, and the number of that block's first line.
-    /// Refuses a line that doesn't match.
+    /// Refuses a line that doesn't match (`Line`), and any line if memory runs out (`Memory`): nothing more is read then,
+    /// and later calls of `line` and `end` return the same.
     pub fn line(&mut self, line: &[u8]) -> Result<Option<(u64, LandingBlock)>, LandingFault>
         ensures block { IfOk result (λ block. block ≡ ended_block self.old line.now) }
         ensures ok { OnOk result ((self.new ≡ reading_after self.old line.now) × (stage_refusal self.new.stage ≡ None)) }
