@@ -2,9 +2,7 @@
 //! and the proof that shows it.
 #![tactic(auto)]
 
-mod checks;
 mod claim;
-mod climbing;
 mod honest;
 
 pub use claim::verify;
