@@ -6,6 +6,7 @@ use Rattle.jf_hash.specs.Maps.{Map, IsMap}
 use Rattle.jf_hash.specs.Roots.{root}
 use Rattle.jf_io.specs.Lines.{lines}
 use Rattle.jf_evidence.specs.Proofs.{refusal, honest}
+use Rattle.jf_evidence.specs.declared.proof.ProofFault.TheVariants as check
 use Rattle.jf_evidence.specs.Inputs.{Collides}
 use Rattle.jf_evidence.specs.Clashes.{clash}
 use Rattle.jf_text.specs.Words.{unhex}
@@ -56,6 +57,16 @@ abbrev pub lookup_of : Lookup → Option (Result (Option (List ℕ)) LookupFault
 lookup_of (Value digits) = option_map (λ v. Ok (Some v)) (unhex digits.now)
 lookup_of Absent = Some (Ok None)
 lookup_of (Refused why) = Some (Err why)
+
+-- the number of why nothing is shown: that of the check of the claim that fails (docs/FORMATS.md, Proof blocks), 5 if the block is on
+-- another name, and 6 if there is no block
+abbrev pub lookup_number : LookupFault → ℕ
+lookup_number (fault.Claim check.TooDeep) = 1
+lookup_number (fault.Claim check.WrongLeaf) = 2
+lookup_number (fault.Claim check.WrongPrefix) = 3
+lookup_number (fault.Claim check.WrongRoot) = 4
+lookup_number fault.OtherName = 5
+lookup_number fault.NoBlock = 6
 
 -- ---- what follows
 -- where the block of a text and a map's honest proof, both on a name, come apart

@@ -3,9 +3,6 @@
 #![tactic(auto)]
 
 mod block;
-mod checks;
-mod claim;
-mod climbing;
 mod hexadecimal;
 mod laws;
 mod line;

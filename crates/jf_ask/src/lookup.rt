@@ -1,11 +1,10 @@
 // A name is looked up in the store's reply to `prove`, under a root that the caller has from elsewhere.
-ghost use Rattle.std.specs.Prelude.{◌≡◌, Some};
-ghost use Rattle.jf_ask.specs.Lookups.{lookup, lookup_of, IsSoundLookup, IsFairLookup};
+ghost use Rattle.std.specs.Prelude.{◌≡◌, ◌≤◌, Some};
+ghost use Rattle.jf_ask.specs.Lookups.{lookup, lookup_of, lookup_number, IsSoundLookup, IsFairLookup};
 
 use crate::block::read_block;
-use crate::claim::refusal;
 use crate::laws::honest_blocks_are_believed;
-use jf_evidence::{ProofFault, wrong_claims_collide};
+use jf_evidence::{ProofFault, refusal, wrong_claims_collide};
 use jf_hash::{Hash, key_of};
 
 /// What a reply shows of a name under a root.
@@ -33,9 +32,28 @@ pub enum LookupFault {
     Claim(ProofFault),
 }
 
+impl LookupFault {
+    /// The number of the cause, from 1 to 6: 1 to 4 for the check of the claim that fails (docs/FORMATS.md, Proof blocks), 5
+    /// for a block on another name, and 6 for a reply that isn't one block.
+    pub fn number(self) -> u8
+        ensures value { result ≡ lookup_number self }
+        ensures small { 1 ≤ result }
+        ensures most { result ≤ 6 }
+    {
+        match self {
+            LookupFault::Claim(ProofFault::TooDeep) => 1,
+            LookupFault::Claim(ProofFault::WrongLeaf) => 2,
+            LookupFault::Claim(ProofFault::WrongPrefix) => 3,
+            LookupFault::Claim(ProofFault::WrongRoot) => 4,
+            LookupFault::OtherName => 5,
+            LookupFault::NoBlock => 6,
+        }
+    }
+}
+
 /// What the reply to `prove` (docs/FORMATS.md, Proof blocks) shows of a name under a root. The root has to come from
-/// elsewhere than the reply: any line that sets a root makes the reply `NoBlock`. Takes no memory, and some 13 KB of the
-/// stack.
+/// elsewhere than the reply: any line that sets a root makes the reply `NoBlock`. Takes no memory, and of the
+/// stack at most some 72 KB, with 256 siblings.
 #[tactic(auto, unfolding(crate::specs::Lookups::lookup))]
 pub fn look_up<'a>(root: &Hash, name: &[u8], reply: &'a [u8]) -> Lookup<'a>
     ensures answer { lookup_of result ≡ Some (lookup root.now name.now reply.now) }

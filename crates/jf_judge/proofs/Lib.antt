@@ -1,0 +1,4 @@
+pub mod Digits
+pub mod LongTexts
+pub mod VerdictLines
+pub mod Taken
