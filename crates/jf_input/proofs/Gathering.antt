@@ -2,8 +2,7 @@
 use Rattle.std.specs.Prelude.{Result, Ok, Err, OnOk, OnErr}
 use Rattle.std.specs.Result.{is_err}
 use Rattle.std.proofs.Common.{◌≡◌, ◌⊎◌, Bool, true, false, not, ℕ, ◌≤◌, List, ◌++◌, Option, [], ◌∷◌, refl, sym, ap, ◌∙◌, subst, append_assoc, append-nil, inl, inr, length, ◌<◌, option_map, take, drop, arith, length-append, length-drop, take-append-drop}
-use Rattle.std.proofs.lemmas.Bool.{cases_lt, le-leb}
-use Rattle.std.proofs.Math.Dec.{leb}
+use Rattle.std.proofs.lemmas.Bool.{cases_lt}
 use Rattle.std.proofs.lemmas.List.{take-append-le, drop-append-le}
 use Rattle.std.proofs.Math.Seq.{take-append_seam, drop-append_seam}
 use Rattle.jf_io.specs.Sink.{IsCutShort}
@@ -287,13 +286,6 @@ module _ {M : Type 0} (quiet : M → M → Type 0) {old new : M} {text text' : O
   ]
 
 -- ---- how much is gathered
--- what is gathered is written if it has so many bytes: so it has fewer, or none are left
-pub few_or_none : {mid : List ℕ} (out : List ℕ) (n : ℕ) (due : Bool) → due ≡ leb 65536 n → n ≡ length out → (due ≡ true → mid ≡ []) → (length out < max_gathered) ⊎ (mid ≡ [])
-few_or_none out n due is n_is written = elim (cases_lt n 65536) [
-  | inl lt ↦ inl (omega (arith, lt, n_is))
-  | inr le ↦ inr (written (is ∙ le-leb 65536 n le))
-]
-
 module _ {M F : Type 0} (takes : M → List ℕ → M → Result (List ℕ) F → Type 0) where
   -- one line more
   pub is_gathered_line : (quiet : M → M → Type 0) {old new : M} {text text' : Option (List ℕ)} (out : List ℕ) {out' : List ℕ} (line t : List ℕ) → takes old line new (Ok t) → Gathers quiet old new text text' out out' t → IsGathered takes new out'
@@ -313,3 +305,8 @@ from_err (Err x) e p = p
 pub from_not : {P : Type 0} (b : Bool) → (b ≡ true → ⊥) → (not b ≡ true → P) → P
 from_not true never p = absurd (never refl)
 from_not false never p = p refl
+
+-- what a test decides
+pub from_test : {P Q : Type 0} (b : Bool) → (b ≡ false → P) → (b ≡ true → Q) → P ⊎ Q
+from_test true p q = inr (q refl)
+from_test false p q = inl (p refl)

@@ -1,4 +1,5 @@
 pub mod Feeds
+pub mod FeedsThrough
 pub use Rattle.jf_path.specs.Faults
 pub use Rattle.jf_io.specs.Lines
 pub use Rattle.jf_io.specs.LinesRead

@@ -1,9 +1,11 @@
 // The lines of a source, taken by a machine, and what they add, written into a sink.
-ghost use Rattle.std.specs.Prelude.{◌≡◌, ◌-◌, ◌<◌, ◌≤◌, ◌^◌, Err, OnOk, OnErr, IfErr, List, ℕ, Ok, [], IsTrue};
+ghost use Rattle.std.specs.Prelude.{◌≡◌, ◌⊎◌, ◌-◌, ◌<◌, ◌≤◌, ◌^◌, Err, OnOk, OnErr, IfErr, List, ℕ, Ok, [], Some, IsTrue, true, false, length};
+ghost use Rattle.std.specs.List.{position_or_len, after_first};
 ghost use Rattle.jf_path.specs.Faults.{HasCause};
 ghost use Rattle.jf_io.specs.declared.piece.TheConstants.{MAX_PIECE};
+ghost use Rattle.jf_io.specs.LineReader.{is_line_feed, IsShortened, IsFetched};
 ghost use Rattle.jf_io.specs.Sink.{IsCutShort};
-ghost use Rattle.jf_input.specs.Feeds.{given_of, Appends, HandsOn, Gathers, StopsGathering, EndsAfter, Fed};
+ghost use Rattle.jf_input.specs.Feeds.{given_of, max_gathered, IsQuietLine, Appends, HandsOn, Gathers, StopsGathering, EndsAfter, Fed};
 
 use crate::machine::LineMachine;
 use jf_io::{FetchFault, IoFailed, LineReader, Sink, Source, put_all};
@@ -34,8 +36,9 @@ pub enum Feeding<F> {
 ///
 /// What the machine adds may be gathered, and all of it is written before the source is asked for more bytes, before a
 /// line that isn't known to be quiet is taken, before the next line once 65,536 bytes or more are gathered, and before
-/// `feed` returns. So whoever writes a line and waits gets what it adds. After a `WriteFault` the machine may have taken
-/// quiet lines after the one whose addition was cut.
+/// `feed` returns. So whoever writes a line and waits gets what it adds: the source is asked by one call alone, which
+/// requires that a whole line is at hand or nothing is gathered. After a `WriteFault` the machine may have taken quiet lines
+/// after the one whose addition was cut.
 pub fn feed<M: LineMachine, S: Source, K: Sink>(
     alloc: Global,
     machine: &mut M,
@@ -60,7 +63,7 @@ pub fn feed<M: LineMachine, S: Source, K: Sink>(
         if hand_on_if(asks, sink, &mut out).is_err() {
             return Feeding::WriteFault;
         }
-        match reader.fetch(source) {
+        match next_line(&mut reader, source, &out) {
             Ok(true) => {}
             Ok(false) => return feed_end(alloc, machine, sink, &mut out),
             Err(FetchFault::ReadFault) => return Feeding::ReadFault,
@@ -85,6 +88,28 @@ pub fn feed<M: LineMachine, S: Source, K: Sink>(
     Feeding::Memory
 }
 
+// Takes the next line of a source, as `LineReader::fetch` does. Without a whole line at hand the source is asked, and may
+// wait: so nothing may be gathered then. `feed` and `feed_through` ask a source by this call alone.
+pub(crate) fn next_line<S: Source>(
+    reader: &mut LineReader,
+    source: &mut S,
+    _out: &Bytes,
+) -> Result<bool, FetchFault>
+    requires handed_on { (position_or_len is_line_feed reader.old.bytes < length reader.old.bytes) ⊎ (_out.now ≡ []) }
+    ensures kept { (text : List ℕ) → IsShortened reader.old.limit text reader.old.bytes → IsFetched reader.old.limit text reader.new.bytes (S.rest source.old) (S.rest source.new) }
+    ensures limit { reader.new.limit ≡ reader.old.limit }
+    ensures piece { reader.new.piece ≡ reader.old.piece }
+    ensures few { length (after_first is_line_feed reader.new.bytes) < reader.new.piece }
+    ensures ready { position_or_len is_line_feed reader.old.bytes < length reader.old.bytes → (result ≡ Ok true) × (reader.new ≡ reader.old) × (source.new ≡ source.old) }
+    ensures found { result ≡ Ok true → (position_or_len is_line_feed reader.new.bytes < length reader.new.bytes) ⊎ ((0 < length reader.new.bytes) × ((left : List ℕ) → S.rest source.new ≡ Some left → left ≡ [])) }
+    ensures ended { result ≡ Ok false → (reader.new.bytes ≡ []) × ((left : List ℕ) → S.rest source.new ≡ Some left → left ≡ []) }
+    ensures unfinished { result ≡ Err FetchFault.ReadFault → position_or_len is_line_feed reader.new.bytes ≡ length reader.new.bytes }
+    ensures cause { result ≡ Err FetchFault.ReadFault → HasCause (S.faults source.old) (S.faults source.new) }
+    ensures grows { S.faults source.old ≤ S.faults source.new }
+{
+    reader.fetch(source)
+}
+
 // Hands a line to the machine, and gathers what it adds. What was gathered before is written first, if there is much of it
 // or the line may not be quiet; and it is written if the machine stops.
 fn feed_line<M: LineMachine, K: Sink>(
@@ -102,8 +127,7 @@ fn feed_line<M: LineMachine, K: Sink>(
     ensures write { result ≡ Err Feeding.WriteFault → HasCause (K.faults sink.old) (K.faults sink.new) }
     ensures grows { K.faults sink.old ≤ K.faults sink.new }
 {
-    let is_quiet = machine.is_quiet(line);
-    let is_due = !is_quiet || out.len() >= FULL;
+    let is_due = is_due_before(machine, out, line);
     if hand_on_if(is_due, sink, out).is_err() {
         return Err(Feeding::WriteFault);
     }
@@ -116,6 +140,13 @@ fn feed_line<M: LineMachine, K: Sink>(
             Err(Feeding::Stopped(why))
         }
     }
+}
+
+// Whether what was gathered is to be written before this line is taken: there is much of it, or the line may not be quiet.
+pub(crate) fn is_due_before<M: LineMachine>(machine: &M, out: &Bytes, line: &[u8]) -> bool
+    ensures { result ≡ false → IsQuietLine M.takes M.quiet machine.now line.now × (length out.now < max_gathered) }
+{
+    !machine.is_quiet(line) || out.len() >= FULL
 }
 
 // Writes all that was gathered, if it is due.
