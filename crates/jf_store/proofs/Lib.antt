@@ -31,7 +31,9 @@ pub mod PinnedFloors
 pub mod PruneCallLaws
 pub mod FaultsInTurn
 pub mod Unrefused
+pub mod ChainRoots
 pub mod ForkLandings
+pub mod ChainCalls
 pub mod CompactionCalls
 pub mod ReadingLaws
 pub mod ForkCalls

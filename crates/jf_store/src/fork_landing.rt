@@ -13,13 +13,15 @@ ghost use Rattle.jf_store.specs.declared.tried.Attempt.TheVariants as attempt;
 ghost use Rattle.jf_store.specs.Stepped.{IsUnrefused};
 ghost use Rattle.jf_store.specs.Ledgers.{state_after_events};
 ghost use Rattle.jf_store.specs.Refusals.{broken_faults, ledger_faults, landing_faults};
-ghost use Rattle.jf_store.specs.Landings.{land_faults};
-ghost use Rattle.jf_store.specs.Vaults.{LandsIn, FailsIn};
+ghost use Rattle.jf_store.specs.Landings.{land_faults, landed_roots, LandsChainIn, HasLandedChain};
+ghost use Rattle.jf_store.specs.Vaults.{FailsIn};
 ghost use Rattle.jf_store.specs.Passes.{IsPassOf, HasLanded, HasFailed};
 
 use crate::boxed_vault::{give_back, take_out};
 use crate::fault::StoreFault;
+use crate::landed_chain::LandedChain;
 use crate::pass::Pass;
+use crate::root_list::RootList;
 use crate::store::Store;
 use crate::tried::{Attempt, Tried};
 use crate::vault::{LAST, MAX_ENTRIES, MOST_KEYS, Vault};
@@ -33,25 +35,63 @@ use std::alloc::Global;
 use std::sync::Wait;
 use std::thread::Threads;
 
-// Lands the batches of a chain on an engine that nothing keeps from it.
+// Lands batches on an engine that nothing keeps from it.
 #[tactic(auto, using(crate::proofs::SteppedLaws::unrefused))]
-fn land_chain<D: Disk, H: Threads + Sync, G: Gate>(
+fn land_batches<D: Disk, H: Threads + Sync, G: Gate>(
     rt: &H,
     alloc: Global,
     engine: &mut Engine<D>,
-    chain: &BatchList,
+    batches: &BatchList,
     workers: Workers,
     gate: &G,
 ) -> Result<Landed, EngineFault>
-    requires can { CanStep (Lands chain.now) engine.old }
-    requires any { 1 ≤ length chain.now }
-    requires forks { length chain.now ≤ max_forks }
-    requires limited { key_count chain.now ≤ max_keys }
-    ensures step { HasEnded (Lands chain.now) engine.old engine.new result }
+    requires can { CanStep (Lands batches.now) engine.old }
+    requires any { 1 ≤ length batches.now }
+    requires forks { length batches.now ≤ max_forks }
+    requires limited { key_count batches.now ≤ max_keys }
+    ensures step { HasEnded (Lands batches.now) engine.old engine.new result }
     ensures answer { IfOk result (λ l. (l.version ≡ engine.new.versions.head) × (l.root ≡ root (newest engine.new.versions)) × (l.moment ≡ engine.new.moment)) }
     ensures unrefused { IsUnrefused engine.old engine.new result }
 {
-    engine.land_all(rt, alloc, chain, workers, gate)
+    engine.land_all(rt, alloc, batches, workers, gate)
+}
+
+// Lands the batches of a chain likewise, and reads the roots of the versions that they made. The room for these is taken
+// before the disk is touched.
+fn land_with_roots<D: Disk, H: Threads + Sync, G: Gate>(
+    rt: &H,
+    alloc: Global,
+    engine: &mut Engine<D>,
+    batches: BatchList,
+    workers: Workers,
+    gate: &G,
+) -> Result<LandedChain, EngineFault>
+    requires can { CanStep (Lands batches) engine.old }
+    requires any { 1 ≤ length batches }
+    requires forks { length batches ≤ max_forks }
+    requires limited { key_count batches ≤ max_keys }
+    ensures step { HasEnded (Lands batches) engine.old engine.new result }
+    ensures answer { IfOk result (λ c. (c.landed.version ≡ engine.new.versions.head) × (c.landed.root ≡ root (newest engine.new.versions)) × (c.landed.moment ≡ engine.new.moment)) }
+    ensures batches { IfOk result (λ c. c.batches ≡ batches) }
+    ensures roots { IfOk result (λ c. c.roots ≡ landed_roots engine.old.versions batches) }
+    ensures unrefused { IsUnrefused engine.old engine.new result }
+{
+    let Ok(room) = Vec::with_capacity(alloc, batches.len() as usize) else {
+        return Err(EngineFault::Memory);
+    };
+    engine.know();
+    let first = engine.state().head + 1;
+    match land_batches(rt, alloc, engine, &batches, workers, gate) {
+        Ok(landed) => {
+            let roots = RootList::of(engine, first, room);
+            Ok(LandedChain {
+                landed,
+                batches,
+                roots,
+            })
+        }
+        Err(fault) => Err(fault),
+    }
 }
 
 impl<D: Disk> Vault<D> {
@@ -103,9 +143,9 @@ impl<D: Disk> Vault<D> {
         }
     }
 
-    // Lands a fork with its ancestors for a pass: their batches in one record and one entry. All memory is taken before
-    // the disk is touched. After a landing the forks that stand on it are live; one at which the disk failed is a mark;
-    // every other refusal leaves all as it was.
+    // Lands a fork with its ancestors for a pass: their batches in one record and one entry, and hands them back, with the
+    // root of each version. All memory is taken before the disk is touched. After a landing the forks that stand on it
+    // are live; one at which the disk failed is a mark; every other refusal leaves all as it was.
     pub(crate) fn land_fork<H: Threads + Sync, G: Gate>(
         &mut self,
         rt: &H,
@@ -114,34 +154,34 @@ impl<D: Disk> Vault<D> {
         id: u64,
         workers: Workers,
         gate: &G,
-    ) -> Result<Landed, StoreFault>
+    ) -> Result<LandedChain, StoreFault>
         requires { pass < self.old.start.passes }
         ensures start { self.new.start ≡ self.old.start }
-        ensures landed { IfOk result (LandsIn pass (landing.Fork id) self.old self.new) }
+        ensures landed { IfOk result (LandsChainIn pass id self.old self.new) }
         ensures failed { IfErr result (FailsIn pass (attempt.Lands (landing.Fork id)) (land_faults id) self.old self.new) }
     {
         if let Some(fault) = self.land_fault(id) {
             return Err(fault);
         }
         self.forks.know();
-        let Ok(chain) = self.forks.chain(alloc, id) else {
+        let Ok(batches) = self.forks.chain(alloc, id) else {
             return Err(StoreFault::Memory);
         };
         if self.entries.reserve(1).is_err() {
             return Err(StoreFault::Memory);
         }
-        match land_chain(rt, alloc, &mut self.engine, &chain, workers, gate) {
-            Ok(landed) => {
+        match land_with_roots(rt, alloc, &mut self.engine, batches, workers, gate) {
+            Ok(chain) => {
                 self.forks.settle(Some(id));
-                let root = landed.root;
+                let root = chain.landed.root;
                 self.entries.push_reserved(Entry::Landed {
                     owner: pass,
-                    version: landed.version,
+                    version: chain.landed.version,
                     how: Landing::Fork(id),
                     root,
-                    moment: landed.moment,
+                    moment: chain.landed.moment,
                 });
-                Ok(landed)
+                Ok(chain)
             }
             Err(EngineFault::DiskFault) => {
                 self.tried = Some(Tried {
@@ -188,10 +228,29 @@ impl<D: Disk> Pass<D> {
         ensures landed { IfOk result (HasLanded store.now.start (landing.Fork id) self.old self.new) }
         ensures failed { IfErr result (HasFailed store.now.start (attempt.Lands (landing.Fork id)) (land_faults id) self.old self.new) }
     {
+        let chain = self.land_chain(rt, alloc, store, id, workers, gate)?;
+        Ok(chain.landed)
+    }
+
+    /// Lands a fork and its live ancestors as `land` does, with its refusals, and hands back what it landed: the batch
+    /// that made each version, and the root of each, the oldest first. All memory is taken before the disk is touched.
+    pub fn land_chain<H: Threads + Wait + Sync, G: Gate>(
+        &mut self,
+        rt: &H,
+        alloc: Global,
+        store: &Store<D>,
+        id: u64,
+        workers: Workers,
+        gate: &G,
+    ) -> Result<LandedChain, StoreFault>
+        requires { IsPassOf self.old store.now }
+        ensures landed { IfOk result (HasLandedChain store.now.start id self.old self.new) }
+        ensures failed { IfErr result (HasFailed store.now.start (attempt.Lands (landing.Fork id)) (land_faults id) self.old self.new) }
+    {
         let mut vault = take_out(rt, &mut self.seat, &store.turn);
         let number = self.seat.number();
-        let landed = vault.land_fork(rt, alloc, number, id, workers, gate);
+        let chain = vault.land_fork(rt, alloc, number, id, workers, gate);
         self.marked = give_back(&mut self.seat, &store.turn, vault);
-        landed
+        chain
     }
 }
