@@ -11,7 +11,6 @@ use Rattle.jf_model.specs.declared.entries.Parent.{Parent}
 use Rattle.jf_model.proofs.VersionLaws.{land_all-newest}
 use Rattle.jf_engine.specs.declared.landed.Landed.{Landed}
 use Rattle.jf_forks.specs.declared.table.Forked.{Forked}
-use Rattle.jf_store.specs.declared.event.Event.{Event}
 use Rattle.jf_store.specs.declared.event.Event.TheVariants.{Done, Mark}
 use Rattle.jf_store.specs.declared.fault.StoreFault.{StoreFault}
 use Rattle.jf_store.specs.Events.{landing_entry}
@@ -35,11 +34,11 @@ use Rattle.jf_session.proofs.RefusedCalls.{Fails}
 use Rattle.jf_session.proofs.ToldFaults.{AreTold-commit, AreTold-land, AreTold-make, AreTold-drop, AreTold-compact}
 
 -- the version and the root of a landing
-abbrev version_in : Entry → ℕ
+abbrev pub version_in : Entry → ℕ
 version_in (entry.Landed owner version how r moment) = version
 version_in e = 0
 
-abbrev root_in : Entry → List ℕ
+abbrev pub root_in : Entry → List ℕ
 root_in (entry.Landed owner version how r moment) = r
 root_in (entry.Made owner fork parent batch r) = r
 root_in e = []

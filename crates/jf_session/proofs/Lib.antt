@@ -26,3 +26,10 @@ pub mod Changes
 pub mod PrunedFloors
 pub mod PruneCalls
 pub mod PinCalls
+pub mod OwnLandings
+pub mod LandedBlocks
+pub mod Untold
+pub mod ToldLandings
+pub mod LedLines
+pub mod LedFed
+pub mod LeadLaws

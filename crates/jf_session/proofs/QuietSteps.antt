@@ -18,7 +18,7 @@ use Rattle.jf_session.proofs.MetFloors.{floors_of, met_floors}
 use Rattle.jf_session.proofs.OwnEvents.{others_alone}
 
 -- in no state has the line's answer an entry
-abbrev GivesNone : List ℕ → Type 0
+abbrev pub GivesNone : List ℕ → Type 0
 GivesNone line = (t : State) (own : Own) → (answer t own line).entry ≡ None
 
 module _ (line : List ℕ) (none : GivesNone line) where

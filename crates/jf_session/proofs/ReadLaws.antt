@@ -35,7 +35,7 @@ use Rattle.jf_session.specs.declared.stop.Stop.{Stop}
 use Rattle.jf_session.specs.declared.stop.Stop.TheVariants as stop
 use Rattle.jf_session.proofs.Entering.{own_of}
 use Rattle.jf_session.proofs.Refusals.{AreTold, granted-command}
-use Rattle.jf_session.proofs.Refused.{answer-refused, follows-Sees, SeesMore-Sees, NotDone-sees}
+use Rattle.jf_session.proofs.Refused.{follows-Sees, SeesMore-Sees, NotDone-sees}
 use Rattle.jf_session.proofs.RefusedCalls.{Fails}
 
 -- ---- answers

@@ -15,7 +15,7 @@ use Rattle.jf_session.specs.declared.stop.Stop.TheVariants as stop
 use Rattle.jf_session.specs.Taking.{Makes, AnswersLine, StaysQuiet}
 use Rattle.jf_session.proofs.OwnEvents.{try_is_own, quiet_none}
 
-some_same : (a b : Start) → Some a ≡ Some b → a ≡ b
+pub some_same : (a b : Start) → Some a ≡ Some b → a ≡ b
 some_same a b e = cc
 
 -- with what the store of a pass began is known once

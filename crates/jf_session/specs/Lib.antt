@@ -3,6 +3,9 @@ pub mod Questions
 pub mod Steps
 pub mod Answering
 pub mod Taking
+pub mod Leading
+pub mod Telling
+pub mod Laws
 pub use Rattle.jf_path.specs.Checks
 pub use Rattle.jf_path.specs.Faults
 pub use Rattle.jf_path.specs.Limits
@@ -16,9 +19,12 @@ pub use Rattle.jf_node.specs.SnapshotValue
 pub use Rattle.jf_evidence.specs.Proofs
 pub use Rattle.jf_evidence.specs.Ranges
 pub use Rattle.jf_text.specs.Words
+pub use Rattle.jf_input.specs.Feeds
+pub use Rattle.jf_input.specs.FeedsThrough
 pub use Rattle.jf_script.specs.Bounds
 pub use Rattle.jf_script.specs.Replies
 pub use Rattle.jf_blocks.specs.Blocks
+pub use Rattle.jf_lead.specs.Landings
 pub use Rattle.jf_answers.specs.Answers
 pub use Rattle.jf_answers.specs.Explains
 pub use Rattle.jf_answers.specs.Own

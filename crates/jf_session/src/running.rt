@@ -70,7 +70,7 @@ pub fn run<S: Source, K: Sink, D: Disk, H: Threads + Wait + Sync, G: Gate>(
 }
 
 // How a run ended.
-fn end_of_feeding(how: Feeding<Stop>) -> End
+pub(crate) fn end_of_feeding(how: Feeding<Stop>) -> End
     ensures { result ≡ end_of_feeding how }
 {
     match how {

@@ -100,7 +100,7 @@ impl<D: Disk> Session<D> {
     }
 
     // The session is over.
-    fn stop(&mut self)
+    pub(crate) fn stop(&mut self)
         ensures { self.new ≡ stopped_session self.old }
     {
         self.over = true;

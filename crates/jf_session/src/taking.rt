@@ -34,11 +34,11 @@ pub(crate) struct Taking<T, F> {
 
 impl<T: Shows, F: Fn(&mut T, &[u8], &mut Bytes) -> Result<(), Stop>> LineMachine for Taking<T, F> {
     ghost use Rattle.jf_store.specs.Passes.{Store};
-    ghost use Rattle.jf_session.specs.Taking.{MayStep, AnswersLine, AnswersEnd, StaysQuiet};
+    ghost use Rattle.jf_session.specs.Taking.{MayStep, DoesLine, AnswersLine, AnswersEnd, StaysQuiet};
 
     type Stop = Stop;
 
-    ghost ready = { λ t. (store : Store) × MayStep store T.shown t.session (F.pre t.step) (F.post t.step) };
+    ghost ready = { λ t. (store : Store) × MayStep DoesLine store T.shown t.session (F.pre t.step) (F.post t.step) };
 
     ghost takes = { λ t line next r. AnswersLine (T.shown t.session) line (T.shown next.session) r };
 

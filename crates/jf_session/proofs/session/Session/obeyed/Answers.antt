@@ -1,4 +1,3 @@
-use Rattle.std.proofs.Common.{refl}
 use Rattle.jf_script.specs.declared.command.Command.TheVariants as command
 use Rattle.jf_session.proofs.ReadLaws.{obeyed_plainly}
 use Rattle.jf_session.proofs.session.Session.obeyed.Goals as goal

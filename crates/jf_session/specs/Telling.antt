@@ -1,0 +1,107 @@
+-- What a landing and a line are told as, in place of a reply.
+use Rattle.std.specs.Prelude.{◌≡◌, ◌⊎◌, ℕ, ◌+◌, ◌-◌, Bool, true, false, List, [], ◌∷◌, ◌++◌, length, Some, Result, Ok, Err}
+use Rattle.jf_hash.specs.Maps.{Batch}
+use Rattle.jf_lead.specs.declared.block.LandingBlock.{LandingBlock}
+use Rattle.jf_lead.specs.Landings.{landings_text}
+use Rattle.jf_store.specs.declared.landed_chain.LandedChain.{LandedChain}
+use Rattle.jf_store.specs.Starts.{Start}
+use Rattle.jf_store.specs.Passes.{Pass}
+use Rattle.jf_script.specs.declared.command.Command.{Command}
+use Rattle.jf_script.specs.declared.command.Command.TheVariants as command
+use Rattle.jf_script.specs.declared.command.Change.TheVariants as change
+use Rattle.jf_script.specs.declared.reply.Reply.{Reply}
+use Rattle.jf_history.specs.Sessions.{Session, IsTry, IsBroken, HasDoneNothing, seen_by}
+use Rattle.jf_session.specs.declared.stop.Stop.{Stop}
+use Rattle.jf_session.specs.declared.stop.Stop.TheVariants as stop
+use Rattle.jf_session.specs.Steps.{IsDoneAs, TriedFor, NotDone, StopsFor}
+use Rattle.jf_session.specs.Taking.{RepliesWith, AnswersLine}
+use Rattle.jf_session.specs.Leading.{HasLandedMore, AreOfLast}
+
+-- ---- blocks
+-- the blocks of batches whose maps have these roots, from the version after this one on
+abbrev pub rooted_blocks : ℕ → List Batch → List (List ℕ) → List LandingBlock
+rooted_blocks version [] rs = []
+rooted_blocks version (b ∷ bs) [] = []
+rooted_blocks version (b ∷ bs) (r ∷ rs) = record { version = version + 1; root = r; batch = b } ∷ rooted_blocks (version + 1) bs rs
+
+-- the blocks of a fork that was landed with its ancestors
+abbrev pub chain_blocks : LandedChain → List LandingBlock
+chain_blocks c = rooted_blocks (c.landed.version - length c.batches) c.batches c.roots
+
+-- the pass has landed more, and the text of these blocks was appended
+pub record TellsLandings (start : Start) (old new : Pass) (told told' : List ℕ) : Type 0 where
+  pub blocks : List LandingBlock
+  pub landed : HasLandedMore start old new blocks
+  pub appended : told' ≡ told ++ landings_text blocks
+
+-- ---- a command
+-- the commands that land
+abbrev pub is_landing : Command → Bool
+is_landing (command.Change change.Commit) = true
+is_landing (command.Change (change.Fork on)) = false
+is_landing (command.Change (change.Land id)) = true
+is_landing (command.Change (change.Drop id)) = false
+is_landing (command.Change (change.Prune upto)) = false
+is_landing (command.Change change.Compact) = false
+is_landing (command.Own c) = false
+is_landing (command.Read on q) = false
+is_landing (command.ReadFork id q) = false
+is_landing command.Look = false
+is_landing (command.Pin version) = false
+
+-- what is left of a reply that is dropped
+abbrev pub without_reply : Result Reply Stop → Result (Unit {0}) Stop
+without_reply (Ok r) = Ok tt
+without_reply (Err why) = Err why
+
+-- a command was done, and what it landed, by an entry that is the last so far, is not told
+pub record DoesUntold (start : Start) (old new : Session) (c : Command) : Type 0 where
+  pub reply : Reply
+  pub lines : List ℕ
+  pub done : IsDoneAs start old new c reply lines
+  pub blocks : List LandingBlock
+  pub landed : HasLandedMore start old.pass new.pass blocks
+  pub last : AreOfLast start.state (seen_by new.pass) blocks
+
+-- a command was done, its reply is dropped, and what it landed is told; or why not, and nothing is told. If memory ran out, the command was done or nothing was
+abbrev pub IsLedAs : Start → Session → Session → Command → List ℕ → List ℕ → Result (Unit {0}) Stop → Type 0
+IsLedAs start old new c told told' (Ok done) = (r : Reply) × (lines : List ℕ) × IsDoneAs start old new c r lines × (new.over ≡ false) × TellsLandings start old.pass new.pass told told'
+IsLedAs start old new c told told' (Err stop.DiskFault) = TriedFor start old new c × (told' ≡ told)
+IsLedAs start old new c told told' (Err stop.Broken) = StopsFor start old new c stop.Broken × (told' ≡ told)
+IsLedAs start old new c told told' (Err stop.Memory) = (NotDone old new c ⊎ DoesUntold start old new c) × (told' ≡ told)
+
+-- ---- a line
+-- a line was replied to, and neither its reply nor what it landed is told
+pub record RepliesUntold (start : Start) (s : Session) (line : List ℕ) (new : Session) : Type 0 where
+  pub text : List ℕ
+  pub replied : RepliesWith start s line new text
+  pub blocks : List LandingBlock
+  pub landed : HasLandedMore start s.pass new.pass blocks
+  pub last : AreOfLast start.state (seen_by new.pass) blocks
+
+-- a line was done, its reply is dropped, and what it landed is told; or why not, and nothing is told
+abbrev pub IsLedLine : Start → Session → Session → List ℕ → List ℕ → List ℕ → Result (Unit {0}) Stop → Type 0
+IsLedLine start old new line told told' (Ok done) = (text : List ℕ) × RepliesWith start old line new text × (new.over ≡ false) × TellsLandings start old.pass new.pass told told'
+IsLedLine start old new line told told' (Err stop.DiskFault) = IsTry start old new line × (told' ≡ told)
+IsLedLine start old new line told told' (Err stop.Broken) = IsBroken old new line × (told' ≡ told)
+IsLedLine start old new line told told' (Err stop.Memory) = (HasDoneNothing old new line ⊎ RepliesUntold start old line new) × (told' ≡ told)
+
+-- the pass of a session has landed these blocks more
+abbrev pub LandsMore : Session → Session → List LandingBlock → Type 0
+LandsMore s new blocks = (start : Start) × (s.pass.start ≡ Some start) × HasLandedMore start s.pass new.pass blocks
+
+-- so it has by the last entry that it has seen
+abbrev pub LandsLast : Session → Session → List LandingBlock → Type 0
+LandsLast s new blocks = (start : Start) × (s.pass.start ≡ Some start) × HasLandedMore start s.pass new.pass blocks × AreOfLast start.state (seen_by new.pass) blocks
+
+-- what a line makes of a session that leads, and the text of what it landed, or why the session stops. Only if memory ran out something may have landed then
+abbrev pub LeadsLine : Session → List ℕ → Session → Result (List ℕ) Stop → Type 0
+LeadsLine s line new (Ok told) = (text : List ℕ) × (blocks : List LandingBlock) × AnswersLine s line new (Ok text) × LandsMore s new blocks × (told ≡ landings_text blocks)
+LeadsLine s line new (Err stop.DiskFault) = AnswersLine s line new (Err stop.DiskFault) × LandsMore s new []
+LeadsLine s line new (Err stop.Broken) = AnswersLine s line new (Err stop.Broken) × LandsMore s new []
+LeadsLine s line new (Err stop.Memory) = (blocks : List LandingBlock) × AnswersLine s line new (Err stop.Memory) × LandsLast s new blocks
+
+-- the text of what a line landed is appended, or the text is unchanged
+abbrev pub DoesLeading : Session → List ℕ → List ℕ → Result (Unit {0}) Stop → Session → List ℕ → Type 0
+DoesLeading s line out (Ok done) new out' = (told : List ℕ) × (out' ≡ out ++ told) × LeadsLine s line new (Ok told)
+DoesLeading s line out (Err why) new out' = (out' ≡ out) × LeadsLine s line new (Err why)
