@@ -89,7 +89,7 @@ impl<D: Disk> Follower<D> {
         if self.engine.broken() {
             return Err(FollowFault::Broken);
         }
-        match judge(alloc, &self.engine, version, root, batch) {
+        match judge(rt, alloc, &self.engine, version, root, batch, workers) {
             Ok(Judgement::Known) => Ok(Taken::Already),
             Ok(Judgement::Next) => land(
                 rt,

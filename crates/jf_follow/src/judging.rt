@@ -1,5 +1,5 @@
 // How a store judges a landing that it is told of, before it changes anything.
-ghost use Rattle.std.specs.Prelude.{◌≡◌, ◌+◌, ◌≤◌, IfOk, OnErr};
+ghost use Rattle.std.specs.Prelude.{◌≡◌, ◌+◌, ◌-◌, ◌^◌, ◌<◌, ◌≤◌, IfOk, OnErr};
 ghost use Rattle.jf_hash.specs.Maps.{apply};
 ghost use Rattle.jf_hash.specs.Roots.{root};
 ghost use Rattle.jf_follow.specs.Following.{judgement, told_landing};
@@ -8,11 +8,13 @@ use crate::fault::FollowFault;
 use jf_disk::Disk;
 use jf_engine::Engine;
 use jf_hash::Hash;
+use jf_join::{FreeGate, Workers};
 use jf_node::Snapshot;
 use jf_path::Memory;
-use jf_spec::SpecTree;
 use jf_split::Batch;
+use jf_update::{advance, value_hashes};
 use std::alloc::Global;
+use std::thread::Threads;
 
 /// The greatest version.
 const LAST: u64 = u64::MAX - 1;
@@ -31,13 +33,16 @@ pub enum Judgement {
     Refused(FollowFault),
 }
 
-/// Judges a landing by the versions of a store. It takes memory for the next version alone.
-pub(crate) fn judge<D: Disk>(
+/// Judges a landing by the versions of a store. It takes memory for the next version alone, whose root is found by at most
+/// so many workers.
+pub(crate) fn judge<D: Disk, H: Threads + Sync>(
+    rt: &H,
     alloc: Global,
     engine: &Engine<D>,
     version: u64,
     root: &Hash,
     batch: &Batch,
+    workers: Workers,
 ) -> Result<Judgement, Memory>
     ensures ok { IfOk result (λ j. j ≡ judgement engine.now.versions (told_landing version root.now batch.now)) }
     ensures err { OnErr result (version ≡ engine.now.versions.head + 1) }
@@ -53,7 +58,7 @@ pub(crate) fn judge<D: Disk>(
     if version - 1 > state.head {
         return Ok(Judgement::Refused(FollowFault::Gap(state.head)));
     }
-    judge_next(alloc, engine, state.head, root, batch)
+    judge_next(rt, alloc, engine, state.head, root, batch, workers)
 }
 
 /// Judges a landing of a version whose root is recorded, by the roots alone.
@@ -78,12 +83,14 @@ fn judge_known<D: Disk>(engine: &Engine<D>, version: u64, root: &Hash, batch: &B
 }
 
 /// Judges a landing of the version after the head.
-fn judge_next<D: Disk>(
+fn judge_next<D: Disk, H: Threads + Sync>(
+    rt: &H,
     alloc: Global,
     engine: &Engine<D>,
     head: u64,
     root: &Hash,
     batch: &Batch,
+    workers: Workers,
 ) -> Result<Judgement, Memory>
     requires { head ≡ engine.now.versions.head }
     ensures { IfOk result (λ j. j ≡ judgement engine.now.versions (told_landing (head + 1) root.now batch.now)) }
@@ -95,7 +102,7 @@ fn judge_next<D: Disk>(
     if head >= LAST || newest.count() > MOST_KEYS {
         return Ok(Judgement::Refused(FollowFault::Last));
     }
-    let found = root_with(alloc, newest, batch)?;
+    let found = root_with(rt, alloc, newest, batch, workers)?;
     if found == *root {
         return Ok(Judgement::Next);
     }
@@ -107,11 +114,19 @@ fn judge_next<D: Disk>(
     }))
 }
 
-/// The root of a map after a batch, in memory alone.
-fn root_with(alloc: Global, snapshot: &Snapshot, batch: &Batch) -> Result<Hash, Memory>
+/// The root of the version that a batch would make of a snapshot, in memory alone.
+fn root_with<H: Threads + Sync>(
+    rt: &H,
+    alloc: Global,
+    snapshot: &Snapshot,
+    batch: &Batch,
+    workers: Workers,
+) -> Result<Hash, Memory>
+    requires version { snapshot.now.version < 2 ^ 64 - 2 }
     ensures { IfOk result (λ r. r ≡ root (apply snapshot.now.map batch.now)) }
 {
-    let tree = SpecTree::on(snapshot)?;
-    let tree = tree.with(alloc, batch)?;
-    Ok(tree.root())
+    let entries = batch.as_slice();
+    let hashes = value_hashes(rt, alloc, entries, workers)?;
+    let next = advance(rt, alloc, snapshot, entries, &hashes, workers, &FreeGate)?;
+    Ok(next.root())
 }
