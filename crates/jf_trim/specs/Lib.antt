@@ -1,0 +1,11 @@
+pub mod Trims
+pub mod Laws
+pub use Rattle.jf_model.specs.Versions
+pub use Rattle.jf_disk.specs.Crashes
+pub use Rattle.jf_disk.specs.Disk
+pub use Rattle.jf_frame.specs.Framed
+pub use Rattle.jf_frame.specs.Framing
+pub use Rattle.jf_frame.specs.Logs
+pub use Rattle.jf_pair.specs.Files
+pub use Rattle.jf_pair.specs.Pairs
+pub use Rattle.jf_files.specs.Steps
