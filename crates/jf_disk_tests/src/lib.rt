@@ -12,4 +12,6 @@ mod held_files;
 #[cfg(test)]
 mod mem_disks;
 #[cfg(test)]
+mod readings;
+#[cfg(test)]
 mod steps;

@@ -3,6 +3,7 @@ pub mod Calls
 pub mod Begun
 pub mod File
 pub mod Any
+pub mod Reading
 pub use Rattle.jf_path.specs.Checks
 pub use Rattle.jf_path.specs.Faults
 pub use Rattle.jf_disk.specs.Disk

@@ -33,6 +33,20 @@ pub(crate) fn open_there<H: Files<File = File>>(
     }
 }
 
+/// Opens the file at a path to read it alone, if there is one. It has to be a regular file, and the path no link to a
+/// missing one. It is looked at first: an open of a pipe would wait.
+pub(crate) fn open_to_read<H: Files<File = File>>(
+    rt: &H,
+    path: &str,
+) -> Result<Option<File>, FileRefused> {
+    match fs::metadata(rt, path) {
+        Ok(found) if found.is_file() => Ok(Some(checked(File::open(rt, path)?)?)),
+        Ok(_) => Err(FileRefused::DiskFailed(FaultCause::NotAStore)),
+        Err(e) if e.kind() == ErrorKind::NotFound => none_there(rt, path),
+        Err(e) => Err(e.into()),
+    }
+}
+
 // Refuses a path that is a link to a missing file.
 fn none_there<H: Files<File = File>>(rt: &H, path: &str) -> Result<Option<File>, FileRefused> {
     match fs::symlink_metadata(rt, path) {

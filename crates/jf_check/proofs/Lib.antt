@@ -1,0 +1,11 @@
+pub mod Ends
+pub mod Fronts
+pub mod Telling
+pub mod LiveSides
+pub mod LiveNumbers
+pub mod AddUp
+pub mod Words
+pub mod Judged
+pub mod Checked
+pub mod Sizes
+pub mod OneThing

@@ -1,0 +1,36 @@
+-- The numbers that the records of a side tell, by the fronts of their payloads (docs/FORMATS.md, "Records of nodes in bytes").
+use Rattle.std.specs.Prelude.{ℕ, ◌+◌, ◌-◌, ◌^◌, min, ◌&&◌, ◌==◌, nat_le, nat_lt, if◌then◌else◌, List, [], ◌∷◌, length, drop, Option, Some, None, option_map}
+use Rattle.jf_frame.specs.Framed.{Framed}
+use Rattle.jf_frame.specs.Framing.{number_of}
+use Rattle.jf_pair.specs.Files.{is_checkpoint}
+use Rattle.jf_check.specs.declared.numbers.SideNumbers.{SideNumbers}
+
+-- the numbers of a checkpoint; none if the record is no checkpoint, or its payload ends before they do
+abbrev pub checkpoint_numbers : Framed → Option SideNumbers
+checkpoint_numbers x =
+    if is_checkpoint x.kind && nat_le 32 (length x.payload)
+    then Some (record { generation = number_of x.payload; base = number_of (drop 8 x.payload); floor = number_of (drop 16 x.payload); head = number_of (drop 24 x.payload) })
+    else None
+
+-- what a record of a kind makes of the numbers, by the number at its front: of a floor that is the floor, of a landing the
+-- head, of several landings how many they are. A head stays at 2^64 - 1
+abbrev pub numbers_by : ℕ → ℕ → SideNumbers → SideNumbers
+numbers_by kind number n =
+    if kind == 2 then record { generation = n.generation; base = n.base; floor = number; head = n.head }
+    else if kind == 3 then record { generation = n.generation; base = n.base; floor = n.floor; head = number }
+    else if kind == 6 then record { generation = n.generation; base = n.base; floor = n.floor; head = min (n.head + number) (2 ^ 64 - 1) }
+    else n
+
+-- what a later record makes of the numbers; one of fewer than 8 bytes tells none
+abbrev pub numbers_after : SideNumbers → Framed → SideNumbers
+numbers_after n y = if nat_lt (length y.payload) 8 then n else numbers_by y.kind (number_of y.payload) n
+
+-- what later records make of the numbers, one after another
+abbrev pub numbers_through : SideNumbers → List Framed → SideNumbers
+numbers_through n [] = n
+numbers_through n (y ∷ ys) = numbers_through (numbers_after n y) ys
+
+-- the numbers that records tell: none if there is no record, or the first one tells none
+abbrev pub numbers_in : List Framed → Option SideNumbers
+numbers_in [] = None
+numbers_in (x ∷ xs) = option_map (λ n. numbers_through n xs) (checkpoint_numbers x)

@@ -1,0 +1,9 @@
+-- What is seen of files by their bytes.
+use Rattle.std.specs.Prelude.{ℕ, List, length, slice_index, Option, Some, None}
+use Rattle.jf_folder.specs.declared.seen.Seen.{Seen}
+use Rattle.jf_folder.specs.declared.seen.Seen.TheVariants as seen
+
+-- what is seen of a file of these bytes, or of none
+abbrev pub seen_of : Option (List ℕ) → Seen
+seen_of None = seen.Missing
+seen_of (Some bytes) = seen.There (length bytes) (slice_index bytes 0)

@@ -1,0 +1,142 @@
+// The bytes of a folder's two files, read without a change to the folder.
+ghost use Rattle.std.specs.Prelude.{◌≡◌, [], length, Err, IfOk, option_map};
+ghost use Rattle.jf_folder.specs.Calls.{ReadsAlone};
+ghost use Rattle.jf_folder.specs.Begun.{store_refusal};
+ghost use Rattle.jf_folder.specs.Reading.{seen_of};
+
+use crate::cause::FaultCause;
+use crate::counted::CountedFile;
+use crate::file::FileRefused;
+use crate::folder::Folder;
+use crate::found::{are_apart, open_to_read};
+use crate::pieces::read_pieces;
+use crate::seen::{Seen, store_refusal};
+use jf_disk::MAX_SIDE;
+use std::alloc::Global;
+use std::fs::File;
+use std::rt::Files;
+
+// The bytes that are asked of a file at once.
+const PIECE: usize = 1 << 20;
+
+// The bytes in front of a file by which its checkpoint is known: gate, kind, length and generation.
+const FRONT: usize = 18;
+
+// How often a file is read that another run writes anew meanwhile.
+const TRIES: u64 = 16;
+
+/// The bytes of a folder's two files; `None` is a file that is missing.
+#[derive(Drop)]
+pub struct FolderBytes {
+    pub a: Option<Vec<u8>>,
+    pub b: Option<Vec<u8>>,
+}
+
+impl FolderBytes {
+    /// Reads the files `a.jf` and `b.jf` of a folder, which must exist; no folder has the empty name. They are opened for
+    /// reading alone: no file is made or changed, and no lock is taken, so another run may write them meanwhile. The
+    /// records of each file are then those of one moment. A file that another run keeps writing anew is refused as in use.
+    /// Both files must be regular and not one file under two names.
+    pub fn read<H: Files<File = File>>(
+        rt: &H,
+        alloc: Global,
+        folder: &str,
+    ) -> Result<FolderBytes, FileRefused>
+        ensures { folder.now ≡ [] → result ≡ Err (FileRefused.DiskFailed FaultCause.NoSuchFolder) }
+    {
+        if folder.is_empty() {
+            return Err(FileRefused::DiskFailed(FaultCause::NoSuchFolder));
+        }
+        let _opened = Folder::open(rt, folder)?;
+        let a = format!(in alloc; "{folder}/a.jf")?;
+        let b = format!(in alloc; "{folder}/b.jf")?;
+        let (a, b) = (open_to_read(rt, a.as_str())?, open_to_read(rt, b.as_str())?);
+        if !are_apart(&a, &b)? {
+            return Err(FileRefused::DiskFailed(FaultCause::NotAStore));
+        }
+        Ok(FolderBytes {
+            a: bytes_if_there(alloc, a)?,
+            b: bytes_if_there(alloc, b)?,
+        })
+    }
+
+    /// Why no store would be opened over these files, if none would (docs/FORMATS.md, "The files of a folder").
+    pub fn refusal(&self) -> Option<FaultCause>
+        ensures { result ≡ store_refusal (seen_of (option_map (λ v. v.items) self.now.a)) (seen_of (option_map (λ v. v.items) self.now.b)) }
+    {
+        store_refusal(seen_of(&self.a), seen_of(&self.b))
+    }
+}
+
+// What is seen of a file of these bytes.
+fn seen_of(file: &Option<Vec<u8>>) -> Seen
+    ensures { result ≡ seen_of (option_map (λ v. v.items) file.now) }
+{
+    match file {
+        None => Seen::Missing,
+        Some(bytes) => {
+            let first = if bytes.is_empty() { 0 } else { bytes[0] };
+            Seen::There(bytes.len() as u64, first)
+        }
+    }
+}
+
+// The bytes of a file, if there is one.
+fn bytes_if_there(alloc: Global, file: Option<File>) -> Result<Option<Vec<u8>>, FileRefused> {
+    match file {
+        None => Ok(None),
+        Some(file) => Ok(Some(bytes_at_once(alloc, &mut CountedFile::new(file))?)),
+    }
+}
+
+// All bytes of a file, whose records are those of one moment: the file was not written anew while it was read, since its
+// front then still has the same gate and generation.
+fn bytes_at_once(alloc: Global, file: &mut CountedFile) -> Result<Vec<u8>, FileRefused>
+    ensures { ReadsAlone file.old file.new }
+{
+    for _ in 0..TRIES {
+        let bytes = bytes_of(alloc, file)?;
+        if has_front(file, &bytes)? {
+            return Ok(bytes);
+        }
+    }
+    Err(FileRefused::DiskFailed(FaultCause::InUse))
+}
+
+// Whether the file still begins as these bytes do.
+fn has_front(file: &mut CountedFile, bytes: &[u8]) -> Result<bool, FileRefused>
+    ensures { ReadsAlone file.old file.new }
+{
+    let mut front = [0; FRONT];
+    let n = read_pieces(file, 0, &mut front)?;
+    Ok(front[..n] == bytes[..bytes.len().min(FRONT)])
+}
+
+// All bytes of a file, from the first one on. It goes on until a read finds the end, so that a record that was appended
+// meanwhile is there whole if its gate is open.
+fn bytes_of(alloc: Global, file: &mut CountedFile) -> Result<Vec<u8>, FileRefused>
+    ensures { ReadsAlone file.old file.new }
+{
+    let mut bytes = Vec::new(alloc);
+    for _ in 0..u64::MAX {
+        if read_piece(file, &mut bytes)? < PIECE {
+            return Ok(bytes);
+        }
+    }
+    Err(FileRefused::DiskFailed(FaultCause::TooLarge))
+}
+
+// Appends the bytes of a file that come after these, at most a piece of them, and returns how many they are: fewer than a
+// piece only if the file ends there.
+fn read_piece(file: &mut CountedFile, bytes: &mut Vec<u8>) -> Result<usize, FileRefused>
+    ensures { ReadsAlone file.old file.new }
+{
+    let start = bytes.len();
+    if start as u64 > MAX_SIDE {
+        return Err(FileRefused::DiskFailed(FaultCause::TooLarge));
+    }
+    bytes.resize(start + PIECE, 0)?;
+    let n = read_pieces(file, start as u64, &mut bytes[start..])?;
+    bytes.truncate(start + n);
+    Ok(n)
+}
