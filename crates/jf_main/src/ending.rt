@@ -2,8 +2,10 @@
 ghost use Rattle.std.specs.Prelude.{◌≡◌, None};
 ghost use Rattle.std.specs.Process.{exit_status};
 ghost use Rattle.jf_run.specs.Statuses.{code_of};
+ghost use Rattle.jf_main.specs.Checks.{check_cause, check_status};
 ghost use Rattle.jf_main.specs.Endings.{refusal_cause, refusal_status, told_cause};
 
+use jf_check::{StoreCheck, Unchecked};
 use jf_folder::{AnyDisk, FaultCause, FileRefused};
 use jf_run::status::Status;
 use std::process::ExitCode;
@@ -53,6 +55,28 @@ impl Ending {
         Ending {
             status,
             cause: Some(disk.cause().unwrap_or(FaultCause::NoRoom)),
+        }
+    }
+
+    /// The end after a check of files over which, for this cause, no store would be opened.
+    pub(crate) fn of_check(
+        outcome: Result<StoreCheck, Unchecked>,
+        refusal: Option<FaultCause>,
+    ) -> Ending
+        ensures status { result.status ≡ check_status outcome refusal }
+        ensures cause { result.cause ≡ check_cause outcome refusal }
+    {
+        match (outcome, refusal) {
+            (Err(Unchecked::WriteFault), _) => Ending::of_status(Status::WriteFault),
+            (Err(Unchecked::Memory), _) => Ending::of_status(Status::Memory),
+            (Ok(_), Some(cause)) => Ending {
+                status: Status::DiskFault,
+                cause: Some(cause),
+            },
+            (Ok(StoreCheck::Damaged { side, offset }), None) => {
+                Ending::of_status(Status::Damaged { side, offset })
+            }
+            (Ok(StoreCheck::Sound { .. }), None) => Ending::of_status(Status::Done),
         }
     }
 

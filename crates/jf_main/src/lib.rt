@@ -1,13 +1,16 @@
 //! What the program does: it reads the words of its command line, opens the disk that the first word names, runs the
 //! other words over it, standard input and standard output, and tells on standard error of an end that isn't a good one.
+//! The word `check` is done without opening a disk: the files are read, and told of.
 #![tactic(auto)]
 
+mod checking;
 mod command_line;
 mod ending;
 mod place;
 mod program;
 mod status_line;
 
+pub use checking::{asks_check, check_over, files_at};
 pub use command_line::CommandLine;
 pub use ending::Ending;
 pub use place::disk_at;

@@ -2,6 +2,7 @@
 ghost use Rattle.std.specs.Prelude.{◌≤◌};
 ghost use Rattle.std.specs.Process.{exit_status};
 
+use crate::checking::{asks_check, check_over, files_at};
 use crate::command_line::CommandLine;
 use crate::ending::Ending;
 use crate::place::disk_at;
@@ -26,7 +27,7 @@ use std::{env, io};
 pub fn run<R: Runtime + Files<File = File> + AllocGlobal + Threads + Wait + Sync>(
     rt: &R,
 ) -> ExitCode
-    ensures { exit_status result ≤ 9 }
+    ensures { exit_status result ≤ 12 }
 {
     let ending = run_process(rt);
     let _ = tell(rt, &ending);
@@ -52,13 +53,30 @@ fn command_line<R: Runtime + AllocGlobal>(rt: &R) -> Result<CommandLine, Status>
     }
 }
 
-// Opens the disk that the command line names, and runs its words over it.
+// Opens the disk that the command line names, and runs its words over it; or checks its files.
 fn run_line<R: Runtime + Files<File = File> + AllocGlobal + Threads + Wait + Sync>(
     rt: &R,
     line: &CommandLine,
 ) -> Ending {
+    if asks_check(&line.words) {
+        return check_line(rt, line.folder.as_str());
+    }
     match disk_at(rt, rt.alloc(), line.folder.as_str()) {
         Ok(disk) => run_over(rt, &line.words, disk),
+        Err(why) => Ending::of_refusal(why),
+    }
+}
+
+// Checks the files that the command line names, and tells of them on standard output.
+fn check_line<R: Runtime + Files<File = File> + AllocGlobal + Threads + Sync>(
+    rt: &R,
+    folder: &str,
+) -> Ending {
+    match files_at(rt, rt.alloc(), folder) {
+        Ok(files) => {
+            let mut sink = StdSink::new(io::writer(rt));
+            check_over(rt, rt.alloc(), files, &mut sink)
+        }
         Err(why) => Ending::of_refusal(why),
     }
 }

@@ -1,14 +1,14 @@
 // The line on standard error that tells of a status.
 ghost use Rattle.std.specs.Prelude.{◌≡◌, Some};
 ghost use Rattle.hex.specs.Hex.{encode_lower};
-ghost use Rattle.jf_main.specs.Lines.{check_number, refusal_text, side_word, status_text};
+ghost use Rattle.jf_main.specs.Lines.{check_number, landing_refusal_text, refusal_text, side_word, status_text, unfollowed_text};
 
 use hex::encode_to_slice;
 use jf_disk::Side;
 use jf_evidence::RangeFault;
 use jf_hash::Hash;
-use jf_run::RestoreFault;
 use jf_run::status::Status;
+use jf_run::{FollowFault, FollowRefused, RestoreFault};
 use std::{fmt, str};
 
 /// The line that tells of a status, without its line feed (docs/FORMATS.md, "Calling the program"): empty for `Done`.
@@ -39,6 +39,18 @@ impl fmt::Display for StatusLine {
                 write!(f, "refused {why}")
             }
             Status::Outside { least, head } => write!(f, "outside {least} {head}"),
+            Status::Unfollowed(why) => {
+                let why = UnfollowedWords(why);
+                write!(f, "unfollowed {why}")
+            }
+            Status::NotShown(why) => {
+                let number = why.number();
+                write!(f, "not shown {number}")
+            }
+            Status::Elsewhere { head, root } => {
+                let root = HashDigits(root);
+                write!(f, "elsewhere {head} {root}")
+            }
         }
     }
 }
@@ -63,6 +75,51 @@ impl fmt::Display for RefusalWords {
                 write!(f, "not-whole {announced} {found}")
             }
             RestoreFault::Last => write!(f, "last"),
+        }
+    }
+}
+
+// The words that say why landing blocks were not followed further (docs/FORMATS.md, "Landing blocks").
+#[derive(Clone, Copy, Drop)]
+struct UnfollowedWords(FollowRefused);
+
+impl fmt::Display for UnfollowedWords {
+    ghost output = { λ w. Some (unfollowed_text w.0) };
+
+    fn fmt<W: fmt::Write>(&self, f: &mut fmt::Formatter<W>) -> fmt::Result {
+        match self.0 {
+            FollowRefused::Line(line) => write!(f, "line {line}"),
+            FollowRefused::Block(line, why) => {
+                let why = LandingRefusalWords(why);
+                write!(f, "block {line} {why}")
+            }
+        }
+    }
+}
+
+// The words that say why a landing block was refused (docs/FORMATS.md, "Landing blocks").
+#[derive(Clone, Copy, Drop)]
+struct LandingRefusalWords(FollowFault);
+
+impl fmt::Display for LandingRefusalWords {
+    ghost output = { λ w. Some (landing_refusal_text w.0) };
+
+    fn fmt<W: fmt::Write>(&self, f: &mut fmt::Formatter<W>) -> fmt::Result {
+        match self.0 {
+            FollowFault::Broken => write!(f, "broken"),
+            FollowFault::Below(base) => write!(f, "below {base}"),
+            FollowFault::Differs {
+                version,
+                announced,
+                found,
+            } => {
+                let (announced, found) = (HashDigits(announced), HashDigits(found));
+                write!(f, "differs {version} {announced} {found}")
+            }
+            FollowFault::Gap(head) => write!(f, "gap {head}"),
+            FollowFault::Last => write!(f, "last"),
+            FollowFault::DiskFault => write!(f, "disk fault"),
+            FollowFault::Memory => write!(f, "out of memory"),
         }
     }
 }

@@ -1,6 +1,6 @@
 -- What a call promises that opened the store and was to write the total of the recorded roots.
 use Rattle.std.specs.Prelude.{IfSome}
-use Rattle.std.proofs.Common.{◌≡◌, ◌⊎◌, ◌∙◌, refl, sym, subst, ℕ, ◌≤◌, Option, Some, Ok, Err, Result, inl, inr, le_refl}
+use Rattle.std.proofs.Common.{◌≡◌, ◌⊎◌, ◌∙◌, refl, sym, subst, ℕ, ◌≤◌, List, Option, Some, Ok, Err, Result, inl, inr, le_refl}
 use Rattle.jf_path.specs.Faults.{HasCause}
 use Rattle.jf_model.specs.States.{State}
 use Rattle.jf_disk.specs.declared.side.Side.{Side}
@@ -35,6 +35,12 @@ no_damage (Ok u) side at e = absurd (cc)
 no_damage (Err (fault.Outside least head)) side at e = absurd (cc)
 no_damage (Err fault.WriteFault) side at e = absurd (cc)
 no_damage (Err fault.Memory) side at e = absurd (cc)
+
+pub history_here : (how : How) (head : ℕ) (root : List ℕ) → status_of_history how ≡ status.Elsewhere head root → ⊥
+history_here (Ok u) head root e = absurd (cc)
+history_here (Err (fault.Outside least greatest)) head root e = absurd (cc)
+history_here (Err fault.WriteFault) head root e = absurd (cc)
+history_here (Err fault.Memory) head root e = absurd (cc)
 
 no_read : (how : How) → status_of_history how ≡ status.ReadFault → ⊥
 no_read (Ok u) e = absurd (cc)

@@ -1,6 +1,6 @@
 -- What a call promises that opened the store and was to look up the names of its input.
 use Rattle.std.specs.Prelude.{IfSome, IsTrue}
-use Rattle.std.proofs.Common.{◌≡◌, ◌⊎◌, ◌∙◌, refl, sym, subst, ℕ, ◌≤◌, Option, Some, Ok, Err, Result, inl, inr}
+use Rattle.std.proofs.Common.{◌≡◌, ◌⊎◌, ◌∙◌, refl, sym, subst, ℕ, ◌≤◌, List, Option, Some, Ok, Err, Result, inl, inr}
 use Rattle.jf_path.specs.Faults.{HasCause}
 use Rattle.jf_model.specs.States.{State}
 use Rattle.jf_disk.specs.declared.side.Side.{Side}
@@ -40,6 +40,14 @@ no_damage (Err (fault.Line line)) side at e = absurd (cc)
 no_damage (Err fault.ReadFault) side at e = absurd (cc)
 no_damage (Err fault.WriteFault) side at e = absurd (cc)
 no_damage (Err fault.Memory) side at e = absurd (cc)
+
+pub names_here : (how : How) (head : ℕ) (root : List ℕ) → status_of_names how ≡ status.Elsewhere head root → ⊥
+names_here (Ok u) head root e = absurd (cc)
+names_here (Err (fault.Outside least greatest)) head root e = absurd (cc)
+names_here (Err (fault.Line at)) head root e = absurd (cc)
+names_here (Err fault.ReadFault) head root e = absurd (cc)
+names_here (Err fault.WriteFault) head root e = absurd (cc)
+names_here (Err fault.Memory) head root e = absurd (cc)
 
 no_disk : (how : How) → status_of_names how ≡ status.DiskFault → ⊥
 no_disk (Ok u) e = absurd (cc)

@@ -15,4 +15,4 @@ asked_untouched asks m how s s' k k' is h = subst (λ (o : Option Mode). LeavesU
 
 -- a mode that was not done left both as they were
 pub all_untouched : {S K : Type 0} (m : Mode) (how : Status) (s : S) (k : K) → LeavesUntouched (shape_of m) how s s k k
-all_untouched m how s k = record { unread = λ e. refl; unwritten = λ e t. refl; occupied = λ e head t. (refl, refl); outside = λ e least head t. (refl, refl) }
+all_untouched m how s k = record { unread = λ e. refl; unwritten = λ e t. refl; occupied = λ e head t. (refl, refl); outside = λ e least head t. (refl, refl); elsewhere = λ head root t. (refl, refl) }

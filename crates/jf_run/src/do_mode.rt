@@ -7,12 +7,15 @@ ghost use Rattle.jf_run.specs.Bodies.{CompletesCall};
 ghost use Rattle.jf_run.specs.Calls.{disk_of, engine_disk, shown};
 ghost use Rattle.jf_run.specs.Untouched.{LeavesUntouched};
 
+use crate::follow_over::follow_over;
 use crate::history_over::history_over;
 use crate::many_over::many_over;
 use crate::over::Over;
 use crate::restore_over::restore_over;
+use crate::resume_over::resume_over;
 use crate::script::{Script, script_over};
 use crate::serve_over::serve_over;
+use crate::trim_over::trim_over;
 use jf_disk::Disk;
 use jf_engine::Engine;
 use jf_files::{damage_is_no_versions, files_stand_for_one};
@@ -56,7 +59,20 @@ pub(crate) fn do_mode<S: Source, K: Sink, D: Disk, H: Threads + Wait + Sync, G: 
                 gate,
             )
         }
+        Mode::Resume {
+            version,
+            root,
+            workers,
+        } => {
+            resume_over(
+                rt, alloc, engine, version, root, source, sink, workers, gate,
+            )
+        }
         Mode::Serve { workers } => serve_over(rt, alloc, engine, source, sink, workers, gate),
+        Mode::Lead { workers } => {
+            script_over(rt, alloc, engine, Script::Led, source, sink, workers, gate)
+        }
+        Mode::Follow { workers } => follow_over(rt, alloc, engine, source, sink, workers, gate),
         Mode::Verify => unreachable!(),
         Mode::Generate {
             seed,
@@ -73,7 +89,9 @@ pub(crate) fn do_mode<S: Source, K: Sink, D: Disk, H: Threads + Wait + Sync, G: 
             root,
             workers: _,
         } => restore_over(alloc, engine, version, root, source, sink),
+        Mode::Trim => trim_over(alloc, engine, sink),
         Mode::History { version } => history_over(alloc, engine, version, sink),
         Mode::Many { version } => many_over(alloc, engine, version, source, sink),
+        Mode::Judge { .. } => unreachable!(),
     }
 }

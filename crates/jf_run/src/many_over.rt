@@ -1,5 +1,5 @@
 // The mode `many` over an open store: the names of an input are looked up in a version.
-ghost use Rattle.std.specs.Prelude.{◌≡◌, ℕ, IsTrue, false};
+ghost use Rattle.std.specs.Prelude.{◌≡◌, ◌≢◌, ℕ, List, IsTrue, false};
 ghost use Rattle.jf_model.specs.States.{opened};
 ghost use Rattle.jf_words.specs.declared.modes.Mode.TheVariants as mode;
 ghost use Rattle.jf_run.specs.Bodies.{CompletesCall};
@@ -29,6 +29,7 @@ pub(crate) fn many_over<S: Source, K: Sink, D: Disk>(
     ensures unwritten { IsTrue (is_input_fault result.status) → sink.new ≡ sink.old }
     ensures outside { (least head : ℕ) → result.status ≡ Status.Outside least head → (source.new ≡ source.old) × (sink.new ≡ sink.old) }
     ensures resting { disk_of D.Disk result.disk ≡ engine_disk engine }
+    ensures here { (head : ℕ) (root : List ℕ) → result.status ≢ Status.Elsewhere head root }
     ensures kept { CompletesCall (mode.Many version) (opened engine.versions engine.generation) (shown S.Source K.Sink source.old sink.old (engine_disk engine)) (shown S.Source K.Sink source.new sink.new (disk_of D.Disk result.disk)) result.status result.entries }
 {
     engine.know();

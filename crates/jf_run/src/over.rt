@@ -7,13 +7,13 @@ use jf_disk::Disk;
 use jf_engine::{Engine, EngineMemory};
 use jf_model::Ledger;
 
-/// How a mode ended, the disk, the entries that it made, and what the store has in memory.
+/// How a mode ended, the disk, the entries that it made, and what the store still has in memory.
 #[derive(Drop)]
 pub(crate) struct Over<D> {
     pub status: Status,
     pub disk: D,
     pub entries: Ledger,
-    pub memory: EngineMemory,
+    pub memory: Option<EngineMemory>,
 }
 
 impl<D: Disk> Over<D> {
@@ -28,7 +28,7 @@ impl<D: Disk> Over<D> {
             status,
             disk,
             entries,
-            memory,
+            memory: Some(memory),
         }
     }
 }

@@ -56,7 +56,7 @@ pub(crate) fn over_store<S: Source, K: Sink, D: Disk, H: Threads + Wait + Sync, 
         disk,
         entries,
         start: Some(head),
-        memory: Some(memory),
+        memory,
     }
 }
 

@@ -1,11 +1,12 @@
 // The top call of the program: the words of a command line say what is done with source, sink and disk.
-ghost use Rattle.std.specs.Prelude.{◌≡◌, ℕ, IfNone, IsTrue, IsFalse};
+ghost use Rattle.std.specs.Prelude.{◌≡◌, ℕ, List, IfNone, IsTrue, IsFalse};
 ghost use Rattle.jf_words.specs.Modes.{asked};
 ghost use Rattle.jf_words.specs.Shapes.{ByImport, IsIdleWithoutStore, NoInput, ToItsEnd, asked_shape};
 ghost use Rattle.jf_run.specs.Calls.{disk_of, program_call, shown};
 ghost use Rattle.jf_run.specs.Promises.{KeepsPromises};
 ghost use Rattle.jf_run.specs.Statuses.{is_input_fault};
 
+use crate::judge_name::judge_name;
 use crate::judging::judge_input;
 use crate::over_store::over_store;
 use crate::status::{Ended, Status};
@@ -25,9 +26,15 @@ use std::thread::Threads;
 ///   store. `--workers N`, 1 to 64, says how many threads may work at once on the pieces of a landing, also of one that
 ///   the opening reads; unless N is 1, the values of a large batch are hashed by several threads too. The gate is told
 ///   of each piece of a landing that the script asks for, before the piece begins. Neither changes the output.
+/// - `resume VERSION ROOT` opens the store, and goes on as `run` if the recorded root of the version is this one. Otherwise it
+///   ends with `Elsewhere`, and has done nothing.
 /// - `serve` opens the store, reads the source to its end, and runs the scripts of its sessions, 1 to 16, side by side over
 ///   the store (docs/FORMATS.md, "Several sessions"). `--workers N` is for landings as in `run`. The gate is told of each
 ///   session before it begins, too. Once all have ended, it writes the output of each session, and then the entries.
+/// - `lead` opens the store, and runs the script of the source over it as `run` does. It writes no replies, but the landing
+///   block of each version that it lands, as soon as the landing stands (docs/FORMATS.md, "Landing blocks").
+/// - `follow` opens the store, and lands the landing blocks of the source, each at its last line, as long as each comes to the
+///   root that is announced; then it writes where the store has come to.
 /// - `generate SEED BATCHES SIZE` opens the store, and runs the script of that seed over it in the same way. It reads no
 ///   input, and writes how many replies were refusals and the last two replies.
 /// - `restore VERSION ROOT` opens a new store, and makes it hold one version, whose entries the source gives as chunk
@@ -40,10 +47,13 @@ use std::thread::Threads;
 ///   to its end.
 /// - `verify` judges the proof blocks of the source, and writes the verdicts into the sink. No call is made on the
 ///   disk.
+/// - `judge ROOT NAME` reads the reply to one `prove` from the source, to its end, and writes what it shows of the name under the
+///   root, as one line: `value =VALUE`, `none` or `refused N`. No call is made on the disk.
 /// - For other words the call returns `Usage`, or `Memory` if memory runs out. No device is touched.
 ///
-/// A mode that reads its input to its end, as `serve` and `many` do, makes no call on the sink if it ends with `ReadFault`,
-/// `InputFull` or `Refused` (clause `unwritten`), and none on source and sink if it ends with `Outside` (clause `outside`).
+/// A mode that writes nothing before the end of its input, as `serve`, `follow`, `many` and `judge`, makes no call on the
+/// sink if it ends with `ReadFault`, `InputFull`, `Refused` or `Unfollowed` (clause `unwritten`), and none on source and sink
+/// if it ends with `Outside` (clause `outside`). After `Elsewhere` no call was made on source or sink (clause `elsewhere`).
 ///
 /// The disk is handed back in every case. The clause `kept` is one record with all promises of a call
 /// (docs/PROMISES.md, "The top call"):
@@ -53,6 +63,13 @@ use std::thread::Threads;
 ///   every landing acknowledged by then; if the disk failed, they may instead stand for those after all entries and the
 ///   one that the first line without a reply asked for. On a disk that wasn't calm before the call, this holds from the
 ///   opening on. If the disk didn't fail, the files stand for the versions after all entries at the end.
+/// - If a store with an announced root was to be resumed (`IsResumedCall`), the call is such a run over a store that has that
+///   root; or there are no entries, the disk shows what the opening left, and files that held a record are unchanged.
+///   `Elsewhere` comes exactly then.
+/// - In the mode `lead` (`IsLedCall`) the entries are those of the lines done, with the same promises of a crash, and the text
+///   has the blocks of the landings made.
+/// - If landing blocks were to be followed (`IsFollowedCall`), the entries are the landings of the blocks up to the first that
+///   was refused or failed, with the same promises of a crash; a refusal is the first one of the whole input.
 /// - If several sessions were to be served (`IsServedCall`), one legal history explains what all of them were answered, and
 ///   the entries are that history. The same holds of a crash, with the attempt of one session. If no session began, there
 ///   are no entries and nothing was written; `InputFull` and `ReadFault` come only then.
@@ -67,7 +84,8 @@ use std::thread::Threads;
 ///   isn't from the floor to the head; after it, a line that is no name or is the 10,001st is refused by its number.
 /// - If no store was opened (`IsClosedCall`), there are no entries and the files are unchanged. One exception: a call
 ///   that ends with `DiskFault` may have begun files without a record, which still stand for a new store.
-/// - In the mode `verify` (`IsJudgedCall`), the verdicts were written, as far as the status says.
+/// - In the mode `verify` (`IsJudgedCall`), the verdicts were written, as far as the status says; in the mode `judge`
+///   (`IsJudgedNameCall`), what the block shows of the name.
 pub fn run_words<S: Source, K: Sink, D: Disk, H: Threads + Wait + Sync, G: Gate>(
     rt: &H,
     alloc: Global,
@@ -83,6 +101,7 @@ pub fn run_words<S: Source, K: Sink, D: Disk, H: Threads + Wait + Sync, G: Gate>
     ensures unwritten { (asked_shape (asked words.now)).reading ≡ ToItsEnd → IsTrue (is_input_fault result.status) → sink.new ≡ sink.old }
     ensures occupied { (asked_shape (asked words.now)).changes ≡ ByImport → (head : ℕ) → result.status ≡ Status.Refused (RestoreFault.NotEmpty head) → (source.new ≡ source.old) × (sink.new ≡ sink.old) }
     ensures outside { (asked_shape (asked words.now)).reading ≡ ToItsEnd → (least head : ℕ) → result.status ≡ Status.Outside least head → (source.new ≡ source.old) × (sink.new ≡ sink.old) }
+    ensures elsewhere { (head : ℕ) (root : List ℕ) → result.status ≡ Status.Elsewhere head root → (source.new ≡ source.old) × (sink.new ≡ sink.old) }
     ensures kept { KeepsPromises (program_call (asked words.now) (shown S.Source K.Sink source.old sink.old (disk_of D.Disk disk)) (shown S.Source K.Sink source.new sink.new (disk_of D.Disk result.disk)) result.status result.entries result.start) }
 {
     files_stand_for_sound();
@@ -94,6 +113,10 @@ pub fn run_words<S: Source, K: Sink, D: Disk, H: Threads + Wait + Sync, G: Gate>
     match mode {
         Mode::Verify => {
             let status = judge_input(alloc, source, sink);
+            Ended::without_store(alloc, status, disk)
+        }
+        Mode::Judge { root, name } => {
+            let status = judge_name(alloc, &root, name.as_slice(), source, sink);
             Ended::without_store(alloc, status, disk)
         }
         _ => over_store(rt, alloc, mode, source, sink, disk, gate),

@@ -2,11 +2,15 @@
 ghost use Rattle.std.specs.Prelude.{◌≡◌, [], None};
 ghost use Rattle.std.specs.List.{list_any};
 ghost use Rattle.jf_serve.specs.Served.{ran_out_of_memory};
-ghost use Rattle.jf_run.specs.Statuses.{code_of, is_stopped_by_disk, status_of, status_of_ends, status_of_history, status_of_input_fault, status_of_names, status_of_received, status_of_refusal, status_of_served, status_of_verified};
+ghost use Rattle.jf_run.specs.Statuses.{code_of, is_stopped_by_disk, status_of, status_of_ends, status_of_followed, status_of_history, status_of_input_fault, status_of_judged, status_of_led, status_of_names, status_of_received, status_of_refusal, status_of_served, status_of_verified};
 
+use jf_ask::LookupFault;
 use jf_disk::Side;
 use jf_engine::{EngineMemory, OpenFault};
+use jf_follow::{FollowRefused, Followed};
+use jf_hash::Hash;
 use jf_history::End;
+use jf_judge::Judged;
 use jf_model::Ledger;
 use jf_names::NamesFault;
 use jf_receive::{Received, RestoreFault};
@@ -42,10 +46,18 @@ pub enum Status {
     /// The version isn't between these two, the least and the greatest that can be asked for. For the total of the roots they
     /// are the base and the head, for names the floor and the head. Nothing was read or written.
     Outside { least: u64, head: u64 },
+    /// Landing blocks were not followed further, for this reason. The blocks before the line or the block that it names were
+    /// followed, and nothing was written.
+    Unfollowed(FollowRefused),
+    /// The input shows nothing of the name under the root, for this reason, and the line that says so was written.
+    NotShown(LookupFault),
+    /// The store doesn't have the announced root of a version: the recorded root is another one, or the version isn't between
+    /// the base and the head. These are the newest version and its root. No line was done, and nothing was read or written.
+    Elsewhere { head: u64, root: Hash },
 }
 
 /// What a call of the program hands back: how it ended, the disk, the entries of its ledger, and the newest version
-/// when the store was opened and what the store has in memory, or `None` if no store was opened.
+/// when the store was opened, or `None` if no store was opened, and what the store still has in memory.
 #[derive(Drop)]
 pub struct Ended<D> {
     pub status: Status,
@@ -70,6 +82,17 @@ impl Status {
         }
     }
 
+    /// The status after a script was led, and whether the sink failed. A fault of the sink ends no line, so another end
+    /// goes before it.
+    pub fn of_led(end: End, is_cut: bool) -> Status
+        ensures { result ≡ status_of_led end is_cut }
+    {
+        match end {
+            End::Done if is_cut => Status::WriteFault,
+            _ => Status::of_end(end),
+        }
+    }
+
     /// The status after an input was judged.
     pub fn of_verified(end: Verified) -> Status
         ensures { result ≡ status_of_verified end }
@@ -79,6 +102,19 @@ impl Status {
             Verified::ReadFault => Status::ReadFault,
             Verified::WriteFault => Status::WriteFault,
             Verified::Memory => Status::Memory,
+        }
+    }
+
+    /// The status after a name was looked up in a reply.
+    pub fn of_judged(end: Judged) -> Status
+        ensures { result ≡ status_of_judged end }
+    {
+        match end {
+            Judged::Shown => Status::Done,
+            Judged::Refused(why) => Status::NotShown(why),
+            Judged::ReadFault => Status::ReadFault,
+            Judged::WriteFault => Status::WriteFault,
+            Judged::Memory => Status::Memory,
         }
     }
 
@@ -133,6 +169,20 @@ impl Status {
         }
     }
 
+    /// The status after landing blocks were to be followed.
+    pub fn of_followed(how: Followed) -> Status
+        ensures { result ≡ status_of_followed how }
+    {
+        match how {
+            Followed::Done => Status::Done,
+            Followed::ReadFault => Status::ReadFault,
+            Followed::WriteFault => Status::WriteFault,
+            Followed::DiskFault => Status::DiskFault,
+            Followed::Memory => Status::Memory,
+            Followed::Refused(why) => Status::Unfollowed(why),
+        }
+    }
+
     /// The status if the scripts of several sessions could not be read.
     pub fn of_input_fault(why: InputFault) -> Status
         ensures { result ≡ status_of_input_fault why }
@@ -168,7 +218,7 @@ impl Status {
         other
     }
 
-    /// The exit status of the process: 0 to 9.
+    /// The exit status of the process: 0 to 12.
     pub fn code(self) -> u8
         ensures { result ≡ code_of self }
     {
@@ -183,6 +233,9 @@ impl Status {
             Status::Memory => 7,
             Status::Refused(_) => 8,
             Status::Outside { .. } => 9,
+            Status::Unfollowed(_) => 10,
+            Status::NotShown(_) => 11,
+            Status::Elsewhere { .. } => 12,
         }
     }
 }

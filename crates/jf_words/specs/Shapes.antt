@@ -3,17 +3,18 @@ use Rattle.std.specs.Prelude.{ℕ, Bool, true, false, IsTrue, IfSome, Option, So
 use Rattle.jf_words.specs.declared.modes.Mode.{Mode}
 use Rattle.jf_words.specs.declared.modes.Mode.TheVariants as mode
 
--- how the input is read: not at all, in pieces as the mode goes on, or to its end before anything is written
+-- how the input is read: not at all, in pieces as the mode goes on, or to its end, or to a limit, before anything is written
 pub data Reading : Type 0 where
   NoInput : Reading
   InPieces : Reading
   ToItsEnd : Reading
 
--- how the store is changed: not at all, by entries, or by one import
+-- how the store is changed: not at all, by entries, by one import, or in its files alone, which are trimmed and stand for the same
 pub data Changes : Type 0 where
   NoChange : Changes
   ByEntries : Changes
   ByImport : Changes
+  ByTrimming : Changes
 
 -- whether the store is opened; how the input is read and the store is changed; and the number of workers, in a mode that takes the option
 pub record Shape : Type 0 where
@@ -25,12 +26,17 @@ pub record Shape : Type 0 where
 -- the shape of a mode
 abbrev pub shape_of : Mode → Shape
 shape_of (mode.Run n) = record { opens = true; reading = InPieces; changes = ByEntries; workers = Some n }
+shape_of (mode.Resume version root n) = record { opens = true; reading = InPieces; changes = ByEntries; workers = Some n }
 shape_of (mode.Serve n) = record { opens = true; reading = ToItsEnd; changes = ByEntries; workers = Some n }
+shape_of (mode.Lead n) = record { opens = true; reading = InPieces; changes = ByEntries; workers = Some n }
+shape_of (mode.Follow n) = record { opens = true; reading = ToItsEnd; changes = ByEntries; workers = Some n }
 shape_of mode.Verify = record { opens = false; reading = InPieces; changes = NoChange; workers = None }
 shape_of (mode.Generate seed batches size n) = record { opens = true; reading = NoInput; changes = ByEntries; workers = Some n }
 shape_of (mode.Restore version root n) = record { opens = true; reading = InPieces; changes = ByImport; workers = Some n }
+shape_of mode.Trim = record { opens = true; reading = NoInput; changes = ByTrimming; workers = None }
 shape_of (mode.History version) = record { opens = true; reading = NoInput; changes = NoChange; workers = None }
 shape_of (mode.Many version) = record { opens = true; reading = ToItsEnd; changes = NoChange; workers = None }
+shape_of (mode.Judge root name) = record { opens = false; reading = ToItsEnd; changes = NoChange; workers = None }
 
 -- the shape of what words ask for, which is nothing if the program doesn't take them
 abbrev pub asked_shape : Option Mode → Shape

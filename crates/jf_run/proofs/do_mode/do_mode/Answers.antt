@@ -1,10 +1,12 @@
-use Rattle.std.proofs.Common.{ap, refl, subst, List, ℕ}
+use Rattle.std.proofs.Common.{ap, refl, subst, sym, ◌∙◌, List, ℕ}
 use Rattle.jf_model.specs.States.{opened}
 use Rattle.jf_words.specs.Modes.{KeepsLimits}
+use Rattle.jf_words.specs.declared.modes.Mode.TheVariants as mode
 use Rattle.jf_run.specs.Calls.{disk_of, engine_disk}
 use Rattle.jf_run.specs.Runs.{HasGenerated}
-use Rattle.jf_run.proofs.LinesDone.{generated_keeps, run_keeps}
+use Rattle.jf_run.proofs.LinesDone.{generated_keeps, led_keeps, run_keeps}
 use Rattle.jf_run.proofs.Opened.{completes_as}
+use Rattle.jf_run.proofs.Statuses.{run_here, script_here}
 use Rattle.jf_run.proofs.Untouched.{untouched_as}
 use Rattle.jf_run.proofs.do_mode.do_mode.Goals as goal
 
@@ -13,8 +15,9 @@ pub returns-in-Run-clause-kept : goal.returns-in-Run-clause-kept
 returns-in-Run-clause-kept g c = completes_as _ _ _ _ _ _ _ c.in-Run.is (λ before head begun dated.
     let e = c.args.engine in
     let done = c.script_over.ensures in
-    run_keeps _ head c.in-Run.workers (opened e.versions e.generation) (engine_disk e) done.ran.0 done.ran.1 begun done.ran.2 done.ran.3 c.files_stand_for_one.ensures c.damage_is_no_versions.ensures dated refl refl
-    done.read done.write done.source_counts done.sink_counts)
+    let ran = done.ran.1 in
+    run_keeps _ head (opened e.versions e.generation) (engine_disk e) ran.0 done.ran.0 begun ran.1 ran.2 c.files_stand_for_one.ensures c.damage_is_no_versions.ensures dated refl
+    (mode.Run c.in-Run.workers) refl refl refl (λ r same. r) done.read done.write done.source_counts done.sink_counts)
 
 pub returns-in-Run-clause-untouched : goal.returns-in-Run-clause-untouched
 returns-in-Run-clause-untouched g c = untouched_as _ _ _ _ _ _ _ c.in-Run.is (record {
@@ -22,6 +25,20 @@ returns-in-Run-clause-untouched g c = untouched_as _ _ _ _ _ _ _ c.in-Run.is (re
   unwritten = λ e ends. absurd (cc);
   occupied = λ e head ends. absurd (cc);
   outside = λ e least head ends. absurd (cc);
+  elsewhere = λ head root ends. let ran = c.script_over.ensures.ran.1 in absurd (run_here ran.0 head root (sym ran.1 ∙ ends));
+})
+
+-- ---- resume
+pub returns-in-Resume-clause-kept : goal.returns-in-Resume-clause-kept
+returns-in-Resume-clause-kept g c = completes_as _ _ _ _ _ _ _ c.in-Resume.is c.resume_over.ensures.kept
+
+pub returns-in-Resume-clause-untouched : goal.returns-in-Resume-clause-untouched
+returns-in-Resume-clause-untouched g c = untouched_as _ _ _ _ _ _ _ c.in-Resume.is (record {
+  unread = λ e. absurd (cc);
+  unwritten = λ e ends. absurd (cc);
+  occupied = λ e head ends. absurd (cc);
+  outside = λ e least head ends. absurd (cc);
+  elsewhere = λ head root ends. c.resume_over.ensures.elsewhere head root ends;
 })
 
 -- ---- serve
@@ -34,6 +51,38 @@ returns-in-Serve-clause-untouched g c = untouched_as _ _ _ _ _ _ _ c.in-Serve.is
   unwritten = λ e ends. c.serve_over.ensures.unwritten ends;
   occupied = λ e head ends. absurd (cc);
   outside = λ e least head ends. c.serve_over.ensures.outside least head ends;
+  elsewhere = λ head root ends. absurd (c.serve_over.ensures.here head root ends);
+})
+
+-- ---- lead
+pub returns-in-Lead-clause-kept : goal.returns-in-Lead-clause-kept
+returns-in-Lead-clause-kept g c = completes_as _ _ _ _ _ _ _ c.in-Lead.is (λ before head begun dated.
+    let e = c.args.engine in
+    let done = c.script_over-in-Lead.ensures in
+    let led = done.ran.1 in
+    led_keeps _ head c.in-Lead.workers (opened e.versions e.generation) (engine_disk e) led.0 led.1 done.ran.0 begun led.2 led.3 c.files_stand_for_one.ensures c.damage_is_no_versions.ensures dated refl refl
+    done.read done.write done.source_counts done.sink_counts)
+
+pub returns-in-Lead-clause-untouched : goal.returns-in-Lead-clause-untouched
+returns-in-Lead-clause-untouched g c = untouched_as _ _ _ _ _ _ _ c.in-Lead.is (record {
+  unread = λ e. absurd (cc);
+  unwritten = λ e ends. absurd (cc);
+  occupied = λ e head ends. absurd (cc);
+  outside = λ e least head ends. absurd (cc);
+  elsewhere = λ head root ends. let led = c.script_over-in-Lead.ensures.ran.1 in absurd (script_here led.0 led.1 head root (sym led.2.status_is ∙ ends));
+})
+
+-- ---- follow
+pub returns-in-Follow-clause-kept : goal.returns-in-Follow-clause-kept
+returns-in-Follow-clause-kept g c = completes_as _ _ _ _ _ _ _ c.in-Follow.is c.follow_over.ensures.kept
+
+pub returns-in-Follow-clause-untouched : goal.returns-in-Follow-clause-untouched
+returns-in-Follow-clause-untouched g c = untouched_as _ _ _ _ _ _ _ c.in-Follow.is (record {
+  unread = λ e. absurd (cc);
+  unwritten = λ e ends. c.follow_over.ensures.unwritten ends;
+  occupied = λ e head ends. absurd (cc);
+  outside = λ e least head ends. absurd (c.follow_over.ensures.inside least head ends);
+  elsewhere = λ head root ends. absurd (c.follow_over.ensures.here head root ends);
 })
 
 -- ---- generate
@@ -49,8 +98,9 @@ returns-in-Generate-clause-kept g c = completes_as _ _ _ _ _ _ _ c.in-Generate.i
     let s = opened e.versions e.generation in
     let step = c.script_over-in-Generate in
     let done = step.ensures in
-    generated_keeps _ head c.in-Generate.seed c.in-Generate.batches c.in-Generate.size c.in-Generate.workers s (engine_disk e) done.ran.0 done.ran.1 begun done.ran.2
-    (subst (λ (ls : List (List ℕ)). HasGenerated done.ran.0 s (engine_disk e) (disk_of g.D.Disk step.result.disk) ls step.result.entries done.ran.1 (g.K.Sink.text c.args.sink.now) (g.K.Sink.text step.new.sink)) c.new-lines.ensures.lines done.ran.3)
+    let ran = done.ran.1 in
+    generated_keeps _ head c.in-Generate.seed c.in-Generate.batches c.in-Generate.size c.in-Generate.workers s (engine_disk e) ran.0 done.ran.0 begun ran.1
+    (subst (λ (ls : List (List ℕ)). HasGenerated ran.0 s (engine_disk e) (disk_of g.D.Disk step.result.disk) ls step.result.entries done.ran.0 (g.K.Sink.text c.args.sink.now) (g.K.Sink.text step.new.sink)) c.new-lines.ensures.lines ran.2)
     c.files_stand_for_one.ensures c.damage_is_no_versions.ensures dated refl refl (ap g.S.Source.rest done.unread) (ap g.S.Source.faults done.unread) done.read done.write done.sink_counts)
 
 pub returns-in-Generate-clause-untouched : goal.returns-in-Generate-clause-untouched
@@ -59,6 +109,7 @@ returns-in-Generate-clause-untouched g c = untouched_as _ _ _ _ _ _ _ c.in-Gener
   unwritten = λ e ends. absurd (cc);
   occupied = λ e head ends. absurd (cc);
   outside = λ e least head ends. absurd (cc);
+  elsewhere = λ head root ends. let ran = c.script_over-in-Generate.ensures.ran.1 in absurd (run_here ran.0 head root (sym ran.1 ∙ ends));
 })
 
 -- ---- restore
@@ -74,6 +125,20 @@ returns-in-Restore-clause-untouched g c = untouched_as _ _ _ _ _ _ _ c.in-Restor
   unwritten = λ e ends. absurd (cc);
   occupied = λ e head ends. c.restore_over.ensures.occupied head ends;
   outside = λ e least head ends. absurd (cc);
+  elsewhere = λ head root ends. absurd (c.restore_over.ensures.here head root ends);
+})
+
+-- ---- trim
+pub returns-in-Trim-clause-kept : goal.returns-in-Trim-clause-kept
+returns-in-Trim-clause-kept g c = completes_as _ _ _ _ _ _ _ c.in-Trim.is (c.trim_over.ensures.kept (g.S.Source.rest c.args.source.now) (g.S.Source.faults c.args.source.now))
+
+pub returns-in-Trim-clause-untouched : goal.returns-in-Trim-clause-untouched
+returns-in-Trim-clause-untouched g c = untouched_as _ _ _ _ _ _ _ c.in-Trim.is (record {
+  unread = λ e. refl;
+  unwritten = λ e ends. absurd (cc);
+  occupied = λ e head ends. absurd (cc);
+  outside = λ e least head ends. absurd (cc);
+  elsewhere = λ head root ends. absurd (c.trim_over.ensures.here head root ends);
 })
 
 -- ---- history
@@ -86,6 +151,7 @@ returns-in-History-clause-untouched g c = untouched_as _ _ _ _ _ _ _ c.in-Histor
   unwritten = λ e ends. absurd (cc);
   occupied = λ e head ends. absurd (cc);
   outside = λ e least head ends. absurd (cc);
+  elsewhere = λ head root ends. absurd (c.history_over.ensures.here head root ends);
 })
 
 -- ---- many
@@ -98,4 +164,5 @@ returns-in-Many-clause-untouched g c = untouched_as _ _ _ _ _ _ _ c.in-Many.is (
   unwritten = λ e ends. c.many_over.ensures.unwritten ends;
   occupied = λ e head ends. absurd (cc);
   outside = λ e least head ends. c.many_over.ensures.outside least head ends;
+  elsewhere = λ head root ends. absurd (c.many_over.ensures.here head root ends);
 })

@@ -1,12 +1,13 @@
-use Rattle.std.proofs.Common.{◌∙◌, refl}
+use Rattle.std.proofs.Common.{◌∙◌, refl, sym}
 use Rattle.jf_model.specs.States.{opened}
 use Rattle.jf_run.proofs.ReadOnly.{read_only}
-use Rattle.jf_run.proofs.Histories.{history_keeps}
+use Rattle.jf_run.proofs.Histories.{history_here, history_keeps}
 use Rattle.jf_run.proofs.history_over.history_over.Goals as goal
 
 pub returns : goal.returns
 returns g c = record {
   resting = c.of_engine.ensures.disk;
+  here = λ head root ends. history_here c.write_history-written.result head root (sym (c.of_engine.ensures.status ∙ c.of_history.ensures) ∙ ends);
   kept = λ rest source_faults before head begun dated.
       let e = c.args.engine in
       let known = c.know.ensures in

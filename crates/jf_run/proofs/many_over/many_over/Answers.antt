@@ -4,7 +4,7 @@ use Rattle.jf_run.specs.Calls.{disk_of, shown}
 use Rattle.jf_run.specs.Statuses.{is_input_fault, status_of_names}
 use Rattle.jf_run.specs.declared.status.Status.{Status}
 use Rattle.jf_run.proofs.ReadOnly.{read_only}
-use Rattle.jf_run.proofs.Many.{input_told, many_keeps, outside_told}
+use Rattle.jf_run.proofs.Many.{input_told, many_keeps, names_here, outside_told}
 use Rattle.jf_run.proofs.many_over.many_over.Goals as goal
 
 pub returns-clause-unwritten : goal.returns-clause-unwritten
@@ -17,6 +17,9 @@ returns-clause-unwritten g c = λ ends.
 pub returns-clause-outside : goal.returns-clause-outside
 returns-clause-outside g c = λ least head ends.
     c.answer_names-answered.ensures.untouched least head (outside_told c.answer_names-answered.result least head (sym (c.of_engine.ensures.status ∙ c.of_names.ensures) ∙ ends))
+
+pub returns-clause-here : goal.returns-clause-here
+returns-clause-here g c = λ head root ends. names_here c.answer_names-answered.result head root (sym (c.of_engine.ensures.status ∙ c.of_names.ensures) ∙ ends)
 
 pub returns-clause-kept : goal.returns-clause-kept
 returns-clause-kept g c = λ before head begun dated.

@@ -6,13 +6,12 @@ use Rattle.jf_store.specs.Events.{attempt_of}
 use Rattle.jf_store.specs.Starts.{Start}
 use Rattle.jf_store.specs.Passes.{Pass}
 use Rattle.jf_store.specs.Closing.{AreAllPasses, IsClosed}
-use Rattle.jf_history.specs.declared.end.End.TheVariants as end
 use Rattle.jf_run.specs.Calls.{disk_of, engine_disk}
 use Rattle.jf_run.specs.ScriptLines.{HasDoneLines, HasDoneScript}
+use Rattle.jf_run.specs.declared.status.Status.{Status}
 use Rattle.jf_run.specs.declared.status.Status.TheVariants as status
 use Rattle.jf_run.proofs.OnlyPass.{one_new, only_left, only_one}
 use Rattle.jf_run.proofs.RunsLaws.{closed_script, refused_script}
-use Rattle.jf_run.proofs.Statuses.{read_told, write_told}
 use Rattle.jf_run.proofs.script.script_over.Goals as goal
 
 pub returns-in-Err-clause-ran : goal.returns-in-Err-clause-ran
@@ -22,14 +21,14 @@ returns-in-Err-clause-ran g c =
     let script = c.args.script in
     let rest = g.S.Source.rest c.args.source.now in
     let text = g.K.Sink.text c.args.sink.now in
+    let faults = g.K.Sink.faults c.args.sink.now in
     let out = c.of_engine.ensures in
     let shown : disk_of g.D.Disk c.of_engine.result.disk ≡ engine_disk e = out.disk ∙ ap engine_disk c.in-Err.ensures.engine in (
-      end.Memory,
       None,
-      out.status,
-      subst (λ (d : DiskView). HasDoneScript script end.Memory s (engine_disk e) d c.of_engine.result.entries None rest rest text text) (sym shown)
-          (subst (λ (es : List Entry). HasDoneScript script end.Memory s (engine_disk e) (engine_disk e) es None rest rest text text) (sym (out.entries ∙ c.new-in-Err.ensures))
-          (refused_script script e rest text c.know.ensures.sound c.know.ensures.dated (λ h told. c.know.ensures.settled h told c.requires.whole))),
+      subst (λ (how : Status). HasDoneScript script how s (engine_disk e) (disk_of g.D.Disk c.of_engine.result.disk) c.of_engine.result.entries None rest rest text text faults faults) (sym out.status)
+          (subst (λ (d : DiskView). HasDoneScript script status.Memory s (engine_disk e) d c.of_engine.result.entries None rest rest text text faults faults) (sym shown)
+          (subst (λ (es : List Entry). HasDoneScript script status.Memory s (engine_disk e) (engine_disk e) es None rest rest text text faults faults) (sym (out.entries ∙ c.new-in-Err.ensures))
+          (refused_script script e rest text faults c.know.ensures.sound c.know.ensures.dated (λ h told. c.know.ensures.settled h told c.requires.whole)))),
     )
 
 pub returns-in-Err-clause-read : goal.returns-in-Err-clause-read
@@ -53,7 +52,7 @@ returns-clause-ran g c =
     let first = one_new store c.in-Ok.made.1.items c.pop.new.self.items c.in-Some.pass c.in-Ok.ensures.passes.0 c.in-Ok.ensures.passes.1 c.in-Some.ensures.items in
     let script = c.args.script in
     let p = c.do_lines-pass.result.pass in
-    let how = c.do_lines-pass.result.end in
+    let how = c.do_lines-pass.result.status in
     let e = c.args.engine in
     let s = opened e.versions e.generation in
     let last = c.close-engine.result.engine in
@@ -62,20 +61,22 @@ returns-clause-ran g c =
     let rest' = g.S.Source.rest c.do_lines-pass.new.source in
     let text = g.K.Sink.text c.args.sink.now in
     let text' = g.K.Sink.text c.do_lines-pass.new.sink in
+    let faults = g.K.Sink.faults c.args.sink.now in
+    let faults' = g.K.Sink.faults c.do_lines-pass.new.sink in
     let items : c.push_reserved.new.self.items ≡ p ∷ [] = only_left c.pop.new.self.items c.push_reserved.new.self.items p first.0 c.push_reserved.ensures.items in
     let closed : IsClosed store.start (p ∷ []) es last = subst (λ (ps : List Pass). IsClosed store.start ps es last) items c.close-engine.ensures in
     let out = c.of_engine-2.ensures in (
-      how,
       attempt_of p.seen,
-      out.status ∙ c.of_end.ensures,
-      subst (λ (d : DiskView). HasDoneScript script how s (engine_disk e) d c.of_engine-2.result.entries (attempt_of p.seen) rest rest' text text') (sym out.disk)
-          (subst (λ (xs : List Entry). HasDoneScript script how s (engine_disk e) (engine_disk last) xs (attempt_of p.seen) rest rest' text text') (sym out.entries)
-          (closed_script script e last store p es how rest rest' text text' c.one_pass_closes.ensures c.one_run_is_alone.ensures c.one_script_is_alone.ensures c.floor_spares_pins.ensures c.entry_spares_pins.ensures c.in-Ok.ensures.start
-          (c.do_lines-pass.ensures.own.1 ∙ ap (λ (q : Pass). q.number) first.1) closed (subst (λ (q : Pass). HasDoneLines script how store.start q p rest rest' text text') first.1 c.do_lines-pass.ensures.ran))),
+      subst (λ (h : Status). HasDoneScript script h s (engine_disk e) (disk_of g.D.Disk c.of_engine-2.result.disk) c.of_engine-2.result.entries (attempt_of p.seen) rest rest' text text' faults faults') (sym out.status)
+          (subst (λ (d : DiskView). HasDoneScript script how s (engine_disk e) d c.of_engine-2.result.entries (attempt_of p.seen) rest rest' text text' faults faults') (sym out.disk)
+          (subst (λ (xs : List Entry). HasDoneScript script how s (engine_disk e) (engine_disk last) xs (attempt_of p.seen) rest rest' text text' faults faults') (sym out.entries)
+          (closed_script script e last store p es how rest rest' text text' faults faults' c.one_pass_closes.ensures c.one_run_is_alone.ensures c.one_lead_tells_all.ensures c.one_script_is_alone.ensures c.floor_spares_pins.ensures c.entry_spares_pins.ensures
+          c.in-Ok.ensures.start (c.do_lines-pass.ensures.own.1 ∙ ap (λ (q : Pass). q.number) first.1) closed
+          (subst (λ (q : Pass). HasDoneLines script how store.start q p rest rest' text text' faults faults') first.1 c.do_lines-pass.ensures.ran)))),
     )
 
 pub returns-clause-read : goal.returns-clause-read
-returns-clause-read g c = λ is. c.do_lines-pass.ensures.read (read_told c.do_lines-pass.result.end (sym (c.of_engine-2.ensures.status ∙ c.of_end.ensures) ∙ is))
+returns-clause-read g c = λ is. c.do_lines-pass.ensures.read (sym c.of_engine-2.ensures.status ∙ is)
 
 pub returns-clause-write : goal.returns-clause-write
-returns-clause-write g c = λ is. c.do_lines-pass.ensures.write (write_told c.do_lines-pass.result.end (sym (c.of_engine-2.ensures.status ∙ c.of_end.ensures) ∙ is))
+returns-clause-write g c = λ is. c.do_lines-pass.ensures.write (sym c.of_engine-2.ensures.status ∙ is)

@@ -1,0 +1,21 @@
+// Laws on calls of the program, for proofs of code that stands on them. These functions do nothing when they run.
+ghost use Rattle.jf_run.specs.Laws.{LedCallsAreFollowed, LedFilesAreFollowed};
+
+use jf_files::files_stand_for_one;
+use jf_follow::inputs_agree;
+
+/// A store that had a leader's versions, and followed the whole text of its landings, has the leader's versions again.
+pub fn led_calls_are_followed()
+    ensures { LedCallsAreFollowed }
+{
+    inputs_agree();
+}
+
+/// Files that stood for what a leader's stood for, over which the whole text of its landings was followed, stand for all
+/// versions that the leader made of these.
+pub fn led_files_are_followed()
+    ensures { LedFilesAreFollowed }
+{
+    inputs_agree();
+    files_stand_for_one();
+}
