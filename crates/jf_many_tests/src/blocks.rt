@@ -1,7 +1,7 @@
 // What the mode `many` writes over a store after a script, with hashes from outside, by Python's `hashlib`.
-use crate::stores::{BLOCK, ONE_NAME, played_after};
+use crate::stores::{BLOCK, ONE_NAME};
 use jf_disk::Disk;
-use jf_play::play::{Faults, NO_FAULTS, has_ended};
+use jf_play::play::{Faults, NO_FAULTS, has_ended, play_after};
 use jf_run::status::Status;
 use std::alloc::Global;
 use std::sync::Wait;
@@ -87,7 +87,7 @@ const ROWS: &[Row] = &[
 // Whether a row's words write its text.
 fn is_written<H: Threads + Wait + Sync>(rt: &H, alloc: Global, row: &Row) -> Result<bool, Fail> {
     let input = row.input.as_bytes();
-    let played = played_after(rt, alloc, row.script, row.words, input, NO_FAULTS)?;
+    let played = play_after(rt, alloc, row.script, row.words, input, NO_FAULTS)?;
     let ended = has_ended(&played, Status::Done, Some(row.head), row.text.as_bytes());
     Ok(ended && played.entries == 0)
 }
@@ -107,7 +107,7 @@ fn calls_after<H: Threads + Wait + Sync>(
     words: &str,
     input: &[u8],
 ) -> Result<u64, Fail> {
-    let played = played_after(rt, alloc, ONE_NAME, words, input, NO_FAULTS)?;
+    let played = play_after(rt, alloc, ONE_NAME, words, input, NO_FAULTS)?;
     Ok(played.disk.moment())
 }
 
@@ -163,7 +163,7 @@ const OUTSIDE: &[Beyond] = &[
 // Whether a row's version is outside, and nothing was read or written.
 fn is_outside<H: Threads + Wait + Sync>(rt: &H, alloc: Global, row: &Beyond) -> Result<bool, Fail> {
     let input = row.input.as_bytes();
-    let played = played_after(rt, alloc, row.script, row.words, input, NO_INPUT)?;
+    let played = play_after(rt, alloc, row.script, row.words, input, NO_INPUT)?;
     let status = Status::Outside {
         least: row.least,
         head: row.head,
@@ -195,7 +195,7 @@ fn is_not_taken<H: Threads + Wait + Sync>(
     alloc: Global,
     words: &str,
 ) -> Result<bool, Fail> {
-    let played = played_after(rt, alloc, "", words, b"61\n", NO_INPUT)?;
+    let played = play_after(rt, alloc, "", words, b"61\n", NO_INPUT)?;
     Ok(has_ended(&played, Status::Usage, None, b""))
 }
 

@@ -1,6 +1,6 @@
 // Inputs of the mode `many` that are refused, inputs of 10,000 lines and more, and devices that fail.
-use crate::stores::{ONE_NAME, played_after};
-use jf_play::play::{Faults, NO_FAULTS, has_ended};
+use crate::stores::ONE_NAME;
+use jf_play::play::{Faults, NO_FAULTS, has_ended, play_after};
 use jf_run::RestoreFault;
 use jf_run::status::Status;
 use std::alloc::Global;
@@ -17,7 +17,7 @@ fn is_answered<H: Threads + Wait + Sync>(
     status: Status,
     text: &[u8],
 ) -> Result<bool, Fail> {
-    let played = played_after(rt, alloc, ONE_NAME, "many 1", input, faults)?;
+    let played = play_after(rt, alloc, ONE_NAME, "many 1", input, faults)?;
     Ok(has_ended(&played, status, Some(1), text))
 }
 

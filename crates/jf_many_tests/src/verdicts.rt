@@ -1,6 +1,6 @@
 // What the mode `verify` says of blocks of the mode `many`, after a line with a root. The verdicts are from Python.
-use crate::stores::{BLOCK, ONE_NAME, played_after};
-use jf_play::play::{NO_FAULTS, has_ended};
+use crate::stores::{BLOCK, ONE_NAME};
+use jf_play::play::{NO_FAULTS, has_ended, play_after};
 use jf_play::roots::{EMPTY, ONE};
 use jf_run::status::Status;
 use std::alloc::Global;
@@ -57,7 +57,7 @@ fn is_judged<H: Threads + Wait + Sync>(
     row: &(&str, &str, &str),
 ) -> Result<bool, Fail> {
     let text = under_root(alloc, row.0, row.1.as_bytes())?;
-    let played = played_after(rt, alloc, "", "verify", &text, NO_FAULTS)?;
+    let played = play_after(rt, alloc, "", "verify", &text, NO_FAULTS)?;
     Ok(has_ended(&played, Status::Done, None, row.2.as_bytes()))
 }
 
@@ -71,9 +71,9 @@ fn blocks_of_many_claims_are_judged_under_a_root(rt: HostRuntime) -> Result<(), 
 
 // Whether `verify` accepts what `many` wrote, after the root of the version.
 fn is_accepted<H: Threads + Wait + Sync>(rt: &H, alloc: Global) -> Result<bool, Fail> {
-    let written = played_after(rt, alloc, ONE_NAME, "many 1", b"62\n61\n", NO_FAULTS)?;
+    let written = play_after(rt, alloc, ONE_NAME, "many 1", b"62\n61\n", NO_FAULTS)?;
     let text = under_root(alloc, ONE, &written.text)?;
-    let judged = played_after(rt, alloc, "", "verify", &text, NO_FAULTS)?;
+    let judged = play_after(rt, alloc, "", "verify", &text, NO_FAULTS)?;
     Ok(has_ended(&judged, Status::Done, None, b"accepted\n"))
 }
 

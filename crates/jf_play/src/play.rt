@@ -197,6 +197,20 @@ pub fn play<D: Disk + Drop, H: Threads + Wait + Sync>(
     play_words(rt, alloc, disk, &words, script, faults)
 }
 
+/// Runs a script over a new store, and then the words of a line over what it left and an input.
+pub fn play_after<H: Threads + Wait + Sync>(
+    rt: &H,
+    alloc: Global,
+    script: &str,
+    line: &str,
+    input: &[u8],
+    faults: Faults,
+) -> Result<Played<MemDisk>, Fail> {
+    let disk = roomy_disk(alloc)?;
+    let first = play(rt, alloc, disk, "run", script.as_bytes(), NO_FAULTS)?;
+    play_line(rt, alloc, first.disk, line, input, faults)
+}
+
 /// Whether a run ended with this status, opened the store at version `start` (`None`: opened no store), and wrote this
 /// text.
 pub fn has_ended<D>(played: &Played<D>, status: Status, start: Option<u64>, text: &[u8]) -> bool {

@@ -70,6 +70,28 @@ const RUNS: &[(&str, Option<u64>)] = &[
         "restore --workers 2 --workers 2 1 5f5f5f5f5f5f5f5f5f5f5f5f5f5f5f5f5f5f5f5f5f5f5f5f5f5f5f5f5f5f5f5f",
         None,
     ),
+    ("resume", None),
+    ("resume 1", None),
+    (
+        "resume 01 5f5f5f5f5f5f5f5f5f5f5f5f5f5f5f5f5f5f5f5f5f5f5f5f5f5f5f5f5f5f5f5f",
+        None,
+    ),
+    (
+        "resume 18446744073709551616 5f5f5f5f5f5f5f5f5f5f5f5f5f5f5f5f5f5f5f5f5f5f5f5f5f5f5f5f5f5f5f5f",
+        None,
+    ),
+    (
+        "resume 5f5f5f5f5f5f5f5f5f5f5f5f5f5f5f5f5f5f5f5f5f5f5f5f5f5f5f5f5f5f5f5f 1",
+        None,
+    ),
+    (
+        "resume 1 5f5f5f5f5f5f5f5f5f5f5f5f5f5f5f5f5f5f5f5f5f5f5f5f5f5f5f5f5f5f5f",
+        None,
+    ),
+    (
+        "resume 1 5f5f5f5f5f5f5f5f5f5f5f5f5f5f5f5f5f5f5f5f5f5f5f5f5f5f5f5f5f5f5f5f 1",
+        None,
+    ),
     ("generate 1 1", None),
     ("generate 01 1 1", None),
     ("generate 1 1001 1", None),
@@ -88,6 +110,30 @@ const SERVINGS: &[(&str, Option<u64>)] = &[
     ("serve --workers 0", None),
     ("serve --workers 65", None),
     ("Serve", None),
+];
+
+// Lines of words, and the number of workers with which they ask for `lead`. `None`: they ask for nothing.
+const LEADINGS: &[(&str, Option<u64>)] = &[
+    ("lead", Some(4)),
+    ("lead --", Some(4)),
+    ("lead --workers 7", Some(7)),
+    ("lead --workers=7 --", Some(7)),
+    ("lead x", None),
+    ("lead -- x", None),
+    ("lead --workers 65", None),
+    ("Lead", None),
+];
+
+// Lines of words, and the number of workers with which they ask for `follow`. `None`: they ask for nothing.
+const FOLLOWINGS: &[(&str, Option<u64>)] = &[
+    ("follow", Some(4)),
+    ("follow --", Some(4)),
+    ("follow --workers 7", Some(7)),
+    ("follow --workers=7 --", Some(7)),
+    ("follow x", None),
+    ("follow 1", None),
+    ("follow --workers 0", None),
+    ("Follow", None),
 ];
 
 // Lines of words, and whether they ask for `verify`.
@@ -114,10 +160,31 @@ fn end_of<H: Threads + Wait + Sync>(
 }
 
 // The status of a run of words that ask for this mode.
-fn status_of(mode: Option<Mode>) -> Status {
+fn status_of(mode: &Option<Mode>) -> Status {
     match mode {
         Some(_) => Status::Done,
         None => Status::Usage,
+    }
+}
+
+// Whether two modes of these tables are the same.
+fn is_same(one: &Mode, other: &Mode) -> bool {
+    match (one, other) {
+        (Mode::Run { workers }, Mode::Run { workers: others }) => workers == others,
+        (Mode::Serve { workers }, Mode::Serve { workers: others }) => workers == others,
+        (Mode::Lead { workers }, Mode::Lead { workers: others }) => workers == others,
+        (Mode::Follow { workers }, Mode::Follow { workers: others }) => workers == others,
+        (Mode::Verify, Mode::Verify) => true,
+        _ => false,
+    }
+}
+
+// Whether words ask for this mode, or for none.
+fn is_asked(found: &Option<Mode>, mode: &Option<Mode>) -> bool {
+    match (found, mode) {
+        (Some(found), Some(mode)) => is_same(found, mode),
+        (None, None) => true,
+        _ => false,
     }
 }
 
@@ -126,9 +193,10 @@ fn are_taken<H: Threads + Wait + Sync>(
     rt: &H,
     alloc: Global,
     words: &[String],
-    mode: Option<Mode>,
+    mode: &Option<Mode>,
 ) -> Result<bool, Fail> {
-    Ok(mode_of(alloc, words)? == mode && end_of(rt, alloc, words)? == status_of(mode))
+    let found = mode_of(alloc, words)?;
+    Ok(is_asked(&found, mode) && end_of(rt, alloc, words)? == status_of(mode))
 }
 
 // What `are_taken` says of the words of a line.
@@ -139,7 +207,7 @@ fn is_taken<H: Threads + Wait + Sync>(
     mode: Option<Mode>,
 ) -> Result<bool, Fail> {
     let words = words_of(alloc, line)?;
-    are_taken(rt, alloc, &words, mode)
+    are_taken(rt, alloc, &words, &mode)
 }
 
 // The mode of words that ask for a run with this number of workers, or for no mode.
@@ -175,6 +243,39 @@ fn takes_serve_as_it_takes_run(rt: HostRuntime) -> Result<(), Fail> {
     for (line, workers) in SERVINGS {
         assert!(rt;
             is_taken(&rt, alloc, line, serve_by(*workers))?,
+            "of {line}"
+        );
+    }
+    Ok(())
+}
+
+// The mode of words that ask for `lead` with this number of workers, or for no mode.
+fn lead_by(workers: Option<u64>) -> Option<Mode> {
+    let workers = Workers::new(workers?)?;
+    Some(Mode::Lead { workers })
+}
+
+#[test]
+fn takes_lead_as_it_takes_run(rt: HostRuntime) -> Result<(), Fail> {
+    let alloc = rt.alloc();
+    for (line, workers) in LEADINGS {
+        assert!(rt; is_taken(&rt, alloc, line, lead_by(*workers))?, "of {line}");
+    }
+    Ok(())
+}
+
+// The mode of words that ask for `follow` with this number of workers, or for no mode.
+fn follow_by(workers: Option<u64>) -> Option<Mode> {
+    let workers = Workers::new(workers?)?;
+    Some(Mode::Follow { workers })
+}
+
+#[test]
+fn takes_follow_as_it_takes_run(rt: HostRuntime) -> Result<(), Fail> {
+    let alloc = rt.alloc();
+    for (line, workers) in FOLLOWINGS {
+        assert!(rt;
+            is_taken(&rt, alloc, line, follow_by(*workers))?,
             "of {line}"
         );
     }

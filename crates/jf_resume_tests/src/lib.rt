@@ -1,0 +1,5 @@
+//! Tests of the top call in the mode `resume`.
+#![tactic(auto)]
+
+#[cfg(test)]
+mod resuming;
