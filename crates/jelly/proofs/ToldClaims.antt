@@ -1,0 +1,59 @@
+-- What an answer says.
+use Rattle.std.specs.Prelude.{◌≡◌, ◌+◌, ◌<◌, ◌≤◌, ◌++◌, ℕ, List, length, take, drop, Option, Some, None, IfSome, option_map, Ok, Err}
+use Rattle.std.proofs.Common.{refl, sym, ap, ◌∙◌, subst, arith, take_all, inl, inr}
+use Rattle.std.proofs.Math.Seq.{take-append_seam}
+use Rattle.std.proofs.lemmas.Option.{none-some, same_Some}
+use Rattle.std.proofs.lemmas.Bool.Decides.{nat_tests, leb_tells}
+use Rattle.std.proofs.lemmas.List.{length-take-le}
+use Rattle.jf_ask.specs.Lookups.{lookup_number}
+use Rattle.jelly.specs.Answers.{LookupResult, IsAnswer, told_claim, value_number, filled_room}
+
+-- ---- a value that fits, or doesn't
+pub value_number-fits : (room v : List ℕ) → length v ≤ length room → value_number room v ≡ 0
+value_number-fits room v fits = grind (arith, nat_tests)
+
+pub value_number-wide : (room v : List ℕ) → length room < length v → value_number room v ≡ 2
+value_number-wide room v wide = grind (arith, nat_tests)
+
+pub filled_room-fits : (room v : List ℕ) → length v ≤ length room → filled_room room v ≡ v ++ drop (length v) room
+filled_room-fits room v fits = grind (arith, nat_tests)
+
+pub filled_room-wide : (room v : List ℕ) → length room < length v → filled_room room v ≡ room
+filled_room-wide room v wide = grind (arith, nat_tests)
+
+-- a front of a list that is as long as the list is the list
+pub fills : (n : Option ℕ) (out v : List ℕ) → IfSome n (λ k. k ≤ length out) → option_map (λ k. take k out) n ≡ Some v → length out ≡ length v → out ≡ v
+fills None out v within is long = absurd (cc)
+fills (Some k) out v within is long =
+    let front : take k out ≡ v = same_Some _ _ is in
+    let all : length out ≤ k = omega (arith, length-take-le k out within, ap length front) in
+    sym (take_all k out all) ∙ front
+
+-- ---- what was shown
+-- what is said after a value that fits, and after one that doesn't
+told_claim-fits : (room v : List ℕ) → length v ≤ length room → told_claim (filled_room room v) (length v) (value_number room v) ≡ Some (Some v)
+told_claim-fits room v fits = rw (value_number-fits room v fits, filled_room-fits room v fits) (ap (λ (x : List ℕ). Some (Some x)) (take-append_seam v (drop (length v) room)))
+
+told_claim-wide : (room v : List ℕ) (n : ℕ) → length room < length v → told_claim (filled_room room v) n (value_number room v) ≡ None
+told_claim-wide room v n wide = rw (value_number-wide room v wide) refl
+
+-- nothing is said after a refusal
+told_claim-refused : (room : List ℕ) (n k : ℕ) → told_claim room n (16 + k) ≡ None
+told_claim-refused room n k = grind (arith, nat_tests)
+
+-- what an answer says was shown
+pub told_claim-shown : (shown : LookupResult) (room room' : List ℕ) (n n' number : ℕ) (claim : Option (List ℕ)) → IsAnswer shown room room' n n' number → told_claim room' n' number ≡ Some claim → shown ≡ Ok claim
+told_claim-shown (Err why) room room' n n' number claim answer is = absurd (none-some claim (sym (told_claim-refused room' n' (lookup_number why)) ∙ subst (λ k. told_claim room' n' k ≡ Some claim) answer.number_is is))
+told_claim-shown (Ok None) room room' n n' number claim answer is = ap Ok (same_Some None claim (subst (λ k. told_claim room' n' k ≡ Some claim) answer.number_is is))
+told_claim-shown (Ok (Some v)) room room' n n' number claim answer is =
+    let says : told_claim (filled_room room v) (length v) (value_number room v) ≡ Some claim = subst (λ k. told_claim (filled_room room v) (length v) k ≡ Some claim) answer.number_is (subst (λ r. told_claim r (length v) number ≡ Some claim) answer.room_is (subst (λ k. told_claim room' k number ≡ Some claim) answer.length_is is)) in
+    elim (leb_tells (length v) (length room)) [
+      | inl t ↦ ap Ok (same_Some (Some v) claim (sym (told_claim-fits room v t.1) ∙ says))
+      | inr t ↦ absurd (none-some claim (sym (told_claim-wide room v (length v) t.1) ∙ says))
+    ]
+
+-- an answer of 2 says that a value was shown, and how long it is
+pub value-shown : {C : Type 0} (shown : LookupResult) (room room' : List ℕ) (n n' number : ℕ) → IsAnswer shown room room' n n' number → number ≡ 2 → ((v : List ℕ) → shown ≡ Ok (Some v) → n' ≡ length v → C) → C
+value-shown (Err why) room room' n n' number answer two then = absurd (omega (arith, answer.number_is, two))
+value-shown (Ok None) room room' n n' number answer two then = absurd (omega (arith, answer.number_is, two))
+value-shown (Ok (Some v)) room room' n n' number answer two then = then v refl answer.length_is
