@@ -1,5 +1,6 @@
--- What is seen of files by their bytes.
-use Rattle.std.specs.Prelude.{ℕ, List, length, slice_index, Option, Some, None}
+-- What is seen of files by their bytes, and files that are only read.
+use Rattle.std.specs.Prelude.{⊤, ℕ, List, length, slice_index, Option, Some, None}
+use Rattle.jf_folder.specs.Calls.{FileCalls, ReadsAlone}
 use Rattle.jf_folder.specs.declared.seen.Seen.{Seen}
 use Rattle.jf_folder.specs.declared.seen.Seen.TheVariants as seen
 
@@ -7,3 +8,10 @@ use Rattle.jf_folder.specs.declared.seen.Seen.TheVariants as seen
 abbrev pub seen_of : Option (List ℕ) → Seen
 seen_of None = seen.Missing
 seen_of (Some bytes) = seen.There (length bytes) (slice_index bytes 0)
+
+-- the calls on a file, if there is one: it was read, and nothing else
+abbrev pub IsReadAlone : Option FileCalls → Option FileCalls → Type 0
+IsReadAlone None None = ⊤
+IsReadAlone None (Some _) = ⊥
+IsReadAlone (Some _) None = ⊥
+IsReadAlone (Some c) (Some c') = ReadsAlone c c'

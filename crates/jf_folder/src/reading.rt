@@ -2,7 +2,7 @@
 ghost use Rattle.std.specs.Prelude.{◌≡◌, [], length, Err, IfOk, option_map};
 ghost use Rattle.jf_folder.specs.Calls.{ReadsAlone};
 ghost use Rattle.jf_folder.specs.Begun.{store_refusal};
-ghost use Rattle.jf_folder.specs.Reading.{seen_of};
+ghost use Rattle.jf_folder.specs.Reading.{IsReadAlone, seen_of};
 
 use crate::cause::FaultCause;
 use crate::counted::CountedFile;
@@ -35,8 +35,9 @@ pub struct FolderBytes {
 impl FolderBytes {
     /// Reads the files `a.jf` and `b.jf` of a folder, which must exist; no folder has the empty name. They are opened for
     /// reading alone: no file is made or changed, and no lock is taken, so another run may write them meanwhile. The
-    /// records of each file are then those of one moment. A file that another run keeps writing anew is refused as in use.
-    /// Both files must be regular and not one file under two names.
+    /// records of each file are then those of one moment, and gates and generations of both files too, unless one
+    /// compaction follows another without a pause (docs/FORMATS.md, "Checking files"). Files that another run keeps writing
+    /// anew are refused as in use. Both files must be regular and not one file under two names.
     pub fn read<H: Files<File = File>>(
         rt: &H,
         alloc: Global,
@@ -54,10 +55,7 @@ impl FolderBytes {
         if !are_apart(&a, &b)? {
             return Err(FileRefused::DiskFailed(FaultCause::NotAStore));
         }
-        Ok(FolderBytes {
-            a: bytes_if_there(alloc, a)?,
-            b: bytes_if_there(alloc, b)?,
-        })
+        both_at_once(alloc, &mut counted(a), &mut counted(b))
     }
 
     /// Why no store would be opened over these files, if none would (docs/FORMATS.md, "The files of a folder").
@@ -81,11 +79,59 @@ fn seen_of(file: &Option<Vec<u8>>) -> Seen
     }
 }
 
+// A file that is reached through counted calls, if there is one.
+fn counted(file: Option<File>) -> Option<CountedFile> {
+    match file {
+        None => None,
+        Some(file) => Some(CountedFile::new(file)),
+    }
+}
+
+// The bytes of both files, with the gates and generations of one moment: `a` was not written anew until `b` had been read,
+// since its front is still the same.
+fn both_at_once(
+    alloc: Global,
+    a: &mut Option<CountedFile>,
+    b: &mut Option<CountedFile>,
+) -> Result<FolderBytes, FileRefused>
+    ensures first { IsReadAlone a.old a.new }
+    ensures second { IsReadAlone b.old b.new }
+{
+    for _ in 0..TRIES {
+        let files = FolderBytes {
+            a: bytes_if_there(alloc, a)?,
+            b: bytes_if_there(alloc, b)?,
+        };
+        if has_front_if_there(a, &files.a)? {
+            return Ok(files);
+        }
+    }
+    Err(FileRefused::DiskFailed(FaultCause::InUse))
+}
+
 // The bytes of a file, if there is one.
-fn bytes_if_there(alloc: Global, file: Option<File>) -> Result<Option<Vec<u8>>, FileRefused> {
+fn bytes_if_there(
+    alloc: Global,
+    file: &mut Option<CountedFile>,
+) -> Result<Option<Vec<u8>>, FileRefused>
+    ensures { IsReadAlone file.old file.new }
+{
     match file {
         None => Ok(None),
-        Some(file) => Ok(Some(bytes_at_once(alloc, &mut CountedFile::new(file))?)),
+        Some(file) => Ok(Some(bytes_at_once(alloc, file)?)),
+    }
+}
+
+// Whether the file, if there is one, still begins as these bytes do.
+fn has_front_if_there(
+    file: &mut Option<CountedFile>,
+    bytes: &Option<Vec<u8>>,
+) -> Result<bool, FileRefused>
+    ensures { IsReadAlone file.old file.new }
+{
+    match (file, bytes) {
+        (Some(file), Some(bytes)) => has_front(file, bytes),
+        _ => Ok(true),
     }
 }
 
