@@ -1,10 +1,10 @@
 -- What an answer says.
 use Rattle.std.specs.Prelude.{◌≡◌, ◌+◌, ◌<◌, ◌≤◌, ◌++◌, ℕ, List, length, take, drop, Option, Some, None, IfSome, option_map, Ok, Err}
-use Rattle.std.proofs.Common.{refl, sym, ap, ◌∙◌, subst, arith, take_all, inl, inr}
+use Rattle.std.proofs.Common.{refl, sym, ap, ap₂, ◌∙◌, subst, arith, inl, inr}
 use Rattle.std.proofs.Math.Seq.{take-append_seam}
 use Rattle.std.proofs.lemmas.Option.{none-some, same_Some}
 use Rattle.std.proofs.lemmas.Bool.Decides.{nat_tests, leb_tells}
-use Rattle.std.proofs.lemmas.List.{length-take-le}
+use Rattle.std.proofs.lemmas.List.{length-take-le, take-append-drop}
 use Rattle.jf_ask.specs.Lookups.{lookup_number}
 use Rattle.jelly.specs.Answers.{LookupResult, IsAnswer, told_claim, value_number, filled_room}
 
@@ -21,13 +21,14 @@ filled_room-fits room v fits = grind (arith, nat_tests)
 pub filled_room-wide : (room v : List ℕ) → length room < length v → filled_room room v ≡ room
 filled_room-wide room v wide = grind (arith, nat_tests)
 
--- a front of a list that is as long as the list is the list
-pub fills : (n : Option ℕ) (out v : List ℕ) → IfSome n (λ k. k ≤ length out) → option_map (λ k. take k out) n ≡ Some v → length out ≡ length v → out ≡ v
-fills None out v within is long = absurd (cc)
-fills (Some k) out v within is long =
-    let front : take k out ≡ v = same_Some _ _ is in
-    let all : length out ≤ k = omega (arith, length-take-le k out within, ap length front) in
-    sym (take_all k out all) ∙ front
+-- room with a value at its front, after which it is as it was
+pub filled : (n : Option ℕ) (room room' v : List ℕ) → IfSome n (λ k. k ≤ length room') → option_map (λ k. take k room') n ≡ Some v → drop (length v) room' ≡ drop (length v) room
+    → room' ≡ v ++ drop (length v) room
+filled None room room' v within is rest = absurd (cc)
+filled (Some k) room room' v within is rest =
+    let front : take k room' ≡ v = same_Some _ _ is in
+    let long : k ≡ length v = sym (length-take-le k room' within) ∙ ap length front in
+    sym (take-append-drop k room') ∙ ap₂ (λ (x y : List ℕ). x ++ y) front (ap (λ (i : ℕ). drop i room') long ∙ rest)
 
 -- ---- what was shown
 -- what is said after a value that fits, and after one that doesn't

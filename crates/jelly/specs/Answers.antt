@@ -1,16 +1,14 @@
 -- How a call answers what was looked up, and what follows from its answer.
-use Rattle.std.specs.Prelude.{◌≡◌, ◌≢◌, ◌<◌, ◌^◌, ◌+◌, ◌++◌, ℕ, List, length, take, drop, Option, Some, None, Result, Ok, Err, if◌then◌else◌, nat_le, ◌==◌, option_map}
+use Rattle.std.specs.Prelude.{◌≡◌, ◌≢◌, ◌<◌, ◌^◌, ◌+◌, ◌++◌, ℕ, List, length, take, drop, Option, Some, None, Result, Ok, Err, if◌then◌else◌, nat_le, ◌==◌, option_map, IfSome}
 use Rattle.std.specs.FinMap.{get}
 use Rattle.jf_hash.specs.Hashes.{K}
 use Rattle.jf_hash.specs.Maps.{Map, IsMap}
 use Rattle.jf_hash.specs.Roots.{root}
 use Rattle.jf_evidence.specs.Proofs.{honest}
 use Rattle.jf_evidence.specs.Inputs.{Collides}
-use Rattle.jf_script.specs.Replies.{reply_text}
-use Rattle.jf_script.specs.declared.reply.Reply.TheVariants as reply
 use Rattle.jf_blocks.specs.Blocks.{proof_lines}
 use Rattle.jf_blocks.specs.Laws.{IsTold}
-use Rattle.jf_ask.specs.Lookups.{lookup_clash, lookup_number}
+use Rattle.jf_ask.specs.Lookups.{lookup_clash, lookup_number, proof_line_text}
 use Rattle.jf_ask.specs.declared.lookup.LookupFault.{LookupFault}
 
 -- what a reply shows of a name: its value or its absence, or why it shows nothing
@@ -66,8 +64,8 @@ abbrev pub IsSoundRoom : List ℕ → List ℕ → List ℕ → ℕ → ℕ → 
 IsSoundRoom top name text n number =
     (m : Map) → IsMap m → root m ≡ top → number ≡ 2 → option_map length (get m (K name)) ≢ Some n → Collides (lookup_clash m name text)
 
--- a map's own reply to `prove`, with any number, is answered as what the map says of the name
+-- a map's own reply to `prove`, with any number or without `n ok`, is answered as what the map says of the name
 abbrev pub IsFairAsk : List ℕ → List ℕ → List ℕ → List ℕ → List ℕ → ℕ → ℕ → ℕ → Type 0
-IsFairAsk top name text room room' n n' number =
-    (m : Map) (count : ℕ) → IsMap m → root m ≡ top → IsTold name (get m (K name)) (honest m (K name)) → count < 2 ^ 64
-    → text ≡ reply_text count (reply.Proof (length (honest m (K name)).siblings)) ++ proof_lines name (get m (K name)) (honest m (K name)) → IsAnswer (Ok (get m (K name))) room room' n n' number
+IsFairAsk top name text room room' n n' answer =
+    (m : Map) (number : Option ℕ) → IsMap m → root m ≡ top → IsTold name (get m (K name)) (honest m (K name)) → IfSome number (λ i. i < 2 ^ 64)
+    → text ≡ proof_line_text number (length (honest m (K name)).siblings) ++ proof_lines name (get m (K name)) (honest m (K name)) → IsAnswer (Ok (get m (K name))) room room' n n' answer

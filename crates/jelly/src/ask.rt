@@ -52,6 +52,6 @@ fn give(digits: &[u8], out: &mut [u8], value_length: &mut usize) -> u32
     if out.len() < count {
         return 2;
     }
-    let _ = unhexed(digits, &mut out[..count]);
+    let _ = unhexed(digits, out);
     0
 }

@@ -1,5 +1,5 @@
 -- What a reply to `prove` shows of a name under a root: it is one proof block, and nothing else.
-use Rattle.std.specs.Prelude.{ℕ, List, [], ◌∷◌, ◌++◌, Option, Some, None, option_and_then, option_map, if◌then◌else◌, nat_le, bytes_eq, Result, Ok, Err, ◌≡◌, ◌≢◌, ◌<◌, ◌^◌, length}
+use Rattle.std.specs.Prelude.{ℕ, List, [], ◌∷◌, ◌++◌, Option, Some, None, option_and_then, option_map, if◌then◌else◌, nat_le, bytes_eq, Result, Ok, Err, ◌≡◌, ◌≢◌, ◌<◌, ◌^◌, length, IfSome, codes, decimal}
 use Rattle.std.specs.FinMap.{get}
 use Rattle.jf_hash.specs.Hashes.{K}
 use Rattle.jf_hash.specs.Maps.{Map, IsMap}
@@ -9,7 +9,7 @@ use Rattle.jf_evidence.specs.Proofs.{refusal, honest}
 use Rattle.jf_evidence.specs.declared.proof.ProofFault.TheVariants as check
 use Rattle.jf_evidence.specs.Inputs.{Collides}
 use Rattle.jf_evidence.specs.Clashes.{clash}
-use Rattle.jf_text.specs.Words.{unhex}
+use Rattle.jf_text.specs.Words.{unhex, line_text}
 use Rattle.jf_script.specs.Replies.{reply_text}
 use Rattle.jf_script.specs.declared.reply.Reply.TheVariants as reply
 use Rattle.jf_blocks.specs.Blocks.{proof_lines}
@@ -77,10 +77,15 @@ lookup_clash m name text = option_and_then (λ b. clash (K name) b.1 b.2 (get m 
 abbrev pub IsSoundLookup : List ℕ → List ℕ → List ℕ → Type 0
 IsSoundLookup top name text = (m : Map) (claim : Option (List ℕ)) → IsMap m → root m ≡ top → lookup top name text ≡ Ok claim → claim ≢ get m (K name) → Collides (lookup_clash m name text)
 
--- a map's own reply to `prove`, with any number, shows what the map says of the name
+-- the first line of a block with so many siblings: the reply to the line with this number, or the same without its number and `ok`
+abbrev pub proof_line_text : Option ℕ → ℕ → List ℕ
+proof_line_text (Some n) siblings = reply_text n (reply.Proof siblings)
+proof_line_text None siblings = line_text (codes "proof" ∷ decimal siblings ∷ [])
+
+-- a map's own reply to `prove`, with any number or without `n ok`, shows what the map says of the name
 abbrev pub IsFairLookup : List ℕ → List ℕ → List ℕ → Type 0
-IsFairLookup top name text = (m : Map) (n : ℕ) → IsMap m → root m ≡ top → IsTold name (get m (K name)) (honest m (K name)) → n < 2 ^ 64
-    → text ≡ reply_text n (reply.Proof (length (honest m (K name)).siblings)) ++ proof_lines name (get m (K name)) (honest m (K name)) → lookup top name text ≡ Ok (get m (K name))
+IsFairLookup top name text = (m : Map) (number : Option ℕ) → IsMap m → root m ≡ top → IsTold name (get m (K name)) (honest m (K name)) → IfSome number (λ n. n < 2 ^ 64)
+    → text ≡ proof_line_text number (length (honest m (K name)).siblings) ++ proof_lines name (get m (K name)) (honest m (K name)) → lookup top name text ≡ Ok (get m (K name))
 
 -- so it is for all roots, names and texts
 abbrev pub HonestBlocksAreBelieved : Type 0

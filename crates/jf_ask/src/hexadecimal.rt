@@ -1,5 +1,5 @@
 // Words of hexadecimal digits as bytes, written into room that is there.
-ghost use Rattle.std.specs.Prelude.{◌≡◌, ◌*◌, ◌+◌, ◌≤◌, length, take, IfSome, option_map, Some};
+ghost use Rattle.std.specs.Prelude.{◌≡◌, ◌*◌, ◌/◌, ◌+◌, ◌≤◌, length, take, drop, IfSome, option_map, Some};
 ghost use Rattle.jf_text.specs.Words.{digit, byte_of, unhex, bytes_within};
 
 /// The value of a hexadecimal digit, or `None` for any other byte. Upper case is refused.
@@ -23,12 +23,14 @@ fn byte_of(high: u8, low: u8) -> Option<u8>
 }
 
 /// Writes the bytes of a word to the front of `out`, and returns how many they are. `None` if the word isn't an even
-/// number of digits; the front of `out` may then have changed.
+/// number of digits; the front of `out` may then have changed, for half as many bytes as the word has. What comes after
+/// these bytes is unchanged.
 pub fn unhexed(word: &[u8], out: &mut [u8]) -> Option<usize>
     requires { length word.now ≤ 2 * length out.old + 1 }
     ensures length { length out.new ≡ length out.old }
     ensures within { IfSome result (λ n. n ≤ length out.new) }
     ensures bytes { option_map (λ n. take n out.new) result ≡ unhex word.now }
+    ensures rest { drop (length word.now / 2) out.new ≡ drop (length word.now / 2) out.old }
 {
     if word.len() % 2 == 1 {
         return None;

@@ -1,8 +1,7 @@
-use Rattle.std.proofs.Common.{◌≡◌, ◌∙◌, ◌/◌, ◌≤◌, ◌++◌, List, ℕ, Some, length, drop, sym, ap₂, arith}
-use Rattle.std.proofs.lemmas.List.{length-take-le}
+use Rattle.std.proofs.Common.{◌≡◌, ◌∙◌, ◌/◌, ◌≤◌, List, ℕ, Some, length, drop, sym, subst, arith}
 use Rattle.jf_text.specs.Words.{unhex}
 use Rattle.jf_text.proofs.HexText.{unhex-length}
-use Rattle.jelly.proofs.ToldClaims.{fills, filled_room-fits, filled_room-wide, value_number-wide}
+use Rattle.jelly.proofs.ToldClaims.{filled, filled_room-fits, filled_room-wide, value_number-wide}
 use Rattle.jelly.proofs.ask.give.Goals as goal
 
 half : (w v : List ℕ) → unhex w ≡ Some v → length w / 2 ≡ length v
@@ -23,6 +22,5 @@ returns-clause-length c v is = half c.args.digits.now v is
 pub returns-clause-value : goal.returns-clause-value
 returns-clause-value c v is =
     let fits : length v ≤ length c.args.out.now = omega (arith, half c.args.digits.now v is) in
-    let long : length c.unhexed.new.out ≡ length v = omega (arith, c.unhexed.ensures.length, half c.args.digits.now v is, length-take-le (length c.args.digits.now / 2) c.args.out.now (omega arith)) in
-    ap₂ (λ x n. x ++ drop n c.args.out.now) (fills c.unhexed.result c.unhexed.new.out v c.unhexed.ensures.within (c.unhexed.ensures.bytes ∙ is) long) (half c.args.digits.now v is)
-    ∙ sym (filled_room-fits c.args.out.now v fits)
+    let rest : drop (length v) c.unhexed.new.out ≡ drop (length v) c.args.out.now = subst (λ n. drop n c.unhexed.new.out ≡ drop n c.args.out.now) (half c.args.digits.now v is) c.unhexed.ensures.rest in
+    filled c.unhexed.result c.args.out.now c.unhexed.new.out v c.unhexed.ensures.within (c.unhexed.ensures.bytes ∙ is) rest ∙ sym (filled_room-fits c.args.out.now v fits)

@@ -10,4 +10,4 @@ returns-clause-sound_room c m is_map top two differs =
     value-shown _ _ _ _ _ _ (c.answer.ensures _ c.look_up.ensures.answer) two (λ v shown long. c.look_up.ensures.sound m (Some v) is_map top shown (λ same. differs (sym (ap (option_map length) same) ∙ ap Some (sym long))))
 
 pub returns-clause-fair : goal.returns-clause-fair
-returns-clause-fair c m count is_map top told small is = c.answer.ensures _ (c.look_up.ensures.answer ∙ ap Some (c.look_up.ensures.fair m count is_map top told small is))
+returns-clause-fair c m number is_map top told small is = c.answer.ensures _ (c.look_up.ensures.answer ∙ ap Some (c.look_up.ensures.fair m number is_map top told small is))
