@@ -6,6 +6,7 @@ use Rattle.jf_model.specs.Versions.{Versions}
 use Rattle.jf_disk.specs.Disk.{Files, History, reads}
 use Rattle.jf_disk.specs.Crashes.{LeavesFiles, LeavesNow}
 use Rattle.jf_disk.specs.Moments.{ExtendsHistory}
+use Rattle.jf_disk.specs.declared.disk.Disk as disk
 use Rattle.jf_disk.specs.declared.side.Side.{Side}
 use Rattle.jf_frame.specs.Framed.{Framed}
 use Rattle.jf_pair.specs.Files.{HoldsLive}
@@ -13,7 +14,9 @@ use Rattle.jf_files.specs.Files.{StandsFor, IsDamagedAt, generation}
 use Rattle.jf_files.specs.Steps.{Opens, StopsWell, Succeeds, LiveAfter, IsCalm}
 use Rattle.jf_files.specs.Begun.{IsBegunOver}
 use Rattle.jf_files.specs.NewStore.{new_store_bytes}
-use Rattle.jf_engine.specs.Engines.{IsSettledOn}
+use Rattle.jf_engine.specs.Engines.{Engine, IsSettledOn}
+use Rattle.jf_engine.specs.declared.existing.Existing.{Existing}
+use Rattle.jf_engine.specs.declared.existing.Existing.TheVariants as existing
 use Rattle.jf_engine.specs.declared.fault.OpenFault.{OpenFault}
 use Rattle.jf_engine.specs.declared.fault.OpenFault.TheVariants as open_fault
 
@@ -69,3 +72,27 @@ pub record HasRefused (old new : DiskView) (why : OpenFault) : Type 0 where
   pub untold : old.history ≡ None → new.history ≡ None
   pub moment : old.moment ≤ new.moment
   pub faults : old.faults ≤ new.faults
+
+-- ---- what an opening that begins no files gives
+-- a store was opened on files that held a record, and the files are unchanged
+pub record HasReopened (old new : DiskView) (v : Versions) (n : ℕ) : Type 0 where
+  pub opened : HasOpened old new v n
+  pub recorded : ForSome old.history (λ h. HoldsLive (reads h) [] → ⊥)
+  pub left : OnHistories old.history new.history LeavesFiles
+
+-- neither side of the files holds a record, and the files are unchanged
+pub record HasFoundNoStore (old new : DiskView) : Type 0 where
+  pub disk : OnHistories old.history new.history (λ h g. HoldsLive (reads h) [] × LeavesFiles h g)
+  pub untold : old.history ≡ None → new.history ≡ None
+  pub moment : old.moment ≤ new.moment
+  pub faults : new.faults ≡ old.faults
+
+-- what the files of a disk were found to be, by the members of the disk's type
+abbrev pub HasFoundExisting : {D : Type 0} → disk.Ghosts D → DiskView → Existing D → Type 0
+HasFoundExisting members old (existing.Store e) = HasReopened old (disk_view e.history e.moment e.faults) e.versions e.generation
+HasFoundExisting members old (existing.Absent d) = HasFoundNoStore old (disk_view (members.history d) (members.moment d) (members.faults d))
+
+-- the store, if the files hold one
+abbrev pub store_in : {D : Type 0} → Existing D → Option Engine
+store_in (existing.Store e) = Some e
+store_in (existing.Absent d) = None

@@ -25,7 +25,7 @@ pub(crate) const BEFORE: Opened = Ok(State {
     generation: 1,
 });
 
-const AFTER: Opened = Ok(State {
+pub(crate) const AFTER: Opened = Ok(State {
     base: 0,
     floor: 0,
     head: 1,
@@ -42,12 +42,12 @@ const IN_SECOND: Opened = Ok(State {
 });
 
 // Damage at the gate of the first record, at that of the landing, and at the gate after it.
-const AT_FIRST: Opened = Err(OpenFault::Damaged {
+pub(crate) const AT_FIRST: Opened = Err(OpenFault::Damaged {
     side: Side::A,
     offset: 0,
 });
 
-const AT_LANDING: Opened = Err(OpenFault::Damaged {
+pub(crate) const AT_LANDING: Opened = Err(OpenFault::Damaged {
     side: Side::A,
     offset: 100,
 });

@@ -16,7 +16,7 @@ const IN_SECOND: Opened = Ok(State {
     generation: 2,
 });
 
-const AT_FIRST_OF_B: Opened = Err(OpenFault::Damaged {
+pub(crate) const AT_FIRST_OF_B: Opened = Err(OpenFault::Damaged {
     side: Side::B,
     offset: 0,
 });

@@ -4,6 +4,8 @@
 #[cfg(test)]
 mod damage;
 #[cfg(test)]
+mod existing;
+#[cfg(test)]
 mod generations;
 #[cfg(test)]
 mod histories;
