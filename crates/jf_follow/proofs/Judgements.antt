@@ -241,35 +241,18 @@ not_at_limit v e =
     (head_small v.head parts.0, map_small (len (newest v)) parts.1)
 
 -- the limit, by its two numbers
-limit_of_head : (v : Versions) → 2 ^ 64 - 2 ≤ v.head → is_at_limit v ≡ true
+pub limit_of_head : (v : Versions) → 2 ^ 64 - 2 ≤ v.head → is_at_limit v ≡ true
 limit_of_head v le = let e : nat_le (2 ^ 64 - 2) v.head ≡ true = grind (arith, nat_tests) in ap (λ t. t || nat_lt (2 ^ 62) (len (newest v))) e
 
 or_yes : (a b : Bool) → b ≡ true → (a || b) ≡ true
 or_yes true b e = refl
 or_yes false b e = e
 
-limit_of_map : (v : Versions) → 2 ^ 62 < len (newest v) → is_at_limit v ≡ true
+pub limit_of_map : (v : Versions) → 2 ^ 62 < len (newest v) → is_at_limit v ≡ true
 limit_of_map v lt = or_yes (nat_le (2 ^ 64 - 2) v.head) (nat_lt (2 ^ 62) (len (newest v))) (grind (arith, nat_tests))
 
-no_limit : (v : Versions) → v.head < 2 ^ 64 - 2 → len (newest v) ≤ 2 ^ 62 → is_at_limit v ≡ false
+pub no_limit : (v : Versions) → v.head < 2 ^ 64 - 2 → len (newest v) ≤ 2 ^ 62 → is_at_limit v ≡ false
 no_limit v low small =
     let head : nat_le (2 ^ 64 - 2) v.head ≡ false = grind (arith, nat_tests) in
     let map : nat_lt (2 ^ 62) (len (newest v)) ≡ false = grind (arith, nat_tests) in
     ap₂ (λ s t. s || t) head map
-
-module _ (v : Versions) (r : List ℕ) (batch : Batch) (low : v.base ≤ v.head) where
-  abbrev next_told : LandingBlock
-  next_told = told_landing (v.head + 1) r batch
-
-  -- the next version, by the numbers and roots themselves
-  pub next_after_last_head : 2 ^ 64 - 2 ≤ v.head → judgement v next_told ≡ judged.Refused fault.Last
-  next_after_last_head le = row_last v next_told low refl (limit_of_head v le)
-
-  pub next_after_last_map : 2 ^ 62 < len (newest v) → judgement v next_told ≡ judged.Refused fault.Last
-  next_after_last_map lt = row_last v next_told low refl (limit_of_map v lt)
-
-  pub next_of_other_root : v.head < 2 ^ 64 - 2 → len (newest v) ≤ 2 ^ 62 → ((landed_block v batch).root ≡ r → ⊥) → judgement v next_told ≡ judged.Refused (fault.Differs (v.head + 1) r (landed_block v batch).root)
-  next_of_other_root h small differ = row_differs v next_told low refl (no_limit v h small) differ
-
-  pub next_of_same_root : v.head < 2 ^ 64 - 2 → len (newest v) ≤ 2 ^ 62 → (landed_block v batch).root ≡ r → judgement v next_told ≡ judged.Next
-  next_of_same_root h small same = row_next v next_told low refl (no_limit v h small) same

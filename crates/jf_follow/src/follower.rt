@@ -11,7 +11,6 @@ use jf_disk::Disk;
 use jf_engine::Engine;
 use jf_hash::Hash;
 use jf_join::{Gate, Workers};
-use jf_path::Memory;
 use jf_split::Batch;
 use std::alloc::Global;
 use std::marker::Model;
@@ -89,9 +88,10 @@ impl<D: Disk> Follower<D> {
         if self.engine.broken() {
             return Err(FollowFault::Broken);
         }
-        match judge(rt, alloc, &self.engine, version, root, batch, workers) {
-            Ok(Judgement::Known) => Ok(Taken::Already),
-            Ok(Judgement::Next) => land(
+        match judge(&self.engine, version, root, batch) {
+            Judgement::Known => Ok(Taken::Already),
+            Judgement::Refused(why) => Err(why),
+            Judgement::Next => land(
                 rt,
                 alloc,
                 &mut self.engine,
@@ -101,8 +101,6 @@ impl<D: Disk> Follower<D> {
                 workers,
                 gate,
             ),
-            Ok(Judgement::Refused(why)) => Err(why),
-            Err(Memory) => Err(FollowFault::Memory),
         }
     }
 }

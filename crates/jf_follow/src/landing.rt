@@ -1,20 +1,19 @@
-// A landing that is judged to be the next version is made.
-ghost use Rattle.std.specs.Prelude.{◌≡◌, false};
-ghost use Rattle.jf_follow.specs.declared.judging.Judgement.TheVariants as judged;
-ghost use Rattle.jf_follow.specs.Following.{judgement, told_landing};
+// A landing of the version after the head is made, if it has the announced root.
+ghost use Rattle.std.specs.Prelude.{◌≡◌, ◌+◌, false};
+ghost use Rattle.jf_follow.specs.Following.{told_landing};
 ghost use Rattle.jf_follow.specs.Takes.{TakesBlock};
 
 use crate::fault::FollowFault;
 use crate::taken::Taken;
 use jf_disk::Disk;
-use jf_engine::{Engine, EngineFault};
+use jf_engine::{Engine, EngineFault, LandFault};
 use jf_hash::Hash;
 use jf_join::{Gate, Workers};
 use jf_split::Batch;
 use std::alloc::Global;
 use std::thread::Threads;
 
-/// Lands the batch of a landing that is judged to be the next version.
+/// Lands the batch of a landing of the version after the head, if it has the announced root.
 pub(crate) fn land<D: Disk, H: Threads + Sync, G: Gate>(
     rt: &H,
     alloc: Global,
@@ -26,17 +25,21 @@ pub(crate) fn land<D: Disk, H: Threads + Sync, G: Gate>(
     gate: &G,
 ) -> Result<Taken, FollowFault>
     requires whole { engine.old.broken ≡ false }
-    requires next { judgement engine.old.versions (told_landing version root.now batch.now) ≡ judged.Next }
+    requires next { version ≡ engine.old.versions.head + 1 }
     ensures { TakesBlock (told_landing version root.now batch.now) engine.old engine.new result }
 {
-    let _ = version;
-    let _ = root;
-    match engine.land(rt, alloc, batch, workers, gate) {
+    engine.know();
+    match engine.land_rooted(rt, alloc, batch, root, workers, gate) {
         Ok(landed) => Ok(Taken::Landed(landed)),
-        Err(EngineFault::DiskFault) => Err(FollowFault::DiskFault),
-        Err(EngineFault::Memory) => Err(FollowFault::Memory),
-        Err(EngineFault::Broken) => unreachable!(),
-        Err(EngineFault::Last(_)) => unreachable!(),
-        Err(EngineFault::NotEmpty(_)) => unreachable!(),
+        Err(LandFault::Differs(found)) => Err(FollowFault::Differs {
+            version,
+            announced: *root,
+            found,
+        }),
+        Err(LandFault::Refused(EngineFault::Last(_))) => Err(FollowFault::Last),
+        Err(LandFault::Refused(EngineFault::DiskFault)) => Err(FollowFault::DiskFault),
+        Err(LandFault::Refused(EngineFault::Memory)) => Err(FollowFault::Memory),
+        Err(LandFault::Refused(EngineFault::Broken)) => unreachable!(),
+        Err(LandFault::Refused(EngineFault::NotEmpty(_))) => unreachable!(),
     }
 }

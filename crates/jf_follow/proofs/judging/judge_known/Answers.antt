@@ -6,16 +6,16 @@ use Rattle.jf_follow.specs.declared.judging.Judgement.TheVariants as judged
 use Rattle.jf_follow.proofs.Judgements.{row_known, row_other}
 use Rattle.jf_follow.proofs.judging.judge_known.Goals as goal
 
-pub returns-then-eq : goal.returns-then-eq
-returns-then-eq g c =
+pub returns-then-eq-clause-judged : goal.returns-then-eq-clause-judged
+returns-then-eq-clause-judged g c =
     let v = c.args.engine.now.versions in
     let b = told_landing c.args.version c.args.root.now c.args.batch.now in
     let found : c.in-Some.recorded ≡ root_of v c.args.version = search rules in
     let same : c.in-Some.recorded ≡ c.args.root.now = search rules in
     sym (row_known v b c.requires.low c.requires.high (sym found ∙ same))
 
-pub returns : goal.returns
-returns g c =
+pub returns-clause-judged : goal.returns-clause-judged
+returns-clause-judged g c =
     let v = c.args.engine.now.versions in
     let b = told_landing c.args.version c.args.root.now c.args.batch.now in
     let found : c.in-Some.recorded ≡ root_of v c.args.version = search rules in
