@@ -43,6 +43,7 @@ pub fn check_files<H: Threads + Sync, K: Sink>(
 ) -> Result<StoreCheck, Unchecked>
     ensures written { WritesCheck result (option_map (λ v. v.items) a) (option_map (λ v. v.items) b) (K.text sink.old) (K.text sink.new) }
     ensures write { result ≡ Err Unchecked.WriteFault → HasCause (K.faults sink.old) (K.faults sink.new) }
+    ensures unwritten { result ≡ Err Unchecked.Memory → sink.new ≡ sink.old }
     ensures sink_counts { K.faults sink.old ≤ K.faults sink.new }
 {
     let check = check_of(rt, alloc, a, b, workers)?;
