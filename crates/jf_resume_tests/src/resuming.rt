@@ -1,11 +1,9 @@
 // The mode `resume` over stores that other words left: a run if the announced root is there, and otherwise nothing. In words
 // letters stand for roots, as in `with_roots`: E for that of the empty map, R for that of `put 61 =31`.
-use jf_disk::{MemDisk, Side};
+use jf_disk::{Disk, MemDisk, Side};
 use jf_hash::Hash;
 use jf_play::files::{CHECKPOINT, END, File, LANDING, LANDING_OF_NOTHING, bytes_of};
-use jf_play::play::{
-    Faults, NO_FAULTS, Played, are_same, disk_of, has_ended, new_disk, play, play_line,
-};
+use jf_play::play::{Faults, NO_FAULTS, Played, are_same, disk_of, has_ended, new_disk, play_line};
 use jf_play::roots::with_roots;
 use jf_run::status::Status;
 use std::alloc::Global;
@@ -81,28 +79,36 @@ const THERE: &[(Words, &str)] = &[
 
 const SCRIPT: &str = "status\nput 62 =32\ncommit\nroot head\n";
 
+// Runs words with the script over what a row's words left.
+fn play_over<H: Threads + Wait + Sync>(
+    rt: &H,
+    alloc: Global,
+    left: Words,
+    line: &'static str,
+) -> Result<Played<MemDisk>, Fail> {
+    let disk = left_by(rt, alloc, left)?;
+    play_roots(rt, alloc, disk, (line, SCRIPT), NO_FAULTS)
+}
+
+// Whether a run over what words left does what these did.
+fn does_the_same<H: Threads + Wait + Sync>(
+    rt: &H,
+    alloc: Global,
+    left: Words,
+    resumed: &Played<MemDisk>,
+) -> Result<bool, Fail> {
+    let ran = play_over(rt, alloc, left, "run")?;
+    Ok(are_same(resumed, &ran) && resumed.start == ran.start && resumed.entries == 1)
+}
+
 // Whether the words of a row do what `run` does.
 fn goes_on<H: Threads + Wait + Sync>(
     rt: &H,
     alloc: Global,
     row: &(Words, &'static str),
 ) -> Result<bool, Fail> {
-    let resumed = play_roots(
-        rt,
-        alloc,
-        left_by(rt, alloc, row.0)?,
-        (row.1, SCRIPT),
-        NO_FAULTS,
-    )?;
-    let ran = play(
-        rt,
-        alloc,
-        left_by(rt, alloc, row.0)?,
-        "run",
-        SCRIPT.as_bytes(),
-        NO_FAULTS,
-    )?;
-    Ok(are_same(&resumed, &ran) && resumed.start == ran.start && resumed.entries == 1)
+    let resumed = play_over(rt, alloc, row.0, row.1)?;
+    does_the_same(rt, alloc, row.0, &resumed)
 }
 
 #[test]
@@ -148,20 +154,37 @@ fn has_sides(disk: &MemDisk, sides: &Sides) -> bool {
     disk.bytes(Side::A) == sides.0.as_slice() && disk.bytes(Side::B) == sides.1.as_slice()
 }
 
-// Whether words that ask for a run over a disk find it elsewhere, at this version with this root, ask for nothing of source or
-// sink, and leave both sides with these bytes.
+// The number of calls that an opening makes: both sides synced, and the length and the bytes of each.
+const CALLS: u64 = 6;
+
+// Whether a run that began at a moment of the disk ended elsewhere, at this version with this root, asked for nothing of source
+// or sink, and did no more with the disk than read it.
+fn ended_elsewhere(
+    played: &Played<MemDisk>,
+    moment: u64,
+    start: Option<u64>,
+    place: (u64, Hash),
+    sides: &Sides,
+) -> bool {
+    let (head, root) = place;
+    let ended = has_ended(played, Status::Elsewhere { head, root }, start, b"");
+    let calls = moment.checked_add(CALLS) == Some(played.disk.moment());
+    ended && calls && played.entries == 0 && has_sides(&played.disk, sides)
+}
+
+// Whether words over a disk that holds these sides end elsewhere, and leave them.
 fn is_elsewhere<H: Threads + Wait + Sync>(
     rt: &H,
     alloc: Global,
     disk: Box<MemDisk>,
     line: &'static str,
+    start: Option<u64>,
     place: (u64, Hash),
     sides: &Sides,
 ) -> Result<bool, Fail> {
-    let (head, root) = place;
+    let moment = disk.moment();
     let played = play_roots(rt, alloc, disk, (line, SCRIPT), UNTOUCHED)?;
-    let ended = has_ended(&played, Status::Elsewhere { head, root }, Some(head), b"");
-    Ok(ended && played.entries == 0 && has_sides(&played.disk, sides))
+    Ok(ended_elsewhere(&played, moment, start, place, sides))
 }
 
 // Whether the words of a row find the store elsewhere, and leave it as it was.
@@ -172,7 +195,7 @@ fn finds_another<H: Threads + Wait + Sync>(
 ) -> Result<bool, Fail> {
     let disk = left_by(rt, alloc, row.0)?;
     let sides = sides_of(alloc, &disk)?;
-    is_elsewhere(rt, alloc, disk, row.1, (row.2, row.3), &sides)
+    is_elsewhere(rt, alloc, disk, row.1, Some(row.2), (row.2, row.3), &sides)
 }
 
 #[test]
@@ -198,7 +221,7 @@ fn rolled_back(alloc: Global) -> Result<Sides, Fail> {
 fn finds_rolled_back<H: Threads + Wait + Sync>(rt: &H, alloc: Global) -> Result<bool, Fail> {
     let sides = rolled_back(alloc)?;
     let disk = disk_of(alloc, &sides.0, &sides.1, &[])?;
-    is_elsewhere(rt, alloc, disk, "resume 2 R", (1, OF_ONE), &sides)
+    is_elsewhere(rt, alloc, disk, "resume 2 R", Some(1), (1, OF_ONE), &sides)
 }
 
 #[test]
@@ -207,16 +230,82 @@ fn a_gate_that_reads_wrong_is_noticed(rt: HostRuntime) -> Result<(), Fail> {
     Ok(())
 }
 
-// Whether files without a record are begun, and nothing else is done.
-fn begins<H: Threads + Wait + Sync>(rt: &H, alloc: Global) -> Result<bool, Fail> {
+// How many bytes of the first checkpoint a crash left behind its gate, which is still closed: none at all, the gate alone, and
+// up to the whole record with the gate after it.
+const TORN: &[usize] = &[0, 1, 2, 50, 100, 101];
+
+// Both sides of a store that so many bytes are left of.
+fn torn(alloc: Global, count: usize) -> Result<Sides, Fail> {
     const FIRST: File = &[CHECKPOINT, END];
-    let disk = new_disk(alloc, b"", &[])?;
-    let sides = (bytes_of(alloc, FIRST)?, Vec::new(alloc));
-    is_elsewhere(rt, alloc, disk, "resume 1 E", (0, OF_NONE), &sides)
+    let mut a = bytes_of(alloc, FIRST)?;
+    match a.get_mut(0) {
+        Some(gate) => *gate = 0,
+        None => return Err(Fail::new("no gate")),
+    }
+    a.truncate(count);
+    Ok((a, Vec::new(alloc)))
+}
+
+// A version and a root that no new store has: another version, and another root.
+const OF_NO_NEW_STORE: &[&str] = &["resume 1 E", "resume 0 R"];
+
+// Whether words find no store in files without a record, and begin none.
+fn finds_none<H: Threads + Wait + Sync>(
+    rt: &H,
+    alloc: Global,
+    count: usize,
+    line: &'static str,
+) -> Result<bool, Fail> {
+    let sides = torn(alloc, count)?;
+    let disk = disk_of(alloc, &sides.0, &sides.1, &[])?;
+    is_elsewhere(rt, alloc, disk, line, None, (0, OF_NONE), &sides)
 }
 
 #[test]
-fn files_without_a_record_are_begun(rt: HostRuntime) -> Result<(), Fail> {
-    assert!(rt; begins(&rt, rt.alloc())?);
+fn a_lost_store_is_not_begun_anew(rt: HostRuntime) -> Result<(), Fail> {
+    for line in OF_NO_NEW_STORE {
+        for count in TORN {
+            assert!(rt;
+                finds_none(&rt, rt.alloc(), *count, *line)?,
+                "{line} of {count}"
+            );
+        }
+    }
+    Ok(())
+}
+
+// Whether a call on the disk that fails ends such a run, and leaves files without a record as they were.
+fn stops_well<H: Threads + Wait + Sync>(rt: &H, alloc: Global, failing: u64) -> Result<bool, Fail> {
+    let sides = torn(alloc, 50)?;
+    let disk = disk_of(alloc, &sides.0, &sides.1, &[failing])?;
+    let played = play_roots(rt, alloc, disk, ("resume 1 E", SCRIPT), UNTOUCHED)?;
+    Ok(has_ended(&played, Status::DiskFault, None, b"") && has_sides(&played.disk, &sides))
+}
+
+#[test]
+fn a_fault_begins_no_store_either(rt: HostRuntime) -> Result<(), Fail> {
+    for failing in 0..CALLS {
+        assert!(rt; stops_well(&rt, rt.alloc(), failing)?, "at {failing}");
+    }
+    Ok(())
+}
+
+// Whether the words with the root of a new store begin files without a record, and go on as `run`.
+fn begins<H: Threads + Wait + Sync>(rt: &H, alloc: Global, count: usize) -> Result<bool, Fail> {
+    const BEGUN: File = &[CHECKPOINT, LANDING, END];
+    let sides = torn(alloc, count)?;
+    let disk = disk_of(alloc, &sides.0, &sides.1, &[])?;
+    let words = ("resume 0 E", "put 61 =31\ncommit\n");
+    let played = play_roots(rt, alloc, disk, words, NO_FAULTS)?;
+    let ended = played.status == Status::Done && played.start == Some(0) && played.entries == 1;
+    let want = (bytes_of(alloc, BEGUN)?, Vec::new(alloc));
+    Ok(ended && has_sides(&played.disk, &want))
+}
+
+#[test]
+fn the_root_of_a_new_store_begins_one(rt: HostRuntime) -> Result<(), Fail> {
+    for count in TORN {
+        assert!(rt; begins(&rt, rt.alloc(), *count)?, "of {count}");
+    }
     Ok(())
 }

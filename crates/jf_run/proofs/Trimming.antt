@@ -1,6 +1,6 @@
 -- What a call promises that opened the store and was to trim its files.
-use Rattle.std.specs.Prelude.{IfOk, IfSome}
-use Rattle.std.proofs.Common.{◌≡◌, ◌⊎◌, ◌∙◌, refl, sym, ap, subst, ℕ, ◌+◌, ◌≤◌, [], List, Option, Some, Ok, Err, Result, inl, inr, le_refl}
+use Rattle.std.specs.Prelude.{IfOk, IfSome, OnOk}
+use Rattle.std.proofs.Common.{◌≡◌, ◌⊎◌, ◌∙◌, refl, sym, ap, subst, ℕ, ◌≤◌, [], List, Option, Some, Ok, Err, Result, inl, inr, le_refl}
 use Rattle.jf_path.specs.Faults.{HasCause}
 use Rattle.jf_model.specs.Versions.{IsVersions, Versions}
 use Rattle.jf_model.specs.States.{opened}
@@ -8,6 +8,7 @@ use Rattle.jf_model.specs.Entries.{replay}
 use Rattle.jf_model.specs.declared.entries.Entry.{Entry}
 use Rattle.jf_model.proofs.StateLaws.{versions-opened}
 use Rattle.jf_disk.specs.Disk.{CallsOn, History, reads}
+use Rattle.jf_disk.specs.Crashes.{LeavesFiles}
 use Rattle.jf_disk.specs.declared.side.Side.{Side}
 use Rattle.jf_disk.proofs.CrashLaws.{goes_extends, goes_further}
 use Rattle.jf_pair.specs.Files.{outer_damage}
@@ -75,12 +76,24 @@ no_read how s (inr (inr (inr w))) e = refused_read (of_pair w.0) (sym w.2 ∙ e)
 -- what was told of what was trimmed, and of the faults of the sink
 pub record IsTold (how : How) (s : Status) (text text' : Option (List ℕ)) (faults faults' : ℕ) : Type 0 where
   pub told : TellsTrimmed how s text text'
+  pub silent : (s ≡ status.Done → ⊥) → (s ≡ status.WriteFault → ⊥) → faults' ≡ faults
   pub write : s ≡ status.WriteFault → HasCause faults faults'
   pub counts : faults ≤ faults'
 
+quiet : (t : Trimmed) (s : Status) (faults faults' : ℕ) → EndsSo (Ok t) s → (s ≡ status.Memory → faults' ≡ faults) → (s ≡ status.Done → ⊥) → (s ≡ status.WriteFault → ⊥) → faults' ≡ faults
+quiet t s faults faults' (inl is) memory done write = absurd (done is)
+quiet t s faults faults' (inr (inl is)) memory done write = absurd (write is)
+quiet t s faults faults' (inr (inr (inl is))) memory done write = memory is
+quiet t s faults faults' (inr (inr (inr x))) memory done write = absurd (let no : Ok t ≡ Err x.0 = x.1 in cc)
+
+-- of a disk that was trimmed the line is written, unless memory ran out before
+pub line_told : (t : Trimmed) (s : Status) (text text' : Option (List ℕ)) (faults faults' : ℕ) → TellsTrimmed (Ok t) s text text' → (s ≡ status.Memory → faults' ≡ faults) → (s ≡ status.WriteFault → HasCause faults faults') → faults ≤ faults'
+    → IsTold (Ok t) s text text' faults faults'
+line_told t s text text' faults faults' told silent write counts = record { told = told; silent = quiet t s faults faults' (ends_so (Ok t) s text text' told) silent; write = write; counts = counts }
+
 -- of a disk that wasn't trimmed nothing is written
 pub untrimmed_told : (why : PairFault) (text : Option (List ℕ)) (faults : ℕ) → IsTold (Err why) (status_of_refusal (of_pair why)) text text faults faults
-untrimmed_told why text faults = record { told = (refl, refl); write = λ e. absurd (refused_write (of_pair why) e); counts = le_refl faults }
+untrimmed_told why text faults = record { told = (refl, refl); silent = λ done write. refl; write = λ e. absurd (refused_write (of_pair why) e); counts = le_refl faults }
 
 fault_of_pair : (why : PairFault) → of_pair why ≡ open_fault.DiskFault → why ≡ pair_fault.DiskFault
 fault_of_pair pair_fault.DiskFault e = refl
@@ -130,6 +143,18 @@ trims : (how : How) (old new : Option History) → OnHistories old new KeepsStor
 trims (Ok t) old new keeps trimmed = trimmed
 trims (Err why) old new keeps trimmed = λ h told. let k = keeps h told in (k.0, k.1, tt)
 
+-- a disk that wasn't trimmed, and didn't fail, is as it was
+left_alone : (how : How) (old new : Option History) → ((h : History) (why : PairFault) → old ≡ Some h → how ≡ Err why → (why ≡ pair_fault.DiskFault) ⊎ ((g : History) × (new ≡ Some g) × LeavesFiles h g))
+    → (why : PairFault) → how ≡ Err why → (why ≡ pair_fault.DiskFault) ⊎ OnHistories old new LeavesFiles
+left_alone how old new left pair_fault.DiskFault is = inl refl
+left_alone how old new left (pair_fault.Damaged side at) is = inr (λ h told. elim (left h (pair_fault.Damaged side at) told is) [ inl other ↦ absurd (cc) | inr same ↦ same ])
+left_alone how old new left pair_fault.Memory is = inr (λ h told. elim (left h pair_fault.Memory told is) [ inl other ↦ absurd (cc) | inr same ↦ same ])
+
+-- if no call failed in the opening, nor in the trimming, none failed
+stayed_calm : (how : How) (before opened after : ℕ) → opened ≡ before → OnOk how (after ≡ opened) → IfOk how (λ t. after ≡ before)
+stayed_calm (Ok t) before opened after opening calm = calm ∙ opening
+stayed_calm (Err why) before opened after opening calm = tt
+
 -- a store was opened, and then kept
 module _ (c : ProgramCall) (head : ℕ) (e : Engine) (begun : IsBegun (opened e.versions e.generation) c.before.disk (engine_disk e) head) (settled : (h : History) → e.history ≡ Some h → IsSettledOn h e.versions e.generation)
     (law : KeptStoresStopWell) (keeps : OnHistories e.history c.after.disk.history KeepsStore) where
@@ -160,9 +185,10 @@ pub trimmed_keeps : (c : ProgramCall) (head : ℕ) (e : Engine) (how : How) → 
     → c.asks ≡ Some mode.Trim → c.start ≡ Some head → c.entries ≡ [] → TellsTrimmed how c.status c.before.text c.after.text
     → OnHistories e.history c.after.disk.history KeepsStore → ((h : History) → e.history ≡ Some h → IfOk how (λ t. (g : History) × (c.after.disk.history ≡ Some g) × HasTrimmed t h g))
     → ((h : History) (side : Side) (at : ℕ) → e.history ≡ Some h → how ≡ Err (pair_fault.Damaged side at) → outer_damage (reads h) ≡ Some (side, at))
-    → CallsOn e.history e.moment e.faults c.after.disk.history c.after.disk.moment c.after.disk.faults (how ≡ Err pair_fault.DiskFault) → c.after.disk.moment ≤ e.moment + 15
-    → c.after.rest ≡ c.before.rest → c.after.source_faults ≡ c.before.source_faults → (c.status ≡ status.WriteFault → HasCause c.before.sink_faults c.after.sink_faults) → c.before.sink_faults ≤ c.after.sink_faults → KeepsPromises c
-trimmed_keeps c head e how none_stand one law sound begun settled asks start none told keeps trimmed damaged calls few rest faults write sink =
+    → ((h : History) (why : PairFault) → e.history ≡ Some h → how ≡ Err why → (why ≡ pair_fault.DiskFault) ⊎ ((g : History) × (c.after.disk.history ≡ Some g) × LeavesFiles h g)) → OnOk how (c.after.disk.faults ≡ e.faults)
+    → CallsOn e.history e.moment e.faults c.after.disk.history c.after.disk.moment c.after.disk.faults (how ≡ Err pair_fault.DiskFault)
+    → c.after.rest ≡ c.before.rest → c.after.source_faults ≡ c.before.source_faults → ((c.status ≡ status.Done → ⊥) → (c.status ≡ status.WriteFault → ⊥) → c.after.sink_faults ≡ c.before.sink_faults) → (c.status ≡ status.WriteFault → HasCause c.before.sink_faults c.after.sink_faults) → c.before.sink_faults ≤ c.after.sink_faults → KeepsPromises c
+trimmed_keeps c head e how none_stand one law sound begun settled asks start none told keeps trimmed damaged left calm calls rest faults silent write sink =
     let s = opened e.versions e.generation in
     let disk = engine_disk e in
     let so : EndsSo how c.status = ends_so how c.status c.before.text c.after.text told in
@@ -192,9 +218,13 @@ trimmed_keeps c head e how none_stand one law sound begun settled asks start non
           let same : e.versions ≡ v = one (reads h) e.versions v found.0 stands in
           subst (λ (es : List Entry). StandsForEntries c.after.disk.history v (generation (reads h)) es) (sym none)
           (stands-same h k.0 v c.after.disk.history (subst IsVersions same sound) k.1 (subst (λ w. StandsFor (reads k.0) w) same (k.2.stands e.versions was.stands)) (k.2.generation_is ∙ was.generation_is ∙ sym found.1));
-      few = few;
+      live = λ h is. let k = keeps h is in (k.0, k.1, k.2.live);
+      images = λ h is. let k = keeps h is in (k.0, k.1, k.2.images e.versions (settled h is).stands);
+      unchanged = left_alone how e.history c.after.disk.history left;
+      calm = stayed_calm how c.before.disk.faults e.faults c.after.disk.faults begun.opening.faults calm;
       entries = none;
       unread = (rest, faults);
+      silent = silent;
       complete = λ h known v stands ss ks ds.
           steady_ends c (((side : Side) (at : ℕ) → c.status ≡ status.Damaged side at → ⊥) → IsDoneOrMemory c.status) causes (λ r w d n. ended_well how c.status so w d n) h known v stands ss ks ds (no_damage h known);
     }))

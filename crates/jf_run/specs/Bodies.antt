@@ -6,11 +6,12 @@ use Rattle.jf_engine.specs.Openings.{DiskView}
 use Rattle.jf_words.specs.declared.modes.Mode.{Mode}
 use Rattle.jf_run.specs.Calls.{Devices, program_call, with_disk}
 use Rattle.jf_run.specs.Promises.{KeepsPromises}
+use Rattle.jf_run.specs.Resuming.{HoldsFor}
 use Rattle.jf_run.specs.Runs.{IsBegun, IsDatedDisk}
 use Rattle.jf_run.specs.declared.status.Status.{Status}
 
 -- a mode was done over a store that was opened in this state, from what the devices showed then to what they show after it: a call
--- that opened the store so, and ends so, keeps its promises
+-- that opened the store so, for this mode, and ends so, keeps its promises
 abbrev pub CompletesCall : Mode → State → (opened after : Devices) → Status → List Entry → Type 0
-CompletesCall m s opened after status entries = (before : DiskView) (head : ℕ) → IsBegun s before opened.disk head → IsDatedDisk before
+CompletesCall m s opened after status entries = (before : DiskView) (head : ℕ) → IsBegun s before opened.disk head → IsDatedDisk before → HoldsFor m before
     → KeepsPromises (program_call (Some m) (with_disk before opened) after status entries (Some head))

@@ -1,12 +1,16 @@
 -- What the program promises of a call that trims the files of a store.
-use Rattle.std.specs.Prelude.{◌≡◌, ◌+◌, ◌≤◌, ℕ, [], ◌∷◌, List, Option, Result, Ok, Err, IfOk, codes, decimal}
+use Rattle.std.specs.Prelude.{◌≡◌, ◌⊎◌, ℕ, [], ◌∷◌, List, Option, Result, Ok, Err, IfOk, codes, decimal}
+use Rattle.jf_disk.specs.Disk.{IsImage, bytes_of, reads}
+use Rattle.jf_disk.specs.Crashes.{GoesOn, LeavesFiles, opposite}
 use Rattle.jf_disk.specs.declared.side.Side.{Side}
 use Rattle.jf_disk.specs.declared.side.Side.TheVariants as side
 use Rattle.jf_text.specs.Words.{line_text}
 use Rattle.jf_io.specs.Sink.{IsCutShort}
 use Rattle.jf_input.specs.Feeds.{Appends}
 use Rattle.jf_pair.specs.declared.fault.PairFault.{PairFault}
-use Rattle.jf_trim.specs.Trims.{HasTrimmed}
+use Rattle.jf_pair.specs.declared.fault.PairFault.TheVariants as pair_fault
+use Rattle.jf_files.specs.Files.{StandsFor}
+use Rattle.jf_trim.specs.Trims.{HasTrimmed, spare_side}
 use Rattle.jf_trim.specs.declared.trimmed.Trimmed.{Trimmed}
 use Rattle.jf_model.specs.States.{State}
 use Rattle.jf_engine.specs.Faults.{of_pair}
@@ -38,10 +42,12 @@ TellsTrimmed (Ok t) s text text' = ⊥
 TellsTrimmed (Err why) s text text' = (s ≡ status_of_refusal (of_pair why)) × (text' ≡ text)
 
 -- a call that opened the store, with this newest version and in this state, and was to trim its files. Whatever the end, a fault of the
--- disk too, these stand for the versions from before the call (`files`, `stands`), and on a calm disk a crash at any moment of the call
--- leaves no others. If it trimmed (`trimmed`), the side that wasn't live when the store was open is its closed gate alone, and the line
--- tells by how many bytes it is shorter (`told`). There are no entries, and no input was read. At most 15 calls were made on the disk
--- after the opening. If no device failed, all was done or memory ran out (`complete`)
+-- disk too, these stand for the versions from before the call (`files`, `stands`), the side that was live when the store was open has its
+-- bytes (`live`), and a crash at any moment since leaves what it could have left then, or files that stand for these versions (`images`);
+-- on a calm disk it leaves no others in the whole call. If it trimmed (`trimmed`), the side that wasn't live is its closed gate alone, the
+-- line tells by how many bytes it is shorter (`told`), and no call on the disk failed (`calm`). If it didn't, and no call on the disk failed,
+-- nothing changed since the store was open (`unchanged`). There are no entries, and no input was read. The sink failed only if it was to
+-- take the line (`silent`). If no device failed, all was done or memory ran out (`complete`)
 pub record IsTrimmedCall (c : ProgramCall) (head : ℕ) : Type 0 where
   pub state : State
   pub opened : DiskView
@@ -51,7 +57,11 @@ pub record IsTrimmedCall (c : ProgramCall) (head : ℕ) : Type 0 where
   pub trimmed : OnHistories opened.history c.after.disk.history (λ h g. IfOk how (λ t. HasTrimmed t h g))
   pub files : StaysHeld c.before.disk.history c.after.disk.history state.all state.generation
   pub stands : StandsAfter c
-  pub few : c.after.disk.moment ≤ opened.moment + 15
+  pub live : OnHistories opened.history c.after.disk.history (λ h g. bytes_of (opposite (spare_side (reads h))) (reads g) ≡ bytes_of (opposite (spare_side (reads h))) (reads h))
+  pub images : OnHistories opened.history c.after.disk.history (λ h g. GoesOn h g (λ f. IsImage h.now f ⊎ StandsFor f state.all))
+  pub unchanged : (why : PairFault) → how ≡ Err why → (why ≡ pair_fault.DiskFault) ⊎ OnHistories opened.history c.after.disk.history LeavesFiles
+  pub calm : IfOk how (λ t. c.after.disk.faults ≡ c.before.disk.faults)
   pub entries : c.entries ≡ []
   pub unread : (c.after.rest ≡ c.before.rest) × (c.after.source_faults ≡ c.before.source_faults)
+  pub silent : (c.status ≡ status.Done → ⊥) → (c.status ≡ status.WriteFault → ⊥) → c.after.sink_faults ≡ c.before.sink_faults
   pub complete : IfSteady c (IsDoneOrMemory c.status)

@@ -1,5 +1,5 @@
 // The modes that are done over an open store: one row each.
-ghost use Rattle.std.specs.Prelude.{◌≡◌, IsTrue, false};
+ghost use Rattle.std.specs.Prelude.{◌≡◌, ◌+◌, ◌≤◌, ℕ, List, IsTrue, false};
 ghost use Rattle.jf_model.specs.States.{opened};
 ghost use Rattle.jf_words.specs.Modes.{KeepsLimits};
 ghost use Rattle.jf_words.specs.Shapes.{NoChange, shape_of};
@@ -15,6 +15,7 @@ use crate::restore_over::restore_over;
 use crate::resume_over::resume_over;
 use crate::script::{Script, script_over};
 use crate::serve_over::serve_over;
+use crate::status::Status;
 use crate::trim_over::trim_over;
 use jf_disk::Disk;
 use jf_engine::Engine;
@@ -27,7 +28,8 @@ use std::alloc::Global;
 use std::sync::Wait;
 use std::thread::Threads;
 
-/// Does what a mode asks for over an open store. In a mode that changes nothing no call is made on the disk.
+/// Does what a mode asks for over an open store. In a mode that changes nothing no call is made on the disk, nor if the end is
+/// `Elsewhere`; in the mode `trim` at most 15 are made.
 pub(crate) fn do_mode<S: Source, K: Sink, D: Disk, H: Threads + Wait + Sync, G: Gate>(
     rt: &H,
     alloc: Global,
@@ -42,6 +44,8 @@ pub(crate) fn do_mode<S: Source, K: Sink, D: Disk, H: Threads + Wait + Sync, G: 
     requires whole { engine.broken ≡ false }
     ensures untouched { LeavesUntouched (shape_of mode) result.status source.old source.new sink.old sink.new }
     ensures resting { (shape_of mode).changes ≡ NoChange → disk_of D.Disk result.disk ≡ engine_disk engine }
+    ensures elsewhere { (head : ℕ) (root : List ℕ) → result.status ≡ Status.Elsewhere head root → disk_of D.Disk result.disk ≡ engine_disk engine }
+    ensures few { mode ≡ Mode.Trim → D.moment result.disk ≤ engine.moment + 15 }
     ensures kept { CompletesCall mode (opened engine.versions engine.generation) (shown S.Source K.Sink source.old sink.old (engine_disk engine)) (shown S.Source K.Sink source.new sink.new (disk_of D.Disk result.disk)) result.status result.entries }
 {
     damage_is_no_versions();

@@ -3,6 +3,7 @@
 #![tactic(auto)]
 
 mod do_mode;
+mod existing;
 mod follow_over;
 mod history_over;
 mod judge_name;

@@ -6,16 +6,18 @@ ghost use Rattle.jf_words.specs.Shapes.{shape_of};
 ghost use Rattle.jf_run.specs.Calls.{Devices, disk_of, engine_disk, program_call, shown, with_disk};
 ghost use Rattle.jf_run.specs.Runs.{IsBegun};
 ghost use Rattle.jf_run.specs.Promises.{KeepsPromises};
+ghost use Rattle.jf_run.specs.Resuming.{HoldsFor, MayBegin};
 ghost use Rattle.jf_run.specs.Untouched.{LeavesUntouched};
 
 use crate::do_mode::do_mode;
+use crate::existing::{find_store, may_begin};
 use crate::over::Over;
 use crate::status::{Ended, Status};
 use jf_disk::{Disk, know_dated};
 use jf_engine::{Engine, OpenRefused};
 use jf_files::{damage_is_no_versions, files_stand_for_sound};
 use jf_io::{Sink, Source};
-use jf_join::{Gate, Workers};
+use jf_join::Gate;
 use jf_words::Mode;
 use std::alloc::Global;
 use std::sync::Wait;
@@ -39,8 +41,7 @@ pub(crate) fn over_store<S: Source, K: Sink, D: Disk, H: Threads + Wait + Sync, 
     ensures kept { KeepsPromises (program_call (Some mode) (shown S.Source K.Sink source.old sink.old (disk_of D.Disk disk)) (shown S.Source K.Sink source.new sink.new (disk_of D.Disk result.disk)) result.status result.entries result.start) }
 {
     know_dated(&disk);
-    let workers = mode.workers();
-    let engine = match open_store(rt, alloc, workers, disk) {
+    let engine = match open_for(rt, alloc, &mode, disk) {
         Ok(engine) => engine,
         Err(ended) => return ended,
     };
@@ -60,23 +61,46 @@ pub(crate) fn over_store<S: Source, K: Sink, D: Disk, H: Threads + Wait + Sync, 
     }
 }
 
-/// Opens the store on a disk. If it can't be opened, that is the end of the call, whatever the mode and whatever source and
-/// sink show.
+/// Opens the store on a disk for a mode. If it can't be opened, that is the end of the call, whatever source and sink show.
+fn open_for<D: Disk, H: Threads + Sync>(
+    rt: &H,
+    alloc: Global,
+    mode: &Mode,
+    disk: D,
+) -> Result<Engine<D>, Ended<D>>
+    requires opens { IsTrue (shape_of mode.now).opens }
+    ensures begun { IfOk result (λ e. IsBegun (opened e.versions e.generation) (disk_of D.Disk disk) (engine_disk e) e.versions.head) }
+    ensures held { IfOk result (λ e. HoldsFor mode.now (disk_of D.Disk disk)) }
+    ensures whole { IfOk result (λ e. e.broken ≡ false) }
+    ensures start { IfErr result (λ ended. ended.start ≡ None) }
+    ensures refused { IfErr result (λ ended. (devices : Devices)
+        → KeepsPromises (program_call (Some mode.now) (with_disk (disk_of D.Disk disk) devices) (with_disk (disk_of D.Disk ended.disk) devices) ended.status ended.entries ended.start)) }
+{
+    if may_begin(mode) {
+        return open_store(rt, alloc, mode, disk);
+    }
+    find_store(rt, alloc, mode, disk)
+}
+
+/// Opens the store on a disk, and begins files without a record.
 fn open_store<D: Disk, H: Threads + Sync>(
     rt: &H,
     alloc: Global,
-    workers: Workers,
+    mode: &Mode,
     disk: D,
 ) -> Result<Engine<D>, Ended<D>>
+    requires opens { IsTrue (shape_of mode.now).opens }
+    requires may { MayBegin mode.now }
     ensures begun { IfOk result (λ e. IsBegun (opened e.versions e.generation) (disk_of D.Disk disk) (engine_disk e) e.versions.head) }
+    ensures held { IfOk result (λ e. HoldsFor mode.now (disk_of D.Disk disk)) }
     ensures whole { IfOk result (λ e. e.broken ≡ false) }
     ensures start { IfErr result (λ ended. ended.start ≡ None) }
-    ensures refused { IfErr result (λ ended. (m : Mode) (devices : Devices) → IsTrue (shape_of m).opens
-        → KeepsPromises (program_call (Some m) (with_disk (disk_of D.Disk disk) devices) (with_disk (disk_of D.Disk ended.disk) devices) ended.status ended.entries ended.start)) }
+    ensures refused { IfErr result (λ ended. (devices : Devices)
+        → KeepsPromises (program_call (Some mode.now) (with_disk (disk_of D.Disk disk) devices) (with_disk (disk_of D.Disk ended.disk) devices) ended.status ended.entries ended.start)) }
 {
     damage_is_no_versions();
     files_stand_for_sound();
-    match Engine::<D>::open(rt, alloc, disk, workers) {
+    match Engine::<D>::open(rt, alloc, disk, mode.workers()) {
         Ok(engine) => {
             engine.know();
             Ok(engine)

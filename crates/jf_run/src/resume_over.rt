@@ -36,6 +36,7 @@ pub(crate) fn resume_over<S: Source, K: Sink, D: Disk, H: Threads + Wait + Sync,
 ) -> Over<D>
     requires whole { engine.broken ≡ false }
     ensures elsewhere { (head : ℕ) (newest : List ℕ) → result.status ≡ Status.Elsewhere head newest → (source.new ≡ source.old) × (sink.new ≡ sink.old) }
+    ensures resting { (head : ℕ) (newest : List ℕ) → result.status ≡ Status.Elsewhere head newest → disk_of D.Disk result.disk ≡ engine_disk engine }
     ensures kept { CompletesCall (mode.Resume version root workers) (opened engine.versions engine.generation) (shown S.Source K.Sink source.old sink.old (engine_disk engine)) (shown S.Source K.Sink source.new sink.new (disk_of D.Disk result.disk)) result.status result.entries }
 {
     engine.know();

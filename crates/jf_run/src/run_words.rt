@@ -27,7 +27,8 @@ use std::thread::Threads;
 ///   the opening reads; unless N is 1, the values of a large batch are hashed by several threads too. The gate is told
 ///   of each piece of a landing that the script asks for, before the piece begins. Neither changes the output.
 /// - `resume VERSION ROOT` opens the store, and goes on as `run` if the recorded root of the version is this one. Otherwise it
-///   ends with `Elsewhere`, and has done nothing.
+///   ends with `Elsewhere`, and has done nothing. It begins files without a record only if a new store has that root, as version
+///   0 with the root of the empty map; with another one no store is opened there.
 /// - `serve` opens the store, reads the source to its end, and runs the scripts of its sessions, 1 to 16, side by side over
 ///   the store (docs/FORMATS.md, "Several sessions"). `--workers N` is for landings as in `run`. The gate is told of each
 ///   session before it begins, too. Once all have ended, it writes the output of each session, and then the entries.
@@ -64,8 +65,8 @@ use std::thread::Threads;
 ///   one that the first line without a reply asked for. On a disk that wasn't calm before the call, this holds from the
 ///   opening on. If the disk didn't fail, the files stand for the versions after all entries at the end.
 /// - If a store with an announced root was to be resumed (`IsResumedCall`), the call is such a run over a store that has that
-///   root; or there are no entries, the disk shows what the opening left, and files that held a record are unchanged.
-///   `Elsewhere` comes exactly then.
+///   root; or there are no entries, and the files are unchanged: they held a record (`IsElsewhere`), or they held none and no
+///   store was opened (`IsAbsentCall`). `Elsewhere` comes exactly then.
 /// - In the mode `lead` (`IsLedCall`) the entries are those of the lines done, with the same promises of a crash, and the text
 ///   has the blocks of the landings made.
 /// - If landing blocks were to be followed (`IsFollowedCall`), the entries are the landings of the blocks up to the first that
@@ -83,7 +84,8 @@ use std::thread::Threads;
 ///   left, and the text is that of the versions, the number and the input. `Outside` comes exactly if the version
 ///   isn't from the floor to the head; after it, a line that is no name or is the 10,001st is refused by its number.
 /// - If no store was opened (`IsClosedCall`), there are no entries and the files are unchanged. One exception: a call
-///   that ends with `DiskFault` may have begun files without a record, which still stand for a new store.
+///   that ends with `DiskFault` may have begun files without a record, which still stand for a new store. `resume` with a root
+///   that no new store has does not begin them either way.
 /// - In the mode `verify` (`IsJudgedCall`), the verdicts were written, as far as the status says; in the mode `judge`
 ///   (`IsJudgedNameCall`), what the block shows of the name.
 pub fn run_words<S: Source, K: Sink, D: Disk, H: Threads + Wait + Sync, G: Gate>(

@@ -52,7 +52,9 @@ pub enum Status {
     /// The input shows nothing of the name under the root, for this reason, and the line that says so was written.
     NotShown(LookupFault),
     /// The store doesn't have the announced root of a version: the recorded root is another one, or the version isn't between
-    /// the base and the head. These are the newest version and its root. No line was done, and nothing was read or written.
+    /// the base and the head. These are the newest version and its root. Or there is no store, as neither file holds a record,
+    /// and a new one doesn't have the root: these are version 0 and the root of the empty map. No line was done, nothing was read
+    /// or written, and no byte of the files differs.
     Elsewhere { head: u64, root: Hash },
 }
 

@@ -1,5 +1,5 @@
 // The mode `trim` over an open store: the side of its files that isn't live is cut to its closed gate.
-ghost use Rattle.std.specs.Prelude.{◌≡◌, ◌≢◌, ◌≤◌, [], ◌∷◌, ℕ, List, Option, Ok, IfOk, codes, decimal, false};
+ghost use Rattle.std.specs.Prelude.{◌≡◌, ◌≢◌, ◌+◌, ◌≤◌, [], ◌∷◌, ℕ, List, Option, Ok, IfOk, codes, decimal, false};
 ghost use Rattle.jf_path.specs.Faults.{HasCause};
 ghost use Rattle.jf_text.specs.Words.{line_text};
 ghost use Rattle.jf_model.specs.States.{opened};
@@ -22,9 +22,11 @@ use std::alloc::Global;
 
 /// Cuts the side of a store's files that isn't live to its closed gate, and writes into a sink which side that is and by how
 /// many bytes it is shorter. What the store has in memory is freed first, so this takes no more memory than the opening did.
+/// At most 15 calls are made on the disk.
 pub(crate) fn trim_over<K: Sink, D: Disk>(alloc: Global, engine: Engine<D>, sink: &mut K) -> Over<D>
     requires whole { engine.broken ≡ false }
     ensures here { (head : ℕ) (root : List ℕ) → result.status ≢ Status.Elsewhere head root }
+    ensures few { D.moment result.disk ≤ engine.moment + 15 }
     ensures kept { (rest : Option (List ℕ)) (source_faults : ℕ) → CompletesCall mode.Trim (opened engine.versions engine.generation) (devices (engine_disk engine) rest source_faults (K.text sink.old) (K.faults sink.old)) (devices (disk_of D.Disk result.disk) rest source_faults (K.text sink.new) (K.faults sink.new)) result.status result.entries }
 {
     engine.know();
@@ -48,6 +50,7 @@ pub(crate) fn trim_over<K: Sink, D: Disk>(alloc: Global, engine: Engine<D>, sink
 /// Writes into a sink what was trimmed. Returns how that ended.
 fn tell_trimmed<K: Sink>(alloc: Global, trimmed: Trimmed, sink: &mut K) -> Status
     ensures told { TellsTrimmed (Ok trimmed) result (K.text sink.old) (K.text sink.new) }
+    ensures silent { result ≡ Status.Memory → sink.new ≡ sink.old }
     ensures write { result ≡ Status.WriteFault → HasCause (K.faults sink.old) (K.faults sink.new) }
     ensures sink_counts { K.faults sink.old ≤ K.faults sink.new }
 {

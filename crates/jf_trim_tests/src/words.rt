@@ -95,7 +95,13 @@ const FAULTS: &[(&[u64], Faults, Status, &[u8], usize)] = &[
     (&[21], NO_FAULTS, Status::Done, b"trimmed a 344\n", 1),
 ];
 
-// Whether a run with a row's faults ends so, and leaves side A so long.
+// Whether the live side of both files has its bytes.
+fn keeps_live(alloc: Global, disk: &MemDisk) -> Result<bool, Fail> {
+    let live = bytes_of(alloc, SECOND)?;
+    Ok(disk.bytes(Side::B) == live.as_slice())
+}
+
+// Whether a run with a row's faults ends so, leaves side A so long, and the live side as it was.
 fn ends_so<H: Threads + Wait + Sync>(
     rt: &H,
     alloc: Global,
@@ -103,7 +109,8 @@ fn ends_so<H: Threads + Wait + Sync>(
 ) -> Result<bool, Fail> {
     let played = trimmed_with(rt, alloc, row.0, row.1)?;
     let ended = played.status == row.2 && played.text.as_slice() == row.3;
-    Ok(ended && played.disk.bytes(Side::A).len() == row.4)
+    let cut = played.disk.bytes(Side::A).len() == row.4;
+    Ok(ended && cut && keeps_live(alloc, &played.disk)?)
 }
 
 #[test]

@@ -12,7 +12,7 @@ use Rattle.jf_run.proofs.do_mode.do_mode.Goals as goal
 
 -- ---- run
 pub returns-in-Run-clause-kept : goal.returns-in-Run-clause-kept
-returns-in-Run-clause-kept g c = completes_as _ _ _ _ _ _ _ c.in-Run.is (λ before head begun dated.
+returns-in-Run-clause-kept g c = completes_as _ _ _ _ _ _ _ c.in-Run.is (λ before head begun dated held.
     let e = c.args.engine in
     let done = c.script_over.ensures in
     let ran = done.ran.1 in
@@ -28,6 +28,9 @@ returns-in-Run-clause-untouched g c = untouched_as _ _ _ _ _ _ _ c.in-Run.is (re
   elsewhere = λ head root ends. let ran = c.script_over.ensures.ran.1 in absurd (run_here ran.0 head root (sym ran.1 ∙ ends));
 })
 
+pub returns-in-Run-clause-elsewhere : goal.returns-in-Run-clause-elsewhere
+returns-in-Run-clause-elsewhere g c = λ head root ends. let ran = c.script_over.ensures.ran.1 in absurd (run_here ran.0 head root (sym ran.1 ∙ ends))
+
 -- ---- resume
 pub returns-in-Resume-clause-kept : goal.returns-in-Resume-clause-kept
 returns-in-Resume-clause-kept g c = completes_as _ _ _ _ _ _ _ c.in-Resume.is c.resume_over.ensures.kept
@@ -40,6 +43,9 @@ returns-in-Resume-clause-untouched g c = untouched_as _ _ _ _ _ _ _ c.in-Resume.
   outside = λ e least head ends. absurd (cc);
   elsewhere = λ head root ends. c.resume_over.ensures.elsewhere head root ends;
 })
+
+pub returns-in-Resume-clause-elsewhere : goal.returns-in-Resume-clause-elsewhere
+returns-in-Resume-clause-elsewhere g c = λ head root ends. c.resume_over.ensures.resting head root ends
 
 -- ---- serve
 pub returns-in-Serve-clause-kept : goal.returns-in-Serve-clause-kept
@@ -54,9 +60,12 @@ returns-in-Serve-clause-untouched g c = untouched_as _ _ _ _ _ _ _ c.in-Serve.is
   elsewhere = λ head root ends. absurd (c.serve_over.ensures.here head root ends);
 })
 
+pub returns-in-Serve-clause-elsewhere : goal.returns-in-Serve-clause-elsewhere
+returns-in-Serve-clause-elsewhere g c = λ head root ends. absurd (c.serve_over.ensures.here head root ends)
+
 -- ---- lead
 pub returns-in-Lead-clause-kept : goal.returns-in-Lead-clause-kept
-returns-in-Lead-clause-kept g c = completes_as _ _ _ _ _ _ _ c.in-Lead.is (λ before head begun dated.
+returns-in-Lead-clause-kept g c = completes_as _ _ _ _ _ _ _ c.in-Lead.is (λ before head begun dated held.
     let e = c.args.engine in
     let done = c.script_over-in-Lead.ensures in
     let led = done.ran.1 in
@@ -72,6 +81,9 @@ returns-in-Lead-clause-untouched g c = untouched_as _ _ _ _ _ _ _ c.in-Lead.is (
   elsewhere = λ head root ends. let led = c.script_over-in-Lead.ensures.ran.1 in absurd (script_here led.0 led.1 head root (sym led.2.status_is ∙ ends));
 })
 
+pub returns-in-Lead-clause-elsewhere : goal.returns-in-Lead-clause-elsewhere
+returns-in-Lead-clause-elsewhere g c = λ head root ends. let led = c.script_over-in-Lead.ensures.ran.1 in absurd (script_here led.0 led.1 head root (sym led.2.status_is ∙ ends))
+
 -- ---- follow
 pub returns-in-Follow-clause-kept : goal.returns-in-Follow-clause-kept
 returns-in-Follow-clause-kept g c = completes_as _ _ _ _ _ _ _ c.in-Follow.is c.follow_over.ensures.kept
@@ -85,6 +97,9 @@ returns-in-Follow-clause-untouched g c = untouched_as _ _ _ _ _ _ _ c.in-Follow.
   elsewhere = λ head root ends. absurd (c.follow_over.ensures.here head root ends);
 })
 
+pub returns-in-Follow-clause-elsewhere : goal.returns-in-Follow-clause-elsewhere
+returns-in-Follow-clause-elsewhere g c = λ head root ends. absurd (c.follow_over.ensures.here head root ends)
+
 -- ---- generate
 pub new-lines-requires-clause-batches : goal.new-lines-requires-clause-batches
 new-lines-requires-clause-batches g c = (subst KeepsLimits c.in-Generate.is c.requires.limits).0
@@ -93,7 +108,7 @@ pub new-lines-requires-clause-size : goal.new-lines-requires-clause-size
 new-lines-requires-clause-size g c = (subst KeepsLimits c.in-Generate.is c.requires.limits).1
 
 pub returns-in-Generate-clause-kept : goal.returns-in-Generate-clause-kept
-returns-in-Generate-clause-kept g c = completes_as _ _ _ _ _ _ _ c.in-Generate.is (λ before head begun dated.
+returns-in-Generate-clause-kept g c = completes_as _ _ _ _ _ _ _ c.in-Generate.is (λ before head begun dated held.
     let e = c.args.engine in
     let s = opened e.versions e.generation in
     let step = c.script_over-in-Generate in
@@ -112,6 +127,9 @@ returns-in-Generate-clause-untouched g c = untouched_as _ _ _ _ _ _ _ c.in-Gener
   elsewhere = λ head root ends. let ran = c.script_over-in-Generate.ensures.ran.1 in absurd (run_here ran.0 head root (sym ran.1 ∙ ends));
 })
 
+pub returns-in-Generate-clause-elsewhere : goal.returns-in-Generate-clause-elsewhere
+returns-in-Generate-clause-elsewhere g c = λ head root ends. let ran = c.script_over-in-Generate.ensures.ran.1 in absurd (run_here ran.0 head root (sym ran.1 ∙ ends))
+
 -- ---- restore
 pub restore_over-requires-clause-last : goal.restore_over-requires-clause-last
 restore_over-requires-clause-last g c κs within = (subst KeepsLimits c.in-Restore.is c.requires.limits).0
@@ -128,6 +146,9 @@ returns-in-Restore-clause-untouched g c = untouched_as _ _ _ _ _ _ _ c.in-Restor
   elsewhere = λ head root ends. absurd (c.restore_over.ensures.here head root ends);
 })
 
+pub returns-in-Restore-clause-elsewhere : goal.returns-in-Restore-clause-elsewhere
+returns-in-Restore-clause-elsewhere g c = λ head root ends. absurd (c.restore_over.ensures.here head root ends)
+
 -- ---- trim
 pub returns-in-Trim-clause-kept : goal.returns-in-Trim-clause-kept
 returns-in-Trim-clause-kept g c = completes_as _ _ _ _ _ _ _ c.in-Trim.is (c.trim_over.ensures.kept (g.S.Source.rest c.args.source.now) (g.S.Source.faults c.args.source.now))
@@ -140,6 +161,9 @@ returns-in-Trim-clause-untouched g c = untouched_as _ _ _ _ _ _ _ c.in-Trim.is (
   outside = λ e least head ends. absurd (cc);
   elsewhere = λ head root ends. absurd (c.trim_over.ensures.here head root ends);
 })
+
+pub returns-in-Trim-clause-elsewhere : goal.returns-in-Trim-clause-elsewhere
+returns-in-Trim-clause-elsewhere g c = λ head root ends. absurd (c.trim_over.ensures.here head root ends)
 
 -- ---- history
 pub returns-in-History-clause-kept : goal.returns-in-History-clause-kept
@@ -154,6 +178,9 @@ returns-in-History-clause-untouched g c = untouched_as _ _ _ _ _ _ _ c.in-Histor
   elsewhere = λ head root ends. absurd (c.history_over.ensures.here head root ends);
 })
 
+pub returns-in-History-clause-elsewhere : goal.returns-in-History-clause-elsewhere
+returns-in-History-clause-elsewhere g c = λ head root ends. absurd (c.history_over.ensures.here head root ends)
+
 -- ---- many
 pub returns-in-Many-clause-kept : goal.returns-in-Many-clause-kept
 returns-in-Many-clause-kept g c = completes_as _ _ _ _ _ _ _ c.in-Many.is c.many_over.ensures.kept
@@ -166,3 +193,6 @@ returns-in-Many-clause-untouched g c = untouched_as _ _ _ _ _ _ _ c.in-Many.is (
   outside = λ e least head ends. c.many_over.ensures.outside least head ends;
   elsewhere = λ head root ends. absurd (c.many_over.ensures.here head root ends);
 })
+
+pub returns-in-Many-clause-elsewhere : goal.returns-in-Many-clause-elsewhere
+returns-in-Many-clause-elsewhere g c = λ head root ends. absurd (c.many_over.ensures.here head root ends)

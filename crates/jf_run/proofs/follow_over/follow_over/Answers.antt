@@ -13,7 +13,7 @@ returns g c = record {
   unwritten = λ refused. let silent = followed_silently c.follow_stream-engine.result.how (subst (λ s. IsTrue (is_input_fault s)) (c.of_engine.ensures.status ∙ c.of_followed.ensures) refused) in c.follow_stream-engine.ensures.silent silent.0 silent.1;
   inside = λ least head ends. followed_inside c.follow_stream-engine.result.how least head (sym (c.of_engine.ensures.status ∙ c.of_followed.ensures) ∙ ends);
   here = λ head root ends. followed_here c.follow_stream-engine.result.how head root (sym (c.of_engine.ensures.status ∙ c.of_followed.ensures) ∙ ends);
-  kept = λ before head begun dated.
+  kept = λ before head begun dated held.
       let old = c.args.engine in
       let known = c.know.ensures in
       let fresh : IsSettledEngine old = record { sound = known.sound; dated = known.dated; settled = λ h told. known.settled h told c.requires.whole; whole = c.requires.whole } in

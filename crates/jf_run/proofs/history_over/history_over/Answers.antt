@@ -8,7 +8,7 @@ pub returns : goal.returns
 returns g c = record {
   resting = c.of_engine.ensures.disk;
   here = λ head root ends. history_here c.write_history-written.result head root (sym (c.of_engine.ensures.status ∙ c.of_history.ensures) ∙ ends);
-  kept = λ rest source_faults before head begun dated.
+  kept = λ rest source_faults before head begun dated held.
       let e = c.args.engine in
       let known = c.know.ensures in
       let out = c.of_engine.ensures in

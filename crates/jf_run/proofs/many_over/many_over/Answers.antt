@@ -22,7 +22,7 @@ pub returns-clause-here : goal.returns-clause-here
 returns-clause-here g c = λ head root ends. names_here c.answer_names-answered.result head root (sym (c.of_engine.ensures.status ∙ c.of_names.ensures) ∙ ends)
 
 pub returns-clause-kept : goal.returns-clause-kept
-returns-clause-kept g c = λ before head begun dated.
+returns-clause-kept g c = λ before head begun dated held.
     let e = c.args.engine in
     let known = c.know.ensures in
     let out = c.of_engine.ensures in

@@ -13,9 +13,11 @@ returns-in-Ok-clause-begun g c = record {
   opening = c.in-Ok.ensures.opened;
 }
 
+pub returns-in-Ok-clause-held : goal.returns-in-Ok-clause-held
+returns-in-Ok-clause-held g c = λ unlike. absurd (unlike c.requires.may)
+
 pub returns-in-Err-clause-refused : goal.returns-in-Err-clause-refused
-returns-in-Err-clause-refused g c m devices opens =
+returns-in-Err-clause-refused g c devices =
     let r = c.without_store.ensures in
-    let before = disk_of g.D.Disk c.args.disk in
-    refused_keeps _ m c.in-Err.field-0.why c.files_stand_for_sound.ensures c.damage_is_no_versions.ensures r.start r.entries refl opens (r.status ∙ c.of_refusal.ensures)
-    (subst (λ (d : DiskView). HasRefused before d c.in-Err.field-0.why) (sym (ap (disk_of g.D.Disk) r.disk)) c.in-Err.ensures.refused) (le_refl _) (le_refl _)
+    refused_keeps _ c.args.mode.now c.in-Err.field-0.why c.files_stand_for_sound.ensures c.damage_is_no_versions.ensures r.start r.entries refl c.requires.opens (r.status ∙ c.of_refusal.ensures)
+    (subst (λ (d : DiskView). HasRefused (disk_of g.D.Disk c.args.disk) d c.in-Err.field-0.why) (sym (ap (disk_of g.D.Disk) r.disk)) c.in-Err.ensures.refused) (λ unlike. absurd (unlike c.requires.may)) (le_refl _) (le_refl _)

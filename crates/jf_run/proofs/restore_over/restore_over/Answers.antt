@@ -3,7 +3,7 @@ use Rattle.jf_run.proofs.Restored.{received_here, restored_keeps, occupied_told}
 use Rattle.jf_run.proofs.restore_over.restore_over.Goals as goal
 
 pub returns-clause-kept : goal.returns-clause-kept
-returns-clause-kept g c = λ workers before head begun dated.
+returns-clause-kept g c = λ workers before head begun dated held.
     let r = c.receive-how.ensures in
     let out = c.of_engine.ensures in
     restored_keeps _ c.args.version c.args.root workers head c.args.engine c.receive-how.new.engine c.receive-how.result c.damage_is_no_versions.ensures begun (λ h told. c.know.ensures.settled h told c.requires.whole)

@@ -1,0 +1,78 @@
+// The store that files hold already is opened, for a mode that is to go on over it: a lost store must not be taken for a new one.
+ghost use Rattle.std.specs.Prelude.{◌≡◌, ◌↔◌, None, Some, IfOk, IfErr, IsTrue, false};
+ghost use Rattle.std.specs.FinMap as fin;
+ghost use Rattle.jf_hash.specs.Roots.{root};
+ghost use Rattle.jf_model.specs.Versions.{new_store};
+ghost use Rattle.jf_model.specs.States.{opened};
+ghost use Rattle.jf_words.specs.Shapes.{shape_of};
+ghost use Rattle.jf_run.specs.Calls.{Devices, disk_of, engine_disk, program_call, with_disk};
+ghost use Rattle.jf_run.specs.Runs.{IsBegun};
+ghost use Rattle.jf_run.specs.Promises.{KeepsPromises};
+ghost use Rattle.jf_run.specs.Resuming.{HoldsFor, IsRootAt, MayBegin};
+
+use crate::status::{Ended, Status};
+use jf_disk::Disk;
+use jf_engine::{Engine, Existing, OpenRefused};
+use jf_files::{damage_is_no_versions, files_stand_for_sound};
+use jf_hash::{Hash, empty};
+use jf_words::Mode;
+use std::alloc::Global;
+use std::thread::Threads;
+
+/// Whether files without a record may be begun for a mode.
+pub(crate) fn may_begin(mode: &Mode) -> bool
+    ensures { IsTrue result ↔ MayBegin mode.now }
+{
+    match mode {
+        Mode::Resume { version, root, .. } => is_new_root(*version, root),
+        _ => true,
+    }
+}
+
+/// Whether a new store has this root of a version: that of the empty map, of version 0.
+fn is_new_root(version: u64, root: &Hash) -> bool
+    ensures { IsTrue result ↔ IsRootAt new_store version root.now }
+{
+    version == 0 && *root == empty()
+}
+
+/// Opens the store that files on a disk hold. If they hold no record, there is none: that is the end of the call, and nothing
+/// is written.
+pub(crate) fn find_store<D: Disk, H: Threads + Sync>(
+    rt: &H,
+    alloc: Global,
+    mode: &Mode,
+    disk: D,
+) -> Result<Engine<D>, Ended<D>>
+    requires opens { IsTrue (shape_of mode.now).opens }
+    requires only { MayBegin mode.now → ⊥ }
+    ensures begun { IfOk result (λ e. IsBegun (opened e.versions e.generation) (disk_of D.Disk disk) (engine_disk e) e.versions.head) }
+    ensures held { IfOk result (λ e. HoldsFor mode.now (disk_of D.Disk disk)) }
+    ensures whole { IfOk result (λ e. e.broken ≡ false) }
+    ensures start { IfErr result (λ ended. ended.start ≡ None) }
+    ensures refused { IfErr result (λ ended. (devices : Devices)
+        → KeepsPromises (program_call (Some mode.now) (with_disk (disk_of D.Disk disk) devices) (with_disk (disk_of D.Disk ended.disk) devices) ended.status ended.entries ended.start)) }
+{
+    damage_is_no_versions();
+    files_stand_for_sound();
+    match Engine::<D>::open_existing(rt, alloc, disk, mode.workers()) {
+        Ok(Existing::Store(engine)) => {
+            engine.know();
+            Ok(engine)
+        }
+        Ok(Existing::Absent(disk)) => Err(Ended::without_store(alloc, no_store(), disk)),
+        Err(OpenRefused { disk, why }) => {
+            Err(Ended::without_store(alloc, Status::of_refusal(why), disk))
+        }
+    }
+}
+
+/// The end of a call that was to resume a store and found none: the version and the root that a new store has.
+fn no_store() -> Status
+    ensures { result ≡ Status.Elsewhere 0 (root fin.empty) }
+{
+    Status::Elsewhere {
+        head: 0,
+        root: empty(),
+    }
+}
