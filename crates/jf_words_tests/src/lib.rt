@@ -2,6 +2,8 @@
 #![tactic(auto)]
 
 #[cfg(test)]
+mod modes;
+#[cfg(test)]
 mod words;
 #[cfg(test)]
 mod workers;

@@ -150,7 +150,7 @@ const JUDGINGS: &[(&str, bool)] = &[
 ];
 
 // The status of a run of these words over an empty disk and an empty script.
-fn end_of<H: Threads + Wait + Sync>(
+pub(crate) fn end_of<H: Threads + Wait + Sync>(
     rt: &H,
     alloc: Global,
     words: &[String],
@@ -332,7 +332,7 @@ fn touches_nothing<H: Threads + Wait + Sync>(
 }
 
 // What `touches_nothing` says of the words of a line.
-fn line_touches_nothing<H: Threads + Wait + Sync>(
+pub(crate) fn line_touches_nothing<H: Threads + Wait + Sync>(
     rt: &H,
     alloc: Global,
     line: &str,
