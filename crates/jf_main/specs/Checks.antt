@@ -42,3 +42,4 @@ pub record IsCheckEnd (a b : Option (List ℕ)) (text text' : Option (List ℕ))
   pub written : WritesCheck outcome a b text text'
   pub status_is : e.status ≡ check_status outcome (store_refusal (seen_of a) (seen_of b))
   pub cause_is : e.cause ≡ check_cause outcome (store_refusal (seen_of a) (seen_of b))
+  pub note_is : e.note ≡ None

@@ -1,7 +1,12 @@
+pub mod Help
+pub mod Asking
+pub mod Notes
 pub mod Checks
 pub mod Endings
 pub mod Lines
+pub mod EndingTexts
 pub mod Places
+pub use Rattle.jf_io.specs.Inputs
 pub use Rattle.jf_disk.specs.Memory
 pub use Rattle.jf_folder.specs.Any
 pub use Rattle.jf_folder.specs.File

@@ -14,6 +14,7 @@ use Rattle.jf_receive.specs.declared.received.RestoreFault.{RestoreFault}
 use Rattle.jf_receive.specs.declared.received.RestoreFault.TheVariants as restore_fault
 use Rattle.jf_run.specs.declared.status.Status.{Status}
 use Rattle.jf_run.specs.declared.status.Status.TheVariants as status
+use Rattle.jf_main.specs.Help.{usage_text}
 
 -- the letter of a side
 abbrev pub side_word : Side → List ℕ
@@ -54,7 +55,7 @@ unfollowed_text (follow_refused.Block line why) = codes "block " ++ decimal line
 -- the line of a status, without its line feed; none after a good end
 abbrev pub status_text : Status → List ℕ
 status_text status.Done = []
-status_text status.Usage = codes "usage: jellystore FOLDER run|serve|restore VERSION ROOT|verify|generate SEED BATCHES SIZE [--workers N]"
+status_text status.Usage = usage_text
 status_text status.ReadFault = codes "read fault"
 status_text status.WriteFault = codes "write fault"
 status_text status.DiskFault = codes "disk fault"

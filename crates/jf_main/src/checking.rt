@@ -1,5 +1,6 @@
 // The command `check`: what a folder's files show, without a store being opened over them.
-ghost use Rattle.std.specs.Prelude.{◌≡◌, [], Err, IfOk, IsOk, codes, option_map};
+ghost use Rattle.std.specs.Prelude.{◌≡◌, ◌≤◌, [], Err, IfOk, IsOk, codes, option_map};
+ghost use Rattle.jf_path.specs.Faults.{HasCause};
 ghost use Rattle.jf_main.specs.Checks.{AreEmptyFiles, IsCheckEnd, asks_check};
 
 use crate::ending::Ending;
@@ -7,6 +8,7 @@ use jf_check::check_files;
 use jf_folder::{FaultCause, FileRefused, FolderBytes};
 use jf_io::Sink;
 use jf_join::Workers;
+use jf_run::status::Status;
 use std::alloc::Global;
 use std::fs::File;
 use std::rt::Files;
@@ -53,7 +55,10 @@ pub fn check_over<H: Threads + Sync, K: Sink>(
     files: FolderBytes,
     sink: &mut K,
 ) -> Ending
-    ensures { IsCheckEnd (option_map (λ v. v.items) files.a) (option_map (λ v. v.items) files.b) (K.text sink.old) (K.text sink.new) result }
+    ensures checked { IsCheckEnd (option_map (λ v. v.items) files.a) (option_map (λ v. v.items) files.b) (K.text sink.old) (K.text sink.new) result }
+    ensures write { result.status ≡ Status.WriteFault → HasCause (K.faults sink.old) (K.faults sink.new) }
+    ensures unwritten { result.status ≡ Status.Memory → sink.new ≡ sink.old }
+    ensures sink_counts { K.faults sink.old ≤ K.faults sink.new }
 {
     let refusal = files.refusal();
     let FolderBytes { a, b } = files;

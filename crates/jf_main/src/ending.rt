@@ -1,31 +1,64 @@
 // How the program ended.
-ghost use Rattle.std.specs.Prelude.{◌≡◌, None};
+ghost use Rattle.std.specs.Prelude.{◌≡◌, Some, None};
 ghost use Rattle.std.specs.Process.{exit_status};
 ghost use Rattle.jf_run.specs.Statuses.{code_of};
 ghost use Rattle.jf_main.specs.Checks.{check_cause, check_status};
-ghost use Rattle.jf_main.specs.Endings.{refusal_cause, refusal_status, told_cause};
+ghost use Rattle.jf_main.specs.Endings.{refusal_cause, refusal_status, told_cause, unread_note};
 
+use crate::note::Note;
 use jf_check::{StoreCheck, Unchecked};
 use jf_folder::{AnyDisk, FaultCause, FileRefused};
 use jf_run::status::Status;
 use std::process::ExitCode;
 
-/// How the program ended, and why its disk failed, if it did.
+/// How the program ended, why its disk failed, if it did, and what else there is to tell.
 #[derive(Clone, Copy, Debug, PartialEq, Eq, Drop)]
 pub struct Ending {
     pub status: Status,
     pub cause: Option<FaultCause>,
+    pub note: Option<Note>,
 }
 
 impl Ending {
-    /// An end without a fault of the disk.
+    /// An end without a fault of the disk, and without a note.
     pub(crate) fn of_status(status: Status) -> Ending
         ensures status { result.status ≡ status }
         ensures cause { result.cause ≡ None }
+        ensures note { result.note ≡ None }
     {
         Ending {
             status,
             cause: None,
+            note: None,
+        }
+    }
+
+    /// An end by a fault of the disk, without a note.
+    fn of_fault(cause: FaultCause) -> Ending
+        ensures status { result.status ≡ Status.DiskFault }
+        ensures cause { result.cause ≡ Some cause }
+        ensures note { result.note ≡ None }
+    {
+        Ending {
+            status: Status::DiskFault,
+            cause: Some(cause),
+            note: None,
+        }
+    }
+
+    /// The end if a command line couldn't be made of the process's arguments.
+    pub(crate) fn without_line(why: Status) -> Ending
+        ensures status { result.status ≡ why }
+        ensures cause { result.cause ≡ None }
+        ensures note { result.note ≡ unread_note why }
+    {
+        match why {
+            Status::Usage => Ending {
+                status: why,
+                cause: None,
+                note: Some(Note::Example),
+            },
+            _ => Ending::of_status(why),
         }
     }
 
@@ -33,28 +66,32 @@ impl Ending {
     pub(crate) fn of_refusal(why: FileRefused) -> Ending
         ensures status { result.status ≡ refusal_status why }
         ensures cause { result.cause ≡ refusal_cause why }
+        ensures note { result.note ≡ None }
     {
         match why {
-            FileRefused::DiskFailed(cause) => Ending {
-                status: Status::DiskFault,
-                cause: Some(cause),
-            },
+            FileRefused::DiskFailed(cause) => Ending::of_fault(cause),
             FileRefused::Memory => Ending::of_status(Status::Memory),
         }
     }
 
-    /// The end after a call of the program that handed back this disk.
-    pub(crate) fn of_call(status: Status, disk: &AnyDisk) -> Ending
+    /// The end after a call of the program that handed back this disk, with this note.
+    pub(crate) fn of_call(status: Status, disk: &AnyDisk, note: Option<Note>) -> Ending
         ensures status { result.status ≡ status }
         ensures cause { result.cause ≡ told_cause status disk.now }
+        ensures note { result.note ≡ note }
     {
-        if status != Status::DiskFault {
-            return Ending::of_status(status);
-        }
-        // A disk in memory knows no cause, and fails only if its room is used up.
-        Ending {
-            status,
-            cause: Some(disk.cause().unwrap_or(FaultCause::NoRoom)),
+        match status {
+            // A disk in memory knows no cause, and fails only if its room is used up.
+            Status::DiskFault => Ending {
+                status,
+                cause: Some(disk.cause().unwrap_or(FaultCause::NoRoom)),
+                note,
+            },
+            _ => Ending {
+                status,
+                cause: None,
+                note,
+            },
         }
     }
 
@@ -65,14 +102,12 @@ impl Ending {
     ) -> Ending
         ensures status { result.status ≡ check_status outcome refusal }
         ensures cause { result.cause ≡ check_cause outcome refusal }
+        ensures note { result.note ≡ None }
     {
         match (outcome, refusal) {
             (Err(Unchecked::WriteFault), _) => Ending::of_status(Status::WriteFault),
             (Err(Unchecked::Memory), _) => Ending::of_status(Status::Memory),
-            (Ok(_), Some(cause)) => Ending {
-                status: Status::DiskFault,
-                cause: Some(cause),
-            },
+            (Ok(_), Some(cause)) => Ending::of_fault(cause),
             (Ok(StoreCheck::Damaged { side, offset }), None) => {
                 Ending::of_status(Status::Damaged { side, offset })
             }

@@ -1,18 +1,27 @@
 //! What the program does: it reads the words of its command line, opens the disk that the first word names, runs the
 //! other words over it, standard input and standard output, and tells on standard error of an end that isn't a good one.
+//! One word alone, `--help` or `--version`, asks for a text.
 //! The word `check` is done without opening a disk: the files are read, and told of.
 #![tactic(auto)]
 
+mod asked;
 mod checking;
 mod command_line;
 mod ending;
+mod ending_text;
+mod help;
+mod note;
 mod place;
 mod program;
 mod status_line;
 
+pub use asked::Asked;
 pub use checking::{asks_check, check_over, files_at};
 pub use command_line::CommandLine;
 pub use ending::Ending;
+pub use ending_text::EndingText;
+pub use help::{help_text, more_usage_text, version_text, write_text};
+pub use note::Note;
 pub use place::disk_at;
 pub use program::run;
 pub use status_line::StatusLine;

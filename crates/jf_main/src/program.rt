@@ -2,11 +2,14 @@
 ghost use Rattle.std.specs.Prelude.{◌≤◌};
 ghost use Rattle.std.specs.Process.{exit_status};
 
+use crate::asked::Asked;
 use crate::checking::{asks_check, check_over, files_at};
 use crate::command_line::CommandLine;
 use crate::ending::Ending;
+use crate::ending_text::EndingText;
+use crate::help::{help_text, version_text, write_text};
+use crate::note::Note;
 use crate::place::disk_at;
-use crate::status_line::StatusLine;
 use jf_folder::AnyDisk;
 use jf_io::{StdSink, StdSource};
 use jf_join::FreeGate;
@@ -21,8 +24,8 @@ use std::sync::Wait;
 use std::thread::Threads;
 use std::{env, io};
 
-/// Runs the program over the arguments, standard input and standard output of its process, writes the lines about a bad
-/// end to standard error, and returns the exit status (docs/FORMATS.md, "Calling the program"). Lines that can't be
+/// Runs the program over the arguments, standard input and standard output of its process, writes the lines about its end
+/// to standard error, and returns the exit status (docs/FORMATS.md, "Calling the program"). Lines that can't be
 /// written don't change it.
 pub fn run<R: Runtime + Files<File = File> + AllocGlobal + Threads + Wait + Sync>(
     rt: &R,
@@ -39,17 +42,34 @@ fn run_process<R: Runtime + Files<File = File> + AllocGlobal + Threads + Wait + 
     rt: &R,
 ) -> Ending {
     match command_line(rt) {
-        Ok(line) => run_line(rt, &line),
-        Err(status) => Ending::of_status(status),
+        Ok(line) => run_asked(rt, Asked::by(line)),
+        Err(ending) => ending,
     }
 }
 
-// The command line of the process. `Usage` if a word isn't UTF-8 or no folder is named.
-fn command_line<R: Runtime + AllocGlobal>(rt: &R) -> Result<CommandLine, Status> {
+// The command line of the process. `Usage` if a word isn't UTF-8 or there is none.
+fn command_line<R: Runtime + AllocGlobal>(rt: &R) -> Result<CommandLine, Ending> {
     match env::args(rt) {
-        Ok(args) => CommandLine::of(rt.alloc(), args),
-        Err(error) if error.kind() == ErrorKind::OutOfMemory => Err(Status::Memory),
-        Err(_) => Err(Status::Usage),
+        Ok(args) => match CommandLine::of(rt.alloc(), args) {
+            Ok(line) => Ok(line),
+            Err(why) => Err(Ending::without_line(why)),
+        },
+        Err(error) if error.kind() == ErrorKind::OutOfMemory => {
+            Err(Ending::of_status(Status::Memory))
+        }
+        Err(_) => Err(Ending::of_status(Status::Usage)),
+    }
+}
+
+// Writes the text that is asked for to standard output, or runs the words.
+fn run_asked<R: Runtime + Files<File = File> + AllocGlobal + Threads + Wait + Sync>(
+    rt: &R,
+    asked: Asked,
+) -> Ending {
+    match asked {
+        Asked::Help => write_text(help_text(), &mut StdSink::new(io::writer(rt))),
+        Asked::Version => write_text(version_text(), &mut StdSink::new(io::writer(rt))),
+        Asked::Line(line) => run_line(rt, &line),
     }
 }
 
@@ -93,7 +113,7 @@ fn run_over<R: Runtime + AllocGlobal + Threads + Wait + Sync>(
         status,
         disk,
         entries,
-        start: _,
+        start,
         memory,
     } = run_words(
         rt,
@@ -106,17 +126,10 @@ fn run_over<R: Runtime + AllocGlobal + Threads + Wait + Sync>(
     );
     // The process ends now, and the system takes all of its memory at once.
     let _ = ManuallyDrop::new((entries, memory));
-    Ending::of_call(status, &disk)
+    Ending::of_call(status, &disk, Note::after_call(words, start))
 }
 
-// Writes the line of a status to standard error, and after a fault of the disk its cause.
+// Writes to standard error what there is to tell of an end.
 fn tell<R: Runtime>(rt: &R, ending: &Ending) -> io::Result<()> {
-    if ending.status == Status::Done {
-        return Ok(());
-    }
-    eprintln!(rt; "{}", StatusLine(ending.status))?;
-    match ending.cause {
-        Some(cause) => eprintln!(rt; "because: {}", cause.text()),
-        None => Ok(()),
-    }
+    eprint!(rt; "{}", EndingText::of(ending))
 }
