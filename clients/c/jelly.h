@@ -4,7 +4,7 @@
    and entry_count count elements, of 32 and 64 bytes. value_length is aligned as a size_t; nothing else has to be aligned. What a call
    writes overlaps nothing else that it is given. The processor has what x86-64-v2 needs, which no call tests. That is all that a caller
    owes: any bytes may stand there. No call allocates, blocks or keeps anything, and calls may be made from several threads at once. A
-   call takes at most some 80 KB of the stack. */
+   call takes at most JELLY_STACK bytes of the stack. */
 #ifndef JELLY_H
 #define JELLY_H
 
@@ -16,10 +16,11 @@ extern "C" {
 #endif
 
 enum {
-    JELLY_HASH = 32,         /* bytes of a root, a key or a hash */
-    JELLY_MAX_NAME = 128,    /* the most bytes of a name */
-    JELLY_MAX_VALUE = 4096,  /* the most bytes of a value */
-    JELLY_MAX_SIBLINGS = 256 /* the most siblings of a proof */
+    JELLY_HASH = 32,          /* bytes of a root, a key or a hash */
+    JELLY_MAX_NAME = 128,     /* the most bytes of a name */
+    JELLY_MAX_VALUE = 4096,   /* the most bytes of a value */
+    JELLY_MAX_SIBLINGS = 256, /* the most siblings of a proof */
+    JELLY_STACK = 80 << 10    /* the most bytes of the stack that a call takes, as the tests find */
 };
 
 /* What jelly_ask returns. */

@@ -7,28 +7,10 @@
 #include <string.h>
 #include <time.h>
 
-enum { MAX_CASES = 10000, ROUNDS = 200 };
-
-/* A case of a lookup. */
-struct lookup {
-    uint8_t root[JELLY_HASH];
-    struct bytes name, reply;
-    bool is_deep; /* whether the block has 17 siblings and shows a value */
-};
+enum { MAX_CASES = 10000, ROUNDS = 400, CALLS = 500 };
 
 static struct lookup lookups[MAX_CASES];
 static size_t wrong;
-
-static FILE *opened(const char *folder, const char *name)
-{
-    char path[4096];
-    if (snprintf(path, sizeof path, "%s/%s", folder, name) >= (int)sizeof path)
-        fail(folder, "is too long");
-    FILE *file = fopen(path, "rb");
-    if (!file)
-        fail(path, "can't be opened");
-    return file;
-}
 
 static void compare(bool is_right, const char *title, const char *what)
 {
@@ -36,11 +18,6 @@ static void compare(bool is_right, const char *title, const char *what)
         fprintf(stderr, "%s: %s\n", title, what);
         wrong++;
     }
-}
-
-static uint32_t ask(const struct lookup *it, struct bytes value, size_t *length)
-{
-    return jelly_ask(it->root, it->name.at, it->name.length, it->reply.at, it->reply.length, value.at, value.length, length);
 }
 
 /* Whether room is as it was made. */
@@ -60,7 +37,7 @@ static struct bytes marked_room(size_t length)
 }
 
 /* A value is given with room to spare, with just enough, and not with a byte less. */
-static void check_value(const struct lookup *it, const char *title, struct bytes wanted)
+static void check_value(const struct lookup *it, struct bytes wanted)
 {
     size_t rooms[] = {wanted.length + 7, wanted.length, wanted.length ? wanted.length - 1 : 0};
     for (size_t i = 0; i < sizeof rooms / sizeof *rooms; i++) {
@@ -68,138 +45,76 @@ static void check_value(const struct lookup *it, const char *title, struct bytes
         size_t length = 99;
         uint32_t answer = ask(it, room, &length);
         bool fits = room.length >= wanted.length;
-        compare(answer == (fits ? JELLY_VALUE : JELLY_ROOM), title, "another answer than a value");
-        compare(length == wanted.length, title, "another length");
-        compare(!fits || !memcmp(room.at, wanted.at, wanted.length), title, "another value");
-        compare(is_untouched(room, fits ? wanted.length : 0), title, "room was written that is not the value's");
+        compare(answer == (fits ? JELLY_VALUE : JELLY_ROOM), it->title, "another answer than a value");
+        compare(length == wanted.length, it->title, "another length");
+        compare(!fits || !memcmp(room.at, wanted.at, wanted.length), it->title, "another value");
+        compare(is_untouched(room, fits ? wanted.length : 0), it->title, "room was written that is not the value's");
         give_back(room);
     }
 }
 
-static void check_answer(const struct lookup *it, const char *title, uint32_t wanted)
+static void check_answer(const struct lookup *it, uint32_t wanted)
 {
     struct bytes room = marked_room(64);
     size_t length = 99;
-    compare(ask(it, room, &length) == wanted, title, "another answer");
-    compare(length == 99 && is_untouched(room, 0), title, "something was written");
+    compare(ask(it, room, &length) == wanted, it->title, "another answer");
+    compare(length == 99 && is_untouched(room, 0), it->title, "something was written");
     give_back(room);
 }
 
-static void check_lookup(const struct lookup *it, const char *title, const char *shows)
+static void check_lookup(const struct lookup *it)
 {
-    if (!strncmp(shows, "value =", 7)) {
-        struct bytes wanted = unhex(shows + 7, strlen(shows + 7));
-        check_value(it, title, wanted);
-        give_back(wanted);
-    } else if (!strcmp(shows, "none")) {
-        check_answer(it, title, JELLY_ABSENT);
-    } else if (!strncmp(shows, "refused ", 8)) {
-        check_answer(it, title, JELLY_REFUSED + (uint32_t)strtoul(shows + 8, NULL, 10));
+    uint32_t wanted = answer_shown(it);
+    if (wanted == JELLY_VALUE) {
+        struct bytes value = unhex(it->shows + 7, strlen(it->shows + 7));
+        check_value(it, value);
+        give_back(value);
     } else {
-        fail(shows, "shows");
+        check_answer(it, wanted);
     }
 }
 
-static bool begins_with(struct bytes text, const char *front)
-{
-    return text.length >= strlen(front) && !memcmp(text.at, front, strlen(front));
-}
-
-/* How many cases of lookups there are. */
+/* How many cases of lookups there are. They stay, to be timed. */
 static size_t check_lookups(FILE *file)
 {
     size_t count = 0;
-    char *line;
-    for (; (line = next_line(file)); count++) {
-        if (count == MAX_CASES)
-            fail(line, "is one case too many");
-        struct lookup *it = &lookups[count];
-        char *title = strdup(line);
-        hash_after(file, "root", it->root);
-        it->name = hex_after(file, "name");
-        it->reply = text_of(file);
-        char *shows = after(file, "shows");
-        it->is_deep = begins_with(it->reply, "1 ok proof 17\n") && !strncmp(shows, "value", 5);
-        check_lookup(it, title, shows);
-        free(title);
+    for (; next_lookup(file, &lookups[count]); count++) {
+        check_lookup(&lookups[count]);
+        if (count + 1 == MAX_CASES)
+            fail("proofs.txt", "has too many cases");
     }
     fclose(file);
     return count;
-}
-
-static void check_claim(FILE *file, const char *title)
-{
-    uint8_t root[JELLY_HASH], key[JELLY_HASH] = {0}, hash[JELLY_HASH] = {0};
-    hash_after(file, "root", root);
-    size_t count = strtoul(after(file, "proof"), NULL, 10);
-    struct bytes name = hex_after(file, "name"), siblings = room_for(count * JELLY_HASH);
-    char *claim = after(file, "claim");
-    bool has_value = strcmp(claim, "none");
-    struct bytes value = has_value ? unhex(claim + 1, strlen(claim + 1)) : room_for(0);
-    char *leaf = after(file, "leaf");
-    bool has_leaf = strcmp(leaf, "none");
-    if (has_leaf) {
-        struct bytes pair[] = {unhex(leaf, 64), unhex(leaf + 65, 64)};
-        memcpy(key, pair[0].at, JELLY_HASH);
-        memcpy(hash, pair[1].at, JELLY_HASH);
-        give_back(pair[0]);
-        give_back(pair[1]);
-    }
-    for (size_t i = 0; i < count; i++)
-        hash_after(file, "side", siblings.at + i * JELLY_HASH);
-    uint32_t judged = jelly_judge(root, name.at, name.length, has_value, value.at, value.length, has_leaf, key, hash,
-                                  (const uint8_t(*)[JELLY_HASH])siblings.at, count);
-    compare(judged == strtoul(after(file, "judged"), NULL, 10), title, "another verdict");
-    give_back(name);
-    give_back(value);
-    give_back(siblings);
 }
 
 static size_t check_claims(FILE *file)
 {
     size_t count = 0;
-    for (char *line; (line = next_line(file)); count++) {
-        char *title = strdup(line);
-        check_claim(file, title);
-        free(title);
+    for (struct claim it; next_claim(file, &it); count++) {
+        compare(judge(&it) == it.judged, it.title, "another verdict");
+        drop_claim(&it);
     }
     fclose(file);
     return count;
 }
 
-static void check_root(FILE *file, const char *title)
+static void check_leaves(const struct leaves *it)
 {
-    size_t count = strtoul(after(file, "entries"), NULL, 10);
-    struct bytes entries = room_for(count * sizeof(struct jelly_entry));
-    for (size_t i = 0; i < count; i++) {
-        char *line = next_line(file);
-        struct bytes pair[] = {unhex(line, 64), unhex(line + 65, 64)};
-        memcpy(entries.at + i * sizeof(struct jelly_entry), pair[0].at, JELLY_HASH);
-        memcpy(entries.at + i * sizeof(struct jelly_entry) + JELLY_HASH, pair[1].at, JELLY_HASH);
-        give_back(pair[0]);
-        give_back(pair[1]);
-    }
     struct bytes root = marked_room(JELLY_HASH);
-    uint32_t answer = jelly_root((const struct jelly_entry *)entries.at, count, root.at);
-    char *wanted = after(file, "root");
-    if (!strcmp(wanted, "unsorted")) {
-        compare(answer == 1 && is_untouched(root, 0), title, "unsorted entries have a root");
-    } else {
-        struct bytes hash = unhex(wanted, strlen(wanted));
-        compare(answer == 0 && !memcmp(root.at, hash.at, JELLY_HASH), title, "another root");
-        give_back(hash);
-    }
+    uint32_t answer = root_of(it, root.at);
+    if (it->are_sorted)
+        compare(answer == 0 && !memcmp(root.at, it->root, JELLY_HASH), it->title, "another root");
+    else
+        compare(answer == 1 && is_untouched(root, 0), it->title, "unsorted entries have a root");
     give_back(root);
-    give_back(entries);
 }
 
 static size_t check_roots(FILE *file)
 {
     size_t count = 0;
-    for (char *line; (line = next_line(file)); count++) {
-        char *title = strdup(line);
-        check_root(file, title);
-        free(title);
+    for (struct leaves it; next_leaves(file, &it); count++) {
+        check_leaves(&it);
+        drop_leaves(&it);
     }
     fclose(file);
     return count;
@@ -240,27 +155,44 @@ static double seconds(void)
     return (double)now.tv_sec + (double)now.tv_nsec * 1e-9;
 }
 
-/* The microseconds of a lookup: of all, or of those with 17 siblings. */
-static double time_of_lookups(size_t count, bool are_deep)
+/* The microseconds of a lookup of these: the mean of the round that took least, as other work on the machine makes most take longer. */
+static double time_of(const struct lookup *const chosen[], size_t count)
 {
     struct bytes room = room_for(JELLY_MAX_VALUE);
-    size_t length, calls = 0, rounds = are_deep ? ROUNDS * 50 : ROUNDS;
-    double began = seconds();
-    for (size_t round = 0; round < rounds; round++)
-        for (size_t i = 0; i < count; i++)
-            if (!are_deep || lookups[i].is_deep) {
-                ask(&lookups[i], room, &length);
-                calls++;
-            }
-    double took = seconds() - began;
+    size_t length, calls = count ? (CALLS / count + 1) * count : 0;
+    double least = 0;
+    for (size_t round = 0; round < ROUNDS && count; round++) {
+        double began = seconds();
+        for (size_t i = 0; i < calls; i++)
+            ask(chosen[i % count], room, &length);
+        double took = (seconds() - began) / (double)calls * 1e6;
+        least = round && least < took ? least : took;
+    }
     give_back(room);
-    return calls ? took / (double)calls * 1e6 : 0;
+    return least;
+}
+
+/* The microseconds of a lookup that shows a value, and whose reply begins with this line. */
+static double time_after(const char *line, size_t count)
+{
+    static const struct lookup *chosen[MAX_CASES];
+    size_t found = 0, length = strlen(line);
+    for (size_t i = 0; i < count; i++) {
+        const struct lookup *it = &lookups[i];
+        if (it->reply.length >= length && !memcmp(it->reply.at, line, length) && !strncmp(it->shows, "value", 5))
+            chosen[found++] = it;
+    }
+    return time_of(chosen, found);
 }
 
 static void tell_times(size_t count)
 {
-    double all = time_of_lookups(count, false), deep = time_of_lookups(count, true);
-    printf("a lookup takes %.2f us (%.0f a second), one with 17 siblings %.2f us\n", all, 1e6 / all, deep);
+    static const struct lookup *all[MAX_CASES];
+    for (size_t i = 0; i < count; i++)
+        all[i] = &lookups[i];
+    double mean = time_of(all, count);
+    printf("a lookup takes %.2f us (%.0f a second), a value with no sibling %.2f us, with 17 siblings %.2f us\n", mean, 1e6 / mean,
+           time_after("1 ok proof 0\n", count), time_after("1 ok proof 17\n", count));
 }
 
 int main(int count, char **words)
@@ -274,9 +206,7 @@ int main(int count, char **words)
     printf("%zu lookups, %zu claims, %zu roots: %zu wrong\n", asked, judged, rooted, wrong);
     if (count == 2)
         tell_times(asked);
-    for (size_t i = 0; i < asked; i++) {
-        give_back(lookups[i].name);
-        give_back(lookups[i].reply);
-    }
+    for (size_t i = 0; i < asked; i++)
+        drop_lookup(&lookups[i]);
     return wrong ? 1 : 0;
 }

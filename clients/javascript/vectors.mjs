@@ -104,11 +104,15 @@ function now() {
   return used ? used.user + used.system : performance.now() * 1000;
 }
 
-// The microseconds of a lookup of these.
-function timeOf(jelly, cases, rounds) {
-  const began = now();
-  for (let round = 0; round < rounds; round++) for (const it of cases) tried(jelly, it);
-  return (now() - began) / rounds / cases.length;
+// The microseconds of a lookup of these: the mean of the round that took least, as other work on the machine makes most take longer.
+function timeOf(jelly, cases, rounds = 60, calls = 500) {
+  const count = Math.ceil(calls / cases.length);
+  const times = Array.from({ length: rounds }, () => {
+    const began = now();
+    for (let it = 0; it < count; it++) for (const one of cases) tried(jelly, one);
+    return (now() - began) / count / cases.length;
+  });
+  return Math.min(...times);
 }
 
 // Makes each call on each case of files by their names. `wrong` has the titles of those that came to something else. How long a call takes
@@ -123,18 +127,22 @@ export function check(jelly, files, isTimed = true) {
   return { lookups: lookups.length, claims: claims.length, roots: roots.length, wrong, ...(isTimed ? times(jelly, lookups) : {}) };
 }
 
+// The cases that show a value with so many siblings.
+function values(lookups, siblings) {
+  return lookups.filter(it => ASCII.decode(it.reply).startsWith(`1 ok proof ${siblings}\n`) && it.wanted.startsWith('value'));
+}
+
 function times(jelly, lookups) {
-  const deep = lookups.filter(it => ASCII.decode(it.reply).startsWith('1 ok proof 17\n') && it.wanted.startsWith('value'));
-  return { microseconds: timeOf(jelly, lookups, 10), deepMicroseconds: timeOf(jelly, deep, 1000) };
+  return { mean: timeOf(jelly, lookups), none: timeOf(jelly, values(lookups, 0)), deep: timeOf(jelly, values(lookups, 17)) };
 }
 
 export function summary(found) {
   const counts = `${found.lookups} lookups, ${found.claims} claims, ${found.roots} roots: ${found.wrong.length} wrong`;
-  return found.microseconds === undefined ? counts : `${counts}\n${timesOf(found)}`;
+  return found.mean === undefined ? counts : `${counts}\n${timesOf(found)}`;
 }
 
-function timesOf({ microseconds, deepMicroseconds }) {
-  return `a lookup takes ${microseconds.toFixed(2)} us (${Math.round(1e6 / microseconds)} a second), one with 17 siblings ${deepMicroseconds.toFixed(2)} us`;
+function timesOf({ mean, none, deep }) {
+  return `a lookup takes ${mean.toFixed(2)} us (${Math.round(1e6 / mean)} a second), a value with no sibling ${none.toFixed(2)} us, with 17 siblings ${deep.toFixed(2)} us`;
 }
 
 export const FILES = ['proofs.txt', 'claims.txt', 'roots.txt'];

@@ -82,10 +82,12 @@ class Noted(unittest.TestCase):
         heights = Heights(self.path)
         heights.note(7, EMPTY)
         self.assertRaises(ValueError, heights.note, 6, EMPTY)
+        self.assertRaises(ValueError, heights.note, 8, EMPTY[1:])
         self.assertEqual(Heights(self.path).newest, (7, EMPTY))
-        with open(self.path, "w", encoding="ascii") as it:
-            it.write("7")
-        self.assertRaises(ValueError, Heights, self.path)
+        for text in ("7", "7 " + EMPTY.hex()[2:], "7 " + EMPTY.hex() + "00"):
+            with open(self.path, "w", encoding="ascii") as it:
+                it.write(text)
+            self.assertRaises(ValueError, Heights, self.path)
 
 
 if __name__ == "__main__":

@@ -4,7 +4,7 @@ from typing import Any, Callable, NamedTuple, Optional
 
 from jellystore import hashes, light, native, vectors
 from jellystore.chunks import Chunks
-from jellystore.hashes import EMPTY, Entry, key_of, leaf_hash, value_hash
+from jellystore.hashes import EMPTY, Entry, key_of, leaf_hash, leaf_hash_of_sized, pair_hash, value_hash
 from jellystore.refusals import ChunkRefused, LineRefused, Refused
 
 LIBRARY = native.loaded()
@@ -121,7 +121,8 @@ class ByEachEngine(unittest.TestCase):
         for cut in (-1, 1, 31, -32, 32):
             both = KEY + HASH
             forged = (both[: 32 + cut], both[32 + cut :])
-            self.assertEqual(leaf_hash(*forged), ROOT)
+            self.assertEqual(leaf_hash_of_sized(*forged), ROOT)
+            self.assertRaises(ValueError, leaf_hash, *forged)
             self.refuse(f"the key is cut by {cut}", lambda it: it.judge(ROOT, NAME, None, forged, []))
             self.refuse(f"the key is cut by {cut}", lambda it: it.root_of([forged]))
 
@@ -158,6 +159,40 @@ class ByEachEngine(unittest.TestCase):
         for it in ENGINES:
             self.assertRaises(TypeError, it.judge, 32, NAME, None, None, [])
             self.assertRaises(TypeError, it.judge, ROOT, NAME, None, None, [32])
+
+
+class WithoutEngine(unittest.TestCase):
+    """What callers pass to the hashes and to `Chunks`, which are in Python alone."""
+
+    def test_sizes(self) -> None:
+        for size in (0, 1, 31, 33, 64):
+            wrong = bytes(size)
+            for hash in (leaf_hash, pair_hash):
+                self.assertRaises(ValueError, hash, wrong, HASH)
+                self.assertRaises(ValueError, hash, KEY, wrong)
+            self.assertRaises(ValueError, Chunks, wrong)
+
+    def test_cut_elsewhere(self) -> None:
+        """Two hashes that are cut at another place are no pair, though they have 64 bytes."""
+        for cut in (-32, -1, 1, 32):
+            both = KEY + HASH
+            self.assertRaises(ValueError, pair_hash, both[: 32 + cut], both[32 + cut :])
+
+    def test_kinds_of_bytes(self) -> None:
+        chunk = f"1 ok chunk 1 0 0\nentry {KEY.hex()} ={VALUE.hex()}\n".encode()
+        for kind in (bytes, bytearray, memoryview):
+            self.assertEqual(leaf_hash(kind(KEY), kind(HASH)), ROOT)
+            self.assertEqual(pair_hash(kind(KEY), kind(HASH)), pair_hash(KEY, HASH))
+            self.assertEqual(Chunks(kind(ROOT)).take(kind(chunk)), [(KEY, VALUE)])
+
+    def test_no_bytes(self) -> None:
+        """No number stands for as many bytes of 0, and no text or list for bytes."""
+        for other in (32, KEY.hex()[:32], list(KEY), None):
+            self.assertRaises(TypeError, leaf_hash, other, HASH)
+            self.assertRaises(TypeError, leaf_hash, KEY, other)
+            self.assertRaises(TypeError, pair_hash, other, HASH)
+            self.assertRaises(TypeError, pair_hash, KEY, other)
+            self.assertRaises(TypeError, Chunks, other)
 
 
 if __name__ == "__main__":

@@ -5,6 +5,8 @@ from typing import Callable, Optional
 from jellystore import light, native, vectors
 from jellystore.refusals import Refused
 
+ROUNDS, CALLS = 60, 500
+
 LookUp = Callable[[bytes, bytes, bytes], Optional[bytes]]
 
 
@@ -16,22 +18,31 @@ def tried(look_up: LookUp, case: vectors.Lookup) -> None:
         pass
 
 
-def microseconds(look_up: LookUp, cases: list[vectors.Lookup], rounds: int) -> float:
-    began = time.process_time()
-    for _ in range(rounds):
-        for case in cases:
-            tried(look_up, case)
-    return (time.process_time() - began) * 1e6 / rounds / len(cases)
+def microseconds(look_up: LookUp, cases: list[vectors.Lookup]) -> float:
+    """Of a lookup of these: the mean of the round that took least, as other work on the machine makes most take longer."""
+    count = CALLS // len(cases)
+    rounds = []
+    for _ in range(ROUNDS):
+        began = time.process_time()
+        for _ in range(count):
+            for case in cases:
+                tried(look_up, case)
+        rounds.append((time.process_time() - began) * 1e6 / count / len(cases))
+    return min(rounds)
+
+
+def values(cases: list[vectors.Lookup], siblings: int) -> list[vectors.Lookup]:
+    """The cases that show a value with so many siblings."""
+    return [case for case in cases if case.reply.startswith(b"1 ok proof %d\n" % siblings) and case.shows.startswith("value")]
 
 
 def main() -> None:
     cases = vectors.lookups()
-    deep = [case for case in cases if case.reply.startswith(b"1 ok proof 17\n") and case.shows.startswith("value")]
     library = native.loaded()
     calls: dict[str, LookUp] = {"in Python alone": light.look_up, **({} if library is None else {"by the library": library.look_up})}
     for how, look_up in calls.items():
-        took = microseconds(look_up, cases, 20)
-        print(f"{how}: a lookup takes {took:.2f} us ({1e6 / took:.0f} a second), one with 17 siblings {microseconds(look_up, deep, 2000):.2f} us")
+        mean, none, deep = (microseconds(look_up, it) for it in (cases, values(cases, 0), values(cases, 17)))
+        print(f"{how}: a lookup takes {mean:.2f} us ({1e6 / mean:.0f} a second), a value with no sibling {none:.2f} us, with 17 siblings {deep:.2f} us")
 
 
 if __name__ == "__main__":

@@ -1,6 +1,6 @@
 """A version put together from the replies to `chunk`, each checked against the version's root as it comes (docs/FORMATS.md, "Chunk
 blocks"). What was taken is never hashed again, so the time is linear."""
-from jellystore.hashes import EMPTY, Entry, bit, common_bits, leaf_hash, pair_hash, value_hash
+from jellystore.hashes import EMPTY, Bytes, Entry, bit, common_bits, leaf_hash_of_sized, pair_hash_of_sized, plain, sized, value_hash
 from jellystore.lines import ChunkBlock, NoMatch, chunk_block, chunk_length, lines_of
 from jellystore.refusals import ChunkRefused, LineRefused
 
@@ -9,7 +9,7 @@ MAX_DEPTH = 256
 
 class Frontier:
     """What is kept of entries in ascending order: the last one's leaf, and the hashes on the left of its way, by their depth. A
-    part without an entry has none."""
+    part without an entry has none. Nobody checks here that a key or a hash has 32 bytes: the lines of a chunk block see to it."""
 
     def __init__(self) -> None:
         self.last: Entry | None = None
@@ -28,7 +28,7 @@ class Frontier:
 
     def _close(self, last: Entry, key: bytes) -> None:
         """Makes the part that ends with the last entry one hash, on the left of the next key's way."""
-        common, hash = common_bits(last[0], key), leaf_hash(*last)
+        common, hash = common_bits(last[0], key), leaf_hash_of_sized(*last)
         for depth in range(max(self.lefts, default=0), common, -1):
             hash = self._joined(last[0], depth, hash, EMPTY)
             self.lefts.pop(depth, None)
@@ -36,13 +36,13 @@ class Frontier:
 
     def _joined(self, key: bytes, depth: int, hash: bytes, right: bytes) -> bytes:
         """The hash above one on a key's way: with what is kept on the left, or with a hash on the right."""
-        return pair_hash(self.lefts.get(depth, EMPTY), hash) if bit(key, depth) else pair_hash(hash, right)
+        return pair_hash_of_sized(self.lefts.get(depth, EMPTY), hash) if bit(key, depth) else pair_hash_of_sized(hash, right)
 
     def root(self) -> bytes:
         """The root of all entries."""
         if self.last is None:
             return EMPTY
-        hash = leaf_hash(*self.last)
+        hash = leaf_hash_of_sized(*self.last)
         for depth in range(max(self.lefts, default=-1), -1, -1):
             hash = self._joined(self.last[0], depth, hash, EMPTY)
         return hash
@@ -50,7 +50,7 @@ class Frontier:
     def chunk_root(self, depth: int, siblings: list[bytes]) -> bytes:
         """What the entries come to, if the last one stands alone below so many bits, with the hashes on the right of its way."""
         assert self.last is not None
-        key, hash, rights = self.last[0], leaf_hash(*self.last), iter(siblings)
+        key, hash, rights = self.last[0], leaf_hash_of_sized(*self.last), iter(siblings)
         for place in range(depth - 1, -1, -1):
             right = EMPTY if bit(key, place) else next(rights)
             hash = self._joined(key, place, hash, right)
@@ -60,15 +60,16 @@ class Frontier:
 class Chunks:
     """The chunks of one version, from its first entry on. `entries` are those taken so far, which the root vouches for."""
 
-    def __init__(self, root: bytes) -> None:
-        self.root = root
+    def __init__(self, root: Bytes) -> None:
+        """Raises ValueError if the root hasn't 32 bytes."""
+        self.root = sized(root)
         self.entries: list[Entry] = []
         self._frontier = Frontier()
 
-    def take(self, reply: bytes) -> list[Entry]:
+    def take(self, reply: Bytes) -> list[Entry]:
         """The entries of the chunk blocks of a text, each of which has to go on where those before it end. Raises LineRefused for the
         first line that isn't one of a block, and ChunkRefused for a block that isn't shown; those before it stay."""
-        lines, place, count = lines_of(reply), 0, len(self.entries)
+        lines, place, count = lines_of(plain(reply)), 0, len(self.entries)
         while place < len(lines):
             try:
                 block = chunk_block(lines, place)

@@ -23,16 +23,6 @@ EMPTY = _hash(b"\0")
 """The root of the empty map."""
 
 
-def leaf_hash(key: bytes, value_hash: bytes) -> bytes:
-    """The hash of a leaf."""
-    return _hash(b"\1", key, value_hash)
-
-
-def pair_hash(left: bytes, right: bytes) -> bytes:
-    """The hash of a part whose two halves have these hashes, that of bit 0 first."""
-    return _hash(b"\2", left, right)
-
-
 def value_hash(value: bytes) -> bytes:
     """The hash of a value."""
     return _hash(b"\3", value)
@@ -55,6 +45,26 @@ def sized(it: Bytes) -> bytes:
     if len(hash) != SIZE:
         raise ValueError("a root, a key and a hash have 32 bytes")
     return hash
+
+
+def leaf_hash(key: Bytes, value_hash: Bytes) -> bytes:
+    """The hash of a leaf. Raises ValueError if the key or the hash hasn't 32 bytes."""
+    return leaf_hash_of_sized(sized(key), sized(value_hash))
+
+
+def pair_hash(left: Bytes, right: Bytes) -> bytes:
+    """The hash of a part whose two halves have these hashes, that of bit 0 first. Raises ValueError if one hasn't 32 bytes."""
+    return pair_hash_of_sized(sized(left), sized(right))
+
+
+def leaf_hash_of_sized(key: bytes, value_hash: bytes) -> bytes:
+    """As leaf_hash, of parts whose sizes are right."""
+    return _hash(b"\1", key, value_hash)
+
+
+def pair_hash_of_sized(left: bytes, right: bytes) -> bytes:
+    """As pair_hash, of hashes whose sizes are right."""
+    return _hash(b"\2", left, right)
 
 
 def sized_leaf(it: Sequence[Bytes]) -> Entry:
@@ -91,7 +101,7 @@ def common_bits(key: bytes, other: bytes) -> int:
 
 def sibling_joined(key: bytes, place: int, hash: bytes, sibling: bytes) -> bytes:
     """The hash above a hash on a key's way at a bit, and its sibling."""
-    return pair_hash(sibling, hash) if bit(key, place) else pair_hash(hash, sibling)
+    return pair_hash_of_sized(sibling, hash) if bit(key, place) else pair_hash_of_sized(hash, sibling)
 
 
 def root_of(leaves: Sequence[Sequence[Bytes]]) -> bytes:
@@ -106,9 +116,9 @@ def root_of(leaves: Sequence[Sequence[Bytes]]) -> bytes:
 def _part_root(leaves: Sequence[Entry], start: int, end: int, depth: int) -> bytes:
     """The root of the leaves from one place up to another, whose keys agree in so many bits."""
     if end - start < 2:
-        return leaf_hash(*leaves[start]) if start < end else EMPTY
+        return leaf_hash_of_sized(*leaves[start]) if start < end else EMPTY
     middle = _first_one(leaves, start, end, depth)
-    return pair_hash(_part_root(leaves, start, middle, depth + 1), _part_root(leaves, middle, end, depth + 1))
+    return pair_hash_of_sized(_part_root(leaves, start, middle, depth + 1), _part_root(leaves, middle, end, depth + 1))
 
 
 def _first_one(leaves: Sequence[Entry], start: int, end: int, depth: int) -> int:

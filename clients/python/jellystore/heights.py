@@ -7,6 +7,7 @@ the store's folder, and each opening after the first is by the mode `resume`.
 import os
 from typing import Optional
 
+from jellystore.hashes import sized
 from jellystore.store import Store
 
 Height = tuple[int, bytes]
@@ -28,10 +29,12 @@ class Heights:
                 version, root = it.read().split()
         except FileNotFoundError:
             return None
-        return int(version), bytes.fromhex(root)
+        return int(version), sized(bytes.fromhex(root))
 
     def note(self, version: int, root: bytes) -> None:
-        """Notes what the store has acknowledged. A lower version than the one that is noted raises ValueError."""
+        """Notes what the store has acknowledged. A lower version than the one that is noted raises ValueError,
+        and so does a root that hasn't 32 bytes."""
+        root = sized(root)
         if self.newest is not None and version < self.newest[0]:
             raise ValueError(f"version {version} comes after version {self.newest[0]}")
         with open(self.path + ".new", "w", encoding="ascii") as it:

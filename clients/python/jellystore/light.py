@@ -5,7 +5,7 @@ Root and name are the caller's own. Everything else may come from a server that 
 from typing import Optional, Sequence
 
 from jellystore.hashes import (
-    EMPTY, Bytes, Entry, common_bits, key_of, leaf_hash, plain, sibling_joined, sized, sized_claim, value_hash,
+    EMPTY, Bytes, Entry, common_bits, key_of, leaf_hash_of_sized, plain, sibling_joined, sized, sized_claim, value_hash,
 )
 from jellystore.lines import MAX_SIBLINGS, NoMatch, proof_block
 from jellystore.refusals import Refused
@@ -31,7 +31,7 @@ def _verdict(root: bytes, name: bytes, value: Optional[bytes], leaf: Optional[En
         return 2
     if value is None and leaf is not None and common_bits(leaf[0], key) < count:
         return 3
-    hash = leaf_hash(*leaf) if leaf else EMPTY
+    hash = leaf_hash_of_sized(*leaf) if leaf else EMPTY
     for place, sibling in zip(range(count - 1, -1, -1), siblings):
         hash = sibling_joined(key, place, hash, sibling)
     return 0 if hash == root else 4
