@@ -9,6 +9,8 @@ What is looked at, outside of blocks of code:
   stands for others, as crates/NAME, specs/F.antt and `proofs/module/function/`, or lies in a folder out/. A document may name a file as which
   a block is to be saved: its name stands in backquotes in the line before the block;
 - a section: text in quotation marks after the name of a document, as in docs/FORMATS.md, "Replies", must be a heading there;
+- a decision: a number after the name of their document, as in docs/DECISIONS.md, 3.7, must begin a heading there, and so must one after `see` in
+  that document. There each number stands once, and in the part of its layer;
 - a name: in backquotes, a word with an underscore, or with a second capital letter and a small one, must be declared in a source or be one that
   a source imports; or the end of a crate's name; or one of FOREIGN. `A::b` needs a file that declares b and speaks of A;
 - a clause or field: a word in backquotes after `clause`, `clauses`, `field` or `fields`. If the record or function stands before it (`X`,
@@ -34,6 +36,7 @@ STANDS_FOR_OTHERS = r"[A-Z]+|[A-Z]{2}[a-z]\w*|module|function"
 FOREIGN = {"partition_point", "binary_search_by_key", "deref_mut", "also_owns"}
 """Words of the language and of its library that the code doesn't use."""
 QUOTED = r'"[^"\n]+"(?:(?:, | and |, and )"[^"\n]+")*'
+DECISIONS = "docs/DECISIONS.md"
 
 
 class Wrong(NamedTuple):
@@ -220,6 +223,20 @@ class Document:
         places = ["", self.folder, "docs"]
         return next((it for it in (os.path.normpath(os.path.join(place, path)) for place in places) if it in self.index.files), None)
 
+    # ---- decisions
+
+    def decisions(self) -> Iterator[tuple]:
+        numbers = Counter(re.findall(r"(?m)^### (\d+\.\d+) ", read(DECISIONS)))
+        is_here = self.name == DECISIONS
+        for found in re.finditer(r"DECISIONS\.md, (\d+\.\d+)" + r"|\bsee (\d+\.\d+)" * is_here, self.text):
+            number = found[1] or found[is_here + 1]
+            yield found.start(), number in numbers, f"the decision {number}"
+        layer = ""
+        for found in re.finditer(r"(?m)^## (\d+) |^### (\d+\.\d+) ", self.text if is_here else ""):
+            layer = found[1] or layer
+            if found[2]:
+                yield found.start(), numbers[found[2]] == 1 and found[2].startswith(f"{layer}."), f"a place of its own for the decision {found[2]}"
+
     # ---- names
 
     def names(self) -> Iterator[tuple]:
@@ -249,7 +266,7 @@ class Document:
 
 
 KINDS = {
-    "crates": Document.crates, "paths": Document.paths, "sections": Document.sections, "names": Document.names,
+    "crates": Document.crates, "paths": Document.paths, "sections": Document.sections, "decisions": Document.decisions, "names": Document.names,
     "clauses and fields": Document.members,
 }
 
