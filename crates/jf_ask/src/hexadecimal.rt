@@ -1,26 +1,8 @@
 // Words of hexadecimal digits as bytes, written into room that is there.
 ghost use Rattle.std.specs.Prelude.{◌≡◌, ◌*◌, ◌/◌, ◌+◌, ◌≤◌, length, take, drop, IfSome, option_map, Some};
-ghost use Rattle.jf_text.specs.Words.{digit, byte_of, unhex, bytes_within};
+ghost use Rattle.jf_text.specs.Words.{unhex, bytes_within};
 
-/// The value of a hexadecimal digit, or `None` for any other byte. Upper case is refused.
-fn digit(byte: u8) -> Option<u8>
-    ensures { result ≡ digit byte }
-{
-    match byte {
-        b'0'..=b'9' => Some(byte - b'0'),
-        b'a'..=b'f' => Some(byte - b'a' + 10),
-        _ => None,
-    }
-}
-
-/// The byte that two digits write, the high half first.
-fn byte_of(high: u8, low: u8) -> Option<u8>
-    ensures { result ≡ byte_of high low }
-{
-    let high = digit(high)?;
-    let low = digit(low)?;
-    Some(high * 16 + low)
-}
+use jf_text::unhex_into;
 
 /// Writes the bytes of a word to the front of `out`, and returns how many they are. `None` if the word isn't an even
 /// number of digits; the front of `out` may then have changed, for half as many bytes as the word has. What comes after
@@ -35,13 +17,12 @@ pub fn unhexed(word: &[u8], out: &mut [u8]) -> Option<usize>
     if word.len() % 2 == 1 {
         return None;
     }
-    'pairs: for i in 0..word.len() / 2 {
-        let Some(byte) = byte_of(word[2 * i], word[2 * i + 1]) else {
-            return None;
-        };
-        out[i] = byte;
+    let count = word.len() / 2;
+    if unhex_into(word, &mut out[..count]) {
+        Some(count)
+    } else {
+        None
     }
-    Some(word.len() / 2)
 }
 
 /// Writes the bytes of a word to the front of `out`, and returns how many they are. `None` if it isn't hexadecimal or

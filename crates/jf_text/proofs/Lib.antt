@@ -3,6 +3,7 @@ pub mod Numbers
 pub mod NumbersBack
 pub mod HexText
 pub mod HashText
+pub mod PairText
 pub mod HexWritten
 pub mod Plain
 pub mod HexReadBack

@@ -8,7 +8,7 @@ mod number;
 mod word;
 mod writing;
 
-pub use hexadecimal::{hash_of, name_of, value_of};
+pub use hexadecimal::{hash_of, name_of, unhex_into, value_of};
 pub use limits::{MAX_CHUNK, MAX_LINE, MAX_NAME};
 pub use number::{number_from, number_of};
 pub use word::{is_word, split_word};

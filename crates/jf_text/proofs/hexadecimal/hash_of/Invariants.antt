@@ -1,7 +1,0 @@
-use Rattle.std.proofs.Common.{◌≡◌, ◌*◌, drop, take, length}
-use Rattle.jf_text.specs.Words.{unhex}
-use Rattle.jf_text.proofs.HexText.{with_bytes_before}
-use Rattle.jf_text.proofs.hexadecimal.hash_of.Given as goal
-
-abbrev pub invariant-pairs : goal.invariant-pairs
-invariant-pairs l = (length l.hash ≡ 32) × (unhex l.word ≡ with_bytes_before (take l.i l.hash) (unhex (drop (2 * l.i) l.word)))
