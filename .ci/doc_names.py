@@ -2,7 +2,7 @@
 
 What is looked at, outside of blocks of code:
 
-- a crate: each word `jf_..` (with small letters alone, so `jf_SUBJECT_tests` is none) must be a folder of crates/;
+- a crate: each word `jf_..` or `test_..` (with small letters alone, so `test_SUBJECT` is none) must be a folder of crates/;
 - a path: a word that begins with docs/, crates/, clients/ or .ci/, and, in backquotes, one that ends as a source file does or begins with
   src/, specs/, proofs/, must-fail/ or wrong-bodies/. It may begin at the top, at the document's folder, or in a crate; a name without a
   slash may be that of any file. `jf_x/Y` and `jf_x/specs/Y` are the file Y of that crate, `specs/Y` that of any. A path is skipped if it
@@ -166,13 +166,13 @@ class Document:
                     yield Wrong(self.name, self.text.count("\n", 0, at) + 1, what)
 
     def crates(self) -> Iterator[tuple]:
-        for found in re.finditer(r"(?<![\w/.])jf_[a-z][a-z0-9_]*(?![\w]|\.\.)", self.text):
+        for found in re.finditer(r"(?<![\w/.])(?:jf|test)_[a-z][a-z0-9_]*(?![\w]|\.\.)", self.text):
             yield found.start(), found[0] in self.index.crates, f"the crate {found[0]}"
 
     # ---- paths
 
     def paths(self) -> Iterator[tuple]:
-        pattern = rf"(?<![\w/.])(?:{'|'.join(map(re.escape, FOLDERS))})/[\w./*+-]*\w|(?<=`)[^`\s]+(?=`)|(?<![\w/])jf_[a-z_]+/[\w/]+"
+        pattern = rf"(?<![\w/.])(?:{'|'.join(map(re.escape, FOLDERS))})/[\w./*+-]*\w|(?<=`)[^`\s]+(?=`)|(?<![\w/])(?:jf|test)_[a-z_]+/[\w/]+"
         for found in re.finditer(pattern, self.text):
             if self._is_path(found[0]):
                 yield found.start(), self._is_there(found[0]), f"the file {found[0]}"

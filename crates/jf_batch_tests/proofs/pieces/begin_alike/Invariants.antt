@@ -1,6 +1,0 @@
-use Rattle.std.proofs.Common.{◌≡◌, ℕ, ◌<◌}
-use Rattle.jf_path.specs.Nibbles.{nibble}
-use Rattle.jf_batch_tests.proofs.pieces.begin_alike.Given as goal
-
-abbrev pub invariant-loop-i : goal.invariant-loop-i
-invariant-loop-i l = (k : ℕ) → k < l.i → nibble l.a k ≡ nibble l.b k

@@ -1,5 +1,0 @@
-use Rattle.std.proofs.Common.{◌≡◌}
-use Rattle.jf_sharing_tests.proofs.boards.pin_and_look.Given as goal
-
-abbrev pub invariant-loop : goal.invariant-loop
-invariant-loop l = l.place.board ≡ l.board

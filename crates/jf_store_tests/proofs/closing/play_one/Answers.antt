@@ -1,7 +1,0 @@
-use Rattle.std.proofs.Common.{rules, ◌≡◌, [], ◌∷◌}
-use lib.ListN.{get_or}
-use Rattle.jf_store_tests.proofs.Ends.{all_one, first_new}
-use Rattle.jf_store_tests.proofs.closing.play_one.Goals as goal
-
-pub returns-clause-all : goal.returns-clause-all
-returns-clause-all g c = all_one c.args.store.now _ c.play_on.new.pass (get_or c.as_mut_slice.result.now 0 c.index-pass-0.result) (search rules) c.play_on.ensures.1 (first_new c.args.store.now c.args.passes.now.items c.as_mut_slice.result.now c.index-pass-0.result c.requires.new c.as_mut_slice.ensures.value c.in-len1.len_at_least) c.requires.only

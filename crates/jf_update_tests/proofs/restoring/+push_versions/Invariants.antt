@@ -1,4 +1,0 @@
-use Rattle.jf_update_tests.proofs.restoring.+push_versions.Given as goal
-
-abbrev pub decreases-push_versions : goal.decreases-push_versions
-decreases-push_versions l = l.levels

@@ -1,7 +1,0 @@
-use Rattle.std.proofs.Common.{take}
-use Rattle.jf_update.specs.Restored.{AreShortEntries}
-use Rattle.jf_update_tests.proofs.restoring.are_short.Given as goal
-
--- the values so far are short
-abbrev pub invariant-loop-entry : goal.invariant-loop-entry
-invariant-loop-entry l = AreShortEntries (take l.entry-index l.entries)
