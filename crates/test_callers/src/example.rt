@@ -1,11 +1,7 @@
 // A store in memory, and a client that has one root of it: the example of docs/CALLERS.md.
-use jf_disk::MemDisk;
-use jf_engine::{Engine, OpenRefused};
-use jf_hash::{Hash, key_of};
-use jf_join::{FreeGate, Workers};
-use jf_path::Key;
-use jf_proof::{Proof, prove, verify};
-use jf_split::Batch;
+use jellyfish::{
+    Batch, Engine, FreeGate, Hash, Key, MemDisk, OpenRefused, Proof, Workers, key_of, prove, verify,
+};
 use std::alloc::Global;
 use std::test::Fail;
 use std::thread::Threads;
