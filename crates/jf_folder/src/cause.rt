@@ -1,6 +1,6 @@
 // Why a call on a folder or its files failed, as an operator has to know it.
 ghost use Rattle.std.specs.Prelude.{◌≡◌};
-ghost use Rattle.jf_folder.specs.Causes.{kind_cause};
+ghost use Rattle.jf_folder.specs.Causes.{cause_text, kind_cause};
 
 use std::io::ErrorKind;
 
@@ -21,7 +21,9 @@ pub enum FaultCause {
 
 impl FaultCause {
     /// The words for it on standard error, after `because: `.
-    pub fn text(self) -> &'static str {
+    pub fn text(self) -> &'static str
+        ensures { result.now ≡ cause_text self }
+    {
         match self {
             FaultCause::InUse => "in use by another run",
             FaultCause::NoSuchFolder => "no such folder",

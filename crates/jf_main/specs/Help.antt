@@ -1,6 +1,8 @@
 -- What the program says of itself: how it is called, its help and its version (docs/FORMATS.md, "Calling the program").
 use Rattle.std.specs.Prelude.{ℕ, List, [], ◌∷◌, ◌++◌, codes}
 use Rattle.jf_io.specs.Inputs.{ended}
+use Rattle.jf_main.specs.declared.help.OwnText.{OwnText}
+use Rattle.jf_main.specs.declared.help.OwnText.TheVariants as own
 
 -- the first line about faulty words
 abbrev pub usage_text : List ℕ
@@ -41,3 +43,8 @@ help_text = ended (usage_text ∷ more_usage_text ∷ mode_lines) ++ ended (exam
 -- what `--version` writes
 abbrev pub version_text : List ℕ
 version_text = codes "jellystore 1.0.0 (files: formats 1 and 2)\n"
+
+-- the words of a text of the program's own
+abbrev pub own_text : OwnText → List ℕ
+own_text own.Help = help_text
+own_text own.Version = version_text

@@ -3,14 +3,13 @@ ghost use Rattle.std.specs.Prelude.{◌≡◌};
 ghost use Rattle.jf_main.specs.Asking.{asked_by};
 
 use crate::command_line::CommandLine;
+use crate::help::OwnText;
 
 /// What a command line asks for (docs/FORMATS.md, "Calling the program").
 #[derive(Drop)]
 pub enum Asked {
-    /// How the program is called.
-    Help,
-    /// Which version of the program this is.
-    Version,
+    /// A text of the program's own.
+    Text(OwnText),
     /// Words over a folder.
     Line(CommandLine),
 }
@@ -24,8 +23,8 @@ impl Asked {
             return Asked::Line(line);
         }
         match line.folder.as_str() {
-            "--help" => Asked::Help,
-            "--version" => Asked::Version,
+            "--help" => Asked::Text(OwnText::Help),
+            "--version" => Asked::Text(OwnText::Version),
             _ => Asked::Line(line),
         }
     }

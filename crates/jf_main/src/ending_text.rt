@@ -1,5 +1,6 @@
 // All that standard error tells of an end, line by line.
-ghost use Rattle.std.specs.Prelude.{◌≡◌, Some, option_map, is_some};
+ghost use Rattle.std.specs.Prelude.{◌≡◌, Some, option_map};
+ghost use Rattle.jf_folder.specs.Causes.{cause_text};
 ghost use Rattle.jf_main.specs.EndingTexts.{cause_lines, ending_text, note_lines, status_lines};
 
 use crate::ending::Ending;
@@ -22,7 +23,7 @@ impl EndingText {
     /// What is told of this end.
     pub fn of(ending: &Ending) -> EndingText
         ensures status { result.status ≡ ending.now.status }
-        ensures cause { is_some result.cause ≡ is_some ending.now.cause }
+        ensures cause { option_map (λ w. w.now) result.cause ≡ option_map cause_text ending.now.cause }
         ensures note { result.note ≡ ending.now.note }
     {
         let (status, note) = (ending.status, ending.note);

@@ -2,7 +2,7 @@
 ghost use Rattle.std.specs.Prelude.{◌≡◌, ◌≤◌, ◌⊎◌, None, ◌++◌, option_map};
 ghost use Rattle.jf_path.specs.Faults.{HasCause};
 ghost use Rattle.jf_io.specs.Sink.{IsCutShort};
-ghost use Rattle.jf_main.specs.Help.{help_text, more_usage_text, version_text};
+ghost use Rattle.jf_main.specs.Help.{help_text, more_usage_text, own_text, version_text};
 
 use crate::ending::Ending;
 use jf_io::{Sink, put_all};
@@ -17,7 +17,7 @@ pub fn more_usage_text() -> &'static str
 
 /// What `--help` writes: how the program is called, what each mode does, an example, and where to read on.
 #[tactic(auto, unfolding(crate::specs::Help::help_text))]
-pub fn help_text() -> &'static str
+fn help_text() -> &'static str
     ensures { result.now ≡ help_text }
 {
     "\
@@ -44,22 +44,43 @@ docs/FORMATS.md has all words, replies and statuses, docs/OPERATING.md what oper
 }
 
 /// What `--version` writes: the program's version, and the formats of files that it reads.
-pub fn version_text() -> &'static str
+fn version_text() -> &'static str
     ensures { result.now ≡ version_text }
 {
     "jellystore 1.0.0 (files: formats 1 and 2)\n"
 }
 
-/// Writes a text into a sink, and returns how that ended: `WriteFault` if the sink failed and took less than all.
-pub fn write_text<K: Sink>(text: &str, sink: &mut K) -> Ending
+/// A text that the program writes of itself.
+#[derive(Clone, Copy, Debug, PartialEq, Eq, Drop)]
+pub enum OwnText {
+    /// How the program is called.
+    Help,
+    /// Which version of the program this is.
+    Version,
+}
+
+impl OwnText {
+    /// Its words, with the line feeds.
+    pub fn words(self) -> &'static str
+        ensures { result.now ≡ own_text self }
+    {
+        match self {
+            OwnText::Help => help_text(),
+            OwnText::Version => version_text(),
+        }
+    }
+}
+
+/// Writes a text of the program's own into a sink, and returns how that ended: `WriteFault` if the sink failed and took less than all.
+pub fn write_text<K: Sink>(text: OwnText, sink: &mut K) -> Ending
     ensures ends { (result.status ≡ Status.Done) ⊎ (result.status ≡ Status.WriteFault) }
-    ensures written { result.status ≡ Status.Done → K.text sink.new ≡ option_map (λ t. t ++ text.now) (K.text sink.old) }
-    ensures cut_short { result.status ≡ Status.WriteFault → IsCutShort (K.text sink.old) (K.text sink.new) text.now }
+    ensures written { result.status ≡ Status.Done → K.text sink.new ≡ option_map (λ t. t ++ own_text text) (K.text sink.old) }
+    ensures cut_short { result.status ≡ Status.WriteFault → IsCutShort (K.text sink.old) (K.text sink.new) (own_text text) }
     ensures cause { result.status ≡ Status.WriteFault → HasCause (K.faults sink.old) (K.faults sink.new) }
     ensures sink_counts { K.faults sink.old ≤ K.faults sink.new }
     ensures silent { (result.cause ≡ None) × (result.note ≡ None) }
 {
-    match put_all(sink, text.as_bytes()) {
+    match put_all(sink, text.words().as_bytes()) {
         Ok(()) => Ending::of_status(Status::Done),
         Err(_) => Ending::of_status(Status::WriteFault),
     }

@@ -20,7 +20,7 @@ pub use checking::{asks_check, check_over, files_at};
 pub use command_line::CommandLine;
 pub use ending::Ending;
 pub use ending_text::EndingText;
-pub use help::{help_text, more_usage_text, version_text, write_text};
+pub use help::{OwnText, more_usage_text, write_text};
 pub use note::Note;
 pub use place::disk_at;
 pub use program::run;

@@ -7,7 +7,7 @@ use crate::checking::{asks_check, check_over, files_at};
 use crate::command_line::CommandLine;
 use crate::ending::Ending;
 use crate::ending_text::EndingText;
-use crate::help::{help_text, version_text, write_text};
+use crate::help::write_text;
 use crate::note::Note;
 use crate::place::disk_at;
 use jf_folder::AnyDisk;
@@ -67,8 +67,7 @@ fn run_asked<R: Runtime + Files<File = File> + AllocGlobal + Threads + Wait + Sy
     asked: Asked,
 ) -> Ending {
     match asked {
-        Asked::Help => write_text(help_text(), &mut StdSink::new(io::writer(rt))),
-        Asked::Version => write_text(version_text(), &mut StdSink::new(io::writer(rt))),
+        Asked::Text(text) => write_text(text, &mut StdSink::new(io::writer(rt))),
         Asked::Line(line) => run_line(rt, &line),
     }
 }
