@@ -76,7 +76,7 @@ call_limit (Imports version es) = 10
 abbrev pub IsDatedEngine : Engine → Type 0
 IsDatedEngine e = (h : History) → e.history ≡ Some h → length h.before ≡ e.moment
 
--- the step succeeded, in four calls on the disk or more
+-- the step succeeded, in four calls on the disk or more, of which none failed
 pub record HasStepped (step : StoreStep) (old new : Engine) : Type 0 where
   pub could : CanStep step old
   pub versions_are : new.versions ≡ versions_after_step step old.versions
@@ -84,7 +84,7 @@ pub record HasStepped (step : StoreStep) (old new : Engine) : Type 0 where
   pub whole : new.broken ≡ false
   pub least : old.moment + 4 ≤ new.moment
   pub most : new.moment ≤ old.moment + call_limit step
-  pub faults : old.faults ≤ new.faults
+  pub faults : new.faults ≡ old.faults
   pub untold : old.history ≡ None → new.history ≡ None
   pub began : IsDatedEngine old
   pub dated : IsDatedEngine new

@@ -86,6 +86,7 @@ begun_kept e fresh = record {
   dated = le_refl e.moment;
   moment = le_refl e.moment;
   faults = le_refl e.faults;
+  calm = λ untried. refl;
   broken = fresh.whole;
   cause = λ some. absurd (cc);
   outlasts = λ h told. none_outlasted e h fresh.sound (fresh.dated h told) (fresh.settled h told);
