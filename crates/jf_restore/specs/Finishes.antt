@@ -26,7 +26,7 @@ pub record CanImport (e : Engine) (es : Entries) : Type 0 where
   pub few : length es ≤ 2 ^ 62
 
 -- a version with these entries was imported: it is the one version, in the next generation; the files hold its checkpoint
--- alone; and as a step the import succeeded
+-- alone; as a step the import succeeded, and no call on the disk failed
 pub record HasImported (version : ℕ) (es : Entries) (old new : Engine) : Type 0 where
   pub could : CanImport old es
   pub versions_are : new.versions ≡ imported version (map_of_entries es)
@@ -34,7 +34,7 @@ pub record HasImported (version : ℕ) (es : Entries) (old new : Engine) : Type 
   pub whole : new.broken ≡ false
   pub least : old.moment + 4 ≤ new.moment
   pub most : new.moment ≤ old.moment + 10
-  pub faults : old.faults ≤ new.faults
+  pub faults : new.faults ≡ old.faults
   pub checkpoint : OnHistories old.history new.history (λ h g. HoldImported (reads g) (old.generation + 1) version es)
   pub succeeds : OnHistories old.history new.history (λ h g. Succeeds (Imports version es) h g old.versions)
   pub untold : old.history ≡ None → new.history ≡ None

@@ -80,6 +80,7 @@ module _ (c : ProgramCall) (version n : ℕ) (announced : List ℕ) (all_sound :
           read = λ e. absurd (let no : status.Elsewhere 0 (root fin.empty) ≡ status.ReadFault = sym is ∙ e in cc);
           write = λ e. absurd (let no : status.Elsewhere 0 (root fin.empty) ≡ status.WriteFault = sym is ∙ e in cc);
           disk = λ e. absurd (let no : status.Elsewhere 0 (root fin.empty) ≡ status.DiskFault = sym is ∙ e in cc);
+          calm = λ e. found.faults;
         };
         damage = record {
           damaged = λ h told side at e. absurd (let no : status.Elsewhere 0 (root fin.empty) ≡ status.Damaged side at = sym is ∙ e in cc);

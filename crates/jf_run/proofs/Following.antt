@@ -24,7 +24,7 @@ use Rattle.jf_run.specs.declared.status.Status.{Status}
 use Rattle.jf_run.specs.declared.status.Status.TheVariants as status
 use Rattle.jf_run.proofs.Complete.{steady_ends}
 use Rattle.jf_run.proofs.KeptInTurn.{KeepsLandings}
-use Rattle.jf_run.proofs.Opened.{TellsEnd, kept_goes, opened_called, opened_keeps, opened_stands, rose}
+use Rattle.jf_run.proofs.Opened.{TellsEnd, calm_since, kept_goes, opened_called, opened_keeps, opened_stands, rose}
 use Rattle.jf_run.proofs.RunsLaws.{beginning, kept-KeepsEntries}
 
 -- ---- the status
@@ -135,6 +135,8 @@ module _ (c : ProgramCall) (head n : ℕ) (old new : Engine) (how : Followed) (b
         read = λ e. read (read_told how (sym is ∙ e));
         write = λ e. write (write_told how (sym is ∙ e));
         disk = λ e. rose c head s (engine_disk old) begun goes (disk_caused old new c.entries c.before.rest c.after.rest c.before.text c.after.text attempt how came tried old.faults c.after.disk.faults kept.cause (sym is ∙ e));
+        calm = λ e. calm_since c head s (engine_disk old) begun goes
+            (kept.calm (none_tried old new c.entries c.before.rest c.after.rest c.before.text c.after.text attempt how came tried (subst (λ (st : Status). IsFalse (is_disk_fault st)) (sym e ∙ is) refl)));
       } in
       let tells : TellsEnd c = record { usage = λ e. no_usage how (sym is ∙ e); damage = λ side at e. no_damage how side at (sym is ∙ e); causes = causes } in
       opened_keeps c head s (engine_disk old) begun goes none_stand (mode.Follow n) asks refl (λ other. absurd (other refl)) start tells

@@ -72,7 +72,7 @@ pub history_keeps : (c : ProgramCall) (version head : ℕ) (s : State) (how : Ho
     → c.asks ≡ Some (mode.History version) → c.start ≡ Some head → c.status ≡ status_of_history how → WritesHistory how s.all version c.before.text c.after.text
     → c.after.rest ≡ c.before.rest → c.after.source_faults ≡ c.before.source_faults → (how ≡ Err fault.WriteFault → HasCause c.before.sink_faults c.after.sink_faults) → c.before.sink_faults ≤ c.after.sink_faults → KeepsPromises c
 history_keeps c version head s how only none_stand asks start is written rest faults write sink =
-    let causes : HasCauses c = record { read = λ r. absurd (no_read how (sym is ∙ r)); write = λ w. write (write_told how (sym is ∙ w)); disk = λ d. absurd (no_disk how (sym is ∙ d)) } in
+    let causes : HasCauses c = record { read = λ r. absurd (no_read how (sym is ∙ r)); write = λ w. write (write_told how (sym is ∙ w)); disk = λ d. absurd (no_disk how (sym is ∙ d)); calm = λ d. only.begun.opening.faults } in
     read_only_keeps c head s only none_stand (mode.History version) asks refl start
     (record { usage = λ u. no_usage how (sym is ∙ u); damage = λ side at d. no_damage how side at (sym is ∙ d); causes = causes })
     (subst (λ (o : Option ℕ). IfSome o (IsHistoryCall c version)) (sym start) (record {

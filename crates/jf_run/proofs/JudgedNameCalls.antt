@@ -3,6 +3,7 @@ use Rattle.std.specs.Prelude.{IfSome, IfNone, IsTrue}
 use Rattle.std.proofs.Common.{◌≡◌, ◌⊎◌, ◌∙◌, ◌≤◌, ℕ, [], List, Option, Some, None, true≢false, sym, subst, ap}
 use Rattle.jf_path.specs.Faults.{HasCause}
 use Rattle.jf_files.specs.Laws.{FilesStandForSound}
+use Rattle.jf_engine.specs.Openings.{DiskView}
 use Rattle.jf_words.specs.Shapes.{IsIdleWithoutStore, asked_shape}
 use Rattle.jf_words.specs.declared.modes.Mode.{Mode}
 use Rattle.jf_words.specs.declared.modes.Mode.TheVariants as mode
@@ -24,7 +25,7 @@ names_keep c root name all_sound same start none asks j silent read write source
     let closed_mode : IsTrue (asked_shape c.asks).opens → ⊥ = λ words. true≢false (sym words ∙ ap (λ (o : Option Mode). (asked_shape o).opens) asks) in
     record {
       words = record { usage = λ e. absurd (names_words c.status root name _ _ _ _ j e); usage_only = λ e. absurd (let no : Some (mode.Judge root name) ≡ None = sym asks ∙ e in cc); start = λ e. start; entries = λ other. none };
-      causes = record { read = read; write = write; disk = λ e. absurd (names_disk c.status root name _ _ _ _ j e) };
+      causes = record { read = read; write = write; disk = λ e. absurd (names_disk c.status root name _ _ _ _ j e); calm = λ e. ap (λ (d : DiskView). d.faults) same };
       damage = record {
         damaged = λ h told side at e. absurd (names_files c.status root name _ _ _ _ j side at e);
         damage_named = λ h told side at words here. absurd (closed_mode words);

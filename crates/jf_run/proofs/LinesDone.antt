@@ -24,7 +24,7 @@ use Rattle.jf_run.specs.Runs.{IsDatedDisk, IsBegun, HasLasted, HasRun, HasLed, H
 use Rattle.jf_run.specs.Statuses.{status_of, status_of_led}
 use Rattle.jf_run.specs.declared.status.Status.TheVariants as status
 use Rattle.jf_run.proofs.Complete.{ends_well, steady_ends}
-use Rattle.jf_run.proofs.Opened.{TellsEnd, kept_goes, opened_called, opened_keeps, opened_stands, rose}
+use Rattle.jf_run.proofs.Opened.{TellsEnd, calm_since, kept_goes, opened_called, opened_keeps, opened_stands, rose}
 use Rattle.jf_run.proofs.Statuses.{attempt_none, fault_caused, no_damage, no_fault, no_usage, status_of_led-whole}
 
 module _ (c : ProgramCall) (head : ℕ) (s : State) (disk : DiskView) (e : End) (is_cut : Bool) (attempt : Option Entry) (done : List (List ℕ)) (next : Option (List ℕ)) (begun : IsBegun s c.before.disk disk head) (is : c.status ≡ status_of_led e is_cut)
@@ -35,6 +35,8 @@ module _ (c : ProgramCall) (head : ℕ) (s : State) (disk : DiskView) (e : End) 
     read = read;
     write = write;
     disk = λ d. rose c head s disk begun (kept_goes s disk c.after.disk c.entries attempt lasted.kept) (fault_caused e is_cut (answers s done) next attempt disk.faults c.after.disk.faults tries lasted.kept.cause (sym is ∙ d));
+    calm = λ d. calm_since c head s disk begun (kept_goes s disk c.after.disk c.entries attempt lasted.kept)
+        (lasted.kept.calm (attempt_none e is_cut (answers s done) next attempt tries (λ f. let no : status.Done ≡ status.DiskFault = sym d ∙ is ∙ f in cc)));
   }
 
   -- what the status tells of lines that were done

@@ -111,7 +111,7 @@ pub many_keeps : (c : ProgramCall) (version head : ℕ) (s : State) (how : How) 
     → (how ≡ Err fault.ReadFault → HasCause c.before.source_faults c.after.source_faults) → (how ≡ Err fault.WriteFault → HasCause c.before.sink_faults c.after.sink_faults)
     → c.before.source_faults ≤ c.after.source_faults → c.before.sink_faults ≤ c.after.sink_faults → KeepsPromises c
 many_keeps c version head s how only none_stand asks start is answered line untouched silent read write source sink =
-    let causes : HasCauses c = record { read = λ e. read (read_told how (sym is ∙ e)); write = λ e. write (write_told how (sym is ∙ e)); disk = λ e. absurd (no_disk how (sym is ∙ e)) } in
+    let causes : HasCauses c = record { read = λ e. read (read_told how (sym is ∙ e)); write = λ e. write (write_told how (sym is ∙ e)); disk = λ e. absurd (no_disk how (sym is ∙ e)); calm = λ e. only.begun.opening.faults } in
     read_only_keeps c head s only none_stand (mode.Many version) asks refl start
     (record { usage = λ u. no_usage how (sym is ∙ u); damage = λ side at d. no_damage how side at (sym is ∙ d); causes = causes })
     (subst (λ (o : Option ℕ). IfSome o (IsManyCall c version)) (sym start) (record {

@@ -72,6 +72,7 @@ module _ (c : ProgramCall) (version n head : ℕ) (announced : List ℕ) (s : St
         read = λ e. absurd (let no : status.Elsewhere head (root_of s.all head) ≡ status.ReadFault = sym is ∙ e in cc);
         write = λ e. absurd (let no : status.Elsewhere head (root_of s.all head) ≡ status.WriteFault = sym is ∙ e in cc);
         disk = λ e. absurd (let no : status.Elsewhere head (root_of s.all head) ≡ status.DiskFault = sym is ∙ e in cc);
+        calm = λ e. only.begun.opening.faults;
       } in
       let source : c.after.source_faults ≡ c.before.source_faults = ap (λ (d : Devices). d.source_faults) untouched in
       let sink : c.after.sink_faults ≡ c.before.sink_faults = ap (λ (d : Devices). d.sink_faults) untouched in

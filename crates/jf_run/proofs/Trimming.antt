@@ -34,8 +34,8 @@ use Rattle.jf_run.specs.Trimming.{IsTrimmedCall, TellsTrimmed}
 use Rattle.jf_run.specs.declared.status.Status.{Status}
 use Rattle.jf_run.specs.declared.status.Status.TheVariants as status
 use Rattle.jf_run.proofs.Complete.{steady_ends}
-use Rattle.jf_run.proofs.Opened.{GoesOnDisk, known_keeps, rose}
-use Rattle.jf_run.proofs.Statuses.{damage_told, refused_disk, refused_read, refused_words, refused_write}
+use Rattle.jf_run.proofs.Opened.{GoesOnDisk, calm_since, known_keeps, rose}
+use Rattle.jf_run.proofs.Statuses.{damage_told, refused_disk, refused_done, refused_read, refused_words, refused_write}
 
 abbrev How : Type 0
 How = Result Trimmed PairFault
@@ -66,6 +66,11 @@ no_usage how s (inl is) e = absurd (cc)
 no_usage how s (inr (inl is)) e = absurd (cc)
 no_usage how s (inr (inr (inl is))) e = absurd (cc)
 no_usage how s (inr (inr (inr w))) e = refused_words (of_pair w.0) (sym w.2 ∙ e)
+
+-- after a good end all was done
+done_calm : (P : Type 0) (how : How) (s : Status) (text text' : Option (List ℕ)) → TellsTrimmed how s text text' → s ≡ status.Done → OnOk how P → P
+done_calm P (Ok t) s text text' told e calm = calm
+done_calm P (Err why) s text text' told e calm = absurd (refused_done (of_pair why) (sym told.0 ∙ e))
 
 no_read : (how : How) (s : Status) → EndsSo how s → s ≡ status.ReadFault → ⊥
 no_read how s (inl is) e = absurd (cc)
@@ -197,6 +202,7 @@ trimmed_keeps c head e how none_stand one law sound begun settled asks start non
       read = λ r. absurd (no_read how c.status so r);
       write = write;
       disk = λ d. rose c head s disk begun goes_on (calls.cause (fault_told how c.status so d));
+      calm = λ d. calm_since c head s disk begun goes_on (done_calm _ how c.status c.before.text c.after.text told d calm);
     } in
     let no_damage : (h : History) → c.before.disk.history ≡ Some h → (side : Side) (at : ℕ) → c.status ≡ status.Damaged side at → ⊥ = λ h known side at d.
     let opening = begun.opening.disk h known in
