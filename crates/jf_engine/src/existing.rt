@@ -40,10 +40,15 @@ impl<D: Disk> Engine<D> {
         mut disk: D,
         workers: Workers,
     ) -> Result<Existing<D>, OpenRefused<D>>
+        // It is the store that the files stand for, or the disk is handed back since no side holds a record.
         ensures found { IfOk result (HasFoundExisting D.Disk (disk_view (D.history disk) (D.moment disk) (D.faults disk))) }
+        // After a refusal the files are unchanged, and the refusal's reason holds.
         ensures refused { IfErr result (λ e. HasRefused (disk_view (D.history disk) (D.moment disk) (D.faults disk)) (disk_view (D.history e.disk) (D.moment e.disk) (D.faults e.disk)) e.why) }
+        // Whatever is returned as a refusal, the files are those from before, also after a crash.
         ensures left { IfErr result (λ e. OnHistories (D.history disk) (D.history e.disk) LeavesFiles) }
+        // Damaged files are never opened.
         ensures damage { ForSome (D.history disk) (λ h. (side : Side) (at : ℕ) → IsDamagedAt (reads h) side at → IsErr result) }
+        // An opened store takes changes.
         ensures whole { IfOk result (λ x. IfSome (store_in x) (λ e. e.broken ≡ false)) }
     {
         match seek(rt, alloc, &mut disk, workers) {

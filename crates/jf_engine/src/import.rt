@@ -44,10 +44,15 @@ impl<D: Disk> Engine<D> {
         version: u64,
         entries: &Pairs,
     ) -> Result<(), EngineFault>
+        // The version is one that a store may have.
         requires last { version ≤ 2 ^ 64 - 2 }
+        // The keys of the entries rise.
         requires sorted { T (fin.is_sorted key_cmp entries.now) }
+        // Each value has at most 4,096 bytes.
         requires short { AreShortEntries entries.now }
+        // The store holds that one version, or the refusal's reason holds; a crash leaves the one or the other.
         ensures step { HasEnded (Imports version entries.now) self.old self.new result }
+        // After success the live side holds one checkpoint with these entries.
         ensures checkpoint { OnOk result (OnHistories self.old.history self.new.history (λ h g. HoldImported (reads g) (self.old.generation + 1) version entries.now)) }
     {
         if self.broken {

@@ -40,7 +40,9 @@ impl<D: Disk> Engine<D> {
         workers: Workers,
         gate: &G,
     ) -> Result<Landed, EngineFault>
+        // The batch is the next version, or the refusal's reason holds; a crash leaves the versions before or after.
         ensures step { HasEnded (Lands (batch.now ∷ [])) self.old self.new result }
+        // What is returned is the new head, its root, and the moment at which it was safe.
         ensures answer { IfOk result (λ l. (l.version ≡ self.new.versions.head) × (l.root ≡ root (newest self.new.versions)) × (l.moment ≡ self.new.moment)) }
     {
         let _ = batch.as_slice();
@@ -67,7 +69,9 @@ impl<D: Disk> Engine<D> {
         workers: Workers,
         gate: &G,
     ) -> Result<Landed, LandFault>
+        // The batch is the next version if that has the root; otherwise nothing changed, or the refusal's reason holds.
         ensures step { HasEndedRooted (Some root.now) (batch.now ∷ []) self.old self.new result }
+        // What is returned is the new head, the root that was asked for, and the moment at which it was safe.
         ensures answer { IfOk result (λ l. (l.version ≡ self.new.versions.head) × (l.root ≡ root.now) × (l.moment ≡ self.new.moment)) }
     {
         let _ = batch.as_slice();
@@ -95,10 +99,15 @@ impl<D: Disk> Engine<D> {
         workers: Workers,
         gate: &G,
     ) -> Result<Landed, EngineFault>
+        // There is a batch to land.
         requires any { 1 ≤ length batches.now }
+        // There are at most as many batches as there may be forks.
         requires forks { length batches.now ≤ max_forks }
+        // Together they have at most as many keys as one batch may have.
         requires limited { key_count batches.now ≤ max_keys }
+        // Each batch is a version, or the refusal's reason holds; a crash leaves all of them or none.
         ensures step { HasEnded (Lands batches.now) self.old self.new result }
+        // What is returned is the new head, its root, and the moment at which it was safe.
         ensures answer { IfOk result (λ l. (l.version ≡ self.new.versions.head) × (l.root ≡ root (newest self.new.versions)) × (l.moment ≡ self.new.moment)) }
     {
         match self.land_each(rt, alloc, batches.as_slice(), None, workers, gate) {
