@@ -44,7 +44,9 @@ impl Model for Restore {
 impl Restore {
     /// A restore, without any entry yet, of a version below u64::MAX with an announced root.
     pub fn new(alloc: Global, version: u64, root: Hash) -> Restore
+        // The version is one that a store may have.
         requires { version < 2 ^ 64 - 1 }
+        // Nothing was added yet.
         ensures { result ≡ record { version = version; root = root; entries = [] } }
     {
         Restore {
@@ -59,7 +61,9 @@ impl Restore {
     /// Adds the entries of a chunk, whose values have at most 4,096 bytes each, if it is accepted after those that were
     /// added before. After a refusal the restore is unchanged.
     pub fn add(&mut self, fresh: &Pairs, proof: &RangeProof) -> Result<(), RestoreRefused>
+        // Each value has at most 4,096 bytes; `are_short` is the test.
         requires { HaveShortValues fresh.now }
+        // The entries come after those added before; or the first failing check is told, and the restore is unchanged.
         ensures { MatchResult result (λ _. IsAdded self.old self.new fresh.now proof.now) (λ why. IsNotAdded self.old self.new fresh.now proof.now why) }
     {
         self.add_uncounted::<Brand>(fresh, proof, Blank::new(1))
@@ -73,9 +77,13 @@ impl Restore {
         proof: &RangeProof,
         steps: &mut Steps<L>,
     ) -> Result<(), RestoreRefused>
+        // Each value has at most 4,096 bytes; `are_short` is the test.
         requires { HaveShortValues fresh.now }
+        // The entries come after those added before; or the first failing check is told, and the restore is unchanged.
         ensures added { MatchResult result (λ _. IsAdded self.old self.new fresh.now proof.now) (λ why. IsNotAdded self.old self.new fresh.now proof.now why) }
+        // At most 257 hashes are computed for each new entry, and 257 more.
         ensures cost { steps.new ≤ steps.old + 257 * (length fresh.now + 1) }
+        // A chunk that fails one of the first four checks is never hashed.
         ensures idle { IfErr result (λ why. IsUnhashed why → steps.new ≡ steps.old) }
     {
         match self.frontier.accept(&self.root, fresh, proof, steps) {
@@ -108,6 +116,7 @@ impl Restore {
     /// Returns how many entries were added, if their root is the announced one; otherwise refuses with the root that
     /// was found.
     pub fn whole(&self) -> Result<u64, RestoreRefused>
+        // It accepts exactly if the entries have the announced root; otherwise it tells the root that they have.
         ensures { MatchResult result (IsWhole self.now) (IsNotWhole self.now) }
     {
         self.whole_uncounted::<Brand>(Blank::new(1))
@@ -116,7 +125,9 @@ impl Restore {
     /// Does what `whole` does, and counts. A step is one hash computed: there are at most 257, however many entries
     /// were added.
     pub fn whole_counted<L: Ledger>(&self, steps: &mut Steps<L>) -> Result<u64, RestoreRefused>
+        // It accepts exactly if the entries have the announced root; otherwise it tells the root that they have.
         ensures whole { MatchResult result (IsWhole self.now) (IsNotWhole self.now) }
+        // At most 257 hashes are computed, however many entries there are.
         ensures cost { steps.new ≤ steps.old + 257 }
     {
         let found = self.frontier.root(steps);
@@ -139,6 +150,7 @@ impl Restore {
 
     /// How many entries were added so far.
     pub fn count(&self) -> u64
+        // The number of entries added so far.
         ensures { result ≡ length self.now.entries }
     {
         self.entries.len()
@@ -157,6 +169,7 @@ impl Restore {
         alloc: Global,
         engine: &mut Engine<D>,
     ) -> Result<u64, RestoreRefused>
+        // The store holds exactly that version, or the reason that is told holds; a crash leaves the one or the other.
         ensures { MatchResult result (IsFinished self engine.old engine.new) (IsNotFinished self engine.old engine.new) }
     {
         let count = self.whole()?;

@@ -6,6 +6,7 @@ use jf_path::{Bytes, Key, MAX_VALUE, Pairs};
 
 /// Whether each value has at most 4,096 bytes, as the values of a chunk must have before it is added.
 pub fn are_short(entries: &Pairs) -> bool
+    // True exactly if no value has more than 4,096 bytes.
     ensures { IsTrue result ↔ HaveShortValues entries.now }
 {
     have_short_values(entries.as_slice())
