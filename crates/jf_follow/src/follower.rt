@@ -35,6 +35,7 @@ impl<D: Disk> Model for Follower<D> {
 impl<D: Disk> Follower<D> {
     /// Follows from what a store has.
     pub fn new(engine: Engine<D>) -> Follower<D>
+        // It shows what the store shows.
         ensures { result ≡ engine }
     {
         Follower { engine }
@@ -42,6 +43,7 @@ impl<D: Disk> Follower<D> {
 
     /// The store.
     pub fn engine(&self) -> &Engine<D>
+        // The store that it follows with.
         ensures { result.now ≡ self.now }
     {
         &self.engine
@@ -49,6 +51,7 @@ impl<D: Disk> Follower<D> {
 
     /// Hands the store back.
     pub fn into_engine(self) -> Engine<D>
+        // The store that it followed with.
         ensures { result ≡ self }
     {
         self.engine
@@ -82,7 +85,9 @@ impl<D: Disk> Follower<D> {
         workers: Workers,
         gate: &G,
     ) -> Result<Taken, FollowFault>
+        // The landing is there, or the refusal's reason holds; each refusal but `DiskFault` changes nothing.
         ensures taken { TakesBlock (told_landing version root.now batch.now) self.old self.new result }
+        // It returns `Broken` exactly if the store was broken.
         ensures broken { (result ≡ Err FollowFault.Broken) ↔ (self.old.broken ≡ true) }
     {
         if self.engine.broken() {

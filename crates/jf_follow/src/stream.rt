@@ -55,13 +55,21 @@ pub fn follow_stream<S: Source, K: Sink, D: Disk, H: Threads + Sync, G: Gate>(
     workers: Workers,
     gate: &G,
 ) -> FollowedInput<D>
+    // The store takes changes.
     requires whole { engine.broken ≡ false }
+    // What the store holds, what was taken of the input, and what was written, by how it ended.
     ensures followed { HasFollowed result.how engine result.engine result.entries (S.rest source.old) (S.rest source.new) (K.text sink.old) (K.text sink.new) }
+    // It returns a fault of the source only if the source counted one.
     ensures read { result.how ≡ Followed.ReadFault → HasCause (S.faults source.old) (S.faults source.new) }
+    // It returns a fault of the sink only if the sink counted one.
     ensures write { result.how ≡ Followed.WriteFault → HasCause (K.faults sink.old) (K.faults sink.new) }
+    // Nothing is written before the end of the input.
     ensures silent { result.how ≢ Followed.Done → result.how ≢ Followed.WriteFault → sink.new ≡ sink.old }
+    // Only a fault of the disk breaks the store.
     ensures whole { (result.how ≡ Followed.DiskFault) ⊎ (result.engine.broken ≡ false) }
+    // The source's count of faults doesn't fall.
     ensures source_counts { S.faults source.old ≤ S.faults source.new }
+    // The sink's count of faults doesn't fall.
     ensures sink_counts { K.faults sink.old ≤ K.faults sink.new }
 {
     let following = Following {
