@@ -45,14 +45,23 @@ pub fn run<S: Source, K: Sink, D: Disk, H: Threads + Wait + Sync, G: Gate>(
     workers: Workers,
     gate: &G,
 ) -> Ran<D>
+    // The pass is one of this store's.
     requires own { IsPassOf pass store.now }
+    // It has seen no fault of the disk.
     requires unmarked { is_marked pass.seen ≡ false }
+    // It pins nothing.
     requires unpinned { pass.pinned ≡ none_pinned }
+    // The pass that is handed back is the same one of this store.
     ensures own { IsPassOf result.pass store.now × (result.pass.number ≡ pass.number) }
+    // Each line that was done was answered by what the store held, and its reply written, by how the run ended.
     ensures ran { HasRunOver result.end store.now.start pass result.pass (S.rest source.old) (S.rest source.new) (K.text sink.old) (K.text sink.new) }
+    // It returns a fault of the source only if the source counted one.
     ensures read { result.end ≡ End.ReadFault → HasCause (S.faults source.old) (S.faults source.new) }
+    // It returns a fault of the sink only if the sink counted one.
     ensures write { result.end ≡ End.WriteFault → HasCause (K.faults sink.old) (K.faults sink.new) }
+    // The source's count of faults doesn't fall.
     ensures source_counts { S.faults source.old ≤ S.faults source.new }
+    // The sink's count of faults doesn't fall.
     ensures sink_counts { K.faults sink.old ≤ K.faults sink.new }
 {
     none_answered();

@@ -45,8 +45,11 @@ impl<D: Disk> Model for Session<D> {
 impl<D: Disk> Session<D> {
     /// A session that has done no line yet: nothing is pending, and nothing is pinned.
     pub fn new(alloc: Global, pass: Pass<D>) -> Session<D>
+        // The pass has seen no fault of the disk.
         requires unmarked { is_marked pass.seen ≡ false }
+        // It pins nothing.
         requires unpinned { pass.pinned ≡ none_pinned }
+        // The session has this pass, and nothing is pending.
         ensures { result ≡ new_session pass }
     {
         Session {
@@ -58,6 +61,7 @@ impl<D: Disk> Session<D> {
 
     /// Ends the session, and hands back its pass. What is pending is dropped; what is pinned stays pinned.
     pub fn end(self) -> Pass<D>
+        // The session's pass.
         ensures { result ≡ self.pass }
     {
         let Session {
@@ -70,6 +74,7 @@ impl<D: Disk> Session<D> {
 
     /// What holds of every session, for proofs.
     pub fn know(&self)
+        // It is over or has seen no fault of the disk, and what it pins has the maps of its versions.
         ensures { IsSoundSession self.now }
     {
         let _ = &self.pass;
@@ -78,7 +83,9 @@ impl<D: Disk> Session<D> {
     /// What holds of every session on a store, for proofs: what it keeps for itself has the number of its pass, and the pins
     /// that its pass holds on the board.
     pub fn know_own(&self, store: &Store<D>)
+        // It has the number of its pass.
         ensures number { self.now.own.number ≡ self.now.pass.number }
+        // It has the pins of its pass, and the board has them too.
         ensures pins { HoldsPins self.now }
     {
         self.pass.know_pins(store);
@@ -86,7 +93,9 @@ impl<D: Disk> Session<D> {
 
     /// What holds of every session over a pass of a store, for proofs: what its pass has seen is a legal history of the store.
     pub fn know_events(&self, store: &Store<D>)
+        // The session's pass is one of this store's.
         requires { IsPassOf self.now.pass store.now }
+        // What the pass has seen is a legal history of the store.
         ensures { AreEvents store.now.start self.now.pass.seen }
     {
         self.pass.know(store);
@@ -126,15 +135,25 @@ impl<D: Disk> Session<D> {
         gate: &G,
         out: &mut Bytes,
     ) -> Result<(), Stop>
+        // The session's pass is one of this store's.
         requires own { IsPassOf self.old.pass store.now }
+        // The session isn't over.
         requires over { self.old.over ≡ false }
+        // The pass is still one of this store's.
         ensures own { IsPassOf self.new.pass store.now }
+        // The line was done over what the pass has seen, and its reply appended.
         ensures ok { OnOk result ((r : Answered) × HasReplied store.now.start self.old self.new line.now r × (out.new ≡ out.old ++ r.text)) }
+        // After success the session goes on.
         ensures goes_on { OnOk result (self.new.over ≡ false) }
+        // After an error nothing was appended.
         ensures silent { OnErr result (out.new ≡ out.old) }
+        // After an error the session is over.
         ensures ends { OnErr result (self.new.over ≡ true) }
+        // If the disk failed, the line's change is the attempt that the pass marked.
         ensures fault { result ≡ Err Stop.DiskFault → IsTry store.now.start self.old self.new line.now }
+        // If the store is broken, nothing was done, and the pass has seen the mark.
         ensures broken { result ≡ Err Stop.Broken → IsBroken self.old self.new line.now }
+        // If memory ran out, nothing was done, or the line was done and its reply is lost.
         ensures memory { result ≡ Err Stop.Memory → HasDoneNothing self.old self.new line.now ⊎ ((r : Answered) × HasReplied store.now.start self.old self.new line.now r) }
     {
         let mut block = Bytes::new(alloc);
