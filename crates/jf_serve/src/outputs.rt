@@ -22,6 +22,7 @@ impl Model for Outputs {
 impl Outputs {
     /// How many there are.
     pub fn len(&self) -> u64
+        // The number of outputs.
         ensures { result ≡ length self.now }
     {
         self.texts.len() as u64
@@ -29,6 +30,7 @@ impl Outputs {
 
     /// The outputs, that of session 0 first.
     pub fn as_slice(&self) -> &[Bytes]
+        // The outputs, in the order of their sessions.
         ensures { result.now ≡ self.now }
     {
         &self.texts
@@ -53,6 +55,7 @@ impl Model for Ends {
 impl Ends {
     /// How many there are.
     pub fn len(&self) -> u64
+        // The number of ends.
         ensures { result ≡ length self.now }
     {
         self.ends.len() as u64
@@ -60,6 +63,7 @@ impl Ends {
 
     /// The ends, that of session 0 first.
     pub fn as_slice(&self) -> &[End]
+        // The ends, in the order of their sessions.
         ensures { result.now ≡ self.now }
     {
         &self.ends

@@ -56,10 +56,15 @@ impl From<Memory> for InputFault {
 /// - `Full`: byte 67,108,865 was read, or a seventeenth session begins.
 /// - `Memory`: memory ran out.
 pub fn read_scripts<S: Source>(alloc: Global, source: &mut S) -> Result<Scripts, InputFault>
+    // There are 1 to 16 scripts.
     ensures number { IfOk result (λ scripts. (1 ≤ length scripts) × (length scripts ≤ max_sessions)) }
+    // The input was read to its end, isn't too large, and the scripts are those of its sessions.
     ensures ok { IfOk result (HasReadScripts (S.rest source.old) (S.rest source.new)) }
+    // It is refused as full only if it has too many bytes or sessions.
     ensures full { result ≡ Err InputFault.Full → (input : List ℕ) → S.rest source.old ≡ Some input → IsTooLarge input }
+    // It returns a fault of the source only if the source counted one.
     ensures read { result ≡ Err InputFault.ReadFault → HasCause (S.faults source.old) (S.faults source.new) }
+    // The source's count of faults doesn't fall.
     ensures counts { S.faults source.old ≤ S.faults source.new }
 {
     let input = read_to_end(alloc, source)?;

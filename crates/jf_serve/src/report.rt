@@ -51,9 +51,13 @@ pub fn write_served<K: Sink>(
     entries: &[Entry],
     sink: &mut K,
 ) -> Result<(), ReportFault>
+    // After success the whole report was appended.
     ensures ok { OnOk result (Appends (K.text sink.old) (K.text sink.new) (served_text outputs.now entries.now)) }
+    // After a refusal a front of the report was appended.
     ensures front { OnErr result (IsCutShort (K.text sink.old) (K.text sink.new) (served_text outputs.now entries.now)) }
+    // It returns a fault of the sink only if the sink counted one.
     ensures write { result ≡ Err ReportFault.WriteFault → HasCause (K.faults sink.old) (K.faults sink.new) }
+    // The sink's count of faults doesn't fall.
     ensures counts { K.faults sink.old ≤ K.faults sink.new }
 {
     let mut held = Bytes::new(alloc);

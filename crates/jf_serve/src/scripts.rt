@@ -40,6 +40,7 @@ impl Scripts {
 
     /// How many there are.
     pub fn len(&self) -> u64
+        // The number of scripts.
         ensures { result ≡ length self.now }
     {
         self.scripts.len() as u64
@@ -47,6 +48,7 @@ impl Scripts {
 
     /// The scripts, the first one first.
     pub fn as_slice(&self) -> &[Bytes]
+        // The scripts, in the order of their sessions.
         ensures { result.now ≡ self.now }
     {
         &self.scripts
