@@ -6,6 +6,7 @@ use jf_follow::inputs_agree;
 
 /// A store that had a leader's versions, and followed the whole text of its landings, has the leader's versions again.
 pub fn led_calls_are_followed()
+    // Whoever follows all that a leader wrote has the leader's versions.
     ensures { LedCallsAreFollowed }
 {
     inputs_agree();
@@ -14,6 +15,7 @@ pub fn led_calls_are_followed()
 /// Files that stood for what a leader's stood for, over which the whole text of its landings was followed, stand for all
 /// versions that the leader made of these.
 pub fn led_files_are_followed()
+    // The files of whoever follows all that a leader wrote stand for the leader's versions.
     ensures { LedFilesAreFollowed }
 {
     inputs_agree();

@@ -73,6 +73,7 @@ impl Status {
     /// The status after a script's run. A disk that failed in an earlier call is `DiskFault` too; a store of one pass never
     /// ends so.
     pub fn of_end(end: End) -> Status
+        // The status that stands for this end.
         ensures { result ≡ status_of end }
     {
         match end {
@@ -87,6 +88,7 @@ impl Status {
     /// The status after a script was led, and whether the sink failed. A fault of the sink ends no line, so another end
     /// goes before it.
     pub fn of_led(end: End, is_cut: bool) -> Status
+        // The status that stands for this end, and for a cut of the text if the run ended well.
         ensures { result ≡ status_of_led end is_cut }
     {
         match end {
@@ -97,6 +99,7 @@ impl Status {
 
     /// The status after an input was judged.
     pub fn of_verified(end: Verified) -> Status
+        // The status that stands for this end.
         ensures { result ≡ status_of_verified end }
     {
         match end {
@@ -109,6 +112,7 @@ impl Status {
 
     /// The status after a name was looked up in a reply.
     pub fn of_judged(end: Judged) -> Status
+        // The status that stands for this end.
         ensures { result ≡ status_of_judged end }
     {
         match end {
@@ -122,6 +126,7 @@ impl Status {
 
     /// The status if the store could not be opened.
     pub fn of_refusal(why: OpenFault) -> Status
+        // The status that stands for this refusal.
         ensures { result ≡ status_of_refusal why }
     {
         match why {
@@ -133,6 +138,7 @@ impl Status {
 
     /// The status after a version was to be restored.
     pub fn of_received(how: Received) -> Status
+        // The status that stands for this end.
         ensures { result ≡ status_of_received how }
     {
         match how {
@@ -147,6 +153,7 @@ impl Status {
 
     /// The status after the total of the recorded roots was to be written.
     pub fn of_history(written: Result<(), HistoryFault>) -> Status
+        // The status that stands for this result.
         ensures { result ≡ status_of_history written }
     {
         match written {
@@ -159,6 +166,7 @@ impl Status {
 
     /// The status after the names of an input were to be looked up in a version.
     pub fn of_names(answered: Result<(), NamesFault>) -> Status
+        // The status that stands for this result.
         ensures { result ≡ status_of_names answered }
     {
         match answered {
@@ -173,6 +181,7 @@ impl Status {
 
     /// The status after landing blocks were to be followed.
     pub fn of_followed(how: Followed) -> Status
+        // The status that stands for this end.
         ensures { result ≡ status_of_followed how }
     {
         match how {
@@ -187,6 +196,7 @@ impl Status {
 
     /// The status if the scripts of several sessions could not be read.
     pub fn of_input_fault(why: InputFault) -> Status
+        // The status that stands for this fault.
         ensures { result ≡ status_of_input_fault why }
     {
         match why {
@@ -198,6 +208,7 @@ impl Status {
 
     /// The status after several sessions, by how they ended and by how the report on them was written.
     pub fn of_served(ends: &[End], report: Result<(), ReportFault>) -> Status
+        // The status that stands for these ends and this report.
         ensures { result ≡ status_of_served ends.now report }
     {
         match report {
@@ -222,6 +233,7 @@ impl Status {
 
     /// The exit status of the process: 0 to 12.
     pub fn code(self) -> u8
+        // The number that the table has for this status.
         ensures { result ≡ code_of self }
     {
         match self {
