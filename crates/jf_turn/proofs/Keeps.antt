@@ -14,7 +14,7 @@ use Rattle.jf_turn.specs.Rule.{IsTurn, TurnAccount, FitsTurn, Hand, FitsHand, Is
 use Rattle.jf_turn.specs.declared.view.Stage.{Stage}
 use Rattle.jf_turn.specs.Lists.{HasElement, StartsWith, longer}
 use Rattle.jf_turn.specs.declared.view.Stage.TheVariants.{Spent, Idle, Opening, Holding}
-use Rattle.jf_turn.specs.Steps.{at_stage, turn_claimed, born, moved, released_seat, released, minted, seat_numbered, first_or_zero, maker_left, seat_right, compared, views_joined, spent}
+use Rattle.jf_turn.specs.Steps.{at_stage, turn_claimed, born, moved, released_seat, released, minted, seat_numbered, first_or_zero, maker_left, seat_right, note_right, compared, views_joined, spent}
 use Rattle.jf_turn.proofs.Words.{free_of_even}
 use Rattle.jf_turn.proofs.Lists.{at_append, starts_more, within, starts_self, put, put_else, has_cons, put_at, at_end, prefix_of, some_at, prefix_whole, has_append, has_left, has_right}
 
@@ -327,6 +327,38 @@ module _ {V E O : Type 0} (list : V → List E) (names : E → ℕ) (start_of : 
 
   pub splits : (id : ℕ) (v : W) (n : ℕ) → v.stage ≡ Idle → v.numbers ≡ n ∷ v.number ∷ [] → n ≢ v.number → Splits Rule id v (maker_left v) (seat_right v)
   splits id v n away two other s r at = splits_in s r id v n away two other at
+
+  -- a note stands for no number, so it fits whoever has the turn
+  note_fits : (entries : List E) (hs : Homes) (v : W) (h : Hand) → Stand entries hs (note_right v) h Idle
+  note_fits entries hs v free = λ k e there has. absurd (no_others (names e) has)
+  note_fits entries hs v (held_by n) = ((λ has. no_others n has), λ k e there has. absurd (no_others (names e) has))
+
+  notes_in : (s : St) (r : Rule s) (id : ℕ) (v : W) → v.stage ≡ Idle → get_elem? s.views id ≡ maybe.some v → Rule record { words = s.words; homes = s.homes; views = set s.views id v ++ note_right v ∷ [] }
+  notes_in s r id v away at =
+      let p = r.account in let fit = r.each id v at in let sit = sits_at s r id v (away_here v away) at in let w : W = note_right v in
+      let new_fits : (k : ℕ) → Fit p s.homes k w = λ k. (
+        (λ _. record { seen = sit.seen; other_seen = (p.entries, refl); others = λ n has. absurd (no_others n has); start = sit.start; numbers = λ n has. absurd (no_others n has); maker = λ e. absurd (let no_way : false ≡ true = e in cc) }),
+        note_fits p.entries s.homes v p.hand,
+      ) in record {
+        account = p;
+        wide = r.wide;
+        turn_is = r.turn_is;
+        count_is = r.count_is;
+        few = r.few;
+        bounded = r.bounded;
+        from = r.from;
+        home = r.home;
+        named = r.named;
+        each = λ j u e. ⊎_elim
+            (λ (h : get_elem? (set s.views id v) j ≡ maybe.some u). ⊎_elim (λ (t : (j ≡ id) × (v ≡ u)). subst (λ (x : ℕ × W). Fit p s.homes x.0 x.1) (λ i. (sym t.0 i, t.1 i)) fit)
+            (λ (t : (j ≢ id) × (get_elem? s.views j ≡ maybe.some u)). r.each j u t.1) (at_set s.views id j v u h))
+            (λ (t : (w ≡ u) × (j ≡ length (set s.views id v))). subst (λ (x : W). Fit p s.homes j x) t.0 (new_fits j))
+            (at_end (set s.views id v) w u j e);
+      }
+
+  -- a seat's list is written down
+  pub notes : (id : ℕ) (v : W) → v.stage ≡ Idle → Splits Rule id v v (note_right v)
+  notes id v away s r at = notes_in s r id v away at
 
   pub compares : (slots id : ℕ) (me : M) → me.0.stage ≡ Idle → Allows Rule slots id me 0 (λ x. x) (compared list names start_of (step slots 0 0 0 maybe.none) me)
   compares slots id me away s r len at _ = let p = r.account in let v = me.0 in let sit = sits_at s r id v (away_here v away) at in (

@@ -21,6 +21,12 @@ pub record SeatState (E O : Type 0) : Type 0 where
   pub seen : List E
   pub taken : Option (List E)
 
+-- of which turn a note is, that turn's start, and a front of its list
+pub record NoteState (E O : Type 0) : Type 0 where
+  pub turn : TableId
+  pub start : Option O
+  pub seen : List E
+
 module _ {E O : Type 0} where
   -- the seat is one of this turn's
   abbrev pub IsSeatOf : SeatState E O → TurnState O → Type 0
@@ -55,6 +61,18 @@ module _ {E O : Type 0} where
   abbrev pub joining : SeatState E O → SeatState E O → SeatState E O
   joining s other = record s { numbers = s.numbers ++ other.numbers; seen = longer s.seen other.seen }
 
+  -- the note is one of this turn's
+  abbrev pub IsNoteOf : NoteState E O → TurnState O → Type 0
+  IsNoteOf n t = (n.turn ≡ t.id) × (n.start ≡ Some t.start)
+
+  -- a note of all that a seat has seen
+  abbrev pub noted : SeatState E O → NoteState E O
+  noted s = record { turn = s.turn; start = s.start; seen = s.seen }
+
+  -- the seat after it learned a note: it has seen the longer list
+  abbrev pub learning : SeatState E O → NoteState E O → SeatState E O
+  learning s n = record s { seen = longer s.seen n.seen }
+
 -- ---- how a seat's view is shown, and what a seat has out of the turn's slot
 -- the list that a seat holds
 abbrev pub taken_at : {E : Type 0} → Stage E → Option (List E)
@@ -66,6 +84,10 @@ taken_at (Holding l) = Some l
 -- what clauses see of a view
 abbrev pub seat_state : {E O : Type 0} → TableId → SeatView E O → SeatState E O
 seat_state id v = record { turn = id; start = v.start; number = v.number; numbers = v.numbers; seen = v.seen; taken = taken_at v.stage }
+
+-- what clauses see of the view of a note
+abbrev pub note_state : {E O : Type 0} → TableId → SeatView E O → NoteState E O
+note_state id v = record { turn = id; start = v.start; seen = v.seen }
 
 -- a seat is idle, or it holds the turn and has the slot, which is empty
 abbrev pub Carries : {E V : Type 0} → Stage E → List (ℕ × Option V) → Type 0

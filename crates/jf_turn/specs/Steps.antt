@@ -72,6 +72,10 @@ module _ {E O : Type 0} where
   abbrev pub seat_right : SeatView E O → SeatView E O
   seat_right v = record { number = v.number; numbers = v.number ∷ []; seen = v.seen; other_seen = []; other_numbers = []; stage = Idle; start = v.start; is_maker = false; given = 0 }
 
+  -- noting: a new seat that stands for no number has seen what the seat has seen
+  abbrev pub note_right : SeatView E O → SeatView E O
+  note_right v = record { number = 0; numbers = []; seen = v.seen; other_seen = []; other_numbers = []; stage = Idle; start = v.start; is_maker = false; given = 0 }
+
   -- join: one seat stands for the numbers of both, and has seen the longer list
   abbrev pub views_joined : SeatView E O → SeatView E O → SeatView E O
   views_joined v w = record v { numbers = v.numbers ++ w.numbers; seen = longer v.seen w.seen; other_seen = shorter v.seen w.seen; other_numbers = shorter_numbers v.seen w.seen v.numbers w.numbers }

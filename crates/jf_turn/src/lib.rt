@@ -6,6 +6,7 @@ mod claiming;
 mod closing;
 mod giving;
 mod laws;
+mod note;
 mod opening;
 mod rule;
 mod seat;
@@ -19,6 +20,7 @@ pub use laws::{
     free_turn_has_its_value, holder_keeps_the_list, numbers_were_given, one_seat_holds,
     own_entries_are_seen, seats_stand_apart, seen_lists_agree,
 };
+pub use note::Note;
 pub use opening::TurnRefused;
 pub use seat::Seat;
 pub use told::Told;

@@ -4,9 +4,9 @@ ghost use mathlib.Core.Option.{some};
 ghost use lib.ListN.{get_elem?};
 ghost use Rattle.jf_turn.specs.declared.view.Stage.TheVariants.{Idle};
 ghost use Rattle.jf_turn.specs.Lists.{HasElement, StartsWith};
-ghost use Rattle.jf_turn.specs.Steps.{minted, maker_left, seat_right, views_joined};
+ghost use Rattle.jf_turn.specs.Steps.{minted, maker_left, seat_right, note_right, views_joined};
 
-use crate::steps::{Both, Compare, Number, Seating};
+use crate::steps::{Both, Compare, Noting, Number, Seating};
 use crate::told::Told;
 use crate::turn::Turn;
 use crate::view::SeatView;
@@ -26,6 +26,19 @@ pub(crate) fn make_seat<V: Told>(
 {
     turn.table.shared.fetch_add::<Number>(token, 1, 1);
     turn.table.shared.split_seat::<Seating>(token)
+}
+
+/// Makes a token without a number, which has seen what this one has seen.
+pub(crate) fn write_down<V: Told>(
+    turn: &Turn<V>,
+    token: &mut Token<Option<V>, SeatView<V::Entry, V::Start>>,
+) -> Token<Option<V>, SeatView<V::Entry, V::Start>>
+    requires own { token.old.table_id ≡ turn.now.id }
+    requires idle { token.old.me.0.stage ≡ Idle }
+    ensures unchanged { (token.new.table_id ≡ token.old.table_id) × (token.new.me ≡ token.old.me) }
+    ensures note { (result.table_id ≡ token.old.table_id) × (result.me ≡ (note_right token.old.me.0, [])) }
+{
+    turn.table.shared.split_seat::<Noting>(token)
 }
 
 /// Makes one token of two, which stands for the numbers of both.

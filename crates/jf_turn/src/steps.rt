@@ -1,5 +1,5 @@
 //! What each kind of step on the table tells the seat that takes it.
-ghost use Rattle.jf_turn.specs.Steps.{turn_claimed, born, moved, released, seat_numbered, compared, maker_left, seat_right, views_joined, spent};
+ghost use Rattle.jf_turn.specs.Steps.{turn_claimed, born, moved, released, seat_numbered, compared, maker_left, seat_right, note_right, views_joined, spent};
 
 use crate::told::Told;
 use crate::view::SeatView;
@@ -55,6 +55,15 @@ impl<E, O> Split<SeatView<E, O>> for Seating {
     ghost left = { maker_left };
 
     ghost right = { seat_right };
+}
+
+/// A load that writes down what a seat has seen, in a seat without a number.
+pub(crate) struct Noting;
+
+impl<E, O> Split<SeatView<E, O>> for Noting {
+    ghost left = { λ v. v };
+
+    ghost right = { note_right };
 }
 
 /// A load by which one seat stands for the numbers of two.

@@ -1,0 +1,98 @@
+//! What a seat has seen, written down: another seat of the turn can learn it, in any thread.
+ghost use Rattle.std.specs.Prelude.{◌≡◌, [], length, None};
+ghost use Rattle.jf_turn.specs.declared.view.Stage.TheVariants.{Idle};
+ghost use Rattle.jf_turn.specs.Lists.{StartsWith};
+ghost use Rattle.jf_turn.specs.Seats.{IsSeatOf, IsNoteOf, OthersFollow, noted, learning, note_state};
+
+use crate::seat::Seat;
+use crate::seating::{join, write_down};
+use crate::told::Told;
+use crate::turn::Turn;
+use crate::view::SeatView;
+use atomic_table::Seat as Token;
+use std::marker::Model;
+
+/// A front of a turn's list, as a seat had seen it. It stands for no number, so it can be made and learned while
+/// another seat holds the turn.
+pub struct Note<V: Told> {
+    token: Token<Option<V>, SeatView<V::Entry, V::Start>>,
+    seen: u64,
+}
+
+impl<V: Told> Model for Note<V> {
+    ghost use Rattle.std.specs.Prelude.{◌≡◌, [], length};
+    ghost use Rattle.jf_turn.specs.declared.view.Stage.TheVariants.{Idle};
+    ghost use Rattle.jf_turn.specs.Seats.{NoteState, note_state};
+
+    ghost Value = { NoteState V.Entry V.Start };
+
+    ghost view = { λ n. note_state n.token.table_id n.token.me.0 };
+
+    ghost invariant = { λ n. (n.seen ≡ length n.token.me.0.seen) × (n.token.me.0.stage ≡ Idle) × (n.token.me.0.numbers ≡ []) × (n.token.me.1 ≡ []) };
+}
+
+impl<V: Told> Drop for Note<V> {
+    fn drop(self) {
+        let Self { token: _, seen: _ } = self;
+    }
+}
+
+impl<V: Told> Note<V> {
+    fn into_token(self) -> Token<Option<V>, SeatView<V::Entry, V::Start>>
+        ensures { (note_state result.table_id result.me.0 ≡ self) × (result.me.0.stage ≡ Idle) × (result.me.0.numbers ≡ []) × (result.me.1 ≡ []) }
+    {
+        let Self { token, seen: _ } = self;
+        token
+    }
+
+    /// How many entries it has.
+    pub fn seen(&self) -> u64
+        ensures { result ≡ length self.now.seen }
+    {
+        self.seen
+    }
+
+    /// The same note once more. It waits for nobody.
+    pub fn again(&mut self, turn: &Turn<V>) -> Note<V>
+        requires own { IsNoteOf self.old turn.now }
+        ensures unchanged { self.new ≡ self.old }
+        ensures note { result ≡ self.old }
+    {
+        Note {
+            seen: self.seen,
+            token: write_down(turn, &mut self.token),
+        }
+    }
+}
+
+impl<V: Told> Seat<V> {
+    /// Writes down what the seat has seen. It waits for nobody.
+    pub fn note(&mut self, turn: &Turn<V>) -> Note<V>
+        requires own { IsSeatOf self.old turn.now }
+        requires idle { self.old.taken ≡ None }
+        ensures unchanged { self.new ≡ self.old }
+        ensures note { result ≡ noted self.old }
+    {
+        Note {
+            seen: self.seen,
+            token: write_down(turn, &mut self.token),
+        }
+    }
+
+    /// Learns a note. Of what the seat has seen and the note, one begins the other, and the seat has then seen the
+    /// longer; no entry that is new to it names a number that it stands for. It waits for nobody.
+    pub fn learn(&mut self, turn: &Turn<V>, note: Note<V>)
+        requires own { IsSeatOf self.old turn.now × IsNoteOf note turn.now }
+        requires idle { self.old.taken ≡ None }
+        ensures learns { self.new ≡ learning self.old note }
+        ensures begins { StartsWith self.new.seen self.old.seen }
+        ensures note_begins { StartsWith self.new.seen note.seen }
+        ensures others { OthersFollow V.names self.old self.new.seen }
+    {
+        let seen = note.seen;
+        join(turn, &mut self.token, note.into_token());
+        if self.seen < seen {
+            self.seen = seen;
+        }
+    }
+}
