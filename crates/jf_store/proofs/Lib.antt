@@ -38,3 +38,4 @@ pub mod CompactionCalls
 pub mod ReadingLaws
 pub mod ForkCalls
 pub mod Sending
+pub mod NewsLaws

@@ -21,6 +21,8 @@ use Rattle.jf_board.proofs.pruner.Pruner.TheSendSync as pruners
 use Rattle.jf_board.specs.contracts.pruner.Pruner as Pruner
 use Rattle.jf_turn.proofs.seat.Seat.TheSendSync as seats
 use Rattle.jf_turn.proofs.turn.Turn.TheSendSync as turns
+use Rattle.jf_turn.proofs.note.Note.TheSendSync as notes
+use Rattle.jf_window.proofs.window.Window.TheSendSync as windows
 use Rattle.jf_ghost.proofs.remembered.Remembered.TheSendSync as remembered
 use Rattle.jf_engine.specs.contracts.engine.Engine as Engine
 use Rattle.jf_engine.specs.contracts.versions_note.VersionsNote as VersionsNote
@@ -30,6 +32,9 @@ use Rattle.jf_store.specs.contracts.vault.Vault as Vault
 use Rattle.jf_store.specs.contracts.vault.Vault.TheInside as inside
 use Rattle.jf_store.specs.contracts.boxed_vault.BoxedVault as BoxedVault
 use Rattle.jf_store.specs.contracts.boxed_vault.BoxedVault.TheInside as boxed_inside
+use Rattle.jf_store.specs.contracts.look.Look as Look
+use Rattle.jf_store.specs.contracts.news.ShownLook as ShownLook
+use Rattle.jf_store.specs.contracts.news.News as News
 use Rattle.jf_store.specs.contracts.pins.Pins as Pins
 use Rattle.jf_store.specs.contracts.pins.Pins.TheInside as pins_inside
 use Rattle.jf_store.specs.contracts.pass.Pass as Pass
@@ -107,9 +112,21 @@ Pass-send D disk send =
     let whole : IsSend (pass_inside.the_row D disk) = recorded_send (Struct (shape T)) _ _ T.to_one (struct_send (shape T) fields) in
     view_send (pass_inside.the_row D disk) _ _ _ _ whole
 
+Look-send : IsSend Look.the_field.row
+Look-send = search (sendable, Snapshot-send, crosses) depth 20
+
+ShownLook-send : (D : RattleType) (disk : Ghosts D.Denot) → IsSend D → IsSend (ShownLook.the_row D disk)
+ShownLook-send D disk send =
+    let T = ShownLook.the_type D disk in
+    let fields : AllSend (shape T).fields = (search (notes.the_send, BoxedVault-send) depth 5, (Look-send, tt)) in
+    recorded_send (Struct (shape T)) _ _ T.to_one (struct_send (shape T) fields)
+
+News-send : (D : RattleType) (disk : Ghosts D.Denot) → IsSend D → IsSend (News.the_row D disk)
+News-send D disk send = search (sendable, crosses, ShownLook-send) depth 20
+
 pub Store-sync : (D : RattleType) (disk : Ghosts D.Denot) → IsSend D → IsSync (Store.the_row D disk)
 Store-sync D disk send =
     let T = store_inside.the_type D disk in
-    let fields : AllSync (shape T).fields = (search (turns.the_sync, BoxedVault-send) depth 5, (boards.the_sync, tt)) in
+    let fields : AllSync (shape T).fields = (search (turns.the_sync, BoxedVault-send) depth 5, (boards.the_sync, (search (sendable, crosses, windows.the_sync, News-send) depth 10, tt))) in
     let whole : IsSync (store_inside.the_row D disk) = recorded_sync (Struct (shape T)) _ _ T.to_one (struct_sync (shape T) fields) in
     view_sync (store_inside.the_row D disk) _ _ _ _ whole

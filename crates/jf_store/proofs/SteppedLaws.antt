@@ -1,5 +1,5 @@
 -- What keeps from a step on an engine that can take it.
-use Rattle.std.proofs.Common.{◌≡◌, inl, inr, refl, sym, ◌∙◌, true, false, true≢false, Result, Ok, Err}
+use Rattle.std.proofs.Common.{inl, inr, refl, sym, ◌∙◌, true≢false, Result, Ok, Err}
 use Rattle.jf_files.specs.Steps.{StoreStep}
 use Rattle.jf_engine.specs.Engines.{Engine}
 use Rattle.jf_engine.specs.EngineSteps.{CanStep, HasEnded}

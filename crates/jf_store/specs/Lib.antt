@@ -9,6 +9,7 @@ pub mod Refusals
 pub mod Vaults
 pub mod Looks
 pub mod Passes
+pub mod News
 pub mod Closing
 pub mod Pins
 pub mod Prunings

@@ -61,11 +61,18 @@ fn end_turn<D: Disk>(
 impl<D: Disk> Store<D> {
     /// Ends the store, by all of its passes. It waits for nobody and takes no memory. The pins of the passes are let go.
     pub fn close(self, mut passes: Vec<Pass<D>>) -> Closed<D>
+        // The passes are of this store.
         requires own { ArePassesOf self passes.items }
+        // They are all of its passes.
         requires all { AreAllPasses self passes.items }
+        // One history begins with all that each pass has seen, and engine and ledger are what it made.
         ensures { IsClosed self.start passes.items result.entries result.engine }
     {
-        let Store { turn, board } = self;
+        let Store {
+            turn,
+            board,
+            window: _,
+        } = self;
         let Some(first) = passes.pop() else {
             unreachable!()
         };

@@ -100,14 +100,19 @@ impl<D: Disk> Pass<D> {
         alloc: Global,
         store: &Store<D>,
     ) -> Result<u64, StoreFault>
+        // The pass is one of this store's.
         requires { IsPassOf self.old store.now }
+        // A checkpoint of the next generation was written, and its number is returned.
         ensures compacted { IfOk result (HasCompacted store.now.start self.old self.new) }
+        // The disk failed in it, and the mark was set; or it was refused over what the pass has seen, and did nothing.
         ensures failed { IfErr result (HasFailed store.now.start attempt.Compacts compact_faults self.old self.new) }
     {
         let mut vault = take_out(rt, &mut self.seat, &store.turn);
         let number = self.seat.number();
         let compacted = vault.compact(alloc, number);
+        let newest = vault.newest(store.window.is_some());
         self.marked = give_back(&mut self.seat, &store.turn, vault);
+        self.show(rt, store, newest);
         compacted
     }
 }

@@ -224,8 +224,11 @@ impl<D: Disk> Pass<D> {
         workers: Workers,
         gate: &G,
     ) -> Result<Landed, StoreFault>
+        // The pass is one of this store's.
         requires { IsPassOf self.old store.now }
+        // The fork and its ancestors are versions, and the last one is told.
         ensures landed { IfOk result (HasLanded store.now.start (landing.Fork id) self.old self.new) }
+        // The disk failed in it, and the mark was set; or it was refused over what the pass has seen, and did nothing.
         ensures failed { IfErr result (HasFailed store.now.start (attempt.Lands (landing.Fork id)) (land_faults id) self.old self.new) }
     {
         let chain = self.land_chain(rt, alloc, store, id, workers, gate)?;
@@ -243,14 +246,19 @@ impl<D: Disk> Pass<D> {
         workers: Workers,
         gate: &G,
     ) -> Result<LandedChain, StoreFault>
+        // The pass is one of this store's.
         requires { IsPassOf self.old store.now }
+        // The fork and its ancestors are versions, and the batch and root of each are handed back.
         ensures landed { IfOk result (HasLandedChain store.now.start id self.old self.new) }
+        // The disk failed in it, and the mark was set; or it was refused over what the pass has seen, and did nothing.
         ensures failed { IfErr result (HasFailed store.now.start (attempt.Lands (landing.Fork id)) (land_faults id) self.old self.new) }
     {
         let mut vault = take_out(rt, &mut self.seat, &store.turn);
         let number = self.seat.number();
         let chain = vault.land_fork(rt, alloc, number, id, workers, gate);
+        let newest = vault.newest(store.window.is_some());
         self.marked = give_back(&mut self.seat, &store.turn, vault);
+        self.show(rt, store, newest);
         chain
     }
 }

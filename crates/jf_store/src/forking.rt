@@ -145,14 +145,19 @@ impl<D: Disk> Pass<D> {
         parent: Parent,
         batch: &Batch,
     ) -> Result<Forked, StoreFault>
+        // The pass is one of this store's.
         requires { IsPassOf self.old store.now }
+        // The fork is live, and its number and root are told.
         ensures made { IfOk result (HasMade store.now.start parent batch.now self.old self.new) }
+        // It was refused over what the pass has seen, and did nothing.
         ensures refused { IfErr result (HasBeenRefused store.now.start (make_faults parent) self.old self.new) }
     {
         let mut vault = take_out(rt, &mut self.seat, &store.turn);
         let number = self.seat.number();
         let forked = vault.make_fork(alloc, number, parent, batch);
+        let newest = vault.newest(store.window.is_some());
         self.marked = give_back(&mut self.seat, &store.turn, vault);
+        self.show(rt, store, newest);
         forked
     }
 
@@ -172,14 +177,19 @@ impl<D: Disk> Pass<D> {
         store: &Store<D>,
         id: u64,
     ) -> Result<u64, StoreFault>
+        // The pass is one of this store's.
         requires { IsPassOf self.old store.now }
+        // The fork and those on it are gone, and their number is told.
         ensures dropped { IfOk result (HasDropped store.now.start id self.old self.new) }
+        // It was refused over what the pass has seen, and did nothing.
         ensures refused { IfErr result (HasBeenRefused store.now.start (drop_faults id) self.old self.new) }
     {
         let mut vault = take_out(rt, &mut self.seat, &store.turn);
         let number = self.seat.number();
         let dropped = vault.drop_fork(number, id);
+        let newest = vault.newest(store.window.is_some());
         self.marked = give_back(&mut self.seat, &store.turn, vault);
+        self.show(rt, store, newest);
         dropped
     }
 }

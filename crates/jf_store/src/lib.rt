@@ -10,6 +10,7 @@ mod fork_landing;
 mod forking;
 mod landed_chain;
 mod look;
+mod news;
 mod pass;
 mod pin_back;
 mod pin_version;

@@ -151,14 +151,19 @@ impl<D: Disk> Pass<D> {
         store: &Store<D>,
         bound: u64,
     ) -> Result<Pruned, StoreFault>
+        // The pass is one of this store's.
         requires { IsPassOf self.old store.now }
+        // Bound and floor were raised, the floor no higher than any pin, and both are told.
         ensures pruned { IfOk result (HasPruned store.now.start bound self.old self.new) }
+        // The disk failed in it, and the mark was set; or it was refused over what the pass has seen, and did nothing.
         ensures failed { IfErr result (HasFailedPruning store.now.start bound self.old self.new) }
     {
         let mut vault = take_out(rt, &mut self.seat, &store.turn);
         let number = self.seat.number();
         let pruned = self.pins.prune(&mut vault, &store.board, number, bound);
+        let newest = vault.newest(store.window.is_some());
         self.marked = give_back(&mut self.seat, &store.turn, vault);
+        self.show(rt, store, newest);
         pruned
     }
 }

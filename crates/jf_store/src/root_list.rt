@@ -42,6 +42,7 @@ impl RootList {
 
     /// The number of roots.
     pub fn len(&self) -> u64
+        // The number of roots.
         ensures { result ≡ length self.now }
     {
         self.roots.len() as u64
@@ -49,6 +50,7 @@ impl RootList {
 
     /// The roots in their order.
     pub fn as_slice(&self) -> &[Hash]
+        // The roots, in their order.
         ensures { result.now ≡ self.now }
     {
         &self.roots

@@ -1,5 +1,5 @@
 // How a shared store starts.
-ghost use Rattle.std.specs.Prelude.{◌≡◌, ℕ, ◌+◌, ◌<◌, ◌≤◌, [], length, IfOk, IfErr, false, vec_capacity};
+ghost use Rattle.std.specs.Prelude.{◌≡◌, ℕ, ◌+◌, ◌<◌, ◌≤◌, [], length, IfOk, IfErr, IfSome, false, vec_capacity};
 ghost use Rattle.jf_path.specs.Limits.{max_sessions};
 ghost use Rattle.jf_turn.specs.Seats.{AreNewSeats};
 ghost use Rattle.jf_board.specs.States.{AreNewPlaces};
@@ -7,6 +7,7 @@ ghost use Rattle.jf_store.specs.Starts.{start_with};
 ghost use Rattle.jf_store.specs.Passes.{AreNewPasses, store_of};
 
 use crate::boxed_vault::BoxedVault;
+use crate::news::News;
 use crate::pass::Pass;
 use crate::pins::Pins;
 use crate::start::StartNote;
@@ -16,6 +17,7 @@ use jf_board::{Board, Place};
 use jf_disk::Disk;
 use jf_engine::Engine;
 use jf_turn::{Seat, Turn, TurnRefused};
+use jf_window::Window;
 use std::alloc::Global;
 
 /// There was no memory. The engine comes back.
@@ -87,6 +89,27 @@ fn turn_of<D: Disk>(
     }
 }
 
+// A window that shows nothing yet, if there is memory for it; one pass alone needs none.
+fn window_of<D: Disk>(
+    alloc: Global,
+    turn: &Turn<BoxedVault<D>>,
+    passes: u64,
+) -> Option<Window<Turn<BoxedVault<D>>, News<D>>>
+    ensures { IfSome result (λ w. w.key ≡ turn.now) }
+{
+    if passes < 2 {
+        return None;
+    }
+    let nothing = News {
+        seen: 0,
+        shown: None,
+    };
+    match Window::new(alloc, turn, nothing) {
+        Ok(window) => Some(window),
+        Err(_) => None,
+    }
+}
+
 impl<D: Disk> Store<D> {
     /// A store over an engine that isn't broken, and its passes, 1 to 16, with the numbers from 0 on. The ledger is empty,
     /// no fork is live, and the retired bound is the floor. If memory runs out, the engine is handed back unchanged.
@@ -95,10 +118,15 @@ impl<D: Disk> Store<D> {
         engine: Engine<D>,
         passes: u64,
     ) -> Result<(Store<D>, Vec<Pass<D>>), StoreRefused<D>>
+        // The engine takes changes.
         requires whole { engine.broken ≡ false }
+        // There are 1 to 16 passes.
         requires passes { (1 ≤ passes) × (passes ≤ max_sessions) }
+        // The store begins with what the engine shows.
         ensures start { IfOk result (λ r. r.0.start ≡ start_with engine passes r.0.start.board) }
+        // There are so many passes, each of this store, and none has seen or pinned anything.
         ensures passes { IfOk result (λ r. (length r.1.items ≡ passes) × AreNewPasses r.0 r.1.items 0) }
+        // After a refusal the engine is handed back, unchanged.
         ensures engine { IfErr result (λ e. e.engine ≡ engine) }
     {
         let Ok(all) = Vec::with_capacity(alloc, passes as usize) else {
@@ -111,6 +139,12 @@ impl<D: Disk> Store<D> {
         let vault = Vault::begin(alloc, engine, start_note, pruner);
         let (turn, seats) = turn_of(alloc, vault, passes)?;
         let all = passes_of(&turn, &board, seats, places, all);
-        Ok((Store { turn, board }, all))
+        let window = window_of(alloc, &turn, passes);
+        let store = Store {
+            turn,
+            board,
+            window,
+        };
+        Ok((store, all))
     }
 }

@@ -179,6 +179,19 @@ impl<D: Disk> Vault<D> {
         })
     }
 
+    // A look for all passes to share, if one is wanted, the disk hasn't failed and there is memory for it.
+    pub(crate) fn newest(&self, wanted: bool) -> Option<Look>
+        ensures { IfSome result (λ l. IsLook (state_after_events self.now.start self.now.events) l × (first_of (look_faults self.now.start self.now.events) ≡ None)) }
+    {
+        if !wanted {
+            return None;
+        }
+        match self.look() {
+            Ok(look) => Some(look),
+            Err(_) => None,
+        }
+    }
+
     // Why a batch can't be landed, if it can't.
     fn commit_fault(&self) -> Option<StoreFault>
         ensures { result ≡ first_of (commit_faults self.now.start self.now.events) }

@@ -4,7 +4,7 @@ ghost use Rattle.jf_store.specs.Passes.{IsPassOf};
 
 use jf_disk::MemDisk;
 use jf_engine::Landed;
-use jf_join::{FreeGate, Workers};
+use jf_join::{FreeGate, Gate, Workers};
 use jf_node::Snapshot;
 use jf_split::Batch;
 use jf_store::{Look, Pass, Pruned, Store, StoreFault};
@@ -25,6 +25,23 @@ pub fn commit<H: Threads + Wait + Sync>(
     ensures { IsPassOf pass.new store.now × (pass.new.number ≡ pass.old.number) }
 {
     pass.commit(rt, alloc, store, batch, Workers::ONE, &FreeGate)
+}
+
+/// Lands a batch on the head, with two workers. A gate may hold their pieces.
+#[tactic(auto, using(crate::proofs::Staying::stays_landing))]
+pub fn commit_gated<H: Threads + Wait + Sync, G: Gate>(
+    rt: &H,
+    alloc: Global,
+    store: &Store<MemDisk>,
+    pass: &mut Pass<MemDisk>,
+    batch: &Batch,
+    gate: &G,
+) -> Result<Landed, StoreFault>
+    requires { IsPassOf pass.old store.now }
+    ensures { IsPassOf pass.new store.now × (pass.new.number ≡ pass.old.number) }
+{
+    let workers = Workers::new(2).unwrap_or(Workers::ONE);
+    pass.commit(rt, alloc, store, batch, workers, gate)
 }
 
 /// Looks at the head.

@@ -14,7 +14,7 @@ use std::alloc::{AllocError, Global};
 use std::marker::Model;
 use std::sync::Wait;
 
-/// A window that shows a value, which fits a key. Threads share it by `&`; no thread needs anything else to look.
+/// A window that shows a value, which fits a key. Threads share it by `&`.
 pub struct Window<K, T: Fits<K>> {
     pub(crate) table: Table<Option<T>, WindowView<K>, K, WindowRule, Global>,
 }

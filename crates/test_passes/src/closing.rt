@@ -7,6 +7,7 @@ use crate::beside::ROUNDS;
 use crate::held::the_floor_is_held;
 use crate::last_pin::{head_pin_holds, last_pin_holds};
 use crate::pruner::{VERSIONS, put_versions};
+use crate::shown::{head_is_shown, mark_is_met};
 use crate::threads::{Play, side_by_side};
 use crate::writers::are_all_put;
 use jf_disk::MemDisk;
@@ -19,9 +20,13 @@ use std::sync::Wait;
 use std::test::Fail;
 use std::thread::Threads;
 
-// The engine of a new disk with room for thousands of calls.
-fn wide_engine<H: Threads + Sync>(rt: &H, alloc: Global) -> Result<Box<Engine<MemDisk>>, Fail> {
-    let (a, b, failing) = (Vec::new(alloc), Vec::new(alloc), Vec::new(alloc));
+// The engine of a new disk with room for thousands of calls. The calls with the numbers in `failing` fail.
+fn wide_engine<H: Threads + Sync>(
+    rt: &H,
+    alloc: Global,
+    failing: Vec<u64>,
+) -> Result<Box<Engine<MemDisk>>, Fail> {
+    let (a, b) = (Vec::new(alloc), Vec::new(alloc));
     let disk = MemDisk::new(alloc, a, b, 8_000, 2_000_000, failing)?;
     store_on(rt, alloc, Box::new(alloc, disk)?)
 }
@@ -33,6 +38,20 @@ pub(crate) enum Run {
     Beside,
     Pruner,
     Held,
+    Shown,
+    Fault,
+}
+
+// The first call of the second landing on a new disk: its opening makes 13 calls, and a landing four.
+const SECOND_LANDING: u64 = 17;
+
+// The calls on the disk that fail in a run.
+fn failing_in(alloc: Global, run: Run) -> Result<Vec<u64>, Fail> {
+    let mut failing = Vec::new(alloc);
+    if let Run::Fault = run {
+        failing.push(SECOND_LANDING)?;
+    }
+    Ok(failing)
 }
 
 // Returns whether all went well.
@@ -61,6 +80,8 @@ fn run_on<H: Threads + Wait + Sync>(
                 && last_pin_holds(rt, store, first, second)
         }
         Run::Held => the_floor_is_held(rt, alloc, store, first, second),
+        Run::Shown => head_is_shown(rt, alloc, store, first, second),
+        Run::Fault => mark_is_met(rt, alloc, store, first, second),
     }
 }
 
@@ -91,6 +112,8 @@ fn has_come_to(closed: &Closed<MemDisk>, run: Run) -> bool {
         Run::Beside => whole && state.head == ROUNDS as u64 + 1 && state.floor == state.head,
         Run::Pruner => whole && state.floor == VERSIONS,
         Run::Held => whole && state.head == 3 && state.floor == 1,
+        Run::Shown => whole && state.head == 2,
+        Run::Fault => !whole && state.head == 1,
     }
 }
 
@@ -100,7 +123,8 @@ pub(crate) fn goes_well<H: Threads + Wait + Sync>(
     alloc: Global,
     run: Run,
 ) -> Result<(), Fail> {
-    let (store, mut passes) = new_passes(alloc, wide_engine(rt, alloc)?, 2)?;
+    let engine = wide_engine(rt, alloc, failing_in(alloc, run)?)?;
+    let (store, mut passes) = new_passes(alloc, engine, 2)?;
     let well = run_two(rt, alloc, &store, &mut passes, run);
     let closed = Box::new(alloc, store.close(passes))?;
     if well && has_come_to(&closed, run) {

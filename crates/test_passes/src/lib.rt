@@ -1,4 +1,5 @@
-//! Tests of a store of two passes: two writers, and pins of one pass beside prunings of the other, in two threads.
+//! Tests of a store of two passes: two writers, a look beside a landing that is held, and pins of one pass beside prunings of the
+//! other, in two threads; and a look after a landing of the other pass, and after one at which the disk failed.
 #![tactic(auto)]
 
 #[cfg(test)]
@@ -11,6 +12,10 @@ mod held;
 mod last_pin;
 #[cfg(test)]
 mod pruner;
+#[cfg(test)]
+mod shown;
+#[cfg(test)]
+mod signals;
 #[cfg(test)]
 mod steps;
 #[cfg(test)]

@@ -53,8 +53,9 @@ returns-clause-landed g c =
     let number : c.number-number.result ≡ s.number = c.number-number.ensures ∙ ap (λ (t : SeatState Event Start). t.number) c.take_out-vault.ensures.takes in
     let took : HasTaken s c.take_out-vault.new.seat v start = HasTaken-boxed s c.take_out-vault.new.seat v c.take_out-vault.result.value start c.deref_mut.ensures.value (c.take_out-vault.ensures.start ∙ ap (λ (t : Store). t.start) c.store.view_is) c.take_out-vault.ensures.begins c.take_out-vault.ensures.others c.take_out-vault.ensures.takes in
     let h : HasPassed s c.give_back-self-inside.new.seat c.self.inside.pins v v2 start = HasPassed-given s c.take_out-vault.new.seat c.give_back-self-inside.new.seat c.self.inside.pins v v2 start took c.self.invariant.0 c.give_back-self-inside.ensures.seat in
-    subst (λ (p : Pass). IfOk c.commit-landed.result (HasLanded start (landing.Direct c.args.batch.now) p (pass_of c.give_back-self-inside.new.seat c.self.inside.pins))) c.self.view_is
-    (HasLanded-passed s c.give_back-self-inside.new.seat c.self.inside.pins v v2 start h c.number-number.result (landing.Direct c.args.batch.now) c.commit-landed.result number c.commit-landed.ensures.landed)
+    subst (λ (q : Pass). IfOk c.commit-landed.result (HasLanded start (landing.Direct c.args.batch.now) c.args.self.now q)) (sym c.show.ensures)
+    (subst (λ (p : Pass). IfOk c.commit-landed.result (HasLanded start (landing.Direct c.args.batch.now) p (pass_of c.give_back-self-inside.new.seat c.self.inside.pins))) c.self.view_is
+    (HasLanded-passed s c.give_back-self-inside.new.seat c.self.inside.pins v v2 start h c.number-number.result (landing.Direct c.args.batch.now) c.commit-landed.result number c.commit-landed.ensures.landed))
 
 pub returns-clause-failed : goal.returns-clause-failed
 returns-clause-failed g c =
@@ -65,5 +66,6 @@ returns-clause-failed g c =
     let number : c.number-number.result ≡ s.number = c.number-number.ensures ∙ ap (λ (t : SeatState Event Start). t.number) c.take_out-vault.ensures.takes in
     let took : HasTaken s c.take_out-vault.new.seat v start = HasTaken-boxed s c.take_out-vault.new.seat v c.take_out-vault.result.value start c.deref_mut.ensures.value (c.take_out-vault.ensures.start ∙ ap (λ (t : Store). t.start) c.store.view_is) c.take_out-vault.ensures.begins c.take_out-vault.ensures.others c.take_out-vault.ensures.takes in
     let h : HasPassed s c.give_back-self-inside.new.seat c.self.inside.pins v v2 start = HasPassed-given s c.take_out-vault.new.seat c.give_back-self-inside.new.seat c.self.inside.pins v v2 start took c.self.invariant.0 c.give_back-self-inside.ensures.seat in
-    subst (λ (p : Pass). IfErr c.commit-landed.result (HasFailed start (attempt.Lands (landing.Direct c.args.batch.now)) commit_faults p (pass_of c.give_back-self-inside.new.seat c.self.inside.pins))) c.self.view_is
-    (HasFailed-passed s c.give_back-self-inside.new.seat c.self.inside.pins v v2 start h c.number-number.result (attempt.Lands (landing.Direct c.args.batch.now)) commit_faults c.commit-landed.result number c.commit-landed.ensures.failed)
+    subst (λ (q : Pass). IfErr c.commit-landed.result (HasFailed start (attempt.Lands (landing.Direct c.args.batch.now)) commit_faults c.args.self.now q)) (sym c.show.ensures)
+    (subst (λ (p : Pass). IfErr c.commit-landed.result (HasFailed start (attempt.Lands (landing.Direct c.args.batch.now)) commit_faults p (pass_of c.give_back-self-inside.new.seat c.self.inside.pins))) c.self.view_is
+    (HasFailed-passed s c.give_back-self-inside.new.seat c.self.inside.pins v v2 start h c.number-number.result (attempt.Lands (landing.Direct c.args.batch.now)) commit_faults c.commit-landed.result number c.commit-landed.ensures.failed))

@@ -52,8 +52,9 @@ returns-clause-compacted g c =
     let number : c.number-number.result ≡ s.number = c.number-number.ensures ∙ ap (λ (t : SeatState Event Start). t.number) c.take_out-vault.ensures.takes in
     let took : HasTaken s c.take_out-vault.new.seat v start = HasTaken-boxed s c.take_out-vault.new.seat v c.take_out-vault.result.value start c.deref_mut.ensures.value (c.take_out-vault.ensures.start ∙ ap (λ (t : Store). t.start) c.store.view_is) c.take_out-vault.ensures.begins c.take_out-vault.ensures.others c.take_out-vault.ensures.takes in
     let h : HasPassed s c.give_back-self-inside.new.seat c.self.inside.pins v v2 start = HasPassed-given s c.take_out-vault.new.seat c.give_back-self-inside.new.seat c.self.inside.pins v v2 start took c.self.invariant.0 c.give_back-self-inside.ensures.seat in
-    subst (λ (p : Pass). IfOk c.compact-compacted.result (HasCompacted start p (pass_of c.give_back-self-inside.new.seat c.self.inside.pins))) c.self.view_is
-    (HasCompacted-passed s c.give_back-self-inside.new.seat c.self.inside.pins v v2 start h c.number-number.result c.compact-compacted.result number c.compact-compacted.ensures.compacted)
+    subst (λ (q : Pass). IfOk c.compact-compacted.result (HasCompacted start c.args.self.now q)) (sym c.show.ensures)
+    (subst (λ (p : Pass). IfOk c.compact-compacted.result (HasCompacted start p (pass_of c.give_back-self-inside.new.seat c.self.inside.pins))) c.self.view_is
+    (HasCompacted-passed s c.give_back-self-inside.new.seat c.self.inside.pins v v2 start h c.number-number.result c.compact-compacted.result number c.compact-compacted.ensures.compacted))
 
 pub returns-clause-failed : goal.returns-clause-failed
 returns-clause-failed g c =
@@ -64,5 +65,6 @@ returns-clause-failed g c =
     let number : c.number-number.result ≡ s.number = c.number-number.ensures ∙ ap (λ (t : SeatState Event Start). t.number) c.take_out-vault.ensures.takes in
     let took : HasTaken s c.take_out-vault.new.seat v start = HasTaken-boxed s c.take_out-vault.new.seat v c.take_out-vault.result.value start c.deref_mut.ensures.value (c.take_out-vault.ensures.start ∙ ap (λ (t : Store). t.start) c.store.view_is) c.take_out-vault.ensures.begins c.take_out-vault.ensures.others c.take_out-vault.ensures.takes in
     let h : HasPassed s c.give_back-self-inside.new.seat c.self.inside.pins v v2 start = HasPassed-given s c.take_out-vault.new.seat c.give_back-self-inside.new.seat c.self.inside.pins v v2 start took c.self.invariant.0 c.give_back-self-inside.ensures.seat in
-    subst (λ (p : Pass). IfErr c.compact-compacted.result (HasFailed start attempt.Compacts compact_faults p (pass_of c.give_back-self-inside.new.seat c.self.inside.pins))) c.self.view_is
-    (HasFailed-passed s c.give_back-self-inside.new.seat c.self.inside.pins v v2 start h c.number-number.result attempt.Compacts compact_faults c.compact-compacted.result number c.compact-compacted.ensures.failed)
+    subst (λ (q : Pass). IfErr c.compact-compacted.result (HasFailed start attempt.Compacts compact_faults c.args.self.now q)) (sym c.show.ensures)
+    (subst (λ (p : Pass). IfErr c.compact-compacted.result (HasFailed start attempt.Compacts compact_faults p (pass_of c.give_back-self-inside.new.seat c.self.inside.pins))) c.self.view_is
+    (HasFailed-passed s c.give_back-self-inside.new.seat c.self.inside.pins v v2 start h c.number-number.result attempt.Compacts compact_faults c.compact-compacted.result number c.compact-compacted.ensures.failed))

@@ -52,8 +52,9 @@ returns-clause-dropped g c =
     let number : c.number-number.result ≡ s.number = c.number-number.ensures ∙ ap (λ (t : SeatState Event Start). t.number) c.take_out-vault.ensures.takes in
     let took : HasTaken s c.take_out-vault.new.seat v start = HasTaken-boxed s c.take_out-vault.new.seat v c.take_out-vault.result.value start c.deref_mut.ensures.value (c.take_out-vault.ensures.start ∙ ap (λ (t : Store). t.start) c.store.view_is) c.take_out-vault.ensures.begins c.take_out-vault.ensures.others c.take_out-vault.ensures.takes in
     let h : HasPassed s c.give_back-self-inside.new.seat c.self.inside.pins v v2 start = HasPassed-given s c.take_out-vault.new.seat c.give_back-self-inside.new.seat c.self.inside.pins v v2 start took c.self.invariant.0 c.give_back-self-inside.ensures.seat in
-    subst (λ (p : Pass). IfOk c.drop_fork-dropped.result (HasDropped start c.args.id p (pass_of c.give_back-self-inside.new.seat c.self.inside.pins))) c.self.view_is
-    (HasDropped-passed s c.give_back-self-inside.new.seat c.self.inside.pins v v2 start h c.number-number.result c.args.id c.drop_fork-dropped.result number c.drop_fork-dropped.ensures.dropped)
+    subst (λ (q : Pass). IfOk c.drop_fork-dropped.result (HasDropped start c.args.id c.args.self.now q)) (sym c.show.ensures)
+    (subst (λ (p : Pass). IfOk c.drop_fork-dropped.result (HasDropped start c.args.id p (pass_of c.give_back-self-inside.new.seat c.self.inside.pins))) c.self.view_is
+    (HasDropped-passed s c.give_back-self-inside.new.seat c.self.inside.pins v v2 start h c.number-number.result c.args.id c.drop_fork-dropped.result number c.drop_fork-dropped.ensures.dropped))
 
 pub returns-clause-refused : goal.returns-clause-refused
 returns-clause-refused g c =
@@ -64,5 +65,6 @@ returns-clause-refused g c =
     let number : c.number-number.result ≡ s.number = c.number-number.ensures ∙ ap (λ (t : SeatState Event Start). t.number) c.take_out-vault.ensures.takes in
     let took : HasTaken s c.take_out-vault.new.seat v start = HasTaken-boxed s c.take_out-vault.new.seat v c.take_out-vault.result.value start c.deref_mut.ensures.value (c.take_out-vault.ensures.start ∙ ap (λ (t : Store). t.start) c.store.view_is) c.take_out-vault.ensures.begins c.take_out-vault.ensures.others c.take_out-vault.ensures.takes in
     let h : HasPassed s c.give_back-self-inside.new.seat c.self.inside.pins v v2 start = HasPassed-given s c.take_out-vault.new.seat c.give_back-self-inside.new.seat c.self.inside.pins v v2 start took c.self.invariant.0 c.give_back-self-inside.ensures.seat in
-    subst (λ (p : Pass). IfErr c.drop_fork-dropped.result (HasBeenRefused start (drop_faults c.args.id) p (pass_of c.give_back-self-inside.new.seat c.self.inside.pins))) c.self.view_is
-    (HasBeenRefused-passed s c.give_back-self-inside.new.seat c.self.inside.pins v v2 start h c.number-number.result (drop_faults c.args.id) c.drop_fork-dropped.result c.drop_fork-dropped.ensures.refused)
+    subst (λ (q : Pass). IfErr c.drop_fork-dropped.result (HasBeenRefused start (drop_faults c.args.id) c.args.self.now q)) (sym c.show.ensures)
+    (subst (λ (p : Pass). IfErr c.drop_fork-dropped.result (HasBeenRefused start (drop_faults c.args.id) p (pass_of c.give_back-self-inside.new.seat c.self.inside.pins))) c.self.view_is
+    (HasBeenRefused-passed s c.give_back-self-inside.new.seat c.self.inside.pins v v2 start h c.number-number.result (drop_faults c.args.id) c.drop_fork-dropped.result c.drop_fork-dropped.ensures.refused))

@@ -52,8 +52,9 @@ returns-clause-made g c =
     let number : c.number-number.result ≡ s.number = c.number-number.ensures ∙ ap (λ (t : SeatState Event Start). t.number) c.take_out-vault.ensures.takes in
     let took : HasTaken s c.take_out-vault.new.seat v start = HasTaken-boxed s c.take_out-vault.new.seat v c.take_out-vault.result.value start c.deref_mut.ensures.value (c.take_out-vault.ensures.start ∙ ap (λ (t : Store). t.start) c.store.view_is) c.take_out-vault.ensures.begins c.take_out-vault.ensures.others c.take_out-vault.ensures.takes in
     let h : HasPassed s c.give_back-self-inside.new.seat c.self.inside.pins v v2 start = HasPassed-given s c.take_out-vault.new.seat c.give_back-self-inside.new.seat c.self.inside.pins v v2 start took c.self.invariant.0 c.give_back-self-inside.ensures.seat in
-    subst (λ (p : Pass). IfOk c.make_fork-forked.result (HasMade start c.args.parent c.args.batch.now p (pass_of c.give_back-self-inside.new.seat c.self.inside.pins))) c.self.view_is
-    (HasMade-passed s c.give_back-self-inside.new.seat c.self.inside.pins v v2 start h c.number-number.result c.args.parent c.args.batch.now c.make_fork-forked.result number c.make_fork-forked.ensures.made)
+    subst (λ (q : Pass). IfOk c.make_fork-forked.result (HasMade start c.args.parent c.args.batch.now c.args.self.now q)) (sym c.show.ensures)
+    (subst (λ (p : Pass). IfOk c.make_fork-forked.result (HasMade start c.args.parent c.args.batch.now p (pass_of c.give_back-self-inside.new.seat c.self.inside.pins))) c.self.view_is
+    (HasMade-passed s c.give_back-self-inside.new.seat c.self.inside.pins v v2 start h c.number-number.result c.args.parent c.args.batch.now c.make_fork-forked.result number c.make_fork-forked.ensures.made))
 
 pub returns-clause-refused : goal.returns-clause-refused
 returns-clause-refused g c =
@@ -64,5 +65,6 @@ returns-clause-refused g c =
     let number : c.number-number.result ≡ s.number = c.number-number.ensures ∙ ap (λ (t : SeatState Event Start). t.number) c.take_out-vault.ensures.takes in
     let took : HasTaken s c.take_out-vault.new.seat v start = HasTaken-boxed s c.take_out-vault.new.seat v c.take_out-vault.result.value start c.deref_mut.ensures.value (c.take_out-vault.ensures.start ∙ ap (λ (t : Store). t.start) c.store.view_is) c.take_out-vault.ensures.begins c.take_out-vault.ensures.others c.take_out-vault.ensures.takes in
     let h : HasPassed s c.give_back-self-inside.new.seat c.self.inside.pins v v2 start = HasPassed-given s c.take_out-vault.new.seat c.give_back-self-inside.new.seat c.self.inside.pins v v2 start took c.self.invariant.0 c.give_back-self-inside.ensures.seat in
-    subst (λ (p : Pass). IfErr c.make_fork-forked.result (HasBeenRefused start (make_faults c.args.parent) p (pass_of c.give_back-self-inside.new.seat c.self.inside.pins))) c.self.view_is
-    (HasBeenRefused-passed s c.give_back-self-inside.new.seat c.self.inside.pins v v2 start h c.number-number.result (make_faults c.args.parent) c.make_fork-forked.result c.make_fork-forked.ensures.refused)
+    subst (λ (q : Pass). IfErr c.make_fork-forked.result (HasBeenRefused start (make_faults c.args.parent) c.args.self.now q)) (sym c.show.ensures)
+    (subst (λ (p : Pass). IfErr c.make_fork-forked.result (HasBeenRefused start (make_faults c.args.parent) p (pass_of c.give_back-self-inside.new.seat c.self.inside.pins))) c.self.view_is
+    (HasBeenRefused-passed s c.give_back-self-inside.new.seat c.self.inside.pins v v2 start h c.number-number.result (make_faults c.args.parent) c.make_fork-forked.result c.make_fork-forked.ensures.refused))

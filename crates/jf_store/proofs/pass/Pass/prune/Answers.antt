@@ -43,9 +43,10 @@ returns-clause-pruned g c =
     let number : c.number-number.result ≡ s.number = c.number-number.ensures ∙ ap (λ (t : SeatState Event Start). t.number) c.take_out-vault.ensures.takes in
     let took : HasTaken s c.take_out-vault.new.seat v start = HasTaken-boxed s c.take_out-vault.new.seat v c.take_out-vault.result.value start c.deref_mut.ensures.value (c.take_out-vault.ensures.start ∙ ap (λ (t : Store). t.start) c.store.view_is) c.take_out-vault.ensures.begins c.take_out-vault.ensures.others c.take_out-vault.ensures.takes in
     let h : HasPassed s c.give_back-self-inside.new.seat c.self.inside.pins v v2 start = HasPassed-given s c.take_out-vault.new.seat c.give_back-self-inside.new.seat c.self.inside.pins v v2 start took c.self.invariant.0 c.give_back-self-inside.ensures.seat in
-    subst (λ (q : PinsState). IfOk c.prune-pruned.result (HasPruned start c.args.bound c.args.self.now (pass_of c.give_back-self-inside.new.seat q))) (sym c.prune-pruned.ensures.same)
+    subst (λ (q : Pass). IfOk c.prune-pruned.result (HasPruned start c.args.bound c.args.self.now q)) (sym c.show.ensures)
+    (subst (λ (q : PinsState). IfOk c.prune-pruned.result (HasPruned start c.args.bound c.args.self.now (pass_of c.give_back-self-inside.new.seat q))) (sym c.prune-pruned.ensures.same)
     (subst (λ (p : Pass). IfOk c.prune-pruned.result (HasPruned start c.args.bound p (pass_of c.give_back-self-inside.new.seat c.self.inside.pins))) c.self.view_is
-    (HasPruned-passed s c.give_back-self-inside.new.seat c.self.inside.pins v v2 start h c.number-number.result c.args.bound number c.prune-pruned.ensures.pins c.prune-pruned.result c.prune-pruned.ensures.pruned))
+    (HasPruned-passed s c.give_back-self-inside.new.seat c.self.inside.pins v v2 start h c.number-number.result c.args.bound number c.prune-pruned.ensures.pins c.prune-pruned.result c.prune-pruned.ensures.pruned)))
 
 pub returns-clause-failed : goal.returns-clause-failed
 returns-clause-failed g c =
@@ -56,9 +57,10 @@ returns-clause-failed g c =
     let number : c.number-number.result ≡ s.number = c.number-number.ensures ∙ ap (λ (t : SeatState Event Start). t.number) c.take_out-vault.ensures.takes in
     let took : HasTaken s c.take_out-vault.new.seat v start = HasTaken-boxed s c.take_out-vault.new.seat v c.take_out-vault.result.value start c.deref_mut.ensures.value (c.take_out-vault.ensures.start ∙ ap (λ (t : Store). t.start) c.store.view_is) c.take_out-vault.ensures.begins c.take_out-vault.ensures.others c.take_out-vault.ensures.takes in
     let h : HasPassed s c.give_back-self-inside.new.seat c.self.inside.pins v v2 start = HasPassed-given s c.take_out-vault.new.seat c.give_back-self-inside.new.seat c.self.inside.pins v v2 start took c.self.invariant.0 c.give_back-self-inside.ensures.seat in
-    subst (λ (q : PinsState). IfErr c.prune-pruned.result (HasFailedPruning start c.args.bound c.args.self.now (pass_of c.give_back-self-inside.new.seat q))) (sym c.prune-pruned.ensures.same)
+    subst (λ (q : Pass). IfErr c.prune-pruned.result (HasFailedPruning start c.args.bound c.args.self.now q)) (sym c.show.ensures)
+    (subst (λ (q : PinsState). IfErr c.prune-pruned.result (HasFailedPruning start c.args.bound c.args.self.now (pass_of c.give_back-self-inside.new.seat q))) (sym c.prune-pruned.ensures.same)
     (subst (λ (p : Pass). IfErr c.prune-pruned.result (HasFailedPruning start c.args.bound p (pass_of c.give_back-self-inside.new.seat c.self.inside.pins))) c.self.view_is
-    (HasFailedPruning-passed s c.give_back-self-inside.new.seat c.self.inside.pins v v2 start h c.number-number.result c.args.bound number c.prune-pruned.ensures.pins c.prune-pruned.result c.prune-pruned.ensures.failed))
+    (HasFailedPruning-passed s c.give_back-self-inside.new.seat c.self.inside.pins v v2 start h c.number-number.result c.args.bound number c.prune-pruned.ensures.pins c.prune-pruned.result c.prune-pruned.ensures.failed)))
 
 pub invariant_of-self : goal.invariant_of-self
 invariant_of-self g c =

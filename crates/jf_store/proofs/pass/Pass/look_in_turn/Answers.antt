@@ -11,7 +11,7 @@ use Rattle.jf_store.specs.Refusals.{IsRefusal, look_faults}
 use Rattle.jf_store.specs.Passes.{Pass, Store, pass_of, Sees}
 use Rattle.jf_store.specs.Vaults.{Vault}
 use Rattle.jf_store.proofs.PassLaws.{HasPassed, AddsNamed-none, Sees-passed, IsPass-passed, IsCounted-passed}
-use Rattle.jf_store.proofs.pass.Pass.look.Goals as goal
+use Rattle.jf_store.proofs.pass.Pass.look_in_turn.Goals as goal
 
 pub give_back-self-inside-requires-clause-goes_on : goal.give_back-self-inside-requires-clause-goes_on
 give_back-self-inside-requires-clause-goes_on g c κs within =
@@ -49,7 +49,8 @@ returns-clause-sees g c =
       begins = c.take_out-vault.ensures.begins;
       others = c.take_out-vault.ensures.others;
     } in
-    subst (λ (p : Pass). Sees p (pass_of c.give_back-self-inside.new.seat c.self.inside.pins)) c.self.view_is (Sees-passed s c.give_back-self-inside.new.seat c.self.inside.pins v v start h refl)
+    subst (λ (q : Pass). Sees c.args.self.now q) (sym c.show.ensures)
+    (subst (λ (p : Pass). Sees p (pass_of c.give_back-self-inside.new.seat c.self.inside.pins)) c.self.view_is (Sees-passed s c.give_back-self-inside.new.seat c.self.inside.pins v v start h refl))
 
 pub returns-clause-look : goal.returns-clause-look
 returns-clause-look g c =
@@ -57,8 +58,9 @@ returns-clause-look g c =
     let v = c.take_out-vault.result.value in
     let began : v.start ≡ start = c.take_out-vault.ensures.start ∙ ap (λ (t : Store). t.start) c.store.view_is in
     let seen : c.give_back-self-inside.new.seat.seen ≡ v.events = ap (λ (t : SeatState Event Start). t.seen) c.give_back-self-inside.ensures.seat in
-    subst (λ (es : List Event). IfOk c.look-look.result (IsLook (state_after_events start es))) (sym seen)
-    (subst (λ (t : Start). IfOk c.look-look.result (IsLook (state_after_events t v.events))) began (subst (λ (u : Vault). IfOk c.look-look.result (IsLook (state_after_events u.start u.events))) c.deref.ensures c.look-look.ensures.look))
+    subst (λ (q : Pass). IfOk c.look-look.result (IsLook (state_after_events start q.seen))) (sym c.show.ensures)
+    (subst (λ (es : List Event). IfOk c.look-look.result (IsLook (state_after_events start es))) (sym seen)
+    (subst (λ (t : Start). IfOk c.look-look.result (IsLook (state_after_events t v.events))) began (subst (λ (u : Vault). IfOk c.look-look.result (IsLook (state_after_events u.start u.events))) c.deref.ensures c.look-look.ensures.look)))
 
 pub returns-clause-refused : goal.returns-clause-refused
 returns-clause-refused g c =
@@ -66,8 +68,9 @@ returns-clause-refused g c =
     let v = c.take_out-vault.result.value in
     let began : v.start ≡ start = c.take_out-vault.ensures.start ∙ ap (λ (t : Store). t.start) c.store.view_is in
     let seen : c.give_back-self-inside.new.seat.seen ≡ v.events = ap (λ (t : SeatState Event Start). t.seen) c.give_back-self-inside.ensures.seat in
-    subst (λ (es : List Event). IfErr c.look-look.result (IsRefusal (look_faults start es))) (sym seen)
-    (subst (λ (t : Start). IfErr c.look-look.result (IsRefusal (look_faults t v.events))) began (subst (λ (u : Vault). IfErr c.look-look.result (IsRefusal (look_faults u.start u.events))) c.deref.ensures c.look-look.ensures.refused))
+    subst (λ (q : Pass). IfErr c.look-look.result (IsRefusal (look_faults start q.seen))) (sym c.show.ensures)
+    (subst (λ (es : List Event). IfErr c.look-look.result (IsRefusal (look_faults start es))) (sym seen)
+    (subst (λ (t : Start). IfErr c.look-look.result (IsRefusal (look_faults t v.events))) began (subst (λ (u : Vault). IfErr c.look-look.result (IsRefusal (look_faults u.start u.events))) c.deref.ensures c.look-look.ensures.refused)))
 
 pub returns-clause-granted : goal.returns-clause-granted
 returns-clause-granted g c =
@@ -75,5 +78,6 @@ returns-clause-granted g c =
     let v = c.take_out-vault.result.value in
     let began : v.start ≡ start = c.take_out-vault.ensures.start ∙ ap (λ (t : Store). t.start) c.store.view_is in
     let seen : c.give_back-self-inside.new.seat.seen ≡ v.events = ap (λ (t : SeatState Event Start). t.seen) c.give_back-self-inside.ensures.seat in
-    subst (λ (es : List Event). OnOk c.look-look.result (first_of (look_faults start es) ≡ None)) (sym seen)
-    (subst (λ (t : Start). OnOk c.look-look.result (first_of (look_faults t v.events) ≡ None)) began (subst (λ (u : Vault). OnOk c.look-look.result (first_of (look_faults u.start u.events) ≡ None)) c.deref.ensures c.look-look.ensures.granted))
+    subst (λ (q : Pass). OnOk c.look-look.result (first_of (look_faults start q.seen) ≡ None)) (sym c.show.ensures)
+    (subst (λ (es : List Event). OnOk c.look-look.result (first_of (look_faults start es) ≡ None)) (sym seen)
+    (subst (λ (t : Start). OnOk c.look-look.result (first_of (look_faults t v.events) ≡ None)) began (subst (λ (u : Vault). OnOk c.look-look.result (first_of (look_faults u.start u.events) ≡ None)) c.deref.ensures c.look-look.ensures.granted)))
