@@ -10,7 +10,7 @@ use jf_judge::judge_reply;
 use std::alloc::Global;
 
 /// Reads the reply to one `prove` from a source, and writes what it shows of a name under a root into the sink, as one line
-/// (docs/FORMATS.md, "Proof blocks").
+/// (docs/FORMATS.md, "Judging one name").
 pub(crate) fn judge_name<S: Source, K: Sink>(
     alloc: Global,
     root: &Hash,
