@@ -1,13 +1,13 @@
-// Makes each call of the library on the vectors in a browser, and uses the page as a person would. What was found is shown, and sent to the
-// server that this came from.
+// Makes each call of the library on the vectors in a browser, passes to it what callers may, and uses the page as a person would. What was
+// found is shown, and sent to the server that this came from.
 import { load } from './jelly.mjs';
+import { checkPassed } from './passed.mjs';
 import { FILES, check, summary } from './vectors.mjs';
 
 const bytesAt = async path => new Uint8Array(await (await fetch(path)).arrayBuffer());
 
-async function onVectors() {
-  const files = Object.fromEntries(await Promise.all(FILES.map(async name => [name, await bytesAt('../vectors/' + name)])));
-  return check(await load(fetch('../out/jelly.wasm')), files);
+async function onVectors(jelly) {
+  return check(jelly, Object.fromEntries(await Promise.all(FILES.map(async name => [name, await bytesAt('../vectors/' + name)]))));
 }
 
 // The page's document, once it is ready.
@@ -63,11 +63,12 @@ async function onPage() {
 }
 
 async function all() {
-  const found = await onVectors(), misused = await onPage();
+  const jelly = await load(fetch('../out/jelly.wasm')), found = await onVectors(jelly), misused = await onPage();
+  const passed = checkPassed(jelly, document.getElementById('page').contentWindow.Uint8Array);
+  const wrong = [...found.wrong, ...passed.wrong, ...misused], counts = `${passed.count} uses of what callers pass: ${passed.wrong.length} wrong`;
   return {
-    isWell: found.wrong.length === 0 && misused.length === 0,
-    text: `${navigator.userAgent}\n${summary(found)}\n${USES.length} uses of the page, wrong: ${misused.length}`,
-    wrong: [...found.wrong, ...misused],
+    isWell: wrong.length === 0, wrong,
+    text: `${navigator.userAgent}\n${summary(found)}\n${counts}\n${USES.length} uses of the page: ${misused.length} wrong`,
   };
 }
 

@@ -29,12 +29,35 @@ export function bytesOf(digits) {
 }
 
 export function digitsOf(bytes) {
-  return Array.from(bytes, byte => byte.toString(16).padStart(2, '0')).join('');
+  return Array.from(plain(bytes), byte => byte.toString(16).padStart(2, '0')).join('');
 }
 
-function sized(hash) {
+// What a caller passed, as bytes. Throws TypeError if it is no view of bytes: a text, or a list of numbers, would be read as bytes that
+// nobody meant. (A view that comes from another page or frame is none of this one's classes.)
+function plain(bytes) {
+  if (!ArrayBuffer.isView(bytes) || bytes.BYTES_PER_ELEMENT !== 1) throw new TypeError('only a Uint8Array stands for bytes');
+  return new Uint8Array(bytes.buffer, bytes.byteOffset, bytes.byteLength);
+}
+
+// A root, a key or a hash that a caller passed. Throws RangeError if it hasn't 32 bytes: a leaf's key and hash, cut at another place,
+// would be hashed alike.
+function sized(bytes) {
+  const hash = plain(bytes);
   if (hash.length !== HASH) throw new RangeError('a root, a key and a hash have 32 bytes');
   return hash;
+}
+
+// A leaf that a caller passed: its key, and the hash of its value.
+function sizedLeaf(leaf) {
+  if (!Array.isArray(leaf)) throw new TypeError('a leaf is a list of a key and the hash of a value');
+  if (leaf.length !== 2) throw new RangeError('a leaf is a key and the hash of a value');
+  return [sized(leaf[0]), sized(leaf[1])];
+}
+
+// The elements of a list that a caller passed.
+function each(list, element) {
+  if (!Array.isArray(list)) throw new TypeError('siblings and leaves are lists');
+  return Array.from(list, it => element(it));
 }
 
 // Byte arrays one after another as one.
@@ -48,7 +71,9 @@ function joined(arrays) {
   return all;
 }
 
-// The calls over one instance of the module. After a trap, which no call here makes, it would be of no more use.
+// The calls over one instance of the module. For bytes a caller passes a Uint8Array, or another view of bytes; anything else throws
+// TypeError. A root, a key, a hash or a sibling that hasn't 32 bytes, or a leaf that isn't two of them, throws RangeError. After a trap,
+// which no call here makes, the instance would be of no more use.
 class Jelly {
   #calls;
   #memory;
@@ -73,7 +98,7 @@ class Jelly {
     }
   }
 
-  // Writes byte arrays one after another into the memory; gives the place of each.
+  // Writes arrays of bytes one after another into the memory; gives the place of each.
   #write(...arrays) {
     this.#reserve(arrays.reduce((size, array) => size + array.length, 0));
     const memory = new Uint8Array(this.#memory.buffer);
@@ -93,8 +118,9 @@ class Jelly {
   // What a version says of a name, from a store's reply to `prove` and the root of the version, which is the caller's own: the bytes of
   // the value, or null if it has none. Throws Refused if nothing is shown.
   lookUp(root, name, reply) {
-    const [length, value, top, own, text] = this.#write(new Uint8Array(LENGTH), new Uint8Array(MAX_VALUE), sized(root), name, reply);
-    const answer = this.#calls.jelly_ask(top, own, BigInt(name.length), text, BigInt(reply.length), value, BigInt(MAX_VALUE), length);
+    const asked = plain(name), told = plain(reply);
+    const [length, value, top, own, text] = this.#write(new Uint8Array(LENGTH), new Uint8Array(MAX_VALUE), sized(root), asked, told);
+    const answer = this.#calls.jelly_ask(top, own, BigInt(asked.length), text, BigInt(told.length), value, BigInt(MAX_VALUE), length);
     if (answer >= REFUSED) throw new Refused(answer - REFUSED);
     if (answer === ABSENT) return null;
     return this.#read(value, new DataView(this.#memory.buffer).getBigUint64(Number(length), true));
@@ -103,32 +129,34 @@ class Jelly {
   // Judges a claim in parts: value is null for absence, leaf is null or a key and the hash of its value, siblings have the lowest first.
   // 0, or the number of the check that refuses it.
   judge(root, name, value, leaf, siblings) {
-    const [key, hash] = leaf ?? [new Uint8Array(HASH), new Uint8Array(HASH)];
-    const bytes = value ?? new Uint8Array(0);
-    const [top, own, claim, leafKey, leafHash, beside] =
-      this.#write(sized(root), name, bytes, sized(key), sized(hash), joined(siblings.map(sized)));
+    const hasValue = value !== null, hasLeaf = leaf !== null, asked = plain(name), hashes = each(siblings, sized);
+    const claimed = hasValue ? plain(value) : new Uint8Array(0);
+    const [key, hash] = hasLeaf ? sizedLeaf(leaf) : [new Uint8Array(HASH), new Uint8Array(HASH)];
+    const [top, own, claim, leafKey, leafHash, beside] = this.#write(sized(root), asked, claimed, key, hash, joined(hashes));
     return this.#calls.jelly_judge(
-      top, own, BigInt(name.length), value ? 1 : 0, claim, BigInt(bytes.length), leaf ? 1 : 0, leafKey, leafHash, beside, BigInt(siblings.length));
+      top, own, BigInt(asked.length), Number(hasValue), claim, BigInt(claimed.length), Number(hasLeaf), leafKey, leafHash, beside,
+      BigInt(hashes.length));
   }
 
   // The root of the map with these leaves, each a key and the hash of its value, in ascending order of their keys. Throws RangeError if
   // the keys don't ascend strictly.
   rootOf(leaves) {
-    const [root, entries] = this.#write(new Uint8Array(HASH), joined(leaves.flat().map(sized)));
-    if (this.#calls.jelly_root(entries, BigInt(leaves.length), root) !== 0) throw new RangeError("the keys don't ascend strictly");
+    const pairs = each(leaves, sizedLeaf);
+    const [root, entries] = this.#write(new Uint8Array(HASH), joined(pairs.flat()));
+    if (this.#calls.jelly_root(entries, BigInt(pairs.length), root) !== 0) throw new RangeError("the keys don't ascend strictly");
     return this.#read(root, HASH);
   }
 
   // The hashes of docs/FORMATS.md, "Keys and roots".
   keyOf(name) {
-    const [hash, own] = this.#write(new Uint8Array(HASH), name);
-    this.#calls.jelly_key(own, BigInt(name.length), hash);
+    const bytes = plain(name), [hash, own] = this.#write(new Uint8Array(HASH), bytes);
+    this.#calls.jelly_key(own, BigInt(bytes.length), hash);
     return this.#read(hash, HASH);
   }
 
   valueHash(value) {
-    const [hash, bytes] = this.#write(new Uint8Array(HASH), value);
-    this.#calls.jelly_value(bytes, BigInt(value.length), hash);
+    const bytes = plain(value), [hash, own] = this.#write(new Uint8Array(HASH), bytes);
+    this.#calls.jelly_value(own, BigInt(bytes.length), hash);
     return this.#read(hash, HASH);
   }
 
@@ -147,7 +175,7 @@ class Jelly {
 
 // The calls of a module, from its bytes (`jelly.wasm`) or from the response to a request for it.
 export async function load(source) {
-  const bytes = source instanceof Uint8Array || source instanceof ArrayBuffer ? source : await (await source).arrayBuffer();
+  const bytes = ArrayBuffer.isView(source) || source instanceof ArrayBuffer ? source : await (await source).arrayBuffer();
   const { instance } = await WebAssembly.instantiate(bytes, {});
   return new Jelly(instance);
 }
