@@ -13,7 +13,7 @@ what .ci/, clients/ and docs/ have. /tmp/NAME in a document is a folder NAME in 
 - If the line before a block `python` or `sh` ends with the name of a file in backquotes, it is saved under that name in place.
 
 Digits of a time, as in `0.6 s`, `13 ms` and `5 us`, and of a size in KB or MB, are not compared, nor is how many spaces stand before them. All
-other bytes are. Blocks `sh`, and those of other languages, are not run: they have words in capitals to be filled in, or build something.
+other bytes are. Blocks `sh` are not run: they have words in capitals to be filled in, or build something. Blocks `c` and `js` are, by `.ci/clients`.
 """
 import os
 import re
