@@ -11,9 +11,10 @@ what .ci/, clients/ and docs/ have. /tmp/NAME in a document is a folder NAME in 
 - A block `python` is run. What it prints has to stand in the comments after its calls of `print`, each up to a semicolon, a colon, two dots or its
   end; or, without comments, somewhere in the document's text.
 - If the line before a block `python` or `sh` ends with the name of a file in backquotes, it is saved under that name in place.
+- The blocks `sh` that doc_shell.py has: what they print, with other words for those in capitals.
 
 Digits of a time, as in `0.6 s`, `13 ms` and `5 us`, and of a size in KB or MB, are not compared, nor is how many spaces stand before them. All
-other bytes are. Blocks `sh` are not run: they have words in capitals to be filled in, or build something. Blocks `c` and `js` are, by `.ci/clients`.
+other bytes are. Other blocks `sh` are not run: they build something, or need another machine. Blocks `c` and `js` are, by `.ci/clients`.
 """
 import os
 import re
@@ -21,6 +22,8 @@ import subprocess
 import sys
 import tempfile
 from typing import Iterator, NamedTuple, Optional
+
+from doc_shell import Shell, commands_of, shell_of
 
 TOP = os.path.dirname(os.path.dirname(os.path.abspath(__file__)))
 MEMORY = "/dev/shm"
@@ -168,6 +171,10 @@ class Room:
             lines = self.mode(folder, it.words, self.written(it.input)).splitlines(True)
         return "".join(lines[it.dropped :])
 
+    def shell(self, it: Shell, text: str) -> None:
+        """Runs a block of commands without output."""
+        compare(self.run(["bash", "-c", commands_of(it, text)]), it.printed)
+
     def save(self, name: str, text: str) -> None:
         with open(os.path.join(self.place, name), "w", encoding="utf-8") as it:
             it.write(text)
@@ -206,11 +213,21 @@ def example_of(block: Block) -> Optional[Example]:
     return next((it for (section, front), it in EXAMPLES.items() if section == block.section and block.text.startswith(front)), None)
 
 
+def shell_at(room: Room, blocks: list, place: int) -> Optional[Shell]:
+    """How a block `sh` is run, if it can be."""
+    block = blocks[place]
+    if block.language != "sh" or not room.document.endswith("OPERATING.md"):
+        return None
+    return shell_of(block.section, block.text, [it.text for it in blocks[:place] if it.section == block.section])
+
+
 def try_block(room: Room, blocks: list, place: int, text: str) -> bool:
     """Runs a block if it is one that can be. Raises Differs."""
     block = blocks[place]
     if block.language in ("python", "sh") and (saved := re.search(r"`(\w+\.\w+)`[^`\n]*\Z", block.before)):
         room.save(saved[1], block.text)
+    elif shell := shell_at(room, blocks, place):
+        room.shell(shell, block.text)
     elif block.language == "python":
         room.python(block, text)
     elif block.language == "text" and re.search(r"(?m)^\$ ", block.text):
