@@ -24,15 +24,14 @@ import tempfile
 from typing import Iterator, NamedTuple, Optional
 
 from doc_shell import Shell, commands_of, shell_of
+from plain_store import GRAMMAR
 
 TOP = os.path.dirname(os.path.dirname(os.path.abspath(__file__)))
 MEMORY = "/dev/shm"
 DOCUMENTS = ("README.md", "docs/FORMATS.md", "docs/CALLERS.md", "docs/CLIENTS.md", "docs/OPERATING.md")
 LENT = (".ci", "clients", "docs")
 SECONDS = 600
-COMMANDS = {
-    "put", "del", "commit", "fork", "land", "drop", "get", "root", "prove", "chunk", "count", "nth", "pin", "unpin", "prune", "compact", "status",
-}
+COMMANDS = set(GRAMMAR)
 TIME = re.compile(r" *\d[\d.,]* (?=(?:s|ms|us|KB|MB)\b)")
 TWO = "put 61 =31\nput 62 =32\ncommit\n"
 

@@ -33,7 +33,7 @@ IN_CRATES = ("src", "specs", "proofs", "must-fail", "wrong-bodies")
 WORD = r"[A-Za-z_][A-Za-z0-9_]*"
 LISTED = rf"`{WORD}`(?:(?:, | and )`{WORD}`)*"
 STANDS_FOR_OTHERS = r"[A-Z]+|[A-Z]{2}[a-z]\w*|module|function"
-FOREIGN = {"partition_point", "binary_search_by_key", "deref_mut", "also_owns"}
+FOREIGN = {"partition_point", "binary_search_by_key", "deref_mut", "also_owns", "sum_by_more"}
 """Words of the language and of its library that the code doesn't use."""
 QUOTED = r'"[^"\n]+"(?:(?:, | and |, and )"[^"\n]+")*'
 DECISIONS = "docs/DECISIONS.md"
