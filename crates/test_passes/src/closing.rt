@@ -3,13 +3,8 @@ ghost use Rattle.std.specs.Prelude.{◌≡◌, length};
 ghost use Rattle.jf_store.specs.Passes.{AreNewPasses, IsPassOf};
 ghost use Rattle.jf_store.specs.Closing.{AreAllPasses, ArePassesOf};
 
-use crate::beside::ROUNDS;
 use crate::held::the_floor_is_held;
-use crate::last_pin::{head_pin_holds, last_pin_holds};
-use crate::pruner::{VERSIONS, put_versions};
 use crate::shown::{head_is_shown, mark_is_met};
-use crate::threads::{Play, side_by_side};
-use crate::writers::are_all_put;
 use jf_disk::MemDisk;
 use jf_engine::Engine;
 use jf_engine_play::stores::store_on;
@@ -34,9 +29,6 @@ fn wide_engine<H: Threads + Sync>(
 // What is done by the two passes.
 #[derive(Clone, Copy)]
 pub(crate) enum Run {
-    Writers,
-    Beside,
-    Pruner,
     Held,
     Shown,
     Fault,
@@ -69,16 +61,6 @@ fn run_on<H: Threads + Wait + Sync>(
     ensures second { IsPassOf second.new store.now × (second.new.number ≡ second.old.number) }
 {
     match run {
-        Run::Writers => side_by_side(rt, alloc, store, first, second, Play::Writers),
-        Run::Beside => {
-            side_by_side(rt, alloc, store, first, second, Play::Beside)
-                && head_pin_holds(rt, alloc, store, first, second)
-        }
-        Run::Pruner => {
-            put_versions(rt, alloc, store, second)
-                && side_by_side(rt, alloc, store, first, second, Play::Pruner)
-                && last_pin_holds(rt, store, first, second)
-        }
         Run::Held => the_floor_is_held(rt, alloc, store, first, second),
         Run::Shown => head_is_shown(rt, alloc, store, first, second),
         Run::Fault => mark_is_met(rt, alloc, store, first, second),
@@ -108,9 +90,6 @@ fn has_come_to(closed: &Closed<MemDisk>, run: Run) -> bool {
     let state = closed.engine.state();
     let whole = !closed.engine.broken();
     match run {
-        Run::Writers => whole && are_all_put(closed),
-        Run::Beside => whole && state.head == ROUNDS as u64 + 1 && state.floor == state.head,
-        Run::Pruner => whole && state.floor == VERSIONS,
         Run::Held => whole && state.head == 3 && state.floor == 1,
         Run::Shown => whole && state.head == 2,
         Run::Fault => !whole && state.head == 1,

@@ -1,16 +1,12 @@
-// What one pass sees of the head without the turn: while a landing of the other is held, after it has returned, and after one at
-// which the disk failed.
+// What one pass sees of the head after a landing of the other, and after one at which the disk failed.
 ghost use Rattle.std.specs.Prelude.{◌≡◌};
 ghost use Rattle.jf_store.specs.Passes.{IsPassOf};
 
 use crate::closing::{Run, goes_well};
-use crate::signals::Signals;
 use crate::steps::put;
-use crate::threads::{Play, side_by_side};
 use jf_disk::MemDisk;
 use jf_store::{Pass, Store, StoreFault};
-use jf_store_play::batches::batch_of;
-use jf_store_play::passes::{commit_gated, look};
+use jf_store_play::passes::look;
 use std::alloc::Global;
 use std::sync::Wait;
 use std::test::Fail;
@@ -25,42 +21,7 @@ fn head_of<H: Wait>(rt: &H, store: &Store<MemDisk>, pass: &mut Pass<MemDisk>) ->
     Some(look.head.version())
 }
 
-// Looks once the landing of version 2 has begun. Returns whether it found version 1.
-pub(crate) fn look_beside<H: Wait>(
-    rt: &H,
-    store: &Store<MemDisk>,
-    pass: &mut Pass<MemDisk>,
-    signals: &Signals,
-) -> bool
-    requires { IsPassOf pass.old store.now }
-    ensures { IsPassOf pass.new store.now × (pass.new.number ≡ pass.old.number) }
-{
-    let begun = signals.has_begun();
-    let found = head_of(rt, store, pass);
-    signals.look_was_done();
-    begun && found == Some(1)
-}
-
-// Commits two bytes, in two pieces that are held until the other pass has looked. Returns whether it had.
-pub(crate) fn put_held<H: Threads + Wait + Sync>(
-    rt: &H,
-    alloc: Global,
-    store: &Store<MemDisk>,
-    pass: &mut Pass<MemDisk>,
-    signals: &Signals,
-) -> bool
-    requires { IsPassOf pass.old store.now }
-    ensures { IsPassOf pass.new store.now × (pass.new.number ≡ pass.old.number) }
-{
-    let Ok(batch) = batch_of(alloc, &[(b'a', Some(2)), (b'b', Some(2))]) else {
-        return false;
-    };
-    let landed = commit_gated(rt, alloc, store, pass, &batch, signals).is_ok();
-    landed && signals.has_looked()
-}
-
-// Whether the first pass finds version 1 after the second has landed it, and while the second lands version 2, and this after
-// that.
+// Whether the first pass finds each version after the second has landed it.
 pub(crate) fn head_is_shown<H: Threads + Wait + Sync>(
     rt: &H,
     alloc: Global,
@@ -75,9 +36,9 @@ pub(crate) fn head_is_shown<H: Threads + Wait + Sync>(
 {
     let one = put(rt, alloc, store, second, b'a', 1).is_some();
     let before = head_of(rt, store, first);
-    let beside = side_by_side(rt, alloc, store, first, second, Play::Shown);
+    let two = put(rt, alloc, store, second, b'a', 2).is_some();
     let after = head_of(rt, store, first);
-    one && before == Some(1) && beside && after == Some(2)
+    one && before == Some(1) && two && after == Some(2)
 }
 
 // Whether the first pass finds version 1 after the second has landed it, and the mark after a landing at which the disk failed.
@@ -101,7 +62,7 @@ pub(crate) fn mark_is_met<H: Threads + Wait + Sync>(
 }
 
 #[test]
-fn a_look_waits_for_no_landing(rt: HostRuntime) -> Result<(), Fail> {
+fn a_look_after_a_landing_finds_it(rt: HostRuntime) -> Result<(), Fail> {
     goes_well(&rt, rt.alloc(), Run::Shown)
 }
 

@@ -9,10 +9,9 @@ use jf_hash::key_of;
 use jf_node::Snapshot;
 use jf_store::{Pass, Pruned, Store};
 use jf_store_play::batches::batch_of;
-use jf_store_play::passes::{commit, look, pin, prune, unpin};
+use jf_store_play::passes::{commit, look, pin, prune};
 use std::alloc::Global;
 use std::sync::Wait;
-use std::sync::atomic::{AtomicU64, Ordering};
 use std::thread::Threads;
 
 // The first byte of the value at the key of a name.
@@ -52,24 +51,6 @@ pub(crate) fn reads_pinned(pass: &Pass<MemDisk>, place: u64, version: u64) -> bo
     }
 }
 
-// Whether the floor that was shown last and the store's are at most this version.
-fn is_kept<H: Wait>(
-    rt: &H,
-    store: &Store<MemDisk>,
-    pass: &mut Pass<MemDisk>,
-    floor: &AtomicU64,
-    version: u64,
-) -> bool
-    requires { IsPassOf pass.old store.now }
-    ensures { IsPassOf pass.new store.now × (pass.new.number ≡ pass.old.number) }
-{
-    let shown = floor.load(Ordering::SeqCst) <= version;
-    match look(rt, store, pass) {
-        Ok(look) => shown && look.state.floor <= version,
-        Err(_) => false,
-    }
-}
-
 // Pins the head. Returns the version and its place, or `None` if the head was pruned to since the look.
 pub(crate) fn pin_head<H: Wait>(
     rt: &H,
@@ -83,57 +64,6 @@ pub(crate) fn pin_head<H: Wait>(
     let version = look.head.version();
     let place = pin(store, pass, look.head).ok()?;
     Some((version, place))
-}
-
-// Reads what is pinned, and unpins it. Returns whether it was read as it was, and kept.
-pub(crate) fn read_and_unpin<H: Wait>(
-    rt: &H,
-    store: &Store<MemDisk>,
-    pass: &mut Pass<MemDisk>,
-    floor: &AtomicU64,
-    pin: (u64, u64),
-) -> bool
-    requires { IsPassOf pass.old store.now }
-    ensures { IsPassOf pass.new store.now × (pass.new.number ≡ pass.old.number) }
-{
-    let (version, place) = pin;
-    let kept = is_kept(rt, store, pass, floor, version);
-    let read = reads_pinned(pass, place, version);
-    let unpinned = unpin(store, pass, place) == Some(version);
-    kept && read && unpinned
-}
-
-// Whether a pruning to this bound raised the floor to the bound, or a pin of the other pass held it.
-fn is_pruned(pruned: &Pruned, bound: u64) -> bool {
-    match pruned.held {
-        None => pruned.bound == bound && pruned.floor == bound,
-        Some(held) => {
-            pruned.bound == bound
-                && pruned.floor < bound
-                && held.owner == 0
-                && held.version <= pruned.floor
-        }
-    }
-}
-
-// Prunes, and shows the floor.
-pub(crate) fn prune_and_show<H: Wait>(
-    rt: &H,
-    store: &Store<MemDisk>,
-    pass: &mut Pass<MemDisk>,
-    floor: &AtomicU64,
-    bound: u64,
-) -> bool
-    requires { IsPassOf pass.old store.now }
-    ensures { IsPassOf pass.new store.now × (pass.new.number ≡ pass.old.number) }
-{
-    match prune(rt, store, pass, bound) {
-        Ok(pruned) => {
-            floor.store(pruned.floor, Ordering::SeqCst);
-            is_pruned(&pruned, bound)
-        }
-        Err(_) => false,
-    }
 }
 
 // Whether a pruning to this bound raises the floor so far, for this pin.
