@@ -13,6 +13,7 @@ from sources import (
     TOP, Fn, binds, crate_of, declared, functions, ghost_parts, imports, line_of, logic_code, module_of, paragraphs, rattle_code, read, tracked,
 )
 
+CLAUSE = re.compile(r"\b(?:ensures|requires)\s*\*?\s*\Z")
 KINDS = ("function", "definition", "clause", "module", "spot")
 
 
@@ -206,7 +207,8 @@ class Renaming(Calls):
             found += self.in_logic(name, text, logic_module(name), [(0, len(text))], quiet)
             found += self.in_proofs(name, text)
         elif name.endswith(".rt"):
-            found += self.calls(name, text, quiet)
+            # (a clause may have the name of a function)
+            found += [it for it in self.calls(name, text, quiet) if not CLAUSE.search(text, max(0, it.at - 20), it.at)]
             found += self.in_logic(name, text, "", ghost_parts(text), quiet)
             found += self.in_attributes(name, text)
             found += self.in_clauses(name, text)
