@@ -4,7 +4,7 @@ ghost use Rattle.jf_text.specs.Words.{unhex};
 ghost use Rattle.jf_ask.specs.Lookups.{lookup, lookup_of};
 ghost use Rattle.jelly.specs.Answers.{LookupResult, IsAnswer, value_number, filled_room, IsSoundAsk, IsSoundRoom, IsFairAsk};
 
-use jf_ask::{Lookup, look_up, unhexed};
+use jf_ask::{Lookup, look_up, unhexed_count};
 
 // Added to the number of why nothing is shown.
 const REFUSED: u32 = 16;
@@ -52,6 +52,6 @@ fn give(digits: &[u8], out: &mut [u8], value_length: &mut usize) -> u32
     if out.len() < count {
         return 2;
     }
-    let _ = unhexed(digits, out);
+    let _ = unhexed_count(digits, out);
     0
 }

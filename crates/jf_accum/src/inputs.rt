@@ -18,8 +18,8 @@ pub(crate) fn single_clash(
     requires apart { first.now ≢ second.now }
     ensures { IfOk result (λ found. IsCollision found.0 found.1) }
 {
-    let x = tagged(alloc, 5, first, &[])?;
-    let y = tagged(alloc, 5, second, &[])?;
+    let x = tagged_input(alloc, 5, first, &[])?;
+    let y = tagged_input(alloc, 5, second, &[])?;
     Ok((x, y))
 }
 
@@ -38,8 +38,8 @@ pub(crate) fn pair_clash(
     if left == other_left && right == other_right {
         return Ok(None);
     }
-    let x = tagged(alloc, 6, left, right)?;
-    let y = tagged(alloc, 6, other_left, other_right)?;
+    let x = tagged_input(alloc, 6, left, right)?;
+    let y = tagged_input(alloc, 6, other_left, other_right)?;
     Ok(Some((x, y)))
 }
 
@@ -60,7 +60,7 @@ pub(crate) fn parts_clash(
 }
 
 // A tag, followed by two parts.
-fn tagged(alloc: Global, tag: u8, first: &[u8], second: &[u8]) -> Result<Bytes, Memory>
+fn tagged_input(alloc: Global, tag: u8, first: &[u8], second: &[u8]) -> Result<Bytes, Memory>
     ensures { IfOk result (λ input. input ≡ tag ∷ first.now ++ second.now) }
 {
     let mut input = Bytes::new(alloc);

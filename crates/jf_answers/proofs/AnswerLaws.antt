@@ -17,7 +17,7 @@ use Rattle.jf_script.specs.declared.command.Change.TheVariants as change
 use Rattle.jf_script.specs.declared.command.Command.TheVariants as command
 use Rattle.jf_script.specs.declared.reply.Reply.TheVariants as reply
 use Rattle.jf_answers.specs.Own.{Own, free_place}
-use Rattle.jf_answers.specs.Answers.{Answer, granted_own, granted_change, granted, replied, answer_command, answer_to, answer, too_long, retired_below}
+use Rattle.jf_answers.specs.Answers.{Answer, granted_own, granted_change, granted_answer, own_answer, answer_command, answer_to, answer, too_long, retired_below}
 use Rattle.jf_answers.specs.Prunings.{next_floor}
 use Rattle.jf_answers.specs.Refusals.{refused_by}
 use Rattle.jf_answers.specs.OwnLines.{pin_of_command, pin_of}
@@ -61,7 +61,7 @@ sound_change (change.Drop id) s own = record { follows = record { state = refl; 
 sound_change (change.Prune upto) s own = record { follows = record { state = refl; owned = refl; undated = refl; pruned_so = refl }; number = refl }
 sound_change change.Compact s own = record { follows = record { state = refl; owned = refl; undated = refl; pruned_so = tt }; number = refl }
 
-sound_granted : (c : Command) (s : State) (own : Own) → IsSoundAnswer s own (granted c s own)
+sound_granted : (c : Command) (s : State) (own : Own) → IsSoundAnswer s own (granted_answer c s own)
 sound_granted (command.Own c) s own = sound_own c s own
 sound_granted (command.Read on q) s own = record { follows = refl; number = refl }
 sound_granted (command.ReadFork id q) s own = record { follows = refl; number = refl }
@@ -69,7 +69,7 @@ sound_granted command.Look s own = record { follows = refl; number = refl }
 sound_granted (command.Pin version) s own = record { follows = refl; number = refl }
 sound_granted (command.Change c) s own = sound_change c s own
 
-sound_command : (o : Option Refusal) (c : Command) (s : State) (own : Own) → IsSoundAnswer s own (elim o as (λ x. Answer) [ Some why ↦ replied (reply.No why) s own | None ↦ granted c s own ])
+sound_command : (o : Option Refusal) (c : Command) (s : State) (own : Own) → IsSoundAnswer s own (elim o as (λ x. Answer) [ Some why ↦ own_answer (reply.No why) s own | None ↦ granted_answer c s own ])
 sound_command None c s own = sound_granted c s own
 sound_command (Some why) c s own = record { follows = refl; number = refl }
 
@@ -124,7 +124,7 @@ module _ (P : ℕ → Type 0) where
   pins_own (own_command.Del name) s own h = h
   pins_own (own_command.Unpin place) s own h = all_set (λ pin. IfSome pin P) own.pins place None h tt
 
-  pins_granted : (c : Command) (s : State) (own : Own) → IfSome (pin_of_command (Some c)) P → EachPin P own → EachPin P (granted c s own).own
+  pins_granted : (c : Command) (s : State) (own : Own) → IfSome (pin_of_command (Some c)) P → EachPin P own → EachPin P (granted_answer c s own).own
   pins_granted (command.Own c) s own named h = pins_own c s own h
   pins_granted (command.Read on q) s own named h = h
   pins_granted (command.ReadFork id q) s own named h = h
@@ -133,7 +133,7 @@ module _ (P : ℕ → Type 0) where
   pins_granted (command.Change c) s own named h = subst (λ (ps : List (Option ℕ)). AllByRecursion (λ pin. IfSome pin P) ps) (sym (granted_change-pins c s own)) h
 
   pins_command : (o : Option Refusal) (c : Command) (s : State) (own : Own) → IfSome (pin_of_command (Some c)) P → EachPin P own
-      → EachPin P (elim o as (λ x. Answer) [ Some why ↦ replied (reply.No why) s own | None ↦ granted c s own ]).own
+      → EachPin P (elim o as (λ x. Answer) [ Some why ↦ own_answer (reply.No why) s own | None ↦ granted_answer c s own ]).own
   pins_command None c s own named h = pins_granted c s own named h
   pins_command (Some why) c s own named h = h
 

@@ -6,9 +6,9 @@ use Rattle.std.specs.Fmt.{digits}
 use Rattle.jf_path.specs.Checks.{first_of}
 use Rattle.jf_hash.specs.Maps.{Map, apply}
 use Rattle.jf_hash.proofs.RootLaws.{entries-empty}
-use Rattle.jf_model.specs.Versions.{imported}
+use Rattle.jf_model.specs.Versions.{imported_versions}
 use Rattle.jf_model.specs.Nodes.{nodes, nodes_below, kept_nodes}
-use Rattle.jf_model.specs.States.{State, opened}
+use Rattle.jf_model.specs.States.{State, state_when_opened}
 use Rattle.jf_model.specs.declared.entries.Entry.{Entry}
 use Rattle.jf_model.specs.Entries.{after, replay}
 use Rattle.jf_model.specs.declared.entries.Landing.TheVariants as landing
@@ -21,7 +21,7 @@ use Rattle.jf_script.specs.declared.reply.Refusal.TheVariants as refusal
 use Rattle.jf_script.specs.declared.reply.Reply.TheVariants as reply
 use Rattle.jf_answers.specs.Own.{Own, begun_session}
 use Rattle.jf_answers.specs.Refusals.{refused_by, room_causes, key_causes}
-use Rattle.jf_answers.specs.Answers.{Answer, answer_command, not_read, replied, fork_landed}
+use Rattle.jf_answers.specs.Answers.{Answer, answer_command, not_read, own_answer, fork_landed}
 use Rattle.jf_answers.specs.Runs.{Run, texts_of, with_first}
 use Rattle.jf_answers.proofs.Samples.{start, empty_root, none_there, said}
 
@@ -92,7 +92,7 @@ unfolding command_of base_of words number unhex digits refused_by after replay a
 generation_two = ap (λ n. codes "1 ok compact 2\n" ∷ (reply_text 1 (reply.Status 0 0 0 0 n 0 2) ++ []) ∷ []) one_node
 
 -- after the last version and the last generation there is no other
-last_ones : said_over (opened (imported (2 ^ 64 - 2) fin.empty) (2 ^ 64 - 2)) (codes "commit" ∷ codes "compact" ∷ []) ≡ codes "0 no last\n" ∷ codes "0 no last\n" ∷ []
+last_ones : said_over (state_when_opened (imported_versions (2 ^ 64 - 2) fin.empty) (2 ^ 64 - 2)) (codes "commit" ∷ codes "compact" ∷ []) ≡ codes "0 no last\n" ∷ codes "0 no last\n" ∷ []
 unfolding command_of base_of words number unhex digits refused_by after replay apply reply_text
 last_ones = refl
 
@@ -112,7 +112,7 @@ so_made = refl
 -- the second lands with the first, one version each
 chain_lands : by_command two_forks me (codes "land f1") ≡ fork_landed 1 two_forks me
 unfolding command_of base_of words number unhex digits refused_by after replay
-chain_lands = ap (λ n. elim (cond (nat_lt (2 ^ 62) n) (Some refusal.Last) None) as (λ x. Answer) [ Some why ↦ replied (reply.No why) two_forks me | None ↦ fork_landed 1 two_forks me ]) none_there
+chain_lands = ap (λ n. elim (cond (nat_lt (2 ^ 62) n) (Some refusal.Last) None) as (λ x. Answer) [ Some why ↦ own_answer (reply.No why) two_forks me | None ↦ fork_landed 1 two_forks me ]) none_there
 
 version_two : (fork_landed 1 two_forks me).reply ≡ reply.Land 2 empty_root
 unfolding replay after apply
@@ -142,7 +142,7 @@ keys_fit = refl
 -- ---- entries by their places
 module _ (m : Map) (k l v w : List ℕ) (is : fin.entries m ≡ (k, v) ∷ (l, w) ∷ []) where
   abbrev over : State
-  over = opened (imported 1 m) 1
+  over = state_when_opened (imported_versions 1 m) 1
 
   counted_two : fin.len m ≡ 2
   counted_two = fin.len-entries m ∙ ap length is
@@ -154,20 +154,20 @@ module _ (m : Map) (k l v w : List ℕ) (is : fin.entries m ≡ (k, v) ∷ (l, w
   nth_first : (by_command over me (codes "nth head 0")).reply ≡ reply.Nth k v
   unfolding command_of base_of words number unhex digits refused_by
   nth_first = ap₂ (λ n (es : List (List ℕ × List ℕ)). (elim (cond (nat_le n 0) (Some (refusal.Range n)) None) as (λ x. Answer) [
-    | Some why ↦ replied (reply.No why) over me
-    | None ↦ replied (reply.Nth (slice_index_or es 0 ([], [])).0 (slice_index_or es 0 ([], [])).1) over me
+    | Some why ↦ own_answer (reply.No why) over me
+    | None ↦ own_answer (reply.Nth (slice_index_or es 0 ([], [])).0 (slice_index_or es 0 ([], [])).1) over me
   ]).reply) counted_two is
 
   nth_second : (by_command over me (codes "nth head 1")).reply ≡ reply.Nth l w
   unfolding command_of base_of words number unhex digits refused_by
   nth_second = ap₂ (λ n (es : List (List ℕ × List ℕ)). (elim (cond (nat_le n 1) (Some (refusal.Range n)) None) as (λ x. Answer) [
-    | Some why ↦ replied (reply.No why) over me
-    | None ↦ replied (reply.Nth (slice_index_or es 1 ([], [])).0 (slice_index_or es 1 ([], [])).1) over me
+    | Some why ↦ own_answer (reply.No why) over me
+    | None ↦ own_answer (reply.Nth (slice_index_or es 1 ([], [])).0 (slice_index_or es 1 ([], [])).1) over me
   ]).reply) counted_two is
 
   nth_third : (by_command over me (codes "nth head 2")).reply ≡ reply.No (refusal.Range 2)
   unfolding command_of base_of words number unhex digits refused_by
   nth_third = ap₂ (λ n (es : List (List ℕ × List ℕ)). (elim (cond (nat_le n 2) (Some (refusal.Range n)) None) as (λ x. Answer) [
-    | Some why ↦ replied (reply.No why) over me
-    | None ↦ replied (reply.Nth (slice_index_or es 2 ([], [])).0 (slice_index_or es 2 ([], [])).1) over me
+    | Some why ↦ own_answer (reply.No why) over me
+    | None ↦ own_answer (reply.Nth (slice_index_or es 2 ([], [])).0 (slice_index_or es 2 ([], [])).1) over me
   ]).reply) counted_two is

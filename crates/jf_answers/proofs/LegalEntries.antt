@@ -26,7 +26,7 @@ use Rattle.jf_script.specs.declared.reply.Refusal.{Refusal}
 use Rattle.jf_script.specs.declared.reply.Reply.TheVariants as reply
 use Rattle.jf_answers.specs.Own.{Own}
 use Rattle.jf_answers.specs.Refusals.{Causes, causes, refused_by}
-use Rattle.jf_answers.specs.Answers.{Answer, forked, granted_own, granted_change, granted, replied, answer_command, answer_to, answer}
+use Rattle.jf_answers.specs.Answers.{Answer, fork_answer, granted_own, granted_change, granted_answer, own_answer, answer_command, answer_to, answer}
 use Rattle.jf_answers.specs.Laws.{AnswersAreLegal}
 use Rattle.jf_answers.proofs.Pins.{below-le}
 
@@ -61,7 +61,7 @@ module _ (s : State) (own : Own) (pending : IsBatch own.pending) where
   own_legal (own_command.Unpin place) = tt
 
   -- a fork is made on a parent that is there
-  made_legal : (on : Parent) → NonePass s own (command.Change (change.Fork on)) → IfSome (forked on s own).entry (IsLegal s)
+  made_legal : (on : Parent) → NonePass s own (command.Change (change.Fork on)) → IfSome (fork_answer on s own).entry (IsLegal s)
   made_legal parent.Head h = (below (2 ^ 62) s.count h.0, record { next = refl; stands = refl; room = below max_forks _ h.1.0; sound = pending; rooted = refl })
   made_legal (parent.Fork id) h = (
     below (2 ^ 62) s.count h.0,
@@ -93,7 +93,7 @@ module _ (s : State) (own : Own) (pending : IsBatch own.pending) where
       (below (2 ^ 62) s.count h.0, record { rises = low; within = high; floor_rises = omega arith; below = omega arith })
   change_legal change.Compact sound h = let high = below _ s.generation h.1.0 in (below (2 ^ 62) s.count h.0, (refl, omega arith))
 
-  granted_legal : (c : Command) → IsState s → NonePass s own c → IfSome (granted c s own).entry (IsLegal s)
+  granted_legal : (c : Command) → IsState s → NonePass s own c → IfSome (granted_answer c s own).entry (IsLegal s)
   granted_legal (command.Own c) sound h = own_legal c
   granted_legal (command.Read on q) sound h = tt
   granted_legal (command.ReadFork id q) sound h = tt
@@ -101,7 +101,7 @@ module _ (s : State) (own : Own) (pending : IsBatch own.pending) where
   granted_legal (command.Pin version) sound h = tt
   granted_legal (command.Change c) sound h = change_legal c sound h
 
-  command_legal : (o : Option Refusal) (c : Command) → IsState s → (o ≡ None → NonePass s own c) → IfSome (elim o as (λ x. Answer) [ Some why ↦ replied (reply.No why) s own | None ↦ granted c s own ]).entry (IsLegal s)
+  command_legal : (o : Option Refusal) (c : Command) → IsState s → (o ≡ None → NonePass s own c) → IfSome (elim o as (λ x. Answer) [ Some why ↦ own_answer (reply.No why) s own | None ↦ granted_answer c s own ]).entry (IsLegal s)
   command_legal None c sound h = granted_legal c sound (h refl)
   command_legal (Some why) c sound h = tt
 

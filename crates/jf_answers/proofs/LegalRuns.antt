@@ -21,7 +21,7 @@ use Rattle.jf_script.specs.declared.reply.Refusal.{Refusal}
 use Rattle.jf_script.specs.declared.reply.Reply.TheVariants as reply
 use Rattle.jf_answers.specs.Own.{Own, begun_session}
 use Rattle.jf_answers.specs.Refusals.{refused_by}
-use Rattle.jf_answers.specs.Answers.{Answer, granted_own, granted_change, granted, replied, answer_to, answer}
+use Rattle.jf_answers.specs.Answers.{Answer, granted_own, granted_change, granted_answer, own_answer, answer_to, answer}
 use Rattle.jf_answers.specs.Runs.{answers_from, run_entries}
 use Rattle.jf_answers.specs.Laws.{RunsAreLegal}
 use Rattle.jf_answers.proofs.AnswerLaws.{Follows, answer-IsSoundAnswer}
@@ -47,7 +47,7 @@ module _ (s : State) (own : Own) (pending : IsBatch own.pending) where
   change_keeps (change.Prune upto) = pending
   change_keeps change.Compact = pending
 
-  granted_keeps : (c : Command) → PutsBytes c → Keeps (granted c s own)
+  granted_keeps : (c : Command) → PutsBytes c → Keeps (granted_answer c s own)
   granted_keeps (command.Own c) bytes = own_keeps c bytes
   granted_keeps (command.Read on q) bytes = pending
   granted_keeps (command.ReadFork id q) bytes = pending
@@ -55,7 +55,7 @@ module _ (s : State) (own : Own) (pending : IsBatch own.pending) where
   granted_keeps (command.Pin version) bytes = pending
   granted_keeps (command.Change c) bytes = change_keeps c
 
-  command_keeps : (o : Option Refusal) (c : Command) → PutsBytes c → Keeps (elim o as (λ x. Answer) [ Some why ↦ replied (reply.No why) s own | None ↦ granted c s own ])
+  command_keeps : (o : Option Refusal) (c : Command) → PutsBytes c → Keeps (elim o as (λ x. Answer) [ Some why ↦ own_answer (reply.No why) s own | None ↦ granted_answer c s own ])
   command_keeps None c bytes = granted_keeps c bytes
   command_keeps (Some why) c bytes = pending
 

@@ -9,7 +9,7 @@ use Rattle.jf_path.specs.Checks.{first_of}
 use Rattle.jf_hash.specs.Roots.{root}
 use Rattle.jf_hash.specs.Maps.{apply}
 use Rattle.jf_model.specs.Versions.{new_store, newest}
-use Rattle.jf_model.specs.States.{State, opened}
+use Rattle.jf_model.specs.States.{State, state_when_opened}
 use Rattle.jf_model.specs.declared.entries.Entry.{Entry}
 use Rattle.jf_model.specs.Entries.{IsLegal, after, replay}
 use Rattle.jf_model.specs.declared.entries.Landing.TheVariants as landing
@@ -22,14 +22,14 @@ use Rattle.jf_script.specs.declared.reply.Refusal.TheVariants as refusal
 use Rattle.jf_script.specs.declared.reply.Reply.TheVariants as reply
 use Rattle.jf_answers.specs.Own.{Own, begun_session}
 use Rattle.jf_answers.specs.Refusals.{refused_by}
-use Rattle.jf_answers.specs.Answers.{Answer, answer, committed, replied}
+use Rattle.jf_answers.specs.Answers.{Answer, answer, commit_answer, own_answer}
 use Rattle.jf_answers.specs.OwnLines.{is_own_line}
 use Rattle.jf_answers.specs.Runs.{answer_text}
 use Rattle.jf_answers.specs.Explains.{answer_with, answered_with_floor, Answered, IsAnswered, timeline_of, Explains, places_owned, IsSession}
 
 -- a new store, and its root
 abbrev pub start : State
-start = opened new_store 1
+start = state_when_opened new_store 1
 
 abbrev pub empty_root : List ℕ
 empty_root = root fin.empty
@@ -53,13 +53,13 @@ none_refuses false true c few low small = absurd (cc)
 none_refuses false false true few low small = absurd (cc)
 
 -- the answer to `commit` over a map without entries
-commit_done : (s : State) (own : Own) → nat_le (2 ^ 62) s.count ≡ false → nat_lt (2 ^ 64 - 2) (s.all.head + 1) ≡ false → fin.len (newest s.all) ≡ 0 → answer s own (codes "commit") ≡ committed s own
+commit_done : (s : State) (own : Own) → nat_le (2 ^ 62) s.count ≡ false → nat_lt (2 ^ 64 - 2) (s.all.head + 1) ≡ false → fin.len (newest s.all) ≡ 0 → answer s own (codes "commit") ≡ commit_answer s own
 unfolding answer command_of base_of words number unhex digits refused_by
 commit_done s own few low none =
     let free = none_refuses (nat_le (2 ^ 62) s.count) (nat_lt (2 ^ 64 - 2) (s.all.head + 1)) (nat_lt (2 ^ 62) (fin.len (newest s.all))) few low (ap (λ n. nat_lt (2 ^ 62) n) none) in
-    subst (λ o. elim o as (λ x. Answer) [ Some why ↦ replied (reply.No why) s own | None ↦ committed s own ] ≡ committed s own) (sym free) refl
+    subst (λ o. elim o as (λ x. Answer) [ Some why ↦ own_answer (reply.No why) s own | None ↦ commit_answer s own ] ≡ commit_answer s own) (sym free) refl
 
-pub commit_gives : (s : State) (own : Own) → nat_le (2 ^ 62) s.count ≡ false → nat_lt (2 ^ 64 - 2) (s.all.head + 1) ≡ false → fin.len (newest s.all) ≡ 0 → answer_with 0 s own (codes "commit") ≡ committed s own
+pub commit_gives : (s : State) (own : Own) → nat_le (2 ^ 62) s.count ≡ false → nat_lt (2 ^ 64 - 2) (s.all.head + 1) ≡ false → fin.len (newest s.all) ≡ 0 → answer_with 0 s own (codes "commit") ≡ commit_answer s own
 commit_gives s own few low none = ap (λ (a : Answer). answered_with_floor 0 s own a a.entry) (commit_done s own few low none)
 
 first_legal : IsLegal start first

@@ -24,7 +24,7 @@ use Rattle.jf_script.specs.Commands.{command_of}
 use Rattle.jf_answers.specs.Own.{Own, free_place, begun_session}
 use Rattle.jf_answers.specs.Prunings.{below_pins}
 use Rattle.jf_answers.specs.Refusals.{refused_by, ledger_causes, version_causes, place_causes}
-use Rattle.jf_answers.specs.Answers.{Answer, granted_own, granted_change, granted, replied, answer_to, answer, too_long, not_read}
+use Rattle.jf_answers.specs.Answers.{Answer, granted_own, granted_change, granted_answer, own_answer, answer_to, answer, too_long, not_read}
 use Rattle.jf_answers.specs.Runs.{answers_from, answers, run_entries}
 use Rattle.jf_answers.specs.Laws.{FloorSparesPins, EntrySparesPins}
 use Rattle.jf_answers.proofs.AnswerLaws.{EachPin, Follows, all_set, granted_own-quiet, granted_change-pins, answer-IsSoundAnswer}
@@ -82,7 +82,7 @@ change-Spares (change.Prune upto) s own none h = record {
 }
 change-Spares change.Compact s own none h = record { low = h.low; pins = h.pins }
 
-granted-Spares : (c : Command) (s : State) (own : Own) → refused_by s own c ≡ None → Spares s own → Spares (granted c s own).state (granted c s own).own
+granted-Spares : (c : Command) (s : State) (own : Own) → refused_by s own c ≡ None → Spares s own → Spares (granted_answer c s own).state (granted_answer c s own).own
 unfolding refused_by
 granted-Spares (command.Own c) s own none h = own-Spares c s own h
 granted-Spares (command.Read on q) s own none h = record { low = h.low; pins = h.pins }
@@ -95,7 +95,7 @@ granted-Spares (command.Pin version) s own none h = record {
 granted-Spares (command.Change c) s own none h = change-Spares c s own none h
 
 elim-Spares : (o : Option Refusal) (c : Command) (s : State) (own : Own) → refused_by s own c ≡ o → Spares s own
-    → Spares (elim o as (λ x. Answer) [ Some why ↦ replied (reply.No why) s own | None ↦ granted c s own ]).state (elim o as (λ x. Answer) [ Some why ↦ replied (reply.No why) s own | None ↦ granted c s own ]).own
+    → Spares (elim o as (λ x. Answer) [ Some why ↦ own_answer (reply.No why) s own | None ↦ granted_answer c s own ]).state (elim o as (λ x. Answer) [ Some why ↦ own_answer (reply.No why) s own | None ↦ granted_answer c s own ]).own
 elim-Spares None c s own none h = granted-Spares c s own none h
 elim-Spares (Some why) c s own some h = h
 
@@ -185,17 +185,17 @@ without_entry own a none = λ e some. absurd (let both : None ≡ Some e = sym n
 same_pins : (own : Own) (a : Answer) → a.own.pins ≡ own.pins → KeepsPins own a
 same_pins own a same = λ e some. same
 
-granted-pins : (c : Command) (s : State) (own : Own) → KeepsPins own (granted c s own)
+granted-pins : (c : Command) (s : State) (own : Own) → KeepsPins own (granted_answer c s own)
 granted-pins (command.Own c) s own = without_entry own (granted_own c s own) (granted_own-quiet c s own)
-granted-pins (command.Read on q) s own = without_entry own (granted (command.Read on q) s own) refl
-granted-pins (command.ReadFork id q) s own = without_entry own (granted (command.ReadFork id q) s own) refl
-granted-pins command.Look s own = without_entry own (granted command.Look s own) refl
-granted-pins (command.Pin version) s own = without_entry own (granted (command.Pin version) s own) refl
+granted-pins (command.Read on q) s own = without_entry own (granted_answer (command.Read on q) s own) refl
+granted-pins (command.ReadFork id q) s own = without_entry own (granted_answer (command.ReadFork id q) s own) refl
+granted-pins command.Look s own = without_entry own (granted_answer command.Look s own) refl
+granted-pins (command.Pin version) s own = without_entry own (granted_answer (command.Pin version) s own) refl
 granted-pins (command.Change c) s own = same_pins own (granted_change c s own) (granted_change-pins c s own)
 
-elim-pins : (o : Option Refusal) (c : Command) (s : State) (own : Own) → KeepsPins own (elim o as (λ x. Answer) [ Some why ↦ replied (reply.No why) s own | None ↦ granted c s own ])
+elim-pins : (o : Option Refusal) (c : Command) (s : State) (own : Own) → KeepsPins own (elim o as (λ x. Answer) [ Some why ↦ own_answer (reply.No why) s own | None ↦ granted_answer c s own ])
 elim-pins None c s own = granted-pins c s own
-elim-pins (Some why) c s own = without_entry own (replied (reply.No why) s own) refl
+elim-pins (Some why) c s own = without_entry own (own_answer (reply.No why) s own) refl
 
 cond-pins : (own : Own) (b : Bool) (x y : Answer) → KeepsPins own x → KeepsPins own y → KeepsPins own (cond b x y)
 cond-pins own true x y h k = h

@@ -30,7 +30,7 @@ use Rattle.jf_script.specs.declared.command.OwnCommand.TheVariants as own_comman
 use Rattle.jf_script.specs.declared.command.Change.TheVariants as change
 use Rattle.jf_script.specs.declared.command.Command.TheVariants as command
 use Rattle.jf_blocks.specs.Blocks.{proof_lines, chunk_lines}
-use Rattle.jf_answers.specs.Own.{Own, pinned, free_place, with_pending, with_pin}
+use Rattle.jf_answers.specs.Own.{Own, version_pinned_at, free_place, with_pending, with_pin}
 use Rattle.jf_answers.specs.Prunings.{next_floor}
 use Rattle.jf_answers.specs.Refusals.{base_map, refused_by}
 
@@ -43,31 +43,31 @@ pub record Answer : Type 0 where
   pub own : Own
 
 -- a reply that changes at most the own part
-abbrev pub replied : Reply → State → Own → Answer
-replied r s own = record { reply = r; block = []; entry = None; state = s; own = own }
+abbrev pub own_answer : Reply → State → Own → Answer
+own_answer r s own = record { reply = r; block = []; entry = None; state = s; own = own }
 
 -- a reply with its entry; the entry's moment is not used here
-abbrev pub entered : Reply → Entry → State → Own → Answer
-entered r e s own = record { reply = r; block = []; entry = Some e; state = after e s; own = own }
+abbrev pub entry_answer : Reply → Entry → State → Own → Answer
+entry_answer r e s own = record { reply = r; block = []; entry = Some e; state = after e s; own = own }
 
 -- the answer to a line that is no command
 abbrev pub not_read : State → Own → Answer
-not_read s own = replied (reply.No refusal.Syntax) s own
+not_read s own = own_answer (reply.No refusal.Syntax) s own
 
 -- the answer to a line of more than 8,500 bytes, whatever it says
 abbrev pub too_long : State → Own → Answer
-too_long s own = replied (reply.No refusal.Long) s own
+too_long s own = own_answer (reply.No refusal.Long) s own
 
 -- ---- questions
 -- the number of siblings, and a block: what a map says of a name, with the honest proof of it
-abbrev pub proved : List ℕ → Map → Reply × List ℕ
-proved name m =
+abbrev pub honest_proof_reply : List ℕ → Map → Reply × List ℕ
+honest_proof_reply name m =
     let proof = honest m (K name) in
     (reply.Proof (length proof.siblings), proof_lines name (get m (K name)) proof)
 
 -- the number of entries, the depth and the number of siblings, and a block: the entries of a map from a place on, with their honest proof
-abbrev pub chunked : ℕ → ℕ → Map → Reply × List ℕ
-chunked start count m =
+abbrev pub chunk_reply : ℕ → ℕ → Map → Reply × List ℕ
+chunk_reply start count m =
     let es = chunk_entries m start count in
     let proof = honest_chunk m start count in
     (reply.Chunk (length es) proof.depth (length proof.siblings), chunk_lines es proof)
@@ -80,8 +80,8 @@ entry_at m place = slice_index_or (entries m) place ([], [])
 abbrev pub answer_of : Question → Map → Reply × List ℕ
 answer_of (question.Get name) m = (reply.Value (get m (K name)), [])
 answer_of question.Root m = (reply.Root (root m), [])
-answer_of (question.Prove name) m = proved name m
-answer_of (question.Chunk start count) m = chunked start count m
+answer_of (question.Prove name) m = honest_proof_reply name m
+answer_of (question.Chunk start count) m = chunk_reply start count m
 answer_of question.Count m = (reply.Count (len m), [])
 answer_of (question.Nth place) m = (reply.Nth (entry_at m place).0 (entry_at m place).1, [])
 
@@ -94,11 +94,11 @@ read_answer q m s own = record { reply = (answer_of q m).0; block = (answer_of q
 abbrev pub pending_changed : List ℕ → Option (List ℕ) → State → Own → Answer
 pending_changed name value s own =
     let batch = put key_cmp (K name) value own.pending in
-    replied (reply.Pending (length batch)) s (with_pending batch own)
+    own_answer (reply.Pending (length batch)) s (with_pending batch own)
 
 -- a place is free again; the reply has the version that was pinned there
 abbrev pub place_freed : ℕ → State → Own → Answer
-place_freed place s own = replied (reply.Unpin (unwrap_or (pinned own place) 0)) s (with_pin place None own)
+place_freed place s own = own_answer (reply.Unpin (unwrap_or (version_pinned_at own place) 0)) s (with_pin place None own)
 
 -- the answer to such a command that nothing refuses
 abbrev pub granted_own : OwnCommand → State → Own → Answer
@@ -108,44 +108,44 @@ granted_own (own_command.Unpin place) s own = place_freed place s own
 
 -- ---- commands that give an entry
 -- the pending batch is landed on the head
-abbrev pub committed : State → Own → Answer
-committed s own =
+abbrev pub commit_answer : State → Own → Answer
+commit_answer s own =
     let r = root (apply (newest s.all) own.pending) in
-    entered (reply.Commit (s.all.head + 1) r) (entry.Landed own.number (s.all.head + 1) (landing.Direct own.pending) r 0) s (with_pending [] own)
+    entry_answer (reply.Commit (s.all.head + 1) r) (entry.Landed own.number (s.all.head + 1) (landing.Direct own.pending) r 0) s (with_pending [] own)
 
 -- a fork of the pending batch is made on a parent
-abbrev pub forked : Parent → State → Own → Answer
-forked on s own =
+abbrev pub fork_answer : Parent → State → Own → Answer
+fork_answer on s own =
     let r = root (apply (parent_map (newest s.all) s.forks on) own.pending) in
-    entered (reply.Fork s.made r) (entry.Made own.number s.made on own.pending r) s (with_pending [] own)
+    entry_answer (reply.Fork s.made r) (entry.Made own.number s.made on own.pending r) s (with_pending [] own)
 
 -- a fork is landed with its ancestors, one version each; the reply has the last of them
 abbrev pub fork_landed : ℕ → State → Own → Answer
 fork_landed id s own =
     let version = s.all.head + length (landed_batches s (landing.Fork id)) in
     let r = root (fork_map (newest s.all) s.forks id) in
-    entered (reply.Land version r) (entry.Landed own.number version (landing.Fork id) r 0) s own
+    entry_answer (reply.Land version r) (entry.Landed own.number version (landing.Fork id) r 0) s own
 
 -- a fork is dropped with all forks that stand on it; the reply has their number
 abbrev pub fork_dropped : ℕ → State → Own → Answer
-fork_dropped id s own = entered (reply.Drop (drop_count id s.forks)) (entry.Dropped own.number id) s own
+fork_dropped id s own = entry_answer (reply.Drop (drop_count id s.forks)) (entry.Dropped own.number id) s own
 
 -- the versions below a bound are retired, and the floor becomes this one
 abbrev pub retired_below : ℕ → ℕ → State → Own → Answer
-retired_below upto floor s own = entered (reply.Prune upto floor) (entry.Retired own.number upto floor) s own
+retired_below upto floor s own = entry_answer (reply.Prune upto floor) (entry.Retired own.number upto floor) s own
 
 -- a new generation is written
-abbrev pub compacted : State → Own → Answer
-compacted s own = entered (reply.Compact (s.generation + 1)) (entry.Compacted own.number (s.generation + 1)) s own
+abbrev pub compact_answer : State → Own → Answer
+compact_answer s own = entry_answer (reply.Compact (s.generation + 1)) (entry.Compacted own.number (s.generation + 1)) s own
 
 -- the answer to such a command that nothing refuses
 abbrev pub granted_change : Change → State → Own → Answer
-granted_change change.Commit s own = committed s own
-granted_change (change.Fork on) s own = forked on s own
+granted_change change.Commit s own = commit_answer s own
+granted_change (change.Fork on) s own = fork_answer on s own
 granted_change (change.Land id) s own = fork_landed id s own
 granted_change (change.Drop id) s own = fork_dropped id s own
 granted_change (change.Prune upto) s own = retired_below upto (next_floor upto s own) s own
-granted_change change.Compact s own = compacted s own
+granted_change change.Compact s own = compact_answer s own
 
 -- ---- commands
 -- the numbers of a store: its base, floor, retired bound and head, the nodes that it keeps, its live forks and its generation
@@ -154,20 +154,20 @@ status_reply s = reply.Status s.all.base s.floor s.retired s.all.head (kept_node
 
 -- a version is pinned at the least free place
 abbrev pub version_pinned : ℕ → State → Own → Answer
-version_pinned version s own = replied (reply.Pin (free_place own)) s (with_pin (free_place own) (Some version) own)
+version_pinned version s own = own_answer (reply.Pin (free_place own)) s (with_pin (free_place own) (Some version) own)
 
 -- the answer to a command that nothing refuses
-abbrev pub granted : Command → State → Own → Answer
-granted (command.Own c) s own = granted_own c s own
-granted (command.Read on q) s own = read_answer q (base_map s own on) s own
-granted (command.ReadFork id q) s own = read_answer (question_of q) (fork_map (newest s.all) s.forks id) s own
-granted command.Look s own = replied (status_reply s) s own
-granted (command.Pin version) s own = version_pinned version s own
-granted (command.Change c) s own = granted_change c s own
+abbrev pub granted_answer : Command → State → Own → Answer
+granted_answer (command.Own c) s own = granted_own c s own
+granted_answer (command.Read on q) s own = read_answer q (base_map s own on) s own
+granted_answer (command.ReadFork id q) s own = read_answer (question_of q) (fork_map (newest s.all) s.forks id) s own
+granted_answer command.Look s own = own_answer (status_reply s) s own
+granted_answer (command.Pin version) s own = version_pinned version s own
+granted_answer (command.Change c) s own = granted_change c s own
 
 -- the answer to a command: the first refusal, which changes nothing, or otherwise what the command does
 abbrev pub answer_command : State → Own → Command → Answer
-answer_command s own c = elim (refused_by s own c) [ Some why ↦ replied (reply.No why) s own | None ↦ granted c s own ]
+answer_command s own c = elim (refused_by s own c) [ Some why ↦ own_answer (reply.No why) s own | None ↦ granted_answer c s own ]
 
 -- the answer to a line's command, if it is one
 abbrev pub answer_to : Option Command → State → Own → Answer

@@ -13,7 +13,7 @@ use Rattle.jf_model.specs.States.{State}
 use Rattle.jf_model.specs.Entries.{landed_batches}
 use Rattle.jf_model.specs.declared.entries.Parent.{Parent}
 use Rattle.jf_model.specs.declared.entries.Landing.TheVariants as landing
-use Rattle.jf_answers.specs.Own.{Own, pinned, free_place}
+use Rattle.jf_answers.specs.Own.{Own, version_pinned_at, free_place}
 use Rattle.jf_script.specs.declared.command.Base.{Base}
 use Rattle.jf_script.specs.declared.command.Base.TheVariants as base
 use Rattle.jf_script.specs.declared.command.Question.{Question}
@@ -32,7 +32,7 @@ use Rattle.jf_script.specs.declared.reply.Refusal.TheVariants as refusal
 abbrev pub base_map : State → Own → Base → Map
 base_map s own base.Head = newest s.all
 base_map s own (base.Version w) = map_of s.all w
-base_map s own (base.Place place) = map_of s.all (unwrap_or (pinned own place) 0)
+base_map s own (base.Place place) = map_of s.all (unwrap_or (version_pinned_at own place) 0)
 
 -- ---- single causes: a test, and the refusal if it holds
 
@@ -78,7 +78,7 @@ key_causes count = (nat_lt max_keys count, refusal.Keys count) ∷ []
 
 -- a place holds nothing
 abbrev pub pin_causes : Own → ℕ → Causes
-pin_causes own place = (is_none (pinned own place), refusal.NoPin) ∷ []
+pin_causes own place = (is_none (version_pinned_at own place), refusal.NoPin) ∷ []
 
 -- each place holds a version
 abbrev pub place_causes : Own → Causes

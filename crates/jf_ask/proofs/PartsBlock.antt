@@ -1,6 +1,6 @@
 -- A block read part by part is the block of the lines.
 use Rattle.std.proofs.Common.{◌≡◌, ℕ, zero, suc, ◌+◌, List, [], ◌∷◌, Option, Some, None, option_and_then, option_map, Ok, Err, refl, ap, ◌∙◌}
-use Rattle.jf_blocks.specs.Reading.{Block, Place, Read, and_then, gives, matched, line_by, lines_by, line_read, named_of, claim_of, leaf_line_of, side_of, proof_block}
+use Rattle.jf_blocks.specs.Reading.{Block, Place, Read, and_then, gives, one_line_read, line_by, lines_by, line_read, named_of, claim_of, leaf_line_of, side_of, proof_block}
 use Rattle.jf_ask.specs.Lookups.{siblings_of, block_alone, block_of}
 use Rattle.jf_ask.specs.Parts.{first_by, sides_of, with_end, block_by_parts}
 
@@ -10,7 +10,7 @@ Lines = List (List ℕ)
 -- ---- one line
 -- two ways to go on after it agree, whatever was read and wherever the next line is
 module _ {X : Type 0} (F : X → Lines → Option Block) (G : X → Place → Read Block) (alike : (x : X) (at : ℕ) (ls : Lines) → F x ls ≡ block_alone (G x (record { at = at; left = ls }))) where
-  matched-alike : (at : ℕ) (ls : Lines) (o : Option X) → option_and_then (λ (a : X × Lines). F a.0 a.1) (option_map (λ x. (x, ls)) o) ≡ block_alone (and_then (matched at ls o) G)
+  matched-alike : (at : ℕ) (ls : Lines) (o : Option X) → option_and_then (λ (a : X × Lines). F a.0 a.1) (option_map (λ x. (x, ls)) o) ≡ block_alone (and_then (one_line_read at ls o) G)
   matched-alike at ls None = refl
   matched-alike at ls (Some x) = alike x (at + 1) ls
 
@@ -35,7 +35,7 @@ AreSidesAlike n = (at : ℕ) (ls : Lines) (F : Lines → Lines → Option Block)
 
 side-alike : (n : ℕ) → AreSidesAlike n → (at : ℕ) (ls : Lines) (o : Option (List ℕ)) (F : Lines → Lines → Option Block) (G : Lines → Place → Read Block) → ((xs : Lines) (at' : ℕ) (ls' : Lines) → F xs ls' ≡ block_alone (G xs (record { at = at'; left = ls' })))
     → option_and_then (λ (a : Lines × Lines). F a.0 a.1) (option_and_then (λ (a : List ℕ × Lines). option_map (λ (b : Lines × Lines). (a.0 ∷ b.0, b.1)) (sides_of n a.1)) (option_map (λ x. (x, ls)) o))
-    ≡ block_alone (and_then (and_then (matched at ls o) (λ x q. and_then (lines_by side_of n q) (λ xs r. gives (x ∷ xs) r))) G)
+    ≡ block_alone (and_then (and_then (one_line_read at ls o) (λ x q. and_then (lines_by side_of n q) (λ xs r. gives (x ∷ xs) r))) G)
 side-alike n more at ls None F G alike = refl
 side-alike n more at ls (Some s) F G alike =
     map_more F s (sides_of n ls) ∙ more (at + 1) ls (λ xs. F (s ∷ xs)) (λ xs. G (s ∷ xs)) (λ xs. alike (s ∷ xs))

@@ -7,7 +7,7 @@ use jf_text::unhex_into;
 /// Writes the bytes of a word to the front of `out`, and returns how many they are. `None` if the word isn't an even
 /// number of digits; the front of `out` may then have changed, for half as many bytes as the word has. What comes after
 /// these bytes is unchanged.
-pub fn unhexed(word: &[u8], out: &mut [u8]) -> Option<usize>
+pub fn unhexed_count(word: &[u8], out: &mut [u8]) -> Option<usize>
     requires { length word.now ≤ 2 * length out.old + 1 }
     ensures length { length out.new ≡ length out.old }
     ensures within { IfSome result (λ n. n ≤ length out.new) }
@@ -38,5 +38,5 @@ pub(crate) fn bytes_within(least: usize, most: usize, word: &[u8], out: &mut [u8
     if count < least || most < count {
         return None;
     }
-    unhexed(word, out)
+    unhexed_count(word, out)
 }

@@ -9,6 +9,6 @@ mod line;
 mod lookup;
 mod parts;
 
-pub use hexadecimal::unhexed;
+pub use hexadecimal::unhexed_count;
 pub use laws::honest_blocks_are_believed;
 pub use lookup::{Lookup, LookupFault, look_up};

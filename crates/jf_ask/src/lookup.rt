@@ -10,10 +10,10 @@ use jf_hash::{Hash, key_of};
 /// What a reply shows of a name under a root.
 #[derive(Clone, Copy)]
 pub enum Lookup<'a> {
-    /// The name has a value: its digits where they stand in the reply, two to a byte and at most 8,192. [`unhexed`]
+    /// The name has a value: its digits where they stand in the reply, two to a byte and at most 8,192. [`unhexed_count`]
     /// gives its bytes.
     ///
-    /// [`unhexed`]: crate::unhexed
+    /// [`unhexed_count`]: crate::unhexed
     Value(&'a [u8]),
     /// The name has no value.
     Absent,

@@ -1,6 +1,6 @@
 -- The line at which a reading stops is no earlier than its first, and no more lines remain after it than before.
 use Rattle.std.proofs.Common.{◌≤◌, length, Ok, Err, arith, ℕ, List, ◌∷◌, Option, Some, None, [], zero, suc}
-use Rattle.jf_blocks.specs.Reading.{Place, Read, gives, and_then, matched, line_read, line_by, lines_by, Block, named_of, claim_of, leaf_line_of, side_of, proof_block, Chunk, entry_of, chunk_body}
+use Rattle.jf_blocks.specs.Reading.{Place, Read, gives, and_then, one_line_read, line_read, line_by, lines_by, Block, named_of, claim_of, leaf_line_of, side_of, proof_block, Chunk, entry_of, chunk_body}
 use Rattle.jf_blocks.specs.declared.chunk.ChunkHead.{ChunkHead}
 
 abbrev pub Bounded : {X : Type 0} → Place → Read X → Type 0
@@ -18,7 +18,7 @@ pub and_then-bounded : {X Y : Type 0} (p : Place) (r : Read X) (f : X → Place 
 and_then-bounded p (Ok r) f h more = further p r.1 (f r.0 r.1) h.0 h.1 (more r.0 r.1)
 and_then-bounded p (Err at) f h more = h
 
-matched-bounded : {X : Type 0} (at : ℕ) (line : List ℕ) (ls : List (List ℕ)) (o : Option X) → Bounded (record { at = at; left = line ∷ ls }) (matched at ls o)
+matched-bounded : {X : Type 0} (at : ℕ) (line : List ℕ) (ls : List (List ℕ)) (o : Option X) → Bounded (record { at = at; left = line ∷ ls }) (one_line_read at ls o)
 matched-bounded at line ls None = omega arith
 matched-bounded at line ls (Some x) = (omega arith, omega arith)
 

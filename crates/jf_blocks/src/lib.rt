@@ -18,7 +18,7 @@ pub use laws::{
     blocks_are_read_back, chunks_are_read_back, replies_begin_blocks, replies_begin_chunks,
     replies_set_roots,
 };
-pub use lines::{claim_line, claimed, leaf_line, name_line, pair_of, side_line};
+pub use lines::{claim_line, claim_of_word, leaf_line, name_line, pair_of, side_line};
 pub use sides::keep_side;
 pub use word::{three_after, two_after, word_after};
 pub use writing::{write_hex_line, write_proof, write_sides};

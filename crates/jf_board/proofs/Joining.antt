@@ -9,7 +9,7 @@ use Rattle.jf_board.specs.declared.views.PlaceView.{PlaceView}
 use Rattle.jf_board.specs.declared.views.View.{View}
 use Rattle.jf_board.specs.declared.views.View.TheVariants.{Pins, Prunes, Spent}
 use Rattle.jf_board.specs.declared.views.PrunerView.{PrunerView}
-use Rattle.jf_board.specs.Steps.{parted, first_joined, last_joined, joined_for_scan, joined_for_good, JoinedAnnounced, BelowJoined, NumbersAreGiven, learned, BoardSeat}
+use Rattle.jf_board.specs.Steps.{parted_view, first_joined, last_joined, joined_for_scan, joined_for_good, JoinedAnnounced, BelowJoined, NumbersAreGiven, LearnsOfJoined, BoardSeat}
 use Rattle.jf_board.proofs.Lists.{put, put_else, put_at, at_end}
 use Rattle.jf_board.proofs.Moving.{place_at, pruner_at, number_given, unmoved}
 use Rattle.jf_board.proofs.Pruning.{paced, placed_paced, joined_paced, paced_else, below_joined}
@@ -72,11 +72,11 @@ lends passes id v u is s r at = let fit = place_at passes s r id v u is at in le
     tt (placed_to p new id u fit) (λ j x other f. seat_else p u.number new j x (λ e. other (sym e ∙ fit.mine)) f))
 
 -- the place that joined last may go to a new seat
-pub parts : (passes id : ℕ) (v : View) (q : PrunerView) (g : PlaceView) (gs : List PlaceView) → v ≡ Prunes q → q.joined ≡ g ∷ gs → Splits (IsBoard passes) id v (parted v) (last_joined v)
+pub parts : (passes id : ℕ) (v : View) (q : PrunerView) (g : PlaceView) (gs : List PlaceView) → v ≡ Prunes q → q.joined ≡ g ∷ gs → Splits (IsBoard passes) id v (parted_view v) (last_joined v)
 parts passes id v q g gs is has s r at =
     let fit = pruner_at passes s r id v q is at in let p = r.account in let new : ℕ = length s.views in let w : PrunerView = record q { joined = gs } in let fits_joined : JoinedFit p id (g ∷ gs) = subst (JoinedFit p id) has fit.joined in
     let views : List PlaceView → List View = λ xs. set s.views id (Prunes (record q { joined = drop 1 xs })) ++ first_joined xs ∷ [] in
-    subst (λ (z : View). IsBoard passes record { words = s.words; homes = s.homes; views = set s.views id (parted z) ++ last_joined z ∷ [] }) (sym is)
+    subst (λ (z : View). IsBoard passes record { words = s.words; homes = s.homes; views = set s.views id (parted_view z) ++ last_joined z ∷ [] }) (sym is)
     (subst (λ (xs : List PlaceView). IsBoard passes record { words = s.words; homes = s.homes; views = views xs }) (sym has)
     (cut_in_two passes s r (reseated p g.number new) id (Prunes q) (Prunes w) (Pins g) (at ∙ ap some is) (same_worded passes p g.number new s.words r.written) (same_sound p g.number new r.sound) r.few
     record { alone = fit.alone; count_is = fit.count_is; gate_is = fit.gate_is; cut_is = fit.cut_is; low_is = fit.low_is; scanned_is = fit.scanned_is; pairs = fit.pairs; joined = joined_absent p g.number new id gs fits_joined.1 fits_joined.2 }
@@ -149,7 +149,7 @@ numbers_given : (p : Account) (id : ℕ) (q : PrunerView) → IsSoundAccount p �
 numbers_given p id q sound fit t has = subst (λ (k : ℕ). t.0 < k) (sym fit.count_is) (number_given p t.0 t.1 sound (fit.pairs t has))
 
 -- a load tells the pruner what joined places announced, and that the cut is at most what they have confirmed
-pub learns : (passes slots id : ℕ) (me : BoardSeat) (q : PrunerView) → me.0 ≡ Prunes q → Allows (IsBoard passes) slots id me 0 (λ x. x) (learned (step slots 0 0 0 none) me)
+pub learns : (passes slots id : ℕ) (me : BoardSeat) (q : PrunerView) → me.0 ≡ Prunes q → Allows (IsBoard passes) slots id me 0 (λ x. x) (LearnsOfJoined (step slots 0 0 0 none) me)
 learns passes slots id me q is s r _ at _ = let fit = pruner_at passes s r id me.0 q is at in let p = r.account in (
   me.0,
   keeps,
@@ -165,5 +165,5 @@ head_of [] l = absurd (omega arith)
 head_of (g ∷ gs) l = (g, gs, refl)
 
 -- a pruner with a joined place may part from it
-pub parts_some : (passes id : ℕ) (v : View) (q : PrunerView) → v ≡ Prunes q → 0 < length q.joined → Splits (IsBoard passes) id v (parted v) (last_joined v)
+pub parts_some : (passes id : ℕ) (v : View) (q : PrunerView) → v ≡ Prunes q → 0 < length q.joined → Splits (IsBoard passes) id v (parted_view v) (last_joined v)
 parts_some passes id v q is some_joined = let t = head_of q.joined some_joined in parts passes id v q t.0 t.1 is t.2

@@ -7,7 +7,7 @@ use Rattle.jf_path.specs.Limits.{max_pins}
 use Rattle.atomic_table.specs.Table.{step, keeps, stepped, Allows}
 use Rattle.jf_board.specs.Rule.{Account, IsWritten, PlaceFits, JoinedFit, IsAbsent, ViewFits, IsSoundAccount, IsBoard, opening_view}
 use Rattle.jf_board.specs.declared.views.PlaceView.{PlaceView}
-use Rattle.jf_board.specs.Steps.{numbered, newly_numbered, numbering, BoardSeat}
+use Rattle.jf_board.specs.Steps.{TakesNumber, newly_numbered, numbering, BoardSeat}
 use Rattle.jf_board.specs.declared.views.View.{View}
 use Rattle.jf_board.specs.declared.views.View.TheVariants.{Pins, Prunes, Spent}
 use Rattle.jf_board.specs.declared.views.Hold.TheVariants.{Free}
@@ -63,7 +63,7 @@ new_place p id c found r = record {
 }
 
 -- the pruner may give out one more number
-pub numbers : (passes slots id : ℕ) (me : BoardSeat) (q : PrunerView) → me.0 ≡ Prunes q → q.count < passes → passes < 2 ^ 32 → Allows (IsBoard passes) slots id me 2 (λ x. (x + 1) % 2 ^ 64) (numbered (step slots 2 1 0 none) me)
+pub numbers : (passes slots id : ℕ) (me : BoardSeat) (q : PrunerView) → me.0 ≡ Prunes q → q.count < passes → passes < 2 ^ 32 → Allows (IsBoard passes) slots id me 2 (λ x. (x + 1) % 2 ^ 64) (TakesNumber (step slots 2 1 0 none) me)
 numbers passes slots id me q is room small s r _ at _ =
     let fit = pruner_at passes s r id me.0 q is at in let p = r.account in let c : ℕ = q.count in let found : c ≡ p.count = fit.count_is in let word : get_or s.words 2 0 ≡ p.count = r.written.count_is in
     let bound : passes < 4294967296 = small in let up : (get_or s.words 2 0 + 1) % 18446744073709551616 ≡ c + 1 = omega arith in let w : View = Prunes (numbering q) in (

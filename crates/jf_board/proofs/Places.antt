@@ -10,7 +10,7 @@ use Rattle.atomic_table.specs.Table.{step, keeps, Allows}
 use Rattle.jf_board.specs.declared.views.Hold.{Hold}
 use Rattle.jf_board.specs.Rule.{Account, PlaceFits, JoinedFit, Has, ViewFits, Listed, Below, IsSoundAccount, word_of, IsWritten, IsBoard}
 use Rattle.jf_board.specs.declared.views.PlaceView.{PlaceView}
-use Rattle.jf_board.specs.Steps.{announced, announcing, BoardSeat, confirmed_from, confirming, confirmed, with_hold, withdrawn}
+use Rattle.jf_board.specs.Steps.{AnnouncesVersion, announcing, BoardSeat, confirmed_from, confirming, LoadsGate, with_hold, WithdrawsVersion}
 use Rattle.jf_board.specs.declared.views.View.{View}
 use Rattle.jf_board.specs.declared.views.View.TheVariants.{Pins, Prunes, Spent}
 use Rattle.jf_board.specs.declared.views.Hold.TheVariants.{Free, Announced, Confirmed}
@@ -106,7 +106,7 @@ longer xs y x has = (has.0, at_longer xs (y ∷ []) has.0 x has.1)
 
 -- a place may announce
 pub announces : (passes slots id i version : ℕ) (me : BoardSeat) (v : PlaceView) → me.0 ≡ Pins v → i < max_pins
-    → Allows (IsBoard passes) slots id me (max_pins * v.number + i + 3) (λ _. version + 1) (λ _. announced (step slots (max_pins * v.number + i + 3) (version + 1) 0 none) me (version + 1))
+    → Allows (IsBoard passes) slots id me (max_pins * v.number + i + 3) (λ _. version + 1) (λ _. AnnouncesVersion (step slots (max_pins * v.number + i + 3) (version + 1) 0 none) me (version + 1))
 announces passes slots id i version me v is small s r _ at _ =
     let fit = place_at passes s r id me.0 v is at in let p = r.account in let vs : List ℕ = v.announced ++ version ∷ [] in let w : PlaceView = announcing v i version in let h : Hold = Announced version in
     let grows : (x : ℕ) → Has (p.versions v.number) x → Has vs x = λ x has. longer v.announced version x (subst (λ xs. Has xs x) (sym fit.announced) has) in
@@ -163,7 +163,7 @@ hold_listed : (p : Account) (id : ℕ) (v : PlaceView) (i : ℕ) → i < max_pin
 hold_listed p id v i small sound r = subst (λ (xs : List ℕ). Listed xs (p.hold (max_pins * v.number + i))) (ap p.versions (owner_of v.number i small) ∙ sym r.announced) (sound.listed (max_pins * v.number + i))
 
 -- a place may load the gate
-pub confirms : (passes slots id : ℕ) (me : BoardSeat) (v : PlaceView) → me.0 ≡ Pins v → Allows (IsBoard passes) slots id me 0 (λ x. x) (confirmed (step slots 0 0 0 none) me)
+pub confirms : (passes slots id : ℕ) (me : BoardSeat) (v : PlaceView) → me.0 ≡ Pins v → Allows (IsBoard passes) slots id me 0 (λ x. x) (LoadsGate (step slots 0 0 0 none) me)
 confirms passes slots id me v is s r _ at _ =
     let fit = place_at passes s r id me.0 v is at in let p = r.account in let i : ℕ = v.latest in let small : i < max_pins = fit.latest in let g : ℕ = get_or s.words 0 0 in let gate = r.written.gate_is in
     let K : ℕ = max_pins * v.number + i in let x : Hold = get_or v.holds i Free in let h : Hold = confirmed_from g x in let was : x ≡ p.hold K = fit.holds i small in let w : PlaceView = confirming v g in
@@ -181,7 +181,7 @@ confirms passes slots id me v is s r _ at _ =
 
 -- a place may withdraw
 pub withdraws : (passes slots id i : ℕ) (me : BoardSeat) (v : PlaceView) → me.0 ≡ Pins v → i < max_pins
-    → Allows (IsBoard passes) slots id me (max_pins * v.number + i + 3) (λ _. 0) (λ _. withdrawn (step slots (max_pins * v.number + i + 3) 0 0 none) me 0)
+    → Allows (IsBoard passes) slots id me (max_pins * v.number + i + 3) (λ _. 0) (λ _. WithdrawsVersion (step slots (max_pins * v.number + i + 3) 0 0 none) me 0)
 withdraws passes slots id i me v is small s r _ at _ =
     let fit = place_at passes s r id me.0 v is at in let p = r.account in let w : PlaceView = with_hold v i Free in let given = fit.numbered in let few = number_below passes s r in (
       Pins w,
@@ -196,10 +196,10 @@ withdraws passes slots id i me v is small s r _ at _ =
 
 -- a place may announce a version at its place i, the word given by its number
 pub announces_at : (passes slots id i version word : ℕ) (me : BoardSeat) (v : PlaceView) → me.0 ≡ Pins v → i < max_pins → word ≡ max_pins * v.number + i + 3
-    → Allows (IsBoard passes) slots id me word (λ _. version + 1) (λ _. announced (step slots word (version + 1) 0 none) me (version + 1))
-announces_at passes slots id i version word me v is small e = subst (λ (z : ℕ). Allows (IsBoard passes) slots id me z (λ _. version + 1) (λ _. announced (step slots z (version + 1) 0 none) me (version + 1))) (sym e) (announces passes slots id i version me v is small)
+    → Allows (IsBoard passes) slots id me word (λ _. version + 1) (λ _. AnnouncesVersion (step slots word (version + 1) 0 none) me (version + 1))
+announces_at passes slots id i version word me v is small e = subst (λ (z : ℕ). Allows (IsBoard passes) slots id me z (λ _. version + 1) (λ _. AnnouncesVersion (step slots z (version + 1) 0 none) me (version + 1))) (sym e) (announces passes slots id i version me v is small)
 
 -- a place may withdraw what it holds at i, the word given by its number
 pub withdraws_at : (passes slots id i word : ℕ) (me : BoardSeat) (v : PlaceView) → me.0 ≡ Pins v → i < max_pins → word ≡ max_pins * v.number + i + 3
-    → Allows (IsBoard passes) slots id me word (λ _. 0) (λ _. withdrawn (step slots word 0 0 none) me 0)
-withdraws_at passes slots id i word me v is small e = subst (λ (z : ℕ). Allows (IsBoard passes) slots id me z (λ _. 0) (λ _. withdrawn (step slots z 0 0 none) me 0)) (sym e) (withdraws passes slots id i me v is small)
+    → Allows (IsBoard passes) slots id me word (λ _. 0) (λ _. WithdrawsVersion (step slots word 0 0 none) me 0)
+withdraws_at passes slots id i word me v is small e = subst (λ (z : ℕ). Allows (IsBoard passes) slots id me z (λ _. 0) (λ _. WithdrawsVersion (step slots z 0 0 none) me 0)) (sym e) (withdraws passes slots id i me v is small)

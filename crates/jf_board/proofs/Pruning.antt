@@ -6,7 +6,7 @@ use Rattle.std.proofs.Common.{ℕ, ◌≤◌, arith, List, [], ◌∷◌, ◌≢
 use Rattle.jf_path.specs.Limits.{max_pins}
 use Rattle.atomic_table.specs.Table.{step, keeps, Allows}
 use Rattle.jf_board.specs.Rule.{Account, PlaceFits, JoinedFit, ViewFits, IsWritten, IsBoard, Below, least, word_of, lower, Has, Listed}
-use Rattle.jf_board.specs.Steps.{scanned, raising, gate_raised, BoardSeat, cut_made, JoinedHold, BelowJoined, scanning}
+use Rattle.jf_board.specs.Steps.{LoadsPinWord, raising, gate_raised, BoardSeat, cut_made, JoinedHold, BelowJoined, scanning}
 use Rattle.jf_board.specs.declared.views.PlaceView.{PlaceView}
 use Rattle.jf_board.specs.declared.views.View.{View}
 use Rattle.jf_board.specs.declared.views.View.TheVariants.{Pins, Prunes, Spent}
@@ -124,7 +124,7 @@ below_joined p id m [] low r = tt
 below_joined p id m (g ∷ gs) low r = ((λ i small. subst (Below m) (sym (r.0.holds i small)) (low (max_pins * g.number + i))), below_joined p id m gs low r.2)
 
 -- the pruner may load the next pin word
-pub scans : (passes slots id k : ℕ) (me : BoardSeat) (q : PrunerView) → me.0 ≡ Prunes q → length q.loaded ≡ k → k < max_pins * passes → Allows (IsBoard passes) slots id me (k + 3) (λ x. x) (scanned (step slots (k + 3) 0 0 none) me)
+pub scans : (passes slots id k : ℕ) (me : BoardSeat) (q : PrunerView) → me.0 ≡ Prunes q → length q.loaded ≡ k → k < max_pins * passes → Allows (IsBoard passes) slots id me (k + 3) (λ x. x) (LoadsPinWord (step slots (k + 3) 0 0 none) me)
 scans passes slots id k me q is long inside s r _ at _ =
     let fit = pruner_at passes s r id me.0 q is at in let p = r.account in let x : ℕ = get_or s.words (k + 3) 0 in let w : PrunerView = scanning q k x in
     let found : x ≡ word_of (p.hold k) = r.written.pins_are k inside in let low : ℕ = lower p.low x in let less = lower_le p.low x in let low_gate = r.sound.low_gate in let at_k : p.scanned ≡ k = sym fit.scanned_is ∙ long in (

@@ -84,36 +84,36 @@ JoinedAnnounced pairs [] = Unit {0}
 JoinedAnnounced pairs (v ∷ vs) = ((version : ℕ) → Has pairs (v.number, version) → Has v.announced version) × JoinedAnnounced pairs vs
 
 -- the number is the old count
-abbrev pub numbered : TableStep → BoardSeat → ℕ → BoardSeat → Type 0
-numbered st m r m' = (q : PrunerView) → m.0 ≡ Prunes q → (r ≡ q.count) × (m' ≡ (Prunes (numbering q), m.1))
+abbrev pub TakesNumber : TableStep → BoardSeat → ℕ → BoardSeat → Type 0
+TakesNumber st m r m' = (q : PrunerView) → m.0 ≡ Prunes q → (r ≡ q.count) × (m' ≡ (Prunes (numbering q), m.1))
 
 -- the word of the place i goes from 0 to version + 1
-abbrev pub announced : TableStep → BoardSeat → ℕ → BoardSeat → Type 0
-announced st m r m' = (v : PlaceView) (i version : ℕ) → m.0 ≡ Pins v → st.word ≡ max_pins * v.number + i + 3 → st.first ≡ version + 1 → m' ≡ (Pins (announcing v i version), m.1)
+abbrev pub AnnouncesVersion : TableStep → BoardSeat → ℕ → BoardSeat → Type 0
+AnnouncesVersion st m r m' = (v : PlaceView) (i version : ℕ) → m.0 ≡ Pins v → st.word ≡ max_pins * v.number + i + 3 → st.first ≡ version + 1 → m' ≡ (Pins (announcing v i version), m.1)
 
 -- the gate is loaded
-abbrev pub confirmed : TableStep → BoardSeat → ℕ → BoardSeat → Type 0
-confirmed st m r m' = (v : PlaceView) → m.0 ≡ Pins v → m' ≡ (Pins (confirming v r), m.1)
+abbrev pub LoadsGate : TableStep → BoardSeat → ℕ → BoardSeat → Type 0
+LoadsGate st m r m' = (v : PlaceView) → m.0 ≡ Pins v → m' ≡ (Pins (confirming v r), m.1)
 
 -- the word of the place i goes to 0
-abbrev pub withdrawn : TableStep → BoardSeat → ℕ → BoardSeat → Type 0
-withdrawn st m r m' = (v : PlaceView) (i : ℕ) → m.0 ≡ Pins v → st.word ≡ max_pins * v.number + i + 3 → m' ≡ (Pins (with_hold v i Free), m.1)
+abbrev pub WithdrawsVersion : TableStep → BoardSeat → ℕ → BoardSeat → Type 0
+WithdrawsVersion st m r m' = (v : PlaceView) (i : ℕ) → m.0 ≡ Pins v → st.word ≡ max_pins * v.number + i + 3 → m' ≡ (Pins (with_hold v i Free), m.1)
 
 -- the gate word is set
 abbrev pub gate_raised : TableStep → BoardSeat → ℕ → BoardSeat → Type 0
 gate_raised st m r m' = (q : PrunerView) → m.0 ≡ Prunes q → m' ≡ (Prunes (raising q st.first), m.1)
 
 -- the next pin word is loaded; the cut is at most what joined places have confirmed
-abbrev pub scanned : TableStep → BoardSeat → ℕ → BoardSeat → Type 0
-scanned st m r m' = (q : PrunerView) (k : ℕ) → m.0 ≡ Prunes q → st.word ≡ k + 3 → (m' ≡ (Prunes (scanning q k r), m.1)) × JoinedHold q.joined k r × BelowJoined q.cut q.joined
+abbrev pub LoadsPinWord : TableStep → BoardSeat → ℕ → BoardSeat → Type 0
+LoadsPinWord st m r m' = (q : PrunerView) (k : ℕ) → m.0 ≡ Prunes q → st.word ≡ k + 3 → (m' ≡ (Prunes (scanning q k r), m.1)) × JoinedHold q.joined k r × BelowJoined q.cut q.joined
 
 -- the cut word is set
 abbrev pub cut_made : TableStep → BoardSeat → ℕ → BoardSeat → Type 0
 cut_made st m r m' = (q : PrunerView) → m.0 ≡ Prunes q → m' ≡ (Prunes (record q { cut = st.first }), m.1)
 
 -- each place that joined the pruner announced all that the pruner loaded at its number, and the cut is at most what it has confirmed
-abbrev pub learned : TableStep → BoardSeat → ℕ → BoardSeat → Type 0
-learned st m r m' = (q : PrunerView) → m.0 ≡ Prunes q → (m' ≡ m) × JoinedAnnounced q.pairs q.joined × NumbersAreGiven q × BelowJoined q.cut q.joined
+abbrev pub LearnsOfJoined : TableStep → BoardSeat → ℕ → BoardSeat → Type 0
+LearnsOfJoined st m r m' = (q : PrunerView) → m.0 ≡ Prunes q → (m' ≡ m) × JoinedAnnounced q.pairs q.joined × NumbersAreGiven q × BelowJoined q.cut q.joined
 
 -- the pruner takes in the view of a place, and begins a scan
 abbrev pub joined_for_scan : View → View → View
@@ -126,9 +126,9 @@ joined_for_good (Prunes q) (Pins v) = Prunes (with_joined q v)
 joined_for_good v w = v
 
 -- the place that joined last parts from the pruner
-abbrev pub parted : View → View
-parted (Prunes q) = Prunes (without_own q)
-parted v = v
+abbrev pub parted_view : View → View
+parted_view (Prunes q) = Prunes (without_own q)
+parted_view v = v
 
 -- the place that joined last
 abbrev pub first_joined : List PlaceView → View

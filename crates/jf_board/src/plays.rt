@@ -1,5 +1,5 @@
 // What each step on the table tells the seat that takes it.
-ghost use Rattle.jf_board.specs.Steps.{numbered, announced, confirmed, withdrawn, gate_raised, scanned, cut_made, learned, joined_for_scan, joined_for_good, parted, last_joined};
+ghost use Rattle.jf_board.specs.Steps.{TakesNumber, AnnouncesVersion, LoadsGate, WithdrawsVersion, gate_raised, LoadsPinWord, cut_made, LearnsOfJoined, joined_for_scan, joined_for_good, parted_view, last_joined};
 
 use crate::views::View;
 use atomic_table::{Join, Play, Split};
@@ -7,25 +7,25 @@ use atomic_table::{Join, Play, Split};
 pub(crate) struct Number;
 
 impl Play<(), View> for Number {
-    ghost then = { numbered };
+    ghost then = { TakesNumber };
 }
 
 pub(crate) struct Announce;
 
 impl Play<(), View> for Announce {
-    ghost then = { announced };
+    ghost then = { AnnouncesVersion };
 }
 
 pub(crate) struct Confirm;
 
 impl Play<(), View> for Confirm {
-    ghost then = { confirmed };
+    ghost then = { LoadsGate };
 }
 
 pub(crate) struct Withdraw;
 
 impl Play<(), View> for Withdraw {
-    ghost then = { withdrawn };
+    ghost then = { WithdrawsVersion };
 }
 
 pub(crate) struct Raise;
@@ -37,7 +37,7 @@ impl Play<(), View> for Raise {
 pub(crate) struct Scan;
 
 impl Play<(), View> for Scan {
-    ghost then = { scanned };
+    ghost then = { LoadsPinWord };
 }
 
 pub(crate) struct Cut;
@@ -49,7 +49,7 @@ impl Play<(), View> for Cut {
 pub(crate) struct Learn;
 
 impl Play<(), View> for Learn {
-    ghost then = { learned };
+    ghost then = { LearnsOfJoined };
 }
 
 // The view of a place goes to a new seat.
@@ -87,7 +87,7 @@ impl Join<View> for JoinForGood {
 pub(crate) struct Part;
 
 impl Split<View> for Part {
-    ghost left = { parted };
+    ghost left = { parted_view };
 
     ghost right = { last_joined };
 }

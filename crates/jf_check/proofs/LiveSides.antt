@@ -7,12 +7,12 @@ use Rattle.jf_disk.specs.declared.side.Side.TheVariants as side
 use Rattle.jf_frame.specs.Framed.{Framed}
 use Rattle.jf_frame.specs.Framing.{records}
 use Rattle.jf_pair.specs.Files.{HoldsLive, live_side, live_records, records_of, is_begun}
-use Rattle.jf_files.specs.Files.{held}
+use Rattle.jf_files.specs.Files.{records_of_side}
 use Rattle.jf_check.specs.Stores.{live_among, live_found}
 
 -- the live side of files that hold live records
 pub live_of_held : (files : Files) (rs : List Framed) (h : HoldsLive files rs) → live_found files ≡ live_among h.a_records h.b_records
-live_of_held files rs h = ap₂ (λ left right. live_among (held left) (held right)) h.a_held h.b_held
+live_of_held files rs h = ap₂ (λ left right. live_among (records_of_side left) (records_of_side right)) h.a_held h.b_held
 
 -- a side with live records is live
 pub live_some : (left right : List Framed) (x : Framed) (xs : List Framed) → live_records left right ≡ x ∷ xs → live_among left right ≡ Some (live_side left right)

@@ -15,7 +15,7 @@ use Rattle.jf_standing.specs.Sound.{IsSound}
 use Rattle.jf_standing.specs.Next.{IsReadStanding}
 use Rattle.jf_standing.specs.Building.{new_standing, checkpoint_of}
 use Rattle.jf_standing.specs.FormatLaws.{standing_in}
-use Rattle.jf_files.specs.Files.{StandsFor, IsDamagedAt, LeadToStanding, held}
+use Rattle.jf_files.specs.Files.{StandsFor, IsDamagedAt, LeadToStanding, records_of_side}
 use Rattle.jf_check.specs.declared.store_check.StoreCheck.{StoreCheck}
 use Rattle.jf_check.specs.declared.store_check.StoreCheck.TheVariants as store_check
 use Rattle.jf_check.specs.declared.check.Check.{Check}
@@ -39,7 +39,7 @@ live_among (a ∷ left) right = Some (live_side (a ∷ left) right)
 
 -- the live side of two files
 abbrev pub live_found : Files → Option Side
-live_found files = live_among (held (records files.a)) (held (records files.b))
+live_found files = live_among (records_of_side (records files.a)) (records_of_side (records files.b))
 
 -- ---- a new checkpoint
 -- records lead to a standing with counts: no records to that of a new store; others, if they lead to what their format keeps

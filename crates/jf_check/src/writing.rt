@@ -1,6 +1,6 @@
 // The lines that tell what two files show.
 ghost use Rattle.std.specs.Prelude.{◌≡◌, ◌∷◌, [], ◌++◌, IfOk, OnOk, Some};
-ghost use Rattle.jf_text.specs.Words.{line_text, spaced};
+ghost use Rattle.jf_text.specs.Words.{line_text, spaced_words};
 ghost use Rattle.jf_disk.specs.declared.side.Side.TheVariants as side;
 ghost use Rattle.jf_check.specs.Texts.{check_text, file_word, live_word, number_words, shown_words, store_words};
 
@@ -37,7 +37,7 @@ fn write_side(name: &[u8], check: &SideCheck, out: &mut Bytes) -> Result<(), Mem
 
 // Appends the words of what a file shows, with a space before each.
 fn write_shown(check: &SideCheck, out: &mut Bytes) -> Result<(), Memory>
-    ensures { OnOk result (out.new ≡ out.old ++ spaced (shown_words check.now)) }
+    ensures { OnOk result (out.new ≡ out.old ++ spaced_words (shown_words check.now)) }
 {
     match check {
         SideCheck::Absent => out.append(b" absent"),
@@ -61,7 +61,7 @@ fn write_shown(check: &SideCheck, out: &mut Bytes) -> Result<(), Memory>
 
 // Appends the words of the numbers, if there are any.
 fn write_numbers(numbers: &Option<SideNumbers>, out: &mut Bytes) -> Result<(), Memory>
-    ensures { OnOk result (out.new ≡ out.old ++ spaced (number_words numbers.now)) }
+    ensures { OnOk result (out.new ≡ out.old ++ spaced_words (number_words numbers.now)) }
 {
     let Some(numbers) = numbers else {
         return Ok(());

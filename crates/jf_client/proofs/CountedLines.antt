@@ -1,6 +1,6 @@
 -- How many lines a proof block takes.
 use Rattle.std.proofs.Common.{◌≡◌, ℕ, zero, suc, ◌+◌, List, [], ◌∷◌, length, Option, Some, None, Ok, Err, refl, ◌∙◌, arith}
-use Rattle.jf_blocks.specs.Reading.{Read, Place, and_then, matched, line_by, lines_by, named_of, claim_of, leaf_line_of, side_of, line_read, proof_block}
+use Rattle.jf_blocks.specs.Reading.{Read, Place, and_then, one_line_read, line_by, lines_by, named_of, claim_of, leaf_line_of, side_of, line_read, proof_block}
 
 -- ---- how many lines a block takes
 -- a reading counts the lines that it takes
@@ -16,7 +16,7 @@ and_then-counted : {X Y : Type 0} (p : Place) (r : Read X) (f : X → Place → 
 and_then-counted p (Ok r) f h more = further p r.1 (f r.0 r.1) h (more r.0 r.1)
 and_then-counted p (Err at) f h more = tt
 
-matched-counted : {X : Type 0} (at : ℕ) (line : List ℕ) (ls : List (List ℕ)) (o : Option X) → Counted (record { at = at; left = line ∷ ls }) (matched at ls o)
+matched-counted : {X : Type 0} (at : ℕ) (line : List ℕ) (ls : List (List ℕ)) (o : Option X) → Counted (record { at = at; left = line ∷ ls }) (one_line_read at ls o)
 matched-counted at line ls None = tt
 matched-counted at line ls (Some x) = omega arith
 

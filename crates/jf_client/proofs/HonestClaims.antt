@@ -9,7 +9,7 @@ use Rattle.jf_evidence.specs.Proofs.{refusal}
 use Rattle.jf_evidence.specs.declared.proof.ProofFault.{ProofFault}
 use Rattle.jf_collide.specs.declared.judged.Judged.{Judged}
 use Rattle.jf_text.specs.Words.{line_text}
-use Rattle.jf_verify.specs.Verdicts.{judged, contradicts, contradicted, contradiction_text, same_claim, refused_text}
+use Rattle.jf_verify.specs.Verdicts.{judgement_under, contradicts, contradicted_claim, contradiction_text, same_claim, refused_text}
 use Rattle.jf_verify.specs.declared.accepted.Accepted.{Accepted}
 
 -- ---- lists of claims
@@ -39,18 +39,18 @@ module _ (asked : Map → Type 0) (one : (m m' : Map) → asked m → asked m' �
       let claim : b.judged.claim ≡ a.judged.claim = hb.3 ∙ ap₂ (λ (m : Map) (key : List ℕ). fin.get m key) maps key ∙ sym ha.3 in
       ap (λ b. not b) (ap (λ (c : Option (List ℕ)). same_claim c a.judged.claim) claim ∙ same_claim-self a.judged.claim)
 
-  none_contradicted : (a : Accepted) (claims : List Accepted) → IsOf asked a → AllByRecursion (IsOf asked) claims → contradicted a claims ≡ None
+  none_contradicted : (a : Accepted) (claims : List Accepted) → IsOf asked a → AllByRecursion (IsOf asked) claims → contradicted_claim a claims ≡ None
   none_contradicted a [] ha all = refl
   none_contradicted a (b ∷ claims) ha all =
       ap (λ t. cond t (Some b) (find (contradicts a) claims)) (agree_of a b (bytes_eq b.root a.root) (bytes_eq b.judged.key a.judged.key) ha all.0 refl refl) ∙ none_contradicted a claims ha all.1
 
   pub judged-honest : (m : Map) (claims : List Accepted) (j : Judged) → asked m → refusal (root m) j.key j.claim j.proof ≡ None → j.claim ≡ fin.get m j.key → AllByRecursion (IsOf asked) claims
-      → judged (root m) claims j ≡ (codes "accepted\n", claims ++ (record { root = root m; judged = j }) ∷ [])
-  unfolding judged
+      → judgement_under (root m) claims j ≡ (codes "accepted\n", claims ++ (record { root = root m; judged = j }) ∷ [])
+  unfolding judgement_under
   judged-honest m claims j among accepted is all =
       let a : Accepted = record { root = root m; judged = j } in
       ap (λ (o : Option ProofFault). elim o as (λ x. List ℕ × List Accepted) [
         | Some why ↦ (refused_text why, claims)
-        | None ↦ (line_text (codes "accepted" ∷ []) ++ contradiction_text a (contradicted a claims), claims ++ a ∷ [])
+        | None ↦ (line_text (codes "accepted" ∷ []) ++ contradiction_text a (contradicted_claim a claims), claims ++ a ∷ [])
       ]) accepted
       ∙ ap (λ (o : Option Accepted). (line_text (codes "accepted" ∷ []) ++ contradiction_text a o, claims ++ a ∷ [])) (none_contradicted a claims (m, among, refl, is) all)

@@ -13,7 +13,7 @@ use Rattle.jf_multi.specs.Verdicts.{many_refusal}
 use Rattle.jf_many_blocks.specs.ManyBlocks.{on_keys}
 use Rattle.jf_many_blocks.specs.ManyReading.{ManyBlock, many_of, many_body}
 use Rattle.jf_many_blocks.specs.declared.head.ManyHead.{ManyHead}
-use Rattle.jf_verify.specs.Verdicts.{Judging, say, verdicts_from, say_block, say_many, many_verdict_text, judged, judged_of, refused_text, contradicted, contradiction_text, nothing_known, verdicts}
+use Rattle.jf_verify.specs.Verdicts.{Judging, say, verdicts_from, say_block, say_many, many_verdict_text, judgement_under, judged_of, refused_text, contradicted_claim, contradiction_text, nothing_known, verdicts}
 use Rattle.jf_verify.specs.declared.accepted.Accepted.{Accepted}
 use Rattle.jf_client.proofs.Openings.{opening-first, opening-many}
 
@@ -30,7 +30,7 @@ knows root claims = record { root = Some root; claims = claims }
 pub block_step : (n at : ℕ) (root : List ℕ) (claims : List Accepted) (line : List ℕ) (ls : List (List ℕ)) (k : ℕ) (name : List ℕ) (claim : Option (List ℕ)) (proof : Proof) (place : Place)
     → line_read first_line_of line ≡ Some (first.Proof k) → proof_block k (record { at = at + 1; left = ls }) ≡ Ok ((name, claim, proof), place)
     → verdicts_from (suc n) (knows root claims) (record { at = at; left = line ∷ ls })
-    ≡ (judged root claims (judged_of (name, claim, proof))).0 ++ verdicts_from n (knows root (judged root claims (judged_of (name, claim, proof))).1) place
+    ≡ (judgement_under root claims (judged_of (name, claim, proof))).0 ++ verdicts_from n (knows root (judgement_under root claims (judged_of (name, claim, proof))).1) place
 unfolding verdicts_from
 block_step n at root claims line ls k name claim proof place e read =
     ap (λ o. let s = say (knows root claims) (record { at = at; left = line ∷ ls }) (record { at = at + 1; left = ls }) o in s.text ++ verdicts_from n s.known s.place) (opening-first line (first.Proof k) e)
@@ -50,13 +50,13 @@ end_step zero j at = refl
 end_step (suc n) j at = refl
 
 -- a first claim that no check refuses is judged accepted
-judged-first : (root : List ℕ) (j : Judged) → refusal root j.key j.claim j.proof ≡ None → (judged root [] j).0 ≡ codes "accepted\n"
-unfolding judged
+judged-first : (root : List ℕ) (j : Judged) → refusal root j.key j.claim j.proof ≡ None → (judgement_under root [] j).0 ≡ codes "accepted\n"
+unfolding judgement_under
 judged-first root j e =
     let a : Accepted = record { root = root; judged = j } in
     ap (λ (o : Option ProofFault). let r : List ℕ × List Accepted = elim o as (λ x. List ℕ × List Accepted) [
       | Some why ↦ (refused_text why, [])
-      | None ↦ (line_text (codes "accepted" ∷ []) ++ contradiction_text a (contradicted a []), [] ++ a ∷ [])
+      | None ↦ (line_text (codes "accepted" ∷ []) ++ contradiction_text a (contradicted_claim a []), [] ++ a ∷ [])
     ] in r.0) e
 
 pub verdicts-of_one : (input first_line second_line : List ℕ) (ls : List (List ℕ)) (root : List ℕ) (k : ℕ) (name : List ℕ) (claim : Option (List ℕ)) (proof : Proof) (at : ℕ)
@@ -68,4 +68,4 @@ verdicts-of_one input first_line second_line ls root k name claim proof at is se
     let j : Judged = judged_of (name, claim, proof) in
     ap (λ xs. verdicts_from (length xs) nothing_known (first_place xs)) is ∙ root_step (length (second_line ∷ ls)) 1 nothing_known first_line (second_line ∷ ls) root sets
     ∙ block_step (length ls) 2 root [] second_line ls k name claim proof (record { at = at; left = [] }) begins read
-    ∙ ap (λ t. (judged root [] j).0 ++ t) (end_step (length ls) (knows root (judged root [] j).1) at) ∙ append-nil (judged root [] j).0 ∙ judged-first root j accepted
+    ∙ ap (λ t. (judgement_under root [] j).0 ++ t) (end_step (length ls) (knows root (judgement_under root [] j).1) at) ∙ append-nil (judgement_under root [] j).0 ∙ judged-first root j accepted

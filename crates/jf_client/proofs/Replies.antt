@@ -30,9 +30,9 @@ use Rattle.jf_blocks.specs.Blocks.{proof_lines}
 use Rattle.jf_blocks.specs.Reading.{proof_block}
 use Rattle.jf_blocks.specs.Laws.{BlocksAreReadBack, RepliesBeginBlocks, RepliesSetRoots}
 use Rattle.jf_verify.specs.Verdicts.{verdicts}
-use Rattle.jf_answers.specs.Own.{Own, pinned}
+use Rattle.jf_answers.specs.Own.{Own, version_pinned_at}
 use Rattle.jf_answers.specs.Refusals.{refused_by, base_map, question_causes}
-use Rattle.jf_answers.specs.Answers.{answer, answer_to, too_long, Answer, answer_command, granted, replied, read_answer}
+use Rattle.jf_answers.specs.Answers.{answer, answer_to, too_long, Answer, answer_command, granted_answer, own_answer, read_answer}
 use Rattle.jf_answers.specs.Runs.{answer_text}
 use Rattle.jf_client.specs.Laws.{IsKeptBase, FitsLine, HonestRepliesAreAccepted}
 use Rattle.jf_client.proofs.Told.{hash_of_key, honest-told}
@@ -50,15 +50,15 @@ kept_read s own (base.Version w) q kept free =
     let live : nat_lt w s.retired ≡ false = grind (arith, nat_tests) in
     rw (there, live) free
 kept_read s own (base.Place place) q kept free =
-    let held : is_none (pinned own place) ≡ false = ap (λ (o : Option ℕ). is_none o) kept.1 in
+    let held : is_none (version_pinned_at own place) ≡ false = ap (λ (o : Option ℕ). is_none o) kept.1 in
     rw held free
 
 pub answered : (s : State) (own : Own) (line : List ℕ) (c : Command) → is_long line ≡ false → command_of line ≡ Some c → answer s own line ≡ answer_to (Some c) s own
 unfolding answer
 answered s own line c short read = ap (λ b. cond b (too_long s own) (answer_to (command_of line) s own)) short ∙ ap (λ o. answer_to o s own) read
 
-pub unrefused : (s : State) (own : Own) (c : Command) → refused_by s own c ≡ None → answer_command s own c ≡ granted c s own
-unrefused s own c free = ap (λ (o : Option Refusal). elim o as (λ x. Answer) [ Some why ↦ replied (reply.No why) s own | None ↦ granted c s own ]) free
+pub unrefused : (s : State) (own : Own) (c : Command) → refused_by s own c ≡ None → answer_command s own c ≡ granted_answer c s own
+unrefused s own c free = ap (λ (o : Option Refusal). elim o as (λ x. Answer) [ Some why ↦ own_answer (reply.No why) s own | None ↦ granted_answer c s own ]) free
 
 -- a question that its map doesn't refuse is answered
 pub question_to : (s : State) (own : Own) (on : Base) (q : Question) → IsKeptBase s own on → first_of (question_causes q (base_map s own on)) ≡ None
@@ -74,7 +74,7 @@ map-at (suc i) (m ∷ ms) all = map-at i ms all.1
 base-IsMap : (s : State) (own : Own) (on : Base) → IsVersions s.all → IsKeptBase s own on → IsMap (base_map s own on)
 base-IsMap s own base.Head sound kept = newest-IsMap s.all sound
 base-IsMap s own (base.Version w) sound kept = map-at (s.all.head - w) s.all.maps sound.sound
-base-IsMap s own (base.Place place) sound kept = map-at (s.all.head - unwrap_or (pinned own place) 0) s.all.maps sound.sound
+base-IsMap s own (base.Place place) sound kept = map-at (s.all.head - unwrap_or (version_pinned_at own place) 0) s.all.maps sound.sound
 
 -- ---- the two replies
 module _ (back : BlocksAreReadBack) (begins : RepliesBeginBlocks) (sets : RepliesSetRoots) (accepted : HonestClaimsAreAccepted) where

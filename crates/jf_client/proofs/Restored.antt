@@ -23,7 +23,7 @@ use Rattle.jf_script.specs.declared.command.Command.TheVariants as command
 use Rattle.jf_script.specs.declared.reply.Reply.TheVariants as reply
 use Rattle.jf_script.specs.Replies.{reply_text}
 use Rattle.jf_blocks.specs.Blocks.{chunk_lines}
-use Rattle.jf_blocks.specs.Reading.{Read, Chunk, Place, and_then, matched, line_read, chunk_of, chunk_body}
+use Rattle.jf_blocks.specs.Reading.{Read, Chunk, Place, and_then, one_line_read, line_read, chunk_of, chunk_body}
 use Rattle.jf_blocks.specs.Laws.{IsHash, IsChunkBlock, ChunksAreReadBack, RepliesBeginChunks, head}
 use Rattle.jf_blocks.specs.declared.chunk.ChunkHead.{ChunkHead}
 use Rattle.jf_blocks.proofs.Bounds.{Bounded, chunk_body-bounded}
@@ -31,7 +31,7 @@ use Rattle.hex.specs.Hex.{IsBytes}
 use Rattle.jf_receive.specs.Chunks.{chunks_from, accepted_chunk}
 use Rattle.jf_receive.specs.declared.fault.BlockFault.{BlockFault}
 use Rattle.jf_receive.specs.declared.fault.BlockFault.TheVariants as block_fault
-use Rattle.jf_receive.specs.Restored.{restored, restored_entries, of_block}
+use Rattle.jf_receive.specs.Restored.{restore_result, restored_entries, of_block}
 use Rattle.jf_receive.specs.declared.received.RestoreFault.{RestoreFault}
 use Rattle.jf_answers.specs.Refusals.{base_map}
 use Rattle.jf_answers.specs.Answers.{answer, Answer, read_answer}
@@ -135,7 +135,7 @@ module _ (back : ChunksAreReadBack) (begins : RepliesBeginChunks) (accepted : Ho
         let after : Place = record { at = at + 1 + length (es m start count) + length (proof m start count).siblings; left = lines rest } in
         let goes : Entries → Result Entries BlockFault = λ all. chunks_from n (root m) all after in
         ap (λ (ls : List (List ℕ)). chunks_from (suc n) (root m) known (record { at = at; left = ls })) first.1
-        ∙ ap (λ (o : Option ChunkHead). elim (and_then (matched at (lines (block ++ rest)) o) chunk_body) as (λ x. Result Entries BlockFault) [
+        ∙ ap (λ (o : Option ChunkHead). elim (and_then (one_line_read at (lines (block ++ rest)) o) chunk_body) as (λ x. Result Entries BlockFault) [
           | Err e ↦ Err (block_fault.Line e)
           | Ok b ↦ elim (accepted_chunk (root m) at known b.0) as (λ x. Result Entries BlockFault) [ Err why ↦ Err why | Ok all ↦ chunks_from n (root m) all b.1 ]
         ]) first.2
@@ -182,7 +182,7 @@ module _ (back : ChunksAreReadBack) (begins : RepliesBeginChunks) (accepted : Ho
       let fits : nat_lt (2 ^ 62) (length (entries m)) ≡ false = grind (arith, nat_tests) in
       rw (same, early, fits) refl
 
-  pub all_restored : (generation : ℕ) (cs : List ChunkLine) → length (entries m) ≤ 2 ^ 62 → generation < 2 ^ 64 - 2 → AskInTurn m 0 cs → restored generation (root m) (chunk_replies cs) ≡ Ok (entries m)
+  pub all_restored : (generation : ℕ) (cs : List ChunkLine) → length (entries m) ≤ 2 ^ 62 → generation < 2 ^ 64 - 2 → AskInTurn m 0 cs → restore_result generation (root m) (chunk_replies cs) ≡ Ok (entries m)
   all_restored generation cs many room asks =
       ap (λ (r : Result Entries BlockFault). elim r as (λ x. Result Entries RestoreFault) [ Ok es ↦ restored_entries generation (root m) es | Err why ↦ Err (of_block why) ])
       (taken cs (length (lines (chunk_replies cs))) 1 0 asks (omega arith))

@@ -30,7 +30,7 @@ use Rattle.jf_verify.specs.Verdicts.{Judging, say, syntax_text, verdicts_from, v
 use Rattle.jf_verify.specs.declared.accepted.Accepted.{Accepted}
 use Rattle.jf_answers.specs.Own.{Own}
 use Rattle.jf_answers.specs.Refusals.{base_map}
-use Rattle.jf_answers.specs.Answers.{Answer, granted, replied, read_answer}
+use Rattle.jf_answers.specs.Answers.{Answer, granted_answer, own_answer, read_answer}
 use Rattle.jf_answers.specs.Runs.{answer_text}
 use Rattle.jf_client.specs.RunLaws.{Heard, answer_heard, text_heard, told_by, syntax_lines, judged_from, question_in, map_in, Asks, AsksRoot, AsksProof, IsOther, AreHeardOn, IsAskedOf, WholeRunsAreJudged}
 use Rattle.jf_client.proofs.Told.{hash_of_key, honest-told}
@@ -60,7 +60,7 @@ syntax_steps n at j (x ∷ xs) ls none =
     ∙ sym (append_assoc (syntax_text at) (syntax_lines (at + 1) (length xs)) (verdicts_from n j (record { at = at + length (x ∷ xs); left = ls })))
 
 -- a read that nothing refuses
-granted-read : (c : Command) (q : Question) (s : State) (own : Own) → question_in c ≡ Some q → granted c s own ≡ read_answer q (map_in s own c) s own
+granted-read : (c : Command) (q : Question) (s : State) (own : Own) → question_in c ≡ Some q → granted_answer c s own ≡ read_answer q (map_in s own c) s own
 granted-read (command.Own c) q s own e = absurd (cc)
 granted-read (command.Read on p) q s own e = ap (λ (o : Option Question). read_answer (unwrap_or o q) (base_map s own on) s own) e
 granted-read (command.ReadFork id p) q s own e = ap (λ (o : Option Question). read_answer (unwrap_or o q) (fork_map (newest s.all) s.forks id) s own) e
@@ -78,7 +78,7 @@ answer_asked q m h a =
 -- `asked` holds of the maps whose roots all lines ask for, those judged before included
 module _ (back : BlocksAreReadBack) (begins : RepliesBeginBlocks) (sets : RepliesSetRoots) (accepted : HonestClaimsAreAccepted) (asked : Map → Type 0)
     (one_map : (m m' : Map) → asked m → asked m' → root m ≡ root m' → m ≡ m') where
-  root_text : (m : Map) (h : Heard) → AsksRoot m h → answer_heard h ≡ replied (reply.Root (root m)) h.state h.own
+  root_text : (m : Map) (h : Heard) → AsksRoot m h → answer_heard h ≡ own_answer (reply.Root (root m)) h.state h.own
   root_text m h a = answer_asked question.Root m h a.asks
 
   proof_text : (m : Map) (h : Heard) (a : AsksProof m h) → answer_heard h ≡ read_answer (question.Prove a.name) m h.state h.own

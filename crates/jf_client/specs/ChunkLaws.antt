@@ -15,7 +15,7 @@ use Rattle.jf_answers.specs.Own.{Own}
 use Rattle.jf_answers.specs.Refusals.{base_map}
 use Rattle.jf_answers.specs.Answers.{answer}
 use Rattle.jf_answers.specs.Runs.{answer_text}
-use Rattle.jf_receive.specs.Restored.{restored}
+use Rattle.jf_receive.specs.Restored.{restore_result}
 use Rattle.jf_client.specs.Laws.{IsKeptBase}
 
 -- a line that asks for so many entries of a base, over what it is answered, and the number of its reply
@@ -50,4 +50,4 @@ chunk_replies cs = flat_map (λ c. answer_text c.number (answer c.state c.own c.
 -- the replies to `chunk` on a kept version, one after another and with any numbers, of one session or of several, restore its map
 abbrev pub HonestChunksAreRestored : Type 0
 HonestChunksAreRestored = (m : Map) (generation : ℕ) (cs : List ChunkLine) → IsMap m → AllByRecursion (λ e. length e.1 ≤ max_value) (entries m) → length (entries m) ≤ 2 ^ 62 → generation < 2 ^ 64 - 2
-    → AskInTurn m 0 cs → restored generation (root m) (chunk_replies cs) ≡ Ok (entries m)
+    → AskInTurn m 0 cs → restore_result generation (root m) (chunk_replies cs) ≡ Ok (entries m)

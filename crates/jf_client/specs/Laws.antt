@@ -13,7 +13,7 @@ use Rattle.jf_script.specs.declared.command.Base.TheVariants as base
 use Rattle.jf_script.specs.declared.command.Question.TheVariants as question
 use Rattle.jf_script.specs.declared.command.Command.TheVariants as command
 use Rattle.jf_verify.specs.Verdicts.{verdicts}
-use Rattle.jf_answers.specs.Own.{Own, pinned}
+use Rattle.jf_answers.specs.Own.{Own, version_pinned_at}
 use Rattle.jf_answers.specs.Refusals.{base_map}
 use Rattle.jf_answers.specs.Answers.{answer}
 use Rattle.jf_answers.specs.Runs.{answer_text}
@@ -22,7 +22,7 @@ use Rattle.jf_answers.specs.Runs.{answer_text}
 abbrev pub IsKeptBase : State → Own → Base → Type 0
 IsKeptBase s own base.Head = Unit {0}
 IsKeptBase s own (base.Version w) = (s.retired ≤ w) × (w ≤ s.all.head)
-IsKeptBase s own (base.Place place) = (w : ℕ) × (pinned own place ≡ Some w)
+IsKeptBase s own (base.Place place) = (w : ℕ) × (version_pinned_at own place ≡ Some w)
 
 -- a name, and a value, if there is one, that are no longer than they may be: what lines can carry
 pub record FitsLine (name : List ℕ) (value : Option (List ℕ)) : Type 0 where

@@ -4,7 +4,7 @@ use Rattle.std.proofs.lemmas.Bool.{and_cases, eqb-true, le-ltb, ltb-false, cases
 use Rattle.std.proofs.lemmas.List.{length-take, get_or_past, length-append, drop_at}
 use Rattle.std.specs.List.{AllByRecursion}
 use Rattle.std.specs.Result.{result_err}
-use Rattle.jf_path.specs.Paths.{halves, has_padding, IsPath, path_bytes, path_fault, has_wrong_length, packed}
+use Rattle.jf_path.specs.Paths.{halves, has_padding, IsPath, path_bytes, path_fault, has_wrong_length, packed_nibbles}
 use Rattle.jf_path.specs.declared.fault.PathFault.{PathFault}
 use Rattle.jf_path.specs.Numbers.{eight_bytes}
 use Rattle.jf_path.specs.Names.{IsName}
@@ -12,7 +12,7 @@ use Rattle.jf_path.specs.declared.name.NodeName.{NodeName}
 use Rattle.jf_path.specs.declared.fault.PathFault.TheVariants as why
 use Rattle.jf_path.proofs.ByteLaws.{AreBytes, AreBytes-rest, Takes, Takes-then}
 use Rattle.jf_path.proofs.PathLaws.{length-halves, packed-take-halves, get_or-packed, length-packed, take-halves-packed}
-use Rattle.jf_codec.specs.Reading.{bytes_at, nibbles_at, path_at, ◌>>=◌, eight_at, name_at, counted, Reads}
+use Rattle.jf_codec.specs.Reading.{bytes_at, nibbles_at, path_at, ◌>>=◌, eight_at, name_at, reading_with_length, Reads}
 use Rattle.jf_codec.specs.declared.fault.CodecFault.{CodecFault}
 use Rattle.jf_codec.specs.Spelling.{name_bytes}
 use Rattle.jf_codec.specs.declared.fault.CodecFault.TheVariants as fault
@@ -102,20 +102,20 @@ path_takes (count ∷ bytes) x fits e =
     subst (λ (y : List ℕ × List ℕ). Takes (count ∷ bytes) (path_bytes y.0) y.1 × IsPath y.0) (ok_is (take count (halves p.0.0), p.0.1) x h.1)
     (record { parts = ap (λ (bs : List ℕ). count ∷ bs) t.0.parts ∙ ap (λ (bs : List ℕ). bs ++ p.0.1) good.same; rest_fits = t.0.rest_fits }, good.path)
 
-has_padding-packed : (path : List ℕ) → has_padding (length path ∷ packed path) ≡ false
+has_padding-packed : (path : List ℕ) → has_padding (length path ∷ packed_nibbles path) ≡ false
 has_padding-packed path =
     elim (cases_eq (length path % 2) 1) [
       | inl odd ↦
-          let end : get_or (packed path) (length path / 2) 0 % 16 ≡ 0 = let past = get_or_past path (length path) 0 (omega arith) in omega (arith, get_or-packed path (length path / 2) (2 * (length path / 2)) (length path) refl (omega arith)) in
+          let end : get_or (packed_nibbles path) (length path / 2) 0 % 16 ≡ 0 = let past = get_or_past path (length path) 0 (omega arith) in omega (arith, get_or-packed path (length path / 2) (2 * (length path / 2)) (length path) refl (omega arith)) in
           ap₂ (λ a b. a && not b) (eq-eqb (length path % 2) 1 odd) (eq-eqb _ _ end)
-      | inr even ↦ ap (λ a. a && not (get_or (packed path) (length path / 2) 0 % 16 == 0)) (ne_eqb _ _ even)
+      | inr even ↦ ap (λ a. a && not (get_or (packed_nibbles path) (length path / 2) 0 % 16 == 0)) (ne_eqb _ _ even)
     ]
 
 pub path_again : (path rest : List ℕ) → IsPath path → path_at (path_bytes path ++ rest) ≡ Ok (path, rest)
 unfolding path_bytes
 path_again path rest is =
-    path_by_padding (length path) (packed path ++ rest) (packed path, rest) is.short (bytes_again ((length path + 1) / 2) (packed path) rest (length-packed path))
-    ∙ ap (λ b. cond b (Err fault.Path) (Ok (take (length path) (halves (packed path)), rest))) (has_padding-packed path)
+    path_by_padding (length path) (packed_nibbles path ++ rest) (packed_nibbles path, rest) is.short (bytes_again ((length path + 1) / 2) (packed_nibbles path) rest (length-packed path))
+    ∙ ap (λ b. cond b (Err fault.Path) (Ok (take (length path) (halves (packed_nibbles path)), rest))) (has_padding-packed path)
     ∙ ap (λ (p : List ℕ). Ok (p, rest)) (take-halves-packed path is.nibbles)
 
 pub name_takes : (bytes : List ℕ) (x : NodeName × List ℕ) → AreBytes bytes → name_at bytes ≡ Ok x → Takes bytes (name_bytes x.0) x.1 × IsName x.0
@@ -146,27 +146,27 @@ pub record BeginsWithName (bytes : List ℕ) (x : NodeName × ℕ) : Type 0 wher
   pub front : bytes ≡ name_bytes x.0 ++ drop x.1 bytes
   pub count : x.1 ≡ length (name_bytes x.0)
 
-pub name_found : (bytes : List ℕ) (x : NodeName × ℕ) → AreBytes bytes → counted bytes (name_at bytes) ≡ Ok x → BeginsWithName bytes x
+pub name_found : (bytes : List ℕ) (x : NodeName × ℕ) → AreBytes bytes → reading_with_length bytes (name_at bytes) ≡ Ok x → BeginsWithName bytes x
 name_found bytes x fits e =
     let n = bind_ok (name_at bytes) (λ y. Ok (y.0, length bytes - length y.1)) x e in
     let t = name_takes bytes n.0 fits n.1 in
     subst (λ (y : NodeName × ℕ). BeginsWithName bytes y) (ok_is (n.0.0, length bytes - length n.0.1) x n.2)
     (record { name = t.1; front = left bytes (name_bytes n.0.0) n.0.1 t.0.parts; count = taken bytes (name_bytes n.0.0) n.0.1 t.0.parts })
 
-pub name_counted : (bytes : List ℕ) (name : NodeName) (rest : List ℕ) → IsName name → bytes ≡ name_bytes name ++ rest → counted bytes (name_at bytes) ≡ Ok (name, length (name_bytes name))
+pub name_counted : (bytes : List ℕ) (name : NodeName) (rest : List ℕ) → IsName name → bytes ≡ name_bytes name ++ rest → reading_with_length bytes (name_at bytes) ≡ Ok (name, length (name_bytes name))
 name_counted bytes name rest is e =
-    ap (counted bytes) (ap name_at e ∙ name_again name rest is) ∙ ap (λ (n : ℕ). Ok (name, n)) (taken bytes (name_bytes name) rest e)
+    ap (reading_with_length bytes) (ap name_at e ∙ name_again name rest is) ∙ ap (λ (n : ℕ). Ok (name, n)) (taken bytes (name_bytes name) rest e)
 
 pub name_short : (bytes : List ℕ) (x : NodeName × List ℕ) → AreBytes bytes → name_at bytes ≡ Ok x → length x.1 ≤ length bytes
 name_short bytes x fits e = let t = name_takes bytes x fits e in let l = ap length t.0.parts ∙ length-append (name_bytes x.0) x.1 in omega arith
 
 -- the name that a function returns is at the front of the bytes
-pub is_name_found : (bytes : List ℕ) (r : Result (NodeName × ℕ) CodecFault) → AreBytes bytes → Reads (λ x. x) r (counted bytes (name_at bytes))
+pub is_name_found : (bytes : List ℕ) (r : Result (NodeName × ℕ) CodecFault) → AreBytes bytes → Reads (λ x. x) r (reading_with_length bytes (name_at bytes))
     → IfOk r (λ x. IsName x.0 × (bytes ≡ name_bytes x.0 ++ drop x.1 bytes) × (x.1 ≡ length (name_bytes x.0)))
 is_name_found bytes (Ok x) fits reads = let f = name_found bytes x fits reads in (f.name, f.front, f.count)
 is_name_found bytes (Err e) fits reads = tt
 
-pub is_only_name : (bytes : List ℕ) (r : Result (NodeName × ℕ) CodecFault) → Reads (λ x. x) r (counted bytes (name_at bytes))
+pub is_only_name : (bytes : List ℕ) (r : Result (NodeName × ℕ) CodecFault) → Reads (λ x. x) r (reading_with_length bytes (name_at bytes))
     → (name : NodeName) (rest : List ℕ) → IsName name → bytes ≡ name_bytes name ++ rest → r ≡ Ok (name, length (name_bytes name))
 is_only_name bytes (Ok x) reads name rest is e = sym reads ∙ name_counted bytes name rest is e
 is_only_name bytes (Err d) reads name rest is e = absurd (let both = sym reads ∙ name_counted bytes name rest is e in cc)

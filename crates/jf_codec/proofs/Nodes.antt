@@ -11,7 +11,7 @@ use Rattle.jf_path.specs.Nodes.{ChildrenRiseFrom}
 use Rattle.jf_path.specs.declared.children.Child.{Child}
 use Rattle.jf_path.specs.declared.node.PlainNode.TheVariants as node
 use Rattle.jf_path.proofs.ByteLaws.{AreBytes, Takes, Takes-then, IsBytes-from_places, AreBytes-rest}
-use Rattle.jf_codec.specs.Reading.{bytes_at, four_at, value_at, ◌>>=◌, leaf_at, two_at, are_wrong, bitmaps_at, has, children_at, inner_at, node_at, ReadsGivenMemory, counted, whole_in}
+use Rattle.jf_codec.specs.Reading.{bytes_at, four_at, value_at, ◌>>=◌, leaf_at, two_at, are_wrong, bitmaps_at, has, children_at, inner_at, node_at, ReadsGivenMemory, reading_with_length, whole_in}
 use Rattle.jf_codec.specs.declared.format.Format.{Format}
 use Rattle.jf_codec.specs.Spelling.{node_bytes, IsNode, format_of, bitmap, leaf_children, AreEnough, IsChild, format_of_children, tag, child_bytes, IsValid, spelling}
 use Rattle.jf_codec.specs.declared.fault.CodecFault.{CodecFault}
@@ -211,7 +211,7 @@ node_again n rest is = in_format (format_of n) n rest is
 pub node_short : (bytes : List ℕ) (x : PlainNode × List ℕ) → AreBytes bytes → node_at bytes ≡ Ok x → length x.1 ≤ length bytes
 node_short bytes x fits e = let t = node_takes bytes x fits e in let l = ap length t.0.parts ∙ length-append (spelling x.0) x.1 in omega arith
 
-pub is_node_found : (bytes : List ℕ) (r : Result (PlainNode × ℕ) CodecFault) → AreBytes bytes → ReadsGivenMemory (λ x. x) r (counted bytes (node_at bytes))
+pub is_node_found : (bytes : List ℕ) (r : Result (PlainNode × ℕ) CodecFault) → AreBytes bytes → ReadsGivenMemory (λ x. x) r (reading_with_length bytes (node_at bytes))
     → IfOk r (λ x. IsValid x.0 × (bytes ≡ spelling x.0 ++ drop x.1 bytes) × (x.1 ≡ length (spelling x.0)))
 is_node_found bytes (Err e) fits gives = tt
 is_node_found bytes (Ok x) fits gives =
@@ -220,10 +220,10 @@ is_node_found bytes (Ok x) fits gives =
     subst (λ (y : PlainNode × ℕ). IsValid y.0 × (bytes ≡ spelling y.0 ++ drop y.1 bytes) × (y.1 ≡ length (spelling y.0))) (ok_is (n.0.0, length bytes - length n.0.1) x n.2)
     (t.1, left bytes (spelling n.0.0) n.0.1 t.0.parts, taken bytes (spelling n.0.0) n.0.1 t.0.parts)
 
-pub is_only_node : (bytes : List ℕ) (r : Result (PlainNode × ℕ) CodecFault) → ReadsGivenMemory (λ x. x) r (counted bytes (node_at bytes))
+pub is_only_node : (bytes : List ℕ) (r : Result (PlainNode × ℕ) CodecFault) → ReadsGivenMemory (λ x. x) r (reading_with_length bytes (node_at bytes))
     → (n : PlainNode) (rest : List ℕ) → IsValid n → bytes ≡ spelling n ++ rest → ReadsGivenMemory (λ x. x) r (Ok (n, length (spelling n)))
 is_only_node bytes r gives n rest is e =
-    let read : counted bytes (node_at bytes) ≡ Ok (n, length (spelling n)) = ap (counted bytes) (ap node_at e ∙ node_again n rest is) ∙ ap (λ (k : ℕ). Ok (n, k)) (taken bytes (spelling n) rest e) in
+    let read : reading_with_length bytes (node_at bytes) ≡ Ok (n, length (spelling n)) = ap (reading_with_length bytes) (ap node_at e ∙ node_again n rest is) ∙ ap (λ (k : ℕ). Ok (n, k)) (taken bytes (spelling n) rest e) in
     subst (ReadsGivenMemory (λ x. x) r) read gives
 
 none_left : (rest : List ℕ) → length rest ≡ 0 → rest ≡ []

@@ -11,12 +11,12 @@ abbrev pub uncounted_child : Child → Child
 uncounted_child c = record { nibble = c.nibble; version = c.version; hash = c.hash; leaf = c.leaf; count = 0 }
 
 -- a node without the counts of its children
-abbrev pub uncounted : PlainNode → PlainNode
-uncounted node.Null = node.Null
-uncounted (node.Leaf key value) = node.Leaf key value
-uncounted (node.Inner cs) = node.Inner (map uncounted_child cs)
+abbrev pub uncounted_node : PlainNode → PlainNode
+uncounted_node node.Null = node.Null
+uncounted_node (node.Leaf key value) = node.Leaf key value
+uncounted_node (node.Inner cs) = node.Inner (map uncounted_child cs)
 
 -- what a format keeps of a node
 abbrev pub in_format : Format → PlainNode → PlainNode
-in_format format.One n = uncounted n
+in_format format.One n = uncounted_node n
 in_format format.Two n = n

@@ -150,5 +150,5 @@ whole_in bytes = do
   if length n.1 == 0 then Ok n.0 else Err fault.Rest
 
 -- what is read, with the number of bytes that it takes
-abbrev pub counted : {A : Type 0} → List ℕ → Result (A × List ℕ) CodecFault → Result (A × ℕ) CodecFault
-counted bytes read = read >>= λ x. Ok (x.0, length bytes - length x.1)
+abbrev pub reading_with_length : {A : Type 0} → List ℕ → Result (A × List ℕ) CodecFault → Result (A × ℕ) CodecFault
+reading_with_length bytes read = read >>= λ x. Ok (x.0, length bytes - length x.1)

@@ -4,7 +4,7 @@ ghost use Rattle.jf_path.specs.Names.{IsName};
 ghost use Rattle.jf_path.specs.declared.name.NodeName.{NodeName};
 ghost use Rattle.jf_codec.specs.Adding.{Keeps};
 ghost use Rattle.jf_codec.specs.Spelling.{name_bytes};
-ghost use Rattle.jf_codec.specs.Reading.{Reads, path_at, name_at, counted};
+ghost use Rattle.jf_codec.specs.Reading.{Reads, path_at, name_at, reading_with_length};
 
 use crate::fault::CodecFault;
 use crate::fields::{front_of, put_u64, u64_at};
@@ -44,8 +44,8 @@ pub fn name_at(bytes: &[u8]) -> Result<(NodeName, &[u8]), CodecFault>
 }
 
 // The name at the front of `bytes`, and its length in bytes.
-fn measured(bytes: &[u8]) -> Result<(NodeName, usize), CodecFault>
-    ensures { Reads (λ x. x) result (counted bytes.now (name_at bytes.now)) }
+fn measured_name(bytes: &[u8]) -> Result<(NodeName, usize), CodecFault>
+    ensures { Reads (λ x. x) result (reading_with_length bytes.now (name_at bytes.now)) }
 {
     match name_at(bytes) {
         Ok((name, rest)) => Ok((name, bytes.len() - rest.len())),
@@ -58,9 +58,9 @@ fn measured(bytes: &[u8]) -> Result<(NodeName, usize), CodecFault>
 pub fn decode_name(bytes: &[u8]) -> Result<(NodeName, usize), CodecFault>
     ensures found { IfOk result (λ x. IsName x.0 × (bytes.now ≡ name_bytes x.0 ++ drop x.1 bytes.now) × (x.1 ≡ length (name_bytes x.0))) }
     ensures only { (name : NodeName) (rest : List ℕ) → IsName name → bytes.now ≡ name_bytes name ++ rest → result ≡ Ok (name, length (name_bytes name)) }
-    ensures exact { Reads (λ x. x) result (counted bytes.now (name_at bytes.now)) }
+    ensures exact { Reads (λ x. x) result (reading_with_length bytes.now (name_at bytes.now)) }
 {
-    measured(bytes)
+    measured_name(bytes)
 }
 
 /// Adds the spelling of a name. If memory runs out, what was in `out` is unchanged, but a part of the name may follow.

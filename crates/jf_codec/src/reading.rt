@@ -2,7 +2,7 @@
 ghost use Rattle.std.specs.Prelude.{◌≡◌, ◌⊎◌, ◌++◌, ◌<◌, List, ℕ, drop, length, IfOk, Ok, Err};
 ghost use Rattle.jf_path.specs.declared.node.PlainNode.{PlainNode};
 ghost use Rattle.jf_codec.specs.Spelling.{IsValid, spelling};
-ghost use Rattle.jf_codec.specs.Reading.{Reads, ReadsGivenMemory, value_at, leaf_at, count_at, child_at, children_at, inner_at, node_at, whole_in, counted};
+ghost use Rattle.jf_codec.specs.Reading.{Reads, ReadsGivenMemory, value_at, leaf_at, count_at, child_at, children_at, inner_at, node_at, whole_in, reading_with_length};
 
 use crate::bitmaps::{Bitmaps, bitmaps_of, has};
 use crate::fault::CodecFault;
@@ -130,8 +130,8 @@ pub fn node_at(alloc: Global, bytes: &[u8]) -> Result<(PlainNode, &[u8]), CodecF
 }
 
 // The node at the front of `bytes`, and its length in bytes.
-fn measured(alloc: Global, bytes: &[u8]) -> Result<(PlainNode, usize), CodecFault>
-    ensures { ReadsGivenMemory (λ x. x) result (counted bytes.now (node_at bytes.now)) }
+fn measured_node(alloc: Global, bytes: &[u8]) -> Result<(PlainNode, usize), CodecFault>
+    ensures { ReadsGivenMemory (λ x. x) result (reading_with_length bytes.now (node_at bytes.now)) }
 {
     let (node, rest) = node_at(alloc, bytes)?;
     Ok((node, bytes.len() - rest.len()))
@@ -142,9 +142,9 @@ fn measured(alloc: Global, bytes: &[u8]) -> Result<(PlainNode, usize), CodecFaul
 pub fn decode_node(alloc: Global, bytes: &[u8]) -> Result<(PlainNode, usize), CodecFault>
     ensures found { IfOk result (λ x. IsValid x.0 × (bytes.now ≡ spelling x.0 ++ drop x.1 bytes.now) × (x.1 ≡ length (spelling x.0))) }
     ensures only { (node : PlainNode) (rest : List ℕ) → IsValid node → bytes.now ≡ spelling node ++ rest → ReadsGivenMemory (λ x. x) result (Ok (node, length (spelling node))) }
-    ensures exact { ReadsGivenMemory (λ x. x) result (counted bytes.now (node_at bytes.now)) }
+    ensures exact { ReadsGivenMemory (λ x. x) result (reading_with_length bytes.now (node_at bytes.now)) }
 {
-    measured(alloc, bytes)
+    measured_node(alloc, bytes)
 }
 
 /// The node whose spelling all of `bytes` are. Otherwise the first fault from left to right, `Rest` if bytes are left

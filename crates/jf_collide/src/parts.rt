@@ -7,7 +7,7 @@ ghost use Rattle.jf_hash.specs.Parts.{IsPart, IsFirstOne};
 ghost use Rattle.jf_hash.specs.Roots.{part_root};
 ghost use Rattle.jf_evidence.specs.MapClashes.{part_inputs};
 
-use crate::inputs::{hash_of, tagged, value_input};
+use crate::inputs::{hash_of, tagged_input, value_input};
 use jf_hash::Hash;
 use jf_path::{Bytes, Key, Memory, bit, know_entries};
 use std::alloc::Global;
@@ -37,14 +37,14 @@ fn push_part(
 {
     match entries {
         [] => {
-            let input = tagged(alloc, 0, &[], &[])?;
+            let input = tagged_input(alloc, 0, &[], &[])?;
             let hash = push_input(input, inputs)?;
             Ok(hash)
         }
         [entry] => {
             let bytes = value_input(alloc, entry.1.as_slice())?;
             let value = push_input(bytes, inputs)?;
-            let input = tagged(alloc, 1, &entry.0, &value)?;
+            let input = tagged_input(alloc, 1, &entry.0, &value)?;
             let hash = push_input(input, inputs)?;
             Ok(hash)
         }
@@ -52,7 +52,7 @@ fn push_part(
             let ones = first_one(entries, depth);
             let right = push_part(alloc, &entries[ones..], depth + 1, inputs)?;
             let left = push_part(alloc, &entries[..ones], depth + 1, inputs)?;
-            let input = tagged(alloc, 2, &left, &right)?;
+            let input = tagged_input(alloc, 2, &left, &right)?;
             let hash = push_input(input, inputs)?;
             Ok(hash)
         }

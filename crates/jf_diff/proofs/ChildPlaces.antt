@@ -5,15 +5,15 @@ use Rattle.std.proofs.lemmas.List.{get_or_past}
 use Rattle.jf_hash.specs.Slots.{with_nibble}
 use Rattle.jf_walk.proofs.PartLaws.{with_nibble-past}
 use Rattle.jf_node.specs.LinkValue.{LinkValue}
-use Rattle.jf_node.specs.Children.{content, joined, FitFrom, FitsAt}
+use Rattle.jf_node.specs.Children.{content, entries_of_children, FitFrom, FitsAt}
 use Rattle.jf_node.proofs.ChildLaws.{with_nibble-joined, FitFrom-at}
 use Rattle.jf_diff.specs.OptionalNodes.{IsAtDepth}
 
 -- a child has the entries with its nibble
-pub child_part : (d n : ℕ) (links : List (Option LinkValue)) → length links ≡ 16 → FitFrom d 0 links → with_nibble d n (joined links) ≡ content (get_or links n None)
+pub child_part : (d n : ℕ) (links : List (Option LinkValue)) → length links ≡ 16 → FitFrom d 0 links → with_nibble d n (entries_of_children links) ≡ content (get_or links n None)
 child_part d n links long fit = elim (cases_lt n 16) [
   | inl small ↦ with_nibble-joined d 0 n n links None fit (omega arith) (omega arith)
-  | inr past ↦ with_nibble-past d n (joined links) past ∙ ap content (sym (get_or_past links n None (omega arith)))
+  | inr past ↦ with_nibble-past d n (entries_of_children links) past ∙ ap content (sym (get_or_past links n None (omega arith)))
 ]
 
 child_depth : (d n : ℕ) (x : Option LinkValue) → FitsAt d n x → IsAtDepth (d + 1) x

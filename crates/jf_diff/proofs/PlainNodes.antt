@@ -10,7 +10,7 @@ use Rattle.jf_hash.specs.Roots.{part_root}
 use Rattle.jf_hash.specs.Slots.{Part, with_nibble}
 use Rattle.jf_model.specs.Nodes.{Path, plain_node, has_one, has_two, child_in_node}
 use Rattle.jf_model.specs.ChildEntries.{sub, child_entries}
-use Rattle.jf_model.specs.Walk.{each_from, listed}
+use Rattle.jf_model.specs.Walk.{each_from, list_of_new_nodes}
 use Rattle.jf_walk.proofs.ChildEntryLaws.{child_entries-many}
 use Rattle.jf_walk.proofs.WalkLaws.{each_push}
 use Rattle.jf_walk.proofs.PlainLaws.{plain_node-many}
@@ -32,7 +32,7 @@ plain-child x n c p is =
 
 -- what is listed from a child on, by the path that leads to it
 pub fresh-child : (version : ℕ) (front path : Path) (x : LinkValue) (n : ℕ) (c : LinkValue) (es : Part) → IsBelow x n (Some c) → path ≡ front ++ n ∷ []
-    → listed (64 - c.depth) c.depth (child_entries x.depth n es) c.entries (fresh_below version path c) ≡ listed_below x.depth n es x.entries (fresh_below version front x)
+    → list_of_new_nodes (64 - c.depth) c.depth (child_entries x.depth n es) c.entries (fresh_below version path c) ≡ listed_below x.depth n es x.entries (fresh_below version front x)
 fresh-child version front path x n c es is at =
     listed_below-child x.depth n c.depth es (child_entries x.depth n es) x.entries c.entries (fresh_below version front x) (fresh_below version path c) is.placed.1 refl is.entries
     (λ p. ap₂ (λ (q : Path) (r : PlainNode). (record { version = version; path = q }, r)) (ap (λ q. q ++ p) at ∙ append_assoc front (n ∷ []) p) (sym (plain-child x n c p is)))

@@ -8,7 +8,7 @@ use Rattle.jf_path.specs.declared.name.NodeName.{NodeName}
 use Rattle.jf_hash.specs.Slots.{with_nibble, Part}
 use Rattle.jf_model.specs.ChildEntries.{child_entries, sub}
 use Rattle.jf_model.specs.Nodes.{Path}
-use Rattle.jf_model.specs.Walk.{differs, listed, with_root}
+use Rattle.jf_model.specs.Walk.{differs, list_of_new_nodes, with_root}
 use Rattle.jf_model.specs.NodeVersions.{VersionsFollow}
 use Rattle.jf_walk.proofs.ChildEntryLaws.{child_entries-few, child_entries-many, sub-none}
 use Rattle.jf_walk.proofs.SameParts.{differs_or_same, not_empty, differs-other}
@@ -123,17 +123,17 @@ module _ {X : Type 0} where
   listed_to-below d n old new f start out more is made = listed_to-child d n (d + 1) old (child_entries d n old) new (child_entries d n new) f (λ p. f (n ∷ p)) start out more is refl refl refl (λ p. refl) made
 
   -- what is listed from a child on
-  pub listed_below-child : (d n e : ℕ) (old old' new new' : Part) (f g : Path → X) → e ≡ d + 1 → old' ≡ child_entries d n old → new' ≡ child_entries d n new → ((p : Path) → g p ≡ f (n ∷ p)) → listed (64 - e) e old' new' g ≡ listed_below d n old new f
+  pub listed_below-child : (d n e : ℕ) (old old' new new' : Part) (f g : Path → X) → e ≡ d + 1 → old' ≡ child_entries d n old → new' ≡ child_entries d n new → ((p : Path) → g p ≡ f (n ∷ p)) → list_of_new_nodes (64 - e) e old' new' g ≡ listed_below d n old new f
   unfolding listed_below
   listed_below-child d n e old old' new new' f g at was now same =
       let fs : g ≡ (λ p. f (n ∷ p)) = λ i p. same p i in
-      ap (λ k. listed (64 - k) k old' new' g) at ∙ ap (λ a. listed (64 - (d + 1)) (d + 1) a new' g) was ∙ ap (λ b. listed (64 - (d + 1)) (d + 1) (child_entries d n old) b g) now
-      ∙ ap (λ h. listed (64 - (d + 1)) (d + 1) (child_entries d n old) (child_entries d n new) h) fs
+      ap (λ k. list_of_new_nodes (64 - k) k old' new' g) at ∙ ap (λ a. list_of_new_nodes (64 - (d + 1)) (d + 1) a new' g) was ∙ ap (λ b. list_of_new_nodes (64 - (d + 1)) (d + 1) (child_entries d n old) b g) now
+      ∙ ap (λ h. list_of_new_nodes (64 - (d + 1)) (d + 1) (child_entries d n old) (child_entries d n new) h) fs
 
   -- nothing is listed at a nibble without a child
   pub listed_below-none : (d n : ℕ) (old new : Part) (f : Path → X) → child_entries d n new ≡ [] → listed_below d n old new f ≡ []
   unfolding listed_below
-  listed_below-none d n old new f none = ap (λ k. listed (64 - (d + 1)) (d + 1) (child_entries d n old) k (λ p. f (n ∷ p))) none ∙ listed-gone (64 - (d + 1)) (d + 1) (child_entries d n old) (λ p. f (n ∷ p))
+  listed_below-none d n old new f none = ap (λ k. list_of_new_nodes (64 - (d + 1)) (d + 1) (child_entries d n old) k (λ p. f (n ∷ p))) none ∙ listed-gone (64 - (d + 1)) (d + 1) (child_entries d n old) (λ p. f (n ∷ p))
 
 -- of a node without a child, the node alone is listed
 pub from_node-few : {X : Type 0} (d : ℕ) (old new : Part) (f : Path → X) → length new < 2 → f [] ∷ [] ≡ from_node d old new f
@@ -150,19 +150,19 @@ with_root-from_node old d new f g names at same is =
     is ∙ ap (λ k. from_node k old new g) at ∙ ap (λ h. from_node 0 old new h) (let fs : g ≡ f = λ i p. same p i in fs) ∙ from_node-with_root old new f
 
 -- a new node is listed, with the nodes below it that are new
-fresh_node : {X : Type 0} (version : ℕ) (es : Part) (before : Path → Option ℕ) (x : LinkValue) (f : Path → X) → IsLink x → IsFreshOver version es before x → x.version ≡ version → listed (64 - x.depth) x.depth es x.entries f ≡ from_node x.depth es x.entries f
+fresh_node : {X : Type 0} (version : ℕ) (es : Part) (before : Path → Option ℕ) (x : LinkValue) (f : Path → X) → IsLink x → IsFreshOver version es before x → x.version ≡ version → list_of_new_nodes (64 - x.depth) x.depth es x.entries f ≡ from_node x.depth es x.entries f
 fresh_node version es before x f link over own = listed-node x.depth es x.entries f (is_new version es before x link over own) (small_of x link) ∙ sym (from_node-listed_to x.depth es x.entries f)
 
 -- what is appended for a new node is what the walk lists of it
 pub fresh_own : {X : Type 0} (version : ℕ) (es : Part) (before : Path → Option ℕ) (x : LinkValue) (f : Path → X) (out now : List X) → IsLink x → IsFreshOver version es before x → x.version ≡ version
-    → (IsFreshBelow version es before x → now ≡ out ++ from_node x.depth es x.entries f) → now ≡ out ++ listed (64 - x.depth) x.depth es x.entries f
+    → (IsFreshBelow version es before x → now ≡ out ++ from_node x.depth es x.entries f) → now ≡ out ++ list_of_new_nodes (64 - x.depth) x.depth es x.entries f
 fresh_own version es before x f out now link over own made = made (fresh_below_of version es before x over) ∙ ap (λ l. out ++ l) (sym (fresh_node version es before x f link over own))
 
 -- and for another one the walk lists nothing
-pub fresh_others : {X : Type 0} (version : ℕ) (es : Part) (before : Path → Option ℕ) (x : LinkValue) (f : Path → X) (out : List X) → IsLink x → IsFreshOver version es before x → ¬ (x.version ≡ version) → out ≡ out ++ listed (64 - x.depth) x.depth es x.entries f
+pub fresh_others : {X : Type 0} (version : ℕ) (es : Part) (before : Path → Option ℕ) (x : LinkValue) (f : Path → X) (out : List X) → IsLink x → IsFreshOver version es before x → ¬ (x.version ≡ version) → out ≡ out ++ list_of_new_nodes (64 - x.depth) x.depth es x.entries f
 fresh_others version es before x f out link over other =
     sym (append-nil out)
-    ∙ ap (λ l. out ++ l) (sym (ap (λ a. listed (64 - x.depth) x.depth a x.entries f) (is_old version es before x link over other) ∙ listed-same (64 - x.depth) x.depth x.entries f))
+    ∙ ap (λ l. out ++ l) (sym (ap (λ a. list_of_new_nodes (64 - x.depth) x.depth a x.entries f) (is_old version es before x link over other) ∙ listed-same (64 - x.depth) x.depth x.entries f))
 
 -- ---- what is stale
 older_kept : (version : ℕ) (x : LinkValue) (y : Option LinkValue) → 1 ≤ length x.entries → IsLinkIf y → IsStaleOver version x y → content y ≡ x.entries → ¬ IsOfVersion version y
@@ -175,14 +175,14 @@ new_made version x (Some y) sound over other = some_is y.version version (sym so
 
 -- what is appended for an old node is what the walk lists of it
 pub stale_listed : {X : Type 0} (version : ℕ) (x : LinkValue) (y : Option LinkValue) (f : Path → X) (out now : List X) → IsLink x → IsLinkIf y → IsStaleOver version x y → (¬ IsOfVersion version y → now ≡ out)
-    → (IsOfVersion version y → IsStaleBelow version x y → now ≡ out ++ from_node x.depth (content y) x.entries f) → now ≡ out ++ listed (64 - x.depth) x.depth (content y) x.entries f
+    → (IsOfVersion version y → IsStaleBelow version x y → now ≡ out ++ from_node x.depth (content y) x.entries f) → now ≡ out ++ list_of_new_nodes (64 - x.depth) x.depth (content y) x.entries f
 stale_listed version x y f out now link sound over kept made = elim (differs_or_same (content y) x.entries link.entries.some) [
   | inl differ ↦
       made (new_made version x y sound over (differs-other (content y) x.entries differ)) (stale_below_of version x y over)
       ∙ ap (λ l. out ++ l) (sym (listed-node x.depth (content y) x.entries f differ (small_of x link) ∙ sym (from_node-listed_to x.depth (content y) x.entries f)))
   | inr same ↦
       kept (older_kept version x y link.entries.some sound over same) ∙ sym (append-nil out)
-      ∙ ap (λ l. out ++ l) (sym (ap (λ a. listed (64 - x.depth) x.depth a x.entries f) same ∙ listed-same (64 - x.depth) x.depth x.entries f))
+      ∙ ap (λ l. out ++ l) (sym (ap (λ a. list_of_new_nodes (64 - x.depth) x.depth a x.entries f) same ∙ listed-same (64 - x.depth) x.depth x.entries f))
 ]
 
 -- whether a node was there before
@@ -216,7 +216,7 @@ child_in_entries x (Some y) n k d at in_y same = in_y.entries ∙ ap₂ (λ m j.
 
 -- what is listed from a child on, by the path that leads to it
 pub stale-child : (front path : Path) (x : LinkValue) (y : Option LinkValue) (n : ℕ) (c : LinkValue) (d : Option LinkValue) → IsAtDepth x.depth y → IsBelow x n (Some c) → IsBelowIf y n d → path ≡ front ++ n ∷ []
-    → listed (64 - c.depth) c.depth (content d) c.entries (name_below path c) ≡ listed_below x.depth n (content y) x.entries (name_below front x)
+    → list_of_new_nodes (64 - c.depth) c.depth (content d) c.entries (name_below path c) ≡ listed_below x.depth n (content y) x.entries (name_below front x)
 stale-child front path x y n c d placed is in_y at =
     listed_below-child x.depth n c.depth (content y) (content d) x.entries c.entries (name_below front x) (name_below path c) is.placed.1 (child_in_entries x y n n d placed in_y refl) is.entries
     (λ p. ap₂ (λ v q. let name : NodeName = record { version = version_or v; path = q } in name) (sym (is.versions p)) (ap (λ q. q ++ p) at ∙ append_assoc front (n ∷ []) p))

@@ -5,7 +5,7 @@ use Rattle.jf_hash.specs.Slots.{Part}
 use Rattle.jf_model.specs.Nodes.{Path}
 use Rattle.jf_model.specs.ChildEntries.{child_entries, sub}
 use Rattle.jf_model.specs.NodeVersions.{VersionFollows}
-use Rattle.jf_model.specs.Walk.{each_from, listed}
+use Rattle.jf_model.specs.Walk.{each_from, list_of_new_nodes}
 use Rattle.jf_node.specs.LinkValue.{LinkValue, link_version_at}
 use Rattle.jf_node.specs.Children.{content}
 use Rattle.jf_node.specs.LinkFacts.{IsLink, IsLinkIf}
@@ -41,7 +41,7 @@ pub record IsStaleBelow (version : ℕ) (x : LinkValue) (y : Option LinkValue) :
 
 -- f of the nodes that are new from the child at nibble n of a node down
 unfoldable pub listed_below : {X : Type 0} → ℕ → ℕ → Part → Part → (Path → X) → List X
-listed_below depth n old new f = listed (64 - (depth + 1)) (depth + 1) (child_entries depth n old) (child_entries depth n new) (λ path. f (n ∷ path))
+listed_below depth n old new f = list_of_new_nodes (64 - (depth + 1)) (depth + 1) (child_entries depth n old) (child_entries depth n new) (λ path. f (n ∷ path))
 
 -- f of a node in any case, and then of the nodes below it that are new
 unfoldable pub from_node : {X : Type 0} → ℕ → Part → Part → (Path → X) → List X

@@ -18,7 +18,7 @@ mod wide;
 
 pub use child::{child_in, child_of, is_kept};
 pub use gone::{list_all_nodes, list_stale_nodes};
-pub use landing::written;
+pub use landing::landing_lists;
 pub use lists::Written;
 pub use named_nodes::NamedNodes;
 pub use plain_node::plain_of;

@@ -150,7 +150,7 @@ impl NamedNodes {
     }
 
     /// A copy of the nodes, as they are written. Their names must rise.
-    pub fn copied(&self, alloc: Global) -> Result<FreshList, Memory>
+    pub fn copy(&self, alloc: Global) -> Result<FreshList, Memory>
         requires { IsTrue (are_rising (map (λ x. x.0) self.now)) }
         ensures { IfOk result (λ l. l ≡ self.now) }
     {

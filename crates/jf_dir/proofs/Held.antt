@@ -13,7 +13,7 @@ use Rattle.jf_diff.specs.Landings.{version_in}
 use Rattle.jf_stale.specs.Marks.{Mark}
 use Rattle.jf_standing.specs.Named.{Named, never, map_at, version_at}
 use Rattle.jf_standing.specs.Standing.{Standing}
-use Rattle.jf_standing.specs.Building.{node_of, floor_standing, floor_of, built, up_from, nodes_by_name}
+use Rattle.jf_standing.specs.Building.{node_of, floor_standing, floor_of, built_standing, up_from, nodes_by_name}
 use Rattle.jf_standing.proofs.Alive.{plain_node-same}
 use Rattle.jf_standing.proofs.Checkpoints.{same-nodes}
 use Rattle.jf_standing.proofs.Freshness.{child-node}
@@ -58,5 +58,5 @@ held-is s b rs (x ∷ xs) ms n h =
     let floor : floor_standing format.Two b x.version (root x.map ∷ drop (length xs + 1) (reverse rs)) x.map (version_in x) ≡ floor_of format.Two s =
     (λ i. floor_standing format.Two (sym base i) (first.version i) (root (first.map i) ∷ drop (dropped i) (sym rs_are i)) (first.map i) (version_in x))
     ∙ ap (λ (ns : List Named). record { base = s.base; floor = s.floor; head = s.floor; roots = root m ∷ drop (s.head - s.floor + 1) s.roots; nodes = ns }) (nodes-alike m (version_in x) (version_at s.floor s.nodes) first.versions) in
-    let listed = ap₂ (λ t ms. nodes_by_name (built format.Two t ms).nodes) floor later ∙ same-nodes format.Two s h.read h.sound in
+    let listed = ap₂ (λ t ms. nodes_by_name (built_standing format.Two t ms).nodes) floor later ∙ same-nodes format.Two s h.read h.sound in
     λ i. record { base = sym base i; floor = first.version i; head = top i; roots = sym rs_are i; nodes = listed i }

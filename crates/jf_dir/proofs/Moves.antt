@@ -14,7 +14,7 @@ use Rattle.jf_node.specs.SnapshotValue.{SnapshotValue}
 use Rattle.jf_node.specs.declared.update.Update.{Update}
 use Rattle.jf_stale.specs.Marks.{Mark}
 use Rattle.jf_standing.specs.Named.{Named, is_at, map_at, version_at}
-use Rattle.jf_standing.specs.Standing.{Standing, with_floor, marked, unmarked}
+use Rattle.jf_standing.specs.Standing.{Standing, with_floor, marked_node, unmarked_node}
 use Rattle.jf_standing.specs.Sound.{IsSound}
 use Rattle.jf_standing.specs.Landing.{landing_of}
 use Rattle.jf_standing.specs.Building.{landed_on}
@@ -71,8 +71,8 @@ length_drop (suc k) (x ∷ xs) low = let rest = length_drop k xs (omega arith) i
 -- ---- a landing
 pub nodes-landed : (s : Standing) (m : Map) → length (landed_on format.Two m s).nodes ≡ length s.nodes + length (landing_of format.Two s m).fresh
 nodes-landed s m =
-    length-append (map (marked (landing_of format.Two s m)) s.nodes) (map unmarked (landing_of format.Two s m).fresh)
-    ∙ ap₂ (λ a b. a + b) (length-map s.nodes (marked (landing_of format.Two s m))) (length-map (landing_of format.Two s m).fresh unmarked)
+    length-append (map (marked_node (landing_of format.Two s m)) s.nodes) (map unmarked_node (landing_of format.Two s m).fresh)
+    ∙ ap₂ (λ a b. a + b) (length-map s.nodes (marked_node (landing_of format.Two s m))) (length-map (landing_of format.Two s m).fresh unmarked_node)
 
 module _ (s : Standing) (m : Map) (u : Update) (read : IsReadStanding s) (sound : IsSound format.Two s) (is_map : IsMap m) (room : len m ≤ 2 ^ 63) (landing : IsLandingUpdate s m u) where
   abbrev old_map : IsMap (map_at s.head s.nodes)

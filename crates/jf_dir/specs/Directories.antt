@@ -36,9 +36,9 @@ pub record IsSnapshotAt (s : Standing) (w : ℕ) (x : SnapshotValue) : Type 0 wh
   pub versions : (p : Path) → is_node 0 p (entries (map_at w s.nodes)) ≡ true → version_in x p ≡ version_at w s.nodes p
 
 -- a standing in the order of the names of its nodes
-abbrev pub ordered : Standing → Standing
-ordered s = with_nodes (nodes_by_name s.nodes) s
+abbrev pub standing_by_name : Standing → Standing
+standing_by_name s = with_nodes (nodes_by_name s.nodes) s
 
 -- the standing with the one version of a snapshot; the roots of the versions before it are `earlier`, the oldest first
 abbrev pub begun_with : ℕ → List (List ℕ) → SnapshotValue → Standing
-begun_with base earlier x = ordered (floor_standing format.Two base x.version (root x.map ∷ reverse earlier) x.map (version_in x))
+begun_with base earlier x = standing_by_name (floor_standing format.Two base x.version (root x.map ∷ reverse earlier) x.map (version_in x))

@@ -14,7 +14,7 @@ use Rattle.jf_standing.specs.Named.{Named, never}
 use Rattle.jf_standing.specs.Standing.{Standing}
 use Rattle.jf_standing.specs.Sound.{IsSound}
 use Rattle.jf_standing.specs.Landing.{landing_of}
-use Rattle.jf_standing.specs.Building.{floor_standing, built, nodes_by_name}
+use Rattle.jf_standing.specs.Building.{floor_standing, built_standing, nodes_by_name}
 use Rattle.jf_standing.specs.Next.{IsReadStanding}
 use Rattle.jf_dir.specs.Directories.{IsSnapshotAt}
 
@@ -27,7 +27,7 @@ standing_held b rs (x ∷ xs) = record {
   floor = x.version;
   head = x.version + length xs;
   roots = reverse rs;
-  nodes = nodes_by_name (built format.Two (floor_standing format.Two b x.version (root x.map ∷ drop (length xs + 1) (reverse rs)) x.map (version_in x)) (map (λ y. y.map) xs)).nodes;
+  nodes = nodes_by_name (built_standing format.Two (floor_standing format.Two b x.version (root x.map ∷ drop (length xs + 1) (reverse rs)) x.map (version_in x)) (map (λ y. y.map) xs)).nodes;
 }
 
 -- the snapshots xs are those of s at the versions from w on

@@ -33,7 +33,7 @@ use jf_node::{Snapshot, Update};
 use jf_path::{Key, LiveList, Memory, NodeName, SharedBytes};
 use jf_split::Batch;
 use jf_stale::StaleIndex;
-use jf_update::{Written, advance, value_hashes, written};
+use jf_update::{Written, advance, value_hashes, landing_lists};
 use std::alloc::Global;
 use std::collections::VecDeque;
 use std::marker::Model;
@@ -207,7 +207,7 @@ impl Directory {
     {
         let head = self.newest();
         let snapshot = advance(rt, alloc, head, entries, hashes, workers, gate)?;
-        let Written { fresh, stale } = written(rt, alloc, head, &snapshot, workers, gate)?;
+        let Written { fresh, stale } = landing_lists(rt, alloc, head, &snapshot, workers, gate)?;
         // Ensures that the names rise.
         let _ = stale.as_slice();
         let landing = SharedCommit {
@@ -261,7 +261,7 @@ impl Directory {
             stale,
             ..
         } = landing;
-        let fresh = fresh.copied(alloc)?;
+        let fresh = fresh.copy(alloc)?;
         Ok(Update {
             root,
             fresh,

@@ -14,13 +14,13 @@ pub(crate) fn nodes_in_order(alloc: Global, directory: &Directory) -> Result<Liv
     ensures { IfOk result (λ l. l ≡ directory.now.nodes) }
 {
     directory.know();
-    let nodes = gathered(alloc, directory)?;
+    let nodes = node_list(alloc, directory)?;
     let list = nodes_by_name(alloc, nodes)?;
     Ok(list)
 }
 
 /// All nodes of a directory: those of the head, and then those that each landing made stale.
-fn gathered(alloc: Global, directory: &Directory) -> Result<Vec<(NodeName, PlainNode, u64)>, Memory>
+fn node_list(alloc: Global, directory: &Directory) -> Result<Vec<(NodeName, PlainNode, u64)>, Memory>
     ensures { IfOk result (λ v. AreListedTo directory.now directory.now.head v.items) }
 {
     let mut nodes = Vec::new(alloc);

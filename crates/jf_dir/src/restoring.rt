@@ -10,7 +10,7 @@ ghost use Rattle.jf_update.specs.Restored.{AreNodeVersions, AreShortEntries, IsR
 use jf_hash::Hash;
 use jf_node::Snapshot;
 use jf_path::{Key, Memory, SharedBytes};
-use jf_update::{RebuildFault, restored};
+use jf_update::{RebuildFault, restored_snapshot};
 use std::alloc::Global;
 
 /// The snapshot of these entries as the map of `version`. `versions` has the version that wrote each node, in the order
@@ -23,11 +23,11 @@ pub fn restored_from(
 ) -> Result<Snapshot, RebuildFault>
     requires sorted { T (is_sorted key_cmp entries.now) }
     requires short { AreShortEntries entries.now }
-    ensures restored { IfOk result (IsRestored version entries.now versions.now) }
+    ensures restored_snapshot { IfOk result (IsRestored version entries.now versions.now) }
     ensures refused { result ≡ Err RebuildFault.Versions → ¬ (AreNodeVersions version (nodes (map_of_entries entries.now)) versions.now) }
 {
     let hashes = hashes_of(alloc, entries)?;
-    restored(alloc, version, entries, &hashes, versions)
+    restored_snapshot(alloc, version, entries, &hashes, versions)
 }
 
 /// The hash of each value.

@@ -3,7 +3,7 @@ use Rattle.std.specs.Prelude.{◌≡◌, ℕ, List, ◌≤◌, ◌^◌, length, 
 use Rattle.std.proofs.Common.{ext_get_or, arith, subst, refl, ap, sym, ◌∙◌, append_assoc, ap₂, length-append, inl, inr}
 use Rattle.std.specs.List.{AllByRecursion}
 use Rattle.jf_path.proofs.ListLaws.{All-append}
-use Rattle.jf_disk.specs.Disk.{DiskState, Files, MayLeave, IsImage, content_on, bytes_of, durable, IsBounded, History, next, Fails, LeftSince, LeftSinceIn, Unchanged, reads, synced}
+use Rattle.jf_disk.specs.Disk.{DiskState, Files, MayLeave, IsImage, content_on, bytes_of, durable, IsBounded, History, next, Fails, LeftSince, LeftSinceIn, Unchanged, reads, state_after_sync}
 use Rattle.jf_disk.specs.declared.side.Side.{Side}
 use Rattle.jf_disk.specs.Crashes.{GoesOnBy, LeavesOnly, GoesOn, LeavesNow, Idles, opposite, KeepsOther, LeavesFiles}
 use Rattle.jf_disk.specs.Moments.{all_states, ExtendsHistory}
@@ -210,14 +210,14 @@ leaves_idle h g idle = record {
 }
 
 -- a sync of a disk that a crash may leave as a read gives it
-pub leaves_synced : (w : Side) (h : History) → IsImage h.now (reads h) → LeavesFiles h (next (synced w) h)
+pub leaves_synced : (w : Side) (h : History) → IsImage h.now (reads h) → LeavesFiles h (next (state_after_sync w) h)
 leaves_synced side.A h readable = record {
   same = refl;
-  images = by_next (LeavesOnly (IsImage h.now)) h h (synced side.A h.now) (goes_nowhere h _)
+  images = by_next (LeavesOnly (IsImage h.now)) h h (state_after_sync side.A h.now) (goes_nowhere h _)
       (λ f image. record { a = subst (MayLeave h.now.a) (sym (image_durable h.now.a.bytes f.a image.a)) readable.a; b = image.b });
 }
 leaves_synced side.B h readable = record {
   same = refl;
-  images = by_next (LeavesOnly (IsImage h.now)) h h (synced side.B h.now) (goes_nowhere h _)
+  images = by_next (LeavesOnly (IsImage h.now)) h h (state_after_sync side.B h.now) (goes_nowhere h _)
       (λ f image. record { a = image.a; b = subst (MayLeave h.now.b) (sym (image_durable h.now.b.bytes f.b image.b)) readable.b });
 }

@@ -2,12 +2,12 @@
 use Rattle.std.specs.Prelude.{◌≡◌, ◌+◌, ◌-◌, List, [], ◌∷◌, ◌++◌, refl}
 use Rattle.std.proofs.Common.{arith}
 use Rattle.jf_disk.specs.Disk.{History, next}
-use Rattle.jf_disk.specs.Memory.{Call, done, replayed, nothing, writes, cuts, syncs, bytes_written}
+use Rattle.jf_disk.specs.Memory.{Call, state_after_call, history_after_calls, nothing, writes, cuts, syncs, bytes_written}
 
 -- ---- one more call
-pub replayed-append : (calls more : List Call) (h : History) → replayed (calls ++ more) h ≡ replayed more (replayed calls h)
+pub replayed-append : (calls more : List Call) (h : History) → history_after_calls (calls ++ more) h ≡ history_after_calls more (history_after_calls calls h)
 replayed-append [] more h = refl
-replayed-append (c ∷ calls) more h = replayed-append calls more (next (done c) h)
+replayed-append (c ∷ calls) more h = replayed-append calls more (next (state_after_call c) h)
 
 pub bytes_written-append : (calls more : List Call) → bytes_written (calls ++ more) ≡ bytes_written calls + bytes_written more
 bytes_written-append [] more = omega arith

@@ -12,8 +12,8 @@ use Rattle.jf_hash.specs.Maps.{map_of_entries}
 use Rattle.jf_hash.specs.Roots.{root}
 use Rattle.jf_hash.proofs.MapLaws.{map-from_entries}
 use Rattle.jf_model.specs.Nodes.{Path, is_node, nodes}
-use Rattle.jf_model.specs.Versions.{imported}
-use Rattle.jf_frame.specs.Logs.{framed}
+use Rattle.jf_model.specs.Versions.{imported_versions}
+use Rattle.jf_frame.specs.Logs.{appended_record}
 use Rattle.jf_hash.specs.Slots.{Part}
 use Rattle.jf_codec.specs.declared.format.Format.TheVariants as format
 use Rattle.jf_payload.specs.Spelling.{checkpoint_kind, record_bytes}
@@ -31,7 +31,7 @@ use Rattle.jf_standing.specs.Building.{node_of, floor_standing, imported_standin
 use Rattle.jf_standing.proofs.ByName.{nodes-moved}
 use Rattle.jf_standing.proofs.Floor.{floor-sound, map-floor}
 use Rattle.jf_standing.proofs.Reordered.{moved-versions}
-use Rattle.jf_dir.specs.Directories.{begun_with, ordered}
+use Rattle.jf_dir.specs.Directories.{begun_with, standing_by_name}
 use Rattle.jf_dir.proofs.Held.{nodes-alike}
 use Rattle.jf_engine.specs.Kept.{checkpoint_at_start}
 use Rattle.jf_engine.proofs.Records.{nodes-ordered}
@@ -49,13 +49,13 @@ module _ (x : SnapshotValue) (snap : IsSnapshot x) (last : x.version < never) (r
   made-sound : IsSound format.Two made
   made-sound = floor-sound format.Two x.version x.version (root x.map ∷ []) x.map (version_in x) snap.map low last (omega arith) (omega arith) refl room (ap version_or snap.root)
 
-  made-versions : versions_of made ≡ imported x.version x.map
+  made-versions : versions_of made ≡ imported_versions x.version x.map
   made-versions =
       ap (λ ms. record { base = x.version; floor = x.version; head = x.version; roots = root x.map ∷ []; maps = ms })
       (ap (λ n. map (λ w. map_at w made.nodes) (down_from x.version n)) (let e : x.version - x.version + 1 ≡ 1 = omega arith in e)
       ∙ ap (λ k. k ∷ []) (map-floor format.Two x.version x.version (root x.map ∷ []) x.map (version_in x) snap.map low last))
 
-  begun-imported : versions_of (begun_with x.version [] x) ≡ imported x.version x.map
+  begun-imported : versions_of (begun_with x.version [] x) ≡ imported_versions x.version x.map
   begun-imported = moved-versions format.Two made (nodes_by_name made.nodes) made-sound (nodes-moved format.Two made made-sound) ∙ made-versions
 
 -- ---- the versions of the nodes
@@ -76,19 +76,19 @@ restored-versions version n es x restored snap p node = elim (snapshot_version_a
 
 -- the directory of such a snapshot holds the standing that is imported
 pub restored-standing : (version n : ℕ) (es : List (List ℕ × List ℕ)) (x : SnapshotValue) (d : Standing) → IsRestored version es (replicate n version) x → IsSnapshot x → T (is_sorted key_cmp es)
-    → d ≡ begun_with version [] x → d ≡ ordered (imported_standing format.Two version (map_of_entries es))
+    → d ≡ begun_with version [] x → d ≡ standing_by_name (imported_standing format.Two version (map_of_entries es))
 restored-standing version n es x d restored snap sorted is =
     let same : x.map ≡ map_of_entries es = map-from_entries x.map (map_of_entries es) (restored.same ∙ sym (fin.entries-from_sorted key_cmp es sorted)) in
     is
-    ∙ ap (λ (ns : List Named). ordered record { base = version; floor = x.version; head = x.version; roots = root x.map ∷ []; nodes = ns }) (nodes-alike x.map (version_in x) (λ path. version) (restored-versions version n es x restored snap))
-    ∙ ap (λ v. ordered record { base = version; floor = v; head = v; roots = root x.map ∷ []; nodes = map (node_of format.Two (λ path. version)) (nodes x.map) }) restored.version
-    ∙ ap (λ m. ordered (imported_standing format.Two version m)) same
+    ∙ ap (λ (ns : List Named). standing_by_name record { base = version; floor = x.version; head = x.version; roots = root x.map ∷ []; nodes = ns }) (nodes-alike x.map (version_in x) (λ path. version) (restored-versions version n es x restored snap))
+    ∙ ap (λ v. standing_by_name record { base = version; floor = v; head = v; roots = root x.map ∷ []; nodes = map (node_of format.Two (λ path. version)) (nodes x.map) }) restored.version
+    ∙ ap (λ m. standing_by_name (imported_standing format.Two version m)) same
 
 -- a standing in the order of names has the checkpoint of the one that was put in order
-pub ordered-checkpoint : (g : ℕ) (s t : Standing) → s ≡ ordered t → IsReadStanding s → IsSound format.Two s → checkpoint_at_start g s ≡ checkpoint_at_start g t
+pub ordered-checkpoint : (g : ℕ) (s t : Standing) → s ≡ standing_by_name t → IsReadStanding s → IsSound format.Two s → checkpoint_at_start g s ≡ checkpoint_at_start g t
 ordered-checkpoint g s t is read sound =
     let same : nodes_by_name s.nodes ≡ nodes_by_name t.nodes = nodes-ordered s read sound ∙ ap (λ (z : Standing). z.nodes) is in
-    λ i. framed 0 (checkpoint_kind format.Two) (record_bytes format.Two («record».Checkpoint g (is i).base (is i).floor (is i).head (reverse (is i).roots) (same i)))
+    λ i. appended_record 0 (checkpoint_kind format.Two) (record_bytes format.Two («record».Checkpoint g (is i).base (is i).floor (is i).head (reverse (is i).roots) (same i)))
 
 -- ---- what is restored
 -- a restored snapshot has as many entries as it is restored from
@@ -97,9 +97,9 @@ restored-room version es written x restored few = omega (arith, few, fin.len-ent
 
 -- the directory of a restored snapshot
 pub restored-imported : (version : ℕ) (es : List (List ℕ × List ℕ)) (written : List ℕ) (x : SnapshotValue) (d : Standing) → IsRestored version es written x → IsSnapshot x → T (is_sorted key_cmp es) → version ≤ 2 ^ 64 - 2 → length es ≤ 2 ^ 62
-    → d ≡ begun_with version [] x → versions_of d ≡ imported version (map_of_entries es)
+    → d ≡ begun_with version [] x → versions_of d ≡ imported_versions version (map_of_entries es)
 restored-imported version es written x d restored snap sorted last few is =
     let same : x.map ≡ map_of_entries es = map-from_entries x.map (map_of_entries es) (restored.same ∙ sym (fin.entries-from_sorted key_cmp es sorted)) in
     let end : x.version < never = omega (arith, last, restored.version) in
     ap versions_of (is ∙ ap (λ v. begun_with v [] x) (sym restored.version)) ∙ begun-imported x snap end (restored-room version es written x restored few)
-    ∙ ap (λ v. imported v x.map) restored.version ∙ ap (imported version) same
+    ∙ ap (λ v. imported_versions v x.map) restored.version ∙ ap (imported_versions version) same

@@ -6,9 +6,9 @@ use Rattle.std.specs.List.{AllByRecursion}
 use Rattle.std.proofs.lemmas.List.Sorted.{Contains-permutation, IsPermutation-sym}
 use Rattle.jf_hash.specs.Maps.{Batch, IsBatch}
 use Rattle.jf_model.specs.Batches.{key_count}
-use Rattle.jf_model.specs.Versions.{land_all, pruned}
+use Rattle.jf_model.specs.Versions.{land_all, versions_from_floor}
 use Rattle.jf_frame.specs.Framed.{Framed}
-use Rattle.jf_frame.specs.Logs.{framed}
+use Rattle.jf_frame.specs.Logs.{appended_record}
 use Rattle.jf_frame.specs.Framing.{IsFrame, number_of}
 use Rattle.jf_frame.proofs.FramingLaws.{frame_is_of_one}
 use Rattle.jf_pair.specs.Files.{is_checkpoint, generation_of}
@@ -44,12 +44,12 @@ landed_record-kept fmt (c ∷ []) = refl
 landed_record-kept fmt (c ∷ d ∷ cs) = refl
 
 -- what a format keeps of a record is spelled as the record is
-kept_spelling : KeptIsSpelled → WrittenInBoth → (fmt : Format) (offset : ℕ) (r : Record) → IsRecord format.Two r → (let y = framed offset (kind_of fmt r) (record_bytes fmt r) in IsSpelling fmt (record_in fmt r) y.kind y.payload)
+kept_spelling : KeptIsSpelled → WrittenInBoth → (fmt : Format) (offset : ℕ) (r : Record) → IsRecord format.Two r → (let y = appended_record offset (kind_of fmt r) (record_bytes fmt r) in IsSpelling fmt (record_in fmt r) y.kind y.payload)
 kept_spelling kept both fmt offset r written = record { sound = both fmt r written; kind_is = sym (kept fmt r).1; payload_is = sym (kept fmt r).0 }
 
 -- the record that an engine appends to a file of a format
 abbrev pub appended : Format → ℕ → Record → Framed
-appended fmt offset r = framed offset (kind_of fmt r) (record_bytes fmt r)
+appended fmt offset r = appended_record offset (kind_of fmt r) (record_bytes fmt r)
 
 -- the record of landings leads from what the format keeps of a standing to what it keeps of the standing after them
 pub landings_lead : LandingsFollow → FormatsAreSound → FormatsGroup → KeptIsSpelled → WrittenInBoth → (rs : List Framed) (fmt : Format) (offset : ℕ) (s : Standing) (bs : List Batch)
@@ -71,7 +71,7 @@ landings_lead law sound_in group kept both rs fmt offset s bs leads read sound b
 -- ---- floors
 pub floors_lead : FloorsFollow → FormatsAreSound → FormatsFollow → (rs : List Framed) (fmt : Format) (offset : ℕ) (s : Standing) (floor : ℕ) → LeadToStanding rs fmt (standing_in fmt s) → IsSound format.Two s → s.floor ≤ floor → floor ≤ s.head
     → LeadToStanding (rs ++ appended fmt offset («record».Floor floor) ∷ []) fmt (standing_in fmt (with_floor floor s))
-    × (versions_of (standing_in fmt (with_floor floor s)) ≡ pruned floor (versions_of (standing_in fmt s)))
+    × (versions_of (standing_in fmt (with_floor floor s)) ≡ versions_from_floor floor (versions_of (standing_in fmt s)))
 floors_lead law sound_in follow rs fmt offset s floor leads sound low high =
     let y = appended fmt offset («record».Floor floor) in
     let last = sound.head_last in

@@ -3,7 +3,7 @@ use Rattle.std.specs.Prelude.{ℕ, List, [], ◌∷◌, ◌≡◌, Option, Some,
 use Rattle.jf_hash.specs.Maps.{map_of_entries}
 use Rattle.jf_disk.specs.Disk.{DiskState, Files, History}
 use Rattle.jf_frame.specs.Framed.{Framed}
-use Rattle.jf_frame.specs.Logs.{framed}
+use Rattle.jf_frame.specs.Logs.{appended_record}
 use Rattle.jf_pair.specs.Files.{HoldsLive}
 use Rattle.jf_pair.specs.Pairs.{Pair, IsInStep}
 use Rattle.jf_codec.specs.declared.format.Format.{Format}
@@ -29,7 +29,7 @@ pub record KeepsStandingFiles (history : Option History) (p : Pair) (fmt : Forma
 
 -- the checkpoint of a standing in format 2, as the first record of its file
 abbrev pub checkpoint_at_start : ℕ → Standing → Framed
-checkpoint_at_start g s = framed 0 (checkpoint_kind format.Two) (record_bytes format.Two (checkpoint_of g s))
+checkpoint_at_start g s = appended_record 0 (checkpoint_kind format.Two) (record_bytes format.Two (checkpoint_of g s))
 
 -- two files hold one live record: the checkpoint, in a generation, of one version with these entries, whose nodes are all
 -- named by that version

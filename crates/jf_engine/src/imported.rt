@@ -4,12 +4,12 @@ ghost use Rattle.std.specs.FinMap.{is_sorted};
 ghost use Rattle.jf_path.specs.Keys.{key_cmp};
 ghost use Rattle.jf_hash.specs.Maps.{map_of_entries};
 ghost use Rattle.jf_model.specs.Nodes.{nodes};
-ghost use Rattle.jf_model.specs.Versions.{imported};
+ghost use Rattle.jf_model.specs.Versions.{imported_versions};
 ghost use Rattle.jf_codec.specs.declared.format.Format.TheVariants as format;
 ghost use Rattle.jf_standing.specs.Building.{imported_standing};
 ghost use Rattle.jf_standing.specs.Standing.{versions_of};
 ghost use Rattle.jf_update.specs.Restored.{AreShortEntries, IsRestored};
-ghost use Rattle.jf_dir.specs.Directories.{ordered};
+ghost use Rattle.jf_dir.specs.Directories.{standing_by_name};
 
 use jf_dir::{Directory, restored_from};
 use jf_node::Snapshot;
@@ -27,8 +27,8 @@ pub(crate) fn imported_directory(
     requires sorted { T (is_sorted key_cmp entries.now) }
     requires short { AreShortEntries entries.now }
     requires few { length entries.now ≤ 2 ^ 62 }
-    ensures versions { IfOk result (λ d. versions_of d ≡ imported version (map_of_entries entries.now)) }
-    ensures standing { IfOk result (λ d. d ≡ ordered (imported_standing format.Two version (map_of_entries entries.now))) }
+    ensures versions { IfOk result (λ d. versions_of d ≡ imported_versions version (map_of_entries entries.now)) }
+    ensures standing { IfOk result (λ d. d ≡ standing_by_name (imported_standing format.Two version (map_of_entries entries.now))) }
 {
     let snapshot = imported_snapshot(alloc, version, entries.as_slice())?;
     snapshot.know();

@@ -47,7 +47,7 @@ pub fn open<H: Threads + Sync>(
     Engine::open(rt, alloc, Box::into_inner(disk), Workers::ONE)
 }
 
-fn opened<H: Threads + Sync>(
+fn opened_engine<H: Threads + Sync>(
     rt: &H,
     alloc: Global,
     disk: Box<MemDisk>,
@@ -64,7 +64,7 @@ pub fn store_on<H: Threads + Sync>(
     alloc: Global,
     disk: Box<MemDisk>,
 ) -> Result<Store, Fail> {
-    let engine = opened(rt, alloc, disk)?;
+    let engine = opened_engine(rt, alloc, disk)?;
     Ok(Box::new(alloc, engine)?)
 }
 
@@ -74,7 +74,7 @@ pub fn state_on<H: Threads + Sync>(
     alloc: Global,
     disk: Box<MemDisk>,
 ) -> Result<State, OpenFault> {
-    let engine = opened(rt, alloc, disk)?;
+    let engine = opened_engine(rt, alloc, disk)?;
     Ok(engine.state())
 }
 
@@ -89,6 +89,6 @@ pub fn disk_in(alloc: Global, store: Store) -> Result<Box<MemDisk>, Fail> {
 }
 
 /// The store that the files of this one give when they are opened again.
-pub fn reopened<H: Threads + Sync>(rt: &H, alloc: Global, store: Store) -> Result<Store, Fail> {
+pub fn reopened_store<H: Threads + Sync>(rt: &H, alloc: Global, store: Store) -> Result<Store, Fail> {
     store_on(rt, alloc, disk_in(alloc, store)?)
 }

@@ -20,13 +20,13 @@ use Rattle.jf_codec.specs.declared.format.Format.{Format}
 use Rattle.jf_codec.specs.declared.format.Format.TheVariants as format
 use Rattle.jf_payload.specs.Spelling.{checkpoint_kind}
 use Rattle.jf_payload.specs.declared.records.Record.{Record}
-use Rattle.jf_payload.specs.Reading.{spelled}
+use Rattle.jf_payload.specs.Reading.{spelled_record}
 use Rattle.jf_standing.specs.Next.{IsReadRecord}
 use Rattle.jf_standing.specs.Leading.{Item, AreRead, AllLead, OneFailsAt}
 use Rattle.jf_standing.specs.ItemLaws.{SpelledIsRead, ItemsAreJudged, ItemsLeadToOne, ItemsLeadToSound, NeverBoth, ItemsFailOnce}
 use Rattle.jf_standing.specs.Begin.{IsReadFirst}
 use Rattle.jf_standing.specs.Standing.{versions_of}
-use Rattle.jf_files.specs.Files.{items, item, LeadTo, IsUnsoundAt, held, generation_in, generation, StandsFor, IsDamagedAt}
+use Rattle.jf_files.specs.Files.{items, item, LeadTo, IsUnsoundAt, records_of_side, generation_in, generation, StandsFor, IsDamagedAt}
 use Rattle.jf_files.specs.Steps.{IsCalm}
 
 -- ---- the kinds of a checkpoint
@@ -54,10 +54,10 @@ read_if P (Some r) h = h r refl
 module _ (known : SpelledIsRead) (fmt : Format) where
   all_read : (xs : List Framed) → AllByRecursion (λ (y : Item). IfSome y.1 IsReadRecord) (items fmt xs)
   all_read [] = tt
-  all_read (x ∷ xs) = (read_if IsReadRecord (spelled fmt x.kind x.payload) (λ r is. (known fmt x.kind x.payload r is).1), all_read xs)
+  all_read (x ∷ xs) = (read_if IsReadRecord (spelled_record fmt x.kind x.payload) (λ r is. (known fmt x.kind x.payload r is).1), all_read xs)
 
   pub are_read : (x : Framed) (xs : List Framed) → AreRead (item fmt x) (items fmt xs)
-  are_read x xs = (read_if IsReadFirst (spelled fmt x.kind x.payload) (λ r is. (known fmt x.kind x.payload r is).0), all_read xs)
+  are_read x xs = (read_if IsReadFirst (spelled_record fmt x.kind x.payload) (λ r is. (known fmt x.kind x.payload r is).0), all_read xs)
 
 -- ---- records
 module _ (known : SpelledIsRead) where
@@ -106,7 +106,7 @@ one_side files rs rs' h k = ap₂ live_side (same_ok _ _ (records files.a) h.a_h
 -- the generation of two files is that of their live records
 pub generation_live : (files : Files) (rs : List Framed) → HoldsLive files rs → generation files ≡ generation_in rs
 unfolding generation
-generation_live files rs h = ap₂ (λ left right. generation_in (live_records (held left) (held right))) h.a_held h.b_held ∙ ap generation_in h.live
+generation_live files rs h = ap₂ (λ left right. generation_in (live_records (records_of_side left) (records_of_side right))) h.a_held h.b_held ∙ ap generation_in h.live
 
 -- ---- files
 pub no_records : (files : Files) → records files.a ≡ Ok [] → records files.b ≡ Ok [] → StandsFor files new_store

@@ -1,7 +1,7 @@
 -- What the records of each step lead to, and that a crash leaves the versions before or after the step.
 use Rattle.std.proofs.Common.{List, [], ◌∷◌, refl, ◌≡◌, ℕ, sym, ◌∙◌, ◌⊎◌, inl, inr, ap, subst}
 use Rattle.jf_hash.specs.Maps.{map_of_entries}
-use Rattle.jf_model.specs.Versions.{Versions, imported, new_store}
+use Rattle.jf_model.specs.Versions.{Versions, imported_versions, new_store}
 use Rattle.jf_disk.specs.Disk.{History, reads, IsImage, Files}
 use Rattle.jf_disk.specs.Crashes.{LeavesNow, LeavesFiles}
 use Rattle.jf_disk.proofs.CrashLaws.{goes_weaker, goes_further, goes_now}
@@ -62,7 +62,7 @@ compactions_follow spelling gives formats = λ fmt s generation x sound is. alon
 pub imports_follow : SpelledIsSpelling → CheckpointsGive → ImportsAreSound → ImportsFollow
 imports_follow spelling gives law = λ fmt version es generation x v map room last is.
     let i = law fmt version (map_of_entries es) map room last in
-    alone spelling gives fmt (imported_standing fmt version (map_of_entries es)) generation x (imported version (map_of_entries es)) i.0 i.1 is
+    alone spelling gives fmt (imported_standing fmt version (map_of_entries es)) generation x (imported_versions version (map_of_entries es)) i.0 i.1 is
 
 pub first_follows : SpelledIsSpelling → CheckpointsGive → NewIsSound → FirstFollows
 first_follows spelling gives law = λ fmt generation x is.

@@ -8,13 +8,13 @@ use Rattle.jf_frame.specs.Framing.{records}
 use Rattle.jf_pair.specs.Files.{HoldsLive, generation_of, live_side, live_records, outer_damage}
 use Rattle.jf_codec.specs.declared.format.Format.{Format}
 use Rattle.jf_payload.specs.Spelling.{checkpoint_kind}
-use Rattle.jf_payload.specs.Reading.{spelled}
+use Rattle.jf_payload.specs.Reading.{spelled_record}
 use Rattle.jf_standing.specs.Standing.{Standing, versions_of}
 use Rattle.jf_standing.specs.Leading.{Item, AllLead, OneFailsAt}
 
 -- a framed record as it is read in a format: its offset, and the record that its payload spells, or None
 abbrev pub item : Format → Framed → Item
-item fmt x = (x.offset, spelled fmt x.kind x.payload)
+item fmt x = (x.offset, spelled_record fmt x.kind x.payload)
 
 -- framed records as they are read, in order
 abbrev pub items : Format → List Framed → List Item
@@ -64,10 +64,10 @@ generation_in [] = 1
 generation_in (x ∷ xs) = generation_of (x ∷ xs)
 
 -- the records of a side; no records if its gates and lengths aren't whole
-abbrev pub held : Result (List Framed) ℕ → List Framed
-held (Ok rs) = rs
-held (Err at) = []
+abbrev pub records_of_side : Result (List Framed) ℕ → List Framed
+records_of_side (Ok rs) = rs
+records_of_side (Err at) = []
 
 -- the generation of two files: that of their live records
 unfoldable pub generation : Files → ℕ
-generation files = generation_in (live_records (held (records files.a)) (held (records files.b)))
+generation files = generation_in (live_records (records_of_side (records files.a)) (records_of_side (records files.b)))

@@ -1,7 +1,7 @@
 -- What a step of a store makes of its versions and of its files' records, and what a crash in it may leave.
 use Rattle.std.specs.Prelude.{ℕ, List, ◌+◌, ◌≡◌, [], ◌∷◌, ◌++◌, ◌⊎◌}
 use Rattle.jf_hash.specs.Maps.{Batch, map_of_entries}
-use Rattle.jf_model.specs.Versions.{Versions, land_all, pruned, imported}
+use Rattle.jf_model.specs.Versions.{Versions, land_all, versions_from_floor, imported_versions}
 use Rattle.jf_disk.specs.Disk.{History, reads, Files, IsImage}
 use Rattle.jf_disk.specs.Crashes.{GoesOn, LeavesNow}
 use Rattle.jf_frame.specs.Framed.{Framed}
@@ -23,9 +23,9 @@ pub data StoreStep : Type 0 where
 abbrev pub versions_after_step : StoreStep → Versions → Versions
 versions_after_step Opens v = v
 versions_after_step (Lands bs) v = land_all bs v
-versions_after_step (Prunes floor) v = pruned floor v
+versions_after_step (Prunes floor) v = versions_from_floor floor v
 versions_after_step Compacts v = v
-versions_after_step (Imports version es) v = imported version (map_of_entries es)
+versions_after_step (Imports version es) v = imported_versions version (map_of_entries es)
 
 -- the generation after a step that succeeds
 abbrev pub generation_after_step : StoreStep → ℕ → ℕ

@@ -16,8 +16,8 @@ abbrev pub no_calls : FileCalls
 no_calls = record { lengths = 0; reads = 0; writes = 0; cuts = 0; whole_syncs = 0; data_syncs = 0 }
 
 -- a count after one more call
-unfoldable pub raised : ℕ → ℕ
-raised n = max n (min (n + 1) (2 ^ 64 - 1))
+unfoldable pub count_after_call : ℕ → ℕ
+count_after_call n = max n (min (n + 1) (2 ^ 64 - 1))
 
 -- the calls on a side's file; whether its next sync has to be a whole one, as at first and after a cut that was tried;
 -- and whether the side is lost, since a sync of it failed
@@ -29,7 +29,7 @@ pub record SideTally : Type 0 where
 -- ---- what one call on a side makes of its file's counts
 -- its length was asked for once
 abbrev pub AsksLength : FileCalls → FileCalls → Type 0
-AsksLength c c' = c' ≡ record c { lengths = raised c.lengths }
+AsksLength c c' = c' ≡ record c { lengths = count_after_call c.lengths }
 
 -- it was read, and nothing else
 pub record ReadsAlone (c c' : FileCalls) : Type 0 where
@@ -51,7 +51,7 @@ pub record WritesAlone (c c' : FileCalls) : Type 0 where
 
 -- its length was asked for once at most, it was written, and nothing else
 pub record AsksAndWrites (c c' : FileCalls) : Type 0 where
-  pub lengths : (c'.lengths ≡ c.lengths) ⊎ (c'.lengths ≡ raised c.lengths)
+  pub lengths : (c'.lengths ≡ c.lengths) ⊎ (c'.lengths ≡ count_after_call c.lengths)
   pub reads : c'.reads ≡ c.reads
   pub writes : c.writes ≤ c'.writes
   pub cuts : c'.cuts ≡ c.cuts
@@ -60,10 +60,10 @@ pub record AsksAndWrites (c c' : FileCalls) : Type 0 where
 
 -- its length was asked for once, it was cut once at most, and nothing else
 pub record AsksAndCuts (c c' : FileCalls) : Type 0 where
-  pub lengths : c'.lengths ≡ raised c.lengths
+  pub lengths : c'.lengths ≡ count_after_call c.lengths
   pub reads : c'.reads ≡ c.reads
   pub writes : c'.writes ≡ c.writes
-  pub cuts : (c'.cuts ≡ c.cuts) ⊎ (c'.cuts ≡ raised c.cuts)
+  pub cuts : (c'.cuts ≡ c.cuts) ⊎ (c'.cuts ≡ count_after_call c.cuts)
   pub whole_syncs : c'.whole_syncs ≡ c.whole_syncs
   pub data_syncs : c'.data_syncs ≡ c.data_syncs
 
@@ -76,7 +76,7 @@ pub record OnSide (makes : FileCalls → FileCalls → Type 0) (failed : Type 0)
 
 -- its file's cuts and the whole sync that is due, after one cut, whatever its outcome
 pub record IsCut (s s' : SideTally) : Type 0 where
-  pub cuts : s'.calls.cuts ≡ raised s.calls.cuts
+  pub cuts : s'.calls.cuts ≡ count_after_call s.calls.cuts
   pub whole_due : s'.whole_due ≡ true
 
 -- the same without a cut
@@ -95,8 +95,8 @@ pub record CutsSide (failed : Type 0) (s s' : SideTally) : Type 0 where
 -- whole sync is due exactly after one that succeeded
 pub record SyncsSide (done failed : Type 0) (s s' : SideTally) : Type 0 where
   pub refused : s.lost ≡ true → (s' ≡ s) × failed
-  pub due : s.lost ≡ false → s.whole_due ≡ true → s'.calls ≡ record s.calls { whole_syncs = raised s.calls.whole_syncs }
-  pub bytes : s.lost ≡ false → s.whole_due ≡ false → s'.calls ≡ record s.calls { data_syncs = raised s.calls.data_syncs }
+  pub due : s.lost ≡ false → s.whole_due ≡ true → s'.calls ≡ record s.calls { whole_syncs = count_after_call s.calls.whole_syncs }
+  pub bytes : s.lost ≡ false → s.whole_due ≡ false → s'.calls ≡ record s.calls { data_syncs = count_after_call s.calls.data_syncs }
   pub sound : done → s'.lost ≡ false
   pub lost : failed → s'.lost ≡ true
   pub settled : done → s'.whole_due ≡ false

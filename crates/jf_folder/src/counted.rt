@@ -1,7 +1,7 @@
 // An open file that is reached through counted calls alone. Each call here makes one of std's, and counts it first.
 ghost use Rattle.std.specs.Prelude.{◌≡◌, ◌≤◌, length, IfOk};
 ghost use Rattle.jf_path.specs.Faults.{HasCause};
-ghost use Rattle.jf_folder.specs.Calls.{no_calls, raised};
+ghost use Rattle.jf_folder.specs.Calls.{no_calls, count_after_call};
 
 use std::fs::File;
 use std::io;
@@ -30,7 +30,7 @@ impl Model for CountedFile {
 
 // A count after one more call.
 pub(crate) fn one_more(count: u64) -> u64
-    ensures value { result ≡ raised count }
+    ensures value { result ≡ count_after_call count }
     ensures grows { count ≤ result }
     ensures rises { HasCause count result }
 {
@@ -60,7 +60,7 @@ impl CountedFile {
     }
 
     pub(crate) fn length(&mut self) -> io::Result<u64>
-        ensures { self.new ≡ record self.old { lengths = raised self.old.lengths } }
+        ensures { self.new ≡ record self.old { lengths = count_after_call self.old.lengths } }
     {
         self.lengths = one_more(self.lengths);
         Ok(self.file.metadata()?.len())
@@ -68,7 +68,7 @@ impl CountedFile {
 
     pub(crate) fn read_at(&mut self, buf: &mut [u8], at: u64) -> io::Result<usize>
         ensures within { IfOk result (λ n. n ≤ length buf.old) }
-        ensures counts { self.new ≡ record self.old { reads = raised self.old.reads } }
+        ensures counts { self.new ≡ record self.old { reads = count_after_call self.old.reads } }
         ensures grows { self.old.reads ≤ self.new.reads }
         ensures rises { HasCause self.old.reads self.new.reads }
     {
@@ -78,7 +78,7 @@ impl CountedFile {
 
     pub(crate) fn write_at(&mut self, bytes: &[u8], at: u64) -> io::Result<usize>
         ensures within { IfOk result (λ n. n ≤ length bytes.now) }
-        ensures counts { self.new ≡ record self.old { writes = raised self.old.writes } }
+        ensures counts { self.new ≡ record self.old { writes = count_after_call self.old.writes } }
         ensures grows { self.old.writes ≤ self.new.writes }
         ensures rises { HasCause self.old.writes self.new.writes }
     {
@@ -87,7 +87,7 @@ impl CountedFile {
     }
 
     pub(crate) fn cut(&mut self, len: u64) -> io::Result<()>
-        ensures { self.new ≡ record self.old { cuts = raised self.old.cuts } }
+        ensures { self.new ≡ record self.old { cuts = count_after_call self.old.cuts } }
     {
         self.cuts = one_more(self.cuts);
         self.file.set_len(len)
@@ -95,7 +95,7 @@ impl CountedFile {
 
     /// Brings the bytes, the length and all else that the system keeps of the file to the device.
     pub(crate) fn sync_all(&mut self) -> io::Result<()>
-        ensures { self.new ≡ record self.old { whole_syncs = raised self.old.whole_syncs } }
+        ensures { self.new ≡ record self.old { whole_syncs = count_after_call self.old.whole_syncs } }
     {
         self.whole_syncs = one_more(self.whole_syncs);
         self.file.sync_all()
@@ -103,7 +103,7 @@ impl CountedFile {
 
     /// Brings the bytes to the device, and of the rest what is needed to read them.
     pub(crate) fn sync_data(&mut self) -> io::Result<()>
-        ensures { self.new ≡ record self.old { data_syncs = raised self.old.data_syncs } }
+        ensures { self.new ≡ record self.old { data_syncs = count_after_call self.old.data_syncs } }
     {
         self.data_syncs = one_more(self.data_syncs);
         self.file.sync_data()

@@ -1,6 +1,6 @@
 // A folder that is open, and the syncs that bring its entries to the device.
 ghost use Rattle.std.specs.Prelude.{◌≡◌, ◌≤◌, None, IfOk, OnOk, OnErr, IfSome};
-ghost use Rattle.jf_folder.specs.Calls.{no_calls, no_syncs, raised, AreSynced};
+ghost use Rattle.jf_folder.specs.Calls.{no_calls, no_syncs, count_after_call, AreSynced};
 
 use crate::cause::FaultCause;
 use crate::counted::{CountedFile, one_more};
@@ -51,10 +51,10 @@ impl Folder {
     }
 
     // Counts a sync that failed.
-    fn noted(&mut self, outcome: io::Result<()>) -> io::Result<()>
+    fn count_failed_sync(&mut self, outcome: io::Result<()>) -> io::Result<()>
         ensures outcome { result ≡ outcome }
         ensures ok { OnOk result (self.new ≡ self.old) }
-        ensures failed { OnErr result (self.new ≡ record self.old { failed = raised self.old.failed }) }
+        ensures failed { OnErr result (self.new ≡ record self.old { failed = count_after_call self.old.failed }) }
     {
         if outcome.is_err() {
             self.failed = one_more(self.failed);
@@ -64,17 +64,17 @@ impl Folder {
 
     /// Brings the folder's entries to the device.
     pub(crate) fn sync(&mut self) -> io::Result<()>
-        ensures ok { OnOk result (self.new ≡ record self.old { own = raised self.old.own }) }
-        ensures failed { OnErr result (self.new ≡ record self.old { own = raised self.old.own; failed = raised self.old.failed }) }
+        ensures ok { OnOk result (self.new ≡ record self.old { own = count_after_call self.old.own }) }
+        ensures failed { OnErr result (self.new ≡ record self.old { own = count_after_call self.old.own; failed = count_after_call self.old.failed }) }
     {
         let outcome = self.file.sync_all();
-        self.noted(outcome)
+        self.count_failed_sync(outcome)
     }
 
     // The folder that this one stands in, if that can be opened.
     fn open_parent<H: Files<File = File>>(&mut self, rt: &H, parent: &str) -> Option<CountedFile>
-        ensures found { IfSome result (λ f. (f ≡ no_calls) × (self.new ≡ record self.old { looked = raised self.old.looked; opened = raised self.old.opened })) }
-        ensures none { result ≡ None → self.new ≡ record self.old { looked = raised self.old.looked } }
+        ensures found { IfSome result (λ f. (f ≡ no_calls) × (self.new ≡ record self.old { looked = count_after_call self.old.looked; opened = count_after_call self.old.opened })) }
+        ensures none { result ≡ None → self.new ≡ record self.old { looked = count_after_call self.old.looked } }
     {
         self.looked = one_more(self.looked);
         match File::open(rt, parent) {
@@ -96,17 +96,17 @@ impl Folder {
         requires unopened { self.old.opened ≡ 0 }
         requires unsynced { self.old.parent ≡ 0 }
         ensures own { self.new.own ≡ self.old.own }
-        ensures looked { self.new.looked ≡ raised self.old.looked }
+        ensures looked { self.new.looked ≡ count_after_call self.old.looked }
         ensures opened { self.new.opened ≤ 1 }
         ensures synced { self.new.parent ≡ self.new.opened }
         ensures ok { OnOk result (self.new.failed ≡ self.old.failed) }
-        ensures failed { OnErr result (self.new.failed ≡ raised self.old.failed) }
+        ensures failed { OnErr result (self.new.failed ≡ count_after_call self.old.failed) }
     {
         match self.open_parent(rt, parent) {
             Some(mut file) => {
                 let outcome = file.sync_all();
                 self.parent = file.whole_syncs();
-                self.noted(outcome)
+                self.count_failed_sync(outcome)
             }
             None => Ok(()),
         }

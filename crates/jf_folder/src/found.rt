@@ -27,7 +27,7 @@ pub(crate) fn open_there<H: Files<File = File>>(
     path: &str,
 ) -> Result<Option<File>, FileRefused> {
     match OpenOptions::new().read(true).write(true).open(rt, path) {
-        Ok(file) => Ok(Some(checked(file)?)),
+        Ok(file) => Ok(Some(checked_file(file)?)),
         Err(e) if e.kind() == ErrorKind::NotFound => none_there(rt, path),
         Err(e) => Err(e.into()),
     }
@@ -40,7 +40,7 @@ pub(crate) fn open_to_read<H: Files<File = File>>(
     path: &str,
 ) -> Result<Option<File>, FileRefused> {
     match fs::metadata(rt, path) {
-        Ok(found) if found.is_file() => Ok(Some(checked(File::open(rt, path)?)?)),
+        Ok(found) if found.is_file() => Ok(Some(checked_file(File::open(rt, path)?)?)),
         Ok(_) => Err(FileRefused::DiskFailed(FaultCause::NotAStore)),
         Err(e) if e.kind() == ErrorKind::NotFound => none_there(rt, path),
         Err(e) => Err(e.into()),
@@ -65,7 +65,7 @@ pub(crate) fn make<H: Files<File = File>>(rt: &H, path: &str) -> Result<File, Fi
         .mode(OWNER_ALONE)
         .open(rt, path)
     {
-        Ok(file) => locked(checked(file)?),
+        Ok(file) => locked_file(checked_file(file)?),
         // Another run has made it meanwhile.
         Err(e) if e.kind() == ErrorKind::AlreadyExists => {
             Err(FileRefused::DiskFailed(FaultCause::InUse))
@@ -75,7 +75,7 @@ pub(crate) fn make<H: Files<File = File>>(rt: &H, path: &str) -> Result<File, Fi
 }
 
 /// Locks a file for this process. It is refused if another process or another open of it holds the lock.
-pub(crate) fn locked(file: File) -> Result<File, FileRefused> {
+pub(crate) fn locked_file(file: File) -> Result<File, FileRefused> {
     match file.try_lock() {
         Ok(()) => Ok(file),
         Err(e) => Err(io::Error::from(e).into()),
@@ -94,7 +94,7 @@ pub(crate) fn are_apart(a: &Option<File>, b: &Option<File>) -> Result<bool, File
 }
 
 // The file, if it is regular and no standard stream.
-fn checked(file: File) -> Result<File, FileRefused> {
+fn checked_file(file: File) -> Result<File, FileRefused> {
     if is_stream(&file) {
         return Err(FileRefused::DiskFailed(FaultCause::ClosedStream));
     }

@@ -55,7 +55,7 @@ impl FolderBytes {
         if !are_apart(&a, &b)? {
             return Err(FileRefused::DiskFailed(FaultCause::NotAStore));
         }
-        both_at_once(alloc, &mut counted(a), &mut counted(b))
+        both_at_once(alloc, &mut counted_file(a), &mut counted_file(b))
     }
 
     /// Why no store would be opened over these files, if none would (docs/FORMATS.md, "The files of a folder").
@@ -80,7 +80,7 @@ fn seen_of(file: &Option<Vec<u8>>) -> Seen
 }
 
 // A file that is reached through counted calls, if there is one.
-fn counted(file: Option<File>) -> Option<CountedFile> {
+fn counted_file(file: Option<File>) -> Option<CountedFile> {
     match file {
         None => None,
         Some(file) => Some(CountedFile::new(file)),

@@ -5,7 +5,7 @@ ghost use Rattle.jf_folder.specs.File.{IsUnwritten, AreFit};
 
 use crate::cause::FaultCause;
 use crate::file::FileRefused;
-use crate::found::{are_apart, locked, make, open_there};
+use crate::found::{are_apart, locked_file, make, open_there};
 use crate::seen::{Seen, store_refusal};
 use crate::side_file::SideFile;
 use std::fs::File;
@@ -34,8 +34,8 @@ impl TwoFiles {
         if !are_apart(&a, &b)? {
             return Err(FileRefused::DiskFailed(FaultCause::NotAStore));
         }
-        let a = Found::locked(a)?;
-        let b = Found::locked(b)?;
+        let a = Found::found_file(a)?;
+        let b = Found::found_file(b)?;
         if let Some(cause) = store_refusal(a.seen, b.seen) {
             return Err(FileRefused::DiskFailed(cause));
         }
@@ -65,7 +65,7 @@ struct Found {
 
 impl Found {
     // Locks the file, if there is one, and looks at it.
-    fn locked(file: Option<File>) -> Result<Found, FileRefused>
+    fn found_file(file: Option<File>) -> Result<Found, FileRefused>
         ensures { IfOk result (λ f. IfSome f.side IsUnwritten) }
     {
         match file {
@@ -74,8 +74,8 @@ impl Found {
                 seen: Seen::Missing,
             }),
             Some(file) => {
-                let mut side = SideFile::over(locked(file)?);
-                let seen = side.seen()?;
+                let mut side = SideFile::over(locked_file(file)?);
+                let seen = side.length_and_first_byte()?;
                 Ok(Found {
                     side: Some(side),
                     seen,

@@ -2,7 +2,7 @@
 use Rattle.std.proofs.Common.{◌≡◌, ◌⊎◌, inl, inr, ℕ, ◌+◌, ◌≤◌, Bool, true, false, cond, List, [], ◌∷◌, ◌++◌, length, map, Option, Some, None, refl, ap, sym, ◌∙◌, arith}
 use Rattle.std.specs.List.{AllByRecursion}
 use Rattle.jf_hash.specs.Maps.{Batch}
-use Rattle.jf_model.specs.Versions.{Versions, landed, land_all}
+use Rattle.jf_model.specs.Versions.{Versions, versions_after_landing, land_all}
 use Rattle.jf_model.specs.States.{State}
 use Rattle.jf_model.specs.Entries.{landed_batches, after, replay}
 use Rattle.jf_model.specs.declared.entries.Entry.{Entry}
@@ -30,7 +30,7 @@ IsAlike-by : (f g h : FollowedBlocks) → f ≡ g → IsAlike g h → IsAlike f 
 IsAlike-by f g h e alike = (ap (λ x. x.versions) e ∙ alike.0, ap (λ x. x.refused) e ∙ alike.1)
 
 next_block : (v : Versions) (b : Batch) (rest : List LandingBlock) (t : Bool) → judgement v (landed_block v b) ≡ cond t (judged.Refused fault.Last) judged.Next
-    → IsAlike (follow v (landed_block v b ∷ rest)) (follow (landed b v) rest) ⊎ ((follow v (landed_block v b ∷ rest)).refused ≡ Some fault.Last)
+    → IsAlike (follow v (landed_block v b ∷ rest)) (follow (versions_after_landing b v) rest) ⊎ ((follow v (landed_block v b ∷ rest)).refused ≡ Some fault.Last)
 unfolding follow
 next_block v b rest true e = inr (ap (λ o. (after_judgement v (landed_block v b) rest o).refused) e)
 next_block v b rest false e = inl (ap (λ o. (after_judgement v (landed_block v b) rest o).versions) e, ap (λ o. (after_judgement v (landed_block v b) rest o).refused) e)
@@ -40,10 +40,10 @@ blocks_followed : (bs : List Batch) (v : Versions) (rest : List LandingBlock) �
     → IsAlike (follow v (landed_blocks v bs ++ rest)) (follow (land_all bs v) rest) ⊎ ((follow v (landed_blocks v bs ++ rest)).refused ≡ Some fault.Last)
 blocks_followed [] v rest h = inl (refl, refl)
 blocks_followed (b ∷ bs) v rest h =
-    elim (next_block v b (landed_blocks (landed b v) bs ++ rest) (is_at_limit v) (next_judgement v b h)) [
+    elim (next_block v b (landed_blocks (versions_after_landing b v) bs ++ rest) (is_at_limit v) (next_judgement v b h)) [
       | inr last ↦ inr last
       | inl one ↦
-          elim (blocks_followed bs (landed b v) rest (omega arith)) [
+          elim (blocks_followed bs (versions_after_landing b v) rest (omega arith)) [
             | inr last ↦ inr (one.1 ∙ last)
             | inl more ↦ inl (one.0 ∙ more.0, one.1 ∙ more.1)
           ]

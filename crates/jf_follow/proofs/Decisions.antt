@@ -3,7 +3,7 @@ use Rattle.std.proofs.Common.{◌≡◌, inl, inr, ℕ, ◌+◌, ◌==◌, false
 use Rattle.std.specs.Prelude.{slice_get}
 use Rattle.std.proofs.lemmas.Bool.Decides.{nat_tests}
 use Rattle.jf_io.specs.Lines.{lines}
-use Rattle.jf_model.specs.Versions.{Versions, landed}
+use Rattle.jf_model.specs.Versions.{Versions, versions_after_landing}
 use Rattle.jf_model.specs.declared.entries.Entry.{Entry}
 use Rattle.jf_engine.specs.Engines.{Engine}
 use Rattle.jf_lead.specs.declared.block.LandingBlock.{LandingBlock}
@@ -30,14 +30,14 @@ abbrev refused_after : Versions → ℕ × LandingBlock → List (ℕ × Landing
 refused_after v b bs bad j =
     elim j as (λ x. Option FollowRefused) [
       | judged.Known ↦ refusal_over v bs bad
-      | judged.Next ↦ refusal_over (landed b.1.batch v) bs bad
+      | judged.Next ↦ refusal_over (versions_after_landing b.1.batch v) bs bad
       | judged.Refused why ↦ Some (refused.Block b.0 why)
     ]
 
 module _ (b : ℕ × LandingBlock) (bs rest : List (ℕ × LandingBlock)) (bad : Option ℕ) (others : (v : Versions) → (follow v (unnumbered bs)).refused ≡ None → refusal_over v (bs ++ rest) bad ≡ refusal_over (follow v (unnumbered bs)).versions rest bad) where
   past_by : (v : Versions) (j : Judgement) → (after_judgement v b.1 (unnumbered bs) j).refused ≡ None → refused_after v b (bs ++ rest) bad j ≡ refusal_over (after_judgement v b.1 (unnumbered bs) j).versions rest bad
   past_by v judged.Known none = others v none
-  past_by v judged.Next none = others (landed b.1.batch v) none
+  past_by v judged.Next none = others (versions_after_landing b.1.batch v) none
   past_by v (judged.Refused why) none = absurd (cc)
 
 -- blocks that are accepted are passed by

@@ -1,7 +1,7 @@
 -- Lines that were taken as landing blocks, and what they made of a store.
 use Rattle.std.proofs.Common.{◌≡◌, inl, inr, ℕ, ◌+◌, List, [], ◌∷◌, ◌++◌, length, map, arith, Option, Some, None, refl, ap, sym, ◌∙◌, subst, append_assoc, append-nil}
 use Rattle.jf_input.specs.Feeds.{Took}
-use Rattle.jf_model.specs.Versions.{landed}
+use Rattle.jf_model.specs.Versions.{versions_after_landing}
 use Rattle.jf_model.specs.Entries.{timeless}
 use Rattle.jf_model.specs.declared.entries.Entry.{Entry}
 use Rattle.jf_engine.specs.Engines.{Engine}

@@ -2,7 +2,7 @@
 use Rattle.std.proofs.Common.{◌≡◌, ℕ, ◌+◌, ◌≤◌, ◌<◌, ◌^◌, List, [], ◌∷◌, ◌++◌, length, Some, None, refl, ap, sym, ◌∙◌, arith}
 use Rattle.std.specs.List.{AllByRecursion}
 use Rattle.jf_hash.specs.Maps.{IsBatch}
-use Rattle.jf_model.specs.Versions.{Versions, root_of, landed}
+use Rattle.jf_model.specs.Versions.{Versions, root_of, versions_after_landing}
 use Rattle.jf_model.specs.States.{State}
 use Rattle.jf_model.specs.Entries.{after, replay, AreLegal, IsLegal}
 use Rattle.jf_lead.specs.declared.block.LandingBlock.{LandingBlock}
@@ -18,7 +18,7 @@ abbrev pub after_judgement : Versions → LandingBlock → List LandingBlock →
 after_judgement v b bs j =
     elim j as (λ x. FollowedBlocks) [
       | judged.Known ↦ follow v bs
-      | judged.Next ↦ and_entry_before (dated_entry b 0) (follow (landed b.batch v) bs)
+      | judged.Next ↦ and_entry_before (dated_entry b 0) (follow (versions_after_landing b.batch v) bs)
       | judged.Refused why ↦ record { versions = v; entries = []; refused = Some why }
     ]
 
@@ -29,7 +29,7 @@ and_on f cs = record { versions = (follow f.versions cs).versions; entries = f.e
 module _ (b : LandingBlock) (bs cs : List LandingBlock) (others : (v : Versions) → (follow v bs).refused ≡ None → follow v (bs ++ cs) ≡ and_on (follow v bs) cs) where
   on_by : (v : Versions) (j : Judgement) → (after_judgement v b bs j).refused ≡ None → after_judgement v b (bs ++ cs) j ≡ and_on (after_judgement v b bs j) cs
   on_by v judged.Known none = others v none
-  on_by v judged.Next none = ap (and_entry_before (dated_entry b 0)) (others (landed b.batch v) none)
+  on_by v judged.Next none = ap (and_entry_before (dated_entry b 0)) (others (versions_after_landing b.batch v) none)
   on_by v (judged.Refused why) none = absurd (cc)
 
 goes_on : (bs cs : List LandingBlock) (v : Versions) → (follow v bs).refused ≡ None → follow v (bs ++ cs) ≡ and_on (follow v bs) cs
@@ -81,7 +81,7 @@ following-legal s bs all room = legal bs all s room
 
 -- ---- blocks that come again
 -- a version that is there stays
-known-landed : (v : Versions) (version : ℕ) (r : List ℕ) (b : LandingBlock) → IsKnown v version r → IsKnown (landed b.batch v) version r
+known-landed : (v : Versions) (version : ℕ) (r : List ℕ) (b : LandingBlock) → IsKnown v version r → IsKnown (versions_after_landing b.batch v) version r
 known-landed v version r b is = record {
   low = is.low;
   high = let high = is.high in omega arith;
@@ -91,7 +91,7 @@ known-landed v version r b is = record {
 known-stays_by : (bs : List LandingBlock) (b : LandingBlock) (version : ℕ) (r : List ℕ) → ((v : Versions) → IsKnown v version r → IsKnown (follow v bs).versions version r)
     → (v : Versions) (j : Judgement) → IsKnown v version r → IsKnown (after_judgement v b bs j).versions version r
 known-stays_by bs b version r others v judged.Known is = others v is
-known-stays_by bs b version r others v judged.Next is = others (landed b.batch v) (known-landed v version r b is)
+known-stays_by bs b version r others v judged.Next is = others (versions_after_landing b.batch v) (known-landed v version r b is)
 known-stays_by bs b version r others v (judged.Refused why) is = is
 
 known-stays : (bs : List LandingBlock) (version : ℕ) (r : List ℕ) (v : Versions) → IsKnown v version r → IsKnown (follow v bs).versions version r
@@ -100,11 +100,11 @@ known-stays [] version r v is = is
 known-stays (b ∷ bs) version r v is = known-stays_by bs b version r (λ w h. known-stays bs version r w h) v (judgement v b) is
 
 -- what landed is there
-known-now : (v : Versions) (b : LandingBlock) → IsNext v b → IsKnown (landed b.batch v) b.version b.root
+known-now : (v : Versions) (b : LandingBlock) → IsNext v b → IsKnown (versions_after_landing b.batch v) b.version b.root
 known-now v b next = record {
   low = next.low;
   high = let is = next.follows in omega arith;
-  same = ap (root_of (landed b.batch v)) next.follows ∙ root_of-landed_block b.batch v ∙ next.rooted;
+  same = ap (root_of (versions_after_landing b.batch v)) next.follows ∙ root_of-landed_block b.batch v ∙ next.rooted;
 }
 
 abbrev AreKnown : Versions → List LandingBlock → Type 0
@@ -112,13 +112,13 @@ AreKnown v bs = AllByRecursion (λ (b : LandingBlock). IsKnown v b.version b.roo
 
 known_by : (b : LandingBlock) (bs : List LandingBlock) (v : Versions) (j : Judgement) → judgement v b ≡ j → (after_judgement v b bs j).refused ≡ None → IsKnown (after_judgement v b bs j).versions b.version b.root
 known_by b bs v judged.Known is none = known-stays bs b.version b.root v (judged_known v b is)
-known_by b bs v judged.Next is none = known-stays bs b.version b.root (landed b.batch v) (known-now v b (judged_next v b is))
+known_by b bs v judged.Next is none = known-stays bs b.version b.root (versions_after_landing b.batch v) (known-now v b (judged_next v b is))
 known_by b bs v (judged.Refused why) is none = absurd (cc)
 
 rest_by : (b : LandingBlock) (bs : List LandingBlock) → ((v : Versions) → (follow v bs).refused ≡ None → AreKnown (follow v bs).versions bs)
     → (v : Versions) (j : Judgement) → (after_judgement v b bs j).refused ≡ None → AreKnown (after_judgement v b bs j).versions bs
 rest_by b bs others v judged.Known none = others v none
-rest_by b bs others v judged.Next none = others (landed b.batch v) none
+rest_by b bs others v judged.Next none = others (versions_after_landing b.batch v) none
 rest_by b bs others v (judged.Refused why) none = absurd (cc)
 
 all_known : (bs : List LandingBlock) (v : Versions) → (follow v bs).refused ≡ None → AreKnown (follow v bs).versions bs

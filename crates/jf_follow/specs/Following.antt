@@ -4,7 +4,7 @@ use Rattle.std.specs.FinMap.{len}
 use Rattle.jf_path.specs.Checks.{first_of}
 use Rattle.jf_hash.specs.Maps.{Batch}
 use Rattle.jf_hash.specs.Roots.{root}
-use Rattle.jf_model.specs.Versions.{Versions, newest, root_of, landed}
+use Rattle.jf_model.specs.Versions.{Versions, newest, root_of, versions_after_landing}
 use Rattle.jf_model.specs.declared.entries.Landing.TheVariants as landing
 use Rattle.jf_model.specs.declared.entries.Entry.{Entry}
 use Rattle.jf_model.specs.declared.entries.Entry.TheVariants as entry
@@ -56,7 +56,7 @@ follow v [] = record { versions = v; entries = []; refused = None }
 follow v (b ∷ bs) =
     elim (judgement v b) [
       | judged.Known ↦ follow v bs
-      | judged.Next ↦ and_entry_before (dated_entry b 0) (follow (landed b.batch v) bs)
+      | judged.Next ↦ and_entry_before (dated_entry b 0) (follow (versions_after_landing b.batch v) bs)
       | judged.Refused why ↦ record { versions = v; entries = []; refused = Some why }
     ]
 

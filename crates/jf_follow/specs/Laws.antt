@@ -2,7 +2,7 @@
 use Rattle.std.specs.Prelude.{◌≡◌, ◌≢◌, ◌⊎◌, ℕ, ◌+◌, ◌^◌, ◌≤◌, List, [], ◌∷◌, ◌++◌, length, Option, option_map, Some, None}
 use Rattle.std.specs.List.{AllByRecursion}
 use Rattle.jf_hash.specs.Maps.{IsBatch}
-use Rattle.jf_model.specs.Versions.{Versions, IsVersions, map_of, root_of, landed}
+use Rattle.jf_model.specs.Versions.{Versions, IsVersions, map_of, root_of, versions_after_landing}
 use Rattle.jf_model.specs.States.{State}
 use Rattle.jf_model.specs.Entries.{replay, AreLegal, IsHistory}
 use Rattle.jf_model.specs.declared.entries.Entry.{Entry}
@@ -86,7 +86,7 @@ refusal_over v [] bad = option_map (λ at. refused.Line at) bad
 refusal_over v (b ∷ bs) bad =
     elim (judgement v b.1) [
       | judged.Known ↦ refusal_over v bs bad
-      | judged.Next ↦ refusal_over (landed b.1.batch v) bs bad
+      | judged.Next ↦ refusal_over (versions_after_landing b.1.batch v) bs bad
       | judged.Refused why ↦ Some (refused.Block b.0 why)
     ]
 

@@ -90,7 +90,7 @@ impl<D: Disk> Follower<D> {
         // It returns `Broken` exactly if the store was broken.
         ensures broken { (result ≡ Err FollowFault.Broken) ↔ (self.old.broken ≡ true) }
     {
-        if self.engine.broken() {
+        if self.engine.is_broken() {
             return Err(FollowFault::Broken);
         }
         match judge(&self.engine, version, root, batch) {

@@ -10,7 +10,7 @@ use Rattle.jf_model.specs.declared.entries.Parent.TheVariants as parent
 use Rattle.jf_forks.specs.Tables.{Grown, forks_of, grown_without, grown_settled}
 use Rattle.jf_forks.specs.Worked.{Worked}
 use Rattle.jf_forks.specs.declared.live.LiveFork.{LiveFork}
-use Rattle.jf_forks.specs.Lives.{grown}
+use Rattle.jf_forks.specs.Lives.{fork_with_map}
 use Rattle.jf_forks.proofs.TableLaws.{forks_of-grown_without, forks_of-grown_settled}
 use Rattle.jf_forks.proofs.Stays.{stays_is, on_none, on_it, on_other}
 
@@ -121,57 +121,57 @@ any_default [] i d e lt = absurd (omega arith)
 any_default (l ∷ ls) zero d e lt = refl
 any_default (l ∷ ls) (suc i) d e lt = any_default ls i d e (omega arith)
 
-module _ (at id bound : ℕ) (xs ys : List LiveFork) (x : LiveFork) (work : List Grown → List Grown) (w : Worked (at + 1) work (map grown xs) (map grown ys)) (lt : at < length xs) (is : x ≡ get_or ys at x) (sound : AreForks bound (forks_of (drop at (map grown xs)))) where
+module _ (at id bound : ℕ) (xs ys : List LiveFork) (x : LiveFork) (work : List Grown → List Grown) (w : Worked (at + 1) work (map fork_with_map xs) (map fork_with_map ys)) (lt : at < length xs) (is : x ≡ get_or ys at x) (sound : AreForks bound (forks_of (drop at (map fork_with_map xs)))) where
   rest : List Grown
-  rest = drop (at + 1) (map grown xs)
+  rest = drop (at + 1) (map fork_with_map xs)
 
-  within : at < length (map grown xs)
-  within = omega (arith, lt, length_map grown xs)
+  within : at < length (map fork_with_map xs)
+  within = omega (arith, lt, length_map fork_with_map xs)
 
-  pub same_here : get_or (map grown xs) at (grown x) ≡ grown x
-  same_here = sym (same_fork at work (map grown xs) (map grown ys) w (grown x)) ∙ get_or_mapped ys at ∙ ap grown (sym is)
+  pub same_here : get_or (map fork_with_map xs) at (fork_with_map x) ≡ fork_with_map x
+  same_here = sym (same_fork at work (map fork_with_map xs) (map fork_with_map ys) w (fork_with_map x)) ∙ get_or_mapped ys at ∙ ap fork_with_map (sym is)
     where
-      get_or_mapped : (ls : List LiveFork) (i : ℕ) → get_or (map grown ls) i (grown x) ≡ grown (get_or ls i x)
+      get_or_mapped : (ls : List LiveFork) (i : ℕ) → get_or (map fork_with_map ls) i (fork_with_map x) ≡ fork_with_map (get_or ls i x)
       get_or_mapped [] zero = refl
       get_or_mapped [] (suc i) = refl
       get_or_mapped (l ∷ ls) zero = refl
       get_or_mapped (l ∷ ls) (suc i) = get_or_mapped ls i
 
-  pub here : drop at (map grown xs) ≡ grown x ∷ drop (at + 1) (map grown xs)
-  here = drop_more (map grown xs) at (grown x) within ∙ ap (λ g. g ∷ drop (at + 1) (map grown xs)) same_here
+  pub here : drop at (map fork_with_map xs) ≡ fork_with_map x ∷ drop (at + 1) (map fork_with_map xs)
+  here = drop_more (map fork_with_map xs) at (fork_with_map x) within ∙ ap (λ g. g ∷ drop (at + 1) (map fork_with_map xs)) same_here
 
-  pub forks_here : AreForks bound ((grown x).fork ∷ forks_of (drop (at + 1) (map grown xs)))
+  pub forks_here : AreForks bound ((fork_with_map x).fork ∷ forks_of (drop (at + 1) (map fork_with_map xs)))
   forks_here = subst (λ gs. AreForks bound (forks_of gs)) here sound
 
   -- the forks after the place are worked
-  pub worked_after : map grown (take (length ys - (at + 1)) (drop (at + 1) ys)) ≡ work (drop (at + 1) (map grown xs))
-  worked_after = ap (map grown) (take_all (length ys - (at + 1)) (drop (at + 1) ys) (omega (arith, length-drop (at + 1) ys))) ∙ sym (drop-map grown (at + 1) ys) ∙ w.back
+  pub worked_after : map fork_with_map (take (length ys - (at + 1)) (drop (at + 1) ys)) ≡ work (drop (at + 1) (map fork_with_map xs))
+  worked_after = ap (map fork_with_map) (take_all (length ys - (at + 1)) (drop (at + 1) ys) (omega (arith, length-drop (at + 1) ys))) ∙ sym (drop-map fork_with_map (at + 1) ys) ∙ w.back
 
   -- the worked forks after the place are forks
-  pub after_forks : (zs : List LiveFork) → zs ≡ ys → (b : ℕ) → AreForks b (forks_of (work (drop (at + 1) (map grown xs)))) → AreForks b (forks_of (map grown (take (length zs - (at + 1)) (drop (at + 1) zs))))
-  after_forks zs same b h = subst (λ gs. AreForks b (forks_of gs)) (sym (ap (λ ls. map grown (take (length ls - (at + 1)) (drop (at + 1) ls))) same ∙ worked_after)) h
+  pub after_forks : (zs : List LiveFork) → zs ≡ ys → (b : ℕ) → AreForks b (forks_of (work (drop (at + 1) (map fork_with_map xs)))) → AreForks b (forks_of (map fork_with_map (take (length zs - (at + 1)) (drop (at + 1) zs))))
+  after_forks zs same b h = subst (λ gs. AreForks b (forks_of gs)) (sym (ap (λ ls. map fork_with_map (take (length ls - (at + 1)) (drop (at + 1) ls))) same ∙ worked_after)) h
 
   -- the test of a fork by the forks after it in the list
-  pub tested : (t : Bool) (p : Parent) (zs : List LiveFork) → zs ≡ ys → t ≡ (not (x.id == id) && is_parent p (forks_of (map grown (take (length zs - (at + 1)) (drop (at + 1) zs))))) → t ≡ (not (x.id == id) && is_parent p (forks_of (work (drop (at + 1) (map grown xs)))))
+  pub tested : (t : Bool) (p : Parent) (zs : List LiveFork) → zs ≡ ys → t ≡ (not (x.id == id) && is_parent p (forks_of (map fork_with_map (take (length zs - (at + 1)) (drop (at + 1) zs))))) → t ≡ (not (x.id == id) && is_parent p (forks_of (work (drop (at + 1) (map fork_with_map xs)))))
   tested t p zs same h =
-      h ∙ ap (λ ls. not (x.id == id) && is_parent p (forks_of (map grown (take (length ls - (at + 1)) (drop (at + 1) ls))))) same ∙ ap (λ gs. not (x.id == id) && is_parent p (forks_of gs)) worked_after
+      h ∙ ap (λ ls. not (x.id == id) && is_parent p (forks_of (map fork_with_map (take (length ls - (at + 1)) (drop (at + 1) ls))))) same ∙ ap (λ gs. not (x.id == id) && is_parent p (forks_of gs)) worked_after
 
-  pub looked_up : (t : Bool) (q : ℕ) (zs : List LiveFork) → zs ≡ ys → t ≡ is_among q (forks_of (map grown (take (length zs - (at + 1)) (drop (at + 1) zs)))) → t ≡ is_among q (forks_of (work (drop (at + 1) (map grown xs))))
+  pub looked_up : (t : Bool) (q : ℕ) (zs : List LiveFork) → zs ≡ ys → t ≡ is_among q (forks_of (map fork_with_map (take (length zs - (at + 1)) (drop (at + 1) zs)))) → t ≡ is_among q (forks_of (work (drop (at + 1) (map fork_with_map xs))))
   looked_up t q zs same h =
-      h ∙ ap (λ ls. is_among q (forks_of (map grown (take (length ls - (at + 1)) (drop (at + 1) ls))))) same ∙ ap (λ gs. is_among q (forks_of gs)) worked_after
+      h ∙ ap (λ ls. is_among q (forks_of (map fork_with_map (take (length ls - (at + 1)) (drop (at + 1) ls))))) same ∙ ap (λ gs. is_among q (forks_of gs)) worked_after
 
   -- the fork looked at is the one at the place
   pub same_item : (m : LiveFork) → m ≡ get_or ys at m → m ≡ x
-  same_item m h = h ∙ any_default ys at m x (let e = w.within in omega (arith, length_map grown ys)) ∙ sym is
+  same_item m h = h ∙ any_default ys at m x (let e = w.within in omega (arith, length_map fork_with_map ys)) ∙ sym is
 
-  pub stays_worked : work (grown x ∷ drop (at + 1) (map grown xs)) ≡ grown x ∷ work (drop (at + 1) (map grown xs)) → Worked at work (map grown xs) (map grown ys)
-  stays_worked h = worked_stays at work (map grown xs) (map grown ys) w (grown x) within (ap (λ g. work (g ∷ drop (at + 1) (map grown xs))) same_here ∙ h ∙ ap (λ g. g ∷ work (drop (at + 1) (map grown xs))) (sym same_here))
+  pub stays_worked : work (fork_with_map x ∷ drop (at + 1) (map fork_with_map xs)) ≡ fork_with_map x ∷ work (drop (at + 1) (map fork_with_map xs)) → Worked at work (map fork_with_map xs) (map fork_with_map ys)
+  stays_worked h = worked_stays at work (map fork_with_map xs) (map fork_with_map ys) w (fork_with_map x) within (ap (λ g. work (g ∷ drop (at + 1) (map fork_with_map xs))) same_here ∙ h ∙ ap (λ g. g ∷ work (drop (at + 1) (map fork_with_map xs))) (sym same_here))
 
-  pub goes_worked : work (grown x ∷ drop (at + 1) (map grown xs)) ≡ work (drop (at + 1) (map grown xs)) → Worked at work (map grown xs) (map grown (remove ys at))
-  goes_worked h = subst (Worked at work (map grown xs)) (sym (map_removed grown ys at)) (worked_goes at work (map grown xs) (map grown ys) w (grown x) within (ap (λ g. work (g ∷ drop (at + 1) (map grown xs))) same_here ∙ h))
+  pub goes_worked : work (fork_with_map x ∷ drop (at + 1) (map fork_with_map xs)) ≡ work (drop (at + 1) (map fork_with_map xs)) → Worked at work (map fork_with_map xs) (map fork_with_map (remove ys at))
+  goes_worked h = subst (Worked at work (map fork_with_map xs)) (sym (map_removed fork_with_map ys at)) (worked_goes at work (map fork_with_map xs) (map fork_with_map ys) w (fork_with_map x) within (ap (λ g. work (g ∷ drop (at + 1) (map fork_with_map xs))) same_here ∙ h))
 
-  pub set_worked : (y : LiveFork) → work (grown x ∷ drop (at + 1) (map grown xs)) ≡ grown y ∷ work (drop (at + 1) (map grown xs)) → Worked at work (map grown xs) (map grown (set ys at y))
-  set_worked y h = subst (Worked at work (map grown xs)) (sym (map-set grown ys at y)) (worked_set at work (map grown xs) (map grown ys) w (grown x) (grown y) within (ap (λ g. work (g ∷ drop (at + 1) (map grown xs))) same_here ∙ h))
+  pub set_worked : (y : LiveFork) → work (fork_with_map x ∷ drop (at + 1) (map fork_with_map xs)) ≡ fork_with_map y ∷ work (drop (at + 1) (map fork_with_map xs)) → Worked at work (map fork_with_map xs) (map fork_with_map (set ys at y))
+  set_worked y h = subst (Worked at work (map fork_with_map xs)) (sym (map-set fork_with_map ys at y)) (worked_set at work (map fork_with_map xs) (map fork_with_map ys) w (fork_with_map x) (fork_with_map y) within (ap (λ g. work (g ∷ drop (at + 1) (map fork_with_map xs))) same_here ∙ h))
 
 -- ---- one fork when id is dropped
 module _ (id : ℕ) (g : Grown) (gs : List Grown) (bound : ℕ) (sound : AreForks bound (g.fork ∷ forks_of gs)) (t : Bool) (test : t ≡ (not (g.fork.id == id) && is_parent g.fork.parent (forks_of (grown_without id gs)))) where

@@ -3,7 +3,7 @@ use Rattle.std.proofs.Common.{◌≡◌, ℕ, true, false, cond, ◌||◌, ◌==
 use Rattle.std.proofs.lemmas.Bool.{eqb-true, ne_eqb, or_right}
 use Rattle.jf_path.proofs.BoolLaws.{or_false_right}
 use Rattle.jf_hash.specs.Maps.{Map, apply}
-use Rattle.jf_model.specs.Forks.{descends, without, on_head, settled, Fork, of_parent, is_among, chain, batches, parent_map, AreForks, fork_map}
+use Rattle.jf_model.specs.Forks.{descends, without, on_head, forks_after_landing, Fork, of_parent, is_among, chain, batches, parent_map, AreForks, fork_map}
 use Rattle.jf_model.specs.Batches.{apply_all}
 use Rattle.jf_model.specs.declared.entries.Parent.{Parent}
 use Rattle.jf_model.specs.declared.entries.Parent.TheVariants as parent
@@ -20,10 +20,10 @@ forks_of-grown_without id (g ∷ gs) =
       | false ↦ ap (λ fs. g.fork ∷ fs) (forks_of-grown_without id gs)
     ]
 
-pub forks_of-grown_settled : (id : ℕ) (gs : List Grown) → forks_of (grown_settled id gs) ≡ settled id (forks_of gs)
+pub forks_of-grown_settled : (id : ℕ) (gs : List Grown) → forks_of (grown_settled id gs) ≡ forks_after_landing id (forks_of gs)
 forks_of-grown_settled id [] = refl
 forks_of-grown_settled id (g ∷ gs) =
-    elim (descends id (forks_of gs) g.fork) as (λ b. forks_of (cond b (record { fork = on_head id g.fork; map = g.map } ∷ grown_settled id gs) (grown_settled id gs)) ≡ cond b (on_head id g.fork ∷ settled id (forks_of gs)) (settled id (forks_of gs))) [
+    elim (descends id (forks_of gs) g.fork) as (λ b. forks_of (cond b (record { fork = on_head id g.fork; map = g.map } ∷ grown_settled id gs) (grown_settled id gs)) ≡ cond b (on_head id g.fork ∷ forks_after_landing id (forks_of gs)) (forks_after_landing id (forks_of gs))) [
       | true ↦ ap (λ fs. on_head id g.fork ∷ fs) (forks_of-grown_settled id gs)
       | false ↦ forks_of-grown_settled id gs
     ]
@@ -51,12 +51,12 @@ AreGrown-grown_without m id (g ∷ gs) h =
 -- ---- maps when one has landed
 -- the parent's map of a fork that stays is the same over the new head
 parent_map-landed : (m n : Map) (bound id : ℕ) (fs : List Fork) (p : Parent) → AreForks bound fs → is_among id (of_parent [] (chain fs) p) ≡ true → n ≡ fork_map m fs id
-    → parent_map n (settled id fs) (of_parent parent.Head (λ q. cond (q == id) parent.Head (parent.Fork q)) p) ≡ parent_map m fs p
+    → parent_map n (forks_after_landing id fs) (of_parent parent.Head (λ q. cond (q == id) parent.Head (parent.Fork q)) p) ≡ parent_map m fs p
 parent_map-landed m n bound id fs parent.Head sound h is = absurd (true≢false (sym h))
 parent_map-landed m n bound id fs (parent.Fork q) sound h is =
-    elim (q == id) as (λ b. (q == id) ≡ b → parent_map n (settled id fs) (cond b parent.Head (parent.Fork q)) ≡ fork_map m fs q) [
+    elim (q == id) as (λ b. (q == id) ≡ b → parent_map n (forks_after_landing id fs) (cond b parent.Head (parent.Fork q)) ≡ fork_map m fs q) [
       | true ↦ λ same. is ∙ ap (fork_map m fs) (sym (eqb-true q id same))
-      | false ↦ λ apart. ap (λ k. fork_map k (settled id fs) q) is ∙ fork_map-settled m bound id fs sound q h apart
+      | false ↦ λ apart. ap (λ k. fork_map k (forks_after_landing id fs) q) is ∙ fork_map-settled m bound id fs sound q h apart
     ] refl
 
 pub AreGrown-grown_settled : (m n : Map) (bound id : ℕ) (gs : List Grown) → AreForks bound (forks_of gs) → AreGrown m gs → (is_among id (forks_of gs) ≡ true → n ≡ fork_map m (forks_of gs) id) → AreGrown n (grown_settled id gs)

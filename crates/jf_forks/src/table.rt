@@ -40,15 +40,15 @@ pub struct ForkTable {
 impl Model for ForkTable {
     ghost use Rattle.std.specs.Prelude.{map};
     ghost use Rattle.jf_forks.specs.Tables.{Table, IsTable, table_code};
-    ghost use Rattle.jf_forks.specs.Lives.{grown};
+    ghost use Rattle.jf_forks.specs.Lives.{fork_with_map};
 
     ghost Value = { Table };
 
     ghost coded = { table_code };
 
-    ghost view = { λ t. record { made = t.made; live = map grown t.live.items } };
+    ghost view = { λ t. record { made = t.made; live = map fork_with_map t.live.items } };
 
-    ghost invariant = { λ t. IsTable (record { made = t.made; live = map grown t.live.items }) };
+    ghost invariant = { λ t. IsTable (record { made = t.made; live = map fork_with_map t.live.items }) };
 }
 
 impl ForkTable {

@@ -2,7 +2,7 @@
 use Rattle.std.proofs.Common.{ℕ, ◌<◌, ◌^◌, ◌≡◌, ◌==◌, Bool, true, false, List, [], ◌∷◌, ◌++◌, codes, decimal, cond, refl, sym, subst, ap, ◌∙◌}
 use Rattle.std.proofs.lemmas.List.{append_assoc}
 use Rattle.jf_path.proofs.BoolLaws.{not_and_passes, both_pass}
-use Rattle.jf_text.specs.Words.{words, is_word, spaced}
+use Rattle.jf_text.specs.Words.{words, is_word, spaced_words}
 use Rattle.jf_text.proofs.Plain.{is_without, is_plain-decimal}
 use Rattle.jf_script.proofs.Texts.{reply_text-pieces}
 use Rattle.jf_script.proofs.ReplyTexts.{reply_words-front}
@@ -27,13 +27,13 @@ has_two (w ∷ v ∷ ws) = true
 
 -- the second word of the text of two words or more after another one is the first of them
 second_word-text : (d : List ℕ) (ws : List (List ℕ)) → is_without 32 d ≡ true → has_two ws ≡ true → is_without 32 (first_word ws) ≡ true
-    → second_word (words ((d ++ spaced ws) ++ 10 ∷ [])) ≡ first_word ws
+    → second_word (words ((d ++ spaced_words ws) ++ 10 ∷ [])) ≡ first_word ws
 second_word-text d [] hd two hw = absurd (cc)
 second_word-text d (w ∷ []) hd two hw = absurd (cc)
 second_word-text d (w ∷ v ∷ ws) hd two hw =
-    let pieces : (d ++ spaced (w ∷ v ∷ ws)) ++ 10 ∷ [] ≡ d ++ 32 ∷ (w ++ 32 ∷ ((v ++ spaced ws) ++ 10 ∷ [])) =
-    append_assoc d (spaced (w ∷ v ∷ ws)) (10 ∷ []) ∙ ap (λ text. d ++ 32 ∷ text) (append_assoc w (spaced (v ∷ ws)) (10 ∷ [])) in
-    rw (pieces, words-first d (w ++ 32 ∷ ((v ++ spaced ws) ++ 10 ∷ [])) hd, words-first w ((v ++ spaced ws) ++ 10 ∷ []) hw) refl
+    let pieces : (d ++ spaced_words (w ∷ v ∷ ws)) ++ 10 ∷ [] ≡ d ++ 32 ∷ (w ++ 32 ∷ ((v ++ spaced_words ws) ++ 10 ∷ [])) =
+    append_assoc d (spaced_words (w ∷ v ∷ ws)) (10 ∷ []) ∙ ap (λ text. d ++ 32 ∷ text) (append_assoc w (spaced_words (v ∷ ws)) (10 ∷ [])) in
+    rw (pieces, words-first d (w ++ 32 ∷ ((v ++ spaced_words ws) ++ 10 ∷ [])) hd, words-first w ((v ++ spaced_words ws) ++ 10 ∷ []) hw) refl
 
 -- the words of a reply are two or more, and the first of them is `no` exactly if it is a refusal
 abbrev IsFront : Bool → List (List ℕ) → Type 0

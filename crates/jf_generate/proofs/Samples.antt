@@ -4,7 +4,7 @@ use Rattle.std.specs.Fmt.{digits}
 use Rattle.hex.specs.Hex.{encode_with}
 use Rattle.jf_path.specs.Numbers.{two_bytes, eight_bytes}
 use Rattle.jf_text.specs.Words.{words}
-use Rattle.jf_generate.specs.Scripts.{generated, generated_from, batch_end, drawn_lines, drawn_line, next_drawn}
+use Rattle.jf_generate.specs.Scripts.{lines_of_script, generated_from, batch_end, drawn_lines, drawn_line, next_drawn}
 use Rattle.jf_generate.specs.Reports.{generate_output}
 
 the_first_number : next_drawn 1 ≡ 7806831264735756412
@@ -16,12 +16,12 @@ unfolding drawn_line two_bytes eight_bytes encode_with
 the_first_line = refl
 
 -- a script of one batch of one
-the_shortest : generated 1 1 1 ≡ codes "put 6c57 =6c576fac43fd007c" ∷ codes "commit" ∷ codes "root head" ∷ codes "status" ∷ []
+the_shortest : lines_of_script 1 1 1 ≡ codes "put 6c57 =6c576fac43fd007c" ∷ codes "commit" ∷ codes "root head" ∷ codes "status" ∷ []
 unfolding generated_from drawn_lines drawn_line next_drawn two_bytes eight_bytes encode_with
 the_shortest = refl
 
 -- a script of no batch
-of_no_batch : generated 1 0 1 ≡ codes "root head" ∷ codes "status" ∷ []
+of_no_batch : lines_of_script 1 0 1 ≡ codes "root head" ∷ codes "status" ∷ []
 unfolding generated_from
 of_no_batch = refl
 

@@ -1,7 +1,7 @@
 -- Lines of generated scripts: how many there are, and which come first.
 use Rattle.std.proofs.Common.{ℕ, zero, suc, if◌then◌else◌, ◌+◌, ◌-◌, ◌*◌, ◌≤◌, ◌<◌, ◌≡◌, Bool, true, false, List, [], ◌∷◌, ◌++◌, length, arith, refl, ap, codes, decimal, ◌∙◌, ◌%◌, ◌==◌, length-append}
 use Rattle.std.proofs.lemmas.Nat.{mul-le}
-use Rattle.jf_generate.specs.Scripts.{max_batches, max_size, max_lines, generated, drawn_line, drawn_lines, drawn_after, prune_lines, compact_lines, batch_end, generated_from, next_drawn}
+use Rattle.jf_generate.specs.Scripts.{max_batches, max_size, max_lines, lines_of_script, drawn_line, drawn_lines, drawn_after, prune_lines, compact_lines, batch_end, generated_from, next_drawn}
 
 -- n numbers have n lines
 length-drawn_lines : (n x : ℕ) → length (drawn_lines n x) ≡ n
@@ -69,7 +69,7 @@ pub generated_from-more : (n b size x : ℕ) → 0 < n
 generated_from-more n b size x h = ap (λ m. generated_from m b size x) (omega (arith, h)) ∙ generated_from-suc (n - 1) b size x
 
 -- a script has at most 10,003,002 lines
-pub length-script_le : (seed batches size : ℕ) → batches ≤ max_batches → size ≤ max_size → length (generated seed batches size) ≤ max_lines
+pub length-script_le : (seed batches size : ℕ) → batches ≤ max_batches → size ≤ max_size → length (lines_of_script seed batches size) ≤ max_lines
 length-script_le seed batches size few small =
     let h = length-generated_from batches 1 size seed in
     let most : batches * (size + 3) ≤ 1000 * 10003 = mul-le batches (size + 3) 1000 10003 few (omega (arith, small)) in

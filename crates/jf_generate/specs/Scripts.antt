@@ -65,5 +65,5 @@ generated_from zero b size x = codes "root head" ∷ codes "status" ∷ []
 generated_from (suc batches) b size x = drawn_lines size x ++ batch_end b (generated_from batches (b + 1) size (drawn_after size x))
 
 -- the lines of a script, without their line feeds
-abbrev pub generated : ℕ → ℕ → ℕ → List (List ℕ)
-generated seed batches size = generated_from batches 1 size seed
+abbrev pub lines_of_script : ℕ → ℕ → ℕ → List (List ℕ)
+lines_of_script seed batches size = generated_from batches 1 size seed

@@ -1,6 +1,6 @@
 // The lines of a generated script come one by one, and none is kept.
 ghost use Rattle.std.specs.Prelude.{◌≡◌, ◌≤◌, length, IfOk, OnErr};
-ghost use Rattle.jf_generate.specs.Scripts.{generated, max_batches, max_size, max_lines};
+ghost use Rattle.jf_generate.specs.Scripts.{lines_of_script, max_batches, max_size, max_lines};
 ghost use Rattle.jf_generate.specs.Places.{GivesNext};
 
 use crate::line::write_line;
@@ -32,7 +32,7 @@ impl Generator {
     pub fn new(seed: u64, batches: u64, size: u64) -> Generator
         requires batches { batches ≤ max_batches }
         requires size { (1 ≤ size) × (size ≤ max_size) }
-        ensures lines { result ≡ generated seed batches size }
+        ensures lines { result ≡ lines_of_script seed batches size }
         ensures few { length result ≤ max_lines }
     {
         let before = ScriptPlace {

@@ -5,7 +5,7 @@ use Rattle.std.proofs.Common.{arith, refl, ap, ap₂, ◌∙◌, sym, inl, inr, 
 use Rattle.std.proofs.Math.Seq.{drop-nil, set-append_seam}
 use Rattle.std.proofs.lemmas.List.{append-nil, map-append}
 use Rattle.std.proofs.lemmas.Option.{slice_get-get_or}
-use Rattle.jf_path.specs.Bitmaps.{present, spread}
+use Rattle.jf_path.specs.Bitmaps.{present, spread_items}
 use Rattle.jf_path.proofs.BitmapLaws.{count_by-set, count_by-clear}
 use Rattle.jf_hash.specs.Slots.{occupants, first_child_hash, range_hash}
 use Rattle.jf_hash.specs.Ranges.{is_many, kept_hash, kept_hashes, kept_within}
@@ -27,16 +27,16 @@ present-replicate (suc n) = present-replicate n
 
 -- ---- of a part of a list that a bitmap spreads
 module _ {X : Type 0} where
-  drop-spread : (m : ℕ) (bits : List Bool) (xs : List X) → drop m (spread bits xs) ≡ spread (drop m bits) (drop (count_by (λ bit. bit) (take m bits)) xs)
-  unfolding spread
+  drop-spread : (m : ℕ) (bits : List Bool) (xs : List X) → drop m (spread_items bits xs) ≡ spread_items (drop m bits) (drop (count_by (λ bit. bit) (take m bits)) xs)
+  unfolding spread_items
   drop-spread zero bits xs = refl
   drop-spread (suc m) [] xs = refl
-  drop-spread (suc m) (false ∷ bits) xs = drop-spread m bits xs ∙ ap (λ n. spread (drop m bits) (drop n xs)) (sym (count_by-clear (take m bits)))
-  drop-spread (suc m) (true ∷ bits) [] = drop-spread m bits [] ∙ ap (spread (drop m bits)) (drop-nil (count_by (λ bit. bit) (take m bits)) ∙ sym (drop-nil (count_by (λ bit. bit) (take (suc m) (true ∷ bits)))))
-  drop-spread (suc m) (true ∷ bits) (x ∷ xs) = drop-spread m bits xs ∙ ap (λ n. spread (drop m bits) (drop n (x ∷ xs))) (sym (count_by-set (take m bits)))
+  drop-spread (suc m) (false ∷ bits) xs = drop-spread m bits xs ∙ ap (λ n. spread_items (drop m bits) (drop n xs)) (sym (count_by-clear (take m bits)))
+  drop-spread (suc m) (true ∷ bits) [] = drop-spread m bits [] ∙ ap (spread_items (drop m bits)) (drop-nil (count_by (λ bit. bit) (take m bits)) ∙ sym (drop-nil (count_by (λ bit. bit) (take (suc m) (true ∷ bits)))))
+  drop-spread (suc m) (true ∷ bits) (x ∷ xs) = drop-spread m bits xs ∙ ap (λ n. spread_items (drop m bits) (drop n (x ∷ xs))) (sym (count_by-set (take m bits)))
 
-  take-spread : (n : ℕ) (bits : List Bool) (xs : List X) → take n (spread bits xs) ≡ spread (take n bits) xs
-  unfolding spread
+  take-spread : (n : ℕ) (bits : List Bool) (xs : List X) → take n (spread_items bits xs) ≡ spread_items (take n bits) xs
+  unfolding spread_items
   take-spread zero bits xs = refl
   take-spread (suc n) [] xs = refl
   take-spread (suc n) (false ∷ bits) xs = ap (λ t. None ∷ t) (take-spread n bits xs)
@@ -47,15 +47,15 @@ module _ {X : Type 0} where
   none_taken zero = refl
   none_taken (suc n) = refl
 
-  present-front : (bits : List Bool) (xs : List X) → present (spread bits xs) ≡ take (count_by (λ bit. bit) bits) xs
-  unfolding spread present
+  present-front : (bits : List Bool) (xs : List X) → present (spread_items bits xs) ≡ take (count_by (λ bit. bit) bits) xs
+  unfolding spread_items present
   present-front [] xs = refl
   present-front (false ∷ bits) xs = present-front bits xs ∙ ap (λ n. take n xs) (sym (count_by-clear bits))
   present-front (true ∷ bits) [] = present-front bits [] ∙ none_taken (count_by (λ bit. bit) bits) ∙ sym (none_taken (count_by (λ bit. bit) (true ∷ bits)))
   present-front (true ∷ bits) (x ∷ xs) = ap (λ t. x ∷ t) (present-front bits xs) ∙ ap (λ n. take n (x ∷ xs)) (sym (count_by-set bits))
 
   -- those of n places from place m on are a run of the items
-  pub present-run : (m n : ℕ) (bits : List Bool) (xs : List X) → take (count_by (λ bit. bit) (take n (drop m bits))) (drop (count_by (λ bit. bit) (take m bits)) xs) ≡ present (take n (drop m (spread bits xs)))
+  pub present-run : (m n : ℕ) (bits : List Bool) (xs : List X) → take (count_by (λ bit. bit) (take n (drop m bits))) (drop (count_by (λ bit. bit) (take m bits)) xs) ≡ present (take n (drop m (spread_items bits xs)))
   present-run m n bits xs =
       sym (present-front (take n (drop m bits)) (drop (count_by (λ bit. bit) (take m bits)) xs))
       ∙ ap present (sym (take-spread n (drop m bits) (drop (count_by (λ bit. bit) (take m bits)) xs)) ∙ ap (take n) (sym (drop-spread m bits xs)))

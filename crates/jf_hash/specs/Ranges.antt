@@ -27,10 +27,10 @@ is_many (Lone hash) = false
 is_many Many = true
 
 -- what a range holds, from what the program found in it
-abbrev pub found : Occupancy → Occupants
-found occupancy.Empty = Empty
-found (occupancy.Lone hash) = Lone hash
-found occupancy.Many = Many
+abbrev pub occupants_found : Occupancy → Occupants
+occupants_found occupancy.Empty = Empty
+occupants_found (occupancy.Lone hash) = Lone hash
+occupants_found occupancy.Many = Many
 
 -- the hash that is kept of a range of 2 ^ level places: none if it holds one leaf alone or nothing
 abbrev pub kept_hash : ℕ → List Slot → Option (List ℕ)

@@ -1,7 +1,7 @@
 // A range of places holds no leaf, one, or more; an internal node counts as more.
 ghost use Rattle.std.specs.Prelude.{◌≡◌};
 ghost use Rattle.jf_hash.specs.Slots.{occupants, with_leaf};
-ghost use Rattle.jf_hash.specs.Ranges.{found};
+ghost use Rattle.jf_hash.specs.Ranges.{occupants_found};
 
 use crate::slot::Slot;
 use crate::tagged::Hash;
@@ -16,7 +16,7 @@ pub enum Occupancy {
 
 impl Occupancy {
     pub fn of(places: &[Slot]) -> Occupancy
-        ensures { found result ≡ occupants places.now }
+        ensures { occupants_found result ≡ occupants places.now }
     {
         match places.split_first() {
             None => Occupancy::Empty,
@@ -28,7 +28,7 @@ impl Occupancy {
 
     // What the range holds with one more leaf in front of it, of this hash.
     fn with_leaf(self, hash: &Hash) -> Occupancy
-        ensures { found result ≡ with_leaf hash.now (found self) }
+        ensures { occupants_found result ≡ with_leaf hash.now (occupants_found self) }
     {
         match self {
             Occupancy::Empty => Occupancy::Lone(*hash),

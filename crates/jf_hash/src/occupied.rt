@@ -46,7 +46,7 @@ impl Occupied {
     }
 
     /// Which of the fifteen ranges of two places or more hold more than one leaf, each after its halves.
-    pub fn kept(&self) -> Bitmap
+    pub fn kept_ranges(&self) -> Bitmap
         ensures { (slots : List Slot) → length slots ≡ 16 → self.now.children ≡ map is_occupied slots → self.now.leaves ≡ map holds_leaf slots → result ≡ map is_some (kept_hashes slots) }
     {
         let mut kept = Bitmap::none();

@@ -29,11 +29,11 @@ pub struct Ranges {
 impl Model for Ranges {
     ghost use Rattle.std.specs.Prelude.{List, Option, ℕ, ◌≡◌, length};
     ghost use Rattle.std.specs.List.{count_by};
-    ghost use Rattle.jf_path.specs.Bitmaps.{spread};
+    ghost use Rattle.jf_path.specs.Bitmaps.{spread_items};
 
     ghost Value = { List (Option (List ℕ)) };
 
-    ghost view = { λ r. spread r.kept r.hashes.items };
+    ghost view = { λ r. spread_items r.kept r.hashes.items };
 
     ghost invariant = { λ r. count_by (λ bit. bit) r.kept ≡ length r.hashes.items };
 }
@@ -79,7 +79,7 @@ impl Ranges {
 
     /// The hashes of the ranges of these places, of which only those in `changed` may differ from before. Only ranges
     /// with a changed place are hashed again, and of these only those that hold more than one leaf.
-    pub fn updated<P: Places>(
+    pub fn updated_ranges<P: Places>(
         &self,
         alloc: Global,
         places: &P,
@@ -90,7 +90,7 @@ impl Ranges {
         self.updated_uncounted::<P, Brand>(alloc, places, changed, Blank::new(1))
     }
 
-    /// The hashes that `updated` returns, with the pairs counted that are hashed. If memory runs out, none is hashed.
+    /// The hashes that `updated_ranges` returns, with the pairs counted that are hashed. If memory runs out, none is hashed.
     pub fn updated_counted<P: Places, L: Ledger>(
         &self,
         alloc: Global,
@@ -104,7 +104,7 @@ impl Ranges {
     {
         changed.know();
         let occupied = Occupied::of(places);
-        let kept = occupied.kept();
+        let kept = occupied.kept_ranges();
         let count = kept.count(0, 16);
         let mut hashes = Vec::with_capacity(alloc, count)?;
         refresh(

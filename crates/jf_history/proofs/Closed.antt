@@ -14,7 +14,7 @@ use Rattle.jf_engine.specs.Engines.{Engine}
 use Rattle.jf_turn.proofs.Lists.{has_append, has_cons, starts_self}
 use Rattle.jf_store.specs.declared.event.Event.{Event}
 use Rattle.jf_store.specs.declared.event.Event.TheVariants.{Done, Mark}
-use Rattle.jf_store.specs.Events.{pass_named_by, entries_of, attempt_of, is_marked}
+use Rattle.jf_store.specs.Events.{pass_named_by, entries_among, attempt_of, is_marked}
 use Rattle.jf_store.specs.Starts.{Start}
 use Rattle.jf_store.specs.Ledgers.{MarkIsLast, state_after_events}
 use Rattle.jf_store.specs.Floors.{IsMet, AreMet}
@@ -100,7 +100,7 @@ try_rests start mid last line next t =
       begins = starts_further last.pass.seen t.before mid.pass.seen (Mark mid.pass.number t.attempt ∷ [], seen) t.sees.begins;
       number = ap (λ (p : Pass). p.number) t.sees.last;
       announced = λ version h. inl (subst (λ (v : _). HasElement v.announced version) place h);
-      places = ap (λ (xs : List Event). places_owned mid.pass.number 0 (entries_of xs)) seen ∙ ap (places_owned mid.pass.number 0) (entries_of-mark t.before mid.pass.number t.attempt) ∙ places_on mid.pass t.before t.sees.begins t.sees.others;
+      places = ap (λ (xs : List Event). places_owned mid.pass.number 0 (entries_among xs)) seen ∙ ap (places_owned mid.pass.number 0) (entries_of-mark t.before mid.pass.number t.attempt) ∙ places_on mid.pass t.before t.sees.begins t.sees.others;
     }
 
 ends_rest : (e : End) (start : Start) (mid last : Session) (next : Option (List ℕ)) → EndsBy e start mid last next → Rests mid.pass last.pass next
@@ -152,8 +152,8 @@ module _ (store : Store) (events : List Event) (out_of_memory pins : List ℕ) (
   abbrev h : Timeline
   h = timeline store.start pins events
 
-  longer : (seen : List Event) (begins : StartsWith events seen) → record { start = store.start.state; entries = entries_of seen ++ entries_of begins.0; pins = pins } ≡ h
-  longer seen begins = ap (λ (es : List Entry). record { start = store.start.state; entries = es; pins = pins }) (sym (ap entries_of begins.1 ∙ entries_of-append seen begins.0))
+  longer : (seen : List Event) (begins : StartsWith events seen) → record { start = store.start.state; entries = entries_among seen ++ entries_among begins.0; pins = pins } ≡ h
+  longer seen begins = ap (λ (es : List Entry). record { start = store.start.state; entries = es; pins = pins }) (sym (ap entries_among begins.1 ∙ entries_of-append seen begins.0))
 
   module _ (n : ℕ) (s : Served) (served : IsServed store out_of_memory n s) (begins : StartsWith events s.pass.seen) (others : OthersAlone s.pass events) where
     last_begins : StartsWith events served.last.pass.seen
@@ -177,17 +177,17 @@ module _ (store : Store) (events : List Event) (out_of_memory pins : List ℕ) (
         subst (λ (ls : List (List ℕ)). AreAnswered h (begun_session n) 0 ls served.had) (sym served.first)
         (lines_longer h (begun_session n) 0 served.done served.rest served.had
         (subst (λ (t : Timeline). AreAnswered t (begun_session n) 0 served.done served.had) (longer served.mid.pass.seen mid_begins)
-        (stay store.start.state pins (seen_by served.mid.pass) (entries_of mid_begins.0) (begun_session n) 0 served.done served.had
+        (stay store.start.state pins (seen_by served.mid.pass) (entries_among mid_begins.0) (begun_session n) 0 served.done served.had
         (served.answered.answered pins (have_seen pins store.start events served.mid.pass.seen mid_begins met)))))
 
-    all_places : places_owned n 0 (entries_of events) ≡ places_told served.had
+    all_places : places_owned n 0 (entries_among events) ≡ places_told served.had
     all_places =
-        subst (λ (k : ℕ). places_owned k 0 (entries_of events) ≡ places_owned k 0 (seen_by served.last.pass)) number_last
+        subst (λ (k : ℕ). places_owned k 0 (entries_among events) ≡ places_owned k 0 (seen_by served.last.pass)) number_last
         (places_on served.last.pass events last_begins (subst (λ (p : Pass). OthersAlone p events) served.pass_is others))
         ∙ subst (λ (k : ℕ). places_owned k 0 (seen_by served.last.pass) ≡ places_owned k 0 (seen_by served.mid.pass)) numbered rests.places ∙ served.answered.places
 
     abbrev Result : List Answered → Type 0
-    Result rs = (places_owned n 0 (entries_of events) ≡ places_told rs) ⊎ (IsAmong out_of_memory n × GaveOneMore h n s.script rs)
+    Result rs = (places_owned n 0 (entries_among events) ≡ places_told rs) ⊎ (IsAmong out_of_memory n × GaveOneMore h n s.script rs)
 
     changes_only : (own : Own) (seen : ℕ) (line : List ℕ) (r : Answered) (e : Entry) → Looks h own seen line r ⊎ Changes h own seen line r → r.entry ≡ Some e → Changes h own seen line r
     changes_only own seen line r e (inl l) given = absurd (let x : None ≡ Some e = sym l.none ∙ given in cc)
@@ -235,7 +235,7 @@ sessions_of store events out_of_memory pins met n (s ∷ ss) h seen others = (
   sessions_of store events out_of_memory pins met (n + 1) ss h.1 (λ p has. seen p (suc has.0, has.1)) (λ p has. others p (suc has.0, has.1)),
 )
 
-owners_of : (bound : ℕ) (events : List Event) → AllByRecursion (λ x. pass_named_by x < bound) events → AllByRecursion (λ e. owner_of e < bound) (entries_of events)
+owners_of : (bound : ℕ) (events : List Event) → AllByRecursion (λ x. pass_named_by x < bound) events → AllByRecursion (λ e. owner_of e < bound) (entries_among events)
 owners_of bound [] h = tt
 owners_of bound (Done e ∷ xs) h = (h.0, owners_of bound xs h.1)
 owners_of bound (Mark pass e ∷ xs) h = owners_of bound xs h.1
@@ -248,7 +248,7 @@ closed_explains store ss out_of_memory entries engine passes closed served =
     record {
       history = subst (IsHistory store.start.state) same closed.history.history;
       owners = subst (λ (es : List Entry). AllByRecursion (λ e. owner_of e < length (scripts_of ss)) es) same
-          (subst (λ (bound : ℕ). AllByRecursion (λ e. owner_of e < bound) (entries_of closed.events)) many (owners_of store.start.passes closed.events closed.history.named));
+          (subst (λ (bound : ℕ). AllByRecursion (λ e. owner_of e < bound) (entries_among closed.events)) many (owners_of store.start.passes closed.events closed.history.named));
       sessions = subst (λ (es : List Entry). AreSessions (timeline_of store.start.state es (scripts_of ss)) out_of_memory 0 (scripts_of ss) (replies_of ss)) same
           (sessions_of store closed.events out_of_memory (pins_of (scripts_of ss)) met 0 ss served closed.seen closed.others);
     }
@@ -270,7 +270,7 @@ none_later s [] pass e rest m none = m.0
 none_later s (Done x ∷ xs) pass e rest m none = none_later s xs pass e rest m none
 none_later s (Mark p x ∷ xs) pass e rest m none = absurd (cc)
 
-module _ (store : Store) (events : List Event) (out_of_memory pins : List ℕ) (entries : List Entry) (entries_are : entries ≡ entries_of events) (met : HaveMet pins store.start events) (marked : MarkIsLast (state_after_events store.start events) events)
+module _ (store : Store) (events : List Event) (out_of_memory pins : List ℕ) (entries : List Entry) (entries_are : entries ≡ entries_among events) (met : HaveMet pins store.start events) (marked : MarkIsLast (state_after_events store.start events) events)
     (n : ℕ) (s : Served) (served : IsServed store out_of_memory n s) (begins : StartsWith events s.pass.seen) (fault : s.how ≡ end.DiskFault) where
   abbrev Tried : Type 0
   Tried = (e : Entry) × (attempt_of events ≡ Some e) × IsAttempt (record { start = store.start.state; entries = entries; pins = pins }) n s.script s.replies e
@@ -289,7 +289,7 @@ module _ (store : Store) (events : List Event) (out_of_memory pins : List ℕ) (
       let rest = none_later (state_after_events store.start events) t.before served.mid.pass.number t.attempt front.0 (subst (MarkIsLast (state_after_events store.start events)) split marked) t.sees.unmarked in
       let whole : events ≡ t.before ++ Mark served.mid.pass.number t.attempt ∷ [] =
       split ∙ ap (λ xs. (t.before ++ Mark served.mid.pass.number t.attempt ∷ []) ++ xs) rest ∙ append-nil (t.before ++ Mark served.mid.pass.number t.attempt ∷ []) in
-      let same : entries_of t.before ≡ entries = sym (entries_are ∙ ap entries_of whole ∙ entries_of-mark t.before served.mid.pass.number t.attempt) in
+      let same : entries_among t.before ≡ entries = sym (entries_are ∙ ap entries_among whole ∙ entries_of-mark t.before served.mid.pass.number t.attempt) in
       let gives = t.gives pins (have_seen pins store.start events served.last.pass.seen front met) in (
         t.attempt,
         ap attempt_of whole ∙ attempt_of-append t.before (Mark served.mid.pass.number t.attempt ∷ []) t.sees.unmarked,

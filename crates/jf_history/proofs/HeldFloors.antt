@@ -11,7 +11,7 @@ use Rattle.jf_model.specs.declared.entries.Entry.{Entry}
 use Rattle.jf_model.specs.declared.entries.Entry.TheVariants as entry
 use Rattle.jf_store.specs.declared.event.Event.{Event}
 use Rattle.jf_store.specs.declared.event.Event.TheVariants.{Done, Mark}
-use Rattle.jf_store.specs.Events.{entries_of}
+use Rattle.jf_store.specs.Events.{entries_among}
 use Rattle.jf_store.specs.Starts.{Start}
 use Rattle.jf_store.specs.Ledgers.{AreEvents, MarkIsLast, state_after_events}
 use Rattle.jf_store.specs.Floors.{IsMet, AreMet}
@@ -50,12 +50,12 @@ one_met pins s (entry.Retired owner bound floor) among legal =
     ]
 one_met pins s (entry.Compacted owner generation) among legal = tt
 
-all_met : (pins : List ℕ) (s last : State) (events : List Event) → AllByRecursion (IsAmong pins) (floors_of events) → AreLegal s (entries_of events) → last ≡ replay s (entries_of events) → MarkIsLast last events → AreMet (λ pin. IsAmong pins pin.1) s events
+all_met : (pins : List ℕ) (s last : State) (events : List Event) → AllByRecursion (IsAmong pins) (floors_of events) → AreLegal s (entries_among events) → last ≡ replay s (entries_among events) → MarkIsLast last events → AreMet (λ pin. IsAmong pins pin.1) s events
 unfolding replay
 all_met pins s last [] among legal is marked = tt
 all_met pins s last (Done e ∷ es) among legal is marked = (one_met pins s e among.0 legal.0, all_met pins (after e s) last es among.1 legal.1 is marked)
 all_met pins s last (Mark pass e ∷ es) among legal is marked =
-    let at : last ≡ s = is ∙ ap (λ (xs : List Event). replay s (entries_of xs)) marked.0 in (
+    let at : last ≡ s = is ∙ ap (λ (xs : List Event). replay s (entries_among xs)) marked.0 in (
       one_met pins s e among.0 (subst (λ (t : State). IsLegal t e) at marked.1.legal),
       subst (AreMet (λ pin. IsAmong pins pin.1) s) (sym marked.0) tt,
     )

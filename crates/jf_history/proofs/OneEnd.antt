@@ -3,7 +3,7 @@ use Rattle.std.proofs.Common.{◌≡◌, ℕ, ◌<◌, Option, Some, None, List,
 use Rattle.jf_model.specs.Entries.{replay, timeless}
 use Rattle.jf_store.specs.declared.event.Event.{Event}
 use Rattle.jf_store.specs.declared.event.Event.TheVariants.{Mark}
-use Rattle.jf_store.specs.Events.{entries_of, attempt_of}
+use Rattle.jf_store.specs.Events.{entries_among, attempt_of}
 use Rattle.jf_store.specs.Ledgers.{AreEvents}
 use Rattle.jf_store.specs.Passes.{Store, Pass, new_pass}
 use Rattle.jf_store.proofs.EventLaws.{entries_of-mark, attempt_of-none}
@@ -39,7 +39,7 @@ module _ (store : Store) (mid last : Session) (ls : List (List ℕ)) (rs : List 
     try_same = one_pass_adds store.start mid.pass last.pass t.before (Mark mid.pass.number t.attempt) one below are t.sees
 
     try_entries : seen_by last.pass ≡ seen_by mid.pass
-    try_entries = ap entries_of try_seen ∙ entries_of-mark t.before mid.pass.number t.attempt ∙ ap entries_of try_same
+    try_entries = ap entries_among try_seen ∙ entries_of-mark t.before mid.pass.number t.attempt ∙ ap entries_among try_same
 
     try_before : AreEvents store.start mid.pass.seen
     try_before = subst (AreEvents store.start) try_same (AreEvents-before store.start t.before mid.pass.number t.attempt (subst (AreEvents store.start) try_seen are) t.sees.unmarked)
@@ -54,7 +54,7 @@ module _ (store : Store) (mid last : Session) (ls : List (List ℕ)) (rs : List 
     rest_alone : (next : Option (List ℕ)) → IsAtRest mid last next → AnswersAlone store.start.state last ls rs × (attempt_of last.pass.seen ≡ None)
     rest_alone next h =
         let same = rest_seen next h in (
-          still_alone (subst (AreEvents store.start) same are) (ap entries_of same) (rest_own next h),
+          still_alone (subst (AreEvents store.start) same are) (ap entries_among same) (rest_own next h),
           ap attempt_of same ∙ attempt_of-none mid.pass.seen a.unmarked,
         )
 

@@ -6,7 +6,7 @@ use Rattle.jf_io.specs.LinesRead.{lines_read, AreFirst}
 use Rattle.jf_model.specs.States.{State}
 use Rattle.jf_model.specs.Entries.{replay, timeless}
 use Rattle.jf_store.specs.declared.event.Event.{Event}
-use Rattle.jf_store.specs.Events.{entries_of, attempt_of}
+use Rattle.jf_store.specs.Events.{entries_among, attempt_of}
 use Rattle.jf_store.specs.Ledgers.{AreEvents}
 use Rattle.jf_store.specs.Passes.{Store, Pass, new_pass}
 use Rattle.jf_store.proofs.EventLaws.{attempt_of-none}
@@ -145,7 +145,7 @@ module _ (store : Store) (new : Pass) (rest rest' text text' : Option (List ℕ)
   ran_cut e far r at_rest c writes tries =
       let same : new.seen ≡ r.mid.pass.seen = ap (λ (p : Pass). p.seen) r.pass_is ∙ rest_seen store r.mid r.last r.done r.replies one (seen_last e r) r.answered r.next at_rest in
       let are' = subst (AreEvents store.start) same are in
-      let g = subst (λ (xs : List Event). Agrees store.start.state (begun_session 0) (take c.count r.done) (take c.count r.replies) (entries_of xs)) (sym same)
+      let g = subst (λ (xs : List Event). Agrees store.start.state (begun_session 0) (take c.count r.done) (take c.count r.replies) (entries_among xs)) (sym same)
       (agrees_cut store r.mid r.done r.replies one none are' r.answered r.writes.text c) in
       record {
         done = take c.count r.done;

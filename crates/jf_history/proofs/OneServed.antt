@@ -7,7 +7,7 @@ use Rattle.jf_model.specs.Entries.{replay, timeless}
 use Rattle.jf_model.specs.declared.entries.Entry.{Entry}
 use Rattle.jf_engine.specs.Engines.{Engine}
 use Rattle.jf_store.specs.declared.event.Event.{Event}
-use Rattle.jf_store.specs.Events.{entries_of, attempt_of}
+use Rattle.jf_store.specs.Events.{entries_among, attempt_of}
 use Rattle.jf_store.specs.Ledgers.{AreEvents}
 use Rattle.jf_store.specs.Passes.{Store, Pass, new_pass}
 use Rattle.jf_store.specs.Closing.{IsClosed}
@@ -36,7 +36,7 @@ module _ (store : Store) (s : Served) (out_of_memory : List ℕ) (entries : List
   are = subst (λ (xs : List Event). AreEvents store.start xs) last_is closed.history
 
   entries_same : entries ≡ seen_by r.last.pass
-  entries_same = closed.entries_are ∙ ap entries_of last_is
+  entries_same = closed.entries_are ∙ ap entries_among last_is
 
   module _ (how : End) (is : s.how ≡ how) where
     ends : EndsBy how store.start r.mid r.last r.next
@@ -67,7 +67,7 @@ module _ (store : Store) (s : Served) (out_of_memory : List ℕ) (entries : List
       let start = store.start.state in
       let same : r.last.pass.seen ≡ r.mid.pass.seen = rest_seen store r.mid r.last r.done r.had one are r.answered r.next at_rest in
       let g = agrees_first store r.mid r.done r.had one none (subst (λ (xs : List Event). AreEvents store.start xs) same are) r.answered n lost.quiet in
-      let here : entries ≡ seen_by r.mid.pass = entries_same ∙ ap entries_of same in
+      let here : entries ≡ seen_by r.mid.pass = entries_same ∙ ap entries_among same in
       let many : length (take n r.done) - 1 ≡ lost.count = (let within = lost.within in let all = r.answered.all in omega (arith, length-take n r.done)) in
       let fewer : texts_of (answers start (take (length (take n r.done) - 1) (take n r.done))) ≡ map (λ (a : Answered). a.text) (take lost.count r.had) =
       texts_of-take start (begun_session 0) (length (take n r.done) - 1) (take n r.done) ∙ ap (λ k. take k (texts_of (answers start (take n r.done)))) many

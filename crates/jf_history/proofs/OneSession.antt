@@ -10,7 +10,7 @@ use Rattle.jf_model.proofs.EntryLaws.{after-count, after-at_moment, replay-push}
 use Rattle.jf_model.specs.declared.entries.Entry.{Entry}
 use Rattle.jf_store.specs.declared.event.Event.{Event}
 use Rattle.jf_store.specs.declared.event.Event.TheVariants.{Done, Mark}
-use Rattle.jf_store.specs.Events.{pass_named_by, entries_of, attempt_of, is_marked}
+use Rattle.jf_store.specs.Events.{pass_named_by, entries_among, attempt_of, is_marked}
 use Rattle.jf_store.specs.Starts.{Start}
 use Rattle.jf_store.specs.Ledgers.{AreEvents, MarkIsLast, IsUndone, state_after_events}
 use Rattle.jf_store.specs.Passes.{Store, Pass, new_pass}
@@ -249,18 +249,18 @@ module _ (start : Start) (pins : List ℕ) (events : List Event) (one : start.pa
 
 -- ---- the laws
 
-owners_none : (events : List Event) → AllByRecursion (λ x. pass_named_by x < 1) events → AllByRecursion (λ e. owner_of e ≡ 0) (entries_of events)
+owners_none : (events : List Event) → AllByRecursion (λ x. pass_named_by x < 1) events → AllByRecursion (λ e. owner_of e ≡ 0) (entries_among events)
 owners_none [] h = tt
 owners_none (Done e ∷ xs) h = let low = h.0 in (omega arith, owners_none xs h.1)
 owners_none (Mark pass e ∷ xs) h = owners_none xs h.1
 
 -- the first replies, as long as all entries are theirs
 pub agrees-from : (start : Start) (events : List Event) (ls : List (List ℕ)) (rs : List Answered) → start.passes ≡ 1 → start.state.count ≡ 0 → AreEvents start events
-    → AreAnswered (timeline start (floors_of events) events) (begun_session 0) 0 ls rs → AreHeld start (entries_of events) (begun_session 0) rs → places_owned 0 0 (entries_of events) ≡ places_told rs → length rs ≡ length ls
-    → Agrees start.state (begun_session 0) ls rs (entries_of events)
+    → AreAnswered (timeline start (floors_of events) events) (begun_session 0) 0 ls rs → AreHeld start (entries_among events) (begun_session 0) rs → places_owned 0 0 (entries_among events) ≡ places_told rs → length rs ≡ length ls
+    → Agrees start.state (begun_session 0) ls rs (entries_among events)
 unfolding replay
 agrees-from start events ls rs one none are answered held places same =
-    agree start (floors_of events) events one rs start.state (begun_session 0) 0 ls [] (entries_of events)
+    agree start (floors_of events) events one rs start.state (begun_session 0) 0 ls [] (entries_among events)
     (record {
       split = refl;
       at = refl;

@@ -9,7 +9,7 @@ use Rattle.jf_model.specs.declared.entries.Entry.{Entry}
 use Rattle.jf_turn.specs.Lists.{HasElement, StartsWith}
 use Rattle.jf_store.specs.declared.event.Event.{Event}
 use Rattle.jf_store.specs.declared.event.Event.TheVariants.{Done, Mark}
-use Rattle.jf_store.specs.Events.{pass_named_by, entries_of}
+use Rattle.jf_store.specs.Events.{pass_named_by, entries_among}
 use Rattle.jf_store.specs.Passes.{Pass, OthersAlone}
 use Rattle.jf_store.proofs.EventLaws.{entries_of-append}
 use Rattle.jf_answers.specs.Explains.{places_owned}
@@ -31,15 +31,15 @@ none_owned n k (e ∷ es) h = elim (owner_of e == n) as (λ b. (owner_of e == n)
   | false ↦ λ not. none_owned n (k + 1) es h.1
 ] refl
 
-others_none : (n : ℕ) (ys : List Event) → ((x : Event) → HasElement ys x → pass_named_by x ≡ n → ⊥) → AllByRecursion (λ e. owner_of e ≡ n → ⊥) (entries_of ys)
+others_none : (n : ℕ) (ys : List Event) → ((x : Event) → HasElement ys x → pass_named_by x ≡ n → ⊥) → AllByRecursion (λ e. owner_of e ≡ n → ⊥) (entries_among ys)
 others_none n [] h = tt
 others_none n (Done e ∷ ys) h = (h (Done e) (0, refl), others_none n ys (λ x has. h x (suc has.0, has.1)))
 others_none n (Mark pass e ∷ ys) h = others_none n ys (λ x has. h x (suc has.0, has.1))
 
 -- events of others change nothing
-pub places_on : (p : Pass) (events : List Event) → StartsWith events p.seen → OthersAlone p events → places_owned p.number 0 (entries_of events) ≡ places_owned p.number 0 (entries_of p.seen)
+pub places_on : (p : Pass) (events : List Event) → StartsWith events p.seen → OthersAlone p events → places_owned p.number 0 (entries_among events) ≡ places_owned p.number 0 (entries_among p.seen)
 places_on p events begins others =
     let after : drop (length p.seen) events ≡ begins.0 = ap (drop (length p.seen)) begins.1 ∙ drop-append_seam p.seen begins.0 in
-    let none = none_owned p.number (0 + length (entries_of p.seen)) (entries_of begins.0) (others_none p.number begins.0 (λ x has. others x (subst (λ (xs : List Event). HasElement xs x) (sym after) has))) in
-    ap (λ (xs : List Event). places_owned p.number 0 (entries_of xs)) begins.1 ∙ ap (places_owned p.number 0) (entries_of-append p.seen begins.0)
-    ∙ places_append p.number 0 (entries_of p.seen) (entries_of begins.0) ∙ ap (λ t. places_owned p.number 0 (entries_of p.seen) ++ t) none ∙ append-nil (places_owned p.number 0 (entries_of p.seen))
+    let none = none_owned p.number (0 + length (entries_among p.seen)) (entries_among begins.0) (others_none p.number begins.0 (λ x has. others x (subst (λ (xs : List Event). HasElement xs x) (sym after) has))) in
+    ap (λ (xs : List Event). places_owned p.number 0 (entries_among xs)) begins.1 ∙ ap (places_owned p.number 0) (entries_of-append p.seen begins.0)
+    ∙ places_append p.number 0 (entries_among p.seen) (entries_among begins.0) ∙ ap (λ t. places_owned p.number 0 (entries_among p.seen) ++ t) none ∙ append-nil (places_owned p.number 0 (entries_among p.seen))

@@ -9,7 +9,7 @@ use Rattle.jf_model.specs.declared.entries.Entry.{Entry}
 use Rattle.jf_turn.specs.Lists.{HasElement, StartsWith}
 use Rattle.jf_store.specs.declared.event.Event.{Event}
 use Rattle.jf_store.specs.declared.event.Event.TheVariants.{Done}
-use Rattle.jf_store.specs.Events.{entries_of, is_marked}
+use Rattle.jf_store.specs.Events.{entries_among, is_marked}
 use Rattle.jf_store.specs.Starts.{Start}
 use Rattle.jf_store.specs.Ledgers.{state_after_events}
 use Rattle.jf_store.specs.Passes.{Pass}
@@ -24,10 +24,10 @@ use Rattle.jf_history.specs.Laws.{LooksReply, ChangesReply}
 use Rattle.jf_history.proofs.Places.{places_append, places_on}
 
 -- as many entries as a front has, or more
-more_entries : (events seen : List Event) → StartsWith events seen → length (entries_of seen) ≤ length (entries_of events)
+more_entries : (events seen : List Event) → StartsWith events seen → length (entries_among seen) ≤ length (entries_among events)
 more_entries events seen s =
-    let same : length (entries_of events) ≡ length (entries_of seen ++ entries_of s.0) = ap (λ (es : List Entry). length es) (ap entries_of s.1 ∙ entries_of-append seen s.0) in
-    omega (arith, length-append (entries_of seen) (entries_of s.0))
+    let same : length (entries_among events) ≡ length (entries_among seen ++ entries_among s.0) = ap (λ (es : List Entry). length es) (ap entries_among s.1 ∙ entries_of-append seen s.0) in
+    omega (arith, length-append (entries_among seen) (entries_among s.0))
 
 -- ---- a line that gives no entry
 module _ (start : Start) (old new : Session) (line : List ℕ) (q : HasLooked start old new line) where
@@ -42,7 +42,7 @@ module _ (start : Start) (old new : Session) (line : List ℕ) (q : HasLooked st
         text = ap (λ (t : State). answer_text (length (seen_by new.pass)) (answer t old.own line)) back;
         none = refl;
         own_after = ap (λ (t : State). (answer t old.own line).own) back;
-        by_itself = λ own. ap (λ (xs : List Event). length (entries_of xs)) (q.by_itself own);
+        by_itself = λ own. ap (λ (xs : List Event). length (entries_among xs)) (q.by_itself own);
       }
 
 pub looks_reply : LooksReply
@@ -62,19 +62,19 @@ module _ (start : Start) (old new : Session) (before : List Event) (e : Entry) (
   seen_is : new.pass.seen ≡ before ++ Done e ∷ []
   seen_is = ap (λ (p : Pass). p.seen) q.sees.last
 
-  entries_are : seen_by new.pass ≡ entries_of before ++ e ∷ []
-  entries_are = ap entries_of seen_is ∙ entries_of-done before e
+  entries_are : seen_by new.pass ≡ entries_among before ++ e ∷ []
+  entries_are = ap entries_among seen_is ∙ entries_of-done before e
 
-  many : length (seen_by new.pass) ≡ length (entries_of before) + 1
-  many = ap (λ (es : List Entry). length es) entries_are ∙ length-push (entries_of before) e
+  many : length (seen_by new.pass) ≡ length (entries_among before) + 1
+  many = ap (λ (es : List Entry). length es) entries_are ∙ length-push (entries_among before) e
 
-  one_back : length (entries_of before) + 1 - 1 ≡ length (entries_of before)
+  one_back : length (entries_among before) + 1 - 1 ≡ length (entries_among before)
   one_back = omega arith
 
-  at_entry : (pins : List ℕ) → state_after (timeline start pins new.pass.seen) (length (entries_of before) + 1 - 1) ≡ state_after_events start before
+  at_entry : (pins : List ℕ) → state_after (timeline start pins new.pass.seen) (length (entries_among before) + 1 - 1) ≡ state_after_events start before
   at_entry pins =
-      ap (state_after (timeline start pins new.pass.seen)) one_back ∙ ap (λ (es : List Entry). replay start.state (take (length (entries_of before)) es)) entries_are
-      ∙ ap (replay start.state) (take-append_seam (entries_of before) (e ∷ []))
+      ap (state_after (timeline start pins new.pass.seen)) one_back ∙ ap (λ (es : List Entry). replay start.state (take (length (entries_among before)) es)) entries_are
+      ∙ ap (replay start.state) (take-append_seam (entries_among before) (e ∷ []))
 
   changes : (pins : List ℕ) → HaveMet pins start new.pass.seen → Changes (timeline start pins new.pass.seen) old.own (length (seen_by old.pass)) line (change_reply start old before e line)
   changes pins met =
@@ -82,10 +82,10 @@ module _ (start : Start) (old new : Session) (before : List Event) (e : Entry) (
       record {
         event = e;
         later = (let fewer = more_entries before old.pass.seen q.sees.begins in omega arith);
-        stands = ap (slice_get (seen_by new.pass)) one_back ∙ ap (λ (es : List Entry). slice_get es (length (entries_of before))) entries_are ∙ element-seam (entries_of before) e [];
+        stands = ap (slice_get (seen_by new.pass)) one_back ∙ ap (λ (es : List Entry). slice_get es (length (entries_among before))) entries_are ∙ element-seam (entries_among before) e [];
         owned = q.owned;
         gives = subst (λ (t : State). GivesEntry (timeline start pins new.pass.seen) t old.own line e) back (q.gives pins met);
-        text = ap (λ (t : State). answer_text (length (entries_of before) + 1) (answer_with (floor_in e) t old.own line)) back;
+        text = ap (λ (t : State). answer_text (length (entries_among before) + 1) (answer_with (floor_in e) t old.own line)) back;
         kept = refl;
         own_after = ap (λ (t : State). (answer_with (floor_in e) t old.own line).own) back;
       }
@@ -100,15 +100,15 @@ module _ (start : Start) (old new : Session) (before : List Event) (e : Entry) (
     announced = λ version h. inl (subst (λ (v : _). HasElement v.announced version) same_place h);
   }
 
-  last_place : places_owned old.pass.number (length (entries_of before)) (e ∷ []) ≡ (length (entries_of before) + 1) ∷ []
-  last_place = ap (λ b. cond b ((length (entries_of before) + 1) ∷ []) []) (eq-eqb (owner_of e) old.pass.number (q.owned ∙ q.numbers))
+  last_place : places_owned old.pass.number (length (entries_among before)) (e ∷ []) ≡ (length (entries_among before) + 1) ∷ []
+  last_place = ap (λ b. cond b ((length (entries_among before) + 1) ∷ []) []) (eq-eqb (owner_of e) old.pass.number (q.owned ∙ q.numbers))
 
-  places : places_owned old.pass.number 0 (seen_by new.pass) ≡ places_owned old.pass.number 0 (seen_by old.pass) ++ (length (entries_of before) + 1) ∷ []
+  places : places_owned old.pass.number 0 (seen_by new.pass) ≡ places_owned old.pass.number 0 (seen_by old.pass) ++ (length (entries_among before) + 1) ∷ []
   places =
-      let start_at : 0 + length (entries_of before) ≡ length (entries_of before) = omega arith in
-      ap (places_owned old.pass.number 0) entries_are ∙ places_append old.pass.number 0 (entries_of before) (e ∷ [])
-      ∙ ap (λ n. places_owned old.pass.number 0 (entries_of before) ++ places_owned old.pass.number n (e ∷ [])) start_at
-      ∙ ap (λ ns. places_owned old.pass.number 0 (entries_of before) ++ ns) last_place ∙ ap (λ ns. ns ++ (length (entries_of before) + 1) ∷ []) (places_on old.pass before q.sees.begins q.sees.others)
+      let start_at : 0 + length (entries_among before) ≡ length (entries_among before) = omega arith in
+      ap (places_owned old.pass.number 0) entries_are ∙ places_append old.pass.number 0 (entries_among before) (e ∷ [])
+      ∙ ap (λ n. places_owned old.pass.number 0 (entries_among before) ++ places_owned old.pass.number n (e ∷ [])) start_at
+      ∙ ap (λ ns. places_owned old.pass.number 0 (entries_among before) ++ ns) last_place ∙ ap (λ ns. ns ++ (length (entries_among before) + 1) ∷ []) (places_on old.pass before q.sees.begins q.sees.others)
 
 pub changes_reply : ChangesReply
 changes_reply start old new before e line q = record {

@@ -6,7 +6,7 @@ use Rattle.jf_model.specs.declared.entries.Entry.{Entry}
 use Rattle.jf_turn.specs.Lists.{HasElement}
 use Rattle.jf_turn.proofs.Lists.{starts_self}
 use Rattle.jf_store.specs.declared.event.Event.{Event}
-use Rattle.jf_store.specs.Events.{entries_of}
+use Rattle.jf_store.specs.Events.{entries_among}
 use Rattle.jf_store.specs.Starts.{Start}
 use Rattle.jf_store.specs.Passes.{Pass}
 use Rattle.jf_store.proofs.EventLaws.{entries_of-append}
@@ -26,8 +26,8 @@ module _ (start : Start) (old : Pass) (mid new : Session) (ls : List (List ℕ))
   abbrev more : List Event
   more = t.follows.begins.0
 
-  entries_more : seen_by new.pass ≡ seen_by mid.pass ++ entries_of more
-  entries_more = ap entries_of t.follows.begins.1 ∙ entries_of-append mid.pass.seen more
+  entries_more : seen_by new.pass ≡ seen_by mid.pass ++ entries_among more
+  entries_more = ap entries_among t.follows.begins.1 ∙ entries_of-append mid.pass.seen more
 
   number_same : mid.pass.number ≡ old.number
   number_same = ap (λ (p : Pass). p.number) a.same
@@ -44,13 +44,13 @@ module _ (start : Start) (old : Pass) (mid new : Session) (ls : List (List ℕ))
     | inr named ↦ inr (named-line ls line [] version named)
   ]
 
-  longer : (pins : List ℕ) → record { start = start.state; entries = seen_by mid.pass ++ entries_of more; pins = pins } ≡ timeline start pins new.pass.seen
+  longer : (pins : List ℕ) → record { start = start.state; entries = seen_by mid.pass ++ entries_among more; pins = pins } ≡ timeline start pins new.pass.seen
   longer pins = ap (λ (es : List Entry). record { start = start.state; entries = es; pins = pins }) (sym entries_more)
 
   answered_more : (pins : List ℕ) → HaveMet pins start new.pass.seen → AreAnswered (timeline start pins new.pass.seen) (begun_session old.number) (length (seen_by old)) (ls ++ line ∷ []) (rs ++ r ∷ [])
   answered_more pins met =
       let met' : HaveMet pins start mid.pass.seen = AreMet-front (λ pin. IsAmong pins pin.1) start.state mid.pass.seen more (subst (HaveMet pins start) t.follows.begins.1 met) in
-      let before = subst (λ (h : Timeline). AreAnswered h (begun_session old.number) (length (seen_by old)) ls rs) (longer pins) (stay start.state pins (seen_by mid.pass) (entries_of more) (begun_session old.number) (length (seen_by old)) ls rs (a.answered pins met')) in
+      let before = subst (λ (h : Timeline). AreAnswered h (begun_session old.number) (length (seen_by old)) ls rs) (longer pins) (stay start.state pins (seen_by mid.pass) (entries_among more) (begun_session old.number) (length (seen_by old)) ls rs (a.answered pins met')) in
       AreAnswered-push (timeline start pins new.pass.seen) (begun_session old.number) (length (seen_by old)) ls rs line r a.all before
       (subst (λ (k : ℕ). IsAnswered (timeline start pins new.pass.seen) (own_after_replies (begun_session old.number) rs) k line r) (sym a.number)
       (subst (λ (o : Own). IsAnswered (timeline start pins new.pass.seen) o (length (seen_by mid.pass)) line r) a.own (t.answered pins met)))
@@ -60,7 +60,7 @@ module _ (start : Start) (old : Pass) (mid new : Session) (ls : List (List ℕ))
       let within =
       all_back (λ n. n ≤ length (seen_by mid.pass)) (places_owned old.number 0 (seen_by old)) (places_told rs)
       (subst (AllByRecursion (λ n. n ≤ length (seen_by mid.pass))) a.places (places_owned-within old.number 0 (length (seen_by mid.pass)) (seen_by mid.pass) (omega arith))) in
-      let before = AreHeld-later start (seen_by mid.pass) (entries_of more) (begun_session old.number) rs within a.held in
+      let before = AreHeld-later start (seen_by mid.pass) (entries_among more) (begun_session old.number) rs within a.held in
       AreHeld-push start (seen_by new.pass) (begun_session old.number) rs r (subst (λ (es : List Entry). AreHeld start es (begun_session old.number) rs) (sym entries_more) before)
       (subst (λ (o : Own). IfSome r.entry (HeldFloor start o (replay start.state (take (r.number - 1) (seen_by new.pass))))) a.own t.held)
 

@@ -9,12 +9,12 @@ use Rattle.jf_board.specs.Rule.{hold_at}
 use Rattle.jf_turn.specs.Lists.{HasElement, StartsWith}
 use Rattle.jf_store.specs.declared.event.Event.{Event}
 use Rattle.jf_store.specs.declared.event.Event.TheVariants.{Done, Mark}
-use Rattle.jf_store.specs.Events.{entries_of, is_marked}
+use Rattle.jf_store.specs.Events.{entries_among, is_marked}
 use Rattle.jf_store.specs.Starts.{Start}
 use Rattle.jf_store.specs.Ledgers.{state_after_events}
 use Rattle.jf_store.specs.Floors.{IsMet, AreMet}
 use Rattle.jf_store.specs.Passes.{Pass, IsPinned, OthersAlone, SeesOwn}
-use Rattle.jf_answers.specs.Own.{Own, begun_session, pinned}
+use Rattle.jf_answers.specs.Own.{Own, begun_session, version_pinned_at}
 use Rattle.jf_answers.specs.Answers.{answer}
 use Rattle.jf_answers.specs.Runs.{answer_text}
 use Rattle.jf_answers.specs.OwnLines.{is_own_line, pin_of}
@@ -32,7 +32,7 @@ new_session p = record { pass = p; own = begun_session p.number; over = false }
 
 -- the entries that a pass has seen
 abbrev pub seen_by : Pass → List Entry
-seen_by p = entries_of p.seen
+seen_by p = entries_among p.seen
 
 -- the versions of the snapshots that are pinned
 abbrev pub pinned_versions : List (Option SnapshotValue) → List (Option ℕ)
@@ -47,7 +47,7 @@ pub record HoldsPins (s : Session) : Type 0 where
 -- ---- what a history is to the session
 -- what a pass has seen, as a history; lines of the store's sessions ask to pin these versions
 abbrev pub timeline : Start → List ℕ → List Event → Timeline
-timeline start pins events = record { start = start.state; entries = entries_of events; pins = pins }
+timeline start pins events = record { start = start.state; entries = entries_among events; pins = pins }
 
 -- the floor of each event is its bound, or one of these versions
 abbrev pub HaveMet : List ℕ → Start → List Event → Type 0
@@ -55,7 +55,7 @@ HaveMet pins start events = AreMet (λ pin. IsAmong pins pin.1) start.state even
 
 -- the session has pinned the version
 abbrev pub HasPinned : Own → ℕ → Type 0
-HasPinned own version = (place : ℕ) × (pinned own place ≡ Some version)
+HasPinned own version = (place : ℕ) × (version_pinned_at own place ≡ Some version)
 
 -- over a state, the floor of the session's entry, if it retires versions, is the bound, or a lower version that is said to be pinned by a pass of the store; if that is the session's own pass, the session has pinned it
 abbrev pub HeldFloor : Start → Own → State → Entry → Type 0
@@ -117,7 +117,7 @@ look_reply start old new line =
 abbrev pub change_reply : Start → Session → List Event → Entry → List ℕ → Answered
 change_reply start old before e line =
     let a = answer_with (floor_in e) (state_after_events start before) old.own line in
-    record { number = length (entries_of before) + 1; text = answer_text (length (entries_of before) + 1) a; entry = Some e; own = a.own }
+    record { number = length (entries_among before) + 1; text = answer_text (length (entries_among before) + 1) a; entry = Some e; own = a.own }
 
 -- a line that gives no entry was done, over what the pass has then seen; none of that is new if the line asks nothing of the store
 pub record HasLooked (start : Start) (old new : Session) (line : List ℕ) : Type 0 where

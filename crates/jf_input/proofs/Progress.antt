@@ -3,7 +3,7 @@ use Rattle.std.specs.Prelude.{Result, Ok}
 use Rattle.std.proofs.Common.{◌≡◌, ℕ, ◌+◌, List, ◌++◌, Option, Some, [], ◌∷◌, refl, sym, ap, ◌∙◌, subst, append_assoc, append-nil, inl, length, ◌<◌, inr, take}
 use Rattle.std.specs.List.{AllByRecursion, position_or_len, before_first, after_first}
 use Rattle.jf_io.specs.LineReader.{Held, IsShortened, IsFetched, is_line_feed}
-use Rattle.jf_io.specs.Inputs.{IsPlain, ended, IsLineFound}
+use Rattle.jf_io.specs.Inputs.{IsPlain, text_of_lines, IsLineFound}
 use Rattle.jf_io.specs.Lines.{lines, bytes_after}
 use Rattle.jf_io.specs.LinesRead.{AreFirst}
 use Rattle.jf_io.specs.Sink.{IsCutShort}
@@ -25,7 +25,7 @@ pub record Reads (source source' : Option (List ℕ)) (held : Held) (ls : List (
   pub limit : held.limit ≡ 8500
   pub whole : List ℕ
   pub shortened : IsShortened 8500 whole held.bytes
-  pub input : (input : List ℕ) → source ≡ Some input → (left : List ℕ) × (source' ≡ Some left) × (input ≡ ended ls ++ whole ++ left)
+  pub input : (input : List ℕ) → source ≡ Some input → (left : List ℕ) × (source' ≡ Some left) × (input ≡ text_of_lines ls ++ whole ++ left)
 
 reads_none : {source : Option (List ℕ)} {piece : ℕ} (held : Held) → held ≡ record { limit = 8500; piece = piece; bytes = [] } → Reads source source held []
 reads_none held is = record {
@@ -51,14 +51,14 @@ reads_fetched {source' = source'} {source'' = source''} {held = held} {held' = h
           let g = k.given i.0 i.1 in (
             g.0,
             g.1,
-            i.2 ∙ ap (λ t. ended ls ++ f.whole ++ t) g.2 ∙ sym (append_assoc (ended ls ++ f.whole) k.taken g.0) ∙ ap (λ t. t ++ g.0) (append_assoc (ended ls) f.whole k.taken),
+            i.2 ∙ ap (λ t. text_of_lines ls ++ f.whole ++ t) g.2 ∙ sym (append_assoc (text_of_lines ls ++ f.whole) k.taken g.0) ∙ ap (λ t. t ++ g.0) (append_assoc (text_of_lines ls) f.whole k.taken),
           );
     }
 
 module _ {source source' : Option (List ℕ)} {held : Held} {ls : List (List ℕ)} (f : Reads source source' held ls) where
-  abbrev read_so_far : (input left : List ℕ) → input ≡ ended ls ++ f.whole ++ left → HasRead input left ls
+  abbrev read_so_far : (input left : List ℕ) → input ≡ text_of_lines ls ++ f.whole ++ left → HasRead input left ls
   read_so_far input left is = record {
-    taken = ended ls ++ f.whole;
+    taken = text_of_lines ls ++ f.whole;
     split = is;
     first = first_lines ls f.whole left f.plain;
     behind = lines (f.whole ++ left);
@@ -90,22 +90,22 @@ module _ {source source' : Option (List ℕ)} {held : Held} {ls : List (List ℕ
   cut_is cut = front_split f.whole cut
 
   -- it was read to its end
-  taken_first : IsLineFound f.whole source' → (input left : List ℕ) → source' ≡ Some left → input ≡ ended ls ++ f.whole ++ left → AreFirst (ended ls ++ f.whole) left more
+  taken_first : IsLineFound f.whole source' → (input left : List ℕ) → source' ≡ Some left → input ≡ text_of_lines ls ++ f.whole ++ left → AreFirst (text_of_lines ls ++ f.whole) left more
   taken_first found input left left_is is = elim (where_of f.whole source' found) [
     | inl cut ↦
         let after = after_first is_line_feed f.whole in
         subst (λ (t : List ℕ). AreFirst t left more) (sym (next_taken ls f.whole real after (cut_is cut))) (first_lines more after left (plain_more ls real f.plain (front_plain f.whole)))
     | inr last ↦
-        subst (λ (l : List ℕ). AreFirst (ended ls ++ f.whole) left (ls ++ l ∷ [])) (sym (front_whole f.whole last.0))
+        subst (λ (l : List ℕ). AreFirst (text_of_lines ls ++ f.whole) left (ls ++ l ∷ [])) (sym (front_whole f.whole last.0))
         (last_first input ls f.whole left f.plain is (held_plain f.whole last.0) last.1 (last.2 left left_is))
   ]
 
-  abbrev read_to_line : IsLineFound held.bytes source' → (input left : List ℕ) → source' ≡ Some left → input ≡ ended ls ++ f.whole ++ left → HasRead input left more
+  abbrev read_to_line : IsLineFound held.bytes source' → (input left : List ℕ) → source' ≡ Some left → input ≡ text_of_lines ls ++ f.whole ++ left → HasRead input left more
   read_to_line found input left left_is is =
       let there : IsLineFound f.whole source' = found_whole 8500 source' f.whole held.bytes f.shortened found in
       let behind = lines (after_first is_line_feed f.whole ++ left) in
       record {
-        taken = ended ls ++ f.whole;
+        taken = text_of_lines ls ++ f.whole;
         split = is;
         first = taken_first there input left left_is is;
         behind = behind;
@@ -120,7 +120,7 @@ module _ {source source' : Option (List ℕ)} {held : Held} {ls : List (List ℕ
   read_few : {piece : ℕ} → IsLineFound held.bytes source' → length (after_first is_line_feed held.bytes) < piece → ReadsFew piece source source' more
   read_few {piece = piece} found few input is =
       let i = f.input input is in
-      let after : bytes_after (length more) (ended ls ++ f.whole) ≡ after_first is_line_feed held.bytes = bytes_after-next ls real f.whole f.plain ∙ after_first-text 8500 f.whole held.bytes f.shortened in
+      let after : bytes_after (length more) (text_of_lines ls ++ f.whole) ≡ after_first is_line_feed held.bytes = bytes_after-next ls real f.whole f.plain ∙ after_first-text 8500 f.whole held.bytes f.shortened in
       (i.0, i.1, record { read = read_to_line found input i.0 i.1 i.2; few = subst (λ (t : List ℕ). length t < piece) (sym after) few })
 
   given : (line : List ℕ) → line ≡ take (held.limit + 1) (before_first is_line_feed held.bytes) → line ≡ given_of real

@@ -3,7 +3,7 @@ use Rattle.std.proofs.Common.{◌≡◌, ℕ, zero, suc, ◌+◌, ◌<◌, ◌�
 use Rattle.std.proofs.lemmas.List.{drop-drop}
 use Rattle.std.specs.List.{AllByRecursion, position_or_len, after_first, before_first}
 use Rattle.jf_io.specs.LineReader.{is_line_feed}
-use Rattle.jf_io.specs.Inputs.{IsPlain, ended}
+use Rattle.jf_io.specs.Inputs.{IsPlain, text_of_lines}
 use Rattle.jf_io.specs.Lines.{lines, bytes_after}
 use Rattle.jf_io.proofs.Shortened.{after_after}
 use Rattle.jf_io.proofs.Plain.{place_le, front_split, front_plain, held_plain}
@@ -32,15 +32,15 @@ after_line : (l x : List ℕ) → IsPlain l → after_first is_line_feed (l ++ 1
 after_line l x p = after_after l (10 ∷ x) (plain_place l p)
 
 -- after one of several
-after_one : (l : List ℕ) (ls : List (List ℕ)) (x : List ℕ) → IsPlain l → after_first is_line_feed (ended (l ∷ ls) ++ x) ≡ ended ls ++ x
-after_one l ls x p = ap (after_first is_line_feed) (append_assoc l (10 ∷ ended ls) x) ∙ after_line l (ended ls ++ x) p
+after_one : (l : List ℕ) (ls : List (List ℕ)) (x : List ℕ) → IsPlain l → after_first is_line_feed (text_of_lines (l ∷ ls) ++ x) ≡ text_of_lines ls ++ x
+after_one l ls x p = ap (after_first is_line_feed) (append_assoc l (10 ∷ text_of_lines ls) x) ∙ after_line l (text_of_lines ls ++ x) p
 
-pub bytes_after-ended : (ls : List (List ℕ)) (x : List ℕ) → AllByRecursion IsPlain ls → bytes_after (length ls) (ended ls ++ x) ≡ x
+pub bytes_after-ended : (ls : List (List ℕ)) (x : List ℕ) → AllByRecursion IsPlain ls → bytes_after (length ls) (text_of_lines ls ++ x) ≡ x
 bytes_after-ended [] x p = refl
 bytes_after-ended (l ∷ ls) x p = ap (bytes_after (length ls)) (after_one l ls x p.0) ∙ bytes_after-ended ls x p.1
 
 -- and after one more
-pub bytes_after-next : (ls : List (List ℕ)) (l x : List ℕ) → AllByRecursion IsPlain ls → bytes_after (length (ls ++ l ∷ [])) (ended ls ++ x) ≡ after_first is_line_feed x
+pub bytes_after-next : (ls : List (List ℕ)) (l x : List ℕ) → AllByRecursion IsPlain ls → bytes_after (length (ls ++ l ∷ [])) (text_of_lines ls ++ x) ≡ after_first is_line_feed x
 bytes_after-next [] l x p = refl
 bytes_after-next (k ∷ ls) l x p = ap (bytes_after (length (ls ++ l ∷ []))) (after_one k ls x p.0) ∙ bytes_after-next ls l x p.1
 

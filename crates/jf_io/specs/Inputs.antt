@@ -8,9 +8,9 @@ abbrev pub IsPlain : List ℕ → Type 0
 IsPlain l = AllByRecursion (λ b. (b == 10) ≡ false) l
 
 -- the bytes of lines, each with its line feed
-abbrev pub ended : List (List ℕ) → List ℕ
-ended [] = []
-ended (l ∷ ls) = l ++ 10 ∷ ended ls
+abbrev pub text_of_lines : List (List ℕ) → List ℕ
+text_of_lines [] = []
+text_of_lines (l ∷ ls) = l ++ 10 ∷ text_of_lines ls
 
 -- a line stands at the front of what is held: it ends with a line feed, or the source is at its end
 abbrev pub IsLineFound : List ℕ → Option (List ℕ) → Type 0

@@ -92,7 +92,7 @@ impl Source for MemSource {
         Ok(count)
     }
 
-    fn taken(&self) -> u64 {
+    fn taken_count(&self) -> u64 {
         self.given as u64
     }
 

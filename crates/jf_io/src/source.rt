@@ -39,7 +39,7 @@ pub trait Source {
         ensures cause { IsErr result → HasCause (faults self.old) (faults self.new) };
 
     /// The number of bytes given so far.
-    fn taken(&self) -> u64
+    fn taken_count(&self) -> u64
         ensures { result ≡ given self.now };
 
     /// The number of failed calls so far, which stays at `u64::MAX`.

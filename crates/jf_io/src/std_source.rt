@@ -68,7 +68,7 @@ impl<B: Read> Source for StdSource<B> {
         }
     }
 
-    fn taken(&self) -> u64 {
+    fn taken_count(&self) -> u64 {
         self.given
     }
 

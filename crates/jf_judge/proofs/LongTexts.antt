@@ -5,7 +5,7 @@ use Rattle.std.proofs.lemmas.Bool.Decides.{nat_tests}
 use Rattle.std.specs.List.{onto_first}
 use Rattle.jf_io.specs.Lines.{lines}
 use Rattle.jf_text.specs.Words.{is_long, words}
-use Rattle.jf_blocks.specs.Reading.{Block, Place, Read, gives, and_then, matched, line_by, lines_by, named_of, claim_of, leaf_line_of, side_of, first_line_of, proof_block}
+use Rattle.jf_blocks.specs.Reading.{Block, Place, Read, gives, and_then, one_line_read, line_by, lines_by, named_of, claim_of, leaf_line_of, side_of, first_line_of, proof_block}
 use Rattle.jf_blocks.specs.declared.first.FirstLine.{FirstLine}
 use Rattle.jf_blocks.specs.declared.first.FirstLine.TheVariants as first
 use Rattle.jf_ask.specs.Lookups.{siblings_in, siblings_of, block_alone, block_of, lookup_in, lookup}
@@ -45,7 +45,7 @@ and_then-takes m n ls (Err at) f h more = tt
 short : (line : List ℕ) → is_long line ≡ false → length line ≤ 8500
 short line h = grind (arith, nat_tests)
 
-matched-takes : {X : Type 0} (at : ℕ) (line : List ℕ) (ls : List (List ℕ)) (long : Bool) (o : Option X) → (long ≡ false → length line ≤ 8500) → Takes 8501 (line ∷ ls) (matched at ls (if long then None else o))
+matched-takes : {X : Type 0} (at : ℕ) (line : List ℕ) (ls : List (List ℕ)) (long : Bool) (o : Option X) → (long ≡ false → length line ≤ 8500) → Takes 8501 (line ∷ ls) (one_line_read at ls (if long then None else o))
 matched-takes at line ls true o h = tt
 matched-takes at line ls false None h = tt
 matched-takes at line ls false (Some x) h = let small = h refl in omega arith

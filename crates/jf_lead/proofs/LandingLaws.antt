@@ -3,7 +3,7 @@ use Rattle.std.proofs.Common.{◌≡◌, ℕ, suc, ◌+◌, ◌-◌, ◌≤◌, 
 use Rattle.std.proofs.lemmas.List.{append_assoc, append-nil}
 use Rattle.jf_hash.specs.Maps.{Batch, apply}
 use Rattle.jf_hash.specs.Roots.{root}
-use Rattle.jf_model.specs.Versions.{Versions, newest, landed, land_all, root_of}
+use Rattle.jf_model.specs.Versions.{Versions, newest, versions_after_landing, land_all, root_of}
 use Rattle.jf_model.specs.States.{State}
 use Rattle.jf_model.specs.Entries.{after, replay}
 use Rattle.jf_model.specs.declared.entries.Entry.{Entry}
@@ -25,21 +25,21 @@ landings-push s es e = landings-append s es (e ∷ []) ∙ ap (λ bs. landings s
 -- the blocks of batches that land after others
 pub landed_blocks-append : (bs cs : List Batch) (v : Versions) → landed_blocks v (bs ++ cs) ≡ landed_blocks v bs ++ landed_blocks (land_all bs v) cs
 landed_blocks-append [] cs v = refl
-landed_blocks-append (b ∷ bs) cs v = ap (λ ls. landed_block v b ∷ ls) (landed_blocks-append bs cs (landed b v))
+landed_blocks-append (b ∷ bs) cs v = ap (λ ls. landed_block v b ∷ ls) (landed_blocks-append bs cs (versions_after_landing b v))
 
 -- the root of a block is the one that is recorded of its version
-pub root_of-landed_block : (b : Batch) (v : Versions) → root_of (landed b v) (landed_block v b).version ≡ (landed_block v b).root
+pub root_of-landed_block : (b : Batch) (v : Versions) → root_of (versions_after_landing b v) (landed_block v b).version ≡ (landed_block v b).root
 root_of-landed_block b v =
     let e : v.head + 1 - (v.head + 1) ≡ 0 = omega arith in ap (λ i. slice_index_or (root (apply (newest v) b) ∷ v.roots) i []) e
 
-root_of-landed : (b : Batch) (v : Versions) (w : ℕ) → w ≤ v.head → root_of (landed b v) w ≡ root_of v w
+root_of-landed : (b : Batch) (v : Versions) (w : ℕ) → w ≤ v.head → root_of (versions_after_landing b v) w ≡ root_of v w
 root_of-landed b v w low =
     let e : v.head + 1 - w ≡ suc (v.head - w) = omega arith in ap (λ i. slice_index_or (root (apply (newest v) b) ∷ v.roots) i []) e
 
 -- later landings leave a recorded root as it is
 pub root_of-land_all : (bs : List Batch) (v : Versions) (w : ℕ) → w ≤ v.head → root_of (land_all bs v) w ≡ root_of v w
 root_of-land_all [] v w low = refl
-root_of-land_all (b ∷ bs) v w low = root_of-land_all bs (landed b v) w (omega arith) ∙ root_of-landed b v w low
+root_of-land_all (b ∷ bs) v w low = root_of-land_all bs (versions_after_landing b v) w (omega arith) ∙ root_of-landed b v w low
 
 -- the text of blocks that follow others
 pub landings_text-append : (bs cs : List LandingBlock) → landings_text (bs ++ cs) ≡ landings_text bs ++ landings_text cs

@@ -3,7 +3,7 @@ use Rattle.std.proofs.Common.{◌≡◌, ℕ, zero, suc, ◌+◌, ◌-◌, ◌�
 use Rattle.std.proofs.lemmas.Bool.Decides.{nat_tests}
 use Rattle.jf_hash.specs.Maps.{Batch}
 use Rattle.jf_model.specs.Puts.{Change}
-use Rattle.jf_blocks.specs.Reading.{Read, Place, and_then, gives, matched, line_read}
+use Rattle.jf_blocks.specs.Reading.{Read, Place, and_then, gives, one_line_read, line_read}
 use Rattle.jf_lead.specs.declared.block.LandingBlock.{LandingBlock}
 use Rattle.jf_lead.specs.declared.head.LandingHead.{LandingHead}
 use Rattle.jf_lead.specs.declared.stage.Begun.{Begun}
@@ -72,7 +72,7 @@ module _ (first version : ℕ) (root : List ℕ) where
 
   change_read : (m : ℕ) (b : Batch) (at : ℕ) (ls : List (List ℕ)) (o : Option Change)
       → ((c : Change) → goes (whole_or_begun (part m (b ++ c ∷ []))) (at + 1) ls ≡ answered first (and_then (changes_after (b ++ c ∷ []) m (record { at = at + 1; left = ls })) block_with))
-      → goes (change_step at (part (suc m) b) o) (at + 1) ls ≡ answered first (and_then (and_then (matched at ls o) (λ c q. changes_after (b ++ c ∷ []) m q)) block_with)
+      → goes (change_step at (part (suc m) b) o) (at + 1) ls ≡ answered first (and_then (and_then (one_line_read at ls o) (λ c q. changes_after (b ++ c ∷ []) m q)) block_with)
   change_read m b at ls None more = refused_stays (at + 1) at ls
   change_read m b at ls (Some c) more = ap (λ n. goes (whole_or_begun (part n (b ++ c ∷ []))) (at + 1) ls) (one_less m) ∙ more c
 
@@ -89,7 +89,7 @@ module _ (first version : ℕ) (root : List ℕ) where
       ∙ change_read m b at ls (line_read (change_after b) line) (λ c. changes_read m (b ++ c ∷ []) (at + 1) ls)
 
 -- ---- a block
-head_read : (at : ℕ) (ls : List (List ℕ)) (o : Option LandingHead) → goes (landing_head_step at o) (at + 1) ls ≡ answered at (and_then (matched at ls o) landing_body)
+head_read : (at : ℕ) (ls : List (List ℕ)) (o : Option LandingHead) → goes (landing_head_step at o) (at + 1) ls ≡ answered at (and_then (one_line_read at ls o) landing_body)
 head_read at ls None = refused_stays (at + 1) at ls
 head_read at ls (Some head) = changes_read at head.version head.root head.changes [] (at + 1) ls
 
@@ -110,10 +110,10 @@ blocks_from-at zero at [] few = refl
 blocks_from-at zero at (line ∷ ls) few = absurd (omega arith)
 blocks_from-at (suc n) at [] few = refl
 blocks_from-at (suc n) at (line ∷ ls) few =
-    elim (line_read landing_line_of line) as (λ o. elim (and_then (matched at ls o) landing_body) as (λ x. LandingBlocks) [
+    elim (line_read landing_line_of line) as (λ o. elim (and_then (one_line_read at ls o) landing_body) as (λ x. LandingBlocks) [
       | Err i ↦ record { whole = []; bad = Some i }
       | Ok b ↦ with_block (at, b.0) (blocks_from n b.1)
-    ] ≡ answered at (and_then (matched at ls o) landing_body)) [
+    ] ≡ answered at (and_then (one_line_read at ls o) landing_body)) [
       | None ↦ refl
       | Some head ↦ block_taken n (blocks_from-at n) at line ls (landing_body head (record { at = at + 1; left = ls })) (landing_body-bounded head (record { at = at + 1; left = ls })) (omega arith)
     ]

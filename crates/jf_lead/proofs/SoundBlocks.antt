@@ -14,7 +14,7 @@ use Rattle.jf_split.specs.Limits.{max_keys}
 use Rattle.jf_split.proofs.BatchLaws.{IsBatch-none, IsBatch-put}
 use Rattle.jf_text.specs.Words.{words, is_long, both, digits_value, number, number_upto, digit, byte_of, unhex, bytes_within, hash_of, value_of}
 use Rattle.jf_blocks.specs.Laws.{IsHash}
-use Rattle.jf_blocks.specs.Reading.{word_after, two_after, three_after, keyed_of, Place, Read, and_then, matched, line_read, line_by}
+use Rattle.jf_blocks.specs.Reading.{word_after, two_after, three_after, keyed_of, Place, Read, and_then, one_line_read, line_read, line_by}
 use Rattle.jf_lead.specs.declared.block.LandingBlock.{LandingBlock}
 use Rattle.jf_lead.specs.declared.head.LandingHead.{LandingHead}
 use Rattle.jf_lead.specs.Reading.{LandingBlocks, with_block, landing_head_of, landing_line_of, put_line_of, del_line_of, change_line_of, is_above, change_after, changes_after, landing_body, landing_block, blocks_from}
@@ -146,7 +146,7 @@ change_after-sound b ws =
 IfSome-line_read : {X : Type 0} (P : X → Type 0) (f : List (List ℕ) → Option X) (line : List ℕ) → ((ws : List (List ℕ)) → IfSome (f ws) P) → IfSome (line_read f line) P
 IfSome-line_read P f line more = elim (is_long line) as (λ t. IfSome (cond t None (f (words line))) P) [ true ↦ tt | false ↦ more (words line) ]
 
-IfOk-matched : {X : Type 0} (P : X → Type 0) (at : ℕ) (rest : List (List ℕ)) (o : Option X) → IfSome o P → IfOk (matched at rest o) (λ r. P r.0)
+IfOk-matched : {X : Type 0} (P : X → Type 0) (at : ℕ) (rest : List (List ℕ)) (o : Option X) → IfSome o P → IfOk (one_line_read at rest o) (λ r. P r.0)
 IfOk-matched P at rest None h = tt
 IfOk-matched P at rest (Some x) h = h
 

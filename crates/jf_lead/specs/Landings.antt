@@ -5,7 +5,7 @@ use Rattle.jf_hash.specs.Maps.{Batch, apply}
 use Rattle.jf_hash.specs.Roots.{root}
 use Rattle.jf_text.specs.Words.{line_text, value_word}
 use Rattle.jf_model.specs.Puts.{Change}
-use Rattle.jf_model.specs.Versions.{Versions, newest, landed}
+use Rattle.jf_model.specs.Versions.{Versions, newest, versions_after_landing}
 use Rattle.jf_model.specs.States.{State}
 use Rattle.jf_model.specs.Entries.{landed_batches, after}
 use Rattle.jf_model.specs.declared.entries.Entry.{Entry}
@@ -42,7 +42,7 @@ landed_block v batch = record { version = v.head + 1; root = root (apply (newest
 -- the blocks of batches that land one after another
 abbrev pub landed_blocks : Versions → List Batch → List LandingBlock
 landed_blocks v [] = []
-landed_blocks v (b ∷ bs) = landed_block v b ∷ landed_blocks (landed b v) bs
+landed_blocks v (b ∷ bs) = landed_block v b ∷ landed_blocks (versions_after_landing b v) bs
 
 -- the blocks of an entry: one for each version that it lands
 abbrev pub entry_blocks : State → Entry → List LandingBlock

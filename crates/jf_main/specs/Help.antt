@@ -1,6 +1,6 @@
 -- What the program says of itself: how it is called, its help and its version (docs/FORMATS.md, "Calling the program").
 use Rattle.std.specs.Prelude.{ℕ, List, [], ◌∷◌, ◌++◌, codes}
-use Rattle.jf_io.specs.Inputs.{ended}
+use Rattle.jf_io.specs.Inputs.{text_of_lines}
 use Rattle.jf_main.specs.declared.help.OwnText.{OwnText}
 use Rattle.jf_main.specs.declared.help.OwnText.TheVariants as own
 
@@ -38,7 +38,7 @@ mode_lines =
 
 -- what `--help` writes
 unfoldable pub help_text : List ℕ
-help_text = ended (usage_text ∷ more_usage_text ∷ mode_lines) ++ ended (example_text ∷ codes "docs/FORMATS.md has all words, replies and statuses, docs/OPERATING.md what operators do." ∷ [])
+help_text = text_of_lines (usage_text ∷ more_usage_text ∷ mode_lines) ++ text_of_lines (example_text ∷ codes "docs/FORMATS.md has all words, replies and statuses, docs/OPERATING.md what operators do." ∷ [])
 
 -- what `--version` writes
 abbrev pub version_text : List ℕ

@@ -1,7 +1,7 @@
 -- How a block of many claims is read (docs/FORMATS.md, Blocks of many claims).
 use Rattle.std.specs.Prelude.{ℕ, if◌then◌else◌, Bool, false, List, [], ◌∷◌, Option, Some, None, codes, option_and_then, option_map}
 use Rattle.jf_text.specs.Words.{is_word, hash_of, number_upto, name_of, both}
-use Rattle.jf_blocks.specs.Reading.{Place, Read, and_then, gives, lines_by, word_after, two_after, claimed, pair_of}
+use Rattle.jf_blocks.specs.Reading.{Place, Read, and_then, gives, lines_by, word_after, two_after, claim_of_word, pair_of}
 use Rattle.jf_multi.specs.declared.item.Item.{Item}
 use Rattle.jf_multi.specs.declared.item.Item.TheVariants as item
 use Rattle.jf_many_blocks.specs.declared.head.ManyHead.{ManyHead}
@@ -25,7 +25,7 @@ many_of ws = option_and_then many_head_of (two_after (codes "many") ws)
 
 -- two words as a name and what is claimed of it
 abbrev pub named_claim_from : List ℕ × List ℕ → Option NamedClaim
-named_claim_from p = both (λ name claim. (name, claim)) (name_of p.0) (claimed p.1)
+named_claim_from p = both (λ name claim. (name, claim)) (name_of p.0) (claim_of_word p.1)
 
 -- the line of a claim: `claim`, a name, and a value or `none`
 abbrev pub named_claim_of : List (List ℕ) → Option NamedClaim

@@ -5,7 +5,7 @@ ghost use Rattle.jf_text.specs.Words.{words};
 ghost use Rattle.jf_blocks.specs.Reading.{line_read};
 ghost use Rattle.jf_many_blocks.specs.ManyReading.{named_claim_from, named_claim_of, is_lone, end_line_of, item_of};
 
-use jf_blocks::{claimed, pair_of, two_after, word_after};
+use jf_blocks::{claim_of_word, pair_of, two_after, word_after};
 use jf_hash::Hash;
 use jf_multi::Item;
 use jf_path::{Bytes, Key, Memory};
@@ -40,7 +40,7 @@ fn named_claim_from(
     let Some(name) = name_of(alloc, name)? else {
         return Ok(None);
     };
-    match claimed(alloc, claim)? {
+    match claim_of_word(alloc, claim)? {
         Some(claim) => Ok(Some((name, claim))),
         None => Ok(None),
     }

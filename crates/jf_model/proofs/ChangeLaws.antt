@@ -12,31 +12,31 @@ use Rattle.jf_path.proofs.BoolLaws.{cond-not}
 use Rattle.jf_hash.specs.Maps.{Map, change, Batch, apply, same_key, IsBatch, IsMap}
 use Rattle.jf_hash.proofs.MapLaws.{entries-remove, last_word_on}
 use Rattle.jf_hash.proofs.KeyOrder.{same_key-exact}
-use Rattle.jf_model.specs.Changes.{changed, with_put, applied, MapEntry}
+use Rattle.jf_model.specs.Changes.{entries_after_change, with_put, entries_after_batch, MapEntry}
 
-pub changed-none : (k : List ℕ) (v : Option (List ℕ)) → changed k v [] ≡ with_put k v []
+pub changed-none : (k : List ℕ) (v : Option (List ℕ)) → entries_after_change k v [] ≡ with_put k v []
 changed-none k None = refl
 changed-none k (Some v) = refl
 
-entries-change : (k : List ℕ) (v : Option (List ℕ)) (m : Map) → entries (change k v m) ≡ changed k v (entries m)
+entries-change : (k : List ℕ) (v : Option (List ℕ)) (m : Map) → entries (change k v m) ≡ entries_after_change k v (entries m)
 entries-change k (Some v) m = fin.entries-insert nat_list_cmp_total m k v
 entries-change k None m = entries-remove m k
 
 -- the entries of a map after a batch are its entries changed by the batch
-pub entries-apply : (m : Map) (b : Batch) → entries (apply m b) ≡ applied (entries m) b
-unfolding apply applied
+pub entries-apply : (m : Map) (b : Batch) → entries (apply m b) ≡ entries_after_batch (entries m) b
+unfolding apply entries_after_batch
 entries-apply m [] = refl
-entries-apply m (e ∷ b) = entries-apply (change e.0 e.1 m) b ∙ ap (λ es. applied es b) (entries-change e.0 e.1 m)
+entries-apply m (e ∷ b) = entries-apply (change e.0 e.1 m) b ∙ ap (λ es. entries_after_batch es b) (entries-change e.0 e.1 m)
 
-sorted-changed : (k : List ℕ) (v : Option (List ℕ)) (es : List MapEntry) → T (is_sorted key_cmp es) → T (is_sorted key_cmp (changed k v es))
+sorted-changed : (k : List ℕ) (v : Option (List ℕ)) (es : List MapEntry) → T (is_sorted key_cmp es) → T (is_sorted key_cmp (entries_after_change k v es))
 sorted-changed k (Some v) es h = is_sorted-put key_cmp nat_list_cmp_total k v es h
 sorted-changed k None es h = is_sorted-where_key key_cmp (λ x. not (same_key k x)) es h
 
 -- changed entries stay in the order of their keys
-pub sorted-applied : (es : List MapEntry) (b : Batch) → T (is_sorted key_cmp es) → T (is_sorted key_cmp (applied es b))
-unfolding applied
+pub sorted-applied : (es : List MapEntry) (b : Batch) → T (is_sorted key_cmp es) → T (is_sorted key_cmp (entries_after_batch es b))
+unfolding entries_after_batch
 sorted-applied es [] h = h
-sorted-applied es (e ∷ b) h = sorted-applied (changed e.0 e.1 es) b (sorted-changed e.0 e.1 es h)
+sorted-applied es (e ∷ b) h = sorted-applied (entries_after_change e.0 e.1 es) b (sorted-changed e.0 e.1 es h)
 
 module _ (P : MapEntry → Type 0) where
   all-put : (k v : List ℕ) (es : List MapEntry) → P (k, v) → AllByRecursion P es → AllByRecursion P (put key_cmp k v es)
@@ -56,15 +56,15 @@ module _ (P : MapEntry → Type 0) where
         | false ↦ all-where_key test es h.1
       ]
 
-  all-changed : (k : List ℕ) (v : Option (List ℕ)) (es : List MapEntry) → IfSome v (λ w. P (k, w)) → AllByRecursion P es → AllByRecursion P (changed k v es)
+  all-changed : (k : List ℕ) (v : Option (List ℕ)) (es : List MapEntry) → IfSome v (λ w. P (k, w)) → AllByRecursion P es → AllByRecursion P (entries_after_change k v es)
   all-changed k (Some v) es p h = all-put k v es p h
   all-changed k None es p h = all-where_key (λ x. not (same_key k x)) es h
 
   -- what holds of each entry, and of each entry that the batch puts, holds of each entry after it
-  pub all-applied : (es : List MapEntry) (b : Batch) → AllByRecursion P es → AllByRecursion (λ e. IfSome e.1 (λ w. P (e.0, w))) b → AllByRecursion P (applied es b)
-  unfolding applied
+  pub all-applied : (es : List MapEntry) (b : Batch) → AllByRecursion P es → AllByRecursion (λ e. IfSome e.1 (λ w. P (e.0, w))) b → AllByRecursion P (entries_after_batch es b)
+  unfolding entries_after_batch
   all-applied es [] h p = h
-  all-applied es (e ∷ b) h p = all-applied (changed e.0 e.1 es) b (all-changed e.0 e.1 es p.0 h) p.1
+  all-applied es (e ∷ b) h p = all-applied (entries_after_change e.0 e.1 es) b (all-changed e.0 e.1 es p.0 h) p.1
 
 sound_put : (k : List ℕ) (v : Option (List ℕ)) → IsKey k → IfSome v IsBytes → IfSome v (λ w. IsKey k × IsBytes w)
 sound_put k None key bytes = tt
@@ -75,7 +75,7 @@ sound_puts [] h k = tt
 sound_puts (e ∷ b) h k = (sound_put e.0 e.1 h.0 k.0, sound_puts b h.1 k.1)
 
 -- after a batch each entry still has a key and bytes
-pub sound-applied : (es : List MapEntry) (b : Batch) → AllByRecursion (λ e. IsKey e.0 × IsBytes e.1) es → IsBatch b → AllByRecursion (λ e. IsKey e.0 × IsBytes e.1) (applied es b)
+pub sound-applied : (es : List MapEntry) (b : Batch) → AllByRecursion (λ e. IsKey e.0 × IsBytes e.1) es → IsBatch b → AllByRecursion (λ e. IsKey e.0 × IsBytes e.1) (entries_after_batch es b)
 sound-applied es b h batch = all-applied (λ e. IsKey e.0 × IsBytes e.1) es b h (sound_puts b batch.keys batch.values)
 
 pub IsMap-apply : (m : Map) (b : Batch) → IsMap m → IsBatch b → IsMap (apply m b)
@@ -87,30 +87,30 @@ put_keys P [] h = tt
 put_keys P (e ∷ b) h = (elim e.1 as (λ v. IfSome v (λ w. P e.0)) [ None ↦ tt | Some w ↦ h.0 ], put_keys P b h.1)
 
 -- what holds of the keys of all entries and of a batch holds of the keys after it
-pub all_keys-applied : (P : List ℕ → Type 0) (es : List MapEntry) (b : Batch) → AllByRecursion (λ e. P e.0) es → AllByRecursion (λ e. P e.0) b → AllByRecursion (λ e. P e.0) (applied es b)
+pub all_keys-applied : (P : List ℕ → Type 0) (es : List MapEntry) (b : Batch) → AllByRecursion (λ e. P e.0) es → AllByRecursion (λ e. P e.0) b → AllByRecursion (λ e. P e.0) (entries_after_batch es b)
 all_keys-applied P es b h k = all-applied (λ e. P e.0) es b h (put_keys P b k)
 
 -- ---- one key, and some keys
-find-changed : (q k : List ℕ) (v : Option (List ℕ)) (es : List MapEntry) → find key_cmp q (changed k v es) ≡ cond (same_key q k) v (find key_cmp q es)
+find-changed : (q k : List ℕ) (v : Option (List ℕ)) (es : List MapEntry) → find key_cmp q (entries_after_change k v es) ≡ cond (same_key q k) v (find key_cmp q es)
 find-changed q k (Some v) es = find-put key_cmp nat_list_cmp_total q k v es
 find-changed q k None es =
     find-where_key key_cmp (λ x. not (same_key k x)) q (λ x e. ap (λ x. not (same_key k x)) (sym (same_key-exact q x e))) es
     ∙ cond-not (same_key k q) (find key_cmp q es) None ∙ ap (λ b. cond b None (find key_cmp q es)) ((eq_by_cmp_equiv nat_list_cmp_total).symm k q)
 
 -- the value of a key after a batch is what the batch's last change of it says, or what it was
-pub find-applied : (q : List ℕ) (es : List MapEntry) (b : Batch) → find key_cmp q (applied es b) ≡ last_word_on q b (find key_cmp q es)
-unfolding applied
+pub find-applied : (q : List ℕ) (es : List MapEntry) (b : Batch) → find key_cmp q (entries_after_batch es b) ≡ last_word_on q b (find key_cmp q es)
+unfolding entries_after_batch
 find-applied q es [] = refl
-find-applied q es (e ∷ b) = find-applied q (changed e.0 e.1 es) b ∙ ap (last_word_on q b) (find-changed q e.0 e.1 es)
+find-applied q es (e ∷ b) = find-applied q (entries_after_change e.0 e.1 es) b ∙ ap (last_word_on q b) (find-changed q e.0 e.1 es)
 
 -- a batch without changes changes nothing
-pub applied-none : (es : List MapEntry) → applied es [] ≡ es
-unfolding applied
+pub applied-none : (es : List MapEntry) → entries_after_batch es [] ≡ es
+unfolding entries_after_batch
 applied-none es = refl
 
 -- a batch of one change is that change
-pub applied-word : (es : List MapEntry) (k : List ℕ) (v : Option (List ℕ)) → applied es ((k, v) ∷ []) ≡ changed k v es
-unfolding applied
+pub applied-word : (es : List MapEntry) (k : List ℕ) (v : Option (List ℕ)) → entries_after_batch es ((k, v) ∷ []) ≡ entries_after_change k v es
+unfolding entries_after_batch
 applied-word es k v = refl
 
 -- the changes on some keys say of a key among them what all changes say
@@ -133,14 +133,14 @@ last_word_on-part p q (b ∷ bs) before =
     ] refl
 
 -- after a batch, the entries on some keys are those entries after the batch's changes on these keys
-pub filter-applied : (p : List ℕ → Bool) (es : List MapEntry) (b : Batch) → T (is_sorted key_cmp es) → filter (λ e. p e.0) (applied es b) ≡ applied (filter (λ e. p e.0) es) (filter (λ e. p e.0) b)
+pub filter-applied : (p : List ℕ → Bool) (es : List MapEntry) (b : Batch) → T (is_sorted key_cmp es) → filter (λ e. p e.0) (entries_after_batch es b) ≡ entries_after_batch (filter (λ e. p e.0) es) (filter (λ e. p e.0) b)
 filter-applied p es b sorted =
     let alike : (q x : List ℕ) → key_cmp q x ≡ Equal → p x ≡ p q = λ q x e. ap p (sym (same_key-exact q x e)) in
     same_entries key_cmp nat_list_cmp_total same_key-exact _ _
-    (is_sorted-where_key key_cmp p (applied es b) (sorted-applied es b sorted))
+    (is_sorted-where_key key_cmp p (entries_after_batch es b) (sorted-applied es b sorted))
     (sorted-applied (filter (λ e. p e.0) es) (filter (λ e. p e.0) b) (is_sorted-where_key key_cmp p es sorted))
     (λ q.
-    find-where_key key_cmp p q (alike q) (applied es b)
+    find-where_key key_cmp p q (alike q) (entries_after_batch es b)
     ∙ ap (λ o. cond (p q) o None) (find-applied q es b)
     ∙ sym (last_word_on-part p q b (find key_cmp q es))
     ∙ ap (last_word_on q (filter (λ e. p e.0) b)) (sym (find-where_key key_cmp p q (alike q) es))

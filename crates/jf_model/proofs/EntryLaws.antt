@@ -8,7 +8,7 @@ use Rattle.jf_hash.specs.Maps.{IsBatch, Batch}
 use Rattle.jf_model.specs.States.{State, IsState}
 use Rattle.jf_model.specs.declared.entries.Entry.{Entry}
 use Rattle.jf_model.specs.Entries.{after, replay, AreLegal, IsLegal, at_moment, RiseFrom, moments_of, IsHistory}
-use Rattle.jf_model.specs.Forks.{Fork, AreForks, of_parent, is_among, chain, descends, on_head, settled, without, is_parent, batches}
+use Rattle.jf_model.specs.Forks.{Fork, AreForks, of_parent, is_among, chain, descends, on_head, forks_after_landing, without, is_parent, batches}
 use Rattle.jf_model.specs.declared.entries.Parent.{Parent}
 use Rattle.jf_model.specs.Versions.{land_all}
 use Rattle.jf_model.specs.declared.entries.Parent.TheVariants as parent
@@ -68,14 +68,14 @@ kept_later true q g gs h = h
 kept_later false q g gs h = ap (λ t. (g.id == q) || t) h ∙ or_true (g.id == q)
 
 -- a fork that stands on id stays when id lands
-among-settled : (id q : ℕ) (fs : List Fork) → is_among id (chain fs q) ≡ true → (q == id) ≡ false → is_among q (settled id fs) ≡ true
+among-settled : (id q : ℕ) (fs : List Fork) → is_among id (chain fs q) ≡ true → (q == id) ≡ false → is_among q (forks_after_landing id fs) ≡ true
 among-settled id q [] h apart = h
-among-settled id q (f ∷ fs) h apart = elim (f.id == q) as (λ b. (f.id == q) ≡ b → is_among q (settled id (f ∷ fs)) ≡ true) [
+among-settled id q (f ∷ fs) h apart = elim (f.id == q) as (λ b. (f.id == q) ≡ b → is_among q (forks_after_landing id (f ∷ fs)) ≡ true) [
   | true ↦ λ here.
       let own : (f.id == id) ≡ false = ap (λ n. n == id) (eqb-true f.id q here) ∙ apart in
       let stays : descends id fs f ≡ true = or_true_left (descends id fs f) (f.id == id) own (sym (on_chain id f fs q here) ∙ h) in
-      first_among (descends id fs f) q (on_head id f) (settled id fs) (settled id fs) here stays
-  | false ↦ λ off. later_among (descends id fs f) q (on_head id f) (settled id fs) (among-settled id q fs (sym (off_chain id f fs q off) ∙ h) apart)
+      first_among (descends id fs f) q (on_head id f) (forks_after_landing id fs) (forks_after_landing id fs) here stays
+  | false ↦ λ off. later_among (descends id fs f) q (on_head id f) (forks_after_landing id fs) (among-settled id q fs (sym (off_chain id f fs q off) ∙ h) apart)
 ] refl
 
 -- a fork that doesn't stand on id stays when id is dropped
@@ -91,9 +91,9 @@ truth : (b : Bool) → IsTrue b → b ≡ true
 truth b h = h
 
 -- a parent that stays is a parent after the landing, with the head in place of the fork that landed
-parent-settled : (id : ℕ) (fs : List Fork) (p : Parent) → is_among id (of_parent [] (chain fs) p) ≡ true → IsTrue (is_parent (of_parent parent.Head (λ q. cond (q == id) parent.Head (parent.Fork q)) p) (settled id fs))
+parent-settled : (id : ℕ) (fs : List Fork) (p : Parent) → is_among id (of_parent [] (chain fs) p) ≡ true → IsTrue (is_parent (of_parent parent.Head (λ q. cond (q == id) parent.Head (parent.Fork q)) p) (forks_after_landing id fs))
 parent-settled id fs parent.Head h = refl
-parent-settled id fs (parent.Fork q) h = elim (q == id) as (λ b. (q == id) ≡ b → IsTrue (is_parent (cond b parent.Head (parent.Fork q)) (settled id fs))) [
+parent-settled id fs (parent.Fork q) h = elim (q == id) as (λ b. (q == id) ≡ b → IsTrue (is_parent (cond b parent.Head (parent.Fork q)) (forks_after_landing id fs))) [
   | true ↦ λ same. refl
   | false ↦ λ apart. among-settled id q fs h apart
 ] refl
@@ -102,13 +102,13 @@ parent-without : (id : ℕ) (fs : List Fork) (p : Parent) → IsTrue (is_parent 
 parent-without id fs parent.Head live h = refl
 parent-without id fs (parent.Fork q) live h = among-without id q fs live h
 
-pub AreForks-settled : (bound id : ℕ) (fs : List Fork) → AreForks bound fs → AreForks bound (settled id fs)
+pub AreForks-settled : (bound id : ℕ) (fs : List Fork) → AreForks bound fs → AreForks bound (forks_after_landing id fs)
 AreForks-settled bound id [] h = tt
 AreForks-settled bound id (f ∷ fs) h =
-    let older : AreForks f.id (settled id fs) = AreForks-settled f.id id fs h.2 in
-    elim (descends id fs f) as (λ b. descends id fs f ≡ b → AreForks bound (cond b (on_head id f ∷ settled id fs) (settled id fs))) [
+    let older : AreForks f.id (forks_after_landing id fs) = AreForks-settled f.id id fs h.2 in
+    elim (descends id fs f) as (λ b. descends id fs f ≡ b → AreForks bound (cond b (on_head id f ∷ forks_after_landing id fs) (forks_after_landing id fs))) [
       | true ↦ λ stays. (h.0, parent-settled id fs f.parent stays, older)
-      | false ↦ λ gone. let below = h.0 in AreForks-higher f.id bound (settled id fs) older (omega arith)
+      | false ↦ λ gone. let below = h.0 in AreForks-higher f.id bound (forks_after_landing id fs) older (omega arith)
     ] refl
 
 pub AreForks-without : (bound id : ℕ) (fs : List Fork) → AreForks bound fs → AreForks bound (without id fs)
@@ -124,9 +124,9 @@ AreForks-without bound id (f ∷ fs) h =
 abbrev HoldBatches : List Fork → Type 0
 HoldBatches fs = AllByRecursion (λ f. IsBatch f.batch) fs
 
-batches-settled : (id : ℕ) (fs : List Fork) → HoldBatches fs → HoldBatches (settled id fs)
+batches-settled : (id : ℕ) (fs : List Fork) → HoldBatches fs → HoldBatches (forks_after_landing id fs)
 batches-settled id [] h = tt
-batches-settled id (f ∷ fs) h = elim (descends id fs f) as (λ b. HoldBatches (cond b (on_head id f ∷ settled id fs) (settled id fs))) [
+batches-settled id (f ∷ fs) h = elim (descends id fs f) as (λ b. HoldBatches (cond b (on_head id f ∷ forks_after_landing id fs) (forks_after_landing id fs))) [
   | true ↦ (h.0, batches-settled id fs h.1)
   | false ↦ batches-settled id fs h.1
 ]
@@ -178,7 +178,7 @@ after-IsState s (entry.Made owner fork p batch r) h legal = record {
 }
 after-IsState s (entry.Landed owner version (landing.Direct batch) r moment) h legal = landed-IsState s (batch ∷ []) [] (s.count + 1) h (legal.1.may, tt) tt tt
 after-IsState s (entry.Landed owner version (landing.Fork id) r moment) h legal =
-    landed-IsState s (batches (chain s.forks id)) (settled id s.forks) (s.count + 1) h (chain-batches s.forks id h.batches) (AreForks-settled s.made id s.forks h.live) (batches-settled id s.forks h.batches)
+    landed-IsState s (batches (chain s.forks id)) (forks_after_landing id s.forks) (s.count + 1) h (chain-batches s.forks id h.batches) (AreForks-settled s.made id s.forks h.live) (batches-settled id s.forks h.batches)
 after-IsState s (entry.Dropped owner fork) h legal = record {
   sound = h.sound;
   first = h.first;

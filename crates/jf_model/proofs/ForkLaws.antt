@@ -5,7 +5,7 @@ use Rattle.std.proofs.lemmas.Bool.{ne_eqb, eqb-true, or_from}
 use Rattle.jf_path.proofs.BoolLaws.{or_true_left, or_false_left, or_false_right}
 use Rattle.jf_hash.specs.Maps.{Map, Batch, apply}
 use Rattle.jf_model.specs.Batches.{apply_all}
-use Rattle.jf_model.specs.Forks.{Fork, batches, on_head, chain, settled, fork_map, of_parent, is_among, AreForks, descends, without, parent_map}
+use Rattle.jf_model.specs.Forks.{Fork, batches, on_head, chain, forks_after_landing, fork_map, of_parent, is_among, AreForks, descends, without, parent_map}
 use Rattle.jf_model.specs.declared.entries.Parent.{Parent}
 use Rattle.jf_model.specs.declared.entries.Parent.TheVariants as parent
 use Rattle.jf_model.proofs.ForkLists.{any_last}
@@ -32,10 +32,10 @@ below_itself a b c lt le same = omega arith
 pub record GoesOnFrom (id : ℕ) (fs : List Fork) (y : ℕ) : Type 0 where
   pub more : List Fork
   pub before : chain fs y ≡ chain fs id ++ more
-  pub behind : chain (settled id fs) y ≡ map (on_head id) more
+  pub behind : chain (forks_after_landing id fs) y ≡ map (on_head id) more
 
 -- a fork that goes on from id has, over the new head, the map that it had
-pub kept_map : (m : Map) (id : ℕ) (fs : List Fork) (y : ℕ) → GoesOnFrom id fs y → fork_map (fork_map m fs id) (settled id fs) y ≡ fork_map m fs y
+pub kept_map : (m : Map) (id : ℕ) (fs : List Fork) (y : ℕ) → GoesOnFrom id fs y → fork_map (fork_map m fs id) (forks_after_landing id fs) y ≡ fork_map m fs y
 kept_map m id fs y g =
     ap (λ c. apply_all (fork_map m fs id) (batches c)) g.behind
     ∙ ap (apply_all (fork_map m fs id)) (batches-on_head id g.more)
@@ -78,7 +78,7 @@ headed id p = of_parent parent.Head (λ q. cond (q == id) parent.Head (parent.Fo
 record Above (id : ℕ) (fs : List Fork) (p : Parent) : Type 0 where
   more : List Fork
   before : of_parent [] (chain fs) p ≡ chain fs id ++ more
-  behind : of_parent [] (chain (settled id fs)) (headed id p) ≡ map (on_head id) more
+  behind : of_parent [] (chain (forks_after_landing id fs)) (headed id p) ≡ map (on_head id) more
 
 above : (id : ℕ) (fs : List Fork) → ((y : ℕ) → is_among id (chain fs y) ≡ true → (y == id) ≡ false → GoesOnFrom id fs y) → (p : Parent) → is_among id (of_parent [] (chain fs) p) ≡ true → Above id fs p
 above id fs older parent.Head h = absurd (true_not_false (sym h))
@@ -87,12 +87,12 @@ above id fs older (parent.Fork q) h =
       | true ↦ λ e. record {
         more = [];
         before = ap (chain fs) (eqb-true q id e) ∙ sym (append-nil (chain fs id));
-        behind = ap (λ b. of_parent [] (chain (settled id fs)) (cond b parent.Head (parent.Fork q))) e;
+        behind = ap (λ b. of_parent [] (chain (forks_after_landing id fs)) (cond b parent.Head (parent.Fork q))) e;
       }
       | false ↦ λ e. let g = older q h e in record {
         more = g.more;
         before = g.before;
-        behind = ap (λ b. of_parent [] (chain (settled id fs)) (cond b parent.Head (parent.Fork q))) e ∙ g.behind;
+        behind = ap (λ b. of_parent [] (chain (forks_after_landing id fs)) (cond b parent.Head (parent.Fork q))) e ∙ g.behind;
       }
     ] refl
 
@@ -106,7 +106,7 @@ here id f fs y e apart d a =
     record {
       more = a.more ++ f ∷ [];
       before = chain-here f fs y e ∙ ap (λ c. c ++ f ∷ []) a.before ∙ append_assoc (chain fs id) a.more (f ∷ []) ∙ ap (λ c. c ++ (a.more ++ f ∷ [])) (sym (chain-there f fs id apart));
-      behind = ap (λ b. chain (cond b (on_head id f ∷ settled id fs) (settled id fs)) y) d ∙ chain-here (on_head id f) (settled id fs) y e ∙ ap (λ c. c ++ on_head id f ∷ []) a.behind ∙ sym (map_snoc id a.more f);
+      behind = ap (λ b. chain (cond b (on_head id f ∷ forks_after_landing id fs) (forks_after_landing id fs)) y) d ∙ chain-here (on_head id f) (forks_after_landing id fs) y e ∙ ap (λ c. c ++ on_head id f ∷ []) a.behind ∙ sym (map_snoc id a.more f);
     }
 
 -- an older fork goes on from id whatever newer fork there is
@@ -115,8 +115,8 @@ there id f fs y e apart g =
     record {
       more = g.more;
       before = chain-there f fs y e ∙ g.before ∙ ap (λ c. c ++ g.more) (sym (chain-there f fs id apart));
-      behind = elim (descends id fs f) as (λ b. chain (cond b (on_head id f ∷ settled id fs) (settled id fs)) y ≡ map (on_head id) g.more) [
-        | true ↦ chain-there (on_head id f) (settled id fs) y e ∙ g.behind
+      behind = elim (descends id fs f) as (λ b. chain (cond b (on_head id f ∷ forks_after_landing id fs) (forks_after_landing id fs)) y ≡ map (on_head id) g.more) [
+        | true ↦ chain-there (on_head id f) (forks_after_landing id fs) y e ∙ g.behind
         | false ↦ g.behind
       ];
     }
@@ -141,7 +141,7 @@ goes_on bound id (f ∷ fs) sound y h apart =
     ] refl
 
 -- each fork that stays when id lands keeps the map that it had
-pub fork_map-settled : (m : Map) (bound id : ℕ) (fs : List Fork) → AreForks bound fs → (y : ℕ) → is_among id (chain fs y) ≡ true → (y == id) ≡ false → fork_map (fork_map m fs id) (settled id fs) y ≡ fork_map m fs y
+pub fork_map-settled : (m : Map) (bound id : ℕ) (fs : List Fork) → AreForks bound fs → (y : ℕ) → is_among id (chain fs y) ≡ true → (y == id) ≡ false → fork_map (fork_map m fs id) (forks_after_landing id fs) y ≡ fork_map m fs y
 fork_map-settled m bound id fs sound y h apart = kept_map m id fs y (goes_on bound id fs sound y h apart)
 
 -- ---- dropping

@@ -8,7 +8,7 @@ use Rattle.jf_path.specs.Keys.{IsKey, IsBytes}
 use Rattle.jf_hash.specs.Maps.{Map, IsMap, Batch, apply, IsBatch}
 use Rattle.jf_hash.specs.Roots.{leaves_root, root, leaf_of}
 use Rattle.jf_hash.proofs.RootLaws.{root_below-IsKey, entries-empty}
-use Rattle.jf_model.specs.Versions.{IsVersions, new_store, imported, Versions, newest, landed, land_all, unlanded, pruned, map_of, root_of}
+use Rattle.jf_model.specs.Versions.{IsVersions, new_store, imported_versions, Versions, newest, versions_after_landing, land_all, versions_before_newest, versions_from_floor, map_of, root_of}
 use Rattle.jf_model.specs.Batches.{apply_all}
 use Rattle.jf_model.proofs.ChangeLaws.{IsMap-apply}
 
@@ -27,7 +27,7 @@ new_store-IsVersions = record { base_first = omega arith; floor_first = omega ar
 same_one : (n : ℕ) → 1 ≡ n - n + 1
 same_one n = omega arith
 
-pub imported-IsVersions : (version : ℕ) (m : Map) → IsMap m → IsVersions (imported version m)
+pub imported-IsVersions : (version : ℕ) (m : Map) → IsMap m → IsVersions (imported_versions version m)
 imported-IsVersions version m sound = record {
   base_first = omega arith;
   floor_first = omega arith;
@@ -47,7 +47,7 @@ pub newest-IsMap : (v : Versions) → IsVersions v → IsMap (newest v)
 newest-IsMap v sound = first-IsMap v.maps sound.sound
 
 -- ---- landings
-pub landed_map-IsVersions : (b : Batch) (v : Versions) → IsVersions v → IsMap (apply (newest v) b) → IsVersions (landed b v)
+pub landed_map-IsVersions : (b : Batch) (v : Versions) → IsVersions v → IsMap (apply (newest v) b) → IsVersions (versions_after_landing b v)
 landed_map-IsVersions b v sound made = record {
   base_first = sound.base_first;
   floor_first = let low = sound.floor_first in omega arith;
@@ -58,38 +58,38 @@ landed_map-IsVersions b v sound made = record {
   sound = (made, sound.sound);
 }
 
-pub landed-IsVersions : (b : Batch) (v : Versions) → IsVersions v → IsBatch b → IsVersions (landed b v)
+pub landed-IsVersions : (b : Batch) (v : Versions) → IsVersions v → IsBatch b → IsVersions (versions_after_landing b v)
 landed-IsVersions b v sound batch = landed_map-IsVersions b v sound (IsMap-apply (newest v) b (newest-IsMap v sound) batch)
 
 pub land_all-IsVersions : (bs : List Batch) (v : Versions) → IsVersions v → AllByRecursion IsBatch bs → IsVersions (land_all bs v)
 land_all-IsVersions [] v sound h = sound
-land_all-IsVersions (b ∷ bs) v sound h = land_all-IsVersions bs (landed b v) (landed-IsVersions b v sound h.0) h.1
+land_all-IsVersions (b ∷ bs) v sound h = land_all-IsVersions bs (versions_after_landing b v) (landed-IsVersions b v sound h.0) h.1
 
 pub land_all-head : (bs : List Batch) (v : Versions) → (land_all bs v).head ≡ v.head + length bs
 land_all-head [] v = omega arith
-land_all-head (b ∷ bs) v = let more = land_all-head bs (landed b v) in omega arith
+land_all-head (b ∷ bs) v = let more = land_all-head bs (versions_after_landing b v) in omega arith
 
 pub land_all-floor : (bs : List Batch) (v : Versions) → (land_all bs v).floor ≡ v.floor
 land_all-floor [] v = refl
-land_all-floor (b ∷ bs) v = land_all-floor bs (landed b v)
+land_all-floor (b ∷ bs) v = land_all-floor bs (versions_after_landing b v)
 
 pub land_all-base : (bs : List Batch) (v : Versions) → (land_all bs v).base ≡ v.base
 land_all-base [] v = refl
-land_all-base (b ∷ bs) v = land_all-base bs (landed b v)
+land_all-base (b ∷ bs) v = land_all-base bs (versions_after_landing b v)
 
 pub land_all-newest : (bs : List Batch) (v : Versions) → newest (land_all bs v) ≡ apply_all (newest v) bs
 land_all-newest [] v = refl
-land_all-newest (b ∷ bs) v = land_all-newest bs (landed b v)
+land_all-newest (b ∷ bs) v = land_all-newest bs (versions_after_landing b v)
 
 pub land_all-append : (bs cs : List Batch) (v : Versions) → land_all (bs ++ cs) v ≡ land_all cs (land_all bs v)
 land_all-append [] cs v = refl
-land_all-append (b ∷ bs) cs v = land_all-append bs cs (landed b v)
+land_all-append (b ∷ bs) cs v = land_all-append bs cs (versions_after_landing b v)
 
 -- ---- a landing taken back
 one_back : (n : ℕ) → n + 1 - 1 ≡ n
 one_back n = omega arith
 
-pub unlanded-landed : (b : Batch) (v : Versions) → unlanded (landed b v) ≡ v
+pub unlanded-landed : (b : Batch) (v : Versions) → versions_before_newest (versions_after_landing b v) ≡ v
 unlanded-landed b v = ap (λ n. record { base = v.base; floor = v.floor; head = n; roots = v.roots; maps = v.maps }) (one_back v.head)
 
 one_root_less : (rs : List (List ℕ)) (ms : List Map) → take (length ms) rs ≡ map root ms → take (length (drop 1 ms)) (drop 1 rs) ≡ map root (drop 1 ms)
@@ -105,7 +105,7 @@ length-less : {X : Type 0} (xs : List X) → length (drop 1 xs) ≡ length xs - 
 length-less [] = refl
 length-less (x ∷ xs) = omega arith
 
-pub unlanded-IsVersions : (v : Versions) → IsVersions v → v.floor < v.head → IsVersions (unlanded v)
+pub unlanded-IsVersions : (v : Versions) → IsVersions v → v.floor < v.head → IsVersions (versions_before_newest v)
 unlanded-IsVersions v sound above = record {
   base_first = sound.base_first;
   floor_first = omega arith;
@@ -135,7 +135,7 @@ length-front zero xs h = refl
 length-front (suc n) [] h = absurd (omega arith)
 length-front (suc n) (x ∷ xs) h = ap suc (length-front n xs (omega arith))
 
-pub pruned-IsVersions : (floor : ℕ) (v : Versions) → IsVersions v → v.floor ≤ floor → floor ≤ v.head → IsVersions (pruned floor v)
+pub pruned-IsVersions : (floor : ℕ) (v : Versions) → IsVersions v → v.floor ≤ floor → floor ≤ v.head → IsVersions (versions_from_floor floor v)
 pruned-IsVersions floor v sound low high = record {
   base_first = let first = sound.base_first in omega arith;
   floor_first = high;

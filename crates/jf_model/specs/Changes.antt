@@ -16,11 +16,11 @@ abbrev pub MapEntry : Type 0
 MapEntry = List ℕ × List ℕ
 
 -- entries after one change of a batch: a key gets a value, or goes
-abbrev pub changed : List ℕ → Option (List ℕ) → List MapEntry → List MapEntry
-changed k (Some v) es = put key_cmp k v es
-changed k None es = where_key key_cmp (λ x. not (same_key k x)) es
+abbrev pub entries_after_change : List ℕ → Option (List ℕ) → List MapEntry → List MapEntry
+entries_after_change k (Some v) es = put key_cmp k v es
+entries_after_change k None es = where_key key_cmp (λ x. not (same_key k x)) es
 
 -- entries after all changes of a batch, in turn
-unfoldable pub applied : List MapEntry → Batch → List MapEntry
-applied es [] = es
-applied es (e ∷ b) = applied (changed e.0 e.1 es) b
+unfoldable pub entries_after_batch : List MapEntry → Batch → List MapEntry
+entries_after_batch es [] = es
+entries_after_batch es (e ∷ b) = entries_after_batch (entries_after_change e.0 e.1 es) b

@@ -5,7 +5,7 @@ use Rattle.jf_path.specs.Limits.{max_forks}
 use Rattle.jf_hash.specs.Maps.{Batch, apply, IsBatch}
 use Rattle.jf_hash.specs.Roots.{root}
 use Rattle.jf_split.specs.Limits.{max_keys}
-use Rattle.jf_model.specs.Forks.{chain, batches, Fork, settled, without, is_among, is_parent, parent_map}
+use Rattle.jf_model.specs.Forks.{chain, batches, Fork, forks_after_landing, without, is_among, is_parent, parent_map}
 use Rattle.jf_model.specs.States.{State}
 use Rattle.jf_model.specs.declared.entries.Landing.{Landing}
 use Rattle.jf_model.specs.Versions.{Versions, land_all, newest}
@@ -23,7 +23,7 @@ landed_batches s (landing.Fork id) = batches (chain s.forks id)
 -- the forks that stay after a landing
 abbrev pub forks_left : State → Landing → List Fork
 forks_left s (landing.Direct batch) = []
-forks_left s (landing.Fork id) = settled id s.forks
+forks_left s (landing.Fork id) = forks_after_landing id s.forks
 
 -- the versions after a landing
 abbrev pub versions_after : State → Landing → Versions

@@ -2,7 +2,7 @@
 use Rattle.std.specs.Prelude.{ℕ, List, [], ◌≤◌}
 use Rattle.std.specs.List.{AllByRecursion}
 use Rattle.jf_hash.specs.Maps.{IsBatch}
-use Rattle.jf_model.specs.Versions.{Versions, pruned, IsVersions}
+use Rattle.jf_model.specs.Versions.{Versions, versions_from_floor, IsVersions}
 use Rattle.jf_model.specs.Forks.{Fork, AreForks}
 
 -- All versions from the floor at opening on, which are never dropped; the present floor; and what the files don't hold:
@@ -18,11 +18,11 @@ pub record State : Type 0 where
 
 -- the versions from the present floor on
 abbrev pub versions : State → Versions
-versions s = pruned s.floor s.all
+versions s = versions_from_floor s.floor s.all
 
 -- the state of a store that was opened, with the generation that it has
-abbrev pub opened : Versions → ℕ → State
-opened v g = record { all = v; floor = v.floor; retired = v.floor; generation = g; count = 0; made = 0; forks = [] }
+abbrev pub state_when_opened : Versions → ℕ → State
+state_when_opened v g = record { all = v; floor = v.floor; retired = v.floor; generation = g; count = 0; made = 0; forks = [] }
 
 -- a sound state: its versions and forks are sound, and floor, retired bound and head stand in this order
 pub record IsState (s : State) : Type 0 where

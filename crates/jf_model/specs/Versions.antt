@@ -41,24 +41,24 @@ abbrev pub root_of : Versions → ℕ → List ℕ
 root_of v w = slice_index_or v.roots (v.head - w) []
 
 -- one more version: the head's map after a batch
-abbrev pub landed : Batch → Versions → Versions
-landed b v =
+abbrev pub versions_after_landing : Batch → Versions → Versions
+versions_after_landing b v =
     let m = apply (newest v) b in
     record { base = v.base; floor = v.floor; head = v.head + 1; roots = root m ∷ v.roots; maps = m ∷ v.maps }
 
 -- the versions without the newest one
-abbrev pub unlanded : Versions → Versions
-unlanded v = record { base = v.base; floor = v.floor; head = v.head - 1; roots = drop 1 v.roots; maps = drop 1 v.maps }
+abbrev pub versions_before_newest : Versions → Versions
+versions_before_newest v = record { base = v.base; floor = v.floor; head = v.head - 1; roots = drop 1 v.roots; maps = drop 1 v.maps }
 
 -- one more version for each batch, in turn
 abbrev pub land_all : List Batch → Versions → Versions
 land_all [] v = v
-land_all (b ∷ bs) v = land_all bs (landed b v)
+land_all (b ∷ bs) v = land_all bs (versions_after_landing b v)
 
 -- the versions from a later floor on
-abbrev pub pruned : ℕ → Versions → Versions
-pruned floor v = record { base = v.base; floor = floor; head = v.head; roots = v.roots; maps = take (v.head - floor + 1) v.maps }
+abbrev pub versions_from_floor : ℕ → Versions → Versions
+versions_from_floor floor v = record { base = v.base; floor = floor; head = v.head; roots = v.roots; maps = take (v.head - floor + 1) v.maps }
 
 -- a single version, with one map
-abbrev pub imported : ℕ → Map → Versions
-imported version m = record { base = version; floor = version; head = version; roots = root m ∷ []; maps = m ∷ [] }
+abbrev pub imported_versions : ℕ → Map → Versions
+imported_versions version m = record { base = version; floor = version; head = version; roots = root m ∷ []; maps = m ∷ [] }

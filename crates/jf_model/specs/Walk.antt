@@ -14,11 +14,11 @@ each_from zero n g = []
 each_from (suc count) n g = g n ++ each_from count (n + 1) g
 
 -- f of the path of each node of the new part that the old one doesn't have, if so many levels follow: nothing if the two parts are the same
-unfoldable pub listed : {X : Type 0} → ℕ → ℕ → Part → Part → (Path → X) → List X
-listed zero depth old new f = cond (differs old new) (f [] ∷ []) []
-listed (suc levels) depth old new f =
-    cond (differs old new) (f [] ∷ each_from 16 0 (λ n. listed levels (depth + 1) (child_entries depth n old) (child_entries depth n new) (λ path. f (n ∷ path)))) []
+unfoldable pub list_of_new_nodes : {X : Type 0} → ℕ → ℕ → Part → Part → (Path → X) → List X
+list_of_new_nodes zero depth old new f = cond (differs old new) (f [] ∷ []) []
+list_of_new_nodes (suc levels) depth old new f =
+    cond (differs old new) (f [] ∷ each_from 16 0 (λ n. list_of_new_nodes levels (depth + 1) (child_entries depth n old) (child_entries depth n new) (λ path. f (n ∷ path)))) []
 
 -- f of the top in any case, and then of the nodes below it that are new
 unfoldable pub with_root : {X : Type 0} → Part → Part → (Path → X) → List X
-with_root old new f = f [] ∷ each_from 16 0 (λ n. listed 63 1 (child_entries 0 n old) (child_entries 0 n new) (λ path. f (n ∷ path)))
+with_root old new f = f [] ∷ each_from 16 0 (λ n. list_of_new_nodes 63 1 (child_entries 0 n old) (child_entries 0 n new) (λ path. f (n ∷ path)))

@@ -4,7 +4,7 @@ use Rattle.std.specs.List.{AllByRecursion}
 use Rattle.std.proofs.Common.{arith, refl, sym, ap, ap₂, ◌∙◌, get_or}
 use Rattle.std.proofs.lemmas.List.{drop-map}
 use Rattle.std.proofs.lemmas.Bool.Decides.{nat_tests}
-use Rattle.jf_path.specs.Bitmaps.{spread}
+use Rattle.jf_path.specs.Bitmaps.{spread_items}
 use Rattle.jf_path.proofs.BitmapLaws.{count_by-clear, count_by-set}
 use Rattle.jf_hash.specs.Hashes.{E}
 use Rattle.jf_hash.specs.Roots.{part_root}
@@ -33,25 +33,25 @@ first_link d (e ∷ []) slots some = refl
 first_link d (e ∷ f ∷ es) slots some = refl
 
 -- ---- the bits say what stands at each place
-slots-there : (bits : List Bool) (xs : List LinkValue) → count bits ≡ length xs → AllByRecursion IsLink xs → bits ≡ map is_occupied (map child_slot (spread bits xs))
-unfolding spread
+slots-there : (bits : List Bool) (xs : List LinkValue) → count bits ≡ length xs → AllByRecursion IsLink xs → bits ≡ map is_occupied (map child_slot (spread_items bits xs))
+unfolding spread_items
 slots-there [] xs many all = refl
 slots-there (false ∷ bits) xs many all = ap (λ r. false ∷ r) (slots-there bits xs (sym (count_by-clear bits) ∙ many) all)
 slots-there (true ∷ bits) [] many all = absurd (omega (arith, many, count_by-set bits))
 slots-there (true ∷ bits) (x ∷ xs) many all =
     ap₂ (λ b r. b ∷ r) (occupied_link (4 * x.depth) x.entries all.0.entries.some) (slots-there bits xs (omega (arith, many, count_by-set bits)) all.1)
 
-slots-leaves : (bits : List Bool) (xs : List LinkValue) → AllByRecursion IsLink xs → map is_leaf_child (spread bits xs) ≡ map holds_leaf (map child_slot (spread bits xs))
-unfolding spread
+slots-leaves : (bits : List Bool) (xs : List LinkValue) → AllByRecursion IsLink xs → map is_leaf_child (spread_items bits xs) ≡ map holds_leaf (map child_slot (spread_items bits xs))
+unfolding spread_items
 slots-leaves [] xs all = refl
 slots-leaves (false ∷ bits) xs all = ap (λ r. false ∷ r) (slots-leaves bits xs all)
 slots-leaves (true ∷ bits) [] all = ap (λ r. false ∷ r) (slots-leaves bits [] all)
 slots-leaves (true ∷ bits) (x ∷ xs) all = ap₂ (λ b r. b ∷ r) (leaf_link (4 * x.depth) x.entries all.0.entries.some) (slots-leaves bits xs all.1)
 
-pub children_there : (there leaves : List Bool) (links : List LinkValue) → AreBranches there leaves links → there ≡ map is_occupied (map child_slot (spread there links))
+pub children_there : (there leaves : List Bool) (links : List LinkValue) → AreBranches there leaves links → there ≡ map is_occupied (map child_slot (spread_items there links))
 children_there there leaves links h = slots-there there links h.many h.each
 
-pub leaves_there : (there leaves : List Bool) (links : List LinkValue) → AreBranches there leaves links → leaves ≡ map holds_leaf (map child_slot (spread there links))
+pub leaves_there : (there leaves : List Bool) (links : List LinkValue) → AreBranches there leaves links → leaves ≡ map holds_leaf (map child_slot (spread_items there links))
 leaves_there there leaves links h = h.lone ∙ slots-leaves there links h.each
 
 -- ---- the first child
@@ -60,25 +60,25 @@ first_of : List LinkValue → List ℕ
 first_of [] = E
 first_of (x ∷ xs) = part_root (4 * x.depth) x.entries
 
-first-spread : (bits : List Bool) (xs : List LinkValue) → count bits ≡ length xs → AllByRecursion IsLink xs → first_of xs ≡ first_child_hash (map child_slot (spread bits xs))
-unfolding spread first_of
+first-spread : (bits : List Bool) (xs : List LinkValue) → count bits ≡ length xs → AllByRecursion IsLink xs → first_of xs ≡ first_child_hash (map child_slot (spread_items bits xs))
+unfolding spread_items first_of
 first-spread [] [] many all = refl
 first-spread [] (x ∷ xs) many all = absurd (omega (arith, many))
 first-spread (false ∷ bits) xs many all = first-spread bits xs (sym (count_by-clear bits) ∙ many) all
 first-spread (true ∷ bits) [] many all = absurd (omega (arith, many, count_by-set bits))
-first-spread (true ∷ bits) (x ∷ xs) many all = first_link (4 * x.depth) x.entries (map child_slot (spread bits xs)) all.0.entries.some
+first-spread (true ∷ bits) (x ∷ xs) many all = first_link (4 * x.depth) x.entries (map child_slot (spread_items bits xs)) all.0.entries.some
 
 all-drop : (n : ℕ) (xs : List LinkValue) → AllByRecursion IsLink xs → AllByRecursion IsLink (drop n xs)
 all-drop zero xs all = all
 all-drop (suc n) [] all = tt
 all-drop (suc n) (x ∷ xs) all = all-drop n xs all.1
 
-first_from : (there leaves : List Bool) (links : List LinkValue) (start : ℕ) → AreBranches there leaves links → first_of (drop (count (take start there)) links) ≡ first_child_hash (drop start (map child_slot (spread there links)))
+first_from : (there leaves : List Bool) (links : List LinkValue) (start : ℕ) → AreBranches there leaves links → first_of (drop (count (take start there)) links) ≡ first_child_hash (drop start (map child_slot (spread_items there links)))
 first_from there leaves links start h =
     let before = count (take start there) in
     first-spread (drop start there) (drop before links) (omega (arith, count-parts there start, h.many, length-dropped before links (omega (arith, count-parts there start, h.many)))) (all-drop before links h.each)
     ∙ ap (λ xs. first_child_hash (map child_slot xs)) (sym (spread-drop there links start))
-    ∙ ap first_child_hash (sym (drop-map child_slot start (spread there links)))
+    ∙ ap first_child_hash (sym (drop-map child_slot start (spread_items there links)))
 
 none_from : (n : ℕ) (links : List LinkValue) → length links ≤ n → E ≡ first_of (drop n links)
 unfolding first_of
@@ -95,10 +95,10 @@ some_from zero (y ∷ links) x d small is = ap (λ (y : LinkValue). part_root (4
 some_from (suc n) (y ∷ links) x d small is = some_from n links x d (omega (arith, small)) is
 
 -- no child from a place on
-pub first-none : (there leaves : List Bool) (links : List LinkValue) (start n : ℕ) → AreBranches there leaves links → n ≡ count (take start there) → length links ≤ n → E ≡ first_child_hash (drop start (map child_slot (spread there links)))
+pub first-none : (there leaves : List Bool) (links : List LinkValue) (start n : ℕ) → AreBranches there leaves links → n ≡ count (take start there) → length links ≤ n → E ≡ first_child_hash (drop start (map child_slot (spread_items there links)))
 first-none there leaves links start n h is past = none_from n links past ∙ ap (λ k. first_of (drop k links)) is ∙ first_from there leaves links start h
 
 -- the first child from a place on
 pub first-some : (there leaves : List Bool) (links : List LinkValue) (start n : ℕ) (x d : LinkValue) → AreBranches there leaves links → n ≡ count (take start there) → n < length links → x ≡ get_or links n d
-    → part_root (4 * x.depth) x.entries ≡ first_child_hash (drop start (map child_slot (spread there links)))
+    → part_root (4 * x.depth) x.entries ≡ first_child_hash (drop start (map child_slot (spread_items there links)))
 first-some there leaves links start n x d h is small at = some_from n links x d small at ∙ ap (λ k. first_of (drop k links)) is ∙ first_from there leaves links start h

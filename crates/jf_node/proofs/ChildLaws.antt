@@ -15,7 +15,7 @@ use Rattle.jf_hash.specs.Slots.{Part, with_nibble}
 use Rattle.jf_hash.proofs.KeyOrder.{same_key-exact}
 use Rattle.jf_hash.proofs.Finds.{find-right, find-left}
 use Rattle.jf_node.specs.LinkValue.{LinkValue}
-use Rattle.jf_node.specs.Children.{FitsAt, FitFrom, HaveNibble, content, joined, AreChildren}
+use Rattle.jf_node.specs.Children.{FitsAt, FitFrom, HaveNibble, content, entries_of_children, AreChildren}
 
 -- ---- children at their places
 -- the child at a place fits there
@@ -68,37 +68,37 @@ with_nibble-other depth n k (Some x) h other = with_nibble-none depth n k x.entr
 pub with_nibble-append : (depth n : ℕ) (es fs : Part) → with_nibble depth n (es ++ fs) ≡ with_nibble depth n es ++ with_nibble depth n fs
 with_nibble-append depth n es fs = filter-append (λ e. nibble e.0 depth == n) es fs
 
-with_nibble-before : (depth n k : ℕ) (links : List (Option LinkValue)) → FitFrom depth k links → n < k → with_nibble depth n (joined links) ≡ []
+with_nibble-before : (depth n k : ℕ) (links : List (Option LinkValue)) → FitFrom depth k links → n < k → with_nibble depth n (entries_of_children links) ≡ []
 with_nibble-before depth n k [] h below = refl
 with_nibble-before depth n k (x ∷ more) h below =
-    with_nibble-append depth n (content x) (joined more)
+    with_nibble-append depth n (content x) (entries_of_children more)
     ∙ ap₂ (λ a b. a ++ b) (with_nibble-other depth n k x h.0 (λ e. omega arith)) (with_nibble-before depth n (k + 1) more h.1 (omega arith))
 
 -- no entry has a nibble past the last place
-with_nibble-past : (depth n k : ℕ) (links : List (Option LinkValue)) → FitFrom depth k links → k + length links ≤ n → with_nibble depth n (joined links) ≡ []
+with_nibble-past : (depth n k : ℕ) (links : List (Option LinkValue)) → FitFrom depth k links → k + length links ≤ n → with_nibble depth n (entries_of_children links) ≡ []
 with_nibble-past depth n k [] h past = refl
 with_nibble-past depth n k (x ∷ more) h past =
-    with_nibble-append depth n (content x) (joined more)
+    with_nibble-append depth n (content x) (entries_of_children more)
     ∙ ap₂ (λ a b. a ++ b) (with_nibble-other depth n k x h.0 (λ e. omega arith)) (with_nibble-past depth n (k + 1) more h.1 (omega arith))
 
 -- the entries of all children with a nibble are those of the child there
-pub with_nibble-joined : (depth n at k : ℕ) (links : List (Option LinkValue)) (d : Option LinkValue) → FitFrom depth n links → at < length links → k ≡ n + at → with_nibble depth k (joined links) ≡ content (get_or links at d)
+pub with_nibble-joined : (depth n at k : ℕ) (links : List (Option LinkValue)) (d : Option LinkValue) → FitFrom depth n links → at < length links → k ≡ n + at → with_nibble depth k (entries_of_children links) ≡ content (get_or links at d)
 with_nibble-joined depth n at k [] d h short is = absurd (omega arith)
 with_nibble-joined depth n zero k (x ∷ more) d h short is =
     let same : k ≡ n = omega arith in
-    subst (λ m. with_nibble depth m (content x ++ joined more) ≡ content x) (sym same)
-    (with_nibble-append depth n (content x) (joined more)
+    subst (λ m. with_nibble depth m (content x ++ entries_of_children more) ≡ content x) (sym same)
+    (with_nibble-append depth n (content x) (entries_of_children more)
     ∙ (ap₂ (λ a b. a ++ b) (with_nibble-content depth n x h.0) (with_nibble-before depth n (n + 1) more h.1 (omega arith)) ∙ append-nil (content x)))
 with_nibble-joined depth n (suc at) k (x ∷ more) d h short is =
-    with_nibble-append depth k (content x) (joined more)
-    ∙ (ap (λ r. r ++ with_nibble depth k (joined more)) (with_nibble-other depth k n x h.0 (λ e. omega arith))
+    with_nibble-append depth k (content x) (entries_of_children more)
+    ∙ (ap (λ r. r ++ with_nibble depth k (entries_of_children more)) (with_nibble-other depth k n x h.0 (λ e. omega arith))
     ∙ with_nibble-joined depth (n + 1) at k more d h.1 (omega arith) (omega arith))
 
 pub below-or-past : (n : ℕ) → (n < 16) ⊎ (16 ≤ n)
 below-or-past n = grind arith
 
 -- for each nibble, the entries with it are those of the child there, if there is one
-pub with_nibble-child : (depth n : ℕ) (links : List (Option LinkValue)) → AreChildren depth links → with_nibble depth n (joined links) ≡ content (get_or links n None)
+pub with_nibble-child : (depth n : ℕ) (links : List (Option LinkValue)) → AreChildren depth links → with_nibble depth n (entries_of_children links) ≡ content (get_or links n None)
 with_nibble-child depth n links children = elim (below-or-past n) [
   | inl small ↦ with_nibble-joined depth 0 n n links None children.fit (omega (arith, children.long)) (omega arith)
   | inr past ↦ with_nibble-past depth n 0 links children.fit (omega (arith, children.long)) ∙ ap content (sym (get_or_past links n None (omega (arith, children.long))))
@@ -117,20 +117,20 @@ content-other : (depth n : ℕ) (key : List ℕ) (x : Option LinkValue) → Fits
 content-other depth n key None h other = refl
 content-other depth n key (Some x) h other = find-other depth n key x.entries h.1 other
 
-joined-other : (depth n : ℕ) (key : List ℕ) (links : List (Option LinkValue)) → FitFrom depth n links → nibble key depth < n → find key_cmp key (joined links) ≡ None
+joined-other : (depth n : ℕ) (key : List ℕ) (links : List (Option LinkValue)) → FitFrom depth n links → nibble key depth < n → find key_cmp key (entries_of_children links) ≡ None
 joined-other depth n key [] h below = refl
 joined-other depth n key (x ∷ more) h below =
-    find-right key (content x) (joined more) (content-other depth n key x h.0 (λ e. omega arith)) ∙ joined-other depth (n + 1) key more h.1 (omega arith)
+    find-right key (content x) (entries_of_children more) (content-other depth n key x h.0 (λ e. omega arith)) ∙ joined-other depth (n + 1) key more h.1 (omega arith)
 
 -- a key is found in the child at its nibble
-pub find-joined : (depth n at : ℕ) (key : List ℕ) (links : List (Option LinkValue)) (d : Option LinkValue) → FitFrom depth n links → at < length links → nibble key depth ≡ n + at → find key_cmp key (joined links) ≡ find key_cmp key (content (get_or links at d))
+pub find-joined : (depth n at : ℕ) (key : List ℕ) (links : List (Option LinkValue)) (d : Option LinkValue) → FitFrom depth n links → at < length links → nibble key depth ≡ n + at → find key_cmp key (entries_of_children links) ≡ find key_cmp key (content (get_or links at d))
 find-joined depth n at key [] d h short is = absurd (omega arith)
-find-joined depth n zero key (x ∷ more) d h short is = find-left key (content x) (joined more) (joined-other depth (n + 1) key more h.1 (omega arith))
+find-joined depth n zero key (x ∷ more) d h short is = find-left key (content x) (entries_of_children more) (joined-other depth (n + 1) key more h.1 (omega arith))
 find-joined depth n (suc at) key (x ∷ more) d h short is =
-    find-right key (content x) (joined more) (content-other depth n key x h.0 (λ e. omega arith)) ∙ find-joined depth (n + 1) at key more d h.1 (omega arith) (omega arith)
+    find-right key (content x) (entries_of_children more) (content-other depth n key x h.0 (λ e. omega arith)) ∙ find-joined depth (n + 1) at key more d h.1 (omega arith) (omega arith)
 
 -- a key's value is that of the child at the key's nibble
-pub find-child : (depth : ℕ) (links : List (Option LinkValue)) (key : List ℕ) → AreChildren depth links → find key_cmp key (joined links) ≡ find key_cmp key (content (get_or links (nibble key depth) None))
+pub find-child : (depth : ℕ) (links : List (Option LinkValue)) (key : List ℕ) → AreChildren depth links → find key_cmp key (entries_of_children links) ≡ find key_cmp key (content (get_or links (nibble key depth) None))
 find-child depth links key children = find-joined depth 0 (nibble key depth) key links None children.fit (omega (arith, nibble-small key depth, children.long)) (omega arith)
 
 -- a child is one nibble deeper
@@ -138,18 +138,18 @@ pub child_depth : (depth n : ℕ) (links : List (Option LinkValue)) (x : LinkVal
 child_depth depth n links x children small is = (subst (FitsAt depth (0 + n)) is (FitFrom-at depth 0 n links children.fit (omega (arith, children.long)))).0
 
 -- ---- counts
-pub joined-append : (xs ys : List (Option LinkValue)) → joined (xs ++ ys) ≡ joined xs ++ joined ys
+pub joined-append : (xs ys : List (Option LinkValue)) → entries_of_children (xs ++ ys) ≡ entries_of_children xs ++ entries_of_children ys
 joined-append [] ys = refl
-joined-append (x ∷ xs) ys = ap (λ r. content x ++ r) (joined-append xs ys) ∙ sym (append_assoc (content x) (joined xs) (joined ys))
+joined-append (x ∷ xs) ys = ap (λ r. content x ++ r) (joined-append xs ys) ∙ sym (append_assoc (content x) (entries_of_children xs) (entries_of_children ys))
 
 -- one more child adds its number of entries
-pub length-joined-more : (links : List (Option LinkValue)) (i : ℕ) (d : Option LinkValue) → i < length links → length (joined (take (i + 1) links)) ≡ length (joined (take i links)) + length (content (get_or links i d))
+pub length-joined-more : (links : List (Option LinkValue)) (i : ℕ) (d : Option LinkValue) → i < length links → length (entries_of_children (take (i + 1) links)) ≡ length (entries_of_children (take i links)) + length (content (get_or links i d))
 length-joined-more links i d h =
-    let front : joined (take (i + 1) links) ≡ joined (take i links) ++ joined (get_or links i d ∷ []) =
-    ap (λ k. joined (take k links)) (add-one i) ∙ (ap joined (take-suc links i d h) ∙ joined-append (take i links) (get_or links i d ∷ [])) in
-    omega (arith, ap length front, length-append (joined (take i links)) (joined (get_or links i d ∷ [])), length-append (content (get_or links i d)) [])
+    let front : entries_of_children (take (i + 1) links) ≡ entries_of_children (take i links) ++ entries_of_children (get_or links i d ∷ []) =
+    ap (λ k. entries_of_children (take k links)) (add-one i) ∙ (ap entries_of_children (take-suc links i d h) ∙ joined-append (take i links) (get_or links i d ∷ [])) in
+    omega (arith, ap length front, length-append (entries_of_children (take i links)) (entries_of_children (get_or links i d ∷ [])), length-append (content (get_or links i d)) [])
 
 -- the first children have no more entries than all of them
-pub length-joined-take : (links : List (Option LinkValue)) (i : ℕ) → length (joined (take i links)) ≤ length (joined links)
+pub length-joined-take : (links : List (Option LinkValue)) (i : ℕ) → length (entries_of_children (take i links)) ≤ length (entries_of_children links)
 length-joined-take links i =
-    omega (arith, ap (λ xs. length (joined xs)) (take-append-drop i links), ap length (joined-append (take i links) (drop i links)), length-append (joined (take i links)) (joined (drop i links)))
+    omega (arith, ap (λ xs. length (entries_of_children xs)) (take-append-drop i links), ap length (joined-append (take i links) (drop i links)), length-append (entries_of_children (take i links)) (entries_of_children (drop i links)))

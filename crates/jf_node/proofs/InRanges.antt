@@ -8,7 +8,7 @@ use Rattle.std.proofs.lemmas.List.Elements.{filter-append}
 use Rattle.jf_path.specs.Nibbles.{nibble}
 use Rattle.jf_hash.specs.Ranges.{lies_in, in_range}
 use Rattle.jf_hash.specs.Slots.{Part}
-use Rattle.jf_node.specs.Children.{HaveNibble, content, FitsAt, joined, FitFrom}
+use Rattle.jf_node.specs.Children.{HaveNibble, content, FitsAt, entries_of_children, FitFrom}
 use Rattle.jf_node.specs.LinkValue.{LinkValue}
 use Rattle.jf_node.proofs.ChildLaws.{joined-append}
 
@@ -34,28 +34,28 @@ child_in depth start width n true None fit is = refl
 child_in depth start width n false None fit is = refl
 child_in depth start width n b (Some x) fit is = all_or_none depth start width n x.entries fit.1 ∙ ap (λ c. cond c x.entries []) is
 
-more_in : (depth start width : ℕ) (x : Option LinkValue) (more : List (Option LinkValue)) → in_range depth start width (joined (x ∷ more)) ≡ in_range depth start width (content x) ++ in_range depth start width (joined more)
-more_in depth start width x more = filter-append (λ e. lies_in start width (nibble e.0 depth)) (content x) (joined more)
+more_in : (depth start width : ℕ) (x : Option LinkValue) (more : List (Option LinkValue)) → in_range depth start width (entries_of_children (x ∷ more)) ≡ in_range depth start width (content x) ++ in_range depth start width (entries_of_children more)
+more_in depth start width x more = filter-append (λ e. lies_in start width (nibble e.0 depth)) (content x) (entries_of_children more)
 
 -- ---- all children
-none_after : (depth start width n : ℕ) (links : List (Option LinkValue)) → FitFrom depth n links → start + width ≤ n → in_range depth start width (joined links) ≡ []
+none_after : (depth start width n : ℕ) (links : List (Option LinkValue)) → FitFrom depth n links → start + width ≤ n → in_range depth start width (entries_of_children links) ≡ []
 none_after depth start width n [] fit behind = refl
 none_after depth start width n (x ∷ more) fit behind =
     more_in depth start width x more
     ∙ ap₂ (λ a b. a ++ b) (child_in depth start width n false x fit.0 (lies_after start width n behind)) (none_after depth start width (n + 1) more fit.1 (omega arith))
 
-from_here : (depth start width n k : ℕ) (links : List (Option LinkValue)) → FitFrom depth n links → start ≤ n → n + k ≡ start + width → in_range depth start width (joined links) ≡ joined (take k links)
+from_here : (depth start width n k : ℕ) (links : List (Option LinkValue)) → FitFrom depth n links → start ≤ n → n + k ≡ start + width → in_range depth start width (entries_of_children links) ≡ entries_of_children (take k links)
 from_here depth start width n zero links fit from end = none_after depth start width n links fit (omega arith)
 from_here depth start width n (suc k) [] fit from end = refl
 from_here depth start width n (suc k) (x ∷ more) fit from end =
     more_in depth start width x more
     ∙ ap₂ (λ a b. a ++ b) (child_in depth start width n true x fit.0 (lies start width n from (omega arith))) (from_here depth start width (n + 1) k more fit.1 (omega arith) (omega arith))
 
-none_taken : (width : ℕ) → joined (take width []) ≡ []
+none_taken : (width : ℕ) → entries_of_children (take width []) ≡ []
 none_taken zero = refl
 none_taken (suc width) = refl
 
-further_on : (depth start width n k : ℕ) (links : List (Option LinkValue)) → FitFrom depth n links → start ≡ n + k → in_range depth start width (joined links) ≡ joined (take width (drop k links))
+further_on : (depth start width n k : ℕ) (links : List (Option LinkValue)) → FitFrom depth n links → start ≡ n + k → in_range depth start width (entries_of_children links) ≡ entries_of_children (take width (drop k links))
 further_on depth start width n zero links fit is = from_here depth start width n width links fit (omega arith) (omega arith)
 further_on depth start width n (suc k) [] fit is = sym (none_taken width)
 further_on depth start width n (suc k) (x ∷ more) fit is =
@@ -63,20 +63,20 @@ further_on depth start width n (suc k) (x ∷ more) fit is =
     ∙ ap₂ (λ a b. a ++ b) (child_in depth start width n false x fit.0 (lies_before start width n (omega arith))) (further_on depth start width (n + 1) k more fit.1 (omega arith))
 
 -- the entries in a range are those of the children there
-pub in_range-joined : (depth start width : ℕ) (links : List (Option LinkValue)) → FitFrom depth 0 links → in_range depth start width (joined links) ≡ joined (take width (drop start links))
+pub in_range-joined : (depth start width : ℕ) (links : List (Option LinkValue)) → FitFrom depth 0 links → in_range depth start width (entries_of_children links) ≡ entries_of_children (take width (drop start links))
 in_range-joined depth start width links fit = further_on depth start width 0 start links fit (omega arith)
 
 -- the entries in a range of one place are those of the child there
-pub one_place : (depth n : ℕ) (links : List (Option LinkValue)) → FitFrom depth 0 links → n < length links → in_range depth n 1 (joined links) ≡ content (get_or links n None)
+pub one_place : (depth n : ℕ) (links : List (Option LinkValue)) → FitFrom depth 0 links → n < length links → in_range depth n 1 (entries_of_children links) ≡ content (get_or links n None)
 one_place depth n links fit small =
-    in_range-joined depth n 1 links fit ∙ ap (λ xs. joined (take 1 xs)) (drop_more links n None small) ∙ append-nil (content (get_or links n None))
+    in_range-joined depth n 1 links fit ∙ ap (λ xs. entries_of_children (take 1 xs)) (drop_more links n None small) ∙ append-nil (content (get_or links n None))
 
 -- ---- the children from a place on, one by one
 -- one more child
 pub joined-more : (links : List (Option LinkValue)) (start i : ℕ) (child : Option LinkValue) → start + i < length links → child ≡ get_or links (start + i) None
-    → joined (take (i + 1) (drop start links)) ≡ joined (take i (drop start links)) ++ content child
+    → entries_of_children (take (i + 1) (drop start links)) ≡ entries_of_children (take i (drop start links)) ++ content child
 joined-more links start i child small is =
     let front = take i (drop start links) in
-    ap (λ k. joined (take k (drop start links))) (add-one i) ∙ ap joined (take-suc (drop start links) i None (omega (arith, length-drop start links)))
-    ∙ joined-append front (get_or (drop start links) i None ∷ []) ∙ ap (λ r. joined front ++ r) (append-nil (content (get_or (drop start links) i None)))
-    ∙ ap (λ x. joined front ++ content x) (get_or-drop start links i None ∙ sym is)
+    ap (λ k. entries_of_children (take k (drop start links))) (add-one i) ∙ ap entries_of_children (take-suc (drop start links) i None (omega (arith, length-drop start links)))
+    ∙ joined-append front (get_or (drop start links) i None ∷ []) ∙ ap (λ r. entries_of_children front ++ r) (append-nil (content (get_or (drop start links) i None)))
+    ∙ ap (λ x. entries_of_children front ++ content x) (get_or-drop start links i None ∙ sym is)

@@ -6,7 +6,7 @@ use Rattle.jf_hash.specs.Slots.{Part, Occupants, Empty, Lone, Many, occupants, r
 use Rattle.jf_hash.specs.Ranges.{is_many, kept_hash, in_range}
 use Rattle.jf_hash.specs.declared.slot.Slot.{Slot}
 use Rattle.jf_hash.specs.declared.slot.Slot.TheVariants.{Absent}
-use Rattle.jf_node.specs.Children.{joined, child_slot, AreChildren}
+use Rattle.jf_node.specs.Children.{entries_of_children, child_slot, AreChildren}
 use Rattle.jf_node.specs.LinkValue.{LinkValue}
 use Rattle.jf_node.specs.Shown.{ShowsInner}
 use Rattle.jf_node.proofs.InRanges.{in_range-joined}
@@ -33,16 +33,16 @@ place_more d [] fs rest h k two = k two
 place_more d (e ∷ []) fs rest h k two = leaf_more _ (occupants rest) (h (omega (arith, two)))
 place_more d (e ∷ f ∷ es) fs rest h k two = refl
 
-there : (links : List (Option LinkValue)) → 1 ≤ length (joined links) → ¬ (occupants (map child_slot links) ≡ Empty)
+there : (links : List (Option LinkValue)) → 1 ≤ length (entries_of_children links) → ¬ (occupants (map child_slot links) ≡ Empty)
 there [] some = absurd (omega (arith, some))
 there (None ∷ links) some = there links some
-there (Some x ∷ links) some = place_there (4 * x.depth) x.entries (joined links) (map child_slot links) (there links) some
+there (Some x ∷ links) some = place_there (4 * x.depth) x.entries (entries_of_children links) (map child_slot links) (there links) some
 
 -- children with two entries or more are more than one leaf
-more : (links : List (Option LinkValue)) → 2 ≤ length (joined links) → is_many (occupants (map child_slot links)) ≡ true
+more : (links : List (Option LinkValue)) → 2 ≤ length (entries_of_children links) → is_many (occupants (map child_slot links)) ≡ true
 more [] two = absurd (omega (arith, two))
 more (None ∷ links) two = more links two
-more (Some x ∷ links) two = place_more (4 * x.depth) x.entries (joined links) (map child_slot links) (there links) (more links) two
+more (Some x ∷ links) two = place_more (4 * x.depth) x.entries (entries_of_children links) (map child_slot links) (there links) (more links) two
 
 -- ---- the places of a node
 slot_at : (links : List (Option LinkValue)) (k : ℕ) → get_or (map child_slot links) k Absent ≡ child_slot (get_or links k None)
@@ -50,14 +50,14 @@ slot_at [] k = refl
 slot_at (x ∷ links) zero = refl
 slot_at (x ∷ links) (suc k) = slot_at links k
 
-places_are : (depth : ℕ) (links : List (Option LinkValue)) → AreChildren depth links → map child_slot links ≡ slots_of depth (joined links)
+places_are : (depth : ℕ) (links : List (Option LinkValue)) → AreChildren depth links → map child_slot links ≡ slots_of depth (entries_of_children links)
 places_are depth links children = slots_joined depth links (map child_slot links) children (length-map links child_slot ∙ children.long) (λ k small. slot_at links k)
 
 -- a range of a node with two entries or more has a hash that is kept
 pub kept_there : (x : LinkValue) (links : List (Option LinkValue)) (start width level : ℕ) → ShowsInner x links → 2 ≤ length (in_range x.depth start width x.entries) → ¬ (None ≡ kept_hash level (take width (drop start (slots_of x.depth x.entries))))
 kept_there x links start width level shows two is =
     let places = take width (drop start links) in
-    let same : in_range x.depth start width x.entries ≡ joined places = ap (in_range x.depth start width) shows.entries ∙ in_range-joined x.depth start width links shows.children.fit in
+    let same : in_range x.depth start width x.entries ≡ entries_of_children places = ap (in_range x.depth start width) shows.entries ∙ in_range-joined x.depth start width links shows.children.fit in
     let slots : take width (drop start (slots_of x.depth x.entries)) ≡ map child_slot places =
     ap (λ es. take width (drop start (slots_of x.depth es))) shows.entries ∙ ap (λ ss. take width (drop start ss)) (sym (places_are x.depth links shows.children))
     ∙ ap (take width) (drop-map child_slot start links) ∙ take-map child_slot width (drop start links) in
@@ -68,10 +68,10 @@ kept_there x links start width level shows two is =
     none_some hash e = absurd (cc)
 
 -- and so has the range of all places
-pub top_there : (depth : ℕ) (links : List (Option LinkValue)) → AreChildren depth links → ¬ (None ≡ kept_hash 4 (slots_of depth (joined links)))
+pub top_there : (depth : ℕ) (links : List (Option LinkValue)) → AreChildren depth links → ¬ (None ≡ kept_hash 4 (slots_of depth (entries_of_children links)))
 top_there depth links children is =
-    let many : is_many (occupants (slots_of depth (joined links))) ≡ true = ap (λ ss. is_many (occupants ss)) (sym (places_are depth links children)) ∙ more links children.several in
-    absurd (none_some (range_hash 4 (slots_of depth (joined links))) (is ∙ ap (λ b. cond b (Some (range_hash 4 (slots_of depth (joined links)))) None) many))
+    let many : is_many (occupants (slots_of depth (entries_of_children links))) ≡ true = ap (λ ss. is_many (occupants ss)) (sym (places_are depth links children)) ∙ more links children.several in
+    absurd (none_some (range_hash 4 (slots_of depth (entries_of_children links))) (is ∙ ap (λ b. cond b (Some (range_hash 4 (slots_of depth (entries_of_children links)))) None) many))
   where
     none_some : (hash : List ℕ) → ¬ (None ≡ Some hash)
     none_some hash e = absurd (cc)

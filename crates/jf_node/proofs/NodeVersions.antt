@@ -9,7 +9,7 @@ use Rattle.jf_path.proofs.OrderLaws.{nat_tied}
 use Rattle.jf_hash.specs.Slots.{Part, with_nibble}
 use Rattle.jf_model.specs.Nodes.{Path, has_two, has_one, is_node}
 use Rattle.jf_node.specs.LinkValue.{version_among, LinkValue, link_version_at}
-use Rattle.jf_node.specs.Children.{child_versions, versions_from, renewed_value, leaf_value, content, FitsAt, joined, AreChildren, inner_value}
+use Rattle.jf_node.specs.Children.{child_versions, versions_from, renewed_value, leaf_value, content, FitsAt, entries_of_children, AreChildren, inner_value}
 use Rattle.jf_node.specs.LinkFacts.{IsLink, NodesHaveVersions, IsLinkIf}
 use Rattle.jf_node.proofs.ChildLaws.{FitFrom-at, below-or-past, with_nibble-child}
 
@@ -121,8 +121,8 @@ inner_versioned version depth links children each = record { exact = λ path. ex
       | inr past ↦ subst (λ x. is_some (link_version_at p x) ≡ (has_one (content x) && is_node (depth + 1) p (content x))) (sym (get_or_past links n None (omega (arith, long)))) refl
     ]
 
-    exact : (path : Path) → is_some (version_among path (([], version) ∷ versions_from 0 links)) ≡ is_node depth path (joined links)
+    exact : (path : Path) → is_some (version_among path (([], version) ∷ versions_from 0 links)) ≡ is_node depth path (entries_of_children links)
     exact [] = refl
     exact (n ∷ p) =
         ap is_some (version-below n p version links) ∙ child n p ∙ ap (λ es. has_one es && is_node (depth + 1) p es) (sym (with_nibble-child depth n links children))
-        ∙ ap (λ b. (b && has_one (with_nibble depth n (joined links))) && is_node (depth + 1) p (with_nibble depth n (joined links))) (sym (has_two-true (joined links) children.several))
+        ∙ ap (λ b. (b && has_one (with_nibble depth n (entries_of_children links))) && is_node (depth + 1) p (with_nibble depth n (entries_of_children links))) (sym (has_two-true (entries_of_children links) children.several))

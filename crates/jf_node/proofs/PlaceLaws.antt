@@ -9,7 +9,7 @@ use Rattle.jf_hash.specs.declared.slot.Slot.TheVariants.{Absent}
 use Rattle.jf_hash.specs.Ranges.{Agree}
 use Rattle.jf_hash.proofs.SlotLaws.{length-slots_of}
 use Rattle.jf_node.specs.LinkValue.{LinkValue}
-use Rattle.jf_node.specs.Children.{content, child_slot, FitsAt, joined, AreChildren, SameElsewhere}
+use Rattle.jf_node.specs.Children.{content, child_slot, FitsAt, entries_of_children, AreChildren, SameElsewhere}
 use Rattle.jf_node.proofs.ChildLaws.{FitFrom-at, with_nibble-joined}
 
 -- what stands at a child's place, from the child's entries
@@ -18,15 +18,15 @@ place_fits depth n None fit = refl
 place_fits depth n (Some x) fit = ap (λ d. slot_of (4 * d) x.entries) fit.0
 
 -- the places of a node are those of its children
-pub slots_joined : (depth : ℕ) (links : List (Option LinkValue)) (slots : List Slot) → AreChildren depth links → length slots ≡ 16 → ((k : ℕ) → k < 16 → get_or slots k Absent ≡ child_slot (get_or links k None)) → slots ≡ slots_of depth (joined links)
+pub slots_joined : (depth : ℕ) (links : List (Option LinkValue)) (slots : List Slot) → AreChildren depth links → length slots ≡ 16 → ((k : ℕ) → k < 16 → get_or slots k Absent ≡ child_slot (get_or links k None)) → slots ≡ slots_of depth (entries_of_children links)
 unfolding slots_of
 slots_joined depth links slots children long each =
-    fill_by_all (λ k. slot_of (4 * (depth + 1)) (with_nibble depth k (joined links))) slots 16 Absent long (λ k small.
+    fill_by_all (λ k. slot_of (4 * (depth + 1)) (with_nibble depth k (entries_of_children links))) slots 16 Absent long (λ k small.
     let within : k < length links = omega (arith, children.long) in
     each k small ∙ place_fits depth (0 + k) (get_or links k None) (FitFrom-at depth 0 k links children.fit within)
     ∙ ap (slot_of (4 * (depth + 1))) (sym (with_nibble-joined depth 0 k k links None children.fit within (omega arith))))
 
-pub slots-children : (depth : ℕ) (links : List (Option LinkValue)) → AreChildren depth links → map child_slot links ≡ slots_of depth (joined links)
+pub slots-children : (depth : ℕ) (links : List (Option LinkValue)) → AreChildren depth links → map child_slot links ≡ slots_of depth (entries_of_children links)
 slots-children depth links children =
     slots_joined depth links (map child_slot links) children (length-map links child_slot ∙ children.long) (λ k small. get_or-map child_slot links k None Absent (omega (arith, small, children.long)))
 

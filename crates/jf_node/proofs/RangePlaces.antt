@@ -20,7 +20,7 @@ use Rattle.jf_node.specs.LinkValue.{LinkValue}
 use Rattle.jf_node.specs.LinkFacts.{IsLink}
 use Rattle.jf_node.specs.Placed.{ArePlaces, IsPlaced, range_value}
 use Rattle.jf_node.specs.RangeValue.{RangeValue}
-use Rattle.jf_node.specs.Children.{content, joined}
+use Rattle.jf_node.specs.Children.{content, entries_of_children}
 use Rattle.jf_node.specs.Shown.{ShowsInner}
 use Rattle.jf_node.specs.RangeStates.{IsFound}
 use Rattle.jf_node.specs.declared.found.Found.{Found}
@@ -117,7 +117,7 @@ one_some x child links start level shows small one is =
     ap₂ (λ k es. record { depth = k; entries = es }) deep (sym (at_one x links start level shows small one ∙ ap content (sym is)))
 
 -- what is found at some places are the children there
-pub found_there : (x : LinkValue) (links : List (Option LinkValue)) (start level width : ℕ) (f : Found) → ShowsInner x links → width ≡ 2 ^ level → IsFound (joined (take width (drop start links))) f → IsFound (in_range x.depth start (2 ^ level) x.entries) f
+pub found_there : (x : LinkValue) (links : List (Option LinkValue)) (start level width : ℕ) (f : Found) → ShowsInner x links → width ≡ 2 ^ level → IsFound (entries_of_children (take width (drop start links))) f → IsFound (in_range x.depth start (2 ^ level) x.entries) f
 found_there x links start level width f shows wide h =
     subst (λ es. IsFound es f) (sym (ap₂ (in_range x.depth start) (sym wide) shows.entries ∙ in_range-joined x.depth start width links shows.children.fit)) h
 
@@ -204,16 +204,16 @@ places_end depth start level width place link h is wide =
     range_ends level start width p.narrow p.aligned p.within wide
 
 -- ---- counts
-pub same_count : (x : LinkValue) (links : List (Option LinkValue)) (start width : ℕ) → ShowsInner x links → joined (take width (drop start links)) ≡ in_range x.depth start width x.entries
+pub same_count : (x : LinkValue) (links : List (Option LinkValue)) (start width : ℕ) → ShowsInner x links → entries_of_children (take width (drop start links)) ≡ in_range x.depth start width x.entries
 same_count x links start width shows = sym (ap (in_range x.depth start width) shows.entries ∙ in_range-joined x.depth start width links shows.children.fit)
 
 -- some places have fewer than 2 ^ 64 entries
-pub some_fit : (x : LinkValue) (links : List (Option LinkValue)) (start width : ℕ) → ShowsInner x links → IsLink x → length (joined (take width (drop start links))) < 2 ^ 64
+pub some_fit : (x : LinkValue) (links : List (Option LinkValue)) (start width : ℕ) → ShowsInner x links → IsLink x → length (entries_of_children (take width (drop start links))) < 2 ^ 64
 some_fit x links start width shows link = omega (arith, ap length (same_count x links start width shows), in_few x.depth start width x.entries, link.bounded)
 
 -- the children at some places have as many entries as the range
 pub count_is : (v : RangeValue) (depth start level width : ℕ) (place : Place) (link : Bor LinkValue) (links : List (Option LinkValue)) → range_value depth place ≡ v → place ≡ Places link start level → width ≡ 2 ^ level → ShowsInner link.now links
-    → length (joined (take width (drop start links))) ≡ length v.entries
+    → length (entries_of_children (take width (drop start links))) ≡ length v.entries
 count_is v depth start level width place link links seen is wide shows =
     ap length (same_count link.now links start width shows) ∙ ap (λ w. length (in_range link.now.depth start w link.now.entries)) wide ∙ ap (λ w. length w.entries) (sym (kept_as v depth place _ seen is))
 
@@ -235,10 +235,10 @@ place_some x links start width level child shows small one wide is =
     ap₂ part_root deep (sym (place_is x links start width (Some child) shows small one is))
 
 -- the hash of places without a child, and of those with one leaf
-pub places_none : (x : LinkValue) (links : List (Option LinkValue)) (start width d : ℕ) → ShowsInner x links → joined (take width (drop start links)) ≡ [] → E ≡ part_root d (in_range x.depth start width x.entries)
+pub places_none : (x : LinkValue) (links : List (Option LinkValue)) (start width d : ℕ) → ShowsInner x links → entries_of_children (take width (drop start links)) ≡ [] → E ≡ part_root d (in_range x.depth start width x.entries)
 places_none x links start width d shows none = sym (ap (part_root d) (sym (same_count x links start width shows) ∙ none) ∙ part_root-none d)
 
-pub places_leaf : (x : LinkValue) (links : List (Option LinkValue)) (start width d : ℕ) (child : LinkValue) → ShowsInner x links → (joined (take width (drop start links)) ≡ child.entries) × (length (joined (take width (drop start links))) ≡ 1)
+pub places_leaf : (x : LinkValue) (links : List (Option LinkValue)) (start width d : ℕ) (child : LinkValue) → ShowsInner x links → (entries_of_children (take width (drop start links)) ≡ child.entries) × (length (entries_of_children (take width (drop start links))) ≡ 1)
     → part_root (4 * child.depth) child.entries ≡ part_root d (in_range x.depth start width x.entries)
 places_leaf x links start width d child shows alone =
     one_hash (4 * child.depth) d child.entries (sym (ap length alone.0) ∙ alone.1) ∙ ap (part_root d) (sym alone.0 ∙ same_count x links start width shows)

@@ -1,7 +1,7 @@
 -- How an inner node keeps its children: which places have a child, which of them are leaves, and the links there.
 use Rattle.std.specs.Prelude.{◌≡◌, ◌==◌, Bool, false, List, Option, Some, None, length, map}
 use Rattle.std.specs.List.{AllByRecursion, count_by}
-use Rattle.jf_path.specs.Bitmaps.{spread}
+use Rattle.jf_path.specs.Bitmaps.{spread_items}
 use Rattle.jf_node.specs.LinkValue.{LinkValue}
 use Rattle.jf_node.specs.LinkFacts.{IsLink}
 
@@ -14,5 +14,5 @@ is_leaf_child (Some x) = length x.entries == 1
 pub record AreBranches (there leaves : List Bool) (links : List LinkValue) : Type 0 where
   pub long : length there ≡ 16
   pub many : count_by (λ bit. bit) there ≡ length links
-  pub lone : leaves ≡ map is_leaf_child (spread there links)
+  pub lone : leaves ≡ map is_leaf_child (spread_items there links)
   pub each : AllByRecursion IsLink links

@@ -3,7 +3,7 @@ ghost use Rattle.std.specs.Prelude.{◌≡◌, ℕ, ◌+◌, ◌<◌, ◌≤◌,
 ghost use Rattle.std.specs.Option.{is_some, option_copied, SomeIff};
 ghost use Rattle.jf_path.specs.Bitmaps.{present};
 ghost use Rattle.jf_node.specs.BranchFacts.{is_leaf_child};
-ghost use Rattle.jf_node.specs.Children.{joined};
+ghost use Rattle.jf_node.specs.Children.{entries_of_children};
 ghost use Rattle.jf_node.specs.LinkFacts.{IsLinkIf};
 
 use crate::link::{Branches, Link, Sixteen};
@@ -19,7 +19,7 @@ impl Branches {
         children.know();
         let there = places_of_children(&children);
         let leaves = places_of_leaves(&children);
-        let links = packed(alloc, children, there.rank(16))?;
+        let links = packed_links(alloc, children, there.rank(16))?;
         Ok(Branches {
             there,
             leaves,
@@ -60,7 +60,7 @@ impl Branches {
     // more.
     pub(crate) fn count_among(&self, start: usize, width: usize) -> Option<u64>
         requires { start + width ≤ 16 }
-        ensures { SomeIff result (length (joined (take width (drop start self.now))) < 2 ^ 64) (length (joined (take width (drop start self.now)))) }
+        ensures { SomeIff result (length (entries_of_children (take width (drop start self.now))) < 2 ^ 64) (length (entries_of_children (take width (drop start self.now)))) }
     {
         count_all(self.among(start, width))
     }
@@ -68,7 +68,7 @@ impl Branches {
     // The links to the children at the `width` places from place `start` on.
     pub(crate) fn among(&self, start: usize, width: usize) -> &[Link]
         requires { start + width ≤ 16 }
-        ensures { joined (take width (drop start self.now)) ≡ joined (map Some result.now) }
+        ensures { entries_of_children (take width (drop start self.now)) ≡ entries_of_children (map Some result.now) }
     {
         let first = self.there.rank(start);
         let many = self.there.count(start, width);
@@ -149,7 +149,7 @@ fn places_of_leaves(children: &Sixteen) -> Bitmap
 }
 
 // The links that are there, without the empty places.
-fn packed(alloc: Global, children: Sixteen, room: usize) -> Result<Vec<Link>, Memory>
+fn packed_links(alloc: Global, children: Sixteen, room: usize) -> Result<Vec<Link>, Memory>
     ensures { IfOk result (λ v. v.items ≡ present children) }
 {
     children.know();
@@ -178,7 +178,7 @@ fn push_if(out: &mut Vec<Link>, child: Option<Link>) -> Result<(), Memory>
 
 // The number of entries of these links, or `None` if it is 2^64 or more.
 pub(crate) fn count_all(links: &[Link]) -> Option<u64>
-    ensures { SomeIff result (length (joined (map Some links.now)) < 2 ^ 64) (length (joined (map Some links.now))) }
+    ensures { SomeIff result (length (entries_of_children (map Some links.now)) < 2 ^ 64) (length (entries_of_children (map Some links.now))) }
 {
     let mut total: u64 = 0;
     for link in links {

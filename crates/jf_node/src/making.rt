@@ -7,7 +7,7 @@ ghost use Rattle.jf_hash.specs.Hashes.{L, V};
 ghost use Rattle.jf_hash.specs.Ranges.{kept_hashes};
 ghost use Rattle.jf_hash.specs.Roots.{part_root};
 ghost use Rattle.jf_hash.specs.Slots.{slots_of};
-ghost use Rattle.jf_node.specs.Children.{content, joined, FitFrom, AreChildren, SameElsewhere, leaf_value, inner_value, moved_value, renewed_value};
+ghost use Rattle.jf_node.specs.Children.{content, entries_of_children, FitFrom, AreChildren, SameElsewhere, leaf_value, inner_value, moved_value, renewed_value};
 ghost use Rattle.jf_node.specs.LinkFacts.{BeginAlike};
 ghost use Rattle.jf_node.specs.LinkValue.{LinkValue};
 
@@ -81,8 +81,8 @@ impl Link {
     pub fn inner(alloc: Global, version: u64, depth: u64, children: Sixteen) -> Result<Link, Memory>
         requires depth { depth < 64 }
         requires children { FitFrom depth 0 children }
-        requires several { 2 ≤ length (joined children) }
-        requires alike { BeginAlike depth (joined children) }
+        requires several { 2 ≤ length (entries_of_children children) }
+        requires alike { BeginAlike depth (entries_of_children children) }
         ensures { IfOk result (λ x. x ≡ inner_value version depth children) }
     {
         Link::inner_uncounted::<Brand>(alloc, version, depth, children, Blank::new(1))
@@ -99,8 +99,8 @@ impl Link {
     ) -> Result<Link, Memory>
         requires depth { depth < 64 }
         requires children { FitFrom depth 0 children }
-        requires several { 2 ≤ length (joined children) }
-        requires alike { BeginAlike depth (joined children) }
+        requires several { 2 ≤ length (entries_of_children children) }
+        requires alike { BeginAlike depth (entries_of_children children) }
         ensures link { IfOk result (λ x. x ≡ inner_value version depth children) }
         ensures once { steps.new ≤ steps.old + 15 }
     {
@@ -124,8 +124,8 @@ impl Link {
         requires positive { 0 < blank.parts }
         requires depth { depth < 64 }
         requires children { FitFrom depth 0 children }
-        requires several { 2 ≤ length (joined children) }
-        requires alike { BeginAlike depth (joined children) }
+        requires several { 2 ≤ length (entries_of_children children) }
+        requires alike { BeginAlike depth (entries_of_children children) }
         ensures { IfOk result (λ x. x ≡ inner_value version depth children) }
     {
         let mut steps = Steps::<L>::new(blank);
@@ -143,9 +143,9 @@ impl Link {
     ) -> Result<Link, Memory>
         requires inner { 2 ≤ length self.now.entries }
         requires children { FitFrom self.now.depth 0 children }
-        requires several { 2 ≤ length (joined children) }
-        requires alike { BeginAlike self.now.depth (joined children) }
-        requires elsewhere { SameElsewhere changed self.now.depth self.now.entries (joined children) }
+        requires several { 2 ≤ length (entries_of_children children) }
+        requires alike { BeginAlike self.now.depth (entries_of_children children) }
+        requires elsewhere { SameElsewhere changed self.now.depth self.now.entries (entries_of_children children) }
         ensures { IfOk result (λ x. x ≡ inner_value version self.now.depth children) }
     {
         self.with_children_uncounted::<Brand>(alloc, version, children, changed, Blank::new(1))
@@ -163,9 +163,9 @@ impl Link {
     ) -> Result<Link, Memory>
         requires inner { 2 ≤ length self.now.entries }
         requires children { FitFrom self.now.depth 0 children }
-        requires several { 2 ≤ length (joined children) }
-        requires alike { BeginAlike self.now.depth (joined children) }
-        requires elsewhere { SameElsewhere changed self.now.depth self.now.entries (joined children) }
+        requires several { 2 ≤ length (entries_of_children children) }
+        requires alike { BeginAlike self.now.depth (entries_of_children children) }
+        requires elsewhere { SameElsewhere changed self.now.depth self.now.entries (entries_of_children children) }
         ensures link { IfOk result (λ x. x ≡ inner_value version self.now.depth children) }
         ensures bounded { steps.new ≤ steps.old + 4 * count_by (λ bit. bit) changed }
     {
@@ -194,9 +194,9 @@ impl Link {
         requires positive { 0 < blank.parts }
         requires inner { 2 ≤ length self.now.entries }
         requires children { FitFrom self.now.depth 0 children }
-        requires several { 2 ≤ length (joined children) }
-        requires alike { BeginAlike self.now.depth (joined children) }
-        requires elsewhere { SameElsewhere changed self.now.depth self.now.entries (joined children) }
+        requires several { 2 ≤ length (entries_of_children children) }
+        requires alike { BeginAlike self.now.depth (entries_of_children children) }
+        requires elsewhere { SameElsewhere changed self.now.depth self.now.entries (entries_of_children children) }
         ensures { IfOk result (λ x. x ≡ inner_value version self.now.depth children) }
     {
         let mut steps = Steps::<L>::new(blank);
@@ -208,8 +208,8 @@ impl Link {
     fn recount(&self, children: &Sixteen, changed: Bitmap) -> Result<u64, Memory>
         requires inner { 2 ≤ length self.now.entries }
         requires children { FitFrom self.now.depth 0 children.now }
-        requires elsewhere { SameElsewhere changed self.now.depth self.now.entries (joined children.now) }
-        ensures { IfOk result (λ n. n ≡ length (joined children.now)) }
+        requires elsewhere { SameElsewhere changed self.now.depth self.now.entries (entries_of_children children.now) }
+        ensures { IfOk result (λ n. n ≡ length (entries_of_children children.now)) }
     {
         match self.view() {
             Seen::Leaf { .. } => unreachable!(),
@@ -219,7 +219,7 @@ impl Link {
                 for n in 0..16u8 {
                     let n = Nibble::of(n);
                     let change = changed.has(n.get() as usize);
-                    total = recounted(total, change, old.get(n), children.get(n))?;
+                    total = count_after_change(total, change, old.get(n), children.get(n))?;
                 }
                 Ok(total)
             }
@@ -236,9 +236,9 @@ impl Link {
         count: u64,
     ) -> Result<Link, Memory>
         requires children { AreChildren depth children }
-        requires alike { BeginAlike depth (joined children) }
-        requires hashed { ranges ≡ kept_hashes (slots_of depth (joined children)) }
-        requires counted { count ≡ length (joined children) }
+        requires alike { BeginAlike depth (entries_of_children children) }
+        requires hashed { ranges ≡ kept_hashes (slots_of depth (entries_of_children children)) }
+        requires counted { count ≡ length (entries_of_children children) }
         ensures { IfOk result (λ x. x ≡ inner_value version depth children) }
     {
         children.know();
@@ -276,7 +276,7 @@ impl Link {
     }
 
     /// This node written anew by another version. Nothing is hashed.
-    pub fn renewed(&self, alloc: Global, version: u64) -> Result<Link, Memory>
+    pub fn renewed_link(&self, alloc: Global, version: u64) -> Result<Link, Memory>
         ensures { IfOk result (λ x. x ≡ renewed_value version self.now) }
     {
         match self.view() {
@@ -301,7 +301,7 @@ fn count_of(child: Option<&Link>) -> u64
 }
 
 // A number of entries after one child took the place of another. The children are looked at only if they may differ.
-fn recounted(
+fn count_after_change(
     total: u64,
     changed: bool,
     old: Option<&Link>,
@@ -320,7 +320,7 @@ fn recounted(
 
 // The hash of an inner node, which it keeps among those of its ranges.
 fn top_of(ranges: &Ranges) -> Hash
-    ensures { (depth : ℕ) (links : List (Option LinkValue)) → AreChildren depth links → ranges.now ≡ kept_hashes (slots_of depth (joined links)) → result ≡ part_root (4 * depth) (joined links) }
+    ensures { (depth : ℕ) (links : List (Option LinkValue)) → AreChildren depth links → ranges.now ≡ kept_hashes (slots_of depth (entries_of_children links)) → result ≡ part_root (4 * depth) (entries_of_children links) }
 {
     match ranges.top() {
         Some(hash) => *hash,

@@ -6,7 +6,7 @@ use Rattle.jf_disk.specs.declared.side.Side.{Side}
 use Rattle.jf_disk.proofs.CrashLaws.{opposite_opposite, by_both, by_weaker, other_now}
 use Rattle.jf_frame.specs.Framed.{Framed}
 use Rattle.jf_frame.specs.Framing.{number_of, records}
-use Rattle.jf_frame.specs.Logs.{framed, IsReady}
+use Rattle.jf_frame.specs.Logs.{appended_record, IsReady}
 use Rattle.jf_pair.specs.Files.{is_begun, IsOlder, generation_of, is_checkpoint, HoldsLive}
 use Rattle.jf_pair.specs.Pairs.{Pair, IsInStep, StopsBetween}
 use Rattle.jf_pair.proofs.FileLaws.{holds_of}
@@ -22,8 +22,8 @@ older_if : (rs : List Framed) (live : Bool) (r : Framed) → (0 < length rs → 
 older_if [] live r some newer = inl refl
 older_if (x ∷ rs) live r some newer = inr (newer (some (omega arith)))
 
-pub is_newer : (kind : ℕ) (payload : List ℕ) (rs : List Framed) (p : Pair) (s : DiskState) → IsInStep p rs s → (is_checkpoint kind ≡ true) × (8 ≤ length payload) → (p.is_live ≡ true → generation_of rs < number_of payload) → IsNewer (framed 0 kind payload) rs
-is_newer kind payload rs p s k is newer = record { begun = ap₂ (λ a b. a && b) is.0 (le-leb 8 (length payload) is.1); newer = older_if rs p.is_live (framed 0 kind payload) k.live.1 newer }
+pub is_newer : (kind : ℕ) (payload : List ℕ) (rs : List Framed) (p : Pair) (s : DiskState) → IsInStep p rs s → (is_checkpoint kind ≡ true) × (8 ≤ length payload) → (p.is_live ≡ true → generation_of rs < number_of payload) → IsNewer (appended_record 0 kind payload) rs
+is_newer kind payload rs p s k is newer = record { begun = ap₂ (λ a b. a && b) is.0 (le-leb 8 (length payload) is.1); newer = older_if rs p.is_live (appended_record 0 kind payload) k.live.1 newer }
 
 left_of : (p : Pair) (rs : List Framed) (s : DiskState) (f : Files) (r : Framed) → IsInStep p rs s → IsNewer r rs → records (bytes_of p.side f) ≡ Ok rs → SameNoneOrOne (opposite p.side) (content_on (opposite p.side) s).bytes r f → HoldsLive f rs ⊎ HoldsLive f (r ∷ [])
 left_of p rs s f r k n live (inl (inl same)) = inl (holds_of p.side f rs k.others live (same ∙ k.held_across) k.begun k.begun_across k.older)

@@ -5,7 +5,7 @@ ghost use Rattle.jf_disk.specs.Crashes.{LeavesFiles, KeepsOther, opposite};
 ghost use Rattle.jf_disk.specs.declared.side.Side.{Side};
 ghost use Rattle.jf_frame.specs.Framed.{Framed};
 ghost use Rattle.jf_frame.specs.Framing.{IsFrame, number_of};
-ghost use Rattle.jf_frame.specs.Logs.{framed};
+ghost use Rattle.jf_frame.specs.Logs.{appended_record};
 ghost use Rattle.jf_pair.specs.Files.{HoldsLive, is_begun, is_checkpoint, generation_of, outer_damage};
 ghost use Rattle.jf_pair.specs.Pairs.{IsInStep, StopsBetween, read_by};
 
@@ -75,11 +75,11 @@ impl Pair {
         requires live { self.old.is_live ≡ true }
         requires in_step { (h : History) → D.history disk.old ≡ Some h → (rs : List Framed) × IsInStep self.old rs h.now }
         ensures ok { (h : History) (rs : List Framed) (kind : ℕ) (payload : List ℕ) → D.history disk.old ≡ Some h → IsInStep self.old rs h.now → IsFrame frame.now kind payload
-            → OnOk result ((g : History) × (D.history disk.new ≡ Some g) × IsInStep self.new (rs ++ framed self.old.offset kind payload ∷ []) g.now) }
+            → OnOk result ((g : History) × (D.history disk.new ≡ Some g) × IsInStep self.new (rs ++ appended_record self.old.offset kind payload ∷ []) g.now) }
         ensures written { (h : History) (rs : List Framed) → D.history disk.old ≡ Some h → IsInStep self.old rs h.now
             → OnOk result ((g : History) × (D.history disk.new ≡ Some g) × ((content_on self.old.side g.now).bytes ≡ put_at self.old.offset (1 ∷ frame.now) (content_on self.old.side h.now).bytes)) }
         ensures stop { (h : History) (rs : List Framed) (kind : ℕ) (payload : List ℕ) → D.history disk.old ≡ Some h → IsInStep self.old rs h.now → IsFrame frame.now kind payload
-            → (g : History) × (D.history disk.new ≡ Some g) × StopsBetween h g rs (rs ++ framed self.old.offset kind payload ∷ []) }
+            → (g : History) × (D.history disk.new ≡ Some g) × StopsBetween h g rs (rs ++ appended_record self.old.offset kind payload ∷ []) }
         ensures other { (h : History) (rs : List Framed) → D.history disk.old ≡ Some h → IsInStep self.old rs h.now → (g : History) × (D.history disk.new ≡ Some g) × KeepsOther self.old.side h g }
         ensures offset { OnOk result (self.new.offset ≡ self.old.offset + length frame.now) }
         ensures four { OnOk result (D.moment disk.new ≡ D.moment disk.old + 4) }
@@ -104,10 +104,10 @@ impl Pair {
         requires in_step { (h : History) → D.history disk.old ≡ Some h → (rs : List Framed) × IsInStep self.old rs h.now }
         requires newer { (h : History) (rs : List Framed) (kind : ℕ) (payload : List ℕ) → D.history disk.old ≡ Some h → IsInStep self.old rs h.now → IsFrame frame.now kind payload → self.old.is_live ≡ true → generation_of rs < number_of payload }
         ensures ok { (h : History) (kind : ℕ) (payload : List ℕ) → D.history disk.old ≡ Some h → IsFrame frame.now kind payload
-            → OnOk result ((g : History) × (D.history disk.new ≡ Some g) × IsInStep self.new (framed 0 kind payload ∷ []) g.now) }
+            → OnOk result ((g : History) × (D.history disk.new ≡ Some g) × IsInStep self.new (appended_record 0 kind payload ∷ []) g.now) }
         ensures written { (h : History) → D.history disk.old ≡ Some h → OnOk result ((g : History) × (D.history disk.new ≡ Some g) × ((content_on self.new.side g.now).bytes ≡ 1 ∷ frame.now)) }
         ensures stop { (h : History) (rs : List Framed) (kind : ℕ) (payload : List ℕ) → D.history disk.old ≡ Some h → IsInStep self.old rs h.now → IsFrame frame.now kind payload
-            → (g : History) × (D.history disk.new ≡ Some g) × StopsBetween h g rs (framed 0 kind payload ∷ []) }
+            → (g : History) × (D.history disk.new ≡ Some g) × StopsBetween h g rs (appended_record 0 kind payload ∷ []) }
         ensures other { (h : History) → D.history disk.old ≡ Some h → (g : History) × (D.history disk.new ≡ Some g) × KeepsOther (opposite self.old.side) h g }
         ensures side { OnOk result ((self.new.side ≡ opposite self.old.side) × (self.new.is_live ≡ true)) }
         ensures offset { OnOk result (self.new.offset ≡ length frame.now) }
@@ -140,10 +140,10 @@ impl Pair {
     }
 
     /// Whether an earlier call met a fault of the disk.
-    pub fn failed(&self) -> bool
+    pub fn has_failed(&self) -> bool
         ensures { result ≡ self.now.failed }
     {
-        self.live.failed() || self.other.failed()
+        self.live.has_failed() || self.other.has_failed()
     }
 }
 

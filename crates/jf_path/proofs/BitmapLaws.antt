@@ -12,7 +12,7 @@ use Rattle.std.proofs.lemmas.Option.{slice_get-get_or}
 use Rattle.std.proofs.lemmas.Simd.{ones-mask_l}
 use Rattle.std.proofs.lemmas.Nat.{and_mask}
 use Rattle.std.proofs.lemmas.Nat.Bits.{bit_at_set_same, bit_at_set_other, bit_at_clear_same, bit_at_clear_other}
-use Rattle.jf_path.specs.Bitmaps.{bits_of, spread, present, mask-bits_of}
+use Rattle.jf_path.specs.Bitmaps.{bits_of, spread_items, present, mask-bits_of}
 
 -- ---- how many bits are set
 pub count_by-clear : (bits : List Bool) → count_by (λ bit. bit) (false ∷ bits) ≡ count_by (λ bit. bit) bits
@@ -90,16 +90,16 @@ mask-view n bits small are = ap mask_l (sym are) ∙ mask-bits_of 16 n ∙ mod-e
 
 -- ---- items spread over places
 module _ {X : Type 0} where
-  pub length-spread : (bits : List Bool) (xs : List X) → length (spread bits xs) ≡ length bits
-  unfolding spread
+  pub length-spread : (bits : List Bool) (xs : List X) → length (spread_items bits xs) ≡ length bits
+  unfolding spread_items
   length-spread [] xs = refl
   length-spread (false ∷ bits) xs = ap suc (length-spread bits xs)
   length-spread (true ∷ bits) [] = ap suc (length-spread bits [])
   length-spread (true ∷ bits) (x ∷ xs) = ap suc (length-spread bits xs)
 
   -- a list is its places that are there, and its items
-  pub spread-present : (xs : List (Option X)) → spread (map is_some xs) (present xs) ≡ xs
-  unfolding spread present
+  pub spread-present : (xs : List (Option X)) → spread_items (map is_some xs) (present xs) ≡ xs
+  unfolding spread_items present
   spread-present [] = refl
   spread-present (None ∷ xs) = ap (λ t. None ∷ t) (spread-present xs)
   spread-present (Some x ∷ xs) = ap (λ t. Some x ∷ t) (spread-present xs)
@@ -111,15 +111,15 @@ module _ {X : Type 0} where
   count_by-is_some (Some x ∷ xs) = count_by-set (map is_some xs) ∙ ap suc (count_by-is_some xs)
 
   -- as many items as bits that are set
-  pub is_some-spread : (bits : List Bool) (xs : List X) → count_by (λ bit. bit) bits ≡ length xs → map is_some (spread bits xs) ≡ bits
-  unfolding spread
+  pub is_some-spread : (bits : List Bool) (xs : List X) → count_by (λ bit. bit) bits ≡ length xs → map is_some (spread_items bits xs) ≡ bits
+  unfolding spread_items
   is_some-spread [] xs many = refl
   is_some-spread (false ∷ bits) xs many = ap (λ t. false ∷ t) (is_some-spread bits xs (sym (count_by-clear bits) ∙ many))
   is_some-spread (true ∷ bits) [] many = absurd (omega (arith, count_by-set bits))
   is_some-spread (true ∷ bits) (x ∷ xs) many = ap (λ t. true ∷ t) (is_some-spread bits xs (omega (arith, count_by-set bits)))
 
-  pub present-spread : (bits : List Bool) (xs : List X) → count_by (λ bit. bit) bits ≡ length xs → present (spread bits xs) ≡ xs
-  unfolding spread present
+  pub present-spread : (bits : List Bool) (xs : List X) → count_by (λ bit. bit) bits ≡ length xs → present (spread_items bits xs) ≡ xs
+  unfolding spread_items present
   present-spread [] [] many = refl
   present-spread [] (x ∷ xs) many = absurd (omega arith)
   present-spread (false ∷ bits) xs many = present-spread bits xs (sym (count_by-clear bits) ∙ many)
@@ -127,8 +127,8 @@ module _ {X : Type 0} where
   present-spread (true ∷ bits) (x ∷ xs) many = ap (λ t. x ∷ t) (present-spread bits xs (omega (arith, count_by-set bits)))
 
   -- what stands at a place is the item after those of the places before it
-  pub get_or-spread : (bits : List Bool) (xs : List X) (i : ℕ) → get_or (spread bits xs) i None ≡ cond (get_or bits i false) (slice_get xs (count_by (λ bit. bit) (take i bits))) None
-  unfolding spread
+  pub get_or-spread : (bits : List Bool) (xs : List X) (i : ℕ) → get_or (spread_items bits xs) i None ≡ cond (get_or bits i false) (slice_get xs (count_by (λ bit. bit) (take i bits))) None
+  unfolding spread_items
   get_or-spread [] xs i = refl
   get_or-spread (false ∷ bits) xs zero = refl
   get_or-spread (false ∷ bits) xs (suc i) = get_or-spread bits xs i ∙ ap (λ n. cond (get_or bits i false) (slice_get xs n) None) (sym (count_by-clear (take i bits)))
@@ -149,7 +149,7 @@ rank-lt bits i on =
     within (bit ∷ bits) (suc i) on = omega (arith, within bits i on)
 
 pub spread-here : {X : Type 0} (bits : List Bool) (xs : List X) (i : ℕ) (d : X) → count_by (λ bit. bit) bits ≡ length xs → get_or bits i false ≡ true
-    → get_or (spread bits xs) i None ≡ Some (get_or xs (count_by (λ bit. bit) (take i bits)) d)
+    → get_or (spread_items bits xs) i None ≡ Some (get_or xs (count_by (λ bit. bit) (take i bits)) d)
 spread-here bits xs i d many on =
     get_or-spread bits xs i ∙ ap (λ b. cond b (slice_get xs (count_by (λ bit. bit) (take i bits))) None) on
     ∙ slice_get-get_or xs (count_by (λ bit. bit) (take i bits)) d (omega (arith, rank-lt bits i on, many))

@@ -8,7 +8,7 @@ use Rattle.std.specs.List.{AllByRecursion, range_with_len}
 use Rattle.jf_path.specs.Keys.{IsKey}
 use Rattle.jf_path.specs.Nibbles.{nibble}
 use Rattle.jf_path.specs.PackedPath.{ArePackedNibbles}
-use Rattle.jf_path.specs.Paths.{IsPath, halves, packed, key_path, path_bytes}
+use Rattle.jf_path.specs.Paths.{IsPath, halves, packed_nibbles, key_path, path_bytes}
 use Rattle.jf_path.proofs.Halves.{half_halves}
 use Rattle.jf_path.proofs.NibbleLaws.{nibble-even, nibble-odd}
 use Rattle.jf_path.proofs.PathLaws.{packed-front, length-halves, get_or-halves-odd}
@@ -49,7 +49,7 @@ small_halves (b ∷ bytes) small (suc (suc n)) = (let s = small 0 in omega arith
 pub kept_path : (count : ℕ) (bytes : List ℕ) → ArePackedNibbles count bytes → IsPath (take count (halves bytes))
 kept_path count bytes kept = record { short = let short = kept.short in omega (arith, length-take count (halves bytes)); nibbles = small_halves bytes kept.small count }
 
-pub kept_front : (count : ℕ) (bytes : List ℕ) → ArePackedNibbles count bytes → take ((count + 1) / 2) bytes ≡ packed (take count (halves bytes))
+pub kept_front : (count : ℕ) (bytes : List ℕ) → ArePackedNibbles count bytes → take ((count + 1) / 2) bytes ≡ packed_nibbles (take count (halves bytes))
 kept_front count bytes kept = sym (packed-front count bytes (λ odd. low_half_after count bytes kept))
 
 pub ArePackedNibbles-none : ArePackedNibbles 0 (zeros 32)
@@ -179,9 +179,9 @@ module _ (count : ℕ) (bytes : List ℕ) (room : count ≤ 64) (long : length b
   }
 
 -- the count is written before the packed nibbles, and the bytes after them are kept
-pub written : (out text path : List ℕ) (count k : ℕ) → count ≡ length path → text ≡ packed path → k < length out → put_mid 1 (k + 1 - 1) (set out 0 count) text ≡ path_bytes path ++ drop (k + 1) out
+pub written : (out text path : List ℕ) (count k : ℕ) → count ≡ length path → text ≡ packed_nibbles path → k < length out → put_mid 1 (k + 1 - 1) (set out 0 count) text ≡ path_bytes path ++ drop (k + 1) out
 unfolding path_bytes
 written [] text path count k long is room = absurd (omega arith)
 written (o ∷ out) text path count k long is room =
     ap₂ (λ n (xs : List ℕ). n ∷ xs ++ drop (k + 1 - 1) out) long is
-    ∙ ap (λ i. (length path ∷ packed path) ++ drop i (o ∷ out)) (let e : suc (k + 1 - 1) ≡ k + 1 = omega arith in e)
+    ∙ ap (λ i. (length path ∷ packed_nibbles path) ++ drop i (o ∷ out)) (let e : suc (k + 1 - 1) ≡ k + 1 = omega arith in e)

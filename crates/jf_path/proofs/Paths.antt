@@ -4,7 +4,7 @@ use Rattle.std.proofs.lemmas.Bool.{lt-ltb, or_left, ne_eqb, or_right, le-ltb, ca
 use Rattle.jf_path.specs.declared.fault.PathFault.{PathFault}
 use Rattle.jf_path.specs.declared.fault.PathFault.TheVariants.{Length, Padding}
 use Rattle.jf_path.specs.Checks.{first_of}
-use Rattle.jf_path.specs.Paths.{path_fault, has_padding, has_wrong_length, IsPath, packed, path_bytes, halves}
+use Rattle.jf_path.specs.Paths.{path_fault, has_padding, has_wrong_length, IsPath, packed_nibbles, path_bytes, halves}
 use Rattle.jf_path.proofs.PathLaws.{length-packed, get_or-packed, packed-take-halves, length-halves, take-halves-packed}
 
 -- the fault, from the tests for a wrong length and for padding
@@ -48,7 +48,7 @@ past (n ∷ path) (suc k) le = past path k (omega arith)
 pub no_fault_in_path : (path : List ℕ) → IsPath path → path_fault (path_bytes path) ≡ None
 unfolding path_bytes
 no_fault_in_path path is =
-    no_fault (length path) (packed path) is.short (length-packed path) (λ odd.
+    no_fault (length path) (packed_nibbles path) is.short (length-packed path) (λ odd.
     let end = past path (length path) (omega arith) in
     omega (arith, get_or-packed path (length path / 2) (2 * (length path / 2)) (length path) refl (omega arith)))
 
@@ -70,7 +70,7 @@ pub path_of_halves : (count : ℕ) (bytes path : List ℕ) → IsPath path → c
 unfolding path_bytes
 path_of_halves count bytes path is same =
     let long : count ≡ length path = ap (λ (bs : List ℕ). get_or bs 0 0) same in
-    let rest : bytes ≡ packed path = ap (λ (bs : List ℕ). drop 1 bs) same in
+    let rest : bytes ≡ packed_nibbles path = ap (λ (bs : List ℕ). drop 1 bs) same in
     ap₂ (λ n (bs : List ℕ). take n (halves bs)) long rest ∙ take-halves-packed path is.nibbles
 
 -- bytes without a fault: a count of at most 64, as many bytes as it needs, and no padding

@@ -11,11 +11,11 @@ bits_of zero n = []
 bits_of (suc k) n = (n % 2 == 1) ∷ bits_of k (n / 2)
 
 -- items spread over places: the next item where a bit is set, if one is left, and nothing elsewhere
-unfoldable pub spread : {X : Type 0} → List Bool → List X → List (Option X)
-spread [] xs = []
-spread (false ∷ bits) xs = None ∷ spread bits xs
-spread (true ∷ bits) [] = None ∷ spread bits []
-spread (true ∷ bits) (x ∷ xs) = Some x ∷ spread bits xs
+unfoldable pub spread_items : {X : Type 0} → List Bool → List X → List (Option X)
+spread_items [] xs = []
+spread_items (false ∷ bits) xs = None ∷ spread_items bits xs
+spread_items (true ∷ bits) [] = None ∷ spread_items bits []
+spread_items (true ∷ bits) (x ∷ xs) = Some x ∷ spread_items bits xs
 
 -- the items that are there, in their order
 unfoldable pub present : {X : Type 0} → List (Option X) → List X

@@ -22,14 +22,14 @@ unfoldable pub key_path : List ℕ → List ℕ
 key_path key = map (nibble key) (range_with_len 0 64)
 
 -- nibbles packed two to a byte, the first in the high half; an odd last byte has a zero low half
-abbrev pub packed : List ℕ → List ℕ
-packed [] = []
-packed (n ∷ []) = (n * 16) ∷ []
-packed (n ∷ m ∷ path) = (n * 16 + m) ∷ packed path
+abbrev pub packed_nibbles : List ℕ → List ℕ
+packed_nibbles [] = []
+packed_nibbles (n ∷ []) = (n * 16) ∷ []
+packed_nibbles (n ∷ m ∷ path) = (n * 16 + m) ∷ packed_nibbles path
 
 -- the bytes of a path: its number of nibbles, and the nibbles packed
 unfoldable pub path_bytes : List ℕ → List ℕ
-path_bytes path = length path ∷ packed path
+path_bytes path = length path ∷ packed_nibbles path
 
 -- whether the length is wrong: no count, a count above 64, or more or fewer bytes than it needs
 abbrev pub has_wrong_length : List ℕ → Bool

@@ -25,7 +25,7 @@ pub struct NibblePath {
 
 impl Model for NibblePath {
     ghost use Rattle.std.specs.Prelude.{List, ℕ, ◌-◌, ◌++◌, take, length, replicate};
-    ghost use Rattle.jf_path.specs.Paths.{halves, packed};
+    ghost use Rattle.jf_path.specs.Paths.{halves, packed_nibbles};
     ghost use Rattle.jf_path.specs.PackedPath.{ArePackedNibbles, kept_again};
 
     ghost Value = { List ℕ };
@@ -34,7 +34,7 @@ impl Model for NibblePath {
 
     ghost invariant = { λ p. ArePackedNibbles p.count p.nibbles };
 
-    ghost inverse = { λ p. record { nibbles = packed (p ++ replicate (64 - length p) 0); count = length p } };
+    ghost inverse = { λ p. record { nibbles = packed_nibbles (p ++ replicate (64 - length p) 0); count = length p } };
 
     ghost inverse_ok = { λ p h. kept_again (λ bytes count. record { nibbles = bytes; count = count }) p.count p.nibbles h };
 }

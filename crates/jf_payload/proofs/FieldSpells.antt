@@ -5,7 +5,7 @@ use Rattle.std.specs.List.{AllByRecursion, flat_map}
 use Rattle.std.specs.Result.{result_ok}
 use Rattle.jf_path.specs.Keys.{IsBytes, IsKey}
 use Rattle.jf_path.specs.Numbers.{two_bytes, four_bytes, eight_bytes}
-use Rattle.jf_path.specs.Paths.{packed, path_bytes}
+use Rattle.jf_path.specs.Paths.{packed_nibbles, path_bytes}
 use Rattle.jf_path.specs.Names.{IsName}
 use Rattle.jf_path.specs.declared.name.NodeName.{NodeName}
 use Rattle.jf_path.specs.declared.children.Child.{Child}
@@ -42,7 +42,7 @@ pub IsBytes-eight : (n : ℕ) → IsBytes (eight_bytes n)
 unfolding eight_bytes
 IsBytes-eight n = (omega arith, (omega arith, (omega arith, (omega arith, (omega arith, (omega arith, (omega arith, (omega arith, tt))))))))
 
-IsBytes-packed : (path : List ℕ) → AllByRecursion (λ n. n < 16) path → IsBytes (packed path)
+IsBytes-packed : (path : List ℕ) → AllByRecursion (λ n. n < 16) path → IsBytes (packed_nibbles path)
 IsBytes-packed [] small = tt
 IsBytes-packed (n ∷ []) small = (let lt = small.0 in omega arith, tt)
 IsBytes-packed (n ∷ m ∷ path) small = (let lt = small.0 in let lt' = small.1.0 in omega arith, IsBytes-packed path small.1.1)

@@ -13,7 +13,7 @@ use Rattle.jf_path.proofs.BoolLaws.{left_true, right_true}
 use Rattle.jf_codec.specs.declared.format.Format.{Format}
 use Rattle.jf_codec.specs.declared.format.Format.TheVariants as format
 use Rattle.jf_payload.specs.declared.records.Record.{Record}
-use Rattle.jf_payload.specs.Reading.{Front, seen_as, checkpoint_from, checkpoint_at, long_at, commit_at, group_at, record_at, whole_record_in, ◌>>=◌, spelled, Gives}
+use Rattle.jf_payload.specs.Reading.{Front, seen_as, checkpoint_from, checkpoint_at, long_at, commit_at, group_at, record_at, whole_record_in, ◌>>=◌, spelled_record, Gives}
 use Rattle.jf_payload.specs.Spelling.{record_bytes, kind_of, IsRecord, checkpoint_kind, list_bytes, commit_bytes, IsCommit, IsGroup, IsSpelling}
 use Rattle.jf_payload.specs.declared.fault.RecordFault.{RecordFault}
 use Rattle.jf_payload.specs.declared.records.Record.TheVariants as «record»
@@ -140,14 +140,14 @@ tested_bytes [] h = refl
 tested_bytes (b ∷ bytes) h = ap₂ (λ x y. x && y) (lt-ltb _ _ h.0) (tested_bytes bytes h.1)
 
 -- ---- the laws
-pub spelled_takes : (fmt : Format) (kind : ℕ) (payload : List ℕ) (r : Record) → spelled fmt kind payload ≡ Some r → IsSpelling fmt r kind payload
-unfolding spelled
+pub spelled_takes : (fmt : Format) (kind : ℕ) (payload : List ℕ) (r : Record) → spelled_record fmt kind payload ≡ Some r → IsSpelling fmt r kind payload
+unfolding spelled_record
 spelled_takes fmt kind payload r e =
     let g = guard_kept (list_all (λ b. nat_lt b 256) payload) (whole_record_in fmt kind payload) r e in
     whole_takes fmt kind payload r (AreBytes-at_places payload (bytes_tested payload g.0)) g.1
 
-pub spelled_again : (fmt : Format) (kind : ℕ) (payload : List ℕ) (r : Record) → IsSpelling fmt r kind payload → spelled fmt kind payload ≡ Some r
-unfolding spelled
+pub spelled_again : (fmt : Format) (kind : ℕ) (payload : List ℕ) (r : Record) → IsSpelling fmt r kind payload → spelled_record fmt kind payload ≡ Some r
+unfolding spelled_record
 spelled_again fmt kind payload r s =
     let bytes = tested_bytes payload (subst IsBytes (sym s.payload_is) (record_fits fmt r s.sound)) in
     rw bytes (whole_again fmt kind payload r s)
@@ -155,28 +155,28 @@ spelled_again fmt kind payload r s =
 pub one_record : (fmt : Format) (kind : ℕ) (payload : List ℕ) (r s : Record) → IsSpelling fmt r kind payload → IsSpelling fmt s kind payload → r ≡ s
 one_record fmt kind payload r s first second = same_Some r s (sym (spelled_again fmt kind payload r first) ∙ spelled_again fmt kind payload s second)
 
-decided_by : (fmt : Format) (kind : ℕ) (payload : List ℕ) (read : Option Record) → spelled fmt kind payload ≡ read → ((r : Record) × IsSpelling fmt r kind payload) ⊎ ((r : Record) → IsSpelling fmt r kind payload → ⊥)
+decided_by : (fmt : Format) (kind : ℕ) (payload : List ℕ) (read : Option Record) → spelled_record fmt kind payload ≡ read → ((r : Record) × IsSpelling fmt r kind payload) ⊎ ((r : Record) → IsSpelling fmt r kind payload → ⊥)
 decided_by fmt kind payload (Some r) e = inl (r, spelled_takes fmt kind payload r e)
 decided_by fmt kind payload None e = inr (λ r s. absurd (let both = sym e ∙ spelled_again fmt kind payload r s in cc))
 
 pub record_or_not : (fmt : Format) (kind : ℕ) (payload : List ℕ) → ((r : Record) × IsSpelling fmt r kind payload) ⊎ ((r : Record) → IsSpelling fmt r kind payload → ⊥)
-record_or_not fmt kind payload = decided_by fmt kind payload (spelled fmt kind payload) refl
+record_or_not fmt kind payload = decided_by fmt kind payload (spelled_record fmt kind payload) refl
 
 -- ---- decoding
-pub is_exact : (fmt : Format) (kind : ℕ) (payload : List ℕ) (result : Result Record RecordFault) → AreBytes payload → Gives (λ r. r) result (whole_record_in fmt kind payload) → Gives (λ r. r) result (spelled fmt kind payload)
-unfolding spelled
+pub is_exact : (fmt : Format) (kind : ℕ) (payload : List ℕ) (result : Result Record RecordFault) → AreBytes payload → Gives (λ r. r) result (whole_record_in fmt kind payload) → Gives (λ r. r) result (spelled_record fmt kind payload)
+unfolding spelled_record
 is_exact fmt kind payload result bs given = rw (tested_bytes payload (IsBytes-from_places payload bs)) given
 
-pub is_found : (fmt : Format) (kind : ℕ) (payload : List ℕ) (result : Result Record RecordFault) → Gives (λ r. r) result (spelled fmt kind payload) → IfOk result (λ r. IsSpelling fmt r kind payload)
+pub is_found : (fmt : Format) (kind : ℕ) (payload : List ℕ) (result : Result Record RecordFault) → Gives (λ r. r) result (spelled_record fmt kind payload) → IfOk result (λ r. IsSpelling fmt r kind payload)
 is_found fmt kind payload (Ok r) given = spelled_takes fmt kind payload r given
 is_found fmt kind payload (Err e) given = tt
 
-pub is_bad : (fmt : Format) (kind : ℕ) (payload : List ℕ) (result : Result Record RecordFault) → Gives (λ r. r) result (spelled fmt kind payload) → result ≡ Err fault.Bad → (r : Record) → IsSpelling fmt r kind payload → ⊥
+pub is_bad : (fmt : Format) (kind : ℕ) (payload : List ℕ) (result : Result Record RecordFault) → Gives (λ r. r) result (spelled_record fmt kind payload) → result ≡ Err fault.Bad → (r : Record) → IsSpelling fmt r kind payload → ⊥
 is_bad fmt kind payload (Ok s) given e r spells = absurd cc
 is_bad fmt kind payload (Err fault.Memory) given e r spells = absurd cc
 is_bad fmt kind payload (Err fault.Bad) given e r spells = absurd (let both = sym given ∙ spelled_again fmt kind payload r spells in cc)
 
-pub is_only : (fmt : Format) (kind : ℕ) (payload : List ℕ) (result : Result Record RecordFault) → Gives (λ r. r) result (spelled fmt kind payload) → (r : Record) → IsSpelling fmt r kind payload → (result ≡ Ok r) ⊎ (result ≡ Err fault.Memory)
+pub is_only : (fmt : Format) (kind : ℕ) (payload : List ℕ) (result : Result Record RecordFault) → Gives (λ r. r) result (spelled_record fmt kind payload) → (r : Record) → IsSpelling fmt r kind payload → (result ≡ Ok r) ⊎ (result ≡ Err fault.Memory)
 is_only fmt kind payload (Ok s) given r spells = inl (ap Ok (same_Some s r (sym given ∙ spelled_again fmt kind payload r spells)))
 is_only fmt kind payload (Err fault.Memory) given r spells = inr refl
 is_only fmt kind payload (Err fault.Bad) given r spells = absurd (let both = sym given ∙ spelled_again fmt kind payload r spells in cc)

@@ -5,11 +5,11 @@ use Rattle.jf_codec.specs.declared.format.Format.TheVariants as format
 use Rattle.jf_payload.specs.declared.records.Record.{Record}
 use Rattle.jf_payload.specs.Spelling.{kind_of, record_bytes, IsRecord, IsSpelling}
 use Rattle.jf_payload.specs.Counted.{record_in}
-use Rattle.jf_payload.specs.Reading.{spelled}
+use Rattle.jf_payload.specs.Reading.{spelled_record}
 
--- `spelled` gives just the record that a payload spells
+-- `spelled_record` gives just the record that a payload spells
 abbrev pub SpelledIsSpelling : Type 0
-SpelledIsSpelling = (fmt : Format) (kind : ℕ) (payload : List ℕ) (r : Record) → (spelled fmt kind payload ≡ Some r) ↔ IsSpelling fmt r kind payload
+SpelledIsSpelling = (fmt : Format) (kind : ℕ) (payload : List ℕ) (r : Record) → (spelled_record fmt kind payload ≡ Some r) ↔ IsSpelling fmt r kind payload
 
 -- a payload of a kind spells at most one record
 abbrev pub OneRecord : Type 0

@@ -196,5 +196,5 @@ whole_record_in fmt kind bytes = do
   if length r.1 == 0 then Some r.0 else None
 
 -- the record that a payload of a kind spells in a file of a format; None if it spells no record or isn't bytes
-unfoldable pub spelled : Format → ℕ → List ℕ → Option Record
-spelled fmt kind payload = if list_all (λ b. nat_lt b 256) payload then whole_record_in fmt kind payload else None
+unfoldable pub spelled_record : Format → ℕ → List ℕ → Option Record
+spelled_record fmt kind payload = if list_all (λ b. nat_lt b 256) payload then whole_record_in fmt kind payload else None

@@ -1,7 +1,7 @@
 // A record is read from its kind and all of its payload; a payload that isn't exactly so is bad.
 ghost use Rattle.std.specs.Prelude.{◌≡◌, ◌⊎◌, Ok, Err, IfOk};
 ghost use Rattle.jf_payload.specs.Spelling.{IsSpelling};
-ghost use Rattle.jf_payload.specs.Reading.{Gives, record_at, whole_record_in, spelled};
+ghost use Rattle.jf_payload.specs.Reading.{Gives, record_at, whole_record_in, spelled_record};
 
 use crate::checkpoint::checkpoint_of;
 use crate::fault::RecordFault;
@@ -63,7 +63,7 @@ pub fn decode(
     ensures found { IfOk result (λ r. IsSpelling format r kind payload.now) }
     ensures bad { result ≡ Err RecordFault.Bad → (r : Record) → IsSpelling format r kind payload.now → ⊥ }
     ensures only { (r : Record) → IsSpelling format r kind payload.now → (result ≡ Ok r) ⊎ (result ≡ Err RecordFault.Memory) }
-    ensures exact { Gives (λ r. r) result (spelled format kind payload.now) }
+    ensures exact { Gives (λ r. r) result (spelled_record format kind payload.now) }
 {
     whole_of(alloc, format, kind, payload)
 }

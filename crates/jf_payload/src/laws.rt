@@ -1,7 +1,7 @@
 // Laws of spellings, for proofs of code that uses them. These functions do nothing when they run.
 ghost use Rattle.jf_payload.specs.Laws.{SpelledIsSpelling, OneRecord, OneSpelling, SpellingIsDecided, KeptIsSpelled, WrittenInBoth};
 
-/// `spelled` gives just the record that a payload spells.
+/// `spelled_record` gives just the record that a payload spells.
 pub fn spelled_is_spelling()
     ensures { SpelledIsSpelling }
 {}

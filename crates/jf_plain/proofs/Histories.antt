@@ -4,7 +4,7 @@ use Rattle.std.proofs.lemmas.List.{reverse-append, get_or-reverse, get_or-map, l
 use Rattle.std.specs.FinMap as fin
 use Rattle.jf_hash.specs.Maps.{Batch, apply, IsMap}
 use Rattle.jf_hash.specs.Roots.{root}
-use Rattle.jf_model.specs.Versions.{Versions, newest, landed, IsVersions, new_store, root_of, map_of}
+use Rattle.jf_model.specs.Versions.{Versions, newest, versions_after_landing, IsVersions, new_store, root_of, map_of}
 use Rattle.jf_model.proofs.VersionLaws.{landed_map-IsVersions, new_store-IsVersions}
 use Rattle.jf_plain.specs.declared.versions.Version.{Version}
 use Rattle.jf_plain.specs.KeptMaps.{versions_of_list, AreKeptVersions}
@@ -16,12 +16,12 @@ versions_of_list-push vs x some =
     ap (λ n. record { base = 0; floor = 0; head = n; roots = map (λ v. v.root) (reverse (vs ++ x ∷ [])); maps = map (λ v. v.map) (reverse (vs ++ x ∷ [])) }) long
     ∙ ap (λ ws. record { base = 0; floor = 0; head = length vs - 1 + 1; roots = map (λ v. v.root) ws; maps = map (λ v. v.map) ws }) (reverse-append vs (x ∷ []))
 
-pub versions_of_list-landed : (vs : List Version) (x : Version) (v : Versions) (b : Batch) → 0 < length vs → versions_of_list vs ≡ v → x.map ≡ apply (newest v) b → x.root ≡ root x.map → versions_of_list (vs ++ x ∷ []) ≡ landed b v
+pub versions_of_list-landed : (vs : List Version) (x : Version) (v : Versions) (b : Batch) → 0 < length vs → versions_of_list vs ≡ v → x.map ≡ apply (newest v) b → x.root ≡ root x.map → versions_of_list (vs ++ x ∷ []) ≡ versions_after_landing b v
 versions_of_list-landed vs x v b some is made rooted =
     versions_of_list-push vs x some
     ∙ ap (λ n. record { base = 0; floor = 0; head = length vs - 1 + 1; roots = n ∷ map (λ v. v.root) (reverse vs); maps = x.map ∷ map (λ v. v.map) (reverse vs) }) rooted
     ∙ ap (λ m. record { base = 0; floor = 0; head = length vs - 1 + 1; roots = root m ∷ map (λ v. v.root) (reverse vs); maps = m ∷ map (λ v. v.map) (reverse vs) }) (made ∙ ap (λ w. apply (newest w) b) (sym is))
-    ∙ ap (landed b) is
+    ∙ ap (versions_after_landing b) is
 
 pub are-landed : (vs : List Version) (x : Version) (v : Versions) (b : Batch) → AreKeptVersions vs → versions_of_list vs ≡ v → x.map ≡ apply (newest v) b → x.root ≡ root x.map → IsMap x.map → v.head < 2 ^ 64 - 2 → AreKeptVersions (vs ++ x ∷ [])
 are-landed vs x v b h is made rooted sound low =

@@ -10,7 +10,7 @@ use Rattle.jf_hash.specs.Maps.{map_of_entries, IsMap, Batch, IsBatch, apply}
 use Rattle.jf_hash.specs.Roots.{root, leaves_root, leaf_of}
 use Rattle.jf_hash.proofs.RootLaws.{entries-empty}
 use Rattle.jf_split.specs.Limits.{IsWithinLimits}
-use Rattle.jf_model.specs.Changes.{MapEntry, applied}
+use Rattle.jf_model.specs.Changes.{MapEntry, entries_after_batch}
 use Rattle.jf_model.proofs.ChangeLaws.{sorted-applied, sound-applied, all-applied, entries-apply}
 use Rattle.jf_plain.specs.Entries.{AreMapEntries, HasShortValues}
 
@@ -47,13 +47,13 @@ pub sorted-leaves : (es : List MapEntry) → T (is_sorted key_cmp es) → T (is_
 sorted-leaves [] h = tt
 sorted-leaves (e ∷ es) h = both_so _ _ (below_leaves e.0 es (left_so _ _ h)) (sorted-leaves es (right_so _ _ h))
 
-pub are-applied : (es : List MapEntry) (b : Batch) → AreMapEntries es → IsBatch b → IsWithinLimits b → AreMapEntries (applied es b)
+pub are-applied : (es : List MapEntry) (b : Batch) → AreMapEntries es → IsBatch b → IsWithinLimits b → AreMapEntries (entries_after_batch es b)
 are-applied es b h batch limits = record {
   sorted = sorted-applied es b h.sorted;
   sound = sound-applied es b h.sound batch;
   short = all-applied (λ e. length e.1 ≤ 4096) es b h.short limits.values;
 }
 
-pub applied-of : (es : List MapEntry) (b : Batch) → AreMapEntries es → map_of_entries (applied es b) ≡ apply (map_of_entries es) b
+pub applied-of : (es : List MapEntry) (b : Batch) → AreMapEntries es → map_of_entries (entries_after_batch es b) ≡ apply (map_of_entries es) b
 applied-of es b h =
-    fin.same_entries_map _ _ (fin.entries-from_sorted key_cmp (applied es b) (sorted-applied es b h.sorted) ∙ ap (λ xs. applied xs b) (sym (entries-of es h)) ∙ sym (entries-apply (map_of_entries es) b))
+    fin.same_entries_map _ _ (fin.entries-from_sorted key_cmp (entries_after_batch es b) (sorted-applied es b h.sorted) ∙ ap (λ xs. entries_after_batch xs b) (sym (entries-of es h)) ∙ sym (entries-apply (map_of_entries es) b))

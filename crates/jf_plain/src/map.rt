@@ -6,7 +6,7 @@ ghost use Rattle.std.specs.FinMap.{is_sorted};
 ghost use Rattle.jf_path.specs.Keys.{key_cmp};
 ghost use Rattle.jf_hash.specs.Maps.{IsMap, apply};
 ghost use Rattle.jf_hash.specs.Roots.{root, leaf_of};
-ghost use Rattle.jf_model.specs.Changes.{applied};
+ghost use Rattle.jf_model.specs.Changes.{entries_after_batch};
 ghost use Rattle.jf_plain.specs.Entries.{HasShortValues, IsPlaceInMap, IsCountBelow, IsCountAt};
 ghost use Rattle.jf_model.specs.Changes.{with_put};
 
@@ -65,11 +65,11 @@ impl PlainMap {
     }
 
     /// The map after a batch. This map is unchanged.
-    pub fn applied(&self, alloc: Global, batch: &Batch) -> Result<PlainMap, Memory>
+    pub fn map_after(&self, alloc: Global, batch: &Batch) -> Result<PlainMap, Memory>
         ensures { IfOk result (λ m. m ≡ apply self.now batch.now) }
     {
         Ok(PlainMap {
-            entries: merged(alloc, &self.entries, batch.as_slice())?,
+            entries: merged_entries(alloc, &self.entries, batch.as_slice())?,
         })
     }
 
@@ -167,14 +167,14 @@ fn push_put(
 }
 
 /// Entries after a batch. It goes once along both.
-fn merged(
+fn merged_entries(
     alloc: Global,
     entries: &[(Key, Bytes)],
     batch: &[(Key, Option<SharedBytes>)],
 ) -> Result<Vec<(Key, Bytes)>, Memory>
     requires entries { T (is_sorted key_cmp entries.now) }
     requires batch { T (is_sorted key_cmp batch.now) }
-    ensures { IfOk result (λ v. v.items ≡ applied entries.now batch.now) }
+    ensures { IfOk result (λ v. v.items ≡ entries_after_batch entries.now batch.now) }
 {
     let mut merged = Vec::with_capacity(alloc, entries.len().saturating_add(batch.len()))?;
     let mut next = 0;

@@ -2,7 +2,7 @@
 ghost use Rattle.std.specs.Prelude.{◌≡◌, ◌+◌, ◌-◌, ◌^◌, ◌<◌, ◌≤◌, IfOk, OnOk, OnErr};
 ghost use Rattle.std.specs.Option.{option_copied, SomeIff};
 ghost use Rattle.jf_hash.specs.Roots.{root};
-ghost use Rattle.jf_model.specs.Versions.{Versions, IsVersions, new_store, newest, map_of, root_of, landed, unlanded};
+ghost use Rattle.jf_model.specs.Versions.{Versions, IsVersions, new_store, newest, map_of, root_of, versions_after_landing, versions_before_newest};
 
 use crate::map::PlainMap;
 use jf_hash::Hash;
@@ -101,10 +101,10 @@ impl PlainVersions {
     /// Lands a batch on the newest version. If it is out of memory, the versions are unchanged.
     pub fn land(&mut self, alloc: Global, batch: &Batch) -> Result<(), Memory>
         requires { self.old.head < 2 ^ 64 - 2 }
-        ensures ok { OnOk result (self.new ≡ landed batch.now self.old) }
+        ensures ok { OnOk result (self.new ≡ versions_after_landing batch.now self.old) }
         ensures err { OnErr result (self.new ≡ self.old) }
     {
-        let map = self.newest().applied(alloc, batch)?;
+        let map = self.newest().map_after(alloc, batch)?;
         let root = map.root(alloc)?;
         map.know_sound();
         self.versions.push(Version { map, root })?;
@@ -114,7 +114,7 @@ impl PlainVersions {
     /// Takes the newest version back. It takes no memory.
     pub fn undo(&mut self)
         requires { 0 < self.old.head }
-        ensures { self.new ≡ unlanded self.old }
+        ensures { self.new ≡ versions_before_newest self.old }
     {
         let _ = self.versions.pop();
     }

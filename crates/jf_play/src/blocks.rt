@@ -37,7 +37,7 @@ pub const SECOND_BLOCK: &[u8] = b"1 ok chunk 1 2 1\n\
     side 6e340b9cffb37a989ca544e6bb780a2c78901d3fb33738768511a30617afa01d\n";
 
 /// Runs the words of a line over a new store and these parts as input.
-pub fn received<H: Threads + Wait + Sync>(
+pub fn play_of_parts<H: Threads + Wait + Sync>(
     rt: &H,
     alloc: Global,
     line: &str,

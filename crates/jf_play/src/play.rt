@@ -119,7 +119,7 @@ pub fn run_over<D: Disk + Drop, H: Threads + Wait + Sync>(
     run_gated(rt, alloc, disk, words, source, sink, &FreeGate)
 }
 
-fn unpacked<D: Disk + Drop>(
+fn played_of<D: Disk + Drop>(
     alloc: Global,
     ended: Box<Ended<D>>,
     text: Vec<u8>,
@@ -152,7 +152,7 @@ pub fn play_words<D: Disk + Drop, H: Threads + Wait + Sync>(
     let mut source = new_source(alloc, script, faults)?;
     let mut sink = new_sink(alloc, faults)?;
     let ended = run_over(rt, alloc, disk, words, &mut source, &mut sink)?;
-    unpacked(alloc, ended, sink.text().to_vec(alloc)?)
+    played_of(alloc, ended, sink.text().to_vec(alloc)?)
 }
 
 /// Runs the words over a disk and a script with no faults, and returns what was written. The gate is told of each piece
@@ -168,7 +168,7 @@ pub fn play_gated<D: Disk + Drop, H: Threads + Wait + Sync, G: Gate>(
     let mut source = new_source(alloc, script, NO_FAULTS)?;
     let mut sink = new_sink(alloc, NO_FAULTS)?;
     let ended = run_gated(rt, alloc, disk, words, &mut source, &mut sink, gate)?;
-    unpacked(alloc, ended, sink.text().to_vec(alloc)?)
+    played_of(alloc, ended, sink.text().to_vec(alloc)?)
 }
 
 /// Runs the words of a line over a disk and an input.

@@ -7,7 +7,7 @@ ghost use Rattle.jf_path.specs.Nibbles.{common_bits};
 ghost use Rattle.jf_hash.specs.Roots.{leaf_of, part_root};
 ghost use Rattle.jf_evidence.specs.Proofs.{start_of};
 ghost use Rattle.jf_evidence.specs.Ranges.{Entries, range_root, zero_bits};
-ghost use Rattle.jf_range.specs.Ways.{padded, raised};
+ghost use Rattle.jf_range.specs.Ways.{padded_siblings, raised_siblings};
 ghost use Rattle.jf_range.specs.Frontiers.{frontier_of, rises_after, IsAscending};
 
 use crate::climbing::{climb, climb_between};
@@ -141,7 +141,7 @@ impl Frontier {
     // Makes the hashes on the left those of the next key's way. The last of them closes the part with the last entry.
     fn raise<L: Ledger>(&mut self, last: &Key, value_hash: &Hash, key: &Key, steps: &mut Steps<L>)
         requires { common_bits last.now key.now < 256 }
-        ensures lefts { self.new.lefts ≡ raised (common_bits last.now key.now) 0 last.now (start_of (Some (last.now, value_hash.now))) self.old.lefts }
+        ensures lefts { self.new.lefts ≡ raised_siblings (common_bits last.now key.now) 0 last.now (start_of (Some (last.now, value_hash.now))) self.old.lefts }
         ensures cost { steps.new ≤ steps.old + 256 }
     {
         let leaf = hash(Subject::Leaf(last, value_hash), steps);
@@ -163,7 +163,7 @@ impl Frontier {
 fn put_beside(lefts: &mut [Hash], depth: usize, common: usize, beside: Hash)
     requires depth { depth ≤ length lefts.old }
     requires common { common < length lefts.old }
-    ensures { take (common + 1) lefts.new ≡ padded common (take depth lefts.old) ++ beside ∷ [] }
+    ensures { take (common + 1) lefts.new ≡ padded_siblings common (take depth lefts.old) ++ beside ∷ [] }
 {
     pad(lefts, depth, common);
     lefts[common] = beside;
@@ -173,7 +173,7 @@ fn put_beside(lefts: &mut [Hash], depth: usize, common: usize, beside: Hash)
 fn pad(lefts: &mut [Hash], depth: usize, count: usize)
     requires depth { depth ≤ length lefts.old }
     requires count { count ≤ length lefts.old }
-    ensures { take count lefts.new ≡ padded count (take depth lefts.old) }
+    ensures { take count lefts.new ≡ padded_siblings count (take depth lefts.old) }
 {
     for i in depth..count {
         let none = empty();

@@ -8,7 +8,7 @@ use Rattle.jf_restore.specs.Finishes.{IsNewStore}
 use Rattle.jf_input.specs.Feeds.{Took, ReadsAll, ReadsFew, Fed}
 use Rattle.jf_input.specs.declared.feeding.Feeding.{Feeding}
 use Rattle.jf_input.specs.declared.feeding.Feeding.TheVariants as feeding
-use Rattle.jf_receive.specs.Chunks.{chunks, decided}
+use Rattle.jf_receive.specs.Chunks.{chunks, refusal_decided_by}
 use Rattle.jf_receive.specs.Laws.{with_entries, ChunksComeLineByLine, RefusalsComeAtTheirLine, RefusalsStay}
 use Rattle.jf_receive.specs.Steps.{Restoring, restoring_after, restored_at_end, refusal_at_stage}
 use Rattle.jf_receive.specs.declared.fault.BlockFault.{BlockFault}
@@ -86,7 +86,7 @@ module _ (version : ℕ) (root : List ℕ) (start last : Restoring) (begun : sta
       let a = all-taken f in
       let err = ended_err (new_restore version root) why (chunks root [] a.ls) (is ∙ ends-so law a) in
       refused-received why version root e source source' t new (λ input told. ap (λ ls. chunks root [] ls) (a.reads input told).1 ∙ err)
-      (inr (read_up a, λ input told. ap (λ ls. decided (length ls) (chunks root [] ls)) (a.reads input told).1 ∙ took-undecided version root last a.ls a.said a.took decides))
+      (inr (read_up a, λ input told. ap (λ ls. refusal_decided_by (length ls) (chunks root [] ls)) (a.reads input told).1 ∙ took-undecided version root last a.ls a.said a.took decides))
 
   -- ---- to a line that is refused
   -- the lines before it, which were taken, and the line

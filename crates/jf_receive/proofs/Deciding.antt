@@ -9,9 +9,9 @@ use Rattle.jf_blocks.specs.Reading.{Chunk, line_read, entry_of, side_of, chunk_o
 use Rattle.jf_blocks.specs.declared.chunk.ChunkHead.{ChunkHead}
 use Rattle.jf_receive.specs.declared.fault.BlockFault.{BlockFault}
 use Rattle.jf_receive.specs.declared.stage.Stage.{Stage}
-use Rattle.jf_receive.specs.Steps.{RestoringStep, adds_nothing, refuses, taken, taken_if_whole, begun_at, head_step, with_entry, entry_step, with_sibling, sibling_step, block_step, restoring_line_step, next_at, Restoring, restoring_after, restoring_after_all, begun_restoring, refusal_at_stage, end_by, restored_at_end}
+use Rattle.jf_receive.specs.Steps.{RestoringStep, adds_nothing, refuses, step_after_block, taken_if_whole, begun_at, head_step, with_entry, entry_step, with_sibling, sibling_step, block_step, restoring_line_step, next_at, Restoring, restoring_after, restoring_after_all, begun_restoring, refusal_at_stage, end_by, restored_at_end}
 use Rattle.jf_receive.specs.declared.stage.Begun.{Begun}
-use Rattle.jf_receive.specs.Chunks.{decided, chunks}
+use Rattle.jf_receive.specs.Chunks.{refusal_decided_by, chunks}
 use Rattle.jf_receive.specs.Laws.{with_entries, RefusalsComeAtTheirLine, RefusalsStay}
 use Rattle.jf_receive.specs.declared.fault.BlockFault.TheVariants as fault
 use Rattle.jf_receive.specs.declared.stage.Stage.TheVariants as stage
@@ -35,12 +35,12 @@ LeadsTo n stage.Between = Unit {0}
 LeadsTo n (stage.Block b) = Unit {0}
 LeadsTo n (stage.Refused why) = IsRefusedWithin n why
 
-taken-leads : (n : ℕ) (r : RestoreValue) (first : ℕ) (chunk : Chunk) → LeadsTo n (taken r first chunk).stage
+taken-leads : (n : ℕ) (r : RestoreValue) (first : ℕ) (chunk : Chunk) → LeadsTo n (step_after_block r first chunk).stage
 taken-leads n r first chunk = elim (range_refusal r.root r.entries chunk.0 chunk.1) as (λ (o : Option RangeFault). LeadsTo n (elim o as (λ x. RestoringStep) [ None ↦ adds_nothing (with_more r chunk.0) stage.Between | Some why ↦ refuses r (fault.Chunk first why) ]).stage) [ None ↦ tt | Some why ↦ tt ]
 
 taken_if_whole-leads : (n : ℕ) (r : RestoreValue) (b : Begun) → LeadsTo n (taken_if_whole r b).stage
 taken_if_whole-leads n r b =
-    elim (nat_lt 0 b.entries_left || nat_lt 0 b.siblings_left) as (λ t. LeadsTo n (cond t (adds_nothing r (stage.Block b)) (taken r b.first (b.entries, b.proof))).stage) [
+    elim (nat_lt 0 b.entries_left || nat_lt 0 b.siblings_left) as (λ t. LeadsTo n (cond t (adds_nothing r (stage.Block b)) (step_after_block r b.first (b.entries, b.proof))).stage) [
       | true ↦ tt
       | false ↦ taken-leads n r b.first (b.entries, b.proof)
     ]
@@ -107,7 +107,7 @@ is_before : (at n : ℕ) → at ≤ n → (at == n + 1) ≡ false
 is_before at n h = grind (arith, nat_tests)
 
 -- lines that come to a whole restore decide no refusal
-ok_so : (r : RestoreValue) (x : RestoreValue) (o : Result Entries BlockFault) (n : ℕ) → Ok x ≡ with_entries r o → None ≡ decided n o
+ok_so : (r : RestoreValue) (x : RestoreValue) (o : Result Entries BlockFault) (n : ℕ) → Ok x ≡ with_entries r o → None ≡ refusal_decided_by n o
 ok_so r x (Ok es) n e = refl
 ok_so r x (Err why) n e = absurd (cc)
 
@@ -115,15 +115,15 @@ err_so : (r : RestoreValue) (why : BlockFault) (o : Result Entries BlockFault) �
 err_so r why (Ok es) e = absurd (cc)
 err_so r why (Err w) e = let same : why ≡ w = cc in ap (λ x. Err x) (sym same)
 
-within_so : (n : ℕ) (why : BlockFault) → IsRefusedWithin n why → Some why ≡ decided n (Err why)
+within_so : (n : ℕ) (why : BlockFault) → IsRefusedWithin n why → Some why ≡ refusal_decided_by n (Err why)
 within_so n (fault.Line at) h = rw (is_before at n h) refl
 within_so n (fault.Chunk at why) h = refl
 within_so n fault.Memory h = refl
 
-decides : (r x : RestoreValue) (n at : ℕ) (s : Stage) (o : Result Entries BlockFault) → IsAfterLines n s at → end_by x at s ≡ with_entries r o → refusal_at_stage s ≡ decided n o
+decides : (r x : RestoreValue) (n at : ℕ) (s : Stage) (o : Result Entries BlockFault) → IsAfterLines n s at → end_by x at s ≡ with_entries r o → refusal_at_stage s ≡ refusal_decided_by n o
 decides r x n at stage.Between o h e = ok_so r x o n e
 decides r x n at (stage.Block b) o h e = rw (err_so r (fault.Line at) o e, is_next at n h) refl
-decides r x n at (stage.Refused why) o h e = within_so n why h ∙ ap (decided n) (sym (err_so r why o e))
+decides r x n at (stage.Refused why) o h e = within_so n why h ∙ ap (refusal_decided_by n) (sym (err_so r why o e))
 
 pub refusals-decided : RefusalsComeAtTheirLine
 refusals-decided r ls =

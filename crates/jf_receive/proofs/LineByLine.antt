@@ -6,13 +6,13 @@ use Rattle.jf_evidence.specs.Ranges.{Entries, Entry, range_refusal}
 use Rattle.jf_evidence.specs.declared.range_proof.RangeFault.{RangeFault}
 use Rattle.jf_restore.specs.RestoreValue.{RestoreValue}
 use Rattle.jf_restore.specs.Restores.{with_more}
-use Rattle.jf_blocks.specs.Reading.{Read, Chunk, Place, and_then, matched, line_read, line_by, gives, lines_by, side_of, entry_of, chunk_of, chunk_body, chunk_block}
+use Rattle.jf_blocks.specs.Reading.{Read, Chunk, Place, and_then, one_line_read, line_read, line_by, gives, lines_by, side_of, entry_of, chunk_of, chunk_body, chunk_block}
 use Rattle.jf_blocks.specs.Sides.{kept_sides}
 use Rattle.jf_blocks.proofs.Bounds.{Bounded, chunk_body-bounded}
 use Rattle.jf_blocks.proofs.SideLaws.{with_kept-kept_sides, range_refusal-kept_sides}
 use Rattle.jf_receive.specs.declared.fault.BlockFault.{BlockFault}
 use Rattle.jf_receive.specs.declared.stage.Stage.{Stage}
-use Rattle.jf_receive.specs.Steps.{restoring_after_all, restored_at_end, RestoringStep, restoring_line_step, taken, refuses, next_at, adds_nothing, taken_if_whole, entry_step, sibling_step, head_step}
+use Rattle.jf_receive.specs.Steps.{restoring_after_all, restored_at_end, RestoringStep, restoring_line_step, step_after_block, refuses, next_at, adds_nothing, taken_if_whole, entry_step, sibling_step, head_step}
 use Rattle.jf_receive.specs.declared.stage.Begun.{Begun}
 use Rattle.jf_receive.specs.Chunks.{chunks_from, accepted_chunk}
 use Rattle.jf_receive.specs.Laws.{with_entries, ChunksComeLineByLine}
@@ -38,7 +38,7 @@ refused_stays r at why (line ∷ ls) = refused_stays r at why ls
 
 -- what a block that begins at a line comes to, read or not, with the lines after it
 abbrev restoring_answered : RestoreValue → ℕ → Read Chunk → Ended
-restoring_answered r first (Ok b) = restoring_goes (taken r first b.0) b.1.at b.1.left
+restoring_answered r first (Ok b) = restoring_goes (step_after_block r first b.0) b.1.at b.1.left
 restoring_answered r first (Err at) = Err (fault.Line at)
 
 -- ---- one line
@@ -50,7 +50,7 @@ unfolding restoring_after_all
 by_line f more step s r first at [] ends counts steps none some = ends
 by_line f more step s r first at (line ∷ ls) ends counts steps none some =
     ap₂ (λ (a : RestoringStep) n. restoring_goes a n ls) (steps line) counts
-    ∙ elim (line_read f line) as (λ o. restoring_goes (step o) (at + 1) ls ≡ restoring_answered r first (and_then (matched at ls o) more)) [
+    ∙ elim (line_read f line) as (λ o. restoring_goes (step o) (at + 1) ls ≡ restoring_answered r first (and_then (one_line_read at ls o) more)) [
       | None ↦ ap (λ (a : RestoringStep). restoring_goes a (at + 1) ls) none ∙ refused_stays r (at + 1) (fault.Line at) ls
       | Some x ↦ some x ls
     ]
@@ -86,7 +86,7 @@ module _ (r : RestoreValue) (first depth : ℕ) where
   side_and_more es siblings m (Ok o) = one_side es siblings o.0 (lines_by side_of m o.1)
 
   -- a whole block is taken by the siblings that are kept as by all
-  taken-kept_sides : (es : Entries) (siblings : List (List ℕ)) → taken r first (es, record { depth = depth; siblings = kept_sides siblings }) ≡ taken r first (es, record { depth = depth; siblings = siblings })
+  taken-kept_sides : (es : Entries) (siblings : List (List ℕ)) → step_after_block r first (es, record { depth = depth; siblings = kept_sides siblings }) ≡ step_after_block r first (es, record { depth = depth; siblings = siblings })
   taken-kept_sides es siblings =
       ap (λ (o : Option RangeFault). elim o as (λ x. RestoringStep) [ None ↦ adds_nothing (with_more r es) stage.Between | Some why ↦ refuses r (fault.Chunk first why) ]) (range_refusal-kept_sides r.root r.entries es depth siblings)
 
@@ -94,12 +94,12 @@ module _ (r : RestoreValue) (first depth : ℕ) where
       → restoring_goes (taken_if_whole r (part 0 n es (kept_sides siblings))) at ls ≡ restoring_answered r first (and_then (lines_by side_of n (record { at = at; left = ls })) (with_sides es siblings))
   unfolding lines_by restoring_line_step
   sides_read zero es siblings at ls =
-      ap (λ b. restoring_goes (cond (b || b) (adds_nothing r (stage.Block (part 0 0 es (kept_sides siblings)))) (taken r first (es, record { depth = depth; siblings = kept_sides siblings }))) at ls) none_left
+      ap (λ b. restoring_goes (cond (b || b) (adds_nothing r (stage.Block (part 0 0 es (kept_sides siblings)))) (step_after_block r first (es, record { depth = depth; siblings = kept_sides siblings }))) at ls) none_left
       ∙ ap (λ (a : RestoringStep). restoring_goes a at ls) (taken-kept_sides es siblings)
-      ∙ ap (λ hs. restoring_goes (taken r first (es, record { depth = depth; siblings = hs })) at ls) (sym (append-nil siblings))
+      ∙ ap (λ hs. restoring_goes (step_after_block r first (es, record { depth = depth; siblings = hs })) at ls) (sym (append-nil siblings))
   sides_read (suc m) es siblings at ls =
       let b : Begun = part 0 (suc m) es (kept_sides siblings) in
-      ap₂ (λ s t. restoring_goes (cond (s || t) (adds_nothing r (stage.Block b)) (taken r first (es, record { depth = depth; siblings = kept_sides siblings }))) at ls) none_left (some_left m)
+      ap₂ (λ s t. restoring_goes (cond (s || t) (adds_nothing r (stage.Block b)) (step_after_block r first (es, record { depth = depth; siblings = kept_sides siblings }))) at ls) none_left (some_left m)
       ∙ by_line side_of (λ h q. and_then (lines_by side_of m q) (with_sides es (siblings ++ h ∷ []))) (sibling_step r at b) (stage.Block b) r first at ls refl refl
       (λ line. ap (λ t. cond t (entry_step r at b (line_read entry_of line)) (sibling_step r at b (line_read side_of line))) none_left) refl
       (λ h more.
@@ -129,7 +129,7 @@ module _ (r : RestoreValue) (first depth : ℕ) where
       sides_read k es [] at ls ∙ ap (λ fs. restoring_answered r first (and_then (lines_by side_of k (record { at = at; left = ls })) (with_sides fs []))) (sym (append-nil es))
   entries_read (suc m) k es at ls =
       let b : Begun = part (suc m) k es [] in
-      ap (λ t. restoring_goes (cond (t || nat_lt 0 k) (adds_nothing r (stage.Block b)) (taken r first (es, record { depth = depth; siblings = [] }))) at ls) (some_left m)
+      ap (λ t. restoring_goes (cond (t || nat_lt 0 k) (adds_nothing r (stage.Block b)) (step_after_block r first (es, record { depth = depth; siblings = [] }))) at ls) (some_left m)
       ∙ by_line entry_of (λ e q. and_then (lines_by entry_of m q) (with_entries_and k (es ++ e ∷ []))) (entry_step r at b) (stage.Block b) r first at ls refl refl
       (λ line. ap (λ t. cond t (entry_step r at b (line_read entry_of line)) (sibling_step r at b (line_read side_of line))) (some_left m)) refl
       (λ e more. ap (λ n. restoring_goes (taken_if_whole r (part n k (es ++ e ∷ []) [])) (at + 1) more) (one_less m) ∙ entries_read m k (es ++ e ∷ []) (at + 1) more)
@@ -139,7 +139,7 @@ module _ (r : RestoreValue) (first depth : ℕ) where
 block_read : (r : RestoreValue) (at : ℕ) (line : List ℕ) (ls : List (List ℕ)) → from r at stage.Between (line ∷ ls) ≡ restoring_answered r at (chunk_block (record { at = at; left = line ∷ ls }))
 unfolding chunk_body restoring_line_step restoring_after_all
 block_read r at line ls =
-    elim (line_read chunk_of line) as (λ o. restoring_goes (head_step r at o) (at + 1) ls ≡ restoring_answered r at (and_then (matched at ls o) chunk_body)) [
+    elim (line_read chunk_of line) as (λ o. restoring_goes (head_step r at o) (at + 1) ls ≡ restoring_answered r at (and_then (one_line_read at ls o) chunk_body)) [
       | None ↦ refused_stays r (at + 1) (fault.Line at) ls
       | Some head ↦ entries_read r at head.depth head.entries head.siblings [] (at + 1) ls
     ]
@@ -167,10 +167,10 @@ chunks_from-lines zero r at [] few = refl
 chunks_from-lines zero r at (line ∷ ls) few = absurd (omega arith)
 chunks_from-lines (suc n) r at [] few = refl
 chunks_from-lines (suc n) r at (line ∷ ls) few =
-    elim (line_read chunk_of line) as (λ o. with_entries r (elim (and_then (matched at ls o) chunk_body) as (λ x. Result Entries BlockFault) [
+    elim (line_read chunk_of line) as (λ o. with_entries r (elim (and_then (one_line_read at ls o) chunk_body) as (λ x. Result Entries BlockFault) [
       | Err e ↦ Err (fault.Line e)
       | Ok b ↦ elim (accepted_chunk r.root at r.entries b.0) as (λ x. Result Entries BlockFault) [ Err why ↦ Err why | Ok all ↦ chunks_from n r.root all b.1 ]
-    ]) ≡ restoring_answered r at (and_then (matched at ls o) chunk_body)) [
+    ]) ≡ restoring_answered r at (and_then (one_line_read at ls o) chunk_body)) [
       | None ↦ refl
       | Some head ↦ block_taken n (chunks_from-lines n) r at line ls (chunk_body head (record { at = at + 1; left = ls })) (chunk_body-bounded head (record { at = at + 1; left = ls })) (omega arith)
     ]

@@ -6,7 +6,7 @@ use Rattle.std.proofs.lemmas.List.{take-append-le, length-take-le}
 use Rattle.jf_restore.specs.RestoreValue.{RestoreValue}
 use Rattle.jf_input.specs.Feeds.{given_of, Took}
 use Rattle.jf_input.proofs.Given.{given_alike}
-use Rattle.jf_receive.specs.Chunks.{chunks, decided}
+use Rattle.jf_receive.specs.Chunks.{chunks, refusal_decided_by}
 use Rattle.jf_receive.specs.Laws.{RefusalsComeAtTheirLine, LongChunkLinesAreAlike}
 use Rattle.jf_receive.specs.Steps.{Restoring, begun_restoring, restoring_after, restoring_after_all, refusal_at_stage, line_result, out_of_memory}
 use Rattle.jf_receive.proofs.Deciding.{restoring_after_all-append}
@@ -94,7 +94,7 @@ first version root = begun_restoring (new_restore version root)
 module _ (version : ℕ) (root : List ℕ) (next : Restoring) (ls : List (List ℕ)) (text : List ℕ) where
   module _ (took : Took TakesBlockLine (first version root) ls next text) (law : RefusalsComeAtTheirLine) where
     -- after the lines that were taken nothing is decided
-    pub took-undecided : decided (length ls) (chunks root [] ls) ≡ None
+    pub took-undecided : refusal_decided_by (length ls) (chunks root [] ls) ≡ None
     took-undecided = sym (law (new_restore version root) ls) ∙ ap (λ xs. refusal_after (first version root) xs) (sym (take-length ls)) ∙ took-none (first version root) next ls text refl took (length ls)
 
     module _ (line : List ℕ) (why : BlockFault) (refused : refusal_at_stage (restoring_after next line).stage ≡ Some why) where
@@ -108,11 +108,11 @@ module _ (version : ℕ) (root : List ℕ) (next : Restoring) (ls : List (List �
       refused-last = ap (λ (s : Restoring). refusal_at_stage s.stage) (restoring_after_all-append (first version root) ls (line ∷ []))
           ∙ ap (λ (s : Restoring). refusal_at_stage (restoring_after s line).stage) (sym (took-after (first version root) next ls text took)) ∙ refused
 
-      none_before : (n : ℕ) → n < length all → decided n (chunks root [] (take n all)) ≡ None
+      none_before : (n : ℕ) → n < length all → refusal_decided_by n (chunks root [] (take n all)) ≡ None
       none_before n less =
           let before : take n all ≡ take n ls = take-append-le n ls (line ∷ []) (omega (arith, length-append ls (line ∷ []))) in
           let many : length (take n all) ≡ n = length-take-le n all (omega arith) in
-          ap (λ k. decided k (chunks root [] (take n all))) (sym many) ∙ sym (law (new_restore version root) (take n all)) ∙ ap (λ xs. refusal_after (first version root) xs) before
+          ap (λ k. refusal_decided_by k (chunks root [] (take n all))) (sym many) ∙ sym (law (new_restore version root) (take n all)) ∙ ap (λ xs. refusal_after (first version root) xs) before
           ∙ took-none (first version root) next ls text refl took n
 
       -- they decide it, and not before the last of them

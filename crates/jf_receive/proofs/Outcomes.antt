@@ -7,7 +7,7 @@ use Rattle.jf_engine.specs.Engines.{Engine}
 use Rattle.jf_restore.specs.RestoreValue.{RestoreValue}
 use Rattle.jf_restore.specs.Finishes.{IsNewStore, IsInUse, HasImported}
 use Rattle.jf_input.specs.Feeds.{Appends}
-use Rattle.jf_receive.specs.Restored.{restored, restored_text}
+use Rattle.jf_receive.specs.Restored.{restore_result, restored_text}
 use Rattle.jf_receive.specs.Receives.{HasReceived, RestoresEntries, EndsUnlessStopped}
 use Rattle.jf_receive.specs.declared.received.Received.{Received}
 use Rattle.jf_receive.specs.declared.received.Received.TheVariants as received
@@ -46,7 +46,7 @@ module _ (version : ℕ) (root : List ℕ) (old new : Engine) (rest rest' text t
 
     module _ (input : List ℕ) (told : rest ≡ Some input) where
       abbrev outcome : Result Entries RestoreFault
-      outcome = restored old.generation root input
+      outcome = restore_result old.generation root input
 
       -- what refuses the restore is what the input comes to
       refuses : (why : RestoreFault) → Ends (received.Refused why) → outcome ≡ Err why

@@ -27,8 +27,8 @@ abbrev pub chunks : List ℕ → Entries → List (List ℕ) → Result Entries 
 chunks root known ls = chunks_from (length ls) root known (first_place ls)
 
 -- the refusal that the first n lines decide, whatever follows them: a line that is missing after them may still come
-abbrev pub decided : ℕ → Result Entries BlockFault → Option BlockFault
-decided n (Ok es) = None
-decided n (Err (fault.Line at)) = if at == n + 1 then None else Some (fault.Line at)
-decided n (Err (fault.Chunk at why)) = Some (fault.Chunk at why)
-decided n (Err fault.Memory) = Some fault.Memory
+abbrev pub refusal_decided_by : ℕ → Result Entries BlockFault → Option BlockFault
+refusal_decided_by n (Ok es) = None
+refusal_decided_by n (Err (fault.Line at)) = if at == n + 1 then None else Some (fault.Line at)
+refusal_decided_by n (Err (fault.Chunk at why)) = Some (fault.Chunk at why)
+refusal_decided_by n (Err fault.Memory) = Some fault.Memory

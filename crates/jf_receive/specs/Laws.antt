@@ -5,7 +5,7 @@ use Rattle.jf_restore.specs.RestoreValue.{RestoreValue}
 use Rattle.jf_text.specs.Words.{is_long}
 use Rattle.jf_receive.specs.declared.fault.BlockFault.{BlockFault}
 use Rattle.jf_receive.specs.declared.fault.BlockFault.TheVariants as fault
-use Rattle.jf_receive.specs.Chunks.{chunks, decided}
+use Rattle.jf_receive.specs.Chunks.{chunks, refusal_decided_by}
 use Rattle.jf_receive.specs.Steps.{begun_restoring, restoring_after_all, restored_at_end, refusal_at_stage, Restoring, restoring_after}
 
 -- the restore with these entries
@@ -19,7 +19,7 @@ ChunksComeLineByLine = (r : RestoreValue) (ls : List (List ℕ)) → restored_at
 
 -- after lines, the refusal is the one that they decide
 abbrev pub RefusalsComeAtTheirLine : Type 0
-RefusalsComeAtTheirLine = (r : RestoreValue) (ls : List (List ℕ)) → refusal_at_stage (restoring_after_all (begun_restoring r) ls).stage ≡ decided (length ls) (chunks r.root r.entries ls)
+RefusalsComeAtTheirLine = (r : RestoreValue) (ls : List (List ℕ)) → refusal_at_stage (restoring_after_all (begun_restoring r) ls).stage ≡ refusal_decided_by (length ls) (chunks r.root r.entries ls)
 
 -- after a refusal, all lines that begin with these give the same refusal
 abbrev pub RefusalsStay : Type 0

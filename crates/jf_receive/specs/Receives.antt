@@ -8,10 +8,10 @@ use Rattle.jf_evidence.specs.Ranges.{Entries}
 use Rattle.jf_engine.specs.Engines.{Engine}
 use Rattle.jf_restore.specs.Finishes.{IsNewStore, IsInUse, HasImported, HasBrokenOff}
 use Rattle.jf_input.specs.Feeds.{Appends, ReadsFew}
-use Rattle.jf_receive.specs.Chunks.{chunks, decided}
+use Rattle.jf_receive.specs.Chunks.{chunks, refusal_decided_by}
 use Rattle.jf_receive.specs.declared.fault.BlockFault.{BlockFault}
 use Rattle.jf_receive.specs.declared.fault.BlockFault.TheVariants as block_fault
-use Rattle.jf_receive.specs.Restored.{restored, of_block, restored_text, DecideFirst}
+use Rattle.jf_receive.specs.Restored.{restore_result, of_block, restored_text, DecideFirst}
 use Rattle.jf_receive.specs.declared.received.Received.{Received}
 use Rattle.jf_receive.specs.declared.received.Received.TheVariants as received
 use Rattle.jf_receive.specs.declared.received.RestoreFault.{RestoreFault}
@@ -24,7 +24,7 @@ restore_piece = 4096
 
 -- the input, if it is told, comes to this
 abbrev pub ComesTo : ℕ → List ℕ → Option (List ℕ) → Result Entries RestoreFault → Type 0
-ComesTo generation announced rest r = (input : List ℕ) → rest ≡ Some input → restored generation announced input ≡ r
+ComesTo generation announced rest r = (input : List ℕ) → rest ≡ Some input → restore_result generation announced input ≡ r
 
 -- the input, if it is told, was read to its end
 abbrev pub IsReadUp : Option (List ℕ) → Option (List ℕ) → Type 0
@@ -35,7 +35,7 @@ IsReadUp rest rest' = (input : List ℕ) → rest ≡ Some input → rest' ≡ S
 abbrev pub ReadsToDecision : List ℕ → Option (List ℕ) → Option (List ℕ) → BlockFault → Type 0
 ReadsToDecision announced rest rest' why =
     ((ls : List (List ℕ)) × DecideFirst announced ls why × ReadsFew restore_piece rest rest' ls)
-    ⊎ (IsReadUp rest rest' × ((input : List ℕ) → rest ≡ Some input → decided (length (lines input)) (chunks announced [] (lines input)) ≡ None))
+    ⊎ (IsReadUp rest rest' × ((input : List ℕ) → rest ≡ Some input → refusal_decided_by (length (lines input)) (chunks announced [] (lines input)) ≡ None))
 
 -- ---- how it ended
 -- a line or a block was refused, as the input comes to

@@ -5,7 +5,7 @@ use Rattle.jf_hash.specs.Roots.{part_root}
 use Rattle.jf_evidence.specs.Ranges.{Entries}
 use Rattle.jf_io.specs.Lines.{lines}
 use Rattle.jf_text.specs.Words.{line_text}
-use Rattle.jf_receive.specs.Chunks.{chunks, decided}
+use Rattle.jf_receive.specs.Chunks.{chunks, refusal_decided_by}
 use Rattle.jf_receive.specs.declared.fault.BlockFault.{BlockFault}
 use Rattle.jf_receive.specs.declared.fault.BlockFault.TheVariants as block_fault
 use Rattle.jf_receive.specs.declared.received.RestoreFault.{RestoreFault}
@@ -26,8 +26,8 @@ restored_entries generation root es =
 
 -- the entries that an input restores under an announced root, into a new store whose files have this generation; or the
 -- first refusal: of a line or a block, then of the root, then of the numbers
-abbrev pub restored : ℕ → List ℕ → List ℕ → Result Entries RestoreFault
-restored generation root input = elim (chunks root [] (lines input)) [ Ok es ↦ restored_entries generation root es | Err why ↦ Err (of_block why) ]
+abbrev pub restore_result : ℕ → List ℕ → List ℕ → Result Entries RestoreFault
+restore_result generation root input = elim (chunks root [] (lines input)) [ Ok es ↦ restored_entries generation root es | Err why ↦ Err (of_block why) ]
 
 -- the line that tells of a restored version: its number, its root, and how many entries it has
 abbrev pub restored_text : ℕ → List ℕ → ℕ → List ℕ
@@ -35,5 +35,5 @@ restored_text version root count = line_text (codes "restored" ∷ decimal versi
 
 -- these lines decide a refusal, and those before the last of them don't
 pub record DecideFirst (root : List ℕ) (ls : List (List ℕ)) (why : BlockFault) : Type 0 where
-  pub decides : decided (length ls) (chunks root [] ls) ≡ Some why
-  pub not_before : (n : ℕ) → n < length ls → decided n (chunks root [] (take n ls)) ≡ None
+  pub decides : refusal_decided_by (length ls) (chunks root [] ls) ≡ Some why
+  pub not_before : (n : ℕ) → n < length ls → refusal_decided_by n (chunks root [] (take n ls)) ≡ None

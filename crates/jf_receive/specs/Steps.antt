@@ -51,12 +51,12 @@ abbrev pub refuses : RestoreValue → BlockFault → RestoringStep
 refuses r why = adds_nothing r (stage.Refused why)
 
 -- the entries of a block are added if it is accepted
-abbrev pub taken : RestoreValue → ℕ → Chunk → RestoringStep
-taken r first chunk = elim (range_refusal r.root r.entries chunk.0 chunk.1) [ None ↦ adds_nothing (with_more r chunk.0) stage.Between | Some why ↦ refuses r (fault.Chunk first why) ]
+abbrev pub step_after_block : RestoreValue → ℕ → Chunk → RestoringStep
+step_after_block r first chunk = elim (range_refusal r.root r.entries chunk.0 chunk.1) [ None ↦ adds_nothing (with_more r chunk.0) stage.Between | Some why ↦ refuses r (fault.Chunk first why) ]
 
 -- the step of a block that is read to its end
 abbrev pub taken_whole : RestoreValue → Begun → RestoringStep
-taken_whole r b = taken r b.first (b.entries, b.proof)
+taken_whole r b = step_after_block r b.first (b.entries, b.proof)
 
 -- what was read of a block: it is whole if no line is missing
 abbrev pub taken_if_whole : RestoreValue → Begun → RestoringStep

@@ -42,17 +42,17 @@ pub(crate) fn read_blocks<S: Source>(
     match feed(alloc, &mut reader, source, &mut nowhere, PIECE) {
         Feeding::Done => match reader.end() {
             Ok(restore) => Ok(restore),
-            Err(why) => Err(refused(why)),
+            Err(why) => Err(refused_lines(why)),
         },
         Feeding::ReadFault => Err(Received::ReadFault),
         Feeding::WriteFault => unreachable!(),
         Feeding::Memory => Err(Received::Memory),
-        Feeding::Stopped(why) => Err(refused(why)),
+        Feeding::Stopped(why) => Err(refused_lines(why)),
     }
 }
 
 /// How a restore ends whose lines are refused.
-fn refused(why: BlockFault) -> Received
+fn refused_lines(why: BlockFault) -> Received
     ensures { result ≡ refused_lines why }
 {
     match why {

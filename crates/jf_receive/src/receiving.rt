@@ -3,7 +3,7 @@ ghost use Rattle.std.specs.Prelude.{◌≡◌, ◌⊎◌, ℕ, ◌-◌, ◌<◌,
 ghost use Rattle.jf_path.specs.Faults.{HasCause};
 ghost use Rattle.jf_evidence.specs.Ranges.{Entries};
 ghost use Rattle.jf_restore.specs.Finishes.{IsNewStore, IsInUse};
-ghost use Rattle.jf_receive.specs.Restored.{restored};
+ghost use Rattle.jf_receive.specs.Restored.{restore_result};
 ghost use Rattle.jf_receive.specs.Receives.{HasReceived, EndsUnlessStopped};
 
 use crate::importing::import;
@@ -46,8 +46,8 @@ pub fn receive<S: Source, K: Sink, D: Disk>(
     ensures received { HasReceived result version root engine.old engine.new (S.rest source.old) (S.rest source.new) (K.text sink.old) (K.text sink.new) }
     ensures occupied { IsInUse engine.old.versions → result ≡ Received.Refused (RestoreFault.NotEmpty engine.old.versions.head) }
     ensures untouched { (head : ℕ) → result ≡ Received.Refused (RestoreFault.NotEmpty head) → (source.new ≡ source.old) × (sink.new ≡ sink.old) }
-    ensures refused { (input : List ℕ) (why : RestoreFault) → S.rest source.old ≡ Some input → IsNewStore engine.old.versions → restored engine.old.generation root input ≡ Err why → EndsUnlessStopped (Received.Refused why) result }
-    ensures accepted { (input : List ℕ) (es : Entries) (why : RestoreFault) → S.rest source.old ≡ Some input → IsNewStore engine.old.versions → restored engine.old.generation root input ≡ Ok es → result ≡ Received.Refused why → ⊥ }
+    ensures refused { (input : List ℕ) (why : RestoreFault) → S.rest source.old ≡ Some input → IsNewStore engine.old.versions → restore_result engine.old.generation root input ≡ Err why → EndsUnlessStopped (Received.Refused why) result }
+    ensures accepted { (input : List ℕ) (es : Entries) (why : RestoreFault) → S.rest source.old ≡ Some input → IsNewStore engine.old.versions → restore_result engine.old.generation root input ≡ Ok es → result ≡ Received.Refused why → ⊥ }
     ensures read { result ≡ Received.ReadFault → HasCause (S.faults source.old) (S.faults source.new) }
     ensures write { result ≡ Received.WriteFault → HasCause (K.faults sink.old) (K.faults sink.new) }
     ensures counts { (S.faults source.old ≤ S.faults source.new) × (K.faults sink.old ≤ K.faults sink.new) }

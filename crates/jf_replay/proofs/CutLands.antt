@@ -18,7 +18,7 @@ use Rattle.jf_path.proofs.ListLaws.{All-of, All-weaker, Contains-map}
 use Rattle.jf_path.proofs.FilterLaws.{filter-same, filter-Contains, filter-passes, Contains-filter}
 use Rattle.jf_codec.specs.declared.format.Format.{Format}
 use Rattle.jf_standing.specs.Named.{Named, never, is_written, is_stale, written_at, stale_at}
-use Rattle.jf_standing.specs.Standing.{Standing, is_named, marked, unmarked, with_commit}
+use Rattle.jf_standing.specs.Standing.{Standing, is_named, marked_node, unmarked_node, with_commit}
 use Rattle.jf_standing.specs.Building.{apart}
 use Rattle.jf_standing.specs.Sound.{IsSound}
 use Rattle.jf_standing.specs.Taking.{Continues}
@@ -98,7 +98,7 @@ drop-first zero (y ∷ ys) lt = refl
 drop-first (suc i) (y ∷ ys) lt = ap (λ k. slice_index_or ys i [] ∷ drop k (y ∷ ys)) (let e : suc i + 1 ≡ suc (i + 1) = omega arith in e) ∙ drop-first i ys (omega arith)
 
 module _ (s : Standing) (w : ℕ) (late : s.floor < w) (rises : IsTrue (are_rising (map (λ n. n.0) s.nodes))) (numbered : AllByRecursion (IsNumbered s.floor s.head) s.nodes) where
-  marked_by : (n : Named) → Contains s.nodes n → marked (landing_making w s) (named_by (w - 1) n) ≡ named_by w n
+  marked_by : (n : Named) → Contains s.nodes n → marked_node (landing_making w s) (named_by (w - 1) n) ≡ named_by w n
   marked_by n has =
       ap (λ b. cond b (n.0, n.1, w) (named_by (w - 1) n)) (stale-named w s.nodes n rises has)
       ∙ (elim (is_stale w n) as (λ b. is_stale w n ≡ b → cond b (n.0, n.1, w) (named_by (w - 1) n) ≡ named_by w n) [
@@ -115,7 +115,7 @@ module _ (s : Standing) (w : ℕ) (late : s.floor < w) (rises : IsTrue (are_risi
           same : (v : ℕ) → (v == w) ≡ false → nat_le v (w - 1) ≡ nat_le v w
           same v is = grind (arith, nat_tests)
 
-  fresh_by : (n : Named) → Contains s.nodes n → is_written w n ≡ true → unmarked (without_since n) ≡ named_by w n
+  fresh_by : (n : Named) → Contains s.nodes n → is_written w n ≡ true → unmarked_node (without_since n) ≡ named_by w n
   fresh_by n has is = ap (λ b. (n.0, n.1, cond b n.2 never)) (later n.0.version n.2 (number_tells n.0.version w is) (All-of _ s.nodes n numbered has).later)
     where
       later : (v x : ℕ) → v ≡ w → v < x → false ≡ nat_le x w
@@ -136,10 +136,10 @@ module _ (s : Standing) (w : ℕ) (late : s.floor < w) (rises : IsTrue (are_risi
   landed_nodes : (with_commit (landing_making w s) (standing_by (w - 1) s)).nodes ≡ nodes_by w s.nodes
   landed_nodes =
       ap₂ (λ a b. a ++ b)
-      (map-map (named_by (w - 1)) (marked (landing_making w s)) (filter (is_written_by (w - 1)) s.nodes)
-      ∙ map-each (λ n. marked (landing_making w s) (named_by (w - 1) n)) (named_by w) (filter (is_written_by (w - 1)) s.nodes) (All-each_element _ (filter (is_written_by (w - 1)) s.nodes) (λ n has. marked_by n (filter-Contains (is_written_by (w - 1)) s.nodes n has))))
-      (map-map without_since unmarked (written_at w s.nodes)
-      ∙ map-each (λ n. unmarked (without_since n)) (named_by w) (written_at w s.nodes) (All-each_element _ (written_at w s.nodes) (λ n has. fresh_by n (filter-Contains (is_written w) s.nodes n has) (filter-passes (is_written w) s.nodes n has))))
+      (map-map (named_by (w - 1)) (marked_node (landing_making w s)) (filter (is_written_by (w - 1)) s.nodes)
+      ∙ map-each (λ n. marked_node (landing_making w s) (named_by (w - 1) n)) (named_by w) (filter (is_written_by (w - 1)) s.nodes) (All-each_element _ (filter (is_written_by (w - 1)) s.nodes) (λ n has. marked_by n (filter-Contains (is_written_by (w - 1)) s.nodes n has))))
+      (map-map without_since unmarked_node (written_at w s.nodes)
+      ∙ map-each (λ n. unmarked_node (without_since n)) (named_by w) (written_at w s.nodes) (All-each_element _ (written_at w s.nodes) (λ n has. fresh_by n (filter-Contains (is_written w) s.nodes n has) (filter-passes (is_written w) s.nodes n has))))
       ∙ sym (ap (map (named_by w)) (split-written w s.nodes (omega arith) rises) ∙ map-join (named_by w) (filter (is_written_by (w - 1)) s.nodes) (written_at w s.nodes))
 
   -- the landing that made a version leads to it

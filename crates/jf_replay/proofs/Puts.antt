@@ -13,7 +13,7 @@ use Rattle.jf_model.specs.Nodes.{under}
 use Rattle.jf_split.proofs.Gathered.{insert_entry-put}
 use Rattle.jf_standing.specs.Landing.{by_key}
 use Rattle.jf_standing.specs.Named.{leaf_entries, never}
-use Rattle.jf_standing.specs.Standing.{unmarked}
+use Rattle.jf_standing.specs.Standing.{unmarked_node}
 use Rattle.jf_standing.proofs.Batches.{puts_of, removals_of}
 use Rattle.jf_replay.specs.Changes.{put_each, leaves_at, sole, removal_of}
 
@@ -32,8 +32,8 @@ module _ {X : Type 0} where
 
 -- the leaf of one more node is put
 pub put-leaf : (x : NodeName × PlainNode) (xs : List (NodeName × PlainNode)) (key value : List ℕ) (b : Batch) → x.1 ≡ node.Leaf key value
-    → put_each (puts_of (leaf_entries (map unmarked (x ∷ xs)))) b ≡ put key_cmp key (Some value) (put_each (puts_of (leaf_entries (map unmarked xs))) b)
-put-leaf x xs key value b is = ap (λ (n : PlainNode). put_each (puts_of (leaf_entries ((x.0, n, never) ∷ map unmarked xs))) b) is
+    → put_each (puts_of (leaf_entries (map unmarked_node (x ∷ xs)))) b ≡ put key_cmp key (Some value) (put_each (puts_of (leaf_entries (map unmarked_node xs))) b)
+put-leaf x xs key value b is = ap (λ (n : PlainNode). put_each (puts_of (leaf_entries ((x.0, n, never) ∷ map unmarked_node xs))) b) is
 
 -- the leaf of one more name is removed
 pub put-removal : (m : Map) (name : NodeName) (names : List NodeName) (key : List ℕ) (b : Batch) → removals_of (sole (under 0 name.path (entries m))) ≡ removal_of (Some key)
@@ -46,10 +46,10 @@ put-removal m name names key b is = ap (λ (es : Batch). put_each es b) (joined 
 
 -- the leaf at a place of a list is put over those after it
 pub put-leaf-at : (nodes : List (NodeName × PlainNode)) (i : ℕ) (x : NodeName × PlainNode) (key value : List ℕ) (b old new : Batch) → 0 < i → i ≤ length nodes → (get_or nodes (i - 1) x).1 ≡ node.Leaf key value
-    → old ≡ put_each (puts_of (leaf_entries (map unmarked (drop i nodes)))) b → new ≡ insert_entry key_cmp old key (Some value) → new ≡ put_each (puts_of (leaf_entries (map unmarked (drop (i - 1) nodes)))) b
+    → old ≡ put_each (puts_of (leaf_entries (map unmarked_node (drop i nodes)))) b → new ≡ insert_entry key_cmp old key (Some value) → new ≡ put_each (puts_of (leaf_entries (map unmarked_node (drop (i - 1) nodes)))) b
 put-leaf-at nodes i x key value b old new some low is was now =
     now ∙ insert_entry-put key (Some value) old ∙ ap (put key_cmp key (Some value)) was ∙ sym (put-leaf (get_or nodes (i - 1) x) (drop i nodes) key value b is)
-    ∙ ap (λ xs. put_each (puts_of (leaf_entries (map unmarked xs))) b) (sym (drop-up nodes i x some low))
+    ∙ ap (λ xs. put_each (puts_of (leaf_entries (map unmarked_node xs))) b) (sym (drop-up nodes i x some low))
 
 -- the leaf of the name at a place of a list is removed, before those after it
 pub put-removal-at : (m : Map) (names : List NodeName) (i : ℕ) (x : NodeName) (key : List ℕ) (b old new : Batch) → 0 < i → i ≤ length names → x ≡ get_or names (i - 1) x → removals_of (sole (under 0 x.path (entries m))) ≡ removal_of (Some key)

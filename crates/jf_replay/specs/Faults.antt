@@ -8,11 +8,11 @@ use Rattle.jf_replay.specs.declared.fault.ReplayFault.{ReplayFault}
 use Rattle.jf_replay.specs.declared.fault.ReplayFault.TheVariants as fault
 
 -- a payload that spells no record is unsound at the record's offset
-abbrev pub undecoded : ℕ → RecordFault → ReplayFault
-undecoded at record_fault.Bad = fault.Unsound at
-undecoded at record_fault.Memory = fault.Memory
+abbrev pub fault_of_decoding : ℕ → RecordFault → ReplayFault
+fault_of_decoding at record_fault.Bad = fault.Unsound at
+fault_of_decoding at record_fault.Memory = fault.Memory
 
 -- a record that isn't taken is unsound at its offset
-abbrev pub refused : ℕ → CheckFault → ReplayFault
-refused at check_fault.Unsound = fault.Unsound at
-refused at check_fault.Memory = fault.Memory
+abbrev pub fault_of_check : ℕ → CheckFault → ReplayFault
+fault_of_check at check_fault.Unsound = fault.Unsound at
+fault_of_check at check_fault.Memory = fault.Memory

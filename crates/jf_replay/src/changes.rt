@@ -2,7 +2,7 @@
 ghost use Rattle.std.specs.Prelude.{◌≡◌, [], map, Some, None, IfOk, OnOk, Err};
 ghost use Rattle.std.specs.List.{AllByRecursion};
 ghost use Rattle.jf_standing.specs.Named.{leaf_entries};
-ghost use Rattle.jf_standing.specs.Standing.{unmarked};
+ghost use Rattle.jf_standing.specs.Standing.{unmarked_node};
 ghost use Rattle.jf_replay.specs.Changes.{IsNameIn, leaves_at, changes_of, put_each};
 
 use crate::check_fault::CheckFault;
@@ -38,7 +38,7 @@ fn put_leaves(
     changes: &mut BTreeMap<Key, Option<SharedBytes>>,
     nodes: &[(NodeName, PlainNode)],
 ) -> Result<(), Memory>
-    ensures { OnOk result (changes.new.entries ≡ put_each (map (λ e. (e.0, Some e.1)) (leaf_entries (map unmarked nodes.now))) changes.old.entries) }
+    ensures { OnOk result (changes.new.entries ≡ put_each (map (λ e. (e.0, Some e.1)) (leaf_entries (map unmarked_node nodes.now))) changes.old.entries) }
 {
     for node in nodes.iter().rev() {
         if let PlainNode::Leaf { key, value } = &node.1 {

@@ -1,6 +1,6 @@
 // Why records lead to no directory.
 ghost use Rattle.std.specs.Prelude.{◌≡◌};
-ghost use Rattle.jf_replay.specs.Faults.{undecoded, refused};
+ghost use Rattle.jf_replay.specs.Faults.{fault_of_decoding, fault_of_check};
 
 use crate::check_fault::CheckFault;
 use jf_payload::RecordFault;
@@ -16,7 +16,7 @@ pub enum ReplayFault {
 
 /// The fault of a record at an offset whose payload was not decoded.
 pub(crate) fn undecoded_at(offset: u64, fault: RecordFault) -> ReplayFault
-    ensures { result ≡ undecoded offset fault }
+    ensures { result ≡ fault_of_decoding offset fault }
 {
     match fault {
         RecordFault::Bad => ReplayFault::Unsound { offset },
@@ -26,7 +26,7 @@ pub(crate) fn undecoded_at(offset: u64, fault: RecordFault) -> ReplayFault
 
 /// The fault of a record at an offset that was checked.
 pub(crate) fn refused_at(offset: u64, fault: CheckFault) -> ReplayFault
-    ensures { result ≡ refused offset fault }
+    ensures { result ≡ fault_of_check offset fault }
 {
     match fault {
         CheckFault::Unsound => ReplayFault::Unsound { offset },

@@ -52,7 +52,7 @@ pub(crate) fn begin_with<H: Threads + Sync>(
     spelled_is_read();
     let format = format_of(framed.kind);
     match decode(alloc, framed.kind, framed.payload, format) {
-        Ok(found) => match given(rt, alloc, found, format, workers) {
+        Ok(found) => match first_replayed(rt, alloc, found, format, workers) {
             Ok(replayed) => Ok(replayed),
             Err(fault) => Err(refused_at(framed.offset, fault)),
         },
@@ -69,7 +69,7 @@ fn format_of(kind: u8) -> Format
 }
 
 /// What a record gives as the first one. Refused with `Unsound` if it isn't a sound checkpoint.
-fn given<H: Threads + Sync>(
+fn first_replayed<H: Threads + Sync>(
     rt: &H,
     alloc: Global,
     found: Record,
@@ -79,7 +79,7 @@ fn given<H: Threads + Sync>(
     requires sound { IsRecord format found }
     requires read { IsReadFirst found }
     ensures format { IfOk result (λ r. r.format ≡ format) }
-    ensures given { IfOk result (λ r. GivesStanding format found (standing_in format r.directory)) }
+    ensures first_replayed { IfOk result (λ r. GivesStanding format found (standing_in format r.directory)) }
     ensures generation { (kind : ℕ) (payload : List ℕ) → IsSpelling format found kind payload → IfOk result (λ r. r.generation ≡ number_of payload) }
     ensures unsound { result ≡ Err CheckFault.Unsound → (s : Standing) → GivesStanding format found s → ⊥ }
 {

@@ -3,7 +3,7 @@ use Rattle.std.specs.Prelude.{◌≡◌, ◌≢◌, ℕ, ◌+◌, ◌-◌, ◌^�
 use Rattle.jf_path.specs.Faults.{HasCause}
 use Rattle.jf_hash.specs.Maps.{map_of_entries}
 use Rattle.jf_hash.specs.Roots.{part_root, root}
-use Rattle.jf_model.specs.Versions.{imported}
+use Rattle.jf_model.specs.Versions.{imported_versions}
 use Rattle.jf_disk.specs.Disk.{reads}
 use Rattle.jf_files.specs.Steps.{Imports, StopsWell, Succeeds}
 use Rattle.jf_evidence.specs.Ranges.{Entries}
@@ -29,7 +29,7 @@ pub record CanImport (e : Engine) (es : Entries) : Type 0 where
 -- alone; as a step the import succeeded, and no call on the disk failed
 pub record HasImported (version : ℕ) (es : Entries) (old new : Engine) : Type 0 where
   pub could : CanImport old es
-  pub versions_are : new.versions ≡ imported version (map_of_entries es)
+  pub versions_are : new.versions ≡ imported_versions version (map_of_entries es)
   pub generation_is : new.generation ≡ old.generation + 1
   pub whole : new.broken ≡ false
   pub least : old.moment + 4 ≤ new.moment

@@ -3,8 +3,8 @@ use Rattle.std.specs.Prelude.{option_map, IsFalse}
 use Rattle.std.proofs.Common.{◌≡◌, ◌≢◌, refl, sym, ap, ap₂, ◌∙◌, subst, ℕ, Bool, false, List, [], ◌∷◌, ◌++◌, Option, Some}
 use Rattle.std.proofs.Math.Nat.{le_trans}
 use Rattle.jf_disk.specs.Disk.{reads}
-use Rattle.jf_model.specs.Versions.{Versions, IsVersions, pruned}
-use Rattle.jf_model.specs.States.{State, opened, versions}
+use Rattle.jf_model.specs.Versions.{Versions, IsVersions, versions_from_floor}
+use Rattle.jf_model.specs.States.{State, state_when_opened, versions}
 use Rattle.jf_model.specs.Entries.{after, replay}
 use Rattle.jf_model.specs.declared.entries.Entry.{Entry}
 use Rattle.jf_model.proofs.EntryLaws.{replay-IsState}
@@ -90,7 +90,7 @@ turn_floor (e ∷ fs) old new s (mid, b, is, lands, turn) =
 
 -- versions whose floor is the state's own are those of the state
 versions-all : (s : State) → s.floor ≡ s.all.floor → IsVersions s.all → versions s ≡ s.all
-versions-all s same sound = ap (λ n. pruned n s.all) same ∙ versions-opened s.all 0 sound
+versions-all s same sound = ap (λ n. versions_from_floor n s.all) same ∙ versions-opened s.all 0 sound
 
 pub files_followed : InputsAgree → FilesStandForOne → LedFilesAreFollowed
 files_followed agree one lead follow lead_head follow_head v led came takes (h, told, stands) (k, told', stands') =
@@ -100,9 +100,9 @@ files_followed agree one lead follow lead_head follow_head v led came takes (h, 
     let here : s.all ≡ v = one (reads h) s.all v found.0 stands in
     let there : came.old.versions ≡ v = one (reads k) came.old.versions v found'.0 stands' in
     let same : came.new.versions ≡ (replay s lead.entries).all = agreed lead follow lead_head follow_head led came takes agree (there ∙ sym here) in
-    let state : s ≡ opened v (generation (reads h)) = led.lines.begun.state ∙ ap₂ opened here (sym found.1) in
-    let t = opened came.old.versions came.old.generation in
-    let state' : t ≡ opened v (generation (reads k)) = ap₂ opened there (sym found'.1) in
+    let state : s ≡ state_when_opened v (generation (reads h)) = led.lines.begun.state ∙ ap₂ state_when_opened here (sym found.1) in
+    let t = state_when_opened came.old.versions came.old.generation in
+    let state' : t ≡ state_when_opened v (generation (reads k)) = ap₂ state_when_opened there (sym found'.1) in
     let follows : StandsForEntries follow.after.disk.history v (generation (reads k)) follow.entries = came.stands (done_sound follow.status takes.followed) k told' v stands' in
     let floors = turn_floor follow.entries came.old came.new t (came_whole lead follow lead_head follow_head led came takes).0.follows.landed in
     let sound : IsVersions (replay t follow.entries).all = (replay-IsState t follow.entries (opened-IsState came.old.versions came.old.generation came.begun.sound) came.kept.legal).sound in (

@@ -2,7 +2,7 @@
 use Rattle.std.specs.Prelude.{◌≢◌, IfSome, IsFalse, IsTrue}
 use Rattle.std.proofs.Common.{◌≡◌, ◌⊎◌, ◌≤◌, ◌∙◌, inl, inr, ℕ, List, Option, None, Some, refl, sym, subst, true≢false}
 use Rattle.jf_path.specs.Faults.{HasCause}
-use Rattle.jf_model.specs.States.{State, opened}
+use Rattle.jf_model.specs.States.{State, state_when_opened}
 use Rattle.jf_model.specs.declared.entries.Entry.{Entry}
 use Rattle.jf_disk.specs.declared.side.Side.{Side}
 use Rattle.jf_files.specs.Laws.{FilesStandForOne, DamageIsNoVersions}
@@ -115,11 +115,11 @@ module _ (old new : Engine) (es : List Entry) (rest rest' text text' : Option (L
   none_tried (followed.Refused why) came tried sound = tried
 
 -- ---- the call
-module _ (c : ProgramCall) (head n : ℕ) (old new : Engine) (how : Followed) (begun : IsBegun (opened old.versions old.generation) c.before.disk (engine_disk old) head) (is : c.status ≡ status_of_followed how) (after : c.after.disk ≡ engine_disk new)
+module _ (c : ProgramCall) (head n : ℕ) (old new : Engine) (how : Followed) (begun : IsBegun (state_when_opened old.versions old.generation) c.before.disk (engine_disk old) head) (is : c.status ≡ status_of_followed how) (after : c.after.disk ≡ engine_disk new)
     (came : HasFollowed how old new c.entries c.before.rest c.after.rest c.before.text c.after.text) (attempt : Option Entry) (tried : TriesFollowing how old new c.entries c.before.rest c.after.rest c.before.text c.after.text came attempt)
     (keeps : KeepsLandings old new c.entries attempt) where
   abbrev s : State
-  s = opened old.versions old.generation
+  s = state_when_opened old.versions old.generation
 
   followed_entries : KeepsEntries s (engine_disk old) c.after.disk c.entries attempt
   followed_entries = subst (λ (d : DiskView). KeepsEntries s (engine_disk old) d c.entries attempt) (sym after) (kept-KeepsEntries (beginning old) c.entries attempt new keeps.kept keeps.grows keeps.legal keeps.tried)

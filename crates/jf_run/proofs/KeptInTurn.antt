@@ -7,7 +7,7 @@ use Rattle.jf_disk.specs.Moments.{ExtendsHistory}
 use Rattle.jf_disk.proofs.MomentLaws.{extends_further, same_extends}
 use Rattle.jf_hash.specs.Maps.{IsBatch}
 use Rattle.jf_model.specs.Versions.{Versions, IsVersions}
-use Rattle.jf_model.specs.States.{State, IsState, opened}
+use Rattle.jf_model.specs.States.{State, IsState, state_when_opened}
 use Rattle.jf_model.specs.Entries.{after, replay, AreLegal, IsLegal}
 use Rattle.jf_model.specs.declared.entries.Entry.{Entry}
 use Rattle.jf_model.specs.declared.entries.Landing.TheVariants as landing
@@ -96,9 +96,9 @@ begun_kept e fresh = record {
 
 -- what entries and an attempt came to over such a store
 pub record KeepsLandings (old new : Engine) (es : List Entry) (attempt : Option Entry) : Type 0 where
-  pub legal : AreLegal (opened old.versions old.generation) es
-  pub tried : IfSome attempt (IsLegal (replay (opened old.versions old.generation) es))
-  pub leads : new.versions ≡ (replay (opened old.versions old.generation) es).all
+  pub legal : AreLegal (state_when_opened old.versions old.generation) es
+  pub tried : IfSome attempt (IsLegal (replay (state_when_opened old.versions old.generation) es))
+  pub leads : new.versions ≡ (replay (state_when_opened old.versions old.generation) es).all
   pub kept : IsKept (beginning old) es attempt new
   pub grows : (h : History) → old.history ≡ Some h → (g : History) × (new.history ≡ Some g) × ExtendsHistory h g
 
@@ -109,7 +109,7 @@ followed_alone v b next = ap (λ j. (after_judgement v b [] j).entries) next
 
 module _ (old : Engine) (fresh : IsSettledEngine old) (history : FollowedIsHistory) where
   abbrev s : State
-  s = opened old.versions old.generation
+  s = state_when_opened old.versions old.generation
 
   -- blocks that were followed
   pub followed_keep : (bs : List LandingBlock) (es : List Entry) (new : Engine) → FollowsBlocks old new bs es → AllByRecursion (λ (b : LandingBlock). IsBatch b.batch) bs → new.moment < 2 ^ 64 → KeepsLandings old new es None

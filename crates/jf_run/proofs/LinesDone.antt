@@ -9,7 +9,7 @@ use Rattle.jf_engine.specs.Openings.{DiskView}
 use Rattle.jf_answers.specs.Runs.{answers}
 use Rattle.jf_history.specs.Alone.{TriesAlone}
 use Rattle.jf_history.specs.declared.end.End.{End}
-use Rattle.jf_generate.specs.Scripts.{generated}
+use Rattle.jf_generate.specs.Scripts.{lines_of_script}
 use Rattle.jf_words.specs.Shapes.{ByEntries, shape_of}
 use Rattle.jf_words.specs.declared.modes.Mode.{Mode}
 use Rattle.jf_words.specs.declared.modes.Mode.TheVariants as mode
@@ -98,7 +98,7 @@ led_keeps c head n s disk e is_cut attempt begun ended led one none_stand dated 
 
 -- a run of a generated script, which reads no input
 pub generated_keeps : (c : ProgramCall) (head seed batches size n : ℕ) (s : State) (disk : DiskView) (e : End) (attempt : Option Entry) → IsBegun s c.before.disk disk head → c.status ≡ status_of e
-    → HasGenerated e s disk c.after.disk (generated seed batches size) c.entries attempt c.before.text c.after.text → FilesStandForOne → DamageIsNoVersions → IsDatedDisk c.before.disk → c.asks ≡ Some (mode.Generate seed batches size n)
+    → HasGenerated e s disk c.after.disk (lines_of_script seed batches size) c.entries attempt c.before.text c.after.text → FilesStandForOne → DamageIsNoVersions → IsDatedDisk c.before.disk → c.asks ≡ Some (mode.Generate seed batches size n)
     → c.start ≡ Some head → c.after.rest ≡ c.before.rest → c.after.source_faults ≡ c.before.source_faults
     → (c.status ≡ status.ReadFault → HasCause c.before.source_faults c.after.source_faults) → (c.status ≡ status.WriteFault → HasCause c.before.sink_faults c.after.sink_faults)
     → c.before.sink_faults ≤ c.after.sink_faults → KeepsPromises c
@@ -106,7 +106,7 @@ generated_keeps c head seed batches size n s disk e attempt begun is run one non
     let whole : c.status ≡ status_of_led e false = is ∙ sym (status_of_led-whole e) in
     opened_keeps c head s disk begun (kept_goes s disk c.after.disk c.entries attempt run.lasted.kept) none_stand (mode.Generate seed batches size n) asks refl (λ other. absurd (other refl)) start
     (lines_tell c head s disk e false attempt run.ran.done run.ran.next begun whole run.lasted run.ran.tried read write)
-    (subst (λ (o : Option ℕ). IfSome o (IsGeneratedCall c (generated seed batches size))) (sym start) (record {
+    (subst (λ (o : Option ℕ). IfSome o (IsGeneratedCall c (lines_of_script seed batches size))) (sym start) (record {
       state = s;
       end = e;
       attempt = attempt;

@@ -1,7 +1,7 @@
 -- What a call promises that opened the store and changed nothing.
 use Rattle.std.proofs.Common.{◌≡◌, refl, sym, subst, ℕ, ◌≤◌, [], List, Some, None, IsTrue, le_refl}
 use Rattle.jf_model.specs.Versions.{IsVersions}
-use Rattle.jf_model.specs.States.{State, opened}
+use Rattle.jf_model.specs.States.{State, state_when_opened}
 use Rattle.jf_model.specs.declared.entries.Entry.{Entry}
 use Rattle.jf_disk.specs.Disk.{History}
 use Rattle.jf_disk.proofs.MomentLaws.{same_extends}
@@ -28,9 +28,9 @@ held c head s begun = record {
 
 -- a call without entries that hands back the disk of the store that it opened
 pub read_only : (c : ProgramCall) (head : ℕ) (e : Engine) → IsVersions e.versions → IsDatedDisk (engine_disk e) → ((h : History) → e.history ≡ Some h → IsSettledOn h e.versions e.generation)
-    → IsBegun (opened e.versions e.generation) c.before.disk (engine_disk e) head → FilesStandForOne → c.after.disk ≡ engine_disk e → c.entries ≡ [] → IsReadOnlyCall c (opened e.versions e.generation) head
+    → IsBegun (state_when_opened e.versions e.generation) c.before.disk (engine_disk e) head → FilesStandForOne → c.after.disk ≡ engine_disk e → c.entries ≡ [] → IsReadOnlyCall c (state_when_opened e.versions e.generation) head
 read_only c head e sound dated settled begun one same none =
-    let s = opened e.versions e.generation in
+    let s = state_when_opened e.versions e.generation in
     let old = engine_disk e in
     let over : IsBegun s c.before.disk c.after.disk head = subst (λ (d : DiskView). IsBegun s c.before.disk d head) (sym same) begun in
     let kept : KeepsEntries s old old c.entries None = subst (λ (es : List Entry). KeepsEntries s old old es None) (sym none) (nothing_kept e sound dated settled) in

@@ -3,7 +3,7 @@ use Rattle.std.specs.Prelude.{IfOk, IfSome, OnOk}
 use Rattle.std.proofs.Common.{◌≡◌, ◌⊎◌, ◌∙◌, refl, sym, ap, subst, ℕ, ◌≤◌, [], List, Option, Some, Ok, Err, Result, inl, inr, le_refl}
 use Rattle.jf_path.specs.Faults.{HasCause}
 use Rattle.jf_model.specs.Versions.{IsVersions, Versions}
-use Rattle.jf_model.specs.States.{opened}
+use Rattle.jf_model.specs.States.{state_when_opened}
 use Rattle.jf_model.specs.Entries.{replay}
 use Rattle.jf_model.specs.declared.entries.Entry.{Entry}
 use Rattle.jf_model.proofs.StateLaws.{versions-opened}
@@ -161,7 +161,7 @@ stayed_calm (Ok t) before opened after opening calm = calm ∙ opening
 stayed_calm (Err why) before opened after opening calm = tt
 
 -- a store was opened, and then kept
-module _ (c : ProgramCall) (head : ℕ) (e : Engine) (begun : IsBegun (opened e.versions e.generation) c.before.disk (engine_disk e) head) (settled : (h : History) → e.history ≡ Some h → IsSettledOn h e.versions e.generation)
+module _ (c : ProgramCall) (head : ℕ) (e : Engine) (begun : IsBegun (state_when_opened e.versions e.generation) c.before.disk (engine_disk e) head) (settled : (h : History) → e.history ≡ Some h → IsSettledOn h e.versions e.generation)
     (law : KeptStoresStopWell) (keeps : OnHistories e.history c.after.disk.history KeepsStore) where
   held : StaysHeld c.before.disk.history c.after.disk.history e.versions e.generation
   held = record {
@@ -186,7 +186,7 @@ module _ (c : ProgramCall) (head : ℕ) (e : Engine) (begun : IsBegun (opened e.
 
 -- ---- the call
 pub trimmed_keeps : (c : ProgramCall) (head : ℕ) (e : Engine) (how : How) → DamageIsNoVersions → FilesStandForOne → KeptStoresStopWell → IsVersions e.versions
-    → IsBegun (opened e.versions e.generation) c.before.disk (engine_disk e) head → ((h : History) → e.history ≡ Some h → IsSettledOn h e.versions e.generation)
+    → IsBegun (state_when_opened e.versions e.generation) c.before.disk (engine_disk e) head → ((h : History) → e.history ≡ Some h → IsSettledOn h e.versions e.generation)
     → c.asks ≡ Some mode.Trim → c.start ≡ Some head → c.entries ≡ [] → TellsTrimmed how c.status c.before.text c.after.text
     → OnHistories e.history c.after.disk.history KeepsStore → ((h : History) → e.history ≡ Some h → IfOk how (λ t. (g : History) × (c.after.disk.history ≡ Some g) × HasTrimmed t h g))
     → ((h : History) (side : Side) (at : ℕ) → e.history ≡ Some h → how ≡ Err (pair_fault.Damaged side at) → outer_damage (reads h) ≡ Some (side, at))
@@ -194,7 +194,7 @@ pub trimmed_keeps : (c : ProgramCall) (head : ℕ) (e : Engine) (how : How) → 
     → CallsOn e.history e.moment e.faults c.after.disk.history c.after.disk.moment c.after.disk.faults (how ≡ Err pair_fault.DiskFault)
     → c.after.rest ≡ c.before.rest → c.after.source_faults ≡ c.before.source_faults → ((c.status ≡ status.Done → ⊥) → (c.status ≡ status.WriteFault → ⊥) → c.after.sink_faults ≡ c.before.sink_faults) → (c.status ≡ status.WriteFault → HasCause c.before.sink_faults c.after.sink_faults) → c.before.sink_faults ≤ c.after.sink_faults → KeepsPromises c
 trimmed_keeps c head e how none_stand one law sound begun settled asks start none told keeps trimmed damaged left calm calls rest faults silent write sink =
-    let s = opened e.versions e.generation in
+    let s = state_when_opened e.versions e.generation in
     let disk = engine_disk e in
     let so : EndsSo how c.status = ends_so how c.status c.before.text c.after.text told in
     let goes_on : GoesOnDisk disk c.after.disk c.entries = subst (λ (es : List Entry). GoesOnDisk disk c.after.disk es) (sym none) (goes c head e begun settled law keeps calls.later calls.counted) in

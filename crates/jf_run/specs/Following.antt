@@ -1,7 +1,7 @@
 -- What the program promises of a call in the mode `follow`.
 use Rattle.std.specs.Prelude.{◌≡◌, ◌≢◌, ◌⊎◌, ℕ, List, Option, Some, None, IsFalse}
 use Rattle.jf_io.specs.Lines.{lines}
-use Rattle.jf_model.specs.States.{opened}
+use Rattle.jf_model.specs.States.{state_when_opened}
 use Rattle.jf_model.specs.Entries.{replay}
 use Rattle.jf_model.specs.declared.entries.Entry.{Entry}
 use Rattle.jf_files.specs.Steps.{IsCalm}
@@ -38,16 +38,16 @@ TriesFollowing (followed.Refused why) old new es rest rest' text text' came atte
 pub record IsFollowedCall (c : ProgramCall) (head : ℕ) : Type 0 where
   pub old : Engine
   pub new : Engine
-  pub begun : IsBegun (opened old.versions old.generation) c.before.disk (engine_disk old) head
+  pub begun : IsBegun (state_when_opened old.versions old.generation) c.before.disk (engine_disk old) head
   pub after : c.after.disk ≡ engine_disk new
   pub how : Followed
   pub status_is : c.status ≡ status_of_followed how
   pub came : HasFollowed how old new c.entries c.before.rest c.after.rest c.before.text c.after.text
-  pub leads : new.versions ≡ (replay (opened old.versions old.generation) c.entries).all
+  pub leads : new.versions ≡ (replay (state_when_opened old.versions old.generation) c.entries).all
   pub attempt : Option Entry
   pub tried : TriesFollowing how old new c.entries c.before.rest c.after.rest c.before.text c.after.text came attempt
-  pub kept : KeepsEntries (opened old.versions old.generation) (engine_disk old) c.after.disk c.entries attempt
-  pub called : OnHistories c.before.disk.history c.after.disk.history (λ h g. IsCalm h → IsSafeSince c.before.disk.moment g (opened old.versions old.generation) c.entries attempt)
+  pub kept : KeepsEntries (state_when_opened old.versions old.generation) (engine_disk old) c.after.disk c.entries attempt
+  pub called : OnHistories c.before.disk.history c.after.disk.history (λ h g. IsCalm h → IsSafeSince c.before.disk.moment g (state_when_opened old.versions old.generation) c.entries attempt)
   pub stands : IsFalse (is_disk_fault c.status) → StandsAfter c
   pub decided : (input : List ℕ) → c.before.rest ≡ Some input → IsDecidedBy how (refusal_of_lines old.versions (lines input))
   pub silent : how ≢ followed.Done → how ≢ followed.WriteFault → c.after.sink_faults ≡ c.before.sink_faults

@@ -2,7 +2,7 @@
 use Rattle.std.specs.Prelude.{◌≡◌, ◌⊎◌, ℕ, List, Option, Some}
 use Rattle.std.specs.Option.{ForSome}
 use Rattle.jf_model.specs.Versions.{Versions}
-use Rattle.jf_model.specs.States.{opened, versions}
+use Rattle.jf_model.specs.States.{state_when_opened, versions}
 use Rattle.jf_model.specs.Entries.{replay}
 use Rattle.jf_model.specs.declared.entries.Entry.{Entry}
 use Rattle.jf_disk.specs.Disk.{History, reads}
@@ -16,8 +16,8 @@ use Rattle.jf_run.specs.declared.status.Status.TheVariants as status
 pub record StandsForEntries (after : Option History) (v : Versions) (g : ℕ) (entries : List Entry) : Type 0 where
   pub now : History
   pub told : after ≡ Some now
-  pub stands : StandsFor (reads now) (versions (replay (opened v g) entries))
-  pub generation_is : generation (reads now) ≡ (replay (opened v g) entries).generation
+  pub stands : StandsFor (reads now) (versions (replay (state_when_opened v g) entries))
+  pub generation_is : generation (reads now) ≡ (replay (state_when_opened v g) entries).generation
 
 -- files that stood for versions before the call stand for what its entries make of these, in the generation to which they lead
 abbrev pub StandsAfter : ProgramCall → Type 0

@@ -1,10 +1,10 @@
 // The modes that are done over an open store: one row each.
 ghost use Rattle.std.specs.Prelude.{◌≡◌, ◌+◌, ◌≤◌, ℕ, List, IsTrue, false};
-ghost use Rattle.jf_model.specs.States.{opened};
+ghost use Rattle.jf_model.specs.States.{state_when_opened};
 ghost use Rattle.jf_words.specs.Modes.{KeepsLimits};
 ghost use Rattle.jf_words.specs.Shapes.{NoChange, shape_of};
 ghost use Rattle.jf_run.specs.Bodies.{CompletesCall};
-ghost use Rattle.jf_run.specs.Calls.{disk_of, engine_disk, shown};
+ghost use Rattle.jf_run.specs.Calls.{disk_of, engine_disk, shown_devices};
 ghost use Rattle.jf_run.specs.Untouched.{LeavesUntouched};
 
 use crate::follow_over::follow_over;
@@ -46,7 +46,7 @@ pub(crate) fn do_mode<S: Source, K: Sink, D: Disk, H: Threads + Wait + Sync, G: 
     ensures resting { (shape_of mode).changes ≡ NoChange → disk_of D.Disk result.disk ≡ engine_disk engine }
     ensures elsewhere { (head : ℕ) (root : List ℕ) → result.status ≡ Status.Elsewhere head root → disk_of D.Disk result.disk ≡ engine_disk engine }
     ensures few { mode ≡ Mode.Trim → D.moment result.disk ≤ engine.moment + 15 }
-    ensures kept { CompletesCall mode (opened engine.versions engine.generation) (shown S.Source K.Sink source.old sink.old (engine_disk engine)) (shown S.Source K.Sink source.new sink.new (disk_of D.Disk result.disk)) result.status result.entries }
+    ensures kept { CompletesCall mode (state_when_opened engine.versions engine.generation) (shown_devices S.Source K.Sink source.old sink.old (engine_disk engine)) (shown_devices S.Source K.Sink source.new sink.new (disk_of D.Disk result.disk)) result.status result.entries }
 {
     damage_is_no_versions();
     files_stand_for_one();

@@ -3,7 +3,7 @@ ghost use Rattle.std.specs.Prelude.{◌≡◌, ◌↔◌, None, Some, IfOk, IfEr
 ghost use Rattle.std.specs.FinMap as fin;
 ghost use Rattle.jf_hash.specs.Roots.{root};
 ghost use Rattle.jf_model.specs.Versions.{new_store};
-ghost use Rattle.jf_model.specs.States.{opened};
+ghost use Rattle.jf_model.specs.States.{state_when_opened};
 ghost use Rattle.jf_words.specs.Shapes.{shape_of};
 ghost use Rattle.jf_run.specs.Calls.{Devices, disk_of, engine_disk, program_call, with_disk};
 ghost use Rattle.jf_run.specs.Runs.{IsBegun};
@@ -46,7 +46,7 @@ pub(crate) fn find_store<D: Disk, H: Threads + Sync>(
 ) -> Result<Engine<D>, Ended<D>>
     requires opens { IsTrue (shape_of mode.now).opens }
     requires only { MayBegin mode.now → ⊥ }
-    ensures begun { IfOk result (λ e. IsBegun (opened e.versions e.generation) (disk_of D.Disk disk) (engine_disk e) e.versions.head) }
+    ensures begun { IfOk result (λ e. IsBegun (state_when_opened e.versions e.generation) (disk_of D.Disk disk) (engine_disk e) e.versions.head) }
     ensures held { IfOk result (λ e. HoldsFor mode.now (disk_of D.Disk disk)) }
     ensures whole { IfOk result (λ e. e.broken ≡ false) }
     ensures start { IfErr result (λ ended. ended.start ≡ None) }

@@ -1,9 +1,9 @@
 // The mode `follow` over an open store: the landing blocks of an input are followed.
 ghost use Rattle.std.specs.Prelude.{◌≡◌, ◌≢◌, ℕ, List, false, IsTrue};
-ghost use Rattle.jf_model.specs.States.{opened};
+ghost use Rattle.jf_model.specs.States.{state_when_opened};
 ghost use Rattle.jf_words.specs.declared.modes.Mode.TheVariants as mode;
 ghost use Rattle.jf_run.specs.Bodies.{CompletesCall};
-ghost use Rattle.jf_run.specs.Calls.{disk_of, engine_disk, shown};
+ghost use Rattle.jf_run.specs.Calls.{disk_of, engine_disk, shown_devices};
 ghost use Rattle.jf_run.specs.Statuses.{is_input_fault};
 
 use crate::over::Over;
@@ -35,7 +35,7 @@ pub(crate) fn follow_over<S: Source, K: Sink, D: Disk, H: Threads + Sync, G: Gat
     ensures unwritten { IsTrue (is_input_fault result.status) → sink.new ≡ sink.old }
     ensures inside { (least head : ℕ) → result.status ≢ Status.Outside least head }
     ensures here { (head : ℕ) (root : List ℕ) → result.status ≢ Status.Elsewhere head root }
-    ensures kept { CompletesCall (mode.Follow workers) (opened engine.versions engine.generation) (shown S.Source K.Sink source.old sink.old (engine_disk engine)) (shown S.Source K.Sink source.new sink.new (disk_of D.Disk result.disk)) result.status result.entries }
+    ensures kept { CompletesCall (mode.Follow workers) (state_when_opened engine.versions engine.generation) (shown_devices S.Source K.Sink source.old sink.old (engine_disk engine)) (shown_devices S.Source K.Sink source.new sink.new (disk_of D.Disk result.disk)) result.status result.entries }
 {
     engine.know();
     damage_is_no_versions();

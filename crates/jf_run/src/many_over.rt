@@ -1,9 +1,9 @@
 // The mode `many` over an open store: the names of an input are looked up in a version.
 ghost use Rattle.std.specs.Prelude.{◌≡◌, ◌≢◌, ℕ, List, IsTrue, false};
-ghost use Rattle.jf_model.specs.States.{opened};
+ghost use Rattle.jf_model.specs.States.{state_when_opened};
 ghost use Rattle.jf_words.specs.declared.modes.Mode.TheVariants as mode;
 ghost use Rattle.jf_run.specs.Bodies.{CompletesCall};
-ghost use Rattle.jf_run.specs.Calls.{disk_of, engine_disk, shown};
+ghost use Rattle.jf_run.specs.Calls.{disk_of, engine_disk, shown_devices};
 ghost use Rattle.jf_run.specs.Statuses.{is_input_fault};
 
 use crate::over::Over;
@@ -30,7 +30,7 @@ pub(crate) fn many_over<S: Source, K: Sink, D: Disk>(
     ensures outside { (least head : ℕ) → result.status ≡ Status.Outside least head → (source.new ≡ source.old) × (sink.new ≡ sink.old) }
     ensures resting { disk_of D.Disk result.disk ≡ engine_disk engine }
     ensures here { (head : ℕ) (root : List ℕ) → result.status ≢ Status.Elsewhere head root }
-    ensures kept { CompletesCall (mode.Many version) (opened engine.versions engine.generation) (shown S.Source K.Sink source.old sink.old (engine_disk engine)) (shown S.Source K.Sink source.new sink.new (disk_of D.Disk result.disk)) result.status result.entries }
+    ensures kept { CompletesCall (mode.Many version) (state_when_opened engine.versions engine.generation) (shown_devices S.Source K.Sink source.old sink.old (engine_disk engine)) (shown_devices S.Source K.Sink source.new sink.new (disk_of D.Disk result.disk)) result.status result.entries }
 {
     engine.know();
     damage_is_no_versions();

@@ -1,9 +1,9 @@
 // The frame of the modes that need the store: it is opened, the mode is done over it, and its end is the end of the call.
 ghost use Rattle.std.specs.Prelude.{◌≡◌, Some, None, IfNone, IfOk, IfErr, IsTrue, false};
-ghost use Rattle.jf_model.specs.States.{opened};
+ghost use Rattle.jf_model.specs.States.{state_when_opened};
 ghost use Rattle.jf_words.specs.Modes.{KeepsLimits};
 ghost use Rattle.jf_words.specs.Shapes.{shape_of};
-ghost use Rattle.jf_run.specs.Calls.{Devices, disk_of, engine_disk, program_call, shown, with_disk};
+ghost use Rattle.jf_run.specs.Calls.{Devices, disk_of, engine_disk, program_call, shown_devices, with_disk};
 ghost use Rattle.jf_run.specs.Runs.{IsBegun};
 ghost use Rattle.jf_run.specs.Promises.{KeepsPromises};
 ghost use Rattle.jf_run.specs.Resuming.{HoldsFor, MayBegin};
@@ -38,7 +38,7 @@ pub(crate) fn over_store<S: Source, K: Sink, D: Disk, H: Threads + Wait + Sync, 
     requires limits { KeepsLimits mode }
     ensures untouched { LeavesUntouched (shape_of mode) result.status source.old source.new sink.old sink.new }
     ensures silent { IfNone result.start ((source.new ≡ source.old) × (sink.new ≡ sink.old)) }
-    ensures kept { KeepsPromises (program_call (Some mode) (shown S.Source K.Sink source.old sink.old (disk_of D.Disk disk)) (shown S.Source K.Sink source.new sink.new (disk_of D.Disk result.disk)) result.status result.entries result.start) }
+    ensures kept { KeepsPromises (program_call (Some mode) (shown_devices S.Source K.Sink source.old sink.old (disk_of D.Disk disk)) (shown_devices S.Source K.Sink source.new sink.new (disk_of D.Disk result.disk)) result.status result.entries result.start) }
 {
     know_dated(&disk);
     let engine = match open_for(rt, alloc, &mode, disk) {
@@ -69,7 +69,7 @@ fn open_for<D: Disk, H: Threads + Sync>(
     disk: D,
 ) -> Result<Engine<D>, Ended<D>>
     requires opens { IsTrue (shape_of mode.now).opens }
-    ensures begun { IfOk result (λ e. IsBegun (opened e.versions e.generation) (disk_of D.Disk disk) (engine_disk e) e.versions.head) }
+    ensures begun { IfOk result (λ e. IsBegun (state_when_opened e.versions e.generation) (disk_of D.Disk disk) (engine_disk e) e.versions.head) }
     ensures held { IfOk result (λ e. HoldsFor mode.now (disk_of D.Disk disk)) }
     ensures whole { IfOk result (λ e. e.broken ≡ false) }
     ensures start { IfErr result (λ ended. ended.start ≡ None) }
@@ -91,7 +91,7 @@ fn open_store<D: Disk, H: Threads + Sync>(
 ) -> Result<Engine<D>, Ended<D>>
     requires opens { IsTrue (shape_of mode.now).opens }
     requires may { MayBegin mode.now }
-    ensures begun { IfOk result (λ e. IsBegun (opened e.versions e.generation) (disk_of D.Disk disk) (engine_disk e) e.versions.head) }
+    ensures begun { IfOk result (λ e. IsBegun (state_when_opened e.versions e.generation) (disk_of D.Disk disk) (engine_disk e) e.versions.head) }
     ensures held { IfOk result (λ e. HoldsFor mode.now (disk_of D.Disk disk)) }
     ensures whole { IfOk result (λ e. e.broken ≡ false) }
     ensures start { IfErr result (λ ended. ended.start ≡ None) }

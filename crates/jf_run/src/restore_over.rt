@@ -1,10 +1,10 @@
 // The mode `restore` over an open store: a version is restored into it from the chunk blocks of an input.
 ghost use Rattle.std.specs.Prelude.{◌≡◌, ◌≢◌, ◌≤◌, ℕ, List, false};
-ghost use Rattle.jf_model.specs.States.{opened};
+ghost use Rattle.jf_model.specs.States.{state_when_opened};
 ghost use Rattle.jf_words.specs.Modes.{max_version};
 ghost use Rattle.jf_words.specs.declared.modes.Mode.TheVariants as mode;
 ghost use Rattle.jf_run.specs.Bodies.{CompletesCall};
-ghost use Rattle.jf_run.specs.Calls.{disk_of, engine_disk, shown};
+ghost use Rattle.jf_run.specs.Calls.{disk_of, engine_disk, shown_devices};
 
 use crate::over::Over;
 use crate::status::Status;
@@ -31,7 +31,7 @@ pub(crate) fn restore_over<S: Source, K: Sink, D: Disk>(
     requires last { version ≤ max_version }
     ensures occupied { (head : ℕ) → result.status ≡ Status.Refused (RestoreFault.NotEmpty head) → (source.new ≡ source.old) × (sink.new ≡ sink.old) }
     ensures here { (head : ℕ) (root : List ℕ) → result.status ≢ Status.Elsewhere head root }
-    ensures kept { (workers : ℕ) → CompletesCall (mode.Restore version root workers) (opened engine.versions engine.generation) (shown S.Source K.Sink source.old sink.old (engine_disk engine)) (shown S.Source K.Sink source.new sink.new (disk_of D.Disk result.disk)) result.status result.entries }
+    ensures kept { (workers : ℕ) → CompletesCall (mode.Restore version root workers) (state_when_opened engine.versions engine.generation) (shown_devices S.Source K.Sink source.old sink.old (engine_disk engine)) (shown_devices S.Source K.Sink source.new sink.new (disk_of D.Disk result.disk)) result.status result.entries }
 {
     engine.know();
     damage_is_no_versions();

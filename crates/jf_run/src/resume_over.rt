@@ -1,10 +1,10 @@
 // The mode `resume` over an open store: a script is answered if the store has the root that was announced of a version.
 ghost use Rattle.std.specs.Prelude.{◌≡◌, ◌↔◌, ℕ, List, [], IsTrue, false};
-ghost use Rattle.jf_model.specs.States.{opened};
+ghost use Rattle.jf_model.specs.States.{state_when_opened};
 ghost use Rattle.jf_model.specs.Versions.{root_of};
 ghost use Rattle.jf_words.specs.declared.modes.Mode.TheVariants as mode;
 ghost use Rattle.jf_run.specs.Bodies.{CompletesCall};
-ghost use Rattle.jf_run.specs.Calls.{disk_of, engine_disk, shown};
+ghost use Rattle.jf_run.specs.Calls.{disk_of, engine_disk, shown_devices};
 ghost use Rattle.jf_run.specs.Resuming.{IsRootAt};
 
 use crate::over::Over;
@@ -37,7 +37,7 @@ pub(crate) fn resume_over<S: Source, K: Sink, D: Disk, H: Threads + Wait + Sync,
     requires whole { engine.broken ≡ false }
     ensures elsewhere { (head : ℕ) (newest : List ℕ) → result.status ≡ Status.Elsewhere head newest → (source.new ≡ source.old) × (sink.new ≡ sink.old) }
     ensures resting { (head : ℕ) (newest : List ℕ) → result.status ≡ Status.Elsewhere head newest → disk_of D.Disk result.disk ≡ engine_disk engine }
-    ensures kept { CompletesCall (mode.Resume version root workers) (opened engine.versions engine.generation) (shown S.Source K.Sink source.old sink.old (engine_disk engine)) (shown S.Source K.Sink source.new sink.new (disk_of D.Disk result.disk)) result.status result.entries }
+    ensures kept { CompletesCall (mode.Resume version root workers) (state_when_opened engine.versions engine.generation) (shown_devices S.Source K.Sink source.old sink.old (engine_disk engine)) (shown_devices S.Source K.Sink source.new sink.new (disk_of D.Disk result.disk)) result.status result.entries }
 {
     engine.know();
     damage_is_no_versions();

@@ -1,8 +1,8 @@
 // The top call of the program: the words of a command line say what is done with source, sink and disk.
 ghost use Rattle.std.specs.Prelude.{◌≡◌, ℕ, List, IfNone, IsTrue, IsFalse};
-ghost use Rattle.jf_words.specs.Modes.{asked};
+ghost use Rattle.jf_words.specs.Modes.{mode_asked_for};
 ghost use Rattle.jf_words.specs.Shapes.{ByImport, IsIdleWithoutStore, NoInput, ToItsEnd, asked_shape};
-ghost use Rattle.jf_run.specs.Calls.{disk_of, program_call, shown};
+ghost use Rattle.jf_run.specs.Calls.{disk_of, program_call, shown_devices};
 ghost use Rattle.jf_run.specs.Promises.{KeepsPromises};
 ghost use Rattle.jf_run.specs.Statuses.{is_input_fault};
 
@@ -98,21 +98,21 @@ pub fn run_words<S: Source, K: Sink, D: Disk, H: Threads + Wait + Sync, G: Gate>
     gate: &G,
 ) -> Ended<D>
     // Words that open no store leave the disk as it is.
-    ensures untouched { IsFalse (asked_shape (asked words.now)).opens → result.disk ≡ disk }
+    ensures untouched { IsFalse (asked_shape (mode_asked_for words.now)).opens → result.disk ≡ disk }
     // Words that read no input leave the source as it is.
-    ensures unread { (asked_shape (asked words.now)).reading ≡ NoInput → source.new ≡ source.old }
+    ensures unread { (asked_shape (mode_asked_for words.now)).reading ≡ NoInput → source.new ≡ source.old }
     // If the mode needs a store and none was opened, nothing is read or written.
-    ensures silent { IsIdleWithoutStore (asked words.now) → IfNone result.start ((source.new ≡ source.old) × (sink.new ≡ sink.old)) }
+    ensures silent { IsIdleWithoutStore (mode_asked_for words.now) → IfNone result.start ((source.new ≡ source.old) × (sink.new ≡ sink.old)) }
     // A mode that reads its input to the end writes nothing if the input is at fault.
-    ensures unwritten { (asked_shape (asked words.now)).reading ≡ ToItsEnd → IsTrue (is_input_fault result.status) → sink.new ≡ sink.old }
+    ensures unwritten { (asked_shape (mode_asked_for words.now)).reading ≡ ToItsEnd → IsTrue (is_input_fault result.status) → sink.new ≡ sink.old }
     // If the store to restore into has versions, nothing is read or written.
-    ensures occupied { (asked_shape (asked words.now)).changes ≡ ByImport → (head : ℕ) → result.status ≡ Status.Refused (RestoreFault.NotEmpty head) → (source.new ≡ source.old) × (sink.new ≡ sink.old) }
+    ensures occupied { (asked_shape (mode_asked_for words.now)).changes ≡ ByImport → (head : ℕ) → result.status ≡ Status.Refused (RestoreFault.NotEmpty head) → (source.new ≡ source.old) × (sink.new ≡ sink.old) }
     // A version that isn't there is told before anything is read or written.
-    ensures outside { (asked_shape (asked words.now)).reading ≡ ToItsEnd → (least head : ℕ) → result.status ≡ Status.Outside least head → (source.new ≡ source.old) × (sink.new ≡ sink.old) }
+    ensures outside { (asked_shape (mode_asked_for words.now)).reading ≡ ToItsEnd → (least head : ℕ) → result.status ≡ Status.Outside least head → (source.new ≡ source.old) × (sink.new ≡ sink.old) }
     // If the store isn't the one whose root was given, nothing is read or written.
     ensures elsewhere { (head : ℕ) (root : List ℕ) → result.status ≡ Status.Elsewhere head root → (source.new ≡ source.old) × (sink.new ≡ sink.old) }
     // The disk, the output and the status are what the mode of the words promises.
-    ensures kept { KeepsPromises (program_call (asked words.now) (shown S.Source K.Sink source.old sink.old (disk_of D.Disk disk)) (shown S.Source K.Sink source.new sink.new (disk_of D.Disk result.disk)) result.status result.entries result.start) }
+    ensures kept { KeepsPromises (program_call (mode_asked_for words.now) (shown_devices S.Source K.Sink source.old sink.old (disk_of D.Disk disk)) (shown_devices S.Source K.Sink source.new sink.new (disk_of D.Disk result.disk)) result.status result.entries result.start) }
 {
     files_stand_for_sound();
     let mode = match mode_of(alloc, words) {

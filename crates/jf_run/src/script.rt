@@ -1,7 +1,7 @@
 // The lines of a script, of the input or a generated one, done over a store of one pass.
 ghost use Rattle.std.specs.Prelude.{◌≡◌, ◌≤◌, Option, false, length};
 ghost use Rattle.jf_path.specs.Faults.{HasCause};
-ghost use Rattle.jf_model.specs.States.{opened};
+ghost use Rattle.jf_model.specs.States.{state_when_opened};
 ghost use Rattle.jf_model.specs.declared.entries.Entry.{Entry};
 ghost use Rattle.jf_generate.specs.Scripts.{max_lines};
 ghost use Rattle.jf_store.specs.Events.{is_marked};
@@ -58,7 +58,7 @@ pub(crate) fn script_over<S: Source, K: Sink, D: Disk, H: Threads + Wait + Sync,
 ) -> Over<D>
     requires whole { engine.broken ≡ false }
     requires lines { IfGenerated script (λ lines. length lines ≤ max_lines) }
-    ensures ran { (attempt : Option Entry) × HasDoneScript script result.status (opened engine.versions engine.generation) (engine_disk engine) (disk_of D.Disk result.disk) result.entries attempt (S.rest source.old) (S.rest source.new) (K.text sink.old) (K.text sink.new) (K.faults sink.old) (K.faults sink.new) }
+    ensures ran { (attempt : Option Entry) × HasDoneScript script result.status (state_when_opened engine.versions engine.generation) (engine_disk engine) (disk_of D.Disk result.disk) result.entries attempt (S.rest source.old) (S.rest source.new) (K.text sink.old) (K.text sink.new) (K.faults sink.old) (K.faults sink.new) }
     ensures unread { IfGenerated script (λ lines. source.new ≡ source.old) }
     ensures read { result.status ≡ Status.ReadFault → HasCause (S.faults source.old) (S.faults source.new) }
     ensures write { result.status ≡ Status.WriteFault → HasCause (K.faults sink.old) (K.faults sink.new) }

@@ -3,7 +3,7 @@ ghost use Rattle.std.specs.Prelude.{◌≡◌, ◌≤◌, ◌⊎◌, [], map, le
 ghost use Rattle.jf_path.specs.Faults.{HasCause};
 ghost use Rattle.jf_path.specs.Limits.{max_sessions};
 ghost use Rattle.jf_io.specs.Lines.{lines};
-ghost use Rattle.jf_model.specs.States.{opened};
+ghost use Rattle.jf_model.specs.States.{state_when_opened};
 ghost use Rattle.jf_model.specs.declared.entries.Entry.{Entry};
 ghost use Rattle.jf_run.specs.Calls.{disk_of, engine_disk};
 ghost use Rattle.jf_run.specs.Runs.{KeepsEntries};
@@ -36,9 +36,9 @@ pub(crate) fn serve_scripts<K: Sink, D: Disk, H: Threads + Wait + Sync, G: Gate>
 ) -> Over<D>
     requires whole { engine.broken ≡ false }
     requires sessions { (1 ≤ length scripts.now) × (length scripts.now ≤ max_sessions) }
-    ensures served { (attempt : Option Entry) × KeepsEntries (opened engine.versions engine.generation) (engine_disk engine) (disk_of D.Disk result.disk) result.entries attempt
+    ensures served { (attempt : Option Entry) × KeepsEntries (state_when_opened engine.versions engine.generation) (engine_disk engine) (disk_of D.Disk result.disk) result.entries attempt
         × (((result.status ≡ Status.Memory) × (result.entries ≡ []) × (attempt ≡ None) × (sink.new ≡ sink.old))
-        ⊎ HasServedScripts result.status (opened engine.versions engine.generation) (engine_disk engine) (disk_of D.Disk result.disk) (map lines scripts.now) result.entries attempt (K.text sink.old) (K.text sink.new) (K.faults sink.old) (K.faults sink.new)) }
+        ⊎ HasServedScripts result.status (state_when_opened engine.versions engine.generation) (engine_disk engine) (disk_of D.Disk result.disk) (map lines scripts.now) result.entries attempt (K.text sink.old) (K.text sink.new) (K.faults sink.old) (K.faults sink.new)) }
     ensures write { result.status ≡ Status.WriteFault → HasCause (K.faults sink.old) (K.faults sink.new) }
     ensures sink_counts { K.faults sink.old ≤ K.faults sink.new }
 {

@@ -2,7 +2,7 @@
 ghost use Rattle.std.specs.Prelude.{◌≡◌, ◌≢◌, ◌+◌, ◌≤◌, [], ◌∷◌, ℕ, List, Option, Ok, IfOk, codes, decimal, false};
 ghost use Rattle.jf_path.specs.Faults.{HasCause};
 ghost use Rattle.jf_text.specs.Words.{line_text};
-ghost use Rattle.jf_model.specs.States.{opened};
+ghost use Rattle.jf_model.specs.States.{state_when_opened};
 ghost use Rattle.jf_words.specs.declared.modes.Mode.TheVariants as mode;
 ghost use Rattle.jf_run.specs.Bodies.{CompletesCall};
 ghost use Rattle.jf_run.specs.Calls.{devices, disk_of, engine_disk};
@@ -27,7 +27,7 @@ pub(crate) fn trim_over<K: Sink, D: Disk>(alloc: Global, engine: Engine<D>, sink
     requires whole { engine.broken ≡ false }
     ensures here { (head : ℕ) (root : List ℕ) → result.status ≢ Status.Elsewhere head root }
     ensures few { D.moment result.disk ≤ engine.moment + 15 }
-    ensures kept { (rest : Option (List ℕ)) (source_faults : ℕ) → CompletesCall mode.Trim (opened engine.versions engine.generation) (devices (engine_disk engine) rest source_faults (K.text sink.old) (K.faults sink.old)) (devices (disk_of D.Disk result.disk) rest source_faults (K.text sink.new) (K.faults sink.new)) result.status result.entries }
+    ensures kept { (rest : Option (List ℕ)) (source_faults : ℕ) → CompletesCall mode.Trim (state_when_opened engine.versions engine.generation) (devices (engine_disk engine) rest source_faults (K.text sink.old) (K.faults sink.old)) (devices (disk_of D.Disk result.disk) rest source_faults (K.text sink.new) (K.faults sink.new)) result.status result.entries }
 {
     engine.know();
     damage_is_no_versions();

@@ -2,20 +2,20 @@
 use Rattle.std.proofs.Common.{◌≡◌, ℕ, List, [], ◌∷◌, ◌++◌, sym, ap, refl, ◌∙◌, decimal, ◌≤◌, length, take, arith, length-append, take_all}
 use Rattle.std.proofs.lemmas.List.{append-nil, append_assoc, take-append-le, take-take}
 use Rattle.std.specs.List.{join_with_byte}
-use Rattle.jf_text.specs.Words.{spaced, Extends}
+use Rattle.jf_text.specs.Words.{spaced_words, Extends}
 use Rattle.jf_script.specs.Replies.{reply_text, reply_words}
 use Rattle.jf_script.specs.declared.reply.Reply.{Reply}
 
-join-spaced : (w : List ℕ) (ws : List (List ℕ)) → join_with_byte 32 (w ∷ ws) ≡ w ++ spaced ws
+join-spaced : (w : List ℕ) (ws : List (List ℕ)) → join_with_byte 32 (w ∷ ws) ≡ w ++ spaced_words ws
 join-spaced w [] = sym (append-nil w)
 join-spaced w (x ∷ ws) = ap (λ rest. w ++ 32 ∷ rest) (join-spaced x ws)
 
-spaced-append : (ws vs : List (List ℕ)) → spaced (ws ++ vs) ≡ spaced ws ++ spaced vs
+spaced-append : (ws vs : List (List ℕ)) → spaced_words (ws ++ vs) ≡ spaced_words ws ++ spaced_words vs
 spaced-append [] vs = refl
-spaced-append (w ∷ ws) vs = ap (λ text. 32 ∷ w ++ text) (spaced-append ws vs) ∙ ap (λ text. 32 ∷ text) (sym (append_assoc w (spaced ws) (spaced vs)))
+spaced-append (w ∷ ws) vs = ap (λ text. 32 ∷ w ++ text) (spaced-append ws vs) ∙ ap (λ text. 32 ∷ text) (sym (append_assoc w (spaced_words ws) (spaced_words vs)))
 
 -- a reply's text is its number, its words with a space before each, and 0A
-pub reply_text-pieces : (n : ℕ) (r : Reply) → reply_text n r ≡ (decimal n ++ spaced (reply_words r)) ++ 10 ∷ []
+pub reply_text-pieces : (n : ℕ) (r : Reply) → reply_text n r ≡ (decimal n ++ spaced_words (reply_words r)) ++ 10 ∷ []
 unfolding reply_text
 reply_text-pieces n r = ap (λ text. text ++ 10 ∷ []) (join-spaced (decimal n) (reply_words r))
 
@@ -29,5 +29,5 @@ Extends-after before more middle after e h =
     ∙ take_all (length before) before (omega arith)
 
 -- words are spaced in two parts as they are in one
-pub spaced-two : (before : List ℕ) (ws vs : List (List ℕ)) → (before ++ spaced ws) ++ spaced vs ≡ before ++ spaced (ws ++ vs)
-spaced-two before ws vs = append_assoc before (spaced ws) (spaced vs) ∙ ap (λ text. before ++ text) (sym (spaced-append ws vs))
+pub spaced-two : (before : List ℕ) (ws vs : List (List ℕ)) → (before ++ spaced_words ws) ++ spaced_words vs ≡ before ++ spaced_words (ws ++ vs)
+spaced-two before ws vs = append_assoc before (spaced_words ws) (spaced_words vs) ∙ ap (λ text. before ++ text) (sym (spaced-append ws vs))

@@ -1,7 +1,7 @@
 // A reply's line is the number of entries so far, the reply's words, and a line feed.
 ghost use Rattle.std.specs.Prelude.{◌≡◌, ◌∷◌, ◌++◌, [], codes, decimal, OnOk, OnErr};
 ghost use Rattle.hex.specs.Hex.{encode_lower};
-ghost use Rattle.jf_text.specs.Words.{spaced, Extends};
+ghost use Rattle.jf_text.specs.Words.{spaced_words, Extends};
 ghost use Rattle.jf_script.specs.Replies.{reply_text, reply_words, refusal_words};
 
 use crate::reply::{Refusal, Reply};
@@ -35,7 +35,7 @@ fn write_line(seen: u64, reply: &Reply, out: &mut Bytes) -> Result<(), Memory>
 
 /// Appends a reply's words, with a space before each.
 fn write_words(reply: &Reply, out: &mut Bytes) -> Result<(), Memory>
-    ensures ok { OnOk result (out.new ≡ out.old ++ spaced (reply_words reply.now)) }
+    ensures ok { OnOk result (out.new ≡ out.old ++ spaced_words (reply_words reply.now)) }
     ensures err { OnErr result (Extends out.old out.new) }
 {
     match reply {
@@ -96,7 +96,7 @@ fn write_bounds(
     head: u64,
     out: &mut Bytes,
 ) -> Result<(), Memory>
-    ensures ok { OnOk result (out.new ≡ out.old ++ spaced (codes "ok status base" ∷ decimal base ∷ codes "floor" ∷ decimal floor ∷ codes "retired" ∷ decimal retired ∷ codes "head" ∷ decimal head ∷ [])) }
+    ensures ok { OnOk result (out.new ≡ out.old ++ spaced_words (codes "ok status base" ∷ decimal base ∷ codes "floor" ∷ decimal floor ∷ codes "retired" ∷ decimal retired ∷ codes "head" ∷ decimal head ∷ [])) }
     ensures err { OnErr result (Extends out.old out.new) }
 {
     write_number(b" ok status base ", base, out)?;
@@ -107,7 +107,7 @@ fn write_bounds(
 
 /// Appends the other half of the reply to `status`.
 fn write_sizes(kept: u64, forks: u64, generation: u64, out: &mut Bytes) -> Result<(), Memory>
-    ensures ok { OnOk result (out.new ≡ out.old ++ spaced (codes "kept" ∷ decimal kept ∷ codes "forks" ∷ decimal forks ∷ codes "generation" ∷ decimal generation ∷ [])) }
+    ensures ok { OnOk result (out.new ≡ out.old ++ spaced_words (codes "kept" ∷ decimal kept ∷ codes "forks" ∷ decimal forks ∷ codes "generation" ∷ decimal generation ∷ [])) }
     ensures err { OnErr result (Extends out.old out.new) }
 {
     write_number(b" kept ", kept, out)?;
@@ -117,7 +117,7 @@ fn write_sizes(kept: u64, forks: u64, generation: u64, out: &mut Bytes) -> Resul
 
 /// Appends a refusal's words, with a space before each.
 fn write_refusal(refusal: Refusal, out: &mut Bytes) -> Result<(), Memory>
-    ensures ok { OnOk result (out.new ≡ out.old ++ spaced (refusal_words refusal)) }
+    ensures ok { OnOk result (out.new ≡ out.old ++ spaced_words (refusal_words refusal)) }
     ensures err { OnErr result (Extends out.old out.new) }
 {
     match refusal {

@@ -14,7 +14,7 @@ use Rattle.jf_store.specs.Ledgers.{state_after_events}
 use Rattle.jf_store.specs.Passes.{Pass, Sees}
 use Rattle.jf_script.specs.declared.command.Base.TheVariants as base
 use Rattle.jf_script.specs.declared.reply.Refusal.TheVariants as refusal
-use Rattle.jf_answers.specs.Own.{Own, pinned}
+use Rattle.jf_answers.specs.Own.{Own, version_pinned_at}
 use Rattle.jf_answers.specs.Refusals.{base_causes, base_map}
 use Rattle.jf_history.specs.Sessions.{pinned_versions}
 use Rattle.jf_session.specs.Steps.{session_of, IsSoundSession, TellsMap}
@@ -64,7 +64,7 @@ module _ (start : Start) (p : Pass) (pending : Batch) (place : ℕ) where
   abbrev mine : Own
   mine = own_of p pending
 
-  pin_there : (o : Option SnapshotValue) → slice_index_or p.pinned place None ≡ o → pinned mine place ≡ option_map (λ (u : SnapshotValue). u.version) o
+  pin_there : (o : Option SnapshotValue) → slice_index_or p.pinned place None ≡ o → version_pinned_at mine place ≡ option_map (λ (u : SnapshotValue). u.version) o
   pin_there o there = pinned_version p.pinned place ∙ ap (option_map (λ (u : SnapshotValue). u.version)) there
 
   -- a snapshot that is pinned at a place can be read

@@ -30,7 +30,7 @@ use Rattle.jf_script.specs.declared.reply.Refusal.{Refusal}
 use Rattle.jf_script.specs.declared.reply.Refusal.TheVariants as refusal
 use Rattle.jf_script.specs.declared.reply.Reply.TheVariants as reply
 use Rattle.jf_answers.specs.Own.{Own}
-use Rattle.jf_answers.specs.Answers.{Answer, granted, replied}
+use Rattle.jf_answers.specs.Answers.{Answer, granted_answer, own_answer}
 use Rattle.jf_answers.specs.Refusals.{refused_by, ledger_causes, head_causes, fork_causes, parent_causes, room_causes, key_causes, land_causes, generation_causes, version_causes}
 use Rattle.jf_answers.specs.Explains.{answered_with_floor, floor_in}
 use Rattle.jf_session.specs.Steps.{command_answer_with}
@@ -72,7 +72,7 @@ few_keys n few = ap (λ b. cond b (Some (refusal.Keys n)) None) (le-ltb max_keys
 -- ---- answers
 -- the answer to a command that is granted, with the floor of an entry
 abbrev pub granted_with : State → Own → Command → Entry → Answer
-granted_with s own c e = answered_with_floor (floor_in e) s own (granted c s own) (granted c s own).entry
+granted_with s own c e = answered_with_floor (floor_in e) s own (granted_answer c s own) (granted_answer c s own).entry
 
 -- nothing refuses a command, and it gives the entry
 pub record Grants (s : State) (own : Own) (c : Command) (e : Entry) : Type 0 where
@@ -81,7 +81,7 @@ pub record Grants (s : State) (own : Own) (c : Command) (e : Entry) : Type 0 whe
 
 pub answer-granted : (s : State) (own : Own) (c : Command) (e : Entry) → refused_by s own c ≡ None → command_answer_with (floor_in e) s own c ≡ granted_with s own c e
 answer-granted s own c e free =
-    ap (λ (o : Option Refusal). let a = elim o as (λ x. Answer) [ Some why ↦ replied (reply.No why) s own | None ↦ granted c s own ] in answered_with_floor (floor_in e) s own a a.entry) free
+    ap (λ (o : Option Refusal). let a = elim o as (λ x. Answer) [ Some why ↦ own_answer (reply.No why) s own | None ↦ granted_answer c s own ] in answered_with_floor (floor_in e) s own a a.entry) free
 
 -- ---- the commands
 module _ (s : State) (own : Own) where

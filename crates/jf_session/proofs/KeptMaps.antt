@@ -3,7 +3,7 @@ use Rattle.std.proofs.Common.{◌≡◌, ℕ, suc, ◌+◌, ◌-◌, ◌≤◌, 
 use Rattle.std.specs.Prelude.{slice_index_or}
 use Rattle.std.specs.FinMap as fin
 use Rattle.jf_hash.specs.Maps.{Batch, apply}
-use Rattle.jf_model.specs.Versions.{Versions, map_of, landed, land_all, newest}
+use Rattle.jf_model.specs.Versions.{Versions, map_of, versions_after_landing, land_all, newest}
 use Rattle.jf_model.specs.States.{State}
 use Rattle.jf_model.specs.Entries.{after, replay, landed_batches}
 use Rattle.jf_model.specs.declared.entries.Entry.{Entry}
@@ -12,7 +12,7 @@ use Rattle.jf_model.proofs.EntryLaws.{replay-append}
 use Rattle.jf_node.specs.SnapshotValue.{SnapshotValue}
 use Rattle.jf_turn.specs.Lists.{StartsWith}
 use Rattle.jf_store.specs.declared.event.Event.{Event}
-use Rattle.jf_store.specs.Events.{entries_of}
+use Rattle.jf_store.specs.Events.{entries_among}
 use Rattle.jf_store.specs.Starts.{Start}
 use Rattle.jf_store.specs.Ledgers.{state_after_events}
 use Rattle.jf_store.specs.Passes.{Pass}
@@ -31,7 +31,7 @@ pub KeepsMaps-then : (u v w : Versions) → KeepsMaps u v → KeepsMaps v w → 
 KeepsMaps-then u v w a b = record { rises = omega (arith, a.rises, b.rises); same = λ n le. b.same n (omega (arith, le, a.rises)) ∙ a.same n le }
 
 -- ---- landings
-KeepsMaps-landed : (b : Batch) (v : Versions) → KeepsMaps v (landed b v)
+KeepsMaps-landed : (b : Batch) (v : Versions) → KeepsMaps v (versions_after_landing b v)
 KeepsMaps-landed b v = record {
   rises = omega arith;
   same = λ w le. let e : v.head + 1 - w ≡ suc (v.head - w) = omega arith in ap (λ i. slice_index_or (apply (newest v) b ∷ v.maps) i fin.empty) e;
@@ -39,7 +39,7 @@ KeepsMaps-landed b v = record {
 
 KeepsMaps-land_all : (bs : List Batch) (v : Versions) → KeepsMaps v (land_all bs v)
 KeepsMaps-land_all [] v = KeepsMaps-self v
-KeepsMaps-land_all (b ∷ bs) v = KeepsMaps-then v (landed b v) (land_all bs (landed b v)) (KeepsMaps-landed b v) (KeepsMaps-land_all bs (landed b v))
+KeepsMaps-land_all (b ∷ bs) v = KeepsMaps-then v (versions_after_landing b v) (land_all bs (versions_after_landing b v)) (KeepsMaps-landed b v) (KeepsMaps-land_all bs (versions_after_landing b v))
 
 -- ---- entries
 pub KeepsMaps-after : (e : Entry) (s : State) → KeepsMaps s.all (after e s).all
@@ -58,9 +58,9 @@ KeepsMaps-replay s (e ∷ es) = KeepsMaps-then s.all (after e s).all (replay (af
 -- ---- events
 pub KeepsMaps-behind : (start : Start) (old new : List Event) → StartsWith new old → KeepsMaps (state_after_events start old).all (state_after_events start new).all
 KeepsMaps-behind start old new begins =
-    let more = entries_of begins.0 in
+    let more = entries_among begins.0 in
     let same : state_after_events start new ≡ replay (state_after_events start old) more =
-    ap (λ xs. state_after_events start xs) begins.1 ∙ ap (replay start.state) (entries_of-append old begins.0) ∙ replay-append start.state (entries_of old) more in
+    ap (λ xs. state_after_events start xs) begins.1 ∙ ap (replay start.state) (entries_of-append old begins.0) ∙ replay-append start.state (entries_among old) more in
     subst (λ (s : State). KeepsMaps (state_after_events start old).all s.all) (sym same) (KeepsMaps-replay (state_after_events start old) more)
 
 -- ---- pins

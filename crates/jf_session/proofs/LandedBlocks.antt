@@ -4,7 +4,7 @@ use Rattle.std.proofs.Math.ListN.{get_or}
 use Rattle.std.proofs.lemmas.List.{take_more, length-take-le}
 use Rattle.jf_hash.specs.Maps.{Batch}
 use Rattle.jf_hash.specs.Roots.{root}
-use Rattle.jf_model.specs.Versions.{Versions, landed}
+use Rattle.jf_model.specs.Versions.{Versions, versions_after_landing}
 use Rattle.jf_model.specs.States.{State}
 use Rattle.jf_model.specs.declared.entries.Landing.TheVariants as landing
 use Rattle.jf_model.proofs.VersionLaws.{land_all-newest}
@@ -61,11 +61,11 @@ landings_text-more bs rs version at b r low same is old told told' before next =
 -- the blocks of batches with the roots that they make are those of their landing
 rooted_blocks-landed : (bs : List Batch) (v : Versions) → rooted_blocks v.head bs (landed_roots v bs) ≡ landed_blocks v bs
 rooted_blocks-landed [] v = refl
-rooted_blocks-landed (b ∷ bs) v = ap (λ ls. landed_block v b ∷ ls) (rooted_blocks-landed bs (landed b v))
+rooted_blocks-landed (b ∷ bs) v = ap (λ ls. landed_block v b ∷ ls) (rooted_blocks-landed bs (versions_after_landing b v))
 
 landed_roots-length : (bs : List Batch) (v : Versions) → length (landed_roots v bs) ≡ length bs
 landed_roots-length [] v = refl
-landed_roots-length (b ∷ bs) v = let rest = landed_roots-length bs (landed b v) in omega (arith, rest)
+landed_roots-length (b ∷ bs) v = let rest = landed_roots-length bs (versions_after_landing b v) in omega (arith, rest)
 
 -- ---- of a batch
 module _ (start : Start) (p p' : Pass) (batch : Batch) (l : Landed) (h : HasLanded start (landing.Direct batch) p p' l) where

@@ -7,7 +7,7 @@ use Rattle.jf_model.proofs.EntryLaws.{AreLegal-back, AreLegal-front, replay-IsSt
 use Rattle.jf_turn.specs.Lists.{StartsWith}
 use Rattle.jf_store.specs.declared.event.Event.{Event}
 use Rattle.jf_store.specs.declared.event.Event.TheVariants.{Done, Mark}
-use Rattle.jf_store.specs.Events.{entries_of, is_marked}
+use Rattle.jf_store.specs.Events.{entries_among, is_marked}
 use Rattle.jf_store.specs.Starts.{Start}
 use Rattle.jf_store.specs.Ledgers.{AreEvents, IsUndone, state_after_events}
 use Rattle.jf_store.specs.Passes.{Pass, SeesOwn}
@@ -29,14 +29,14 @@ module _ (start : Start) (p p' : Pass) (before : List Event) (are : AreEvents st
   -- the state before the event is sound
   pub sound_before : (x : Event) → SeesOwn p p' before x → IsState start.state → IsState (state_after_events start before)
   sound_before x sees sound =
-      let seen : entries_of p'.seen ≡ entries_of before ++ entries_of (x ∷ []) = ap (λ (q : Pass). entries_of q.seen) sees.last ∙ entries_of-append before (x ∷ []) in
-      replay-IsState start.state (entries_of before) sound (AreLegal-front start.state (entries_of before) (entries_of (x ∷ [])) (subst (AreLegal start.state) seen are.history.each))
+      let seen : entries_among p'.seen ≡ entries_among before ++ entries_among (x ∷ []) = ap (λ (q : Pass). entries_among q.seen) sees.last ∙ entries_of-append before (x ∷ []) in
+      replay-IsState start.state (entries_among before) sound (AreLegal-front start.state (entries_among before) (entries_among (x ∷ [])) (subst (AreLegal start.state) seen are.history.each))
 
   -- an entry is legal over it
   pub legal_entry : (e : Entry) → SeesOwn p p' before (Done e) → IsLegal (state_after_events start before) e
   legal_entry e sees =
-      let seen : entries_of p'.seen ≡ entries_of before ++ e ∷ [] = ap (λ (q : Pass). entries_of q.seen) sees.last ∙ entries_of-done before e in
-      (AreLegal-back start.state (entries_of before) (e ∷ []) (subst (AreLegal start.state) seen are.history.each)).0
+      let seen : entries_among p'.seen ≡ entries_among before ++ e ∷ [] = ap (λ (q : Pass). entries_among q.seen) sees.last ∙ entries_of-done before e in
+      (AreLegal-back start.state (entries_among before) (e ∷ []) (subst (AreLegal start.state) seen are.history.each)).0
 
   -- the entry of an attempt would have been legal
   pub legal_attempt : (pass : ℕ) (e : Entry) → SeesOwn p p' before (Mark pass e) → IsUndone (state_after_events start before) pass e

@@ -7,7 +7,7 @@ use Rattle.jf_model.specs.declared.entries.Entry.{Entry}
 use Rattle.jf_model.specs.declared.entries.Entry.TheVariants as entry
 use Rattle.jf_store.specs.declared.event.Event.{Event}
 use Rattle.jf_store.specs.declared.event.Event.TheVariants.{Done, Mark}
-use Rattle.jf_store.specs.Events.{entries_of}
+use Rattle.jf_store.specs.Events.{entries_among}
 use Rattle.jf_store.specs.Starts.{Start}
 use Rattle.jf_store.specs.Floors.{IsMet, AreMet}
 use Rattle.jf_store.specs.Ledgers.{AreEvents, MarkIsLast}
@@ -47,7 +47,7 @@ module _ (pins : List ℕ) where
         | inr ge ↦ inl (omega arith)
       ]
 
-  met_all : (s : State) (es : List Event) → AreLegal s (entries_of es) → MarkIsLast (replay s (entries_of es)) es → ((f : ℕ) → IsAmong (floors_of es) f → IsAmong pins f) → AreMet (λ pin. IsAmong pins pin.1) s es
+  met_all : (s : State) (es : List Event) → AreLegal s (entries_among es) → MarkIsLast (replay s (entries_among es)) es → ((f : ℕ) → IsAmong (floors_of es) f → IsAmong pins f) → AreMet (λ pin. IsAmong pins pin.1) s es
   unfolding floors_of replay
   met_all s [] legal last named = tt
   met_all s (Done e ∷ es) legal last named = (
@@ -55,7 +55,7 @@ module _ (pins : List ℕ) where
     met_all (after e s) es legal.1 last (λ f h. named f (among-back (floor_of e) (floors_of es) f h)),
   )
   met_all s (Mark pass e ∷ es) legal last named =
-      let alone : replay s (entries_of es) ≡ s = ap (λ (xs : List Event). replay s (entries_of xs)) last.0 in (
+      let alone : replay s (entries_among es) ≡ s = ap (λ (xs : List Event). replay s (entries_among xs)) last.0 in (
         met_one s e (subst (λ (t : State). IsLegal t e) alone last.1.legal) (λ f h. named f (among-front (floor_of e) (floors_of es) f h)),
         subst (AreMet (λ pin. IsAmong pins pin.1) s) (sym last.0) tt,
       )

@@ -11,14 +11,14 @@ use Rattle.jf_script.specs.declared.reply.Reply.{Reply}
 use Rattle.jf_script.specs.declared.reply.Reply.TheVariants as reply
 use Rattle.jf_script.specs.declared.reply.Refusal.TheVariants as refusal
 use Rattle.jf_store.specs.declared.event.Event.TheVariants.{Done}
-use Rattle.jf_store.specs.Events.{entries_of, is_marked}
+use Rattle.jf_store.specs.Events.{entries_among, is_marked}
 use Rattle.jf_store.specs.Starts.{Start}
 use Rattle.jf_store.specs.Ledgers.{state_after_events}
 use Rattle.jf_store.specs.Passes.{Pass}
 use Rattle.jf_store.proofs.EventLaws.{entries_of-append}
 use Rattle.jf_store.proofs.ClosingLaws.{none_after}
 use Rattle.jf_answers.specs.Own.{Own}
-use Rattle.jf_answers.specs.Answers.{Answer, answer, answer_command, answer_to, replied, too_long}
+use Rattle.jf_answers.specs.Answers.{Answer, answer, answer_command, answer_to, own_answer, too_long}
 use Rattle.jf_answers.specs.Runs.{answer_text}
 use Rattle.jf_answers.specs.OwnLines.{is_own_line, is_own, is_own_command, pin_of, pin_of_command}
 use Rattle.jf_answers.specs.Explains.{Timeline, Answered, GivesEntry, answered_with_floor, answer_with, floor_in}
@@ -100,9 +100,9 @@ module _ (line : List ℕ) (c : Command) (k : IsLineOf line c) where
           own = d.own ∙ sym (ap (λ (a : Answer). a.own) e);
           pins = pins;
         } in
-        let n : length (seen_by new.pass) ≡ length (entries_of d.before) + 1 =
-        ap (λ (p : Pass). length (seen_by p)) d.sees.last ∙ ap (λ (es : List Entry). length es) (entries_of-append d.before (Done d.event ∷ [])) ∙ length-append (entries_of d.before) (d.event ∷ []) in
-        let m = length (entries_of d.before) + 1 in (
+        let n : length (seen_by new.pass) ≡ length (entries_among d.before) + 1 =
+        ap (λ (p : Pass). length (seen_by p)) d.sees.last ∙ ap (λ (es : List Entry). length es) (entries_of-append d.before (Done d.event ∷ [])) ∙ length-append (entries_among d.before) (d.event ∷ []) in
+        let m = length (entries_among d.before) + 1 in (
           change_reply start old d.before d.event line,
           changes_reply start old new d.before d.event line changed,
           ap (λ m. reply_text m r ++ block) n ∙ ap (λ x. reply_text m x ++ block) d.reply ∙ ap (λ x. reply_text m (command_answer_with f s old.own c).reply ++ x) d.block_is ∙ ap (answer_text m) (sym e),
@@ -136,7 +136,7 @@ follows_itself : (p : Pass) (line : List ℕ) → FollowsLine p p line
 follows_itself p line = record { begins = ([], sym (append-nil p.seen)); same = refl; announced = λ version h. inl h }
 
 -- the line got its answer by itself
-pub itself_replied : (start : Start) (s : Session) (line : List ℕ) (r : Reply) → HoldsPins s → is_marked s.pass.seen ≡ false → ((t : State) (own : Own) → answer t own line ≡ replied r t own) → IsRepliedBy start s s line r []
+pub itself_replied : (start : Start) (s : Session) (line : List ℕ) (r : Reply) → HoldsPins s → is_marked s.pass.seen ≡ false → ((t : State) (own : Own) → answer t own line ≡ own_answer r t own) → IsRepliedBy start s s line r []
 itself_replied start s line r pins unmarked is =
     let t = state_after_events start s.pass.seen in
     let e = is t s.own in

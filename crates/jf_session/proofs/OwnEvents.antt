@@ -9,7 +9,7 @@ use Rattle.jf_model.specs.Entries.{owner_of}
 use Rattle.jf_turn.specs.Lists.{HasElement, StartsWith}
 use Rattle.jf_store.specs.declared.event.Event.{Event}
 use Rattle.jf_store.specs.declared.event.Event.TheVariants.{Done, Mark}
-use Rattle.jf_store.specs.Events.{pass_named_by, entries_of, is_marked}
+use Rattle.jf_store.specs.Events.{pass_named_by, entries_among, is_marked}
 use Rattle.jf_store.specs.Starts.{Start}
 use Rattle.jf_store.specs.Passes.{Pass, OthersAlone, SeesOwn}
 use Rattle.jf_store.proofs.EventLaws.{entries_of-append}
@@ -46,16 +46,16 @@ quiet_none start s new line r t others =
     ] none
 
 -- ---- no event of its own
-none_named : (n k : ℕ) (ys : List Event) → is_marked ys ≡ false → places_owned n k (entries_of ys) ≡ [] → (x : Event) → HasElement ys x → pass_named_by x ≡ n → ⊥
+none_named : (n k : ℕ) (ys : List Event) → is_marked ys ≡ false → places_owned n k (entries_among ys) ≡ [] → (x : Event) → HasElement ys x → pass_named_by x ≡ n → ⊥
 none_named n k [] unmarked none x has named = let there = has.1 in absurd (cc)
 none_named n k (Mark pass e ∷ ys) unmarked none x has named = absurd (cc)
 none_named n k (Done e ∷ ys) unmarked none x (zero, at) named =
     let same : Done e ≡ x = cc in
     let owned : owner_of e ≡ n = ap pass_named_by same ∙ named in
-    let first : (k + 1) ∷ places_owned n (k + 1) (entries_of ys) ≡ [] = sym (ap (λ b. cond b ((k + 1) ∷ places_owned n (k + 1) (entries_of ys)) (places_owned n (k + 1) (entries_of ys))) (eq-eqb (owner_of e) n owned)) ∙ none in
+    let first : (k + 1) ∷ places_owned n (k + 1) (entries_among ys) ≡ [] = sym (ap (λ b. cond b ((k + 1) ∷ places_owned n (k + 1) (entries_among ys)) (places_owned n (k + 1) (entries_among ys))) (eq-eqb (owner_of e) n owned)) ∙ none in
     absurd (cc)
 none_named n k (Done e ∷ ys) unmarked none x (suc i, at) named =
-    let rest : places_owned n (k + 1) (entries_of ys) ≡ [] = elim (owner_of e == n) as (λ b. cond b ((k + 1) ∷ places_owned n (k + 1) (entries_of ys)) (places_owned n (k + 1) (entries_of ys)) ≡ [] → places_owned n (k + 1) (entries_of ys) ≡ []) [
+    let rest : places_owned n (k + 1) (entries_among ys) ≡ [] = elim (owner_of e == n) as (λ b. cond b ((k + 1) ∷ places_owned n (k + 1) (entries_among ys)) (places_owned n (k + 1) (entries_among ys)) ≡ [] → places_owned n (k + 1) (entries_among ys) ≡ []) [
       | true ↦ λ e. absurd (cc)
       | false ↦ λ e. e
     ] none in
@@ -72,13 +72,13 @@ none_more xs (y ∷ ys) e = absurd (omega (arith, ap (λ (ns : List ℕ). length
 
 -- the pass's own entries are as many as before, and there is no mark: so no event is its own
 pub others_alone : (p : Pass) (events : List Event) → StartsWith events p.seen → is_marked events ≡ false
-    → places_owned p.number 0 (entries_of events) ≡ places_owned p.number 0 (entries_of p.seen) → OthersAlone p events
+    → places_owned p.number 0 (entries_among events) ≡ places_owned p.number 0 (entries_among p.seen) → OthersAlone p events
 others_alone p events begins unmarked same x has named =
     let b = begins.0 in
-    let far = 0 + length (entries_of p.seen) in
+    let far = 0 + length (entries_among p.seen) in
     let after : drop (length p.seen) events ≡ b = ap (drop (length p.seen)) begins.1 ∙ drop-append_seam p.seen b in
-    let split : places_owned p.number 0 (entries_of events) ≡ places_owned p.number 0 (entries_of p.seen) ++ places_owned p.number far (entries_of b) =
-    ap (λ (xs : List Event). places_owned p.number 0 (entries_of xs)) begins.1 ∙ ap (places_owned p.number 0) (entries_of-append p.seen b) ∙ places_append p.number 0 (entries_of p.seen) (entries_of b) in
-    let none = none_more (places_owned p.number 0 (entries_of p.seen)) (places_owned p.number far (entries_of b)) (sym split ∙ same) in
+    let split : places_owned p.number 0 (entries_among events) ≡ places_owned p.number 0 (entries_among p.seen) ++ places_owned p.number far (entries_among b) =
+    ap (λ (xs : List Event). places_owned p.number 0 (entries_among xs)) begins.1 ∙ ap (places_owned p.number 0) (entries_of-append p.seen b) ∙ places_append p.number 0 (entries_among p.seen) (entries_among b) in
+    let none = none_more (places_owned p.number 0 (entries_among p.seen)) (places_owned p.number far (entries_among b)) (sym split ∙ same) in
     let marked = unmarked_back p.seen b (sym (ap is_marked begins.1) ∙ unmarked) in
     none_named p.number far b marked none x (subst (λ (xs : List Event). HasElement xs x) after has) named

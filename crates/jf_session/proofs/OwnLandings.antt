@@ -14,7 +14,7 @@ use Rattle.jf_lead.specs.Laws.{IsLandingBlock}
 use Rattle.jf_turn.specs.Lists.{HasElement, StartsWith}
 use Rattle.jf_store.specs.declared.event.Event.{Event}
 use Rattle.jf_store.specs.declared.event.Event.TheVariants.{Done, Mark}
-use Rattle.jf_store.specs.Events.{pass_named_by, entries_of}
+use Rattle.jf_store.specs.Events.{pass_named_by, entries_among}
 use Rattle.jf_store.specs.Starts.{Start}
 use Rattle.jf_store.specs.Ledgers.{state_after_events}
 use Rattle.jf_store.specs.Passes.{Pass, OthersAlone, SeesOwn}
@@ -39,31 +39,31 @@ own_landings-push n s es e owned =
     own_landings-append n s es (e ∷ []) ∙ ap (λ b. own_landings n s es ++ (cond b blocks [] ++ [])) (eq-eqb (owner_of e) n owned) ∙ ap (λ bs. own_landings n s es ++ bs) (append-nil blocks)
 
 -- events of others add none
-own_landings-others : (n : ℕ) (s : State) (xs : List Event) → ((x : Event) → HasElement xs x → pass_named_by x ≡ n → ⊥) → own_landings n s (entries_of xs) ≡ []
+own_landings-others : (n : ℕ) (s : State) (xs : List Event) → ((x : Event) → HasElement xs x → pass_named_by x ≡ n → ⊥) → own_landings n s (entries_among xs) ≡ []
 unfolding own_landings
 own_landings-others n s [] none = refl
 own_landings-others n s (Done e ∷ xs) none =
     let rest = own_landings-others n (after e s) xs (λ x has. none x (suc has.0, has.1)) in
-    elim (owner_of e == n) as (λ b. (owner_of e == n) ≡ b → cond b (entry_blocks s e) [] ++ own_landings n (after e s) (entries_of xs) ≡ []) [
+    elim (owner_of e == n) as (λ b. (owner_of e == n) ≡ b → cond b (entry_blocks s e) [] ++ own_landings n (after e s) (entries_among xs) ≡ []) [
       | true ↦ λ same. absurd (none (Done e) (0, refl) (eqb-true (owner_of e) n same))
       | false ↦ λ other. rest
     ] refl
 own_landings-others n s (Mark pass e ∷ xs) none = own_landings-others n s xs (λ x has. none x (suc has.0, has.1))
 
 -- if all events are of the session, so are all landings
-pub own_landings-all : (n : ℕ) (s : State) (xs : List Event) → AllByRecursion (λ x. pass_named_by x ≡ n) xs → own_landings n s (entries_of xs) ≡ landings s (entries_of xs)
+pub own_landings-all : (n : ℕ) (s : State) (xs : List Event) → AllByRecursion (λ x. pass_named_by x ≡ n) xs → own_landings n s (entries_among xs) ≡ landings s (entries_among xs)
 unfolding own_landings landings
 own_landings-all n s [] named = refl
 own_landings-all n s (Done e ∷ xs) named = ap₂ (λ b bs. cond b (entry_blocks s e) [] ++ bs) (eq-eqb (owner_of e) n named.0) (own_landings-all n (after e s) xs named.1)
 own_landings-all n s (Mark pass e ∷ xs) named = own_landings-all n s xs named.1
 
 -- ---- of a pass
-own_landings-on : (s : State) (p : Pass) (events : List Event) → StartsWith events p.seen → OthersAlone p events → own_landings p.number s (entries_of events) ≡ own_landings p.number s (entries_of p.seen)
+own_landings-on : (s : State) (p : Pass) (events : List Event) → StartsWith events p.seen → OthersAlone p events → own_landings p.number s (entries_among events) ≡ own_landings p.number s (entries_among p.seen)
 own_landings-on s p events begins others =
     let rest : drop (length p.seen) events ≡ begins.0 = ap (drop (length p.seen)) begins.1 ∙ drop-append_seam p.seen begins.0 in
-    let none = own_landings-others p.number (replay s (entries_of p.seen)) begins.0 (λ x has. others x (subst (λ (xs : List Event). HasElement xs x) (sym rest) has)) in
-    ap (λ (xs : List Event). own_landings p.number s (entries_of xs)) begins.1 ∙ ap (own_landings p.number s) (entries_of-append p.seen begins.0)
-    ∙ own_landings-append p.number s (entries_of p.seen) (entries_of begins.0) ∙ ap (λ bs. own_landings p.number s (entries_of p.seen) ++ bs) none ∙ append-nil (own_landings p.number s (entries_of p.seen))
+    let none = own_landings-others p.number (replay s (entries_among p.seen)) begins.0 (λ x has. others x (subst (λ (xs : List Event). HasElement xs x) (sym rest) has)) in
+    ap (λ (xs : List Event). own_landings p.number s (entries_among xs)) begins.1 ∙ ap (own_landings p.number s) (entries_of-append p.seen begins.0)
+    ∙ own_landings-append p.number s (entries_among p.seen) (entries_among begins.0) ∙ ap (λ bs. own_landings p.number s (entries_among p.seen) ++ bs) none ∙ append-nil (own_landings p.number s (entries_among p.seen))
 
 module _ (start : Start) where
   landed_none : (old new : Pass) → own_landings new.number start.state (seen_by new) ≡ own_landings old.number start.state (seen_by old) → HasLandedMore start old new []
@@ -87,13 +87,13 @@ module _ (start : Start) where
       → AllByRecursion IsLandingBlock blocks → HasLandedMore start old new blocks
   landed_own old new before e sees owned blocks are sound = record {
     all = ap (λ (p : Pass). own_landings p.number start.state (seen_by p)) sees.last ∙ ap (own_landings old.number start.state) (entries_of-done before e)
-        ∙ own_landings-push old.number start.state (entries_of before) e owned ∙ ap₂ (λ xs ys. xs ++ ys) (own_landings-on start.state old before sees.begins sees.others) (sym are);
+        ∙ own_landings-push old.number start.state (entries_among before) e owned ∙ ap₂ (λ xs ys. xs ++ ys) (own_landings-on start.state old before sees.begins sees.others) (sym are);
     sound = sound;
   }
 
   -- and that is the last entry that it has seen
   pub last_own : (old new : Pass) (before : List Event) (e : Entry) → SeesOwn old new before (Done e) → (blocks : List LandingBlock) → blocks ≡ entry_blocks (state_after_events start before) e → AreOfLast start.state (seen_by new) blocks
-  last_own old new before e sees blocks are = inr (entries_of before, e, ap (λ (p : Pass). seen_by p) sees.last ∙ entries_of-done before e, are)
+  last_own old new before e sees blocks are = inr (entries_among before, e, ap (λ (p : Pass). seen_by p) sees.last ∙ entries_of-done before e, are)
 
   -- more and then still more
   pub landed_further : (old mid new : Pass) (bs cs : List LandingBlock) → HasLandedMore start old mid bs → HasLandedMore start mid new cs → HasLandedMore start old new (bs ++ cs)

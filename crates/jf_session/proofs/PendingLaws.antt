@@ -16,7 +16,7 @@ use Rattle.jf_script.specs.declared.reply.Refusal.TheVariants as refusal
 use Rattle.jf_script.specs.declared.reply.Reply.{Reply}
 use Rattle.jf_script.specs.declared.reply.Reply.TheVariants as reply
 use Rattle.jf_answers.specs.Own.{Own}
-use Rattle.jf_answers.specs.Answers.{Answer, answer_command, replied, pending_changed}
+use Rattle.jf_answers.specs.Answers.{Answer, answer_command, own_answer, pending_changed}
 use Rattle.jf_answers.specs.Refusals.{refused_by}
 use Rattle.jf_history.specs.Sessions.{Session}
 use Rattle.jf_session.specs.Steps.{session_of, IsSoundSession, DoneByLook, IsDoneAs, NotDone}
@@ -30,7 +30,7 @@ abbrev pub set_command : List ℕ → Option (List ℕ) → Command
 set_command name (Some value) = command.Own (own_command.Put name value)
 set_command name None = command.Own (own_command.Del name)
 
-set-full : (s : State) (own : Own) (name : List ℕ) (o : Option (List ℕ)) → is_full (K name) own.pending ≡ true → answer_command s own (set_command name o) ≡ replied (reply.No refusal.Pending) s own
+set-full : (s : State) (own : Own) (name : List ℕ) (o : Option (List ℕ)) → is_full (K name) own.pending ≡ true → answer_command s own (set_command name o) ≡ own_answer (reply.No refusal.Pending) s own
 unfolding refused_by
 set-full s own name (Some value) e = answer-refused s own (command.Own (own_command.Put name value)) refusal.Pending (ap (λ b. cond b (Some refusal.Pending) None) e)
 set-full s own name None e = answer-refused s own (command.Own (own_command.Del name)) refusal.Pending (ap (λ b. cond b (Some refusal.Pending) None) e)
@@ -67,7 +67,7 @@ module _ (start : Start) (p : Pass) (pending pending' : Batch) (over over' : Boo
   -- the pending batch is full for the key
   pub full_done : (k : List ℕ) → k ≡ K name → IsTrue (is_full k pending) → pending' ≡ pending → IsDoneAs start old new (set_command name o) (reply.No refusal.Pending) []
   full_done k key full same =
-      done_as (replied (reply.No refusal.Pending) s (own_of p pending)) (set-full s (own_of p pending) name o (ap (λ (j : List ℕ). is_full j pending) (sym key) ∙ full)) refl refl (ap (own_of p) same) (reply.No refusal.Pending) refl
+      done_as (own_answer (reply.No refusal.Pending) s (own_of p pending)) (set-full s (own_of p pending) name o (ap (λ (j : List ℕ). is_full j pending) (sym key) ∙ full)) refl refl (ap (own_of p) same) (reply.No refusal.Pending) refl
 
   -- it isn't
   pub room_done : (k : List ℕ) (n : ℕ) → k ≡ K name → (IsTrue (is_full k pending) → ⊥) → pending' ≡ put key_cmp k o pending → n ≡ length pending' → IsDoneAs start old new (set_command name o) (reply.Pending n) []

@@ -24,7 +24,7 @@ use Rattle.jf_script.specs.declared.command.Command.TheVariants as command
 use Rattle.jf_script.specs.declared.command.OwnCommand.TheVariants as own_command
 use Rattle.jf_script.specs.declared.reply.Refusal.TheVariants as refusal
 use Rattle.jf_script.specs.declared.reply.Reply.TheVariants as reply
-use Rattle.jf_answers.specs.Own.{pinned, free_place, with_pin}
+use Rattle.jf_answers.specs.Own.{version_pinned_at, free_place, with_pin}
 use Rattle.jf_answers.specs.Answers.{Answer}
 use Rattle.jf_answers.specs.Refusals.{causes, version_causes, place_causes, refused_by}
 use Rattle.jf_history.specs.Sessions.{Session, pinned_versions}
@@ -150,7 +150,7 @@ module _ (start : Start) (store : Store) (p p' : Pass) (pending : Batch) (place 
     IsDoneAs-freed version there on over' old view =
         let own = own_of p pending in
         let s = state_after_events start p'.seen in
-        let held : pinned own place ≡ Some version = pinned_version p.pinned place ∙ sym there in
+        let held : version_pinned_at own place ≡ Some version = pinned_version p.pinned place ∙ sym there in
         let found = answer-free s own (command.Own (own_command.Unpin place)) (ap (λ o. cond (is_none o) (Some refusal.NoPin) None) held) in
         inl (subst (λ (o : Session). DoneByLook start o (session_of p' pending over') (command.Own (own_command.Unpin place)) (reply.Unpin version) []) view record {
           follows = follows-unpin;
@@ -181,7 +181,7 @@ module _ (start : Start) (store : Store) (p p' : Pass) (pending : Batch) (place 
     IsDoneAs-not_freed there on over' old view =
         let own = own_of p pending in
         let s = state_after_events start p.seen in
-        let none : pinned own place ≡ None = pinned_version p.pinned place ∙ sym there in
+        let none : version_pinned_at own place ≡ None = pinned_version p.pinned place ∙ sym there in
         let found = answer-refused s own (command.Own (own_command.Unpin place)) refusal.NoPin (ap (λ o. cond (is_none o) (Some refusal.NoPin) None) none) in
         subst (λ (q : Pass). IsDoneAs start old (session_of q pending over') (command.Own (own_command.Unpin place)) (reply.No refusal.NoPin) []) (sym same)
         (inl (subst (λ (o : Session). DoneByLook start o (session_of p pending over') (command.Own (own_command.Unpin place)) (reply.No refusal.NoPin) []) view record {

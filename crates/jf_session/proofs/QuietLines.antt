@@ -14,7 +14,7 @@ use Rattle.jf_script.specs.declared.reply.Reply.TheVariants as reply
 use Rattle.jf_answers.specs.Own.{Own}
 use Rattle.jf_answers.specs.Refusals.{refused_by}
 use Rattle.jf_session.specs.Taking.{is_store_word}
-use Rattle.jf_answers.specs.Answers.{Answer, answer, answer_to, granted, replied, too_long}
+use Rattle.jf_answers.specs.Answers.{Answer, answer, answer_to, granted_answer, own_answer, too_long}
 use Rattle.jf_answers.proofs.AnswerLaws.{granted_own-quiet}
 
 -- the commands that change the store
@@ -27,7 +27,7 @@ gives_entry None = false
 gives_entry (Some c) = changes_store c
 
 -- ---- a command that gives none
-granted_none : (c : Command) (s : State) (own : Own) → changes_store c ≡ false → (granted c s own).entry ≡ None
+granted_none : (c : Command) (s : State) (own : Own) → changes_store c ≡ false → (granted_answer c s own).entry ≡ None
 granted_none (command.Own c) s own none = granted_own-quiet c s own
 granted_none (command.Read on q) s own none = refl
 granted_none (command.ReadFork id q) s own none = refl
@@ -35,7 +35,7 @@ granted_none command.Look s own none = refl
 granted_none (command.Pin version) s own none = refl
 granted_none (command.Change c) s own none = absurd (cc)
 
-unrefused_none : (o : Option Refusal) (c : Command) (s : State) (own : Own) → changes_store c ≡ false → (elim o as (λ x. Answer) [ Some why ↦ replied (reply.No why) s own | None ↦ granted c s own ]).entry ≡ None
+unrefused_none : (o : Option Refusal) (c : Command) (s : State) (own : Own) → changes_store c ≡ false → (elim o as (λ x. Answer) [ Some why ↦ own_answer (reply.No why) s own | None ↦ granted_answer c s own ]).entry ≡ None
 unrefused_none None c s own none = granted_none c s own none
 unrefused_none (Some why) c s own none = refl
 

@@ -26,7 +26,7 @@ use Rattle.jf_script.specs.declared.reply.Reply.{Reply}
 use Rattle.jf_script.specs.declared.reply.Reply.TheVariants as reply
 use Rattle.jf_answers.specs.Own.{Own}
 use Rattle.jf_answers.specs.OwnLines.{is_own_command}
-use Rattle.jf_answers.specs.Answers.{Answer, answer_of, read_answer, granted, replied, answer_command, status_reply}
+use Rattle.jf_answers.specs.Answers.{Answer, answer_of, read_answer, granted_answer, own_answer, answer_command, status_reply}
 use Rattle.jf_answers.specs.Refusals.{Causes, refused_by, base_causes, base_map, fork_causes, question_causes}
 use Rattle.jf_history.specs.Sessions.{Session}
 use Rattle.jf_session.specs.Questions.{question_reply, IsReplyTo, IsAnswerTo}
@@ -40,8 +40,8 @@ use Rattle.jf_session.proofs.RefusedCalls.{Fails}
 
 -- ---- answers
 -- the answer to a command that nothing refuses
-pub answer-free : (s : State) (own : Own) (c : Command) → refused_by s own c ≡ None → answer_command s own c ≡ granted c s own
-answer-free s own c free = ap (λ (o : Option Refusal). elim o as (λ x. Answer) [ Some why ↦ replied (reply.No why) s own | None ↦ granted c s own ]) free
+pub answer-free : (s : State) (own : Own) (c : Command) → refused_by s own c ≡ None → answer_command s own c ≡ granted_answer c s own
+answer-free s own c free = ap (λ (o : Option Refusal). elim o as (λ x. Answer) [ Some why ↦ own_answer (reply.No why) s own | None ↦ granted_answer c s own ]) free
 
 -- an answer with which nothing changes
 abbrev pub plain_answer : Reply × List ℕ → State → Own → Answer
@@ -54,15 +54,15 @@ pub record ReadsMap (s : State) (own : Own) (c : Command) (cs : Causes) (q : Que
 
 -- the answer by the first cause of the question
 by_question : (o : Option Refusal) (q : Question) (m : Map) (s : State) (own : Own)
-    → (elim o as (λ x. Answer) [ Some why ↦ replied (reply.No why) s own | None ↦ read_answer q m s own ]) ≡ plain_answer (elim o as (λ x. Reply × List ℕ) [ Some why ↦ (reply.No why, []) | None ↦ answer_of q m ]) s own
+    → (elim o as (λ x. Answer) [ Some why ↦ own_answer (reply.No why) s own | None ↦ read_answer q m s own ]) ≡ plain_answer (elim o as (λ x. Reply × List ℕ) [ Some why ↦ (reply.No why, []) | None ↦ answer_of q m ]) s own
 by_question None q m s own = refl
 by_question (Some why) q m s own = refl
 
 module _ (s : State) (own : Own) where
   after_causes : (cs : Causes) (q : Question) (m : Map) → first_of cs ≡ None
-      → (elim (first_of (cs ++ question_causes q m)) as (λ x. Answer) [ Some why ↦ replied (reply.No why) s own | None ↦ read_answer q m s own ]) ≡ plain_answer (question_reply q m) s own
+      → (elim (first_of (cs ++ question_causes q m)) as (λ x. Answer) [ Some why ↦ own_answer (reply.No why) s own | None ↦ read_answer q m s own ]) ≡ plain_answer (question_reply q m) s own
   after_causes cs q m none =
-      ap (λ (o : Option Refusal). elim o as (λ x. Answer) [ Some why ↦ replied (reply.No why) s own | None ↦ read_answer q m s own ]) (first_of-after cs (question_causes q m) none) ∙ by_question (first_of (question_causes q m)) q m s own
+      ap (λ (o : Option Refusal). elim o as (λ x. Answer) [ Some why ↦ own_answer (reply.No why) s own | None ↦ read_answer q m s own ]) (first_of-after cs (question_causes q m) none) ∙ by_question (first_of (question_causes q m)) q m s own
 
   -- a read asks its question over the map of its base, and one of a fork over the fork's
   pub ReadsMap-read : (on : Base) (q : Question) → ReadsMap s own (command.Read on q) (base_causes s own on) q (base_map s own on)

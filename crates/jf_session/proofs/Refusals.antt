@@ -9,7 +9,7 @@ use Rattle.jf_store.specs.Events.{is_marked}
 use Rattle.jf_store.specs.Refusals.{StoreFaults, IsRefusal, broken_faults}
 use Rattle.jf_script.specs.declared.reply.Refusal.{Refusal}
 use Rattle.jf_answers.specs.Refusals.{Causes}
-use Rattle.jf_session.specs.Refusing.{told}
+use Rattle.jf_session.specs.Refusing.{refusal_or_stop}
 use Rattle.jf_session.specs.declared.stop.Stop.TheVariants as stop
 
 -- the same tests in the same order, each fault told as the refusal beside its test
@@ -17,13 +17,13 @@ abbrev pub AreTold : StoreFaults → Causes → Type 0
 AreTold [] [] = Unit {0}
 AreTold [] (c ∷ cs) = ⊥
 AreTold (f ∷ fs) [] = ⊥
-AreTold (f ∷ fs) (c ∷ cs) = (f.0 ≡ c.0) × (told f.1 ≡ Ok c.1) × AreTold fs cs
+AreTold (f ∷ fs) (c ∷ cs) = (f.0 ≡ c.0) × (refusal_or_stop f.1 ≡ Ok c.1) × AreTold fs cs
 
 -- what the first test that holds is told as
 pub record IsToldAs (causes : Causes) (f : StoreFault) : Type 0 where
   pub why : Refusal
   pub first : first_of causes ≡ Some why
-  pub is_told : told f ≡ Ok why
+  pub is_told : refusal_or_stop f ≡ Ok why
 
 -- ---- lists of faults
 pub AreTold-append : (fs gs : StoreFaults) (cs ds : Causes) → AreTold fs cs → AreTold gs ds → AreTold (fs ++ gs) (cs ++ ds)
@@ -57,7 +57,7 @@ refused_alike (g ∷ fs) (c ∷ cs) f a some = by (λ rest. refused_alike fs cs 
     by further true is =
         let here : Some g.1 ≡ Some f = ap (λ b. cond b (Some g.1) (first_of fs)) (sym is) ∙ some in
         let same : g.1 ≡ f = cc in
-        record { why = c.1; first = ap (λ b. cond b (Some c.1) (first_of cs)) (sym a.0 ∙ is); is_told = ap told (sym same) ∙ a.1 }
+        record { why = c.1; first = ap (λ b. cond b (Some c.1) (first_of cs)) (sym a.0 ∙ is); is_told = ap refusal_or_stop (sym same) ∙ a.1 }
     by further false is =
         let rest : first_of fs ≡ Some f = ap (λ b. cond b (Some g.1) (first_of fs)) (sym is) ∙ some in
         let more = further rest in
@@ -88,34 +88,34 @@ why_refused events rest cs f a is = by (is_marked events) refl
     by false clear = later clear (unmarked-refused rest cs f a (is ∙ ap (λ b. unwrap_or (cond b (Some store_fault.Broken) (first_of rest)) store_fault.Memory) clear))
 
 -- a refusal that is told in a reply is the command's
-pub told-reply : (events : List Event) (rest : StoreFaults) (cs : Causes) (f : StoreFault) (why : Refusal) → AreTold rest cs → IsRefusal (broken_faults events ++ rest) f → told f ≡ Ok why
+pub told-reply : (events : List Event) (rest : StoreFaults) (cs : Causes) (f : StoreFault) (why : Refusal) → AreTold rest cs → IsRefusal (broken_faults events ++ rest) f → refusal_or_stop f ≡ Ok why
     → (is_marked events ≡ false) × (first_of cs ≡ Some why)
 told-reply events rest cs f why a is tells = by (why_refused events rest cs f a is)
   where
     by : WhyRefused events cs f → (is_marked events ≡ false) × (first_of cs ≡ Some why)
-    by (inl broken) = let e : Err stop.Broken ≡ Ok why = sym (ap told broken.0) ∙ tells in absurd (cc)
-    by (inr (inl memory)) = let e : Err stop.Memory ≡ Ok why = sym (ap told memory) ∙ tells in absurd (cc)
+    by (inl broken) = let e : Err stop.Broken ≡ Ok why = sym (ap refusal_or_stop broken.0) ∙ tells in absurd (cc)
+    by (inr (inl memory)) = let e : Err stop.Memory ≡ Ok why = sym (ap refusal_or_stop memory) ∙ tells in absurd (cc)
     by (inr (inr it)) =
         let e : Ok it.1.why ≡ Ok why = sym it.1.is_told ∙ tells in
         let same : it.1.why ≡ why = cc in
         (it.0, it.1.first ∙ ap Some same)
 
 -- a call that finds the store broken has seen a mark
-pub told-broken : (events : List Event) (rest : StoreFaults) (cs : Causes) (f : StoreFault) → AreTold rest cs → IsRefusal (broken_faults events ++ rest) f → told f ≡ Err stop.Broken → is_marked events ≡ true
+pub told-broken : (events : List Event) (rest : StoreFaults) (cs : Causes) (f : StoreFault) → AreTold rest cs → IsRefusal (broken_faults events ++ rest) f → refusal_or_stop f ≡ Err stop.Broken → is_marked events ≡ true
 told-broken events rest cs f a is tells = by (why_refused events rest cs f a is)
   where
     by : WhyRefused events cs f → is_marked events ≡ true
     by (inl broken) = broken.1
-    by (inr (inl memory)) = let e : Err stop.Memory ≡ Err stop.Broken = sym (ap told memory) ∙ tells in absurd (cc)
+    by (inr (inl memory)) = let e : Err stop.Memory ≡ Err stop.Broken = sym (ap refusal_or_stop memory) ∙ tells in absurd (cc)
     by (inr (inr it)) = let e : Err stop.Broken ≡ Ok it.1.why = sym tells ∙ it.1.is_told in absurd (cc)
 
 -- a refusal is no fault of the disk
-pub told-fault : (events : List Event) (rest : StoreFaults) (cs : Causes) (f : StoreFault) → AreTold rest cs → IsRefusal (broken_faults events ++ rest) f → told f ≡ Err stop.DiskFault → ⊥
+pub told-fault : (events : List Event) (rest : StoreFaults) (cs : Causes) (f : StoreFault) → AreTold rest cs → IsRefusal (broken_faults events ++ rest) f → refusal_or_stop f ≡ Err stop.DiskFault → ⊥
 told-fault events rest cs f a is tells = by (why_refused events rest cs f a is)
   where
     by : WhyRefused events cs f → ⊥
-    by (inl broken) = let e : Err stop.Broken ≡ Err stop.DiskFault = sym (ap told broken.0) ∙ tells in absurd (cc)
-    by (inr (inl memory)) = let e : Err stop.Memory ≡ Err stop.DiskFault = sym (ap told memory) ∙ tells in absurd (cc)
+    by (inl broken) = let e : Err stop.Broken ≡ Err stop.DiskFault = sym (ap refusal_or_stop broken.0) ∙ tells in absurd (cc)
+    by (inr (inl memory)) = let e : Err stop.Memory ≡ Err stop.DiskFault = sym (ap refusal_or_stop memory) ∙ tells in absurd (cc)
     by (inr (inr it)) = let e : Err stop.DiskFault ≡ Ok it.1.why = sym tells ∙ it.1.is_told in absurd (cc)
 
 -- nothing refuses a call that was granted, or its command

@@ -17,10 +17,10 @@ use Rattle.jf_script.specs.declared.reply.Refusal.{Refusal}
 use Rattle.jf_script.specs.declared.reply.Reply.TheVariants as reply
 use Rattle.jf_answers.specs.Own.{Own}
 use Rattle.jf_answers.specs.OwnLines.{is_own_command}
-use Rattle.jf_answers.specs.Answers.{Answer, granted, replied, answer_command}
+use Rattle.jf_answers.specs.Answers.{Answer, granted_answer, own_answer, answer_command}
 use Rattle.jf_answers.specs.Refusals.{Causes, causes, refused_by}
 use Rattle.jf_history.specs.Sessions.{Session, pinned_versions}
-use Rattle.jf_session.specs.Refusing.{told}
+use Rattle.jf_session.specs.Refusing.{refusal_or_stop}
 use Rattle.jf_session.specs.Steps.{session_of, FollowsCommand, DoneByLook, NotDone, StopsFor}
 use Rattle.jf_session.specs.declared.stop.Stop.{Stop}
 use Rattle.jf_session.specs.declared.stop.Stop.TheVariants as stop
@@ -28,8 +28,8 @@ use Rattle.jf_session.proofs.Refusals.{AreTold, told-reply, told-broken, told-fa
 use Rattle.jf_session.proofs.Entering.{own_of}
 
 -- the answer to a command that is refused
-pub answer-refused : (s : State) (own : Own) (c : Command) (why : Refusal) → refused_by s own c ≡ Some why → answer_command s own c ≡ replied (reply.No why) s own
-answer-refused s own c why is = ap (λ (o : Option Refusal). elim o as (λ x. Answer) [ Some why ↦ replied (reply.No why) s own | None ↦ granted c s own ]) is
+pub answer-refused : (s : State) (own : Own) (c : Command) (why : Refusal) → refused_by s own c ≡ Some why → answer_command s own c ≡ own_answer (reply.No why) s own
+answer-refused s own c why is = ap (λ (o : Option Refusal). elim o as (λ x. Answer) [ Some why ↦ own_answer (reply.No why) s own | None ↦ granted_answer c s own ]) is
 
 -- a pass that has seen more follows any command
 pub follows-Sees : (p p' : Pass) (c : Command) → Sees p p' → FollowsCommand p p' c
@@ -85,7 +85,7 @@ module _ (start : Start) (p p' : Pass) (pending : Batch) (over over' : Bool) (ol
 
   module _ (f : StoreFault) (t : Refuses start p p' pending c f) (asks : is_own_command c ≡ false) where
     -- the refusal is the reply
-    pub DoneByLook-refused : (why : Refusal) → told f ≡ Ok why → DoneByLook start old (session_of p' pending over') c (reply.No why) []
+    pub DoneByLook-refused : (why : Refusal) → refusal_or_stop f ≡ Ok why → DoneByLook start old (session_of p' pending over') c (reply.No why) []
     DoneByLook-refused why tells =
         let found = told-reply p'.seen t.rest t.told_as f why t.alike t.is tells in
         let same = answer-refused (state_after_events start p'.seen) (own_of p pending) c why (t.refuses why found.1) in
@@ -101,11 +101,11 @@ module _ (start : Start) (p p' : Pass) (pending : Batch) (over over' : Bool) (ol
         }
 
     -- the call stops the session
-    pub StopsFor-refused : (why : Stop) → told f ≡ Err why → StopsFor start old (session_of p' pending over') c why
+    pub StopsFor-refused : (why : Stop) → refusal_or_stop f ≡ Err why → StopsFor start old (session_of p' pending over') c why
     StopsFor-refused stop.DiskFault tells = absurd (told-fault p'.seen t.rest t.told_as f t.alike t.is tells)
     StopsFor-refused stop.Broken tells = (NotDone-sees t.sees, told-broken p'.seen t.rest t.told_as f t.alike t.is tells, asks)
     StopsFor-refused stop.Memory tells = NotDone-sees t.sees
 
 -- a refusal that is told in a reply saw no mark
-pub Refuses-unmarked : (start : Start) (p p' : Pass) (pending : Batch) (c : Command) (f : StoreFault) (why : Refusal) → Refuses start p p' pending c f → told f ≡ Ok why → is_marked p'.seen ≡ false
+pub Refuses-unmarked : (start : Start) (p p' : Pass) (pending : Batch) (c : Command) (f : StoreFault) (why : Refusal) → Refuses start p p' pending c f → refusal_or_stop f ≡ Ok why → is_marked p'.seen ≡ false
 Refuses-unmarked start p p' pending c f why t tells = (told-reply p'.seen t.rest t.told_as f why t.alike t.is tells).0

@@ -12,7 +12,7 @@ use Rattle.jf_script.specs.declared.reply.Reply.{Reply}
 use Rattle.jf_script.specs.declared.reply.Reply.TheVariants as reply
 use Rattle.jf_answers.specs.OwnLines.{is_own_command}
 use Rattle.jf_history.specs.Sessions.{Session}
-use Rattle.jf_session.specs.Refusing.{told, TellsFault}
+use Rattle.jf_session.specs.Refusing.{refusal_or_stop, TellsFault}
 use Rattle.jf_session.specs.Steps.{session_of, IsDoneAs, StopsFor, IsObeyed, IsSoundSession}
 use Rattle.jf_session.specs.declared.stop.Stop.{Stop}
 use Rattle.jf_session.specs.declared.stop.Stop.TheVariants as stop
@@ -26,18 +26,18 @@ abbrev pub Fails : Start → Pass → Pass → Batch → Command → StoreFault 
 Fails start p p' pending c f = ((f ≡ store_fault.DiskFault) × Tries start p p' pending c) ⊎ Refuses start p p' pending c f
 
 -- a fault of the disk is not told in a reply
-never_told : (f : StoreFault) (why : Refusal) → f ≡ store_fault.DiskFault → told f ≡ Ok why → ⊥
-never_told f why failed tells = let e : Err stop.DiskFault ≡ Ok why = sym (ap told failed) ∙ tells in absurd (cc)
+never_told : (f : StoreFault) (why : Refusal) → f ≡ store_fault.DiskFault → refusal_or_stop f ≡ Ok why → ⊥
+never_told f why failed tells = let e : Err stop.DiskFault ≡ Ok why = sym (ap refusal_or_stop failed) ∙ tells in absurd (cc)
 
 module _ (start : Start) (p p' : Pass) (pending : Batch) (over over' : Bool) (c : Command) (f : StoreFault) (fails : Fails start p p' pending c f) where
   module _ (old : Session) (view : session_of p pending over ≡ old) (asks : is_own_command c ≡ false) where
-    told_done : (x : Reply) (why : Refusal) → told f ≡ Ok why → x ≡ reply.No why → Fails start p p' pending c f → IsDoneAs start old (session_of p' pending over') c x []
+    told_done : (x : Reply) (why : Refusal) → refusal_or_stop f ≡ Ok why → x ≡ reply.No why → Fails start p p' pending c f → IsDoneAs start old (session_of p' pending over') c x []
     told_done x why tells is (inl failed) = absurd (never_told f why failed.0 tells)
     told_done x why tells is (inr t) = subst (λ (y : Reply). IsDoneAs start old (session_of p' pending over') c y []) (sym is) (inl (DoneByLook-refused start p p' pending over over' old view c f t asks why tells))
 
-    told_stops : (why : Stop) → told f ≡ Err why → Fails start p p' pending c f → StopsFor start old (session_of p' pending over') c why
+    told_stops : (why : Stop) → refusal_or_stop f ≡ Err why → Fails start p p' pending c f → StopsFor start old (session_of p' pending over') c why
     told_stops why tells (inl failed) =
-        let e : Err stop.DiskFault ≡ Err why = sym (ap told failed.0) ∙ tells in
+        let e : Err stop.DiskFault ≡ Err why = sym (ap refusal_or_stop failed.0) ∙ tells in
         let same : stop.DiskFault ≡ why = cc in
         subst (StopsFor start old (session_of p' pending over') c) same (TriedFor-tries start p p' pending pending over over' old view c failed.1)
     told_stops why tells (inr t) = StopsFor-refused start p p' pending over over' old view c f t asks why tells
@@ -47,7 +47,7 @@ module _ (start : Start) (p p' : Pass) (pending : Batch) (over over' : Bool) (c 
     IsObeyed-failed goes (Ok x) t = (told_done x t.ok.0 t.ok.1 t.ok.2 fails, t.goes_on ∙ ap (λ (s : Session). s.over) view ∙ goes)
     IsObeyed-failed goes (Err why) t = told_stops why t.err fails
 
-  kept : IsSoundSession (session_of p pending over) → (over' ≡ true) ⊎ ((why : Refusal) × (told f ≡ Ok why)) → Fails start p p' pending c f → IsSoundSession (session_of p' pending over')
+  kept : IsSoundSession (session_of p pending over) → (over' ≡ true) ⊎ ((why : Refusal) × (refusal_or_stop f ≡ Ok why)) → Fails start p p' pending c f → IsSoundSession (session_of p' pending over')
   kept is (inl ended) (inl failed) =
       let sees = failed.1.follows.sees in
       record { whole = inl ended; pins = PinsTell-kept p p' (begins_own p p' failed.1.before _ sees) (ap (λ (q : Pass). q.start) sees.last) (ap (λ (q : Pass). q.pinned) sees.last) is.pins }

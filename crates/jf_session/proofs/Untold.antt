@@ -19,7 +19,7 @@ use Rattle.jf_script.specs.declared.reply.Refusal.{Refusal}
 use Rattle.jf_script.specs.declared.reply.Reply.{Reply}
 use Rattle.jf_script.specs.declared.reply.Reply.TheVariants as reply
 use Rattle.jf_answers.specs.Own.{Own}
-use Rattle.jf_answers.specs.Answers.{Answer, granted, granted_own, replied}
+use Rattle.jf_answers.specs.Answers.{Answer, granted_answer, granted_own, own_answer}
 use Rattle.jf_answers.specs.Refusals.{refused_by}
 use Rattle.jf_answers.specs.Explains.{answered_with_floor, floor_in}
 use Rattle.jf_answers.proofs.AnswerLaws.{granted_own-quiet}
@@ -55,7 +55,7 @@ quiet_lands : (floor : ℕ) (s : State) (own : Own) (a : Answer) → a.entry ≡
 unfolding is_landed
 quiet_lands floor s own a none = ap (λ (o : Option Entry). is_landed (answered_with_floor floor s own a o).entry) none ∙ ap is_landed none
 
-granted_lands : (floor : ℕ) (s : State) (own : Own) (c : Command) → is_landing c ≡ false → is_landed (answered_with_floor floor s own (granted c s own) (granted c s own).entry).entry ≡ false
+granted_lands : (floor : ℕ) (s : State) (own : Own) (c : Command) → is_landing c ≡ false → is_landed (answered_with_floor floor s own (granted_answer c s own) (granted_answer c s own).entry).entry ≡ false
 unfolding is_landed
 granted_lands floor s own (command.Own c) other = quiet_lands floor s own (granted_own c s own) (granted_own-quiet c s own)
 granted_lands floor s own (command.Read on q) other = refl
@@ -71,7 +71,7 @@ granted_lands floor s own (command.Change change.Compact) other = refl
 
 -- the answer to a command by why it is refused, if it is
 abbrev answer_by : Option Refusal → State → Own → Command → Answer
-answer_by o s own c = elim o as (λ x. Answer) [ Some why ↦ replied (reply.No why) s own | None ↦ granted c s own ]
+answer_by o s own c = elim o as (λ x. Answer) [ Some why ↦ own_answer (reply.No why) s own | None ↦ granted_answer c s own ]
 
 answer_lands : (floor : ℕ) (s : State) (own : Own) (c : Command) (o : Option Refusal) → is_landing c ≡ false → is_landed (answered_with_floor floor s own (answer_by o s own c) (answer_by o s own c).entry).entry ≡ false
 unfolding is_landed

@@ -3,7 +3,7 @@ ghost use Rattle.jf_script.specs.declared.command.Change.TheVariants as change;
 ghost use Rattle.jf_script.specs.declared.command.Command.TheVariants as command;
 ghost use Rattle.jf_session.specs.Steps.{IsRunningOn, IsObeyed};
 
-use crate::refusing::refused;
+use crate::refusing::refusal_reply;
 use crate::session::Session;
 use crate::stop::Stop;
 use jf_disk::Disk;
@@ -43,7 +43,7 @@ impl<D: Disk> Session<D> {
                     root,
                 })
             }
-            Err(fault) => refused(fault, &mut self.over),
+            Err(fault) => refusal_reply(fault, &mut self.over),
         }
     }
 
@@ -70,7 +70,7 @@ impl<D: Disk> Session<D> {
                     root,
                 })
             }
-            Err(fault) => refused(fault, &mut self.over),
+            Err(fault) => refusal_reply(fault, &mut self.over),
         }
     }
 }

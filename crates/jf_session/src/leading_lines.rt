@@ -35,7 +35,7 @@ impl<D: Disk> Session<D> {
         requires over { self.old.over ≡ false }
         ensures { DoesLeading self.old line.now told.old result self.new told.new }
     {
-        let led = self.led(rt, alloc, store, line, workers, gate, told);
+        let led = self.do_leading_line(rt, alloc, store, line, workers, gate, told);
         self.know_events(store);
         match led {
             Ok(()) => Ok(()),
@@ -47,7 +47,7 @@ impl<D: Disk> Session<D> {
     }
 
     // Does a line, and appends the blocks of what it lands.
-    fn led<H: Threads + Wait + Sync, G: Gate>(
+    fn do_leading_line<H: Threads + Wait + Sync, G: Gate>(
         &mut self,
         rt: &H,
         alloc: Global,
@@ -116,7 +116,7 @@ impl<D: Disk> Session<D> {
     {
         self.know_own(store);
         let mut lines = Bytes::new(alloc);
-        let done = self.obeyed(rt, alloc, store, command, workers, gate, &mut lines);
+        let done = self.reply_to_command(rt, alloc, store, command, workers, gate, &mut lines);
         self.know_events(store);
         untold(done)
     }

@@ -17,7 +17,7 @@ use std::thread::Threads;
 
 impl<D: Disk> Session<D> {
     // Does a line, and returns the reply to it. The lines that follow the reply, if there are any, are appended to `block`.
-    pub(crate) fn answered<H: Threads + Wait + Sync, G: Gate>(
+    pub(crate) fn reply_to_line<H: Threads + Wait + Sync, G: Gate>(
         &mut self,
         rt: &H,
         alloc: Global,
@@ -40,14 +40,14 @@ impl<D: Disk> Session<D> {
             Err(LineFault::LineTooLong) => return Ok(Reply::No(Refusal::Long)),
             Err(LineFault::Memory) => return Err(Stop::Memory),
         };
-        let done = self.obeyed(rt, alloc, store, command, workers, gate, block);
+        let done = self.reply_to_command(rt, alloc, store, command, workers, gate, block);
         self.know_own(store);
         done
     }
 
     // Does a command, and returns the reply to it. The lines that follow the reply, if there are any, are appended to
     // `block`.
-    pub(crate) fn obeyed<H: Threads + Wait + Sync, G: Gate>(
+    pub(crate) fn reply_to_command<H: Threads + Wait + Sync, G: Gate>(
         &mut self,
         rt: &H,
         alloc: Global,

@@ -9,7 +9,7 @@ ghost use Rattle.jf_store.specs.Starts.{Start};
 ghost use Rattle.jf_session.specs.Steps.{session_of, IsSoundSession, IsRunningOn, IsObeyed, IsObeyedWith};
 
 use crate::questions::{answer_fork_question, answer_question};
-use crate::refusing::refused;
+use crate::refusing::refusal_reply;
 use crate::session::Session;
 use crate::stop::Stop;
 use jf_disk::Disk;
@@ -37,7 +37,7 @@ fn read_head<D: Disk, H: Wait>(
 {
     match pass.look(rt, store) {
         Ok(look) => answer_question(alloc, &look.head, question, block),
-        Err(fault) => refused(fault, over),
+        Err(fault) => refusal_reply(fault, over),
     }
 }
 
@@ -60,7 +60,7 @@ fn read_version<D: Disk, H: Wait>(
 {
     match pass.at(rt, store, version) {
         Ok(snapshot) => answer_question(alloc, &snapshot, question, block),
-        Err(fault) => refused(fault, over),
+        Err(fault) => refusal_reply(fault, over),
     }
 }
 
@@ -75,7 +75,7 @@ fn read_place<D: Disk>(
     requires { IsBoundedQuestion question }
     ensures { (start : Start) (pending : Batch) → IsSoundSession (session_of pass.now pending false) → pass.now.start ≡ Some start → IsObeyedWith start (session_of pass.now pending false) (session_of pass.now pending false) (command.Read (base.Place place) question) block.old block.new result }
 {
-    match pass.pinned(place) {
+    match pass.pinned_snapshot(place) {
         Some(snapshot) => answer_question(alloc, snapshot, question, block),
         None => Ok(Reply::No(Refusal::NoPin)),
     }
@@ -98,7 +98,7 @@ fn read_tree<D: Disk, H: Wait>(
 {
     match pass.tree(rt, store, id) {
         Ok(tree) => answer_fork_question(alloc, &tree, question),
-        Err(fault) => refused(fault, over),
+        Err(fault) => refusal_reply(fault, over),
     }
 }
 

@@ -1,14 +1,14 @@
 // A fault of the store is told in a reply, or ends the session.
 ghost use Rattle.std.specs.Prelude.{◌≡◌};
-ghost use Rattle.jf_session.specs.Refusing.{told, TellsFault};
+ghost use Rattle.jf_session.specs.Refusing.{refusal_or_stop, TellsFault};
 
 use crate::stop::Stop;
 use jf_script::{Refusal, Reply};
 use jf_store::StoreFault;
 
 // The refusal that a fault of the store is told as, or why the session ends.
-fn told(fault: StoreFault) -> Result<Refusal, Stop>
-    ensures { result ≡ told fault }
+fn refusal_or_stop(fault: StoreFault) -> Result<Refusal, Stop>
+    ensures { result ≡ refusal_or_stop fault }
 {
     match fault {
         StoreFault::Broken => Err(Stop::Broken),
@@ -26,10 +26,10 @@ fn told(fault: StoreFault) -> Result<Refusal, Stop>
 }
 
 /// The reply to a command that the store refused, or why the session ends; it is over then.
-pub(crate) fn refused(fault: StoreFault, over: &mut bool) -> Result<Reply, Stop>
+pub(crate) fn refusal_reply(fault: StoreFault, over: &mut bool) -> Result<Reply, Stop>
     ensures { TellsFault fault over.old over.new result }
 {
-    match told(fault) {
+    match refusal_or_stop(fault) {
         Ok(why) => Ok(Reply::No(why)),
         Err(stop) => {
             *over = true;

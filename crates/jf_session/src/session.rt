@@ -102,10 +102,10 @@ impl<D: Disk> Session<D> {
     }
 
     // How many entries its pass has seen.
-    fn seen(&self) -> u64
+    fn seen_count(&self) -> u64
         ensures { result ≡ length (seen_by self.now.pass) }
     {
-        self.pass.seen()
+        self.pass.seen_count()
     }
 
     // The session is over.
@@ -157,9 +157,9 @@ impl<D: Disk> Session<D> {
         ensures memory { result ≡ Err Stop.Memory → HasDoneNothing self.old self.new line.now ⊎ ((r : Answered) × HasReplied store.now.start self.old self.new line.now r) }
     {
         let mut block = Bytes::new(alloc);
-        match self.answered(rt, alloc, store, line, workers, gate, &mut block) {
+        match self.reply_to_line(rt, alloc, store, line, workers, gate, &mut block) {
             Ok(reply) => {
-                let seen = self.seen();
+                let seen = self.seen_count();
                 if write_answer(seen, &reply, block.as_slice(), out).is_err() {
                     self.stop();
                     return Err(Stop::Memory);

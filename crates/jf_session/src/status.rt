@@ -5,7 +5,7 @@ ghost use Rattle.jf_script.specs.declared.command.Command.TheVariants as command
 ghost use Rattle.jf_store.specs.Passes.{IsPassOf};
 ghost use Rattle.jf_session.specs.Steps.{session_of, IsSoundSession, IsRunningOn, IsObeyed};
 
-use crate::refusing::refused;
+use crate::refusing::refusal_reply;
 use crate::session::Session;
 use crate::stop::Stop;
 use jf_disk::Disk;
@@ -27,7 +27,7 @@ fn numbers_of<D: Disk, H: Wait>(
 {
     match pass.look(rt, store) {
         Ok(look) => Ok(status_reply(&look)),
-        Err(fault) => refused(fault, over),
+        Err(fault) => refusal_reply(fault, over),
     }
 }
 

@@ -9,7 +9,7 @@ ghost use Rattle.jf_script.specs.declared.command.Command.TheVariants as command
 ghost use Rattle.jf_session.specs.Steps.{IsRunningOn};
 ghost use Rattle.jf_session.specs.Telling.{rooted_blocks, chain_blocks, without_reply, IsLedAs};
 
-use crate::refusing::refused;
+use crate::refusing::refusal_reply;
 use crate::session::Session;
 use crate::stop::Stop;
 use jf_disk::Disk;
@@ -51,7 +51,7 @@ impl<D: Disk> Session<D> {
                 let root = landed.root;
                 tell_block(landed.version, &root, &batch, told)
             }
-            Err(fault) => untold(refused(fault, &mut self.over)),
+            Err(fault) => untold(refusal_reply(fault, &mut self.over)),
         }
     }
 
@@ -74,7 +74,7 @@ impl<D: Disk> Session<D> {
         self.pass.know(store);
         match landed {
             Ok(chain) => tell_chain(&chain, told),
-            Err(fault) => untold(refused(fault, &mut self.over)),
+            Err(fault) => untold(refusal_reply(fault, &mut self.over)),
         }
     }
 }

@@ -9,7 +9,7 @@ use Rattle.jf_hash.specs.Roots.{root, part_root}
 use Rattle.jf_hash.proofs.MapLaws.{same_map}
 use Rattle.jf_hash.proofs.SlotLaws.{keys_are_keys}
 use Rattle.jf_hash.proofs.RootLaws.{root-part_root}
-use Rattle.jf_model.specs.Changes.{applied}
+use Rattle.jf_model.specs.Changes.{entries_after_batch}
 use Rattle.jf_model.proofs.ChangeLaws.{sorted-applied, all_keys-applied, entries-apply}
 use Rattle.jf_node.specs.RangeValue.{RangeValue}
 use Rattle.jf_spec.specs.Trees.{IsTree}
@@ -49,14 +49,14 @@ parts_of top bs tree batch = record {
 }
 
 -- the top after a batch is the top of a tree, whose map is the map after the batch
-pub tree_applied : (top new : RangeValue) (bs : Batch) → new ≡ record { depth = top.depth; entries = applied top.entries bs } → IsTree top → IsBatch bs → IsTree new
+pub tree_applied : (top new : RangeValue) (bs : Batch) → new ≡ record { depth = top.depth; entries = entries_after_batch top.entries bs } → IsTree top → IsBatch bs → IsTree new
 tree_applied top new bs is tree batch =
     subst IsTree (sym is) (record { depth = tree.depth; sorted = sorted-applied top.entries bs tree.sorted; keys = all_keys-applied IsKey top.entries bs tree.keys batch.keys })
 
-pub map_applied : (top new : RangeValue) (m : Map) (bs : Batch) → new ≡ record { depth = top.depth; entries = applied top.entries bs } → fin.from_sorted top.entries ≡ m → IsTree top → fin.from_sorted new.entries ≡ apply m bs
+pub map_applied : (top new : RangeValue) (m : Map) (bs : Batch) → new ≡ record { depth = top.depth; entries = entries_after_batch top.entries bs } → fin.from_sorted top.entries ≡ m → IsTree top → fin.from_sorted new.entries ≡ apply m bs
 map_applied top new m bs is seen tree =
     ap (λ t. fin.from_sorted t.entries) is
-    ∙ ap (λ es. fin.from_sorted (applied es bs)) (sym (entries_of top m seen tree))
+    ∙ ap (λ es. fin.from_sorted (entries_after_batch es bs)) (sym (entries_of top m seen tree))
     ∙ ap fin.from_sorted (sym (entries-apply m bs))
     ∙ map_of (apply m bs)
 

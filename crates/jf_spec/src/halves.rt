@@ -31,8 +31,8 @@ fn stored_halves(range: &SharedRange) -> Result<Halves, Memory>
     let zeros = range.zeros().share()?;
     let ones = range.ones().share()?;
     Ok(Halves {
-        zeros: Node::stored(zeros),
-        ones: Node::stored(ones),
+        zeros: Node::stored_node(zeros),
+        ones: Node::stored_node(ones),
     })
 }
 
@@ -68,7 +68,7 @@ impl Node {
     fn up_to_two(&self) -> u64
         ensures { result ≡ min 2 (length self.now.entries) }
     {
-        match self.held() {
+        match self.held_content() {
             Held::Nothing => 0,
             Held::One(_) => 1,
             Held::More => 2,
@@ -83,7 +83,7 @@ impl Node {
     {
         let Node { form, .. } = self;
         match form {
-            Form::Stored(range) => Node::stored(range.at(depth)),
+            Form::Stored(range) => Node::stored_node(range.at(depth)),
             Form::Leaf(leaf) => Node {
                 depth,
                 form: Form::Leaf(leaf),

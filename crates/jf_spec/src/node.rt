@@ -71,11 +71,11 @@ impl Node {
         requires { depth ≤ 256 }
         ensures { result ≡ record { depth = depth; entries = [] } }
     {
-        Node::stored(SharedRange::empty(depth))
+        Node::stored_node(SharedRange::empty(depth))
     }
 
     // A node of a stored tree.
-    pub(crate) fn stored(range: SharedRange) -> Node
+    pub(crate) fn stored_node(range: SharedRange) -> Node
         requires { range.depth ≤ 256 }
         ensures { result ≡ range }
     {
@@ -133,7 +133,7 @@ impl Node {
     }
 
     // What the node holds.
-    pub(crate) fn held(&self) -> Held<'_>
+    pub(crate) fn held_content(&self) -> Held<'_>
         ensures { HoldsEntries self.now.entries result }
     {
         match &self.form {

@@ -18,7 +18,7 @@ use Rattle.jf_codec.specs.declared.format.Format.{Format}
 use Rattle.jf_standing.specs.Named.{Named, is_alive, is_at, alive_at, version_at, never, map_at}
 use Rattle.jf_standing.specs.Standing.{Standing, with_nodes, versions_of}
 use Rattle.jf_standing.specs.Next.{IsReadStanding}
-use Rattle.jf_standing.specs.Building.{floor_of, rebuilt, nodes_by_name, landed_on, built, up_from, apart, as_named, checkpoint_of}
+use Rattle.jf_standing.specs.Building.{floor_of, rebuilt, nodes_by_name, landed_on, built_standing, up_from, apart, as_named, checkpoint_of}
 use Rattle.jf_standing.specs.Sound.{IsSound}
 use Rattle.jf_standing.specs.Order.{by_name}
 use Rattle.jf_standing.specs.Taking.{GivesStanding}
@@ -90,7 +90,7 @@ drop-step i [] x lt is = absurd (omega arith)
 drop-step zero (y ∷ ys) x lt is = ap (λ z. z ∷ ys) (sym is)
 drop-step (suc i) (y ∷ ys) x lt is = ap (λ k. x ∷ drop k (y ∷ ys)) (let e : suc i + 1 ≡ suc (i + 1) = omega arith in e) ∙ drop-step i ys x (omega arith) is
 
-built_roots : (fmt : Format) (maps : ℕ → Map) (rs : List (List ℕ)) (top n w : ℕ) (t : Standing) → w + n ≡ top → n < length rs → ((v : ℕ) → w < v → v ≤ top → slice_index_or rs (top - v) [] ≡ root (maps v)) → t.roots ≡ drop n rs → (built fmt t (map maps (up_from (w + 1) n))).roots ≡ rs
+built_roots : (fmt : Format) (maps : ℕ → Map) (rs : List (List ℕ)) (top n w : ℕ) (t : Standing) → w + n ≡ top → n < length rs → ((v : ℕ) → w < v → v ≤ top → slice_index_or rs (top - v) [] ≡ root (maps v)) → t.roots ≡ drop n rs → (built_standing fmt t (map maps (up_from (w + 1) n))).roots ≡ rs
 built_roots fmt maps rs top zero w t at long each is = is
 built_roots fmt maps rs top (suc n) w t at long each is =
     built_roots fmt maps rs top n (w + 1) (landed_on fmt (maps (w + 1)) t) (omega arith) (omega arith) (λ v low high. each v (omega arith) high)

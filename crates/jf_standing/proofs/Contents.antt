@@ -9,7 +9,7 @@ use Rattle.jf_hash.specs.Slots.{Part}
 use Rattle.jf_model.specs.Nodes.{is_fresh, Path, fresh, under, is_node, plain_node}
 use Rattle.jf_codec.specs.declared.format.Format.{Format}
 use Rattle.jf_standing.specs.Named.{Named, alive_at, never, is_alive, is_at, version_at, map_at, leaf_entries}
-use Rattle.jf_standing.specs.Standing.{Standing, is_named, unmarked}
+use Rattle.jf_standing.specs.Standing.{Standing, is_named, unmarked_node}
 use Rattle.jf_standing.specs.Landing.{head_map, written_node, version_after}
 use Rattle.jf_standing.specs.Sound.{IsSound, is_counted}
 use Rattle.jf_standing.proofs.Marks.{nodes_after_commit, marked-yes, marked-not}
@@ -38,7 +38,7 @@ module _ (fmt : Format) (s : Standing) (m : Map) (sound : IsSound fmt s) (keys :
   now = nodes_after_commit (landing fmt s m sound keys own_keys last) s.nodes
 
   -- a node alive after the landing was kept, or is written by the landing
-  pub alive-cases : {P : Type 0} (n : Named) → Contains (alive_at (s.head + 1) now) n → (StandsUnnamed s m n → P) → ((x : Path × Part) → Contains (fresh (head_map s) m) x → unmarked (written_node fmt s m x) ≡ n → P) → P
+  pub alive-cases : {P : Type 0} (n : Named) → Contains (alive_at (s.head + 1) now) n → (StandsUnnamed s m n → P) → ((x : Path × Part) → Contains (fresh (head_map s) m) x → unmarked_node (written_node fmt s m x) ≡ n → P) → P
   alive-cases {P} n has kept written =
       let c = landing fmt s m sound keys own_keys last in
       let n_alive = filter-passes (is_alive (s.head + 1)) now n has in
@@ -58,7 +58,7 @@ module _ (fmt : Format) (s : Standing) (m : Map) (sound : IsSound fmt s) (keys :
       ] refl)
       (λ y own same.
       let x = map-which (written_node fmt s m) (fresh (head_map s) m) y own in
-      written x.0 x.1 (ap unmarked x.2 ∙ same))
+      written x.0 x.1 (ap unmarked_node x.2 ∙ same))
     where
       rest : (a b : Bool) → a ≡ true → (a && b) ≡ false → b ≡ false
       rest true b is h = h

@@ -19,7 +19,7 @@ use Rattle.jf_payload.specs.Counted.{commit_in}
 use Rattle.jf_payload.specs.declared.records.Commit.{Commit}
 use Rattle.jf_standing.specs.Named.{leaf_entry, Named, leaf_entries, is_alive, alive_at, is_written, written_at, is_stale, stale_at, map_at, is_at, version_at}
 use Rattle.jf_standing.specs.Sound.{is_counted, IsNodeOf, IsVersion, IsStep, IsSound}
-use Rattle.jf_standing.specs.Standing.{Standing, down_from, versions_of, is_named, marked, unmarked, with_commit, with_floor}
+use Rattle.jf_standing.specs.Standing.{Standing, down_from, versions_of, is_named, marked_node, unmarked_node, with_commit, with_floor}
 use Rattle.jf_standing.specs.FormatLaws.{standing_in}
 use Rattle.jf_standing.specs.Landing.{version_after, written_node, name_at_head, head_map, landing_of}
 use Rattle.jf_standing.specs.Order.{in_order}
@@ -162,21 +162,21 @@ module _ (fmt : Format) where
       ap₂ (λ xs names. record { version = s.head + 1; root = root m; fresh = xs; stale = names }) written (ap in_order gone)
 
   -- ---- landings and floors on what a format keeps
-  mark_kept : (c : Commit) (n : Named) → marked (commit_in fmt c) (named_in_format n) ≡ named_in_format (marked c n)
+  mark_kept : (c : Commit) (n : Named) → marked_node (commit_in fmt c) (named_in_format n) ≡ named_in_format (marked_node c n)
   mark_kept c n = elim (is_named n.0 c.stale) as (λ b. cond b (n.0, in_format fmt n.1, c.version) (named_in_format n) ≡ named_in_format (cond b (n.0, n.1, c.version) n)) [ true ↦ refl | false ↦ refl ]
 
-  marks_kept : (c : Commit) (ns : List Named) → map (marked (commit_in fmt c)) (map named_in_format ns) ≡ map named_in_format (map (marked c) ns)
+  marks_kept : (c : Commit) (ns : List Named) → map (marked_node (commit_in fmt c)) (map named_in_format ns) ≡ map named_in_format (map (marked_node c) ns)
   marks_kept c [] = refl
   marks_kept c (n ∷ ns) = ap₂ (λ x xs. x ∷ xs) (mark_kept c n) (marks_kept c ns)
 
-  unmarks_kept : (xs : List (NodeName × PlainNode)) → map unmarked (map as_kept xs) ≡ map named_in_format (map unmarked xs)
+  unmarks_kept : (xs : List (NodeName × PlainNode)) → map unmarked_node (map as_kept xs) ≡ map named_in_format (map unmarked_node xs)
   unmarks_kept [] = refl
-  unmarks_kept (x ∷ xs) = ap (λ ns. named_in_format (unmarked x) ∷ ns) (unmarks_kept xs)
+  unmarks_kept (x ∷ xs) = ap (λ ns. named_in_format (unmarked_node x) ∷ ns) (unmarks_kept xs)
 
   pub commit_kept : (s : Standing) (c : Commit) → with_commit (commit_in fmt c) (standing_in fmt s) ≡ standing_in fmt (with_commit c s)
   commit_kept s c =
       ap (λ ns. record { base = s.base; floor = s.floor; head = c.version; roots = c.root ∷ s.roots; nodes = ns })
-      (ap₂ (λ xs ys. xs ++ ys) (marks_kept c s.nodes) (unmarks_kept c.fresh) ∙ sym (map-append named_in_format (map (marked c) s.nodes) (map unmarked c.fresh)))
+      (ap₂ (λ xs ys. xs ++ ys) (marks_kept c s.nodes) (unmarks_kept c.fresh) ∙ sym (map-append named_in_format (map (marked_node c) s.nodes) (map unmarked_node c.fresh)))
 
   pub floor_kept : (s : Standing) (floor : ℕ) → with_floor floor (standing_in fmt s) ≡ standing_in fmt (with_floor floor s)
   floor_kept s floor = ap (λ ns. record { base = s.base; floor = floor; head = s.head; roots = s.roots; nodes = ns }) (filter-map (λ n. nat_lt floor n.2) named_in_format s.nodes)

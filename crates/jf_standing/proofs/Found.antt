@@ -16,7 +16,7 @@ use Rattle.jf_codec.specs.declared.format.Format.{Format}
 use Rattle.jf_payload.specs.declared.records.Commit.{Commit}
 use Rattle.jf_walk.proofs.FreshOrder.{sorted-fresh}
 use Rattle.jf_standing.specs.Named.{Named, map_at, written_at, stale_at, is_at, alive_at, is_alive, is_written, version_at}
-use Rattle.jf_standing.specs.Standing.{marked, unmarked, Standing, with_commit, is_named}
+use Rattle.jf_standing.specs.Standing.{marked_node, unmarked_node, Standing, with_commit, is_named}
 use Rattle.jf_standing.specs.Sound.{IsSound, IsStep, StandAt, is_counted}
 use Rattle.jf_standing.specs.Taking.{Continues}
 use Rattle.jf_standing.specs.Landing.{head_map, version_after, written_node}
@@ -33,10 +33,10 @@ use Rattle.jf_standing.proofs.Names.{same_name-exact, are_rising-sorted}
 use Rattle.jf_standing.proofs.Freshness.{fresh-node, child-node, fresh-listed, listed-fresh, sorted-written}
 
 -- a node after a landing stood before, or is written by the landing
-pub nodes_after_commit-cases : {P : Type 0} (c : Commit) (ns : List Named) (n : Named) → Contains (nodes_after_commit c ns) n → ((m : Named) → Contains ns m → marked c m ≡ n → P) → ((x : NodeName × PlainNode) → Contains c.fresh x → unmarked x ≡ n → P) → P
-nodes_after_commit-cases c ns n has stood own = elim (Contains-append_cases (map (marked c) ns) (map unmarked c.fresh) n has) [
-  | inl left ↦ let m = map-which (marked c) ns n left in stood m.0 m.1 m.2
-  | inr right ↦ let x = map-which unmarked c.fresh n right in own x.0 x.1 x.2
+pub nodes_after_commit-cases : {P : Type 0} (c : Commit) (ns : List Named) (n : Named) → Contains (nodes_after_commit c ns) n → ((m : Named) → Contains ns m → marked_node c m ≡ n → P) → ((x : NodeName × PlainNode) → Contains c.fresh x → unmarked_node x ≡ n → P) → P
+nodes_after_commit-cases c ns n has stood own = elim (Contains-append_cases (map (marked_node c) ns) (map unmarked_node c.fresh) n has) [
+  | inl left ↦ let m = map-which (marked_node c) ns n left in stood m.0 m.1 m.2
+  | inr right ↦ let x = map-which unmarked_node c.fresh n right in own x.0 x.1 x.2
 ]
 
 pub test_so : (test : Bool) (n : ℕ) → n ≡ cond test 1 0 → 1 ≤ n → test ≡ true
@@ -72,7 +72,7 @@ module _ (fmt : Format) (s : Standing) (c : Commit) (sound : IsSound fmt s) (goe
   written_alive : (n : Named) → Contains (nodes_after_commit c s.nodes) n → n.0.version ≡ c.version → Contains (alive_at c.version (nodes_after_commit c s.nodes)) n
   written_alive n has at = nodes_after_commit-cases c s.nodes n has
       (λ m stood is. absurd (let low = version-low fmt s sound m stood in let same = ap (λ (k : NodeName). k.version) (sym (marked-name c m) ∙ ap (λ (k : Named). k.0) is) in let next = goes.next in omega arith))
-      (λ x own is. Contains-filter (is_alive c.version) (nodes_after_commit c s.nodes) n has (ap (is_alive c.version) (sym is) ∙ alive-so c.version (unmarked x) (let v = ap (λ (k : Named). k.0.version) is in omega arith) behind_sound.head_last))
+      (λ x own is. Contains-filter (is_alive c.version) (nodes_after_commit c s.nodes) n has (ap (is_alive c.version) (sym is) ∙ alive-so c.version (unmarked_node x) (let v = ap (λ (k : Named). k.0.version) is in omega arith) behind_sound.head_last))
 
   pub version_found : (q : Path) → is_node 0 q (entries landed_map) ≡ true → version_at c.version (nodes_after_commit c s.nodes) q ≡ version_after s landed_map q
   version_found q node =
@@ -109,11 +109,11 @@ module _ (fmt : Format) (s : Standing) (c : Commit) (sound : IsSound fmt s) (goe
       let next = goes.next in
       let low = sound.floor_low in
       let v = All-of (λ x. x.0.version ≡ c.version) c.fresh x goes.fresh_own has in
-      let stood = Contains-append_right (map (marked c) s.nodes) (map unmarked c.fresh) (unmarked x) (Contains-map unmarked c.fresh x has) in
-      let there = Contains-filter (is_written c.version) (nodes_after_commit c s.nodes) (unmarked x) stood (same_number x.0.version c.version v) in
-      let is = test_so _ _ (fresh_stand p) (count-some (is_at p) (written_at c.version (nodes_after_commit c s.nodes)) (unmarked x) there (at-so p (unmarked x) refl)) in
+      let stood = Contains-append_right (map (marked_node c) s.nodes) (map unmarked_node c.fresh) (unmarked_node x) (Contains-map unmarked_node c.fresh x has) in
+      let there = Contains-filter (is_written c.version) (nodes_after_commit c s.nodes) (unmarked_node x) stood (same_number x.0.version c.version v) in
+      let is = test_so _ _ (fresh_stand p) (count-some (is_at p) (written_at c.version (nodes_after_commit c s.nodes)) (unmarked_node x) there (at-so p (unmarked_node x) refl)) in
       let node = fresh-node (entries (head_map s)) (entries landed_map) p is in
-      let content = All-of _ (alive_at c.version (nodes_after_commit c s.nodes)) (unmarked x) (behind_sound.versions c.version (omega arith) (omega arith)).nodes (written_alive (unmarked x) stood v) in (
+      let content = All-of _ (alive_at c.version (nodes_after_commit c s.nodes)) (unmarked_node x) (behind_sound.versions c.version (omega arith) (omega arith)).nodes (written_alive (unmarked_node x) stood v) in (
         is,
         ap₂ (λ k y. (record { version = k; path = p }, y)) (v ∙ next)
             (content ∙ plain_node-same (is_counted fmt) (λ i. version_at c.version (nodes_after_commit c s.nodes) (p ++ i ∷ [])) (λ i. version_after s landed_map (p ++ i ∷ [])) (length p) (under 0 p (entries landed_map)) (λ i some. version_found (p ++ i ∷ []) (child-node (entries landed_map) p i node some))),

@@ -11,7 +11,7 @@ use Rattle.jf_hash.specs.Slots.{Part}
 use Rattle.jf_model.specs.Nodes.{is_fresh, Path, stale}
 use Rattle.jf_codec.specs.declared.format.Format.{Format}
 use Rattle.jf_payload.specs.declared.records.Commit.{Commit}
-use Rattle.jf_standing.specs.Standing.{Standing, with_commit, is_named, marked}
+use Rattle.jf_standing.specs.Standing.{Standing, with_commit, is_named, marked_node}
 use Rattle.jf_standing.specs.Sound.{IsSound}
 use Rattle.jf_standing.specs.Taking.{Continues}
 use Rattle.jf_standing.specs.Named.{Named, is_alive, is_stale, is_at, stale_at}
@@ -37,10 +37,10 @@ module _ (fmt : Format) (s : Standing) (c : Commit) (sound : IsSound fmt s) (goe
       let next = goes.next in
       let is = marked-yes c n named in
       let low = version-low fmt s sound n has in
-      let alive : is_alive s.head (marked c n) ≡ true = ap (is_alive s.head) is ∙ alive-so s.head (n.0, n.1, c.version) low (omega arith) in
-      let there = Contains-filter (is_stale c.version) (nodes_after_commit c s.nodes) (marked c n) (Contains-nodes_after_commit c s.nodes n has) (ap (is_stale c.version) is ∙ same_number c.version c.version refl) in (
+      let alive : is_alive s.head (marked_node c n) ≡ true = ap (is_alive s.head) is ∙ alive-so s.head (n.0, n.1, c.version) low (omega arith) in
+      let there = Contains-filter (is_stale c.version) (nodes_after_commit c s.nodes) (marked_node c n) (Contains-nodes_after_commit c s.nodes n has) (ap (is_stale c.version) is ∙ same_number c.version c.version refl) in (
         sym (All-of _ s.nodes n (unmoved fmt s c sound goes behind_sound s.head sound.floor_low (omega arith)) has) ∙ alive,
-        test_so _ _ (stale_stand fmt s c sound goes behind_sound n.0.path) (count-some (is_at n.0.path) (stale_at c.version (nodes_after_commit c s.nodes)) (marked c n) there (at-so n.0.path (marked c n) (ap (λ m. m.path) (marked-name c n)))),
+        test_so _ _ (stale_stand fmt s c sound goes behind_sound n.0.path) (count-some (is_at n.0.path) (stale_at c.version (nodes_after_commit c s.nodes)) (marked_node c n) there (at-so n.0.path (marked_node c n) (ap (λ m. m.path) (marked-name c n)))),
       )
 
   -- a node that is stale in the map after the landing is named

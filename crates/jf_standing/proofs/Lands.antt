@@ -12,7 +12,7 @@ use Rattle.jf_hash.specs.Slots.{Part}
 use Rattle.jf_model.specs.Nodes.{Path, under, plain_node, is_fresh, stale, is_node}
 use Rattle.jf_codec.specs.declared.format.Format.{Format}
 use Rattle.jf_standing.specs.Named.{Named, never, alive_at, map_at, version_at, is_at, is_written, written_at, is_alive, is_stale, stale_at, leaf_entries}
-use Rattle.jf_standing.specs.Standing.{Standing, marked, is_named, with_commit}
+use Rattle.jf_standing.specs.Standing.{Standing, marked_node, is_named, with_commit}
 use Rattle.jf_standing.specs.Sound.{IsSound, StandAt, is_counted, IsVersion, IsStep}
 use Rattle.jf_standing.specs.Landing.{head_map, landing_of, version_after, name_at_head, stale_names}
 use Rattle.jf_standing.specs.Taking.{Continues}
@@ -36,7 +36,7 @@ module _ (fmt : Format) (s : Standing) (m : Map) (sound : IsSound fmt s) (keys :
   own = now fmt s m sound keys own_keys last
 
   -- ---- an earlier version
-  alive_own : (w : ℕ) → w ≤ s.head → alive_at w own ≡ map (marked (landing_of fmt s m)) (alive_at w s.nodes)
+  alive_own : (w : ℕ) → w ≤ s.head → alive_at w own ≡ map (marked_node (landing_of fmt s m)) (alive_at w s.nodes)
   alive_own w high = alive-nodes_after_commit (landing_of fmt s m) w s.nodes (omega arith) (fresh-own fmt s m) (still fmt s m sound keys own_keys last w high)
 
   pub map_own : (w : ℕ) → w ≤ s.head → map_at w own ≡ map_at w s.nodes
@@ -46,13 +46,13 @@ module _ (fmt : Format) (s : Standing) (m : Map) (sound : IsSound fmt s) (keys :
   version_own w p high = version-nodes_after_commit (landing_of fmt s m) w s.nodes p (omega arith) (fresh-own fmt s m) (still fmt s m sound keys own_keys last w high)
 
   -- marking nodes changes no count at a path
-  count_marked : (p : Path) (ns : List Named) → count_by (is_at p) (map (marked (landing_of fmt s m)) ns) ≡ count_by (is_at p) ns
-  count_marked p ns = count-map (is_at p) (marked (landing_of fmt s m)) ns ∙ count-same (λ n. is_at p (marked (landing_of fmt s m) n)) (is_at p) ns (All-each_element _ ns (λ n has. ap (λ k. bytes_eq k.path p) (marked-name (landing_of fmt s m) n)))
+  count_marked : (p : Path) (ns : List Named) → count_by (is_at p) (map (marked_node (landing_of fmt s m)) ns) ≡ count_by (is_at p) ns
+  count_marked p ns = count-map (is_at p) (marked_node (landing_of fmt s m)) ns ∙ count-same (λ n. is_at p (marked_node (landing_of fmt s m) n)) (is_at p) ns (All-each_element _ ns (λ n has. ap (λ k. bytes_eq k.path p) (marked-name (landing_of fmt s m) n)))
 
-  written_own : (w : ℕ) → w ≤ s.head → written_at w own ≡ map (marked (landing_of fmt s m)) (written_at w s.nodes)
+  written_own : (w : ℕ) → w ≤ s.head → written_at w own ≡ map (marked_node (landing_of fmt s m)) (written_at w s.nodes)
   written_own w high = filter-unchanged (is_written w) (landing_of fmt s m) s.nodes (none_written (landing_of fmt s m) w (landing_of fmt s m).fresh (omega arith) (fresh-own fmt s m)) (All-each_element _ s.nodes (λ n has. ap (λ k. k.version == w) (marked-name (landing_of fmt s m) n)))
 
-  stale_same : (w : ℕ) → w ≤ s.head → (n : Named) → Contains s.nodes n → is_stale w (marked (landing_of fmt s m) n) ≡ is_stale w n
+  stale_same : (w : ℕ) → w ≤ s.head → (n : Named) → Contains s.nodes n → is_stale w (marked_node (landing_of fmt s m) n) ≡ is_stale w n
   stale_same w high n has = elim (is_named n.0 (landing_of fmt s m).stale) as (λ b. is_named n.0 (landing_of fmt s m).stale ≡ b → is_stale w (cond b (n.0, n.1, s.head + 1) n) ≡ is_stale w n) [
     | true ↦ λ named.
         let alive = alive-tells s.head n (parts (is_alive s.head n) _ (sym (names-stale fmt s m sound keys n has) ∙ named)) in
@@ -64,10 +64,10 @@ module _ (fmt : Format) (s : Standing) (m : Map) (sound : IsSound fmt s) (keys :
       parts true b h = refl
       parts false b h = absurd (true≢false (sym h))
 
-  stale_own : (w : ℕ) → w ≤ s.head → stale_at w own ≡ map (marked (landing_of fmt s m)) (stale_at w s.nodes)
+  stale_own : (w : ℕ) → w ≤ s.head → stale_at w own ≡ map (marked_node (landing_of fmt s m)) (stale_at w s.nodes)
   stale_own w high = filter-unchanged (is_stale w) (landing_of fmt s m) s.nodes (All-each_element _ (landing_of fmt s m).fresh (λ x has. other_number never w (λ is. omega arith))) (All-each_element _ s.nodes (stale_same w high))
 
-  stands_own : (test : Path → Bool) (ns ms : List Named) → ms ≡ map (marked (landing_of fmt s m)) ns → StandAt test ns → StandAt test ms
+  stands_own : (test : Path → Bool) (ns ms : List Named) → ms ≡ map (marked_node (landing_of fmt s m)) ns → StandAt test ns → StandAt test ms
   stands_own test ns ms is stand p = ap (count_by (is_at p)) is ∙ count_marked p ns ∙ stand p
 
   root_own : (w : ℕ) → w ≤ s.head → slice_index_or (root m ∷ s.roots) (s.head + 1 - w) [] ≡ slice_index_or s.roots (s.head - w) []
@@ -79,7 +79,7 @@ module _ (fmt : Format) (s : Standing) (m : Map) (sound : IsSound fmt s) (keys :
       record {
         one_leaf = subst (λ es. IsDistinct same_key (map (λ (e : List ℕ × List ℕ). e.0) es)) (sym (ap leaf_entries (alive_own w high) ∙ leaf_entries-marked (landing_of fmt s m) (alive_at w s.nodes))) v.one_leaf;
         nodes = All-each_element _ (alive_at w own) (λ n has.
-            let k = map-which (marked (landing_of fmt s m)) (alive_at w s.nodes) n (subst (λ ns. Contains ns n) (alive_own w high) has) in
+            let k = map-which (marked_node (landing_of fmt s m)) (alive_at w s.nodes) n (subst (λ ns. Contains ns n) (alive_own w high) has) in
             let at : k.0.0.path ≡ n.0.path = ap (λ z. z.path) (sym (marked-name (landing_of fmt s m) k.0)) ∙ ap (λ (z : Named). z.0.path) k.2 in
             sym (ap (λ (z : Named). z.1) k.2) ∙ marked-node (landing_of fmt s m) k.0
             ∙ All-of _ (alive_at w s.nodes) k.0 v.nodes k.1
@@ -99,7 +99,7 @@ module _ (fmt : Format) (s : Standing) (m : Map) (sound : IsSound fmt s) (keys :
         fresh = subst (λ a. StandAt (is_fresh (entries a) (entries (map_at w own))) (written_at w own)) (sym before) (subst (λ b. StandAt (is_fresh (entries (map_at (w - 1) s.nodes)) (entries b)) (written_at w own)) (sym here) (stands_own _ (written_at w s.nodes) (written_at w own) (written_own w high) step.fresh));
         stale = subst (λ a. StandAt (is_fresh (entries (map_at w own)) (entries a)) (stale_at w own)) (sym before) (subst (λ b. StandAt (is_fresh (entries b) (entries (map_at (w - 1) s.nodes))) (stale_at w own)) (sym here) (stands_own _ (stale_at w s.nodes) (stale_at w own) (stale_own w high) step.stale));
         stood = All-each_element _ (stale_at w own) (λ n has.
-            let k = map-which (marked (landing_of fmt s m)) (stale_at w s.nodes) n (subst (λ ns. Contains ns n) (stale_own w high) has) in
+            let k = map-which (marked_node (landing_of fmt s m)) (stale_at w s.nodes) n (subst (λ ns. Contains ns n) (stale_own w high) has) in
             let stood = All-of _ (stale_at w s.nodes) k.0 step.stood k.1 in
             let same = All-of _ s.nodes k.0 (still fmt s m sound keys own_keys last (w - 1) (omega arith)) (filter-Contains (is_stale w) s.nodes k.0 k.1) in
             ap (is_alive (w - 1)) (sym k.2) ∙ same ∙ stood);

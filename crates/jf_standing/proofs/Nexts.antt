@@ -13,7 +13,7 @@ use Rattle.jf_payload.specs.declared.records.Commit.{Commit}
 use Rattle.jf_payload.specs.declared.records.Record.{Record}
 use Rattle.jf_payload.specs.declared.records.Record.TheVariants as «record»
 use Rattle.jf_standing.specs.Named.{Named, leaf_entry, leaf_entries, AreEntries, never}
-use Rattle.jf_standing.specs.Standing.{Standing, unmarked, with_commit, with_floor}
+use Rattle.jf_standing.specs.Standing.{Standing, unmarked_node, with_commit, with_floor}
 use Rattle.jf_standing.specs.Landing.{fresh_leaves, head_map, batch_of, landing_of}
 use Rattle.jf_standing.specs.Sound.{IsSound}
 use Rattle.jf_standing.specs.Taking.{Continues, TakesCommits, TakesFloor, TakesRecord}
@@ -33,7 +33,7 @@ entries-nodes_after_commit s c keys own_keys = All-each_element _ (leaf_entries 
     let n = leaf-which (nodes_after_commit c s.nodes) e has in
     nodes_after_commit-cases c s.nodes n.0 n.1
     (λ m stood same. All-of (λ f. IsKey f.0 × IsBytes f.1) (leaf_entries s.nodes) e keys (leaf-so s.nodes m e stood (ap leaf_entry (sym (marked-node c m) ∙ ap (λ (z : Named). z.1) same) ∙ n.2)))
-    (λ x own same. All-of (λ f. IsKey f.0 × IsBytes f.1) (fresh_leaves c) e own_keys (leaf-so (map unmarked c.fresh) (unmarked x) e (Contains-map unmarked c.fresh x own) (ap (λ (z : Named). leaf_entry z.1) same ∙ n.2))))
+    (λ x own same. All-of (λ f. IsKey f.0 × IsBytes f.1) (fresh_leaves c) e own_keys (leaf-so (map unmarked_node c.fresh) (unmarked_node x) e (Contains-map unmarked_node c.fresh x own) (ap (λ (z : Named). leaf_entry z.1) same ∙ n.2))))
 
 -- under a later floor keys still have 32 bytes and values still are bytes
 pub entries-floored : (s : Standing) (floor : ℕ) → AreEntries (leaf_entries s.nodes) → AreEntries (leaf_entries (with_floor floor s).nodes)

@@ -17,7 +17,7 @@ use Rattle.jf_model.specs.Nodes.{Path, under, is_fresh, fresh, is_node}
 use Rattle.jf_codec.specs.declared.format.Format.{Format}
 use Rattle.jf_payload.specs.declared.records.Commit.{Commit}
 use Rattle.jf_walk.proofs.FreshOrder.{sorted-fresh}
-use Rattle.jf_standing.specs.Standing.{Standing, marked, unmarked, is_named}
+use Rattle.jf_standing.specs.Standing.{Standing, marked_node, unmarked_node, is_named}
 use Rattle.jf_standing.specs.Landing.{written_node, head_map, landing_of}
 use Rattle.jf_standing.specs.Named.{never, Named, is_written, is_at, written_at, is_stale, is_alive, stale_at, alive_at}
 use Rattle.jf_standing.specs.Sound.{IsSound, StandAt}
@@ -67,16 +67,16 @@ module _ (fmt : Format) (s : Standing) (m : Map) (sound : IsSound fmt s) (keys :
   pub placed-fresh : StandAt (is_fresh (entries (head_map s)) (entries m)) (written_at (s.head + 1) (nodes_after_commit landing s.nodes))
   placed-fresh p =
       let test : Named → Bool = λ n. is_written (s.head + 1) n && is_at p n in
-      let old : count_by test (map (marked landing) s.nodes) ≡ 0 = count-map test (marked landing) s.nodes ∙ count-none (λ n. test (marked landing n)) s.nodes (All-each_element _ s.nodes (λ n has.
-      ap (λ b. b && is_at p (marked landing n)) (other_number (marked landing n).0.version (s.head + 1) (λ is. let low = version-low fmt s sound n has in let v = ap (λ k. k.version) (marked-name landing n) in omega arith)))) in
-      let new : count_by test (map unmarked landing.fresh) ≡ one (is_fresh (entries (head_map s)) (entries m) p) =
-      count-map test unmarked landing.fresh
-      ∙ count-map (λ x. test (unmarked x)) (written_node fmt s m) (fresh (head_map s) m)
-      ∙ count-same (λ x. test (unmarked (written_node fmt s m x))) (λ (x : Path × Part). bytes_eq x.0 p) (fresh (head_map s) m) (All-each_element _ (fresh (head_map s) m) (λ x has. ap (λ b. b && bytes_eq x.0 p) (same_number (s.head + 1) (s.head + 1) refl)))
+      let old : count_by test (map (marked_node landing) s.nodes) ≡ 0 = count-map test (marked_node landing) s.nodes ∙ count-none (λ n. test (marked_node landing n)) s.nodes (All-each_element _ s.nodes (λ n has.
+      ap (λ b. b && is_at p (marked_node landing n)) (other_number (marked_node landing n).0.version (s.head + 1) (λ is. let low = version-low fmt s sound n has in let v = ap (λ k. k.version) (marked-name landing n) in omega arith)))) in
+      let new : count_by test (map unmarked_node landing.fresh) ≡ one (is_fresh (entries (head_map s)) (entries m) p) =
+      count-map test unmarked_node landing.fresh
+      ∙ count-map (λ x. test (unmarked_node x)) (written_node fmt s m) (fresh (head_map s) m)
+      ∙ count-same (λ x. test (unmarked_node (written_node fmt s m x))) (λ (x : Path × Part). bytes_eq x.0 p) (fresh (head_map s) m) (All-each_element _ (fresh (head_map s) m) (λ x has. ap (λ b. b && bytes_eq x.0 p) (same_number (s.head + 1) (s.head + 1) refl)))
       ∙ listed-count (head_map s) m p own_keys in
-      omega (arith, old, new, count-filter (is_at p) (is_written (s.head + 1)) (nodes_after_commit landing s.nodes), count-append test (map (marked landing) s.nodes) (map unmarked landing.fresh))
+      omega (arith, old, new, count-filter (is_at p) (is_written (s.head + 1)) (nodes_after_commit landing s.nodes), count-append test (map (marked_node landing) s.nodes) (map unmarked_node landing.fresh))
 
-  stale_marked : (n : Named) → Contains s.nodes n → is_stale (s.head + 1) (marked landing n) ≡ is_named n.0 landing.stale
+  stale_marked : (n : Named) → Contains s.nodes n → is_stale (s.head + 1) (marked_node landing n) ≡ is_named n.0 landing.stale
   stale_marked n has = elim (is_named n.0 landing.stale) as (λ b. is_stale (s.head + 1) (cond b (n.0, n.1, s.head + 1) n) ≡ b) [
     | true ↦ same_number (s.head + 1) (s.head + 1) refl
     | false ↦ other_number n.2 (s.head + 1) (elim (All-of _ s.nodes n sound.gone has) [ inl none ↦ (λ is. omega arith) | inr late ↦ (λ is. let up = late.1 in omega arith) ])
@@ -86,16 +86,16 @@ module _ (fmt : Format) (s : Standing) (m : Map) (sound : IsSound fmt s) (keys :
   placed-stale p =
       let test : Named → Bool = λ n. is_stale (s.head + 1) n && is_at p n in
       let gone = is_fresh (entries m) (entries (head_map s)) p in
-      let new : count_by test (map unmarked landing.fresh) ≡ 0 = count-map test unmarked landing.fresh ∙ count-none (λ x. test (unmarked x)) landing.fresh (All-each_element _ landing.fresh (λ x has. ap (λ b. b && is_at p (unmarked x)) (other_number never (s.head + 1) (λ is. omega arith)))) in
-      let old : count_by test (map (marked landing) s.nodes) ≡ count_by (λ n. gone && (is_alive s.head n && is_at p n)) s.nodes =
-      count-map test (marked landing) s.nodes
-      ∙ count-same (λ n. test (marked landing n)) (λ n. gone && (is_alive s.head n && is_at p n)) s.nodes (All-each_element _ s.nodes (λ n has.
+      let new : count_by test (map unmarked_node landing.fresh) ≡ 0 = count-map test unmarked_node landing.fresh ∙ count-none (λ x. test (unmarked_node x)) landing.fresh (All-each_element _ landing.fresh (λ x has. ap (λ b. b && is_at p (unmarked_node x)) (other_number never (s.head + 1) (λ is. omega arith)))) in
+      let old : count_by test (map (marked_node landing) s.nodes) ≡ count_by (λ n. gone && (is_alive s.head n && is_at p n)) s.nodes =
+      count-map test (marked_node landing) s.nodes
+      ∙ count-same (λ n. test (marked_node landing n)) (λ n. gone && (is_alive s.head n && is_at p n)) s.nodes (All-each_element _ s.nodes (λ n has.
       ap₂ (λ a b. a && b) (stale_marked n has ∙ names-stale fmt s m sound keys n has) (ap (λ k. bytes_eq k.path p) (marked-name landing n))
       ∙ swapped (is_alive s.head n) (is_at p n) (is_fresh (entries m) (entries (head_map s)) n.0.path) gone (λ at. ap (λ q. is_fresh (entries m) (entries (head_map s)) q) (at-tells p n at)))) in
       let there = stands fmt s sound s.head sound.floor_low (omega arith) p in
       let all = count-filter (is_at p) (is_alive s.head) s.nodes in
       let counted : count_by (λ n. gone && (is_alive s.head n && is_at p n)) s.nodes ≡ one gone = under_test gone (λ n. is_alive s.head n && is_at p n) s.nodes (λ is. sym all ∙ there ∙ one-true _ (fresh-node (entries m) (entries (head_map s)) p is)) in
-      omega (arith, old, new, counted, count-filter (is_at p) (is_stale (s.head + 1)) (nodes_after_commit landing s.nodes), count-append test (map (marked landing) s.nodes) (map unmarked landing.fresh))
+      omega (arith, old, new, counted, count-filter (is_at p) (is_stale (s.head + 1)) (nodes_after_commit landing s.nodes), count-append test (map (marked_node landing) s.nodes) (map unmarked_node landing.fresh))
     where
       swapped : (a b x y : Bool) → (b ≡ true → x ≡ y) → ((a && x) && b) ≡ (y && (a && b))
       swapped true true x y same = (let e = same refl in elim x as (λ z. (z && true) ≡ z) [ true ↦ refl | false ↦ refl ]) ∙ same refl ∙ (elim y as (λ z. z ≡ (z && true)) [ true ↦ refl | false ↦ refl ])
@@ -111,21 +111,21 @@ module _ (fmt : Format) (s : Standing) (m : Map) (sound : IsSound fmt s) (keys :
       (λ k stood same. subst (λ (z : Named). z.0.version < z.2) same (marked_before k stood))
       (λ x own same. subst (λ (z : Named). z.0.version < z.2) same (let v = All-of (λ x. x.0.version ≡ s.head + 1) landing.fresh x (fresh-own fmt s m) own in omega arith)))
     where
-      marked_before : (k : Named) → Contains s.nodes k → (marked landing k).0.version < (marked landing k).2
+      marked_before : (k : Named) → Contains s.nodes k → (marked_node landing k).0.version < (marked_node landing k).2
       marked_before k stood = elim (is_named k.0 landing.stale) as (λ b. (cond b (k.0, k.1, s.head + 1) k).0.version < (cond b (k.0, k.1, s.head + 1) k).2) [
         | true ↦ let low = version-low fmt s sound k stood in omega arith
         | false ↦ version-before fmt s sound k stood
       ]
 
-  pub still : (w : ℕ) → w ≤ s.head → AllByRecursion (λ n. is_alive w (marked landing n) ≡ is_alive w n) s.nodes
+  pub still : (w : ℕ) → w ≤ s.head → AllByRecursion (λ n. is_alive w (marked_node landing n) ≡ is_alive w n) s.nodes
   still w low = All-each_element _ s.nodes (λ n has. alive-still fmt s m sound keys w low n has)
 
   -- at the head before, the nodes stand as they did
   stood_before : StandAt (λ p. is_node 0 p (entries (head_map s))) (alive_at (s.head + 1 - 1) (nodes_after_commit landing s.nodes))
   stood_before = subst (λ w. StandAt (λ p. is_node 0 p (entries (head_map s))) (alive_at w (nodes_after_commit landing s.nodes))) (let e : s.head ≡ s.head + 1 - 1 = omega arith in e)
       (λ p. ap (count_by (is_at p)) (alive-nodes_after_commit landing s.head s.nodes (omega arith) (fresh-own fmt s m) (still s.head (omega arith)))
-      ∙ count-map (is_at p) (marked landing) (alive_at s.head s.nodes)
-      ∙ count-same (λ n. is_at p (marked landing n)) (is_at p) (alive_at s.head s.nodes) (All-each_element _ (alive_at s.head s.nodes) (λ n has. ap (λ k. bytes_eq k.path p) (marked-name landing n)))
+      ∙ count-map (is_at p) (marked_node landing) (alive_at s.head s.nodes)
+      ∙ count-same (λ n. is_at p (marked_node landing n)) (is_at p) (alive_at s.head s.nodes) (All-each_element _ (alive_at s.head s.nodes) (λ n has. ap (λ k. bytes_eq k.path p) (marked-name landing n)))
       ∙ stands fmt s sound s.head sound.floor_low (omega arith) p)
 
   -- after the landing the nodes stand as those of the new map

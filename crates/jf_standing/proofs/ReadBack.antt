@@ -13,7 +13,7 @@ use Rattle.jf_hash.proofs.MapLaws.{value_after, same_map, get-apply-sorted}
 use Rattle.jf_codec.specs.declared.format.Format.{Format}
 use Rattle.jf_payload.specs.declared.records.Commit.{Commit}
 use Rattle.jf_standing.specs.Named.{alive_at, leaf_entries, Named, is_alive, leaf_entry, map_at}
-use Rattle.jf_standing.specs.Standing.{Standing, with_commit, is_named, unmarked, marked}
+use Rattle.jf_standing.specs.Standing.{Standing, with_commit, is_named, unmarked_node, marked_node}
 use Rattle.jf_standing.specs.Sound.{IsSound}
 use Rattle.jf_standing.specs.Taking.{Continues}
 use Rattle.jf_standing.specs.Landing.{fresh_leaves, stale_leaves, batch_of, head_map}
@@ -49,16 +49,16 @@ module _ (fmt : Format) (s : Standing) (c : Commit) (sound : IsSound fmt s) (goe
             let next = goes.next in
             old k stood free (Contains-filter (is_alive s.head) s.nodes k stood (alive-so s.head k (version-low fmt s sound k stood) (omega arith))) (ap (λ (z : Named). leaf_entry z.1) (sym is_k) ∙ n.2)
       ] refl)
-      (λ x own same. fresh (leaf-so (map unmarked c.fresh) (unmarked x) e (Contains-map unmarked c.fresh x own) (ap (λ (z : Named). leaf_entry z.1) same ∙ n.2)))
+      (λ x own same. fresh (leaf-so (map unmarked_node c.fresh) (unmarked_node x) e (Contains-map unmarked_node c.fresh x own) (ap (λ (z : Named). leaf_entry z.1) same ∙ n.2)))
 
   -- a leaf that the landing writes is a leaf after it
   fresh_there : (e : List ℕ × List ℕ) → Contains (fresh_leaves c) e → Contains new_leaves e
   fresh_there e has =
-      let n = leaf-which (map unmarked c.fresh) e has in
-      let x = map-which unmarked c.fresh n.0 n.1 in
+      let n = leaf-which (map unmarked_node c.fresh) e has in
+      let x = map-which unmarked_node c.fresh n.0 n.1 in
       let v = All-of (λ x. x.0.version ≡ c.version) c.fresh x.0 goes.fresh_own x.1 in
-      let alive : is_alive c.version n.0 ≡ true = ap (is_alive c.version) (sym x.2) ∙ alive-so c.version (unmarked x.0) (omega arith) behind_sound.head_last in
-      leaf-so (alive_at c.version (nodes_after_commit c s.nodes)) n.0 e (Contains-filter (is_alive c.version) (nodes_after_commit c s.nodes) n.0 (Contains-append_right (map (marked c) s.nodes) (map unmarked c.fresh) n.0 n.1) alive) n.2
+      let alive : is_alive c.version n.0 ≡ true = ap (is_alive c.version) (sym x.2) ∙ alive-so c.version (unmarked_node x.0) (omega arith) behind_sound.head_last in
+      leaf-so (alive_at c.version (nodes_after_commit c s.nodes)) n.0 e (Contains-filter (is_alive c.version) (nodes_after_commit c s.nodes) n.0 (Contains-append_right (map (marked_node c) s.nodes) (map unmarked_node c.fresh) n.0 n.1) alive) n.2
 
   -- a leaf that stood before and isn't named is a leaf after the landing
   old_there : (k : Named) (e : List ℕ × List ℕ) → Contains (alive_at s.head s.nodes) k → is_named k.0 c.stale ≡ false → leaf_entry k.1 ≡ Some e → Contains new_leaves e
@@ -69,8 +69,8 @@ module _ (fmt : Format) (s : Standing) (c : Commit) (sound : IsSound fmt s) (goe
       let next = goes.next in
       let last = behind_sound.head_last in
       let up : c.version < k.2 = elim (All-of _ s.nodes k sound.gone stood) [ inl none ↦ omega arith | inr late ↦ absurd (let a = late.1 in let b = tells.1 in omega arith) ] in
-      leaf-so (alive_at c.version (nodes_after_commit c s.nodes)) (marked c k) e
-      (Contains-filter (is_alive c.version) (nodes_after_commit c s.nodes) (marked c k) (Contains-nodes_after_commit c s.nodes k stood) (ap (is_alive c.version) same ∙ alive-so c.version k (let low = tells.0 in omega arith) up))
+      leaf-so (alive_at c.version (nodes_after_commit c s.nodes)) (marked_node c k) e
+      (Contains-filter (is_alive c.version) (nodes_after_commit c s.nodes) (marked_node c k) (Contains-nodes_after_commit c s.nodes k stood) (ap (is_alive c.version) same ∙ alive-so c.version k (let low = tells.0 in omega arith) up))
       (ap (λ (z : Named). leaf_entry z.1) same ∙ is)
 
   found : (q : List ℕ) (v : List ℕ) → Contains new_leaves (q, v) → find key_cmp q new_leaves ≡ Some v

@@ -21,7 +21,7 @@ use Rattle.jf_payload.specs.declared.records.Commit.{Commit}
 use Rattle.jf_walk.proofs.FreshOrder.{sorted-fresh}
 use Rattle.jf_standing.specs.Named.{Named, leaf_entry}
 use Rattle.jf_standing.specs.Building.{apart}
-use Rattle.jf_standing.specs.Standing.{Standing, marked, unmarked, with_commit, with_floor}
+use Rattle.jf_standing.specs.Standing.{Standing, marked_node, unmarked_node, with_commit, with_floor}
 use Rattle.jf_standing.specs.Sound.{IsSound, is_counted}
 use Rattle.jf_standing.specs.Landing.{IsInOrder, head_map, written_node, stale_names, landing_of, fresh_leaves}
 use Rattle.jf_standing.specs.Taking.{Continues}
@@ -67,26 +67,26 @@ pairs_rise ns sorted = subst (λ xs. IsTrue (are_rising xs)) (pair_names ns) (so
 -- names still rise after a landing
 pub are_rising-after : (fmt : Format) (s : Standing) (c : Commit) → IsSound fmt s → IsTrue (are_rising (map (λ n. n.0) s.nodes)) → Continues s c → IsInOrder c → IsTrue (are_rising (map (λ n. n.0) (with_commit c s).nodes))
 are_rising-after fmt s c sound rises goes order =
-    pairs_rise (map (marked c) s.nodes ++ map unmarked c.fresh) (subst (λ es. T (is_sorted name_cmp es)) (sym (map-append apart (map (marked c) s.nodes) (map unmarked c.fresh))) (sorted_append (pairs (map (marked c) s.nodes)) (pairs (map unmarked c.fresh))
-    (pairs_sorted (map (marked c) s.nodes) (subst (λ xs. IsTrue (are_rising xs)) (sym (names_marked s.nodes)) rises))
-    (pairs_sorted (map unmarked c.fresh) (subst (λ xs. IsTrue (are_rising xs)) (sym (names_unmarked c.fresh)) order.fresh))
-    (All-each_element _ (pairs (map (marked c) s.nodes)) (λ e has.
-    let k = map-which apart (map (marked c) s.nodes) e has in
-    let n = map-which (marked c) s.nodes k.0 k.1 in
+    pairs_rise (map (marked_node c) s.nodes ++ map unmarked_node c.fresh) (subst (λ es. T (is_sorted name_cmp es)) (sym (map-append apart (map (marked_node c) s.nodes) (map unmarked_node c.fresh))) (sorted_append (pairs (map (marked_node c) s.nodes)) (pairs (map unmarked_node c.fresh))
+    (pairs_sorted (map (marked_node c) s.nodes) (subst (λ xs. IsTrue (are_rising xs)) (sym (names_marked s.nodes)) rises))
+    (pairs_sorted (map unmarked_node c.fresh) (subst (λ xs. IsTrue (are_rising xs)) (sym (names_unmarked c.fresh)) order.fresh))
+    (All-each_element _ (pairs (map (marked_node c) s.nodes)) (λ e has.
+    let k = map-which apart (map (marked_node c) s.nodes) e has in
+    let n = map-which (marked_node c) s.nodes k.0 k.1 in
     let low = version-low fmt s sound n.0 n.1 in
     let v : n.0.0.version ≡ e.0.version = ap (λ m. m.version) (sym (marked-name c n.0)) ∙ ap (λ (z : Named). z.0.version) n.2 ∙ ap (λ (z : NodeName × (PlainNode × ℕ)). z.0.version) k.2 in
     let next = goes.next in
     all_above e.0 c.fresh goes.fresh_own (omega arith)))))
   where
-    names_marked : (ns : List Named) → map (λ (n : Named). n.0) (map (marked c) ns) ≡ map (λ n. n.0) ns
+    names_marked : (ns : List Named) → map (λ (n : Named). n.0) (map (marked_node c) ns) ≡ map (λ n. n.0) ns
     names_marked [] = refl
     names_marked (n ∷ ns) = ap₂ (λ x t. x ∷ t) (marked-name c n) (names_marked ns)
 
-    names_unmarked : (xs : List (NodeName × PlainNode)) → map (λ (n : Named). n.0) (map unmarked xs) ≡ map (λ x. x.0) xs
+    names_unmarked : (xs : List (NodeName × PlainNode)) → map (λ (n : Named). n.0) (map unmarked_node xs) ≡ map (λ x. x.0) xs
     names_unmarked [] = refl
     names_unmarked (x ∷ xs) = ap (λ t. x.0 ∷ t) (names_unmarked xs)
 
-    all_above : (k : NodeName) (xs : List (NodeName × PlainNode)) → AllByRecursion (λ x. x.0.version ≡ c.version) xs → k.version < c.version → T (below_all name_cmp k (pairs (map unmarked xs)))
+    all_above : (k : NodeName) (xs : List (NodeName × PlainNode)) → AllByRecursion (λ x. x.0.version ≡ c.version) xs → k.version < c.version → T (below_all name_cmp k (pairs (map unmarked_node xs)))
     all_above k [] own lt = tt
     all_above k (x ∷ xs) own lt = both_so _ _ (is_lt-from_Less _ (ap (λ r. ordering_then r (slice_cmp nat_cmp k.path x.0.path)) (nat_less k.version x.0.version (let at = own.0 in omega arith)))) (all_above k xs own.1 lt)
 
@@ -118,8 +118,8 @@ landing-read fmt s m sound = (
     stale = sorted-are_rising (by_name (bare (stale_names s m))) (sorted-by_name (bare (stale_names s m)));
   },
   All-each_element _ (fresh_leaves (landing_of fmt s m)) (λ e has.
-      let n = leaf-which (map unmarked (landing_of fmt s m).fresh) e has in
-      let y = map-which unmarked (landing_of fmt s m).fresh n.0 n.1 in
+      let n = leaf-which (map unmarked_node (landing_of fmt s m).fresh) e has in
+      let y = map-which unmarked_node (landing_of fmt s m).fresh n.0 n.1 in
       let x = map-which (written_node fmt s m) (fresh (head_map s) m) y.0 y.1 in
       let is = listed-fresh (head_map s) m x.0 x.1 in
       let leaf = ap (λ (z : NodeName × PlainNode). leaf_entry z.1) x.2 ∙ ap (λ (z : Named). leaf_entry z.1) y.2 ∙ n.2 in

@@ -15,7 +15,7 @@ use Rattle.jf_payload.specs.Spelling.{IsCommit, IsRecord}
 use Rattle.jf_payload.specs.declared.records.Record.{Record}
 use Rattle.jf_payload.specs.declared.records.Record.TheVariants as «record»
 use Rattle.jf_standing.specs.Named.{leaf_entry, AreEntries, Named, leaf_entries}
-use Rattle.jf_standing.specs.Standing.{unmarked}
+use Rattle.jf_standing.specs.Standing.{unmarked_node}
 use Rattle.jf_standing.specs.Next.{IsReadCommit, IsReadRecord}
 use Rattle.jf_standing.specs.Begin.{IsReadFirst}
 
@@ -28,9 +28,9 @@ live-entries : (fmt : Format) (ns : List Named) → AllByRecursion (λ n. IsName
 live-entries fmt [] all = tt
 live-entries fmt (n ∷ ns) all = entry-of fmt n.1 (leaf_entries ns) all.0.1 (live-entries fmt ns all.1)
 
-fresh-entries : (fmt : Format) (xs : List (NodeName × PlainNode)) → AllByRecursion (λ x. IsName x.0 × IsNode fmt x.1) xs → AreEntries (leaf_entries (map unmarked xs))
+fresh-entries : (fmt : Format) (xs : List (NodeName × PlainNode)) → AllByRecursion (λ x. IsName x.0 × IsNode fmt x.1) xs → AreEntries (leaf_entries (map unmarked_node xs))
 fresh-entries fmt [] all = tt
-fresh-entries fmt (x ∷ xs) all = entry-of fmt x.1 (leaf_entries (map unmarked xs)) all.0.1 (fresh-entries fmt xs all.1)
+fresh-entries fmt (x ∷ xs) all = entry-of fmt x.1 (leaf_entries (map unmarked_node xs)) all.0.1 (fresh-entries fmt xs all.1)
 
 All-after : {X : Type 0} (P : X → Type 0) (xs : List X) (x : X) → AllByRecursion P xs → P x → AllByRecursion P (xs ++ x ∷ [])
 All-after P [] x all here = (here, tt)

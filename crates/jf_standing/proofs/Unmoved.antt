@@ -11,7 +11,7 @@ use Rattle.jf_codec.specs.declared.format.Format.{Format}
 use Rattle.jf_payload.specs.declared.records.Commit.{Commit}
 use Rattle.jf_standing.specs.Named.{Named, is_at, alive_at, map_at, is_alive}
 use Rattle.jf_standing.specs.Sound.{is_counted, IsVersion, IsSound}
-use Rattle.jf_standing.specs.Standing.{Standing, marked, with_commit, unmarked}
+use Rattle.jf_standing.specs.Standing.{Standing, marked_node, with_commit, unmarked_node}
 use Rattle.jf_standing.specs.Taking.{Continues}
 use Rattle.jf_standing.proofs.Steps.{parts_at, has_child, has_child-plain}
 use Rattle.jf_standing.proofs.Lists.{one-true, one, All-each_element}
@@ -47,20 +47,20 @@ module _ (fmt : Format) (s : Standing) (c : Commit) (sound : IsSound fmt s) (goe
       let n = alive-there fmt s sound w low high q here in
       let stood = filter-Contains (is_alive w) s.nodes n.0 n.1 in
       let alive = alive-marked c w n.0 (let next = goes.next in omega arith) (filter-passes (is_alive w) s.nodes n.0 n.1) in
-      let stands_yet = Contains-filter (is_alive w) (nodes_after_commit c s.nodes) (marked c n.0) (Contains-nodes_after_commit c s.nodes n.0 stood) alive in
+      let stands_yet = Contains-filter (is_alive w) (nodes_after_commit c s.nodes) (marked_node c n.0) (Contains-nodes_after_commit c s.nodes n.0 stood) alive in
       let next = goes.next in
       sym (node-tells fmt s.nodes w _ (sound.versions w low high) n.0 n.1 q n.2 i)
       ∙ ap (has_child i) (sym (marked-node c n.0))
-      ∙ node-tells fmt (nodes_after_commit c s.nodes) w _ (behind_sound.versions w low (omega arith)) (marked c n.0) stands_yet q (ap (λ m. m.path) (marked-name c n.0) ∙ n.2) i
+      ∙ node-tells fmt (nodes_after_commit c s.nodes) w _ (behind_sound.versions w low (omega arith)) (marked_node c n.0) stands_yet q (ap (λ m. m.path) (marked-name c n.0) ∙ n.2) i
       ∙ below)
 
-  few_after : (w : ℕ) → s.floor ≤ w → w ≤ s.head → (p : Path) → count_by (λ n. is_alive w (marked c n) && is_at p n) s.nodes ≤ count_by (λ n. is_alive w n && is_at p n) s.nodes
+  few_after : (w : ℕ) → s.floor ≤ w → w ≤ s.head → (p : Path) → count_by (λ n. is_alive w (marked_node c n) && is_at p n) s.nodes ≤ count_by (λ n. is_alive w n && is_at p n) s.nodes
   few_after w low high p =
       let next = goes.next in
       let there = stands fmt (with_commit c s) behind_sound w low (omega arith) p in
       let here = stands fmt s sound w low high p in
-      let kept = count-map (λ n. is_alive w n && is_at p n) (marked c) s.nodes in
-      let same = count-same (λ n. is_alive w (marked c n) && is_at p (marked c n)) (λ n. is_alive w (marked c n) && is_at p n) s.nodes (All-each_element _ s.nodes (λ n has. ap (λ x. is_alive w (marked c n) && is_at p (x, n.1, 0)) (marked-name c n))) in
+      let kept = count-map (λ n. is_alive w n && is_at p n) (marked_node c) s.nodes in
+      let same = count-same (λ n. is_alive w (marked_node c n) && is_at p (marked_node c n)) (λ n. is_alive w (marked_node c n) && is_at p n) s.nodes (All-each_element _ s.nodes (λ n has. ap (λ x. is_alive w (marked_node c n) && is_at p (x, n.1, 0)) (marked-name c n))) in
       omega (
         arith,
         there,
@@ -69,7 +69,7 @@ module _ (fmt : Format) (s : Standing) (c : Commit) (sound : IsSound fmt s) (goe
         same,
         count-filter (is_at p) (is_alive w) (nodes_after_commit c s.nodes),
         count-filter (is_at p) (is_alive w) s.nodes,
-        count-append (λ n. is_alive w n && is_at p n) (map (marked c) s.nodes) (map unmarked c.fresh),
+        count-append (λ n. is_alive w n && is_at p n) (map (marked_node c) s.nodes) (map unmarked_node c.fresh),
         implied (is_node 0 p (entries (map_at w (nodes_after_commit c s.nodes)))) (is_node 0 p (entries (map_at w s.nodes))) (old_nodes w low high p),
       )
     where
@@ -78,15 +78,15 @@ module _ (fmt : Format) (s : Standing) (c : Commit) (sound : IsSound fmt s) (goe
       implied false b h = omega arith
 
   -- the landing changes no node's being alive at an earlier version
-  pub unmoved : (w : ℕ) → s.floor ≤ w → w ≤ s.head → AllByRecursion (λ n. is_alive w (marked c n) ≡ is_alive w n) s.nodes
+  pub unmoved : (w : ℕ) → s.floor ≤ w → w ≤ s.head → AllByRecursion (λ n. is_alive w (marked_node c n) ≡ is_alive w n) s.nodes
   unmoved w low high = All-each_element _ s.nodes (λ n has.
       let p = n.0.path in
       let next = goes.next in
       let at = at-so p n refl in
-      let squeezed = count-squeeze (λ n. is_alive w n && is_at p n) (λ n. is_alive w (marked c n) && is_at p n) s.nodes
+      let squeezed = count-squeeze (λ n. is_alive w n && is_at p n) (λ n. is_alive w (marked_node c n) && is_at p n) s.nodes
       (All-each_element _ s.nodes (λ m there is. ap₂ (λ a b. a && b) (alive-marked c w m (omega arith) (left_true _ _ is)) (right_true (is_alive w m) _ is)))
       (few_after w low high p) in
-      sym (alone (is_alive w (marked c n)) (is_at p n) at) ∙ All-of _ s.nodes n squeezed has ∙ alone (is_alive w n) (is_at p n) at)
+      sym (alone (is_alive w (marked_node c n)) (is_at p n) at) ∙ All-of _ s.nodes n squeezed has ∙ alone (is_alive w n) (is_at p n) at)
     where
       alone : (a b : Bool) → b ≡ true → (a && b) ≡ a
       alone true b is = is

@@ -8,7 +8,7 @@ use Rattle.std.specs.List.{AllByRecursion}
 use Rattle.jf_path.specs.Keys.{IsKey}
 use Rattle.jf_hash.specs.Maps.{Map, IsMap, Batch, apply, IsBatch}
 use Rattle.jf_hash.specs.Roots.{root}
-use Rattle.jf_model.specs.Versions.{IsVersions, newest, landed, pruned}
+use Rattle.jf_model.specs.Versions.{IsVersions, newest, versions_after_landing, versions_from_floor}
 use Rattle.jf_model.proofs.ChangeLaws.{IsMap-apply}
 use Rattle.jf_codec.specs.declared.format.Format.{Format}
 use Rattle.jf_payload.specs.declared.records.Commit.{Commit}
@@ -91,16 +91,16 @@ versions_after fmt s c m sound goes behind_sound read =
     ∙ ap (λ ms. m ∷ ms) (same_down (λ w. map_at w (nodes_after_commit c s.nodes)) (λ w. map_at w s.nodes) s.head (s.head - s.floor + 1) (λ w up high. map-nodes_after_commit c w s.nodes (omega arith) goes.fresh_own (unmoved fmt s c sound goes behind_sound w (omega arith) high))) in
     λ i. record { base = s.base; floor = s.floor; head = next i; roots = rooted i ∷ s.roots; maps = maps i }
 
-landed_newest : (s : Standing) (b : Batch) → record { base = s.base; floor = s.floor; head = s.head + 1; roots = root (apply (head_map s) b) ∷ s.roots; maps = apply (head_map s) b ∷ (versions_of s).maps } ≡ landed b (versions_of s)
+landed_newest : (s : Standing) (b : Batch) → record { base = s.base; floor = s.floor; head = s.head + 1; roots = root (apply (head_map s) b) ∷ s.roots; maps = apply (head_map s) b ∷ (versions_of s).maps } ≡ versions_after_landing b (versions_of s)
 landed_newest s b = ap (λ k. record { base = s.base; floor = s.floor; head = s.head + 1; roots = root (apply k b) ∷ s.roots; maps = apply k b ∷ (versions_of s).maps }) (sym (newest-head s))
 
 -- a landing adds one version by the batch that is read off it
-pub versions-landed : (fmt : Format) (s : Standing) (c : Commit) → IsSound fmt s → Continues s c → IsSound fmt (with_commit c s) → versions_of (with_commit c s) ≡ landed (batch_of s c) (versions_of s)
+pub versions-landed : (fmt : Format) (s : Standing) (c : Commit) → IsSound fmt s → Continues s c → IsSound fmt (with_commit c s) → versions_of (with_commit c s) ≡ versions_after_landing (batch_of s c) (versions_of s)
 versions-landed fmt s c sound goes behind_sound = versions_after fmt s c (apply (head_map s) (batch_of s c)) sound goes behind_sound (map-read fmt s c sound goes behind_sound) ∙ landed_newest s (batch_of s c)
 
 -- a landing of a batch adds one version by that batch
 pub batch-landed : (fmt : Format) (s : Standing) (b : Batch) → IsSound fmt s → AreEntries (leaf_entries s.nodes) → IsBatch b → len (apply (head_map s) b) ≤ 2 ^ 63 → s.head + 1 < never
-    → Continues s (landing_of fmt s (apply (head_map s) b)) × IsSound fmt (landed_on fmt (apply (head_map s) b) s) × (versions_of (landed_on fmt (apply (head_map s) b) s) ≡ landed b (versions_of s))
+    → Continues s (landing_of fmt s (apply (head_map s) b)) × IsSound fmt (landed_on fmt (apply (head_map s) b) s) × (versions_of (landed_on fmt (apply (head_map s) b) s) ≡ versions_after_landing b (versions_of s))
 batch-landed fmt s b sound keys batch room last =
     let m = apply (head_map s) b in
     let old = IsMap-map_at s.head s.nodes keys in
@@ -110,7 +110,7 @@ batch-landed fmt s b sound keys batch room last =
     (goes, behind_sound, versions_after fmt s (landing_of fmt s m) m sound goes behind_sound (map-lands fmt s m sound old own_keys last) ∙ landed_newest s b)
 
 -- a later floor prunes the versions
-pub versions-floored : (s : Standing) (f : ℕ) → s.floor ≤ f → f ≤ s.head → versions_of (with_floor f s) ≡ pruned f (versions_of s)
+pub versions-floored : (s : Standing) (f : ℕ) → s.floor ≤ f → f ≤ s.head → versions_of (with_floor f s) ≡ versions_from_floor f (versions_of s)
 versions-floored s f rises within =
     ap (λ ms. record { base = s.base; floor = f; head = s.head; roots = s.roots; maps = ms })
     (same_down (λ w. map_at w (with_floor f s).nodes) (λ w. map_at w s.nodes) s.head (s.head - f + 1) (λ w low high. map-floored f w s (omega arith))

@@ -16,7 +16,7 @@ use Rattle.jf_codec.specs.declared.format.Format.TheVariants as format
 use Rattle.jf_payload.specs.Counted.{commit_in}
 use Rattle.jf_standing.specs.Order.{by_name}
 use Rattle.jf_standing.specs.Named.{Named, never, version_at, map_at, leaf_entries, AreEntries}
-use Rattle.jf_standing.specs.Building.{apart, as_named, nodes_by_name, landed_on, built, landings_of, all_landed, node_of, floor_of, up_from, rebuilt}
+use Rattle.jf_standing.specs.Building.{apart, as_named, nodes_by_name, landed_on, built_standing, landings_of, all_landed, node_of, floor_of, up_from, rebuilt}
 use Rattle.jf_standing.specs.Standing.{Standing, with_commit, with_nodes}
 use Rattle.jf_standing.specs.Landing.{landing_of, head_map}
 use Rattle.jf_standing.specs.FormatLaws.{standing_in, with_counts}
@@ -63,9 +63,9 @@ module _ (fmt : Format) where
   landed_kept : (m : Map) (u : Standing) → landed_on fmt m (standing_in fmt u) ≡ standing_in fmt (landed_on format.Two m u)
   landed_kept m u = ap (λ c. with_commit c (standing_in fmt u)) (landing_kept fmt u m) ∙ commit_kept fmt u (landing_of format.Two u m)
 
-  built_kept : (u : Standing) (ms : List Map) → built fmt (standing_in fmt u) ms ≡ standing_in fmt (built format.Two u ms)
+  built_kept : (u : Standing) (ms : List Map) → built_standing fmt (standing_in fmt u) ms ≡ standing_in fmt (built_standing format.Two u ms)
   built_kept u [] = refl
-  built_kept u (m ∷ ms) = ap (λ t. built fmt t ms) (landed_kept m u) ∙ built_kept (landed_on format.Two m u) ms
+  built_kept u (m ∷ ms) = ap (λ t. built_standing fmt t ms) (landed_kept m u) ∙ built_kept (landed_on format.Two m u) ms
 
   pub groups_kept : (s : Standing) (bs : List Batch) → landings_of fmt (standing_in fmt s) bs ≡ map (commit_in fmt) (landings_of format.Two s bs)
   groups_kept s [] = refl
@@ -91,7 +91,7 @@ module _ (fmt : Format) where
   rebuilt_kept : (s : Standing) → rebuilt fmt s ≡ standing_in fmt (rebuilt format.Two s)
   rebuilt_kept s =
       let ms = map (λ w. map_at w s.nodes) (up_from (s.floor + 1) (s.head - s.floor)) in
-      ap (λ t. built fmt t ms) (floor_kept_of s) ∙ built_kept (floor_of format.Two s) ms
+      ap (λ t. built_standing fmt t ms) (floor_kept_of s) ∙ built_kept (floor_of format.Two s) ms
 
 -- ---- the standing built anew depends on maps and versions of nodes alone
 nodes_same : (fmt : Format) (v w : Path → ℕ) (xs : List (Path × Part)) → ((p : Path) → v p ≡ w p) → map (node_of fmt v) xs ≡ map (node_of fmt w) xs
@@ -107,7 +107,7 @@ maps_same ns ks (w ∷ ws) same = ap₂ (λ m ms. m ∷ ms) (same w) (maps_same 
 
 rebuilt_same : (fmt : Format) (s : Standing) (ns : List Named) → ((w : ℕ) → map_at w ns ≡ map_at w s.nodes) → ((w : ℕ) (p : Path) → version_at w ns p ≡ version_at w s.nodes p) → rebuilt fmt (with_nodes ns s) ≡ rebuilt fmt s
 rebuilt_same fmt s ns maps versions =
-    ap₂ (λ t ms. built fmt t ms)
+    ap₂ (λ t ms. built_standing fmt t ms)
     (ap₂ (λ m ks. record { base = s.base; floor = s.floor; head = s.floor; roots = root m ∷ drop (s.head - s.floor + 1) s.roots; nodes = ks }) (maps s.floor)
     (nodes_same fmt (version_at s.floor ns) (version_at s.floor s.nodes) (nodes (map_at s.floor ns)) (versions s.floor) ∙ ap (λ m. map (node_of fmt (version_at s.floor s.nodes)) (nodes m)) (maps s.floor)))
     (maps_same ns s.nodes (up_from (s.floor + 1) (s.head - s.floor)) maps)

@@ -38,9 +38,9 @@ abbrev pub landed_on : Format → Map → Standing → Standing
 landed_on fmt m s = with_commit (landing_of fmt s m) s
 
 -- a standing after the landings of maps, one after another
-abbrev pub built : Format → Standing → List Map → Standing
-built fmt s [] = s
-built fmt s (m ∷ ms) = built fmt (landed_on fmt m s) ms
+abbrev pub built_standing : Format → Standing → List Map → Standing
+built_standing fmt s [] = s
+built_standing fmt s (m ∷ ms) = built_standing fmt (landed_on fmt m s) ms
 
 -- the landings of batches, one after another
 abbrev pub landings_of : Format → Standing → List Batch → List Commit
@@ -63,7 +63,7 @@ floor_of fmt s = floor_standing fmt s.base s.floor (root (map_at s.floor s.nodes
 
 -- a standing built anew: each later map is landed on its floor, one after another
 abbrev pub rebuilt : Format → Standing → Standing
-rebuilt fmt s = built fmt (floor_of fmt s) (map (λ w. map_at w s.nodes) (up_from (s.floor + 1) (s.head - s.floor)))
+rebuilt fmt s = built_standing fmt (floor_of fmt s) (map (λ w. map_at w s.nodes) (up_from (s.floor + 1) (s.head - s.floor)))
 
 -- a named node as a name and a value
 abbrev pub apart : Named → NodeName × (PlainNode × ℕ)

@@ -4,7 +4,7 @@ use Rattle.jf_model.specs.Versions.{IsVersions}
 use Rattle.jf_codec.specs.declared.format.Format.{Format}
 use Rattle.jf_payload.specs.declared.records.Record.{Record}
 use Rattle.jf_payload.specs.declared.records.Commit.{Commit}
-use Rattle.jf_payload.specs.Reading.{spelled}
+use Rattle.jf_payload.specs.Reading.{spelled_record}
 use Rattle.jf_standing.specs.Named.{leaf_entries, AreEntries}
 use Rattle.jf_standing.specs.Standing.{Standing, with_commit, versions_of}
 use Rattle.jf_standing.specs.Sound.{IsSound}
@@ -28,7 +28,7 @@ BeginIsGives = (fmt : Format) (r : Record) (s : Standing) → IsReadFirst r → 
 
 -- what a payload spells has names in order, keys of 32 bytes, values that are bytes, and numbers within their bounds
 abbrev pub SpelledIsRead : Type 0
-SpelledIsRead = (fmt : Format) (kind : ℕ) (payload : List ℕ) (r : Record) → spelled fmt kind payload ≡ Some r → IsReadFirst r × IsReadRecord r
+SpelledIsRead = (fmt : Format) (kind : ℕ) (payload : List ℕ) (r : Record) → spelled_record fmt kind payload ≡ Some r → IsReadFirst r × IsReadRecord r
 
 -- ---- records one after another
 -- records lead to a standing, or one of them is the first that isn't sound

@@ -12,7 +12,7 @@ use Rattle.jf_model.specs.Nodes.{Path, is_fresh, plain_node, stale, fresh}
 use Rattle.jf_codec.specs.declared.format.Format.{Format}
 use Rattle.jf_payload.specs.declared.records.Commit.{Commit}
 use Rattle.jf_standing.specs.Named.{map_at, version_at, leaf_entries}
-use Rattle.jf_standing.specs.Standing.{Standing, unmarked, is_named}
+use Rattle.jf_standing.specs.Standing.{Standing, unmarked_node, is_named}
 use Rattle.jf_standing.specs.Sound.{is_counted}
 use Rattle.jf_standing.specs.Order.{in_order}
 
@@ -43,7 +43,7 @@ landing_of fmt s m = record { version = s.head + 1; root = root m; fresh = map (
 -- ---- the batch that is read off a landing
 -- the entries of the leaves that a landing writes
 abbrev pub fresh_leaves : Commit → List (List ℕ × List ℕ)
-fresh_leaves c = leaf_entries (map unmarked c.fresh)
+fresh_leaves c = leaf_entries (map unmarked_node c.fresh)
 
 -- the entries of the leaves that a landing marks stale
 abbrev pub stale_leaves : Standing → Commit → List (List ℕ × List ℕ)

@@ -10,11 +10,11 @@ use Rattle.jf_path.specs.declared.name.NodeName.{NodeName}
 use Rattle.jf_hash.specs.Maps.{Map, IsMap, apply, IsBatch, Batch}
 use Rattle.jf_hash.specs.Slots.{Part}
 use Rattle.jf_model.specs.Nodes.{is_node, Path, is_fresh, plain_node, fresh, stale}
-use Rattle.jf_model.specs.Versions.{IsVersions, landed, pruned, land_all}
+use Rattle.jf_model.specs.Versions.{IsVersions, versions_after_landing, versions_from_floor, land_all}
 use Rattle.jf_model.specs.Batches.{key_count}
 use Rattle.jf_codec.specs.declared.format.Format.{Format}
 use Rattle.jf_codec.specs.Spelling.{IsNode}
-use Rattle.jf_codec.specs.Counted.{uncounted}
+use Rattle.jf_codec.specs.Counted.{uncounted_node}
 use Rattle.jf_payload.specs.declared.records.Commit.{Commit}
 use Rattle.jf_standing.specs.Named.{alive_at, map_at, leaf_entries, AreEntries, never, version_at}
 use Rattle.jf_standing.specs.Standing.{Standing, versions_of, with_commit, with_floor}
@@ -58,17 +58,17 @@ ReadIsBatch = (s : Standing) (c : Commit) → AreEntries (leaf_entries s.nodes) 
 
 -- a landing that leaves a sound standing makes the next version, by the batch that is read off it
 abbrev pub LandingsLand : Type 0
-LandingsLand = (fmt : Format) (s : Standing) (c : Commit) → IsSound fmt s → Continues s c → IsSound fmt (with_commit c s) → versions_of (with_commit c s) ≡ landed (batch_of s c) (versions_of s)
+LandingsLand = (fmt : Format) (s : Standing) (c : Commit) → IsSound fmt s → Continues s c → IsSound fmt (with_commit c s) → versions_of (with_commit c s) ≡ versions_after_landing (batch_of s c) (versions_of s)
 
 -- a later floor leaves a sound standing, with the versions from it on
 abbrev pub FloorsPrune : Type 0
-FloorsPrune = (fmt : Format) (s : Standing) (floor : ℕ) → IsSound fmt s → s.floor ≤ floor → floor ≤ s.head → IsSound fmt (with_floor floor s) × (versions_of (with_floor floor s) ≡ pruned floor (versions_of s))
+FloorsPrune = (fmt : Format) (s : Standing) (floor : ℕ) → IsSound fmt s → s.floor ≤ floor → floor ≤ s.head → IsSound fmt (with_floor floor s) × (versions_of (with_floor floor s) ≡ versions_from_floor floor (versions_of s))
 
 -- a landing of a batch leaves a sound standing, with one more version by that batch
 abbrev pub BatchesLand : Type 0
 BatchesLand =
     (fmt : Format) (s : Standing) (b : Batch) → IsSound fmt s → AreEntries (leaf_entries s.nodes) → IsBatch b → len (apply (head_map s) b) ≤ 2 ^ 63 → s.head + 1 < never
-    → Continues s (landing_of fmt s (apply (head_map s) b)) × IsSound fmt (landed_on fmt (apply (head_map s) b) s) × (versions_of (landed_on fmt (apply (head_map s) b) s) ≡ landed b (versions_of s))
+    → Continues s (landing_of fmt s (apply (head_map s) b)) × IsSound fmt (landed_on fmt (apply (head_map s) b) s) × (versions_of (landed_on fmt (apply (head_map s) b) s) ≡ versions_after_landing b (versions_of s))
 
 -- landings of batches in turn are taken, and make a version for each
 abbrev pub GroupsLand : Type 0
@@ -114,4 +114,4 @@ StaleNamesAreLandings =
 
 -- a node without counts is the node with counts, from which the counts are left out
 abbrev pub CountsAreExtra : Type 0
-CountsAreExtra = (version : ℕ → ℕ) (d : ℕ) (es : Part) → plain_node false version d es ≡ uncounted (plain_node true version d es)
+CountsAreExtra = (version : ℕ → ℕ) (d : ℕ) (es : Part) → plain_node false version d es ≡ uncounted_node (plain_node true version d es)

@@ -7,14 +7,14 @@ use Rattle.jf_path.specs.Limits.{max_value}
 use Rattle.jf_path.specs.Names.{IsName}
 use Rattle.jf_hash.specs.Maps.{Map, IsMap}
 use Rattle.jf_model.specs.Nodes.{Path, is_node, kept_nodes}
-use Rattle.jf_model.specs.Versions.{imported, new_store}
+use Rattle.jf_model.specs.Versions.{imported_versions, new_store}
 use Rattle.jf_codec.specs.declared.format.Format.{Format}
 use Rattle.jf_codec.specs.Spelling.{IsNode}
 use Rattle.jf_standing.specs.Named.{Named, version_at, map_at, never, leaf_entries, AreEntries}
 use Rattle.jf_standing.specs.Standing.{Standing, versions_of, with_nodes}
 use Rattle.jf_standing.specs.Sound.{IsSound}
 use Rattle.jf_standing.specs.Taking.{GivesStanding}
-use Rattle.jf_standing.specs.Building.{nodes_by_name, checkpoint_of, rebuilt, built, imported_standing, new_standing}
+use Rattle.jf_standing.specs.Building.{nodes_by_name, checkpoint_of, rebuilt, built_standing, imported_standing, new_standing}
 use Rattle.jf_standing.specs.Next.{IsReadStanding}
 
 -- what nodes stand for does not depend on their order
@@ -45,11 +45,11 @@ OneStanding =
 abbrev pub BuiltIsSound : Type 0
 BuiltIsSound =
     (fmt : Format) (s : Standing) (ms : List Map) → IsSound fmt s → IsMap (map_at s.head s.nodes) → AllByRecursion (λ m. IsMap m × (len m ≤ 2 ^ 63)) ms → s.head + length ms < never
-    → IsSound fmt (built fmt s ms) × ((built fmt s ms).base ≡ s.base) × ((built fmt s ms).floor ≡ s.floor) × ((built fmt s ms).head ≡ s.head + length ms)
+    → IsSound fmt (built_standing fmt s ms) × ((built_standing fmt s ms).base ≡ s.base) × ((built_standing fmt s ms).floor ≡ s.floor) × ((built_standing fmt s ms).head ≡ s.head + length ms)
 
 -- one map whose nodes are all of one version is sound, and stands for that version alone
 abbrev pub ImportsAreSound : Type 0
-ImportsAreSound = (fmt : Format) (version : ℕ) (m : Map) → IsMap m → len m ≤ 2 ^ 63 → version < never → IsSound fmt (imported_standing fmt version m) × (versions_of (imported_standing fmt version m) ≡ imported version m)
+ImportsAreSound = (fmt : Format) (version : ℕ) (m : Map) → IsMap m → len m ≤ 2 ^ 63 → version < never → IsSound fmt (imported_standing fmt version m) × (versions_of (imported_standing fmt version m) ≡ imported_versions version m)
 
 -- a new store is sound, and stands for version 0 without an entry
 abbrev pub NewIsSound : Type 0

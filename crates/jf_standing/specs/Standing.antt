@@ -37,16 +37,16 @@ abbrev pub is_named : NodeName → List NodeName → Bool
 is_named name names = list_any (eq_by_cmp name_cmp name) names
 
 -- a node after a landing: stale since its version if the landing names it
-abbrev pub marked : Commit → Named → Named
-marked c n = if is_named n.0 c.stale then (n.0, n.1, c.version) else n
+abbrev pub marked_node : Commit → Named → Named
+marked_node c n = if is_named n.0 c.stale then (n.0, n.1, c.version) else n
 
 -- a node as it is written: not stale
-abbrev pub unmarked : NodeName × PlainNode → Named
-unmarked x = (x.0, x.1, never)
+abbrev pub unmarked_node : NodeName × PlainNode → Named
+unmarked_node x = (x.0, x.1, never)
 
 -- a landing marks the nodes that it names, and adds its own nodes and its root
 abbrev pub with_commit : Commit → Standing → Standing
-with_commit c s = record { base = s.base; floor = s.floor; head = c.version; roots = c.root ∷ s.roots; nodes = map (marked c) s.nodes ++ map unmarked c.fresh }
+with_commit c s = record { base = s.base; floor = s.floor; head = c.version; roots = c.root ∷ s.roots; nodes = map (marked_node c) s.nodes ++ map unmarked_node c.fresh }
 
 -- a later floor drops the nodes that are stale by then
 abbrev pub with_floor : ℕ → Standing → Standing

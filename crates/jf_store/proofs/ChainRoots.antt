@@ -2,7 +2,7 @@
 use Rattle.std.proofs.Common.{◌≡◌, ℕ, zero, suc, ◌+◌, ◌-◌, ◌≤◌, List, [], ◌∷◌, ◌++◌, length, slice_index_or, refl, ap, ap₂, ◌∙◌, arith}
 use Rattle.jf_hash.specs.Maps.{Map, Batch, apply}
 use Rattle.jf_hash.specs.Roots.{root}
-use Rattle.jf_model.specs.Versions.{Versions, newest, landed, land_all, root_of}
+use Rattle.jf_model.specs.Versions.{Versions, newest, versions_after_landing, land_all, root_of}
 use Rattle.jf_model.proofs.VersionLaws.{land_all-head}
 use Rattle.jf_store.specs.Landings.{landed_roots, roots_from}
 
@@ -20,21 +20,21 @@ roots_from-next v first version low =
     ap (roots_from v first) more ∙ roots_from-push v first (version - first) ∙ ap (λ w. roots_from v first (version - first) ++ root_of v w ∷ []) here
 
 -- a landing leaves a recorded root as it is
-root_of-landed : (b : Batch) (v : Versions) (w : ℕ) → w ≤ v.head → root_of (landed b v) w ≡ root_of v w
+root_of-landed : (b : Batch) (v : Versions) (w : ℕ) → w ≤ v.head → root_of (versions_after_landing b v) w ≡ root_of v w
 root_of-landed b v w low =
     let e : v.head + 1 - w ≡ suc (v.head - w) = omega arith in ap (λ i. slice_index_or (root (apply (newest v) b) ∷ v.roots) i []) e
 
 root_of-land_all : (bs : List Batch) (v : Versions) (w : ℕ) → w ≤ v.head → root_of (land_all bs v) w ≡ root_of v w
 root_of-land_all [] v w low = refl
-root_of-land_all (b ∷ bs) v w low = root_of-land_all bs (landed b v) w (omega arith) ∙ root_of-landed b v w low
+root_of-land_all (b ∷ bs) v w low = root_of-land_all bs (versions_after_landing b v) w (omega arith) ∙ root_of-landed b v w low
 
 -- the version that a batch lands as has its root
-root_of-next : (b : Batch) (v : Versions) → root_of (landed b v) (v.head + 1) ≡ root (apply (newest v) b)
+root_of-next : (b : Batch) (v : Versions) → root_of (versions_after_landing b v) (v.head + 1) ≡ root (apply (newest v) b)
 root_of-next b v = let e : v.head + 1 - (v.head + 1) ≡ 0 = omega arith in ap (λ i. slice_index_or (root (apply (newest v) b) ∷ v.roots) i []) e
 
 landed_roots-from : (bs : List Batch) (v : Versions) → roots_from (land_all bs v) (v.head + 1) (length bs) ≡ landed_roots v bs
 landed_roots-from [] v = refl
-landed_roots-from (b ∷ bs) v = ap₂ (λ r rs. r ∷ rs) (root_of-land_all bs (landed b v) (v.head + 1) (omega arith) ∙ root_of-next b v) (landed_roots-from bs (landed b v))
+landed_roots-from (b ∷ bs) v = ap₂ (λ r rs. r ∷ rs) (root_of-land_all bs (versions_after_landing b v) (v.head + 1) (omega arith) ∙ root_of-next b v) (landed_roots-from bs (versions_after_landing b v))
 
 -- of versions that batches landed as, those after the old head have the roots that the batches make
 pub roots_from-landed : (bs : List Batch) (v w : Versions) (head : ℕ) → w ≡ land_all bs v → head ≡ v.head → roots_from w (head + 1) (w.head + 1 - (head + 1)) ≡ landed_roots v bs
@@ -47,4 +47,4 @@ roots_from-landed bs v w head lands is =
 pub landed_roots-newest : (bs : List Batch) (v w : Versions) → newest v ≡ newest w → landed_roots v bs ≡ landed_roots w bs
 landed_roots-newest [] v w same = refl
 landed_roots-newest (b ∷ bs) v w same =
-    ap₂ (λ r rs. r ∷ rs) (ap (λ (m : Map). root (apply m b)) same) (landed_roots-newest bs (landed b v) (landed b w) (ap (λ (m : Map). apply m b) same))
+    ap₂ (λ r rs. r ∷ rs) (ap (λ (m : Map). root (apply m b)) same) (landed_roots-newest bs (versions_after_landing b v) (versions_after_landing b w) (ap (λ (m : Map). apply m b) same))

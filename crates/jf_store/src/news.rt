@@ -60,7 +60,7 @@ impl<D: Disk> ShownLook<D> {
         ensures unchanged { self.new ≡ self.old }
         ensures copy { IfSome result (λ s. (s ≡ self.old) × (least ≤ length self.old.note.seen)) }
     {
-        if self.note.seen() < least {
+        if self.note.seen_count() < least {
             return None;
         }
         let Ok(look) = self.look.share() else {

@@ -4,7 +4,7 @@ ghost use Rattle.jf_path.specs.Checks.{first_of};
 ghost use Rattle.jf_model.specs.States.{IsState};
 ghost use Rattle.jf_model.specs.declared.entries.Landing.TheVariants as landing;
 ghost use Rattle.jf_store.specs.declared.tried.Attempt.TheVariants as attempt;
-ghost use Rattle.jf_store.specs.Events.{entries_of};
+ghost use Rattle.jf_store.specs.Events.{entries_among};
 ghost use Rattle.jf_store.specs.Ledgers.{state_after_events, AreEvents};
 ghost use Rattle.jf_store.specs.Looks.{IsLook};
 ghost use Rattle.jf_store.specs.News.{IsShownLook};
@@ -60,14 +60,14 @@ impl<D: Disk> Pass<D> {
     }
 
     /// How many entries of the ledger it has seen.
-    pub fn seen(&self) -> u64
+    pub fn seen_count(&self) -> u64
         // The number of entries that it has seen.
-        ensures { result ≡ length (entries_of self.now.seen) }
+        ensures { result ≡ length (entries_among self.now.seen) }
     {
         if self.marked {
-            return self.seat.seen() - 1;
+            return self.seat.seen_count() - 1;
         }
-        self.seat.seen()
+        self.seat.seen_count()
     }
 
     /// What holds of every pass of a store, for proofs: the events that it has seen are a legal history of the store, and
@@ -105,7 +105,7 @@ impl<D: Disk> Pass<D> {
         // It was refused for the first reason that holds over what the pass has seen.
         ensures refused { IfErr result (IsRefusal (look_faults store.now.start self.new.seen)) }
     {
-        if let Some(shown) = glance(rt, store, self.seat.seen()) {
+        if let Some(shown) = glance(rt, store, self.seat.seen_count()) {
             return Ok(self.learn(store, shown));
         }
         self.look_in_turn(rt, store)
@@ -132,7 +132,7 @@ impl<D: Disk> Pass<D> {
         requires look { IfSome newest (λ l. IsLook (state_after_events store.now.start self.old.seen) l × (first_of (look_faults store.now.start self.old.seen) ≡ None)) }
         ensures { self.new ≡ self.old }
     {
-        let seen = self.seat.seen();
+        let seen = self.seat.seen_count();
         let Some(look) = newest else {
             show(rt, store, News { seen, shown: None });
             return;

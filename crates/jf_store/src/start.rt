@@ -17,14 +17,14 @@ impl Model for Start {
     ghost use Rattle.std.specs.Coded.{codes};
     ghost use Rattle.jf_hash.specs.Codes.{map_code};
     ghost use Rattle.jf_model.specs.Versions.{new_store};
-    ghost use Rattle.jf_model.specs.States.{opened};
+    ghost use Rattle.jf_model.specs.States.{state_when_opened};
     ghost use Rattle.jf_store.specs.Starts.{Start};
 
     ghost Value = { Start };
 
     ghost coded = { Prim.hlevel (codes, map_code) };
 
-    ghost view = { λ s. record { state = opened new_store 1; history = None; moment = s.nothing; faults = 0; passes = 0; board = record { words = 0; slots = 0; views_name = 0; atom = 0; block = 0; offset = 0; slot_names = [] } } };
+    ghost view = { λ s. record { state = state_when_opened new_store 1; history = None; moment = s.nothing; faults = 0; passes = 0; board = record { words = 0; slots = 0; views_name = 0; atom = 0; block = 0; offset = 0; slot_names = [] } } };
 }
 
 /// The engine's versions when a store was made, for contracts; the generation, the disk's moment and its count of faults

@@ -10,7 +10,7 @@ ghost use Rattle.jf_model.specs.Entries.{after};
 ghost use Rattle.jf_board.specs.Rule.{Has, Below, hold_at};
 ghost use Rattle.jf_board.specs.Steps.{NumbersAreGiven};
 ghost use Rattle.jf_board.specs.States.{new_pruner};
-ghost use Rattle.jf_store.specs.Events.{is_marked, entries_of, attempt_of};
+ghost use Rattle.jf_store.specs.Events.{is_marked, entries_among, attempt_of};
 ghost use Rattle.jf_store.specs.Starts.{start_with, IsStartOf};
 ghost use Rattle.jf_store.specs.Ledgers.{state_after_events, AreEvents};
 ghost use Rattle.jf_store.specs.Kept.{IsKept};
@@ -102,9 +102,9 @@ impl<D: Disk> Vault<D> {
     pub(crate) fn end(self) -> (Engine<D>, Pruner, Ledger)
         ensures engine { result.0 ≡ self.engine }
         ensures pruner { result.1 ≡ self.pruner }
-        ensures entries { result.2 ≡ entries_of self.events }
+        ensures entries { result.2 ≡ entries_among self.events }
         ensures events { AreEvents self.start self.events }
-        ensures kept { IsKept self.start (entries_of self.events) (attempt_of self.events) self.engine }
+        ensures kept { IsKept self.start (entries_among self.events) (attempt_of self.events) self.engine }
         ensures met { AreMet (Has self.pruner.known.pairs) self.start.state self.events }
         ensures low { (state_after_events self.start self.events).floor ≤ self.pruner.known.cut }
         ensures low_tried { IfSome (attempt_of self.events) (λ e. (after e (state_after_events self.start self.events)).floor ≤ self.pruner.known.cut) }

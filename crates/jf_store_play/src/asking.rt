@@ -190,7 +190,7 @@ fn ask_pin<H: Wait>(
 
 // The snapshot at a place, shared.
 fn copy_at(pass: &Pass<MemDisk>, place: u64) -> Result<Snapshot, StoreFault> {
-    match pass.pinned(place) {
+    match pass.pinned_snapshot(place) {
         Some(snapshot) => Ok(snapshot.share()?),
         None => Err(StoreFault::Unknown),
     }
@@ -205,7 +205,7 @@ fn ask_again(store: &Store<MemDisk>, pass: &mut Pass<MemDisk>, place: u64) -> An
 }
 
 fn of_pinned(pass: &Pass<MemDisk>, place: u64) -> Answer {
-    match pass.pinned(place) {
+    match pass.pinned_snapshot(place) {
         Some(snapshot) => of_snapshot(snapshot),
         None => Answer::Nothing,
     }

@@ -19,7 +19,7 @@ pub fn new_passes(
     ensures count { IfOk result (λ r. r.0.start.passes ≡ passes) }
     ensures passes { IfOk result (λ r. (length r.1.items ≡ passes) × AreNewPasses r.0 r.1.items 0) }
 {
-    if engine.broken() {
+    if engine.is_broken() {
         return Err(Fail::new("broken"));
     }
     match Store::new(alloc, Box::into_inner(engine), passes) {

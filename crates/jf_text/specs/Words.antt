@@ -29,9 +29,9 @@ abbrev pub line_text : List (List ℕ) → List ℕ
 line_text ws = join_with_byte 32 ws ++ 10 ∷ []
 
 -- these words with a space before each
-abbrev pub spaced : List (List ℕ) → List ℕ
-spaced [] = []
-spaced (w ∷ ws) = 32 ∷ w ++ spaced ws
+abbrev pub spaced_words : List (List ℕ) → List ℕ
+spaced_words [] = []
+spaced_words (w ∷ ws) = 32 ∷ w ++ spaced_words ws
 
 -- whether a word is this keyword
 abbrev pub is_word : List ℕ → List ℕ → Bool

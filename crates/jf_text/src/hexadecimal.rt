@@ -58,7 +58,7 @@ pub fn unhex_into(word: &[u8], out: &mut [u8]) -> bool
 }
 
 /// The bytes that a word writes, or `None` if it isn't an even number of digits.
-fn unhexed(alloc: Global, word: &[u8]) -> Result<Option<Bytes>, Memory>
+fn unhexed_bytes(alloc: Global, word: &[u8]) -> Result<Option<Bytes>, Memory>
     ensures { IfOk result (λ bytes. bytes ≡ unhex word.now) }
 {
     if word.len() % 2 == 1 {
@@ -110,7 +110,7 @@ fn bytes_within(alloc: Global, least: u64, most: u64, word: &[u8]) -> Result<Opt
     if count < least || most < count {
         return Ok(None);
     }
-    unhexed(alloc, word)
+    unhexed_bytes(alloc, word)
 }
 
 /// The name that a word writes, of 1 to 128 bytes. `None` if the word is no name (docs/FORMATS.md, Scripts).

@@ -7,19 +7,19 @@ use Rattle.jf_disk.proofs.CrashLaws.{idle_now}
 use Rattle.jf_frame.specs.Framing.{records}
 use Rattle.jf_frame.specs.Logs.{StopsInBegin, with_closed}
 use Rattle.jf_frame.proofs.Beginning.{idle_stops, stops_further}
-use Rattle.jf_trim.specs.Trims.{trimmed}
+use Rattle.jf_trim.specs.Trims.{trimmed_side}
 
-pub trimmed-short : (bytes : List ℕ) → length bytes ≤ 1 → trimmed bytes ≡ bytes
+pub trimmed-short : (bytes : List ℕ) → length bytes ≤ 1 → trimmed_side bytes ≡ bytes
 trimmed-short [] short = refl
 trimmed-short (gate ∷ []) short = refl
 trimmed-short (gate ∷ next ∷ rest) short = absurd (omega arith)
 
-pub trimmed-long : (bytes : List ℕ) → 1 < length bytes → trimmed bytes ≡ take 1 (with_closed bytes)
+pub trimmed-long : (bytes : List ℕ) → 1 < length bytes → trimmed_side bytes ≡ take 1 (with_closed bytes)
 trimmed-long [] long = absurd (omega arith)
 trimmed-long (gate ∷ []) long = absurd (omega arith)
 trimmed-long (gate ∷ next ∷ rest) long = refl
 
-pub length-trimmed : (bytes : List ℕ) → 1 < length bytes → length (trimmed bytes) ≡ 1
+pub length-trimmed : (bytes : List ℕ) → 1 < length bytes → length (trimmed_side bytes) ≡ 1
 length-trimmed [] long = absurd (omega arith)
 length-trimmed (gate ∷ []) long = absurd (omega arith)
 length-trimmed (gate ∷ next ∷ rest) long = refl

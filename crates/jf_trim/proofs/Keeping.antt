@@ -18,7 +18,7 @@ use Rattle.jf_pair.proofs.PairLaws.{in_step_holds, in_step_leaves}
 use Rattle.jf_files.specs.Files.{LeadTo, StandsFor, generation}
 use Rattle.jf_files.specs.Steps.{Opens, StopsWell}
 use Rattle.jf_files.proofs.Judging.{generation_live}
-use Rattle.jf_trim.specs.Trims.{HasTrimmed, IsSpareIn, KeepsStore, spare_side, trimmed}
+use Rattle.jf_trim.specs.Trims.{HasTrimmed, IsSpareIn, KeepsStore, spare_side, trimmed_side}
 use Rattle.jf_trim.specs.declared.trimmed.Trimmed.{Trimmed}
 
 bytes_of-reads : (w : Side) (h : History) → bytes_of w (reads h) ≡ (content_on w h.now).bytes
@@ -97,17 +97,17 @@ leaves_read w rs m g bytes is stops cut f image =
 
 pub has_trimmed : (t : Trimmed) (rs : List Framed) (h m g : History)
     → IsSpareIn t.side rs m.now → HoldsLive (reads h) rs → t.side ≡ spare_side (reads h) → LeavesFiles h m → StopsInBegin t.side m g
-    → content_on t.side g.now ≡ durable (trimmed (content_on t.side m.now).bytes) → t.bytes + length (trimmed (content_on t.side m.now).bytes) ≡ length (content_on t.side m.now).bytes
+    → content_on t.side g.now ≡ durable (trimmed_side (content_on t.side m.now).bytes) → t.bytes + length (trimmed_side (content_on t.side m.now).bytes) ≡ length (content_on t.side m.now).bytes
     → (t.bytes ≡ 0 → Idles m g) → HasTrimmed t h g
 has_trimmed t rs h m g is held spare left stops cut given nothing =
     let w = t.side in
     let before : (content_on w m.now).bytes ≡ bytes_of w (reads h) = sym (bytes_of-reads w m) ∙ ap (bytes_of w) left.same in
-    let after : bytes_of w (reads g) ≡ trimmed (bytes_of w (reads h)) = bytes_of-reads w g ∙ ap (λ (c : Content). c.bytes) cut ∙ ap trimmed before in
+    let after : bytes_of w (reads g) ≡ trimmed_side (bytes_of w (reads h)) = bytes_of-reads w g ∙ ap (λ (c : Content). c.bytes) cut ∙ ap trimmed_side before in
     record {
       sound = (rs, held);
       side = spare;
       cut = after;
-      given = ap (λ b. t.bytes + length b) after ∙ subst (λ b. t.bytes + length (trimmed b) ≡ length b) before given;
+      given = ap (λ b. t.bytes + length b) after ∙ subst (λ b. t.bytes + length (trimmed_side b) ≡ length b) before given;
       nothing = λ none. leaves_further h m g left (leaves_idle m g (nothing none));
-      leaves = leaves_read w rs m g (trimmed (content_on w m.now).bytes) is stops cut;
+      leaves = leaves_read w rs m g (trimmed_side (content_on w m.now).bytes) is stops cut;
     }

@@ -8,18 +8,18 @@ use Rattle.jf_frame.specs.Framed.{Framed}
 use Rattle.jf_frame.specs.Framing.{records}
 use Rattle.jf_pair.specs.Files.{HoldsLive, live_side}
 use Rattle.jf_pair.specs.Pairs.{Pair, IsInStep}
-use Rattle.jf_files.specs.Files.{StandsFor, generation, held}
+use Rattle.jf_files.specs.Files.{StandsFor, generation, records_of_side}
 use Rattle.jf_trim.specs.declared.trimmed.Trimmed.{Trimmed}
 
 -- the side of two files that isn't live; side A if neither side holds a record
 abbrev pub spare_side : Files → Side
-spare_side files = opposite (live_side (held (records files.a)) (held (records files.b)))
+spare_side files = opposite (live_side (records_of_side (records files.a)) (records_of_side (records files.b)))
 
 -- a side cut down to its first gate, which is closed; a side of at most one byte is short already, and stays
-abbrev pub trimmed : List ℕ → List ℕ
-trimmed [] = []
-trimmed (gate ∷ []) = gate ∷ []
-trimmed (gate ∷ next ∷ rest) = (if gate == 1 then 0 else gate) ∷ []
+abbrev pub trimmed_side : List ℕ → List ℕ
+trimmed_side [] = []
+trimmed_side (gate ∷ []) = gate ∷ []
+trimmed_side (gate ∷ next ∷ rest) = (if gate == 1 then 0 else gate) ∷ []
 
 -- both sides are synced, the other side holds the records `rs`, and this side holds none that count
 abbrev pub IsSpareIn : Side → List Framed → DiskState → Type 0
@@ -29,7 +29,7 @@ IsSpareIn w rs s = (p : Pair) × (w ≡ opposite p.side) × IsInStep p rs s
 pub record HasTrimmed (t : Trimmed) (old new : History) : Type 0 where
   pub sound : (rs : List Framed) × HoldsLive (reads old) rs
   pub side : t.side ≡ spare_side (reads old)
-  pub cut : bytes_of t.side (reads new) ≡ trimmed (bytes_of t.side (reads old))
+  pub cut : bytes_of t.side (reads new) ≡ trimmed_side (bytes_of t.side (reads old))
   pub given : t.bytes + length (bytes_of t.side (reads new)) ≡ length (bytes_of t.side (reads old))
   pub nothing : t.bytes ≡ 0 → LeavesFiles old new
   pub leaves : LeavesNow new (λ f. f ≡ reads new)

@@ -6,7 +6,7 @@ ghost use Rattle.jf_disk.specs.declared.side.Side.{Side};
 ghost use Rattle.jf_frame.specs.Framing.{records};
 ghost use Rattle.jf_frame.specs.Logs.{StopsInBegin, with_closed};
 ghost use Rattle.jf_pair.specs.declared.fault.PairFault.{PairFault};
-ghost use Rattle.jf_trim.specs.Trims.{trimmed};
+ghost use Rattle.jf_trim.specs.Trims.{trimmed_side};
 
 use jf_disk::{Disk, Side, know_counts};
 use jf_frame::{FrameFault, Log};
@@ -17,7 +17,7 @@ use std::alloc::Global;
 pub(crate) fn cut_side<D: Disk>(alloc: Global, disk: &mut D, side: Side) -> Result<u64, PairFault>
     requires { (h : History) → D.history disk.old ≡ Some h → content_on side h.now ≡ durable (content_on side h.now).bytes }
     ensures cut { (h : History) → D.history disk.old ≡ Some h
-        → IfOk result (λ n. (g : History) × (D.history disk.new ≡ Some g) × (content_on side g.now ≡ durable (trimmed (content_on side h.now).bytes)) × (n + length (trimmed (content_on side h.now).bytes) ≡ length (content_on side h.now).bytes)) }
+        → IfOk result (λ n. (g : History) × (D.history disk.new ≡ Some g) × (content_on side g.now ≡ durable (trimmed_side (content_on side h.now).bytes)) × (n + length (trimmed_side (content_on side h.now).bytes) ≡ length (content_on side h.now).bytes)) }
     ensures stop { (h : History) → D.history disk.old ≡ Some h → (g : History) × (D.history disk.new ≡ Some g) × StopsInBegin side h g }
     ensures damaged { (h : History) (where_ : Side) (at : ℕ) → D.history disk.old ≡ Some h → result ≡ Err (PairFault.Damaged where_ at) → records (content_on side h.now).bytes ≡ Err at }
     ensures unchanged { (h : History) (why : PairFault) → D.history disk.old ≡ Some h → result ≡ Err why → (why ≡ PairFault.DiskFault) ⊎ ((g : History) × (D.history disk.new ≡ Some g) × Idles h g) }

@@ -50,7 +50,7 @@ pub(crate) fn bring<V: Told>(
     requires few { length (V.list value) ≤ 4611686018427387904 }
     ensures { (token.new.table_id ≡ token.old.table_id) × (token.new.me ≡ (released_seat token.old.me.0 (V.list value), [])) }
 {
-    let count = value.told();
+    let count = value.entry_count();
     put_in(turn, token, value);
     turn.table.shared.store::<Move>(token, 0, 2 * count + 1);
     turn.table.shared.store::<Release>(token, 0, 2 * count);

@@ -46,7 +46,7 @@ impl<V: Told> Note<V> {
     }
 
     /// How many entries it has.
-    pub fn seen(&self) -> u64
+    pub fn seen_count(&self) -> u64
         ensures { result ≡ length self.now.seen }
     {
         self.seen

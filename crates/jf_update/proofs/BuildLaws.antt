@@ -14,11 +14,11 @@ use Rattle.jf_walk.proofs.Unions as union
 use Rattle.jf_walk.proofs.ChildEntryLaws.{sub-none}
 use Rattle.jf_walk.proofs.VersionLaws.{built_one, topped_built}
 use Rattle.jf_walk.proofs.PieceEnds.{cut_piece}
-use Rattle.jf_model.specs.Changes.{applied}
+use Rattle.jf_model.specs.Changes.{entries_after_batch}
 use Rattle.jf_walk.proofs.PartChanges.{with_nibble-applied}
 use Rattle.jf_walk.proofs.PartLaws.{stepped, IsPartUnder-with_nibble, from_nibble-zero}
 use Rattle.jf_node.specs.LinkValue.{LinkValue, link_version_at}
-use Rattle.jf_node.specs.Children.{content, joined, leaf_value, inner_value, moved_value, HaveNibble, FitsAt, FitFrom}
+use Rattle.jf_node.specs.Children.{content, entries_of_children, leaf_value, inner_value, moved_value, HaveNibble, FitsAt, FitFrom}
 use Rattle.jf_node.specs.LinkFacts.{BeginAlike}
 use Rattle.jf_node.proofs.NodeVersions.{version-below}
 use Rattle.jf_node.proofs.ChildLaws.{FitFrom-set}
@@ -27,20 +27,20 @@ use Rattle.jf_update.specs.Made.{Built, Topped, AreBuilt}
 use Rattle.jf_update.specs.Outcomes.{AreParts, AreShort}
 
 -- ---- unions
-joined-flat_map : (links : List (Option LinkValue)) → joined links ≡ flat_map content links
+joined-flat_map : (links : List (Option LinkValue)) → entries_of_children links ≡ flat_map content links
 joined-flat_map [] = refl
 joined-flat_map (x ∷ links) = ap (λ es. content x ++ es) (joined-flat_map links)
 
 -- children that have the entries of each nibble have all entries
-pub joined_parts : (d : ℕ) (path : ℕ → ℕ) (es : Part) (links : List (Option LinkValue)) → IsPartUnder d path es → length links ≡ 16 → ((k : ℕ) → k < 16 → content (get_or links k None) ≡ with_nibble d k es) → joined links ≡ es
+pub joined_parts : (d : ℕ) (path : ℕ → ℕ) (es : Part) (links : List (Option LinkValue)) → IsPartUnder d path es → length links ≡ 16 → ((k : ℕ) → k < 16 → content (get_or links k None) ≡ with_nibble d k es) → entries_of_children links ≡ es
 joined_parts d path es links part long h = joined-flat_map links ∙ union.joined_parts content None d path es links part long h
 
 -- the entries of all children begin with those of the first child
-pub joined-first : (links : List (Option LinkValue)) (n : ℕ) → n < length links → ((k : ℕ) → k < n → get_or links k None ≡ None) → joined links ≡ content (get_or links n None) ++ joined (drop (suc n) links)
+pub joined-first : (links : List (Option LinkValue)) (n : ℕ) → n < length links → ((k : ℕ) → k < n → get_or links k None ≡ None) → entries_of_children links ≡ content (get_or links n None) ++ entries_of_children (drop (suc n) links)
 joined-first links n short before =
     joined-flat_map links ∙ union.joined-first content None links n short (λ k lt. ap content (before k lt)) ∙ ap (λ es. content (get_or links n None) ++ es) (sym (joined-flat_map (drop (suc n) links)))
 
-pub joined-none : (links : List (Option LinkValue)) → ((k : ℕ) → k < length links → get_or links k None ≡ None) → joined links ≡ []
+pub joined-none : (links : List (Option LinkValue)) → ((k : ℕ) → k < length links → get_or links k None ≡ None) → entries_of_children links ≡ []
 joined-none links all = joined-flat_map links ∙ union.joined-none content None links (λ k lt. ap content (all k lt))
 
 -- the keys of a part begin with the same nibbles
@@ -59,10 +59,10 @@ pub topped_inner : (depth version : ℕ) (links : List (Option LinkValue)) (y : 
 topped_inner depth version links y is =
     subst (λ z. Topped depth version links (Some z)) (sym is) record { entries = refl; placed = refl; versions = record { top = λ some. refl; children = λ n p many. version-below n p version links } }
 
-pub topped_none : (depth version : ℕ) (links : List (Option LinkValue)) → joined links ≡ [] → Topped depth version links None
+pub topped_none : (depth version : ℕ) (links : List (Option LinkValue)) → entries_of_children links ≡ [] → Topped depth version links None
 topped_none depth version links none = record { entries = sym none; placed = tt; versions = record { top = λ some. absurd (some none); children = λ n p many. absurd (let e = ap length none in omega arith) } }
 
-pub topped_moved : (depth version : ℕ) (links : List (Option LinkValue)) (x y : LinkValue) (rest : Part) → joined links ≡ x.entries ++ rest → length (joined links) < 2 → 1 ≤ length x.entries → y ≡ moved_value version depth x → Topped depth version links (Some y)
+pub topped_moved : (depth version : ℕ) (links : List (Option LinkValue)) (x y : LinkValue) (rest : Part) → entries_of_children links ≡ x.entries ++ rest → length (entries_of_children links) < 2 → 1 ≤ length x.entries → y ≡ moved_value version depth x → Topped depth version links (Some y)
 topped_moved depth version links x y rest is few some moved =
     let no_rest : rest ≡ [] = nil_from_length rest (let e = ap length is in omega (arith, length-append x.entries rest)) in
     subst (λ z. Topped depth version links (Some z)) (sym moved) record {
@@ -131,7 +131,7 @@ building_more d v n start r path es bs links child part small b end made =
 pub building_done : (d v start : ℕ) (es : Part) (bs : Batch) (links : List (Option LinkValue)) → IsBuilding d v 16 start es bs links → AreBuilt d v es links
 building_done d v start es bs links b = record { long = b.long; fit = b.fit; each = b.each }
 
-pub joined_built : (d v : ℕ) (path : ℕ → ℕ) (es : Part) (links : List (Option LinkValue)) → IsPartUnder d path es → AreBuilt d v es links → joined links ≡ es
+pub joined_built : (d v : ℕ) (path : ℕ → ℕ) (es : Part) (links : List (Option LinkValue)) → IsPartUnder d path es → AreBuilt d v es links → entries_of_children links ≡ es
 joined_built d v path es links part b = joined_parts d path es links part b.long (λ k lt. (b.each k lt).entries)
 
 -- ---- what is asked of a piece
@@ -147,9 +147,9 @@ piece_parts d n start r es own bs parts rest end is =
     }
 
 -- the entries with one nibble, after the changes of this piece
-pub piece_applied : (d n start r : ℕ) (es own : Part) (bs : Batch) → AreParts d es bs → drop start bs ≡ from_nibble d n bs → IsPieceEnd d n r (drop start bs) → own ≡ with_nibble d n es → applied own (take ((start + r) - start) (drop start bs)) ≡ with_nibble d n (applied es bs)
+pub piece_applied : (d n start r : ℕ) (es own : Part) (bs : Batch) → AreParts d es bs → drop start bs ≡ from_nibble d n bs → IsPieceEnd d n r (drop start bs) → own ≡ with_nibble d n es → entries_after_batch own (take ((start + r) - start) (drop start bs)) ≡ with_nibble d n (entries_after_batch es bs)
 piece_applied d n start r es own bs parts rest end is =
-    ap₂ applied is (same_piece start r bs ∙ (cut_piece d n r parts.path bs (drop start bs) parts.batch rest end).0) ∙ sym (with_nibble-applied d n es bs parts.entries.sorted)
+    ap₂ entries_after_batch is (same_piece start r bs ∙ (cut_piece d n r parts.path bs (drop start bs) parts.batch rest end).0) ∙ sym (with_nibble-applied d n es bs parts.entries.sorted)
 
 pub few_at : (d n : ℕ) (es own : Part) → length es < 2 → own ≡ with_nibble d n es → length own < 2
 few_at d n es own few is = omega (arith, ap length is, length-filter_le (λ (e : List ℕ × List ℕ). nibble e.0 d == n) es)
@@ -186,6 +186,6 @@ built_inner depth version path es y links many part made is =
 
 -- the entries of all children begin with those of the first child that is found
 pub first_some : (links : List (Option LinkValue)) (n : ℕ) (r : Option (Bor LinkValue)) → option_copied r ≡ get_or links n None → n < length links → ((k : ℕ) → k < n → get_or links k None ≡ None)
-    → IfSome r (λ x. (rest : Part) × (joined links ≡ x.now.entries ++ rest))
+    → IfSome r (λ x. (rest : Part) × (entries_of_children links ≡ x.now.entries ++ rest))
 first_some links n None is short before = tt
-first_some links n (Some x) is short before = (joined (drop (suc n) links), joined-first links n short before ∙ ap (λ y. content y ++ joined (drop (suc n) links)) (sym is))
+first_some links n (Some x) is short before = (entries_of_children (drop (suc n) links), joined-first links n short before ∙ ap (λ y. content y ++ entries_of_children (drop (suc n) links)) (sym is))

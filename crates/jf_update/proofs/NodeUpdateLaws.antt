@@ -10,7 +10,7 @@ use Rattle.jf_path.proofs.FilterLaws.{All-filter}
 use Rattle.jf_hash.specs.Slots.{with_nibble, from_nibble, Part}
 use Rattle.jf_hash.specs.Maps.{Batch}
 use Rattle.jf_model.specs.Parts.{IsPartUnder, IsPieceEnd}
-use Rattle.jf_model.specs.Changes.{applied}
+use Rattle.jf_model.specs.Changes.{entries_after_batch}
 use Rattle.jf_model.specs.NodeVersions.{VersionsFollow}
 use Rattle.jf_model.proofs.ChangeLaws.{applied-none}
 use Rattle.jf_walk.proofs.PartLaws.{from_nibble-zero, stepped, IsPartUnder-with_nibble}
@@ -18,7 +18,7 @@ use Rattle.jf_walk.proofs.PieceEnds.{cut_piece}
 use Rattle.jf_walk.proofs.PartChanges.{with_nibble-applied, IsPartUnder-applied}
 use Rattle.jf_walk.proofs.VersionLaws.{same_versioned, topped_versioned, built_versioned}
 use Rattle.jf_node.specs.LinkValue.{LinkValue, link_version_at, version_among}
-use Rattle.jf_node.specs.Children.{content, joined, FitFrom, FitsAt, SameElsewhere}
+use Rattle.jf_node.specs.Children.{content, entries_of_children, FitFrom, FitsAt, SameElsewhere}
 use Rattle.jf_node.specs.Shown.{ShowsInner}
 use Rattle.jf_node.proofs.ChildLaws.{FitFrom-set}
 use Rattle.jf_node.proofs.NodeVersions.{version-below}
@@ -99,15 +99,15 @@ updating_one d v n start r path olds news news' y bs changed changed' change par
     }
 
 -- the entries of all children once each is updated
-updated_parts : (d v : ℕ) (path : ℕ → ℕ) (olds news : List (Option LinkValue)) (bs : Batch) (changed : List Bool) → length olds ≡ 16 → FitFrom d 0 olds → IsPartUnder d path (joined olds) → IsPartUnder d path bs → AreNewChildren d v olds bs news changed → joined news ≡ applied (joined olds) bs
+updated_parts : (d v : ℕ) (path : ℕ → ℕ) (olds news : List (Option LinkValue)) (bs : Batch) (changed : List Bool) → length olds ≡ 16 → FitFrom d 0 olds → IsPartUnder d path (entries_of_children olds) → IsPartUnder d path bs → AreNewChildren d v olds bs news changed → entries_of_children news ≡ entries_after_batch (entries_of_children olds) bs
 updated_parts d v path olds news bs changed long fit part batch w =
-    joined_parts d path (applied (joined olds) bs) news (IsPartUnder-applied d path (joined olds) bs part batch) w.long
-    (λ k lt. (w.each k lt).entries ∙ ap (λ es. applied es (with_nibble d k bs)) (sym (child_part d k olds long fit)) ∙ sym (with_nibble-applied d k (joined olds) bs part.sorted))
+    joined_parts d path (entries_after_batch (entries_of_children olds) bs) news (IsPartUnder-applied d path (entries_of_children olds) bs part batch) w.long
+    (λ k lt. (w.each k lt).entries ∙ ap (λ es. entries_after_batch es (with_nibble d k bs)) (sym (child_part d k olds long fit)) ∙ sym (with_nibble-applied d k (entries_of_children olds) bs part.sorted))
 
 pub updating_done : (d v start : ℕ) (olds news : List (Option LinkValue)) (bs : Batch) (changed : List Bool) → IsUpdating d v 16 start olds bs news changed → AreNewChildren d v olds bs news changed
 updating_done d v start olds news bs changed w = record { long = w.long; fit = w.fit; each = w.each; same = w.same }
 
-same_joined : (xs ys : List (Option LinkValue)) → length xs ≡ length ys → ((k : ℕ) → k < length xs → content (get_or xs k None) ≡ content (get_or ys k None)) → joined xs ≡ joined ys
+same_joined : (xs ys : List (Option LinkValue)) → length xs ≡ length ys → ((k : ℕ) → k < length xs → content (get_or xs k None) ≡ content (get_or ys k None)) → entries_of_children xs ≡ entries_of_children ys
 same_joined [] [] e h = refl
 same_joined [] (y ∷ ys) e h = absurd (omega arith)
 same_joined (x ∷ xs) [] e h = absurd (omega arith)
@@ -134,19 +134,19 @@ told_change changes zero long is = sym (has_change-count changes (sym (is ∙ ap
 told_change changes (suc n) long is = sym (positive n) ∙ sym (has_change-counted changes (λ none. absurd (omega (arith, is ∙ ap (count_by (λ bit. bit)) (take_all 16 changes (omega (arith, long))) ∙ none))))
 
 -- if no child changed, the batch changes nothing
-pub none_changed : (d v start : ℕ) (path : ℕ → ℕ) (olds news : List (Option LinkValue)) (bs : Batch) (changed : List Bool) → length olds ≡ 16 → FitFrom d 0 olds → IsPartUnder d path (joined olds) → IsPartUnder d path bs → IsUpdating d v 16 start olds bs news changed → has_change changed ≡ false → applied (joined olds) bs ≡ joined olds
+pub none_changed : (d v start : ℕ) (path : ℕ → ℕ) (olds news : List (Option LinkValue)) (bs : Batch) (changed : List Bool) → length olds ≡ 16 → FitFrom d 0 olds → IsPartUnder d path (entries_of_children olds) → IsPartUnder d path bs → IsUpdating d v 16 start olds bs news changed → has_change changed ≡ false → entries_after_batch (entries_of_children olds) bs ≡ entries_of_children olds
 none_changed d v start path olds news bs changed long fit part batch w off =
     sym (updated_parts d v path olds news bs changed long fit part batch (updating_done d v start olds news bs changed w)) ∙ same_joined news olds (w.long ∙ sym long) (λ k lt. w.same k (omega (arith, w.long)) (none_of_them changed off k))
 
 -- if a child changed, the batch changes something
-pub some_changed : (d v start : ℕ) (path : ℕ → ℕ) (olds news : List (Option LinkValue)) (bs : Batch) (changed : List Bool) → length olds ≡ 16 → FitFrom d 0 olds → IsPartUnder d path (joined olds) → IsPartUnder d path bs → IsUpdating d v 16 start olds bs news changed → has_change changed ≡ true → ¬ (applied (joined olds) bs ≡ joined olds)
+pub some_changed : (d v start : ℕ) (path : ℕ → ℕ) (olds news : List (Option LinkValue)) (bs : Batch) (changed : List Bool) → length olds ≡ 16 → FitFrom d 0 olds → IsPartUnder d path (entries_of_children olds) → IsPartUnder d path bs → IsUpdating d v 16 start olds bs news changed → has_change changed ≡ true → ¬ (entries_after_batch (entries_of_children olds) bs ≡ entries_of_children olds)
 some_changed d v start path olds news bs changed long fit part batch w on same =
     let x = one_of_them changed on in
     let is = updated_parts d v path olds news bs changed long fit part batch (updating_done d v start olds news bs changed w) in
     w.differ x.0 (omega (arith, x.1, w.changes)) x.2 (sym (child_part d x.0 news w.long w.fit) ∙ ap (with_nibble d x.0) (is ∙ same) ∙ child_part d x.0 olds long fit)
 
 -- a child that didn't change has the same entries as before
-pub same_elsewhere : (d v : ℕ) (olds news : List (Option LinkValue)) (es : Part) (bs : Batch) (changed : List Bool) → length olds ≡ 16 → FitFrom d 0 olds → es ≡ joined olds → AreNewChildren d v olds bs news changed → SameElsewhere changed d es (joined news)
+pub same_elsewhere : (d v : ℕ) (olds news : List (Option LinkValue)) (es : Part) (bs : Batch) (changed : List Bool) → length olds ≡ 16 → FitFrom d 0 olds → es ≡ entries_of_children olds → AreNewChildren d v olds bs news changed → SameElsewhere changed d es (entries_of_children news)
 same_elsewhere d v olds news es bs changed long fit is w i lt off =
     ap (with_nibble d i) is ∙ child_part d i olds long fit ∙ sym (w.same i lt off) ∙ sym (child_part d i news w.long w.fit)
 
@@ -154,14 +154,14 @@ same_elsewhere d v olds news es bs changed long fit is w i lt off =
 set_same : (changes : List Bool) (n : ℕ) → get_or changes n false ≡ false → changes ≡ set changes n false
 set_same changes n is = sym (ap (set changes n) (sym is) ∙ set-get_or changes n false)
 
-pub updating_more : (d v n start r : ℕ) (path : ℕ → ℕ) (olds : List (Option LinkValue)) (w w' : NewChildren) (p : Outcome) (bs piece : Batch) → length olds ≡ 16 → FitFrom d 0 olds → IsPartUnder d path (joined olds) → IsPartUnder d path bs → n < 16 → IsUpdating d v n start olds bs w.children w.changed → IsPieceEnd d n r (drop start bs)
+pub updating_more : (d v n start r : ℕ) (path : ℕ → ℕ) (olds : List (Option LinkValue)) (w w' : NewChildren) (p : Outcome) (bs piece : Batch) → length olds ≡ 16 → FitFrom d 0 olds → IsPartUnder d path (entries_of_children olds) → IsPartUnder d path bs → n < 16 → IsUpdating d v n start olds bs w.children w.changed → IsPieceEnd d n r (drop start bs)
     → piece ≡ take r (drop start bs) → IsOutcome (d + 1) v (get_or olds n None) piece p → IsOutcomePlaced w n p w' → IsUpdating d v (n + 1) (start + r) olds bs w'.children w'.changed
 updating_more d v n start r path olds now next Same bs piece long fit part batch small w end is out put =
     let old = get_or olds n None in
     let at : with_nibble d n bs ≡ piece = sym (is ∙ (cut_piece d n r path bs (drop start bs) batch w.rest end).0) in
     let kept : get_or now.children n None ≡ old = w.left n (omega arith) in
     updating_one d v n start r path olds now.children next.children old bs now.changed next.changed false batch small w end
-    record { entries = sym (ap (applied (content old)) at ∙ out); placed = child_placed d n olds long fit; versions = same_versioned v (d + 1) (content old) (λ p. link_version_at p old) }
+    record { entries = sym (ap (entries_after_batch (content old)) at ∙ out); placed = child_placed d n olds long fit; versions = same_versioned v (d + 1) (content old) (λ p. link_version_at p old) }
     (fits d n olds long fit small)
     (put.0 ∙ sym (ap (set now.children n) (sym kept) ∙ set-get_or now.children n None))
     (put.1 ∙ set_same now.changed n (w.unchanged n (omega arith)))
@@ -172,8 +172,8 @@ updating_more d v n start r path olds now next (New y) bs piece long fit part ba
     let at : with_nibble d n bs ≡ piece = sym (is ∙ (cut_piece d n r path bs (drop start bs) batch w.rest end).0) in
     updating_one d v n start r path olds now.children next.children y bs now.changed next.changed true batch small w end
     (subst (λ b. IsNodeUpdate (d + 1) v old b y) (sym at) out.0)
-    (fits_part d n (applied (joined olds) bs) y
-    (out.0.entries ∙ ap (λ es. applied es piece) (sym (child_part d n olds long fit)) ∙ ap (applied (with_nibble d n (joined olds))) (sym at) ∙ sym (with_nibble-applied d n (joined olds) bs part.sorted)) out.0.placed)
+    (fits_part d n (entries_after_batch (entries_of_children olds) bs) y
+    (out.0.entries ∙ ap (λ es. entries_after_batch es piece) (sym (child_part d n olds long fit)) ∙ ap (entries_after_batch (with_nibble d n (entries_of_children olds))) (sym at) ∙ sym (with_nibble-applied d n (entries_of_children olds) bs part.sorted)) out.0.placed)
     put.0
     put.1
     (λ off. absurd (true≢false off))
@@ -181,24 +181,24 @@ updating_more d v n start r path olds now next (New y) bs piece long fit part ba
 
 -- ---- a node over its updated children
 pub worked_top : (d v : ℕ) (path : ℕ → ℕ) (x : LinkValue) (y : Option LinkValue) (olds news : List (Option LinkValue)) (bs : Batch) (changed : List Bool) → x.depth ≡ d → ShowsInner x olds
-    → IsPartUnder d path x.entries → IsPartUnder d path bs → AreNewChildren d v olds bs news changed → ¬ (applied (joined olds) bs ≡ joined olds) → Topped d v news y → IsOutcome d v (Some x) bs (New y)
+    → IsPartUnder d path x.entries → IsPartUnder d path bs → AreNewChildren d v olds bs news changed → ¬ (entries_after_batch (entries_of_children olds) bs ≡ entries_of_children olds) → Topped d v news y → IsOutcome d v (Some x) bs (New y)
 worked_top d v path x y olds news bs changed at shows part batch w differ t =
     let is = shows.entries in
     let long = shows.children.long in
     let fit : FitFrom d 0 olds = subst (λ k. FitFrom k 0 olds) at shows.children.fit in
     let several = shows.children.several in
-    let part' : IsPartUnder d path (joined olds) = subst (IsPartUnder d path) is part in
-    let made : joined news ≡ applied (joined olds) bs = updated_parts d v path olds news bs changed long fit part' batch w in
-    let other : ¬ (applied x.entries bs ≡ x.entries) = λ e. differ (ap (λ es. applied es bs) (sym is) ∙ e ∙ is) in
-    let now : content y ≡ applied x.entries bs = t.entries ∙ made ∙ ap (λ es. applied es bs) (sym is) in (
+    let part' : IsPartUnder d path (entries_of_children olds) = subst (IsPartUnder d path) is part in
+    let made : entries_of_children news ≡ entries_after_batch (entries_of_children olds) bs = updated_parts d v path olds news bs changed long fit part' batch w in
+    let other : ¬ (entries_after_batch x.entries bs ≡ x.entries) = λ e. differ (ap (λ es. entries_after_batch es bs) (sym is) ∙ e ∙ is) in
+    let now : content y ≡ entries_after_batch x.entries bs = t.entries ∙ made ∙ ap (λ es. entries_after_batch es bs) (sym is) in (
       record {
         entries = now;
         placed = t.placed;
         versions = subst (λ es. VersionsFollow d v x.entries es (λ p. link_version_at p (Some x)) (λ p. link_version_at p y)) (sym t.entries)
-            (topped_versioned d v x.entries (joined news) (λ n p. link_version_at p (get_or olds n None)) (λ n p. link_version_at p (get_or news n None)) (λ p. link_version_at p (Some x)) (λ p. link_version_at p y)
+            (topped_versioned d v x.entries (entries_of_children news) (λ n p. link_version_at p (get_or olds n None)) (λ n p. link_version_at p (get_or news n None)) (λ p. link_version_at p (Some x)) (λ p. link_version_at p y)
             (omega (arith, ap length is)) (λ e. other (sym now ∙ t.entries ∙ e))
             (λ n p lt. ap (version_among (n ∷ p)) shows.versions ∙ version-below n p x.version olds)
-            (λ n lt. versioned_at n (with_nibble d n x.entries) (with_nibble d n (joined news)) (ap (with_nibble d n) is ∙ child_part d n olds long fit) (child_part d n news w.long w.fit) (w.each n lt).versions)
+            (λ n lt. versioned_at n (with_nibble d n x.entries) (with_nibble d n (entries_of_children news)) (ap (with_nibble d n) is ∙ child_part d n olds long fit) (child_part d n news w.long w.fit) (w.each n lt).versions)
             t.versions);
       },
       other,
@@ -212,16 +212,16 @@ worked_top d v path x y olds news bs changed at shows part batch w differ t =
 
 -- the outcome over a leaf, or over a place without a node
 pub leaf_outcome : (d v : ℕ) (x : Option LinkValue) (es : Part) (bs : Batch) (p : Outcome) → content x ≡ es → length es < 2 → IsLeafOutcome d v es bs p → IsOutcome d v x bs p
-leaf_outcome d v x es bs Same is few out = ap (λ es. applied es bs) is ∙ out ∙ sym is
+leaf_outcome d v x es bs Same is few out = ap (λ es. entries_after_batch es bs) is ∙ out ∙ sym is
 leaf_outcome d v x es bs (New y) is few out =
-    let now : content y ≡ applied (content x) bs = out.0.entries ∙ ap (λ es. applied es bs) (sym is) in (
+    let now : content y ≡ entries_after_batch (content x) bs = out.0.entries ∙ ap (λ es. entries_after_batch es bs) (sym is) in (
       record {
         entries = now;
         placed = out.0.placed;
         versions = subst (λ fs. VersionsFollow d v (content x) fs (λ p. link_version_at p x) (λ p. link_version_at p y)) (sym out.0.entries)
-            (built_versioned d v (content x) (applied es bs) (λ p. link_version_at p x) (λ p. link_version_at p y) (subst (λ es. length es < 2) (sym is) few) (λ e. out.1 (e ∙ is)) out.0.versions);
+            (built_versioned d v (content x) (entries_after_batch es bs) (λ p. link_version_at p x) (λ p. link_version_at p y) (subst (λ es. length es < 2) (sym is) few) (λ e. out.1 (e ∙ is)) out.0.versions);
       },
-      (λ e. out.1 (ap (λ es. applied es bs) (sym is) ∙ e ∙ is)),
+      (λ e. out.1 (ap (λ es. entries_after_batch es bs) (sym is) ∙ e ∙ is)),
     )
 
 pub ok_outcome : {E : Type 0} (d v : ℕ) (x : Option LinkValue) (es : Part) (bs : Batch) (r : Result Outcome E) → content x ≡ es → length es < 2 → IfOk r (λ p. IsLeafOutcome d v es bs p) → IfOk r (λ p. IsOutcome d v x bs p)
@@ -229,23 +229,23 @@ ok_outcome d v x es bs (Ok p) is few out = leaf_outcome d v x es bs p is few out
 ok_outcome d v x es bs (Err e) is few out = tt
 
 -- ---- what is asked of the update of a child
-pub child_parts : (d v n start r : ℕ) (olds news : List (Option LinkValue)) (o : Option LinkValue) (bs : Batch) (changed : List Bool) → length olds ≡ 16 → FitFrom d 0 olds → AreParts d (joined olds) bs → IsUpdating d v n start olds bs news changed → IsPieceEnd d n r (drop start bs) → o ≡ get_or olds n None
+pub child_parts : (d v n start r : ℕ) (olds news : List (Option LinkValue)) (o : Option LinkValue) (bs : Batch) (changed : List Bool) → length olds ≡ 16 → FitFrom d 0 olds → AreParts d (entries_of_children olds) bs → IsUpdating d v n start olds bs news changed → IsPieceEnd d n r (drop start bs) → o ≡ get_or olds n None
     → AreParts (d + 1) (content o) (take ((start + r) - start) (drop start bs))
 child_parts d v n start r olds news o bs changed long fit parts w end is =
     let piece = same_piece start r bs ∙ (cut_piece d n r parts.path bs (drop start bs) parts.batch w.rest end).0 in
     record {
       path = stepped d n parts.path;
-      entries = subst (IsPartUnder (d + 1) (stepped d n parts.path)) (child_part d n olds long fit ∙ ap content (sym is)) (IsPartUnder-with_nibble d n parts.path (joined olds) parts.entries);
+      entries = subst (IsPartUnder (d + 1) (stepped d n parts.path)) (child_part d n olds long fit ∙ ap content (sym is)) (IsPartUnder-with_nibble d n parts.path (entries_of_children olds) parts.entries);
       batch = subst (IsPartUnder (d + 1) (stepped d n parts.path)) (sym piece) (IsPartUnder-with_nibble d n parts.path bs parts.batch);
       short = subst AreShort (sym piece) (All-filter _ (λ e. nibble e.0 d == n) bs parts.short);
     }
 
-pub empty_applied : (es : Part) (bs : Batch) → length bs ≡ 0 → applied es bs ≡ es
+pub empty_applied : (es : Part) (bs : Batch) → length bs ≡ 0 → entries_after_batch es bs ≡ es
 empty_applied es [] e = applied-none es
 empty_applied es (b ∷ bs) e = absurd (omega arith)
 
 -- ---- from an inner node to its children and back
-pub inner_parts : (d : ℕ) (old : Option LinkValue) (x : LinkValue) (olds : List (Option LinkValue)) (bs : Batch) → old ≡ Some x → ShowsInner x olds → AreParts d (content old) bs → AreParts d (joined olds) bs
+pub inner_parts : (d : ℕ) (old : Option LinkValue) (x : LinkValue) (olds : List (Option LinkValue)) (bs : Batch) → old ≡ Some x → ShowsInner x olds → AreParts d (content old) bs → AreParts d (entries_of_children olds) bs
 inner_parts d old x olds bs is shows parts = subst (λ es. AreParts d es bs) (ap content is ∙ shows.entries) parts
 
 pub depth_of : (d : ℕ) (old : Option LinkValue) (x : LinkValue) → old ≡ Some x → IsAtDepth d old → x.depth ≡ d
@@ -260,20 +260,20 @@ inner_outcome d v old x y olds w bs is placed shows parts out top =
     (worked_top d v parts'.path x y olds w.children bs w.changed at shows parts'.entries parts'.batch out.0 out.1 (subst (λ k. Topped k v w.children y) at top))
 
 pub inner_kept : (d v : ℕ) (old : Option LinkValue) (x : LinkValue) (olds : List (Option LinkValue)) (w : NewChildren) (bs : Batch) → old ≡ Some x → IsAtDepth d old → ShowsInner x olds
-    → AreOutcome d v olds bs (Some w) → SameElsewhere w.changed x.depth x.entries (joined w.children)
+    → AreOutcome d v olds bs (Some w) → SameElsewhere w.changed x.depth x.entries (entries_of_children w.children)
 inner_kept d v old x olds w bs is placed shows out =
     let at : x.depth ≡ d = depth_of d old x is placed in
-    subst (λ k. SameElsewhere w.changed k x.entries (joined w.children)) (sym at) (same_elsewhere d v olds w.children x.entries bs w.changed shows.children.long (subst (λ k. FitFrom k 0 olds) at shows.children.fit) shows.entries out.0)
+    subst (λ k. SameElsewhere w.changed k x.entries (entries_of_children w.children)) (sym at) (same_elsewhere d v olds w.children x.entries bs w.changed shows.children.long (subst (λ k. FitFrom k 0 olds) at shows.children.fit) shows.entries out.0)
 
 pub outcome_at : (d v : ℕ) (olds : List (Option LinkValue)) (bs : Batch) (o : Option NewChildren) (w : NewChildren) → o ≡ Some w → AreOutcome d v olds bs o → AreOutcome d v olds bs (Some w)
 outcome_at d v olds bs o w is out = subst (AreOutcome d v olds bs) is out
 
 pub inner_agree : (d v : ℕ) (old : Option LinkValue) (x : LinkValue) (olds : List (Option LinkValue)) (w : NewChildren) (bs : Batch) → old ≡ Some x → IsAtDepth d old → ShowsInner x olds
-    → AreParts d (content old) bs → AreOutcome d v olds bs (Some w) → (path : ℕ → ℕ) × IsPartUnder x.depth path (joined w.children)
+    → AreParts d (content old) bs → AreOutcome d v olds bs (Some w) → (path : ℕ → ℕ) × IsPartUnder x.depth path (entries_of_children w.children)
 inner_agree d v old x olds w bs is placed shows parts out =
     let at : x.depth ≡ d = depth_of d old x is placed in
     let parts' = inner_parts d old x olds bs is shows parts in (
       parts'.path,
-      subst (λ k. IsPartUnder k parts'.path (joined w.children)) (sym at)
-          (subst (IsPartUnder d parts'.path) (sym (updated_parts d v parts'.path olds w.children bs w.changed shows.children.long (subst (λ k. FitFrom k 0 olds) at shows.children.fit) parts'.entries parts'.batch out.0)) (IsPartUnder-applied d parts'.path (joined olds) bs parts'.entries parts'.batch)),
+      subst (λ k. IsPartUnder k parts'.path (entries_of_children w.children)) (sym at)
+          (subst (IsPartUnder d parts'.path) (sym (updated_parts d v parts'.path olds w.children bs w.changed shows.children.long (subst (λ k. FitFrom k 0 olds) at shows.children.fit) parts'.entries parts'.batch out.0)) (IsPartUnder-applied d parts'.path (entries_of_children olds) bs parts'.entries parts'.batch)),
     )

@@ -11,7 +11,7 @@ use Rattle.jf_path.specs.Limits.{max_value}
 use Rattle.jf_hash.specs.Hashes.{V}
 use Rattle.jf_hash.specs.Maps.{Batch}
 use Rattle.jf_hash.specs.Slots.{Part}
-use Rattle.jf_model.specs.Changes.{applied, with_put}
+use Rattle.jf_model.specs.Changes.{entries_after_batch, with_put}
 use Rattle.jf_model.specs.Puts.{Change, puts, IsPlace, IsFirstKey}
 use Rattle.jf_walk.proofs.PutLaws.{puts-append, push_step, kept_entry}
 use Rattle.jf_walk.proofs.OneEntry.{applied-puts, applied-one}
@@ -22,7 +22,7 @@ use Rattle.jf_update.specs.declared.remainder.Remainder.TheVariants.{Nothing, Ol
 use Rattle.jf_update.specs.ValueHashes.{IsValueHash, AreValueHashes}
 
 -- ---- the entry that was there
-by_parts : (es : Part) (bs front back : Batch) (kept : Part) → front ++ back ≡ bs → applied es bs ≡ puts front ++ (kept ++ puts back) → IsKeptEntry es bs kept
+by_parts : (es : Part) (bs front back : Batch) (kept : Part) → front ++ back ≡ bs → entries_after_batch es bs ≡ puts front ++ (kept ++ puts back) → IsKeptEntry es bs kept
 by_parts es bs front back kept all is =
     let cut : puts bs ≡ puts front ++ puts back = ap puts (sym all) ∙ puts-append front back in
     record {
@@ -138,5 +138,5 @@ pub hashes_cut : (start n : ℕ) (bs : Batch) (hs cut : List (List ℕ)) → Are
 hashes_cut start n bs hs cut h is = subst (AreValueHashes (take n (drop start bs))) (sym is) record { each = front n (drop start bs) (drop start hs) (back start bs hs h.each) }
 
 -- the number of entries, if the entry that was there is kept
-pub kept_and_put : (own kept : Part) (bs : Batch) (i : ℕ) → IsKeptEntry own bs kept → 1 ≤ length kept → IsFirstPut bs i → 2 ≤ length (applied own bs)
+pub kept_and_put : (own kept : Part) (bs : Batch) (i : ℕ) → IsKeptEntry own bs kept → 1 ≤ length kept → IsFirstPut bs i → 2 ≤ length (entries_after_batch own bs)
 kept_and_put own kept bs i k some first = omega (arith, k.count, some_puts bs i first)

@@ -23,7 +23,7 @@ use Rattle.jf_walk.proofs.PieceEnds.{cut_piece}
 use Rattle.jf_walk.proofs.WalkLaws.{each_push}
 use Rattle.jf_node.specs.LinkValue.{LinkValue, version_among}
 use Rattle.jf_node.specs.LinkFacts.{IsLinkIf}
-use Rattle.jf_node.specs.Children.{content, joined, child_versions, versions_from, leaf_value, inner_value, FitsAt, FitFrom}
+use Rattle.jf_node.specs.Children.{content, entries_of_children, child_versions, versions_from, leaf_value, inner_value, FitsAt, FitFrom}
 use Rattle.jf_node.specs.Snapshots.{snapshot_of, IsTopIf}
 use Rattle.jf_node.proofs.ChildLaws.{FitFrom-set}
 use Rattle.jf_node.proofs.NodeVersions.{has_one-true, has_two-true}
@@ -235,7 +235,7 @@ restored_leaf d from to v (x ∷ []) written y e f some few short at next is =
     }
 restored_leaf d from to v (x ∷ z ∷ es) written y e f some few short at next is = absurd (omega arith)
 
-pub joined_restored : (d from to : ℕ) (path : ℕ → ℕ) (es : Part) (written : List ℕ) (links : List (Option LinkValue)) → IsPartUnder d path es → AreRestored d es written from to links → joined links ≡ es
+pub joined_restored : (d from to : ℕ) (path : ℕ → ℕ) (es : Part) (written : List ℕ) (links : List (Option LinkValue)) → IsPartUnder d path es → AreRestored d es written from to links → entries_of_children links ≡ es
 joined_restored d from to path es written links part made = joined_parts d path es links part made.long made.each
 
 pub restored_inner : (d from to v : ℕ) (path : ℕ → ℕ) (es : Part) (written : List ℕ) (links : List (Option LinkValue)) (y : LinkValue) → IsPartUnder d path es → 2 ≤ length es → d < 64 → from < length written → v ≡ get_or written from 0

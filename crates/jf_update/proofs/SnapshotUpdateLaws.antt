@@ -8,7 +8,7 @@ use Rattle.jf_hash.proofs.MapLaws.{map-from_entries}
 use Rattle.jf_model.specs.Parts.{IsPartUnder}
 use Rattle.jf_model.specs.Nodes.{Path, is_node, is_fresh}
 use Rattle.jf_model.specs.ChildEntries.{sub}
-use Rattle.jf_model.specs.Changes.{applied}
+use Rattle.jf_model.specs.Changes.{entries_after_batch}
 use Rattle.jf_model.proofs.ChangeLaws.{entries-apply}
 use Rattle.jf_walk.proofs.FreshBound.{IsPartUnder-map, IsPartUnder-batch}
 use Rattle.jf_walk.proofs.FreshVersions.{VersionFollows-is_fresh}
@@ -68,7 +68,7 @@ advanced head old b top s sound was next is now =
     let v = head.version + 1 in
     let m = head.map in
     let m' = apply m b in
-    let made : content top ≡ entries m' = next.entries ∙ ap (λ es. applied es b) (sym was.same) ∙ sym (entries-apply m b) in
+    let made : content top ≡ entries m' = next.entries ∙ ap (λ es. entries_after_batch es b) (sym was.same) ∙ sym (entries-apply m b) in
     let version_is : s.version ≡ v = ap (λ (s : SnapshotValue). s.version) is ∙ version-snapshot_of v top in
     record {
       map = ap (λ (s : SnapshotValue). s.map) is ∙ map-from_entries (snapshot_of v top).map m' (entries-snapshot_of v top next.sound ∙ made);

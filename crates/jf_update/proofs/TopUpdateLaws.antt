@@ -3,7 +3,7 @@ use Rattle.std.proofs.Common.{◌≡◌, ℕ, ◌+◌, [], sym, ap, subst, Optio
 use Rattle.std.specs.Option.{is_some}
 use Rattle.jf_hash.specs.Maps.{Batch}
 use Rattle.jf_model.specs.Nodes.{Path, is_node}
-use Rattle.jf_model.specs.Changes.{applied}
+use Rattle.jf_model.specs.Changes.{entries_after_batch}
 use Rattle.jf_model.specs.ChildEntries.{sub}
 use Rattle.jf_model.specs.NodeVersions.{VersionsFollow}
 use Rattle.jf_walk.proofs.ChildEntryLaws.{sub-none}
@@ -40,13 +40,13 @@ landed_newest head old (Some y) at newest sound versions p v e = elim (some_entr
     unversioned : sub 0 p y.entries ≡ [] → ⊥
     unversioned none = sub-is_node 0 p y.entries (not_empty y.entries sound.entries.some) (ap (λ d. is_node d p y.entries) (sym at) ∙ sym (sound.versioned.exact p) ∙ ap is_some e) none
 
-pub has_version : (head : ℕ) (old top : Option LinkValue) (bs : Batch) → IsNodeUpdate 0 (head + 1) old bs top → ¬ (applied (content old) bs ≡ content old) → IsLinkIf top → IsOfVersion (head + 1) top
+pub has_version : (head : ℕ) (old top : Option LinkValue) (bs : Batch) → IsNodeUpdate 0 (head + 1) old bs top → ¬ (entries_after_batch (content old) bs ≡ content old) → IsLinkIf top → IsOfVersion (head + 1) top
 has_version head old None bs made differ sound = tt
 has_version head old (Some y) bs made differ sound =
     some_is y.version (head + 1) (sym sound.own ∙ (made.versions []).fresh (not_empty y.entries sound.entries.some) (λ e. differ (sym made.entries ∙ sym e)))
 
 -- ---- the new top alone
-pub next_none : (head : ℕ) (old : Option LinkValue) (bs : Batch) → old ≡ None → applied (content old) bs ≡ content old → IsNextTop head old bs None
+pub next_none : (head : ℕ) (old : Option LinkValue) (bs : Batch) → old ≡ None → entries_after_batch (content old) bs ≡ content old → IsNextTop head old bs None
 next_none head old bs is same = record {
   entries = sym (same ∙ ap content is);
   placed = tt;
@@ -56,7 +56,7 @@ next_none head old bs is same = record {
   sound = tt;
 }
 
-pub next_renewed : (head : ℕ) (old : Option LinkValue) (x y : LinkValue) (bs : Batch) → NoneNewer head old → old ≡ Some x → IsAtDepth 0 old → IsLink x → IsLink y → y ≡ renewed_value (head + 1) x → applied (content old) bs ≡ content old → IsNextTop head old bs (Some y)
+pub next_renewed : (head : ℕ) (old : Option LinkValue) (x y : LinkValue) (bs : Batch) → NoneNewer head old → old ≡ Some x → IsAtDepth 0 old → IsLink x → IsLink y → y ≡ renewed_value (head + 1) x → entries_after_batch (content old) bs ≡ content old → IsNextTop head old bs (Some y)
 next_renewed head old x y bs newest is placed link sound renew same =
     let at : content old ≡ x.entries = ap content is in
     let now : y.entries ≡ x.entries = ap (λ (z : LinkValue). z.entries) renew in

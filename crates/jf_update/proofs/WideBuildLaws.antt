@@ -5,7 +5,7 @@ use Rattle.jf_path.specs.Keys.{key_cmp}
 use Rattle.jf_hash.specs.Maps.{Batch}
 use Rattle.jf_hash.specs.Slots.{Part, with_nibble}
 use Rattle.jf_split.specs.declared.piece.Piece.{Piece}
-use Rattle.jf_model.specs.Changes.{applied}
+use Rattle.jf_model.specs.Changes.{entries_after_batch}
 use Rattle.jf_model.proofs.ChangeLaws.{applied-none}
 use Rattle.jf_walk.proofs.PartChanges.{with_nibble-applied}
 use Rattle.jf_node.specs.LinkValue.{LinkValue}
@@ -32,10 +32,10 @@ pub record IsFilling (d v n : ℕ) (es now : Part) (ps : List Piece) (links : Li
   pub done : (i : ℕ) (p : Piece) → i < n → IsBuiltAt d v now links (get_or ps i p).nibble
 
 -- what is built of the changes of a piece, over the entries with its nibble
-pub built_piece : (d v : ℕ) (es own : Part) (bs : Batch) (p : Piece) (y : Option LinkValue) → T (is_sorted key_cmp es) → IsPieceOf d bs p → own ≡ with_nibble d p.nibble es → Built (d + 1) v (applied own (take (p.end - p.start) (drop p.start bs))) y → IsPieceBuilt d v (applied es bs) p y
-built_piece d v es own bs p y sorted piece is made = record { small = piece.small; built = subst (λ fs. Built (d + 1) v fs y) (ap₂ applied is piece.exact ∙ sym (with_nibble-applied d p.nibble es bs sorted)) made }
+pub built_piece : (d v : ℕ) (es own : Part) (bs : Batch) (p : Piece) (y : Option LinkValue) → T (is_sorted key_cmp es) → IsPieceOf d bs p → own ≡ with_nibble d p.nibble es → Built (d + 1) v (entries_after_batch own (take (p.end - p.start) (drop p.start bs))) y → IsPieceBuilt d v (entries_after_batch es bs) p y
+built_piece d v es own bs p y sorted piece is made = record { small = piece.small; built = subst (λ fs. Built (d + 1) v fs y) (ap₂ entries_after_batch is piece.exact ∙ sym (with_nibble-applied d p.nibble es bs sorted)) made }
 
-pub filling_start : (d v : ℕ) (es now : Part) (ps : List Piece) (links : List (Option LinkValue)) → AreBuilt d v (applied es []) links → IsFilling d v 0 es now ps links
+pub filling_start : (d v : ℕ) (es now : Part) (ps : List Piece) (links : List (Option LinkValue)) → AreBuilt d v (entries_after_batch es []) links → IsFilling d v 0 es now ps links
 filling_start d v es now ps links made = record {
   long = made.long;
   fit = made.fit;
@@ -70,12 +70,12 @@ filling_more d v n es now ps p y links more h lt at out is =
     }
 
 -- once all are in place, all children are built
-pub filling_done : (d v : ℕ) (es : Part) (bs : Batch) (ps : List Piece) (links : List (Option LinkValue)) → T (is_sorted key_cmp es) → ArePieces d bs ps → IsFilling d v (length ps) es (applied es bs) ps links → AreBuilt d v (applied es bs) links
+pub filling_done : (d v : ℕ) (es : Part) (bs : Batch) (ps : List Piece) (links : List (Option LinkValue)) → T (is_sorted key_cmp es) → ArePieces d bs ps → IsFilling d v (length ps) es (entries_after_batch es bs) ps links → AreBuilt d v (entries_after_batch es bs) links
 filling_done d v es bs ps links sorted pieces h = record { long = h.long; fit = h.fit; each = all }
   where
-    all : (k : ℕ) → k < 16 → IsBuiltAt d v (applied es bs) links k
+    all : (k : ℕ) → k < 16 → IsBuiltAt d v (entries_after_batch es bs) links k
     all k lt = elim (pieces_whole d k bs ps pieces) [
-      | inl has ↦ let x = place_in k ps (record { nibble = 0; start = 0; end = 0 }) has in subst (IsBuiltAt d v (applied es bs) links) x.2 (h.done x.0 (record { nibble = 0; start = 0; end = 0 }) x.1)
+      | inl has ↦ let x = place_in k ps (record { nibble = 0; start = 0; end = 0 }) has in subst (IsBuiltAt d v (entries_after_batch es bs) links) x.2 (h.done x.0 (record { nibble = 0; start = 0; end = 0 }) x.1)
       | inr none ↦ elim (h.each k lt) [
         | inl new ↦ new
         | inr old ↦

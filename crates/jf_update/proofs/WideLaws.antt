@@ -8,12 +8,12 @@ use Rattle.jf_hash.specs.Maps.{Batch}
 use Rattle.jf_hash.specs.Slots.{Part, with_nibble}
 use Rattle.jf_split.specs.declared.piece.Piece.{Piece}
 use Rattle.jf_model.specs.Parts.{IsPartUnder}
-use Rattle.jf_model.specs.Changes.{applied}
+use Rattle.jf_model.specs.Changes.{entries_after_batch}
 use Rattle.jf_walk.proofs.PartLaws.{from_nibble-past, stepped, IsPartUnder-with_nibble}
 use Rattle.jf_walk.proofs.PartChanges.{with_nibble-applied}
 use Rattle.jf_walk.proofs.VersionLaws.{same_versioned}
 use Rattle.jf_node.specs.LinkValue.{LinkValue, link_version_at}
-use Rattle.jf_node.specs.Children.{content, joined, FitFrom, FitsAt}
+use Rattle.jf_node.specs.Children.{content, entries_of_children, FitFrom, FitsAt}
 use Rattle.jf_node.proofs.ChildLaws.{FitFrom-set}
 use Rattle.jf_diff.proofs.ChildPlaces.{child_part, child_placed}
 use Rattle.jf_update.specs.Outcomes.{AreParts, AreShort, IsNodeUpdate, IsOutcome, IsOutcomePlaced}
@@ -56,7 +56,7 @@ placing_start d v olds news bs ps changed long fit is none = subst (λ ls. IsPla
   done = λ i p lt. absurd (omega arith);
 })
 
-done_same : (d v : ℕ) (olds news : List (Option LinkValue)) (bs : Batch) (changed : List Bool) (k : ℕ) → length olds ≡ 16 → FitFrom d 0 olds → IsAsBefore olds news changed k → applied (content (get_or olds k None)) (with_nibble d k bs) ≡ content (get_or olds k None) → IsDone d v olds bs news changed k
+done_same : (d v : ℕ) (olds news : List (Option LinkValue)) (bs : Batch) (changed : List Bool) (k : ℕ) → length olds ≡ 16 → FitFrom d 0 olds → IsAsBefore olds news changed k → entries_after_batch (content (get_or olds k None)) (with_nibble d k bs) ≡ content (get_or olds k None) → IsDone d v olds bs news changed k
 done_same d v olds news bs changed k long fit before is =
     let old = get_or olds k None in (
       subst (λ y. IsNodeUpdate (d + 1) v old (with_nibble d k bs) y) (sym before.0) record { entries = sym is; placed = child_placed d k olds long fit; versions = same_versioned v (d + 1) (content old) (λ p. link_version_at p old) },
@@ -96,7 +96,7 @@ placed_one d v n olds news more bs ps changed marks p w lt at long changes fit h
   ];
 }
 
-placed_outcome : (d v n : ℕ) (olds : List (Option LinkValue)) (w w' : NewChildren) (bs : Batch) (ps : List Piece) (p : Piece) (o : Outcome) → length olds ≡ 16 → FitFrom d 0 olds → AreParts d (joined olds) bs → IsPlacing d v n olds bs ps w.children w.changed → n < length ps → p ≡ get_or ps n p
+placed_outcome : (d v n : ℕ) (olds : List (Option LinkValue)) (w w' : NewChildren) (bs : Batch) (ps : List Piece) (p : Piece) (o : Outcome) → length olds ≡ 16 → FitFrom d 0 olds → AreParts d (entries_of_children olds) bs → IsPlacing d v n olds bs ps w.children w.changed → n < length ps → p ≡ get_or ps n p
     → p.nibble < 16 → IsOutcome (d + 1) v (get_or olds p.nibble None) (with_nibble d p.nibble bs) o → IsOutcomePlaced w p.nibble o w' → IsPlacing d v (n + 1) olds bs ps w'.children w'.changed
 placed_outcome d v n olds w w' bs ps p Same long fit parts h lt at small out put =
     let there : (k : ℕ) → get_or w'.children k None ≡ get_or w.children k None = λ k. ap (λ ls. get_or ls k None) put.0 in
@@ -113,7 +113,7 @@ placed_outcome d v n olds w w' bs ps p (New y) long fit parts h lt at small out 
     let on : get_or w'.changed m false ≡ true = ap (λ ms. get_or ms m false) put.1 ∙ get_or-set_same w.changed m true false (omega (arith, h.changes)) in
     placed_one d v n olds w.children w'.children bs ps w.changed w'.changed p h lt at (ap length put.0 ∙ length-set w.children m y ∙ h.long) (ap length put.1 ∙ length-set w.changed m true ∙ h.changes)
     (subst (FitFrom d 0) (sym put.0) (FitFrom-set d 0 m w.children y h.fit (subst (λ k. FitsAt d k y) (sym (zero-add m))
-    (fits_part d m (applied (joined olds) bs) y (out.0.entries ∙ ap (λ es. applied es (with_nibble d m bs)) (sym (child_part d m olds long fit)) ∙ sym (with_nibble-applied d m (joined olds) bs parts.entries.sorted)) out.0.placed)))) (
+    (fits_part d m (entries_after_batch (entries_of_children olds) bs) y (out.0.entries ∙ ap (λ es. entries_after_batch es (with_nibble d m bs)) (sym (child_part d m olds long fit)) ∙ sym (with_nibble-applied d m (entries_of_children olds) bs parts.entries.sorted)) out.0.placed)))) (
       subst (λ z. IsNodeUpdate (d + 1) v (get_or olds m None) (with_nibble d m bs) z) (sym here) out.0,
       (λ off. absurd (true≢false (sym on ∙ off))),
       (λ is e. out.1 (sym out.0.entries ∙ ap content (sym here) ∙ e)),
@@ -121,7 +121,7 @@ placed_outcome d v n olds w w' bs ps p (New y) long fit parts h lt at small out 
     (λ k other. ap (λ ls. get_or ls k None) put.0 ∙ get_or-set_other w.children m k y None other)
     (λ k other. ap (λ ms. get_or ms k false) put.1 ∙ get_or-set_other w.changed m k true false other)
 
-pub placing_more : (d v n : ℕ) (olds : List (Option LinkValue)) (w w' : NewChildren) (bs : Batch) (ps : List Piece) (p : Piece) (r : Outcome) → length olds ≡ 16 → FitFrom d 0 olds → AreParts d (joined olds) bs → IsPlacing d v n olds bs ps w.children w.changed → n < length ps → p ≡ get_or ps n p
+pub placing_more : (d v n : ℕ) (olds : List (Option LinkValue)) (w w' : NewChildren) (bs : Batch) (ps : List Piece) (p : Piece) (r : Outcome) → length olds ≡ 16 → FitFrom d 0 olds → AreParts d (entries_of_children olds) bs → IsPlacing d v n olds bs ps w.children w.changed → n < length ps → p ≡ get_or ps n p
     → IsPieceOutcome d v olds bs p r → IsOutcomePlaced w p.nibble r w' → IsPlacing d v (n + 1) olds bs ps w'.children w'.changed
 placing_more d v n olds w w' bs ps p r long fit parts h lt at out put = placed_outcome d v n olds w w' bs ps p r long fit parts h lt at out.small out.outcome put
 

@@ -3,7 +3,7 @@ use Rattle.std.specs.Prelude.{◌≡◌, ℕ, Option, None, List, slice_index_or
 use Rattle.jf_hash.specs.Slots.{Part, with_nibble}
 use Rattle.jf_model.specs.NodeVersions.{AllNew, IsNewTop}
 use Rattle.jf_node.specs.LinkValue.{LinkValue, link_version_at}
-use Rattle.jf_node.specs.Children.{content, joined, FitFrom}
+use Rattle.jf_node.specs.Children.{content, entries_of_children, FitFrom}
 use Rattle.jf_diff.specs.OptionalNodes.{IsAtDepth}
 
 -- y is built new from the entries es: all its nodes have the new version
@@ -14,9 +14,9 @@ pub record Built (depth version : ℕ) (es : Part) (y : Option LinkValue) : Type
 
 -- y is the top over these children: no node, a leaf moved up, or a new inner node
 pub record Topped (depth version : ℕ) (links : List (Option LinkValue)) (y : Option LinkValue) : Type 0 where
-  pub entries : content y ≡ joined links
+  pub entries : content y ≡ entries_of_children links
   pub placed : IsAtDepth depth y
-  pub versions : IsNewTop version (joined links) (λ n p. link_version_at p (slice_index_or links n None)) (λ p. link_version_at p y)
+  pub versions : IsNewTop version (entries_of_children links) (λ n p. link_version_at p (slice_index_or links n None)) (λ p. link_version_at p y)
 
 -- sixteen children that are built new from the entries es
 pub record AreBuilt (depth version : ℕ) (es : Part) (links : List (Option LinkValue)) : Type 0 where

@@ -5,10 +5,10 @@ use Rattle.jf_path.specs.Limits.{max_value}
 use Rattle.jf_hash.specs.Maps.{Batch}
 use Rattle.jf_hash.specs.Slots.{Part, with_nibble}
 use Rattle.jf_model.specs.Parts.{IsPartUnder}
-use Rattle.jf_model.specs.Changes.{applied}
+use Rattle.jf_model.specs.Changes.{entries_after_batch}
 use Rattle.jf_model.specs.NodeVersions.{VersionsFollow}
 use Rattle.jf_node.specs.LinkValue.{LinkValue, link_version_at}
-use Rattle.jf_node.specs.Children.{content, FitFrom, joined}
+use Rattle.jf_node.specs.Children.{content, FitFrom, entries_of_children}
 use Rattle.jf_diff.specs.OptionalNodes.{IsAtDepth}
 use Rattle.jf_update.specs.Made.{Built}
 use Rattle.jf_update.specs.declared.outcome.Outcome.{Outcome}
@@ -28,19 +28,19 @@ pub record AreParts (depth : ℕ) (es : Part) (bs : Batch) : Type 0 where
 
 -- y is the node x after the batch: its entries, its depth and the versions of its nodes
 pub record IsNodeUpdate (depth version : ℕ) (x : Option LinkValue) (bs : Batch) (y : Option LinkValue) : Type 0 where
-  pub entries : content y ≡ applied (content x) bs
+  pub entries : content y ≡ entries_after_batch (content x) bs
   pub placed : IsAtDepth depth y
   pub versions : VersionsFollow depth version (content x) (content y) (λ p. link_version_at p x) (λ p. link_version_at p y)
 
 -- the outcome of a batch over a node: unchanged, or the node after the batch
 abbrev pub IsOutcome : ℕ → ℕ → Option LinkValue → Batch → Outcome → Type 0
-IsOutcome depth version x bs Same = applied (content x) bs ≡ content x
-IsOutcome depth version x bs (New y) = IsNodeUpdate depth version x bs y × ¬ (applied (content x) bs ≡ content x)
+IsOutcome depth version x bs Same = entries_after_batch (content x) bs ≡ content x
+IsOutcome depth version x bs (New y) = IsNodeUpdate depth version x bs y × ¬ (entries_after_batch (content x) bs ≡ content x)
 
 -- the outcome of a batch over at most one entry: unchanged, or all nodes new
 abbrev pub IsLeafOutcome : ℕ → ℕ → Part → Batch → Outcome → Type 0
-IsLeafOutcome depth version es bs Same = applied es bs ≡ es
-IsLeafOutcome depth version es bs (New y) = Built depth version (applied es bs) y × ¬ (applied es bs ≡ es)
+IsLeafOutcome depth version es bs Same = entries_after_batch es bs ≡ es
+IsLeafOutcome depth version es bs (New y) = Built depth version (entries_after_batch es bs) y × ¬ (entries_after_batch es bs ≡ es)
 
 -- the children after a batch; those that didn't change have the same entries as before
 pub record AreNewChildren (depth version : ℕ) (olds : List (Option LinkValue)) (bs : Batch) (news : List (Option LinkValue)) (changed : List Bool) : Type 0 where
@@ -51,8 +51,8 @@ pub record AreNewChildren (depth version : ℕ) (olds : List (Option LinkValue))
 
 -- the outcome of a batch over the children of a node: unchanged, or the children after the batch
 abbrev pub AreOutcome : ℕ → ℕ → List (Option LinkValue) → Batch → Option NewChildren → Type 0
-AreOutcome depth version olds bs None = applied (joined olds) bs ≡ joined olds
-AreOutcome depth version olds bs (Some w) = AreNewChildren depth version olds bs w.children w.changed × ¬ (applied (joined olds) bs ≡ joined olds)
+AreOutcome depth version olds bs None = entries_after_batch (entries_of_children olds) bs ≡ entries_of_children olds
+AreOutcome depth version olds bs (Some w) = AreNewChildren depth version olds bs w.children w.changed × ¬ (entries_after_batch (entries_of_children olds) bs ≡ entries_of_children olds)
 
 -- the children after the outcome for the child at nibble n
 abbrev pub IsOutcomePlaced : NewChildren → ℕ → Outcome → NewChildren → Type 0

@@ -4,7 +4,7 @@ use Rattle.jf_path.specs.Limits.{max_value}
 use Rattle.jf_hash.specs.Hashes.{V}
 use Rattle.jf_hash.specs.Maps.{Batch}
 use Rattle.jf_hash.specs.Slots.{Part}
-use Rattle.jf_model.specs.Changes.{applied}
+use Rattle.jf_model.specs.Changes.{entries_after_batch}
 use Rattle.jf_model.specs.Puts.{Change, puts}
 use Rattle.jf_update.specs.declared.remainder.Remainder.{Remainder}
 use Rattle.jf_update.specs.declared.remainder.Remainder.TheVariants.{Nothing, Old, Put, Several}
@@ -17,9 +17,9 @@ pub record IsFirstPut (bs : Batch) (i : ℕ) : Type 0 where
 
 -- `kept` is the entry of es, of which there is at most one, unless its key is changed
 pub record IsKeptEntry (es : Part) (bs : Batch) (kept : Part) : Type 0 where
-  pub alone : puts bs ≡ [] → applied es bs ≡ kept
-  pub gone : kept ≡ [] → applied es bs ≡ puts bs
-  pub count : length (applied es bs) ≡ length (puts bs) + length kept
+  pub alone : puts bs ≡ [] → entries_after_batch es bs ≡ kept
+  pub gone : kept ≡ [] → entries_after_batch es bs ≡ puts bs
+  pub count : length (entries_after_batch es bs) ≡ length (puts bs) + length kept
 
 -- the entries now, where the entries `own` were
 abbrev pub ShowsRemainder : Part → Part → Remainder → Type 0

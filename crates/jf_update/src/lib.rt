@@ -17,7 +17,7 @@ mod wide_leaf;
 
 pub use count::count_of_nodes;
 pub use hashing::value_hashes;
-pub use jf_diff::{Written, written};
+pub use jf_diff::{Written, landing_lists};
 pub use jf_node::Update;
-pub use restore::{RebuildFault, restored};
+pub use restore::{RebuildFault, restored_snapshot};
 pub use snapshot::{advance, update};

@@ -3,7 +3,7 @@ ghost use Rattle.std.specs.Prelude.{◌≡◌, ◌<◌, ◌≤◌, ◌++◌, ℕ
 ghost use Rattle.std.specs.Option.{option_copied};
 ghost use Rattle.jf_hash.specs.Ranges.{has_change};
 ghost use Rattle.jf_hash.specs.Slots.{Part};
-ghost use Rattle.jf_node.specs.Children.{content, joined, FitFrom, SameElsewhere};
+ghost use Rattle.jf_node.specs.Children.{content, entries_of_children, FitFrom, SameElsewhere};
 ghost use Rattle.jf_model.specs.Parts.{IsPartUnder};
 ghost use Rattle.jf_diff.specs.OptionalNodes.{IsAtDepth};
 ghost use Rattle.jf_update.specs.Made.{Topped};
@@ -20,8 +20,8 @@ use std::alloc::Global;
 
 /// The child with the least nibble, if there is one.
 fn first_child(children: &Sixteen) -> Option<&Link>
-    ensures none { IfNone result (joined children.now ≡ []) }
-    ensures some { IfSome result (λ x. (rest : Part) × (joined children.now ≡ x.now.entries ++ rest)) }
+    ensures none { IfNone result (entries_of_children children.now ≡ []) }
+    ensures some { IfSome result (λ x. (rest : Part) × (entries_of_children children.now ≡ x.now.entries ++ rest)) }
 {
     children.know();
     for n in 0..16 {
@@ -41,8 +41,8 @@ pub(crate) fn rebuild(
 ) -> Result<Option<Link>, Memory>
     requires several { 2 ≤ length old.now.entries }
     requires children { FitFrom old.now.depth 0 made.children }
-    requires part { (path : ℕ → ℕ) × IsPartUnder old.now.depth path (joined made.children) }
-    requires kept { SameElsewhere made.changed old.now.depth old.now.entries (joined made.children) }
+    requires part { (path : ℕ → ℕ) × IsPartUnder old.now.depth path (entries_of_children made.children) }
+    requires kept { SameElsewhere made.changed old.now.depth old.now.entries (entries_of_children made.children) }
     ensures { IfOk result (λ y. Topped old.now.depth version made.children y) }
 {
     let NewChildren { children, changed } = made;
@@ -128,7 +128,7 @@ pub(crate) fn update_children(
 ) -> Result<Option<NewChildren>, Memory>
     requires depth { depth < 64 }
     requires children { FitFrom depth 0 children.now }
-    requires parts { AreParts depth (joined children.now) entries.now }
+    requires parts { AreParts depth (entries_of_children children.now) entries.now }
     requires hashed { AreValueHashes entries.now hashes.now }
     ensures { IfOk result (λ r. AreOutcome depth version children.now entries.now r) }
 {

@@ -1,7 +1,7 @@
 // What changes leave where one leaf stood, or nothing.
 ghost use Rattle.std.specs.Prelude.{◌≡◌, ◌<◌, ◌≤◌, [], ◌∷◌, true, false, length, IfNone, IfSome};
 ghost use Rattle.std.specs.Option.{option_copied};
-ghost use Rattle.jf_model.specs.Changes.{applied};
+ghost use Rattle.jf_model.specs.Changes.{entries_after_batch};
 ghost use Rattle.jf_model.specs.Puts.{puts, IsPlace, IsFirstKey};
 ghost use Rattle.jf_node.specs.Children.{content};
 ghost use Rattle.jf_update.specs.Outcomes.{AreParts, AreShort};
@@ -117,7 +117,7 @@ pub(crate) fn remainder_of<'a>(
     requires few { length (content (option_copied own)) < 2 }
     requires parts { AreParts depth (content (option_copied own)) entries.now }
     requires hashed { AreValueHashes entries.now hashes.now }
-    ensures { ShowsRemainder (content (option_copied own.entry)) (applied (content (option_copied own.entry)) entries.now) result }
+    ensures { ShowsRemainder (content (option_copied own.entry)) (entries_after_batch (content (option_copied own.entry)) entries.now) result }
 {
     let kept = kept_of(own, entries, depth);
     match first_put(entries) {
@@ -174,8 +174,8 @@ pub(crate) fn is_unchanged(
     requires few { length (content (option_copied own)) < 2 }
     requires parts { AreParts depth (content (option_copied own)) entries.now }
     requires hashed { AreValueHashes entries.now hashes.now }
-    ensures same { result ≡ true → applied (content (option_copied own.entry)) entries.now ≡ content (option_copied own.entry) }
-    ensures other { result ≡ false → ¬ (applied (content (option_copied own.entry)) entries.now ≡ content (option_copied own.entry)) }
+    ensures same { result ≡ true → entries_after_batch (content (option_copied own.entry)) entries.now ≡ content (option_copied own.entry) }
+    ensures other { result ≡ false → ¬ (entries_after_batch (content (option_copied own.entry)) entries.now ≡ content (option_copied own.entry)) }
 {
     match remainder_of(own, entries, hashes, depth) {
         Remainder::Nothing => is_vacant(own),

@@ -8,7 +8,7 @@ ghost use Rattle.jf_update.specs.ValueHashes.{AreValueHashes};
 
 use crate::hashing::value_hashes;
 use crate::top::next_top;
-use jf_diff::{Written, written};
+use jf_diff::{Written, landing_lists};
 use jf_hash::Hash;
 use jf_join::{Gate, Workers};
 use jf_node::{Snapshot, Update};
@@ -68,8 +68,8 @@ pub fn update<H: Threads + Sync, G: Gate>(
     let entries = batch.as_slice();
     let hashes = value_hashes(rt, alloc, entries, workers)?;
     let snapshot = advance(rt, alloc, head, entries, &hashes, workers, gate)?;
-    let Written { fresh, stale } = written(rt, alloc, head, &snapshot, workers, gate)?;
-    let nodes = fresh.copied(alloc)?;
+    let Written { fresh, stale } = landing_lists(rt, alloc, head, &snapshot, workers, gate)?;
+    let nodes = fresh.copy(alloc)?;
     Ok(Update {
         root: snapshot.root(),
         fresh: nodes,

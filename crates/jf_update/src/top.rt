@@ -2,7 +2,7 @@
 ghost use Rattle.std.specs.Prelude.{◌≡◌, ◌+◌, ◌<◌, ◌^◌, Option, IfOk};
 ghost use Rattle.std.specs.Option.{option_copied};
 ghost use Rattle.jf_hash.specs.Maps.{Batch};
-ghost use Rattle.jf_model.specs.Changes.{applied};
+ghost use Rattle.jf_model.specs.Changes.{entries_after_batch};
 ghost use Rattle.jf_node.specs.Children.{content};
 ghost use Rattle.jf_diff.specs.OptionalNodes.{IsAtDepth};
 ghost use Rattle.jf_update.specs.Outcomes.{AreParts};
@@ -23,13 +23,13 @@ fn renewed_top(alloc: Global, old: Option<&Link>, head: u64) -> Result<Option<Li
     requires head { head + 1 < 2 ^ 64 }
     requires old { IsAtDepth 0 (option_copied old) }
     requires newest { NoneNewer head (option_copied old) }
-    ensures { IfOk result (λ top. (bs : Batch) → applied (content (option_copied old.entry)) bs ≡ content (option_copied old.entry) → IsNextTop head (option_copied old.entry) bs top) }
+    ensures { IfOk result (λ top. (bs : Batch) → entries_after_batch (content (option_copied old.entry)) bs ≡ content (option_copied old.entry) → IsNextTop head (option_copied old.entry) bs top) }
 {
     match old {
         None => Ok(None),
         Some(link) => {
             link.know();
-            let top = link.renewed(alloc, head + 1)?;
+            let top = link.renewed_link(alloc, head + 1)?;
             top.know();
             Ok(Some(top))
         }

@@ -3,7 +3,7 @@ ghost use Rattle.std.specs.Prelude.{◌≤◌, ◌<◌, IfOk};
 ghost use Rattle.std.specs.List.{AllZip};
 ghost use Rattle.std.specs.Option.{option_copied};
 ghost use Rattle.std.specs.Thread.{IsSync};
-ghost use Rattle.jf_node.specs.Children.{content, joined, FitFrom};
+ghost use Rattle.jf_node.specs.Children.{content, entries_of_children, FitFrom};
 ghost use Rattle.jf_diff.specs.OptionalNodes.{IsAtDepth};
 ghost use Rattle.jf_update.specs.Outcomes.{AreParts, IsOutcome, AreOutcome};
 ghost use Rattle.jf_split.specs.Pieces.{ArePieces};
@@ -33,7 +33,7 @@ fn place_all(
 ) -> Result<Option<NewChildren>, Memory>
     requires depth { depth < 64 }
     requires children { FitFrom depth 0 children.now }
-    requires parts { AreParts depth (joined children.now) entries.now }
+    requires parts { AreParts depth (entries_of_children children.now) entries.now }
     requires pieces { ArePieces depth entries.now pieces.now }
     requires outcomes { AllZip (λ p r. IfOk r (IsPieceOutcome depth version children.now entries.now p)) pieces.now outcomes.items }
     ensures { IfOk result (λ r. AreOutcome depth version children.now entries.now r) }
@@ -126,14 +126,14 @@ fn update_pieces<H: Threads + Sync, G: Gate>(
 ) -> Result<Option<NewChildren>, Memory>
     requires depth { depth < 64 }
     requires children { FitFrom depth 0 children.now }
-    requires parts { AreParts depth (joined children.now) entries.now }
+    requires parts { AreParts depth (entries_of_children children.now) entries.now }
     requires hashed { AreValueHashes entries.now hashes.now }
     ensures { IfOk result (λ r. AreOutcome depth version children.now entries.now r) }
 {
     let pieces = pieces_in(alloc, entries, depth)?;
     let each = workers_each(workers, pieces.len());
     let work = |piece: &Piece| -> Result<Outcome, Memory>
-        requires { IsSync H.row × IsSync G.row × (depth < 64) × FitFrom depth 0 children.now × AreParts depth (joined children.now) entries.now × AreValueHashes entries.now hashes.now × IsPieceOf depth entries.now piece.now }
+        requires { IsSync H.row × IsSync G.row × (depth < 64) × FitFrom depth 0 children.now × AreParts depth (entries_of_children children.now) entries.now × AreValueHashes entries.now hashes.now × IsPieceOf depth entries.now piece.now }
         ensures { IfOk result (IsPieceOutcome depth version children.entry.now entries.entry.now piece.now) }
     {
         update_piece(
@@ -160,7 +160,7 @@ fn update_piece<H: Threads + Sync, G: Gate>(
 ) -> Result<Outcome, Memory>
     requires depth { depth < 64 }
     requires children { FitFrom depth 0 children.now }
-    requires parts { AreParts depth (joined children.now) entries.now }
+    requires parts { AreParts depth (entries_of_children children.now) entries.now }
     requires hashed { AreValueHashes entries.now hashes.now }
     requires piece { IsPieceOf depth entries.now piece.now }
     ensures { IfOk result (IsPieceOutcome depth version children.now entries.now piece.now) }

@@ -4,7 +4,7 @@ ghost use Rattle.std.specs.Prelude.{◌≤◌, ◌<◌, length, IfOk};
 ghost use Rattle.std.specs.List.{AllZip};
 ghost use Rattle.std.specs.Option.{option_copied};
 ghost use Rattle.std.specs.Thread.{IsSync};
-ghost use Rattle.jf_model.specs.Changes.{applied};
+ghost use Rattle.jf_model.specs.Changes.{entries_after_batch};
 ghost use Rattle.jf_node.specs.Children.{content};
 ghost use Rattle.jf_update.specs.Made.{Built, AreBuilt};
 ghost use Rattle.jf_update.specs.Outcomes.{AreParts, IsLeafOutcome};
@@ -41,8 +41,8 @@ fn place_built(
     requires parts { AreParts depth (content (option_copied own)) entries.now }
     requires hashed { AreValueHashes entries.now hashes.now }
     requires pieces { ArePieces depth entries.now pieces.now }
-    requires built { AllZip (λ p r. IfOk r (IsPieceBuilt depth version (applied (content (option_copied own)) entries.now) p)) pieces.now built.items }
-    ensures { IfOk result (λ y. AreBuilt depth version (applied (content (option_copied own.entry)) entries.now) y) }
+    requires built { AllZip (λ p r. IfOk r (IsPieceBuilt depth version (entries_after_batch (content (option_copied own)) entries.now) p)) pieces.now built.items }
+    ensures { IfOk result (λ y. AreBuilt depth version (entries_after_batch (content (option_copied own.entry)) entries.now) y) }
 {
     let mut built = built;
     let mut children = build_children(
@@ -78,7 +78,7 @@ fn build_wide<H: Threads + Sync, G: Gate>(
     requires few { length (content (option_copied own)) < 2 }
     requires parts { AreParts depth (content (option_copied own)) entries.now }
     requires hashed { AreValueHashes entries.now hashes.now }
-    ensures { IfOk result (λ y. Built depth version (applied (content (option_copied own.entry)) entries.now) y) }
+    ensures { IfOk result (λ y. Built depth version (entries_after_batch (content (option_copied own.entry)) entries.now) y) }
 {
     if workers.is_one() {
         return build(alloc, own, entries, hashes, depth, version);
@@ -120,13 +120,13 @@ fn build_pieces<H: Threads + Sync, G: Gate>(
     requires few { length (content (option_copied own)) < 2 }
     requires parts { AreParts depth (content (option_copied own)) entries.now }
     requires hashed { AreValueHashes entries.now hashes.now }
-    ensures { IfOk result (λ y. AreBuilt depth version (applied (content (option_copied own.entry)) entries.now) y) }
+    ensures { IfOk result (λ y. AreBuilt depth version (entries_after_batch (content (option_copied own.entry)) entries.now) y) }
 {
     let pieces = pieces_in(alloc, entries, depth)?;
     let each = workers_each(workers, pieces.len());
     let work = |piece: &Piece| -> Result<Option<Link>, Memory>
         requires { IsSync H.row × IsSync G.row × (depth < 64) × (length (content (option_copied own)) < 2) × AreParts depth (content (option_copied own)) entries.now × AreValueHashes entries.now hashes.now × IsPieceOf depth entries.now piece.now }
-        ensures { IfOk result (IsPieceBuilt depth version (applied (content (option_copied own.entry)) entries.entry.now) piece.now) }
+        ensures { IfOk result (IsPieceBuilt depth version (entries_after_batch (content (option_copied own.entry)) entries.entry.now) piece.now) }
     {
         build_piece(
             rt, alloc, own, piece, entries, hashes, depth, version, each, gate,
@@ -155,7 +155,7 @@ fn build_piece<H: Threads + Sync, G: Gate>(
     requires parts { AreParts depth (content (option_copied own)) entries.now }
     requires hashed { AreValueHashes entries.now hashes.now }
     requires piece { IsPieceOf depth entries.now piece.now }
-    ensures { IfOk result (IsPieceBuilt depth version (applied (content (option_copied own.entry)) entries.now) piece.now) }
+    ensures { IfOk result (IsPieceBuilt depth version (entries_after_batch (content (option_copied own.entry)) entries.now) piece.now) }
 {
     let part = &entries[piece.start..piece.end];
     let part_hashes = hashes_in(hashes, piece.start, piece.end);

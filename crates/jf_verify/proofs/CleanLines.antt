@@ -8,7 +8,7 @@ use Rattle.std.proofs.lemmas.Slice.Eq.{bytes_eq-Decides}
 use Rattle.jf_path.proofs.BoolLaws.{not_and_passes, both_pass}
 use Rattle.jf_text.specs.Words.{words, is_word, is_long, both, number, number_upto, digits_value, digit, byte_of, unhex, bytes_within, hash_of, name_of, value_of}
 use Rattle.jf_text.proofs.Plain.{is_without, is_plain-decimal}
-use Rattle.jf_blocks.specs.Reading.{max_siblings, word_after, two_after, without_number, root_line_of, count_of, first_line_of, named_of, claimed, claim_of, pair_of, leaf_line_of, side_of, line_read}
+use Rattle.jf_blocks.specs.Reading.{max_siblings, word_after, two_after, without_number, root_line_of, count_of, first_line_of, named_of, claim_of_word, claim_of, pair_of, leaf_line_of, side_of, line_read}
 use Rattle.jf_blocks.specs.declared.first.FirstLine.{FirstLine}
 use Rattle.jf_blocks.specs.declared.first.FirstLine.TheVariants as first
 use Rattle.jf_multi.specs.declared.item.Item.{Item}
@@ -145,7 +145,7 @@ claimed_clean w claim false e h = let value = map_some (λ v. Some v) (value_of 
 
 pub claim_clean : (ws : List (List ℕ)) (claim : Option (List ℕ)) → claim_of ws ≡ Some claim → AreClean ws
 claim_clean ws claim h =
-    let word = then_some claimed (word_after (codes "claim") ws) claim h in
+    let word = then_some claim_of_word (word_after (codes "claim") ws) claim h in
     word_after_clean (codes "claim") ws word.0 refl word.1 (claimed_clean word.0 claim (is_word word.0 (codes "none")) refl word.2)
 
 -- a keyword, and `none` or a key and a hash
@@ -179,7 +179,7 @@ many_clean ws head h =
 pub named_claim_clean : (ws : List (List ℕ)) (c : NamedClaim) → named_claim_of ws ≡ Some c → AreClean ws
 named_claim_clean ws c h =
     let two = then_some named_claim_from (two_after (codes "claim") ws) c h in
-    let parts = both_some (λ name claim. (name, claim)) (name_of two.0.0) (claimed two.0.1) c two.2 in
+    let parts = both_some (λ name claim. (name, claim)) (name_of two.0.0) (claim_of_word two.0.1) c two.2 in
     two_after_clean (codes "claim") ws two.0 refl two.1 (within_clean 1 128 two.0.0 parts.0 parts.2) (claimed_clean two.0.1 parts.1 (is_word two.0.1 (codes "none")) refl parts.3)
 
 lone_clean : (k : List ℕ) (ws : List (List ℕ)) → IsClean k → is_lone k ws ≡ true → AreClean ws

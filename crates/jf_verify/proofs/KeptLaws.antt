@@ -12,8 +12,8 @@ use Rattle.jf_blocks.specs.Sides.{kept_sides}
 use Rattle.jf_text.specs.Words.{line_text}
 use Rattle.jf_blocks.proofs.SideLaws.{kept_sides-deep, kept_sides-shallow}
 use Rattle.jf_verify.specs.declared.accepted.Accepted.{Accepted}
-use Rattle.jf_verify.specs.Verdicts.{contradicts, contradicted, judged, contradiction_text, refused_text}
-use Rattle.jf_verify.specs.Kept.{Subject, subject_of, claim_on, entered, Kept, nothing_kept, listed, claims_on, is_first_to_differ, with_claim, judged_by}
+use Rattle.jf_verify.specs.Verdicts.{contradicts, contradicted_claim, judgement_under, contradiction_text, refused_text}
+use Rattle.jf_verify.specs.Kept.{Subject, subject_of, claim_on, table_with_claim, Kept, nothing_kept, list_of_claim, claims_on, is_first_to_differ, with_claim, judged_by}
 use Rattle.jf_verify.proofs.Finding.{find-same, find-first, find-stays, find-alike, Passes, found-passes, find-none, find-hit}
 use Rattle.jf_verify.proofs.Subjects.{is_on, on-subject, claim_on-entered}
 use Rattle.jf_verify.proofs.Contradictions.{contradicts-on, apart, contradicts-self, contradicts-swap, alike}
@@ -33,27 +33,27 @@ unfolding claim_on
 keeps_nothing = record { firsts = λ s. refl; others = λ s. refl }
 
 -- ---- a claim that contradicts one of all
-listed-found : (a : Accepted) (claims : List Accepted) (p : Accepted → Bool) → ((x : Accepted) → contradicts a x ≡ p x) → (o : Option Accepted) → find p claims ≡ o → Passes p o → find (contradicts a) (listed o) ≡ find (contradicts a) claims
+listed-found : (a : Accepted) (claims : List Accepted) (p : Accepted → Bool) → ((x : Accepted) → contradicts a x ≡ p x) → (o : Option Accepted) → find p claims ≡ o → Passes p o → find (contradicts a) (list_of_claim o) ≡ find (contradicts a) claims
 listed-found a claims p same None is passes = sym (find-alike (contradicts a) p same claims ∙ is)
 listed-found a claims p same (Some x) is passes =
     ap (λ t. cond t (Some x) None) (same x ∙ passes) ∙ sym (find-alike (contradicts a) p same claims ∙ is)
 
 first_contradicts : (a f : Accepted) (claims : List Accepted) → find (is_on (subject_of a)) claims ≡ Some f → is_on (subject_of a) f ≡ true → (t : Bool) → contradicts a f ≡ t
-    → cond t (Some f) (find (contradicts a) (listed (find (contradicts f) claims))) ≡ find (contradicts a) claims
+    → cond t (Some f) (find (contradicts a) (list_of_claim (find (contradicts f) claims))) ≡ find (contradicts a) claims
 first_contradicts a f claims is on true e = sym (find-hit (contradicts a) (is_on (subject_of a)) (contradicts-on a) claims f is e)
 first_contradicts a f claims is on false e = listed-found a claims (contradicts f) (alike a f on e) (find (contradicts f) claims) refl (found-passes (contradicts f) claims)
 
 of_two : (a : Accepted) (claims : List Accepted) (o : Option Accepted) → find (is_on (subject_of a)) claims ≡ o → Passes (is_on (subject_of a)) o
-    → contradicted a (listed o ++ listed (differing o claims)) ≡ contradicted a claims
+    → contradicted_claim a (list_of_claim o ++ list_of_claim (differing o claims)) ≡ contradicted_claim a claims
 of_two a claims None is passes = sym (find-none (contradicts a) (is_on (subject_of a)) (contradicts-on a) claims is)
 of_two a claims (Some f) is passes = first_contradicts a f claims is passes (contradicts a f) refl
 
 -- the first claim of all that contradicts this one is one of the two that are kept on its subject
-pub contradicted-kept : (a : Accepted) (k : Kept) (claims : List Accepted) → Keeps k claims → contradicted a (claims_on k (subject_of a)) ≡ contradicted a claims
+pub contradicted-kept : (a : Accepted) (k : Kept) (claims : List Accepted) → Keeps k claims → contradicted_claim a (claims_on k (subject_of a)) ≡ contradicted_claim a claims
 contradicted-kept a k claims keeps =
     let s = subject_of a in
-    ap (λ o. contradicted a (listed o ++ listed (claim_on k.others s))) (keeps.firsts s)
-    ∙ ap (λ o. contradicted a (listed (find (is_on s) claims) ++ listed o)) (keeps.others s)
+    ap (λ o. contradicted_claim a (list_of_claim o ++ list_of_claim (claim_on k.others s))) (keeps.firsts s)
+    ∙ ap (λ o. contradicted_claim a (list_of_claim (find (is_on s) claims) ++ list_of_claim o)) (keeps.others s)
     ∙ of_two a claims (find (is_on s) claims) refl (found-passes (is_on s) claims)
 
 -- ---- one claim more
@@ -90,7 +90,7 @@ module _ (k : Kept) (claims : List Accepted) (keeps : Keeps k claims) (a : Accep
       ∙ sym (ap (λ o. differing o more) (find-first (is_on s) claims a none' on) ∙ find-same (contradicts a) claims a (contradicts-self a) ∙ quiet)
   none_differs s false off none = keeps.others s ∙ sym (elsewhere s a claims off)
 
-  as_first : find (is_on own) claims ≡ None → Keeps (record { firsts = entered k.firsts a; others = k.others }) more
+  as_first : find (is_on own) claims ≡ None → Keeps (record { firsts = table_with_claim k.firsts a; others = k.others }) more
   as_first none = record {
     firsts = λ s. claim_on-entered k.firsts a s ∙ enters_first s (is_on s a) refl none;
     others = λ s. none_differs s (is_on s a) refl none;
@@ -113,7 +113,7 @@ module _ (k : Kept) (claims : List Accepted) (keeps : Keeps k claims) (a : Accep
       sym (ap (λ o. differing o more) (find-stays (is_on s) claims a f is') ∙ find-first (contradicts f) claims a quiet (sym (contradicts-swap a f) ∙ differs))
   enters_other f is differs none s false off = keeps.others s ∙ sym (elsewhere s a claims off)
 
-  as_other : (f : Accepted) → find (is_on own) claims ≡ Some f → contradicts a f ≡ true → claim_on k.others own ≡ None → Keeps (record { firsts = k.firsts; others = entered k.others a }) more
+  as_other : (f : Accepted) → find (is_on own) claims ≡ Some f → contradicts a f ≡ true → claim_on k.others own ≡ None → Keeps (record { firsts = k.firsts; others = table_with_claim k.others a }) more
   as_other f is differs none = record {
     firsts = λ s. first_stays f is s (is_on s a) refl;
     others = λ s. claim_on-entered k.others a s ∙ enters_other f is differs none s (is_on s a) refl;
@@ -141,12 +141,12 @@ module _ (k : Kept) (claims : List Accepted) (keeps : Keeps k claims) (a : Accep
   is_none None e = refl
   is_none (Some x) e = absurd cc
 
-  by_difference : (f : Accepted) → find (is_on own) claims ≡ Some f → (t : Bool) → is_first_to_differ k a f ≡ t → Keeps (cond t (record { firsts = k.firsts; others = entered k.others a }) k) more
+  by_difference : (f : Accepted) → find (is_on own) claims ≡ Some f → (t : Bool) → is_first_to_differ k a f ≡ t → Keeps (cond t (record { firsts = k.firsts; others = table_with_claim k.others a }) k) more
   by_difference f is true e = let parts = and_parts (contradicts a f) (not (is_some (claim_on k.others own))) e in as_other f is parts.0 (is_none (claim_on k.others own) parts.1)
   by_difference f is false e = as_neither f is e
 
   by_first : (o : Option Accepted) → claim_on k.firsts own ≡ o
-      → Keeps (elim o as (λ x. Kept) [ None ↦ record { firsts = entered k.firsts a; others = k.others } | Some first ↦ cond (is_first_to_differ k a first) (record { firsts = k.firsts; others = entered k.others a }) k ]) more
+      → Keeps (elim o as (λ x. Kept) [ None ↦ record { firsts = table_with_claim k.firsts a; others = k.others } | Some first ↦ cond (is_first_to_differ k a first) (record { firsts = k.firsts; others = table_with_claim k.others a }) k ]) more
   by_first None is = as_first (sym (keeps.firsts own) ∙ is)
   by_first (Some f) is = by_difference f (sym (keeps.firsts own) ∙ is) (is_first_to_differ k a f) refl
 
@@ -195,22 +195,22 @@ judged_kept : (root : List ℕ) (claims : List Accepted) (j : Judged) (o : Optio
     → (let a : Accepted = record { root = root; judged = j } in
     elim o as (λ x. List ℕ × Kept) [
       | Some why ↦ (refused_text why, kept_claims claims)
-      | None ↦ (accepted_text ++ contradiction_text a (contradicted a (claims_on (kept_claims claims) (subject_of a))), with_claim (kept_claims claims) a)
+      | None ↦ (accepted_text ++ contradiction_text a (contradicted_claim a (claims_on (kept_claims claims) (subject_of a))), with_claim (kept_claims claims) a)
     ])
     ≡ (let a : Accepted = record { root = root; judged = j } in
     with_kept_claims (elim o as (λ x. List ℕ × List Accepted) [
       | Some why ↦ (refused_text why, claims)
-      | None ↦ (accepted_text ++ contradiction_text a (contradicted a claims), claims ++ a ∷ [])
+      | None ↦ (accepted_text ++ contradiction_text a (contradicted_claim a claims), claims ++ a ∷ [])
     ]))
 judged_kept root claims j (Some why) = refl
 judged_kept root claims j None =
     let a : Accepted = record { root = root; judged = j } in
     ap (λ o. (accepted_text ++ contradiction_text a o, with_claim (kept_claims claims) a)) (contradicted-kept a (kept_claims claims) claims (keeps-kept_claims claims))
-    ∙ ap (λ k. (accepted_text ++ contradiction_text a (contradicted a claims), k)) (sym (kept_from-more nothing_kept claims a))
+    ∙ ap (λ k. (accepted_text ++ contradiction_text a (contradicted_claim a claims), k)) (sym (kept_from-more nothing_kept claims a))
 
 -- a claim is judged by the claims that are kept as by all
-pub judged_by-kept_claims : (root : List ℕ) (claims : List Accepted) (j : Judged) → judged_by root (kept_claims claims) j ≡ with_kept_claims (judged root claims j)
-unfolding judged judged_by
+pub judged_by-kept_claims : (root : List ℕ) (claims : List Accepted) (j : Judged) → judged_by root (kept_claims claims) j ≡ with_kept_claims (judgement_under root claims j)
+unfolding judgement_under judged_by
 judged_by-kept_claims root claims j = judged_kept root claims j (refusal root j.key j.claim j.proof)
 
 -- more than 256 siblings are too many, whatever they are
@@ -218,20 +218,20 @@ refusal-deep : (root key : List ℕ) (claim : Option (List ℕ)) (proof : Proof)
 unfolding refusal
 refusal-deep root key claim proof deep = rw deep refl
 
-judged-refused : (root : List ℕ) (claims : List Accepted) (j : Judged) (why : ProofFault) → refusal root j.key j.claim j.proof ≡ Some why → judged root claims j ≡ (refused_text why, claims)
-unfolding judged
+judged-refused : (root : List ℕ) (claims : List Accepted) (j : Judged) (why : ProofFault) → refusal root j.key j.claim j.proof ≡ Some why → judgement_under root claims j ≡ (refused_text why, claims)
+unfolding judgement_under
 judged-refused root claims j why is =
     let a : Accepted = record { root = root; judged = j } in
-    ap (λ (o : Option ProofFault). elim o as (λ x. List ℕ × List Accepted) [ Some why' ↦ (refused_text why', claims) | None ↦ (accepted_text ++ contradiction_text a (contradicted a claims), claims ++ a ∷ []) ]) is
+    ap (λ (o : Option ProofFault). elim o as (λ x. List ℕ × List Accepted) [ Some why' ↦ (refused_text why', claims) | None ↦ (accepted_text ++ contradiction_text a (contradicted_claim a claims), claims ++ a ∷ []) ]) is
 
-deep_alike : (root : List ℕ) (claims : List Accepted) (j : Judged) (t : Bool) → nat_lt 256 (length j.proof.siblings) ≡ t → judged root claims (with_kept_sides j) ≡ judged root claims j
+deep_alike : (root : List ℕ) (claims : List Accepted) (j : Judged) (t : Bool) → nat_lt 256 (length j.proof.siblings) ≡ t → judgement_under root claims (with_kept_sides j) ≡ judgement_under root claims j
 deep_alike root claims j true deep =
     let kept : Judged = with_kept_sides j in
     judged-refused root claims kept fault.TooDeep (refusal-deep root j.key j.claim kept.proof (kept_sides-deep j.proof.siblings deep))
     ∙ sym (judged-refused root claims j fault.TooDeep (refusal-deep root j.key j.claim j.proof deep))
 deep_alike root claims j false shallow =
-    ap (λ ss. judged root claims (record { key = j.key; claim = j.claim; proof = record { leaf = j.proof.leaf; siblings = ss } })) (kept_sides-shallow j.proof.siblings shallow)
+    ap (λ ss. judgement_under root claims (record { key = j.key; claim = j.claim; proof = record { leaf = j.proof.leaf; siblings = ss } })) (kept_sides-shallow j.proof.siblings shallow)
 
 -- a claim is judged by the siblings that are kept as by all
-pub judged-kept_sides : (root : List ℕ) (claims : List Accepted) (j : Judged) → judged root claims (with_kept_sides j) ≡ judged root claims j
+pub judged-kept_sides : (root : List ℕ) (claims : List Accepted) (j : Judged) → judgement_under root claims (with_kept_sides j) ≡ judgement_under root claims j
 judged-kept_sides root claims j = deep_alike root claims j (nat_lt 256 (length j.proof.siblings)) refl

@@ -9,7 +9,7 @@ use Rattle.jf_many_blocks.proofs.ManyBounds.{many_body-bounded}
 use Rattle.jf_verify.specs.Openings.{opening_of}
 use Rattle.jf_verify.specs.declared.opening.Opening.{Opening}
 use Rattle.jf_verify.specs.declared.opening.Opening.TheVariants as opening
-use Rattle.jf_verify.specs.Steps.{said_to_end, keeps, no_match, line_step, begins, many_begins, first_step, StreamState, begun}
+use Rattle.jf_verify.specs.Steps.{said_to_end, keeps, no_match, line_step, begins, many_begins, first_step, StreamState, first_stream_state}
 use Rattle.jf_verify.specs.Verdicts.{Said, Judging, say_block, say_many, wrong_at, verdicts_from, say, verdicts, nothing_known}
 use Rattle.jf_verify.specs.Laws.{VerdictsComeLineByLine}
 use Rattle.jf_verify.specs.declared.stage.Stage.TheVariants as stage
@@ -69,7 +69,7 @@ unfolding verdicts kept_from
 verdicts-rest input = verdicts_from-said_to_end (length (lines input)) nothing_known 1 (lines input) (omega arith)
 
 -- after the last line all verdicts are written
-pub all_read : (before written text : List ℕ) (start : ℕ) (s : StreamState) → length text ≤ start → written ++ said_to_end s (lines (drop start text)) ≡ before ++ said_to_end begun (lines text)
+pub all_read : (before written text : List ℕ) (start : ℕ) (s : StreamState) → length text ≤ start → written ++ said_to_end s (lines (drop start text)) ≡ before ++ said_to_end first_stream_state (lines text)
     → written ++ said_to_end s [] ≡ before ++ verdicts text
 unfolding lines
 all_read before written text start s past so_far =

@@ -2,7 +2,7 @@
 use Rattle.std.proofs.Common.{ℕ, ◌+◌, List, ◌++◌, ◌≡◌, drop, ◌-◌, ◌∷◌, ap, ◌∙◌, arith, sym, [], Option, Some, None, Ok, Err, refl, suc, ◌==◌, false}
 use Rattle.std.proofs.lemmas.Bool.Decides.{nat_tests}
 use Rattle.std.proofs.lemmas.List.{drop-drop, append-nil, append_assoc}
-use Rattle.jf_blocks.specs.Reading.{Place, Read, and_then, matched, line_read, line_by, gives}
+use Rattle.jf_blocks.specs.Reading.{Place, Read, and_then, one_line_read, line_read, line_by, gives}
 use Rattle.jf_verify.specs.Steps.{Knowledge, StreamStep, said_to_end, keeps, no_match, line_step, end_text}
 use Rattle.jf_verify.specs.Verdicts.{Said, Judging, wrong_at, syntax_text}
 use Rattle.jf_verify.specs.declared.stage.Stage.{Stage}
@@ -57,7 +57,7 @@ module _ {Y : Type 0} (answer : Read Y → List ℕ) (j : Judging) (p : Place) (
   by_line f more step s at [] follows ends steps none some = ends ∙ sym (wrong_ends j p at follows) ∙ sym (wrong at)
   by_line f more step s at (line ∷ ls) follows ends steps none some =
       ap (λ a. goes a at ls) (steps line)
-      ∙ elim (line_read f line) as (λ o. goes (step o) at ls ≡ answer (and_then (matched at ls o) more)) [
+      ∙ elim (line_read f line) as (λ o. goes (step o) at ls ≡ answer (and_then (one_line_read at ls o) more)) [
         | None ↦ ap (λ a. goes a at ls) none ∙ sym (wrong_goes_on j p at line ls follows) ∙ sym (wrong at)
         | Some x ↦ some x ls (follows_more p at line ls follows)
       ]

@@ -2,7 +2,7 @@
 use Rattle.std.proofs.Common.{◌≡◌, ◌==◌, ℕ, ◌+◌, append_assoc, Bool, true, false, cond, List, [], ◌∷◌, ◌++◌, map, length, nat_lt, Option, None, refl, sym, ap, ◌∙◌, suc, zero}
 use Rattle.std.specs.List.{AllByRecursion}
 use Rattle.jf_path.proofs.BoolLaws.{not_and_passes}
-use Rattle.jf_io.specs.Inputs.{IsPlain, ended}
+use Rattle.jf_io.specs.Inputs.{IsPlain, text_of_lines}
 use Rattle.jf_io.specs.Lines.{lines}
 use Rattle.jf_io.proofs.EndedLines.{lines_front}
 use Rattle.jf_text.specs.Words.{words, is_long}
@@ -10,7 +10,7 @@ use Rattle.jf_text.proofs.Plain.{is_without}
 use Rattle.jf_blocks.specs.Reading.{named_of, claim_of, leaf_line_of, side_of, line_read}
 use Rattle.jf_many_blocks.specs.ManyReading.{named_claim_of, item_of}
 use Rattle.jf_verify.specs.Openings.{opening_of}
-use Rattle.jf_verify.specs.Steps.{Knowledge, StreamState, StreamStep, line_step, said, after_line, said_to_end, begun, first_step, keeps, name_turn, claim_turn, leaf_step, side_step, many_claim_turn, many_item_turn}
+use Rattle.jf_verify.specs.Steps.{Knowledge, StreamState, StreamStep, line_step, text_for_line, after_line, said_to_end, first_stream_state, first_step, keeps, name_turn, claim_turn, leaf_step, side_step, many_claim_turn, many_item_turn}
 use Rattle.jf_verify.specs.Streams.{after_lines, said_all, answers_of}
 use Rattle.jf_verify.specs.Verdicts.{verdicts}
 use Rattle.jf_verify.specs.declared.stage.Stage.{Stage}
@@ -80,7 +80,7 @@ alike_by at j s line false e = stands_in at j s line e
 step_alike : (s : StreamState) (line : List ℕ) → line_step s.at s.known s.stage (plain_for line) ≡ line_step s.at s.known s.stage line
 step_alike s line = alike_by s.at s.known s.stage line (is_without 10 line) refl
 
-said_alike : (s : StreamState) (line : List ℕ) → said s (plain_for line) ≡ said s line
+said_alike : (s : StreamState) (line : List ℕ) → text_for_line s (plain_for line) ≡ text_for_line s line
 said_alike s line = ap (λ (a : StreamStep). a.text) (step_alike s line)
 
 after_alike : (s : StreamState) (line : List ℕ) → after_line s (plain_for line) ≡ after_line s line
@@ -92,15 +92,15 @@ answers_alike s [] = refl
 answers_alike s (line ∷ ls) =
     let more = map plain_for ls in
     ap (λ t. (t ++ said_all (after_line s (plain_for line)) more) ++ said_to_end (after_lines (after_line s (plain_for line)) more) []) (said_alike s line)
-    ∙ ap (λ (n : StreamState). (said s line ++ said_all n more) ++ said_to_end (after_lines n more) []) (after_alike s line)
-    ∙ append_assoc (said s line) (said_all (after_line s line) more) (said_to_end (after_lines (after_line s line) more) [])
-    ∙ ap (λ t. said s line ++ t) (answers_alike (after_line s line) ls)
-    ∙ sym (append_assoc (said s line) (said_all (after_line s line) ls) (said_to_end (after_lines (after_line s line) ls) []))
+    ∙ ap (λ (n : StreamState). (text_for_line s line ++ said_all n more) ++ said_to_end (after_lines n more) []) (after_alike s line)
+    ∙ append_assoc (text_for_line s line) (said_all (after_line s line) more) (said_to_end (after_lines (after_line s line) more) [])
+    ∙ ap (λ t. text_for_line s line ++ t) (answers_alike (after_line s line) ls)
+    ∙ sym (append_assoc (text_for_line s line) (said_all (after_line s line) ls) (said_to_end (after_lines (after_line s line) ls) []))
 
 -- an input with the verdicts that these lines get
 pub input_for : List (List ℕ) → List ℕ
-input_for ls = ended (map plain_for ls) ++ []
+input_for ls = text_of_lines (map plain_for ls) ++ []
 
-pub verdicts-input_for : (ls : List (List ℕ)) → verdicts (input_for ls) ≡ answers_of ls ++ said_to_end (after_lines begun ls) []
+pub verdicts-input_for : (ls : List (List ℕ)) → verdicts (input_for ls) ≡ answers_of ls ++ said_to_end (after_lines first_stream_state ls) []
 unfolding lines input_for
-verdicts-input_for ls = verdicts-append (input_for ls) (map plain_for ls) [] (lines_front (map plain_for ls) [] (all_plain ls)) ∙ answers_alike begun ls
+verdicts-input_for ls = verdicts-append (input_for ls) (map plain_for ls) [] (lines_front (map plain_for ls) [] (all_plain ls)) ∙ answers_alike first_stream_state ls

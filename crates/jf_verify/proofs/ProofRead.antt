@@ -7,8 +7,8 @@ use Rattle.jf_blocks.specs.Reading.{Place, Read, Block, and_then, line_by, gives
 use Rattle.jf_blocks.specs.Sides.{kept_sides}
 use Rattle.jf_blocks.proofs.SideLaws.{with_kept-kept_sides}
 use Rattle.jf_verify.specs.Kept.{Kept, judged_by}
-use Rattle.jf_verify.specs.Steps.{with_side, said_to_end, keeps, line_step, silent, whole, sided, side_step, name_turn, claim_turn, leaf_step}
-use Rattle.jf_verify.specs.Verdicts.{judged, Judging, say_block}
+use Rattle.jf_verify.specs.Steps.{with_side, said_to_end, keeps, line_step, silent, whole, step_of_block, side_step, name_turn, claim_turn, leaf_step}
+use Rattle.jf_verify.specs.Verdicts.{judgement_under, Judging, say_block}
 use Rattle.jf_verify.specs.declared.stage.Heading.{Heading}
 use Rattle.jf_verify.specs.declared.stage.Stage.TheVariants as stage
 use Rattle.jf_verify.proofs.KeptLaws.{kept_claims, with_kept_claims, judged_by-kept_claims, judged-kept_sides}
@@ -43,12 +43,12 @@ module _ (root name : List ℕ) (claim : Option (List ℕ)) (leaf : Option (List
   whole_judged : (siblings : List (List ℕ)) (at : ℕ) (ls : List (List ℕ))
       → goes (whole (knowledge_of j) root (part siblings)) at ls ≡ answered root j p (block_read siblings (record { at = at + 1; left = ls }))
   whole_judged siblings at ls =
-      let same : judged_by root (kept_claims j.claims) (part siblings) ≡ with_kept_claims (judged root j.claims (block siblings)) =
+      let same : judged_by root (kept_claims j.claims) (part siblings) ≡ with_kept_claims (judgement_under root j.claims (block siblings)) =
       judged_by-kept_claims root j.claims (part siblings) ∙ ap with_kept_claims (judged-kept_sides root j.claims (block siblings)) in
       ap (λ (v : List ℕ × Kept). v.0 ++ said_to_end (record { at = at + 1; known = record { root = j.root; kept = v.1 }; stage = stage.Between }) ls) same
 
   sides_read : (n : ℕ) (siblings : List (List ℕ)) (at : ℕ) (ls : List (List ℕ)) → IsPlaceAfter p (at + 1) ls
-      → goes (sided (knowledge_of j) (heading_with n) (part siblings)) at ls
+      → goes (step_of_block (knowledge_of j) (heading_with n) (part siblings)) at ls
       ≡ answered root j p (and_then (lines_by side_of n (record { at = at + 1; left = ls })) (λ more t. block_read (siblings ++ more) t))
   unfolding lines_by line_step
   sides_read zero siblings at ls follows =
@@ -60,8 +60,8 @@ module _ (root name : List ℕ) (claim : Option (List ℕ)) (leaf : Option (List
       ∙ by_line (answered root j p) j p (λ e. refl) side_of (λ h q. and_then (lines_by side_of m q) (λ more t. block_read ((siblings ++ h ∷ []) ++ more) t))
       (side_step (at + 1) (knowledge_of j) (heading_with (suc m)) (part siblings)) (stage.Sides (heading_with (suc m)) (part siblings)) (at + 1) ls follows refl (λ line. refl) refl
       (λ h more further.
-      ap (λ b. goes (sided (knowledge_of j) (heading_with (suc m - 1)) b) (at + 1) more) (side_kept siblings h)
-      ∙ ap (λ n. goes (sided (knowledge_of j) (heading_with n) (part (siblings ++ h ∷ []))) (at + 1) more) one_less
+      ap (λ b. goes (step_of_block (knowledge_of j) (heading_with (suc m - 1)) b) (at + 1) more) (side_kept siblings h)
+      ∙ ap (λ n. goes (step_of_block (knowledge_of j) (heading_with n) (part (siblings ++ h ∷ []))) (at + 1) more) one_less
       ∙ sides_read m (siblings ++ h ∷ []) (at + 1) more further)
       ∙ ap (answered root j p) (lines_by-after (line_by side_of (record { at = at + 1; left = ls })) (lines_by side_of m) block_read siblings)
 

@@ -4,16 +4,16 @@ use Rattle.std.proofs.lemmas.List.{append_assoc}
 use Rattle.jf_text.specs.Words.{is_long}
 use Rattle.jf_input.specs.Feeds.{given_of}
 use Rattle.jf_input.proofs.Given.{given_alike}
-use Rattle.jf_verify.specs.Steps.{Knowledge, StreamState, said, after_line, said_to_end, line_step, StreamStep}
+use Rattle.jf_verify.specs.Steps.{Knowledge, StreamState, text_for_line, after_line, said_to_end, line_step, StreamStep}
 use Rattle.jf_verify.specs.declared.stage.Stage.{Stage}
 use Rattle.jf_verify.specs.Laws.{LongLinesAreAlike}
 use Rattle.jf_verify.specs.declared.stage.Stage.TheVariants as stage
 
 -- the text written and the text still to come are together the same before a line and after it
-pub said_to_end-in_turn : (before written : List ℕ) (s next : StreamState) (line : List ℕ) (ls : List (List ℕ)) → written ≡ before ++ said s line → next ≡ after_line s line
+pub said_to_end-in_turn : (before written : List ℕ) (s next : StreamState) (line : List ℕ) (ls : List (List ℕ)) → written ≡ before ++ text_for_line s line → next ≡ after_line s line
     → written ++ said_to_end next ls ≡ before ++ said_to_end s (line ∷ ls)
 unfolding said_to_end
-said_to_end-in_turn before written s next line ls e is = rw (e, is) (append_assoc before (said s line) (said_to_end (after_line s line) ls))
+said_to_end-in_turn before written s next line ls e is = rw (e, is) (append_assoc before (text_for_line s line) (said_to_end (after_line s line) ls))
 
 -- all long lines make the same step
 pub long-alike : (at : ℕ) (j : Knowledge) (s : Stage) (line other : List ℕ) → is_long line ≡ true → is_long other ≡ true → line_step at j s line ≡ line_step at j s other
@@ -32,7 +32,7 @@ said_to_end-long s line other ls long too =
     ap (λ a. a.text ++ said_to_end (record { at = s.at + 1; known = a.known; stage = a.stage }) ls) (long-alike s.at s.known s.stage line other long too)
 
 -- what a line is given stands for the whole of it
-pub takes-given : (s next : StreamState) (line t : List ℕ) → next ≡ after_line s (given_of line) → t ≡ said s (given_of line) → (next ≡ after_line s line) × (t ≡ said s line)
+pub takes-given : (s next : StreamState) (line t : List ℕ) → next ≡ after_line s (given_of line) → t ≡ text_for_line s (given_of line) → (next ≡ after_line s line) × (t ≡ text_for_line s line)
 takes-given s next line t is said_is =
     let same = given_alike (line_step s.at s.known s.stage) (long-alike s.at s.known s.stage) line in
     (is ∙ ap (λ (a : StreamStep). let x : StreamState = record { at = s.at + 1; known = a.known; stage = a.stage } in x) same, said_is ∙ ap (λ (a : StreamStep). a.text) same)

@@ -10,7 +10,7 @@ use Rattle.std.proofs.lemmas.Bool.{and_parts}
 use Rattle.std.proofs.lemmas.Map.Text.{is_eq-slice_cmp}
 use Rattle.std.proofs.lemmas.Slice.Eq.{bytes_eq-Decides}
 use Rattle.jf_verify.specs.declared.accepted.Accepted.{Accepted}
-use Rattle.jf_verify.specs.Kept.{Subject, subject_cmp, subject_of, Table, claim_on, entered}
+use Rattle.jf_verify.specs.Kept.{Subject, subject_cmp, subject_of, Table, claim_on, table_with_claim}
 
 -- ---- subjects
 -- whether a claim is on a subject
@@ -85,6 +85,6 @@ module _ (k : Subject) (v : Accepted) (q : Subject) where
   lookup-inserted (e ∷ es) = at_entry e es (subject_cmp k e.0) refl (lookup-inserted es)
 
 -- on each subject a table has its old claim, but for the one that was entered
-pub claim_on-entered : (table : Table) (a : Accepted) (s : Subject) → claim_on (entered table a) s ≡ cond (is_on s a) (Some a) (claim_on table s)
-unfolding claim_on entered
+pub claim_on-entered : (table : Table) (a : Accepted) (s : Subject) → claim_on (table_with_claim table a) s ≡ cond (is_on s a) (Some a) (claim_on table s)
+unfolding claim_on table_with_claim
 claim_on-entered table a s = lookup-inserted (subject_of a) a s table ∙ ap (λ t. cond t (Some a) (lookup (is_at (subject_cmp s)) table)) (is_at-parts (subject_of a) s)

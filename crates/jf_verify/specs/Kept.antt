@@ -8,7 +8,7 @@ use Rattle.std.specs.declared.cmp.Ordering.{Ordering}
 use Rattle.jf_evidence.specs.Proofs.{refusal}
 use Rattle.jf_collide.specs.declared.judged.Judged.{Judged}
 use Rattle.jf_text.specs.Words.{line_text}
-use Rattle.jf_verify.specs.Verdicts.{refused_text, contradicts, contradicted, contradiction_text}
+use Rattle.jf_verify.specs.Verdicts.{refused_text, contradicts, contradicted_claim, contradiction_text}
 use Rattle.jf_verify.specs.declared.accepted.Accepted.{Accepted}
 
 -- ---- what claims are on
@@ -33,8 +33,8 @@ unfoldable pub claim_on : Table → Subject → Option Accepted
 claim_on table s = lookup (is_at (subject_cmp s)) table
 
 -- the table with this claim on its subject
-unfoldable pub entered : Table → Accepted → Table
-entered table a = insert_entry subject_cmp table (subject_of a) a
+unfoldable pub table_with_claim : Table → Accepted → Table
+table_with_claim table a = insert_entry subject_cmp table (subject_of a) a
 
 -- ---- at most two claims on a subject
 -- the claims that are kept
@@ -49,13 +49,13 @@ abbrev pub nothing_kept : Kept
 nothing_kept = record { firsts = []; others = [] }
 
 -- a claim, if there is one, as a list
-abbrev pub listed : Option Accepted → List Accepted
-listed None = []
-listed (Some a) = a ∷ []
+abbrev pub list_of_claim : Option Accepted → List Accepted
+list_of_claim None = []
+list_of_claim (Some a) = a ∷ []
 
 -- the claims on a subject: the first, and the first that differs from it
 abbrev pub claims_on : Kept → Subject → List Accepted
-claims_on k s = listed (claim_on k.firsts s) ++ listed (claim_on k.others s)
+claims_on k s = list_of_claim (claim_on k.firsts s) ++ list_of_claim (claim_on k.others s)
 
 -- whether a claim is the first on its subject that differs from the first one
 abbrev pub is_first_to_differ : Kept → Accepted → Accepted → Bool
@@ -65,8 +65,8 @@ is_first_to_differ k a first = contradicts a first && not (is_some (claim_on k.o
 abbrev pub with_claim : Kept → Accepted → Kept
 with_claim k a =
     elim (claim_on k.firsts (subject_of a)) [
-      | None ↦ record { firsts = entered k.firsts a; others = k.others }
-      | Some first ↦ if is_first_to_differ k a first then record { firsts = k.firsts; others = entered k.others a } else k
+      | None ↦ record { firsts = table_with_claim k.firsts a; others = k.others }
+      | Some first ↦ if is_first_to_differ k a first then record { firsts = k.firsts; others = table_with_claim k.others a } else k
     ]
 
 -- what a claim is answered under a root, and what is kept after it
@@ -75,5 +75,5 @@ judged_by root kept j =
     let a : Accepted = record { root = root; judged = j } in
     elim (refusal root j.key j.claim j.proof) [
       | Some why ↦ (refused_text why, kept)
-      | None ↦ (line_text (codes "accepted" ∷ []) ++ contradiction_text a (contradicted a (claims_on kept (subject_of a))), with_claim kept a)
+      | None ↦ (line_text (codes "accepted" ∷ []) ++ contradiction_text a (contradicted_claim a (claims_on kept (subject_of a))), with_claim kept a)
     ]

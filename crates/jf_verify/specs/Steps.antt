@@ -36,8 +36,8 @@ pub record StreamState : Type 0 where
   pub stage : Stage
 
 -- nothing is read yet
-abbrev pub begun : StreamState
-begun = record { at = 1; known = no_knowledge; stage = stage.Between }
+abbrev pub first_stream_state : StreamState
+first_stream_state = record { at = 1; known = no_knowledge; stage = stage.Between }
 
 -- the text that answers a line, and after the line what is known and how far a block is read
 pub record StreamStep : Type 0 where
@@ -136,13 +136,13 @@ abbrev pub whole : Knowledge → List ℕ → Judged → StreamStep
 whole j root block = let a = judged_by root j.kept block in record { text = a.0; known = record { root = j.root; kept = a.1 }; stage = stage.Between }
 
 -- what was read of a block: it is whole if no sibling is missing
-abbrev pub sided : Knowledge → Heading → Judged → StreamStep
-sided j heading block = if heading.missing == 0 then whole j heading.root block else keeps j (silent (stage.Sides heading block))
+abbrev pub step_of_block : Knowledge → Heading → Judged → StreamStep
+step_of_block j heading block = if heading.missing == 0 then whole j heading.root block else keeps j (silent (stage.Sides heading block))
 
 -- the line of a leaf
 abbrev pub leaf_step : ℕ → Knowledge → Heading → List ℕ → Option (List ℕ) → Option (Option (List ℕ × List ℕ)) → StreamStep
 leaf_step at j heading key claim None = keeps j (no_match at)
-leaf_step at j heading key claim (Some leaf) = sided j heading (record { key = key; claim = claim; proof = record { leaf = leaf; siblings = [] } })
+leaf_step at j heading key claim (Some leaf) = step_of_block j heading (record { key = key; claim = claim; proof = record { leaf = leaf; siblings = [] } })
 
 -- one sibling more; of more than 256 the first 257 are kept
 abbrev pub with_side : Judged → List ℕ → Judged
@@ -155,7 +155,7 @@ one_less heading = record { root = heading.root; missing = heading.missing - 1 }
 -- the line of a sibling
 abbrev pub side_step : ℕ → Knowledge → Heading → Judged → Option (List ℕ) → StreamStep
 side_step at j heading block None = keeps j (no_match at)
-side_step at j heading block (Some h) = sided j (one_less heading) (with_side block h)
+side_step at j heading block (Some h) = step_of_block j (one_less heading) (with_side block h)
 
 -- what a line makes, by how far a block is read
 unfoldable pub line_step : ℕ → Knowledge → Stage → List ℕ → StreamStep
@@ -168,8 +168,8 @@ line_step at j (stage.ManyClaims heading claims) line = keeps j (many_claim_turn
 line_step at j (stage.ManyItems heading claims items) line = keeps j (many_item_turn at heading claims items (line_read item_of line))
 
 -- the text that answers one line
-abbrev pub said : StreamState → List ℕ → List ℕ
-said s line = (line_step s.at s.known s.stage line).text
+abbrev pub text_for_line : StreamState → List ℕ → List ℕ
+text_for_line s line = (line_step s.at s.known s.stage line).text
 
 -- what is known after one line
 abbrev pub after_line : StreamState → List ℕ → StreamState
@@ -188,12 +188,12 @@ end_text at (stage.ManyItems heading claims items) = syntax_text at
 -- the text that answers the lines still to come
 unfoldable pub said_to_end : StreamState → List (List ℕ) → List ℕ
 said_to_end s [] = end_text s.at s.stage
-said_to_end s (line ∷ ls) = said s line ++ said_to_end (after_line s line) ls
+said_to_end s (line ∷ ls) = text_for_line s line ++ said_to_end (after_line s line) ls
 
 -- ---- a machine that takes lines
 -- what a line makes of it and adds; after a refusal nothing is known of it
 abbrev pub JudgesLine : {F : Type 0} → StreamState → List ℕ → StreamState → Result (List ℕ) F → Type 0
-JudgesLine s line next (Ok text) = (next ≡ after_line s line) × (text ≡ said s line)
+JudgesLine s line next (Ok text) = (next ≡ after_line s line) × (text ≡ text_for_line s line)
 JudgesLine s line next (Err why) = Unit {0}
 
 -- what the end adds

@@ -68,8 +68,8 @@ abbrev pub contradicts : Accepted → Accepted → Bool
 contradicts a b = bytes_eq b.root a.root && bytes_eq b.judged.key a.judged.key && not (same_claim b.judged.claim a.judged.claim)
 
 -- the first accepted claim that contradicts this one
-abbrev pub contradicted : Accepted → List Accepted → Option Accepted
-contradicted a claims = find (contradicts a) claims
+abbrev pub contradicted_claim : Accepted → List Accepted → Option Accepted
+contradicted_claim a claims = find (contradicts a) claims
 
 -- the line `collision` with two lists of bytes, or nothing
 abbrev pub collision_text : Option (List ℕ × List ℕ) → List ℕ
@@ -86,12 +86,12 @@ abbrev pub judged_of : Block → Judged
 judged_of block = record { key = K block.0; claim = block.1; proof = block.2 }
 
 -- what a claim is answered under a root, and the accepted claims after it
-unfoldable pub judged : List ℕ → List Accepted → Judged → List ℕ × List Accepted
-judged root claims j =
+unfoldable pub judgement_under : List ℕ → List Accepted → Judged → List ℕ × List Accepted
+judgement_under root claims j =
     let a : Accepted = record { root = root; judged = j } in
     elim (refusal root j.key j.claim j.proof) [
       | Some why ↦ (refused_text why, claims)
-      | None ↦ (line_text (codes "accepted" ∷ []) ++ contradiction_text a (contradicted a claims), claims ++ a ∷ [])
+      | None ↦ (line_text (codes "accepted" ∷ []) ++ contradiction_text a (contradicted_claim a claims), claims ++ a ∷ [])
     ]
 
 -- ---- what comes next
@@ -116,7 +116,7 @@ wrong_at at j p = record { text = syntax_text at; known = j; place = place_after
 -- a proof block was read and is judged, or one of its lines doesn't match
 abbrev pub say_block : List ℕ → Judging → Place → Read Block → Said
 say_block root j p (Err at) = wrong_at at j p
-say_block root j p (Ok b) = let a = judged root j.claims (judged_of b.0) in record { text = a.0; known = record { root = j.root; claims = a.1 }; place = b.1 }
+say_block root j p (Ok b) = let a = judgement_under root j.claims (judged_of b.0) in record { text = a.0; known = record { root = j.root; claims = a.1 }; place = b.1 }
 
 -- a block of many claims was read and is judged, or one of its lines doesn't match. Its claims are not among the accepted ones after it
 abbrev pub say_many : List ℕ → Judging → Place → Read ManyBlock → Said

@@ -4,7 +4,7 @@ ghost use Rattle.std.specs.Prelude.{◌≡◌, true, IfSome, OnOk};
 ghost use Rattle.std.specs.Option.{option_copied};
 ghost use Rattle.jf_verify.specs.Accepted.{IsAccepted};
 ghost use Rattle.jf_verify.specs.Kept.{nothing_kept, claims_on, is_first_to_differ, subject_of, with_claim};
-ghost use Rattle.jf_verify.specs.Verdicts.{contradicts, contradicted};
+ghost use Rattle.jf_verify.specs.Verdicts.{contradicts, contradicted_claim};
 
 use crate::accepted::Accepted;
 use crate::contradiction::contradicts;
@@ -40,8 +40,8 @@ impl KeptClaims {
     }
 
     /// The first kept claim that contradicts this one.
-    pub fn contradicted(&self, claim: &Accepted) -> Option<&Accepted>
-        ensures found { option_copied result ≡ contradicted claim.now (claims_on self.now (subject_of claim.now)) }
+    pub fn contradicted_claim(&self, claim: &Accepted) -> Option<&Accepted>
+        ensures found { option_copied result ≡ contradicted_claim claim.now (claims_on self.now (subject_of claim.now)) }
         ensures accepted { IfSome result (λ other. IsAccepted other.now) }
         ensures contradicts { IfSome result (λ other. contradicts claim.now other.now ≡ true) }
     {

@@ -1,7 +1,7 @@
 // What one line more makes of a judge, by how far the present block is read.
 ghost use Rattle.jf_blocks.specs.Reading.{line_read, named_of, claim_of};
 ghost use Rattle.jf_verify.specs.Openings.{opening_of};
-ghost use Rattle.jf_verify.specs.Steps.{IsMade, IsTaken, begins, first_step, name_turn, claim_turn, sided, with_side, one_less, line_step};
+ghost use Rattle.jf_verify.specs.Steps.{IsMade, IsTaken, begins, first_step, name_turn, claim_turn, step_of_block, with_side, one_less, line_step};
 
 use crate::known::Known;
 use crate::many_reading::{begin_many, many_claim, many_item};
@@ -127,7 +127,7 @@ fn side(
     sibling: Hash,
     out: &mut Bytes,
 ) -> Result<Stage, Memory>
-    ensures { IsMade (sided known.old (one_less heading) (with_side judged sibling)) result out.old out.new known.new }
+    ensures { IsMade (step_of_block known.old (one_less heading) (with_side judged sibling)) result out.old out.new known.new }
 {
     let mut judged = judged;
     keep_side(&mut judged.proof.siblings, sibling)?;
@@ -144,7 +144,7 @@ fn go_on(
     judged: Judged,
     out: &mut Bytes,
 ) -> Result<Stage, Memory>
-    ensures { IsMade (sided known.old heading judged) result out.old out.new known.new }
+    ensures { IsMade (step_of_block known.old heading judged) result out.old out.new known.new }
 {
     if heading.missing > 0 {
         return Ok(Stage::Sides(heading, judged));

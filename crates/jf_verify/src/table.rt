@@ -2,7 +2,7 @@
 ghost use Rattle.std.specs.Prelude.{◌≡◌, [], IfSome, OnOk};
 ghost use Rattle.std.specs.Option.{option_copied};
 ghost use Rattle.jf_verify.specs.Accepted.{IsAccepted};
-ghost use Rattle.jf_verify.specs.Kept.{claim_on, entered};
+ghost use Rattle.jf_verify.specs.Kept.{claim_on, table_with_claim};
 
 use crate::accepted::Accepted;
 use jf_hash::Hash;
@@ -48,10 +48,10 @@ impl ClaimTable {
     }
 
     /// Enters a claim on its root and key. If memory runs out, the table is unchanged.
-    #[tactic(auto, unfolding(crate::specs::Kept::entered))]
+    #[tactic(auto, unfolding(crate::specs::Kept::table_with_claim))]
     pub fn enter(&mut self, claim: Accepted) -> Result<(), Memory>
         requires { IsAccepted claim }
-        ensures { OnOk result (self.new ≡ entered self.old claim) }
+        ensures { OnOk result (self.new ≡ table_with_claim self.old claim) }
     {
         let root = claim.root;
         let key = claim.judged.key;

@@ -4,11 +4,11 @@ use Rattle.std.proofs.Math.Nat.{mul-le-mul_left}
 use Rattle.std.proofs.lemmas.Bool.{cases_lt}
 use Rattle.jf_hash.specs.Slots.{with_nibble, Part, from_nibble}
 use Rattle.jf_hash.specs.Maps.{Batch}
-use Rattle.jf_model.specs.Walk.{each_from, differs, listed}
+use Rattle.jf_model.specs.Walk.{each_from, differs, list_of_new_nodes}
 use Rattle.jf_model.specs.Parts.{IsPartUnder}
 use Rattle.jf_model.specs.Nodes.{Path}
 use Rattle.jf_model.specs.ChildEntries.{child_entries}
-use Rattle.jf_model.specs.Changes.{applied}
+use Rattle.jf_model.specs.Changes.{entries_after_batch}
 use Rattle.jf_model.proofs.ChangeLaws.{applied-none}
 use Rattle.jf_walk.proofs.PartLaws.{from_nibble-split, from_nibble-past, from_nibble-zero, stepped, IsPartUnder-with_nibble, deeper}
 use Rattle.jf_walk.proofs.ChildEntryLaws.{child_entries-few, child_entries-many}
@@ -61,19 +61,19 @@ module _ {X : Type 0} where
   cond-le false xs n h = omega arith
 
   -- over at most one old entry, the new nodes are within that bound
-  bound_few : (l d : ℕ) (path : ℕ → ℕ) (old es : Part) (f : Path → X) → l + d ≡ 64 → length old < 2 → IsPartUnder d path es → length (listed l d old es f) ≤ few_bound (l + 1) (length es)
-  unfolding listed few_bound
+  bound_few : (l d : ℕ) (path : ℕ → ℕ) (old es : Part) (f : Path → X) → l + d ≡ 64 → length old < 2 → IsPartUnder d path es → length (list_of_new_nodes l d old es f) ≤ few_bound (l + 1) (length es)
+  unfolding list_of_new_nodes few_bound
   bound_few zero d path old [] f deep few part = omega arith
   bound_few zero d path old (e ∷ []) f deep few part = cond-le (differs old (e ∷ [])) (f [] ∷ []) _ (omega arith)
   bound_few zero d path old (e ∷ e' ∷ es) f deep few part = absurd (let s = deeper d path (e ∷ e' ∷ es) part (omega arith) in omega arith)
   bound_few (suc l) d path old [] f deep few part = omega arith
   bound_few (suc l) d path old (e ∷ []) f deep few part =
-      let g : ℕ → List X = λ n. listed l (d + 1) (child_entries d n old) [] (λ p. f (n ∷ p)) in
+      let g : ℕ → List X = λ n. list_of_new_nodes l (d + 1) (child_entries d n old) [] (λ p. f (n ∷ p)) in
       let none = ap length (each-nil 16 0 g (λ m. listed-gone l (d + 1) (child_entries d m old) (λ p. f (m ∷ p)))) in
       cond-le (differs old (e ∷ [])) (f [] ∷ each_from 16 0 g) _ (omega (arith, none))
   bound_few (suc l) d path old (e ∷ e' ∷ es) f deep few part =
       let all = e ∷ e' ∷ es in
-      let g : ℕ → List X = λ n. listed l (d + 1) (child_entries d n old) (with_nibble d n all) (λ p. f (n ∷ p)) in
+      let g : ℕ → List X = λ n. list_of_new_nodes l (d + 1) (child_entries d n old) (with_nibble d n all) (λ p. f (n ∷ p)) in
       let each = each_few 16 0 d (l + 1) all g (omega arith) (λ m. bound_few l (d + 1) (stepped d m path) (child_entries d m old) (with_nibble d m all) (λ p. f (m ∷ p)) (omega arith) (omega (arith, ap length (child_entries-few d m old few))) (IsPartUnder-with_nibble d m path all part)) in
       let sum = total_all d path all part in
       cond-le (differs old all) (f [] ∷ each_from 16 0 g) _ (let up = each.1 (omega (arith, sum)) in omega (arith, up, sum, product (l + 1) _ _ sum))
@@ -87,14 +87,14 @@ few_le c zero n some le = omega arith
 few_le c (suc k) n some le = let m : c * k ≤ c * n = mul-le-mul_left c (let s : k ≤ n = omega arith in s) in omega arith
 
 module _ {X : Type 0} where
-  bound_on_few : (l d : ℕ) (path : ℕ → ℕ) (es : Part) (bs : Batch) (f : Path → X) → l + d ≡ 64 → IsPartUnder d path es → IsPartUnder d path bs → 1 ≤ length bs → length es < 2 → length (listed l d es (applied es bs) f) ≤ (l + 2) * length bs
+  bound_on_few : (l d : ℕ) (path : ℕ → ℕ) (es : Part) (bs : Batch) (f : Path → X) → l + d ≡ 64 → IsPartUnder d path es → IsPartUnder d path bs → 1 ≤ length bs → length es < 2 → length (list_of_new_nodes l d es (entries_after_batch es bs) f) ≤ (l + 2) * length bs
   bound_on_few l d path es bs f deep part batch some few =
-      omega (arith, bound_few l d path es (applied es bs) f deep few (IsPartUnder-applied d path es bs part batch), few_le (l + 1) (length (applied es bs)) (length bs) some (omega (arith, length-applied es bs)))
+      omega (arith, bound_few l d path es (entries_after_batch es bs) f deep few (IsPartUnder-applied d path es bs part batch), few_le (l + 1) (length (entries_after_batch es bs)) (length bs) some (omega (arith, length-applied es bs)))
 
   -- with l levels below, a batch of n keys makes at most (l + 2) n new nodes
-  pub length-listed : (l d : ℕ) (path : ℕ → ℕ) (es : Part) (bs : Batch) (f : Path → X) → l + d ≡ 64 → IsPartUnder d path es → IsPartUnder d path bs → length (listed l d es (applied es bs) f) ≤ (l + 2) * length bs
-  unfolding listed
-  length-listed l d path es [] f deep part batch = omega (arith, ap length (ap (λ new. listed l d es new f) (applied-none es) ∙ listed-same l d es f))
+  pub length-listed : (l d : ℕ) (path : ℕ → ℕ) (es : Part) (bs : Batch) (f : Path → X) → l + d ≡ 64 → IsPartUnder d path es → IsPartUnder d path bs → length (list_of_new_nodes l d es (entries_after_batch es bs) f) ≤ (l + 2) * length bs
+  unfolding list_of_new_nodes
+  length-listed l d path es [] f deep part batch = omega (arith, ap length (ap (λ new. list_of_new_nodes l d es new f) (applied-none es) ∙ listed-same l d es f))
   length-listed zero d path es (b ∷ bs) f deep part batch = elim (cases_lt (length es) 2) [
     | inl few ↦ bound_on_few zero d path es (b ∷ bs) f deep part batch (omega arith) few
     | inr many ↦ absurd (let s = deeper d path es part many in omega arith)
@@ -102,12 +102,12 @@ module _ {X : Type 0} where
   length-listed (suc l) d path es (b ∷ bs) f deep part batch = elim (cases_lt (length es) 2) [
     | inl few ↦ bound_on_few (suc l) d path es (b ∷ bs) f deep part batch (omega arith) few
     | inr many ↦
-        let new = applied es (b ∷ bs) in
-        let g : ℕ → List X = λ n. listed l (d + 1) (child_entries d n es) (child_entries d n new) (λ p. f (n ∷ p)) in
+        let new = entries_after_batch es (b ∷ bs) in
+        let g : ℕ → List X = λ n. list_of_new_nodes l (d + 1) (child_entries d n es) (child_entries d n new) (λ p. f (n ∷ p)) in
         let one : (m : ℕ) → length (g m) ≤ (l + 2) * length (with_nibble d m (b ∷ bs)) = λ m. elim (cases_lt (length new) 2) [
-          | inl lone ↦ omega (arith, ap length (ap (λ k. listed l (d + 1) (child_entries d m es) k (λ p. f (m ∷ p))) (child_entries-few d m new lone) ∙ listed-gone l (d + 1) (child_entries d m es) (λ p. f (m ∷ p))))
-          | inr lots ↦ subst (λ a. length (listed l (d + 1) a (child_entries d m new) (λ p. f (m ∷ p))) ≤ (l + 2) * length (with_nibble d m (b ∷ bs))) (sym (child_entries-many d m es many))
-              (subst (λ c. length (listed l (d + 1) (with_nibble d m es) c (λ p. f (m ∷ p))) ≤ (l + 2) * length (with_nibble d m (b ∷ bs))) (sym (child_entries-many d m new lots ∙ with_nibble-applied d m es (b ∷ bs) part.sorted))
+          | inl lone ↦ omega (arith, ap length (ap (λ k. list_of_new_nodes l (d + 1) (child_entries d m es) k (λ p. f (m ∷ p))) (child_entries-few d m new lone) ∙ listed-gone l (d + 1) (child_entries d m es) (λ p. f (m ∷ p))))
+          | inr lots ↦ subst (λ a. length (list_of_new_nodes l (d + 1) a (child_entries d m new) (λ p. f (m ∷ p))) ≤ (l + 2) * length (with_nibble d m (b ∷ bs))) (sym (child_entries-many d m es many))
+              (subst (λ c. length (list_of_new_nodes l (d + 1) (with_nibble d m es) c (λ p. f (m ∷ p))) ≤ (l + 2) * length (with_nibble d m (b ∷ bs))) (sym (child_entries-many d m new lots ∙ with_nibble-applied d m es (b ∷ bs) part.sorted))
               (length-listed l (d + 1) (stepped d m path) (with_nibble d m es) (with_nibble d m (b ∷ bs)) (λ p. f (m ∷ p)) (omega arith) (IsPartUnder-with_nibble d m path es part) (IsPartUnder-with_nibble d m path (b ∷ bs) batch)))
         ] in
         let sum = each-bound 16 0 d (l + 2) (b ∷ bs) g one in

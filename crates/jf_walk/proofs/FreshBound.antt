@@ -9,7 +9,7 @@ use Rattle.jf_hash.specs.Maps.{Map, IsMap, Batch, IsBatch, apply}
 use Rattle.jf_hash.specs.Slots.{Part}
 use Rattle.jf_hash.proofs.SlotLaws.{keys_are_keys}
 use Rattle.jf_model.specs.Parts.{IsPartUnder}
-use Rattle.jf_model.specs.Changes.{applied}
+use Rattle.jf_model.specs.Changes.{entries_after_batch}
 use Rattle.jf_model.specs.Nodes.{Path, fresh}
 use Rattle.jf_model.specs.Walk.{with_root}
 use Rattle.jf_model.proofs.ChangeLaws.{entries-apply}
@@ -30,11 +30,11 @@ pub IsPartUnder-batch : (path : ℕ → ℕ) (b : Batch) → IsBatch b → IsPar
 IsPartUnder-batch path b batch = record { sorted = batch.sorted; keys = batch.keys; agree = any_path path b }
 
 -- the length of the walk from the top over entries and the entries after a batch
-pub length-with_root : {X : Type 0} (path : ℕ → ℕ) (es : Part) (bs : Batch) (f : Path → X) → IsPartUnder 0 path es → IsPartUnder 0 path bs → length (with_root es (applied es bs) f) ≤ 66 * length bs + 1
-length-with_root path es bs f part batch = elim (some_entry (applied es bs)) [
+pub length-with_root : {X : Type 0} (path : ℕ → ℕ) (es : Part) (bs : Batch) (f : Path → X) → IsPartUnder 0 path es → IsPartUnder 0 path bs → length (with_root es (entries_after_batch es bs) f) ≤ 66 * length bs + 1
+length-with_root path es bs f part batch = elim (some_entry (entries_after_batch es bs)) [
   | inl none ↦ omega (arith, ap length (ap (λ new. with_root es new f) none ∙ with_root-gone es f))
-  | inr some ↦ elim (differs_or_same es (applied es bs) some) [
-    | inl differ ↦ omega (arith, ap length (listed-with_root es (applied es bs) f differ), length-listed 64 0 path es bs f refl part batch)
+  | inr some ↦ elim (differs_or_same es (entries_after_batch es bs) some) [
+    | inl differ ↦ omega (arith, ap length (listed-with_root es (entries_after_batch es bs) f differ), length-listed 64 0 path es bs f refl part batch)
     | inr same ↦ omega (arith, ap length (ap (λ new. with_root es new f) (sym same) ∙ with_root-same es f))
   ]
 ]

@@ -5,7 +5,7 @@ use Rattle.std.specs.FinMap.{entries}
 use Rattle.jf_path.proofs.FilterLaws.{filter_all}
 use Rattle.jf_hash.specs.Slots.{Part}
 use Rattle.jf_hash.specs.Maps.{Map}
-use Rattle.jf_model.specs.Walk.{each_from, differs, listed, with_root}
+use Rattle.jf_model.specs.Walk.{each_from, differs, list_of_new_nodes, with_root}
 use Rattle.jf_model.specs.Nodes.{Path, is_node, nodes, nodes_below, fresh, stale}
 use Rattle.jf_model.specs.ChildEntries.{child_entries}
 use Rattle.jf_walk.proofs.SameParts.{differs-same, differs_or_same}
@@ -26,38 +26,38 @@ apart e f es fs h = elim (differs_or_same (f ∷ fs) (e ∷ es) (omega arith)) [
 ]
 
 module _ {X : Type 0} where
-  length_zero : (d : ℕ) (old new : Part) (f : Path → X) → differs old new ≡ true → length (listed zero d old new f) ≡ 1
-  unfolding listed
+  length_zero : (d : ℕ) (old new : Part) (f : Path → X) → differs old new ≡ true → length (list_of_new_nodes zero d old new f) ≡ 1
+  unfolding list_of_new_nodes
   length_zero d old new f is = ap (λ b. length (cond b (f [] ∷ []) [])) is
 
-  length_suc : (l d : ℕ) (old new : Part) (f : Path → X) → differs old new ≡ true → length (listed (suc l) d old new f) ≡ suc (length (each_from 16 0 (λ n. listed l (d + 1) (child_entries d n old) (child_entries d n new) (λ p. f (n ∷ p)))))
-  unfolding listed
-  length_suc l d old new f is = ap (λ b. length (cond b (f [] ∷ each_from 16 0 (λ n. listed l (d + 1) (child_entries d n old) (child_entries d n new) (λ p. f (n ∷ p)))) [])) is
+  length_suc : (l d : ℕ) (old new : Part) (f : Path → X) → differs old new ≡ true → length (list_of_new_nodes (suc l) d old new f) ≡ suc (length (each_from 16 0 (λ n. list_of_new_nodes l (d + 1) (child_entries d n old) (child_entries d n new) (λ p. f (n ∷ p)))))
+  unfolding list_of_new_nodes
+  length_suc l d old new f is = ap (λ b. length (cond b (f [] ∷ each_from 16 0 (λ n. list_of_new_nodes l (d + 1) (child_entries d n old) (child_entries d n new) (λ p. f (n ∷ p)))) [])) is
 
   -- below each node: the new nodes and the stale ones are as many as the old nodes and the fresh ones
-  kept_step : (l d : ℕ) (old new : Part) (f : Path → X) → length (listed l d [] new f) + length (listed l d new old f) ≡ length (listed l d [] old f) + length (listed l d old new f)
+  kept_step : (l d : ℕ) (old new : Part) (f : Path → X) → length (list_of_new_nodes l d [] new f) + length (list_of_new_nodes l d new old f) ≡ length (list_of_new_nodes l d [] old f) + length (list_of_new_nodes l d old new f)
   kept_step l d [] new f = omega (arith, ap length (listed-gone l d new f), ap length (listed-gone l d [] f))
   kept_step l d (e ∷ es) [] f = omega (arith, ap length (listed-gone l d (e ∷ es) f), ap length (listed-gone l d [] f))
   kept_step zero d (e ∷ es) (e' ∷ es') f = elim (differs_or_same (e ∷ es) (e' ∷ es') (omega arith)) [
-    | inr same ↦ subst (λ n. length (listed zero d [] n f) + length (listed zero d n (e ∷ es) f) ≡ length (listed zero d [] (e ∷ es) f) + length (listed zero d (e ∷ es) n f)) same refl
+    | inr same ↦ subst (λ n. length (list_of_new_nodes zero d [] n f) + length (list_of_new_nodes zero d n (e ∷ es) f) ≡ length (list_of_new_nodes zero d [] (e ∷ es) f) + length (list_of_new_nodes zero d (e ∷ es) n f)) same refl
     | inl differ ↦ omega (arith, length_zero d [] (e ∷ es) f refl, length_zero d [] (e' ∷ es') f refl, length_zero d (e ∷ es) (e' ∷ es') f differ, length_zero d (e' ∷ es') (e ∷ es) f (apart e e' es es' differ))
   ]
   kept_step (suc l) d (e ∷ es) (e' ∷ es') f = elim (differs_or_same (e ∷ es) (e' ∷ es') (omega arith)) [
-    | inr same ↦ subst (λ n. length (listed (suc l) d [] n f) + length (listed (suc l) d n (e ∷ es) f) ≡ length (listed (suc l) d [] (e ∷ es) f) + length (listed (suc l) d (e ∷ es) n f)) same refl
+    | inr same ↦ subst (λ n. length (list_of_new_nodes (suc l) d [] n f) + length (list_of_new_nodes (suc l) d n (e ∷ es) f) ≡ length (list_of_new_nodes (suc l) d [] (e ∷ es) f) + length (list_of_new_nodes (suc l) d (e ∷ es) n f)) same refl
     | inl differ ↦
         let a = e ∷ es in let b = e' ∷ es' in
-        let sums = each_same 16 0 (λ n. listed l (d + 1) [] (child_entries d n b) (λ p. f (n ∷ p))) (λ n. listed l (d + 1) (child_entries d n b) (child_entries d n a) (λ p. f (n ∷ p))) (λ n. listed l (d + 1) [] (child_entries d n a) (λ p. f (n ∷ p))) (λ n. listed l (d + 1) (child_entries d n a) (child_entries d n b) (λ p. f (n ∷ p)))
+        let sums = each_same 16 0 (λ n. list_of_new_nodes l (d + 1) [] (child_entries d n b) (λ p. f (n ∷ p))) (λ n. list_of_new_nodes l (d + 1) (child_entries d n b) (child_entries d n a) (λ p. f (n ∷ p))) (λ n. list_of_new_nodes l (d + 1) [] (child_entries d n a) (λ p. f (n ∷ p))) (λ n. list_of_new_nodes l (d + 1) (child_entries d n a) (child_entries d n b) (λ p. f (n ∷ p)))
         (λ m. kept_step l (d + 1) (child_entries d m a) (child_entries d m b) (λ p. f (m ∷ p))) in
         omega (arith, sums, length_suc l d [] a f refl, length_suc l d [] b f refl, length_suc l d a b f differ, length_suc l d b a f (apart e e' es es' differ))
   ]
 
-  length_root : (old new : Part) (f : Path → X) → length (with_root old new f) ≡ suc (length (each_from 16 0 (λ n. listed 63 1 (child_entries 0 n old) (child_entries 0 n new) (λ p. f (n ∷ p)))))
+  length_root : (old new : Part) (f : Path → X) → length (with_root old new f) ≡ suc (length (each_from 16 0 (λ n. list_of_new_nodes 63 1 (child_entries 0 n old) (child_entries 0 n new) (λ p. f (n ∷ p)))))
   unfolding with_root
   length_root old new f = refl
 
   kept_root : (old new : Part) (f : Path → X) → length (with_root [] new f) + length (with_root new old f) ≡ length (with_root [] old f) + length (with_root old new f)
   kept_root old new f =
-      let sums = each_same 16 0 (λ n. listed 63 1 [] (child_entries 0 n new) (λ p. f (n ∷ p))) (λ n. listed 63 1 (child_entries 0 n new) (child_entries 0 n old) (λ p. f (n ∷ p))) (λ n. listed 63 1 [] (child_entries 0 n old) (λ p. f (n ∷ p))) (λ n. listed 63 1 (child_entries 0 n old) (child_entries 0 n new) (λ p. f (n ∷ p)))
+      let sums = each_same 16 0 (λ n. list_of_new_nodes 63 1 [] (child_entries 0 n new) (λ p. f (n ∷ p))) (λ n. list_of_new_nodes 63 1 (child_entries 0 n new) (child_entries 0 n old) (λ p. f (n ∷ p))) (λ n. list_of_new_nodes 63 1 [] (child_entries 0 n old) (λ p. f (n ∷ p))) (λ n. list_of_new_nodes 63 1 (child_entries 0 n old) (child_entries 0 n new) (λ p. f (n ∷ p)))
       (λ m. kept_step 63 1 (child_entries 0 m old) (child_entries 0 m new) (λ p. f (m ∷ p))) in
       omega (arith, sums, length_root [] new f, length_root new old f, length_root [] old f, length_root old new f)
 

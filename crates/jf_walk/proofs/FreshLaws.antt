@@ -10,7 +10,7 @@ use Rattle.jf_path.proofs.FilterLaws.{filter-map, filter-same, filter_none}
 use Rattle.jf_hash.specs.Slots.{Part, with_nibble, all_nibbles}
 use Rattle.jf_hash.specs.Maps.{Map}
 use Rattle.jf_model.specs.Nodes.{has_one, same_part, Path, nodes_below, has_two, is_node, under, is_fresh, nodes, fresh}
-use Rattle.jf_model.specs.Walk.{differs, listed, each_from, with_root}
+use Rattle.jf_model.specs.Walk.{differs, list_of_new_nodes, each_from, with_root}
 use Rattle.jf_model.specs.ChildEntries.{child_entries}
 use Rattle.jf_model.proofs.NodeLaws.{IsListed, nodes_below-IsListed}
 use Rattle.jf_walk.proofs.SameParts.{same_part-exact, same_or_other}
@@ -27,7 +27,7 @@ differs-is old new some other = elim (same_part old new) as (λ b. same_part old
 
 -- walking l levels below one node lists f of the path of each node there that doesn't stay
 abbrev Walks : Type 0 → ℕ → Type 0
-Walks X l = (d : ℕ) (old new : Part) (f : Path → X) → has_one new ≡ true → listed l d old new f ≡ map (λ (x : Path × Part). f x.0) (filter (λ (x : Path × Part). not (is_unchanged d x.0 old new)) (nodes_below l d new))
+Walks X l = (d : ℕ) (old new : Part) (f : Path → X) → has_one new ≡ true → list_of_new_nodes l d old new f ≡ map (λ (x : Path × Part). f x.0) (filter (λ (x : Path × Part). not (is_unchanged d x.0 old new)) (nodes_below l d new))
 
 module _ {X : Type 0} where
   by_nibble : (F : Path × Part → X) (test : Path × Part → Bool) (g : ℕ → List X) (k : ℕ → List (Path × Part)) → ((n : ℕ) → g n ≡ map F (filter test (k n))) → (ns : List ℕ) → flat_map g ns ≡ map F (filter test (flat_map k ns))
@@ -37,14 +37,14 @@ module _ {X : Type 0} where
 
   -- the walk over one child
   one_child : (l d n : ℕ) (old new : Part) (f : Path → X) (test : Path → Bool) → Walks X l → has_two new ≡ true → ((p : Path) → is_node d (n ∷ p) new ≡ true → test (n ∷ p) ≡ not (is_unchanged d (n ∷ p) old new))
-      → listed l (d + 1) (child_entries d n old) (child_entries d n new) (λ p. f (n ∷ p)) ≡ map (λ (x : Path × Part). f x.0) (filter (λ (x : Path × Part). test x.0) (child_nodes l d new n))
+      → list_of_new_nodes l (d + 1) (child_entries d n old) (child_entries d n new) (λ p. f (n ∷ p)) ≡ map (λ (x : Path × Part). f x.0) (filter (λ (x : Path × Part). test x.0) (child_nodes l d new n))
   unfolding is_node child_nodes
   one_child l d n old new f test walks two same =
       let part = with_nibble d n new in
       let ys = nodes_below l (d + 1) part in
       let g : Path → X = λ p. f (n ∷ p) in
-      ap (λ b. listed l (d + 1) (child_entries d n old) (cond b part []) g) two
-      ∙ (elim (has_one part) as (λ b. has_one part ≡ b → listed l (d + 1) (child_entries d n old) part g ≡ map (λ (x : Path × Part). f x.0) (filter (λ (x : Path × Part). test x.0) (cond b (map (λ (x : Path × Part). (n ∷ x.0, x.1)) ys) []))) [
+      ap (λ b. list_of_new_nodes l (d + 1) (child_entries d n old) (cond b part []) g) two
+      ∙ (elim (has_one part) as (λ b. has_one part ≡ b → list_of_new_nodes l (d + 1) (child_entries d n old) part g ≡ map (λ (x : Path × Part). f x.0) (filter (λ (x : Path × Part). test x.0) (cond b (map (λ (x : Path × Part). (n ∷ x.0, x.1)) ys) []))) [
         | true ↦ λ some.
             let agree : AllByRecursion (λ (x : Path × Part). not (is_unchanged (d + 1) x.0 (child_entries d n old) part) ≡ test (n ∷ x.0)) ys =
             All-weaker (IsListed (d + 1) part) (λ (x : Path × Part). not (is_unchanged (d + 1) x.0 (child_entries d n old) part) ≡ test (n ∷ x.0))
@@ -53,31 +53,31 @@ module _ {X : Type 0} where
             ∙ ap (map (λ (x : Path × Part). f (n ∷ x.0))) (filter-same (λ (x : Path × Part). not (is_unchanged (d + 1) x.0 (child_entries d n old) part)) (λ (x : Path × Part). test (n ∷ x.0)) ys agree)
             ∙ sym (map-map (λ (x : Path × Part). f x.0) (λ (x : Path × Part). (n ∷ x.0, x.1)) (filter (λ (x : Path × Part). test (n ∷ x.0)) ys))
             ∙ ap (map (λ (x : Path × Part). f x.0)) (sym (filter-map (λ (x : Path × Part). test x.0) (λ (x : Path × Part). (n ∷ x.0, x.1)) ys))
-        | false ↦ λ none. ap (λ es. listed l (d + 1) (child_entries d n old) es g) (none-has_one part none) ∙ listed-gone l (d + 1) (child_entries d n old) g
+        | false ↦ λ none. ap (λ es. list_of_new_nodes l (d + 1) (child_entries d n old) es g) (none-has_one part none) ∙ listed-gone l (d + 1) (child_entries d n old) g
       ] refl)
 
   -- the walk over all sixteen children, for any test that says which nodes don't stay
   pub children : (l d : ℕ) (old new : Part) (f : Path → X) (test : Path → Bool) → Walks X l → ((n : ℕ) (p : Path) → is_node d (n ∷ p) new ≡ true → test (n ∷ p) ≡ not (is_unchanged d (n ∷ p) old new))
-      → each_from 16 0 (λ n. listed l (d + 1) (child_entries d n old) (child_entries d n new) (λ p. f (n ∷ p))) ≡ map (λ (x : Path × Part). f x.0) (filter (λ (x : Path × Part). test x.0) (lower_nodes l d new))
+      → each_from 16 0 (λ n. list_of_new_nodes l (d + 1) (child_entries d n old) (child_entries d n new) (λ p. f (n ∷ p))) ≡ map (λ (x : Path × Part). f x.0) (filter (λ (x : Path × Part). test x.0) (lower_nodes l d new))
   unfolding lower_nodes child_nodes
   children l d old new f test walks same =
-      let g : ℕ → List X = λ n. listed l (d + 1) (child_entries d n old) (child_entries d n new) (λ p. f (n ∷ p)) in
+      let g : ℕ → List X = λ n. list_of_new_nodes l (d + 1) (child_entries d n old) (child_entries d n new) (λ p. f (n ∷ p)) in
       let k : ℕ → List (Path × Part) = λ n. child_nodes l d new n in
       elim (has_two new) as (λ b. has_two new ≡ b → each_from 16 0 g ≡ map (λ (x : Path × Part). f x.0) (filter (λ (x : Path × Part). test x.0) (cond b (flat_map k all_nibbles) []))) [
         | true ↦ λ two. by_nibble (λ (x : Path × Part). f x.0) (λ (x : Path × Part). test x.0) g k (λ n. one_child l d n old new f test walks two (same n)) all_nibbles
-        | false ↦ λ few. each-nil 16 0 g (λ n. ap (λ b. listed l (d + 1) (child_entries d n old) (cond b (with_nibble d n new) []) (λ p. f (n ∷ p))) few ∙ listed-gone l (d + 1) (child_entries d n old) (λ p. f (n ∷ p)))
+        | false ↦ λ few. each-nil 16 0 g (λ n. ap (λ b. list_of_new_nodes l (d + 1) (child_entries d n old) (cond b (with_nibble d n new) []) (λ p. f (n ∷ p))) few ∙ listed-gone l (d + 1) (child_entries d n old) (λ p. f (n ∷ p)))
       ] refl
 
-  unchanged : (l d : ℕ) (old new : Part) (f : Path → X) → old ≡ new → listed l d old new f ≡ map (λ (x : Path × Part). f x.0) (filter (λ (x : Path × Part). not (is_unchanged d x.0 old new)) (nodes_below l d new))
+  unchanged : (l d : ℕ) (old new : Part) (f : Path → X) → old ≡ new → list_of_new_nodes l d old new f ≡ map (λ (x : Path × Part). f x.0) (filter (λ (x : Path × Part). not (is_unchanged d x.0 old new)) (nodes_below l d new))
   unchanged l d old new f same =
       let ys = nodes_below l d new in
-      ap (λ es. listed l d es new f) same ∙ listed-same l d new f
+      ap (λ es. list_of_new_nodes l d es new f) same ∙ listed-same l d new f
       ∙ ap (map (λ (x : Path × Part). f x.0)) (sym (ap (λ es. filter (λ (x : Path × Part). not (is_unchanged d x.0 es new)) ys) same
       ∙ filter_none (λ (x : Path × Part). not (is_unchanged d x.0 new new)) ys (All-by_place (λ (x : Path × Part). not (is_unchanged d x.0 new new) ≡ false) ys (All-weaker (IsListed d new) (λ (x : Path × Part). not (is_unchanged d x.0 new new) ≡ false) (λ x is. ap not (is_unchanged-same d x.0 new is.1)) ys (nodes_below-IsListed l d new)))))
 
   -- the walk goes to each node that doesn't stay, and to no other
   pub listed-nodes : (l : ℕ) → Walks X l
-  unfolding listed nodes_below is_node under lower_nodes child_nodes
+  unfolding list_of_new_nodes nodes_below is_node under lower_nodes child_nodes
   listed-nodes zero d old new f some = elim (same_or_other old new) [
     | inl same ↦ unchanged zero d old new f same
     | inr other ↦ let is = differs-is old new some other in
@@ -86,7 +86,7 @@ module _ {X : Type 0} where
   listed-nodes (suc l) d old new f some = elim (same_or_other old new) [
     | inl same ↦ unchanged (suc l) d old new f same
     | inr other ↦ let is = differs-is old new some other in
-        ap (λ b. cond b (f [] ∷ each_from 16 0 (λ n. listed l (d + 1) (child_entries d n old) (child_entries d n new) (λ p. f (n ∷ p)))) []) is.0
+        ap (λ b. cond b (f [] ∷ each_from 16 0 (λ n. list_of_new_nodes l (d + 1) (child_entries d n old) (child_entries d n new) (λ p. f (n ∷ p)))) []) is.0
         ∙ ap (λ xs. f [] ∷ xs) (children l d old new f (λ p. not (is_unchanged d p old new)) (listed-nodes l) (λ n p node. refl))
         ∙ ap (λ b. map (λ (x : Path × Part). f x.0) (cond (not b) (([], new) ∷ filter (λ (x : Path × Part). not (is_unchanged d x.0 old new)) (lower_nodes l d new)) (filter (λ (x : Path × Part). not (is_unchanged d x.0 old new)) (lower_nodes l d new)))) (sym is.1)
   ]

@@ -14,7 +14,7 @@ use Rattle.jf_path.proofs.BoolLaws.{both_so}
 use Rattle.jf_hash.specs.Slots.{Part}
 use Rattle.jf_hash.specs.Maps.{Batch}
 use Rattle.jf_hash.proofs.KeyOrder.{key_cmp-turned, below-first, below-later, below-rest, sorted-rest, same_key-exact, below_all-further}
-use Rattle.jf_model.specs.Changes.{changed, with_put, applied}
+use Rattle.jf_model.specs.Changes.{entries_after_change, with_put, entries_after_batch}
 use Rattle.jf_model.specs.Puts.{Change, puts, IsPlace, IsFirstKey}
 use Rattle.jf_model.proofs.ChangeLaws.{changed-none}
 use Rattle.jf_walk.proofs.PutLaws.{with_put-append, kept_entry}
@@ -30,12 +30,12 @@ AllBelow k xs = AllByRecursion (λ x. T (is_lt (key_cmp x.0 k))) xs
 abbrev AllBelowAll : Batch → Part → Type 0
 AllBelowAll bs xs = AllByRecursion (λ x. T (below_all key_cmp x.0 bs)) xs
 
-changed-after : (k : List ℕ) (v : Option (List ℕ)) (xs ys : Part) → AllBelow k xs → changed k v (xs ++ ys) ≡ xs ++ changed k v ys
+changed-after : (k : List ℕ) (v : Option (List ℕ)) (xs ys : Part) → AllBelow k xs → entries_after_change k v (xs ++ ys) ≡ xs ++ entries_after_change k v ys
 changed-after k v [] ys h = refl
 changed-after k (Some v) (x ∷ xs) ys h =
     ap (λ r. by_order r ((k, v) ∷ x ∷ (xs ++ ys)) ((x.0, v) ∷ (xs ++ ys)) (x ∷ put key_cmp k v (xs ++ ys))) (greater_so x.0 k h.0) ∙ ap (λ t. x ∷ t) (changed-after k (Some v) xs ys h.1)
 changed-after k None (x ∷ xs) ys h =
-    ap (λ r. cond (not (is_eq r)) (x ∷ changed k None (xs ++ ys)) (changed k None (xs ++ ys))) (greater_so x.0 k h.0) ∙ ap (λ t. x ∷ t) (changed-after k None xs ys h.1)
+    ap (λ r. cond (not (is_eq r)) (x ∷ entries_after_change k None (xs ++ ys)) (entries_after_change k None (xs ++ ys))) (greater_so x.0 k h.0) ∙ ap (λ t. x ∷ t) (changed-after k None xs ys h.1)
 
 heads_below : (b : Change) (bs : Batch) (xs : Part) → AllBelowAll (b ∷ bs) xs → AllBelow b.0 xs
 heads_below b bs [] h = tt
@@ -55,24 +55,24 @@ more_below b bs xs sorted h = All-append (λ x. T (below_all key_cmp x.0 bs)) xs
 put_after : (b : Change) (bs : Batch) (xs : Part) (ys : Part) → (xs ++ with_put b.0 b.1 []) ++ ys ≡ xs ++ with_put b.0 b.1 ys
 put_after b bs xs ys = append_assoc xs (with_put b.0 b.1 []) ys ∙ ap (λ t. xs ++ t) (with_put-append b.0 b.1 [] ys)
 
-applied-after : (xs : Part) (bs : Batch) → T (is_sorted key_cmp bs) → AllBelowAll bs xs → applied xs bs ≡ xs ++ puts bs
-unfolding applied
+applied-after : (xs : Part) (bs : Batch) → T (is_sorted key_cmp bs) → AllBelowAll bs xs → entries_after_batch xs bs ≡ xs ++ puts bs
+unfolding entries_after_batch
 applied-after xs [] sorted below = sym (append-nil xs)
 applied-after xs (b ∷ bs) sorted below =
-    ap (λ es. applied (changed b.0 b.1 es) bs) (sym (append-nil xs))
-    ∙ ap (λ es. applied es bs) (changed-after b.0 b.1 xs [] (heads_below b bs xs below) ∙ ap (λ t. xs ++ t) (changed-none b.0 b.1))
+    ap (λ es. entries_after_batch (entries_after_change b.0 b.1 es) bs) (sym (append-nil xs))
+    ∙ ap (λ es. entries_after_batch es bs) (changed-after b.0 b.1 xs [] (heads_below b bs xs below) ∙ ap (λ t. xs ++ t) (changed-none b.0 b.1))
     ∙ applied-after (xs ++ with_put b.0 b.1 []) bs (sorted-rest b bs sorted) (more_below b bs xs (below-rest b bs sorted) below)
     ∙ put_after b bs xs (puts bs)
 
 -- applied to no entry, a batch gives what it puts
-pub applied-puts : (bs : Batch) → T (is_sorted key_cmp bs) → applied [] bs ≡ puts bs
+pub applied-puts : (bs : Batch) → T (is_sorted key_cmp bs) → entries_after_batch [] bs ≡ puts bs
 applied-puts bs sorted = applied-after [] bs sorted tt
 
-changed-before : (k q w : List ℕ) (v : Option (List ℕ)) → key_cmp k q ≡ Less → changed k v ((q, w) ∷ []) ≡ with_put k v ((q, w) ∷ [])
+changed-before : (k q w : List ℕ) (v : Option (List ℕ)) → key_cmp k q ≡ Less → entries_after_change k v ((q, w) ∷ []) ≡ with_put k v ((q, w) ∷ [])
 changed-before k q w (Some v) is = ap (λ r. by_order r ((k, v) ∷ (q, w) ∷ []) ((q, v) ∷ []) ((q, w) ∷ (k, v) ∷ [])) is
 changed-before k q w None is = ap (λ r. cond (not (is_eq r)) ((q, w) ∷ []) []) is
 
-changed-at : (k q w : List ℕ) (v : Option (List ℕ)) → k ≡ q → changed k v ((q, w) ∷ []) ≡ with_put k v []
+changed-at : (k q w : List ℕ) (v : Option (List ℕ)) → k ≡ q → entries_after_change k v ((q, w) ∷ []) ≡ with_put k v []
 changed-at k q w (Some v) is =
     ap (λ r. by_order r ((k, v) ∷ (q, w) ∷ []) ((q, v) ∷ []) ((q, w) ∷ (k, v) ∷ [])) (ap (key_cmp k) (sym is) ∙ tied_itself nat_list_cmp_total k) ∙ ap (λ z. (z, v) ∷ []) (sym is)
 changed-at k q w None is = ap (λ r. cond (not (is_eq r)) ((q, w) ∷ []) []) (ap (key_cmp k) (sym is) ∙ tied_itself nat_list_cmp_total k)
@@ -88,20 +88,20 @@ later_place : (q : List ℕ) (b : Change) (bs : Batch) (r : ℕ) → IsPlace q (
 later_place q b bs r p = record { within = let w = p.within in omega arith; before = λ k x lt. p.before (suc k) x (omega arith); at = λ x lt. p.at x (omega arith) }
 
 applied-own : (q w : List ℕ) (xs : Part) (bs : Batch) (r : ℕ) (named : Bool) → T (is_sorted key_cmp bs) → AllBelowAll bs xs → AllBelow q xs → IsPlace q bs r → IsFirstKey q (drop r bs) named
-    → applied (xs ++ (q, w) ∷ []) bs ≡ xs ++ (puts (take r bs) ++ (kept_entry named q w ++ puts (drop r bs)))
-unfolding applied
+    → entries_after_batch (xs ++ (q, w) ∷ []) bs ≡ xs ++ (puts (take r bs) ++ (kept_entry named q w ++ puts (drop r bs)))
+unfolding entries_after_batch
 applied-own q w xs [] zero named sorted below under place is = ap (λ n. xs ++ (kept_entry n q w ++ [])) (sym is)
 applied-own q w xs [] (suc r) named sorted below under place is = absurd (let w = place.within in omega arith)
 applied-own q w xs (b ∷ bs) (suc r) named sorted below under place is =
     let first : key_cmp b.0 q ≡ Less = place.before 0 b (omega arith) in
-    ap (λ es. applied es bs) (changed-after b.0 b.1 xs ((q, w) ∷ []) (heads_below b bs xs below) ∙ ap (λ t. xs ++ t) (changed-before b.0 q w b.1 first) ∙ sym (put_after b bs xs ((q, w) ∷ [])))
+    ap (λ es. entries_after_batch es bs) (changed-after b.0 b.1 xs ((q, w) ∷ []) (heads_below b bs xs below) ∙ ap (λ t. xs ++ t) (changed-before b.0 q w b.1 first) ∙ sym (put_after b bs xs ((q, w) ∷ [])))
     ∙ applied-own q w (xs ++ with_put b.0 b.1 []) bs r named (sorted-rest b bs sorted) (more_below b bs xs (below-rest b bs sorted) below)
     (All-append (λ x. T (is_lt (key_cmp x.0 q))) xs (with_put b.0 b.1 []) under (put_all (λ k. T (is_lt (key_cmp k q))) b.0 b.1 (is_lt-from_Less _ first)))
     (later_place q b bs r place) is
     ∙ put_after b bs xs (puts (take r bs) ++ (kept_entry named q w ++ puts (drop r bs)))
     ∙ ap (λ t. xs ++ t) (sym (with_put-append b.0 b.1 (puts (take r bs)) (kept_entry named q w ++ puts (drop r bs))))
 applied-own q w xs (b ∷ bs) zero true sorted below under place is =
-    ap (λ es. applied es bs) (changed-after b.0 b.1 xs ((q, w) ∷ []) (heads_below b bs xs below) ∙ ap (λ t. xs ++ t) (changed-at b.0 q w b.1 (is.0 refl)))
+    ap (λ es. entries_after_batch es bs) (changed-after b.0 b.1 xs ((q, w) ∷ []) (heads_below b bs xs below) ∙ ap (λ t. xs ++ t) (changed-at b.0 q w b.1 (is.0 refl)))
     ∙ applied-after (xs ++ with_put b.0 b.1 []) bs (sorted-rest b bs sorted) (more_below b bs xs (below-rest b bs sorted) below)
     ∙ put_after b bs xs (puts bs)
 applied-own q w xs (b ∷ bs) zero false sorted below under place is =
@@ -111,13 +111,13 @@ applied-own q w xs (b ∷ bs) zero false sorted below under place is =
     ∙ append_assoc xs ((q, w) ∷ []) (puts (b ∷ bs))
 
 -- applied to one entry, a batch gives what it puts below it, the entry unless its key is changed, and what it puts from there on
-pub applied-one : (q w : List ℕ) (bs : Batch) (r : ℕ) (named : Bool) → T (is_sorted key_cmp bs) → IsPlace q bs r → IsFirstKey q (drop r bs) named → applied ((q, w) ∷ []) bs ≡ puts (take r bs) ++ (kept_entry named q w ++ puts (drop r bs))
+pub applied-one : (q w : List ℕ) (bs : Batch) (r : ℕ) (named : Bool) → T (is_sorted key_cmp bs) → IsPlace q bs r → IsFirstKey q (drop r bs) named → entries_after_batch ((q, w) ∷ []) bs ≡ puts (take r bs) ++ (kept_entry named q w ++ puts (drop r bs))
 applied-one q w bs r named sorted place is = applied-own q w [] bs r named sorted tt tt place is
 
 -- a loop that appends these three pieces in turn applies the batch
 pub merged_own : (q w : List ℕ) (bs : Batch) (r : ℕ) (named : Bool) (start first second third : Part) → T (is_sorted key_cmp bs) → IsPlace q bs r → IsFirstKey q (take (length bs - r) (drop r bs)) named
     → start ≡ [] → first ≡ start ++ puts (take r bs) → second ≡ first ++ kept_entry named q w → third ≡ second ++ puts (take (length bs - r) (drop r bs))
-    → third ≡ applied ((q, w) ∷ []) bs
+    → third ≡ entries_after_batch ((q, w) ∷ []) bs
 merged_own q w bs r named start first second third sorted place is none a b c =
     let back = take-rest r bs in
     c ∙ ap (λ t. t ++ puts (take (length bs - r) (drop r bs))) (b ∙ ap (λ t. t ++ kept_entry named q w) (a ∙ ap (λ xs. xs ++ puts (take r bs)) none))

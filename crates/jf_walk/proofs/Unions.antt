@@ -4,7 +4,7 @@ use Rattle.std.specs.List.{flat_map}
 use Rattle.jf_hash.specs.Slots.{Part, with_nibble, from_nibble}
 use Rattle.jf_hash.specs.Maps.{Batch}
 use Rattle.jf_model.specs.Parts.{IsPartUnder}
-use Rattle.jf_model.specs.Changes.{applied}
+use Rattle.jf_model.specs.Changes.{entries_after_batch}
 use Rattle.jf_walk.proofs.PartLaws.{from_nibble-split, from_nibble-past, from_nibble-zero}
 use Rattle.jf_walk.proofs.PartChanges.{IsPartUnder-applied, with_nibble-applied}
 
@@ -44,6 +44,6 @@ module _ {L : Type 0} (content : L → Part) (none : L) where
 
   -- if each child has the part of its nibble after the batch's changes there, together they have the whole part after the batch
   pub joined-applied : (d : ℕ) (path : ℕ → ℕ) (es : Part) (bs : Batch) (links : List L) → IsPartUnder d path es → IsPartUnder d path bs → length links ≡ 16
-      → ((k : ℕ) → k < 16 → content (get_or links k none) ≡ applied (with_nibble d k es) (with_nibble d k bs)) → flat_map content links ≡ applied es bs
+      → ((k : ℕ) → k < 16 → content (get_or links k none) ≡ entries_after_batch (with_nibble d k es) (with_nibble d k bs)) → flat_map content links ≡ entries_after_batch es bs
   joined-applied d path es bs links part batch long each =
-      joined_parts d path (applied es bs) links (IsPartUnder-applied d path es bs part batch) long (λ k lt. each k lt ∙ sym (with_nibble-applied d k es bs part.sorted))
+      joined_parts d path (entries_after_batch es bs) links (IsPartUnder-applied d path es bs part batch) long (λ k lt. each k lt ∙ sym (with_nibble-applied d k es bs part.sorted))

@@ -1,5 +1,5 @@
 // The digits of a value as bytes.
-use jf_ask::unhexed;
+use jf_ask::unhexed_count;
 use std::test::Fail;
 
 // A word, and the bytes that it writes.
@@ -17,7 +17,7 @@ fn is_written(word: &[u8], wanted: Option<&[u8]>) -> bool {
     if word.len() > 9 {
         return false;
     }
-    match (unhexed(word, &mut room), wanted) {
+    match (unhexed_count(word, &mut room), wanted) {
         (Some(n), Some(bytes)) => &room[..n] == bytes,
         (None, None) => true,
         _ => false,

@@ -180,7 +180,7 @@ const REPLIES: &[(&str, &[u8], &[&str], Lookup<'static>)] = &[
 ];
 
 // Joins these parts.
-fn joined(alloc: Global, parts: &[&str]) -> Result<Bytes, Memory> {
+fn parts_in_a_row(alloc: Global, parts: &[&str]) -> Result<Bytes, Memory> {
     let mut text = Bytes::new(alloc);
     for part in parts {
         text.append(part.as_bytes())?;
@@ -211,7 +211,7 @@ fn shows(root: &str, name: &[u8], reply: &Bytes, wanted: Lookup<'_>) -> Result<(
 #[test]
 fn replies_show_what_they_prove(rt: HostRuntime) -> Result<(), Fail> {
     for (root, name, parts, wanted) in REPLIES {
-        let reply = joined(rt.alloc(), parts)?;
+        let reply = parts_in_a_row(rt.alloc(), parts)?;
         shows(root, name, &reply, *wanted)?;
     }
     Ok(())
@@ -219,7 +219,7 @@ fn replies_show_what_they_prove(rt: HostRuntime) -> Result<(), Fail> {
 
 // A block of this many siblings, whose first line says so.
 fn deep(alloc: Global, head: &str, siblings: u64) -> Result<Bytes, Memory> {
-    let mut text = joined(alloc, &[head, A, CLAIM, LEAF])?;
+    let mut text = parts_in_a_row(alloc, &[head, A, CLAIM, LEAF])?;
     for _ in 0..siblings {
         text.append(HIGH.as_bytes())?;
     }

@@ -40,7 +40,7 @@ fn batch_of(alloc: Global, words: &[Word]) -> Result<Batch, BatchFault> {
     Ok(batch)
 }
 
-fn told(alloc: Global, batch: &Batch) -> Result<Vec<Told>, Memory> {
+fn batch_list(alloc: Global, batch: &Batch) -> Result<Vec<Told>, Memory> {
     let mut told = Vec::new(alloc);
     for (key, value) in batch.as_slice() {
         let first = match value {
@@ -53,7 +53,7 @@ fn told(alloc: Global, batch: &Batch) -> Result<Vec<Told>, Memory> {
 }
 
 fn tells(alloc: Global, batch: &Batch, expected: &[Told]) -> Result<bool, Memory> {
-    Ok(told(alloc, batch)?.as_slice() == expected)
+    Ok(batch_list(alloc, batch)?.as_slice() == expected)
 }
 
 const ORDERS: &[&[Word]] = &[

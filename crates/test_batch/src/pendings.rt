@@ -28,7 +28,7 @@ fn gather_all(alloc: Global, pending: &mut Pending, words: &[Word]) -> Result<()
     Ok(())
 }
 
-fn told(alloc: Global, batch: &Batch) -> Result<Vec<Told>, Memory> {
+fn batch_list(alloc: Global, batch: &Batch) -> Result<Vec<Told>, Memory> {
     let mut told = Vec::new(alloc);
     for (key, value) in batch.as_slice() {
         let first = match value {
@@ -43,7 +43,7 @@ fn told(alloc: Global, batch: &Batch) -> Result<Vec<Told>, Memory> {
 // Whether the batch of what is pending tells this.
 fn tells(alloc: Global, pending: &Pending, expected: &[Told]) -> Result<bool, Memory> {
     let batch = pending.batch(alloc)?;
-    Ok(told(alloc, &batch)?.as_slice() == expected)
+    Ok(batch_list(alloc, &batch)?.as_slice() == expected)
 }
 
 const ORDERS: &[&[Word]] = &[

@@ -1,5 +1,5 @@
 // The map of two keys that differ only in their last bit, in two chunks. Root and hashes are from Python's hashlib.
-use crate::reading::{Came, blocks_of, came_to, taken};
+use crate::reading::{Came, blocks_of, came_to, taken_count};
 use jf_receive::Blocks;
 use std::test::Fail;
 
@@ -30,9 +30,9 @@ fn are_taken(blocks: &mut Blocks, count: usize) -> bool {
 
 // Feeds the two chunks, and returns whether all lines were taken.
 fn both_taken(blocks: &mut Blocks) -> bool {
-    taken(blocks, FIRST) == 3
+    taken_count(blocks, FIRST) == 3
         && are_taken(blocks, 130)
-        && taken(blocks, SECOND) == 2
+        && taken_count(blocks, SECOND) == 2
         && are_taken(blocks, 130)
 }
 

@@ -30,7 +30,7 @@ pub(crate) fn blocks_of(alloc: Global, root: &str) -> Result<Blocks, Fail> {
 }
 
 /// Feeds lines one after another up to the first that is refused, and returns how many were taken before it.
-pub(crate) fn taken(blocks: &mut Blocks, lines: &[&str]) -> usize {
+pub(crate) fn taken_count(blocks: &mut Blocks, lines: &[&str]) -> usize {
     for (i, line) in lines.iter().enumerate() {
         if blocks.line(line.as_bytes()).is_err() {
             return i;

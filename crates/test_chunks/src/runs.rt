@@ -153,7 +153,7 @@ fn script_of(alloc: Global, names: u16, chunks: &str) -> Result<Bytes, Memory> {
 }
 
 // What a run writes.
-fn written<H: Threads + Wait + Sync>(
+fn written_text<H: Threads + Wait + Sync>(
     rt: &H,
     alloc: Global,
     names: u16,
@@ -176,7 +176,7 @@ fn read_line(alloc: Global, blocks: &mut Option<Blocks>, line: &[u8]) -> bool {
 }
 
 // The blocks after the line of a root, or `None` if a line is refused.
-fn read(alloc: Global, text: &[u8]) -> Option<Blocks> {
+fn blocks_read(alloc: Global, text: &[u8]) -> Option<Blocks> {
     let mut blocks = None;
     for line in text.split(|byte| *byte == b'\n') {
         if !line.is_empty() && !read_line(alloc, &mut blocks, line) {
@@ -188,7 +188,7 @@ fn read(alloc: Global, text: &[u8]) -> Option<Blocks> {
 
 // Whether the replies are read as whole blocks, with this number of entries and the announced root.
 fn is_whole(alloc: Global, text: &[u8], count: u64) -> bool {
-    match read(alloc, text) {
+    match blocks_read(alloc, text) {
         Some(blocks) => blocks
             .end()
             .is_ok_and(|restore| restore.whole() == Ok(count)),
@@ -206,7 +206,7 @@ const LARGE: &[(u16, &str)] = &[
 fn chunks_of_a_run_are_read_again(rt: HostRuntime) -> Result<(), Fail> {
     let alloc = rt.alloc();
     for (names, chunks) in LARGE {
-        let text = written(&rt, alloc, *names, chunks)?;
+        let text = written_text(&rt, alloc, *names, chunks)?;
         assert!(rt; is_whole(alloc, &text, u64::from(*names)), "of {names}");
     }
     Ok(())

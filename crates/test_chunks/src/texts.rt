@@ -1,5 +1,5 @@
 // Texts of chunk blocks and what they come to. Keys and hashes are from outside, by Python's hashlib.
-use crate::reading::{Came, blocks_of, came_to, is_answered_alike, root_of, taken};
+use crate::reading::{Came, blocks_of, came_to, is_answered_alike, root_of, taken_count};
 use jf_receive::{BlockFault, Blocks, RangeFault};
 use std::alloc::Global;
 use std::test::Fail;
@@ -227,7 +227,7 @@ const REFUSED_LINES: &[Row] = &[
 fn all_taken(blocks: &mut Blocks, parts: &[&[&str]]) -> usize {
     let mut sum: usize = 0;
     for part in parts {
-        let count = taken(blocks, part);
+        let count = taken_count(blocks, part);
         sum = sum.saturating_add(count);
         if count < part.len() {
             return sum;
@@ -287,7 +287,7 @@ fn a_refusal_stays(rt: HostRuntime) -> Result<(), Fail> {
 #[test]
 fn the_first_chunk_alone_is_not_the_whole(rt: HostRuntime) -> Result<(), Fail> {
     let mut blocks = blocks_of(rt.alloc(), TWO)?;
-    let count = taken(&mut blocks, &["chunk 1 2 2", A, LEAF_OF_B, EMPTY]);
+    let count = taken_count(&mut blocks, &["chunk 1 2 2", A, LEAF_OF_B, EMPTY]);
     assert_eq!(rt; (count, came_to(blocks)), (4, Came::Else(root_of(ONE)?)));
     Ok(())
 }

@@ -24,7 +24,7 @@ fn proof(alloc: Global) -> Result<RangeProof, Memory> {
     Ok(RangeProof { depth: 2, siblings })
 }
 
-fn written(alloc: Global) -> Result<Bytes, Memory> {
+fn written_blocks(alloc: Global) -> Result<Bytes, Memory> {
     let mut out = Bytes::copy_of(alloc, b"> ")?;
     write_chunk(&entries(alloc)?, &proof(alloc)?, &mut out)?;
     Ok(out)
@@ -32,7 +32,7 @@ fn written(alloc: Global) -> Result<Bytes, Memory> {
 
 #[test]
 fn a_chunk_is_written_in_lines(rt: HostRuntime) -> Result<(), Fail> {
-    let out = written(rt.alloc())?;
+    let out = written_blocks(rt.alloc())?;
     let text = out.as_slice();
     assert!(rt; text.starts_with(b"> "));
     assert!(rt; &text[2..] == LINES.as_bytes());

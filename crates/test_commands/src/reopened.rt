@@ -269,7 +269,7 @@ const ROWS: &[Row] = &[
 ];
 
 // Runs a script over a disk that is opened at this version, and returns the disk, or `None` if the replies are others.
-fn told<H: Threads + Wait + Sync>(
+fn disk_after_script<H: Threads + Wait + Sync>(
     rt: &H,
     alloc: Global,
     disk: Box<MemDisk>,
@@ -289,8 +289,8 @@ fn told<H: Threads + Wait + Sync>(
 // Whether both scripts of a row get their replies.
 fn are_told<H: Threads + Wait + Sync>(rt: &H, alloc: Global, row: &Row) -> Result<bool, Fail> {
     let disk = new_disk(alloc, b"", &[])?;
-    match told(rt, alloc, disk, row.first, 0, row.told)? {
-        Some(disk) => Ok(told(rt, alloc, disk, row.second, row.head, row.told_again)?.is_some()),
+    match disk_after_script(rt, alloc, disk, row.first, 0, row.told)? {
+        Some(disk) => Ok(disk_after_script(rt, alloc, disk, row.second, row.head, row.told_again)?.is_some()),
         None => Ok(false),
     }
 }

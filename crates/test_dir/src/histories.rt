@@ -66,7 +66,7 @@ const HISTORIES: &[History] = &[
 const MORE: &[Change] = &[(LOW, Some(b'c')), (NEAR, None), (FAR, Some(b'd'))];
 
 // The directory after landings on a new store.
-fn landed<H: Threads + Sync>(
+fn landed_directory<H: Threads + Sync>(
     rt: &H,
     alloc: Global,
     landings: &[Landing],
@@ -93,7 +93,7 @@ fn after<H: Threads + Sync>(
     alloc: Global,
     history: &History,
 ) -> Result<Box<Directory>, Fail> {
-    let mut directory = landed(rt, alloc, history.0)?;
+    let mut directory = landed_directory(rt, alloc, history.0)?;
     set_floor(&mut directory, history.1)?;
     Ok(directory)
 }
@@ -101,7 +101,7 @@ fn after<H: Threads + Sync>(
 // The root of a map, computed from all of its entries.
 fn root_of(alloc: Global, map: &[Change]) -> Result<Hash, Fail> {
     let batch = batch_of(alloc, map)?;
-    let map = PlainMap::new(alloc).applied(alloc, &batch)?;
+    let map = PlainMap::new(alloc).map_after(alloc, &batch)?;
     Ok(map.root(alloc)?)
 }
 

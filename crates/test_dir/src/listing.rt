@@ -54,8 +54,8 @@ fn is_listed(node: &(NodeName, PlainNode, u64), listed: &Listed) -> bool {
 
 // Whether these nodes are listed, in this order.
 fn are_listed(nodes: &[(NodeName, PlainNode, u64)], wanted: &[Listed]) -> bool {
-    for (node, listed) in nodes.iter().zip(wanted) {
-        if !is_listed(node, listed) {
+    for (node, live_list) in nodes.iter().zip(wanted) {
+        if !is_listed(node, live_list) {
             return false;
         }
     }
@@ -63,7 +63,7 @@ fn are_listed(nodes: &[(NodeName, PlainNode, u64)], wanted: &[Listed]) -> bool {
 }
 
 // What is listed after the pair is put.
-fn listed<H: Threads + Sync>(rt: &H, alloc: Global) -> Result<Box<LiveList>, Fail> {
+fn live_list<H: Threads + Sync>(rt: &H, alloc: Global) -> Result<Box<LiveList>, Fail> {
     let mut directory = new_store(alloc)?;
     let batch = batch_of(alloc, PAIR)?;
     land(rt, alloc, &mut directory, &batch, 1)?;
@@ -73,7 +73,7 @@ fn listed<H: Threads + Sync>(rt: &H, alloc: Global) -> Result<Box<LiveList>, Fai
 
 #[test]
 fn nodes_are_listed_by_name(rt: HostRuntime) -> Result<(), Fail> {
-    let nodes = listed(&rt, rt.alloc())?;
+    let nodes = live_list(&rt, rt.alloc())?;
     assert!(rt; are_listed(nodes.as_slice(), AFTER_PAIR));
     Ok(())
 }

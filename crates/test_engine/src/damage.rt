@@ -1,5 +1,5 @@
 // Files that end too early, or of which a byte is another: what an opening finds.
-use crate::records::{CHECKPOINT, CHECKPOINT_1, END, File, LANDED, LANDING, TWO, joined};
+use crate::records::{CHECKPOINT, CHECKPOINT_1, END, File, LANDED, LANDING, TWO, file_bytes};
 use jf_disk::Side;
 use jf_engine::{OpenFault, State};
 use jf_engine_play::stores::{disk_of, state_on};
@@ -100,8 +100,8 @@ fn make_edit(bytes: &mut Vec<u8>, edit: Edit) {
 }
 
 // The bytes of a file after edits.
-pub(crate) fn edited(alloc: Global, file: &[&[u8]], edits: &[Edit]) -> Result<Vec<u8>, Fail> {
-    let mut bytes = joined(alloc, file)?;
+pub(crate) fn edited_file(alloc: Global, file: &[&[u8]], edits: &[Edit]) -> Result<Vec<u8>, Fail> {
+    let mut bytes = file_bytes(alloc, file)?;
     for one in edits {
         make_edit(&mut bytes, *one);
     }
@@ -109,7 +109,7 @@ pub(crate) fn edited(alloc: Global, file: &[&[u8]], edits: &[Edit]) -> Result<Ve
 }
 
 // The numbers of the store of these bytes, or why it isn't opened.
-pub(crate) fn opened<H: Threads + Sync>(
+pub(crate) fn opened_store<H: Threads + Sync>(
     rt: &H,
     alloc: Global,
     a: &[u8],
@@ -119,8 +119,8 @@ pub(crate) fn opened<H: Threads + Sync>(
 }
 
 fn is_found<H: Threads + Sync>(rt: &H, alloc: Global, case: &Case) -> Result<bool, Fail> {
-    let bytes = edited(alloc, case.0, case.1)?;
-    Ok(opened(rt, alloc, &bytes, &[])? == case.2)
+    let bytes = edited_file(alloc, case.0, case.1)?;
+    Ok(opened_store(rt, alloc, &bytes, &[])? == case.2)
 }
 
 #[test]
@@ -144,9 +144,9 @@ fn after_cut(length: usize) -> Opened {
 #[test]
 fn a_file_that_ends_too_early_is_damaged(rt: HostRuntime) -> Result<(), Fail> {
     for length in 0..224 {
-        let bytes = edited(rt.alloc(), LANDED, &[Edit::Cut(length)])?;
+        let bytes = edited_file(rt.alloc(), LANDED, &[Edit::Cut(length)])?;
         assert!(rt;
-            opened(&rt, rt.alloc(), &bytes, &[])? == after_cut(length),
+            opened_store(&rt, rt.alloc(), &bytes, &[])? == after_cut(length),
             "{length}"
         );
     }

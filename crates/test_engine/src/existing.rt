@@ -1,5 +1,5 @@
 // Opening the store that files hold already: what is found, and that no byte of them changes.
-use crate::damage::{AFTER, AT_FIRST, AT_LANDING, BEFORE, Edit, Opened, edited};
+use crate::damage::{AFTER, AT_FIRST, AT_LANDING, BEFORE, Edit, Opened, edited_file};
 use crate::generations::AT_FIRST_OF_B;
 use crate::records::{END, File, LANDED, NEW, SECOND};
 use jf_disk::{MemDisk, Side};
@@ -69,8 +69,8 @@ fn found_of<H: Threads + Sync>(
 }
 
 fn is_found<H: Threads + Sync>(rt: &H, alloc: Global, case: &Case) -> Result<bool, Fail> {
-    let side_a = edited(alloc, case.0, case.1)?;
-    let side_b = edited(alloc, case.2, case.3)?;
+    let side_a = edited_file(alloc, case.0, case.1)?;
+    let side_b = edited_file(alloc, case.2, case.3)?;
     let (found, is_unchanged) = found_of(rt, alloc, &side_a, &side_b)?;
     Ok(found == case.4 && is_unchanged)
 }

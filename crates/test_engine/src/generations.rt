@@ -1,6 +1,6 @@
 // Side A with a new store, side B with its next generation: what an opening finds if side B is changed.
-use crate::damage::{BEFORE, Edit, Opened, edited, opened};
-use crate::records::{END, NEW, SECOND, joined};
+use crate::damage::{BEFORE, Edit, Opened, edited_file, opened_store};
+use crate::records::{END, NEW, SECOND, file_bytes};
 use jf_disk::Side;
 use jf_engine::{OpenFault, State};
 use jf_engine_play::stores::new_store;
@@ -44,9 +44,9 @@ fn is_found<H: Threads + Sync>(
     edit: Edit,
     want: Opened,
 ) -> Result<bool, Fail> {
-    let side_a = joined(alloc, NEW)?;
-    let side_b = edited(alloc, &[SECOND, END], &[edit])?;
-    Ok(opened(rt, alloc, &side_a, &side_b)? == want)
+    let side_a = file_bytes(alloc, NEW)?;
+    let side_b = edited_file(alloc, &[SECOND, END], &[edit])?;
+    Ok(opened_store(rt, alloc, &side_a, &side_b)? == want)
 }
 
 #[test]

@@ -2,13 +2,13 @@
 use crate::records::{
     CHECKPOINT, CHECKPOINT_1, COUNTED, END, FLOOR, File, GROUP, IMPORTED, IMPORTED_LAST, LANDED,
     LANDING, LANDING_OF_NOTHING, MOVED_ON, NEW, PRUNED, SECOND, TWO, TWO_KEYS_1, TWO_LANDINGS_1,
-    joined,
+    file_bytes,
 };
 use jf_disk::{MemDisk, Side};
 use jf_engine::{Engine, State};
 use jf_engine_play::entries::Entries;
 use jf_engine_play::steps::{Change, Step, THREE, take_each};
-use jf_engine_play::stores::{Store, disk_of, reopened, store_on};
+use jf_engine_play::stores::{Store, disk_of, reopened_store, store_on};
 use jf_hash::key_of;
 use std::alloc::Global;
 use std::test::Fail;
@@ -256,7 +256,7 @@ const IN_FORMAT_1: &[History] = &[
 
 // The store after the steps.
 fn after<H: Threads + Sync>(rt: &H, alloc: Global, history: &History) -> Result<Store, Fail> {
-    let side_a = joined(alloc, history.0)?;
+    let side_a = file_bytes(alloc, history.0)?;
     let mut engine = store_on(rt, alloc, disk_of(alloc, &side_a, &[], &[])?)?;
     take_each(rt, alloc, &mut engine, history.1)?;
     Ok(engine)
@@ -320,8 +320,8 @@ fn is_after(alloc: Global, engine: &Engine<MemDisk>, history: &History) -> Resul
         engine.state() == state
             && shows_versions(engine, &state)
             && has_maps(engine, &state, maps)
-            && engine.disk().bytes(Side::A) == joined(alloc, history.3)?.as_slice()
-            && engine.disk().bytes(Side::B) == joined(alloc, history.4)?.as_slice(),
+            && engine.disk().bytes(Side::A) == file_bytes(alloc, history.3)?.as_slice()
+            && engine.disk().bytes(Side::B) == file_bytes(alloc, history.4)?.as_slice(),
     )
 }
 
@@ -329,7 +329,7 @@ fn is_after(alloc: Global, engine: &Engine<MemDisk>, history: &History) -> Resul
 fn comes_out<H: Threads + Sync>(rt: &H, alloc: Global, history: &History) -> Result<bool, Fail> {
     let engine = after(rt, alloc, history)?;
     let before = is_after(alloc, &engine, history)?;
-    let again = reopened(rt, alloc, engine)?;
+    let again = reopened_store(rt, alloc, engine)?;
     Ok(before && is_after(alloc, &again, history)?)
 }
 

@@ -300,7 +300,7 @@ pub(crate) const LANDED: File = &[CHECKPOINT, LANDING, END];
 pub(crate) const TWO: File = &[CHECKPOINT, TWO_KEYS, END];
 
 // The bytes of a file.
-pub(crate) fn joined(alloc: Global, file: &[&[u8]]) -> Result<Vec<u8>, AllocError> {
+pub(crate) fn file_bytes(alloc: Global, file: &[&[u8]]) -> Result<Vec<u8>, AllocError> {
     let mut bytes = Vec::new(alloc);
     for record in file {
         bytes.extend_from_slice(record)?;

@@ -1,5 +1,5 @@
 // Calls that a store refuses, and stays as it was.
-use crate::records::{END, File, LAST_GENERATION, joined};
+use crate::records::{END, File, LAST_GENERATION, file_bytes};
 use jf_disk::{Disk, MemDisk};
 use jf_engine::{Engine, EngineFault, Which};
 use jf_engine_play::steps::{Step, THREE, take, take_each};
@@ -68,7 +68,7 @@ const REFUSALS: &[Refusal] = &[
 
 // The store after the steps.
 fn after<H: Threads + Sync>(rt: &H, alloc: Global, refusal: &Refusal) -> Result<Store, Fail> {
-    let side_a = joined(alloc, refusal.0)?;
+    let side_a = file_bytes(alloc, refusal.0)?;
     let mut engine = store_on(rt, alloc, disk_of(alloc, &side_a, &[], &[])?)?;
     take_each(rt, alloc, &mut engine, refusal.1)?;
     Ok(engine)
@@ -95,7 +95,7 @@ fn is_refused<H: Threads + Sync>(
 fn goes_so<H: Threads + Sync>(rt: &H, alloc: Global, refusal: &Refusal) -> Result<bool, Fail> {
     let mut engine = after(rt, alloc, refusal)?;
     let is_so = is_refused(rt, alloc, &mut engine, &refusal.2, refusal.3)?;
-    Ok(is_so && !engine.broken())
+    Ok(is_so && !engine.is_broken())
 }
 
 #[test]

@@ -69,7 +69,7 @@ fn succeeds<H: Threads + Sync>(
 }
 
 // The disk of an opening that met a fault.
-fn refused<H: Threads + Sync>(
+fn faulty_disk<H: Threads + Sync>(
     rt: &H,
     alloc: Global,
     disk: Box<MemDisk>,
@@ -94,7 +94,7 @@ fn each_fails<H: Threads + Sync>(
     found: &Found,
 ) -> Result<bool, Fail> {
     for call in 0..calls {
-        let disk = refused(rt, alloc, copy_of(alloc, files, &[call])?)?;
+        let disk = faulty_disk(rt, alloc, copy_of(alloc, files, &[call])?)?;
         if !leaves_since(rt, alloc, &disk, 0, (found, found))? {
             return Ok(false);
         }

@@ -197,7 +197,7 @@ fn is_refused<H: Threads + Sync>(
     why: EngineFault,
 ) -> Result<bool, Fail> {
     let taken = take(rt, alloc, engine, &case.2)?;
-    Ok(taken == Err(why) && engine.broken() && shows(engine, &case.4))
+    Ok(taken == Err(why) && engine.is_broken() && shows(engine, &case.4))
 }
 
 // Whether the step meets the fault of this call; the store takes no step after that; and a crash leaves what was before or

@@ -17,7 +17,7 @@ const ONE: Hash = [
 // The root of no map that is known here.
 const OTHER: Hash = [7; 32];
 
-fn copied(alloc: Global, claim: Option<&str>) -> Result<Option<Bytes>, Memory> {
+fn copied_claim(alloc: Global, claim: Option<&str>) -> Result<Option<Bytes>, Memory> {
     match claim {
         Some(text) => Ok(Some(Bytes::copy_of(alloc, text.as_bytes())?)),
         None => Ok(None),
@@ -25,10 +25,10 @@ fn copied(alloc: Global, claim: Option<&str>) -> Result<Option<Bytes>, Memory> {
 }
 
 // A claim on a name, with the proof by the leaf of `x`.
-fn judged(alloc: Global, name: &str, claim: Option<&str>) -> Result<Judged, Memory> {
+fn judged_claim(alloc: Global, name: &str, claim: Option<&str>) -> Result<Judged, Memory> {
     Ok(Judged {
         key: key_of(name.as_bytes()),
-        claim: copied(alloc, claim)?,
+        claim: copied_claim(alloc, claim)?,
         proof: proof_of_x(alloc, &siblings_of_x())?,
     })
 }
@@ -56,8 +56,8 @@ fn is_audited(
     second: (&str, Option<&str>),
     refused: Option<(u64, ProofFault)>,
 ) -> Result<bool, Memory> {
-    let first = Box::new(alloc, judged(alloc, first.0, first.1)?)?;
-    let second = Box::new(alloc, judged(alloc, second.0, second.1)?)?;
+    let first = Box::new(alloc, judged_claim(alloc, first.0, first.1)?)?;
+    let second = Box::new(alloc, judged_claim(alloc, second.0, second.1)?)?;
     comes_to(alloc, root, &first, &second, refused)
 }
 
@@ -103,7 +103,7 @@ fn claims_agree_or_the_first_that_is_refused_is_told(rt: HostRuntime) -> Result<
 fn one_claim_given_twice_agrees(rt: HostRuntime) -> Result<(), Fail> {
     let only = Judged {
         key: key_of(b"a"),
-        claim: copied(rt.alloc(), Some("1"))?,
+        claim: copied_claim(rt.alloc(), Some("1"))?,
         proof: Proof {
             leaf: Some((key_of(b"a"), value(b"1"))),
             siblings: HashList::new(rt.alloc()),

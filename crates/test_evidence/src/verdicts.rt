@@ -111,7 +111,7 @@ const INPUTS: &[(&[&str], &'static str)] = &[
 ];
 
 // Joins these parts.
-fn joined(alloc: Global, parts: &[&str]) -> Result<Bytes, Memory> {
+fn parts_in_a_row(alloc: Global, parts: &[&str]) -> Result<Bytes, Memory> {
     let mut text = Bytes::new(alloc);
     for part in parts {
         text.append(part.as_bytes())?;
@@ -134,7 +134,7 @@ fn is_answered(alloc: Global, input: &Bytes, wanted: &str) -> Result<(), Fail> {
 }
 
 pub(crate) fn are_answered(alloc: Global, parts: &[&str], wanted: &str) -> Result<(), Fail> {
-    let input = joined(alloc, parts)?;
+    let input = parts_in_a_row(alloc, parts)?;
     is_answered(alloc, &input, wanted)
 }
 
@@ -168,7 +168,7 @@ fn a_long_line_is_judged_by_its_length(rt: HostRuntime) -> Result<(), Fail> {
 
 // A block of this many siblings.
 fn deep(alloc: Global, siblings: u64) -> Result<Bytes, Memory> {
-    let mut text = joined(alloc, &[ROOT, "proof 257\n", NAME, CLAIM, LEAF])?;
+    let mut text = parts_in_a_row(alloc, &[ROOT, "proof 257\n", NAME, CLAIM, LEAF])?;
     for _ in 0..siblings {
         text.append(b"side 6e340b9cffb37a989ca544e6bb780a2c78901d3fb33738768511a30617afa01d\n")?;
     }
@@ -195,7 +195,7 @@ fn proof_of_two(alloc: Global) -> Result<Proof, Memory> {
 fn is_written(alloc: Global, proof: &Proof, wanted: &[&str]) -> Result<bool, Memory> {
     let mut out = Bytes::new(alloc);
     write_proof(b"a", Some(b"1"), proof, &mut out)?;
-    Ok(out.as_slice() == joined(alloc, wanted)?.as_slice())
+    Ok(out.as_slice() == parts_in_a_row(alloc, wanted)?.as_slice())
 }
 
 #[test]

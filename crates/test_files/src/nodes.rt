@@ -15,7 +15,7 @@ const ONE: &[u8] = &[0, 0, 0, 0, 0, 0, 0, 1];
 const TWO: &[u8] = &[0, 0, 0, 0, 0, 0, 0, 2];
 
 // The bytes of these parts, one after another.
-fn joined(alloc: Global, parts: &[&[u8]]) -> Result<Bytes, Memory> {
+fn parts_in_a_row(alloc: Global, parts: &[&[u8]]) -> Result<Bytes, Memory> {
     let mut bytes = Bytes::new(alloc);
     for part in parts {
         bytes.append(part)?;
@@ -46,7 +46,7 @@ fn five() -> NodeName {
 fn is_written(alloc: Global) -> Result<bool, Fail> {
     let mut out = Bytes::copy_of(alloc, b"before")?;
     encode_name(alloc, &five(), &mut out)?;
-    let want = joined(alloc, &[b"before", &FIVE])?;
+    let want = parts_in_a_row(alloc, &[b"before", &FIVE])?;
     Ok(out.as_slice() == want.as_slice())
 }
 
@@ -86,7 +86,7 @@ fn bytes_of_no_name_are_refused(rt: HostRuntime) {
 
 // Whether the bytes are a node that is written as them again, after others, and read from them before one byte more.
 fn goes_there_and_back(alloc: Global, parts: &[&[u8]]) -> Result<bool, Fail> {
-    let bytes = joined(alloc, parts)?;
+    let bytes = parts_in_a_row(alloc, parts)?;
     Ok(is_written_again(alloc, &bytes)? && is_read_in_front(alloc, &bytes)?)
 }
 
@@ -96,12 +96,12 @@ fn is_written_again(alloc: Global, bytes: &Bytes) -> Result<bool, Fail> {
     };
     let mut out = Bytes::copy_of(alloc, b"before")?;
     encode_node(alloc, &node, &mut out)?;
-    let want = joined(alloc, &[b"before", bytes.as_slice()])?;
+    let want = parts_in_a_row(alloc, &[b"before", bytes.as_slice()])?;
     Ok(out.as_slice() == want.as_slice())
 }
 
 fn is_read_in_front(alloc: Global, bytes: &Bytes) -> Result<bool, Fail> {
-    let longer = joined(alloc, &[bytes.as_slice(), &[9]])?;
+    let longer = parts_in_a_row(alloc, &[bytes.as_slice(), &[9]])?;
     match decode_node(alloc, longer.as_slice()) {
         Ok((_node, taken)) => Ok(taken as u64 == bytes.len()),
         Err(_) => Ok(false),
@@ -142,7 +142,7 @@ fn has_both_children(node: &PlainNode) -> bool {
 
 #[test]
 fn children_are_read_at_their_nibbles(rt: HostRuntime) -> Result<(), Fail> {
-    let bytes = joined(
+    let bytes = parts_in_a_row(
         rt.alloc(),
         &[&[3, 4, 2, 4, 0], ONE, TWO, HASH, TWO, ONE, OTHER],
     )?;
@@ -175,7 +175,7 @@ const NO_NODES: &[(&[&[u8]], CodecFault)] = &[
 ];
 
 fn is_no_node(alloc: Global, parts: &[&[u8]], fault: CodecFault) -> Result<bool, Fail> {
-    let bytes = joined(alloc, parts)?;
+    let bytes = parts_in_a_row(alloc, parts)?;
     Ok(decode_whole(alloc, bytes.as_slice()).err() == Some(fault))
 }
 

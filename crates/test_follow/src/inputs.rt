@@ -77,7 +77,7 @@ pub(crate) fn follow<H: Threads + Sync>(
     let mut source = MemSource::new(bytes, input.1.max(1), input.2.to_vec(alloc)?);
     let mut sink = MemSink::new(alloc, 7, 1_000, Vec::new(alloc))?;
     let engine = Box::into_inner(store);
-    if engine.broken() {
+    if engine.is_broken() {
         return Err(Fail::new("broken"));
     }
     let FollowedInput {

@@ -1,6 +1,6 @@
 // What inputs come to. Keys and roots are by Python's `hashlib`.
 use crate::inputs::{EMPTY, Input, OF_A, follow, has_landed};
-use jf_engine_play::stores::{new_store, reopened};
+use jf_engine_play::stores::{new_store, reopened_store};
 use jf_follow::{FollowFault, FollowRefused, Followed};
 use std::alloc::Global;
 use std::test::Fail;
@@ -107,7 +107,7 @@ fn is_followed_twice<H: Threads + Sync>(
 ) -> Result<bool, Fail> {
     let once = follow(rt, alloc, new_store(rt, alloc)?, input, FIRST_TOLD)?;
     let first = once.how == Followed::Done && once.landings == 1 && once.is_told;
-    let store = reopened(rt, alloc, once.engine)?;
+    let store = reopened_store(rt, alloc, once.engine)?;
     let again = follow(rt, alloc, store, input, FIRST_TOLD)?;
     Ok(first && again.how == Followed::Done && again.landings == 0 && again.is_told)
 }

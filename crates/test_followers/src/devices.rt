@@ -149,7 +149,7 @@ const ROWS: &[Row] = &[
 ];
 
 // What the blocks come to on devices that fail so.
-fn followed<H: Threads + Wait + Sync>(
+fn followed_run<H: Threads + Wait + Sync>(
     rt: &H,
     alloc: Global,
     row: &Row,
@@ -186,7 +186,7 @@ fn is_opened<H: Threads + Wait + Sync>(
 }
 
 fn ends_so<H: Threads + Wait + Sync>(rt: &H, alloc: Global, row: &Row) -> Result<bool, Fail> {
-    let played = followed(rt, alloc, row)?;
+    let played = followed_run(rt, alloc, row)?;
     let ended = has_ended_so(alloc, &played, row)?;
     is_opened(rt, alloc, played, row)?;
     Ok(ended)

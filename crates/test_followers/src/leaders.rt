@@ -22,7 +22,7 @@ const READS: &[u8] =
     b"root v2\nroot v3\nroot v4\nroot v5\nroot head\ncount head\nget head 61\nget head 63\nchunk head 0 10\n";
 
 // What a later run says over a disk.
-fn said<H: Threads + Wait + Sync>(
+fn later_run<H: Threads + Wait + Sync>(
     rt: &H,
     alloc: Global,
     disk: Box<MemDisk>,
@@ -66,8 +66,8 @@ fn has_the_same<H: Threads + Wait + Sync>(
     script: &[u8],
 ) -> Result<bool, Fail> {
     let (leader, follower) = led_and_followed(rt, alloc, script)?;
-    let one = said(rt, alloc, leader)?;
-    let other = said(rt, alloc, follower)?;
+    let one = later_run(rt, alloc, leader)?;
+    let other = later_run(rt, alloc, follower)?;
     Ok(are_same(&one, &other))
 }
 

@@ -77,7 +77,7 @@ fn open_images<H: Threads + Wait + Sync>(
 }
 
 // How many landings were acknowledged by a moment.
-fn acknowledged(entries: &[Entry], moment: u64) -> u64 {
+fn acknowledged_count(entries: &[Entry], moment: u64) -> u64 {
     let mut count: u64 = 0;
     for entry in entries {
         if let Entry::Landed { moment: at, .. } = entry {
@@ -96,7 +96,7 @@ fn is_safe<H: Threads + Wait + Sync>(
     ended: &Ended<MemDisk>,
 ) -> Result<bool, Fail> {
     for moment in 0..=ended.disk.moment() {
-        let low = acknowledged(ended.entries.as_slice(), moment);
+        let low = acknowledged_count(ended.entries.as_slice(), moment);
         let heads = (low, low.saturating_add(1));
         if !open_images(rt, alloc, &ended.disk, moment, heads)? {
             return Ok(false);
@@ -106,7 +106,7 @@ fn is_safe<H: Threads + Wait + Sync>(
 }
 
 // Follows the blocks on a disk that fails in this call.
-fn followed<H: Threads + Wait + Sync>(
+fn followed_end<H: Threads + Wait + Sync>(
     rt: &H,
     alloc: Global,
     failing: u64,
@@ -138,7 +138,7 @@ fn place_of(ended: &Ended<MemDisk>) -> Result<Reached, Fail> {
 
 // How far a run gets on a disk that fails in this call. Fails unless every image is as it has to be.
 fn reach<H: Threads + Wait + Sync>(rt: &H, alloc: Global, failing: u64) -> Result<Reached, Fail> {
-    let ended = followed(rt, alloc, failing)?;
+    let ended = followed_end(rt, alloc, failing)?;
     if is_safe(rt, alloc, &ended)? {
         place_of(&ended)
     } else {

@@ -1,5 +1,5 @@
 // Forks that land: the map of each version, and the forks that stay.
-use crate::rows::{Row, first_of, head_of_one, table_of, told};
+use crate::rows::{Row, first_of, head_of_one, table_of, byte_at};
 use jf_forks::{ForkFault, ForkTable};
 use jf_model::Parent;
 use jf_node::Snapshot;
@@ -131,7 +131,7 @@ fn land(alloc: Global, table: &mut ForkTable, id: u64) -> Result<BatchList, Fork
 
 fn tell(table: &ForkTable, expected: &[Told]) -> bool {
     for (id, key, byte) in expected {
-        if told(table, *id, *key) != *byte {
+        if byte_at(table, *id, *key) != *byte {
             return false;
         }
     }

@@ -10,7 +10,7 @@ use jf_split::{Batch, BatchFault, BatchList};
 use std::alloc::Global;
 use std::test::Fail;
 
-fn numbered(number: u64) -> Key {
+fn numbered_key(number: u64) -> Key {
     let mut key = [0; 32];
     key[30] = (number / 256 % 256) as u8;
     key[31] = (number % 256) as u8;
@@ -21,7 +21,7 @@ fn numbered(number: u64) -> Key {
 fn without_keys(alloc: Global, from: u64, end: u64) -> Result<Batch, BatchFault> {
     let mut batch = Batch::new(alloc);
     for number in from..end {
-        batch.del(alloc, &numbered(number))?;
+        batch.del(alloc, &numbered_key(number))?;
     }
     Ok(batch)
 }
@@ -41,7 +41,7 @@ fn add(alloc: Global, table: &mut ForkTable, head: &Snapshot, id: u64) -> Result
     ensures stands { OnOk result (StandsOver head.now.map table.new) }
 {
     let mut batch = Batch::new(alloc);
-    batch.del(alloc, &numbered(id))?;
+    batch.del(alloc, &numbered_key(id))?;
     table.make(alloc, head, parent_of(id), &batch)?;
     Ok(())
 }
@@ -61,7 +61,7 @@ fn chain_of(alloc: Global, head: &Snapshot, count: u64) -> Result<Box<ForkTable>
 
 fn takes_away(batch: &Batch, number: u64) -> bool {
     match batch.as_slice() {
-        [(key, None)] => *key == numbered(number),
+        [(key, None)] => *key == numbered_key(number),
         _ => false,
     }
 }

@@ -56,7 +56,7 @@ pub(crate) fn table_of(alloc: Global, head: &Snapshot, rows: &[Row]) -> Result<B
 }
 
 // The byte that a fork has at a key.
-pub(crate) fn told(table: &ForkTable, id: u64, key: u8) -> Result<Option<u8>, ForkFault> {
+pub(crate) fn byte_at(table: &ForkTable, id: u64, key: u8) -> Result<Option<u8>, ForkFault> {
     let tree = table.tree(id)?;
     Ok(first_of(tree.get(&[key; 32])))
 }

@@ -83,13 +83,13 @@ fn key_of(fill: u8, last: u8) -> Key {
     key
 }
 
-fn stored(alloc: Global) -> Result<SpecTree, Memory> {
+fn stored_tree(alloc: Global) -> Result<SpecTree, Memory> {
     let shared = SharedBytes::copy_of(alloc, b"a")?;
     let top = Link::leaf(alloc, 1, 0, &key_of(0x10, 0x10), &shared, &value(b"a"))?;
     SpecTree::on(&Snapshot::of(1, Some(top)))
 }
 
-fn said(alloc: Global, tree: &SpecTree, word: &Word) -> Result<SpecTree, Fail> {
+fn tree_after_word(alloc: Global, tree: &SpecTree, word: &Word) -> Result<SpecTree, Fail> {
     let (fill, last, byte) = *word;
     let mut batch = Batch::new(alloc);
     match byte {
@@ -101,11 +101,11 @@ fn said(alloc: Global, tree: &SpecTree, word: &Word) -> Result<SpecTree, Fail> {
 
 // Whether the changes lead to a root, and leave the first tree unchanged.
 fn lead_to(alloc: Global, words: &[Word], root: &Hash) -> Result<bool, Fail> {
-    let first = stored(alloc)?;
+    let first = stored_tree(alloc)?;
     let before = first.root();
     let mut tree = first.share()?;
     for word in words {
-        tree = said(alloc, &tree, word)?;
+        tree = tree_after_word(alloc, &tree, word)?;
     }
     Ok(tree.root() == *root && first.root() == before)
 }

@@ -1,5 +1,5 @@
 // Faults of source and sink.
-use crate::replies::{HONEST, TWO, joined};
+use crate::replies::{HONEST, TWO, parts_in_a_row};
 use jf_io::{MemSink, MemSource};
 use jf_judge::{Judged, judge_reply};
 use jf_path::Bytes;
@@ -42,7 +42,7 @@ fn ends_so(
 fn faults_end_judging(rt: HostRuntime) -> Result<(), Fail> {
     let alloc = rt.alloc();
     for (takes, room, puts, how, text) in FAULTS {
-        let source = MemSource::new(joined(alloc, HONEST)?, 200, takes.to_vec(alloc)?);
+        let source = MemSource::new(parts_in_a_row(alloc, HONEST)?, 200, takes.to_vec(alloc)?);
         let sink = MemSink::new(alloc, 3, *room, puts.to_vec(alloc)?)?;
         ends_so(alloc, source, sink, *how, text)?;
     }

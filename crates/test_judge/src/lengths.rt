@@ -1,5 +1,5 @@
 // Inputs as long as no proof block is.
-use crate::replies::{HONEST, TWO, joined};
+use crate::replies::{HONEST, TWO, parts_in_a_row};
 use jf_ask::LookupFault;
 use jf_io::{MAX_PIECE, MemSink, MemSource, Source};
 use jf_judge::{Judged, judge_reply};
@@ -18,8 +18,8 @@ const LENGTHS: &[(u64, u64)] = &[
 ];
 
 // An honest reply and further bytes after it, so many in all.
-fn padded(alloc: Global, size: u64) -> Result<Bytes, Memory> {
-    let mut text = joined(alloc, HONEST)?;
+fn padded_reply(alloc: Global, size: u64) -> Result<Bytes, Memory> {
+    let mut text = parts_in_a_row(alloc, HONEST)?;
     let missing = size.saturating_sub(text.len());
     for _ in 0..missing / 1_000 {
         text.append(&PADDING)?;
@@ -37,7 +37,7 @@ fn is_refused(alloc: Global, input: Bytes, taken: u64) -> Result<(), Fail> {
     let how = judge_reply(alloc, &root, b"a", &mut source, &mut sink);
     if how == Judged::Refused(LookupFault::NoBlock)
         && sink.text() == b"refused 6\n".as_slice()
-        && source.taken() == taken
+        && source.taken_count() == taken
     {
         Ok(())
     } else {
@@ -48,7 +48,7 @@ fn is_refused(alloc: Global, input: Bytes, taken: u64) -> Result<(), Fail> {
 #[test]
 fn long_inputs_are_refused(rt: HostRuntime) -> Result<(), Fail> {
     for (size, taken) in LENGTHS {
-        let input = padded(rt.alloc(), *size)?;
+        let input = padded_reply(rt.alloc(), *size)?;
         is_refused(rt.alloc(), input, *taken)?;
     }
     Ok(())

@@ -1,7 +1,7 @@
 // The line that a reply comes to, and how judging it ends.
 use crate::replies::{
     A, B, C, CLAIM, HEAD, HIGH, HONEST, LEAF, LOW, NONE, ONE, SETS_ONE, TWO, VOID, VOID_LEAF,
-    joined,
+    parts_in_a_row,
 };
 use jf_ask::LookupFault;
 use jf_evidence::ProofFault;
@@ -126,7 +126,7 @@ fn comes_to(
 #[test]
 fn replies_come_to_lines(rt: HostRuntime) -> Result<(), Fail> {
     for (root, name, parts, line, how) in REPLIES {
-        let reply = joined(rt.alloc(), parts)?;
+        let reply = parts_in_a_row(rt.alloc(), parts)?;
         comes_to(rt.alloc(), root, name, reply, line, *how)?;
     }
     Ok(())

@@ -48,7 +48,7 @@ pub(crate) const SETS_ONE: &str =
 pub(crate) const HONEST: &[&str] = &[HEAD, A, CLAIM, LEAF, LOW, HIGH];
 
 // Joins these parts.
-pub(crate) fn joined(alloc: Global, parts: &[&str]) -> Result<Bytes, Memory> {
+pub(crate) fn parts_in_a_row(alloc: Global, parts: &[&str]) -> Result<Bytes, Memory> {
     let mut text = Bytes::new(alloc);
     for part in parts {
         text.append(part.as_bytes())?;

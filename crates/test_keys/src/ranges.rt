@@ -273,7 +273,7 @@ fn has_changed_hashes(before: &Ranges, after: &Ranges) -> bool {
 #[test]
 fn a_change_leaves_the_hashes_of_the_changed_places(rt: HostRuntime) -> Result<(), Fail> {
     let before = Ranges::of(rt.alloc(), &APART)?;
-    let after = before.updated(rt.alloc(), &changed_slots(), changed_at_5())?;
+    let after = before.updated_ranges(rt.alloc(), &changed_slots(), changed_at_5())?;
     assert!(rt; is_hashed_anew(rt.alloc(), &after)?);
     assert!(rt; has_changed_hashes(&before, &after));
     Ok(())

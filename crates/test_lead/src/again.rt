@@ -20,7 +20,7 @@ fn written_again(alloc: Global, lines: &[&str]) -> Result<Bytes, Memory> {
 }
 
 // Each line with the byte that ends it.
-fn joined(alloc: Global, lines: &[&str]) -> Result<Bytes, Memory> {
+fn joined_lines(alloc: Global, lines: &[&str]) -> Result<Bytes, Memory> {
     let mut out = Bytes::new(alloc);
     for line in lines {
         out.append(line.as_bytes())?;
@@ -32,7 +32,7 @@ fn joined(alloc: Global, lines: &[&str]) -> Result<Bytes, Memory> {
 #[test]
 fn blocks_are_written_as_they_were_read(rt: HostRuntime) -> Result<(), Fail> {
     let again = written_again(rt.alloc(), LINES)?;
-    let text = joined(rt.alloc(), LINES)?;
+    let text = joined_lines(rt.alloc(), LINES)?;
     assert!(rt; again.as_slice() == text.as_slice());
     Ok(())
 }

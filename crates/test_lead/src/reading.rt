@@ -43,7 +43,7 @@ impl Came {
 }
 
 /// What lines come to after others: nothing more, if one of those was refused.
-fn fed(reader: &mut LandingReader, before: Came, lines: &[&str]) -> Came {
+fn outcome_of_lines(reader: &mut LandingReader, before: Came, lines: &[&str]) -> Came {
     let mut came = before;
     for line in lines {
         came = match reader.line(line.as_bytes()) {
@@ -58,8 +58,8 @@ fn fed(reader: &mut LandingReader, before: Came, lines: &[&str]) -> Came {
 /// What lines come to that follow others.
 pub(crate) fn came_to(alloc: Global, front: &[&str], lines: &[&str]) -> Came {
     let mut reader = LandingReader::new(alloc);
-    let came = fed(&mut reader, NOTHING, front);
-    let came = fed(&mut reader, came, lines);
+    let came = outcome_of_lines(&mut reader, NOTHING, front);
+    let came = outcome_of_lines(&mut reader, came, lines);
     match reader.end() {
         Ok(()) => came,
         Err(why) => came.refused_by(why),

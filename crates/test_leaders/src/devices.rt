@@ -10,7 +10,7 @@ use std::test::Fail;
 use std::thread::Threads;
 
 // What a script comes to over a new disk on which these calls fail.
-fn led<H: Threads + Wait + Sync>(
+fn led_run<H: Threads + Wait + Sync>(
     rt: &H,
     alloc: Global,
     failing: &[u64],
@@ -54,7 +54,7 @@ fn ends_there<H: Threads + Wait + Sync>(
         source: row.0,
         sink: &[],
     };
-    let played = led(rt, alloc, &[], faults)?;
+    let played = led_run(rt, alloc, &[], faults)?;
     let text = first_blocks(row.1);
     let ended = has_ended(&played, Status::ReadFault, Some(0), text);
     Ok(ended && played.entries == row.1 as u64 && has_landed(rt, alloc, played.disk, row.1)?)
@@ -99,7 +99,7 @@ fn goes_on<H: Threads + Wait + Sync>(
         source: &[],
         sink,
     };
-    let played = led(rt, alloc, &[], faults)?;
+    let played = led_run(rt, alloc, &[], faults)?;
     let whole = first_blocks(3);
     let is_front = whole.starts_with(&played.text) && played.text.len() < whole.len();
     let ended = played.status == Status::WriteFault && played.start == Some(0);
@@ -180,7 +180,7 @@ const BOTH: &[Both] = &[
 
 // Whether a run ends as its row says.
 fn ends_so<H: Threads + Wait + Sync>(rt: &H, alloc: Global, row: &Both) -> Result<bool, Fail> {
-    let played = led(rt, alloc, row.disk, row.faults)?;
+    let played = led_run(rt, alloc, row.disk, row.faults)?;
     let ended = has_ended(&played, row.status, Some(0), first_blocks(row.blocks));
     Ok(ended && played.entries == row.entries)
 }
@@ -195,7 +195,7 @@ fn of_several_faults_one_is_told(rt: HostRuntime) -> Result<(), Fail> {
 
 #[test]
 fn without_a_fault_all_blocks_are_written(rt: HostRuntime) -> Result<(), Fail> {
-    let played = led(&rt, rt.alloc(), &[], NO_FAULTS)?;
+    let played = led_run(&rt, rt.alloc(), &[], NO_FAULTS)?;
     assert!(rt; has_ended(&played, Status::Done, Some(0), first_blocks(3)));
     Ok(())
 }

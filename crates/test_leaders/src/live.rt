@@ -63,8 +63,8 @@ impl Source for LookingSource<'_> {
         self.script.take(buf)
     }
 
-    fn taken(&self) -> u64 {
-        self.script.taken()
+    fn taken_count(&self) -> u64 {
+        self.script.taken_count()
     }
 
     fn faults(&self) -> u64 {

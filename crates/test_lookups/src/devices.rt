@@ -17,7 +17,7 @@ const REPLY: &[u8] = b"1 ok proof 0\n\
     leaf 19d5f57c8e8b3cd760f853bb8d7900d68e10ef02674383de65a9b4d65e419b26 f254fd9353abb55f60a0942b46382c2428aa019d102cd9985275c0fb42a8dbb3\n";
 
 // What words and the reply come to over files that stand for no store, on a disk that fails in its first call.
-fn judged<H: Threads + Wait + Sync>(
+fn judged_run<H: Threads + Wait + Sync>(
     rt: &H,
     alloc: Global,
     words: &str,
@@ -80,7 +80,7 @@ fn ends_so<H: Threads + Wait + Sync>(
     alloc: Global,
     row: &(Faults, Status, &[u8]),
 ) -> Result<bool, Fail> {
-    let played = judged(rt, alloc, WORDS, row.0)?;
+    let played = judged_run(rt, alloc, WORDS, row.0)?;
     Ok(has_judged(&played, row.1, row.2))
 }
 
@@ -111,7 +111,7 @@ fn is_not_taken<H: Threads + Wait + Sync>(
     alloc: Global,
     words: &str,
 ) -> Result<bool, Fail> {
-    let played = judged(rt, alloc, words, NO_FAULTS)?;
+    let played = judged_run(rt, alloc, words, NO_FAULTS)?;
     Ok(has_judged(&played, Status::Usage, b""))
 }
 
@@ -126,7 +126,7 @@ fn judge_takes_a_root_and_a_name_and_no_option(rt: HostRuntime) -> Result<(), Fa
 #[test]
 fn a_word_may_stand_before_the_root(rt: HostRuntime) -> Result<(), Fail> {
     let words = "judge -- 9bb72c39f13d2b512ea34eae99a28f6d807a134ab125e89172310c6f6ea72f8f 61";
-    let played = judged(&rt, rt.alloc(), words, NO_FAULTS)?;
+    let played = judged_run(&rt, rt.alloc(), words, NO_FAULTS)?;
     assert!(rt; has_judged(&played, Status::Done, b"value =31\n"));
     Ok(())
 }

@@ -2,7 +2,7 @@
 // the files hold.
 use crate::images::{Found, NEW, RESTORED, shows_either};
 use jf_disk::{MemDisk, Side};
-use jf_play::blocks::{FIRST_BLOCK, Parts, RESTORE_PAIR, SECOND_BLOCK, received};
+use jf_play::blocks::{FIRST_BLOCK, Parts, RESTORE_PAIR, SECOND_BLOCK, play_of_parts};
 use jf_play::play::{Faults, NO_FAULTS, Played, has_ended};
 use jf_play::roots::with_roots;
 use jf_run::status::Status;
@@ -34,7 +34,7 @@ fn leaves_new<H: Threads + Wait + Sync>(
         source,
         ..NO_FAULTS
     };
-    let played = received(rt, alloc, RESTORE_PAIR, BLOCKS, faults)?;
+    let played = play_of_parts(rt, alloc, RESTORE_PAIR, BLOCKS, faults)?;
     let ended = has_read_fault(&played);
     Ok(ended && shows_either(rt, alloc, played.disk, (NEW, NEW))?)
 }
@@ -119,7 +119,7 @@ fn makes_it_all_the_same<H: Threads + Wait + Sync>(
         sink: row.sink,
         ..NO_FAULTS
     };
-    let played = received(rt, alloc, row.line, row.input, faults)?;
+    let played = play_of_parts(rt, alloc, row.line, row.input, faults)?;
     let ended = has_ended(&played, Status::WriteFault, Some(0), row.text);
     Ok(ended && shows_either(rt, alloc, played.disk, (row.found, row.found))?)
 }
@@ -147,7 +147,7 @@ const PAST_THE_END: Faults = Faults {
 fn no_call_comes_after_these(rt: HostRuntime) -> Result<(), Fail> {
     let alloc = rt.alloc();
     let want = with_roots(alloc, "restored 1 P 2\n")?;
-    let played = received(&rt, alloc, RESTORE_PAIR, BLOCKS, PAST_THE_END)?;
+    let played = play_of_parts(&rt, alloc, RESTORE_PAIR, BLOCKS, PAST_THE_END)?;
     assert!(rt; has_ended(&played, Status::Done, Some(0), &want));
     Ok(())
 }

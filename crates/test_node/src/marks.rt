@@ -118,7 +118,7 @@ fn leaves(
 ) -> bool {
     let same = match (index.take_upto(floor), taken) {
         (None, None) => true,
-        (Some((since, found)), Some(wanted)) => since == wanted && found == *name,
+        (Some((since, found_count)), Some(wanted)) => since == wanted && found_count == *name,
         _ => false,
     };
     same && index.len() == left
@@ -149,7 +149,7 @@ fn is_found(index: &mut StaleIndex, at: usize) -> Result<bool, Fail> {
 }
 
 // How many marks are found or missed as expected before the first that isn't.
-fn found(index: &mut StaleIndex) -> Result<usize, Fail> {
+fn found_count(index: &mut StaleIndex) -> Result<usize, Fail> {
     for (i, (at, there)) in TAKEN_AWAY.iter().enumerate() {
         if is_found(index, *at)? != *there {
             return Ok(i);
@@ -167,7 +167,7 @@ fn has_two(index: &mut StaleIndex) -> Result<bool, Fail> {
 // Whether marks that are made twice are taken away once.
 fn are_taken_away(index: &mut StaleIndex) -> Result<bool, Fail> {
     mark_all(index, &[1, 1, 4, 4, 5, 5])?;
-    let all = found(index)? == 5;
+    let all = found_count(index)? == 5;
     Ok(all && has_two(index)?)
 }
 

@@ -1,7 +1,7 @@
 // Links, children and snapshots, whose roots are compared with those that the definition gives.
 ghost use Rattle.std.specs.Prelude.{◌≡◌, ℕ, ◌+◌, ◌≤◌, ◌<◌, [], ◌∷◌, length, IfOk, Some};
 ghost use Rattle.jf_path.specs.Nibbles.{nibble};
-ghost use Rattle.jf_node.specs.Children.{joined, FitFrom, FitsAt, leaf_value};
+ghost use Rattle.jf_node.specs.Children.{entries_of_children, FitFrom, FitsAt, leaf_value};
 ghost use Rattle.jf_node.specs.LinkFacts.{BeginAlike};
 
 use jf_hash::{Hash, empty, inner, leaf, plain_root, value};
@@ -36,7 +36,7 @@ fn leaves(alloc: Global, depth: u64, low: &Key, high: &Key) -> Result<Sixteen, M
     requires depth { depth < 64 }
     requires parts { nibble low.now depth < nibble high.now depth }
     ensures fit { IfOk result (λ s. FitFrom depth 0 s) }
-    ensures union { IfOk result (λ s. joined s ≡ (low.now, 97 ∷ []) ∷ (high.now, 98 ∷ []) ∷ []) }
+    ensures union { IfOk result (λ s. entries_of_children s ≡ (low.now, 97 ∷ []) ∷ (high.now, 98 ∷ []) ∷ []) }
 {
     let a = one(alloc, depth + 1, low, b"a")?;
     let b = one(alloc, depth + 1, high, b"b")?;
@@ -47,7 +47,7 @@ fn leaves(alloc: Global, depth: u64, low: &Key, high: &Key) -> Result<Sixteen, M
 }
 
 // The node over the leaves of two keys that part at a depth, and agree down to it.
-fn parted(alloc: Global, depth: u64, low: &Key, high: &Key) -> Result<Link, Memory>
+fn parted_node(alloc: Global, depth: u64, low: &Key, high: &Key) -> Result<Link, Memory>
     requires depth { depth < 64 }
     requires parts { nibble low.now depth < nibble high.now depth }
     requires alike { (i : ℕ) → i < depth → nibble low.now i ≡ nibble high.now i }
@@ -84,7 +84,7 @@ fn two(alloc: Global, depth: u64, low: &Key, high: &Key) -> Result<Link, Memory>
     }
     let n = nibble(low, depth as usize);
     if n.get() < nibble(high, depth as usize).get() {
-        return parted(alloc, depth, low, high);
+        return parted_node(alloc, depth, low, high);
     }
     if n.get() > nibble(high, depth as usize).get() {
         return Err(Memory);
@@ -105,7 +105,7 @@ fn again(alloc: Global, link: &Link, changed: Bitmap) -> Result<Link, Memory>
     ensures { IfOk result (λ x. (x.entries ≡ link.now.entries) × (x.depth ≡ link.now.depth)) }
 {
     match link.view() {
-        Seen::Leaf { .. } => link.renewed(alloc, 2),
+        Seen::Leaf { .. } => link.renewed_link(alloc, 2),
         Seen::Inner { children } => {
             let children = children.share()?;
             link.with_children(alloc, 2, children, changed)
@@ -152,7 +152,7 @@ fn keeps_its_hash(alloc: Global, link: &Link, changed: Bitmap) -> Result<bool, M
 
 // Whether the node of another version has the same hash.
 fn is_renewed(alloc: Global, link: &Link) -> Result<bool, Memory> {
-    let renewed = link.renewed(alloc, 3)?;
+    let renewed = link.renewed_link(alloc, 3)?;
     Ok(renewed.hash() == link.hash() && renewed.version() == 3)
 }
 

@@ -1,7 +1,7 @@
 // One file of which some bytes are others, or which ends too early: where damage is reported, and that a refused opening
 // changes no byte. All places are worked out from the layout in docs/FORMATS.md: they are the offsets of gates.
 use crate::openings::{
-    Change, FIRST_LANDING, Files, LANDED, LANDED_TWICE, changed, is_damaged, opened,
+    Change, FIRST_LANDING, Files, LANDED, LANDED_TWICE, changed_file, is_damaged, opened_run,
 };
 use jf_disk::Side;
 use jf_play::play::has_ended;
@@ -110,7 +110,7 @@ fn has_head<H: Threads + Wait + Sync>(
     told: &str,
 ) -> Result<bool, Fail> {
     let told = with_roots(alloc, told)?;
-    let played = opened(rt, alloc, files, b"root head", &[])?;
+    let played = opened_run(rt, alloc, files, b"root head", &[])?;
     Ok(has_ended(&played, Status::Done, Some(head), &told))
 }
 
@@ -132,7 +132,7 @@ fn is_found<H: Threads + Wait + Sync>(
 fn damage_is_told_at_its_gate(rt: HostRuntime) -> Result<(), Fail> {
     let alloc = rt.alloc();
     for (len, changes, found) in TWICE {
-        let file = changed(alloc, LANDED_TWICE, *len, changes)?;
+        let file = changed_file(alloc, LANDED_TWICE, *len, changes)?;
         assert!(rt;
             is_found(&rt, alloc, file, *found)?,
             "of {len} bytes with {changes:?}"
@@ -145,7 +145,7 @@ fn damage_is_told_at_its_gate(rt: HostRuntime) -> Result<(), Fail> {
 fn a_changed_byte_is_damage_if_the_file_says_something_else(rt: HostRuntime) -> Result<(), Fail> {
     let alloc = rt.alloc();
     for (changes, found) in ONCE {
-        let file = changed(alloc, LANDED, 223, changes)?;
+        let file = changed_file(alloc, LANDED, 223, changes)?;
         assert!(rt; is_found(&rt, alloc, file, *found)?, "with {changes:?}");
     }
     Ok(())
@@ -166,7 +166,7 @@ fn found_in_front(len: usize) -> Found {
 fn a_file_that_ends_too_early_is_damage(rt: HostRuntime) -> Result<(), Fail> {
     let alloc = rt.alloc();
     for len in 0..=223 {
-        let file = changed(alloc, LANDED, len, &[])?;
+        let file = changed_file(alloc, LANDED, len, &[])?;
         assert!(rt;
             is_found(&rt, alloc, file, found_in_front(len))?,
             "of {len} bytes"
@@ -190,7 +190,7 @@ fn is_found_under<H: Threads + Wait + Sync>(
     gate: u8,
     len: usize,
 ) -> Result<bool, Fail> {
-    let file = changed(alloc, LANDED, len, &[(100, gate)])?;
+    let file = changed_file(alloc, LANDED, len, &[(100, gate)])?;
     is_found(rt, alloc, file, found_without_landing(len))
 }
 

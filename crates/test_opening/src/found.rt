@@ -1,6 +1,6 @@
 // Files that stand for versions: what they are answered, and what is written after them. The records are byte by byte, and
 // the replies are worked out from what they say.
-use crate::openings::{Change, Files, LANDED, LANDED_TWICE, NEW, changed, holds, opened};
+use crate::openings::{Change, Files, LANDED, LANDED_TWICE, NEW, changed_file, holds, opened_run};
 use crate::records::LANDING_IN_1;
 use jf_play::files::{
     CHECKPOINT, CHECKPOINT_1, COMPACTED, END, FLOOR, File, GROUP, IMPORTED, LANDING,
@@ -211,8 +211,8 @@ const ALL: usize = 10_000;
 // The two files, with bytes that are changed on side B.
 fn files_of(alloc: Global, files: (File, File), changes: &[Change]) -> Result<Files, Fail> {
     Ok(Files {
-        a: changed(alloc, files.0, ALL, &[])?,
-        b: changed(alloc, files.1, ALL, changes)?,
+        a: changed_file(alloc, files.0, ALL, &[])?,
+        b: changed_file(alloc, files.1, ALL, changes)?,
     })
 }
 
@@ -221,7 +221,7 @@ fn goes_on<H: Threads + Wait + Sync>(rt: &H, alloc: Global, row: &Row) -> Result
     let before = files_of(alloc, row.before, row.changes)?;
     let after = files_of(alloc, row.after, row.changes)?;
     let want = with_roots(alloc, row.want)?;
-    let played = opened(rt, alloc, &before, row.script.as_bytes(), &[])?;
+    let played = opened_run(rt, alloc, &before, row.script.as_bytes(), &[])?;
     let ended = has_ended(&played, Status::Done, Some(row.head), &want);
     Ok(ended && holds(&played.disk, &after))
 }

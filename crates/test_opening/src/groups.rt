@@ -1,5 +1,5 @@
 // Three landings in one record: a file has all three versions or none of them, wherever it ends.
-use crate::openings::{FIRST_LANDING, Files, changed, opened};
+use crate::openings::{FIRST_LANDING, Files, changed_file, opened_run};
 use jf_disk::Side;
 use jf_play::files::{CHECKPOINT, END, File, GROUP};
 use jf_run::status::Status;
@@ -16,7 +16,7 @@ const WHOLE: usize = 614;
 // The first `len` bytes of the file, with this byte as the gate of its second record.
 fn front(alloc: Global, len: usize, gate: u8) -> Result<Files, Fail> {
     Ok(Files {
-        a: changed(alloc, FILE, len, &[(100, gate)])?,
+        a: changed_file(alloc, FILE, len, &[(100, gate)])?,
         b: Vec::new(alloc),
     })
 }
@@ -29,7 +29,7 @@ fn is_opened<H: Threads + Wait + Sync>(
     status: Status,
     start: Option<u64>,
 ) -> Result<bool, Fail> {
-    let played = opened(rt, alloc, files, b"", &[])?;
+    let played = opened_run(rt, alloc, files, b"", &[])?;
     Ok(played.status == status && played.start == start)
 }
 

@@ -24,7 +24,7 @@ pub(crate) const FIRST_LANDING: u64 = 100;
 pub(crate) type Change = (usize, u8);
 
 // The first `len` bytes of a file, with other bytes at some offsets.
-pub(crate) fn changed(
+pub(crate) fn changed_file(
     alloc: Global,
     file: File,
     len: usize,
@@ -48,7 +48,7 @@ pub(crate) struct Files {
 }
 
 // Runs a script over these files. The calls whose numbers are in `failing` fail.
-pub(crate) fn opened<H: Threads + Wait + Sync>(
+pub(crate) fn opened_run<H: Threads + Wait + Sync>(
     rt: &H,
     alloc: Global,
     files: &Files,
@@ -88,7 +88,7 @@ fn has_failed<H: Threads + Wait + Sync>(
     offset: u64,
     failing: u64,
 ) -> Result<bool, Fail> {
-    let played = opened(rt, alloc, files, b"put 61 =31\ncommit", &[failing])?;
+    let played = opened_run(rt, alloc, files, b"put 61 =31\ncommit", &[failing])?;
     if !is_refused(&played, files) {
         return Err(Fail::new("a refused opening changed the files"));
     }

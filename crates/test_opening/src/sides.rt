@@ -1,6 +1,6 @@
 // Two files of which both hold bytes: which of them counts, and where damage is reported, worked out from the order in
 // docs/FORMATS.md.
-use crate::openings::{Change, Files, LANDED, NEW, changed, is_damaged};
+use crate::openings::{Change, Files, LANDED, NEW, changed_file, is_damaged};
 use crate::records::{BATCH, LANDING_IN_1};
 use jf_disk::Side;
 use jf_play::files::{
@@ -224,8 +224,8 @@ const DAMAGED: &[Row] = &[
 // Whether files are damaged as a row says, and a refused opening changes neither.
 fn is_damaged_so<H: Threads + Wait + Sync>(rt: &H, alloc: Global, row: &Row) -> Result<bool, Fail> {
     let files = Files {
-        a: changed(alloc, row.1, ALL, &[])?,
-        b: changed(alloc, row.2, ALL, row.3)?,
+        a: changed_file(alloc, row.1, ALL, &[])?,
+        b: changed_file(alloc, row.2, ALL, row.3)?,
     };
     is_damaged(rt, alloc, &files, row.4, row.5)
 }

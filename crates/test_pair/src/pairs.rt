@@ -125,7 +125,7 @@ fn live_on_files(alloc: Global, disk: &mut FileDisk) -> Result<bool, PairFault> 
     let (mut pair, log) = Pair::open(alloc, disk)?;
     let count = count_of(log);
     write_files(&mut pair, disk)?;
-    Ok(count.is_none() && pair.is_live() && !pair.failed())
+    Ok(count.is_none() && pair.is_live() && !pair.has_failed())
 }
 
 fn live_in(rt: &HostRuntime, folder: &str) -> Result<bool, Fail> {
@@ -185,7 +185,7 @@ fn live_on(alloc: Global, disk: &mut MemDisk) -> Result<(), PairFault> {
 }
 
 // An empty disk on which this call failed, if it was reached, after the frames were written, and whether all were.
-fn lived(alloc: Global, failing: u64) -> Result<(Box<MemDisk>, bool), Fail> {
+fn disk_after_failure(alloc: Global, failing: u64) -> Result<(Box<MemDisk>, bool), Fail> {
     let listed = vec![in alloc; failing]?;
     let mut disk = MemDisk::new(alloc, Vec::new(alloc), Vec::new(alloc), 30, 80, listed)?;
     let is_written = live_on(alloc, &mut disk).is_ok();
@@ -230,7 +230,7 @@ fn all_leave_lists(alloc: Global, disk: &MemDisk) -> Result<bool, Fail> {
 }
 
 fn stops_well(alloc: Global, failing: u64, moment: u64) -> Result<bool, Fail> {
-    let (disk, is_written) = lived(alloc, failing)?;
+    let (disk, is_written) = disk_after_failure(alloc, failing)?;
     Ok(
         disk.moment() == moment
             && is_written == (failing == u64::MAX)

@@ -88,7 +88,7 @@ fn run_two<H: Threads + Wait + Sync>(
 // Whether a store was closed as it must be after a run.
 fn has_come_to(closed: &Closed<MemDisk>, run: Run) -> bool {
     let state = closed.engine.state();
-    let whole = !closed.engine.broken();
+    let whole = !closed.engine.is_broken();
     match run {
         Run::Held => whole && state.head == 3 && state.floor == 1,
         Run::Shown => whole && state.head == 2,

@@ -45,7 +45,7 @@ fn has_own_byte(snapshot: &Snapshot) -> bool {
 
 // Whether this version is pinned at a place, and is read as it was.
 pub(crate) fn reads_pinned(pass: &Pass<MemDisk>, place: u64, version: u64) -> bool {
-    match pass.pinned(place) {
+    match pass.pinned_snapshot(place) {
         Some(snapshot) => snapshot.version() == version && has_own_byte(snapshot),
         None => false,
     }

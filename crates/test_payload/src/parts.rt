@@ -44,7 +44,7 @@ pub(crate) const INNER: &[u8] = &[2, 4, 2, 4, 0];
 pub(crate) const COUNTED: &[u8] = &[3, 4, 2, 4, 0];
 
 // The bytes of these parts, one after another.
-pub(crate) fn joined(alloc: Global, parts: &[&[u8]]) -> Result<Vec<u8>, AllocError> {
+pub(crate) fn parts_in_a_row(alloc: Global, parts: &[&[u8]]) -> Result<Vec<u8>, AllocError> {
     let mut bytes = Vec::new(alloc);
     for part in parts {
         bytes.extend_from_slice(part)?;

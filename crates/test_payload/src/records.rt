@@ -1,7 +1,7 @@
 // Worked payloads of each kind in both formats: each is read and written again, and no shorter or longer one is read.
 use crate::parts::{
     COUNTED, EMPTY, HASH, INNER, KEY, LAST, LEAF, N0, N1, N2, N3, NEVER, NULL, ROOT0, ROOT1, ROOT2,
-    UNDER1, VALUE, joined,
+    UNDER1, VALUE, parts_in_a_row,
 };
 use jf_codec::Format;
 use jf_payload::{
@@ -57,7 +57,7 @@ pub(crate) const READ: &[(u8, Format, &[&[u8]])] = &[
 // Whether a frame has this kind and this payload.
 fn is_frame(alloc: Global, frame: &[u8], kind: u8, payload: &[u8]) -> Result<bool, Fail> {
     let length = (payload.len() as u64).to_be_bytes();
-    let expected = joined(alloc, &[&[kind], &length, payload, &[0]])?;
+    let expected = parts_in_a_row(alloc, &[&[kind], &length, payload, &[0]])?;
     Ok(frame == expected.as_slice())
 }
 
@@ -75,7 +75,7 @@ fn goes_there_and_back(
     format: Format,
     parts: &[&[u8]],
 ) -> Result<bool, Fail> {
-    let payload = joined(alloc, parts)?;
+    let payload = parts_in_a_row(alloc, parts)?;
     is_written_again(alloc, kind, &payload, format)
 }
 
@@ -97,7 +97,7 @@ pub(crate) fn is_refused(alloc: Global, kind: u8, payload: &[u8], format: Format
 
 // Whether each shorter front of a payload is refused, and the payload with one byte more.
 fn holds_no_other(alloc: Global, kind: u8, format: Format, parts: &[&[u8]]) -> Result<bool, Fail> {
-    let mut payload = joined(alloc, parts)?;
+    let mut payload = parts_in_a_row(alloc, parts)?;
     for end in 0..payload.len() {
         if !is_refused(alloc, kind, &payload[..end], format) {
             return Ok(false);
@@ -128,8 +128,8 @@ fn is_written_without_counts(alloc: Global, counted: &[u8], plain: &[u8]) -> Res
 
 #[test]
 fn format_1_leaves_out_counts(rt: HostRuntime) -> Result<(), Fail> {
-    let counted = joined(rt.alloc(), LANDING_OF_COUNTED)?;
-    let plain = joined(rt.alloc(), LANDING_OF_INNER)?;
+    let counted = parts_in_a_row(rt.alloc(), LANDING_OF_COUNTED)?;
+    let plain = parts_in_a_row(rt.alloc(), LANDING_OF_INNER)?;
     assert!(rt; is_written_without_counts(rt.alloc(), &counted, &plain)?);
     Ok(())
 }
@@ -156,7 +156,7 @@ fn is_landing_of_a_leaf(alloc: Global, payload: &[u8]) -> Result<bool, Fail> {
 
 #[test]
 fn a_landing_is_read_field_by_field(rt: HostRuntime) -> Result<(), Fail> {
-    let payload = joined(rt.alloc(), LANDING)?;
+    let payload = parts_in_a_row(rt.alloc(), LANDING)?;
     assert!(rt; payload.len() == 112);
     assert!(rt; is_landing_of_a_leaf(rt.alloc(), &payload)?);
     Ok(())

@@ -1,7 +1,7 @@
 // Tables of payloads that spell no record: each bound, and each field that is wrong.
 use crate::parts::{
     COUNTED, EMPTY, HASH, INNER, KEY, LAST, LEAF, N0, N1, N2, N3, NEVER, NULL, ROOT0, ROOT1, ROOT2,
-    VALUE, joined,
+    VALUE, parts_in_a_row,
 };
 use crate::records::is_refused;
 use jf_codec::Format;
@@ -268,7 +268,7 @@ const GROUPS: &[Row] = &[
 ];
 
 fn are_refused(alloc: Global, row: &Row) -> Result<bool, Fail> {
-    let payload = joined(alloc, row.3)?;
+    let payload = parts_in_a_row(alloc, row.3)?;
     Ok(is_refused(alloc, row.1, &payload, row.2))
 }
 

@@ -66,7 +66,7 @@ fn replies_are_judged_with_no_store(rt: HostRuntime) -> Result<(), Fail> {
 }
 
 // Runs `verify` over a new disk, with the faults of the source and the sink.
-fn judged<H: Threads + Wait + Sync>(
+fn judged_run<H: Threads + Wait + Sync>(
     rt: &H,
     alloc: Global,
     blocks: &[u8],
@@ -109,7 +109,7 @@ fn a_fault_ends_the_judging(rt: HostRuntime) -> Result<(), Fail> {
     let alloc = rt.alloc();
     let block = replies(alloc, ONE, CLAIM)?;
     for (faults, status, told) in FAULTS {
-        let played = judged(&rt, alloc, &block, *faults)?;
+        let played = judged_run(&rt, alloc, &block, *faults)?;
         assert!(rt;
             has_ended(&played, *status, None, told.as_bytes()),
             "of {told}"
@@ -129,13 +129,13 @@ fn what_was_judged_before_a_fault_is_told(rt: HostRuntime) -> Result<(), Fail> {
     let alloc = rt.alloc();
     let mut blocks = replies(alloc, ONE, CLAIM)?;
     blocks.extend_from_slice(&replies(alloc, ONE, CLAIM)?)?;
-    let played = judged(&rt, alloc, &blocks, FIFTH_READ)?;
+    let played = judged_run(&rt, alloc, &blocks, FIFTH_READ)?;
     assert!(rt; has_ended(&played, Status::ReadFault, None, b"accepted\n"));
     Ok(())
 }
 
 // The replies of a run that proves a name that is there, and one that isn't.
-fn proved<H: Threads + Wait + Sync>(rt: &H, alloc: Global) -> Result<Vec<u8>, Fail> {
+fn proof_replies<H: Threads + Wait + Sync>(rt: &H, alloc: Global) -> Result<Vec<u8>, Fail> {
     let script = b"put 61 =31\ncommit\nroot v1\nprove v1 61\nprove v1 62\n";
     let disk = new_disk(alloc, b"", &[])?;
     Ok(play(rt, alloc, disk, "run", script, NO_FAULTS)?.text)
@@ -144,8 +144,8 @@ fn proved<H: Threads + Wait + Sync>(rt: &H, alloc: Global) -> Result<Vec<u8>, Fa
 #[test]
 fn the_replies_of_a_run_are_judged(rt: HostRuntime) -> Result<(), Fail> {
     let alloc = rt.alloc();
-    let text = proved(&rt, alloc)?;
-    let played = judged(&rt, alloc, &text, NO_FAULTS)?;
+    let text = proof_replies(&rt, alloc)?;
+    let played = judged_run(&rt, alloc, &text, NO_FAULTS)?;
     let verdicts = b"syntax 1\nsyntax 2\naccepted\naccepted\n";
     assert!(rt; has_ended(&played, Status::Done, None, verdicts));
     Ok(())

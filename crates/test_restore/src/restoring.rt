@@ -3,7 +3,7 @@
 use crate::records::RESTORED;
 use jf_disk::{MemDisk, Side};
 use jf_play::blocks::{
-    EMPTY_SIDE, FIRST_BLOCK, FIRST_ENTRY, Parts, RESTORE_PAIR, SECOND_BLOCK, SECOND_ENTRY, received,
+    EMPTY_SIDE, FIRST_BLOCK, FIRST_ENTRY, Parts, RESTORE_PAIR, SECOND_BLOCK, SECOND_ENTRY, play_of_parts,
 };
 use jf_play::files::{CHECKPOINT, END, File, IMPORTED, bytes_of};
 use jf_play::play::{Faults, NO_FAULTS, Played, answers, has_ended};
@@ -122,7 +122,7 @@ fn is_found_again<H: Threads + Wait + Sync>(
     alloc: Global,
     row: &Row,
 ) -> Result<bool, Fail> {
-    let played = received(rt, alloc, row.line, row.input, NO_FAULTS)?;
+    let played = play_of_parts(rt, alloc, row.line, row.input, NO_FAULTS)?;
     let restored = is_restored(alloc, &played, row.text)?;
     are_replied(rt, alloc, played.disk, row)?;
     Ok(restored)
@@ -158,7 +158,7 @@ fn leaves_checkpoint<H: Threads + Wait + Sync>(
     alloc: Global,
     row: &(&str, Parts, File),
 ) -> Result<bool, Fail> {
-    let played = received(rt, alloc, row.0, row.1, NO_FAULTS)?;
+    let played = play_of_parts(rt, alloc, row.0, row.1, NO_FAULTS)?;
     has_files(alloc, &played.disk, row.2)
 }
 
@@ -180,7 +180,7 @@ fn pieces_change_nothing<H: Threads + Wait + Sync>(
     piece: usize,
 ) -> Result<bool, Fail> {
     let faults = Faults { piece, ..NO_FAULTS };
-    let played = received(
+    let played = play_of_parts(
         rt,
         alloc,
         RESTORE_PAIR,

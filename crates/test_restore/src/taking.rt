@@ -56,7 +56,7 @@ fn takes_little_more<H: Threads + Wait + Sync>(
     let end = bytes_of(alloc, input)?.len() as u64;
     let mut source = with_more(alloc, input)?;
     let refused = is_refused(rt, alloc, &mut source)?;
-    Ok(refused && source.taken() < end.saturating_add(4096))
+    Ok(refused && source.taken_count() < end.saturating_add(4096))
 }
 
 #[test]

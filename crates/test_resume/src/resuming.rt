@@ -235,7 +235,7 @@ fn a_gate_that_reads_wrong_is_noticed(rt: HostRuntime) -> Result<(), Fail> {
 const TORN: &[usize] = &[0, 1, 2, 50, 100, 101];
 
 // Both sides of a store that so many bytes are left of.
-fn torn(alloc: Global, count: usize) -> Result<Sides, Fail> {
+fn torn_sides(alloc: Global, count: usize) -> Result<Sides, Fail> {
     const FIRST: File = &[CHECKPOINT, END];
     let mut a = bytes_of(alloc, FIRST)?;
     match a.get_mut(0) {
@@ -256,7 +256,7 @@ fn finds_none<H: Threads + Wait + Sync>(
     count: usize,
     line: &'static str,
 ) -> Result<bool, Fail> {
-    let sides = torn(alloc, count)?;
+    let sides = torn_sides(alloc, count)?;
     let disk = disk_of(alloc, &sides.0, &sides.1, &[])?;
     is_elsewhere(rt, alloc, disk, line, None, (0, OF_NONE), &sides)
 }
@@ -276,7 +276,7 @@ fn a_lost_store_is_not_begun_anew(rt: HostRuntime) -> Result<(), Fail> {
 
 // Whether a call on the disk that fails ends such a run, and leaves files without a record as they were.
 fn stops_well<H: Threads + Wait + Sync>(rt: &H, alloc: Global, failing: u64) -> Result<bool, Fail> {
-    let sides = torn(alloc, 50)?;
+    let sides = torn_sides(alloc, 50)?;
     let disk = disk_of(alloc, &sides.0, &sides.1, &[failing])?;
     let played = play_roots(rt, alloc, disk, ("resume 1 E", SCRIPT), UNTOUCHED)?;
     Ok(has_ended(&played, Status::DiskFault, None, b"") && has_sides(&played.disk, &sides))
@@ -293,7 +293,7 @@ fn a_fault_begins_no_store_either(rt: HostRuntime) -> Result<(), Fail> {
 // Whether the words with the root of a new store begin files without a record, and go on as `run`.
 fn begins<H: Threads + Wait + Sync>(rt: &H, alloc: Global, count: usize) -> Result<bool, Fail> {
     const BEGUN: File = &[CHECKPOINT, LANDING, END];
-    let sides = torn(alloc, count)?;
+    let sides = torn_sides(alloc, count)?;
     let disk = disk_of(alloc, &sides.0, &sides.1, &[])?;
     let words = ("resume 0 E", "put 61 =31\ncommit\n");
     let played = play_roots(rt, alloc, disk, words, NO_FAULTS)?;

@@ -7,7 +7,7 @@ use std::test::Fail;
 use std::thread::Threads;
 
 // Appends `more` to the text, `times` times.
-fn extended(text: &mut Vec<u8>, more: &[u8], times: usize) -> Result<(), Fail> {
+fn extend_text(text: &mut Vec<u8>, more: &[u8], times: usize) -> Result<(), Fail> {
     for _ in 0..times {
         text.extend_from_slice(more)?;
     }
@@ -17,9 +17,9 @@ fn extended(text: &mut Vec<u8>, more: &[u8], times: usize) -> Result<(), Fail> {
 // A `put` whose name has `name` bytes and whose value has `value` bytes.
 fn put_line(alloc: Global, name: usize, value: usize) -> Result<Vec<u8>, Fail> {
     let mut line = b"put ".to_vec(alloc)?;
-    extended(&mut line, b"61", name)?;
-    extended(&mut line, b" =", 1)?;
-    extended(&mut line, b"31", value)?;
+    extend_text(&mut line, b"61", name)?;
+    extend_text(&mut line, b" =", 1)?;
+    extend_text(&mut line, b"31", value)?;
     Ok(line)
 }
 

@@ -94,13 +94,13 @@ fn landings_are_written_byte_by_byte(rt: HostRuntime) -> Result<(), Fail> {
 }
 
 // A disk on which `put 61 =31` has landed.
-fn landed<H: Threads + Wait + Sync>(rt: &H, alloc: Global) -> Result<Box<MemDisk>, Fail> {
+fn landed_disk<H: Threads + Wait + Sync>(rt: &H, alloc: Global) -> Result<Box<MemDisk>, Fail> {
     let want = with_roots(alloc, "0 ok pending 1\n1 ok commit 1 R\n")?;
     let disk = new_disk(alloc, b"", &[])?;
     answers(rt, alloc, disk, b"put 61 =31\ncommit\n", 0, &want)
 }
 
-// The disk of `landed`, opened again for a commit of nothing.
+// The disk of `landed_disk`, opened again for a commit of nothing.
 fn landed_again<H: Threads + Wait + Sync>(
     rt: &H,
     alloc: Global,
@@ -113,7 +113,7 @@ fn landed_again<H: Threads + Wait + Sync>(
 #[test]
 fn a_store_is_opened_where_it_stood(rt: HostRuntime) -> Result<(), Fail> {
     let alloc = rt.alloc();
-    let disk = landed(&rt, alloc)?;
+    let disk = landed_disk(&rt, alloc)?;
     let disk = landed_again(&rt, alloc, disk)?;
     assert!(rt;
         holds(

@@ -41,7 +41,7 @@ impl Told for Marks {
 
     ghost start = { λ m. m.start };
 
-    fn told(&self) -> u64 {
+    fn entry_count(&self) -> u64 {
         self.marks.len() as u64
     }
 }
@@ -100,7 +100,7 @@ fn close_at_once(turn: Turn<Marks>, seats: Vec<Seat<Marks>>) -> Marks
 fn are_unused(seats: &[Seat<Marks>], count: u64) -> bool {
     let mut number: u64 = 0;
     for seat in seats {
-        if seat.number() != number || seat.seen() != 0 {
+        if seat.number() != number || seat.seen_count() != 0 {
             return false;
         }
         number = number.wrapping_add(1);
@@ -115,7 +115,7 @@ fn ends_as_it_began(alloc: Global, count: u64) -> Result<bool, Fail>
     let (turn, seats) = new_turn(alloc, count).ok().ok_or("no memory")?;
     let unused = are_unused(seats.as_slice(), count);
     let marks = close_at_once(turn, seats);
-    Ok(unused && marks.told() == 0 && marks.start == 7)
+    Ok(unused && marks.entry_count() == 0 && marks.start == 7)
 }
 
 #[test]
@@ -136,7 +136,7 @@ fn write_once<H: Wait>(rt: &H, turn: &Turn<Marks>, seat: &mut Seat<Marks>, place
         owner: seat.number(),
         place,
     };
-    let written = marks.told() < MOST && marks.add(mark);
+    let written = marks.entry_count() < MOST && marks.add(mark);
     seat.give(turn, marks);
     written
 }
@@ -323,8 +323,8 @@ fn two_writers_and_a_reader(rt: HostRuntime) -> Result<(), Fail> {
         copy,
         well,
     } = met;
-    assert!(rt; well && three.seen() == copy.len() as u64);
+    assert!(rt; well && three.seen_count() == copy.len() as u64);
     let marks = finish(turn, one, two, three);
-    assert!(rt; marks.told() == 2 * WRITES && are_all_written(&marks, copy.as_slice()));
+    assert!(rt; marks.entry_count() == 2 * WRITES && are_all_written(&marks, copy.as_slice()));
     Ok(())
 }

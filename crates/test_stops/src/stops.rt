@@ -157,7 +157,7 @@ fn landings(alloc: Global, entries: &[Entry]) -> Result<Vec<u64>, Fail> {
 }
 
 // A run of a script over a new store.
-pub(crate) fn ended<H: Threads + Wait + Sync>(
+pub(crate) fn ended_run<H: Threads + Wait + Sync>(
     rt: &H,
     alloc: Global,
     start: &Start,
@@ -182,7 +182,7 @@ fn stop_everywhere<H: Threads + Wait + Sync>(
     alloc: Global,
     start: &Start,
 ) -> Result<usize, Fail> {
-    let ended = ended(rt, alloc, start, SCRIPT)?;
+    let ended = ended_run(rt, alloc, start, SCRIPT)?;
     let landed_at = landings(alloc, ended.entries.as_slice())?;
     for moment in 0..=ended.disk.moment() {
         let heads = heads_at(&landed_at, moment);
@@ -299,7 +299,7 @@ const LANDING: &[u8] = b"put 61 =31\ncommit\nroot head";
 
 // The call that writes the gate of that landing: its last two write the gate, and sync it.
 fn gate_call<H: Threads + Wait + Sync>(rt: &H, alloc: Global, start: &Start) -> Result<u64, Fail> {
-    let ended = ended(rt, alloc, start, LANDING)?;
+    let ended = ended_run(rt, alloc, start, LANDING)?;
     let moments = landings(alloc, ended.entries.as_slice())?;
     let landed_at = moments.first().ok_or("no landing")?;
     Ok(landed_at.checked_sub(2).ok_or("a landing of one call")?)

@@ -1,6 +1,6 @@
 // What is left when an opening after a stop fails too.
 use crate::starts::{STARTS, Start};
-use crate::stops::{SCRIPT, ended, is_opened, opened_head};
+use crate::stops::{SCRIPT, ended_run, is_opened, opened_head};
 use jf_disk::{Disk, MemDisk, Side};
 use jf_play::images::image_of;
 use jf_play::play::{NO_FAULTS, Played, disk_of, has_ended, play};
@@ -72,7 +72,7 @@ fn stops_twice<H: Threads + Wait + Sync>(
     alloc: Global,
     start: &Start,
 ) -> Result<bool, Fail> {
-    let ended = ended(rt, alloc, start, SCRIPT)?;
+    let ended = ended_run(rt, alloc, start, SCRIPT)?;
     for moment in 0..=ended.disk.moment() {
         let calls = stop_twice(rt, alloc, &ended.disk, moment)?;
         if calls < 6 {

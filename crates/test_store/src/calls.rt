@@ -195,7 +195,7 @@ fn was_done(entries: &[Entry], done: &[Done]) -> bool {
 fn is_closed(closed: &Closed<MemDisk>) -> bool {
     let state = closed.engine.state();
     was_done(closed.entries.as_slice(), DONE)
-        && !closed.engine.broken()
+        && !closed.engine.is_broken()
         && (state.floor, state.head, state.generation) == (3, 4, 2)
         && closed.engine.root_of(4) == Some(EMPTY)
 }

@@ -111,7 +111,7 @@ pub(crate) fn breaks<H: Threads + Wait + Sync>(
     let well = succeed(rt, alloc, store, pass, steps);
     let met = ask(rt, alloc, store, pass, call) == Err(StoreFault::DiskFault);
     let refused = are_refused(rt, alloc, store, pass);
-    if well && met && refused && pass.seen() == steps.len() as u64 {
+    if well && met && refused && pass.seen_count() == steps.len() as u64 {
         Ok(())
     } else {
         Err(steps.len())
@@ -159,7 +159,7 @@ fn leaves_at<H: Threads + Sync>(
 
 // Whether a store was closed broken, with one entry for each step, and shows what was before the call that met the fault.
 fn is_broken(closed: &Closed<MemDisk>, steps: usize, before: &Found) -> bool {
-    closed.engine.broken() && closed.entries.len() == steps as u64 && shows(&closed.engine, before)
+    closed.engine.is_broken() && closed.entries.len() == steps as u64 && shows(&closed.engine, before)
 }
 
 // What is found before a step that comes after these.

@@ -222,7 +222,7 @@ const TAKEN: &[(usize, &[u64])] = &[
 
 // Whether a line comes once this many bytes are taken, which is then dropped.
 fn comes_after(reader: &mut LineReader, source: &mut MemSource, taken: u64) -> bool {
-    let comes = reader.fetch(source) == Ok(true) && source.taken() == taken;
+    let comes = reader.fetch(source) == Ok(true) && source.taken_count() == taken;
     reader.advance();
     comes
 }

@@ -24,7 +24,7 @@ fn takes(source: &mut MemSource, take: Take) -> bool {
     }
     source.take(&mut buf[..room]) == want
         && buf.as_slice() == buffer
-        && source.taken() == taken
+        && source.taken_count() == taken
         && source.faults() == faults
 }
 

@@ -43,7 +43,7 @@ fn takes<S: Source>(
     taken: u64,
     faults: u64,
 ) -> bool {
-    source.take(&mut [0; 3]) == want && source.taken() == taken && source.faults() == faults
+    source.take(&mut [0; 3]) == want && source.taken_count() == taken && source.faults() == faults
 }
 
 // Whether the next take gives `count` bytes, the buffer is `want` after it, and `taken` bytes were taken in all.
@@ -51,7 +51,7 @@ fn gives<S: Source>(source: &mut S, count: usize, want: [u8; 3], taken: u64) -> 
     let mut buf = [0; 3];
     source.take(&mut buf) == Ok(count)
         && buf == want
-        && source.taken() == taken
+        && source.taken_count() == taken
         && source.faults() == 0
 }
 

@@ -101,7 +101,7 @@ pub(crate) fn batch_of(alloc: Global, changes: &[Change]) -> Result<Batch, Fail>
 }
 
 // The keys of a map, with the hashes of their values.
-fn hashed(alloc: Global, entries: &[(u8, u8)]) -> Result<Vec<(Key, Hash)>, Memory> {
+fn hashed_keys(alloc: Global, entries: &[(u8, u8)]) -> Result<Vec<(Key, Hash)>, Memory> {
     let mut all = Vec::new(alloc);
     for (key, byte) in entries {
         all.push(([*key; 32], value(&[*byte])))?;
@@ -174,7 +174,7 @@ fn lands<H: Threads + Sync>(
     workers: u64,
 ) -> Result<bool, Fail> {
     let update = next(rt, alloc, head, landing.0, workers)?;
-    let entries = hashed(alloc, landing.1)?;
+    let entries = hashed_keys(alloc, landing.1)?;
     let same = has_map(&update, &entries)
         && are_written(update.fresh.as_slice(), landing.2)
         && are_stale(update.stale.as_slice(), landing.3);

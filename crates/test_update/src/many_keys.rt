@@ -80,7 +80,7 @@ fn snapshot_of(update: Box<Update>) -> Snapshot {
 }
 
 // The keys that are put, with the hashes of their values.
-fn hashed(alloc: Global, batch: &[(Key, Option<SharedBytes>)]) -> Result<Vec<(Key, Hash)>, Memory> {
+fn hashed_keys(alloc: Global, batch: &[(Key, Option<SharedBytes>)]) -> Result<Vec<(Key, Hash)>, Memory> {
     let mut entries = Vec::new(alloc);
     for (key, bytes) in batch {
         if let Some(bytes) = bytes {
@@ -97,7 +97,7 @@ fn has_map(update: &Update, entries: &[(Key, Hash)]) -> bool {
 // Whether 10,000 keys have the root of their map.
 fn have_root<H: Threads + Sync>(rt: &H, alloc: Global) -> Result<bool, Fail> {
     let batch = many(alloc, 0)?;
-    let entries = hashed(alloc, batch.as_slice())?;
+    let entries = hashed_keys(alloc, batch.as_slice())?;
     let landed = next(rt, alloc, &Snapshot::empty(0), &batch)?;
     Ok(has_map(&landed, &entries))
 }

@@ -9,7 +9,7 @@ use crate::roots::is_rising;
 use jf_hash::{Hash, value};
 use jf_node::{Link, Seen, Snapshot};
 use jf_path::{Key, MAX_VALUE, Memory, Nibble, SharedBytes};
-use jf_update::{RebuildFault, Update, restored};
+use jf_update::{RebuildFault, Update, restored_snapshot};
 use std::alloc::Global;
 use std::test::Fail;
 use std::thread::Threads;
@@ -34,7 +34,7 @@ const REFUSED: &[&[u64]] = &[
 ];
 
 // The snapshot of version 2, made by two landings.
-fn landed<H: Threads + Sync>(rt: &H, alloc: Global) -> Result<Box<Update>, Fail> {
+fn landed_snapshot<H: Threads + Sync>(rt: &H, alloc: Global) -> Result<Box<Update>, Fail> {
     let first = next(rt, alloc, &Snapshot::empty(0), FIRST, 1)?;
     next(rt, alloc, &first.snapshot, SECOND, 1)
 }
@@ -102,7 +102,7 @@ fn rebuilt(alloc: Global, versions: &[u64]) -> Result<Box<Result<Snapshot, Rebui
         return Err(Fail::new("no map has these entries"));
     }
     let hashes = hashes_of(alloc, &entries)?;
-    let built = restored(alloc, 2, &entries, &hashes, versions);
+    let built = restored_snapshot(alloc, 2, &entries, &hashes, versions);
     Ok(Box::new(alloc, built)?)
 }
 
@@ -128,7 +128,7 @@ fn is_rebuilt(alloc: Global, update: &Update) -> Result<bool, Fail> {
 
 #[test]
 fn a_snapshot_is_built_anew(rt: HostRuntime) -> Result<(), Fail> {
-    let update = landed(&rt, rt.alloc())?;
+    let update = landed_snapshot(&rt, rt.alloc())?;
     assert!(rt; has_versions(rt.alloc(), &update.snapshot, VERSIONS)?);
     assert!(rt; is_rebuilt(rt.alloc(), &update)?);
     Ok(())

@@ -6,7 +6,7 @@ use jf_join::{FreeGate, Workers};
 use jf_node::Snapshot;
 use jf_path::{NodeName, PlainNode};
 use jf_split::Batch;
-use jf_update::{Update, Written, advance, update, value_hashes, written};
+use jf_update::{Update, Written, advance, update, value_hashes, landing_lists};
 use std::alloc::Global;
 use std::test::Fail;
 use std::thread::Threads;
@@ -50,7 +50,7 @@ fn in_two_calls<H: Threads + Sync>(
     let entries = batch.as_slice();
     let hashes = value_hashes(rt, alloc, entries, Workers::ONE)?;
     let snapshot = advance(rt, alloc, head, entries, &hashes, Workers::ONE, &FreeGate)?;
-    let lists = written(rt, alloc, head, &snapshot, Workers::ONE, &FreeGate)?;
+    let lists = landing_lists(rt, alloc, head, &snapshot, Workers::ONE, &FreeGate)?;
     Ok(Box::new(alloc, Landed { snapshot, lists })?)
 }
 

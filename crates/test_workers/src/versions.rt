@@ -34,7 +34,7 @@ fn land_one<H: Threads + Sync>(
     Ok(())
 }
 
-fn landed<H: Threads + Sync>(rt: &H, alloc: Global) -> Result<Box<Directory>, Fail> {
+fn landed_directory<H: Threads + Sync>(rt: &H, alloc: Global) -> Result<Box<Directory>, Fail> {
     let directory = Directory::fresh_store(alloc)?;
     let mut directory = Box::new(alloc, directory)?;
     for byte in b"xy" {
@@ -90,7 +90,7 @@ fn land_and_undo<H: Threads + Sync>(
 
 #[test]
 fn each_version_keeps_its_values(rt: HostRuntime) -> Result<(), Fail> {
-    let mut directory = landed(&rt, rt.alloc())?;
+    let mut directory = landed_directory(&rt, rt.alloc())?;
     assert!(rt; keep_values(&directory));
     assert!(rt; land_and_undo(&rt, rt.alloc(), &mut directory, b'z')?);
     assert!(rt; keep_values(&directory));

@@ -22,5 +22,5 @@ returns-clause-length c v is = half c.args.digits.now v is
 pub returns-clause-value : goal.returns-clause-value
 returns-clause-value c v is =
     let fits : length v ≤ length c.args.out.now = omega (arith, half c.args.digits.now v is) in
-    let rest : drop (length v) c.unhexed.new.out ≡ drop (length v) c.args.out.now = subst (λ n. drop n c.unhexed.new.out ≡ drop n c.args.out.now) (half c.args.digits.now v is) c.unhexed.ensures.rest in
-    filled c.unhexed.result c.args.out.now c.unhexed.new.out v c.unhexed.ensures.within (c.unhexed.ensures.bytes ∙ is) rest ∙ sym (filled_room-fits c.args.out.now v fits)
+    let rest : drop (length v) c.unhexed_count.new.out ≡ drop (length v) c.args.out.now = subst (λ n. drop n c.unhexed_count.new.out ≡ drop n c.args.out.now) (half c.args.digits.now v is) c.unhexed_count.ensures.rest in
+    filled c.unhexed_count.result c.args.out.now c.unhexed_count.new.out v c.unhexed_count.ensures.within (c.unhexed_count.ensures.bytes ∙ is) rest ∙ sym (filled_room-fits c.args.out.now v fits)

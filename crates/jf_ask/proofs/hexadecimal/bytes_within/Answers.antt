@@ -6,4 +6,4 @@ pub returns-then-count-least-clause-bytes : goal.returns-then-count-least-clause
 returns-then-count-least-clause-bytes c = grind (arith, bytes_within-few, bytes_within-many)
 
 pub returns-clause-bytes : goal.returns-clause-bytes
-returns-clause-bytes c = rw (bytes_within-kept c.args.least c.args.most c.args.word.now c.if-count-least.false c.if-most-count.false) c.unhexed.ensures.bytes
+returns-clause-bytes c = rw (bytes_within-kept c.args.least c.args.most c.args.word.now c.if-count-least.false c.if-most-count.false) c.unhexed_count.ensures.bytes

@@ -4,7 +4,7 @@ use Rattle.jf_codec.proofs.Names.{is_name_found, is_only_name}
 use Rattle.jf_codec.proofs.name.decode_name.Goals as goal
 
 pub returns-clause-found : goal.returns-clause-found
-returns-clause-found c = is_name_found c.args.bytes.now c.measured.result (λ i. omega (arith, c.type_inv.bytes i)) c.measured.ensures
+returns-clause-found c = is_name_found c.args.bytes.now c.measured_name.result (λ i. omega (arith, c.type_inv.bytes i)) c.measured_name.ensures
 
 pub returns-clause-only : goal.returns-clause-only
-returns-clause-only c = is_only_name c.args.bytes.now c.measured.result c.measured.ensures
+returns-clause-only c = is_only_name c.args.bytes.now c.measured_name.result c.measured_name.ensures

@@ -3,7 +3,7 @@ use Rattle.std.proofs.lemmas.Result.{on_ok_weaker}
 use Rattle.std.specs.Prelude.{OnOk}
 use Rattle.jf_disk.specs.Disk.{History, Content, content_on, put_at}
 use Rattle.jf_disk.proofs.CrashLaws.{told_same}
-use Rattle.jf_frame.specs.Logs.{IsReady, StopsInAppend, framed}
+use Rattle.jf_frame.specs.Logs.{IsReady, StopsInAppend, appended_record}
 use Rattle.jf_frame.proofs.LogLaws.{begun_ready, length-begun}
 use Rattle.jf_pair.proofs.FirstRecord.{first_stops, put_first}
 use Rattle.jf_pair.proofs.checkpoint.write_first.Goals as goal
@@ -15,8 +15,8 @@ returns-clause-ok g c = λ h kind payload told is.
     let zero : c.begin.new.self.offset ≡ 0 = c.in_ok-begin.ensures.offset in
     let x = c.in_ok-begin.ensures.ok h told in
     let ready = subst (λ s. IsReady s c.begin.new.self.offset [] x.0.now) (sym same) (subst (λ n. IsReady w n [] x.0.now) (sym zero) x.2) in
-    subst (λ s. OnOk c.append.result ((k : History) × (g.D.Disk.history c.append.new.disk ≡ Some k) × IsReady s c.append.new.self.offset (framed 0 kind payload ∷ []) k.now)) same
-    (subst (λ n. OnOk c.append.result ((k : History) × (g.D.Disk.history c.append.new.disk ≡ Some k) × IsReady c.begin.new.self.side c.append.new.self.offset (framed n kind payload ∷ []) k.now)) zero
+    subst (λ s. OnOk c.append.result ((k : History) × (g.D.Disk.history c.append.new.disk ≡ Some k) × IsReady s c.append.new.self.offset (appended_record 0 kind payload ∷ []) k.now)) same
+    (subst (λ n. OnOk c.append.result ((k : History) × (g.D.Disk.history c.append.new.disk ≡ Some k) × IsReady c.begin.new.self.side c.append.new.self.offset (appended_record n kind payload ∷ []) k.now)) zero
     (c.append.ensures.ok x.0 [] kind payload x.1 ready is))
 
 pub returns-clause-written : goal.returns-clause-written
@@ -47,8 +47,8 @@ returns-clause-stop g c = λ h kind payload told is.
     let now : x.0 ≡ s.0 = told_same x.0 s.0 _ x.1 s.1 in
     let ready = subst (λ s. IsReady s c.begin.new.self.offset [] x.0.now) (sym same) (subst (λ n. IsReady w n [] x.0.now) (sym zero) x.2) in
     let y = c.append.ensures.stop x.0 [] kind payload x.1 ready is in
-    let stop = subst (λ s. StopsInAppend s x.0 y.0 [] (framed 0 kind payload)) same (subst (λ n. StopsInAppend c.begin.new.self.side x.0 y.0 [] (framed n kind payload)) zero y.2) in
-    let z = first_stops w h s.0 y.0 (framed 0 kind payload) s.2 (subst (λ k. StopsInAppend w k y.0 [] (framed 0 kind payload)) now stop) in
+    let stop = subst (λ s. StopsInAppend s x.0 y.0 [] (appended_record 0 kind payload)) same (subst (λ n. StopsInAppend c.begin.new.self.side x.0 y.0 [] (appended_record n kind payload)) zero y.2) in
+    let z = first_stops w h s.0 y.0 (appended_record 0 kind payload) s.2 (subst (λ k. StopsInAppend w k y.0 [] (appended_record 0 kind payload)) now stop) in
     (y.0, y.1, z.0, z.1)
 
 pub returns-clause-four_or_more : goal.returns-clause-four_or_more

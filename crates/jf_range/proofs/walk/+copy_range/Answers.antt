@@ -1,7 +1,7 @@
 use Rattle.std.proofs.Common.{rules, ◌≡◌, ◌∙◌, ◌+◌, ◌-◌, ◌++◌, sym, ap, ap₂, subst, arith, length, take, drop}
 use Rattle.std.proofs.lemmas.List.{take_all}
 use Rattle.jf_evidence.specs.Ranges.{Entries}
-use Rattle.jf_node.specs.Children.{joined}
+use Rattle.jf_node.specs.Children.{entries_of_children}
 use Rattle.jf_range.proofs.Walks.{IsWalked, child-deeper, walk-child, walk-none}
 use Rattle.jf_range.proofs.Visiting.{one-visited, visit-child, visit-none, visit-node}
 use Rattle.jf_range.proofs.walk.+copy_range.Goals as goal
@@ -41,7 +41,7 @@ returns-in_err-copy_range-in-Inner-clause-cost g t c =
     let shows = c.in-Inner.ensures.shows in
     let links = c.in-Inner.children.now in
     let child = c.in-Some.child.now in
-    let walked : IsWalked c.args.skip c.args.room c.args.out.now c.loop-n.out c.loop-n.skip c.loop-n.room (joined (take c.loop-n.n links)) = record { copied = i.copied; skip_is = i.skip; room_is = i.room } in
+    let walked : IsWalked c.args.skip c.args.room c.args.out.now c.loop-n.out c.loop-n.skip c.loop-n.room (entries_of_children (take c.loop-n.n links)) = record { copied = i.copied; skip_is = i.skip; room_is = i.room } in
     let deeper = child-deeper c.args.link.now child links c.loop-n.n shows (omega arith) c.in-Some.ensures in
     let visited = visit-child c.args.link.now.depth c.args.skip c.args.room c.args.steps.now c.loop-n.steps c.copy_range.new.steps c.args.out.now c.loop-n.out c.loop-n.skip c.loop-n.room links c.loop-n.n child (omega (arith, shows.children.long))
     c.in-Some.ensures deeper shows.children.deep c.know.ensures.entries.some walked i.visited c.copy_range.ensures.cost in
@@ -53,7 +53,7 @@ loop-n-preserved g t c =
     let shows = c.in-Inner.ensures.shows in
     let long = shows.children.long in
     let links = c.in-Inner.children.now in
-    let before : IsWalked c.args.skip c.args.room c.args.out.now c.loop-n.out c.loop-n.skip c.loop-n.room (joined (take c.loop-n.n links)) = record { copied = i.copied; skip_is = i.skip; room_is = i.room } in
+    let before : IsWalked c.args.skip c.args.room c.args.out.now c.loop-n.out c.loop-n.skip c.loop-n.room (entries_of_children (take c.loop-n.n links)) = record { copied = i.copied; skip_is = i.skip; room_is = i.room } in
     elim c.match-child_at.branch [
       | in-Some+in_ok-copy_range-in-Inner w ↦ (
           let left = w.skip-is ∙ w.saturating_sub-skip.ensures ∙ ap (λ n. c.loop-n.skip - n) w.count-in-Some.ensures in
@@ -70,7 +70,7 @@ loop-n-preserved g t c =
           record {
             copied = w.out-is ∙ walked.copied;
             skip = w.skip-is ∙ walked.skip_is;
-            room = ap (λ k. k + length (take c.args.room (drop c.args.skip (joined (take (c.loop-n.n + 1) links))))) w.room-is ∙ walked.room_is;
+            room = ap (λ k. k + length (take c.args.room (drop c.args.skip (entries_of_children (take (c.loop-n.n + 1) links))))) w.room-is ∙ walked.room_is;
             visited = (omega (arith, w.steps-is, visited.0), omega (arith, w.steps-is, visited.1));
           })
     ]
@@ -79,7 +79,7 @@ pub returns-after-loop-n-clause-copied : goal.returns-after-loop-n-clause-copied
 returns-after-loop-n-clause-copied g t c =
     let shows = c.in-Inner.ensures.shows in
     let links = c.in-Inner.children.now in
-    let all : joined (take c.loop-n.n links) ≡ c.args.link.now.entries = ap joined (take_all c.loop-n.n links (omega (arith, shows.children.long, c.loop-n-test.false))) ∙ sym shows.entries in
+    let all : entries_of_children (take c.loop-n.n links) ≡ c.args.link.now.entries = ap entries_of_children (take_all c.loop-n.n links (omega (arith, shows.children.long, c.loop-n-test.false))) ∙ sym shows.entries in
     subst (λ (es : Entries). c.loop-n.out ≡ c.args.out.now ++ take c.args.room (drop c.args.skip es)) all c.loop-n.invariant.copied
 
 pub returns-after-loop-n-clause-cost : goal.returns-after-loop-n-clause-cost

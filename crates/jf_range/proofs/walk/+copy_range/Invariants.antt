@@ -1,5 +1,5 @@
 use Rattle.std.proofs.Common.{◌≡◌, ◌+◌, ◌-◌, ◌++◌, take, drop, length}
-use Rattle.jf_node.specs.Children.{joined}
+use Rattle.jf_node.specs.Children.{entries_of_children}
 use Rattle.jf_range.proofs.Visiting.{AreVisited}
 use Rattle.jf_range.proofs.walk.+copy_range.Given as goal
 
@@ -10,8 +10,8 @@ decreases-copy_range g l = 65 - l.link.now.depth
 abbrev pub invariant-loop-n : goal.invariant-loop-n
 invariant-loop-n g l =
     record {
-      copied : l.out ≡ l.fn.out ++ take l.fn.room (drop l.fn.skip (joined (take l.n l.children)));
-      skip : l.skip ≡ l.fn.skip - length (joined (take l.n l.children));
-      room : l.room + length (take l.fn.room (drop l.fn.skip (joined (take l.n l.children)))) ≡ l.fn.room;
-      visited : AreVisited (63 - l.link.depth) l.fn.skip l.fn.room (length (joined (take l.n l.children))) l.n l.fn.steps l.steps;
+      copied : l.out ≡ l.fn.out ++ take l.fn.room (drop l.fn.skip (entries_of_children (take l.n l.children)));
+      skip : l.skip ≡ l.fn.skip - length (entries_of_children (take l.n l.children));
+      room : l.room + length (take l.fn.room (drop l.fn.skip (entries_of_children (take l.n l.children)))) ≡ l.fn.room;
+      visited : AreVisited (63 - l.link.depth) l.fn.skip l.fn.room (length (entries_of_children (take l.n l.children))) l.n l.fn.steps l.steps;
     }

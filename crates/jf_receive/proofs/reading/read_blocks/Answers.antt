@@ -14,7 +14,7 @@ pub returns-in-Err-clause-err : goal.returns-in-Err-clause-err
 returns-in-Err-clause-err g c = λ e text new.
     let source = g.S.Source.rest c.args.source.now in
     let source' = g.S.Source.rest c.feed.new.source in
-    subst (λ (how : Received). HasReceived how c.args.version c.args.root e e source source' text text) (sym c.refused.ensures)
+    subst (λ (how : Received). HasReceived how c.args.version c.args.root e e source source' text text) (sym c.refused_lines.ensures)
     (read_err c.args.version c.args.root c.new-reader.result c.feed.new.machine (c.new-reader.ensures ∙ ap begun_restoring c.new.ensures) source source' None None
     c.chunks_come_line_by_line.ensures c.refusals_come_at_their_line.ensures c.in-Done.ensures.fed c.in-Err.why c.in-Err.ensures e text new)
 
@@ -22,6 +22,6 @@ pub returns-in-Stopped-clause-err : goal.returns-in-Stopped-clause-err
 returns-in-Stopped-clause-err g c = λ e text new.
     let source = g.S.Source.rest c.args.source.now in
     let source' = g.S.Source.rest c.feed.new.source in
-    subst (λ (how : Received). HasReceived how c.args.version c.args.root e e source source' text text) (sym c.refused-in-Stopped.ensures)
+    subst (λ (how : Received). HasReceived how c.args.version c.args.root e e source source' text text) (sym c.refused_lines-in-Stopped.ensures)
     (read_stopped c.args.version c.args.root c.new-reader.result c.feed.new.machine (c.new-reader.ensures ∙ ap begun_restoring c.new.ensures) source source' None None
     c.refusals_come_at_their_line.ensures c.refusals_stay.ensures c.in-Stopped.why c.in-Stopped.ensures.fed e text new)

@@ -1,5 +1,5 @@
 use Rattle.std.proofs.Common.{ap, refl, subst, sym, ◌∙◌, List, ℕ}
-use Rattle.jf_model.specs.States.{opened}
+use Rattle.jf_model.specs.States.{state_when_opened}
 use Rattle.jf_words.specs.Modes.{KeepsLimits}
 use Rattle.jf_words.specs.declared.modes.Mode.TheVariants as mode
 use Rattle.jf_run.specs.Calls.{disk_of, engine_disk}
@@ -16,7 +16,7 @@ returns-in-Run-clause-kept g c = completes_as _ _ _ _ _ _ _ c.in-Run.is (λ befo
     let e = c.args.engine in
     let done = c.script_over.ensures in
     let ran = done.ran.1 in
-    run_keeps _ head (opened e.versions e.generation) (engine_disk e) ran.0 done.ran.0 begun ran.1 ran.2 c.files_stand_for_one.ensures c.damage_is_no_versions.ensures dated refl
+    run_keeps _ head (state_when_opened e.versions e.generation) (engine_disk e) ran.0 done.ran.0 begun ran.1 ran.2 c.files_stand_for_one.ensures c.damage_is_no_versions.ensures dated refl
     (mode.Run c.in-Run.workers) refl refl refl (λ r same. r) done.read done.write done.source_counts done.sink_counts)
 
 pub returns-in-Run-clause-untouched : goal.returns-in-Run-clause-untouched
@@ -69,7 +69,7 @@ returns-in-Lead-clause-kept g c = completes_as _ _ _ _ _ _ _ c.in-Lead.is (λ be
     let e = c.args.engine in
     let done = c.script_over-in-Lead.ensures in
     let led = done.ran.1 in
-    led_keeps _ head c.in-Lead.workers (opened e.versions e.generation) (engine_disk e) led.0 led.1 done.ran.0 begun led.2 led.3 c.files_stand_for_one.ensures c.damage_is_no_versions.ensures dated refl refl
+    led_keeps _ head c.in-Lead.workers (state_when_opened e.versions e.generation) (engine_disk e) led.0 led.1 done.ran.0 begun led.2 led.3 c.files_stand_for_one.ensures c.damage_is_no_versions.ensures dated refl refl
     done.read done.write done.source_counts done.sink_counts)
 
 pub returns-in-Lead-clause-untouched : goal.returns-in-Lead-clause-untouched
@@ -110,7 +110,7 @@ new-lines-requires-clause-size g c = (subst KeepsLimits c.in-Generate.is c.requi
 pub returns-in-Generate-clause-kept : goal.returns-in-Generate-clause-kept
 returns-in-Generate-clause-kept g c = completes_as _ _ _ _ _ _ _ c.in-Generate.is (λ before head begun dated held.
     let e = c.args.engine in
-    let s = opened e.versions e.generation in
+    let s = state_when_opened e.versions e.generation in
     let step = c.script_over-in-Generate in
     let done = step.ensures in
     let ran = done.ran.1 in

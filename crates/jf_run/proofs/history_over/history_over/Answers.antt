@@ -1,5 +1,5 @@
 use Rattle.std.proofs.Common.{◌∙◌, refl, sym}
-use Rattle.jf_model.specs.States.{opened}
+use Rattle.jf_model.specs.States.{state_when_opened}
 use Rattle.jf_run.proofs.ReadOnly.{read_only}
 use Rattle.jf_run.proofs.Histories.{history_here, history_keeps}
 use Rattle.jf_run.proofs.history_over.history_over.Goals as goal
@@ -13,7 +13,7 @@ returns g c = record {
       let known = c.know.ensures in
       let out = c.of_engine.ensures in
       let told = c.write_history-written.ensures in
-      history_keeps _ c.args.version head (opened e.versions e.generation) c.write_history-written.result
+      history_keeps _ c.args.version head (state_when_opened e.versions e.generation) c.write_history-written.result
       (read_only _ head e known.sound known.dated (λ h is. known.settled h is c.requires.whole) begun c.files_stand_for_one.ensures out.disk (out.entries ∙ c.new.ensures)) c.damage_is_no_versions.ensures refl refl
       (out.status ∙ c.of_history.ensures) told.written refl refl told.write told.sink_counts;
 }

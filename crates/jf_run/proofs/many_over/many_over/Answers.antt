@@ -1,6 +1,6 @@
 use Rattle.std.proofs.Common.{◌≡◌, ◌∙◌, refl, sym, subst, ap, ap₂, IsTrue, inl, inr}
-use Rattle.jf_model.specs.States.{opened}
-use Rattle.jf_run.specs.Calls.{disk_of, shown}
+use Rattle.jf_model.specs.States.{state_when_opened}
+use Rattle.jf_run.specs.Calls.{disk_of, shown_devices}
 use Rattle.jf_run.specs.Statuses.{is_input_fault, status_of_names}
 use Rattle.jf_run.specs.declared.status.Status.{Status}
 use Rattle.jf_run.proofs.ReadOnly.{read_only}
@@ -27,8 +27,8 @@ returns-clause-kept g c = λ before head begun dated held.
     let known = c.know.ensures in
     let out = c.of_engine.ensures in
     let told = c.answer_names-answered.ensures in
-    many_keeps _ c.args.version head (opened e.versions e.generation) c.answer_names-answered.result
+    many_keeps _ c.args.version head (state_when_opened e.versions e.generation) c.answer_names-answered.result
     (read_only _ head e known.sound known.dated (λ h is. known.settled h is c.requires.whole) begun c.files_stand_for_one.ensures out.disk (out.entries ∙ c.new.ensures)) c.damage_is_no_versions.ensures refl refl
     (out.status ∙ c.of_names.ensures) told.answered told.line
-    (λ least greatest is. let same = told.untouched least greatest is in ap₂ (λ s k. shown g.S.Source g.K.Sink s k (disk_of g.D.Disk c.of_engine.result.disk)) same.0 same.1)
+    (λ least greatest is. let same = told.untouched least greatest is in ap₂ (λ s k. shown_devices g.S.Source g.K.Sink s k (disk_of g.D.Disk c.of_engine.result.disk)) same.0 same.1)
     (λ at is. ap g.K.Sink.faults (told.silent at is)) told.read told.write told.counts.0 told.counts.1

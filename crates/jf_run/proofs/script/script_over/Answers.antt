@@ -1,5 +1,5 @@
 use Rattle.std.proofs.Common.{◌≡◌, ◌∷◌, [], None, List, ap, sym, subst, ◌∙◌}
-use Rattle.jf_model.specs.States.{opened}
+use Rattle.jf_model.specs.States.{state_when_opened}
 use Rattle.jf_model.specs.declared.entries.Entry.{Entry}
 use Rattle.jf_engine.specs.Openings.{DiskView}
 use Rattle.jf_store.specs.Events.{attempt_of}
@@ -17,7 +17,7 @@ use Rattle.jf_run.proofs.script.script_over.Goals as goal
 pub returns-in-Err-clause-ran : goal.returns-in-Err-clause-ran
 returns-in-Err-clause-ran g c =
     let e = c.args.engine in
-    let s = opened e.versions e.generation in
+    let s = state_when_opened e.versions e.generation in
     let script = c.args.script in
     let rest = g.S.Source.rest c.args.source.now in
     let text = g.K.Sink.text c.args.sink.now in
@@ -54,7 +54,7 @@ returns-clause-ran g c =
     let p = c.do_lines-pass.result.pass in
     let how = c.do_lines-pass.result.status in
     let e = c.args.engine in
-    let s = opened e.versions e.generation in
+    let s = state_when_opened e.versions e.generation in
     let last = c.close-engine.result.engine in
     let es = c.close-engine.result.entries in
     let rest = g.S.Source.rest c.args.source.now in

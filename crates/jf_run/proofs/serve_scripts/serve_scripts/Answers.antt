@@ -3,7 +3,7 @@ use Rattle.std.proofs.Common.{◌≡◌, ◌∙◌, refl, sym, ap, ap₂, subst,
 use Rattle.jf_io.specs.Lines.{lines}
 use Rattle.jf_io.specs.Sink.{IsCutShort}
 use Rattle.jf_input.specs.Feeds.{Appends}
-use Rattle.jf_model.specs.States.{opened}
+use Rattle.jf_model.specs.States.{state_when_opened}
 use Rattle.jf_model.specs.declared.entries.Entry.{Entry}
 use Rattle.jf_engine.specs.Openings.{DiskView}
 use Rattle.jf_store.specs.Starts.{Start, start_with}
@@ -24,7 +24,7 @@ use Rattle.jf_run.proofs.serve_scripts.serve_scripts.Goals as goal
 pub returns-in-Err-clause-served : goal.returns-in-Err-clause-served
 returns-in-Err-clause-served g c =
     let e = c.args.engine in
-    let s = opened e.versions e.generation in
+    let s = state_when_opened e.versions e.generation in
     let old = engine_disk e in
     let out = c.of_engine.ensures in
     let none = out.entries ∙ c.new-in-Err.ensures in
@@ -56,7 +56,7 @@ close-engine-requires-clause-all g c κs within =
 pub returns-in-Err-serve-clause-served : goal.returns-in-Err-serve-clause-served
 returns-in-Err-serve-clause-served g c =
     let e = c.args.engine in
-    let s = opened e.versions e.generation in
+    let s = state_when_opened e.versions e.generation in
     let old = engine_disk e in
     let out = c.of_engine-in-Err-serve.ensures in
     let none = out.entries ∙ c.new-in-Err-serve.ensures in
@@ -81,7 +81,7 @@ returns-in-Err-serve-clause-write g c = λ is. absurd (let no : status.Memory �
 pub returns-clause-served : goal.returns-clause-served
 returns-clause-served g c =
     let e = c.args.engine in
-    let s = opened e.versions e.generation in
+    let s = state_when_opened e.versions e.generation in
     let old = engine_disk e in
     let r = c.in-Ok-serve.served in
     let served = c.in-Ok-serve.ensures.served in

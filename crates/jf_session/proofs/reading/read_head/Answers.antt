@@ -22,12 +22,12 @@ returns-in-Ok-clause-obeyed g c = λ pending.
 
 pub returns-in-Err-clause-sound : goal.returns-in-Err-clause-sound
 returns-in-Err-clause-sound g c = λ pending sound.
-    read_sound c.args.store.now.start c.args.pass.now c.look.new.self pending c.args.over.now c.refused.new.over base.Head base.Head c.args.question c.look.ensures.sees refl [] tt c.in-Err.fault c.in-Err.ensures.refused
-    c.refused.result c.refused.ensures sound
+    read_sound c.args.store.now.start c.args.pass.now c.look.new.self pending c.args.over.now c.refusal_reply.new.over base.Head base.Head c.args.question c.look.ensures.sees refl [] tt c.in-Err.fault c.in-Err.ensures.refused
+    c.refusal_reply.result c.refusal_reply.ensures sound
 
 pub returns-in-Err-clause-obeyed : goal.returns-in-Err-clause-obeyed
 returns-in-Err-clause-obeyed g c = λ pending.
     let p = c.args.pass.now in
     let over = c.args.over.now in
-    read_refused c.args.store.now.start p c.look.new.self pending over c.refused.new.over base.Head base.Head c.args.question c.look.ensures.sees refl [] tt (session_of p pending over) refl c.requires.over refl
-    c.in-Err.fault c.in-Err.ensures.refused c.args.block.now c.refused.result c.refused.ensures
+    read_refused c.args.store.now.start p c.look.new.self pending over c.refusal_reply.new.over base.Head base.Head c.args.question c.look.ensures.sees refl [] tt (session_of p pending over) refl c.requires.over refl
+    c.in-Err.fault c.in-Err.ensures.refused c.args.block.now c.refusal_reply.result c.refusal_reply.ensures

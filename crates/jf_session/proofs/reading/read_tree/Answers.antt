@@ -39,9 +39,9 @@ returns-in-Err-clause-sound g c = λ pending sound.
     let s = state_after_events c.args.store.now.start p'.seen in
     let id = c.args.id in
     let q = c.args.question in
-    IsSoundSession-failed c.args.store.now.start p p' pending c.args.over.now c.refused.new.over (command.ReadFork id q) c.in-Err.fault
+    IsSoundSession-failed c.args.store.now.start p p' pending c.args.over.now c.refusal_reply.new.over (command.ReadFork id q) c.in-Err.fault
     (Fails-asked c.args.store.now.start p p' pending (command.ReadFork id q) c.tree.ensures.sees (fork_causes s id) (question_of q) (fork_map (newest s.all) s.forks id) (ReadsMap-read_fork s (own_of p pending) id q)
-    (fork_faults id s) (AreTold-fork s id) c.in-Err.fault c.in-Err.ensures.refused) c.refused.result c.refused.ensures sound
+    (fork_faults id s) (AreTold-fork s id) c.in-Err.fault c.in-Err.ensures.refused) c.refusal_reply.result c.refusal_reply.ensures sound
 
 pub returns-in-Err-clause-obeyed : goal.returns-in-Err-clause-obeyed
 returns-in-Err-clause-obeyed g c = λ pending.
@@ -51,6 +51,6 @@ returns-in-Err-clause-obeyed g c = λ pending.
     let s = state_after_events c.args.store.now.start p'.seen in
     let id = c.args.id in
     let q = c.args.question in
-    IsObeyed-failed c.args.store.now.start p p' pending over c.refused.new.over (command.ReadFork id q) c.in-Err.fault
+    IsObeyed-failed c.args.store.now.start p p' pending over c.refusal_reply.new.over (command.ReadFork id q) c.in-Err.fault
     (Fails-asked c.args.store.now.start p p' pending (command.ReadFork id q) c.tree.ensures.sees (fork_causes s id) (question_of q) (fork_map (newest s.all) s.forks id) (ReadsMap-read_fork s (own_of p pending) id q)
-    (fork_faults id s) (AreTold-fork s id) c.in-Err.fault c.in-Err.ensures.refused) (session_of p pending over) refl refl c.requires.over c.refused.result c.refused.ensures
+    (fork_faults id s) (AreTold-fork s id) c.in-Err.fault c.in-Err.ensures.refused) (session_of p pending over) refl refl c.requires.over c.refusal_reply.result c.refusal_reply.ensures

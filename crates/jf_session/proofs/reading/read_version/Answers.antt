@@ -33,8 +33,8 @@ returns-in-Err-clause-sound g c = λ pending sound.
     let p' = c.at.new.self in
     let s = state_after_events c.args.store.now.start p'.seen in
     let w = c.args.version in
-    read_sound c.args.store.now.start c.args.pass.now p' pending c.args.over.now c.refused.new.over (base.Version w) (base.Version w) c.args.question c.at.ensures.sees refl (version_faults w s) (AreTold-version s w)
-    c.in-Err.fault c.in-Err.ensures.refused c.refused.result c.refused.ensures sound
+    read_sound c.args.store.now.start c.args.pass.now p' pending c.args.over.now c.refusal_reply.new.over (base.Version w) (base.Version w) c.args.question c.at.ensures.sees refl (version_faults w s) (AreTold-version s w)
+    c.in-Err.fault c.in-Err.ensures.refused c.refusal_reply.result c.refusal_reply.ensures sound
 
 pub returns-in-Err-clause-obeyed : goal.returns-in-Err-clause-obeyed
 returns-in-Err-clause-obeyed g c = λ pending.
@@ -43,5 +43,5 @@ returns-in-Err-clause-obeyed g c = λ pending.
     let over = c.args.over.now in
     let s = state_after_events c.args.store.now.start p'.seen in
     let w = c.args.version in
-    read_refused c.args.store.now.start p p' pending over c.refused.new.over (base.Version w) (base.Version w) c.args.question c.at.ensures.sees refl (version_faults w s) (AreTold-version s w) (session_of p pending over) refl
-    c.requires.over refl c.in-Err.fault c.in-Err.ensures.refused c.args.block.now c.refused.result c.refused.ensures
+    read_refused c.args.store.now.start p p' pending over c.refusal_reply.new.over (base.Version w) (base.Version w) c.args.question c.at.ensures.sees refl (version_faults w s) (AreTold-version s w) (session_of p pending over) refl
+    c.requires.over refl c.in-Err.fault c.in-Err.ensures.refused c.args.block.now c.refusal_reply.result c.refusal_reply.ensures

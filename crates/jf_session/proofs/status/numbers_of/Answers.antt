@@ -21,13 +21,13 @@ pub returns-in-Err-clause-sound : goal.returns-in-Err-clause-sound
 returns-in-Err-clause-sound g c = λ pending sound.
     let p = c.args.pass.now in
     let p' = c.look.new.self in
-    IsSoundSession-failed c.args.store.now.start p p' pending c.args.over.now c.refused.new.over command.Look c.in-Err.fault (Fails-look c.args.store.now.start p p' pending c.look.ensures.sees c.in-Err.fault c.in-Err.ensures.refused)
-    c.refused.result c.refused.ensures sound
+    IsSoundSession-failed c.args.store.now.start p p' pending c.args.over.now c.refusal_reply.new.over command.Look c.in-Err.fault (Fails-look c.args.store.now.start p p' pending c.look.ensures.sees c.in-Err.fault c.in-Err.ensures.refused)
+    c.refusal_reply.result c.refusal_reply.ensures sound
 
 pub returns-in-Err-clause-obeyed : goal.returns-in-Err-clause-obeyed
 returns-in-Err-clause-obeyed g c = λ pending.
     let p = c.args.pass.now in
     let p' = c.look.new.self in
     let over = c.args.over.now in
-    IsObeyed-failed c.args.store.now.start p p' pending over c.refused.new.over command.Look c.in-Err.fault (Fails-look c.args.store.now.start p p' pending c.look.ensures.sees c.in-Err.fault c.in-Err.ensures.refused)
-    (session_of p pending over) refl refl c.requires.over c.refused.result c.refused.ensures
+    IsObeyed-failed c.args.store.now.start p p' pending over c.refusal_reply.new.over command.Look c.in-Err.fault (Fails-look c.args.store.now.start p p' pending c.look.ensures.sees c.in-Err.fault c.in-Err.ensures.refused)
+    (session_of p pending over) refl refl c.requires.over c.refusal_reply.result c.refusal_reply.ensures

@@ -3,8 +3,8 @@ use Rattle.jf_hash.specs.Parts.{IsFirstOne, HaveBit}
 use Rattle.jf_spec.proofs.Extends.{zero_parts, one_parts, zero_bits, one_bits, both_new, steps_both, ok_is, none_applied, only_applied, other_deep, several_deep}
 use Rattle.jf_spec.proofs.extend.+extend.Goals as goal
 
-pub extended-parted-requires : goal.extended-parted-requires
-extended-parted-requires g t c = λ κs within. (
+pub extended_node-parted_node-requires : goal.extended_node-parted_node-requires
+extended_node-parted_node-requires g t c = λ κs within. (
   search rules,
   (
     search rules,
@@ -15,24 +15,24 @@ extended-parted-requires g t c = λ κs within. (
   ),
 )
 
-pub extended-parted-requires-in_default : goal.extended-parted-requires-in_default
-extended-parted-requires-in_default g t c = λ κs within. (
+pub extended_node-parted_node-requires-in_default : goal.extended_node-parted_node-requires-in_default
+extended_node-parted_node-requires-in_default g t c = λ κs within. (
   search rules,
   (search rules, (several_deep c.args.node.now.depth c.args.node.now.entries c.args.batch.now c.requires.parts c.in_default.len_at_least, (omega arith, c.requires.parts))),
 )
 
-pub extended-returns-in-empty-clause-node : goal.extended-returns-in-empty-clause-node
-extended-returns-in-empty-clause-node g t c =
+pub extended_node-returns-in-empty-clause-node : goal.extended_node-returns-in-empty-clause-node
+extended_node-returns-in-empty-clause-node g t c =
     ok_is c.share.result c.args.node.now _ (ap (λ es. record { depth = c.args.node.now.depth; entries = es }) (none_applied c.args.node.now.entries c.args.batch.now c.in-empty.len_below)) c.share.ensures
 
-pub extended-returns-then-is_only-clause-node : goal.extended-returns-then-is_only-clause-node
-extended-returns-then-is_only-clause-node g t c =
-    ok_is c.replaced.result _ _
+pub extended_node-returns-then-is_only-clause-node : goal.extended_node-returns-then-is_only-clause-node
+extended_node-returns-then-is_only-clause-node g t c =
+    ok_is c.node_of_change.result _ _
     (ap₂ (λ d es. record { depth = d; entries = es }) c.depth.ensures (only_applied c.change-item.result c.args.node.now.entries c.args.batch.now (c.is_only.ensures.only c.if-is_only.true) c.in-len1.len_at_least c.in-len1.len_below c.change-item.is))
-    c.replaced.ensures.node
+    c.node_of_change.ensures.node
 
-pub parted-extended-requires : goal.parted-extended-requires
-parted-extended-requires g t c = λ κs within.
+pub parted_node-extended_node-requires : goal.parted_node-extended_node-requires
+parted_node-extended_node-requires g t c = λ κs within.
     let first = subst (λ d. IsFirstOne d c.first_one-at.result c.args.batch.now) c.depth-depth.ensures c.first_one-at.ensures in
     let z = c.in_ok-zeros.ensures.zeros in
     let deep = ap (λ w. w.depth) z in (
@@ -43,8 +43,8 @@ parted-extended-requires g t c = λ κs within.
       ),
     )
 
-pub parted-extended-requires-2 : goal.parted-extended-requires-2
-parted-extended-requires-2 g t c = λ κs within.
+pub parted_node-extended_node-requires-2 : goal.parted_node-extended_node-requires-2
+parted_node-extended_node-requires-2 g t c = λ κs within.
     let first = subst (λ d. IsFirstOne d c.first_one-at.result c.args.batch.now) c.depth-depth.ensures c.first_one-at.ensures in
     let o = c.in_ok-zeros.ensures.ones in
     let deep = ap (λ w. w.depth) o in (
@@ -55,34 +55,34 @@ parted-extended-requires-2 g t c = λ κs within.
       ),
     )
 
-pub parted-returns-in_err-ones-clause-steps : goal.parted-returns-in_err-ones-clause-steps
-parted-returns-in_err-ones-clause-steps g t c =
+pub parted_node-returns-in_err-ones-clause-steps : goal.parted_node-returns-in_err-ones-clause-steps
+parted_node-returns-in_err-ones-clause-steps g t c =
     let first = subst (λ d. IsFirstOne d c.first_one-at.result c.args.batch.now) c.depth-depth.ensures c.first_one-at.ensures in
-    let both = steps_both c.args.node.now.depth c.first_one-at.result c.args.node.now.entries c.args.batch.now c.requires.parts first c.in_ok-zeros.field-0.zeros c.in_ok-zeros.field-0.ones _ _ _ _ c.requires.depth c.requires.positive c.in_ok-zeros.ensures.zeros c.in_ok-zeros.ensures.ones c.in_ok-zeros.ensures.step c.in_ok-zeros-2.ensures.steps c.extended-2.ensures.steps in
+    let both = steps_both c.args.node.now.depth c.first_one-at.result c.args.node.now.entries c.args.batch.now c.requires.parts first c.in_ok-zeros.field-0.zeros c.in_ok-zeros.field-0.ones _ _ _ _ c.requires.depth c.requires.positive c.in_ok-zeros.ensures.zeros c.in_ok-zeros.ensures.ones c.in_ok-zeros.ensures.step c.in_ok-zeros-2.ensures.steps c.extended_node-2.ensures.steps in
     omega (arith, both)
 
-pub parted-join-requires-clause-zeros : goal.parted-join-requires-clause-zeros
-parted-join-requires-clause-zeros g t c =
+pub parted_node-join-requires-clause-zeros : goal.parted_node-join-requires-clause-zeros
+parted_node-join-requires-clause-zeros g t c =
     let first = subst (λ d. IsFirstOne d c.first_one-at.result c.args.batch.now) c.depth-depth.ensures c.first_one-at.ensures in
     subst (λ d. HaveBit d false c.in_ok-zeros-2.zeros.entries) (sym c.depth-depth.ensures)
     (zero_bits c.args.node.now.depth c.first_one-at.result c.args.node.now.entries c.args.batch.now c.requires.parts first c.in_ok-zeros.field-0.zeros c.in_ok-zeros-2.zeros c.in_ok-zeros.ensures.zeros c.in_ok-zeros-2.ensures.node)
 
-pub parted-join-requires-clause-ones : goal.parted-join-requires-clause-ones
-parted-join-requires-clause-ones g t c =
+pub parted_node-join-requires-clause-ones : goal.parted_node-join-requires-clause-ones
+parted_node-join-requires-clause-ones g t c =
     let first = subst (λ d. IsFirstOne d c.first_one-at.result c.args.batch.now) c.depth-depth.ensures c.first_one-at.ensures in
     subst (λ d. HaveBit d true c.in_ok-ones.ones.entries) (sym c.depth-depth.ensures)
     (one_bits c.args.node.now.depth c.first_one-at.result c.args.node.now.entries c.args.batch.now c.requires.parts first c.in_ok-zeros.field-0.ones c.in_ok-ones.ones c.in_ok-zeros.ensures.ones c.in_ok-ones.ensures.node)
 
-pub parted-returns-clause-node : goal.parted-returns-clause-node
-parted-returns-clause-node g t c =
+pub parted_node-returns-clause-node : goal.parted_node-returns-clause-node
+parted_node-returns-clause-node g t c =
     let first = subst (λ d. IsFirstOne d c.first_one-at.result c.args.batch.now) c.depth-depth.ensures c.first_one-at.ensures in
     ok_is c.join.result _ _
     (ap₂ (λ d es. record { depth = d; entries = es }) c.depth-depth.ensures
     (both_new c.args.node.now.depth c.first_one-at.result c.args.node.now.entries c.args.batch.now c.requires.parts first c.in_ok-zeros.field-0.zeros c.in_ok-zeros-2.zeros c.in_ok-zeros.field-0.ones c.in_ok-ones.ones c.in_ok-zeros.ensures.zeros c.in_ok-zeros-2.ensures.node c.in_ok-zeros.ensures.ones c.in_ok-ones.ensures.node))
     c.join.ensures.node
 
-pub parted-returns-clause-steps : goal.parted-returns-clause-steps
-parted-returns-clause-steps g t c =
+pub parted_node-returns-clause-steps : goal.parted_node-returns-clause-steps
+parted_node-returns-clause-steps g t c =
     let first = subst (λ d. IsFirstOne d c.first_one-at.result c.args.batch.now) c.depth-depth.ensures c.first_one-at.ensures in
     let both = steps_both c.args.node.now.depth c.first_one-at.result c.args.node.now.entries c.args.batch.now c.requires.parts first c.in_ok-zeros.field-0.zeros c.in_ok-zeros.field-0.ones _ _ _ _ c.requires.depth c.requires.positive c.in_ok-zeros.ensures.zeros c.in_ok-zeros.ensures.ones c.in_ok-zeros.ensures.step c.in_ok-zeros-2.ensures.steps c.in_ok-ones.ensures.steps in
     omega (arith, both, c.join.ensures.step)

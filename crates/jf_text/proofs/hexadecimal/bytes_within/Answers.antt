@@ -6,4 +6,4 @@ pub returns-then-count-least : goal.returns-then-count-least
 returns-then-count-least c = grind (arith, bytes_within-few, bytes_within-many)
 
 pub returns : goal.returns
-returns c = rw (bytes_within-kept c.args.least c.args.most c.args.word.now c.if-count-least.false c.if-most-count.false) c.unhexed.ensures
+returns c = rw (bytes_within-kept c.args.least c.args.most c.args.word.now c.if-count-least.false c.if-most-count.false) c.unhexed_bytes.ensures

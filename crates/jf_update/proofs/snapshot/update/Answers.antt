@@ -15,11 +15,11 @@ advance-requires-clause-batch g c κs le = subst IsBatch (sym c.as_slice-entries
 pub advance-requires-clause-short : goal.advance-requires-clause-short
 advance-requires-clause-short g c κs le = subst AreShort (sym c.as_slice-entries.ensures.entries) c.as_slice-entries.ensures.limited.values
 
-pub written-requires-clause-next : goal.written-requires-clause-next
-written-requires-clause-next g c κs le = (c.as_slice-entries.result.now, c.in_ok-snapshot.ensures)
+pub landing_lists-requires-clause-next : goal.landing_lists-requires-clause-next
+landing_lists-requires-clause-next g c κs le = (c.as_slice-entries.result.now, c.in_ok-snapshot.ensures)
 
-pub copied-requires : goal.copied-requires
-copied-requires g c =
+pub copy-requires : goal.copy-requires
+copy-requires g c =
     subst (λ (es : List (NodeName × PlainNode)). IsTrue (are_rising (map (λ e. e.0) es))) (sym c.in_ok-fresh.ensures.fresh) (written_rise c.args.head.now.map c.in_ok-snapshot.snapshot.map c.in_ok-snapshot.snapshot)
 
 pub returns : goal.returns

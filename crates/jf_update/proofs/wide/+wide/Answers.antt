@@ -2,7 +2,7 @@ use Rattle.std.proofs.Common.{arith, ◌+◌, ◌-◌, length, sym, ap, ◌∙�
 use Rattle.std.specs.List.{AllZip}
 use Rattle.std.specs.Option.{option_copied}
 use Rattle.jf_join.proofs.AnswerLaws.{AnswersEach-pairs}
-use Rattle.jf_node.specs.Children.{content, joined}
+use Rattle.jf_node.specs.Children.{content, entries_of_children}
 use Rattle.jf_diff.specs.OptionalNodes.{IsAtDepth}
 use Rattle.jf_diff.proofs.ChildPlaces.{child_placed, child_part}
 use Rattle.jf_update.specs.Wide.{IsPieceOutcome}
@@ -20,7 +20,7 @@ update_piece-update_wide-requires-clause-placed g t c κs within =
 
 pub update_piece-update_wide-requires-clause-parts : goal.update_piece-update_wide-requires-clause-parts
 update_piece-update_wide-requires-clause-parts g t c κs within =
-    parts_of_piece c.args.depth c.args.piece.now.nibble (joined c.args.children.now) _ c.args.entries.now _ c.requires.parts c.requires.piece.exact
+    parts_of_piece c.args.depth c.args.piece.now.nibble (entries_of_children c.args.children.now) _ c.args.entries.now _ c.requires.parts c.requires.piece.exact
     (ap content c.get-child.ensures ∙ sym (child_part c.args.depth c.args.piece.now.nibble c.args.children.now c.know.ensures.long c.requires.children))
 
 pub update_piece-update_wide-requires-clause-hashed : goal.update_piece-update_wide-requires-clause-hashed

@@ -3,7 +3,7 @@ use Rattle.std.proofs.lemmas.Result.{IfOk-weaker}
 use Rattle.std.specs.List.{AllZip}
 use Rattle.std.specs.Option.{option_copied}
 use Rattle.jf_join.proofs.AnswerLaws.{AnswersEach-pairs}
-use Rattle.jf_model.specs.Changes.{applied}
+use Rattle.jf_model.specs.Changes.{entries_after_batch}
 use Rattle.jf_node.specs.Children.{content}
 use Rattle.jf_node.specs.LinkFacts.{BeginAlike}
 use Rattle.jf_walk.proofs.PartLaws.{deeper}
@@ -30,12 +30,12 @@ build_piece-build_wide-requires-clause-hashed g t c κs within = hashes_cut c.ar
 
 pub build_piece-returns : goal.build_piece-returns
 build_piece-returns g t c =
-    IfOk-weaker c.build_wide.result _ (IsPieceBuilt c.args.depth c.args.version (applied (content (option_copied c.args.own)) c.args.entries.now) c.args.piece.now)
+    IfOk-weaker c.build_wide.result _ (IsPieceBuilt c.args.depth c.args.version (entries_after_batch (content (option_copied c.args.own)) c.args.entries.now) c.args.piece.now)
     (λ y made. built_piece c.args.depth c.args.version (content (option_copied c.args.own)) _ c.args.entries.now c.args.piece.now y c.requires.parts.entries.sorted c.requires.piece c.own_at.ensures made) c.build_wide.ensures
 
 pub build_pieces-place_built-requires-clause-built : goal.build_pieces-place_built-requires-clause-built
 build_pieces-place_built-requires-clause-built g t c =
-    let now = applied (content (option_copied c.args.own)) c.args.entries.now in
+    let now = entries_after_batch (content (option_copied c.args.own)) c.args.entries.now in
     subst (λ ps. AllZip (λ p r. IfOk r (IsPieceBuilt c.args.depth c.args.version now p)) ps c.in_ok-built.built.items) (c.deref.ensures.value ∙ sym c.deref-2.ensures.value)
     (AnswersEach-pairs c.in_ok-built.ensures (λ p r. IfOk r (IsPieceBuilt c.args.depth c.args.version now p)) (λ p r h. subst (λ x. IfOk r (IsPieceBuilt c.args.depth c.args.version now x)) h.shows h.says.met))
 
@@ -43,26 +43,26 @@ pub build_wide-build_pieces-requires-clause-depth : goal.build_wide-build_pieces
 build_wide-build_pieces-requires-clause-depth g t c κs within =
     let p = c.requires.parts in
     let own = content (option_copied c.args.own) in
-    deeper c.args.depth p.path (applied own c.args.entries.now) (IsPartUnder-applied c.args.depth p.path own c.args.entries.now p.entries p.batch) c.in-Several.ensures
+    deeper c.args.depth p.path (entries_after_batch own c.args.entries.now) (IsPartUnder-applied c.args.depth p.path own c.args.entries.now p.entries p.batch) c.in-Several.ensures
 
 pub build_wide-inner-requires-clause-depth : goal.build_wide-inner-requires-clause-depth
 build_wide-inner-requires-clause-depth g t c =
     let p = c.requires.parts in
     let own = content (option_copied c.args.own) in
-    deeper c.args.depth p.path (applied own c.args.entries.now) (IsPartUnder-applied c.args.depth p.path own c.args.entries.now p.entries p.batch) c.in-Several.ensures
+    deeper c.args.depth p.path (entries_after_batch own c.args.entries.now) (IsPartUnder-applied c.args.depth p.path own c.args.entries.now p.entries p.batch) c.in-Several.ensures
 
 pub build_wide-inner-requires-clause-several : goal.build_wide-inner-requires-clause-several
 build_wide-inner-requires-clause-several g t c =
     let p = c.requires.parts in
     let own = content (option_copied c.args.own) in
-    omega (arith, c.in-Several.ensures, ap length (joined_built c.args.depth c.args.version p.path (applied own c.args.entries.now) c.in_ok-children-in-Several.children (IsPartUnder-applied c.args.depth p.path own c.args.entries.now p.entries p.batch) c.in_ok-children-in-Several.ensures))
+    omega (arith, c.in-Several.ensures, ap length (joined_built c.args.depth c.args.version p.path (entries_after_batch own c.args.entries.now) c.in_ok-children-in-Several.children (IsPartUnder-applied c.args.depth p.path own c.args.entries.now p.entries p.batch) c.in_ok-children-in-Several.ensures))
 
 pub build_wide-inner-requires-clause-alike : goal.build_wide-inner-requires-clause-alike
 build_wide-inner-requires-clause-alike g t c =
     let p = c.requires.parts in
     let own = content (option_copied c.args.own) in
     let part = IsPartUnder-applied c.args.depth p.path own c.args.entries.now p.entries p.batch in
-    subst (BeginAlike c.args.depth) (sym (joined_built c.args.depth c.args.version p.path (applied own c.args.entries.now) c.in_ok-children-in-Several.children part c.in_ok-children-in-Several.ensures)) (part_agrees (applied own c.args.entries.now) part)
+    subst (BeginAlike c.args.depth) (sym (joined_built c.args.depth c.args.version p.path (entries_after_batch own c.args.entries.now) c.in_ok-children-in-Several.children part c.in_ok-children-in-Several.ensures)) (part_agrees (entries_after_batch own c.args.entries.now) part)
 
 pub build_wide-returns-in-Nothing : goal.build_wide-returns-in-Nothing
 build_wide-returns-in-Nothing g t c = built_nothing c.args.depth c.args.version _ c.in-Nothing.ensures
@@ -79,4 +79,4 @@ pub build_wide-returns-in_ok-link-in-Several : goal.build_wide-returns-in_ok-lin
 build_wide-returns-in_ok-link-in-Several g t c =
     let p = c.requires.parts in
     let own = content (option_copied c.args.own) in
-    built_inner c.args.depth c.args.version p.path (applied own c.args.entries.now) _ c.in_ok-children-in-Several.children c.in-Several.ensures (IsPartUnder-applied c.args.depth p.path own c.args.entries.now p.entries p.batch) c.in_ok-children-in-Several.ensures c.in_ok-link-in-Several.ensures
+    built_inner c.args.depth c.args.version p.path (entries_after_batch own c.args.entries.now) _ c.in_ok-children-in-Several.children c.in-Several.ensures (IsPartUnder-applied c.args.depth p.path own c.args.entries.now p.entries p.batch) c.in_ok-children-in-Several.ensures c.in_ok-link-in-Several.ensures

@@ -1,7 +1,7 @@
 use Rattle.std.proofs.Common.{arith, ◌≡◌, length, subst, IfOk}
 use Rattle.std.proofs.lemmas.Result.{IfOk-at_ok}
 use Rattle.std.specs.Option.{option_copied}
-use Rattle.jf_model.specs.Changes.{applied}
+use Rattle.jf_model.specs.Changes.{entries_after_batch}
 use Rattle.jf_node.specs.Children.{content}
 use Rattle.jf_update.specs.Wide.{IsPieceBuilt}
 use Rattle.jf_update.proofs.WideLaws.{next_left}
@@ -11,13 +11,13 @@ use Rattle.jf_update.proofs.wide_leaf.place_built.Goals as goal
 pub loop-piece-init : goal.loop-piece-init
 loop-piece-init c =
     let es = content (option_copied c.args.own) in
-    record { filling = filling_start c.args.depth c.args.version es (applied es c.args.entries.now) c.args.pieces.now c.in_ok-children.children c.in_ok-children.ensures; left = c.requires.built }
+    record { filling = filling_start c.args.depth c.args.version es (entries_after_batch es c.args.entries.now) c.args.pieces.now c.in_ok-children.children c.in_ok-children.ensures; left = c.requires.built }
 
 pub loop-piece-preserved : goal.loop-piece-preserved
 loop-piece-preserved c =
     let h = c.loop-piece.invariant in
     let es = content (option_copied c.args.own) in
-    let now = applied es c.args.entries.now in
+    let now = entries_after_batch es c.args.entries.now in
     let ps = c.args.pieces.now in
     let both = next_left (λ p r. IfOk r (IsPieceBuilt c.args.depth c.args.version now p)) ps c.loop-piece.built.items c.remove.new.self.items c.loop-piece.piece-index c.piece-item.result c.remove.result h.left (omega arith) c.piece-item.is c.remove.ensures.value c.remove.ensures.items in
     record {
@@ -32,4 +32,4 @@ returns c =
     let bs = c.args.entries.now in
     let ps = c.args.pieces.now in
     let e : c.loop-piece.piece-index ≡ length ps = omega arith in
-    filling_done c.args.depth c.args.version es bs ps c.loop-piece.children c.requires.parts.entries.sorted c.requires.pieces (subst (λ n. IsFilling c.args.depth c.args.version n es (applied es bs) ps c.loop-piece.children) e c.loop-piece.invariant.filling)
+    filling_done c.args.depth c.args.version es bs ps c.loop-piece.children c.requires.parts.entries.sorted c.requires.pieces (subst (λ n. IsFilling c.args.depth c.args.version n es (entries_after_batch es bs) ps c.loop-piece.children) e c.loop-piece.invariant.filling)

@@ -1,6 +1,6 @@
 use Rattle.std.proofs.Common.{◌++◌, set, refl, sym, ap, ap₂, ◌∙◌, subst, arith, Some}
 use Rattle.jf_path.proofs.NibbleLaws.{nibble-small}
-use Rattle.jf_node.specs.Children.{joined, FitsAt}
+use Rattle.jf_node.specs.Children.{entries_of_children, FitsAt}
 use Rattle.jf_node.specs.LinkValue.{LinkValue}
 use Rattle.test_node.proofs.TwoChildren.{joined-two, two_fit}
 use Rattle.test_node.proofs.nodes.leaves.Goals as goal
@@ -19,6 +19,6 @@ returns-clause-union c =
     let m = c.nibble.result in
     let n = c.nibble-2.result in
     let links = c.set-2.ensures ∙ ap (λ xs. set xs n (Some c.in_ok-b.b)) (c.set.ensures ∙ ap (λ xs. set xs m (Some c.in_ok-a.a)) c.none-children.ensures) in
-    ap joined links
+    ap entries_of_children links
     ∙ joined-two 16 m n (Some c.in_ok-a.a) (Some c.in_ok-b.b) (omega (arith, c.nibble.ensures, c.nibble-2.ensures, c.requires.parts)) (omega (arith, c.nibble-2.ensures, nibble-small c.args.high.now c.args.depth))
     ∙ ap₂ (λ (x y : LinkValue). x.entries ++ y.entries) c.in_ok-a.ensures c.in_ok-b.ensures

@@ -9,8 +9,8 @@ use Rattle.jf_payload.specs.declared.records.Commit.{Commit}
 use Rattle.jf_dir.proofs.NextLandings.{own-rises}
 use Rattle.jf_dir.proofs.directory.Directory.update.Goals as goal
 
-pub copied-requires : goal.copied-requires
-copied-requires g c =
+pub copy-requires : goal.copy-requires
+copy-requires g c =
     let own = subst (λ (x : SnapshotValue). IsMap x.map) c.into_parts-landing.ensures.snapshot c.know.ensures.map in
     let fresh = ap (λ (k : Commit). k.fresh) (c.landing.view_is ∙ c.into_parts-landing.ensures.landing) in
     subst (λ (fs : List (NodeName × PlainNode)). IsTrue (are_rising (map (λ x. x.0) fs))) (sym fresh) (own-rises c.args.self.now c.in_ok-next.next own c.in_ok-next.ensures.own)

@@ -2,7 +2,7 @@
 use Rattle.std.proofs.Common.{◌≡◌, ◌≤◌, ◌<◌, ◌+◌, ◌-◌, ◌^◌, [], ◌∷◌, length, Some, subst, sym, ◌∙◌, refl, rules, arith}
 use Rattle.std.specs.FinMap as fin
 use Rattle.jf_hash.specs.Maps.{map_of_entries}
-use Rattle.jf_model.specs.Versions.{imported, newest}
+use Rattle.jf_model.specs.Versions.{imported_versions, newest}
 use Rattle.jf_disk.specs.Disk.{History, reads}
 use Rattle.jf_frame.specs.Framed.{Framed}
 use Rattle.jf_frame.specs.Framing.{IsFrame, number_of}
@@ -78,7 +78,7 @@ returns-in-Ok-clause-step g c =
     let ok = c.in-Ok.ensures.ok h 5 payload told frame in
     let both = on_same _ _ _ stop ok in
     let leads = checkpoint_leads c.checkpoints_follow.ensures c.checkpoints_are_numbered.ensures s' (n + 1) c.know-2.ensures.read c.know-2.ensures.sound c.in_ok-frame.ensures.spelled in
-    let after = lead_after formats c.standings_have_versions.ensures (λ v. imported c.args.version (map_of_entries c.args.entries.now)) (x ∷ []) fmt format.Two s s' c.know.ensures.sound (leads.0, (formats format.Two s' c.know-2.ensures.sound).1 ∙ c.in_ok-directory.ensures.versions) in
+    let after = lead_after formats c.standings_have_versions.ensures (λ v. imported_versions c.args.version (map_of_entries c.args.entries.now)) (x ∷ []) fmt format.Two s s' c.know.ensures.sound (leads.0, (formats format.Two s' c.know-2.ensures.sound).1 ∙ c.in_ok-directory.ensures.versions) in
     (both.0, both.1, step_succeeds formats c.standings_have_versions.ensures c.succeeds_by_records.ensures step h both.0 p c.switch.new.self fmt s n k (x ∷ []) c.know.ensures.sound after both.2.0 both.2.1 leads.1 (x, refl, refl))) told in
     let first : c.self.inside.directory.head ≡ 0 = search rules in
     let none : fin.len c.newest.result.now.map ≡ 0 = search rules in
@@ -131,7 +131,7 @@ returns-in-Err-clause-step g c =
     let frame = subst (λ bytes. IsFrame bytes 5 payload) (sym c.as_slice.ensures) c.in_ok-frame.ensures.frame in
     let stop = c.in-Err.ensures.stop h k.held 5 payload told k.in_step frame in
     let leads = checkpoint_leads c.checkpoints_follow.ensures c.checkpoints_are_numbered.ensures s' (n + 1) c.know-2.ensures.read c.know-2.ensures.sound c.in_ok-frame.ensures.spelled in
-    let after = lead_after formats c.standings_have_versions.ensures (λ v. imported c.args.version (map_of_entries c.args.entries.now)) (x ∷ []) fmt format.Two s s' c.know.ensures.sound (leads.0, (formats format.Two s' c.know-2.ensures.sound).1 ∙ c.in_ok-directory.ensures.versions) in
+    let after = lead_after formats c.standings_have_versions.ensures (λ v. imported_versions c.args.version (map_of_entries c.args.entries.now)) (x ∷ []) fmt format.Two s s' c.know.ensures.sound (leads.0, (formats format.Two s' c.know-2.ensures.sound).1 ∙ c.in_ok-directory.ensures.versions) in
     (stop.0, stop.1, step_stops formats c.standings_have_versions.ensures c.stops_by_records.ensures step h stop.0 p fmt s n k (x ∷ []) c.know.ensures.sound after stop.2)) told in
     let first : c.self.inside.directory.head ≡ 0 = search rules in
     let none : fin.len c.newest.result.now.map ≡ 0 = search rules in

@@ -1,6 +1,6 @@
 -- A floor is one more record, whose standing has the later floor.
 use Rattle.std.proofs.Common.{◌≡◌, ◌≤◌, [], ◌∷◌, ◌++◌, Some, subst, sym, ◌∙◌, ap, refl, rules}
-use Rattle.jf_model.specs.Versions.{pruned}
+use Rattle.jf_model.specs.Versions.{versions_from_floor}
 use Rattle.jf_disk.specs.Disk.{History}
 use Rattle.jf_codec.specs.declared.format.Format.TheVariants as format
 use Rattle.jf_payload.specs.declared.records.Record.TheVariants as «record»
@@ -39,11 +39,11 @@ invariant_of-self g c = (
 
 pub returns-in-Ok : goal.returns-in-Ok
 returns-in-Ok g c =
-    let versions_are : versions_of c.prune.new.self ≡ pruned c.args.floor c.args.self.now.versions =
+    let versions_are : versions_of c.prune.new.self ≡ versions_from_floor c.args.floor c.args.self.now.versions =
     let s = c.self.inside.directory in
     let low = subst (λ (e : Engine). e.versions.floor ≤ c.args.floor) (sym c.self.view_is) c.requires.low in
     let high = subst (λ (e : Engine). c.args.floor ≤ e.versions.head) (sym c.self.view_is) c.requires.high in
-    subst (λ (e : Engine). versions_of c.prune.new.self ≡ pruned c.args.floor e.versions) c.self.view_is (ap versions_of c.prune.ensures ∙ (c.floors_prune.ensures format.Two s c.args.floor c.know.ensures.sound low high).1) in
+    subst (λ (e : Engine). versions_of c.prune.new.self ≡ versions_from_floor c.args.floor e.versions) c.self.view_is (ap versions_of c.prune.ensures ∙ (c.floors_prune.ensures format.Two s c.args.floor c.know.ensures.sound low high).1) in
     let disk : (h : History) → c.args.self.now.history ≡ Some h → (x : History) × (g.D.Disk.history c.append.new.disk ≡ Some x) × Succeeds (Prunes c.args.floor) h x c.args.self.now.versions = λ h told.
     let s = c.self.inside.directory in
     let fmt = c.self.inside.format in
@@ -60,7 +60,7 @@ returns-in-Ok g c =
     let ok = c.in-Ok.ensures.ok h k.held 2 payload told k.in_step (c.encode_floor.ensures fmt) in
     let both = on_same _ _ _ stop ok in
     let leads = floors_lead c.floors_follow.ensures c.formats_are_sound.ensures c.formats_follow.ensures k.held fmt p.offset s f k.leads c.know.ensures.sound low high in
-    let after = lead_after c.formats_are_sound.ensures c.standings_have_versions.ensures (pruned f) (k.held ++ y ∷ []) fmt fmt s (with_floor f s) c.know.ensures.sound leads in (
+    let after = lead_after c.formats_are_sound.ensures c.standings_have_versions.ensures (versions_from_floor f) (k.held ++ y ∷ []) fmt fmt s (with_floor f s) c.know.ensures.sound leads in (
       both.0,
       both.1,
       step_succeeds c.formats_are_sound.ensures c.standings_have_versions.ensures c.succeeds_by_records.ensures (Prunes f) h both.0 p c.append.new.self fmt s c.self.inside.generation k (k.held ++ y ∷ []) c.know.ensures.sound after both.2.0 both.2.1
@@ -97,7 +97,7 @@ returns-in-Err g c =
     let k = (c.self.invariant.2 c.if-self.false).holds h told in
     let stop = c.in-Err.ensures.stop h k.held 2 (record_bytes fmt («record».Floor f)) told k.in_step (c.encode_floor.ensures fmt) in
     let leads = floors_lead c.floors_follow.ensures c.formats_are_sound.ensures c.formats_follow.ensures k.held fmt p.offset s f k.leads c.know.ensures.sound low high in
-    let after = lead_after c.formats_are_sound.ensures c.standings_have_versions.ensures (pruned f) (k.held ++ y ∷ []) fmt fmt s (with_floor f s) c.know.ensures.sound leads in
+    let after = lead_after c.formats_are_sound.ensures c.standings_have_versions.ensures (versions_from_floor f) (k.held ++ y ∷ []) fmt fmt s (with_floor f s) c.know.ensures.sound leads in
     (stop.0, stop.1, step_stops c.formats_are_sound.ensures c.standings_have_versions.ensures c.stops_by_records.ensures (Prunes f) h stop.0 p fmt s c.self.inside.generation k (k.held ++ y ∷ []) c.know.ensures.sound after stop.2)) told in
     record {
       step = record {

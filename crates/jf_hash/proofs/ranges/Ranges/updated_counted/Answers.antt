@@ -1,7 +1,7 @@
 use Rattle.std.proofs.Common.{◌≡◌, ℕ, ◌∙◌, ap, ap₂, sym, subst, refl, arith, ◌+◌, ◌-◌, None, List, [], ◌∷◌, ◌++◌, length, length-append, map, is_some, cond, replicate, take, take_all, take_at}
 use Rattle.std.specs.List.{count_by}
 use Rattle.std.proofs.lemmas.List.{append-nil, length-map}
-use Rattle.jf_path.specs.Bitmaps.{present, spread}
+use Rattle.jf_path.specs.Bitmaps.{present, spread_items}
 use Rattle.jf_path.proofs.BitmapLaws.{count_by-is_some, spread-present}
 use Rattle.jf_hash.specs.Ranges.{Agree, kept_hashes, kept_within, pairs_within}
 use Rattle.jf_hash.specs.declared.slot.Slot.{Slot}
@@ -19,8 +19,8 @@ as_many n xs x long = ap₂ (λ ys k. ys ++ replicate k x) (take_all n xs (omega
 pub invariant_of-result : goal.invariant_of-result
 invariant_of-result g c =
     let slots = g.P.Places.slots c.args.places.now in
-    let bits = c.kept-kept.result in
-    let is = c.kept-kept.ensures slots c.of-occupied.ensures.long c.of-occupied.ensures.children c.of-occupied.ensures.leaves in
+    let bits = c.kept_ranges-kept.result in
+    let is = c.kept_ranges-kept.ensures slots c.of-occupied.ensures.long c.of-occupied.ensures.children c.of-occupied.ensures.leaves in
     let all : take 16 bits ≡ bits = take_all 16 bits (omega (arith, ap length is ∙ length-map (kept_hashes slots) is_some ∙ length-kept_hashes slots)) in
     let fits = c.resize.ensures.succeeds (omega (arith, c.refresh.ensures.capacity, c.in_ok-hashes.ensures.exact)) in
     sym (ap (count_by (λ bit. bit)) all) ∙ sym c.count-count.ensures ∙ sym (c.resize.ensures.len ∙ ap (λ b. cond b c.count-count.result c.refresh.new.out.len) fits) ∙ c.resize.new.self.ok.0
@@ -33,7 +33,7 @@ returns-clause-value g c olds was agree =
     let count = c.count-count.result in
     let same : take 16 slots ≡ slots = take_all 16 slots (omega (arith, c.of-occupied.ensures.long)) in
     let same_bits : take 16 changed ≡ changed = take_all 16 changed (omega (arith, c.know.ensures)) in
-    let is = c.kept-kept.ensures slots c.of-occupied.ensures.long c.of-occupied.ensures.children c.of-occupied.ensures.leaves in
+    let is = c.kept_ranges-kept.ensures slots c.of-occupied.ensures.long c.of-occupied.ensures.children c.of-occupied.ensures.leaves in
     let long_bits : length (map (is_some {T = List ℕ}) (kept_hashes slots)) ≡ 16 = length-map (kept_hashes slots) is_some ∙ length-kept_hashes slots in
     let counted : length (present (kept_within 4 slots)) ≡ count =
     ap length (present-all slots) ∙ sym (count_by-is_some (kept_hashes slots)) ∙ ap (count_by (λ bit. bit)) (sym (take_all 16 (map is_some (kept_hashes slots)) (omega (arith, long_bits))))
@@ -47,7 +47,7 @@ returns-clause-value g c olds was agree =
     let resized : c.resize.new.self.items ≡ c.refresh.new.out.items =
     c.resize.ensures.items ∙ ap (λ b. cond b (take count c.refresh.new.out.items ++ replicate (count - c.refresh.new.out.len) c.empty.result) c.refresh.new.out.items) fits
     ∙ ap (λ n. take count c.refresh.new.out.items ++ replicate (count - n) c.empty.result) c.refresh.new.out.ok.0 ∙ as_many count c.refresh.new.out.items c.empty.result (ap length out ∙ counted) in
-    ap₂ spread is (resized ∙ out ∙ present-all slots) ∙ spread-present (kept_hashes slots)
+    ap₂ spread_items is (resized ∙ out ∙ present-all slots) ∙ spread-present (kept_hashes slots)
 
 pub returns-clause-pairs : goal.returns-clause-pairs
 returns-clause-pairs g c =

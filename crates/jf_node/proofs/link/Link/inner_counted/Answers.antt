@@ -1,7 +1,7 @@
 use Rattle.std.proofs.Common.{◌∙◌, ap, sym, map}
 use Rattle.jf_hash.specs.Ranges.{kept_hashes}
 use Rattle.jf_hash.specs.Slots.{slots_of}
-use Rattle.jf_node.specs.Children.{joined, AreChildren, child_slot}
+use Rattle.jf_node.specs.Children.{entries_of_children, AreChildren, child_slot}
 use Rattle.jf_node.proofs.PlaceLaws.{slots-children}
 use Rattle.jf_node.proofs.link.Link.inner_counted.Goals as goal
 
@@ -10,4 +10,4 @@ over-requires-clause-hashed g c =
     let children : AreChildren c.args.depth c.args.children = record { deep = c.requires.depth; long = c.know.ensures.long; fit = c.requires.children; several = c.requires.several } in
     c.in_ok-ranges.ensures.value
     ∙ ap kept_hashes (ap (map child_slot) c.in_ok-children.ensures ∙ slots-children c.args.depth c.args.children children)
-    ∙ ap (λ links. kept_hashes (slots_of c.args.depth (joined links))) (sym c.in_ok-children.ensures)
+    ∙ ap (λ links. kept_hashes (slots_of c.args.depth (entries_of_children links))) (sym c.in_ok-children.ensures)

@@ -1,20 +1,20 @@
 use Rattle.std.proofs.Common.{◌≡◌, ◌∙◌, ap, sym, arith, length, get_or, None, false, take_all}
 use Rattle.std.specs.Option.{option_copied}
 use Rattle.std.proofs.lemmas.List.{drop_all}
-use Rattle.jf_node.specs.Children.{content, joined}
+use Rattle.jf_node.specs.Children.{content, entries_of_children}
 use Rattle.jf_node.proofs.ChildLaws.{length-joined-more}
 use Rattle.jf_node.proofs.CountLaws.{length-from, same_child}
 use Rattle.jf_node.proofs.link.Link.recount.Goals as goal
 
-pub recounted-requires-clause-part : goal.recounted-requires-clause-part
-recounted-requires-clause-part c =
+pub count_after_change-requires-clause-part : goal.count_after_change-requires-clause-part
+count_after_change-requires-clause-part c =
     let n = c.loop-n.n in
     let old = c.in-Inner.old.now in
     let before : option_copied c.get-in-loop-n.result ≡ get_or old n None = c.get-in-loop-n.ensures ∙ ap (λ k. get_or old k None) c.of-n.ensures in
     omega (arith, c.loop-n.invariant, length-from old n (omega (arith, c.in-Inner.ensures.shows.children.long, c.loop-n-test.true)), ap (λ x. length (content x)) before)
 
-pub recounted-requires-clause-same : goal.recounted-requires-clause-same
-recounted-requires-clause-same c off =
+pub count_after_change-requires-clause-same : goal.count_after_change-requires-clause-same
+count_after_change-requires-clause-same c off =
     let n = c.loop-n.n in
     let old = c.in-Inner.old.now in
     let new = c.args.children.now in
@@ -40,6 +40,6 @@ loop-n-preserved c =
 pub returns : goal.returns
 returns c =
     let n = c.loop-n.n in
-    let all = ap (λ xs. length (joined xs)) (take_all n c.args.children.now (omega (arith, c.know.ensures.long, c.loop-n-test.false))) in
-    let none = ap (λ xs. length (joined xs)) (drop_all n c.in-Inner.old.now (omega (arith, c.in-Inner.ensures.shows.children.long, c.loop-n-test.false))) in
+    let all = ap (λ xs. length (entries_of_children xs)) (take_all n c.args.children.now (omega (arith, c.know.ensures.long, c.loop-n-test.false))) in
+    let none = ap (λ xs. length (entries_of_children xs)) (drop_all n c.in-Inner.old.now (omega (arith, c.in-Inner.ensures.shows.children.long, c.loop-n-test.false))) in
     omega (arith, c.loop-n.invariant, all, none)

@@ -2,7 +2,7 @@ use Rattle.std.proofs.Common.{◌≡◌, [], ◌∷◌, refl, sym, ap, ◌∙◌
 use Rattle.jf_disk.specs.Disk.{History, content_on}
 use Rattle.jf_disk.specs.Crashes.{GoesOn, KeepsOther, opposite}
 use Rattle.jf_disk.proofs.CrashLaws.{told_same}
-use Rattle.jf_frame.specs.Logs.{Log, IsReady, framed}
+use Rattle.jf_frame.specs.Logs.{Log, IsReady, appended_record}
 use Rattle.jf_pair.specs.Pairs.{Pair}
 use Rattle.jf_pair.proofs.FirstRecord.{SameNoneOrOne}
 use Rattle.jf_pair.proofs.Switched.{is_newer, switch_stops, switch_in_step}
@@ -11,7 +11,7 @@ use Rattle.jf_pair.proofs.pair.Pair.switch.Goals as goal
 pub returns-in_err-write_first-clause-stop : goal.returns-in_err-write_first-clause-stop
 returns-in_err-write_first-clause-stop g c = λ h rs kind payload told kept is.
     let p = c.args.self.now in
-    let r = framed 0 kind payload in
+    let r = appended_record 0 kind payload in
     let to : c.self.inside.other.side ≡ opposite p.side = c.self.invariant ∙ ap (λ (p : Pair). opposite p.side) c.self.view_is in
     let x = c.write_first.ensures.stop h kind payload told is in
     let n = is_newer kind payload rs p h.now kept (c.requires.checkpoint kind payload is) (c.requires.newer h rs kind payload told kept is) in
@@ -26,7 +26,7 @@ returns-in_err-write_first-clause-other g c = λ h told.
 pub returns-clause-stop : goal.returns-clause-stop
 returns-clause-stop g c = λ h rs kind payload told kept is.
     let p = c.args.self.now in
-    let r = framed 0 kind payload in
+    let r = appended_record 0 kind payload in
     let to : c.self.inside.other.side ≡ opposite p.side = c.self.invariant ∙ ap (λ (p : Pair). opposite p.side) c.self.view_is in
     let x = c.write_first.ensures.stop h kind payload told is in
     let n = is_newer kind payload rs p h.now kept (c.requires.checkpoint kind payload is) (c.requires.newer h rs kind payload told kept is) in
@@ -41,7 +41,7 @@ returns-clause-other g c = λ h told.
 pub returns-clause-ok : goal.returns-clause-ok
 returns-clause-ok g c = λ h kind payload told is.
     let p = c.args.self.now in
-    let r = framed 0 kind payload in
+    let r = appended_record 0 kind payload in
     let k = c.requires.in_step h told in
     let to : c.self.inside.other.side ≡ opposite p.side = c.self.invariant ∙ ap (λ (p : Pair). opposite p.side) c.self.view_is in
     let x = c.write_first.ensures.stop h kind payload told is in

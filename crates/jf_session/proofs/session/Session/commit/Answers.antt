@@ -20,8 +20,8 @@ invariant_of-self-in-Err-landed g c =
     let p' = c.commit-landed.new.self in
     let k = c.know.ensures in
     let fault = c.in-Err-landed.fault in
-    IsSoundSession-failed _ i.pass p' i.pending i.over c.refused.new.over (command.Change change.Commit) fault
-    (Fails-commit _ i.pass p' i.pending k.events k.start c.in-Ok.batch c.in-Ok.ensures fault c.in-Err-landed.ensures.failed) c.refused.result c.refused.ensures c.self.invariant
+    IsSoundSession-failed _ i.pass p' i.pending i.over c.refusal_reply.new.over (command.Change change.Commit) fault
+    (Fails-commit _ i.pass p' i.pending k.events k.start c.in-Ok.batch c.in-Ok.ensures fault c.in-Err-landed.ensures.failed) c.refusal_reply.result c.refusal_reply.ensures c.self.invariant
 
 pub returns-in-Ok-landed : goal.returns-in-Ok-landed
 returns-in-Ok-landed g c =
@@ -37,5 +37,5 @@ returns g c =
     let p' = c.commit-landed.new.self in
     let k = c.know.ensures in
     let fault = c.in-Err-landed.fault in
-    IsObeyed-failed _ i.pass p' i.pending i.over c.refused.new.over (command.Change change.Commit) fault
-    (Fails-commit _ i.pass p' i.pending k.events k.start c.in-Ok.batch c.in-Ok.ensures fault c.in-Err-landed.ensures.failed) c.args.self.now c.self.view_is refl c.requires.over c.refused.result c.refused.ensures
+    IsObeyed-failed _ i.pass p' i.pending i.over c.refusal_reply.new.over (command.Change change.Commit) fault
+    (Fails-commit _ i.pass p' i.pending k.events k.start c.in-Ok.batch c.in-Ok.ensures fault c.in-Err-landed.ensures.failed) c.args.self.now c.self.view_is refl c.requires.over c.refusal_reply.result c.refusal_reply.ensures

@@ -21,8 +21,8 @@ invariant_of-self-in-Err-landed g c =
     let p' = c.commit-landed.new.self in
     let k = c.know.ensures in
     let fault = c.in-Err-landed.fault in
-    IsSoundSession-failed _ i.pass p' i.pending i.over c.refused.new.over (command.Change change.Commit) fault
-    (Fails-commit _ i.pass p' i.pending k.events k.start c.in-Ok.batch c.in-Ok.ensures fault c.in-Err-landed.ensures.failed) c.refused.result c.refused.ensures c.self.invariant
+    IsSoundSession-failed _ i.pass p' i.pending i.over c.refusal_reply.new.over (command.Change change.Commit) fault
+    (Fails-commit _ i.pass p' i.pending k.events k.start c.in-Ok.batch c.in-Ok.ensures fault c.in-Err-landed.ensures.failed) c.refusal_reply.result c.refusal_reply.ensures c.self.invariant
 
 pub returns-in-Ok-landed : goal.returns-in-Ok-landed
 returns-in-Ok-landed g c =
@@ -39,4 +39,4 @@ returns g c =
     let k = c.know.ensures in
     let fault = c.in-Err-landed.fault in
     failed_led c.args.store.now.start i.pass p' i.pending i.over c.args.self.now c.self.view_is c.requires.over (command.Change change.Commit) fault
-    (Fails-commit _ i.pass p' i.pending k.events k.start c.in-Ok.batch c.in-Ok.ensures fault c.in-Err-landed.ensures.failed) refl c.refused.new.over c.refused.result c.refused.ensures c.args.told.now c.untold.result c.untold.ensures
+    (Fails-commit _ i.pass p' i.pending k.events k.start c.in-Ok.batch c.in-Ok.ensures fault c.in-Err-landed.ensures.failed) refl c.refusal_reply.new.over c.refusal_reply.result c.refusal_reply.ensures c.args.told.now c.untold.result c.untold.ensures

@@ -20,8 +20,8 @@ invariant_of-self-in-Err-forked g c =
     let p' = c.fork-forked.new.self in
     let k = c.know.ensures in
     let fault = c.in-Err-forked.fault in
-    IsSoundSession-failed _ i.pass p' i.pending i.over c.refused.new.over (command.Change (change.Fork c.args.on)) fault
-    (Fails-fork _ i.pass p' i.pending k.events k.start c.args.on fault c.in-Err-forked.ensures.refused) c.refused.result c.refused.ensures c.self.invariant
+    IsSoundSession-failed _ i.pass p' i.pending i.over c.refusal_reply.new.over (command.Change (change.Fork c.args.on)) fault
+    (Fails-fork _ i.pass p' i.pending k.events k.start c.args.on fault c.in-Err-forked.ensures.refused) c.refusal_reply.result c.refusal_reply.ensures c.self.invariant
 
 pub returns-in-Ok-forked : goal.returns-in-Ok-forked
 returns-in-Ok-forked g c =
@@ -37,5 +37,5 @@ returns g c =
     let p' = c.fork-forked.new.self in
     let k = c.know.ensures in
     let fault = c.in-Err-forked.fault in
-    IsObeyed-failed _ i.pass p' i.pending i.over c.refused.new.over (command.Change (change.Fork c.args.on)) fault
-    (Fails-fork _ i.pass p' i.pending k.events k.start c.args.on fault c.in-Err-forked.ensures.refused) c.args.self.now c.self.view_is refl c.requires.over c.refused.result c.refused.ensures
+    IsObeyed-failed _ i.pass p' i.pending i.over c.refusal_reply.new.over (command.Change (change.Fork c.args.on)) fault
+    (Fails-fork _ i.pass p' i.pending k.events k.start c.args.on fault c.in-Err-forked.ensures.refused) c.args.self.now c.self.view_is refl c.requires.over c.refusal_reply.result c.refusal_reply.ensures

@@ -17,8 +17,8 @@ pub invariant_of-self-in-Err : goal.invariant_of-self-in-Err
 invariant_of-self-in-Err g c =
     let i = c.self.inside in
     let p' = c.land-landed.new.self in
-    IsSoundSession-failed _ i.pass p' i.pending i.over c.refused.new.over (command.Change (change.Land c.args.id)) c.in-Err.fault
-    (Fails-land _ i.pass p' i.pending c.know.ensures.events c.know.ensures.start c.args.id c.in-Err.fault c.in-Err.ensures.failed) c.refused.result c.refused.ensures c.self.invariant
+    IsSoundSession-failed _ i.pass p' i.pending i.over c.refusal_reply.new.over (command.Change (change.Land c.args.id)) c.in-Err.fault
+    (Fails-land _ i.pass p' i.pending c.know.ensures.events c.know.ensures.start c.args.id c.in-Err.fault c.in-Err.ensures.failed) c.refusal_reply.result c.refusal_reply.ensures c.self.invariant
 
 pub returns-in-Ok : goal.returns-in-Ok
 returns-in-Ok g c =
@@ -31,5 +31,5 @@ pub returns-in-Err : goal.returns-in-Err
 returns-in-Err g c =
     let i = c.self.inside in
     let p' = c.land-landed.new.self in
-    IsObeyed-failed _ i.pass p' i.pending i.over c.refused.new.over (command.Change (change.Land c.args.id)) c.in-Err.fault
-    (Fails-land _ i.pass p' i.pending c.know.ensures.events c.know.ensures.start c.args.id c.in-Err.fault c.in-Err.ensures.failed) c.args.self.now c.self.view_is refl c.requires.over c.refused.result c.refused.ensures
+    IsObeyed-failed _ i.pass p' i.pending i.over c.refusal_reply.new.over (command.Change (change.Land c.args.id)) c.in-Err.fault
+    (Fails-land _ i.pass p' i.pending c.know.ensures.events c.know.ensures.start c.args.id c.in-Err.fault c.in-Err.ensures.failed) c.args.self.now c.self.view_is refl c.requires.over c.refusal_reply.result c.refusal_reply.ensures

@@ -25,8 +25,8 @@ pub invariant_of-self-in-Err : goal.invariant_of-self-in-Err
 invariant_of-self-in-Err g c =
     let i = c.self.inside in
     let p' = c.land_chain-landed.new.self in
-    IsSoundSession-failed _ i.pass p' i.pending i.over c.refused.new.over (command.Change (change.Land c.args.id)) c.in-Err.fault
-    (Fails-land _ i.pass p' i.pending c.know.ensures.events c.know.ensures.start c.args.id c.in-Err.fault c.in-Err.ensures.failed) c.refused.result c.refused.ensures c.self.invariant
+    IsSoundSession-failed _ i.pass p' i.pending i.over c.refusal_reply.new.over (command.Change (change.Land c.args.id)) c.in-Err.fault
+    (Fails-land _ i.pass p' i.pending c.know.ensures.events c.know.ensures.start c.args.id c.in-Err.fault c.in-Err.ensures.failed) c.refusal_reply.result c.refusal_reply.ensures c.self.invariant
 
 pub returns-in-Ok : goal.returns-in-Ok
 returns-in-Ok g c =
@@ -40,4 +40,4 @@ returns-in-Err g c =
     let i = c.self.inside in
     let p' = c.land_chain-landed.new.self in
     failed_led c.args.store.now.start i.pass p' i.pending i.over c.args.self.now c.self.view_is c.requires.over (command.Change (change.Land c.args.id)) c.in-Err.fault
-    (Fails-land _ i.pass p' i.pending c.know.ensures.events c.know.ensures.start c.args.id c.in-Err.fault c.in-Err.ensures.failed) refl c.refused.new.over c.refused.result c.refused.ensures c.args.told.now c.untold.result c.untold.ensures
+    (Fails-land _ i.pass p' i.pending c.know.ensures.events c.know.ensures.start c.args.id c.in-Err.fault c.in-Err.ensures.failed) refl c.refusal_reply.new.over c.refusal_reply.result c.refusal_reply.ensures c.args.told.now c.untold.result c.untold.ensures

@@ -9,6 +9,6 @@ pub returns : goal.returns
 returns g c = λ told.
     let start = c.args.store.now.start in
     let s = c.args.self.now in
-    let d = c.obeyed-done in
+    let d = c.reply_to_command-done in
     subst (λ (o : Result (Unit {0}) Stop). IsLedAs start s d.new.self c.args.command told told o) (sym c.untold.ensures)
     (led_other start s d.new.self c.args.command _ _ c.requires.other c.know_events.ensures c.know_own.ensures.number d.result d.ensures told)

@@ -15,8 +15,8 @@ pub invariant_of-self-in-Err : goal.invariant_of-self-in-Err
 invariant_of-self-in-Err g c =
     let i = c.self.inside in
     let p' = c.pin_version-pinned.new.self in
-    IsSoundSession-failed c.args.store.now.start i.pass p' i.pending i.over c.refused.new.over (command.Pin c.args.version) c.in-Err.fault
-    (Fails-pin c.args.store.now.start i.pass p' i.pending c.args.version c.in-Err.fault c.in-Err.ensures.refused) c.refused.result c.refused.ensures c.self.invariant
+    IsSoundSession-failed c.args.store.now.start i.pass p' i.pending i.over c.refusal_reply.new.over (command.Pin c.args.version) c.in-Err.fault
+    (Fails-pin c.args.store.now.start i.pass p' i.pending c.args.version c.in-Err.fault c.in-Err.ensures.refused) c.refusal_reply.result c.refusal_reply.ensures c.self.invariant
 
 pub returns-in-Ok : goal.returns-in-Ok
 returns-in-Ok g c =
@@ -30,5 +30,5 @@ pub returns-in-Err : goal.returns-in-Err
 returns-in-Err g c =
     let i = c.self.inside in
     let p' = c.pin_version-pinned.new.self in
-    IsObeyed-failed c.args.store.now.start i.pass p' i.pending i.over c.refused.new.over (command.Pin c.args.version) c.in-Err.fault
-    (Fails-pin c.args.store.now.start i.pass p' i.pending c.args.version c.in-Err.fault c.in-Err.ensures.refused) c.args.self.now c.self.view_is refl c.requires.over c.refused.result c.refused.ensures
+    IsObeyed-failed c.args.store.now.start i.pass p' i.pending i.over c.refusal_reply.new.over (command.Pin c.args.version) c.in-Err.fault
+    (Fails-pin c.args.store.now.start i.pass p' i.pending c.args.version c.in-Err.fault c.in-Err.ensures.refused) c.args.self.now c.self.view_is refl c.requires.over c.refusal_reply.result c.refusal_reply.ensures

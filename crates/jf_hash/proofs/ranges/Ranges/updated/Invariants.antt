@@ -1,4 +1,0 @@
-use Rattle.jf_hash.proofs.ranges.Ranges.updated.Given as goal
-
-abbrev pub ghosts-updated_uncounted : goal.ghosts-updated_uncounted
-ghosts-updated_uncounted g a = record { name = a.blank.name; parts = a.blank.parts }
