@@ -39,7 +39,7 @@ pub(crate) fn push_totals(hashes: &[Hash], hash: &Hash, inner: &mut Vec<Hash>) -
 // Appends the total of two full parts of `k` hashes, of which the inner totals stand last.
 fn push_own(k: usize, inner: &mut Vec<Hash>) -> Result<(), Memory>
     requires positive { 0 < k }
-    requires room { k ≤ length inner.old.items }
+    requires within { k ≤ length inner.old.items }
     ensures ok { OnOk result (inner.new.items ≡ inner.old.items ++ B (slice_index_or inner.old.items (length inner.old.items - k) []) (slice_index_or inner.old.items (length inner.old.items - 1) []) ∷ []) }
     ensures err { OnErr result (inner.new.items ≡ inner.old.items) }
 {

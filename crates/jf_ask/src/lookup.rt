@@ -38,7 +38,7 @@ impl LookupFault {
     pub fn number(self) -> u8
         ensures value { result ≡ lookup_number self }
         ensures small { 1 ≤ result }
-        ensures most { result ≤ 6 }
+        ensures bounded { result ≤ 6 }
     {
         match self {
             LookupFault::Claim(ProofFault::TooDeep) => 1,

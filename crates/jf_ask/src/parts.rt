@@ -16,7 +16,7 @@ use jf_text::{MAX_LINE, is_word};
 /// How many siblings a block has, at most 256.
 pub(crate) fn count(text: &[u8]) -> Option<(usize, &[u8])>
     ensures part { option_map (λ p. (p.0, lines p.1.now)) result ≡ first_by siblings_of (lines text.now) }
-    ensures most { IfSome result (λ p. p.0 ≤ 256) }
+    ensures bounded { IfSome result (λ p. p.0 ≤ 256) }
 {
     let (line, rest) = cut_line(text)?;
     match first_line(line) {

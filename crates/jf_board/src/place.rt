@@ -85,7 +85,7 @@ impl Place {
     /// then nothing changes.
     pub fn unpin(&mut self, board: &Board, place: u64) -> Option<u64>
         requires { self.old.board ≡ board.now }
-        ensures some { IfSome result (λ v. HoldAt self.old.known place (Confirmed v) × (self.new.known ≡ with_hold self.old.known place Free)) }
+        ensures found { IfSome result (λ v. HoldAt self.old.known place (Confirmed v) × (self.new.known ≡ with_hold self.old.known place Free)) }
         ensures none { IfNone result ((self.new.known ≡ self.old.known) × (place < max_pins → HoldAt self.old.known place Free)) }
         ensures board { self.new.board ≡ self.old.board }
     {

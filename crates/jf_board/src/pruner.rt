@@ -65,13 +65,13 @@ impl Pruner {
         ensures low { result.low ≡ low_of self.new.known }
         ensures gate { result.low ≤ self.new.known.gate }
         ensures held { IsHeld self.new.known result.low result.held }
-        ensures whole { HasScanned self.new }
+        ensures scanned { HasScanned self.new }
         ensures own { own.new ≡ own.old }
         ensures words { (i : ℕ) → i < max_pins → slice_index self.new.known.loaded (max_pins * own.old.known.number + i) ≡ word_of (hold_at own.old.known i) }
         ensures pins { (i : ℕ) → i < max_pins → Below result.low (hold_at own.old.known i) }
         ensures cut { (i : ℕ) → i < max_pins → Below self.old.known.cut (hold_at own.old.known i) }
         ensures pairs { (t : ℕ × ℕ) → Has self.old.known.pairs t → Has self.new.known.pairs t }
-        ensures same { (self.new.board ≡ self.old.board) × SameButScan self.old.known self.new.known }
+        ensures rest { (self.new.board ≡ self.old.board) × SameButScan self.old.known self.new.known }
     {
         let lent = steps::lend(board, &mut own.seat);
         steps::join_for_scan(board, &mut self.seat, lent);
@@ -86,7 +86,7 @@ impl Pruner {
     #[tactic(auto, using(crate::proofs::Scanning::least_le))]
     pub fn cut(&mut self, board: &Board) -> u64
         requires own { self.old.board ≡ board.now }
-        requires whole { HasScanned self.old }
+        requires scanned { HasScanned self.old }
         ensures cut { result ≡ max self.old.known.cut (low_of self.old.known) }
         ensures gate { result ≤ self.new.known.gate }
         ensures known { (self.new.board ≡ self.old.board) × (self.new.known ≡ record self.old.known { cut = result }) }

@@ -15,7 +15,7 @@ pub(crate) fn scan_words(board: &Board, seat: &mut Seat<(), View>, gate: u64) ->
     requires pruner { IsPruner seat.old }
     requires new { ((pruner_of seat.old.me.0).loaded ≡ []) × ((pruner_of seat.old.me.0).gate ≡ gate) }
     ensures seat { (seat.new.table_id ≡ seat.old.table_id) × IsPruner seat.new }
-    ensures whole { length (pruner_of seat.new.me.0).loaded + 3 ≡ board.now.words }
+    ensures scanned { length (pruner_of seat.new.me.0).loaded + 3 ≡ board.now.words }
     ensures scans { Scans (pruner_of seat.old.me.0) (pruner_of seat.new.me.0) (length (pruner_of seat.new.me.0).loaded) result.low result.held }
 {
     let mut low = gate;

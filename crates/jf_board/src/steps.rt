@@ -71,7 +71,7 @@ pub(crate) fn raise(board: &Board, seat: &mut Seat<(), View>, gate: u64)
 pub(crate) fn set_cut(board: &Board, seat: &mut Seat<(), View>, cut: u64)
     requires own { seat.old.table_id ≡ board.now }
     requires pruner { IsPruner seat.old }
-    requires whole { length (pruner_of seat.old.me.0).loaded + 3 ≡ board.now.words }
+    requires scanned { length (pruner_of seat.old.me.0).loaded + 3 ≡ board.now.words }
     requires up { cut ≡ max (pruner_of seat.old.me.0).cut (least (pruner_of seat.old.me.0).gate (pruner_of seat.old.me.0).loaded) }
     ensures { (seat.new.table_id ≡ seat.old.table_id) × (seat.new.me ≡ (Prunes (record (pruner_of seat.old.me.0) { cut = cut }), [])) }
 {
@@ -114,7 +114,7 @@ pub(crate) fn lend(board: &Board, seat: &mut Seat<(), View>) -> Seat<(), View>
 // The pruner takes in the view of a place, and begins a scan.
 pub(crate) fn join_for_scan(board: &Board, seat: &mut Seat<(), View>, place: Seat<(), View>)
     requires own { (seat.old.table_id ≡ board.now) × (place.table_id ≡ board.now) }
-    requires both { IsPruner seat.old × IsPlaceSeat place (place_of place.me.0).number }
+    requires seats { IsPruner seat.old × IsPlaceSeat place (place_of place.me.0).number }
     ensures { (seat.new.table_id ≡ seat.old.table_id) × (seat.new.me ≡ (Prunes (with_own (pruner_of seat.old.me.0) (place_of place.me.0)), [])) }
 {
     board.table.shared.join_seat::<JoinForScan>(seat, place);
@@ -124,7 +124,7 @@ pub(crate) fn join_for_scan(board: &Board, seat: &mut Seat<(), View>, place: Sea
 // cut is at most each version that it has confirmed.
 pub(crate) fn join_for_good(board: &Board, seat: &mut Seat<(), View>, place: Seat<(), View>)
     requires own { (seat.old.table_id ≡ board.now) × (place.table_id ≡ board.now) }
-    requires both { IsPruner seat.old × IsPlaceSeat place (place_of place.me.0).number }
+    requires seats { IsPruner seat.old × IsPlaceSeat place (place_of place.me.0).number }
     ensures seat { (seat.new.table_id ≡ seat.old.table_id) × (seat.new.me ≡ (Prunes (with_joined (pruner_of seat.old.me.0) (place_of place.me.0)), [])) }
     ensures announced { JoinedAnnounced (pruner_of seat.old.me.0).pairs (place_of place.me.0 ∷ []) }
     ensures given { NumbersAreGiven (pruner_of seat.old.me.0) }

@@ -42,9 +42,9 @@ pub fn check_files<H: Threads + Sync, K: Sink>(
     sink: &mut K,
 ) -> Result<StoreCheck, Unchecked>
     ensures written { WritesCheck result (option_map (λ v. v.items) a) (option_map (λ v. v.items) b) (K.text sink.old) (K.text sink.new) }
-    ensures write { result ≡ Err Unchecked.WriteFault → HasCause (K.faults sink.old) (K.faults sink.new) }
+    ensures cause { result ≡ Err Unchecked.WriteFault → HasCause (K.faults sink.old) (K.faults sink.new) }
     ensures unwritten { result ≡ Err Unchecked.Memory → sink.new ≡ sink.old }
-    ensures sink_counts { K.faults sink.old ≤ K.faults sink.new }
+    ensures counts { K.faults sink.old ≤ K.faults sink.new }
 {
     let check = check_of(rt, alloc, a, b, workers)?;
     let text = text_of(alloc, &check)?;
@@ -104,7 +104,7 @@ fn bytes_found(alloc: Global, file: Option<Vec<u8>>) -> Vec<u8>
 // What the file on a side of a disk shows; without a side there is no such file.
 fn shown_on(alloc: Global, disk: &mut MemDisk, there: Option<Side>) -> Result<SideCheck, Memory>
     ensures shown { IfOk result (λ c. c ≡ side_shown (option_map (λ side. (content_on side (history_of disk.old).now).bytes) there)) }
-    ensures same { (history_of disk.new).now ≡ (history_of disk.old).now }
+    ensures unchanged { (history_of disk.new).now ≡ (history_of disk.old).now }
 {
     match there {
         Some(side) => side_shown(alloc, disk, side),

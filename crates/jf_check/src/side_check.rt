@@ -36,7 +36,7 @@ pub enum SideCheck {
 // What the file on a side of a disk shows.
 pub(crate) fn side_shown(alloc: Global, disk: &mut MemDisk, side: Side) -> Result<SideCheck, Memory>
     ensures shown { IfOk result (λ c. c ≡ side_shown (Some (content_on side (history_of disk.old).now).bytes)) }
-    ensures same { (history_of disk.new).now ≡ (history_of disk.old).now }
+    ensures unchanged { (history_of disk.new).now ≡ (history_of disk.old).now }
 {
     let size = disk.bytes(side).len() as u64;
     match Log::read_all(alloc, disk, side) {

@@ -79,7 +79,7 @@ fn live_store<H: Threads + Sync>(
     workers: Workers,
 ) -> Result<StoreCheck, Memory>
     requires begun { is_begun log.now.records ≡ true }
-    requires some { 0 < length log.now.records }
+    requires positive { 0 < length log.now.records }
     ensures { IfOk result (IsLiveCheck log.now.side log.now.records) }
 {
     let side = log.side();

@@ -20,7 +20,7 @@ pub fn name_len(name: &NodeName) -> u64
 // 2, the count.
 #[tactic(auto, using(crate::proofs::Lengths::inner_length))]
 fn inner_len(format: Format, children: &[Child]) -> u64
-    requires few { length children.now ≤ 16 }
+    requires bounded { length children.now ≤ 16 }
     requires hashes { AllByRecursion (λ c. length c.hash ≡ 32) children.now }
     ensures { result ≡ length (node_bytes format (node.Inner children.now)) }
 {

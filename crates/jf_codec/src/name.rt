@@ -57,7 +57,7 @@ fn measured_name(bytes: &[u8]) -> Result<(NodeName, usize), CodecFault>
 /// `Path`.
 pub fn decode_name(bytes: &[u8]) -> Result<(NodeName, usize), CodecFault>
     ensures found { IfOk result (λ x. IsName x.0 × (bytes.now ≡ name_bytes x.0 ++ drop x.1 bytes.now) × (x.1 ≡ length (name_bytes x.0))) }
-    ensures only { (name : NodeName) (rest : List ℕ) → IsName name → bytes.now ≡ name_bytes name ++ rest → result ≡ Ok (name, length (name_bytes name)) }
+    ensures spelled { (name : NodeName) (rest : List ℕ) → IsName name → bytes.now ≡ name_bytes name ++ rest → result ≡ Ok (name, length (name_bytes name)) }
     ensures exact { Reads (λ x. x) result (reading_with_length bytes.now (name_at bytes.now)) }
 {
     measured_name(bytes)

@@ -141,7 +141,7 @@ fn measured_node(alloc: Global, bytes: &[u8]) -> Result<(PlainNode, usize), Code
 /// `Memory`.
 pub fn decode_node(alloc: Global, bytes: &[u8]) -> Result<(PlainNode, usize), CodecFault>
     ensures found { IfOk result (λ x. IsValid x.0 × (bytes.now ≡ spelling x.0 ++ drop x.1 bytes.now) × (x.1 ≡ length (spelling x.0))) }
-    ensures only { (node : PlainNode) (rest : List ℕ) → IsValid node → bytes.now ≡ spelling node ++ rest → ReadsGivenMemory (λ x. x) result (Ok (node, length (spelling node))) }
+    ensures spelled { (node : PlainNode) (rest : List ℕ) → IsValid node → bytes.now ≡ spelling node ++ rest → ReadsGivenMemory (λ x. x) result (Ok (node, length (spelling node))) }
     ensures exact { ReadsGivenMemory (λ x. x) result (reading_with_length bytes.now (node_at bytes.now)) }
 {
     measured_node(alloc, bytes)
@@ -151,7 +151,7 @@ pub fn decode_node(alloc: Global, bytes: &[u8]) -> Result<(PlainNode, usize), Co
 /// over, or `Memory`.
 pub fn decode_whole(alloc: Global, bytes: &[u8]) -> Result<PlainNode, CodecFault>
     ensures found { IfOk result (λ node. IsValid node × (bytes.now ≡ spelling node)) }
-    ensures only { (node : PlainNode) → IsValid node → bytes.now ≡ spelling node → ReadsGivenMemory (λ x. x) result (Ok node) }
+    ensures spelled { (node : PlainNode) → IsValid node → bytes.now ≡ spelling node → ReadsGivenMemory (λ x. x) result (Ok node) }
     ensures exact { ReadsGivenMemory (λ node. node) result (whole_in bytes.now) }
 {
     whole_of(alloc, bytes)

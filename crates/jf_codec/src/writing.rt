@@ -48,7 +48,7 @@ fn tag_of(format: Format) -> u8
 
 // The bitmaps of a node with these children.
 fn bitmaps_to(children: &[Child]) -> Bitmaps
-    requires rise { ChildrenRiseFrom 0 children.now }
+    requires sorted { ChildrenRiseFrom 0 children.now }
     requires nibbles { AllByRecursion (λ c. c.nibble < 16) children.now }
     ensures exist { result.exist ≡ bitmap children.now }
     ensures leaf { result.leaf ≡ bitmap (leaf_children children.now) }
@@ -102,7 +102,7 @@ fn put_children(out: &mut Bytes, format: Format, children: &[Child]) -> Result<(
 // Adds an internal node.
 #[tactic(auto, using(crate::proofs::Adding::keeps_same, crate::proofs::Adding::keeps_more), unfolding(crate::specs::Spelling::node_bytes))]
 fn put_inner(out: &mut Bytes, format: Format, children: &[Child]) -> Result<(), Memory>
-    requires rise { ChildrenRiseFrom 0 children.now }
+    requires sorted { ChildrenRiseFrom 0 children.now }
     requires nibbles { AllByRecursion (λ c. c.nibble < 16) children.now }
     ensures ok { OnOk result (out.new ≡ out.old ++ node_bytes format (node.Inner children.now)) }
     ensures err { OnErr result (Keeps out.old out.new) }

@@ -119,7 +119,7 @@ fn list_gone_under(
     requires own { IsOfVersion version (option_copied top) }
     requires landed { IsStaleUnder version (option_copied old) (option_copied top) }
     ensures listed { OnOk result (out.new.items ≡ out.old.items ++ with_root (content (option_copied top.entry)) (content (option_copied old.entry)) (gone_under version head (option_copied old.entry))) }
-    ensures refused { OnErr result (out.new.items ≡ out.old.items) }
+    ensures err { OnErr result (out.new.items ≡ out.old.items) }
 {
     let before = out.len();
     match list_gone_from(alloc, old, head, top, version, out) {
@@ -141,7 +141,7 @@ pub fn list_stale_nodes(
 ) -> Result<(), Memory>
     requires later { IsLaterSnapshot old.now new.now }
     ensures listed { OnOk result (out.new.items ≡ out.old.items ++ gone_nodes old.now.map new.now.map old.now new.now.version) }
-    ensures refused { OnErr result (out.new.items ≡ out.old.items) }
+    ensures err { OnErr result (out.new.items ≡ out.old.items) }
 {
     old.know();
     list_gone_under(
@@ -164,7 +164,7 @@ pub fn list_all_nodes(
     out: &mut Vec<(NodeName, PlainNode, u64)>,
 ) -> Result<(), Memory>
     requires later { snapshot.now.version < since }
-    ensures refused { OnErr result (out.new.items ≡ out.old.items) }
+    ensures err { OnErr result (out.new.items ≡ out.old.items) }
     ensures listed { OnOk result (out.new.items ≡ out.old.items ++ map (gone_node_in snapshot.now since) (nodes snapshot.now.map)) }
 {
     snapshot.know();

@@ -20,7 +20,7 @@ fn written_in_turn(alloc: Global, old: &Snapshot, new: &Snapshot) -> Result<Writ
     requires next { IsNextOf old.now new.now }
     ensures fresh { IfOk result (λ w. w.fresh ≡ written_nodes old.now.map new.now.map new.now) }
     ensures stale { IfOk result (λ w. IsPermutation (stale_names_in old.now.map new.now.map old.now) w.stale) }
-    ensures bound { IfOk result (λ w. IsFreshCount old.now new.now (length w.fresh)) }
+    ensures bounded { IfOk result (λ w. IsFreshCount old.now new.now (length w.fresh)) }
 {
     old.know();
     let fresh = fresh_of(alloc, new.top(), new.version())?;
@@ -53,7 +53,7 @@ pub fn landing_lists<H: Threads + Sync, G: Gate>(
     requires next { IsNextOf old.now new.now }
     ensures fresh { IfOk result (λ w. w.fresh ≡ written_nodes old.now.map new.now.map new.now) }
     ensures stale { IfOk result (λ w. IsPermutation (stale_names_in old.now.map new.now.map old.now) w.stale) }
-    ensures bound { IfOk result (λ w. IsFreshCount old.now new.now (length w.fresh)) }
+    ensures bounded { IfOk result (λ w. IsFreshCount old.now new.now (length w.fresh)) }
 {
     if !are_cut(old, new, workers) {
         return written_in_turn(alloc, old, new);

@@ -16,7 +16,7 @@ use std::alloc::Global;
 fn count_of_children(link: &Link) -> u64
     requires { 2 ≤ length link.now.entries }
     ensures value { result ≡ length (children_list link.now) }
-    ensures few { result ≤ 16 }
+    ensures bounded { result ≤ 16 }
 {
     let children = branches_of(link);
     children.know();

@@ -82,7 +82,7 @@ impl Directory {
         snapshot: Snapshot,
     ) -> Result<Directory, Memory>
         requires numbered { base + length earlier.now ≡ snapshot.version }
-        requires last { snapshot.version < never }
+        requires bounded { snapshot.version < never }
         requires room { len snapshot.map ≤ 2 ^ 63 }
         ensures { IfOk result (λ d. d ≡ begun_with base earlier.now snapshot) }
     {
@@ -197,13 +197,13 @@ impl Directory {
         workers: Workers,
         gate: &G,
     ) -> Result<NextVersion, Memory>
-        requires last { self.now.head + 1 < never }
+        requires bounded { self.now.head + 1 < never }
         requires batch { IsBatch entries.now }
         requires short { AreShort entries.now }
         requires hashed { AreValueHashes entries.now hashes.now }
         ensures landing { IfOk result (IsLandingUpdate self.now (apply (head_map self.now) entries.now)) }
         ensures own { IfOk result (λ u. IsLandingUpdate self.now u.snapshot.map u) }
-        ensures bound { IfOk result (λ u. length u.fresh ≤ 66 * length entries.now + 1) }
+        ensures bounded { IfOk result (λ u. length u.fresh ≤ 66 * length entries.now + 1) }
     {
         let head = self.newest();
         let snapshot = advance(rt, alloc, head, entries, hashes, workers, gate)?;
@@ -228,10 +228,10 @@ impl Directory {
         workers: Workers,
         gate: &G,
     ) -> Result<NextVersion, Memory>
-        requires last { self.now.head + 1 < never }
+        requires bounded { self.now.head + 1 < never }
         ensures landing { IfOk result (IsLandingUpdate self.now (apply (head_map self.now) batch.now)) }
         ensures own { IfOk result (λ u. IsLandingUpdate self.now u.snapshot.map u) }
-        ensures bound { IfOk result (λ u. length u.fresh ≤ 66 * length batch.now + 1) }
+        ensures bounded { IfOk result (λ u. length u.fresh ≤ 66 * length batch.now + 1) }
     {
         let entries = batch.as_slice();
         let hashes = value_hashes(rt, alloc, entries, workers)?;
@@ -247,10 +247,10 @@ impl Directory {
         workers: Workers,
         gate: &G,
     ) -> Result<Update, Memory>
-        requires last { self.now.head + 1 < never }
+        requires bounded { self.now.head + 1 < never }
         ensures landing { IfOk result (IsLandingUpdate self.now (apply (head_map self.now) batch.now)) }
         ensures own { IfOk result (λ u. IsLandingUpdate self.now u.snapshot.map u) }
-        ensures bound { IfOk result (λ u. length u.fresh ≤ 66 * length batch.now + 1) }
+        ensures bounded { IfOk result (λ u. length u.fresh ≤ 66 * length batch.now + 1) }
     {
         let next = self.next_of(rt, alloc, batch, workers, gate)?;
         let (landing, snapshot) = next.into_parts();
@@ -293,7 +293,7 @@ impl Directory {
         landing: &SharedCommit,
         snapshot: Snapshot,
     ) -> Result<(), Memory>
-        requires last { self.old.head + 1 < never }
+        requires bounded { self.old.head + 1 < never }
         requires landing { landing.now ≡ landing_of format.Two self.old snapshot.map }
         requires version { snapshot.version ≡ self.old.head + 1 }
         requires versions { (p : Path) → is_node 0 p (entries snapshot.map) ≡ true → version_in snapshot p ≡ version_after self.old snapshot.map p }

@@ -45,7 +45,7 @@ impl<D: Disk> Engine<D> {
         entries: &Pairs,
     ) -> Result<(), EngineFault>
         // The version is one that a store may have.
-        requires last { version ≤ 2 ^ 64 - 2 }
+        requires bounded { version ≤ 2 ^ 64 - 2 }
         // The keys of the entries rise.
         requires sorted { T (fin.is_sorted key_cmp entries.now) }
         // Each value has at most 4,096 bytes.

@@ -23,10 +23,10 @@ pub(crate) fn imported_directory(
     version: u64,
     entries: &Pairs,
 ) -> Result<Directory, Memory>
-    requires last { version ≤ 2 ^ 64 - 2 }
+    requires bounded { version ≤ 2 ^ 64 - 2 }
     requires sorted { T (is_sorted key_cmp entries.now) }
     requires short { AreShortEntries entries.now }
-    requires few { length entries.now ≤ 2 ^ 62 }
+    requires room { length entries.now ≤ 2 ^ 62 }
     ensures versions { IfOk result (λ d. versions_of d ≡ imported_versions version (map_of_entries entries.now)) }
     ensures standing { IfOk result (λ d. d ≡ standing_by_name (imported_standing format.Two version (map_of_entries entries.now))) }
 {

@@ -100,11 +100,11 @@ impl<D: Disk> Engine<D> {
         gate: &G,
     ) -> Result<Landed, EngineFault>
         // There is a batch to land.
-        requires any { 1 ≤ length batches.now }
+        requires positive { 1 ≤ length batches.now }
         // There are at most as many batches as there may be forks.
         requires forks { length batches.now ≤ max_forks }
         // Together they have at most as many keys as one batch may have.
-        requires limited { key_count batches.now ≤ max_keys }
+        requires bounded { key_count batches.now ≤ max_keys }
         // Each batch is a version, or the refusal's reason holds; a crash leaves all of them or none.
         ensures step { HasEnded (Lands batches.now) self.old self.new result }
         // What is returned is the new head, its root, and the moment at which it was safe.
@@ -128,9 +128,9 @@ impl<D: Disk> Engine<D> {
         workers: Workers,
         gate: &G,
     ) -> Result<Landed, LandFault>
-        requires any { 1 ≤ length batches.now }
+        requires positive { 1 ≤ length batches.now }
         requires forks { length batches.now ≤ max_forks }
-        requires limited { key_count batches.now ≤ max_keys }
+        requires bounded { key_count batches.now ≤ max_keys }
         ensures step { HasEndedRooted announced batches.now self.old self.new result }
         ensures answer { IfOk result (λ l. (l.version ≡ self.new.versions.head) × (l.root ≡ root (newest self.new.versions)) × (l.moment ≡ self.new.moment)) }
     {

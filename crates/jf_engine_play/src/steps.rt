@@ -62,9 +62,9 @@ fn list_of(alloc: Global, landings: &[&[Change]]) -> Result<BatchList, Fail> {
 
 // Whether a list holds one batch, two or three, each of a few keys.
 fn is_short(batches: &BatchList) -> bool
-    ensures any { result ≡ true → 1 ≤ length batches.now }
+    ensures positive { result ≡ true → 1 ≤ length batches.now }
     ensures forks { result ≡ true → length batches.now ≤ max_forks }
-    ensures keys { result ≡ true → key_count batches.now ≤ max_keys }
+    ensures bounded { result ≡ true → key_count batches.now ≤ max_keys }
 {
     match batches.as_slice() {
         [one] => one.len() <= 9,

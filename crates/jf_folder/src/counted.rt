@@ -31,7 +31,7 @@ impl Model for CountedFile {
 // A count after one more call.
 pub(crate) fn one_more(count: u64) -> u64
     ensures value { result ≡ count_after_call count }
-    ensures grows { count ≤ result }
+    ensures counts { count ≤ result }
     ensures rises { HasCause count result }
 {
     count.saturating_add(1)
@@ -68,8 +68,8 @@ impl CountedFile {
 
     pub(crate) fn read_at(&mut self, buf: &mut [u8], at: u64) -> io::Result<usize>
         ensures within { IfOk result (λ n. n ≤ length buf.old) }
-        ensures counts { self.new ≡ record self.old { reads = count_after_call self.old.reads } }
-        ensures grows { self.old.reads ≤ self.new.reads }
+        ensures count { self.new ≡ record self.old { reads = count_after_call self.old.reads } }
+        ensures counts { self.old.reads ≤ self.new.reads }
         ensures rises { HasCause self.old.reads self.new.reads }
     {
         self.reads = one_more(self.reads);
@@ -78,8 +78,8 @@ impl CountedFile {
 
     pub(crate) fn write_at(&mut self, bytes: &[u8], at: u64) -> io::Result<usize>
         ensures within { IfOk result (λ n. n ≤ length bytes.now) }
-        ensures counts { self.new ≡ record self.old { writes = count_after_call self.old.writes } }
-        ensures grows { self.old.writes ≤ self.new.writes }
+        ensures count { self.new ≡ record self.old { writes = count_after_call self.old.writes } }
+        ensures counts { self.old.writes ≤ self.new.writes }
         ensures rises { HasCause self.old.writes self.new.writes }
     {
         self.writes = one_more(self.writes);

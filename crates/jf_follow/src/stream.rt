@@ -108,9 +108,9 @@ fn how_ended<K: Sink, D: Disk>(
     requires unwritten { fed ≢ Feeding.WriteFault }
     ensures ended { EndsFed fed result following.now.reader following.now.follower.versions (K.text sink.old) (K.text sink.new) }
     ensures read { result ≡ Followed.ReadFault → fed ≡ Feeding.ReadFault }
-    ensures write { result ≡ Followed.WriteFault → HasCause (K.faults sink.old) (K.faults sink.new) }
+    ensures cause { result ≡ Followed.WriteFault → HasCause (K.faults sink.old) (K.faults sink.new) }
     ensures silent { result ≢ Followed.Done → result ≢ Followed.WriteFault → sink.new ≡ sink.old }
-    ensures grows { K.faults sink.old ≤ K.faults sink.new }
+    ensures counts { K.faults sink.old ≤ K.faults sink.new }
 {
     match fed {
         Feeding::Done => tell_end(alloc, following, sink),
@@ -127,10 +127,10 @@ fn how_ended<K: Sink, D: Disk>(
 /// where the store has come to.
 fn tell_end<K: Sink, D: Disk>(alloc: Global, following: &Following<D>, sink: &mut K) -> Followed
     ensures told { EndsFollowing result following.now.reader following.now.follower.versions (K.text sink.old) (K.text sink.new) }
-    ensures write { result ≡ Followed.WriteFault → HasCause (K.faults sink.old) (K.faults sink.new) }
-    ensures sink_alone { (result ≡ Followed.ReadFault → ⊥) × (result ≡ Followed.DiskFault → ⊥) }
+    ensures cause { result ≡ Followed.WriteFault → HasCause (K.faults sink.old) (K.faults sink.new) }
+    ensures unstopped { (result ≡ Followed.ReadFault → ⊥) × (result ≡ Followed.DiskFault → ⊥) }
     ensures silent { result ≢ Followed.Done → result ≢ Followed.WriteFault → sink.new ≡ sink.old }
-    ensures grows { K.faults sink.old ≤ K.faults sink.new }
+    ensures counts { K.faults sink.old ≤ K.faults sink.new }
 {
     match following.reader.end() {
         Ok(()) => {}

@@ -178,7 +178,7 @@ impl ForkTable {
     /// How many batches `chain` gives, at most 1,024. It is refused as `chain` is, and takes no memory.
     pub fn chain_len(&self, id: u64) -> Result<u64, ForkFault>
         ensures length { IfOk result (λ n. n ≡ length (batches (chain (forks_of self.now.live) id))) }
-        ensures few { IfOk result (λ n. n ≤ max_forks) }
+        ensures bounded { IfOk result (λ n. n ≤ max_forks) }
         ensures refused { result_err result ≡ chain_fault id self.now }
     {
         match self.chain_fault(id) {
@@ -209,7 +209,7 @@ impl ForkTable {
         ensures count { IfOk result (λ n. n ≡ drop_count id (forks_of self.old.live)) }
         ensures ok { OnOk result (self.new ≡ record { made = self.old.made; live = grown_without id self.old.live }) }
         ensures stands { (m : Map) → StandsOver m self.old → StandsOver m self.new }
-        ensures same { (y : ℕ) → is_among y (forks_of self.new.live) ≡ true → map_of_fork y self.new.live ≡ map_of_fork y self.old.live }
+        ensures maps { (y : ℕ) → is_among y (forks_of self.new.live) ≡ true → map_of_fork y self.new.live ≡ map_of_fork y self.old.live }
         ensures err { OnErr result (self.new ≡ self.old) }
     {
         if let Err(fault) = self.find(id) {
@@ -224,8 +224,8 @@ impl ForkTable {
     pub fn settle(&mut self, fork: Option<u64>)
         requires { IfSome fork (λ id. chain_fault id self.old ≡ None) }
         ensures none { fork ≡ None → self.new ≡ record { made = self.old.made; live = [] } }
-        ensures some { (id : ℕ) → fork ≡ Some id → self.new ≡ record { made = self.old.made; live = grown_settled id self.old.live } }
-        ensures same { (y : ℕ) → is_among y (forks_of self.new.live) ≡ true → map_of_fork y self.new.live ≡ map_of_fork y self.old.live }
+        ensures found { (id : ℕ) → fork ≡ Some id → self.new ≡ record { made = self.old.made; live = grown_settled id self.old.live } }
+        ensures maps { (y : ℕ) → is_among y (forks_of self.new.live) ≡ true → map_of_fork y self.new.live ≡ map_of_fork y self.old.live }
         ensures stands { (m : Map) (id : ℕ) → fork ≡ Some id → StandsOver m self.old → StandsOver (fork_map m (forks_of self.old.live) id) self.new }
     {
         match fork {

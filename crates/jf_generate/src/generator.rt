@@ -33,7 +33,7 @@ impl Generator {
         requires batches { batches ≤ max_batches }
         requires size { (1 ≤ size) × (size ≤ max_size) }
         ensures lines { result ≡ lines_of_script seed batches size }
-        ensures few { length result ≤ max_lines }
+        ensures bounded { length result ≤ max_lines }
     {
         let before = ScriptPlace {
             line: None,

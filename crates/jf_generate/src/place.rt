@@ -26,7 +26,7 @@ pub(crate) struct ScriptPlace {
 pub(crate) fn behind(line: ScriptLine, place: ScriptPlace) -> ScriptPlace
     requires { place.batch + place.later ≤ max_batches }
     ensures lines { to_come result ≡ lines_behind line place }
-    ensures bound { result.batch + result.later ≤ max_batches }
+    ensures bounded { result.batch + result.later ≤ max_batches }
 {
     match line {
         ScriptLine::Drawn(_) => in_batch(place),
@@ -49,7 +49,7 @@ fn at(line: Option<ScriptLine>, place: ScriptPlace) -> ScriptPlace
 fn in_batch(place: ScriptPlace) -> ScriptPlace
     requires { place.batch + place.later ≤ max_batches }
     ensures lines { to_come result ≡ behind_drawn place }
-    ensures bound { result.batch + result.later ≤ max_batches }
+    ensures bounded { result.batch + result.later ≤ max_batches }
 {
     if place.left == 0 {
         return at(Some(ScriptLine::Commit), place);
@@ -69,7 +69,7 @@ fn in_batch(place: ScriptPlace) -> ScriptPlace
 fn after_commit(place: ScriptPlace) -> ScriptPlace
     requires { place.batch + place.later ≤ max_batches }
     ensures lines { to_come result ≡ behind_commit place }
-    ensures bound { result.batch + result.later ≤ max_batches }
+    ensures bounded { result.batch + result.later ≤ max_batches }
 {
     if place.batch % 10 == 0 {
         let upto = place.batch.saturating_sub(5);
@@ -83,7 +83,7 @@ fn after_commit(place: ScriptPlace) -> ScriptPlace
 fn after_prune(place: ScriptPlace) -> ScriptPlace
     requires { place.batch + place.later ≤ max_batches }
     ensures lines { to_come result ≡ compact_lines place.batch ++ behind_batch place }
-    ensures bound { result.batch + result.later ≤ max_batches }
+    ensures bounded { result.batch + result.later ≤ max_batches }
 {
     if place.batch % 25 == 0 {
         at(Some(ScriptLine::Compact), place)
@@ -96,7 +96,7 @@ fn after_prune(place: ScriptPlace) -> ScriptPlace
 pub(crate) fn after_batch(place: ScriptPlace) -> ScriptPlace
     requires { place.batch + place.later ≤ max_batches }
     ensures lines { to_come result ≡ behind_batch place }
-    ensures bound { result.batch + result.later ≤ max_batches }
+    ensures bounded { result.batch + result.later ≤ max_batches }
 {
     if place.later == 0 {
         return at(Some(ScriptLine::Root), place);

@@ -43,8 +43,8 @@ impl ReplyTally {
     /// Takes the text of one reply more. If memory runs out, nothing has changed.
     pub fn add(&mut self, text: &[u8]) -> Result<(), Memory>
         requires { self.old.refused + 1 < 2 ^ 64 }
-        ensures step { OnOk result (self.new ≡ tally_more self.old text.now) }
-        ensures all { OnOk result ((replies : List (List ℕ)) → self.old ≡ tally_of replies → self.new ≡ tally_of (replies ++ text.now ∷ [])) }
+        ensures value { OnOk result (self.new ≡ tally_more self.old text.now) }
+        ensures tally { OnOk result ((replies : List (List ℕ)) → self.old ≡ tally_of replies → self.new ≡ tally_of (replies ++ text.now ∷ [])) }
         ensures err { OnErr result (self.new ≡ self.old) }
     {
         self.spare.clear();

@@ -57,7 +57,7 @@ impl Occupied {
     // Sets the bits of the ranges within a range that hold more than one leaf, from bit `first` on.
     fn mark(&self, first: usize, start: usize, width: usize, kept: &mut Bitmap)
         requires within { start + width ≤ 16 }
-        requires room { first + width ≤ 16 }
+        requires places { first + width ≤ 16 }
         ensures { (slots : List Slot) (level : ℕ) (before : List Bool) → level ≤ 4 → width ≡ 2 ^ level → length slots ≡ 16 → self.now.children ≡ map is_occupied slots → self.now.leaves ≡ map holds_leaf slots → length before ≡ first → kept.old ≡ before ++ replicate (16 - first) false → kept.new ≡ (before ++ map is_some (kept_within level (take width (drop start slots)))) ++ replicate (17 - (first + width)) false }
     {
         if width < 2 || !self.is_many(start, width) {

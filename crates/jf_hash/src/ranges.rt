@@ -55,7 +55,7 @@ impl Ranges {
     ) -> Result<Ranges, Memory>
         ensures value { IfOk result (λ r. r ≡ kept_hashes (P.slots places.now)) }
         ensures pairs { MatchResult result (λ r. steps.new ≡ steps.old + pairs_within 4 (P.slots places.now) (replicate 16 true)) (λ e. steps.new ≡ steps.old) }
-        ensures once { steps.new ≤ steps.old + 15 }
+        ensures cost { steps.new ≤ steps.old + 15 }
     {
         places.children().know();
         let nothing = Ranges::none(alloc);
@@ -100,7 +100,7 @@ impl Ranges {
     ) -> Result<Ranges, Memory>
         ensures value { (olds : List Slot) → self.now ≡ kept_hashes olds → Agree olds changed (P.slots places.now) → IfOk result (λ r. r ≡ kept_hashes (P.slots places.now)) }
         ensures pairs { MatchResult result (λ r. steps.new ≡ steps.old + pairs_within 4 (P.slots places.now) changed) (λ e. steps.new ≡ steps.old) }
-        ensures bounded { steps.new ≤ steps.old + 4 * count_by (λ bit. bit) changed }
+        ensures cost { steps.new ≤ steps.old + 4 * count_by (λ bit. bit) changed }
     {
         changed.know();
         let occupied = Occupied::of(places);

@@ -17,7 +17,7 @@ use std::sync::ledger::Ledger;
 // The hash of a pair, counted: each pair that is hashed for a node is hashed here.
 fn hash_pair<L: Ledger>(left: &Hash, right: &Hash, steps: &mut Steps<L>) -> Hash
     ensures value { result ≡ N left.now right.now }
-    ensures counted { steps.new ≡ steps.old + 1 }
+    ensures cost { steps.new ≡ steps.old + 1 }
 {
     steps.tick();
     inner(left, right)
@@ -70,7 +70,7 @@ pub fn refresh<P: Places, L: Ledger>(
 ) -> Hash
     requires within { start + width ≤ 16 }
     requires places { first + width ≤ 16 }
-    requires some { 1 ≤ width }
+    requires positive { 1 ≤ width }
     requires long { length (P.slots places.now) ≡ 16 }
     requires children { occupied.now.children ≡ map is_occupied (P.slots places.now) }
     requires leaves { occupied.now.leaves ≡ map holds_leaf (P.slots places.now) }

@@ -99,13 +99,13 @@ pub(crate) fn next_line<S: Source>(
     ensures kept { (text : List ℕ) → IsShortened reader.old.limit text reader.old.bytes → IsFetched reader.old.limit text reader.new.bytes (S.rest source.old) (S.rest source.new) }
     ensures limit { reader.new.limit ≡ reader.old.limit }
     ensures piece { reader.new.piece ≡ reader.old.piece }
-    ensures few { length (after_first is_line_feed reader.new.bytes) < reader.new.piece }
+    ensures ahead { length (after_first is_line_feed reader.new.bytes) < reader.new.piece }
     ensures ready { position_or_len is_line_feed reader.old.bytes < length reader.old.bytes → (result ≡ Ok true) × (reader.new ≡ reader.old) × (source.new ≡ source.old) }
     ensures found { result ≡ Ok true → (position_or_len is_line_feed reader.new.bytes < length reader.new.bytes) ⊎ ((0 < length reader.new.bytes) × ((left : List ℕ) → S.rest source.new ≡ Some left → left ≡ [])) }
     ensures ended { result ≡ Ok false → (reader.new.bytes ≡ []) × ((left : List ℕ) → S.rest source.new ≡ Some left → left ≡ []) }
     ensures unfinished { result ≡ Err FetchFault.ReadFault → position_or_len is_line_feed reader.new.bytes ≡ length reader.new.bytes }
     ensures cause { result ≡ Err FetchFault.ReadFault → HasCause (S.faults source.old) (S.faults source.new) }
-    ensures grows { S.faults source.old ≤ S.faults source.new }
+    ensures counts { S.faults source.old ≤ S.faults source.new }
 {
     reader.fetch(source)
 }
@@ -123,9 +123,9 @@ fn feed_line<M: LineMachine, K: Sink>(
     ensures ok { (whole : List ℕ) → line.now ≡ given_of whole → OnOk result ((t : List ℕ) × M.takes machine.old whole machine.new (Ok t) × Gathers M.quiet machine.old machine.new (K.text sink.old) (K.text sink.new) out.old out.new t) }
     ensures ready { OnOk result (M.ready machine.new) }
     ensures err { (whole : List ℕ) → line.now ≡ given_of whole → IfErr result (λ how. StopsGathering M.takes M.quiet how machine.old whole machine.new (K.text sink.old) (K.text sink.new) out.old) }
-    ensures read { result ≡ Err Feeding.ReadFault → ⊥ }
-    ensures write { result ≡ Err Feeding.WriteFault → HasCause (K.faults sink.old) (K.faults sink.new) }
-    ensures grows { K.faults sink.old ≤ K.faults sink.new }
+    ensures unstopped { result ≡ Err Feeding.ReadFault → ⊥ }
+    ensures cause { result ≡ Err Feeding.WriteFault → HasCause (K.faults sink.old) (K.faults sink.new) }
+    ensures counts { K.faults sink.old ≤ K.faults sink.new }
 {
     let is_due = is_due_before(machine, out, line);
     if hand_on_if(is_due, sink, out).is_err() {
@@ -152,10 +152,10 @@ pub(crate) fn is_due_before<M: LineMachine>(machine: &M, out: &Bytes, line: &[u8
 // Writes all that was gathered, if it is due.
 fn hand_on_if<K: Sink>(is_due: bool, sink: &mut K, out: &mut Bytes) -> Result<(), IoFailed>
     ensures ok { OnOk result (HandsOn (K.text sink.old) (K.text sink.new) out.old out.new) }
-    ensures all { IsTrue is_due → OnOk result (out.new ≡ []) }
+    ensures empty { IsTrue is_due → OnOk result (out.new ≡ []) }
     ensures cut_short { OnErr result (IsCutShort (K.text sink.old) (K.text sink.new) out.old) }
     ensures cause { OnErr result (HasCause (K.faults sink.old) (K.faults sink.new)) }
-    ensures grows { K.faults sink.old ≤ K.faults sink.new }
+    ensures counts { K.faults sink.old ≤ K.faults sink.new }
 {
     if !is_due {
         return Ok(());
@@ -166,10 +166,10 @@ fn hand_on_if<K: Sink>(is_due: bool, sink: &mut K, out: &mut Bytes) -> Result<()
 // Writes all that was gathered.
 fn hand_on<K: Sink>(sink: &mut K, out: &mut Bytes) -> Result<(), IoFailed>
     ensures ok { OnOk result (Appends (K.text sink.old) (K.text sink.new) out.old) }
-    ensures all { OnOk result (out.new ≡ []) }
+    ensures empty { OnOk result (out.new ≡ []) }
     ensures cut_short { OnErr result (IsCutShort (K.text sink.old) (K.text sink.new) out.old) }
     ensures cause { OnErr result (HasCause (K.faults sink.old) (K.faults sink.new)) }
-    ensures grows { K.faults sink.old ≤ K.faults sink.new }
+    ensures counts { K.faults sink.old ≤ K.faults sink.new }
 {
     put_all(sink, out.as_slice())?;
     out.clear();
@@ -185,8 +185,8 @@ fn feed_end<M: LineMachine, K: Sink>(
 ) -> Feeding<M::Stop>
     requires { M.ready machine.old }
     ensures ended { EndsAfter M.ends result machine.old machine.new (K.text sink.old) (K.text sink.new) }
-    ensures write { result ≡ Feeding.WriteFault → HasCause (K.faults sink.old) (K.faults sink.new) }
-    ensures grows { K.faults sink.old ≤ K.faults sink.new }
+    ensures cause { result ≡ Feeding.WriteFault → HasCause (K.faults sink.old) (K.faults sink.new) }
+    ensures counts { K.faults sink.old ≤ K.faults sink.new }
 {
     out.clear();
     match machine.take_end(alloc, out) {

@@ -95,8 +95,8 @@ fn line_through<M: LineMachine, K: Sink>(
     ensures ready { OnOk result (M.ready machine.new) }
     ensures err { (whole : List ℕ) → line.now ≡ given_of whole → IfErr result (λ why. M.takes machine.old whole machine.new (Err why)) }
     ensures put { OnErr result (IsPutNext is_cut.old is_cut.new (K.text sink.old) (K.text sink.new) out.old) }
-    ensures write { is_cut.new ≡ true → (is_cut.old ≡ true) ⊎ HasCause (K.faults sink.old) (K.faults sink.new) }
-    ensures grows { K.faults sink.old ≤ K.faults sink.new }
+    ensures cause { is_cut.new ≡ true → (is_cut.old ≡ true) ⊎ HasCause (K.faults sink.old) (K.faults sink.new) }
+    ensures counts { K.faults sink.old ≤ K.faults sink.new }
 {
     let is_due = is_due_before(machine, out, line);
     put_through_if(is_due, sink, out, is_cut);
@@ -112,9 +112,9 @@ fn line_through<M: LineMachine, K: Sink>(
 // Puts all that was gathered through, if it is due. `put` is what was put through.
 fn put_through_if<K: Sink>(is_due: bool, sink: &mut K, out: &mut Bytes, is_cut: &mut bool)
     ensures put { (put : List ℕ) × IsPutNext is_cut.old is_cut.new (K.text sink.old) (K.text sink.new) put × HandsOn (Some []) (Some put) out.old out.new }
-    ensures all { IsTrue is_due → out.new ≡ [] }
-    ensures write { is_cut.new ≡ true → (is_cut.old ≡ true) ⊎ HasCause (K.faults sink.old) (K.faults sink.new) }
-    ensures grows { K.faults sink.old ≤ K.faults sink.new }
+    ensures empty { IsTrue is_due → out.new ≡ [] }
+    ensures cause { is_cut.new ≡ true → (is_cut.old ≡ true) ⊎ HasCause (K.faults sink.old) (K.faults sink.new) }
+    ensures counts { K.faults sink.old ≤ K.faults sink.new }
 {
     if is_due {
         put_through(sink, out, is_cut);
@@ -124,10 +124,10 @@ fn put_through_if<K: Sink>(is_due: bool, sink: &mut K, out: &mut Bytes, is_cut: 
 // Puts all that was gathered into the sink, unless a fault cut what was put before. It is dropped after a fault.
 fn put_through<K: Sink>(sink: &mut K, out: &mut Bytes, is_cut: &mut bool)
     ensures put { IsPutNext is_cut.old is_cut.new (K.text sink.old) (K.text sink.new) out.old }
-    ensures same { is_cut.old ≡ true → sink.new ≡ sink.old }
-    ensures all { out.new ≡ [] }
-    ensures write { is_cut.new ≡ true → (is_cut.old ≡ true) ⊎ HasCause (K.faults sink.old) (K.faults sink.new) }
-    ensures grows { K.faults sink.old ≤ K.faults sink.new }
+    ensures unchanged { is_cut.old ≡ true → sink.new ≡ sink.old }
+    ensures empty { out.new ≡ [] }
+    ensures cause { is_cut.new ≡ true → (is_cut.old ≡ true) ⊎ HasCause (K.faults sink.old) (K.faults sink.new) }
+    ensures counts { K.faults sink.old ≤ K.faults sink.new }
 {
     if !*is_cut {
         *is_cut = put_all(sink, out.as_slice()).is_err();
@@ -147,8 +147,8 @@ fn end_through<M: LineMachine, K: Sink>(
     ensures ended { (put : List ℕ) × IsPutNext is_cut result.is_cut (K.text sink.old) (K.text sink.new) put × EndsAfter M.ends result.how machine.old machine.new (Some []) (Some put) }
     ensures unstopped { result.how ≢ Feeding.WriteFault }
     ensures read { result.how ≢ Feeding.ReadFault }
-    ensures write { result.is_cut ≡ true → (is_cut ≡ true) ⊎ HasCause (K.faults sink.old) (K.faults sink.new) }
-    ensures grows { K.faults sink.old ≤ K.faults sink.new }
+    ensures cause { result.is_cut ≡ true → (is_cut ≡ true) ⊎ HasCause (K.faults sink.old) (K.faults sink.new) }
+    ensures counts { K.faults sink.old ≤ K.faults sink.new }
 {
     out.clear();
     match machine.take_end(alloc, out) {

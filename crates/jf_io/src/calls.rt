@@ -60,7 +60,7 @@ impl Calls {
     /// Counts a call that failed.
     pub(crate) fn fail(&mut self) -> IoFailed
         ensures counted { self.new ≡ after_fault self.old }
-        ensures grows { self.old.faults ≤ self.new.faults }
+        ensures counts { self.old.faults ≤ self.new.faults }
         ensures rises { HasCause self.old.faults self.new.faults }
     {
         self.made = self.made.saturating_add(1);

@@ -60,9 +60,9 @@ impl LineReader {
 
     /// Whether a whole line is held, with its line feed. Then `fetch` does not ask the source. Each byte is searched once.
     pub fn finds_line(&mut self) -> bool
-        ensures same { self.new ≡ self.old }
+        ensures unchanged { self.new ≡ self.old }
         ensures small { length self.new.bytes ≤ self.new.limit + 1 + self.new.piece }
-        ensures few { length (after_first is_line_feed self.new.bytes) < self.new.piece }
+        ensures ahead { length (after_first is_line_feed self.new.bytes) < self.new.piece }
         ensures found { IsTrue result ↔ (position_or_len is_line_feed self.new.bytes < length self.new.bytes) }
     {
         self.searched = line_end(&self.bytes, self.start, self.searched);
@@ -81,13 +81,13 @@ impl LineReader {
         ensures piece { self.new.piece ≡ self.old.piece }
         ensures small { length self.new.bytes ≤ self.new.limit + 1 + self.new.piece }
         // After the first line, fewer bytes than a piece are held.
-        ensures few { length (after_first is_line_feed self.new.bytes) < self.new.piece }
+        ensures ahead { length (after_first is_line_feed self.new.bytes) < self.new.piece }
         ensures ready { position_or_len is_line_feed self.old.bytes < length self.old.bytes → (result ≡ Ok true) × (self.new ≡ self.old) × (source.new ≡ source.old) }
         ensures found { result ≡ Ok true → (position_or_len is_line_feed self.new.bytes < length self.new.bytes) ⊎ ((0 < length self.new.bytes) × ((left : List ℕ) → S.rest source.new ≡ Some left → left ≡ [])) }
         ensures ended { result ≡ Ok false → (self.new.bytes ≡ []) × ((left : List ℕ) → S.rest source.new ≡ Some left → left ≡ []) }
         ensures unfinished { result ≡ Err FetchFault.ReadFault → position_or_len is_line_feed self.new.bytes ≡ length self.new.bytes }
         ensures cause { result ≡ Err FetchFault.ReadFault → HasCause (S.faults source.old) (S.faults source.new) }
-        ensures grows { S.faults source.old ≤ S.faults source.new }
+        ensures counts { S.faults source.old ≤ S.faults source.new }
     {
         loop {
             if self.finds_line() {
@@ -157,13 +157,13 @@ impl LineReader {
         ensures limit { self.new.limit ≡ self.old.limit }
         ensures piece { self.new.piece ≡ self.old.piece }
         ensures small { length self.new.bytes ≤ self.new.limit + 1 + self.new.piece }
-        ensures few { length (after_first is_line_feed self.new.bytes) < self.new.piece }
-        ensures unchanged { OnErr result (self.new ≡ self.old) }
+        ensures ahead { length (after_first is_line_feed self.new.bytes) < self.new.piece }
+        ensures err { OnErr result (self.new ≡ self.old) }
         ensures end { IfOk result (λ n. n ≡ 0 → (self.new ≡ self.old) × ((left : List ℕ) → S.rest source.new ≡ Some left → left ≡ [])) }
         ensures given { IfOk result (λ n. S.given source.new ≡ S.given source.old + n) }
         ensures bounded { OnOk result (S.given source.new < 2 ^ 64) }
         ensures cause { result ≡ Err FetchFault.ReadFault → HasCause (S.faults source.old) (S.faults source.new) }
-        ensures grows { S.faults source.old ≤ S.faults source.new }
+        ensures counts { S.faults source.old ≤ S.faults source.new }
     {
         drop_front(&mut self.bytes, self.start);
         self.searched -= self.start;

@@ -73,15 +73,15 @@ impl Sink for MemSink {
         // What every sink does.
         ensures count { IfOk result (λ n. (0 < n) × (n ≤ length bytes.now)) }
         ensures text { IfOk result (λ n. Some self.new.text ≡ option_map (λ t. t ++ take n bytes.now) (Some self.old.text)) }
-        ensures same { OnErr result (Some self.new.text ≡ Some self.old.text) }
-        ensures grows { self.old.calls.faults ≤ self.new.calls.faults }
+        ensures err { OnErr result (Some self.new.text ≡ Some self.old.text) }
+        ensures counts { self.old.calls.faults ≤ self.new.calls.faults }
         ensures cause { IsErr result → HasCause self.old.calls.faults self.new.calls.faults }
 
         // What this sink does.
         ensures fails { IsErr result ↔ FailsNextPut self.old }
         ensures amount { IfOk result (λ n. n ≡ next_put_amount self.old bytes.now) }
         ensures ok { IfOk result (λ n. self.new ≡ after_put self.old n bytes.now) }
-        ensures err { OnErr result (self.new ≡ after_failed_put self.old) }
+        ensures failed { OnErr result (self.new ≡ after_failed_put self.old) }
     {
         if self.is_next_failing() {
             return Err(self.calls.fail());

@@ -63,23 +63,23 @@ impl Source for MemSource {
         requires { 0 < length buf.old }
 
         // What every source does.
-        ensures bound { IfOk result (λ n. n ≤ length buf.old) }
+        ensures within { IfOk result (λ n. n ≤ length buf.old) }
         ensures given { IfOk result (λ n. self.new.given ≡ self.old.given + n) }
         ensures bounded { OnOk result (self.new.given < 2 ^ 64) }
         ensures moved { IfOk result (λ n. Some self.new.rest ≡ option_map (drop n) (Some self.old.rest)) }
         ensures bytes { IfSome (Some self.old.rest) (λ all. IfOk result (λ n. (n ≤ length all) × (buf.new ≡ take n all ++ drop n buf.old))) }
         ensures end { IfSome (Some self.old.rest) (λ all. IfOk result (λ n. n ≡ 0 → all ≡ [])) }
         ensures last { self.old.given ≡ 2 ^ 64 - 1 → IsErr result }
-        ensures same { OnErr result ((Some self.new.rest ≡ Some self.old.rest) × (self.new.given ≡ self.old.given)) }
+        ensures err { OnErr result ((Some self.new.rest ≡ Some self.old.rest) × (self.new.given ≡ self.old.given)) }
         ensures kept { IfSome (Some self.old.rest) (λ _. OnErr result (buf.new ≡ buf.old)) }
-        ensures grows { self.old.calls.faults ≤ self.new.calls.faults }
+        ensures counts { self.old.calls.faults ≤ self.new.calls.faults }
         ensures cause { IsErr result → HasCause self.old.calls.faults self.new.calls.faults }
 
         // What this source does.
         ensures fails { IsErr result ↔ FailsNextTake self.old }
         ensures amount { IfOk result (λ n. n ≡ next_take_amount self.old (length buf.old)) }
         ensures ok { IfOk result (λ n. self.new ≡ after_take self.old n) }
-        ensures err { OnErr result (self.new ≡ after_failed_take self.old) }
+        ensures failed { OnErr result (self.new ≡ after_failed_take self.old) }
     {
         if self.is_next_failing() {
             return Err(self.calls.fail());

@@ -29,12 +29,12 @@ pub fn append_piece<S: Source>(
     ensures short { length bytes.new.items ≤ length bytes.old.items + piece }
     ensures grown { IfOk result (λ n. length bytes.new.items ≡ length bytes.old.items + n) }
     ensures kept { (rest : List ℕ) → S.rest source.old ≡ Some rest → (left : List ℕ) × (S.rest source.new ≡ Some left) × (bytes.new.items ++ left ≡ bytes.old.items ++ rest) }
-    ensures unchanged { OnErr result (bytes.new.items ≡ bytes.old.items) }
+    ensures err { OnErr result (bytes.new.items ≡ bytes.old.items) }
     ensures end { IfOk result (λ n. n ≡ 0 → (bytes.new.items ≡ bytes.old.items) × ((left : List ℕ) → S.rest source.new ≡ Some left → left ≡ [])) }
     ensures given { IfOk result (λ n. S.given source.new ≡ S.given source.old + n) }
     ensures bounded { OnOk result (S.given source.new < 2 ^ 64) }
     ensures cause { result ≡ Err FetchFault.ReadFault → HasCause (S.faults source.old) (S.faults source.new) }
-    ensures grows { S.faults source.old ≤ S.faults source.new }
+    ensures counts { S.faults source.old ≤ S.faults source.new }
 {
     let len = bytes.len();
     if bytes.resize(len + piece, 0).is_err() {

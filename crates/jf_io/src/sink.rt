@@ -20,8 +20,8 @@ pub trait Sink {
         requires { 0 < length bytes.now }
         ensures count { IfOk result (λ n. (0 < n) × (n ≤ length bytes.now)) }
         ensures text { IfOk result (λ n. text self.new ≡ option_map (λ t. t ++ take n bytes.now) (text self.old)) }
-        ensures same { OnErr result (text self.new ≡ text self.old) }
-        ensures grows { faults self.old ≤ faults self.new }
+        ensures err { OnErr result (text self.new ≡ text self.old) }
+        ensures counts { faults self.old ≤ faults self.new }
         ensures cause { IsErr result → HasCause (faults self.old) (faults self.new) };
 
     /// The number of failed calls so far, which stays at `u64::MAX`.
@@ -36,7 +36,7 @@ pub fn put_all<K: Sink>(sink: &mut K, bytes: &[u8]) -> Result<(), IoFailed>
     ensures ok { OnOk result (K.text sink.new ≡ option_map (λ t. t ++ bytes.now) (K.text sink.old)) }
     ensures cut_short { OnErr result (IsCutShort (K.text sink.old) (K.text sink.new) bytes.now) }
     ensures nothing_to_put { bytes.now ≡ [] → IsOk result × (sink.new ≡ sink.old) }
-    ensures grows { K.faults sink.old ≤ K.faults sink.new }
+    ensures counts { K.faults sink.old ≤ K.faults sink.new }
     ensures cause { IsErr result → HasCause (K.faults sink.old) (K.faults sink.new) }
 {
     let mut done = 0;

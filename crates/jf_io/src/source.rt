@@ -24,7 +24,7 @@ pub trait Source {
         requires { 0 < length buf.old }
 
         // What a call that succeeds gives.
-        ensures bound { IfOk result (λ n. n ≤ length buf.old) }
+        ensures within { IfOk result (λ n. n ≤ length buf.old) }
         ensures given { IfOk result (λ n. given self.new ≡ given self.old + n) }
         ensures bounded { OnOk result (given self.new < 2 ^ 64) }
         ensures moved { IfOk result (λ n. rest self.new ≡ option_map (drop n) (rest self.old)) }
@@ -33,9 +33,9 @@ pub trait Source {
 
         // When a call fails, and what is unchanged then.
         ensures last { given self.old ≡ 2 ^ 64 - 1 → IsErr result }
-        ensures same { OnErr result ((rest self.new ≡ rest self.old) × (given self.new ≡ given self.old)) }
+        ensures err { OnErr result ((rest self.new ≡ rest self.old) × (given self.new ≡ given self.old)) }
         ensures kept { IfSome (rest self.old) (λ _. OnErr result (buf.new ≡ buf.old)) }
-        ensures grows { faults self.old ≤ faults self.new }
+        ensures counts { faults self.old ≤ faults self.new }
         ensures cause { IsErr result → HasCause (faults self.old) (faults self.new) };
 
     /// The number of bytes given so far.

@@ -33,7 +33,7 @@ impl<W: Write> StdSink<W> {
 
     // Counts a fault.
     fn fail(&mut self) -> IoFailed
-        ensures grows { self.old ≤ self.new }
+        ensures counts { self.old ≤ self.new }
         ensures rises { HasCause self.old self.new }
     {
         self.faults = self.faults.saturating_add(1);

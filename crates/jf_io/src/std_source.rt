@@ -39,7 +39,7 @@ impl<B: Read> StdSource<B> {
     // Counts a fault.
     fn fail(&mut self) -> IoFailed
         ensures given { self.new.given ≡ self.old.given }
-        ensures grows { self.old.faults ≤ self.new.faults }
+        ensures counts { self.old.faults ≤ self.new.faults }
         ensures rises { HasCause self.old.faults self.new.faults }
     {
         self.faults = self.faults.saturating_add(1);

@@ -43,7 +43,7 @@ impl Workers {
     /// Their number.
     pub fn get(self) -> u64
         ensures value { result ≡ self }
-        ensures within { (1 ≤ result) × (result ≤ max_workers) }
+        ensures bounded { (1 ≤ result) × (result ≤ max_workers) }
     {
         self.number
     }

@@ -62,9 +62,9 @@ pub fn judge_reply<S: Source, K: Sink>(
 // Writes the line of what a reply shows, which is made whole before any of it is written.
 fn write_verdict<K: Sink>(alloc: Global, found: Lookup<'_>, sink: &mut K) -> Judged
     ensures written { IfSome (lookup_of found.entry) (λ shown. WritesLookup result shown (K.text sink.old) (K.text sink.new)) }
-    ensures unread { result ≢ Judged.ReadFault }
+    ensures unstopped { result ≢ Judged.ReadFault }
     ensures unwritten { result ≡ Judged.Memory → sink.new ≡ sink.old }
-    ensures write { result ≡ Judged.WriteFault → HasCause (K.faults sink.old) (K.faults sink.new) }
+    ensures cause { result ≡ Judged.WriteFault → HasCause (K.faults sink.old) (K.faults sink.new) }
     ensures counts { K.faults sink.old ≤ K.faults sink.new }
 {
     let Ok(line) = lookup_line(alloc, found) else {

@@ -14,7 +14,7 @@ pub const MAX_REPLY: usize = 2_210_260;
 pub(crate) fn take_reply<S: Source>(alloc: Global, source: &mut S) -> Result<Vec<u8>, FetchFault>
     ensures ok { IfOk result (λ bytes. TakesReply (S.rest source.old) (S.rest source.new) bytes.items) }
     ensures front { (taken : List ℕ) × HasTaken (S.rest source.old) (S.rest source.new) taken }
-    ensures read { result ≡ Err FetchFault.ReadFault → HasCause (S.faults source.old) (S.faults source.new) }
+    ensures cause { result ≡ Err FetchFault.ReadFault → HasCause (S.faults source.old) (S.faults source.new) }
     ensures counts { S.faults source.old ≤ S.faults source.new }
 {
     let mut bytes = Vec::new(alloc);

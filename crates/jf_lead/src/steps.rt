@@ -20,7 +20,7 @@ use std::alloc::Global;
 #[tactic(auto, unfolding(crate::specs::Steps::landing_line_step))]
 pub(crate) fn read_line(alloc: Global, at: u64, stage: Stage, line: &[u8]) -> Result<Step, Memory>
     requires { HasChangesLeft stage }
-    ensures step { IfOk result (λ s. s ≡ landing_line_step at stage line.now) }
+    ensures value { IfOk result (λ s. s ≡ landing_line_step at stage line.now) }
     ensures room { IfOk result (λ s. HasChangesLeft s.stage) }
 {
     match stage {
@@ -39,7 +39,7 @@ fn step_to(stage: Stage) -> Step
 
 /// Reads the first line of a block.
 fn begin(alloc: Global, at: u64, line: &[u8]) -> Step
-    ensures step { result ≡ landing_head_step at (line_read landing_line_of line.now) }
+    ensures value { result ≡ landing_head_step at (line_read landing_line_of line.now) }
     ensures room { HasChangesLeft result.stage }
 {
     match landing_line(line) {
@@ -60,7 +60,7 @@ fn begin(alloc: Global, at: u64, line: &[u8]) -> Step
 /// Reads another line of a block.
 fn go_on(alloc: Global, at: u64, begun: Begun, line: &[u8]) -> Result<Step, Memory>
     requires { HasChangesLeft (stage.Block begun) }
-    ensures step { IfOk result (λ s. s ≡ change_step at begun (line_read (change_after begun.batch) line.now)) }
+    ensures value { IfOk result (λ s. s ≡ change_step at begun (line_read (change_after begun.batch) line.now)) }
     ensures room { IfOk result (λ s. HasChangesLeft s.stage) }
 {
     match change_line(alloc, line)? {
@@ -82,7 +82,7 @@ fn add(
 ) -> Result<Step, Memory>
     requires room { HasChangesLeft (stage.Block begun) }
     requires short { IfSome value (λ v. length v ≤ max_value) }
-    ensures step { IfOk result (λ s. s ≡ change_step at begun (if is_above key.now begun.batch then Some (key.now, value) else None)) }
+    ensures value { IfOk result (λ s. s ≡ change_step at begun (if is_above key.now begun.batch then Some (key.now, value) else None)) }
     ensures room { IfOk result (λ s. HasChangesLeft s.stage) }
 {
     if !is_above(key, &begun.batch) {
@@ -129,7 +129,7 @@ fn push(alloc: Global, batch: &mut Batch, key: &Key, value: Option<Bytes>) -> Re
 /// What was read of a block, which is whole if no change is to come.
 fn whole_or_begun(begun: Begun) -> Step
     requires { length begun.batch + begun.changes_left ≤ max_keys }
-    ensures step { result ≡ whole_or_begun begun }
+    ensures value { result ≡ whole_or_begun begun }
     ensures room { HasChangesLeft result.stage }
 {
     if begun.changes_left > 0 {

@@ -56,9 +56,9 @@ pub fn check_over<H: Threads + Sync, K: Sink>(
     sink: &mut K,
 ) -> Ending
     ensures checked { IsCheckEnd (option_map (λ v. v.items) files.a) (option_map (λ v. v.items) files.b) (K.text sink.old) (K.text sink.new) result }
-    ensures write { result.status ≡ Status.WriteFault → HasCause (K.faults sink.old) (K.faults sink.new) }
+    ensures cause { result.status ≡ Status.WriteFault → HasCause (K.faults sink.old) (K.faults sink.new) }
     ensures unwritten { result.status ≡ Status.Memory → sink.new ≡ sink.old }
-    ensures sink_counts { K.faults sink.old ≤ K.faults sink.new }
+    ensures counts { K.faults sink.old ≤ K.faults sink.new }
 {
     let refusal = files.refusal();
     let FolderBytes { a, b } = files;

@@ -23,7 +23,7 @@ impl Ending {
     /// An end without a fault of the disk, and without a note.
     pub(crate) fn of_status(status: Status) -> Ending
         ensures status { result.status ≡ status }
-        ensures cause { result.cause ≡ None }
+        ensures reason { result.cause ≡ None }
         ensures note { result.note ≡ None }
     {
         Ending {
@@ -36,7 +36,7 @@ impl Ending {
     /// An end by a fault of the disk, without a note.
     fn of_fault(cause: FaultCause) -> Ending
         ensures status { result.status ≡ Status.DiskFault }
-        ensures cause { result.cause ≡ Some cause }
+        ensures reason { result.cause ≡ Some cause }
         ensures note { result.note ≡ None }
     {
         Ending {
@@ -49,7 +49,7 @@ impl Ending {
     /// The end if a command line couldn't be made of the process's arguments.
     pub(crate) fn without_line(why: Status) -> Ending
         ensures status { result.status ≡ why }
-        ensures cause { result.cause ≡ None }
+        ensures reason { result.cause ≡ None }
         ensures note { result.note ≡ unread_note why }
     {
         match why {
@@ -65,7 +65,7 @@ impl Ending {
     /// The end if the disk couldn't be opened.
     pub(crate) fn of_refusal(why: FileRefused) -> Ending
         ensures status { result.status ≡ refusal_status why }
-        ensures cause { result.cause ≡ refusal_cause why }
+        ensures reason { result.cause ≡ refusal_cause why }
         ensures note { result.note ≡ None }
     {
         match why {
@@ -77,7 +77,7 @@ impl Ending {
     /// The end after a call of the program that handed back this disk, with this note.
     pub(crate) fn of_call(status: Status, disk: &AnyDisk, note: Option<Note>) -> Ending
         ensures status { result.status ≡ status }
-        ensures cause { result.cause ≡ told_cause status disk.now }
+        ensures reason { result.cause ≡ told_cause status disk.now }
         ensures note { result.note ≡ note }
     {
         match status {
@@ -101,7 +101,7 @@ impl Ending {
         refusal: Option<FaultCause>,
     ) -> Ending
         ensures status { result.status ≡ check_status outcome refusal }
-        ensures cause { result.cause ≡ check_cause outcome refusal }
+        ensures reason { result.cause ≡ check_cause outcome refusal }
         ensures note { result.note ≡ None }
     {
         match (outcome, refusal) {

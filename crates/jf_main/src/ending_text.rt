@@ -23,7 +23,7 @@ impl EndingText {
     /// What is told of this end.
     pub fn of(ending: &Ending) -> EndingText
         ensures status { result.status ≡ ending.now.status }
-        ensures cause { option_map (λ w. w.now) result.cause ≡ option_map cause_text ending.now.cause }
+        ensures reason { option_map (λ w. w.now) result.cause ≡ option_map cause_text ending.now.cause }
         ensures note { result.note ≡ ending.now.note }
     {
         let (status, note) = (ending.status, ending.note);

@@ -77,8 +77,8 @@ pub fn write_text<K: Sink>(text: OwnText, sink: &mut K) -> Ending
     ensures written { result.status ≡ Status.Done → K.text sink.new ≡ option_map (λ t. t ++ own_text text) (K.text sink.old) }
     ensures cut_short { result.status ≡ Status.WriteFault → IsCutShort (K.text sink.old) (K.text sink.new) (own_text text) }
     ensures cause { result.status ≡ Status.WriteFault → HasCause (K.faults sink.old) (K.faults sink.new) }
-    ensures sink_counts { K.faults sink.old ≤ K.faults sink.new }
-    ensures silent { (result.cause ≡ None) × (result.note ≡ None) }
+    ensures counts { K.faults sink.old ≤ K.faults sink.new }
+    ensures bare { (result.cause ≡ None) × (result.note ≡ None) }
 {
     match put_all(sink, text.words().as_bytes()) {
         Ok(()) => Ending::of_status(Status::Done),

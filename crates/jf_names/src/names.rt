@@ -66,7 +66,7 @@ impl NameMap {
     /// The keys, which rise strictly.
     pub(crate) fn keys(&self, alloc: Global) -> Result<HashList, Memory>
         ensures keys { IfOk result (λ keys. keys ≡ keys_in self.now) }
-        ensures rise { IfOk result (λ keys. T (is_sorted key_cmp (as_entries keys))) }
+        ensures sorted { IfOk result (λ keys. T (is_sorted key_cmp (as_entries keys))) }
     {
         let mut keys = HashList::with_capacity(alloc, self.names.len() as u64)?;
         for (key, _) in &self.names {

@@ -43,8 +43,8 @@ pub(crate) fn answer_over_map<S: Source, K: Sink>(
 fn read_names<S: Source>(alloc: Global, source: &mut S) -> Result<NameMap, NamesFault>
     ensures names { IfOk result (λ es. HasNames es (S.rest source.old) (S.rest source.new)) }
     ensures stop { IfErr result (λ why. StopsNames why (S.rest source.old) (S.rest source.new)) }
-    ensures read { result ≡ Err NamesFault.ReadFault → HasCause (S.faults source.old) (S.faults source.new) }
-    ensures count { S.faults source.old ≤ S.faults source.new }
+    ensures cause { result ≡ Err NamesFault.ReadFault → HasCause (S.faults source.old) (S.faults source.new) }
+    ensures counts { S.faults source.old ≤ S.faults source.new }
 {
     let mut reader = NameReader::new(alloc);
     let mut nowhere = Nowhere;

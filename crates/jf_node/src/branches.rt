@@ -51,7 +51,7 @@ impl Branches {
     /// Ensures what holds of the children of every inner node. Changes nothing.
     pub fn know(&self)
         ensures long { length self.now ≡ 16 }
-        ensures each { (i : ℕ) → i < 16 → IsLinkIf (slice_index_or self.now i None) }
+        ensures links { (i : ℕ) → i < 16 → IsLinkIf (slice_index_or self.now i None) }
     {
         self.there.know();
     }

@@ -81,7 +81,7 @@ impl Link {
     pub fn inner(alloc: Global, version: u64, depth: u64, children: Sixteen) -> Result<Link, Memory>
         requires depth { depth < 64 }
         requires children { FitFrom depth 0 children }
-        requires several { 2 ≤ length (entries_of_children children) }
+        requires plural { 2 ≤ length (entries_of_children children) }
         requires alike { BeginAlike depth (entries_of_children children) }
         ensures { IfOk result (λ x. x ≡ inner_value version depth children) }
     {
@@ -99,10 +99,10 @@ impl Link {
     ) -> Result<Link, Memory>
         requires depth { depth < 64 }
         requires children { FitFrom depth 0 children }
-        requires several { 2 ≤ length (entries_of_children children) }
+        requires plural { 2 ≤ length (entries_of_children children) }
         requires alike { BeginAlike depth (entries_of_children children) }
         ensures link { IfOk result (λ x. x ≡ inner_value version depth children) }
-        ensures once { steps.new ≤ steps.old + 15 }
+        ensures cost { steps.new ≤ steps.old + 15 }
     {
         children.know();
         let count = children.count().ok_or(Memory)?;
@@ -124,7 +124,7 @@ impl Link {
         requires positive { 0 < blank.parts }
         requires depth { depth < 64 }
         requires children { FitFrom depth 0 children }
-        requires several { 2 ≤ length (entries_of_children children) }
+        requires plural { 2 ≤ length (entries_of_children children) }
         requires alike { BeginAlike depth (entries_of_children children) }
         ensures { IfOk result (λ x. x ≡ inner_value version depth children) }
     {
@@ -143,7 +143,7 @@ impl Link {
     ) -> Result<Link, Memory>
         requires inner { 2 ≤ length self.now.entries }
         requires children { FitFrom self.now.depth 0 children }
-        requires several { 2 ≤ length (entries_of_children children) }
+        requires plural { 2 ≤ length (entries_of_children children) }
         requires alike { BeginAlike self.now.depth (entries_of_children children) }
         requires elsewhere { SameElsewhere changed self.now.depth self.now.entries (entries_of_children children) }
         ensures { IfOk result (λ x. x ≡ inner_value version self.now.depth children) }
@@ -163,11 +163,11 @@ impl Link {
     ) -> Result<Link, Memory>
         requires inner { 2 ≤ length self.now.entries }
         requires children { FitFrom self.now.depth 0 children }
-        requires several { 2 ≤ length (entries_of_children children) }
+        requires plural { 2 ≤ length (entries_of_children children) }
         requires alike { BeginAlike self.now.depth (entries_of_children children) }
         requires elsewhere { SameElsewhere changed self.now.depth self.now.entries (entries_of_children children) }
         ensures link { IfOk result (λ x. x ≡ inner_value version self.now.depth children) }
-        ensures bounded { steps.new ≤ steps.old + 4 * count_by (λ bit. bit) changed }
+        ensures cost { steps.new ≤ steps.old + 4 * count_by (λ bit. bit) changed }
     {
         self.know();
         children.know();
@@ -194,7 +194,7 @@ impl Link {
         requires positive { 0 < blank.parts }
         requires inner { 2 ≤ length self.now.entries }
         requires children { FitFrom self.now.depth 0 children }
-        requires several { 2 ≤ length (entries_of_children children) }
+        requires plural { 2 ≤ length (entries_of_children children) }
         requires alike { BeginAlike self.now.depth (entries_of_children children) }
         requires elsewhere { SameElsewhere changed self.now.depth self.now.entries (entries_of_children children) }
         ensures { IfOk result (λ x. x ≡ inner_value version self.now.depth children) }
@@ -258,7 +258,7 @@ impl Link {
 
     /// A leaf at another depth and of another version. Nothing is hashed.
     pub fn at(&self, alloc: Global, version: u64, depth: u64) -> Result<Link, Memory>
-        requires one { length self.now.entries ≡ 1 }
+        requires single { length self.now.entries ≡ 1 }
         requires depth { depth ≤ 64 }
         ensures { IfOk result (λ x. x ≡ moved_value version depth self.now) }
     {
@@ -308,7 +308,7 @@ fn count_after_change(
     new: Option<&Link>,
 ) -> Result<u64, Memory>
     requires part { length (content (option_copied old)) ≤ total }
-    requires same { changed ≡ false → content (option_copied old) ≡ content (option_copied new) }
+    requires unchanged { changed ≡ false → content (option_copied old) ≡ content (option_copied new) }
     ensures { IfOk result (λ n. n + length (content (option_copied old.entry)) ≡ total + length (content (option_copied new.entry))) }
 {
     if !changed {

@@ -90,7 +90,7 @@ fn lies_in(start: usize, width: usize, place: usize) -> bool
 
 // Bit `depth` of the key of a leaf, which says in which half its entry is.
 fn leaf_bit(link: &Link, depth: u64) -> bool
-    requires one { length link.now.entries ≡ 1 }
+    requires single { length link.now.entries ≡ 1 }
     requires depth { depth < 256 }
     ensures zeros { zeros depth link.now.entries ≡ cond result [] link.now.entries }
     ensures ones { ones depth link.now.entries ≡ cond result link.now.entries [] }
@@ -115,7 +115,7 @@ impl<'a> Range<'a> {
 
     // The node of a leaf's entry.
     fn leaf(depth: u64, link: &'a Link) -> Range<'a>
-        requires one { length link.now.entries ≡ 1 }
+        requires single { length link.now.entries ≡ 1 }
         requires depth { depth ≤ 256 }
         ensures { result ≡ record { depth = depth; entries = link.now.entries } }
     {
@@ -199,7 +199,7 @@ impl<'a> Range<'a> {
     /// What it holds: no entry, one, or more.
     pub fn state(&self) -> RangeState<'a>
         ensures entries { IsRangeState self.now.entries result }
-        ensures deep { 2 ≤ length self.now.entries → self.now.depth < 256 }
+        ensures depth { 2 ≤ length self.now.entries → self.now.depth < 256 }
     {
         match self.place {
             Place::Nowhere => RangeState::Empty,

@@ -83,7 +83,7 @@ fn look_at<'a, L: Ledger>(
 ) -> Option<&'a Link>
     requires { n < 16 }
     ensures child { option_copied result ≡ slice_index_or children.now n None }
-    ensures step { steps.new ≡ steps.old + 1 }
+    ensures cost { steps.new ≡ steps.old + 1 }
 {
     steps.tick();
     children.child_at(n)

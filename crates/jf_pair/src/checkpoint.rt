@@ -14,7 +14,7 @@ pub(crate) fn write_first<D: Disk>(
     log: &mut Log,
     frame: &[u8],
 ) -> Result<(), DiskFault>
-    requires whole { (kind : ℕ) × (payload : List ℕ) × IsFrame frame.now kind payload }
+    requires framed { (kind : ℕ) × (payload : List ℕ) × IsFrame frame.now kind payload }
     requires sound { log.old.failed ≡ false }
     requires quiet { (h : History) → D.history disk.old ≡ Some h → content_on log.old.side h.now ≡ durable (content_on log.old.side h.now).bytes }
     ensures ok { (h : History) (kind : ℕ) (payload : List ℕ) → D.history disk.old ≡ Some h → IsFrame frame.now kind payload
@@ -25,12 +25,12 @@ pub(crate) fn write_first<D: Disk>(
         → (g : History) × (D.history disk.new ≡ Some g)
         × GoesOn h g (λ f. SameOrNone log.old.side (content_on log.old.side h.now).bytes f ⊎ (records (bytes_of log.old.side f) ≡ Ok (appended_record 0 kind payload ∷ []))) × KeepsOther log.old.side h g }
     ensures offset { OnOk result (log.new.offset ≡ length frame.now) }
-    ensures four_or_more { OnOk result (D.moment disk.old + 4 ≤ D.moment disk.new) }
+    ensures elapsed { OnOk result (D.moment disk.old + 4 ≤ D.moment disk.new) }
     ensures side { log.new.side ≡ log.old.side }
     ensures failed { (log.new.failed ≡ true) ↔ IsErr result }
     ensures calls { CallsOn (D.history disk.old) (D.moment disk.old) (D.faults disk.old) (D.history disk.new) (D.moment disk.new) (D.faults disk.new) (IsErr result) }
     ensures calm { OnOk result (D.faults disk.new ≡ D.faults disk.old) }
-    ensures few { D.moment disk.new ≤ D.moment disk.old + 10 }
+    ensures moments { D.moment disk.new ≤ D.moment disk.old + 10 }
 {
     log.begin(disk)?;
     log.append(disk, frame)

@@ -15,7 +15,7 @@ pub(crate) fn judge(a: &Log, b: &Log) -> Result<Side, PairFault>
     ensures apart { OnOk result (are_level a.now.records b.now.records ≡ false) }
     ensures live { IfOk result (λ side. side ≡ live_side a.now.records b.now.records) }
     ensures damaged { (side : Side) (at : ℕ) → result ≡ Err (PairFault.Damaged side at) → damage_in (Ok a.now.records) (Ok b.now.records) ≡ Some (side, at) }
-    ensures never_fault { result ≢ Err PairFault.DiskFault }
+    ensures unstopped { result ≢ Err PairFault.DiskFault }
 {
     if !is_begun(a) {
         return Err(PairFault::Damaged {

@@ -27,8 +27,8 @@ pub(crate) fn read_sides<D: Disk>(alloc: Global, disk: &mut D) -> Result<Sides, 
     ensures left { (h : History) → D.history disk.old ≡ Some h → (g : History) × (D.history disk.new ≡ Some g) × LeavesFiles h g }
     ensures calls { CallsOn (D.history disk.old) (D.moment disk.old) (D.faults disk.old) (D.history disk.new) (D.moment disk.new) (D.faults disk.new) (result ≡ Err PairFault.DiskFault) }
     ensures calm { OnOk result (D.faults disk.new ≡ D.faults disk.old) }
-    ensures six { OnOk result (D.moment disk.new ≡ D.moment disk.old + 6) }
-    ensures few { D.moment disk.new ≤ D.moment disk.old + 6 }
+    ensures elapsed { OnOk result (D.moment disk.new ≡ D.moment disk.old + 6) }
+    ensures moments { D.moment disk.new ≤ D.moment disk.old + 6 }
 {
     sync_sides(disk)?;
     let a = read_side(alloc, disk, Side::A)?;
@@ -42,8 +42,8 @@ fn sync_sides<D: Disk>(disk: &mut D) -> Result<(), DiskFault>
     ensures left { (h : History) → D.history disk.old ≡ Some h → (g : History) × (D.history disk.new ≡ Some g) × LeavesFiles h g }
     ensures calls { CallsOn (D.history disk.old) (D.moment disk.old) (D.faults disk.old) (D.history disk.new) (D.moment disk.new) (D.faults disk.new) (IsErr result) }
     ensures calm { OnOk result (D.faults disk.new ≡ D.faults disk.old) }
-    ensures two { OnOk result (D.moment disk.new ≡ D.moment disk.old + 2) }
-    ensures few { D.moment disk.new ≤ D.moment disk.old + 2 }
+    ensures elapsed { OnOk result (D.moment disk.new ≡ D.moment disk.old + 2) }
+    ensures moments { D.moment disk.new ≤ D.moment disk.old + 2 }
 {
     know_counts(disk);
     know_readable(disk);
@@ -61,8 +61,8 @@ fn read_side<D: Disk>(alloc: Global, disk: &mut D, side: Side) -> Result<Log, Pa
     ensures idle { (h : History) → D.history disk.old ≡ Some h → (g : History) × (D.history disk.new ≡ Some g) × Idles h g }
     ensures calls { CallsOn (D.history disk.old) (D.moment disk.old) (D.faults disk.old) (D.history disk.new) (D.moment disk.new) (D.faults disk.new) (result ≡ Err PairFault.DiskFault) }
     ensures calm { OnOk result (D.faults disk.new ≡ D.faults disk.old) }
-    ensures two { OnOk result (D.moment disk.new ≡ D.moment disk.old + 2) }
-    ensures few { D.moment disk.new ≤ D.moment disk.old + 2 }
+    ensures elapsed { OnOk result (D.moment disk.new ≡ D.moment disk.old + 2) }
+    ensures moments { D.moment disk.new ≤ D.moment disk.old + 2 }
 {
     match Log::read_all(alloc, disk, side) {
         Ok(log) => Ok(log),

@@ -57,8 +57,8 @@ impl Pair {
         ensures left { (h : History) → D.history disk.old ≡ Some h → (g : History) × (D.history disk.new ≡ Some g) × LeavesFiles h g }
         ensures calls { CallsOn (D.history disk.old) (D.moment disk.old) (D.faults disk.old) (D.history disk.new) (D.moment disk.new) (D.faults disk.new) (result ≡ Err PairFault.DiskFault) }
         ensures calm { OnOk result (D.faults disk.new ≡ D.faults disk.old) }
-        ensures six { OnOk result (D.moment disk.new ≡ D.moment disk.old + 6) }
-        ensures few { D.moment disk.new ≤ D.moment disk.old + 6 }
+        ensures elapsed { OnOk result (D.moment disk.new ≡ D.moment disk.old + 6) }
+        ensures moments { D.moment disk.new ≤ D.moment disk.old + 6 }
     {
         let Sides { a, b } = read_sides(alloc, disk)?;
         match judge(&a, &b)? {
@@ -70,7 +70,7 @@ impl Pair {
     /// Adds a record, given as a whole frame, to the live side, by four calls on the disk. After a fault the pair is
     /// failed: the live records are those before, with the new one or without it, and only a new opening shows which.
     pub fn append<D: Disk>(&mut self, disk: &mut D, frame: &[u8]) -> Result<(), DiskFault>
-        requires whole { (kind : ℕ) × (payload : List ℕ) × IsFrame frame.now kind payload }
+        requires framed { (kind : ℕ) × (payload : List ℕ) × IsFrame frame.now kind payload }
         requires sound { self.old.failed ≡ false }
         requires live { self.old.is_live ≡ true }
         requires in_step { (h : History) → D.history disk.old ≡ Some h → (rs : List Framed) × IsInStep self.old rs h.now }
@@ -82,13 +82,13 @@ impl Pair {
             → (g : History) × (D.history disk.new ≡ Some g) × StopsBetween h g rs (rs ++ appended_record self.old.offset kind payload ∷ []) }
         ensures other { (h : History) (rs : List Framed) → D.history disk.old ≡ Some h → IsInStep self.old rs h.now → (g : History) × (D.history disk.new ≡ Some g) × KeepsOther self.old.side h g }
         ensures offset { OnOk result (self.new.offset ≡ self.old.offset + length frame.now) }
-        ensures four { OnOk result (D.moment disk.new ≡ D.moment disk.old + 4) }
-        ensures same { (self.new.side ≡ self.old.side) × (self.new.is_live ≡ self.old.is_live) }
+        ensures elapsed { OnOk result (D.moment disk.new ≡ D.moment disk.old + 4) }
+        ensures rest { (self.new.side ≡ self.old.side) × (self.new.is_live ≡ self.old.is_live) }
         ensures failed { (self.new.failed ≡ true) ↔ IsErr result }
         ensures err { OnErr result (self.new ≡ record self.old { failed = true }) }
         ensures calls { CallsOn (D.history disk.old) (D.moment disk.old) (D.faults disk.old) (D.history disk.new) (D.moment disk.new) (D.faults disk.new) (IsErr result) }
         ensures calm { OnOk result (D.faults disk.new ≡ D.faults disk.old) }
-        ensures few { D.moment disk.new ≤ D.moment disk.old + 4 }
+        ensures moments { D.moment disk.new ≤ D.moment disk.old + 4 }
     {
         self.live.append(disk, frame)
     }
@@ -98,7 +98,7 @@ impl Pair {
     /// was live, this is the first checkpoint. After a fault the pair is failed: the live records are those before, or
     /// the checkpoint alone, and only a new opening shows which.
     pub fn switch<D: Disk>(&mut self, disk: &mut D, frame: &[u8]) -> Result<(), DiskFault>
-        requires whole { (kind : ℕ) × (payload : List ℕ) × IsFrame frame.now kind payload }
+        requires framed { (kind : ℕ) × (payload : List ℕ) × IsFrame frame.now kind payload }
         requires checkpoint { (kind : ℕ) (payload : List ℕ) → IsFrame frame.now kind payload → (is_checkpoint kind ≡ true) × (8 ≤ length payload) }
         requires sound { self.old.failed ≡ false }
         requires in_step { (h : History) → D.history disk.old ≡ Some h → (rs : List Framed) × IsInStep self.old rs h.now }
@@ -111,13 +111,13 @@ impl Pair {
         ensures other { (h : History) → D.history disk.old ≡ Some h → (g : History) × (D.history disk.new ≡ Some g) × KeepsOther (opposite self.old.side) h g }
         ensures side { OnOk result ((self.new.side ≡ opposite self.old.side) × (self.new.is_live ≡ true)) }
         ensures offset { OnOk result (self.new.offset ≡ length frame.now) }
-        ensures same { IsErr result → (self.new.side ≡ self.old.side) × (self.new.is_live ≡ self.old.is_live) }
-        ensures four_or_more { OnOk result (D.moment disk.old + 4 ≤ D.moment disk.new) }
+        ensures rest { IsErr result → (self.new.side ≡ self.old.side) × (self.new.is_live ≡ self.old.is_live) }
+        ensures elapsed { OnOk result (D.moment disk.old + 4 ≤ D.moment disk.new) }
         ensures failed { (self.new.failed ≡ true) ↔ IsErr result }
         ensures err { OnErr result (self.new ≡ record self.old { failed = true }) }
         ensures calls { CallsOn (D.history disk.old) (D.moment disk.old) (D.faults disk.old) (D.history disk.new) (D.moment disk.new) (D.faults disk.new) (IsErr result) }
         ensures calm { OnOk result (D.faults disk.new ≡ D.faults disk.old) }
-        ensures few { D.moment disk.new ≤ D.moment disk.old + 10 }
+        ensures moments { D.moment disk.new ≤ D.moment disk.old + 10 }
     {
         write_first(disk, &mut self.other, frame)?;
         swap(&mut self.live, &mut self.other);
@@ -156,7 +156,7 @@ fn pair_of(alloc: Global, live: Log, other: Log) -> (Pair, Option<Log>)
     ensures offset { result.0.offset ≡ live.offset }
     ensures sound { result.0.failed ≡ false }
     ensures records { read_by result.1 ≡ live.records }
-    ensures some { (result.0.is_live ≡ true) ↔ (0 < length live.records) }
+    ensures live { (result.0.is_live ≡ true) ↔ (0 < length live.records) }
     ensures none { (result.1 ≡ None) ↔ (result.0.is_live ≡ false) }
     ensures log { IfSome result.1 (λ log. (log ≡ live) × (0 < length log.records)) }
 {

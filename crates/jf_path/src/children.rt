@@ -66,7 +66,7 @@ impl Children {
     /// The children.
     pub fn as_slice(&self) -> &[Child]
         ensures value { result.now ≡ self.now }
-        ensures rise { ChildrenRiseFrom 0 self.now }
+        ensures sorted { ChildrenRiseFrom 0 self.now }
     {
         &self.children
     }

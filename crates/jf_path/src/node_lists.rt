@@ -56,7 +56,7 @@ impl FreshList {
     /// The names and nodes.
     pub fn as_slice(&self) -> &[(NodeName, PlainNode)]
         ensures value { result.now ≡ self.now }
-        ensures rise { IsTrue (are_rising (map (λ x. x.0) self.now)) }
+        ensures sorted { IsTrue (are_rising (map (λ x. x.0) self.now)) }
     {
         &self.nodes
     }
@@ -119,7 +119,7 @@ impl NameList {
     /// The names.
     pub fn as_slice(&self) -> &[NodeName]
         ensures value { result.now ≡ self.now }
-        ensures rise { IsTrue (are_rising self.now) }
+        ensures sorted { IsTrue (are_rising self.now) }
     {
         &self.names
     }

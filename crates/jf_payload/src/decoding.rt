@@ -62,7 +62,7 @@ pub fn decode(
 ) -> Result<Record, RecordFault>
     ensures found { IfOk result (λ r. IsSpelling format r kind payload.now) }
     ensures bad { result ≡ Err RecordFault.Bad → (r : Record) → IsSpelling format r kind payload.now → ⊥ }
-    ensures only { (r : Record) → IsSpelling format r kind payload.now → (result ≡ Ok r) ⊎ (result ≡ Err RecordFault.Memory) }
+    ensures spelled { (r : Record) → IsSpelling format r kind payload.now → (result ≡ Ok r) ⊎ (result ≡ Err RecordFault.Memory) }
     ensures exact { Gives (λ r. r) result (spelled_record format kind payload.now) }
 {
     whole_of(alloc, format, kind, payload)

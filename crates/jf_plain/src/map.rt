@@ -172,7 +172,7 @@ fn merged_entries(
     entries: &[(Key, Bytes)],
     batch: &[(Key, Option<SharedBytes>)],
 ) -> Result<Vec<(Key, Bytes)>, Memory>
-    requires entries { T (is_sorted key_cmp entries.now) }
+    requires sorted { T (is_sorted key_cmp entries.now) }
     requires batch { T (is_sorted key_cmp batch.now) }
     ensures { IfOk result (λ v. v.items ≡ entries_after_batch entries.now batch.now) }
 {

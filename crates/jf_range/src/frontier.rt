@@ -113,8 +113,8 @@ impl Frontier {
     /// The root that all entries come to with a proof for a chunk that ends with the last one. A step is one hash
     /// computed.
     pub fn chunk_root<L: Ledger>(&self, proof: &RangeProof, steps: &mut Steps<L>) -> Hash
-        requires some { IsSome self.now.last }
-        requires deep { proof.now.depth ≤ 256 }
+        requires positive { IsSome self.now.last }
+        requires depth { proof.now.depth ≤ 256 }
         requires counted { IfSome self.now.last (λ l. length proof.now.siblings ≡ zero_bits proof.now.depth 0 l.0) }
         ensures value { (es : Entries) → self.now ≡ frontier_of es → IsAscending es → result ≡ range_root es proof.now }
         ensures cost { steps.new ≤ steps.old + 257 }

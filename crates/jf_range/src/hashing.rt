@@ -19,7 +19,7 @@ pub(crate) enum Subject<'a> {
 // The one call that computes hashes.
 pub(crate) fn hash<L: Ledger>(of: Subject<'_>, steps: &mut Steps<L>) -> Hash
     ensures value { result ≡ subject_hash of.entry }
-    ensures step { steps.new ≡ steps.old + 1 }
+    ensures cost { steps.new ≡ steps.old + 1 }
 {
     steps.tick();
     match of {
@@ -39,7 +39,7 @@ pub(crate) fn join<L: Ledger>(
 ) -> Hash
     requires { i < 256 }
     ensures value { result ≡ join key.now i below.now sibling.now }
-    ensures step { steps.new ≡ steps.old + 1 }
+    ensures cost { steps.new ≡ steps.old + 1 }
 {
     if bit(key, i) {
         hash(Subject::Pair(sibling, below), steps)

@@ -65,10 +65,10 @@ fn prove_uncounted<L: Ledger>(
     count: u64,
     blank: Blank,
 ) -> Result<(Pairs, RangeProof), RangeAsk>
-    requires positive { 1 ≤ count }
+    requires count { 1 ≤ count }
     requires name { blank.name ≡ L.name }
     requires parts { blank.parts ≡ L.parts }
-    requires whole { 0 < blank.parts }
+    requires positive { 0 < blank.parts }
     ensures { MatchResult result (IsChunk snapshot.now.map start count) (IsNoChunk snapshot.now.map start) }
 {
     let mut steps = Steps::<L>::new(blank);

@@ -24,7 +24,7 @@ pub(crate) fn import<D: Disk>(
     ensures ok { OnOk result (HasImported restore.version restore.entries engine.old engine.new) }
     ensures rooted { (rest rest' : Option (List ℕ)) → ComesToEntries root restore.entries rest rest' → OnOk result (RestoresEntries root restore.entries engine.old rest rest') }
     ensures err { (rest rest' text : Option (List ℕ)) → ComesToEntries root restore.entries rest rest' → IfErr result (λ how. HasReceived how restore.version root engine.old engine.new rest rest' text text) }
-    ensures only { (result ≡ Err Received.ReadFault → ⊥) × (result ≡ Err Received.WriteFault → ⊥) }
+    ensures unstopped { (result ≡ Err Received.ReadFault → ⊥) × (result ≡ Err Received.WriteFault → ⊥) }
 {
     match restore.finish(alloc, engine) {
         Ok(_) => Ok(()),

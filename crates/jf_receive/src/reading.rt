@@ -31,8 +31,8 @@ pub(crate) fn read_blocks<S: Source>(
     ensures ok { IfOk result (λ r. (r.version ≡ version) × (r.root ≡ root) × ComesToEntries root r.entries (S.rest source.old) (S.rest source.new)) }
     ensures err { IfErr result (λ how. (e : Engine) (text : Option (List ℕ)) → IsNewStore e.versions → HasReceived how version root e e (S.rest source.old) (S.rest source.new) text text) }
     ensures cause { result ≡ Err Received.ReadFault → HasCause (S.faults source.old) (S.faults source.new) }
-    ensures never { result ≡ Err Received.WriteFault → ⊥ }
-    ensures grows { S.faults source.old ≤ S.faults source.new }
+    ensures unstopped { result ≡ Err Received.WriteFault → ⊥ }
+    ensures counts { S.faults source.old ≤ S.faults source.new }
 {
     chunks_come_line_by_line();
     refusals_come_at_their_line();

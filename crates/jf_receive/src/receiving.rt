@@ -41,7 +41,7 @@ pub fn receive<S: Source, K: Sink, D: Disk>(
     source: &mut S,
     sink: &mut K,
 ) -> Received
-    requires last { version ≤ 2 ^ 64 - 2 }
+    requires bounded { version ≤ 2 ^ 64 - 2 }
     requires whole { engine.old.broken ≡ false }
     ensures received { HasReceived result version root engine.old engine.new (S.rest source.old) (S.rest source.new) (K.text sink.old) (K.text sink.new) }
     ensures occupied { IsInUse engine.old.versions → result ≡ Received.Refused (RestoreFault.NotEmpty engine.old.versions.head) }
@@ -67,7 +67,7 @@ fn receive_into_new<S: Source, K: Sink, D: Disk>(
     source: &mut S,
     sink: &mut K,
 ) -> Received
-    requires last { version ≤ 2 ^ 64 - 2 }
+    requires bounded { version ≤ 2 ^ 64 - 2 }
     requires whole { engine.old.broken ≡ false }
     requires unused { IsNewStore engine.old.versions }
     ensures received { HasReceived result version root engine.old engine.new (S.rest source.old) (S.rest source.new) (K.text sink.old) (K.text sink.new) }
@@ -93,7 +93,7 @@ fn receive_into_new<S: Source, K: Sink, D: Disk>(
 
 /// The head of a store that isn't new.
 fn head_in_use<D: Disk>(engine: &Engine<D>) -> Option<u64>
-    ensures some { IfSome result (λ head. (head ≡ engine.now.versions.head) × IsInUse engine.now.versions) }
+    ensures found { IfSome result (λ head. (head ≡ engine.now.versions.head) × IsInUse engine.now.versions) }
     ensures none { IfNone result (IsNewStore engine.now.versions) }
 {
     engine.know();

@@ -74,7 +74,7 @@ pub(crate) fn check<H: Threads + Sync>(
     requires spelled { IsCommit format commit.now }
     ensures taken { OnOk result (Continues (standing_in format directory.old) commit.now × IsSound format (with_commit commit.now (standing_in format directory.old)) × (standing_in format directory.new ≡ with_commit commit.now (standing_in format directory.old))) }
     ensures unsound { result ≡ Err CheckFault.Unsound → Continues (standing_in format directory.old) commit.now → IsSound format (with_commit commit.now (standing_in format directory.old)) → ⊥ }
-    ensures same { OnErr result (directory.new ≡ directory.old) }
+    ensures err { OnErr result (directory.new ≡ directory.old) }
 {
     directory.know();
     let next = next_of(rt, alloc, directory, commit, workers)?;

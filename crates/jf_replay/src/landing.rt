@@ -21,7 +21,7 @@ pub(crate) fn count_by_version(nodes: &[(NodeName, PlainNode, u64)], version: u6
 
 /// The place of the first node that was written at a version, and the one after the last.
 fn places_of(nodes: &[(NodeName, PlainNode, u64)], version: u64) -> (usize, usize)
-    requires rising { IsTrue (are_rising (map (λ n. n.0) nodes.now)) }
+    requires sorted { IsTrue (are_rising (map (λ n. n.0) nodes.now)) }
     requires positive { 1 ≤ version }
     ensures order { result.0 ≤ result.1 }
     ensures within { result.1 ≤ length nodes.now }
@@ -34,7 +34,7 @@ fn places_of(nodes: &[(NodeName, PlainNode, u64)], version: u64) -> (usize, usiz
 
 /// The nodes that were written at a version.
 fn written_in(nodes: &[(NodeName, PlainNode, u64)], version: u64) -> &[(NodeName, PlainNode, u64)]
-    requires rising { IsTrue (are_rising (map (λ n. n.0) nodes.now)) }
+    requires sorted { IsTrue (are_rising (map (λ n. n.0) nodes.now)) }
     requires positive { 1 ≤ version }
     ensures { result.now ≡ written_at version nodes.now }
 {
@@ -63,7 +63,7 @@ pub(crate) fn landing_in(
     root: &Hash,
     stale: NameList,
 ) -> Result<Commit, Memory>
-    requires rising { IsTrue (are_rising (map (λ n. n.0) nodes.now)) }
+    requires sorted { IsTrue (are_rising (map (λ n. n.0) nodes.now)) }
     requires positive { 1 ≤ version }
     ensures { IfOk result (λ c. c ≡ record { version = version; root = root.now; fresh = map without_since (written_at version nodes.now); stale = stale }) }
 {

@@ -22,7 +22,7 @@ pub fn replay<H: Threads + Sync>(
     workers: Workers,
 ) -> Result<Replayed, ReplayFault>
     requires begun { is_begun log.now.records ≡ true }
-    requires some { 0 < length log.now.records }
+    requires positive { 0 < length log.now.records }
     ensures led { IfOk result (λ r. LeadToStanding log.now.records r.format (standing_in r.format r.directory)) }
     ensures generation { IfOk result (λ r. r.generation ≡ generation_in log.now.records) }
     ensures unsound { (at : ℕ) → result ≡ Err (ReplayFault.Unsound at) → IsUnsoundAt log.now.records at }

@@ -17,7 +17,7 @@ pub(crate) fn import<D: Disk>(
     version: u64,
     entries: &Pairs,
 ) -> Result<(), EngineFault>
-    requires last { version ≤ 2 ^ 64 - 2 }
+    requires bounded { version ≤ 2 ^ 64 - 2 }
     requires sorted { T (is_sorted key_cmp entries.now) }
     requires short { HaveShortValues entries.now }
     ensures { MatchResult result (λ _. HasImported version entries.now engine.old engine.new) (IsNotImported version entries.now engine.old engine.new) }

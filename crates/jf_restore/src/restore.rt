@@ -126,7 +126,7 @@ impl Restore {
     /// were added.
     pub fn whole_counted<L: Ledger>(&self, steps: &mut Steps<L>) -> Result<u64, RestoreRefused>
         // It accepts exactly if the entries have the announced root; otherwise it tells the root that they have.
-        ensures whole { MatchResult result (IsWhole self.now) (IsNotWhole self.now) }
+        ensures complete { MatchResult result (IsWhole self.now) (IsNotWhole self.now) }
         // At most 257 hashes are computed, however many entries there are.
         ensures cost { steps.new ≤ steps.old + 257 }
     {

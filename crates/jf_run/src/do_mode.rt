@@ -45,7 +45,7 @@ pub(crate) fn do_mode<S: Source, K: Sink, D: Disk, H: Threads + Wait + Sync, G: 
     ensures untouched { LeavesUntouched (shape_of mode) result.status source.old source.new sink.old sink.new }
     ensures resting { (shape_of mode).changes ≡ NoChange → disk_of D.Disk result.disk ≡ engine_disk engine }
     ensures elsewhere { (head : ℕ) (root : List ℕ) → result.status ≡ Status.Elsewhere head root → disk_of D.Disk result.disk ≡ engine_disk engine }
-    ensures few { mode ≡ Mode.Trim → D.moment result.disk ≤ engine.moment + 15 }
+    ensures moments { mode ≡ Mode.Trim → D.moment result.disk ≤ engine.moment + 15 }
     ensures kept { CompletesCall mode (state_when_opened engine.versions engine.generation) (shown_devices S.Source K.Sink source.old sink.old (engine_disk engine)) (shown_devices S.Source K.Sink source.new sink.new (disk_of D.Disk result.disk)) result.status result.entries }
 {
     damage_is_no_versions();

@@ -45,7 +45,7 @@ pub(crate) fn find_store<D: Disk, H: Threads + Sync>(
     disk: D,
 ) -> Result<Engine<D>, Ended<D>>
     requires opens { IsTrue (shape_of mode.now).opens }
-    requires only { MayBegin mode.now → ⊥ }
+    requires existing { MayBegin mode.now → ⊥ }
     ensures begun { IfOk result (λ e. IsBegun (state_when_opened e.versions e.generation) (disk_of D.Disk disk) (engine_disk e) e.versions.head) }
     ensures held { IfOk result (λ e. HoldsFor mode.now (disk_of D.Disk disk)) }
     ensures whole { IfOk result (λ e. e.broken ≡ false) }

@@ -20,7 +20,7 @@ impl<D: Disk> Over<D> {
     /// The end of a mode, with the engine of its store.
     pub(crate) fn of_engine(status: Status, engine: Engine<D>, entries: Ledger) -> Over<D>
         ensures status { result.status ≡ status }
-        ensures disk { disk_of D.Disk result.disk ≡ engine_disk engine }
+        ensures resting { disk_of D.Disk result.disk ≡ engine_disk engine }
         ensures entries { result.entries ≡ entries }
     {
         let (disk, memory) = engine.into_parts();

@@ -62,7 +62,7 @@ fn is_root_at<D: Disk>(engine: &Engine<D>, version: u64, root: &Hash) -> bool
 /// The end over a store that has another root: its newest version, and the root of that.
 fn elsewhere<D: Disk>(alloc: Global, engine: Engine<D>) -> Over<D>
     ensures status { result.status ≡ Status.Elsewhere engine.versions.head (root_of engine.versions engine.versions.head) }
-    ensures disk { disk_of D.Disk result.disk ≡ engine_disk engine }
+    ensures resting { disk_of D.Disk result.disk ≡ engine_disk engine }
     ensures entries { result.entries ≡ [] }
 {
     engine.know();

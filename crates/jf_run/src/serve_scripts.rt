@@ -39,8 +39,8 @@ pub(crate) fn serve_scripts<K: Sink, D: Disk, H: Threads + Wait + Sync, G: Gate>
     ensures served { (attempt : Option Entry) × KeepsEntries (state_when_opened engine.versions engine.generation) (engine_disk engine) (disk_of D.Disk result.disk) result.entries attempt
         × (((result.status ≡ Status.Memory) × (result.entries ≡ []) × (attempt ≡ None) × (sink.new ≡ sink.old))
         ⊎ HasServedScripts result.status (state_when_opened engine.versions engine.generation) (engine_disk engine) (disk_of D.Disk result.disk) (map lines scripts.now) result.entries attempt (K.text sink.old) (K.text sink.new) (K.faults sink.old) (K.faults sink.new)) }
-    ensures write { result.status ≡ Status.WriteFault → HasCause (K.faults sink.old) (K.faults sink.new) }
-    ensures sink_counts { K.faults sink.old ≤ K.faults sink.new }
+    ensures cause { result.status ≡ Status.WriteFault → HasCause (K.faults sink.old) (K.faults sink.new) }
+    ensures counts { K.faults sink.old ≤ K.faults sink.new }
 {
     engine.know();
     let (store, passes) = match Store::new(alloc, engine, scripts.len() as u64) {

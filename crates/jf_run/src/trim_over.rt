@@ -26,7 +26,7 @@ use std::alloc::Global;
 pub(crate) fn trim_over<K: Sink, D: Disk>(alloc: Global, engine: Engine<D>, sink: &mut K) -> Over<D>
     requires whole { engine.broken ≡ false }
     ensures here { (head : ℕ) (root : List ℕ) → result.status ≢ Status.Elsewhere head root }
-    ensures few { D.moment result.disk ≤ engine.moment + 15 }
+    ensures moments { D.moment result.disk ≤ engine.moment + 15 }
     ensures kept { (rest : Option (List ℕ)) (source_faults : ℕ) → CompletesCall mode.Trim (state_when_opened engine.versions engine.generation) (devices (engine_disk engine) rest source_faults (K.text sink.old) (K.faults sink.old)) (devices (disk_of D.Disk result.disk) rest source_faults (K.text sink.new) (K.faults sink.new)) result.status result.entries }
 {
     engine.know();
@@ -51,8 +51,8 @@ pub(crate) fn trim_over<K: Sink, D: Disk>(alloc: Global, engine: Engine<D>, sink
 fn tell_trimmed<K: Sink>(alloc: Global, trimmed: Trimmed, sink: &mut K) -> Status
     ensures told { TellsTrimmed (Ok trimmed) result (K.text sink.old) (K.text sink.new) }
     ensures silent { result ≡ Status.Memory → sink.new ≡ sink.old }
-    ensures write { result ≡ Status.WriteFault → HasCause (K.faults sink.old) (K.faults sink.new) }
-    ensures sink_counts { K.faults sink.old ≤ K.faults sink.new }
+    ensures cause { result ≡ Status.WriteFault → HasCause (K.faults sink.old) (K.faults sink.new) }
+    ensures counts { K.faults sink.old ≤ K.faults sink.new }
 {
     let Ok(line) = trimmed_line(alloc, trimmed) else {
         return Status::Memory;

@@ -17,7 +17,7 @@ pub(crate) fn put_held<K: Sink>(held: &mut Bytes, sink: &mut K) -> Result<(), Re
     ensures ok { OnOk result (Appends (K.text sink.old) (K.text sink.new) held.old) }
     ensures empty { OnOk result (held.new ≡ []) }
     ensures front { OnErr result (IsCutShort (K.text sink.old) (K.text sink.new) held.old) }
-    ensures write { result ≡ Err ReportFault.WriteFault → HasCause (K.faults sink.old) (K.faults sink.new) }
+    ensures cause { result ≡ Err ReportFault.WriteFault → HasCause (K.faults sink.old) (K.faults sink.new) }
     ensures counts { K.faults sink.old ≤ K.faults sink.new }
 {
     put_all(sink, held.as_slice())?;
@@ -29,7 +29,7 @@ pub(crate) fn put_held<K: Sink>(held: &mut Bytes, sink: &mut K) -> Result<(), Re
 pub(crate) fn put_enough<K: Sink>(held: &mut Bytes, sink: &mut K) -> Result<(), ReportFault>
     ensures ok { OnOk result (AddsText (K.text sink.old) (K.text sink.new) held.old held.new []) }
     ensures front { OnErr result (IsCutShort (K.text sink.old) (K.text sink.new) held.old) }
-    ensures write { result ≡ Err ReportFault.WriteFault → HasCause (K.faults sink.old) (K.faults sink.new) }
+    ensures cause { result ≡ Err ReportFault.WriteFault → HasCause (K.faults sink.old) (K.faults sink.new) }
     ensures counts { K.faults sink.old ≤ K.faults sink.new }
 {
     if held.len() < ENOUGH {

@@ -63,7 +63,7 @@ pub fn read_scripts<S: Source>(alloc: Global, source: &mut S) -> Result<Scripts,
     // It is refused as full only if it has too many bytes or sessions.
     ensures full { result ≡ Err InputFault.Full → (input : List ℕ) → S.rest source.old ≡ Some input → IsTooLarge input }
     // It returns a fault of the source only if the source counted one.
-    ensures read { result ≡ Err InputFault.ReadFault → HasCause (S.faults source.old) (S.faults source.new) }
+    ensures cause { result ≡ Err InputFault.ReadFault → HasCause (S.faults source.old) (S.faults source.new) }
     // The source's count of faults doesn't fall.
     ensures counts { S.faults source.old ≤ S.faults source.new }
 {

@@ -56,7 +56,7 @@ pub fn write_served<K: Sink>(
     // After a refusal a front of the report was appended.
     ensures front { OnErr result (IsCutShort (K.text sink.old) (K.text sink.new) (served_text outputs.now entries.now)) }
     // It returns a fault of the sink only if the sink counted one.
-    ensures write { result ≡ Err ReportFault.WriteFault → HasCause (K.faults sink.old) (K.faults sink.new) }
+    ensures cause { result ≡ Err ReportFault.WriteFault → HasCause (K.faults sink.old) (K.faults sink.new) }
     // The sink's count of faults doesn't fall.
     ensures counts { K.faults sink.old ≤ K.faults sink.new }
 {
@@ -75,7 +75,7 @@ fn write_sessions<K: Sink>(
 ) -> Result<(), ReportFault>
     ensures ok { OnOk result (AddsText (K.text sink.old) (K.text sink.new) held.old held.new (concat (map session_text outputs.now))) }
     ensures front { OnErr result (IsCutShort (K.text sink.old) (K.text sink.new) (held.old ++ concat (map session_text outputs.now))) }
-    ensures write { result ≡ Err ReportFault.WriteFault → HasCause (K.faults sink.old) (K.faults sink.new) }
+    ensures cause { result ≡ Err ReportFault.WriteFault → HasCause (K.faults sink.old) (K.faults sink.new) }
     ensures counts { K.faults sink.old ≤ K.faults sink.new }
 {
     for output in outputs {
@@ -88,7 +88,7 @@ fn write_sessions<K: Sink>(
 fn write_session<K: Sink>(output: &[u8], held: &mut Bytes, sink: &mut K) -> Result<(), ReportFault>
     ensures ok { OnOk result (AddsText (K.text sink.old) (K.text sink.new) held.old held.new (session_text output.now)) }
     ensures front { OnErr result (IsCutShort (K.text sink.old) (K.text sink.new) (held.old ++ session_text output.now)) }
-    ensures write { result ≡ Err ReportFault.WriteFault → HasCause (K.faults sink.old) (K.faults sink.new) }
+    ensures cause { result ≡ Err ReportFault.WriteFault → HasCause (K.faults sink.old) (K.faults sink.new) }
     ensures counts { K.faults sink.old ≤ K.faults sink.new }
 {
     held.append(b"session\n")?;
@@ -110,7 +110,7 @@ fn write_ledger<K: Sink>(
 ) -> Result<(), ReportFault>
     ensures ok { OnOk result (AddsText (K.text sink.old) (K.text sink.new) held.old held.new (ledger_text entries.now)) }
     ensures front { OnErr result (IsCutShort (K.text sink.old) (K.text sink.new) (held.old ++ ledger_text entries.now)) }
-    ensures write { result ≡ Err ReportFault.WriteFault → HasCause (K.faults sink.old) (K.faults sink.new) }
+    ensures cause { result ≡ Err ReportFault.WriteFault → HasCause (K.faults sink.old) (K.faults sink.new) }
     ensures counts { K.faults sink.old ≤ K.faults sink.new }
 {
     write_count(entries.len() as u64, held)?;
@@ -124,7 +124,7 @@ fn write_ledger<K: Sink>(
 fn write_line<K: Sink>(entry: &Entry, held: &mut Bytes, sink: &mut K) -> Result<(), ReportFault>
     ensures ok { OnOk result (AddsText (K.text sink.old) (K.text sink.new) held.old held.new (entry_line entry.now)) }
     ensures front { OnErr result (IsCutShort (K.text sink.old) (K.text sink.new) (held.old ++ entry_line entry.now)) }
-    ensures write { result ≡ Err ReportFault.WriteFault → HasCause (K.faults sink.old) (K.faults sink.new) }
+    ensures cause { result ≡ Err ReportFault.WriteFault → HasCause (K.faults sink.old) (K.faults sink.new) }
     ensures counts { K.faults sink.old ≤ K.faults sink.new }
 {
     write_entry(entry, held)?;

@@ -55,9 +55,9 @@ pub fn serve<D: Disk, H: Threads + Wait + Sync, G: Gate>(
     // The passes are new ones of this store, in the order of their numbers.
     requires new { AreNewPasses store passes.items 0 }
     // They are all passes of the store.
-    requires all { length passes.items ≡ store.start.passes }
+    requires gathered { length passes.items ≡ store.start.passes }
     // There is one script for each pass.
-    requires each { length scripts.now ≡ length passes.items }
+    requires long { length scripts.now ≡ length passes.items }
     // One legal history explains all outputs, and the store that is handed back holds what its entries made.
     ensures served { IfOk result (λ r. HasServed store.start (map lines scripts.now) r.outputs r.ends r.entries r.engine) }
     // After a refusal store and passes are handed back, unchanged.

@@ -13,7 +13,7 @@ pub(crate) fn read_to_end<S: Source>(alloc: Global, source: &mut S) -> Result<Ve
     ensures small { IfOk result (λ bytes. length bytes.items ≤ max_input) }
     ensures ok { IfOk result (λ bytes. (input : List ℕ) → S.rest source.old ≡ Some input → (S.rest source.new ≡ Some []) × (bytes.items ≡ input)) }
     ensures full { result ≡ Err InputFault.Full → (input : List ℕ) → S.rest source.old ≡ Some input → max_input < length input }
-    ensures read { result ≡ Err InputFault.ReadFault → HasCause (S.faults source.old) (S.faults source.new) }
+    ensures cause { result ≡ Err InputFault.ReadFault → HasCause (S.faults source.old) (S.faults source.new) }
     ensures counts { S.faults source.old ≤ S.faults source.new }
 {
     let mut bytes = Vec::new(alloc);

@@ -105,8 +105,8 @@ fn tell_block(version: u64, root: &Hash, batch: &Batch, told: &mut Bytes) -> Res
 // Appends the blocks of a fork that was landed with its ancestors, the oldest first. If memory runs out, the text is
 // unchanged.
 fn tell_chain(chain: &LandedChain, told: &mut Bytes) -> Result<(), Stop>
-    requires each { length chain.now.roots ≡ length chain.now.batches }
-    requires last { length chain.now.batches ≤ chain.now.landed.version }
+    requires long { length chain.now.roots ≡ length chain.now.batches }
+    requires bounded { length chain.now.batches ≤ chain.now.landed.version }
     ensures sound { AllByRecursion IsLandingBlock (chain_blocks chain.now) }
     ensures ok { OnOk result (told.new ≡ told.old ++ landings_text (chain_blocks chain.now)) }
     ensures err { IfErr result (λ why. (why ≡ Stop.Memory) × (told.new ≡ told.old)) }
@@ -132,8 +132,8 @@ fn write_blocks(
     roots: &[Hash],
     told: &mut Bytes,
 ) -> Result<(), Memory>
-    requires each { length roots.now ≡ length batches.now }
-    requires last { version + length batches.now < 2 ^ 64 }
+    requires long { length roots.now ≡ length batches.now }
+    requires bounded { version + length batches.now < 2 ^ 64 }
     ensures ok { OnOk result (told.new ≡ told.old ++ landings_text (rooted_blocks version batches.now roots.now)) }
     ensures err { OnErr result (Extends told.old told.new) }
 {
@@ -145,8 +145,8 @@ fn write_blocks(
 
 // These blocks can be written: for proofs.
 fn know_blocks(version: u64, batches: &[Batch], roots: &[Hash])
-    requires each { length roots.now ≡ length batches.now }
-    requires last { version + length batches.now < 2 ^ 64 }
+    requires long { length roots.now ≡ length batches.now }
+    requires bounded { version + length batches.now < 2 ^ 64 }
     ensures { AllByRecursion IsLandingBlock (rooted_blocks version batches.now roots.now) }
 {
     for (at, batch) in batches.iter().enumerate() {

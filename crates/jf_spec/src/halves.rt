@@ -99,7 +99,7 @@ impl Node {
         requires ones_depth { ones.depth ≡ depth + 1 }
         requires zeros { HaveBit depth false zeros.entries }
         requires ones { HaveBit depth true ones.entries }
-        requires several { 2 ≤ length (zeros.entries ++ ones.entries) }
+        requires plural { 2 ≤ length (zeros.entries ++ ones.entries) }
         ensures { IfOk result (λ x. x ≡ record { depth = depth; entries = zeros.entries ++ ones.entries }) }
     {
         let hash = jf_hash::inner(&zeros.hash(), &ones.hash());
@@ -115,7 +115,7 @@ impl Node {
         requires { self.now.depth < 256 }
         ensures zeros { IfOk result (λ h. h.zeros ≡ record { depth = self.now.depth + 1; entries = zeros self.now.depth self.now.entries }) }
         ensures ones { IfOk result (λ h. h.ones ≡ record { depth = self.now.depth + 1; entries = ones self.now.depth self.now.entries }) }
-        ensures step { steps.new ≡ steps.old + 1 }
+        ensures cost { steps.new ≡ steps.old + 1 }
     {
         steps.tick();
         match &self.form {
@@ -139,7 +139,7 @@ impl Node {
     ) -> Result<Node, Memory>
         requires { depth ≤ 256 }
         ensures node { IfOk result (λ x. x ≡ record { depth = depth; entries = (key.now, value.now) ∷ [] }) }
-        ensures step { steps.new ≡ steps.old + 1 }
+        ensures cost { steps.new ≡ steps.old + 1 }
     {
         steps.tick();
         let hash = jf_hash::leaf(key, &jf_hash::value(value));
@@ -166,7 +166,7 @@ impl Node {
         requires zeros { HaveBit depth false halves.zeros.entries }
         requires ones { HaveBit depth true halves.ones.entries }
         ensures node { IfOk result (λ x. x ≡ record { depth = depth; entries = halves.zeros.entries ++ halves.ones.entries }) }
-        ensures step { steps.new ≡ steps.old + 1 }
+        ensures cost { steps.new ≡ steps.old + 1 }
     {
         steps.tick();
         let Halves { zeros, ones } = halves;

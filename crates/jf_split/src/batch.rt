@@ -61,7 +61,7 @@ impl Batch {
         ensures entries { result.now ≡ self.now }
         ensures sound { IsBatch self.now }
         ensures distinct { IsDistinct same_key (map (λ e. e.0) self.now) }
-        ensures limited { IsWithinLimits self.now }
+        ensures bounded { IsWithinLimits self.now }
     {
         &self.entries
     }
@@ -114,7 +114,7 @@ impl Batch {
     // Sets a key to its value, or to `None`.
     fn set(&mut self, key: &Key, value: Option<SharedBytes>) -> Result<(), BatchFault>
         requires bytes { IfSome value IsBytes }
-        requires limited { IfSome value (λ v. length v ≤ max_value) }
+        requires short { IfSome value (λ v. length v ≤ max_value) }
         ensures ok { OnOk result (self.new ≡ put key_cmp key.now value self.old) }
         ensures full { result ≡ Err BatchFault.Full → IsTrue (is_full key.now self.old) }
         ensures room { IsTrue (is_full key.now self.old) → (result ≡ Err BatchFault.Full) ⊎ (result ≡ Err BatchFault.Memory) }

@@ -95,7 +95,7 @@ impl Pending {
     // Sets a key to its value, or to `None`.
     fn set(&mut self, key: &Key, value: Option<SharedBytes>) -> Result<(), BatchFault>
         requires bytes { IfSome value IsBytes }
-        requires limited { IfSome value (λ v. length v ≤ max_value) }
+        requires short { IfSome value (λ v. length v ≤ max_value) }
         ensures ok { OnOk result (self.new ≡ put key_cmp key.now value self.old) }
         ensures full { result ≡ Err BatchFault.Full → IsTrue (is_full key.now self.old) }
         ensures room { IsTrue (is_full key.now self.old) → (result ≡ Err BatchFault.Full) ⊎ (result ≡ Err BatchFault.Memory) }

@@ -23,7 +23,7 @@ pub fn pieces_of(
     depth: usize,
 ) -> Result<Vec<Piece>, Memory>
     requires depth { depth < 64 }
-    requires rising { IsNonDecreasingBy (λ e. nibble e.0 depth) entries.now }
+    requires sorted { IsNonDecreasingBy (λ e. nibble e.0 depth) entries.now }
     ensures { IfOk result (λ ps. ArePieces depth entries.now ps.items) }
 {
     let mut pieces = Vec::new(alloc);
@@ -45,12 +45,12 @@ fn end_of_piece(
     here: Nibble,
 ) -> usize
     requires depth { depth < 64 }
-    requires rising { IsNonDecreasingBy (λ e. nibble e.0 depth) entries.now }
+    requires sorted { IsNonDecreasingBy (λ e. nibble e.0 depth) entries.now }
     requires within { start < length entries.now }
     requires here { HoldsAt (λ e. nibble e.0 depth ≡ here) entries.now start }
     ensures behind { start < result }
     ensures within { result ≤ length entries.now }
-    ensures same { AllWithin (λ e. nibble e.0 depth ≡ here) entries.now start result }
+    ensures nibble { AllWithin (λ e. nibble e.0 depth ≡ here) entries.now start result }
     ensures other { AllWithin (λ e. here < nibble e.0 depth) entries.now result (length entries.now) }
 {
     start + entries[start..].partition_point(|entry| nibble_at(entry, depth).get() <= here.get())

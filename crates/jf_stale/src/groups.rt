@@ -12,7 +12,7 @@ use std::collections::VecDeque;
 /// The place of the group of a version, or the place that it would have. Looks at the last group first.
 pub(crate) fn place_of(groups: &VecDeque<NamesSince>, since: u64) -> Result<usize, usize>
     requires { AreRisingGroups groups.now.items }
-    ensures bound { IsSearchInRange result (length groups.now.items) }
+    ensures within { IsSearchInRange result (length groups.now.items) }
     ensures there { IfOk result (HoldsAt (λ g. g.0 ≡ since) groups.now.items) }
     ensures gap { IfErr result (IsPartitionPoint (λ g. g.0 < since) (λ g. since < g.0) groups.now.items) }
 {
@@ -30,9 +30,9 @@ pub(crate) fn place_of(groups: &VecDeque<NamesSince>, since: u64) -> Result<usiz
 /// groups stay as they are.
 pub(crate) fn group_of(groups: &mut VecDeque<NamesSince>, since: u64) -> Result<usize, Memory>
     requires { AreRisingGroups groups.old.items }
-    ensures bound { IfOk result (λ i. i < length groups.new.items) }
+    ensures within { IfOk result (λ i. i < length groups.new.items) }
     ensures there { IfOk result (HoldsAt (λ g. g.0 ≡ since) groups.new.items) }
-    ensures rising { AreRisingGroups groups.new.items }
+    ensures sorted { AreRisingGroups groups.new.items }
     ensures marks { marks_in groups.new.items ≡ marks_in groups.old.items }
 {
     match place_of(groups, since) {
@@ -47,9 +47,9 @@ pub(crate) fn group_of(groups: &mut VecDeque<NamesSince>, since: u64) -> Result<
 
 /// Removes the group at a place if it has no names.
 pub(crate) fn drop_if_empty(groups: &mut VecDeque<NamesSince>, at: usize)
-    requires bound { at < length groups.old.items }
-    requires rising { AreRisingGroups groups.old.items }
-    ensures rising { AreRisingGroups groups.new.items }
+    requires within { at < length groups.old.items }
+    requires sorted { AreRisingGroups groups.old.items }
+    ensures sorted { AreRisingGroups groups.new.items }
     ensures marks { marks_in groups.new.items ≡ marks_in groups.old.items }
 {
     if groups[at].is_empty() {
@@ -60,7 +60,7 @@ pub(crate) fn drop_if_empty(groups: &mut VecDeque<NamesSince>, at: usize)
 /// Removes the groups at the front that have no names.
 pub(crate) fn drop_empty(groups: &mut VecDeque<NamesSince>)
     requires { AreRisingGroups groups.old.items }
-    ensures rising { AreRisingGroups groups.new.items }
+    ensures sorted { AreRisingGroups groups.new.items }
     ensures marks { marks_in groups.new.items ≡ marks_in groups.old.items }
     ensures front { begins_empty groups.new.items ≡ false }
 {

@@ -44,7 +44,7 @@ impl StaleIndex {
     /// The number of marks.
     pub fn len(&self) -> u64
         ensures count { result ≡ length self.now }
-        ensures ascending { AreAscendingMarks self.now }
+        ensures sorted { AreAscendingMarks self.now }
     {
         self.count
     }

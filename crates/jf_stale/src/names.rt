@@ -109,7 +109,7 @@ impl NamesSince {
 // The place of a name in ascending names, or the place that it would have. Looks at the last name first.
 fn place_of(names: &VecDeque<NodeName>, name: &NodeName) -> Result<usize, usize>
     requires { AreAscendingNames names.now.items }
-    ensures bound { IsSearchInRange result (length names.now.items) }
+    ensures within { IsSearchInRange result (length names.now.items) }
     ensures there { IfOk result (HoldsAt (λ n. n ≡ name.now) names.now.items) }
     ensures gap { IfErr result (IsPartitionPoint (λ n. name_cmp n name.now ≡ Less) (λ n. name_cmp n name.now ≡ Greater) names.now.items) }
 {

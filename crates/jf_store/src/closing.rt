@@ -34,7 +34,7 @@ fn end_turn<D: Disk>(
 ) -> Vault<D>
     requires seat { IsSeatOf seat turn × (seat.taken ≡ None) }
     requires own { ArePassesOf (store_of turn) passes.items }
-    requires all { (n : ℕ) → n < turn.seats → HasElement seat.numbers n ⊎ ((p : _) × HasElement passes.items p × (p.number ≡ n)) }
+    requires gathered { (n : ℕ) → n < turn.seats → HasElement seat.numbers n ⊎ ((p : _) × HasElement passes.items p × (p.number ≡ n)) }
     requires board { board.now ≡ turn.start.board }
     ensures start { result.start ≡ turn.start }
     ensures begins { StartsWith result.events seat.seen }
@@ -64,7 +64,7 @@ impl<D: Disk> Store<D> {
         // The passes are of this store.
         requires own { ArePassesOf self passes.items }
         // They are all of its passes.
-        requires all { AreAllPasses self passes.items }
+        requires gathered { AreAllPasses self passes.items }
         // One history begins with all that each pass has seen, and engine and ledger are what it made.
         ensures { IsClosed self.start passes.items result.entries result.engine }
     {

@@ -46,9 +46,9 @@ fn land_batches<D: Disk, H: Threads + Sync, G: Gate>(
     gate: &G,
 ) -> Result<Landed, EngineFault>
     requires can { CanStep (Lands batches.now) engine.old }
-    requires any { 1 ≤ length batches.now }
+    requires positive { 1 ≤ length batches.now }
     requires forks { length batches.now ≤ max_forks }
-    requires limited { key_count batches.now ≤ max_keys }
+    requires bounded { key_count batches.now ≤ max_keys }
     ensures step { HasEnded (Lands batches.now) engine.old engine.new result }
     ensures answer { IfOk result (λ l. (l.version ≡ engine.new.versions.head) × (l.root ≡ root (newest engine.new.versions)) × (l.moment ≡ engine.new.moment)) }
     ensures unrefused { IsUnrefused engine.old engine.new result }
@@ -67,9 +67,9 @@ fn land_with_roots<D: Disk, H: Threads + Sync, G: Gate>(
     gate: &G,
 ) -> Result<LandedChain, EngineFault>
     requires can { CanStep (Lands batches) engine.old }
-    requires any { 1 ≤ length batches }
+    requires positive { 1 ≤ length batches }
     requires forks { length batches ≤ max_forks }
-    requires limited { key_count batches ≤ max_keys }
+    requires bounded { key_count batches ≤ max_keys }
     ensures step { HasEnded (Lands batches) engine.old engine.new result }
     ensures answer { IfOk result (λ c. (c.landed.version ≡ engine.new.versions.head) × (c.landed.root ≡ root (newest engine.new.versions)) × (c.landed.moment ≡ engine.new.moment)) }
     ensures batches { IfOk result (λ c. c.batches ≡ batches) }

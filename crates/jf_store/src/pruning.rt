@@ -68,7 +68,7 @@ impl<D: Disk> Vault<D> {
     ) -> Result<Pruned, StoreFault>
         requires pass { pass < self.old.start.passes }
         requires board { board.now ≡ self.old.start.board }
-        requires place { own.old.board ≡ board.now }
+        requires own { own.old.board ≡ board.now }
         requires words { board.now.words ≡ max_pins * self.old.start.passes + 3 }
         ensures own { own.new ≡ own.old }
         ensures start { self.new.start ≡ self.old.start }
@@ -118,9 +118,9 @@ impl Pins {
     ) -> Result<Pruned, StoreFault>
         requires pass { pass < vault.old.start.passes }
         requires board { board.now ≡ vault.old.start.board }
-        requires place { self.old.board ≡ board.now }
+        requires own { self.old.board ≡ board.now }
         requires words { board.now.words ≡ max_pins * vault.old.start.passes + 3 }
-        ensures same { self.new ≡ self.old }
+        ensures unchanged { self.new ≡ self.old }
         ensures pins { ArePins self.old }
         ensures start { vault.new.start ≡ vault.old.start }
         ensures pruned { IfOk result (PrunesIn pass self.old.known bound vault.old vault.new) }

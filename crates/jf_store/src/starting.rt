@@ -37,11 +37,11 @@ fn passes_of<D: Disk>(
     requires seats { AreNewSeats turn.now seats.items 0 }
     requires places { AreNewPlaces board.now places.items 0 }
     requires board { board.now ≡ turn.now.start.board }
-    requires each { length places.items ≡ length seats.items }
-    requires few { length seats.items ≤ turn.now.start.passes }
+    requires long { length places.items ≡ length seats.items }
+    requires bounded { length seats.items ≤ turn.now.start.passes }
     requires empty { all.items ≡ [] }
     requires room { length seats.items ≤ vec_capacity all }
-    ensures many { length result.items ≡ length seats.items }
+    ensures long { length result.items ≡ length seats.items }
     ensures new { AreNewPasses (store_of turn.now) result.items 0 }
 {
     let _ = board;

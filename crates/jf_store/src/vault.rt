@@ -110,7 +110,7 @@ impl<D: Disk> Vault<D> {
         ensures low_tried { IfSome (attempt_of self.events) (λ e. (after e (state_after_events self.start self.events)).floor ≤ self.pruner.known.cut) }
         ensures count { self.pruner.known.count ≡ self.start.passes }
         ensures board { self.pruner.board ≡ self.start.board }
-        ensures grows { (h : History) → self.start.history ≡ Some h → (g : History) × (self.engine.history ≡ Some g) × ExtendsHistory h g }
+        ensures extended { (h : History) → self.start.history ≡ Some h → (g : History) × (self.engine.history ≡ Some g) × ExtendsHistory h g }
         ensures untold { self.start.history ≡ None → self.engine.history ≡ None }
     {
         let Vault {
@@ -129,7 +129,7 @@ impl<D: Disk> Vault<D> {
     pub(crate) fn join(&mut self, board: &Board, place: Place)
         requires place { place.board ≡ board.now }
         requires board { self.old.start.board ≡ board.now }
-        ensures same { self.new ≡ record self.old { pruner = self.new.pruner } }
+        ensures rest { self.new ≡ record self.old { pruner = self.new.pruner } }
         ensures pairs { self.new.pruner.known.pairs ≡ self.old.pruner.known.pairs }
         ensures count { self.new.pruner.known.count ≡ self.old.pruner.known.count }
         ensures cut { self.new.pruner.known.cut ≡ self.old.pruner.known.cut }
@@ -143,7 +143,7 @@ impl<D: Disk> Vault<D> {
     // What holds of every vault: its events are a legal history, and at most 2^62.
     pub(crate) fn know(&self)
         ensures events { AreEvents self.now.start self.now.events }
-        ensures few { length self.now.events ≤ 2 ^ 62 }
+        ensures bounded { length self.now.events ≤ 2 ^ 62 }
     {
         let _ = &self.engine;
     }

@@ -30,7 +30,7 @@ pub(crate) fn write_member(
     root: &Hash,
     out: &mut Bytes,
 ) -> Result<(), Memory>
-    requires place { index < length roots.now }
+    requires within { index < length roots.now }
     requires root { root.now ≡ slice_index_or roots.now index [] }
     ensures { OnOk result (out.new ≡ out.old ++ member_lines roots.now index) }
 {

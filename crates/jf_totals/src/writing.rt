@@ -23,8 +23,8 @@ pub fn write_history<K: Sink, D: Disk>(
     sink: &mut K,
 ) -> Result<(), HistoryFault>
     ensures written { WritesHistory result engine.now.versions version (K.text sink.old) (K.text sink.new) }
-    ensures write { result ≡ Err HistoryFault.WriteFault → HasCause (K.faults sink.old) (K.faults sink.new) }
-    ensures sink_counts { K.faults sink.old ≤ K.faults sink.new }
+    ensures cause { result ≡ Err HistoryFault.WriteFault → HasCause (K.faults sink.old) (K.faults sink.new) }
+    ensures counts { K.faults sink.old ≤ K.faults sink.new }
 {
     let state = engine.state();
     if version < state.base || state.head < version {

@@ -20,12 +20,12 @@ pub(crate) fn cut_side<D: Disk>(alloc: Global, disk: &mut D, side: Side) -> Resu
         → IfOk result (λ n. (g : History) × (D.history disk.new ≡ Some g) × (content_on side g.now ≡ durable (trimmed_side (content_on side h.now).bytes)) × (n + length (trimmed_side (content_on side h.now).bytes) ≡ length (content_on side h.now).bytes)) }
     ensures stop { (h : History) → D.history disk.old ≡ Some h → (g : History) × (D.history disk.new ≡ Some g) × StopsInBegin side h g }
     ensures damaged { (h : History) (where_ : Side) (at : ℕ) → D.history disk.old ≡ Some h → result ≡ Err (PairFault.Damaged where_ at) → records (content_on side h.now).bytes ≡ Err at }
-    ensures unchanged { (h : History) (why : PairFault) → D.history disk.old ≡ Some h → result ≡ Err why → (why ≡ PairFault.DiskFault) ⊎ ((g : History) × (D.history disk.new ≡ Some g) × Idles h g) }
+    ensures err { (h : History) (why : PairFault) → D.history disk.old ≡ Some h → result ≡ Err why → (why ≡ PairFault.DiskFault) ⊎ ((g : History) × (D.history disk.new ≡ Some g) × Idles h g) }
     ensures nothing { (h : History) → D.history disk.old ≡ Some h → IfOk result (λ n. n ≡ 0 → (g : History) × (D.history disk.new ≡ Some g) × Idles h g) }
-    ensures one { IfOk result (λ n. n ≡ 0 → D.moment disk.new ≡ D.moment disk.old + 1) }
+    ensures elapsed { IfOk result (λ n. n ≡ 0 → D.moment disk.new ≡ D.moment disk.old + 1) }
     ensures calls { CallsOn (D.history disk.old) (D.moment disk.old) (D.faults disk.old) (D.history disk.new) (D.moment disk.new) (D.faults disk.new) (result ≡ Err PairFault.DiskFault) }
     ensures calm { OnOk result (D.faults disk.new ≡ D.faults disk.old) }
-    ensures few { D.moment disk.new ≤ D.moment disk.old + 9 }
+    ensures moments { D.moment disk.new ≤ D.moment disk.old + 9 }
 {
     know_counts(disk);
     let size = disk.len(side)?;
@@ -43,10 +43,10 @@ fn cut_to_gate<D: Disk>(alloc: Global, disk: &mut D, side: Side) -> Result<(), P
         → OnOk result ((g : History) × (D.history disk.new ≡ Some g) × (content_on side g.now ≡ durable (take 1 (with_closed (content_on side h.now).bytes)))) }
     ensures stop { (h : History) → D.history disk.old ≡ Some h → (g : History) × (D.history disk.new ≡ Some g) × StopsInBegin side h g }
     ensures damaged { (h : History) (where_ : Side) (at : ℕ) → D.history disk.old ≡ Some h → result ≡ Err (PairFault.Damaged where_ at) → records (content_on side h.now).bytes ≡ Err at }
-    ensures unchanged { (h : History) (why : PairFault) → D.history disk.old ≡ Some h → result ≡ Err why → (why ≡ PairFault.DiskFault) ⊎ ((g : History) × (D.history disk.new ≡ Some g) × Idles h g) }
+    ensures err { (h : History) (why : PairFault) → D.history disk.old ≡ Some h → result ≡ Err why → (why ≡ PairFault.DiskFault) ⊎ ((g : History) × (D.history disk.new ≡ Some g) × Idles h g) }
     ensures calls { CallsOn (D.history disk.old) (D.moment disk.old) (D.faults disk.old) (D.history disk.new) (D.moment disk.new) (D.faults disk.new) (result ≡ Err PairFault.DiskFault) }
     ensures calm { OnOk result (D.faults disk.new ≡ D.faults disk.old) }
-    ensures few { D.moment disk.new ≤ D.moment disk.old + 8 }
+    ensures moments { D.moment disk.new ≤ D.moment disk.old + 8 }
 {
     let mut log = read_side(alloc, disk, side)?;
     log.begin(disk)?;
@@ -60,7 +60,7 @@ fn read_side<D: Disk>(alloc: Global, disk: &mut D, side: Side) -> Result<Log, Pa
     ensures idle { (h : History) → D.history disk.old ≡ Some h → (g : History) × (D.history disk.new ≡ Some g) × Idles h g }
     ensures calls { CallsOn (D.history disk.old) (D.moment disk.old) (D.faults disk.old) (D.history disk.new) (D.moment disk.new) (D.faults disk.new) (result ≡ Err PairFault.DiskFault) }
     ensures calm { OnOk result (D.faults disk.new ≡ D.faults disk.old) }
-    ensures few { D.moment disk.new ≤ D.moment disk.old + 2 }
+    ensures moments { D.moment disk.new ≤ D.moment disk.old + 2 }
 {
     match Log::read_all(alloc, disk, side) {
         Ok(log) => Ok(log),

@@ -19,8 +19,8 @@ pub(crate) fn find_spare<D: Disk>(alloc: Global, disk: &mut D) -> Result<Side, P
     ensures left { (h : History) → D.history disk.old ≡ Some h → (g : History) × (D.history disk.new ≡ Some g) × LeavesFiles h g }
     ensures calls { CallsOn (D.history disk.old) (D.moment disk.old) (D.faults disk.old) (D.history disk.new) (D.moment disk.new) (D.faults disk.new) (result ≡ Err PairFault.DiskFault) }
     ensures calm { OnOk result (D.faults disk.new ≡ D.faults disk.old) }
-    ensures six { OnOk result (D.moment disk.new ≡ D.moment disk.old + 6) }
-    ensures few { D.moment disk.new ≤ D.moment disk.old + 6 }
+    ensures elapsed { OnOk result (D.moment disk.new ≡ D.moment disk.old + 6) }
+    ensures moments { D.moment disk.new ≤ D.moment disk.old + 6 }
 {
     let (pair, _) = Pair::open(alloc, disk)?;
     Ok(across(pair.side()))

@@ -27,11 +27,11 @@ pub fn trim<D: Disk>(alloc: Global, disk: &mut D) -> Result<Trimmed, PairFault>
     ensures trimmed { (h : History) → D.history disk.old ≡ Some h → IfOk result (λ t. (g : History) × (D.history disk.new ≡ Some g) × HasTrimmed t h g) }
     ensures kept { (h : History) → D.history disk.old ≡ Some h → (g : History) × (D.history disk.new ≡ Some g) × KeepsStore h g }
     ensures damaged { (h : History) (side : Side) (at : ℕ) → D.history disk.old ≡ Some h → result ≡ Err (PairFault.Damaged side at) → outer_damage (reads h) ≡ Some (side, at) }
-    ensures unchanged { (h : History) (why : PairFault) → D.history disk.old ≡ Some h → result ≡ Err why → (why ≡ PairFault.DiskFault) ⊎ ((g : History) × (D.history disk.new ≡ Some g) × LeavesFiles h g) }
-    ensures seven { IfOk result (λ t. t.bytes ≡ 0 → D.moment disk.new ≡ D.moment disk.old + 7) }
+    ensures err { (h : History) (why : PairFault) → D.history disk.old ≡ Some h → result ≡ Err why → (why ≡ PairFault.DiskFault) ⊎ ((g : History) × (D.history disk.new ≡ Some g) × LeavesFiles h g) }
+    ensures elapsed { IfOk result (λ t. t.bytes ≡ 0 → D.moment disk.new ≡ D.moment disk.old + 7) }
     ensures calls { CallsOn (D.history disk.old) (D.moment disk.old) (D.faults disk.old) (D.history disk.new) (D.moment disk.new) (D.faults disk.new) (result ≡ Err PairFault.DiskFault) }
     ensures calm { OnOk result (D.faults disk.new ≡ D.faults disk.old) }
-    ensures few { D.moment disk.new ≤ D.moment disk.old + 15 }
+    ensures moments { D.moment disk.new ≤ D.moment disk.old + 15 }
 {
     let side = find_spare(alloc, disk)?;
     let cut = cut_side(alloc, disk, side);

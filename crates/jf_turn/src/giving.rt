@@ -47,7 +47,7 @@ pub(crate) fn bring<V: Told>(
     requires holds { (l : _) × (more : _) × (token.old.me.0.stage ≡ Holding l) × (V.list value ≡ l ++ more) × ((e : V.Entry) → HasElement more e → V.names e ≡ token.old.me.0.number) }
     requires empty { (token.old.me.1 ≡ (0, None) ∷ []) × HasElement token.old.me.0.numbers token.old.me.0.number }
     requires start { token.old.me.0.start ≡ Some (V.start value) }
-    requires few { length (V.list value) ≤ 4611686018427387904 }
+    requires bounded { length (V.list value) ≤ 4611686018427387904 }
     ensures { (token.new.table_id ≡ token.old.table_id) × (token.new.me ≡ (released_seat token.old.me.0 (V.list value), [])) }
 {
     let count = value.entry_count();

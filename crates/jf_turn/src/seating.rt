@@ -49,7 +49,7 @@ pub(crate) fn join<V: Told>(
 )
     requires own { (token.old.table_id ≡ turn.now.id) × (other.table_id ≡ turn.now.id) }
     requires idle { (token.old.me.0.stage ≡ Idle) × (token.old.me.1 ≡ []) × (other.me.0.stage ≡ Idle) × (other.me.1 ≡ []) }
-    ensures both { (token.new.table_id ≡ token.old.table_id) × (token.new.me ≡ (views_joined token.old.me.0 other.me.0, [])) }
+    ensures joined { (token.new.table_id ≡ token.old.table_id) × (token.new.me ≡ (views_joined token.old.me.0 other.me.0, [])) }
     ensures prefix { StartsWith (views_joined token.old.me.0 other.me.0).seen (views_joined token.old.me.0 other.me.0).other_seen }
     ensures others { (n : ℕ) → HasElement (views_joined token.old.me.0 other.me.0).other_numbers n → (k : ℕ) (e : V.Entry) → get_elem? (views_joined token.old.me.0 other.me.0).seen k ≡ some e → V.names e ≡ n → k < length (views_joined token.old.me.0 other.me.0).other_seen }
 {

@@ -20,7 +20,7 @@ use std::alloc::Global;
 /// The leaf, if its key has nibble `n` at a depth.
 pub(crate) fn own_at(own: Option<&Link>, depth: u64, n: Nibble) -> Option<&Link>
     requires depth { depth < 64 }
-    requires few { length (content (option_copied own)) < 2 }
+    requires lone { length (content (option_copied own)) < 2 }
     ensures { content (option_copied result) ≡ with_nibble depth n (content (option_copied own.entry)) }
 {
     match own {
@@ -49,7 +49,7 @@ pub(crate) fn build(
     version: u64,
 ) -> Result<Option<Link>, Memory>
     requires depth { depth ≤ 64 }
-    requires few { length (content (option_copied own)) < 2 }
+    requires lone { length (content (option_copied own)) < 2 }
     requires parts { AreParts depth (content (option_copied own)) entries.now }
     requires hashed { AreValueHashes entries.now hashes.now }
     ensures { IfOk result (λ y. Built depth version (entries_after_batch (content (option_copied own.entry)) entries.now) y) }
@@ -83,7 +83,7 @@ pub(crate) fn build_children(
     version: u64,
 ) -> Result<Sixteen, Memory>
     requires depth { depth < 64 }
-    requires few { length (content (option_copied own)) < 2 }
+    requires lone { length (content (option_copied own)) < 2 }
     requires parts { AreParts depth (content (option_copied own)) entries.now }
     requires hashed { AreValueHashes entries.now hashes.now }
     ensures { IfOk result (λ y. AreBuilt depth version (entries_after_batch (content (option_copied own.entry)) entries.now) y) }
@@ -119,7 +119,7 @@ pub(crate) fn update_leaf(
     version: u64,
 ) -> Result<Outcome, Memory>
     requires depth { depth ≤ 64 }
-    requires few { length (content (option_copied own)) < 2 }
+    requires lone { length (content (option_copied own)) < 2 }
     requires parts { AreParts depth (content (option_copied own)) entries.now }
     requires hashed { AreValueHashes entries.now hashes.now }
     ensures { IfOk result (λ r. IsLeafOutcome depth version (content (option_copied own.entry)) entries.now r) }

@@ -21,7 +21,7 @@ use std::alloc::Global;
 /// The child with the least nibble, if there is one.
 fn first_child(children: &Sixteen) -> Option<&Link>
     ensures none { IfNone result (entries_of_children children.now ≡ []) }
-    ensures some { IfSome result (λ x. (rest : Part) × (entries_of_children children.now ≡ x.now.entries ++ rest)) }
+    ensures found { IfSome result (λ x. (rest : Part) × (entries_of_children children.now ≡ x.now.entries ++ rest)) }
 {
     children.know();
     for n in 0..16 {
@@ -39,7 +39,7 @@ pub(crate) fn rebuild(
     made: NewChildren,
     version: u64,
 ) -> Result<Option<Link>, Memory>
-    requires several { 2 ≤ length old.now.entries }
+    requires inner { 2 ≤ length old.now.entries }
     requires children { FitFrom old.now.depth 0 made.children }
     requires part { (path : ℕ → ℕ) × IsPartUnder old.now.depth path (entries_of_children made.children) }
     requires kept { SameElsewhere made.changed old.now.depth old.now.entries (entries_of_children made.children) }

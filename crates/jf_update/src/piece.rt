@@ -30,7 +30,7 @@ pub(crate) fn piece_end<V>(items: &[(Key, V)], depth: u64, n: Nibble) -> usize
 
 /// The hashes from place `start` up to place `end`.
 pub(crate) fn hashes_in(hashes: &[Hash], start: usize, end: usize) -> &[Hash]
-    requires rising { start ≤ end }
+    requires order { start ≤ end }
     requires within { end ≤ length hashes.now }
     ensures { result.now ≡ take (end - start) (drop start hashes.now) }
 {
@@ -46,7 +46,7 @@ pub(crate) fn pieces_in(
     requires depth { depth < 64 }
     requires part { (path : ℕ → ℕ) × IsPartUnder depth path entries.now }
     ensures cut { IfOk result (λ ps. ArePieces depth entries.now ps.items) }
-    ensures each { IfOk result (λ ps. AllByRecursion (IsPieceOf depth entries.now) ps.items) }
+    ensures pieces { IfOk result (λ ps. AllByRecursion (IsPieceOf depth entries.now) ps.items) }
 {
     pieces_of(alloc, entries, depth as usize)
 }
@@ -55,7 +55,7 @@ pub(crate) fn pieces_in(
 /// down, but at least one.
 pub(crate) fn workers_each(workers: Workers, pieces: usize) -> Workers
     ensures no_pieces { pieces ≡ 0 → result ≡ 1 }
-    ensures one_each { workers ≤ pieces → result ≡ 1 }
+    ensures enough { workers ≤ pieces → result ≡ 1 }
     ensures divided { 1 ≤ pieces → pieces < workers → result ≡ workers / pieces }
     ensures shared { (result ≡ 1) ⊎ (result * pieces ≤ workers) }
 {

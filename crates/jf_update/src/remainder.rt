@@ -50,7 +50,7 @@ fn is_first_key(key: &Key, entries: &[(Key, Option<SharedBytes>)]) -> bool
 /// The place of the first change that puts a value.
 fn first_put(entries: &[(Key, Option<SharedBytes>)]) -> Option<usize>
     ensures none { IfNone result (puts entries.now ≡ []) }
-    ensures some { IfSome result (IsFirstPut entries.now) }
+    ensures found { IfSome result (IsFirstPut entries.now) }
 {
     for (i, change) in entries.iter().enumerate() {
         if change.1.is_some() {
@@ -66,7 +66,7 @@ fn kept_of<'a>(
     entries: &[(Key, Option<SharedBytes>)],
     depth: u64,
 ) -> Option<&'a Link>
-    requires few { length (content (option_copied own)) < 2 }
+    requires lone { length (content (option_copied own)) < 2 }
     requires parts { AreParts depth (content (option_copied own)) entries.now }
     ensures entry { IsKeptEntry (content (option_copied own.entry)) entries.now (content (option_copied result)) }
     ensures own { IfSome result (λ x. (x.now.entries ≡ content (option_copied own.entry)) × (1 ≤ length x.now.entries)) }
@@ -114,7 +114,7 @@ pub(crate) fn remainder_of<'a>(
     hashes: &'a [Hash],
     depth: u64,
 ) -> Remainder<'a>
-    requires few { length (content (option_copied own)) < 2 }
+    requires lone { length (content (option_copied own)) < 2 }
     requires parts { AreParts depth (content (option_copied own)) entries.now }
     requires hashed { AreValueHashes entries.now hashes.now }
     ensures { ShowsRemainder (content (option_copied own.entry)) (entries_after_batch (content (option_copied own.entry)) entries.now) result }
@@ -134,8 +134,8 @@ pub(crate) fn remainder_of<'a>(
 
 /// Whether there is no leaf.
 fn is_vacant(own: Option<&Link>) -> bool
-    ensures same { result ≡ true → content (option_copied own.entry) ≡ [] }
-    ensures other { result ≡ false → ¬ (content (option_copied own.entry) ≡ []) }
+    ensures yes { result ≡ true → content (option_copied own.entry) ≡ [] }
+    ensures no { result ≡ false → ¬ (content (option_copied own.entry) ≡ []) }
 {
     match own {
         None => true,
@@ -148,8 +148,8 @@ fn is_vacant(own: Option<&Link>) -> bool
 
 /// Whether there is a leaf with this entry. Values are compared, and no hashes.
 fn is_entry(own: Option<&Link>, key: &Key, value: &SharedBytes) -> bool
-    ensures same { result ≡ true → content (option_copied own.entry) ≡ (key.now, value.now) ∷ [] }
-    ensures other { result ≡ false → ¬ (content (option_copied own.entry) ≡ (key.now, value.now) ∷ []) }
+    ensures yes { result ≡ true → content (option_copied own.entry) ≡ (key.now, value.now) ∷ [] }
+    ensures no { result ≡ false → ¬ (content (option_copied own.entry) ≡ (key.now, value.now) ∷ []) }
 {
     match own {
         None => false,
@@ -171,11 +171,11 @@ pub(crate) fn is_unchanged(
     hashes: &[Hash],
     depth: u64,
 ) -> bool
-    requires few { length (content (option_copied own)) < 2 }
+    requires lone { length (content (option_copied own)) < 2 }
     requires parts { AreParts depth (content (option_copied own)) entries.now }
     requires hashed { AreValueHashes entries.now hashes.now }
-    ensures same { result ≡ true → entries_after_batch (content (option_copied own.entry)) entries.now ≡ content (option_copied own.entry) }
-    ensures other { result ≡ false → ¬ (entries_after_batch (content (option_copied own.entry)) entries.now ≡ content (option_copied own.entry)) }
+    ensures yes { result ≡ true → entries_after_batch (content (option_copied own.entry)) entries.now ≡ content (option_copied own.entry) }
+    ensures no { result ≡ false → ¬ (entries_after_batch (content (option_copied own.entry)) entries.now ≡ content (option_copied own.entry)) }
 {
     match remainder_of(own, entries, hashes, depth) {
         Remainder::Nothing => is_vacant(own),

@@ -37,7 +37,7 @@ fn place_built(
     version: u64,
 ) -> Result<Sixteen, Memory>
     requires depth { depth < 64 }
-    requires few { length (content (option_copied own)) < 2 }
+    requires lone { length (content (option_copied own)) < 2 }
     requires parts { AreParts depth (content (option_copied own)) entries.now }
     requires hashed { AreValueHashes entries.now hashes.now }
     requires pieces { ArePieces depth entries.now pieces.now }
@@ -75,7 +75,7 @@ fn build_wide<H: Threads + Sync, G: Gate>(
     gate: &G,
 ) -> Result<Option<Link>, Memory>
     requires depth { depth ≤ 64 }
-    requires few { length (content (option_copied own)) < 2 }
+    requires lone { length (content (option_copied own)) < 2 }
     requires parts { AreParts depth (content (option_copied own)) entries.now }
     requires hashed { AreValueHashes entries.now hashes.now }
     ensures { IfOk result (λ y. Built depth version (entries_after_batch (content (option_copied own.entry)) entries.now) y) }
@@ -117,7 +117,7 @@ fn build_pieces<H: Threads + Sync, G: Gate>(
     gate: &G,
 ) -> Result<Sixteen, Memory>
     requires depth { depth < 64 }
-    requires few { length (content (option_copied own)) < 2 }
+    requires lone { length (content (option_copied own)) < 2 }
     requires parts { AreParts depth (content (option_copied own)) entries.now }
     requires hashed { AreValueHashes entries.now hashes.now }
     ensures { IfOk result (λ y. AreBuilt depth version (entries_after_batch (content (option_copied own.entry)) entries.now) y) }
@@ -151,7 +151,7 @@ fn build_piece<H: Threads + Sync, G: Gate>(
     gate: &G,
 ) -> Result<Option<Link>, Memory>
     requires depth { depth < 64 }
-    requires few { length (content (option_copied own)) < 2 }
+    requires lone { length (content (option_copied own)) < 2 }
     requires parts { AreParts depth (content (option_copied own)) entries.now }
     requires hashed { AreValueHashes entries.now hashes.now }
     requires piece { IsPieceOf depth entries.now piece.now }
@@ -186,7 +186,7 @@ pub(crate) fn update_leaf_wide<H: Threads + Sync, G: Gate>(
     gate: &G,
 ) -> Result<Outcome, Memory>
     requires depth { depth ≤ 64 }
-    requires few { length (content (option_copied own)) < 2 }
+    requires lone { length (content (option_copied own)) < 2 }
     requires parts { AreParts depth (content (option_copied own)) entries.now }
     requires hashed { AreValueHashes entries.now hashes.now }
     ensures { IfOk result (λ r. IsLeafOutcome depth version (content (option_copied own.entry)) entries.now r) }

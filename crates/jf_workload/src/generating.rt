@@ -41,8 +41,8 @@ pub fn run_generated<K: Sink, D: Disk, H: Threads + Wait + Sync, G: Gate>(
     requires lines { length script ≤ max_lines }
     ensures own { IsPassOf result.pass store.now × (result.pass.number ≡ pass.number) }
     ensures ran { HasRunScript result.end store.now.start script pass result.pass (K.text sink.old) (K.text sink.new) }
-    ensures write { result.end ≡ End.WriteFault → HasCause (K.faults sink.old) (K.faults sink.new) }
-    ensures sink_counts { K.faults sink.old ≤ K.faults sink.new }
+    ensures cause { result.end ≡ End.WriteFault → HasCause (K.faults sink.old) (K.faults sink.new) }
+    ensures counts { K.faults sink.old ≤ K.faults sink.new }
 {
     let mut session = Session::new(alloc, pass);
     session.know_own(store);

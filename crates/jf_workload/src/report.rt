@@ -13,8 +13,8 @@ use std::alloc::Global;
 /// Writes what the mode writes of the replies that were counted, and returns how the run ends with that.
 pub(crate) fn write_report<K: Sink>(alloc: Global, tally: &ReplyTally, sink: &mut K) -> End
     ensures reported { HasReported result (written_of tally.now) (K.text sink.old) (K.text sink.new) }
-    ensures write { result ≡ End.WriteFault → HasCause (K.faults sink.old) (K.faults sink.new) }
-    ensures sink_counts { K.faults sink.old ≤ K.faults sink.new }
+    ensures cause { result ≡ End.WriteFault → HasCause (K.faults sink.old) (K.faults sink.new) }
+    ensures counts { K.faults sink.old ≤ K.faults sink.new }
 {
     let mut report = Bytes::new(alloc);
     if let Err(Memory) = tally.write(&mut report) {

@@ -62,7 +62,7 @@ fn parted_node(alloc: Global, depth: u64, low: &Key, high: &Key) -> Result<Link,
 fn over_one(alloc: Global, depth: u64, n: Nibble, link: Link) -> Result<Link, Memory>
     requires depth { depth < 64 }
     requires fits { FitsAt depth n (Some link) }
-    requires several { 2 ≤ length link.entries }
+    requires inner { 2 ≤ length link.entries }
     requires alike { BeginAlike depth link.entries }
     ensures entries { IfOk result (λ x. x.entries ≡ link.entries) }
     ensures depth { IfOk result (λ x. x.depth ≡ depth) }

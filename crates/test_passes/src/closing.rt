@@ -76,10 +76,10 @@ fn run_two<H: Threads + Wait + Sync>(
     run: Run,
 ) -> bool
     requires new { AreNewPasses store.now passes.old.items 0 }
-    requires two { length passes.old.items ≡ 2 }
-    requires both { store.now.start.passes ≡ 2 }
+    requires pair { length passes.old.items ≡ 2 }
+    requires passes { store.now.start.passes ≡ 2 }
     ensures own { ArePassesOf store.now passes.new.items }
-    ensures all { AreAllPasses store.now passes.new.items }
+    ensures gathered { AreAllPasses store.now passes.new.items }
 {
     let (front, back) = passes.as_mut_slice().split_at_mut(1);
     run_on(rt, alloc, store, &mut front[0], &mut back[0], run)

@@ -74,9 +74,9 @@ fn new_turn(
 // Joins all seats into one, which stands for the numbers of all.
 fn gather(turn: &Turn<Marks>, mut seats: Vec<Seat<Marks>>) -> Seat<Marks>
     requires new { AreNewSeats turn.now seats.items 0 }
-    requires many { (length seats.items ≡ turn.now.seats) × (1 ≤ turn.now.seats) }
+    requires seats { (length seats.items ≡ turn.now.seats) × (1 ≤ turn.now.seats) }
     ensures own { IsSeatOf result turn.now × (result.taken ≡ None) }
-    ensures all { (n : ℕ) → n < turn.now.seats → HasElement result.numbers n }
+    ensures gathered { (n : ℕ) → n < turn.now.seats → HasElement result.numbers n }
 {
     let Some(mut seat) = seats.pop() else {
         unreachable!()
@@ -90,7 +90,7 @@ fn gather(turn: &Turn<Marks>, mut seats: Vec<Seat<Marks>>) -> Seat<Marks>
 // Joins the seats and ends the turn.
 fn close_at_once(turn: Turn<Marks>, seats: Vec<Seat<Marks>>) -> Marks
     requires new { AreNewSeats turn seats.items 0 }
-    requires many { (length seats.items ≡ turn.seats) × (1 ≤ turn.seats) }
+    requires seats { (length seats.items ≡ turn.seats) × (1 ≤ turn.seats) }
 {
     let seat = gather(&turn, seats);
     turn.close(seat)

@@ -48,10 +48,10 @@ fn play_one<H: Threads + Wait + Sync>(
     play: Play,
 ) -> Result<(), usize>
     requires new { AreNewPasses store.now passes.old.items 0 }
-    requires one { length passes.old.items ≡ 1 }
-    requires only { store.now.start.passes ≡ 1 }
+    requires single { length passes.old.items ≡ 1 }
+    requires alone { store.now.start.passes ≡ 1 }
     ensures own { ArePassesOf store.now passes.new.items }
-    ensures all { AreAllPasses store.now passes.new.items }
+    ensures gathered { AreAllPasses store.now passes.new.items }
 {
     match passes.as_mut_slice() {
         [pass] => play_on(rt, alloc, store, pass, play),

@@ -10,11 +10,11 @@ shown_by-requires c =
     let read = c.in-Ok.ensures.read (history_of c.args.disk.now) refl in
     subst (λ xs. end_of c.in-Ok.log.records ≤ length xs - 1) (sym c.bytes.ensures) (end_within _ c.in-Ok.log.records read.held)
 
-pub returns-in-Ok-clause-same : goal.returns-in-Ok-clause-same
-returns-in-Ok-clause-same c = still_now (history_of c.args.disk.now) (history_of c.read_all.new.disk) (c.in-Ok.ensures.idle (history_of c.args.disk.now) refl)
+pub returns-in-Ok-clause-unchanged : goal.returns-in-Ok-clause-unchanged
+returns-in-Ok-clause-unchanged c = still_now (history_of c.args.disk.now) (history_of c.read_all.new.disk) (c.in-Ok.ensures.idle (history_of c.args.disk.now) refl)
 
-pub returns-in-Err-Damaged-clause-same : goal.returns-in-Err-Damaged-clause-same
-returns-in-Err-Damaged-clause-same c = still_now (history_of c.args.disk.now) (history_of c.read_all.new.disk) (c.in-Err-Damaged.ensures.idle (history_of c.args.disk.now) refl)
+pub returns-in-Err-Damaged-clause-unchanged : goal.returns-in-Err-Damaged-clause-unchanged
+returns-in-Err-Damaged-clause-unchanged c = still_now (history_of c.args.disk.now) (history_of c.read_all.new.disk) (c.in-Err-Damaged.ensures.idle (history_of c.args.disk.now) refl)
 
 pub returns-in-Err-DiskFault : goal.returns-in-Err-DiskFault
 returns-in-Err-DiskFault c = record { shown = tt; same = still_now (history_of c.args.disk.now) (history_of c.read_all.new.disk) (c.read_all.ensures.idle (history_of c.args.disk.now) refl) }

@@ -6,10 +6,10 @@ use Rattle.jf_codec.proofs.Counted.{small_nibbles}
 use Rattle.jf_codec.proofs.Lengths.{few_children, whole_hashes}
 use Rattle.jf_codec.proofs.length.node_len.Goals as goal
 
-pub inner_len-requires-clause-few : goal.inner_len-requires-clause-few
-inner_len-requires-clause-few c =
+pub inner_len-requires-clause-bounded : goal.inner_len-requires-clause-bounded
+inner_len-requires-clause-bounded c =
     let sound = subst (λ n. IsNode c.args.format (in_format c.args.format n)) c.in-Inner.is c.requires in
-    rw c.as_slice.ensures.value (few_children _ c.as_slice.ensures.rise (small_nibbles c.args.format _ sound))
+    rw c.as_slice.ensures.value (few_children _ c.as_slice.ensures.sorted (small_nibbles c.args.format _ sound))
 
 pub inner_len-requires-clause-hashes : goal.inner_len-requires-clause-hashes
 inner_len-requires-clause-hashes c =

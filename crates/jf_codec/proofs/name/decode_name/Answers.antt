@@ -6,5 +6,5 @@ use Rattle.jf_codec.proofs.name.decode_name.Goals as goal
 pub returns-clause-found : goal.returns-clause-found
 returns-clause-found c = is_name_found c.args.bytes.now c.measured_name.result (λ i. omega (arith, c.type_inv.bytes i)) c.measured_name.ensures
 
-pub returns-clause-only : goal.returns-clause-only
-returns-clause-only c = is_only_name c.args.bytes.now c.measured_name.result c.measured_name.ensures
+pub returns-clause-spelled : goal.returns-clause-spelled
+returns-clause-spelled c = is_only_name c.args.bytes.now c.measured_name.result c.measured_name.ensures

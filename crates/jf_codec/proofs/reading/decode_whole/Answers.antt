@@ -6,5 +6,5 @@ use Rattle.jf_codec.proofs.reading.decode_whole.Goals as goal
 pub returns-clause-found : goal.returns-clause-found
 returns-clause-found c = is_whole_found c.args.bytes.now c.whole_of.result (λ i. omega (arith, c.type_inv.bytes i)) c.whole_of.ensures
 
-pub returns-clause-only : goal.returns-clause-only
-returns-clause-only c = is_only_whole c.args.bytes.now c.whole_of.result c.whole_of.ensures
+pub returns-clause-spelled : goal.returns-clause-spelled
+returns-clause-spelled c = is_only_whole c.args.bytes.now c.whole_of.result c.whole_of.ensures

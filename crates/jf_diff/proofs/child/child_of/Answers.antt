@@ -6,4 +6,4 @@ pub returns-in-Leaf : goal.returns-in-Leaf
 returns-in-Leaf c = leaf_below c.args.link.now c.args.n _ _ _ c.in-Leaf.ensures.shows
 
 pub returns-in-Inner : goal.returns-in-Inner
-returns-in-Inner c = inner_below c.args.link.now c.args.n c.in-Inner.children.now (option_copied c.get.result) c.in-Inner.ensures.shows c.know.ensures.each c.get.ensures
+returns-in-Inner c = inner_below c.args.link.now c.args.n c.in-Inner.children.now (option_copied c.get.result) c.in-Inner.ensures.shows c.know.ensures.links c.get.ensures

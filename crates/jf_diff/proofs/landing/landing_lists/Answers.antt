@@ -16,7 +16,7 @@ returns-clause-fresh g c = landed_nodes c.args.old.now c.args.new.now (option_co
 pub returns-clause-stale : goal.returns-clause-stale
 returns-clause-stale g c = landed_names c.args.old.now c.args.new.now (option_copied c.top-was.result) (option_copied c.top-top.result) c.version.result _ c.top-was.ensures c.top-top.ensures c.version.ensures c.in_ok-lists.ensures.stale
 
-pub returns-clause-bound : goal.returns-clause-bound
-returns-clause-bound g c =
+pub returns-clause-bounded : goal.returns-clause-bounded
+returns-clause-bounded g c =
     written_count c.args.old.now c.args.new.now _ c.know.ensures
     (landed_nodes c.args.old.now c.args.new.now (option_copied c.top-top.result) c.version-version.result _ c.know.ensures c.top-top.ensures c.requires.next c.version-version.ensures c.in_ok-lists.ensures.fresh)

@@ -34,6 +34,6 @@ returns-clause-fresh c = landed_nodes c.args.old.now c.args.new.now (option_copi
 pub returns-clause-stale : goal.returns-clause-stale
 returns-clause-stale c = landed_names c.args.old.now c.args.new.now (option_copied c.top-2.result) (option_copied c.top-3.result) c.version-2.result _ c.top-2.ensures c.top-3.ensures c.version-2.ensures c.in_ok-stale.ensures
 
-pub returns-clause-bound : goal.returns-clause-bound
-returns-clause-bound c =
+pub returns-clause-bounded : goal.returns-clause-bounded
+returns-clause-bounded c =
     written_count c.args.old.now c.args.new.now _ c.know.ensures (landed_nodes c.args.old.now c.args.new.now (option_copied c.top.result) c.version.result _ c.know.ensures c.top.ensures c.requires.next c.version.ensures c.in_ok-fresh.ensures)

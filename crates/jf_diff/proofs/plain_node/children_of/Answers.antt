@@ -12,7 +12,7 @@ push-requires c = children_rise c.args.link.now c.loop-n.n c.loop-n.list _ c.loo
 pub loop-n-preserved : goal.loop-n-preserved
 loop-n-preserved c =
     let x = c.args.link.now in
-    let below = inner_below x c.of-nibble.result c.branches_of-children.result.now (option_copied c.get.result) c.branches_of-children.ensures c.know.ensures.each c.get.ensures in
+    let below = inner_below x c.of-nibble.result c.branches_of-children.result.now (option_copied c.get.result) c.branches_of-children.ensures c.know.ensures.links c.get.ensures in
     each_more c.loop-n.n (child_in_node true (versions_below x) x.depth x.entries) c.loop-n.list c.match-get.list c.loop-n.invariant
     (elim c.match-get.branch [
       | in-Some+in_ok-push w ↦ w.list-is ∙ w.in_ok-push.ensures.ok

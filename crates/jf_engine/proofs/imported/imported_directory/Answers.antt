@@ -11,13 +11,13 @@ use Rattle.jf_engine.proofs.Imports.{restored-room, restored-imported, restored-
 use Rattle.jf_engine.proofs.imported.imported_directory.Goals as goal
 
 pub of-requires-clause-room : goal.of-requires-clause-room
-of-requires-clause-room c = restored-room c.args.version c.as_slice.result.now _ c.in_ok-snapshot.snapshot c.in_ok-snapshot.ensures (subst (λ (es : List (List ℕ × List ℕ)). length es ≤ 2 ^ 62) (sym c.as_slice.ensures) c.requires.few)
+of-requires-clause-room c = restored-room c.args.version c.as_slice.result.now _ c.in_ok-snapshot.snapshot c.in_ok-snapshot.ensures (subst (λ (es : List (List ℕ × List ℕ)). length es ≤ 2 ^ 62) (sym c.as_slice.ensures) c.requires.room)
 
 pub returns-clause-versions : goal.returns-clause-versions
 returns-clause-versions c =
     restored-imported c.args.version c.as_slice.result.now _ c.in_ok-snapshot.snapshot c.in_ok-directory.directory c.in_ok-snapshot.ensures c.know.ensures
-    (subst (λ (es : List (List ℕ × List ℕ)). T (is_sorted key_cmp es)) (sym c.as_slice.ensures) c.requires.sorted) c.requires.last
-    (subst (λ (es : List (List ℕ × List ℕ)). length es ≤ 2 ^ 62) (sym c.as_slice.ensures) c.requires.few) c.in_ok-directory.ensures
+    (subst (λ (es : List (List ℕ × List ℕ)). T (is_sorted key_cmp es)) (sym c.as_slice.ensures) c.requires.sorted) c.requires.bounded
+    (subst (λ (es : List (List ℕ × List ℕ)). length es ≤ 2 ^ 62) (sym c.as_slice.ensures) c.requires.room) c.in_ok-directory.ensures
     ∙ ap (λ es. imported_versions c.args.version (map_of_entries es)) c.as_slice.ensures
 
 pub returns-clause-standing : goal.returns-clause-standing

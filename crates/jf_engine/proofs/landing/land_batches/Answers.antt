@@ -34,4 +34,4 @@ loop-batch-preserved g c =
 pub returns-clause-spelled : goal.returns-clause-spelled
 returns-clause-spelled g c =
     let so = at_end c.args.directory.now c.args.batches.now c.loop-batch.batch-index c.loop-batch.landings.items c.loop-batch.directory c.loop-batch.invariant c.loop-batch-test.false in
-    record-spelled c.args.directory.now c.args.batches.now (subst (AllByRecursion (IsCommit format.Two)) so.written so.spelled) c.requires.any c.requires.forks
+    record-spelled c.args.directory.now c.args.batches.now (subst (AllByRecursion (IsCommit format.Two)) so.written so.spelled) c.requires.positive c.requires.forks

@@ -22,5 +22,5 @@ returns-clause-spelled g c =
     let fresh : length c.in_ok-next.next.fresh < 2 ^ 64 = search rules in
     let stale : length c.in_ok-next.next.stale < 2 ^ 64 = search rules in
     c.landings_are_spelled.ensures format.Two dir m c.know.ensures.read.keys (subst IsMap {y = m} made.map known.map)
-    (subst (λ (k : Map). AllByRecursion (λ (e : List ℕ × List ℕ). length e.1 ≤ max_value) (entries k)) {y = m} made.map known.short) bounded c.requires.last
+    (subst (λ (k : Map). AllByRecursion (λ (e : List ℕ × List ℕ). length e.1 ≤ max_value) (entries k)) {y = m} made.map known.short) bounded c.requires.bounded
     (subst (λ xs. length xs < 2 ^ 64) {y = written.fresh} made.fresh fresh) (subst (λ xs. length xs < 2 ^ 64) {y = written.stale} made.stale stale)

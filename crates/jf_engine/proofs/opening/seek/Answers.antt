@@ -15,8 +15,8 @@ use Rattle.jf_engine.proofs.opening.seek.Goals as goal
 pub read_store-requires-clause-begun : goal.read_store-requires-clause-begun
 read_store-requires-clause-begun g c κs within = (subst (λ (l : Option Log). IfSome l (λ log. (is_begun log.records ≡ true) × (0 < length log.records))) c.in-Some.is c.in-Ok.ensures.begun).0
 
-pub read_store-requires-clause-some : goal.read_store-requires-clause-some
-read_store-requires-clause-some g c κs within = (subst (λ (l : Option Log). IfSome l (λ log. (is_begun log.records ≡ true) × (0 < length log.records))) c.in-Some.is c.in-Ok.ensures.begun).1
+pub read_store-requires-clause-positive : goal.read_store-requires-clause-positive
+read_store-requires-clause-positive g c κs within = (subst (λ (l : Option Log). IfSome l (λ log. (is_begun log.records ≡ true) × (0 < length log.records))) c.in-Some.is c.in-Ok.ensures.begun).1
 
 pub returns-in_ok-found-in-Some-clause-sought : goal.returns-in_ok-found-in-Some-clause-sought
 returns-in_ok-found-in-Some-clause-sought g c =

@@ -112,4 +112,4 @@ returns-clause-pairs g t c level small long =
     let right = c.refresh-right.ensures.pairs (level - 1) (omega arith) (back ∙ h.is) ∙ ap₂ (λ xs bs. c.refresh-left.new.steps + pairs_within (level - 1) xs bs) (right_half half width start slots in_half) (right_half half width start changed in_half) in
     let many = sym (c.is_many.ensures slots c.requires.children c.requires.leaves) ∙ c.if-not-is_many.false in
     let whole = pairs_within-halves level half places changes some h.is (has_change-counted changes (λ none. c.if-count-eq0.false (c.count.ensures ∙ none))) many in
-    omega (arith, c.hash_pair-hash.ensures.counted, left, right, whole)
+    omega (arith, c.hash_pair-hash.ensures.cost, left, right, whole)

@@ -12,7 +12,7 @@ returns-in-Ok-clause-ok g c = λ whole given.
     let on : HandsOn (g.K.Sink.text c.args.sink.now) (g.K.Sink.text c.hand_on_if.new.sink) c.args.out.now c.hand_on_if.new.out = from_ok c.hand_on_if.result ok c.hand_on_if.ensures.ok in
     let known : (g.M.LineMachine.quiet c.args.machine.now c.take_line.new.self × (length c.args.out.now < max_gathered)) ⊎ (c.hand_on_if.new.out ≡ []) = from_test c.is_due_before-is_due.result
     (λ no. let few = c.is_due_before-is_due.ensures no in (few.0 whole given _ _ step, few.1))
-    (λ yes. from_ok c.hand_on_if.result ok (c.hand_on_if.ensures.all yes)) in
+    (λ yes. from_ok c.hand_on_if.result ok (c.hand_on_if.ensures.empty yes)) in
     (t.0, step, gathers_line g.M.LineMachine.quiet on known t.1)
 
 pub returns-then-is_err-2-clause-err : goal.returns-then-is_err-2-clause-err
@@ -22,6 +22,6 @@ returns-then-is_err-2-clause-err g c = λ whole given.
     let on : HandsOn (g.K.Sink.text c.args.sink.now) (g.K.Sink.text c.hand_on_if.new.sink) c.args.out.now c.hand_on_if.new.out = from_ok c.hand_on_if.result ok c.hand_on_if.ensures.ok in
     let known : (g.M.LineMachine.quiet c.args.machine.now c.take_line.new.self × (length c.args.out.now < max_gathered)) ⊎ (c.hand_on_if.new.out ≡ []) = from_test c.is_due_before-is_due.result
     (λ no. let few = c.is_due_before-is_due.ensures no in (few.0 whole given _ _ step, few.1))
-    (λ yes. from_ok c.hand_on_if.result ok (c.hand_on_if.ensures.all yes)) in
+    (λ yes. from_ok c.hand_on_if.result ok (c.hand_on_if.ensures.empty yes)) in
     let cut : IsCutShort (g.K.Sink.text c.hand_on_if.new.sink) (g.K.Sink.text c.hand_on.new.sink) c.take_line.new.out = from_err c.hand_on.result (sym c.is_err-in-Err.ensures.value ∙ c.if-is_err-2.true) c.hand_on.ensures.cut_short in
     stops_cut g.M.LineMachine.quiet on known g.M.LineMachine.takes whole (Err c.in-Err.why) c.in-Err.ensures.silent cut step

@@ -14,7 +14,7 @@ returns-in-Ok-clause-ok g c =
       λ whole given.
           let step = t.2 whole given in
           let known : (g.M.LineMachine.quiet c.args.machine.now c.take_line.new.self × (length c.args.out.now < max_gathered)) ⊎ (c.put_through_if.new.out ≡ []) = from_test c.is_due_before-is_due.result
-          (λ no. let few = c.is_due_before-is_due.ensures no in (few.0 whole given _ _ step, few.1)) c.put_through_if.ensures.all in
+          (λ no. let few = c.is_due_before-is_due.ensures no in (few.0 whole given _ _ step, few.1)) c.put_through_if.ensures.empty in
           (t.0, step, gathers_line g.M.LineMachine.quiet p.2 known t.1),
     )
 

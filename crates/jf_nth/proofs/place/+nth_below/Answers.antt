@@ -19,7 +19,7 @@ pub returns-then-left-count-clause-cost : goal.returns-then-left-count-clause-co
 returns-then-left-count-clause-cost g t c =
     let shows = c.in-Inner.ensures.shows in
     let deeper = child-deeper c.args.link.now c.in-Inner.children.now c.loop-n.n c.in-Some.child.now shows c.loop-n-test.true c.in-Some.ensures.child in
-    omega (arith, deeper, shows.children.deep, c.nth_below.ensures.cost, c.look_at.ensures.step, c.loop-n.invariant.steps, c.loop-n-test.true)
+    omega (arith, deeper, shows.children.deep, c.nth_below.ensures.cost, c.look_at.ensures.cost, c.loop-n.invariant.steps, c.loop-n-test.true)
 
 pub loop-n-preserved : goal.loop-n-preserved
 loop-n-preserved g t c =
@@ -31,7 +31,7 @@ loop-n-preserved g t c =
         | in-Some+else-left-count w ↦ behind-child x links c.loop-n.n c.loop-n.left c.match-look_at.left c.args.place w.in-Some.child.now c.in-Inner.ensures.shows c.loop-n-test.true w.in-Some.ensures.child i.at (omega (arith, w.left-is, w.count-count.ensures, w.if-left-count.false))
         | in_default w ↦ behind-none x links c.loop-n.n c.match-look_at.left c.args.place c.in-Inner.ensures.shows c.loop-n-test.true w.in_default.ensures.child (omega (arith, i.at, w.left-is))
       ];
-      steps = omega (arith, c.look_at.ensures.step, i.steps);
+      steps = omega (arith, c.look_at.ensures.cost, i.steps);
     }
 
 pub returns-after-loop-n-clause-entry : goal.returns-after-loop-n-clause-entry

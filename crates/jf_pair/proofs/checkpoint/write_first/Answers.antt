@@ -11,7 +11,7 @@ use Rattle.jf_pair.proofs.checkpoint.write_first.Goals as goal
 pub returns-clause-ok : goal.returns-clause-ok
 returns-clause-ok g c = λ h kind payload told is.
     let w = c.args.log.now.side in
-    let same : c.begin.new.self.side ≡ w = c.in_ok-begin.ensures.same.side in
+    let same : c.begin.new.self.side ≡ w = c.in_ok-begin.ensures.rest.side in
     let zero : c.begin.new.self.offset ≡ 0 = c.in_ok-begin.ensures.offset in
     let x = c.in_ok-begin.ensures.ok h told in
     let ready = subst (λ s. IsReady s c.begin.new.self.offset [] x.0.now) (sym same) (subst (λ n. IsReady w n [] x.0.now) (sym zero) x.2) in
@@ -23,7 +23,7 @@ pub returns-clause-written : goal.returns-clause-written
 returns-clause-written g c = λ h told.
     let w = c.args.log.now.side in
     let frame = c.args.frame.now in
-    let same : c.begin.new.self.side ≡ w = c.in_ok-begin.ensures.same.side in
+    let same : c.begin.new.self.side ≡ w = c.in_ok-begin.ensures.rest.side in
     let zero : c.begin.new.self.offset ≡ 0 = c.in_ok-begin.ensures.offset in
     let x = c.in_ok-begin.ensures.bytes h told in
     let bytes = (content_on w h.now).bytes in
@@ -35,12 +35,12 @@ returns-clause-written g c = λ h told.
     {Q = (k : History) × (g.D.Disk.history c.append.new.disk ≡ Some k) × ((content_on w k.now).bytes ≡ 1 ∷ frame)}
     c.append.result
     (λ y. (y.0, y.1, ap (λ s. (content_on s y.0.now).bytes) (sym same) ∙ y.2 ∙ all))
-    (c.append.ensures.written x.0 [] c.requires.whole.0 c.requires.whole.1 x.1 ready c.requires.whole.2)
+    (c.append.ensures.written x.0 [] c.requires.framed.0 c.requires.framed.1 x.1 ready c.requires.framed.2)
 
 pub returns-clause-stop : goal.returns-clause-stop
 returns-clause-stop g c = λ h kind payload told is.
     let w = c.args.log.now.side in
-    let same : c.begin.new.self.side ≡ w = c.in_ok-begin.ensures.same.side in
+    let same : c.begin.new.self.side ≡ w = c.in_ok-begin.ensures.rest.side in
     let zero : c.begin.new.self.offset ≡ 0 = c.in_ok-begin.ensures.offset in
     let x = c.in_ok-begin.ensures.ok h told in
     let s = c.begin.ensures.stop h told in
@@ -51,11 +51,11 @@ returns-clause-stop g c = λ h kind payload told is.
     let z = first_stops w h s.0 y.0 (appended_record 0 kind payload) s.2 (subst (λ k. StopsInAppend w k y.0 [] (appended_record 0 kind payload)) now stop) in
     (y.0, y.1, z.0, z.1)
 
-pub returns-clause-four_or_more : goal.returns-clause-four_or_more
-returns-clause-four_or_more g c =
+pub returns-clause-elapsed : goal.returns-clause-elapsed
+returns-clause-elapsed g c =
     on_ok_weaker
     {P = g.D.Disk.moment c.append.new.disk ≡ g.D.Disk.moment c.begin.new.disk + 4}
     {Q = g.D.Disk.moment c.args.disk.now + 4 ≤ g.D.Disk.moment c.append.new.disk}
     c.append.result
     (λ four. let later = c.in_ok-begin.ensures.calls.later in omega arith)
-    c.append.ensures.four
+    c.append.ensures.elapsed

@@ -12,5 +12,5 @@ returns-clause-found c = is_found c.args.format c.args.kind c.args.payload.now c
 pub returns-clause-bad : goal.returns-clause-bad
 returns-clause-bad c = is_bad c.args.format c.args.kind c.args.payload.now c.whole_of.result (returns-clause-exact c)
 
-pub returns-clause-only : goal.returns-clause-only
-returns-clause-only c = is_only c.args.format c.args.kind c.args.payload.now c.whole_of.result (returns-clause-exact c)
+pub returns-clause-spelled : goal.returns-clause-spelled
+returns-clause-spelled c = is_only c.args.format c.args.kind c.args.payload.now c.whole_of.result (returns-clause-exact c)

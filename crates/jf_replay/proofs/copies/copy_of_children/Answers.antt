@@ -7,4 +7,4 @@ pub push-requires : goal.push-requires
 push-requires c =
     let all = c.as_slice-child-items.result.now in
     subst (λ cs. ChildrenRiseFrom 0 (cs ++ c.child-item.result ∷ [])) (sym (c.loop-child.invariant ∙ ap (take c.loop-child.child-index) (sym c.as_slice-child-items.ensures.value)))
-    (children-next all c.loop-child.child-index _ c.child-item.result c.loop-child-test.true c.child-item.is (subst (ChildrenRiseFrom 0) (sym c.as_slice-child-items.ensures.value) c.as_slice-child-items.ensures.rise))
+    (children-next all c.loop-child.child-index _ c.child-item.result c.loop-child-test.true c.child-item.is (subst (ChildrenRiseFrom 0) (sym c.as_slice-child-items.ensures.value) c.as_slice-child-items.ensures.sorted))

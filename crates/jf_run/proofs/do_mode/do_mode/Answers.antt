@@ -131,8 +131,8 @@ pub returns-in-Generate-clause-elsewhere : goal.returns-in-Generate-clause-elsew
 returns-in-Generate-clause-elsewhere g c = λ head root ends. let ran = c.script_over-in-Generate.ensures.ran.1 in absurd (run_here ran.0 head root (sym ran.1 ∙ ends))
 
 -- ---- restore
-pub restore_over-requires-clause-last : goal.restore_over-requires-clause-last
-restore_over-requires-clause-last g c κs within = (subst KeepsLimits c.in-Restore.is c.requires.limits).0
+pub restore_over-requires-clause-bounded : goal.restore_over-requires-clause-bounded
+restore_over-requires-clause-bounded g c κs within = (subst KeepsLimits c.in-Restore.is c.requires.limits).0
 
 pub returns-in-Restore-clause-kept : goal.returns-in-Restore-clause-kept
 returns-in-Restore-clause-kept g c = completes_as _ _ _ _ _ _ _ c.in-Restore.is (c.restore_over.ensures.kept c.in-Restore.workers)

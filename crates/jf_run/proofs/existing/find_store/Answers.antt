@@ -29,7 +29,7 @@ returns-in-Ok-Absent-clause-refused g c devices =
     let r = c.without_store.ensures in
     let before = disk_of g.D.Disk c.args.disk in
     let found : HasFoundNoStore before (disk_of g.D.Disk c.in-Ok-Absent.disk) = subst (HasFoundExisting g.D.Disk before) c.in-Ok-Absent.field-0-is c.in-Ok-Absent.ensures.found in
-    absent_keeps _ c.args.mode.now c.files_stand_for_sound.ensures c.damage_is_no_versions.ensures r.start r.entries refl c.requires.only (r.status ∙ c.no_store.ensures)
+    absent_keeps _ c.args.mode.now c.files_stand_for_sound.ensures c.damage_is_no_versions.ensures r.start r.entries refl c.requires.existing (r.status ∙ c.no_store.ensures)
     (subst (λ (d : DiskView). HasFoundNoStore before d) (sym (ap (disk_of g.D.Disk) r.disk)) found) refl
 
 pub returns-in-Err-clause-refused : goal.returns-in-Err-clause-refused

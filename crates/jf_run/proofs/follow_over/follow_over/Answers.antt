@@ -27,7 +27,7 @@ returns g c = record {
       let text' = g.K.Sink.text step.new.sink in
       let came : HasFollowed step.result.how old new c.of_engine.result.entries rest rest' text text' =
       subst (λ (es : List Entry). HasFollowed step.result.how old new es rest rest' text text') (sym out.entries) did.followed in
-      let keeps = came_keeps old fresh c.landing_blocks_are_sound.ensures c.followed_is_history.ensures c.following_is_legal.ensures new c.know-2.ensures.counts.0 c.of_engine.result.entries rest rest' text text' step.result.how came in
+      let keeps = came_keeps old fresh c.landing_blocks_are_sound.ensures c.followed_is_history.ensures c.following_is_legal.ensures new c.know-2.ensures.bounded.0 c.of_engine.result.entries rest rest' text text' step.result.how came in
       followed_keeps _ head c.args.workers old new step.result.how begun (out.status ∙ c.of_followed.ensures) out.disk came keeps.0 keeps.1 keeps.2
       c.files_stand_for_one.ensures c.damage_is_no_versions.ensures c.inputs_decide.ensures dated refl refl (λ done write. ap g.K.Sink.faults (did.silent done write)) did.read did.write did.source_counts did.sink_counts;
 }

@@ -6,7 +6,7 @@ use Rattle.jf_run.proofs.history_over.history_over.Goals as goal
 
 pub returns : goal.returns
 returns g c = record {
-  resting = c.of_engine.ensures.disk;
+  resting = c.of_engine.ensures.resting;
   here = λ head root ends. history_here c.write_history-written.result head root (sym (c.of_engine.ensures.status ∙ c.of_history.ensures) ∙ ends);
   kept = λ rest source_faults before head begun dated held.
       let e = c.args.engine in

@@ -37,8 +37,8 @@ returns-in-Err-clause-read g c = λ is. absurd (let no : status.Memory ≡ statu
 pub returns-in-Err-clause-write : goal.returns-in-Err-clause-write
 returns-in-Err-clause-write g c = λ is. absurd (let no : status.Memory ≡ status.WriteFault = sym c.of_engine.ensures.status ∙ is in cc)
 
-pub close-engine-requires-clause-all : goal.close-engine-requires-clause-all
-close-engine-requires-clause-all g c κs within =
+pub close-engine-requires-clause-gathered : goal.close-engine-requires-clause-gathered
+close-engine-requires-clause-gathered g c κs within =
     let store = c.in-Ok.made.0 in
     let first = one_new store c.in-Ok.made.1.items c.pop.new.self.items c.in-Some.pass c.in-Ok.ensures.passes.0 c.in-Ok.ensures.passes.1 c.in-Some.ensures.items in
     let p = c.do_lines-pass.result.pass in

@@ -35,8 +35,8 @@ returns-in-Err-clause-served g c =
       inl (out.status, none, refl, refl),
     )
 
-pub returns-in-Err-clause-write : goal.returns-in-Err-clause-write
-returns-in-Err-clause-write g c = λ is. absurd (let no : status.Memory ≡ status.WriteFault = sym c.of_engine.ensures.status ∙ is in cc)
+pub returns-in-Err-clause-cause : goal.returns-in-Err-clause-cause
+returns-in-Err-clause-cause g c = λ is. absurd (let no : status.Memory ≡ status.WriteFault = sym c.of_engine.ensures.status ∙ is in cc)
 
 pub close-engine-requires-clause-own : goal.close-engine-requires-clause-own
 close-engine-requires-clause-own g c κs within =
@@ -45,8 +45,8 @@ close-engine-requires-clause-own g c κs within =
     new_belong c.in-Err-serve.field-0.store c.in-Err-serve.field-0.passes.items
     (subst (λ (s : Store). AreNewPasses s c.in-Err-serve.field-0.passes.items 0) (sym back.0) (subst (λ (ps : List Pass). AreNewPasses c.in-Ok.made.0 ps 0) (sym items) c.in-Ok.ensures.passes.1))
 
-pub close-engine-requires-clause-all : goal.close-engine-requires-clause-all
-close-engine-requires-clause-all g c κs within =
+pub close-engine-requires-clause-gathered : goal.close-engine-requires-clause-gathered
+close-engine-requires-clause-gathered g c κs within =
     let back = c.in-Err-serve.ensures.refused in
     let items : c.in-Err-serve.field-0.passes.items ≡ c.in-Ok.made.1.items = λ i. (back.1 i).items in
     new_are_all c.in-Err-serve.field-0.store c.in-Err-serve.field-0.passes.items
@@ -75,8 +75,8 @@ returns-in-Err-serve-clause-served g c =
       inl (out.status, none, refl, refl),
     )
 
-pub returns-in-Err-serve-clause-write : goal.returns-in-Err-serve-clause-write
-returns-in-Err-serve-clause-write g c = λ is. absurd (let no : status.Memory ≡ status.WriteFault = sym c.of_engine-in-Err-serve.ensures.status ∙ is in cc)
+pub returns-in-Err-serve-clause-cause : goal.returns-in-Err-serve-clause-cause
+returns-in-Err-serve-clause-cause g c = λ is. absurd (let no : status.Memory ≡ status.WriteFault = sym c.of_engine-in-Err-serve.ensures.status ∙ is in cc)
 
 pub returns-clause-served : goal.returns-clause-served
 returns-clause-served g c =
@@ -103,8 +103,8 @@ returns-clause-served g c =
           (served_scripts e r.engine start scripts r.outputs r.ends r.entries d report text text' faults faults' (length c.args.scripts.now) c.in-Ok.ensures.start served out.disk
           (subst (λ (t : List ℕ). OnOk report (Appends text text' t)) said c.write_served-report.ensures.ok)
           (subst (λ (t : List ℕ). OnErr report (IsCutShort text text' t)) said c.write_served-report.ensures.front)
-          c.write_served-report.ensures.write))),
+          c.write_served-report.ensures.cause))),
     )
 
-pub returns-clause-write : goal.returns-clause-write
-returns-clause-write g c = λ is. c.write_served-report.ensures.write (sink_told c.as_slice-3.result.now c.write_served-report.result (sym (c.of_engine-2.ensures.status ∙ c.of_served.ensures) ∙ is))
+pub returns-clause-cause : goal.returns-clause-cause
+returns-clause-cause g c = λ is. c.write_served-report.ensures.cause (sink_told c.as_slice-3.result.now c.write_served-report.result (sym (c.of_engine-2.ensures.status ∙ c.of_served.ensures) ∙ is))

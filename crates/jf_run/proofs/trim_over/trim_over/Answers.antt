@@ -38,5 +38,5 @@ returns-clause-kept g c = λ rest source_faults before head begun dated held.
     })
     refl refl done.silent done.write done.counts
 
-pub returns-clause-few : goal.returns-clause-few
-returns-clause-few g c = subst (λ m. g.D.Disk.moment c.trim.new.disk ≤ m + 15) c.into_parts-disk.ensures.moment c.trim.ensures.few
+pub returns-clause-moments : goal.returns-clause-moments
+returns-clause-moments g c = subst (λ m. g.D.Disk.moment c.trim.new.disk ≤ m + 15) c.into_parts-disk.ensures.moment c.trim.ensures.moments

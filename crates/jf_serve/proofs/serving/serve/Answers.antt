@@ -13,10 +13,10 @@ close-engine-requires-clause-own g c κs within =
     let all = c.run_side_by_side-gathered in
     subst (ArePassesOf c.args.store) (sym c.into_parts-passes.ensures.passes) (passes_own c.args.store (map lines c.args.scripts.now) all.result all.ensures.ran)
 
-pub close-engine-requires-clause-all : goal.close-engine-requires-clause-all
-close-engine-requires-clause-all g c κs within =
+pub close-engine-requires-clause-gathered : goal.close-engine-requires-clause-gathered
+close-engine-requires-clause-gathered g c κs within =
     let all = c.run_side_by_side-gathered in
-    let many : c.args.store.start.passes ≡ length (map lines c.args.scripts.now) = sym (length-map c.args.scripts.now lines ∙ c.requires.each ∙ c.requires.all) in
+    let many : c.args.store.start.passes ≡ length (map lines c.args.scripts.now) = sym (length-map c.args.scripts.now lines ∙ c.requires.long ∙ c.requires.gathered) in
     subst (AreAllPasses c.args.store) (sym c.into_parts-passes.ensures.passes) (passes_all c.args.store (map lines c.args.scripts.now) all.result all.ensures.ran many)
 
 pub returns-clause-served : goal.returns-clause-served
@@ -25,7 +25,7 @@ returns-clause-served g c =
     let scripts = map lines c.args.scripts.now in
     let parts = c.into_parts-passes.ensures in
     let end = c.close-engine.result in
-    let many : c.args.store.start.passes ≡ length scripts = sym (length-map c.args.scripts.now lines ∙ c.requires.each ∙ c.requires.all) in
+    let many : c.args.store.start.passes ≡ length scripts = sym (length-map c.args.scripts.now lines ∙ c.requires.long ∙ c.requires.gathered) in
     let closed = subst (λ (ps : List Pass). IsClosed c.args.store.start ps end.entries end.engine) parts.passes c.close-engine.ensures in
     let whole = has_served c.args.store scripts all.result all.ensures.ran end.entries end.engine many closed c.closed_explains.ensures c.closed_tries.ensures c.closed_blames.ensures c.closed_spares_pins.ensures c.one_served_is_alone.ensures in
     subst (λ (es : List End). HasServed c.args.store.start scripts c.into_parts-passes.result.1 es end.entries end.engine) (sym parts.ends)

@@ -36,9 +36,9 @@ join-last-requires-after_bounds g t c κs within =
     let script = c.in-Some-split_last.script.now in
     let popped = c.in-Some.ensures.items in
     let cut = c.in-Some-split_last.ensures.cases.0 in
-    let few = fewer store passes rest pass scripts others script c.requires.new c.requires.each popped cut in
+    let few = fewer store passes rest pass scripts others script c.requires.new c.requires.long popped cut in
     let falls : 2 * length rest + 1 < t = omega (arith, few, c.decreases) in (
-      ((search rules, search rules, search rules, last_new store passes rest pass scripts others script c.requires.new c.requires.each popped cut), search rules),
+      ((search rules, search rules, search rules, last_new store passes rest pass scripts others script c.requires.new c.requires.long popped cut), search rules),
       (
         falls,
         (
@@ -52,10 +52,10 @@ join-last-requires-after_bounds g t c κs within =
                   search rules,
                   search rules,
                   search rules,
-                  rest_new store passes rest pass scripts others script c.requires.new c.requires.each popped cut,
-                  as_many store passes rest pass scripts others script c.requires.new c.requires.each popped cut,
+                  rest_new store passes rest pass scripts others script c.requires.new c.requires.long popped cut,
+                  as_many store passes rest pass scripts others script c.requires.new c.requires.long popped cut,
                   c.requires.none,
-                  rest_room store passes rest pass scripts others script c.requires.new c.requires.each popped cut c.args.gathered.room c.requires.room,
+                  rest_room store passes rest pass scripts others script c.requires.new c.requires.long popped cut c.args.gathered.room c.requires.room,
                 ),
                 search rules,
               ),
@@ -68,7 +68,7 @@ join-last-requires-after_bounds g t c κs within =
 pub with-requires-2-after_bounds : goal.with-requires-2-after_bounds
 with-requires-2-after_bounds g t c κs within =
     let second = c.join-last.ensures.second in
-    room_left c.args.store.now c.args.passes.items c.pop.new.self.items c.in-Some.pass c.args.scripts.now c.in-Some-split_last.others.now c.in-Some-split_last.script.now c.requires.new c.requires.each c.in-Some.ensures.items
+    room_left c.args.store.now c.args.passes.items c.pop.new.self.items c.in-Some.pass c.args.scripts.now c.in-Some-split_last.others.now c.in-Some-split_last.script.now c.requires.new c.requires.long c.in-Some.ensures.items
     c.in-Some-split_last.ensures.cases.0 c.args.gathered.room c.join-last.result.1 c.requires.room second.1 second.0
 
 pub returns-clause-ran : goal.returns-clause-ran
@@ -77,6 +77,6 @@ returns-clause-ran g t c =
     let one = c.join-last.result.0 in
     let last = subst (λ (xs : List ℕ). HasRunSession store c.in-Some.pass.number (lines xs) one.end one.text one.pass) c.as_slice-script.ensures c.join-last.ensures.first in
     let ran =
-    ran_all store c.args.passes.items c.pop.new.self.items c.in-Some.pass c.args.scripts.now c.in-Some-split_last.others.now c.in-Some-split_last.script.now c.requires.new c.requires.each c.in-Some.ensures.items
+    ran_all store c.args.passes.items c.pop.new.self.items c.in-Some.pass c.args.scripts.now c.in-Some-split_last.others.now c.in-Some-split_last.script.now c.requires.new c.requires.long c.in-Some.ensures.items
     c.in-Some-split_last.ensures.cases.0 c.join-last.result.1 one.end one.text one.pass c.join-last.ensures.second.0 last in
     subst (HaveRunSessions store 0 (map lines c.args.scripts.now)) (sym c.with-2.ensures) ran

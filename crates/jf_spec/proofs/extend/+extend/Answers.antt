@@ -9,7 +9,7 @@ extended_node-parted_node-requires g t c = λ κs within. (
   (
     search rules,
     (
-      other_deep c.args.node.now.depth c.change-item.result c.args.node.now.entries c.args.batch.now (c.is_only.ensures.other c.if-is_only.false) c.requires.parts c.in-len1.len_at_least c.change-item.is,
+      other_deep c.args.node.now.depth c.change-item.result c.args.node.now.entries c.args.batch.now (c.is_only.ensures.no c.if-is_only.false) c.requires.parts c.in-len1.len_at_least c.change-item.is,
       (c.in-len1.len_at_least, c.requires.parts),
     ),
   ),
@@ -28,7 +28,7 @@ extended_node-returns-in-empty-clause-node g t c =
 pub extended_node-returns-then-is_only-clause-node : goal.extended_node-returns-then-is_only-clause-node
 extended_node-returns-then-is_only-clause-node g t c =
     ok_is c.node_of_change.result _ _
-    (ap₂ (λ d es. record { depth = d; entries = es }) c.depth.ensures (only_applied c.change-item.result c.args.node.now.entries c.args.batch.now (c.is_only.ensures.only c.if-is_only.true) c.in-len1.len_at_least c.in-len1.len_below c.change-item.is))
+    (ap₂ (λ d es. record { depth = d; entries = es }) c.depth.ensures (only_applied c.change-item.result c.args.node.now.entries c.args.batch.now (c.is_only.ensures.yes c.if-is_only.true) c.in-len1.len_at_least c.in-len1.len_below c.change-item.is))
     c.node_of_change.ensures.node
 
 pub parted_node-extended_node-requires : goal.parted_node-extended_node-requires
@@ -85,4 +85,4 @@ pub parted_node-returns-clause-steps : goal.parted_node-returns-clause-steps
 parted_node-returns-clause-steps g t c =
     let first = subst (λ d. IsFirstOne d c.first_one-at.result c.args.batch.now) c.depth-depth.ensures c.first_one-at.ensures in
     let both = steps_both c.args.node.now.depth c.first_one-at.result c.args.node.now.entries c.args.batch.now c.requires.parts first c.in_ok-zeros.field-0.zeros c.in_ok-zeros.field-0.ones _ _ _ _ c.requires.depth c.requires.positive c.in_ok-zeros.ensures.zeros c.in_ok-zeros.ensures.ones c.in_ok-zeros.ensures.step c.in_ok-zeros-2.ensures.steps c.in_ok-ones.ensures.steps in
-    omega (arith, both, c.join.ensures.step)
+    omega (arith, both, c.join.ensures.cost)

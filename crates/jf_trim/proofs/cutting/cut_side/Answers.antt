@@ -34,12 +34,12 @@ returns-in_err-cut_to_gate-clause-damaged g c = λ h w at told e.
     let was : c.cut_to_gate.result ≡ Err (pair_fault.Damaged w at) = (let was = c.in_err-cut_to_gate.was in cc) in
     ap (λ (s : DiskState). records (content_on c.args.side s).bytes) (sym (idle_now h x.0 x.2)) ∙ c.cut_to_gate.ensures.damaged x.0 w at x.1 was
 
-pub returns-in_err-cut_to_gate-clause-unchanged : goal.returns-in_err-cut_to_gate-clause-unchanged
-returns-in_err-cut_to_gate-clause-unchanged g c = λ h why told e.
+pub returns-in_err-cut_to_gate-clause-err : goal.returns-in_err-cut_to_gate-clause-err
+returns-in_err-cut_to_gate-clause-err g c = λ h why told e.
     let x = idle_went h _ _ told c.in_ok-size.ensures.ok in
     let p = err_from_is_err_and c.from_residual-in_err-cut_to_gate.result c.from_residual-in_err-cut_to_gate.ensures.1 in
     let was : c.cut_to_gate.result ≡ Err why = (let was = c.in_err-cut_to_gate.was in cc) in
-    elim (c.cut_to_gate.ensures.unchanged x.0 why x.1 was) [
+    elim (c.cut_to_gate.ensures.err x.0 why x.1 was) [
       | inl fault ↦ inl fault
       | inr y ↦ inr (y.0, y.1, idle_further h x.0 y.0 x.2 y.2)
     ]

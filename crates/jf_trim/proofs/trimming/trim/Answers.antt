@@ -13,12 +13,12 @@ returns-in_err-cut-clause-kept g c = λ h told.
     let s = c.cut_side-cut.ensures.stop r.1 r.2 in
     (s.0, s.1, kept_by_cutting c.in_ok-side.side r.0 h r.1 s.0 r.3 (c.in_ok-side.ensures.found h told) (subst (λ m. LeavesFiles h m) (told_same l.0 r.1 _ l.1 r.2) l.2) s.2 (c.know_readable.ensures s.0 s.1))
 
-pub returns-in_err-cut-clause-unchanged : goal.returns-in_err-cut-clause-unchanged
-returns-in_err-cut-clause-unchanged g c = λ h why told e.
+pub returns-in_err-cut-clause-err : goal.returns-in_err-cut-clause-err
+returns-in_err-cut-clause-err g c = λ h why told e.
     let l = c.find_spare.ensures.left h told in
     let p = err_from_is_err_and c.from_residual-in_err-cut.result c.from_residual-in_err-cut.ensures.1 in
     let was : c.cut_side-cut.result ≡ Err why = (let was = c.in_err-cut.was in cc) in
-    elim (c.cut_side-cut.ensures.unchanged l.0 why l.1 was) [
+    elim (c.cut_side-cut.ensures.err l.0 why l.1 was) [
       | inl fault ↦ inl fault
       | inr y ↦ inr (y.0, y.1, leaves_further h l.0 y.0 l.2 (leaves_idle l.0 y.0 y.2))
     ]

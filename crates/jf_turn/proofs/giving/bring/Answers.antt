@@ -8,7 +8,7 @@ store-requires g c =
     let words = c.turn.invariant.0 in let h = c.requires.holds in let same = ap (λ m. m.0) c.put_in.ensures.1 in let n = ap (λ v. v.number) same in (
       search rules,
       omega arith,
-      moves _ _ _ _ _ _ _ _ h.0 c.args.value h.1 _ (ap (λ v. v.stage) same ∙ h.2) (ap (λ m. m.1) c.put_in.ensures.1) h.3 (λ e has. h.4 e has ∙ sym n) (subst (λ v. HasElement v.numbers v.number) (sym same) c.requires.empty.1) (ap (λ n. 2 * n + 1) c.entry_count-count.ensures) c.requires.few,
+      moves _ _ _ _ _ _ _ _ h.0 c.args.value h.1 _ (ap (λ v. v.stage) same ∙ h.2) (ap (λ m. m.1) c.put_in.ensures.1) h.3 (λ e has. h.4 e has ∙ sym n) (subst (λ v. HasElement v.numbers v.number) (sym same) c.requires.empty.1) (ap (λ n. 2 * n + 1) c.entry_count-count.ensures) c.requires.bounded,
     )
 
 pub store-requires-2 : goal.store-requires-2

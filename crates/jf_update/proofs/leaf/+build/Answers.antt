@@ -18,7 +18,7 @@ build-build_children-requires t c =
     let p = c.requires.parts in
     let own = content (option_copied c.args.own) in
     let deep : c.args.depth < 64 = deeper c.args.depth p.path (entries_after_batch own c.args.entries.now) (IsPartUnder-applied c.args.depth p.path own c.args.entries.now p.entries p.batch) c.in-Several.ensures in
-    (search rules, (deep, (c.requires.few, (p, c.requires.hashed))))
+    (search rules, (deep, (c.requires.lone, (p, c.requires.hashed))))
 
 pub build-inner-requires-clause-depth : goal.build-inner-requires-clause-depth
 build-inner-requires-clause-depth t c =
@@ -26,8 +26,8 @@ build-inner-requires-clause-depth t c =
     let own = content (option_copied c.args.own) in
     deeper c.args.depth p.path (entries_after_batch own c.args.entries.now) (IsPartUnder-applied c.args.depth p.path own c.args.entries.now p.entries p.batch) c.in-Several.ensures
 
-pub build-inner-requires-clause-several : goal.build-inner-requires-clause-several
-build-inner-requires-clause-several t c =
+pub build-inner-requires-clause-plural : goal.build-inner-requires-clause-plural
+build-inner-requires-clause-plural t c =
     let p = c.requires.parts in
     let own = content (option_copied c.args.own) in
     omega (arith, c.in-Several.ensures, ap length (joined_built c.args.depth c.args.version p.path (entries_after_batch own c.args.entries.now) c.in_ok-children-in-Several.children (IsPartUnder-applied c.args.depth p.path own c.args.entries.now p.entries p.batch) c.in_ok-children-in-Several.ensures))
@@ -74,7 +74,7 @@ build_children-build-requires t c =
       (
         omega arith,
         (
-          few_at c.args.depth c.loop-n.n own _ c.requires.few is,
+          few_at c.args.depth c.loop-n.n own _ c.requires.lone is,
           (
             piece_parts c.args.depth c.loop-n.n c.loop-n.start c.piece_end.result own _ bs c.requires.parts c.loop-n.invariant.rest end is,
             hashes_cut c.loop-n.start _ bs c.args.hashes.now _ c.requires.hashed c.hashes_in.ensures,

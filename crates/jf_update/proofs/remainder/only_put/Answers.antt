@@ -15,4 +15,4 @@ returns-in-None-first_put c =
     )
 
 pub returns-in-Some-first_put : goal.returns-in-Some-first_put
-returns-in-Some-first_put c = two_puts c.args.entries.now c.args.i c.in-Some-first_put.field-0 c.index-entries-i.result _ c.requires.first.within c.requires.first.before c.in-Some.is c.in-Some-first_put.ensures.some
+returns-in-Some-first_put c = two_puts c.args.entries.now c.args.i c.in-Some-first_put.field-0 c.index-entries-i.result _ c.requires.first.within c.requires.first.before c.in-Some.is c.in-Some-first_put.ensures.found

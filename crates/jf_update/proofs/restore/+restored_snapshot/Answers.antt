@@ -37,8 +37,8 @@ restored_part-returns-in_err-children-in_default-clause-refused t c is =
 pub restored_part-inner-requires-clause-depth : goal.restored_part-inner-requires-clause-depth
 restored_part-inner-requires-clause-depth t c = deeper c.args.depth c.requires.part.0 c.args.entries.now c.requires.part.1 c.in_default.len_at_least
 
-pub restored_part-inner-requires-clause-several : goal.restored_part-inner-requires-clause-several
-restored_part-inner-requires-clause-several t c =
+pub restored_part-inner-requires-clause-plural : goal.restored_part-inner-requires-clause-plural
+restored_part-inner-requires-clause-plural t c =
     omega (arith, c.in_default.len_at_least, ap length (joined_restored c.args.depth _ _ c.requires.part.0 c.args.entries.now c.args.versions.now c.in_ok-children-in_default.children c.requires.part.1 c.in_ok-children-in_default.ensures.restored))
 
 pub restored_part-inner-requires-clause-alike : goal.restored_part-inner-requires-clause-alike

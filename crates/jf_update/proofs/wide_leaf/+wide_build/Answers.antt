@@ -18,8 +18,8 @@ use Rattle.jf_update.proofs.wide_leaf.+wide_build.Goals as goal
 pub build_piece-hashes_in-part_hashes-requires-clause-within : goal.build_piece-hashes_in-part_hashes-requires-clause-within
 build_piece-hashes_in-part_hashes-requires-clause-within g t c = omega (arith, c.requires.piece.within, hashes_long c.args.entries.now c.args.hashes.now c.requires.hashed)
 
-pub build_piece-build_wide-requires-clause-few : goal.build_piece-build_wide-requires-clause-few
-build_piece-build_wide-requires-clause-few g t c κs within = few_at c.args.depth c.args.piece.now.nibble (content (option_copied c.args.own)) _ c.requires.few c.own_at.ensures
+pub build_piece-build_wide-requires-clause-lone : goal.build_piece-build_wide-requires-clause-lone
+build_piece-build_wide-requires-clause-lone g t c κs within = few_at c.args.depth c.args.piece.now.nibble (content (option_copied c.args.own)) _ c.requires.lone c.own_at.ensures
 
 pub build_piece-build_wide-requires-clause-parts : goal.build_piece-build_wide-requires-clause-parts
 build_piece-build_wide-requires-clause-parts g t c κs within =
@@ -51,8 +51,8 @@ build_wide-inner-requires-clause-depth g t c =
     let own = content (option_copied c.args.own) in
     deeper c.args.depth p.path (entries_after_batch own c.args.entries.now) (IsPartUnder-applied c.args.depth p.path own c.args.entries.now p.entries p.batch) c.in-Several.ensures
 
-pub build_wide-inner-requires-clause-several : goal.build_wide-inner-requires-clause-several
-build_wide-inner-requires-clause-several g t c =
+pub build_wide-inner-requires-clause-plural : goal.build_wide-inner-requires-clause-plural
+build_wide-inner-requires-clause-plural g t c =
     let p = c.requires.parts in
     let own = content (option_copied c.args.own) in
     omega (arith, c.in-Several.ensures, ap length (joined_built c.args.depth c.args.version p.path (entries_after_batch own c.args.entries.now) c.in_ok-children-in-Several.children (IsPartUnder-applied c.args.depth p.path own c.args.entries.now p.entries p.batch) c.in_ok-children-in-Several.ensures))

@@ -12,6 +12,6 @@ begin-requires-clause-quiet c κs = λ h told.
     let empty : content_on c.in_ok-log.log.side h.now ≡ durable [] = ap (λ s. content_on s h.now) c.in_ok-log.ensures.side ∙ ap (content_on side.A) e ∙ c.requires in
     empty ∙ ap (λ (x : Content). durable x.bytes) (sym empty)
 
-pub append-requires-clause-whole : goal.append-requires-clause-whole
+pub append-requires-clause-framed : goal.append-requires-clause-framed
 unfolding eight_bytes
-append-requires-clause-whole c κs = (7, 97 ∷ 98 ∷ 99 ∷ [], record { is = refl; kind_fits = omega arith; length_fits = omega arith })
+append-requires-clause-framed c κs = (7, 97 ∷ 98 ∷ 99 ∷ [], record { is = refl; kind_fits = omega arith; length_fits = omega arith })

@@ -10,8 +10,8 @@ returns-clause-own g c =
     let other : length back ≡ 1 = search rules in
     own_two c.args.store.now _ c.run_on.new.first c.run_on.new.second (two_set c.args.passes.now.len front back c.args.passes.now.items c.run_on.new.first c.run_on.new.second two c.split_at_mut-front.ensures.front_len other) c.run_on.ensures.first.0 c.run_on.ensures.second.0
 
-pub returns-clause-all : goal.returns-clause-all
-returns-clause-all g c =
+pub returns-clause-gathered : goal.returns-clause-gathered
+returns-clause-gathered g c =
     let s = c.args.store.now in
     let items = c.args.passes.now.items in
     let slice = c.as_mut_slice.result.now in
@@ -25,4 +25,4 @@ returns-clause-all g c =
     all_two s _ c.run_on.new.first c.run_on.new.second (two_set c.args.passes.now.len front back items c.run_on.new.first c.run_on.new.second two one other)
     (c.run_on.ensures.first.1 ∙ (first_new s items slice front back c.index-front-0.result c.requires.new same halves one).1)
     (c.run_on.ensures.second.1 ∙ (second_new s items slice front back c.index-back-0.result c.requires.new same halves one other).1)
-    c.requires.both
+    c.requires.passes

@@ -2,7 +2,7 @@ use Rattle.test_sharing.proofs.Gathering.{begins, goes_on, both_own, both_idle}
 use Rattle.test_sharing.proofs.turns.gather.Goals as goal
 
 pub loop-other-init : goal.loop-other-init
-loop-other-init c = begins _ _ _ _ c.in-Some.ensures.items c.requires.new c.requires.many.0
+loop-other-init c = begins _ _ _ _ c.in-Some.ensures.items c.requires.new c.requires.seats.0
 
 pub join-requires-clause-own : goal.join-requires-clause-own
 join-requires-clause-own c = both_own _ _ _ _ _ c.loop-other.invariant c.in-Some-pop.ensures.items

@@ -16,6 +16,6 @@ returns-clause-pairs c t has = pairs_alone (pruner_of c.scan_words-scan.new.seat
 pub returns-clause-pins : goal.returns-clause-pins
 returns-clause-pins c i small = let q = pruner_of c.scan_words-scan.new.seat.me.0 in let v = place_of c.own.inside.seat.me.0 in
     let began = ap (λ m. pruner_of m.0) c.join_for_scan.ensures.1 ∙ ap (λ m. with_own (pruner_of c.self.inside.seat.me.0) (place_of m.0)) c.lend-lent.ensures.lent.1 in
-    let whole = c.scan_words-scan.ensures.whole in let room = c.own.invariant.2 in let number = c.own.invariant.1 in let board = ap (λ s. s.board.words) c.own.view_is ∙ ap (λ b. b.words) c.requires.place in
+    let whole = c.scan_words-scan.ensures.scanned in let room = c.own.invariant.2 in let number = c.own.invariant.1 in let board = ap (λ s. s.board.words) c.own.view_is ∙ ap (λ b. b.words) c.requires.place in
     subst (λ (z : PlaceView). Below c.scan_words-scan.result.low (hold_at z i)) (ap (λ s. s.known) c.own.view_is)
     (own_pins (pruner_of c.self.inside.seat.me.0) _ q v _ _ _ c.scan_words-scan.ensures.scans began i small (omega arith))

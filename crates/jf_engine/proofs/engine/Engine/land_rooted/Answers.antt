@@ -6,8 +6,8 @@ use Rattle.jf_model.specs.Versions.{Versions, newest}
 use Rattle.jf_split.specs.Limits.{max_keys}
 use Rattle.jf_engine.proofs.engine.Engine.land_rooted.Goals as goal
 
-pub land_each-requires-clause-limited : goal.land_each-requires-clause-limited
-land_each-requires-clause-limited g c = λ κs within. subst (λ bs. key_count bs ≤ max_keys) (sym c.from_ref.ensures.value) (omega (arith, c.as_slice.ensures.limited))
+pub land_each-requires-clause-bounded : goal.land_each-requires-clause-bounded
+land_each-requires-clause-bounded g c = λ κs within. subst (λ bs. key_count bs ≤ max_keys) (sym c.from_ref.ensures.value) (omega (arith, c.as_slice.ensures.bounded))
 
 pub returns-clause-step : goal.returns-clause-step
 returns-clause-step g c = rw c.from_ref.ensures.value at c.land_each.ensures.step

@@ -14,8 +14,8 @@ use Rattle.jf_engine.proofs.Records.{appended, floors_lead}
 use Rattle.jf_engine.proofs.Keeping.{lead_after, step_stops, step_succeeds, appended_keeps, generation-push, on_same, unfailed}
 use Rattle.jf_engine.proofs.engine.Engine.prune.Goals as goal
 
-pub append-requires-clause-whole : goal.append-requires-clause-whole
-append-requires-clause-whole g c = λ κs within. (2, record_bytes format.Two («record».Floor c.args.floor), c.encode_floor.ensures format.Two)
+pub append-requires-clause-framed : goal.append-requires-clause-framed
+append-requires-clause-framed g c = λ κs within. (2, record_bytes format.Two («record».Floor c.args.floor), c.encode_floor.ensures format.Two)
 
 pub append-requires-clause-in_step : goal.append-requires-clause-in_step
 append-requires-clause-in_step g c = λ κs within h told. let k = (c.self.invariant.2 c.if-self.false).holds h told in (k.held, k.in_step)

@@ -18,7 +18,7 @@ returns-then-width-lt2 t c slots level before small wide long children leaves at
       | then-width-lt2-via-then-width-lt2 w ↦ inl (one_only level c.args.width wide w.if-width-lt2.true)
       | then-width-lt2-via-else-width-lt2+then-not-is_many w ↦ inr (sym (w.is_many.ensures slots children leaves) ∙ w.if-not-is_many.true)
     ] in
-    let n : (2 ^ level - 1) + (17 - (c.args.first + c.args.width)) ≡ 16 - c.args.first = omega (arith, wide, some_power level, c.requires.room) in
+    let n : (2 ^ level - 1) + (17 - (c.args.first + c.args.width)) ≡ 16 - c.args.first = omega (arith, wide, some_power level, c.requires.places) in
     was ∙ sym (
     ap (λ t. (before ++ t) ++ replicate (17 - (c.args.first + c.args.width)) false) (bits-not_hashed level places why)
     ∙ append_assoc before (replicate (2 ^ level - 1) false) (replicate (17 - (c.args.first + c.args.width)) false)
@@ -51,5 +51,5 @@ returns t c slots level before small wide long children leaves at was =
     let long_right : length ((before ++ lefts) ++ rights) ≡ first + width - 2 = omega (arith, length-append (before ++ lefts) rights, long_left, right_long, in_half, h.some) in
     let many = sym (c.is_many.ensures slots children leaves) ∙ c.if-not-is_many.false in
     c.set.ensures ∙ ap (λ bits. set bits (first + width - 2) true) right
-    ∙ set-next ((before ++ lefts) ++ rights) (first + width - 2) (17 - (first + half - 1 + (width - half))) (17 - (first + width)) long_right (omega (arith, in_half, back, h.some, c.requires.room))
+    ∙ set-next ((before ++ lefts) ++ rights) (first + width - 2) (17 - (first + half - 1 + (width - half))) (17 - (first + width)) long_right (omega (arith, in_half, back, h.some, c.requires.places))
     ∙ ap (λ t. t ++ replicate (17 - (first + width)) false) (appended before lefts rights (map is_some (kept_within level places)) true (bits-halves level half places some h.is many))

@@ -18,6 +18,6 @@ at_most : {X E : Type 0} (r : Result X E) (new old pairs : ℕ) → MatchResult 
 at_most (Ok x) new old pairs is few = omega arith
 at_most (Err e) new old pairs is few = omega arith
 
-pub returns-clause-once : goal.returns-clause-once
-returns-clause-once g c =
+pub returns-clause-cost : goal.returns-clause-cost
+returns-clause-cost g c =
     at_most c.updated_counted.result c.updated_counted.new.steps c.args.steps.now _ c.updated_counted.ensures.pairs (pairs_within-once 4 (g.P.Places.slots c.args.places.now) c.all.result)

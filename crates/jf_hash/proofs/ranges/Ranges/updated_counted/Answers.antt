@@ -54,5 +54,5 @@ returns-clause-pairs g c =
     c.refresh.ensures.pairs 4 (omega arith) refl
     ∙ ap₂ (λ xs bits. c.args.steps.now + pairs_within 4 xs bits) (take_all 16 (g.P.Places.slots c.args.places.now) (omega (arith, c.of-occupied.ensures.long))) (take_all 16 c.args.changed (omega (arith, c.know.ensures)))
 
-pub returns-clause-bounded : goal.returns-clause-bounded
-returns-clause-bounded g c = omega (arith, returns-clause-pairs g c, pairs_within-bounded 4 (g.P.Places.slots c.args.places.now) c.args.changed)
+pub returns-clause-cost : goal.returns-clause-cost
+returns-clause-cost g c = omega (arith, returns-clause-pairs g c, pairs_within-bounded 4 (g.P.Places.slots c.args.places.now) c.args.changed)

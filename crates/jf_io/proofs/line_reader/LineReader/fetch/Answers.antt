@@ -16,28 +16,28 @@ take_piece-requires-clause-unfinished g c =
 
 pub returns-in_err-take_piece-clause-kept : goal.returns-in_err-take_piece-clause-kept
 returns-in_err-take_piece-clause-kept g c = λ text s.
-    is_fetched-step _ text c.loop-self.self c.finds_line.new.self c.shorten.new.self c.take_piece.new.self _ _ _ (c.loop-self.invariant.kept text s) c.loop-self.invariant.limit c.finds_line.ensures.same
+    is_fetched-step _ text c.loop-self.self c.finds_line.new.self c.shorten.new.self c.take_piece.new.self _ _ _ (c.loop-self.invariant.kept text s) c.loop-self.invariant.limit c.finds_line.ensures.unchanged
     (nowhere is_line_feed _ _ (λ h. let held = c.if-finds_line.ensures.found.1 h in cc) refl) c.shorten.ensures c.take_piece.ensures.front c.take_piece.ensures.kept
 
 pub returns-in_err-take_piece-clause-unfinished : goal.returns-in_err-take_piece-clause-unfinished
 returns-in_err-take_piece-clause-unfinished g c = λ _.
-    short_is_plain c.finds_line.new.self c.shorten.new.self c.take_piece.new.self (nowhere is_line_feed _ _ (λ h. let held = c.if-finds_line.ensures.found.1 h in cc) refl) c.shorten.ensures c.in_err-take_piece.ensures.unchanged
+    short_is_plain c.finds_line.new.self c.shorten.new.self c.take_piece.new.self (nowhere is_line_feed _ _ (λ h. let held = c.if-finds_line.ensures.found.1 h in cc) refl) c.shorten.ensures c.in_err-take_piece.ensures.err
 
 pub returns-then-branch-eq0-clause-kept : goal.returns-then-branch-eq0-clause-kept
 returns-then-branch-eq0-clause-kept g c = λ text s.
-    is_fetched-step _ text c.loop-self.self c.finds_line.new.self c.shorten.new.self c.take_piece.new.self _ _ _ (c.loop-self.invariant.kept text s) c.loop-self.invariant.limit c.finds_line.ensures.same
+    is_fetched-step _ text c.loop-self.self c.finds_line.new.self c.shorten.new.self c.take_piece.new.self _ _ _ (c.loop-self.invariant.kept text s) c.loop-self.invariant.limit c.finds_line.ensures.unchanged
     (nowhere is_line_feed _ _ (λ h. let held = c.if-finds_line.ensures.found.1 h in cc) refl) c.shorten.ensures c.take_piece.ensures.front c.take_piece.ensures.kept
 
 pub loop-self-preserved : goal.loop-self-preserved
 loop-self-preserved g c = record {
   kept = λ text s.
-      is_fetched-step _ text c.loop-self.self c.finds_line.new.self c.shorten.new.self c.take_piece.new.self _ _ _ (c.loop-self.invariant.kept text s) c.loop-self.invariant.limit c.finds_line.ensures.same
+      is_fetched-step _ text c.loop-self.self c.finds_line.new.self c.shorten.new.self c.take_piece.new.self _ _ _ (c.loop-self.invariant.kept text s) c.loop-self.invariant.limit c.finds_line.ensures.unchanged
       (nowhere is_line_feed _ _ (λ h. let held = c.if-finds_line.ensures.found.1 h in cc) refl) c.shorten.ensures c.take_piece.ensures.front c.take_piece.ensures.kept;
-  limit = c.take_piece.ensures.limit ∙ ap (λ (h : Held). h.limit) c.shorten.ensures ∙ ap (λ (h : Held). h.limit) c.finds_line.ensures.same ∙ c.loop-self.invariant.limit;
-  piece = c.take_piece.ensures.piece ∙ ap (λ (h : Held). h.piece) c.shorten.ensures ∙ ap (λ (h : Held). h.piece) c.finds_line.ensures.same ∙ c.loop-self.invariant.piece;
+  limit = c.take_piece.ensures.limit ∙ ap (λ (h : Held). h.limit) c.shorten.ensures ∙ ap (λ (h : Held). h.limit) c.finds_line.ensures.unchanged ∙ c.loop-self.invariant.limit;
+  piece = c.take_piece.ensures.piece ∙ ap (λ (h : Held). h.piece) c.shorten.ensures ∙ ap (λ (h : Held). h.piece) c.finds_line.ensures.unchanged ∙ c.loop-self.invariant.piece;
   ready = λ h.
       let at = c.loop-self.invariant.ready h in
-      let is : c.finds_line.new.self ≡ c.args.self.now = c.finds_line.ensures.same ∙ at.0 in
+      let is : c.finds_line.new.self ≡ c.args.self.now = c.finds_line.ensures.unchanged ∙ at.0 in
       absurd (let held = c.if-finds_line.ensures.found.1 (rw is h) in cc);
-  grows = omega (arith, c.loop-self.invariant.grows, c.take_piece.ensures.grows);
+  grows = omega (arith, c.loop-self.invariant.grows, c.take_piece.ensures.counts);
 }

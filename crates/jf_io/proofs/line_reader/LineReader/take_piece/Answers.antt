@@ -18,5 +18,5 @@ invariant_of-self g c =
       c.self.invariant.2,
     )
 
-pub returns-clause-few : goal.returns-clause-few
-returns-clause-few g c = let kept = invariant_of-self g c in kept.1.few
+pub returns-clause-ahead : goal.returns-clause-ahead
+returns-clause-ahead g c = let kept = invariant_of-self g c in kept.1.few

@@ -7,7 +7,7 @@ use Rattle.jf_node.proofs.link.Link.inner_counted.Goals as goal
 
 pub over-requires-clause-hashed : goal.over-requires-clause-hashed
 over-requires-clause-hashed g c =
-    let children : AreChildren c.args.depth c.args.children = record { deep = c.requires.depth; long = c.know.ensures.long; fit = c.requires.children; several = c.requires.several } in
+    let children : AreChildren c.args.depth c.args.children = record { deep = c.requires.depth; long = c.know.ensures.long; fit = c.requires.children; several = c.requires.plural } in
     c.in_ok-ranges.ensures.value
     ∙ ap kept_hashes (ap (map child_slot) c.in_ok-children.ensures ∙ slots-children c.args.depth c.args.children children)
     ∙ ap (λ links. kept_hashes (slots_of c.args.depth (entries_of_children links))) (sym c.in_ok-children.ensures)

@@ -13,8 +13,8 @@ count_after_change-requires-clause-part c =
     let before : option_copied c.get-in-loop-n.result ≡ get_or old n None = c.get-in-loop-n.ensures ∙ ap (λ k. get_or old k None) c.of-n.ensures in
     omega (arith, c.loop-n.invariant, length-from old n (omega (arith, c.in-Inner.ensures.shows.children.long, c.loop-n-test.true)), ap (λ x. length (content x)) before)
 
-pub count_after_change-requires-clause-same : goal.count_after_change-requires-clause-same
-count_after_change-requires-clause-same c off =
+pub count_after_change-requires-clause-unchanged : goal.count_after_change-requires-clause-unchanged
+count_after_change-requires-clause-unchanged c off =
     let n = c.loop-n.n in
     let old = c.in-Inner.old.now in
     let new = c.args.children.now in

@@ -24,7 +24,7 @@ returns-clause-ok g c = λ h rs kind payload told kept is.
     (λ y.
     let same : s.0 ≡ y.0 = told_same s.0 y.0 _ s.1 y.1 in
     let then_ = subst (λ w. IsReady w c.append.new.self.offset (rs ++ appended_record p.offset kind payload ∷ []) y.0.now) side (subst (λ n. IsReady c.self.inside.live.side c.append.new.self.offset (rs ++ appended_record n kind payload ∷ []) y.0.now) at y.2) in
-    (y.0, y.1, append_in_step p _ rs h y.0 (appended_record p.offset kind payload) kept live (subst (λ k. StopsInAppend p.side h k rs (appended_record p.offset kind payload)) same stop) (c.append.ensures.same.side ∙ side) (ap (λ (p : Pair). p.is_live) c.self.view_is) then_))
+    (y.0, y.1, append_in_step p _ rs h y.0 (appended_record p.offset kind payload) kept live (subst (λ k. StopsInAppend p.side h k rs (appended_record p.offset kind payload)) same stop) (c.append.ensures.rest.side ∙ side) (ap (λ (p : Pair). p.is_live) c.self.view_is) then_))
     (c.append.ensures.ok h rs kind payload told ready is)
 
 pub returns-clause-stop : goal.returns-clause-stop
@@ -44,5 +44,5 @@ returns-clause-other g c = λ h rs told kept.
     let side : c.self.inside.live.side ≡ p.side = ap (λ (p : Pair). p.side) c.self.view_is in
     let at : c.self.inside.live.offset ≡ p.offset = ap (λ (p : Pair). p.offset) c.self.view_is in
     let ready = subst (λ s. IsReady s c.self.inside.live.offset rs h.now) (sym side) (subst (λ n. IsReady p.side n rs h.now) (sym at) (kept.ready c.requires.live)) in
-    let s = c.append.ensures.stop h rs c.requires.whole.0 c.requires.whole.1 told ready c.requires.whole.2 in
+    let s = c.append.ensures.stop h rs c.requires.framed.0 c.requires.framed.1 told ready c.requires.framed.2 in
     (s.0, s.1, subst (λ w. KeepsOther w h s.0) side s.2.other)

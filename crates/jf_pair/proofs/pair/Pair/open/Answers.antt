@@ -18,7 +18,7 @@ returns-in-A-clause-in_step g c = λ h told.
       q.1,
       subst (λ rs. IsInStep c.pair_of.result.0 rs q.0.now) (sym c.pair_of.ensures.records)
           (opened_in_step side.A c.pair_of.result.0 c.in_ok-a.field-0.a c.in_ok-a.field-0.b c.in_ok-a.field-0.a.records c.in_ok-a.field-0.b.records q.0.now (c.pair_of.ensures.side ∙ c.in_ok-a.ensures.fresh.0) (sym c.in-A.is ∙ j.live) refl refl
-          j.begun_a j.begun_b j.apart (read_same c.in_ok-a.field-0.a side.A q.0.now _ q.2 r.0) (read_same c.in_ok-a.field-0.b side.B q.0.now _ q.3 r.1) (synced_same side.A q.0.now _ q.2) (synced_same side.B q.0.now _ q.3) c.pair_of.ensures.offset c.pair_of.ensures.some),
+          j.begun_a j.begun_b j.apart (read_same c.in_ok-a.field-0.a side.A q.0.now _ q.2 r.0) (read_same c.in_ok-a.field-0.b side.B q.0.now _ q.3 r.1) (synced_same side.A q.0.now _ q.2) (synced_same side.B q.0.now _ q.3) c.pair_of.ensures.offset c.pair_of.ensures.live),
     )
 
 pub returns-in-B-clause-in_step : goal.returns-in-B-clause-in_step
@@ -30,7 +30,7 @@ returns-in-B-clause-in_step g c = λ h told.
       q.1,
       subst (λ rs. IsInStep c.pair_of-in-B.result.0 rs q.0.now) (sym c.pair_of-in-B.ensures.records)
           (opened_in_step side.B c.pair_of-in-B.result.0 c.in_ok-a.field-0.b c.in_ok-a.field-0.a c.in_ok-a.field-0.a.records c.in_ok-a.field-0.b.records q.0.now (c.pair_of-in-B.ensures.side ∙ c.in_ok-a.ensures.fresh.1) (sym c.in-B.is ∙ j.live) refl refl
-          j.begun_a j.begun_b j.apart (read_same c.in_ok-a.field-0.b side.B q.0.now _ q.3 r.1) (read_same c.in_ok-a.field-0.a side.A q.0.now _ q.2 r.0) (synced_same side.B q.0.now _ q.3) (synced_same side.A q.0.now _ q.2) c.pair_of-in-B.ensures.offset c.pair_of-in-B.ensures.some),
+          j.begun_a j.begun_b j.apart (read_same c.in_ok-a.field-0.b side.B q.0.now _ q.3 r.1) (read_same c.in_ok-a.field-0.a side.A q.0.now _ q.2 r.0) (synced_same side.B q.0.now _ q.3) (synced_same side.A q.0.now _ q.2) c.pair_of-in-B.ensures.offset c.pair_of-in-B.ensures.live),
     )
 
 pub returns-in-B-clause-found : goal.returns-in-B-clause-found
@@ -42,4 +42,4 @@ returns-in-B-clause-found g c = λ h told.
 pub returns-in-A-clause-first : goal.returns-in-A-clause-first
 returns-in-A-clause-first g c = λ none.
     let some = live_a_some c.in_ok-a.field-0.a.records c.in_ok-a.field-0.b.records (sym c.in_ok-judge.ensures.live ∙ c.in-A.is) in
-    absurd (true≢false (sym (c.pair_of.ensures.some.1 some) ∙ none))
+    absurd (true≢false (sym (c.pair_of.ensures.live.1 some) ∙ none))

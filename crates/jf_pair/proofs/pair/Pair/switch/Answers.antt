@@ -20,7 +20,7 @@ returns-in_err-write_first-clause-stop g c = λ h rs kind payload told kept is.
 pub returns-in_err-write_first-clause-other : goal.returns-in_err-write_first-clause-other
 returns-in_err-write_first-clause-other g c = λ h told.
     let to : c.self.inside.other.side ≡ opposite c.args.self.now.side = c.self.invariant ∙ ap (λ (p : Pair). opposite p.side) c.self.view_is in
-    let x = c.write_first.ensures.stop h c.requires.whole.0 c.requires.whole.1 told c.requires.whole.2 in
+    let x = c.write_first.ensures.stop h c.requires.framed.0 c.requires.framed.1 told c.requires.framed.2 in
     (x.0, x.1, subst (λ w. KeepsOther w h x.0) to x.3)
 
 pub returns-clause-stop : goal.returns-clause-stop
@@ -35,7 +35,7 @@ returns-clause-stop g c = λ h rs kind payload told kept is.
 pub returns-clause-other : goal.returns-clause-other
 returns-clause-other g c = λ h told.
     let to : c.self.inside.other.side ≡ opposite c.args.self.now.side = c.self.invariant ∙ ap (λ (p : Pair). opposite p.side) c.self.view_is in
-    let x = c.write_first.ensures.stop h c.requires.whole.0 c.requires.whole.1 told c.requires.whole.2 in
+    let x = c.write_first.ensures.stop h c.requires.framed.0 c.requires.framed.1 told c.requires.framed.2 in
     (x.0, x.1, subst (λ w. KeepsOther w h x.0) to x.3)
 
 pub returns-clause-ok : goal.returns-clause-ok

@@ -8,11 +8,11 @@ use Rattle.jf_session.proofs.LandedBlocks.{chain_each, chain_last}
 use Rattle.jf_session.proofs.ToldLandings.{land_led, failed_led}
 use Rattle.jf_session.proofs.session.Session.land_told.Goals as goal
 
-pub tell_chain-requires-clause-each : goal.tell_chain-requires-clause-each
-tell_chain-requires-clause-each g c = chain_each c.args.store.now.start c.self.inside.pass c.land_chain-landed.new.self c.args.id c.in-Ok.chain c.in-Ok.ensures.landed
+pub tell_chain-requires-clause-long : goal.tell_chain-requires-clause-long
+tell_chain-requires-clause-long g c = chain_each c.args.store.now.start c.self.inside.pass c.land_chain-landed.new.self c.args.id c.in-Ok.chain c.in-Ok.ensures.landed
 
-pub tell_chain-requires-clause-last : goal.tell_chain-requires-clause-last
-tell_chain-requires-clause-last g c = chain_last c.args.store.now.start c.self.inside.pass c.land_chain-landed.new.self c.args.id c.in-Ok.chain c.in-Ok.ensures.landed
+pub tell_chain-requires-clause-bounded : goal.tell_chain-requires-clause-bounded
+tell_chain-requires-clause-bounded g c = chain_last c.args.store.now.start c.self.inside.pass c.land_chain-landed.new.self c.args.id c.in-Ok.chain c.in-Ok.ensures.landed
 
 pub invariant_of-self : goal.invariant_of-self
 invariant_of-self g c =

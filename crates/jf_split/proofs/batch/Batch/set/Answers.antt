@@ -12,19 +12,19 @@ pub invariant_of-self : goal.invariant_of-self
 invariant_of-self c =
     let place = subst (λ b. IsPlaceOf c.args.key.now b c.in-Ok.at) c.deref.ensures.value c.in-Ok.ensures.found in
     let same = ap (λ e. e.0) c.index_mut.ensures.value ∙ place.same c.index_mut.result.now in
-    set_batch _ _ _ _ _ (record { long = c.told-key; bytes = c.fits-key }) c.requires.bytes c.requires.limited c.self.invariant place same
+    set_batch _ _ _ _ _ (record { long = c.told-key; bytes = c.fits-key }) c.requires.bytes c.requires.short c.self.invariant place same
 
 pub invariant_of-self-in-Err-2 : goal.invariant_of-self-in-Err-2
 invariant_of-self-in-Err-2 c =
     let gap = subst (λ b. IsGapFor c.args.key.now b c.in-Err.field-0) c.deref.ensures.value c.in-Err.ensures.absent in
     subst (λ b. IsBatch b × IsWithinLimits b) (sym c.in_ok-insert-in-Err-2.ensures.items)
-    (insert_batch _ c.args.key.now _ _ _ (record { long = c.told-key; bytes = c.fits-key }) c.requires.bytes c.requires.limited c.self.invariant gap (omega (arith, c.len.ensures)))
+    (insert_batch _ c.args.key.now _ _ _ (record { long = c.told-key; bytes = c.fits-key }) c.requires.bytes c.requires.short c.self.invariant gap (omega (arith, c.len.ensures)))
 
 pub returns-in-Ok-clause-ok : goal.returns-in-Ok-clause-ok
 returns-in-Ok-clause-ok c =
     let place = subst (λ b. IsPlaceOf c.args.key.now b c.in-Ok.at) c.deref.ensures.value c.in-Ok.ensures.found in
     let same = ap (λ e. e.0) c.index_mut.ensures.value ∙ place.same c.index_mut.result.now in
-    set-put _ _ _ _ _ (record { long = c.told-key; bytes = c.fits-key }) c.requires.bytes c.requires.limited c.self.invariant place same ∙ ap (put key_cmp c.args.key.now c.args.value) c.self.view_is
+    set-put _ _ _ _ _ (record { long = c.told-key; bytes = c.fits-key }) c.requires.bytes c.requires.short c.self.invariant place same ∙ ap (put key_cmp c.args.key.now c.args.value) c.self.view_is
 
 pub returns-in-Ok-clause-room : goal.returns-in-Ok-clause-room
 returns-in-Ok-clause-room c = λ full.

@@ -11,7 +11,7 @@ pub invariant_of-self-2 : goal.invariant_of-self-2
 invariant_of-self-2 c =
     let room : is_full c.args.key.now c.self.inside.entries.entries ≡ false = ap (is_full c.args.key.now) c.self.view_is ∙ sym c.is_full.ensures ∙ c.if-is_full.false in
     subst (λ b. IsBatch b × IsWithinLimits b) (sym c.in_ok-insert.ensures.entries)
-    (batch-insert_entry c.args.key.now c.args.value c.self.inside.entries.entries (record { long = c.told-key; bytes = c.fits-key }) c.requires.bytes c.requires.limited room c.self.invariant)
+    (batch-insert_entry c.args.key.now c.args.value c.self.inside.entries.entries (record { long = c.told-key; bytes = c.fits-key }) c.requires.bytes c.requires.short room c.self.invariant)
 
 pub returns-clause-ok : goal.returns-clause-ok
 returns-clause-ok c =

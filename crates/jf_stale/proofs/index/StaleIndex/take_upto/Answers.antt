@@ -11,13 +11,13 @@ use Rattle.jf_stale.proofs.index.StaleIndex.take_upto.Goals as goal
 pub returns-then-since-floor-clause-none : goal.returns-then-since-floor-clause-none
 returns-then-since-floor-clause-none c =
     let late : c.args.floor < c.in_ok-front.field-0.now.0 = subst (λ n. c.args.floor < n) c.since-since.ensures c.if-since-floor.true in (
-      λ no. subst (All (λ (m : Mark). c.args.floor < m.0)) (c.drop_empty.ensures.marks ∙ c.self.view_is) (all-later c.args.floor c.drop_empty.new.groups.items c.in_ok-front.field-0.now c.drop_empty.ensures.rising c.in_ok-front.ensures.lookup late),
+      λ no. subst (All (λ (m : Mark). c.args.floor < m.0)) (c.drop_empty.ensures.marks ∙ c.self.view_is) (all-later c.args.floor c.drop_empty.new.groups.items c.in_ok-front.field-0.now c.drop_empty.ensures.sorted c.in_ok-front.ensures.lookup late),
       λ all. refl,
     )
 
 pub drop_empty-requires-2 : goal.drop_empty-requires-2
 drop_empty-requires-2 c =
-    rising-changed c.drop_empty.new.groups.items 0 c.index_mut.result.now c.take_first-name.new.self c.drop_empty.ensures.rising (subst (λ n. 0 < n) c.drop_empty.new.groups.ok.0 (c.front.ensures.variant.0 (ap is_some c.in_ok-front.was))) c.index_mut.ensures.value c.take_first-name.ensures.since
+    rising-changed c.drop_empty.new.groups.items 0 c.index_mut.result.now c.take_first-name.new.self c.drop_empty.ensures.sorted (subst (λ n. 0 < n) c.drop_empty.new.groups.ok.0 (c.front.ensures.variant.0 (ap is_some c.in_ok-front.was))) c.index_mut.ensures.value c.take_first-name.ensures.since
 
 -- the marks were the one that is taken and those that are left
 parted : (c : goal.After-drop_empty-2) → c.args.self.now ≡ (c.since-since.result, c.take_first-name.result) ∷ marks_in c.drop_empty-2.new.groups.items
@@ -34,7 +34,7 @@ parted c =
 pub invariant_of-self-2 : goal.invariant_of-self-2
 invariant_of-self-2 c =
     let held = subst (λ (ms : List Mark). (c.self.inside.count ≡ length ms) × AreAscendingMarks ms) (c.self.view_is ∙ parted c) (c.self.invariant.counted, c.self.invariant.ascending) in
-    hold-rest c.self.inside.count (c.since-since.result, c.take_first-name.result) c.drop_empty-2.new.groups.items c.drop_empty-2.ensures.rising held.0 held.1
+    hold-rest c.self.inside.count (c.since-since.result, c.take_first-name.result) c.drop_empty-2.new.groups.items c.drop_empty-2.ensures.sorted held.0 held.1
 
 pub returns-clause-least : goal.returns-clause-least
 returns-clause-least c =

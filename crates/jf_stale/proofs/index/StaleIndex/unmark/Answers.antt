@@ -49,8 +49,8 @@ overflow_sub-self c =
     let counted : c.self.inside.count ≡ length (marks_in c.self.inside.groups.items) = c.self.invariant.counted in
     omega arith
 
-pub drop_if_empty-requires-clause-rising : goal.drop_if_empty-requires-clause-rising
-drop_if_empty-requires-clause-rising c =
+pub drop_if_empty-requires-clause-sorted : goal.drop_if_empty-requires-clause-sorted
+drop_if_empty-requires-clause-sorted c =
     rising-changed c.self.inside.groups.items c.in-Ok.at c.index_mut.result.now c.remove.new.self c.self.invariant.rising c.in-Ok.ensures.bound c.index_mut.ensures.value (ap (λ (g : NameGroup). g.0) c.remove.ensures.others)
 
 pub invariant_of-self-2 : goal.invariant_of-self-2
@@ -60,7 +60,7 @@ invariant_of-self-2 c =
     let counted : c.self.inside.count ≡ length (marks_in c.self.inside.groups.items) = c.self.invariant.counted in
     hold-same (slice_set c.self.inside.groups.items c.in-Ok.at c.remove.new.self) c.drop_if_empty.new.groups.items (c.self.inside.count - 1)
     (hold-fewer c.self.inside.groups.items c.in-Ok.at c.self.inside.count (c.self.inside.count - 1) c.index_mut.result.now c.remove.new.self c.args.name.now c.self.invariant c.in-Ok.ensures.bound c.index_mut.ensures.value c.remove.ensures.others (omega arith))
-    c.drop_if_empty.ensures.rising c.drop_if_empty.ensures.marks
+    c.drop_if_empty.ensures.sorted c.drop_if_empty.ensures.marks
 
 pub returns-clause-found : goal.returns-clause-found
 returns-clause-found c =
