@@ -37,6 +37,7 @@ impl Model for Accumulator {
 impl Accumulator {
     /// No hash. Takes no memory.
     pub fn new(alloc: Global) -> Accumulator
+        // The result has no hash.
         ensures { result ≡ [] }
     {
         Accumulator {
@@ -47,6 +48,7 @@ impl Accumulator {
 
     /// No hash, with the room for so many taken at once.
     pub fn with_capacity(alloc: Global, count: usize) -> Result<Accumulator, Memory>
+        // After Ok, the result has no hash.
         ensures { IfOk result (λ all. all ≡ []) }
     {
         Ok(Accumulator {
@@ -64,6 +66,7 @@ impl Accumulator {
 
     /// The total of all hashes. Takes no memory.
     pub fn total(&self) -> Hash
+        // The result is the total of all hashes in their order.
         ensures { result ≡ total self.now }
     {
         self.tree().total()
@@ -71,7 +74,9 @@ impl Accumulator {
 
     /// Adds a hash at the end. If memory runs out, the hashes are unchanged.
     pub fn push(&mut self, hash: &Hash) -> Result<(), Memory>
+        // After Ok, the hashes are the old ones with this one at the end.
         ensures ok { OnOk result (self.new ≡ self.old ++ hash.now ∷ []) }
+        // After Err, the hashes are unchanged.
         ensures err { OnErr result (self.new ≡ self.old) }
     {
         push_both(&mut self.hashes, &mut self.inner, hash)
@@ -80,6 +85,7 @@ impl Accumulator {
     /// The proof that a hash stands at a place, which `verify_member` accepts: the totals beside its way, the lowest
     /// first. At a place beyond the last, returns the number of hashes, and takes no memory.
     pub fn prove_member(&self, alloc: Global, index: u64) -> Result<HashList, AccumAsk>
+        // Returns the honest path or `Memory` if a hash stands at the place, otherwise `Beyond` with the number of hashes.
         ensures { MatchResult result (IsMember self.now index) (IsNoMember self.now index) }
     {
         if index >= self.len() {
@@ -94,6 +100,7 @@ impl Accumulator {
     /// that lead from them to all, the lowest first. If `old` is 0 or there are not so many hashes, returns their number,
     /// and takes no memory.
     pub fn prove_extends(&self, alloc: Global, old: u64) -> Result<HashList, AccumAsk>
+        // Returns the honest extension or `Memory` if 0 < `old` ≤ the number of hashes, otherwise `Beyond` with this number.
         ensures { MatchResult result (IsExtension self.now old) (IsNoExtension self.now old) }
     {
         if old == 0 || old > self.len() {

@@ -19,6 +19,7 @@ pub fn verify_extends(
     len: u64,
     proof: &HashList,
 ) -> Result<(), AccumFault>
+    // Returns the fault of the first check that fails: range, length, old total, total. If none fails, returns Ok.
     ensures { result_err result ≡ extension_refusal old_total.now old total.now len proof.now }
 {
     if old == 0 || old > len {

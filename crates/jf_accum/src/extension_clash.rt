@@ -23,7 +23,9 @@ pub fn extends_collide(
     list: &HashList,
     proof: &HashList,
 ) -> Result<Option<(Bytes, Bytes)>, Memory>
+    // The proof is accepted for the total and the number of the old list and those of the other list.
     requires { extension_refusal (total old.now) (length old.now) (total list.now) (length list.now) proof.now ≡ None }
+    // Returns `None` if the list begins with the old one, otherwise two different inputs of one SHA-256, or `Memory`.
     ensures { MatchResult result (IsExtensionOutcome old.now list.now) (λ _. IsFront old.now list.now → ⊥) }
 {
     let olds = old.as_slice();

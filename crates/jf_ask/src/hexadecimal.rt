@@ -8,10 +8,15 @@ use jf_text::unhex_into;
 /// number of digits; the front of `out` may then have changed, for half as many bytes as the word has. What comes after
 /// these bytes is unchanged.
 pub fn unhexed_count(word: &[u8], out: &mut [u8]) -> Option<usize>
+    // `out` has room for half as many bytes as the word has, rounded down.
     requires { length word.now ≤ 2 * length out.old + 1 }
+    // The length of `out` is unchanged.
     ensures length { length out.new ≡ length out.old }
+    // After `Some` the count is at most the length of `out`.
     ensures within { IfSome result (λ n. n ≤ length out.new) }
+    // After `Some(n)` the first n bytes are those of the word; `None` comes exactly if it isn't an even number of digits.
     ensures bytes { option_map (λ n. take n out.new) result ≡ unhex word.now }
+    // What stands in `out` after half as many bytes as the word has, rounded down, is unchanged.
     ensures rest { drop (length word.now / 2) out.new ≡ drop (length word.now / 2) out.old }
 {
     if word.len() % 2 == 1 {

@@ -13,7 +13,7 @@ pub enum Lookup<'a> {
     /// The name has a value: its digits where they stand in the reply, two to a byte and at most 8,192. [`unhexed_count`]
     /// gives its bytes.
     ///
-    /// [`unhexed_count`]: crate::unhexed
+    /// [`unhexed_count`]: crate::unhexed_count
     Value(&'a [u8]),
     /// The name has no value.
     Absent,
@@ -36,8 +36,11 @@ impl LookupFault {
     /// The number of the cause, from 1 to 6: 1 to 4 for the check of the claim that fails (docs/FORMATS.md, Proof blocks), 5
     /// for a block on another name, and 6 for a reply that isn't one block.
     pub fn number(self) -> u8
+        // `TooDeep`, `WrongLeaf`, `WrongPrefix` and `WrongRoot` are 1 to 4, `OtherName` is 5, and `NoBlock` is 6.
         ensures value { result ≡ lookup_number self }
+        // The number is at least 1.
         ensures small { 1 ≤ result }
+        // The number is at most 6.
         ensures bounded { result ≤ 6 }
     {
         match self {
@@ -56,8 +59,11 @@ impl LookupFault {
 /// stack at most some 72 KB, with 256 siblings.
 #[tactic(auto, unfolding(crate::specs::Lookups::lookup))]
 pub fn look_up<'a>(root: &Hash, name: &[u8], reply: &'a [u8]) -> Lookup<'a>
+    // The result is what the reply shows of the name: the digits of its value, its absence, or why it shows nothing.
     ensures answer { lookup_of result ≡ Some (lookup root.now name.now reply.now) }
+    // If a map with this root says something else than is shown, two different lists with one SHA-256 are at hand.
     ensures sound { IsSoundLookup root.now name.now reply.now }
+    // If the reply is that of a map with this root to `prove` of this name, the result is what the map says of the name.
     ensures fair { IsFairLookup root.now name.now reply.now }
 {
     wrong_claims_collide();

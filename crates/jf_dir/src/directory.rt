@@ -33,7 +33,7 @@ use jf_node::{Snapshot, Update};
 use jf_path::{Key, LiveList, Memory, NodeName, SharedBytes};
 use jf_split::Batch;
 use jf_stale::StaleIndex;
-use jf_update::{Written, advance, value_hashes, landing_lists};
+use jf_update::{Written, advance, landing_lists, value_hashes};
 use std::alloc::Global;
 use std::collections::VecDeque;
 use std::marker::Model;

@@ -20,7 +20,10 @@ pub(crate) fn nodes_in_order(alloc: Global, directory: &Directory) -> Result<Liv
 }
 
 /// All nodes of a directory: those of the head, and then those that each landing made stale.
-fn node_list(alloc: Global, directory: &Directory) -> Result<Vec<(NodeName, PlainNode, u64)>, Memory>
+fn node_list(
+    alloc: Global,
+    directory: &Directory,
+) -> Result<Vec<(NodeName, PlainNode, u64)>, Memory>
     ensures { IfOk result (λ v. AreListedTo directory.now directory.now.head v.items) }
 {
     let mut nodes = Vec::new(alloc);

@@ -23,7 +23,7 @@ pub fn restored_from(
 ) -> Result<Snapshot, RebuildFault>
     requires sorted { T (is_sorted key_cmp entries.now) }
     requires short { AreShortEntries entries.now }
-    ensures restored_snapshot { IfOk result (IsRestored version entries.now versions.now) }
+    ensures restored { IfOk result (IsRestored version entries.now versions.now) }
     ensures refused { result ≡ Err RebuildFault.Versions → ¬ (AreNodeVersions version (nodes (map_of_entries entries.now)) versions.now) }
 {
     let hashes = hashes_of(alloc, entries)?;

@@ -89,6 +89,10 @@ pub fn disk_in(alloc: Global, store: Store) -> Result<Box<MemDisk>, Fail> {
 }
 
 /// The store that the files of this one give when they are opened again.
-pub fn reopened_store<H: Threads + Sync>(rt: &H, alloc: Global, store: Store) -> Result<Store, Fail> {
+pub fn reopened_store<H: Threads + Sync>(
+    rt: &H,
+    alloc: Global,
+    store: Store,
+) -> Result<Store, Fail> {
     store_on(rt, alloc, disk_in(alloc, store)?)
 }

@@ -54,6 +54,7 @@ impl Model for ForkTable {
 impl ForkTable {
     /// A table without forks.
     pub fn new(alloc: Global) -> ForkTable
+        // No fork was made yet, and none is live.
         ensures { result ≡ record { made = 0; live = [] } }
     {
         ForkTable {
@@ -64,6 +65,7 @@ impl ForkTable {
 
     /// What holds of each table: parents are the head or older live forks, and at most 1,024 are live.
     pub fn know(&self)
+        // Numbers are below `made` and fall along the list; parents are the head or older live forks; at most 1,024 are live.
         ensures { IsTable self.now }
     {
         let _made = self.made;
@@ -93,8 +95,11 @@ impl ForkTable {
     /// The tree of a fork: the map that it stands for, over the map of the head. It is refused exactly if the fork was
     /// not made yet or is gone.
     pub fn tree(&self, id: u64) -> Result<&SpecTree, ForkFault>
+        // It is refused exactly if the fork is missing: `Unknown` if it was not made yet, `Gone` if it is no longer live.
         ensures refused { result_err result ≡ missing id self.now }
+        // After `Ok`, if the table stands over the head's map, the tree is that map after the batches of the fork's chain.
         ensures map { IfOk result (λ t. (m : Map) → StandsOver m self.now → t.now ≡ fork_map m (forks_of self.now.live) id) }
+        // After `Ok` the tree is the one that the table keeps for the fork.
         ensures kept { IfOk result (λ t. map_of_fork id self.now.live ≡ Some t.now) }
     {
         if id >= self.made {
@@ -115,12 +120,19 @@ impl ForkTable {
         parent: Parent,
         batch: &Batch,
     ) -> Result<Forked, ForkFault>
+        // Fewer than 2^62 forks were made so far.
         requires bounded { self.old.made < 2 ^ 62 }
+        // The tree of each live fork is right over the head's map.
         requires over { StandsOver head.now.map self.old }
+        // After `Ok` the result is the next number and the root of the parent's map after the batch.
         ensures forked { IfOk result (λ f. f ≡ record { id = self.old.made; root = root (apply (parent_map head.now.map (forks_of self.old.live) parent) batch.now) }) }
+        // After `Ok` the new fork is the first of the live ones, with the parent's map after the batch; the others stay.
         ensures ok { OnOk result (self.new ≡ record { made = self.old.made + 1; live = record { fork = record { id = self.old.made; parent = parent; batch = batch.now }; map = apply (parent_map head.now.map (forks_of self.old.live) parent) batch.now } ∷ self.old.live }) }
+        // After `Ok` the table stands over the head's map as before.
         ensures stands { OnOk result (StandsOver head.now.map self.new) }
+        // It is refused if the parent is missing, else as `Full` if 1,024 are live; else only if memory runs out.
         ensures refused { RefusedBy (making_fault parent self.old) result }
+        // After a refusal the table is unchanged.
         ensures err { OnErr result (self.new ≡ self.old) }
     {
         if let Some(fault) = self.making_fault(parent) {
@@ -162,9 +174,13 @@ impl ForkTable {
     /// The batches of a fork and its live ancestors, the oldest first: 1 to 1,024, with at most 10,000 keys added up.
     /// It is refused if the fork is missing, and then if they have more keys.
     pub fn chain(&self, alloc: Global, id: u64) -> Result<BatchList, ForkFault>
+        // After `Ok` the list has the batches of the fork and its live ancestors, the oldest first.
         ensures chain { IfOk result (λ list. list ≡ batches (chain (forks_of self.now.live) id)) }
+        // After `Ok` the fork is live, and its chain has at most 10,000 keys.
         ensures may { OnOk result (chain_fault id self.now ≡ None) }
+        // After `Ok` there are 1 to 1,024 batches, with at most 10,000 keys added up.
         ensures bounded { IfOk result (λ list. (1 ≤ length list) × (length list ≤ max_forks) × (key_count list ≤ max_keys)) }
+        // It is refused if the fork is missing, else as `TooMany` over 10,000 keys; else only if memory runs out.
         ensures refused { RefusedBy (chain_fault id self.now) result }
     {
         if let Some(fault) = self.chain_fault(id) {
@@ -177,8 +193,11 @@ impl ForkTable {
 
     /// How many batches `chain` gives, at most 1,024. It is refused as `chain` is, and takes no memory.
     pub fn chain_len(&self, id: u64) -> Result<u64, ForkFault>
+        // After `Ok` the result is how many the fork and its live ancestors are.
         ensures length { IfOk result (λ n. n ≡ length (batches (chain (forks_of self.now.live) id))) }
+        // After `Ok` the result is at most 1,024.
         ensures bounded { IfOk result (λ n. n ≤ max_forks) }
+        // It is refused exactly if the fork is missing or its chain has more than 10,000 keys.
         ensures refused { result_err result ≡ chain_fault id self.now }
     {
         match self.chain_fault(id) {
@@ -205,11 +224,17 @@ impl ForkTable {
     /// Drops a fork and those that stand on it. Returns how many are gone. It is refused exactly if the fork is
     /// missing; the table is then unchanged.
     pub fn drop_fork(&mut self, id: u64) -> Result<u64, ForkFault>
+        // It is refused exactly if the fork is missing, as `Unknown` or `Gone`.
         ensures refused { result_err result ≡ missing id self.old }
+        // After `Ok` the result is the number of forks that were dropped: the fork itself and those that stand on it.
         ensures count { IfOk result (λ n. n ≡ drop_count id (forks_of self.old.live)) }
+        // After `Ok` all other forks stay as they are, and so does the number of forks made.
         ensures ok { OnOk result (self.new ≡ record { made = self.old.made; live = grown_without id self.old.live }) }
+        // If the table stood over a map of the head, it still does.
         ensures stands { (m : Map) → StandsOver m self.old → StandsOver m self.new }
+        // Each fork that is still live has the map that it had.
         ensures maps { (y : ℕ) → is_among y (forks_of self.new.live) ≡ true → map_of_fork y self.new.live ≡ map_of_fork y self.old.live }
+        // After a refusal the table is unchanged.
         ensures err { OnErr result (self.new ≡ self.old) }
     {
         if let Err(fault) = self.find(id) {
@@ -222,10 +247,15 @@ impl ForkTable {
     /// after a batch landed directly, no fork stays. The fork must be one that `chain` doesn't refuse, unless it is out
     /// of memory.
     pub fn settle(&mut self, fork: Option<u64>)
+        // If a fork lands, it is live and its chain has at most 10,000 keys.
         requires { IfSome fork (λ id. chain_fault id self.old ≡ None) }
+        // Without a fork, none stays; the number of forks made is unchanged.
         ensures none { fork ≡ None → self.new ≡ record { made = self.old.made; live = [] } }
+        // If a fork lands, exactly those that stand on it stay, its children now on the head.
         ensures found { (id : ℕ) → fork ≡ Some id → self.new ≡ record { made = self.old.made; live = grown_settled id self.old.live } }
+        // Each fork that is still live has the map that it had.
         ensures maps { (y : ℕ) → is_among y (forks_of self.new.live) ≡ true → map_of_fork y self.new.live ≡ map_of_fork y self.old.live }
+        // If the table stood over a map of the head and a fork lands, it now stands over the map of that fork.
         ensures stands { (m : Map) (id : ℕ) → fork ≡ Some id → StandsOver m self.old → StandsOver (fork_map m (forks_of self.old.live) id) self.new }
     {
         match fork {

@@ -6,5 +6,6 @@ ghost use Rattle.jf_generate.specs.Reports.{is_refused};
 
 /// The text of a reply counts as refused exactly if the reply is a refusal.
 pub fn refusals_are_told()
+    // So it is for every reply, and every number of a line below 2^64.
     ensures { (n : ℕ) (r : Reply) → n < 2 ^ 64 → is_refused (reply_text n r) ≡ is_refusal r }
 {}

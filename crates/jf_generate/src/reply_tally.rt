@@ -30,6 +30,7 @@ impl Model for ReplyTally {
 impl ReplyTally {
     /// Begins before the first reply.
     pub fn new(alloc: Global) -> ReplyTally
+        // No reply is counted as refused, and the texts of the last two are empty.
         ensures { result ≡ tally_of [] }
     {
         ReplyTally {
@@ -42,9 +43,13 @@ impl ReplyTally {
 
     /// Takes the text of one reply more. If memory runs out, nothing has changed.
     pub fn add(&mut self, text: &[u8]) -> Result<(), Memory>
+        // The number of refused replies has room for one more.
         requires { self.old.refused + 1 < 2 ^ 64 }
+        // After `Ok` a refusal is counted, the last text has become the one before, and this text is the last.
         ensures value { OnOk result (self.new ≡ tally_more self.old text.now) }
+        // After `Ok`, if this was what is kept of some replies, it is now what is kept of these and the new one.
         ensures tally { OnOk result ((replies : List (List ℕ)) → self.old ≡ tally_of replies → self.new ≡ tally_of (replies ++ text.now ∷ [])) }
+        // If memory runs out, nothing has changed.
         ensures err { OnErr result (self.new ≡ self.old) }
     {
         self.spare.clear();
@@ -59,7 +64,9 @@ impl ReplyTally {
 
     /// Appends the line `refused C` and the last two replies. If memory runs out, the text is unchanged.
     pub fn write(&self, out: &mut Bytes) -> Result<(), Memory>
+        // After `Ok` the line `refused C` and the texts of the last two replies were appended.
         ensures ok { OnOk result (out.new ≡ out.old ++ written_of self.now) }
+        // If memory runs out, the text is unchanged.
         ensures err { OnErr result (out.new ≡ out.old) }
     {
         let before = out.len();

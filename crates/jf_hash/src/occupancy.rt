@@ -16,6 +16,7 @@ pub enum Occupancy {
 
 impl Occupancy {
     pub fn of(places: &[Slot]) -> Occupancy
+        // The result is what the places hold: nothing, one leaf alone with its hash, or more.
         ensures { occupants_found result ≡ occupants places.now }
     {
         match places.split_first() {

@@ -18,8 +18,11 @@ pub struct Occupied {
 impl Occupied {
     /// What these places hold.
     pub fn of<P: Places>(places: &P) -> Occupied
+        // A bit of `children` is set exactly if a child stands at its place.
         ensures children { result.children ≡ map is_occupied (P.slots places.now) }
+        // A bit of `leaves` is set exactly if a leaf stands at its place.
         ensures leaves { result.leaves ≡ map holds_leaf (P.slots places.now) }
+        // There are sixteen places.
         ensures long { length (P.slots places.now) ≡ 16 }
     {
         let children = places.children();
@@ -30,7 +33,9 @@ impl Occupied {
 
     /// Whether a range holds no child.
     pub fn is_empty(&self, start: usize, width: usize) -> bool
+        // The range ends within the sixteen places.
         requires { start + width ≤ 16 }
+        // The result is true exactly if no bit of a child is set in the range.
         ensures { result ≡ (count_by (λ bit. bit) (take width (drop start self.now.children)) == 0) }
     {
         self.children.count(start, width) == 0
@@ -38,7 +43,9 @@ impl Occupied {
 
     /// Whether a range holds more than one leaf; an internal node counts as more.
     pub fn is_many(&self, start: usize, width: usize) -> bool
+        // The range ends within the sixteen places.
         requires { start + width ≤ 16 }
+        // If the bits are those of some places, the result says whether their range holds more than one leaf.
         ensures { (slots : List Slot) → self.now.children ≡ map is_occupied slots → self.now.leaves ≡ map holds_leaf slots → result ≡ is_many (occupants (take width (drop start slots))) }
     {
         let children = self.children.count(start, width);
@@ -47,6 +54,7 @@ impl Occupied {
 
     /// Which of the fifteen ranges of two places or more hold more than one leaf, each after its halves.
     pub fn kept_ranges(&self) -> Bitmap
+        // For the bits of sixteen places, the result has a bit set exactly where `kept_hashes` has a hash of them.
         ensures { (slots : List Slot) → length slots ≡ 16 → self.now.children ≡ map is_occupied slots → self.now.leaves ≡ map holds_leaf slots → result ≡ map is_some (kept_hashes slots) }
     {
         let mut kept = Bitmap::none();

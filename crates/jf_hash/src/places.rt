@@ -22,7 +22,9 @@ pub trait Places {
 
     /// The hash of the first child from a place on, or that of no entry without a child.
     fn first_hash(&self, start: usize) -> Hash
+        // The place is one of the sixteen, or the end after them.
         requires { start ≤ 16 }
+        // The result is the hash of the first child at `start` or after it, or that of no entry without one.
         ensures { result ≡ first_child_hash (drop start (slots self.now)) };
 }
 

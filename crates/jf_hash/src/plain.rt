@@ -41,7 +41,9 @@ fn part_root(entries: &[(Hash, Hash)], depth: usize) -> Hash
 /// The root of a map, from its keys, which rise strictly, and the hashes of their values (docs/FORMATS.md, Keys and
 /// roots).
 pub fn plain_root(entries: &[(Hash, Hash)]) -> Hash
+    // The keys rise strictly.
     requires { T (is_sorted key_cmp entries.now) }
+    // The result is the root, from bit 0 on, of the leaves of these keys and hashes of values.
     ensures { result ≡ leaves_root 0 entries.now }
 {
     know_entries(entries);

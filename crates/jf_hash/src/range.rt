@@ -43,8 +43,11 @@ fn hash_of(places: &[Slot]) -> Hash
 /// hash of the pair of its halves. For all sixteen places this is the hash of the node (docs/FORMATS.md, Keys and
 /// roots).
 pub fn sixteen(children: &[Slot; 16], start: usize, width: usize) -> Hash
+    // The range has 1, 2, 4, 8 or 16 places, begins at a multiple of its width, and lies among the sixteen.
     requires range { IsRange start width }
+    // The result is the hash of the range, as `range_hash` defines it for these places.
     ensures value { (level : ℕ) → width ≡ 2 ^ level → result ≡ range_hash level (take width (drop start children.now)) }
+    // For entries placed by nibble `d`, the result for all sixteen places is their root from bit 4d on.
     ensures root { (d : ℕ) (es : Part) → d < 64 → children.now ≡ slots_of d es → start ≡ 0 → width ≡ 16 → result ≡ part_root (4 * d) es }
 {
     hash_of(&children[start..start + width])

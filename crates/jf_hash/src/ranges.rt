@@ -41,6 +41,7 @@ impl Model for Ranges {
 impl Ranges {
     /// The hashes of the ranges of these places.
     pub fn of<P: Places>(alloc: Global, places: &P) -> Result<Ranges, Memory>
+        // After `Ok` the result is what is kept of the ranges of these places: a hash where one holds more than one leaf.
         ensures { IfOk result (λ r. r ≡ kept_hashes (P.slots places.now)) }
     {
         Ranges::of_uncounted::<P, Brand>(alloc, places, Blank::new(1))
@@ -53,8 +54,11 @@ impl Ranges {
         places: &P,
         steps: &mut Steps<L>,
     ) -> Result<Ranges, Memory>
+        // After `Ok` the result is what is kept of the ranges of these places.
         ensures value { IfOk result (λ r. r ≡ kept_hashes (P.slots places.now)) }
+        // After `Ok` one step more is counted for each range of two places or more with more than one leaf; after `Err` none.
         ensures pairs { MatchResult result (λ r. steps.new ≡ steps.old + pairs_within 4 (P.slots places.now) (replicate 16 true)) (λ e. steps.new ≡ steps.old) }
+        // At most fifteen steps more are counted.
         ensures cost { steps.new ≤ steps.old + 15 }
     {
         places.children().know();
@@ -85,6 +89,7 @@ impl Ranges {
         places: &P,
         changed: Bitmap,
     ) -> Result<Ranges, Memory>
+        // If `self` is of places that agree with these outside `changed`, after `Ok` the result is what is kept of these.
         ensures { (olds : List Slot) → self.now ≡ kept_hashes olds → Agree olds changed (P.slots places.now) → IfOk result (λ r. r ≡ kept_hashes (P.slots places.now)) }
     {
         self.updated_uncounted::<P, Brand>(alloc, places, changed, Blank::new(1))
@@ -98,8 +103,11 @@ impl Ranges {
         changed: Bitmap,
         steps: &mut Steps<L>,
     ) -> Result<Ranges, Memory>
+        // If `self` is of places that agree with these outside `changed`, after `Ok` the result is what is kept of these.
         ensures value { (olds : List Slot) → self.now ≡ kept_hashes olds → Agree olds changed (P.slots places.now) → IfOk result (λ r. r ≡ kept_hashes (P.slots places.now)) }
+        // After `Ok` a step is counted for each range of two or more with a changed place and over one leaf; after `Err` none.
         ensures pairs { MatchResult result (λ r. steps.new ≡ steps.old + pairs_within 4 (P.slots places.now) changed) (λ e. steps.new ≡ steps.old) }
+        // At most four steps more are counted for each place in `changed`.
         ensures cost { steps.new ≤ steps.old + 4 * count_by (λ bit. bit) changed }
     {
         changed.know();
@@ -175,10 +183,15 @@ impl Ranges {
     /// The hash of the range of `width` places, two or more, from place `start` on, if the range holds more than one
     /// leaf.
     pub fn hash(&self, start: usize, width: usize) -> Option<&Hash>
+        // The range has 1, 2, 4, 8 or 16 places, begins at a multiple of its width, and lies among the sixteen.
         requires range { IsRange start width }
+        // The range has two places or more.
         requires wide { 2 ≤ width }
+        // The result is the hash that is kept of this range, or `None` if none is kept.
         ensures entry { option_copied result ≡ slice_index_or self.now (range_index start width) None }
+        // If `self` is of sixteen places, it is the hash of their range, or `None` if that holds at most one leaf.
         ensures value { (slots : List Slot) (level : ℕ) → length slots ≡ 16 → self.now ≡ kept_hashes slots → width ≡ 2 ^ level → option_copied result ≡ kept_hash level (take width (drop start slots)) }
+        // For entries placed by nibble `d`, a hash is the root, from bit 4d + 4 - `level` on, of those in the range.
         ensures root { (d : ℕ) (es : Part) (level : ℕ) → d < 64 → self.now ≡ kept_hashes (slots_of d es) → width ≡ 2 ^ level → IfSome (option_copied result) (λ hash. hash ≡ part_root (4 * d + (4 - level)) (in_range d start width es)) }
     {
         self.at(start / 2 + start / 4 + start / 8 + (width - 2))
@@ -186,8 +199,11 @@ impl Ranges {
 
     /// The hash of all places, which is the hash of the node, if it holds more than one leaf.
     pub fn top(&self) -> Option<&Hash>
+        // The result is the hash that is kept of all sixteen places, or `None` if none is kept.
         ensures entry { option_copied result ≡ slice_index_or self.now 14 None }
+        // If `self` is of sixteen places, it is the hash of them all, or `None` if they hold at most one leaf.
         ensures value { (slots : List Slot) → length slots ≡ 16 → self.now ≡ kept_hashes slots → option_copied result ≡ kept_hash 4 slots }
+        // For entries placed by nibble `d`, a hash is the root of all of them from bit 4d on.
         ensures root { (d : ℕ) (es : Part) → d < 64 → self.now ≡ kept_hashes (slots_of d es) → IfSome (option_copied result) (λ hash. hash ≡ part_root (4 * d) es) }
     {
         self.at(14)

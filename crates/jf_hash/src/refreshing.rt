@@ -68,14 +68,23 @@ pub fn refresh<P: Places, L: Ledger>(
     out: &mut Vec<Hash>,
     steps: &mut Steps<L>,
 ) -> Hash
+    // The range ends within the sixteen places.
     requires within { start + width ≤ 16 }
+    // The `width - 1` ranges that are kept from `first` on are among the fifteen.
     requires places { first + width ≤ 16 }
+    // The range has at least one place.
     requires positive { 1 ≤ width }
+    // There are sixteen places.
     requires long { length (P.slots places.now) ≡ 16 }
+    // `occupied` says at which of these places a child stands.
     requires children { occupied.now.children ≡ map is_occupied (P.slots places.now) }
+    // `occupied` says at which of these places a leaf stands.
     requires leaves { occupied.now.leaves ≡ map holds_leaf (P.slots places.now) }
+    // If `old` fits outside `changed` and `out` has room, the range's hash is returned and its kept ones are appended.
     ensures value { (level : ℕ) (olds : List Slot) → level ≤ 4 → width ≡ 2 ^ level → take (width - 1) (drop first old.now) ≡ kept_within level olds → Agree olds (take width (drop start changed)) (take width (drop start (P.slots places.now))) → length out.old.items + length (present (kept_within level (take width (drop start (P.slots places.now))))) ≤ vec_capacity out.old → (result ≡ range_hash level (take width (drop start (P.slots places.now)))) × (out.new.items ≡ out.old.items ++ present (kept_within level (take width (drop start (P.slots places.now))))) }
+    // The capacity of `out` doesn't shrink.
     ensures capacity { vec_capacity out.old ≤ vec_capacity out.new }
+    // A step is counted for each range of two places or more within this one with a changed place and over one leaf.
     ensures pairs { (level : ℕ) → level ≤ 4 → width ≡ 2 ^ level → steps.new ≡ steps.old + pairs_within level (take width (drop start (P.slots places.now))) (take width (drop start changed)) }
 {
     if width == 1 {

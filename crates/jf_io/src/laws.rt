@@ -9,11 +9,13 @@ pub fn bytes_without_feed_are_one_line()
 
 /// The first line ends at the first line feed.
 pub fn first_line_ends_at_first_feed()
+    // If `line` has no line feed, then `line`, a line feed and `rest` have the line `line`, then the lines of `rest`.
     ensures { (line rest : List ℕ) → whole_lines line ≡ 0 → lines (line ++ 10 ∷ rest) ≡ line ∷ lines rest }
 {}
 
 /// After a line feed the lines are those of the bytes that follow.
 pub fn lines_go_on_after_a_feed()
+    // The lines of `front`, a line feed and `rest` are those of `front` with its line feed, then those of `rest`.
     ensures { (front rest : List ℕ) → lines (front ++ 10 ∷ rest) ≡ lines (front ++ 10 ∷ []) ++ lines rest }
 {}
 

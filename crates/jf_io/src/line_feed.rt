@@ -5,7 +5,9 @@ ghost use Rattle.jf_io.specs.LineReader.{is_line_feed};
 
 /// The offset of the first line feed, or the length if there is no line feed.
 pub fn first_line_feed(bytes: &[u8]) -> usize
+    // The result is at most the length of `bytes`.
     ensures within { result ≤ length bytes.now }
+    // The result is the offset of the first line feed, or the length if there is no line feed.
     ensures value { result ≡ position_or_len is_line_feed bytes.now }
 {
     line_feed(bytes).unwrap_or(bytes.len())

@@ -46,7 +46,9 @@ impl LineReader {
     /// A reader that holds nothing. A line of at most `limit` bytes will be held whole, and the source will be asked for at
     /// most `piece` bytes at a time, 1 to `MAX_PIECE`.
     pub fn new(alloc: Global, limit: usize, piece: usize) -> LineReader
+        // The piece has 1 to `MAX_PIECE` bytes.
         requires piece { (1 ≤ piece) × (piece ≤ MAX_PIECE) }
+        // The result has this limit and this piece, and holds no bytes.
         ensures { result ≡ record { limit = limit; piece = piece; bytes = [] } }
     {
         LineReader {
@@ -60,9 +62,13 @@ impl LineReader {
 
     /// Whether a whole line is held, with its line feed. Then `fetch` does not ask the source. Each byte is searched once.
     pub fn finds_line(&mut self) -> bool
+        // The bytes held, the limit and the piece are unchanged.
         ensures unchanged { self.new ≡ self.old }
+        // At most `limit` + 1 bytes and one piece are held.
         ensures small { length self.new.bytes ≤ self.new.limit + 1 + self.new.piece }
+        // After the first line, fewer bytes than a piece are held.
         ensures ahead { length (after_first is_line_feed self.new.bytes) < self.new.piece }
+        // The result is `true` exactly if a line feed is held.
         ensures found { IsTrue result ↔ (position_or_len is_line_feed self.new.bytes < length self.new.bytes) }
     {
         self.searched = line_end(&self.bytes, self.start, self.searched);
@@ -77,16 +83,25 @@ impl LineReader {
     pub fn fetch<S: Source>(&mut self, source: &mut S) -> Result<bool, FetchFault>
         // Whatever the outcome, no byte is invented, and only bytes of a line past its first `limit` + 1 are lost.
         ensures kept { (text : List ℕ) → IsShortened self.old.limit text self.old.bytes → IsFetched self.old.limit text self.new.bytes (S.rest source.old) (S.rest source.new) }
+        // The limit is unchanged.
         ensures limit { self.new.limit ≡ self.old.limit }
+        // The piece is unchanged.
         ensures piece { self.new.piece ≡ self.old.piece }
+        // At most `limit` + 1 bytes and one piece are held.
         ensures small { length self.new.bytes ≤ self.new.limit + 1 + self.new.piece }
         // After the first line, fewer bytes than a piece are held.
         ensures ahead { length (after_first is_line_feed self.new.bytes) < self.new.piece }
+        // If a line feed was held before, the result is `Ok(true)`, and reader and source are unchanged.
         ensures ready { position_or_len is_line_feed self.old.bytes < length self.old.bytes → (result ≡ Ok true) × (self.new ≡ self.old) × (source.new ≡ source.old) }
+        // After `Ok(true)` a line feed is held, or some byte is and a source whose rest is known has none to come.
         ensures found { result ≡ Ok true → (position_or_len is_line_feed self.new.bytes < length self.new.bytes) ⊎ ((0 < length self.new.bytes) × ((left : List ℕ) → S.rest source.new ≡ Some left → left ≡ [])) }
+        // After `Ok(false)` nothing is held, and a source whose rest is known has no byte to come.
         ensures ended { result ≡ Ok false → (self.new.bytes ≡ []) × ((left : List ℕ) → S.rest source.new ≡ Some left → left ≡ []) }
+        // After `ReadFault` no line feed is held.
         ensures unfinished { result ≡ Err FetchFault.ReadFault → position_or_len is_line_feed self.new.bytes ≡ length self.new.bytes }
+        // After `ReadFault` the source's count of faults rose, or stood at `u64::MAX` before.
         ensures cause { result ≡ Err FetchFault.ReadFault → HasCause (S.faults source.old) (S.faults source.new) }
+        // The source's count of faults doesn't fall.
         ensures counts { S.faults source.old ≤ S.faults source.new }
     {
         loop {

@@ -36,7 +36,9 @@ impl MemSink {
     ///
     /// All memory is taken here. If there is too little, `failing` is dropped.
     pub fn new(alloc: Global, piece: usize, room: u64, failing: Vec<u64>) -> Result<MemSink, Memory>
+        // The piece isn't 0.
         requires { 0 < piece }
+        // After `Ok` the text is empty, room, piece and failing calls are as given, and both counts of calls are 0.
         ensures { IfOk result (λ s. s ≡ record { text = []; room = room; piece = piece; calls = record { made = 0; failing = failing.items; faults = 0 } }) }
     {
         Ok(MemSink {
@@ -68,19 +70,27 @@ impl Sink for MemSink {
     ghost faults = { λ s. s.calls.faults };
 
     fn put(&mut self, bytes: &[u8]) -> Result<usize, IoFailed>
+        // There is at least one byte to put.
         requires { 0 < length bytes.now }
 
         // What every sink does.
         ensures count { IfOk result (λ n. (0 < n) × (n ≤ length bytes.now)) }
+        // After `Ok` of n the text is the old one followed by the first n of `bytes`.
         ensures text { IfOk result (λ n. Some self.new.text ≡ option_map (λ t. t ++ take n bytes.now) (Some self.old.text)) }
+        // After an error the text is unchanged.
         ensures err { OnErr result (Some self.new.text ≡ Some self.old.text) }
+        // The count of faults doesn't fall.
         ensures counts { self.old.calls.faults ≤ self.new.calls.faults }
+        // After an error the count of faults rose, or stood at `u64::MAX` before.
         ensures cause { IsErr result → HasCause self.old.calls.faults self.new.calls.faults }
 
         // What this sink does.
         ensures fails { IsErr result ↔ FailsNextPut self.old }
+        // After `Ok` the result is the least of the number of `bytes`, the piece and the room.
         ensures amount { IfOk result (λ n. n ≡ next_put_amount self.old bytes.now) }
+        // After `Ok` of n, n bytes were appended, the room is n less, the call is counted, and all else is unchanged.
         ensures ok { IfOk result (λ n. self.new ≡ after_put self.old n bytes.now) }
+        // After an error the call and the fault are counted, and all else is unchanged.
         ensures failed { OnErr result (self.new ≡ after_failed_put self.old) }
     {
         if self.is_next_failing() {

@@ -33,7 +33,9 @@ impl MemSource {
     /// A source of `bytes` that gives at most `piece` of them a call. The calls to `take` whose numbers, from 0, are in
     /// `failing` fail. From call number `u64::MAX` on each call has that number.
     pub fn new(bytes: Bytes, piece: usize, failing: Vec<u64>) -> MemSource
+        // The piece isn't 0.
         requires { 0 < piece }
+        // All of `bytes` is to come, piece and failing calls are as given, and all counts are 0.
         ensures { result ≡ record { rest = bytes; given = 0; piece = piece; calls = record { made = 0; failing = failing.items; faults = 0 } } }
     {
         MemSource {
@@ -60,25 +62,39 @@ impl Source for MemSource {
     ghost faults = { λ s. s.calls.faults };
 
     fn take(&mut self, buf: &mut [u8]) -> Result<usize, IoFailed>
+        // The buffer isn't empty.
         requires { 0 < length buf.old }
 
         // What every source does.
         ensures within { IfOk result (λ n. n ≤ length buf.old) }
+        // After `Ok` the count of bytes given rose by the result.
         ensures given { IfOk result (λ n. self.new.given ≡ self.old.given + n) }
+        // After `Ok` the count of bytes given is below 2^64.
         ensures bounded { OnOk result (self.new.given < 2 ^ 64) }
+        // After `Ok` of n the bytes to come are the former ones without their first n.
         ensures moved { IfOk result (λ n. Some self.new.rest ≡ option_map (drop n) (Some self.old.rest)) }
+        // After `Ok` of n at least n bytes were to come; `buf` starts with their first n, and is unchanged past these.
         ensures bytes { IfSome (Some self.old.rest) (λ all. IfOk result (λ n. (n ≤ length all) × (buf.new ≡ take n all ++ drop n buf.old))) }
+        // After `Ok(0)` no byte was to come.
         ensures end { IfSome (Some self.old.rest) (λ all. IfOk result (λ n. n ≡ 0 → all ≡ [])) }
+        // A source that has given 2^64 - 1 bytes returns an error.
         ensures last { self.old.given ≡ 2 ^ 64 - 1 → IsErr result }
+        // After an error the bytes to come and the count of bytes given are unchanged.
         ensures err { OnErr result ((Some self.new.rest ≡ Some self.old.rest) × (self.new.given ≡ self.old.given)) }
+        // After an error `buf` is unchanged.
         ensures kept { IfSome (Some self.old.rest) (λ _. OnErr result (buf.new ≡ buf.old)) }
+        // The count of faults doesn't fall.
         ensures counts { self.old.calls.faults ≤ self.new.calls.faults }
+        // After an error the count of faults rose, or stood at `u64::MAX` before.
         ensures cause { IsErr result → HasCause self.old.calls.faults self.new.calls.faults }
 
         // What this source does.
         ensures fails { IsErr result ↔ FailsNextTake self.old }
+        // After `Ok` the result is the least of the number of bytes to come, the length of `buf` and the piece.
         ensures amount { IfOk result (λ n. n ≡ next_take_amount self.old (length buf.old)) }
+        // After `Ok` of n the first n bytes to come are gone; they and the call are counted; all else is unchanged.
         ensures ok { IfOk result (λ n. self.new ≡ after_take self.old n) }
+        // After an error the call and the fault are counted, and all else is unchanged.
         ensures failed { OnErr result (self.new ≡ after_failed_take self.old) }
     {
         if self.is_next_failing() {

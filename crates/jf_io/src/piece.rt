@@ -24,16 +24,27 @@ pub fn append_piece<S: Source>(
     source: &mut S,
     piece: usize,
 ) -> Result<usize, FetchFault>
+    // The piece has 1 to `MAX_PIECE` bytes.
     requires { (1 ≤ piece) × (piece ≤ MAX_PIECE) }
+    // The bytes held before are still at the front, unchanged.
     ensures front { take (length bytes.old.items) bytes.new.items ≡ bytes.old.items }
+    // At most `piece` bytes are appended.
     ensures short { length bytes.new.items ≤ length bytes.old.items + piece }
+    // After `Ok` the result is the number of bytes appended.
     ensures grown { IfOk result (λ n. length bytes.new.items ≡ length bytes.old.items + n) }
+    // If the source's rest was known, it still is; `bytes` followed by the rest is the same list as before.
     ensures kept { (rest : List ℕ) → S.rest source.old ≡ Some rest → (left : List ℕ) × (S.rest source.new ≡ Some left) × (bytes.new.items ++ left ≡ bytes.old.items ++ rest) }
+    // After an error the bytes held are unchanged.
     ensures err { OnErr result (bytes.new.items ≡ bytes.old.items) }
+    // After `Ok(0)` the bytes held are unchanged, and a source whose rest is known has no byte to come.
     ensures end { IfOk result (λ n. n ≡ 0 → (bytes.new.items ≡ bytes.old.items) × ((left : List ℕ) → S.rest source.new ≡ Some left → left ≡ [])) }
+    // After `Ok` the source's count of bytes given rose by the result.
     ensures given { IfOk result (λ n. S.given source.new ≡ S.given source.old + n) }
+    // After `Ok` the source's count of bytes given is below 2^64.
     ensures bounded { OnOk result (S.given source.new < 2 ^ 64) }
+    // After `ReadFault` the source's count of faults rose, or stood at `u64::MAX` before.
     ensures cause { result ≡ Err FetchFault.ReadFault → HasCause (S.faults source.old) (S.faults source.new) }
+    // The source's count of faults doesn't fall.
     ensures counts { S.faults source.old ≤ S.faults source.new }
 {
     let len = bytes.len();

@@ -26,6 +26,7 @@ impl<W> Model for StdSink<W> {
 impl<W: Write> StdSink<W> {
     /// A sink whose bytes go to `writer`. Each `put` flushes the writer, so that no byte waits in a buffer on return.
     pub fn new(writer: W) -> StdSink<W>
+        // The count of faults is 0.
         ensures { result ≡ 0 }
     {
         StdSink { writer, faults: 0 }

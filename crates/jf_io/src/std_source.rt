@@ -27,6 +27,7 @@ impl<B> Model for StdSource<B> {
 impl<B: Read> StdSource<B> {
     /// A source of what `reader` gives from here on.
     pub fn new(reader: B) -> StdSource<B>
+        // The count of bytes given and the count of faults are 0.
         ensures { result ≡ record { given = 0; faults = 0 } }
     {
         StdSource {

@@ -22,7 +22,9 @@ pub fn join_pieces<H: Threads + Sync, T: Sync, R: Send + Drop, G: Gate, F: Fn(&T
     gate: &G,
     f: &F,
 ) -> Result<Vec<R>, Memory>
+    // `f` may be called on each piece.
     requires callable { TakesEach F.Fn f.now pieces.now }
+    // After `Ok` there are as many results as pieces, and each is one that `f` may return for the piece at its place.
     ensures { IfOk result (λ v. AnswersEach F.Fn f.now pieces.now v.items) }
 {
     join_pieces_from(rt, alloc, pieces, 0, workers, gate, f)
@@ -40,8 +42,11 @@ pub fn join_pieces_from<H: Threads + Sync, T: Sync, R: Send + Drop, G: Gate, F: 
     gate: &G,
     f: &F,
 ) -> Result<Vec<R>, Memory>
+    // The number after that of the last piece is below 2^64.
     requires numbered { first + length pieces.now < 2 ^ 64 }
+    // `f` may be called on each piece.
     requires callable { TakesEach F.Fn f.now pieces.now }
+    // After `Ok` there are as many results as pieces, and each is one that `f` may return for the piece at its place.
     ensures { IfOk result (λ v. AnswersEach F.Fn f.now pieces.now v.items) }
 {
     if pieces.len() < 2 {

@@ -44,10 +44,15 @@ pub fn judge_reply<S: Source, K: Sink>(
     source: &mut S,
     sink: &mut K,
 ) -> Judged
+    // What was taken and written is as the result says, and what was written is sound and fair as in `look_up`.
     ensures judged { HasJudgedReply result root.now name.now (S.rest source.old) (S.rest source.new) (K.text sink.old) (K.text sink.new) }
+    // After `ReadFault` and `Memory` the sink is unchanged.
     ensures unwritten { (result ≡ Judged.ReadFault) ⊎ (result ≡ Judged.Memory) → sink.new ≡ sink.old }
+    // `ReadFault` comes only with a fault of the source: its count of faults rose, or stood at its greatest.
     ensures read { result ≡ Judged.ReadFault → HasCause (S.faults source.old) (S.faults source.new) }
+    // `WriteFault` comes only with a fault of the sink: its count of faults rose, or stood at its greatest.
     ensures write { result ≡ Judged.WriteFault → HasCause (K.faults sink.old) (K.faults sink.new) }
+    // The counts of faults of source and sink don't fall.
     ensures counts { (S.faults source.old ≤ S.faults source.new) × (K.faults sink.old ≤ K.faults sink.new) }
 {
     honest_blocks_are_believed();

@@ -17,6 +17,7 @@ use jf_path::{Bytes, Key};
 /// check that fails. Takes no memory. Each fork and leaf of the proof is hashed once, and each value that is claimed; the
 /// path of each key is walked twice, at most 257 items each time.
 pub fn verify_many(root: &Hash, claims: &Claims, proof: &ManyProof) -> Result<(), ManyFault>
+    // Returns the first fault: `Shape`, then the least claim's `Missing`, then the least claim's `Single`; or Ok.
     ensures { result_err result ≡ many_refusal root.now claims.now proof.now }
 {
     let Some(top) = root_of(proof.as_slice()) else {

@@ -22,13 +22,21 @@ pub fn answer_names<S: Source, K: Sink, D: Disk>(
     source: &mut S,
     sink: &mut K,
 ) -> Result<(), NamesFault>
+    // What was read and written is as the result says; `Outside` comes exactly if the version isn't from floor to head.
     ensures answered { AnswersNames result engine.now.versions version (S.rest source.old) (S.rest source.new) (K.text sink.old) (K.text sink.new) }
+    // If the version is inside and the input is known to fail at a line, it ends with that `Line`, `ReadFault` or `Memory`.
     ensures line { IsInside engine.now.versions version → RefusesLine result (S.rest source.old) }
+    // After `Outside` source and sink are unchanged.
     ensures untouched { (least head : ℕ) → result ≡ Err (NamesFault.Outside least head) → (source.new ≡ source.old) × (sink.new ≡ sink.old) }
+    // After `ReadFault` the sink is unchanged.
     ensures unwritten { result ≡ Err NamesFault.ReadFault → sink.new ≡ sink.old }
+    // After `Line` and `Memory` the sink is unchanged.
     ensures silent { (at : ℕ) → (result ≡ Err (NamesFault.Line at)) ⊎ (result ≡ Err NamesFault.Memory) → sink.new ≡ sink.old }
+    // `ReadFault` comes only with a fault of the source: its count of faults rose, or stood at its greatest.
     ensures read { result ≡ Err NamesFault.ReadFault → HasCause (S.faults source.old) (S.faults source.new) }
+    // `WriteFault` comes only with a fault of the sink: its count of faults rose, or stood at its greatest.
     ensures write { result ≡ Err NamesFault.WriteFault → HasCause (K.faults sink.old) (K.faults sink.new) }
+    // The counts of faults of source and sink don't fall.
     ensures counts { (S.faults source.old ≤ S.faults source.new) × (K.faults sink.old ≤ K.faults sink.new) }
 {
     let Some(snapshot) = engine.at(version) else {

@@ -29,6 +29,7 @@ impl Branches {
 
     /// The child at a nibble.
     pub fn get(&self, n: Nibble) -> Option<&Link>
+        // The result is the child at nibble `n`, or `None` if there is none.
         ensures { option_copied result ≡ slice_index_or self.now n None }
     {
         let place = n.get() as usize;
@@ -42,7 +43,9 @@ impl Branches {
 
     /// The child at a place.
     pub fn child_at(&self, place: usize) -> Option<&Link>
+        // The place is one of the sixteen, 0 to 15.
         requires { place < 16 }
+        // The result is the child at this place, or `None` if there is none.
         ensures { option_copied result ≡ slice_index_or self.now place None }
     {
         self.get(Nibble::of(place as u8))
@@ -50,7 +53,9 @@ impl Branches {
 
     /// Ensures what holds of the children of every inner node. Changes nothing.
     pub fn know(&self)
+        // There are sixteen places.
         ensures long { length self.now ≡ 16 }
+        // What `Link::know` ensures holds of each child that is there.
         ensures links { (i : ℕ) → i < 16 → IsLinkIf (slice_index_or self.now i None) }
     {
         self.there.know();
@@ -77,6 +82,7 @@ impl Branches {
 
     /// The same children, which are shared and not copied, so that others may take the place of some.
     pub fn share(&self) -> Result<Sixteen, Memory>
+        // After Ok the result has the same children at the same nibbles.
         ensures { IfOk result (λ x. x ≡ self.now) }
     {
         self.know();

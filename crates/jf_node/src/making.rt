@@ -31,9 +31,13 @@ impl Link {
         value: &SharedBytes,
         value_hash: &Hash,
     ) -> Result<Link, Memory>
+        // The depth is at most 64 nibbles.
         requires depth { depth ≤ 64 }
+        // The value has at most 4,096 bytes.
         requires short { length value.now ≤ max_value }
+        // `value_hash` is the hash of the value.
         requires hashed { value_hash.now ≡ V value.now }
+        // After Ok the result has this version, this depth and this one entry, and its only node has this version.
         ensures { IfOk result (λ x. x ≡ leaf_value version depth key.now value.now) }
     {
         let hash = jf_hash::leaf(key, value_hash);
@@ -79,10 +83,15 @@ impl Link {
     /// An inner node over children one nibble deeper, each at its own nibble, with two entries or more. `Memory` also
     /// means that there are 2^64 entries or more.
     pub fn inner(alloc: Global, version: u64, depth: u64, children: Sixteen) -> Result<Link, Memory>
+        // The depth is below 64 nibbles.
         requires depth { depth < 64 }
+        // Each child is one nibble deeper, and its keys have the nibble of its place at this depth.
         requires children { FitFrom depth 0 children }
+        // The children have two entries or more.
         requires plural { 2 ≤ length (entries_of_children children) }
+        // All keys agree in their first `depth` nibbles.
         requires alike { BeginAlike depth (entries_of_children children) }
+        // After Ok the result has this version and depth and the children's entries; nodes below keep their versions.
         ensures { IfOk result (λ x. x ≡ inner_value version depth children) }
     {
         Link::inner_uncounted::<Brand>(alloc, version, depth, children, Blank::new(1))
@@ -97,11 +106,17 @@ impl Link {
         children: Sixteen,
         steps: &mut Steps<L>,
     ) -> Result<Link, Memory>
+        // The depth is below 64 nibbles.
         requires depth { depth < 64 }
+        // Each child is one nibble deeper, and its keys have the nibble of its place at this depth.
         requires children { FitFrom depth 0 children }
+        // The children have two entries or more.
         requires plural { 2 ≤ length (entries_of_children children) }
+        // All keys agree in their first `depth` nibbles.
         requires alike { BeginAlike depth (entries_of_children children) }
+        // After Ok the result has this version and depth and the children's entries; nodes below keep their versions.
         ensures link { IfOk result (λ x. x ≡ inner_value version depth children) }
+        // The new count of steps is at most 15 above the old one, also after Err.
         ensures cost { steps.new ≤ steps.old + 15 }
     {
         children.know();
@@ -141,11 +156,17 @@ impl Link {
         children: Sixteen,
         changed: Bitmap,
     ) -> Result<Link, Memory>
+        // This node has two entries or more: it is an inner node.
         requires inner { 2 ≤ length self.now.entries }
+        // At this node's depth the keys of each child have the nibble of its place; the child is one nibble deeper.
         requires children { FitFrom self.now.depth 0 children }
+        // The new children have two entries or more.
         requires plural { 2 ≤ length (entries_of_children children) }
+        // All keys of the new children agree in as many first nibbles as this node is deep.
         requires alike { BeginAlike self.now.depth (entries_of_children children) }
+        // At each nibble that isn't in `changed` the new children have the same entries as this node.
         requires elsewhere { SameElsewhere changed self.now.depth self.now.entries (entries_of_children children) }
+        // After Ok the result has `version`, this node's depth and the new entries; nodes below keep their versions.
         ensures { IfOk result (λ x. x ≡ inner_value version self.now.depth children) }
     {
         self.with_children_uncounted::<Brand>(alloc, version, children, changed, Blank::new(1))
@@ -161,12 +182,19 @@ impl Link {
         changed: Bitmap,
         steps: &mut Steps<L>,
     ) -> Result<Link, Memory>
+        // This node has two entries or more: it is an inner node.
         requires inner { 2 ≤ length self.now.entries }
+        // At this node's depth the keys of each child have the nibble of its place; the child is one nibble deeper.
         requires children { FitFrom self.now.depth 0 children }
+        // The new children have two entries or more.
         requires plural { 2 ≤ length (entries_of_children children) }
+        // All keys of the new children agree in as many first nibbles as this node is deep.
         requires alike { BeginAlike self.now.depth (entries_of_children children) }
+        // At each nibble that isn't in `changed` the new children have the same entries as this node.
         requires elsewhere { SameElsewhere changed self.now.depth self.now.entries (entries_of_children children) }
+        // After Ok the result has `version`, this node's depth and the new entries; nodes below keep their versions.
         ensures link { IfOk result (λ x. x ≡ inner_value version self.now.depth children) }
+        // The new count of steps is at most the old one and four for each place in `changed`, also after Err.
         ensures cost { steps.new ≤ steps.old + 4 * count_by (λ bit. bit) changed }
     {
         self.know();
@@ -258,8 +286,11 @@ impl Link {
 
     /// A leaf at another depth and of another version. Nothing is hashed.
     pub fn at(&self, alloc: Global, version: u64, depth: u64) -> Result<Link, Memory>
+        // The node has one entry: it is a leaf.
         requires single { length self.now.entries ≡ 1 }
+        // The new depth is at most 64 nibbles.
         requires depth { depth ≤ 64 }
+        // After Ok the result has the new version and depth and the same entry, and its only node has the new version.
         ensures { IfOk result (λ x. x ≡ moved_value version depth self.now) }
     {
         match self.view() {
@@ -277,6 +308,7 @@ impl Link {
 
     /// This node written anew by another version. Nothing is hashed.
     pub fn renewed_link(&self, alloc: Global, version: u64) -> Result<Link, Memory>
+        // After Ok the result has the new version and the same depth and entries; nodes below keep their versions.
         ensures { IfOk result (λ x. x ≡ renewed_value version self.now) }
     {
         match self.view() {

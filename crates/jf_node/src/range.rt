@@ -104,7 +104,9 @@ fn leaf_bit(link: &Link, depth: u64) -> bool
 impl<'a> Range<'a> {
     /// A node without entries.
     pub fn empty(depth: u64) -> Range<'a>
+        // The depth is at most 256.
         requires { depth ≤ 256 }
+        // The result has this depth and no entry.
         ensures { result ≡ record { depth = depth; entries = [] } }
     {
         Range {
@@ -180,6 +182,7 @@ impl<'a> Range<'a> {
 
     /// Ensures what holds of every range. Changes nothing.
     pub fn know(&self)
+        // Under 2^64 keys of 32 bytes rise and agree in `depth` bits, 256 at most, or 255 if several; values have 4,096 at most.
         ensures { IsRangeValue self.now }
     {
         match self.place {
@@ -198,7 +201,9 @@ impl<'a> Range<'a> {
 
     /// What it holds: no entry, one, or more.
     pub fn state(&self) -> RangeState<'a>
+        // The result is `Empty` for no entry, `Leaf` for one, with the hash of its value, or `More` for two or more.
         ensures entries { IsRangeState self.now.entries result }
+        // With two entries or more the depth is below 256: there is a next bit.
         ensures depth { 2 ≤ length self.now.entries → self.now.depth < 256 }
     {
         match self.place {
@@ -221,6 +226,7 @@ impl<'a> Range<'a> {
 
     /// Its hash. Nothing is hashed.
     pub fn hash(&self) -> Hash
+        // The result is the root of the entries at this depth.
         ensures { result ≡ part_root self.now.depth self.now.entries }
     {
         match self.place {
@@ -232,7 +238,9 @@ impl<'a> Range<'a> {
 
     /// Its half of the entries whose next bit is 0.
     pub fn zeros(&self) -> Range<'a>
+        // The depth is below 256: there is a next bit.
         requires { self.now.depth < 256 }
+        // The result is one bit deeper, and has the entries whose key has 0 at bit `depth`.
         ensures { result ≡ record { depth = self.now.depth + 1; entries = zeros self.now.depth self.now.entries } }
     {
         match self.place {
@@ -250,7 +258,9 @@ impl<'a> Range<'a> {
 
     /// Its half of the entries whose next bit is 1.
     pub fn ones(&self) -> Range<'a>
+        // The depth is below 256: there is a next bit.
         requires { self.now.depth < 256 }
+        // The result is one bit deeper, and has the entries whose key has 1 at bit `depth`.
         ensures { result ≡ record { depth = self.now.depth + 1; entries = ones self.now.depth self.now.entries } }
     {
         match self.place {
@@ -270,8 +280,11 @@ impl<'a> Range<'a> {
 
     /// Both halves: first the entries whose next bit is 0, then those where it is 1.
     pub fn halves(&self) -> (Range<'a>, Range<'a>)
+        // The depth is below 256: there is a next bit.
         requires { self.now.depth < 256 }
+        // The first half is one bit deeper, and has the entries whose key has 0 at bit `depth`.
         ensures zeros { result.0 ≡ record { depth = self.now.depth + 1; entries = zeros self.now.depth self.now.entries } }
+        // The second half is one bit deeper, and has the entries whose key has 1 at bit `depth`.
         ensures ones { result.1 ≡ record { depth = self.now.depth + 1; entries = ones self.now.depth self.now.entries } }
     {
         (self.zeros(), self.ones())
@@ -296,6 +309,7 @@ impl<'a> Range<'a> {
 
     /// The same node, kept with the stored node in which it is seen.
     pub fn share(&self) -> Result<SharedRange, Memory>
+        // After Ok the result has the same depth and entries.
         ensures { IfOk result (λ x. x ≡ self.now) }
     {
         let place = self.place.share()?;

@@ -13,7 +13,9 @@ use std::sync::ledger::{Blank, Ledger};
 /// The key and the value at a place of a snapshot's map, from 0 on in ascending order of keys; `None` exactly if the
 /// place isn't below the number of entries. Takes no memory: both are the snapshot's own.
 pub fn nth(snapshot: &Snapshot, place: u64) -> Option<(&Key, &[u8])>
+    // There is an entry exactly if `place` is below the number of the map's entries.
     ensures there { is_some result ≡ nat_lt place (fin.len snapshot.now.map) }
+    // The entry is the map's key and value at `place`, from 0 on in ascending order of keys.
     ensures entry { option_map (λ e. (e.0.now, e.1.now)) result ≡ slice_get (fin.entries snapshot.now.map) place }
 {
     nth_uncounted::<Brand>(snapshot, place, Blank::new(1))
@@ -26,8 +28,11 @@ pub fn nth_counted<'a, L: Ledger>(
     place: u64,
     steps: &mut Steps<L>,
 ) -> Option<(&'a Key, &'a [u8])>
+    // There is an entry exactly if `place` is below the number of the map's entries.
     ensures there { is_some result ≡ nat_lt place (fin.len snapshot.now.map) }
+    // The entry is the map's key and value at `place`, from 0 on in ascending order of keys.
     ensures entry { option_map (λ e. (e.0.now, e.1.now)) result ≡ slice_get (fin.entries snapshot.now.map) place }
+    // At most 1,024 steps are added to the count.
     ensures cost { steps.new ≤ steps.old + 1024 }
 {
     match snapshot.top() {

@@ -68,9 +68,13 @@ impl Frontier {
 
     /// Makes this the frontier of one more entry, whose key is above all others. A step is one hash computed.
     pub fn push<L: Ledger>(&mut self, key: &Key, value: &[u8], steps: &mut Steps<L>)
+        // The key is above that of the last entry, if there is one.
         requires { IfSome self.old.last (λ l. key_cmp l.0 key.now ≡ Less) }
+        // If this was the frontier of entries that ascend with the new one at their end, it is now the frontier of all these.
         ensures value { (es : Entries) → self.old ≡ frontier_of es → IsAscending (es ++ (key.now, value.now) ∷ []) → self.new ≡ frontier_of (es ++ (key.now, value.now) ∷ []) }
+        // The last leaf is that of the new entry.
         ensures last { self.new.last ≡ Some (leaf_of (key.now, value.now)) }
+        // At most 257 steps are taken.
         ensures cost { steps.new ≤ steps.old + 257 }
     {
         if let Some(leaf) = self.last {
@@ -85,9 +89,13 @@ impl Frontier {
 
     /// Makes this the frontier of more entries, whose keys ascend from the last one on. A step is one hash computed.
     pub fn extend<L: Ledger>(&mut self, entries: &[(Key, Bytes)], steps: &mut Steps<L>)
+        // The keys of the new entries ascend strictly, from that of the last entry on.
         requires { T (rises_after self.old.last entries.now) }
+        // If this was the frontier of entries that ascend with the new ones behind them, it is now the frontier of all these.
         ensures value { (es : Entries) → self.old ≡ frontier_of es → IsAscending (es ++ entries.now) → self.new ≡ frontier_of (es ++ entries.now) }
+        // The last leaf is that of the last new entry, or the one from before if there is none.
         ensures last { self.new.last ≡ last_or self.old.last (map leaf_of entries.now) }
+        // At most 257 steps are taken for each new entry.
         ensures cost { steps.new ≤ steps.old + 257 * length entries.now }
     {
         for entry in entries {
@@ -98,7 +106,9 @@ impl Frontier {
 
     /// The root of all entries. A step is one hash computed: there are at most 257, however many entries there are.
     pub fn root<L: Ledger>(&self, steps: &mut Steps<L>) -> Hash
+        // If this is the frontier of ascending entries, the result is their root.
         ensures value { (es : Entries) → self.now ≡ frontier_of es → IsAscending es → result ≡ part_root 0 es }
+        // At most 257 steps are taken.
         ensures cost { steps.new ≤ steps.old + 257 }
     {
         let Some(last) = &self.last else {
@@ -113,10 +123,15 @@ impl Frontier {
     /// The root that all entries come to with a proof for a chunk that ends with the last one. A step is one hash
     /// computed.
     pub fn chunk_root<L: Ledger>(&self, proof: &RangeProof, steps: &mut Steps<L>) -> Hash
+        // There is at least one entry.
         requires positive { IsSome self.now.last }
+        // The depth of the proof is at most 256.
         requires depth { proof.now.depth ≤ 256 }
+        // The proof has as many siblings as the last key has 0 bits among its first `depth` bits.
         requires counted { IfSome self.now.last (λ l. length proof.now.siblings ≡ zero_bits proof.now.depth 0 l.0) }
+        // If this is the frontier of ascending entries, the result is the root that they and the proof come to.
         ensures value { (es : Entries) → self.now ≡ frontier_of es → IsAscending es → result ≡ range_root es proof.now }
+        // At most 257 steps are taken.
         ensures cost { steps.new ≤ steps.old + 257 }
     {
         let Some(last) = &self.last else {

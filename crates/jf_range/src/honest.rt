@@ -24,7 +24,9 @@ pub fn prove_range(
     start: u64,
     count: u64,
 ) -> Result<(Pairs, RangeProof), RangeAsk>
+    // At least one entry is asked for.
     requires { 1 ≤ count }
+    // After `Ok` these are the entries from the place on, with their honest proof; `Beyond` comes exactly if none stands there.
     ensures { MatchResult result (IsChunk snapshot.now.map start count) (IsNoChunk snapshot.now.map start) }
 {
     prove_uncounted::<Brand>(alloc, snapshot, start, count, Blank::new(1))
@@ -40,8 +42,11 @@ pub fn prove_range_counted<L: Ledger>(
     count: u64,
     steps: &mut Steps<L>,
 ) -> Result<(Pairs, RangeProof), RangeAsk>
+    // At least one entry is asked for.
     requires { 1 ≤ count }
+    // After `Ok` these are the entries from the place on, with their honest proof; `Beyond` comes exactly if none stands there.
     ensures chunk { MatchResult result (IsChunk snapshot.now.map start count) (IsNoChunk snapshot.now.map start) }
+    // At most 65 steps are taken for each entry that is asked for and there, and 2,306 more.
     ensures cost { steps.new ≤ steps.old + 65 * min count (fin.len snapshot.now.map - start) + 2306 }
 {
     let total = snapshot.count();

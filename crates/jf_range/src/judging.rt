@@ -24,8 +24,11 @@ impl Frontier {
         proof: &RangeProof,
         steps: &mut Steps<L>,
     ) -> Result<Frontier, RangeFault>
+        // If this is the frontier of ascending entries, `Ok` has that of all, which ascend; `Err` has the first check that fails.
         ensures judged { (known : Entries) → self.now ≡ frontier_of known → IsAscending known → MatchResult result (IsAcceptedRange root.now known fresh.now proof.now) (λ why. range_refusal root.now known fresh.now proof.now ≡ Some why) }
+        // At most 257 steps are taken for each new entry, and 257 more.
         ensures cost { steps.new ≤ steps.old + 257 * (length fresh.now + 1) }
+        // After every refusal but `WrongRoot` no step was taken.
         ensures idle { IfErr result (λ why. why ≢ fault.WrongRoot → steps.new ≡ steps.old) }
     {
         let entries = fresh.as_slice();

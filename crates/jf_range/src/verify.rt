@@ -22,7 +22,9 @@ pub fn verify_range(
     fresh: &Pairs,
     proof: &RangeProof,
 ) -> Result<(), RangeFault>
+    // The keys of the known entries ascend strictly.
     requires { T (is_sorted key_cmp known.now) }
+    // The refusal is the first check that fails; `Ok` comes exactly if none does.
     ensures { result_err result ≡ range_refusal root.now known.now fresh.now proof.now }
 {
     verify_uncounted::<Brand>(root, known, fresh, proof, Blank::new(1))
@@ -56,9 +58,13 @@ fn verify_uncounted<L: Ledger>(
 /// The root that entries, whose keys ascend strictly, come to with a proof for a chunk that ends with the last one. Its
 /// depth is at most 256, and it has as many siblings as the last key has 0 bits among its first `depth` bits.
 pub fn range_root(entries: &Pairs, proof: &RangeProof) -> Hash
+    // There is at least one entry.
     requires positive { 0 < length entries.now }
+    // The keys of the entries ascend strictly.
     requires sorted { T (is_sorted key_cmp entries.now) }
+    // The depth is at most 256, and there is a sibling for each 0 bit among the last key's first `depth` bits.
     requires counted { is_miscounted (last_key entries.now) proof.now ≡ false }
+    // The result is the root that the entries and the proof come to.
     ensures { result ≡ range_root entries.now proof.now }
 {
     root_uncounted::<Brand>(entries, proof, Blank::new(1))

@@ -50,7 +50,9 @@ impl Blocks {
     /// Reads the next line. Refuses a line that doesn't match, and at its last line a block that isn't accepted. If it
     /// is out of memory, what was added before stays.
     pub fn line(&mut self, line: &[u8]) -> Result<(), BlockFault>
+        // The result is the refusal that stands after this line, or `Ok` if none does.
         ensures answer { result ≡ line_result self.new.stage }
+        // The line was read; or, if nothing was refused before, memory ran out: what was added stays, no later line is read.
         ensures after { (self.new ≡ restoring_after self.old line.now) ⊎ ((refusal_at_stage self.old.stage ≡ None) × (self.new ≡ out_of_memory self.old)) }
     {
         if let Stage::Refused(why) = self.stage {
@@ -64,6 +66,7 @@ impl Blocks {
 
     /// Ends the lines. Returns what is restored, if they were whole blocks that were all accepted.
     pub fn end(self) -> Result<Restore, BlockFault>
+        // In the middle of a block it is refused as `Line` of the line that is missing; an earlier refusal is returned.
         ensures { result ≡ restored_at_end self }
     {
         let Blocks {

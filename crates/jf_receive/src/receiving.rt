@@ -41,15 +41,25 @@ pub fn receive<S: Source, K: Sink, D: Disk>(
     source: &mut S,
     sink: &mut K,
 ) -> Received
+    // The version is at most 2^64 - 2.
     requires bounded { version ≤ 2 ^ 64 - 2 }
+    // The store isn't broken.
     requires whole { engine.old.broken ≡ false }
+    // Store, source and sink have changed as the result says, as is told above of each end.
     ensures received { HasReceived result version root engine.old engine.new (S.rest source.old) (S.rest source.new) (K.text sink.old) (K.text sink.new) }
+    // If the head isn't version 0, or has an entry, the result is `NotEmpty` with the head.
     ensures occupied { IsInUse engine.old.versions → result ≡ Received.Refused (RestoreFault.NotEmpty engine.old.versions.head) }
+    // After `NotEmpty` source and sink are unchanged.
     ensures untouched { (head : ℕ) → result ≡ Received.Refused (RestoreFault.NotEmpty head) → (source.new ≡ source.old) × (sink.new ≡ sink.old) }
+    // If the store is new and the input is known and comes to a refusal, it ends with that, `ReadFault` or `Memory`.
     ensures refused { (input : List ℕ) (why : RestoreFault) → S.rest source.old ≡ Some input → IsNewStore engine.old.versions → restore_result engine.old.generation root input ≡ Err why → EndsUnlessStopped (Received.Refused why) result }
+    // If the store is new and the input is known and restores entries, nothing is refused.
     ensures accepted { (input : List ℕ) (es : Entries) (why : RestoreFault) → S.rest source.old ≡ Some input → IsNewStore engine.old.versions → restore_result engine.old.generation root input ≡ Ok es → result ≡ Received.Refused why → ⊥ }
+    // `ReadFault` comes only with a fault of the source: its count of faults rose, or stood at its greatest.
     ensures read { result ≡ Received.ReadFault → HasCause (S.faults source.old) (S.faults source.new) }
+    // `WriteFault` comes only with a fault of the sink: its count of faults rose, or stood at its greatest.
     ensures write { result ≡ Received.WriteFault → HasCause (K.faults sink.old) (K.faults sink.new) }
+    // The counts of faults of source and sink don't fall.
     ensures counts { (S.faults source.old ≤ S.faults source.new) × (K.faults sink.old ≤ K.faults sink.new) }
 {
     if let Some(head) = head_in_use(engine) {

@@ -79,7 +79,7 @@ fn first_replayed<H: Threads + Sync>(
     requires sound { IsRecord format found }
     requires read { IsReadFirst found }
     ensures format { IfOk result (λ r. r.format ≡ format) }
-    ensures first_replayed { IfOk result (λ r. GivesStanding format found (standing_in format r.directory)) }
+    ensures given { IfOk result (λ r. GivesStanding format found (standing_in format r.directory)) }
     ensures generation { (kind : ℕ) (payload : List ℕ) → IsSpelling format found kind payload → IfOk result (λ r. r.generation ≡ number_of payload) }
     ensures unsound { result ≡ Err CheckFault.Unsound → (s : Standing) → GivesStanding format found s → ⊥ }
 {

@@ -58,9 +58,13 @@ impl Batch {
 
     /// The keys in their order, each with its value, or with `None` if it is removed.
     pub fn as_slice(&self) -> &[(Key, Option<SharedBytes>)]
+        // The slice holds the entries of the batch.
         ensures entries { result.now ≡ self.now }
+        // Each key has 32 bytes, the keys rise strictly, and the values are bytes.
         ensures sound { IsBatch self.now }
+        // No two keys are equal.
         ensures distinct { IsDistinct same_key (map (λ e. e.0) self.now) }
+        // There are at most 10,000 keys, and each value has at most 4,096 bytes.
         ensures bounded { IsWithinLimits self.now }
     {
         &self.entries
@@ -68,6 +72,7 @@ impl Batch {
 
     /// A copy of the batch, which shares its values.
     pub fn copy(&self, alloc: Global) -> Result<Batch, Memory>
+        // After Ok, the result has the same entries as this batch.
         ensures { IfOk result (λ b. b ≡ self.now) }
     {
         let mut entries = Vec::with_capacity(alloc, self.entries.len())?;
@@ -80,8 +85,11 @@ impl Batch {
     /// The pieces of the batch at a depth in nibbles, before which all keys must agree: one for each nibble that the
     /// keys have there, in their order, at most sixteen.
     pub fn pieces_at(&self, alloc: Global, depth: usize) -> Result<Vec<Piece>, Memory>
+        // The depth is 0 to 63.
         requires depth { depth < 64 }
+        // Any two keys have the same first `depth` nibbles.
         requires agree { AgreeBefore depth self.now }
+        // After Ok, the pieces tile the entries, with nibbles that rise strictly; each is exactly the entries of its nibble.
         ensures { IfOk result (λ ps. ArePieces depth self.now ps.items) }
     {
         pieces_of(alloc, &self.entries, depth)
@@ -89,10 +97,15 @@ impl Batch {
 
     /// Sets a key to a value of at most 4,096 bytes. After a `BatchFault` the batch is unchanged.
     pub fn put(&mut self, alloc: Global, key: &Key, value: &[u8]) -> Result<(), BatchFault>
+        // The value has at most 4,096 bytes.
         requires { length value.now ≤ max_value }
+        // After Ok, the key has this value, and the other entries are unchanged.
         ensures ok { OnOk result (self.new ≡ put key_cmp key.now (Some value.now) self.old) }
+        // `Full` is returned only if the key is new and 10,000 are there.
         ensures full { result ≡ Err BatchFault.Full → IsTrue (is_full key.now self.old) }
+        // If the key is new and 10,000 are there, the result is `Full` or `Memory`.
         ensures room { IsTrue (is_full key.now self.old) → (result ≡ Err BatchFault.Full) ⊎ (result ≡ Err BatchFault.Memory) }
+        // After Err, the batch is unchanged.
         ensures err { OnErr result (self.new ≡ self.old) }
     {
         let value = SharedBytes::copy_of(alloc, value)?;
@@ -102,10 +115,15 @@ impl Batch {
     /// Says that a key is to be removed. After a `BatchFault` the batch is unchanged. A key that is there already is
     /// never refused.
     pub fn del(&mut self, _alloc: Global, key: &Key) -> Result<(), BatchFault>
+        // After Ok, the key stands in the batch with `None`, and the other entries are unchanged.
         ensures ok { OnOk result (self.new ≡ put key_cmp key.now None self.old) }
+        // `Full` is returned only if the key is new and 10,000 are there.
         ensures full { result ≡ Err BatchFault.Full → IsTrue (is_full key.now self.old) }
+        // If the key is new and 10,000 are there, the result is `Full` or `Memory`.
         ensures room { IsTrue (is_full key.now self.old) → (result ≡ Err BatchFault.Full) ⊎ (result ≡ Err BatchFault.Memory) }
+        // If the key is in the batch already, the result is Ok.
         ensures present { IsSome (find key_cmp key.now self.old) → IsOk result }
+        // After Err, the batch is unchanged.
         ensures err { OnErr result (self.new ≡ self.old) }
     {
         self.set(key, None)

@@ -46,7 +46,9 @@ impl BatchList {
 
     /// Adds a batch at the end. If memory runs out, the batch is dropped, and the list is unchanged.
     pub fn push(&mut self, batch: Batch) -> Result<(), Memory>
+        // After Ok, the list is the old one with the batch at its end.
         ensures ok { OnOk result (self.new ≡ self.old ++ batch ∷ []) }
+        // After Err, the list is unchanged.
         ensures err { OnErr result (self.new ≡ self.old) }
     {
         self.batches.push(batch)?;

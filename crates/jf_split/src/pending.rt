@@ -52,10 +52,15 @@ impl Pending {
     /// Sets a key to a value of at most 4,096 bytes, which is taken over. After a `BatchFault` the changes are as
     /// before.
     pub fn put(&mut self, _alloc: Global, key: &Key, value: SharedBytes) -> Result<(), BatchFault>
+        // The value has at most 4,096 bytes.
         requires { length value ≤ max_value }
+        // After Ok, the key has this value, and the other changes are as before.
         ensures ok { OnOk result (self.new ≡ put key_cmp key.now (Some value) self.old) }
+        // `Full` is returned only if the key is new and 10,000 are there.
         ensures full { result ≡ Err BatchFault.Full → IsTrue (is_full key.now self.old) }
+        // If the key is new and 10,000 are there, the result is `Full` or `Memory`.
         ensures room { IsTrue (is_full key.now self.old) → (result ≡ Err BatchFault.Full) ⊎ (result ≡ Err BatchFault.Memory) }
+        // After Err, the changes are as before.
         ensures err { OnErr result (self.new ≡ self.old) }
     {
         know_bytes(value.as_slice());
@@ -65,10 +70,15 @@ impl Pending {
     /// Says that a key is to be removed. After a `BatchFault` the changes are as before. A key that is there already is
     /// never refused.
     pub fn del(&mut self, _alloc: Global, key: &Key) -> Result<(), BatchFault>
+        // After Ok, the key stands among the changes with `None`, and the other changes are as before.
         ensures ok { OnOk result (self.new ≡ put key_cmp key.now None self.old) }
+        // `Full` is returned only if the key is new and 10,000 are there.
         ensures full { result ≡ Err BatchFault.Full → IsTrue (is_full key.now self.old) }
+        // If the key is new and 10,000 are there, the result is `Full` or `Memory`.
         ensures room { IsTrue (is_full key.now self.old) → (result ≡ Err BatchFault.Full) ⊎ (result ≡ Err BatchFault.Memory) }
+        // If the key is among the changes already, the result is Ok.
         ensures present { IsSome (find key_cmp key.now self.old) → IsOk result }
+        // After Err, the changes are as before.
         ensures err { OnErr result (self.new ≡ self.old) }
     {
         self.set(key, None)
@@ -76,6 +86,7 @@ impl Pending {
 
     /// The batch of these changes, which shares their values.
     pub fn batch(&self, alloc: Global) -> Result<Batch, Memory>
+        // After Ok, the batch has exactly these changes.
         ensures { IfOk result (λ b. b ≡ self.now) }
     {
         let mut entries = Vec::with_capacity(alloc, self.entries.len())?;

@@ -22,8 +22,11 @@ pub fn pieces_of(
     entries: &[(Key, Option<SharedBytes>)],
     depth: usize,
 ) -> Result<Vec<Piece>, Memory>
+    // The depth is 0 to 63.
     requires depth { depth < 64 }
+    // From each entry to the next, the nibble of the key at the depth doesn't fall.
     requires sorted { IsNonDecreasingBy (λ e. nibble e.0 depth) entries.now }
+    // After Ok, the pieces tile the entries, with nibbles that rise strictly; each is exactly the entries of its nibble.
     ensures { IfOk result (λ ps. ArePieces depth entries.now ps.items) }
 {
     let mut pieces = Vec::new(alloc);

@@ -22,8 +22,11 @@ pub fn write_history<K: Sink, D: Disk>(
     version: u64,
     sink: &mut K,
 ) -> Result<(), HistoryFault>
+    // What was appended is as the result says; `Outside` comes exactly if the version's root isn't recorded.
     ensures written { WritesHistory result engine.now.versions version (K.text sink.old) (K.text sink.new) }
+    // `WriteFault` comes only with a fault of the sink: its count of faults rose, or stood at its greatest.
     ensures cause { result ≡ Err HistoryFault.WriteFault → HasCause (K.faults sink.old) (K.faults sink.new) }
+    // The sink's count of faults doesn't fall.
     ensures counts { K.faults sink.old ≤ K.faults sink.new }
 {
     let state = engine.state();

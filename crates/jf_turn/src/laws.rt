@@ -5,6 +5,7 @@ use crate::told::Told;
 
 /// A turn whose word is even has at home the value of its entries, and no seat holds it.
 pub fn free_turn_has_its_value<V: Told>()
+    // The word is twice the count of these entries, and their list begins with all that any seat has seen.
     ensures { FreeTurnHasItsValue V.list V.names V.start }
 {}
 
@@ -15,6 +16,7 @@ pub fn one_seat_holds<V: Told>()
 
 /// The word of a held turn counts the list that its holder keeps, which begins with all that any seat has seen.
 pub fn holder_keeps_the_list<V: Told>()
+    // The word is twice that list's length, and one more; the entries of the list name numbers that were given.
     ensures { HolderKeepsTheList V.list V.names V.start }
 {}
 
@@ -30,10 +32,12 @@ pub fn seats_stand_apart<V: Told>()
 
 /// The numbers that seats stand for and that entries name were given, and each seat has the turn's start.
 pub fn numbers_were_given<V: Told>()
+    // These numbers are below the count of numbers given, which is at most the turn's number of seats.
     ensures { NumbersWereGiven V.list V.names V.start }
 {}
 
 /// A seat that holds nothing has seen each entry that names one of its numbers.
 pub fn own_entries_are_seen<V: Told>()
+    // This is so of each entry that any seat has seen, or that is in the list of a seat that holds the turn.
     ensures { OwnEntriesAreSeen V.list V.names V.start }
 {}

@@ -54,8 +54,11 @@ impl<V: Told> Note<V> {
 
     /// The same note once more. It waits for nobody.
     pub fn again(&mut self, turn: &Turn<V>) -> Note<V>
+        // The note is one of this turn's.
         requires own { IsNoteOf self.old turn.now }
+        // This note stays as it is.
         ensures unchanged { self.new ≡ self.old }
+        // The result equals this note: it has the same turn, start and entries.
         ensures note { result ≡ self.old }
     {
         Note {
@@ -68,9 +71,13 @@ impl<V: Told> Note<V> {
 impl<V: Told> Seat<V> {
     /// Writes down what the seat has seen. It waits for nobody.
     pub fn note(&mut self, turn: &Turn<V>) -> Note<V>
+        // The seat is one of this turn's.
         requires own { IsSeatOf self.old turn.now }
+        // The seat doesn't hold the turn.
         requires idle { self.old.taken ≡ None }
+        // The seat stays as it is.
         ensures unchanged { self.new ≡ self.old }
+        // The result is a note of this turn, and has all entries that the seat has seen.
         ensures note { result ≡ noted self.old }
     {
         Note {
@@ -82,11 +89,17 @@ impl<V: Told> Seat<V> {
     /// Learns a note. Of what the seat has seen and the note, one begins the other, and the seat has then seen the
     /// longer; no entry that is new to it names a number that it stands for. It waits for nobody.
     pub fn learn(&mut self, turn: &Turn<V>, note: Note<V>)
+        // The seat and the note are of this turn.
         requires own { IsSeatOf self.old turn.now × IsNoteOf note turn.now }
+        // The seat doesn't hold the turn.
         requires idle { self.old.taken ≡ None }
+        // The seat has seen the longer of its list and the note's, and is otherwise as before.
         ensures learns { self.new ≡ learning self.old note }
+        // What it has seen now begins with what it had seen before.
         ensures begins { StartsWith self.new.seen self.old.seen }
+        // What it has seen now begins with the note's entries.
         ensures note_begins { StartsWith self.new.seen note.seen }
+        // No entry after those that it had seen before names a number that it stands for.
         ensures others { OthersFollow V.names self.old self.new.seen }
     {
         let seen = note.seen;

@@ -49,7 +49,7 @@ pub fn restored_snapshot(
     requires sorted { T (is_sorted key_cmp entries.now) }
     requires short { AreShortEntries entries.now }
     requires hashed { hashes.now ≡ map (λ e. V e.1) entries.now }
-    ensures restored_snapshot { IfOk result (IsRestored version entries.now versions.now) }
+    ensures restored { IfOk result (IsRestored version entries.now versions.now) }
     ensures refused { result ≡ Err fault.Versions → ¬ (AreNodeVersions version (nodes (map_of_entries entries.now)) versions.now) }
 {
     know_entries(entries);
@@ -95,7 +95,7 @@ fn is_none_greater(version: u64, versions: &[u64]) -> bool
 /// The snapshot of no entry. The empty map has one node, the root.
 fn restored_empty(version: u64, versions: &[u64]) -> Result<Snapshot, RebuildFault>
     requires { IsNewestFirst version versions.now }
-    ensures restored_snapshot { IfOk result (IsRestored version [] versions.now) }
+    ensures restored { IfOk result (IsRestored version [] versions.now) }
     ensures refused { result ≡ Err fault.Versions → ¬ (AreNodeVersions version (nodes (map_of_entries [])) versions.now) }
 {
     if versions.len() == 1 {
@@ -151,7 +151,7 @@ fn restored_part(
     requires part { (path : ℕ → ℕ) × IsPartUnder depth path entries.now }
     requires short { AreShortEntries entries.now }
     requires hashed { hashes.now ≡ map (λ e. V e.1) entries.now }
-    ensures restored_snapshot { IfOk result (IsRestoredPart depth entries.now versions.now taken.old taken.new) }
+    ensures restored { IfOk result (IsRestoredPart depth entries.now versions.now taken.old taken.new) }
     ensures refused { result ≡ Err fault.Versions → length versions.now < taken.old + length (part_nodes depth entries.now) }
 {
     match entries {
@@ -185,7 +185,7 @@ fn restored_children(
     requires short { AreShortEntries entries.now }
     requires hashed { hashes.now ≡ map (λ e. V e.1) entries.now }
     requires within { taken.old ≤ length versions.now }
-    ensures restored_snapshot { IfOk result (AreRestored depth entries.now versions.now taken.old taken.new) }
+    ensures restored { IfOk result (AreRestored depth entries.now versions.now taken.old taken.new) }
     ensures refused { result ≡ Err fault.Versions → length versions.now < taken.old + length (nodes_under depth entries.now) }
 {
     let mut children = Sixteen::none();

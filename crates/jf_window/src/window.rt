@@ -101,7 +101,9 @@ impl<K, T: Fits<K>> Window<K, T> {
 
     /// Takes the value out, with the right to put one back. It waits only for those who have it at the moment.
     pub fn take<H: Wait>(&self, rt: &H) -> (Grip<K, T>, T)
+        // The grip is of this window.
         ensures grip { result.0 ≡ self.now.id }
+        // The value that was taken fits the window's key.
         ensures fits { T.fits self.now.key result.1 }
     {
         let mut token = self.enter();
@@ -111,7 +113,9 @@ impl<K, T: Fits<K>> Window<K, T> {
 
     /// Puts a value back, this one or another, and wakes one who waits. It waits for nobody.
     pub fn give(&self, grip: Grip<K, T>, value: T)
+        // The grip is of this window.
         requires own { grip ≡ self.now.id }
+        // The value to put back fits the window's key.
         requires fits { T.fits self.now.key value }
     {
         let Grip { mut token } = grip;
@@ -135,7 +139,9 @@ impl<K, T: Fits<K>> Window<K, T> {
 impl<K, T: Fits<K> + Drop> Window<K, T> {
     /// A window that shows a value. If memory runs out, the value is dropped.
     pub fn new(alloc: Global, key: &K, value: T) -> Result<Window<K, T>, AllocError>
+        // The value fits the key.
         requires { T.fits key.now value }
+        // After `Ok` the window's key is this one.
         ensures { IfOk result (λ w. w.key ≡ key.now) }
     {
         let mut slots = Vec::with_capacity(alloc, 1)?;

@@ -35,13 +35,21 @@ pub fn run_generated<K: Sink, D: Disk, H: Threads + Wait + Sync, G: Gate>(
     workers: Workers,
     gate: &G,
 ) -> Ran<D>
+    // The pass is one of this store.
     requires own { IsPassOf pass store.now }
+    // The pass has seen no fault of the disk.
     requires unmarked { is_marked pass.seen ≡ false }
+    // The pass pins nothing.
     requires unpinned { pass.pinned ≡ none_pinned }
+    // At most 10,003,002 lines are to come.
     requires lines { length script ≤ max_lines }
+    // The pass that is handed back is one of this store, with the same number.
     ensures own { IsPassOf result.pass store.now × (result.pass.number ≡ pass.number) }
+    // The lines done are the first of the script, answered over the pass; what was written of the replies is as the end says.
     ensures ran { HasRunScript result.end store.now.start script pass result.pass (K.text sink.old) (K.text sink.new) }
+    // `WriteFault` comes only with a fault of the sink: its count of faults rose, or stood at its greatest.
     ensures cause { result.end ≡ End.WriteFault → HasCause (K.faults sink.old) (K.faults sink.new) }
+    // The sink's count of faults doesn't fall.
     ensures counts { K.faults sink.old ≤ K.faults sink.new }
 {
     let mut session = Session::new(alloc, pass);

@@ -290,7 +290,14 @@ fn disk_after_script<H: Threads + Wait + Sync>(
 fn are_told<H: Threads + Wait + Sync>(rt: &H, alloc: Global, row: &Row) -> Result<bool, Fail> {
     let disk = new_disk(alloc, b"", &[])?;
     match disk_after_script(rt, alloc, disk, row.first, 0, row.told)? {
-        Some(disk) => Ok(disk_after_script(rt, alloc, disk, row.second, row.head, row.told_again)?.is_some()),
+        Some(disk) => Ok(disk_after_script(
+            rt,
+            alloc,
+            disk,
+            row.second,
+            row.head,
+            row.told_again,
+        )?.is_some()),
         None => Ok(false),
     }
 }

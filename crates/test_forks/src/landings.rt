@@ -1,5 +1,5 @@
 // Forks that land: the map of each version, and the forks that stay.
-use crate::rows::{Row, first_of, head_of_one, table_of, byte_at};
+use crate::rows::{Row, byte_at, first_of, head_of_one, table_of};
 use jf_forks::{ForkFault, ForkTable};
 use jf_model::Parent;
 use jf_node::Snapshot;

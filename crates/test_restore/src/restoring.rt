@@ -3,7 +3,8 @@
 use crate::records::RESTORED;
 use jf_disk::{MemDisk, Side};
 use jf_play::blocks::{
-    EMPTY_SIDE, FIRST_BLOCK, FIRST_ENTRY, Parts, RESTORE_PAIR, SECOND_BLOCK, SECOND_ENTRY, play_of_parts,
+    EMPTY_SIDE, FIRST_BLOCK, FIRST_ENTRY, Parts, RESTORE_PAIR, SECOND_BLOCK, SECOND_ENTRY,
+    play_of_parts,
 };
 use jf_play::files::{CHECKPOINT, END, File, IMPORTED, bytes_of};
 use jf_play::play::{Faults, NO_FAULTS, Played, answers, has_ended};

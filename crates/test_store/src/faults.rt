@@ -159,7 +159,9 @@ fn leaves_at<H: Threads + Sync>(
 
 // Whether a store was closed broken, with one entry for each step, and shows what was before the call that met the fault.
 fn is_broken(closed: &Closed<MemDisk>, steps: usize, before: &Found) -> bool {
-    closed.engine.is_broken() && closed.entries.len() == steps as u64 && shows(&closed.engine, before)
+    closed.engine.is_broken()
+        && closed.entries.len() == steps as u64
+        && shows(&closed.engine, before)
 }
 
 // What is found before a step that comes after these.

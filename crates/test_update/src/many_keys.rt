@@ -80,7 +80,10 @@ fn snapshot_of(update: Box<Update>) -> Snapshot {
 }
 
 // The keys that are put, with the hashes of their values.
-fn hashed_keys(alloc: Global, batch: &[(Key, Option<SharedBytes>)]) -> Result<Vec<(Key, Hash)>, Memory> {
+fn hashed_keys(
+    alloc: Global,
+    batch: &[(Key, Option<SharedBytes>)],
+) -> Result<Vec<(Key, Hash)>, Memory> {
     let mut entries = Vec::new(alloc);
     for (key, bytes) in batch {
         if let Some(bytes) = bytes {

@@ -6,7 +6,7 @@ use jf_join::{FreeGate, Workers};
 use jf_node::Snapshot;
 use jf_path::{NodeName, PlainNode};
 use jf_split::Batch;
-use jf_update::{Update, Written, advance, update, value_hashes, landing_lists};
+use jf_update::{Update, Written, advance, landing_lists, update, value_hashes};
 use std::alloc::Global;
 use std::test::Fail;
 use std::thread::Threads;
