@@ -1,11 +1,12 @@
 -- Leaves whose keys rise, one after another.
 use Rattle.std.specs.Prelude.{◌≡◌, ◌+◌, ◌-◌, ◌<◌, ℕ, zero, suc, List, [], ◌∷◌, ◌++◌, take, drop, length, Bool, true, false, T}
-use Rattle.std.proofs.Common.{refl, sym, ap, subst, ◌∙◌, arith, get_or, Less, true≢false}
+use Rattle.std.proofs.Common.{sym, ap, subst, ◌∙◌, arith, get_or, Less, true≢false}
 use Rattle.std.proofs.lemmas.List.{take_more, drop_more, drop-take, length-take-le}
 use Rattle.std.specs.FinMap.{is_sorted}
 use Rattle.std.specs.Ordering.{is_lt}
 use Rattle.jf_path.specs.Keys.{key_cmp}
 use Rattle.jf_path.proofs.OrderLaws.{Less-from_is_lt}
+use Rattle.jf_path.proofs.BoolLaws.{not_so}
 use Rattle.jf_hash.specs.Roots.{Leaf}
 use Rattle.jf_hash.proofs.KeyOrder.{sorted-rises}
 use Rattle.jf_evidence.proofs.RangeChecks.{sorted-more, sorted-after_last}
@@ -30,10 +31,6 @@ rise-more ls (suc i) d some within lt rises =
     subst (λ (xs : List Leaf). T (rise xs)) (sym (take_more ls (suc i) d within))
     (sorted-after_last (take (suc i) ls) (get_or ls (suc i) d ∷ []) rises
     (subst (λ (xs : List Leaf). T (rise (xs ++ get_or ls (suc i) d ∷ []))) (sym (last_taken ls i d within)) (sorted-more (get_or ls i d) (get_or ls (suc i) d) [] less tt)))
-
-not_so : (b : Bool) → (T b → ⊥) → false ≡ b
-not_so true h = absurd (h tt)
-not_so false h = refl
 
 -- keys don't rise if one isn't above the one before it
 pub rise-broken : (ls : List Leaf) (i : ℕ) (d : Leaf) → 0 < i → i < length ls → is_lt (key_cmp (get_or ls (i - 1) d).0 (get_or ls i d).0) ≡ false → false ≡ rise ls

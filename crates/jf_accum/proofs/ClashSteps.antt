@@ -8,6 +8,7 @@ use Rattle.std.proofs.lemmas.Slice.Eq.{bytes_eq-Decides, slice_eq-Decides}
 use Rattle.std.specs.Cmp.Lexicographic.{pointwise}
 use Rattle.sha2.specs.Sha256.{sha256}
 use Rattle.jf_path.specs.Checks.{first_of}
+use Rattle.jf_path.proofs.BoolLaws.{neither}
 use Rattle.jf_hash.specs.Hashes.{IsCollision}
 use Rattle.jf_accum.specs.Totals.{A, B, left_count, total}
 use Rattle.jf_accum.specs.Members.{member_count, member_total, member_refusal}
@@ -170,10 +171,6 @@ pub record IsAcceptedExtension (o : List ℕ) (m : ℕ) (t : List ℕ) (len : �
   pub count : length path ≡ extension_count_in len m true
   pub old_top : (extension_totals o m len (reverse path)).0 ≡ o
   pub top : (extension_totals o m len (reverse path)).1 ≡ t
-
-neither : (a b : Bool) → (a || b) ≡ false → (a ≡ false) × (b ≡ false)
-neither true b h = absurd (cc)
-neither false b h = (refl, h)
 
 pub extension-accepted : (o : List ℕ) (m : ℕ) (t : List ℕ) (len : ℕ) (path : Path) → extension_refusal o m t len path ≡ None → IsAcceptedExtension o m t len path
 unfolding extension_refusal

@@ -1,14 +1,12 @@
 -- How many hashes the left part has: a power of two, less than all, and at least half of them.
 use Rattle.std.specs.Prelude.{◌≡◌, ℕ, zero, suc, ◌+◌, ◌-◌, ◌^◌, ◌<◌, ◌≤◌, nat_lt, true, false, List, length, if◌then◌else◌}
 use Rattle.std.proofs.Common.{arith, sym, ap, ◌∙◌, refl, inl, inr, length-take, length-drop}
-use Rattle.std.proofs.Math.Nat.{pow-succ', pow-le-pow_right}
+use Rattle.std.proofs.Math.Nat.{pow-le-pow_right}
 use Rattle.std.proofs.lemmas.Nat.{pow_pos}
 use Rattle.std.proofs.lemmas.Bool.{cases_order}
 use Rattle.std.proofs.lemmas.Bool.Decides.{nat_tests}
+use Rattle.jf_path.proofs.NumberLaws.{double}
 use Rattle.jf_accum.specs.Totals.{power_below, left_count, lefts, rights}
-
-pub double : (j : ℕ) → 2 ^ suc j ≡ 2 ^ j + 2 ^ j
-double j = omega (arith, pow-succ' 2 j)
 
 -- a number is below its power of two
 below_power : (n : ℕ) → n < 2 ^ n

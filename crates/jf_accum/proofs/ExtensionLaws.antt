@@ -2,31 +2,25 @@
 use Rattle.std.specs.Prelude.{◌≡◌, ℕ, zero, suc, ◌+◌, ◌-◌, ◌<◌, ◌≤◌, Bool, true, false, nat_lt, nat_le, if◌then◌else◌, List, [], ◌∷◌, ◌++◌, length, reverse, take, drop, ◌==◌, ◌||◌}
 use Rattle.std.proofs.Common.{arith, sym, ap, ap₂, ◌∙◌, refl, inl, inr, length-append, length-take}
 use Rattle.std.proofs.lemmas.Bool.{cases_lt, cases_eq}
-use Rattle.std.proofs.lemmas.Bool.Decides.{nat_tests}
 use Rattle.std.proofs.lemmas.List.{take-take, take_all, drop-take}
+use Rattle.jf_path.proofs.NumberLaws.{same_number, other_number, le_so, le_no, lt_no}
 use Rattle.jf_accum.specs.Totals.{B, left_count, lefts, rights, total}
 use Rattle.jf_accum.specs.Extensions.{extension_below, extension_in, extension, extension_count_below, extension_count_in, extension_count, extension_totals, extension_refusal}
 use Rattle.jf_accum.specs.Laws.{HonestExtensionsAreAccepted}
 use Rattle.jf_accum.proofs.Counts.{left_count-tells, left_count-same, length-lefts, length-rights, lefts-short, rights-short}
 use Rattle.jf_accum.proofs.TotalLaws.{total-split}
-use Rattle.jf_accum.proofs.MemberLaws.{Path, le-yes, le-no, lt-no, chosen, passed_over, turned, same-bytes, same-number}
-
-pub eq-yes : (a b : ℕ) → a ≡ b → (a == b) ≡ true
-eq-yes a b h = grind (arith, nat_tests)
-
-pub eq-no : (a b : ℕ) → (a ≡ b → ⊥) → (a == b) ≡ false
-eq-no a b h = grind (arith, nat_tests)
+use Rattle.jf_accum.proofs.MemberLaws.{Path, chosen, passed_over, turned, same-bytes, same-number}
 
 -- ---- extensions of a part
 extension_below-all : (n : ℕ) (hs : List (List ℕ)) (m : ℕ) (whole : Bool) → m ≡ length hs → extension_below n hs m whole ≡ (if whole then [] else total hs ∷ [])
 unfolding extension_below
 extension_below-all zero hs m whole all = refl
-extension_below-all (suc n) hs m whole all = chosen _ _ _ (eq-yes m (length hs) all)
+extension_below-all (suc n) hs m whole all = chosen _ _ _ (same_number m (length hs) all)
 
 extension_below-split : (n : ℕ) (hs : List (List ℕ)) (m : ℕ) (whole : Bool) → (m ≡ length hs → ⊥)
     → extension_below (suc n) hs m whole ≡ (if nat_le m (left_count (length hs)) then extension_below n (lefts hs) m whole ++ total (rights hs) ∷ [] else extension_below n (rights hs) (m - left_count (length hs)) false ++ total (lefts hs) ∷ [])
 unfolding extension_below
-extension_below-split n hs m whole part = passed_over _ _ _ (eq-no m (length hs) part)
+extension_below-split n hs m whole part = passed_over _ _ _ (other_number m (length hs) part)
 
 extension_below-enough : (n n' : ℕ) (hs : List (List ℕ)) (m : ℕ) (whole : Bool) → length hs ≤ n → length hs ≤ n' → 0 < m → m ≤ length hs → extension_below n hs m whole ≡ extension_below n' hs m whole
 extension_below-enough zero n' hs m whole p q some within = absurd (omega arith)
@@ -41,13 +35,13 @@ extension_below-enough (suc n) (suc n') hs m whole p q some within =
           let right = length-rights hs in
           elim (cases_lt k m) [
             | inl hi ↦
-                extension_below-split n hs m whole part ∙ passed_over _ _ _ (le-no m k hi)
+                extension_below-split n hs m whole part ∙ passed_over _ _ _ (le_no m k hi)
                 ∙ ap (λ (e : Path). e ++ total (lefts hs) ∷ []) (extension_below-enough n n' (rights hs) (m - k) false (rights-short hs n two p) (rights-short hs n' two q) (omega arith) (omega arith))
-                ∙ sym (extension_below-split n' hs m whole part ∙ passed_over _ _ _ (le-no m k hi))
+                ∙ sym (extension_below-split n' hs m whole part ∙ passed_over _ _ _ (le_no m k hi))
             | inr lo ↦
-                extension_below-split n hs m whole part ∙ chosen _ _ _ (le-yes m k lo)
+                extension_below-split n hs m whole part ∙ chosen _ _ _ (le_so m k lo)
                 ∙ ap (λ (e : Path). e ++ total (rights hs) ∷ []) (extension_below-enough n n' (lefts hs) m whole (lefts-short hs n two p) (lefts-short hs n' two q) some (omega arith))
-                ∙ sym (extension_below-split n' hs m whole part ∙ chosen _ _ _ (le-yes m k lo))
+                ∙ sym (extension_below-split n' hs m whole part ∙ chosen _ _ _ (le_so m k lo))
           ]
     ]
 
@@ -71,7 +65,7 @@ extension_in-left hs m whole two some lo =
     let less = one_less (length hs) two in
     let part : m ≡ length hs → ⊥ = λ all. absurd (omega arith) in
     let short : length hs ≤ suc less.0 = omega (arith, less.1) in
-    ap (λ n. extension_below n hs m whole) less.1 ∙ extension_below-split less.0 hs m whole part ∙ chosen _ _ _ (le-yes m k lo)
+    ap (λ n. extension_below n hs m whole) less.1 ∙ extension_below-split less.0 hs m whole part ∙ chosen _ _ _ (le_so m k lo)
     ∙ ap (λ (e : Path). e ++ total (rights hs) ∷ []) (extension_below-enough less.0 (length (lefts hs)) (lefts hs) m whole (lefts-short hs less.0 two short) (omega arith) some (omega arith))
 
 -- the old hashes end in the right part, and not with all
@@ -84,19 +78,19 @@ extension_in-right hs m whole two hi within =
     let less = one_less (length hs) two in
     let part : m ≡ length hs → ⊥ = λ all. absurd (omega arith) in
     let short : length hs ≤ suc less.0 = omega (arith, less.1) in
-    ap (λ n. extension_below n hs m whole) less.1 ∙ extension_below-split less.0 hs m whole part ∙ passed_over _ _ _ (le-no m k hi)
+    ap (λ n. extension_below n hs m whole) less.1 ∙ extension_below-split less.0 hs m whole part ∙ passed_over _ _ _ (le_no m k hi)
     ∙ ap (λ (e : Path). e ++ total (lefts hs) ∷ []) (extension_below-enough less.0 (length (rights hs)) (rights hs) (m - k) false (rights-short hs less.0 two short) (omega arith) (omega arith) (omega arith))
 
 -- ---- how many
 extension_count_below-all : (n len m : ℕ) (whole : Bool) → m ≡ len → extension_count_below n len m whole ≡ (if whole then 0 else 1)
 unfolding extension_count_below
 extension_count_below-all zero len m whole all = refl
-extension_count_below-all (suc n) len m whole all = chosen _ _ _ (eq-yes m len all)
+extension_count_below-all (suc n) len m whole all = chosen _ _ _ (same_number m len all)
 
 extension_count_below-split : (n len m : ℕ) (whole : Bool) → (m ≡ len → ⊥)
     → extension_count_below (suc n) len m whole ≡ (if nat_le m (left_count len) then 1 + extension_count_below n (left_count len) m whole else 1 + extension_count_below n (len - left_count len) (m - left_count len) false)
 unfolding extension_count_below
-extension_count_below-split n len m whole part = passed_over _ _ _ (eq-no m len part)
+extension_count_below-split n len m whole part = passed_over _ _ _ (other_number m len part)
 
 extension_count_below-enough : (n n' len m : ℕ) (whole : Bool) → len ≤ n → len ≤ n' → 0 < m → m ≤ len → extension_count_below n len m whole ≡ extension_count_below n' len m whole
 extension_count_below-enough zero n' len m whole p q some within = absurd (omega arith)
@@ -112,13 +106,13 @@ extension_count_below-enough (suc n) (suc n') len m whole p q some within =
           let below = tells.below in
           elim (cases_lt k m) [
             | inl hi ↦
-                extension_count_below-split n len m whole part ∙ passed_over _ _ _ (le-no m k hi)
+                extension_count_below-split n len m whole part ∙ passed_over _ _ _ (le_no m k hi)
                 ∙ ap (λ e. 1 + e) (extension_count_below-enough n n' (len - k) (m - k) false (omega arith) (omega arith) (omega arith) (omega arith))
-                ∙ sym (extension_count_below-split n' len m whole part ∙ passed_over _ _ _ (le-no m k hi))
+                ∙ sym (extension_count_below-split n' len m whole part ∙ passed_over _ _ _ (le_no m k hi))
             | inr lo ↦
-                extension_count_below-split n len m whole part ∙ chosen _ _ _ (le-yes m k lo)
+                extension_count_below-split n len m whole part ∙ chosen _ _ _ (le_so m k lo)
                 ∙ ap (λ e. 1 + e) (extension_count_below-enough n n' k m whole (omega arith) (omega arith) some lo)
-                ∙ sym (extension_count_below-split n' len m whole part ∙ chosen _ _ _ (le-yes m k lo))
+                ∙ sym (extension_count_below-split n' len m whole part ∙ chosen _ _ _ (le_so m k lo))
           ]
     ]
 
@@ -134,7 +128,7 @@ extension_count_in-left len m whole two some lo =
     let below = tells.below in
     let less = one_less len two in
     let part : m ≡ len → ⊥ = λ all. absurd (omega arith) in
-    ap (λ n. extension_count_below n len m whole) less.1 ∙ extension_count_below-split less.0 len m whole part ∙ chosen _ _ _ (le-yes m k lo)
+    ap (λ n. extension_count_below n len m whole) less.1 ∙ extension_count_below-split less.0 len m whole part ∙ chosen _ _ _ (le_so m k lo)
     ∙ ap (λ e. 1 + e) (extension_count_below-enough less.0 k k m whole (omega (arith, less.1)) (omega arith) some lo)
 
 pub extension_count_in-right : (len m : ℕ) (whole : Bool) → 1 < len → left_count len < m → m < len → extension_count_in len m whole ≡ 1 + extension_count_in (len - left_count len) (m - left_count len) false
@@ -145,7 +139,7 @@ extension_count_in-right len m whole two hi within =
     let positive = tells.positive in
     let less = one_less len two in
     let part : m ≡ len → ⊥ = λ all. absurd (omega arith) in
-    ap (λ n. extension_count_below n len m whole) less.1 ∙ extension_count_below-split less.0 len m whole part ∙ passed_over _ _ _ (le-no m k hi)
+    ap (λ n. extension_count_below n len m whole) less.1 ∙ extension_count_below-split less.0 len m whole part ∙ passed_over _ _ _ (le_no m k hi)
     ∙ ap (λ e. 1 + e) (extension_count_below-enough less.0 (len - k) (len - k) (m - k) false (omega (arith, less.1)) (omega arith) (omega arith) (omega arith))
 
 -- ---- what an extension comes to
@@ -155,17 +149,17 @@ extension_totals-none old m len = refl
 
 pub extension_totals-all : (old : List ℕ) (m len : ℕ) (s : List ℕ) (ss : Path) → m ≡ len → extension_totals old m len (s ∷ ss) ≡ (s, s)
 unfolding extension_totals
-extension_totals-all old m len s ss all = chosen _ _ _ (eq-yes m len all)
+extension_totals-all old m len s ss all = chosen _ _ _ (same_number m len all)
 
 pub extension_totals-left : (old : List ℕ) (m len : ℕ) (s : List ℕ) (ss : Path) → (m ≡ len → ⊥) → m ≤ left_count len
     → extension_totals old m len (s ∷ ss) ≡ ((extension_totals old m (left_count len) ss).0, B (extension_totals old m (left_count len) ss).1 s)
 unfolding extension_totals
-extension_totals-left old m len s ss part lo = passed_over _ _ _ (eq-no m len part) ∙ chosen _ _ _ (le-yes m (left_count len) lo)
+extension_totals-left old m len s ss part lo = passed_over _ _ _ (other_number m len part) ∙ chosen _ _ _ (le_so m (left_count len) lo)
 
 pub extension_totals-right : (old : List ℕ) (m len : ℕ) (s : List ℕ) (ss : Path) → (m ≡ len → ⊥) → left_count len < m
     → extension_totals old m len (s ∷ ss) ≡ (B s (extension_totals old (m - left_count len) (len - left_count len) ss).0, B s (extension_totals old (m - left_count len) (len - left_count len) ss).1)
 unfolding extension_totals
-extension_totals-right old m len s ss part hi = passed_over _ _ _ (eq-no m len part) ∙ passed_over _ _ _ (le-no m (left_count len) hi)
+extension_totals-right old m len s ss part hi = passed_over _ _ _ (other_number m len part) ∙ passed_over _ _ _ (le_no m (left_count len) hi)
 
 -- ---- the honest extension
 length_all : (whole : Bool) (hs : List (List ℕ)) → length (if whole then [] else total hs ∷ []) ≡ (if whole then 0 else 1)
@@ -277,7 +271,7 @@ pub extension-totals : (hs : List (List ℕ)) (m : ℕ) → 0 < m → m ≤ leng
 extension-totals hs m some within = extension_in-totals (length hs) (total (take m hs)) hs m true (omega arith) some within refl
 
 in_range : (m len : ℕ) → 0 < m → m ≤ len → (m == 0 || nat_lt len m) ≡ false
-in_range m len some within = simp (eq-no m 0 (λ none. absurd (omega arith)), lt-no len m within)
+in_range m len some within = simp (other_number m 0 (λ none. absurd (omega arith)), lt_no len m within)
 
 pub honest-extensions : HonestExtensionsAreAccepted
 unfolding extension_refusal

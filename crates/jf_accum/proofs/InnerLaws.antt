@@ -3,11 +3,11 @@ use Rattle.std.specs.Prelude.{◌≡◌, ℕ, zero, suc, ◌+◌, ◌-◌, ◌^�
 use Rattle.std.proofs.Common.{arith, sym, ap, ap₂, ◌∙◌, refl, length-append, get_or, append_assoc}
 use Rattle.std.proofs.lemmas.Nat.{pow_pos}
 use Rattle.std.proofs.lemmas.List.{take_at, drop_at, get_or-append_right, append-nil}
+use Rattle.jf_path.proofs.NumberLaws.{double, same_number, other_number}
 use Rattle.jf_accum.specs.Totals.{left_count, lefts, rights, total}
 use Rattle.jf_accum.specs.Inner.{own_total, inner_totals_below, inner_totals}
-use Rattle.jf_accum.proofs.Counts.{double, left_count-level, left_count-is, length-lefts, length-rights, lefts-short, rights-short}
+use Rattle.jf_accum.proofs.Counts.{left_count-level, left_count-is, length-lefts, length-rights, lefts-short, rights-short}
 use Rattle.jf_accum.proofs.MemberLaws.{Path, chosen, passed_over}
-use Rattle.jf_accum.proofs.ExtensionLaws.{eq-yes, eq-no}
 
 inner_totals_below-enough : (n m : ℕ) (hs : List (List ℕ)) → length hs ≤ n → length hs ≤ m → inner_totals_below n hs ≡ inner_totals_below m hs
 unfolding inner_totals_below
@@ -39,13 +39,13 @@ inner_totals-split (h ∷ g ∷ hs) two =
 -- two equally long parts
 pub inner_totals-even : (hs : List (List ℕ)) → 1 < length hs → length hs ≡ left_count (length hs) + left_count (length hs)
     → inner_totals hs ≡ (inner_totals (lefts hs) ++ inner_totals (rights hs)) ++ total hs ∷ []
-inner_totals-even hs two even = inner_totals-split hs two ∙ ap (λ (o : Path). (inner_totals (lefts hs) ++ inner_totals (rights hs)) ++ o) (chosen _ _ _ (eq-yes _ _ even))
+inner_totals-even hs two even = inner_totals-split hs two ∙ ap (λ (o : Path). (inner_totals (lefts hs) ++ inner_totals (rights hs)) ++ o) (chosen _ _ _ (same_number _ _ even))
 
 -- two parts of which the right one is shorter
 pub inner_totals-uneven : (hs : List (List ℕ)) → 1 < length hs → (length hs ≡ left_count (length hs) + left_count (length hs) → ⊥)
     → inner_totals hs ≡ inner_totals (lefts hs) ++ inner_totals (rights hs)
 inner_totals-uneven hs two uneven =
-    inner_totals-split hs two ∙ ap (λ (o : Path). (inner_totals (lefts hs) ++ inner_totals (rights hs)) ++ o) (passed_over _ _ _ (eq-no _ _ uneven)) ∙ append-nil _
+    inner_totals-split hs two ∙ ap (λ (o : Path). (inner_totals (lefts hs) ++ inner_totals (rights hs)) ++ o) (passed_over _ _ _ (other_number _ _ uneven)) ∙ append-nil _
 
 -- of a power of two of hashes there is one inner total fewer
 pub length-full : (r : ℕ) (hs : List (List ℕ)) → length hs ≡ 2 ^ r → length (inner_totals hs) + 1 ≡ 2 ^ r
@@ -96,7 +96,7 @@ right_inner-even hs two even =
 pub right_inner-uneven : (hs : List (List ℕ)) → 1 < length hs → (length hs ≡ left_count (length hs) + left_count (length hs) → ⊥)
     → drop (left_count (length hs) - 1) (inner_totals hs) ≡ inner_totals (rights hs)
 right_inner-uneven hs two uneven =
-    rest_inner hs two ∙ ap (λ (o : Path). inner_totals (rights hs) ++ o) (passed_over _ _ _ (eq-no _ _ uneven)) ∙ append-nil _
+    rest_inner hs two ∙ ap (λ (o : Path). inner_totals (rights hs) ++ o) (passed_over _ _ _ (other_number _ _ uneven)) ∙ append-nil _
 
 -- the own total stands last
 pub own-last : (hs : List (List ℕ)) (d : List ℕ) → 1 < length hs → length hs ≡ left_count (length hs) + left_count (length hs) → get_or (inner_totals hs) (length hs - 2) d ≡ total hs

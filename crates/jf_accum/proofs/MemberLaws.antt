@@ -5,25 +5,14 @@ use Rattle.std.proofs.lemmas.Bool.{cases_lt}
 use Rattle.std.proofs.lemmas.Bool.Decides.{nat_tests}
 use Rattle.std.proofs.lemmas.List.{reverse-append, get_or-take, get_or-drop}
 use Rattle.std.proofs.lemmas.Slice.Eq.{bytes_eq-Decides}
+use Rattle.jf_path.proofs.NumberLaws.{le_so, le_no, lt_so, lt_no}
 use Rattle.jf_accum.specs.Totals.{A, B, left_count, lefts, rights, total}
 use Rattle.jf_accum.specs.Members.{member_below, member, member_count_below, member_count, member_total, member_refusal}
 use Rattle.jf_accum.specs.Laws.{HonestMembersAreAccepted}
 use Rattle.jf_accum.proofs.Counts.{left_count-tells, length-lefts, length-rights, lefts-short, rights-short}
 use Rattle.jf_accum.proofs.TotalLaws.{total-one, total-split}
 
--- ---- tests on numbers
-pub lt-yes : (a b : ℕ) → a < b → nat_lt a b ≡ true
-lt-yes a b h = grind (arith, nat_tests)
-
-pub lt-no : (a b : ℕ) → b ≤ a → nat_lt a b ≡ false
-lt-no a b h = grind (arith, nat_tests)
-
-pub le-yes : (a b : ℕ) → a ≤ b → nat_le a b ≡ true
-le-yes a b h = grind (arith, nat_tests)
-
-pub le-no : (a b : ℕ) → b < a → nat_le a b ≡ false
-le-no a b h = grind (arith, nat_tests)
-
+-- ---- a choice by a test
 pub chosen : {X : Type 0} (b : Bool) (x y : X) → b ≡ true → (if b then x else y) ≡ x
 chosen true x y is = refl
 chosen false x y is = absurd (cc)
@@ -68,18 +57,18 @@ member-split (h ∷ g ∷ hs) i two =
 
 -- the path of a place in the left part
 pub member-left : (hs : List (List ℕ)) (i : ℕ) → 1 < length hs → i < left_count (length hs) → member hs i ≡ member (lefts hs) i ++ total (rights hs) ∷ []
-member-left hs i two lt = member-split hs i two ∙ chosen _ _ _ (lt-yes i (left_count (length hs)) lt)
+member-left hs i two lt = member-split hs i two ∙ chosen _ _ _ (lt_so i (left_count (length hs)) lt)
 
 -- the path of a place in the right part
 pub member-right : (hs : List (List ℕ)) (i : ℕ) → 1 < length hs → left_count (length hs) ≤ i → member hs i ≡ member (rights hs) (i - left_count (length hs)) ++ total (lefts hs) ∷ []
-member-right hs i two ge = member-split hs i two ∙ passed_over _ _ _ (lt-no i (left_count (length hs)) ge)
+member-right hs i two ge = member-split hs i two ∙ passed_over _ _ _ (lt_no i (left_count (length hs)) ge)
 
 -- ---- how many
 member_count_below-enough : (n m len i : ℕ) → len ≤ n → len ≤ m → member_count_below n len i ≡ member_count_below m len i
 unfolding member_count_below
 member_count_below-enough zero zero len i p q = refl
-member_count_below-enough zero (suc m) len i p q = sym (chosen (nat_le len 1) _ _ (le-yes len 1 (omega arith)))
-member_count_below-enough (suc n) zero len i p q = chosen (nat_le len 1) _ _ (le-yes len 1 (omega arith))
+member_count_below-enough zero (suc m) len i p q = sym (chosen (nat_le len 1) _ _ (le_so len 1 (omega arith)))
+member_count_below-enough (suc n) zero len i p q = chosen (nat_le len 1) _ _ (le_so len 1 (omega arith))
 member_count_below-enough (suc n) (suc m) len i p q =
     elim (cases_lt 1 len) [
       | inl two ↦
@@ -88,13 +77,13 @@ member_count_below-enough (suc n) (suc m) len i p q =
           let some = tells.positive in
           let below = tells.below in
           ap₂ (λ (l r : ℕ). if nat_le len 1 then 0 else (if nat_lt i k then 1 + l else 1 + r)) (member_count_below-enough n m k i (omega arith) (omega arith)) (member_count_below-enough n m (len - k) (i - k) (omega arith) (omega arith))
-      | inr one ↦ chosen (nat_le len 1) _ _ (le-yes len 1 one) ∙ sym (chosen (nat_le len 1) _ _ (le-yes len 1 one))
+      | inr one ↦ chosen (nat_le len 1) _ _ (le_so len 1 one) ∙ sym (chosen (nat_le len 1) _ _ (le_so len 1 one))
     ]
 
 pub member_count-one : (len i : ℕ) → len ≤ 1 → member_count len i ≡ 0
 unfolding member_count member_count_below
 member_count-one zero i one = refl
-member_count-one (suc len) i one = chosen _ _ _ (le-yes (suc len) 1 one)
+member_count-one (suc len) i one = chosen _ _ _ (le_so (suc len) 1 one)
 
 member_count-split : (len i : ℕ) → 1 < len → member_count len i ≡ (if nat_lt i (left_count len) then 1 + member_count (left_count len) i else 1 + member_count (len - left_count len) (i - left_count len))
 unfolding member_count member_count_below
@@ -104,14 +93,14 @@ member_count-split (suc len) i two =
     let tells = left_count-tells (suc len) two in
     let some = tells.positive in
     let below = tells.below in
-    passed_over (nat_le (suc len) 1) _ _ (le-no (suc len) 1 two)
+    passed_over (nat_le (suc len) 1) _ _ (le_no (suc len) 1 two)
     ∙ ap₂ (λ (l r : ℕ). if nat_lt i k then 1 + l else 1 + r) (member_count_below-enough len k k i (omega arith) (omega arith)) (member_count_below-enough len (suc len - k) (suc len - k) (i - k) (omega arith) (omega arith))
 
 pub member_count-left : (len i : ℕ) → 1 < len → i < left_count len → member_count len i ≡ 1 + member_count (left_count len) i
-member_count-left len i two lt = member_count-split len i two ∙ chosen _ _ _ (lt-yes i (left_count len) lt)
+member_count-left len i two lt = member_count-split len i two ∙ chosen _ _ _ (lt_so i (left_count len) lt)
 
 pub member_count-right : (len i : ℕ) → 1 < len → left_count len ≤ i → member_count len i ≡ 1 + member_count (len - left_count len) (i - left_count len)
-member_count-right len i two ge = member_count-split len i two ∙ passed_over _ _ _ (lt-no i (left_count len) ge)
+member_count-right len i two ge = member_count-split len i two ∙ passed_over _ _ _ (lt_no i (left_count len) ge)
 
 -- ---- what a path comes to
 pub member_total-none : (len i : ℕ) (h : List ℕ) → member_total len i h [] ≡ A h
@@ -120,11 +109,11 @@ member_total-none len i h = refl
 
 pub member_total-left : (len i : ℕ) (h s : List ℕ) (ss : Path) → i < left_count len → member_total len i h (s ∷ ss) ≡ B (member_total (left_count len) i h ss) s
 unfolding member_total
-member_total-left len i h s ss lt = chosen _ _ _ (lt-yes i (left_count len) lt)
+member_total-left len i h s ss lt = chosen _ _ _ (lt_so i (left_count len) lt)
 
 pub member_total-right : (len i : ℕ) (h s : List ℕ) (ss : Path) → left_count len ≤ i → member_total len i h (s ∷ ss) ≡ B s (member_total (len - left_count len) (i - left_count len) h ss)
 unfolding member_total
-member_total-right len i h s ss ge = passed_over _ _ _ (lt-no i (left_count len) ge)
+member_total-right len i h s ss ge = passed_over _ _ _ (lt_no i (left_count len) ge)
 
 pub turned : (path : Path) (s : List ℕ) → reverse (path ++ s ∷ []) ≡ s ∷ reverse path
 turned path s = reverse-append path (s ∷ [])
@@ -194,7 +183,7 @@ same-number a b same = grind (arith, nat_tests)
 pub honest-members : HonestMembersAreAccepted
 unfolding member_refusal
 honest-members hs i lt =
-    simp (le-no (length hs) i lt, same-number _ _ (member-count hs i lt), same-bytes _ _ (member-total hs i lt))
+    simp (le_no (length hs) i lt, same-number _ _ (member-count hs i lt), same-bytes _ _ (member-total hs i lt))
 
 -- ---- as paths are verified
 member_count-within_len : (n len i : ℕ) → len ≤ n → i < len → member_count len i ≤ len

@@ -48,6 +48,10 @@ pub record IsSoundAnswer (s : State) (own : Own) (a : Answer) : Type 0 where
   pub number : a.own.number ≡ own.number
 
 -- ---- single answers
+-- the answer to a command that nothing refuses
+pub unrefused : (s : State) (own : Own) (c : Command) → refused_by s own c ≡ None → answer_command s own c ≡ granted_answer c s own
+unrefused s own c free = ap (λ (o : Option Refusal). elim o as (λ x. Answer) [ Some why ↦ own_answer (reply.No why) s own | None ↦ granted_answer c s own ]) free
+
 sound_own : (c : OwnCommand) (s : State) (own : Own) → IsSoundAnswer s own (granted_own c s own)
 sound_own (own_command.Put name value) s own = record { follows = refl; number = refl }
 sound_own (own_command.Del name) s own = record { follows = refl; number = refl }

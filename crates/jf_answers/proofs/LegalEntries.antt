@@ -1,10 +1,11 @@
 -- The entry that a line gives is legal.
-use Rattle.std.specs.Prelude.{◌≡◌, ℕ, ◌^◌, ◌<◌, ◌≤◌, Bool, true, false, not, cond, nat_le, nat_lt, [], ◌∷◌, Option, Some, None, IfSome}
+use Rattle.std.specs.Prelude.{◌≡◌, ℕ, ◌^◌, ◌<◌, ◌≤◌, Bool, true, false, cond, nat_le, nat_lt, [], ◌∷◌, Option, Some, None, IfSome}
 use Rattle.std.proofs.Common.{refl, sym, ap, arith}
 use Rattle.std.proofs.lemmas.Bool.Decides.{nat_tests}
 use Rattle.std.specs.List.{AllByRecursion}
 use Rattle.jf_path.specs.Checks.{first_of}
 use Rattle.jf_path.specs.Limits.{max_forks}
+use Rattle.jf_path.proofs.BoolLaws.{not_false}
 use Rattle.jf_hash.specs.Maps.{IsBatch}
 use Rattle.jf_hash.specs.Roots.{root}
 use Rattle.jf_model.proofs.VersionLaws.{land_all-newest}
@@ -45,10 +46,6 @@ below a b e = grind (arith, nat_tests)
 at_most : (a b : ℕ) → nat_lt a b ≡ false → b ≤ a
 at_most a b e = grind (arith, nat_tests)
 
-there : (b : Bool) → not b ≡ false → b ≡ true
-there true e = refl
-there false e = absurd (cc)
-
 -- ---- what a command that nothing refuses gives
 -- no cause of a command holds
 abbrev NonePass : State → Own → Command → Type 0
@@ -65,7 +62,7 @@ module _ (s : State) (own : Own) (pending : IsBatch own.pending) where
   made_legal parent.Head h = (below (2 ^ 62) s.count h.0, record { next = refl; stands = refl; room = below max_forks _ h.1.0; sound = pending; rooted = refl })
   made_legal (parent.Fork id) h = (
     below (2 ^ 62) s.count h.0,
-    record { next = refl; stands = there (is_among id s.forks) h.1.1.0; room = below max_forks _ h.1.1.1.0; sound = pending; rooted = refl },
+    record { next = refl; stands = not_false (is_among id s.forks) h.1.1.0; room = below max_forks _ h.1.1.1.0; sound = pending; rooted = refl },
   )
 
   change_legal : (c : Change) → IsState s → NonePass s own (command.Change c) → IfSome (granted_change c s own).entry (IsLegal s)
@@ -77,14 +74,14 @@ module _ (s : State) (own : Own) (pending : IsBatch own.pending) where
   change_legal (change.Land id) sound h = (
     below (2 ^ 62) s.count h.0,
     record {
-      may = (there (is_among id s.forks) h.1.1.0, at_most 10000 _ h.1.1.1.0);
+      may = (not_false (is_among id s.forks) h.1.1.0, at_most 10000 _ h.1.1.1.0);
       small = at_most (2 ^ 62) _ h.1.1.1.1.1.0;
       next = refl;
       bounded = at_most _ _ h.1.1.1.1.0;
       rooted = ap root (sym (land_all-newest (landed_batches s (landing.Fork id)) s.all));
     },
   )
-  change_legal (change.Drop id) sound h = (below (2 ^ 62) s.count h.0, there (is_among id s.forks) h.1.1.0)
+  change_legal (change.Drop id) sound h = (below (2 ^ 62) s.count h.0, not_false (is_among id s.forks) h.1.1.0)
   change_legal (change.Prune upto) sound h =
       let high = at_most s.all.head upto h.1.0 in
       let low = at_most upto s.retired h.1.1.0 in

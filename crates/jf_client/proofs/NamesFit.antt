@@ -1,5 +1,5 @@
 -- The names of an input are not too many, and each is a name of a line; so they are in the order of their keys.
-use Rattle.std.proofs.Common.{◌≡◌, ℕ, ◌+◌, ◌*◌, ◌<◌, ◌≤◌, Bool, true, false, cond, ◌&&◌, nat_le, List, [], ◌∷◌, length, fold, Option, Some, None, Result, Ok, Err, option_and_then, if◌then◌else◌, refl, sym, arith, is_some, Less, Equal, Greater}
+use Rattle.std.proofs.Common.{◌≡◌, ℕ, ◌+◌, ◌<◌, ◌≤◌, Bool, true, false, cond, ◌&&◌, nat_le, List, [], ◌∷◌, length, fold, Option, Some, None, Result, Ok, Err, option_and_then, if◌then◌else◌, refl, sym, arith, is_some, Less, Equal, Greater}
 use Rattle.std.proofs.lemmas.Bool.Decides.{nat_tests}
 use Rattle.std.specs.FinMap.{find, put}
 use Rattle.std.specs.FinMap.Entries.{by_order}
@@ -7,38 +7,13 @@ use Rattle.std.specs.List.{AllByRecursion}
 use Rattle.jf_path.specs.Keys.{key_cmp}
 use Rattle.jf_hash.specs.Hashes.{K}
 use Rattle.jf_io.specs.Lines.{lines}
-use Rattle.jf_text.specs.Words.{digit, byte_of, both, unhex, name_of}
+use Rattle.jf_text.specs.Words.{unhex, name_of}
+use Rattle.jf_text.proofs.HexBytes.{unhex-bytes}
 use Rattle.jf_names.specs.Names.{names_from, names_of, name_before, line_before, with_new_name, names_by_key}
 use Rattle.jf_client.specs.Laws.{FitsLine}
 use Rattle.jf_client.proofs.Told.{byte-at}
 
 -- ---- one name
-digit-below : (c d : ℕ) → digit c ≡ Some d → d < 16
-digit-below c d h = grind (arith, nat_tests)
-
-byte-below : (o p : Option ℕ) (b : ℕ) → ((d : ℕ) → o ≡ Some d → d < 16) → ((d : ℕ) → p ≡ Some d → d < 16) → both (λ high low. high * 16 + low) o p ≡ Some b → b < 256
-byte-below None p b high low h = cc h
-byte-below (Some d) None b high low h = cc h
-byte-below (Some d) (Some e) b high low h =
-    let is : d * 16 + e ≡ b = cc h in
-    omega (arith, high d refl, low e refl)
-
-bytes-joined : (o : Option ℕ) (p : Option (List ℕ)) (bytes : List ℕ) → ((b : ℕ) → o ≡ Some b → b < 256) → ((bs : List ℕ) → p ≡ Some bs → AllByRecursion (λ b. b < 256) bs) → both ◌∷◌ o p ≡ Some bytes
-    → AllByRecursion (λ b. b < 256) bytes
-bytes-joined None p bytes one more h = cc h
-bytes-joined (Some b) None bytes one more h = cc h
-bytes-joined (Some b) (Some bs) bytes one more h =
-    let is : b ∷ bs ≡ bytes = cc h in
-    rw (sym is) (one b refl, more bs refl)
-
--- hexadecimal text writes bytes
-unhex-bytes : (w bytes : List ℕ) → unhex w ≡ Some bytes → AllByRecursion (λ b. b < 256) bytes
-unfolding unhex
-unhex-bytes [] bytes h = let is : [] ≡ bytes = cc h in rw (sym is) tt
-unhex-bytes (high ∷ []) bytes h = cc h
-unhex-bytes (high ∷ low ∷ rest) bytes h =
-    bytes-joined (byte_of high low) (unhex rest) bytes (λ b is. byte-below (digit high) (digit low) b (digit-below high) (digit-below low) is) (λ bs is. unhex-bytes rest bs is) h
-
 name-within : (o : Option (List ℕ)) (name : List ℕ) → ((bytes : List ℕ) → o ≡ Some bytes → AllByRecursion (λ b. b < 256) bytes)
     → option_and_then (λ bytes. if nat_le 1 (length bytes) && nat_le (length bytes) 128 then Some bytes else None) o ≡ Some name → FitsLine name None
 name-within None name all h = cc h

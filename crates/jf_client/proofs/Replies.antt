@@ -1,15 +1,14 @@
 -- The replies to `root` and to `prove`, and how they are judged.
-use Rattle.std.proofs.Common.{◌≡◌, ℕ, false, nat_lt, List, None, refl, arith, cond, Some, ap, ◌∙◌, Option, [], zero, suc, ◌-◌, ◌∷◌, slice_index_or, ◌+◌, ◌^◌, ◌<◌, ◌++◌, length, Ok, codes, sym, append-nil, ap₂, is_none, unwrap_or}
+use Rattle.std.proofs.Common.{◌≡◌, ℕ, false, nat_lt, List, None, refl, arith, cond, Some, ap, ◌∙◌, Option, [], ◌-◌, ◌∷◌, ◌+◌, ◌^◌, ◌<◌, ◌++◌, length, Ok, codes, sym, append-nil, ap₂, is_none, unwrap_or}
 use Rattle.std.proofs.lemmas.Bool.Decides.{nat_tests}
 use Rattle.std.specs.FinMap as fin
-use Rattle.std.specs.List.{AllByRecursion}
 use Rattle.jf_path.specs.Checks.{first_of}
 use Rattle.jf_hash.specs.Roots.{root}
 use Rattle.jf_hash.specs.Maps.{Map, IsMap}
 use Rattle.jf_hash.specs.Hashes.{K}
 use Rattle.jf_model.specs.States.{State}
 use Rattle.jf_model.specs.Versions.{IsVersions}
-use Rattle.jf_model.proofs.VersionLaws.{empty-IsMap, newest-IsMap, root-IsKey}
+use Rattle.jf_model.proofs.VersionLaws.{newest-IsMap, root-IsKey, place-IsMap}
 use Rattle.jf_io.specs.Lines.{lines}
 use Rattle.jf_io.proofs.EndedLines.{lines-none}
 use Rattle.jf_evidence.specs.Proofs.{honest}
@@ -19,7 +18,6 @@ use Rattle.jf_text.specs.Words.{is_long}
 use Rattle.jf_script.specs.declared.command.Base.{Base}
 use Rattle.jf_script.specs.Commands.{command_of}
 use Rattle.jf_script.specs.declared.command.Command.{Command}
-use Rattle.jf_script.specs.declared.reply.Refusal.{Refusal}
 use Rattle.jf_script.specs.Replies.{reply_text}
 use Rattle.jf_script.specs.declared.command.Base.TheVariants as base
 use Rattle.jf_script.specs.declared.command.Question.{Question}
@@ -32,8 +30,9 @@ use Rattle.jf_blocks.specs.Laws.{BlocksAreReadBack, RepliesBeginBlocks, RepliesS
 use Rattle.jf_verify.specs.Verdicts.{verdicts}
 use Rattle.jf_answers.specs.Own.{Own, version_pinned_at}
 use Rattle.jf_answers.specs.Refusals.{refused_by, base_map, question_causes}
-use Rattle.jf_answers.specs.Answers.{answer, answer_to, too_long, Answer, answer_command, granted_answer, own_answer, read_answer}
+use Rattle.jf_answers.specs.Answers.{answer, answer_to, too_long, Answer, read_answer}
 use Rattle.jf_answers.specs.Runs.{answer_text}
+use Rattle.jf_answers.proofs.AnswerLaws.{unrefused}
 use Rattle.jf_client.specs.Laws.{IsKeptBase, FitsLine, HonestRepliesAreAccepted}
 use Rattle.jf_client.proofs.Told.{hash_of_key, honest-told}
 use Rattle.jf_client.proofs.Judged.{verdicts-of_one}
@@ -57,24 +56,16 @@ pub answered : (s : State) (own : Own) (line : List ℕ) (c : Command) → is_lo
 unfolding answer
 answered s own line c short read = ap (λ b. cond b (too_long s own) (answer_to (command_of line) s own)) short ∙ ap (λ o. answer_to o s own) read
 
-pub unrefused : (s : State) (own : Own) (c : Command) → refused_by s own c ≡ None → answer_command s own c ≡ granted_answer c s own
-unrefused s own c free = ap (λ (o : Option Refusal). elim o as (λ x. Answer) [ Some why ↦ own_answer (reply.No why) s own | None ↦ granted_answer c s own ]) free
-
 -- a question that its map doesn't refuse is answered
 pub question_to : (s : State) (own : Own) (on : Base) (q : Question) → IsKeptBase s own on → first_of (question_causes q (base_map s own on)) ≡ None
     → answer_to (Some (command.Read on q)) s own ≡ read_answer q (base_map s own on) s own
 question_to s own on q kept free = unrefused s own (command.Read on q) (kept_read s own on q kept free)
 
 -- ---- the maps of versions
-map-at : (i : ℕ) (ms : List Map) → AllByRecursion IsMap ms → IsMap (slice_index_or ms i fin.empty)
-map-at i [] all = empty-IsMap
-map-at zero (m ∷ ms) all = all.0
-map-at (suc i) (m ∷ ms) all = map-at i ms all.1
-
 base-IsMap : (s : State) (own : Own) (on : Base) → IsVersions s.all → IsKeptBase s own on → IsMap (base_map s own on)
 base-IsMap s own base.Head sound kept = newest-IsMap s.all sound
-base-IsMap s own (base.Version w) sound kept = map-at (s.all.head - w) s.all.maps sound.sound
-base-IsMap s own (base.Place place) sound kept = map-at (s.all.head - unwrap_or (version_pinned_at own place) 0) s.all.maps sound.sound
+base-IsMap s own (base.Version w) sound kept = place-IsMap (s.all.head - w) s.all.maps sound.sound
+base-IsMap s own (base.Place place) sound kept = place-IsMap (s.all.head - unwrap_or (version_pinned_at own place) 0) s.all.maps sound.sound
 
 -- ---- the two replies
 module _ (back : BlocksAreReadBack) (begins : RepliesBeginBlocks) (sets : RepliesSetRoots) (accepted : HonestClaimsAreAccepted) where

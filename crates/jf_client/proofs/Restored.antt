@@ -7,6 +7,7 @@ use Rattle.std.specs.FinMap.{entries, len}
 use Rattle.std.specs.List.{AllByRecursion}
 use Rattle.jf_path.specs.Keys.{IsKey, bit}
 use Rattle.jf_path.specs.Limits.{max_value}
+use Rattle.jf_path.proofs.ListLaws.{all_take, all_drop}
 use Rattle.jf_hash.specs.Maps.{Map, IsMap}
 use Rattle.jf_hash.specs.Roots.{root, part_root}
 use Rattle.jf_hash.proofs.RootLaws.{root-part_root}
@@ -41,16 +42,6 @@ use Rattle.jf_client.proofs.Told.{hash_of_key, byte-at, honest-hashes}
 use Rattle.jf_client.proofs.Replies.{answered, question_to}
 
 -- ---- what a block holds
-all_front : {X : Type 0} (P : X → Type 0) (n : ℕ) (xs : List X) → AllByRecursion P xs → AllByRecursion P (take n xs)
-all_front P zero xs all = tt
-all_front P (suc n) [] all = tt
-all_front P (suc n) (x ∷ xs) all = (all.0, all_front P n xs all.1)
-
-all_rest : {X : Type 0} (P : X → Type 0) (n : ℕ) (xs : List X) → AllByRecursion P xs → AllByRecursion P (drop n xs)
-all_rest P zero xs all = all
-all_rest P (suc n) [] all = tt
-all_rest P (suc n) (x ∷ xs) all = all_rest P n xs all.1
-
 entries-fit : (es : Entries) → AllByRecursion (λ e. IsKey e.0 × AllByRecursion (λ b. b < 256) e.1) es → AllByRecursion (λ e. length e.1 ≤ max_value) es → AllByRecursion (λ e. IsHash e.0 × IsBytes e.1 × (length e.1 ≤ max_value)) es
 entries-fit [] keys small = tt
 entries-fit (e ∷ es) keys small = ((hash_of_key e.0 keys.0.0, (λ i. byte-at e.1 i keys.0.1), small.0), entries-fit es keys.1 small.1)
@@ -78,7 +69,7 @@ module _ (m : Map) (start count : ℕ) where
   block-fits : IsMap m → AllByRecursion (λ e. length e.1 ≤ max_value) (entries m) → IsChunkBlock es proof
   unfolding honest_chunk
   block-fits is_map small = record {
-    entries = all_front _ count (drop start (entries m)) (all_rest _ start (entries m) (entries-fit (entries m) is_map small));
+    entries = all_take _ count (drop start (entries m)) (all_drop _ start (entries m) (entries-fit (entries m) is_map small));
     siblings = right-hashes (last_key es) (honest m (last_key es)).siblings (honest-hashes m (last_key es));
   }
 

@@ -32,10 +32,11 @@ use Rattle.jf_answers.specs.Own.{Own}
 use Rattle.jf_answers.specs.Refusals.{base_map}
 use Rattle.jf_answers.specs.Answers.{Answer, granted_answer, own_answer, read_answer}
 use Rattle.jf_answers.specs.Runs.{answer_text}
+use Rattle.jf_answers.proofs.AnswerLaws.{unrefused}
 use Rattle.jf_client.specs.RunLaws.{Heard, answer_heard, text_heard, told_by, syntax_lines, judged_from, question_in, map_in, Asks, AsksRoot, AsksProof, IsOther, AreHeardOn, IsAskedOf, WholeRunsAreJudged}
 use Rattle.jf_client.proofs.Told.{hash_of_key, honest-told}
 use Rattle.jf_client.proofs.Judged.{root_step, block_step, end_step, knows}
-use Rattle.jf_client.proofs.Replies.{answered, unrefused}
+use Rattle.jf_client.proofs.Replies.{answered}
 use Rattle.jf_client.proofs.OtherLines.{IsNoFirst, other_lines_of}
 use Rattle.jf_client.proofs.CountedLines.{Counted, proof_block-counted}
 use Rattle.jf_client.proofs.HonestClaims.{IsOf, all_more, judged-honest}

@@ -2,9 +2,9 @@
 use denote.Ref.{Bor}
 use Rattle.std.proofs.Common.{◌≡◌, ◌↔◌, ℕ, ◌+◌, ◌<◌, ◌==◌, [], ◌∷◌, ◌⊎◌, inl, inr, Bool, true, false, true≢false, Option, Some, None, sym, ap, ◌∙◌, subst, refl, arith, IsTrue}
 use Rattle.std.proofs.lemmas.Bool.{cases_lt}
-use Rattle.std.proofs.lemmas.Bool.Decides.{nat_tests}
 use Rattle.std.specs.Option.{option_copied, is_some}
 use Rattle.jf_path.proofs.BoolLaws.{left_true}
+use Rattle.jf_path.proofs.NumberLaws.{number_tells, same_number}
 use Rattle.jf_hash.specs.Slots.{Part}
 use Rattle.jf_model.specs.ChildEntries.{child_entries, sub}
 use Rattle.jf_model.specs.Nodes.{Path, is_node, is_fresh}
@@ -63,12 +63,6 @@ changed-gone old top n now (Some c) deep at is none before =
     let link = child_in_sound old n (Some c.now) before in
     (λ h. other_changed (content old) (content top) n (λ same. not_empty c.now.entries link.entries.some (child_of_top old n (Some c.now) deep before ∙ same ∙ without)), λ changes. refl)
 
-nat_is : (a b : ℕ) → (a == b) ≡ true → a ≡ b
-nat_is a b h = grind (arith, nat_tests)
-
-is_nat : (a b : ℕ) → a ≡ b → (a == b) ≡ true
-is_nat a b h = grind (arith, nat_tests)
-
 -- there is a child now: something changed if the landing wrote it
 pub changed-new : (version : ℕ) (old top : Option LinkValue) (before : Path → Option ℕ) (n : ℕ) (now : Option (Bor LinkValue)) (c : Bor LinkValue) (v : ℕ) → IsAtDepth 0 top → IsFreshUnder version (content old) before top → IsBelowIf top n (option_copied now) → now ≡ Some c → IsLink c.now → v ≡ c.now.version
     → IsTrue (v == version) ↔ ChangesBelow (content old) (content top) n
@@ -81,8 +75,8 @@ changed-new version old (Some x) before n now c v at under is some link own =
     let has : link_version_at (n ∷ []) (Some x) ≡ Some v = below.versions [] ∙ link.own ∙ ap (λ w. Some w) (sym own) in
     let deep : (child_entries 0 n es ≡ child_entries 0 n x.entries) → child_entries x.depth n es ≡ child_entries x.depth n x.entries = λ same. subst (λ d. child_entries d n es ≡ child_entries d n x.entries) (sym at) same in
     let top : (child_entries x.depth n es ≡ child_entries x.depth n x.entries) → child_entries 0 n es ≡ child_entries 0 n x.entries = λ same. subst (λ d. child_entries d n es ≡ child_entries d n x.entries) at same in (
-      λ h. other_changed es x.entries n (λ same. under.older n [] (sym (follows.kept some_now (deep same)) ∙ has ∙ ap (λ w. Some w) (nat_is v version h))),
-      λ changes. is_nat v version (some_is v version (sym has ∙ follows.fresh some_now (λ same. same_unchanged es x.entries n (top same) changes))),
+      λ h. other_changed es x.entries n (λ same. under.older n [] (sym (follows.kept some_now (deep same)) ∙ has ∙ ap (λ w. Some w) (number_tells v version h))),
+      λ changes. same_number v version (some_is v version (sym has ∙ follows.fresh some_now (λ same. same_unchanged es x.entries n (top same) changes))),
     )
 
 -- ---- more than one nibble

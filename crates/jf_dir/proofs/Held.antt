@@ -1,10 +1,10 @@
 -- A sound standing follows from the snapshots that hold it.
 use Rattle.std.proofs.Common.{◌≡◌, ℕ, ◌+◌, ◌-◌, List, [], ◌∷◌, ◌++◌, map, reverse, drop, length, refl, sym, ap, ap₂, ◌∙◌, arith, true}
 use Rattle.std.specs.FinMap.{entries}
-use Rattle.std.specs.List.{AllByRecursion}
 use Rattle.jf_hash.specs.Maps.{Map}
 use Rattle.jf_hash.specs.Roots.{root}
 use Rattle.jf_path.specs.declared.node.PlainNode.{PlainNode}
+use Rattle.jf_path.proofs.ListLaws.{map_alike}
 use Rattle.jf_model.specs.Nodes.{Path, is_node, nodes, plain_node}
 use Rattle.jf_codec.specs.declared.format.Format.TheVariants as format
 use Rattle.jf_walk.proofs.NodesListed.{nodes-exact}
@@ -20,11 +20,6 @@ use Rattle.jf_standing.proofs.Freshness.{child-node}
 use Rattle.jf_standing.proofs.Lists.{All-each_element}
 use Rattle.jf_standing.proofs.Steps.{parts_at}
 use Rattle.jf_dir.specs.Holding.{standing_held, AreSnapshotsFrom, IsStandingHeld}
-
--- two functions that agree on the elements of a list give the same list
-map_alike : {X Y : Type 0} (f g : X → Y) (xs : List X) → AllByRecursion (λ x. f x ≡ g x) xs → map f xs ≡ map g xs
-map_alike f g [] h = refl
-map_alike f g (x ∷ xs) h = ap₂ (λ y ys. y ∷ ys) h.0 (map_alike f g xs h.1)
 
 -- the named nodes of a map depend on the versions of its nodes alone
 pub nodes-alike : (m : Map) (v w : Path → ℕ) → ((p : Path) → is_node 0 p (entries m) ≡ true → v p ≡ w p) → map (node_of format.Two v) (nodes m) ≡ map (node_of format.Two w) (nodes m)

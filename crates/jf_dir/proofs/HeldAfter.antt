@@ -14,8 +14,8 @@ use Rattle.jf_hash.specs.Maps.{Map, IsMap}
 use Rattle.jf_hash.specs.Roots.{root}
 use Rattle.jf_hash.specs.Slots.{Part}
 use Rattle.jf_hash.proofs.RootLaws.{entries-empty}
-use Rattle.jf_model.specs.Nodes.{Path, nodes, nodes_below, plain_node, is_node}
-use Rattle.jf_model.proofs.NodeLaws.{nodes-none}
+use Rattle.jf_model.specs.Nodes.{Path, nodes, plain_node, is_node}
+use Rattle.jf_model.proofs.NodeLaws.{nodes-empty}
 use Rattle.jf_model.proofs.VersionLaws.{root-IsKey}
 use Rattle.jf_codec.specs.declared.format.Format.TheVariants as format
 use Rattle.jf_node.specs.SnapshotValue.{SnapshotValue}
@@ -157,10 +157,6 @@ begun-held base earlier x r rs none xs ms n snap keys numbered last room root_is
     (subst (λ ks. IsStandingHeld (begun_with base earlier x) base (earlier ++ root x.map ∷ []) (x ∷ []) ks n) (sym unmarked_) held))
 
 -- ---- the empty map
-pub nodes-empty : nodes fin.empty ≡ ([], []) ∷ []
-unfolding nodes
-nodes-empty = ap (nodes_below 64 0) entries-empty ∙ nodes-none
-
 abbrev none_map : Map
 none_map = fin.empty
 

@@ -14,6 +14,7 @@ use Rattle.jf_path.specs.NameLaws.{name_cmp_total}
 use Rattle.jf_path.specs.Names.{name_cmp}
 use Rattle.jf_path.specs.declared.name.NodeName.{NodeName}
 use Rattle.jf_path.specs.declared.node.PlainNode.{PlainNode}
+use Rattle.jf_path.proofs.NumberLaws.{number_tells, same_number}
 use Rattle.jf_hash.specs.Maps.{IsMap}
 use Rattle.jf_model.specs.Nodes.{Path, is_node, is_fresh, under, nodes, stale, plain_node}
 use Rattle.jf_codec.specs.declared.format.Format.TheVariants as format
@@ -37,7 +38,6 @@ use Rattle.jf_standing.proofs.Freshness.{child-node, fresh-listed, fresh-node, l
 use Rattle.jf_standing.proofs.Leaves.{IsMap-map_at}
 use Rattle.jf_standing.proofs.Lists.{Contains-cases, map-which, none_in_nothing, one-true}
 use Rattle.jf_standing.proofs.Names.{find-by_name, same_name-exact, sorted-by_name}
-use Rattle.jf_standing.proofs.Numbers.{number_tells, same_number}
 use Rattle.jf_standing.proofs.OneStanding.{version-step}
 use Rattle.jf_standing.proofs.Ordered.{Contains-find, find-Contains}
 use Rattle.jf_standing.proofs.Sinces.{alive-so, alive-tells, since-high, version-low}

@@ -28,6 +28,7 @@ use Rattle.jf_standing.proofs.Counts.{count-cons, count-some}
 use Rattle.jf_standing.proofs.Lists.{All-each_element, Contains-cases, none_in_nothing, one-true}
 use Rattle.jf_standing.proofs.Names.{are_rising-sorted, same_name-exact}
 use Rattle.jf_standing.proofs.Ordered.{count-sorted}
+use Rattle.jf_standing.proofs.Checkpoints.{apart_names}
 use Rattle.jf_dir.specs.Holding.{is_stale_node, marks_of, AreMarksOf, AreTakenUpto}
 use Rattle.jf_dir.proofs.MarkMoves.{mark-which, marks-floored}
 
@@ -90,11 +91,6 @@ marks_apart (n ∷ ns) few =
       )
       | false ↦ rest
     ]
-
--- the names of nodes whose names stand apart from their values
-pub apart_names : (ns : List Named) → map (λ e. e.0) (map apart ns) ≡ map (λ n. n.0) ns
-apart_names [] = refl
-apart_names (n ∷ ns) = ap (λ t. n.0 ∷ t) (apart_names ns)
 
 pub apart-marks_of : (ns : List Named) → IsTrue (are_rising (map (λ n. n.0) ns)) → AreApart (marks_of ns)
 apart-marks_of ns rises = marks_apart ns (λ name. count-sorted name_cmp name_cmp_total same_name-exact name (map apart ns) (are_rising-sorted (map apart ns) (subst (λ xs. IsTrue (are_rising xs)) (sym (apart_names ns)) rises)))

@@ -4,6 +4,7 @@ use Rattle.jf_path.specs.declared.name.NodeName.{NodeName}
 use Rattle.jf_path.proofs.BoolLaws.{left_true}
 use Rattle.jf_path.proofs.FilterLaws.{Contains-filter, filter-Contains, filter-passes}
 use Rattle.jf_path.proofs.ListLaws.{All-of, Contains-map}
+use Rattle.jf_path.proofs.NumberLaws.{lt_tells, lt_so}
 use Rattle.jf_hash.specs.Maps.{Map, IsMap}
 use Rattle.jf_codec.specs.declared.format.Format.TheVariants as format
 use Rattle.jf_stale.specs.Marks.{Mark}
@@ -18,7 +19,6 @@ use Rattle.jf_standing.proofs.Lands.{continues}
 use Rattle.jf_standing.proofs.Lists.{map-which}
 use Rattle.jf_standing.proofs.Marks.{marked-yes, marked-not, Contains-nodes_after_commit}
 use Rattle.jf_standing.proofs.Names.{named-tells, named-so}
-use Rattle.jf_standing.proofs.Numbers.{lt_tells, lt_so}
 use Rattle.jf_standing.proofs.Sinces.{alive-tells}
 use Rattle.jf_standing.proofs.Written.{names-stale}
 use Rattle.jf_dir.specs.Holding.{is_stale_node, marks_of, AreMarksOf, IsMarkIn, AreAdded, AreRemoved, AreTakenUpto}

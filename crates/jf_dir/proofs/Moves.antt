@@ -5,7 +5,7 @@ use Rattle.std.proofs.lemmas.List.{reverse-append, length-map}
 use Rattle.std.proofs.Common.{length-append}
 use Rattle.std.specs.FinMap.{entries, len}
 use Rattle.std.specs.List.{AllByRecursion}
-use Rattle.jf_path.proofs.ListLaws.{All-append}
+use Rattle.jf_path.proofs.ListLaws.{All-append, all_drop}
 use Rattle.jf_hash.specs.Maps.{Map, IsMap}
 use Rattle.jf_model.specs.Nodes.{Path, is_node}
 use Rattle.jf_model.proofs.VersionLaws.{root-IsKey}
@@ -57,11 +57,6 @@ snapshots-drop s w (suc k) (x ∷ xs) h = subst (λ v. AreSnapshotsFrom s v (dro
 all_front : {X : Type 0} (P : X → Type 0) (xs : List X) (x : X) → AllByRecursion P (xs ++ x ∷ []) → AllByRecursion P xs
 all_front P [] x h = tt
 all_front P (y ∷ xs) x h = (h.0, all_front P xs x h.1)
-
-all_drop : {X : Type 0} (P : X → Type 0) (k : ℕ) (xs : List X) → AllByRecursion P xs → AllByRecursion P (drop k xs)
-all_drop P zero xs h = h
-all_drop P (suc k) [] h = tt
-all_drop P (suc k) (x ∷ xs) h = all_drop P k xs h.1
 
 length_drop : {X : Type 0} (k : ℕ) (xs : List X) → k ≤ length xs → length (drop k xs) + k ≡ length xs
 length_drop zero xs low = omega arith

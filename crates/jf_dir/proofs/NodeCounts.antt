@@ -9,12 +9,12 @@ use Rattle.jf_model.specs.Nodes.{Path, has_one, has_two, nodes, nodes_below}
 use Rattle.jf_hash.proofs.RootLaws.{entries-empty}
 use Rattle.jf_model.specs.ChildEntries.{child_entries}
 use Rattle.jf_model.specs.Walk.{each_from}
+use Rattle.jf_model.proofs.NodeLaws.{nodes-empty}
 use Rattle.jf_walk.proofs.WalkLaws.{each_from-flat_map}
 use Rattle.jf_node.specs.LinkValue.{LinkValue}
 use Rattle.jf_node.proofs.NodeVersions.{has_one-true}
 use Rattle.jf_diff.specs.Below.{IsBelow}
 use Rattle.jf_diff.proofs.PlainNodes.{each_more}
-use Rattle.jf_dir.proofs.HeldAfter.{nodes-empty}
 
 -- the nodes from the child at a nibble down, if so many entries are below it
 abbrev pub nodes_from : ℕ → ℕ → ℕ → Part → List (Path × Part)

@@ -253,7 +253,7 @@ replayed_numbered spelling numbered rs (Ok x) led is = subst (λ n. (1 ≤ n) ×
 replayed_numbered spelling numbered rs (Err e) led is = tt
 
 -- a fault that was counted in a later call was counted since an earlier moment
-cause_before : (f f1 f' : ℕ) → f ≤ f1 → f1 ≤ f' → HasCause f1 f' → HasCause f f'
+pub cause_before : (f f1 f' : ℕ) → f ≤ f1 → f1 ≤ f' → HasCause f1 f' → HasCause f f'
 cause_before f f1 f' first then_ (inl rose) = inl (omega (arith, first, rose))
 cause_before f f1 f' first then_ (inr stood) = elim (eq-or-lt_of_le first) [ inl same ↦ inr (same ∙ stood) | inr less ↦ inl (omega (arith, less, then_)) ]
 

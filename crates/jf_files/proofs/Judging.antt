@@ -40,7 +40,7 @@ has_format kind = (
 )
 
 -- a kind of checkpoint is that of one format
-one_format : (a b : Format) → checkpoint_kind a ≡ checkpoint_kind b → a ≡ b
+pub one_format : (a b : Format) → checkpoint_kind a ≡ checkpoint_kind b → a ≡ b
 one_format format.One format.One is = refl
 one_format format.One format.Two is = absurd (omega (arith, is))
 one_format format.Two format.One is = absurd (omega (arith, is))

@@ -10,10 +10,10 @@ use Rattle.jf_path.specs.declared.node.PlainNode.TheVariants as node
 use Rattle.jf_hash.specs.Hashes.{E}
 use Rattle.jf_hash.specs.Roots.{root}
 use Rattle.jf_hash.specs.Slots.{Part}
-use Rattle.jf_hash.proofs.RootLaws.{root-empty, entries-empty}
+use Rattle.jf_hash.proofs.RootLaws.{root-empty}
 use Rattle.jf_hash.proofs.HashLaws.{E-IsKey}
-use Rattle.jf_model.specs.Nodes.{nodes, nodes_below, plain_node, Path}
-use Rattle.jf_model.proofs.NodeLaws.{nodes-none}
+use Rattle.jf_model.specs.Nodes.{plain_node, Path}
+use Rattle.jf_model.proofs.NodeLaws.{nodes-empty}
 use Rattle.jf_frame.specs.Framed.{Framed}
 use Rattle.jf_frame.specs.Framing.{records, records_from, size_of, payload_of, after_record, number_of, frame}
 use Rattle.jf_pair.specs.Files.{HoldsLive}
@@ -38,10 +38,6 @@ E_is = refl
 root_is : root fin.empty ≡ empty_root
 root_is = root-empty ∙ E_is
 
-one_part : nodes fin.empty ≡ ([], []) ∷ []
-unfolding nodes
-one_part = ap (nodes_below 64 0) entries-empty ∙ nodes-none
-
 abbrev one_node : List Named
 one_node = (record { version = 0; path = [] }, node.Null, never) ∷ []
 
@@ -54,7 +50,7 @@ with_node = refl
 
 -- the checkpoint of a new store, written out
 pub first_is : checkpoint_of 1 (new_standing format.Two) ≡ first
-first_is = ap₂ (λ (r : List ℕ) (ns : List Named). «record».Checkpoint 1 0 0 0 (r ∷ []) ns) root_is (ap (λ (ps : List (Path × Part)). nodes_by_name (map (node_of format.Two (λ path. 0)) ps)) one_part ∙ with_node)
+first_is = ap₂ (λ (r : List ℕ) (ns : List Named). «record».Checkpoint 1 0 0 0 (r ∷ []) ns) root_is (ap (λ (ps : List (Path × Part)). nodes_by_name (map (node_of format.Two (λ path. 0)) ps)) nodes-empty ∙ with_node)
 
 first_bytes : record_bytes format.Two first ≡ new_store_payload
 unfolding record_bytes eight_bytes node_bytes path_bytes

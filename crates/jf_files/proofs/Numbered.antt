@@ -45,7 +45,7 @@ first_part a b c d e f long =
       long-append (a ++ b ++ c ++ d ++ e) f abcde,
     )
 
-is_kind : (fmt : Format) → is_checkpoint (checkpoint_kind fmt) ≡ true
+pub is_kind : (fmt : Format) → is_checkpoint (checkpoint_kind fmt) ≡ true
 is_kind format.One = refl
 is_kind format.Two = refl
 

@@ -1,17 +1,10 @@
 -- Two stores of one version and root whose maps differ give a collision.
-use Rattle.std.proofs.Common.{ℕ, suc, zero, ◌-◌, ◌∷◌, [], List, slice_index_or, ◌∙◌, sym}
-use Rattle.std.specs.FinMap as fin
-use Rattle.std.specs.List.{AllByRecursion}
-use Rattle.jf_hash.specs.Maps.{Map, IsMap}
+use Rattle.std.proofs.Common.{ℕ, ◌-◌, ◌∙◌, sym}
+use Rattle.jf_hash.specs.Maps.{IsMap}
 use Rattle.jf_model.specs.Versions.{Versions, IsVersions, map_of}
-use Rattle.jf_model.proofs.VersionLaws.{empty-IsMap, root_of-map_of}
+use Rattle.jf_model.proofs.VersionLaws.{root_of-map_of, place-IsMap}
 use Rattle.jf_evidence.proofs.MapClashLaws.{maps-collide}
 use Rattle.jf_follow.specs.Laws.{FollowersCollide}
-
-place-IsMap : (i : ℕ) (ms : List Map) → AllByRecursion IsMap ms → IsMap (slice_index_or ms i fin.empty)
-place-IsMap i [] all = empty-IsMap
-place-IsMap zero (m ∷ ms) all = all.0
-place-IsMap (suc i) (m ∷ ms) all = place-IsMap i ms all.1
 
 pub map_of-IsMap : (v : Versions) (w : ℕ) → IsVersions v → IsMap (map_of v w)
 map_of-IsMap v w sound = place-IsMap (v.head - w) v.maps sound.sound

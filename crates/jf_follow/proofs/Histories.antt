@@ -5,8 +5,9 @@ use Rattle.jf_hash.specs.Maps.{IsBatch}
 use Rattle.jf_model.specs.Versions.{Versions, root_of, versions_after_landing}
 use Rattle.jf_model.specs.States.{State}
 use Rattle.jf_model.specs.Entries.{after, replay, AreLegal, IsLegal}
+use Rattle.jf_model.proofs.VersionLaws.{root_of-land_all}
 use Rattle.jf_lead.specs.declared.block.LandingBlock.{LandingBlock}
-use Rattle.jf_lead.proofs.LandingLaws.{root_of-landed_block, root_of-land_all}
+use Rattle.jf_lead.proofs.LandingLaws.{root_of-landed_block}
 use Rattle.jf_follow.specs.declared.judging.Judgement.{Judgement}
 use Rattle.jf_follow.specs.declared.judging.Judgement.TheVariants as judged
 use Rattle.jf_follow.specs.Following.{judgement, FollowedBlocks, dated_entry, and_entry_before, follow}

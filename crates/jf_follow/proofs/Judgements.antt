@@ -5,6 +5,7 @@ use Rattle.std.proofs.lemmas.Slice.Eq.{bytes_eq-Decides}
 use Rattle.std.specs.List.{AllByRecursion}
 use Rattle.std.specs.FinMap.{len}
 use Rattle.jf_path.specs.Checks.{first_of}
+use Rattle.jf_path.proofs.BoolLaws.{neither, not_false}
 use Rattle.jf_hash.specs.Maps.{Batch}
 use Rattle.jf_model.specs.Versions.{Versions, newest, root_of}
 use Rattle.jf_lead.specs.declared.block.LandingBlock.{LandingBlock}
@@ -54,10 +55,6 @@ other_root r q differ = elim (bytes_eq r q) as (λ t. bytes_eq r q ≡ t → t �
 both_yes : (a b : Bool) → (a && b) ≡ true → (a ≡ true) × (b ≡ true)
 both_yes true b e = (refl, e)
 both_yes false b e = absurd (cc)
-
-not_false : (t : Bool) → not t ≡ false → t ≡ true
-not_false true e = refl
-not_false false e = absurd (cc)
 
 -- ---- what each row tells
 -- what is to be landed is the next version, with its own root
@@ -224,10 +221,6 @@ next_judgement v batch low =
     let b : LandingBlock = told_landing (v.head + 1) (landed_block v batch).root batch in
     elim (is_at_limit v) as (λ t. is_at_limit v ≡ t → judgement v b ≡ cond t (judged.Refused fault.Last) judged.Next) [ true ↦ λ last. row_last v b low refl last | false ↦ λ more. row_next v b low refl more refl ] refl
 
-both_no : (a b : Bool) → (a || b) ≡ false → (a ≡ false) × (b ≡ false)
-both_no true b e = absurd (cc)
-both_no false b e = (refl, e)
-
 head_small : (head : ℕ) → nat_le (2 ^ 64 - 2) head ≡ false → head + 1 ≤ 2 ^ 64 - 2
 head_small head e = grind (arith, nat_tests)
 
@@ -237,7 +230,7 @@ map_small n e = grind (arith, nat_tests)
 -- what isn't at its limit may be followed by a version
 pub not_at_limit : (v : Versions) → is_at_limit v ≡ false → (v.head + 1 ≤ 2 ^ 64 - 2) × (len (newest v) ≤ 2 ^ 62)
 not_at_limit v e =
-    let parts = both_no (nat_le (2 ^ 64 - 2) v.head) (nat_lt (2 ^ 62) (len (newest v))) e in
+    let parts = neither (nat_le (2 ^ 64 - 2) v.head) (nat_lt (2 ^ 62) (len (newest v))) e in
     (head_small v.head parts.0, map_small (len (newest v)) parts.1)
 
 -- the limit, by its two numbers

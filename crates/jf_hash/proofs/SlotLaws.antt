@@ -1,6 +1,6 @@
 -- The hash of a range of places is the root of the entries that stand in it, and the hash of all places is the root of the part.
 use Rattle.std.specs.Prelude.{◌≡◌, ℕ, zero, suc, ◌+◌, ◌*◌, ◌/◌, ◌%◌, ◌^◌, ◌<◌, List, Bool, true, false, not, ◌&&◌, ◌-◌, [], ◌∷◌, ◌++◌, cond, filter, ◌==◌, slice_index, take, drop, map, ◌≤◌, length}
-use Rattle.std.proofs.Common.{ap, arith, ◌∙◌, refl, sym, pow-suc, take-take, drop-drop, ap₂, take-append-drop, take_all}
+use Rattle.std.proofs.Common.{ap, arith, ◌∙◌, refl, sym, take-take, drop-drop, ap₂, take-append-drop, take_all}
 use Rattle.std.proofs.lemmas.Bool.{agree_below_at}
 use Rattle.std.proofs.lemmas.Bool.Decides.{nat_tests}
 use Rattle.std.proofs.lemmas.List.{drop_more, take-map, drop-map, drop-take}
@@ -9,6 +9,7 @@ use Rattle.jf_path.specs.Keys.{bit, IsKey, IsBytes}
 use Rattle.jf_path.specs.Nibbles.{bit_number, nibble}
 use Rattle.jf_path.proofs.NibbleLaws.{digit_small, nibble-small}
 use Rattle.jf_path.proofs.FilterLaws.{filter-alike, filter-filter}
+use Rattle.jf_path.proofs.NumberLaws.{double}
 use Rattle.jf_hash.specs.Ranges.{lies_in, in_range}
 use Rattle.jf_hash.specs.Roots.{zeros, ones, part_root}
 use Rattle.jf_hash.specs.Slots.{Occupants, Empty, Lone, Many, with_leaf, occupants, Part, all_nibbles, with_nibble, slot_of, slots_of, range_hash, occupants_hash}
@@ -151,14 +152,11 @@ slot_of-hash d (e ∷ f ∷ es) = refl
 abbrev places : ℕ → ℕ → List Slot → List Slot
 places start width slots = take width (drop start slots)
 
-twice : (l : ℕ) → 2 ^ suc l ≡ 2 ^ l + 2 ^ l
-twice l = omega (arith, pow-suc 2 l)
-
 first_half : (l start : ℕ) (slots : List Slot) → take (2 ^ l) (places start (2 ^ suc l) slots) ≡ places start (2 ^ l) slots
-first_half l start slots = take-take (2 ^ l) (2 ^ suc l) (drop start slots) (omega (arith, twice l))
+first_half l start slots = take-take (2 ^ l) (2 ^ suc l) (drop start slots) (omega (arith, double l))
 
 second_half : (l start : ℕ) (slots : List Slot) → drop (2 ^ l) (places start (2 ^ suc l) slots) ≡ places (start + 2 ^ l) (2 ^ l) slots
-second_half l start slots = ap (λ n. drop (2 ^ l) (take n (drop start slots))) (twice l) ∙ drop-take (2 ^ l) (2 ^ l) (drop start slots) ∙ ap (take (2 ^ l)) (drop-drop (2 ^ l) start slots)
+second_half l start slots = ap (λ n. drop (2 ^ l) (take n (drop start slots))) (double l) ∙ drop-take (2 ^ l) (2 ^ l) (drop start slots) ∙ ap (take (2 ^ l)) (drop-drop (2 ^ l) start slots)
 
 halved : (l start : ℕ) (slots : List Slot) → places start (2 ^ suc l) slots ≡ places start (2 ^ l) slots ++ places (start + 2 ^ l) (2 ^ l) slots
 halved l start slots =

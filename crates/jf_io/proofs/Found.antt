@@ -1,4 +1,5 @@
 -- A line at the front of what is held is the first line of the bytes held and still to come.
+use Rattle.std.specs.Prelude.{unwrap_or}
 use Rattle.std.proofs.Common.{inl, inr, ℕ, List, Option, ◌≡◌, ◌⊎◌, ◌<◌, [], length, Some, eq-or-lt_of_le, arith, ◌+◌, drop, ap, ◌∙◌, ◌∷◌, ◌++◌, append_assoc, sym, append-nil, refl}
 use Rattle.std.proofs.lemmas.List.{drop_all}
 use Rattle.std.specs.List.{position_or_len, after_first, before_first}
@@ -54,3 +55,9 @@ lines_found held left found = elim (where_of held (Some left) found) [
   | inr last ↦ let none : left ≡ [] = last.2 left refl in
       ap (λ l. lines (held ++ l)) none ∙ last_line held last.0 last.1 ∙ ap (λ l. before_first is_line_feed held ∷ lines (after_first is_line_feed held ++ l)) (sym none)
 ]
+
+-- the lines of bytes are the first one and those after it
+pub lines-split : (bytes : List ℕ) → 0 < length bytes → lines bytes ≡ before_first is_line_feed bytes ∷ lines (after_first is_line_feed bytes)
+lines-split bytes some =
+    ap lines (sym (append-nil bytes)) ∙ lines_found bytes [] (inr (some, λ left e. sym (ap (λ o. unwrap_or o []) e)))
+    ∙ ap (λ after. before_first is_line_feed bytes ∷ lines after) (append-nil (after_first is_line_feed bytes))

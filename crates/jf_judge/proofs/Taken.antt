@@ -12,11 +12,7 @@ pub taken-none : (rest : Option (List ℕ)) → HasTaken rest rest []
 taken-none None = record { input = []; left = []; split = refl; told = λ text e. absurd (cc); few = omega arith }
 taken-none (Some t) = record { input = t; left = t; split = refl; told = λ text e. (cc, refl); few = omega arith }
 
--- a piece more was taken, or nothing: a call of `append_piece`
-abbrev IsPieceTaken : Option (List ℕ) → Option (List ℕ) → List ℕ → List ℕ → Type 0
-IsPieceTaken rest rest' bytes bytes' = (to_come : List ℕ) → rest ≡ Some to_come → (left : List ℕ) × (rest' ≡ Some left) × (bytes' ++ left ≡ bytes ++ to_come)
-
-pub taken-more : (rest rest' rest'' : Option (List ℕ)) (bytes bytes' : List ℕ) → HasTaken rest rest' bytes → IsPieceTaken rest' rest'' bytes bytes' → length bytes' ≤ max_reply + MAX_PIECE → HasTaken rest rest'' bytes'
+pub taken-more : (rest rest' rest'' : Option (List ℕ)) (bytes bytes' : List ℕ) → HasTaken rest rest' bytes → ((to_come : List ℕ) → rest' ≡ Some to_come → (left : List ℕ) × (rest'' ≡ Some left) × (bytes' ++ left ≡ bytes ++ to_come)) → length bytes' ≤ max_reply + MAX_PIECE → HasTaken rest rest'' bytes'
 taken-more None rest' rest'' bytes bytes' h more few = record { input = bytes'; left = []; split = append-nil bytes'; told = λ text e. absurd (cc); few = few }
 taken-more (Some t) rest' rest'' bytes bytes' h more few =
     let now = h.told t refl in

@@ -1,7 +1,7 @@
 -- A refusal comes at the line that decides it, and stays; and so do the blocks before it.
-use Rattle.std.proofs.Common.{◌≡◌, ℕ, ◌+◌, ◌≤◌, ◌==◌, nat_lt, true, false, cond, List, [], ◌∷◌, ◌++◌, length, Option, Some, None, refl, ap, ap₂, sym, ◌∙◌, subst, arith}
-use Rattle.std.proofs.lemmas.Bool.Decides.{nat_tests}
+use Rattle.std.proofs.Common.{◌≡◌, ℕ, ◌+◌, ◌≤◌, nat_lt, true, false, cond, List, [], ◌∷◌, ◌++◌, length, Option, Some, None, refl, ap, ap₂, sym, ◌∙◌, subst, arith}
 use Rattle.std.proofs.lemmas.List.{append-nil}
+use Rattle.jf_path.proofs.NumberLaws.{is_next, is_before}
 use Rattle.jf_model.specs.Puts.{Change}
 use Rattle.jf_blocks.specs.Reading.{line_read}
 use Rattle.jf_lead.specs.declared.block.LandingBlock.{LandingBlock}
@@ -27,15 +27,13 @@ IsAfterLines n stage.Between at = at ≡ n + 1
 IsAfterLines n (stage.Block b) at = at ≡ n + 1
 IsAfterLines n (stage.Refused why) at = IsRefusedWithin n why
 
--- a refusal to which line n leads is of one of the first n lines
+-- after line n the next line has the number n + 1, unless one was refused
 abbrev LeadsTo : ℕ → Stage → Type 0
-LeadsTo n stage.Between = Unit {0}
-LeadsTo n (stage.Block b) = Unit {0}
-LeadsTo n (stage.Refused why) = IsRefusedWithin n why
+LeadsTo n s = IsAfterLines n s (n + 1)
 
 whole_or_begun-leads : (n : ℕ) (b : Begun) → LeadsTo n (whole_or_begun b).stage
 whole_or_begun-leads n b =
-    elim (nat_lt 0 b.changes_left) as (λ t. LeadsTo n (cond t (step_to (stage.Block b)) (record { stage = stage.Between; block = Some (b.first, whole_block b) })).stage) [ true ↦ tt | false ↦ tt ]
+    elim (nat_lt 0 b.changes_left) as (λ t. LeadsTo n (cond t (step_to (stage.Block b)) (record { stage = stage.Between; block = Some (b.first, whole_block b) })).stage) [ true ↦ refl | false ↦ refl ]
 
 head-leads : (n : ℕ) (o : Option LandingHead) → LeadsTo n (landing_head_step n o).stage
 head-leads n None = omega arith
@@ -45,20 +43,14 @@ change-leads : (n : ℕ) (b : Begun) (o : Option Change) → LeadsTo n (change_s
 change-leads n b None = omega arith
 change-leads n b (Some c) = whole_or_begun-leads n (with_change b c)
 
--- after line n the next line has the number n + 1, unless one was refused
-arrives : (n : ℕ) (s : Stage) → LeadsTo n s → IsAfterLines n s (n + 1)
-arrives n stage.Between h = refl
-arrives n (stage.Block b) h = refl
-arrives n (stage.Refused why) h = h
-
 widen : (n : ℕ) (why : LandingFault) → IsRefusedWithin n why → IsRefusedWithin (n + 1) why
 widen n (fault.Line at) h = omega arith
 widen n fault.Memory h = h
 
 moves : (n at : ℕ) (s : Stage) (line : List ℕ) → IsAfterLines n s at → IsAfterLines (n + 1) (landing_line_step at s line).stage (number_after at s)
 unfolding landing_line_step
-moves n at stage.Between line h = rw h (arrives (n + 1) (landing_head_step (n + 1) (line_read landing_line_of line)).stage (head-leads (n + 1) (line_read landing_line_of line)))
-moves n at (stage.Block b) line h = rw h (arrives (n + 1) (change_step (n + 1) b (line_read (change_after b.batch) line)).stage (change-leads (n + 1) b (line_read (change_after b.batch) line)))
+moves n at stage.Between line h = rw h (head-leads (n + 1) (line_read landing_line_of line))
+moves n at (stage.Block b) line h = rw h (change-leads (n + 1) b (line_read (change_after b.batch) line))
 moves n at (stage.Refused why) line h = widen n why h
 
 all_after : (n : ℕ) (s : LandingReading) (ls : List (List ℕ)) → IsAfterLines n s.stage s.at → IsAfterLines (n + length ls) (reading_after_all s ls).stage (reading_after_all s ls).at
@@ -74,12 +66,6 @@ after_begun ls =
     subst (λ n. IsAfterLines n (reading_after_all begun_reading ls).stage (reading_after_all begun_reading ls).at) e (all_after 0 begun_reading ls refl)
 
 -- ---- what is decided
-is_next : (at n : ℕ) → at ≡ n + 1 → (at == n + 1) ≡ true
-is_next at n h = grind (arith, nat_tests)
-
-is_before : (at n : ℕ) → at ≤ n → (at == n + 1) ≡ false
-is_before at n h = grind (arith, nat_tests)
-
 decides : (n at : ℕ) (s : Stage) → IsAfterLines n s at → stage_refusal s ≡ decided_refusal n (bad_line (refusal_at_end at s))
 decides n at stage.Between h = refl
 decides n at (stage.Block b) h = rw (is_next at n h) refl

@@ -1,5 +1,5 @@
 -- The blocks of a history grow at their end, entry by entry and batch by batch.
-use Rattle.std.proofs.Common.{◌≡◌, ℕ, suc, ◌+◌, ◌-◌, ◌≤◌, List, [], ◌∷◌, ◌++◌, slice_index_or, refl, ap, sym, ◌∙◌, arith}
+use Rattle.std.proofs.Common.{◌≡◌, ◌+◌, ◌-◌, List, [], ◌∷◌, ◌++◌, slice_index_or, refl, ap, sym, ◌∙◌, arith}
 use Rattle.std.proofs.lemmas.List.{append_assoc, append-nil}
 use Rattle.jf_hash.specs.Maps.{Batch, apply}
 use Rattle.jf_hash.specs.Roots.{root}
@@ -31,15 +31,6 @@ landed_blocks-append (b ∷ bs) cs v = ap (λ ls. landed_block v b ∷ ls) (land
 pub root_of-landed_block : (b : Batch) (v : Versions) → root_of (versions_after_landing b v) (landed_block v b).version ≡ (landed_block v b).root
 root_of-landed_block b v =
     let e : v.head + 1 - (v.head + 1) ≡ 0 = omega arith in ap (λ i. slice_index_or (root (apply (newest v) b) ∷ v.roots) i []) e
-
-root_of-landed : (b : Batch) (v : Versions) (w : ℕ) → w ≤ v.head → root_of (versions_after_landing b v) w ≡ root_of v w
-root_of-landed b v w low =
-    let e : v.head + 1 - w ≡ suc (v.head - w) = omega arith in ap (λ i. slice_index_or (root (apply (newest v) b) ∷ v.roots) i []) e
-
--- later landings leave a recorded root as it is
-pub root_of-land_all : (bs : List Batch) (v : Versions) (w : ℕ) → w ≤ v.head → root_of (land_all bs v) w ≡ root_of v w
-root_of-land_all [] v w low = refl
-root_of-land_all (b ∷ bs) v w low = root_of-land_all bs (versions_after_landing b v) w (omega arith) ∙ root_of-landed b v w low
 
 -- the text of blocks that follow others
 pub landings_text-append : (bs cs : List LandingBlock) → landings_text (bs ++ cs) ≡ landings_text bs ++ landings_text cs

@@ -1,6 +1,6 @@
 -- Lines of landing blocks read one by one give what they give all together.
-use Rattle.std.proofs.Common.{◌≡◌, ℕ, zero, suc, ◌+◌, ◌-◌, ◌≤◌, nat_lt, true, false, cond, List, [], ◌∷◌, ◌++◌, length, Option, Some, None, Ok, Err, refl, ap, sym, ◌∙◌, arith}
-use Rattle.std.proofs.lemmas.Bool.Decides.{nat_tests}
+use Rattle.std.proofs.Common.{◌≡◌, ℕ, zero, suc, ◌+◌, ◌≤◌, cond, List, [], ◌∷◌, ◌++◌, length, Option, Some, None, Ok, Err, refl, ap, sym, ◌∙◌, arith}
+use Rattle.jf_path.proofs.NumberLaws.{some_left, none_left, one_less}
 use Rattle.jf_hash.specs.Maps.{Batch}
 use Rattle.jf_model.specs.Puts.{Change}
 use Rattle.jf_blocks.specs.Reading.{Read, Place, and_then, gives, one_line_read, line_read}
@@ -52,15 +52,6 @@ answered first (Ok b) = with_block (first, b.0) (blocks_at b.1.at stage.Between 
 answered first (Err at) = record { whole = []; bad = Some at }
 
 -- ---- the lines of a block
-some_left : (m : ℕ) → nat_lt 0 (suc m) ≡ true
-some_left m = grind (arith, nat_tests)
-
-none_left : nat_lt 0 0 ≡ false
-none_left = grind (arith, nat_tests)
-
-one_less : (m : ℕ) → suc m - 1 ≡ m
-one_less m = omega arith
-
 module _ (first version : ℕ) (root : List ℕ) where
   -- what is read of the block, with so many changes to come
   abbrev part : ℕ → Batch → Begun

@@ -1,5 +1,5 @@
 -- Blocks that are read can be written: what is read of each line is within its limits.
-use Rattle.std.proofs.Common.{◌≡◌, ℕ, zero, suc, ◌+◌, ◌-◌, ◌*◌, ◌^◌, ◌<◌, ◌≤◌, ◌==◌, ◌&&◌, nat_le, nat_lt, Bool, true, false, cond, List, [], ◌∷◌, ◌++◌, length, length-append, Option, Some, None, IfSome, IfOk, Ok, Err, option_and_then, option_map, bytes_eq, decimal, codes, refl, subst, arith}
+use Rattle.std.proofs.Common.{◌≡◌, ℕ, zero, suc, ◌+◌, ◌^◌, ◌<◌, ◌≤◌, ◌==◌, ◌&&◌, nat_le, nat_lt, Bool, true, false, cond, List, [], ◌∷◌, ◌++◌, length, length-append, Option, Some, None, IfSome, IfOk, Ok, Err, option_and_then, option_map, bytes_eq, decimal, codes, refl, subst, arith}
 use Rattle.std.specs.List.{AllByRecursion}
 use Rattle.std.proofs.lemmas.Bool.{and_parts}
 use Rattle.std.proofs.lemmas.Bool.Decides.{nat_tests}
@@ -12,7 +12,8 @@ use Rattle.jf_hash.specs.Maps.{Batch, IsBatch}
 use Rattle.jf_model.specs.Puts.{Change}
 use Rattle.jf_split.specs.Limits.{max_keys}
 use Rattle.jf_split.proofs.BatchLaws.{IsBatch-none, IsBatch-put}
-use Rattle.jf_text.specs.Words.{words, is_long, both, digits_value, number, number_upto, digit, byte_of, unhex, bytes_within, hash_of, value_of}
+use Rattle.jf_text.specs.Words.{words, is_long, both, digits_value, number, number_upto, unhex, bytes_within, hash_of, value_of}
+use Rattle.jf_text.proofs.HexBytes.{unhex-IsBytes}
 use Rattle.jf_blocks.specs.Laws.{IsHash}
 use Rattle.jf_blocks.specs.Reading.{word_after, two_after, three_after, keyed_of, Place, Read, and_then, one_line_read, line_read, line_by}
 use Rattle.jf_lead.specs.declared.block.LandingBlock.{LandingBlock}
@@ -45,34 +46,12 @@ IfSome-cond P true x h = h refl
 IfSome-cond P false x h = tt
 
 -- ---- words
-decimal_digit : (c : ℕ) → (nat_le 48 c && nat_le c 57) ≡ true → c - 48 < 16
-decimal_digit c h = let p = and_parts (nat_le 48 c) (nat_le c 57) h in let q = p.1 in grind (arith, nat_tests)
-
-letter_digit : (c : ℕ) → (nat_le 97 c && nat_le c 102) ≡ true → c - 87 < 16
-letter_digit c h = let p = and_parts (nat_le 97 c) (nat_le c 102) h in let q = p.1 in grind (arith, nat_tests)
-
-digit-sound : (c : ℕ) → IfSome (digit c) (λ d. d < 16)
-digit-sound c =
-    elim (nat_le 48 c && nat_le c 57) as (λ t. (nat_le 48 c && nat_le c 57) ≡ t → IfSome (cond t (Some (c - 48)) (cond (nat_le 97 c && nat_le c 102) (Some (c - 87)) None)) (λ d. d < 16)) [
-      | true ↦ λ is. decimal_digit c is
-      | false ↦ λ is. IfSome-cond (λ d. d < 16) (nat_le 97 c && nat_le c 102) (c - 87) (letter_digit c)
-    ] refl
-
-byte_of-sound : (high low : ℕ) → IfSome (byte_of high low) (λ b. b < 256)
-byte_of-sound high low = IfSome-both (λ d. d < 16) (λ d. d < 16) (λ b. b < 256) (λ h l. h * 16 + l) (digit high) (digit low) (digit-sound high) (digit-sound low) (λ h l p q. omega arith)
-
-unhex-sound : (w : List ℕ) → IfSome (unhex w) IsBytes
-unfolding unhex
-unhex-sound [] = tt
-unhex-sound (high ∷ []) = tt
-unhex-sound (high ∷ low ∷ rest) = IfSome-both (λ b. b < 256) IsBytes IsBytes ◌∷◌ (byte_of high low) (unhex rest) (byte_of-sound high low) (unhex-sound rest) (λ b bs p q. (p, q))
-
 within : (least most n : ℕ) → (nat_le least n && nat_le n most) ≡ true → (least ≤ n) × (n ≤ most)
 within least most n h = let p = and_parts (nat_le least n) (nat_le n most) h in let a = p.0 in let b = p.1 in (grind (arith, nat_tests), grind (arith, nat_tests))
 
 bytes_within-sound : (least most : ℕ) (w : List ℕ) → IfSome (bytes_within least most w) (λ bs. IsBytes bs × (least ≤ length bs) × (length bs ≤ most))
 bytes_within-sound least most w =
-    IfSome-and_then IsBytes (λ bs. IsBytes bs × (least ≤ length bs) × (length bs ≤ most)) (λ bs. cond (nat_le least (length bs) && nat_le (length bs) most) (Some bs) None) (unhex w) (unhex-sound w) (λ bs is.
+    IfSome-and_then IsBytes (λ bs. IsBytes bs × (least ≤ length bs) × (length bs ≤ most)) (λ bs. cond (nat_le least (length bs) && nat_le (length bs) most) (Some bs) None) (unhex w) (unhex-IsBytes w) (λ bs is.
     IfSome-cond (λ cs. IsBytes cs × (least ≤ length cs) × (length cs ≤ most)) (nat_le least (length bs) && nat_le (length bs) most) bs (λ e. let p = within least most (length bs) e in (is, p.0, p.1)))
 
 hash_of-sound : (w : List ℕ) → IfSome (hash_of w) IsKey

@@ -2,6 +2,7 @@
 use Rattle.std.specs.Prelude.{[], ◌∷◌, ℕ, Bool, true, ◌&&◌, ◌≡◌, List, filter, false, cond, ◌+◌, map, zero, suc, flat_map, length}
 use Rattle.std.proofs.Common.{refl, ap, ◌∙◌}
 use Rattle.std.proofs.lemmas.Bool.{and_from}
+use Rattle.std.specs.FinMap as fin
 use Rattle.std.specs.List.{AllByRecursion}
 use Rattle.jf_path.proofs.BoolLaws.{and_absorbed, and_true, left_true}
 use Rattle.jf_path.proofs.ListLaws.{All-flat_map}
@@ -86,6 +87,10 @@ nodes_below-IsListed (suc n) d es = (
 pub nodes-none : nodes_below 64 0 [] ≡ ([], []) ∷ []
 unfolding nodes_below
 nodes-none = refl
+
+pub nodes-empty : nodes fin.empty ≡ ([], []) ∷ []
+unfolding nodes
+nodes-empty = ap (nodes_below 64 0) entries-empty ∙ nodes-none
 
 -- a new store keeps one node
 pub kept_nodes-new_store : kept_nodes new_store ≡ 1

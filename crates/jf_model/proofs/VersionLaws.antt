@@ -5,6 +5,7 @@ use Rattle.std.specs.FinMap.{entries}
 use Rattle.std.specs.FinMap as fin
 use Rattle.std.specs.List.{AllByRecursion}
 use Rattle.jf_path.specs.Keys.{IsKey, IsBytes}
+use Rattle.jf_path.proofs.ListLaws.{all_take}
 use Rattle.jf_hash.specs.Maps.{Map, IsMap, Batch, apply, IsBatch}
 use Rattle.jf_hash.specs.Roots.{leaves_root, root, leaf_of}
 use Rattle.jf_hash.proofs.RootLaws.{root_below-IsKey, entries-empty}
@@ -38,13 +39,14 @@ imported-IsVersions version m sound = record {
   sound = (sound, tt);
 }
 
--- ---- the newest map
-first-IsMap : (ms : List Map) → AllByRecursion IsMap ms → IsMap (slice_index_or ms 0 fin.empty)
-first-IsMap [] h = empty-IsMap
-first-IsMap (m ∷ ms) h = h.0
+-- ---- the maps of versions
+pub place-IsMap : (i : ℕ) (ms : List Map) → AllByRecursion IsMap ms → IsMap (slice_index_or ms i fin.empty)
+place-IsMap i [] all = empty-IsMap
+place-IsMap zero (m ∷ ms) all = all.0
+place-IsMap (suc i) (m ∷ ms) all = place-IsMap i ms all.1
 
 pub newest-IsMap : (v : Versions) → IsVersions v → IsMap (newest v)
-newest-IsMap v sound = first-IsMap v.maps sound.sound
+newest-IsMap v sound = place-IsMap 0 v.maps sound.sound
 
 -- ---- landings
 pub landed_map-IsVersions : (b : Batch) (v : Versions) → IsVersions v → IsMap (apply (newest v) b) → IsVersions (versions_after_landing b v)
@@ -85,6 +87,15 @@ pub land_all-append : (bs cs : List Batch) (v : Versions) → land_all (bs ++ cs
 land_all-append [] cs v = refl
 land_all-append (b ∷ bs) cs v = land_all-append bs cs (versions_after_landing b v)
 
+-- a landing leaves a recorded root as it is, and so do more of them
+root_of-landed : (b : Batch) (v : Versions) (w : ℕ) → w ≤ v.head → root_of (versions_after_landing b v) w ≡ root_of v w
+root_of-landed b v w low =
+    let e : v.head + 1 - w ≡ suc (v.head - w) = omega arith in ap (λ i. slice_index_or (root (apply (newest v) b) ∷ v.roots) i []) e
+
+pub root_of-land_all : (bs : List Batch) (v : Versions) (w : ℕ) → w ≤ v.head → root_of (land_all bs v) w ≡ root_of v w
+root_of-land_all [] v w low = refl
+root_of-land_all (b ∷ bs) v w low = root_of-land_all bs (versions_after_landing b v) w (omega arith) ∙ root_of-landed b v w low
+
 -- ---- a landing taken back
 one_back : (n : ℕ) → n + 1 - 1 ≡ n
 one_back n = omega arith
@@ -117,11 +128,6 @@ unlanded-IsVersions v sound above = record {
 }
 
 -- ---- prunings
-all_take : {X : Type 0} (P : X → Type 0) (n : ℕ) (xs : List X) → AllByRecursion P xs → AllByRecursion P (take n xs)
-all_take P zero xs h = tt
-all_take P (suc n) [] h = tt
-all_take P (suc n) (x ∷ xs) h = (h.0, all_take P n xs h.1)
-
 take_roots : (n : ℕ) (rs : List (List ℕ)) (ms : List Map) → take (length ms) rs ≡ map root ms → take (length (take n ms)) rs ≡ map root (take n ms)
 take_roots zero rs ms e = refl
 take_roots (suc n) rs [] e = refl

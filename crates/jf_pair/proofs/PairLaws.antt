@@ -12,7 +12,7 @@ use Rattle.jf_pair.specs.Files.{HoldsLive, IsOlder, live_side}
 use Rattle.jf_pair.specs.Pairs.{Pair, IsInStep}
 use Rattle.jf_pair.proofs.FileLaws.{holds_of, same_ok, live_side_of}
 
-bytes_of-reads : (w : Side) (h : History) → bytes_of w (reads h) ≡ (content_on w h.now).bytes
+pub bytes_of-reads : (w : Side) (h : History) → bytes_of w (reads h) ≡ (content_on w h.now).bytes
 bytes_of-reads side.A h = refl
 bytes_of-reads side.B h = refl
 

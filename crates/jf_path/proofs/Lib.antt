@@ -7,6 +7,7 @@ pub mod NibbleLaws
 pub mod PathLaws
 pub mod BoolLaws
 pub mod OrderLaws
+pub mod NumberLaws
 pub mod OptionLaws
 pub mod ListLaws
 pub mod FilterLaws

@@ -1,6 +1,6 @@
 -- The elements of a list that is made of others, and what holds of each.
 use Rattle.std.specs.Prelude.{flat_map}
-use Rattle.std.proofs.Common.{List, [], ◌∷◌, ◌++◌, zero, suc, arith, Contains, refl, map, ap, ◌∙◌, ◌≡◌, ℕ, ◌-◌, length, take, drop, length-drop, take_all, length-append, take_at}
+use Rattle.std.proofs.Common.{List, [], ◌∷◌, ◌++◌, zero, suc, arith, Contains, refl, map, ap, ap₂, ◌∙◌, ◌≡◌, ℕ, ◌-◌, length, take, drop, length-drop, take_all, length-append, take_at}
 use Rattle.std.proofs.lemmas.List.{get_or-map, length-map}
 use Rattle.std.proofs.lemmas.List.Elements.{All-contains, All-from_recursion}
 use Rattle.std.specs.List.{AllByRecursion, All}
@@ -10,6 +10,22 @@ module _ {X : Type 0} where
   pub All-append : (P : X → Type 0) (xs ys : List X) → AllByRecursion P xs → AllByRecursion P ys → AllByRecursion P (xs ++ ys)
   All-append P [] ys h k = k
   All-append P (x ∷ xs) ys h k = (h.0, All-append P xs ys h.1 k)
+
+  -- what holds of each element of a list and of one more holds of each element of both
+  pub All-after : (P : X → Type 0) (xs : List X) (x : X) → AllByRecursion P xs → P x → AllByRecursion P (xs ++ x ∷ [])
+  All-after P [] x all here = (here, tt)
+  All-after P (y ∷ ys) x all here = (all.0, All-after P ys x all.1 here)
+
+  -- what holds of each element of a list holds of each element of its front, and of its rest
+  pub all_take : (P : X → Type 0) (n : ℕ) (xs : List X) → AllByRecursion P xs → AllByRecursion P (take n xs)
+  all_take P zero xs h = tt
+  all_take P (suc n) [] h = tt
+  all_take P (suc n) (x ∷ xs) h = (h.0, all_take P n xs h.1)
+
+  pub all_drop : (P : X → Type 0) (n : ℕ) (xs : List X) → AllByRecursion P xs → AllByRecursion P (drop n xs)
+  all_drop P zero xs h = h
+  all_drop P (suc n) [] h = tt
+  all_drop P (suc n) (x ∷ xs) h = all_drop P n xs h.1
 
   -- what holds of each element may be replaced by what follows from it
   pub All-weaker : (P Q : X → Type 0) → ((x : X) → P x → Q x) → (xs : List X) → AllByRecursion P xs → AllByRecursion Q xs
@@ -37,6 +53,11 @@ module _ {X Y : Type 0} where
   -- the image of an element is in the image of its list
   pub Contains-map : (f : X → Y) (xs : List X) (x : X) → Contains xs x → Contains (map f xs) (f x)
   Contains-map f xs x has = let long = length-map xs f in let lt = has.1 in (has.0, omega arith, get_or-map f xs has.0 x (f x) has.1 ∙ ap f has.2)
+
+  -- two functions that agree on the elements of a list give the same list
+  pub map_alike : (f g : X → Y) (xs : List X) → AllByRecursion (λ x. f x ≡ g x) xs → map f xs ≡ map g xs
+  map_alike f g [] h = refl
+  map_alike f g (x ∷ xs) h = ap₂ (λ y ys. y ∷ ys) h.0 (map_alike f g xs h.1)
 
 -- all of a list from a place on is its rest
 pub take-rest : {X : Type 0} (r : ℕ) (bs : List X) → take (length bs - r) (drop r bs) ≡ drop r bs

@@ -15,7 +15,7 @@ use Rattle.jf_codec.specs.declared.format.Format.TheVariants as format
 use Rattle.jf_codec.proofs.Counted.{in_format-same}
 use Rattle.jf_payload.specs.Spelling.{list_bytes, fresh_bytes, live_bytes, commit_bytes, record_bytes, kind_of, IsCommit, IsRecord}
 use Rattle.jf_payload.specs.declared.records.Commit.{Commit}
-use Rattle.jf_payload.specs.Counted.{commit_in, record_in}
+use Rattle.jf_payload.specs.Counted.{commit_in, record_in, written_in_format}
 use Rattle.jf_payload.specs.declared.records.Record.{Record}
 use Rattle.jf_payload.specs.Laws.{KeptIsSpelled}
 use Rattle.jf_payload.specs.declared.records.Record.TheVariants as «record»
@@ -44,9 +44,6 @@ node_kept format.One (node.Inner cs) = ap₂ (λ (h : List ℕ) (t : List ℕ). 
 node_kept format.Two n = refl
 
 -- ---- lists of nodes
-abbrev pub node_in : Format → NodeName × PlainNode → NodeName × PlainNode
-node_in fmt x = (x.0, in_format fmt x.1)
-
 abbrev live_in : Format → NodeName × PlainNode × ℕ → NodeName × PlainNode × ℕ
 live_in fmt x = (x.0, in_format fmt x.1, x.2)
 
@@ -61,7 +58,7 @@ map-same : {X : Type 0} (f : X → X) (I : X → Type 0) → ((x : X) → I x �
 map-same f I same [] all = refl
 map-same {X} f I same (x ∷ xs) all = ap₂ (λ (y : X) (ys : List X). y ∷ ys) (same x all.0) (map-same f I same xs all.1)
 
-fresh_bytes-kept : (fmt : Format) (x : NodeName × PlainNode) → fresh_bytes fmt (node_in fmt x) ≡ fresh_bytes fmt x
+fresh_bytes-kept : (fmt : Format) (x : NodeName × PlainNode) → fresh_bytes fmt (written_in_format fmt x) ≡ fresh_bytes fmt x
 fresh_bytes-kept fmt x = ap (λ (t : List ℕ). name_bytes x.0 ++ t) (node_kept fmt x.1)
 
 live_bytes-kept : (fmt : Format) (x : NodeName × PlainNode × ℕ) → live_bytes fmt (live_in fmt x) ≡ live_bytes fmt x
@@ -70,7 +67,7 @@ live_bytes-kept fmt x = ap (λ (t : List ℕ). name_bytes x.0 ++ t ++ eight_byte
 -- ---- records
 commit_kept : (fmt : Format) (c : Commit) → commit_bytes fmt (commit_in fmt c) ≡ commit_bytes fmt c
 unfolding commit_bytes
-commit_kept fmt c = ap (λ (t : List ℕ). eight_bytes c.version ++ c.root ++ t ++ list_bytes name_bytes c.stale) (list_kept (node_in fmt) (fresh_bytes fmt) (fresh_bytes-kept fmt) c.fresh)
+commit_kept fmt c = ap (λ (t : List ℕ). eight_bytes c.version ++ c.root ++ t ++ list_bytes name_bytes c.stale) (list_kept (written_in_format fmt) (fresh_bytes fmt) (fresh_bytes-kept fmt) c.fresh)
 
 record_kept : (fmt : Format) (r : Record) → record_bytes fmt (record_in fmt r) ≡ record_bytes fmt r
 unfolding record_bytes
@@ -89,7 +86,7 @@ kind_kept fmt («record».Group cs) = refl
 commit_same : (fmt : Format) (c : Commit) → IsCommit fmt c → commit_in fmt c ≡ c
 commit_same fmt c is =
     ap (λ (xs : List (NodeName × PlainNode)). record { version = c.version; root = c.root; fresh = xs; stale = c.stale })
-    (map-same (node_in fmt) (λ x. IsName x.0 × IsNode fmt x.1) (λ x h. ap (λ (n : PlainNode). (x.0, n)) (in_format-same fmt x.1 h.1)) c.fresh is.fresh)
+    (map-same (written_in_format fmt) (λ x. IsName x.0 × IsNode fmt x.1) (λ x h. ap (λ (n : PlainNode). (x.0, n)) (in_format-same fmt x.1 h.1)) c.fresh is.fresh)
 
 record_same : (fmt : Format) (r : Record) → IsRecord fmt r → record_in fmt r ≡ r
 record_same fmt («record».Floor floor) is = refl
@@ -103,7 +100,7 @@ pub kept_is_spelled : KeptIsSpelled
 kept_is_spelled fmt r = (record_kept fmt r, kind_kept fmt r, record_same fmt r)
 
 -- ---- a record that is written has a spelling
-pub fresh_nodes : (fmt : Format) (xs : List (NodeName × PlainNode)) → AllByRecursion (λ x. IsName x.0 × IsNode fmt x.1) (map (node_in fmt) xs) → AllByRecursion (λ x. IsNode fmt (in_format fmt x.1)) xs
+pub fresh_nodes : (fmt : Format) (xs : List (NodeName × PlainNode)) → AllByRecursion (λ x. IsName x.0 × IsNode fmt x.1) (map (written_in_format fmt) xs) → AllByRecursion (λ x. IsNode fmt (in_format fmt x.1)) xs
 fresh_nodes fmt [] all = tt
 fresh_nodes fmt (x ∷ xs) all = (all.0.1, fresh_nodes fmt xs all.1)
 

@@ -8,6 +8,10 @@ use Rattle.jf_payload.specs.declared.records.Commit.{Commit}
 use Rattle.jf_payload.specs.declared.records.Record.{Record}
 use Rattle.jf_payload.specs.declared.records.Record.TheVariants as «record»
 
+-- what a format keeps of a named node
+abbrev pub written_in_format : Format → NodeName × PlainNode → NodeName × PlainNode
+written_in_format fmt x = (x.0, in_format fmt x.1)
+
 -- what a format keeps of a landing
 abbrev pub commit_in : Format → Commit → Commit
 commit_in fmt c = record { version = c.version; root = c.root; fresh = map (λ x. (x.0, in_format fmt x.1)) c.fresh; stale = c.stale }

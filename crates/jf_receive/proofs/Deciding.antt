@@ -1,6 +1,6 @@
 -- A refusal comes at the line that decides it, and stays.
-use Rattle.std.proofs.Common.{ℕ, ◌≤◌, ◌≡◌, ◌+◌, Option, Some, None, nat_lt, ◌||◌, true, false, cond, arith, List, refl, [], ◌∷◌, length, subst, ◌==◌, Result, Ok, Err, sym, ap, ◌∙◌, ◌++◌}
-use Rattle.std.proofs.lemmas.Bool.Decides.{nat_tests}
+use Rattle.std.proofs.Common.{ℕ, ◌≤◌, ◌≡◌, ◌+◌, Option, Some, None, nat_lt, ◌||◌, true, false, cond, arith, List, refl, [], ◌∷◌, length, subst, Result, Ok, Err, sym, ap, ◌∙◌, ◌++◌}
+use Rattle.jf_path.proofs.NumberLaws.{is_next, is_before}
 use Rattle.jf_evidence.specs.Ranges.{range_refusal, Entries}
 use Rattle.jf_evidence.specs.declared.range_proof.RangeFault.{RangeFault}
 use Rattle.jf_restore.specs.RestoreValue.{RestoreValue}
@@ -29,19 +29,17 @@ IsAfterLines n stage.Between at = at ≡ n + 1
 IsAfterLines n (stage.Block b) at = at ≡ n + 1
 IsAfterLines n (stage.Refused why) at = IsRefusedWithin n why
 
--- a refusal to which line n leads is of one of the first n lines
+-- after line n the next line has the number n + 1, unless one was refused
 abbrev LeadsTo : ℕ → Stage → Type 0
-LeadsTo n stage.Between = Unit {0}
-LeadsTo n (stage.Block b) = Unit {0}
-LeadsTo n (stage.Refused why) = IsRefusedWithin n why
+LeadsTo n s = IsAfterLines n s (n + 1)
 
 taken-leads : (n : ℕ) (r : RestoreValue) (first : ℕ) (chunk : Chunk) → LeadsTo n (step_after_block r first chunk).stage
-taken-leads n r first chunk = elim (range_refusal r.root r.entries chunk.0 chunk.1) as (λ (o : Option RangeFault). LeadsTo n (elim o as (λ x. RestoringStep) [ None ↦ adds_nothing (with_more r chunk.0) stage.Between | Some why ↦ refuses r (fault.Chunk first why) ]).stage) [ None ↦ tt | Some why ↦ tt ]
+taken-leads n r first chunk = elim (range_refusal r.root r.entries chunk.0 chunk.1) as (λ (o : Option RangeFault). LeadsTo n (elim o as (λ x. RestoringStep) [ None ↦ adds_nothing (with_more r chunk.0) stage.Between | Some why ↦ refuses r (fault.Chunk first why) ]).stage) [ None ↦ refl | Some why ↦ tt ]
 
 taken_if_whole-leads : (n : ℕ) (r : RestoreValue) (b : Begun) → LeadsTo n (taken_if_whole r b).stage
 taken_if_whole-leads n r b =
     elim (nat_lt 0 b.entries_left || nat_lt 0 b.siblings_left) as (λ t. LeadsTo n (cond t (adds_nothing r (stage.Block b)) (step_after_block r b.first (b.entries, b.proof))).stage) [
-      | true ↦ tt
+      | true ↦ refl
       | false ↦ taken-leads n r b.first (b.entries, b.proof)
     ]
 
@@ -64,12 +62,6 @@ block-leads n r b line =
       | false ↦ side-leads n r b (line_read side_of line)
     ]
 
--- after line n the next line has the number n + 1, unless one was refused
-arrives : (n : ℕ) (s : Stage) → LeadsTo n s → IsAfterLines n s (n + 1)
-arrives n stage.Between h = refl
-arrives n (stage.Block b) h = refl
-arrives n (stage.Refused why) h = h
-
 widen : (n : ℕ) (why : BlockFault) → IsRefusedWithin n why → IsRefusedWithin (n + 1) why
 widen n (fault.Line at) h = omega arith
 widen n (fault.Chunk at why) h = tt
@@ -77,8 +69,8 @@ widen n fault.Memory h = tt
 
 moves : (n : ℕ) (r : RestoreValue) (at : ℕ) (s : Stage) (line : List ℕ) → IsAfterLines n s at → IsAfterLines (n + 1) (restoring_line_step r at s line).stage (next_at at s)
 unfolding restoring_line_step
-moves n r at stage.Between line h = rw h (arrives (n + 1) (head_step r (n + 1) (line_read chunk_of line)).stage (first-leads (n + 1) r (line_read chunk_of line)))
-moves n r at (stage.Block b) line h = rw h (arrives (n + 1) (block_step r (n + 1) b line).stage (block-leads (n + 1) r b line))
+moves n r at stage.Between line h = rw h (first-leads (n + 1) r (line_read chunk_of line))
+moves n r at (stage.Block b) line h = rw h (block-leads (n + 1) r b line)
 moves n r at (stage.Refused why) line h = widen n why h
 
 all_after : (n : ℕ) (s : Restoring) (ls : List (List ℕ)) → IsAfterLines n s.stage s.at → IsAfterLines (n + length ls) (restoring_after_all s ls).stage (restoring_after_all s ls).at
@@ -100,12 +92,6 @@ unfolding restoring_line_step
 refused_after r at s why line e = rw e refl
 
 -- ---- what is decided
-is_next : (at n : ℕ) → at ≡ n + 1 → (at == n + 1) ≡ true
-is_next at n h = grind (arith, nat_tests)
-
-is_before : (at n : ℕ) → at ≤ n → (at == n + 1) ≡ false
-is_before at n h = grind (arith, nat_tests)
-
 -- lines that come to a whole restore decide no refusal
 ok_so : (r : RestoreValue) (x : RestoreValue) (o : Result Entries BlockFault) (n : ℕ) → Ok x ≡ with_entries r o → None ≡ refusal_decided_by n o
 ok_so r x (Ok es) n e = refl

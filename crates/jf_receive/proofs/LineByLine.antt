@@ -1,7 +1,7 @@
 -- Lines of chunk blocks read one by one give what they give all together.
-use Rattle.std.proofs.Common.{Result, ℕ, List, ◌≡◌, [], ◌∷◌, Err, refl, Ok, ◌+◌, Option, Some, None, ap, ap₂, ◌∙◌, suc, nat_lt, true, arith, false, ◌-◌, ◌++◌, zero, ◌||◌, cond, sym, ◌≤◌, length}
-use Rattle.std.proofs.lemmas.Bool.Decides.{nat_tests}
+use Rattle.std.proofs.Common.{Result, ℕ, List, ◌≡◌, [], ◌∷◌, Err, refl, Ok, ◌+◌, Option, Some, None, ap, ap₂, ◌∙◌, suc, nat_lt, arith, ◌++◌, zero, ◌||◌, cond, sym, ◌≤◌, length}
 use Rattle.std.proofs.lemmas.List.{append_assoc, append-nil}
+use Rattle.jf_path.proofs.NumberLaws.{some_left, none_left, one_less}
 use Rattle.jf_evidence.specs.Ranges.{Entries, Entry, range_refusal}
 use Rattle.jf_evidence.specs.declared.range_proof.RangeFault.{RangeFault}
 use Rattle.jf_restore.specs.RestoreValue.{RestoreValue}
@@ -56,15 +56,6 @@ by_line f more step s r first at (line ∷ ls) ends counts steps none some =
     ]
 
 -- ---- the lines of a block
-some_left : (m : ℕ) → nat_lt 0 (suc m) ≡ true
-some_left m = grind (arith, nat_tests)
-
-none_left : nat_lt 0 0 ≡ false
-none_left = grind (arith, nat_tests)
-
-one_less : (m : ℕ) → suc m - 1 ≡ m
-one_less m = omega arith
-
 module _ (r : RestoreValue) (first depth : ℕ) where
   -- what is read of the block, with so many entries and so many siblings to come
   abbrev part : ℕ → ℕ → Entries → List (List ℕ) → Begun

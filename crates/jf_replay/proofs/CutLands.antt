@@ -13,21 +13,21 @@ use Rattle.jf_path.specs.declared.name.NodeName.{NodeName}
 use Rattle.jf_path.specs.declared.node.PlainNode.{PlainNode}
 use Rattle.jf_path.specs.Names.{name_cmp, are_rising}
 use Rattle.jf_path.specs.NameLaws.{name_cmp_total}
-use Rattle.jf_path.proofs.BoolLaws.{left_true, right_true}
+use Rattle.jf_path.proofs.BoolLaws.{left_true, right_true, same_test}
 use Rattle.jf_path.proofs.ListLaws.{All-of, All-weaker, Contains-map}
 use Rattle.jf_path.proofs.FilterLaws.{filter-same, filter-Contains, filter-passes, Contains-filter}
+use Rattle.jf_path.proofs.NumberLaws.{le_so, number_tells, other_number}
 use Rattle.jf_codec.specs.declared.format.Format.{Format}
 use Rattle.jf_standing.specs.Named.{Named, never, is_written, is_stale, written_at, stale_at}
 use Rattle.jf_standing.specs.Standing.{Standing, is_named, marked_node, unmarked_node, with_commit}
 use Rattle.jf_standing.specs.Building.{apart}
 use Rattle.jf_standing.specs.Sound.{IsSound}
 use Rattle.jf_standing.specs.Taking.{Continues}
-use Rattle.jf_standing.proofs.Lists.{All-each_element, map-which, same_test}
+use Rattle.jf_standing.proofs.Lists.{All-each_element, map-which}
 use Rattle.jf_standing.proofs.Names.{named-tells, named-so, are_rising-sorted, same_name-exact}
-use Rattle.jf_standing.proofs.Numbers.{le_so, number_tells, other_number}
 use Rattle.jf_standing.proofs.Ordered.{Contains-find}
 use Rattle.jf_standing.proofs.Sinces.{version-low, version-before, since-high}
-use Rattle.jf_dir.proofs.MarkCounts.{apart_names}
+use Rattle.jf_standing.proofs.Checkpoints.{apart_names}
 use Rattle.jf_replay.specs.Cuts.{is_written_by, named_by, nodes_by, standing_by, without_since, landing_making}
 use Rattle.jf_replay.proofs.Numbered.{IsNumbered}
 

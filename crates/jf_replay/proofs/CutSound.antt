@@ -6,6 +6,7 @@ use Rattle.std.specs.FinMap.{from_entries, entries, len}
 use Rattle.std.specs.List.{IsDistinct, count_by, cons_option}
 use Rattle.jf_path.proofs.ListLaws.{All-of}
 use Rattle.jf_path.proofs.FilterLaws.{filter-map, filter-Contains, filter-passes}
+use Rattle.jf_path.proofs.NumberLaws.{le_tells}
 use Rattle.jf_hash.specs.Maps.{same_key}
 use Rattle.jf_hash.specs.Roots.{root}
 use Rattle.jf_model.specs.Nodes.{Path, under, is_node, is_fresh, plain_node}
@@ -15,7 +16,6 @@ use Rattle.jf_standing.specs.Standing.{Standing}
 use Rattle.jf_standing.specs.Sound.{IsSound, is_counted, IsVersion, IsStep, StandAt}
 use Rattle.jf_standing.proofs.Counts.{count-map}
 use Rattle.jf_standing.proofs.Lists.{All-each_element, map-which}
-use Rattle.jf_standing.proofs.Numbers.{le_tells}
 use Rattle.jf_standing.proofs.Sinces.{versions-before, alive-so, alive-tells}
 use Rattle.jf_replay.specs.Cuts.{is_written_by, named_by, nodes_by, standing_by}
 use Rattle.jf_replay.proofs.CutNodes.{alive-nodes_by, written-nodes_by, stale-nodes_by}

@@ -32,11 +32,11 @@ use Rattle.jf_standing.proofs.Ordered.{same_sorted}
 use Rattle.jf_standing.proofs.Lists.{map-which}
 use Rattle.jf_standing.proofs.Same.{name-exact, node-exact}
 use Rattle.jf_standing.specs.Same.{same_name}
+use Rattle.jf_standing.proofs.Checkpoints.{apart_names}
 use Rattle.jf_node.specs.SnapshotValue.{SnapshotValue}
 use Rattle.jf_node.specs.Snapshots.{IsSnapshot, snapshot_version_at}
 use Rattle.jf_diff.specs.Landings.{version_in, version_or}
 use Rattle.jf_dir.specs.Directories.{begun_with}
-use Rattle.jf_dir.proofs.MarkCounts.{apart_names}
 use Rattle.jf_replay.specs.Cuts.{standing_by, nodes_by, named_by, is_written_by}
 use Rattle.jf_replay.specs.Floors.{listed_in, same_listed}
 use Rattle.jf_replay.proofs.CutSound.{sound-by, map-nodes_by, version-nodes_by}

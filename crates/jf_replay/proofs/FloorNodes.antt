@@ -11,6 +11,7 @@ use Rattle.jf_path.specs.Keys.{key_cmp}
 use Rattle.jf_path.proofs.BoolLaws.{and_true, left_so, right_so, both_so}
 use Rattle.jf_path.proofs.FilterLaws.{filter-same}
 use Rattle.jf_path.proofs.ListLaws.{All-of, Contains-map}
+use Rattle.jf_path.proofs.NumberLaws.{lt_so}
 use Rattle.jf_hash.specs.Maps.{Map, map_of_entries, same_key}
 use Rattle.jf_hash.specs.Slots.{Part}
 use Rattle.jf_hash.proofs.KeyOrder.{same_key-exact}
@@ -31,7 +32,6 @@ use Rattle.jf_standing.proofs.Counts.{count-some}
 use Rattle.jf_standing.proofs.Found.{test_so}
 use Rattle.jf_standing.proofs.Leaves.{IsMap-map_at}
 use Rattle.jf_standing.proofs.Lists.{All-each_element, map-which, Contains-cases, none_in_nothing}
-use Rattle.jf_standing.proofs.Numbers.{lt_so}
 use Rattle.jf_standing.proofs.Ordered.{find-Contains, Contains-find, same_sorted}
 use Rattle.jf_standing.proofs.Stands.{stands}
 use Rattle.jf_standing.proofs.Unique.{few-alive}

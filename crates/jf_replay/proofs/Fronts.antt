@@ -11,12 +11,12 @@ use Rattle.jf_path.specs.declared.node.PlainNode.{PlainNode}
 use Rattle.jf_path.specs.Names.{name_cmp, are_rising}
 use Rattle.jf_path.specs.Nodes.{ChildrenRiseFrom}
 use Rattle.jf_path.proofs.BoolLaws.{left_so, right_so, both_so}
+use Rattle.jf_path.proofs.NumberLaws.{same_number}
 use Rattle.jf_standing.specs.Named.{Named, is_stale, stale_at}
 use Rattle.jf_standing.specs.Building.{apart}
 use Rattle.jf_standing.proofs.Names.{are_rising-sorted}
 use Rattle.jf_standing.proofs.Rising.{sorted-are_rising}
-use Rattle.jf_standing.proofs.Numbers.{same_number}
-use Rattle.jf_dir.proofs.MarkCounts.{apart_names}
+use Rattle.jf_standing.proofs.Checkpoints.{apart_names}
 use Rattle.jf_diff.proofs.Names.{are_rising-front}
 use Rattle.jf_replay.specs.Cuts.{without_since}
 

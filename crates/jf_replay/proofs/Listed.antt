@@ -9,6 +9,7 @@ use Rattle.jf_path.specs.declared.name.NodeName.{NodeName}
 use Rattle.jf_path.specs.declared.node.PlainNode.{PlainNode}
 use Rattle.jf_path.proofs.ListLaws.{All-of, All-by_place}
 use Rattle.jf_path.proofs.FilterLaws.{filter-Contains, length-filter_le}
+use Rattle.jf_path.proofs.NumberLaws.{other_number}
 use Rattle.jf_codec.specs.Spelling.{IsNode}
 use Rattle.jf_codec.specs.declared.format.Format.{Format}
 use Rattle.jf_payload.specs.Spelling.{IsCommit}
@@ -19,7 +20,6 @@ use Rattle.jf_standing.specs.Next.{IsReadStanding}
 use Rattle.jf_standing.specs.Sound.{IsSound}
 use Rattle.jf_standing.specs.Taking.{Continues}
 use Rattle.jf_standing.proofs.Lists.{All-each_element, map-which}
-use Rattle.jf_standing.proofs.Numbers.{other_number}
 use Rattle.jf_replay.specs.Cuts.{has_numbers, names_beside, landing_listed, landing_making, standing_by, standing_listed, without_since}
 use Rattle.jf_replay.proofs.CutLands.{standing-landed, landing-continues, standing-head, sound-numbered}
 use Rattle.jf_replay.proofs.CutSound.{sound-by}

@@ -2,8 +2,8 @@
 use Rattle.std.proofs.Common.{◌≡◌, ℕ, zero, suc, length, get_or, arith, ◌<◌, ◌≤◌, Bool, true, false, ◌&&◌, ◌||◌, ◌==◌, nat_le, List, [], ◌∷◌, refl, ◌⊎◌, inl, inr, ap₂, sym, true≢false, ap, ◌∙◌}
 use Rattle.std.specs.List.{AllByRecursion, list_all}
 use Rattle.jf_path.proofs.BoolLaws.{left_true, right_true}
+use Rattle.jf_path.proofs.NumberLaws.{le_so, le_tells, lt_so, lt_tells, number_tells, same_number}
 use Rattle.jf_standing.specs.Named.{Named, never}
-use Rattle.jf_standing.proofs.Numbers.{le_so, le_tells, lt_so, lt_tells, number_tells, same_number}
 use Rattle.jf_replay.specs.Cuts.{has_numbers}
 
 -- a node goes stale after the version that wrote it and after the floor, and both versions are at most the head

@@ -1,18 +1,15 @@
 -- Texts are written piece by piece.
-use Rattle.std.proofs.Common.{◌≡◌, ℕ, List, [], ◌∷◌, ◌++◌, sym, ap, refl, ◌∙◌, decimal, ◌≤◌, length, take, arith, length-append, take_all}
+use Rattle.std.proofs.Common.{◌≡◌, ℕ, List, [], ◌∷◌, ◌++◌, sym, ap, ◌∙◌, decimal, ◌≤◌, length, take, arith, length-append, take_all}
 use Rattle.std.proofs.lemmas.List.{append-nil, append_assoc, take-append-le, take-take}
 use Rattle.std.specs.List.{join_with_byte}
 use Rattle.jf_text.specs.Words.{spaced_words, Extends}
+use Rattle.jf_text.proofs.Spaces.{spaced-append}
 use Rattle.jf_script.specs.Replies.{reply_text, reply_words}
 use Rattle.jf_script.specs.declared.reply.Reply.{Reply}
 
 join-spaced : (w : List ℕ) (ws : List (List ℕ)) → join_with_byte 32 (w ∷ ws) ≡ w ++ spaced_words ws
 join-spaced w [] = sym (append-nil w)
 join-spaced w (x ∷ ws) = ap (λ rest. w ++ 32 ∷ rest) (join-spaced x ws)
-
-spaced-append : (ws vs : List (List ℕ)) → spaced_words (ws ++ vs) ≡ spaced_words ws ++ spaced_words vs
-spaced-append [] vs = refl
-spaced-append (w ∷ ws) vs = ap (λ text. 32 ∷ w ++ text) (spaced-append ws vs) ∙ ap (λ text. 32 ∷ text) (sym (append_assoc w (spaced_words ws) (spaced_words vs)))
 
 -- a reply's text is its number, its words with a space before each, and 0A
 pub reply_text-pieces : (n : ℕ) (r : Reply) → reply_text n r ≡ (decimal n ++ spaced_words (reply_words r)) ++ 10 ∷ []

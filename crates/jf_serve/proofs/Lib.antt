@@ -1,4 +1,3 @@
-pub mod FirstLine
 pub mod InputTaken
 pub mod ScriptCuts
 pub mod ScriptSamples

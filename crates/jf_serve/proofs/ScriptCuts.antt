@@ -5,12 +5,11 @@ use Rattle.std.proofs.lemmas.List.{length-map}
 use Rattle.jf_path.proofs.ListLaws.{All-append}
 use Rattle.jf_io.specs.LineReader.{is_line_feed}
 use Rattle.jf_io.specs.Lines.{lines}
-use Rattle.jf_io.proofs.Found.{after_whole}
+use Rattle.jf_io.proofs.Found.{after_whole, lines-split}
 use Rattle.jf_io.proofs.Plain.{place_le, front_split, front_plain}
 use Rattle.jf_io.proofs.EndedLines.{lines-none, lines_one}
 use Rattle.jf_io.proofs.WholeLines.{lines-append}
 use Rattle.jf_serve.specs.SessionScripts.{cut_at_sessions, is_session_line, scripts_among, scripts_in}
-use Rattle.jf_serve.proofs.FirstLine.{lines-split}
 
 -- no bytes are one session without lines
 pub scripts_in-none : (input : List ℕ) → input ≡ [] → cut_at_sessions (lines input) ≡ scripts_in input

@@ -1,6 +1,7 @@
 -- What a session that leads made of an input: the run, and what is written of its landings.
 use Rattle.std.proofs.Common.{◌≡◌, inl, inr, ℕ, Bool, Option, None, List, [], ◌∷◌, ◌++◌, refl, sym, ap, ap₂, ◌∙◌, subst, append-nil, Some}
 use Rattle.std.specs.Prelude.{Result, Ok, Err}
+use Rattle.jf_path.proofs.OptionLaws.{some_same}
 use Rattle.jf_input.specs.Feeds.{Took, EndsAtLine, EndsAfter, Fed}
 use Rattle.jf_input.specs.FeedsThrough.{IsPutThrough, GoesThrough}
 use Rattle.jf_input.specs.declared.feeding.Feeding.{Feeding}
@@ -21,7 +22,6 @@ use Rattle.jf_session.specs.Taking.{AnswersLine, AnswersEnd, StaysQuiet, end_of_
 use Rattle.jf_session.specs.Leading.{HasLandedMore, AreOfLast, WritesMost, WritesBlocks, HasLedOver}
 use Rattle.jf_session.specs.Telling.{LandsMore, LandsLast, LeadsLine}
 use Rattle.jf_session.proofs.Fed.{ran_shown}
-use Rattle.jf_session.proofs.Taken.{some_same}
 use Rattle.jf_session.proofs.SamePass.{same_replied}
 use Rattle.jf_session.proofs.OwnLandings.{landed_same, landed_further}
 

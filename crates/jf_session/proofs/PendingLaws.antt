@@ -18,12 +18,12 @@ use Rattle.jf_script.specs.declared.reply.Reply.TheVariants as reply
 use Rattle.jf_answers.specs.Own.{Own}
 use Rattle.jf_answers.specs.Answers.{Answer, answer_command, own_answer, pending_changed}
 use Rattle.jf_answers.specs.Refusals.{refused_by}
+use Rattle.jf_answers.proofs.AnswerLaws.{unrefused}
 use Rattle.jf_history.specs.Sessions.{Session}
 use Rattle.jf_session.specs.Steps.{session_of, IsSoundSession, DoneByLook, IsDoneAs, NotDone}
 use Rattle.jf_session.proofs.Entering.{own_of}
 use Rattle.jf_session.proofs.Refused.{answer-refused, follows-Sees}
 use Rattle.jf_session.proofs.BaseLaws.{Sees-self}
-use Rattle.jf_session.proofs.ReadLaws.{answer-free}
 
 -- the command that a value stands for: a `put` of it, or without one a `del`
 abbrev pub set_command : List ℕ → Option (List ℕ) → Command
@@ -37,8 +37,8 @@ set-full s own name None e = answer-refused s own (command.Own (own_command.Del 
 
 set-room : (s : State) (own : Own) (name : List ℕ) (o : Option (List ℕ)) → is_full (K name) own.pending ≡ false → answer_command s own (set_command name o) ≡ pending_changed name o s own
 unfolding refused_by
-set-room s own name (Some value) e = answer-free s own (command.Own (own_command.Put name value)) (ap (λ b. cond b (Some refusal.Pending) None) e)
-set-room s own name None e = answer-free s own (command.Own (own_command.Del name)) (ap (λ b. cond b (Some refusal.Pending) None) e)
+set-room s own name (Some value) e = unrefused s own (command.Own (own_command.Put name value)) (ap (λ b. cond b (Some refusal.Pending) None) e)
+set-room s own name None e = unrefused s own (command.Own (own_command.Del name)) (ap (λ b. cond b (Some refusal.Pending) None) e)
 
 not_true : (b : Bool) → (b ≡ true → ⊥) → b ≡ false
 not_true true isnt = absurd (isnt refl)

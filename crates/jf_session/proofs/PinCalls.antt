@@ -27,13 +27,13 @@ use Rattle.jf_script.specs.declared.reply.Reply.TheVariants as reply
 use Rattle.jf_answers.specs.Own.{version_pinned_at, free_place, with_pin}
 use Rattle.jf_answers.specs.Answers.{Answer}
 use Rattle.jf_answers.specs.Refusals.{causes, version_causes, place_causes, refused_by}
+use Rattle.jf_answers.proofs.AnswerLaws.{unrefused}
 use Rattle.jf_history.specs.Sessions.{Session, pinned_versions}
 use Rattle.jf_session.specs.Steps.{session_of, FollowsCommand, DoneByLook, IsDoneAs, IsSoundSession, TellsMap}
 use Rattle.jf_session.proofs.Entering.{own_of}
 use Rattle.jf_session.proofs.KeptMaps.{TellsMap-kept}
 use Rattle.jf_session.proofs.Refusals.{AreTold, AreTold-append, granted-command}
 use Rattle.jf_session.proofs.BaseLaws.{Sees-self, unmarked-on, pinned_version}
-use Rattle.jf_session.proofs.ReadLaws.{answer-free}
 use Rattle.jf_session.proofs.Refused.{SeesMore, answer-refused, follows-Sees, Refuses-all}
 use Rattle.jf_session.proofs.RefusedCalls.{Fails}
 use Rattle.jf_session.proofs.ToldFaults.{AreTold-version}
@@ -89,7 +89,7 @@ module _ (start : Start) (p p' : Pass) (pending : Batch) (version : ℕ) where
     unfolding refused_by
     IsDoneAs-pinned over over' old view =
         let own = own_of p pending in
-        let same = answer-free s own (command.Pin version) free.1 in
+        let same = unrefused s own (command.Pin version) free.1 in
         let at : place ≡ free_place own = h.least ∙ sym (free_alike p.pinned) in
         let pins : own_of p' pending ≡ with_pin (free_place own) (Some version) own =
         own_set p p' pending place (Some h.snapshot) (ap (λ (q : Pass). q.number) h.sees.same) h.pinned ∙ ap₂ (λ i v. with_pin i (Some v) own) at h.read.1 in
@@ -151,7 +151,7 @@ module _ (start : Start) (store : Store) (p p' : Pass) (pending : Batch) (place 
         let own = own_of p pending in
         let s = state_after_events start p'.seen in
         let held : version_pinned_at own place ≡ Some version = pinned_version p.pinned place ∙ sym there in
-        let found = answer-free s own (command.Own (own_command.Unpin place)) (ap (λ o. cond (is_none o) (Some refusal.NoPin) None) held) in
+        let found = unrefused s own (command.Own (own_command.Unpin place)) (ap (λ o. cond (is_none o) (Some refusal.NoPin) None) held) in
         inl (subst (λ (o : Session). DoneByLook start o (session_of p' pending over') (command.Own (own_command.Unpin place)) (reply.Unpin version) []) view record {
           follows = follows-unpin;
           others = subst (OthersAlone p) (sym seen) (Sees-self p).others;

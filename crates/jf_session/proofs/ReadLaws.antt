@@ -26,7 +26,7 @@ use Rattle.jf_script.specs.declared.reply.Reply.{Reply}
 use Rattle.jf_script.specs.declared.reply.Reply.TheVariants as reply
 use Rattle.jf_answers.specs.Own.{Own}
 use Rattle.jf_answers.specs.OwnLines.{is_own_command}
-use Rattle.jf_answers.specs.Answers.{Answer, answer_of, read_answer, granted_answer, own_answer, answer_command, status_reply}
+use Rattle.jf_answers.specs.Answers.{Answer, answer_of, read_answer, own_answer, answer_command, status_reply}
 use Rattle.jf_answers.specs.Refusals.{Causes, refused_by, base_causes, base_map, fork_causes, question_causes}
 use Rattle.jf_history.specs.Sessions.{Session}
 use Rattle.jf_session.specs.Questions.{question_reply, IsReplyTo, IsAnswerTo}
@@ -39,10 +39,6 @@ use Rattle.jf_session.proofs.Refused.{follows-Sees, SeesMore-Sees, NotDone-sees}
 use Rattle.jf_session.proofs.RefusedCalls.{Fails}
 
 -- ---- answers
--- the answer to a command that nothing refuses
-pub answer-free : (s : State) (own : Own) (c : Command) → refused_by s own c ≡ None → answer_command s own c ≡ granted_answer c s own
-answer-free s own c free = ap (λ (o : Option Refusal). elim o as (λ x. Answer) [ Some why ↦ own_answer (reply.No why) s own | None ↦ granted_answer c s own ]) free
-
 -- an answer with which nothing changes
 abbrev pub plain_answer : Reply × List ℕ → State → Own → Answer
 plain_answer t s own = record { reply = t.0; block = t.1; entry = None; state = s; own = own }

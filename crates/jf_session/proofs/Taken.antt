@@ -2,6 +2,7 @@
 use Rattle.std.proofs.Common.{◌≡◌, inl, inr, ℕ, true, Option, Some, None, IfSome, List, [], ◌∷◌, ◌++◌, take, length, refl, sym, ap, ap₂, ◌∙◌, subst, arith, append_assoc, append-nil, length-append}
 use Rattle.std.specs.Prelude.{Result, Ok, Err, slice_get, option_to_list}
 use Rattle.std.specs.List.{AllByRecursion}
+use Rattle.jf_path.proofs.OptionLaws.{some_same}
 use Rattle.jf_io.specs.LinesRead.{lines_read, AreFirst}
 use Rattle.jf_input.specs.Feeds.{GoesOnQuietly, Took, HasRead, ReadsLinesOf}
 use Rattle.jf_store.specs.Starts.{Start}
@@ -14,9 +15,6 @@ use Rattle.jf_session.specs.declared.stop.Stop.{Stop}
 use Rattle.jf_session.specs.declared.stop.Stop.TheVariants as stop
 use Rattle.jf_session.specs.Taking.{Makes, AnswersLine, StaysQuiet}
 use Rattle.jf_session.proofs.OwnEvents.{try_is_own, quiet_none}
-
-pub some_same : (a b : Start) → Some a ≡ Some b → a ≡ b
-some_same a b e = cc
 
 -- with what the store of a pass began is known once
 pub makes_at : (start : Start) (s new : Session) (line : List ℕ) (r : Result (List ℕ) Stop) → s.pass.start ≡ Some start → AnswersLine s line new r → Makes start s line new r

@@ -9,7 +9,7 @@ use Rattle.std.proofs.lemmas.List.{get_or-drop}
 pub record IsRun {X : Type 0} (n : X → ℕ) (xs : List X) (s e t : ℕ) : Type 0 where
   pub behind : s < e
   pub within : e ≤ length xs
-  pub same : AllWithin (λ x. n x ≡ t) xs s e
+  pub nibble : AllWithin (λ x. n x ≡ t) xs s e
   pub other : AllWithin (λ x. t < n x) xs e (length xs)
 
 module _ {X : Type 0} (n : X → ℕ) (xs : List X) (s m t : ℕ) where
@@ -29,6 +29,6 @@ module _ {X : Type 0} (n : X → ℕ) (xs : List X) (s m t : ℕ) where
           | inr none ↦ absurd (omega (arith, here x, leb-false (n (get_or xs s x)) t (moved (λ y. leb (n y) t ≡ false) s x (omega arith) (parted.1 (s - s) x (omega arith) (omega arith)))))
         ];
         within = omega arith;
-        same = λ k d from to. omega (arith, here d, rising s k d from (omega arith), leb-true (n (get_or xs k d)) t (moved (λ y. leb (n y) t ≡ true) k d from (parted.0 (k - s) d (omega arith) (omega arith))));
+        nibble = λ k d from to. omega (arith, here d, rising s k d from (omega arith), leb-true (n (get_or xs k d)) t (moved (λ y. leb (n y) t ≡ true) k d from (parted.0 (k - s) d (omega arith) (omega arith))));
         other = λ k d from to. leb-false (n (get_or xs k d)) t (moved (λ y. leb (n y) t ≡ false) k d (omega arith) (parted.1 (k - s) d (omega arith) (omega arith)));
       }

@@ -100,7 +100,8 @@ back : (ns : List Named) → map as_named (map apart ns) ≡ ns
 back [] = refl
 back (n ∷ ns) = ap (λ t. n ∷ t) (back ns)
 
-apart_names : (ns : List Named) → map (λ e. e.0) (map apart ns) ≡ map (λ n. n.0) ns
+-- the names of nodes whose names stand apart from their values
+pub apart_names : (ns : List Named) → map (λ e. e.0) (map apart ns) ≡ map (λ n. n.0) ns
 apart_names [] = refl
 apart_names (n ∷ ns) = ap (λ t. n.0 ∷ t) (apart_names ns)
 

@@ -10,6 +10,7 @@ use Rattle.jf_path.specs.Names.{name_cmp, are_rising}
 use Rattle.jf_path.specs.NameLaws.{name_cmp_total}
 use Rattle.jf_path.proofs.FilterLaws.{Contains-filter, filter-Contains, filter-passes}
 use Rattle.jf_path.proofs.ListLaws.{All-of, Contains-map}
+use Rattle.jf_path.proofs.NumberLaws.{same_number, number_tells}
 use Rattle.jf_hash.specs.Maps.{Map, IsMap}
 use Rattle.jf_model.specs.Nodes.{is_fresh, Path, is_node, under, fresh}
 use Rattle.jf_codec.specs.declared.format.Format.{Format}
@@ -27,7 +28,6 @@ use Rattle.jf_standing.proofs.Unique.{few-alive}
 use Rattle.jf_standing.proofs.Sinces.{alive-so, version-low, alive-tells, alive-not}
 use Rattle.jf_standing.proofs.Counts.{count-some, count-which}
 use Rattle.jf_standing.proofs.Alive.{version-of, plain_node-same}
-use Rattle.jf_standing.proofs.Numbers.{same_number, number_tells}
 use Rattle.jf_standing.proofs.Ordered.{same_sorted}
 use Rattle.jf_standing.proofs.Names.{same_name-exact, are_rising-sorted}
 use Rattle.jf_standing.proofs.Freshness.{fresh-node, child-node, fresh-listed, listed-fresh, sorted-written}

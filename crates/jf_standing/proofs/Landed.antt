@@ -5,6 +5,8 @@ use Rattle.std.specs.FinMap.{entries}
 use Rattle.jf_path.specs.declared.name.NodeName.{NodeName}
 use Rattle.jf_path.proofs.ListLaws.{All-of, Contains-map}
 use Rattle.jf_path.proofs.FilterLaws.{Contains-filter, filter-Contains, filter-passes}
+use Rattle.jf_path.proofs.BoolLaws.{same_test}
+use Rattle.jf_path.proofs.NumberLaws.{same_number, number_tells}
 use Rattle.jf_hash.specs.Maps.{Map, IsMap}
 use Rattle.jf_hash.specs.Roots.{root}
 use Rattle.jf_hash.specs.Slots.{Part}
@@ -21,8 +23,7 @@ use Rattle.jf_standing.proofs.Counts.{count-some, count-which}
 use Rattle.jf_standing.proofs.Sinces.{alive-so, version-low}
 use Rattle.jf_standing.proofs.Marks.{marked-name, marked-yes, nodes_after_commit, Contains-nodes_after_commit, marked-not}
 use Rattle.jf_standing.proofs.Unmoved.{at-so, unmoved, at-tells}
-use Rattle.jf_standing.proofs.Numbers.{same_number, number_tells}
-use Rattle.jf_standing.proofs.Lists.{one-true, same_test, map-which}
+use Rattle.jf_standing.proofs.Lists.{one-true, map-which}
 use Rattle.jf_standing.proofs.Alive.{version-of}
 use Rattle.jf_standing.proofs.Names.{named-tells, named-so, same_names}
 use Rattle.jf_standing.proofs.Freshness.{fresh-listed, listed-fresh}

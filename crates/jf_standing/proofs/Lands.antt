@@ -6,6 +6,7 @@ use Rattle.std.specs.FinMap.{entries, len}
 use Rattle.std.specs.List.{count_by, IsDistinct}
 use Rattle.jf_path.proofs.ListLaws.{All-of, Contains-map}
 use Rattle.jf_path.proofs.FilterLaws.{filter-Contains, filter-passes}
+use Rattle.jf_path.proofs.NumberLaws.{other_number, number_tells}
 use Rattle.jf_hash.specs.Maps.{Map, IsMap, same_key}
 use Rattle.jf_hash.specs.Roots.{root}
 use Rattle.jf_hash.specs.Slots.{Part}
@@ -23,7 +24,6 @@ use Rattle.jf_standing.proofs.Lists.{All-each_element, map-which}
 use Rattle.jf_standing.proofs.Counts.{count-map, count-same, count-some}
 use Rattle.jf_standing.proofs.Sinces.{alive-tells, alive-so, version-low}
 use Rattle.jf_standing.proofs.Written.{names-stale}
-use Rattle.jf_standing.proofs.Numbers.{other_number, number_tells}
 use Rattle.jf_standing.proofs.Alive.{plain_node-same, version-of}
 use Rattle.jf_standing.proofs.Unmoved.{at-so, alive-there}
 use Rattle.jf_standing.proofs.Found.{test_so, nodes_after_commit-cases}

@@ -1,5 +1,4 @@
 pub mod Lists
-pub mod Numbers
 pub mod Counts
 pub mod Sinces
 pub mod Stands

@@ -1,13 +1,7 @@
 -- What holds of each element of a list.
-use Rattle.std.proofs.Common.{◌≡◌, Bool, true, false, refl, sym, ℕ, cond, ap, List, [], ◌∷◌, Contains, arith, zero, suc, ◌<◌, length, get_or, map}
+use Rattle.std.proofs.Common.{◌≡◌, Bool, true, false, ℕ, cond, ap, List, [], ◌∷◌, Contains, arith, zero, suc, ◌<◌, length, get_or, map}
 use Rattle.std.specs.List.{AllByRecursion}
 use Rattle.jf_path.proofs.ListLaws.{Contains-first, Contains-later}
-
--- two tests that imply each other are equal
-pub same_test : (a b : Bool) → (a ≡ true → b ≡ true) → (b ≡ true → a ≡ true) → a ≡ b
-same_test true b h k = sym (h refl)
-same_test false true h k = k refl
-same_test false false h k = refl
 
 -- a test as a number, 1 or 0
 abbrev pub one : Bool → ℕ

@@ -7,6 +7,7 @@ use Rattle.jf_path.specs.Keys.{IsKey, IsBytes}
 use Rattle.jf_path.proofs.ListLaws.{All-of, Contains-map}
 use Rattle.jf_path.proofs.FilterLaws.{filter-Contains}
 use Rattle.jf_path.proofs.BoolLaws.{left_true, right_true}
+use Rattle.jf_path.proofs.NumberLaws.{le_tells, le_so, lt_tells, lt_so}
 use Rattle.jf_hash.specs.Maps.{Map, apply}
 use Rattle.jf_codec.specs.declared.format.Format.{Format}
 use Rattle.jf_payload.specs.declared.records.Commit.{Commit}
@@ -24,7 +25,6 @@ use Rattle.jf_standing.proofs.Found.{nodes_after_commit-cases}
 use Rattle.jf_standing.proofs.Leaves.{leaf-which, leaf-so}
 use Rattle.jf_standing.proofs.Decided.{decided}
 use Rattle.jf_standing.proofs.Same.{commit-exact}
-use Rattle.jf_standing.proofs.Numbers.{le_tells, le_so, lt_tells, lt_so}
 use Rattle.jf_standing.proofs.Floors.{floored}
 
 -- after a landing keys still have 32 bytes and values still are bytes

@@ -4,6 +4,7 @@ use Rattle.std.proofs.lemmas.Bool.{cases_lt}
 use Rattle.std.specs.FinMap.{entries}
 use Rattle.jf_path.proofs.FilterLaws.{Contains-filter, filter-Contains, filter-passes}
 use Rattle.jf_path.proofs.ListLaws.{All-of}
+use Rattle.jf_path.proofs.NumberLaws.{same_number, number_tells}
 use Rattle.jf_model.specs.Nodes.{Path, is_node, is_fresh, under, plain_node}
 use Rattle.jf_codec.specs.declared.format.Format.{Format}
 use Rattle.jf_standing.specs.Named.{is_alive, is_written, is_at, written_at, version_at, map_at, Named, is_stale, alive_at, stale_at}
@@ -17,7 +18,6 @@ use Rattle.jf_standing.proofs.Alive.{version-of, plain_node-same}
 use Rattle.jf_standing.proofs.Unique.{few-alive}
 use Rattle.jf_standing.proofs.Found.{test_so}
 use Rattle.jf_standing.proofs.Freshness.{stale-node, child-node}
-use Rattle.jf_standing.proofs.Numbers.{same_number, number_tells}
 use Rattle.jf_standing.proofs.Stands.{stands}
 
 -- the version of a node after a step: that of the step if it wrote the node, otherwise the version before

@@ -10,6 +10,8 @@ use Rattle.std.specs.Ordering.{eq_by_cmp}
 use Rattle.jf_path.specs.Keys.{key_cmp}
 use Rattle.jf_path.proofs.OrderLaws.{Equal-from_is_eq}
 use Rattle.jf_path.proofs.ListLaws.{All-of}
+use Rattle.jf_path.proofs.BoolLaws.{same_test}
+use Rattle.jf_path.proofs.NumberLaws.{same_number, other_number}
 use Rattle.jf_hash.specs.Maps.{Map, IsMap}
 use Rattle.jf_hash.specs.Slots.{Part}
 use Rattle.jf_hash.proofs.KeyOrder.{same_key-exact}
@@ -21,13 +23,12 @@ use Rattle.jf_standing.specs.Standing.{Standing, marked_node, unmarked_node, is_
 use Rattle.jf_standing.specs.Landing.{written_node, head_map, landing_of}
 use Rattle.jf_standing.specs.Named.{never, Named, is_written, is_at, written_at, is_stale, is_alive, stale_at, alive_at}
 use Rattle.jf_standing.specs.Sound.{IsSound, StandAt}
-use Rattle.jf_standing.proofs.Lists.{one, same_test, All-each_element, one-true}
+use Rattle.jf_standing.proofs.Lists.{one, All-each_element, one-true}
 use Rattle.jf_standing.proofs.Counts.{count-same, count-some, count-which, count-none, count-append, count-filter, count-map}
 use Rattle.jf_standing.proofs.Ordered.{count-sorted}
 use Rattle.jf_standing.proofs.Freshness.{fresh-listed, listed-fresh, fresh-node}
 use Rattle.jf_standing.proofs.Sinces.{version-low, version-before}
 use Rattle.jf_standing.proofs.Marks.{marked-name, nodes_after_commit, alive-nodes_after_commit}
-use Rattle.jf_standing.proofs.Numbers.{same_number, other_number}
 use Rattle.jf_standing.proofs.Stands.{stands, step-stands}
 use Rattle.jf_standing.proofs.Unmoved.{at-tells}
 use Rattle.jf_standing.proofs.Written.{names-stale, alive-still}

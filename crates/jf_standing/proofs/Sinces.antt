@@ -4,11 +4,11 @@ use Rattle.std.proofs.lemmas.Bool.Decides.{nat_tests}
 use Rattle.std.specs.List.{AllByRecursion}
 use Rattle.jf_path.proofs.ListLaws.{All-of}
 use Rattle.jf_path.proofs.FilterLaws.{Contains-filter}
+use Rattle.jf_path.proofs.NumberLaws.{same_number}
 use Rattle.jf_codec.specs.declared.format.Format.{Format}
 use Rattle.jf_standing.specs.Named.{Named, is_alive, is_stale}
 use Rattle.jf_standing.specs.Standing.{Standing}
 use Rattle.jf_standing.specs.Sound.{IsSound}
-use Rattle.jf_standing.proofs.Numbers.{same_number}
 use Rattle.jf_standing.proofs.Lists.{All-each_element}
 
 -- ---- tests on the two versions of a node

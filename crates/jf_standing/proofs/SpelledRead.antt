@@ -1,5 +1,5 @@
 -- A record that a payload spells meets what is asked of a record that was read.
-use Rattle.std.proofs.Common.{ℕ, List, ◌^◌, ◌<◌, [], ◌∷◌, map, ◌++◌, reverse, sym, subst, ◌∙◌, arith}
+use Rattle.std.proofs.Common.{ℕ, List, ◌^◌, ◌<◌, [], ◌∷◌, map, reverse, sym, subst, ◌∙◌, arith}
 use Rattle.std.proofs.lemmas.Grind.{reverse_onto}
 use Rattle.std.proofs.lemmas.List.{length-reverse}
 use Rattle.std.specs.List.{cons_option, AllByRecursion}
@@ -8,6 +8,7 @@ use Rattle.jf_path.specs.Names.{IsName}
 use Rattle.jf_path.specs.declared.name.NodeName.{NodeName}
 use Rattle.jf_path.specs.Keys.{IsKey}
 use Rattle.jf_path.specs.declared.node.PlainNode.TheVariants as node
+use Rattle.jf_path.proofs.ListLaws.{All-after}
 use Rattle.jf_codec.specs.Spelling.{IsNode}
 use Rattle.jf_codec.specs.declared.format.Format.{Format}
 use Rattle.jf_payload.specs.declared.records.Commit.{Commit}
@@ -31,10 +32,6 @@ live-entries fmt (n ∷ ns) all = entry-of fmt n.1 (leaf_entries ns) all.0.1 (li
 fresh-entries : (fmt : Format) (xs : List (NodeName × PlainNode)) → AllByRecursion (λ x. IsName x.0 × IsNode fmt x.1) xs → AreEntries (leaf_entries (map unmarked_node xs))
 fresh-entries fmt [] all = tt
 fresh-entries fmt (x ∷ xs) all = entry-of fmt x.1 (leaf_entries (map unmarked_node xs)) all.0.1 (fresh-entries fmt xs all.1)
-
-All-after : {X : Type 0} (P : X → Type 0) (xs : List X) (x : X) → AllByRecursion P xs → P x → AllByRecursion P (xs ++ x ∷ [])
-All-after P [] x all here = (here, tt)
-All-after P (y ∷ ys) x all here = (all.0, All-after P ys x all.1 here)
 
 pub All-reverse : {X : Type 0} (P : X → Type 0) (xs : List X) → AllByRecursion P xs → AllByRecursion P (reverse xs)
 All-reverse P [] all = tt

@@ -13,7 +13,7 @@ use Rattle.jf_model.specs.Nodes.{fresh, Path}
 use Rattle.jf_codec.specs.declared.format.Format.{Format}
 use Rattle.jf_codec.specs.Spelling.{IsNode}
 use Rattle.jf_codec.specs.declared.format.Format.TheVariants as format
-use Rattle.jf_payload.proofs.FormatLaws.{node_in}
+use Rattle.jf_payload.specs.Counted.{written_in_format}
 use Rattle.jf_standing.specs.SpellingLaws.{LandingsAreSpelled, LandingsAreKept, CheckpointsAreSpelled}
 use Rattle.jf_standing.specs.Standing.{Standing}
 use Rattle.jf_standing.specs.Landing.{version_after, written_node, head_map, landing_of}
@@ -45,12 +45,12 @@ landing-spelled fmt s m keys sound short room last few fewer =
       stale_rise = read.0.stale;
     }
 
-written-kept : (fmt : Format) (s : Standing) (m : Map) (x : Path × Part) → node_in fmt (written_node format.Two s m x) ≡ written_node fmt s m x
+written-kept : (fmt : Format) (s : Standing) (m : Map) (x : Path × Part) → written_in_format fmt (written_node format.Two s m x) ≡ written_node fmt s m x
 written-kept format.One s m x =
     ap (λ (n : PlainNode). (record { version = s.head + 1; path = x.0 }, n)) (sym (plain_node-uncounted (λ i. version_after s m (x.0 ++ i ∷ [])) (length x.0) x.1))
 written-kept format.Two s m x = refl
 
-all-kept : (fmt : Format) (s : Standing) (m : Map) (xs : List (Path × Part)) → map (node_in fmt) (map (written_node format.Two s m) xs) ≡ map (written_node fmt s m) xs
+all-kept : (fmt : Format) (s : Standing) (m : Map) (xs : List (Path × Part)) → map (written_in_format fmt) (map (written_node format.Two s m) xs) ≡ map (written_node fmt s m) xs
 all-kept fmt s m [] = refl
 all-kept fmt s m (x ∷ xs) = ap₂ (λ (y : NodeName × PlainNode) (ys : List (NodeName × PlainNode)). y ∷ ys) (written-kept fmt s m x) (all-kept fmt s m xs)
 

@@ -4,6 +4,7 @@ use Rattle.std.proofs.lemmas.Bool.Decides.{nat_tests}
 use Rattle.std.specs.FinMap.{entries}
 use Rattle.std.specs.List.{AllByRecursion, count_by}
 use Rattle.jf_path.proofs.ListLaws.{All-weaker}
+use Rattle.jf_path.proofs.BoolLaws.{same_test}
 use Rattle.jf_hash.specs.Slots.{Part}
 use Rattle.jf_model.specs.Nodes.{Path, same_part, under, is_node, is_fresh}
 use Rattle.jf_codec.specs.declared.format.Format.{Format}
@@ -11,7 +12,7 @@ use Rattle.jf_walk.proofs.SameParts.{same_part-exact, same_part-refl}
 use Rattle.jf_standing.specs.Named.{Named, is_alive, is_written, is_stale, is_at, alive_at, written_at, stale_at, map_at}
 use Rattle.jf_standing.specs.Sound.{StandAt, IsSound}
 use Rattle.jf_standing.specs.Standing.{Standing}
-use Rattle.jf_standing.proofs.Lists.{one, same_test}
+use Rattle.jf_standing.proofs.Lists.{one}
 use Rattle.jf_standing.proofs.Counts.{count-filter, count-balance}
 use Rattle.jf_standing.proofs.Sinces.{versions-before}
 

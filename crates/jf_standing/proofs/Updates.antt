@@ -1,15 +1,15 @@
 -- The landing that an update of a snapshot writes is that of the standing, if the snapshot has the nodes' versions.
 use Rattle.std.specs.Prelude.{IsTrue}
-use Rattle.std.proofs.Common.{◌≡◌, ℕ, ◌+◌, true, false, cond, List, [], ◌∷◌, ◌++◌, map, length, refl, sym, ap, ap₂, ◌∙◌, subst, ◌≤◌, arith}
+use Rattle.std.proofs.Common.{◌≡◌, ℕ, ◌+◌, true, false, cond, List, [], ◌∷◌, ◌++◌, map, length, refl, sym, ap, ◌∙◌, subst, ◌≤◌, arith}
 use Rattle.std.proofs.lemmas.List.Sorted.{list_any-IsPermutation}
 use Rattle.std.specs.FinMap.{entries, len}
 use Rattle.std.specs.FinMap as fin
-use Rattle.std.specs.List.{AllByRecursion}
 use Rattle.std.specs.List.Sorted.{IsPermutation}
 use Rattle.std.specs.Ordering.{eq_by_cmp}
 use Rattle.jf_path.specs.declared.name.NodeName.{NodeName}
 use Rattle.jf_path.specs.declared.node.PlainNode.{PlainNode}
 use Rattle.jf_path.specs.Names.{name_cmp, are_rising}
+use Rattle.jf_path.proofs.ListLaws.{map_alike}
 use Rattle.jf_hash.specs.Maps.{Map, Batch, apply}
 use Rattle.jf_hash.specs.Slots.{Part}
 use Rattle.jf_model.specs.Nodes.{Path, is_node, is_fresh, plain_node, fresh, stale}
@@ -26,10 +26,6 @@ use Rattle.jf_standing.proofs.Steps.{parts_at}
 use Rattle.jf_standing.proofs.Freshness.{fresh-node, stale-node, child-node, listed-fresh}
 use Rattle.jf_standing.proofs.Names.{same_names}
 
-map_same : {X Y : Type 0} (f g : X → Y) (xs : List X) → AllByRecursion (λ x. f x ≡ g x) xs → map f xs ≡ map g xs
-map_same f g [] h = refl
-map_same f g (x ∷ xs) h = ap₂ (λ y ys. y ∷ ys) h.0 (map_same f g xs h.1)
-
 module _ (fmt : Format) (s : Standing) (m : Map) (before after : Path → ℕ)
     (was : (p : Path) → is_node 0 p (entries (head_map s)) ≡ true → before p ≡ version_at s.head s.nodes p)
     (is : (p : Path) → is_node 0 p (entries m) ≡ true → after p ≡ cond (is_fresh (entries (head_map s)) (entries m) p) (s.head + 1) (before p)) where
@@ -40,7 +36,7 @@ module _ (fmt : Format) (s : Standing) (m : Map) (before after : Path → ℕ)
   ] refl)
 
   pub fresh-update : map (λ (x : Path × Part). (record { version = s.head + 1; path = x.0 }, plain_node (is_counted fmt) (λ i. after (x.0 ++ i ∷ [])) (length x.0) x.1)) (fresh (head_map s) m) ≡ (landing_of fmt s m).fresh
-  fresh-update = map_same _ (written_node fmt s m) (fresh (head_map s) m) (All-each_element _ (fresh (head_map s) m) (λ x has.
+  fresh-update = map_alike _ (written_node fmt s m) (fresh (head_map s) m) (All-each_element _ (fresh (head_map s) m) (λ x has.
       let listed = listed-fresh (head_map s) m x has in
       let node = fresh-node (entries (head_map s)) (entries m) x.0 listed.0 in
       let name : NodeName = record { version = s.head + 1; path = x.0 } in
@@ -51,7 +47,7 @@ module _ (fmt : Format) (s : Standing) (m : Map) (before : Path → ℕ) where
   pub stale-update : (names : List NodeName) → ((p : Path) → is_node 0 p (entries (head_map s)) ≡ true → before p ≡ version_at s.head s.nodes p) → IsPermutation (map (λ (x : Path × Part). record { version = before x.0; path = x.0 }) (stale (head_map s) m)) names → IsTrue (are_rising names) → names ≡ (landing_of fmt s m).stale
   stale-update names was moved rises =
       let same : map (λ (x : Path × Part). record { version = before x.0; path = x.0 }) (stale (head_map s) m) ≡ stale_names s m =
-      map_same _ (λ (x : Path × Part). name_at_head s x.0) (stale (head_map s) m) (All-each_element _ (stale (head_map s) m) (λ x has.
+      map_alike _ (λ (x : Path × Part). name_at_head s x.0) (stale (head_map s) m) (All-each_element _ (stale (head_map s) m) (λ x has.
       ap (λ v. record { version = v; path = x.0 }) (was x.0 (fresh-node (entries m) (entries (head_map s)) x.0 (listed-fresh m (head_map s) x has).0)))) in
       same_names names (stale_names s m) rises (λ q. sym (list_any-IsPermutation (eq_by_cmp name_cmp q) (stale_names s m) names (subst (λ ns. IsPermutation ns names) same moved)))
 

@@ -13,6 +13,7 @@ use Rattle.jf_path.specs.declared.node.PlainNode.{PlainNode}
 use Rattle.jf_path.specs.declared.node.PlainNode.TheVariants as node
 use Rattle.jf_path.proofs.FilterLaws.{length-filter_le, Contains-filter}
 use Rattle.jf_path.proofs.ListLaws.{All-append, Contains-first, Contains-later, All-of}
+use Rattle.jf_path.proofs.NumberLaws.{same_number, number_tells}
 use Rattle.jf_hash.specs.Roots.{leaves_root, leaf_of, part_root}
 use Rattle.jf_hash.specs.Slots.{Part, with_nibble, all_nibbles}
 use Rattle.jf_hash.specs.Maps.{Map, IsMap}
@@ -30,7 +31,6 @@ use Rattle.jf_standing.specs.Named.{version_at, never}
 use Rattle.jf_standing.specs.Standing.{Standing}
 use Rattle.jf_standing.specs.Landing.{head_map, version_after, written_node, landing_of, name_at_head, stale_names}
 use Rattle.jf_standing.proofs.Lists.{none_in_nothing, All-each_element, map-which}
-use Rattle.jf_standing.proofs.Numbers.{same_number, number_tells}
 use Rattle.jf_standing.proofs.Steps.{has_child, has_child-plain}
 use Rattle.jf_standing.proofs.LeafPaths.{under-Contains}
 use Rattle.jf_standing.proofs.Checkpoints.{version-at_most}

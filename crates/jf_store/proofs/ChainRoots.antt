@@ -3,7 +3,7 @@ use Rattle.std.proofs.Common.{◌≡◌, ℕ, zero, suc, ◌+◌, ◌-◌, ◌�
 use Rattle.jf_hash.specs.Maps.{Map, Batch, apply}
 use Rattle.jf_hash.specs.Roots.{root}
 use Rattle.jf_model.specs.Versions.{Versions, newest, versions_after_landing, land_all, root_of}
-use Rattle.jf_model.proofs.VersionLaws.{land_all-head}
+use Rattle.jf_model.proofs.VersionLaws.{land_all-head, root_of-land_all}
 use Rattle.jf_store.specs.Landings.{landed_roots, roots_from}
 
 -- one root more at the end
@@ -18,15 +18,6 @@ roots_from-next v first version low =
     let more : version + 1 - first ≡ suc (version - first) = omega arith in
     let here : first + (version - first) ≡ version = omega arith in
     ap (roots_from v first) more ∙ roots_from-push v first (version - first) ∙ ap (λ w. roots_from v first (version - first) ++ root_of v w ∷ []) here
-
--- a landing leaves a recorded root as it is
-root_of-landed : (b : Batch) (v : Versions) (w : ℕ) → w ≤ v.head → root_of (versions_after_landing b v) w ≡ root_of v w
-root_of-landed b v w low =
-    let e : v.head + 1 - w ≡ suc (v.head - w) = omega arith in ap (λ i. slice_index_or (root (apply (newest v) b) ∷ v.roots) i []) e
-
-root_of-land_all : (bs : List Batch) (v : Versions) (w : ℕ) → w ≤ v.head → root_of (land_all bs v) w ≡ root_of v w
-root_of-land_all [] v w low = refl
-root_of-land_all (b ∷ bs) v w low = root_of-land_all bs (versions_after_landing b v) w (omega arith) ∙ root_of-landed b v w low
 
 -- the version that a batch lands as has its root
 root_of-next : (b : Batch) (v : Versions) → root_of (versions_after_landing b v) (v.head + 1) ≡ root (apply (newest v) b)

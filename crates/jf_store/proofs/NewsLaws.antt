@@ -3,6 +3,7 @@ use Rattle.std.proofs.Common.{◌≡◌, ℕ, ◌<◌, ◌≤◌, Bool, true, fa
 use mathlib.Core.Option as maybe
 use lib.ListN.{get_elem?}
 use Rattle.jf_path.specs.Checks.{first_of}
+use Rattle.jf_path.proofs.OptionLaws.{some_same}
 use Rattle.jf_turn.specs.Lists.{StartsWith, longer}
 use Rattle.jf_turn.specs.Seats.{SeatState, NoteState, OthersFollow, learning, noted}
 use Rattle.jf_turn.proofs.Lists.{prefix_whole}
@@ -39,9 +40,6 @@ IsShownLook-noted s p store n l is turn starts noted_is look none = subst (λ (m
   unmarked = unmarked_by (is_marked s.seen) none;
   look = look;
 }
-
-some_one : (a b : Start) → Some a ≡ Some b → a ≡ b
-some_one a b e = cc
 
 -- the seat learned a note that has as many events as it had seen
 pub record HasLearned (s s' : SeatState Event Start) (n : NoteState Event Start) : Type 0 where
@@ -83,7 +81,7 @@ module _ (s s' : SeatState Event Start) (n : NoteState Event Start) (p : PinsSta
     numbers = ap (λ (t : SeatState Event Start). t.numbers) h.after ∙ is.numbers ∙ ap (λ (m : ℕ). m ∷ []) (sym (ap (λ (t : SeatState Event Start). t.number) h.after));
     place = is.place ∙ sym (ap (λ (t : SeatState Event Start). t.number) h.after);
     events = λ t starts'.
-        let same : store.start ≡ t = some_one store.start t (sym starts ∙ sym (ap (λ (u : SeatState Event Start). u.start) h.after) ∙ starts') in
+        let same : store.start ≡ t = some_same store.start t (sym starts ∙ sym (ap (λ (u : SeatState Event Start). u.start) h.after) ∙ starts') in
         subst (λ (t : Start). AreEvents t s'.seen × (s'.number < t.passes) × (p.board ≡ t.board)) same (
           subst (AreEvents store.start) (sym seen_is) news.events,
           subst (λ (m : ℕ). m < store.start.passes) (sym (ap (λ (u : SeatState Event Start). u.number) h.after)) known.1,

@@ -14,16 +14,12 @@ use Rattle.jf_pair.specs.Pairs.{Pair, IsInStep}
 use Rattle.jf_pair.proofs.Appended.{held_still}
 use Rattle.jf_pair.proofs.FileLaws.{holds_of, holds_one}
 use Rattle.jf_pair.proofs.Opened.{synced_same}
-use Rattle.jf_pair.proofs.PairLaws.{in_step_holds, in_step_leaves}
+use Rattle.jf_pair.proofs.PairLaws.{in_step_holds, in_step_leaves, bytes_of-reads}
 use Rattle.jf_files.specs.Files.{LeadTo, StandsFor, generation}
 use Rattle.jf_files.specs.Steps.{Opens, StopsWell}
 use Rattle.jf_files.proofs.Judging.{generation_live}
 use Rattle.jf_trim.specs.Trims.{HasTrimmed, IsSpareIn, KeepsStore, spare_side, trimmed_side}
 use Rattle.jf_trim.specs.declared.trimmed.Trimmed.{Trimmed}
-
-bytes_of-reads : (w : Side) (h : History) → bytes_of w (reads h) ≡ (content_on w h.now).bytes
-bytes_of-reads side.A h = refl
-bytes_of-reads side.B h = refl
 
 -- files whose bytes are the same on both sides
 files_same : (w : Side) (f g : Files) → bytes_of w f ≡ bytes_of w g → bytes_of (opposite w) f ≡ bytes_of (opposite w) g → f ≡ g

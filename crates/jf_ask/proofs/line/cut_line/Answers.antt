@@ -1,5 +1,6 @@
 use Rattle.std.proofs.Common.{arith, ◌<◌, length}
-use Rattle.jf_ask.proofs.FirstLine.{lines-split, lines-empty}
+use Rattle.jf_io.proofs.Found.{lines-split}
+use Rattle.jf_ask.proofs.FirstLine.{lines-empty}
 use Rattle.jf_ask.proofs.line.cut_line.Goals as goal
 
 pub returns-then-is_empty : goal.returns-then-is_empty

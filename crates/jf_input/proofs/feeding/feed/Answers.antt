@@ -47,7 +47,7 @@ returns-in-Err-clause-fed g c =
     fed_at_line f c.line.ensures c.in-Err.how (c.in-Ok-true.ensures.found (ap (λ b. Ok b) c.in-Ok-true.field-0-test)) (omega (arith, c.next_line.ensures.ahead, piece)) c.in-Err.ensures.err
 
 pub returns-in-Err-clause-read : goal.returns-in-Err-clause-read
-returns-in-Err-clause-read g c = λ e. absurd (c.in-Err.ensures.read (ap (λ h. Err h) e))
+returns-in-Err-clause-read g c = λ e. absurd (c.in-Err.ensures.unstopped (ap (λ h. Err h) e))
 
 pub returns-then-is_err-2-clause-fed : goal.returns-then-is_err-2-clause-fed
 returns-then-is_err-2-clause-fed g c =

@@ -1,8 +1,8 @@
 use Rattle.std.proofs.Common.{◌≡◌, true, false, drop, sym, ◌∙◌, length-drop, arith}
 use Rattle.std.specs.List.{before_first, after_first}
 use Rattle.jf_io.specs.LineReader.{is_line_feed}
+use Rattle.jf_io.proofs.Found.{lines-split}
 use Rattle.jf_serve.specs.SessionScripts.{is_session_line}
-use Rattle.jf_serve.proofs.FirstLine.{lines-split}
 use Rattle.jf_serve.proofs.ScriptCuts.{before-none, before-more, cut_all, cut_there, rest_is}
 use Rattle.jf_serve.proofs.cutting.cut_script.Goals as goal
 

@@ -1,5 +1,5 @@
 use Rattle.std.proofs.Common.{arith, ◌<◌, length}
-use Rattle.jf_serve.proofs.FirstLine.{lines-split}
+use Rattle.jf_io.proofs.Found.{lines-split}
 use Rattle.jf_serve.proofs.line.cut_line.Goals as goal
 
 pub returns-else-is_empty-clause-split : goal.returns-else-is_empty-clause-split

@@ -19,4 +19,4 @@ returns c =
     let run : IsRun n es c.args.start _ c.args.here = IsRun-from_partition n es c.args.start c.partition_point.result c.args.here ([], None) c.requires.sorted c.requires.within
     (subst (λ xs. c.partition_point.result ≤ length xs) rest c.partition_point.ensures.bound) c.requires.here
     (subst (λ xs. IsPartitionPoint (λ e. leb (n e) c.args.here ≡ true) (λ e. leb (n e) c.args.here ≡ false) xs c.partition_point.result) rest parted) in
-    record { behind = run.behind; within = run.within; same = run.same; other = run.other }
+    record { behind = run.behind; within = run.within; nibble = run.nibble; other = run.other }

@@ -20,6 +20,6 @@ loop-start-preserved c =
     record {
       within = found.within;
       pieces = subst (ArePieces c.args.depth (take c.end_of_piece-end.result es)) (sym c.in_ok-push.ensures.items)
-          (pieces_more c.args.depth es c.loop-start.pieces.items (record { nibble = here; start = from; end = c.end_of_piece-end.result }) c.loop-start.invariant.pieces found.behind found.within low found.same);
-      below = front_below c.args.depth here es from c.end_of_piece-end.result low found.same found.other;
+          (pieces_more c.args.depth es c.loop-start.pieces.items (record { nibble = here; start = from; end = c.end_of_piece-end.result }) c.loop-start.invariant.pieces found.behind found.within low found.nibble);
+      below = front_below c.args.depth here es from c.end_of_piece-end.result low found.nibble found.other;
     }

@@ -25,4 +25,4 @@ copy-requires g c =
 pub returns : goal.returns
 returns g c =
     updated c.args.head.now c.args.batch.now _ c.as_slice-entries.ensures.sound (subst (λ b. IsNextSnapshot c.args.head.now b c.in_ok-snapshot.snapshot) c.as_slice-entries.ensures.entries c.in_ok-snapshot.ensures) c.root.ensures
-    (c.in_ok-nodes.ensures ∙ c.in_ok-fresh.ensures.fresh) c.in_ok-fresh.ensures.stale (subst (IsFreshCount c.args.head.now c.in_ok-snapshot.snapshot) (ap length (sym c.in_ok-nodes.ensures)) c.in_ok-fresh.ensures.bound)
+    (c.in_ok-nodes.ensures ∙ c.in_ok-fresh.ensures.fresh) c.in_ok-fresh.ensures.stale (subst (IsFreshCount c.args.head.now c.in_ok-snapshot.snapshot) (ap length (sym c.in_ok-nodes.ensures)) c.in_ok-fresh.ensures.bounded)

@@ -13,7 +13,7 @@ use Rattle.jf_stale.proofs.names.NamesSince.remove.Goals as goal
 removed : (c : goal.After-remove) → c.remove.new.self.items ≡ without_name c.args.name.now c.self.inside.names.items
 removed c =
     let name = c.args.name.now in
-    let lt = c.in-Ok.ensures.bound in
+    let lt = c.in-Ok.ensures.within in
     subst (λ r. OnSome r (c.remove.new.self.items ≡ remove c.self.inside.names.items c.in-Ok.at)) (c.remove.ensures.succeeds name (omega (arith, lt))) c.remove.ensures.items
     ∙ sym (without-there name_cmp_total name c.self.inside.names.items c.in-Ok.at c.self.invariant lt (c.in-Ok.ensures.there name))
 
@@ -22,7 +22,7 @@ invariant_of-self c = subst AreAscendingNames (sym (removed c)) (without-ascends
 
 pub returns-in-Ok-clause-found : goal.returns-in-Ok-clause-found
 returns-in-Ok-clause-found c =
-    sym (ap (λ (g : NameGroup). list_any (eq_by_cmp name_cmp c.args.name.now) g.1) (sym c.self.view_is) ∙ any-there name_cmp_total c.args.name.now c.self.inside.names.items c.in-Ok.at c.in-Ok.ensures.bound c.in-Ok.ensures.there)
+    sym (ap (λ (g : NameGroup). list_any (eq_by_cmp name_cmp c.args.name.now) g.1) (sym c.self.view_is) ∙ any-there name_cmp_total c.args.name.now c.self.inside.names.items c.in-Ok.at c.in-Ok.ensures.within c.in-Ok.ensures.there)
 
 pub returns-in-Ok-clause-others : goal.returns-in-Ok-clause-others
 returns-in-Ok-clause-others c =
