@@ -1,8 +1,10 @@
 -- Hexadecimal text is read two digits at a time.
-use Rattle.std.proofs.Common.{ℕ, ◌+◌, List, ◌++◌, Option, Some, None, ◌≡◌, ◌∷◌, refl, ◌%◌, [], length, arith, ◌*◌, sym, ◌<◌, drop, get_or, ap, ◌∙◌, ◌≤◌, ◌&&◌, nat_le, if◌then◌else◌, option_and_then, ◌/◌, ◌⊎◌, inl, inr}
+use Rattle.std.proofs.Common.{ℕ, ◌+◌, ◌==◌, true, false, true≢false, List, ◌++◌, Option, Some, None, ◌≡◌, ◌∷◌, refl, ◌%◌, [], length, arith, ◌*◌, sym, ◌<◌, drop, get_or, ap, ◌∙◌, ◌≤◌, ◌&&◌, nat_le, if◌then◌else◌, option_and_then, ◌/◌, ◌⊎◌, inl, inr}
+use Rattle.std.proofs.lemmas.Bool.{cases_Bool, eqb-true}
 use Rattle.std.proofs.lemmas.Bool.Decides.{nat_tests}
 use Rattle.std.proofs.lemmas.List.{drop_more, append_assoc, append-nil, drop_all}
-use Rattle.jf_text.specs.Words.{both, byte_of, unhex, bytes_within}
+use Rattle.jf_text.specs.Words.{both, byte_of, digit, unhex, bytes_within}
+use Rattle.jf_text.proofs.Plain.{is_without}
 
 -- the bytes read so far, followed by those still to be read
 abbrev pub with_bytes_before : List ℕ → Option (List ℕ) → Option (List ℕ)
@@ -10,16 +12,35 @@ with_bytes_before front (Some rest) = Some (front ++ rest)
 with_bytes_before front None = None
 
 -- if the rest can't be read, nothing is read
-both-none : (b : Option ℕ) → both ◌∷◌ b None ≡ None
-both-none None = refl
-both-none (Some b) = refl
+both-none : {X Y Z : Type 0} (f : X → Y → Z) (b : Option X) → both f b None ≡ None
+both-none f None = refl
+both-none f (Some b) = refl
 
 -- an odd number of digits can't be read
 pub unhex-odd : (w : List ℕ) → length w % 2 ≡ 1 → unhex w ≡ None
 unfolding unhex
 unhex-odd [] h = absurd (omega arith)
 unhex-odd (high ∷ []) h = refl
-unhex-odd (high ∷ low ∷ rest) h = rw (unhex-odd rest (omega arith)) (both-none (byte_of high low))
+unhex-odd (high ∷ low ∷ rest) h = rw (unhex-odd rest (omega arith)) (both-none ◌∷◌ (byte_of high low))
+
+-- a space is no digit
+space-no_digit : (c : ℕ) → (c == 32) ≡ true → digit c ≡ None
+space-no_digit c is = ap digit (eqb-true c 32 is)
+
+-- text with a space can't be read
+pub unhex-spaced : (w : List ℕ) → is_without 32 w ≡ false → unhex w ≡ None
+unfolding unhex
+unhex-spaced [] h = absurd (true≢false h)
+unhex-spaced (high ∷ []) h = refl
+unhex-spaced (high ∷ low ∷ rest) h =
+    elim (cases_Bool (high == 32)) [
+      | inl first ↦ rw (space-no_digit high first) refl
+      | inr not_first ↦
+          elim (cases_Bool (low == 32)) [
+            | inl second ↦ rw (space-no_digit low second, both-none (λ h l. h * 16 + l) (digit high)) refl
+            | inr not_second ↦ let later = rw (not_first, not_second) at h in rw (unhex-spaced rest later) (both-none ◌∷◌ (byte_of high low))
+          ]
+    ]
 
 -- if a byte and the rest give bytes, both are there
 both-some : (b : Option ℕ) (o : Option (List ℕ)) (bytes : List ℕ) → both ◌∷◌ b o ≡ Some bytes

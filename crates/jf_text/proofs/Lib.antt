@@ -2,6 +2,7 @@ pub mod Spaces
 pub mod Numbers
 pub mod NumbersBack
 pub mod HexText
+pub mod HexBytes
 pub mod HashText
 pub mod PairText
 pub mod HexWritten

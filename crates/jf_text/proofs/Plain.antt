@@ -20,7 +20,8 @@ all_plain [] = true
 all_plain (w ∷ ws) = if is_plain w then all_plain ws else false
 
 -- ---- words
-words-one : (w : List ℕ) → is_without 32 w ≡ true → words w ≡ w ∷ []
+-- a word without a space is one word
+pub words-one : (w : List ℕ) → is_without 32 w ≡ true → words w ≡ w ∷ []
 unfolding words
 words-one [] h = refl
 words-one (b ∷ w) h = let parts = not_and_passes (b == 32) (is_without 32 w) h in rw (parts.0, words-one w parts.1) refl

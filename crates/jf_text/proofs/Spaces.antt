@@ -1,12 +1,12 @@
 -- A line is cut into words at its spaces.
 use Rattle.std.proofs.Common.{◌≡◌, ℕ, ◌+◌, ◌<◌, ◌≤◌, ◌==◌, true, false, cond, List, [], ◌∷◌, ◌++◌, length, take, drop, get_or, All, refl, sym, ap, ◌∙◌, arith, take_all, length-take}
-use Rattle.std.proofs.lemmas.List.{drop_more, get_or-take, take-append-drop}
+use Rattle.std.proofs.lemmas.List.{append_assoc, drop_more, get_or-take, take-append-drop}
 use Rattle.std.proofs.lemmas.Bool.{eqb-true, false_from_ne_true}
 use Rattle.std.proofs.lemmas.Grind.{get_or_default_zero}
-use Rattle.std.proofs.lemmas.List.Splits.{slice_split_at, slice_split_none}
+use Rattle.std.proofs.lemmas.List.Splits.{join_with_byte-slice_split, slice_split_at, slice_split_none}
 use Rattle.memchr.specs.Find.{Nowhere, NoneBefore, Passes, is_byte}
-use Rattle.std.specs.List.{onto_first}
-use Rattle.jf_text.specs.Words.{words}
+use Rattle.std.specs.List.{join_with_byte, onto_first}
+use Rattle.jf_text.specs.Words.{spaced_words, words}
 
 -- no byte is a space
 abbrev pub HasNoSpace : List ℕ → Type 0
@@ -46,3 +46,13 @@ words-some (b ∷ line) =
       | true ↦ ([], words line, refl)
       | false ↦ rw more.2 (b ∷ more.0, more.1, refl)
     ]
+
+-- a text of one word is that word
+pub words-alone : (line w : List ℕ) → words line ≡ w ∷ [] → w ≡ line
+unfolding words
+words-alone line w is = sym (ap (join_with_byte 32) is) ∙ join_with_byte-slice_split 32 line
+
+-- words are spaced in two parts as they are in one
+pub spaced-append : (ws vs : List (List ℕ)) → spaced_words (ws ++ vs) ≡ spaced_words ws ++ spaced_words vs
+spaced-append [] vs = refl
+spaced-append (w ∷ ws) vs = ap (λ text. 32 ∷ w ++ text) (spaced-append ws vs) ∙ ap (λ text. 32 ∷ text) (sym (append_assoc w (spaced_words ws) (spaced_words vs)))
