@@ -10,6 +10,18 @@ from typing import Any, Iterator, Optional
 TOP = os.path.dirname(os.path.dirname(os.path.abspath(__file__)))
 OUT = os.path.join(TOP, "clients", "out")
 MEMORY64 = "--experimental-wasm-memory64"
+# What x86-64-v3 has more than x86-64-v2, by the names of /proc/cpuinfo.
+V3 = {"avx", "avx2", "bmi1", "bmi2", "f16c", "fma", "abm", "movbe", "xsave"}
+
+
+def processor() -> str:
+    """The level of x86-64 that the processor at hand has, as `rt` names it: at most v3, which any compiler of the kit can compile for."""
+    try:
+        with open("/proc/cpuinfo", encoding="utf-8") as it:
+            flags = next((line.partition(":")[2].split() for line in it if line.startswith("flags")), [])
+    except OSError:
+        flags = []
+    return "x86-64-v3" if V3 <= set(flags) else "x86-64-v2"
 
 
 def side_by_side() -> Any:
