@@ -1,5 +1,5 @@
 -- Laws on a disk in memory: one state for each moment, a crash may leave what a read gives, and no side is too long.
-use Rattle.std.specs.Prelude.{◌≡◌, ◌+◌, ◌-◌, List, [], ◌∷◌, ◌++◌, refl}
+use Rattle.std.specs.Prelude.{◌≡◌, ◌+◌, List, [], ◌∷◌, ◌++◌, refl}
 use Rattle.std.proofs.Common.{arith}
 use Rattle.jf_disk.specs.Disk.{History, next}
 use Rattle.jf_disk.specs.Memory.{Call, state_after_call, history_after_calls, nothing, writes, cuts, syncs, bytes_written}

@@ -43,6 +43,7 @@ impl FolderBytes {
         alloc: Global,
         folder: &str,
     ) -> Result<FolderBytes, FileRefused>
+        // A folder of the empty name is refused with `NoSuchFolder`.
         ensures { folder.now ≡ [] → result ≡ Err (FileRefused.DiskFailed FaultCause.NoSuchFolder) }
     {
         if folder.is_empty() {
@@ -60,6 +61,7 @@ impl FolderBytes {
 
     /// Why no store would be opened over these files, if none would (docs/FORMATS.md, "The files of a folder").
     pub fn refusal(&self) -> Option<FaultCause>
+        // The result is that for what is seen of each file: whether it is there, its length and its first byte.
         ensures { result ≡ store_refusal (seen_of (option_map (λ v. v.items) self.now.a)) (seen_of (option_map (λ v. v.items) self.now.b)) }
     {
         store_refusal(seen_of(&self.a), seen_of(&self.b))
