@@ -1,13 +1,14 @@
 -- What is shown of the sides of a disk over two files is what these files show.
 use Rattle.std.proofs.Common.{◌≡◌, ℕ, List, ap, ◌∙◌, refl, subst, Option, Some, None, option_map}
 use Rattle.jf_disk.specs.Disk.{DiskState, Files, History, reads, content_on}
+use Rattle.jf_disk.specs.Missing.{bytes_found, files_found}
 use Rattle.jf_disk.specs.Memory.{start}
 use Rattle.jf_disk.specs.declared.side.Side.{Side}
 use Rattle.jf_disk.specs.declared.side.Side.TheVariants as side
 use Rattle.jf_check.specs.declared.side_check.SideCheck.{SideCheck}
 use Rattle.jf_check.specs.declared.store_check.StoreCheck.{StoreCheck}
 use Rattle.jf_check.specs.Sides.{side_shown}
-use Rattle.jf_check.specs.Stores.{bytes_found, files_found, IsStoreCheck, IsCheck}
+use Rattle.jf_check.specs.Stores.{IsStoreCheck, IsCheck}
 
 -- the bytes on a side, if its file is there
 abbrev bytes_on : DiskState → Option Side → Option (List ℕ)

@@ -9,3 +9,5 @@ pub mod Judged
 pub mod Checked
 pub mod Sizes
 pub mod OneThing
+pub mod FilesRead
+pub mod DiskChecks

@@ -1,13 +1,14 @@
 -- What two files show follows from their bytes.
 use Rattle.std.specs.Prelude.{flat_map, reverse}
-use Rattle.std.proofs.Common.{◌≡◌, ℕ, List, [], ◌∷◌, length, ap, ap₂, sym, ◌∙◌, arith, refl, subst, Option}
+use Rattle.std.proofs.Common.{◌≡◌, ℕ, List, [], ◌∷◌, length, ap, ap₂, sym, ◌∙◌, arith, subst, Option}
 use Rattle.jf_disk.specs.Disk.{Files}
+use Rattle.jf_disk.specs.Missing.{files_found}
 use Rattle.jf_model.specs.Nodes.{kept_nodes}
 use Rattle.jf_frame.specs.Framed.{Framed}
 use Rattle.jf_pair.proofs.FileLaws.{holds_one}
 use Rattle.jf_codec.specs.declared.format.Format.{Format}
 use Rattle.jf_codec.specs.declared.format.Format.TheVariants as format
-use Rattle.jf_payload.specs.Spelling.{checkpoint_kind, live_bytes}
+use Rattle.jf_payload.specs.Spelling.{live_bytes}
 use Rattle.jf_standing.specs.Named.{Named}
 use Rattle.jf_standing.specs.Standing.{Standing}
 use Rattle.jf_standing.specs.FormatLaws.{standing_in}
@@ -18,20 +19,13 @@ use Rattle.jf_standing.specs.Sound.{IsSound}
 use Rattle.jf_standing.specs.Next.{IsReadStanding}
 use Rattle.jf_files.specs.Files.{item, items}
 use Rattle.jf_files.specs.Laws.{DamageHasOnePlace, DamageIsNoVersions, FilesStandForOne}
-use Rattle.jf_files.proofs.Judging.{are_read}
+use Rattle.jf_files.proofs.Judging.{are_read, one_format}
 use Rattle.jf_engine.proofs.Records.{nodes-ordered}
 use Rattle.jf_check.specs.declared.store_check.StoreCheck.{StoreCheck}
 use Rattle.jf_check.specs.declared.store_check.StoreCheck.TheVariants as store_check
 use Rattle.jf_check.specs.declared.check.Check.{Check}
-use Rattle.jf_check.specs.Stores.{LeadToCounted, IsCheckpointSize, checkpoint_file, IsStoreCheck, IsCheck, files_found}
+use Rattle.jf_check.specs.Stores.{LeadToCounted, IsCheckpointSize, checkpoint_file, IsStoreCheck, IsCheck}
 use Rattle.jf_check.proofs.Sizes.{file_long, nodes_same}
-
--- a kind of checkpoint is that of one format
-one_format : (a b : Format) → checkpoint_kind a ≡ checkpoint_kind b → a ≡ b
-one_format format.One format.One is = refl
-one_format format.One format.Two is = absurd (omega (arith, is))
-one_format format.Two format.One is = absurd (omega (arith, is))
-one_format format.Two format.Two is = refl
 
 -- standings of which a format keeps the same have files of one size
 same_size : (fmt : Format) (s t : Standing) → IsSound format.Two s → IsReadStanding s → IsSound format.Two t → IsReadStanding t → standing_in fmt s ≡ standing_in fmt t → length (checkpoint_file 1 s) ≡ length (checkpoint_file 1 t)

@@ -1,6 +1,6 @@
 -- The numbers that sound records tell are those of what they lead to.
 use Rattle.std.specs.Prelude.{flat_map, slice_get}
-use Rattle.std.proofs.Common.{◌≡◌, ℕ, zero, suc, ◌+◌, ◌-◌, ◌≤◌, ◌^◌, nat_le, min, List, [], ◌∷◌, ◌++◌, length, drop, ap, ap₂, sym, ◌∙◌, arith, refl, subst, append_assoc, Option, Some, None, option_map, true, le-leb, le-ltb, cond}
+use Rattle.std.proofs.Common.{◌≡◌, ℕ, zero, suc, ◌+◌, ◌-◌, ◌≤◌, ◌^◌, nat_le, min, List, [], ◌∷◌, ◌++◌, length, drop, ap, ap₂, sym, ◌∙◌, arith, subst, append_assoc, Option, Some, None, option_map, true, le-leb, le-ltb, cond}
 use Rattle.std.proofs.lemmas.List.{append-nil}
 use Rattle.std.proofs.lemmas.Bool.{and_from}
 use Rattle.jf_path.specs.Numbers.{eight_bytes}
@@ -8,12 +8,11 @@ use Rattle.jf_frame.specs.Framed.{Framed}
 use Rattle.jf_frame.specs.Framing.{number_of}
 use Rattle.jf_pair.specs.Files.{is_checkpoint}
 use Rattle.jf_codec.specs.declared.format.Format.{Format}
-use Rattle.jf_codec.specs.declared.format.Format.TheVariants as format
 use Rattle.jf_codec.specs.Spelling.{name_bytes}
 use Rattle.jf_payload.specs.declared.records.Commit.{Commit}
 use Rattle.jf_payload.specs.declared.records.Record.{Record}
 use Rattle.jf_payload.specs.declared.records.Record.TheVariants as «record»
-use Rattle.jf_payload.specs.Spelling.{IsSpelling, IsCommit, record_bytes, commit_bytes, list_bytes, live_bytes, fresh_bytes, checkpoint_kind}
+use Rattle.jf_payload.specs.Spelling.{IsSpelling, IsCommit, record_bytes, commit_bytes, list_bytes, live_bytes, fresh_bytes}
 use Rattle.jf_payload.specs.Laws.{SpelledIsSpelling}
 use Rattle.jf_standing.specs.Named.{Named}
 use Rattle.jf_standing.specs.Standing.{Standing, with_commit}
@@ -21,6 +20,7 @@ use Rattle.jf_standing.specs.Sound.{IsSound}
 use Rattle.jf_standing.specs.Taking.{TakesRecord, TakesCommits, GivesStanding}
 use Rattle.jf_standing.specs.Leading.{AllLead, Leads}
 use Rattle.jf_files.specs.Files.{item, items}
+use Rattle.jf_files.proofs.Numbered.{is_kind}
 use Rattle.jf_check.specs.declared.numbers.SideNumbers.{SideNumbers}
 use Rattle.jf_check.specs.Numbers.{checkpoint_numbers, numbers_by, numbers_after, numbers_through, numbers_in}
 use Rattle.jf_check.proofs.Fronts.{HasFour, four_numbers, number_of-eight, length-eight_front}
@@ -41,10 +41,6 @@ checkpoint_four fmt g b f h roots nodes kind payload is =
     let low = s.base_low in let mid = s.floor_low in let high = s.head_last in let last = s.generation_last in
     subst (λ p. HasFour p g b f h) (sym (is.payload_is ∙ four_front g b f h (flat_map (λ h. h) roots) (list_bytes (live_bytes fmt) nodes)))
     (four_numbers g b f h (flat_map (λ h. h) roots ++ list_bytes (live_bytes fmt) nodes) (omega arith) (omega arith) (omega arith) (omega arith))
-
-is_kind : (fmt : Format) → is_checkpoint (checkpoint_kind fmt) ≡ true
-is_kind format.One = refl
-is_kind format.Two = refl
 
 four_told : (x : Framed) (g b f h : ℕ) → is_checkpoint x.kind ≡ true → HasFour x.payload g b f h → checkpoint_numbers x ≡ Some (record { generation = g; base = b; floor = f; head = h })
 four_told x g b f h kind has =

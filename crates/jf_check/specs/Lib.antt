@@ -3,6 +3,7 @@ pub mod Sides
 pub mod Stores
 pub mod Found
 pub mod Texts
+pub mod Reading
 pub mod Written
 pub mod Laws
 pub use Rattle.jf_path.specs.Faults

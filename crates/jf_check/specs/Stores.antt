@@ -1,6 +1,7 @@
 -- What two files stand for, or their first place of damage, as an opening finds it; and how large a new checkpoint would be.
 use Rattle.std.specs.Prelude.{◌≡◌, ℕ, List, [], ◌∷◌, length, Option, Some, None}
 use Rattle.jf_disk.specs.Disk.{Files}
+use Rattle.jf_disk.specs.Missing.{files_found}
 use Rattle.jf_disk.specs.declared.side.Side.{Side}
 use Rattle.jf_model.specs.Versions.{Versions}
 use Rattle.jf_model.specs.Nodes.{kept_nodes}
@@ -21,16 +22,7 @@ use Rattle.jf_check.specs.declared.store_check.StoreCheck.TheVariants as store_c
 use Rattle.jf_check.specs.declared.check.Check.{Check}
 use Rattle.jf_check.specs.Sides.{side_shown}
 
--- ---- the files
--- the bytes of a file; a missing one has none
-abbrev pub bytes_found : Option (List ℕ) → List ℕ
-bytes_found None = []
-bytes_found (Some bytes) = bytes
-
--- two files, either of which may be missing
-abbrev pub files_found : Option (List ℕ) → Option (List ℕ) → Files
-files_found a b = record { a = bytes_found a; b = bytes_found b }
-
+-- ---- the live side
 -- the live one of two sides with these records; none if neither has a record
 abbrev pub live_among : List Framed → List Framed → Option Side
 live_among [] [] = None

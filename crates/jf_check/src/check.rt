@@ -1,17 +1,20 @@
 // What two files show, as a value and as lines.
-ghost use Rattle.std.specs.Prelude.{◌≡◌, ◌≤◌, Err, IfOk, option_map};
+ghost use Rattle.std.specs.Prelude.{◌≡◌, ◌≢◌, ◌⊎◌, ◌+◌, ◌≤◌, Err, IfOk, Some, option_map};
 ghost use Rattle.jf_path.specs.Faults.{HasCause};
-ghost use Rattle.jf_disk.specs.Disk.{content_on};
+ghost use Rattle.jf_disk.specs.Crashes.{Idles};
+ghost use Rattle.jf_disk.specs.Disk.{CallsOn, History, content_on, reads};
 ghost use Rattle.jf_disk.specs.Memory.{history_of, start};
+ghost use Rattle.jf_disk.specs.Missing.{bytes_found, files_found};
 ghost use Rattle.jf_check.specs.Sides.{side_shown};
-ghost use Rattle.jf_check.specs.Stores.{IsCheck, bytes_found, files_found};
-ghost use Rattle.jf_check.specs.Written.{WritesCheck};
+ghost use Rattle.jf_check.specs.Stores.{IsCheck, IsStoreCheck};
+ghost use Rattle.jf_check.specs.Written.{ChecksDisk, WritesCheck};
 
 use crate::fault::Unchecked;
+use crate::reading::{DiskFiles, files_of, know_absent};
 use crate::side_check::{SideCheck, side_shown};
 use crate::store_check::{StoreCheck, store_found};
 use crate::writing::text_of;
-use jf_disk::{MemDisk, Side};
+use jf_disk::{Disk, MemDisk, Side};
 use jf_io::{IoFailed, Sink, put_all};
 use jf_join::Workers;
 use jf_path::Memory;
@@ -41,9 +44,16 @@ pub fn check_files<H: Threads + Sync, K: Sink>(
     workers: Workers,
     sink: &mut K,
 ) -> Result<StoreCheck, Unchecked>
+    // After `Ok` the lines of what both files show were appended, and the result is what both stand for; after `WriteFault` a front of
+    // the lines.
     ensures written { WritesCheck result (option_map (λ v. v.items) a) (option_map (λ v. v.items) b) (K.text sink.old) (K.text sink.new) }
+    // The result is never `DiskFault`.
+    ensures unstopped { result ≢ Err Unchecked.DiskFault }
+    // `WriteFault` comes only if the sink counted a fault, or its count is at its greatest.
     ensures cause { result ≡ Err Unchecked.WriteFault → HasCause (K.faults sink.old) (K.faults sink.new) }
+    // After `Memory` the sink is as it was.
     ensures unwritten { result ≡ Err Unchecked.Memory → sink.new ≡ sink.old }
+    // The sink's count of faults doesn't fall.
     ensures counts { K.faults sink.old ≤ K.faults sink.new }
 {
     let check = check_of(rt, alloc, a, b, workers)?;
@@ -52,6 +62,41 @@ pub fn check_files<H: Threads + Sync, K: Sink>(
         Ok(()) => Ok(check.store),
         Err(IoFailed) => Err(Unchecked::WriteFault),
     }
+}
+
+/// Writes into a sink what the two files of a disk show, as `check_files` does by their bytes. These are read by two calls a
+/// side, its length and one read; a side that is missing gets none. No other call is made, and all of them are made before
+/// anything is written.
+pub fn check_disk<H: Threads + Sync, D: Disk, K: Sink>(
+    rt: &H,
+    alloc: Global,
+    disk: &mut D,
+    workers: Workers,
+    sink: &mut K,
+) -> Result<StoreCheck, Unchecked>
+    // The lines of what the files show were written, as far as the result says: by the bytes that a read gives, if the history is
+    // known, and by no bytes of a side that is missing.
+    ensures written { ChecksDisk result (D.missing disk.old) (D.history disk.old) (K.text sink.old) (K.text sink.new) }
+    // After `Ok`, if the history is known, the result is what the files that a read gives stand for.
+    ensures store { (h : History) → D.history disk.old ≡ Some h → IfOk result (IsStoreCheck (reads h)) }
+    // A known history gains only states that are the same as the last one.
+    ensures idle { (h : History) → D.history disk.old ≡ Some h → (g : History) × (D.history disk.new ≡ Some g) × Idles h g }
+    // An unknown history stays unknown, no count of the disk falls, and `DiskFault` comes only if the disk counted a fault.
+    ensures calls { CallsOn (D.history disk.old) (D.moment disk.old) (D.faults disk.old) (D.history disk.new) (D.moment disk.new) (D.faults disk.new) (result ≡ Err Unchecked.DiskFault) }
+    // After every end but `DiskFault` the disk's count of faults is as it was.
+    ensures calm { result ≢ Err Unchecked.DiskFault → D.faults disk.new ≡ D.faults disk.old }
+    // At most four calls are made on the disk.
+    ensures moments { D.moment disk.new ≤ D.moment disk.old + 4 }
+    // `WriteFault` comes only if the sink counted a fault, or its count is at its greatest.
+    ensures cause { result ≡ Err Unchecked.WriteFault → HasCause (K.faults sink.old) (K.faults sink.new) }
+    // After `DiskFault` and `Memory` the sink is as it was.
+    ensures unwritten { (result ≡ Err Unchecked.DiskFault) ⊎ (result ≡ Err Unchecked.Memory) → sink.new ≡ sink.old }
+    // The sink's count of faults doesn't fall.
+    ensures counts { K.faults sink.old ≤ K.faults sink.new }
+{
+    know_absent(disk);
+    let DiskFiles { a, b } = files_of(alloc, disk)?;
+    check_files(rt, alloc, a, b, workers, sink)
 }
 
 // What two files show.

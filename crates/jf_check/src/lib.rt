@@ -8,11 +8,12 @@ mod fault;
 mod first;
 mod laws;
 mod numbers;
+mod reading;
 mod side_check;
 mod store_check;
 mod writing;
 
-pub use check::{Check, check_files};
+pub use check::{Check, check_disk, check_files};
 pub use fault::Unchecked;
 pub use laws::{files_show_one_thing, live_numbers_are_the_versions, sizes_add_up};
 pub use numbers::SideNumbers;

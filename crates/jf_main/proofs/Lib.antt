@@ -1,1 +1,2 @@
 mod HexText
+pub mod CheckEnds

@@ -1,8 +1,8 @@
 pub mod Help
 pub mod Asking
 pub mod Notes
-pub mod Checks
 pub mod Endings
+pub mod Checks
 pub mod Lines
 pub mod EndingTexts
 pub mod Places
@@ -12,5 +12,6 @@ pub use Rattle.jf_folder.specs.Any
 pub use Rattle.jf_folder.specs.File
 pub use Rattle.jf_folder.specs.Begun
 pub use Rattle.jf_folder.specs.Reading
+pub use Rattle.jf_disk.specs.Missing
 pub use Rattle.jf_check.specs.Written
 pub use Rattle.jf_run.specs.Statuses

@@ -9,11 +9,13 @@ use Rattle.jf_folder.specs.declared.any.AnyDisk.TheVariants as any
 abbrev pub IsNewMemory : AnyDisk → Type 0
 IsNewMemory (any.Mem d) = IsNew d (record { a = []; b = [] }) [] (2 ^ 20) (2 ^ 27)
 IsNewMemory (any.File d) = ⊥
+IsNewMemory (any.Seen d a b) = ⊥
 
 -- a disk over the two files of a folder, just opened
 abbrev pub IsNewlyOpened : AnyDisk → Type 0
 IsNewlyOpened (any.Mem d) = ⊥
 IsNewlyOpened (any.File d) = IsFresh d
+IsNewlyOpened (any.Seen d a b) = ⊥
 
 -- a disk of the one kind or of the other
 abbrev pub IsNewDisk : Bool → AnyDisk → Type 0

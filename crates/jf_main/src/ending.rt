@@ -2,11 +2,10 @@
 ghost use Rattle.std.specs.Prelude.{◌≡◌, Some, None};
 ghost use Rattle.std.specs.Process.{exit_status};
 ghost use Rattle.jf_run.specs.Statuses.{code_of};
-ghost use Rattle.jf_main.specs.Checks.{check_cause, check_status};
+ghost use Rattle.jf_main.specs.Checks.{end_cause, end_status};
 ghost use Rattle.jf_main.specs.Endings.{refusal_cause, refusal_status, told_cause, unread_note};
 
 use crate::note::Note;
-use jf_check::{StoreCheck, Unchecked};
 use jf_folder::{AnyDisk, FaultCause, FileRefused};
 use jf_run::status::Status;
 use std::process::ExitCode;
@@ -95,23 +94,17 @@ impl Ending {
         }
     }
 
-    /// The end after a check of files over which, for this cause, no store would be opened.
-    pub(crate) fn of_check(
-        outcome: Result<StoreCheck, Unchecked>,
-        refusal: Option<FaultCause>,
-    ) -> Ending
-        ensures status { result.status ≡ check_status outcome refusal }
-        ensures reason { result.cause ≡ check_cause outcome refusal }
+    /// The end after a check that ended so, of files over which, for this cause, no store would be opened.
+    pub(crate) fn of_check(status: Status, refusal: Option<FaultCause>) -> Ending
+        ensures status { result.status ≡ end_status status refusal }
+        ensures reason { result.cause ≡ end_cause status refusal }
         ensures note { result.note ≡ None }
     {
-        match (outcome, refusal) {
-            (Err(Unchecked::WriteFault), _) => Ending::of_status(Status::WriteFault),
-            (Err(Unchecked::Memory), _) => Ending::of_status(Status::Memory),
-            (Ok(_), Some(cause)) => Ending::of_fault(cause),
-            (Ok(StoreCheck::Damaged { side, offset }), None) => {
-                Ending::of_status(Status::Damaged { side, offset })
-            }
-            (Ok(StoreCheck::Sound { .. }), None) => Ending::of_status(Status::Done),
+        match (status, refusal) {
+            (Status::Done | Status::Damaged { .. }, Some(cause)) => Ending::of_fault(cause),
+            // The bytes are in memory, so a call on them fails only if it has no room.
+            (Status::DiskFault, _) => Ending::of_status(Status::Memory),
+            _ => Ending::of_status(status),
         }
     }
 

@@ -1,7 +1,7 @@
 //! What the program does: it reads the words of its command line, opens the disk that the first word names, runs the
 //! other words over it, standard input and standard output, and tells on standard error of an end that isn't a good one.
 //! One word alone, `--help` or `--version`, asks for a text.
-//! The word `check` is done without opening a disk: the files are read, and told of.
+//! Words that ask for a check are run over what the files hold: these are read, and not opened as a disk.
 #![tactic(auto)]
 
 mod asked;
@@ -16,7 +16,7 @@ mod program;
 mod status_line;
 
 pub use asked::Asked;
-pub use checking::{asks_check, check_over, files_at};
+pub use checking::{SeenFiles, seen_at};
 pub use command_line::CommandLine;
 pub use ending::Ending;
 pub use ending_text::EndingText;

@@ -1,9 +1,11 @@
 // The program over the devices of its process.
-ghost use Rattle.std.specs.Prelude.{◌≤◌};
+ghost use Rattle.std.specs.Prelude.{◌≡◌, ◌≤◌, Some};
 ghost use Rattle.std.specs.Process.{exit_status};
+ghost use Rattle.jf_words.specs.Modes.{mode_asked_for};
+ghost use Rattle.jf_words.specs.declared.modes.Mode.TheVariants as mode;
 
 use crate::asked::Asked;
-use crate::checking::{asks_check, check_over, files_at};
+use crate::checking::{check_over, seen_at};
 use crate::command_line::CommandLine;
 use crate::ending::Ending;
 use crate::ending_text::EndingText;
@@ -13,6 +15,7 @@ use crate::place::disk_at;
 use jf_folder::AnyDisk;
 use jf_io::{StdSink, StdSource};
 use jf_join::FreeGate;
+use jf_run::asks_check;
 use jf_run::run_words::run_words;
 use jf_run::status::{Ended, Status};
 use std::fs::File;
@@ -72,29 +75,41 @@ fn run_asked<R: Runtime + Files<File = File> + AllocGlobal + Threads + Wait + Sy
     }
 }
 
-// Opens the disk that the command line names, and runs its words over it; or checks its files.
+// Runs the words of a command line over the disk that it names, or over what its files hold, if the words ask for a check.
 fn run_line<R: Runtime + Files<File = File> + AllocGlobal + Threads + Wait + Sync>(
     rt: &R,
     line: &CommandLine,
 ) -> Ending {
-    if asks_check(&line.words) {
-        return check_line(rt, line.folder.as_str());
+    match asks_check(rt.alloc(), &line.words) {
+        Ok(true) => check_line(rt, line),
+        Ok(false) => open_line(rt, line),
+        Err(_) => Ending::of_status(Status::Memory),
     }
+}
+
+// Opens the disk that the command line names, and runs its words over it.
+fn open_line<R: Runtime + Files<File = File> + AllocGlobal + Threads + Wait + Sync>(
+    rt: &R,
+    line: &CommandLine,
+) -> Ending {
     match disk_at(rt, rt.alloc(), line.folder.as_str()) {
         Ok(disk) => run_over(rt, &line.words, disk),
         Err(why) => Ending::of_refusal(why),
     }
 }
 
-// Checks the files that the command line names, and tells of them on standard output.
-fn check_line<R: Runtime + Files<File = File> + AllocGlobal + Threads + Sync>(
+// Reads the files that the command line names, and tells of them on standard output.
+fn check_line<R: Runtime + Files<File = File> + AllocGlobal + Threads + Wait + Sync>(
     rt: &R,
-    folder: &str,
-) -> Ending {
-    match files_at(rt, rt.alloc(), folder) {
-        Ok(files) => {
+    line: &CommandLine,
+) -> Ending
+    requires { mode_asked_for line.now.words.items ≡ Some mode.Check }
+{
+    match seen_at(rt, rt.alloc(), line.folder.as_str()) {
+        Ok(seen) => {
+            let mut source = StdSource::new(rt.reader());
             let mut sink = StdSink::new(io::writer(rt));
-            check_over(rt, rt.alloc(), files, &mut sink)
+            check_over(rt, rt.alloc(), &line.words, &mut source, &mut sink, seen)
         }
         Err(why) => Ending::of_refusal(why),
     }

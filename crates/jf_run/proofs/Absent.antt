@@ -111,6 +111,7 @@ absent_keeps c mode.Verify all_sound none_stand start none asks unlike is found 
 absent_keeps c (mode.Generate seed batches size n) all_sound none_stand start none asks unlike is found untouched = absurd (unlike tt)
 absent_keeps c (mode.Restore version announced n) all_sound none_stand start none asks unlike is found untouched = absurd (unlike tt)
 absent_keeps c mode.Trim all_sound none_stand start none asks unlike is found untouched = absurd (unlike tt)
+absent_keeps c mode.Check all_sound none_stand start none asks unlike is found untouched = absurd (unlike tt)
 absent_keeps c (mode.History version) all_sound none_stand start none asks unlike is found untouched = absurd (unlike tt)
 absent_keeps c (mode.Many version) all_sound none_stand start none asks unlike is found untouched = absurd (unlike tt)
 absent_keeps c (mode.Judge announced name) all_sound none_stand start none asks unlike is found untouched = absurd (unlike tt)

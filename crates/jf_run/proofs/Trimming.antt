@@ -22,7 +22,7 @@ use Rattle.jf_trim.specs.declared.trimmed.Trimmed.{Trimmed}
 use Rattle.jf_engine.specs.Engines.{Engine, IsSettledOn}
 use Rattle.jf_engine.specs.Faults.{of_pair}
 use Rattle.jf_engine.specs.Openings.{OnHistories}
-use Rattle.jf_engine.specs.declared.fault.OpenFault.TheVariants as open_fault
+use Rattle.jf_engine.proofs.Opened.{of_pair_fault, of_pair_damage}
 use Rattle.jf_words.specs.declared.modes.Mode.TheVariants as mode
 use Rattle.jf_run.specs.Statuses.{status_of_refusal}
 use Rattle.jf_run.specs.Calls.{ProgramCall, engine_disk}
@@ -100,29 +100,19 @@ line_told t s text text' faults faults' told silent write counts = record { told
 pub untrimmed_told : (why : PairFault) (text : Option (List ℕ)) (faults : ℕ) → IsTold (Err why) (status_of_refusal (of_pair why)) text text faults faults
 untrimmed_told why text faults = record { told = (refl, refl); silent = λ done write. refl; write = λ e. absurd (refused_write (of_pair why) e); counts = le_refl faults }
 
-fault_of_pair : (why : PairFault) → of_pair why ≡ open_fault.DiskFault → why ≡ pair_fault.DiskFault
-fault_of_pair pair_fault.DiskFault e = refl
-fault_of_pair (pair_fault.Damaged side at) e = absurd (cc)
-fault_of_pair pair_fault.Memory e = absurd (cc)
-
-damage_of_pair : (why : PairFault) (side : Side) (at : ℕ) → of_pair why ≡ open_fault.Damaged side at → why ≡ pair_fault.Damaged side at
-damage_of_pair pair_fault.DiskFault side at e = absurd (cc)
-damage_of_pair (pair_fault.Damaged side' at') side at e = cc
-damage_of_pair pair_fault.Memory side at e = absurd (cc)
-
 -- a fault of the disk is told only if a call on it failed
 fault_told : (how : How) (s : Status) → EndsSo how s → s ≡ status.DiskFault → how ≡ Err pair_fault.DiskFault
 fault_told how s (inl is) e = absurd (cc)
 fault_told how s (inr (inl is)) e = absurd (cc)
 fault_told how s (inr (inr (inl is))) e = absurd (cc)
-fault_told how s (inr (inr (inr w))) e = w.1 ∙ ap (λ x. Err x) (fault_of_pair w.0 (refused_disk (of_pair w.0) (sym w.2 ∙ e)))
+fault_told how s (inr (inr (inr w))) e = w.1 ∙ ap (λ x. Err x) (of_pair_fault w.0 (refused_disk (of_pair w.0) (sym w.2 ∙ e)))
 
 -- damage is told only where it was found
 found_damage : (how : How) (s : Status) → EndsSo how s → (side : Side) (at : ℕ) → s ≡ status.Damaged side at → how ≡ Err (pair_fault.Damaged side at)
 found_damage how s (inl is) side at e = absurd (cc)
 found_damage how s (inr (inl is)) side at e = absurd (cc)
 found_damage how s (inr (inr (inl is))) side at e = absurd (cc)
-found_damage how s (inr (inr (inr w))) side at e = w.1 ∙ ap (λ x. Err x) (damage_of_pair w.0 side at (damage_told (of_pair w.0) side at (sym w.2 ∙ e)))
+found_damage how s (inr (inr (inr w))) side at e = w.1 ∙ ap (λ x. Err x) (of_pair_damage w.0 side at (damage_told (of_pair w.0) side at (sym w.2 ∙ e)))
 
 -- without a fault of a device, and without damage, all was done or memory ran out
 ended_well : (how : How) (s : Status) → EndsSo how s → (s ≡ status.WriteFault → ⊥) → (s ≡ status.DiskFault → ⊥) → ((side : Side) (at : ℕ) → s ≡ status.Damaged side at → ⊥) → IsDoneOrMemory s

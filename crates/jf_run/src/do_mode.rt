@@ -94,6 +94,7 @@ pub(crate) fn do_mode<S: Source, K: Sink, D: Disk, H: Threads + Wait + Sync, G: 
             workers: _,
         } => restore_over(alloc, engine, version, root, source, sink),
         Mode::Trim => trim_over(alloc, engine, sink),
+        Mode::Check => unreachable!(),
         Mode::History { version } => history_over(alloc, engine, version, sink),
         Mode::Many { version } => many_over(alloc, engine, version, source, sink),
         Mode::Judge { .. } => unreachable!(),

@@ -51,7 +51,7 @@ pub(crate) fn find_store<D: Disk, H: Threads + Sync>(
     ensures whole { IfOk result (λ e. e.broken ≡ false) }
     ensures start { IfErr result (λ ended. ended.start ≡ None) }
     ensures refused { IfErr result (λ ended. (devices : Devices)
-        → KeepsPromises (program_call (Some mode.now) (with_disk (disk_of D.Disk disk) devices) (with_disk (disk_of D.Disk ended.disk) devices) ended.status ended.entries ended.start)) }
+        → KeepsPromises (program_call (Some mode.now) (D.missing disk) (with_disk (disk_of D.Disk disk) devices) (with_disk (disk_of D.Disk ended.disk) devices) ended.status ended.entries ended.start)) }
 {
     damage_is_no_versions();
     files_stand_for_sound();

@@ -2,6 +2,7 @@
 //! such a call promises.
 #![tactic(auto)]
 
+mod check_over;
 mod do_mode;
 mod existing;
 mod follow_over;
@@ -24,5 +25,5 @@ mod trim_over;
 pub use jf_ask::LookupFault;
 pub use jf_follow::{FollowFault, FollowRefused};
 pub use jf_receive::RestoreFault;
-pub use jf_words::Mode;
+pub use jf_words::{Mode, asks_check};
 pub use laws::{led_calls_are_followed, led_files_are_followed};

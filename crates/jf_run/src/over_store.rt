@@ -38,7 +38,7 @@ pub(crate) fn over_store<S: Source, K: Sink, D: Disk, H: Threads + Wait + Sync, 
     requires limits { KeepsLimits mode }
     ensures untouched { LeavesUntouched (shape_of mode) result.status source.old source.new sink.old sink.new }
     ensures silent { IfNone result.start ((source.new ≡ source.old) × (sink.new ≡ sink.old)) }
-    ensures kept { KeepsPromises (program_call (Some mode) (shown_devices S.Source K.Sink source.old sink.old (disk_of D.Disk disk)) (shown_devices S.Source K.Sink source.new sink.new (disk_of D.Disk result.disk)) result.status result.entries result.start) }
+    ensures kept { KeepsPromises (program_call (Some mode) (D.missing disk) (shown_devices S.Source K.Sink source.old sink.old (disk_of D.Disk disk)) (shown_devices S.Source K.Sink source.new sink.new (disk_of D.Disk result.disk)) result.status result.entries result.start) }
 {
     know_dated(&disk);
     let engine = match open_for(rt, alloc, &mode, disk) {
@@ -74,7 +74,7 @@ fn open_for<D: Disk, H: Threads + Sync>(
     ensures whole { IfOk result (λ e. e.broken ≡ false) }
     ensures start { IfErr result (λ ended. ended.start ≡ None) }
     ensures refused { IfErr result (λ ended. (devices : Devices)
-        → KeepsPromises (program_call (Some mode.now) (with_disk (disk_of D.Disk disk) devices) (with_disk (disk_of D.Disk ended.disk) devices) ended.status ended.entries ended.start)) }
+        → KeepsPromises (program_call (Some mode.now) (D.missing disk) (with_disk (disk_of D.Disk disk) devices) (with_disk (disk_of D.Disk ended.disk) devices) ended.status ended.entries ended.start)) }
 {
     if may_begin(mode) {
         return open_store(rt, alloc, mode, disk);
@@ -96,7 +96,7 @@ fn open_store<D: Disk, H: Threads + Sync>(
     ensures whole { IfOk result (λ e. e.broken ≡ false) }
     ensures start { IfErr result (λ ended. ended.start ≡ None) }
     ensures refused { IfErr result (λ ended. (devices : Devices)
-        → KeepsPromises (program_call (Some mode.now) (with_disk (disk_of D.Disk disk) devices) (with_disk (disk_of D.Disk ended.disk) devices) ended.status ended.entries ended.start)) }
+        → KeepsPromises (program_call (Some mode.now) (D.missing disk) (with_disk (disk_of D.Disk disk) devices) (with_disk (disk_of D.Disk ended.disk) devices) ended.status ended.entries ended.start)) }
 {
     damage_is_no_versions();
     files_stand_for_sound();

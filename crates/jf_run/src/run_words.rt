@@ -6,6 +6,7 @@ ghost use Rattle.jf_run.specs.Calls.{disk_of, program_call, shown_devices};
 ghost use Rattle.jf_run.specs.Promises.{KeepsPromises};
 ghost use Rattle.jf_run.specs.Statuses.{is_input_fault};
 
+use crate::check_over::check_over;
 use crate::judge_name::judge_name;
 use crate::judging::judge_input;
 use crate::over_store::over_store;
@@ -50,6 +51,8 @@ use std::thread::Threads;
 ///   disk.
 /// - `judge ROOT NAME` reads the reply to one `prove` from the source, to its end, and writes what it shows of the name under the
 ///   root, as one line: `value =VALUE`, `none` or `refused N`. No call is made on the disk.
+/// - `check` tells what the disk's two files show, each by itself and both together, with no store opened over them. It reads no
+///   input, and makes at most four calls on the disk, which read.
 /// - For other words the call returns `Usage`, or `Memory` if memory runs out. No device is touched.
 ///
 /// A mode that writes nothing before the end of its input, as `serve`, `follow`, `many` and `judge`, makes no call on the
@@ -83,6 +86,8 @@ use std::thread::Threads;
 /// - If the names of an input were to be looked up (`IsManyCall`), there are no entries, the disk shows what the opening
 ///   left, and the text is that of the versions, the number and the input. `Outside` comes exactly if the version
 ///   isn't from the floor to the head; after it, a line that is no name or is the 10,001st is refused by its number.
+/// - If the files were to be told of (`IsCheckedCall`), the text is that of the bytes that a read of the disk gives, and the status
+///   that of what they stand for: `Done`, or `Damaged` with the first place of damage. Nothing is changed.
 /// - If no store was opened (`IsClosedCall`), there are no entries and the files are unchanged. One exception: a call
 ///   that ends with `DiskFault` may have begun files without a record, which still stand for a new store. `resume` with a root
 ///   that no new store has does not begin them either way.
@@ -97,8 +102,8 @@ pub fn run_words<S: Source, K: Sink, D: Disk, H: Threads + Wait + Sync, G: Gate>
     disk: D,
     gate: &G,
 ) -> Ended<D>
-    // Words that open no store leave the disk as it is.
-    ensures untouched { IsFalse (asked_shape (mode_asked_for words.now)).opens → result.disk ≡ disk }
+    // Words for which no call is made on the disk leave it as it is.
+    ensures untouched { IsFalse (asked_shape (mode_asked_for words.now)).calls → result.disk ≡ disk }
     // Words that read no input leave the source as it is.
     ensures unread { (asked_shape (mode_asked_for words.now)).reading ≡ NoInput → source.new ≡ source.old }
     // If the mode needs a store and none was opened, nothing is read or written.
@@ -112,7 +117,7 @@ pub fn run_words<S: Source, K: Sink, D: Disk, H: Threads + Wait + Sync, G: Gate>
     // If the store isn't the one whose root was given, nothing is read or written.
     ensures elsewhere { (head : ℕ) (root : List ℕ) → result.status ≡ Status.Elsewhere head root → (source.new ≡ source.old) × (sink.new ≡ sink.old) }
     // The disk, the output and the status are what the mode of the words promises.
-    ensures kept { KeepsPromises (program_call (mode_asked_for words.now) (shown_devices S.Source K.Sink source.old sink.old (disk_of D.Disk disk)) (shown_devices S.Source K.Sink source.new sink.new (disk_of D.Disk result.disk)) result.status result.entries result.start) }
+    ensures kept { KeepsPromises (program_call (mode_asked_for words.now) (D.missing disk) (shown_devices S.Source K.Sink source.old sink.old (disk_of D.Disk disk)) (shown_devices S.Source K.Sink source.new sink.new (disk_of D.Disk result.disk)) result.status result.entries result.start) }
 {
     files_stand_for_sound();
     let mode = match mode_of(alloc, words) {
@@ -129,6 +134,7 @@ pub fn run_words<S: Source, K: Sink, D: Disk, H: Threads + Wait + Sync, G: Gate>
             let status = judge_name(alloc, &root, name.as_slice(), source, sink);
             Ended::without_store(alloc, status, disk)
         }
+        Mode::Check => check_over(rt, alloc, sink, disk),
         _ => over_store(rt, alloc, mode, source, sink, disk, gate),
     }
 }

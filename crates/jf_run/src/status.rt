@@ -2,9 +2,10 @@
 ghost use Rattle.std.specs.Prelude.{◌≡◌, [], None};
 ghost use Rattle.std.specs.List.{list_any};
 ghost use Rattle.jf_serve.specs.Served.{ran_out_of_memory};
-ghost use Rattle.jf_run.specs.Statuses.{code_of, is_stopped_by_disk, status_of, status_of_ends, status_of_followed, status_of_history, status_of_input_fault, status_of_judged, status_of_led, status_of_names, status_of_received, status_of_refusal, status_of_served, status_of_verified};
+ghost use Rattle.jf_run.specs.Statuses.{code_of, is_stopped_by_disk, status_of, status_of_check, status_of_ends, status_of_followed, status_of_history, status_of_input_fault, status_of_judged, status_of_led, status_of_names, status_of_received, status_of_refusal, status_of_served, status_of_verified};
 
 use jf_ask::LookupFault;
+use jf_check::{StoreCheck, Unchecked};
 use jf_disk::Side;
 use jf_engine::{EngineMemory, OpenFault};
 use jf_follow::{FollowRefused, Followed};
@@ -121,6 +122,20 @@ impl Status {
             Judged::ReadFault => Status::ReadFault,
             Judged::WriteFault => Status::WriteFault,
             Judged::Memory => Status::Memory,
+        }
+    }
+
+    /// The status after what the files show was to be told.
+    pub fn of_check(told: Result<StoreCheck, Unchecked>) -> Status
+        // The status that stands for this result.
+        ensures { result ≡ status_of_check told }
+    {
+        match told {
+            Ok(StoreCheck::Damaged { side, offset }) => Status::Damaged { side, offset },
+            Ok(StoreCheck::Sound { .. }) => Status::Done,
+            Err(Unchecked::DiskFault) => Status::DiskFault,
+            Err(Unchecked::WriteFault) => Status::WriteFault,
+            Err(Unchecked::Memory) => Status::Memory,
         }
     }
 

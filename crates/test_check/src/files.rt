@@ -3,7 +3,8 @@ use crate::parts::{
     BEHIND, CHECKPOINT, CLOSED, FLOOR, FLOOR_ABOVE, FORMAT_ONE, LANDING, LANDINGS, OTHER_KIND,
     SECOND, SHORT, SHORT_LATER, WRONG_ROOT,
 };
-use jf_check::{StoreCheck, Unchecked, check_files};
+use jf_check::{StoreCheck, Unchecked, check_disk, check_files};
+use jf_folder::{AnyDisk, FolderBytes};
 use jf_io::MemSink;
 use jf_join::Workers;
 use std::alloc::Global;
@@ -157,6 +158,19 @@ fn check<H: Threads + Sync>(
     Ok(check_files(rt, alloc, a, b, Workers::ONE, sink))
 }
 
+// Checks a disk that shows two files, into a sink.
+fn check_seen<H: Threads + Sync>(
+    rt: &H,
+    alloc: Global,
+    row: &Row,
+    sink: &mut MemSink,
+) -> Result<Result<StoreCheck, Unchecked>, Fail> {
+    let (a, b) = (bytes_of(alloc, row.0)?, bytes_of(alloc, row.1)?);
+    let disk = AnyDisk::seen(alloc, FolderBytes { a, b }, 4)?;
+    let mut disk = Box::new(alloc, disk)?;
+    Ok(check_disk(rt, alloc, &mut *disk, Workers::ONE, sink))
+}
+
 fn sink_of(alloc: Global, room: u64) -> Result<Box<MemSink>, Fail> {
     let sink = MemSink::new(alloc, 80, room, Vec::new(alloc))?;
     Ok(Box::new(alloc, sink)?)
@@ -187,6 +201,25 @@ fn sound_files_are_told_of(rt: HostRuntime) -> Result<(), Fail> {
 fn damaged_files_are_told_of(rt: HostRuntime) -> Result<(), Fail> {
     for row in DAMAGED {
         assert!(rt; are_shown(&rt, rt.alloc(), row, false)?, "of {}", row.2);
+    }
+    Ok(())
+}
+
+// Whether a disk that shows two files is told of as these are.
+fn is_told_of<H: Threads + Sync>(rt: &H, alloc: Global, row: &Row) -> Result<bool, Fail> {
+    let mut sinks = (sink_of(alloc, 500)?, sink_of(alloc, 500)?);
+    let of_files = check(rt, alloc, row, &mut sinks.0)?;
+    let of_disk = check_seen(rt, alloc, row, &mut sinks.1)?;
+    Ok(of_files == of_disk && sinks.0.text() == sinks.1.text())
+}
+
+#[test]
+fn a_disk_is_told_of_as_its_files(rt: HostRuntime) -> Result<(), Fail> {
+    for row in SOUND {
+        assert!(rt; is_told_of(&rt, rt.alloc(), row)?, "of {}", row.2);
+    }
+    for row in DAMAGED {
+        assert!(rt; is_told_of(&rt, rt.alloc(), row)?, "of {}", row.2);
     }
     Ok(())
 }

@@ -1,7 +1,9 @@
-//! Tests of the top call in the modes `generate` and `verify`, and of what a fault makes of `generate` and of `restore`: of the
+//! Tests of the top call in the modes `generate`, `verify` and `check`, and of what a fault makes of `generate` and of `restore`: of the
 //! disk, of the source and of the sink.
 #![tactic(auto)]
 
+#[cfg(test)]
+mod checking;
 #[cfg(test)]
 mod disk_faults;
 #[cfg(test)]

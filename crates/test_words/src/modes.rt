@@ -1,11 +1,11 @@
-// Lists of words for the modes that take a number, a root or a name, and for `trim`: what they ask for, and how their runs
+// Lists of words for the modes that take a number, a root or a name, for `trim` and for `check`: what they ask for, and how their runs
 // over an empty disk and an empty input end.
 use crate::words::{end_of, line_touches_nothing};
 use jf_hash::Hash;
 use jf_join::Workers;
 use jf_play::play::words_of;
 use jf_run::status::Status;
-use jf_words::{Mode, mode_of};
+use jf_words::{Mode, asks_check, mode_of};
 use std::alloc::Global;
 use std::sync::Wait;
 use std::test::Fail;
@@ -22,6 +22,7 @@ enum Asked {
     Generate(u64, u64, u64, u64),
     Restore(u64, u64),
     Trim,
+    Check,
     History(u64),
     Many(u64),
     // The name is `a`.
@@ -71,6 +72,15 @@ const ROWS: &[(&str, Asked)] = &[
     ("trim --workers 7", Asked::Nothing),
     ("trim --workers=7", Asked::Nothing),
     ("Trim", Asked::Nothing),
+    ("check", Asked::Check),
+    ("check --", Asked::Check),
+    ("check 1", Asked::Nothing),
+    ("check -- 1", Asked::Nothing),
+    ("check -- --", Asked::Nothing),
+    ("check ", Asked::Nothing),
+    ("check --workers 2", Asked::Nothing),
+    ("check --workers=2", Asked::Nothing),
+    ("Check", Asked::Nothing),
     ("history 0", Asked::History(0)),
     ("history 1", Asked::History(1)),
     ("history -- 1", Asked::History(1)),
@@ -154,6 +164,7 @@ fn is_asked(mode: &Mode, asked: &Asked) -> bool {
             Asked::Restore(number, count),
         ) => version == number && has_root(root, *workers, *count),
         (Mode::Trim, Asked::Trim) => true,
+        (Mode::Check, Asked::Check) => true,
         (Mode::History { version }, Asked::History(number)) => version == number,
         (Mode::Many { version }, Asked::Many(number)) => version == number,
         (Mode::Judge { root, name }, Asked::Judge) => *root == ROOT
@@ -175,7 +186,7 @@ fn are_asked(found: &Option<Mode>, asked: &Asked) -> bool {
 fn is_end(status: Status, asked: &Asked) -> bool {
     match asked {
         Asked::Nothing => status == Status::Usage,
-        Asked::Generate(..) | Asked::Trim | Asked::History(0) | Asked::Many(0) => {
+        Asked::Generate(..) | Asked::Trim | Asked::Check | Asked::History(0) | Asked::Many(0) => {
             status == Status::Done
         }
         Asked::History(_) | Asked::Many(_) => status == Status::Outside { least: 0, head: 0 },
@@ -193,7 +204,8 @@ fn is_taken<H: Threads + Wait + Sync>(
 ) -> Result<bool, Fail> {
     let words = words_of(alloc, row.0)?;
     let found = mode_of(alloc, &words)?;
-    Ok(are_asked(&found, &row.1) && is_end(end_of(rt, alloc, &words)?, &row.1))
+    let is_check = asks_check(alloc, &words)? == matches!(row.1, Asked::Check);
+    Ok(is_check && are_asked(&found, &row.1) && is_end(end_of(rt, alloc, &words)?, &row.1))
 }
 
 #[test]

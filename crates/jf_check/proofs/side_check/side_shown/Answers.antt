@@ -17,4 +17,4 @@ pub returns-in-Err-Damaged-clause-unchanged : goal.returns-in-Err-Damaged-clause
 returns-in-Err-Damaged-clause-unchanged c = still_now (history_of c.args.disk.now) (history_of c.read_all.new.disk) (c.in-Err-Damaged.ensures.idle (history_of c.args.disk.now) refl)
 
 pub returns-in-Err-DiskFault : goal.returns-in-Err-DiskFault
-returns-in-Err-DiskFault c = record { shown = tt; same = still_now (history_of c.args.disk.now) (history_of c.read_all.new.disk) (c.read_all.ensures.idle (history_of c.args.disk.now) refl) }
+returns-in-Err-DiskFault c = record { shown = tt; unchanged = still_now (history_of c.args.disk.now) (history_of c.read_all.new.disk) (c.read_all.ensures.idle (history_of c.args.disk.now) refl) }

@@ -12,7 +12,7 @@ use Rattle.jf_run.proofs.do_mode.do_mode.Goals as goal
 
 -- ---- run
 pub returns-in-Run-clause-kept : goal.returns-in-Run-clause-kept
-returns-in-Run-clause-kept g c = completes_as _ _ _ _ _ _ _ c.in-Run.is (λ before head begun dated held.
+returns-in-Run-clause-kept g c = completes_as _ _ _ _ _ _ _ c.in-Run.is (λ missing before head begun dated held.
     let e = c.args.engine in
     let done = c.script_over.ensures in
     let ran = done.ran.1 in
@@ -65,7 +65,7 @@ returns-in-Serve-clause-elsewhere g c = λ head root ends. absurd (c.serve_over.
 
 -- ---- lead
 pub returns-in-Lead-clause-kept : goal.returns-in-Lead-clause-kept
-returns-in-Lead-clause-kept g c = completes_as _ _ _ _ _ _ _ c.in-Lead.is (λ before head begun dated held.
+returns-in-Lead-clause-kept g c = completes_as _ _ _ _ _ _ _ c.in-Lead.is (λ missing before head begun dated held.
     let e = c.args.engine in
     let done = c.script_over-in-Lead.ensures in
     let led = done.ran.1 in
@@ -108,7 +108,7 @@ pub new-lines-requires-clause-size : goal.new-lines-requires-clause-size
 new-lines-requires-clause-size g c = (subst KeepsLimits c.in-Generate.is c.requires.limits).1
 
 pub returns-in-Generate-clause-kept : goal.returns-in-Generate-clause-kept
-returns-in-Generate-clause-kept g c = completes_as _ _ _ _ _ _ _ c.in-Generate.is (λ before head begun dated held.
+returns-in-Generate-clause-kept g c = completes_as _ _ _ _ _ _ _ c.in-Generate.is (λ missing before head begun dated held.
     let e = c.args.engine in
     let s = state_when_opened e.versions e.generation in
     let step = c.script_over-in-Generate in

@@ -8,12 +8,12 @@ pub returns : goal.returns
 returns g c = record {
   resting = c.of_engine.ensures.resting;
   here = λ head root ends. history_here c.write_history-written.result head root (sym (c.of_engine.ensures.status ∙ c.of_history.ensures) ∙ ends);
-  kept = λ rest source_faults before head begun dated held.
+  kept = λ rest source_faults missing before head begun dated held.
       let e = c.args.engine in
       let known = c.know.ensures in
       let out = c.of_engine.ensures in
       let told = c.write_history-written.ensures in
       history_keeps _ c.args.version head (state_when_opened e.versions e.generation) c.write_history-written.result
-      (read_only _ head e known.sound known.dated (λ h is. known.settled h is c.requires.whole) begun c.files_stand_for_one.ensures out.disk (out.entries ∙ c.new.ensures)) c.damage_is_no_versions.ensures refl refl
-      (out.status ∙ c.of_history.ensures) told.written refl refl told.write told.sink_counts;
+      (read_only _ head e known.sound known.dated (λ h is. known.settled h is c.requires.whole) begun c.files_stand_for_one.ensures out.resting (out.entries ∙ c.new.ensures)) c.damage_is_no_versions.ensures refl refl
+      (out.status ∙ c.of_history.ensures) told.written refl refl told.cause told.counts;
 }

@@ -22,13 +22,13 @@ pub returns-clause-here : goal.returns-clause-here
 returns-clause-here g c = λ head root ends. names_here c.answer_names-answered.result head root (sym (c.of_engine.ensures.status ∙ c.of_names.ensures) ∙ ends)
 
 pub returns-clause-kept : goal.returns-clause-kept
-returns-clause-kept g c = λ before head begun dated held.
+returns-clause-kept g c = λ missing before head begun dated held.
     let e = c.args.engine in
     let known = c.know.ensures in
     let out = c.of_engine.ensures in
     let told = c.answer_names-answered.ensures in
     many_keeps _ c.args.version head (state_when_opened e.versions e.generation) c.answer_names-answered.result
-    (read_only _ head e known.sound known.dated (λ h is. known.settled h is c.requires.whole) begun c.files_stand_for_one.ensures out.disk (out.entries ∙ c.new.ensures)) c.damage_is_no_versions.ensures refl refl
+    (read_only _ head e known.sound known.dated (λ h is. known.settled h is c.requires.whole) begun c.files_stand_for_one.ensures out.resting (out.entries ∙ c.new.ensures)) c.damage_is_no_versions.ensures refl refl
     (out.status ∙ c.of_names.ensures) told.answered told.line
     (λ least greatest is. let same = told.untouched least greatest is in ap₂ (λ s k. shown_devices g.S.Source g.K.Sink s k (disk_of g.D.Disk c.of_engine.result.disk)) same.0 same.1)
     (λ at is. ap g.K.Sink.faults (told.silent at is)) told.read told.write told.counts.0 told.counts.1

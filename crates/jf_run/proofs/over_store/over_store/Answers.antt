@@ -15,7 +15,7 @@ returns-clause-kept g c =
     let before = disk_of g.D.Disk c.args.disk in
     let head = c.state-head.result.head in
     let begun : IsBegun s before (engine_disk e) head = subst (λ n. IsBegun s before (engine_disk e) n) (sym c.state-head.ensures.versions.2) c.in-Ok.ensures.begun in
-    c.do_mode-status.ensures.kept before head begun c.know_dated.ensures c.in-Ok.ensures.held
+    c.do_mode-status.ensures.kept (g.D.Disk.missing c.args.disk) before head begun c.know_dated.ensures c.in-Ok.ensures.held
 
 pub returns-in-Err-clause-untouched : goal.returns-in-Err-clause-untouched
 returns-in-Err-clause-untouched g c = all_untouched c.args.mode _ _ _

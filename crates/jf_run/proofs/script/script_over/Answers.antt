@@ -23,7 +23,7 @@ returns-in-Err-clause-ran g c =
     let text = g.K.Sink.text c.args.sink.now in
     let faults = g.K.Sink.faults c.args.sink.now in
     let out = c.of_engine.ensures in
-    let shown : disk_of g.D.Disk c.of_engine.result.disk ≡ engine_disk e = out.disk ∙ ap engine_disk c.in-Err.ensures.engine in (
+    let shown : disk_of g.D.Disk c.of_engine.result.disk ≡ engine_disk e = out.resting ∙ ap engine_disk c.in-Err.ensures.engine in (
       None,
       subst (λ (how : Status). HasDoneScript script how s (engine_disk e) (disk_of g.D.Disk c.of_engine.result.disk) c.of_engine.result.entries None rest rest text text faults faults) (sym out.status)
           (subst (λ (d : DiskView). HasDoneScript script status.Memory s (engine_disk e) d c.of_engine.result.entries None rest rest text text faults faults) (sym shown)
@@ -68,7 +68,7 @@ returns-clause-ran g c =
     let out = c.of_engine-2.ensures in (
       attempt_of p.seen,
       subst (λ (h : Status). HasDoneScript script h s (engine_disk e) (disk_of g.D.Disk c.of_engine-2.result.disk) c.of_engine-2.result.entries (attempt_of p.seen) rest rest' text text' faults faults') (sym out.status)
-          (subst (λ (d : DiskView). HasDoneScript script how s (engine_disk e) d c.of_engine-2.result.entries (attempt_of p.seen) rest rest' text text' faults faults') (sym out.disk)
+          (subst (λ (d : DiskView). HasDoneScript script how s (engine_disk e) d c.of_engine-2.result.entries (attempt_of p.seen) rest rest' text text' faults faults') (sym out.resting)
           (subst (λ (xs : List Entry). HasDoneScript script how s (engine_disk e) (engine_disk last) xs (attempt_of p.seen) rest rest' text text' faults faults') (sym out.entries)
           (closed_script script e last store p es how rest rest' text text' faults faults' c.one_pass_closes.ensures c.one_run_is_alone.ensures c.one_lead_tells_all.ensures c.one_script_is_alone.ensures c.floor_spares_pins.ensures c.entry_spares_pins.ensures
           c.in-Ok.ensures.start (c.do_lines-pass.ensures.own.1 ∙ ap (λ (q : Pass). q.number) first.1) closed

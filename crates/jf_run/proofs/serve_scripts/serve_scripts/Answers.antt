@@ -28,7 +28,7 @@ returns-in-Err-clause-served g c =
     let old = engine_disk e in
     let out = c.of_engine.ensures in
     let none = out.entries ∙ c.new-in-Err.ensures in
-    let shown : disk_of g.D.Disk c.of_engine.result.disk ≡ old = out.disk ∙ ap engine_disk c.in-Err.ensures.engine in (
+    let shown : disk_of g.D.Disk c.of_engine.result.disk ≡ old = out.resting ∙ ap engine_disk c.in-Err.ensures.engine in (
       None,
       subst (λ (d : DiskView). KeepsEntries s old d c.of_engine.result.entries None) (sym shown)
           (subst (λ (es : List Entry). KeepsEntries s old old es None) (sym none) (nothing_kept e c.know.ensures.sound c.know.ensures.dated (λ h told. c.know.ensures.settled h told c.requires.whole))),
@@ -71,7 +71,7 @@ returns-in-Err-serve-clause-served g c =
     let new : AreNewPasses store ps 0 = subst (λ (x : Store). AreNewPasses x ps 0) (sym back.0) (subst (λ (qs : List Pass). AreNewPasses c.in-Ok.made.0 qs 0) (sym items) c.in-Ok.ensures.passes.1) in (
       None,
       subst (λ (es : List Entry). KeepsEntries s old d es None) (sym none)
-          (unused_kept e c.close-engine.result.engine store ps c.close-engine.result.entries d (length c.args.scripts.now) begins many new c.close-engine.ensures out.disk),
+          (unused_kept e c.close-engine.result.engine store ps c.close-engine.result.entries d (length c.args.scripts.now) begins many new c.close-engine.ensures out.resting),
       inl (out.status, none, refl, refl),
     )
 
@@ -97,10 +97,10 @@ returns-clause-served g c =
     let said : served_text c.as_slice.result.now c.as_slice-2.result.now ≡ served_text r.outputs r.entries = ap₂ served_text c.as_slice.ensures c.as_slice-2.ensures in
     let told : c.of_engine-2.result.status ≡ status_of_served r.ends report = out.status ∙ c.of_served.ensures ∙ ap (λ (es : List End). status_of_served es report) c.as_slice-3.ensures in (
       served.attempt,
-      subst (λ (es : List Entry). KeepsEntries s old d es served.attempt) (sym out.entries) (served_kept e r.engine start scripts r.outputs r.ends r.entries d (length c.args.scripts.now) c.in-Ok.ensures.start served out.disk),
+      subst (λ (es : List Entry). KeepsEntries s old d es served.attempt) (sym out.entries) (served_kept e r.engine start scripts r.outputs r.ends r.entries d (length c.args.scripts.now) c.in-Ok.ensures.start served out.resting),
       inr (subst (λ (st : Status). HasServedScripts st s old d scripts c.of_engine-2.result.entries served.attempt text text' faults faults') (sym told)
           (subst (λ (es : List Entry). HasServedScripts (status_of_served r.ends report) s old d scripts es served.attempt text text' faults faults') (sym out.entries)
-          (served_scripts e r.engine start scripts r.outputs r.ends r.entries d report text text' faults faults' (length c.args.scripts.now) c.in-Ok.ensures.start served out.disk
+          (served_scripts e r.engine start scripts r.outputs r.ends r.entries d report text text' faults faults' (length c.args.scripts.now) c.in-Ok.ensures.start served out.resting
           (subst (λ (t : List ℕ). OnOk report (Appends text text' t)) said c.write_served-report.ensures.ok)
           (subst (λ (t : List ℕ). OnErr report (IsCutShort text text' t)) said c.write_served-report.ensures.front)
           c.write_served-report.ensures.cause))),

@@ -8,7 +8,7 @@ use Rattle.jf_run.proofs.trim_over.trim_over.Goals as goal
 use Rattle.jf_run.proofs.trim_over.trim_over.Goals.{in-Ok, in-Err}
 
 pub returns-clause-kept : goal.returns-clause-kept
-returns-clause-kept g c = λ rest source_faults before head begun dated held.
+returns-clause-kept g c = λ rest source_faults missing before head begun dated held.
     let e = c.args.engine in
     let text = g.K.Sink.text in
     let faults = g.K.Sink.faults in
@@ -20,7 +20,7 @@ returns-clause-kept g c = λ rest source_faults before head begun dated held.
           subst (λ k. IsTold c.trim.result c.match-trim.status (text old) (text k) (faults old) (faults k)) (sym w.sink-is)
           (subst (λ s. IsTold c.trim.result s (text old) (text w.tell_trimmed-status.new.sink) (faults old) (faults w.tell_trimmed-status.new.sink)) (sym w.status-is)
           (subst (λ how. IsTold how w.tell_trimmed-status.result (text old) (text w.tell_trimmed-status.new.sink) (faults old) (faults w.tell_trimmed-status.new.sink)) (sym w.in-Ok.is)
-          (line_told w.in-Ok.trimmed w.tell_trimmed-status.result (text old) (text w.tell_trimmed-status.new.sink) (faults old) (faults w.tell_trimmed-status.new.sink) told.told (λ e. ap faults (told.silent e)) told.write told.sink_counts)))
+          (line_told w.in-Ok.trimmed w.tell_trimmed-status.result (text old) (text w.tell_trimmed-status.new.sink) (faults old) (faults w.tell_trimmed-status.new.sink) told.told (λ e. ap faults (told.silent e)) told.cause told.counts)))
       | in-Err w ↦ subst (λ k. IsTold c.trim.result c.match-trim.status (text old) (text k) (faults old) (faults k)) (sym w.sink-is)
           (subst (λ s. IsTold c.trim.result s (text old) (text old) (faults old) (faults old)) (sym (w.status-is ∙ w.of_refusal-status.ensures ∙ ap status_of_refusal w.from.ensures))
           (subst (λ how. IsTold how (status_of_refusal (of_pair w.in-Err.why)) (text old) (text old) (faults old) (faults old)) (sym w.in-Err.is) (untrimmed_told w.in-Err.why (text old) (faults old))))
@@ -29,7 +29,7 @@ returns-clause-kept g c = λ rest source_faults before head begun dated held.
     let same = c.into_parts-disk.ensures in
     trimmed_keeps _ head e c.trim.result c.damage_is_no_versions.ensures c.files_stand_for_one.ensures c.kept_stores_stop_well.ensures c.know.ensures.sound begun (λ h told. c.know.ensures.settled h told c.requires.whole) refl refl c.new.ensures
     done.told (λ h told. t.kept h (same.history ∙ told)) (λ h told. t.trimmed h (same.history ∙ told)) (λ h side at told. t.damaged h side at (same.history ∙ told))
-    (λ h why told. t.unchanged h why (same.history ∙ told)) (subst (λ m. OnOk c.trim.result (g.D.Disk.faults c.trim.new.disk ≡ m)) same.faults t.calm)
+    (λ h why told. t.err h why (same.history ∙ told)) (subst (λ m. OnOk c.trim.result (g.D.Disk.faults c.trim.new.disk ≡ m)) same.faults t.calm)
     (record {
       untold = λ none. t.calls.untold (same.history ∙ none);
       later = subst (λ m. m ≤ g.D.Disk.moment c.trim.new.disk) same.moment t.calls.later;
