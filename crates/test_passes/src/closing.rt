@@ -3,8 +3,10 @@ ghost use Rattle.std.specs.Prelude.{◌≡◌, length};
 ghost use Rattle.jf_store.specs.Passes.{AreNewPasses, IsPassOf};
 ghost use Rattle.jf_store.specs.Closing.{AreAllPasses, ArePassesOf};
 
+use crate::beside::{ROUNDS, pins_beside_prunings};
 use crate::held::the_floor_is_held;
 use crate::shown::{head_is_shown, mark_is_met};
+use crate::writers::{are_all_put, both_put};
 use jf_disk::MemDisk;
 use jf_engine::Engine;
 use jf_engine_play::stores::store_on;
@@ -29,6 +31,8 @@ fn wide_engine<H: Threads + Sync>(
 // What is done by the two passes.
 #[derive(Clone, Copy)]
 pub(crate) enum Run {
+    Writers,
+    Beside,
     Held,
     Shown,
     Fault,
@@ -61,6 +65,8 @@ fn run_on<H: Threads + Wait + Sync>(
     ensures second { IsPassOf second.new store.now × (second.new.number ≡ second.old.number) }
 {
     match run {
+        Run::Writers => both_put(rt, alloc, store, first, second),
+        Run::Beside => pins_beside_prunings(rt, alloc, store, first, second),
         Run::Held => the_floor_is_held(rt, alloc, store, first, second),
         Run::Shown => head_is_shown(rt, alloc, store, first, second),
         Run::Fault => mark_is_met(rt, alloc, store, first, second),
@@ -90,6 +96,8 @@ fn has_come_to(closed: &Closed<MemDisk>, run: Run) -> bool {
     let state = closed.engine.state();
     let whole = !closed.engine.is_broken();
     match run {
+        Run::Writers => whole && are_all_put(closed),
+        Run::Beside => whole && state.head == ROUNDS as u64 && state.floor == state.head,
         Run::Held => whole && state.head == 3 && state.floor == 1,
         Run::Shown => whole && state.head == 2,
         Run::Fault => !whole && state.head == 1,

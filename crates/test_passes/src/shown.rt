@@ -1,12 +1,17 @@
-// What one pass sees of the head after a landing of the other, and after one at which the disk failed.
+// What one pass sees of the head without the turn: while a landing of the other is held, in another thread, after it has
+// returned, and after one at which the disk failed.
 ghost use Rattle.std.specs.Prelude.{◌≡◌};
+ghost use Rattle.std.specs.Thread.{IsSync};
 ghost use Rattle.jf_store.specs.Passes.{IsPassOf};
 
 use crate::closing::{Run, goes_well};
+use crate::signals::Signals;
 use crate::steps::put;
+use crate::threads::side_by_side;
 use jf_disk::MemDisk;
 use jf_store::{Pass, Store, StoreFault};
-use jf_store_play::passes::look;
+use jf_store_play::batches::batch_of;
+use jf_store_play::passes::{commit_gated, look};
 use std::alloc::Global;
 use std::sync::Wait;
 use std::test::Fail;
@@ -21,7 +26,68 @@ fn head_of<H: Wait>(rt: &H, store: &Store<MemDisk>, pass: &mut Pass<MemDisk>) ->
     Some(look.head.version())
 }
 
-// Whether the first pass finds each version after the second has landed it.
+// Looks once the landing of version 2 has begun. Returns whether it found version 1.
+fn look_once<H: Wait>(
+    rt: &H,
+    store: &Store<MemDisk>,
+    pass: &mut Pass<MemDisk>,
+    signals: &Signals,
+) -> bool
+    requires { IsPassOf pass.old store.now }
+    ensures { IsPassOf pass.new store.now × (pass.new.number ≡ pass.old.number) }
+{
+    let begun = signals.has_begun();
+    let found = head_of(rt, store, pass);
+    signals.tell_look();
+    begun && found == Some(1)
+}
+
+// Commits two bytes, in two pieces that are held until the other pass has looked. Returns whether it had.
+fn put_held<H: Threads + Wait + Sync>(
+    rt: &H,
+    alloc: Global,
+    store: &Store<MemDisk>,
+    pass: &mut Pass<MemDisk>,
+    signals: &Signals,
+) -> bool
+    requires { IsPassOf pass.old store.now }
+    ensures { IsPassOf pass.new store.now × (pass.new.number ≡ pass.old.number) }
+{
+    let Ok(batch) = batch_of(alloc, &[(b'a', Some(2)), (b'b', Some(2))]) else {
+        return false;
+    };
+    let landed = commit_gated(rt, alloc, store, pass, &batch, signals).is_ok();
+    landed && signals.has_looked()
+}
+
+// Whether the first pass finds version 1 while the second lands version 2.
+fn look_beside<H: Threads + Wait + Sync>(
+    rt: &H,
+    alloc: Global,
+    store: &Store<MemDisk>,
+    first: &mut Pass<MemDisk>,
+    second: &mut Pass<MemDisk>,
+) -> bool
+    requires first { IsPassOf first.old store.now }
+    requires second { IsPassOf second.old store.now }
+    ensures first { IsPassOf first.new store.now × (first.new.number ≡ first.old.number) }
+    ensures second { IsPassOf second.new store.now × (second.new.number ≡ second.old.number) }
+{
+    let made = Signals::new();
+    let signals = &made;
+    let looker = |store: &Store<MemDisk>, pass: &mut Pass<MemDisk>| -> bool
+        requires { IsPassOf pass.old store.now }
+        ensures { IsPassOf pass.new store.now × (pass.new.number ≡ pass.old.number) }
+    { look_once(rt, store, pass, signals) };
+    let lander = |store: &Store<MemDisk>, pass: &mut Pass<MemDisk>| -> bool
+        requires { IsSync H.row × IsPassOf pass.old store.now }
+        ensures { IsPassOf pass.new store.now × (pass.new.number ≡ pass.old.number) }
+    { put_held(rt, alloc, store, pass, signals) };
+    side_by_side(rt, store, first, second, &looker, &lander)
+}
+
+// Whether the first pass finds version 1 after the second has landed it, and while the second lands version 2, and this after
+// that.
 pub(crate) fn head_is_shown<H: Threads + Wait + Sync>(
     rt: &H,
     alloc: Global,
@@ -36,9 +102,9 @@ pub(crate) fn head_is_shown<H: Threads + Wait + Sync>(
 {
     let one = put(rt, alloc, store, second, b'a', 1).is_some();
     let before = head_of(rt, store, first);
-    let two = put(rt, alloc, store, second, b'a', 2).is_some();
+    let beside = look_beside(rt, alloc, store, first, second);
     let after = head_of(rt, store, first);
-    one && before == Some(1) && two && after == Some(2)
+    one && before == Some(1) && beside && after == Some(2)
 }
 
 // Whether the first pass finds version 1 after the second has landed it, and the mark after a landing at which the disk failed.
@@ -62,7 +128,7 @@ pub(crate) fn mark_is_met<H: Threads + Wait + Sync>(
 }
 
 #[test]
-fn a_look_after_a_landing_finds_it(rt: HostRuntime) -> Result<(), Fail> {
+fn a_look_waits_for_no_landing(rt: HostRuntime) -> Result<(), Fail> {
     goes_well(&rt, rt.alloc(), Run::Shown)
 }
 
