@@ -7,7 +7,7 @@ use crate::followed::FollowRefused;
 use crate::follower::Follower;
 use crate::taken::Taken;
 use jf_disk::Disk;
-use jf_input::LineMachine;
+use jf_input::{AtHand, LineMachine};
 use jf_join::{Gate, Workers};
 use jf_lead::{LandingBlock, LandingFault, LandingReader};
 use jf_model::{BatchNote, Entry, Landing};
@@ -50,7 +50,7 @@ pub(crate) struct LineFollower<T, F> {
     pub(crate) step: F,
 }
 
-impl<T: ShowsFollowing, F: Fn(&mut T, &[u8]) -> Result<(), FollowStop>> LineMachine
+impl<T: ShowsFollowing, F: Fn(Global, &mut T, &[u8]) -> Result<(), FollowStop>> LineMachine
     for LineFollower<T, F> {
     ghost use Rattle.std.specs.Prelude.{⊤};
     ghost use Rattle.jf_follow.specs.Lines.{MayFollow, TakesLandingLine, EndsLandingLines};
@@ -72,11 +72,11 @@ impl<T: ShowsFollowing, F: Fn(&mut T, &[u8]) -> Result<(), FollowStop>> LineMach
 
     fn take_line(
         &mut self,
-        _alloc: Global,
-        line: &[u8],
+        alloc: Global,
+        next: AtHand,
         _out: &mut Bytes,
     ) -> Result<(), FollowStop> {
-        (self.step)(&mut self.following, line)
+        (self.step)(alloc, &mut self.following, next.line)
     }
 
     fn take_end(&mut self, _alloc: Global, _out: &mut Bytes) -> Result<(), FollowStop> {

@@ -77,7 +77,7 @@ pub fn follow_stream<S: Source, K: Sink, D: Disk, H: Threads + Sync, G: Gate>(
         follower: Follower::new(engine),
         entries: Vec::new(alloc),
     };
-    let step = |following: &mut Following<D>, line: &[u8]| -> Result<(), FollowStop>
+    let step = |alloc: Global, following: &mut Following<D>, line: &[u8]| -> Result<(), FollowStop>
         requires { following.old.follower.broken ≡ false }
         ensures { DoesLandingLine (follow_state following.old.reader following.old.follower following.old.entries.items) line.now result (follow_state following.new.reader following.new.follower following.new.entries.items) }
     { follow_line(rt, alloc, following, line, workers, gate) };

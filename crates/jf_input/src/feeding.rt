@@ -7,7 +7,7 @@ ghost use Rattle.jf_io.specs.LineReader.{is_line_feed, IsShortened, IsFetched};
 ghost use Rattle.jf_io.specs.Sink.{IsCutShort};
 ghost use Rattle.jf_input.specs.Feeds.{given_of, max_gathered, IsQuietLine, Appends, HandsOn, Gathers, StopsGathering, EndsAfter, Fed};
 
-use crate::machine::LineMachine;
+use crate::machine::{AtHand, LineMachine};
 use jf_io::{FetchFault, IoFailed, LineReader, Sink, Source, put_all};
 use jf_path::Bytes;
 use jf_text::MAX_LINE;
@@ -70,7 +70,14 @@ pub fn feed<M: LineMachine, S: Source, K: Sink>(
             Err(FetchFault::Memory) => return Feeding::Memory,
         }
         let is_last = reader.is_last();
-        match feed_line(alloc, machine, sink, &mut out, reader.line()) {
+        match feed_line(
+            alloc,
+            machine,
+            sink,
+            &mut out,
+            reader.line(),
+            reader.after_line(),
+        ) {
             Ok(()) => {}
             Err(how) => return how,
         }
@@ -118,6 +125,7 @@ fn feed_line<M: LineMachine, K: Sink>(
     sink: &mut K,
     out: &mut Bytes,
     line: &[u8],
+    after: &[u8],
 ) -> Result<(), Feeding<M::Stop>>
     requires { M.ready machine.old }
     ensures ok { (whole : List ℕ) → line.now ≡ given_of whole → OnOk result ((t : List ℕ) × M.takes machine.old whole machine.new (Ok t) × Gathers M.quiet machine.old machine.new (K.text sink.old) (K.text sink.new) out.old out.new t) }
@@ -131,7 +139,7 @@ fn feed_line<M: LineMachine, K: Sink>(
     if hand_on_if(is_due, sink, out).is_err() {
         return Err(Feeding::WriteFault);
     }
-    match machine.take_line(alloc, line, out) {
+    match machine.take_line(alloc, AtHand { line, after }, out) {
         Ok(()) => Ok(()),
         Err(why) => {
             if hand_on(sink, out).is_err() {

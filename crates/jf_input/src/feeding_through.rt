@@ -6,7 +6,7 @@ ghost use Rattle.jf_input.specs.Feeds.{given_of, HandsOn, Gathers, EndsAfter};
 ghost use Rattle.jf_input.specs.FeedsThrough.{IsPutNext, GoesThrough};
 
 use crate::feeding::{Feeding, is_due_before, next_line};
-use crate::machine::LineMachine;
+use crate::machine::{AtHand, LineMachine};
 use jf_io::{FetchFault, LineReader, Sink, Source, put_all};
 use jf_path::Bytes;
 use jf_text::MAX_LINE;
@@ -66,7 +66,15 @@ pub fn feed_through<M: LineMachine, S: Source, K: Sink>(
             Err(FetchFault::Memory) => return FedThrough::new(Feeding::Memory, is_cut),
         }
         let is_last = reader.is_last();
-        match line_through(alloc, machine, sink, &mut out, &mut is_cut, reader.line()) {
+        match line_through(
+            alloc,
+            machine,
+            sink,
+            &mut out,
+            &mut is_cut,
+            reader.line(),
+            reader.after_line(),
+        ) {
             Ok(()) => {}
             Err(why) => return FedThrough::new(Feeding::Stopped(why), is_cut),
         }
@@ -89,6 +97,7 @@ fn line_through<M: LineMachine, K: Sink>(
     out: &mut Bytes,
     is_cut: &mut bool,
     line: &[u8],
+    after: &[u8],
 ) -> Result<(), M::Stop>
     requires { M.ready machine.old }
     ensures ok { OnOk result ((put : List ℕ) × IsPutNext is_cut.old is_cut.new (K.text sink.old) (K.text sink.new) put × ((whole : List ℕ) → line.now ≡ given_of whole → (t : List ℕ) × M.takes machine.old whole machine.new (Ok t) × Gathers M.quiet machine.old machine.new (Some []) (Some put) out.old out.new t)) }
@@ -100,7 +109,7 @@ fn line_through<M: LineMachine, K: Sink>(
 {
     let is_due = is_due_before(machine, out, line);
     put_through_if(is_due, sink, out, is_cut);
-    match machine.take_line(alloc, line, out) {
+    match machine.take_line(alloc, AtHand { line, after }, out) {
         Ok(()) => Ok(()),
         Err(why) => {
             put_through(sink, out, is_cut);

@@ -9,4 +9,4 @@ mod machine;
 
 pub use feeding::{Feeding, feed};
 pub use feeding_through::{FedThrough, feed_through};
-pub use machine::LineMachine;
+pub use machine::{AtHand, LineMachine};

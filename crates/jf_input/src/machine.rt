@@ -5,6 +5,15 @@ ghost use Rattle.jf_input.specs.Feeds.{given_of, IsQuietLine};
 use jf_path::Bytes;
 use std::alloc::Global;
 
+/// A line that is to be taken, and what is at hand of the input after it.
+#[derive(Clone, Copy)]
+pub struct AtHand<'a> {
+    /// The line, without the byte that ends it. Of a line of more than 8,500 bytes, the first 8,501.
+    pub line: &'a [u8],
+    /// What follows the line and the byte that ends it: further lines, and perhaps the front of one.
+    pub after: &'a [u8],
+}
+
 /// What takes the lines of an input one after another, and adds to a text at each of them.
 pub trait LineMachine {
     /// Why it stops before the end of the input.
@@ -27,14 +36,14 @@ pub trait LineMachine {
     fn is_quiet(&self, line: &[u8]) -> bool
         ensures { IsTrue result → IsQuietLine takes quiet self.now line.now };
 
-    /// Takes the next line, given without the byte that ends it, and appends what it adds. Of a line of more than 8,500
-    /// bytes it is given the first 8,501. If it stops, nothing is appended.
-    fn take_line(&mut self, alloc: Global, line: &[u8], out: &mut Bytes) -> Result<(), Self::Stop>
+    /// Takes the next line, and appends what it adds. What is at hand after it is for a machine that can do more lines at
+    /// once; what the line does and adds doesn't depend on it. If the machine stops, nothing is appended.
+    fn take_line(&mut self, alloc: Global, next: AtHand, out: &mut Bytes) -> Result<(), Self::Stop>
         requires { ready self.old }
-        ensures ok { OnOk result ((t : List ℕ) × (out.new ≡ out.old ++ t) × ((whole : List ℕ) → line.now ≡ given_of whole → takes self.old whole self.new (Ok t))) }
+        ensures ok { OnOk result ((t : List ℕ) × (out.new ≡ out.old ++ t) × ((whole : List ℕ) → next.entry.line.now ≡ given_of whole → takes self.old whole self.new (Ok t))) }
         ensures ready { OnOk result (ready self.new) }
         ensures silent { OnErr result (out.new ≡ out.old) }
-        ensures err { (whole : List ℕ) → line.now ≡ given_of whole → IfErr result (λ why. takes self.old whole self.new (Err why)) };
+        ensures err { (whole : List ℕ) → next.entry.line.now ≡ given_of whole → IfErr result (λ why. takes self.old whole self.new (Err why)) };
 
     /// Takes the end of the input, and appends what it adds.
     fn take_end(&mut self, alloc: Global, out: &mut Bytes) -> Result<(), Self::Stop>

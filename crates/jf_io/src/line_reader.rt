@@ -129,6 +129,14 @@ impl LineReader {
         }
     }
 
+    /// What is held after the first line and its line feed: further lines, and perhaps the front of one.
+    pub fn after_line(&self) -> &[u8]
+        ensures { result.now ≡ after_first is_line_feed self.now.bytes }
+    {
+        let end = line_end(&self.bytes, self.start, self.searched);
+        &self.bytes[self.bytes.len().min(end + 1)..]
+    }
+
     /// Whether no line feed is held. At the end of the input this says that the line held is the last one.
     pub fn is_last(&self) -> bool
         ensures { IsTrue result ↔ (position_or_len is_line_feed self.now.bytes ≡ length self.now.bytes) }

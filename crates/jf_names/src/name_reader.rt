@@ -5,7 +5,7 @@ ghost use Rattle.jf_names.specs.NameLines.{no_names, after_name, TakesName};
 
 use crate::fault::NamesFault;
 use crate::names::NameMap;
-use jf_input::LineMachine;
+use jf_input::{AtHand, LineMachine};
 use jf_many_blocks::MAX_CLAIMS;
 use jf_path::Bytes;
 use jf_text::name_of;
@@ -93,13 +93,8 @@ impl LineMachine for NameReader {
         true
     }
 
-    fn take_line(
-        &mut self,
-        alloc: Global,
-        line: &[u8],
-        _out: &mut Bytes,
-    ) -> Result<(), NamesFault> {
-        self.line(alloc, line)
+    fn take_line(&mut self, alloc: Global, at: AtHand, _out: &mut Bytes) -> Result<(), NamesFault> {
+        self.line(alloc, at.line)
     }
 
     fn take_end(&mut self, _alloc: Global, _out: &mut Bytes) -> Result<(), NamesFault> {

@@ -1,12 +1,10 @@
 -- What follows of the end of a restore.
 use Rattle.std.proofs.Common.{◌≡◌, ◌∙◌, inl, inr, ℕ, List, length, refl, ap, sym, subst, arith, Option, Some, Result, Ok, Err}
 use Rattle.jf_model.specs.Versions.{Versions}
-use Rattle.jf_io.specs.Sink.{IsCutShort}
 use Rattle.jf_evidence.specs.Ranges.{Entries}
 use Rattle.jf_engine.specs.Engines.{Engine}
 use Rattle.jf_restore.specs.RestoreValue.{RestoreValue}
 use Rattle.jf_restore.specs.Finishes.{IsNewStore, IsInUse, HasImported}
-use Rattle.jf_input.specs.Feeds.{Appends}
 use Rattle.jf_receive.specs.Restored.{restore_result, restored_text}
 use Rattle.jf_receive.specs.Receives.{HasReceived, RestoresEntries, EndsUnlessStopped}
 use Rattle.jf_receive.specs.declared.received.Received.{Received}
@@ -19,24 +17,16 @@ pub unused : (v : Versions) → IsNewStore v → IsInUse v → ⊥
 unused v new (inl later) = let head = new.0 in omega (arith, later, head)
 unused v new (inr some) = let none = new.1 in omega (arith, some, none)
 
+-- what was imported has the announced version, and the line tells of it
+pub restored : (version : ℕ) (root : List ℕ) (old new : Engine) (rest rest' : Option (List ℕ)) (r : RestoreValue) → r.version ≡ version → RestoresEntries root r.entries old rest rest' → HasImported r.version r.entries old new
+    → (count : ℕ) → count ≡ length r.entries → (line : List ℕ) → line ≡ restored_text version root count
+    → (es : Entries) × RestoresEntries root es old rest rest' × HasImported version es old new × (line ≡ restored_text version root (length es))
+restored version root old new rest rest' r same restores so count all line is =
+    (r.entries, restores, subst (λ n. HasImported n r.entries old new) same so, is ∙ ap (λ n. restored_text version root n) all)
+
 module _ (version : ℕ) (root : List ℕ) (old new : Engine) (rest rest' text text' : Option (List ℕ)) where
   abbrev Ends : Received → Type 0
   Ends how = HasReceived how version root old new rest rest' text text'
-
-  -- ---- the version was imported
-  module _ (r : RestoreValue) (same : r.version ≡ version) (restores : RestoresEntries root r.entries old rest rest') (so : HasImported r.version r.entries old new) (count : ℕ) (all : count ≡ length r.entries) (bytes line : List ℕ)
-      (are : bytes ≡ line) (is : line ≡ restored_text version root count) where
-    told : bytes ≡ restored_text version root (length r.entries)
-    told = are ∙ is ∙ ap (λ n. restored_text version root n) all
-
-    made : HasImported version r.entries old new
-    made = subst (λ n. HasImported n r.entries old new) same so
-
-    pub ends-done : Appends text text' bytes → Ends received.Done
-    ends-done put = (r.entries, restores, made, subst (λ b. Appends text text' b) told put)
-
-    pub ends-cut : IsCutShort text text' bytes → Ends received.WriteFault
-    ends-cut cut = (r.entries, restores, made, subst (λ b. IsCutShort text text' b) told cut)
 
   -- ---- any end, of a restore into a new store
   module _ (is_new : IsNewStore old.versions) where

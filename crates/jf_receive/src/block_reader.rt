@@ -6,7 +6,7 @@ ghost use Rattle.jf_receive.specs.TakenLines.{TakesBlockLine};
 use crate::blocks::Blocks;
 use crate::fault::BlockFault;
 use crate::laws::long_lines_are_alike;
-use jf_input::LineMachine;
+use jf_input::{AtHand, LineMachine};
 use jf_path::Bytes;
 use jf_restore::Restore;
 use std::alloc::Global;
@@ -74,11 +74,11 @@ impl LineMachine for BlockReader {
     fn take_line(
         &mut self,
         _alloc: Global,
-        line: &[u8],
+        next: AtHand,
         _out: &mut Bytes,
     ) -> Result<(), BlockFault> {
         long_lines_are_alike();
-        self.line(line)
+        self.line(next.line)
     }
 
     fn take_end(&mut self, _alloc: Global, _out: &mut Bytes) -> Result<(), BlockFault> {

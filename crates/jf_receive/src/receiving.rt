@@ -1,10 +1,10 @@
 // The restore of a version over devices: chunk blocks from a source, and one line into a sink.
-ghost use Rattle.std.specs.Prelude.{◌≡◌, ◌⊎◌, ℕ, ◌-◌, ◌<◌, ◌≤◌, ◌^◌, List, Some, Ok, Err, IfSome, IfNone, false};
+ghost use Rattle.std.specs.Prelude.{◌≡◌, ◌⊎◌, ℕ, ◌-◌, ◌<◌, ◌≤◌, ◌^◌, List, length, Option, Some, Ok, Err, IfSome, IfNone, IfOk, IfErr, false};
 ghost use Rattle.jf_path.specs.Faults.{HasCause};
 ghost use Rattle.jf_evidence.specs.Ranges.{Entries};
-ghost use Rattle.jf_restore.specs.Finishes.{IsNewStore, IsInUse};
-ghost use Rattle.jf_receive.specs.Restored.{restore_result};
-ghost use Rattle.jf_receive.specs.Receives.{HasReceived, EndsUnlessStopped};
+ghost use Rattle.jf_restore.specs.Finishes.{IsNewStore, IsInUse, HasImported};
+ghost use Rattle.jf_receive.specs.Restored.{restore_result, restored_text};
+ghost use Rattle.jf_receive.specs.Receives.{HasReceived, RestoresEntries, EndsUnlessStopped};
 
 use crate::importing::import;
 use crate::reading::read_blocks;
@@ -14,6 +14,7 @@ use jf_disk::Disk;
 use jf_engine::Engine;
 use jf_hash::Hash;
 use jf_io::{Sink, Source, put_all};
+use jf_path::Bytes;
 use std::alloc::Global;
 
 /// Restores a version, whose root is announced, into a new store, from the chunk blocks of a source (docs/FORMATS.md,
@@ -65,39 +66,43 @@ pub fn receive<S: Source, K: Sink, D: Disk>(
     if let Some(head) = head_in_use(engine) {
         return Received::Refused(RestoreFault::NotEmpty(head));
     }
-    receive_into_new(alloc, engine, version, root, source, sink)
+    let line = match restore_new(alloc, engine, version, root, source) {
+        Ok(line) => line,
+        Err(how) => return how,
+    };
+    match put_all(sink, line.as_slice()) {
+        Ok(()) => Received::Done,
+        Err(_) => Received::WriteFault,
+    }
 }
 
-/// Restores a version into a store that is new.
-fn receive_into_new<S: Source, K: Sink, D: Disk>(
+/// Restores a version into a store that is new, and returns the line that tells of it.
+fn restore_new<S: Source, D: Disk>(
     alloc: Global,
     engine: &mut Engine<D>,
     version: u64,
     root: Hash,
     source: &mut S,
-    sink: &mut K,
-) -> Received
+) -> Result<Bytes, Received>
     requires bounded { version ≤ 2 ^ 64 - 2 }
     requires whole { engine.old.broken ≡ false }
     requires unused { IsNewStore engine.old.versions }
-    ensures received { HasReceived result version root engine.old engine.new (S.rest source.old) (S.rest source.new) (K.text sink.old) (K.text sink.new) }
-    ensures read { result ≡ Received.ReadFault → HasCause (S.faults source.old) (S.faults source.new) }
-    ensures write { result ≡ Received.WriteFault → HasCause (K.faults sink.old) (K.faults sink.new) }
-    ensures counts { (S.faults source.old ≤ S.faults source.new) × (K.faults sink.old ≤ K.faults sink.new) }
+    ensures ok { IfOk result (λ line. (es : Entries) × RestoresEntries root es engine.old (S.rest source.old) (S.rest source.new) × HasImported version es engine.old engine.new × (line ≡ restored_text version root (length es))) }
+    ensures err { (text : Option (List ℕ)) → IfErr result (λ how. HasReceived how version root engine.old engine.new (S.rest source.old) (S.rest source.new) text text) }
+    ensures cause { result ≡ Err Received.ReadFault → HasCause (S.faults source.old) (S.faults source.new) }
+    ensures unstopped { result ≡ Err Received.WriteFault → ⊥ }
+    ensures counts { S.faults source.old ≤ S.faults source.new }
 {
     let restore = match read_blocks(alloc, version, root, source) {
         Ok(restore) => restore,
-        Err(how) => return how,
+        Err(how) => return Err(how),
     };
     let Ok(line) = restored_line(alloc, version, &root, restore.count()) else {
-        return Received::Memory;
+        return Err(Received::Memory);
     };
-    if let Err(how) = import(alloc, engine, root, restore) {
-        return how;
-    }
-    match put_all(sink, line.as_slice()) {
-        Ok(()) => Received::Done,
-        Err(_) => Received::WriteFault,
+    match import(alloc, engine, root, restore) {
+        Ok(()) => Ok(line),
+        Err(how) => Err(how),
     }
 }
 

@@ -1,11 +1,11 @@
 use Rattle.jf_receive.proofs.Outcomes.{ends-not_empty, refused-ends, accepted-ends}
 use Rattle.jf_receive.proofs.receiving.receive.Goals as goal
 
-pub returns-clause-untouched : goal.returns-clause-untouched
-returns-clause-untouched g c = λ head is. absurd (ends-not_empty _ _ _ _ _ _ _ _ c.in_default.ensures.none c.receive_into_new.result head c.receive_into_new.ensures.received is)
+pub returns-in-Err-clause-untouched : goal.returns-in-Err-clause-untouched
+returns-in-Err-clause-untouched g c = λ head is. absurd (ends-not_empty _ _ _ _ _ _ _ _ c.in_default.ensures.none c.in-Err.how head (c.in-Err.ensures.err (g.K.Sink.text c.args.sink.now)) is)
 
-pub returns-clause-refused : goal.returns-clause-refused
-returns-clause-refused g c = λ input why told new is. refused-ends _ _ _ _ _ _ _ _ new input told c.receive_into_new.result why c.receive_into_new.ensures.received is
+pub returns-in-Err-clause-refused : goal.returns-in-Err-clause-refused
+returns-in-Err-clause-refused g c = λ input why told new is. refused-ends _ _ _ _ _ _ _ _ new input told c.in-Err.how why (c.in-Err.ensures.err (g.K.Sink.text c.args.sink.now)) is
 
-pub returns-clause-accepted : goal.returns-clause-accepted
-returns-clause-accepted g c = λ input es why told new is refused. accepted-ends _ _ _ _ _ _ _ _ new input told c.receive_into_new.result es why c.receive_into_new.ensures.received is refused
+pub returns-in-Err-clause-accepted : goal.returns-in-Err-clause-accepted
+returns-in-Err-clause-accepted g c = λ input es why told new is refused. accepted-ends _ _ _ _ _ _ _ _ new input told c.in-Err.how es why (c.in-Err.ensures.err (g.K.Sink.text c.args.sink.now)) is refused
