@@ -121,7 +121,7 @@ fn do_lines<S: Source, K: Sink, D: Disk, H: Threads + Wait + Sync, G: Gate>(
         }
         Script::Led => {
             let Led { pass, end, is_cut } = lead(
-                rt, alloc, store, pass, source, sink, workers, gate,
+                rt, alloc, store, pass, workers, gate, source, sink,
             );
             let status = Status::of_led(end, is_cut);
             ScriptDone { pass, status }

@@ -159,7 +159,7 @@ led_silent s new line out out' (Ok u) d = tt
 led_silent s new line out out' (Err why) d = d.0
 
 -- after a step that went on, the next may be made
-pub led_ready : {T : Type 0} (shown : T → Session) (store : Store) (s s' : T) (line : List ℕ) (out out' : List ℕ) (r : Result (Unit {0}) Stop) (pre : MutBor T → Bor (List ℕ) → MutBor (List ℕ) → Type 0) (post : MutBor T → Bor (List ℕ) → MutBor (List ℕ) → Result (Unit {0}) Stop → MutBor T → MutBor (List ℕ) → Type 0)
+pub led_ready : {T : Type 0} (shown : T → Session) (store : Store) (s s' : T) (line : List ℕ) (out out' : List ℕ) (r : Result (Unit {0}) Stop) (pre : MutBor T → Bor (List ℕ) → Bor (List ℕ) → MutBor (List ℕ) → Type 0) (post : MutBor T → Bor (List ℕ) → Bor (List ℕ) → MutBor (List ℕ) → Result (Unit {0}) Stop → MutBor T → MutBor (List ℕ) → Type 0)
     → MayStep DoesLeading store shown s pre post → DoesLeading (shown s) line out r (shown s') out' → OnOk r ((store : Store) × MayStep DoesLeading store shown s' pre post)
 led_ready shown store s s' line out out' (Ok u) pre post may d =
     let a = d.2.2 in

@@ -33,3 +33,5 @@ pub mod ToldLandings
 pub mod LedLines
 pub mod LedFed
 pub mod LeadLaws
+pub mod HeadReplies
+pub mod PreparedParts

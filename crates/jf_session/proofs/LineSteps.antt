@@ -41,7 +41,7 @@ took_on store s new line out out' (Ok done) own d = (d.2.over, own_after store s
 took_on store s new line out out' (Err why) own d = tt
 
 -- after a step that went on, the next may be made
-pub took_ready : {T : Type 0} (shown : T → Session) (store : Store) (s s' : T) (line : List ℕ) (out out' : List ℕ) (r : Result (Unit {0}) Stop) (pre : MutBor T → Bor (List ℕ) → MutBor (List ℕ) → Type 0) (post : MutBor T → Bor (List ℕ) → MutBor (List ℕ) → Result (Unit {0}) Stop → MutBor T → MutBor (List ℕ) → Type 0)
+pub took_ready : {T : Type 0} (shown : T → Session) (store : Store) (s s' : T) (line : List ℕ) (out out' : List ℕ) (r : Result (Unit {0}) Stop) (pre : MutBor T → Bor (List ℕ) → Bor (List ℕ) → MutBor (List ℕ) → Type 0) (post : MutBor T → Bor (List ℕ) → Bor (List ℕ) → MutBor (List ℕ) → Result (Unit {0}) Stop → MutBor T → MutBor (List ℕ) → Type 0)
     → MayStep DoesLine store shown s pre post → DoesLine (shown s) line out r (shown s') out' → OnOk r ((store : Store) × MayStep DoesLine store shown s' pre post)
 took_ready shown store s s' line out out' (Ok done) pre post may d =
     let on = took_on store (shown s) (shown s') line out out' (Ok done) may.own d in

@@ -67,7 +67,7 @@ module _ (line : List ℕ) (c : Command) (k : IsLineOf line c) where
   follows_of old new f = record { begins = f.begins; same = f.same; announced = λ version h. elim (f.announced version h) [ inl was ↦ inl was | inr named ↦ inr (k.pin ∙ named) ] }
 
   module _ (start : Start) (old new : Session) where
-    look_of : (r : Reply) (block : List ℕ) → HoldsPins new → DoneByLook start old new c r block → IsRepliedBy start old new line r block
+    pub look_of : (r : Reply) (block : List ℕ) → HoldsPins new → DoneByLook start old new c r block → IsRepliedBy start old new line r block
     look_of r block pins d =
         let s = state_after_events start new.pass.seen in
         let e = k.answers s old.own in

@@ -2,6 +2,7 @@ pub mod Refusing
 pub mod Questions
 pub mod Steps
 pub mod Answering
+pub mod PreparedReplies
 pub mod Taking
 pub mod Leading
 pub mod Telling

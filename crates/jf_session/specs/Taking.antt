@@ -59,14 +59,14 @@ DoesLine s line out (Err why) new out' = (out' ≡ out) × AnswersLine s line ne
 abbrev pub LineCall : Type 1
 LineCall = Session → List ℕ → List ℕ → Result (Unit {0}) Stop → Session → List ℕ → Type 0
 
--- calls may be made on a session over a pass of this store that isn't over, and do lines so
-abbrev pub AreSteps : {T : Type 0} → LineCall → Store → (T → Session) → (MutBor T → Bor (List ℕ) → MutBor (List ℕ) → Type 0) → (MutBor T → Bor (List ℕ) → MutBor (List ℕ) → Result (Unit {0}) Stop → MutBor T → MutBor (List ℕ) → Type 0) → Type 0
+-- calls may be made on a session over a pass of this store that isn't over, whatever is at hand after the line, and do lines so
+abbrev pub AreSteps : {T : Type 0} → LineCall → Store → (T → Session) → (MutBor T → Bor (List ℕ) → Bor (List ℕ) → MutBor (List ℕ) → Type 0) → (MutBor T → Bor (List ℕ) → Bor (List ℕ) → MutBor (List ℕ) → Result (Unit {0}) Stop → MutBor T → MutBor (List ℕ) → Type 0) → Type 0
 AreSteps {T} does store shown pre post =
-    ((s : MutBor T) (line : Bor (List ℕ)) (out : MutBor (List ℕ)) → (shown s.now).over ≡ false → IsPassOf (shown s.now).pass store → pre s line out)
-    × ((s : MutBor T) (line : Bor (List ℕ)) (out : MutBor (List ℕ)) (r : Result (Unit {0}) Stop) (s' : MutBor T) (out' : MutBor (List ℕ)) → post s line out r s' out' → does (shown s.now) line.now out.now r (shown s'.now) out'.now)
+    ((s : MutBor T) (line after : Bor (List ℕ)) (out : MutBor (List ℕ)) → (shown s.now).over ≡ false → IsPassOf (shown s.now).pass store → pre s line after out)
+    × ((s : MutBor T) (line after : Bor (List ℕ)) (out : MutBor (List ℕ)) (r : Result (Unit {0}) Stop) (s' : MutBor T) (out' : MutBor (List ℕ)) → post s line after out r s' out' → does (shown s.now) line.now out.now r (shown s'.now) out'.now)
 
 -- it takes what comes next: its session is over a pass of this store, and isn't over
-pub record MayStep {T : Type 0} (does : LineCall) (store : Store) (shown : T → Session) (s : T) (pre : MutBor T → Bor (List ℕ) → MutBor (List ℕ) → Type 0) (post : MutBor T → Bor (List ℕ) → MutBor (List ℕ) → Result (Unit {0}) Stop → MutBor T → MutBor (List ℕ) → Type 0) : Type 0 where
+pub record MayStep {T : Type 0} (does : LineCall) (store : Store) (shown : T → Session) (s : T) (pre : MutBor T → Bor (List ℕ) → Bor (List ℕ) → MutBor (List ℕ) → Type 0) (post : MutBor T → Bor (List ℕ) → Bor (List ℕ) → MutBor (List ℕ) → Result (Unit {0}) Stop → MutBor T → MutBor (List ℕ) → Type 0) : Type 0 where
   pub begun : (shown s).over ≡ false
   pub own : IsPassOf (shown s).pass store
   pub steps : AreSteps does store shown pre post

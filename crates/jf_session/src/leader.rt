@@ -2,7 +2,7 @@
 use crate::quiet::is_quiet;
 use crate::stop::Stop;
 use crate::taking::Shows;
-use jf_input::LineMachine;
+use jf_input::{AtHand, LineMachine};
 use jf_path::Bytes;
 use std::alloc::Global;
 
@@ -13,7 +13,8 @@ pub(crate) struct Leader<T, F> {
     pub(crate) lead: F,
 }
 
-impl<T: Shows, F: Fn(&mut T, &[u8], &mut Bytes) -> Result<(), Stop>> LineMachine for Leader<T, F> {
+impl<T: Shows, F: Fn(&mut T, &[u8], &[u8], &mut Bytes) -> Result<(), Stop>> LineMachine
+    for Leader<T, F> {
     ghost use Rattle.jf_store.specs.Passes.{Store};
     ghost use Rattle.jf_session.specs.Taking.{MayStep, AnswersEnd, StaysQuiet};
     ghost use Rattle.jf_session.specs.Telling.{LeadsLine, DoesLeading};
@@ -32,8 +33,8 @@ impl<T: Shows, F: Fn(&mut T, &[u8], &mut Bytes) -> Result<(), Stop>> LineMachine
         is_quiet(line)
     }
 
-    fn take_line(&mut self, _alloc: Global, line: &[u8], out: &mut Bytes) -> Result<(), Stop> {
-        (self.lead)(&mut self.session, line, out)
+    fn take_line(&mut self, _alloc: Global, next: AtHand, out: &mut Bytes) -> Result<(), Stop> {
+        (self.lead)(&mut self.session, next.line, next.after, out)
     }
 
     fn take_end(&mut self, _alloc: Global, _out: &mut Bytes) -> Result<(), Stop> {

@@ -41,10 +41,10 @@ pub fn lead<S: Source, K: Sink, D: Disk, H: Threads + Wait + Sync, G: Gate>(
     alloc: Global,
     store: &Store<D>,
     pass: Pass<D>,
-    source: &mut S,
-    sink: &mut K,
     workers: Workers,
     gate: &G,
+    source: &mut S,
+    sink: &mut K,
 ) -> Led<D>
     // The pass is one of this store's.
     requires own { IsPassOf pass store.now }
@@ -70,7 +70,10 @@ pub fn lead<S: Source, K: Sink, D: Disk, H: Threads + Wait + Sync, G: Gate>(
     none_answered();
     let session = Session::new(alloc, pass);
     session.know_own(store);
-    let lead = |session: &mut Session<D>, line: &[u8], told: &mut Bytes| -> Result<(), Stop>
+    let lead = |session: &mut Session<D>, line: &[u8], _after: &[u8], told: &mut Bytes| -> Result<
+        (),
+        Stop,
+    >
         requires { (session.old.over ≡ false) × IsPassOf session.old.pass store.now }
         ensures { DoesLeading session.old line.now told.old result session.new told.new }
     { session.lead_line(rt, alloc, store, line, workers, gate, told) };

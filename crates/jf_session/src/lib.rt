@@ -2,6 +2,7 @@
 //! store is done once the replies before it are written.
 #![tactic(auto)]
 
+mod ahead;
 mod answer;
 mod changing;
 mod compacting;
@@ -11,9 +12,12 @@ mod laws;
 mod leader;
 mod leading;
 mod leading_lines;
+mod looking;
 mod obeying;
 mod pending;
 mod pinning;
+mod prepared_reply;
+mod preparing;
 mod pruning;
 mod questions;
 mod quiet;

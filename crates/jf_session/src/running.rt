@@ -6,9 +6,10 @@ ghost use Rattle.jf_store.specs.Passes.{IsPassOf, none_pinned};
 ghost use Rattle.jf_history.specs.Runs.{HasRunOver};
 ghost use Rattle.jf_session.specs.Taking.{DoesLine, end_of_feeding};
 
+use crate::preparing::{Preparing, attend};
 use crate::session::Session;
 use crate::stop::Stop;
-use crate::taking::{Taking, answer_line};
+use crate::taking::Taking;
 use jf_disk::Disk;
 use jf_history::{End, none_answered};
 use jf_input::{Feeding, feed};
@@ -29,8 +30,8 @@ pub struct Ran<D: Disk> {
 
 /// Answers the lines of a script (docs/FORMATS.md) from a source into a sink, over a pass of a store that pins nothing and
 /// has seen no fault of the disk, and hands the pass back with how the run ended. A line that asks the store waits for its
-/// turn. A landing takes at most this many workers. Input is taken in pieces of 65,536 bytes. After a fault of the
-/// source, the sink or the disk, or out of memory, the run ends.
+/// turn. A landing takes at most this many workers, and so do many lines at hand that read the head. Input is taken in
+/// pieces of 65,536 bytes. After a fault of the source, the sink or the disk, or out of memory, the run ends.
 ///
 /// While whole lines are at hand that can't change the store, their replies may be gathered. All replies so far are written
 /// before a line is done that may change the store, before more input is asked for, and before the run ends. So a program
@@ -67,11 +68,18 @@ pub fn run<S: Source, K: Sink, D: Disk, H: Threads + Wait + Sync, G: Gate>(
     none_answered();
     let session = Session::new(alloc, pass);
     session.know_own(store);
-    let step = |session: &mut Session<D>, line: &[u8], out: &mut Bytes| -> Result<(), Stop>
+    let preparing = Preparing::new(alloc, session);
+    let step = |session: &mut Preparing<D>, line: &[u8], after: &[u8], out: &mut Bytes| -> Result<
+        (),
+        Stop,
+    >
         requires { (session.old.over ≡ false) × IsPassOf session.old.pass store.now }
         ensures { DoesLine session.old line.now out.old result session.new out.new }
-    { answer_line(rt, alloc, store, session, line, workers, gate, out) };
-    let mut taking = Taking { session, step };
+    { attend(rt, alloc, store, session, line, after, workers, gate, out) };
+    let mut taking = Taking {
+        session: preparing,
+        step,
+    };
     let end = end_of_feeding(feed(alloc, &mut taking, source, sink, MAX_PIECE));
     let Taking { session, step: _ } = taking;
     let pass = session.end();

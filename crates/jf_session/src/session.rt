@@ -102,7 +102,7 @@ impl<D: Disk> Session<D> {
     }
 
     // How many entries its pass has seen.
-    fn seen_count(&self) -> u64
+    pub(crate) fn seen_count(&self) -> u64
         ensures { result ≡ length (seen_by self.now.pass) }
     {
         self.pass.seen_count()

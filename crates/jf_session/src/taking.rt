@@ -8,7 +8,7 @@ use crate::quiet::is_quiet;
 use crate::session::Session;
 use crate::stop::Stop;
 use jf_disk::Disk;
-use jf_input::LineMachine;
+use jf_input::{AtHand, LineMachine};
 use jf_join::{Gate, Workers};
 use jf_path::Bytes;
 use jf_store::Store;
@@ -32,7 +32,8 @@ pub(crate) struct Taking<T, F> {
     pub(crate) step: F,
 }
 
-impl<T: Shows, F: Fn(&mut T, &[u8], &mut Bytes) -> Result<(), Stop>> LineMachine for Taking<T, F> {
+impl<T: Shows, F: Fn(&mut T, &[u8], &[u8], &mut Bytes) -> Result<(), Stop>> LineMachine
+    for Taking<T, F> {
     ghost use Rattle.jf_store.specs.Passes.{Store};
     ghost use Rattle.jf_session.specs.Taking.{MayStep, DoesLine, AnswersLine, AnswersEnd, StaysQuiet};
 
@@ -50,8 +51,8 @@ impl<T: Shows, F: Fn(&mut T, &[u8], &mut Bytes) -> Result<(), Stop>> LineMachine
         is_quiet(line)
     }
 
-    fn take_line(&mut self, _alloc: Global, line: &[u8], out: &mut Bytes) -> Result<(), Stop> {
-        (self.step)(&mut self.session, line, out)
+    fn take_line(&mut self, _alloc: Global, next: AtHand, out: &mut Bytes) -> Result<(), Stop> {
+        (self.step)(&mut self.session, next.line, next.after, out)
     }
 
     fn take_end(&mut self, _alloc: Global, _out: &mut Bytes) -> Result<(), Stop> {

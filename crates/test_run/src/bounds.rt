@@ -7,7 +7,7 @@ use std::test::Fail;
 use std::thread::Threads;
 
 // Appends `more` to the text, `times` times.
-fn extend_text(text: &mut Vec<u8>, more: &[u8], times: usize) -> Result<(), Fail> {
+pub(crate) fn extend_text(text: &mut Vec<u8>, more: &[u8], times: usize) -> Result<(), Fail> {
     for _ in 0..times {
         text.extend_from_slice(more)?;
     }

@@ -1,6 +1,6 @@
 // Scripts over a real folder, which is opened again for each, and what its files hold at the end.
 use jf_folder::FileDisk;
-use jf_play::files::{CHECKPOINT, END, LANDING, LANDING_OF_NOTHING, bytes_of};
+use jf_play::files::{CHECKPOINT, END, LANDING, LANDING_OF_NOTHING, file_bytes};
 use jf_play::play::answers;
 use jf_play::roots::with_roots;
 use std::alloc::Global;
@@ -54,7 +54,7 @@ fn a_folder_is_opened_where_it_stood(rt: HostRuntime) -> Result<(), Fail> {
     for (script, opened, want) in SCRIPTS {
         is_opened(&rt, alloc, script, *opened, &with_roots(alloc, want)?)?;
     }
-    let landed = bytes_of(alloc, &[CHECKPOINT, LANDING, LANDING_OF_NOTHING, END])?;
+    let landed = file_bytes(alloc, &[CHECKPOINT, LANDING, LANDING_OF_NOTHING, END])?;
     assert!(rt; fs::read(&rt, FILE_A)?.as_slice() == landed.as_slice());
     assert!(rt; fs::read(&rt, FILE_B)?.is_empty());
     fs::remove_dir_all(&rt, FOLDER)?;

@@ -1,7 +1,7 @@
 // Scripts over a disk in memory: what is written, what the files hold, and how the run ends.
 use jf_disk::{Disk, MemDisk, Side};
 use jf_play::files::{
-    CHECKPOINT, END, File, LANDING, LANDING_OF_NOTHING, LANDING_OF_TWO, bytes_of,
+    CHECKPOINT, END, File, LANDING, LANDING_OF_NOTHING, LANDING_OF_TWO, file_bytes,
 };
 use jf_play::play::{Faults, NO_FAULTS, Played, answers, has_ended, is_told, new_disk, play};
 use jf_play::roots::with_roots;
@@ -40,7 +40,7 @@ fn lines_are_answered(rt: HostRuntime) -> Result<(), Fail> {
 
 // Whether side A of a disk holds these records, and side B is empty.
 fn holds(alloc: Global, disk: &MemDisk, a: File) -> Result<bool, Fail> {
-    let a = bytes_of(alloc, a)?;
+    let a = file_bytes(alloc, a)?;
     Ok(disk.bytes(Side::A) == a.as_slice() && disk.bytes(Side::B).is_empty())
 }
 

@@ -15,7 +15,7 @@ feed_through-how-requires-clause-ready g c = (
   record {
     begun = ap (λ (s : Session). s.over) c.new-session.ensures;
     own = (ap (λ (s : Session). s.pass.store) c.new-session.ensures ∙ c.requires.own.0, ap (λ (s : Session). s.pass.start) c.new-session.ensures ∙ c.requires.own.1);
-    steps = (λ s line out begun own. ((begun, own), search rules), λ s line out r s' out' did. did);
+    steps = (λ s line after out begun own. ((begun, own), search rules), λ s line after out r s' out' did. did);
   },
 )
 

@@ -1,4 +1,4 @@
-use Rattle.std.proofs.Common.{[], ap, sym, subst, ◌∙◌, rules}
+use Rattle.std.proofs.Common.{◌≡◌, [], ap, sym, subst, ◌∙◌, rules}
 use Rattle.jf_store.specs.Passes.{Pass}
 use Rattle.jf_history.specs.Sessions.{Session, HoldsPins, new_session}
 use Rattle.jf_history.specs.Runs.{HasAnswered, HasRunOver}
@@ -8,14 +8,15 @@ use Rattle.jf_session.proofs.SamePass.{same_ran, own_after}
 use Rattle.jf_session.proofs.running.run.Goals as goal
 
 pub feed-requires-clause-ready : goal.feed-requires-clause-ready
-feed-requires-clause-ready g c = (
-  c.args.store.now,
-  record {
-    begun = ap (λ (s : Session). s.over) c.new-session.ensures;
-    own = (ap (λ (s : Session). s.pass.store) c.new-session.ensures ∙ c.requires.own.0, ap (λ (s : Session). s.pass.start) c.new-session.ensures ∙ c.requires.own.1);
-    steps = (λ s line out begun own. ((begun, own), search rules), λ s line out r s' out' did. did);
-  },
-)
+feed-requires-clause-ready g c =
+    let is : c.new-preparing.result ≡ new_session c.args.pass = c.new-preparing.ensures ∙ c.new-session.ensures in (
+      c.args.store.now,
+      record {
+        begun = ap (λ (s : Session). s.over) is;
+        own = (ap (λ (s : Session). s.pass.store) is ∙ c.requires.own.0, ap (λ (s : Session). s.pass.start) is ∙ c.requires.own.1);
+        steps = (λ s line after out begun own. ((begun, own), search rules), λ s line after out r s' out' did. did);
+      },
+    )
 
 pub returns-clause-ran : goal.returns-clause-ran
 returns-clause-ran g c =
@@ -26,7 +27,7 @@ returns-clause-ran g c =
     let store = c.args.store.now in
     let pass = c.args.pass in
     let none : HasAnswered store.start pass (new_session pass) [] [] = c.none_answered.ensures store.start pass c.requires.unmarked (subst HoldsPins c.new-session.ensures c.know_own.ensures.pins) in
-    let r = ran_shown store.start pass c.requires.own.1 none 65536 source source' text text' (λ t. t.session) c.feed.result _ c.feed.new.machine c.new-session.ensures c.feed.ensures.fed in
+    let r = ran_shown store.start pass c.requires.own.1 none 65536 source source' text text' (λ t. t.session) c.feed.result _ c.feed.new.machine (c.new-preparing.ensures ∙ c.new-session.ensures) c.feed.ensures.fed in
     let at_end : HasRunOver c.end_of_feeding-end.result store.start pass c.feed.new.machine.session.pass source source' text text' = subst (λ (e : End). HasRunOver e store.start pass c.feed.new.machine.session.pass source source' text text') (sym c.end_of_feeding-end.ensures) r in
     subst (λ (p : Pass). HasRunOver c.end_of_feeding-end.result store.start pass p source source' text text') (sym c.end-pass.ensures) at_end
 

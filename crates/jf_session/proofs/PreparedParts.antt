@@ -1,0 +1,16 @@
+-- What holds of the results of all parts, one after another.
+use Rattle.std.proofs.Common.{◌≡◌, Bool, true, false, cond, List, [], ◌∷◌, ◌++◌, sym, subst}
+use Rattle.std.specs.List.{AllByRecursion, AllZip}
+use Rattle.jf_path.proofs.ListLaws.{All-append}
+
+-- a list was appended, or it was not
+pub All-appended : {X : Type 0} (P : X → Type 0) (b : Bool) (xs ys zs : List X) → zs ≡ cond b (xs ++ ys) xs → AllByRecursion P xs → AllByRecursion P ys → AllByRecursion P zs
+All-appended P true xs ys zs is front more = subst (AllByRecursion P) (sym is) (All-append P xs ys front more)
+All-appended P false xs ys zs is front more = subst (AllByRecursion P) (sym is) front
+
+-- what holds of the result of each piece, whatever the piece
+pub All-zip : {X Y : Type 0} (P : Y → Type 0) (xs : List X) (ys : List Y) → AllZip (λ x y. P y) xs ys → AllByRecursion P ys
+All-zip P [] [] h = tt
+All-zip P [] (y ∷ ys) h = absurd h
+All-zip P (x ∷ xs) [] h = tt
+All-zip P (x ∷ xs) (y ∷ ys) h = (h.0, All-zip P xs ys h.1)
