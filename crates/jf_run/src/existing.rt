@@ -1,14 +1,12 @@
 // The store that files hold already is opened, for a mode that is to go on over it: a lost store must not be taken for a new one.
-ghost use Rattle.std.specs.Prelude.{◌≡◌, ◌↔◌, None, Some, IfOk, IfErr, IsTrue, false};
+ghost use Rattle.std.specs.Prelude.{◌≡◌, ◌↔◌, IfOk, IfErr, IsTrue};
 ghost use Rattle.std.specs.FinMap as fin;
 ghost use Rattle.jf_hash.specs.Roots.{root};
 ghost use Rattle.jf_model.specs.Versions.{new_store};
-ghost use Rattle.jf_model.specs.States.{state_when_opened};
 ghost use Rattle.jf_words.specs.Shapes.{shape_of};
-ghost use Rattle.jf_run.specs.Calls.{Devices, disk_of, engine_disk, program_call, with_disk};
-ghost use Rattle.jf_run.specs.Runs.{IsBegun};
-ghost use Rattle.jf_run.specs.Promises.{KeepsPromises};
-ghost use Rattle.jf_run.specs.Resuming.{HoldsFor, IsRootAt, MayBegin};
+ghost use Rattle.jf_run.specs.Calls.{disk_of};
+ghost use Rattle.jf_run.specs.Opening.{IsOpenFor, EndsUnopened};
+ghost use Rattle.jf_run.specs.Resuming.{IsRootAt, MayBegin};
 
 use crate::status::{Ended, Status};
 use jf_disk::Disk;
@@ -46,12 +44,8 @@ pub(crate) fn find_store<D: Disk, H: Threads + Sync>(
 ) -> Result<Engine<D>, Ended<D>>
     requires opens { IsTrue (shape_of mode.now).opens }
     requires existing { MayBegin mode.now → ⊥ }
-    ensures begun { IfOk result (λ e. IsBegun (state_when_opened e.versions e.generation) (disk_of D.Disk disk) (engine_disk e) e.versions.head) }
-    ensures held { IfOk result (λ e. HoldsFor mode.now (disk_of D.Disk disk)) }
-    ensures whole { IfOk result (λ e. e.broken ≡ false) }
-    ensures start { IfErr result (λ ended. ended.start ≡ None) }
-    ensures refused { IfErr result (λ ended. (devices : Devices)
-        → KeepsPromises (program_call (Some mode.now) (D.missing disk) (with_disk (disk_of D.Disk disk) devices) (with_disk (disk_of D.Disk ended.disk) devices) ended.status ended.entries ended.start)) }
+    ensures opened { IfOk result (λ e. IsOpenFor mode.now (disk_of D.Disk disk) e) }
+    ensures refused { IfErr result (λ ended. EndsUnopened mode.now (D.missing disk) (disk_of D.Disk disk) (disk_of D.Disk ended.disk) ended.status ended.entries ended.start) }
 {
     damage_is_no_versions();
     files_stand_for_sound();

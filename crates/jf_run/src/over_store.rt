@@ -1,12 +1,11 @@
 // The frame of the modes that need the store: it is opened, the mode is done over it, and its end is the end of the call.
-ghost use Rattle.std.specs.Prelude.{◌≡◌, Some, None, IfNone, IfOk, IfErr, IsTrue, false};
-ghost use Rattle.jf_model.specs.States.{state_when_opened};
+ghost use Rattle.std.specs.Prelude.{◌≡◌, Some, IfNone, IfOk, IfErr, IsTrue};
 ghost use Rattle.jf_words.specs.Modes.{KeepsLimits};
 ghost use Rattle.jf_words.specs.Shapes.{shape_of};
-ghost use Rattle.jf_run.specs.Calls.{Devices, disk_of, engine_disk, program_call, shown_devices, with_disk};
-ghost use Rattle.jf_run.specs.Runs.{IsBegun};
+ghost use Rattle.jf_run.specs.Calls.{disk_of, program_call, shown_devices};
+ghost use Rattle.jf_run.specs.Opening.{IsOpenFor, EndsUnopened};
 ghost use Rattle.jf_run.specs.Promises.{KeepsPromises};
-ghost use Rattle.jf_run.specs.Resuming.{HoldsFor, MayBegin};
+ghost use Rattle.jf_run.specs.Resuming.{MayBegin};
 ghost use Rattle.jf_run.specs.Untouched.{LeavesUntouched};
 
 use crate::do_mode::do_mode;
@@ -69,12 +68,8 @@ fn open_for<D: Disk, H: Threads + Sync>(
     disk: D,
 ) -> Result<Engine<D>, Ended<D>>
     requires opens { IsTrue (shape_of mode.now).opens }
-    ensures begun { IfOk result (λ e. IsBegun (state_when_opened e.versions e.generation) (disk_of D.Disk disk) (engine_disk e) e.versions.head) }
-    ensures held { IfOk result (λ e. HoldsFor mode.now (disk_of D.Disk disk)) }
-    ensures whole { IfOk result (λ e. e.broken ≡ false) }
-    ensures start { IfErr result (λ ended. ended.start ≡ None) }
-    ensures refused { IfErr result (λ ended. (devices : Devices)
-        → KeepsPromises (program_call (Some mode.now) (D.missing disk) (with_disk (disk_of D.Disk disk) devices) (with_disk (disk_of D.Disk ended.disk) devices) ended.status ended.entries ended.start)) }
+    ensures opened { IfOk result (λ e. IsOpenFor mode.now (disk_of D.Disk disk) e) }
+    ensures refused { IfErr result (λ ended. EndsUnopened mode.now (D.missing disk) (disk_of D.Disk disk) (disk_of D.Disk ended.disk) ended.status ended.entries ended.start) }
 {
     if may_begin(mode) {
         return open_store(rt, alloc, mode, disk);
@@ -91,12 +86,8 @@ fn open_store<D: Disk, H: Threads + Sync>(
 ) -> Result<Engine<D>, Ended<D>>
     requires opens { IsTrue (shape_of mode.now).opens }
     requires may { MayBegin mode.now }
-    ensures begun { IfOk result (λ e. IsBegun (state_when_opened e.versions e.generation) (disk_of D.Disk disk) (engine_disk e) e.versions.head) }
-    ensures held { IfOk result (λ e. HoldsFor mode.now (disk_of D.Disk disk)) }
-    ensures whole { IfOk result (λ e. e.broken ≡ false) }
-    ensures start { IfErr result (λ ended. ended.start ≡ None) }
-    ensures refused { IfErr result (λ ended. (devices : Devices)
-        → KeepsPromises (program_call (Some mode.now) (D.missing disk) (with_disk (disk_of D.Disk disk) devices) (with_disk (disk_of D.Disk ended.disk) devices) ended.status ended.entries ended.start)) }
+    ensures opened { IfOk result (λ e. IsOpenFor mode.now (disk_of D.Disk disk) e) }
+    ensures refused { IfErr result (λ ended. EndsUnopened mode.now (D.missing disk) (disk_of D.Disk disk) (disk_of D.Disk ended.disk) ended.status ended.entries ended.start) }
 {
     damage_is_no_versions();
     files_stand_for_sound();
