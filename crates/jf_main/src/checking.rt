@@ -1,4 +1,4 @@
-// The files that a check tells of: they are read, and no store is opened over them.
+// The files that a check reports on: they are read, and no store is opened over them.
 ghost use Rattle.std.specs.Prelude.{◌≡◌, ◌≤◌, ℕ, List, [], Option, Some, Err, IfOk, IfErr, codes, option_map};
 ghost use Rattle.jf_path.specs.Faults.{HasCause};
 ghost use Rattle.jf_words.specs.Modes.{mode_asked_for};
@@ -35,7 +35,7 @@ impl SeenFiles {
         ensures unrefused { IfErr result (λ why. why ≡ FileRefused.Memory) }
     {
         let refusal = files.refusal();
-        match AnyDisk::seen(alloc, files, CHECK_CALLS) {
+        match AnyDisk::of_bytes(alloc, files, CHECK_CALLS) {
             Ok(disk) => Ok(SeenFiles { disk, refusal }),
             Err(_) => Err(FileRefused::Memory),
         }

@@ -5,7 +5,7 @@ use lib.ListN.{get_elem?}
 use Rattle.jf_path.specs.Checks.{first_of}
 use Rattle.jf_path.proofs.OptionLaws.{some_same}
 use Rattle.jf_turn.specs.Lists.{StartsWith, longer}
-use Rattle.jf_turn.specs.Seats.{SeatState, NoteState, OthersFollow, learning, noted}
+use Rattle.jf_turn.specs.Seats.{SeatState, NoteState, OthersFollow, learning, note_of}
 use Rattle.jf_turn.proofs.Lists.{prefix_whole}
 use Rattle.jf_store.specs.declared.event.Event.{Event}
 use Rattle.jf_store.specs.declared.look.Look.{Look}
@@ -32,8 +32,8 @@ unmarked_by false none = refl
 unmarked_by true none = absurd (let e : Some store_fault.Broken ≡ None = none in cc)
 
 -- what a pass shows that has seen these events
-pub IsShownLook-noted : (s : SeatState Event Start) (p : PinsState) (store : Store) (n : NoteState Event Start) (l : Look) → IsPass s p → s.turn ≡ store.id → s.start ≡ Some store.start → n ≡ noted s → IsLook (state_after_events store.start s.seen) l → first_of (look_faults store.start s.seen) ≡ None → IsShownLook store n l
-IsShownLook-noted s p store n l is turn starts noted_is look none = subst (λ (m : NoteState Event Start). IsShownLook store m l) (sym noted_is) record {
+pub IsShownLook-note_of : (s : SeatState Event Start) (p : PinsState) (store : Store) (n : NoteState Event Start) (l : Look) → IsPass s p → s.turn ≡ store.id → s.start ≡ Some store.start → n ≡ note_of s → IsLook (state_after_events store.start s.seen) l → first_of (look_faults store.start s.seen) ≡ None → IsShownLook store n l
+IsShownLook-note_of s p store n l is turn starts noted_is look none = subst (λ (m : NoteState Event Start). IsShownLook store m l) (sym noted_is) record {
   turn = turn;
   start = starts;
   events = (is.events store.start starts).0;

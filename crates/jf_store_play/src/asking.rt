@@ -175,19 +175,6 @@ fn ask_compact<H: Wait>(
     pass.compact(rt, alloc, store).map(Answer::Number)
 }
 
-fn ask_pin<H: Wait>(
-    rt: &H,
-    store: &Store<MemDisk>,
-    pass: &mut Pass<MemDisk>,
-    version: u64,
-) -> Answered
-    requires { IsPassOf pass.old store.now }
-    ensures { IsPassOf pass.new store.now × (pass.new.number ≡ pass.old.number) }
-{
-    let snapshot = at(rt, store, pass, version)?;
-    pin(store, pass, snapshot).map(Answer::Number)
-}
-
 // The snapshot at a place, shared.
 fn copy_at(pass: &Pass<MemDisk>, place: u64) -> Result<Snapshot, StoreFault> {
     match pass.pinned_snapshot(place) {
@@ -196,12 +183,16 @@ fn copy_at(pass: &Pass<MemDisk>, place: u64) -> Result<Snapshot, StoreFault> {
     }
 }
 
-fn ask_again(store: &Store<MemDisk>, pass: &mut Pass<MemDisk>, place: u64) -> Answered
+// Pins a snapshot, unless it was refused.
+fn pin_read(
+    store: &Store<MemDisk>,
+    pass: &mut Pass<MemDisk>,
+    read: Result<Snapshot, StoreFault>,
+) -> Answered
     requires { IsPassOf pass.old store.now }
     ensures { IsPassOf pass.new store.now × (pass.new.number ≡ pass.old.number) }
 {
-    let snapshot = copy_at(pass, place)?;
-    pin(store, pass, snapshot).map(Answer::Number)
+    pin(store, pass, read?).map(Answer::Number)
 }
 
 fn of_pinned(pass: &Pass<MemDisk>, place: u64) -> Answer {
@@ -240,8 +231,14 @@ pub fn ask<H: Threads + Wait + Sync>(
         Call::Tree(id) => ask_tree(rt, store, pass, *id),
         Call::Land(id) => ask_land(rt, alloc, store, pass, *id),
         Call::DropFork(id) => ask_drop(rt, store, pass, *id),
-        Call::Pin(version) => ask_pin(rt, store, pass, *version),
-        Call::PinAgain(place) => ask_again(store, pass, *place),
+        Call::Pin(version) => {
+            let read = at(rt, store, pass, *version);
+            pin_read(store, pass, read)
+        }
+        Call::PinAgain(place) => {
+            let read = copy_at(pass, *place);
+            pin_read(store, pass, read)
+        }
         Call::Pinned(place) => Ok(of_pinned(pass, *place)),
         Call::Unpin(place) => Ok(ask_unpin(store, pass, *place)),
         Call::Prune(bound) => prune(rt, store, pass, *bound).map(Answer::Pruned),

@@ -14,7 +14,7 @@ use Rattle.jf_turn.specs.Rule.{IsTurn, TurnAccount, FitsTurn, Hand, FitsHand, Is
 use Rattle.jf_turn.specs.declared.view.Stage.{Stage}
 use Rattle.jf_turn.specs.Lists.{HasElement, StartsWith, longer}
 use Rattle.jf_turn.specs.declared.view.Stage.TheVariants.{Spent, Idle, Opening, Holding}
-use Rattle.jf_turn.specs.Steps.{at_stage, turn_claimed, born, moved, released_seat, released, minted, seat_numbered, first_or_zero, maker_left, seat_right, note_right, compared, views_joined, spent}
+use Rattle.jf_turn.specs.Steps.{at_stage, turn_claim, turn_birth, turn_move, released_seat, turn_release, minted_view, seat_numbering, first_or_zero, maker_left, seat_right, note_right, list_comparison, views_joined, spent_view}
 use Rattle.jf_turn.proofs.Words.{free_of_even}
 use Rattle.jf_turn.proofs.Lists.{at_append, starts_more, within, starts_self, put, put_else, has_cons, put_at, at_end, prefix_of, some_at, prefix_whole, has_append, has_left, has_right}
 
@@ -99,7 +99,7 @@ module _ {V E O : Type 0} (list : V → List E) (names : E → ℕ) (start_of : 
   away_here v e g = cc
 
   pub claims : (slots id old : ℕ) (me : M) → me.0.stage ≡ Idle → HasElement me.0.numbers me.0.number → old % 2 ≡ 0 → 0 < slots
-      → Allows Rule slots id me 0 (λ x. either (eqb x old) (old + 1) x) (turn_claimed list names start_of (step slots 0 old (old + 1) maybe.none) me)
+      → Allows Rule slots id me 0 (λ x. either (eqb x old) (old + 1) x) (turn_claim list names start_of (step slots 0 old (old + 1) maybe.none) me)
   claims slots id old me away own even deep s r len at _ = let x : ℕ = get_or s.words 0 0 in let p = r.account in let v = me.0 in dite (ℕ_discrete x old)
       (λ hit.
       let is_free : p.hand ≡ free = free_of_even p.hand (length p.entries) x r.turn_is (ap (λ (z : ℕ). z % 2) hit ∙ even) in
@@ -160,7 +160,7 @@ module _ {V E O : Type 0} (list : V → List E) (names : E → ℕ) (start_of : 
   holds_here v l e g = cc
 
   -- the first seat takes the empty slot
-  pub births : (slots id : ℕ) (me : M) → me.0.stage ≡ Opening → me.1 ≡ [] → 0 < slots → Allows Rule slots id me 0 (λ x. x) (born list names start_of (step slots 0 0 0 maybe.none) me)
+  pub births : (slots id : ℕ) (me : M) → me.0.stage ≡ Opening → me.1 ≡ [] → 0 < slots → Allows Rule slots id me 0 (λ x. x) (turn_birth list names start_of (step slots 0 0 0 maybe.none) me)
   births slots id me stage empty deep s r len at _ =
       let p = r.account in let v = me.0 in let fit = r.each id v at in let sit = sits_at s r id v (born_here v stage) at in
       let b = born_of p.entries s.homes v p.hand (subst (Stand p.entries s.homes v p.hand) stage fit.1) in let n : ℕ = b.0 in let is = b.1 in let w : W = at_stage v (Holding []) in let hs : Homes = set s.homes 0 maybe.none in
@@ -180,7 +180,7 @@ module _ {V E O : Type 0} (list : V → List E) (names : E → ℕ) (start_of : 
 
   -- the turn's list grows, by entries that name the holder's number
   pub moves : (slots id : ℕ) (me : M) (l : List E) (y : V) (more : List E) (word : ℕ) → me.0.stage ≡ Holding l → me.1 ≡ (0, Some y) ∷ [] → list y ≡ l ++ more → ((e : E) → HasElement more e → names e ≡ me.0.number) → HasElement me.0.numbers me.0.number → word ≡ 2 * length (list y) + 1 → length (list y) ≤ 2 ^ 62
-      → Allows Rule slots id me 0 (λ _. word) (λ _. moved list names start_of (step slots 0 word 0 maybe.none) me word)
+      → Allows Rule slots id me 0 (λ _. word) (λ _. turn_move list names start_of (step slots 0 word 0 maybe.none) me word)
   moves slots id me l y more word stage carried grows named mine is_word small s r len at _ =
       let p = r.account in let v = me.0 in let fit = r.each id v at in let sit = sits_at s r id v (holds_here v l stage) at in
       let b = holder_of p.entries l s.homes v p.hand (subst (Stand p.entries s.homes v p.hand) stage fit.1) in let n : ℕ = b.0 in let is = b.1 in let own : p.seat_of n ≡ id = (sit.numbers n b.2).1 in let given = sit.numbers v.number mine in
@@ -209,7 +209,7 @@ module _ {V E O : Type 0} (list : V → List E) (names : E → ℕ) (start_of : 
 
   -- the value of the turn's list comes home
   pub releases : (slots id : ℕ) (me : M) (y : V) (word : ℕ) → me.0.stage ≡ Holding (list y) → me.1 ≡ (0, Some y) ∷ [] → me.0.start ≡ Some (start_of y) → word ≡ 2 * length (list y) → 0 < slots
-      → Allows Rule slots id me 0 (λ _. word) (λ _. released list names start_of (step slots 0 word 0 maybe.none) me word)
+      → Allows Rule slots id me 0 (λ _. word) (λ _. turn_release list names start_of (step slots 0 word 0 maybe.none) me word)
   releases slots id me y word stage carried from is_word deep s r len at _ =
       let p = r.account in let v = me.0 in let l : List E = list y in let fit = r.each id v at in let sit = sits_at s r id v (holds_here v l stage) at in
       let b = holder_of p.entries l s.homes v p.hand (subst (Stand p.entries s.homes v p.hand) stage fit.1) in let n : ℕ = b.0 in let is = b.1 in let own : p.seat_of n ≡ id = (sit.numbers n b.2).1 in
@@ -236,7 +236,7 @@ module _ {V E O : Type 0} (list : V → List E) (names : E → ℕ) (start_of : 
     maker = λ e. absurd (other (r.maker e).1);
   }
 
-  minted_here : (p : TurnAccount E O) (hs : Homes) (v : W) (h : Hand) → v.given ≡ p.given → IsHome list names start_of p hs h → ((k : ℕ) (e : E) → get_elem? p.entries k ≡ maybe.some e → names e < p.given) → Stand p.entries hs v h Idle → Stand p.entries hs (minted v) h Idle
+  minted_here : (p : TurnAccount E O) (hs : Homes) (v : W) (h : Hand) → v.given ≡ p.given → IsHome list names start_of p hs h → ((k : ℕ) (e : E) → get_elem? p.entries k ≡ maybe.some e → names e < p.given) → Stand p.entries hs v h Idle → Stand p.entries hs (minted_view v) h Idle
   minted_here p hs v free e home named own = λ k x there has. let less = named k x there in ⊎_elim (λ (t : v.given ≡ names x). absurd (omega arith)) (λ t. own k x there t) (has_cons v.given v.numbers (names x) has)
   minted_here p hs v (held_by n) e home named s = (
     (λ has. ⊎_elim (λ (t : v.given ≡ n). absurd (omega arith)) (λ t. s.0 t) (has_cons v.given v.numbers n has)),
@@ -247,10 +247,10 @@ module _ {V E O : Type 0} (list : V → List E) (names : E → ℕ) (start_of : 
   same_home p given seat_of hs free le home = home
   same_home p given seat_of hs (held_by n) le less = omega arith
 
-  pub mints : (slots id : ℕ) (me : M) → me.0.stage ≡ Idle → me.0.is_maker ≡ true → me.0.given < seats → seats < 2 ^ 32 → Allows Rule slots id me 1 (λ x. (x + 1) % 2 ^ 64) (seat_numbered list names start_of (step slots 1 1 0 maybe.none) me)
+  pub mints : (slots id : ℕ) (me : M) → me.0.stage ≡ Idle → me.0.is_maker ≡ true → me.0.given < seats → seats < 2 ^ 32 → Allows Rule slots id me 1 (λ x. (x + 1) % 2 ^ 64) (seat_numbering list names start_of (step slots 1 1 0 maybe.none) me)
   mints slots id me away is_maker room small s r len at _ =
       let p = r.account in let v = me.0 in let fit = r.each id v at in let sit = sits_at s r id v (away_here v away) at in let maker = sit.maker is_maker in let c : ℕ = v.given in let found : get_or s.words 1 0 ≡ p.given = r.count_is in let mine = maker.0 in
-      let bound : seats < 4294967296 = small in let up : (get_or s.words 1 0 + 1) % 18446744073709551616 ≡ p.given + 1 = omega arith in let w : W = minted v in let p' : TurnAccount E O = record p { given = p.given + 1; seat_of = put p.seat_of p.given id } in (
+      let bound : seats < 4294967296 = small in let up : (get_or s.words 1 0 + 1) % 18446744073709551616 ≡ p.given + 1 = omega arith in let w : W = minted_view v in let p' : TurnAccount E O = record p { given = p.given + 1; seat_of = put p.seat_of p.given id } in (
         w,
         keeps,
         tt,
@@ -360,7 +360,7 @@ module _ {V E O : Type 0} (list : V → List E) (names : E → ℕ) (start_of : 
   pub notes : (id : ℕ) (v : W) → v.stage ≡ Idle → Splits Rule id v v (note_right v)
   notes id v away s r at = notes_in s r id v away at
 
-  pub compares : (slots id : ℕ) (me : M) → me.0.stage ≡ Idle → Allows Rule slots id me 0 (λ x. x) (compared list names start_of (step slots 0 0 0 maybe.none) me)
+  pub compares : (slots id : ℕ) (me : M) → me.0.stage ≡ Idle → Allows Rule slots id me 0 (λ x. x) (list_comparison list names start_of (step slots 0 0 0 maybe.none) me)
   compares slots id me away s r len at _ = let p = r.account in let v = me.0 in let sit = sits_at s r id v (away_here v away) at in (
     v,
     keeps,
@@ -415,7 +415,7 @@ module _ {V E O : Type 0} (list : V → List E) (names : E → ℕ) (start_of : 
         ⊎_elim (λ t. let i = a.1 k e there t in omega arith) (λ t. let i = b.1 k e there t in omega arith) (has_append v.numbers w.numbers (names e) has),
   )
 
-  spent_fits : (entries : List E) (hs : Homes) (h : Hand) → Stand entries hs spent h Spent
+  spent_fits : (entries : List E) (hs : Homes) (h : Hand) → Stand entries hs spent_view h Spent
   spent_fits entries hs free = tt
   spent_fits entries hs (held_by n) = tt
 
@@ -439,7 +439,7 @@ module _ {V E O : Type 0} (list : V → List E) (names : E → ℕ) (start_of : 
   others_joined entries v w a c true n has = (has_left v.numbers w.numbers n has, λ k e there name. a k e there (subst (HasElement v.numbers) (sym name) has))
   others_joined entries v w a c false n has = (has_right v.numbers w.numbers n has, λ k e there name. c k e there (subst (HasElement w.numbers) (sym name) has))
 
-  pub joins : (id other : ℕ) (v w : W) → v.stage ≡ Idle → w.stage ≡ Idle → Joins Rule id v other w (views_joined v w) spent
+  pub joins : (id other : ℕ) (v w : W) → v.stage ≡ Idle → w.stage ≡ Idle → Joins Rule id v other w (views_joined v w) spent_view
   joins id other v w away away' s r at two there =
       let p = r.account in let x : W = views_joined v w in
       let was : get_elem? s.views other ≡ maybe.some w = ⊎_elim (λ (t : (other ≡ id) × (x ≡ w)). absurd (two t.0)) (λ (t : (other ≢ id) × (get_elem? s.views other ≡ maybe.some w)). t.1) (at_set s.views id other x w there) in
@@ -466,10 +466,10 @@ module _ {V E O : Type 0} (list : V → List E) (names : E → ℕ) (start_of : 
         from = r.from;
         home = other_home p (handed p.seat_of other id) s.homes p.hand r.home;
         named = r.named;
-        each = λ j u e. ⊎_elim (λ (t : (j ≡ other) × (spent ≡ u)). subst (Fit p' s.homes j) t.1 ((λ not. absurd (not refl)), spent_fits p.entries s.homes p.hand))
+        each = λ j u e. ⊎_elim (λ (t : (j ≡ other) × (spent_view ≡ u)). subst (Fit p' s.homes j) t.1 ((λ not. absurd (not refl)), spent_fits p.entries s.homes p.hand))
             (λ (t : (j ≢ other) × (get_elem? (set s.views id x) j ≡ maybe.some u)). ⊎_elim (λ (t' : (j ≡ id) × (x ≡ u)). subst (λ (z : ℕ × W). Fit p' s.homes z.0 z.1) (λ i. (sym t'.0 i, t'.1 i)) both_fit)
             (λ (t' : (j ≢ id) × (get_elem? s.views j ≡ maybe.some u)). let f = r.each j u t'.1 in ((λ here. sit_handed p other id j u t.0 (f.0 here)), f.1)) (at_set s.views id j x u t.1))
-            (at_set (set s.views id x) other j spent u e);
+            (at_set (set s.views id x) other j spent_view u e);
       }
 
   first_only : (hs : Homes) (id : ℕ) (v : W) → get_elem? hs 0 ≡ maybe.some (maybe.some None) → get_elem? (first_view start ∷ []) id ≡ maybe.some v → Fit record { entries = []; start = start; given = 1; maker = 0; seat_of = λ _. 0; hand = held_by 0 } hs id v

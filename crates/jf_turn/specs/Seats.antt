@@ -66,8 +66,8 @@ module _ {E O : Type 0} where
   IsNoteOf n t = (n.turn ≡ t.id) × (n.start ≡ Some t.start)
 
   -- a note of all that a seat has seen
-  abbrev pub noted : SeatState E O → NoteState E O
-  noted s = record { turn = s.turn; start = s.start; seen = s.seen }
+  abbrev pub note_of : SeatState E O → NoteState E O
+  note_of s = record { turn = s.turn; start = s.start; seen = s.seen }
 
   -- the seat after it learned a note: it has seen the longer list
   abbrev pub learning : SeatState E O → NoteState E O → SeatState E O

@@ -19,8 +19,8 @@ module _ {E O : Type 0} where
   released_seat v seen = record v { stage = Idle; seen = seen; other_numbers = [] }
 
   -- the maker's view with one more number, the next to be given
-  abbrev pub minted : SeatView E O → SeatView E O
-  minted v = record v { numbers = v.given ∷ v.numbers; given = v.given + 1 }
+  abbrev pub minted_view : SeatView E O → SeatView E O
+  minted_view v = record v { numbers = v.given ∷ v.numbers; given = v.given + 1 }
 
 module _ {V E O : Type 0} (list : V → List E) (names : E → ℕ) (start_of : V → O) where
   -- a seat's view, with what it has out of the slot
@@ -31,30 +31,30 @@ module _ {V E O : Type 0} (list : V → List E) (names : E → ℕ) (start_of : 
   At = Step (Option V)
 
   -- claim: the seat holds the turn, with the value y, or nothing changed
-  abbrev pub turn_claimed : At → Sat → ℕ → Sat → Type 0
-  turn_claimed st m r m' =
+  abbrev pub turn_claim : At → Sat → ℕ → Sat → Type 0
+  turn_claim st m r m' =
       (r ≡ st.first → (y : V) × (m' ≡ (at_stage m.0 (Holding (list y)), (0, Some y) ∷ m.1)) × StartsWith (list y) m.0.seen × OwnAreSeen list names start_of (list y) m.0 × (m.0.start ≡ Some (start_of y)) × (length (list y) ≤ 2 ^ 62))
       × (r ≢ st.first → m' ≡ m)
 
   -- birth: the first seat takes the empty slot
-  abbrev pub born : At → Sat → ℕ → Sat → Type 0
-  born st m r m' = m' ≡ (at_stage m.0 (Holding []), (0, None) ∷ m.1)
+  abbrev pub turn_birth : At → Sat → ℕ → Sat → Type 0
+  turn_birth st m r m' = m' ≡ (at_stage m.0 (Holding []), (0, None) ∷ m.1)
 
   -- move: the view keeps the list of the value that the seat has
-  abbrev pub moved : At → Sat → ℕ → Sat → Type 0
-  moved st m r m' = (y : V) → m.1 ≡ (0, Some y) ∷ [] → m' ≡ (at_stage m.0 (Holding (list y)), m.1)
+  abbrev pub turn_move : At → Sat → ℕ → Sat → Type 0
+  turn_move st m r m' = (y : V) → m.1 ≡ (0, Some y) ∷ [] → m' ≡ (at_stage m.0 (Holding (list y)), m.1)
 
   -- release: the value is at home, and the seat has seen its list
-  abbrev pub released : At → Sat → ℕ → Sat → Type 0
-  released st m r m' = (y : V) → m.1 ≡ (0, Some y) ∷ [] → m' ≡ (released_seat m.0 (list y), [])
+  abbrev pub turn_release : At → Sat → ℕ → Sat → Type 0
+  turn_release st m r m' = (y : V) → m.1 ≡ (0, Some y) ∷ [] → m' ≡ (released_seat m.0 (list y), [])
 
   -- number: the count rises by one, and the old count is the number that was given
-  abbrev pub seat_numbered : At → Sat → ℕ → Sat → Type 0
-  seat_numbered st m r m' = (r ≡ m.0.given) × (m' ≡ (minted m.0, m.1))
+  abbrev pub seat_numbering : At → Sat → ℕ → Sat → Type 0
+  seat_numbering st m r m' = (r ≡ m.0.given) × (m' ≡ (minted_view m.0, m.1))
 
   -- of two lists that a joined seat has seen, the shorter begins the longer, and no entry after it names a number of the seat that had seen the shorter
-  abbrev pub compared : At → Sat → ℕ → Sat → Type 0
-  compared st m r m' =
+  abbrev pub list_comparison : At → Sat → ℕ → Sat → Type 0
+  list_comparison st m r m' =
       (m' ≡ m) × (length m.0.other_seen ≤ length m.0.seen → StartsWith m.0.seen m.0.other_seen)
       × ((n : ℕ) → HasElement m.0.other_numbers n → (k : ℕ) (e : E) → get_elem? m.0.seen k ≡ some e → names e ≡ n → k < length m.0.other_seen)
 
@@ -81,5 +81,5 @@ module _ {E O : Type 0} where
   views_joined v w = record v { numbers = v.numbers ++ w.numbers; seen = longer v.seen w.seen; other_seen = shorter v.seen w.seen; other_numbers = shorter_numbers v.seen w.seen v.numbers w.numbers }
 
   -- join: the other seat is spent
-  abbrev pub spent : SeatView E O
-  spent = record { number = 0; numbers = []; seen = []; other_seen = []; other_numbers = []; stage = Spent; start = None; is_maker = false; given = 0 }
+  abbrev pub spent_view : SeatView E O
+  spent_view = record { number = 0; numbers = []; seen = []; other_seen = []; other_numbers = []; stage = Spent; start = None; is_maker = false; given = 0 }

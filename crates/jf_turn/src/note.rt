@@ -2,7 +2,7 @@
 ghost use Rattle.std.specs.Prelude.{◌≡◌, [], length, None};
 ghost use Rattle.jf_turn.specs.declared.view.Stage.TheVariants.{Idle};
 ghost use Rattle.jf_turn.specs.Lists.{StartsWith};
-ghost use Rattle.jf_turn.specs.Seats.{IsSeatOf, IsNoteOf, OthersFollow, noted, learning, note_state};
+ghost use Rattle.jf_turn.specs.Seats.{IsSeatOf, IsNoteOf, OthersFollow, note_of, learning, note_state};
 
 use crate::seat::Seat;
 use crate::seating::{join, write_down};
@@ -78,7 +78,7 @@ impl<V: Told> Seat<V> {
         // The seat stays as it is.
         ensures unchanged { self.new ≡ self.old }
         // The result is a note of this turn, and has all entries that the seat has seen.
-        ensures note { result ≡ noted self.old }
+        ensures note { result ≡ note_of self.old }
     {
         Note {
             seen: self.seen,

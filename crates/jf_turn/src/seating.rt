@@ -4,7 +4,7 @@ ghost use mathlib.Core.Option.{some};
 ghost use lib.ListN.{get_elem?};
 ghost use Rattle.jf_turn.specs.declared.view.Stage.TheVariants.{Idle};
 ghost use Rattle.jf_turn.specs.Lists.{HasElement, StartsWith};
-ghost use Rattle.jf_turn.specs.Steps.{minted, maker_left, seat_right, note_right, views_joined};
+ghost use Rattle.jf_turn.specs.Steps.{minted_view, maker_left, seat_right, note_right, views_joined};
 
 use crate::steps::{Both, Compare, Noting, Number, Seating};
 use crate::told::Told;
@@ -21,8 +21,8 @@ pub(crate) fn make_seat<V: Told>(
     requires idle { (token.old.me.0.stage ≡ Idle) × (token.old.me.1 ≡ []) }
     requires maker { (token.old.me.0.is_maker ≡ true) × (token.old.me.0.numbers ≡ token.old.me.0.number ∷ []) × (token.old.me.0.number < token.old.me.0.given) }
     requires room { token.old.me.0.given < turn.now.seats }
-    ensures maker { (token.new.table_id ≡ token.old.table_id) × (token.new.me ≡ (maker_left (minted token.old.me.0), [])) }
-    ensures seat { (result.table_id ≡ token.old.table_id) × (result.me ≡ (seat_right (minted token.old.me.0), [])) }
+    ensures maker { (token.new.table_id ≡ token.old.table_id) × (token.new.me ≡ (maker_left (minted_view token.old.me.0), [])) }
+    ensures seat { (result.table_id ≡ token.old.table_id) × (result.me ≡ (seat_right (minted_view token.old.me.0), [])) }
 {
     turn.table.shared.fetch_add::<Number>(token, 1, 1);
     turn.table.shared.split_seat::<Seating>(token)

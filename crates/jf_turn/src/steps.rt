@@ -1,5 +1,5 @@
 //! What each kind of step on the table tells the seat that takes it.
-ghost use Rattle.jf_turn.specs.Steps.{turn_claimed, born, moved, released, seat_numbered, compared, maker_left, seat_right, note_right, views_joined, spent};
+ghost use Rattle.jf_turn.specs.Steps.{turn_claim, turn_birth, turn_move, turn_release, seat_numbering, list_comparison, maker_left, seat_right, note_right, views_joined, spent_view};
 
 use crate::told::Told;
 use crate::view::SeatView;
@@ -9,35 +9,35 @@ use atomic_table::{Join, Play, Split};
 pub(crate) struct Claim;
 
 impl<V: Told> Play<Option<V>, SeatView<V::Entry, V::Start>> for Claim {
-    ghost then = { turn_claimed V.list V.names V.start };
+    ghost then = { turn_claim V.list V.names V.start };
 }
 
 /// The first seat takes the empty slot.
 pub(crate) struct Birth;
 
 impl<V: Told> Play<Option<V>, SeatView<V::Entry, V::Start>> for Birth {
-    ghost then = { born V.list V.names V.start };
+    ghost then = { turn_birth V.list V.names V.start };
 }
 
 /// The word of a held turn counts the entries of the value that is to come home.
 pub(crate) struct Move;
 
 impl<V: Told> Play<Option<V>, SeatView<V::Entry, V::Start>> for Move {
-    ghost then = { moved V.list V.names V.start };
+    ghost then = { turn_move V.list V.names V.start };
 }
 
 /// The word becomes even, and the value is at home in the slot.
 pub(crate) struct Release;
 
 impl<V: Told> Play<Option<V>, SeatView<V::Entry, V::Start>> for Release {
-    ghost then = { released V.list V.names V.start };
+    ghost then = { turn_release V.list V.names V.start };
 }
 
 /// The count of numbers rises by one.
 pub(crate) struct Number;
 
 impl<V: Told> Play<Option<V>, SeatView<V::Entry, V::Start>> for Number {
-    ghost then = { seat_numbered V.list V.names V.start };
+    ghost then = { seat_numbering V.list V.names V.start };
 }
 
 /// A load, by which a joined seat learns that the shorter list begins the longer, and that no entry after it names a
@@ -45,7 +45,7 @@ impl<V: Told> Play<Option<V>, SeatView<V::Entry, V::Start>> for Number {
 pub(crate) struct Compare;
 
 impl<V: Told> Play<Option<V>, SeatView<V::Entry, V::Start>> for Compare {
-    ghost then = { compared V.list V.names V.start };
+    ghost then = { list_comparison V.list V.names V.start };
 }
 
 /// A load that makes a seat, for the number that the maker had.
@@ -72,5 +72,5 @@ pub(crate) struct Both;
 impl<E, O> Join<SeatView<E, O>> for Both {
     ghost both = { views_joined };
 
-    ghost spent = { spent };
+    ghost spent = { spent_view };
 }

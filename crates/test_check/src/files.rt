@@ -166,7 +166,7 @@ fn check_seen<H: Threads + Sync>(
     sink: &mut MemSink,
 ) -> Result<Result<StoreCheck, Unchecked>, Fail> {
     let (a, b) = (bytes_of(alloc, row.0)?, bytes_of(alloc, row.1)?);
-    let disk = AnyDisk::seen(alloc, FolderBytes { a, b }, 4)?;
+    let disk = AnyDisk::of_bytes(alloc, FolderBytes { a, b }, 4)?;
     let mut disk = Box::new(alloc, disk)?;
     Ok(check_disk(rt, alloc, &mut *disk, Workers::ONE, sink))
 }
