@@ -1,6 +1,8 @@
-//! Shared by the tests of the store over two files: stores on disks in memory, and the steps that are taken on them.
+//! Shared by the tests of the store over two files: stores on disks in memory, the steps that are taken on them, and
+//! roots of small maps.
 #![tactic(auto)]
 
 pub mod entries;
+pub mod roots;
 pub mod steps;
 pub mod stores;

@@ -3,50 +3,49 @@
 use std::alloc::Global;
 use std::test::Fail;
 
-/// A file: its records one after another, each with the open gate before it, and the closed gate.
-pub type File = &'static [&'static [u8]];
+/// A record with the open gate before it: its parts one after another.
+pub type Record = &'static [&'static [u8]];
+
+/// A file: its records one after another, and the closed gate.
+pub type File = &'static [Record];
 
 /// The closed gate after the last record.
-pub const END: &[u8] = b"\0";
+pub const END: Record = &[b"\0"];
+
+/// An empty map as version 0: what the checkpoint of a new store has after its generation.
+pub const EMPTY_MAP: &[u8] = b"\0\0\0\0\0\0\0\0\
+    \0\0\0\0\0\0\0\0\
+    \0\0\0\0\0\0\0\0\
+    \x6e\x34\x0b\x9c\xff\xb3\x7a\x98\x9c\xa5\x44\xe6\xbb\x78\x0a\x2c\x78\x90\x1d\x3f\xb3\x37\x38\x76\x85\x11\xa3\x06\x17\xaf\xa0\x1d\
+    \0\0\0\0\0\0\0\x01\
+    \0\0\0\0\0\0\0\0\0\
+    \0\
+    \xff\xff\xff\xff\xff\xff\xff\xff";
 
 /// The checkpoint of a new store: generation 1, and an empty map as version 0.
-pub const CHECKPOINT: &[u8] = b"\x01\x05\0\0\0\0\0\0\0\x5a\
-    \0\0\0\0\0\0\0\x01\
-    \0\0\0\0\0\0\0\0\
-    \0\0\0\0\0\0\0\0\
-    \0\0\0\0\0\0\0\0\
-    \x6e\x34\x0b\x9c\xff\xb3\x7a\x98\x9c\xa5\x44\xe6\xbb\x78\x0a\x2c\x78\x90\x1d\x3f\xb3\x37\x38\x76\x85\x11\xa3\x06\x17\xaf\xa0\x1d\
-    \0\0\0\0\0\0\0\x01\
-    \0\0\0\0\0\0\0\0\0\
-    \0\
-    \xff\xff\xff\xff\xff\xff\xff\xff";
+pub const CHECKPOINT: Record = &[
+    b"\x01\x05\0\0\0\0\0\0\0\x5a",
+    b"\0\0\0\0\0\0\0\x01",
+    EMPTY_MAP,
+];
 
 /// The same in format 1.
-pub const CHECKPOINT_1: &[u8] = b"\x01\x04\0\0\0\0\0\0\0\x5a\
-    \0\0\0\0\0\0\0\x01\
-    \0\0\0\0\0\0\0\0\
-    \0\0\0\0\0\0\0\0\
-    \0\0\0\0\0\0\0\0\
-    \x6e\x34\x0b\x9c\xff\xb3\x7a\x98\x9c\xa5\x44\xe6\xbb\x78\x0a\x2c\x78\x90\x1d\x3f\xb3\x37\x38\x76\x85\x11\xa3\x06\x17\xaf\xa0\x1d\
-    \0\0\0\0\0\0\0\x01\
-    \0\0\0\0\0\0\0\0\0\
-    \0\
-    \xff\xff\xff\xff\xff\xff\xff\xff";
+pub const CHECKPOINT_1: Record = &[
+    b"\x01\x04\0\0\0\0\0\0\0\x5a",
+    b"\0\0\0\0\0\0\0\x01",
+    EMPTY_MAP,
+];
 
 /// The same as `CHECKPOINT`, of generation 2.
-pub const SECOND: &[u8] = b"\x01\x05\0\0\0\0\0\0\0\x5a\
-    \0\0\0\0\0\0\0\x02\
-    \0\0\0\0\0\0\0\0\
-    \0\0\0\0\0\0\0\0\
-    \0\0\0\0\0\0\0\0\
-    \x6e\x34\x0b\x9c\xff\xb3\x7a\x98\x9c\xa5\x44\xe6\xbb\x78\x0a\x2c\x78\x90\x1d\x3f\xb3\x37\x38\x76\x85\x11\xa3\x06\x17\xaf\xa0\x1d\
-    \0\0\0\0\0\0\0\x01\
-    \0\0\0\0\0\0\0\0\0\
-    \0\
-    \xff\xff\xff\xff\xff\xff\xff\xff";
+pub const SECOND: Record = &[
+    b"\x01\x05\0\0\0\0\0\0\0\x5a",
+    b"\0\0\0\0\0\0\0\x02",
+    EMPTY_MAP,
+];
 
 /// The landing of `put 61 =31` as version 1: a leaf, and the top of version 0 is stale.
-pub const LANDING: &[u8] = b"\x01\x03\0\0\0\0\0\0\0\x70\
+pub const LANDING: Record = &[
+    b"\x01\x03\0\0\0\0\0\0\0\x70\
     \0\0\0\0\0\0\0\x01\
     \x9b\xb7\x2c\x39\xf1\x3d\x2b\x51\x2e\xa3\x4e\xae\x99\xa2\x8f\x6d\x80\x7a\x13\x4a\xb1\x25\xe8\x91\x72\x31\x0c\x6f\x6e\xa7\x2f\x8f\
     \0\0\0\0\0\0\0\x01\
@@ -54,10 +53,12 @@ pub const LANDING: &[u8] = b"\x01\x03\0\0\0\0\0\0\0\x70\
     \x01\x19\xd5\xf5\x7c\x8e\x8b\x3c\xd7\x60\xf8\x53\xbb\x8d\x79\0\xd6\x8e\x10\xef\x02\x67\x43\x83\xde\x65\xa9\xb4\xd6\x5e\x41\x9b\x26\
     \0\0\0\x01\x31\
     \0\0\0\0\0\0\0\x01\
-    \0\0\0\0\0\0\0\0\0";
+    \0\0\0\0\0\0\0\0\0",
+];
 
 /// A landing of nothing after it: the leaf again, as the top of version 2.
-pub const LANDING_OF_NOTHING: &[u8] = b"\x01\x03\0\0\0\0\0\0\0\x70\
+pub const LANDING_OF_NOTHING: Record = &[
+    b"\x01\x03\0\0\0\0\0\0\0\x70\
     \0\0\0\0\0\0\0\x02\
     \x9b\xb7\x2c\x39\xf1\x3d\x2b\x51\x2e\xa3\x4e\xae\x99\xa2\x8f\x6d\x80\x7a\x13\x4a\xb1\x25\xe8\x91\x72\x31\x0c\x6f\x6e\xa7\x2f\x8f\
     \0\0\0\0\0\0\0\x01\
@@ -65,11 +66,13 @@ pub const LANDING_OF_NOTHING: &[u8] = b"\x01\x03\0\0\0\0\0\0\0\x70\
     \x01\x19\xd5\xf5\x7c\x8e\x8b\x3c\xd7\x60\xf8\x53\xbb\x8d\x79\0\xd6\x8e\x10\xef\x02\x67\x43\x83\xde\x65\xa9\xb4\xd6\x5e\x41\x9b\x26\
     \0\0\0\x01\x31\
     \0\0\0\0\0\0\0\x01\
-    \0\0\0\0\0\0\0\x01\0";
+    \0\0\0\0\0\0\0\x01\0",
+];
 
 /// The landing of `put 61 =01` and `put 69 =02` as version 1. Their keys agree in the first nibble only: two internal nodes
 /// and two leaves.
-pub const LANDING_OF_TWO: &[u8] = b"\x01\x03\0\0\0\0\0\0\x01\x4e\
+pub const LANDING_OF_TWO: Record = &[
+    b"\x01\x03\0\0\0\0\0\0\x01\x4e\
     \0\0\0\0\0\0\0\x01\
     \x81\xf2\x43\x72\x53\xa9\xc2\x4f\xf7\xf7\x80\xa6\x10\xd6\x19\x80\x28\x8f\x33\x45\x0b\xd4\xfa\xbe\xcd\x40\xc2\x39\xe0\x18\xb7\x46\
     \0\0\0\0\0\0\0\x04\
@@ -87,10 +90,12 @@ pub const LANDING_OF_TWO: &[u8] = b"\x01\x03\0\0\0\0\0\0\x01\x4e\
     \x01\x19\xd5\xf5\x7c\x8e\x8b\x3c\xd7\x60\xf8\x53\xbb\x8d\x79\0\xd6\x8e\x10\xef\x02\x67\x43\x83\xde\x65\xa9\xb4\xd6\x5e\x41\x9b\x26\
     \0\0\0\x01\x01\
     \0\0\0\0\0\0\0\x01\
-    \0\0\0\0\0\0\0\0\0";
+    \0\0\0\0\0\0\0\0\0",
+];
 
 /// Three landings in one record: of `put 61 =31`, of `put 61 =32` and of `put 62 =33`, as versions 1 to 3.
-pub const GROUP: &[u8] = b"\x01\x06\0\0\0\0\0\0\x01\xf7\
+pub const GROUP: Record = &[
+    b"\x01\x06\0\0\0\0\0\0\x01\xf7\
     \0\0\0\0\0\0\0\x03\
     \0\0\0\0\0\0\0\x01\
     \x9b\xb7\x2c\x39\xf1\x3d\x2b\x51\x2e\xa3\x4e\xae\x99\xa2\x8f\x6d\x80\x7a\x13\x4a\xb1\x25\xe8\x91\x72\x31\x0c\x6f\x6e\xa7\x2f\x8f\
@@ -122,15 +127,19 @@ pub const GROUP: &[u8] = b"\x01\x06\0\0\0\0\0\0\x01\xf7\
     \x01\x6f\xe4\xff\x1a\x83\x6f\xcb\x88\x1b\xbe\x03\xff\x84\x8b\xb7\x31\xa5\x58\x47\x08\x15\x3d\x9b\xc6\xdc\x1d\x64\x30\x57\x9a\x6a\x12\
     \0\0\0\x01\x33\
     \0\0\0\0\0\0\0\x01\
-    \0\0\0\0\0\0\0\x02\0";
+    \0\0\0\0\0\0\0\x02\0",
+];
 
 /// A floor of 2.
-pub const FLOOR: &[u8] = b"\x01\x02\0\0\0\0\0\0\0\x08\
-    \0\0\0\0\0\0\0\x02";
+pub const FLOOR: Record = &[
+    b"\x01\x02\0\0\0\0\0\0\0\x08\
+    \0\0\0\0\0\0\0\x02",
+];
 
 /// The checkpoint of generation 2 after `LANDING` and `LANDING_OF_NOTHING`: three versions, and three nodes, of which two
 /// are stale.
-pub const COMPACTED: &[u8] = b"\x01\x05\0\0\0\0\0\0\x01\x08\
+pub const COMPACTED: Record = &[
+    b"\x01\x05\0\0\0\0\0\0\x01\x08\
     \0\0\0\0\0\0\0\x02\
     \0\0\0\0\0\0\0\0\
     \0\0\0\0\0\0\0\0\
@@ -149,10 +158,12 @@ pub const COMPACTED: &[u8] = b"\x01\x05\0\0\0\0\0\0\x01\x08\
     \0\0\0\0\0\0\0\x02\0\
     \x01\x19\xd5\xf5\x7c\x8e\x8b\x3c\xd7\x60\xf8\x53\xbb\x8d\x79\0\xd6\x8e\x10\xef\x02\x67\x43\x83\xde\x65\xa9\xb4\xd6\x5e\x41\x9b\x26\
     \0\0\0\x01\x31\
-    \xff\xff\xff\xff\xff\xff\xff\xff";
+    \xff\xff\xff\xff\xff\xff\xff\xff",
+];
 
 /// A landing of nothing after it, as version 3.
-pub const LANDING_OF_NOTHING_3: &[u8] = b"\x01\x03\0\0\0\0\0\0\0\x70\
+pub const LANDING_OF_NOTHING_3: Record = &[
+    b"\x01\x03\0\0\0\0\0\0\0\x70\
     \0\0\0\0\0\0\0\x03\
     \x9b\xb7\x2c\x39\xf1\x3d\x2b\x51\x2e\xa3\x4e\xae\x99\xa2\x8f\x6d\x80\x7a\x13\x4a\xb1\x25\xe8\x91\x72\x31\x0c\x6f\x6e\xa7\x2f\x8f\
     \0\0\0\0\0\0\0\x01\
@@ -160,10 +171,12 @@ pub const LANDING_OF_NOTHING_3: &[u8] = b"\x01\x03\0\0\0\0\0\0\0\x70\
     \x01\x19\xd5\xf5\x7c\x8e\x8b\x3c\xd7\x60\xf8\x53\xbb\x8d\x79\0\xd6\x8e\x10\xef\x02\x67\x43\x83\xde\x65\xa9\xb4\xd6\x5e\x41\x9b\x26\
     \0\0\0\x01\x31\
     \0\0\0\0\0\0\0\x01\
-    \0\0\0\0\0\0\0\x02\0";
+    \0\0\0\0\0\0\0\x02\0",
+];
 
 /// A checkpoint of generation 2 that holds an empty map as the last version that there can be, and no other version.
-pub const IMPORTED: &[u8] = b"\x01\x05\0\0\0\0\0\0\0\x5a\
+pub const IMPORTED: Record = &[
+    b"\x01\x05\0\0\0\0\0\0\0\x5a\
     \0\0\0\0\0\0\0\x02\
     \xff\xff\xff\xff\xff\xff\xff\xfe\
     \xff\xff\xff\xff\xff\xff\xff\xfe\
@@ -172,13 +185,24 @@ pub const IMPORTED: &[u8] = b"\x01\x05\0\0\0\0\0\0\0\x5a\
     \0\0\0\0\0\0\0\x01\
     \xff\xff\xff\xff\xff\xff\xff\xfe\0\
     \0\
-    \xff\xff\xff\xff\xff\xff\xff\xff";
+    \xff\xff\xff\xff\xff\xff\xff\xff",
+];
+
+/// The bytes of these parts, one after another.
+pub fn bytes_of(alloc: Global, parts: &[&[u8]]) -> Result<Vec<u8>, Fail> {
+    let mut bytes = Vec::new(alloc);
+    for part in parts {
+        bytes.extend_from_slice(part)?;
+    }
+    Ok(bytes)
+}
 
 /// The bytes of a file.
-pub fn bytes_of(alloc: Global, file: &[&[u8]]) -> Result<Vec<u8>, Fail> {
+pub fn file_bytes(alloc: Global, file: &[Record]) -> Result<Vec<u8>, Fail> {
     let mut bytes = Vec::new(alloc);
     for record in file {
-        bytes.extend_from_slice(record)?;
+        let record = bytes_of(alloc, record)?;
+        bytes.extend_from_slice(&record)?;
     }
     Ok(bytes)
 }

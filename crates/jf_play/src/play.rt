@@ -38,6 +38,20 @@ pub const NO_FAULTS: Faults = Faults {
     sink: &[],
 };
 
+/// The first call of the source fails: no input is read.
+pub const NO_INPUT: Faults = Faults {
+    piece: 100,
+    source: &[0],
+    sink: &[],
+};
+
+/// The first call of the sink fails: nothing is written.
+pub const NO_OUTPUT: Faults = Faults {
+    piece: 100,
+    source: &[],
+    sink: &[0],
+};
+
 /// A disk in memory whose sides hold `a` and `b`. The calls whose numbers, from 0, are in `failing` fail.
 pub fn disk_of(alloc: Global, a: &[u8], b: &[u8], failing: &[u64]) -> Result<Box<MemDisk>, Fail> {
     let disk = MemDisk::new(

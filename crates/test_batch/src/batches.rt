@@ -1,24 +1,9 @@
 // Batches take changes up to their limits, and have them in the order of their keys.
-use jf_path::{Key, Memory};
+use crate::words::{AT_THE_LIMIT, ORDERS, SAID, SORTED, Told, Word, key, tells};
+use jf_path::Memory;
 use jf_split::{Batch, BatchFault, BatchList};
 use std::alloc::Global;
 use std::test::Fail;
-
-pub fn key(n: u32) -> Key {
-    let mut key = [0; 32];
-    let [a, b, c, d] = n.to_be_bytes();
-    key[0] = a;
-    key[1] = b;
-    key[30] = c;
-    key[31] = d;
-    key
-}
-
-// A key by its number, and the value put at it, at most 4,096 bytes, or `None` if it is to be removed.
-type Word = (u32, Option<&'static [u8]>);
-
-// What a batch has of a key: the key's last byte, and the first byte of its value or `None`.
-type Told = (u8, Option<u8>);
 
 fn say(alloc: Global, batch: &mut Batch, word: &Word) -> Result<(), BatchFault> {
     match word {
@@ -40,33 +25,6 @@ fn batch_of(alloc: Global, words: &[Word]) -> Result<Batch, BatchFault> {
     Ok(batch)
 }
 
-fn batch_list(alloc: Global, batch: &Batch) -> Result<Vec<Told>, Memory> {
-    let mut told = Vec::new(alloc);
-    for (key, value) in batch.as_slice() {
-        let first = match value {
-            Some(bytes) => bytes.as_slice().first().copied(),
-            None => None,
-        };
-        told.push((key[31], first))?;
-    }
-    Ok(told)
-}
-
-fn tells(alloc: Global, batch: &Batch, expected: &[Told]) -> Result<bool, Memory> {
-    Ok(batch_list(alloc, batch)?.as_slice() == expected)
-}
-
-const ORDERS: &[&[Word]] = &[
-    &[(1, Some(b"x")), (2, None), (3, Some(b"x"))],
-    &[(1, Some(b"x")), (3, Some(b"x")), (2, None)],
-    &[(2, None), (1, Some(b"x")), (3, Some(b"x"))],
-    &[(2, None), (3, Some(b"x")), (1, Some(b"x"))],
-    &[(3, Some(b"x")), (1, Some(b"x")), (2, None)],
-    &[(3, Some(b"x")), (2, None), (1, Some(b"x"))],
-];
-
-const SORTED: &[Told] = &[(1, Some(b'x')), (2, None), (3, Some(b'x'))];
-
 fn comes_out_sorted(alloc: Global, words: &[Word]) -> Result<bool, Fail> {
     let batch = batch_of(alloc, words)?;
     Ok(tells(alloc, &batch, SORTED)?)
@@ -79,15 +37,6 @@ fn words_in_any_order_come_out_sorted(rt: HostRuntime) -> Result<(), Fail> {
     }
     Ok(())
 }
-
-// Changes made to one batch, and what it has then.
-const SAID: &[(&[Word], &[Told])] = &[
-    (
-        &[(1, Some(b"a")), (2, Some(b"b")), (1, Some(b"c")), (2, None)],
-        &[(1, Some(b'c')), (2, None)],
-    ),
-    (&[(2, Some(b"d"))], &[(1, Some(b'c')), (2, Some(b'd'))]),
-];
 
 fn tells_after(
     alloc: Global,
@@ -115,14 +64,6 @@ fn batch_of_10_000(alloc: Global) -> Result<Batch, BatchFault> {
     }
     Ok(batch)
 }
-
-// What a batch of 10,000 keys takes and what it refuses. It has the keys of 7,919 and of 0, and not that of 10,008.
-const AT_THE_LIMIT: &[(Word, Result<(), BatchFault>)] = &[
-    ((10_008, Some(b"new")), Err(BatchFault::Full)),
-    ((10_008, None), Err(BatchFault::Full)),
-    ((7_919, Some(b"second")), Ok(())),
-    ((0, None), Ok(())),
-];
 
 fn takes(alloc: Global, batch: &mut Batch, word: &Word, expected: &Result<(), BatchFault>) -> bool {
     say(alloc, batch, word) == *expected && batch.len() == 10_000

@@ -7,3 +7,5 @@ mod batches;
 mod pendings;
 #[cfg(test)]
 mod pieces;
+#[cfg(test)]
+mod words;

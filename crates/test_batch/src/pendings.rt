@@ -1,15 +1,9 @@
 // Changes are gathered in any order, up to the limits of a batch, and are made a batch in the order of their keys.
-use crate::batches::key;
+use crate::words::{self, AT_THE_LIMIT, ORDERS, SAID, SORTED, Told, Word, key};
 use jf_path::{Memory, SharedBytes};
-use jf_split::{Batch, BatchFault, Pending};
+use jf_split::{BatchFault, Pending};
 use std::alloc::Global;
 use std::test::Fail;
-
-// A key by its number, and the value put at it, at most 4,096 bytes, or `None` if it is to be removed.
-type Word = (u32, Option<&'static [u8]>);
-
-// What a batch has of a key: the key's last byte, and the first byte of its value or `None`.
-type Told = (u8, Option<u8>);
 
 fn gather(alloc: Global, pending: &mut Pending, word: &Word) -> Result<(), BatchFault> {
     match word {
@@ -28,34 +22,11 @@ fn gather_all(alloc: Global, pending: &mut Pending, words: &[Word]) -> Result<()
     Ok(())
 }
 
-fn batch_list(alloc: Global, batch: &Batch) -> Result<Vec<Told>, Memory> {
-    let mut told = Vec::new(alloc);
-    for (key, value) in batch.as_slice() {
-        let first = match value {
-            Some(bytes) => bytes.as_slice().first().copied(),
-            None => None,
-        };
-        told.push((key[31], first))?;
-    }
-    Ok(told)
-}
-
 // Whether the batch of what is pending tells this.
 fn tells(alloc: Global, pending: &Pending, expected: &[Told]) -> Result<bool, Memory> {
     let batch = pending.batch(alloc)?;
-    Ok(batch_list(alloc, &batch)?.as_slice() == expected)
+    words::tells(alloc, &batch, expected)
 }
-
-const ORDERS: &[&[Word]] = &[
-    &[(1, Some(b"x")), (2, None), (3, Some(b"x"))],
-    &[(1, Some(b"x")), (3, Some(b"x")), (2, None)],
-    &[(2, None), (1, Some(b"x")), (3, Some(b"x"))],
-    &[(2, None), (3, Some(b"x")), (1, Some(b"x"))],
-    &[(3, Some(b"x")), (1, Some(b"x")), (2, None)],
-    &[(3, Some(b"x")), (2, None), (1, Some(b"x"))],
-];
-
-const SORTED: &[Told] = &[(1, Some(b'x')), (2, None), (3, Some(b'x'))];
 
 // Gathers these words alone: what was pending before is dropped.
 fn comes_out_sorted(alloc: Global, pending: &mut Pending, words: &[Word]) -> Result<bool, Fail> {
@@ -75,15 +46,6 @@ fn words_in_any_order_come_out_sorted(rt: HostRuntime) -> Result<(), Fail> {
     }
     Ok(())
 }
-
-// Changes gathered one after another, and what the batch has then.
-const SAID: &[(&[Word], &[Told])] = &[
-    (
-        &[(1, Some(b"a")), (2, Some(b"b")), (1, Some(b"c")), (2, None)],
-        &[(1, Some(b'c')), (2, None)],
-    ),
-    (&[(2, Some(b"d"))], &[(1, Some(b'c')), (2, Some(b'd'))]),
-];
 
 fn tells_after(
     alloc: Global,
@@ -112,14 +74,6 @@ fn pending_of_10_000(alloc: Global) -> Result<Pending, BatchFault> {
     }
     Ok(pending)
 }
-
-// What 10,000 pending keys take and what they refuse. The keys of 7,919 and of 0 are there, and not that of 10,008.
-const AT_THE_LIMIT: &[(Word, Result<(), BatchFault>)] = &[
-    ((10_008, Some(b"new")), Err(BatchFault::Full)),
-    ((10_008, None), Err(BatchFault::Full)),
-    ((7_919, Some(b"second")), Ok(())),
-    ((0, None), Ok(())),
-];
 
 fn takes(
     alloc: Global,

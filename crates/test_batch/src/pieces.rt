@@ -3,7 +3,7 @@ ghost use Rattle.std.specs.Prelude.{◌≡◌, ℕ, ◌<◌, ◌≤◌, IsTrue};
 ghost use Rattle.jf_path.specs.Nibbles.{nibble};
 ghost use Rattle.jf_split.specs.Pieces.{AgreeBefore};
 
-use crate::batches::key;
+use crate::words::key;
 use jf_path::{Key, nibble};
 use jf_split::{Batch, BatchFault, Piece};
 use std::alloc::Global;

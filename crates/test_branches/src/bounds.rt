@@ -1,6 +1,6 @@
 // The bounds of forks: 1,024 live ones, and 10,000 keys that land together.
 use jf_disk::MemDisk;
-use jf_play::files::{CHECKPOINT, END, File, IMPORTED, bytes_of};
+use jf_play::files::{CHECKPOINT, END, File, IMPORTED, file_bytes};
 use jf_play::play::{answers, disk_of};
 use jf_play::roots::with_roots;
 use std::alloc::Global;
@@ -203,8 +203,8 @@ fn chain_replies(alloc: Global, chain: &Chain) -> Result<Vec<u8>, Fail> {
 }
 
 fn chain_disk(alloc: Global, chain: &Chain) -> Result<Box<MemDisk>, Fail> {
-    let a = bytes_of(alloc, chain.files.0)?;
-    let b = bytes_of(alloc, chain.files.1)?;
+    let a = file_bytes(alloc, chain.files.0)?;
+    let b = file_bytes(alloc, chain.files.1)?;
     disk_of(alloc, &a, &b, &[])
 }
 

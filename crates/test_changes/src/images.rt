@@ -1,27 +1,11 @@
 // The images that a crash leaves, opened.
 use crate::script::{is_between, opened_state};
 use jf_disk::MemDisk;
-use jf_play::images::image_of;
+use jf_play::images::{Crash, image_of};
 use std::alloc::Global;
 use std::sync::Wait;
 use std::test::Fail;
 use std::thread::Threads;
-
-// Crashes: how many unsynced bytes each keeps, and what the others become.
-pub(crate) const CRASHES: &[(u64, u8)] = &[
-    (0, 0x00),
-    (0, 0x01),
-    (0, 0xff),
-    (1, 0x00),
-    (1, 0x01),
-    (1, 0xff),
-    (200, 0x00),
-    (200, 0x01),
-    (200, 0xff),
-    (1 << 62, 0x00),
-    (1 << 62, 0x01),
-    (1 << 62, 0xff),
-];
 
 // The state of what a crash after so many calls leaves.
 pub(crate) fn state_left<H: Threads + Wait + Sync>(
@@ -29,9 +13,9 @@ pub(crate) fn state_left<H: Threads + Wait + Sync>(
     alloc: Global,
     disk: &MemDisk,
     moment: u64,
-    crash: (u64, u8),
+    crash: Crash,
 ) -> Result<usize, Fail> {
-    let image = image_of(alloc, disk, moment, crash.0, crash.1)?;
+    let image = image_of(alloc, disk, moment, crash)?;
     opened_state(rt, alloc, image)
 }
 
@@ -41,10 +25,10 @@ fn is_left<H: Threads + Wait + Sync>(
     alloc: Global,
     disk: &MemDisk,
     moment: u64,
-    crash: (u64, u8),
+    crash: Crash,
     states: (usize, usize),
 ) -> Result<(), Fail> {
-    let image = image_of(alloc, disk, moment, crash.0, crash.1)?;
+    let image = image_of(alloc, disk, moment, crash)?;
     is_between(rt, alloc, image, states)
 }
 
@@ -54,7 +38,7 @@ pub(crate) fn are_left<H: Threads + Wait + Sync>(
     alloc: Global,
     disk: &MemDisk,
     moment: u64,
-    crashes: &[(u64, u8)],
+    crashes: &[Crash],
     states: (usize, usize),
 ) -> Result<(), Fail> {
     for crash in crashes {

@@ -1,7 +1,8 @@
 // A call of the disk that fails ends the run, and leaves the versions before or after the change that was tried.
-use crate::images::{CRASHES, are_left};
+use crate::images::are_left;
 use crate::script::{REPLIES, are_replies, is_between, run_script, state_after};
 use jf_disk::{Disk, MemDisk};
+use jf_play::images::CRASHES;
 use jf_play::play::{NO_FAULTS, Played, has_ended};
 use jf_run::status::Status;
 use std::alloc::Global;

@@ -1,7 +1,8 @@
 // A stop at any moment leaves what was acknowledged by then.
-use crate::images::{CRASHES, are_left, state_left};
+use crate::images::{are_left, state_left};
 use crate::one_fault::ALL;
 use crate::script::{LAST, run_script, state_after};
+use jf_play::images::CRASHES;
 use jf_play::play::NO_FAULTS;
 use std::alloc::Global;
 use std::sync::Wait;

@@ -3,7 +3,7 @@ use crate::images::{are_left, state_left};
 use crate::one_fault::ALL;
 use crate::script::run_script;
 use jf_disk::{Disk, MemDisk, Side};
-use jf_play::images::image_of;
+use jf_play::images::{Crash, image_of};
 use jf_play::play::{NO_FAULTS, disk_of, has_ended, play};
 use jf_run::status::Status;
 use std::alloc::Global;
@@ -11,11 +11,11 @@ use std::sync::Wait;
 use std::test::Fail;
 use std::thread::Threads;
 
-// A crash: how many unsynced bytes it keeps, and what the others become.
-const CRASH: (u64, u8) = (200, 0x5a);
+// The crash before the second opening.
+const CRASH: Crash = (200, 0x5a);
 
-// Two crashes after the second opening: how many unsynced bytes each keeps, and what the others become.
-const TWO: &[(u64, u8)] = &[(0, 0x01), (1 << 62, 0x00)];
+// Two crashes after it.
+const TWO: &[Crash] = &[(0, 0x01), (1 << 62, 0x00)];
 
 // Opens what a disk holds, on a disk that fails in this call. Fails unless what a crash leaves then has this state. Returns whether
 // the call was made: if so, the opening ends with a fault of the disk, and writes nothing.
@@ -57,7 +57,7 @@ fn open_twice<H: Threads + Wait + Sync>(
 fn stop_twice<H: Threads + Wait + Sync>(rt: &H, alloc: Global, calls: u64) -> Result<(), Fail> {
     let played = run_script(rt, alloc, &[], NO_FAULTS)?;
     let state = state_left(rt, alloc, &played.disk, calls, CRASH)?;
-    let image = image_of(alloc, &played.disk, calls, CRASH.0, CRASH.1)?;
+    let image = image_of(alloc, &played.disk, calls, CRASH)?;
     open_twice(rt, alloc, &image, state)
 }
 

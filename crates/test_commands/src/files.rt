@@ -1,8 +1,8 @@
 // What commands write, byte by byte, over files of either format and with either side live.
 use jf_disk::{Disk, MemDisk, Side};
 use jf_play::files::{
-    CHECKPOINT, CHECKPOINT_1, COMPACTED, END, FLOOR, File, GROUP, LANDING, LANDING_OF_NOTHING,
-    LANDING_OF_NOTHING_3, SECOND, bytes_of,
+    CHECKPOINT, CHECKPOINT_1, COMPACTED, EMPTY_MAP, END, FLOOR, File, GROUP, LANDING,
+    LANDING_OF_NOTHING, LANDING_OF_NOTHING_3, Record, SECOND, file_bytes,
 };
 use jf_play::play::{NO_FAULTS, disk_of, has_ended, play};
 use jf_play::roots::with_roots;
@@ -31,21 +31,15 @@ const LANDED: File = &[CHECKPOINT, LANDING, END];
 const LANDED_TWICE: File = &[CHECKPOINT, LANDING, LANDING_OF_NOTHING, END];
 
 // A new store of generation 3.
-const THIRD: &[u8] = b"\x01\x05\0\0\0\0\0\0\0\x5a\
-    \0\0\0\0\0\0\0\x03\
-    \0\0\0\0\0\0\0\0\
-    \0\0\0\0\0\0\0\0\
-    \0\0\0\0\0\0\0\0\
-    \x6e\x34\x0b\x9c\xff\xb3\x7a\x98\x9c\xa5\x44\xe6\xbb\x78\x0a\x2c\x78\x90\x1d\x3f\xb3\x37\x38\x76\x85\x11\xa3\x06\x17\xaf\xa0\x1d\
-    \0\0\0\0\0\0\0\x01\
-    \0\0\0\0\0\0\0\0\0\
-    \0\
-    \xff\xff\xff\xff\xff\xff\xff\xff";
+const THIRD: Record = &[
+    b"\x01\x05\0\0\0\0\0\0\0\x5a",
+    b"\0\0\0\0\0\0\0\x03",
+    EMPTY_MAP,
+];
 
-// The checkpoint of generation 2 after `LANDING`, `LANDING_OF_NOTHING` and `FLOOR`: three roots, and the one node of version 2.
-const COMPACTED_AT_2: &[u8] = b"\x01\x05\0\0\0\0\0\0\0\xbf\
-    \0\0\0\0\0\0\0\x02\
-    \0\0\0\0\0\0\0\0\
+// What a checkpoint after `LANDING`, `LANDING_OF_NOTHING` and `FLOOR` has after its generation: three roots, and the one node
+// of version 2.
+const MAP_AT_2: &[u8] = b"\0\0\0\0\0\0\0\0\
     \0\0\0\0\0\0\0\x02\
     \0\0\0\0\0\0\0\x02\
     \x6e\x34\x0b\x9c\xff\xb3\x7a\x98\x9c\xa5\x44\xe6\xbb\x78\x0a\x2c\x78\x90\x1d\x3f\xb3\x37\x38\x76\x85\x11\xa3\x06\x17\xaf\xa0\x1d\
@@ -57,8 +51,16 @@ const COMPACTED_AT_2: &[u8] = b"\x01\x05\0\0\0\0\0\0\0\xbf\
     \0\0\0\x01\x31\
     \xff\xff\xff\xff\xff\xff\xff\xff";
 
+// A checkpoint of generation 2 with that.
+const COMPACTED_AT_2: Record = &[
+    b"\x01\x05\0\0\0\0\0\0\0\xbf",
+    b"\0\0\0\0\0\0\0\x02",
+    MAP_AT_2,
+];
+
 // The checkpoint of generation 2 after `LANDING` and a floor of 1: two roots, and the one node of version 1.
-const SECOND_AT_1: &[u8] = b"\x01\x05\0\0\0\0\0\0\0\x9f\
+const SECOND_AT_1: Record = &[
+    b"\x01\x05\0\0\0\0\0\0\0\x9f\
     \0\0\0\0\0\0\0\x02\
     \0\0\0\0\0\0\0\0\
     \0\0\0\0\0\0\0\x01\
@@ -69,22 +71,15 @@ const SECOND_AT_1: &[u8] = b"\x01\x05\0\0\0\0\0\0\0\x9f\
     \0\0\0\0\0\0\0\x01\0\
     \x01\x19\xd5\xf5\x7c\x8e\x8b\x3c\xd7\x60\xf8\x53\xbb\x8d\x79\0\xd6\x8e\x10\xef\x02\x67\x43\x83\xde\x65\xa9\xb4\xd6\x5e\x41\x9b\x26\
     \0\0\0\x01\x31\
-    \xff\xff\xff\xff\xff\xff\xff\xff";
+    \xff\xff\xff\xff\xff\xff\xff\xff",
+];
 
-// The checkpoint of generation 3 after that one, `LANDING_OF_NOTHING` and `FLOOR`: three roots, and the one node of version 2.
-const THIRD_AT_2: &[u8] = b"\x01\x05\0\0\0\0\0\0\0\xbf\
-    \0\0\0\0\0\0\0\x03\
-    \0\0\0\0\0\0\0\0\
-    \0\0\0\0\0\0\0\x02\
-    \0\0\0\0\0\0\0\x02\
-    \x6e\x34\x0b\x9c\xff\xb3\x7a\x98\x9c\xa5\x44\xe6\xbb\x78\x0a\x2c\x78\x90\x1d\x3f\xb3\x37\x38\x76\x85\x11\xa3\x06\x17\xaf\xa0\x1d\
-    \x9b\xb7\x2c\x39\xf1\x3d\x2b\x51\x2e\xa3\x4e\xae\x99\xa2\x8f\x6d\x80\x7a\x13\x4a\xb1\x25\xe8\x91\x72\x31\x0c\x6f\x6e\xa7\x2f\x8f\
-    \x9b\xb7\x2c\x39\xf1\x3d\x2b\x51\x2e\xa3\x4e\xae\x99\xa2\x8f\x6d\x80\x7a\x13\x4a\xb1\x25\xe8\x91\x72\x31\x0c\x6f\x6e\xa7\x2f\x8f\
-    \0\0\0\0\0\0\0\x01\
-    \0\0\0\0\0\0\0\x02\0\
-    \x01\x19\xd5\xf5\x7c\x8e\x8b\x3c\xd7\x60\xf8\x53\xbb\x8d\x79\0\xd6\x8e\x10\xef\x02\x67\x43\x83\xde\x65\xa9\xb4\xd6\x5e\x41\x9b\x26\
-    \0\0\0\x01\x31\
-    \xff\xff\xff\xff\xff\xff\xff\xff";
+// The checkpoint of generation 3 after that one, `LANDING_OF_NOTHING` and `FLOOR`.
+const THIRD_AT_2: Record = &[
+    b"\x01\x05\0\0\0\0\0\0\0\xbf",
+    b"\0\0\0\0\0\0\0\x03",
+    MAP_AT_2,
+];
 
 const ROWS: &[Row] = &[
     Row {
@@ -193,15 +188,15 @@ const ROWS: &[Row] = &[
 
 // Whether a disk holds these files.
 fn holds(alloc: Global, disk: &MemDisk, files: (File, File)) -> Result<bool, Fail> {
-    let a = bytes_of(alloc, files.0)?;
-    let b = bytes_of(alloc, files.1)?;
+    let a = file_bytes(alloc, files.0)?;
+    let b = file_bytes(alloc, files.1)?;
     Ok(disk.bytes(Side::A) == a.as_slice() && disk.bytes(Side::B) == b.as_slice())
 }
 
 // Whether files are answered, and go on, as a row says.
 fn goes_on<H: Threads + Wait + Sync>(rt: &H, alloc: Global, row: &Row) -> Result<bool, Fail> {
-    let a = bytes_of(alloc, row.before.0)?;
-    let b = bytes_of(alloc, row.before.1)?;
+    let a = file_bytes(alloc, row.before.0)?;
+    let b = file_bytes(alloc, row.before.1)?;
     let want = with_roots(alloc, row.want)?;
     let disk = disk_of(alloc, &a, &b, &[])?;
     let played = play(rt, alloc, disk, "run", row.script.as_bytes(), NO_FAULTS)?;

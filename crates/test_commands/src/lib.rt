@@ -1,5 +1,5 @@
-//! Tests of the commands that a script has: pins, versions that are retired, new generations of the files, places of entries,
-//! and the store's numbers.
+//! Tests of the commands that a script has: pins, versions that are retired, new generations of the files, and the store's
+//! numbers.
 #![tactic(auto)]
 
 #[cfg(test)]
@@ -9,11 +9,7 @@ mod generations;
 #[cfg(test)]
 mod numbers;
 #[cfg(test)]
-mod order;
-#[cfg(test)]
 mod pins;
-#[cfg(test)]
-mod places;
 #[cfg(test)]
 mod pruning;
 #[cfg(test)]

@@ -33,15 +33,7 @@ const ROWS: &[(&str, &str, &str)] = &[
     (
         "eight places",
         "commit\n\
-         pin 1\n\
-         pin 1\n\
-         pin 1\n\
-         pin 1\n\
-         pin 1\n\
-         pin 1\n\
-         pin 1\n\
-         pin 1\n\
-         pin 1\n\
+         pin 1\npin 1\npin 1\npin 1\npin 1\npin 1\npin 1\npin 1\npin 1\n\
          unpin 7\n\
          unpin 7\n\
          get p9 61\n",

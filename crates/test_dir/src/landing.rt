@@ -1,4 +1,6 @@
 // Landings on a directory, from a new store on.
+ghost use Rattle.std.specs.Prelude.{◌<◌, OnOk};
+
 use jf_dir::Directory;
 use jf_join::{FreeGate, Workers};
 use jf_path::Key;
@@ -44,6 +46,17 @@ pub(crate) fn new_store(alloc: Global) -> Result<Box<Directory>, Fail> {
     Ok(Box::new(alloc, directory)?)
 }
 
+// Fails unless one more version can land.
+fn has_room(directory: &Directory) -> Result<(), Fail>
+    ensures { OnOk result (directory.now.head < 9) }
+{
+    if directory.head() < 9 {
+        Ok(())
+    } else {
+        Err(Fail::new("too many versions"))
+    }
+}
+
 // Lands a batch on the head.
 pub(crate) fn land<H: Threads + Sync>(
     rt: &H,
@@ -52,9 +65,7 @@ pub(crate) fn land<H: Threads + Sync>(
     batch: &Batch,
     workers: u64,
 ) -> Result<(), Fail> {
-    if directory.head() >= 9 {
-        return Err(Fail::new("too many versions"));
-    }
+    has_room(directory)?;
     let Some(workers) = Workers::new(workers) else {
         return Err(Fail::new("no number of workers"));
     };
@@ -73,9 +84,7 @@ pub(crate) fn land_and_undo<H: Threads + Sync>(
     directory: &mut Directory,
     batch: &Batch,
 ) -> Result<u64, Fail> {
-    if directory.head() >= 9 {
-        return Err(Fail::new("too many versions"));
-    }
+    has_room(directory)?;
     directory.know();
     let update = directory.update(rt, alloc, batch, Workers::ONE, &FreeGate)?;
     if update.snapshot.count() > 1_000 {
@@ -94,9 +103,7 @@ pub(crate) fn land_and_undo_landing<H: Threads + Sync>(
     directory: &mut Directory,
     batch: &Batch,
 ) -> Result<u64, Fail> {
-    if directory.head() >= 9 {
-        return Err(Fail::new("too many versions"));
-    }
+    has_room(directory)?;
     directory.know();
     let next = directory.next_of(rt, alloc, batch, Workers::ONE, &FreeGate)?;
     let (landing, snapshot) = next.into_parts();

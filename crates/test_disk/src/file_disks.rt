@@ -1,5 +1,5 @@
 // Disks over real files: what a folder must be, what is read back, and what a failed sync does.
-use crate::steps::Step;
+use crate::mem_disks::Step;
 use jf_disk::{Disk, DiskFailed, MemDisk, Side};
 use jf_folder::{AnyDisk, FaultCause, FileDisk, FileRefused};
 use std::alloc::Global;

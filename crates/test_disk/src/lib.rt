@@ -13,5 +13,3 @@ mod held_files;
 mod mem_disks;
 #[cfg(test)]
 mod readings;
-#[cfg(test)]
-mod steps;

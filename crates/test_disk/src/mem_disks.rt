@@ -1,8 +1,17 @@
 // Disks in memory, call by call, and the images that crashes leave of them.
-use crate::steps::Step;
 use jf_disk::{Disk, DiskFailed, MemDisk, Side};
 use std::alloc::Global;
 use std::test::Fail;
+
+// One call on a disk, as a value of a table.
+#[derive(Clone, Copy)]
+pub(crate) enum Step {
+    Put(Side, u64, &'static [u8]),
+    Cut(Side, u64),
+    Sync(Side),
+    Len(Side),
+    Read(Side, u64),
+}
 
 // A disk with this side A, with room for so many calls and written bytes, whose listed calls fail.
 fn mem_disk(

@@ -1,7 +1,8 @@
 // Openings: what a crash after each call of the disk leaves, and what is left after each call that fails.
-use crate::crashes::{EMPTY, Found, OF_A, OF_BOTH, leaves_since, shows};
+use crate::crashes::{Found, leaves_since, shows};
 use jf_disk::{Disk, MemDisk, Side};
 use jf_engine::{EngineFault, OpenFault, OpenRefused};
+use jf_engine_play::roots::{EMPTY, OF_A, OF_BOTH};
 use jf_engine_play::steps::{Step, take, take_each};
 use jf_engine_play::stores::{disk_in, disk_of, open, store_on};
 use std::alloc::Global;

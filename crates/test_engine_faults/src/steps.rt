@@ -1,7 +1,8 @@
 // Steps on a store: what a crash after each call of the disk leaves, and what is left after each call that fails.
-use crate::crashes::{EMPTY, Found, OF_A, OF_B, OF_BOTH, leaves_at, leaves_since, shows};
+use crate::crashes::{Found, leaves_at, leaves_since, shows};
 use jf_disk::{Disk, MemDisk, Side};
 use jf_engine::{Engine, EngineFault};
+use jf_engine_play::roots::{EMPTY, OF_A, OF_B, OF_BOTH};
 use jf_engine_play::steps::{Step, THREE, take, take_each};
 use jf_engine_play::stores::{Store, disk_in, disk_of, store_on};
 use std::alloc::Global;

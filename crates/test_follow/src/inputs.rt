@@ -1,6 +1,7 @@
 // The following of an input over a store in memory, and what crashes of its disk leave. Roots are by Python's `hashlib`.
 use jf_disk::{Disk, MemDisk};
 use jf_engine::Engine;
+use jf_engine_play::roots::{EMPTY, OF_A};
 use jf_engine_play::stores::{disk_in, image_of, store_on};
 use jf_follow::{Followed, FollowedInput, follow_stream};
 use jf_hash::Hash;
@@ -23,18 +24,6 @@ pub(crate) const THREE: &str =
 /// What tells of them.
 pub(crate) const THREE_TOLD: &str =
     "followed 3 eefcf9b105d7d02e5a1d9bff2664e0ca9b96376d452f31b6091710fa35852ef1\n";
-
-/// The root of no key.
-pub(crate) const EMPTY: Hash = [
-    110, 52, 11, 156, 255, 179, 122, 152, 156, 165, 68, 230, 187, 120, 10, 44, 120, 144, 29, 63,
-    179, 55, 56, 118, 133, 17, 163, 6, 23, 175, 160, 29,
-];
-
-/// The root of `1` at the key of `a`.
-pub(crate) const OF_A: Hash = [
-    155, 183, 44, 57, 241, 61, 43, 81, 46, 163, 78, 174, 153, 162, 143, 109, 128, 122, 19, 74, 177,
-    37, 232, 145, 114, 49, 12, 111, 110, 167, 47, 143,
-];
 
 // The roots of versions 0 to 3.
 const ROOTS: &[Hash] = &[

@@ -1,5 +1,6 @@
 // What inputs come to. Keys and roots are by Python's `hashlib`.
-use crate::inputs::{EMPTY, Input, OF_A, follow, has_landed};
+use crate::inputs::{Input, follow, has_landed};
+use jf_engine_play::roots::{EMPTY, OF_A};
 use jf_engine_play::stores::{new_store, reopened_store};
 use jf_follow::{FollowFault, FollowRefused, Followed};
 use std::alloc::Global;

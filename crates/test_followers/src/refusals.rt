@@ -5,7 +5,7 @@ use jf_disk::{Disk, MemDisk};
 use jf_hash::Hash;
 use jf_play::blocks::Parts;
 use jf_play::files::bytes_of;
-use jf_play::images::{FILLS, KEPT, image_of};
+use jf_play::images::{CRASHES, image_of};
 use jf_play::play::{NO_FAULTS, Played, has_ended, play_line};
 use jf_play::roots::with_roots;
 use jf_run::status::Status;
@@ -298,23 +298,6 @@ fn shows_before<H: Threads + Wait + Sync>(
     Ok(has_ended(&played, Status::Done, Some(head), &want))
 }
 
-// Whether each crash that keeps so many bytes leaves these versions.
-fn filled_show<H: Threads + Wait + Sync>(
-    rt: &H,
-    alloc: Global,
-    disk: &MemDisk,
-    kept: u64,
-    row: &Row,
-) -> Result<bool, Fail> {
-    for fill in FILLS {
-        let image = image_of(alloc, disk, disk.moment(), kept, *fill)?;
-        if !shows_before(rt, alloc, image, row)? {
-            return Ok(false);
-        }
-    }
-    Ok(true)
-}
-
 // Whether a disk, and each crash of it now, has these versions.
 fn all_show<H: Threads + Wait + Sync>(
     rt: &H,
@@ -322,8 +305,9 @@ fn all_show<H: Threads + Wait + Sync>(
     disk: Box<MemDisk>,
     row: &Row,
 ) -> Result<bool, Fail> {
-    for kept in KEPT {
-        if !filled_show(rt, alloc, &disk, *kept, row)? {
+    for crash in CRASHES {
+        let image = image_of(alloc, &disk, disk.moment(), *crash)?;
+        if !shows_before(rt, alloc, image, row)? {
             return Ok(false);
         }
     }

@@ -1,7 +1,7 @@
 // Inputs that are followed to their end. Keys and roots are by Python's `hashlib`.
 use crate::samples::{FIRST, RESTORE, RESTORE_LAST, Runs, THREE, disk_after};
 use jf_disk::MemDisk;
-use jf_play::play::{Faults, NO_FAULTS, answers, has_ended, play_line};
+use jf_play::play::{Faults, NO_FAULTS, NO_INPUT, answers, has_ended, play_line};
 use jf_play::roots::with_roots;
 use jf_run::status::Status;
 use std::alloc::Global;
@@ -201,13 +201,6 @@ fn blocks_are_landed_once_and_the_newest_version_is_told(rt: HostRuntime) -> Res
     }
     Ok(())
 }
-
-// A source that fails in its first call.
-const NO_INPUT: Faults = Faults {
-    piece: 100,
-    source: &[0],
-    sink: &[],
-};
 
 // Words that aren't taken.
 const OTHER_WORDS: &[&str] = &[

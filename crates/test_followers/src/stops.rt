@@ -3,7 +3,7 @@
 use crate::samples::THREE;
 use jf_disk::{Disk, MemDisk};
 use jf_model::Entry;
-use jf_play::images::{FILLS, KEPT, image_of};
+use jf_play::images::{CRASHES, image_of};
 use jf_play::play::{
     NO_FAULTS, has_ended, new_disk, new_sink, new_source, one_word, play, run_over,
 };
@@ -42,25 +42,7 @@ fn head_of<H: Threads + Wait + Sync>(
     }
 }
 
-// Opens each image that a crash at a moment leaves which keeps so many bytes. Its head has to be one of these.
-fn open_filled<H: Threads + Wait + Sync>(
-    rt: &H,
-    alloc: Global,
-    disk: &MemDisk,
-    moment: u64,
-    kept: u64,
-    heads: (u64, u64),
-) -> Result<bool, Fail> {
-    for fill in FILLS {
-        let head = head_of(rt, alloc, image_of(alloc, disk, moment, kept, *fill)?)?;
-        if head < heads.0 || heads.1 < head {
-            return Ok(false);
-        }
-    }
-    Ok(true)
-}
-
-// Opens each image that a crash at a moment leaves.
+// Opens each image that a crash at a moment leaves. Its head has to be one of these.
 fn open_images<H: Threads + Wait + Sync>(
     rt: &H,
     alloc: Global,
@@ -68,8 +50,9 @@ fn open_images<H: Threads + Wait + Sync>(
     moment: u64,
     heads: (u64, u64),
 ) -> Result<bool, Fail> {
-    for kept in KEPT {
-        if !open_filled(rt, alloc, disk, moment, *kept, heads)? {
+    for crash in CRASHES {
+        let head = head_of(rt, alloc, image_of(alloc, disk, moment, *crash)?)?;
+        if head < heads.0 || heads.1 < head {
             return Ok(false);
         }
     }

@@ -1,33 +1,13 @@
 // What landings return, and what the store shows then.
 use jf_disk::{Disk, MemDisk};
 use jf_engine::{Engine, Landed};
+use jf_engine_play::roots::{EMPTY, OF_A, OF_B, OF_BOTH};
 use jf_engine_play::steps::{THREE, land, land_all};
 use jf_engine_play::stores::new_store;
 use jf_hash::{Hash, key_of};
 use std::alloc::Global;
 use std::test::Fail;
 use std::thread::Threads;
-
-// The root of no key, that of `1` at the key of `a`, of `2` at that of `b`, and of both. By Python's `hashlib`.
-const EMPTY: Hash = [
-    110, 52, 11, 156, 255, 179, 122, 152, 156, 165, 68, 230, 187, 120, 10, 44, 120, 144, 29, 63,
-    179, 55, 56, 118, 133, 17, 163, 6, 23, 175, 160, 29,
-];
-
-const OF_A: Hash = [
-    155, 183, 44, 57, 241, 61, 43, 81, 46, 163, 78, 174, 153, 162, 143, 109, 128, 122, 19, 74, 177,
-    37, 232, 145, 114, 49, 12, 111, 110, 167, 47, 143,
-];
-
-const OF_B: Hash = [
-    82, 51, 20, 171, 51, 201, 18, 212, 52, 121, 43, 66, 8, 61, 3, 195, 45, 126, 144, 181, 54, 179,
-    92, 53, 90, 1, 173, 11, 183, 146, 93, 162,
-];
-
-const OF_BOTH: Hash = [
-    62, 146, 183, 122, 111, 74, 125, 204, 66, 111, 19, 75, 52, 21, 243, 175, 126, 179, 158, 92,
-    138, 199, 89, 156, 148, 245, 163, 200, 63, 224, 116, 37,
-];
 
 // The root of a version, and the values at the keys of `a` and of `b`.
 type Version = (Hash, Option<u8>, Option<u8>);

@@ -1,23 +1,12 @@
 // Roots of landings on the plain store, against Python's `hashlib` by the recursion that defines them.
+use jf_engine_play::roots::{EMPTY, OF_BOTH};
 use jf_hash::{Hash, key_of};
 use jf_plain::{PlainMap, PlainVersions};
 use jf_split::{Batch, BatchFault};
 use std::alloc::Global;
 use std::test::Fail;
 
-// The root of the map without keys.
-const EMPTY: Hash = [
-    110, 52, 11, 156, 255, 179, 122, 152, 156, 165, 68, 230, 187, 120, 10, 44, 120, 144, 29, 63,
-    179, 55, 56, 118, 133, 17, 163, 6, 23, 175, 160, 29,
-];
-
-// The root with `1` at the key of `a`, and `2` at the key of `b`.
-const FIRST: Hash = [
-    62, 146, 183, 122, 111, 74, 125, 204, 66, 111, 19, 75, 52, 21, 243, 175, 126, 179, 158, 92,
-    138, 199, 89, 156, 148, 245, 163, 200, 63, 224, 116, 37,
-];
-
-// The root with `3` at the key of `c` too.
+// The root with `1` at the key of `a`, `2` at that of `b`, and `3` at that of `c`.
 const SECOND: Hash = [
     69, 202, 95, 209, 61, 60, 42, 163, 12, 83, 52, 157, 76, 29, 168, 53, 222, 62, 63, 160, 187,
     197, 19, 144, 65, 155, 13, 181, 18, 127, 66, 220,
@@ -34,7 +23,7 @@ type Change = (&'static [u8], Option<u8>);
 
 // What is landed, and the root of the map after it.
 const LANDINGS: &[(&[Change], Hash)] = &[
-    (&[(b"b", Some(b'2')), (b"a", Some(b'1'))], FIRST),
+    (&[(b"b", Some(b'2')), (b"a", Some(b'1'))], OF_BOTH),
     (&[(b"c", Some(b'3'))], SECOND),
     (
         &[(b"a", Some(b'9')), (b"b", None), (b"absent", None)],
@@ -81,7 +70,7 @@ fn lands(
 // Versions and their roots; `None` above the newest.
 const ROOTS: &[(u64, Option<Hash>)] = &[
     (0, Some(EMPTY)),
-    (1, Some(FIRST)),
+    (1, Some(OF_BOTH)),
     (2, Some(SECOND)),
     (3, Some(THIRD)),
     (4, Some(THIRD)),

@@ -1,7 +1,7 @@
 // A disk that fails in each of its calls in turn while a script is led: what is written then, and what a crash leaves.
 use crate::samples::{CHAIN, COMMITS, READS, REPLIES, first_blocks};
 use jf_disk::{Disk, MemDisk};
-use jf_play::images::{FILLS, KEPT, image_of};
+use jf_play::images::{CRASHES, Crash, image_of};
 use jf_play::play::{NO_FAULTS, Played, has_ended, new_disk, play};
 use jf_play::roots::with_roots;
 use jf_run::status::Status;
@@ -44,37 +44,21 @@ fn has_head<H: Threads + Wait + Sync>(
     Ok(has_ended(&played, Status::Done, Some(head as u64), &want))
 }
 
-// Whether a crash that keeps so many bytes, and puts this one in place of the others, leaves one of two heads.
+// Whether a crash now leaves one of two heads.
 fn leaves<H: Threads + Wait + Sync>(
     rt: &H,
     alloc: Global,
     disk: &MemDisk,
-    crash: (u64, u8),
+    crash: Crash,
     heads: (usize, usize),
 ) -> Result<bool, Fail> {
     let moment = disk.moment();
-    let image = image_of(alloc, disk, moment, crash.0, crash.1)?;
+    let image = image_of(alloc, disk, moment, crash)?;
     if has_head(rt, alloc, image, heads.0)? {
         return Ok(true);
     }
-    let again = image_of(alloc, disk, moment, crash.0, crash.1)?;
+    let again = image_of(alloc, disk, moment, crash)?;
     has_head(rt, alloc, again, heads.1)
-}
-
-// Whether each crash that keeps so many bytes leaves one of two heads.
-fn filled_leave<H: Threads + Wait + Sync>(
-    rt: &H,
-    alloc: Global,
-    disk: &MemDisk,
-    kept: u64,
-    heads: (usize, usize),
-) -> Result<bool, Fail> {
-    for fill in FILLS {
-        if !leaves(rt, alloc, disk, (kept, *fill), heads)? {
-            return Ok(false);
-        }
-    }
-    Ok(true)
 }
 
 // Whether each crash now leaves one of two heads.
@@ -84,8 +68,8 @@ fn all_leave<H: Threads + Wait + Sync>(
     disk: &MemDisk,
     heads: (usize, usize),
 ) -> Result<bool, Fail> {
-    for kept in KEPT {
-        if !filled_leave(rt, alloc, disk, *kept, heads)? {
+    for crash in CRASHES {
+        if !leaves(rt, alloc, disk, *crash, heads)? {
             return Ok(false);
         }
     }

@@ -1,6 +1,6 @@
 // What the mode `lead` writes of scripts. Keys and roots are by Python's `hashlib`.
 use crate::samples::{BLOCKS, CHAIN, COMMITS};
-use jf_play::play::{Faults, NO_FAULTS, has_ended, play_after};
+use jf_play::play::{NO_FAULTS, NO_INPUT, has_ended, play_after};
 use jf_play::roots::with_roots;
 use jf_run::status::Status;
 use std::alloc::Global;
@@ -140,13 +140,6 @@ fn a_block_is_written_for_each_version_that_is_landed(rt: HostRuntime) -> Result
     }
     Ok(())
 }
-
-// A source that fails in its first call.
-const NO_INPUT: Faults = Faults {
-    piece: 100,
-    source: &[0],
-    sink: &[],
-};
 
 // Words that aren't taken.
 const OTHER_WORDS: &[&str] = &[

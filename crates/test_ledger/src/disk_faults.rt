@@ -1,7 +1,7 @@
 // Four sessions over a disk that fails in a call: how they end, what they write, and what a crash leaves.
 use crate::lines::{landings_told, replies_in, text_of};
 use jf_disk::{Disk, MemDisk};
-use jf_play::images::image_of;
+use jf_play::images::{Crash, image_of};
 use jf_play::play::{NO_FAULTS, Played, new_disk, play};
 use jf_run::status::Status;
 use std::alloc::Global;
@@ -53,8 +53,8 @@ fn has_landings(opened: &Played<MemDisk>, text: &str, faults: u64) -> bool {
     }
 }
 
-// Crashes: how many unsynced bytes each keeps, and what the others become.
-const CRASHES: &[(u64, u8)] = &[
+// Crashes that keep no unsynced byte, one and all.
+const CRASHES: &[Crash] = &[
     (0, 0x00),
     (0, 0xff),
     (1, 0x00),
@@ -68,10 +68,10 @@ fn is_left<H: Threads + Wait + Sync>(
     rt: &H,
     alloc: Global,
     played: &Played<MemDisk>,
-    crash: (u64, u8),
+    crash: Crash,
 ) -> Result<(), Fail> {
     let disk = &played.disk;
-    let image = image_of(alloc, disk, disk.moment(), crash.0, crash.1)?;
+    let image = image_of(alloc, disk, disk.moment(), crash)?;
     let opened = play(rt, alloc, image, "run", READS, NO_FAULTS)?;
     if has_landings(&opened, text_of(&played.text), disk.faults()) {
         Ok(())

@@ -6,29 +6,22 @@ use std::sync::Wait;
 use std::test::Fail;
 use std::thread::Threads;
 
-// Two sessions of a hundred lines `commit` each.
-const INPUT: &[u8] = b"session\n\
-    commit\ncommit\ncommit\ncommit\ncommit\ncommit\ncommit\ncommit\ncommit\ncommit\n\
-    commit\ncommit\ncommit\ncommit\ncommit\ncommit\ncommit\ncommit\ncommit\ncommit\n\
-    commit\ncommit\ncommit\ncommit\ncommit\ncommit\ncommit\ncommit\ncommit\ncommit\n\
-    commit\ncommit\ncommit\ncommit\ncommit\ncommit\ncommit\ncommit\ncommit\ncommit\n\
-    commit\ncommit\ncommit\ncommit\ncommit\ncommit\ncommit\ncommit\ncommit\ncommit\n\
-    commit\ncommit\ncommit\ncommit\ncommit\ncommit\ncommit\ncommit\ncommit\ncommit\n\
-    commit\ncommit\ncommit\ncommit\ncommit\ncommit\ncommit\ncommit\ncommit\ncommit\n\
-    commit\ncommit\ncommit\ncommit\ncommit\ncommit\ncommit\ncommit\ncommit\ncommit\n\
-    commit\ncommit\ncommit\ncommit\ncommit\ncommit\ncommit\ncommit\ncommit\ncommit\n\
-    commit\ncommit\ncommit\ncommit\ncommit\ncommit\ncommit\ncommit\ncommit\ncommit\n\
-    session\n\
-    commit\ncommit\ncommit\ncommit\ncommit\ncommit\ncommit\ncommit\ncommit\ncommit\n\
-    commit\ncommit\ncommit\ncommit\ncommit\ncommit\ncommit\ncommit\ncommit\ncommit\n\
-    commit\ncommit\ncommit\ncommit\ncommit\ncommit\ncommit\ncommit\ncommit\ncommit\n\
-    commit\ncommit\ncommit\ncommit\ncommit\ncommit\ncommit\ncommit\ncommit\ncommit\n\
-    commit\ncommit\ncommit\ncommit\ncommit\ncommit\ncommit\ncommit\ncommit\ncommit\n\
-    commit\ncommit\ncommit\ncommit\ncommit\ncommit\ncommit\ncommit\ncommit\ncommit\n\
-    commit\ncommit\ncommit\ncommit\ncommit\ncommit\ncommit\ncommit\ncommit\ncommit\n\
-    commit\ncommit\ncommit\ncommit\ncommit\ncommit\ncommit\ncommit\ncommit\ncommit\n\
-    commit\ncommit\ncommit\ncommit\ncommit\ncommit\ncommit\ncommit\ncommit\ncommit\n\
-    commit\ncommit\ncommit\ncommit\ncommit\ncommit\ncommit\ncommit\ncommit\ncommit\n";
+// Adds a session of a hundred lines `commit` to an input.
+fn add_session(input: &mut Vec<u8>) -> Result<(), Fail> {
+    input.extend_from_slice(b"session\n")?;
+    for _ in 0..100 {
+        input.extend_from_slice(b"commit\n")?;
+    }
+    Ok(())
+}
+
+// The input of two such sessions.
+fn two_sessions(alloc: Global) -> Result<Vec<u8>, Fail> {
+    let mut input = Vec::new(alloc);
+    add_session(&mut input)?;
+    add_session(&mut input)?;
+    Ok(input)
+}
 
 // Whether a ledger's line is of the landing of this version, and a reply says that its line made it.
 fn is_landing(line: &str, reply: &str, version: u64) -> bool {
@@ -78,7 +71,8 @@ fn is_whole(text: &str) -> bool {
 // Fails unless both sessions land all of theirs.
 fn both_land<H: Threads + Wait + Sync>(rt: &H, alloc: Global) -> Result<(), Fail> {
     let disk = roomy_disk(alloc)?;
-    let played = play(rt, alloc, disk, "serve", INPUT, NO_FAULTS)?;
+    let input = two_sessions(alloc)?;
+    let played = play(rt, alloc, disk, "serve", &input, NO_FAULTS)?;
     if played.entries == 200 && is_whole(text_of(&played.text)) {
         Ok(())
     } else {

@@ -1,6 +1,8 @@
 // Devices that fail while a reply is judged, words that the mode doesn't take, and a disk that is never asked.
 use jf_disk::{Disk, MemDisk};
-use jf_play::play::{Faults, NO_FAULTS, Played, has_ended, new_disk, play_line};
+use jf_play::play::{
+    Faults, NO_FAULTS, NO_INPUT, NO_OUTPUT, Played, has_ended, new_disk, play_line,
+};
 use jf_run::status::Status;
 use std::alloc::Global;
 use std::sync::Wait;
@@ -36,15 +38,7 @@ fn has_judged(played: &Played<MemDisk>, status: Status, text: &[u8]) -> bool {
 // 7.
 const FAILING: &[(Faults, Status, &[u8])] = &[
     (NO_FAULTS, Status::Done, b"value =31\n"),
-    (
-        Faults {
-            piece: 100,
-            source: &[0],
-            sink: &[],
-        },
-        Status::ReadFault,
-        b"",
-    ),
+    (NO_INPUT, Status::ReadFault, b""),
     (
         Faults {
             piece: 100,
@@ -54,15 +48,7 @@ const FAILING: &[(Faults, Status, &[u8])] = &[
         Status::ReadFault,
         b"",
     ),
-    (
-        Faults {
-            piece: 100,
-            source: &[],
-            sink: &[0],
-        },
-        Status::WriteFault,
-        b"",
-    ),
+    (NO_OUTPUT, Status::WriteFault, b""),
     (
         Faults {
             piece: 1,

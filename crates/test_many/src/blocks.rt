@@ -1,7 +1,7 @@
 // What the mode `many` writes over a store after a script, with hashes from outside, by Python's `hashlib`.
 use crate::stores::{BLOCK, ONE_NAME};
 use jf_disk::Disk;
-use jf_play::play::{Faults, NO_FAULTS, has_ended, play_after};
+use jf_play::play::{NO_FAULTS, NO_INPUT, has_ended, play_after};
 use jf_run::status::Status;
 use std::alloc::Global;
 use std::sync::Wait;
@@ -118,13 +118,6 @@ fn the_disk_has_the_calls_of_an_opening_alone(rt: HostRuntime) -> Result<(), Fai
     assert!(rt; calls_after(&rt, alloc, "many 1", b"61\n62\n")? == opened);
     Ok(())
 }
-
-// A source that fails in its first call.
-const NO_INPUT: Faults = Faults {
-    piece: 100,
-    source: &[0],
-    sink: &[],
-};
 
 // A script, words and an input, and the least and the greatest version that can be asked for. The source would fail: the
 // input isn't looked at, not even a line that is no name.

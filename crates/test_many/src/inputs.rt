@@ -1,6 +1,6 @@
 // Inputs of the mode `many` that are refused, inputs of 10,000 lines and more, and devices that fail.
 use crate::stores::ONE_NAME;
-use jf_play::play::{Faults, NO_FAULTS, has_ended, play_after};
+use jf_play::play::{Faults, NO_FAULTS, NO_INPUT, NO_OUTPUT, has_ended, play_after};
 use jf_run::RestoreFault;
 use jf_run::status::Status;
 use std::alloc::Global;
@@ -114,15 +114,7 @@ fn ten_thousand_lines_are_read_and_no_more(rt: HostRuntime) -> Result<(), Fail> 
 // Devices of which a call fails, how the input `61` and `62` then ends, and what was written. The sink takes 7 bytes in a
 // call.
 const FAILING: &[(Faults, Status, &[u8])] = &[
-    (
-        Faults {
-            piece: 100,
-            source: &[0],
-            sink: &[],
-        },
-        Status::ReadFault,
-        b"",
-    ),
+    (NO_INPUT, Status::ReadFault, b""),
     (
         Faults {
             piece: 3,
@@ -132,15 +124,7 @@ const FAILING: &[(Faults, Status, &[u8])] = &[
         Status::ReadFault,
         b"",
     ),
-    (
-        Faults {
-            piece: 100,
-            source: &[],
-            sink: &[0],
-        },
-        Status::WriteFault,
-        b"",
-    ),
+    (NO_OUTPUT, Status::WriteFault, b""),
     (
         Faults {
             piece: 100,

@@ -2,20 +2,13 @@
 ghost use Rattle.std.specs.Prelude.{◌<◌};
 
 use jf_disk::{Disk, MemDisk, Side};
-use jf_play::files::{CHECKPOINT, END, File, LANDING, SECOND, bytes_of};
-use jf_play::play::{Faults, NO_FAULTS, Played, disk_of, has_ended, play_line};
+use jf_play::files::{CHECKPOINT, END, File, LANDING, SECOND, file_bytes};
+use jf_play::play::{Faults, NO_FAULTS, NO_INPUT, Played, disk_of, has_ended, play_line};
 use jf_run::status::Status;
 use std::alloc::Global;
 use std::sync::Wait;
 use std::test::Fail;
 use std::thread::Threads;
-
-// A source that fails as soon as it is asked. The mode reads no input.
-const NO_INPUT: Faults = Faults {
-    piece: 100,
-    source: &[0],
-    sink: &[],
-};
 
 // A sink whose third call fails. It takes 7 bytes in a call.
 const CUT: Faults = Faults {
@@ -65,14 +58,14 @@ fn checked<H: Threads + Wait + Sync>(
     failing: &[u64],
     faults: Faults,
 ) -> Result<Played<MemDisk>, Fail> {
-    let (a, b) = (bytes_of(alloc, row.0)?, bytes_of(alloc, row.1)?);
+    let (a, b) = (file_bytes(alloc, row.0)?, file_bytes(alloc, row.1)?);
     let disk = disk_of(alloc, &a, &b, failing)?;
     play_line(rt, alloc, disk, "check", b"", faults)
 }
 
 // Whether a disk holds these files still, after so many calls.
 fn is_left(alloc: Global, disk: &MemDisk, row: &Row, calls: u64) -> Result<bool, Fail> {
-    let (a, b) = (bytes_of(alloc, row.0)?, bytes_of(alloc, row.1)?);
+    let (a, b) = (file_bytes(alloc, row.0)?, file_bytes(alloc, row.1)?);
     let same = disk.bytes(Side::A) == a.as_slice() && disk.bytes(Side::B) == b.as_slice();
     Ok(same && disk.moment() == calls)
 }

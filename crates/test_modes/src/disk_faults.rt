@@ -3,7 +3,7 @@
 use crate::images::{Found, NEW, RESTORED, images_show, shows_either};
 use jf_disk::{Disk, MemDisk};
 use jf_play::blocks::{FIRST_BLOCK, Parts, RESTORE_PAIR, SECOND_BLOCK};
-use jf_play::files::{CHECKPOINT, END, File, SECOND as GENERATION_2, bytes_of};
+use jf_play::files::{CHECKPOINT, END, File, SECOND as GENERATION_2, bytes_of, file_bytes};
 use jf_play::play::{NO_FAULTS, Played, disk_of, play_line};
 use jf_run::status::Status;
 use std::alloc::Global;
@@ -82,8 +82,8 @@ fn place_of(played: &Played<MemDisk>) -> Result<Reached, Fail> {
 
 // A disk with the files of a case, on which these calls fail.
 fn disk_over(alloc: Global, case: &Case, failing: &[u64]) -> Result<Box<MemDisk>, Fail> {
-    let a = bytes_of(alloc, case.files.0)?;
-    let b = bytes_of(alloc, case.files.1)?;
+    let a = file_bytes(alloc, case.files.0)?;
+    let b = file_bytes(alloc, case.files.1)?;
     disk_of(alloc, &a, &b, failing)
 }
 

@@ -1,19 +1,14 @@
 // What the mode `generate` writes, and what it leaves in the files. The roots and the numbers of kept nodes are from plain
 // maps, by a program outside: roots by the bits of keys, nodes as sets of a path and its entries.
 use jf_disk::MemDisk;
-use jf_play::play::{Faults, NO_FAULTS, Played, are_same, has_ended, play_line, roomy_disk};
+use jf_play::play::{
+    Faults, NO_FAULTS, NO_INPUT, Played, are_same, has_ended, play_line, roomy_disk,
+};
 use jf_run::status::Status;
 use std::alloc::Global;
 use std::sync::Wait;
 use std::test::Fail;
 use std::thread::Threads;
-
-// A source that fails as soon as it is asked. The mode reads no input.
-const NO_INPUT: Faults = Faults {
-    piece: 100,
-    source: &[0],
-    sink: &[],
-};
 
 // Words that are run over a new store: how many entries they make, and what they write.
 type Row = (&'static str, u64, &'static str);

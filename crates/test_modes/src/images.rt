@@ -1,6 +1,6 @@
 // What is found in files, and in the images that a crash may leave of them.
 use jf_disk::MemDisk;
-use jf_play::images::{FILLS, KEPT, image_of};
+use jf_play::images::{CRASHES, image_of};
 use jf_play::play::{NO_FAULTS, Played, has_ended, play};
 use jf_play::roots::EMPTY;
 use jf_run::status::Status;
@@ -39,24 +39,6 @@ pub(crate) fn shows_either<H: Threads + Wait + Sync>(
     Ok(is_told(alloc, &played, either.0)? || is_told(alloc, &played, either.1)?)
 }
 
-// Whether each crash that keeps this number of bytes leaves one of two.
-fn filled_show<H: Threads + Wait + Sync>(
-    rt: &H,
-    alloc: Global,
-    disk: &MemDisk,
-    moment: u64,
-    kept: u64,
-    either: (Found, Found),
-) -> Result<bool, Fail> {
-    for fill in FILLS {
-        let image = image_of(alloc, disk, moment, kept, *fill)?;
-        if !shows_either(rt, alloc, image, either)? {
-            return Ok(false);
-        }
-    }
-    Ok(true)
-}
-
 /// Whether each crash after this number of calls leaves one of two.
 pub(crate) fn images_show<H: Threads + Wait + Sync>(
     rt: &H,
@@ -65,8 +47,9 @@ pub(crate) fn images_show<H: Threads + Wait + Sync>(
     moment: u64,
     either: (Found, Found),
 ) -> Result<bool, Fail> {
-    for kept in KEPT {
-        if !filled_show(rt, alloc, disk, moment, *kept, either)? {
+    for crash in CRASHES {
+        let image = image_of(alloc, disk, moment, *crash)?;
+        if !shows_either(rt, alloc, image, either)? {
             return Ok(false);
         }
     }

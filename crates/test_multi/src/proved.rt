@@ -31,15 +31,9 @@ fn map_of<H: Threads + Sync>(
     alloc: Global,
     entries: &[(&str, &str)],
 ) -> Result<Box<Snapshot>, Fail> {
+    let empty = Snapshot::empty(0);
     let batch = batch_of(alloc, entries)?;
-    let landed = update(
-        rt,
-        alloc,
-        &Snapshot::empty(0),
-        &batch,
-        Workers::ONE,
-        &FreeGate,
-    )?;
+    let landed = update(rt, alloc, &empty, &batch, Workers::ONE, &FreeGate)?;
     Ok(Box::new(alloc, landed.snapshot)?)
 }
 

@@ -27,7 +27,7 @@ struct Row {
 }
 
 // Nothing but bytes after a closed gate.
-const CLOSED: File = &[b"\x5a\x07\0"];
+const CLOSED: File = &[&[b"\x5a\x07\0"]];
 
 const ROWS: &[Row] = &[
     Row {
@@ -41,12 +41,12 @@ const ROWS: &[Row] = &[
     },
     Row {
         what: "an open gate and nothing after it",
-        before: (&[b"\x01"], &[b"\x01"]),
+        before: (&[&[b"\x01"]], &[&[b"\x01"]]),
         changes: &[],
         head: 0,
         script: "root head\n",
         want: "0 ok root E\n",
-        after: (NEW, &[b"\x01"]),
+        after: (NEW, &[&[b"\x01"]]),
     },
     Row {
         what: "records on side B alone",

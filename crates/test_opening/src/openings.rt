@@ -1,6 +1,6 @@
 // Files that are opened, with some of their bytes changed, and the damage that is reported.
 use jf_disk::{Disk, MemDisk, Side};
-use jf_play::files::{CHECKPOINT, END, File, LANDING, LANDING_OF_NOTHING, bytes_of};
+use jf_play::files::{CHECKPOINT, END, File, LANDING, LANDING_OF_NOTHING, file_bytes};
 use jf_play::play::{NO_FAULTS, Played, disk_of, has_ended, play};
 use jf_run::status::Status;
 use std::alloc::Global;
@@ -30,7 +30,7 @@ pub(crate) fn changed_file(
     len: usize,
     changes: &[Change],
 ) -> Result<Vec<u8>, Fail> {
-    let mut bytes = bytes_of(alloc, file)?;
+    let mut bytes = file_bytes(alloc, file)?;
     bytes.truncate(len);
     for (at, byte) in changes {
         if let Some(there) = bytes.get_mut(*at) {

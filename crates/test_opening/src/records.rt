@@ -1,8 +1,10 @@
 // More records of files, byte by byte: a line for each field, as docs/FORMATS.md lays them out. They are from a writer of these
 // formats in Python, and their hashes from its `hashlib`.
+use jf_play::files::Record;
 
 // The landing of `put 62 =32` after `LANDING` and `LANDING_OF_NOTHING`, as version 3, in format 1.
-pub(crate) const LANDING_IN_1: &[u8] = b"\x01\x03\0\0\0\0\0\0\0\xff\
+pub(crate) const LANDING_IN_1: Record = &[
+    b"\x01\x03\0\0\0\0\0\0\0\xff\
     \0\0\0\0\0\0\0\x03\
     \x3e\x92\xb7\x7a\x6f\x4a\x7d\xcc\x42\x6f\x13\x4b\x34\x15\xf3\xaf\x7e\xb3\x9e\x5c\x8a\xc7\x59\x9c\x94\xf5\xa3\xc8\x3f\xe0\x74\x25\
     \0\0\0\0\0\0\0\x03\
@@ -17,12 +19,15 @@ pub(crate) const LANDING_IN_1: &[u8] = b"\x01\x03\0\0\0\0\0\0\0\xff\
     \x01\x6f\xe4\xff\x1a\x83\x6f\xcb\x88\x1b\xbe\x03\xff\x84\x8b\xb7\x31\xa5\x58\x47\x08\x15\x3d\x9b\xc6\xdc\x1d\x64\x30\x57\x9a\x6a\x12\
     \0\0\0\x01\x32\
     \0\0\0\0\0\0\0\x01\
-    \0\0\0\0\0\0\0\x02\0";
+    \0\0\0\0\0\0\0\x02\0",
+];
 
 // A record of kind 1, which no file has any more: that of `put 61 =31` as version 1.
-pub(crate) const BATCH: &[u8] = b"\x01\x01\0\0\0\0\0\0\0\x36\
+pub(crate) const BATCH: Record = &[
+    b"\x01\x01\0\0\0\0\0\0\0\x36\
     \0\0\0\0\0\0\0\x01\
     \0\0\0\0\0\0\0\x01\
     \x19\xd5\xf5\x7c\x8e\x8b\x3c\xd7\x60\xf8\x53\xbb\x8d\x79\0\xd6\x8e\x10\xef\x02\x67\x43\x83\xde\x65\xa9\xb4\xd6\x5e\x41\x9b\x26\
     \x01\
-    \0\0\0\x01\x31";
+    \0\0\0\x01\x31",
+];

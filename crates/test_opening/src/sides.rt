@@ -17,16 +17,16 @@ const NONE: File = &[];
 const NEW_SECOND: File = &[SECOND, END];
 
 // An open gate and no whole record.
-const OPEN: File = &[b"\x01\x07\0"];
+const OPEN: File = &[&[b"\x01\x07\0"]];
 
 // A record of kind 7, which is whole.
-const SEVEN: File = &[b"\x01\x07\0\0\0\0\0\0\0\0", END];
+const SEVEN: File = &[&[b"\x01\x07\0\0\0\0\0\0\0\0"], END];
 
 // A checkpoint whose payload is too short for a generation.
-const SHORT: File = &[b"\x01\x05\0\0\0\0\0\0\0\x07\0\0\0\0\0\0\x01", END];
+const SHORT: File = &[&[b"\x01\x05\0\0\0\0\0\0\0\x07\0\0\0\0\0\0\x01"], END];
 
 // A checkpoint that is a generation alone.
-const BARE: File = &[b"\x01\x05\0\0\0\0\0\0\0\x08\0\0\0\0\0\0\0\x03", END];
+const BARE: File = &[&[b"\x01\x05\0\0\0\0\0\0\0\x08\0\0\0\0\0\0\0\x03"], END];
 
 // What two files are, side A, side B, bytes that are changed on side B, and the place of damage.
 type Row = (&'static str, File, File, &'static [Change], Side, u64);
@@ -48,7 +48,7 @@ const DAMAGED: &[Row] = &[
     ),
     (
         "a landing that isn't whole on a side that isn't live",
-        &[CHECKPOINT, b"\x01\x03"],
+        &[CHECKPOINT, &[b"\x01\x03"]],
         NEW_SECOND,
         &[],
         Side::A,

@@ -29,15 +29,9 @@ fn batch_of(alloc: Global, count: u32) -> Result<Batch, BatchFault> {
 
 // The map of the numbers below `count`.
 fn map_of<H: Threads + Sync>(rt: &H, alloc: Global, count: u32) -> Result<Box<Snapshot>, Fail> {
+    let empty = Snapshot::empty(0);
     let batch = batch_of(alloc, count)?;
-    let landed = update(
-        rt,
-        alloc,
-        &Snapshot::empty(0),
-        &batch,
-        Workers::ONE,
-        &FreeGate,
-    )?;
+    let landed = update(rt, alloc, &empty, &batch, Workers::ONE, &FreeGate)?;
     Ok(Box::new(alloc, landed.snapshot)?)
 }
 

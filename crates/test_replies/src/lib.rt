@@ -4,6 +4,8 @@
 #[cfg(test)]
 mod nodes;
 #[cfg(test)]
+mod places;
+#[cfg(test)]
 mod proofs;
 #[cfg(test)]
 mod reads;

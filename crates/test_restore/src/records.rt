@@ -1,8 +1,10 @@
 // Checkpoints, byte by byte, from a writer of docs/FORMATS.md in Python, and their hashes from its `hashlib`.
+use jf_play::files::{EMPTY_MAP, Record};
 
 /// The checkpoint of the map of `put 61 =31` and `put 62 =32`, restored as version 1 into a new store: an internal node and
 /// two leaves.
-pub(crate) const RESTORED: &[u8] = b"\x01\x05\0\0\0\0\0\0\x01\x2e\
+pub(crate) const RESTORED: Record = &[
+    b"\x01\x05\0\0\0\0\0\0\x01\x2e\
     \0\0\0\0\0\0\0\x02\
     \0\0\0\0\0\0\0\x01\
     \0\0\0\0\0\0\0\x01\
@@ -21,16 +23,12 @@ pub(crate) const RESTORED: &[u8] = b"\x01\x05\0\0\0\0\0\0\x01\x2e\
     \0\0\0\0\0\0\0\x01\x01\x60\
     \x01\x6f\xe4\xff\x1a\x83\x6f\xcb\x88\x1b\xbe\x03\xff\x84\x8b\xb7\x31\xa5\x58\x47\x08\x15\x3d\x9b\xc6\xdc\x1d\x64\x30\x57\x9a\x6a\x12\
     \0\0\0\x01\x32\
-    \xff\xff\xff\xff\xff\xff\xff\xff";
+    \xff\xff\xff\xff\xff\xff\xff\xff",
+];
 
 /// The checkpoint of a new store, in the last generation that there can be.
-pub(crate) const LAST: &[u8] = b"\x01\x05\0\0\0\0\0\0\0\x5a\
-    \xff\xff\xff\xff\xff\xff\xff\xfe\
-    \0\0\0\0\0\0\0\0\
-    \0\0\0\0\0\0\0\0\
-    \0\0\0\0\0\0\0\0\
-    \x6e\x34\x0b\x9c\xff\xb3\x7a\x98\x9c\xa5\x44\xe6\xbb\x78\x0a\x2c\x78\x90\x1d\x3f\xb3\x37\x38\x76\x85\x11\xa3\x06\x17\xaf\xa0\x1d\
-    \0\0\0\0\0\0\0\x01\
-    \0\0\0\0\0\0\0\0\0\
-    \0\
-    \xff\xff\xff\xff\xff\xff\xff\xff";
+pub(crate) const LAST: Record = &[
+    b"\x01\x05\0\0\0\0\0\0\0\x5a",
+    b"\xff\xff\xff\xff\xff\xff\xff\xfe",
+    EMPTY_MAP,
+];

@@ -6,7 +6,7 @@ use jf_hash::Hash;
 use jf_play::blocks::{
     EMPTY_SIDE, FIRST_BLOCK, FIRST_ENTRY, Parts, RESTORE_PAIR, SECOND_BLOCK, SECOND_ENTRY,
 };
-use jf_play::files::{CHECKPOINT, END, File, bytes_of};
+use jf_play::files::{CHECKPOINT, END, File, bytes_of, file_bytes};
 use jf_play::play::{Faults, NO_FAULTS, Played, disk_of, has_ended, new_disk, play_line};
 use jf_run::RestoreFault;
 use jf_run::status::Status;
@@ -137,7 +137,7 @@ fn has_refused(played: &Played<MemDisk>, head: u64, why: RestoreFault) -> bool {
 
 // A disk with these records on side A.
 fn disk_over(alloc: Global, a: File) -> Result<Box<MemDisk>, Fail> {
-    let a = bytes_of(alloc, a)?;
+    let a = file_bytes(alloc, a)?;
     disk_of(alloc, &a, b"", &[])
 }
 

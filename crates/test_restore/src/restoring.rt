@@ -6,7 +6,7 @@ use jf_play::blocks::{
     EMPTY_SIDE, FIRST_BLOCK, FIRST_ENTRY, Parts, RESTORE_PAIR, SECOND_BLOCK, SECOND_ENTRY,
     play_of_parts,
 };
-use jf_play::files::{CHECKPOINT, END, File, IMPORTED, bytes_of};
+use jf_play::files::{CHECKPOINT, END, File, IMPORTED, file_bytes};
 use jf_play::play::{Faults, NO_FAULTS, Played, answers, has_ended};
 use jf_play::roots::with_roots;
 use jf_run::status::Status;
@@ -149,8 +149,8 @@ const FILES: &[(&str, Parts, File)] = &[
 
 // Whether side A has the checkpoint of a new store, and side B these records.
 fn has_files(alloc: Global, disk: &MemDisk, b: File) -> Result<bool, Fail> {
-    let a = bytes_of(alloc, &[CHECKPOINT, END])?;
-    let b = bytes_of(alloc, b)?;
+    let a = file_bytes(alloc, &[CHECKPOINT, END])?;
+    let b = file_bytes(alloc, b)?;
     Ok(disk.bytes(Side::A) == a.as_slice() && disk.bytes(Side::B) == b.as_slice())
 }
 

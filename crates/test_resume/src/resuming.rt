@@ -2,7 +2,7 @@
 // letters stand for roots, as in `with_roots`: E for that of the empty map, R for that of `put 61 =31`.
 use jf_disk::{Disk, MemDisk, Side};
 use jf_hash::Hash;
-use jf_play::files::{CHECKPOINT, END, File, LANDING, LANDING_OF_NOTHING, bytes_of};
+use jf_play::files::{CHECKPOINT, END, File, LANDING, LANDING_OF_NOTHING, file_bytes};
 use jf_play::play::{Faults, NO_FAULTS, Played, are_same, disk_of, has_ended, new_disk, play_line};
 use jf_play::roots::with_roots;
 use jf_run::status::Status;
@@ -209,8 +209,9 @@ fn a_store_with_another_root_is_left_as_it_was(rt: HostRuntime) -> Result<(), Fa
 // Both sides of a store of two versions whose second one has a gate that reads wrong, so that the records end before it.
 fn rolled_back(alloc: Global) -> Result<Sides, Fail> {
     const WHOLE: File = &[CHECKPOINT, LANDING, LANDING_OF_NOTHING, END];
-    let mut a = bytes_of(alloc, WHOLE)?;
-    match a.get_mut(CHECKPOINT.len() + LANDING.len()) {
+    let mut a = file_bytes(alloc, WHOLE)?;
+    let front = file_bytes(alloc, &[CHECKPOINT, LANDING])?;
+    match a.get_mut(front.len()) {
         Some(gate) => *gate = 0x02,
         None => return Err(Fail::new("no gate")),
     }
@@ -237,7 +238,7 @@ const TORN: &[usize] = &[0, 1, 2, 50, 100, 101];
 // Both sides of a store that so many bytes are left of.
 fn torn_sides(alloc: Global, count: usize) -> Result<Sides, Fail> {
     const FIRST: File = &[CHECKPOINT, END];
-    let mut a = bytes_of(alloc, FIRST)?;
+    let mut a = file_bytes(alloc, FIRST)?;
     match a.get_mut(0) {
         Some(gate) => *gate = 0,
         None => return Err(Fail::new("no gate")),
@@ -298,7 +299,7 @@ fn begins<H: Threads + Wait + Sync>(rt: &H, alloc: Global, count: usize) -> Resu
     let words = ("resume 0 E", "put 61 =31\ncommit\n");
     let played = play_roots(rt, alloc, disk, words, NO_FAULTS)?;
     let ended = played.status == Status::Done && played.start == Some(0) && played.entries == 1;
-    let want = (bytes_of(alloc, BEGUN)?, Vec::new(alloc));
+    let want = (file_bytes(alloc, BEGUN)?, Vec::new(alloc));
     Ok(ended && has_sides(&played.disk, &want))
 }
 

@@ -2,7 +2,7 @@
 use crate::serving::serve_gated;
 use jf_disk::MemDisk;
 use jf_join::Gate;
-use jf_play::files::{CHECKPOINT, END, LANDING, bytes_of};
+use jf_play::files::{CHECKPOINT, END, LANDING, file_bytes};
 use jf_play::play::new_disk;
 use std::alloc::Global;
 use std::str;
@@ -71,7 +71,7 @@ fn are_all_there(text: &str) -> bool {
 
 // A disk that holds a store of version 1.
 fn disk_of_one(alloc: Global) -> Result<Box<MemDisk>, Fail> {
-    let file = bytes_of(alloc, &[CHECKPOINT, LANDING, END])?;
+    let file = file_bytes(alloc, &[CHECKPOINT, LANDING, END])?;
     new_disk(alloc, &file, &[])
 }
 

@@ -48,7 +48,7 @@ fn are(scripts: &[Bytes], wanted: &[&[u8]]) -> bool {
 
 // Whether an input, in pieces of at most `piece` bytes, is cut into these scripts.
 fn is_cut(alloc: Global, input: &[u8], piece: usize, wanted: &[&[u8]]) -> Result<bool, Fail> {
-    let mut source = source_of(alloc, input, piece, u64::MAX)?;
+    let mut source = source_of(alloc, input, piece)?;
     let scripts = read_scripts::<MemSource>(alloc, &mut source)?;
     Ok(scripts.len() == wanted.len() as u64 && are(scripts.as_slice(), wanted))
 }

@@ -29,7 +29,7 @@ fn input_of(alloc: Global, front: &[u8], sessions: u64) -> Result<Bytes, Fail> {
 
 fn fault_at(alloc: Global, row: Row) -> Result<Option<InputFault>, Fail> {
     let input = input_of(alloc, row.0, row.1)?;
-    let mut source = source_of(alloc, input.as_slice(), 65_536, u64::MAX)?;
+    let mut source = source_of(alloc, input.as_slice(), 65_536)?;
     Ok(fault_of(&read_scripts::<MemSource>(alloc, &mut source)))
 }
 

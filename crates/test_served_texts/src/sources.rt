@@ -5,15 +5,9 @@ use jf_serve::{InputFault, Scripts, read_scripts};
 use std::alloc::Global;
 use std::test::Fail;
 
-/// A source of these bytes, in pieces of at most `piece` bytes, whose call number `failing` fails.
-pub fn source_of(
-    alloc: Global,
-    bytes: &[u8],
-    piece: usize,
-    failing: u64,
-) -> Result<Box<MemSource>, Fail> {
-    let failing = [failing].to_vec(alloc)?;
-    let source = MemSource::new(Bytes::copy_of(alloc, bytes)?, piece.max(1), failing);
+/// A source of these bytes, in pieces of at most `piece` bytes. No call fails.
+pub fn source_of(alloc: Global, bytes: &[u8], piece: usize) -> Result<Box<MemSource>, Fail> {
+    let source = MemSource::new(Bytes::copy_of(alloc, bytes)?, piece.max(1), Vec::new(alloc));
     Ok(Box::new(alloc, source)?)
 }
 
@@ -27,7 +21,9 @@ pub fn fault_of(read: &Result<Scripts, InputFault>) -> Option<InputFault> {
 
 // Why no scripts are read if call number `failing` of the source fails, and how many of its calls failed then.
 fn read_with_fault(alloc: Global, failing: u64) -> Result<(Option<InputFault>, u64), Fail> {
-    let mut source = source_of(alloc, b"a\nsession\nb", 4, failing)?;
+    let failing = [failing].to_vec(alloc)?;
+    let source = MemSource::new(Bytes::copy_of(alloc, b"a\nsession\nb")?, 4, failing);
+    let mut source = Box::new(alloc, source)?;
     let read = read_scripts::<MemSource>(alloc, &mut source);
     Ok((fault_of(&read), source.faults()))
 }

@@ -1,6 +1,6 @@
 // The files over which scripts are run: each holds a new store, so all runs make the same versions.
 use jf_disk::MemDisk;
-use jf_play::files::{CHECKPOINT, END, File, SECOND, bytes_of};
+use jf_play::files::{CHECKPOINT, END, File, SECOND, file_bytes};
 use jf_play::play::disk_of;
 use std::alloc::Global;
 use std::test::Fail;
@@ -42,7 +42,7 @@ pub(crate) fn disk_over(
     start: &Start,
     failing: &[u64],
 ) -> Result<Box<MemDisk>, Fail> {
-    let a = bytes_of(alloc, start.a)?;
-    let b = bytes_of(alloc, start.b)?;
+    let a = file_bytes(alloc, start.a)?;
+    let b = file_bytes(alloc, start.b)?;
     disk_of(alloc, &a, &b, failing)
 }

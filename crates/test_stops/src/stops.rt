@@ -2,7 +2,7 @@
 use crate::starts::{STARTS, Start, disk_over};
 use jf_disk::{Disk, MemDisk};
 use jf_model::Entry;
-use jf_play::images::{FILLS, KEPT, image_of};
+use jf_play::images::{CRASHES, image_of};
 use jf_play::play::{NO_FAULTS, Played, has_ended, new_sink, new_source, one_word, play, run_over};
 use jf_run::status::{Ended, Status};
 use std::alloc::Global;
@@ -115,22 +115,6 @@ pub(crate) fn is_opened<H: Threads + Wait + Sync>(
     }
 }
 
-// Opens each image that a crash after this number of calls leaves, if it keeps this number of bytes.
-fn open_filled<H: Threads + Wait + Sync>(
-    rt: &H,
-    alloc: Global,
-    disk: &MemDisk,
-    moment: u64,
-    kept: u64,
-    heads: (u64, u64),
-) -> Result<(), Fail> {
-    for fill in FILLS {
-        let image = image_of(alloc, disk, moment, kept, *fill)?;
-        is_opened(rt, alloc, image, heads)?;
-    }
-    Ok(())
-}
-
 // Opens each image that a crash after this number of calls leaves. Its head has to be one of these versions.
 fn open_images<H: Threads + Wait + Sync>(
     rt: &H,
@@ -139,8 +123,9 @@ fn open_images<H: Threads + Wait + Sync>(
     moment: u64,
     heads: (u64, u64),
 ) -> Result<(), Fail> {
-    for kept in KEPT {
-        open_filled(rt, alloc, disk, moment, *kept, heads)?;
+    for crash in CRASHES {
+        let image = image_of(alloc, disk, moment, *crash)?;
+        is_opened(rt, alloc, image, heads)?;
     }
     Ok(())
 }

@@ -2,7 +2,7 @@
 use crate::starts::{STARTS, Start};
 use crate::stops::{SCRIPT, ended_run, is_opened, opened_head};
 use jf_disk::{Disk, MemDisk, Side};
-use jf_play::images::image_of;
+use jf_play::images::{Crash, image_of};
 use jf_play::play::{NO_FAULTS, Played, disk_of, has_ended, play};
 use jf_run::status::Status;
 use std::alloc::Global;
@@ -15,8 +15,8 @@ fn has_failed(played: &Played<MemDisk>) -> bool {
     has_ended(played, Status::DiskFault, None, b"") && played.entries == 0
 }
 
-// Two crashes: how many unsynced bytes each keeps, and what the others become.
-const CRASHES: &[(u64, u8)] = &[(0, 0x01), (1 << 62, 0x00)];
+// Two crashes.
+const CRASHES: &[Crash] = &[(0, 0x01), (1 << 62, 0x00)];
 
 // Opens what these crashes leave of a disk after all of its calls. Each has this head.
 fn open_crashes<H: Threads + Wait + Sync>(
@@ -25,8 +25,8 @@ fn open_crashes<H: Threads + Wait + Sync>(
     disk: &MemDisk,
     head: u64,
 ) -> Result<(), Fail> {
-    for (kept, fill) in CRASHES {
-        let image = image_of(alloc, disk, disk.moment(), *kept, *fill)?;
+    for crash in CRASHES {
+        let image = image_of(alloc, disk, disk.moment(), *crash)?;
         is_opened(rt, alloc, image, (head, head))?;
     }
     Ok(())
@@ -59,8 +59,8 @@ fn stop_twice<H: Threads + Wait + Sync>(
     disk: &MemDisk,
     moment: u64,
 ) -> Result<u64, Fail> {
-    let image = image_of(alloc, disk, moment, 200, 0x5a)?;
-    let again = image_of(alloc, disk, moment, 200, 0x5a)?;
+    let image = image_of(alloc, disk, moment, (200, 0x5a))?;
+    let again = image_of(alloc, disk, moment, (200, 0x5a))?;
     let head = opened_head(rt, alloc, image)?;
     open_twice(rt, alloc, &again, head)
 }

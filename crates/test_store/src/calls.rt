@@ -3,9 +3,9 @@ ghost use Rattle.std.specs.Prelude.{◌≡◌};
 ghost use Rattle.jf_store.specs.Passes.{IsPassOf};
 
 use crate::closing::{Play, closed_after};
-use crate::roots::{EMPTY, OF_A, OF_B, OF_BOTH};
 use jf_board::Held;
 use jf_disk::MemDisk;
+use jf_engine_play::roots::{EMPTY, OF_A, OF_B, OF_BOTH};
 use jf_engine_play::steps::Change;
 use jf_engine_play::stores::new_store;
 use jf_model::{Entry, Landing, Parent};

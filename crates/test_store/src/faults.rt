@@ -4,9 +4,9 @@ ghost use Rattle.std.specs.Prelude.{◌≡◌};
 ghost use Rattle.jf_store.specs.Passes.{IsPassOf};
 
 use crate::closing::{Play, closed_after};
-use crate::roots::{EMPTY, OF_A, OF_BOTH};
 use jf_disk::{Disk, MemDisk};
 use jf_engine::Engine;
+use jf_engine_play::roots::{EMPTY, OF_A, OF_BOTH};
 use jf_engine_play::stores::{disk_of, image_of, store_on};
 use jf_hash::Hash;
 use jf_model::Parent;

@@ -7,5 +7,3 @@ mod calls;
 mod closing;
 #[cfg(test)]
 mod faults;
-#[cfg(test)]
-mod roots;

@@ -6,12 +6,8 @@ mod commands;
 #[cfg(test)]
 mod lines;
 #[cfg(test)]
-mod mem_sinks;
-#[cfg(test)]
-mod mem_sources;
-#[cfg(test)]
 mod replies;
 #[cfg(test)]
-mod std_sinks;
+mod sinks;
 #[cfg(test)]
-mod std_sources;
+mod sources;

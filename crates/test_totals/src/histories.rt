@@ -1,18 +1,11 @@
 // What the mode `history` writes over a store after a script, with hashes from outside, by Python's `hashlib`.
 use jf_disk::MemDisk;
-use jf_play::play::{Faults, NO_FAULTS, Played, has_ended, play, play_line, roomy_disk};
+use jf_play::play::{Faults, NO_FAULTS, NO_INPUT, Played, has_ended, play, play_line, roomy_disk};
 use jf_run::status::Status;
 use std::alloc::Global;
 use std::sync::Wait;
 use std::test::Fail;
 use std::thread::Threads;
-
-// A source that fails as soon as it is asked. The mode reads no input.
-const NO_INPUT: Faults = Faults {
-    piece: 100,
-    source: &[0],
-    sink: &[],
-};
 
 // A script that is run over a new store, words that are run over what it left, and what they write.
 struct Row {

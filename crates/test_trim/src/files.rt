@@ -2,8 +2,8 @@
 // files).
 use jf_disk::{Disk, MemDisk, Side};
 use jf_pair::PairFault;
-use jf_play::files::{CHECKPOINT, COMPACTED, END, File, LANDING, LANDING_OF_NOTHING, bytes_of};
-use jf_play::images::{FILLS, KEPT, image_of};
+use jf_play::files::{CHECKPOINT, COMPACTED, END, File, LANDING, LANDING_OF_NOTHING, file_bytes};
+use jf_play::images::{CRASHES, Crash, image_of};
 use jf_play::play::{NO_FAULTS, disk_of, has_ended, play};
 use jf_run::status::Status;
 use jf_trim::{Trimmed, trim};
@@ -41,16 +41,16 @@ const ROWS: &[Row] = &[
     },
     // After one that broke off, with the gate that it closed, and with a closed gate of another byte.
     Row {
-        files: (FIRST, &[b"\0\x05\0\0\0\0"]),
+        files: (FIRST, &[&[b"\0\x05\0\0\0\0"]]),
         side: Side::B,
         bytes: 5,
         left: (FIRST, &[END]),
     },
     Row {
-        files: (&[b"\x5a\x05\0"], FIRST),
+        files: (&[&[b"\x5a\x05\0"]], FIRST),
         side: Side::A,
         bytes: 2,
-        left: (&[b"\x5a"], FIRST),
+        left: (&[&[b"\x5a"]], FIRST),
     },
     // A side of at most one byte is short already.
     Row {
@@ -60,10 +60,10 @@ const ROWS: &[Row] = &[
         left: (FIRST, &[]),
     },
     Row {
-        files: (&[b"\x01"], FIRST),
+        files: (&[&[b"\x01"]], FIRST),
         side: Side::A,
         bytes: 0,
-        left: (&[b"\x01"], FIRST),
+        left: (&[&[b"\x01"]], FIRST),
     },
     // Without a record no side is live, and the first checkpoint goes to A.
     Row {
@@ -73,24 +73,24 @@ const ROWS: &[Row] = &[
         left: (&[], &[]),
     },
     Row {
-        files: (&[b"\0\x05"], &[b"\0\x05"]),
+        files: (&[&[b"\0\x05"]], &[&[b"\0\x05"]]),
         side: Side::A,
         bytes: 1,
-        left: (&[END], &[b"\0\x05"]),
+        left: (&[END], &[&[b"\0\x05"]]),
     },
 ];
 
 // A disk that holds these files.
 fn holding(alloc: Global, files: (File, File), failing: &[u64]) -> Result<Box<MemDisk>, Fail> {
-    let a = bytes_of(alloc, files.0)?;
-    let b = bytes_of(alloc, files.1)?;
+    let a = file_bytes(alloc, files.0)?;
+    let b = file_bytes(alloc, files.1)?;
     disk_of(alloc, &a, &b, failing)
 }
 
 // Whether a disk holds these files.
 fn holds(alloc: Global, disk: &MemDisk, files: (File, File)) -> Result<bool, Fail> {
-    let a = bytes_of(alloc, files.0)?;
-    let b = bytes_of(alloc, files.1)?;
+    let a = file_bytes(alloc, files.0)?;
+    let b = file_bytes(alloc, files.1)?;
     Ok(disk.bytes(Side::A) == a.as_slice() && disk.bytes(Side::B) == b.as_slice())
 }
 
@@ -114,8 +114,8 @@ fn the_side_that_is_not_live_is_cut(rt: HostRuntime) -> Result<(), Fail> {
 
 // Files that hold no live records, and the side whose first byte is the place of damage.
 const DAMAGED: &[((File, File), Side)] = &[
-    ((&[b"\x01\x07"], FIRST), Side::A),
-    ((FIRST, &[b"\x01\x07"]), Side::B),
+    ((&[&[b"\x01\x07"]], FIRST), Side::A),
+    ((FIRST, &[&[b"\x01\x07"]]), Side::B),
     ((FIRST, FIRST), Side::B),
 ];
 
@@ -140,22 +140,17 @@ const SCRIPT: &[u8] = b"status\nroot head\n";
 const REPLIES: &[u8] = b"0 ok status base 0 floor 0 retired 0 head 2 kept 3 forks 0 generation 2\n\
     0 ok root 9bb72c39f13d2b512ea34eae99a28f6d807a134ab125e89172310c6f6ea72f8f\n";
 
-// Whether what a crash leaves at a moment opens as the store, if it keeps so many unsynced bytes.
+// Whether what a crash leaves at a moment opens as the store.
 fn opens<H: Threads + Wait + Sync>(
     rt: &H,
     alloc: Global,
     disk: &MemDisk,
     moment: u64,
-    kept: u64,
+    crash: Crash,
 ) -> Result<bool, Fail> {
-    for fill in FILLS {
-        let image = image_of(alloc, disk, moment, kept, *fill)?;
-        let played = play(rt, alloc, image, "run", SCRIPT, NO_FAULTS)?;
-        if !has_ended(&played, Status::Done, Some(2), REPLIES) {
-            return Ok(false);
-        }
-    }
-    Ok(true)
+    let image = image_of(alloc, disk, moment, crash)?;
+    let played = play(rt, alloc, image, "run", SCRIPT, NO_FAULTS)?;
+    Ok(has_ended(&played, Status::Done, Some(2), REPLIES))
 }
 
 // Whether all that a crash leaves at a moment opens as the store.
@@ -165,8 +160,8 @@ fn all_open<H: Threads + Wait + Sync>(
     disk: &MemDisk,
     moment: u64,
 ) -> Result<bool, Fail> {
-    for kept in KEPT {
-        if !opens(rt, alloc, disk, moment, *kept)? {
+    for crash in CRASHES {
+        if !opens(rt, alloc, disk, moment, *crash)? {
             return Ok(false);
         }
     }

@@ -1,19 +1,12 @@
 // The mode `trim` over stores that a script left.
 use jf_disk::{Disk, MemDisk, Side};
-use jf_play::files::{CHECKPOINT, COMPACTED, END, File, LANDING, LANDING_OF_NOTHING, bytes_of};
-use jf_play::play::{Faults, NO_FAULTS, Played, disk_of, has_ended, play, play_after};
+use jf_play::files::{CHECKPOINT, COMPACTED, END, File, LANDING, LANDING_OF_NOTHING, file_bytes};
+use jf_play::play::{Faults, NO_FAULTS, NO_INPUT, Played, disk_of, has_ended, play, play_after};
 use jf_run::status::Status;
 use std::alloc::Global;
 use std::sync::Wait;
 use std::test::Fail;
 use std::thread::Threads;
-
-// A source that fails as soon as it is asked. The mode reads no input.
-const NO_INPUT: Faults = Faults {
-    piece: 100,
-    source: &[0],
-    sink: &[],
-};
 
 // A script over a new store, the newest version after it, and the line that `trim` writes then. The lengths are those of the
 // records: 100 bytes, 122 for each of two landings, and 274 for the checkpoint of all three versions.
@@ -69,8 +62,8 @@ fn trimmed_with<H: Threads + Wait + Sync>(
     failing: &[u64],
     faults: Faults,
 ) -> Result<Played<MemDisk>, Fail> {
-    let a = bytes_of(alloc, FIRST)?;
-    let b = bytes_of(alloc, SECOND)?;
+    let a = file_bytes(alloc, FIRST)?;
+    let b = file_bytes(alloc, SECOND)?;
     let disk = disk_of(alloc, &a, &b, failing)?;
     play(rt, alloc, disk, "trim", b"", faults)
 }
@@ -97,7 +90,7 @@ const FAULTS: &[(&[u64], Faults, Status, &[u8], usize)] = &[
 
 // Whether the live side of both files has its bytes.
 fn keeps_live(alloc: Global, disk: &MemDisk) -> Result<bool, Fail> {
-    let live = bytes_of(alloc, SECOND)?;
+    let live = file_bytes(alloc, SECOND)?;
     Ok(disk.bytes(Side::B) == live.as_slice())
 }
 

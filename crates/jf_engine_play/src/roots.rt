@@ -1,23 +1,26 @@
-// Roots of maps of one or two keys.
+// Roots of maps of one or two keys, by Python's `hashlib`.
 use jf_hash::Hash;
 
-// The root of no key, that of `1` at the key of `a`, of `2` at that of `b`, and of both. By Python's `hashlib`.
-pub(crate) const EMPTY: Hash = [
+/// The root of no key.
+pub const EMPTY: Hash = [
     110, 52, 11, 156, 255, 179, 122, 152, 156, 165, 68, 230, 187, 120, 10, 44, 120, 144, 29, 63,
     179, 55, 56, 118, 133, 17, 163, 6, 23, 175, 160, 29,
 ];
 
-pub(crate) const OF_A: Hash = [
+/// The root of `1` at the key of `a`.
+pub const OF_A: Hash = [
     155, 183, 44, 57, 241, 61, 43, 81, 46, 163, 78, 174, 153, 162, 143, 109, 128, 122, 19, 74, 177,
     37, 232, 145, 114, 49, 12, 111, 110, 167, 47, 143,
 ];
 
-pub(crate) const OF_B: Hash = [
+/// The root of `2` at the key of `b`.
+pub const OF_B: Hash = [
     82, 51, 20, 171, 51, 201, 18, 212, 52, 121, 43, 66, 8, 61, 3, 195, 45, 126, 144, 181, 54, 179,
     92, 53, 90, 1, 173, 11, 183, 146, 93, 162,
 ];
 
-pub(crate) const OF_BOTH: Hash = [
+/// The root of both.
+pub const OF_BOTH: Hash = [
     62, 146, 183, 122, 111, 74, 125, 204, 66, 111, 19, 75, 52, 21, 243, 175, 126, 179, 158, 92,
     138, 199, 89, 156, 148, 245, 163, 200, 63, 224, 116, 37,
 ];
