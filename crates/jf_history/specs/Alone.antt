@@ -1,4 +1,4 @@
--- What a session that is alone on its store makes of its script, by the answers of a session that runs by itself.
+-- The result of a script whose session is alone on its store, by the answers of a session that runs by itself.
 use Rattle.std.specs.Prelude.{◌≡◌, ◌⊎◌, ℕ, ◌-◌, List, [], ◌++◌, map, take, length, slice_get, Option, Some, None, option_map, IfSome}
 use Rattle.jf_model.specs.States.{State}
 use Rattle.jf_model.specs.Entries.{replay, timeless}

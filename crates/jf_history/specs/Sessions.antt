@@ -1,4 +1,4 @@
--- One script over a pass of a shared store: what a line makes of it.
+-- One script over a pass of a shared store: the result of a line.
 use Rattle.std.specs.Prelude.{◌≡◌, ◌⊎◌, ℕ, ◌<◌, ◌+◌, ◌-◌, Bool, true, false, if◌then◌else◌, is_some, List, [], ◌∷◌, ◌++◌, map, take, length, slice_index_or, Option, Some, None, option_map, IfSome, IsTrue}
 use Rattle.jf_path.specs.Limits.{max_pins}
 use Rattle.jf_model.specs.States.{State}

@@ -1,4 +1,4 @@
--- The files that a check tells of, and how the program ends after it (docs/FORMATS.md, "Checking files").
+-- The files that a check reports on, and how the program ends after it (docs/FORMATS.md, "Checking files").
 use Rattle.std.specs.Prelude.{◌≡◌, ℕ, Option, List, Some, None, Result, Ok, Err}
 use Rattle.jf_disk.specs.Memory.{start}
 use Rattle.jf_disk.specs.Missing.{files_found}

@@ -1,4 +1,4 @@
--- All that standard error tells of an end, line by line.
+-- All that standard error says of an end, line by line.
 use Rattle.std.specs.Prelude.{ℕ, List, [], ◌++◌, Option, Some, None, codes}
 use Rattle.jf_run.specs.declared.status.Status.{Status}
 use Rattle.jf_run.specs.declared.status.Status.TheVariants as status

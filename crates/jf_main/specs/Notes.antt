@@ -1,4 +1,4 @@
--- What standard error tells of a call beside its status.
+-- What standard error says of a call beside its status.
 use Rattle.std.specs.Prelude.{ℕ, Bool, false, ◌&&◌, if◌then◌else◌, nat_lt, List, [], ◌∷◌, ◌++◌, Option, Some, None, String, string_bytes, codes, bytes_eq, decimal}
 use Rattle.std.specs.declared.alloc.Global.{Global}
 use Rattle.jf_main.specs.Help.{example_text}

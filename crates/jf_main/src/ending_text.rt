@@ -1,4 +1,4 @@
-// All that standard error tells of an end, line by line.
+// All that standard error says of an end, line by line.
 ghost use Rattle.std.specs.Prelude.{◌≡◌, Some, option_map};
 ghost use Rattle.jf_folder.specs.Causes.{cause_text};
 ghost use Rattle.jf_main.specs.EndingTexts.{cause_lines, ending_text, note_lines, status_lines};
@@ -10,7 +10,7 @@ use crate::status_line::StatusLine;
 use jf_run::status::Status;
 use std::fmt;
 
-/// All that standard error tells of an end (docs/FORMATS.md, "Calling the program"): the lines of the status, that of the
+/// All that standard error says of an end (docs/FORMATS.md, "Calling the program"): the lines of the status, that of the
 /// cause, and the note.
 #[derive(Clone, Copy, Drop)]
 pub struct EndingText {
@@ -20,7 +20,7 @@ pub struct EndingText {
 }
 
 impl EndingText {
-    /// What is told of this end.
+    /// The lines about this end.
     pub fn of(ending: &Ending) -> EndingText
         ensures status { result.status ≡ ending.now.status }
         ensures reason { option_map (λ w. w.now) result.cause ≡ option_map cause_text ending.now.cause }

@@ -1,10 +1,10 @@
-// What standard error tells of a call beside its status.
+// What standard error says of a call beside its status.
 ghost use Rattle.std.specs.Prelude.{◌≡◌, Some};
 ghost use Rattle.jf_main.specs.Notes.{generate_note, names_generate, note_text};
 
 use std::fmt;
 
-/// What standard error tells of a call beside its status (docs/FORMATS.md, "Calling the program").
+/// What standard error says of a call beside its status (docs/FORMATS.md, "Calling the program").
 #[derive(Clone, Copy, Debug, PartialEq, Eq, Drop)]
 pub enum Note {
     /// The program was called without a word: one example.

@@ -98,7 +98,7 @@ fn open_line<R: Runtime + Files<File = File> + AllocGlobal + Threads + Wait + Sy
     }
 }
 
-// Reads the files that the command line names, and tells of them on standard output.
+// Reads the files that the command line names, and reports on them on standard output.
 fn check_line<R: Runtime + Files<File = File> + AllocGlobal + Threads + Wait + Sync>(
     rt: &R,
     line: &CommandLine,
@@ -143,7 +143,7 @@ fn run_over<R: Runtime + AllocGlobal + Threads + Wait + Sync>(
     Ending::of_call(status, &disk, Note::after_call(words, start))
 }
 
-// Writes to standard error what there is to tell of an end.
+// Writes to standard error what there is to say of an end.
 fn tell<R: Runtime>(rt: &R, ending: &Ending) -> io::Result<()> {
     eprint!(rt; "{}", EndingText::of(ending))
 }

@@ -1,4 +1,4 @@
-// The line on standard error that tells of a status.
+// The line on standard error about a status.
 ghost use Rattle.std.specs.Prelude.{◌≡◌, Some};
 ghost use Rattle.hex.specs.Hex.{encode_lower};
 ghost use Rattle.jf_main.specs.Lines.{check_number, landing_refusal_text, refusal_text, side_word, status_text, unfollowed_text};
@@ -11,7 +11,7 @@ use jf_run::status::Status;
 use jf_run::{FollowFault, FollowRefused, RestoreFault};
 use std::{fmt, str};
 
-/// The line that tells of a status, without its line feed (docs/FORMATS.md, "Calling the program"): empty for `Done`.
+/// The line about a status, without its line feed (docs/FORMATS.md, "Calling the program"): empty for `Done`.
 #[derive(Clone, Copy, Drop)]
 pub struct StatusLine(pub Status);
 

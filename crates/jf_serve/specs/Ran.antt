@@ -1,4 +1,4 @@
--- What each session came to, and what several did that were run side by side.
+-- The results of sessions, one by one, and of several that were run side by side.
 use Rattle.std.specs.Prelude.{◌≡◌, ◌≤◌, ℕ, ◌+◌, true, List, [], ◌∷◌, ◌++◌, length}
 use Rattle.jf_store.specs.Passes.{Store, Pass}
 use Rattle.jf_answers.specs.Explains.{IsAmong, Answered, text_in}
@@ -24,7 +24,7 @@ pub record HasRunSession (store : Store) (n : ℕ) (script : List (List ℕ)) (h
   pub end_is : IsSessionEnd how
   pub served : (out_of_memory : List ℕ) → (ran_out_of_memory how ≡ true → IsAmong out_of_memory n) → IsServed store out_of_memory n (record { script = script; how = how; replies = replies; pass = pass })
 
--- what sessions came to, in the order of their numbers, and for how many there is room
+-- the results of sessions, in the order of their numbers, and for how many there is room
 pub record Gathered : Type 0 where
   pub passes : List Pass
   pub texts : List (List ℕ)
@@ -35,7 +35,7 @@ pub record Gathered : Type 0 where
 abbrev pub none_gathered : ℕ → Gathered
 none_gathered room = record { passes = []; texts = []; ends = []; room = room }
 
--- what one session more came to
+-- with the result of one session more
 abbrev pub one_more_gathered : Gathered → End → List ℕ → Pass → Gathered
 one_more_gathered g how text pass = record { passes = g.passes ++ pass ∷ []; texts = g.texts ++ text ∷ []; ends = g.ends ++ how ∷ []; room = g.room }
 

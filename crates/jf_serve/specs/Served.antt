@@ -1,4 +1,4 @@
--- What several sessions over one store came to, each of which ran a script of its own.
+-- The outcome of several sessions over one store, each of which ran a script of its own.
 use Rattle.std.specs.Prelude.{◌≡◌, ◌≤◌, ℕ, ◌+◌, ◌^◌, Bool, true, false, if◌then◌else◌, List, [], ◌∷◌, map, length, slice_get, Option, Some, None, IfSome}
 use Rattle.std.specs.List.{AllByRecursion}
 use Rattle.jf_disk.specs.Disk.{History}

@@ -1,4 +1,4 @@
-// What sessions came to is gathered in lists whose room was taken before the first session began.
+// The results of sessions, in lists whose room was taken before the first session began.
 ghost use Rattle.std.specs.Prelude.{◌≡◌, ◌<◌, length, IfOk};
 ghost use Rattle.jf_serve.specs.Ran.{none_gathered, one_more_gathered};
 
@@ -11,7 +11,7 @@ use jf_store::Pass;
 use std::alloc::Global;
 use std::marker::Model;
 
-/// What sessions came to, in the order of their numbers: their passes, the texts of their replies, and how they ended.
+/// The results of sessions, in the order of their numbers: their passes, the texts of their replies, and how they ended.
 #[derive(Drop)]
 pub(crate) struct Gathered<D: Disk> {
     passes: Vec<Pass<D>>,
@@ -49,7 +49,7 @@ impl<D: Disk> Gathered<D> {
         })
     }
 
-    /// Adds what one session more came to. It takes no memory.
+    /// Adds the result of one session more. It takes no memory.
     pub(crate) fn with(mut self, one: SessionRan<D>) -> Gathered<D>
         requires { length self.passes < self.room }
         ensures { result ≡ one_more_gathered self one.end one.text one.pass }

@@ -22,7 +22,7 @@ use std::thread::Threads;
 // The most bytes of a session's output, which is gathered until all sessions have ended.
 const MAX_OUTPUT: u64 = 1 << 30;
 
-/// What a session came to: its pass, the text of its replies, and how it ended.
+/// The result of a session: its pass, the text of its replies, and how it ended.
 #[derive(Drop)]
 pub(crate) struct SessionRan<D: Disk> {
     pub pass: Pass<D>,

@@ -20,7 +20,7 @@ use std::alloc::Global;
 use std::sync::Wait;
 use std::thread::Threads;
 
-/// What sessions came to: what each wrote and how it ended, the engine of their store, and the entries that they made.
+/// The result of several sessions: what each wrote and how it ended, the engine of their store, and the entries that they made.
 #[derive(Drop)]
 pub struct Served<D: Disk> {
     pub outputs: Outputs,

@@ -15,7 +15,7 @@ use std::alloc::Global;
 use std::sync::Wait;
 use std::thread::{Threads, join};
 
-/// Runs one session for each script over the new pass with its number, and gathers what they came to. The last session is
+/// Runs one session for each script over the new pass with its number, and gathers their results. The last session is
 /// given to a new thread, while the caller goes on with those before it, and runs session 0 itself. So no session waits for
 /// another to begin, unless no thread can be made. The number of workers is borrowed, since the borrow checker doesn't
 /// cover a closure that owns one.

@@ -1,4 +1,4 @@
--- What a script makes of a store that is its session's alone, by the answers of a session that runs by itself.
+-- The result of a generated script whose session is alone on its store, by the answers of a session that runs by itself.
 use Rattle.std.specs.Prelude.{◌≡◌, ℕ, List, ◌++◌, map, Option, option_to_list}
 use Rattle.jf_model.specs.States.{State}
 use Rattle.jf_model.specs.Entries.{replay, timeless}
