@@ -30,6 +30,7 @@ impl Bitmap {
     /// No bit set.
     #[tactic(auto, unfolding(crate::specs::Bitmaps::bits_of))]
     pub fn none() -> Bitmap
+        // The result has sixteen bits, none of them set.
         ensures { result ≡ replicate 16 false }
     {
         Bitmap { bits: 0 }
@@ -38,6 +39,7 @@ impl Bitmap {
     /// All bits set.
     #[tactic(auto, unfolding(crate::specs::Bitmaps::bits_of))]
     pub fn all() -> Bitmap
+        // The result has sixteen bits, all of them set.
         ensures { result ≡ replicate 16 true }
     {
         Bitmap { bits: u16::MAX }
@@ -45,6 +47,7 @@ impl Bitmap {
 
     /// Changes nothing, and tells that there are sixteen bits.
     pub fn know(&self)
+        // There are sixteen bits.
         ensures { length self.now ≡ 16 }
     {
         let _ = &self.bits;
@@ -52,7 +55,9 @@ impl Bitmap {
 
     /// Whether the bit of a place is set.
     pub fn has(self, place: usize) -> bool
+        // The place is one of the sixteen.
         requires { place < 16 }
+        // The result is the bit of the place.
         ensures { result ≡ slice_index_or self place false }
     {
         self.bits >> place & 1 == 1
@@ -60,7 +65,9 @@ impl Bitmap {
 
     /// Sets the bit of a place, or clears it.
     pub fn set(&mut self, place: usize, on: bool)
+        // The place is one of the sixteen.
         requires { place < 16 }
+        // The bit of the place is `on` now, and the other bits are unchanged.
         ensures { self.new ≡ slice_set self.old place on }
     {
         let bit = 1u16 << place;
@@ -73,7 +80,9 @@ impl Bitmap {
 
     /// How many bits are set before a place.
     pub fn rank(self, place: usize) -> usize
+        // The place is one of the sixteen, or the end after them.
         requires { place ≤ 16 }
+        // The result is the number of bits that are set before the place.
         ensures { result ≡ count_by (λ bit. bit) (take place self) }
     {
         let before = (1u32 << place) - 1;
@@ -82,7 +91,9 @@ impl Bitmap {
 
     /// How many bits are set among `width` places from place `start` on.
     pub fn count(self, start: usize, width: usize) -> usize
+        // The range ends within the sixteen places.
         requires { start + width ≤ 16 }
+        // The result is the number of bits that are set in the range.
         ensures { result ≡ count_by (λ bit. bit) (take width (drop start self)) }
     {
         let range = (1u32 << width) - 1;

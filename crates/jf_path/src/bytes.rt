@@ -22,6 +22,7 @@ impl Model for Bytes {
 impl Bytes {
     /// An empty list.
     pub fn new(alloc: Global) -> Bytes
+        // The result has no bytes.
         ensures { result ≡ [] }
     {
         Bytes {
@@ -31,6 +32,7 @@ impl Bytes {
 
     /// An empty list with room for `n` bytes.
     pub fn with_capacity(alloc: Global, n: u64) -> Result<Bytes, Memory>
+        // After Ok, the result has no bytes.
         ensures { IfOk result (λ b. b ≡ []) }
     {
         Ok(Bytes {
@@ -40,6 +42,7 @@ impl Bytes {
 
     /// A copy of these bytes.
     pub fn copy_of(alloc: Global, from: &[u8]) -> Result<Bytes, Memory>
+        // After Ok, the result has the same bytes as `from`.
         ensures { IfOk result (λ b. b ≡ from.now) }
     {
         Ok(Bytes {
@@ -49,6 +52,7 @@ impl Bytes {
 
     /// The number of bytes.
     pub fn len(&self) -> u64
+        // The result is the number of bytes.
         ensures { result ≡ length self.now }
     {
         self.bytes.len() as u64
@@ -56,6 +60,7 @@ impl Bytes {
 
     /// The bytes.
     pub fn as_slice(&self) -> &[u8]
+        // The slice holds the bytes of the list.
         ensures { result.now ≡ self.now }
     {
         &self.bytes
@@ -63,7 +68,9 @@ impl Bytes {
 
     /// Adds a byte at the end. If memory runs out, the list is unchanged.
     pub fn push(&mut self, byte: u8) -> Result<(), Memory>
+        // After Ok, the list is the old one with the byte at its end.
         ensures ok { OnOk result (self.new ≡ self.old ++ byte ∷ []) }
+        // After Err, the list is unchanged.
         ensures err { OnErr result (self.new ≡ self.old) }
     {
         self.bytes.push(byte)?;
@@ -72,7 +79,9 @@ impl Bytes {
 
     /// Adds bytes at the end. If memory runs out, the list is unchanged.
     pub fn append(&mut self, from: &[u8]) -> Result<(), Memory>
+        // After Ok, the list is the old one with the bytes of `from` at its end.
         ensures ok { OnOk result (self.new ≡ self.old ++ from.now) }
+        // After Err, the list is unchanged.
         ensures err { OnErr result (self.new ≡ self.old) }
     {
         self.bytes.extend_from_slice(from)?;
@@ -81,6 +90,7 @@ impl Bytes {
 
     /// Takes room for `additional` more bytes. The list is unchanged, even if memory runs out.
     pub fn reserve(&mut self, additional: u64) -> Result<(), Memory>
+        // The list is unchanged, whatever the result.
         ensures { self.new ≡ self.old }
     {
         self.bytes.reserve(additional as usize)?;
@@ -89,6 +99,7 @@ impl Bytes {
 
     /// Drops the bytes after the first `len`, and keeps their room.
     pub fn truncate(&mut self, len: u64)
+        // The list is the first `len` bytes of the old one, or all if it has fewer.
         ensures { self.new ≡ take len self.old }
     {
         self.bytes.truncate(len as usize);
@@ -96,6 +107,7 @@ impl Bytes {
 
     /// Drops all bytes, and keeps their room.
     pub fn clear(&mut self)
+        // The list is empty.
         ensures { self.new ≡ [] }
     {
         self.bytes.clear();

@@ -40,6 +40,7 @@ impl Model for Children {
 impl Children {
     /// An empty list.
     pub fn new(alloc: Global) -> Children
+        // The result has no children.
         ensures { result ≡ [] }
     {
         Children {
@@ -49,6 +50,7 @@ impl Children {
 
     /// An empty list with room for `n` children.
     pub fn with_capacity(alloc: Global, n: u64) -> Result<Children, Memory>
+        // After Ok, the result has no children.
         ensures { IfOk result (λ c. c ≡ []) }
     {
         Ok(Children {
@@ -58,6 +60,7 @@ impl Children {
 
     /// The number of children.
     pub fn len(&self) -> u64
+        // The result is the number of children.
         ensures { result ≡ length self.now }
     {
         self.children.len() as u64
@@ -65,7 +68,9 @@ impl Children {
 
     /// The children.
     pub fn as_slice(&self) -> &[Child]
+        // The slice holds the children of the list.
         ensures value { result.now ≡ self.now }
+        // The nibbles of the children rise strictly.
         ensures sorted { ChildrenRiseFrom 0 self.now }
     {
         &self.children
@@ -73,8 +78,11 @@ impl Children {
 
     /// Adds a child after all that are there. If memory runs out, the list is unchanged.
     pub fn push(&mut self, child: Child) -> Result<(), Memory>
+        // With the child at the end of the list, the nibbles rise strictly.
         requires { ChildrenRiseFrom 0 (self.old ++ child ∷ []) }
+        // After Ok, the list is the old one with the child at its end.
         ensures ok { OnOk result (self.new ≡ self.old ++ child ∷ []) }
+        // After Err, the list is unchanged.
         ensures err { OnErr result (self.new ≡ self.old) }
     {
         self.children.push(child)?;

@@ -11,7 +11,9 @@ pub type Key = [u8; 32];
 /// Bit `i` of a key, from 0, the highest bit of the first byte, to 255.
 #[tactic(auto, unfolding(crate::specs::Keys::bit))]
 pub fn bit(key: &Key, i: usize) -> bool
+    // The bit is one of the 256 of a key.
     requires { i < 256 }
+    // The result is bit `i` of the key.
     ensures { result ≡ bit key.now i }
 {
     key[i / 8] >> (7 - i % 8) & 1 == 1
@@ -19,7 +21,9 @@ pub fn bit(key: &Key, i: usize) -> bool
 
 /// Nibble `i` of a key, from 0, the high half of the first byte, to 63: bits `4 * i` to `4 * i + 3`.
 pub fn nibble(key: &Key, i: usize) -> Nibble
+    // The nibble is one of the 64 of a key.
     requires { i < 64 }
+    // The result is nibble `i` of the key.
     ensures { result ≡ nibble key.now i }
 {
     Nibble::half(key, i)
@@ -27,6 +31,7 @@ pub fn nibble(key: &Key, i: usize) -> Nibble
 
 /// The number of leading bits in which two keys agree, 256 if they are equal.
 pub fn common_bits(a: &Key, b: &Key) -> u64
+    // The result is the number of bits in which the keys agree before they differ.
     ensures { result ≡ common_bits a.now b.now }
 {
     for i in 0..256 {

@@ -7,6 +7,7 @@ use crate::key::Key;
 
 /// Each byte is below 256.
 pub fn know_bytes(bytes: &[u8])
+    // Each number of the list is below 256.
     ensures { IsBytes bytes.now }
 {
     know_each(bytes);
@@ -14,6 +15,7 @@ pub fn know_bytes(bytes: &[u8])
 
 /// A key has 32 bytes.
 pub fn know_key(key: &Key)
+    // The key has 32 bytes, each below 256.
     ensures { IsKey key.now }
 {
     know_each(key);
@@ -21,6 +23,7 @@ pub fn know_key(key: &Key)
 
 /// Each entry has a key of 32 bytes.
 pub fn know_entries<V>(entries: &[(Key, V)])
+    // The key of each entry has 32 bytes, each below 256.
     ensures { AllByRecursion (λ e. IsKey e.0) entries.now }
 {
     for entry in entries {

@@ -24,6 +24,7 @@ impl Model for HashList {
 impl HashList {
     /// An empty list.
     pub fn new(alloc: Global) -> HashList
+        // The result has no hashes.
         ensures { result ≡ [] }
     {
         HashList {
@@ -33,6 +34,7 @@ impl HashList {
 
     /// An empty list with room for `n` hashes.
     pub fn with_capacity(alloc: Global, n: u64) -> Result<HashList, Memory>
+        // After Ok, the result has no hashes.
         ensures { IfOk result (λ l. l ≡ []) }
     {
         Ok(HashList {
@@ -42,6 +44,7 @@ impl HashList {
 
     /// The number of elements.
     pub fn len(&self) -> u64
+        // The result is the number of hashes.
         ensures { result ≡ length self.now }
     {
         self.hashes.len() as u64
@@ -49,6 +52,7 @@ impl HashList {
 
     /// The hashes.
     pub fn as_slice(&self) -> &[[u8; 32]]
+        // The slice holds the hashes of the list.
         ensures { result.now ≡ self.now }
     {
         &self.hashes
@@ -56,7 +60,9 @@ impl HashList {
 
     /// Adds a hash at the end. If memory runs out, the list is unchanged.
     pub fn push(&mut self, hash: [u8; 32]) -> Result<(), Memory>
+        // After Ok, the list is the old one with the hash at its end.
         ensures ok { OnOk result (self.new ≡ self.old ++ hash ∷ []) }
+        // After Err, the list is unchanged.
         ensures err { OnErr result (self.new ≡ self.old) }
     {
         self.hashes.push(hash)?;
@@ -81,6 +87,7 @@ impl Model for Pairs {
 impl Pairs {
     /// An empty list.
     pub fn new(alloc: Global) -> Pairs
+        // The result has no pairs.
         ensures { result ≡ [] }
     {
         Pairs {
@@ -90,6 +97,7 @@ impl Pairs {
 
     /// The number of elements.
     pub fn len(&self) -> u64
+        // The result is the number of pairs.
         ensures { result ≡ length self.now }
     {
         self.pairs.len() as u64
@@ -97,6 +105,7 @@ impl Pairs {
 
     /// The keys and values.
     pub fn as_slice(&self) -> &[(Key, Bytes)]
+        // The slice holds the pairs of the list.
         ensures { result.now ≡ self.now }
     {
         &self.pairs
@@ -104,7 +113,9 @@ impl Pairs {
 
     /// Adds a key and its value at the end. If memory runs out, they are dropped, and the list is unchanged.
     pub fn push(&mut self, pair: (Key, Bytes)) -> Result<(), Memory>
+        // After Ok, the list is the old one with the pair at its end.
         ensures ok { OnOk result (self.new ≡ self.old ++ pair ∷ []) }
+        // After Err, the list is unchanged.
         ensures err { OnErr result (self.new ≡ self.old) }
     {
         self.pairs.push(pair)?;
@@ -113,6 +124,7 @@ impl Pairs {
 
     /// Drops the entries after the first `len`.
     pub fn truncate(&mut self, len: u64)
+        // The list is the first `len` pairs of the old one, or all if it has fewer.
         ensures { self.new ≡ take len self.old }
     {
         self.pairs.truncate(len as usize);

@@ -24,7 +24,9 @@ impl Model for Nibble {
 impl Nibble {
     /// The nibble of this number, or `None` if it is above 15.
     pub fn new(n: u8) -> Option<Nibble>
+        // A nibble that is returned has this number.
         ensures value { IfSome result (λ m. m ≡ n) }
+        // A nibble is returned exactly if the number is below 16.
         ensures given { IsSome result ↔ (n < 16) }
     {
         if n < 16 {
@@ -36,7 +38,9 @@ impl Nibble {
 
     /// Its number.
     pub fn get(self) -> u8
+        // The result is the number of the nibble.
         ensures value { result ≡ self }
+        // The number is below 16.
         ensures small { result < 16 }
     {
         self.number
@@ -44,7 +48,9 @@ impl Nibble {
 
     /// The nibble of a number below 16.
     pub fn of(number: u8) -> Nibble
+        // The number is below 16.
         requires { number < 16 }
+        // The result is the nibble of this number.
         ensures { result ≡ number }
     {
         Nibble { number }
@@ -52,8 +58,11 @@ impl Nibble {
 
     /// Half `i` of these bytes, from the high half of the first.
     pub(crate) fn half(bytes: &[u8], i: usize) -> Nibble
+        // Half `i` is in one of the bytes.
         requires { i / 2 < length bytes.now }
+        // If `i` is even, the result is the high half of byte `i / 2`.
         ensures even { i % 2 ≡ 0 → result ≡ slice_index bytes.now (i / 2) / 16 }
+        // If `i` is odd, the result is the low half of byte `i / 2`.
         ensures odd { i % 2 ≡ 1 → result ≡ slice_index bytes.now (i / 2) % 16 }
     {
         let byte = bytes[i / 2];

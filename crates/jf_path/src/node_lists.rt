@@ -31,6 +31,7 @@ impl Model for FreshList {
 impl FreshList {
     /// An empty list.
     pub fn new(alloc: Global) -> FreshList
+        // The result has no nodes.
         ensures { result ≡ [] }
     {
         FreshList {
@@ -40,7 +41,9 @@ impl FreshList {
 
     /// These nodes, whose names rise. They are taken over and not copied.
     pub fn of(nodes: Vec<(NodeName, PlainNode)>) -> FreshList
+        // The names of the nodes rise strictly.
         requires { IsTrue (are_rising (map (λ x. x.0) nodes.items)) }
+        // The result has these nodes, in this order.
         ensures { result ≡ nodes.items }
     {
         FreshList { nodes }
@@ -48,6 +51,7 @@ impl FreshList {
 
     /// The number of elements.
     pub fn len(&self) -> u64
+        // The result is the number of nodes.
         ensures { result ≡ length self.now }
     {
         self.nodes.len() as u64
@@ -55,7 +59,9 @@ impl FreshList {
 
     /// The names and nodes.
     pub fn as_slice(&self) -> &[(NodeName, PlainNode)]
+        // The slice holds the names and nodes of the list.
         ensures value { result.now ≡ self.now }
+        // The names of the nodes rise strictly.
         ensures sorted { IsTrue (are_rising (map (λ x. x.0) self.now)) }
     {
         &self.nodes
@@ -63,8 +69,11 @@ impl FreshList {
 
     /// Adds a node after all that are there. If memory runs out, it is dropped, and the list is unchanged.
     pub fn push(&mut self, item: (NodeName, PlainNode)) -> Result<(), Memory>
+        // With the node at the end of the list, the names rise strictly.
         requires { IsTrue (are_rising (map (λ x. x.0) (self.old ++ item ∷ []))) }
+        // After Ok, the list is the old one with the node at its end.
         ensures ok { OnOk result (self.new ≡ self.old ++ item ∷ []) }
+        // After Err, the list is unchanged.
         ensures err { OnErr result (self.new ≡ self.old) }
     {
         self.nodes.push(item)?;
@@ -94,6 +103,7 @@ impl Model for NameList {
 impl NameList {
     /// An empty list.
     pub fn new(alloc: Global) -> NameList
+        // The result has no names.
         ensures { result ≡ [] }
     {
         NameList {
@@ -103,7 +113,9 @@ impl NameList {
 
     /// These names, which rise. They are taken over and not copied.
     pub fn of(names: Vec<NodeName>) -> NameList
+        // The names rise strictly.
         requires { IsTrue (are_rising names.items) }
+        // The result has these names, in this order.
         ensures { result ≡ names.items }
     {
         NameList { names }
@@ -111,6 +123,7 @@ impl NameList {
 
     /// The number of elements.
     pub fn len(&self) -> u64
+        // The result is the number of names.
         ensures { result ≡ length self.now }
     {
         self.names.len() as u64
@@ -118,7 +131,9 @@ impl NameList {
 
     /// The names.
     pub fn as_slice(&self) -> &[NodeName]
+        // The slice holds the names of the list.
         ensures value { result.now ≡ self.now }
+        // The names rise strictly.
         ensures sorted { IsTrue (are_rising self.now) }
     {
         &self.names
@@ -126,8 +141,11 @@ impl NameList {
 
     /// Adds a name after all that are there. If memory runs out, the list is unchanged.
     pub fn push(&mut self, name: NodeName) -> Result<(), Memory>
+        // With the name at the end of the list, the names rise strictly.
         requires { IsTrue (are_rising (self.old ++ name ∷ [])) }
+        // After Ok, the list is the old one with the name at its end.
         ensures ok { OnOk result (self.new ≡ self.old ++ name ∷ []) }
+        // After Err, the list is unchanged.
         ensures err { OnErr result (self.new ≡ self.old) }
     {
         self.names.push(name)?;
@@ -154,6 +172,7 @@ impl Model for LiveList {
 impl LiveList {
     /// An empty list.
     pub fn new(alloc: Global) -> LiveList
+        // The result has no nodes.
         ensures { result ≡ [] }
     {
         LiveList {
@@ -163,6 +182,7 @@ impl LiveList {
 
     /// The number of elements.
     pub fn len(&self) -> u64
+        // The result is the number of nodes.
         ensures { result ≡ length self.now }
     {
         self.nodes.len() as u64
@@ -170,6 +190,7 @@ impl LiveList {
 
     /// The names, nodes and versions.
     pub fn as_slice(&self) -> &[(NodeName, PlainNode, u64)]
+        // The slice holds the names, nodes and versions of the list.
         ensures { result.now ≡ self.now }
     {
         &self.nodes
@@ -177,7 +198,9 @@ impl LiveList {
 
     /// Adds a node at the end. If memory runs out, it is dropped, and the list is unchanged.
     pub fn push(&mut self, item: (NodeName, PlainNode, u64)) -> Result<(), Memory>
+        // After Ok, the list is the old one with the node at its end.
         ensures ok { OnOk result (self.new ≡ self.old ++ item ∷ []) }
+        // After Err, the list is unchanged.
         ensures err { OnErr result (self.new ≡ self.old) }
     {
         self.nodes.push(item)?;

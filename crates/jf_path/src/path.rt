@@ -42,6 +42,7 @@ impl Model for NibblePath {
 impl NibblePath {
     /// The empty path, which is the root's.
     pub fn empty() -> NibblePath
+        // The result has no nibbles.
         ensures { result ≡ [] }
     {
         NibblePath {
@@ -52,6 +53,7 @@ impl NibblePath {
 
     /// All 64 nibbles of a key.
     pub fn of_key(key: &Key) -> NibblePath
+        // The result has all 64 nibbles of the key, in their order.
         ensures { result ≡ key_path key.now }
     {
         know_key(key);
@@ -63,7 +65,9 @@ impl NibblePath {
 
     /// The number of nibbles.
     pub fn len(&self) -> usize
+        // The result is the number of nibbles.
         ensures value { result ≡ length self.now }
+        // There are at most 64 nibbles, each below 16.
         ensures path { IsPath self.now }
     {
         self.count as usize
@@ -71,7 +75,9 @@ impl NibblePath {
 
     /// Nibble `i`, from 0.
     pub fn at(&self, i: usize) -> Nibble
+        // The path has a nibble `i`.
         requires { i < length self.now }
+        // The result is nibble `i` of the path.
         ensures { result ≡ slice_index self.now i }
     {
         Nibble::half(&self.nibbles, i)
@@ -79,7 +85,9 @@ impl NibblePath {
 
     /// Adds a nibble at the end.
     pub fn push(&mut self, n: Nibble)
+        // The path has fewer than 64 nibbles.
         requires { length self.old < 64 }
+        // The path is the old one with the nibble at its end.
         ensures { self.new ≡ self.old ++ n ∷ [] }
     {
         let number = n.get();
@@ -94,7 +102,9 @@ impl NibblePath {
 
     /// The path of the child at nibble `n`.
     pub fn child(&self, n: Nibble) -> NibblePath
+        // The path has fewer than 64 nibbles.
         requires { length self.now < 64 }
+        // The result is the path with the nibble at its end.
         ensures { result ≡ self.now ++ n ∷ [] }
     {
         let mut path = *self;
@@ -104,6 +114,7 @@ impl NibblePath {
 
     /// Whether the path begins with all nibbles of `front`.
     pub fn starts_with(&self, front: &NibblePath) -> bool
+        // The result is true exactly if the path begins with all nibbles of `front`.
         ensures { result ≡ starts_with (λ n m. n == m) self.now front.now }
     {
         let whole = front.count as usize / 2;
@@ -115,7 +126,9 @@ impl NibblePath {
     /// Writes the number of nibbles, and the nibbles two to a byte, the first in the high half; an odd last byte has a
     /// zero low half. Returns the number of bytes, 1 to 33; the bytes after them are unchanged.
     pub fn to_bytes(&self, out: &mut [u8; 33]) -> usize
+        // The result is the number of the path's bytes.
         ensures value { result ≡ length (path_bytes self.now) }
+        // `out` begins with the path's bytes, and what is after them is unchanged.
         ensures bytes { out.new ≡ path_bytes self.now ++ drop result out.old }
     {
         let end = (self.count as usize + 1) / 2;
@@ -126,8 +139,11 @@ impl NibblePath {
 
     /// The path of these bytes, as `to_bytes` writes them, with nothing after them.
     pub fn from_bytes(bytes: &[u8]) -> Result<NibblePath, PathFault>
+        // After Ok, the bytes are those of the result.
         ensures value { IfOk result (λ path. bytes.now ≡ path_bytes path) }
+        // If the bytes are those of a path, the result is this path.
         ensures found { (path : List ℕ) → IsPath path → bytes.now ≡ path_bytes path → result ≡ Ok path }
+        // A fault is returned exactly if the bytes are those of no path, and says why.
         ensures refused { result_err result ≡ path_fault bytes.now }
     {
         let Some((count, packed)) = bytes.split_first() else {

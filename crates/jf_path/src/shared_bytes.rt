@@ -24,6 +24,7 @@ impl Model for SharedBytes {
 impl SharedBytes {
     /// These bytes, which are taken over and not copied. If memory runs out, they are dropped.
     pub fn of(alloc: Global, bytes: Bytes) -> Result<SharedBytes, Memory>
+        // After Ok, the result has these bytes.
         ensures { IfOk result (λ b. b ≡ bytes) }
     {
         Ok(SharedBytes {
@@ -33,6 +34,7 @@ impl SharedBytes {
 
     /// A copy of these bytes.
     pub fn copy_of(alloc: Global, from: &[u8]) -> Result<SharedBytes, Memory>
+        // After Ok, the result has the same bytes as `from`.
         ensures { IfOk result (λ b. b ≡ from.now) }
     {
         SharedBytes::of(alloc, Bytes::copy_of(alloc, from)?)
@@ -40,6 +42,7 @@ impl SharedBytes {
 
     /// One more owner of the same bytes. Nothing is copied.
     pub fn share(&self) -> Result<SharedBytes, Memory>
+        // After Ok, the result has the same bytes.
         ensures { IfOk result (λ b. b ≡ self.now) }
     {
         Ok(SharedBytes {
@@ -49,6 +52,7 @@ impl SharedBytes {
 
     /// The number of bytes.
     pub fn len(&self) -> u64
+        // The result is the number of bytes.
         ensures { result ≡ length self.now }
     {
         self.bytes.len()
@@ -56,6 +60,7 @@ impl SharedBytes {
 
     /// The bytes.
     pub fn as_slice(&self) -> &[u8]
+        // The slice holds the bytes.
         ensures { result.now ≡ self.now }
     {
         self.bytes.as_slice()
