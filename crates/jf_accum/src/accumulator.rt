@@ -59,6 +59,7 @@ impl Accumulator {
 
     /// The number of hashes.
     pub fn len(&self) -> u64
+        // The result is the number of hashes.
         ensures { result ≡ length self.now }
     {
         self.hashes.len() as u64

@@ -23,6 +23,7 @@ pub fn refusal(
     leaf: &Option<(Key, Hash)>,
     siblings: &[Hash],
 ) -> Option<ProofFault>
+    // The result is the first check that fails for the claim, or None if all pass.
     ensures { result ≡ refusal root.now key.now (option_copied claim.entry) (record { leaf = leaf.now; siblings = siblings.now }) }
 {
     if siblings.len() > MAX_SIBLINGS {

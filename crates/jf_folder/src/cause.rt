@@ -22,6 +22,7 @@ pub enum FaultCause {
 impl FaultCause {
     /// The words for it on standard error, after `because: `.
     pub fn text(self) -> &'static str
+        // The result is the text of the cause.
         ensures { result.now ≡ cause_text self }
     {
         match self {
@@ -40,6 +41,7 @@ impl FaultCause {
 
     /// The cause that an error of the system comes to.
     pub fn of_kind(kind: ErrorKind) -> FaultCause
+        // The result is the cause that belongs to the kind.
         ensures { result ≡ kind_cause kind }
     {
         match kind {

@@ -59,6 +59,7 @@ fn is_foreign(a: Seen, b: Seen) -> bool
 
 /// Why no store is opened over two files of which this is seen, if it isn't (docs/FORMATS.md, "The files of a folder").
 pub fn store_refusal(a: Seen, b: Seen) -> Option<FaultCause>
+    // The result is why no store is opened over files seen so, or `None` if one is.
     ensures { result ≡ store_refusal a b }
 {
     if lacks_a_file(a, b) {

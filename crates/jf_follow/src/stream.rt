@@ -78,7 +78,9 @@ pub fn follow_stream<S: Source, K: Sink, D: Disk, H: Threads + Sync, G: Gate>(
         entries: Vec::new(alloc),
     };
     let step = |alloc: Global, following: &mut Following<D>, line: &[u8]| -> Result<(), FollowStop>
+        // The store is whole.
         requires { following.old.follower.broken ≡ false }
+        // The line is done, and if that returns Ok, the store is whole.
         ensures { DoesLandingLine (follow_state following.old.reader following.old.follower following.old.entries.items) line.now result (follow_state following.new.reader following.new.follower following.new.entries.items) }
     { follow_line(rt, alloc, following, line, workers, gate) };
     let mut machine = LineFollower { following, step };

@@ -29,6 +29,7 @@ impl<A> fmt::Debug for Remembered<A> {
 impl<A> Remembered<A> {
     /// What the value is now. It does nothing.
     pub fn of(now: &A) -> Remembered<A>
+        // The remembered value is what the value is now.
         ensures { result.value ≡ now.now }
     {
         Remembered { kind: PhantomData }

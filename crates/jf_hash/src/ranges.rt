@@ -211,6 +211,7 @@ impl Ranges {
 
     /// A copy of these hashes.
     pub fn copy(&self, alloc: Global) -> Result<Ranges, Memory>
+        // After Ok, the result has the same hashes.
         ensures { IfOk result (λ r. r ≡ self.now) }
     {
         let mut hashes = Vec::with_capacity(alloc, self.hashes.len())?;

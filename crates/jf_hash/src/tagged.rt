@@ -22,6 +22,7 @@ const NO_BYTES: Hash = [
 
 /// The hash of no entry: of the byte 0 alone. It is written down, and nothing is hashed.
 pub fn empty() -> Hash
+    // The result is the hash of no entry.
     ensures { result ≡ E }
 {
     NO_ENTRY
@@ -41,6 +42,7 @@ fn tagged_pair(tag: u8, first: &Hash, second: &Hash) -> Hash
 /// The hash of a leaf: of the byte 1, a key and the hash of its value.
 #[tactic(auto, unfolding(crate::specs::Hashes::L))]
 pub fn leaf(key: &Hash, value_hash: &Hash) -> Hash
+    // The result is the hash of a leaf with this key and this hash of its value.
     ensures { result ≡ L key.now value_hash.now }
 {
     tagged_pair(1, key, value_hash)
@@ -50,6 +52,7 @@ pub fn leaf(key: &Hash, value_hash: &Hash) -> Hash
 /// is 1.
 #[tactic(auto, unfolding(crate::specs::Hashes::N))]
 pub fn inner(left: &Hash, right: &Hash) -> Hash
+    // The result is the hash of a pair with these two hashes, the left one first.
     ensures { result ≡ N left.now right.now }
 {
     tagged_pair(2, left, right)
@@ -66,6 +69,7 @@ fn no_bytes() -> Hash
 /// down, and nothing is hashed.
 #[tactic(auto, unfolding(crate::specs::Hashes::V))]
 pub fn value(bytes: &[u8]) -> Hash
+    // The result is the hash of a value of these bytes.
     ensures { result ≡ V bytes.now }
 {
     if bytes.is_empty() {
@@ -79,6 +83,7 @@ pub fn value(bytes: &[u8]) -> Hash
 /// The key of a name: the hash of the byte 4 and the name.
 #[tactic(auto, unfolding(crate::specs::Hashes::K))]
 pub fn key_of(name: &[u8]) -> Hash
+    // The result is the key of this name.
     ensures { result ≡ K name.now }
 {
     let mut hasher = Sha256::new_with_prefix(&[4u8]);

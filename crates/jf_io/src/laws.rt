@@ -4,6 +4,7 @@ ghost use Rattle.jf_io.specs.Lines.{lines, one_line, whole_lines};
 
 /// Bytes without a line feed are one line, or no line if there are no bytes.
 pub fn bytes_without_feed_are_one_line()
+    // If `bytes` has no line feed, its lines are `bytes` as one line, or none if it is empty.
     ensures { (bytes : List ℕ) → whole_lines bytes ≡ 0 → lines bytes ≡ one_line bytes }
 {}
 
@@ -21,11 +22,13 @@ pub fn lines_go_on_after_a_feed()
 
 /// Bytes that end with a line feed have as many lines as line feeds.
 pub fn whole_lines_count_lines()
+    // `front` with a line feed at its end has as many lines as line feeds.
     ensures { (front : List ℕ) → length (lines (front ++ 10 ∷ [])) ≡ whole_lines (front ++ 10 ∷ []) }
 {}
 
 /// The lines that end with a line feed are those of the bytes up to the last line feed.
 pub fn whole_lines_come_first()
+    // If `rest` has no line feed, the whole lines are those of `front` with its line feed.
     ensures { (front rest : List ℕ) → whole_lines rest ≡ 0
         → take (whole_lines (front ++ 10 ∷ rest)) (lines (front ++ 10 ∷ rest)) ≡ lines (front ++ 10 ∷ []) }
 {}

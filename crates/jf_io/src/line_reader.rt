@@ -118,6 +118,7 @@ impl LineReader {
     /// The first line held, without its line feed; all that is held if there is no line feed. Of a line longer than the
     /// limit, its first `limit` + 1 bytes.
     pub fn line(&self) -> &[u8]
+        // The slice holds the first `limit` + 1 bytes, or fewer, held before the first line feed.
         ensures { result.now ≡ take (self.now.limit + 1) (before_first is_line_feed self.now.bytes) }
     {
         let end = line_end(&self.bytes, self.start, self.searched);
@@ -131,6 +132,7 @@ impl LineReader {
 
     /// What is held after the first line and its line feed: further lines, and perhaps the front of one.
     pub fn after_line(&self) -> &[u8]
+        // The slice holds the bytes held after the first line feed.
         ensures { result.now ≡ after_first is_line_feed self.now.bytes }
     {
         let end = line_end(&self.bytes, self.start, self.searched);
@@ -139,6 +141,7 @@ impl LineReader {
 
     /// Whether no line feed is held. At the end of the input this says that the line held is the last one.
     pub fn is_last(&self) -> bool
+        // The result is true exactly if no line feed is held.
         ensures { IsTrue result ↔ (position_or_len is_line_feed self.now.bytes ≡ length self.now.bytes) }
     {
         line_end(&self.bytes, self.start, self.searched) == self.bytes.len()
@@ -146,6 +149,7 @@ impl LineReader {
 
     /// Drops the first line held, with its line feed.
     pub fn advance(&mut self)
+        // The bytes after the first line feed are held, and limit and piece are unchanged.
         ensures { self.new ≡ record self.old { bytes = after_first is_line_feed self.old.bytes } }
     {
         let end = line_end(&self.bytes, self.start, self.searched);

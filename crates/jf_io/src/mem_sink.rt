@@ -51,6 +51,7 @@ impl MemSink {
 
     /// The text so far.
     pub fn text(&self) -> &[u8]
+        // The slice holds the text of the sink.
         ensures { result.now ≡ self.now.text }
     {
         &self.text

@@ -59,11 +59,15 @@ pub fn join_pieces_from<H: Threads + Sync, T: Sync, R: Send + Drop, G: Gate, F: 
     let (front, back) = pieces.split_at(pieces.len() / 2);
     let middle = first + front.len() as u64;
     let left = move || -> Result<Vec<R>, Memory>
+        // Threads may share or send it all, numbers fit 64 bits, and `f` takes each front piece.
         requires { IsSync H.row × IsSync T.row × IsSend R.row × IsSync G.row × IsSync F.row × (first + length front.now < 2 ^ 64) × TakesEach F.Fn f.now front.now }
+        // After `Ok` there is a result for each front piece, one that `f` may return for it.
         ensures { IfOk result (λ v. AnswersEach F.Fn f.entry.now front.entry.now v.items) }
     { join_pieces_from(rt, alloc, front, first, *fewer, gate, f) };
     let right = move || -> Result<Vec<R>, Memory>
+        // Threads may share or send it all, numbers fit 64 bits, and `f` takes each back piece.
         requires { IsSync H.row × IsSync T.row × IsSend R.row × IsSync G.row × IsSync F.row × (middle + length back.now < 2 ^ 64) × TakesEach F.Fn f.now back.now }
+        // After `Ok` there is a result for each back piece, one that `f` may return for it.
         ensures { IfOk result (λ v. AnswersEach F.Fn f.entry.now back.entry.now v.items) }
     { join_pieces_from(rt, alloc, back, middle, *others, gate, f) };
     let (left, right) = join(rt, left, right);

@@ -54,6 +54,7 @@ impl Workers {
 
     /// Whether there is one thread alone, the caller's own.
     pub fn is_one(self) -> bool
+        // The result is true exactly if the number of threads is 1.
         ensures { IsTrue result ↔ (self ≡ 1) }
     {
         self.number == 1

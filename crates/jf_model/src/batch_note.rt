@@ -23,6 +23,7 @@ impl Model for BatchNote {
 impl BatchNote {
     /// The note of a batch.
     pub fn of(batch: &Batch) -> BatchNote
+        // The note says what the batch says now.
         ensures { result ≡ batch.now }
     {
         BatchNote {

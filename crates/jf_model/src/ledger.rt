@@ -24,6 +24,7 @@ impl Model for Ledger {
 impl Ledger {
     /// A ledger of no entries.
     pub fn new(alloc: Global) -> Ledger
+        // The result has no entries.
         ensures { result ≡ [] }
     {
         Ledger {
@@ -33,6 +34,7 @@ impl Ledger {
 
     /// The ledger of these entries, the first one first. It takes no memory.
     pub fn of(entries: Vec<Entry>) -> Ledger
+        // The result has these entries, in this order.
         ensures { result ≡ entries.items }
     {
         Ledger { entries }
@@ -40,6 +42,7 @@ impl Ledger {
 
     /// The number of entries.
     pub fn len(&self) -> u64
+        // The result is the number of entries.
         ensures { result ≡ length self.now }
     {
         self.entries.len() as u64
@@ -47,6 +50,7 @@ impl Ledger {
 
     /// The entries, the first one first.
     pub fn as_slice(&self) -> &[Entry]
+        // The slice holds the entries of the ledger.
         ensures { result.now ≡ self.now }
     {
         &self.entries
@@ -54,7 +58,9 @@ impl Ledger {
 
     /// Appends an entry. If it is out of memory, the ledger is unchanged and the entry is dropped.
     pub fn push(&mut self, entry: Entry) -> Result<(), Memory>
+        // After Ok, the ledger is the old one with the entry at its end.
         ensures ok { OnOk result (self.new ≡ self.old ++ entry ∷ []) }
+        // After Err, the ledger is unchanged.
         ensures err { OnErr result (self.new ≡ self.old) }
     {
         self.entries.push(entry)?;

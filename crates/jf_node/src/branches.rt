@@ -64,7 +64,9 @@ impl Branches {
     // The number of entries of the children at the `width` places from place `start` on, or `None` if it is 2^64 or
     // more.
     pub(crate) fn count_among(&self, start: usize, width: usize) -> Option<u64>
+        // The range ends within the sixteen places.
         requires { start + width ≤ 16 }
+        // The result is the number of entries in the range, or None if it is 2^64 or more.
         ensures { SomeIff result (length (entries_of_children (take width (drop start self.now))) < 2 ^ 64) (length (entries_of_children (take width (drop start self.now)))) }
     {
         count_all(self.among(start, width))
@@ -72,7 +74,9 @@ impl Branches {
 
     // The links to the children at the `width` places from place `start` on.
     pub(crate) fn among(&self, start: usize, width: usize) -> &[Link]
+        // The range ends within the sixteen places.
         requires { start + width ≤ 16 }
+        // The links have the same entries as the places in the range.
         ensures { entries_of_children (take width (drop start self.now)) ≡ entries_of_children (map Some result.now) }
     {
         let first = self.there.rank(start);

@@ -140,6 +140,7 @@ impl<'a> Range<'a> {
 
     /// The entries of a stored node, at four times its depth.
     pub fn of(link: &'a Link) -> Range<'a>
+        // The result has the entries of the node, at four times its depth.
         ensures { result ≡ record { depth = 4 * link.now.depth; entries = link.now.entries } }
     {
         link.know();
@@ -194,6 +195,7 @@ impl<'a> Range<'a> {
 
     /// How many leading bits, 0 to 256, say which keys belong here.
     pub fn depth(&self) -> u64
+        // The result is the depth of the range.
         ensures { result ≡ self.now.depth }
     {
         self.depth
@@ -292,6 +294,7 @@ impl<'a> Range<'a> {
 
     /// The number of its entries.
     pub fn count(&self) -> u64
+        // The result is the number of entries of the range.
         ensures { result ≡ length self.now.entries }
     {
         match self.place {
@@ -321,6 +324,7 @@ impl<'a> Range<'a> {
 
     /// The value of a key, or `None` if no entry has it.
     pub fn get(&self, key: &Key) -> Option<&'a [u8]>
+        // The result is the value of the entry with this key, or None if there is none.
         ensures { option_copied result ≡ find key_cmp key.now self.now.entries }
     {
         match self.place {

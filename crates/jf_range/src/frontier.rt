@@ -44,6 +44,7 @@ impl Model for Frontier {
 impl Frontier {
     /// The frontier of no entries.
     pub fn new() -> Frontier
+        // The result is the frontier of no entries.
         ensures { result ≡ frontier_of [] }
     {
         let none = empty();
@@ -57,6 +58,7 @@ impl Frontier {
 
     // A copy of the frontier.
     pub(crate) fn copy(&self) -> Frontier
+        // The result is the same frontier.
         ensures { result ≡ self.now }
     {
         Frontier {

@@ -9,7 +9,7 @@ use Rattle.jf_blocks.specs.Reading.{Chunk, line_read, entry_of, side_of, chunk_o
 use Rattle.jf_blocks.specs.declared.chunk.ChunkHead.{ChunkHead}
 use Rattle.jf_receive.specs.declared.fault.BlockFault.{BlockFault}
 use Rattle.jf_receive.specs.declared.stage.Stage.{Stage}
-use Rattle.jf_receive.specs.Steps.{RestoringStep, adds_nothing, refuses, step_after_block, taken_if_whole, begun_at, head_step, with_entry, entry_step, with_sibling, sibling_step, block_step, restoring_line_step, next_at, Restoring, restoring_after, restoring_after_all, begun_restoring, refusal_at_stage, end_by, restored_at_end}
+use Rattle.jf_receive.specs.Steps.{RestoringStep, adds_nothing, refuses, step_after_block, step_within_block, begun_at, head_step, with_entry, entry_step, with_sibling, sibling_step, block_step, restoring_line_step, next_at, Restoring, restoring_after, restoring_after_lines, begun_restoring, refusal_at_stage, end_by, restored_at_end}
 use Rattle.jf_receive.specs.declared.stage.Begun.{Begun}
 use Rattle.jf_receive.specs.Chunks.{refusal_decided_by, chunks}
 use Rattle.jf_receive.specs.Laws.{with_entries, RefusalsComeAtTheirLine, RefusalsStay}
@@ -36,8 +36,8 @@ LeadsTo n s = IsAfterLines n s (n + 1)
 taken-leads : (n : ℕ) (r : RestoreValue) (first : ℕ) (chunk : Chunk) → LeadsTo n (step_after_block r first chunk).stage
 taken-leads n r first chunk = elim (range_refusal r.root r.entries chunk.0 chunk.1) as (λ (o : Option RangeFault). LeadsTo n (elim o as (λ x. RestoringStep) [ None ↦ adds_nothing (with_more r chunk.0) stage.Between | Some why ↦ refuses r (fault.Chunk first why) ]).stage) [ None ↦ refl | Some why ↦ tt ]
 
-taken_if_whole-leads : (n : ℕ) (r : RestoreValue) (b : Begun) → LeadsTo n (taken_if_whole r b).stage
-taken_if_whole-leads n r b =
+step_within_block-leads : (n : ℕ) (r : RestoreValue) (b : Begun) → LeadsTo n (step_within_block r b).stage
+step_within_block-leads n r b =
     elim (nat_lt 0 b.entries_left || nat_lt 0 b.siblings_left) as (λ t. LeadsTo n (cond t (adds_nothing r (stage.Block b)) (step_after_block r b.first (b.entries, b.proof))).stage) [
       | true ↦ refl
       | false ↦ taken-leads n r b.first (b.entries, b.proof)
@@ -45,15 +45,15 @@ taken_if_whole-leads n r b =
 
 first-leads : (n : ℕ) (r : RestoreValue) (o : Option ChunkHead) → LeadsTo n (head_step r n o).stage
 first-leads n r None = omega arith
-first-leads n r (Some head) = taken_if_whole-leads n r (begun_at n head)
+first-leads n r (Some head) = step_within_block-leads n r (begun_at n head)
 
 entry-leads : (n : ℕ) (r : RestoreValue) (b : Begun) (o : Option (List ℕ × List ℕ)) → LeadsTo n (entry_step r n b o).stage
 entry-leads n r b None = omega arith
-entry-leads n r b (Some e) = taken_if_whole-leads n r (with_entry b e)
+entry-leads n r b (Some e) = step_within_block-leads n r (with_entry b e)
 
 side-leads : (n : ℕ) (r : RestoreValue) (b : Begun) (o : Option (List ℕ)) → LeadsTo n (sibling_step r n b o).stage
 side-leads n r b None = omega arith
-side-leads n r b (Some h) = taken_if_whole-leads n r (with_sibling b h)
+side-leads n r b (Some h) = step_within_block-leads n r (with_sibling b h)
 
 block-leads : (n : ℕ) (r : RestoreValue) (b : Begun) (line : List ℕ) → LeadsTo n (block_step r n b line).stage
 block-leads n r b line =
@@ -73,17 +73,17 @@ moves n r at stage.Between line h = rw h (first-leads (n + 1) r (line_read chunk
 moves n r at (stage.Block b) line h = rw h (block-leads (n + 1) r b line)
 moves n r at (stage.Refused why) line h = widen n why h
 
-all_after : (n : ℕ) (s : Restoring) (ls : List (List ℕ)) → IsAfterLines n s.stage s.at → IsAfterLines (n + length ls) (restoring_after_all s ls).stage (restoring_after_all s ls).at
-unfolding restoring_after_all
+all_after : (n : ℕ) (s : Restoring) (ls : List (List ℕ)) → IsAfterLines n s.stage s.at → IsAfterLines (n + length ls) (restoring_after_lines s ls).stage (restoring_after_lines s ls).at
+unfolding restoring_after_lines
 all_after n s [] h = let e : n ≡ n + 0 = omega arith in subst (λ m. IsAfterLines m s.stage s.at) e h
 all_after n s (line ∷ ls) h =
     let e : n + 1 + length ls ≡ n + length (line ∷ ls) = omega arith in
-    subst (λ m. IsAfterLines m (restoring_after_all (restoring_after s line) ls).stage (restoring_after_all (restoring_after s line) ls).at) e (all_after (n + 1) (restoring_after s line) ls (moves n s.restore s.at s.stage line h))
+    subst (λ m. IsAfterLines m (restoring_after_lines (restoring_after s line) ls).stage (restoring_after_lines (restoring_after s line) ls).at) e (all_after (n + 1) (restoring_after s line) ls (moves n s.restore s.at s.stage line h))
 
-after_begun : (r : RestoreValue) (ls : List (List ℕ)) → IsAfterLines (length ls) (restoring_after_all (begun_restoring r) ls).stage (restoring_after_all (begun_restoring r) ls).at
+after_begun : (r : RestoreValue) (ls : List (List ℕ)) → IsAfterLines (length ls) (restoring_after_lines (begun_restoring r) ls).stage (restoring_after_lines (begun_restoring r) ls).at
 after_begun r ls =
     let e : 0 + length ls ≡ length ls = omega arith in
-    subst (λ n. IsAfterLines n (restoring_after_all (begun_restoring r) ls).stage (restoring_after_all (begun_restoring r) ls).at) e (all_after 0 (begun_restoring r) ls refl)
+    subst (λ n. IsAfterLines n (restoring_after_lines (begun_restoring r) ls).stage (restoring_after_lines (begun_restoring r) ls).at) e (all_after 0 (begun_restoring r) ls refl)
 
 -- after a refusal nothing changes
 pub refused_after : (r : RestoreValue) (at : ℕ) (s : Stage) (why : BlockFault) (line : List ℕ) → s ≡ stage.Refused why
@@ -113,21 +113,21 @@ decides r x n at (stage.Refused why) o h e = within_so n why h ∙ ap (refusal_d
 
 pub refusals-decided : RefusalsComeAtTheirLine
 refusals-decided r ls =
-    let s : Restoring = restoring_after_all (begun_restoring r) ls in
+    let s : Restoring = restoring_after_lines (begun_restoring r) ls in
     decides r s.restore (length ls) s.at s.stage (chunks r.root r.entries ls) (after_begun r ls) (chunks-lines r ls)
 
 -- ---- what stays
-pub restoring_after_all-append : (s : Restoring) (ls ms : List (List ℕ)) → restoring_after_all s (ls ++ ms) ≡ restoring_after_all (restoring_after_all s ls) ms
-unfolding restoring_after_all
-restoring_after_all-append s [] ms = refl
-restoring_after_all-append s (line ∷ ls) ms = restoring_after_all-append (restoring_after s line) ls ms
+pub restoring_after_lines-append : (s : Restoring) (ls ms : List (List ℕ)) → restoring_after_lines s (ls ++ ms) ≡ restoring_after_lines (restoring_after_lines s ls) ms
+unfolding restoring_after_lines
+restoring_after_lines-append s [] ms = refl
+restoring_after_lines-append s (line ∷ ls) ms = restoring_after_lines-append (restoring_after s line) ls ms
 
-stays : (r : RestoreValue) (at : ℕ) (s : Stage) (why : BlockFault) (ms : List (List ℕ)) → refusal_at_stage s ≡ Some why → restored_at_end (restoring_after_all (record { restore = r; at = at; stage = s }) ms) ≡ Err why
+stays : (r : RestoreValue) (at : ℕ) (s : Stage) (why : BlockFault) (ms : List (List ℕ)) → refusal_at_stage s ≡ Some why → restored_at_end (restoring_after_lines (record { restore = r; at = at; stage = s }) ms) ≡ Err why
 stays r at stage.Between why ms e = absurd (cc)
 stays r at (stage.Block b) why ms e = absurd (cc)
 stays r at (stage.Refused w) why ms e = let same : w ≡ why = cc in refused_stays r at w ms ∙ ap (λ x. Err x) same
 
 pub refusals-stay : RefusalsStay
 refusals-stay r ls ms why e =
-    let s : Restoring = restoring_after_all (begun_restoring r) ls in
-    err_so r why (chunks r.root r.entries (ls ++ ms)) (sym (stays s.restore s.at s.stage why ms e) ∙ ap restored_at_end (sym (restoring_after_all-append (begun_restoring r) ls ms)) ∙ chunks-lines r (ls ++ ms))
+    let s : Restoring = restoring_after_lines (begun_restoring r) ls in
+    err_so r why (chunks r.root r.entries (ls ++ ms)) (sym (stays s.restore s.at s.stage why ms e) ∙ ap restored_at_end (sym (restoring_after_lines-append (begun_restoring r) ls ms)) ∙ chunks-lines r (ls ++ ms))

@@ -12,7 +12,7 @@ use Rattle.jf_blocks.proofs.Bounds.{Bounded, chunk_body-bounded}
 use Rattle.jf_blocks.proofs.SideLaws.{with_kept-kept_sides, range_refusal-kept_sides}
 use Rattle.jf_receive.specs.declared.fault.BlockFault.{BlockFault}
 use Rattle.jf_receive.specs.declared.stage.Stage.{Stage}
-use Rattle.jf_receive.specs.Steps.{restoring_after_all, restored_at_end, RestoringStep, restoring_line_step, step_after_block, refuses, next_at, adds_nothing, taken_if_whole, entry_step, sibling_step, head_step}
+use Rattle.jf_receive.specs.Steps.{restoring_after_lines, restored_at_end, RestoringStep, restoring_line_step, step_after_block, refuses, next_at, adds_nothing, step_within_block, entry_step, sibling_step, head_step}
 use Rattle.jf_receive.specs.declared.stage.Begun.{Begun}
 use Rattle.jf_receive.specs.Chunks.{chunks_from, accepted_chunk}
 use Rattle.jf_receive.specs.Laws.{with_entries, ChunksComeLineByLine}
@@ -24,7 +24,7 @@ Ended = Result RestoreValue BlockFault
 
 -- what lines come to from a state on
 abbrev from : RestoreValue → ℕ → Stage → List (List ℕ) → Ended
-from r at s ls = restored_at_end (restoring_after_all (record { restore = r; at = at; stage = s }) ls)
+from r at s ls = restored_at_end (restoring_after_lines (record { restore = r; at = at; stage = s }) ls)
 
 -- what lines come to after a step
 abbrev restoring_goes : RestoringStep → ℕ → List (List ℕ) → Ended
@@ -32,7 +32,7 @@ restoring_goes step at ls = from step.restore at step.stage ls
 
 -- after a refusal nothing changes
 pub refused_stays : (r : RestoreValue) (at : ℕ) (why : BlockFault) (ls : List (List ℕ)) → from r at (stage.Refused why) ls ≡ Err why
-unfolding restoring_after_all restoring_line_step
+unfolding restoring_after_lines restoring_line_step
 refused_stays r at why [] = refl
 refused_stays r at why (line ∷ ls) = refused_stays r at why ls
 
@@ -46,7 +46,7 @@ by_line : {X : Type 0} (f : List (List ℕ) → Option X) (more : X → Place �
     → restored_at_end (record { restore = r; at = at; stage = s }) ≡ Err (fault.Line at) → next_at at s ≡ at + 1 → ((line : List ℕ) → restoring_line_step r at s line ≡ step (line_read f line)) → step None ≡ refuses r (fault.Line at)
     → ((x : X) (ls : List (List ℕ)) → restoring_goes (step (Some x)) (at + 1) ls ≡ restoring_answered r first (more x (record { at = at + 1; left = ls })))
     → from r at s left ≡ restoring_answered r first (and_then (line_by f (record { at = at; left = left })) more)
-unfolding restoring_after_all
+unfolding restoring_after_lines
 by_line f more step s r first at [] ends counts steps none some = ends
 by_line f more step s r first at (line ∷ ls) ends counts steps none some =
     ap₂ (λ (a : RestoringStep) n. restoring_goes a n ls) (steps line) counts
@@ -82,7 +82,7 @@ module _ (r : RestoreValue) (first depth : ℕ) where
       ap (λ (o : Option RangeFault). elim o as (λ x. RestoringStep) [ None ↦ adds_nothing (with_more r es) stage.Between | Some why ↦ refuses r (fault.Chunk first why) ]) (range_refusal-kept_sides r.root r.entries es depth siblings)
 
   sides_read : (n : ℕ) (es : Entries) (siblings : List (List ℕ)) (at : ℕ) (ls : List (List ℕ))
-      → restoring_goes (taken_if_whole r (part 0 n es (kept_sides siblings))) at ls ≡ restoring_answered r first (and_then (lines_by side_of n (record { at = at; left = ls })) (with_sides es siblings))
+      → restoring_goes (step_within_block r (part 0 n es (kept_sides siblings))) at ls ≡ restoring_answered r first (and_then (lines_by side_of n (record { at = at; left = ls })) (with_sides es siblings))
   unfolding lines_by restoring_line_step
   sides_read zero es siblings at ls =
       ap (λ b. restoring_goes (cond (b || b) (adds_nothing r (stage.Block (part 0 0 es (kept_sides siblings)))) (step_after_block r first (es, record { depth = depth; siblings = kept_sides siblings }))) at ls) none_left
@@ -94,7 +94,7 @@ module _ (r : RestoreValue) (first depth : ℕ) where
       ∙ by_line side_of (λ h q. and_then (lines_by side_of m q) (with_sides es (siblings ++ h ∷ []))) (sibling_step r at b) (stage.Block b) r first at ls refl refl
       (λ line. ap (λ t. cond t (entry_step r at b (line_read entry_of line)) (sibling_step r at b (line_read side_of line))) none_left) refl
       (λ h more.
-      ap₂ (λ n ss. restoring_goes (taken_if_whole r (part 0 n es ss)) (at + 1) more) (one_less m) (with_kept-kept_sides siblings h)
+      ap₂ (λ n ss. restoring_goes (step_within_block r (part 0 n es ss)) (at + 1) more) (one_less m) (with_kept-kept_sides siblings h)
       ∙ sides_read m es (siblings ++ h ∷ []) (at + 1) more)
       ∙ ap (restoring_answered r first) (side_and_more es siblings m (line_by side_of (record { at = at; left = ls })))
 
@@ -114,7 +114,7 @@ module _ (r : RestoreValue) (first depth : ℕ) where
   entry_and_more k es m (Ok o) = one_entry k es o.0 (lines_by entry_of m o.1)
 
   entries_read : (n k : ℕ) (es : Entries) (at : ℕ) (ls : List (List ℕ))
-      → restoring_goes (taken_if_whole r (part n k es [])) at ls ≡ restoring_answered r first (and_then (lines_by entry_of n (record { at = at; left = ls })) (with_entries_and k es))
+      → restoring_goes (step_within_block r (part n k es [])) at ls ≡ restoring_answered r first (and_then (lines_by entry_of n (record { at = at; left = ls })) (with_entries_and k es))
   unfolding lines_by restoring_line_step
   entries_read zero k es at ls =
       sides_read k es [] at ls ∙ ap (λ fs. restoring_answered r first (and_then (lines_by side_of k (record { at = at; left = ls })) (with_sides fs []))) (sym (append-nil es))
@@ -123,12 +123,12 @@ module _ (r : RestoreValue) (first depth : ℕ) where
       ap (λ t. restoring_goes (cond (t || nat_lt 0 k) (adds_nothing r (stage.Block b)) (step_after_block r first (es, record { depth = depth; siblings = [] }))) at ls) (some_left m)
       ∙ by_line entry_of (λ e q. and_then (lines_by entry_of m q) (with_entries_and k (es ++ e ∷ []))) (entry_step r at b) (stage.Block b) r first at ls refl refl
       (λ line. ap (λ t. cond t (entry_step r at b (line_read entry_of line)) (sibling_step r at b (line_read side_of line))) (some_left m)) refl
-      (λ e more. ap (λ n. restoring_goes (taken_if_whole r (part n k (es ++ e ∷ []) [])) (at + 1) more) (one_less m) ∙ entries_read m k (es ++ e ∷ []) (at + 1) more)
+      (λ e more. ap (λ n. restoring_goes (step_within_block r (part n k (es ++ e ∷ []) [])) (at + 1) more) (one_less m) ∙ entries_read m k (es ++ e ∷ []) (at + 1) more)
       ∙ ap (restoring_answered r first) (entry_and_more k es m (line_by entry_of (record { at = at; left = ls })))
 
 -- ---- a block
 block_read : (r : RestoreValue) (at : ℕ) (line : List ℕ) (ls : List (List ℕ)) → from r at stage.Between (line ∷ ls) ≡ restoring_answered r at (chunk_block (record { at = at; left = line ∷ ls }))
-unfolding chunk_body restoring_line_step restoring_after_all
+unfolding chunk_body restoring_line_step restoring_after_lines
 block_read r at line ls =
     elim (line_read chunk_of line) as (λ o. restoring_goes (head_step r at o) (at + 1) ls ≡ restoring_answered r at (and_then (one_line_read at ls o) chunk_body)) [
       | None ↦ refused_stays r (at + 1) (fault.Line at) ls
@@ -153,7 +153,7 @@ module _ (n : ℕ) (others : (r : RestoreValue) (at : ℕ) (left : List (List �
   block_taken r at line ls (Ok b) h few = let less = h.1 in chunk_taken r at b.0 b.1 (range_refusal r.root r.entries b.0.0 b.0.1) refl (omega arith)
 
 chunks_from-lines : (n : ℕ) (r : RestoreValue) (at : ℕ) (left : List (List ℕ)) → length left ≤ n → with_entries r (chunks_from n r.root r.entries (record { at = at; left = left })) ≡ from r at stage.Between left
-unfolding chunks_from restoring_after_all
+unfolding chunks_from restoring_after_lines
 chunks_from-lines zero r at [] few = refl
 chunks_from-lines zero r at (line ∷ ls) few = absurd (omega arith)
 chunks_from-lines (suc n) r at [] few = refl

@@ -8,8 +8,8 @@ use Rattle.jf_input.specs.Feeds.{given_of, Took}
 use Rattle.jf_input.proofs.Given.{given_alike}
 use Rattle.jf_receive.specs.Chunks.{chunks, refusal_decided_by}
 use Rattle.jf_receive.specs.Laws.{RefusalsComeAtTheirLine, LongChunkLinesAreAlike}
-use Rattle.jf_receive.specs.Steps.{Restoring, begun_restoring, restoring_after, restoring_after_all, refusal_at_stage, line_result, out_of_memory}
-use Rattle.jf_receive.proofs.Deciding.{restoring_after_all-append}
+use Rattle.jf_receive.specs.Steps.{Restoring, begun_restoring, restoring_after, restoring_after_lines, refusal_at_stage, line_result, out_of_memory}
+use Rattle.jf_receive.proofs.Deciding.{restoring_after_lines-append}
 use Rattle.jf_receive.specs.declared.fault.BlockFault.{BlockFault}
 use Rattle.jf_receive.specs.declared.fault.BlockFault.TheVariants as fault
 use Rattle.jf_receive.specs.declared.stage.Stage.{Stage}
@@ -68,17 +68,17 @@ line-stopped s next line whole (Err why) law given taken = takes-whole s next li
 -- ---- lines
 -- what is refused after lines, if anything is
 abbrev refusal_after : Restoring → List (List ℕ) → Option BlockFault
-refusal_after s ls = refusal_at_stage (restoring_after_all s ls).stage
+refusal_after s ls = refusal_at_stage (restoring_after_lines s ls).stage
 
 -- the state after the lines that were taken
-pub took-after : (s next : Restoring) (ls : List (List ℕ)) (text : List ℕ) → Took TakesBlockLine s ls next text → next ≡ restoring_after_all s ls
-unfolding restoring_after_all
+pub took-after : (s next : Restoring) (ls : List (List ℕ)) (text : List ℕ) → Took TakesBlockLine s ls next text → next ≡ restoring_after_lines s ls
+unfolding restoring_after_lines
 took-after s next [] text took = took.0
-took-after s next (line ∷ ls) text took = took-after took.0 next ls took.2 took.4 ∙ ap (λ (m : Restoring). restoring_after_all m ls) took.3.0
+took-after s next (line ∷ ls) text took = took-after took.0 next ls took.2 took.4 ∙ ap (λ (m : Restoring). restoring_after_lines m ls) took.3.0
 
 -- nothing is refused after the first of them
 pub took-none : (s next : Restoring) (ls : List (List ℕ)) (text : List ℕ) → refusal_at_stage s.stage ≡ None → Took TakesBlockLine s ls next text → (n : ℕ) → refusal_after s (take n ls) ≡ None
-unfolding restoring_after_all
+unfolding restoring_after_lines
 took-none s next ls text none took zero = none
 took-none s next [] text none took (suc n) = none
 took-none s next (line ∷ ls) text none took (suc n) = ap (λ (m : Restoring). refusal_after m (take n ls)) (sym took.3.0) ∙ took-none took.0 next ls took.2 took.3.1 took.4 n
@@ -104,8 +104,8 @@ module _ (version : ℕ) (root : List ℕ) (next : Restoring) (ls : List (List �
 
       -- what is refused after all of them
       pub refused-last : refusal_after (first version root) all ≡ Some why
-      unfolding restoring_after_all
-      refused-last = ap (λ (s : Restoring). refusal_at_stage s.stage) (restoring_after_all-append (first version root) ls (line ∷ []))
+      unfolding restoring_after_lines
+      refused-last = ap (λ (s : Restoring). refusal_at_stage s.stage) (restoring_after_lines-append (first version root) ls (line ∷ []))
           ∙ ap (λ (s : Restoring). refusal_at_stage (restoring_after s line).stage) (sym (took-after (first version root) next ls text took)) ∙ refused
 
       none_before : (n : ℕ) → n < length all → refusal_decided_by n (chunks root [] (take n all)) ≡ None

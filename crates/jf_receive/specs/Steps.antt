@@ -55,12 +55,12 @@ abbrev pub step_after_block : RestoreValue → ℕ → Chunk → RestoringStep
 step_after_block r first chunk = elim (range_refusal r.root r.entries chunk.0 chunk.1) [ None ↦ adds_nothing (with_more r chunk.0) stage.Between | Some why ↦ refuses r (fault.Chunk first why) ]
 
 -- the step of a block that is read to its end
-abbrev pub taken_whole : RestoreValue → Begun → RestoringStep
-taken_whole r b = step_after_block r b.first (b.entries, b.proof)
+abbrev pub step_at_block_end : RestoreValue → Begun → RestoringStep
+step_at_block_end r b = step_after_block r b.first (b.entries, b.proof)
 
 -- what was read of a block: it is whole if no line is missing
-abbrev pub taken_if_whole : RestoreValue → Begun → RestoringStep
-taken_if_whole r b = if nat_lt 0 b.entries_left || nat_lt 0 b.siblings_left then adds_nothing r (stage.Block b) else taken_whole r b
+abbrev pub step_within_block : RestoreValue → Begun → RestoringStep
+step_within_block r b = if nat_lt 0 b.entries_left || nat_lt 0 b.siblings_left then adds_nothing r (stage.Block b) else step_at_block_end r b
 
 -- the block that begins at a line
 abbrev pub begun_at : ℕ → ChunkHead → Begun
@@ -77,17 +77,17 @@ with_sibling b h = record { first = b.first; entries_left = b.entries_left; sibl
 -- the step of a block's first line
 abbrev pub head_step : RestoreValue → ℕ → Option ChunkHead → RestoringStep
 head_step r at None = refuses r (fault.Line at)
-head_step r at (Some head) = taken_if_whole r (begun_at at head)
+head_step r at (Some head) = step_within_block r (begun_at at head)
 
 -- the step of an entry's line
 abbrev pub entry_step : RestoreValue → ℕ → Begun → Option Entry → RestoringStep
 entry_step r at b None = refuses r (fault.Line at)
-entry_step r at b (Some e) = taken_if_whole r (with_entry b e)
+entry_step r at b (Some e) = step_within_block r (with_entry b e)
 
 -- the step of a sibling's line
 abbrev pub sibling_step : RestoreValue → ℕ → Begun → Option (List ℕ) → RestoringStep
 sibling_step r at b None = refuses r (fault.Line at)
-sibling_step r at b (Some h) = taken_if_whole r (with_sibling b h)
+sibling_step r at b (Some h) = step_within_block r (with_sibling b h)
 
 -- another line of a block: that of an entry as long as entries are to come, then that of a sibling
 abbrev pub block_step : RestoreValue → ℕ → Begun → List ℕ → RestoringStep
@@ -110,9 +110,9 @@ abbrev pub restoring_after : Restoring → List ℕ → Restoring
 restoring_after s line = let step = restoring_line_step s.restore s.at s.stage line in record { restore = step.restore; at = next_at s.at s.stage; stage = step.stage }
 
 -- the state after lines
-unfoldable pub restoring_after_all : Restoring → List (List ℕ) → Restoring
-restoring_after_all s [] = s
-restoring_after_all s (line ∷ ls) = restoring_after_all (restoring_after s line) ls
+unfoldable pub restoring_after_lines : Restoring → List (List ℕ) → Restoring
+restoring_after_lines s [] = s
+restoring_after_lines s (line ∷ ls) = restoring_after_lines (restoring_after s line) ls
 
 -- ---- what is returned
 -- what is refused, if anything is

@@ -2,7 +2,7 @@
 ghost use Rattle.std.specs.Prelude.{◌≡◌, IfOk, OnErr};
 ghost use Rattle.jf_blocks.specs.Reading.{line_read, chunk_of, entry_of, side_of};
 ghost use Rattle.jf_restore.specs.Restores.{HaveShortValues};
-ghost use Rattle.jf_receive.specs.Steps.{IsRestoredBy, IsShort, restoring_line_step, head_step, block_step, entry_step, sibling_step, taken_if_whole, taken_whole};
+ghost use Rattle.jf_receive.specs.Steps.{IsRestoredBy, IsShort, restoring_line_step, head_step, block_step, entry_step, sibling_step, step_within_block, step_at_block_end};
 
 use crate::fault::BlockFault;
 use crate::stage::{Begun, Stage};
@@ -122,7 +122,7 @@ fn side(restore: &mut Restore, at: u64, begun: Begun, line: &[u8]) -> Result<Sta
 /// Adds what was read of a block, if no line of it is missing.
 fn settle(restore: &mut Restore, begun: Begun) -> Result<Stage, Memory>
     requires { HaveShortValues begun.entries }
-    ensures ok { IfOk result (λ next. IsRestoredBy (taken_if_whole restore.old begun) restore.new next) }
+    ensures ok { IfOk result (λ next. IsRestoredBy (step_within_block restore.old begun) restore.new next) }
     ensures short { IfOk result (λ next. IsShort next) }
     ensures err { OnErr result (restore.new ≡ restore.old) }
 {
@@ -135,7 +135,7 @@ fn settle(restore: &mut Restore, begun: Begun) -> Result<Stage, Memory>
 /// Adds a whole block.
 fn add(restore: &mut Restore, begun: &Begun) -> Result<Stage, Memory>
     requires { HaveShortValues begun.now.entries }
-    ensures ok { IfOk result (λ next. IsRestoredBy (taken_whole restore.old begun.now) restore.new next) }
+    ensures ok { IfOk result (λ next. IsRestoredBy (step_at_block_end restore.old begun.now) restore.new next) }
     ensures short { IfOk result (λ next. IsShort next) }
     ensures err { OnErr result (restore.new ≡ restore.old) }
 {

@@ -32,7 +32,7 @@ pub(crate) fn run_side_by_side<D: Disk, H: Threads + Wait + Sync, G: Gate>(
 ) -> Gathered<D>
     requires new { AreNewPasses store.now passes.items 0 }
     requires long { length scripts.now ≡ length passes.items }
-    requires none { gathered ≡ none_gathered gathered.room }
+    requires empty { gathered ≡ none_gathered gathered.room }
     requires room { length passes.items ≤ gathered.room }
     ensures ran { HaveRunSessions store.now 0 (map lines scripts.now) result }
     ensures room { result.room ≡ gathered.room }

@@ -42,6 +42,7 @@ impl Model for Batch {
 impl Batch {
     /// An empty batch.
     pub fn new(alloc: Global) -> Batch
+        // The result has no keys.
         ensures { result ≡ [] }
     {
         Batch {
@@ -51,6 +52,7 @@ impl Batch {
 
     /// The number of keys.
     pub fn len(&self) -> usize
+        // The result is the number of keys.
         ensures { result ≡ length self.now }
     {
         self.entries.len()

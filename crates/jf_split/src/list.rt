@@ -23,6 +23,7 @@ impl Model for BatchList {
 impl BatchList {
     /// An empty list.
     pub fn new(alloc: Global) -> BatchList
+        // The result has no batches.
         ensures { result ≡ [] }
     {
         BatchList {
@@ -32,6 +33,7 @@ impl BatchList {
 
     /// The number of batches.
     pub fn len(&self) -> u64
+        // The result is the number of batches.
         ensures { result ≡ length self.now }
     {
         self.batches.len() as u64
@@ -39,6 +41,7 @@ impl BatchList {
 
     /// The batches in their order.
     pub fn as_slice(&self) -> &[Batch]
+        // The slice holds the batches of the list.
         ensures { result.now ≡ self.now }
     {
         &self.batches

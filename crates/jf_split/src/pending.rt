@@ -35,6 +35,7 @@ impl Model for Pending {
 impl Pending {
     /// No changes.
     pub fn new(alloc: Global) -> Pending
+        // The result has no changes.
         ensures { result ≡ [] }
     {
         Pending {
@@ -44,6 +45,7 @@ impl Pending {
 
     /// The number of keys.
     pub fn len(&self) -> usize
+        // The result is the number of keys.
         ensures { result ≡ length self.now }
     {
         self.entries.len()
@@ -98,6 +100,7 @@ impl Pending {
 
     /// Drops all changes.
     pub fn clear(&mut self)
+        // No changes are left.
         ensures { self.new ≡ [] }
     {
         self.entries.clear();

@@ -51,7 +51,7 @@ const ROWS: &[Row] = &[
 ];
 
 // What a check of two files comes to, whose calls on the disk with these numbers fail.
-fn checked<H: Threads + Wait + Sync>(
+fn play_check<H: Threads + Wait + Sync>(
     rt: &H,
     alloc: Global,
     row: &Row,
@@ -72,7 +72,7 @@ fn is_left(alloc: Global, disk: &MemDisk, row: &Row, calls: u64) -> Result<bool,
 
 // Whether files are told of so, by four calls on the disk.
 fn is_told<H: Threads + Wait + Sync>(rt: &H, alloc: Global, row: &Row) -> Result<bool, Fail> {
-    let played = checked(rt, alloc, row, &[], NO_INPUT)?;
+    let played = play_check(rt, alloc, row, &[], NO_INPUT)?;
     let ended = has_ended(&played, row.2, None, row.3.as_bytes());
     Ok(ended && played.entries == 0 && is_left(alloc, &played.disk, row, 4)?)
 }
@@ -94,7 +94,7 @@ fn is_silent<H: Threads + Wait + Sync>(
 ) -> Result<bool, Fail>
     requires { call < 4 }
 {
-    let played = checked(rt, alloc, row, &[call], NO_FAULTS)?;
+    let played = play_check(rt, alloc, row, &[call], NO_FAULTS)?;
     let ended = has_ended(&played, Status::DiskFault, None, b"");
     Ok(ended && is_left(alloc, &played.disk, row, call + 1)?)
 }
@@ -109,7 +109,7 @@ fn a_fault_of_the_disk_ends_it(rt: HostRuntime) -> Result<(), Fail> {
 
 #[test]
 fn a_fault_of_the_sink_leaves_a_front(rt: HostRuntime) -> Result<(), Fail> {
-    let played = checked(&rt, rt.alloc(), &ROWS[2], &[], CUT)?;
+    let played = play_check(&rt, rt.alloc(), &ROWS[2], &[], CUT)?;
     assert!(rt; has_ended(&played, Status::WriteFault, None, b"a.jf size 101 "));
     Ok(())
 }
