@@ -1,6 +1,5 @@
 -- What follows landing blocks line by line, and adds nothing to a text before the end of the input.
 use Rattle.std.specs.Prelude.{◌≡◌, ◌⊎◌, ℕ, List, [], ◌∷◌, ◌++◌, Option, Some, None, Result, Ok, Err, false}
-use Rattle.std.specs.declared.alloc.Global.{Global}
 use denote.Ref.{Bor, MutBor}
 use Rattle.jf_model.specs.Versions.{Versions}
 use Rattle.jf_model.specs.declared.entries.Entry.{Entry}
@@ -86,13 +85,13 @@ abbrev pub DoesLandingLine : FollowState → List ℕ → Result (Unit {0}) Foll
 DoesLandingLine s line r next = TakesLandingLine s line next (without_text r) × (r ≡ Ok tt → next.store.broken ≡ false)
 
 -- calls may be made on it while the store is whole, and do lines
-abbrev pub AreLandingSteps : {T : Type 0} → (T → FollowState) → (Global → MutBor T → Bor (List ℕ) → Type 0) → (Global → MutBor T → Bor (List ℕ) → Result (Unit {0}) FollowStop → MutBor T → Type 0) → Type 0
+abbrev pub AreLandingSteps : {T : Type 0} → (T → FollowState) → (MutBor T → Bor (List ℕ) → Type 0) → (MutBor T → Bor (List ℕ) → Result (Unit {0}) FollowStop → MutBor T → Type 0) → Type 0
 AreLandingSteps {T} shown pre post =
-    ((alloc : Global) (s : MutBor T) (line : Bor (List ℕ)) → (shown s.now).store.broken ≡ false → pre alloc s line)
-    × ((alloc : Global) (s : MutBor T) (line : Bor (List ℕ)) (r : Result (Unit {0}) FollowStop) (s' : MutBor T) → post alloc s line r s' → DoesLandingLine (shown s.now) line.now r (shown s'.now))
+    ((s : MutBor T) (line : Bor (List ℕ)) → (shown s.now).store.broken ≡ false → pre s line)
+    × ((s : MutBor T) (line : Bor (List ℕ)) (r : Result (Unit {0}) FollowStop) (s' : MutBor T) → post s line r s' → DoesLandingLine (shown s.now) line.now r (shown s'.now))
 
 -- it takes what comes next: its store is whole
-pub record MayFollow {T : Type 0} (shown : T → FollowState) (s : T) (pre : Global → MutBor T → Bor (List ℕ) → Type 0) (post : Global → MutBor T → Bor (List ℕ) → Result (Unit {0}) FollowStop → MutBor T → Type 0) : Type 0 where
+pub record MayFollow {T : Type 0} (shown : T → FollowState) (s : T) (pre : MutBor T → Bor (List ℕ) → Type 0) (post : MutBor T → Bor (List ℕ) → Result (Unit {0}) FollowStop → MutBor T → Type 0) : Type 0 where
   pub whole : (shown s).store.broken ≡ false
   pub steps : AreLandingSteps shown pre post
 

@@ -50,7 +50,7 @@ pub(crate) struct LineFollower<T, F> {
     pub(crate) step: F,
 }
 
-impl<T: ShowsFollowing, F: Fn(Global, &mut T, &[u8]) -> Result<(), FollowStop>> LineMachine
+impl<T: ShowsFollowing, F: Fn(&mut T, &[u8]) -> Result<(), FollowStop>> LineMachine
     for LineFollower<T, F> {
     ghost use Rattle.std.specs.Prelude.{⊤};
     ghost use Rattle.jf_follow.specs.Lines.{MayFollow, TakesLandingLine, EndsLandingLines};
@@ -70,17 +70,17 @@ impl<T: ShowsFollowing, F: Fn(Global, &mut T, &[u8]) -> Result<(), FollowStop>> 
         true
     }
 
+    fn take_end(&mut self, _alloc: Global, _out: &mut Bytes) -> Result<(), FollowStop> {
+        Ok(())
+    }
+
     fn take_line(
         &mut self,
-        alloc: Global,
+        _alloc: Global,
         next: AtHand,
         _out: &mut Bytes,
     ) -> Result<(), FollowStop> {
-        (self.step)(alloc, &mut self.following, next.line)
-    }
-
-    fn take_end(&mut self, _alloc: Global, _out: &mut Bytes) -> Result<(), FollowStop> {
-        Ok(())
+        (self.step)(&mut self.following, next.line)
     }
 }
 

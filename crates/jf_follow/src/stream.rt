@@ -77,7 +77,7 @@ pub fn follow_stream<S: Source, K: Sink, D: Disk, H: Threads + Sync, G: Gate>(
         follower: Follower::new(engine),
         entries: Vec::new(alloc),
     };
-    let step = |alloc: Global, following: &mut Following<D>, line: &[u8]| -> Result<(), FollowStop>
+    let step = |following: &mut Following<D>, line: &[u8]| -> Result<(), FollowStop>
         // The store is whole.
         requires { following.old.follower.broken ≡ false }
         // The line is done, and if that returns Ok, the store is whole.

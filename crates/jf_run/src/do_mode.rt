@@ -76,7 +76,7 @@ pub(crate) fn do_mode<S: Source, K: Sink, D: Disk, H: Threads + Wait + Sync, G: 
         Mode::Lead { workers } => {
             script_over(rt, alloc, engine, Script::Led, source, sink, workers, gate)
         }
-        Mode::Follow { workers } => follow_over(rt, alloc, engine, source, sink, workers, gate),
+        Mode::Follow { workers } => follow_over(rt, alloc, workers, gate, engine, source, sink),
         Mode::Verify => unreachable!(),
         Mode::Generate {
             seed,

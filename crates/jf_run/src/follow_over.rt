@@ -25,11 +25,11 @@ use std::thread::Threads;
 pub(crate) fn follow_over<S: Source, K: Sink, D: Disk, H: Threads + Sync, G: Gate>(
     rt: &H,
     alloc: Global,
+    workers: Workers,
+    gate: &G,
     engine: Engine<D>,
     source: &mut S,
     sink: &mut K,
-    workers: Workers,
-    gate: &G,
 ) -> Over<D>
     requires whole { engine.broken ≡ false }
     ensures unwritten { IsTrue (is_input_fault result.status) → sink.new ≡ sink.old }
